@@ -1,0 +1,4 @@
+pub mod Closing
+pub mod LabelLaws
+pub mod OrderLaws
+pub mod DepthLaws

@@ -1,0 +1,8 @@
+use Rattle.std.proofs.Common.{◌≡◌, ◌++◌, drop}
+use Rattle.fst_types.specs.View.{branches_of}
+use Rattle.fst_types.specs.declared.label.Label.TheVariants.{Offer}
+use Rattle.fst_lts.specs.Step.{choice_labels}
+use Rattle.fst_lts.proofs.moves.offer_labels.Given as goal
+
+abbrev pub invariant-loop-branch : goal.invariant-loop-branch
+invariant-loop-branch l = l.found.items ++ choice_labels Offer (branches_of (drop l.branch-index l.branches)) ≡ choice_labels Offer (branches_of l.branches)

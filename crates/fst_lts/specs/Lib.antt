@@ -1,0 +1,5 @@
+pub mod Step
+pub mod Scopes
+pub mod Rising
+pub mod Agree
+pub mod Words

@@ -1,0 +1,9 @@
+//! How session types move: the labels by which a type moves, and the type after a label.
+#![tactic(auto)]
+
+mod depth;
+mod moves;
+mod scope;
+
+pub use depth::agree_to;
+pub use moves::{labels, step, terminated};

@@ -1,0 +1,171 @@
+ghost use Rattle.std.specs.Prelude.{◌≡◌, ◌∷◌, [], IfOk, IfSome, IsSome, Contains, ◌↔◌, option_map, Some, None, if◌then◌else◌};
+ghost use Rattle.fst_types.specs.Tree as tree;
+ghost use Rattle.fst_types.specs.View.{branches_of};
+ghost use Rattle.fst_types.specs.Order.{IsOrdered};
+ghost use Rattle.fst_types.specs.declared.label.Label.{Label};
+ghost use Rattle.fst_lts.specs.Step.{terminated, labels, choice_labels, step, step_in, closed, branch_at};
+ghost use Rattle.fst_lts.specs.Rising.{IsRising};
+ghost use Rattle.fst_lts.specs.Scopes.{env_of};
+
+use crate::scope::{Scope, close};
+use fst_types::{Branch, Label, Ty, TyForm};
+use std::alloc::{AllocError, Global};
+
+/// Whether no move is left.
+pub fn terminated(t: &Ty) -> bool
+    ensures { result ≡ terminated t.now }
+{
+    match &t.form {
+        TyForm::Skip => true,
+        TyForm::Seq(first, second) => terminated(first) && terminated(second),
+        TyForm::Rec(body) => terminated(body),
+        _ => false,
+    }
+}
+
+/// The labels by which a type moves, those of a choice in the order of its branches.
+#[tactic(auto, using(crate::proofs::LabelLaws::labels_are_moves, crate::proofs::OrderLaws::labels_rise))]
+pub fn labels(alloc: Global, t: &Ty) -> Result<Vec<Label>, AllocError>
+    ensures items { IfOk result (λ found. found.items ≡ labels t.now) }
+    ensures moves { IfOk result (λ found. (a : Label) → Contains found.items a ↔ IsSome (step t.now a)) }
+    ensures rising { IsOrdered t.now → IfOk result (λ found. IsRising found.items) }
+{
+    labels_within(alloc, t)
+}
+
+fn labels_within(alloc: Global, t: &Ty) -> Result<Vec<Label>, AllocError>
+    ensures { IfOk result (λ found. found.items ≡ labels t.now) }
+{
+    match &t.form {
+        TyForm::Send(base) => one_label(alloc, Label::Send(*base)),
+        TyForm::Receive(base) => one_label(alloc, Label::Receive(*base)),
+        TyForm::Select(branches) => select_labels(alloc, branches),
+        TyForm::Offer(branches) => offer_labels(alloc, branches),
+        TyForm::Seq(first, second) => {
+            if terminated(first) {
+                labels_within(alloc, second)
+            } else {
+                labels_within(alloc, first)
+            }
+        }
+        TyForm::Rec(body) => labels_within(alloc, body),
+        TyForm::Var(k) => one_label(alloc, Label::Var(*k)),
+        _ => Ok(Vec::new(alloc)),
+    }
+}
+
+fn one_label(alloc: Global, label: Label) -> Result<Vec<Label>, AllocError>
+    ensures { IfOk result (λ found. found.items ≡ label ∷ []) }
+{
+    let mut found = Vec::new(alloc);
+    found.push(label)?;
+    Ok(found)
+}
+
+fn select_labels(alloc: Global, branches: &[Branch]) -> Result<Vec<Label>, AllocError>
+    ensures { IfOk result (λ found. found.items ≡ choice_labels Label.Select (branches_of branches.now)) }
+{
+    let mut found = Vec::new(alloc);
+    for branch in branches {
+        found.push(Label::Select(branch.label.copy(alloc)?))?;
+    }
+    Ok(found)
+}
+
+fn offer_labels(alloc: Global, branches: &[Branch]) -> Result<Vec<Label>, AllocError>
+    ensures { IfOk result (λ found. found.items ≡ choice_labels Label.Offer (branches_of branches.now)) }
+{
+    let mut found = Vec::new(alloc);
+    for branch in branches {
+        found.push(Label::Offer(branch.label.copy(alloc)?))?;
+    }
+    Ok(found)
+}
+
+/// The type after a label, or none where the type doesn't move by it.
+#[tactic(auto, using(crate::proofs::OrderLaws::step_ordered))]
+pub fn step(alloc: Global, t: &Ty, a: &Label) -> Result<Option<Ty>, AllocError>
+    ensures next { IfOk result (λ next. next ≡ step t.now a.now) }
+    ensures ordered { IsOrdered t.now → IfOk result (λ next. IfSome next IsOrdered) }
+{
+    step_within(alloc, &Scope::Top, t, a)
+}
+
+fn step_within(
+    alloc: Global,
+    scope: &Scope<'_>,
+    t: &Ty,
+    a: &Label,
+) -> Result<Option<Ty>, AllocError>
+    ensures { IfOk result (λ next. next ≡ step_in (env_of scope.now) t.now a.now) }
+{
+    match &t.form {
+        TyForm::Send(base) => Ok(skip_if(a.same(&Label::Send(*base)))),
+        TyForm::Receive(base) => Ok(skip_if(a.same(&Label::Receive(*base)))),
+        TyForm::Select(branches) => select_branch(alloc, scope, branches, a),
+        TyForm::Offer(branches) => offer_branch(alloc, scope, branches, a),
+        TyForm::Seq(first, second) => {
+            if terminated(first) {
+                step_within(alloc, scope, second, a)
+            } else {
+                match step_within(alloc, scope, first, a)? {
+                    None => Ok(None),
+                    Some(next) => Ok(Some(Ty {
+                        form: TyForm::Seq(
+                            Box::new(alloc, next)?,
+                            Box::new(alloc, close(alloc, scope, second)?)?,
+                        ),
+                    })),
+                }
+            }
+        }
+        TyForm::Rec(body) => {
+            let whole = close(alloc, scope, t)?;
+            step_within(alloc, &Scope::Under(&whole, scope), body, a)
+        }
+        TyForm::Var(k) => Ok(skip_if(a.same(&Label::Var(*k)))),
+        _ => Ok(None),
+    }
+}
+
+fn skip_if(moves: bool) -> Option<Ty>
+    ensures { result ≡ (if moves then Some tree.skip else None) }
+{
+    if moves {
+        Some(Ty { form: TyForm::Skip })
+    } else {
+        None
+    }
+}
+
+fn select_branch(
+    alloc: Global,
+    scope: &Scope<'_>,
+    branches: &[Branch],
+    a: &Label,
+) -> Result<Option<Ty>, AllocError>
+    ensures { IfOk result (λ next. next ≡ option_map (closed (env_of scope.now)) (branch_at Label.Select (branches_of branches.now) a.now)) }
+{
+    for branch in branches {
+        if a.is_select(&branch.label) {
+            return Ok(Some(close(alloc, scope, &branch.body)?));
+        }
+    }
+    Ok(None)
+}
+
+fn offer_branch(
+    alloc: Global,
+    scope: &Scope<'_>,
+    branches: &[Branch],
+    a: &Label,
+) -> Result<Option<Ty>, AllocError>
+    ensures { IfOk result (λ next. next ≡ option_map (closed (env_of scope.now)) (branch_at Label.Offer (branches_of branches.now) a.now)) }
+{
+    for branch in branches {
+        if a.is_offer(&branch.label) {
+            return Ok(Some(close(alloc, scope, &branch.body)?));
+        }
+    }
+    Ok(None)
+}

@@ -1,0 +1,7 @@
+pub mod Tree
+pub mod Height
+pub mod Code
+pub mod View
+pub mod Falls
+pub mod Size
+pub mod Order

@@ -1,0 +1,21 @@
+//! Types as trees, their labels, and what every later crate asks of them: size, equality, a copy.
+#![tactic(auto)]
+
+mod base;
+mod kind;
+mod label;
+mod name;
+mod side;
+mod ty;
+mod walks;
+
+pub use base::Base;
+pub use kind::{Kind, Prekind, Use};
+pub use label::Label;
+pub use name::Name;
+pub use side::Side;
+pub use ty::{Branch, Ty, TyForm};
+pub use walks::{copy, same, size};
+
+#[cfg(test)]
+mod tests;
