@@ -33,6 +33,7 @@ after_all n s r ls h = λ k d lt. h (get_or ls k d)
 pub deeper_from_labels : (r : Result Bool AllocError) (n : ℕ) (s t : Tree) (left right : List Label) → left ≡ labels s → right ≡ labels t →
     All (AgreeAfter n s t) left → IfOk r (λ b. IsTrue b ↔ All (AgreeAfter n s t) right) → IfOk r (λ b. IsTrue b ↔ AgreeTo step step (suc n) s t)
 deeper_from_labels (Err e) n s t left right p q first second = second
-deeper_from_labels (Ok b) n s t left right p q first second =
-    (λ yes. one_deeper n s t (subst (All (AgreeAfter n s t)) p first) (subst (All (AgreeAfter n s t)) q (second.0 yes)),
-     λ agree. second.1 (after_all n s t right agree))
+deeper_from_labels (Ok b) n s t left right p q first second = (
+  λ yes. one_deeper n s t (subst (All (AgreeAfter n s t)) p first) (subst (All (AgreeAfter n s t)) q (second.0 yes)),
+  λ agree. second.1 (after_all n s t right agree),
+)

@@ -52,13 +52,7 @@ fn agree_after_all(
 }
 
 #[cycle(agree)]
-fn agree_after(
-    alloc: Global,
-    s: &Ty,
-    r: &Ty,
-    label: &Label,
-    depth: u32,
-) -> Result<bool, AllocError>
+fn agree_after(alloc: Global, s: &Ty, r: &Ty, label: &Label, depth: u32) -> Result<bool, AllocError>
     ensures { IfOk result (λ agrees. IsTrue agrees ↔ BothOrNeither (AgreeTo step step depth) (step s.now label.now) (step r.now label.now)) }
 {
     match (step(alloc, s, label)?, step(alloc, r, label)?) {

@@ -7,3 +7,6 @@ mod scope;
 
 pub use depth::agree_to;
 pub use moves::{labels, step, terminated};
+
+#[cfg(test)]
+mod tests;

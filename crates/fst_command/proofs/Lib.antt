@@ -1,0 +1,10 @@
+pub mod TokenLaws
+pub mod GrammarLaws
+pub mod QuestionLaws
+pub mod WordOrder
+pub mod LabelDifference
+pub mod Levels
+pub mod Endings
+pub mod Longest
+pub mod Runs
+pub mod OutputLaws

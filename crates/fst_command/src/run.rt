@@ -1,0 +1,72 @@
+ghost use Rattle.std.specs.Prelude.{◌≡◌, ◌↔◌, map, IfOk, IfErr, IsTrue, string_bytes};
+ghost use Rattle.fst_command.specs.Output.{IsEquiv, OneOutput};
+ghost use Rattle.fst_command.specs.Top.{Meets, IsAnswered, GaveUp};
+
+use crate::answer::{Answer, MAX_LENGTH, answer_equiv, fixed};
+use crate::status::Status;
+use fst_io::{Gate, ReadFault, Sink, Source, WriteFault, read_all, write_all};
+use std::alloc::Global;
+
+const USAGE: &[u8] = b"usage: freest equiv|show|check|run|make\n";
+
+fn is_equiv(words: &[String]) -> bool
+    ensures { IsTrue result ↔ IsEquiv (map string_bytes words.now) }
+{
+    match words {
+        [word] => word.as_str() == "equiv",
+        _ => false,
+    }
+}
+
+// Reads the input, where the words want one, and finds the answer.
+fn answer<S: Source>(alloc: Global, words: &[String], source: &mut S) -> Result<Answer, Status>
+    ensures ok { IfOk result (λ a. IsAnswered (map string_bytes words.now)
+        (record { bytes = S.left source.old; faults = S.faults source.old })
+        (record { bytes = S.left source.new; faults = S.faults source.new })
+        a.text.items a.status) }
+    ensures err { IfErr result (λ s. GaveUp s (map string_bytes words.now)
+        (record { bytes = S.left source.old; faults = S.faults source.old })
+        (record { bytes = S.left source.new; faults = S.faults source.new })) }
+{
+    if !is_equiv(words) {
+        return Ok(fixed(alloc, Status::Words, USAGE)?);
+    }
+    match read_all(alloc, source, MAX_LENGTH) {
+        Ok(bytes) => Ok(answer_equiv(alloc, &bytes)?),
+        Err(ReadFault::TooLong) => Ok(fixed(alloc, Status::Limit, b"limit length\n")?),
+        Err(ReadFault::Failed) => Err(Status::ReadFault),
+        Err(ReadFault::Memory) => Err(Status::Memory),
+    }
+}
+
+/// Runs the program on its words, its input and its output: it reads the source where the words want it,
+/// writes one text to the sink, and answers how it ended.
+#[tactic(auto, using(crate::proofs::Runs::gave_up, crate::proofs::Runs::answered, crate::proofs::Runs::cut_short, crate::proofs::Runs::out_of_room))]
+pub fn top<R, S: Source, K: Sink, G: Gate + Sync>(
+    rt: &R,
+    alloc: Global,
+    words: &[String],
+    source: &mut S,
+    sink: &mut K,
+    gate: &G,
+) -> Status
+    ensures { Meets result (map string_bytes words.now)
+        (record { bytes = S.left source.old; faults = S.faults source.old })
+        (record { bytes = S.left source.new; faults = S.faults source.new })
+        (record { bytes = K.taken sink.old; faults = K.faults sink.old })
+        (record { bytes = K.taken sink.new; faults = K.faults sink.new }) }
+{
+    match answer(alloc, words, source) {
+        Err(status) => status,
+        Ok(answer) => match write_all(sink, &answer.text) {
+            Ok(()) => answer.status,
+            Err(WriteFault::Failed(_)) => Status::WriteFault,
+            Err(WriteFault::Memory(_)) => Status::Memory,
+        },
+    }
+}
+
+/// Words and bytes have at most one output: what is written is a function of what was read.
+pub fn one_output()
+    ensures { OneOutput }
+{}
