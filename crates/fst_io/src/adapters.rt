@@ -8,35 +8,26 @@ use std::io::{Read, Write};
 /// reader tells; standard input tells none.
 #[derive(Drop)]
 pub struct InputSource<R> {
-    inner: R,
-    faults: u64,
+    /// What is read.
+    pub inner: R,
+    /// How many reads failed; it stays at the greatest `u64`.
+    pub faults: u64,
 }
 
 impl<R> InputSource<R> {
-    ghost use Rattle.fst_io.specs.Adapters.{reader_of, read_errors};
-
     /// A source that has counted no error yet.
     pub fn new(inner: R) -> Self
-        ensures reader { reader_of result ≡ inner }
-        ensures count { read_errors result ≡ 0 }
+        ensures reader { result.inner ≡ inner }
+        ensures count { result.faults ≡ 0 }
     {
         InputSource { inner, faults: 0 }
-    }
-
-    /// How many reads failed; it stays at the greatest `u64`.
-    pub fn faults(&self) -> u64
-        ensures { result ≡ read_errors self.now }
-    {
-        self.faults
     }
 }
 
 impl<R: Read> Source for InputSource<R> {
-    ghost use Rattle.fst_io.specs.Adapters.{reader_of, read_errors};
+    ghost left = { λ s. R.remaining s.inner };
 
-    ghost left = { λ s. R.remaining (reader_of s) };
-
-    ghost faults = { read_errors };
+    ghost faults = { λ s. s.faults };
 
     fn read(&mut self, buffer: &mut [u8]) -> Result<usize, Failed> {
         match self.inner.read(buffer) {
@@ -53,35 +44,26 @@ impl<R: Read> Source for InputSource<R> {
 /// writer tells; standard output tells none.
 #[derive(Drop)]
 pub struct OutputSink<W> {
-    inner: W,
-    faults: u64,
+    /// What is written to.
+    pub inner: W,
+    /// How many writes failed or took nothing; it stays at the greatest `u64`.
+    pub faults: u64,
 }
 
 impl<W> OutputSink<W> {
-    ghost use Rattle.fst_io.specs.Adapters.{writer_of, write_errors};
-
     /// A sink that has counted no error yet.
     pub fn new(inner: W) -> Self
-        ensures writer { writer_of result ≡ inner }
-        ensures count { write_errors result ≡ 0 }
+        ensures writer { result.inner ≡ inner }
+        ensures count { result.faults ≡ 0 }
     {
         OutputSink { inner, faults: 0 }
-    }
-
-    /// How many writes failed or took nothing; it stays at the greatest `u64`.
-    pub fn faults(&self) -> u64
-        ensures { result ≡ write_errors self.now }
-    {
-        self.faults
     }
 }
 
 impl<W: Write> Sink for OutputSink<W> {
-    ghost use Rattle.fst_io.specs.Adapters.{writer_of, write_errors};
+    ghost taken = { λ s. W.contents s.inner };
 
-    ghost taken = { λ s. W.contents (writer_of s) };
-
-    ghost faults = { write_errors };
+    ghost faults = { λ s. s.faults };
 
     fn write(&mut self, piece: &[u8]) -> Result<usize, SinkFault> {
         match self.inner.write(piece) {

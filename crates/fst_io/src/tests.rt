@@ -58,12 +58,12 @@ fn adapters_pass_bytes_on(rt: HostRuntime) -> Result<(), Fail> {
     let mut source = InputSource::new(&b"abc"[..]);
     let read = read_all(alloc, &mut source, 3)?;
     assert_eq!(rt; read.as_slice(), b"abc".as_slice());
-    assert_eq!(rt; source.faults(), 0);
+    assert_eq!(rt; source.faults, 0);
 
     let mut written = Vec::new(alloc);
     let mut sink = OutputSink::new(&mut written);
     write_all(&mut sink, b"abc")?;
-    assert_eq!(rt; sink.faults(), 0);
+    assert_eq!(rt; sink.faults, 0);
     assert_eq!(rt; written.as_slice(), b"abc".as_slice());
     Ok(())
 }
@@ -102,12 +102,12 @@ fn adapters_count_faults(rt: HostRuntime) -> Result<(), Fail> {
     let mut source = InputSource::new(FailsAtSecondCall { called: false });
     let read = read_all(rt.alloc(), &mut source, 9);
     assert_eq!(rt; read.err(), Some(ReadFault::Failed));
-    assert_eq!(rt; source.faults(), 1);
+    assert_eq!(rt; source.faults, 1);
 
     let mut sink = OutputSink::new(TakesNothing);
     let written = write_all(&mut sink, b"ab");
     assert_eq!(rt; written, Err(WriteFault::Failed(0)));
-    assert_eq!(rt; sink.faults(), 1);
+    assert_eq!(rt; sink.faults, 1);
     Ok(())
 }
 
