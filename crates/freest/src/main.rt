@@ -4,9 +4,8 @@
 use fst_command::{Status, top};
 use fst_io::{InputSource, OpenGate, OutputSink};
 use std::alloc::AllocError;
-use std::env;
-use std::io;
 use std::process::ExitCode;
+use std::{env, io};
 
 // The command line's words without the program's name. A list with a word that isn't UTF-8 is no command's, and neither
 // is the empty one that stands for it.
