@@ -3,6 +3,7 @@
 
 mod adapters;
 mod gate;
+mod memory;
 mod reading;
 mod sink;
 mod source;
@@ -13,6 +14,7 @@ mod writing;
 
 pub use adapters::{InputSource, OutputSink};
 pub use gate::{Gate, OpenGate};
+pub use memory::{MemorySink, MemorySource};
 pub use reading::{ReadFault, read_all};
 pub use sink::{Sink, SinkFault};
 pub use source::{Failed, Source};

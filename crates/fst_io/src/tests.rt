@@ -1,6 +1,6 @@
 use crate::{
-    Gate, InputSource, OpenGate, OutputSink, ReadFault, SteadySink, SteadySource, WriteFault,
-    read_all, write_all,
+    Failed, Gate, InputSource, MemorySink, MemorySource, OpenGate, OutputSink, ReadFault, Sink,
+    SinkFault, Source, SteadySink, SteadySource, WriteFault, read_all, write_all,
 };
 use std::io;
 use std::io::{Read, Write};
@@ -108,6 +108,112 @@ fn adapters_count_faults(rt: HostRuntime) -> Result<(), Fail> {
     let written = write_all(&mut sink, b"ab");
     assert_eq!(rt; written, Err(WriteFault::Failed(0)));
     assert_eq!(rt; sink.faults, 1);
+    Ok(())
+}
+
+#[test]
+fn reads_in_pieces_up_to_the_call_that_fails(rt: HostRuntime) -> Result<(), Fail> {
+    let alloc = rt.alloc();
+    let failed = Some(ReadFault::Failed);
+    let cases = [
+        (1, 1, failed, 5),
+        (1, 2, failed, 4),
+        (1, 3, failed, 3),
+        (1, 4, failed, 2),
+        (2, 1, failed, 5),
+        (2, 2, failed, 3),
+        (2, 3, failed, 1),
+        (2, 4, failed, 0),
+        (7, 1, failed, 5),
+        (7, 2, failed, 0),
+        (7, 3, None, 0),
+        (7, 4, None, 0),
+    ];
+    for (piece, call, fault, left) in cases {
+        assert!(rt; piece >= 1);
+        let mut source = MemorySource {
+            bytes: b"abcde".to_vec(alloc)?,
+            next: 0,
+            piece,
+            calls: 0,
+            fail: vec![in alloc; call]?,
+            faults: 0,
+        };
+        match read_all(alloc, &mut source, 9) {
+            Ok(read) => {
+                assert_eq!(rt; read.as_slice(), b"abcde".as_slice());
+                assert_eq!(rt; None, fault, "in pieces of {piece}, failing at {call}");
+            }
+            Err(e) => assert_eq!(rt; Some(e), fault, "in pieces of {piece}, failing at {call}"),
+        }
+        let rest = source.bytes.len() - source.next;
+        assert_eq!(rt; rest, left, "in pieces of {piece}, failing at {call}");
+    }
+    Ok(())
+}
+
+#[test]
+fn writes_in_pieces_up_to_the_call_that_fails(rt: HostRuntime) -> Result<(), Fail> {
+    let alloc = rt.alloc();
+    let cases: [(usize, u64, Result<(), WriteFault>, &[u8]); 12] = [
+        (1, 1, Err(WriteFault::Failed(0)), b""),
+        (1, 2, Err(WriteFault::Failed(1)), b"a"),
+        (1, 3, Err(WriteFault::Failed(2)), b"ab"),
+        (1, 4, Err(WriteFault::Failed(3)), b"abc"),
+        (1, 5, Err(WriteFault::Failed(4)), b"abcd"),
+        (1, 6, Ok(()), b"abcde"),
+        (2, 1, Err(WriteFault::Failed(0)), b""),
+        (2, 2, Err(WriteFault::Failed(2)), b"ab"),
+        (2, 3, Err(WriteFault::Failed(4)), b"abcd"),
+        (2, 4, Ok(()), b"abcde"),
+        (7, 1, Err(WriteFault::Failed(0)), b""),
+        (7, 2, Ok(()), b"abcde"),
+    ];
+    for (piece, call, answer, held) in cases {
+        assert!(rt; piece >= 1);
+        let mut sink = MemorySink {
+            bytes: Vec::new(alloc),
+            piece,
+            calls: 0,
+            fail: vec![in alloc; call]?,
+            faults: 0,
+        };
+        let written = write_all(&mut sink, b"abcde");
+        assert_eq!(rt; written, answer, "in pieces of {piece}, failing at {call}");
+        assert_eq!(rt;
+            sink.bytes.as_slice(),
+            held,
+            "in pieces of {piece}, failing at {call}"
+        );
+    }
+    Ok(())
+}
+
+#[test]
+fn counts_stay_at_the_greatest(rt: HostRuntime) -> Result<(), Fail> {
+    let alloc = rt.alloc();
+    let mut source = MemorySource {
+        bytes: b"a".to_vec(alloc)?,
+        next: 0,
+        piece: 1,
+        calls: u64::MAX,
+        fail: vec![in alloc; u64::MAX]?,
+        faults: u64::MAX,
+    };
+    assert_eq!(rt; source.read(&mut [0u8]), Err(Failed));
+    assert_eq!(rt; source.calls, u64::MAX);
+    assert_eq!(rt; source.faults, u64::MAX);
+
+    let mut sink = MemorySink {
+        bytes: Vec::new(alloc),
+        piece: 1,
+        calls: u64::MAX,
+        fail: vec![in alloc; u64::MAX]?,
+        faults: u64::MAX,
+    };
+    assert_eq!(rt; sink.write(b"a"), Err(SinkFault::Failed));
+    assert_eq!(rt; sink.calls, u64::MAX);
+    assert_eq!(rt; sink.faults, u64::MAX);
     Ok(())
 }
 
