@@ -1,5 +1,5 @@
 -- Agreement one deeper is told by the labels of the two types.
-use Rattle.std.proofs.Common.{◌≡◌, ◌↔◌, ℕ, suc, ◌<◌, List, Bool, Option, Some, None, Result, Ok, Err, refl, sym, subst, get_or}
+use Rattle.std.proofs.Common.{◌≡◌, ◌↔◌, ℕ, suc, List, Bool, Option, Some, None, Result, Ok, Err, refl, subst, get_or}
 use Rattle.std.specs.Prelude.{All, Contains, IsSome, IsTrue, IfOk}
 use Rattle.std.specs.declared.alloc.AllocError.{AllocError}
 use Rattle.fst_types.specs.Tree.{Tree}
