@@ -1,7 +1,6 @@
 -- What the search's two answers say of the types.
-use Rattle.std.proofs.Common.{◌≡◌, ◌∙◌, ◌<◌, ◌+◌, ◌⊎◌, ◌↔◌, inl, inr, ⊎_elim, ℕ, zero, suc, List, [], ◌∷◌, ◌++◌, length, Option, Some, None, refl, sym, ap, subst, arith, length-append}
-use Rattle.std.specs.Prelude.{IsSome, is_some, option_and_then}
-use Rattle.std.specs.declared.cmp.Ordering.TheVariants.{Less}
+use Rattle.std.proofs.Common.{◌≡◌, ◌∙◌, ◌<◌, inl, inr, ⊎_elim, ℕ, zero, suc, List, [], ◌∷◌, ◌++◌, length, Option, Some, None, refl, sym, ap, subst, arith, length-append}
+use Rattle.std.specs.Prelude.{is_some, option_and_then}
 use Rattle.fst_types.specs.Tree.{Tree}
 use Rattle.fst_types.specs.Order.{label_cmp}
 use Rattle.fst_types.specs.declared.label.Label.{Label}
@@ -9,7 +8,7 @@ use Rattle.fst_types.specs.declared.side.Side.{Side}
 use Rattle.fst_types.specs.declared.side.Side.TheVariants.{Left, Right}
 use Rattle.fst_types.proofs.Labels.{label_cmp_total}
 use Rattle.fst_lts.specs.Step.{step, labels}
-use Rattle.fst_lts.specs.Agree.{residual, Performs, BothOrNeither, AgreeTo, Agree}
+use Rattle.fst_lts.specs.Agree.{residual, BothOrNeither, AgreeTo, Agree}
 use Rattle.fst_lts.specs.Words.{IsBefore, PerformsAlone, IsLeastDifference}
 use Rattle.fst_lts.proofs.OrderLaws.{labels_rise}
 use Rattle.fst_command.specs.Search.{Place, label_difference, word_difference, level_difference}
@@ -116,8 +115,8 @@ found s r n (p ∷ ps) h rise w side e =
         })
 
 -- the difference of a level is the least
-pub found_is_least : (s r : Tree) (n : ℕ) (ps : List Place) (w : List Label) (side : Side) → IsLevel s r n ps → level_difference ps ≡ Some (w, side) → IsLeastDifference step step label_cmp s r w side
-found_is_least s r n ps w side h e =
+pub found_is_least : (s r : Tree) (n : ℕ) (seen : List (List ℕ)) (ps : List Place) (w : List Label) (side : Side) → IsLevel s r n seen ps → level_difference ps ≡ Some (w, side) → IsLeastDifference step step label_cmp s r w side
+found_is_least s r n seen ps w side h e =
     let f = found s r n ps h.places h.rising w side e in
     record {
       alone = f.alone;
@@ -142,6 +141,6 @@ module _ {T U A : Type 0} (f : T → A → Option T) (g : U → A → Option U) 
   agree-from_words (suc n) x y same = λ a. agree_after n (f x a) (g y a) (agree-from_words n) (λ v. same (a ∷ v))
 
 -- where a level has no places, the types agree
-pub empty_agrees : (s r : Tree) (n : ℕ) (ps : List Place) → IsLevel s r n ps → length ps ≡ 0 → Agree step step s r
-empty_agrees s r n [] h none = λ depth. agree-from_words step step depth s r (λ v. same_unless (residual step s v) (residual step r v) (h.leads v))
-empty_agrees s r n (p ∷ ps) h none = absurd (omega (arith, none))
+pub empty_agrees : (s r : Tree) (n : ℕ) (seen : List (List ℕ)) (ps : List Place) → IsLevel s r n seen ps → length ps ≡ 0 → Agree step step s r
+empty_agrees s r n seen [] h none = λ depth. agree-from_words step step depth s r (λ v. same_unless (residual step s v) (residual step r v) (h.leads v))
+empty_agrees s r n seen (p ∷ ps) h none = absurd (omega (arith, none))

@@ -1,19 +1,23 @@
 -- What is read is in the grammar, and what is in the grammar is read.
-use Rattle.std.proofs.Common.{◌≡◌, ◌∙◌, ℕ, zero, suc, ◌≤◌, List, [], ◌∷◌, Bool, true, false, Option, Some, None, refl, sym, ap, subst, arith}
-use Rattle.std.specs.Prelude.{nat_le, ◌&&◌}
+use Rattle.std.proofs.Common.{◌≡◌, ◌∙◌, ℕ, zero, suc, ◌<◌, ◌≤◌, List, [], ◌∷◌, length, Bool, true, false, Option, Some, None, refl, sym, ap, subst, arith}
+use Rattle.std.specs.Prelude.{nat_le, ◌&&◌, option_and_then}
 use Rattle.std.proofs.lemmas.Bool.Decides.{nat_tests}
 use Rattle.fst_types.specs.declared.base.Base.{Base}
 use Rattle.fst_types.specs.declared.base.Base.TheVariants as base
 use Rattle.fst_types.specs.Tree.{Tree}
 use Rattle.fst_types.specs.Tree as tree
 use Rattle.fst_types.specs.Size.{nodes}
-use Rattle.fst_types.specs.Order.{IsOrdered}
+use Rattle.fst_types.specs.Order.{IsOrdered, AllOrdered}
+use Rattle.fst_types.specs.View.{branches_of}
+use Rattle.fst_types.specs.declared.ty.Branch.{Branch}
 use Rattle.fst_command.specs.declared.token.Token.{Token}
-use Rattle.fst_command.specs.declared.token.Token.TheVariants.{Skip, Int, Bool as Truth, Char, Bang, Question, Semicolon, Tilde, LeftParen, RightParen}
+use Rattle.fst_command.specs.declared.token.Token.TheVariants.{Skip, Int, Bool as Truth, Char, Upper, Bang, Question, Plus, Ampersand, Semicolon, Comma, Colon, Tilde, LeftParen, RightParen, LeftBrace, RightBrace}
 use Rattle.fst_command.specs.Limits.{most_nested, most_nodes}
-use Rattle.fst_command.specs.Finite.{IsFinite}
-use Rattle.fst_command.specs.Grammar.{IsBase, int, bool, char, unit, IsSeq, single, chain, IsAtom, skip, send, receive, group, IsPair, against}
-use Rattle.fst_command.specs.Reading.{Read, bind, when, ◌>>=◌, after_right_paren, after_semicolon, after_tilde, base_at, atom_with, followed, seq_with, seq_at, is_end, pair_at}
+use Rattle.fst_command.specs.Arranged.{placed, arranged_with, arranged}
+use Rattle.fst_command.specs.Finite.{IsFinite, AllFinite}
+use Rattle.fst_command.specs.Grammar.{IsBase, int, bool, char, unit, alternative, IsSeq, single, chain, IsAtom, skip, send, receive, group, select, offer, IsAlts, last, further, IsPair, against}
+use Rattle.fst_command.specs.Reading.{Read, bind, when, ◌>>=◌, after_right_paren, after_semicolon, after_tilde, after_comma, after_colon, after_left_brace, after_right_brace, label_at, base_at, alt_with, alts_behind, alts_with, choice_with, atom_with, followed, seq_with, seq_at, is_end, pair_at}
+use Rattle.fst_command.proofs.ArrangedLaws.{and_then_some, Each, arranged_each, arranged_is_rising}
 
 -- a step that gave a value
 bind_some : {A B : Type 0} (o : Option A) (f : A → Option B) (y : B) → (o >>= f) ≡ Some y → (x : A) × (o ≡ Some x) × (f x ≡ Some y)
@@ -47,6 +51,42 @@ tilde_is [] rest e = absurd cc
 tilde_is (Tilde ∷ ts) rest e = ap (λ w. Tilde ∷ w) (some_is ts rest e)
 tilde_is (_ ∷ ts) rest e = absurd cc
 
+comma_is : (ts rest : List Token) → after_comma ts ≡ Some rest → ts ≡ Comma ∷ rest
+comma_is [] rest e = absurd cc
+comma_is (Comma ∷ ts) rest e = ap (λ w. Comma ∷ w) (some_is ts rest e)
+comma_is (_ ∷ ts) rest e = absurd cc
+
+colon_is : (ts rest : List Token) → after_colon ts ≡ Some rest → ts ≡ Colon ∷ rest
+colon_is [] rest e = absurd cc
+colon_is (Colon ∷ ts) rest e = ap (λ w. Colon ∷ w) (some_is ts rest e)
+colon_is (_ ∷ ts) rest e = absurd cc
+
+left_brace_is : (ts rest : List Token) → after_left_brace ts ≡ Some rest → ts ≡ LeftBrace ∷ rest
+left_brace_is [] rest e = absurd cc
+left_brace_is (LeftBrace ∷ ts) rest e = ap (λ w. LeftBrace ∷ w) (some_is ts rest e)
+left_brace_is (_ ∷ ts) rest e = absurd cc
+
+right_brace_is : (ts rest : List Token) → after_right_brace ts ≡ Some rest → ts ≡ RightBrace ∷ rest
+right_brace_is [] rest e = absurd cc
+right_brace_is (RightBrace ∷ ts) rest e = ap (λ w. RightBrace ∷ w) (some_is ts rest e)
+right_brace_is (_ ∷ ts) rest e = absurd cc
+
+abbrev labelled : List ℕ → List Token → Read (List ℕ)
+labelled l ts = Some (l, ts)
+
+abbrev label_or : List ℕ → Read (List ℕ) → List ℕ
+label_or l None = l
+label_or l (Some x) = x.0
+
+abbrev rest_or : List Token → Read (List ℕ) → List Token
+rest_or ts None = ts
+rest_or ts (Some x) = x.1
+
+label_is : (ts rest : List Token) (l : List ℕ) → label_at ts ≡ labelled l rest → ts ≡ Upper l ∷ rest
+label_is [] rest l e = absurd cc
+label_is (Upper m ∷ ts) rest l e = λ i. Upper (ap (label_or m) e i) ∷ ap (rest_or ts) e i
+label_is (_ ∷ ts) rest l e = absurd cc
+
 base_sound : (ts : List Token) (x : Base × List Token) → base_at ts ≡ Some x → IsBase ts x.0 x.1
 unfolding base_at
 base_sound [] x e = absurd cc
@@ -60,6 +100,77 @@ base_sound (LeftParen ∷ ts) x e =
 base_sound (_ ∷ ts) x e = absurd cc
 
 module _ (n : ℕ) (inner : List Token → Read Tree) (sound : (ts : List Token) (x : Tree × List Token) → inner ts ≡ Some x → IsSeq n ts x.0 x.1) where
+  -- one branch, with its type behind its colon
+  record IsAlt (ts : List Token) (b : Branch) (rest : List Token) : Type 0 where
+    after : List Token
+    front : ts ≡ Upper b.label ∷ Colon ∷ after
+    derived : IsSeq n after b.body rest
+
+  alt_sound : (ts : List Token) (x : Branch × List Token) → alt_with inner ts ≡ Some x → IsAlt ts x.0 x.1
+  unfolding alt_with
+  alt_sound ts x e =
+      let l = bind_some (label_at ts) _ x e in
+      let after = bind_some (after_colon l.0.1) _ x l.2 in
+      let t = bind_some (inner after.0) _ x after.2 in
+      carry (λ y. IsAlt ts y.0 y.1) (alternative l.0.0 t.0.0, t.0.1) x t.2 (record {
+        after = after.0;
+        front = label_is ts l.0.1 l.0.0 l.1 ∙ ap (λ w. Upper l.0.0 ∷ w) (colon_is l.0.1 after.0 after.1);
+        derived = sound after.0 t.0 t.1;
+      })
+
+  -- some branches, and what they are together with earlier ones
+  record AreAlts (ts : List Token) (bs all : List Branch) (rest : List Token) : Type 0 where
+    written : List Branch
+    derived : IsAlts n ts written rest
+    placed_all : arranged_with bs written ≡ Some all
+
+  alts_sound : (m : ℕ) (bs : List Branch) (ts : List Token) (x : List Branch × List Token) → alts_with inner m bs ts ≡ Some x → AreAlts ts bs x.0 x.1
+  unfolding alts_with alts_behind
+  alts_sound zero bs ts x e = absurd cc
+  alts_sound (suc m) bs ts x e =
+      let b = bind_some (alt_with inner ts) _ x e in
+      let more = bind_some (placed b.0.0 bs) _ x b.2 in
+      behind b.0 more.0 (alt_sound ts b.0 b.1) more.1 (after_comma b.0.1) refl more.2 (λ after. alts_sound m more.0 after x)
+    where
+      behind : (b : Branch × List Token) (more : List Branch) → IsAlt ts b.0 b.1 → placed b.0 bs ≡ Some more → (o : Option (List Token)) → after_comma b.1 ≡ o →
+          alts_behind inner (alts_with inner m) more b.1 o ≡ Some x → ((after : List Token) → alts_with inner m more after ≡ Some x → AreAlts after more x.0 x.1) → AreAlts ts bs x.0 x.1
+      behind b more alt place None comma e next = carry (λ y. AreAlts ts bs y.0 y.1) (more, b.1) x e (record {
+        written = b.0 ∷ [];
+        derived = subst (λ w. IsAlts n w (b.0 ∷ []) b.1) (sym alt.front) (last n b.0.label alt.after b.0.body b.1 alt.derived);
+        placed_all = ap (option_and_then (λ rest. arranged_with rest [])) place;
+      })
+      behind b more alt place (Some after) comma e next =
+          let others = next after e in
+          record {
+            written = b.0 ∷ others.written;
+            derived = subst (λ w. IsAlts n w (b.0 ∷ others.written) x.1) (sym alt.front)
+                (further n b.0.label alt.after b.0.body after others.written x.1 (subst (IsSeq n alt.after b.0.body) (comma_is b.1 after comma) alt.derived) others.derived);
+            placed_all = ap (option_and_then (λ rest. arranged_with rest others.written)) place ∙ others.placed_all;
+          }
+
+  -- the branches of a choice between braces
+  record IsChoice (ts : List Token) (bs : List Branch) (rest : List Token) : Type 0 where
+    after : List Token
+    front : ts ≡ LeftBrace ∷ after
+    written : List Branch
+    derived : IsAlts n after written (RightBrace ∷ rest)
+    placed_all : arranged written ≡ Some bs
+
+  choice_sound : (ts : List Token) (x : List Branch × List Token) → choice_with inner ts ≡ Some x → IsChoice ts x.0 x.1
+  unfolding choice_with
+  choice_sound ts x e =
+      let after = bind_some (after_left_brace ts) _ x e in
+      let bs = bind_some (alts_with inner (length after.0) [] after.0) _ x after.2 in
+      let r = bind_some (after_right_brace bs.0.1) _ x bs.2 in
+      let alts = alts_sound (length after.0) [] after.0 bs.0 bs.1 in
+      carry (λ y. IsChoice ts y.0 y.1) (bs.0.0, r.0) x r.2 (record {
+        after = after.0;
+        front = left_brace_is ts after.0 after.1;
+        written = alts.written;
+        derived = subst (IsAlts n after.0 alts.written) (right_brace_is bs.0.1 r.0 r.1) alts.derived;
+        placed_all = alts.placed_all;
+      })
+
   atom_sound : (ts : List Token) (x : Tree × List Token) → atom_with inner ts ≡ Some x → IsAtom n ts x.0 x.1
   unfolding atom_with
   atom_sound [] x e = absurd cc
@@ -75,6 +186,16 @@ module _ (n : ℕ) (inner : List Token → Read Tree) (sound : (ts : List Token)
       let r = bind_some (after_right_paren b.0.1) _ x b.2 in
       carry (λ y. IsAtom n (LeftParen ∷ ts) y.0 y.1) (b.0.0, r.0) x r.2
       (group n ts b.0.0 r.0 (subst (IsSeq n ts b.0.0) (paren_is b.0.1 r.0 r.1) (sound ts b.0 b.1)))
+  atom_sound (Plus ∷ ts) x e =
+      let bs = bind_some (choice_with inner ts) _ x e in
+      let h = choice_sound ts bs.0 bs.1 in
+      carry (λ y. IsAtom n (Plus ∷ ts) y.0 y.1) (tree.select (branches_of bs.0.0), bs.0.1) x bs.2
+      (subst (λ w. IsAtom n (Plus ∷ w) (tree.select (branches_of bs.0.0)) bs.0.1) (sym h.front) (select n h.after h.written bs.0.0 bs.0.1 h.derived h.placed_all))
+  atom_sound (Ampersand ∷ ts) x e =
+      let bs = bind_some (choice_with inner ts) _ x e in
+      let h = choice_sound ts bs.0 bs.1 in
+      carry (λ y. IsAtom n (Ampersand ∷ ts) y.0 y.1) (tree.offer (branches_of bs.0.0), bs.0.1) x bs.2
+      (subst (λ w. IsAtom n (Ampersand ∷ w) (tree.offer (branches_of bs.0.0)) bs.0.1) (sym h.front) (offer n h.after h.written bs.0.0 bs.0.1 h.derived h.placed_all))
   atom_sound (_ ∷ ts) x e = absurd cc
 
   followed_sound : (ts : List Token) (t : Tree × List Token) (o : Option (List Token)) (x : Tree × List Token) →
@@ -97,6 +218,30 @@ unfolding seq_at
 seq_sound zero ts x e = absurd cc
 seq_sound (suc n) ts x e = seq_with_sound n (seq_at n) (seq_sound n) ts x e
 
+base_shorter : {ts : List Token} {b : Base} {rest : List Token} → IsBase ts b rest → length rest ≤ length ts
+base_shorter (int rest) = omega arith
+base_shorter (bool rest) = omega arith
+base_shorter (char rest) = omega arith
+base_shorter (unit rest) = omega arith
+
+mutual
+  -- what is left is no longer than what was there
+  shorter : {n : ℕ} {ts : List Token} {t : Tree} {rest : List Token} → IsSeq n ts t rest → length rest ≤ length ts
+  shorter (single n ts t rest a) = atom_shorter a
+  shorter (chain n ts t after u rest a d) = omega (arith, atom_shorter a, shorter d)
+
+  atom_shorter : {n : ℕ} {ts : List Token} {t : Tree} {rest : List Token} → IsAtom n ts t rest → length rest ≤ length ts
+  atom_shorter (skip n rest) = omega arith
+  atom_shorter (send n ts b rest d) = omega (arith, base_shorter d)
+  atom_shorter (receive n ts b rest d) = omega (arith, base_shorter d)
+  atom_shorter (group n ts t rest d) = omega (arith, shorter d)
+  atom_shorter (select n ts written bs rest d e) = omega (arith, alts_shorter d)
+  atom_shorter (offer n ts written bs rest d e) = omega (arith, alts_shorter d)
+
+  alts_shorter : {n : ℕ} {ts : List Token} {bs : List Branch} {rest : List Token} → IsAlts n ts bs rest → length rest ≤ length ts
+  alts_shorter (last n l ts t rest d) = omega (arith, shorter d)
+  alts_shorter (further n l ts t after bs rest d e) = omega (arith, shorter d, alts_shorter e)
+
 base_complete : {ts : List Token} {b : Base} {rest : List Token} → IsBase ts b rest → base_at ts ≡ Some (b, rest)
 unfolding base_at bind
 base_complete (int rest) = refl
@@ -105,12 +250,38 @@ base_complete (char rest) = refl
 base_complete (unit rest) = refl
 
 module _ (n : ℕ) (inner : List Token → Read Tree) (complete : (ts : List Token) (t : Tree) (rest : List Token) → IsSeq n ts t rest → after_semicolon rest ≡ None → inner ts ≡ Some (t, rest)) where
+  alt_complete : (l : List ℕ) (ts : List Token) (t : Tree) (rest : List Token) → IsSeq n ts t rest → after_semicolon rest ≡ None →
+      alt_with inner (Upper l ∷ Colon ∷ ts) ≡ Some (alternative l t, rest)
+  unfolding alt_with bind
+  alt_complete l ts t rest d ended = rw (complete ts t rest d ended) refl
+
+  alts_complete : {ts : List Token} {written : List Branch} {rest : List Token} → IsAlts n ts written rest → (m : ℕ) (bs all : List Branch) → length ts ≤ m →
+      arranged_with bs written ≡ Some all → after_semicolon rest ≡ None → after_comma rest ≡ None → alts_with inner m bs ts ≡ Some (all, rest)
+  unfolding alts_with alts_behind bind
+  alts_complete (last _ l ts t rest d) zero bs all long placed_all ended no_comma = absurd (omega arith)
+  alts_complete (last _ l ts t rest d) (suc m) bs all long placed_all ended no_comma =
+      let one = and_then_some (placed (alternative l t) bs) (λ more. arranged_with more []) all placed_all in
+      let place : placed (alternative l t) bs ≡ Some all = one.1 ∙ one.2 in
+      rw (alt_complete l ts t rest d ended, place, no_comma) refl
+  alts_complete (further _ l ts t after written rest d e) zero bs all long placed_all ended no_comma = absurd (omega arith)
+  alts_complete (further _ l ts t after written rest d e) (suc m) bs all long placed_all ended no_comma =
+      let one = and_then_some (placed (alternative l t) bs) (λ more. arranged_with more written) all placed_all in
+      let others = alts_complete e m one.0 all (omega (arith, shorter d)) one.2 ended no_comma in
+      rw (alt_complete l ts t (Comma ∷ after) d refl, one.1, others) refl
+
+  choice_complete : (ts : List Token) (written bs : List Branch) (rest : List Token) → IsAlts n ts written (RightBrace ∷ rest) → arranged written ≡ Some bs →
+      choice_with inner (LeftBrace ∷ ts) ≡ Some (bs, rest)
+  unfolding choice_with bind
+  choice_complete ts written bs rest d e = rw (alts_complete d (length ts) [] bs (omega arith) e refl refl) refl
+
   atom_complete : {ts : List Token} {t : Tree} {rest : List Token} → IsAtom n ts t rest → atom_with inner ts ≡ Some (t, rest)
   unfolding bind atom_with
   atom_complete (skip _ rest) = refl
   atom_complete (send _ ts b rest d) = rw (base_complete d) refl
   atom_complete (receive _ ts b rest d) = rw (base_complete d) refl
   atom_complete (group _ ts t rest d) = rw (complete ts t (RightParen ∷ rest) d refl) refl
+  atom_complete (select _ ts written bs rest d e) = rw (choice_complete ts written bs rest d e) refl
+  atom_complete (offer _ ts written bs rest d e) = rw (choice_complete ts written bs rest d e) refl
 
   seq_with_complete : (ts : List Token) (t : Tree) (rest : List Token) → IsSeq (suc n) ts t rest → after_semicolon rest ≡ None → seq_with inner ts ≡ Some (t, rest)
   unfolding seq_with bind followed
@@ -173,10 +344,25 @@ derived_pair _ _ _ _ (against n ts s after r d e) is p q =
 pub pair_complete : (ts : List Token) (s r : Tree) → IsSmallPair ts s r → pair_at ts ≡ Some (s, r)
 pair_complete ts s r h = derived_pair most_nested ts s r h.derived refl (is_within s h.left_size) (is_within r h.right_size)
 
--- the types of the grammar are finite, and ordered since they have no choices
+-- the types of the grammar are finite and ordered
 pub record IsPlainType (t : Tree) : Type 0 where
   pub finite : IsFinite t
   pub ordered : IsOrdered t
+
+abbrev HasPlainType : Branch → Type 0
+HasPlainType b = IsPlainType b.body
+
+finite_branches : (bs : List Branch) → Each HasPlainType bs → AllFinite (branches_of bs)
+finite_branches [] h = tt
+finite_branches (b ∷ bs) h = (h.0.finite, finite_branches bs h.1)
+
+ordered_branches : (bs : List Branch) → Each HasPlainType bs → AllOrdered (branches_of bs)
+ordered_branches [] h = tt
+ordered_branches (b ∷ bs) h = (h.0.ordered, ordered_branches bs h.1)
+
+some_written : {n : ℕ} {ts : List Token} {written : List Branch} {rest : List Token} → IsAlts n ts written rest → 0 < length written
+some_written (last n l ts t rest d) = omega arith
+some_written (further n l ts t after bs rest d e) = omega arith
 
 mutual
   seq_plain : {n : ℕ} {ts : List Token} {t : Tree} {rest : List Token} → IsSeq n ts t rest → IsPlainType t
@@ -191,6 +377,16 @@ mutual
   atom_plain (send n ts b rest d) = record { finite = tt; ordered = tt }
   atom_plain (receive n ts b rest d) = record { finite = tt; ordered = tt }
   atom_plain (group n ts t rest d) = seq_plain d
+  atom_plain (select n ts written bs rest d e) =
+      let each = arranged_each HasPlainType [] written bs e tt (alts_plain d) in
+      record { finite = finite_branches bs each; ordered = (arranged_is_rising written bs e (some_written d), ordered_branches bs each) }
+  atom_plain (offer n ts written bs rest d e) =
+      let each = arranged_each HasPlainType [] written bs e tt (alts_plain d) in
+      record { finite = finite_branches bs each; ordered = (arranged_is_rising written bs e (some_written d), ordered_branches bs each) }
+
+  alts_plain : {n : ℕ} {ts : List Token} {written : List Branch} {rest : List Token} → IsAlts n ts written rest → Each HasPlainType written
+  alts_plain (last n l ts t rest d) = (seq_plain d, tt)
+  alts_plain (further n l ts t after bs rest d e) = (seq_plain d, alts_plain e)
 
 pub pair_plain : {n : ℕ} {ts : List Token} {s r : Tree} → IsPair n ts s r → IsPlainType s × IsPlainType r
 pair_plain (against n ts s after r d e) = (seq_plain d, seq_plain e)

@@ -1,8 +1,13 @@
 pub mod TokenLaws
+pub mod ArrangedLaws
+pub mod AltsLaws
 pub mod GrammarLaws
 pub mod QuestionLaws
 pub mod WordOrder
 pub mod LabelDifference
+pub mod KeyLaws
+pub mod KeyTables
+pub mod FiniteLaws
 pub mod Levels
 pub mod Endings
 pub mod Longest

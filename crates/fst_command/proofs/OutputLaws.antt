@@ -1,6 +1,6 @@
 -- Words and bytes have at most one output.
-use Rattle.std.proofs.Common.{◌≡◌, ◌∙◌, ◌<◌, ◌≤◌, ◌+◌, ◌⊎◌, ◌↔◌, inl, inr, ⊎_elim, ℕ, zero, suc, List, [], ◌∷◌, length, Option, Some, None, refl, sym, ap, subst, arith}
-use Rattle.std.specs.Prelude.{IsSome, is_some, option_and_then}
+use Rattle.std.proofs.Common.{◌≡◌, ◌∙◌, ◌⊎◌, ◌↔◌, inl, inr, ⊎_elim, ℕ, List, [], ◌∷◌, length, Option, Some, None, refl, sym, ap, subst, arith}
+use Rattle.std.specs.Prelude.{IsSome, option_and_then}
 use Rattle.std.specs.declared.cmp.Ordering.{Ordering}
 use Rattle.std.specs.declared.cmp.Ordering.TheVariants.{Less, Equal, Greater}
 use Rattle.std.specs.Ordering.{ordering_then, ordering_reverse, is_eq}
@@ -14,13 +14,11 @@ use Rattle.fst_types.specs.declared.side.Side.{Side}
 use Rattle.fst_types.specs.declared.side.Side.TheVariants.{Left, Right}
 use Rattle.fst_types.proofs.Labels.{same_label-same, label_cmp_total}
 use Rattle.fst_lts.specs.Step.{step}
-use Rattle.fst_lts.specs.Agree.{residual, Performs, BothOrNeither, AgreeTo, Agree}
+use Rattle.fst_lts.specs.Agree.{residual, Performs, BothOrNeither, AgreeTo}
 use Rattle.fst_lts.specs.Words.{IsBefore, PerformsAlone, IsLeastDifference}
-use Rattle.fst_command.specs.declared.status.Status.{Status}
 use Rattle.fst_command.specs.declared.status.Status.TheVariants as status
-use Rattle.fst_command.specs.Question.{IsQuestion}
 use Rattle.fst_command.specs.Texts.{no_text}
-use Rattle.fst_command.specs.Output.{SaysYes, SaysNo, IsAnswer, IsOutput, OneOutput}
+use Rattle.fst_command.specs.Output.{SaysYes, SaysNo, IsAnswer, OneOutput}
 use Rattle.fst_command.proofs.QuestionLaws.{one_question}
 
 -- ---- the order of words is total

@@ -1,14 +1,14 @@
 -- The questions of a text.
-use Rattle.std.proofs.Common.{◌≡◌, ◌∙◌, ℕ, List, Option, Some, None, refl, sym, ap, subst}
+use Rattle.std.proofs.Common.{◌≡◌, ◌∙◌, ℕ, List, Some, None, sym, ap}
 use Rattle.fst_types.specs.Tree.{Tree}
 use Rattle.fst_types.specs.Order.{IsOrdered}
 use Rattle.fst_command.specs.declared.token.Token.{Token}
 use Rattle.fst_command.specs.Finite.{IsFinite}
-use Rattle.fst_command.specs.Tokens.{AreTokens, NoTokens}
+use Rattle.fst_command.specs.Tokens.{AreTokens}
 use Rattle.fst_command.specs.Question.{IsQuestion, NoQuestion, OneQuestion}
 use Rattle.fst_command.specs.Reading.{pair_at}
 use Rattle.fst_command.proofs.TokenLaws.{one_list}
-use Rattle.fst_command.proofs.GrammarLaws.{IsSmallPair, IsPlainType, pair_sound, pair_complete, pair_plain}
+use Rattle.fst_command.proofs.GrammarLaws.{pair_sound, pair_complete, pair_plain}
 
 pub question_read : (text : List ℕ) (ts : List Token) (q : Tree × Tree) → AreTokens text ts → pair_at ts ≡ Some q → IsQuestion text q.0 q.1
 question_read text ts q d e =
@@ -23,8 +23,8 @@ read_question text ts s r d q =
 pub no_question : (text : List ℕ) (ts : List Token) → AreTokens text ts → pair_at ts ≡ None → NoQuestion text
 no_question text ts d e = λ s r q. absurd (cc (sym e ∙ read_question text ts s r d q))
 
-pub question_finite : (text : List ℕ) (s r : Tree) → IsQuestion text s r → IsFinite s
-question_finite text s r q = (pair_plain q.derived).0.finite
+pub question_finite : (text : List ℕ) (s r : Tree) → IsQuestion text s r → IsFinite s × IsFinite r
+question_finite text s r q = let p = pair_plain q.derived in (p.0.finite, p.1.finite)
 
 pub question_ordered : (text : List ℕ) (s r : Tree) → IsQuestion text s r → IsOrdered s × IsOrdered r
 question_ordered text s r q = let p = pair_plain q.derived in (p.0.ordered, p.1.ordered)

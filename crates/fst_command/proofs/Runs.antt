@@ -1,5 +1,5 @@
 -- How a run ends.
-use Rattle.std.proofs.Common.{◌≡◌, ◌∙◌, ℕ, ◌+◌, ◌<◌, ◌≤◌, ◌⊎◌, inl, inr, ◌↔◌, List, [], ◌∷◌, length, take, map, get_or, Bool, true, false, Option, Some, None, refl, sym, ap, arith}
+use Rattle.std.proofs.Common.{◌≡◌, ◌∙◌, ℕ, ◌<◌, ◌≤◌, inl, inr, ◌↔◌, List, [], ◌∷◌, length, map, get_or, Bool, true, refl, sym, ap, arith}
 use Rattle.std.specs.Prelude.{IsTrue, codes}
 use Rattle.std.specs.Str.{bytes_eq}
 use Rattle.std.proofs.lemmas.Slice.Eq.{bytes_eq-Decides}
@@ -11,7 +11,7 @@ use Rattle.fst_command.specs.Limits.{most_bytes}
 use Rattle.fst_command.specs.declared.status.Status.{Status}
 use Rattle.fst_command.specs.declared.status.Status.TheVariants as status
 use Rattle.fst_command.specs.Output.{IsEquiv, IsOutput}
-use Rattle.fst_command.specs.Top.{Told, IsAnswered, WasCut, Meets, GaveUp}
+use Rattle.fst_command.specs.Top.{Told, IsAnswered, Meets, GaveUp}
 
 -- a list of one word
 pub one_word : {A : Type 0} (f : A → List ℕ) (ws : List A) (w : A) (r : Bool) (text wanted : List ℕ) → w ≡ get_or ws 0 w → 1 ≤ length ws → length ws < 2 →

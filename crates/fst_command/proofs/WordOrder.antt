@@ -1,5 +1,5 @@
 -- The order of words.
-use Rattle.std.proofs.Common.{◌≡◌, ◌∙◌, ◌<◌, ◌≤◌, ◌+◌, ◌⊎◌, inl, inr, ℕ, List, [], ◌∷◌, ◌++◌, length, refl, sym, ap, subst, arith, length-append}
+use Rattle.std.proofs.Common.{◌≡◌, ◌∙◌, ◌≤◌, ◌+◌, ◌⊎◌, inl, inr, List, [], ◌∷◌, ◌++◌, length, refl, sym, ap, subst, arith, length-append}
 use Rattle.std.specs.declared.cmp.Ordering.{Ordering}
 use Rattle.std.specs.declared.cmp.Ordering.TheVariants.{Less, Equal, Greater}
 use Rattle.std.specs.Ordering.{ordering_then}
@@ -40,7 +40,7 @@ module _ {A : Type 0} (R : A → A → Ordering) (total : IsTotalOrder R) where
   pub before_last : (w : List A) (a b : A) → R a b ≡ Less → IsBefore R (w ++ a ∷ []) (w ++ b ∷ [])
   before_last w a b lt = inr (omega (arith, long w a, long w b), lex_same w (a ∷ []) (b ∷ []) ∙ ap (λ o. ordering_then o Equal) lt)
 
-  before_trans : (u v w : List A) → IsBefore R u v → IsBefore R v w → IsBefore R u w
+  pub before_trans : (u v w : List A) → IsBefore R u v → IsBefore R v w → IsBefore R u w
   before_trans u v w (inl m) (inl n) = inl (omega (arith, m, n))
   before_trans u v w (inl m) (inr (n, e)) = inl (omega (arith, m, n))
   before_trans u v w (inr (m, e)) (inl n) = inl (omega (arith, m, n))
@@ -59,3 +59,14 @@ module _ {A : Type 0} (R : A → A → Ordering) (total : IsTotalOrder R) where
   pub not_before : (v w : List A) → IsBefore R v w → IsUpTo R w v → ⊥
   not_before v w b (inl c) = not_before_itself v (before_trans v w v b c)
   not_before v w b (inr e) = not_before_itself v (subst (λ z. IsBefore R v z) e b)
+
+  -- the same labels behind both keep the order
+  pub up_to_append : (v w x : List A) → IsUpTo R v w → IsUpTo R (v ++ x) (w ++ x)
+  up_to_append v w x (inl (inl lt)) = inl (inl (omega (arith, length-append v x, length-append w x, lt)))
+  up_to_append v w x (inl (inr (n, e))) = inl (inr (omega (arith, length-append v x, length-append w x, n), lex_append v w x x n e))
+  up_to_append v w x (inr e) = inr (ap (λ z. z ++ x) e)
+
+  pub no_longer : (v w : List A) → IsUpTo R v w → length v ≤ length w
+  no_longer v w (inl (inl lt)) = omega (arith, lt)
+  no_longer v w (inl (inr (n, e))) = omega (arith, n)
+  no_longer v w (inr e) = omega (arith, ap length e)

@@ -12,3 +12,7 @@ most_nodes = 4096
 -- how many bytes an input may have
 abbrev pub most_bytes : ℕ
 most_bytes = 1048576
+
+-- how many bytes a name may have
+abbrev pub longest_name : ℕ
+longest_name = 255

@@ -1,5 +1,5 @@
 -- The search for the least difference of two types, level by level: a level has the pairs that the words of one length lead to.
-use Rattle.std.specs.Prelude.{◌≡◌, ℕ, List, [], ◌∷◌, ◌++◌, map, Option, Some, None}
+use Rattle.std.specs.Prelude.{ℕ, List, [], ◌∷◌, ◌++◌, Option, Some, None, if◌then◌else◌}
 use Rattle.std.specs.declared.cmp.Ordering.{Ordering}
 use Rattle.std.specs.declared.cmp.Ordering.TheVariants.{Less, Equal, Greater}
 use Rattle.fst_types.specs.Tree.{Tree}
@@ -9,6 +9,7 @@ use Rattle.fst_types.specs.declared.side.Side.{Side}
 use Rattle.fst_types.specs.declared.side.Side.TheVariants.{Left, Right}
 use Rattle.fst_lts.specs.Step.{step, labels}
 use Rattle.fst_command.specs.declared.compare.Entry.{Entry}
+use Rattle.fst_command.specs.Keys.{pair_key, is_seen}
 
 -- two types, and the word that led to them
 pub record Place : Type 0 where
@@ -40,17 +41,26 @@ abbrev pub level_difference : List Place → Option (List Label × Side)
 level_difference [] = None
 level_difference (p ∷ ps) = word_difference p.word (label_difference (labels p.left) (labels p.right)) (level_difference ps)
 
--- the place behind a label, where both types move by it
-abbrev pub successor : Place → Label → Option Tree → Option Tree → List Place
-successor p a (Some x) (Some y) = record { left = x; right = y; word = p.word ++ a ∷ [] } ∷ []
-successor p a _ _ = []
+-- the next level as far as it is built, and the keys of all pairs met so far
+pub record Built : Type 0 where
+  pub seen : List (List ℕ)
+  pub next : List Place
 
--- the places behind some labels
-abbrev pub successors : Place → List Label → List Place
-successors p [] = []
-successors p (a ∷ ls) = successor p a (step p.left a) (step p.right a) ++ successors p ls
+abbrev pub built : List (List ℕ) → List Place → Built
+built seen next = record { seen = seen; next = next }
 
--- the places behind the places of a level
-abbrev pub next_level : List Place → List Place
-next_level [] = []
-next_level (p ∷ ps) = successors p (labels p.left) ++ next_level ps
+-- with the place behind a label, where both types move by it to a pair that wasn't met before
+abbrev pub with_successor : Built → Place → Label → Option Tree → Option Tree → Built
+with_successor b p a (Some x) (Some y) =
+    if is_seen b.seen x y then b else record { seen = b.seen ++ pair_key x y ∷ []; next = b.next ++ record { left = x; right = y; word = p.word ++ a ∷ [] } ∷ [] }
+with_successor b p a _ _ = b
+
+-- with the places behind some labels
+abbrev pub with_successors : Built → Place → List Label → Built
+with_successors b p [] = b
+with_successors b p (a ∷ ls) = with_successors (with_successor b p a (step p.left a) (step p.right a)) p ls
+
+-- with the places behind the places of a level
+abbrev pub next_level : Built → List Place → Built
+next_level b [] = b
+next_level b (p ∷ ps) = next_level (with_successors b p (labels p.left)) ps

@@ -1,9 +1,11 @@
 -- Which tokens a text of the finite form has.
-use Rattle.std.specs.Prelude.{◌≡◌, ℕ, List, [], ◌∷◌, ◌++◌, Bool, true, false, ◌==◌, ◌||◌, codes, ⊤}
-use Rattle.std.specs.List.{list_any}
-use Rattle.std.specs.Char.{is_ascii_alphanumeric}
+use Rattle.std.specs.Prelude.{◌≡◌, ℕ, ◌∷◌, List, [], ◌++◌, length, Bool, true, false, ◌==◌, ◌||◌, ◌&&◌, not, nat_le, codes, ⊤}
+use Rattle.std.specs.List.{list_any, list_all}
+use Rattle.std.specs.Char.{is_ascii_alphanumeric, is_ascii_uppercase}
+use Rattle.std.specs.Str.{bytes_eq}
 use Rattle.fst_command.specs.declared.token.Token.{Token}
-use Rattle.fst_command.specs.declared.token.Token.TheVariants.{Skip, Int, Bool as Truth, Char, Bang, Question, Semicolon, Tilde, LeftParen, RightParen}
+use Rattle.fst_command.specs.declared.token.Token.TheVariants.{Skip, Int, Bool as Truth, Char, Upper, Bang, Question, Plus, Ampersand, Semicolon, Comma, Colon, Tilde, LeftParen, RightParen, LeftBrace, RightBrace}
+use Rattle.fst_command.specs.Limits.{longest_name}
 
 -- a space, a tab, a carriage return or a line feed
 abbrev pub is_blank : ℕ → Bool
@@ -13,18 +15,44 @@ is_blank c = list_any (λ d. d == c) (codes " \t\r\n")
 abbrev pub continues_name : ℕ → Bool
 continues_name c = is_ascii_alphanumeric c || list_any (λ d. d == c) (codes "_'")
 
+-- the reserved words that begin with `A` to `Z`
+abbrev pub reserved : List (List ℕ)
+reserved = codes "Skip" ∷ codes "Int" ∷ codes "Bool" ∷ codes "Char" ∷ codes "True" ∷ codes "False" ∷ codes "Close" ∷ codes "Wait" ∷ []
+
+abbrev pub begins_upper : List ℕ → Bool
+begins_upper [] = false
+begins_upper (c ∷ text) = is_ascii_uppercase c
+
+-- the text begins with `A` to `Z` and goes on as names do
+abbrev pub has_upper_form : List ℕ → Bool
+has_upper_form text = begins_upper text && list_all continues_name text
+
+-- the text isn't too long for a name and isn't reserved
+abbrev pub is_free : List ℕ → Bool
+is_free text = nat_le (length text) longest_name && not (list_any (bytes_eq text) reserved)
+
+abbrev pub is_upper_name : List ℕ → Bool
+is_upper_name text = has_upper_form text && is_free text
+
 -- how a token is written
 abbrev pub spelling : Token → List ℕ
 spelling Skip = codes "Skip"
 spelling Int = codes "Int"
 spelling Truth = codes "Bool"
 spelling Char = codes "Char"
+spelling (Upper name) = name
 spelling Bang = codes "!"
 spelling Question = codes "?"
+spelling Plus = codes "+"
+spelling Ampersand = codes "&"
 spelling Semicolon = codes ";"
+spelling Comma = codes ","
+spelling Colon = codes ":"
 spelling Tilde = codes "~"
 spelling LeftParen = codes "("
 spelling RightParen = codes ")"
+spelling LeftBrace = codes "{"
+spelling RightBrace = codes "}"
 
 -- whether a token is a word, and no sign
 abbrev pub is_word : Token → Bool
@@ -32,7 +60,13 @@ is_word Skip = true
 is_word Int = true
 is_word Truth = true
 is_word Char = true
+is_word (Upper name) = true
 is_word _ = false
+
+-- the name of a token is an upper name, if it has one
+abbrev pub is_named_well : Token → Bool
+is_named_well (Upper name) = is_upper_name name
+is_named_well _ = true
 
 -- no name goes on here
 abbrev pub EndsName : List ℕ → Type 0
@@ -42,6 +76,7 @@ EndsName (c ∷ cs) = continues_name c ≡ false
 -- the text begins with this token and then has the rest; a word is read to the end of the name that it may begin
 pub record IsNext (k : Token) (text rest : List ℕ) : Type 0 where
   pub written : text ≡ spelling k ++ rest
+  pub named : is_named_well k ≡ true
   pub whole : is_word k ≡ true → EndsName rest
 
 -- the tokens of a text, with blanks before, between and behind them
@@ -64,4 +99,10 @@ NoWord text = (k : Token) (rest : List ℕ) → is_word k ≡ true → IsNext k 
 
 -- this is no word
 abbrev pub IsNoWord : List ℕ → Type 0
-IsNoWord text = (k : Token) → is_word k ≡ true → text ≡ spelling k → ⊥
+IsNoWord text = (k : Token) → is_word k ≡ true → is_named_well k ≡ true → text ≡ spelling k → ⊥
+
+-- this token is a word, written like this
+pub record IsWordOf (text : List ℕ) (k : Token) : Type 0 where
+  pub word : is_word k ≡ true
+  pub named : is_named_well k ≡ true
+  pub written : text ≡ spelling k

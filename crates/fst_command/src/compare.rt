@@ -2,9 +2,10 @@ ghost use Rattle.std.specs.Prelude.{◌≡◌, ◌++◌, ◌∷◌, [], map, Som
 ghost use Rattle.fst_types.specs.Order.{IsOrdered};
 ghost use Rattle.fst_lts.specs.Step.{labels};
 ghost use Rattle.fst_command.specs.Finite.{IsFinite};
-ghost use Rattle.fst_command.specs.Search.{place_of, label_difference, successors};
+ghost use Rattle.fst_command.specs.Search.{place_of, built, label_difference, with_successors};
 ghost use Rattle.fst_command.specs.Verdicts.{IsVerdict, IsSearched};
 
+use crate::seen::Seen;
 use fst_lts::{labels, step};
 use fst_types::{Label, Side, Ty, copy};
 use std::alloc::{AllocError, Global};
@@ -66,14 +67,15 @@ fn extended(alloc: Global, word: &[Label], label: &Label) -> Result<Vec<Label>, 
     Ok(longer)
 }
 
-// Puts the entry behind a label behind the level, where both types move by it.
+// Puts the entry behind a label behind the level, where both types move by it to a pair that wasn't met.
 fn add_successor(
     alloc: Global,
+    seen: &mut Seen,
     next: &mut Vec<Entry>,
     entry: &Entry,
     label: &Label,
 ) -> Result<(), AllocError>
-    ensures { OnOk result (map place_of next.new.items ≡ map place_of next.old.items ++ successors (place_of entry.now) (label.now ∷ [])) }
+    ensures { OnOk result (with_successors (built seen.old (map place_of next.old.items)) (place_of entry.now) (label.now ∷ []) ≡ built seen.new (map place_of next.new.items)) }
 {
     let Some(left) = step(alloc, &entry.left, label)? else {
         return Ok(());
@@ -81,29 +83,32 @@ fn add_successor(
     let Some(right) = step(alloc, &entry.right, label)? else {
         return Ok(());
     };
-    let word = extended(alloc, &entry.word, label)?;
-    next.push(Entry { left, right, word })?;
+    if seen.insert(alloc, &left, &right)? {
+        let word = extended(alloc, &entry.word, label)?;
+        next.push(Entry { left, right, word })?;
+    }
     Ok(())
 }
 
-// Puts the entries behind some labels behind the level.
+// Puts the entries behind some labels behind the level, where their pairs weren't met.
 fn add_successors(
     alloc: Global,
+    seen: &mut Seen,
     next: &mut Vec<Entry>,
     entry: &Entry,
     labels: &[Label],
 ) -> Result<(), AllocError>
-    ensures { OnOk result (map place_of next.new.items ≡ map place_of next.old.items ++ successors (place_of entry.now) labels.now) }
+    ensures { OnOk result (with_successors (built seen.old (map place_of next.old.items)) (place_of entry.now) labels.now ≡ built seen.new (map place_of next.new.items)) }
 {
     for label in labels {
-        add_successor(alloc, next, entry, label)?;
+        add_successor(alloc, seen, next, entry, label)?;
     }
     Ok(())
 }
 
 // What one level shows.
-fn search_level(alloc: Global, level: &[Entry]) -> Result<Searched, AllocError>
-    ensures { IfOk result (IsSearched (map place_of level.now)) }
+fn search_level(alloc: Global, seen: &mut Seen, level: &[Entry]) -> Result<Searched, AllocError>
+    ensures { IfOk result (IsSearched seen.old seen.new (map place_of level.now)) }
 {
     let mut next = Vec::new(alloc);
     for entry in level {
@@ -112,7 +117,7 @@ fn search_level(alloc: Global, level: &[Entry]) -> Result<Searched, AllocError>
         if let Some((label, side)) = label_difference(&left, &right) {
             return Ok(Searched::Differ(extended(alloc, &entry.word, label)?, side));
         }
-        add_successors(alloc, &mut next, entry, &left)?;
+        add_successors(alloc, seen, &mut next, entry, &left)?;
     }
     Ok(Searched::Next(next))
 }
@@ -130,16 +135,18 @@ fn first_level(alloc: Global, left: &Ty, right: &Ty) -> Result<Vec<Entry>, Alloc
 }
 
 /// Whether two types agree, or the least word that shows a difference: by the pairs of types that words of
-/// one length lead to, length by length.
+/// one length lead to, length by length, without the pairs that shorter or smaller words led to.
 pub(crate) fn compare(alloc: Global, left: &Ty, right: &Ty) -> Result<Verdict, AllocError>
-    requires finite { IsFinite left.now }
+    requires left_finite { IsFinite left.now }
+    requires right_finite { IsFinite right.now }
     requires left_ordered { IsOrdered left.now }
     requires right_ordered { IsOrdered right.now }
     ensures { IfOk result (IsVerdict left.now right.now) }
 {
+    let mut seen = Seen::new(alloc);
     let mut level = first_level(alloc, left, right)?;
     'levels: while !level.is_empty() {
-        match search_level(alloc, &level)? {
+        match search_level(alloc, &mut seen, &level)? {
             Searched::Differ(word, side) => return Ok(Verdict::Differ(word, side)),
             Searched::Next(next) => level = next,
         }

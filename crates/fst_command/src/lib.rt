@@ -5,6 +5,7 @@ mod answer;
 mod compare;
 mod reader;
 mod run;
+mod seen;
 mod status;
 #[cfg(test)]
 mod tests;

@@ -1,10 +1,11 @@
+mod edges;
+
 use crate::compare::{Verdict, compare};
 use crate::reader::read_question;
 use crate::{Status, top};
 use fst_io::{OpenGate, SteadySink, SteadySource};
 use fst_lts::agree_to;
 use std::alloc::{AllocError, Global};
-use std::process::Abort;
 use std::test::Fail;
 
 /// How a run ended, what it wrote, and how many bytes it read.
@@ -37,7 +38,7 @@ fn run_on<R>(rt: &R, alloc: Global, words: &[&str], input: &[u8]) -> Result<Run,
 
 #[test]
 fn questions_are_answered(rt: HostRuntime) -> Result<(), Fail> {
-    let cases: [(&str, &str); 12] = [
+    let cases: [(&str, &str); 34] = [
         ("Skip;!Int ~ !Int;Skip", "yes\n"),
         ("!Int ~ ?Int", "no !Int left\n"),
         ("?Int ~ !Int", "no !Int right\n"),
@@ -59,6 +60,40 @@ fn questions_are_answered(rt: HostRuntime) -> Result<(), Fail> {
         ),
         ("\t!\r\n( ) ~ !()", "yes\n"),
         ("(Skip;!Int);(Skip;Skip)~!Int", "yes\n"),
+        ("+{A:!Int,B:Skip};?Bool ~ +{B:?Bool,A:!Int;?Bool}", "yes\n"),
+        ("&{A:!Int,B:Skip};?Bool ~ &{B:?Bool,A:!Int;?Bool}", "yes\n"),
+        ("+{A:Skip};+{A:Skip} ~ +{A:+{A:Skip}}", "yes\n"),
+        (
+            "+{A:!Int,B:!Int;?Bool} ~ +{A:!Int,B:!Int;?Int}",
+            "no +B !Int ?Int right\n",
+        ),
+        (
+            "+{A:!Int;?Bool,B:!Int} ~ +{A:!Int,B:!Char}",
+            "no +B !Int left\n",
+        ),
+        ("+{B:?Int,A:!Int} ~ +{B:!Int,A:!Char}", "no +A !Int left\n"),
+        ("+{A:&{B:?Int}} ~ +{A:&{B:!Int}}", "no +A &B !Int right\n"),
+        ("+{A:!Int};?Bool ~ +{A:!Int}", "no +A !Int ?Bool left\n"),
+        ("+{A:Skip} ~ Skip", "no +A left\n"),
+        ("+{A:Skip} ~ &{A:Skip}", "no +A left\n"),
+        ("+{A:Skip} ~ ?()", "no ?() right\n"),
+        ("+{A:Skip} ~ +{B:Skip}", "no +A left\n"),
+        ("+{B:Skip} ~ +{B:Skip,A:Skip}", "no +A right\n"),
+        ("+{A:Skip,B:Skip} ~ +{A:Skip}", "no +B left\n"),
+        ("&{A:Skip} ~ &{B:Skip,A:Skip}", "no &B right\n"),
+        ("+{AB:Skip,A:!Int} ~ +{A:!Int,AB:Skip}", "yes\n"),
+        ("+{AB:Skip} ~ +{A:Skip}", "no +A right\n"),
+        ("+{A1:Skip,A':Skip} ~ +{A':Skip,A1:Skip}", "yes\n"),
+        ("+{A1:Skip,A_:Skip} ~ +{A':Skip,A1:Skip}", "no +A' right\n"),
+        ("&{A_:Skip} ~ &{AB:Skip}", "no &AB right\n"),
+        (
+            "+{Skip1:!Int,Wait':Skip} ~ +{Wait':Skip,Skip1:!Int}",
+            "yes\n",
+        ),
+        (
+            "\t+ {\r\nA : !\nInt , B\t:\tSkip\n} ~+{A:!Int,B:Skip}",
+            "yes\n",
+        ),
     ];
     for (input, text) in cases {
         let run = run_on(&rt, rt.alloc(), &["equiv"], input.as_bytes())?;
@@ -93,7 +128,28 @@ fn other_input_is_refused(rt: HostRuntime) -> Result<(), Fail> {
         "!Int1 ~ !Int",
         "1 ~ Skip",
         "rec x.!Int;x ~ Skip",
-        "+{A:Skip} ~ Skip",
+        "+{A:Skip,A:Skip} ~ Skip",
+        "+{A:Skip,B:Skip,A:Skip} ~ Skip",
+        "+{B:Skip,AB:Skip,A:Skip,AB:Skip} ~ Skip",
+        "Skip ~ +{A:&{B:Skip,B:Skip}}",
+        "+{} ~ Skip",
+        "+{A} ~ Skip",
+        "+{A:} ~ Skip",
+        "+{A:Skip,} ~ Skip",
+        "+{A:Skip B:Skip} ~ Skip",
+        "+{A:Skip ~ Skip",
+        "A ~ Skip",
+        "+{a:Skip} ~ Skip",
+        "+{'A:Skip} ~ Skip",
+        "+{\u{c9}:Skip} ~ Skip",
+        "+{Skip:Skip} ~ Skip",
+        "+{Int:Skip} ~ Skip",
+        "+{Bool:Skip} ~ Skip",
+        "+{Char:Skip} ~ Skip",
+        "+{True:Skip} ~ Skip",
+        "+{False:Skip} ~ Skip",
+        "+{Close:Skip} ~ Skip",
+        "+{Wait:Skip} ~ Skip",
         "Skip ~ Skip -- a comment",
         "Skip\u{c} ~ Skip",
         "Skip ~ Skip\u{e9}",
@@ -136,84 +192,6 @@ fn other_words_are_refused(rt: HostRuntime) -> Result<(), Fail> {
     Ok(())
 }
 
-fn repeated(alloc: Global, parts: &[(&[u8], usize)]) -> Result<Vec<u8>, AllocError> {
-    let mut text = Vec::new(alloc);
-    for (part, times) in parts {
-        for _ in 0..*times {
-            text.extend_from_slice(part)?;
-        }
-    }
-    Ok(text)
-}
-
-fn expect_of(
-    rt: &impl Abort,
-    alloc: Global,
-    input: &[u8],
-    status: Status,
-    text: &[u8],
-) -> Result<(), Fail> {
-    let run = run_on(rt, alloc, &["equiv"], input)?;
-    assert_eq!(rt; run.status, status, "of {} bytes", input.len());
-    assert_eq!(rt; run.text.as_slice(), text, "of {} bytes", input.len());
-    Ok(())
-}
-
-#[test]
-fn limits_are_kept(rt: HostRuntime) -> Result<(), Fail> {
-    let alloc = rt.alloc();
-    let cases: [(&[(&[u8], usize)], Status, &[u8]); 7] = [
-        (
-            &[(b"!Int ~ !Int", 1), (b" ", 1_048_565)],
-            Status::Done,
-            b"yes\n",
-        ),
-        (
-            &[(b"!Int ~ !Int", 1), (b" ", 1_048_566)],
-            Status::Limit,
-            b"limit length\n",
-        ),
-        (
-            &[(b"(", 199), (b"Skip", 1), (b")", 199), (b" ~ Skip", 1)],
-            Status::Done,
-            b"yes\n",
-        ),
-        (
-            &[(b"(", 200), (b"Skip", 1), (b")", 200), (b" ~ Skip", 1)],
-            Status::Refused,
-            b"refused 1:1 syntax\n",
-        ),
-        (
-            &[(b"Skip;", 199), (b"Skip ~ Skip", 1)],
-            Status::Done,
-            b"yes\n",
-        ),
-        (
-            &[(b"Skip;", 200), (b"Skip ~ Skip", 1)],
-            Status::Refused,
-            b"refused 1:1 syntax\n",
-        ),
-        (
-            &[(b"Skip ~ ", 1), (b"(", 1_000_000)],
-            Status::Refused,
-            b"refused 1:1 syntax\n",
-        ),
-    ];
-    for (parts, status, text) in cases {
-        expect_of(&rt, alloc, &repeated(alloc, parts)?, status, text)?;
-    }
-    // 64 parts are 127 nodes, and 32 such groups are 4,095
-    let group = repeated(alloc, &[(b"(Skip", 1), (b";Skip", 63), (b");", 1)])?;
-    let mut input = repeated(alloc, &[(&group, 31)])?;
-    input.extend_from_slice(&group[..group.len().saturating_sub(1)])?;
-    let full = input.len();
-    input.extend_from_slice(b" ~ Skip")?;
-    expect_of(&rt, alloc, &input, Status::Done, b"yes\n")?;
-    input.truncate(full);
-    input.extend_from_slice(b";Skip ~ Skip")?;
-    expect_of(&rt, alloc, &input, Status::Refused, b"refused 1:1 syntax\n")
-}
-
 #[test]
 fn the_comparison_is_the_definition(rt: HostRuntime) -> Result<(), Fail> {
     let alloc = rt.alloc();
@@ -229,6 +207,16 @@ fn the_comparison_is_the_definition(rt: HostRuntime) -> Result<(), Fail> {
         "!Int;(?Bool;!Char)",
         "!Int;?Bool;!()",
         "(Skip;Skip);Skip",
+        "+{A:Skip}",
+        "&{A:Skip}",
+        "+{A:!Int,B:Skip}",
+        "+{B:Skip,A:!Int}",
+        "+{A:!Int,B:Skip};?Bool",
+        "+{B:?Bool,A:!Int;?Bool}",
+        "+{A:!Int;?Bool,B:?Int}",
+        "&{A:&{B:!Int}};?Bool",
+        "&{A:&{B:!Int;?Bool}}",
+        "&{A:&{B:!Int;?Int},AB:Skip}",
     ];
     for left in sides {
         for right in sides {

@@ -1,23 +1,35 @@
-ghost use Rattle.std.specs.Prelude.{◌≡◌, ◌≤◌, length, true, IfOk, MatchOption};
-ghost use Rattle.std.specs.List.{prefix_len};
-ghost use Rattle.fst_command.specs.Tokens.{AreTokens, IsNext, IsNoWord, NoToken, NoTokens, NoWord, continues_name, is_blank, is_word, spelling};
+ghost use Rattle.std.specs.Prelude.{◌≡◌, ◌≤◌, length, IfOk, MatchOption};
+ghost use Rattle.std.specs.List.{prefix_len, list_all, list_any};
+ghost use Rattle.std.specs.Str.{bytes_eq};
+ghost use Rattle.fst_command.specs.Tokens.{AreTokens, IsNext, IsNoWord, IsWordOf, NoToken, NoTokens, NoWord, begins_upper, continues_name, has_upper_form, is_blank, is_free, is_upper_name, reserved};
 
+use fst_types::Name;
 use std::alloc::{AllocError, Global};
 
 /// A token of the finite form.
-#[derive(Clone, Copy, Debug, PartialEq, Eq)]
+#[derive(Drop)]
 pub(crate) enum Token {
     Skip,
     Int,
     Bool,
     Char,
+    Upper(Name),
     Bang,
     Question,
+    Plus,
+    Ampersand,
     Semicolon,
+    Comma,
+    Colon,
     Tilde,
     LeftParen,
     RightParen,
+    LeftBrace,
+    RightBrace,
 }
+
+/// The greatest number of bytes of a name.
+const MAX_NAME: usize = 255;
 
 fn is_blank(byte: u8) -> bool
     ensures { result ≡ is_blank byte }
@@ -31,20 +43,68 @@ fn continues_name(byte: u8) -> bool
     byte.is_ascii_alphanumeric() || b"_'".contains(&byte)
 }
 
+fn is_reserved(text: &[u8]) -> bool
+    ensures { result ≡ list_any (bytes_eq text.now) reserved }
+{
+    text == b"Skip".as_slice()
+        || text == b"Int".as_slice()
+        || text == b"Bool".as_slice()
+        || text == b"Char".as_slice()
+        || text == b"True".as_slice()
+        || text == b"False".as_slice()
+        || text == b"Close".as_slice()
+        || text == b"Wait".as_slice()
+}
+
+fn begins_upper(text: &[u8]) -> bool
+    ensures { result ≡ begins_upper text.now }
+{
+    match text {
+        [first, ..] => first.is_ascii_uppercase(),
+        [] => false,
+    }
+}
+
+fn continues_throughout(text: &[u8]) -> bool
+    ensures { result ≡ list_all continues_name text.now }
+{
+    text.iter().all(|byte| continues_name(*byte))
+}
+
+fn has_upper_form(text: &[u8]) -> bool
+    ensures { result ≡ has_upper_form text.now }
+{
+    begins_upper(text) && continues_throughout(text)
+}
+
+fn is_free(text: &[u8]) -> bool
+    ensures { result ≡ is_free text.now }
+{
+    text.len() <= MAX_NAME && !is_reserved(text)
+}
+
+fn is_upper_name(text: &[u8]) -> bool
+    ensures { result ≡ is_upper_name text.now }
+{
+    has_upper_form(text) && is_free(text)
+}
+
 // The token that is written as this word.
-fn word(text: &[u8]) -> Option<Token>
-    ensures { MatchOption result (IsNoWord text.now) (λ k. (is_word k ≡ true) × (text.now ≡ spelling k)) }
+fn word(alloc: Global, text: &[u8]) -> Result<Option<Token>, AllocError>
+    ensures { IfOk result (λ o. MatchOption o (IsNoWord text.now) (IsWordOf text.now)) }
 {
     if text == b"Skip".as_slice() {
-        Some(Token::Skip)
+        Ok(Some(Token::Skip))
     } else if text == b"Int".as_slice() {
-        Some(Token::Int)
+        Ok(Some(Token::Int))
     } else if text == b"Bool".as_slice() {
-        Some(Token::Bool)
+        Ok(Some(Token::Bool))
     } else if text == b"Char".as_slice() {
-        Some(Token::Char)
+        Ok(Some(Token::Char))
+    } else if is_upper_name(text) {
+        Ok(Some(Token::Upper(Name::of(alloc, text)?)))
     } else {
-        None
+        Ok(None)
     }
 }
 
@@ -59,28 +119,34 @@ fn name_len(text: &[u8]) -> usize
 }
 
 // The word at the front of the text, and what stands behind it.
-fn next_word(text: &[u8]) -> Option<(Token, &[u8])>
-    ensures { MatchOption result (NoWord text.now) (λ x. IsNext x.0 text.now x.1.now) }
+fn next_word(alloc: Global, text: &[u8]) -> Result<Option<(Token, &[u8])>, AllocError>
+    ensures { IfOk result (λ o. MatchOption o (NoWord text.now) (λ x. IsNext x.0 text.now x.1.now)) }
 {
     let (name, rest) = text.split_at(name_len(text));
-    match word(name) {
-        Some(token) => Some((token, rest)),
-        None => None,
+    match word(alloc, name)? {
+        Some(token) => Ok(Some((token, rest))),
+        None => Ok(None),
     }
 }
 
 // The token at the front of the text, and what stands behind it.
-fn next_token(text: &[u8]) -> Option<(Token, &[u8])>
-    ensures { MatchOption result (NoToken text.now) (λ x. IsNext x.0 text.now x.1.now) }
+fn next_token(alloc: Global, text: &[u8]) -> Result<Option<(Token, &[u8])>, AllocError>
+    ensures { IfOk result (λ o. MatchOption o (NoToken text.now) (λ x. IsNext x.0 text.now x.1.now)) }
 {
     match text {
-        [b'!', rest @ ..] => Some((Token::Bang, rest)),
-        [b'?', rest @ ..] => Some((Token::Question, rest)),
-        [b';', rest @ ..] => Some((Token::Semicolon, rest)),
-        [b'~', rest @ ..] => Some((Token::Tilde, rest)),
-        [b'(', rest @ ..] => Some((Token::LeftParen, rest)),
-        [b')', rest @ ..] => Some((Token::RightParen, rest)),
-        _ => next_word(text),
+        [b'!', rest @ ..] => Ok(Some((Token::Bang, rest))),
+        [b'?', rest @ ..] => Ok(Some((Token::Question, rest))),
+        [b'+', rest @ ..] => Ok(Some((Token::Plus, rest))),
+        [b'&', rest @ ..] => Ok(Some((Token::Ampersand, rest))),
+        [b';', rest @ ..] => Ok(Some((Token::Semicolon, rest))),
+        [b',', rest @ ..] => Ok(Some((Token::Comma, rest))),
+        [b':', rest @ ..] => Ok(Some((Token::Colon, rest))),
+        [b'~', rest @ ..] => Ok(Some((Token::Tilde, rest))),
+        [b'(', rest @ ..] => Ok(Some((Token::LeftParen, rest))),
+        [b')', rest @ ..] => Ok(Some((Token::RightParen, rest))),
+        [b'{', rest @ ..] => Ok(Some((Token::LeftBrace, rest))),
+        [b'}', rest @ ..] => Ok(Some((Token::RightBrace, rest))),
+        _ => next_word(alloc, text),
     }
 }
 
@@ -95,7 +161,7 @@ pub(crate) fn tokens(alloc: Global, text: &[u8]) -> Result<Option<Vec<Token>>, A
             rest = others;
             continue;
         }
-        let Some((token, behind)) = next_token(rest) else {
+        let Some((token, behind)) = next_token(alloc, rest)? else {
             return Ok(None);
         };
         found.push(token)?;

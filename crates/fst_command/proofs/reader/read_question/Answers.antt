@@ -1,6 +1,5 @@
 use Rattle.std.proofs.Common.{sym, subst}
 use Rattle.fst_command.specs.Tokens.{AreTokens}
-use Rattle.fst_command.specs.Question.{IsQuestion}
 use Rattle.fst_command.proofs.QuestionLaws.{question_read, no_question, question_finite, question_ordered}
 use Rattle.fst_command.proofs.reader.read_question.Goals as goal
 

@@ -1,4 +1,4 @@
-use Rattle.std.proofs.Common.{◌≡◌, ◌≤◌, map, length, arith}
+use Rattle.std.proofs.Common.{map, arith}
 use Rattle.std.specs.Prelude.{string_bytes}
 use Rattle.fst_command.specs.Top.{Told}
 use Rattle.fst_command.proofs.Runs.{equiv_answered}

@@ -1,4 +1,4 @@
-use Rattle.std.proofs.Common.{◌≡◌, ◌∙◌, sym}
+use Rattle.std.proofs.Common.{◌∙◌, sym}
 use Rattle.fst_command.proofs.TokenLaws.{found_blank, found_token, found_all}
 use Rattle.fst_command.proofs.token.tokens.Goals as goal
 
@@ -9,7 +9,7 @@ loop-rest-preserved-then-is_blank c =
 pub loop-rest-preserved : goal.loop-rest-preserved
 loop-rest-preserved c =
     rw c.in_ok-push.ensures.items
-    (found_token c.args.text.now c.loop-rest.found.items c.loop-rest.rest.now c.in-Some.behind.now c.in-Some.token c.loop-rest.invariant c.in-Some.ensures)
+    (found_token c.args.text.now c.loop-rest.found.items c.loop-rest.rest.now c.in-Some.behind.now c.in-Some.token c.loop-rest.invariant (rw c.in-Some.is at c.in_ok-token.ensures))
 
 pub returns : goal.returns
 returns c = found_all c.args.text.now c.loop-rest.found.items c.loop-rest.rest.now c.loop-rest.invariant c.in_default.len_below
