@@ -126,7 +126,7 @@ fn add_still(alloc: Global, samples: &mut Vec<Sample>) -> Result<(), AllocError>
     add(samples, plain, false, Vec::new(alloc))
 }
 
-fn add_one(samples: &mut Vec<Sample>, alloc: Global, ty: Ty, by: Label) -> Result<(), AllocError> {
+fn add_one(alloc: Global, samples: &mut Vec<Sample>, ty: Ty, by: Label) -> Result<(), AllocError> {
     let mut labels = Vec::new(alloc);
     labels.push(by)?;
     add(samples, ty, false, labels)
@@ -134,15 +134,15 @@ fn add_one(samples: &mut Vec<Sample>, alloc: Global, ty: Ty, by: Label) -> Resul
 
 fn add_moving(alloc: Global, samples: &mut Vec<Sample>) -> Result<(), AllocError> {
     let int = Base::Int;
-    add_one(samples, alloc, receive(int), Label::Receive(int))?;
-    add_one(samples, alloc, leaf(TyForm::Var(3)), Label::Var(3))?;
+    add_one(alloc, samples, receive(int), Label::Receive(int))?;
+    add_one(alloc, samples, leaf(TyForm::Var(3)), Label::Var(3))?;
     let late = seq(alloc, skip(), send(int))?;
-    add_one(samples, alloc, late, Label::Send(int))?;
+    add_one(alloc, samples, late, Label::Send(int))?;
     let early = seq(alloc, send(int), skip())?;
-    add_one(samples, alloc, early, Label::Send(int))?;
-    add_one(samples, alloc, nested(alloc)?, Label::Send(int))?;
-    add_one(samples, alloc, stream(alloc)?, Label::Send(int))?;
-    add_one(samples, alloc, twice(alloc)?, Label::Send(int))
+    add_one(alloc, samples, early, Label::Send(int))?;
+    add_one(alloc, samples, nested(alloc)?, Label::Send(int))?;
+    add_one(alloc, samples, stream(alloc)?, Label::Send(int))?;
+    add_one(alloc, samples, twice(alloc)?, Label::Send(int))
 }
 
 fn add_choosing(alloc: Global, samples: &mut Vec<Sample>) -> Result<(), AllocError> {
