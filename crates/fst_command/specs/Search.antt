@@ -41,7 +41,7 @@ abbrev pub level_difference : List Place → Option (List Label × Side)
 level_difference [] = None
 level_difference (p ∷ ps) = word_difference p.word (label_difference (labels p.left) (labels p.right)) (level_difference ps)
 
--- the next level as far as it is built, and the keys of all pairs met so far
+-- the next level as far as it is built, and the keys of all pairs that labels led to so far
 pub record Built : Type 0 where
   pub seen : List (List ℕ)
   pub next : List Place

@@ -15,7 +15,7 @@ fn repeated(alloc: Global, parts: &[(&[u8], usize)]) -> Result<Vec<u8>, AllocErr
     Ok(text)
 }
 
-// Runs a question and asks that it is accepted: the two types are equal, or else it is refused.
+// Asks that a question of two equal types is answered, or else that it is refused.
 fn expect_accepted(
     rt: &impl Abort,
     alloc: Global,
