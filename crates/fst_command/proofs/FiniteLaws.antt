@@ -5,7 +5,8 @@ use Rattle.fst_types.specs.Tree.{Tree, skip, send, receive, select, offer, seq, 
 use Rattle.fst_types.specs.Order.{same_label}
 use Rattle.fst_types.specs.declared.label.Label.{Label}
 use Rattle.fst_types.specs.declared.label.Label.TheVariants.{Send, Receive, Select, Offer}
-use Rattle.fst_lts.specs.Step.{terminated, closed, closed_branches, branch_at, step_in, step}
+use Rattle.fst_types.specs.Substitution.{substituted, substituted_all}
+use Rattle.fst_lts.specs.Step.{terminated, branch_at, step_in, step}
 use Rattle.fst_lts.specs.Agree.{residual}
 use Rattle.fst_command.specs.Finite.{IsFinite, AllFinite}
 
@@ -25,24 +26,24 @@ abbrev mutual
   longest_all (branch l s bs) = max (longest s) (longest_all bs)
 
 mutual
-  closed_finite : (env : List (Option Tree)) (s : Tree) → IsFinite s → closed env s ≡ s
-  closed_finite env skip h = refl
-  closed_finite env (send b) h = refl
-  closed_finite env (receive b) h = refl
-  closed_finite env (select bs) h = ap select (closed_all_finite env bs h)
-  closed_finite env (offer bs) h = ap offer (closed_all_finite env bs h)
-  closed_finite env (seq s r) h = λ i. seq (closed_finite env s h.0 i) (closed_finite env r h.1 i)
-  closed_finite env (rec s) h = absurd h
-  closed_finite env (back k) h = absurd h
-  closed_finite env (var k) h = absurd h
-  closed_finite env (plain b) h = absurd h
-  closed_finite env (arrow u s r) h = absurd h
-  closed_finite env (pair s r) h = absurd h
-  closed_finite env (named k) h = absurd h
+  substituted_finite : (env : List (Option Tree)) (s : Tree) → IsFinite s → substituted env s ≡ s
+  substituted_finite env skip h = refl
+  substituted_finite env (send b) h = refl
+  substituted_finite env (receive b) h = refl
+  substituted_finite env (select bs) h = ap select (substituted_all_finite env bs h)
+  substituted_finite env (offer bs) h = ap offer (substituted_all_finite env bs h)
+  substituted_finite env (seq s r) h = λ i. seq (substituted_finite env s h.0 i) (substituted_finite env r h.1 i)
+  substituted_finite env (rec s) h = absurd h
+  substituted_finite env (back k) h = absurd h
+  substituted_finite env (var k) h = absurd h
+  substituted_finite env (plain b) h = absurd h
+  substituted_finite env (arrow u s r) h = absurd h
+  substituted_finite env (pair s r) h = absurd h
+  substituted_finite env (named k) h = absurd h
 
-  closed_all_finite : (env : List (Option Tree)) (bs : Branches) → AllFinite bs → closed_branches env bs ≡ bs
-  closed_all_finite env none h = refl
-  closed_all_finite env (branch l s bs) h = λ i. branch l (closed_finite env s h.0 i) (closed_all_finite env bs h.1 i)
+  substituted_all_finite : (env : List (Option Tree)) (bs : Branches) → AllFinite bs → substituted_all env bs ≡ bs
+  substituted_all_finite env none h = refl
+  substituted_all_finite env (branch l s bs) h = λ i. branch l (substituted_finite env s h.0 i) (substituted_all_finite env bs h.1 i)
 
 -- a finite type whose words have fewer than so many labels
 record IsShorter (t : Tree) (bound : ℕ) : Type 0 where
@@ -57,14 +58,14 @@ skip_shorter true t e = subst (λ z. IsShorter z 1) (some_is skip t e) (record {
 skip_shorter false t e = absurd (cc e)
 
 branch_shorter : (make : List ℕ → Label) (env : List (Option Tree)) (bs : Branches) (a : Label) (t : Tree) → AllFinite bs →
-    option_map (closed env) (branch_at make bs a) ≡ Some t → IsShorter t (suc (longest_all bs))
+    option_map (substituted env) (branch_at make bs a) ≡ Some t → IsShorter t (suc (longest_all bs))
 branch_shorter make env none a t h e = absurd (cc e)
 branch_shorter make env (branch l s bs) a t h e = pick (same_label a (make l)) e (branch_shorter make env bs a t h.1)
   where
-    pick : (c : Bool) → option_map (closed env) (if c then Some s else branch_at make bs a) ≡ Some t →
-        (option_map (closed env) (branch_at make bs a) ≡ Some t → IsShorter t (suc (longest_all bs))) → IsShorter t (suc (max (longest s) (longest_all bs)))
+    pick : (c : Bool) → option_map (substituted env) (if c then Some s else branch_at make bs a) ≡ Some t →
+        (option_map (substituted env) (branch_at make bs a) ≡ Some t → IsShorter t (suc (longest_all bs))) → IsShorter t (suc (max (longest s) (longest_all bs)))
     pick true e next =
-        subst (λ z. IsShorter z (suc (max (longest s) (longest_all bs)))) (sym (closed_finite env s h.0) ∙ some_is (closed env s) t e)
+        subst (λ z. IsShorter z (suc (max (longest s) (longest_all bs)))) (sym (substituted_finite env s h.0) ∙ some_is (substituted env s) t e)
         (record { finite = h.0; short = omega arith })
     pick false e next = let rest = next e in record { finite = rest.finite; short = omega (arith, rest.short) }
 
@@ -78,12 +79,12 @@ step_shorter env (seq s r) t a h e =
     pick (terminated s) (step_in env s a) (λ x m. step_shorter env s x a h.0 m) (λ x m. step_shorter env r x a h.1 m) e
   where
     pick : (c : Bool) (o : Option Tree) → ((x : Tree) → o ≡ Some x → IsShorter x (longest s)) → ((x : Tree) → step_in env r a ≡ Some x → IsShorter x (longest r)) →
-        (if c then step_in env r a else option_map (λ x. seq x (closed env r)) o) ≡ Some t → IsShorter t (longest s + longest r)
+        (if c then step_in env r a else option_map (λ x. seq x (substituted env r)) o) ≡ Some t → IsShorter t (longest s + longest r)
     pick true o first second e = let rest = second t e in record { finite = rest.finite; short = omega (arith, rest.short) }
     pick false None first second e = absurd (cc e)
     pick false (Some x) first second e =
         let moved = first x refl in
-        let is : seq x r ≡ t = ap (seq x) (sym (closed_finite env r h.1)) ∙ some_is (seq x (closed env r)) t e in
+        let is : seq x r ≡ t = ap (seq x) (sym (substituted_finite env r h.1)) ∙ some_is (seq x (substituted env r)) t e in
         subst (λ z. IsShorter z (longest s + longest r)) is (record { finite = (moved.finite, h.1); short = omega (arith, moved.short) })
 step_shorter env (rec s) t a h e = absurd h
 step_shorter env (back k) t a h e = absurd h

@@ -1,4 +1,3 @@
-pub mod Closing
 pub mod LabelLaws
 pub mod OrderLaws
 pub mod DepthLaws

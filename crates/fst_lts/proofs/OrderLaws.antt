@@ -8,7 +8,8 @@ use Rattle.fst_types.specs.Tree.{Tree, skip, send, receive, select, offer, seq, 
 use Rattle.fst_types.specs.Order.{same_label, IsOrdered, AllOrdered, AreRising, label_cmp}
 use Rattle.fst_types.specs.declared.label.Label.{Label}
 use Rattle.fst_types.specs.declared.label.Label.TheVariants.{Send, Receive, Select, Offer, Var}
-use Rattle.fst_lts.specs.Step.{terminated, variable, closed, closed_branches, branch_at, step_in, step, labels, choice_labels}
+use Rattle.fst_types.specs.Substitution.{variable, substituted, substituted_all}
+use Rattle.fst_lts.specs.Step.{terminated, branch_at, step_in, step, labels, choice_labels}
 use Rattle.fst_lts.specs.Rising.{IsRising}
 
 choice_rises : (make : List ℕ → Label) → ((l m : List ℕ) → slice_cmp nat_cmp l m ≡ Less → label_cmp (make l) (make m) ≡ Less) →
@@ -47,37 +48,37 @@ variable_ordered (None ∷ env) zero t e o = o
 variable_ordered (Some s ∷ env) zero t e o = e.0
 variable_ordered (u ∷ env) (suc k) t e o = variable_ordered env k t e.1 o
 
-closed_rising : (env : List (Option Tree)) (bs : Branches) → AreRising bs → AreRising (closed_branches env bs)
-closed_rising env none r = r
-closed_rising env (branch l s none) r = tt
-closed_rising env (branch l s (branch m t bs)) r = (r.0, closed_rising env (branch m t bs) r.1)
+substituted_rising : (env : List (Option Tree)) (bs : Branches) → AreRising bs → AreRising (substituted_all env bs)
+substituted_rising env none r = r
+substituted_rising env (branch l s none) r = tt
+substituted_rising env (branch l s (branch m t bs)) r = (r.0, substituted_rising env (branch m t bs) r.1)
 
 mutual
-  closed_ordered : (env : List (Option Tree)) (s : Tree) → EnvOrdered env → IsOrdered s → IsOrdered (closed env s)
-  closed_ordered env skip e o = tt
-  closed_ordered env (send b) e o = tt
-  closed_ordered env (receive b) e o = tt
-  closed_ordered env (select bs) e o = (closed_rising env bs o.0, closed_all_ordered env bs e o.1)
-  closed_ordered env (offer bs) e o = (closed_rising env bs o.0, closed_all_ordered env bs e o.1)
-  closed_ordered env (seq s r) e o = (closed_ordered env s e o.0, closed_ordered env r e o.1)
-  closed_ordered env (rec s) e o = closed_ordered (None ∷ env) s (tt, e) o
-  closed_ordered env (back k) e o = variable_ordered env k (back k) e tt
-  closed_ordered env (var k) e o = tt
-  closed_ordered env (plain b) e o = tt
-  closed_ordered env (arrow u s r) e o = (closed_ordered env s e o.0, closed_ordered env r e o.1)
-  closed_ordered env (pair s r) e o = (closed_ordered env s e o.0, closed_ordered env r e o.1)
-  closed_ordered env (named k) e o = tt
+  substituted_ordered : (env : List (Option Tree)) (s : Tree) → EnvOrdered env → IsOrdered s → IsOrdered (substituted env s)
+  substituted_ordered env skip e o = tt
+  substituted_ordered env (send b) e o = tt
+  substituted_ordered env (receive b) e o = tt
+  substituted_ordered env (select bs) e o = (substituted_rising env bs o.0, substituted_all_ordered env bs e o.1)
+  substituted_ordered env (offer bs) e o = (substituted_rising env bs o.0, substituted_all_ordered env bs e o.1)
+  substituted_ordered env (seq s r) e o = (substituted_ordered env s e o.0, substituted_ordered env r e o.1)
+  substituted_ordered env (rec s) e o = substituted_ordered (None ∷ env) s (tt, e) o
+  substituted_ordered env (back k) e o = variable_ordered env k (back k) e tt
+  substituted_ordered env (var k) e o = tt
+  substituted_ordered env (plain b) e o = tt
+  substituted_ordered env (arrow u s r) e o = (substituted_ordered env s e o.0, substituted_ordered env r e o.1)
+  substituted_ordered env (pair s r) e o = (substituted_ordered env s e o.0, substituted_ordered env r e o.1)
+  substituted_ordered env (named k) e o = tt
 
-  closed_all_ordered : (env : List (Option Tree)) (bs : Branches) → EnvOrdered env → AllOrdered bs → AllOrdered (closed_branches env bs)
-  closed_all_ordered env none e o = tt
-  closed_all_ordered env (branch l s bs) e o = (closed_ordered env s e o.0, closed_all_ordered env bs e o.1)
+  substituted_all_ordered : (env : List (Option Tree)) (bs : Branches) → EnvOrdered env → AllOrdered bs → AllOrdered (substituted_all env bs)
+  substituted_all_ordered env none e o = tt
+  substituted_all_ordered env (branch l s bs) e o = (substituted_ordered env s e o.0, substituted_all_ordered env bs e o.1)
 
-branch_ordered : (make : List ℕ → Label) (env : List (Option Tree)) (bs : Branches) (a : Label) → EnvOrdered env → AllOrdered bs → IfSome (option_map (closed env) (branch_at make bs a)) IsOrdered
+branch_ordered : (make : List ℕ → Label) (env : List (Option Tree)) (bs : Branches) (a : Label) → EnvOrdered env → AllOrdered bs → IfSome (option_map (substituted env) (branch_at make bs a)) IsOrdered
 branch_ordered make env none a e o = tt
 branch_ordered make env (branch l s bs) a e o = pick (same_label a (make l)) (branch_ordered make env bs a e o.1)
   where
-    pick : (c : Bool) → IfSome (option_map (closed env) (branch_at make bs a)) IsOrdered → IfSome (option_map (closed env) (if c then Some s else branch_at make bs a)) IsOrdered
-    pick true next = closed_ordered env s e o.0
+    pick : (c : Bool) → IfSome (option_map (substituted env) (branch_at make bs a)) IsOrdered → IfSome (option_map (substituted env) (if c then Some s else branch_at make bs a)) IsOrdered
+    pick true next = substituted_ordered env s e o.0
     pick false next = next
 
 skip_ordered : (c : Bool) → IfSome (if c then Some skip else None) IsOrdered
@@ -92,11 +93,11 @@ step_in_ordered env (select bs) a e o = branch_ordered Select env bs a e o.1
 step_in_ordered env (offer bs) a e o = branch_ordered Offer env bs a e o.1
 step_in_ordered env (seq s r) a e o = pick (step_in_ordered env r a e o.1) (step_in env s a) (step_in_ordered env s a e o.0) (terminated s)
   where
-    pick : IfSome (step_in env r a) IsOrdered → (p : Option Tree) → IfSome p IsOrdered → (c : Bool) → IfSome (if c then step_in env r a else option_map (λ t. seq t (closed env r)) p) IsOrdered
+    pick : IfSome (step_in env r a) IsOrdered → (p : Option Tree) → IfSome p IsOrdered → (c : Bool) → IfSome (if c then step_in env r a else option_map (λ t. seq t (substituted env r)) p) IsOrdered
     pick second p first true = second
     pick second None first false = tt
-    pick second (Some t) first false = (first, closed_ordered env r e o.1)
-step_in_ordered env (rec s) a e o = step_in_ordered (Some (closed env (rec s)) ∷ env) s a (closed_ordered env (rec s) e o, e) o
+    pick second (Some t) first false = (first, substituted_ordered env r e o.1)
+step_in_ordered env (rec s) a e o = step_in_ordered (Some (substituted env (rec s)) ∷ env) s a (substituted_ordered env (rec s) e o, e) o
 step_in_ordered env (back k) a e o = tt
 step_in_ordered env (var k) a e o = skip_ordered (same_label a (Var k))
 step_in_ordered env (plain b) a e o = tt

@@ -1,10 +1,11 @@
 -- How a type moves: when no move is left, by which labels it moves, and the type after a label
 -- (Almeida, Mordido, Vasconcelos, TACAS 2020).
-use Rattle.std.specs.Prelude.{ℕ, zero, suc, List, [], ◌∷◌, Bool, true, false, ◌&&◌, Option, Some, None, option_map, unwrap_or, if◌then◌else◌}
+use Rattle.std.specs.Prelude.{ℕ, List, [], ◌∷◌, Bool, true, false, ◌&&◌, Option, Some, None, option_map, if◌then◌else◌}
 use Rattle.fst_types.specs.Tree.{Tree, skip, send, receive, select, offer, seq, rec, back, var, plain, arrow, pair, named, Branches, none, branch}
 use Rattle.fst_types.specs.declared.label.Label.{Label}
 use Rattle.fst_types.specs.declared.label.Label.TheVariants.{Send, Receive, Select, Offer, Var}
 use Rattle.fst_types.specs.Order.{same_label}
+use Rattle.fst_types.specs.Substitution.{substituted}
 
 -- no move is left
 abbrev pub terminated : Tree → Bool
@@ -12,34 +13,6 @@ terminated skip = true
 terminated (seq s r) = terminated s && terminated r
 terminated (rec s) = terminated s
 terminated _ = false
-
--- the k-th variable from the innermost binder: what its binder stands for, or t itself where it stands for nothing yet
-abbrev pub variable : List (Option Tree) → ℕ → Tree → Tree
-variable [] k t = t
-variable (o ∷ env) zero t = unwrap_or o t
-variable (o ∷ env) (suc k) t = variable env k t
-
-abbrev mutual
-  -- the type with what the binders around it stand for in place of its variables
-  pub closed : List (Option Tree) → Tree → Tree
-  closed env skip = skip
-  closed env (send b) = send b
-  closed env (receive b) = receive b
-  closed env (select bs) = select (closed_branches env bs)
-  closed env (offer bs) = offer (closed_branches env bs)
-  closed env (seq s r) = seq (closed env s) (closed env r)
-  closed env (rec s) = rec (closed (None ∷ env) s)
-  closed env (back k) = variable env k (back k)
-  closed env (var k) = var k
-  closed env (plain b) = plain b
-  closed env (arrow u s r) = arrow u (closed env s) (closed env r)
-  closed env (pair s r) = pair (closed env s) (closed env r)
-  closed env (named k) = named k
-
-  -- the same in each branch
-  pub closed_branches : List (Option Tree) → Branches → Branches
-  closed_branches env none = none
-  closed_branches env (branch l s bs) = branch l (closed env s) (closed_branches env bs)
 
 -- the branch that a label leads to
 abbrev pub branch_at : (List ℕ → Label) → Branches → Label → Option Tree
@@ -50,11 +23,11 @@ branch_at make (branch l s bs) a = if same_label a (make l) then Some s else bra
 abbrev pub step_in : List (Option Tree) → Tree → Label → Option Tree
 step_in env (send b) a = if same_label a (Send b) then Some skip else None
 step_in env (receive b) a = if same_label a (Receive b) then Some skip else None
-step_in env (select bs) a = option_map (closed env) (branch_at Select bs a)
-step_in env (offer bs) a = option_map (closed env) (branch_at Offer bs a)
+step_in env (select bs) a = option_map (substituted env) (branch_at Select bs a)
+step_in env (offer bs) a = option_map (substituted env) (branch_at Offer bs a)
 step_in env (seq s r) a =
-    if terminated s then step_in env r a else option_map (λ t. seq t (closed env r)) (step_in env s a)
-step_in env (rec s) a = step_in (Some (closed env (rec s)) ∷ env) s a
+    if terminated s then step_in env r a else option_map (λ t. seq t (substituted env r)) (step_in env s a)
+step_in env (rec s) a = step_in (Some (substituted env (rec s)) ∷ env) s a
 step_in env (var k) a = if same_label a (Var k) then Some skip else None
 step_in env _ a = None
 

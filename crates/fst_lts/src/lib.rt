@@ -3,7 +3,6 @@
 
 mod depth;
 mod moves;
-mod scope;
 
 pub use depth::agree_to;
 pub use moves::{labels, step, terminated};

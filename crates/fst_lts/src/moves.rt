@@ -3,12 +3,12 @@ ghost use Rattle.fst_types.specs.Tree as tree;
 ghost use Rattle.fst_types.specs.View.{branches_of};
 ghost use Rattle.fst_types.specs.Order.{IsOrdered};
 ghost use Rattle.fst_types.specs.declared.label.Label.{Label};
-ghost use Rattle.fst_lts.specs.Step.{terminated, labels, choice_labels, step, step_in, closed, branch_at};
+ghost use Rattle.fst_lts.specs.Step.{terminated, labels, choice_labels, step, step_in, branch_at};
 ghost use Rattle.fst_lts.specs.Rising.{IsRising};
-ghost use Rattle.fst_lts.specs.Scopes.{env_of};
+ghost use Rattle.fst_types.specs.Scopes.{env_of};
+ghost use Rattle.fst_types.specs.Substitution.{substituted};
 
-use crate::scope::{Scope, close};
-use fst_types::{Branch, Label, Ty, TyForm};
+use fst_types::{Branch, Label, Scope, Ty, TyForm, substitute};
 use std::alloc::{AllocError, Global};
 
 /// Whether no move is left.
@@ -113,14 +113,14 @@ fn step_within(
                     Some(next) => Ok(Some(Ty {
                         form: TyForm::Seq(
                             Box::new(alloc, next)?,
-                            Box::new(alloc, close(alloc, scope, second)?)?,
+                            Box::new(alloc, substitute(alloc, scope, second)?)?,
                         ),
                     })),
                 }
             }
         }
         TyForm::Rec(body) => {
-            let whole = close(alloc, scope, t)?;
+            let whole = substitute(alloc, scope, t)?;
             step_within(alloc, &Scope::Under(&whole, scope), body, a)
         }
         TyForm::Var(k) => Ok(skip_if(a.same(&Label::Var(*k)))),
@@ -144,11 +144,11 @@ fn select_branch(
     branches: &[Branch],
     a: &Label,
 ) -> Result<Option<Ty>, AllocError>
-    ensures { IfOk result (λ next. next ≡ option_map (closed (env_of scope.now)) (branch_at Label.Select (branches_of branches.now) a.now)) }
+    ensures { IfOk result (λ next. next ≡ option_map (substituted (env_of scope.now)) (branch_at Label.Select (branches_of branches.now) a.now)) }
 {
     for branch in branches {
         if a.is_select(&branch.label) {
-            return Ok(Some(close(alloc, scope, &branch.body)?));
+            return Ok(Some(substitute(alloc, scope, &branch.body)?));
         }
     }
     Ok(None)
@@ -160,11 +160,11 @@ fn offer_branch(
     branches: &[Branch],
     a: &Label,
 ) -> Result<Option<Ty>, AllocError>
-    ensures { IfOk result (λ next. next ≡ option_map (closed (env_of scope.now)) (branch_at Label.Offer (branches_of branches.now) a.now)) }
+    ensures { IfOk result (λ next. next ≡ option_map (substituted (env_of scope.now)) (branch_at Label.Offer (branches_of branches.now) a.now)) }
 {
     for branch in branches {
         if a.is_offer(&branch.label) {
-            return Ok(Some(close(alloc, scope, &branch.body)?));
+            return Ok(Some(substitute(alloc, scope, &branch.body)?));
         }
     }
     Ok(None)

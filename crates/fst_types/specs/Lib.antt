@@ -5,3 +5,6 @@ pub mod View
 pub mod Falls
 pub mod Size
 pub mod Order
+pub mod Substitution
+pub mod Scoped
+pub mod Scopes

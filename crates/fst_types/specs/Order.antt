@@ -1,7 +1,7 @@
 -- The order of labels, and types whose branches stand in it.
-use Rattle.std.specs.Prelude.{◌≡◌, ℕ, List, [], Bool, ⊤}
+use Rattle.std.specs.Prelude.{◌≡◌, ◌≢◌, ℕ, List, [], Bool, ⊤}
 use Rattle.std.specs.declared.cmp.Ordering.{Ordering}
-use Rattle.std.specs.declared.cmp.Ordering.TheVariants.{Less}
+use Rattle.std.specs.declared.cmp.Ordering.TheVariants.{Less, Greater}
 use Rattle.std.specs.Ordering.{nat_cmp, ordering_then, is_eq}
 use Rattle.std.specs.Cmp.Lexicographic.{slice_cmp}
 use Rattle.fst_types.specs.declared.base.Base.{Base}
@@ -57,24 +57,42 @@ AreRising none = ⊥
 AreRising (branch l t none) = ⊤
 AreRising (branch l t (branch m u bs)) = (slice_cmp nat_cmp l m ≡ Less) × AreRising (branch m u bs)
 
-abbrev mutual
-  -- the branches of each choice in the tree rise
-  pub IsOrdered : Tree → Type 0
-  IsOrdered skip = ⊤
-  IsOrdered (send b) = ⊤
-  IsOrdered (receive b) = ⊤
-  IsOrdered (select bs) = AreRising bs × AllOrdered bs
-  IsOrdered (offer bs) = AreRising bs × AllOrdered bs
-  IsOrdered (seq s t) = IsOrdered s × IsOrdered t
-  IsOrdered (rec t) = IsOrdered t
-  IsOrdered (back k) = ⊤
-  IsOrdered (var k) = ⊤
-  IsOrdered (plain b) = ⊤
-  IsOrdered (arrow u s t) = IsOrdered s × IsOrdered t
-  IsOrdered (pair s t) = IsOrdered s × IsOrdered t
-  IsOrdered (named k) = ⊤
+-- there is at least one branch, and no label comes after the next one in byte order
+abbrev pub AreSorted : Branches → Type 0
+AreSorted none = ⊥
+AreSorted (branch l t none) = ⊤
+AreSorted (branch l t (branch m u bs)) = (slice_cmp nat_cmp l m ≢ Greater) × AreSorted (branch m u bs)
 
-  -- the type of each branch is ordered
-  pub AllOrdered : Branches → Type 0
-  AllOrdered none = ⊤
-  AllOrdered (branch l t bs) = IsOrdered t × AllOrdered bs
+abbrev mutual
+  -- the branches of each choice in the tree are as P says
+  pub EachChoice : (Branches → Type 0) → Tree → Type 0
+  EachChoice P skip = ⊤
+  EachChoice P (send b) = ⊤
+  EachChoice P (receive b) = ⊤
+  EachChoice P (select bs) = P bs × EachChoiceBelow P bs
+  EachChoice P (offer bs) = P bs × EachChoiceBelow P bs
+  EachChoice P (seq s t) = EachChoice P s × EachChoice P t
+  EachChoice P (rec t) = EachChoice P t
+  EachChoice P (back k) = ⊤
+  EachChoice P (var k) = ⊤
+  EachChoice P (plain b) = ⊤
+  EachChoice P (arrow u s t) = EachChoice P s × EachChoice P t
+  EachChoice P (pair s t) = EachChoice P s × EachChoice P t
+  EachChoice P (named k) = ⊤
+
+  -- the same in the type of each branch
+  pub EachChoiceBelow : (Branches → Type 0) → Branches → Type 0
+  EachChoiceBelow P none = ⊤
+  EachChoiceBelow P (branch l t bs) = EachChoice P t × EachChoiceBelow P bs
+
+-- each choice has a branch, and its labels rise: no label stands twice
+abbrev pub IsOrdered : Tree → Type 0
+IsOrdered t = EachChoice AreRising t
+
+-- the type of each branch is ordered
+abbrev pub AllOrdered : Branches → Type 0
+AllOrdered bs = EachChoiceBelow AreRising bs
+
+-- each choice has a branch, and its labels stand in byte order: one may stand twice
+abbrev pub IsSorted : Tree → Type 0
+IsSorted t = EachChoice AreSorted t

@@ -1,10 +1,12 @@
-//! Types as trees, their labels, and what every later crate asks of them: size, equality, a copy.
+//! Types as trees, their labels, and what every later crate asks of them: size, equality, a copy,
+//! substitution and unfolding.
 #![tactic(auto)]
 
 mod base;
 mod kind;
 mod label;
 mod name;
+mod scope;
 mod side;
 mod ty;
 mod walks;
@@ -13,6 +15,7 @@ pub use base::Base;
 pub use kind::{Kind, Prekind, Use};
 pub use label::Label;
 pub use name::Name;
+pub use scope::{Scope, substitute, unfold};
 pub use side::Side;
 pub use ty::{Branch, Ty, TyForm};
 pub use walks::{copy, same, size};

@@ -1,0 +1,25 @@
+-- Which recursion variables a type has free.
+use Rattle.std.specs.Prelude.{ℕ, suc, ◌<◌, ⊤}
+use Rattle.fst_types.specs.Tree.{Tree, skip, send, receive, select, offer, seq, rec, back, var, plain, arrow, pair, named, Branches, none, branch}
+
+abbrev mutual
+  -- each recursion variable belongs to a `rec` in the type or to one of n around it; with n = 0 none is free
+  pub IsScoped : ℕ → Tree → Type 0
+  IsScoped n skip = ⊤
+  IsScoped n (send b) = ⊤
+  IsScoped n (receive b) = ⊤
+  IsScoped n (select bs) = AllScoped n bs
+  IsScoped n (offer bs) = AllScoped n bs
+  IsScoped n (seq s r) = IsScoped n s × IsScoped n r
+  IsScoped n (rec s) = IsScoped (suc n) s
+  IsScoped n (back k) = k < n
+  IsScoped n (var k) = ⊤
+  IsScoped n (plain b) = ⊤
+  IsScoped n (arrow u s r) = IsScoped n s × IsScoped n r
+  IsScoped n (pair s r) = IsScoped n s × IsScoped n r
+  IsScoped n (named k) = ⊤
+
+  -- the same in each branch
+  pub AllScoped : ℕ → Branches → Type 0
+  AllScoped n none = ⊤
+  AllScoped n (branch l s bs) = IsScoped n s × AllScoped n bs
