@@ -1,0 +1,43 @@
+-- Contractive types: each recursion variable stands behind a move (Almeida, Mordido, Vasconcelos, TACAS 2020).
+use Rattle.std.specs.Prelude.{◌≡◌, ℕ, zero, suc, Bool, true, false, ◌&&◌, ◌||◌, not, nat_eq, ⊤}
+use Rattle.fst_types.specs.Tree.{Tree, skip, send, receive, select, offer, seq, rec, back, var, plain, arrow, pair, named, Branches, none, branch}
+
+-- what stands behind the type comes after a move
+abbrev pub guards : Tree → Bool
+guards (send b) = true
+guards (receive b) = true
+guards (select bs) = true
+guards (offer bs) = true
+guards (seq s r) = guards s || guards r
+guards (rec s) = guards s
+guards (back k) = true
+guards _ = false
+
+-- the type comes to the k-th enclosing `rec`'s variable before any move
+abbrev pub reaches : Tree → ℕ → Bool
+reaches (seq s r) k = reaches s k || (not (guards s) && reaches r k)
+reaches (rec s) k = reaches s (suc k)
+reaches (back j) k = nat_eq j k
+reaches _ k = false
+
+abbrev mutual
+  -- in no part `rec x. S` does S reach x
+  pub IsContractive : Tree → Type 0
+  IsContractive skip = ⊤
+  IsContractive (send b) = ⊤
+  IsContractive (receive b) = ⊤
+  IsContractive (select bs) = AllContractive bs
+  IsContractive (offer bs) = AllContractive bs
+  IsContractive (seq s r) = IsContractive s × IsContractive r
+  IsContractive (rec s) = IsContractive s × (reaches s 0 ≡ false)
+  IsContractive (back k) = ⊤
+  IsContractive (var k) = ⊤
+  IsContractive (plain b) = ⊤
+  IsContractive (arrow u s r) = IsContractive s × IsContractive r
+  IsContractive (pair s r) = IsContractive s × IsContractive r
+  IsContractive (named k) = ⊤
+
+  -- the same in each branch
+  pub AllContractive : Branches → Type 0
+  AllContractive none = ⊤
+  AllContractive (branch l s bs) = IsContractive s × AllContractive bs
