@@ -1,5 +1,5 @@
 -- What ordered branches give: labels that rise, and successors that are ordered too.
-use Rattle.std.proofs.Common.{◌≡◌, ℕ, zero, suc, List, [], ◌∷◌, Bool, true, false, Option, Some, None}
+use Rattle.std.proofs.Common.{◌≡◌, ℕ, List, [], ◌∷◌, Bool, true, false, Option, Some, None}
 use Rattle.std.specs.Prelude.{option_map, if◌then◌else◌, IfSome, ⊤}
 use Rattle.std.specs.declared.cmp.Ordering.TheVariants.{Less}
 use Rattle.std.specs.Ordering.{nat_cmp}
@@ -8,7 +8,8 @@ use Rattle.fst_types.specs.Tree.{Tree, skip, send, receive, select, offer, seq, 
 use Rattle.fst_types.specs.Order.{same_label, IsOrdered, AllOrdered, AreRising, label_cmp}
 use Rattle.fst_types.specs.declared.label.Label.{Label}
 use Rattle.fst_types.specs.declared.label.Label.TheVariants.{Send, Receive, Select, Offer, Var}
-use Rattle.fst_types.specs.Substitution.{variable, substituted, substituted_all}
+use Rattle.fst_types.specs.Substitution.{substituted}
+use Rattle.fst_types.proofs.SubstitutionLaws.{EnvHas, substituted_ordered}
 use Rattle.fst_lts.specs.Step.{terminated, branch_at, step_in, step, labels, choice_labels}
 use Rattle.fst_lts.specs.Rising.{IsRising}
 
@@ -37,43 +38,7 @@ labels_rise (arrow u s r) o = tt
 labels_rise (pair s r) o = tt
 labels_rise (named k) o = tt
 
--- all that the binders stand for is ordered
-abbrev EnvOrdered : List (Option Tree) → Type 0
-EnvOrdered [] = ⊤
-EnvOrdered (o ∷ env) = IfSome o IsOrdered × EnvOrdered env
-
-variable_ordered : (env : List (Option Tree)) (k : ℕ) (t : Tree) → EnvOrdered env → IsOrdered t → IsOrdered (variable env k t)
-variable_ordered [] k t e o = o
-variable_ordered (None ∷ env) zero t e o = o
-variable_ordered (Some s ∷ env) zero t e o = e.0
-variable_ordered (u ∷ env) (suc k) t e o = variable_ordered env k t e.1 o
-
-substituted_rising : (env : List (Option Tree)) (bs : Branches) → AreRising bs → AreRising (substituted_all env bs)
-substituted_rising env none r = r
-substituted_rising env (branch l s none) r = tt
-substituted_rising env (branch l s (branch m t bs)) r = (r.0, substituted_rising env (branch m t bs) r.1)
-
-mutual
-  substituted_ordered : (env : List (Option Tree)) (s : Tree) → EnvOrdered env → IsOrdered s → IsOrdered (substituted env s)
-  substituted_ordered env skip e o = tt
-  substituted_ordered env (send b) e o = tt
-  substituted_ordered env (receive b) e o = tt
-  substituted_ordered env (select bs) e o = (substituted_rising env bs o.0, substituted_all_ordered env bs e o.1)
-  substituted_ordered env (offer bs) e o = (substituted_rising env bs o.0, substituted_all_ordered env bs e o.1)
-  substituted_ordered env (seq s r) e o = (substituted_ordered env s e o.0, substituted_ordered env r e o.1)
-  substituted_ordered env (rec s) e o = substituted_ordered (None ∷ env) s (tt, e) o
-  substituted_ordered env (back k) e o = variable_ordered env k (back k) e tt
-  substituted_ordered env (var k) e o = tt
-  substituted_ordered env (plain b) e o = tt
-  substituted_ordered env (arrow u s r) e o = (substituted_ordered env s e o.0, substituted_ordered env r e o.1)
-  substituted_ordered env (pair s r) e o = (substituted_ordered env s e o.0, substituted_ordered env r e o.1)
-  substituted_ordered env (named k) e o = tt
-
-  substituted_all_ordered : (env : List (Option Tree)) (bs : Branches) → EnvOrdered env → AllOrdered bs → AllOrdered (substituted_all env bs)
-  substituted_all_ordered env none e o = tt
-  substituted_all_ordered env (branch l s bs) e o = (substituted_ordered env s e o.0, substituted_all_ordered env bs e o.1)
-
-branch_ordered : (make : List ℕ → Label) (env : List (Option Tree)) (bs : Branches) (a : Label) → EnvOrdered env → AllOrdered bs → IfSome (option_map (substituted env) (branch_at make bs a)) IsOrdered
+branch_ordered : (make : List ℕ → Label) (env : List (Option Tree)) (bs : Branches) (a : Label) → EnvHas IsOrdered env → AllOrdered bs → IfSome (option_map (substituted env) (branch_at make bs a)) IsOrdered
 branch_ordered make env none a e o = tt
 branch_ordered make env (branch l s bs) a e o = pick (same_label a (make l)) (branch_ordered make env bs a e o.1)
   where
@@ -85,7 +50,7 @@ skip_ordered : (c : Bool) → IfSome (if c then Some skip else None) IsOrdered
 skip_ordered true = tt
 skip_ordered false = tt
 
-step_in_ordered : (env : List (Option Tree)) (s : Tree) (a : Label) → EnvOrdered env → IsOrdered s → IfSome (step_in env s a) IsOrdered
+step_in_ordered : (env : List (Option Tree)) (s : Tree) (a : Label) → EnvHas IsOrdered env → IsOrdered s → IfSome (step_in env s a) IsOrdered
 step_in_ordered env skip a e o = tt
 step_in_ordered env (send b) a e o = skip_ordered (same_label a (Send b))
 step_in_ordered env (receive b) a e o = skip_ordered (same_label a (Receive b))

@@ -1,24 +1,34 @@
-ghost use Rattle.std.specs.Prelude.{◌≡◌, ◌∷◌, [], IfOk, IfSome, IsSome, Contains, ◌↔◌, option_map, Some, None, if◌then◌else◌};
+ghost use Rattle.std.specs.Prelude.{◌≡◌, ◌∷◌, [], List, IfOk, IfSome, IsSome, IsTrue, Contains, ◌↔◌, option_map, Some, None, if◌then◌else◌};
 ghost use Rattle.fst_types.specs.Tree as tree;
 ghost use Rattle.fst_types.specs.View.{branches_of};
 ghost use Rattle.fst_types.specs.Order.{IsOrdered};
 ghost use Rattle.fst_types.specs.declared.label.Label.{Label};
+ghost use Rattle.fst_types.specs.declared.kind.Kind.{Kind};
+ghost use Rattle.fst_kinds.specs.WellFormed.{IsSession};
 ghost use Rattle.fst_lts.specs.Step.{terminated, labels, choice_labels, step, step_in, branch_at};
+ghost use Rattle.fst_lts.specs.Agree.{residual};
 ghost use Rattle.fst_lts.specs.Rising.{IsRising};
 ghost use Rattle.fst_types.specs.Scopes.{env_of};
 ghost use Rattle.fst_types.specs.Substitution.{substituted};
 
-use fst_types::{Branch, Label, Scope, Ty, TyForm, substitute};
+use fst_types::{Branch, Label, Scope, Ty, TyForm, copy, substitute};
 use std::alloc::{AllocError, Global};
 
 /// Whether no move is left.
 pub fn terminated(t: &Ty) -> bool
+    ensures ends { result ≡ terminated t.now }
+    ensures unlabelled { (vars : List Kind) → IsSession vars t.now → (IsTrue result ↔ (labels t.now ≡ [])) }
+{
+    is_terminated(t)
+}
+
+fn is_terminated(t: &Ty) -> bool
     ensures { result ≡ terminated t.now }
 {
     match &t.form {
         TyForm::Skip => true,
-        TyForm::Seq(first, second) => terminated(first) && terminated(second),
-        TyForm::Rec(body) => terminated(body),
+        TyForm::Seq(first, second) => is_terminated(first) && is_terminated(second),
+        TyForm::Rec(body) => is_terminated(body),
         _ => false,
     }
 }
@@ -42,7 +52,7 @@ fn labels_within(alloc: Global, t: &Ty) -> Result<Vec<Label>, AllocError>
         TyForm::Select(branches) => select_labels(alloc, branches),
         TyForm::Offer(branches) => offer_labels(alloc, branches),
         TyForm::Seq(first, second) => {
-            if terminated(first) {
+            if is_terminated(first) {
                 labels_within(alloc, second)
             } else {
                 labels_within(alloc, first)
@@ -83,10 +93,11 @@ fn offer_labels(alloc: Global, branches: &[Branch]) -> Result<Vec<Label>, AllocE
 }
 
 /// The type after a label, or none where the type doesn't move by it.
-#[tactic(auto, using(crate::proofs::OrderLaws::step_ordered))]
+#[tactic(auto, using(crate::proofs::OrderLaws::step_ordered, crate::proofs::ResidualLaws::step_session))]
 pub fn step(alloc: Global, t: &Ty, a: &Label) -> Result<Option<Ty>, AllocError>
     ensures next { IfOk result (λ next. next ≡ step t.now a.now) }
     ensures ordered { IsOrdered t.now → IfOk result (λ next. IfSome next IsOrdered) }
+    ensures well_formed { (vars : List Kind) → IsSession vars t.now → IfOk result (λ next. IfSome next (IsSession vars)) }
 {
     step_within(alloc, &Scope::Top, t, a)
 }
@@ -105,7 +116,7 @@ fn step_within(
         TyForm::Select(branches) => select_branch(alloc, scope, branches, a),
         TyForm::Offer(branches) => offer_branch(alloc, scope, branches, a),
         TyForm::Seq(first, second) => {
-            if terminated(first) {
+            if is_terminated(first) {
                 step_within(alloc, scope, second, a)
             } else {
                 match step_within(alloc, scope, first, a)? {
@@ -168,4 +179,19 @@ fn offer_branch(
         }
     }
     Ok(None)
+}
+
+/// What is left of a type after a word, or none where the type doesn't perform the word.
+pub fn residual(alloc: Global, t: &Ty, w: &[Label]) -> Result<Option<Ty>, AllocError>
+    ensures residual { IfOk result (λ left. left ≡ residual step t.now w.now) }
+    ensures ordered { IsOrdered t.now → IfOk result (λ left. IfSome left IsOrdered) }
+{
+    let mut left = copy(alloc, t)?;
+    for a in w {
+        match step(alloc, &left, a)? {
+            Some(next) => left = next,
+            None => return Ok(None),
+        }
+    }
+    Ok(Some(left))
 }

@@ -1,3 +1,6 @@
+mod deep;
+mod words;
+
 use crate::{agree_to, labels, step, terminated};
 use fst_types::{Base, Branch, Label, Name, Ty, TyForm, same};
 use std::alloc::{AllocError, Global};

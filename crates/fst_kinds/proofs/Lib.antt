@@ -1,0 +1,4 @@
+pub mod SubstitutedKinds
+pub mod SubstitutedGuards
+pub mod UnfoldLaws
+pub mod OpenSessions

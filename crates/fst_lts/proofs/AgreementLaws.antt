@@ -1,0 +1,141 @@
+-- Agreement is an equivalence, and a type in front of or behind both sides keeps it.
+use Rattle.std.proofs.Common.{◌≡◌, ◌∙◌, ◌↔◌, ℕ, zero, suc, List, [], ◌∷◌, Bool, true, false, Option, Some, None, refl, sym, ap, subst, arith}
+use Rattle.std.specs.Prelude.{IsSome, IfSome, IsTrue, Contains, option_map, if◌then◌else◌}
+use Rattle.fst_types.specs.Tree.{Tree, seq}
+use Rattle.fst_types.specs.declared.kind.Kind.{Kind}
+use Rattle.fst_types.specs.declared.label.Label.{Label}
+use Rattle.fst_types.specs.Substitution.{substituted}
+use Rattle.fst_types.proofs.SubstitutionLaws.{substituted_nothing}
+use Rattle.fst_kinds.specs.WellFormed.{IsSession}
+use Rattle.fst_lts.specs.Step.{step, labels, terminated}
+use Rattle.fst_lts.specs.Agree.{AgreeTo, BothOrNeither}
+use Rattle.fst_lts.proofs.LabelLaws.{labels_are_moves}
+use Rattle.fst_lts.proofs.ResidualLaws.{step_session, terminated_exactly}
+
+same_related : {T : Type 0} (R : T → T → Type 0) → ((x : T) → R x x) → (o : Option T) → BothOrNeither R o o
+same_related R h None = tt
+same_related R h (Some x) = h x
+
+pub agrees_itself : {T A : Type 0} (f : T → A → Option T) (n : ℕ) (x : T) → AgreeTo f f n x x
+agrees_itself f zero x = tt
+agrees_itself f (suc n) x = λ a. same_related (AgreeTo f f n) (agrees_itself f n) (f x a)
+
+other_way : {T U : Type 0} (R : T → U → Type 0) (S : U → T → Type 0) → ((x : T) (y : U) → R x y → S y x) → (o : Option T) (p : Option U) → BothOrNeither R o p → BothOrNeither S p o
+other_way R S h None None b = tt
+other_way R S h None (Some y) b = absurd b
+other_way R S h (Some x) None b = absurd b
+other_way R S h (Some x) (Some y) b = h x y b
+
+pub agrees_back : {T U A : Type 0} (f : T → A → Option T) (g : U → A → Option U) (n : ℕ) (x : T) (y : U) → AgreeTo f g n x y → AgreeTo g f n y x
+agrees_back f g zero x y h = tt
+agrees_back f g (suc n) x y h = λ a. other_way (AgreeTo f g n) (AgreeTo g f n) (agrees_back f g n) (f x a) (g y a) (h a)
+
+joined_ways : {T U V : Type 0} (R : T → U → Type 0) (S : U → V → Type 0) (Q : T → V → Type 0) → ((x : T) (y : U) (z : V) → R x y → S y z → Q x z) →
+    (o : Option T) (p : Option U) (q : Option V) → BothOrNeither R o p → BothOrNeither S p q → BothOrNeither Q o q
+joined_ways R S Q h None None None b c = tt
+joined_ways R S Q h None None (Some z) b c = absurd c
+joined_ways R S Q h None (Some y) q b c = absurd b
+joined_ways R S Q h (Some x) None q b c = absurd b
+joined_ways R S Q h (Some x) (Some y) None b c = absurd c
+joined_ways R S Q h (Some x) (Some y) (Some z) b c = h x y z b c
+
+pub agrees_through : {T U V A : Type 0} (f : T → A → Option T) (g : U → A → Option U) (h : V → A → Option V) (n : ℕ) (x : T) (y : U) (z : V) → AgreeTo f g n x y → AgreeTo g h n y z → AgreeTo f h n x z
+agrees_through f g h zero x y z b c = tt
+agrees_through f g h (suc n) x y z b c = λ a.
+    joined_ways (AgreeTo f g n) (AgreeTo g h n) (AgreeTo f h n) (agrees_through f g h n) (f x a) (g y a) (h z a) (b a) (c a)
+
+weaker : {T U : Type 0} (R S : T → U → Type 0) → ((x : T) (y : U) → R x y → S x y) → (o : Option T) (p : Option U) → BothOrNeither R o p → BothOrNeither S o p
+weaker R S h None None b = tt
+weaker R S h None (Some y) b = absurd b
+weaker R S h (Some x) None b = absurd b
+weaker R S h (Some x) (Some y) b = h x y b
+
+-- what agrees to a depth agrees to the one before
+agrees_less : {T U A : Type 0} (f : T → A → Option T) (g : U → A → Option U) (n : ℕ) (x : T) (y : U) → AgreeTo f g (suc n) x y → AgreeTo f g n x y
+agrees_less f g zero x y h = tt
+agrees_less f g (suc n) x y h = λ a. weaker (AgreeTo f g (suc n)) (AgreeTo f g n) (agrees_less f g n) (f x a) (g y a) (h a)
+
+-- the step of a sequence whose first part goes on or is over
+abbrev after_first : Tree → Bool → Option Tree → Option Tree → Option Tree
+after_first s over first second = if over then second else option_map (λ t. seq t s) first
+
+first_then : (s r : Tree) (a : Label) → step (seq s r) a ≡ after_first r (terminated s) (step s a) (step r a)
+first_then s r a = ap (λ z. if terminated s then step r a else option_map (λ t. seq t z) (step s a)) (substituted_nothing 0 r)
+
+-- both sides of a step of two sequences
+sequences_agree : (n : ℕ) (x y : Tree) (over : Bool) (o p q u : Option Tree) → (over ≡ false → BothOrNeither (λ s r. AgreeTo step step n (seq s x) (seq r y)) o p) → (over ≡ true → BothOrNeither (AgreeTo step step n) q u) →
+    BothOrNeither (AgreeTo step step n) (after_first x over o q) (after_first y over p u)
+sequences_agree n x y true o p q u first second = second refl
+sequences_agree n x y false None None q u first second = tt
+sequences_agree n x y false None (Some r) q u first second = absurd (first refl)
+sequences_agree n x y false (Some s) None q u first second = absurd (first refl)
+sequences_agree n x y false (Some s) (Some r) q u first second = first refl
+
+-- two steps of sequences, where both first parts are over or neither is
+step_sequences : (n : ℕ) (s r x y : Tree) (a : Label) → terminated s ≡ terminated r →
+    (terminated s ≡ false → BothOrNeither (λ t u. AgreeTo step step n (seq t x) (seq u y)) (step s a) (step r a)) →
+    (terminated s ≡ true → BothOrNeither (AgreeTo step step n) (step x a) (step y a)) →
+    BothOrNeither (AgreeTo step step n) (step (seq s x) a) (step (seq r y) a)
+step_sequences n s r x y a same first second =
+    let left : after_first x (terminated s) (step s a) (step x a) ≡ step (seq s x) a = sym (first_then s x a) in
+    let right : after_first y (terminated s) (step r a) (step y a) ≡ step (seq r y) a =
+    ap (λ over. after_first y over (step r a) (step y a)) same ∙ sym (first_then r y a) in
+    subst (λ o. BothOrNeither (AgreeTo step step n) o (step (seq r y) a)) left
+    (subst (λ o. BothOrNeither (AgreeTo step step n) (after_first x (terminated s) (step s a) (step x a)) o) right
+    (sequences_agree n x y (terminated s) (step s a) (step r a) (step x a) (step y a) first second))
+
+-- a type in front of both sides
+pub agree_in_front : (n : ℕ) (t s r : Tree) → AgreeTo step step n s r → AgreeTo step step n (seq t s) (seq t r)
+agree_in_front zero t s r h = tt
+agree_in_front (suc n) t s r h = λ a.
+    step_sequences n t t s r a refl
+    (λ over. same_related (λ x y. AgreeTo step step n (seq x s) (seq y r)) (λ x. agree_in_front n x s r (agrees_less step step n s r h)) (step t a))
+    (λ over. h a)
+
+-- the type is terminated exactly where it has no labels
+abbrev Moving : Tree → Type 0
+Moving s = IsTrue (terminated s) ↔ (labels s ≡ [])
+
+no_step : (s : Tree) (a : Label) → labels s ≡ [] → IsSome (step s a) → ⊥
+no_step s a none h =
+    let found : Contains [] a = subst (λ ls. Contains ls a) none ((labels_are_moves s a).1 h) in
+    absurd (omega (arith, found.1))
+
+label_there : (s : Tree) (ls : List Label) → labels s ≡ ls → ((a : Label) → IsSome (step s a) → ⊥) → ls ≡ []
+label_there s [] is h = refl
+label_there s (a ∷ ls) is h =
+    absurd (h a ((labels_are_moves s a).0 (subst (λ k. Contains k a) (sym is) (0, omega arith, refl))))
+
+unmatched : (n : ℕ) (o p : Option Tree) → BothOrNeither (AgreeTo step step n) o p → IsSome p → IsSome o
+unmatched n None None b h = absurd (cc h)
+unmatched n None (Some y) b h = absurd b
+unmatched n (Some x) p b h = refl
+
+over_too : (n : ℕ) (s r : Tree) → Moving s → Moving r → AgreeTo step step (suc n) s r → terminated s ≡ true → terminated r ≡ true
+over_too n s r ms mr h over =
+    mr.1 (label_there r (labels r) refl (λ a there. no_step s a (ms.0 over) (unmatched n (step s a) (step r a) (h a) there)))
+
+same_bool : (c d : Bool) → (c ≡ true → d ≡ true) → (d ≡ true → c ≡ true) → c ≡ d
+same_bool true d f g = sym (f refl)
+same_bool false true f g = g refl
+same_bool false false f g = refl
+
+over_alike : (n : ℕ) (s r : Tree) → Moving s → Moving r → AgreeTo step step (suc n) s r → terminated s ≡ terminated r
+over_alike n s r ms mr h =
+    same_bool (terminated s) (terminated r) (over_too n s r ms mr h) (over_too n r s mr ms (agrees_back step step (suc n) s r h))
+
+related_some : {T U : Type 0} (R S : T → U → Type 0) (P : T → Type 0) (Q : U → Type 0) → ((x : T) (y : U) → P x → Q y → R x y → S x y) →
+    (o : Option T) (p : Option U) → IfSome o P → IfSome p Q → BothOrNeither R o p → BothOrNeither S o p
+related_some R S P Q h None None i j b = tt
+related_some R S P Q h None (Some y) i j b = absurd b
+related_some R S P Q h (Some x) None i j b = absurd b
+related_some R S P Q h (Some x) (Some y) i j b = h x y i j b
+
+-- a type behind both sides
+pub agree_behind : (n : ℕ) (vars : List Kind) (s r t : Tree) → IsSession vars s → IsSession vars r → AgreeTo step step n s r → AgreeTo step step n (seq s t) (seq r t)
+agree_behind zero vars s r t ws wr h = tt
+agree_behind (suc n) vars s r t ws wr h = λ a.
+    step_sequences n s r t t a (over_alike n s r (terminated_exactly vars s ws) (terminated_exactly vars r wr) h)
+    (λ on. related_some (AgreeTo step step n) (λ x y. AgreeTo step step n (seq x t) (seq y t)) (IsSession vars) (IsSession vars)
+    (λ x y wx wy. agree_behind n vars x y t wx wy) (step s a) (step r a) (step_session vars s a ws) (step_session vars r a wr) (h a))
+    (λ over. same_related (AgreeTo step step n) (agrees_itself step n) (step t a))

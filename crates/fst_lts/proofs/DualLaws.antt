@@ -1,0 +1,164 @@
+-- The dual of the dual, and the moves of the dual.
+use Rattle.std.proofs.Common.{◌≡◌, ◌∙◌, ℕ, zero, suc, List, [], ◌∷◌, Bool, true, false, Option, Some, None, map, refl, ap}
+use Rattle.std.specs.Prelude.{option_map, option_and_then, if◌then◌else◌, ◌&&◌}
+use Rattle.fst_types.specs.Tree.{Tree, skip, send, receive, select, offer, seq, rec, back, var, plain, arrow, pair, named, Branches, none, branch}
+use Rattle.fst_types.specs.Order.{same_label}
+use Rattle.fst_types.specs.declared.label.Label.{Label}
+use Rattle.fst_types.specs.declared.label.Label.TheVariants.{Send, Receive, Select, Offer, Var}
+use Rattle.fst_types.specs.declared.ty.Branch.{Branch}
+use Rattle.fst_types.specs.View.{branches_of}
+use Rattle.fst_types.specs.Substitution.{variable, substituted, substituted_all}
+use Rattle.fst_lts.specs.Step.{terminated, branch_at, step_in, step}
+use Rattle.fst_lts.specs.Agree.{residual}
+use Rattle.fst_lts.specs.Dual.{dual, dual_all, dual_label, dual_branch}
+
+-- the duals of a list of branches are the dual of the choice
+pub dual_all_map : (bs : List Branch) → dual_all (branches_of bs) ≡ branches_of (map dual_branch bs)
+dual_all_map [] = refl
+dual_all_map (b ∷ bs) = ap (branch b.label (dual b.body)) (dual_all_map bs)
+
+mutual
+  pub dual-dual : (s : Tree) → dual (dual s) ≡ s
+  dual-dual skip = refl
+  dual-dual (send b) = refl
+  dual-dual (receive b) = refl
+  dual-dual (select bs) = ap select (dual_all-dual_all bs)
+  dual-dual (offer bs) = ap offer (dual_all-dual_all bs)
+  dual-dual (seq s r) = λ i. seq (dual-dual s i) (dual-dual r i)
+  dual-dual (rec s) = ap rec (dual-dual s)
+  dual-dual (back k) = refl
+  dual-dual (var k) = refl
+  dual-dual (plain b) = refl
+  dual-dual (arrow u s r) = λ i. arrow u (dual-dual s i) (dual-dual r i)
+  dual-dual (pair s r) = λ i. pair (dual-dual s i) (dual-dual r i)
+  dual-dual (named k) = refl
+
+  pub dual_all-dual_all : (bs : Branches) → dual_all (dual_all bs) ≡ bs
+  dual_all-dual_all none = refl
+  dual_all-dual_all (branch l s bs) = λ i. branch l (dual-dual s i) (dual_all-dual_all bs i)
+
+pub dual_label-dual_label : (a : Label) → dual_label (dual_label a) ≡ a
+dual_label-dual_label (Send b) = refl
+dual_label-dual_label (Receive b) = refl
+dual_label-dual_label (Select l) = refl
+dual_label-dual_label (Offer l) = refl
+dual_label-dual_label (Var k) = refl
+
+terminated-dual : (s : Tree) → terminated (dual s) ≡ terminated s
+terminated-dual skip = refl
+terminated-dual (send b) = refl
+terminated-dual (receive b) = refl
+terminated-dual (select bs) = refl
+terminated-dual (offer bs) = refl
+terminated-dual (seq s r) = λ i. terminated-dual s i && terminated-dual r i
+terminated-dual (rec s) = terminated-dual s
+terminated-dual (back k) = refl
+terminated-dual (var k) = refl
+terminated-dual (plain b) = refl
+terminated-dual (arrow u s r) = refl
+terminated-dual (pair s r) = refl
+terminated-dual (named k) = refl
+
+-- each binder stands for the dual
+abbrev dual_env : List (Option Tree) → List (Option Tree)
+dual_env [] = []
+dual_env (o ∷ env) = option_map dual o ∷ dual_env env
+
+variable-dual_env : (env : List (Option Tree)) (k : ℕ) (s : Tree) → variable (dual_env env) k (dual s) ≡ dual (variable env k s)
+variable-dual_env [] k s = refl
+variable-dual_env (None ∷ env) zero s = refl
+variable-dual_env (Some t ∷ env) zero s = refl
+variable-dual_env (o ∷ env) (suc k) s = variable-dual_env env k s
+
+mutual
+  substituted-dual : (env : List (Option Tree)) (s : Tree) → substituted (dual_env env) (dual s) ≡ dual (substituted env s)
+  substituted-dual env skip = refl
+  substituted-dual env (send b) = refl
+  substituted-dual env (receive b) = refl
+  substituted-dual env (select bs) = ap offer (substituted_all-dual_all env bs)
+  substituted-dual env (offer bs) = ap select (substituted_all-dual_all env bs)
+  substituted-dual env (seq s r) = λ i. seq (substituted-dual env s i) (substituted-dual env r i)
+  substituted-dual env (rec s) = ap rec (substituted-dual (None ∷ env) s)
+  substituted-dual env (back k) = variable-dual_env env k (back k)
+  substituted-dual env (var k) = refl
+  substituted-dual env (plain b) = refl
+  substituted-dual env (arrow u s r) = λ i. arrow u (substituted-dual env s i) (substituted-dual env r i)
+  substituted-dual env (pair s r) = λ i. pair (substituted-dual env s i) (substituted-dual env r i)
+  substituted-dual env (named k) = refl
+
+  substituted_all-dual_all : (env : List (Option Tree)) (bs : Branches) → substituted_all (dual_env env) (dual_all bs) ≡ dual_all (substituted_all env bs)
+  substituted_all-dual_all env none = refl
+  substituted_all-dual_all env (branch l s bs) = λ i. branch l (substituted-dual env s i) (substituted_all-dual_all env bs i)
+
+same_label-dual_label : (a b : Label) → same_label (dual_label a) (dual_label b) ≡ same_label a b
+same_label-dual_label (Send x) (Send y) = refl
+same_label-dual_label (Receive x) (Receive y) = refl
+same_label-dual_label (Select x) (Select y) = refl
+same_label-dual_label (Offer x) (Offer y) = refl
+same_label-dual_label (Var x) (Var y) = refl
+same_label-dual_label a b = refl
+
+-- after a message nothing is left on either side
+ended : (c : Bool) → (if c then Some skip else None) ≡ option_map dual (if c then Some skip else None)
+ended true = refl
+ended false = refl
+
+branch_dual : (make : List ℕ → Label) (bs : Branches) (a : Label) →
+    branch_at (λ l. dual_label (make l)) (dual_all bs) (dual_label a) ≡ option_map dual (branch_at make bs a)
+branch_dual make none a = refl
+branch_dual make (branch l s bs) a =
+    let next = branch_dual make bs a in
+    ap (λ c. if c then Some (dual s) else branch_at (λ m. dual_label (make m)) (dual_all bs) (dual_label a)) (same_label-dual_label a (make l))
+    ∙ pick (same_label a (make l)) next
+  where
+    pick : (c : Bool) → branch_at (λ m. dual_label (make m)) (dual_all bs) (dual_label a) ≡ option_map dual (branch_at make bs a) →
+        (if c then Some (dual s) else branch_at (λ m. dual_label (make m)) (dual_all bs) (dual_label a)) ≡ option_map dual (if c then Some s else branch_at make bs a)
+    pick true e = refl
+    pick false e = e
+
+substituted_branch_dual : (env : List (Option Tree)) (o : Option Tree) →
+    option_map (substituted (dual_env env)) (option_map dual o) ≡ option_map dual (option_map (substituted env) o)
+substituted_branch_dual env None = refl
+substituted_branch_dual env (Some s) = ap Some (substituted-dual env s)
+
+behind_dual : (env : List (Option Tree)) (r : Tree) (o p : Option Tree) → o ≡ option_map dual p →
+    option_map (λ t. seq t (substituted (dual_env env) (dual r))) o ≡ option_map dual (option_map (λ t. seq t (substituted env r)) p)
+behind_dual env r o None e = ap (option_map (λ t. seq t (substituted (dual_env env) (dual r)))) e
+behind_dual env r o (Some t) e = ap (option_map (λ t. seq t (substituted (dual_env env) (dual r)))) e ∙ ap (λ q. Some (seq (dual t) q)) (substituted-dual env r)
+
+chosen_dual : (c d : Bool) (x y : Option Tree) (x' y' : Option Tree) → c ≡ d → x ≡ option_map dual x' → y ≡ option_map dual y' →
+    (if c then x else y) ≡ option_map dual (if d then x' else y')
+chosen_dual true true x y x' y' e h k = h
+chosen_dual false false x y x' y' e h k = k
+chosen_dual true false x y x' y' e h k = cc
+chosen_dual false true x y x' y' e h k = cc
+
+step_in-dual : (env : List (Option Tree)) (s : Tree) (a : Label) → step_in (dual_env env) (dual s) (dual_label a) ≡ option_map dual (step_in env s a)
+step_in-dual env skip a = refl
+step_in-dual env (send b) a = ap (λ c. if c then Some skip else None) (same_label-dual_label a (Send b)) ∙ ended (same_label a (Send b))
+step_in-dual env (receive b) a = ap (λ c. if c then Some skip else None) (same_label-dual_label a (Receive b)) ∙ ended (same_label a (Receive b))
+step_in-dual env (select bs) a = ap (option_map (substituted (dual_env env))) (branch_dual Select bs a) ∙ substituted_branch_dual env (branch_at Select bs a)
+step_in-dual env (offer bs) a = ap (option_map (substituted (dual_env env))) (branch_dual Offer bs a) ∙ substituted_branch_dual env (branch_at Offer bs a)
+step_in-dual env (seq s r) a =
+    chosen_dual (terminated (dual s)) (terminated s) _ _ _ _ (terminated-dual s) (step_in-dual env r a)
+    (behind_dual env r _ (step_in env s a) (step_in-dual env s a))
+step_in-dual env (rec s) a =
+    ap (λ t. step_in (Some t ∷ dual_env env) (dual s) (dual_label a)) (substituted-dual env (rec s))
+    ∙ step_in-dual (Some (substituted env (rec s)) ∷ env) s a
+step_in-dual env (back k) a = refl
+step_in-dual env (var k) a = ap (λ c. if c then Some skip else None) (same_label-dual_label a (Var k)) ∙ ended (same_label a (Var k))
+step_in-dual env (plain b) a = refl
+step_in-dual env (arrow u s r) a = refl
+step_in-dual env (pair s r) a = refl
+step_in-dual env (named k) a = refl
+
+after_dual : (w : List Label) (o p : Option Tree) →
+    ((s : Tree) → residual step (dual s) (map dual_label w) ≡ option_map dual (residual step s w)) →
+    o ≡ option_map dual p → option_and_then (λ s. residual step s (map dual_label w)) o ≡ option_map dual (option_and_then (λ s. residual step s w) p)
+after_dual w o None h e = ap (option_and_then (λ s. residual step s (map dual_label w))) e
+after_dual w o (Some s) h e = ap (option_and_then (λ s. residual step s (map dual_label w))) e ∙ h s
+
+-- what is left of the dual after the dual word
+pub residual-dual : (w : List Label) (s : Tree) → residual step (dual s) (map dual_label w) ≡ option_map dual (residual step s w)
+residual-dual [] s = refl
+residual-dual (a ∷ w) s = after_dual w _ (step s a) (residual-dual w) (step_in-dual [] s a)

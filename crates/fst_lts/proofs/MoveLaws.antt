@@ -1,0 +1,275 @@
+-- The steps of a type are its moves by the rules, and by each label it moves to at most one type.
+use Rattle.std.proofs.Common.{◌≡◌, ◌∙◌, ◌≤◌, ◌+◌, ◌⊎◌, inl, inr, ℕ, zero, suc, List, [], ◌∷◌, length, Bool, true, false, Option, Some, None, refl, sym, ap, subst, arith}
+use Rattle.std.specs.Prelude.{option_map, if◌then◌else◌, ◌&&◌, ◌||◌, not, nat_eq}
+use Rattle.std.proofs.lemmas.Bool.{eq-eqb, eqb-true}
+use Rattle.fst_types.specs.Tree.{Tree, skip, send, receive, select, offer, seq, rec, back, var, plain, arrow, pair, named, Branches, none, branch}
+use Rattle.fst_types.specs.Order.{same_label}
+use Rattle.fst_types.specs.Substitution.{substituted, substituted_all, unfolded}
+use Rattle.fst_types.specs.Scoped.{IsScoped}
+use Rattle.fst_types.specs.declared.label.Label.{Label}
+use Rattle.fst_types.specs.declared.label.Label.TheVariants.{Send, Receive, Select, Offer, Var}
+use Rattle.fst_types.proofs.Labels.{same_label-same, same_label-itself}
+use Rattle.fst_types.proofs.SubstitutionLaws.{AllClosed, substituted_nothing, substituted_scoped, substituted_after, unfolded_scoped}
+use Rattle.fst_kinds.specs.Contractive.{guards, reaches, IsContractive}
+use Rattle.fst_lts.specs.Step.{terminated, branch_at, step_in, step}
+use Rattle.fst_lts.proofs.GuardLaws.{both_true, unguarded, IsGuarded, guarded_first, guarded_second, guarded_body, no_variable}
+use Rattle.fst_kinds.proofs.SubstitutedGuards.{both_false, unreached}
+use Rattle.fst_lts.specs.Moves.{Moves, sends, receives, selects, offers, first, second, unfolds, variables}
+
+not_true : (c : Bool) → (c ≡ true → ⊥) → c ≡ false
+not_true true h = absurd (h refl)
+not_true false h = refl
+
+-- a terminated type holds no variable before its end
+substituted-terminated : (env : List (Option Tree)) (s : Tree) → terminated s ≡ true → terminated (substituted env s) ≡ true
+substituted-terminated env skip e = refl
+substituted-terminated env (send b) e = absurd (cc e)
+substituted-terminated env (receive b) e = absurd (cc e)
+substituted-terminated env (select bs) e = absurd (cc e)
+substituted-terminated env (offer bs) e = absurd (cc e)
+substituted-terminated env (seq s r) e =
+    let h = both_true (terminated s) (terminated r) e in
+    λ i. substituted-terminated env s h.0 i && substituted-terminated env r h.1 i
+substituted-terminated env (rec s) e = substituted-terminated (None ∷ env) s e
+substituted-terminated env (back k) e = absurd (cc e)
+substituted-terminated env (var k) e = absurd (cc e)
+substituted-terminated env (plain b) e = absurd (cc e)
+substituted-terminated env (arrow u s r) e = absurd (cc e)
+substituted-terminated env (pair s r) e = absurd (cc e)
+substituted-terminated env (named k) e = absurd (cc e)
+
+-- what moves is not terminated
+moving : {s t : Tree} {a : Label} → Moves s a t → terminated s ≡ true → ⊥
+moving sends e = absurd (cc e)
+moving receives e = absurd (cc e)
+moving (selects h) e = absurd (cc e)
+moving (offers h) e = absurd (cc e)
+moving (first {s} {r} h m) e = moving m (both_true (terminated s) (terminated r) e).0
+moving (second {s} {r} h m) e = moving m (both_true (terminated s) (terminated r) e).1
+moving (unfolds {s} m) e = moving m (substituted-terminated (Some (rec s) ∷ []) s e)
+moving variables e = absurd (cc e)
+
+branch_substituted : (make : List ℕ → Label) (env : List (Option Tree)) (bs : Branches) (a : Label) →
+    branch_at make (substituted_all env bs) a ≡ option_map (substituted env) (branch_at make bs a)
+branch_substituted make env none a = refl
+branch_substituted make env (branch l s bs) a = pick (branch_substituted make env bs a) (same_label a (make l))
+  where
+    pick : branch_at make (substituted_all env bs) a ≡ option_map (substituted env) (branch_at make bs a) → (c : Bool) →
+        (if c then Some (substituted env s) else branch_at make (substituted_all env bs) a) ≡ option_map (substituted env) (if c then Some s else branch_at make bs a)
+    pick next true = refl
+    pick next false = next
+
+branch_label : (make : List ℕ → Label) (bs : Branches) (a : Label) (s : Tree) → branch_at make bs a ≡ Some s → (l : List ℕ) × (a ≡ make l)
+branch_label make none a s e = absurd (cc e)
+branch_label make (branch l t bs) a s e = pick (branch_label make bs a s) (same_label a (make l)) refl e
+  where
+    pick : (branch_at make bs a ≡ Some s → (m : List ℕ) × (a ≡ make m)) → (c : Bool) → same_label a (make l) ≡ c →
+        (if c then Some t else branch_at make bs a) ≡ Some s → (m : List ℕ) × (a ≡ make m)
+    pick next true h e = (l, same_label-same a (make l) h)
+    pick next false h e = next e
+
+one_move : (x : Tree) (a b : Label) (t : Tree) → Moves x b skip → (if same_label a b then Some skip else None) ≡ Some t → Moves x a t
+one_move x a b t m e = pick (same_label a b) refl e
+  where
+    pick : (c : Bool) → same_label a b ≡ c → (if c then Some skip else None) ≡ Some t → Moves x a t
+    pick true h e =
+        let is : skip ≡ t = cc in
+        subst (λ y. Moves x a y) is (subst (λ l. Moves x l skip) (sym (same_label-same a b h)) m)
+    pick false h e = absurd (cc e)
+
+mapped_some : {X Y : Type 0} (f : X → Y) (o : Option X) (y : Y) → option_map f o ≡ Some y → (x : X) × (o ≡ Some x) × (f x ≡ y)
+mapped_some f None y e = absurd (cc e)
+mapped_some f (Some x) y e = (x, refl, cc)
+
+select_moves : (bs : Branches) (a : Label) (t : Tree) → branch_at Select bs a ≡ Some t → Moves (select bs) a t
+select_moves bs a t e =
+    let l = branch_label Select bs a t e in
+    subst (λ b. Moves (select bs) b t) (sym l.1) (selects (subst (λ b. branch_at Select bs b ≡ Some t) l.1 e))
+
+offer_moves : (bs : Branches) (a : Label) (t : Tree) → branch_at Offer bs a ≡ Some t → Moves (offer bs) a t
+offer_moves bs a t e =
+    let l = branch_label Offer bs a t e in
+    subst (λ b. Moves (offer bs) b t) (sym l.1) (offers (subst (λ b. branch_at Offer bs b ≡ Some t) l.1 e))
+
+-- what a `rec` stands for has no free variables
+whole_closed : (env : List (Option Tree)) → AllClosed env → (s : Tree) → IsScoped (suc (length env)) s → AllClosed (Some (substituted env (rec s)) ∷ env)
+whole_closed env ok s h =
+    let n : length env ≡ 0 + length env = omega arith in
+    (substituted_scoped 0 env (rec s) ok (subst (λ m. IsScoped m (rec s)) n h), ok)
+
+-- a step is a move
+steps_move : (env : List (Option Tree)) → AllClosed env → (s : Tree) → IsScoped (length env) s → (a : Label) (t : Tree) → step_in env s a ≡ Some t → Moves (substituted env s) a t
+steps_move env ok skip h a t e = absurd (cc e)
+steps_move env ok (send b) h a t e = one_move (send b) a (Send b) t sends e
+steps_move env ok (receive b) h a t e = one_move (receive b) a (Receive b) t receives e
+steps_move env ok (select bs) h a t e = select_moves (substituted_all env bs) a t (branch_substituted Select env bs a ∙ e)
+steps_move env ok (offer bs) h a t e = offer_moves (substituted_all env bs) a t (branch_substituted Offer env bs a ∙ e)
+steps_move env ok (seq s r) h a t e =
+    pick (steps_move env ok s h.0 a) (steps_move env ok r h.1 a t) (terminated s) refl e
+  where
+    pick : ((u : Tree) → step_in env s a ≡ Some u → Moves (substituted env s) a u) → (step_in env r a ≡ Some t → Moves (substituted env r) a t) →
+        (c : Bool) → terminated s ≡ c → (if c then step_in env r a else option_map (λ u. seq u (substituted env r)) (step_in env s a)) ≡ Some t →
+        Moves (seq (substituted env s) (substituted env r)) a t
+    pick front behind true is e = second (substituted-terminated env s is) (behind e)
+    pick front behind false is e =
+        let found = mapped_some (λ u. seq u (substituted env r)) (step_in env s a) t e in
+        let m = front found.0 found.1 in
+        subst (λ y. Moves (seq (substituted env s) (substituted env r)) a y) found.2 (first (not_true _ (moving m)) m)
+steps_move env ok (rec s) h a t e =
+    let whole = substituted env (rec s) in
+    unfolds (subst (λ y. Moves y a t) (sym (substituted_after whole env ok 0 s)) (steps_move (Some whole ∷ env) (whole_closed env ok s h) s h a t e))
+steps_move env ok (back k) h a t e = absurd (cc e)
+steps_move env ok (var k) h a t e = one_move (var k) a (Var k) t variables e
+steps_move env ok (plain b) h a t e = absurd (cc e)
+steps_move env ok (arrow u s r) h a t e = absurd (cc e)
+steps_move env ok (pair s r) h a t e = absurd (cc e)
+steps_move env ok (named k) h a t e = absurd (cc e)
+
+-- what each type's moves come from
+no_skip : {a : Label} {t : Tree} → Moves skip a t → ⊥
+no_skip m = elim m [ ]
+
+no_plain : {b : _} {a : Label} {t : Tree} → Moves (plain b) a t → ⊥
+no_plain m = elim m [ ]
+
+no_arrow : {u : _} {s r : Tree} {a : Label} {t : Tree} → Moves (arrow u s r) a t → ⊥
+no_arrow m = elim m [ ]
+
+no_pair : {s r : Tree} {a : Label} {t : Tree} → Moves (pair s r) a t → ⊥
+no_pair m = elim m [ ]
+
+no_named : {k : ℕ} {a : Label} {t : Tree} → Moves (named k) a t → ⊥
+no_named m = elim m [ ]
+
+send_label : {b : _} {a : Label} {t : Tree} → Moves (send b) a t → (a ≡ Send b) × (t ≡ skip)
+send_label sends = (refl, refl)
+
+receive_label : {b : _} {a : Label} {t : Tree} → Moves (receive b) a t → (a ≡ Receive b) × (t ≡ skip)
+receive_label receives = (refl, refl)
+
+variable_label : {k : ℕ} {a : Label} {t : Tree} → Moves (var k) a t → (a ≡ Var k) × (t ≡ skip)
+variable_label variables = (refl, refl)
+
+select_branch : {bs : Branches} {a : Label} {t : Tree} → Moves (select bs) a t → branch_at Select bs a ≡ Some t
+select_branch (selects h) = h
+
+offer_branch : {bs : Branches} {a : Label} {t : Tree} → Moves (offer bs) a t → branch_at Offer bs a ≡ Some t
+offer_branch (offers h) = h
+
+seq_part : {s r t : Tree} {a : Label} → Moves (seq s r) a t →
+    ((terminated s ≡ false) × ((u : Tree) × Moves s a u × (seq u r ≡ t))) ⊎ ((terminated s ≡ true) × Moves r a t)
+seq_part (first {t} h m) = inl (h, (t, m, refl))
+seq_part (second h m) = inr (h, m)
+
+rec_part : {s t : Tree} {a : Label} → Moves (rec s) a t → Moves (unfolded (rec s)) a t
+rec_part (unfolds m) = m
+
+-- putting types into a guarded type doesn't change whether it is terminated
+still_terminated : (env : List (Option Tree)) (s : Tree) → IsContractive s → IsGuarded s → terminated (substituted env s) ≡ terminated s
+still_terminated env skip c g = refl
+still_terminated env (send b) c g = refl
+still_terminated env (receive b) c g = refl
+still_terminated env (select bs) c g = refl
+still_terminated env (offer bs) c g = refl
+still_terminated env (seq s r) c g =
+    pick (still_terminated env s c.0 (guarded_first s r g)) (still_terminated env r c.1) (terminated s) refl
+  where
+    pick : terminated (substituted env s) ≡ terminated s → (IsGuarded r → terminated (substituted env r) ≡ terminated r) → (b : Bool) → terminated s ≡ b →
+        terminated (substituted env s) && terminated (substituted env r) ≡ terminated s && terminated r
+    pick front behind true is = λ i. front i && behind (guarded_second s r g is) i
+    pick front behind false is = ap (λ b. b && terminated (substituted env r)) (front ∙ is) ∙ sym (ap (λ b. b && terminated r) is)
+still_terminated env (rec s) c g = still_terminated (None ∷ env) s c.0 (guarded_body s c.1 g)
+still_terminated env (back k) c g = absurd (no_variable k g)
+still_terminated env (var k) c g = refl
+still_terminated env (plain b) c g = refl
+still_terminated env (arrow u s r) c g = refl
+still_terminated env (pair s r) c g = refl
+still_terminated env (named k) c g = refl
+
+one_step : (a b : Label) (t : Tree) → (a ≡ b) × (t ≡ skip) → (if same_label a b then Some skip else None) ≡ Some t
+one_step a b t h =
+    let is : same_label a b ≡ true = ap (λ c. same_label a c) (sym h.0) ∙ same_label-itself a in
+    ap (λ c. if c then Some skip else None) is ∙ ap Some (sym h.1)
+
+-- a move is a step
+moves_step : (env : List (Option Tree)) → AllClosed env → (s : Tree) → IsScoped (length env) s → IsContractive s → IsGuarded s →
+    (a : Label) (t : Tree) → Moves (substituted env s) a t → step_in env s a ≡ Some t
+moves_step env ok skip h c g a t m = absurd (no_skip m)
+moves_step env ok (send b) h c g a t m = one_step a (Send b) t (send_label m)
+moves_step env ok (receive b) h c g a t m = one_step a (Receive b) t (receive_label m)
+moves_step env ok (select bs) h c g a t m = sym (branch_substituted Select env bs a) ∙ select_branch m
+moves_step env ok (offer bs) h c g a t m = sym (branch_substituted Offer env bs a) ∙ offer_branch m
+moves_step env ok (seq s r) h c g a t m =
+    pick (moves_step env ok s h.0 c.0 (guarded_first s r g) a) (λ k. moves_step env ok r h.1 c.1 k a t) (terminated s) refl (seq_part m)
+  where
+    same : terminated (substituted env s) ≡ terminated s
+    same = still_terminated env s c.0 (guarded_first s r g)
+
+    pick : ((u : Tree) → Moves (substituted env s) a u → step_in env s a ≡ Some u) → (IsGuarded r → Moves (substituted env r) a t → step_in env r a ≡ Some t) →
+        (b : Bool) → terminated s ≡ b →
+        ((terminated (substituted env s) ≡ false) × ((u : Tree) × Moves (substituted env s) a u × (seq u (substituted env r) ≡ t))) ⊎ ((terminated (substituted env s) ≡ true) × Moves (substituted env r) a t) →
+        (if b then step_in env r a else option_map (λ u. seq u (substituted env r)) (step_in env s a)) ≡ Some t
+    pick front behind true is (inl (n, u)) = absurd (cc (sym n ∙ same ∙ is))
+    pick front behind true is (inr (y, m)) = behind (guarded_second s r g is) m
+    pick front behind false is (inl (n, (u, m, e))) = ap (option_map (λ v. seq v (substituted env r))) (front u m) ∙ ap Some e
+    pick front behind false is (inr (y, m)) = absurd (cc (sym y ∙ same ∙ is))
+moves_step env ok (rec s) h c g a t m =
+    let whole = substituted env (rec s) in
+    moves_step (Some whole ∷ env) (whole_closed env ok s h) s h c.0 (guarded_body s c.1 g) a t
+    (subst (λ y. Moves y a t) (substituted_after whole env ok 0 s) (rec_part m))
+moves_step env ok (back k) h c g a t m = absurd (no_variable k g)
+moves_step env ok (var k) h c g a t m = one_step a (Var k) t (variable_label m)
+moves_step env ok (plain b) h c g a t m = absurd (no_plain m)
+moves_step env ok (arrow u s r) h c g a t m = absurd (no_arrow m)
+moves_step env ok (pair s r) h c g a t m = absurd (no_pair m)
+moves_step env ok (named k) h c g a t m = absurd (no_named m)
+
+closed_guarded : (s : Tree) → IsScoped 0 s → IsGuarded s
+closed_guarded s h k = unreached s 0 k h (omega arith)
+
+-- the steps of a contractive type without free variables are its moves
+pub steps_are_moves : (s : Tree) → IsScoped 0 s → IsContractive s → (a : Label) (t : Tree) → (step s a ≡ Some t → Moves s a t) × (Moves s a t → step s a ≡ Some t)
+steps_are_moves s h c a t = (
+  λ e. subst (λ x. Moves x a t) (substituted_nothing 0 s) (steps_move [] tt s h a t e),
+  λ m. moves_step [] tt s h c (closed_guarded s h) a t (subst (λ x. Moves x a t) (sym (substituted_nothing 0 s)) m),
+)
+
+same_some : (t u : Tree) → Some t ≡ Some u → t ≡ u
+same_some t u e = cc
+
+-- by a label a type moves to at most one type
+pub moves_once : {s t u : Tree} {a : Label} → Moves s a t → Moves s a u → t ≡ u
+moves_once sends n = sym (send_label n).1
+moves_once receives n = sym (receive_label n).1
+moves_once {t} {u} (selects h) n = same_some t u (sym h ∙ select_branch n)
+moves_once {t} {u} (offers h) n = same_some t u (sym h ∙ offer_branch n)
+moves_once {u} {a} (first {s} {r} {t} h m) n = pick (λ v k. moves_once m k) (seq_part n)
+  where
+    pick : ((v : Tree) → Moves s a v → t ≡ v) → ((terminated s ≡ false) × ((v : Tree) × Moves s a v × (seq v r ≡ u))) ⊎ ((terminated s ≡ true) × Moves r a u) → seq t r ≡ u
+    pick once (inl (is, (v, k, e))) = ap (λ x. seq x r) (once v k) ∙ e
+    pick once (inr (is, k)) = absurd (cc (sym h ∙ is))
+moves_once {t} {u} {a} (second {s} {r} h m) n = pick (λ k. moves_once m k) (seq_part n)
+  where
+    pick : (Moves r a u → t ≡ u) → ((terminated s ≡ false) × ((v : Tree) × Moves s a v × (seq v r ≡ u))) ⊎ ((terminated s ≡ true) × Moves r a u) → t ≡ u
+    pick once (inl (is, k)) = absurd (cc (sym h ∙ is))
+    pick once (inr (is, k)) = once k
+moves_once (unfolds m) n = moves_once m (rec_part n)
+moves_once variables n = sym (variable_label n).1
+
+same_option : {X : Type 0} (o p : Option X) → ((x : X) → o ≡ Some x → p ≡ Some x) → ((x : X) → p ≡ Some x → o ≡ Some x) → o ≡ p
+same_option None None f g = refl
+same_option None (Some y) f g = g y refl
+same_option (Some x) p f g = sym (f x refl)
+
+-- an unfolding moves as its type does
+pub unfolded_step : (t : Tree) → IsScoped 0 t → IsContractive t → IsContractive (unfolded t) → (a : Label) → step (unfolded t) a ≡ step t a
+unfolded_step (rec s) h c d a =
+    let inner = steps_are_moves (unfolded (rec s)) (unfolded_scoped (rec s) h) d a in
+    let outer = steps_are_moves (rec s) h c a in
+    same_option (step (unfolded (rec s)) a) (step (rec s) a) (λ x e. (outer x).1 (unfolds ((inner x).0 e))) (λ x e. (inner x).1 (rec_part ((outer x).0 e)))
+unfolded_step t h c d a = refl
+
+-- an unfolding is terminated exactly where its type is
+pub unfolded_terminated : (t : Tree) → IsScoped 0 t → IsContractive t → terminated (unfolded t) ≡ terminated t
+unfolded_terminated (rec s) h c = still_terminated (Some (rec s) ∷ []) s c.0 (guarded_body s c.1 (closed_guarded (rec s) h))
+unfolded_terminated t h c = refl

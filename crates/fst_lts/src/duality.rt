@@ -1,0 +1,67 @@
+ghost use Rattle.std.specs.Prelude.{◌≡◌, IfOk, map};
+ghost use Rattle.fst_lts.specs.Dual.{dual, dual_label, dual_branch};
+
+use fst_types::{Branch, Label, Ty, TyForm};
+use std::alloc::{AllocError, Global};
+
+/// The other side of a type: what the one side sends, selects, receives and offers, the other receives, offers,
+/// sends and selects, in the same order.
+#[cycle(dual)]
+#[tactic(auto, using(crate::proofs::DualLaws::dual_all_map))]
+pub fn dual(alloc: Global, t: &Ty) -> Result<Ty, AllocError>
+    ensures { IfOk result (λ d. d ≡ dual t.now) }
+{
+    let form = match &t.form {
+        TyForm::Skip => TyForm::Skip,
+        TyForm::Send(base) => TyForm::Receive(*base),
+        TyForm::Receive(base) => TyForm::Send(*base),
+        TyForm::Select(branches) => TyForm::Offer(dual_branches(alloc, branches)?),
+        TyForm::Offer(branches) => TyForm::Select(dual_branches(alloc, branches)?),
+        TyForm::Seq(first, second) => TyForm::Seq(
+            Box::new(alloc, dual(alloc, first)?)?,
+            Box::new(alloc, dual(alloc, second)?)?,
+        ),
+        TyForm::Rec(body) => TyForm::Rec(Box::new(alloc, dual(alloc, body)?)?),
+        TyForm::Back(k) => TyForm::Back(*k),
+        TyForm::Var(k) => TyForm::Var(*k),
+        TyForm::Plain(base) => TyForm::Plain(*base),
+        TyForm::Arrow(uses, from, to) => TyForm::Arrow(
+            *uses,
+            Box::new(alloc, dual(alloc, from)?)?,
+            Box::new(alloc, dual(alloc, to)?)?,
+        ),
+        TyForm::Pair(first, second) => TyForm::Pair(
+            Box::new(alloc, dual(alloc, first)?)?,
+            Box::new(alloc, dual(alloc, second)?)?,
+        ),
+        TyForm::Named(k) => TyForm::Named(*k),
+    };
+    Ok(Ty { form })
+}
+
+#[cycle(dual)]
+#[tactic(auto, using(fst_types::proofs::Heights::height_at))]
+fn dual_branches(alloc: Global, branches: &[Branch]) -> Result<Vec<Branch>, AllocError>
+    ensures { IfOk result (λ d. d.items ≡ map dual_branch branches.now) }
+{
+    let mut duals = Vec::new(alloc);
+    for branch in branches {
+        let label = branch.label.copy(alloc)?;
+        let body = dual(alloc, &branch.body)?;
+        duals.push(Branch { label, body })?;
+    }
+    Ok(duals)
+}
+
+/// The label by which the other side of a session moves.
+pub fn dual_label(alloc: Global, a: &Label) -> Result<Label, AllocError>
+    ensures { IfOk result (λ d. d ≡ dual_label a.now) }
+{
+    match a {
+        Label::Send(base) => Ok(Label::Receive(*base)),
+        Label::Receive(base) => Ok(Label::Send(*base)),
+        Label::Select(name) => Ok(Label::Offer(name.copy(alloc)?)),
+        Label::Offer(name) => Ok(Label::Select(name.copy(alloc)?)),
+        Label::Var(k) => Ok(Label::Var(*k)),
+    }
+}
