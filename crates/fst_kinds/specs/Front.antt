@@ -1,6 +1,6 @@
 -- What a type begins with, found in one walk.
-use Rattle.std.specs.Prelude.{ℕ, zero, suc}
-use Rattle.fst_types.specs.Tree.{Tree, skip, send, receive, select, offer, seq, rec, back, var, plain, arrow, pair, named, Branches, none, branch}
+use Rattle.std.specs.Prelude.{zero, suc}
+use Rattle.fst_types.specs.Tree.{Tree, send, receive, select, offer, seq, rec, back}
 use Rattle.fst_kinds.specs.declared.front.Front.{Front}
 use Rattle.fst_kinds.specs.declared.front.Front.TheVariants.{Open, Variable, Guarded}
 

@@ -66,6 +66,6 @@ abbrev mutual
       Ok (if subkind k (session Once) then wrong else Some k)))
 
 -- the answer is what the walk finds, or that memory is wanted
-abbrev pub Answers : Result Kind KindFault → Result Kind KindFault → Type 0
+abbrev pub Answers : {T : Type 0} → Result T KindFault → Result T KindFault → Type 0
 Answers found (Err Memory) = ⊤
 Answers found answer = answer ≡ found

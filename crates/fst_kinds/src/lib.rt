@@ -1,11 +1,19 @@
 //! The kinds of types: which are well formed, and of what kind.
 #![tactic(auto)]
 
+mod contraction;
 mod fault;
 mod front;
 mod kinds;
-mod unfolding_law;
+mod labels;
+mod laws;
+mod walk;
 
+pub use contraction::contractive;
 pub use fault::KindFault;
 pub use kinds::subkind;
-pub use unfolding_law::unfolding_keeps_kinds;
+pub use laws::{one_kind, unfolding_keeps_kinds};
+pub use walk::kind_of;
+
+#[cfg(test)]
+mod tests;
