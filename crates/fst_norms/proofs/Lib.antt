@@ -1,0 +1,2 @@
+pub mod NormLaws
+pub mod PruneLaws

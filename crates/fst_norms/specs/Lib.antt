@@ -1,0 +1,4 @@
+pub mod Norms
+pub mod Bounds
+pub mod Pruned
+pub mod Pending

@@ -1,0 +1,52 @@
+ghost use Rattle.std.specs.Prelude.{◌≡◌, ◌<◌, ℕ, IfOk, length, take, map, is_none, Bool, List, true, false};
+ghost use Rattle.fst_words.specs.Words.{Rows, step, InRange, WordBelow};
+ghost use Rattle.fst_lts.specs.Agree.{PerformSame};
+ghost use Rattle.fst_norms.specs.Norms.{HasNoNorm, HasNorm};
+ghost use Rattle.fst_norms.specs.Pruned.{pruned, is_marked, IsUnnormedSet};
+
+use crate::rounds::norms;
+use fst_words::{Grammar, Word};
+use std::alloc::{AllocError, Global};
+
+fn pruned_len(word: &[u32], unnormed: &[bool]) -> usize
+    requires { WordBelow (length unnormed.now) word.now }
+    ensures { take result word.now ≡ pruned unnormed.now word.now }
+{
+    for (i, n) in word.iter().enumerate() {
+        if unnormed[*n as usize] {
+            return i + 1;
+        }
+    }
+    word.len()
+}
+
+/// Cuts all that stands behind the word's first unnormed non-terminal, since no letter leads there.
+pub fn prune(w: &mut Word, unnormed: &[bool])
+    requires { WordBelow (length unnormed.now) w.old }
+    ensures cut { w.new ≡ pruned unnormed.now w.old }
+    ensures same { (rows : Rows) → IsUnnormedSet rows unnormed.now → PerformSame (step rows) (step rows) w.new w.old }
+{
+    let len = pruned_len(w.as_slice(), unnormed);
+    w.truncate(len);
+}
+
+fn without_norm(alloc: Global, norms: &[Option<u64>]) -> Result<Vec<bool>, AllocError>
+    ensures { IfOk result (λ marks. marks.items ≡ map is_none norms.now) }
+{
+    norms.iter().map(|norm| norm.is_none()).collect(alloc)
+}
+
+/// Marks the unnormed non-terminals: the largest set of which every rule of every member contains a member,
+/// which are those that no sequence of letters takes to the empty word.
+pub fn unnormed(alloc: Global, g: &Grammar) -> Result<Vec<bool>, AllocError>
+    requires { InRange g.now.rules.items }
+    ensures len { IfOk result (λ marks. length marks.items ≡ length g.now.rules.items) }
+    ensures set { IfOk result (λ marks. IsUnnormedSet g.now.rules.items marks.items) }
+    ensures largest { IfOk result (λ marks. (other : List Bool) (n : ℕ) → IsUnnormedSet g.now.rules.items other → is_marked other n ≡ true → n < length g.now.rules.items → is_marked marks.items n ≡ true) }
+    ensures marked { IfOk result (λ marks. (n : ℕ) → is_marked marks.items n ≡ true → HasNoNorm g.now.rules.items n) }
+    ensures unmarked { IfOk result (λ marks. (n : ℕ) → n < length g.now.rules.items → is_marked marks.items n ≡ false → HasNorm g.now.rules.items n) }
+{
+    let norms = norms(alloc, g)?;
+    let marks = without_norm(alloc, &norms)?;
+    Ok(marks)
+}

@@ -1,0 +1,43 @@
+ghost use Rattle.std.specs.Prelude.{◌≡◌, IfOk, IfSome, length};
+ghost use Rattle.fst_words.specs.Words.{step, WordBelow, InRange};
+
+use crate::rules::Rules;
+use crate::word::Word;
+use fst_types::Label;
+use std::alloc::{AllocError, Global};
+
+/// A simple grammar: the letters' labels in label order, and the rules of each non-terminal.
+#[derive(Drop)]
+pub struct Grammar {
+    pub letters: Vec<Label>,
+    pub rules: Vec<Rules>,
+}
+
+/// The word after the letter, or none where the word doesn't perform it.
+#[tactic(auto, using(crate::proofs::RangeLaws::step_in_range))]
+pub fn step(alloc: Global, g: &Grammar, w: &Word, letter: u32) -> Result<Option<Word>, AllocError>
+    requires word { WordBelow (length g.now.rules.items) w.now }
+    requires grammar { InRange g.now.rules.items }
+    ensures next { IfOk result (λ next. next ≡ step g.now.rules.items w.now letter) }
+    ensures range { IfOk result (λ next. IfSome next (WordBelow (length g.now.rules.items))) }
+{
+    step_by_rule(alloc, g, w.as_slice(), letter)
+}
+
+fn step_by_rule(
+    alloc: Global,
+    g: &Grammar,
+    w: &[u32],
+    letter: u32,
+) -> Result<Option<Word>, AllocError>
+    requires { WordBelow (length g.now.rules.items) w.now }
+    ensures { IfOk result (λ next. next ≡ step g.now.rules.items w.now letter) }
+{
+    let Some((first, rest)) = w.split_first() else {
+        return Ok(None);
+    };
+    match g.rules[*first as usize].word_for(letter) {
+        None => Ok(None),
+        Some(word) => Ok(Some(Word::joined(alloc, word.as_slice(), rest)?)),
+    }
+}

@@ -1,0 +1,15 @@
+//! Simple grammars, and the words that move by their rules.
+#![tactic(auto)]
+
+mod grammar;
+mod laws;
+mod rules;
+mod word;
+
+pub use grammar::{Grammar, step};
+pub use laws::standing_law;
+pub use rules::{Rule, Rules};
+pub use word::{Pair, Word};
+
+#[cfg(test)]
+mod tests;

@@ -1,0 +1,66 @@
+ghost use Rattle.std.specs.Prelude.{◌≡◌, ◌++◌, ◌↔◌, IfOk, IsTrue, take};
+
+use std::alloc::{AllocError, Global};
+use std::marker::Model;
+
+/// A word of non-terminals: contracts see the list of their numbers.
+#[derive(Drop)]
+pub struct Word {
+    numbers: Vec<u32>,
+}
+
+impl Model for Word {
+    ghost use Rattle.std.specs.Prelude.{List, ℕ};
+
+    ghost Value = { List ℕ };
+
+    ghost view = { λ w. w.numbers.items };
+}
+
+impl Word {
+    /// The word of these non-terminals.
+    pub fn of(alloc: Global, letters: &[u32]) -> Result<Word, AllocError>
+        ensures { IfOk result (λ w. w ≡ letters.now) }
+    {
+        Ok(Word {
+            numbers: Vec::from_slice(alloc, letters)?,
+        })
+    }
+
+    /// The numbers of the non-terminals.
+    pub fn as_slice(&self) -> &[u32]
+        ensures { result.now ≡ self.now }
+    {
+        &self.numbers
+    }
+
+    /// The first word, and then the second.
+    pub fn joined(alloc: Global, first: &[u32], second: &[u32]) -> Result<Word, AllocError>
+        ensures { IfOk result (λ w. w ≡ first.now ++ second.now) }
+    {
+        let mut numbers = Vec::from_slice(alloc, first)?;
+        numbers.extend_from_slice(second)?;
+        Ok(Word { numbers })
+    }
+
+    /// Whether two words are the same.
+    pub fn same(&self, other: &Word) -> bool
+        ensures { IsTrue result ↔ (self.now ≡ other.now) }
+    {
+        self.numbers == other.numbers
+    }
+
+    /// Keeps the first `len` non-terminals.
+    pub fn truncate(&mut self, len: usize)
+        ensures { self.new ≡ take len self.old }
+    {
+        self.numbers.truncate(len);
+    }
+}
+
+/// Two words, one of each side.
+#[derive(Drop)]
+pub struct Pair {
+    pub left: Word,
+    pub right: Word,
+}
