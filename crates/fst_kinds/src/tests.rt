@@ -101,7 +101,7 @@ const SEQUENCES: [Case; 11] = [
     ("Skip;Int", ";si", "*T for 1S", true),
     ("(Int 1-> Int);Int", ";oiii", "1T for 1S", true),
     ("Int;+{C:Skip,C:Skip}", ";i#ss", "double C", true),
-    ("!Int;rec x.x", ";!r0", "not contractive", false),
+    ("!Int;rec x.x", ";!*0", "not contractive", false),
 ];
 
 const CHOICES: [Case; 10] = [
@@ -112,28 +112,28 @@ const CHOICES: [Case; 10] = [
     ("&{A:Int 1-> Int,B:Int}", "&oiii", "1T for 1S", true),
     ("+{A:Int,B:f}", "+if", "unbound 5", true),
     ("+{C:Skip,C:Skip}", "#ss", "double C", true),
-    ("+{A:rec x.x,A:Skip}", "=r0s", "double A", false),
-    ("+{A:rec x.x,B:Int}", "+r0i", "not contractive", false),
-    ("&{A:Int,B:rec x.x}", "&ir0", "not contractive", false),
+    ("+{A:rec x.x,A:Skip}", "=*0s", "double A", false),
+    ("+{A:rec x.x,B:Int}", "+*0i", "not contractive", false),
+    ("&{A:Int,B:rec x.x}", "&i*0", "not contractive", false),
 ];
 
 const RECURSIVE: [Case; 16] = [
-    ("rec x.Skip", "rs", "*S", true),
-    ("rec x.Int", "ri", "*T for 1S", true),
-    ("rec x.Int 1-> x", "roi0", "1T for 1S", true),
-    ("rec x.x", "r0", "not contractive", false),
-    ("rec x.!Int;x", "r;!0", "1S", true),
-    ("rec x.x;!Int", "r;0!", "not contractive", false),
-    ("rec x.Skip;x", "r;s0", "not contractive", false),
-    ("rec x.Int;x", "r;i0", "*T for 1S", false),
-    ("rec x.+{A:x,B:Skip}", "r+0s", "1S", true),
-    ("rec x.&{A:!Int,B:Skip};x", "r;&!s0", "1S", true),
-    ("rec x.(rec y.Skip);x", "r;rs0", "not contractive", false),
-    ("rec x.(rec y.!Int;y);x", "r;r;!00", "1S", true),
-    ("rec x.rec y.x", "rr1", "not contractive", false),
-    ("rec x.rec y.y;x", "rr;01", "not contractive", false),
-    ("rec x.rec y.!Int;x;y", "rr;!;10", "1S", true),
-    ("rec x.+{C:x,C:x}", "r#00", "double C", true),
+    ("rec x.Skip", "*s", "*S", true),
+    ("rec x.Int", "*i", "*T for 1S", true),
+    ("rec x.Int 1-> x", "*oi0", "1T for 1S", true),
+    ("rec x.x", "*0", "not contractive", false),
+    ("rec x.!Int;x", "*;!0", "1S", true),
+    ("rec x.x;!Int", "*;0!", "not contractive", false),
+    ("rec x.Skip;x", "*;s0", "not contractive", false),
+    ("rec x.Int;x", "*;i0", "*T for 1S", false),
+    ("rec x.+{A:x,B:Skip}", "*+0s", "1S", true),
+    ("rec x.&{A:!Int,B:Skip};x", "*;&!s0", "1S", true),
+    ("rec x.(rec y.Skip);x", "*;*s0", "not contractive", false),
+    ("rec x.(rec y.!Int;y);x", "*;*;!00", "1S", true),
+    ("rec x.rec y.x", "**1", "not contractive", false),
+    ("rec x.rec y.y;x", "**;01", "not contractive", false),
+    ("rec x.rec y.!Int;x;y", "**;!;10", "1S", true),
+    ("rec x.+{C:x,C:x}", "*#00", "double C", true),
 ];
 
 const VALUES: [Case; 13] = [
@@ -146,14 +146,14 @@ const VALUES: [Case; 13] = [
     ("(Skip, !Int)", ",s!", "1T", true),
     (
         "(rec x.x) -> +{A:Skip,A:Skip}",
-        ">r0=ss",
+        ">*0=ss",
         "not contractive",
         false,
     ),
-    ("+{A:Skip,A:Skip} -> rec x.x", ">=ssr0", "double A", false),
-    ("(rec x.x, Int)", ",r0i", "not contractive", false),
-    ("(Int, rec x.x)", ",ir0", "not contractive", false),
-    ("(+{A:Skip,A:Skip}, rec x.x)", ",=ssr0", "double A", false),
+    ("+{A:Skip,A:Skip} -> rec x.x", ">=ss*0", "double A", false),
+    ("(rec x.x, Int)", ",*0i", "not contractive", false),
+    ("(Int, rec x.x)", ",i*0", "not contractive", false),
+    ("(+{A:Skip,A:Skip}, rec x.x)", ",=ss*0", "double A", false),
     ("a", "a", "unbound 0", true),
 ];
 
@@ -169,10 +169,10 @@ const VARIABLES: [Case; 14] = [
     ("+{A:d,B:c}", "+dc", "1T for 1S", true),
     ("(a, c)", ",ac", "*T", true),
     ("(b, a)", ",ba", "1T", true),
-    ("rec x.b", "rb", "1S", true),
-    ("rec x.d", "rd", "1T for 1S", true),
-    ("rec x.a;x", "r;a0", "not contractive", false),
-    ("rec x.b;x", "r;b0", "not contractive", false),
+    ("rec x.b", "*b", "1S", true),
+    ("rec x.d", "*d", "1T for 1S", true),
+    ("rec x.a;x", "*;a0", "not contractive", false),
+    ("rec x.b;x", "*;b0", "not contractive", false),
 ];
 
 fn expect(rt: &impl Abort, alloc: Global, cases: &[Case], vars: &[Kind]) -> Result<(), AllocError> {
@@ -212,7 +212,7 @@ fn deep_types_fit_the_stack(rt: HostRuntime) -> Result<(), Fail> {
     let cases = [
         (repeated(alloc, ";!", "!")?, "1S", 8193, 8193),
         (repeated(alloc, ";", messages.as_str())?, "1S", 8193, 8193),
-        (repeated(alloc, "r", ";!0")?, "1S", 4099, 4098),
+        (repeated(alloc, "*", ";!0")?, "1S", 4099, 4098),
         (repeated(alloc, "-", "s")?, "1S", 8193, 8193),
     ];
     for (code, wanted, nodes, unfolded) in &cases {

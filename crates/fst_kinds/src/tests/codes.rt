@@ -43,7 +43,7 @@ fn node(alloc: Global, sign: u8, stack: &mut Vec<Ty>) -> Result<TyForm, AllocErr
         b'0' => Ok(TyForm::Back(0)),
         b'1' => Ok(TyForm::Back(1)),
         b'a'..=b'f' => Ok(TyForm::Var(u32::from(sign - b'a'))),
-        b'r' => Ok(TyForm::Rec(part(alloc, stack)?)),
+        b'*' => Ok(TyForm::Rec(part(alloc, stack)?)),
         b';' => Ok(TyForm::Seq(part(alloc, stack)?, part(alloc, stack)?)),
         b',' => Ok(TyForm::Pair(part(alloc, stack)?, part(alloc, stack)?)),
         b'>' => Ok(TyForm::Arrow(Use::Many, part(alloc, stack)?, part(alloc, stack)?)),
@@ -59,7 +59,7 @@ fn node(alloc: Global, sign: u8, stack: &mut Vec<Ty>) -> Result<TyForm, AllocErr
 
 /// The type of a code, in which the sign of a node stands before those of its parts: `s` is `Skip`, `!` is `!Int`, `?`
 /// is `?Bool`, `i` is `Int`, `n` a data type, `0` the innermost recursion variable and `1` the next, `a` to `f` the
-/// first variables of a signature, `r` is `rec`, `,` a pair, `>` is `->`, `o` is `1->`, `-` selects `A`, `+` selects
+/// first variables of a signature, `*` is `rec`, `,` a pair, `>` is `->`, `o` is `1->`, `-` selects `A`, `+` selects
 /// `A` or `B`, `&` offers both, and `=` and `#` select between two `A` and two `C`.
 pub(super) fn ty(alloc: Global, code: &str) -> Result<Ty, AllocError> {
     let mut stack = Vec::new(alloc);
