@@ -1,6 +1,6 @@
 -- What ordered branches give: labels that rise, and successors that are ordered too.
 use Rattle.std.proofs.Common.{◌≡◌, ℕ, List, [], ◌∷◌, Bool, true, false, Option, Some, None}
-use Rattle.std.specs.Prelude.{option_map, if◌then◌else◌, IfSome, ⊤}
+use Rattle.std.specs.Prelude.{option_map, option_and_then, if◌then◌else◌, IfSome, ⊤}
 use Rattle.std.specs.declared.cmp.Ordering.TheVariants.{Less}
 use Rattle.std.specs.Ordering.{nat_cmp}
 use Rattle.std.specs.Cmp.Lexicographic.{slice_cmp}
@@ -11,6 +11,7 @@ use Rattle.fst_types.specs.declared.label.Label.TheVariants.{Send, Receive, Sele
 use Rattle.fst_types.specs.Substitution.{substituted}
 use Rattle.fst_types.proofs.SubstitutionLaws.{EnvHas, substituted_ordered}
 use Rattle.fst_lts.specs.Step.{terminated, branch_at, step_in, step, labels, choice_labels}
+use Rattle.fst_lts.specs.Agree.{residual}
 use Rattle.fst_lts.specs.Rising.{IsRising}
 
 choice_rises : (make : List ℕ → Label) → ((l m : List ℕ) → slice_cmp nat_cmp l m ≡ Less → label_cmp (make l) (make m) ≡ Less) →
@@ -73,3 +74,12 @@ step_in_ordered env (named k) a e o = tt
 -- a successor of an ordered type is ordered
 pub step_ordered : (s : Tree) (a : Label) → IsOrdered s → IfSome (step s a) IsOrdered
 step_ordered s a o = step_in_ordered [] s a tt o
+
+-- what a word leaves of an ordered type is ordered
+pub residual_ordered : (w : List Label) (s : Tree) → IsOrdered s → IfSome (residual step s w) IsOrdered
+residual_ordered [] s o = o
+residual_ordered (a ∷ w) s o = pick (residual_ordered w) (step s a) (step_ordered s a o)
+  where
+    pick : ((t : Tree) → IsOrdered t → IfSome (residual step t w) IsOrdered) → (p : Option Tree) → IfSome p IsOrdered → IfSome (option_and_then (λ t. residual step t w) p) IsOrdered
+    pick rest None h = tt
+    pick rest (Some t) h = rest t h

@@ -182,9 +182,17 @@ fn offer_branch(
 }
 
 /// What is left of a type after a word, or none where the type doesn't perform the word.
+#[tactic(auto, using(crate::proofs::OrderLaws::residual_ordered, crate::proofs::ResidualLaws::residual_session))]
 pub fn residual(alloc: Global, t: &Ty, w: &[Label]) -> Result<Option<Ty>, AllocError>
     ensures residual { IfOk result (λ left. left ≡ residual step t.now w.now) }
     ensures ordered { IsOrdered t.now → IfOk result (λ left. IfSome left IsOrdered) }
+    ensures well_formed { (vars : List Kind) → IsSession vars t.now → IfOk result (λ left. IfSome left (IsSession vars)) }
+{
+    residual_within(alloc, t, w)
+}
+
+fn residual_within(alloc: Global, t: &Ty, w: &[Label]) -> Result<Option<Ty>, AllocError>
+    ensures { IfOk result (λ left. left ≡ residual step t.now w.now) }
 {
     let mut left = copy(alloc, t)?;
     for a in w {

@@ -1,3 +1,5 @@
+mod unfolding;
+
 use crate::{Base, Branch, Label, Name, Ty, TyForm, Use, copy, same, size};
 use std::alloc::{AllocError, Global};
 use std::test::Fail;
