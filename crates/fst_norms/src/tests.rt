@@ -1,6 +1,6 @@
 use crate::{norms, prune, unnormed};
 use fst_types::Label;
-use fst_words::{Grammar, Rule, Rules, Word};
+use fst_words::{Grammar, Rule, Rules, Word, is_below, is_in_range};
 use std::alloc::Global;
 use std::test::Fail;
 
@@ -36,6 +36,32 @@ fn ordered(rules: Vec<Rule>) -> Result<Rules, Fail> {
     }
 }
 
+fn norms_of(alloc: Global, g: &Grammar) -> Result<Vec<Option<u64>>, Fail> {
+    if is_in_range(g) {
+        Ok(norms(alloc, g)?)
+    } else {
+        Err(Fail::new("out of range"))
+    }
+}
+
+fn unnormed_of(alloc: Global, g: &Grammar) -> Result<Vec<bool>, Fail> {
+    if is_in_range(g) {
+        Ok(unnormed(alloc, g)?)
+    } else {
+        Err(Fail::new("out of range"))
+    }
+}
+
+fn pruned(alloc: Global, word: &[u32], marks: &[bool]) -> Result<Word, Fail> {
+    let mut cut = Word::of(alloc, word)?;
+    if is_below(word, marks.len()) {
+        prune(&mut cut, marks);
+        Ok(cut)
+    } else {
+        Err(Fail::new("out of range"))
+    }
+}
+
 #[test]
 fn norms_are_the_shortest_ways_to_the_empty_word(rt: HostRuntime) -> Result<(), Fail> {
     let alloc = rt.alloc();
@@ -60,7 +86,7 @@ fn norms_are_the_shortest_ways_to_the_empty_word(rt: HostRuntime) -> Result<(), 
         ),
     ];
     for (number, (rows, want)) in cases.into_iter().enumerate() {
-        let found = norms(alloc, &grammar(alloc, rows)?)?;
+        let found = norms_of(alloc, &grammar(alloc, rows)?)?;
         assert_eq!(rt; found.as_slice(), want, "case {number}");
     }
     Ok(())
@@ -83,7 +109,7 @@ fn norms_stay_at_two_to_the_63(rt: HostRuntime) -> Result<(), Fail> {
     }
     let mut letters = Vec::new(alloc);
     letters.push(Label::Var(0))?;
-    let found = norms(
+    let found = norms_of(
         alloc,
         &Grammar {
             letters,
@@ -100,11 +126,19 @@ fn norms_stay_at_two_to_the_63(rt: HostRuntime) -> Result<(), Fail> {
     ];
     for (number, want) in cases {
         let number: usize = number;
-        assert_eq!(rt; found[number], Some(want), "non-terminal {number}");
+        assert_eq!(rt;
+            found.get(number).copied(),
+            Some(Some(want)),
+            "non-terminal {number}"
+        );
     }
     for number in 63..70 {
         let number: usize = number;
-        assert_eq!(rt; found[number], Some(greatest), "non-terminal {number}");
+        assert_eq!(rt;
+            found.get(number).copied(),
+            Some(Some(greatest)),
+            "non-terminal {number}"
+        );
     }
     Ok(())
 }
@@ -114,7 +148,7 @@ fn marks_what_no_sequence_empties_and_cuts_behind_it(rt: HostRuntime) -> Result<
     let alloc = rt.alloc();
     // 0 is normed; 1 comes back to itself; 2 has a way out; 3 goes on to 1; 4 has no rules
     let rows: [Row<'_>; 5] = [&[&[]], &[&[1]], &[&[2], &[0]], &[&[0, 1], &[4]], &[]];
-    let marks = unnormed(alloc, &grammar(alloc, &rows)?)?;
+    let marks = unnormed_of(alloc, &grammar(alloc, &rows)?)?;
     assert_eq!(rt;
         marks.as_slice(),
         [false, true, false, true, true].as_slice()
@@ -129,8 +163,7 @@ fn marks_what_no_sequence_empties_and_cuts_behind_it(rt: HostRuntime) -> Result<
         (&[2, 0, 1], &[2, 0, 1]),
     ];
     for (word, want) in cases {
-        let mut cut = Word::of(alloc, word)?;
-        prune(&mut cut, &marks);
+        let cut = pruned(alloc, word, &marks)?;
         assert_eq!(rt; cut.as_slice(), want, "{:?}", word);
     }
     Ok(())
@@ -157,15 +190,15 @@ fn a_million_letters_in_the_worst_order(rt: HostRuntime) -> Result<(), Fail> {
     }
     let mut letters = Vec::new(alloc);
     letters.push(Label::Var(0))?;
-    let found = norms(
+    let found = norms_of(
         alloc,
         &Grammar {
             letters,
             rules: all,
         },
     )?;
-    assert_eq!(rt; found[3999], Some(1));
-    assert_eq!(rt; found[3998], Some(251));
-    assert_eq!(rt; found[0], Some(3999 * 250 + 1));
+    assert_eq!(rt; found.get(3999).copied(), Some(Some(1)));
+    assert_eq!(rt; found.get(3998).copied(), Some(Some(251)));
+    assert_eq!(rt; found.get(0).copied(), Some(Some(3999 * 250 + 1)));
     Ok(())
 }

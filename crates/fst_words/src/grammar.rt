@@ -1,7 +1,7 @@
-ghost use Rattle.std.specs.Prelude.{◌≡◌, IfOk, IfSome, length};
+ghost use Rattle.std.specs.Prelude.{◌≡◌, ◌↔◌, All, IfOk, IfSome, IsTrue, length};
 ghost use Rattle.fst_words.specs.Words.{step, WordBelow, InRange};
 
-use crate::rules::Rules;
+use crate::rules::{Rule, Rules};
 use crate::word::Word;
 use fst_types::Label;
 use std::alloc::{AllocError, Global};
@@ -40,4 +40,27 @@ fn step_by_rule(
         None => Ok(None),
         Some(word) => Ok(Some(Word::joined(alloc, word.as_slice(), rest)?)),
     }
+}
+
+/// Whether each non-terminal in a rule's word has rules of its own.
+pub fn is_in_range(g: &Grammar) -> bool
+    ensures { IsTrue result ↔ InRange g.now.rules.items }
+{
+    let count = g.rules.len();
+    g.rules
+        .iter()
+        .all(|rules| are_below(rules.as_slice(), count))
+}
+
+fn are_below(rules: &[Rule], count: usize) -> bool
+    ensures { IsTrue result ↔ All (λ r. WordBelow count r.word) rules.now }
+{
+    rules.iter().all(|r| is_below(r.word.as_slice(), count))
+}
+
+/// Whether the numbers of a word are below this one.
+pub fn is_below(word: &[u32], count: usize) -> bool
+    ensures { IsTrue result ↔ WordBelow count word.now }
+{
+    word.iter().all(|n| (*n as usize) < count)
 }

@@ -1,4 +1,4 @@
-use crate::{Grammar, Rule, Rules, Word, step};
+use crate::{Grammar, Rule, Rules, Word, is_below, is_in_range, step};
 use fst_types::{Base, Label};
 use std::alloc::Global;
 use std::test::Fail;
@@ -39,6 +39,14 @@ fn grammar(alloc: Global) -> Result<Grammar, Fail> {
     })
 }
 
+fn after(alloc: Global, g: &Grammar, word: &Word, letter: u32) -> Result<Option<Word>, Fail> {
+    if is_in_range(g) && is_below(word.as_slice(), g.rules.len()) {
+        Ok(step(alloc, g, word, letter)?)
+    } else {
+        Err(Fail::new("out of range"))
+    }
+}
+
 #[test]
 fn the_first_non_terminals_rule_takes_its_place(rt: HostRuntime) -> Result<(), Fail> {
     let alloc = rt.alloc();
@@ -57,10 +65,22 @@ fn the_first_non_terminals_rule_takes_its_place(rt: HostRuntime) -> Result<(), F
     ];
     for (word, letter, want) in cases {
         let word = Word::of(alloc, word)?;
-        let next = step(alloc, &g, &word, letter)?;
+        let next = after(alloc, &g, &word, letter)?;
         let next = next.as_ref().map(|w| w.as_slice());
         assert_eq!(rt; next, want, "{:?} by {letter}", word.as_slice());
     }
+    Ok(())
+}
+
+#[test]
+fn numbers_out_of_range_are_found(rt: HostRuntime) -> Result<(), Fail> {
+    let alloc = rt.alloc();
+    let mut g = grammar(alloc)?;
+    assert!(rt; is_in_range(&g));
+    assert!(rt; is_below(&[2, 0], 3));
+    assert!(rt; !is_below(&[2, 3], 3));
+    g.rules.truncate(2);
+    assert!(rt; !is_in_range(&g));
     Ok(())
 }
 
