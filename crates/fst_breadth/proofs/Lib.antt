@@ -1,0 +1,12 @@
+pub mod OrderLaws
+pub mod ListLaws
+pub mod StateLaws
+pub mod DifferenceLaws
+pub mod Determined
+pub mod RangeLaws
+pub mod LabelLaws
+pub mod RowLaws
+pub mod ExpandLaws
+pub mod FollowLaws
+pub mod AnswerLaws
+pub mod TableLaws
