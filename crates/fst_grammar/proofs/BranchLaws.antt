@@ -1,0 +1,26 @@
+-- The branches of a choice from one of them on.
+use Rattle.std.proofs.Common.{◌≡◌, ◌∙◌, ◌+◌, ◌<◌, ◌≤◌, refl, sym, ap, ℕ, zero, suc, arith, List, [], ◌∷◌, length, drop, get_or, add-one}
+use Rattle.fst_types.specs.Tree.{branch}
+use Rattle.fst_types.specs.View.{branches_of}
+use Rattle.fst_types.specs.declared.ty.Branch.{Branch}
+use Rattle.fst_grammar.specs.Place.{binder}
+
+branches_from : (bs : List Branch) (i : ℕ) (d : Branch) → i < length bs → branches_of (drop i bs) ≡ branch (get_or bs i d).label (get_or bs i d).body (branches_of (drop (suc i) bs))
+branches_from [] i d h = absurd (omega arith)
+branches_from (b ∷ bs) zero d h = refl
+branches_from (b ∷ bs) (suc i) d h = branches_from bs i d (omega arith)
+
+-- the branches from a place on: the one there, and then the others
+pub branches_at : (bs : List Branch) (i : ℕ) (b : Branch) → i < length bs → b ≡ get_or bs i b → branches_of (drop i bs) ≡ branch b.label b.body (branches_of (drop (i + 1) bs))
+branches_at bs i b h is = rw add-one (branches_from bs i b h ∙ ap (λ x. branch x.label x.body (branches_of (drop (suc i) bs))) (sym is))
+
+-- the binder at a place of the list
+pub binder_read : (bs : List ℕ) (k d : ℕ) → k < length bs → binder bs k ≡ get_or bs k d
+binder_read [] k d h = absurd (omega arith)
+binder_read (b ∷ bs) zero d h = refl
+binder_read (b ∷ bs) (suc k) d h = binder_read bs k d (omega arith)
+
+pub binder_past : (bs : List ℕ) (k : ℕ) → length bs ≤ k → binder bs k ≡ 0
+binder_past [] k h = refl
+binder_past (b ∷ bs) zero h = absurd (omega arith)
+binder_past (b ∷ bs) (suc k) h = binder_past bs k (omega arith)

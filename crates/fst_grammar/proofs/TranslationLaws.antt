@@ -1,0 +1,218 @@
+-- The equations of two session types are those of their grammar.
+use Rattle.std.proofs.Common.{◌≡◌, ◌∙◌, ◌+◌, ◌<◌, ◌≤◌, refl, sym, ap, subst, arith, ℕ, zero, suc, List, [], ◌∷◌, ◌++◌, length, Bool, true, false, Some, map}
+use Rattle.std.specs.Prelude.{All, Contains, slice_get, if◌then◌else◌, ⊤}
+use Rattle.std.proofs.lemmas.List.{length-append}
+use Rattle.std.proofs.lemmas.List.Elements.{All-cons, All-head, All-append, Contains-append_left, Contains-append_right}
+use Rattle.fst_types.specs.Tree.{Tree, skip, send, receive, select, offer, seq, rec, back, var, plain, arrow, pair, named, Branches}
+use Rattle.fst_types.specs.Size.{nodes}
+use Rattle.fst_types.specs.declared.kind.Kind.{Kind}
+use Rattle.fst_types.specs.declared.label.Label.{Label}
+use Rattle.fst_types.specs.declared.label.Label.TheVariants.{Select, Offer}
+use Rattle.fst_kinds.specs.WellFormed.{IsSession}
+use Rattle.fst_lts.specs.Step.{terminated}
+use Rattle.fst_lts.specs.Agree.{Performs}
+use Rattle.fst_words.specs.declared.rules.Rule.{Rule}
+use Rattle.fst_words.specs.Words.{Rows, WordBelow, label_step, StandsFor}
+use Rattle.fst_grammar.specs.Place.{Place, top_of, moved, entered, under}
+use Rattle.fst_grammar.specs.Word.{Numbers, word}
+use Rattle.fst_grammar.specs.Labels.{is_name, names, labels_in, AreLetters}
+use Rattle.fst_grammar.specs.Parts.{Part, parts, parts_of, numbers_by}
+use Rattle.fst_grammar.specs.Rules.{name_rules, HasRows}
+use Rattle.fst_grammar.specs.Equations.{Equation, own, like, Solves, equation_at, part_equation, equations_by, IsGrounded, IsFine, most_rank}
+use Rattle.fst_grammar.specs.Translation.{IsGrammar, most_nodes}
+use Rattle.fst_grammar.proofs.AbstractRules.{move}
+use Rattle.fst_grammar.proofs.StandLaws.{performs_same}
+use Rattle.fst_grammar.proofs.LetterLaws.{Known}
+use Rattle.fst_grammar.proofs.LabelLaws.{contains_known, session_known}
+use Rattle.fst_grammar.proofs.SeekLaws.{Every, every_front, every_behind, every_both, IsSeated, all_seated}
+use Rattle.fst_grammar.proofs.TableLaws.{Holds, all_held, every_with, every_get}
+use Rattle.fst_grammar.proofs.FitLaws.{AreKnown, IsFit, fit_select, fit_offer, fit_body}
+use Rattle.fst_grammar.proofs.RowLaws.{has_rows, rule_in, has_rules, moves_by_label, length_map}
+use Rattle.fst_grammar.proofs.RankLaws.{rank, part_rank, entry_rank, rank_entry, body_falls, part_most, number_most}
+use Rattle.fst_grammar.proofs.SoundLaws.{rules_rise, rules_below, selects_rise, offers_rise, word_below, branches_below, every_part}
+
+every_map : (P Q : Part → Type 0) → ((e : Part) → P e → Q e) → (es : List Part) → Every P es → Every Q es
+every_map P Q f [] h = tt
+every_map P Q f (e ∷ es) h = (f e h.0, every_map P Q f es h.1)
+
+every_all : (P : Equation → Type 0) (f : Part → Equation) (es : List Part) → Every (λ e. P (f e)) es → All P (map f es)
+every_all P f [] h = λ i e lt. absurd (omega arith)
+every_all P f (e ∷ es) h = All-cons P (f e) (map f es) h.0 (every_all P f es h.1)
+
+-- an equation by a word is that of a part
+like_part : (f : Part → Equation) (es : List Part) (m : ℕ) (w : List ℕ) → slice_get (map f es) m ≡ Some (like w) → (e : Part) × (slice_get es m ≡ Some e) × (f e ≡ like w)
+like_part f [] m w g = absurd (cc g)
+like_part f (e ∷ es) zero w g = (e, refl, cc)
+like_part f (e ∷ es) (suc m) w g = like_part f es m w g
+
+like_behind : (h : Label → List Rule) (xs : List Label) (f : Part → Equation) (es : List Part) (m : ℕ) (w : List ℕ) → slice_get (map (λ a. own (h a)) xs ++ map f es) m ≡ Some (like w) →
+    (k : ℕ) × (e : Part) × (m ≡ length xs + k) × (slice_get es k ≡ Some e) × (f e ≡ like w)
+like_behind h [] f es m w g =
+    let r = like_part f es m w g in
+    (m, r.0, omega arith, r.1, r.2)
+like_behind h (x ∷ xs) f es zero w g = absurd (cc g)
+like_behind h (x ∷ xs) f es (suc m) w g =
+    let r = like_behind h xs f es m w g in
+    (r.0, r.1, omega (arith, r.2), r.3, r.4)
+
+-- each name is a letter
+names_fine : (total : ℕ) (letters xs : List Label) → ((a : Label) → Contains xs a → Known letters a) → All (IsFine total (length letters)) (map (λ a. own (name_rules letters a)) (names xs))
+names_fine total letters [] h = λ i e lt. absurd (omega arith)
+names_fine total letters (x ∷ xs) h = pick (names_fine total letters xs (λ a m. h a (suc m.0, omega (arith, m.1), m.2))) (is_name x)
+  where
+    none : (P : ℕ → Type 0) → All P []
+    none P i e lt = absurd (omega arith)
+
+    here : IsFine total (length letters) (own (name_rules letters x))
+    here = (
+      All-cons (λ (r : Rule). WordBelow total r.word) _ [] (none (λ k. k < total)) (λ i e lt. absurd (omega arith)),
+      All-cons (λ (r : Rule). r.letter < length letters) _ [] (h x (0, omega arith, refl)) (λ i e lt. absurd (omega arith)),
+      (tt, tt),
+    )
+
+    pick : All (IsFine total (length letters)) (map (λ a. own (name_rules letters a)) (names xs)) → (c : Bool) → All (IsFine total (length letters)) (map (λ a. own (name_rules letters a)) (if c then x ∷ names xs else names xs))
+    pick next true = All-cons (IsFine total (length letters)) (own (name_rules letters x)) (map (λ a. own (name_rules letters a)) (names xs)) here next
+    pick next false = next
+
+module _ (vars : List Kind) (s r : Tree) (ws : IsSession vars s) (wr : (other : List Kind) × IsSession other r) (few_s : nodes s ≤ most_nodes) (few_r : nodes r ≤ most_nodes) (letters : List Label) (are : AreLetters s r letters) where
+  abbrev found : List Part
+  found = parts_of s r
+
+  abbrev n : Numbers
+  n = numbers_by letters found
+
+  abbrev total : ℕ
+  total = length (names letters) + length found
+
+  pub seated : Every IsSeated found
+  seated =
+      every_with IsSeated [] (parts (top_of s) s ++ parts (top_of r) r) tt
+      (every_both IsSeated (parts (top_of s) s) (parts (top_of r) r) (all_seated (top_of s) s (λ k lo hi. refl)) (all_seated (top_of r) r (λ k lo hi. refl)))
+
+  pub known_left : AreKnown letters s
+  known_left = session_known vars letters s ws.0 ws.1.kinded (λ a m. contains_known letters a ((are.1 a).1 (Contains-append_left (labels_in s) (labels_in r) a m)))
+
+  pub known_right : AreKnown letters r
+  known_right = session_known wr.0 letters r wr.1.0 wr.1.1.kinded (λ a m. contains_known letters a ((are.1 a).1 (Contains-append_right (labels_in s) (labels_in r) a m)))
+
+  pub fit_left : IsFit letters found (top_of s) s
+  fit_left = record {
+    sees = λ k lo hi. refl;
+    known = known_left;
+    held = every_front (Holds found) (parts (top_of s) s) (parts (top_of r) r) (all_held [] (parts (top_of s) s ++ parts (top_of r) r));
+    bound = tt;
+    scoped = ws.1.scoped;
+    contractive = ws.1.contractive;
+    ordered = ws.1.ordered;
+    small = omega arith;
+    few = few_s;
+  }
+
+  pub fit_right : IsFit letters found (top_of r) r
+  fit_right = record {
+    sees = λ k lo hi. refl;
+    known = known_right;
+    held = every_behind (Holds found) (parts (top_of s) s) (parts (top_of r) r) (all_held [] (parts (top_of s) s ++ parts (top_of r) r));
+    bound = tt;
+    scoped = wr.1.1.scoped;
+    contractive = wr.1.1.contractive;
+    ordered = wr.1.1.ordered;
+    small = omega arith;
+    few = few_r;
+  }
+
+  -- what holds of each choice and `rec` of both types holds of each in the list
+  every_found : (P : Place → Tree → Type 0) →
+      ((p : Place) (cs : Branches) → IsFit letters found p (select cs) → P (entered p (select cs)) (select cs)) →
+      ((p : Place) (cs : Branches) → IsFit letters found p (offer cs) → P (entered p (offer cs)) (offer cs)) →
+      ((p : Place) (b : Tree) → terminated b ≡ false → IsFit letters found p (rec b) → P (entered p (rec b)) (rec b)) →
+      Every (λ e. P e.place e.type) found
+  every_found P f g h =
+      every_with (λ e. P e.place e.type) [] (parts (top_of s) s ++ parts (top_of r) r) tt
+      (every_both (λ e. P e.place e.type) (parts (top_of s) s) (parts (top_of r) r) (every_part letters found P f g h (top_of s) s fit_left) (every_part letters found P f g h (top_of r) r fit_right))
+
+  parts_fine : All (IsFine total (length letters)) (map (part_equation n letters) found)
+  parts_fine =
+      every_all (IsFine total (length letters)) (part_equation n letters) found
+      (every_found (λ q t. IsFine total (length letters) (equation_at n letters q t))
+      (λ p cs h. let f = fit_select letters found p cs h in
+      (branches_below letters found Select (moved (entered p (select cs)) 1) cs f, rules_below n letters Select (moved (entered p (select cs)) 1) cs f.known, rules_rise n letters Select (moved (entered p (select cs)) 1) cs selects_rise are.0 f.known h.ordered.0))
+      (λ p cs h. let f = fit_offer letters found p cs h in
+      (branches_below letters found Offer (moved (entered p (offer cs)) 1) cs f, rules_below n letters Offer (moved (entered p (offer cs)) 1) cs f.known, rules_rise n letters Offer (moved (entered p (offer cs)) 1) cs offers_rise are.0 f.known h.ordered.0))
+      (λ p b e h. word_below letters found (under (entered p (rec b))) b (fit_body letters found p b e h)))
+
+  -- the equations are in order, with words and letters of the grammar
+  pub equations_fine : All (IsFine total (length letters)) (equations_by letters found)
+  equations_fine =
+      All-append (IsFine total (length letters)) (map (λ a. own (name_rules letters a)) (names letters)) (map (part_equation n letters) found) (names_fine total letters letters (contains_known letters)) parts_fine
+
+  pub equations_length : length (equations_by letters found) ≡ total
+  equations_length =
+      length-append (map (λ a. own (name_rules letters a)) (names letters)) (map (part_equation n letters) found)
+      ∙ (λ i. length_map (λ a. own (name_rules letters a)) (names letters) i + length_map (part_equation n letters) found i)
+
+  abbrev Sinks : Place → Tree → Type 0
+  Sinks q (rec b) = (z : ℕ) × (d : List ℕ) × (word n (under q) b ≡ z ∷ d) × (z < total) × (rank letters found seated z < part_rank (record { place = q; type = rec b }))
+  Sinks q t = ⊤
+
+  body_sinks : (p : Place) (b : Tree) → terminated b ≡ false → IsFit letters found p (rec b) → Sinks (entered p (rec b)) (rec b)
+  body_sinks p b e h =
+      let f = body_falls letters found seated p b e h in
+      let below = subst (WordBelow total) f.2 (word_below letters found (under (entered p (rec b))) b (fit_body letters found p b e h)) in
+      (f.0, f.1, f.2, All-head (λ k. k < total) f.0 f.1 below, f.3)
+
+  all_sink : Every (λ e. Sinks e.place e.type) found
+  all_sink = every_found Sinks (λ p cs h. tt) (λ p cs h. tt) body_sinks
+
+  all_most : Every (λ e. part_rank e ≤ most_rank) found
+  all_most =
+      every_found (λ q t. part_rank (record { place = q; type = t }) ≤ most_rank)
+      (λ p cs h. part_most letters found seated p (select cs) h) (λ p cs h. part_most letters found seated p (offer cs) h) (λ p b e h. part_most letters found seated p (rec b) h)
+
+  -- the word of a `rec`'s equation
+  sunk : (q : Place) (t : Tree) (w : List ℕ) → equation_at n letters q t ≡ like w → Sinks q t →
+      (z : ℕ) × (d : List ℕ) × (w ≡ z ∷ d) × (z < total) × (rank letters found seated z < part_rank (record { place = q; type = t }))
+  sunk q (rec b) w e h =
+      let same : word n (under q) b ≡ w = cc in
+      (h.0, h.1, sym same ∙ h.2, h.3, h.4)
+  sunk q skip w e h = absurd (cc e)
+  sunk q (send b) w e h = absurd (cc e)
+  sunk q (receive b) w e h = absurd (cc e)
+  sunk q (select cs) w e h = absurd (cc e)
+  sunk q (offer cs) w e h = absurd (cc e)
+  sunk q (seq a b) w e h = absurd (cc e)
+  sunk q (back k) w e h = absurd (cc e)
+  sunk q (var k) w e h = absurd (cc e)
+  sunk q (plain b) w e h = absurd (cc e)
+  sunk q (arrow u a b) w e h = absurd (cc e)
+  sunk q (pair a b) w e h = absurd (cc e)
+  sunk q (named k) w e h = absurd (cc e)
+
+  -- the equations are grounded
+  pub equations_grounded : IsGrounded (rank letters found seated) most_rank (equations_by letters found)
+  equations_grounded = (at, number_most letters found seated all_most)
+    where
+      at : (m : ℕ) (w : List ℕ) → slice_get (equations_by letters found) m ≡ Some (like w) → (z : ℕ) × (d : List ℕ) × (w ≡ z ∷ d) × (z < length (equations_by letters found)) × (rank letters found seated z < rank letters found seated m)
+      at m w g =
+          let l = like_behind (name_rules letters) (names letters) (part_equation n letters) found m w g in
+          let sinks = sunk l.1.place l.1.type w l.4 (every_get (λ e. Sinks e.place e.type) found all_sink l.0 l.1 l.3) in
+          let is : rank letters found seated m ≡ part_rank l.1 = ap (rank letters found seated) l.2 ∙ rank_entry (length (names letters)) found l.0 ∙ ap entry_rank l.3 in
+          let long = equations_length in
+          (sinks.0, sinks.1, sinks.2, omega (arith, sinks.3), omega (arith, sinks.4))
+
+  -- rows that solve the equations are the grammar
+  pub grammar_is : (rows : Rows) → Solves rows (equations_by letters found) → IsGrammar s r letters rows
+  grammar_is rows h = record {
+    labels = are;
+    count = h.0 ∙ equations_length;
+    left = has_rows letters found rows seated h (top_of s) s fit_left;
+    right = has_rows letters found rows seated h (top_of r) r fit_right;
+  }
+
+-- the word of a type stands for it
+pub stands : (vars : List Kind) (n : Numbers) (letters : List Label) (rows : Rows) (s : Tree) → IsSession vars s → AreKnown letters s → HasRows n letters rows (top_of s) s → StandsFor letters rows (word n (top_of s) s) s
+stands vars n letters rows s w known h a =
+    let f = rule_in n letters rows in
+    let same = performs_same n f s w.1.scoped w.1.contractive (has_rules n letters rows (top_of s) s known h) a in
+    let steps : move f ≡ label_step letters rows = λ i u b. moves_by_label n letters rows u b i in
+    (λ p. same.1 (subst (λ g. Performs g (word n (top_of s) s) a) (sym steps) p), λ p. subst (λ g. Performs g (word n (top_of s) s) a) steps (same.0 p))

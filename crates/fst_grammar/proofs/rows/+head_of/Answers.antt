@@ -1,0 +1,40 @@
+use Rattle.std.proofs.Common.{◌∙◌, ◌<◌, sym, ap, arith, rules, length}
+use Rattle.fst_grammar.specs.Rules.{carried}
+use Rattle.fst_grammar.specs.Equations.{like}
+use Rattle.fst_grammar.specs.Views.{equation_of}
+use Rattle.fst_grammar.proofs.HeadLaws.{led, like_row}
+use Rattle.fst_grammar.proofs.rows.+head_of.Goals as goal
+
+pub bounds-word-0 : goal.bounds-word-0
+bounds-word-0 t c =
+    (led c.args.equations.now c.args.z c.args.left c.index-equations-z.result c.as_slice-word.result.now c.requires.leads c.requires.within c.index-equations-z.is (ap equation_of c.in-Like.is ∙ ap like (sym c.as_slice-word.ensures))).some
+
+pub overflow_sub-left : goal.overflow_sub-left
+overflow_sub-left t c =
+    (led c.args.equations.now c.args.z c.args.left c.index-equations-z.result c.as_slice-word.result.now c.requires.leads c.requires.within c.index-equations-z.is (ap equation_of c.in-Like.is ∙ ap like (sym c.as_slice-word.ensures))).more
+
+pub head_of-requires : goal.head_of-requires
+head_of-requires t c =
+    let h = led c.args.equations.now c.args.z c.args.left c.index-equations-z.result c.as_slice-word.result.now c.requires.leads c.requires.within c.index-equations-z.is (ap equation_of c.in-Like.is ∙ ap like (sym c.as_slice-word.ensures)) in
+    (omega (arith, h.more), (h.within, h.leads))
+
+pub slice_bounds-extend_from_slice-count : goal.slice_bounds-extend_from_slice-count
+slice_bounds-extend_from_slice-count t c =
+    let h : 0 < length c.as_slice-word.result.now = (led c.args.equations.now c.args.z c.args.left c.index-equations-z.result c.as_slice-word.result.now c.requires.leads c.requires.within c.index-equations-z.is (ap equation_of c.in-Like.is ∙ ap like (sym c.as_slice-word.ensures))).some in
+    omega arith
+
+pub slice_bounds-extend_from_slice-start : goal.slice_bounds-extend_from_slice-start
+slice_bounds-extend_from_slice-start t c =
+    let h : 0 < length c.as_slice-word.result.now = (led c.args.equations.now c.args.z c.args.left c.index-equations-z.result c.as_slice-word.result.now c.requires.leads c.requires.within c.index-equations-z.is (ap equation_of c.in-Like.is ∙ ap like (sym c.as_slice-word.ensures))).some in
+    search rules
+
+pub returns-in_ok-extend_from_slice-in-Like : goal.returns-in_ok-extend_from_slice-in-Like
+returns-in_ok-extend_from_slice-in-Like t c =
+    let w = c.as_slice-word.result.now in
+    let is = ap equation_of c.in-Like.is ∙ ap like (sym c.as_slice-word.ensures) in
+    let h = led c.args.equations.now c.args.z c.args.left c.index-equations-z.result w c.requires.leads c.requires.within c.index-equations-z.is is in
+    record {
+      rules = λ rows s.
+          like_row c.args.equations.now c.args.z c.index-equations-z.result w c.in_ok-head-in-Like.head.rest.items c.in_ok-head-in-Like.head.rules.now rows s c.requires.within c.index-equations-z.is is h.some (c.in_ok-head-in-Like.ensures.rules rows s)
+          ∙ ap (λ d. carried d c.in_ok-head-in-Like.head.rules.now) (sym c.in_ok-extend_from_slice-in-Like.ensures.items);
+    }

@@ -1,0 +1,68 @@
+-- The rules of non-terminals by equations.
+use Rattle.std.specs.Prelude.{◌≡◌, ◌<◌, ◌≤◌, All, ℕ, List, [], ◌∷◌, ◌++◌, map, length, slice_get, Some}
+use Rattle.fst_types.specs.Tree.{Tree, select, offer, rec}
+use Rattle.fst_types.specs.declared.label.Label.{Label}
+use Rattle.fst_types.specs.declared.label.Label.TheVariants.{Select, Offer}
+use Rattle.fst_words.specs.declared.rules.Rule.{Rule}
+use Rattle.fst_words.specs.Ordered.{AreOrdered}
+use Rattle.fst_words.specs.Words.{Rows, row_of, WordBelow}
+use Rattle.fst_grammar.specs.Place.{Place, moved, under}
+use Rattle.fst_grammar.specs.Word.{Numbers, word}
+use Rattle.fst_grammar.specs.Labels.{names}
+use Rattle.fst_grammar.specs.Parts.{Part, numbers_by}
+use Rattle.fst_grammar.specs.Rules.{name_rules, branch_rules, word_rules}
+
+-- what a non-terminal's rules are: these, or those of a word
+pub data Equation : Type 0 where
+  own : List Rule → Equation
+  like : List ℕ → Equation
+
+-- the rules by an equation
+abbrev pub rules_by : Rows → Equation → List Rule
+rules_by rows (own rules) = rules
+rules_by rows (like w) = word_rules rows w
+
+-- each non-terminal has the rules of its equation
+abbrev pub Solves : Rows → List Equation → Type 0
+Solves rows equations =
+    (length rows ≡ length equations) × ((m : ℕ) (e : Equation) → slice_get equations m ≡ Some e → row_of rows m ≡ rules_by rows e)
+
+-- the equation of a choice or `rec` at its own place
+abbrev pub equation_at : Numbers → List Label → Place → Tree → Equation
+equation_at n letters p (select cs) = own (branch_rules n letters Select (moved p 1) cs)
+equation_at n letters p (offer cs) = own (branch_rules n letters Offer (moved p 1) cs)
+equation_at n letters p (rec s) = like (word n (under p) s)
+equation_at n letters p _ = own []
+
+abbrev pub part_equation : Numbers → List Label → Part → Equation
+part_equation n letters e = equation_at n letters e.place e.type
+
+-- the equations of all non-terminals
+abbrev pub equations_by : List Label → List Part → List Equation
+equations_by letters found =
+    map (λ a. own (name_rules letters a)) (names letters) ++ map (part_equation (numbers_by letters found) letters) found
+
+-- each word of an equation begins with a non-terminal of a smaller rank, and no rank is over the bound
+abbrev pub IsGrounded : (ℕ → ℕ) → ℕ → List Equation → Type 0
+IsGrounded rank bound equations =
+    ((m : ℕ) (w : List ℕ) → slice_get equations m ≡ Some (like w) → (z : ℕ) × (d : List ℕ) × (w ≡ z ∷ d) × (z < length equations) × (rank z < rank m))
+    × ((m : ℕ) → rank m ≤ bound)
+
+-- the rules are in letter order, with words and letters of the grammar
+abbrev pub AreFine : ℕ → ℕ → List Rule → Type 0
+AreFine total letters rules = All (λ r. WordBelow total r.word) rules × All (λ r. r.letter < letters) rules × AreOrdered rules
+
+-- the rules or the word of an equation are those of the grammar
+abbrev pub IsFine : ℕ → ℕ → Equation → Type 0
+IsFine total letters (own rules) = AreFine total letters rules
+IsFine total letters (like w) = WordBelow total w
+
+-- a bound on how many equations stand behind one another, in types within the limit
+abbrev pub most_rank : ℕ
+most_rank = 16781312
+
+-- from a non-terminal it is at most so many equations to rules
+pub record Leads (equations : List Equation) (z left : ℕ) : Type 0 where
+  pub rank : ℕ → ℕ
+  pub grounded : IsGrounded rank most_rank equations
+  pub near : rank z ≤ left

@@ -1,0 +1,12 @@
+pub mod Place
+pub mod Word
+pub mod Labels
+pub mod Same
+pub mod Parts
+pub mod Rules
+pub mod Translation
+pub mod Equations
+pub mod Letters
+pub mod Views
+pub mod PartsAt
+pub mod Done

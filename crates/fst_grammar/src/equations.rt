@@ -1,0 +1,148 @@
+ghost use Rattle.std.specs.Prelude.{◌≡◌, ◌+◌, ◌<◌, ◌^◌, ◌++◌, ◌∷◌, [], All, IfOk, OnOk, length, map};
+ghost use Rattle.fst_types.specs.View.{branches_of};
+ghost use Rattle.fst_types.specs.Size.{nodes, nodes_all};
+ghost use Rattle.fst_types.specs.declared.label.Label.{Label};
+ghost use Rattle.fst_grammar.specs.Labels.{names};
+ghost use Rattle.fst_grammar.specs.Rules.{name_rules, branch_rules};
+ghost use Rattle.fst_grammar.specs.Equations.{own, part_equation, equations_by};
+ghost use Rattle.fst_grammar.specs.Views.{made, numbers_in, part_of, place_in, equation_of, IsTable};
+
+use crate::closing::node_count;
+use crate::found::Found;
+use crate::letters::{choice_label, place_among};
+use crate::table::Table;
+use crate::words::word_of;
+use fst_types::{Branch, Label, Ty, TyForm};
+use fst_words::{Rule, Word};
+use std::alloc::{AllocError, Global};
+
+/// What the rules of a non-terminal are: rules of its own, or those of a word.
+#[derive(Drop)]
+pub(crate) enum Equation {
+    Own(Vec<Rule>),
+    Like(Word),
+}
+
+/// The rules of a choice.
+#[tactic(auto, using(crate::proofs::BranchLaws::branches_at))]
+fn choice_rules(
+    alloc: Global,
+    table: &Table<'_>,
+    binders: &[u32],
+    whole: &Ty,
+    at: u32,
+    branches: &[Branch],
+    offers: bool,
+) -> Result<Vec<Rule>, AllocError>
+    requires table { IsTable table.now }
+    requires fits { at + nodes_all (branches_of branches.now) < 2 ^ 31 }
+    ensures { IfOk result (λ r. r.items ≡ branch_rules (numbers_in table.now) table.now.letters.items (made offers) (place_in whole.now at binders.now) (branches_of branches.now)) }
+{
+    let mut rules = Vec::new(alloc);
+    let mut place = at;
+    for branch in branches {
+        let label = choice_label(alloc, &branch.label, offers)?;
+        let letter = place_among(&table.letters, &label) as u32;
+        let word = word_of(alloc, table, binders, whole, place + 1, &branch.body)?;
+        rules.push(Rule { letter, word })?;
+        place += 1 + node_count(&branch.body);
+    }
+    Ok(rules)
+}
+
+/// The rule of a message or variable.
+fn name_equation(alloc: Global, table: &Table<'_>, name: &Label) -> Result<Equation, AllocError>
+    requires { IsTable table.now }
+    ensures { IfOk result (λ e. equation_of e ≡ own (name_rules table.now.letters.items name.now)) }
+{
+    let letter = place_among(&table.letters, name) as u32;
+    let mut rules = Vec::new(alloc);
+    rules.push(Rule {
+        letter,
+        word: Word::of(alloc, &[])?,
+    })?;
+    Ok(Equation::Own(rules))
+}
+
+/// The places of the binders around the body of a `rec`.
+fn places_under(alloc: Global, at: u32, binders: &[u32]) -> Result<Vec<u32>, AllocError>
+    ensures { IfOk result (λ places. places.items ≡ at ∷ binders.now) }
+{
+    let mut places = Vec::new(alloc);
+    places.push(at)?;
+    places.extend_from_slice(binders)?;
+    Ok(places)
+}
+
+/// The equation of a choice or `rec`.
+fn found_equation(
+    alloc: Global,
+    table: &Table<'_>,
+    found: &Found<'_>,
+) -> Result<Equation, AllocError>
+    requires table { IsTable table.now }
+    requires fits { found.now.at + nodes found.now.part.now < 2 ^ 31 }
+    ensures { IfOk result (λ e. equation_of e ≡ part_equation (numbers_in table.now) table.now.letters.items (part_of found.now)) }
+{
+    let (whole, at, binders) = (found.whole, found.at, &found.binders);
+    let part = found.part;
+    match &part.form {
+        TyForm::Select(branches) => {
+            let rules = choice_rules(alloc, table, binders, whole, at + 1, branches, false)?;
+            Ok(Equation::Own(rules))
+        }
+        TyForm::Offer(branches) => {
+            let rules = choice_rules(alloc, table, binders, whole, at + 1, branches, true)?;
+            Ok(Equation::Own(rules))
+        }
+        TyForm::Rec(body) => {
+            let places = places_under(alloc, at, binders)?;
+            let word = word_of(alloc, table, &places, whole, at + 1, body)?;
+            Ok(Equation::Like(word))
+        }
+        _ => Ok(Equation::Own(Vec::new(alloc))),
+    }
+}
+
+fn add_names(
+    alloc: Global,
+    equations: &mut Vec<Equation>,
+    table: &Table<'_>,
+) -> Result<(), AllocError>
+    requires { IsTable table.now }
+    ensures { OnOk result (map equation_of equations.new.items ≡ map equation_of equations.old.items ++ map (λ a. own (name_rules table.now.letters.items a)) table.now.names.items) }
+{
+    for name in &table.names {
+        equations.push(name_equation(alloc, table, name)?)?;
+    }
+    Ok(())
+}
+
+fn add_parts(
+    alloc: Global,
+    equations: &mut Vec<Equation>,
+    table: &Table<'_>,
+) -> Result<(), AllocError>
+    requires table { IsTable table.now }
+    requires fit { All (λ p. p.at + nodes p.part.now < 2 ^ 31) table.now.parts.items }
+    ensures { OnOk result (map equation_of equations.new.items ≡ map equation_of equations.old.items ++ map (part_equation (numbers_in table.now) table.now.letters.items) (map part_of table.now.parts.items)) }
+{
+    for part in &table.parts {
+        equations.push(found_equation(alloc, table, part)?)?;
+    }
+    Ok(())
+}
+
+/// The equations of all non-terminals.
+#[tactic(auto, using(crate::proofs::SizeLaws::equations_count))]
+pub(crate) fn equations_of(alloc: Global, table: &Table<'_>) -> Result<Vec<Equation>, AllocError>
+    requires table { IsTable table.now }
+    requires fit { All (λ p. p.at + nodes p.part.now < 2 ^ 31) table.now.parts.items }
+    ensures equations { IfOk result (λ es. map equation_of es.items ≡ equations_by table.now.letters.items (map part_of table.now.parts.items)) }
+    ensures few { IfOk result (λ es. length es.items < 2 ^ 32) }
+{
+    let mut equations = Vec::new(alloc);
+    add_names(alloc, &mut equations, table)?;
+    add_parts(alloc, &mut equations, table)?;
+    Ok(equations)
+}

@@ -1,0 +1,123 @@
+ghost use Rattle.std.specs.Prelude.{◌≡◌, ◌≤◌, ◌++◌, ◌∷◌, IfOk, IfSome, IsNone, OnOk, drop, length, take};
+ghost use Rattle.fst_types.specs.View.{branches_of};
+ghost use Rattle.fst_grammar.specs.Labels.{labels_in, branch_labels, is_name as names_itself, names, label_position};
+ghost use Rattle.fst_grammar.specs.Letters.{inserted, inserted_all};
+ghost use Rattle.fst_grammar.specs.Views.{made};
+
+use fst_types::{Branch, Label, Name, Ty, TyForm};
+use std::alloc::{AllocError, Global};
+use std::cmp::Ordering;
+
+/// Adds the labels of a type to labels in order.
+#[cycle(labels)]
+#[tactic(auto, using(crate::proofs::LabelLaws::inserted_append))]
+pub(crate) fn add_labels(alloc: Global, letters: &mut Vec<Label>, t: &Ty) -> Result<(), AllocError>
+    ensures { OnOk result (letters.new.items ≡ inserted_all letters.old.items (labels_in t.now)) }
+{
+    match &t.form {
+        TyForm::Send(base) => insert(letters, Label::Send(*base)),
+        TyForm::Receive(base) => insert(letters, Label::Receive(*base)),
+        TyForm::Var(k) => insert(letters, Label::Var(*k)),
+        TyForm::Select(branches) => add_branches(alloc, letters, branches, false),
+        TyForm::Offer(branches) => add_branches(alloc, letters, branches, true),
+        TyForm::Seq(first, second) => {
+            add_labels(alloc, letters, first)?;
+            add_labels(alloc, letters, second)
+        }
+        TyForm::Rec(body) => add_labels(alloc, letters, body),
+        _ => Ok(()),
+    }
+}
+
+#[cycle(labels)]
+#[tactic(auto, using(fst_types::proofs::Heights::height_at, crate::proofs::LabelLaws::inserted_append, crate::proofs::BranchLaws::branches_at))]
+fn add_branches(
+    alloc: Global,
+    letters: &mut Vec<Label>,
+    branches: &[Branch],
+    offers: bool,
+) -> Result<(), AllocError>
+    ensures { OnOk result (letters.new.items ≡ inserted_all letters.old.items (branch_labels (made offers) (branches_of branches.now))) }
+{
+    for branch in branches {
+        insert(letters, choice_label(alloc, &branch.label, offers)?)?;
+        add_labels(alloc, letters, &branch.body)?;
+    }
+    Ok(())
+}
+
+/// The label of a branch, offered or selected.
+pub(crate) fn choice_label(alloc: Global, name: &Name, offers: bool) -> Result<Label, AllocError>
+    ensures { IfOk result (λ a. a ≡ made offers name.now) }
+{
+    let own = name.copy(alloc)?;
+    if offers {
+        Ok(Label::Offer(own))
+    } else {
+        Ok(Label::Select(own))
+    }
+}
+
+/// Where a label goes among labels in order, or none where it is there.
+#[tactic(auto, using(crate::proofs::InsertLaws::less_at, crate::proofs::InsertLaws::equal_at, crate::proofs::InsertLaws::greater_at))]
+fn place_for(letters: &[Label], a: &Label) -> Option<usize>
+    ensures there { IsNone result → inserted letters.now a.now ≡ letters.now }
+    ensures place { IfSome result (λ i. (i ≤ length letters.now) × (inserted letters.now a.now ≡ take i letters.now ++ a.now ∷ drop i letters.now)) }
+{
+    for (i, letter) in letters.iter().enumerate() {
+        match a.order(letter) {
+            Ordering::Less => return Some(i),
+            Ordering::Equal => return None,
+            Ordering::Greater => {}
+        }
+    }
+    Some(letters.len())
+}
+
+/// Puts a label at its place among labels in order, unless it is there.
+fn insert(letters: &mut Vec<Label>, label: Label) -> Result<(), AllocError>
+    ensures { OnOk result (letters.new.items ≡ inserted letters.old.items label) }
+{
+    if let Some(i) = place_for(letters, &label) {
+        letters.insert(i, label)?;
+    }
+    Ok(())
+}
+
+fn is_name(label: &Label) -> bool
+    ensures { result ≡ names_itself label.now }
+{
+    match label {
+        Label::Send(_) => true,
+        Label::Receive(_) => true,
+        Label::Select(_) => false,
+        Label::Offer(_) => false,
+        Label::Var(_) => true,
+    }
+}
+
+/// The labels of messages and variables among these.
+pub(crate) fn names_among(alloc: Global, letters: &[Label]) -> Result<Vec<Label>, AllocError>
+    ensures { IfOk result (λ n. n.items ≡ names letters.now) }
+{
+    let mut found = Vec::new(alloc);
+    for letter in letters {
+        if is_name(letter) {
+            found.push(letter.copy(alloc)?)?;
+        }
+    }
+    Ok(found)
+}
+
+/// The place of a label among these, or their number where it isn't there.
+pub(crate) fn place_among(letters: &[Label], a: &Label) -> usize
+    ensures value { result ≡ label_position letters.now a.now }
+    ensures within { result ≤ length letters.now }
+{
+    for (i, letter) in letters.iter().enumerate() {
+        if a.same(letter) {
+            return i;
+        }
+    }
+    letters.len()
+}

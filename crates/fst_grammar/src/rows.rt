@@ -1,0 +1,135 @@
+ghost use Rattle.std.specs.Prelude.{◌≡◌, ◌+◌, ◌<◌, ◌≤◌, ◌^◌, ◌++◌, ◌∷◌, [], ℕ, All, IfErr, IfOk, OnOk, map, length};
+ghost use Rattle.fst_words.specs.Words.{Rows, row_of};
+ghost use Rattle.fst_words.specs.Ordered.{AreOrdered};
+ghost use Rattle.fst_grammar.specs.Rules.{carried};
+ghost use Rattle.fst_grammar.specs.Equations.{Solves, Leads, IsGrounded, most_rank};
+ghost use Rattle.fst_grammar.specs.Translation.{right_sides, right_side, most_letters};
+ghost use Rattle.fst_grammar.specs.Views.{equation_of};
+ghost use Rattle.fst_grammar.specs.declared.fault.TranslateFault.TheVariants.{TooLarge};
+
+use crate::equations::Equation;
+use crate::fault::TranslateFault;
+use fst_words::{Rule, Rules, Word};
+use std::alloc::{AllocError, Global};
+
+const MOST_LETTERS: u64 = 1_048_576;
+
+/// A bound on how many equations stand behind one another.
+const MOST_STEPS: u32 = 16_781_312;
+
+/// The rules that a non-terminal comes to, and what stands behind each of their words.
+#[derive(Drop)]
+struct Head<'a> {
+    rules: &'a [Rule],
+    rest: Vec<u32>,
+}
+
+/// Goes from equation to equation to rules, at most so many steps.
+#[tactic(auto, using(crate::proofs::HeadLaws::led, crate::proofs::HeadLaws::own_row, crate::proofs::HeadLaws::like_row))]
+fn head_of<'a>(
+    alloc: Global,
+    equations: &'a [Equation],
+    z: u32,
+    left: u32,
+) -> Result<Head<'a>, AllocError>
+    requires within { z < length equations.now }
+    requires leads { Leads (map equation_of equations.now) z left }
+    ensures rules { (rows : Rows) → Solves rows (map equation_of equations.now) → IfOk result (λ h. row_of rows z ≡ carried h.rest.items h.rules.now) }
+{
+    match &equations[z as usize] {
+        Equation::Own(rules) => Ok(Head {
+            rules,
+            rest: Vec::new(alloc),
+        }),
+        Equation::Like(word) => {
+            let word = word.as_slice();
+            let mut head = head_of(alloc, equations, word[0], left - 1)?;
+            head.rest.extend_from_slice(&word[1..])?;
+            Ok(head)
+        }
+    }
+}
+
+/// The rules with more behind each word, which take their letters from those that are left.
+#[tactic(auto, using(crate::proofs::SizeLaws::carried_at, crate::proofs::SizeLaws::right_at))]
+fn carry(
+    alloc: Global,
+    rules: &[Rule],
+    rest: &[u32],
+    room: &mut u64,
+) -> Result<Vec<Rule>, TranslateFault>
+    ensures rules { IfOk result (λ r. r.items ≡ carried rest.now rules.now) }
+    ensures room { OnOk result (room.new + right_side (carried rest.now rules.now) ≡ room.old) }
+    ensures too_large { IfErr result (λ f. f ≡ TooLarge → room.old < right_side (carried rest.now rules.now)) }
+{
+    let mut longer = Vec::new(alloc);
+    for rule in rules {
+        let letters = (rule.word.as_slice().len() + rest.len()) as u64;
+        if letters > *room {
+            return Err(TranslateFault::TooLarge);
+        }
+        *room -= letters;
+        add_rule(alloc, &mut longer, rule, rest)?;
+    }
+    Ok(longer)
+}
+
+fn add_rule(
+    alloc: Global,
+    rules: &mut Vec<Rule>,
+    rule: &Rule,
+    rest: &[u32],
+) -> Result<(), AllocError>
+    ensures { OnOk result (rules.new.items ≡ rules.old.items ++ (record { letter = rule.now.letter; word = rule.now.word ++ rest.now }) ∷ []) }
+{
+    rules.push(Rule {
+        letter: rule.letter,
+        word: Word::joined(alloc, rule.word.as_slice(), rest)?,
+    })?;
+    Ok(())
+}
+
+/// The rules of a non-terminal, which take their letters from those that are left.
+#[tactic(auto, using(crate::proofs::HeadLaws::leads_all))]
+fn row(
+    alloc: Global,
+    equations: &[Equation],
+    z: u32,
+    room: &mut u64,
+) -> Result<Rules, TranslateFault>
+    requires within { z < length equations.now }
+    requires grounded { (rank : ℕ → ℕ) × IsGrounded rank most_rank (map equation_of equations.now) }
+    requires ordered { (rows : Rows) × Solves rows (map equation_of equations.now) × All AreOrdered rows }
+    ensures rules { (rows : Rows) → Solves rows (map equation_of equations.now) → IfOk result (λ r. r ≡ row_of rows z) }
+    ensures room { (rows : Rows) → Solves rows (map equation_of equations.now) → OnOk result (room.new + right_side (row_of rows z) ≡ room.old) }
+    ensures too_large { (rows : Rows) → Solves rows (map equation_of equations.now) → IfErr result (λ f. f ≡ TooLarge → room.old < right_side (row_of rows z)) }
+{
+    let head = head_of(alloc, equations, z, MOST_STEPS)?;
+    let rules = carry(alloc, head.rules, &head.rest, room)?;
+    Ok(Rules::new(rules))
+}
+
+/// The rules of all non-terminals.
+pub(crate) fn rows_of(alloc: Global, equations: &[Equation]) -> Result<Vec<Rules>, TranslateFault>
+    requires few { length equations.now < 2 ^ 32 }
+    requires grounded { (rank : ℕ → ℕ) × IsGrounded rank most_rank (map equation_of equations.now) }
+    requires ordered { (rows : Rows) × Solves rows (map equation_of equations.now) × All AreOrdered rows }
+    ensures rules { (rows : Rows) → Solves rows (map equation_of equations.now) → IfOk result (λ r. r.items ≡ rows) }
+    ensures small { IfOk result (λ r. right_sides r.items ≤ most_letters) }
+    ensures too_large { (rows : Rows) → Solves rows (map equation_of equations.now) → IfErr result (λ f. f ≡ TooLarge → most_letters < right_sides rows) }
+{
+    let mut rows = Vec::new(alloc);
+    let mut room = MOST_LETTERS;
+    for z in 0..equations.len() {
+        let rules = row(alloc, equations, z as u32, &mut room)?;
+        add_row(&mut rows, rules)?;
+    }
+    Ok(rows)
+}
+
+fn add_row(rows: &mut Vec<Rules>, rules: Rules) -> Result<(), AllocError>
+    ensures { OnOk result (rows.new.items ≡ rows.old.items ++ rules ∷ []) }
+{
+    rows.push(rules)?;
+    Ok(())
+}

@@ -1,0 +1,85 @@
+ghost use Rattle.std.specs.Prelude.{◌≡◌, ◌≤◌, ◌<◌, ◌+◌, ◌^◌, All, ◌++◌, [], List, IfErr, IfOk, map};
+ghost use Rattle.fst_types.specs.Size.{nodes};
+ghost use Rattle.fst_types.specs.declared.kind.Kind.{Kind};
+ghost use Rattle.fst_kinds.specs.WellFormed.{IsSession};
+ghost use Rattle.fst_words.specs.Words.{StandsFor};
+ghost use Rattle.fst_grammar.specs.Labels.{labels_in, names};
+ghost use Rattle.fst_grammar.specs.Letters.{inserted_all};
+ghost use Rattle.fst_grammar.specs.Parts.{parts_of};
+ghost use Rattle.fst_grammar.specs.Translation.{IsTranslation, IsInRange, IsSmall, IsTooLarge, right_sides, most_letters, most_nodes};
+ghost use Rattle.fst_grammar.specs.Done.{IsDone};
+ghost use Rattle.fst_grammar.specs.Views.{part_of, IsTable};
+ghost use Rattle.fst_grammar.specs.declared.fault.TranslateFault.TheVariants.{TooLarge};
+
+use crate::equations::equations_of;
+use crate::fault::TranslateFault;
+use crate::letters::{add_labels, names_among};
+use crate::parts::{Binders, note_all};
+use crate::rows::rows_of;
+use crate::table::Table;
+use crate::words::word_of;
+use fst_types::{Ty, size};
+use fst_words::{Grammar, Word};
+use std::alloc::{AllocError, Global};
+
+const MOST_NODES: u64 = 4096;
+
+/// The grammar of two session types, and the words that stand for the left and the right one.
+pub fn translate(alloc: Global, s: &Ty, r: &Ty) -> Result<(Grammar, Word, Word), TranslateFault>
+    requires session_left { (vars : List Kind) × IsSession vars s.now }
+    requires session_right { (vars : List Kind) × IsSession vars r.now }
+    ensures translation { IfOk result (λ t. IsTranslation s.now r.now t.0.letters.items t.0.rules.items t.1 t.2) }
+    ensures left { IfOk result (λ t. StandsFor t.0.letters.items t.0.rules.items t.1 s.now) }
+    ensures right { IfOk result (λ t. StandsFor t.0.letters.items t.0.rules.items t.2 r.now) }
+    ensures range { IfOk result (λ t. IsInRange t.0.letters.items t.0.rules.items t.1 t.2) }
+    ensures small { IfOk result (λ t. IsSmall s.now r.now t.0.rules.items) }
+    ensures too_large { IfErr result (λ f. f ≡ TooLarge → IsTooLarge s.now r.now) }
+{
+    if size(s) > MOST_NODES || size(r) > MOST_NODES {
+        return Err(TranslateFault::TooLarge);
+    }
+    translate_small(alloc, s, r)
+}
+
+/// The same of types within the limit.
+fn translate_small(alloc: Global, s: &Ty, r: &Ty) -> Result<(Grammar, Word, Word), TranslateFault>
+    requires session_left { (vars : List Kind) × IsSession vars s.now }
+    requires session_right { (vars : List Kind) × IsSession vars r.now }
+    requires few_left { nodes s.now ≤ most_nodes }
+    requires few_right { nodes r.now ≤ most_nodes }
+    ensures done { IfOk result (λ t. IsDone s.now r.now t.0.letters.items t.0.rules.items t.1 t.2) }
+    ensures small { IfOk result (λ t. right_sides t.0.rules.items ≤ most_letters) }
+    ensures too_large { IfErr result (λ f. f ≡ TooLarge → IsTooLarge s.now r.now) }
+{
+    let table = table_of(alloc, s, r)?;
+    let left = word_of(alloc, &table, &[], s, 0, s)?;
+    let right = word_of(alloc, &table, &[], r, 0, r)?;
+    let equations = equations_of(alloc, &table)?;
+    let rules = rows_of(alloc, &equations)?;
+    let letters = table.letters;
+    Ok((Grammar { letters, rules }, left, right))
+}
+
+/// The letters, names and parts of two types.
+#[tactic(auto, using(crate::proofs::LabelLaws::inserted_append, crate::proofs::TableLaws::with_append, crate::proofs::SizeLaws::table_small, crate::proofs::SizeLaws::table_within))]
+fn table_of<'a>(alloc: Global, s: &'a Ty, r: &'a Ty) -> Result<Table<'a>, AllocError>
+    requires left { nodes s.now ≤ most_nodes }
+    requires right { nodes r.now ≤ most_nodes }
+    ensures letters { IfOk result (λ t. t.letters.items ≡ inserted_all [] (labels_in s.now ++ labels_in r.now)) }
+    ensures parts { IfOk result (λ t. map part_of t.parts.items ≡ parts_of s.now r.now) }
+    ensures table { IfOk result IsTable }
+    ensures within { IfOk result (λ t. All (λ p. p.at + nodes p.part.now < 2 ^ 31) t.parts.items) }
+{
+    let mut letters = Vec::new(alloc);
+    add_labels(alloc, &mut letters, s)?;
+    add_labels(alloc, &mut letters, r)?;
+    let names = names_among(alloc, &letters)?;
+    let mut parts = Vec::new(alloc);
+    note_all(alloc, &mut parts, s, 0, &Binders::Top, s)?;
+    note_all(alloc, &mut parts, r, 0, &Binders::Top, r)?;
+    Ok(Table {
+        letters,
+        names,
+        parts,
+    })
+}

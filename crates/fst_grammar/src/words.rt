@@ -1,0 +1,90 @@
+ghost use Rattle.std.specs.Prelude.{◌≡◌, ◌+◌, ◌<◌, ◌^◌, ◌++◌, ◌∷◌, [], IfOk, OnOk};
+ghost use Rattle.fst_types.specs.Size.{nodes};
+ghost use Rattle.fst_grammar.specs.Place.{binder};
+ghost use Rattle.fst_grammar.specs.Word.{word};
+ghost use Rattle.fst_grammar.specs.Views.{numbers_in, place_in, IsTable};
+
+use crate::closing::node_count;
+use crate::table::Table;
+use fst_lts::terminated;
+use fst_types::{Label, Ty, TyForm};
+use fst_words::Word;
+use std::alloc::{AllocError, Global};
+
+#[tactic(auto, using(crate::proofs::BranchLaws::binder_read, crate::proofs::BranchLaws::binder_past))]
+fn binder_at(binders: &[u32], k: u32) -> u32
+    ensures { result ≡ binder binders.now k }
+{
+    if (k as usize) < binders.len() {
+        binders[k as usize]
+    } else {
+        0
+    }
+}
+
+fn add(out: &mut Vec<u32>, n: u32) -> Result<(), AllocError>
+    ensures { OnOk result (out.new.items ≡ out.old.items ++ n ∷ []) }
+{
+    out.push(n)?;
+    Ok(())
+}
+
+/// Puts the word of a part at its place behind a word.
+fn push_word(
+    out: &mut Vec<u32>,
+    table: &Table<'_>,
+    binders: &[u32],
+    whole: &Ty,
+    at: u32,
+    t: &Ty,
+) -> Result<(), AllocError>
+    requires table { IsTable table.now }
+    requires fits { at + nodes t.now < 2 ^ 31 }
+    ensures { OnOk result (out.new.items ≡ out.old.items ++ word (numbers_in table.now) (place_in whole.now at binders.now) t.now) }
+{
+    match &t.form {
+        TyForm::Send(base) => add(out, table.name(&Label::Send(*base))),
+        TyForm::Receive(base) => add(out, table.name(&Label::Receive(*base))),
+        TyForm::Var(k) => add(out, table.name(&Label::Var(*k))),
+        TyForm::Back(k) => add(out, table.node(whole, binder_at(binders, *k))),
+        TyForm::Select(_) => add(out, table.number(whole, at, t)),
+        TyForm::Offer(_) => add(out, table.number(whole, at, t)),
+        TyForm::Seq(first, second) => {
+            push_word(out, table, binders, whole, at + 1, first)?;
+            push_word(
+                out,
+                table,
+                binders,
+                whole,
+                at + (1 + node_count(first)),
+                second,
+            )
+        }
+        TyForm::Rec(body) => {
+            if terminated(body) {
+                Ok(())
+            } else {
+                add(out, table.number(whole, at, t))
+            }
+        }
+        _ => Ok(()),
+    }
+}
+
+/// The word of a part at its place.
+pub(crate) fn word_of(
+    alloc: Global,
+    table: &Table<'_>,
+    binders: &[u32],
+    whole: &Ty,
+    at: u32,
+    t: &Ty,
+) -> Result<Word, AllocError>
+    requires table { IsTable table.now }
+    requires fits { at + nodes t.now < 2 ^ 31 }
+    ensures { IfOk result (λ w. w ≡ word (numbers_in table.now) (place_in whole.now at binders.now) t.now) }
+{
+    let mut out = Vec::new(alloc);
+    push_word(&mut out, table, binders, whole, at, t)?;
+    Word::of(alloc, &out)
+}
