@@ -20,13 +20,13 @@ use Rattle.fst_grammar.specs.Letters.{inserted, inserted_by, inserted_all}
 use Rattle.fst_grammar.proofs.LetterLaws.{Known}
 use Rattle.fst_grammar.proofs.FitLaws.{AreKnown, AllKnown}
 
-head_in : (xs : List Label) (a b : Label) → b ≡ a → Contains (b ∷ xs) a
+pub head_in : (xs : List Label) (a b : Label) → b ≡ a → Contains (b ∷ xs) a
 head_in xs a b e = (0, omega arith, e)
 
-tail_in : (xs : List Label) (a b : Label) → Contains xs a → Contains (b ∷ xs) a
+pub tail_in : (xs : List Label) (a b : Label) → Contains xs a → Contains (b ∷ xs) a
 tail_in xs a b h = (suc h.0, omega (arith, h.1), h.2)
 
-from_cons : (xs : List Label) (a b : Label) → Contains (b ∷ xs) a → (b ≡ a) ⊎ Contains xs a
+pub from_cons : (xs : List Label) (a b : Label) → Contains (b ∷ xs) a → (b ≡ a) ⊎ Contains xs a
 from_cons xs a b (zero, lt, e) = inl e
 from_cons xs a b (suc k, lt, e) = inr (k, omega arith, e)
 

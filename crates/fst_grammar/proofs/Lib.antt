@@ -12,6 +12,7 @@ pub mod SoundLaws
 pub mod SolveLaws
 pub mod LabelLaws
 pub mod TranslationLaws
+pub mod UniqueLaws
 pub mod BranchLaws
 pub mod InsertLaws
 pub mod HeadLaws

@@ -35,7 +35,7 @@ row_map f (x ∷ es) zero e g =
     ap f is
 row_map f (x ∷ es) (suc m) e g = row_map f es m e g
 
-get_there : (es : List Equation) (m : ℕ) → m < length es → (e : Equation) × (slice_get es m ≡ Some e)
+pub get_there : (es : List Equation) (m : ℕ) → m < length es → (e : Equation) × (slice_get es m ≡ Some e)
 get_there [] m lt = absurd (omega arith)
 get_there (x ∷ es) zero lt = (x, refl)
 get_there (x ∷ es) (suc m) lt = get_there es m (omega arith)

@@ -27,11 +27,11 @@ use Rattle.fst_grammar.proofs.FitLaws.{AllKnown, AreBinders, IsFit, AreFit, fit_
 
 -- rising letters
 
-rising_rest : (l : Label) (letters : List Label) → IsRising (l ∷ letters) → IsRising letters
+pub rising_rest : (l : Label) (letters : List Label) → IsRising (l ∷ letters) → IsRising letters
 rising_rest l [] h = tt
 rising_rest l (m ∷ letters) h = h.1
 
-rising_first : (l a : Label) (letters : List Label) → IsRising (l ∷ letters) → Known letters a → label_cmp l a ≡ Less
+pub rising_first : (l a : Label) (letters : List Label) → IsRising (l ∷ letters) → Known letters a → label_cmp l a ≡ Less
 rising_first l a [] h k = absurd (omega arith)
 rising_first l a (m ∷ letters) h k = pick (rising_first m a letters h.1) (same_label a m) refl k
   where
@@ -39,7 +39,7 @@ rising_first l a (m ∷ letters) h k = pick (rising_first m a letters h.1) (same
     pick next true is lt = ap (label_cmp l) (same_label-same a m is) ∙ h.0
     pick next false is lt = label_cmp_total.trans l m a h.0 (next (omega arith))
 
-not_less : (a : Label) → label_cmp a a ≡ Less → ⊥
+pub not_less : (a : Label) → label_cmp a a ≡ Less → ⊥
 not_less a e = absurd (cc (sym (ap is_eq e) ∙ same_label-itself a))
 
 -- a lesser label has an earlier place

@@ -3,7 +3,9 @@ use Rattle.std.specs.Prelude.{◌≡◌, ℕ, ◌+◌, ◌<◌, ◌≤◌, ◌�
 use Rattle.std.specs.List.{sum_by}
 use Rattle.fst_types.specs.Tree.{Tree}
 use Rattle.fst_types.specs.Size.{nodes}
+use Rattle.fst_types.specs.declared.kind.Kind.{Kind}
 use Rattle.fst_types.specs.declared.label.Label.{Label}
+use Rattle.fst_kinds.specs.WellFormed.{IsSession}
 use Rattle.fst_words.specs.declared.rules.Rule.{Rule}
 use Rattle.fst_lts.specs.Rising.{IsRising}
 use Rattle.fst_words.specs.Words.{Rows, WordBelow, InRange, LettersBelow}
@@ -62,3 +64,9 @@ abbrev pub IsTooLarge : Tree → Tree → Type 0
 IsTooLarge s r =
     ((most_nodes < nodes s) ⊎ (most_nodes < nodes r))
     ⊎ ((letters : List Label) × (rows : Rows) × IsGrammar s r letters rows × (most_letters < right_sides rows))
+
+-- two session types within the limit on nodes have at most one grammar
+abbrev pub OneGrammar : Type 0
+OneGrammar =
+    (vars others : List Kind) (s r : Tree) → IsSession vars s → IsSession others r → nodes s ≤ most_nodes → nodes r ≤ most_nodes →
+    (letters more : List Label) (rows rules : Rows) → IsGrammar s r letters rows → IsGrammar s r more rules → (letters ≡ more) × (rows ≡ rules)

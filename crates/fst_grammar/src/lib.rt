@@ -5,6 +5,7 @@ mod closing;
 mod equations;
 mod fault;
 mod found;
+mod laws;
 mod letters;
 mod parts;
 mod rows;
@@ -13,6 +14,7 @@ mod translation;
 mod words;
 
 pub use fault::TranslateFault;
+pub use laws::one_grammar;
 pub use translation::translate;
 
 #[cfg(test)]

@@ -1,8 +1,0 @@
-use Rattle.std.specs.Prelude.{codes, string_bytes}
-use Rattle.fst_command.proofs.Runs.{one_word}
-use Rattle.fst_command.proofs.run.is_equiv.Goals as goal
-
-pub returns-in-len1 : goal.returns-in-len1
-returns-in-len1 c =
-    one_word string_bytes c.args.words.now c.word-item.result c.eq.result c.as_str.result.now (codes "equiv")
-    c.word-item.is c.in-len1.len_at_least c.in-len1.len_below c.as_str.ensures.value c.eq.ensures
