@@ -1,122 +1,200 @@
 -- Words and bytes have at most one output.
-use Rattle.std.proofs.Common.{◌≡◌, ◌∙◌, ◌⊎◌, ◌↔◌, inl, inr, ⊎_elim, ℕ, List, [], ◌∷◌, length, Option, Some, None, refl, sym, ap, subst, arith}
-use Rattle.std.specs.Prelude.{IsSome, option_and_then}
-use Rattle.std.specs.declared.cmp.Ordering.{Ordering}
-use Rattle.std.specs.declared.cmp.Ordering.TheVariants.{Less, Equal, Greater}
-use Rattle.std.specs.Ordering.{ordering_then, ordering_reverse, is_eq}
-use Rattle.std.specs.Cmp.Lexicographic.{slice_cmp}
-use Rattle.std.proofs.lemmas.Cmp.{lists_total}
-use Rattle.std.proofs.lemmas.Bool.{cases_lt}
+use Rattle.std.proofs.Common.{◌≡◌, ◌∙◌, ◌⊎◌, inl, inr, ℕ, ◌≤◌, List, [], ◌∷◌, length, Result, Ok, Err, refl, sym, ap, subst, arith}
+use Rattle.std.specs.Prelude.{◌≢◌, IfOk, codes}
+use Rattle.std.specs.Str.Parse.{digits_value}
+use Rattle.std.proofs.lemmas.List.{append_cancel_left}
 use Rattle.fst_types.specs.Tree.{Tree}
-use Rattle.fst_types.specs.Order.{label_cmp}
-use Rattle.fst_types.specs.declared.label.Label.{Label}
-use Rattle.fst_types.specs.declared.side.Side.{Side}
-use Rattle.fst_types.specs.declared.side.Side.TheVariants.{Left, Right}
-use Rattle.fst_types.proofs.Labels.{same_label-same, label_cmp_total}
-use Rattle.fst_lts.specs.Step.{step}
-use Rattle.fst_lts.specs.Agree.{residual, Performs, BothOrNeither, AgreeTo}
-use Rattle.fst_lts.specs.Words.{IsBefore, PerformsAlone, IsLeastDifference}
+use Rattle.fst_kinds.specs.declared.fault.KindFault.{KindFault}
+use Rattle.fst_kinds.specs.declared.fault.KindFault.TheVariants.{Memory}
+use Rattle.fst_kinds.specs.WellFormed.{IsSession}
+use Rattle.fst_equiv.specs.Answers.{Answers, OneAnswer}
+use Rattle.std.specs.declared.alloc.AllocError.{AllocError}
+use Rattle.fst_command.specs.declared.answer.Answer.{Answer as Written}
+use Rattle.fst_command.specs.declared.status.Status.{Status}
 use Rattle.fst_command.specs.declared.status.Status.TheVariants as status
-use Rattle.fst_command.specs.Texts.{no_text}
-use Rattle.fst_command.specs.Output.{SaysYes, SaysNo, IsAnswer, OneOutput}
-use Rattle.fst_command.proofs.QuestionLaws.{one_question}
+use Rattle.fst_command.specs.Limits.{most_bytes}
+use Rattle.fst_command.specs.Words.{IsBudget, IsOption, IsEquiv}
+use Rattle.fst_command.specs.Question.{IsQuestion, NoQuestion}
+use Rattle.fst_command.specs.Texts.{fault_text, refused_text}
+use Rattle.fst_command.specs.Output.{session_kind, answer_text, status_of, AnswersQuestion, IsFault, IsRefusal, IsOutput, OneOutput}
+use Rattle.fst_command.proofs.QuestionLaws.{one_question, question_scoped, question_sorted}
+use Rattle.fst_command.proofs.SessionLaws.{no_fault}
 
--- ---- the order of words is total
+-- ---- the words
 
-both_equal : (o p : Ordering) → ordering_then o p ≡ Equal → (o ≡ Equal) × (p ≡ Equal)
-both_equal Less p e = absurd (cc e)
-both_equal Equal p e = (refl, e)
-both_equal Greater p e = absurd (cc e)
+same_budget : (digits others : List ℕ) (m n : ℕ) → digits ≡ others → IsBudget digits m → IsBudget others n → m ≡ n
+same_budget digits others m n same p q = p.value ∙ ap (λ ds. digits_value 10 ds) same ∙ sym q.value
 
-equal_words : (v w : List Label) → slice_cmp label_cmp v w ≡ Equal → v ≡ w
-equal_words [] [] e = refl
-equal_words [] (b ∷ w) e = absurd (cc e)
-equal_words (a ∷ v) [] e = absurd (cc e)
-equal_words (a ∷ v) (b ∷ w) e =
-    let both = both_equal (label_cmp a b) (slice_cmp label_cmp v w) e in
-    λ i. same_label-same a b (ap is_eq both.0) i ∷ equal_words v w both.1 i
+one_option : (ws : List (List ℕ)) (m n : ℕ) → IsOption ws m → IsOption ws n → m ≡ n
+one_option [] m n p q = p ∙ sym q
+one_option (w ∷ []) m n p q = same_budget p.0 q.0 m n (append_cancel_left (codes "--budget=") p.0 q.0 (sym p.1 ∙ q.1)) p.2 q.2
+one_option (w ∷ digits ∷ []) m n p q = same_budget digits digits m n refl p.1 q.1
+one_option (w ∷ digits ∷ v ∷ ws) m n p q = absurd p
 
-one_before : (v w : List Label) → IsBefore label_cmp v w ⊎ ((v ≡ w) ⊎ IsBefore label_cmp w v)
-one_before v w = ⊎_elim (λ lt. inl (inl lt)) (λ le. ⊎_elim (λ gt. inr (inr (inl gt))) (λ ge. by_labels (omega arith) (slice_cmp label_cmp v w) refl) (cases_lt (length w) (length v))) (cases_lt (length v) (length w))
-  where
-    by_labels : length v ≡ length w → (o : Ordering) → slice_cmp label_cmp v w ≡ o → IsBefore label_cmp v w ⊎ ((v ≡ w) ⊎ IsBefore label_cmp w v)
-    by_labels same Less e = inl (inr (same, e))
-    by_labels same Equal e = inr (inl (equal_words v w e))
-    by_labels same Greater e = inr (inr (inr (sym same, (lists_total label_cmp_total).antisymm w v ∙ ap ordering_reverse e)))
+-- words set at most one budget
+one_budget : (ws : List (List ℕ)) (m n : ℕ) → IsEquiv ws m → IsEquiv ws n → m ≡ n
+one_budget [] m n p q = absurd p
+one_budget (w ∷ ws) m n p q = one_option ws m n p.1 q.1
 
--- ---- a question has one answer
+-- ---- what belongs to a question
 
-not_both : (s r : Tree) (w : List Label) (side : Side) → PerformsAlone step step s r w side → (Performs step s w ↔ Performs step r w) → ⊥
-not_both s r w Left only same = only.1 (same.0 only.0)
-not_both s r w Right only same = only.1 (same.1 only.0)
+-- what belongs to a type that is no session type
+module _ (words : List (List ℕ)) (budget : ℕ) (command : IsEquiv words budget) (bytes text : List ℕ) (short : length bytes ≤ most_bytes) (left right : Tree) (left_at right_at : ℕ)
+    (question : IsQuestion bytes left right left_at right_at) (fault : KindFault) (found : fault ≢ Memory) where
+  pub left_refused : session_kind left ≡ Err fault → text ≡ fault_text bytes left_at fault → IsOutput words bytes text status.Refused
+  left_refused shown written = record {
+    budget = budget;
+    command = command;
+    short = short;
+    why = inr (record { left = left; right = right; left_at = left_at; right_at = right_at; question = question; fault = fault; found = found; shown = inl (shown, written) });
+  }
 
-one_side : (s r : Tree) (w : List Label) (x y : Side) → PerformsAlone step step s r w x → PerformsAlone step step s r w y → x ≡ y
-one_side s r w Left Left p q = refl
-one_side s r w Left Right p q = absurd (p.1 q.0)
-one_side s r w Right Left p q = absurd (p.1 q.0)
-one_side s r w Right Right p q = refl
+  pub right_refused : IsSession [] left → session_kind right ≡ Err fault → text ≡ fault_text bytes right_at fault → IsOutput words bytes text status.Refused
+  right_refused session shown written = record {
+    budget = budget;
+    command = command;
+    short = short;
+    why = inr (record { left = left; right = right; left_at = left_at; right_at = right_at; question = question; fault = fault; found = found; shown = inr (session, shown, written) });
+  }
 
--- at most one word is the least difference
-one_word : (s r : Tree) (v w : List Label) (x y : Side) → IsLeastDifference step step label_cmp s r v x → IsLeastDifference step step label_cmp s r w y → v ≡ w
-one_word s r v w x y p q = ⊎_elim
-    (λ before. absurd (not_both s r v x p.alone (q.least v before)))
-    (λ other. ⊎_elim (λ same. same) (λ after. absurd (not_both s r w y q.alone (p.least w after))) other)
-    (one_before v w)
+-- a refusal with its text and status, if there is one
+module _ (bytes : List ℕ) (budget : ℕ) (short : length bytes ≤ most_bytes) (left right : Tree) (left_at right_at : ℕ)
+    (question : IsQuestion bytes left right left_at right_at) (fault : KindFault) (found : fault ≢ Memory) where
+  pub left_output : (r : Result Written AllocError) → session_kind left ≡ Err fault → IfOk r (λ a. a.status ≡ status.Refused) → IfOk r (λ a. a.text.items ≡ fault_text bytes left_at fault) →
+      IfOk r (λ a. (words : List (List ℕ)) → IsEquiv words budget → IsOutput words bytes a.text.items a.status)
+  left_output (Ok a) shown ended written = λ words command.
+      subst (IsOutput words bytes a.text.items) (sym ended)
+      (left_refused words budget command bytes a.text.items short left right left_at right_at question fault found shown written)
+  left_output (Err e) shown ended written = tt
 
-one_no : (s r : Tree) (v w : List Label) (x y : Side) → IsLeastDifference step step label_cmp s r v x → IsLeastDifference step step label_cmp s r w y → no_text v x ≡ no_text w y
-one_no s r v w x y p q =
-    let word = one_word s r v w x y p q in
-    let side = one_side s r w x y (subst (λ z. PerformsAlone step step s r z x) word p.alone) q.alone in
-    λ i. no_text (word i) (side i)
+  pub right_output : (r : Result Written AllocError) → IsSession [] left → session_kind right ≡ Err fault → IfOk r (λ a. a.status ≡ status.Refused) →
+      IfOk r (λ a. a.text.items ≡ fault_text bytes right_at fault) →
+      IfOk r (λ a. (words : List (List ℕ)) → IsEquiv words budget → IsOutput words bytes a.text.items a.status)
+  right_output (Ok a) session shown ended written = λ words command.
+      subst (IsOutput words bytes a.text.items) (sym ended)
+      (right_refused words budget command bytes a.text.items short left right left_at right_at question fault found session shown written)
+  right_output (Err e) session shown ended written = tt
 
--- types that agree perform the same words
-words_after : (n : ℕ) (w : List Label) (o p : Option Tree) → ((x y : Tree) → AgreeTo step step n x y → (Performs step x w ↔ Performs step y w)) →
-    BothOrNeither (AgreeTo step step n) o p → (IsSome (option_and_then (λ y. residual step y w) o) ↔ IsSome (option_and_then (λ y. residual step y w) p))
-words_after n w None None h b = (λ i. i, λ i. i)
-words_after n w None (Some y) h b = absurd b
-words_after n w (Some x) None h b = absurd b
-words_after n w (Some x) (Some y) h b = h x y b
+-- ---- one output
 
-words_of_agreeing : (w : List Label) (x y : Tree) → AgreeTo step step (length w) x y → (Performs step x w ↔ Performs step y w)
-words_of_agreeing [] x y h = (λ i. i, λ i. i)
-words_of_agreeing (a ∷ w) x y h = words_after (length w) w (step x a) (step y a) (words_of_agreeing w) (h a)
+module _ (law : OneAnswer) (words : List (List ℕ)) (bytes : List ℕ) where
+  one_answered : (t u : List ℕ) (s r : Status) → AnswersQuestion words bytes t s → AnswersQuestion words bytes u r → (t ≡ u) × (s ≡ r)
+  one_answered t u s r p q =
+      let same = one_question bytes p.left p.right q.left q.right p.left_at p.right_at q.left_at q.right_at p.question q.question in
+      let budget = one_budget words p.budget q.budget p.command q.command in
+      let moved : Answers q.left q.right q.budget p.answer.answer =
+      subst (λ n. Answers q.left q.right n p.answer.answer) budget
+      (subst (λ z. Answers q.left z p.budget p.answer.answer) same.1 (subst (λ z. Answers z p.right p.budget p.answer.answer) same.0 p.answer.answers)) in
+      let one = law [] [] q.left q.right q.budget q.left_session q.right_session p.answer.answer q.answer.answer moved q.answer.answers in (
+        p.answer.written ∙ (λ i. answer_text bytes (same.2 i) (budget i) (one i)) ∙ sym q.answer.written,
+        p.answer.ended ∙ ap status_of one ∙ sym q.answer.ended,
+      )
 
-not_yes_and_no : (s r : Tree) (t u : List ℕ) → SaysYes s r t → SaysNo s r u → ⊥
-not_yes_and_no s r t u p q = not_both s r q.word q.side q.least.alone (words_of_agreeing q.word s r (p.agree (length q.word)))
+  -- a question that has an answer has no fault
+  not_answered : (t u : List ℕ) (s : Status) → AnswersQuestion words bytes t s → IsFault bytes u → ⊥
+  not_answered t u s p q = by q.shown
+    where
+      same : (q.left ≡ p.left) × (q.right ≡ p.right) × (q.left_at ≡ p.left_at) × (q.right_at ≡ p.right_at)
+      same = one_question bytes q.left q.right p.left p.right q.left_at q.right_at p.left_at p.right_at q.question p.question
 
-one_text : (s r : Tree) (t u : List ℕ) → SaysYes s r t ⊎ SaysNo s r t → SaysYes s r u ⊎ SaysNo s r u → t ≡ u
-one_text s r t u (inl p) (inl q) = p.written ∙ sym q.written
-one_text s r t u (inl p) (inr q) = absurd (not_yes_and_no s r t u p q)
-one_text s r t u (inr p) (inl q) = absurd (not_yes_and_no s r u t q p)
-one_text s r t u (inr p) (inr q) = p.written ∙ one_no s r p.word q.word p.side q.side p.least q.least ∙ sym q.written
+      by : ((session_kind q.left ≡ Err q.fault) × (u ≡ fault_text bytes q.left_at q.fault))
+          ⊎ (IsSession [] q.left × (session_kind q.right ≡ Err q.fault) × (u ≡ fault_text bytes q.right_at q.fault)) → ⊥
+      by (inl h) =
+          no_fault p.left q.fault (question_scoped bytes p.left p.right p.left_at p.right_at p.question).0
+          (question_sorted bytes p.left p.right p.left_at p.right_at p.question).0 p.left_session
+          (ap session_kind (sym same.0) ∙ h.0) q.found
+      by (inr h) =
+          no_fault p.right q.fault (question_scoped bytes p.left p.right p.left_at p.right_at p.question).1
+          (question_sorted bytes p.left p.right p.left_at p.right_at p.question).1 p.right_session
+          (ap session_kind (sym same.1) ∙ h.1) q.found
 
-one_answer : (bytes t u : List ℕ) → IsAnswer bytes t → IsAnswer bytes u → t ≡ u
-one_answer bytes t u p q =
-    let same = one_question bytes p.left p.right q.left q.right p.question q.question in
-    one_text q.left q.right t u
-    (subst (λ z. SaysYes q.left z t ⊎ SaysNo q.left z t) same.1 (subst (λ z. SaysYes z p.right t ⊎ SaysNo z p.right t) same.0 p.answer)) q.answer
+  not_refused : (t u : List ℕ) (s : Status) → AnswersQuestion words bytes t s → IsRefusal words bytes u → ⊥
+  not_refused t u s p q = by q.why
+    where
+      by : (NoQuestion bytes × (u ≡ refused_text)) ⊎ IsFault bytes u → ⊥
+      by (inl h) = h.0 p.left p.right p.left_at p.right_at p.question
+      by (inr h) = not_answered t u s p h
 
--- ---- all outputs
+  -- the fault of a side: its text, and that it is the first
+  abbrev Shown : Tree → Tree → ℕ → ℕ → KindFault → List ℕ → Type 0
+  Shown left right left_at right_at fault text =
+      ((session_kind left ≡ Err fault) × (text ≡ fault_text bytes left_at fault))
+      ⊎ (IsSession [] left × (session_kind right ≡ Err fault) × (text ≡ fault_text bytes right_at fault))
 
-pub one_output : OneOutput
-one_output words bytes t u status.Done status.Done p q = (one_answer bytes t u p.2 q.2, refl)
-one_output words bytes t u status.Done status.Refused p q = absurd (q.2 p.2.left p.2.right p.2.question)
-one_output words bytes t u status.Done status.Limit p q = absurd (omega (arith, p.1, q.1))
-one_output words bytes t u status.Done status.Words p q = absurd (q.0 p.0)
-one_output words bytes t u status.Done _ p q = absurd q
-one_output words bytes t u status.Refused status.Done p q = absurd (p.2 q.2.left q.2.right q.2.question)
-one_output words bytes t u status.Refused status.Refused p q = (p.3 ∙ sym q.3, refl)
-one_output words bytes t u status.Refused status.Limit p q = absurd (omega (arith, p.1, q.1))
-one_output words bytes t u status.Refused status.Words p q = absurd (q.0 p.0)
-one_output words bytes t u status.Refused _ p q = absurd q
-one_output words bytes t u status.Limit status.Done p q = absurd (omega (arith, p.1, q.1))
-one_output words bytes t u status.Limit status.Refused p q = absurd (omega (arith, p.1, q.1))
-one_output words bytes t u status.Limit status.Limit p q = (p.2 ∙ sym q.2, refl)
-one_output words bytes t u status.Limit status.Words p q = absurd (q.0 p.0)
-one_output words bytes t u status.Limit _ p q = absurd q
-one_output words bytes t u status.Words status.Done p q = absurd (p.0 q.0)
-one_output words bytes t u status.Words status.Refused p q = absurd (p.0 q.0)
-one_output words bytes t u status.Words status.Limit p q = absurd (p.0 q.0)
-one_output words bytes t u status.Words status.Words p q = (p.2 ∙ sym q.2, refl)
-one_output words bytes t u status.Words _ p q = absurd q
-one_output words bytes t u _ _ p q = absurd p
+  fault_is : (f g : KindFault) (t : Tree) → session_kind t ≡ Err f → session_kind t ≡ Err g → f ≡ g
+  fault_is f g t p q = let e : Err f ≡ Err g = sym p ∙ q in cc
+
+  one_shown : (left right : Tree) (i j : ℕ) (f g : KindFault) (t u : List ℕ) → IsQuestion bytes left right i j → f ≢ Memory → g ≢ Memory →
+      Shown left right i j f t → Shown left right i j g u → t ≡ u
+  one_shown left right i j f g t u question m n (inl p) (inl q) = p.1 ∙ ap (fault_text bytes i) (fault_is f g left p.0 q.0) ∙ sym q.1
+  one_shown left right i j f g t u question m n (inl p) (inr q) =
+      absurd (no_fault left f (question_scoped bytes left right i j question).0 (question_sorted bytes left right i j question).0 q.0 p.0 m)
+  one_shown left right i j f g t u question m n (inr p) (inl q) =
+      absurd (no_fault left g (question_scoped bytes left right i j question).0 (question_sorted bytes left right i j question).0 p.0 q.0 n)
+  one_shown left right i j f g t u question m n (inr p) (inr q) = p.2 ∙ ap (fault_text bytes j) (fault_is f g right p.1 q.1) ∙ sym q.2
+
+  one_fault : (t u : List ℕ) → IsFault bytes t → IsFault bytes u → t ≡ u
+  one_fault t u p q =
+      let same = one_question bytes p.left p.right q.left q.right p.left_at p.right_at q.left_at q.right_at p.question q.question in
+      one_shown q.left q.right q.left_at q.right_at p.fault q.fault t u q.question p.found q.found
+      (subst (λ z. Shown q.left q.right q.left_at z p.fault t) same.3
+      (subst (λ z. Shown q.left q.right z p.right_at p.fault t) same.2
+      (subst (λ z. Shown q.left z p.left_at p.right_at p.fault t) same.1
+      (subst (λ z. Shown z p.right p.left_at p.right_at p.fault t) same.0 p.shown))))
+      q.shown
+
+  one_refusal : (t u : List ℕ) → IsRefusal words bytes t → IsRefusal words bytes u → t ≡ u
+  one_refusal t u p q = by p.why q.why
+    where
+      by : (NoQuestion bytes × (t ≡ refused_text)) ⊎ IsFault bytes t → (NoQuestion bytes × (u ≡ refused_text)) ⊎ IsFault bytes u → t ≡ u
+      by (inl h) (inl k) = h.1 ∙ sym k.1
+      by (inl h) (inr k) = absurd (h.0 k.left k.right k.left_at k.right_at k.question)
+      by (inr h) (inl k) = absurd (k.0 h.left h.right h.left_at h.right_at h.question)
+      by (inr h) (inr k) = one_fault t u h k
+
+  one : (t u : List ℕ) (s r : Status) → IsOutput words bytes t s → IsOutput words bytes u r → (t ≡ u) × (s ≡ r)
+  one t u status.Done status.Done p q = one_answered t u status.Done status.Done p q
+  one t u status.Done status.Refused p q = absurd (not_refused t u status.Done p q)
+  one t u status.Done status.Words p q = absurd (q.0 p.budget p.command)
+  one t u status.Done status.Undecided p q = one_answered t u status.Done status.Undecided p q
+  one t u status.Done status.Limit p (inl q) = absurd (omega (arith, p.short, q.long))
+  one t u status.Done status.Limit p (inr q) = one_answered t u status.Done status.Limit p q
+  one t u status.Done _ p q = absurd q
+  one t u status.Refused status.Done p q = absurd (not_refused u t status.Done q p)
+  one t u status.Refused status.Refused p q = (one_refusal t u p q, refl)
+  one t u status.Refused status.Words p q = absurd (q.0 p.budget p.command)
+  one t u status.Refused status.Undecided p q = absurd (not_refused u t status.Undecided q p)
+  one t u status.Refused status.Limit p (inl q) = absurd (omega (arith, p.short, q.long))
+  one t u status.Refused status.Limit p (inr q) = absurd (not_refused u t status.Limit q p)
+  one t u status.Refused _ p q = absurd q
+  one t u status.Words status.Done p q = absurd (p.0 q.budget q.command)
+  one t u status.Words status.Refused p q = absurd (p.0 q.budget q.command)
+  one t u status.Words status.Words p q = (p.2 ∙ sym q.2, refl)
+  one t u status.Words status.Undecided p q = absurd (p.0 q.budget q.command)
+  one t u status.Words status.Limit p (inl q) = absurd (p.0 q.budget q.command)
+  one t u status.Words status.Limit p (inr q) = absurd (p.0 q.budget q.command)
+  one t u status.Words _ p q = absurd q
+  one t u status.Undecided status.Done p q = one_answered t u status.Undecided status.Done p q
+  one t u status.Undecided status.Refused p q = absurd (not_refused t u status.Undecided p q)
+  one t u status.Undecided status.Words p q = absurd (q.0 p.budget p.command)
+  one t u status.Undecided status.Undecided p q = one_answered t u status.Undecided status.Undecided p q
+  one t u status.Undecided status.Limit p (inl q) = absurd (omega (arith, p.short, q.long))
+  one t u status.Undecided status.Limit p (inr q) = one_answered t u status.Undecided status.Limit p q
+  one t u status.Undecided _ p q = absurd q
+  one t u status.Limit status.Done (inl p) q = absurd (omega (arith, q.short, p.long))
+  one t u status.Limit status.Done (inr p) q = one_answered t u status.Limit status.Done p q
+  one t u status.Limit status.Refused (inl p) q = absurd (omega (arith, q.short, p.long))
+  one t u status.Limit status.Refused (inr p) q = absurd (not_refused t u status.Limit p q)
+  one t u status.Limit status.Words (inl p) q = absurd (q.0 p.budget p.command)
+  one t u status.Limit status.Words (inr p) q = absurd (q.0 p.budget p.command)
+  one t u status.Limit status.Undecided (inl p) q = absurd (omega (arith, q.short, p.long))
+  one t u status.Limit status.Undecided (inr p) q = one_answered t u status.Limit status.Undecided p q
+  one t u status.Limit status.Limit (inl p) (inl q) = (p.written ∙ sym q.written, refl)
+  one t u status.Limit status.Limit (inl p) (inr q) = absurd (omega (arith, q.short, p.long))
+  one t u status.Limit status.Limit (inr p) (inl q) = absurd (omega (arith, p.short, q.long))
+  one t u status.Limit status.Limit (inr p) (inr q) = one_answered t u status.Limit status.Limit p q
+  one t u status.Limit _ p q = absurd q
+  one t u _ _ p q = absurd p
+
+pub one_output : OneAnswer → OneOutput
+one_output law words bytes t u s r p q = one law words bytes t u s r p q

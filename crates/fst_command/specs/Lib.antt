@@ -1,15 +1,13 @@
 pub mod Limits
 pub mod Status
+pub mod Words
 pub mod Tokens
 pub mod Arranged
 pub mod Grammar
 pub mod Question
 pub mod Reading
 pub mod Stops
-pub mod Finite
-pub mod Keys
-pub mod Search
-pub mod Verdicts
+pub mod Views
 pub mod Texts
 pub mod Output
 pub mod Top

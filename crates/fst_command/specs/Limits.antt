@@ -1,4 +1,4 @@
--- The limits of the finite form.
+-- The limits of the recursive form.
 use Rattle.std.specs.Prelude.{ℕ}
 
 -- how many types may stand inside one another

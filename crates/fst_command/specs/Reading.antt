@@ -8,14 +8,23 @@ use Rattle.fst_types.specs.declared.ty.Branch.{Branch}
 use Rattle.fst_types.specs.View.{branches_of}
 use Rattle.fst_types.specs.Size.{nodes}
 use Rattle.fst_command.specs.declared.token.Token.{Token}
-use Rattle.fst_command.specs.declared.token.Token.TheVariants.{Skip, Int, Bool as Truth, Char, Upper, Bang, Question, Plus, Ampersand, Semicolon, Comma, Colon, Tilde, LeftParen, RightParen, LeftBrace, RightBrace}
+use Rattle.fst_command.specs.declared.token.Token.TheVariants.{Skip, Int, Bool as Truth, Char, Rec, Upper, Lower, Bang, Question, Plus, Ampersand, Semicolon, Comma, Colon, Dot, Tilde, LeftParen, RightParen, LeftBrace, RightBrace}
 use Rattle.fst_command.specs.Arranged.{placed}
-use Rattle.fst_command.specs.Grammar.{alternative}
+use Rattle.fst_command.specs.Grammar.{alternative, binder_of}
 use Rattle.fst_command.specs.Limits.{most_nested, most_nodes}
 
 -- a value and the tokens behind it, where there is one
 abbrev pub Read : Type 0 → Type 0
 Read A = Option (A × List Token)
+
+-- a type that was read, the tokens from its first one on, and those behind it
+pub record Typed : Type 0 where
+  pub type : Tree
+  pub from : List Token
+  pub rest : List Token
+
+abbrev pub typed : Tree → List Token → List Token → Typed
+typed t from rest = record { type = t; from = from; rest = rest }
 
 -- a step and what follows it
 unfoldable pub bind : {A B : Type 0} → Option A → (A → Option B) → Option B
@@ -51,11 +60,6 @@ abbrev pub after_comma : List Token → Option (List Token)
 after_comma (Comma ∷ ts) = Some ts
 after_comma _ = None
 
--- what stands behind a colon
-abbrev pub after_colon : List Token → Option (List Token)
-after_colon (Colon ∷ ts) = Some ts
-after_colon _ = None
-
 -- what stands behind an opening brace
 abbrev pub after_left_brace : List Token → Option (List Token)
 after_left_brace (LeftBrace ∷ ts) = Some ts
@@ -66,10 +70,15 @@ abbrev pub after_right_brace : List Token → Option (List Token)
 after_right_brace (RightBrace ∷ ts) = Some ts
 after_right_brace _ = None
 
--- a label at the front
+-- a label at the front, and what stands behind its colon
 abbrev pub label_at : List Token → Read (List ℕ)
-label_at (Upper l ∷ ts) = Some (l, ts)
+label_at (Upper l ∷ Colon ∷ ts) = Some (l, ts)
 label_at _ = None
+
+-- the name that a `rec` at the front binds, and what stands behind its dot
+abbrev pub rec_at : List Token → Read (List ℕ)
+rec_at (Rec ∷ Lower x ∷ Dot ∷ ts) = Some (x, ts)
+rec_at _ = None
 
 unfoldable pub base_at : List Token → Read Base
 base_at (Int ∷ ts) = Some (base.Int, ts)
@@ -79,10 +88,10 @@ base_at (LeftParen ∷ ts) = after_right_paren ts >>= λ rest. Some (base.Unit, 
 base_at _ = None
 
 -- over the reader of the types inside
-module _ (inner : List Token → Read Tree) where
+module _ (inner : List Token → Option Typed) where
   -- one branch
   unfoldable pub alt_with : List Token → Read Branch
-  alt_with ts = label_at ts >>= λ l. after_colon l.1 >>= λ after. inner after >>= λ t. Some (alternative l.0 t.0, t.1)
+  alt_with ts = label_at ts >>= λ l. inner l.1 >>= λ t. Some (alternative l.0 t.type, t.rest)
 
   unfoldable pub alts_behind : (List Branch → List Token → Read (List Branch)) → List Branch → List Token → Option (List Token) → Read (List Branch)
   alts_behind more bs ts None = Some (bs, ts)
@@ -91,39 +100,49 @@ module _ (inner : List Token → Read Tree) where
   -- at most so many branches, put into their places among arranged ones
   unfoldable pub alts_with : ℕ → List Branch → List Token → Read (List Branch)
   alts_with zero bs ts = None
-  alts_with (suc m) bs ts = alt_with ts >>= λ b. placed b.0 bs >>= λ arranged. alts_behind (alts_with m) arranged b.1 (after_comma b.1)
+  alts_with (suc m) bs ts = alt_with ts >>= λ b. alts_behind (alts_with m) (placed b.0 bs) b.1 (after_comma b.1)
 
   -- the branches between braces
   unfoldable pub choice_with : List Token → Read (List Branch)
   choice_with ts = after_left_brace ts >>= λ after. alts_with (length after) [] after >>= λ bs. after_right_brace bs.1 >>= λ rest. Some (bs.0, rest)
 
-  unfoldable pub atom_with : List Token → Read Tree
-  atom_with (Skip ∷ ts) = Some (tree.skip, ts)
-  atom_with (Bang ∷ ts) = base_at ts >>= λ b. Some (tree.send b.0, b.1)
-  atom_with (Question ∷ ts) = base_at ts >>= λ b. Some (tree.receive b.0, b.1)
-  atom_with (LeftParen ∷ ts) = inner ts >>= λ t. after_right_paren t.1 >>= λ rest. Some (t.0, rest)
-  atom_with (Plus ∷ ts) = choice_with ts >>= λ bs. Some (tree.select (branches_of bs.0), bs.1)
-  atom_with (Ampersand ∷ ts) = choice_with ts >>= λ bs. Some (tree.offer (branches_of bs.0), bs.1)
-  atom_with _ = None
+  -- an atom, or the chain of it and the type behind its semicolon, which begins at the given tokens
+  unfoldable pub followed : List Token → Typed → Option (List Token) → Option Typed
+  followed ts t None = Some t
+  followed ts t (Some after) = inner after >>= λ u. Some (typed (tree.seq t.type u.type) ts u.rest)
 
-  unfoldable pub followed : Tree × List Token → Option (List Token) → Read Tree
-  followed t None = Some t
-  followed t (Some after) = inner after >>= λ u. Some (tree.seq t.0 u.0, u.1)
+  -- a type that is no chain and no `rec`, with the names of the binders around
+  unfoldable pub atom_with : List (List ℕ) → List Token → Option Typed
+  atom_with names (Skip ∷ ts) = Some (typed tree.skip (Skip ∷ ts) ts)
+  atom_with names (Bang ∷ ts) = base_at ts >>= λ b. Some (typed (tree.send b.0) (Bang ∷ ts) b.1)
+  atom_with names (Question ∷ ts) = base_at ts >>= λ b. Some (typed (tree.receive b.0) (Question ∷ ts) b.1)
+  atom_with names (LeftParen ∷ ts) = inner ts >>= λ t. after_right_paren t.rest >>= λ rest. Some (typed t.type t.from rest)
+  atom_with names (Plus ∷ ts) = choice_with ts >>= λ bs. Some (typed (tree.select (branches_of bs.0)) (Plus ∷ ts) bs.1)
+  atom_with names (Ampersand ∷ ts) = choice_with ts >>= λ bs. Some (typed (tree.offer (branches_of bs.0)) (Ampersand ∷ ts) bs.1)
+  atom_with names (Lower x ∷ ts) = binder_of names x >>= λ k. Some (typed (tree.back k) (Lower x ∷ ts) ts)
+  atom_with names _ = None
 
-  unfoldable pub seq_with : List Token → Read Tree
-  seq_with ts = atom_with ts >>= λ t. followed t (after_semicolon t.1)
+-- over the reader of the types inside, by the names of the binders around these
+module _ (inner : List (List ℕ) → List Token → Option Typed) (names : List (List ℕ)) where
+  -- by the name that a `rec` at the front binds: its body, or an atom and what follows it
+  unfoldable pub seq_behind : List Token → Read (List ℕ) → Option Typed
+  seq_behind ts None = atom_with (inner names) names ts >>= λ t. followed (inner names) ts t (after_semicolon t.rest)
+  seq_behind ts (Some x) = inner (x.0 ∷ names) x.1 >>= λ t. Some (typed (tree.rec t.type) ts t.rest)
 
--- a type, at most so many types deep
-unfoldable pub seq_at : ℕ → List Token → Read Tree
-seq_at zero ts = None
-seq_at (suc n) ts = seq_with (seq_at n) ts
+  unfoldable pub seq_with : List Token → Option Typed
+  seq_with ts = seq_behind ts (rec_at ts)
+
+-- a type, at most so many types deep, with the names of the binders around it
+unfoldable pub seq_at : ℕ → List (List ℕ) → List Token → Option Typed
+seq_at zero names ts = None
+seq_at (suc n) names ts = seq_with (seq_at n) names ts
 
 abbrev pub is_end : List Token → Bool
 is_end [] = true
 is_end (k ∷ ts) = false
 
--- a question
-unfoldable pub pair_at : List Token → Option (Tree × Tree)
+-- the two types of a question
+unfoldable pub pair_at : List Token → Option (Typed × Typed)
 pair_at ts =
-    seq_at most_nested ts >>= λ s. after_tilde s.1 >>= λ after. seq_at most_nested after >>= λ r.
-    when (is_end r.1) (when (nat_le (nodes s.0) most_nodes && nat_le (nodes r.0) most_nodes) (Some (s.0, r.0)))
+    seq_at most_nested [] ts >>= λ s. after_tilde s.rest >>= λ after. seq_at most_nested [] after >>= λ r.
+    when (is_end r.rest && (nat_le (nodes s.type) most_nodes && nat_le (nodes r.type) most_nodes)) (Some (s, r))

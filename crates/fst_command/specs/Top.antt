@@ -1,20 +1,23 @@
 -- What a run does to the source and the sink.
-use Rattle.std.specs.Prelude.{◌≡◌, ℕ, ◌<◌, ◌⊎◌, List, [], length, take, Option, ⊤}
+use Rattle.std.specs.Prelude.{◌≡◌, ℕ, ◌<◌, ◌≤◌, ◌⊎◌, List, [], length, take, Option, ⊤}
 use Rattle.std.specs.Io.KnownBytes.{Consumes, IsAtEnd, Appends}
 use Rattle.fst_io.specs.Faults.{Rose}
 use Rattle.fst_command.specs.declared.status.Status.{Status}
 use Rattle.fst_command.specs.declared.status.Status.TheVariants as status
-use Rattle.fst_command.specs.Output.{IsEquiv, IsOutput}
+use Rattle.fst_command.specs.Limits.{most_bytes}
+use Rattle.fst_command.specs.Words.{IsEquiv}
+use Rattle.fst_command.specs.Output.{IsOutput}
 
 -- what a source or a sink tells before and after a call: its bytes, where it tells them, and its count of faults
 pub record Told : Type 0 where
   pub bytes : Option (List ℕ)
   pub faults : ℕ
 
--- how much of the source was read for an output with this status: all of it, one byte more than the limit, or nothing
+-- how much of the source was read for an output with this status: nothing for the words, else these bytes, which are all
+-- of it unless they are over the limit
 abbrev pub WasRead : Status → Told → Told → List ℕ → Type 0
-WasRead status.Limit old new bytes = Consumes old.bytes new.bytes bytes
 WasRead status.Words old new bytes = new ≡ old
+WasRead status.Limit old new bytes = Consumes old.bytes new.bytes bytes × (length bytes ≤ most_bytes → IsAtEnd new.bytes)
 WasRead _ old new bytes = Consumes old.bytes new.bytes bytes × IsAtEnd new.bytes
 
 -- a text that with this status is an output of the words and of what was read
@@ -33,7 +36,7 @@ pub record WasCut (words : List (List ℕ)) (source read sink written : Told) : 
 -- how a run ends, by the words, the source before and after it, and the sink before and after it
 abbrev pub Meets : Status → List (List ℕ) → Told → Told → Told → Told → Type 0
 Meets status.ReadFault words source read sink written =
-    IsEquiv words × Rose source.faults read.faults × Appends sink.bytes written.bytes []
+    ((budget : ℕ) × IsEquiv words budget) × Rose source.faults read.faults × Appends sink.bytes written.bytes []
 Meets status.WriteFault words source read sink written =
     Rose sink.faults written.faults × WasCut words source read sink written
 Meets status.Memory words source read sink written =
@@ -43,6 +46,6 @@ Meets s words source read sink written =
 
 -- why there is no answer
 abbrev pub GaveUp : Status → List (List ℕ) → Told → Told → Type 0
-GaveUp status.ReadFault words source read = IsEquiv words × Rose source.faults read.faults
+GaveUp status.ReadFault words source read = ((budget : ℕ) × IsEquiv words budget) × Rose source.faults read.faults
 GaveUp status.Memory words source read = ⊤
 GaveUp _ words source read = ⊥

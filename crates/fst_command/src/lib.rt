@@ -2,15 +2,14 @@
 #![tactic(auto)]
 
 mod answer;
-mod compare;
 mod reader;
 mod run;
-mod seen;
 mod status;
 #[cfg(test)]
 mod tests;
 mod texts;
 mod token;
+mod words;
 
 pub use reader::one_question;
 pub use run::{one_output, top};

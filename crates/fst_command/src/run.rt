@@ -1,22 +1,15 @@
-ghost use Rattle.std.specs.Prelude.{◌≡◌, ◌↔◌, map, IfOk, IfErr, IsTrue, string_bytes};
-ghost use Rattle.fst_command.specs.Output.{IsEquiv, OneOutput};
+ghost use Rattle.std.specs.Prelude.{map, IfOk, IfErr, string_bytes};
+ghost use Rattle.fst_command.specs.Output.{OneOutput};
 ghost use Rattle.fst_command.specs.Top.{Meets, IsAnswered, GaveUp};
 
 use crate::answer::{Answer, MAX_LENGTH, answer_equiv, fixed};
 use crate::status::Status;
+use crate::words::equiv_budget;
+use fst_equiv::one_answer;
 use fst_io::{Gate, ReadFault, Sink, Source, WriteFault, read_all, write_all};
 use std::alloc::Global;
 
 const USAGE: &[u8] = b"usage: freest equiv|show|check|run|make\n";
-
-fn is_equiv(words: &[String]) -> bool
-    ensures { IsTrue result ↔ IsEquiv (map string_bytes words.now) }
-{
-    match words {
-        [word] => word.as_str() == "equiv",
-        _ => false,
-    }
-}
 
 // Reads the input, where the words want one, and finds the answer.
 fn answer<S: Source>(alloc: Global, words: &[String], source: &mut S) -> Result<Answer, Status>
@@ -28,11 +21,11 @@ fn answer<S: Source>(alloc: Global, words: &[String], source: &mut S) -> Result<
         (record { bytes = S.left source.old; faults = S.faults source.old })
         (record { bytes = S.left source.new; faults = S.faults source.new })) }
 {
-    if !is_equiv(words) {
+    let Some(budget) = equiv_budget(words) else {
         return Ok(fixed(alloc, Status::Words, USAGE)?);
-    }
+    };
     match read_all(alloc, source, MAX_LENGTH) {
-        Ok(bytes) => Ok(answer_equiv(alloc, &bytes)?),
+        Ok(bytes) => Ok(answer_equiv(alloc, &bytes, budget)?),
         Err(ReadFault::TooLong) => Ok(fixed(alloc, Status::Limit, b"limit length\n")?),
         Err(ReadFault::Failed) => Err(Status::ReadFault),
         Err(ReadFault::Memory) => Err(Status::Memory),
@@ -69,4 +62,6 @@ pub fn top<R, S: Source, K: Sink, G: Gate + Sync>(
 /// Words and bytes have at most one output: what is written is a function of what was read.
 pub fn one_output()
     ensures { OneOutput }
-{}
+{
+    one_answer();
+}

@@ -12,6 +12,8 @@ pub enum Status {
     Refused = 1,
     /// The words aren't those of a command; nothing was read.
     Words = 2,
+    /// The question has more pairs than the budget, and as many as the budget show no difference.
+    Undecided = 5,
     /// A read failed; nothing was written.
     ReadFault = 6,
     /// A write failed; a proper prefix of the text was written.

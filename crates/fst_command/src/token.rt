@@ -1,19 +1,21 @@
 ghost use Rattle.std.specs.Prelude.{◌≡◌, ◌≤◌, length, IfOk, MatchOption};
 ghost use Rattle.std.specs.List.{prefix_len, list_all, list_any};
 ghost use Rattle.std.specs.Str.{bytes_eq};
-ghost use Rattle.fst_command.specs.Tokens.{AreTokens, IsNext, IsNoWord, IsWordOf, NoToken, NoTokens, NoWord, begins_upper, continues_name, has_upper_form, is_blank, is_free, is_upper_name, reserved};
+ghost use Rattle.fst_command.specs.Tokens.{AreTokens, IsNext, IsNoWord, IsWordOf, NoToken, NoTokens, NoWord, begins_lower, begins_upper, continues_name, is_blank, is_free, is_lower_name, is_reserved, is_upper_name, capital_words, small_words};
 
 use fst_types::Name;
 use std::alloc::{AllocError, Global};
 
-/// A token of the finite form.
+/// A token of the recursive form.
 #[derive(Drop)]
 pub(crate) enum Token {
     Skip,
     Int,
     Bool,
     Char,
+    Rec,
     Upper(Name),
+    Lower(Name),
     Bang,
     Question,
     Plus,
@@ -21,11 +23,19 @@ pub(crate) enum Token {
     Semicolon,
     Comma,
     Colon,
+    Dot,
     Tilde,
     LeftParen,
     RightParen,
     LeftBrace,
     RightBrace,
+}
+
+/// The tokens of a text, and for each how many bytes stand from its first one on.
+#[derive(Drop)]
+pub(crate) struct TokenList {
+    pub(crate) tokens: Vec<Token>,
+    pub(crate) lefts: Vec<usize>,
 }
 
 /// The greatest number of bytes of a name.
@@ -43,17 +53,49 @@ fn continues_name(byte: u8) -> bool
     byte.is_ascii_alphanumeric() || b"_'".contains(&byte)
 }
 
-fn is_reserved(text: &[u8]) -> bool
-    ensures { result ≡ list_any (bytes_eq text.now) reserved }
+fn is_small_word(text: &[u8]) -> bool
+    ensures { result ≡ list_any (bytes_eq text.now) small_words }
 {
-    text == b"Skip".as_slice()
+    text == b"data".as_slice()
+        || text == b"type".as_slice()
+        || text == b"forall".as_slice()
+        || text == b"rec".as_slice()
+        || text == b"new".as_slice()
+        || text == b"send".as_slice()
+        || text == b"receive".as_slice()
+        || text == b"select".as_slice()
+        || text == b"match".as_slice()
+        || text == b"with".as_slice()
+        || text == b"case".as_slice()
+        || text == b"of".as_slice()
+        || text == b"let".as_slice()
+        || text == b"in".as_slice()
+        || text == b"if".as_slice()
+        || text == b"then".as_slice()
+        || text == b"else".as_slice()
+        || text == b"fork".as_slice()
+        || text == b"not".as_slice()
+        || text == b"close".as_slice()
+        || text == b"wait".as_slice()
+}
+
+fn is_capital_word(text: &[u8]) -> bool
+    ensures { result ≡ list_any (bytes_eq text.now) capital_words }
+{
+    text == b"True".as_slice()
+        || text == b"False".as_slice()
         || text == b"Int".as_slice()
         || text == b"Bool".as_slice()
         || text == b"Char".as_slice()
-        || text == b"True".as_slice()
-        || text == b"False".as_slice()
+        || text == b"Skip".as_slice()
         || text == b"Close".as_slice()
         || text == b"Wait".as_slice()
+}
+
+fn is_reserved(text: &[u8]) -> bool
+    ensures { result ≡ is_reserved text.now }
+{
+    is_small_word(text) || is_capital_word(text)
 }
 
 fn begins_upper(text: &[u8]) -> bool
@@ -65,16 +107,19 @@ fn begins_upper(text: &[u8]) -> bool
     }
 }
 
+fn begins_lower(text: &[u8]) -> bool
+    ensures { result ≡ begins_lower text.now }
+{
+    match text {
+        [first, ..] => first.is_ascii_lowercase() || *first == b'_',
+        [] => false,
+    }
+}
+
 fn continues_throughout(text: &[u8]) -> bool
     ensures { result ≡ list_all continues_name text.now }
 {
     text.iter().all(|byte| continues_name(*byte))
-}
-
-fn has_upper_form(text: &[u8]) -> bool
-    ensures { result ≡ has_upper_form text.now }
-{
-    begins_upper(text) && continues_throughout(text)
 }
 
 fn is_free(text: &[u8]) -> bool
@@ -86,7 +131,13 @@ fn is_free(text: &[u8]) -> bool
 fn is_upper_name(text: &[u8]) -> bool
     ensures { result ≡ is_upper_name text.now }
 {
-    has_upper_form(text) && is_free(text)
+    begins_upper(text) && continues_throughout(text) && is_free(text)
+}
+
+fn is_lower_name(text: &[u8]) -> bool
+    ensures { result ≡ is_lower_name text.now }
+{
+    begins_lower(text) && continues_throughout(text) && is_free(text)
 }
 
 // The token that is written as this word.
@@ -101,8 +152,12 @@ fn word(alloc: Global, text: &[u8]) -> Result<Option<Token>, AllocError>
         Ok(Some(Token::Bool))
     } else if text == b"Char".as_slice() {
         Ok(Some(Token::Char))
+    } else if text == b"rec".as_slice() {
+        Ok(Some(Token::Rec))
     } else if is_upper_name(text) {
         Ok(Some(Token::Upper(Name::of(alloc, text)?)))
+    } else if is_lower_name(text) {
+        Ok(Some(Token::Lower(Name::of(alloc, text)?)))
     } else {
         Ok(None)
     }
@@ -141,6 +196,7 @@ fn next_token(alloc: Global, text: &[u8]) -> Result<Option<(Token, &[u8])>, Allo
         [b';', rest @ ..] => Ok(Some((Token::Semicolon, rest))),
         [b',', rest @ ..] => Ok(Some((Token::Comma, rest))),
         [b':', rest @ ..] => Ok(Some((Token::Colon, rest))),
+        [b'.', rest @ ..] => Ok(Some((Token::Dot, rest))),
         [b'~', rest @ ..] => Ok(Some((Token::Tilde, rest))),
         [b'(', rest @ ..] => Ok(Some((Token::LeftParen, rest))),
         [b')', rest @ ..] => Ok(Some((Token::RightParen, rest))),
@@ -151,10 +207,11 @@ fn next_token(alloc: Global, text: &[u8]) -> Result<Option<(Token, &[u8])>, Allo
 }
 
 /// The tokens of a text, or none where it has none.
-pub(crate) fn tokens(alloc: Global, text: &[u8]) -> Result<Option<Vec<Token>>, AllocError>
-    ensures { IfOk result (λ o. MatchOption o (NoTokens text.now) (λ found. AreTokens text.now found.items)) }
+pub(crate) fn read_tokens(alloc: Global, text: &[u8]) -> Result<Option<TokenList>, AllocError>
+    ensures { IfOk result (λ o. MatchOption o (NoTokens text.now) (λ found. AreTokens text.now found.tokens.items found.lefts.items)) }
 {
-    let mut found = Vec::new(alloc);
+    let mut tokens = Vec::new(alloc);
+    let mut lefts = Vec::new(alloc);
     let mut rest = text;
     while let [first, others @ ..] = rest {
         if is_blank(*first) {
@@ -164,8 +221,9 @@ pub(crate) fn tokens(alloc: Global, text: &[u8]) -> Result<Option<Vec<Token>>, A
         let Some((token, behind)) = next_token(alloc, rest)? else {
             return Ok(None);
         };
-        found.push(token)?;
+        tokens.push(token)?;
+        lefts.push(rest.len())?;
         rest = behind;
     }
-    Ok(Some(found))
+    Ok(Some(TokenList { tokens, lefts }))
 }

@@ -1,5 +1,6 @@
 use Rattle.std.proofs.Common.{◌≡◌, ◌+◌, ◌-◌, ◌*◌, [], length}
 use Rattle.fst_command.specs.Reading.{alts_with, seq_at}
+use Rattle.fst_command.specs.Views.{names_of}
 use Rattle.fst_command.proofs.reader.+reader.Given as goal
 
 abbrev pub decreases-seq : goal.decreases-seq
@@ -19,4 +20,6 @@ decreases-atom l = 5 * l.left + 4
 
 abbrev pub invariant-alts-alts : goal.invariant-alts-alts
 invariant-alts-alts l =
-    (alts_with (seq_at l.left) (l.end - l.counter) l.branches.items l.rest ≡ alts_with (seq_at l.left) (length l.tokens) [] l.tokens) × (l.end ≡ length l.tokens)
+    (alts_with (seq_at l.left (names_of l.names)) (l.end - l.counter) l.branches.items l.rest
+    ≡ alts_with (seq_at l.left (names_of l.names)) (length l.tokens) [] l.tokens)
+    × (l.end ≡ length l.tokens)

@@ -1,5 +1,5 @@
 use Rattle.std.proofs.Common.{◌∙◌, ap, take}
-use Rattle.fst_command.proofs.TokenLaws.{name_of_next, next_of_word}
+use Rattle.fst_command.proofs.SpellingLaws.{name_of_next, next_of_word}
 use Rattle.fst_command.proofs.token.next_word.Goals as goal
 
 pub returns-in-Some : goal.returns-in-Some

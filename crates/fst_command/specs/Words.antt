@@ -1,0 +1,41 @@
+-- The words of the command line.
+use Rattle.std.specs.Prelude.{◌≡◌, ℕ, ◌≤◌, List, [], ◌∷◌, ◌++◌, length, codes, true}
+use Rattle.std.specs.List.{list_all}
+use Rattle.std.specs.Char.{is_ascii_digit}
+use Rattle.std.specs.Str.Parse.{digits_value}
+
+-- the budget where the words don't set one
+abbrev pub default_budget : ℕ
+default_budget = 1000
+
+abbrev pub greatest_budget : ℕ
+greatest_budget = 10000
+
+-- how many digits a value may have, leading zeros included
+abbrev pub most_digits : ℕ
+most_digits = 9
+
+-- the digits are a budget
+pub record IsBudget (digits : List ℕ) (n : ℕ) : Type 0 where
+  pub spelled : list_all is_ascii_digit digits ≡ true
+  pub some : 1 ≤ length digits
+  pub few : length digits ≤ most_digits
+  pub value : n ≡ digits_value 10 digits
+  pub least : 1 ≤ n
+  pub most : n ≤ greatest_budget
+
+-- the words behind `equiv` set this budget: there are none, or `--budget` has its value behind `=` or as the next word
+abbrev pub IsOption : List (List ℕ) → ℕ → Type 0
+IsOption [] n = n ≡ default_budget
+IsOption (w ∷ []) n = (digits : List ℕ) × (w ≡ codes "--budget=" ++ digits) × IsBudget digits n
+IsOption (w ∷ digits ∷ []) n = (w ≡ codes "--budget") × IsBudget digits n
+IsOption (w ∷ digits ∷ v ∷ ws) n = ⊥
+
+-- the words of the command `equiv` with this budget
+abbrev pub IsEquiv : List (List ℕ) → ℕ → Type 0
+IsEquiv [] n = ⊥
+IsEquiv (w ∷ ws) n = (w ≡ codes "equiv") × IsOption ws n
+
+-- the words aren't those of a command
+abbrev pub NoCommand : List (List ℕ) → Type 0
+NoCommand words = (n : ℕ) → IsEquiv words n → ⊥

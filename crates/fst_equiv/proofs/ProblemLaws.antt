@@ -1,0 +1,72 @@
+-- Two types within the limits have one grammar, one word each, and one list of marks.
+use Rattle.std.proofs.Common.{◌≡◌, ◌∙◌, inl, inr, ℕ, suc, ◌<◌, List, [], ◌∷◌, length, Bool, true, false, refl, sym, ap, subst, arith}
+use Rattle.fst_types.specs.Tree.{Tree}
+use Rattle.fst_types.specs.declared.kind.Kind.{Kind}
+use Rattle.fst_types.specs.declared.label.Label.{Label}
+use Rattle.fst_kinds.specs.WellFormed.{IsSession}
+use Rattle.fst_words.specs.Words.{Rows}
+use Rattle.fst_norms.specs.Pruned.{is_marked}
+use Rattle.fst_grammar.specs.Place.{top_of}
+use Rattle.fst_grammar.specs.Word.{word}
+use Rattle.fst_grammar.specs.Translation.{OneGrammar, IsTooLarge, numbers_of, right_sides}
+use Rattle.fst_equiv.specs.Problem.{AreUnnormed, IsProblem}
+
+-- tests that hold of each other are one
+same_bool : (a b : Bool) → (a ≡ true → b ≡ true) → (b ≡ true → a ≡ true) → a ≡ b
+same_bool true b f g = sym (f refl)
+same_bool false true f g = g refl
+same_bool false false f g = refl
+
+-- lists of marks as long as each other with the same members are one
+same_members : (a b : List Bool) → length a ≡ length b → ((n : ℕ) → n < length a → is_marked a n ≡ is_marked b n) → a ≡ b
+same_members [] [] len h = refl
+same_members [] (y ∷ b) len h = absurd (omega arith)
+same_members (x ∷ a) [] len h = absurd (omega arith)
+same_members (x ∷ a) (y ∷ b) len h =
+    let first : x ≡ y = h 0 (omega arith) in
+    let rest : a ≡ b = same_members a b (omega arith) (λ n lt. h (suc n) (omega arith)) in
+    λ i. first i ∷ rest i
+
+-- two largest unnormed sets of one grammar are one
+same_marks : (rows : Rows) (marks others : List Bool) → AreUnnormed rows marks → AreUnnormed rows others → marks ≡ others
+same_marks rows marks others a b =
+    let p = a.count in
+    let q = b.count in
+    same_members marks others (omega arith) (λ n lt. same_bool (is_marked marks n) (is_marked others n)
+    (λ h. b.largest marks n a.set h (omega arith)) (λ h. a.largest others n b.set h (omega arith)))
+
+-- the grammars, words and marks of two problems are the same
+pub record AreSame (letters more : List Label) (rows rules : Rows) (u v x y : List ℕ) (marks others : List Bool) : Type 0 where
+  pub labels : letters ≡ more
+  pub grammar : rows ≡ rules
+  pub left : u ≡ x
+  pub right : v ≡ y
+  pub unnormed : marks ≡ others
+
+-- the problem of two types is determined
+pub one_problem : OneGrammar → (vars others : List Kind) (s r : Tree) → IsSession vars s → IsSession others r →
+    (letters more : List Label) (rows rules : Rows) (u v x y : List ℕ) (marks set : List Bool) → IsProblem s r letters rows u v marks → IsProblem s r more rules x y set →
+    AreSame letters more rows rules u v x y marks set
+one_problem one vars others s r left right letters more rows rules u v x y marks set p q =
+    let t = p.translation in
+    let w = q.translation in
+    let same = one vars others s r left right p.small.0 p.small.1 letters more rows rules t.grammar w.grammar in
+    record {
+      labels = same.0;
+      grammar = same.1;
+      left = t.left ∙ ap (λ z. word (numbers_of z s r) (top_of s) s) same.0 ∙ sym w.left;
+      right = t.right ∙ ap (λ z. word (numbers_of z s r) (top_of r) r) same.0 ∙ sym w.right;
+      unnormed = same_marks rules marks set (subst (λ z. AreUnnormed z marks) same.1 p.unnormed) q.unnormed;
+    }
+
+-- types with a problem aren't too large
+pub problem_small : OneGrammar → (vars others : List Kind) (s r : Tree) → IsSession vars s → IsSession others r →
+    (letters : List Label) (rows : Rows) (u v : List ℕ) (marks : List Bool) → IsProblem s r letters rows u v marks → IsTooLarge s r → ⊥
+problem_small one vars others s r left right letters rows u v marks p (inl (inl over)) = let few = p.small.0 in omega arith
+problem_small one vars others s r left right letters rows u v marks p (inl (inr over)) = let few = p.small.1 in omega arith
+problem_small one vars others s r left right letters rows u v marks p (inr large) =
+    let same = one vars others s r left right p.small.0 p.small.1 letters large.0 rows large.1 p.translation.grammar large.2 in
+    let few = p.small.2 in
+    let over = large.3 in
+    let sides = ap right_sides same.1 in
+    omega arith

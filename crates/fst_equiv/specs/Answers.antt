@@ -1,0 +1,32 @@
+-- The answer to the question whether two types are equivalent, within a budget of pairs.
+use Rattle.std.specs.Prelude.{◌≡◌, ℕ, List}
+use Rattle.fst_types.specs.Tree.{Tree}
+use Rattle.fst_types.specs.declared.kind.Kind.{Kind}
+use Rattle.fst_types.specs.declared.label.Label.{Label}
+use Rattle.fst_types.specs.declared.side.Side.{Side}
+use Rattle.fst_kinds.specs.WellFormed.{IsSession}
+use Rattle.fst_words.specs.Words.{Rows}
+use Rattle.fst_words.specs.declared.word.Pair.{Pair}
+use Rattle.fst_grammar.specs.Translation.{IsTooLarge}
+use Rattle.fst_equiv.specs.Problem.{IsShownEqual, IsShownDifferent, IsShownSpent}
+
+-- agreement at every depth, the least word that one side alone performs with this side, that the budget is spent,
+-- or that a type or the grammar is too large
+pub data Answer : Type 0 where
+  yes : Answer
+  no : List Label → Side → Answer
+  undecided : Answer
+  too_large : Answer
+
+-- the answer to the question of two types
+abbrev pub Answers : Tree → Tree → ℕ → Answer → Type 0
+Answers s r budget yes =
+    (letters : List Label) × (rows : Rows) × (x : List ℕ) × (y : List ℕ) × (pairs : List Pair) × IsShownEqual s r budget letters rows x y pairs
+Answers s r budget (no word side) = IsShownDifferent s r budget word side
+Answers s r budget undecided = (letters : List Label) × (rows : Rows) × (pairs : List Pair) × IsShownSpent s r budget letters rows pairs
+Answers s r budget too_large = IsTooLarge s r
+
+-- a question of two session types has at most one answer
+abbrev pub OneAnswer : Type 0
+OneAnswer =
+    (vars others : List Kind) (s r : Tree) (budget : ℕ) → IsSession vars s → IsSession others r → (a b : Answer) → Answers s r budget a → Answers s r budget b → a ≡ b

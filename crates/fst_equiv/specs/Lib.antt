@@ -1,0 +1,4 @@
+pub mod Problem
+pub mod Answers
+pub mod Verdicts
+pub mod Faults

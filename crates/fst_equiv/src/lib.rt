@@ -1,0 +1,15 @@
+//! Whether two session types are equivalent, within a budget of pairs.
+#![tactic(auto)]
+
+mod asking;
+mod fault;
+mod laws;
+mod verdict;
+
+pub use asking::ask;
+pub use fault::EquivFault;
+pub use laws::one_answer;
+pub use verdict::{Certificate, Verdict};
+
+#[cfg(test)]
+mod tests;
