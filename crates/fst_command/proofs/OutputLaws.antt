@@ -2,13 +2,15 @@
 use Rattle.std.proofs.Common.{◌≡◌, ◌∙◌, ◌⊎◌, inl, inr, ℕ, ◌≤◌, List, [], ◌∷◌, length, Result, Ok, Err, refl, sym, ap, subst, arith}
 use Rattle.std.specs.Prelude.{◌≢◌, IfOk, codes}
 use Rattle.std.specs.Str.Parse.{digits_value}
+use Rattle.std.specs.declared.alloc.AllocError.{AllocError}
 use Rattle.std.proofs.lemmas.List.{append_cancel_left}
 use Rattle.fst_types.specs.Tree.{Tree}
+use Rattle.fst_types.specs.Scoped.{IsScoped}
+use Rattle.fst_types.specs.Order.{IsSorted}
 use Rattle.fst_kinds.specs.declared.fault.KindFault.{KindFault}
 use Rattle.fst_kinds.specs.declared.fault.KindFault.TheVariants.{Memory}
 use Rattle.fst_kinds.specs.WellFormed.{IsSession}
 use Rattle.fst_equiv.specs.Answers.{Answers, OneAnswer}
-use Rattle.std.specs.declared.alloc.AllocError.{AllocError}
 use Rattle.fst_command.specs.declared.answer.Answer.{Answer as Written}
 use Rattle.fst_command.specs.declared.status.Status.{Status}
 use Rattle.fst_command.specs.declared.status.Status.TheVariants as status
@@ -16,7 +18,7 @@ use Rattle.fst_command.specs.Limits.{most_bytes}
 use Rattle.fst_command.specs.Words.{IsBudget, IsOption, IsEquiv}
 use Rattle.fst_command.specs.Question.{IsQuestion, NoQuestion}
 use Rattle.fst_command.specs.Texts.{fault_text, refused_text}
-use Rattle.fst_command.specs.Output.{session_kind, answer_text, status_of, AnswersQuestion, IsFault, IsRefusal, IsOutput, OneOutput}
+use Rattle.fst_command.specs.Output.{session_kind, answer_text, status_of, AnswersQuestion, Refuses, RefusesFirst, IsFault, IsRefusal, IsOutput, OneOutput}
 use Rattle.fst_command.proofs.QuestionLaws.{one_question, question_scoped, question_sorted}
 use Rattle.fst_command.proofs.SessionLaws.{no_fault}
 
@@ -36,44 +38,31 @@ one_budget : (ws : List (List ℕ)) (m n : ℕ) → IsEquiv ws m → IsEquiv ws 
 one_budget [] m n p q = absurd p
 one_budget (w ∷ ws) m n p q = one_option ws m n p.1 q.1
 
--- ---- what belongs to a question
+-- ---- refusals
 
--- what belongs to a type that is no session type
-module _ (words : List (List ℕ)) (budget : ℕ) (command : IsEquiv words budget) (bytes text : List ℕ) (short : length bytes ≤ most_bytes) (left right : Tree) (left_at right_at : ℕ)
-    (question : IsQuestion bytes left right left_at right_at) (fault : KindFault) (found : fault ≢ Memory) where
-  pub left_refused : session_kind left ≡ Err fault → text ≡ fault_text bytes left_at fault → IsOutput words bytes text status.Refused
-  left_refused shown written = record {
-    budget = budget;
-    command = command;
-    short = short;
-    why = inr (record { left = left; right = right; left_at = left_at; right_at = right_at; question = question; fault = fault; found = found; shown = inl (shown, written) });
-  }
-
-  pub right_refused : IsSession [] left → session_kind right ≡ Err fault → text ≡ fault_text bytes right_at fault → IsOutput words bytes text status.Refused
-  right_refused session shown written = record {
-    budget = budget;
-    command = command;
-    short = short;
-    why = inr (record { left = left; right = right; left_at = left_at; right_at = right_at; question = question; fault = fault; found = found; shown = inr (session, shown, written) });
-  }
-
--- a refusal with its text and status, if there is one
-module _ (bytes : List ℕ) (budget : ℕ) (short : length bytes ≤ most_bytes) (left right : Tree) (left_at right_at : ℕ)
-    (question : IsQuestion bytes left right left_at right_at) (fault : KindFault) (found : fault ≢ Memory) where
-  pub left_output : (r : Result Written AllocError) → session_kind left ≡ Err fault → IfOk r (λ a. a.status ≡ status.Refused) → IfOk r (λ a. a.text.items ≡ fault_text bytes left_at fault) →
-      IfOk r (λ a. (words : List (List ℕ)) → IsEquiv words budget → IsOutput words bytes a.text.items a.status)
-  left_output (Ok a) shown ended written = λ words command.
-      subst (IsOutput words bytes a.text.items) (sym ended)
-      (left_refused words budget command bytes a.text.items short left right left_at right_at question fault found shown written)
-  left_output (Err e) shown ended written = tt
-
-  pub right_output : (r : Result Written AllocError) → IsSession [] left → session_kind right ≡ Err fault → IfOk r (λ a. a.status ≡ status.Refused) →
-      IfOk r (λ a. a.text.items ≡ fault_text bytes right_at fault) →
-      IfOk r (λ a. (words : List (List ℕ)) → IsEquiv words budget → IsOutput words bytes a.text.items a.status)
-  right_output (Ok a) session shown ended written = λ words command.
-      subst (IsOutput words bytes a.text.items) (sym ended)
-      (right_refused words budget command bytes a.text.items short left right left_at right_at question fault found session shown written)
-  right_output (Err e) session shown ended written = tt
+-- what refuses the first type that is no session type, with its status, is an output
+pub fault_output : (bytes : List ℕ) (budget : ℕ) → length bytes ≤ most_bytes → (left right : Tree) (left_at right_at : ℕ) → IsQuestion bytes left right left_at right_at →
+    (fault : KindFault) → fault ≢ Memory → (text : List ℕ) → RefusesFirst bytes left left_at right right_at fault text →
+    (r : Result Written AllocError) → IfOk r (λ a. a.status ≡ status.Refused) → IfOk r (λ a. a.text.items ≡ text) →
+    IfOk r (λ a. (words : List (List ℕ)) → IsEquiv words budget → IsOutput words bytes a.text.items a.status)
+fault_output bytes budget short left right left_at right_at question fault found text refuses (Ok a) ended written = λ words command.
+    subst (IsOutput words bytes a.text.items) (sym ended)
+    (subst (λ t. IsOutput words bytes t status.Refused) (sym written) (record {
+      budget = budget;
+      command = command;
+      short = short;
+      why = inr (record {
+        left = left;
+        right = right;
+        left_at = left_at;
+        right_at = right_at;
+        question = question;
+        fault = fault;
+        found = found;
+        refused = refuses;
+      });
+    }))
+fault_output bytes budget short left right left_at right_at question fault found text refuses (Err e) ended written = tt
 
 -- ---- one output
 
@@ -92,21 +81,20 @@ module _ (law : OneAnswer) (words : List (List ℕ)) (bytes : List ℕ) where
 
   -- a question that has an answer has no fault
   not_answered : (t u : List ℕ) (s : Status) → AnswersQuestion words bytes t s → IsFault bytes u → ⊥
-  not_answered t u s p q = by q.shown
+  not_answered t u s p q = by q.refused
     where
       same : (q.left ≡ p.left) × (q.right ≡ p.right) × (q.left_at ≡ p.left_at) × (q.right_at ≡ p.right_at)
       same = one_question bytes q.left q.right p.left p.right q.left_at q.right_at p.left_at p.right_at q.question p.question
 
-      by : ((session_kind q.left ≡ Err q.fault) × (u ≡ fault_text bytes q.left_at q.fault))
-          ⊎ (IsSession [] q.left × (session_kind q.right ≡ Err q.fault) × (u ≡ fault_text bytes q.right_at q.fault)) → ⊥
-      by (inl h) =
-          no_fault p.left q.fault (question_scoped bytes p.left p.right p.left_at p.right_at p.question).0
-          (question_sorted bytes p.left p.right p.left_at p.right_at p.question).0 p.left_session
-          (ap session_kind (sym same.0) ∙ h.0) q.found
-      by (inr h) =
-          no_fault p.right q.fault (question_scoped bytes p.left p.right p.left_at p.right_at p.question).1
-          (question_sorted bytes p.left p.right p.left_at p.right_at p.question).1 p.right_session
-          (ap session_kind (sym same.1) ∙ h.1) q.found
+      scoped : IsScoped 0 p.left × IsScoped 0 p.right
+      scoped = question_scoped bytes p.left p.right p.left_at p.right_at p.question
+
+      sorted : IsSorted p.left × IsSorted p.right
+      sorted = question_sorted bytes p.left p.right p.left_at p.right_at p.question
+
+      by : RefusesFirst bytes q.left q.left_at q.right q.right_at q.fault u → ⊥
+      by (inl h) = no_fault p.left q.fault scoped.0 sorted.0 p.left_session (ap session_kind (sym same.0) ∙ h.0) q.found
+      by (inr h) = no_fault p.right q.fault scoped.1 sorted.1 p.right_session (ap session_kind (sym same.1) ∙ h.1.0) q.found
 
   not_refused : (t u : List ℕ) (s : Status) → AnswersQuestion words bytes t s → IsRefusal words bytes u → ⊥
   not_refused t u s p q = by q.why
@@ -115,33 +103,33 @@ module _ (law : OneAnswer) (words : List (List ℕ)) (bytes : List ℕ) where
       by (inl h) = h.0 p.left p.right p.left_at p.right_at p.question
       by (inr h) = not_answered t u s p h
 
-  -- the fault of a side: its text, and that it is the first
-  abbrev Shown : Tree → Tree → ℕ → ℕ → KindFault → List ℕ → Type 0
-  Shown left right left_at right_at fault text =
-      ((session_kind left ≡ Err fault) × (text ≡ fault_text bytes left_at fault))
-      ⊎ (IsSession [] left × (session_kind right ≡ Err fault) × (text ≡ fault_text bytes right_at fault))
-
   fault_is : (f g : KindFault) (t : Tree) → session_kind t ≡ Err f → session_kind t ≡ Err g → f ≡ g
   fault_is f g t p q = let e : Err f ≡ Err g = sym p ∙ q in cc
 
-  one_shown : (left right : Tree) (i j : ℕ) (f g : KindFault) (t u : List ℕ) → IsQuestion bytes left right i j → f ≢ Memory → g ≢ Memory →
-      Shown left right i j f t → Shown left right i j g u → t ≡ u
-  one_shown left right i j f g t u question m n (inl p) (inl q) = p.1 ∙ ap (fault_text bytes i) (fault_is f g left p.0 q.0) ∙ sym q.1
-  one_shown left right i j f g t u question m n (inl p) (inr q) =
-      absurd (no_fault left f (question_scoped bytes left right i j question).0 (question_sorted bytes left right i j question).0 q.0 p.0 m)
-  one_shown left right i j f g t u question m n (inr p) (inl q) =
-      absurd (no_fault left g (question_scoped bytes left right i j question).0 (question_sorted bytes left right i j question).0 p.0 q.0 n)
-  one_shown left right i j f g t u question m n (inr p) (inr q) = p.2 ∙ ap (fault_text bytes j) (fault_is f g right p.1 q.1) ∙ sym q.2
+  -- a type with one fault is refused by one text
+  same_refusal : (t : Tree) (at : ℕ) (f g : KindFault) (v w : List ℕ) → Refuses bytes t at f v → Refuses bytes t at g w → v ≡ w
+  same_refusal t at f g v w p q = p.1 ∙ ap (fault_text bytes at) (fault_is f g t p.0 q.0) ∙ sym q.1
+
+  one_first : (left right : Tree) (i j : ℕ) (f g : KindFault) (t u : List ℕ) → IsQuestion bytes left right i j → f ≢ Memory → g ≢ Memory →
+      RefusesFirst bytes left i right j f t → RefusesFirst bytes left i right j g u → t ≡ u
+  one_first left right i j f g t u question m n p q =
+      pick (question_scoped bytes left right i j question).0 (question_sorted bytes left right i j question).0 p q
+    where
+      pick : IsScoped 0 left → IsSorted left → RefusesFirst bytes left i right j f t → RefusesFirst bytes left i right j g u → t ≡ u
+      pick scoped sorted (inl h) (inl k) = same_refusal left i f g t u h k
+      pick scoped sorted (inl h) (inr k) = absurd (no_fault left f scoped sorted k.0 h.0 m)
+      pick scoped sorted (inr h) (inl k) = absurd (no_fault left g scoped sorted h.0 k.0 n)
+      pick scoped sorted (inr h) (inr k) = same_refusal right j f g t u h.1 k.1
 
   one_fault : (t u : List ℕ) → IsFault bytes t → IsFault bytes u → t ≡ u
   one_fault t u p q =
       let same = one_question bytes p.left p.right q.left q.right p.left_at p.right_at q.left_at q.right_at p.question q.question in
-      one_shown q.left q.right q.left_at q.right_at p.fault q.fault t u q.question p.found q.found
-      (subst (λ z. Shown q.left q.right q.left_at z p.fault t) same.3
-      (subst (λ z. Shown q.left q.right z p.right_at p.fault t) same.2
-      (subst (λ z. Shown q.left z p.left_at p.right_at p.fault t) same.1
-      (subst (λ z. Shown z p.right p.left_at p.right_at p.fault t) same.0 p.shown))))
-      q.shown
+      one_first q.left q.right q.left_at q.right_at p.fault q.fault t u q.question p.found q.found
+      (subst (λ z. RefusesFirst bytes q.left q.left_at q.right z p.fault t) same.3
+      (subst (λ z. RefusesFirst bytes q.left z q.right p.right_at p.fault t) same.2
+      (subst (λ z. RefusesFirst bytes q.left p.left_at z p.right_at p.fault t) same.1
+      (subst (λ z. RefusesFirst bytes z p.left_at p.right p.right_at p.fault t) same.0 p.refused))))
+      q.refused
 
   one_refusal : (t u : List ℕ) → IsRefusal words bytes t → IsRefusal words bytes u → t ≡ u
   one_refusal t u p q = by p.why q.why

@@ -53,7 +53,16 @@ pub record AnswersQuestion (words : List (List ℕ)) (bytes text : List ℕ) (s 
   pub right_session : IsSession [] right
   pub answer : IsAnswerTo bytes left right left_at budget text s
 
--- the bytes are a question of which one type is no session type: the left one, or the right one where the left one is
+-- the text refuses a type that begins at a byte, for its fault
+abbrev pub Refuses : List ℕ → Tree → ℕ → KindFault → List ℕ → Type 0
+Refuses bytes t at fault text = (session_kind t ≡ Err fault) × (text ≡ fault_text bytes at fault)
+
+-- it refuses the left one of two types, or the right one where the left one is a session type
+abbrev pub RefusesFirst : List ℕ → Tree → ℕ → Tree → ℕ → KindFault → List ℕ → Type 0
+RefusesFirst bytes left left_at right right_at fault text =
+    Refuses bytes left left_at fault text ⊎ (IsSession [] left × Refuses bytes right right_at fault text)
+
+-- the bytes are a question of which one type is no session type, and the text refuses the first such one
 pub record IsFault (bytes text : List ℕ) : Type 0 where
   pub left : Tree
   pub right : Tree
@@ -62,8 +71,7 @@ pub record IsFault (bytes text : List ℕ) : Type 0 where
   pub question : IsQuestion bytes left right left_at right_at
   pub fault : KindFault
   pub found : fault ≢ Memory
-  pub shown : ((session_kind left ≡ Err fault) × (text ≡ fault_text bytes left_at fault))
-      ⊎ (IsSession [] left × (session_kind right ≡ Err fault) × (text ≡ fault_text bytes right_at fault))
+  pub refused : RefusesFirst bytes left left_at right right_at fault text
 
 -- the bytes are no question of two session types, and this text says why
 pub record IsRefusal (words : List (List ℕ)) (bytes text : List ℕ) : Type 0 where

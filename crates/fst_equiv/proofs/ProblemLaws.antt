@@ -5,11 +5,11 @@ use Rattle.fst_types.specs.declared.kind.Kind.{Kind}
 use Rattle.fst_types.specs.declared.label.Label.{Label}
 use Rattle.fst_kinds.specs.WellFormed.{IsSession}
 use Rattle.fst_words.specs.Words.{Rows}
-use Rattle.fst_norms.specs.Pruned.{is_marked}
+use Rattle.fst_norms.specs.Pruned.{AreUnnormed, is_marked}
 use Rattle.fst_grammar.specs.Place.{top_of}
 use Rattle.fst_grammar.specs.Word.{word}
 use Rattle.fst_grammar.specs.Translation.{OneGrammar, IsTooLarge, numbers_of, right_sides}
-use Rattle.fst_equiv.specs.Problem.{AreUnnormed, IsProblem}
+use Rattle.fst_equiv.specs.Problem.{IsProblem}
 
 -- tests that hold of each other are one
 same_bool : (a b : Bool) → (a ≡ true → b ≡ true) → (b ≡ true → a ≡ true) → a ≡ b

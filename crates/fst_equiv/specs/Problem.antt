@@ -9,15 +9,9 @@ use Rattle.fst_lts.specs.Agree.{Agree}
 use Rattle.fst_lts.specs.Words.{IsLeastDifference}
 use Rattle.fst_words.specs.Words.{Rows}
 use Rattle.fst_words.specs.declared.word.Pair.{Pair}
-use Rattle.fst_norms.specs.Pruned.{IsUnnormedSet, is_marked, pruned}
+use Rattle.fst_norms.specs.Pruned.{AreUnnormed, pruned}
 use Rattle.fst_grammar.specs.Translation.{IsTranslation, IsSmall}
 use Rattle.fst_breadth.specs.Answer.{IsEqual, IsDifferent, IsSpent}
-
--- the marks are those of the largest unnormed set, one for each non-terminal
-pub record AreUnnormed (rows : Rows) (marks : List Bool) : Type 0 where
-  pub count : length marks ≡ length rows
-  pub set : IsUnnormedSet rows marks
-  pub largest : (other : List Bool) (n : ℕ) → IsUnnormedSet rows other → is_marked other n ≡ true → n < length rows → is_marked marks n ≡ true
 
 -- the grammar of two types within the limits, their words, and its unnormed non-terminals
 pub record IsProblem (s r : Tree) (letters : List Label) (rows : Rows) (u v : List ℕ) (marks : List Bool) : Type 0 where

@@ -1,8 +1,8 @@
-ghost use Rattle.std.specs.Prelude.{◌≡◌, ◌<◌, ℕ, IfOk, length, take, map, is_none, Bool, List, true, false};
+ghost use Rattle.std.specs.Prelude.{◌≡◌, ◌<◌, ℕ, IfOk, length, take, map, is_none, true, false};
 ghost use Rattle.fst_words.specs.Words.{Rows, step, InRange, WordBelow};
 ghost use Rattle.fst_lts.specs.Agree.{PerformSame};
 ghost use Rattle.fst_norms.specs.Norms.{HasNoNorm, HasNorm};
-ghost use Rattle.fst_norms.specs.Pruned.{pruned, is_marked, IsUnnormedSet};
+ghost use Rattle.fst_norms.specs.Pruned.{pruned, is_marked, AreUnnormed, IsUnnormedSet};
 
 use crate::rounds::norms;
 use fst_words::{Grammar, Word};
@@ -40,9 +40,7 @@ fn without_norm(alloc: Global, norms: &[Option<u64>]) -> Result<Vec<bool>, Alloc
 /// which are those that no sequence of letters takes to the empty word.
 pub fn unnormed(alloc: Global, g: &Grammar) -> Result<Vec<bool>, AllocError>
     requires { InRange g.now.rules.items }
-    ensures len { IfOk result (λ marks. length marks.items ≡ length g.now.rules.items) }
-    ensures set { IfOk result (λ marks. IsUnnormedSet g.now.rules.items marks.items) }
-    ensures largest { IfOk result (λ marks. (other : List Bool) (n : ℕ) → IsUnnormedSet g.now.rules.items other → is_marked other n ≡ true → n < length g.now.rules.items → is_marked marks.items n ≡ true) }
+    ensures unnormed { IfOk result (λ marks. AreUnnormed g.now.rules.items marks.items) }
     ensures marked { IfOk result (λ marks. (n : ℕ) → is_marked marks.items n ≡ true → HasNoNorm g.now.rules.items n) }
     ensures unmarked { IfOk result (λ marks. (n : ℕ) → n < length g.now.rules.items → is_marked marks.items n ≡ false → HasNorm g.now.rules.items n) }
 {

@@ -1,5 +1,5 @@
 use Rattle.std.proofs.Common.{◌≡◌, sym, ◌∙◌, ap, subst, List, Bool}
-use Rattle.fst_equiv.specs.Problem.{AreUnnormed}
+use Rattle.fst_norms.specs.Pruned.{AreUnnormed}
 use Rattle.fst_equiv.specs.Verdicts.{IsVerdict, verdict_of}
 use Rattle.fst_equiv.specs.declared.verdict.Verdict.{Verdict}
 use Rattle.fst_equiv.proofs.VerdictLaws.{verdict_right, verdict_answers}
@@ -14,7 +14,7 @@ returns-clause-verdict c =
     let marks = c.deref.result.now in
     let same : c.verdict_of.result ≡ verdict_of g c.in_ok-g.left c.in_ok-g.right marks c.in_ok-found.found =
     c.verdict_of.ensures ∙ ap (λ (z : List Bool). verdict_of g c.in_ok-g.left c.in_ok-g.right z c.in_ok-found.found) (c.deref-2.ensures.value ∙ sym c.deref.ensures.value) in
-    let unnormed : AreUnnormed g.rules.items marks = subst (λ (z : List Bool). AreUnnormed g.rules.items z) (sym c.deref.ensures.value) (record { count = m.len; set = m.set; largest = m.largest }) in
+    let unnormed : AreUnnormed g.rules.items marks = subst (λ (z : List Bool). AreUnnormed g.rules.items z) (sym c.deref.ensures.value) m.unnormed in
     subst (λ (z : Verdict). IsVerdict c.args.t.now c.args.u.now c.args.budget z) (sym same)
     (verdict_right c.args.t.now c.args.u.now c.args.budget g c.in_ok-g.left c.in_ok-g.right marks c.in_ok-found.found
     (record { translation = t.translation; small = t.small; unnormed = unnormed }) (record { left = t.left; right = t.right })
