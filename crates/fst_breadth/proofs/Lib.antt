@@ -8,5 +8,6 @@ pub mod LabelLaws
 pub mod RowLaws
 pub mod ExpandLaws
 pub mod FollowLaws
+pub mod NotedLaws
 pub mod AnswerLaws
 pub mod TableLaws

@@ -9,7 +9,6 @@ use Rattle.fst_types.specs.Scoped.{IsScoped}
 use Rattle.fst_types.specs.Order.{IsSorted}
 use Rattle.fst_kinds.specs.declared.fault.KindFault.{KindFault}
 use Rattle.fst_kinds.specs.declared.fault.KindFault.TheVariants.{Memory}
-use Rattle.fst_kinds.specs.WellFormed.{IsSession}
 use Rattle.fst_equiv.specs.Answers.{Answers, OneAnswer}
 use Rattle.fst_command.specs.declared.answer.Answer.{Answer as Written}
 use Rattle.fst_command.specs.declared.status.Status.{Status}

@@ -30,7 +30,7 @@ pub from_cons : (xs : List Label) (a b : Label) → Contains (b ∷ xs) a → (b
 from_cons xs a b (zero, lt, e) = inl e
 from_cons xs a b (suc k, lt, e) = inr (k, omega arith, e)
 
-equal_same : (a b : Label) → label_cmp a b ≡ Equal → a ≡ b
+pub equal_same : (a b : Label) → label_cmp a b ≡ Equal → a ≡ b
 equal_same a b e = same_label-same a b (ap is_eq e)
 
 turned : (a b : Label) → label_cmp a b ≡ Greater → label_cmp b a ≡ Less
@@ -69,7 +69,7 @@ in_inserted_all (a ∷ labels) letters b =
     )
 
 -- what is inserted behind a lesser label
-inserted_rising : (letters : List Label) (a : Label) → IsRising letters → IsRising (inserted letters a)
+pub inserted_rising : (letters : List Label) (a : Label) → IsRising letters → IsRising (inserted letters a)
 inserted_rising [] a h = tt
 inserted_rising (b ∷ []) a h = pick (label_cmp a b) refl
   where

@@ -2,6 +2,10 @@ pub mod AbstractRules
 pub mod ClosingLaws
 pub mod StandLaws
 pub mod SameLaws
+pub mod KeyLaws
+pub mod ShapeLaws
+pub mod KeyTable
+pub mod PartLaws
 pub mod SeekLaws
 pub mod TableLaws
 pub mod LetterLaws
@@ -14,7 +18,7 @@ pub mod LabelLaws
 pub mod TranslationLaws
 pub mod UniqueLaws
 pub mod BranchLaws
-pub mod InsertLaws
+pub mod PlaceLaws
 pub mod HeadLaws
 pub mod SizeLaws
 pub mod DoneLaws

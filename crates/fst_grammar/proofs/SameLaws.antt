@@ -1,6 +1,5 @@
 -- The test of types is equality.
-use Rattle.std.proofs.Common.{◌≡◌, ◌∙◌, ◌-◌, ◌^◌, min, ℕ, refl, sym, ap, Bool, true, false, ◌↔◌, IsTrue, ◌&&◌}
-use Rattle.fst_types.specs.Size.{nodes}
+use Rattle.std.proofs.Common.{◌≡◌, refl, ap, true, ◌&&◌}
 use Rattle.std.proofs.lemmas.Bool.{eq-eqb, eqb-true}
 use base.Stored.{Gv, gnil, gnum, gcons}
 use Rattle.fst_types.specs.Tree.{Tree}
@@ -30,20 +29,3 @@ same_tree-same s t e = tree_code.inj s t (code-same (code_of s) (code_of t) e)
 
 pub same_tree-itself : (s : Tree) → same_tree s s ≡ true
 same_tree-itself s = code-itself (code_of s)
-
--- a test that says the same
-pub same_tree_is : (b : Bool) (s t : Tree) → (IsTrue b ↔ (s ≡ t)) → b ≡ same_tree s t
-same_tree_is true s t h = sym (ap (λ x. same_tree s x) (sym (h.0 refl)) ∙ same_tree-itself s)
-same_tree_is false s t h = differs (same_tree s t) refl
-  where
-    differs : (c : Bool) → same_tree s t ≡ c → false ≡ c
-    differs true e = absurd (cc (h.1 (same_tree-same s t e)))
-    differs false e = refl
-
--- types of different sizes are two
-pub other_size : (s t : Tree) (a b : ℕ) → a ≡ min (nodes s) (2 ^ 64 - 1) → b ≡ min (nodes t) (2 ^ 64 - 1) → (a ≡ b → ⊥) → same_tree s t ≡ false
-other_size s t a b e f differ = pick (same_tree s t) refl
-  where
-    pick : (c : Bool) → same_tree s t ≡ c → c ≡ false
-    pick true is = absurd (differ (e ∙ ap (λ x. min (nodes x) (2 ^ 64 - 1)) (same_tree-same s t is) ∙ sym f))
-    pick false is = refl

@@ -33,7 +33,7 @@ Sees p t = (k : ℕ) → p.at ≤ k → k < p.at + nodes t → found_in p.whole 
 abbrev pub SeesAll : Place → Branches → Type 0
 SeesAll p cs = (k : ℕ) → p.at ≤ k → k < p.at + nodes_all cs → found_in p.whole k ≡ seek_all p cs k
 
-not_below : (k m : ℕ) → m ≤ k → nat_lt k m ≡ false
+pub not_below : (k m : ℕ) → m ≤ k → nat_lt k m ≡ false
 not_below k m h = pick (nat_lt k m) refl
   where
     pick : (c : Bool) → nat_lt k m ≡ c → c ≡ false

@@ -142,9 +142,9 @@ mutual
   parts_all_within p (branch l s cs) b h =
       every_both (EndsWithin b) (parts (moved p 1) s) (parts_all (moved p (1 + nodes s)) cs) (parts_within (moved p 1) s b (omega arith)) (parts_all_within (moved p (1 + nodes s)) cs b (omega arith))
 
-pub found_within : (b : ℕ) (ps : List Found) → Every (EndsWithin b) (map part_of ps) → All (λ p. p.at + nodes p.part.now ≤ b) ps
+pub found_within : (b : ℕ) (ps : List Found) → Every (EndsWithin b) (map part_of ps) → All (λ p. p.at + nodes p.part.ty.now ≤ b) ps
 found_within b [] h = λ i d lt. absurd (omega arith)
-found_within b (p ∷ ps) h = All-cons (λ (q : Found). q.at + nodes q.part.now ≤ b) p ps h.0 (found_within b ps h.1)
+found_within b (p ∷ ps) h = All-cons (λ (q : Found). q.at + nodes q.part.ty.now ≤ b) p ps h.0 (found_within b ps h.1)
 
 -- letters on right sides
 
@@ -176,7 +176,7 @@ table_small s r letters found few_s few_r is at =
     (omega (arith, labels_few s, labels_few r), omega (arith, labels_few s, labels_few r, names_few letters, with_parts_few [] (parts (top_of s) s ++ parts (top_of r) r), parts_few (top_of s) s, parts_few (top_of r) r))
 
 -- no part of two types within the limit ends behind its whole
-pub table_within : (s r : Tree) (ps : List Found) → nodes s ≤ 4096 → nodes r ≤ 4096 → map part_of ps ≡ parts_of s r → All (λ p. p.at + nodes p.part.now < 2 ^ 31) ps
+pub table_within : (s r : Tree) (ps : List Found) → nodes s ≤ 4096 → nodes r ≤ 4096 → map part_of ps ≡ parts_of s r → All (λ p. p.at + nodes p.part.ty.now < 2 ^ 31) ps
 table_within s r ps few_s few_r is i d lt =
     let all = every_with (EndsWithin 4096) [] (parts (top_of s) s ++ parts (top_of r) r) tt
     (every_both (EndsWithin 4096) (parts (top_of s) s) (parts (top_of r) r) (parts_within (top_of s) s 4096 (omega arith)) (parts_within (top_of r) r 4096 (omega arith))) in

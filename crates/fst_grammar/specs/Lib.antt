@@ -2,6 +2,9 @@ pub mod Place
 pub mod Word
 pub mod Labels
 pub mod Same
+pub mod Shapes
+pub mod Keys
+pub mod Kept
 pub mod Parts
 pub mod Rules
 pub mod Translation

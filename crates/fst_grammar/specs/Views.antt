@@ -1,14 +1,19 @@
 -- What the code keeps, as the definitions see it.
-use Rattle.std.specs.Prelude.{◌≡◌, ℕ, ◌+◌, ◌<◌, ◌^◌, List, [], ◌∷◌, map, length, Bool, if◌then◌else◌}
+use Rattle.std.specs.Prelude.{◌≡◌, ℕ, ◌+◌, ◌<◌, ◌^◌, List, [], ◌∷◌, map, length, All, Bool, if◌then◌else◌}
 use Rattle.fst_types.specs.Tree.{Tree}
 use Rattle.fst_types.specs.declared.label.Label.{Label}
 use Rattle.fst_types.specs.declared.label.Label.TheVariants.{Select, Offer}
+use Rattle.fst_lts.specs.Rising.{IsRising}
+use Rattle.fst_grammar.specs.Shapes.{shape_of}
+use Rattle.fst_grammar.specs.Keys.{Stands}
 use Rattle.fst_grammar.specs.Place.{Place}
 use Rattle.fst_grammar.specs.Word.{Numbers}
 use Rattle.fst_grammar.specs.Labels.{names}
 use Rattle.fst_grammar.specs.Parts.{Part, numbers_by}
 use Rattle.fst_grammar.specs.Equations.{Equation, own, like}
 use Rattle.fst_grammar.specs.declared.found.Found.{Found}
+use Rattle.fst_grammar.specs.declared.numbers.Numbered.{Numbered}
+use Rattle.fst_grammar.specs.declared.parts.Parts.{Parts}
 use Rattle.fst_grammar.specs.declared.parts.Binders.{Binders, Top, Under'}
 use Rattle.fst_grammar.specs.declared.table.Table.{Table}
 use Rattle.fst_grammar.specs.declared.equations.Equation.{Equation as Kept}
@@ -22,20 +27,38 @@ abbrev pub place_in : Tree → ℕ → List ℕ → Place
 place_in whole at binders = record { whole = whole; at = at; binders = binders }
 
 abbrev pub part_of : Found → Part
-part_of p = record { place = place_in p.whole.now p.at p.binders.items; type = p.part.now }
+part_of p = record { place = place_in p.whole.ty.now p.at p.binders.items; type = p.part.ty.now }
 
 abbrev pub places_of : Binders → List ℕ
 places_of Top = []
 places_of (Under' n p outer) = n ∷ places_of outer
 
 abbrev pub numbers_in : Table → Numbers
-numbers_in t = numbers_by t.letters.items (map part_of t.parts.items)
+numbers_in t = numbers_by t.letters.items (map part_of t.parts.found.items)
 
--- the names are those among the letters, and all numbers fit into 32 bits
+-- the number of a type is that of its tree
+abbrev pub HasNumber : List (List ℕ) → Numbered → Type 0
+HasNumber keys t = Stands keys t.number (shape_of t.ty.now)
+
+-- a part and the closed type around it have their numbers
+abbrev pub AreNumbered : List (List ℕ) → Found → Type 0
+AreNumbered keys p = HasNumber keys p.whole × HasNumber keys p.part
+
+-- what a part is found by: the number of its closed type, and its place there
+abbrev pub key_of : Found → List ℕ
+key_of p = p.whole.number ∷ p.at ∷ []
+
+-- the parts have their numbers, and are found by them in this order
+abbrev pub IsKept : List (List ℕ) → Parts → Type 0
+IsKept keys p = (p.index ≡ map key_of p.found.items) × All (AreNumbered keys) p.found.items
+
+-- letters and names stand in label order, the names are those among the letters, all numbers of non-terminals fit into
+-- 32 bits, and the parts are found by their numbers
 abbrev pub IsTable : Table → Type 0
 IsTable t =
     (t.names.items ≡ names t.letters.items)
-    × (length t.letters.items < 2 ^ 31) × (length t.names.items + length t.parts.items < 2 ^ 31)
+    × (length t.letters.items < 2 ^ 31) × (length t.names.items + length t.parts.found.items < 2 ^ 31)
+    × IsRising t.letters.items × IsRising t.names.items × IsKept t.keys t.parts
 
 abbrev pub equation_of : Kept → Equation
 equation_of (Own rules) = own rules.items

@@ -2,9 +2,8 @@ ghost use Rattle.std.specs.Prelude.{◌≡◌, ◌<◌, ◌^◌};
 ghost use Rattle.fst_types.specs.View.{branches_of};
 ghost use Rattle.fst_types.specs.Size.{nodes};
 ghost use Rattle.fst_grammar.specs.Place.{loose, loose_all, is_closed};
-ghost use Rattle.fst_grammar.specs.Same.{same_tree};
 
-use fst_types::{Branch, Ty, TyForm, same, size};
+use fst_types::{Branch, Ty, TyForm, size};
 
 /// How many binders around a type its free recursion variables ask for.
 #[cycle(loose)]
@@ -45,13 +44,6 @@ pub(crate) fn is_whole(t: &Ty) -> bool
     ensures { result ≡ is_closed t.now }
 {
     loose_count(t) == 0
-}
-
-/// Whether two types are the same tree.
-pub(crate) fn same_type(a: &Ty, b: &Ty) -> bool
-    ensures { result ≡ same_tree a.now b.now }
-{
-    same(a, b)
 }
 
 /// How many nodes a type has, of those that have few.

@@ -5,14 +5,17 @@ ghost use Rattle.fst_types.specs.declared.label.Label.{Label};
 ghost use Rattle.fst_grammar.specs.Labels.{names};
 ghost use Rattle.fst_grammar.specs.Rules.{name_rules, branch_rules};
 ghost use Rattle.fst_grammar.specs.Equations.{own, part_equation, equations_by};
-ghost use Rattle.fst_grammar.specs.Views.{made, numbers_in, part_of, place_in, equation_of, IsTable};
+ghost use Rattle.fst_grammar.specs.Shapes.{shape_of_all};
+ghost use Rattle.fst_grammar.specs.Keys.{Stands};
+ghost use Rattle.fst_grammar.specs.Views.{made, numbers_in, part_of, place_in, equation_of, HasNumber, AreNumbered, IsTable};
 
 use crate::closing::node_count;
 use crate::found::Found;
 use crate::letters::{choice_label, place_among};
+use crate::numbers::{Numbered, first_part};
 use crate::table::Table;
 use crate::words::word_of;
-use fst_types::{Branch, Label, Ty, TyForm};
+use fst_types::{Branch, Label, TyForm};
 use fst_words::{Rule, Word};
 use std::alloc::{AllocError, Global};
 
@@ -29,23 +32,32 @@ fn choice_rules(
     alloc: Global,
     table: &Table<'_>,
     binders: &[u32],
-    whole: &Ty,
+    whole: Numbered<'_>,
     at: u32,
     branches: &[Branch],
+    list: usize,
     offers: bool,
 ) -> Result<Vec<Rule>, AllocError>
     requires table { IsTable table.now }
+    requires whole { HasNumber table.now.keys whole }
+    requires part { Stands table.now.keys list (shape_of_all (branches_of branches.now)) }
     requires fits { at + nodes_all (branches_of branches.now) < 2 ^ 31 }
-    ensures { IfOk result (λ r. r.items ≡ branch_rules (numbers_in table.now) table.now.letters.items (made offers) (place_in whole.now at binders.now) (branches_of branches.now)) }
+    ensures { IfOk result (λ r. r.items ≡ branch_rules (numbers_in table.now) table.now.letters.items (made offers) (place_in whole.entry.ty.now at binders.now) (branches_of branches.now)) }
 {
     let mut rules = Vec::new(alloc);
     let mut place = at;
+    let mut list = list;
     for branch in branches {
         let label = choice_label(alloc, &branch.label, offers)?;
         let letter = place_among(&table.letters, &label) as u32;
-        let word = word_of(alloc, table, binders, whole, place + 1, &branch.body)?;
+        let body = Numbered {
+            ty: &branch.body,
+            number: table.keys.first(list),
+        };
+        let word = word_of(alloc, table, binders, whole, place + 1, body)?;
         rules.push(Rule { letter, word })?;
         place += 1 + node_count(&branch.body);
+        list = table.keys.second(list);
     }
     Ok(rules)
 }
@@ -81,22 +93,27 @@ fn found_equation(
     found: &Found<'_>,
 ) -> Result<Equation, AllocError>
     requires table { IsTable table.now }
-    requires fits { found.now.at + nodes found.now.part.now < 2 ^ 31 }
+    requires fits { found.now.at + nodes found.now.part.ty.now < 2 ^ 31 }
+    requires numbered { AreNumbered table.now.keys found.now }
     ensures { IfOk result (λ e. equation_of e ≡ part_equation (numbers_in table.now) table.now.letters.items (part_of found.now)) }
 {
     let (whole, at, binders) = (found.whole, found.at, &found.binders);
     let part = found.part;
-    match &part.form {
+    let ty = part.ty;
+    match &ty.form {
         TyForm::Select(branches) => {
-            let rules = choice_rules(alloc, table, binders, whole, at + 1, branches, false)?;
+            let list = table.keys.first(part.number);
+            let rules = choice_rules(alloc, table, binders, whole, at + 1, branches, list, false)?;
             Ok(Equation::Own(rules))
         }
         TyForm::Offer(branches) => {
-            let rules = choice_rules(alloc, table, binders, whole, at + 1, branches, true)?;
+            let list = table.keys.first(part.number);
+            let rules = choice_rules(alloc, table, binders, whole, at + 1, branches, list, true)?;
             Ok(Equation::Own(rules))
         }
         TyForm::Rec(body) => {
             let places = places_under(alloc, at, binders)?;
+            let body = first_part(&table.keys, part, body);
             let word = word_of(alloc, table, &places, whole, at + 1, body)?;
             Ok(Equation::Like(word))
         }
@@ -124,10 +141,10 @@ fn add_parts(
     table: &Table<'_>,
 ) -> Result<(), AllocError>
     requires table { IsTable table.now }
-    requires fit { All (λ p. p.at + nodes p.part.now < 2 ^ 31) table.now.parts.items }
-    ensures { OnOk result (map equation_of equations.new.items ≡ map equation_of equations.old.items ++ map (part_equation (numbers_in table.now) table.now.letters.items) (map part_of table.now.parts.items)) }
+    requires fit { All (λ p. p.at + nodes p.part.ty.now < 2 ^ 31) table.now.parts.found.items }
+    ensures { OnOk result (map equation_of equations.new.items ≡ map equation_of equations.old.items ++ map (part_equation (numbers_in table.now) table.now.letters.items) (map part_of table.now.parts.found.items)) }
 {
-    for part in &table.parts {
+    for part in &table.parts.found {
         equations.push(found_equation(alloc, table, part)?)?;
     }
     Ok(())
@@ -137,8 +154,8 @@ fn add_parts(
 #[tactic(auto, using(crate::proofs::SizeLaws::equations_count))]
 pub(crate) fn equations_of(alloc: Global, table: &Table<'_>) -> Result<Vec<Equation>, AllocError>
     requires table { IsTable table.now }
-    requires fit { All (λ p. p.at + nodes p.part.now < 2 ^ 31) table.now.parts.items }
-    ensures equations { IfOk result (λ es. map equation_of es.items ≡ equations_by table.now.letters.items (map part_of table.now.parts.items)) }
+    requires fit { All (λ p. p.at + nodes p.part.ty.now < 2 ^ 31) table.now.parts.found.items }
+    ensures equations { IfOk result (λ es. map equation_of es.items ≡ equations_by table.now.letters.items (map part_of table.now.parts.found.items)) }
     ensures few { IfOk result (λ es. length es.items < 2 ^ 32) }
 {
     let mut equations = Vec::new(alloc);

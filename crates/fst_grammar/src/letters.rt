@@ -1,18 +1,20 @@
-ghost use Rattle.std.specs.Prelude.{◌≡◌, ◌≤◌, ◌++◌, ◌∷◌, IfOk, IfSome, IsNone, OnOk, drop, length, take};
+ghost use Rattle.std.specs.Prelude.{◌≡◌, ◌≤◌, IfOk, OnOk, length};
 ghost use Rattle.fst_types.specs.View.{branches_of};
+ghost use Rattle.fst_lts.specs.Rising.{IsRising};
 ghost use Rattle.fst_grammar.specs.Labels.{labels_in, branch_labels, is_name as names_itself, names, label_position};
-ghost use Rattle.fst_grammar.specs.Letters.{inserted, inserted_all};
+ghost use Rattle.fst_grammar.specs.Letters.{inserted, inserted_all, IsPlaceFor};
 ghost use Rattle.fst_grammar.specs.Views.{made};
 
 use fst_types::{Branch, Label, Name, Ty, TyForm};
 use std::alloc::{AllocError, Global};
-use std::cmp::Ordering;
 
 /// Adds the labels of a type to labels in order.
 #[cycle(labels)]
 #[tactic(auto, using(crate::proofs::LabelLaws::inserted_append))]
 pub(crate) fn add_labels(alloc: Global, letters: &mut Vec<Label>, t: &Ty) -> Result<(), AllocError>
-    ensures { OnOk result (letters.new.items ≡ inserted_all letters.old.items (labels_in t.now)) }
+    requires { IsRising letters.old.items }
+    ensures letters { OnOk result (letters.new.items ≡ inserted_all letters.old.items (labels_in t.now)) }
+    ensures rising { OnOk result (IsRising letters.new.items) }
 {
     match &t.form {
         TyForm::Send(base) => insert(letters, Label::Send(*base)),
@@ -37,7 +39,9 @@ fn add_branches(
     branches: &[Branch],
     offers: bool,
 ) -> Result<(), AllocError>
-    ensures { OnOk result (letters.new.items ≡ inserted_all letters.old.items (branch_labels (made offers) (branches_of branches.now))) }
+    requires { IsRising letters.old.items }
+    ensures letters { OnOk result (letters.new.items ≡ inserted_all letters.old.items (branch_labels (made offers) (branches_of branches.now))) }
+    ensures rising { OnOk result (IsRising letters.new.items) }
 {
     for branch in branches {
         insert(letters, choice_label(alloc, &branch.label, offers)?)?;
@@ -58,27 +62,22 @@ pub(crate) fn choice_label(alloc: Global, name: &Name, offers: bool) -> Result<L
     }
 }
 
-/// Where a label goes among labels in order, or none where it is there.
-#[tactic(auto, using(crate::proofs::InsertLaws::less_at, crate::proofs::InsertLaws::equal_at, crate::proofs::InsertLaws::greater_at))]
-fn place_for(letters: &[Label], a: &Label) -> Option<usize>
-    ensures there { IsNone result → inserted letters.now a.now ≡ letters.now }
-    ensures place { IfSome result (λ i. (i ≤ length letters.now) × (inserted letters.now a.now ≡ take i letters.now ++ a.now ∷ drop i letters.now)) }
+/// The place of a label among labels in order, or else the place where it goes.
+fn place_for(letters: &[Label], a: &Label) -> Result<usize, usize>
+    requires { IsRising letters.now }
+    ensures { IsPlaceFor letters.now a.now result }
 {
-    for (i, letter) in letters.iter().enumerate() {
-        match a.order(letter) {
-            Ordering::Less => return Some(i),
-            Ordering::Equal => return None,
-            Ordering::Greater => {}
-        }
-    }
-    Some(letters.len())
+    letters.binary_search_by(|letter| letter.order(a))
 }
 
 /// Puts a label at its place among labels in order, unless it is there.
+#[tactic(auto, using(crate::proofs::LabelLaws::inserted_rising))]
 fn insert(letters: &mut Vec<Label>, label: Label) -> Result<(), AllocError>
-    ensures { OnOk result (letters.new.items ≡ inserted letters.old.items label) }
+    requires { IsRising letters.old.items }
+    ensures letters { OnOk result (letters.new.items ≡ inserted letters.old.items label) }
+    ensures rising { OnOk result (IsRising letters.new.items) }
 {
-    if let Some(i) = place_for(letters, &label) {
+    if let Err(i) = place_for(letters, &label) {
         letters.insert(i, label)?;
     }
     Ok(())
@@ -109,15 +108,14 @@ pub(crate) fn names_among(alloc: Global, letters: &[Label]) -> Result<Vec<Label>
     Ok(found)
 }
 
-/// The place of a label among these, or their number where it isn't there.
+/// The place of a label among labels in order, or their number where it isn't there.
 pub(crate) fn place_among(letters: &[Label], a: &Label) -> usize
+    requires { IsRising letters.now }
     ensures value { result ≡ label_position letters.now a.now }
     ensures within { result ≤ length letters.now }
 {
-    for (i, letter) in letters.iter().enumerate() {
-        if a.same(letter) {
-            return i;
-        }
+    match place_for(letters, a) {
+        Ok(i) => i,
+        Err(_) => letters.len(),
     }
-    letters.len()
 }

@@ -1,15 +1,19 @@
-ghost use Rattle.std.specs.Prelude.{◌≡◌, ◌+◌, ◌-◌, ◌<◌, ◌≤◌, ◌^◌, ◌++◌, OnOk, map, min, length};
+ghost use Rattle.std.specs.Prelude.{◌≡◌, ◌+◌, ◌<◌, ◌≤◌, ◌^◌, ◌++◌, OnOk, map, length};
 ghost use Rattle.fst_types.specs.View.{branches_of};
 ghost use Rattle.fst_types.specs.Size.{nodes, nodes_all};
-ghost use Rattle.fst_grammar.specs.Parts.{stands_at, position, with_part, with_parts, parts, parts_all};
-ghost use Rattle.fst_grammar.specs.Views.{part_of, places_of, place_in};
+ghost use Rattle.fst_grammar.specs.Shapes.{shape_of_all};
+ghost use Rattle.fst_grammar.specs.Keys.{Stands};
+ghost use Rattle.fst_grammar.specs.Parts.{position, with_part, with_parts, parts as parts_in, parts_all};
+ghost use Rattle.fst_grammar.specs.Views.{part_of, places_of, place_in, HasNumber, IsKept};
 ghost use Rattle.fst_grammar.specs.Place.{entered};
 ghost use Rattle.fst_grammar.specs.PartsAt.{own_parts};
 
-use crate::closing::{is_whole, node_count, same_type};
+use crate::closing::{is_whole, node_count};
 use crate::found::Found;
+use crate::keys::Keys;
+use crate::numbers::{Numbered, first_part, second_part};
 use fst_lts::terminated;
-use fst_types::{Branch, Ty, TyForm, size};
+use fst_types::{Branch, TyForm};
 use std::alloc::{AllocError, Global};
 
 /// The places of the binders around a part, innermost first.
@@ -19,27 +23,22 @@ pub(crate) enum Binders<'a> {
     Under(u32, &'a Binders<'a>),
 }
 
-/// Whether a part stands at this place of this closed type; types of different sizes aren't walked.
-#[tactic(auto, using(crate::proofs::SameLaws::other_size))]
-fn stands(part: &Found<'_>, whole: &Ty, count: u64, at: u32) -> bool
-    requires { count ≡ min (nodes whole.now) (2 ^ 64 - 1) }
-    ensures { result ≡ stands_at (part_of part.now) whole.now at }
-{
-    part.at == at && part.size == count && same_type(part.whole, whole)
+/// The choices and `rec`s of two types, in order, and their numbers and places, by which they are found.
+#[derive(Drop)]
+pub(crate) struct Parts<'a> {
+    pub found: Vec<Found<'a>>,
+    pub index: Keys,
 }
 
-/// The first place of a part in the list, or the length.
-pub(crate) fn place_of(parts: &[Found<'_>], whole: &Ty, at: u32) -> usize
-    ensures value { result ≡ position (map part_of parts.now) whole.now at }
-    ensures within { result ≤ length parts.now }
+/// The place of a part in the list, or the length.
+#[tactic(auto, using(crate::proofs::PartLaws::place_position))]
+pub(crate) fn place_of(keys: &Keys, parts: &Parts<'_>, whole: Numbered<'_>, at: u32) -> usize
+    requires whole { HasNumber keys.now whole }
+    requires kept { IsKept keys.now parts.now }
+    ensures value { result ≡ position (map part_of parts.now.found.items) whole.entry.ty.now at }
+    ensures within { result ≤ length parts.now.found.items }
 {
-    let count = size(whole);
-    for (i, part) in parts.iter().enumerate() {
-        if stands(part, whole, count, at) {
-            return i;
-        }
-    }
-    parts.len()
+    parts.index.place_of(&[whole.number, at as usize])
 }
 
 fn list_places(out: &mut Vec<u32>, binders: &Binders<'_>) -> Result<(), AllocError>
@@ -57,22 +56,28 @@ fn list_places(out: &mut Vec<u32>, binders: &Binders<'_>) -> Result<(), AllocErr
 /// Puts a part behind the list, unless it is there.
 fn note<'a>(
     alloc: Global,
-    found: &mut Vec<Found<'a>>,
-    whole: &'a Ty,
+    keys: &Keys,
+    parts: &mut Parts<'a>,
+    whole: Numbered<'a>,
     at: u32,
     binders: &Binders<'_>,
-    t: &'a Ty,
+    t: Numbered<'a>,
 ) -> Result<(), AllocError>
-    ensures { OnOk result (map part_of found.new.items ≡ with_part (map part_of found.old.items) (record { place = place_in whole.now at (places_of binders.now); type = t.now })) }
+    requires whole { HasNumber keys.now whole }
+    requires part { HasNumber keys.now t }
+    requires kept { IsKept keys.now parts.old }
+    ensures kept { OnOk result (IsKept keys.now parts.new) }
+    ensures parts { OnOk result (map part_of parts.new.found.items ≡ with_part (map part_of parts.old.found.items) (record { place = place_in whole.entry.ty.now at (places_of binders.now); type = t.entry.ty.now })) }
 {
-    if place_of(found, whole, at) < found.len() {
+    if place_of(keys, parts, whole, at) < parts.found.len() {
         return Ok(());
     }
     let mut places = Vec::new(alloc);
     list_places(&mut places, binders)?;
-    found.push(Found {
+    let key = Vec::from_slice(alloc, &[whole.number, at as usize])?;
+    parts.index.put(key)?;
+    parts.found.push(Found {
         whole,
-        size: size(whole),
         at,
         binders: places,
         part: t,
@@ -85,30 +90,32 @@ fn note<'a>(
 #[tactic(auto, using(crate::proofs::TableLaws::with_append))]
 pub(crate) fn note_all<'a>(
     alloc: Global,
-    found: &mut Vec<Found<'a>>,
-    whole: &'a Ty,
+    keys: &Keys,
+    parts: &mut Parts<'a>,
+    whole: Numbered<'a>,
     at: u32,
     binders: &Binders<'_>,
-    t: &'a Ty,
+    t: Numbered<'a>,
 ) -> Result<(), AllocError>
-    requires { at + nodes t.now < 2 ^ 31 }
-    ensures { OnOk result (map part_of found.new.items ≡ with_parts (map part_of found.old.items) (parts (place_in whole.now at (places_of binders.now)) t.now)) }
+    requires fits { at + nodes t.ty.now < 2 ^ 31 }
+    requires whole { HasNumber keys.now whole }
+    requires part { HasNumber keys.now t }
+    requires kept { IsKept keys.now parts.old }
+    ensures kept { OnOk result (IsKept keys.now parts.new) }
+    ensures parts { OnOk result (map part_of parts.new.found.items ≡ with_parts (map part_of parts.old.found.items) (parts_in (place_in whole.entry.ty.now at (places_of binders.now)) t.entry.ty.now)) }
 {
-    match &t.form {
+    let ty = t.ty;
+    match &ty.form {
         TyForm::Seq(first, second) => {
-            note_all(alloc, found, whole, at + 1, binders, first)?;
-            note_all(
-                alloc,
-                found,
-                whole,
-                at + (1 + node_count(first)),
-                binders,
-                second,
-            )
+            let after = at + (1 + node_count(first));
+            let first = first_part(keys, t, first);
+            note_all(alloc, keys, parts, whole, at + 1, binders, first)?;
+            let second = second_part(keys, t, second);
+            note_all(alloc, keys, parts, whole, after, binders, second)
         }
-        TyForm::Select(_) => note_entered(alloc, found, whole, at, binders, t),
-        TyForm::Offer(_) => note_entered(alloc, found, whole, at, binders, t),
-        TyForm::Rec(_) => note_entered(alloc, found, whole, at, binders, t),
+        TyForm::Select(_) => note_entered(alloc, keys, parts, whole, at, binders, t),
+        TyForm::Offer(_) => note_entered(alloc, keys, parts, whole, at, binders, t),
+        TyForm::Rec(_) => note_entered(alloc, keys, parts, whole, at, binders, t),
         _ => Ok(()),
     }
 }
@@ -117,19 +124,24 @@ pub(crate) fn note_all<'a>(
 #[cycle(note)]
 fn note_entered<'a>(
     alloc: Global,
-    found: &mut Vec<Found<'a>>,
-    whole: &'a Ty,
+    keys: &Keys,
+    parts: &mut Parts<'a>,
+    whole: Numbered<'a>,
     at: u32,
     binders: &Binders<'_>,
-    t: &'a Ty,
+    t: Numbered<'a>,
 ) -> Result<(), AllocError>
-    requires { at + nodes t.now < 2 ^ 31 }
-    ensures { OnOk result (map part_of found.new.items ≡ with_parts (map part_of found.old.items) (own_parts (entered (place_in whole.now at (places_of binders.now)) t.now) t.now)) }
+    requires fits { at + nodes t.ty.now < 2 ^ 31 }
+    requires whole { HasNumber keys.now whole }
+    requires part { HasNumber keys.now t }
+    requires kept { IsKept keys.now parts.old }
+    ensures kept { OnOk result (IsKept keys.now parts.new) }
+    ensures parts { OnOk result (map part_of parts.new.found.items ≡ with_parts (map part_of parts.old.found.items) (own_parts (entered (place_in whole.entry.ty.now at (places_of binders.now)) t.entry.ty.now) t.entry.ty.now)) }
 {
-    if is_whole(t) {
-        note_own(alloc, found, t, 0, &Binders::Top, t)
+    if is_whole(t.ty) {
+        note_own(alloc, keys, parts, t, 0, &Binders::Top, t)
     } else {
-        note_own(alloc, found, whole, at, binders, t)
+        note_own(alloc, keys, parts, whole, at, binders, t)
     }
 }
 
@@ -137,37 +149,38 @@ fn note_entered<'a>(
 #[cycle(note)]
 fn note_own<'a>(
     alloc: Global,
-    found: &mut Vec<Found<'a>>,
-    whole: &'a Ty,
+    keys: &Keys,
+    parts: &mut Parts<'a>,
+    whole: Numbered<'a>,
     at: u32,
     binders: &Binders<'_>,
-    t: &'a Ty,
+    t: Numbered<'a>,
 ) -> Result<(), AllocError>
-    requires { at + nodes t.now < 2 ^ 31 }
-    ensures { OnOk result (map part_of found.new.items ≡ with_parts (map part_of found.old.items) (own_parts (place_in whole.now at (places_of binders.now)) t.now)) }
+    requires fits { at + nodes t.ty.now < 2 ^ 31 }
+    requires whole { HasNumber keys.now whole }
+    requires part { HasNumber keys.now t }
+    requires kept { IsKept keys.now parts.old }
+    ensures kept { OnOk result (IsKept keys.now parts.new) }
+    ensures parts { OnOk result (map part_of parts.new.found.items ≡ with_parts (map part_of parts.old.found.items) (own_parts (place_in whole.entry.ty.now at (places_of binders.now)) t.entry.ty.now)) }
 {
-    match &t.form {
+    let (ty, list) = (t.ty, keys.first(t.number));
+    match &ty.form {
         TyForm::Select(branches) => {
-            note(alloc, found, whole, at, binders, t)?;
-            note_branches(alloc, found, whole, at + 1, binders, branches)
+            note(alloc, keys, parts, whole, at, binders, t)?;
+            note_branches(alloc, keys, parts, whole, at + 1, binders, branches, list)
         }
         TyForm::Offer(branches) => {
-            note(alloc, found, whole, at, binders, t)?;
-            note_branches(alloc, found, whole, at + 1, binders, branches)
+            note(alloc, keys, parts, whole, at, binders, t)?;
+            note_branches(alloc, keys, parts, whole, at + 1, binders, branches, list)
         }
         TyForm::Rec(body) => {
             if terminated(body) {
                 return Ok(());
             }
-            note(alloc, found, whole, at, binders, t)?;
-            note_all(
-                alloc,
-                found,
-                whole,
-                at + 1,
-                &Binders::Under(at, &*binders),
-                body,
-            )
+            note(alloc, keys, parts, whole, at, binders, t)?;
+            let inner = Binders::Under(at, &*binders);
+            let body = first_part(keys, t, body);
+            note_all(alloc, keys, parts, whole, at + 1, &inner, body)
         }
         _ => Ok(()),
     }
@@ -177,19 +190,31 @@ fn note_own<'a>(
 #[tactic(auto, using(fst_types::proofs::Heights::height_at, crate::proofs::TableLaws::with_append, crate::proofs::BranchLaws::branches_at))]
 fn note_branches<'a>(
     alloc: Global,
-    found: &mut Vec<Found<'a>>,
-    whole: &'a Ty,
+    keys: &Keys,
+    parts: &mut Parts<'a>,
+    whole: Numbered<'a>,
     at: u32,
     binders: &Binders<'_>,
     branches: &'a [Branch],
+    list: usize,
 ) -> Result<(), AllocError>
-    requires { at + nodes_all (branches_of branches.now) < 2 ^ 31 }
-    ensures { OnOk result (map part_of found.new.items ≡ with_parts (map part_of found.old.items) (parts_all (place_in whole.now at (places_of binders.now)) (branches_of branches.now))) }
+    requires fits { at + nodes_all (branches_of branches.now) < 2 ^ 31 }
+    requires whole { HasNumber keys.now whole }
+    requires part { Stands keys.now list (shape_of_all (branches_of branches.now)) }
+    requires kept { IsKept keys.now parts.old }
+    ensures kept { OnOk result (IsKept keys.now parts.new) }
+    ensures parts { OnOk result (map part_of parts.new.found.items ≡ with_parts (map part_of parts.old.found.items) (parts_all (place_in whole.entry.ty.now at (places_of binders.now)) (branches_of branches.now))) }
 {
     let mut place = at;
+    let mut list = list;
     for branch in branches {
-        note_all(alloc, found, whole, place + 1, binders, &branch.body)?;
+        let body = Numbered {
+            ty: &branch.body,
+            number: keys.first(list),
+        };
+        note_all(alloc, keys, parts, whole, place + 1, binders, body)?;
         place += 1 + node_count(&branch.body);
+        list = keys.second(list);
     }
     Ok(())
 }

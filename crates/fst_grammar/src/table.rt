@@ -1,20 +1,24 @@
 ghost use Rattle.std.specs.Prelude.{◌≡◌, []};
 ghost use Rattle.fst_grammar.specs.Place.{entered};
 ghost use Rattle.fst_grammar.specs.Word.{node_at};
-ghost use Rattle.fst_grammar.specs.Views.{numbers_in, place_in, IsTable};
+ghost use Rattle.fst_grammar.specs.Views.{numbers_in, place_in, HasNumber, IsTable};
 
 use crate::closing::is_whole;
-use crate::found::Found;
+use crate::keys::Keys;
 use crate::letters::place_among;
-use crate::parts::place_of;
-use fst_types::{Label, Ty};
+use crate::numbers::Numbered;
+use crate::parts::{Parts, place_of};
+use fst_types::Label;
 
 /// The letters of two types in label order, the messages and variables among them, and the choices and `rec`s.
 #[derive(Drop)]
 pub(crate) struct Table<'a> {
     pub letters: Vec<Label>,
     pub names: Vec<Label>,
-    pub parts: Vec<Found<'a>>,
+    pub parts: Parts<'a>,
+    pub keys: Keys,
+    pub left: Numbered<'a>,
+    pub right: Numbered<'a>,
 }
 
 impl Table<'_> {
@@ -27,19 +31,22 @@ impl Table<'_> {
     }
 
     /// The number of the choice or `rec` at a place of a closed type.
-    pub(crate) fn node(&self, whole: &Ty, at: u32) -> u32
-        requires { IsTable self.now }
-        ensures { result ≡ (numbers_in self.now).node whole.now at }
+    pub(crate) fn node(&self, whole: Numbered<'_>, at: u32) -> u32
+        requires table { IsTable self.now }
+        requires whole { HasNumber self.now.keys whole }
+        ensures { result ≡ (numbers_in self.now).node whole.entry.ty.now at }
     {
-        (self.names.len() + place_of(&self.parts, whole, at)) as u32
+        (self.names.len() + place_of(&self.keys, &self.parts, whole, at)) as u32
     }
 
     /// The number of a choice or `rec`, by its place in the closed type around it.
-    pub(crate) fn number(&self, whole: &Ty, at: u32, t: &Ty) -> u32
-        requires { IsTable self.now }
-        ensures { result ≡ node_at (numbers_in self.now) (entered (place_in whole.now at []) t.now) }
+    pub(crate) fn number(&self, whole: Numbered<'_>, at: u32, t: Numbered<'_>) -> u32
+        requires table { IsTable self.now }
+        requires whole { HasNumber self.now.keys whole }
+        requires part { HasNumber self.now.keys t }
+        ensures { result ≡ node_at (numbers_in self.now) (entered (place_in whole.entry.ty.now at []) t.entry.ty.now) }
     {
-        if is_whole(t) {
+        if is_whole(t.ty) {
             self.node(t, 0)
         } else {
             self.node(whole, at)

@@ -8,13 +8,15 @@ ghost use Rattle.fst_grammar.specs.Letters.{inserted_all};
 ghost use Rattle.fst_grammar.specs.Parts.{parts_of};
 ghost use Rattle.fst_grammar.specs.Translation.{IsTranslation, IsInRange, IsSmall, IsTooLarge, right_sides, most_letters, most_nodes};
 ghost use Rattle.fst_grammar.specs.Done.{IsDone};
-ghost use Rattle.fst_grammar.specs.Views.{part_of, IsTable};
+ghost use Rattle.fst_grammar.specs.Views.{part_of, HasNumber, IsTable, IsKept};
 ghost use Rattle.fst_grammar.specs.declared.fault.TranslateFault.TheVariants.{TooLarge};
 
 use crate::equations::equations_of;
 use crate::fault::TranslateFault;
+use crate::keys::Keys;
 use crate::letters::{add_labels, names_among};
-use crate::parts::{Binders, note_all};
+use crate::numbers::{Numbered, with_number};
+use crate::parts::{Binders, Parts, note_all};
 use crate::rows::rows_of;
 use crate::table::Table;
 use crate::words::word_of;
@@ -52,12 +54,36 @@ fn translate_small(alloc: Global, s: &Ty, r: &Ty) -> Result<(Grammar, Word, Word
     ensures too_large { IfErr result (λ f. f ≡ TooLarge → IsTooLarge s.now r.now) }
 {
     let table = table_of(alloc, s, r)?;
-    let left = word_of(alloc, &table, &[], s, 0, s)?;
-    let right = word_of(alloc, &table, &[], r, 0, r)?;
+    let left = word_of(alloc, &table, &[], table.left, 0, table.left)?;
+    let right = word_of(alloc, &table, &[], table.right, 0, table.right)?;
     let equations = equations_of(alloc, &table)?;
     let rules = rows_of(alloc, &equations)?;
     let letters = table.letters;
     Ok((Grammar { letters, rules }, left, right))
+}
+
+/// The choices and `rec`s of two types, the left before the right.
+#[tactic(auto, using(crate::proofs::TableLaws::with_append))]
+fn noted<'a>(
+    alloc: Global,
+    keys: &Keys,
+    left: Numbered<'a>,
+    right: Numbered<'a>,
+) -> Result<Parts<'a>, AllocError>
+    requires left { nodes left.ty.now ≤ most_nodes }
+    requires right { nodes right.ty.now ≤ most_nodes }
+    requires number_left { HasNumber keys.now left }
+    requires number_right { HasNumber keys.now right }
+    ensures parts { IfOk result (λ p. map part_of p.found.items ≡ parts_of left.entry.ty.now right.entry.ty.now) }
+    ensures kept { IfOk result (IsKept keys.now) }
+{
+    let mut parts = Parts {
+        found: Vec::new(alloc),
+        index: Keys::new(alloc),
+    };
+    note_all(alloc, keys, &mut parts, left, 0, &Binders::Top, left)?;
+    note_all(alloc, keys, &mut parts, right, 0, &Binders::Top, right)?;
+    Ok(parts)
 }
 
 /// The letters, names and parts of two types.
@@ -66,20 +92,28 @@ fn table_of<'a>(alloc: Global, s: &'a Ty, r: &'a Ty) -> Result<Table<'a>, AllocE
     requires left { nodes s.now ≤ most_nodes }
     requires right { nodes r.now ≤ most_nodes }
     ensures letters { IfOk result (λ t. t.letters.items ≡ inserted_all [] (labels_in s.now ++ labels_in r.now)) }
-    ensures parts { IfOk result (λ t. map part_of t.parts.items ≡ parts_of s.now r.now) }
+    ensures parts { IfOk result (λ t. map part_of t.parts.found.items ≡ parts_of s.now r.now) }
     ensures table { IfOk result IsTable }
-    ensures within { IfOk result (λ t. All (λ p. p.at + nodes p.part.now < 2 ^ 31) t.parts.items) }
+    ensures left { IfOk result (λ t. t.left.ty.now ≡ s.now) }
+    ensures right { IfOk result (λ t. t.right.ty.now ≡ r.now) }
+    ensures number_left { IfOk result (λ t. HasNumber t.keys t.left) }
+    ensures number_right { IfOk result (λ t. HasNumber t.keys t.right) }
+    ensures within { IfOk result (λ t. All (λ p. p.at + nodes p.part.ty.now < 2 ^ 31) t.parts.found.items) }
 {
     let mut letters = Vec::new(alloc);
     add_labels(alloc, &mut letters, s)?;
     add_labels(alloc, &mut letters, r)?;
     let names = names_among(alloc, &letters)?;
-    let mut parts = Vec::new(alloc);
-    note_all(alloc, &mut parts, s, 0, &Binders::Top, s)?;
-    note_all(alloc, &mut parts, r, 0, &Binders::Top, r)?;
+    let mut keys = Keys::new(alloc);
+    let left = with_number(alloc, &mut keys, s)?;
+    let right = with_number(alloc, &mut keys, r)?;
+    let parts = noted(alloc, &keys, left, right)?;
     Ok(Table {
         letters,
         names,
         parts,
+        keys,
+        left,
+        right,
     })
 }

@@ -2,12 +2,13 @@ ghost use Rattle.std.specs.Prelude.{◌≡◌, ◌+◌, ◌<◌, ◌^◌, ◌++�
 ghost use Rattle.fst_types.specs.Size.{nodes};
 ghost use Rattle.fst_grammar.specs.Place.{binder};
 ghost use Rattle.fst_grammar.specs.Word.{word};
-ghost use Rattle.fst_grammar.specs.Views.{numbers_in, place_in, IsTable};
+ghost use Rattle.fst_grammar.specs.Views.{numbers_in, place_in, HasNumber, IsTable};
 
 use crate::closing::node_count;
+use crate::numbers::{Numbered, first_part, second_part};
 use crate::table::Table;
 use fst_lts::terminated;
-use fst_types::{Label, Ty, TyForm};
+use fst_types::{Label, TyForm};
 use fst_words::Word;
 use std::alloc::{AllocError, Global};
 
@@ -34,15 +35,18 @@ fn push_word(
     out: &mut Vec<u32>,
     table: &Table<'_>,
     binders: &[u32],
-    whole: &Ty,
+    whole: Numbered<'_>,
     at: u32,
-    t: &Ty,
+    t: Numbered<'_>,
 ) -> Result<(), AllocError>
     requires table { IsTable table.now }
-    requires fits { at + nodes t.now < 2 ^ 31 }
-    ensures { OnOk result (out.new.items ≡ out.old.items ++ word (numbers_in table.now) (place_in whole.now at binders.now) t.now) }
+    requires fits { at + nodes t.ty.now < 2 ^ 31 }
+    requires whole { HasNumber table.now.keys whole }
+    requires part { HasNumber table.now.keys t }
+    ensures { OnOk result (out.new.items ≡ out.old.items ++ word (numbers_in table.now) (place_in whole.entry.ty.now at binders.now) t.entry.ty.now) }
 {
-    match &t.form {
+    let ty = t.ty;
+    match &ty.form {
         TyForm::Send(base) => add(out, table.name(&Label::Send(*base))),
         TyForm::Receive(base) => add(out, table.name(&Label::Receive(*base))),
         TyForm::Var(k) => add(out, table.name(&Label::Var(*k))),
@@ -50,15 +54,11 @@ fn push_word(
         TyForm::Select(_) => add(out, table.number(whole, at, t)),
         TyForm::Offer(_) => add(out, table.number(whole, at, t)),
         TyForm::Seq(first, second) => {
+            let after = at + (1 + node_count(first));
+            let first = first_part(&table.keys, t, first);
             push_word(out, table, binders, whole, at + 1, first)?;
-            push_word(
-                out,
-                table,
-                binders,
-                whole,
-                at + (1 + node_count(first)),
-                second,
-            )
+            let second = second_part(&table.keys, t, second);
+            push_word(out, table, binders, whole, after, second)
         }
         TyForm::Rec(body) => {
             if terminated(body) {
@@ -76,13 +76,15 @@ pub(crate) fn word_of(
     alloc: Global,
     table: &Table<'_>,
     binders: &[u32],
-    whole: &Ty,
+    whole: Numbered<'_>,
     at: u32,
-    t: &Ty,
+    t: Numbered<'_>,
 ) -> Result<Word, AllocError>
     requires table { IsTable table.now }
-    requires fits { at + nodes t.now < 2 ^ 31 }
-    ensures { IfOk result (λ w. w ≡ word (numbers_in table.now) (place_in whole.now at binders.now) t.now) }
+    requires fits { at + nodes t.ty.now < 2 ^ 31 }
+    requires whole { HasNumber table.now.keys whole }
+    requires part { HasNumber table.now.keys t }
+    ensures { IfOk result (λ w. w ≡ word (numbers_in table.now) (place_in whole.entry.ty.now at binders.now) t.entry.ty.now) }
 {
     let mut out = Vec::new(alloc);
     push_word(&mut out, table, binders, whole, at, t)?;

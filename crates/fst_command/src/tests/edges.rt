@@ -48,12 +48,13 @@ fn long_input_is_refused(rt: HostRuntime) -> Result<(), Fail> {
 #[test]
 fn nesting_is_limited(rt: HostRuntime) -> Result<(), Fail> {
     let alloc = rt.alloc();
-    let forms: [(&[u8], &[u8]); 5] = [
+    let forms: [(&[u8], &[u8]); 6] = [
         (b"(", b")"),
         (b"+{A:", b"}"),
         (b"&{A:", b"}"),
         (b"Skip;", b""),
         (b"&{A:!Int};", b""),
+        (b"rec x.", b""),
     ];
     for (open, close) in forms {
         for (times, accepted) in [(199, true), (200, false), (50_000, false)] {
@@ -132,6 +133,41 @@ fn sizes_are_limited(rt: HostRuntime) -> Result<(), Fail> {
             ],
         )?;
         expect_accepted(&rt, alloc, &input, accepted)?;
+    }
+    Ok(())
+}
+
+// A choice of so many branches under 90 `rec`s, each with a message behind it: the grammar has 4,095 letters a branch
+// on the right sides.
+fn nested_choice(alloc: Global, branches: u32) -> Result<Vec<u8>, AllocError> {
+    let mut text = repeated(alloc, &[(b"rec x.(", 90), (b"+{Z:Skip", 1)])?;
+    for i in 1..branches {
+        let branch = format!(in alloc; ",B{i}:Skip")?;
+        text.extend_from_slice(branch.as_bytes())?;
+    }
+    text.extend_from_slice(b"}")?;
+    text.extend_from_slice(&repeated(alloc, &[(b");!Int", 90)])?)?;
+    Ok(text)
+}
+
+#[test]
+fn grammars_are_limited(rt: HostRuntime) -> Result<(), Fail> {
+    let alloc = rt.alloc();
+    let cases: [(u32, &[u8], Status, &[u8]); 3] = [
+        (256, b"", Status::Done, b"no +B1 left\n"),
+        (257, b"", Status::Limit, b"limit 1:1 type size\n"),
+        (257, b"\n (", Status::Limit, b"limit 2:3 type size\n"),
+    ];
+    for (branches, front, status, text) in cases {
+        let mut input = front.to_vec(alloc)?;
+        input.extend_from_slice(&nested_choice(alloc, branches)?)?;
+        if !front.is_empty() {
+            input.extend_from_slice(b")")?;
+        }
+        input.extend_from_slice(b" ~ Skip")?;
+        let run = run_on(&rt, alloc, &["equiv"], &input)?;
+        assert_eq!(rt; run.text.as_slice(), text, "of {branches} branches");
+        assert_eq!(rt; run.status, status, "of {branches} branches");
     }
     Ok(())
 }

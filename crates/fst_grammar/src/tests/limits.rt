@@ -71,6 +71,20 @@ fn wide(alloc: Global, times: u32) -> Result<Ty, AllocError> {
     Ok(leaf(TyForm::Select(only(alloc, whole)?)))
 }
 
+/// `+{m: Skip};..;+{n: Skip}` with each number from m up to n as a label.
+fn choices(alloc: Global, first: u32, last: u32) -> Result<Ty, AllocError> {
+    let mut whole = leaf(TyForm::Skip);
+    for n in first..last {
+        let text = format!(in alloc; "{n}")?;
+        let label = Name::of(alloc, text.as_str().as_bytes())?;
+        let body = leaf(TyForm::Skip);
+        let mut list = Vec::new(alloc);
+        list.push(Branch { label, body })?;
+        whole = seq(alloc, leaf(TyForm::Select(list)), whole)?;
+    }
+    Ok(whole)
+}
+
 /// How many rows a translation has, or none where the types are too large.
 fn rows(answer: Result<(Grammar, Word, Word), TranslateFault>) -> Result<Option<usize>, Fail> {
     match answer {
@@ -131,5 +145,15 @@ fn the_rules_have_at_most_1048576_letters(rt: HostRuntime) -> Result<(), Fail> {
             "{letters} letters"
         );
     }
+    Ok(())
+}
+
+#[test]
+fn closed_types_of_one_size_are_told_apart(rt: HostRuntime) -> Result<(), Fail> {
+    let alloc = rt.alloc();
+    let left = choices(alloc, 0, 600)?;
+    let right = choices(alloc, 400, 1000)?;
+    let found = rows(translated(alloc, &left, &right))?;
+    assert_eq!(rt; found, Some(1000), "600 choices each, 200 of them in both");
     Ok(())
 }

@@ -1,13 +1,13 @@
-use Rattle.std.proofs.Common.{◌≡◌, ◌∙◌, ◌++◌, [], sym, ap, arith, map, length}
-use Rattle.fst_grammar.specs.Place.{top_of}
+use Rattle.std.proofs.Common.{◌≡◌, ◌∙◌, ◌++◌, [], sym, ap, subst, arith, map, length}
+use Rattle.fst_lts.specs.Rising.{IsRising}
 use Rattle.fst_grammar.specs.Labels.{labels_in, names}
 use Rattle.fst_grammar.specs.Letters.{inserted_all}
-use Rattle.fst_grammar.specs.Parts.{parts, with_parts, parts_of}
+use Rattle.fst_grammar.specs.Parts.{parts_of}
 use Rattle.fst_grammar.specs.Views.{part_of}
 use Rattle.fst_grammar.proofs.LabelLaws.{inserted_append}
+use Rattle.fst_grammar.proofs.PlaceLaws.{names_rise}
 use Rattle.fst_grammar.proofs.RowLaws.{length_map}
 use Rattle.fst_grammar.proofs.SizeLaws.{table_small}
-use Rattle.fst_grammar.proofs.TableLaws.{with_append}
 use Rattle.fst_grammar.proofs.translation.table_of.Goals as goal
 
 pub returns-clause-table : goal.returns-clause-table
@@ -15,11 +15,11 @@ returns-clause-table c =
     let s = c.args.s.now in
     let r = c.args.r.now in
     let letters : c.add_labels-2.new.letters.items ≡ inserted_all [] (labels_in s ++ labels_in r) =
-    c.in_ok-add_labels-2.ensures ∙ ap (λ ls. inserted_all ls (labels_in r)) (c.in_ok-add_labels.ensures ∙ ap (λ ls. inserted_all ls (labels_in s)) c.new-letters.ensures.items) ∙ sym (inserted_append [] (labels_in s) (labels_in r)) in
-    let found : map part_of c.note_all-2.new.found.items ≡ parts_of s r =
-    c.in_ok-note_all-2.ensures ∙ ap (λ ps. with_parts ps (parts (top_of r) r)) (c.in_ok-note_all.ensures ∙ ap (λ ps. with_parts (map part_of ps) (parts (top_of s) s)) c.new-parts.ensures.items) ∙ sym (with_append [] (parts (top_of s) s) (parts (top_of r) r)) in
-    let small = table_small s r c.add_labels-2.new.letters.items (map part_of c.note_all-2.new.found.items) c.requires.left c.requires.right letters found in
+    c.in_ok-add_labels-2.ensures.letters ∙ ap (λ ls. inserted_all ls (labels_in r)) (c.in_ok-add_labels.ensures.letters ∙ ap (λ ls. inserted_all ls (labels_in s)) c.new-letters.ensures.items) ∙ sym (inserted_append [] (labels_in s) (labels_in r)) in
+    let found : map part_of c.in_ok-parts.parts.found.items ≡ parts_of s r = c.in_ok-parts.ensures.parts ∙ (λ i. parts_of (c.in_ok-left.ensures.ty i) (c.in_ok-right.ensures.ty i)) in
+    let small = table_small s r c.add_labels-2.new.letters.items (map part_of c.in_ok-parts.parts.found.items) c.requires.left c.requires.right letters found in
     let same : c.in_ok-names.names.items ≡ names c.add_labels-2.new.letters.items = c.in_ok-names.ensures ∙ ap names c.deref.ensures.value in
     let few : length c.in_ok-names.names.items ≡ length (names c.add_labels-2.new.letters.items) = ap length same in
-    let many = length_map part_of c.note_all-2.new.found.items in
-    (same, small.0, omega (arith, small.1))
+    let many = length_map part_of c.in_ok-parts.parts.found.items in
+    let rising : IsRising c.add_labels-2.new.letters.items = c.in_ok-add_labels-2.ensures.rising in
+    (same, small.0, omega (arith, small.1), rising, subst IsRising (sym same) (names_rise c.add_labels-2.new.letters.items rising), c.in_ok-parts.ensures.kept)
