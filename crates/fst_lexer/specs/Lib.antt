@@ -1,0 +1,10 @@
+pub mod Limits
+pub mod Choice
+pub mod Classes
+pub mod Piece
+pub mod Next
+pub mod Reading
+pub mod Tokens
+pub mod Places
+pub mod Lexes
+pub mod Spans

@@ -1,0 +1,15 @@
+//! The tokens of a text.
+#![tactic(auto)]
+
+mod classes;
+mod lexing;
+mod making;
+mod pieces;
+mod placing;
+#[cfg(test)]
+mod tests;
+mod token;
+mod words;
+
+pub use lexing::{lex, one_lexing};
+pub use token::{LexFault, Token, TokenKind};
