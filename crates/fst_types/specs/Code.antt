@@ -19,7 +19,7 @@ name_at (gnum n) = []
 name_at (gcons a b) = num a ∷ name_at b
 
 -- a label comes back from its code
-name_at-name_code : (ns : List ℕ) → name_at (name_code ns) ≡ ns
+pub name_at-name_code : (ns : List ℕ) → name_at (name_code ns) ≡ ns
 name_at-name_code [] = refl
 name_at-name_code (n ∷ ns) = ap (λ m. n ∷ m) (name_at-name_code ns)
 
@@ -38,7 +38,7 @@ base_at (suc (suc zero)) = Char
 base_at (suc (suc (suc n))) = Nothing
 
 -- a base type comes back from its code
-base_at-base_code : (b : Base) → base_at (num (base_code b)) ≡ b
+pub base_at-base_code : (b : Base) → base_at (num (base_code b)) ≡ b
 base_at-base_code Int = refl
 base_at-base_code Bool = refl
 base_at-base_code Char = refl

@@ -8,3 +8,7 @@ pub mod Order
 pub mod Substitution
 pub mod Scoped
 pub mod Scopes
+pub mod WrittenTree
+pub mod WrittenCode
+pub mod WrittenView
+pub mod WrittenFalls

@@ -1,8 +1,9 @@
 //! Types as trees, their labels, and what every later crate asks of them: size, equality, a copy,
-//! substitution and unfolding.
+//! substitution and unfolding; and types as they were written.
 #![tactic(auto)]
 
 mod base;
+mod family;
 mod kind;
 mod label;
 mod name;
@@ -10,8 +11,10 @@ mod scope;
 mod side;
 mod ty;
 mod walks;
+mod written;
 
 pub use base::Base;
+pub use family::{Family, Maker};
 pub use kind::{Kind, Prekind, Use};
 pub use label::Label;
 pub use name::Name;
@@ -19,6 +22,7 @@ pub use scope::{Scope, substitute, unfold};
 pub use side::Side;
 pub use ty::{Branch, Ty, TyForm};
 pub use walks::{copy, same, size};
+pub use written::{Written, WrittenBranch, WrittenForm};
 
 #[cfg(test)]
 mod tests;
