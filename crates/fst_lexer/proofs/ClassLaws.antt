@@ -32,7 +32,7 @@ same_number : (d c : ℕ) → (d == c) ≡ true → d ≡ c
 same_number d c e = grind (arith, nat_tests)
 
 -- what holds of each of these characters holds of one that is among them
-each : (test : ℕ → Bool) (cs : List ℕ) (c : ℕ) → list_all test cs ≡ true → is_among cs c ≡ true → test c ≡ true
+pub each : (test : ℕ → Bool) (cs : List ℕ) (c : ℕ) → list_all test cs ≡ true → is_among cs c ≡ true → test c ≡ true
 each test [] c all e = absurd (cc e)
 each test (d ∷ cs) c all e =
     let h = both (test d) (list_all test cs) all in
@@ -118,7 +118,7 @@ pub backslash_not_plain : (c : ℕ) → is_backslash c ≡ true → is_plain c �
 backslash_not_plain c e = rw (same_number c (byte "\\") e) refl
 
 -- what holds of each of these texts holds of one that is among them
-each_text : (test : List ℕ → Bool) (texts : List (List ℕ)) (t : List ℕ) → list_all test texts ≡ true → list_any (bytes_eq t) texts ≡ true → test t ≡ true
+pub each_text : (test : List ℕ → Bool) (texts : List (List ℕ)) (t : List ℕ) → list_all test texts ≡ true → list_any (bytes_eq t) texts ≡ true → test t ≡ true
 each_text test [] t all e = absurd (cc e)
 each_text test (d ∷ ds) t all e =
     let h = both (test d) (list_all test ds) all in

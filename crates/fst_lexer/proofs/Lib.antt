@@ -1,7 +1,12 @@
 pub mod ClassLaws
+pub mod LetterLaws
 pub mod NextLaws
 pub mod NumberLaws
 pub mod StepLaws
 pub mod PlaceLaws
 pub mod OneLaws
 pub mod SpanLaws
+pub mod ByteLaws
+pub mod WordLaws
+pub mod KindLaws
+pub mod SpellingLaws

@@ -22,7 +22,7 @@ place_end cs n placed all at le so_far =
     let end : drop n cs ≡ [] = nil_from_length (drop n cs) (omega (arith, length-drop n cs)) in
     sym (append-nil placed) ∙ rw end at so_far
 
-length-place_all : (at : ℕ) (cs : List ℕ) → length (place_all at cs) ≡ length cs
+pub length-place_all : (at : ℕ) (cs : List ℕ) → length (place_all at cs) ≡ length cs
 length-place_all at [] = refl
 length-place_all at (c ∷ cs) = ap suc (length-place_all (at + len_utf8 c) cs)
 

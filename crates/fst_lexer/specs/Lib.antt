@@ -8,3 +8,4 @@ pub mod Tokens
 pub mod Places
 pub mod Lexes
 pub mod Spans
+pub mod Spelling

@@ -2,6 +2,7 @@ ghost use Rattle.std.specs.Prelude.{◌≡◌, ◌≤◌, ◌++◌, length, OnOk
 ghost use Rattle.fst_lexer.specs.Tokens.{AreTokens, IsFault, list_of};
 ghost use Rattle.fst_lexer.specs.Lexes.{Lexes, OneLexing, Refuses};
 ghost use Rattle.fst_lexer.specs.Spans.{HaveSpans};
+ghost use Rattle.fst_lexer.specs.Spelling.{SpellingLaw};
 
 use crate::making::{ends_line, place, token_of};
 use crate::pieces::{Placed, piece_at};
@@ -66,4 +67,9 @@ pub fn lex(alloc: Global, bytes: &[u8]) -> Result<Vec<Token>, LexFault>
 /// Bytes have one list of tokens, or one fault other than for want of memory, and not both.
 pub fn one_lexing()
     ensures { OneLexing }
+{}
+
+/// A text that is put together from words has just these words as its tokens.
+pub fn spelled_words()
+    ensures { SpellingLaw }
 {}
