@@ -1,0 +1,151 @@
+ghost use Rattle.std.specs.Prelude.{◌≡◌};
+ghost use Rattle.fst_type_syntax.specs.Lexeme.{spells};
+ghost use Rattle.fst_type_syntax.specs.TypeReading.{base_named, base_word, start_named, start_of, is_one, starts_type, use_of, prekind_named, prekind_of};
+
+use crate::lexeme::Lexeme;
+use fst_lexer::TokenKind;
+use fst_types::{Base, Prekind, Use};
+
+/// What an atomic type begins with.
+#[derive(Clone, Copy, Debug)]
+pub(crate) enum Start {
+    Skip,
+    Send,
+    Receive,
+    Select,
+    Offer,
+    Paren,
+    Name,
+    Word(Base),
+}
+
+/// Whether a token is this reserved word or sign.
+pub(crate) fn spells(word: &str, token: &Lexeme<'_>) -> bool
+    ensures { result ≡ spells word.now token.now }
+{
+    match token.kind {
+        TokenKind::Reserved => token.text == word,
+        TokenKind::Sign => token.text == word,
+        _ => false,
+    }
+}
+
+/// The base type that is this word.
+#[tactic(auto, unfolding(crate::specs::Reading::choose, crate::specs::TypeReading::base_named))]
+fn base_named(text: &str) -> Option<Base>
+    ensures { result ≡ base_named text.now }
+{
+    if text == "Int" {
+        Some(Base::Int)
+    } else if text == "Bool" {
+        Some(Base::Bool)
+    } else if text == "Char" {
+        Some(Base::Char)
+    } else {
+        None
+    }
+}
+
+/// The base type that is one word.
+pub(crate) fn base_word(token: &Lexeme<'_>) -> Option<Base>
+    ensures { result ≡ base_word token.now }
+{
+    match token.kind {
+        TokenKind::Reserved => base_named(token.text),
+        TokenKind::Sign => base_named(token.text),
+        _ => None,
+    }
+}
+
+/// What begins with this reserved word or sign.
+#[tactic(auto, unfolding(crate::specs::Reading::choose, crate::specs::TypeReading::start_named))]
+fn start_named(text: &str) -> Option<Start>
+    ensures { result ≡ start_named text.now }
+{
+    if text == "Skip" {
+        Some(Start::Skip)
+    } else if text == "!" {
+        Some(Start::Send)
+    } else if text == "?" {
+        Some(Start::Receive)
+    } else if text == "+" {
+        Some(Start::Select)
+    } else if text == "&" {
+        Some(Start::Offer)
+    } else if text == "(" {
+        Some(Start::Paren)
+    } else {
+        match base_named(text) {
+            Some(base) => Some(Start::Word(base)),
+            None => None,
+        }
+    }
+}
+
+/// What an atomic type begins with, where one begins with this token.
+pub(crate) fn start_of(token: &Lexeme<'_>) -> Option<Start>
+    ensures { result ≡ start_of token.now }
+{
+    match token.kind {
+        TokenKind::Lower => Some(Start::Name),
+        TokenKind::Upper => Some(Start::Name),
+        TokenKind::Reserved => start_named(token.text),
+        TokenKind::Sign => start_named(token.text),
+        _ => None,
+    }
+}
+
+/// Whether this is a number of value 1.
+pub(crate) fn is_one(token: &Lexeme<'_>) -> bool
+    ensures { result ≡ is_one token.now }
+{
+    match token.kind {
+        TokenKind::Number(value) => value == 1,
+        _ => false,
+    }
+}
+
+/// Whether a type may begin with this token.
+pub(crate) fn starts_type(token: &Lexeme<'_>) -> bool
+    ensures { result ≡ starts_type token.now }
+{
+    spells("rec", token) || start_of(token).is_some()
+}
+
+/// The first half of a kind.
+#[tactic(auto, unfolding(crate::specs::Reading::choose))]
+pub(crate) fn use_of(token: &Lexeme<'_>) -> Option<Use>
+    ensures { result ≡ use_of token.now }
+{
+    if is_one(token) {
+        Some(Use::Once)
+    } else if spells("*", token) {
+        Some(Use::Many)
+    } else {
+        None
+    }
+}
+
+/// The second half of a kind, by its name.
+#[tactic(auto, unfolding(crate::specs::Reading::choose, crate::specs::TypeReading::prekind_named))]
+fn prekind_named(text: &str) -> Option<Prekind>
+    ensures { result ≡ prekind_named text.now }
+{
+    if text == "S" {
+        Some(Prekind::Session)
+    } else if text == "T" {
+        Some(Prekind::Top)
+    } else {
+        None
+    }
+}
+
+/// The second half of a kind.
+pub(crate) fn prekind_of(token: &Lexeme<'_>) -> Option<Prekind>
+    ensures { result ≡ prekind_of token.now }
+{
+    match token.kind {
+        TokenKind::Upper => prekind_named(token.text),
+        _ => None,
+    }
+}
