@@ -1,25 +1,25 @@
--- Words and bytes have at most one output.
-use Rattle.std.proofs.Common.{◌≡◌, ◌∙◌, ◌⊎◌, inl, inr, ℕ, ◌≤◌, List, [], ◌∷◌, length, Result, Ok, Err, refl, sym, ap, subst, arith}
-use Rattle.std.specs.Prelude.{◌≢◌, IfOk, codes}
-use Rattle.std.specs.Str.Parse.{digits_value}
+-- What is written is an output, and there is at most one.
+use Rattle.std.proofs.Common.{◌≡◌, ◌∙◌, inl, inr, ℕ, ◌≤◌, List, [], ◌∷◌, length, Result, Ok, Err, refl, sym, ap, subst, arith}
+use Rattle.std.specs.Prelude.{codes, IfOk}
 use Rattle.std.specs.declared.alloc.AllocError.{AllocError}
+use Rattle.std.specs.Str.Parse.{digits_value}
 use Rattle.std.proofs.lemmas.List.{append_cancel_left}
 use Rattle.fst_types.specs.Tree.{Tree}
-use Rattle.fst_types.specs.Scoped.{IsScoped}
-use Rattle.fst_types.specs.Order.{IsSorted}
-use Rattle.fst_kinds.specs.declared.fault.KindFault.{KindFault}
-use Rattle.fst_kinds.specs.declared.fault.KindFault.TheVariants.{Memory}
-use Rattle.fst_equiv.specs.Answers.{Answers, OneAnswer}
+use Rattle.fst_kinds.specs.WellFormed.{IsSession}
+use Rattle.fst_lexer.specs.Lexes.{OneLexing}
+use Rattle.fst_type_syntax.specs.Derives.{OneReading}
+use Rattle.fst_print.specs.declared.refusals.Phrase.{Phrase}
+use Rattle.fst_equiv.specs.Answers.{Answer, yes, no, undecided, Answers, OneAnswer}
+use Rattle.fst_equiv.specs.Answers as answer
 use Rattle.fst_command.specs.declared.answer.Answer.{Answer as Written}
 use Rattle.fst_command.specs.declared.status.Status.{Status}
 use Rattle.fst_command.specs.declared.status.Status.TheVariants as status
 use Rattle.fst_command.specs.Limits.{most_bytes}
-use Rattle.fst_command.specs.Words.{IsBudget, IsOption, IsEquiv}
-use Rattle.fst_command.specs.Question.{IsQuestion, NoQuestion}
-use Rattle.fst_command.specs.Texts.{fault_text, refused_text}
-use Rattle.fst_command.specs.Output.{session_kind, answer_text, status_of, AnswersQuestion, Refuses, RefusesFirst, IsFault, IsRefusal, IsOutput, OneOutput}
-use Rattle.fst_command.proofs.QuestionLaws.{one_question, question_scoped, question_sorted}
-use Rattle.fst_command.proofs.SessionLaws.{no_fault}
+use Rattle.fst_command.specs.Words.{IsBudget, IsOption, IsEquiv, NoCommand}
+use Rattle.fst_command.specs.Finding.{Finding, refused, too_deep, too_large, asked, Finds}
+use Rattle.fst_command.specs.Texts.{refused_text, too_deep_text, too_large_text, usage_text}
+use Rattle.fst_command.specs.Output.{IsAnswerTo, answer_text, status_of, IsFound, AnswersQuestion, IsRefusal, IsTooLong, IsOutput, OneOutput}
+use Rattle.fst_command.proofs.FindingLaws.{one_finding}
 
 -- ---- the words
 
@@ -37,151 +37,105 @@ one_budget : (ws : List (List ℕ)) (m n : ℕ) → IsEquiv ws m → IsEquiv ws 
 one_budget [] m n p q = absurd p
 one_budget (w ∷ ws) m n p q = one_option ws m n p.1 q.1
 
--- ---- refusals
+-- ---- what is written
 
--- what refuses the first type that is no session type, with its status, is an output
-pub fault_output : (bytes : List ℕ) (budget : ℕ) → length bytes ≤ most_bytes → (left right : Tree) (left_at right_at : ℕ) → IsQuestion bytes left right left_at right_at →
-    (fault : KindFault) → fault ≢ Memory → (text : List ℕ) → RefusesFirst bytes left left_at right right_at fault text →
-    (r : Result Written AllocError) → IfOk r (λ a. a.status ≡ status.Refused) → IfOk r (λ a. a.text.items ≡ text) →
-    IfOk r (λ a. (words : List (List ℕ)) → IsEquiv words budget → IsOutput words bytes a.text.items a.status)
-fault_output bytes budget short left right left_at right_at question fault found text refuses (Ok a) ended written = λ words command.
-    subst (IsOutput words bytes a.text.items) (sym ended)
-    (subst (λ t. IsOutput words bytes t status.Refused) (sym written) (record {
+abbrev found : (words : List (List ℕ)) (bytes : List ℕ) (budget : ℕ) (f : Finding) → length bytes ≤ most_bytes → Finds bytes f → IsEquiv words budget → IsFound words bytes budget f
+found words bytes budget f short finds command = record { command = command; short = short; finds = finds }
+
+pub refused_output : (bytes : List ℕ) (budget at : ℕ) (phrase : Phrase) (text : List ℕ) → length bytes ≤ most_bytes → Finds bytes (refused at phrase) → text ≡ refused_text bytes at phrase →
+    (words : List (List ℕ)) → IsEquiv words budget → IsRefusal words bytes text
+refused_output bytes budget at phrase text short finds written words command = (budget, at, phrase, found words bytes budget (refused at phrase) short finds command, written)
+
+pub deep_output : (bytes : List ℕ) (budget at : ℕ) (text : List ℕ) → length bytes ≤ most_bytes → Finds bytes (too_deep at) → text ≡ too_deep_text bytes at →
+    (words : List (List ℕ)) → IsEquiv words budget → IsOutput words bytes text status.Limit
+deep_output bytes budget at text short finds written words command = inr (inl (budget, at, found words bytes budget (too_deep at) short finds command, written))
+
+pub large_output : (bytes : List ℕ) (budget at : ℕ) (text : List ℕ) → length bytes ≤ most_bytes → Finds bytes (too_large at) → text ≡ too_large_text bytes at →
+    (words : List (List ℕ)) → IsEquiv words budget → IsOutput words bytes text status.Limit
+large_output bytes budget at text short finds written words command = inr (inr (inl (budget, at, found words bytes budget (too_large at) short finds command, written)))
+
+answered : (words : List (List ℕ)) (bytes text : List ℕ) (budget : ℕ) (left right : Tree) (i j : ℕ) (s : Status) → IsFound words bytes budget (asked left right i j) → IsSession [] left × IsSession [] right →
+    (a : IsAnswerTo bytes left right i budget text s) → IsOutput words bytes text s
+answered words bytes text budget left right i j s f sessions a = subst (IsOutput words bytes text) (sym a.ended) (by a.answer whole)
+  where
+    whole : AnswersQuestion words bytes text (status_of a.answer)
+    whole = record {
       budget = budget;
-      command = command;
-      short = short;
-      why = inr (record {
-        left = left;
-        right = right;
-        left_at = left_at;
-        right_at = right_at;
-        question = question;
-        fault = fault;
-        found = found;
-        refused = refuses;
-      });
-    }))
-fault_output bytes budget short left right left_at right_at question fault found text refuses (Err e) ended written = tt
+      left = left;
+      right = right;
+      left_at = i;
+      right_at = j;
+      found = f;
+      left_session = sessions.0;
+      right_session = sessions.1;
+      answer = record { answer = a.answer; answers = a.answers; written = a.written; ended = refl };
+    }
+
+    by : (b : Answer) → AnswersQuestion words bytes text (status_of b) → IsOutput words bytes text (status_of b)
+    by yes q = q
+    by (no w side) q = q
+    by undecided q = q
+    by answer.too_large q = inr (inr (inr q))
+
+pub asked_output : (bytes : List ℕ) (budget : ℕ) (left right : Tree) (i j : ℕ) (r : Result Written AllocError) → length bytes ≤ most_bytes → Finds bytes (asked left right i j) →
+    IsSession [] left × IsSession [] right → IfOk r (λ a. IsAnswerTo bytes left right i budget a.text.items a.status) →
+    IfOk r (λ a. (words : List (List ℕ)) → IsEquiv words budget → IsOutput words bytes a.text.items a.status)
+asked_output bytes budget left right i j (Ok a) short finds sessions h =
+    λ words command. answered words bytes a.text.items budget left right i j a.status (found words bytes budget (asked left right i j) short finds command) sessions h
+asked_output bytes budget left right i j (Err e) short finds sessions h = tt
 
 -- ---- one output
 
-module _ (law : OneAnswer) (words : List (List ℕ)) (bytes : List ℕ) where
-  one_answered : (t u : List ℕ) (s r : Status) → AnswersQuestion words bytes t s → AnswersQuestion words bytes u r → (t ≡ u) × (s ≡ r)
-  one_answered t u s r p q =
-      let same = one_question bytes p.left p.right q.left q.right p.left_at p.right_at q.left_at q.right_at p.question q.question in
-      let budget = one_budget words p.budget q.budget p.command q.command in
-      let moved : Answers q.left q.right q.budget p.answer.answer =
-      subst (λ n. Answers q.left q.right n p.answer.answer) budget
-      (subst (λ z. Answers q.left z p.budget p.answer.answer) same.1 (subst (λ z. Answers z p.right p.budget p.answer.answer) same.0 p.answer.answers)) in
-      let one = law [] [] q.left q.right q.budget q.left_session q.right_session p.answer.answer q.answer.answer moved q.answer.answers in (
-        p.answer.written ∙ (λ i. answer_text bytes (same.2 i) (budget i) (one i)) ∙ sym q.answer.written,
-        p.answer.ended ∙ ap status_of one ∙ sym q.answer.ended,
-      )
+-- what is shown of what was found
+abbrev Shown : List ℕ → ℕ → Finding → List ℕ → Status → Type 0
+Shown bytes budget (refused at phrase) text s = (text ≡ refused_text bytes at phrase) × (s ≡ status.Refused)
+Shown bytes budget (too_deep at) text s = (text ≡ too_deep_text bytes at) × (s ≡ status.Limit)
+Shown bytes budget (too_large at) text s = (text ≡ too_large_text bytes at) × (s ≡ status.Limit)
+Shown bytes budget (asked left right i j) text s = IsSession [] left × IsSession [] right × IsAnswerTo bytes left right i budget text s
 
-  -- a question that has an answer has no fault
-  not_answered : (t u : List ℕ) (s : Status) → AnswersQuestion words bytes t s → IsFault bytes u → ⊥
-  not_answered t u s p q = by q.refused
-    where
-      same : (q.left ≡ p.left) × (q.right ≡ p.right) × (q.left_at ≡ p.left_at) × (q.right_at ≡ p.right_at)
-      same = one_question bytes q.left q.right p.left p.right q.left_at q.right_at p.left_at p.right_at q.question p.question
+-- an output by what it rests on
+data Rests (words : List (List ℕ)) (bytes text : List ℕ) (s : Status) : Type 0 where
+  outside : NoCommand words → text ≡ usage_text → s ≡ status.Words → Rests words bytes text s
+  long : IsTooLong words bytes text → s ≡ status.Limit → Rests words bytes text s
+  shown : (budget : ℕ) (f : Finding) → IsFound words bytes budget f → Shown bytes budget f text s → Rests words bytes text s
 
-      scoped : IsScoped 0 p.left × IsScoped 0 p.right
-      scoped = question_scoped bytes p.left p.right p.left_at p.right_at p.question
+of_answer : (words : List (List ℕ)) (bytes text : List ℕ) (s : Status) → AnswersQuestion words bytes text s → Rests words bytes text s
+of_answer words bytes text s a = shown a.budget (asked a.left a.right a.left_at a.right_at) a.found (a.left_session, a.right_session, a.answer)
 
-      sorted : IsSorted p.left × IsSorted p.right
-      sorted = question_sorted bytes p.left p.right p.left_at p.right_at p.question
+of_output : (words : List (List ℕ)) (bytes text : List ℕ) (s : Status) → IsOutput words bytes text s → Rests words bytes text s
+of_output words bytes text status.Done o = of_answer words bytes text status.Done o
+of_output words bytes text status.Refused o = shown o.0 (refused o.1 o.2) o.3 (o.4, refl)
+of_output words bytes text status.Words o = outside o.0 o.2 refl
+of_output words bytes text status.Undecided o = of_answer words bytes text status.Undecided o
+of_output words bytes text status.Limit (inl o) = long o refl
+of_output words bytes text status.Limit (inr (inl o)) = shown o.0 (too_deep o.1) o.2 (o.3, refl)
+of_output words bytes text status.Limit (inr (inr (inl o))) = shown o.0 (too_large o.1) o.2 (o.3, refl)
+of_output words bytes text status.Limit (inr (inr (inr o))) = of_answer words bytes text status.Limit o
+of_output words bytes text _ o = absurd o
 
-      by : RefusesFirst bytes q.left q.left_at q.right q.right_at q.fault u → ⊥
-      by (inl h) = no_fault p.left q.fault scoped.0 sorted.0 p.left_session (ap session_kind (sym same.0) ∙ h.0) q.found
-      by (inr h) = no_fault p.right q.fault scoped.1 sorted.1 p.right_session (ap session_kind (sym same.1) ∙ h.1.0) q.found
+module _ (answers : OneAnswer) (lexing : OneLexing) (reading : OneReading) where
+  -- of one finding one thing is shown
+  one_shown : (bytes : List ℕ) (budget : ℕ) (f : Finding) (t u : List ℕ) (s r : Status) → Shown bytes budget f t s → Shown bytes budget f u r → (t ≡ u) × (s ≡ r)
+  one_shown bytes budget (refused at phrase) t u s r p q = (p.0 ∙ sym q.0, p.1 ∙ sym q.1)
+  one_shown bytes budget (too_deep at) t u s r p q = (p.0 ∙ sym q.0, p.1 ∙ sym q.1)
+  one_shown bytes budget (too_large at) t u s r p q = (p.0 ∙ sym q.0, p.1 ∙ sym q.1)
+  one_shown bytes budget (asked left right i j) t u s r p q =
+      let one = answers [] [] left right budget p.0 p.1 p.2.answer q.2.answer p.2.answers q.2.answers in
+      (p.2.written ∙ ap (answer_text bytes i budget) one ∙ sym q.2.written, p.2.ended ∙ ap status_of one ∙ sym q.2.ended)
 
-  not_refused : (t u : List ℕ) (s : Status) → AnswersQuestion words bytes t s → IsRefusal words bytes u → ⊥
-  not_refused t u s p q = by q.why
-    where
-      by : (NoQuestion bytes × (u ≡ refused_text)) ⊎ IsFault bytes u → ⊥
-      by (inl h) = h.0 p.left p.right p.left_at p.right_at p.question
-      by (inr h) = not_answered t u s p h
+  one_rest : (words : List (List ℕ)) (bytes t u : List ℕ) (s r : Status) → Rests words bytes t s → Rests words bytes u r → (t ≡ u) × (s ≡ r)
+  one_rest words bytes t u s r (outside n p a) (outside m q b) = (p ∙ sym q, a ∙ sym b)
+  one_rest words bytes t u s r (outside n p a) (long l b) = absurd (n l.budget l.command)
+  one_rest words bytes t u s r (outside n p a) (shown budget f h o) = absurd (n budget h.command)
+  one_rest words bytes t u s r (long l a) (outside n p b) = absurd (n l.budget l.command)
+  one_rest words bytes t u s r (long l a) (long k b) = (l.written ∙ sym k.written, a ∙ sym b)
+  one_rest words bytes t u s r (long l a) (shown budget f h o) = absurd (omega (arith, l.long, h.short))
+  one_rest words bytes t u s r (shown budget f h o) (outside n p b) = absurd (n budget h.command)
+  one_rest words bytes t u s r (shown budget f h o) (long l b) = absurd (omega (arith, l.long, h.short))
+  one_rest words bytes t u s r (shown budget f h o) (shown budget' g k e) =
+      let same = one_finding lexing reading bytes f g h.finds k.finds in
+      let spent = one_budget words budget budget' h.command k.command in
+      one_shown bytes budget' g t u s r (subst (λ n. Shown bytes n g t s) spent (subst (λ z. Shown bytes budget z t s) same o)) e
 
-  fault_is : (f g : KindFault) (t : Tree) → session_kind t ≡ Err f → session_kind t ≡ Err g → f ≡ g
-  fault_is f g t p q = let e : Err f ≡ Err g = sym p ∙ q in cc
-
-  -- a type with one fault is refused by one text
-  same_refusal : (t : Tree) (at : ℕ) (f g : KindFault) (v w : List ℕ) → Refuses bytes t at f v → Refuses bytes t at g w → v ≡ w
-  same_refusal t at f g v w p q = p.1 ∙ ap (fault_text bytes at) (fault_is f g t p.0 q.0) ∙ sym q.1
-
-  one_first : (left right : Tree) (i j : ℕ) (f g : KindFault) (t u : List ℕ) → IsQuestion bytes left right i j → f ≢ Memory → g ≢ Memory →
-      RefusesFirst bytes left i right j f t → RefusesFirst bytes left i right j g u → t ≡ u
-  one_first left right i j f g t u question m n p q =
-      pick (question_scoped bytes left right i j question).0 (question_sorted bytes left right i j question).0 p q
-    where
-      pick : IsScoped 0 left → IsSorted left → RefusesFirst bytes left i right j f t → RefusesFirst bytes left i right j g u → t ≡ u
-      pick scoped sorted (inl h) (inl k) = same_refusal left i f g t u h k
-      pick scoped sorted (inl h) (inr k) = absurd (no_fault left f scoped sorted k.0 h.0 m)
-      pick scoped sorted (inr h) (inl k) = absurd (no_fault left g scoped sorted h.0 k.0 n)
-      pick scoped sorted (inr h) (inr k) = same_refusal right j f g t u h.1 k.1
-
-  one_fault : (t u : List ℕ) → IsFault bytes t → IsFault bytes u → t ≡ u
-  one_fault t u p q =
-      let same = one_question bytes p.left p.right q.left q.right p.left_at p.right_at q.left_at q.right_at p.question q.question in
-      one_first q.left q.right q.left_at q.right_at p.fault q.fault t u q.question p.found q.found
-      (subst (λ z. RefusesFirst bytes q.left q.left_at q.right z p.fault t) same.3
-      (subst (λ z. RefusesFirst bytes q.left z q.right p.right_at p.fault t) same.2
-      (subst (λ z. RefusesFirst bytes q.left p.left_at z p.right_at p.fault t) same.1
-      (subst (λ z. RefusesFirst bytes z p.left_at p.right p.right_at p.fault t) same.0 p.refused))))
-      q.refused
-
-  one_refusal : (t u : List ℕ) → IsRefusal words bytes t → IsRefusal words bytes u → t ≡ u
-  one_refusal t u p q = by p.why q.why
-    where
-      by : (NoQuestion bytes × (t ≡ refused_text)) ⊎ IsFault bytes t → (NoQuestion bytes × (u ≡ refused_text)) ⊎ IsFault bytes u → t ≡ u
-      by (inl h) (inl k) = h.1 ∙ sym k.1
-      by (inl h) (inr k) = absurd (h.0 k.left k.right k.left_at k.right_at k.question)
-      by (inr h) (inl k) = absurd (k.0 h.left h.right h.left_at h.right_at h.question)
-      by (inr h) (inr k) = one_fault t u h k
-
-  one : (t u : List ℕ) (s r : Status) → IsOutput words bytes t s → IsOutput words bytes u r → (t ≡ u) × (s ≡ r)
-  one t u status.Done status.Done p q = one_answered t u status.Done status.Done p q
-  one t u status.Done status.Refused p q = absurd (not_refused t u status.Done p q)
-  one t u status.Done status.Words p q = absurd (q.0 p.budget p.command)
-  one t u status.Done status.Undecided p q = one_answered t u status.Done status.Undecided p q
-  one t u status.Done status.Limit p (inl q) = absurd (omega (arith, p.short, q.long))
-  one t u status.Done status.Limit p (inr q) = one_answered t u status.Done status.Limit p q
-  one t u status.Done _ p q = absurd q
-  one t u status.Refused status.Done p q = absurd (not_refused u t status.Done q p)
-  one t u status.Refused status.Refused p q = (one_refusal t u p q, refl)
-  one t u status.Refused status.Words p q = absurd (q.0 p.budget p.command)
-  one t u status.Refused status.Undecided p q = absurd (not_refused u t status.Undecided q p)
-  one t u status.Refused status.Limit p (inl q) = absurd (omega (arith, p.short, q.long))
-  one t u status.Refused status.Limit p (inr q) = absurd (not_refused u t status.Limit q p)
-  one t u status.Refused _ p q = absurd q
-  one t u status.Words status.Done p q = absurd (p.0 q.budget q.command)
-  one t u status.Words status.Refused p q = absurd (p.0 q.budget q.command)
-  one t u status.Words status.Words p q = (p.2 ∙ sym q.2, refl)
-  one t u status.Words status.Undecided p q = absurd (p.0 q.budget q.command)
-  one t u status.Words status.Limit p (inl q) = absurd (p.0 q.budget q.command)
-  one t u status.Words status.Limit p (inr q) = absurd (p.0 q.budget q.command)
-  one t u status.Words _ p q = absurd q
-  one t u status.Undecided status.Done p q = one_answered t u status.Undecided status.Done p q
-  one t u status.Undecided status.Refused p q = absurd (not_refused t u status.Undecided p q)
-  one t u status.Undecided status.Words p q = absurd (q.0 p.budget p.command)
-  one t u status.Undecided status.Undecided p q = one_answered t u status.Undecided status.Undecided p q
-  one t u status.Undecided status.Limit p (inl q) = absurd (omega (arith, p.short, q.long))
-  one t u status.Undecided status.Limit p (inr q) = one_answered t u status.Undecided status.Limit p q
-  one t u status.Undecided _ p q = absurd q
-  one t u status.Limit status.Done (inl p) q = absurd (omega (arith, q.short, p.long))
-  one t u status.Limit status.Done (inr p) q = one_answered t u status.Limit status.Done p q
-  one t u status.Limit status.Refused (inl p) q = absurd (omega (arith, q.short, p.long))
-  one t u status.Limit status.Refused (inr p) q = absurd (not_refused t u status.Limit p q)
-  one t u status.Limit status.Words (inl p) q = absurd (q.0 p.budget p.command)
-  one t u status.Limit status.Words (inr p) q = absurd (q.0 p.budget p.command)
-  one t u status.Limit status.Undecided (inl p) q = absurd (omega (arith, q.short, p.long))
-  one t u status.Limit status.Undecided (inr p) q = one_answered t u status.Limit status.Undecided p q
-  one t u status.Limit status.Limit (inl p) (inl q) = (p.written ∙ sym q.written, refl)
-  one t u status.Limit status.Limit (inl p) (inr q) = absurd (omega (arith, q.short, p.long))
-  one t u status.Limit status.Limit (inr p) (inl q) = absurd (omega (arith, p.short, q.long))
-  one t u status.Limit status.Limit (inr p) (inr q) = one_answered t u status.Limit status.Limit p q
-  one t u status.Limit _ p q = absurd q
-  one t u _ _ p q = absurd p
-
-pub one_output : OneAnswer → OneOutput
-one_output law words bytes t u s r p q = one law words bytes t u s r p q
+  pub one_output : OneOutput
+  one_output words bytes text other s r p q = one_rest words bytes text other s r (of_output words bytes text s p) (of_output words bytes other r q)

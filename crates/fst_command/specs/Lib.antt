@@ -1,13 +1,10 @@
 pub mod Limits
 pub mod Status
 pub mod Words
-pub mod Tokens
-pub mod Arranged
-pub mod Grammar
-pub mod Question
-pub mod Reading
-pub mod Stops
-pub mod Views
 pub mod Texts
+pub mod Finding
+pub mod Scopes
+pub mod Arranging
+pub mod Views
 pub mod Output
 pub mod Top

@@ -2,15 +2,14 @@
 #![tactic(auto)]
 
 mod answer;
-mod reader;
+mod finding;
+mod naming;
 mod run;
 mod status;
 #[cfg(test)]
 mod tests;
 mod texts;
-mod token;
 mod words;
 
-pub use reader::one_question;
 pub use run::{one_output, top};
 pub use status::Status;

@@ -7,6 +7,8 @@ use crate::status::Status;
 use crate::words::equiv_budget;
 use fst_equiv::one_answer;
 use fst_io::{Gate, ReadFault, Sink, Source, WriteFault, read_all, write_all};
+use fst_lexer::one_lexing;
+use fst_type_syntax::one_reading;
 use std::alloc::Global;
 
 const USAGE: &[u8] = b"usage: freest equiv|show|check|run|make\n";
@@ -64,4 +66,6 @@ pub fn one_output()
     ensures { OneOutput }
 {
     one_answer();
+    one_lexing();
+    one_reading();
 }

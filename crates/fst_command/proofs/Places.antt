@@ -1,0 +1,43 @@
+-- A branch among arranged ones.
+use Rattle.std.proofs.Common.{◌≡◌, ℕ, ◌-◌, ◌≤◌, Some, List, [], ◌∷◌, length, take, drop, get_or, refl, ap, arith, sym, ◌∙◌}
+use Rattle.std.specs.declared.cmp.Ordering.{Ordering}
+use Rattle.std.specs.declared.cmp.Ordering.TheVariants.{Less, Equal, Greater}
+use Rattle.std.specs.Ordering.{nat_cmp}
+use Rattle.std.specs.Cmp.Lexicographic.{slice_cmp}
+use Rattle.fst_types.specs.declared.ty.Branch.{Branch}
+use Rattle.fst_types.specs.Tree.{Tree}
+use Rattle.fst_types.specs.View.{branches_of}
+use Rattle.fst_types.specs.WrittenView.{written_branches}
+use Rattle.fst_types.specs.declared.written.WrittenBranch.{WrittenBranch}
+use Rattle.std.proofs.lemmas.List.{take_all}
+use Rattle.fst_terms.specs.Naming.{Scope, both, type_of}
+use Rattle.fst_terms.specs.Naming.{branches_of as named_in}
+use Rattle.fst_terms.specs.Arranged.{placed_by, placed}
+use Rattle.fst_command.specs.Arranging.{put_by, put}
+
+-- as the tree of the branches has it
+pub put_is : (b : Branch) (bs : List Branch) → branches_of (put b bs) ≡ placed b.label b.body (branches_of bs)
+put_is b [] = refl
+put_is b (c ∷ bs) = by (slice_cmp nat_cmp b.label c.label) (put_is b bs)
+  where
+    by : (o : Ordering) → branches_of (put b bs) ≡ placed b.label b.body (branches_of bs) → branches_of (put_by o b c bs (put b bs)) ≡ placed_by o b.label b.body c.label c.body (branches_of bs) (placed b.label b.body (branches_of bs))
+    by Less e = refl
+    by Equal e = refl
+    by Greater e = rw e refl
+
+-- a branch in front of named ones
+pub branches_named : (s : Scope) (b : WrittenBranch) (bs : List WrittenBranch) (body : Tree) (l : List ℕ) (others all : List Branch) → type_of s b.body ≡ Some body → l ≡ b.label →
+    named_in s (written_branches bs) ≡ Some (branches_of others) → all ≡ put (record { label = l; body = body }) others → named_in s (written_branches (b ∷ bs)) ≡ Some (branches_of all)
+unfolding both
+branches_named s b bs body l others all one label rest is =
+    let placed_is : branches_of all ≡ placed b.label body (branches_of others) = ap branches_of is ∙ put_is (record { label = l; body = body }) others ∙ ap (λ z. placed z body (branches_of others)) label in
+    rw (one, rest) (ap Some (sym placed_is))
+
+-- the same of a list by its first item
+pub first_named : (s : Scope) (bs : List WrittenBranch) (first : WrittenBranch) (body : Tree) (l : List ℕ) (others all : List Branch) → 1 ≤ length bs → first ≡ get_or bs 0 first →
+    type_of s first.body ≡ Some body → l ≡ first.label → named_in s (written_branches (take (length bs - 1) (drop 1 bs))) ≡ Some (branches_of others) → all ≡ put (record { label = l; body = body }) others →
+    named_in s (written_branches bs) ≡ Some (branches_of all)
+first_named s [] first body l others all some is one label rest put_ = absurd (omega arith)
+first_named s (b ∷ bs) first body l others all some is one label rest put_ =
+    let whole : take (length (b ∷ bs) - 1) bs ≡ bs = take_all (length (b ∷ bs) - 1) bs (omega arith) in
+    branches_named s b bs body l others all (ap (λ (z : WrittenBranch). type_of s z.body) (sym is) ∙ one) (label ∙ ap (λ (z : WrittenBranch). z.label) is) (ap (λ z. named_in s (written_branches z)) (sym whole) ∙ rest) put_
