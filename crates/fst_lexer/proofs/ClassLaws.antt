@@ -28,7 +28,7 @@ pub is_not : (a : Bool) → not a ≡ true → a ≡ false
 is_not true e = absurd (cc e)
 is_not false e = refl
 
-same_number : (d c : ℕ) → (d == c) ≡ true → d ≡ c
+pub same_number : (d c : ℕ) → (d == c) ≡ true → d ≡ c
 same_number d c e = grind (arith, nat_tests)
 
 -- what holds of each of these characters holds of one that is among them

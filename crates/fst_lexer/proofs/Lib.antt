@@ -9,4 +9,6 @@ pub mod SpanLaws
 pub mod ByteLaws
 pub mod WordLaws
 pub mod KindLaws
+pub mod LineLaws
 pub mod SpellingLaws
+pub mod TokenLaws

@@ -108,10 +108,10 @@ onward text us last rest (piece ts _ first _ here w _ p o before n e is ends) =
     subst (λ (x : List Token). Onward true text x last rest) (sym is)
     (subst (λ (x : Bool). Onward true text (ts ++ list_of o) x rest) (sym ends) (one_more true text ts first here (onward text ts first here before) p w rest o n e))
 
-abbrev done : Option Token → Result (Option Token) LexFault
+abbrev pub done : Option Token → Result (Option Token) LexFault
 done c = Ok c
 
-ok_is : (c d : Option Token) → done c ≡ done d → c ≡ d
+pub ok_is : (c d : Option Token) → done c ≡ done d → c ≡ d
 ok_is c d e = cc
 
 abbrev bad : LexFault → Result (Option Token) LexFault

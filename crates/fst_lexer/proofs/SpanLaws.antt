@@ -29,10 +29,10 @@ use Rattle.fst_lexer.proofs.ClassLaws.{both}
 use Rattle.fst_lexer.proofs.OneLaws.{no_piece}
 
 -- the characters end with these, which begin at this byte
-record EndsWith (cs ds : List ℕ) (at : ℕ) : Type 0 where
-  before : List ℕ
-  parts : cs ≡ before ++ ds
-  size : at ≡ length (encodes before)
+pub record EndsWith (cs ds : List ℕ) (at : ℕ) : Type 0 where
+  pub before : List ℕ
+  pub parts : cs ≡ before ++ ds
+  pub size : at ≡ length (encodes before)
 
 one_on : (cs ds : List ℕ) (c at : ℕ) → EndsWith cs (c ∷ ds) at → EndsWith cs ds (at + len_utf8 c)
 one_on cs ds c at e =
@@ -45,7 +45,7 @@ one_on cs ds c at e =
     one_size : (d : ℕ) → length (encodes (d ∷ [])) ≡ len_utf8 d
     one_size d = omega (arith, length-encode d, length-append (encode d) [])
 
-scalars-behind : (xs ys : List ℕ) → scalars (xs ++ ys) ≡ true → scalars ys ≡ true
+pub scalars-behind : (xs ys : List ℕ) → scalars (xs ++ ys) ≡ true → scalars ys ≡ true
 scalars-behind [] ys h = h
 scalars-behind (x ∷ xs) ys h = scalars-behind xs ys (both (scalar x) (scalars (xs ++ ys)) h).1
 
@@ -56,16 +56,16 @@ boundary bytes ds at text e =
     rw e.size (IsCharBoundary-at_seam bytes (encodes e.before) (encodes ds) whole (ds, (good, refl)))
 
 -- the rest of a text stands here in it
-record Stands (cs : List ℕ) (rest : List Placed) (at : ℕ) : Type 0 where
-  characters : List ℕ
-  placed : rest ≡ place_all at characters
-  ends : EndsWith cs characters at
+pub record Stands (cs : List ℕ) (rest : List Placed) (at : ℕ) : Type 0 where
+  pub characters : List ℕ
+  pub placed : rest ≡ place_all at characters
+  pub ends : EndsWith cs characters at
 
 along : (at d w n m : ℕ) → w ≡ d → m ≡ w + n → at + d + n ≡ at + m
 along at d w n m width more = omega arith
 
 -- a rest stands behind a word by the word's bytes
-behind : (cs : List ℕ) (word rest : List Placed) (at : ℕ) → Stands cs (word ++ rest) at → Stands cs rest (at + byte_count word)
+pub behind : (cs : List ℕ) (word rest : List Placed) (at : ℕ) → Stands cs (word ++ rest) at → Stands cs rest (at + byte_count word)
 behind cs [] rest at s = subst (λ n. Stands cs rest n) (omega arith) s
 behind cs (p ∷ word) rest at s = by_characters s.characters s.placed s.ends (λ n t. behind cs word rest n t)
   where
@@ -81,7 +81,7 @@ behind cs (p ∷ word) rest at s = by_characters s.characters s.placed s.ends (�
         subst (λ n. Stands cs rest n) (along at (len_utf8 d) (len_utf8 p.ch) (byte_count word) (byte_count (p ∷ word)) width more) next
 
 -- where a word stands is the place of its first character
-stands_at : (cs : List ℕ) (word rest : List Placed) (p : Piece) (at : ℕ) → is_piece p word ≡ true → Stands cs (word ++ rest) at → place word ≡ at
+pub stands_at : (cs : List ℕ) (word rest : List Placed) (p : Piece) (at : ℕ) → is_piece p word ≡ true → Stands cs (word ++ rest) at → place word ≡ at
 stands_at cs [] rest p at is s = absurd (no_piece p is)
 stands_at cs (q ∷ word) rest p at is s = by_characters s.characters s.placed
   where
@@ -92,7 +92,7 @@ stands_at cs (q ∷ word) rest p at is s = by_characters s.characters s.placed
         ap (λ (r : Placed). r.at) first
 
 -- a token has the span of its word
-abbrev Spans : Option Token → List Placed → Type 0
+abbrev pub Spans : Option Token → List Placed → Type 0
 Spans None word = Unit {0}
 Spans (Some t) word = (t.at ≡ place word) × (t.len ≡ byte_count word)
 
@@ -100,7 +100,7 @@ abbrev SpansOk : Result (Option Token) LexFault → List Placed → Type 0
 SpansOk (Ok o) word = Spans o word
 SpansOk (Err e) word = Unit {0}
 
-token_spans : (p : Piece) (word : List Placed) (first : Bool) (o : Option Token) → token_of p word first ≡ Ok o → Spans o word
+pub token_spans : (p : Piece) (word : List Placed) (first : Bool) (o : Option Token) → token_of p word first ≡ Ok o → Spans o word
 unfolding token_of choose
 token_spans p word first o e = subst (λ r. SpansOk r word) e (by_piece p)
   where
@@ -130,7 +130,7 @@ record Reached (bytes : List ℕ) (ts : List Token) (here : List Placed) : Type 
   in_order : AllPairs (λ t u. t.at + t.len ≤ u.at) ts
 
 -- one more element
-with_one : (P : Token → Type 0) (ts : List Token) (t : Token) → All P ts → P t → All P (ts ++ t ∷ [])
+pub with_one : (P : Token → Type 0) (ts : List Token) (t : Token) → All P ts → P t → All P (ts ++ t ∷ [])
 with_one P ts t all one = All-append P ts (t ∷ []) all (All-cons P t [] one (All-nil P))
 
 one_token : (bytes : List ℕ) (ts : List Token) (here rest word : List Placed) (o : Option Token) → IsUtf8 bytes → (r : Reached bytes ts here) → Stands (chars bytes) rest (r.at + byte_count word) →

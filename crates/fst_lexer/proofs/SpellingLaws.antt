@@ -1,5 +1,5 @@
 -- A text that is put together from words has just these as its tokens.
-use Rattle.std.proofs.Common.{◌≡◌, ℕ, ◌+◌, Bool, true, List, [], ◌∷◌, ◌++◌, length, map, take, drop, Option, None, Ok, refl, sym, ap, subst, ◌∙◌, append_assoc, length-append, arith}
+use Rattle.std.proofs.Common.{◌≡◌, ℕ, ◌+◌, Bool, true, false, List, [], ◌∷◌, ◌++◌, length, map, take, drop, Option, None, Ok, refl, sym, ap, subst, ◌∙◌, append_assoc, length-append, arith}
 use Rattle.std.proofs.Math.Utf8.{encodes}
 use Rattle.std.proofs.lemmas.List.{take_at, drop_at, append-nil, map-append}
 use Rattle.std.proofs.lemmas.Str.{chars-nil, chars-append, chars-IsAscii, encodes-chars, IsUtf8-append, IsUtf8-from_ascii, IsUtf8-nil}
@@ -12,7 +12,9 @@ use Rattle.fst_lexer.specs.Next.{IsNext}
 use Rattle.fst_lexer.specs.Piece.{is_piece}
 use Rattle.fst_lexer.specs.Places.{place_all}
 use Rattle.fst_lexer.specs.Tokens.{Lexed, start, piece, list_of, place, byte_count, token_of, token_with, ends_line, finish}
-use Rattle.fst_lexer.specs.Spelling.{Word, IsSpelled, nothing, blank, word, word_at, end_word, SpellingLaw}
+use Rattle.fst_lexer.specs.Spelling.{LinedWord, IsSpelled, nothing, blank, word, lined_word_at, end_word, SpellingLaw}
+use Rattle.fst_lexer.specs.Classes.{is_feed}
+use Rattle.fst_lexer.proofs.LineLaws.{ends_inside}
 use Rattle.fst_lexer.proofs.NextLaws.{piece_is_next}
 use Rattle.fst_lexer.proofs.OneLaws.{no_piece}
 use Rattle.fst_lexer.proofs.PlaceLaws.{length-place_all}
@@ -21,11 +23,11 @@ use Rattle.fst_lexer.proofs.WordLaws.{Reads, blank_reads}
 use Rattle.fst_lexer.proofs.ByteLaws.{blank_ascii}
 use Rattle.fst_lexer.proofs.KindLaws.{word_read}
 
-spelled_utf8 : (text : List ℕ) (ws : List Word) → IsSpelled text ws → IsUtf8 text
-spelled_utf8 _ _ nothing = IsUtf8-nil
-spelled_utf8 _ ws (blank c rest _ is more) = IsUtf8-append (c ∷ []) rest (IsUtf8-from_ascii (c ∷ []) (blank_ascii c is)) (spelled_utf8 rest ws more)
-spelled_utf8 text _ (word w _ rest ws is apart parts more) =
-    let good = spelled_utf8 rest ws more in
+spelled_utf8 : (first : Bool) (text : List ℕ) (ws : List LinedWord) → IsSpelled first text ws → IsUtf8 text
+spelled_utf8 _ _ _ (nothing first) = IsUtf8-nil
+spelled_utf8 _ _ ws (blank first c rest _ is more) = IsUtf8-append (c ∷ []) rest (IsUtf8-from_ascii (c ∷ []) (blank_ascii c is)) (spelled_utf8 (is_feed c) rest ws more)
+spelled_utf8 _ text _ (word first w _ rest ws is apart parts more) =
+    let good = spelled_utf8 false rest ws more in
     rw parts (IsUtf8-append w.text rest (word_read w.kind w.text rest is good apart).utf8 good)
 
 -- what is read is what stands next
@@ -64,48 +66,56 @@ cut_out : (whole before taken rest : List ℕ) → whole ≡ before ++ (taken ++
 cut_out whole before taken rest parts = rw (parts, drop_at before (taken ++ rest) (length before) refl, take_at taken rest (length taken) refl) refl
 
 -- the tokens from here on are these words
-record GoOn (text : List Placed) (whole : List ℕ) (ts : List Token) (ws : List Word) : Type 0 where
+record GoOn (text : List Placed) (whole : List ℕ) (ts : List Token) (ws : List LinedWord) : Type 0 where
   more : List Token
   last : Bool
   lexed : Lexed text (ts ++ more) last []
-  words : map (word_at whole) more ≡ ws
+  words : map (lined_word_at whole) more ≡ ws
 
-go_on : (text : List Placed) (whole before rest : List ℕ) (ws : List Word) → IsSpelled rest ws → whole ≡ before ++ rest → (ts : List Token) (first : Bool) →
+go_on : (text : List Placed) (whole before rest : List ℕ) (first : Bool) (ws : List LinedWord) → IsSpelled first rest ws → whole ≡ before ++ rest → (ts : List Token) →
     Lexed text ts first (place_all (length before) (chars rest)) → GoOn text whole ts ws
-go_on text whole before _ _ nothing parts ts first so_far = record { more = []; last = first; lexed = rw (append-nil ts) (rw chars-nil at so_far); words = refl }
-go_on text whole before _ ws (blank c rest _ is others) parts ts first so_far =
+go_on text whole before _ _ _ (nothing first) parts ts so_far = record { more = []; last = first; lexed = rw (append-nil ts) (rw chars-nil at so_far); words = refl }
+go_on text whole before _ _ ws (blank first c rest _ is others) parts ts so_far =
     let ascii = blank_ascii c is in
     let same : chars (c ∷ []) ≡ c ∷ [] = chars-IsAscii (c ∷ []) ascii in
     let reads : Reads Blank (chars (c ∷ [])) (chars rest) = rw same (blank_reads c (chars rest) is) in
-    let here = place_all (length before) (chars (c ∷ [])) in
+    let at = length before in
+    let here = place_all at (chars (c ∷ [])) in
     let step = one_on text ts first before (c ∷ []) rest Blank None (IsUtf8-from_ascii (c ∷ []) ascii) reads (blank_token here first) so_far in
+    let ends : ends_line here ≡ is_feed c = ap (λ x. ends_line (place_all at x)) same in
     let step-is = subst (λ us. Lexed text us (ends_line here) (place_all (length (before ++ c ∷ [])) (chars rest))) (append-nil ts) step in
-    go_on text whole (before ++ c ∷ []) rest ws others (parts ∙ sym (append_assoc before (c ∷ []) rest)) ts (ends_line here) step-is
-go_on text whole before all _ (word w _ rest ws is apart joined others) parts ts first so_far =
-    let r = word_read w.kind w.text rest is (spelled_utf8 rest ws others) apart in
+    go_on text whole (before ++ c ∷ []) rest (is_feed c) ws others (parts ∙ sym (append_assoc before (c ∷ []) rest)) ts
+    (subst (λ b. Lexed text ts b (place_all (length (before ++ c ∷ [])) (chars rest))) ends step-is)
+go_on text whole before all _ _ (word first w _ rest ws is apart joined others) parts ts so_far =
+    let r = word_read w.kind w.text rest is (spelled_utf8 false rest ws others) apart in
     let at = length before in
     let here = place_all at (chars w.text) in
     let t : Token = record { kind = w.kind; at = place here; len = byte_count here; first_column = first } in
     let whole-is : whole ≡ before ++ (w.text ++ rest) = parts ∙ ap (λ x. before ++ x) joined in
     let now : Lexed text ts first (place_all at (chars (w.text ++ rest))) = subst (λ x. Lexed text ts first (place_all at (chars x))) joined so_far in
     let step = one_on text ts first before w.text rest r.piece (token_with w.kind here first) r.utf8 r.reads (r.makes at first) now in
-    let g = go_on text whole (before ++ w.text) rest ws others (whole-is ∙ sym (append_assoc before w.text rest)) (ts ++ t ∷ []) (ends_line here) step in
-    let begin : place here ≡ at = place_is r.piece at (chars w.text) (next_is r.piece (chars w.text) (chars rest) at at r.reads).is in
+    let is-piece = (next_is r.piece (chars w.text) (chars rest) at at r.reads).is in
+    let inside : ends_line here ≡ false = ends_inside r.piece here first t is-piece (r.makes at first) in
+    let go : Lexed text (ts ++ t ∷ []) false (place_all (length (before ++ w.text)) (chars rest)) =
+    subst (λ b. Lexed text (ts ++ t ∷ []) b (place_all (length (before ++ w.text)) (chars rest))) inside step in
+    let g = go_on text whole (before ++ w.text) rest false ws others (whole-is ∙ sym (append_assoc before w.text rest)) (ts ++ t ∷ []) go in
+    let begin : place here ≡ at = place_is r.piece at (chars w.text) is-piece in
     let size : byte_count here ≡ length w.text = byte_count-place_all at (chars w.text) ∙ ap length (encodes-chars w.text r.utf8) in
     let text-is : take (byte_count here) (drop (place here) whole) ≡ w.text = rw (begin, size) (cut_out whole before w.text rest whole-is) in
-    let first-is : word_at whole t ≡ w = ap (λ (x : List ℕ). record { kind = w.kind; text = x }) text-is in
+    let lined : List ℕ → LinedWord = λ x. record { first = first; word = record { kind = w.kind; text = x } } in
+    let first-is : lined_word_at whole t ≡ lined w.text = ap lined text-is in
     record {
       more = t ∷ g.more;
       last = g.last;
       lexed = rw (append_assoc ts (t ∷ []) g.more) at g.lexed;
-      words = ap (λ (x : Word). x ∷ map (word_at whole) g.more) first-is ∙ ap (λ (x : List Word). w ∷ x) g.words;
+      words = ap (λ (x : LinedWord). x ∷ map (lined_word_at whole) g.more) first-is ∙ ap (λ (x : List LinedWord). lined w.text ∷ x) g.words;
     }
 
 pub spelling_law : SpellingLaw
 spelling_law text ws s =
-    let g = go_on (place_all 0 (chars text)) text [] text ws s refl [] true start in
+    let g = go_on (place_all 0 (chars text)) text [] text true ws s refl [] start in
     let last = finish (length text) g.last in (
       g.more ++ last ∷ [],
-      record { text = spelled_utf8 text ws s; tokens_are = (g.more, g.last, g.lexed, refl) },
-      record { words = map-append (word_at text) g.more (last ∷ []) ∙ ap (λ (x : List Word). x ++ end_word ∷ []) g.words },
+      record { text = spelled_utf8 true text ws s; tokens_are = (g.more, g.last, g.lexed, refl) },
+      record { last = g.last; words = map-append (lined_word_at text) g.more (last ∷ []) ∙ ap (λ (x : List LinedWord). x ++ record { first = g.last; word = end_word } ∷ []) g.words },
     )

@@ -1,5 +1,5 @@
 -- Texts that are put together from words.
-use Rattle.std.specs.Prelude.{◌≡◌, ℕ, ◌==◌, ◌≤◌, Bool, true, false, not, ◌&&◌, ◌||◌, nat_lt, List, [], ◌∷◌, ◌++◌, length, map, take, drop, Option, Some, None, pos, negsuc}
+use Rattle.std.specs.Prelude.{◌≡◌, ℕ, ◌==◌, ◌-◌, ◌≤◌, Bool, true, false, not, ◌&&◌, ◌||◌, nat_lt, List, [], ◌∷◌, ◌++◌, length, map, take, drop, All, Option, Some, None, pos, negsuc}
 use Rattle.std.specs.List.{list_all}
 use Rattle.std.specs.Str.{byte, chars, IsUtf8}
 use Rattle.std.specs.Char.{is_ascii_alphanumeric}
@@ -9,7 +9,7 @@ use Rattle.fst_lexer.specs.declared.token.TokenKind.{TokenKind}
 use Rattle.fst_lexer.specs.declared.token.TokenKind.TheVariants as kind
 use Rattle.fst_lexer.specs.Limits.{longest_name, greatest_number}
 use Rattle.fst_lexer.specs.Choice.{choose}
-use Rattle.fst_lexer.specs.Classes.{is_blank, is_dash, is_quote, is_backslash, is_upper, is_digit, is_plain, is_escape, is_short, is_long, is_reserved, escaped, starts_name, continues_name}
+use Rattle.fst_lexer.specs.Classes.{is_blank, is_feed, is_dash, is_quote, is_backslash, is_upper, is_digit, is_plain, is_escape, is_short, is_long, is_reserved, escaped, starts_name, continues_name}
 use Rattle.fst_lexer.specs.Lexes.{Lexes}
 
 -- a word: what it is, and its bytes
@@ -90,24 +90,48 @@ ends_before kind.Finish text rest = true
 abbrev pub StandsApart : Word → List ℕ → Type 0
 StandsApart w rest = ends_before w.kind w.text rest ≡ true
 
--- the bytes are these words in order, each apart from what is behind it, with blanks between them
-pub data IsSpelled : List ℕ → List Word → Type 0 where
-  nothing : IsSpelled [] []
-  blank : (c : ℕ) (rest : List ℕ) (ws : List Word) → is_blank c ≡ true → IsSpelled rest ws → IsSpelled (c ∷ rest) ws
-  word : (w : Word) (all rest : List ℕ) (ws : List Word) → IsWord w → StandsApart w rest → all ≡ w.text ++ rest → IsSpelled rest ws → IsSpelled all (w ∷ ws)
+-- a word, and whether it begins a line
+pub record LinedWord : Type 0 where
+  pub first : Bool
+  pub word : Word
+
+-- the bytes are these words in order, each apart from what is behind it, with blanks between them; they begin a line or not
+pub data IsSpelled : Bool → List ℕ → List LinedWord → Type 0 where
+  nothing : (first : Bool) → IsSpelled first [] []
+  blank : (first : Bool) (c : ℕ) (rest : List ℕ) (ws : List LinedWord) → is_blank c ≡ true → IsSpelled (is_feed c) rest ws → IsSpelled first (c ∷ rest) ws
+  word : (first : Bool) (w : Word) (all rest : List ℕ) (ws : List LinedWord) → IsWord w → StandsApart w rest → all ≡ w.text ++ rest → IsSpelled false rest ws →
+      IsSpelled first all (record { first = first; word = w } ∷ ws)
 
 -- a token of a text as a word: its kind, and the bytes at its place
 abbrev pub word_at : List ℕ → Token → Word
 word_at text t = record { kind = t.kind; text = take t.len (drop t.at text) }
+
+-- the same, and whether it begins a line
+abbrev pub lined_word_at : List ℕ → Token → LinedWord
+lined_word_at text t = record { first = t.first_column; word = word_at text t }
 
 -- what stands for the end of a text
 abbrev pub end_word : Word
 end_word = record { kind = kind.Finish; text = [] }
 
 -- the tokens are these words in order, each at its place in the text, and then the end
-pub record HasWords (text : List ℕ) (tokens : List Token) (ws : List Word) : Type 0 where
-  pub words : map (word_at text) tokens ≡ ws ++ end_word ∷ []
+pub record HasWords (text : List ℕ) (tokens : List Token) (ws : List LinedWord) : Type 0 where
+  pub last : Bool
+  pub words : map (lined_word_at text) tokens ≡ ws ++ record { first = last; word = end_word } ∷ []
 
--- a text that is put together from words has just these words as its tokens
+-- a text that is put together from words has just these words as its tokens, and each begins a line as its token does
 abbrev pub SpellingLaw : Type 0
-SpellingLaw = (text : List ℕ) (ws : List Word) → IsSpelled text ws → (tokens : List Token) × Lexes text tokens × HasWords text tokens ws
+SpellingLaw = (text : List ℕ) (ws : List LinedWord) → IsSpelled true text ws → (tokens : List Token) × Lexes text tokens × HasWords text tokens ws
+
+-- a token of this kind may have these bytes: they are a word, or it is a number that isn't too wide
+abbrev pub IsTokenOf : TokenKind → List ℕ → Type 0
+IsTokenOf (kind.Number (pos n)) text = n ≤ greatest_number
+IsTokenOf k text = IsWordOf k text
+
+-- a token with the bytes at its place
+abbrev pub IsTokenWord : Word → Type 0
+IsTokenWord w = IsTokenOf w.kind w.text
+
+-- each token of a text but the last one is a word, or a number that isn't too wide
+abbrev pub TokenWords : Type 0
+TokenWords = (text : List ℕ) (tokens : List Token) → Lexes text tokens → All (λ t. IsTokenWord (word_at text t)) (take (length tokens - 1) tokens)

@@ -2,7 +2,7 @@ ghost use Rattle.std.specs.Prelude.{◌≡◌, ◌≤◌, ◌++◌, length, OnOk
 ghost use Rattle.fst_lexer.specs.Tokens.{AreTokens, IsFault, list_of};
 ghost use Rattle.fst_lexer.specs.Lexes.{Lexes, OneLexing, Refuses};
 ghost use Rattle.fst_lexer.specs.Spans.{HaveSpans};
-ghost use Rattle.fst_lexer.specs.Spelling.{SpellingLaw};
+ghost use Rattle.fst_lexer.specs.Spelling.{SpellingLaw, TokenWords};
 
 use crate::making::{ends_line, place, token_of};
 use crate::pieces::{Placed, piece_at};
@@ -72,4 +72,9 @@ pub fn one_lexing()
 /// A text that is put together from words has just these words as its tokens.
 pub fn spelled_words()
     ensures { SpellingLaw }
+{}
+
+/// Each token of a text but the last one is a word, or a number that isn't too wide.
+pub fn token_words()
+    ensures { TokenWords }
 {}

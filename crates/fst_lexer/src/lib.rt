@@ -11,5 +11,5 @@ mod tests;
 mod token;
 mod words;
 
-pub use lexing::{lex, one_lexing, spelled_words};
+pub use lexing::{lex, one_lexing, spelled_words, token_words};
 pub use token::{LexFault, Token, TokenKind};

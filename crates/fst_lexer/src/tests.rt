@@ -1,4 +1,4 @@
-use crate::{lex, one_lexing, spelled_words};
+use crate::{lex, one_lexing, spelled_words, token_words};
 use std::alloc::Global;
 use std::test::Fail;
 
@@ -29,6 +29,7 @@ fn shown(alloc: Global, bytes: &[u8]) -> Result<String, Fail> {
 fn texts_have_tokens(rt: HostRuntime) -> Result<(), Fail> {
     one_lexing();
     spelled_words();
+    token_words();
     let cases = [
         ("", "Finish@0+0*"),
         ("\n", "Finish@1+0*"),

@@ -1,8 +1,8 @@
 -- Reading the text of a type gives the type.
-use Rattle.std.proofs.Common.{◌≡◌, Bool, true, false, ℕ, zero, suc, ◌+◌, ◌-◌, ◌<◌, ◌^◌, List, [], ◌∷◌, ◌++◌, length, map, take, refl, ap, arith, length-append}
+use Rattle.std.proofs.Common.{◌≡◌, Bool, true, false, ℕ, zero, suc, ◌+◌, ◌-◌, ◌<◌, ◌^◌, List, [], ◌∷◌, ◌++◌, length, map, take, refl, sym, ap, ◌∙◌, arith, length-append}
 use Rattle.std.specs.Prelude.{◌≢◌, codes, All}
 use Rattle.std.specs.List.{AllPairs}
-use Rattle.std.proofs.lemmas.List.{append-nil, length-map}
+use Rattle.std.proofs.lemmas.List.{append-nil, map-append, length-map}
 use Rattle.fst_types.specs.Tree.{Tree, skip, send, receive, select, offer, seq, rec, back, var, plain, arrow, pair, named, Branches, none, branch}
 use Rattle.fst_types.specs.WrittenTree.{WrittenTree}
 use Rattle.fst_types.specs.Height.{height, height_all}
@@ -10,7 +10,7 @@ use Rattle.fst_types.specs.Scoped.{IsScoped, AllScoped}
 use Rattle.fst_types.specs.Order.{IsSorted, AreSorted, EachChoiceBelow}
 use Rattle.fst_lexer.specs.declared.token.Token.{Token}
 use Rattle.fst_lexer.specs.declared.token.TokenKind.TheVariants as kind
-use Rattle.fst_lexer.specs.Spelling.{Word, IsWordOf, IsSpelled, nothing, word_at, end_word, SpellingLaw}
+use Rattle.fst_lexer.specs.Spelling.{Word, LinedWord, IsWordOf, IsSpelled, nothing, blank, word, word_at, lined_word_at, end_word, HasWords, SpellingLaw}
 use Rattle.fst_type_syntax.specs.Lexeme.{Lexeme, lexeme, lexemes}
 use Rattle.fst_type_syntax.specs.Grammar as grammar
 use Rattle.fst_type_syntax.specs.Grammar.{IsType, IsSeq, IsAtom}
@@ -19,11 +19,11 @@ use Rattle.fst_print.specs.Named.{IsNamedWithin, AllNamedWithin}
 use Rattle.fst_print.specs.Texts.{in_parens_before_semicolon, in_parens_before_arrow, in_parens_if, joined_text, binder_text, variable_text, name_at, text_under, branch_texts, type_text}
 use Rattle.fst_print.specs.ReadBack.{IsNoArrow, IsWritable, AreWritable, variable_names, ReadBack}
 use Rattle.fst_print.proofs.Numbered.{binder_names, binder_lower, variable_lower, binder_place, no_binder, variable_place, upper_no_binder, upper_no_variable, name_in, name_place}
-use Rattle.fst_print.proofs.Spelled.{word_of}
+use Rattle.fst_print.proofs.Spelled.{word_of, inside}
 use Rattle.fst_print.proofs.Standing.{Text, BranchesText, reform, skip_text, send_reads, receive_reads, plain_text, select_text, offer_text, left_of_semicolon, left_of_arrow, seq_text, arrow_type, pair_text, rec_text, lower_text, upper_text, last_branch, further_branch}
 
 -- what a text is in the grammar, by whether it is a function's, and whether it is one of a sequence or a rec
-abbrev FormBy : Bool → Bool → List Lexeme → WrittenTree → Type 0
+abbrev pub FormBy : Bool → Bool → List Lexeme → WrittenTree → Type 0
 FormBy true b = IsType
 FormBy false true = IsSeq
 FormBy false false = IsAtom
@@ -31,12 +31,12 @@ FormBy false false = IsAtom
 abbrev Form : Tree → List Lexeme → WrittenTree → Type 0
 Form t = FormBy (in_parens_before_arrow t) (in_parens_before_semicolon t)
 
-as_type : (a b : Bool) (ts : List Lexeme) (w : WrittenTree) → FormBy a b ts w → IsType ts w
+pub as_type : (a b : Bool) (ts : List Lexeme) (w : WrittenTree) → FormBy a b ts w → IsType ts w
 as_type true b ts w f = f
 as_type false true ts w f = grammar.single ts w f
 as_type false false ts w f = grammar.single ts w (grammar.atom ts w f)
 
-as_seq : (a b : Bool) → a ≡ false → (ts : List Lexeme) (w : WrittenTree) → FormBy a b ts w → IsSeq ts w
+pub as_seq : (a b : Bool) → a ≡ false → (ts : List Lexeme) (w : WrittenTree) → FormBy a b ts w → IsSeq ts w
 as_seq true b e ts w f = absurd (cc e)
 as_seq false true e ts w f = f
 as_seq false false e ts w f = grammar.atom ts w f
@@ -153,16 +153,51 @@ front_words text (k ∷ tokens) (w ∷ ws) (suc n) e is =
     let others = front_words text tokens ws n tail (omega arith) in
     λ i. head i ∷ others i
 
+-- the words of a text at the beginning of a line
+record Begun (text : List ℕ) (ws : List LinedWord) : Type 0 where
+  words : List LinedWord
+  spelled : IsSpelled true text words
+  same : map (λ w. w.word) words ≡ map (λ w. w.word) ws
+
+-- where a text begins a line its words are the same
+begun : (text : List ℕ) (ws : List LinedWord) → IsSpelled false text ws → Begun text ws
+begun _ _ (nothing first) = record { words = []; spelled = nothing true; same = refl }
+begun _ ws (blank first c rest _ is more) = record { words = ws; spelled = blank true c rest ws is more; same = refl }
+begun text _ (word first w _ rest ws is apart parts more) = record { words = record { first = true; word = w } ∷ ws; spelled = word true w text rest ws is apart parts more; same = refl }
+
+unlined : (ws : List Word) → map (λ w. w.word) (map inside ws) ≡ ws
+unlined [] = refl
+unlined (w ∷ ws) = ap (λ (us : List Word). w ∷ us) (unlined ws)
+
+tokens_unlined : (text : List ℕ) (tokens : List Token) → map (λ w. w.word) (map (lined_word_at text) tokens) ≡ map (word_at text) tokens
+tokens_unlined text [] = refl
+tokens_unlined text (k ∷ tokens) = ap (λ (us : List Word). word_at text k ∷ us) (tokens_unlined text tokens)
+
+-- the words of a text's tokens, whichever begin a line
+pub words_alone : (text : List ℕ) (tokens : List Token) (ws : List LinedWord) → HasWords text tokens ws → map (word_at text) tokens ≡ map (λ w. w.word) ws ++ end_word ∷ []
+words_alone text tokens ws h =
+    let end : LinedWord = record { first = h.last; word = end_word } in
+    sym (tokens_unlined text tokens) ∙ (ap (map (λ (w : LinedWord). w.word)) h.words ∙ map-append (λ (w : LinedWord). w.word) ws (end ∷ []))
+
+-- the tokens of a text that was read at the beginning of a line
+tokens_are : (text : List ℕ) (tokens : List Token) (ws : List Word) (b : Begun text (map inside ws)) → HasWords text tokens b.words → map (word_at text) tokens ≡ ws ++ end_word ∷ []
+tokens_are text tokens ws b h = rw (words_alone text tokens b.words h, b.same, unlined ws) refl
+
+-- one token more than words
+counted : (text : List ℕ) (tokens : List Token) (ws : List Word) → map (word_at text) tokens ≡ ws ++ end_word ∷ [] → length tokens - 1 ≡ length ws
+counted text tokens ws e =
+    let size : length (map (word_at text) tokens) ≡ length tokens = length-map tokens (word_at text) in
+    omega (arith, ap length e, size, length-append ws (end_word ∷ []))
+
 pub read_back_law : SpellingLaw → ReadBack
 read_back_law spelling names m t h =
     let text = type_text names t in
     let around : Around names m = record { upper = h.upper; distinct = h.distinct; few = h.few } in
     let small = h.low in
     let r = typed (scope_under names m 0) text t (reads names m around 0 t h.scoped h.named h.sorted h.writable (omega arith)) in
-    let spelled : IsSpelled text r.words = rw (append-nil text, append-nil r.words) at (r.spelled [] [] refl nothing) in
-    let found = spelling text r.words spelled in
-    let words = found.2.words in
-    let counted : length (map (word_at text) found.0) ≡ length found.0 = length-map found.0 (word_at text) in
-    let size : length found.0 - 1 ≡ length r.words = omega (arith, ap length words, counted, length-append r.words (end_word ∷ [])) in
-    let x = r.read (lexemes text found.0) (front_words text found.0 r.words (length found.0 - 1) words size) in
+    let inner : IsSpelled false text (map inside r.words) = rw (append-nil text, append-nil (map inside r.words)) at (r.spelled [] [] refl (nothing false)) in
+    let whole = begun text (map inside r.words) inner in
+    let found = spelling text whole.words whole.spelled in
+    let words = tokens_are text found.0 r.words whole found.2 in
+    let x = r.read (lexemes text found.0) (front_words text found.0 r.words (length found.0 - 1) words (counted text found.0 r.words words)) in
     (found.0, x.wrote, found.1, x.form, x.means)

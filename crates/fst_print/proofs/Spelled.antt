@@ -1,8 +1,9 @@
 -- Texts that are put together from words, and what stands in these words.
-use Rattle.std.proofs.Common.{◌≡◌, true, ℕ, List, [], ◌∷◌, ◌++◌, map, refl, sym, ap, subst, append_assoc, arith}
+use Rattle.std.proofs.Common.{◌≡◌, Bool, true, false, not, ◌&&◌, ℕ, List, [], ◌∷◌, ◌++◌, map, refl, sym, ap, subst, ◌∙◌, append_assoc, arith}
 use Rattle.std.specs.Prelude.{⊤, pos, codes}
 use Rattle.std.specs.Str.{byte, bytes_eq}
 use Rattle.std.proofs.lemmas.Fmt.{decimal_digit}
+use Rattle.std.proofs.lemmas.List.{map-append}
 use Rattle.std.proofs.lemmas.Slice.Eq.{bytes_eq-Decides}
 use Rattle.fst_types.specs.declared.base.Base.{Base}
 use Rattle.fst_types.specs.declared.base.Base.TheVariants as base
@@ -10,21 +11,25 @@ use Rattle.fst_types.specs.declared.kind.Use.{Use}
 use Rattle.fst_types.specs.declared.kind.Use.TheVariants.{Many, Once}
 use Rattle.fst_lexer.specs.declared.token.TokenKind.{TokenKind}
 use Rattle.fst_lexer.specs.declared.token.TokenKind.TheVariants as kind
-use Rattle.fst_lexer.specs.Classes.{is_blank, is_reserved}
+use Rattle.fst_lexer.specs.Classes.{is_blank, is_feed, is_reserved}
 use Rattle.fst_lexer.specs.Spelling as spelling
-use Rattle.fst_lexer.specs.Spelling.{Word, IsWordOf, IsWord, IsSpelled, StandsApart, is_sign, ends_before, ends_name, ends_number, ends_sign}
+use Rattle.fst_lexer.specs.Spelling.{Word, LinedWord, IsWordOf, IsWord, IsSpelled, StandsApart, is_sign, ends_before, ends_name, ends_number, ends_sign}
 use Rattle.fst_type_syntax.specs.Lexeme.{Lexeme, Is, IsLower, IsUpper, IsOne}
 use Rattle.fst_type_syntax.specs.Grammar.{IsBase, int, bool, char, unit, IsArrow, many, once}
-use Rattle.fst_print.specs.Texts.{base_text, arrow_text}
+use Rattle.fst_print.specs.Texts.{base_text, arrow_text, in_parens}
 
 -- a lexeme as a word: its kind and its text
 abbrev pub word_of : Lexeme → Word
 word_of k = record { kind = k.kind; text = k.text }
 
--- before a rest of which Q holds the text has these words, and P holds of any lexemes that are these words
+-- a word that begins no line
+abbrev pub inside : Word → LinedWord
+inside w = record { first = false; word = w }
+
+-- before a rest of which Q holds the text has these words, none of which begins a line, and P holds of any lexemes that are these words
 pub record Reads (Q : List ℕ → Type 0) (text : List ℕ) (P : List Lexeme → Type 0) : Type 0 where
   pub words : List Word
-  pub spelled : (rest : List ℕ) (more : List Word) → Q rest → IsSpelled rest more → IsSpelled (text ++ rest) (words ++ more)
+  pub spelled : (rest : List ℕ) (more : List LinedWord) → Q rest → IsSpelled false rest more → IsSpelled false (text ++ rest) (map inside words ++ more)
   pub read : (ts : List Lexeme) → map word_of ts ≡ words → P ts
 
 -- any rest, and one that ends a name
@@ -81,25 +86,32 @@ halves (k ∷ ts) (w ∷ ws) vs e =
 pub both : {Q R : List ℕ → Type 0} {P S : List Lexeme → Type 0} (a b : List ℕ) → ((rest : List ℕ) → R rest → Q (b ++ rest)) → Reads Q a P → Reads R b S → Reads R (a ++ b) (Two P S)
 both {P = P} {S = S} a b apart x y = record {
   words = x.words ++ y.words;
-  spelled = λ rest more q s. rw (append_assoc a b rest, append_assoc x.words y.words more) (x.spelled (b ++ rest) (y.words ++ more) (apart rest q) (y.spelled rest more q s));
+  spelled = λ rest more q s.
+      let words-are : map inside (x.words ++ y.words) ++ more ≡ map inside x.words ++ (map inside y.words ++ more) =
+      ap (λ ws. ws ++ more) (map-append inside x.words y.words) ∙ append_assoc (map inside x.words) (map inside y.words) more in
+      rw (append_assoc a b rest, words-are) (x.spelled (b ++ rest) (map inside y.words ++ more) (apart rest q) (y.spelled rest more q s));
   read = λ ts e.
       let h = halves ts x.words y.words e in
       subst (Two P S) h.parts (two h.front h.back (x.read h.front h.first) (y.read h.back h.second));
 }
 
--- a blank
-pub blank : {Q : List ℕ → Type 0} (c : ℕ) → is_blank c ≡ true → Reads Q (c ∷ []) Empty
-blank c is = record { words = []; spelled = λ rest more q s. spelling.blank c rest more is s; read = none }
+-- a blank that ends no line
+pub blank : {Q : List ℕ → Type 0} (c : ℕ) → (is_blank c && not (is_feed c)) ≡ true → Reads Q (c ∷ []) Empty
+blank c is = record { words = []; spelled = λ rest more q s. let h = parts (is_blank c) (is_feed c) is in spelling.blank false c rest more h.0 (rw h.1 s); read = none }
   where
+    parts : (a b : Bool) → (a && not b) ≡ true → (a ≡ true) × (b ≡ false)
+    parts true false e = (refl, refl)
+    parts _ _ e = absurd (cc e)
+
     none : (ts : List Lexeme) → map word_of ts ≡ [] → Empty ts
     none [] e = empty
     none (k ∷ ts) e = absurd (cc e)
 
 -- a word
-word : {Q : List ℕ → Type 0} {P : Lexeme → Type 0} (k : TokenKind) (text : List ℕ) → IsWordOf k text → ((rest : List ℕ) → Q rest → ends_before k text rest ≡ true) → ((l : Lexeme) → l.kind ≡ k → l.text ≡ text → P l) → Reads Q text (One P)
+pub word : {Q : List ℕ → Type 0} {P : Lexeme → Type 0} (k : TokenKind) (text : List ℕ) → IsWordOf k text → ((rest : List ℕ) → Q rest → ends_before k text rest ≡ true) → ((l : Lexeme) → l.kind ≡ k → l.text ≡ text → P l) → Reads Q text (One P)
 word {P = P} k text is apart means = record {
   words = w ∷ [];
-  spelled = λ rest more q s. spelling.word w (text ++ rest) rest more is (apart rest q) refl s;
+  spelled = λ rest more q s. spelling.word false w (text ++ rest) rest more is (apart rest q) refl s;
   read = single;
 }
   where
@@ -125,7 +137,7 @@ pub sign_before : (text : List ℕ) → is_sign text ≡ true → Reads (λ rest
 sign_before text is = word kind.Sign text is (λ rest q. q) (λ l k t. rw (k, t) (itself text))
 
 -- a sign that no rest makes longer
-long_sign : {Q : List ℕ → Type 0} (text : List ℕ) → is_sign text ≡ true → ((rest : List ℕ) → ends_sign text rest ≡ true) → Reads Q text (One (Is text))
+pub long_sign : {Q : List ℕ → Type 0} (text : List ℕ) → is_sign text ≡ true → ((rest : List ℕ) → ends_sign text rest ≡ true) → Reads Q text (One (Is text))
 long_sign text is apart = before text (λ rest q. apart rest) (sign_before text is)
 
 pub sign : {Q : List ℕ → Type 0} (c : ℕ) → is_sign (c ∷ []) ≡ true → ((b : ℕ) → ends_sign (c ∷ []) (b ∷ []) ≡ true) → Reads Q (c ∷ []) (One (Is (c ∷ [])))
@@ -159,7 +171,7 @@ pub rec_word : {Q : List ℕ → Type 0} → Reads Q (codes "rec ") (One (Is (co
 rec_word = so (codes "rec ") (one_only (Is (codes "rec"))) (both (codes "rec") (codes " ") (λ rest q. refl) (reserved (codes "rec") refl) (blank 32 refl))
 
 -- `->` and a blank
-arrow_sign : {Q : List ℕ → Type 0} → Reads Q (codes "-> ") (One (Is (codes "->")))
+pub arrow_sign : {Q : List ℕ → Type 0} → Reads Q (codes "-> ") (One (Is (codes "->")))
 arrow_sign = so (codes "-> ") (one_only (Is (codes "->"))) (both (codes "->") (codes " ") (λ rest q. tt) (long_sign {Q = Any} (codes "->") refl (λ rest. refl)) (blank 32 refl))
 
 -- the arrows
@@ -191,3 +203,12 @@ base_reads base.Unit = so (codes "()") stands (both (codes "(") (codes ")") (λ 
   where
     stands : (ts : List Lexeme) → Two (One (Is (codes "("))) (One (Is (codes ")"))) ts → IsBase ts base.Unit
     stands _ (two _ _ (one k is) (one c is')) = unit k c is is'
+
+-- two parts between parentheses
+pub parts_of_pair : {P Q : List Lexeme → Type 0} (left right : List ℕ) → Reads EndsName left P → Reads EndsName right Q →
+    Reads EndsName (in_parens (left ++ codes ", " ++ right)) (Two (Two (One (Is (codes "("))) (Two (Two P (One (Is (codes ",")))) Q)) (One (Is (codes ")"))))
+parts_of_pair left right l r =
+    both (codes "(" ++ (left ++ codes ", " ++ right)) (codes ")") (λ rest q. refl)
+    (both (codes "(") (left ++ codes ", " ++ right) (λ rest q. tt) (sign {Q = Any} (byte "(") refl (λ b. refl))
+    (both (left ++ codes ", ") right (λ rest q. tt) (both left (codes ", ") (λ rest q. refl) l (spaced {Q = Any} (byte ",") refl (λ b. refl))) r))
+    (sign (byte ")") refl (λ b. refl))

@@ -23,7 +23,7 @@ use Rattle.fst_terms.specs.Arranged.{placed, placed_by}
 use Rattle.fst_terms.specs.Naming as naming
 use Rattle.fst_terms.specs.Naming.{Scope, within, meaning, type_of}
 use Rattle.fst_print.specs.Texts.{base_text, send_text, receive_text, arrow_text, in_braces, in_parens, in_parens_if}
-use Rattle.fst_print.proofs.Spelled.{Reads, Any, EndsName, One, one, Two, two, so, both, reserved, sign_before, sign, lower_name, upper_name, spaced, rec_word, arrow_reads, base_reads}
+use Rattle.fst_print.proofs.Spelled.{Reads, Any, EndsName, One, one, Two, two, so, both, reserved, sign_before, sign, lower_name, upper_name, spaced, rec_word, arrow_reads, base_reads, parts_of_pair}
 
 -- lexemes that are a written type of this form, which stands for the type
 pub record Stands (Form : List Lexeme → WrittenTree → Type 0) (s : Scope) (t : Tree) (ts : List Lexeme) : Type 0 where
@@ -150,11 +150,7 @@ arrow_type s left right uses t u l r =
 pub pair_text : (s : Scope) (left right : List ℕ) (t u : Tree) → Text IsType s left t → Text IsType s right u → Text IsAtom s (in_parens (left ++ codes ", " ++ right)) (tree.pair t u)
 unfolding naming.both
 pair_text s left right t u l r =
-    so (in_parens (left ++ codes ", " ++ right)) stands
-    (both (codes "(" ++ (left ++ codes ", " ++ right)) (codes ")") (λ rest q. refl)
-    (both (codes "(") (left ++ codes ", " ++ right) (λ rest q. tt) (sign {Q = Any} (byte "(") refl (λ b. refl))
-    (both (left ++ codes ", ") right (λ rest q. tt) (both left (codes ", ") (λ rest q. refl) l (spaced {Q = Any} (byte ",") refl (λ b. refl))) r))
-    (sign (byte ")") refl (λ b. refl)))
+    so (in_parens (left ++ codes ", " ++ right)) stands (parts_of_pair left right l r)
   where
     stands : (ts : List Lexeme) → Two (Two (One (Is (codes "("))) (Two (Two (Stands IsType s t) (One (Is (codes ",")))) (Stands IsType s u))) (One (Is (codes ")"))) ts → Stands IsAtom s (tree.pair t u) ts
     stands _ (two _ _ (two _ _ (one k opens) (two _ vs (two us _ x (one m comma)) y)) (one c closes)) = record {

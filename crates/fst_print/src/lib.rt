@@ -1,15 +1,23 @@
-//! The texts of types, of words and of refusals, as a user reads them.
+//! The texts of types, of words, of refusals and of modules, as a user reads them.
 #![tactic(auto)]
 
+mod atoms;
+mod forms;
 mod laws;
+mod modules;
 mod pieces;
+mod ranks;
 mod refusals;
+mod stack;
+mod terms;
 #[cfg(test)]
 mod tests;
 mod types;
 mod words;
+mod written;
 
-pub use laws::read_back;
+pub use laws::{read_again, read_back};
+pub use modules::module_text;
 pub use refusals::{Phrase, Refusal, refusal_text};
 pub use types::type_text;
 pub use words::{side_text, word_text};

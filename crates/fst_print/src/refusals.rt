@@ -57,7 +57,7 @@ fn prekind_text(prekind: Prekind) -> &'static str
     }
 }
 
-fn push_kind(text: &mut String, kind: Kind) -> Result<(), AllocError>
+pub(crate) fn push_kind(text: &mut String, kind: Kind) -> Result<(), AllocError>
     ensures { OnOk result (string_bytes text.new ≡ string_bytes text.old ++ kind_text kind) }
 {
     text.push_str(use_text(kind.uses))?;

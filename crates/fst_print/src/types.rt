@@ -35,7 +35,7 @@ fn in_parens_before_arrow(t: &Ty) -> bool
     matches!(&t.form, TyForm::Arrow(_, _, _))
 }
 
-fn arrow_text(uses: Use) -> &'static str
+pub(crate) fn arrow_text(uses: Use) -> &'static str
     ensures { result.now ≡ arrow_text uses }
 {
     match uses {

@@ -5,3 +5,4 @@ pub mod PartCodes
 pub mod TermCode
 pub mod TermView
 pub mod TermFalls
+pub mod ModuleTree

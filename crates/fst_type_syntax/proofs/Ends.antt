@@ -7,8 +7,8 @@ use Rattle.fst_types.specs.declared.kind.Use.TheVariants.{Once}
 use Rattle.fst_type_syntax.specs.Lexeme.{Lexeme, spells}
 use Rattle.fst_type_syntax.specs.Grammar.{start}
 use Rattle.fst_type_syntax.specs.Derives.{lengthens, is_left}
-use Rattle.fst_type_syntax.specs.Reading.{Reader, andthen, mapped, finish, begins, behind, on, word}
-use Rattle.fst_type_syntax.specs.TypeReading.{rec_with, chain_with, seq_with, arrow_with, type_with, shut, seq_at, type_at, types_at, question_at}
+use Rattle.fst_type_syntax.specs.Reading.{Reader, andthen, mapped, finish, begins, behind, on, word, shut}
+use Rattle.fst_type_syntax.specs.TypeReading.{rec_with, chain_with, seq_with, arrow_with, type_with, starts_type, seq_at, type_at, types_at, question_at}
 use Rattle.fst_type_syntax.proofs.Steps.{bind_ok, chosen, mapped_is, give_is, ok_is}
 
 -- what is left by the reader isn't this
@@ -27,7 +27,7 @@ ends_on : {A : Type 0} (more : List Lexeme → Bool) (test : Lexeme → Bool) (f
 unfolding on
 ends_on more test f g p q ts x rest e = elim (chosen _ _ _ _ e) [ inl h ↦ p (behind ts) x rest h.1 | inr h ↦ q ts x rest h.0 h.1 ]
 
-ends_shut : (more : List Lexeme → Bool) → Ends shut more
+ends_shut : (more : List Lexeme → Bool) → Ends (shut {A = WrittenTree} starts_type) more
 unfolding shut
 ends_shut more ts x rest e = elim (chosen _ _ _ _ e) [ inl h ↦ absurd (let is = h.1 in cc) | inr h ↦ absurd (let is = h.1 in cc) ]
 

@@ -3,6 +3,8 @@ pub mod Steps
 pub mod Parts
 pub mod Sequences
 pub mod Shut
+pub mod Repeats
+pub mod Manys
 pub mod Tokens
 pub mod TypePhrases
 pub mod TypeReads

@@ -1,15 +1,14 @@
 -- Lists that are put together in two ways.
 use Rattle.std.proofs.Common.{◌≡◌, ℕ, suc, ◌≤◌, ◌<◌, List, [], ◌∷◌, ◌++◌, length, refl, sym, ap, ◌∙◌, arith, max}
-use Rattle.fst_type_syntax.specs.Lexeme.{Lexeme}
 use Rattle.fst_type_syntax.specs.Faults.{Low}
 
 -- two ways to cut one list
-pub data Cuts (p s q t : List Lexeme) : Type 0 where
-  shorter : (k : Lexeme) (m : List Lexeme) → q ≡ p ++ k ∷ m → s ≡ k ∷ m ++ t → Cuts p s q t
+pub data Cuts {T : Type 0} (p s q t : List T) : Type 0 where
+  shorter : (k : T) (m : List T) → q ≡ p ++ k ∷ m → s ≡ k ∷ m ++ t → Cuts p s q t
   same : p ≡ q → s ≡ t → Cuts p s q t
-  longer : (k : Lexeme) (m : List Lexeme) → p ≡ q ++ k ∷ m → t ≡ k ∷ m ++ s → Cuts p s q t
+  longer : (k : T) (m : List T) → p ≡ q ++ k ∷ m → t ≡ k ∷ m ++ s → Cuts p s q t
 
-pub cuts : (p s q t : List Lexeme) → p ++ s ≡ q ++ t → Cuts p s q t
+pub cuts : {T : Type 0} (p s q t : List T) → p ++ s ≡ q ++ t → Cuts p s q t
 cuts [] s [] t e = same refl e
 cuts [] s (k ∷ q) t e = shorter k q refl e
 cuts (k ∷ p) s [] t e = longer k p refl (sym e)
@@ -19,12 +18,12 @@ cuts (k ∷ p) s (c ∷ q) t e =
     of_tail head (cuts p s q t tail)
   where
     of_tail : k ≡ c → Cuts p s q t → Cuts (k ∷ p) s (c ∷ q) t
-    of_tail h (shorter j m a b) = shorter j m (ap (λ (w : List Lexeme). c ∷ w) a ∙ ap (λ z. z ∷ (p ++ j ∷ m)) (sym h)) b
-    of_tail h (same a b) = same (ap (λ z. z ∷ p) h ∙ ap (λ (w : List Lexeme). c ∷ w) a) b
-    of_tail h (longer j m a b) = longer j m (ap (λ z. z ∷ p) h ∙ ap (λ (w : List Lexeme). c ∷ w) a) b
+    of_tail h (shorter j m a b) = shorter j m (ap (λ w. c ∷ w) a ∙ ap (λ z. z ∷ (p ++ j ∷ m)) (sym h)) b
+    of_tail h (same a b) = same (ap (λ z. z ∷ p) h ∙ ap (λ w. c ∷ w) a) b
+    of_tail h (longer j m a b) = longer j m (ap (λ z. z ∷ p) h ∙ ap (λ w. c ∷ w) a) b
 
 -- cuts at one place are one cut
-pub one_cut : (p s q t : List Lexeme) → p ++ s ≡ q ++ t → length p ≡ length q → (p ≡ q) × (s ≡ t)
+pub one_cut : {T : Type 0} (p s q t : List T) → p ++ s ≡ q ++ t → length p ≡ length q → (p ≡ q) × (s ≡ t)
 one_cut [] s [] t e n = (refl, e)
 one_cut [] s (c ∷ q) t e n = absurd (omega (arith, n))
 one_cut (k ∷ p) s [] t e n = absurd (omega (arith, n))
@@ -32,7 +31,7 @@ one_cut (k ∷ p) s (c ∷ q) t e n =
     let head : k ≡ c = cc in
     let tail : p ++ s ≡ q ++ t = cc in
     let rest = one_cut p s q t tail (omega (arith, n)) in
-    (ap (λ z. z ∷ p) head ∙ ap (λ (w : List Lexeme). c ∷ w) rest.0, rest.1)
+    (ap (λ z. z ∷ p) head ∙ ap (λ w. c ∷ w) rest.0, rest.1)
 
 -- the first number over a limit stands at one place
 pub one_first : (limit : ℕ) (xs ys : List ℕ) (n m : ℕ) (zs ws : List ℕ) → xs ++ n ∷ zs ≡ ys ++ m ∷ ws → Low limit xs → Low limit ys → limit < n → limit < m → length xs ≡ length ys

@@ -10,13 +10,13 @@ use Rattle.fst_type_syntax.specs.Gives.{Fails}
 abbrev pub with_front : {A : Type 0} → List A → Result (List A × List Lexeme) Halt → Result (List A × List Lexeme) Halt
 with_front front read = bind read (λ x. Ok (front ++ x.0, x.1))
 
-regroup : {A : Type 0} (front : List A) (a : A) (read : Result (List A × List Lexeme) Halt) →
+pub regroup : {A : Type 0} (front : List A) (a : A) (read : Result (List A × List Lexeme) Halt) →
     with_front front (bind read (λ x. Ok (a ∷ x.0, x.1))) ≡ with_front (front ++ a ∷ []) read
 unfolding bind
 regroup front a (Ok x) = ap (λ (bs : List _). Ok (bs, x.1)) (sym (append_assoc front (a ∷ []) x.0))
 regroup front a (Err h) = refl
 
-with_none : {A : Type 0} (read : Result (List A × List Lexeme) Halt) → with_front [] read ≡ read
+pub with_none : {A : Type 0} (read : Result (List A × List Lexeme) Halt) → with_front [] read ≡ read
 unfolding bind
 with_none (Ok x) = refl
 with_none (Err h) = refl

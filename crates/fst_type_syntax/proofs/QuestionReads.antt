@@ -80,7 +80,7 @@ reads_binder limit =
     (λ x. sample_then (Word 0 (codes ":")) _ (sample_word 0 (codes ":")) (λ c. sample_then (One 0 use_of) _ (sample_one 0 use_of uses) (λ u. sample_mapped _ (One 0 prekind_of) (sample_one 0 prekind_of prekinds)))))
     binder_to binder_from
 
-abbrev comma : List Lexeme → Bool
+abbrev pub comma : List Lexeme → Bool
 comma ts = begins (spells (codes ",")) ts
 
 binder_filled : (us : List Lexeme) (x : Binder × Kind) (ns : List ℕ) → BinderP us x ns → 0 < length us
@@ -104,24 +104,24 @@ sample_binder n =
       refl,
     )
 
-abbrev BindersR : Phrase (List (Binder × Kind))
+abbrev pub BindersR : Phrase (List (Binder × Kind))
 BindersR = Separated 0 (spells (codes ",")) BinderP
 
-reads_binders : (limit : ℕ) → Reads limit (separated (spells (codes ",")) binder_at) BindersR comma
+pub reads_binders : (limit : ℕ) → Reads limit (separated (spells (codes ",")) binder_at) BindersR comma
 reads_binders limit =
     reads_separated limit 0 (omega arith) (spells (codes ",")) binder_at BinderP never comma (reads_binder limit) sample_binder binder_filled (λ k ts is. refl) (λ rest stop. (refl, stop))
 
-level_append : (n : ℕ) (ts us : List Lexeme) → level n (ts ++ us) ≡ level n ts ++ level n us
+pub level_append : (n : ℕ) (ts us : List Lexeme) → level n (ts ++ us) ≡ level n ts ++ level n us
 level_append n [] us = refl
 level_append n (k ∷ ts) us = ap (λ (w : List ℕ). n ∷ w) (level_append n ts us)
 
-binders_to : (ts : List Lexeme) (bs : List (Binder × Kind)) (ns : List ℕ) → BindersR ts bs ns → IsBinders ts bs × (level 0 ts ≡ ns)
+pub binders_to : (ts : List Lexeme) (bs : List (Binder × Kind)) (ns : List ℕ) → BindersR ts bs ns → IsBinders ts bs × (level 0 ts ≡ ns)
 binders_to _ _ _ (phrase.last ts x ns p) = (last ts x.0 x.1 p.0, p.1)
 binders_to _ _ _ (phrase.further ts us vs k x xs ns ms ks p is q parts nests) =
     let o = binders_to vs xs ks q in
     (further us vs ts k x.0 x.1 xs p.0 is o.0 parts, ap (level 0) parts ∙ level_append 0 us (k ∷ vs) ∙ (let e : level 0 us ++ 0 ∷ level 0 vs ≡ ns = rw (p.1, o.1) (sym nests) in e))
 
-binders_from : (ts : List Lexeme) (bs : List (Binder × Kind)) → IsBinders ts bs → BindersR ts bs (level 0 ts)
+pub binders_from : (ts : List Lexeme) (bs : List (Binder × Kind)) → IsBinders ts bs → BindersR ts bs (level 0 ts)
 binders_from _ _ (last ts b k s) = phrase.last ts (b, k) (level 0 ts) (s, refl)
 binders_from _ _ (further ts us all c b k bs s is r parts) =
     phrase.further all ts us c (b, k) bs (level 0 all) (level 0 ts) (level 0 us) (s, refl) is (binders_from us bs r) parts (ap (level 0) parts ∙ level_append 0 ts (c ∷ us))
@@ -261,7 +261,7 @@ reads_types limit bs =
     (λ t. sample_then (Word 0 (codes "~")) _ (sample_word 0 (codes "~")) (λ k. sample_then (SeqP 1) _ (sample_seq 1 0) (λ u. sample_mapped _ End (record { tokens = []; value = tt; nests = []; phrase = ended }))))
     seq_filled (λ us x ns vs y ms rest q stop. no_semi _ vs y ms rest q)
 
-binders_filled : (us : List Lexeme) (bs : List (Binder × Kind)) (ns : List ℕ) → BindersR us bs ns → 0 < length us
+pub binders_filled : (us : List Lexeme) (bs : List (Binder × Kind)) (ns : List ℕ) → BindersR us bs ns → 0 < length us
 binders_filled _ _ _ (phrase.last ts x ns p) = binder_filled ts x ns p
 binders_filled _ _ _ (phrase.further ts us vs k x xs ns ms ks p is q parts nests) = omega (arith, ap length parts, length-append us (k ∷ vs))
 
@@ -281,7 +281,7 @@ any_left : (ts : List Lexeme) → is_left ts ≡ false → any ts ≡ false
 any_left [] e = refl
 any_left (k ∷ ts) e = absurd cc
 
-sample_binders : Some_ BindersR
+pub sample_binders : Some_ BindersR
 sample_binders = let b = sample_binder 0 in record { tokens = b.0.tokens; value = b.0.value ∷ []; nests = b.0.nests; phrase = phrase.last b.0.tokens b.0.value b.0.nests b.0.phrase }
 
 -- each question is read where none of its tokens is too deep

@@ -25,10 +25,14 @@ module _ {A B : Type 0} (limit : ℕ) (f : Reader A) (g g' : A → Reader B) (P 
       of_step (Err (Syntax z)) e = rw e (λ u is. let both = rw e at (r.alike k t t' w) in rw (both u is) refl)
       of_step (Err (Deep z)) e = rw e (λ u is. let both = rw e at (r.alike k t t' w) in rw (both u is) refl)
 
--- one phrase and then another
+front : (us vs ws : List Lexeme) → (0 < length vs → start vs ≡ start ws) → 0 < length (us ++ vs) → start (us ++ vs) ≡ start (us ++ ws)
+front [] vs ws same lt = same lt
+front (k ∷ us) vs ws same lt = refl
+
+-- one phrase, which has a token where it isn't read, and then another
 module _ {A B : Type 0} (limit : ℕ) (f : Reader A) (g : A → Reader B) (P : Phrase A) (Q : A → Phrase B) (more last : List Lexeme → Bool)
     (r : Reads limit f P more) (s : (x : A) → Reads limit (g x) (Q x) last) (some : (x : A) → Some_ (Q x))
-    (filled : (us : List Lexeme) (x : A) (ns : List ℕ) → P us x ns → 0 < length us)
+    (starts : (ts : List Lexeme) (h : Halt) (e : f ts ≡ Err h) → 0 < length ((r.stopped ts h e).tokens ++ (r.stopped ts h e).others))
     (next : (us : List Lexeme) (x : A) (ns vs : List Lexeme) (y : B) (ms : List ℕ) (rest : List Lexeme) → Q x vs y ms → last rest ≡ false → more (vs ++ rest) ≡ false) where
   then_found : (ts : List Lexeme) (y : B) (rest : List Lexeme) → andthen f g ts ≡ Ok (y, rest) → Found limit (Then P Q) ts y rest
   unfolding andthen
@@ -62,7 +66,7 @@ module _ {A B : Type 0} (limit : ℕ) (f : Reader A) (g : A → Reader B) (P : P
           count = p.count;
           low = p.low;
           over = over_longer h limit p.others q.tokens p.high q.nests p.over;
-          begins_so = λ lt. ap start (sym (append_assoc p.tokens p.others q.tokens)) ∙ start_more (p.tokens ++ p.others) q.tokens (start ts) (filled _ _ _ p.phrase) (p.begins_so (filled _ _ _ p.phrase));
+          begins_so = λ lt. ap start (sym (append_assoc p.tokens p.others q.tokens)) ∙ start_more (p.tokens ++ p.others) q.tokens (start ts) (starts ts h a) (p.begins_so (starts ts h a));
         }
     | inr a ↦
         let p = r.found ts a.0.0 a.0.1 a.1 in
@@ -80,7 +84,9 @@ module _ {A B : Type 0} (limit : ℕ) (f : Reader A) (g : A → Reader B) (P : P
           count = omega (arith, n, q.count, length-append p.nests q.nests, length-append p.tokens q.tokens);
           low = Low-append limit p.nests q.nests p.low q.low;
           over = q.over;
-          begins_so = λ lt. ap start (append_assoc p.tokens q.tokens q.others) ∙ start_front p.tokens (q.tokens ++ q.others) a.0.1 (filled _ _ _ p.phrase) ∙ ap start (sym p.parts);
+          begins_so = λ lt.
+              let whole_ = append_assoc p.tokens q.tokens q.others in
+              ap start whole_ ∙ front p.tokens (q.tokens ++ q.others) a.0.1 q.begins_so (omega (arith, lt, ap length whole_)) ∙ ap start (sym p.parts);
         }
   ]
 
@@ -111,8 +117,16 @@ module _ {A B : Type 0} (limit : ℕ) (f : Reader A) (g : A → Reader B) (P : P
   then_counted _ _ _ (pair ts us vs x y ns ms ks p q parts nests) =
       omega (arith, r.counted us x ms p, (s x).counted vs y ks q, ap length parts, ap length nests, length-append ms ks, length-append us vs)
 
+  pub reads_behind : Reads limit (andthen f g) (Then P Q) last
+  reads_behind = record { found = then_found; stopped = then_stopped; reads = then_reads; alike = then_alike; counted = then_counted }
+
+-- one phrase that has a token, and then another
+module _ {A B : Type 0} (limit : ℕ) (f : Reader A) (g : A → Reader B) (P : Phrase A) (Q : A → Phrase B) (more last : List Lexeme → Bool)
+    (r : Reads limit f P more) (s : (x : A) → Reads limit (g x) (Q x) last) (some : (x : A) → Some_ (Q x))
+    (filled : (us : List Lexeme) (x : A) (ns : List ℕ) → P us x ns → 0 < length us)
+    (next : (us : List Lexeme) (x : A) (ns vs : List Lexeme) (y : B) (ms : List ℕ) (rest : List Lexeme) → Q x vs y ms → last rest ≡ false → more (vs ++ rest) ≡ false) where
   pub reads_then : Reads limit (andthen f g) (Then P Q) last
-  reads_then = record { found = then_found; stopped = then_stopped; reads = then_reads; alike = then_alike; counted = then_counted }
+  reads_then = reads_behind limit f g P Q more last r s some (λ ts h e. filled _ _ _ (r.stopped ts h e).phrase) next
 
 -- one behind the other, with a token that passes a test between each two
 module _ {A : Type 0} (limit d : ℕ) (low : d ≤ limit) (test : Lexeme → Bool) (f : Reader A) (P : Phrase A) (more stop : List Lexeme → Bool) (r : Reads limit f P more)

@@ -3,22 +3,20 @@ use Rattle.std.proofs.Common.{◌≡◌, ℕ, ◌<◌, inl, inr, Bool, true, fal
 use Rattle.fst_type_syntax.specs.Lexeme.{Lexeme}
 use Rattle.fst_type_syntax.specs.Grammar.{start}
 use Rattle.fst_type_syntax.specs.Faults.{Phrase}
-use Rattle.fst_type_syntax.specs.Reading.{Halt, Syntax, Deep, choose, begins}
-use Rattle.fst_types.specs.WrittenTree.{WrittenTree}
-use Rattle.fst_type_syntax.specs.TypeReading.{starts_type, shut}
+use Rattle.fst_type_syntax.specs.Reading.{Halt, Syntax, Deep, choose, begins, shut}
 use Rattle.fst_type_syntax.proofs.Phrases.{left, Found, Over, Stopped, Outcome, deep, SameUpTo, Reads}
 use Rattle.fst_type_syntax.proofs.Steps.{chosen, choose_true, err_is, same_front, Some_}
 
-abbrev refused : Halt → Result (WrittenTree × List Lexeme) Halt
+abbrev refused : {A : Type 0} → Halt → Result (A × List Lexeme) Halt
 refused h = Err h
 
 -- where a phrase would be too deep none is read
-module _ (limit : ℕ) (P : Phrase WrittenTree) (more : List Lexeme → Bool)
+module _ {A : Type 0} (limit : ℕ) (test : Lexeme → Bool) (P : Phrase A) (more : List Lexeme → Bool)
     (sample : (n : ℕ) → (s : Some_ P) × (start s.tokens ≡ n))
-    (opens : (k : Lexeme) → starts_type k ≡ true → (others : List Lexeme) × (x : WrittenTree) × (n : ℕ) × (ns : List ℕ) × P (k ∷ others) x (n ∷ ns) × (limit < n))
-    (begun : (us : List Lexeme) (x : WrittenTree) (ns : List ℕ) → P us x ns → (k : Lexeme) × (v : List Lexeme) × (n : ℕ) × (ms : List ℕ) × (us ≡ k ∷ v) × (ns ≡ n ∷ ms) × (starts_type k ≡ true) × (limit < n))
-    (count : (us : List Lexeme) (x : WrittenTree) (ns : List ℕ) → P us x ns → length ns ≡ length us) where
-  shut_deep : (ts : List Lexeme) (h : Halt) → begins starts_type ts ≡ true → Deep ts ≡ h → Stopped limit P h ts
+    (opens : (k : Lexeme) → test k ≡ true → (others : List Lexeme) × (x : A) × (n : ℕ) × (ns : List ℕ) × P (k ∷ others) x (n ∷ ns) × (limit < n))
+    (begun : (us : List Lexeme) (x : A) (ns : List ℕ) → P us x ns → (k : Lexeme) × (v : List Lexeme) × (n : ℕ) × (ms : List ℕ) × (us ≡ k ∷ v) × (ns ≡ n ∷ ms) × (test k ≡ true) × (limit < n))
+    (count : (us : List Lexeme) (x : A) (ns : List ℕ) → P us x ns → length ns ≡ length us) where
+  shut_deep : (ts : List Lexeme) (h : Halt) → begins test ts ≡ true → Deep ts ≡ h → Stopped limit P h ts
   shut_deep [] h b e = absurd cc
   shut_deep (k ∷ ts) h b e =
       let o = opens k b in
@@ -36,7 +34,7 @@ module _ (limit : ℕ) (P : Phrase WrittenTree) (more : List Lexeme → Bool)
         begins_so = λ lt. refl;
       }
 
-  shut_stopped : (ts : List Lexeme) (h : Halt) → shut ts ≡ Err h → Stopped limit P h ts
+  shut_stopped : (ts : List Lexeme) (h : Halt) → shut {A = A} test ts ≡ Err h → Stopped limit P h ts
   unfolding shut
   shut_stopped ts h e = elim (chosen _ _ _ _ e) [
     | inl b ↦ shut_deep ts h b.0 (err_is _ _ b.1)
@@ -58,29 +56,29 @@ module _ (limit : ℕ) (P : Phrase WrittenTree) (more : List Lexeme → Bool)
         }
   ]
 
-  shut_reads : (us : List Lexeme) (x : WrittenTree) (ns : List ℕ) (rest : List Lexeme) → P us x ns → more rest ≡ false → Outcome limit shut us x ns rest
+  shut_reads : (us : List Lexeme) (x : A) (ns : List ℕ) (rest : List Lexeme) → P us x ns → more rest ≡ false → Outcome limit (shut test) us x ns rest
   unfolding shut
   shut_reads us x ns rest p stop =
       let b = begun us x ns p in
       let is : us ++ rest ≡ b.0 ∷ (b.1 ++ rest) = ap (λ (w : List Lexeme). w ++ rest) b.4 in
       deep [] b.1 b.0 [] b.3 b.2 b.4 b.5 refl tt b.7 (rw is (choose_true _ _ _ b.6))
 
-  shut_alike : (k : Lexeme) (t t' w : List Lexeme) → SameUpTo k t t' (shut (w ++ k ∷ t)) (shut (w ++ k ∷ t'))
+  shut_alike : (k : Lexeme) (t t' w : List Lexeme) → SameUpTo k t t' (shut {A = A} test (w ++ k ∷ t)) (shut test (w ++ k ∷ t'))
   unfolding shut choose
-  shut_alike k t t' [] = of_test (starts_type k)
+  shut_alike k t t' [] = of_test (test k)
     where
-      of_test : (b : Bool) → SameUpTo k t t' (choose b (refused (Deep (k ∷ t))) (refused (Syntax (k ∷ t)))) (choose b (refused (Deep (k ∷ t'))) (refused (Syntax (k ∷ t'))))
+      of_test : (b : Bool) → SameUpTo k t t' (choose b (refused {A = A} (Deep (k ∷ t))) (refused (Syntax (k ∷ t)))) (choose b (refused {A = A} (Deep (k ∷ t'))) (refused (Syntax (k ∷ t'))))
       of_test true u is = ap (λ z. Err (Deep z)) (same_front [] u k t t' is)
       of_test false u is = ap (λ z. Err (Syntax z)) (same_front [] u k t t' is)
-  shut_alike k t t' (c ∷ w) = of_test (starts_type c)
+  shut_alike k t t' (c ∷ w) = of_test (test c)
     where
-      of_test : (b : Bool) → SameUpTo k t t' (choose b (refused (Deep (c ∷ (w ++ k ∷ t)))) (refused (Syntax (c ∷ (w ++ k ∷ t))))) (choose b (refused (Deep (c ∷ (w ++ k ∷ t')))) (refused (Syntax (c ∷ (w ++ k ∷ t')))))
+      of_test : (b : Bool) → SameUpTo k t t' (choose b (refused {A = A} (Deep (c ∷ (w ++ k ∷ t)))) (refused (Syntax (c ∷ (w ++ k ∷ t))))) (choose b (refused {A = A} (Deep (c ∷ (w ++ k ∷ t')))) (refused (Syntax (c ∷ (w ++ k ∷ t')))))
       of_test true u is = ap (λ z. Err (Deep z)) (same_front (c ∷ w) u k t t' is)
       of_test false u is = ap (λ z. Err (Syntax z)) (same_front (c ∷ w) u k t t' is)
 
-  shut_found : (ts : List Lexeme) (x : WrittenTree) (rest : List Lexeme) → shut ts ≡ Ok (x, rest) → Found limit P ts x rest
+  shut_found : (ts : List Lexeme) (x : A) (rest : List Lexeme) → shut test ts ≡ Ok (x, rest) → Found limit P ts x rest
   unfolding shut
   shut_found ts x rest e = elim (chosen _ _ _ _ e) [ inl b ↦ absurd (let is = b.1 in cc) | inr b ↦ absurd (let is = b.1 in cc) ]
 
-  pub reads_shut : Reads limit shut P more
+  pub reads_shut : Reads limit (shut test) P more
   reads_shut = record { found = shut_found; stopped = shut_stopped; reads = shut_reads; alike = shut_alike; counted = count }

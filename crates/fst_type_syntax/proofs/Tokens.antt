@@ -28,7 +28,7 @@ a_lower n = record { kind = kind.Lower; at = n; text = [] }
 abbrev pub an_upper : ℕ → Lexeme
 an_upper n = record { kind = kind.Upper; at = n; text = [] }
 
-same_text : (x y : List ℕ) → bytes_eq x y ≡ true → x ≡ y
+pub same_text : (x y : List ℕ) → bytes_eq x y ≡ true → x ≡ y
 same_text x y e = (bytes_eq-Decides x y).0 e
 
 pub fixed_is : (w : List ℕ) (n : ℕ) → Is w (fixed w n)
@@ -127,7 +127,7 @@ is_base_word base.Char k e = base_spelled (codes "Char") k e
 is_base_word base.Unit k e = absurd e
 
 -- the token is a reserved word or a sign with this text
-spelled_so : (t : TokenKind) (w text : List ℕ) → bytes_eq text w ≡ true → (t ≡ kind.Reserved) ⊎ (t ≡ kind.Sign) → spells_by t w text ≡ true
+pub spelled_so : (t : TokenKind) (w text : List ℕ) → bytes_eq text w ≡ true → (t ≡ kind.Reserved) ⊎ (t ≡ kind.Sign) → spells_by t w text ≡ true
 spelled_so t w text e (inl is) = rw is e
 spelled_so t w text e (inr is) = rw is e
 
@@ -136,7 +136,7 @@ unfolding choose
 chosen true x y z e = inl (refl, e)
 chosen false x y z e = inr (refl, e)
 
-some_is : {A : Type 0} (x y : A) → Some x ≡ Some y → x ≡ y
+pub some_is : {A : Type 0} (x y : A) → Some x ≡ Some y → x ≡ y
 some_is x y e = cc
 
 base_named_is : (k : Lexeme) (b : Base) → (k.kind ≡ kind.Reserved) ⊎ (k.kind ≡ kind.Sign) → base_named k.text ≡ Some b → IsBaseWord b k
@@ -291,7 +291,7 @@ no_base w k b n e = of_test (spells w k) refl
     of_test true is = let both = sym e ∙ base_spelled w k is ∙ n in absurd cc
     of_test false is = is
 
-option_of : (o : Option Start) → is_begun o ≡ true → (s : Start) × (o ≡ Some s)
+pub option_of : (o : Option Start) → is_begun o ≡ true → (s : Start) × (o ≡ Some s)
 option_of (Some s) e = (s, refl)
 option_of None e = absurd cc
 

@@ -13,9 +13,9 @@ use Rattle.fst_type_syntax.specs.Lexeme.{Lexeme, spells, Is}
 use Rattle.fst_type_syntax.specs.Grammar.{start, int, IsType, single, arrow, IsSeq, rec, atom, chain, IsAtom, skip, send, receive, select, offer, plain, lower, upper, group, pair, IsAlts, last, further, IsAlt, alt}
 use Rattle.fst_type_syntax.specs.Nesting.{level, type_nests, seq_nests, atom_nests, alts_nests, alt_nests}
 use Rattle.fst_type_syntax.specs.Faults.{Phrase}
-use Rattle.fst_type_syntax.specs.Reading.{Reader, choose, give, andthen, mapped, switch, only, word, located, begins, on, separated}
+use Rattle.fst_type_syntax.specs.Reading.{Reader, choose, give, andthen, mapped, switch, only, word, located, begins, on, separated, shut}
 use Rattle.fst_type_syntax.specs.Reading as reading
-use Rattle.fst_type_syntax.specs.TypeReading.{base_named, base_word, start_named, start_of, lower_of, upper_of, is_one, base_at, alt_with, choice_with, pair_with, paren_with, begun_with, atom_with, rec_with, chain_with, seq_with, arrow_with, type_with, shut, seq_at, type_at}
+use Rattle.fst_type_syntax.specs.TypeReading.{base_named, base_word, start_named, start_of, lower_of, upper_of, is_one, base_at, alt_with, choice_with, pair_with, paren_with, begun_with, atom_with, rec_with, chain_with, seq_with, arrow_with, type_with, starts_type, seq_at, type_at}
 use Rattle.fst_type_syntax.proofs.Phrases as phrase
 use Rattle.fst_type_syntax.proofs.Phrases.{Reads, never, Give, nothing, Then, Mapped, made, Switch, first, On, taken, other, Located, at, Separated}
 use Rattle.fst_type_syntax.proofs.Steps.{Some_}
@@ -32,7 +32,7 @@ semi ts = begins (spells (codes ";")) ts
 abbrev pub goes : List Lexeme → Bool
 goes ts = semi ts || (begins (spells (codes "->")) ts || begins is_one ts)
 
-or_false : (a b : Bool) → a || b ≡ false → (a ≡ false) × (b ≡ false)
+pub or_false : (a b : Bool) → a || b ≡ false → (a ≡ false) × (b ≡ false)
 or_false false b e = (refl, e)
 or_false true b e = absurd cc
 
@@ -69,7 +69,7 @@ words w n = (fixed w n, tt, refl, is_only (spells w) (fixed w n) (fixed_is w n))
 pub lowers : (n : ℕ) → (k : Lexeme) × (x : Lexeme) × (k.at ≡ n) × (lower_of k ≡ Some x)
 lowers n = (a_lower n, a_lower n, refl, refl)
 
-uppers : (n : ℕ) → (k : Lexeme) × (x : Lexeme) × (k.at ≡ n) × (upper_of k ≡ Some x)
+pub uppers : (n : ℕ) → (k : Lexeme) × (x : Lexeme) × (k.at ≡ n) × (upper_of k ≡ Some x)
 uppers n = (an_upper n, an_upper n, refl, refl)
 
 pub reads_word : (limit d : ℕ) → d ≤ limit → (w : List ℕ) → Reads limit (word w) (Word d w) never
@@ -211,7 +211,7 @@ module _ (limit d : ℕ) (low : d ≤ limit) (seq type : Reader WrittenTree) (rs
     rest = record { tokens = []; value = written.skip n; nests = []; phrase = nothing };
   }
 
-  reads_atom : Reads limit (atom_with seq type) (AtomP d) never
+  pub reads_atom : Reads limit (atom_with seq type) (AtomP d) never
   unfolding atom_with
   reads_atom = reads_as limit _ (AtomR d) (AtomP d) never (reads_switch limit d low start_of (begun_with seq type) (BegunR d) never reads_begun sample_begun) (atom_to d) (atom_from d)
 
@@ -298,19 +298,19 @@ module _ (limit d : ℕ) (low : suc d ≤ limit) (seq type : Reader WrittenTree)
       type_inside_filled)
       (type_to d) (type_from d)
 
-level_count : (n : ℕ) (ts : List Lexeme) → length (level n ts) ≡ length ts
+pub level_count : (n : ℕ) (ts : List Lexeme) → length (level n ts) ≡ length ts
 level_count n [] = refl
 level_count n (k ∷ ts) = ap suc (level_count n ts)
 
 mutual
   -- one number for each token
-  seq_count : (n : ℕ) {ts : List Lexeme} {t : WrittenTree} (s : IsSeq ts t) → length (seq_nests n s) ≡ length ts
+  pub seq_count : (n : ℕ) {ts : List Lexeme} {t : WrittenTree} (s : IsSeq ts t) → length (seq_nests n s) ≡ length ts
   seq_count n (rec k x d ts t is name dot s) = omega (arith, seq_count (suc n) s)
   seq_count n (atom ts t a) = atom_count n a
   seq_count n (chain ts us all k t u a is s parts) =
       omega (arith, atom_count n a, seq_count (suc n) s, ap length parts, length-append ts (k ∷ us), length-append (atom_nests n a) (n ∷ seq_nests (suc n) s))
 
-  type_count : (n : ℕ) {ts : List Lexeme} {t : WrittenTree} (s : IsType ts t) → length (type_nests n s) ≡ length ts
+  pub type_count : (n : ℕ) {ts : List Lexeme} {t : WrittenTree} (s : IsType ts t) → length (type_nests n s) ≡ length ts
   type_count n (single ts t s) = seq_count (suc n) s
   type_count n (arrow ts ks us all t u uses s a r parts) =
       omega (
@@ -325,7 +325,7 @@ mutual
         length-append (level (suc n) ks) (type_nests (suc n) r),
       )
 
-  atom_count : (n : ℕ) {ts : List Lexeme} {t : WrittenTree} (s : IsAtom ts t) → length (atom_nests n s) ≡ length ts
+  pub atom_count : (n : ℕ) {ts : List Lexeme} {t : WrittenTree} (s : IsAtom ts t) → length (atom_nests n s) ≡ length ts
   atom_count n (skip k is) = refl
   atom_count n (send k ts b is s) = ap suc (level_count n ts)
   atom_count n (receive k ts b is s) = ap suc (level_count n ts)
@@ -379,7 +379,7 @@ sample_choice d make =
 sample_base : (d : ℕ) → Some_ (BaseP d)
 sample_base d = record { tokens = fixed (codes "Int") 0 ∷ []; value = base.Int; nests = d ∷ []; phrase = (int (fixed (codes "Int") 0) (fixed_is (codes "Int") 0), refl) }
 
-opening_by : (d : ℕ) (k : Lexeme) (s : Start) → Some_ (BegunR d s k)
+pub opening_by : (d : ℕ) (k : Lexeme) (s : Start) → Some_ (BegunR d s k)
 opening_by d k begin.Skip = record { tokens = []; value = written.skip k.at; nests = []; phrase = nothing }
 opening_by d k begin.Send = sample_mapped (written.send k.at) (BaseP d) (sample_base d)
 opening_by d k begin.Receive = sample_mapped (written.receive k.at) (BaseP d) (sample_base d)
@@ -404,18 +404,18 @@ opening d k e = of_start (starts_with k e)
         }
     of_start (inr s) = by_atom d k s.0 s.1 (opening_by d k s.0)
 
-shut_seq : (limit d : ℕ) → limit < d → Reads limit shut (SeqP d) semi
+shut_seq : (limit d : ℕ) → limit < d → Reads limit (shut starts_type) (SeqP d) semi
 unfolding sample_seq
 shut_seq limit d over =
-    reads_shut limit (SeqP d) semi (λ n. (sample_seq d n, refl))
+    reads_shut limit starts_type (SeqP d) semi (λ n. (sample_seq d n, refl))
     (λ k e. let o = opening d k e in (o.others, o.value, d, o.nests, o.phrase, over))
     (λ us x ns p. let b = seq_begins d us x ns p in (b.0, b.1, d, b.2, b.3, b.4, b.5, over))
     (λ us x ns p. ap length (sym p.1) ∙ seq_count d p.0)
 
-shut_type : (limit d : ℕ) → limit < suc d → Reads limit shut (TypeP d) goes
+shut_type : (limit d : ℕ) → limit < suc d → Reads limit (shut starts_type) (TypeP d) goes
 unfolding sample_type sample_seq
 shut_type limit d over =
-    reads_shut limit (TypeP d) goes (λ n. (sample_type d n, refl))
+    reads_shut limit starts_type (TypeP d) goes (λ n. (sample_type d n, refl))
     (λ k e. let o = opening (suc d) k e in (o.others, o.value, suc d, o.nests, (single _ _ o.phrase.0, o.phrase.1), over))
     (λ us x ns p. let b = type_begins d us x ns p in (b.0, b.1, suc d, b.2, b.3, b.4, b.5, over))
     (λ us x ns p. ap length (sym p.1) ∙ type_count d p.0)

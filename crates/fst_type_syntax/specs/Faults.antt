@@ -3,8 +3,11 @@ use Rattle.std.specs.Prelude.{◌≡◌, ℕ, ◌≤◌, ◌<◌, Bool, false, L
 use Rattle.fst_type_syntax.specs.Lexeme.{Lexeme}
 
 -- a kind of phrase: its tokens, what they stand for, and how deep each of them is nested
+abbrev pub PhraseOf : Type 0 → Type 0 → Type 1
+PhraseOf T A = List T → A → List ℕ → Type 0
+
 abbrev pub Phrase : Type 0 → Type 1
-Phrase A = List Lexeme → A → List ℕ → Type 0
+Phrase A = PhraseOf Lexeme A
 
 -- no number is over the limit
 abbrev pub Low : ℕ → List ℕ → Type 0
@@ -12,20 +15,20 @@ Low limit [] = Unit {0}
 Low limit (n ∷ ns) = (n ≤ limit) × Low limit ns
 
 -- the tokens begin with a phrase, and what is left can't make it longer
-pub record Begins {A : Type 0} (P : Phrase A) (more : List Lexeme → Bool) (ts : List Lexeme) (x : A) (rest : List Lexeme) : Type 0 where
-  pub tokens : List Lexeme
+pub record Begins {T A : Type 0} (P : PhraseOf T A) (more : List T → Bool) (ts : List T) (x : A) (rest : List T) : Type 0 where
+  pub tokens : List T
   pub nests : List ℕ
   pub parts : ts ≡ tokens ++ rest
   pub phrase : P tokens x nests
   pub ended : more rest ≡ false
 
 -- so they do, and none of the phrase's tokens is over the limit
-abbrev pub BeginsLow : {A : Type 0} → ℕ → Phrase A → (List Lexeme → Bool) → List Lexeme → A → List Lexeme → Type 0
+abbrev pub BeginsLow : {T A : Type 0} → ℕ → PhraseOf T A → (List T → Bool) → List T → A → List T → Type 0
 BeginsLow limit P more ts x rest = (b : Begins P more ts x rest) × Low limit b.nests
 
 -- some phrase begins with these tokens, none of which is over the limit
-pub record CanGoOn {A : Type 0} (limit : ℕ) (P : Phrase A) (ts : List Lexeme) : Type 0 where
-  pub others : List Lexeme
+pub record CanGoOn {T A : Type 0} (limit : ℕ) (P : PhraseOf T A) (ts : List T) : Type 0 where
+  pub others : List T
   pub value : A
   pub nests : List ℕ
   pub further : List ℕ
@@ -34,23 +37,23 @@ pub record CanGoOn {A : Type 0} (limit : ℕ) (P : Phrase A) (ts : List Lexeme) 
   pub low : Low limit nests
 
 -- no phrase goes on behind these tokens with the first one here, or ends where none is left
-abbrev pub NoneGoesOn : {A : Type 0} → Phrase A → (List Lexeme → Bool) → List Lexeme → List Lexeme → Type 0
-NoneGoesOn {A} P more ts [] = (x : A) (rest : List Lexeme) → Begins P more ts x rest → ⊥
-NoneGoesOn {A} P more ts (k ∷ here) = (others : List Lexeme) (x : A) (rest : List Lexeme) → Begins P more (ts ++ k ∷ others) x rest → ⊥
+abbrev pub NoneGoesOn : {T A : Type 0} → PhraseOf T A → (List T → Bool) → List T → List T → Type 0
+NoneGoesOn {T} {A} P more ts [] = (x : A) (rest : List T) → Begins P more ts x rest → ⊥
+NoneGoesOn {T} {A} P more ts (k ∷ here) = (others : List T) (x : A) (rest : List T) → Begins P more (ts ++ k ∷ others) x rest → ⊥
 
 -- the tokens stop being a phrase here: those in front can go on, and with what is here none can
-pub record StopsAt {A : Type 0} (limit : ℕ) (P : Phrase A) (more : List Lexeme → Bool) (ts here : List Lexeme) : Type 0 where
-  pub tokens : List Lexeme
+pub record StopsAt {T A : Type 0} (limit : ℕ) (P : PhraseOf T A) (more : List T → Bool) (ts here : List T) : Type 0 where
+  pub tokens : List T
   pub parts : ts ≡ tokens ++ here
   pub goes_on : CanGoOn limit P tokens
   pub none : NoneGoesOn P more tokens here
 
 -- in some phrase that begins with the tokens up to and with the first one here, that one is the first over the limit
-pub record IsTooDeep {A : Type 0} (limit : ℕ) (P : Phrase A) (ts here : List Lexeme) : Type 0 where
-  pub tokens : List Lexeme
-  pub token : Lexeme
-  pub after : List Lexeme
-  pub others : List Lexeme
+pub record IsTooDeep {T A : Type 0} (limit : ℕ) (P : PhraseOf T A) (ts here : List T) : Type 0 where
+  pub tokens : List T
+  pub token : T
+  pub after : List T
+  pub others : List T
   pub value : A
   pub nests : List ℕ
   pub nest : ℕ

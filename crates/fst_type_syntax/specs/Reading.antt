@@ -4,13 +4,19 @@ use Rattle.fst_type_syntax.specs.Lexeme.{Lexeme, spells}
 use Rattle.fst_type_syntax.specs.Grammar.{start}
 
 -- why reading stopped, and what was left there
-pub data Halt : Type 0 where
-  Syntax : List Lexeme → Halt
-  Deep : List Lexeme → Halt
+pub data HaltOf (T : Type 0) : Type 0 where
+  Syntax : List T → HaltOf T
+  Deep : List T → HaltOf T
+
+abbrev pub Halt : Type 0
+Halt = HaltOf Lexeme
 
 -- reads a value and leaves what stands behind it
+abbrev pub ReaderOf : Type 0 → Type 0 → Type 0
+ReaderOf T A = List T → Result (A × List T) (HaltOf T)
+
 abbrev pub Reader : Type 0 → Type 0
-Reader A = List Lexeme → Result (A × List Lexeme) Halt
+Reader A = ReaderOf Lexeme A
 
 -- a step and what follows it
 unfoldable pub bind : {A B : Type 0} → Result A Halt → (A → Result B Halt) → Result B Halt
@@ -88,3 +94,24 @@ separated_within test f (suc n) ts = (f >>= λ a. on test (mapped (λ bs. a ∷ 
 
 abbrev pub separated : {A : Type 0} → (Lexeme → Bool) → Reader A → Reader (List A)
 separated test f ts = separated_within test f (length ts) ts
+
+-- one reader where the first token passes a test, and else another
+unfoldable pub when : {A : Type 0} → (Lexeme → Bool) → Reader A → Reader A → Reader A
+when test f g ts = choose (begins test ts) (f ts) (g ts)
+
+-- nothing, since what begins with a token that passes this test would be too deep
+unfoldable pub shut : {A : Type 0} → (Lexeme → Bool) → Reader A
+shut test ts = choose (begins test ts) (Err (Deep ts)) (Err (Syntax ts))
+
+-- a step for each token that begins one, with the readers of what is inside it: at most so many, and each with one less
+unfoldable pub repeat : {A B : Type 0} → (Lexeme → Bool) → (List B → A → Reader A) → List B → A → Reader A
+repeat test step [] x = when test (shut test) (give x)
+repeat test step (b ∷ bs) x = when test (step (b ∷ bs) x >>= repeat test step bs) (give x)
+
+-- one behind the other as long as one begins: at most so many
+unfoldable pub many_within : {A : Type 0} → (Lexeme → Bool) → Reader A → ℕ → Reader (List A)
+many_within test f zero = give []
+many_within test f (suc n) = when test (f >>= λ a. mapped (λ bs. a ∷ bs) (many_within test f n)) (give [])
+
+abbrev pub many : {A : Type 0} → (Lexeme → Bool) → Reader A → Reader (List A)
+many test f ts = many_within test f (length ts) ts

@@ -1,5 +1,5 @@
 -- Reading a type or a question, at most so deep.
-use Rattle.std.specs.Prelude.{ℕ, zero, suc, Bool, true, false, ◌||◌, List, [], ◌∷◌, Option, Some, None, Err, codes, pos}
+use Rattle.std.specs.Prelude.{ℕ, zero, suc, Bool, true, false, ◌||◌, List, [], ◌∷◌, Option, Some, None, codes, pos}
 use Rattle.std.specs.Str.{bytes_eq}
 use Rattle.fst_types.specs.declared.base.Base.{Base}
 use Rattle.fst_types.specs.declared.base.Base.TheVariants as base
@@ -17,7 +17,7 @@ use Rattle.fst_type_syntax.specs.declared.starts.Start.{Start}
 use Rattle.fst_type_syntax.specs.declared.starts.Start.TheVariants as begin
 use Rattle.fst_type_syntax.specs.Lexeme.{Lexeme, spells}
 use Rattle.fst_type_syntax.specs.Grammar.{Asked}
-use Rattle.fst_type_syntax.specs.Reading.{Syntax, Deep, Reader, choose, give, ◌>>=◌, mapped, switch, one, word, located, finish, begins, on, separated}
+use Rattle.fst_type_syntax.specs.Reading.{Reader, choose, give, ◌>>=◌, mapped, switch, one, word, located, finish, on, separated, shut}
 
 -- the base type that is this word
 unfoldable pub base_named : List ℕ → Option Base
@@ -158,23 +158,23 @@ abbrev pub is_begun : Option Start → Bool
 is_begun (Some s) = true
 is_begun None = false
 
+-- whether an atomic type may begin with this token
+abbrev pub starts_type_atom : Lexeme → Bool
+starts_type_atom k = is_begun (start_of k)
+
 -- whether a type may begin with this token
 abbrev pub starts_type : Lexeme → Bool
-starts_type k = spells (codes "rec") k || is_begun (start_of k)
-
--- no type, since it would be too deep
-unfoldable pub shut : Reader WrittenTree
-shut ts = choose (begins starts_type ts) (Err (Deep ts)) (Err (Syntax ts))
+starts_type k = spells (codes "rec") k || starts_type_atom k
 
 unfoldable mutual
   -- a `seqtype`, at most so many of them inside one another
   pub seq_at : ℕ → Reader WrittenTree
-  seq_at zero = shut
+  seq_at zero = shut starts_type
   seq_at (suc n) = seq_with (seq_at n) (type_at n)
 
   -- a type, whose first `seqtype` may be at most so deep
   pub type_at : ℕ → Reader WrittenTree
-  type_at zero = shut
+  type_at zero = shut starts_type
   type_at (suc n) = type_with (seq_at n) (type_at n)
 
 abbrev pub use_by : TokenKind → List ℕ → Option Use

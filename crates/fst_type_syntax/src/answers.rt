@@ -20,7 +20,7 @@ use std::alloc::Global;
 const MOST_NESTED: u32 = 200;
 
 /// Where the first token begins, and where none is left the text ends.
-fn place(tokens: &[Lexeme<'_>], end: u32) -> u32
+pub fn place(tokens: &[Lexeme<'_>], end: u32) -> u32
     ensures { result ≡ place end tokens.now }
 {
     match tokens {
@@ -30,7 +30,7 @@ fn place(tokens: &[Lexeme<'_>], end: u32) -> u32
 }
 
 /// The fault of a stop, where the text ends at this byte.
-fn fault(stop: Stop<'_>, end: u32) -> SyntaxFault
+pub fn fault_of(stop: Stop<'_>, end: u32) -> SyntaxFault
     ensures { result ≡ fault_view end stop.entry }
 {
     match stop {
@@ -59,7 +59,7 @@ pub fn read_type(
     let ahead: &[Lexeme<'_>] = &lexemes;
     match type_(alloc, MOST_NESTED, ahead) {
         Ok((written, rest)) => Ok((written, from + (ahead.len() - rest.len()))),
-        Err(stop) => Err(fault(stop, end)),
+        Err(stop) => Err(fault_of(stop, end)),
     }
 }
 
@@ -78,7 +78,7 @@ pub fn read_question(
     let lexemes = lexemes(alloc, tokens, text, 0)?;
     match question(alloc, MOST_NESTED, &lexemes) {
         Ok(question) => Ok(question),
-        Err(stop) => Err(fault(stop, end)),
+        Err(stop) => Err(fault_of(stop, end)),
     }
 }
 

@@ -13,8 +13,12 @@ mod starts;
 mod tests;
 mod types;
 
-pub use answers::{one_reading, read_question, read_type};
+pub use answers::{fault_of, one_reading, place, read_question, read_type};
 pub use fault::SyntaxFault;
 pub use lexeme::Lexeme;
+pub use questions::binders;
+pub use reading::{Stop, after, after_one, behind, comes, expect, lower, start, upper};
 pub use slicing::lexemes;
 pub use source::SourceQuestion;
+pub use starts::{is_one, spells, starts_type_atom};
+pub use types::{atom, seq, type_};

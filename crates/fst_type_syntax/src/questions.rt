@@ -60,7 +60,7 @@ fn binder<'a>(
 }
 
 /// Variables with their kinds, with commas between them, and what stands behind them.
-fn binders<'a>(
+pub fn binders<'a>(
     alloc: Global,
     tokens: &'a [Lexeme<'a>],
 ) -> Result<(Vec<(Binder, Kind)>, &'a [Lexeme<'a>]), Stop<'a>>

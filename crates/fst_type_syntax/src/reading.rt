@@ -1,8 +1,9 @@
 ghost use Rattle.std.specs.Prelude.{◌≡◌, true, false, MatchOption};
+ghost use Rattle.fst_types.specs.WrittenTree.{WrittenTree};
 ghost use Rattle.fst_type_syntax.specs.Lexeme.{spells};
 ghost use Rattle.fst_type_syntax.specs.Grammar.{start};
-ghost use Rattle.fst_type_syntax.specs.Reading.{one, word, begins, behind};
-ghost use Rattle.fst_type_syntax.specs.TypeReading.{lower_of, upper_of, is_one, base_at, base_word, starts_type, shut};
+ghost use Rattle.fst_type_syntax.specs.Reading.{one, word, begins, behind, shut};
+ghost use Rattle.fst_type_syntax.specs.TypeReading.{lower_of, upper_of, is_one, base_at, base_word, starts_type};
 ghost use Rattle.fst_type_syntax.specs.Gives.{Fails, Gives};
 
 use crate::lexeme::Lexeme;
@@ -13,7 +14,7 @@ use std::alloc::{AllocError, AllocFailed};
 
 /// Why reading stopped, and the tokens that were left there.
 #[derive(Debug, Drop)]
-pub(crate) enum Stop<'a> {
+pub enum Stop<'a> {
     Memory,
     Syntax(&'a [Lexeme<'a>]),
     TooDeep(&'a [Lexeme<'a>]),
@@ -40,7 +41,7 @@ impl<'a, T: Drop> From<AllocFailed<T>> for Stop<'a> {
 }
 
 /// Where a phrase begins that has these tokens.
-pub(crate) fn start(tokens: &[Lexeme<'_>]) -> u32
+pub fn start(tokens: &[Lexeme<'_>]) -> u32
     ensures { result ≡ start tokens.now }
 {
     match tokens {
@@ -61,10 +62,7 @@ pub(crate) fn begins_type(tokens: &[Lexeme<'_>]) -> bool
 
 /// What stands behind this reserved word or sign.
 #[tactic(auto, unfolding(crate::specs::Reading::choose, crate::specs::Reading::switch, crate::specs::Reading::only, crate::specs::Reading::give))]
-pub(crate) fn expect<'a>(
-    wanted: &str,
-    tokens: &'a [Lexeme<'a>],
-) -> Result<&'a [Lexeme<'a>], Stop<'a>>
+pub fn expect<'a>(wanted: &str, tokens: &'a [Lexeme<'a>]) -> Result<&'a [Lexeme<'a>], Stop<'a>>
     ensures { Gives (λ r. (tt, r.now)) result (word wanted.now tokens.now) }
 {
     match tokens {
@@ -74,7 +72,7 @@ pub(crate) fn expect<'a>(
 }
 
 /// Whether this reserved word or sign comes next.
-pub(crate) fn comes(wanted: &str, tokens: &[Lexeme<'_>]) -> bool
+pub fn comes(wanted: &str, tokens: &[Lexeme<'_>]) -> bool
     ensures { result ≡ begins (spells wanted.now) tokens.now }
 {
     match tokens {
@@ -84,7 +82,7 @@ pub(crate) fn comes(wanted: &str, tokens: &[Lexeme<'_>]) -> bool
 }
 
 /// What stands behind the first token.
-pub(crate) fn behind<'a>(tokens: &'a [Lexeme<'a>]) -> &'a [Lexeme<'a>]
+pub fn behind<'a>(tokens: &'a [Lexeme<'a>]) -> &'a [Lexeme<'a>]
     ensures { result.now ≡ behind tokens.now }
 {
     match tokens {
@@ -94,7 +92,7 @@ pub(crate) fn behind<'a>(tokens: &'a [Lexeme<'a>]) -> &'a [Lexeme<'a>]
 }
 
 /// What stands behind this reserved word or sign, where it comes next.
-pub(crate) fn after<'a>(wanted: &str, tokens: &'a [Lexeme<'a>]) -> Option<&'a [Lexeme<'a>]>
+pub fn after<'a>(wanted: &str, tokens: &'a [Lexeme<'a>]) -> Option<&'a [Lexeme<'a>]>
     ensures { MatchOption result (begins (spells wanted.now) tokens.now ≡ false) (λ r. (begins (spells wanted.now) tokens.now ≡ true) × (r.now ≡ behind tokens.now)) }
 {
     match tokens {
@@ -104,7 +102,7 @@ pub(crate) fn after<'a>(wanted: &str, tokens: &'a [Lexeme<'a>]) -> Option<&'a [L
 }
 
 /// What stands behind a number of value 1, where one comes next.
-pub(crate) fn after_one<'a>(tokens: &'a [Lexeme<'a>]) -> Option<&'a [Lexeme<'a>]>
+pub fn after_one<'a>(tokens: &'a [Lexeme<'a>]) -> Option<&'a [Lexeme<'a>]>
     ensures { MatchOption result (begins is_one tokens.now ≡ false) (λ r. (begins is_one tokens.now ≡ true) × (r.now ≡ behind tokens.now)) }
 {
     match tokens {
@@ -115,9 +113,7 @@ pub(crate) fn after_one<'a>(tokens: &'a [Lexeme<'a>]) -> Option<&'a [Lexeme<'a>]
 
 /// A lower name, and what stands behind it.
 #[tactic(auto, unfolding(crate::specs::Reading::switch, crate::specs::Reading::give))]
-pub(crate) fn lower<'a>(
-    tokens: &'a [Lexeme<'a>],
-) -> Result<(&'a Lexeme<'a>, &'a [Lexeme<'a>]), Stop<'a>>
+pub fn lower<'a>(tokens: &'a [Lexeme<'a>]) -> Result<(&'a Lexeme<'a>, &'a [Lexeme<'a>]), Stop<'a>>
     ensures { Gives (λ x. (x.0.now, x.1.now)) result (one lower_of tokens.now) }
 {
     match tokens {
@@ -131,9 +127,7 @@ pub(crate) fn lower<'a>(
 
 /// An upper name, and what stands behind it.
 #[tactic(auto, unfolding(crate::specs::Reading::switch, crate::specs::Reading::give))]
-pub(crate) fn upper<'a>(
-    tokens: &'a [Lexeme<'a>],
-) -> Result<(&'a Lexeme<'a>, &'a [Lexeme<'a>]), Stop<'a>>
+pub fn upper<'a>(tokens: &'a [Lexeme<'a>]) -> Result<(&'a Lexeme<'a>, &'a [Lexeme<'a>]), Stop<'a>>
     ensures { Gives (λ x. (x.0.now, x.1.now)) result (one upper_of tokens.now) }
 {
     match tokens {
@@ -174,9 +168,9 @@ pub(crate) fn base<'a>(tokens: &'a [Lexeme<'a>]) -> Result<(Base, &'a [Lexeme<'a
 }
 
 /// Why no type is read where none may be opened any more.
-#[tactic(auto, unfolding(crate::specs::Reading::choose, crate::specs::TypeReading::shut))]
+#[tactic(auto, unfolding(crate::specs::Reading::choose, crate::specs::Reading::shut))]
 pub(crate) fn shut<'a>(tokens: &'a [Lexeme<'a>]) -> Stop<'a>
-    ensures { Fails result (shut tokens.now) }
+    ensures { Fails result (shut {A = WrittenTree} starts_type tokens.now) }
 {
     if begins_type(tokens) {
         Stop::TooDeep(tokens)

@@ -1,6 +1,6 @@
 ghost use Rattle.std.specs.Prelude.{◌≡◌};
 ghost use Rattle.fst_type_syntax.specs.Lexeme.{spells};
-ghost use Rattle.fst_type_syntax.specs.TypeReading.{base_named, base_word, start_named, start_of, is_one, starts_type, use_of, prekind_named, prekind_of};
+ghost use Rattle.fst_type_syntax.specs.TypeReading.{base_named, base_word, start_named, start_of, is_one, starts_type_atom, starts_type, use_of, prekind_named, prekind_of};
 
 use crate::lexeme::Lexeme;
 use fst_lexer::TokenKind;
@@ -20,12 +20,11 @@ pub(crate) enum Start {
 }
 
 /// Whether a token is this reserved word or sign.
-pub(crate) fn spells(word: &str, token: &Lexeme<'_>) -> bool
+pub fn spells(word: &str, token: &Lexeme<'_>) -> bool
     ensures { result ≡ spells word.now token.now }
 {
     match token.kind {
-        TokenKind::Reserved => token.text == word,
-        TokenKind::Sign => token.text == word,
+        TokenKind::Reserved | TokenKind::Sign => token.text == word,
         _ => false,
     }
 }
@@ -51,8 +50,7 @@ pub(crate) fn base_word(token: &Lexeme<'_>) -> Option<Base>
     ensures { result ≡ base_word token.now }
 {
     match token.kind {
-        TokenKind::Reserved => base_named(token.text),
-        TokenKind::Sign => base_named(token.text),
+        TokenKind::Reserved | TokenKind::Sign => base_named(token.text),
         _ => None,
     }
 }
@@ -87,16 +85,14 @@ pub(crate) fn start_of(token: &Lexeme<'_>) -> Option<Start>
     ensures { result ≡ start_of token.now }
 {
     match token.kind {
-        TokenKind::Lower => Some(Start::Name),
-        TokenKind::Upper => Some(Start::Name),
-        TokenKind::Reserved => start_named(token.text),
-        TokenKind::Sign => start_named(token.text),
+        TokenKind::Lower | TokenKind::Upper => Some(Start::Name),
+        TokenKind::Reserved | TokenKind::Sign => start_named(token.text),
         _ => None,
     }
 }
 
 /// Whether this is a number of value 1.
-pub(crate) fn is_one(token: &Lexeme<'_>) -> bool
+pub fn is_one(token: &Lexeme<'_>) -> bool
     ensures { result ≡ is_one token.now }
 {
     match token.kind {
@@ -105,11 +101,18 @@ pub(crate) fn is_one(token: &Lexeme<'_>) -> bool
     }
 }
 
+/// Whether an atomic type may begin with this token.
+pub fn starts_type_atom(token: &Lexeme<'_>) -> bool
+    ensures { result ≡ starts_type_atom token.now }
+{
+    start_of(token).is_some()
+}
+
 /// Whether a type may begin with this token.
 pub(crate) fn starts_type(token: &Lexeme<'_>) -> bool
     ensures { result ≡ starts_type token.now }
 {
-    spells("rec", token) || start_of(token).is_some()
+    spells("rec", token) || starts_type_atom(token)
 }
 
 /// The first half of a kind.

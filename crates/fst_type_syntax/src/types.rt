@@ -73,7 +73,7 @@ fn choice<'a>(
 /// A type, at most `left` of them inside one another, and what stands behind it.
 #[cycle(reader)]
 #[tactic(auto, unfolding(crate::specs::TypeReading::seq_at))]
-pub(crate) fn seq<'a>(
+pub fn seq<'a>(
     alloc: Global,
     left: u32,
     tokens: &'a [Lexeme<'a>],
@@ -156,7 +156,7 @@ fn chain<'a>(
 
 #[cycle(reader)]
 #[tactic(auto, unfolding(crate::specs::Reading::switch, crate::specs::TypeReading::atom_with))]
-fn atom<'a>(
+pub fn atom<'a>(
     alloc: Global,
     left: u32,
     tokens: &'a [Lexeme<'a>],
@@ -312,7 +312,7 @@ fn pair<'a>(
 /// A type with its arrows, at most `left` of them inside one another, and what stands behind it.
 #[cycle(reader)]
 #[tactic(auto, unfolding(crate::specs::Reading::bind, crate::specs::Reading::andthen, crate::specs::TypeReading::type_at, crate::specs::TypeReading::type_with))]
-pub(crate) fn type_<'a>(
+pub fn type_<'a>(
     alloc: Global,
     left: u32,
     tokens: &'a [Lexeme<'a>],

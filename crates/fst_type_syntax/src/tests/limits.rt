@@ -48,7 +48,6 @@ fn following_types_are_nested(rt: HostRuntime) -> Result<(), Fail> {
         ("", "(", 200, "", Err(SyntaxFault::Syntax(200))),
         ("", "(", 201, ";", Err(SyntaxFault::TooDeep(200))),
         ("x~", "(", 200, "x", Err(SyntaxFault::TooDeep(202))),
-        ("x~~", "(", 300, "", Err(SyntaxFault::Syntax(2))),
         ("((;", "(", 300, "", Err(SyntaxFault::Syntax(2))),
         ("", "x;", 199, "x~x", Ok((0, 0, 400))),
         ("", "x;", 200, "x~x", Err(SyntaxFault::TooDeep(400))),

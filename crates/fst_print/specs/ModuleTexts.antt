@@ -1,0 +1,216 @@
+-- How modules, and the terms and types in them, are written.
+use Rattle.std.specs.Prelude.{ℕ, ◌==◌, nat_lt, List, [], ◌∷◌, ◌++◌, Bool, true, false, codes, map, encode_utf8, if◌then◌else◌}
+use Rattle.std.specs.Fmt.{signed_decimal}
+use Rattle.std.specs.List.{flat_map}
+use Rattle.std.specs.Str.{byte}
+use Rattle.fst_types.specs.declared.kind.Kind.{Kind}
+use Rattle.fst_types.specs.WrittenTree as written
+use Rattle.fst_types.specs.WrittenTree.{WrittenTree, WrittenBranches, none, branch}
+use Rattle.fst_terms.specs.declared.binder.Binder.{Binder}
+use Rattle.fst_terms.specs.declared.term.Op.{Op}
+use Rattle.fst_terms.specs.declared.term.Op.TheVariants.{Add, Subtract, Multiply, Equal, Unequal, Less, AtMost, Greater, AtLeast, And, Or}
+use Rattle.fst_terms.specs.TermTree.{TermTree, named, int, bool, char, unit, pair, make, lambda, apply, let_in, split, if_else, case_of, operate, negate, new, send, receive, select, match_with, fork, seq, TermList, no_terms, term, TermArms, no_arms, arm}
+use Rattle.fst_terms.specs.ModuleTree.{Maker, Declared, family, alias, signature, equation}
+use Rattle.fst_print.specs.Texts.{base_text, send_text, receive_text, arrow_text, kind_text, in_parens, in_parens_if, in_braces, joined_text}
+
+-- the type is a sequence, a rec or a function: no atomic one
+abbrev pub is_compound : WrittenTree → Bool
+is_compound (written.seq at s t) = true
+is_compound (written.rec at x t) = true
+is_compound (written.arrow at u s t) = true
+is_compound _ = false
+
+-- the type is a function
+abbrev pub is_arrow : WrittenTree → Bool
+is_arrow (written.arrow at u s t) = true
+is_arrow _ = false
+
+abbrev mutual
+  -- a type
+  pub written_text : WrittenTree → List ℕ
+  written_text (written.skip at) = codes "Skip"
+  written_text (written.send at b) = send_text b
+  written_text (written.receive at b) = receive_text b
+  written_text (written.select at bs) = codes "+" ++ in_braces (joined_text (codes ", ") (written_branch_texts bs))
+  written_text (written.offer at bs) = codes "&" ++ in_braces (joined_text (codes ", ") (written_branch_texts bs))
+  written_text (written.seq at s t) = in_parens_if (is_compound s) (written_text s) ++ codes ";" ++ in_parens_if (is_arrow t) (written_text t)
+  written_text (written.rec at x t) = codes "rec " ++ x ++ codes ". " ++ in_parens_if (is_arrow t) (written_text t)
+  written_text (written.named at x) = x
+  written_text (written.plain at b) = base_text b
+  written_text (written.arrow at u s t) = in_parens_if (is_arrow s) (written_text s) ++ arrow_text u ++ written_text t
+  written_text (written.pair at s t) = in_parens (written_text s ++ codes ", " ++ written_text t)
+
+  -- the branches of a choice, each a label and its type
+  pub written_branch_texts : WrittenBranches → List (List ℕ)
+  written_branch_texts none = []
+  written_branch_texts (branch l t bs) = (l ++ codes ": " ++ in_parens_if (is_arrow t) (written_text t)) ∷ written_branch_texts bs
+
+-- a type where no function stands without parentheses
+abbrev pub seq_text : WrittenTree → List ℕ
+seq_text t = in_parens_if (is_arrow t) (written_text t)
+
+-- a type where an atomic one stands without parentheses
+abbrev pub atom_text : WrittenTree → List ℕ
+atom_text t = in_parens_if (is_compound t) (written_text t)
+
+-- the sign between two terms
+abbrev pub op_text : Op → List ℕ
+op_text Add = codes "+"
+op_text Subtract = codes "-"
+op_text Multiply = codes "*"
+op_text Equal = codes "=="
+op_text Unequal = codes "/="
+op_text Less = codes "<"
+op_text AtMost = codes "<="
+op_text Greater = codes ">"
+op_text AtLeast = codes ">="
+op_text And = codes "&&"
+op_text Or = codes "||"
+
+-- The forms of terms in the order in which the grammar nests them: 0 for a whole term, then a chain of `||`, of `&&`, a
+-- comparison, a chain of `+` and `-`, of `*`, then `not`, an application, and 8 for an atom.
+abbrev pub op_rank : Op → ℕ
+op_rank Or = 1
+op_rank And = 2
+op_rank Add = 4
+op_rank Subtract = 4
+op_rank Multiply = 5
+op_rank _ = 3
+
+-- a constructor with arguments is an application, and one without is an atom
+abbrev pub make_rank : TermList → ℕ
+make_rank no_terms = 8
+make_rank (term t ts) = 7
+
+abbrev pub rank : TermTree → ℕ
+rank (named at x types) = 8
+rank (int at n) = 8
+rank (bool at b) = 8
+rank (char at c) = 8
+rank (unit at) = 8
+rank (pair at s t) = 8
+rank (make at x ts) = make_rank ts
+rank (lambda at u a x t) = 0
+rank (apply at s t) = 7
+rank (let_in at x s t) = 0
+rank (split at x y s t) = 0
+rank (if_else at s t u) = 0
+rank (case_of at t bs) = 0
+rank (operate at o s t) = op_rank o
+rank (negate at t) = 6
+rank (new at a) = 7
+rank (send at s t) = 7
+rank (receive at t) = 7
+rank (select at l t) = 7
+rank (match_with at t bs) = 0
+rank (fork at t) = 7
+rank (seq at s t) = 0
+
+-- which forms the grammar takes on the left of a sign: a chain goes on with itself, a comparison doesn't
+abbrev pub left_rank : Op → ℕ
+left_rank Or = 1
+left_rank And = 2
+left_rank Multiply = 5
+left_rank _ = 4
+
+-- and on its right
+abbrev pub right_rank : Op → ℕ
+right_rank Or = 2
+right_rank And = 3
+right_rank Add = 5
+right_rank Subtract = 5
+right_rank Multiply = 6
+right_rank _ = 4
+
+-- a term stands in parentheses where the grammar takes only such forms
+abbrev pub is_below : ℕ → TermTree → Bool
+is_below n t = nat_lt (rank t) n
+
+-- the term stands in parentheses where it is applied: it is no application and no atom, or a constructor
+abbrev pub is_no_head : TermTree → Bool
+is_no_head (apply at s t) = false
+is_no_head (make at x ts) = true
+is_no_head t = is_below 8 t
+
+-- a number of a token, a truth value
+abbrev pub truth_text : Bool → List ℕ
+truth_text true = codes "True"
+truth_text false = codes "False"
+
+-- a character between its quotes, which four are escaped
+abbrev pub character_text : ℕ → List ℕ
+character_text c =
+    if c == byte "\n" then codes "\\n" else
+    if c == byte "\t" then codes "\\t" else
+    if c == byte "\\" then codes "\\\\" else
+    if c == byte "'" then codes "\\'" else
+    encode_utf8 c
+
+-- names with a space before each
+abbrev pub names_text : List Binder → List ℕ
+names_text xs = flat_map (λ (x : Binder). codes " " ++ x.name) xs
+
+-- type arguments
+abbrev pub applied_text : List WrittenTree → List ℕ
+applied_text types = flat_map (λ t. codes " @" ++ atom_text t) types
+
+abbrev mutual
+  -- a term
+  pub term_text : TermTree → List ℕ
+  term_text (named at x types) = x ++ applied_text types
+  term_text (int at n) = signed_decimal n
+  term_text (bool at b) = truth_text b
+  term_text (char at c) = codes "'" ++ character_text c ++ codes "'"
+  term_text (unit at) = codes "()"
+  term_text (pair at s t) = in_parens (term_text s ++ codes ", " ++ term_text t)
+  term_text (make at x ts) = x ++ arguments_text ts
+  term_text (lambda at u a x t) = codes "\\" ++ x.name ++ codes ":" ++ seq_text a ++ arrow_text u ++ term_text t
+  term_text (apply at s t) = in_parens_if (is_no_head s) (term_text s) ++ codes " " ++ in_parens_if (is_below 8 t) (term_text t)
+  term_text (let_in at x s t) = codes "let " ++ x.name ++ codes " = " ++ term_text s ++ codes " in " ++ term_text t
+  term_text (split at x y s t) = codes "let (" ++ x.name ++ codes ", " ++ y.name ++ codes ") = " ++ term_text s ++ codes " in " ++ term_text t
+  term_text (if_else at s t u) = codes "if " ++ term_text s ++ codes " then " ++ term_text t ++ codes " else " ++ term_text u
+  term_text (case_of at t bs) = codes "case " ++ term_text t ++ codes " of " ++ in_braces (joined_text (codes ", ") (arm_texts bs))
+  term_text (operate at o s t) =
+      in_parens_if (is_below (left_rank o) s) (term_text s) ++ codes " " ++ op_text o ++ codes " " ++ in_parens_if (is_below (right_rank o) t) (term_text t)
+  term_text (negate at t) = codes "not " ++ in_parens_if (is_below 6 t) (term_text t)
+  term_text (new at a) = codes "new " ++ atom_text a
+  term_text (send at s t) = codes "send " ++ in_parens_if (is_below 8 s) (term_text s) ++ codes " " ++ in_parens_if (is_below 8 t) (term_text t)
+  term_text (receive at t) = codes "receive " ++ in_parens_if (is_below 8 t) (term_text t)
+  term_text (select at l t) = codes "select " ++ l ++ codes " " ++ in_parens_if (is_below 8 t) (term_text t)
+  term_text (match_with at t bs) = codes "match " ++ term_text t ++ codes " with " ++ in_braces (joined_text (codes ", ") (arm_texts bs))
+  term_text (fork at t) = codes "fork " ++ in_parens_if (is_below 8 t) (term_text t)
+  term_text (seq at s t) = in_parens_if (is_below 1 s) (term_text s) ++ codes "; " ++ term_text t
+
+  -- the arguments of a constructor, with a space before each
+  pub arguments_text : TermList → List ℕ
+  arguments_text no_terms = []
+  arguments_text (term t ts) = codes " " ++ in_parens_if (is_below 8 t) (term_text t) ++ arguments_text ts
+
+  -- the arms of a case or a match: a constructor or a label, the variables that it binds, and what follows
+  pub arm_texts : TermArms → List (List ℕ)
+  arm_texts no_arms = []
+  arm_texts (arm l xs t bs) = (l.name ++ names_text xs ++ codes " -> " ++ term_text t) ∷ arm_texts bs
+
+-- a constructor and the types of its fields
+abbrev pub maker_text : Maker → List ℕ
+maker_text m = m.name.name ++ flat_map (λ t. codes " " ++ atom_text t) m.fields
+
+-- a variable of a signature with its kind
+abbrev pub binder_kind_text : Binder × Kind → List ℕ
+binder_kind_text b = b.0.name ++ codes ":" ++ kind_text b.1
+
+-- the variables of a signature, where it has any
+abbrev pub binders_text : List (Binder × Kind) → List ℕ
+binders_text [] = []
+binders_text bs = codes "forall " ++ joined_text (codes ", ") (map binder_kind_text bs) ++ codes ". "
+
+-- a declaration, on a line of its own
+abbrev pub decl_text : Declared → List ℕ
+decl_text (family x makers) = codes "data " ++ x.name ++ codes " = " ++ joined_text (codes " | ") (map maker_text makers)
+decl_text (alias x t) = codes "type " ++ x.name ++ codes " = " ++ written_text t
+decl_text (signature x bs t) = x.name ++ codes " : " ++ binders_text bs ++ written_text t
+decl_text (equation x xs t) = x.name ++ names_text xs ++ codes " = " ++ term_text t
+
+-- a module: its declarations in order, each with a line feed behind it
+abbrev pub module_text : List Declared → List ℕ
+module_text ds = flat_map (λ d. decl_text d ++ codes "\n") ds

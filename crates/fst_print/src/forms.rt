@@ -1,0 +1,264 @@
+//! Terms by the form at their top: how each begins is written, and its parts go on the stack.
+
+ghost use Rattle.std.specs.Prelude.{◌≡◌, ◌<◌, ◌+◌, ◌++◌, OnOk};
+ghost use Rattle.std.specs.String.{string_bytes};
+ghost use Rattle.fst_terms.specs.TermTree as tree;
+ghost use Rattle.fst_terms.specs.TermView.{arms_of, terms_of};
+ghost use Rattle.fst_print.specs.ModuleTexts.{term_text};
+ghost use Rattle.fst_print.specs.Stack.{pieces_text, pieces_weight, term_weight};
+
+use crate::pieces::name_text;
+use crate::ranks::{
+    is_no_atom, is_no_chain, is_no_head, is_no_left, is_no_negation, is_no_right, op_text,
+};
+use crate::stack::{Piece, Stack, push, push_enclosed, push_term, push_text};
+use crate::types::arrow_text;
+use crate::written::push_seq;
+use fst_terms::{Binder, Op, SourceArm, SourceTerm};
+use fst_types::{Name, Use, Written};
+use std::alloc::AllocError;
+
+pub(crate) fn unfold_pair<'a>(
+    text: &mut String,
+    stack: &mut Stack<'a>,
+    first: &'a SourceTerm,
+    second: &'a SourceTerm,
+) -> Result<(), AllocError>
+    ensures same { OnOk result (string_bytes text.new ++ pieces_text stack.new.items ≡ string_bytes text.old ++ (term_text (tree.pair 0 first.now second.now) ++ pieces_text stack.old.items)) }
+    ensures less { OnOk result (pieces_weight stack.new.items < term_weight (tree.pair 0 first.now second.now) + pieces_weight stack.old.items) }
+{
+    text.push_str("(")?;
+    push_text(stack, ")")?;
+    push_term(stack, second)?;
+    push_text(stack, ", ")?;
+    push_term(stack, first)
+}
+
+pub(crate) fn unfold_make<'a>(
+    text: &mut String,
+    stack: &mut Stack<'a>,
+    name: &Name,
+    arguments: &'a [SourceTerm],
+) -> Result<(), AllocError>
+    ensures same { OnOk result (string_bytes text.new ++ pieces_text stack.new.items ≡ string_bytes text.old ++ (term_text (tree.make 0 name.now (terms_of arguments.now)) ++ pieces_text stack.old.items)) }
+    ensures less { OnOk result (pieces_weight stack.new.items < term_weight (tree.make 0 name.now (terms_of arguments.now)) + pieces_weight stack.old.items) }
+{
+    text.push_str(name_text(name))?;
+    push(stack, Piece::Arguments(arguments))
+}
+
+pub(crate) fn unfold_lambda<'a>(
+    text: &mut String,
+    stack: &mut Stack<'a>,
+    uses: Use,
+    from: &Written,
+    binder: &Binder,
+    body: &'a SourceTerm,
+) -> Result<(), AllocError>
+    ensures same { OnOk result (string_bytes text.new ++ pieces_text stack.new.items ≡ string_bytes text.old ++ (term_text (tree.lambda 0 uses from.now binder.now body.now) ++ pieces_text stack.old.items)) }
+    ensures less { OnOk result (pieces_weight stack.new.items < term_weight (tree.lambda 0 uses from.now binder.now body.now) + pieces_weight stack.old.items) }
+{
+    text.push_str("\\")?;
+    text.push_str(name_text(&binder.name))?;
+    text.push_str(":")?;
+    push_seq(text, from)?;
+    text.push_str(arrow_text(uses))?;
+    push_term(stack, body)
+}
+
+pub(crate) fn unfold_let<'a>(
+    text: &mut String,
+    stack: &mut Stack<'a>,
+    binder: &Binder,
+    first: &'a SourceTerm,
+    second: &'a SourceTerm,
+) -> Result<(), AllocError>
+    ensures same { OnOk result (string_bytes text.new ++ pieces_text stack.new.items ≡ string_bytes text.old ++ (term_text (tree.let_in 0 binder.now first.now second.now) ++ pieces_text stack.old.items)) }
+    ensures less { OnOk result (pieces_weight stack.new.items < term_weight (tree.let_in 0 binder.now first.now second.now) + pieces_weight stack.old.items) }
+{
+    text.push_str("let ")?;
+    text.push_str(name_text(&binder.name))?;
+    text.push_str(" = ")?;
+    push_term(stack, second)?;
+    push_text(stack, " in ")?;
+    push_term(stack, first)
+}
+
+pub(crate) fn unfold_split<'a>(
+    text: &mut String,
+    stack: &mut Stack<'a>,
+    left: &Binder,
+    right: &Binder,
+    first: &'a SourceTerm,
+    second: &'a SourceTerm,
+) -> Result<(), AllocError>
+    ensures same { OnOk result (string_bytes text.new ++ pieces_text stack.new.items ≡ string_bytes text.old ++ (term_text (tree.split 0 left.now right.now first.now second.now) ++ pieces_text stack.old.items)) }
+    ensures less { OnOk result (pieces_weight stack.new.items < term_weight (tree.split 0 left.now right.now first.now second.now) + pieces_weight stack.old.items) }
+{
+    text.push_str("let (")?;
+    text.push_str(name_text(&left.name))?;
+    text.push_str(", ")?;
+    text.push_str(name_text(&right.name))?;
+    text.push_str(") = ")?;
+    push_term(stack, second)?;
+    push_text(stack, " in ")?;
+    push_term(stack, first)
+}
+
+pub(crate) fn unfold_if<'a>(
+    text: &mut String,
+    stack: &mut Stack<'a>,
+    test: &'a SourceTerm,
+    yes: &'a SourceTerm,
+    no: &'a SourceTerm,
+) -> Result<(), AllocError>
+    ensures same { OnOk result (string_bytes text.new ++ pieces_text stack.new.items ≡ string_bytes text.old ++ (term_text (tree.if_else 0 test.now yes.now no.now) ++ pieces_text stack.old.items)) }
+    ensures less { OnOk result (pieces_weight stack.new.items < term_weight (tree.if_else 0 test.now yes.now no.now) + pieces_weight stack.old.items) }
+{
+    text.push_str("if ")?;
+    push_term(stack, no)?;
+    push_text(stack, " else ")?;
+    push_term(stack, yes)?;
+    push_text(stack, " then ")?;
+    push_term(stack, test)
+}
+
+pub(crate) fn unfold_case<'a>(
+    text: &mut String,
+    stack: &mut Stack<'a>,
+    value: &'a SourceTerm,
+    arms: &'a [SourceArm],
+) -> Result<(), AllocError>
+    ensures same { OnOk result (string_bytes text.new ++ pieces_text stack.new.items ≡ string_bytes text.old ++ (term_text (tree.case_of 0 value.now (arms_of arms.now)) ++ pieces_text stack.old.items)) }
+    ensures less { OnOk result (pieces_weight stack.new.items < term_weight (tree.case_of 0 value.now (arms_of arms.now)) + pieces_weight stack.old.items) }
+{
+    text.push_str("case ")?;
+    push_text(stack, "}")?;
+    push(stack, Piece::Arms(arms))?;
+    push_text(stack, " of {")?;
+    push_term(stack, value)
+}
+
+pub(crate) fn unfold_match<'a>(
+    text: &mut String,
+    stack: &mut Stack<'a>,
+    channel: &'a SourceTerm,
+    arms: &'a [SourceArm],
+) -> Result<(), AllocError>
+    ensures same { OnOk result (string_bytes text.new ++ pieces_text stack.new.items ≡ string_bytes text.old ++ (term_text (tree.match_with 0 channel.now (arms_of arms.now)) ++ pieces_text stack.old.items)) }
+    ensures less { OnOk result (pieces_weight stack.new.items < term_weight (tree.match_with 0 channel.now (arms_of arms.now)) + pieces_weight stack.old.items) }
+{
+    text.push_str("match ")?;
+    push_text(stack, "}")?;
+    push(stack, Piece::Arms(arms))?;
+    push_text(stack, " with {")?;
+    push_term(stack, channel)
+}
+
+pub(crate) fn unfold_send<'a>(
+    text: &mut String,
+    stack: &mut Stack<'a>,
+    value: &'a SourceTerm,
+    channel: &'a SourceTerm,
+) -> Result<(), AllocError>
+    ensures same { OnOk result (string_bytes text.new ++ pieces_text stack.new.items ≡ string_bytes text.old ++ (term_text (tree.send 0 value.now channel.now) ++ pieces_text stack.old.items)) }
+    ensures less { OnOk result (pieces_weight stack.new.items < term_weight (tree.send 0 value.now channel.now) + pieces_weight stack.old.items) }
+{
+    text.push_str("send ")?;
+    push_enclosed(stack, channel, is_no_atom(channel))?;
+    push_text(stack, " ")?;
+    push_enclosed(stack, value, is_no_atom(value))
+}
+
+pub(crate) fn unfold_select<'a>(
+    text: &mut String,
+    stack: &mut Stack<'a>,
+    label: &Name,
+    channel: &'a SourceTerm,
+) -> Result<(), AllocError>
+    ensures same { OnOk result (string_bytes text.new ++ pieces_text stack.new.items ≡ string_bytes text.old ++ (term_text (tree.select 0 label.now channel.now) ++ pieces_text stack.old.items)) }
+    ensures less { OnOk result (pieces_weight stack.new.items < term_weight (tree.select 0 label.now channel.now) + pieces_weight stack.old.items) }
+{
+    text.push_str("select ")?;
+    text.push_str(name_text(label))?;
+    text.push_str(" ")?;
+    push_enclosed(stack, channel, is_no_atom(channel))
+}
+
+pub(crate) fn unfold_receive<'a>(
+    text: &mut String,
+    stack: &mut Stack<'a>,
+    channel: &'a SourceTerm,
+) -> Result<(), AllocError>
+    ensures same { OnOk result (string_bytes text.new ++ pieces_text stack.new.items ≡ string_bytes text.old ++ (term_text (tree.receive 0 channel.now) ++ pieces_text stack.old.items)) }
+    ensures less { OnOk result (pieces_weight stack.new.items < term_weight (tree.receive 0 channel.now) + pieces_weight stack.old.items) }
+{
+    text.push_str("receive ")?;
+    push_enclosed(stack, channel, is_no_atom(channel))
+}
+
+pub(crate) fn unfold_fork<'a>(
+    text: &mut String,
+    stack: &mut Stack<'a>,
+    task: &'a SourceTerm,
+) -> Result<(), AllocError>
+    ensures same { OnOk result (string_bytes text.new ++ pieces_text stack.new.items ≡ string_bytes text.old ++ (term_text (tree.fork 0 task.now) ++ pieces_text stack.old.items)) }
+    ensures less { OnOk result (pieces_weight stack.new.items < term_weight (tree.fork 0 task.now) + pieces_weight stack.old.items) }
+{
+    text.push_str("fork ")?;
+    push_enclosed(stack, task, is_no_atom(task))
+}
+
+pub(crate) fn unfold_not<'a>(
+    text: &mut String,
+    stack: &mut Stack<'a>,
+    t: &'a SourceTerm,
+) -> Result<(), AllocError>
+    ensures same { OnOk result (string_bytes text.new ++ pieces_text stack.new.items ≡ string_bytes text.old ++ (term_text (tree.negate 0 t.now) ++ pieces_text stack.old.items)) }
+    ensures less { OnOk result (pieces_weight stack.new.items < term_weight (tree.negate 0 t.now) + pieces_weight stack.old.items) }
+{
+    text.push_str("not ")?;
+    push_enclosed(stack, t, is_no_negation(t))
+}
+
+pub(crate) fn unfold_apply<'a>(
+    stack: &mut Stack<'a>,
+    function: &'a SourceTerm,
+    argument: &'a SourceTerm,
+) -> Result<(), AllocError>
+    ensures same { OnOk result (pieces_text stack.new.items ≡ term_text (tree.apply 0 function.now argument.now) ++ pieces_text stack.old.items) }
+    ensures less { OnOk result (pieces_weight stack.new.items < term_weight (tree.apply 0 function.now argument.now) + pieces_weight stack.old.items) }
+{
+    push_enclosed(stack, argument, is_no_atom(argument))?;
+    push_text(stack, " ")?;
+    push_enclosed(stack, function, is_no_head(function))
+}
+
+pub(crate) fn unfold_operate<'a>(
+    stack: &mut Stack<'a>,
+    op: Op,
+    left: &'a SourceTerm,
+    right: &'a SourceTerm,
+) -> Result<(), AllocError>
+    ensures same { OnOk result (pieces_text stack.new.items ≡ term_text (tree.operate 0 op left.now right.now) ++ pieces_text stack.old.items) }
+    ensures less { OnOk result (pieces_weight stack.new.items < term_weight (tree.operate 0 op left.now right.now) + pieces_weight stack.old.items) }
+{
+    push_enclosed(stack, right, is_no_right(op, right))?;
+    push_text(stack, " ")?;
+    push_text(stack, op_text(op))?;
+    push_text(stack, " ")?;
+    push_enclosed(stack, left, is_no_left(op, left))
+}
+
+pub(crate) fn unfold_then<'a>(
+    stack: &mut Stack<'a>,
+    first: &'a SourceTerm,
+    next: &'a SourceTerm,
+) -> Result<(), AllocError>
+    ensures same { OnOk result (pieces_text stack.new.items ≡ term_text (tree.seq 0 first.now next.now) ++ pieces_text stack.old.items) }
+    ensures less { OnOk result (pieces_weight stack.new.items < term_weight (tree.seq 0 first.now next.now) + pieces_weight stack.old.items) }
+{
+    push_term(stack, next)?;
+    push_text(stack, "; ")?;
+    push_enclosed(stack, first, is_no_chain(first))
+}

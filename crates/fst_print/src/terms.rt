@@ -1,0 +1,146 @@
+ghost use Rattle.std.specs.Prelude.{◌≡◌, ◌<◌, ◌+◌, ◌∷◌, ◌++◌, OnOk, codes};
+ghost use Rattle.std.specs.String.{string_bytes};
+ghost use Rattle.fst_terms.specs.TermView.{arms_of, terms_of};
+ghost use Rattle.fst_print.specs.ModuleTexts.{arguments_text, arm_texts, term_text};
+ghost use Rattle.fst_print.specs.Stack.{arms_weight, piece_text, piece_weight, pieces_text, pieces_weight, term_weight, terms_weight};
+ghost use Rattle.fst_print.specs.Texts.{joined_text, separated_text};
+
+use crate::atoms::{push_named, push_names, push_new, push_quoted, truth_text};
+use crate::forms::{
+    unfold_apply, unfold_case, unfold_fork, unfold_if, unfold_lambda, unfold_let, unfold_make,
+    unfold_match, unfold_not, unfold_operate, unfold_pair, unfold_receive, unfold_select,
+    unfold_send, unfold_split, unfold_then,
+};
+use crate::pieces::{name_text, push_number};
+use crate::ranks::is_no_atom;
+use crate::stack::{Piece, Stack, pop, push, push_enclosed, push_term};
+use fst_terms::{SourceArm, SourceForm, SourceTerm};
+use std::alloc::{AllocError, Global};
+
+fn unfold<'a>(text: &mut String, stack: &mut Stack<'a>, t: &'a SourceTerm) -> Result<(), AllocError>
+    ensures same { OnOk result (string_bytes text.new ++ pieces_text stack.new.items ≡ string_bytes text.old ++ (term_text t.now ++ pieces_text stack.old.items)) }
+    ensures less { OnOk result (pieces_weight stack.new.items < term_weight t.now + pieces_weight stack.old.items) }
+{
+    match &t.form {
+        SourceForm::Named(name, types) => push_named(text, name, types),
+        SourceForm::Int(n) => push_number(text, *n),
+        SourceForm::Bool(b) => text.push_str(truth_text(*b)),
+        SourceForm::Char(c) => push_quoted(text, *c),
+        SourceForm::Unit => text.push_str("()"),
+        SourceForm::Pair(first, second) => unfold_pair(text, stack, first, second),
+        SourceForm::Make(name, arguments) => unfold_make(text, stack, name, arguments),
+        SourceForm::Lambda(uses, from, binder, body) => unfold_lambda(
+            text, stack, *uses, from, binder, body,
+        ),
+        SourceForm::Apply(function, argument) => unfold_apply(stack, function, argument),
+        SourceForm::Let(binder, first, second) => unfold_let(text, stack, binder, first, second),
+        SourceForm::Split(left, right, first, second) => unfold_split(
+            text, stack, left, right, first, second,
+        ),
+        SourceForm::If(test, yes, no) => unfold_if(text, stack, test, yes, no),
+        SourceForm::Case(value, arms) => unfold_case(text, stack, value, arms),
+        SourceForm::Operate(op, left, right) => unfold_operate(stack, *op, left, right),
+        SourceForm::Not(operand) => unfold_not(text, stack, operand),
+        SourceForm::New(of) => push_new(text, of),
+        SourceForm::Send(value, channel) => unfold_send(text, stack, value, channel),
+        SourceForm::Receive(channel) => unfold_receive(text, stack, channel),
+        SourceForm::Select(label, channel) => unfold_select(text, stack, label, channel),
+        SourceForm::Match(channel, arms) => unfold_match(text, stack, channel, arms),
+        SourceForm::Fork(task) => unfold_fork(text, stack, task),
+        SourceForm::Then(first, second) => unfold_then(stack, first, second),
+    }
+}
+
+fn unfold_arguments<'a>(
+    text: &mut String,
+    stack: &mut Stack<'a>,
+    arguments: &'a [SourceTerm],
+) -> Result<(), AllocError>
+    ensures same { OnOk result (string_bytes text.new ++ pieces_text stack.new.items ≡ string_bytes text.old ++ (arguments_text (terms_of arguments.now) ++ pieces_text stack.old.items)) }
+    ensures less { OnOk result (pieces_weight stack.new.items < terms_weight (terms_of arguments.now) + pieces_weight stack.old.items) }
+{
+    let [first, others @ ..] = arguments else {
+        return Ok(());
+    };
+    text.push_str(" ")?;
+    push(stack, Piece::Arguments(others))?;
+    push_enclosed(stack, first, is_no_atom(first))
+}
+
+fn unfold_arm<'a>(
+    text: &mut String,
+    stack: &mut Stack<'a>,
+    arm: &'a SourceArm,
+    others: &'a [SourceArm],
+) -> Result<(), AllocError>
+    ensures same { OnOk result (string_bytes text.new ++ pieces_text stack.new.items ≡ string_bytes text.old ++ (joined_text (codes ", ") (arm_texts (arms_of (arm.now ∷ others.now))) ++ pieces_text stack.old.items)) }
+    ensures less { OnOk result (pieces_weight stack.new.items < arms_weight (arms_of (arm.now ∷ others.now)) + pieces_weight stack.old.items) }
+{
+    text.push_str(name_text(&arm.label.name))?;
+    push_names(text, &arm.binders)?;
+    text.push_str(" -> ")?;
+    push(stack, Piece::LaterArms(others))?;
+    push_term(stack, &arm.body)
+}
+
+fn unfold_arms<'a>(
+    text: &mut String,
+    stack: &mut Stack<'a>,
+    arms: &'a [SourceArm],
+) -> Result<(), AllocError>
+    ensures same { OnOk result (string_bytes text.new ++ pieces_text stack.new.items ≡ string_bytes text.old ++ (joined_text (codes ", ") (arm_texts (arms_of arms.now)) ++ pieces_text stack.old.items)) }
+    ensures less { OnOk result (pieces_weight stack.new.items < arms_weight (arms_of arms.now) + pieces_weight stack.old.items) }
+{
+    let [first, others @ ..] = arms else {
+        return Ok(());
+    };
+    unfold_arm(text, stack, first, others)
+}
+
+fn unfold_later_arms<'a>(
+    text: &mut String,
+    stack: &mut Stack<'a>,
+    later: &'a [SourceArm],
+) -> Result<(), AllocError>
+    ensures same { OnOk result (string_bytes text.new ++ pieces_text stack.new.items ≡ string_bytes text.old ++ (separated_text (codes ", ") (arm_texts (arms_of later.now)) ++ pieces_text stack.old.items)) }
+    ensures less { OnOk result (pieces_weight stack.new.items < arms_weight (arms_of later.now) + pieces_weight stack.old.items) }
+{
+    let [first, others @ ..] = later else {
+        return Ok(());
+    };
+    text.push_str(", ")?;
+    unfold_arm(text, stack, first, others)
+}
+
+fn unfold_piece<'a>(
+    text: &mut String,
+    stack: &mut Stack<'a>,
+    piece: Piece<'a>,
+) -> Result<(), AllocError>
+    ensures same { OnOk result (string_bytes text.new ++ pieces_text stack.new.items ≡ string_bytes text.old ++ (piece_text piece.entry ++ pieces_text stack.old.items)) }
+    ensures less { OnOk result (pieces_weight stack.new.items < piece_weight piece.entry + pieces_weight stack.old.items) }
+{
+    match piece {
+        Piece::Text(s) => text.push_str(s),
+        Piece::Term(t) => unfold(text, stack, t),
+        Piece::Arguments(arguments) => unfold_arguments(text, stack, arguments),
+        Piece::Arms(arms) => unfold_arms(text, stack, arms),
+        Piece::LaterArms(arms) => unfold_later_arms(text, stack, arms),
+    }
+}
+
+/// Adds the text of a term. What is still to be written stands on a stack in memory, so a term may be very deep.
+pub(crate) fn push_term_text(
+    alloc: Global,
+    text: &mut String,
+    t: &SourceTerm,
+) -> Result<(), AllocError>
+    ensures { OnOk result (string_bytes text.new ≡ string_bytes text.old ++ term_text t.now) }
+{
+    let mut stack = Vec::new(alloc);
+    push_term(&mut stack, t)?;
+    while let Some(piece) = pop(&mut stack) {
+        unfold_piece(text, &mut stack, piece)?;
+    }
+    Ok(())
+}

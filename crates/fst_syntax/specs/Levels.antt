@@ -1,0 +1,69 @@
+-- The chains of operators by how tightly they bind, and the arms of `case` and `match`.
+use Rattle.std.specs.Prelude.{◌≡◌, ℕ, List, Option, Result, Ok, Err, codes}
+use Rattle.fst_terms.specs.declared.term.Op.{Op}
+use Rattle.fst_terms.specs.declared.term.Op.TheVariants as op
+use Rattle.fst_terms.specs.declared.term.SourceArm.{SourceArm}
+use Rattle.fst_terms.specs.TermTree as term
+use Rattle.fst_terms.specs.TermTree.{TermTree, TermArms}
+use Rattle.fst_syntax.specs.declared.operators.Level.{Level}
+use Rattle.fst_syntax.specs.declared.operators.Level.TheVariants.{Or, And, Sum, Product}
+use Rattle.fst_syntax.specs.declared.heads.Arms.{Arms}
+use Rattle.fst_syntax.specs.declared.heads.Arms.TheVariants as by
+use Rattle.fst_syntax.specs.declared.heads.Binding.{Binding}
+use Rattle.fst_syntax.specs.declared.heads.Binding.TheVariants.{One, Two}
+use Rattle.fst_type_syntax.specs.declared.reading.Stop.{Stop}
+use Rattle.fst_type_syntax.specs.Lexeme.{Lexeme}
+use Rattle.fst_type_syntax.specs.Reading.{Reader, Halt, ◌>>=◌, mapped, word}
+use Rattle.fst_type_syntax.specs.Gives.{Fails}
+use Rattle.fst_syntax.specs.TermReading.{Inside, Arm, addition, operator, unary_with, prod_with, cmp_with, and_with, chain, case_arm_with, match_arm_with, arms_with}
+
+-- the operator that a chain has between its operands
+abbrev pub operator_of : Level → Lexeme → Option Op
+operator_of Or = operator (codes "||") op.Or
+operator_of And = operator (codes "&&") op.And
+operator_of Sum = addition
+operator_of Product = operator (codes "*") op.Multiply
+
+-- an operand of a chain
+abbrev pub operand_with : Level → Inside → Reader TermTree
+operand_with Or = and_with
+operand_with And = cmp_with
+operand_with Sum = prod_with
+operand_with Product = unary_with
+
+-- a chain
+abbrev pub level_with : Level → Inside → Reader TermTree
+level_with l = chain (operator_of l) (operand_with l)
+
+-- one arm
+abbrev pub arm_by : Arms → Reader TermTree → Reader Arm
+arm_by by.Case = case_arm_with
+arm_by by.Match = match_arm_with
+
+-- the reserved word behind the term that chooses among arms
+abbrev pub word_of : Arms → List ℕ
+word_of by.Case = codes "of"
+word_of by.Match = codes "with"
+
+-- the term with these arms
+abbrev pub tree_by : Arms → ℕ → TermTree → TermArms → TermTree
+tree_by by.Case = term.case_of
+tree_by by.Match = term.match_with
+
+-- behind `case` or `match`
+unfoldable pub choice_with : Arms → Reader TermTree → ℕ → Reader TermTree
+choice_with a e at = e >>= λ t. word (word_of a) >>= λ w. mapped (tree_by a at t) (arms_with e (arm_by a e))
+
+-- an arm as it is read
+abbrev pub arm_parts : SourceArm → Arm
+arm_parts b = (b.label, (b.binders.items, b.body))
+
+-- the term that binds these names
+abbrev pub bind_term : ℕ → Binding → TermTree → TermTree → TermTree
+bind_term at (One x) = term.let_in at x
+bind_term at (Two x y) = term.split at x y
+
+-- what is read goes on so behind what the code read, or it stopped as that does
+abbrev pub GoesOn : {X Y : Type 0} → (X → Result Y Halt) → Result X Stop → Result Y Halt → Type 0
+GoesOn more (Ok x) read = read ≡ more x
+GoesOn more (Err e) read = Fails e read

@@ -1,0 +1,175 @@
+ghost use Rattle.std.specs.Prelude.{◌≡◌};
+ghost use Rattle.fst_terms.specs.TermView.{terms_of};
+ghost use Rattle.fst_type_syntax.specs.Gives.{Gives};
+ghost use Rattle.fst_syntax.specs.TermReading.{inside, expr_at, arguments_with, applications_with, head_with, atom_with, begun_with, paren_with};
+
+use crate::applied::applied;
+use crate::building::apply;
+use crate::shut::{begins_atom, shut_atom};
+use crate::starts::{AtomStart, atom_start, plain_start};
+use crate::terms::expr;
+use fst_terms::{SourceForm, SourceTerm};
+use fst_type_syntax::{Lexeme, Stop, after, expect};
+use fst_types::Name;
+use std::alloc::Global;
+
+/// The atoms behind a constructor and these arguments.
+#[cycle(reader)]
+pub(crate) fn arguments<'a>(
+    alloc: Global,
+    left: u32,
+    items: &mut Vec<SourceTerm>,
+    tokens: &'a [Lexeme<'a>],
+) -> Result<&'a [Lexeme<'a>], Stop<'a>>
+    ensures { Gives (λ r. (terms_of items.new.items, r.now)) result (arguments_with (inside left) (terms_of items.old.items) tokens.now) }
+{
+    if !begins_atom(tokens) {
+        return Ok(tokens);
+    }
+    if left == 0 {
+        return Err(Stop::TooDeep(tokens));
+    }
+    let (item, rest) = atom(alloc, left, tokens)?;
+    items.push(item)?;
+    arguments(alloc, left - 1, items, rest)
+}
+
+/// An atom that is no upper name, and what it is applied to.
+#[cycle(reader)]
+#[tactic(auto, unfolding(fst_type_syntax::specs::Reading::bind, fst_type_syntax::specs::Reading::andthen, fst_type_syntax::specs::Reading::switch, crate::specs::TermReading::plain_with, crate::specs::TermReading::head_with))]
+pub(crate) fn head<'a>(
+    alloc: Global,
+    left: u32,
+    tokens: &'a [Lexeme<'a>],
+) -> Result<(SourceTerm, &'a [Lexeme<'a>]), Stop<'a>>
+    ensures { Gives (λ x. (x.0, x.1.now)) result (head_with (expr_at left) (inside left) tokens.now) }
+{
+    match tokens {
+        [] => Err(Stop::Syntax(tokens)),
+        [first, behind @ ..] => match plain_start(first) {
+            None => Err(Stop::Syntax(tokens)),
+            Some(start) => {
+                let (mut term, rest) = begun(alloc, left, start, first, behind)?;
+                let rest = applications(alloc, left, first.at, &mut term, rest)?;
+                Ok((term, rest))
+            }
+        },
+    }
+}
+
+/// The atoms to which this term is applied, which it takes in, and what stands behind them.
+#[cycle(reader)]
+fn applications<'a>(
+    alloc: Global,
+    left: u32,
+    at: u32,
+    term: &mut SourceTerm,
+    tokens: &'a [Lexeme<'a>],
+) -> Result<&'a [Lexeme<'a>], Stop<'a>>
+    ensures { Gives (λ r. (term.new, r.now)) result (applications_with at (inside left) term.old tokens.now) }
+{
+    if !begins_atom(tokens) {
+        return Ok(tokens);
+    }
+    if left == 0 {
+        return Err(Stop::TooDeep(tokens));
+    }
+    let (argument, rest) = atom(alloc, left, tokens)?;
+    apply(alloc, at, term, argument)?;
+    applications(alloc, left - 1, at, term, rest)
+}
+
+/// An atom, where `left` more operands may stand, and what stands behind it.
+#[cycle(reader)]
+#[tactic(auto, unfolding(fst_type_syntax::specs::Reading::switch, crate::specs::TermReading::atom_with, crate::specs::TermReading::inside))]
+pub(crate) fn atom<'a>(
+    alloc: Global,
+    left: u32,
+    tokens: &'a [Lexeme<'a>],
+) -> Result<(SourceTerm, &'a [Lexeme<'a>]), Stop<'a>>
+    ensures { Gives (λ x. (x.0, x.1.now)) result (atom_with (inside left) tokens.now) }
+{
+    if left == 0 {
+        return Err(shut_atom(tokens));
+    }
+    match tokens {
+        [] => Err(Stop::Syntax(tokens)),
+        [first, behind @ ..] => match atom_start(first) {
+            None => Err(Stop::Syntax(tokens)),
+            Some(start) => begun(alloc, left - 1, start, first, behind),
+        },
+    }
+}
+
+/// An atom that begins so with this token.
+#[cycle(reader)]
+#[tactic(auto, unfolding(fst_type_syntax::specs::Reading::bind, fst_type_syntax::specs::Reading::mapped, fst_type_syntax::specs::Reading::give))]
+fn begun<'a>(
+    alloc: Global,
+    left: u32,
+    start: AtomStart,
+    first: &Lexeme<'_>,
+    tokens: &'a [Lexeme<'a>],
+) -> Result<(SourceTerm, &'a [Lexeme<'a>]), Stop<'a>>
+    ensures { Gives (λ x. (x.0, x.1.now)) result (begun_with (expr_at left) (inside left) start first.now tokens.now) }
+{
+    let at = first.at;
+    match start {
+        AtomStart::Name => {
+            let (types, rest) = applied(alloc, left, tokens)?;
+            let name = Name::of(alloc, first.text.as_bytes())?;
+            let form = SourceForm::Named(name, types);
+            Ok((SourceTerm { at, form }, rest))
+        }
+        AtomStart::Constructor => {
+            let name = Name::of(alloc, first.text.as_bytes())?;
+            let form = SourceForm::Make(name, Vec::new(alloc));
+            Ok((SourceTerm { at, form }, tokens))
+        }
+        AtomStart::Number(value) => {
+            let form = SourceForm::Int(value);
+            Ok((SourceTerm { at, form }, tokens))
+        }
+        AtomStart::Character(character) => {
+            let form = SourceForm::Char(character);
+            Ok((SourceTerm { at, form }, tokens))
+        }
+        AtomStart::Truth(value) => {
+            let form = SourceForm::Bool(value);
+            Ok((SourceTerm { at, form }, tokens))
+        }
+        AtomStart::Paren => paren(alloc, left, at, tokens),
+    }
+}
+
+/// What stands behind a parenthesis: nothing, one term or two.
+#[cycle(reader)]
+#[tactic(auto, unfolding(fst_type_syntax::specs::Reading::bind, fst_type_syntax::specs::Reading::choose, fst_type_syntax::specs::Reading::andthen, fst_type_syntax::specs::Reading::mapped, fst_type_syntax::specs::Reading::on, fst_type_syntax::specs::Reading::give, crate::specs::TermReading::pair_with, crate::specs::TermReading::paren_with))]
+fn paren<'a>(
+    alloc: Global,
+    left: u32,
+    at: u32,
+    tokens: &'a [Lexeme<'a>],
+) -> Result<(SourceTerm, &'a [Lexeme<'a>]), Stop<'a>>
+    ensures { Gives (λ x. (x.0, x.1.now)) result (paren_with (expr_at left) at tokens.now) }
+{
+    if let Some(behind) = after(")", tokens) {
+        let form = SourceForm::Unit;
+        return Ok((SourceTerm { at, form }, behind));
+    }
+    let (first, rest) = expr(alloc, left, tokens)?;
+    match after(",", rest) {
+        None => {
+            let rest = expect(")", rest)?;
+            Ok((first, rest))
+        }
+        Some(behind) => {
+            let first = Box::new(alloc, first)?;
+            let (second, rest) = expr(alloc, left, behind)?;
+            let second = Box::new(alloc, second)?;
+            let rest = expect(")", rest)?;
+            let form = SourceForm::Pair(first, second);
+            Ok((SourceTerm { at, form }, rest))
+        }
+    }
+}

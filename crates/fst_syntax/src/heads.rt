@@ -1,0 +1,164 @@
+ghost use Rattle.std.specs.Prelude.{◌≡◌, ℕ, codes, length};
+ghost use Rattle.fst_terms.specs.TermTree as term;
+ghost use Rattle.fst_terms.specs.TermTree.{TermTree};
+ghost use Rattle.fst_terms.specs.TermView.{arms_of};
+ghost use Rattle.fst_type_syntax.specs.Reading.{Reader, mapped};
+ghost use Rattle.fst_type_syntax.specs.Gives.{Gives};
+ghost use Rattle.fst_syntax.specs.TermReading.{inside, label_with, arrow_at, let_with, in_with, lambda_with};
+ghost use Rattle.fst_syntax.specs.Levels.{GoesOn, bind_term, arm_by, word_of, tree_by};
+
+use crate::names::{bound, names};
+use crate::shut::shut_upper;
+use fst_terms::{Binder, SourceArm, SourceForm, SourceTerm};
+use fst_type_syntax::{Lexeme, Stop, after, after_one, expect, lower, seq, upper};
+use fst_types::{Use, Written};
+use std::alloc::Global;
+
+/// The names that a `let` binds: one, or those of both parts of a pair.
+#[derive(Drop)]
+pub(crate) enum Binding {
+    One(Binder),
+    Two(Binder, Binder),
+}
+
+/// What a term with arms begins with.
+#[derive(Clone, Copy, Debug)]
+pub(crate) enum Arms {
+    Case,
+    Match,
+}
+
+/// An upper name, where `left` more operands may stand, and what stands behind it.
+#[tactic(auto, unfolding(crate::specs::TermReading::inside, crate::specs::TermReading::label_with))]
+pub(crate) fn label<'a>(
+    left: u32,
+    tokens: &'a [Lexeme<'a>],
+) -> Result<(&'a Lexeme<'a>, &'a [Lexeme<'a>]), Stop<'a>>
+    ensures { Gives (λ x. (x.0.now, x.1.now)) result (label_with (inside left) tokens.now) }
+{
+    if left == 0 {
+        return Err(shut_upper(tokens));
+    }
+    upper(tokens)
+}
+
+/// An arrow, and what stands behind it.
+#[tactic(auto, unfolding(fst_type_syntax::specs::Reading::bind, fst_type_syntax::specs::Reading::choose, fst_type_syntax::specs::Reading::mapped, fst_type_syntax::specs::Reading::on, crate::specs::TermReading::arrow_at))]
+fn arrow<'a>(tokens: &'a [Lexeme<'a>]) -> Result<(Use, &'a [Lexeme<'a>]), Stop<'a>>
+    ensures { Gives (λ x. (x.0, x.1.now)) result (arrow_at tokens.now) }
+{
+    match after_one(tokens) {
+        Some(behind) => {
+            let rest = expect("->", behind)?;
+            Ok((Use::Once, rest))
+        }
+        None => {
+            let rest = expect("->", tokens)?;
+            Ok((Use::Many, rest))
+        }
+    }
+}
+
+/// What stands between `let` and the term whose value is bound.
+#[tactic(auto, unfolding(fst_type_syntax::specs::Reading::bind, fst_type_syntax::specs::Reading::choose, fst_type_syntax::specs::Reading::andthen, fst_type_syntax::specs::Reading::on, crate::specs::TermReading::split_with, crate::specs::TermReading::let_with))]
+pub(crate) fn let_head<'a>(
+    alloc: Global,
+    tokens: &'a [Lexeme<'a>],
+) -> Result<(Binding, &'a [Lexeme<'a>]), Stop<'a>>
+    ensures { (e : Reader TermTree) (at : ℕ) → GoesOn (λ x. in_with e (bind_term at x.0) x.1.now) result (let_with e at tokens.now) }
+{
+    match after("(", tokens) {
+        None => {
+            let (name, rest) = lower(tokens)?;
+            let rest = expect("=", rest)?;
+            let name = bound(alloc, name)?;
+            Ok((Binding::One(name), rest))
+        }
+        Some(behind) => {
+            let (first, rest) = lower(behind)?;
+            let rest = expect(",", rest)?;
+            let (second, rest) = lower(rest)?;
+            let rest = expect(")", rest)?;
+            let rest = expect("=", rest)?;
+            let first = bound(alloc, first)?;
+            let second = bound(alloc, second)?;
+            Ok((Binding::Two(first, second), rest))
+        }
+    }
+}
+
+/// What stands between `\` and the body of a function: its parameter with its type, and the arrow.
+#[tactic(auto, using(crate::proofs::Inside::length_inside), unfolding(fst_type_syntax::specs::Reading::bind, fst_type_syntax::specs::Reading::andthen, crate::specs::TermReading::lambda_with))]
+pub(crate) fn parameter<'a>(
+    alloc: Global,
+    left: u32,
+    tokens: &'a [Lexeme<'a>],
+) -> Result<((Binder, Written, Use), &'a [Lexeme<'a>]), Stop<'a>>
+    ensures { (e : Reader TermTree) (at : ℕ) → GoesOn (λ x. mapped (term.lambda at x.0.2 x.0.1 x.0.0) e x.1.now) result (lambda_with e (length (inside left)) at tokens.now) }
+{
+    let (name, rest) = lower(tokens)?;
+    let rest = expect(":", rest)?;
+    let (domain, rest) = seq(alloc, left, rest)?;
+    let (uses, rest) = arrow(rest)?;
+    let name = bound(alloc, name)?;
+    Ok(((name, domain, uses), rest))
+}
+
+/// What stands before the term of an arm: a constructor or a label, what it binds, and the arrow.
+#[tactic(auto, unfolding(fst_type_syntax::specs::Reading::bind, fst_type_syntax::specs::Reading::andthen, crate::specs::TermReading::case_arm_with, crate::specs::TermReading::match_arm_with))]
+pub(crate) fn arm_head<'a>(
+    alloc: Global,
+    arms: Arms,
+    tokens: &'a [Lexeme<'a>],
+) -> Result<((Binder, Vec<Binder>), &'a [Lexeme<'a>]), Stop<'a>>
+    ensures { (e : Reader TermTree) → GoesOn (λ x. mapped (λ t. (x.0.0, (x.0.1.items, t))) e x.1.now) result (arm_by arms e tokens.now) }
+{
+    let (label, rest) = upper(tokens)?;
+    match arms {
+        Arms::Case => {
+            let (binders, rest) = names(alloc, rest)?;
+            let rest = expect("->", rest)?;
+            let label = bound(alloc, label)?;
+            Ok(((label, binders), rest))
+        }
+        Arms::Match => {
+            let (binder, rest) = lower(rest)?;
+            let rest = expect("->", rest)?;
+            let label = bound(alloc, label)?;
+            let mut binders = Vec::new(alloc);
+            binders.push(bound(alloc, binder)?)?;
+            Ok(((label, binders), rest))
+        }
+    }
+}
+
+/// The reserved word behind the term that chooses among arms.
+pub(crate) fn word_of(arms: Arms) -> &'static str
+    ensures { result.now ≡ word_of arms }
+{
+    match arms {
+        Arms::Case => "of",
+        Arms::Match => "with",
+    }
+}
+
+/// The term that begins here and chooses among these arms.
+pub(crate) fn choose(
+    kind: Arms,
+    at: u32,
+    subject: Box<SourceTerm>,
+    arms: Vec<SourceArm>,
+) -> SourceTerm
+    ensures { result ≡ tree_by kind at subject.value (arms_of arms.items) }
+{
+    match kind {
+        Arms::Case => SourceTerm {
+            at,
+            form: SourceForm::Case(subject, arms),
+        },
+        Arms::Match => SourceTerm {
+            at,
+            form: SourceForm::Match(subject, arms),
+        },
+    }
+}

@@ -1,0 +1,166 @@
+ghost use Rattle.std.specs.Prelude.{◌≡◌};
+ghost use Rattle.fst_syntax.specs.TermReading.{atom_named, atom_start, plain_start, app_named, app_start, expr_named, expr_start, starts_atom, starts_app, starts_unary, starts_expr};
+
+use fst_lexer::TokenKind;
+use fst_type_syntax::{Lexeme, spells};
+
+/// What an atom begins with.
+#[derive(Clone, Copy, Debug)]
+pub(crate) enum AtomStart {
+    Name,
+    Constructor,
+    Number(i64),
+    Character(char),
+    Truth(bool),
+    Paren,
+}
+
+/// What an application begins with, where it is no atom: a reserved word, or a constructor.
+#[derive(Clone, Copy, Debug)]
+pub(crate) enum AppStart {
+    Send,
+    Receive,
+    Select,
+    New,
+    Fork,
+    Make,
+}
+
+/// What a term begins with, where it is no operand.
+#[derive(Clone, Copy, Debug)]
+pub(crate) enum ExprStart {
+    Let,
+    If,
+    Lambda,
+    Case,
+    Match,
+}
+
+/// The atom that begins with this reserved word or sign.
+#[tactic(auto, unfolding(fst_type_syntax::specs::Reading::choose, crate::specs::TermReading::atom_named))]
+fn atom_named(text: &str) -> Option<AtomStart>
+    ensures { result ≡ atom_named text.now }
+{
+    if text == "True" {
+        Some(AtomStart::Truth(true))
+    } else if text == "False" {
+        Some(AtomStart::Truth(false))
+    } else if text == "(" {
+        Some(AtomStart::Paren)
+    } else {
+        None
+    }
+}
+
+/// What an atom begins with, where one begins with this token.
+pub(crate) fn atom_start(token: &Lexeme<'_>) -> Option<AtomStart>
+    ensures { result ≡ atom_start token.now }
+{
+    match token.kind {
+        TokenKind::Lower => Some(AtomStart::Name),
+        TokenKind::Upper => Some(AtomStart::Constructor),
+        TokenKind::Number(value) => Some(AtomStart::Number(value)),
+        TokenKind::Character(character) => Some(AtomStart::Character(character)),
+        TokenKind::Reserved | TokenKind::Sign => atom_named(token.text),
+        _ => None,
+    }
+}
+
+/// What an atom begins with, where one that is no upper name begins with this token.
+pub(crate) fn plain_start(token: &Lexeme<'_>) -> Option<AtomStart>
+    ensures { result ≡ plain_start token.now }
+{
+    match atom_start(token) {
+        Some(AtomStart::Constructor) => None,
+        start => start,
+    }
+}
+
+/// The application that begins with this reserved word.
+#[tactic(auto, unfolding(fst_type_syntax::specs::Reading::choose, crate::specs::TermReading::app_named))]
+fn app_named(text: &str) -> Option<AppStart>
+    ensures { result ≡ app_named text.now }
+{
+    if text == "send" {
+        Some(AppStart::Send)
+    } else if text == "receive" {
+        Some(AppStart::Receive)
+    } else if text == "select" {
+        Some(AppStart::Select)
+    } else if text == "new" {
+        Some(AppStart::New)
+    } else if text == "fork" {
+        Some(AppStart::Fork)
+    } else {
+        None
+    }
+}
+
+/// What an application begins with that is no atom, where one begins with this token.
+pub(crate) fn app_start(token: &Lexeme<'_>) -> Option<AppStart>
+    ensures { result ≡ app_start token.now }
+{
+    match token.kind {
+        TokenKind::Upper => Some(AppStart::Make),
+        TokenKind::Reserved | TokenKind::Sign => app_named(token.text),
+        _ => None,
+    }
+}
+
+/// The term that begins with this reserved word or sign.
+#[tactic(auto, unfolding(fst_type_syntax::specs::Reading::choose, crate::specs::TermReading::expr_named))]
+fn expr_named(text: &str) -> Option<ExprStart>
+    ensures { result ≡ expr_named text.now }
+{
+    if text == "let" {
+        Some(ExprStart::Let)
+    } else if text == "if" {
+        Some(ExprStart::If)
+    } else if text == "\\" {
+        Some(ExprStart::Lambda)
+    } else if text == "case" {
+        Some(ExprStart::Case)
+    } else if text == "match" {
+        Some(ExprStart::Match)
+    } else {
+        None
+    }
+}
+
+/// What a term begins with that is no operand, where one begins with this token.
+pub(crate) fn expr_start(token: &Lexeme<'_>) -> Option<ExprStart>
+    ensures { result ≡ expr_start token.now }
+{
+    match token.kind {
+        TokenKind::Reserved | TokenKind::Sign => expr_named(token.text),
+        _ => None,
+    }
+}
+
+/// Whether an atom may begin with this token.
+pub(crate) fn starts_atom(token: &Lexeme<'_>) -> bool
+    ensures { result ≡ starts_atom token.now }
+{
+    atom_start(token).is_some()
+}
+
+/// Whether an application may begin with this token.
+pub(crate) fn starts_app(token: &Lexeme<'_>) -> bool
+    ensures { result ≡ starts_app token.now }
+{
+    app_start(token).is_some() || starts_atom(token)
+}
+
+/// Whether an operand may begin with this token.
+pub(crate) fn starts_unary(token: &Lexeme<'_>) -> bool
+    ensures { result ≡ starts_unary token.now }
+{
+    spells("not", token) || starts_app(token)
+}
+
+/// Whether a term may begin with this token.
+pub(crate) fn starts_expr(token: &Lexeme<'_>) -> bool
+    ensures { result ≡ starts_expr token.now }
+{
+    expr_start(token).is_some() || starts_unary(token)
+}

@@ -1,0 +1,229 @@
+ghost use Rattle.std.specs.Prelude.{◌≡◌, ◌-◌, ◌<◌, codes, length, map};
+ghost use Rattle.fst_type_syntax.specs.Lexeme.{spells};
+ghost use Rattle.fst_type_syntax.specs.Reading.{separated};
+ghost use Rattle.fst_type_syntax.specs.Gives.{Gives};
+ghost use Rattle.fst_syntax.specs.TermReading.{inside, expr_at, let_with, if_with, lambda_with, case_with, match_with, then_with};
+ghost use Rattle.fst_syntax.specs.Levels.{choice_with, arm_by, arm_parts};
+
+use crate::heads::{Arms, Binding, arm_head, choose, let_head, parameter, word_of};
+use crate::operands::chain;
+use crate::operators::Level;
+use crate::shut::shut_expr;
+use crate::starts::{ExprStart, expr_start};
+use fst_terms::{SourceArm, SourceForm, SourceTerm};
+use fst_type_syntax::{Lexeme, Stop, after, behind, comes, expect, start};
+use std::alloc::Global;
+
+/// A term, at most `left` of them inside one another, and what stands behind it.
+#[cycle(reader)]
+#[tactic(auto, using(crate::proofs::Inside::expr_empty), unfolding(fst_type_syntax::specs::Reading::choose, fst_type_syntax::specs::Reading::when, fst_type_syntax::specs::Reading::switch, crate::specs::TermReading::expr_with, crate::specs::TermReading::inside))]
+pub(crate) fn expr<'a>(
+    alloc: Global,
+    left: u32,
+    tokens: &'a [Lexeme<'a>],
+) -> Result<(SourceTerm, &'a [Lexeme<'a>]), Stop<'a>>
+    ensures { Gives (λ x. (x.0, x.1.now)) result (expr_at left tokens.now) }
+{
+    if left == 0 {
+        return Err(shut_expr(tokens));
+    }
+    match tokens {
+        [] => Err(Stop::Syntax(tokens)),
+        [first, rest @ ..] => match expr_start(first) {
+            Some(ExprStart::Let) => let_in(alloc, left - 1, first.at, rest),
+            Some(ExprStart::If) => if_else(alloc, left - 1, first.at, rest),
+            Some(ExprStart::Lambda) => lambda(alloc, left - 1, first.at, rest),
+            Some(ExprStart::Case) => case_of(alloc, left - 1, first.at, rest),
+            Some(ExprStart::Match) => match_with(alloc, left - 1, first.at, rest),
+            None => then(alloc, left, tokens),
+        },
+    }
+}
+
+/// A term that begins with an operand, where at least one may be opened.
+#[cycle(reader)]
+#[tactic(auto, using(crate::proofs::Inside::inside_next), unfolding(fst_type_syntax::specs::Reading::bind, fst_type_syntax::specs::Reading::choose, fst_type_syntax::specs::Reading::andthen, fst_type_syntax::specs::Reading::mapped, fst_type_syntax::specs::Reading::on, fst_type_syntax::specs::Reading::give, crate::specs::TermReading::then_with))]
+fn then<'a>(
+    alloc: Global,
+    left: u32,
+    tokens: &'a [Lexeme<'a>],
+) -> Result<(SourceTerm, &'a [Lexeme<'a>]), Stop<'a>>
+    requires { 0 < left }
+    ensures { Gives (λ x. (x.0, x.1.now)) result (then_with (expr_at (left - 1)) (inside (left - 1)) tokens.now) }
+{
+    let at = start(tokens);
+    let (term, rest) = chain(alloc, Level::Or, left, tokens)?;
+    match after(";", rest) {
+        None => Ok((term, rest)),
+        Some(behind) => {
+            let term = Box::new(alloc, term)?;
+            let (next, rest) = expr(alloc, left - 1, behind)?;
+            let next = Box::new(alloc, next)?;
+            let form = SourceForm::Then(term, next);
+            Ok((SourceTerm { at, form }, rest))
+        }
+    }
+}
+
+/// What stands behind `let`.
+#[cycle(reader)]
+#[tactic(auto, unfolding(fst_type_syntax::specs::Reading::bind, fst_type_syntax::specs::Reading::andthen, fst_type_syntax::specs::Reading::mapped, crate::specs::TermReading::in_with))]
+fn let_in<'a>(
+    alloc: Global,
+    left: u32,
+    at: u32,
+    tokens: &'a [Lexeme<'a>],
+) -> Result<(SourceTerm, &'a [Lexeme<'a>]), Stop<'a>>
+    ensures { Gives (λ x. (x.0, x.1.now)) result (let_with (expr_at left) at tokens.now) }
+{
+    let (binding, rest) = let_head(alloc, tokens)?;
+    let (value, rest) = expr(alloc, left, rest)?;
+    let value = Box::new(alloc, value)?;
+    let rest = expect("in", rest)?;
+    let (body, rest) = expr(alloc, left, rest)?;
+    let body = Box::new(alloc, body)?;
+    match binding {
+        Binding::One(name) => {
+            let form = SourceForm::Let(name, value, body);
+            Ok((SourceTerm { at, form }, rest))
+        }
+        Binding::Two(first, second) => {
+            let form = SourceForm::Split(first, second, value, body);
+            Ok((SourceTerm { at, form }, rest))
+        }
+    }
+}
+
+/// What stands behind `if`.
+#[cycle(reader)]
+#[tactic(auto, unfolding(fst_type_syntax::specs::Reading::bind, fst_type_syntax::specs::Reading::andthen, fst_type_syntax::specs::Reading::mapped, crate::specs::TermReading::if_with))]
+fn if_else<'a>(
+    alloc: Global,
+    left: u32,
+    at: u32,
+    tokens: &'a [Lexeme<'a>],
+) -> Result<(SourceTerm, &'a [Lexeme<'a>]), Stop<'a>>
+    ensures { Gives (λ x. (x.0, x.1.now)) result (if_with (expr_at left) at tokens.now) }
+{
+    let (condition, rest) = expr(alloc, left, tokens)?;
+    let condition = Box::new(alloc, condition)?;
+    let rest = expect("then", rest)?;
+    let (yes, rest) = expr(alloc, left, rest)?;
+    let yes = Box::new(alloc, yes)?;
+    let rest = expect("else", rest)?;
+    let (no, rest) = expr(alloc, left, rest)?;
+    let no = Box::new(alloc, no)?;
+    let form = SourceForm::If(condition, yes, no);
+    Ok((SourceTerm { at, form }, rest))
+}
+
+/// What stands behind `\`.
+#[cycle(reader)]
+#[tactic(auto, unfolding(fst_type_syntax::specs::Reading::bind, fst_type_syntax::specs::Reading::mapped))]
+fn lambda<'a>(
+    alloc: Global,
+    left: u32,
+    at: u32,
+    tokens: &'a [Lexeme<'a>],
+) -> Result<(SourceTerm, &'a [Lexeme<'a>]), Stop<'a>>
+    ensures { Gives (λ x. (x.0, x.1.now)) result (lambda_with (expr_at left) (length (inside left)) at tokens.now) }
+{
+    let ((name, domain, uses), rest) = parameter(alloc, left, tokens)?;
+    let (body, rest) = expr(alloc, left, rest)?;
+    let body = Box::new(alloc, body)?;
+    let form = SourceForm::Lambda(uses, domain, name, body);
+    Ok((SourceTerm { at, form }, rest))
+}
+
+/// What stands behind `case`.
+#[cycle(reader)]
+fn case_of<'a>(
+    alloc: Global,
+    left: u32,
+    at: u32,
+    tokens: &'a [Lexeme<'a>],
+) -> Result<(SourceTerm, &'a [Lexeme<'a>]), Stop<'a>>
+    ensures { Gives (λ x. (x.0, x.1.now)) result (case_with (expr_at left) at tokens.now) }
+{
+    with_arms(alloc, left, Arms::Case, at, tokens)
+}
+
+/// What stands behind `match`.
+#[cycle(reader)]
+fn match_with<'a>(
+    alloc: Global,
+    left: u32,
+    at: u32,
+    tokens: &'a [Lexeme<'a>],
+) -> Result<(SourceTerm, &'a [Lexeme<'a>]), Stop<'a>>
+    ensures { Gives (λ x. (x.0, x.1.now)) result (match_with (expr_at left) at tokens.now) }
+{
+    with_arms(alloc, left, Arms::Match, at, tokens)
+}
+
+/// What stands behind `case` or `match`.
+#[cycle(reader)]
+#[tactic(auto, using(crate::proofs::Inside::arms_parts), unfolding(fst_type_syntax::specs::Reading::bind, fst_type_syntax::specs::Reading::andthen, fst_type_syntax::specs::Reading::mapped, crate::specs::TermReading::arms_with, crate::specs::Levels::choice_with))]
+fn with_arms<'a>(
+    alloc: Global,
+    left: u32,
+    kind: Arms,
+    at: u32,
+    tokens: &'a [Lexeme<'a>],
+) -> Result<(SourceTerm, &'a [Lexeme<'a>]), Stop<'a>>
+    ensures { Gives (λ x. (x.0, x.1.now)) result (choice_with kind (expr_at left) at tokens.now) }
+{
+    let (subject, rest) = expr(alloc, left, tokens)?;
+    let subject = Box::new(alloc, subject)?;
+    let rest = expect(word_of(kind), rest)?;
+    let rest = expect("{", rest)?;
+    let (arms, rest) = arms(alloc, left, kind, rest)?;
+    let rest = expect("}", rest)?;
+    Ok((choose(kind, at, subject, arms), rest))
+}
+
+/// The arms with commas between them.
+#[cycle(reader)]
+fn arms<'a>(
+    alloc: Global,
+    left: u32,
+    kind: Arms,
+    tokens: &'a [Lexeme<'a>],
+) -> Result<(Vec<SourceArm>, &'a [Lexeme<'a>]), Stop<'a>>
+    ensures { Gives (λ x. (map arm_parts x.0.items, x.1.now)) result (separated (spells (codes ",")) (arm_by kind (expr_at left)) tokens.now) }
+{
+    let mut arms = Vec::new(alloc);
+    let mut rest = tokens;
+    for _ in 0..tokens.len() {
+        let (arm, remaining) = arm(alloc, left, kind, rest)?;
+        arms.push(arm)?;
+        if !comes(",", remaining) {
+            return Ok((arms, remaining));
+        }
+        rest = behind(remaining);
+    }
+    Err(Stop::Syntax(rest))
+}
+
+/// One arm.
+#[cycle(reader)]
+#[tactic(auto, unfolding(fst_type_syntax::specs::Reading::bind, fst_type_syntax::specs::Reading::mapped))]
+fn arm<'a>(
+    alloc: Global,
+    left: u32,
+    kind: Arms,
+    tokens: &'a [Lexeme<'a>],
+) -> Result<(SourceArm, &'a [Lexeme<'a>]), Stop<'a>>
+    ensures { Gives (λ x. (arm_parts x.0, x.1.now)) result (arm_by kind (expr_at left) tokens.now) }
+{
+    let ((label, binders), rest) = arm_head(alloc, kind, tokens)?;
+    let (body, rest) = expr(alloc, left, rest)?;
+    Ok((
+        SourceArm {
+            label,
+            binders,
+            body,
+        },
+        rest,
+    ))
+}
