@@ -6,7 +6,7 @@ use Rattle.fst_io.specs.Faults.{Rose}
 use Rattle.fst_io.specs.GivingUp.{TookPart}
 use Rattle.fst_command.specs.declared.status.Status.{Status}
 use Rattle.fst_command.specs.declared.status.Status.TheVariants as status
-use Rattle.fst_command.specs.Words.{IsEquiv}
+use Rattle.fst_command.specs.Words.{Command, IsCommand}
 use Rattle.fst_command.specs.Output.{IsOutput}
 use Rattle.fst_command.specs.Top.{Told, IsAnswered, Meets, GaveUp}
 
@@ -35,11 +35,11 @@ out_of_room s words source read sink written text n a w =
     inr (record { text = text; status = s; count = n; short = w.0; answered = a; front = w.1 })
 
 -- what was read to its end for a command is what its output says
-pub read_whole : (s : Status) (words : List (List ℕ)) (budget : ℕ) (old new : Told) (bytes text : List ℕ) → IsEquiv words budget → Consumes old.bytes new.bytes bytes → IsAtEnd new.bytes →
+pub read_whole : (s : Status) (words : List (List ℕ)) (c : Command) (old new : Told) (bytes text : List ℕ) → IsCommand words c → Consumes old.bytes new.bytes bytes → IsAtEnd new.bytes →
     IsOutput words bytes text s → IsAnswered words old new text s
-read_whole status.Words words budget old new bytes text command read end o = absurd (o.0 budget command)
-read_whole status.Limit words budget old new bytes text command read end o = (bytes, (read, λ short. end), o)
-read_whole status.Done words budget old new bytes text command read end o = (bytes, (read, end), o)
-read_whole status.Refused words budget old new bytes text command read end o = (bytes, (read, end), o)
-read_whole status.Undecided words budget old new bytes text command read end o = (bytes, (read, end), o)
-read_whole _ words budget old new bytes text command read end o = absurd o
+read_whole status.Words words c old new bytes text command read end o = absurd (o.0 c command)
+read_whole status.Limit words c old new bytes text command read end o = (bytes, (read, λ short. end), o)
+read_whole status.Done words c old new bytes text command read end o = (bytes, (read, end), o)
+read_whole status.Refused words c old new bytes text command read end o = (bytes, (read, end), o)
+read_whole status.Undecided words c old new bytes text command read end o = (bytes, (read, end), o)
+read_whole _ words c old new bytes text command read end o = absurd o

@@ -1,5 +1,5 @@
 -- The words of the command line.
-use Rattle.std.proofs.Common.{◌≡◌, ◌∙◌, ℕ, ◌≤◌, ◌<◌, ◌-◌, List, [], ◌∷◌, length, map, get_or, take, drop, Bool, true, false, Option, Some, None, Result, Ok, sym, ap, subst, arith, rules}
+use Rattle.std.proofs.Common.{◌≡◌, ◌∙◌, ℕ, ◌≤◌, ◌<◌, ◌-◌, List, [], ◌∷◌, length, map, get_or, take, drop, Bool, true, false, Option, Some, None, Result, Ok, refl, sym, ap, subst, arith, rules}
 use Rattle.std.specs.Prelude.{MatchOption, codes, ◌==◌}
 use Rattle.std.proofs.lemmas.Bool.Decides.{nat_tests}
 use Rattle.std.specs.List.{list_all}
@@ -9,7 +9,7 @@ use Rattle.std.specs.Str.Parse.{ParsesUnsigned, digits_value}
 use Rattle.std.proofs.lemmas.Slice.Eq.{bytes_eq-Decides}
 use Rattle.std.proofs.lemmas.Str.Parse.{IsNumeralModel, numerals_by_value, parse_gives, digits_value_short}
 use Rattle.std.proofs.Math.Seq.{take-length}
-use Rattle.fst_command.specs.Words.{IsBudget, IsOption, IsEquiv, NoCommand}
+use Rattle.fst_command.specs.Words.{IsBudget, IsOption, IsEquiv, equiv, show, IsShow, NoCommand}
 
 own : IsNumeralModel (λ ds. list_all is_ascii_digit ds ≡ true) (digits_value 10)
 own = numerals_by_value _ (search rules)
@@ -48,7 +48,7 @@ two_words f (v ∷ u ∷ x ∷ ws) w d test word digits r first second some few 
 pub first_word : {A : Type 0} (f : A → List ℕ) (ws : List A) (w : A) (test : Bool) (word : List ℕ) (r : Option ℕ) →
     w ≡ get_or ws 0 w → 1 ≤ length ws → word ≡ f w → test ≡ bytes_eq word (codes "equiv") → test ≡ true →
     MatchOption r ((n : ℕ) → IsOption (map f (take (length ws - 1) (drop 1 ws))) n → ⊥) (IsOption (map f (take (length ws - 1) (drop 1 ws)))) →
-    MatchOption r (NoCommand (map f ws)) (IsEquiv (map f ws))
+    MatchOption r ((n : ℕ) → IsEquiv (map f ws) n → ⊥) (IsEquiv (map f ws))
 first_word f [] w test word r first some is_word eq holds h = absurd (omega arith)
 first_word f (v ∷ ws) w test word r first some is_word eq holds h =
     by r (subst (λ x. MatchOption r ((n : ℕ) → IsOption (map f x) n → ⊥) (IsOption (map f x))) all h)
@@ -62,6 +62,31 @@ first_word f (v ∷ ws) w test word r first some is_word eq holds h =
     command : f v ≡ codes "equiv"
     command = ap f (sym first) ∙ sym is_word ∙ equal word (codes "equiv") test eq holds
 
-    by : (r : Option ℕ) → MatchOption r ((n : ℕ) → IsOption (map f ws) n → ⊥) (IsOption (map f ws)) → MatchOption r (NoCommand (f v ∷ map f ws)) (IsEquiv (f v ∷ map f ws))
+    by : (r : Option ℕ) → MatchOption r ((n : ℕ) → IsOption (map f ws) n → ⊥) (IsOption (map f ws)) → MatchOption r ((n : ℕ) → IsEquiv (f v ∷ map f ws) n → ⊥) (IsEquiv (f v ∷ map f ws))
     by None h = λ n both. h n both.1
     by (Some n) h = (command, h)
+
+abbrev one : List ℕ → List (List ℕ)
+one w = w ∷ []
+
+-- the only word is `show` or not
+pub only_word : {A : Type 0} (f : A → List ℕ) (ws : List A) (w : A) (test : Bool) (word : List ℕ) → w ≡ get_or ws 0 w → 1 ≤ length ws → length ws < 2 → word ≡ f w → test ≡ bytes_eq word (codes "show") →
+    IsShow test (map f ws)
+only_word f [] w test word first some few is_word eq = absurd (omega (arith, some))
+only_word f (v ∷ u ∷ ws) w test word first some few is_word eq = absurd (omega (arith, few))
+only_word f (v ∷ []) w test word first some few is_word eq = by_test test eq
+  where
+    same : f v ≡ word
+    same = ap f (sym first) ∙ sym is_word
+
+    by_test : (b : Bool) → b ≡ bytes_eq word (codes "show") → IsShow b (f v ∷ [])
+    by_test true e = ap one (same ∙ equal word (codes "show") true e refl)
+    by_test false e = λ is.
+        let head : f v ≡ codes "show" = cc in
+        let both = e ∙ (bytes_eq-Decides word (codes "show")).1 (sym same ∙ head) in
+        absurd cc
+
+-- words that are neither of the two are none
+pub neither : (words : List (List ℕ)) → IsShow false words → ((n : ℕ) → IsEquiv words n → ⊥) → NoCommand words
+neither words no_show no_equiv (equiv n) c = no_equiv n c
+neither words no_show no_equiv show c = no_show c

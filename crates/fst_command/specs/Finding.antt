@@ -1,5 +1,6 @@
--- What an input is: a question of two session types, or why it is none. What comes first in the order of refusals is
--- found: tokens, then syntax and nesting, then names and sizes, then kinds, in each from left to right.
+-- What an input is: for `equiv` a question of two session types and for `show` a module, or why it is none. What comes
+-- first in the order of refusals is found: tokens, then syntax and nesting, then names and sizes, then kinds, in each from
+-- left to right. For `show` only tokens, syntax and nesting count.
 use Rattle.std.specs.Prelude.{◌≡◌, ◌≢◌, ℕ, Bool, true, false, nat_le, List, [], ◌∷◌, Option, Some, None, Result, Ok, Err, if◌then◌else◌}
 use Rattle.fst_types.specs.Tree.{Tree}
 use Rattle.fst_types.specs.WrittenTree.{WrittenTree}
@@ -16,16 +17,20 @@ use Rattle.fst_type_syntax.specs.declared.fault.SyntaxFault.{SyntaxFault}
 use Rattle.fst_type_syntax.specs.declared.fault.SyntaxFault.TheVariants as syntax
 use Rattle.fst_type_syntax.specs.Grammar.{Asked}
 use Rattle.fst_type_syntax.specs.Derives.{AnswersQuestion}
+use Rattle.fst_terms.specs.ModuleTree.{Declared}
+use Rattle.fst_syntax.specs.Derives.{AnswersModule}
 use Rattle.fst_print.specs.declared.refusals.Phrase.{Phrase}
 use Rattle.fst_print.specs.declared.refusals.Phrase.TheVariants as phrase
 use Rattle.fst_command.specs.Limits.{most_nodes}
+use Rattle.fst_command.specs.Words.{Command, equiv, show}
 
--- an input is refused at a byte, or over a limit there, or asks about two types that begin at two bytes
+-- an input is refused at a byte, or over a limit there, or asks about two types that begin at two bytes, or is a module
 pub data Finding : Type 0 where
   refused : ℕ → Phrase → Finding
   too_deep : ℕ → Finding
   too_large : ℕ → Finding
   asked : Tree → Tree → ℕ → ℕ → Finding
+  shown : List Declared → Finding
 
 -- the bytes have no tokens; of want of memory nothing is found
 abbrev pub lexical_finding : LexFault → Finding
@@ -89,8 +94,21 @@ question_finding q = with_binders q.binders (typed (place q.left) (place q.right
     with_binders [] f = f
     with_binders (b ∷ bs) f = refused 0 phrase.Syntax
 
--- what the bytes are
-pub data Finds (bytes : List ℕ) (f : Finding) : Type 0 where
-  no_tokens : (e : LexFault) → Refuses bytes e → e ≢ lexical.Memory → f ≡ lexical_finding e → Finds bytes f
-  no_question : (tokens : List Token) (e : SyntaxFault) → Lexes bytes tokens → AnswersQuestion bytes tokens (Err e) → e ≢ syntax.Memory → f ≡ syntax_finding e → Finds bytes f
-  question : (tokens : List Token) (q : Asked) → Lexes bytes tokens → AnswersQuestion bytes tokens (Ok q) → f ≡ question_finding q → Finds bytes f
+-- what the bytes are: without tokens, or by what their tokens are read as
+pub data FindsBy {A : Type 0} (Reads : List ℕ → List Token → Result A SyntaxFault → Type 0) (finding : A → Finding) (bytes : List ℕ) (f : Finding) : Type 0 where
+  no_tokens : (e : LexFault) → Refuses bytes e → e ≢ lexical.Memory → f ≡ lexical_finding e → FindsBy Reads finding bytes f
+  no_reading : (tokens : List Token) (e : SyntaxFault) → Lexes bytes tokens → Reads bytes tokens (Err e) → e ≢ syntax.Memory → f ≡ syntax_finding e → FindsBy Reads finding bytes f
+  reading : (tokens : List Token) (x : A) → Lexes bytes tokens → Reads bytes tokens (Ok x) → f ≡ finding x → FindsBy Reads finding bytes f
+
+-- what the bytes are as a question
+abbrev pub Finds : List ℕ → Finding → Type 0
+Finds = FindsBy AnswersQuestion question_finding
+
+-- what the bytes are as a module
+abbrev pub FindsModule : List ℕ → Finding → Type 0
+FindsModule = FindsBy AnswersModule shown
+
+-- what the bytes are for a command
+abbrev pub FindsFor : Command → List ℕ → Finding → Type 0
+FindsFor (equiv n) bytes f = Finds bytes f
+FindsFor show bytes f = FindsModule bytes f

@@ -5,7 +5,7 @@ use Rattle.fst_io.specs.Faults.{Rose}
 use Rattle.fst_command.specs.declared.status.Status.{Status}
 use Rattle.fst_command.specs.declared.status.Status.TheVariants as status
 use Rattle.fst_command.specs.Limits.{most_bytes}
-use Rattle.fst_command.specs.Words.{IsEquiv}
+use Rattle.fst_command.specs.Words.{Command, IsCommand}
 use Rattle.fst_command.specs.Output.{IsOutput}
 
 -- what a source or a sink tells before and after a call: its bytes, where it tells them, and its count of faults
@@ -36,7 +36,7 @@ pub record WasCut (words : List (List ℕ)) (source read sink written : Told) : 
 -- how a run ends, by the words, the source before and after it, and the sink before and after it
 abbrev pub Meets : Status → List (List ℕ) → Told → Told → Told → Told → Type 0
 Meets status.ReadFault words source read sink written =
-    ((budget : ℕ) × IsEquiv words budget) × Rose source.faults read.faults × Appends sink.bytes written.bytes []
+    ((c : Command) × IsCommand words c) × Rose source.faults read.faults × Appends sink.bytes written.bytes []
 Meets status.WriteFault words source read sink written =
     Rose sink.faults written.faults × WasCut words source read sink written
 Meets status.Memory words source read sink written =
@@ -46,6 +46,6 @@ Meets s words source read sink written =
 
 -- why there is no answer
 abbrev pub GaveUp : Status → List (List ℕ) → Told → Told → Type 0
-GaveUp status.ReadFault words source read = ((budget : ℕ) × IsEquiv words budget) × Rose source.faults read.faults
+GaveUp status.ReadFault words source read = ((c : Command) × IsCommand words c) × Rose source.faults read.faults
 GaveUp status.Memory words source read = ⊤
 GaveUp _ words source read = ⊥

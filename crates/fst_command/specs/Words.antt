@@ -1,5 +1,5 @@
 -- The words of the command line.
-use Rattle.std.specs.Prelude.{◌≡◌, ℕ, ◌≤◌, List, [], ◌∷◌, ◌++◌, length, codes, true}
+use Rattle.std.specs.Prelude.{◌≡◌, ℕ, ◌≤◌, List, [], ◌∷◌, ◌++◌, length, codes, Bool, true, false}
 use Rattle.std.specs.List.{list_all}
 use Rattle.std.specs.Char.{is_ascii_digit}
 use Rattle.std.specs.Str.Parse.{digits_value}
@@ -36,6 +36,21 @@ abbrev pub IsEquiv : List (List ℕ) → ℕ → Type 0
 IsEquiv [] n = ⊥
 IsEquiv (w ∷ ws) n = (w ≡ codes "equiv") × IsOption ws n
 
+-- a command: whether two types are equivalent, within a budget, or the canonical text of a module
+pub data Command : Type 0 where
+  equiv : ℕ → Command
+  show : Command
+
+-- the words of a command
+abbrev pub IsCommand : List (List ℕ) → Command → Type 0
+IsCommand words (equiv n) = IsEquiv words n
+IsCommand words show = words ≡ codes "show" ∷ []
+
+-- whether the words are those of `show`
+abbrev pub IsShow : Bool → List (List ℕ) → Type 0
+IsShow true words = words ≡ codes "show" ∷ []
+IsShow false words = words ≡ codes "show" ∷ [] → ⊥
+
 -- the words aren't those of a command
 abbrev pub NoCommand : List (List ℕ) → Type 0
-NoCommand words = (n : ℕ) → IsEquiv words n → ⊥
+NoCommand words = (c : Command) → IsCommand words c → ⊥

@@ -1,13 +1,16 @@
 ghost use Rattle.std.specs.Prelude.{◌≡◌, ◌≤◌, [], IfOk, List, ℕ, length};
 ghost use Rattle.fst_kinds.specs.WellFormed.{IsSession};
 ghost use Rattle.fst_command.specs.Limits.{most_bytes};
-ghost use Rattle.fst_command.specs.Words.{IsEquiv};
+ghost use Rattle.fst_command.specs.Words.{Command, IsCommand, IsEquiv, show};
+ghost use Rattle.fst_command.specs.Finding.{FindsFor};
+ghost use Rattle.fst_command.specs.Views.{fault_finding};
 ghost use Rattle.fst_command.specs.Output.{IsAnswerTo, IsOutput};
 
-use crate::finding::{Finding, Question, find};
+use crate::finding::{Fault, Question, find, find_module};
 use crate::status::Status;
 use crate::texts::{no_text, refused_text, too_deep_text, too_large_text, undecided_text};
 use fst_equiv::{EquivFault, Verdict, ask};
+use fst_print::module_text;
 use std::alloc::{AllocError, Global};
 
 /// The greatest number of bytes of an input.
@@ -51,6 +54,27 @@ fn answer_session(
     }
 }
 
+/// The answer to an input that isn't what its command is for.
+fn answer_fault(alloc: Global, bytes: &[u8], fault: Fault) -> Result<Answer, AllocError>
+    requires short { length bytes.now ≤ most_bytes }
+    ensures { IfOk result (λ a. (c : Command) (words : List (List ℕ)) → FindsFor c bytes.now (fault_finding fault) → IsCommand words c → IsOutput words bytes.now a.text.items a.status) }
+{
+    match fault {
+        Fault::Refused(at, phrase) => Ok(Answer {
+            status: Status::Refused,
+            text: refused_text(alloc, bytes, at, phrase)?.into_bytes(),
+        }),
+        Fault::TooDeep(at) => Ok(Answer {
+            status: Status::Limit,
+            text: too_deep_text(alloc, bytes, at)?.into_bytes(),
+        }),
+        Fault::TooLarge(at) => Ok(Answer {
+            status: Status::Limit,
+            text: too_large_text(alloc, bytes, at)?.into_bytes(),
+        }),
+    }
+}
+
 /// The answer to an input of the command `equiv` within a budget of pairs.
 pub(crate) fn answer_equiv(alloc: Global, bytes: &[u8], budget: u32) -> Result<Answer, AllocError>
     requires budget { 1 ≤ budget }
@@ -58,19 +82,22 @@ pub(crate) fn answer_equiv(alloc: Global, bytes: &[u8], budget: u32) -> Result<A
     ensures { IfOk result (λ a. (words : List (List ℕ)) → IsEquiv words budget → IsOutput words bytes.now a.text.items a.status) }
 {
     match find(alloc, bytes)? {
-        Finding::Refused(at, phrase) => Ok(Answer {
-            status: Status::Refused,
-            text: refused_text(alloc, bytes, at, phrase)?.into_bytes(),
+        Ok(question) => answer_session(alloc, bytes, &question, budget),
+        Err(fault) => answer_fault(alloc, bytes, fault),
+    }
+}
+
+/// The answer to an input of the command `show`.
+pub(crate) fn answer_show(alloc: Global, bytes: &[u8]) -> Result<Answer, AllocError>
+    requires short { length bytes.now ≤ most_bytes }
+    ensures { IfOk result (λ a. (words : List (List ℕ)) → IsCommand words show → IsOutput words bytes.now a.text.items a.status) }
+{
+    match find_module(alloc, bytes)? {
+        Ok(module) => Ok(Answer {
+            status: Status::Done,
+            text: module_text(alloc, &module)?.into_bytes(),
         }),
-        Finding::TooDeep(at) => Ok(Answer {
-            status: Status::Limit,
-            text: too_deep_text(alloc, bytes, at)?.into_bytes(),
-        }),
-        Finding::TooLarge(at) => Ok(Answer {
-            status: Status::Limit,
-            text: too_large_text(alloc, bytes, at)?.into_bytes(),
-        }),
-        Finding::Asked(question) => answer_session(alloc, bytes, &question, budget),
+        Err(fault) => answer_fault(alloc, bytes, fault),
     }
 }
 

@@ -9,13 +9,15 @@ ghost use Rattle.fst_terms.specs.Naming.{place};
 ghost use Rattle.fst_type_syntax.specs.declared.fault.SyntaxFault.TheVariants as syntax;
 ghost use Rattle.fst_type_syntax.specs.Views.{asked};
 ghost use Rattle.fst_command.specs.Limits.{most_bytes};
-ghost use Rattle.fst_command.specs.Finding.{Finds, kind_phrase, kinded, lexical_finding, question_finding, resolved, session_kind, syntax_finding};
-ghost use Rattle.fst_command.specs.Views.{AreSessions, finding_of, resolution_of};
+ghost use Rattle.fst_command.specs.Finding.{Finds, FindsModule, kind_phrase, kinded, lexical_finding, question_finding, resolved, session_kind, syntax_finding};
+ghost use Rattle.fst_command.specs.Views.{AreSessions, fault_finding, module_found, question_found, resolution_of};
 
 use crate::naming::{Names, named, nodes, unbound};
 use fst_kinds::{KindFault, kind_of, subkind};
 use fst_lexer::{LexFault, lex};
 use fst_print::Phrase;
+use fst_syntax::read_module;
+use fst_terms::SourceModule;
 use fst_type_syntax::{SourceQuestion, SyntaxFault, read_question};
 use fst_types::{Kind, Prekind, Ty, Use, Written};
 use std::alloc::{AllocError, Global};
@@ -36,56 +38,52 @@ pub(crate) struct Question {
     pub(crate) right_at: u32,
 }
 
-/// What an input is: a question of two session types, or why it is none and where.
+/// Why an input isn't what its command is for, and at which byte.
 #[derive(Drop)]
-pub(crate) enum Finding {
+pub(crate) enum Fault {
     Refused(u32, Phrase),
     TooDeep(u32),
     TooLarge(u32),
-    Asked(Question),
 }
 
 // Why a text without tokens is refused.
-fn lexical(fault: LexFault) -> Result<Finding, AllocError>
-    ensures found { IfOk result (λ f. (fault ≢ lexical.Memory) × (finding_of f ≡ lexical_finding fault)) }
-    ensures sessions { IfOk result AreSessions }
+fn lexical(fault: LexFault) -> Result<Fault, AllocError>
+    ensures { IfOk result (λ f. (fault ≢ lexical.Memory) × (fault_finding f ≡ lexical_finding fault)) }
 {
     match fault {
-        LexFault::NotUtf8(at) => Ok(Finding::Refused(at, Phrase::NotUtf8)),
-        LexFault::BadChar(at) => Ok(Finding::Refused(at, Phrase::BadChar)),
-        LexFault::WideNumber(at) => Ok(Finding::Refused(at, Phrase::WideNumber)),
-        LexFault::LongName(at) => Ok(Finding::Refused(at, Phrase::LongName)),
+        LexFault::NotUtf8(at) => Ok(Fault::Refused(at, Phrase::NotUtf8)),
+        LexFault::BadChar(at) => Ok(Fault::Refused(at, Phrase::BadChar)),
+        LexFault::WideNumber(at) => Ok(Fault::Refused(at, Phrase::WideNumber)),
+        LexFault::LongName(at) => Ok(Fault::Refused(at, Phrase::LongName)),
         LexFault::Memory => Err(AllocError),
     }
 }
 
-// Why tokens that are no question are refused.
-fn syntactic(fault: SyntaxFault) -> Result<Finding, AllocError>
-    ensures found { IfOk result (λ f. (fault ≢ syntax.Memory) × (finding_of f ≡ syntax_finding fault)) }
-    ensures sessions { IfOk result AreSessions }
+// Why tokens that are no question, or no module, are refused.
+fn syntactic(fault: SyntaxFault) -> Result<Fault, AllocError>
+    ensures { IfOk result (λ f. (fault ≢ syntax.Memory) × (fault_finding f ≡ syntax_finding fault)) }
 {
     match fault {
-        SyntaxFault::Syntax(at) => Ok(Finding::Refused(at, Phrase::Syntax)),
-        SyntaxFault::TooDeep(at) => Ok(Finding::TooDeep(at)),
+        SyntaxFault::Syntax(at) => Ok(Fault::Refused(at, Phrase::Syntax)),
+        SyntaxFault::TooDeep(at) => Ok(Fault::TooDeep(at)),
         SyntaxFault::Memory => Err(AllocError),
     }
 }
 
 // The type that is written, or why it is none.
-fn resolve(alloc: Global, w: &Written) -> Result<Result<Ty, Finding>, AllocError>
+fn resolve(alloc: Global, w: &Written) -> Result<Result<Ty, Fault>, AllocError>
     requires filled { HasBranches w.now }
     ensures found { IfOk result (λ r. resolution_of r ≡ resolved w.now) }
     ensures plain { IfOk result (λ r. IfOk r (λ t. IsScoped 0 t × IsSorted t)) }
-    ensures sessions { IfOk result (λ r. IfErr r AreSessions) }
 {
     let small = nodes(w) <= MAX_NODES;
     match unbound(w, &Names::Outermost) {
         None if small => Ok(Ok(named(alloc, w, &Names::Outermost)?)),
         Some((at, name)) if small || at <= w.at => {
             let name = name.copy(alloc)?;
-            Ok(Err(Finding::Refused(at, Phrase::Unbound(name))))
+            Ok(Err(Fault::Refused(at, Phrase::Unbound(name))))
         }
-        _ => Ok(Err(Finding::TooLarge(w.at))),
+        _ => Ok(Err(Fault::TooLarge(w.at))),
     }
 }
 
@@ -137,19 +135,19 @@ fn kind_phrase(fault: KindFault) -> Phrase
 }
 
 // Two types that are asked about, or the refusal of the first that is no session type.
-fn kinded(alloc: Global, question: Question) -> Result<Finding, AllocError>
+fn kinded(alloc: Global, question: Question) -> Result<Result<Question, Fault>, AllocError>
     requires left { IsScoped 0 question.left × IsSorted question.left }
     requires right { IsScoped 0 question.right × IsSorted question.right }
-    ensures found { IfOk result (λ f. finding_of f ≡ kinded question.left question.right question.left_at question.right_at (session_kind question.left) (session_kind question.right)) }
-    ensures sessions { IfOk result AreSessions }
+    ensures found { IfOk result (λ r. question_found r ≡ kinded question.left question.right question.left_at question.right_at (session_kind question.left) (session_kind question.right)) }
+    ensures sessions { IfOk result (λ r. IfOk r AreSessions) }
 {
     if let Some(fault) = session_fault(alloc, &question.left)? {
-        return Ok(Finding::Refused(question.left_at, kind_phrase(fault)));
+        return Ok(Err(Fault::Refused(question.left_at, kind_phrase(fault))));
     }
     if let Some(fault) = session_fault(alloc, &question.right)? {
-        return Ok(Finding::Refused(question.right_at, kind_phrase(fault)));
+        return Ok(Err(Fault::Refused(question.right_at, kind_phrase(fault))));
     }
-    Ok(Finding::Asked(question))
+    Ok(Ok(question))
 }
 
 // The byte at which a written type begins.
@@ -161,20 +159,23 @@ fn place(w: &Written) -> u32
 
 // What a question is that was read.
 #[tactic(auto, using(crate::proofs::FindingLaws::question_is))]
-fn of_question(alloc: Global, question: &SourceQuestion) -> Result<Finding, AllocError>
-    ensures found { IfOk result (λ f. finding_of f ≡ question_finding (asked question.now)) }
-    ensures sessions { IfOk result AreSessions }
+fn of_question(
+    alloc: Global,
+    question: &SourceQuestion,
+) -> Result<Result<Question, Fault>, AllocError>
+    ensures found { IfOk result (λ r. question_found r ≡ question_finding (asked question.now)) }
+    ensures sessions { IfOk result (λ r. IfOk r AreSessions) }
 {
     if !question.binders.is_empty() {
-        return Ok(Finding::Refused(0, Phrase::Syntax));
+        return Ok(Err(Fault::Refused(0, Phrase::Syntax)));
     }
     let left = match resolve(alloc, &question.left)? {
         Ok(left) => left,
-        Err(found) => return Ok(found),
+        Err(fault) => return Ok(Err(fault)),
     };
     let right = match resolve(alloc, &question.right)? {
         Ok(right) => right,
-        Err(found) => return Ok(found),
+        Err(fault) => return Ok(Err(fault)),
     };
     kinded(
         alloc,
@@ -188,18 +189,37 @@ fn of_question(alloc: Global, question: &SourceQuestion) -> Result<Finding, Allo
 }
 
 /// What the bytes are: a question of two session types, or why they are none.
-pub(crate) fn find(alloc: Global, bytes: &[u8]) -> Result<Finding, AllocError>
+pub(crate) fn find(alloc: Global, bytes: &[u8]) -> Result<Result<Question, Fault>, AllocError>
     requires { length bytes.now ≤ most_bytes }
-    ensures found { IfOk result (λ f. Finds bytes.now (finding_of f)) }
-    ensures sessions { IfOk result AreSessions }
+    ensures found { IfOk result (λ r. Finds bytes.now (question_found r)) }
+    ensures sessions { IfOk result (λ r. IfOk r AreSessions) }
 {
     let tokens = match lex(alloc, bytes) {
         Ok(tokens) => tokens,
-        Err(fault) => return lexical(fault),
+        Err(fault) => return Ok(Err(lexical(fault)?)),
     };
     let text = str::from_utf8(bytes).unwrap();
     match read_question(alloc, &tokens, text) {
         Ok(question) => of_question(alloc, &question),
-        Err(fault) => syntactic(fault),
+        Err(fault) => Ok(Err(syntactic(fault)?)),
+    }
+}
+
+/// What the bytes are: a module, or why they are none.
+pub(crate) fn find_module(
+    alloc: Global,
+    bytes: &[u8],
+) -> Result<Result<SourceModule, Fault>, AllocError>
+    requires { length bytes.now ≤ most_bytes }
+    ensures { IfOk result (λ r. FindsModule bytes.now (module_found r)) }
+{
+    let tokens = match lex(alloc, bytes) {
+        Ok(tokens) => tokens,
+        Err(fault) => return Ok(Err(lexical(fault)?)),
+    };
+    let text = str::from_utf8(bytes).unwrap();
+    match read_module(alloc, &tokens, text) {
+        Ok(module) => Ok(Ok(module)),
+        Err(fault) => Ok(Err(syntactic(fault)?)),
     }
 }

@@ -11,5 +11,5 @@ mod tests;
 mod texts;
 mod words;
 
-pub use run::{one_output, top};
+pub use run::{one_output, shown_again, top};
 pub use status::Status;

@@ -1,13 +1,15 @@
 ghost use Rattle.std.specs.Prelude.{map, IfOk, IfErr, string_bytes};
-ghost use Rattle.fst_command.specs.Output.{OneOutput};
+ghost use Rattle.fst_command.specs.Output.{OneOutput, ShownAgain};
 ghost use Rattle.fst_command.specs.Top.{Meets, IsAnswered, GaveUp};
 
-use crate::answer::{Answer, MAX_LENGTH, answer_equiv, fixed};
+use crate::answer::{Answer, MAX_LENGTH, answer_equiv, answer_show, fixed};
 use crate::status::Status;
-use crate::words::equiv_budget;
+use crate::words::{Command, parse};
 use fst_equiv::one_answer;
 use fst_io::{Gate, ReadFault, Sink, Source, WriteFault, read_all, write_all};
 use fst_lexer::one_lexing;
+use fst_print::read_again;
+use fst_syntax::one_module;
 use fst_type_syntax::one_reading;
 use std::alloc::Global;
 
@@ -23,11 +25,14 @@ fn answer<S: Source>(alloc: Global, words: &[String], source: &mut S) -> Result<
         (record { bytes = S.left source.old; faults = S.faults source.old })
         (record { bytes = S.left source.new; faults = S.faults source.new })) }
 {
-    let Some(budget) = equiv_budget(words) else {
+    let Some(command) = parse(words) else {
         return Ok(fixed(alloc, Status::Words, USAGE)?);
     };
     match read_all(alloc, source, MAX_LENGTH) {
-        Ok(bytes) => Ok(answer_equiv(alloc, &bytes, budget)?),
+        Ok(bytes) => match command {
+            Command::Equiv(budget) => Ok(answer_equiv(alloc, &bytes, budget)?),
+            Command::Show => Ok(answer_show(alloc, &bytes)?),
+        },
         Err(ReadFault::TooLong) => Ok(fixed(alloc, Status::Limit, b"limit length\n")?),
         Err(ReadFault::Failed) => Err(Status::ReadFault),
         Err(ReadFault::Memory) => Err(Status::Memory),
@@ -68,4 +73,13 @@ pub fn one_output()
     one_answer();
     one_lexing();
     one_reading();
+    one_module();
+}
+
+/// What `show` writes of a module it writes again, as far as its limits go.
+pub fn shown_again()
+    ensures { ShownAgain }
+{
+    read_again();
+    one_module();
 }

@@ -1,7 +1,8 @@
 mod bytes;
 mod edges;
+mod shows;
 
-use crate::finding::{Finding, find};
+use crate::finding::find;
 use crate::{Status, top};
 use fst_io::{OpenGate, SteadySink, SteadySource};
 use fst_lts::agree_to;
@@ -286,7 +287,11 @@ equiv --budget=5 --budget=5
 equiv --budget 5 5
 --budget=5 equiv
 equiv --steps=5
-equiv --Budget=5";
+equiv --Budget=5
+Show
+show show
+show --budget=5
+equiv show";
 
 #[test]
 fn other_words_are_refused(rt: HostRuntime) -> Result<(), Fail> {
@@ -364,7 +369,7 @@ fn the_comparison_is_the_definition(rt: HostRuntime) -> Result<(), Fail> {
             let text = format!(in alloc; "{left} ~ {right}")?;
             let run = run_on(&rt, alloc, &["equiv"], text.as_bytes())?;
             assert!(rt; text.len() <= 1_048_576);
-            let Finding::Asked(question) = find(alloc, text.as_bytes())? else {
+            let Ok(question) = find(alloc, text.as_bytes())? else {
                 return Err(Fail::new("no question"));
             };
             let (s, r) = (&question.left, &question.right);

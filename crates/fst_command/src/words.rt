@@ -1,7 +1,8 @@
 ghost use Rattle.std.specs.Prelude.{◌≡◌, ◌++◌, ◌≢◌, ℕ, List, MatchOption, codes, map, string_bytes};
 ghost use Rattle.std.specs.List.{list_all};
 ghost use Rattle.std.specs.Char.{is_ascii_digit};
-ghost use Rattle.fst_command.specs.Words.{IsBudget, IsOption, IsEquiv, NoCommand};
+ghost use Rattle.fst_command.specs.Words.{IsBudget, IsCommand, IsEquiv, IsOption, IsShow, NoCommand};
+ghost use Rattle.fst_command.specs.Views.{command_of};
 
 /// How many pairs a question may have where the words don't say it.
 const DEFAULT_BUDGET: u32 = 1000;
@@ -54,12 +55,45 @@ fn option_budget(words: &[String]) -> Option<u32>
     }
 }
 
-/// The budget of the command `equiv`, or none where the words aren't its words.
-pub(crate) fn equiv_budget(words: &[String]) -> Option<u32>
-    ensures { MatchOption result (NoCommand (map string_bytes words.now)) (IsEquiv (map string_bytes words.now)) }
+/// A command with its options.
+#[derive(Clone, Copy, Debug)]
+pub(crate) enum Command {
+    /// Whether two types are equivalent, within a budget of pairs.
+    Equiv(u32),
+    /// The canonical text of a module.
+    Show,
+}
+
+// The budget of the command `equiv`, or none where the words aren't its words.
+fn equiv_budget(words: &[String]) -> Option<u32>
+    ensures { MatchOption result ((n : ℕ) → IsEquiv (map string_bytes words.now) n → ⊥) (IsEquiv (map string_bytes words.now)) }
 {
     match words {
         [command, options @ ..] if command.as_str() == "equiv" => option_budget(options),
         _ => None,
+    }
+}
+
+// Whether the words are those of the command `show`.
+fn is_show(words: &[String]) -> bool
+    ensures { IsShow result (map string_bytes words.now) }
+{
+    match words {
+        [word] => word.as_str() == "show",
+        _ => false,
+    }
+}
+
+/// The command that the words are, or none.
+#[tactic(auto, using(crate::proofs::WordLaws::neither))]
+pub(crate) fn parse(words: &[String]) -> Option<Command>
+    ensures { MatchOption result (NoCommand (map string_bytes words.now)) (λ c. IsCommand (map string_bytes words.now) (command_of c)) }
+{
+    if is_show(words) {
+        return Some(Command::Show);
+    }
+    match equiv_budget(words) {
+        Some(budget) => Some(Command::Equiv(budget)),
+        None => None,
     }
 }
