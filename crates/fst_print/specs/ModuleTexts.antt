@@ -132,7 +132,7 @@ is_no_head (apply at s t) = false
 is_no_head (make at x ts) = true
 is_no_head t = is_below 8 t
 
--- a number of a token, a truth value
+-- a truth value
 abbrev pub truth_text : Bool → List ℕ
 truth_text true = codes "True"
 truth_text false = codes "False"
