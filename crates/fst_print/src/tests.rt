@@ -1,6 +1,5 @@
 mod codes;
 mod modules;
-mod sources;
 
 use crate::{Phrase, Refusal, refusal_text, side_text, type_text, word_text};
 use codes::{sound, ty};
