@@ -1,8 +1,8 @@
 pub mod OrderLaws
-pub mod ListLaws
 pub mod StateLaws
 pub mod DifferenceLaws
 pub mod Determined
+pub mod OneAnswer
 pub mod RangeLaws
 pub mod LabelLaws
 pub mod RowLaws
@@ -11,3 +11,4 @@ pub mod FollowLaws
 pub mod NotedLaws
 pub mod AnswerLaws
 pub mod TableLaws
+pub mod UnprunedLaws

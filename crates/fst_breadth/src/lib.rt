@@ -4,11 +4,10 @@
 mod answers;
 mod breadth;
 mod following;
+mod law;
 mod rows;
 mod table;
 
 pub use answers::Found;
-pub use breadth::{first_pairs_are_determined, search};
-
-#[cfg(test)]
-mod tests;
+pub use breadth::{search, search_pruned};
+pub use law::{first_pairs_are_determined, search_is_determined};

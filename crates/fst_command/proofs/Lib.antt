@@ -1,8 +1,11 @@
 pub mod WordLaws
-pub mod FindingLaws
-pub mod OutputLaws
-pub mod Runs
-pub mod Heights
 pub mod Places
 pub mod Bound
 pub mod Plain
+pub mod Unbound
+pub mod Placing
+pub mod FindingLaws
+pub mod OneFinding
+pub mod OutputLaws
+pub mod Runs
+pub mod MeaningLaws

@@ -6,8 +6,8 @@ use Rattle.std.specs.Ordering.{nat_cmp}
 use Rattle.std.specs.Cmp.Lexicographic.{slice_cmp}
 use Rattle.fst_types.specs.declared.ty.Branch.{Branch}
 use Rattle.fst_types.specs.Tree.{Tree}
-use Rattle.fst_types.specs.View.{branches_of}
-use Rattle.fst_types.specs.WrittenView.{written_branches}
+use Rattle.fst_types.specs.ModelView.{branches_of}
+use Rattle.fst_types.specs.ModelWrittenView.{written_branches}
 use Rattle.fst_types.specs.declared.written.WrittenBranch.{WrittenBranch}
 use Rattle.std.proofs.lemmas.List.{take_all}
 use Rattle.fst_terms.specs.Naming.{Scope, both, type_of}

@@ -16,19 +16,17 @@ use Rattle.fst_types.specs.Scoped.{IsScoped, AllScoped}
 use Rattle.fst_terms.specs.Arranged.{placed_by, placed}
 use Rattle.fst_terms.specs.Naming.{place_of, or_else, both, type_of, branches_of}
 use Rattle.fst_command.specs.Scopes.{scope_of}
+use Rattle.fst_base.proofs.Options.{mapped_some}
 
-abbrev there : {A : Type 0} → A → Option A
+abbrev pub there : {A : Type 0} → A → Option A
 there x = Some x
 
-some_is : {A : Type 0} (x y : A) → there x ≡ there y → x ≡ y
+-- of two that are there the values are equal
+pub some_is : {A : Type 0} (x y : A) → there x ≡ there y → x ≡ y
 some_is x y e = cc
 
--- what made a value
-mapped_some : {A B : Type 0} (h : A → B) (o : Option A) (y : B) → option_map h o ≡ Some y → (x : A) × (o ≡ Some x) × (h x ≡ y)
-mapped_some h (Some x) y e = (x, refl, some_is (h x) y e)
-mapped_some h None y e = absurd cc
-
-both_some : {A B C : Type 0} (f : A → B → C) (o : Option A) (p : Option B) (z : C) → both f o p ≡ Some z → (x : A) × (y : B) × (o ≡ Some x) × (p ≡ Some y) × (f x y ≡ z)
+-- what makes a value together is there
+pub both_some : {A B C : Type 0} (f : A → B → C) (o : Option A) (p : Option B) (z : C) → both f o p ≡ Some z → (x : A) × (y : B) × (o ≡ Some x) × (p ≡ Some y) × (f x y ≡ z)
 unfolding both
 both_some f (Some x) (Some y) z e = (x, y, refl, refl, some_is (f x y) z e)
 both_some f (Some x) None z e = absurd cc

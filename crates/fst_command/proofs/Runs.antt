@@ -1,45 +1,36 @@
 -- How a run ends.
-use Rattle.std.proofs.Common.{ℕ, inl, inr, List}
-use Rattle.std.specs.Io.KnownBytes.{Appends, Consumes, IsAtEnd}
-use Rattle.std.proofs.KnownBytes.{Appends-nil}
-use Rattle.fst_io.specs.Faults.{Rose}
-use Rattle.fst_io.specs.GivingUp.{TookPart}
+use Rattle.std.proofs.Common.{◌≡◌, ℕ, ◌+◌, List, length, Option, arith}
+use Rattle.std.specs.Io.KnownBytes.{Consumes, IsAtEnd}
+use Rattle.fst_io.specs.GivingUp.{Loses}
+use Rattle.fst_base.specs.Limits.{most_bytes}
 use Rattle.fst_command.specs.declared.status.Status.{Status}
 use Rattle.fst_command.specs.declared.status.Status.TheVariants as status
-use Rattle.fst_command.specs.Words.{Command, IsCommand}
-use Rattle.fst_command.specs.Output.{IsOutput}
-use Rattle.fst_command.specs.Top.{Told, IsAnswered, Meets, GaveUp}
+use Rattle.fst_command.specs.Words.{Command, equiv, show, IsCommand}
+use Rattle.fst_command.specs.Output.{Writes, too_long, command}
+use Rattle.fst_command.specs.Texts.{too_long_text}
+use Rattle.fst_command.specs.Top.{ReadsInput, ReadsFor, IsAnswered}
 
-pub gave_up : (s : Status) (words : List (List ℕ)) (source read sink : Told) → GaveUp s words source read → Meets s words source read sink sink
-gave_up status.ReadFault words source read sink h = (h.0, h.1, Appends-nil sink.bytes)
-gave_up status.Memory words source read sink h = inl (Appends-nil sink.bytes)
-gave_up _ words source read sink h = absurd h
+-- what is read for a command
+reads_for : (c : Command) (old new : Option (List ℕ)) (bytes : List ℕ) → ReadsInput old new bytes → ReadsFor c old new bytes
+reads_for (equiv budget) old new bytes r = r
+reads_for show old new bytes r = r
 
-pub answered : (s : Status) (words : List (List ℕ)) (source read sink written : Told) (text : List ℕ) → IsAnswered words source read text s →
-    Appends sink.bytes written.bytes text → Meets s words source read sink written
-answered status.Done words source read sink written text a w = (text, a, w)
-answered status.Refused words source read sink written text a w = (text, a, w)
-answered status.Limit words source read sink written text a w = (text, a, w)
-answered status.Words words source read sink written text a w = (text, a, w)
-answered status.Undecided words source read sink written text a w = (text, a, w)
-answered _ words source read sink written text a w = absurd a.2
+-- an input that was read to its end has its command's output
+pub read_whole : (s : Status) (words : List (List ℕ)) (c : Command) (old new : Option (List ℕ)) (bytes text : List ℕ) → IsCommand words c → Consumes old new bytes → IsAtEnd new → Writes c bytes text s → IsAnswered words old new text s
+read_whole s words c old new bytes text is read end w = record {
+  bytes = bytes;
+  read = λ d it. reads_for d old new bytes (record { read = read; end = λ short. end });
+  output = command c is w;
+}
 
-pub cut_short : (s : Status) (words : List (List ℕ)) (source read sink written : Told) (text : List ℕ) (n : ℕ) → IsAnswered words source read text s →
-    Rose sink.faults written.faults × TookPart n text sink.bytes written.bytes → Meets status.WriteFault words source read sink written
-cut_short s words source read sink written text n a w =
-    (w.0, record { text = text; status = s; count = n; short = w.1.0; answered = a; front = w.1.1 })
+-- an input that was read up to one byte over the limit is too long
+too_long_written : (c : Command) (bytes text : List ℕ) (s : Status) → length bytes ≡ most_bytes + 1 → text ≡ too_long_text → s ≡ status.Limit → Writes c bytes text s
+too_long_written (equiv budget) bytes text s long w e = too_long long w e
+too_long_written show bytes text s long w e = too_long long w e
 
-pub out_of_room : (s : Status) (words : List (List ℕ)) (source read sink written : Told) (text : List ℕ) (n : ℕ) → IsAnswered words source read text s →
-    TookPart n text sink.bytes written.bytes → Meets status.Memory words source read sink written
-out_of_room s words source read sink written text n a w =
-    inr (record { text = text; status = s; count = n; short = w.0; answered = a; front = w.1 })
-
--- what was read to its end for a command is what its output says
-pub read_whole : (s : Status) (words : List (List ℕ)) (c : Command) (old new : Told) (bytes text : List ℕ) → IsCommand words c → Consumes old.bytes new.bytes bytes → IsAtEnd new.bytes →
-    IsOutput words bytes text s → IsAnswered words old new text s
-read_whole status.Words words c old new bytes text command read end o = absurd (o.0 c command)
-read_whole status.Limit words c old new bytes text command read end o = (bytes, (read, λ short. end), o)
-read_whole status.Done words c old new bytes text command read end o = (bytes, (read, end), o)
-read_whole status.Refused words c old new bytes text command read end o = (bytes, (read, end), o)
-read_whole status.Undecided words c old new bytes text command read end o = (bytes, (read, end), o)
-read_whole _ words c old new bytes text command read end o = absurd o
+pub read_over : (s : Status) (words : List (List ℕ)) (c : Command) (old new : Option (List ℕ)) (text : List ℕ) → IsCommand words c → Loses (most_bytes + 1) old new → text ≡ too_long_text → s ≡ status.Limit → IsAnswered words old new text s
+read_over s words c old new text is lost w e = record {
+  bytes = lost.0;
+  read = λ d it. reads_for d old new lost.0 (record { read = lost.1; end = λ short. absurd (omega (arith, short, lost.2)) });
+  output = command c is (too_long_written c lost.0 text s lost.2 w e);
+}

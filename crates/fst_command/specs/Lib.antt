@@ -1,10 +1,11 @@
-pub mod Limits
 pub mod Status
 pub mod Words
 pub mod Texts
+pub mod Unbound
 pub mod Finding
 pub mod Scopes
 pub mod Arranging
-pub mod Views
 pub mod Output
 pub mod Top
+pub mod Views
+pub mod Meanings

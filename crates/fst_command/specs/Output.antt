@@ -1,18 +1,36 @@
--- Which text and which status belong to which words and which bytes.
+-- Which text and which status belong to which words and which bytes: a command has its own case in `Writes`.
 use Rattle.std.specs.Prelude.{◌≡◌, ℕ, ◌+◌, ◌≤◌, ◌⊎◌, List, [], length}
+use Rattle.fst_base.specs.Limits.{most_bytes}
 use Rattle.fst_types.specs.Tree.{Tree}
-use Rattle.fst_kinds.specs.WellFormed.{IsSession}
 use Rattle.fst_equiv.specs.Answers.{Answer, yes, no, undecided, too_large, Answers}
+use Rattle.fst_terms.specs.Naming.{place}
 use Rattle.fst_terms.specs.ModuleTree.{Declared}
-use Rattle.fst_print.specs.declared.refusals.Phrase.{Phrase}
+use Rattle.fst_type_syntax.specs.Grammar.{Asked}
+use Rattle.fst_type_syntax.specs.Derives.{AnswersQuestion as ReadsQuestion}
+use Rattle.fst_syntax.specs.Derives.{AnswersModule as ReadsModule}
 use Rattle.fst_print.specs.ModuleTexts.{module_text}
 use Rattle.fst_command.specs.declared.status.Status.{Status}
 use Rattle.fst_command.specs.declared.status.Status.TheVariants as status
-use Rattle.fst_command.specs.Limits.{most_bytes}
 use Rattle.fst_command.specs.Words.{Command, equiv, show, IsCommand, NoCommand}
-use Rattle.fst_command.specs.Finding.{Finding, refused, too_deep, asked, shown, FindsFor}
+use Rattle.fst_command.specs.Finding.{Finding, refused, too_deep, IsRead, Asks, IsNoQuestion, IsNoModule}
 use Rattle.fst_command.specs.Finding as finding
 use Rattle.fst_command.specs.Texts.{yes_text, no_text, undecided_text, refused_text, too_deep_text, too_large_text, too_long_text, usage_text}
+
+-- ---- an input that isn't what its command is for
+
+-- the text that says where and why
+abbrev pub finding_text : List ℕ → Finding → List ℕ
+finding_text bytes (refused at phrase) = refused_text bytes at phrase
+finding_text bytes (too_deep at) = too_deep_text bytes at
+finding_text bytes (finding.too_large at) = too_large_text bytes at
+
+-- its status
+abbrev pub finding_status : Finding → Status
+finding_status (refused at phrase) = status.Refused
+finding_status (too_deep at) = status.Limit
+finding_status (finding.too_large at) = status.Limit
+
+-- ---- `equiv`
 
 -- the text of an answer within a budget, where the left type begins at a byte of the input
 abbrev pub answer_text : List ℕ → ℕ → ℕ → Answer → List ℕ
@@ -22,74 +40,62 @@ answer_text bytes at budget undecided = undecided_text budget
 answer_text bytes at budget too_large = too_large_text bytes at
 
 -- the status of an answer
-abbrev pub status_of : Answer → Status
-status_of yes = status.Done
-status_of (no word side) = status.Done
-status_of undecided = status.Undecided
-status_of too_large = status.Limit
+abbrev pub answer_status : Answer → Status
+answer_status yes = status.Done
+answer_status (no word side) = status.Done
+answer_status undecided = status.Undecided
+answer_status too_large = status.Limit
 
 -- this text and status are the answer to the question of two types, of which the left one begins at a byte of the input
 pub record IsAnswerTo (bytes : List ℕ) (left right : Tree) (left_at budget : ℕ) (text : List ℕ) (s : Status) : Type 0 where
   pub answer : Answer
   pub answers : Answers left right budget answer
   pub written : text ≡ answer_text bytes left_at budget answer
-  pub ended : s ≡ status_of answer
+  pub ended : s ≡ answer_status answer
 
--- the words are those of a command, and the bytes, which aren't too long, are this for it
-pub record IsFound (words : List (List ℕ)) (bytes : List ℕ) (c : Command) (f : Finding) : Type 0 where
-  pub command : IsCommand words c
-  pub short : length bytes ≤ most_bytes
-  pub finds : FindsFor c bytes f
-
--- the bytes are a question of two session types, and this text and status are its answer within the words' budget
-pub record AnswersQuestion (words : List (List ℕ)) (bytes text : List ℕ) (s : Status) : Type 0 where
-  pub budget : ℕ
+-- the bytes are a question of two session types, and this text and status are its answer within a budget
+pub record AnswersQuestion (budget : ℕ) (bytes text : List ℕ) (s : Status) : Type 0 where
+  pub question : Asked
   pub left : Tree
   pub right : Tree
-  pub left_at : ℕ
-  pub right_at : ℕ
-  pub found : IsFound words bytes (equiv budget) (asked left right left_at right_at)
-  pub left_session : IsSession [] left
-  pub right_session : IsSession [] right
-  pub answer : IsAnswerTo bytes left right left_at budget text s
+  pub read : IsRead ReadsQuestion bytes question
+  pub asks : Asks question left right
+  pub answer : IsAnswerTo bytes left right (place question.left) budget text s
+
+-- ---- `show`
 
 -- the bytes are a module, and this is its text
-abbrev pub ShowsModule : List (List ℕ) → List ℕ → List ℕ → Type 0
-ShowsModule words bytes text = (ds : List Declared) × IsFound words bytes show (shown ds) × (text ≡ module_text ds)
+pub record ShowsModule (bytes text : List ℕ) (s : Status) : Type 0 where
+  pub declared : List Declared
+  pub read : IsRead ReadsModule bytes declared
+  pub written : text ≡ module_text declared
+  pub ended : s ≡ status.Done
 
--- the bytes aren't what the command is for, and this text says where and why
-abbrev pub IsRefusal : List (List ℕ) → List ℕ → List ℕ → Type 0
-IsRefusal words bytes text = (c : Command) × (at : ℕ) × (phrase : Phrase) × IsFound words bytes c (refused at phrase) × (text ≡ refused_text bytes at phrase)
+-- ---- all commands
 
--- a token is nested too deep, and this text says which
-abbrev pub IsTooDeep : List (List ℕ) → List ℕ → List ℕ → Type 0
-IsTooDeep words bytes text = (c : Command) × (at : ℕ) × IsFound words bytes c (too_deep at) × (text ≡ too_deep_text bytes at)
+-- what is written of an input: that it is too long, or why it isn't what the command is for, or what the command makes of it
+pub data WritesOf (IsNone : List ℕ → Finding → Type 0) (Makes : List ℕ → List ℕ → Status → Type 0) (bytes text : List ℕ) (s : Status) : Type 0 where
+  too_long : length bytes ≡ most_bytes + 1 → text ≡ too_long_text → s ≡ status.Limit → WritesOf IsNone Makes bytes text s
+  is_none : length bytes ≤ most_bytes → (f : Finding) → IsNone bytes f → text ≡ finding_text bytes f → s ≡ finding_status f → WritesOf IsNone Makes bytes text s
+  makes : length bytes ≤ most_bytes → Makes bytes text s → WritesOf IsNone Makes bytes text s
 
--- a type is too large, and this text says which
-abbrev pub IsTooLarge : List (List ℕ) → List ℕ → List ℕ → Type 0
-IsTooLarge words bytes text = (c : Command) × (at : ℕ) × IsFound words bytes c (finding.too_large at) × (text ≡ too_large_text bytes at)
+-- what a command writes of an input
+abbrev pub Writes : Command → List ℕ → List ℕ → Status → Type 0
+Writes (equiv budget) = WritesOf IsNoQuestion (AnswersQuestion budget)
+Writes show = WritesOf IsNoModule ShowsModule
 
--- the input is too long
-pub record IsTooLong (words : List (List ℕ)) (bytes text : List ℕ) : Type 0 where
-  pub asked_for : Command
-  pub command : IsCommand words asked_for
-  pub long : length bytes ≡ most_bytes + 1
-  pub written : text ≡ too_long_text
+-- what is written of words and bytes: the usage line where the words are no command's, with nothing read, and else what
+-- the command writes
+pub data IsOutput (words : List (List ℕ)) (bytes text : List ℕ) (s : Status) : Type 0 where
+  usage : NoCommand words → bytes ≡ [] → text ≡ usage_text → s ≡ status.Words → IsOutput words bytes text s
+  command : (c : Command) → IsCommand words c → Writes c bytes text s → IsOutput words bytes text s
 
--- what is written with a status
-abbrev pub IsOutput : List (List ℕ) → List ℕ → List ℕ → Status → Type 0
-IsOutput words bytes text status.Done = AnswersQuestion words bytes text status.Done ⊎ ShowsModule words bytes text
-IsOutput words bytes text status.Refused = IsRefusal words bytes text
-IsOutput words bytes text status.Words = NoCommand words × (bytes ≡ []) × (text ≡ usage_text)
-IsOutput words bytes text status.Undecided = AnswersQuestion words bytes text status.Undecided
-IsOutput words bytes text status.Limit =
-    IsTooLong words bytes text ⊎ (IsTooDeep words bytes text ⊎ (IsTooLarge words bytes text ⊎ AnswersQuestion words bytes text status.Limit))
-IsOutput words bytes text _ = ⊥
+-- ---- laws
 
 -- words and bytes have at most one output
 abbrev pub OneOutput : Type 0
 OneOutput = (words : List (List ℕ)) (bytes text other : List ℕ) (s t : Status) → IsOutput words bytes text s → IsOutput words bytes other t → (text ≡ other) × (s ≡ t)
 
--- what `show` writes it writes again, or a token of it is too deep
+-- the text of a module that is shown is a module that is shown by the same text, or a token of it is nested too deep
 abbrev pub ShownAgain : Type 0
-ShownAgain = (words : List (List ℕ)) (bytes text : List ℕ) → ShowsModule words bytes text → length text ≤ most_bytes → ShowsModule words text text ⊎ ((at : ℕ) × IsFound words text show (too_deep at))
+ShownAgain = (bytes text : List ℕ) → ShowsModule bytes text status.Done → ShowsModule text text status.Done ⊎ ((at : ℕ) × IsNoModule text (too_deep at))

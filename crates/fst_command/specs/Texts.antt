@@ -18,6 +18,7 @@ no_text w side = codes "no " ++ word_text w ++ codes " " ++ side_text side ++ co
 abbrev pub undecided_text : ℕ → List ℕ
 undecided_text n = codes "undecided " ++ decimal n ++ codes "\n"
 
+-- a line ends with this byte
 abbrev pub is_line_feed : ℕ → Bool
 is_line_feed c = list_any (λ d. d == c) (codes "\n")
 

@@ -1,42 +1,71 @@
 -- What the code finds, as the definitions see it.
-use Rattle.std.specs.Prelude.{[], Result, Ok, Err}
-use Rattle.fst_types.specs.Tree.{Tree}
-use Rattle.fst_kinds.specs.WellFormed.{IsSession}
-use Rattle.fst_terms.specs.ModuleTree.{declarations}
-use Rattle.fst_terms.specs.declared.module.SourceModule.{SourceModule}
-use Rattle.fst_command.specs.Words.{Command, equiv, show}
+use Rattle.std.specs.Prelude.{◌≡◌, ℕ, List, ⊤}
+use Rattle.fst_kinds.specs.declared.fault.KindFault.{KindFault}
+use Rattle.fst_kinds.specs.declared.fault.KindFault.TheVariants as kind
+use Rattle.fst_lexer.specs.declared.token.LexFault.{LexFault}
+use Rattle.fst_lexer.specs.declared.token.LexFault.TheVariants as lexical
+use Rattle.fst_terms.specs.Naming.{place}
+use Rattle.fst_reading.specs.declared.fault.SyntaxFault.{SyntaxFault}
+use Rattle.fst_reading.specs.declared.fault.SyntaxFault.TheVariants as syntax
+use Rattle.fst_type_syntax.specs.Derives.{AnswersQuestion}
+use Rattle.fst_type_syntax.specs.Grammar.{Asked}
+use Rattle.fst_print.specs.declared.refusals.Phrase.TheVariants as phrase
 use Rattle.fst_command.specs.declared.words.Command.{Command as Said}
 use Rattle.fst_command.specs.declared.words.Command.TheVariants as said
 use Rattle.fst_command.specs.declared.finding.Question.{Question}
 use Rattle.fst_command.specs.declared.finding.Fault.{Fault}
 use Rattle.fst_command.specs.declared.finding.Fault.TheVariants as fault
-use Rattle.fst_command.specs.Finding.{Finding, refused, too_deep, too_large, asked, shown}
+use Rattle.fst_command.specs.Words.{Command, equiv, show}
+use Rattle.fst_command.specs.Finding.{Finding, refused, too_deep, too_large, IsRead, Asks}
 
--- what an input with this fault is
-abbrev pub fault_finding : Fault → Finding
-fault_finding (fault.Refused at phrase) = refused at phrase
-fault_finding (fault.TooDeep at) = too_deep at
-fault_finding (fault.TooLarge at) = too_large at
+-- this holds of what a fault says; want of memory says nothing
+abbrev pub IfFound : Fault → (Finding → Type 0) → Type 0
+IfFound (fault.Refused at phrase) P = P (refused at phrase)
+IfFound (fault.TooDeep at) P = P (too_deep at)
+IfFound (fault.TooLarge at) P = P (too_large at)
+IfFound fault.Memory P = ⊤
 
--- a question, or what was found in its place
-abbrev pub question_found : Result Question Fault → Finding
-question_found (Ok q) = asked q.left q.right q.left_at q.right_at
-question_found (Err f) = fault_finding f
+-- a fault isn't want of memory, and this holds of what it says
+abbrev pub Found : Fault → (Finding → Type 0) → Type 0
+Found (fault.Refused at phrase) P = P (refused at phrase)
+Found (fault.TooDeep at) P = P (too_deep at)
+Found (fault.TooLarge at) P = P (too_large at)
+Found fault.Memory P = ⊥
 
--- the two types that are asked about are session types
-abbrev pub AreSessions : Question → Type 0
-AreSessions q = IsSession [] q.left × IsSession [] q.right
+-- the fault of bytes without tokens
+abbrev pub lexical_fault : LexFault → Fault
+lexical_fault (lexical.NotUtf8 at) = fault.Refused at phrase.NotUtf8
+lexical_fault (lexical.BadChar at) = fault.Refused at phrase.BadChar
+lexical_fault (lexical.WideNumber at) = fault.Refused at phrase.WideNumber
+lexical_fault (lexical.LongName at) = fault.Refused at phrase.LongName
+lexical_fault lexical.Memory = fault.Memory
 
--- a module, or what was found in its place
-abbrev pub module_found : Result SourceModule Fault → Finding
-module_found (Ok m) = shown (declarations m)
-module_found (Err f) = fault_finding f
+-- the fault of tokens that are read as nothing
+abbrev pub syntax_fault : SyntaxFault → Fault
+syntax_fault (syntax.Syntax at) = fault.Refused at phrase.Syntax
+syntax_fault (syntax.TooDeep at) = fault.TooDeep at
+syntax_fault syntax.Memory = fault.Memory
 
--- a type, or what was found in its place
-abbrev pub resolution_of : Result Tree Fault → Result Tree Finding
-resolution_of (Ok t) = Ok t
-resolution_of (Err f) = Err (fault_finding f)
+-- the fault of a type that is written at a byte and is no session type
+abbrev pub kind_fault : ℕ → KindFault → Fault
+kind_fault at kind.NotContractive = fault.Refused at phrase.NotContractive
+kind_fault at (kind.WrongKind got wanted) = fault.Refused at (phrase.WrongKind got wanted)
+kind_fault at (kind.UnboundType k) = fault.Refused at (phrase.UnboundType k)
+kind_fault at (kind.DoubleLabel l) = fault.Refused at (phrase.DoubleLabel l)
+kind_fault at kind.Memory = fault.Memory
 
+-- a question asks about the two types, of which the left one begins at the byte that is told
+pub record AsksAbout (q : Asked) (found : Question) : Type 0 where
+  pub asks : Asks q found.left found.right
+  pub place_is : found.left_at ≡ place q.left
+
+-- the bytes are such a question
+pub record IsQuestionOf (bytes : List ℕ) (found : Question) : Type 0 where
+  pub question : Asked
+  pub read : IsRead AnswersQuestion bytes question
+  pub about : AsksAbout question found
+
+-- a command as the definitions have it
 abbrev pub command_of : Said → Command
 command_of (said.Equiv n) = equiv n
 command_of said.Show = show

@@ -8,6 +8,7 @@ use Rattle.std.specs.Str.Parse.{digits_value}
 abbrev pub default_budget : ℕ
 default_budget = 1000
 
+-- the greatest budget
 abbrev pub greatest_budget : ℕ
 greatest_budget = 10000
 

@@ -1,10 +1,9 @@
-ghost use Rattle.std.specs.Prelude.{◌≡◌, ◌≤◌, [], IfOk, List, ℕ, length};
+ghost use Rattle.std.specs.Prelude.{◌≡◌, ◌≤◌, [], IfOk, length};
+ghost use Rattle.fst_base.specs.Limits.{most_bytes};
 ghost use Rattle.fst_kinds.specs.WellFormed.{IsSession};
-ghost use Rattle.fst_command.specs.Limits.{most_bytes};
-ghost use Rattle.fst_command.specs.Words.{Command, IsCommand, IsEquiv, show};
-ghost use Rattle.fst_command.specs.Finding.{FindsFor};
-ghost use Rattle.fst_command.specs.Views.{fault_finding};
-ghost use Rattle.fst_command.specs.Output.{IsAnswerTo, IsOutput};
+ghost use Rattle.fst_command.specs.Words.{equiv, show};
+ghost use Rattle.fst_command.specs.Output.{IsAnswerTo, Writes, finding_status, finding_text};
+ghost use Rattle.fst_command.specs.Views.{Found};
 
 use crate::finding::{Fault, Question, find, find_module};
 use crate::status::Status;
@@ -12,9 +11,6 @@ use crate::texts::{no_text, refused_text, too_deep_text, too_large_text, undecid
 use fst_equiv::{EquivFault, Verdict, ask};
 use fst_print::module_text;
 use std::alloc::{AllocError, Global};
-
-/// The greatest number of bytes of an input.
-pub(crate) const MAX_LENGTH: usize = 1_048_576;
 
 /// What is written, and the status it is written with.
 #[derive(Drop)]
@@ -34,7 +30,8 @@ fn answer_session(
     requires short { length bytes.now ≤ most_bytes }
     requires left { IsSession [] question.now.left }
     requires right { IsSession [] question.now.right }
-    ensures { IfOk result (λ a. IsAnswerTo bytes.now question.now.left question.now.right question.now.left_at budget a.text.items a.status) }
+    ensures { IfOk result (λ a. IsAnswerTo bytes.now question.now.left question.now.right
+        question.now.left_at budget a.text.items a.status) }
 {
     match ask(alloc, &question.left, &question.right, budget) {
         Ok(Verdict::Yes(_)) => fixed(alloc, Status::Done, b"yes\n"),
@@ -56,8 +53,9 @@ fn answer_session(
 
 /// The answer to an input that isn't what its command is for.
 fn answer_fault(alloc: Global, bytes: &[u8], fault: Fault) -> Result<Answer, AllocError>
-    requires short { length bytes.now ≤ most_bytes }
-    ensures { IfOk result (λ a. (c : Command) (words : List (List ℕ)) → FindsFor c bytes.now (fault_finding fault) → IsCommand words c → IsOutput words bytes.now a.text.items a.status) }
+    requires { length bytes.now ≤ most_bytes }
+    ensures { IfOk result (λ a. Found fault (λ f.
+        (a.text.items ≡ finding_text bytes.now f) × (a.status ≡ finding_status f))) }
 {
     match fault {
         Fault::Refused(at, phrase) => Ok(Answer {
@@ -72,6 +70,7 @@ fn answer_fault(alloc: Global, bytes: &[u8], fault: Fault) -> Result<Answer, All
             status: Status::Limit,
             text: too_large_text(alloc, bytes, at)?.into_bytes(),
         }),
+        Fault::Memory => Err(AllocError),
     }
 }
 
@@ -79,9 +78,9 @@ fn answer_fault(alloc: Global, bytes: &[u8], fault: Fault) -> Result<Answer, All
 pub(crate) fn answer_equiv(alloc: Global, bytes: &[u8], budget: u32) -> Result<Answer, AllocError>
     requires budget { 1 ≤ budget }
     requires short { length bytes.now ≤ most_bytes }
-    ensures { IfOk result (λ a. (words : List (List ℕ)) → IsEquiv words budget → IsOutput words bytes.now a.text.items a.status) }
+    ensures { IfOk result (λ a. Writes (equiv budget) bytes.now a.text.items a.status) }
 {
-    match find(alloc, bytes)? {
+    match find(alloc, bytes) {
         Ok(question) => answer_session(alloc, bytes, &question, budget),
         Err(fault) => answer_fault(alloc, bytes, fault),
     }
@@ -89,10 +88,10 @@ pub(crate) fn answer_equiv(alloc: Global, bytes: &[u8], budget: u32) -> Result<A
 
 /// The answer to an input of the command `show`.
 pub(crate) fn answer_show(alloc: Global, bytes: &[u8]) -> Result<Answer, AllocError>
-    requires short { length bytes.now ≤ most_bytes }
-    ensures { IfOk result (λ a. (words : List (List ℕ)) → IsCommand words show → IsOutput words bytes.now a.text.items a.status) }
+    requires { length bytes.now ≤ most_bytes }
+    ensures { IfOk result (λ a. Writes show bytes.now a.text.items a.status) }
 {
-    match find_module(alloc, bytes)? {
+    match find_module(alloc, bytes) {
         Ok(module) => Ok(Answer {
             status: Status::Done,
             text: module_text(alloc, &module)?.into_bytes(),

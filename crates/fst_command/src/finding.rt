@@ -1,31 +1,30 @@
-ghost use Rattle.std.specs.Prelude.{◌≡◌, ◌≢◌, ◌≤◌, [], Err, IfErr, IfNone, IfOk, IfSome, Ok, length};
+ghost use Rattle.std.specs.Prelude.{◌≡◌, ◌≤◌, [], IfErr, IfOk, OnOk, Ok, length, ℕ};
+ghost use Rattle.fst_base.specs.Limits.{most_bytes};
 ghost use Rattle.fst_types.specs.Order.{IsSorted};
 ghost use Rattle.fst_types.specs.Scoped.{IsScoped};
 ghost use Rattle.fst_types.specs.WrittenTree.{HasBranches};
+ghost use Rattle.fst_types.specs.declared.kind.Kind.{Kind};
 ghost use Rattle.fst_kinds.specs.WellFormed.{IsSession};
-ghost use Rattle.fst_kinds.specs.declared.fault.KindFault.TheVariants as kind;
-ghost use Rattle.fst_lexer.specs.declared.token.LexFault.TheVariants as lexical;
+ghost use Rattle.fst_terms.specs.ModuleView.{declarations};
 ghost use Rattle.fst_terms.specs.Naming.{place};
-ghost use Rattle.fst_type_syntax.specs.declared.fault.SyntaxFault.TheVariants as syntax;
 ghost use Rattle.fst_type_syntax.specs.Views.{asked};
-ghost use Rattle.fst_command.specs.Limits.{most_bytes};
-ghost use Rattle.fst_command.specs.Finding.{Finds, FindsModule, kind_phrase, kinded, lexical_finding, question_finding, resolved, session_kind, syntax_finding};
-ghost use Rattle.fst_command.specs.Views.{AreSessions, fault_finding, module_found, question_found, resolution_of};
+ghost use Rattle.fst_syntax.specs.Derives.{AnswersModule};
+ghost use Rattle.fst_command.specs.Unbound.{StandsIn, StandsInOrder};
+ghost use Rattle.fst_command.specs.Finding.{IsFirst, IsTypeFault, IsTypeOf, KindFinding, QuestionFinding, session_kind, IsNoModule, IsNoQuestion, IsRead};
+ghost use Rattle.fst_command.specs.Views.{AsksAbout, IfFound, IsQuestionOf, kind_fault};
 
 use crate::naming::{Names, named, nodes, unbound};
+use fst_base::MOST_NODES;
 use fst_kinds::{KindFault, kind_of, subkind};
 use fst_lexer::{LexFault, lex};
 use fst_print::Phrase;
 use fst_syntax::read_module;
 use fst_terms::SourceModule;
 use fst_type_syntax::{SourceQuestion, SyntaxFault, read_question};
-use fst_types::{Kind, Prekind, Ty, Use, Written};
+use fst_types::{Kind, Name, Prekind, Ty, Use, Written};
 use std::alloc::{AllocError, Global};
 
-/// How many nodes a type may have.
-const MAX_NODES: u64 = 4096;
-
-/// Two types that are asked about, and where they begin in the text.
+/// Two session types that are asked about.
 #[derive(Drop)]
 pub(crate) struct Question {
     /// The type in front of the tilde.
@@ -34,120 +33,59 @@ pub(crate) struct Question {
     pub(crate) right: Ty,
     /// How many bytes stand before the first token of the left type.
     pub(crate) left_at: u32,
-    /// How many bytes stand before the first token of the right type.
-    pub(crate) right_at: u32,
 }
 
 /// Why an input isn't what its command is for, and at which byte.
 #[derive(Drop)]
 pub(crate) enum Fault {
+    /// The input is refused there, for this.
     Refused(u32, Phrase),
+    /// The token there is nested too deep.
     TooDeep(u32),
+    /// The type there is too large.
     TooLarge(u32),
+    /// There was no memory.
+    Memory,
 }
 
-// Why a text without tokens is refused.
-fn lexical(fault: LexFault) -> Result<Fault, AllocError>
-    ensures { IfOk result (λ f. (fault ≢ lexical.Memory) × (fault_finding f ≡ lexical_finding fault)) }
-{
-    match fault {
-        LexFault::NotUtf8(at) => Ok(Fault::Refused(at, Phrase::NotUtf8)),
-        LexFault::BadChar(at) => Ok(Fault::Refused(at, Phrase::BadChar)),
-        LexFault::WideNumber(at) => Ok(Fault::Refused(at, Phrase::WideNumber)),
-        LexFault::LongName(at) => Ok(Fault::Refused(at, Phrase::LongName)),
-        LexFault::Memory => Err(AllocError),
+impl From<AllocError> for Fault {
+    ghost use Rattle.fst_command.specs.declared.finding.Fault.TheVariants.{Memory};
+
+    ghost from_gives = { λ _ f. f ≡ Memory };
+
+    fn from(_error: AllocError) -> Fault {
+        Fault::Memory
     }
 }
 
-// Why tokens that are no question, or no module, are refused.
-fn syntactic(fault: SyntaxFault) -> Result<Fault, AllocError>
-    ensures { IfOk result (λ f. (fault ≢ syntax.Memory) × (fault_finding f ≡ syntax_finding fault)) }
-{
-    match fault {
-        SyntaxFault::Syntax(at) => Ok(Fault::Refused(at, Phrase::Syntax)),
-        SyntaxFault::TooDeep(at) => Ok(Fault::TooDeep(at)),
-        SyntaxFault::Memory => Err(AllocError),
-    }
-}
+impl From<LexFault> for Fault {
+    ghost use Rattle.fst_command.specs.Views.{lexical_fault};
 
-// The type that is written, or why it is none.
-fn resolve(alloc: Global, w: &Written) -> Result<Result<Ty, Fault>, AllocError>
-    requires filled { HasBranches w.now }
-    ensures found { IfOk result (λ r. resolution_of r ≡ resolved w.now) }
-    ensures plain { IfOk result (λ r. IfOk r (λ t. IsScoped 0 t × IsSorted t)) }
-{
-    let small = nodes(w) <= MAX_NODES;
-    match unbound(w, &Names::Outermost) {
-        None if small => Ok(Ok(named(alloc, w, &Names::Outermost)?)),
-        Some((at, name)) if small || at <= w.at => {
-            let name = name.copy(alloc)?;
-            Ok(Err(Fault::Refused(at, Phrase::Unbound(name))))
+    ghost from_gives = { λ e f. f ≡ lexical_fault e };
+
+    fn from(fault: LexFault) -> Fault {
+        match fault {
+            LexFault::NotUtf8(at) => Fault::Refused(at, Phrase::NotUtf8),
+            LexFault::BadChar(at) => Fault::Refused(at, Phrase::BadChar),
+            LexFault::WideNumber(at) => Fault::Refused(at, Phrase::WideNumber),
+            LexFault::LongName(at) => Fault::Refused(at, Phrase::LongName),
+            LexFault::Memory => Fault::Memory,
         }
-        _ => Ok(Err(Fault::TooLarge(w.at))),
     }
 }
 
-// A fault that was found, or the want of memory.
-fn found_fault(fault: KindFault) -> Result<KindFault, AllocError>
-    ensures same { IfOk result (λ f. f ≡ fault) }
-    ensures found { IfOk result (λ f. f ≢ kind.Memory) }
-{
-    match fault {
-        KindFault::Memory => Err(AllocError),
-        fault => Ok(fault),
-    }
-}
+impl From<SyntaxFault> for Fault {
+    ghost use Rattle.fst_command.specs.Views.{syntax_fault};
 
-// The first fault of a type that is no session type.
-fn session_fault(alloc: Global, t: &Ty) -> Result<Option<KindFault>, AllocError>
-    requires scoped { IsScoped 0 t.now }
-    requires sorted { IsSorted t.now }
-    ensures session { IfOk result (λ o. IfNone o (IsSession [] t.now)) }
-    ensures kind { IfOk result (λ o. IfNone o ((k : Kind) × (session_kind t.now ≡ Ok k))) }
-    ensures fault { IfOk result (λ o. IfSome o (λ f. session_kind t.now ≡ Err f)) }
-{
-    let kind = match kind_of(alloc, t, &[]) {
-        Ok(kind) => kind,
-        Err(fault) => return Ok(Some(found_fault(fault)?)),
-    };
-    let wanted = Kind {
-        prekind: Prekind::Session,
-        uses: Use::Once,
-    };
-    if subkind(kind, wanted) {
-        Ok(None)
-    } else {
-        Ok(Some(KindFault::WrongKind(kind, wanted)))
-    }
-}
+    ghost from_gives = { λ e f. f ≡ syntax_fault e };
 
-// What is said of a type's fault.
-fn kind_phrase(fault: KindFault) -> Phrase
-    ensures { result ≡ kind_phrase fault }
-{
-    match fault {
-        KindFault::NotContractive => Phrase::NotContractive,
-        KindFault::WrongKind(got, wanted) => Phrase::WrongKind(got, wanted),
-        KindFault::UnboundType(k) => Phrase::UnboundType(k as u64),
-        KindFault::DoubleLabel(label) => Phrase::DoubleLabel(label),
-        KindFault::Memory => Phrase::Syntax,
+    fn from(fault: SyntaxFault) -> Fault {
+        match fault {
+            SyntaxFault::Syntax(at) => Fault::Refused(at, Phrase::Syntax),
+            SyntaxFault::TooDeep(at) => Fault::TooDeep(at),
+            SyntaxFault::Memory => Fault::Memory,
+        }
     }
-}
-
-// Two types that are asked about, or the refusal of the first that is no session type.
-fn kinded(alloc: Global, question: Question) -> Result<Result<Question, Fault>, AllocError>
-    requires left { IsScoped 0 question.left × IsSorted question.left }
-    requires right { IsScoped 0 question.right × IsSorted question.right }
-    ensures found { IfOk result (λ r. question_found r ≡ kinded question.left question.right question.left_at question.right_at (session_kind question.left) (session_kind question.right)) }
-    ensures sessions { IfOk result (λ r. IfOk r AreSessions) }
-{
-    if let Some(fault) = session_fault(alloc, &question.left)? {
-        return Ok(Err(Fault::Refused(question.left_at, kind_phrase(fault))));
-    }
-    if let Some(fault) = session_fault(alloc, &question.right)? {
-        return Ok(Err(Fault::Refused(question.right_at, kind_phrase(fault))));
-    }
-    Ok(Ok(question))
 }
 
 // The byte at which a written type begins.
@@ -157,69 +95,108 @@ fn place(w: &Written) -> u32
     w.at
 }
 
-// What a question is that was read.
-#[tactic(auto, using(crate::proofs::FindingLaws::question_is))]
-fn of_question(
-    alloc: Global,
-    question: &SourceQuestion,
-) -> Result<Result<Question, Fault>, AllocError>
-    ensures found { IfOk result (λ r. question_found r ≡ question_finding (asked question.now)) }
-    ensures sessions { IfOk result (λ r. IfOk r AreSessions) }
+// That a name stands for nothing.
+fn unbound_phrase(alloc: Global, name: &Name) -> Result<Phrase, AllocError>
+    ensures { IfOk result (λ p. p ≡ Phrase.Unbound name.now) }
+{
+    Ok(Phrase::Unbound(name.copy(alloc)?))
+}
+
+// The type that is written, or the first of its faults of names and sizes.
+fn resolve(alloc: Global, w: &Written) -> Result<Ty, Fault>
+    requires filled { HasBranches w.now }
+    ensures typed { IfOk result (IsTypeOf w.now) }
+    ensures plain { IfOk result (λ t. IsScoped 0 t × IsSorted t) }
+    ensures fault { IfErr result (λ f. IfFound f (λ g.
+        (from to : ℕ) → StandsIn from to w.now → IsFirst (IsTypeFault w.now) g)) }
+{
+    let begin = place(w);
+    match unbound(w, &Names::Outermost) {
+        Some((at, name)) if at <= begin => Err(Fault::Refused(at, unbound_phrase(alloc, name)?)),
+        _ if nodes(w) > MOST_NODES => Err(Fault::TooLarge(begin)),
+        Some((at, name)) => Err(Fault::Refused(at, unbound_phrase(alloc, name)?)),
+        None => Ok(named(alloc, w, &Names::Outermost)?),
+    }
+}
+
+// What a fault of kinds says of a type that begins at this byte.
+fn kind_fault(at: u32, fault: KindFault) -> Fault
+    ensures { result ≡ kind_fault at fault }
+{
+    match fault {
+        KindFault::NotContractive => Fault::Refused(at, Phrase::NotContractive),
+        KindFault::WrongKind(got, wanted) => Fault::Refused(at, Phrase::WrongKind(got, wanted)),
+        KindFault::UnboundType(k) => Fault::Refused(at, Phrase::UnboundType(k as u64)),
+        KindFault::DoubleLabel(label) => Fault::Refused(at, Phrase::DoubleLabel(label)),
+        KindFault::Memory => Fault::Memory,
+    }
+}
+
+// Looks at a type, which begins at this byte: whether it is a session type.
+fn session(alloc: Global, t: &Ty, at: u32) -> Result<(), Fault>
+    requires scoped { IsScoped 0 t.now }
+    requires sorted { IsSorted t.now }
+    ensures session { OnOk result (IsSession [] t.now) }
+    ensures kind { OnOk result ((k : Kind) × (session_kind t.now ≡ Ok k)) }
+    ensures fault { IfErr result (λ f. IfFound f (KindFinding t.now at)) }
+{
+    let kind = match kind_of(alloc, t, &[]) {
+        Ok(kind) => kind,
+        Err(fault) => return Err(kind_fault(at, fault)),
+    };
+    let wanted = Kind {
+        prekind: Prekind::Session,
+        uses: Use::Once,
+    };
+    if subkind(kind, wanted) {
+        Ok(())
+    } else {
+        Err(kind_fault(at, KindFault::WrongKind(kind, wanted)))
+    }
+}
+
+// The two session types that a question which was read asks about, or the first of its faults.
+fn of_question(alloc: Global, question: &SourceQuestion) -> Result<Question, Fault>
+    requires { StandsInOrder (asked question.now) }
+    ensures asks { IfOk result (AsksAbout (asked question.now)) }
+    ensures fault { IfErr result (λ f. IfFound f (QuestionFinding (asked question.now))) }
 {
     if !question.binders.is_empty() {
-        return Ok(Err(Fault::Refused(0, Phrase::Syntax)));
+        return Err(Fault::Refused(0, Phrase::Syntax));
     }
-    let left = match resolve(alloc, &question.left)? {
-        Ok(left) => left,
-        Err(fault) => return Ok(Err(fault)),
-    };
-    let right = match resolve(alloc, &question.right)? {
-        Ok(right) => right,
-        Err(fault) => return Ok(Err(fault)),
-    };
-    kinded(
-        alloc,
-        Question {
-            left,
-            right,
-            left_at: place(&question.left),
-            right_at: place(&question.right),
-        },
-    )
+    let left = resolve(alloc, &question.left)?;
+    let right = resolve(alloc, &question.right)?;
+    let left_at = place(&question.left);
+    session(alloc, &left, left_at)?;
+    session(alloc, &right, place(&question.right))?;
+    Ok(Question {
+        left,
+        right,
+        left_at,
+    })
 }
 
-/// What the bytes are: a question of two session types, or why they are none.
-pub(crate) fn find(alloc: Global, bytes: &[u8]) -> Result<Result<Question, Fault>, AllocError>
+/// What the bytes ask: a question of two session types, or why they are none.
+pub(crate) fn find(alloc: Global, bytes: &[u8]) -> Result<Question, Fault>
     requires { length bytes.now ≤ most_bytes }
-    ensures found { IfOk result (λ r. Finds bytes.now (question_found r)) }
-    ensures sessions { IfOk result (λ r. IfOk r AreSessions) }
+    ensures question { IfOk result (IsQuestionOf bytes.now) }
+    ensures fault { IfErr result (λ f. IfFound f (IsNoQuestion bytes.now)) }
 {
-    let tokens = match lex(alloc, bytes) {
-        Ok(tokens) => tokens,
-        Err(fault) => return Ok(Err(lexical(fault)?)),
-    };
-    let text = str::from_utf8(bytes).unwrap();
-    match read_question(alloc, &tokens, text) {
-        Ok(question) => of_question(alloc, &question),
-        Err(fault) => Ok(Err(syntactic(fault)?)),
-    }
+    let tokens = lex(alloc, bytes)?;
+    // SAFETY: bytes that have tokens are UTF-8.
+    let text = unsafe { str::from_utf8_unchecked(bytes) };
+    let question = read_question(alloc, &tokens, text)?;
+    of_question(alloc, &question)
 }
 
-/// What the bytes are: a module, or why they are none.
-pub(crate) fn find_module(
-    alloc: Global,
-    bytes: &[u8],
-) -> Result<Result<SourceModule, Fault>, AllocError>
+/// The module that the bytes are, or why they are none.
+pub(crate) fn find_module(alloc: Global, bytes: &[u8]) -> Result<SourceModule, Fault>
     requires { length bytes.now ≤ most_bytes }
-    ensures { IfOk result (λ r. FindsModule bytes.now (module_found r)) }
+    ensures module { IfOk result (λ m. IsRead AnswersModule bytes.now (declarations m)) }
+    ensures fault { IfErr result (λ f. IfFound f (IsNoModule bytes.now)) }
 {
-    let tokens = match lex(alloc, bytes) {
-        Ok(tokens) => tokens,
-        Err(fault) => return Ok(Err(lexical(fault)?)),
-    };
-    let text = str::from_utf8(bytes).unwrap();
-    match read_module(alloc, &tokens, text) {
-        Ok(module) => Ok(Ok(module)),
-        Err(fault) => Ok(Err(syntactic(fault)?)),
-    }
+    let tokens = lex(alloc, bytes)?;
+    // SAFETY: bytes that have tokens are UTF-8.
+    let text = unsafe { str::from_utf8_unchecked(bytes) };
+    Ok(read_module(alloc, &tokens, text)?)
 }

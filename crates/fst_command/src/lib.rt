@@ -6,10 +6,8 @@ mod finding;
 mod naming;
 mod run;
 mod status;
-#[cfg(test)]
-mod tests;
 mod texts;
 mod words;
 
-pub use run::{one_output, shown_again, top};
+pub use run::{equiv_meanings, one_output, shown_again, top};
 pub use status::Status;

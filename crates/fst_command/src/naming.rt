@@ -1,10 +1,10 @@
 ghost use Rattle.std.specs.Prelude.{◌≡◌, ◌+◌, ◌-◌, ◌^◌, ◌<◌, ◌≤◌, Some, None, IfOk, IfSome, MatchOption, OnOk, length, min};
 ghost use Rattle.fst_types.specs.Tree as tree;
-ghost use Rattle.fst_types.specs.View as view;
-ghost use Rattle.fst_types.specs.WrittenView.{written_branches};
+ghost use Rattle.fst_types.specs.ModelView as view;
+ghost use Rattle.fst_types.specs.ModelWrittenView.{written_branches};
 ghost use Rattle.fst_terms.specs.Naming.{branches_of, is_there, meaning, nodes, nodes_in, place_of, type_of, unbound, unbound_in};
 ghost use Rattle.fst_command.specs.Arranging.{put};
-ghost use Rattle.fst_command.specs.Limits.{most_nodes};
+ghost use Rattle.fst_base.specs.Limits.{most_nodes};
 ghost use Rattle.fst_command.specs.Scopes.{names_of, scope_of};
 
 use fst_types::{Branch, Name, Ty, TyForm, Written, WrittenBranch, WrittenForm};
@@ -43,7 +43,7 @@ pub(crate) fn nodes(w: &Written) -> u64
 }
 
 #[cycle(nodes)]
-#[tactic(auto, using(crate::proofs::Heights::height_at))]
+#[tactic(auto, using(fst_types::proofs::Laws::written_height_at))]
 fn nodes_in(branches: &[WrittenBranch]) -> u64
     ensures { result ≡ min (nodes_in (written_branches branches.now)) (2 ^ 64 - 1) }
 {
@@ -67,7 +67,9 @@ fn is_bound(names: &Names<'_>, name: &Name) -> bool
 /// The first name in a written type that stands for nothing, and its place.
 #[cycle(unbound)]
 pub(crate) fn unbound<'w>(w: &'w Written, names: &Names<'_>) -> Option<(u32, &'w Name)>
-    ensures { MatchOption result (unbound (scope_of (names_of names.now)) w.now ≡ None) (λ x. unbound (scope_of (names_of names.now)) w.now ≡ Some (x.0, x.1.now)) }
+    ensures { MatchOption result
+        (unbound (scope_of (names_of names.now)) w.now ≡ None)
+        (λ x. unbound (scope_of (names_of names.now)) w.now ≡ Some (x.0, x.1.now)) }
 {
     match &w.form {
         WrittenForm::Skip => None,
@@ -100,9 +102,12 @@ pub(crate) fn unbound<'w>(w: &'w Written, names: &Names<'_>) -> Option<(u32, &'w
 }
 
 #[cycle(unbound)]
-#[tactic(auto, using(crate::proofs::Heights::height_at))]
+#[tactic(auto, using(fst_types::proofs::Laws::written_height_at))]
 fn unbound_in<'w>(branches: &'w [WrittenBranch], names: &Names<'_>) -> Option<(u32, &'w Name)>
-    ensures { MatchOption result (unbound_in (scope_of (names_of names.now)) (written_branches branches.now) ≡ None) (λ x. unbound_in (scope_of (names_of names.now)) (written_branches branches.now) ≡ Some (x.0, x.1.now)) }
+    ensures { MatchOption result
+        (unbound_in (scope_of (names_of names.now)) (written_branches branches.now) ≡ None)
+        (λ x. unbound_in (scope_of (names_of names.now)) (written_branches branches.now)
+        ≡ Some (x.0, x.1.now)) }
 {
     for branch in branches {
         if let Some(found) = unbound(&branch.body, &*names) {
@@ -217,7 +222,9 @@ fn named_branches(
 ) -> Result<Vec<Branch>, AllocError>
     requires bound { unbound_in (scope_of (names_of names.now)) (written_branches branches.now) ≡ None }
     requires size { length (names_of names.now) + nodes_in (written_branches branches.now) ≤ most_nodes }
-    ensures { IfOk result (λ bs. branches_of (scope_of (names_of names.now)) (written_branches branches.now) ≡ Some (view.branches_of bs.items)) }
+    ensures { IfOk result (λ bs.
+        branches_of (scope_of (names_of names.now)) (written_branches branches.now)
+        ≡ Some (view.branches_of bs.items)) }
 {
     match branches {
         [] => Ok(Vec::new(alloc)),

@@ -1,14 +1,19 @@
-ghost use Rattle.std.specs.Prelude.{map, IfOk, IfErr, string_bytes};
+ghost use Rattle.std.specs.Prelude.{◌≡◌, ◌⊎◌, [], map, IfOk, IfErr, string_bytes};
+ghost use Rattle.std.specs.Io.KnownBytes.{Appends};
+ghost use Rattle.fst_io.specs.Faults.{Rose};
+ghost use Rattle.fst_command.specs.Words.{NoCommand};
+ghost use Rattle.fst_command.specs.Meanings.{EquivMeanings};
 ghost use Rattle.fst_command.specs.Output.{OneOutput, ShownAgain};
-ghost use Rattle.fst_command.specs.Top.{Meets, IsAnswered, GaveUp};
+ghost use Rattle.fst_command.specs.Top.{HaveCommand, IsAnswer, IsAnswered, WasCut, WasWritten};
 
-use crate::answer::{Answer, MAX_LENGTH, answer_equiv, answer_show, fixed};
+use crate::answer::{Answer, answer_equiv, answer_show, fixed};
 use crate::status::Status;
 use crate::words::{Command, parse};
+use fst_base::MOST_BYTES;
 use fst_equiv::one_answer;
 use fst_io::{Gate, ReadFault, Sink, Source, WriteFault, read_all, write_all};
 use fst_lexer::one_lexing;
-use fst_print::read_again;
+use fst_roundtrip::read_again;
 use fst_syntax::one_module;
 use fst_type_syntax::one_reading;
 use std::alloc::Global;
@@ -17,18 +22,18 @@ const USAGE: &[u8] = b"usage: freest equiv|show|check|run|make\n";
 
 // Reads the input, where the words want one, and finds the answer.
 fn answer<S: Source>(alloc: Global, words: &[String], source: &mut S) -> Result<Answer, Status>
-    ensures ok { IfOk result (λ a. IsAnswered (map string_bytes words.now)
-        (record { bytes = S.left source.old; faults = S.faults source.old })
-        (record { bytes = S.left source.new; faults = S.faults source.new })
-        a.text.items a.status) }
-    ensures err { IfErr result (λ s. GaveUp s (map string_bytes words.now)
-        (record { bytes = S.left source.old; faults = S.faults source.old })
-        (record { bytes = S.left source.new; faults = S.faults source.new })) }
+    ensures answered { IfOk result (λ a. IsAnswered (map string_bytes words.now)
+        (S.left source.old) (S.left source.new) a.text.items a.status) }
+    ensures whole { IfOk result (λ a. IsAnswer a.status) }
+    ensures no_answer { IfErr result (λ s. (s ≡ Status.ReadFault) ⊎ (s ≡ Status.Memory)) }
+    ensures read_fault { IfErr result (λ s. s ≡ Status.ReadFault →
+        HaveCommand (map string_bytes words.now) × Rose (S.faults source.old) (S.faults source.new)) }
+    ensures unread { NoCommand (map string_bytes words.now) → source.new ≡ source.old }
 {
     let Some(command) = parse(words) else {
         return Ok(fixed(alloc, Status::Words, USAGE)?);
     };
-    match read_all(alloc, source, MAX_LENGTH) {
+    match read_all(alloc, source, MOST_BYTES) {
         Ok(bytes) => match command {
             Command::Equiv(budget) => Ok(answer_equiv(alloc, &bytes, budget)?),
             Command::Show => Ok(answer_show(alloc, &bytes)?),
@@ -39,9 +44,8 @@ fn answer<S: Source>(alloc: Global, words: &[String], source: &mut S) -> Result<
     }
 }
 
-/// Runs the program on its words, its input and its output: it reads the source where the words want it,
-/// writes one text to the sink, and answers how it ended.
-#[tactic(auto, using(crate::proofs::Runs::gave_up, crate::proofs::Runs::answered, crate::proofs::Runs::cut_short, crate::proofs::Runs::out_of_room))]
+/// Runs the program on its words, its input and its output: it reads the source where the words
+/// want it, writes one text to the sink, and answers how it ended.
 pub fn top<R, S: Source, K: Sink, G: Gate + Sync>(
     rt: &R,
     alloc: Global,
@@ -50,11 +54,31 @@ pub fn top<R, S: Source, K: Sink, G: Gate + Sync>(
     sink: &mut K,
     gate: &G,
 ) -> Status
-    ensures { Meets result (map string_bytes words.now)
-        (record { bytes = S.left source.old; faults = S.faults source.old })
-        (record { bytes = S.left source.new; faults = S.faults source.new })
-        (record { bytes = K.taken sink.old; faults = K.faults sink.old })
-        (record { bytes = K.taken sink.new; faults = K.faults sink.new }) }
+    // With the status of an answer, an output of the words and of what was read is written whole.
+    ensures answered { IsAnswer result → WasWritten (map string_bytes words.now)
+        (S.left source.old) (S.left source.new) (K.taken sink.old) (K.taken sink.new) result }
+
+    // A read fault comes only where the source's count rose, for words that want the source, and
+    // nothing is written.
+    ensures read_fault { result ≡ Status.ReadFault →
+        Rose (S.faults source.old) (S.faults source.new) }
+    ensures read_for { result ≡ Status.ReadFault → HaveCommand (map string_bytes words.now) }
+    ensures silent { result ≡ Status.ReadFault → Appends (K.taken sink.old) (K.taken sink.new) [] }
+
+    // A write fault comes only where the sink's count rose, and then a proper prefix of an output
+    // is written.
+    ensures write_fault { result ≡ Status.WriteFault →
+        Rose (K.faults sink.old) (K.faults sink.new) }
+    ensures cut { result ≡ Status.WriteFault → WasCut (map string_bytes words.now)
+        (S.left source.old) (S.left source.new) (K.taken sink.old) (K.taken sink.new) }
+
+    // Want of memory is free: nothing is written then, or a proper prefix of an output.
+    ensures memory { result ≡ Status.Memory → Appends (K.taken sink.old) (K.taken sink.new) []
+        ⊎ WasCut (map string_bytes words.now)
+        (S.left source.old) (S.left source.new) (K.taken sink.old) (K.taken sink.new) }
+
+    // Words that are no command's leave the source as it is.
+    ensures unread { NoCommand (map string_bytes words.now) → source.new ≡ source.old }
 {
     match answer(alloc, words, source) {
         Err(status) => status,
@@ -83,3 +107,9 @@ pub fn shown_again()
     read_again();
     one_module();
 }
+
+/// What the texts of `equiv` say of the two types that are asked about.
+#[tactic(auto, using(crate::proofs::MeaningLaws::equiv_meanings))]
+pub fn equiv_meanings()
+    ensures { EquivMeanings }
+{}

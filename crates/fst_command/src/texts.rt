@@ -1,5 +1,5 @@
 ghost use Rattle.std.specs.Prelude.{◌≡◌, ◌≤◌, ◌++◌, IfOk, OnOk, decimal, length, string_bytes, take};
-ghost use Rattle.fst_command.specs.Limits.{most_bytes};
+ghost use Rattle.fst_base.specs.Limits.{most_bytes};
 ghost use Rattle.fst_command.specs.Texts.{column_of, is_line_feed, line_of, no_text, place_text, refused_text, too_deep_text, too_large_text, undecided_text};
 
 use fst_print::{Phrase, Refusal, refusal_text, side_text, word_text};

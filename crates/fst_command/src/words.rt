@@ -35,7 +35,9 @@ fn budget_of(digits: &str) -> Option<u32>
 
 // The budget of a word that has its value behind `=`.
 fn joined_budget(word: &str) -> Option<u32>
-    ensures { MatchOption result ((n : ℕ) (digits : List ℕ) → word.now ≡ codes "--budget=" ++ digits → IsBudget digits n → ⊥) (λ n. (digits : List ℕ) × (word.now ≡ codes "--budget=" ++ digits) × IsBudget digits n) }
+    ensures { MatchOption result
+        ((n : ℕ) (digits : List ℕ) → word.now ≡ codes "--budget=" ++ digits → IsBudget digits n → ⊥)
+        (λ n. (digits : List ℕ) × (word.now ≡ codes "--budget=" ++ digits) × IsBudget digits n) }
 {
     match word.strip_prefix("--budget=") {
         Some(digits) => budget_of(digits),
@@ -45,7 +47,9 @@ fn joined_budget(word: &str) -> Option<u32>
 
 // The budget that the words behind the command set.
 fn option_budget(words: &[String]) -> Option<u32>
-    ensures { MatchOption result ((n : ℕ) → IsOption (map string_bytes words.now) n → ⊥) (IsOption (map string_bytes words.now)) }
+    ensures { MatchOption result
+        ((n : ℕ) → IsOption (map string_bytes words.now) n → ⊥)
+        (IsOption (map string_bytes words.now)) }
 {
     match words {
         [] => Some(DEFAULT_BUDGET),
@@ -66,7 +70,9 @@ pub(crate) enum Command {
 
 // The budget of the command `equiv`, or none where the words aren't its words.
 fn equiv_budget(words: &[String]) -> Option<u32>
-    ensures { MatchOption result ((n : ℕ) → IsEquiv (map string_bytes words.now) n → ⊥) (IsEquiv (map string_bytes words.now)) }
+    ensures { MatchOption result
+        ((n : ℕ) → IsEquiv (map string_bytes words.now) n → ⊥)
+        (IsEquiv (map string_bytes words.now)) }
 {
     match words {
         [command, options @ ..] if command.as_str() == "equiv" => option_budget(options),
@@ -87,7 +93,9 @@ fn is_show(words: &[String]) -> bool
 /// The command that the words are, or none.
 #[tactic(auto, using(crate::proofs::WordLaws::neither))]
 pub(crate) fn parse(words: &[String]) -> Option<Command>
-    ensures { MatchOption result (NoCommand (map string_bytes words.now)) (λ c. IsCommand (map string_bytes words.now) (command_of c)) }
+    ensures { MatchOption result
+        (NoCommand (map string_bytes words.now))
+        (λ c. IsCommand (map string_bytes words.now) (command_of c)) }
 {
     if is_show(words) {
         return Some(Command::Show);

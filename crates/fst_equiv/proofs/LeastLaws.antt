@@ -11,12 +11,13 @@ use Rattle.fst_types.specs.Order.{label_cmp}
 use Rattle.fst_types.specs.declared.label.Label.{Label}
 use Rattle.fst_types.specs.declared.side.Side.{Side}
 use Rattle.fst_types.specs.declared.side.Side.TheVariants.{Left, Right}
-use Rattle.fst_types.proofs.Labels.{same_label-same, label_cmp_total}
+use Rattle.fst_types.proofs.Laws.{same_label-same, label_cmp_total}
 use Rattle.fst_lts.specs.Step.{step}
-use Rattle.fst_lts.specs.Agree.{Performs, Agree}
-use Rattle.fst_lts.specs.Words.{IsBefore, PerformsAlone, IsLeastDifference}
-use Rattle.fst_lts.proofs.WordLaws.{agree_is_words}
+use Rattle.fst_base.specs.Agreement.{Performs, Agree}
+use Rattle.fst_base.specs.Order.{IsBefore}
+use Rattle.fst_types.specs.Differences.{PerformsAlone, IsLeastDistinguishingTrace}
 use Rattle.fst_equiv.specs.Answers.{no}
+use Rattle.fst_base.proofs.TraceLaws.{agree_is_traces}
 
 -- ---- the order of words is total
 
@@ -59,20 +60,20 @@ one_side s r w Right Left p q = absurd (p.1 q.0)
 one_side s r w Right Right p q = refl
 
 -- at most one word is the least difference
-one_word : (s r : Tree) (v w : List Label) (x y : Side) → IsLeastDifference step step label_cmp s r v x → IsLeastDifference step step label_cmp s r w y → v ≡ w
+one_word : (s r : Tree) (v w : List Label) (x y : Side) → IsLeastDistinguishingTrace step step label_cmp s r v x → IsLeastDistinguishingTrace step step label_cmp s r w y → v ≡ w
 one_word s r v w x y p q = ⊎_elim
     (λ before. absurd (not_both s r v x p.alone (q.least v before)))
     (λ other. ⊎_elim (λ same. same) (λ after. absurd (not_both s r w y q.alone (p.least w after))) other)
     (one_before v w)
 
 -- two answers by a least difference are one
-pub one_no : (s r : Tree) (v w : List Label) (x y : Side) → IsLeastDifference step step label_cmp s r v x → IsLeastDifference step step label_cmp s r w y → no v x ≡ no w y
+pub one_no : (s r : Tree) (v w : List Label) (x y : Side) → IsLeastDistinguishingTrace step step label_cmp s r v x → IsLeastDistinguishingTrace step step label_cmp s r w y → no v x ≡ no w y
 one_no s r v w x y p q =
     let word = one_word s r v w x y p q in
     let side = one_side s r w x y (subst (λ z. PerformsAlone step step s r z x) word p.alone) q.alone in
     λ i. no (word i) (side i)
 
 -- types that agree have no difference
-pub not_yes_and_no : (s r : Tree) (w : List Label) (side : Side) → Agree step step s r → IsLeastDifference step step label_cmp s r w side → ⊥
+pub not_yes_and_no : (s r : Tree) (w : List Label) (side : Side) → Agree step step s r → IsLeastDistinguishingTrace step step label_cmp s r w side → ⊥
 not_yes_and_no s r w side agree d =
-    not_both s r w side d.alone ((agree_is_words step step (length w) s r).0 (agree (length w)) w (omega arith))
+    not_both s r w side d.alone ((agree_is_traces step step (length w) s r).0 (agree (length w)) w (omega arith))

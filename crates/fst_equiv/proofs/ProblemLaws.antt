@@ -1,21 +1,16 @@
 -- Two types within the limits have one grammar, one word each, and one list of marks.
-use Rattle.std.proofs.Common.{◌≡◌, ◌∙◌, inl, inr, ℕ, suc, ◌<◌, List, [], ◌∷◌, length, Bool, true, false, refl, sym, ap, subst, arith}
+use Rattle.std.proofs.Common.{◌≡◌, ◌∙◌, inl, inr, ℕ, suc, ◌<◌, List, [], ◌∷◌, length, Bool, refl, sym, ap, subst, arith}
 use Rattle.fst_types.specs.Tree.{Tree}
 use Rattle.fst_types.specs.declared.kind.Kind.{Kind}
 use Rattle.fst_types.specs.declared.label.Label.{Label}
 use Rattle.fst_kinds.specs.WellFormed.{IsSession}
-use Rattle.fst_words.specs.Words.{Rows}
+use Rattle.fst_words.specs.Words.{Productions}
 use Rattle.fst_norms.specs.Pruned.{AreUnnormed, is_marked}
 use Rattle.fst_grammar.specs.Place.{top_of}
 use Rattle.fst_grammar.specs.Word.{word}
 use Rattle.fst_grammar.specs.Translation.{OneGrammar, IsTooLarge, numbers_of, right_sides}
 use Rattle.fst_equiv.specs.Problem.{IsProblem}
-
--- tests that hold of each other are one
-same_bool : (a b : Bool) → (a ≡ true → b ≡ true) → (b ≡ true → a ≡ true) → a ≡ b
-same_bool true b f g = sym (f refl)
-same_bool false true f g = g refl
-same_bool false false f g = refl
+use Rattle.fst_base.proofs.Bools.{same_bool}
 
 -- lists of marks as long as each other with the same members are one
 same_members : (a b : List Bool) → length a ≡ length b → ((n : ℕ) → n < length a → is_marked a n ≡ is_marked b n) → a ≡ b
@@ -28,7 +23,7 @@ same_members (x ∷ a) (y ∷ b) len h =
     λ i. first i ∷ rest i
 
 -- two largest unnormed sets of one grammar are one
-same_marks : (rows : Rows) (marks others : List Bool) → AreUnnormed rows marks → AreUnnormed rows others → marks ≡ others
+same_marks : (rows : Productions) (marks others : List Bool) → AreUnnormed rows marks → AreUnnormed rows others → marks ≡ others
 same_marks rows marks others a b =
     let p = a.count in
     let q = b.count in
@@ -36,7 +31,7 @@ same_marks rows marks others a b =
     (λ h. b.largest marks n a.set h (omega arith)) (λ h. a.largest others n b.set h (omega arith)))
 
 -- the grammars, words and marks of two problems are the same
-pub record AreSame (letters more : List Label) (rows rules : Rows) (u v x y : List ℕ) (marks others : List Bool) : Type 0 where
+pub record AreSame (letters more : List Label) (rows rules : Productions) (u v x y : List ℕ) (marks others : List Bool) : Type 0 where
   pub labels : letters ≡ more
   pub grammar : rows ≡ rules
   pub left : u ≡ x
@@ -45,12 +40,12 @@ pub record AreSame (letters more : List Label) (rows rules : Rows) (u v x y : Li
 
 -- the problem of two types is determined
 pub one_problem : OneGrammar → (vars others : List Kind) (s r : Tree) → IsSession vars s → IsSession others r →
-    (letters more : List Label) (rows rules : Rows) (u v x y : List ℕ) (marks set : List Bool) → IsProblem s r letters rows u v marks → IsProblem s r more rules x y set →
+    (letters more : List Label) (rows rules : Productions) (u v x y : List ℕ) (marks set : List Bool) → IsProblem s r letters rows u v marks → IsProblem s r more rules x y set →
     AreSame letters more rows rules u v x y marks set
 one_problem one vars others s r left right letters more rows rules u v x y marks set p q =
     let t = p.translation in
     let w = q.translation in
-    let same = one vars others s r left right p.small.0 p.small.1 letters more rows rules t.grammar w.grammar in
+    let same = one vars others s r left right p.small.left p.small.right letters more rows rules t.grammar w.grammar in
     record {
       labels = same.0;
       grammar = same.1;
@@ -61,12 +56,12 @@ one_problem one vars others s r left right letters more rows rules u v x y marks
 
 -- types with a problem aren't too large
 pub problem_small : OneGrammar → (vars others : List Kind) (s r : Tree) → IsSession vars s → IsSession others r →
-    (letters : List Label) (rows : Rows) (u v : List ℕ) (marks : List Bool) → IsProblem s r letters rows u v marks → IsTooLarge s r → ⊥
-problem_small one vars others s r left right letters rows u v marks p (inl (inl over)) = let few = p.small.0 in omega arith
-problem_small one vars others s r left right letters rows u v marks p (inl (inr over)) = let few = p.small.1 in omega arith
+    (letters : List Label) (rows : Productions) (u v : List ℕ) (marks : List Bool) → IsProblem s r letters rows u v marks → IsTooLarge s r → ⊥
+problem_small one vars others s r left right letters rows u v marks p (inl (inl over)) = let few = p.small.left in omega arith
+problem_small one vars others s r left right letters rows u v marks p (inl (inr over)) = let few = p.small.right in omega arith
 problem_small one vars others s r left right letters rows u v marks p (inr large) =
-    let same = one vars others s r left right p.small.0 p.small.1 letters large.0 rows large.1 p.translation.grammar large.2 in
-    let few = p.small.2 in
-    let over = large.3 in
+    let same = one vars others s r left right p.small.left p.small.right letters large.letters rows large.rows p.translation.grammar large.grammar in
+    let few = p.small.letters in
+    let over = large.over in
     let sides = ap right_sides same.1 in
     omega arith

@@ -5,12 +5,12 @@ use Rattle.fst_types.specs.declared.kind.Kind.{Kind}
 use Rattle.fst_types.specs.declared.label.Label.{Label}
 use Rattle.fst_types.specs.declared.side.Side.{Side}
 use Rattle.fst_kinds.specs.WellFormed.{IsSession}
-use Rattle.fst_words.specs.Words.{Rows}
+use Rattle.fst_words.specs.Words.{Productions}
 use Rattle.fst_words.specs.declared.word.Pair.{Pair}
 use Rattle.fst_grammar.specs.Translation.{IsTooLarge}
 use Rattle.fst_equiv.specs.Problem.{IsShownEqual, IsShownDifferent, IsShownSpent}
 
--- agreement at every depth, the least word that one side alone performs with this side, that the budget is spent,
+-- agreement at every depth, the least trace that one side alone performs with this side, that the budget is spent,
 -- or that a type or the grammar is too large
 pub data Answer : Type 0 where
   yes : Answer
@@ -18,12 +18,27 @@ pub data Answer : Type 0 where
   undecided : Answer
   too_large : Answer
 
+-- a grammar, two words and a list of pairs show that two types agree
+pub record AreShownEqual (s r : Tree) (budget : ℕ) : Type 0 where
+  pub letters : List Label
+  pub rows : Productions
+  pub x : List ℕ
+  pub y : List ℕ
+  pub pairs : List Pair
+  pub shown : IsShownEqual s r budget letters rows x y pairs
+
+-- a grammar and a list of pairs show that the budget is spent
+pub record AreShownSpent (s r : Tree) (budget : ℕ) : Type 0 where
+  pub letters : List Label
+  pub rows : Productions
+  pub pairs : List Pair
+  pub shown : IsShownSpent s r budget letters rows pairs
+
 -- the answer to the question of two types
 abbrev pub Answers : Tree → Tree → ℕ → Answer → Type 0
-Answers s r budget yes =
-    (letters : List Label) × (rows : Rows) × (x : List ℕ) × (y : List ℕ) × (pairs : List Pair) × IsShownEqual s r budget letters rows x y pairs
-Answers s r budget (no word side) = IsShownDifferent s r budget word side
-Answers s r budget undecided = (letters : List Label) × (rows : Rows) × (pairs : List Pair) × IsShownSpent s r budget letters rows pairs
+Answers s r budget yes = AreShownEqual s r budget
+Answers s r budget (no trace side) = IsShownDifferent s r budget trace side
+Answers s r budget undecided = AreShownSpent s r budget
 Answers s r budget too_large = IsTooLarge s r
 
 -- a question of two session types has at most one answer

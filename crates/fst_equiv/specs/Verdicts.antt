@@ -1,8 +1,7 @@
 -- What a verdict says of two types.
-use Rattle.std.specs.Prelude.{ℕ, List, Bool}
+use Rattle.std.specs.Prelude.{ℕ, List}
 use Rattle.fst_types.specs.Tree.{Tree}
 use Rattle.fst_words.specs.declared.grammar.Grammar.{Grammar}
-use Rattle.fst_norms.specs.Pruned.{pruned}
 use Rattle.fst_breadth.specs.declared.answers.Found.{Found}
 use Rattle.fst_breadth.specs.declared.answers.Found.TheVariants.{Equal, Differ, Spent}
 use Rattle.fst_equiv.specs.declared.verdict.Certificate.{Certificate}
@@ -19,17 +18,17 @@ Certifies s r budget (Visited g x y pairs) = IsShownEqual s r budget g.letters.i
 -- the verdict is right, and what it holds shows it
 abbrev pub IsVerdict : Tree → Tree → ℕ → Verdict → Type 0
 IsVerdict s r budget (Yes c) = Certifies s r budget c
-IsVerdict s r budget (No word side) = IsShownDifferent s r budget word.items side
+IsVerdict s r budget (No trace side) = IsShownDifferent s r budget trace.items side
 IsVerdict s r budget (Undecided g pairs) = IsShownSpent s r budget g.letters.items g.rules.items pairs.items
 
 -- the answer that a verdict gives
 abbrev pub answer_of : Verdict → Answer
 answer_of (Yes c) = yes
-answer_of (No word side) = no word.items side
+answer_of (No trace side) = no trace.items side
 answer_of (Undecided g pairs) = undecided
 
--- the verdict that the search's answer gives: of two words, and the marks of unnormed non-terminals
-abbrev pub verdict_of : Grammar → List ℕ → List ℕ → List Bool → Found → Verdict
-verdict_of g u v marks (Equal pairs) = Yes (Visited g (pruned marks u) (pruned marks v) pairs)
-verdict_of g u v marks (Differ word side) = No word side
-verdict_of g u v marks (Spent pairs) = Undecided g pairs
+-- the verdict that the search's answer on two pruned words gives
+abbrev pub verdict_of : Grammar → List ℕ → List ℕ → Found → Verdict
+verdict_of g x y (Equal pairs) = Yes (Visited g x y pairs)
+verdict_of g x y (Differ trace side) = No trace side
+verdict_of g x y (Spent pairs) = Undecided g pairs

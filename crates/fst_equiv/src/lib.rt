@@ -3,13 +3,10 @@
 
 mod asking;
 mod fault;
-mod laws;
+mod law;
 mod verdict;
 
 pub use asking::ask;
 pub use fault::EquivFault;
-pub use laws::one_answer;
+pub use law::one_answer;
 pub use verdict::{Certificate, Verdict};
-
-#[cfg(test)]
-mod tests;

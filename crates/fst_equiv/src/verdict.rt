@@ -5,7 +5,7 @@ use fst_words::{Grammar, Pair, Word};
 #[derive(Drop)]
 pub enum Certificate {
     /// The grammar of the two types, their pruned words, and all pairs of different pruned words that these reach, in
-    /// the order of the least sequences that reach them (Almeida, Mordido, Vasconcelos, TACAS 2020).
+    /// the order of the least traces that reach them (Almeida, Mordido, Vasconcelos, TACAS 2020).
     Visited(Grammar, Word, Word, Vec<Pair>),
 }
 
@@ -14,7 +14,7 @@ pub enum Certificate {
 pub enum Verdict {
     /// They agree at every depth, as the certificate shows.
     Yes(Certificate),
-    /// The least word that exactly one side performs, and that side.
+    /// The least trace that exactly one side performs, and that side.
     No(Vec<Label>, Side),
     /// There are more pairs than the budget: the grammar, and as many pairs as the budget, of which none shows a
     /// difference.

@@ -7,7 +7,7 @@ use Rattle.fst_types.specs.Order.{same_label}
 use Rattle.fst_types.specs.declared.label.Label.{Label}
 use Rattle.fst_types.specs.declared.label.Label.TheVariants.{Send, Receive, Select, Offer, Var}
 use Rattle.fst_lts.specs.Step.{terminated}
-use Rattle.fst_grammar.specs.Place.{Place, moved, entered, under}
+use Rattle.fst_grammar.specs.Place.{Place, place_past, own_place, body_place}
 use Rattle.fst_grammar.specs.Word.{Numbers, node_at, word}
 
 -- the rule of a non-terminal for a label
@@ -23,7 +23,7 @@ move rule (n ∷ w) a = option_map (λ v. v ++ w) (rule n a)
 abbrev pub branch_word : Numbers → (List ℕ → Label) → Place → Branches → Label → Option (List ℕ)
 branch_word n make p none a = None
 branch_word n make p (branch l s cs) a =
-    if same_label a (make l) then Some (word n (moved p 1) s) else branch_word n make (moved p (1 + nodes s)) cs a
+    if same_label a (make l) then Some (word n (place_past p 1) s) else branch_word n make (place_past p (1 + nodes s)) cs a
 
 -- a message or variable has its label and the empty word
 abbrev pub IsName : Numbers → Rule → Label → Type 0
@@ -31,11 +31,11 @@ IsName n rule l = (a : Label) → rule (n.name l) a ≡ (if same_label a l then 
 
 -- a choice has, per label, the word of the branch
 abbrev pub IsChoice : Numbers → Rule → (List ℕ → Label) → Place → Branches → Type 0
-IsChoice n rule make p cs = (a : Label) → rule (node_at n p) a ≡ branch_word n make (moved p 1) cs a
+IsChoice n rule make p cs = (a : Label) → rule (node_at n p) a ≡ branch_word n make (place_past p 1) cs a
 
 -- rec x. S has the rules of the word of S: of its first non-terminal, with the rest behind
 abbrev pub IsRec : Numbers → Rule → Place → Tree → Type 0
-IsRec n rule p s = (a : Label) → rule (node_at n p) a ≡ move rule (word n (under p) s) a
+IsRec n rule p s = (a : Label) → rule (node_at n p) a ≡ move rule (word n (body_place p) s) a
 
 -- each non-terminal within the part has its rules
 abbrev mutual
@@ -43,11 +43,11 @@ abbrev mutual
   HasRules n rule p skip = ⊤
   HasRules n rule p (send b) = IsName n rule (Send b)
   HasRules n rule p (receive b) = IsName n rule (Receive b)
-  HasRules n rule p (select cs) = IsChoice n rule Select (entered p (select cs)) cs × HaveRules n rule (moved (entered p (select cs)) 1) cs
-  HasRules n rule p (offer cs) = IsChoice n rule Offer (entered p (offer cs)) cs × HaveRules n rule (moved (entered p (offer cs)) 1) cs
-  HasRules n rule p (seq s r) = HasRules n rule (moved p 1) s × HasRules n rule (moved p (1 + nodes s)) r
+  HasRules n rule p (select cs) = IsChoice n rule Select (own_place p (select cs)) cs × HaveRules n rule (place_past (own_place p (select cs)) 1) cs
+  HasRules n rule p (offer cs) = IsChoice n rule Offer (own_place p (offer cs)) cs × HaveRules n rule (place_past (own_place p (offer cs)) 1) cs
+  HasRules n rule p (seq s r) = HasRules n rule (place_past p 1) s × HasRules n rule (place_past p (1 + nodes s)) r
   HasRules n rule p (rec s) =
-      terminated s ≡ false → (IsRec n rule (entered p (rec s)) s × HasRules n rule (under (entered p (rec s))) s)
+      terminated s ≡ false → (IsRec n rule (own_place p (rec s)) s × HasRules n rule (body_place (own_place p (rec s))) s)
   HasRules n rule p (back k) = ⊤
   HasRules n rule p (var k) = IsName n rule (Var k)
   HasRules n rule p (plain b) = ⊥
@@ -57,4 +57,4 @@ abbrev mutual
 
   pub HaveRules : Numbers → Rule → Place → Branches → Type 0
   HaveRules n rule p none = ⊤
-  HaveRules n rule p (branch l s cs) = HasRules n rule (moved p 1) s × HaveRules n rule (moved p (1 + nodes s)) cs
+  HaveRules n rule p (branch l s cs) = HasRules n rule (place_past p 1) s × HaveRules n rule (place_past p (1 + nodes s)) cs

@@ -1,7 +1,7 @@
 -- The branches of a choice from one of them on.
 use Rattle.std.proofs.Common.{◌≡◌, ◌∙◌, ◌+◌, ◌<◌, ◌≤◌, refl, sym, ap, ℕ, zero, suc, arith, List, [], ◌∷◌, length, drop, get_or, add-one}
 use Rattle.fst_types.specs.Tree.{branch}
-use Rattle.fst_types.specs.View.{branches_of}
+use Rattle.fst_types.specs.ModelView.{branches_of}
 use Rattle.fst_types.specs.declared.ty.Branch.{Branch}
 use Rattle.fst_grammar.specs.Place.{binder}
 

@@ -1,17 +1,16 @@
 -- Types in place of the recursion variables within a part.
 use Rattle.std.proofs.Common.{◌≡◌, ◌∙◌, ◌<◌, ◌≤◌, ℕ, zero, suc, List, [], ◌∷◌, length, true, false, Option, Some, None, refl, ap, arith}
 use Rattle.std.specs.Prelude.{option_map, if◌then◌else◌, ◌&&◌, ⊤}
-use Rattle.std.proofs.lemmas.Bool.{eqb-true}
+use Rattle.std.proofs.lemmas.Bool.{eqb-true, and_parts}
 use Rattle.fst_types.specs.Tree.{Tree, skip, send, receive, select, offer, seq, rec, back, var, plain, arrow, pair, named, Branches, none, branch}
 use Rattle.fst_types.specs.Substitution.{variable, substituted, substituted_all}
 use Rattle.fst_types.specs.Scoped.{IsScoped, AllScoped}
 use Rattle.fst_types.specs.declared.label.Label.{Label}
 use Rattle.fst_lts.specs.Step.{terminated, step_in}
-use Rattle.fst_lts.proofs.GuardLaws.{both_true}
-use Rattle.fst_grammar.specs.Place.{loose, loose_all, is_closed}
+use Rattle.fst_grammar.specs.Place.{open_depth, open_depths, is_closed}
 
 mutual
-  scoped_if_loose : (t : Tree) (n : ℕ) → loose t ≤ n → IsScoped n t
+  scoped_if_loose : (t : Tree) (n : ℕ) → open_depth t ≤ n → IsScoped n t
   scoped_if_loose skip n h = tt
   scoped_if_loose (send b) n h = tt
   scoped_if_loose (receive b) n h = tt
@@ -26,12 +25,12 @@ mutual
   scoped_if_loose (pair s r) n h = (scoped_if_loose s n (omega arith), scoped_if_loose r n (omega arith))
   scoped_if_loose (named k) n h = tt
 
-  all_scoped_if_loose : (cs : Branches) (n : ℕ) → loose_all cs ≤ n → AllScoped n cs
+  all_scoped_if_loose : (cs : Branches) (n : ℕ) → open_depths cs ≤ n → AllScoped n cs
   all_scoped_if_loose none n h = tt
   all_scoped_if_loose (branch l s cs) n h = (scoped_if_loose s n (omega arith), all_scoped_if_loose cs n (omega arith))
 
 pub scoped_if_closed : (t : Tree) → is_closed t ≡ true → IsScoped 0 t
-scoped_if_closed t h = let e : loose t ≡ 0 = eqb-true (loose t) 0 h in scoped_if_loose t 0 (omega arith)
+scoped_if_closed t h = let e : open_depth t ≡ 0 = eqb-true (open_depth t) 0 h in scoped_if_loose t 0 (omega arith)
 
 abbrev pub IsClosed : Tree → Type 0
 IsClosed t = (e : List (Option Tree)) → substituted e t ≡ t
@@ -109,7 +108,7 @@ no_step env (receive b) a e = absurd (cc e)
 no_step env (select cs) a e = absurd (cc e)
 no_step env (offer cs) a e = absurd (cc e)
 no_step env (seq s r) a e =
-    let h = both_true (terminated s) (terminated r) e in
+    let h = and_parts (terminated s) (terminated r) e in
     ap (λ c. if c then step_in env r a else option_map (λ t. seq t (substituted env r)) (step_in env s a)) h.0 ∙ no_step env r a h.1
 no_step env (rec s) a e = no_step (Some (substituted env (rec s)) ∷ env) s a e
 no_step env (back k) a e = absurd (cc e)

@@ -8,23 +8,25 @@ use Rattle.fst_types.specs.declared.kind.Kind.{Kind}
 use Rattle.fst_types.specs.declared.label.Label.{Label}
 use Rattle.fst_kinds.specs.WellFormed.{IsSession}
 use Rattle.fst_words.specs.declared.rules.Rule.{Rule}
-use Rattle.fst_words.specs.Words.{Rows, WordBelow}
+use Rattle.fst_words.specs.Words.{Productions, WordBelow, EachHasRule}
 use Rattle.fst_words.specs.Ordered.{AreOrdered}
 use Rattle.fst_grammar.specs.Place.{top_of}
 use Rattle.fst_grammar.specs.Word.{word}
 use Rattle.fst_grammar.specs.Labels.{labels_in, names}
-use Rattle.fst_grammar.specs.Letters.{inserted_all}
+use Rattle.fst_grammar.specs.Letters.{with_labels}
 use Rattle.fst_grammar.specs.Parts.{Part, parts_of, numbers_by}
 use Rattle.fst_grammar.specs.Equations.{Equation, Solves, equations_by, IsGrounded, AreFine, most_rank}
-use Rattle.fst_grammar.specs.Translation.{IsGrammar, IsTooLarge, right_sides, most_nodes, most_letters}
+use Rattle.fst_grammar.specs.Translation.{IsGrammar, IsTooLarge, right_sides}
 use Rattle.fst_grammar.specs.Done.{IsDone}
 use Rattle.fst_grammar.specs.declared.fault.TranslateFault.{TranslateFault}
 use Rattle.fst_grammar.specs.declared.fault.TranslateFault.TheVariants.{TooLarge}
 use Rattle.fst_grammar.proofs.LabelLaws.{letters_are}
 use Rattle.fst_grammar.proofs.SolveLaws.{solution, solves, solution_fine}
+use Rattle.fst_grammar.proofs.RuledLaws.{each_ruled}
 use Rattle.fst_grammar.proofs.RankLaws.{rank}
 use Rattle.fst_grammar.proofs.SoundLaws.{word_below}
-use Rattle.fst_grammar.proofs.TranslationLaws.{seated, known_left, known_right, fit_left, fit_right, equations_fine, equations_length, equations_grounded, grammar_is, stands}
+use Rattle.fst_grammar.proofs.TranslationLaws.{seated, known_left, known_right, fit_left, fit_right, equations_fine, equations_ruled, equations_length, equations_grounded, grammar_is, stands}
+use Rattle.fst_base.specs.Limits.{most_nodes, most_letters}
 
 -- a fault that is passed on is still the same
 pub fault_stays : {T : Type 0} (result : Result T TranslateFault) (f : TranslateFault) (Q : Type 0) → IsErrAnd result (λ e. e ≡ f) → (f ≡ TooLarge → Q) → IfErr result (λ e. e ≡ TooLarge → Q)
@@ -33,7 +35,7 @@ fault_stays (Err e) f Q h k = λ is. k (sym h ∙ is)
 
 module _ (s r : Tree) (ws : (vars : List Kind) × IsSession vars s) (wr : (vars : List Kind) × IsSession vars r) (few_s : nodes s ≤ most_nodes) (few_r : nodes r ≤ most_nodes) where
   abbrev all_letters : List Label
-  all_letters = inserted_all [] (labels_in s ++ labels_in r)
+  all_letters = with_labels [] (labels_in s ++ labels_in r)
 
   abbrev all_equations : List Equation
   all_equations = equations_by all_letters (parts_of s r)
@@ -41,7 +43,7 @@ module _ (s r : Tree) (ws : (vars : List Kind) × IsSession vars s) (wr : (vars 
   abbrev total : ℕ
   total = length (names all_letters) + length (parts_of s r)
 
-  abbrev rows : Rows
+  abbrev rows : Productions
   rows = solution most_rank all_equations
 
   rows_solve : Solves rows all_equations
@@ -56,6 +58,11 @@ module _ (s r : Tree) (ws : (vars : List Kind) × IsSession vars s) (wr : (vars 
   rows_length : length rows ≡ total
   rows_length = rows_solve.0 ∙ equations_length ws.0 s r ws.1 wr few_s few_r all_letters (letters_are s r)
 
+  rows_ruled : EachHasRule rows
+  rows_ruled =
+      each_ruled all_equations (rank all_letters (parts_of s r) (seated ws.0 s r ws.1 wr few_s few_r all_letters (letters_are s r))) most_rank
+      (equations_grounded ws.0 s r ws.1 wr few_s few_r all_letters (letters_are s r)) (equations_ruled ws.0 s r ws.1 wr few_s few_r all_letters (letters_are s r)) rows rows_solve
+
   -- the words and rules of this grammar
   rows_done : IsDone s r all_letters rows (word (numbers_by all_letters (parts_of s r)) (top_of s) s) (word (numbers_by all_letters (parts_of s r)) (top_of r) r)
   rows_done = record {
@@ -69,6 +76,7 @@ module _ (s r : Tree) (ws : (vars : List Kind) × IsSession vars s) (wr : (vars 
       below = λ i d lt. (rows_fine i d lt).1;
       rising = (letters_are s r).0;
     };
+    ruled = rows_ruled;
   }
 
   module _ (letters : List Label) (found : List Part) (equations : List Equation) (letters_is : letters ≡ all_letters) (found_is : found ≡ parts_of s r) (equations_is : equations ≡ equations_by letters found) where
@@ -84,13 +92,13 @@ module _ (s r : Tree) (ws : (vars : List Kind) × IsSession vars s) (wr : (vars 
     is_solved : Solves rows equations
     is_solved = subst (Solves rows) (sym same_equations) rows_solve
 
-    pub is_ordered : (rows : Rows) × Solves rows equations × All AreOrdered rows
+    pub is_ordered : (rows : Productions) × Solves rows equations × All AreOrdered rows
     is_ordered = (rows, is_solved, λ i d lt. (rows_fine i d lt).2)
 
-    pub is_too_large : ((others : Rows) → Solves others equations → most_letters < right_sides others) → IsTooLarge s r
-    is_too_large h = inr (all_letters, rows, rows_grammar, h rows is_solved)
+    pub is_too_large : ((others : Productions) → Solves others equations → most_letters < right_sides others) → IsTooLarge s r
+    is_too_large h = inr (record { letters = all_letters; rows = rows; grammar = rows_grammar; over = h rows is_solved })
 
-    pub is_done : (rules : Rows) (u v : List ℕ) → ((others : Rows) → Solves others equations → rules ≡ others) → u ≡ word (numbers_by letters found) (top_of s) s → v ≡ word (numbers_by letters found) (top_of r) r → IsDone s r letters rules u v
+    pub is_done : (rules : Productions) (u v : List ℕ) → ((others : Productions) → Solves others equations → rules ≡ others) → u ≡ word (numbers_by letters found) (top_of s) s → v ≡ word (numbers_by letters found) (top_of r) r → IsDone s r letters rules u v
     is_done rules u v h left right =
         let ls : letters ≡ all_letters = letters_is in
         let rs : rules ≡ rows = h rows is_solved in

@@ -6,7 +6,9 @@ use Rattle.std.proofs.lemmas.Bool.{ltb-true}
 use Rattle.std.proofs.lemmas.List.{get_or_append_left, length-append}
 use Rattle.std.proofs.lemmas.Slice.Eq.{bytes_eq-Decides}
 use Rattle.fst_grammar.specs.Shapes.{Shape, end, leaf, wrap, fork, link}
-use Rattle.fst_grammar.specs.Keys.{place, with_key, number_in, first, second, IsAt, Stands, KeepsNumbers}
+use Rattle.fst_grammar.specs.declared.forms.Form.{Form}
+use Rattle.fst_grammar.specs.declared.forms.Form.TheVariants as forms
+use Rattle.fst_grammar.specs.Keys.{form_number, leaf_key, wrap_key, fork_key, link_key, place, with_key, number_in, first, second, IsAt, Stands, KeepsNumbers}
 
 pub place_within : (keys : List (List ℕ)) (key : List ℕ) → place keys key ≤ length keys
 place_within [] key = omega arith
@@ -60,23 +62,23 @@ number_more keys more at k lt = ap (λ key. get_or key k 0) (get_or_append_left 
 -- trees keep their numbers where keys are added
 stands_more : (keys more : List (List ℕ)) → KeepsNumbers keys (keys ++ more)
 stands_more keys more end at h = at_more keys more at [] h
-stands_more keys more (leaf form holds) at h = at_more keys more at (1 ∷ form ∷ holds ∷ []) h
+stands_more keys more (leaf form holds) at h = at_more keys more at (leaf_key form holds) h
 stands_more keys more (wrap form x) at h =
     let e = number_more keys more at 1 h.0.1 in
-    subst (λ a. IsAt (keys ++ more) at (2 ∷ a ∷ form ∷ []) × Stands (keys ++ more) a x) (sym e)
-    (at_more keys more at (2 ∷ first keys at ∷ form ∷ []) h.0, stands_more keys more x (first keys at) h.1)
+    subst (λ a. IsAt (keys ++ more) at (wrap_key form a) × Stands (keys ++ more) a x) (sym e)
+    (at_more keys more at (wrap_key form (first keys at)) h.0, stands_more keys more x (first keys at) h.1)
 stands_more keys more (fork form x y) at h =
     let e = number_more keys more at 1 h.0.1 in
     let f = number_more keys more at 2 h.0.1 in
-    subst (λ a. IsAt (keys ++ more) at (3 ∷ a ∷ second (keys ++ more) at ∷ form ∷ []) × Stands (keys ++ more) a x × Stands (keys ++ more) (second (keys ++ more) at) y) (sym e)
-    (subst (λ b. IsAt (keys ++ more) at (3 ∷ first keys at ∷ b ∷ form ∷ []) × Stands (keys ++ more) (first keys at) x × Stands (keys ++ more) b y) (sym f)
-    (at_more keys more at (3 ∷ first keys at ∷ second keys at ∷ form ∷ []) h.0, stands_more keys more x (first keys at) h.1, stands_more keys more y (second keys at) h.2))
+    subst (λ a. IsAt (keys ++ more) at (fork_key form a (second (keys ++ more) at)) × Stands (keys ++ more) a x × Stands (keys ++ more) (second (keys ++ more) at) y) (sym e)
+    (subst (λ b. IsAt (keys ++ more) at (fork_key form (first keys at) b) × Stands (keys ++ more) (first keys at) x × Stands (keys ++ more) b y) (sym f)
+    (at_more keys more at (fork_key form (first keys at) (second keys at)) h.0, stands_more keys more x (first keys at) h.1, stands_more keys more y (second keys at) h.2))
 stands_more keys more (link l x y) at h =
     let e = number_more keys more at 1 h.0.1 in
     let f = number_more keys more at 2 h.0.1 in
-    subst (λ a. IsAt (keys ++ more) at (4 ∷ a ∷ second (keys ++ more) at ∷ l) × Stands (keys ++ more) a x × Stands (keys ++ more) (second (keys ++ more) at) y) (sym e)
-    (subst (λ b. IsAt (keys ++ more) at (4 ∷ first keys at ∷ b ∷ l) × Stands (keys ++ more) (first keys at) x × Stands (keys ++ more) b y) (sym f)
-    (at_more keys more at (4 ∷ first keys at ∷ second keys at ∷ l) h.0, stands_more keys more x (first keys at) h.1, stands_more keys more y (second keys at) h.2))
+    subst (λ a. IsAt (keys ++ more) at (link_key l a (second (keys ++ more) at)) × Stands (keys ++ more) a x × Stands (keys ++ more) (second (keys ++ more) at) y) (sym e)
+    (subst (λ b. IsAt (keys ++ more) at (link_key l (first keys at) b) × Stands (keys ++ more) (first keys at) x × Stands (keys ++ more) b y) (sym f)
+    (at_more keys more at (link_key l (first keys at) (second keys at)) h.0, stands_more keys more x (first keys at) h.1, stands_more keys more y (second keys at) h.2))
 
 keeps_with : (keys : List (List ℕ)) (key : List ℕ) → KeepsNumbers keys (with_key keys key)
 keeps_with keys key x at h = pick (nat_lt (place keys key) (length keys))
@@ -109,48 +111,48 @@ part_at : (keys : List (List ℕ)) (at k n : ℕ) (key : List ℕ) → IsAt keys
 part_at keys at k n key h e = ap (λ x. get_or x k 0) (at_key keys at key h) ∙ e
 
 -- a node over a part with a number
-wrap_put : (old new : List (List ℕ)) (form part at : ℕ) → new ≡ with_key old (2 ∷ part ∷ form ∷ []) → at ≡ place old (2 ∷ part ∷ form ∷ []) → (x : Shape) → Stands old part x → Stands new at (wrap form x)
+wrap_put : (old new : List (List ℕ)) (form : Form) (part at : ℕ) → new ≡ with_key old (wrap_key form part) → at ≡ place old (wrap_key form part) → (x : Shape) → Stands old part x → Stands new at (wrap form x)
 wrap_put old new form part at is here x h =
-    let k = put_at old new (2 ∷ part ∷ form ∷ []) at is here in
-    let e = part_at new at 1 part (2 ∷ part ∷ form ∷ []) k refl in
-    subst (λ a. IsAt new at (2 ∷ a ∷ form ∷ []) × Stands new a x) (sym e) (k, put_keeps old new (2 ∷ part ∷ form ∷ []) is x part h)
+    let k = put_at old new (wrap_key form part) at is here in
+    let e = part_at new at 1 part (wrap_key form part) k refl in
+    subst (λ a. IsAt new at (wrap_key form a) × Stands new a x) (sym e) (k, put_keeps old new (wrap_key form part) is x part h)
 
 -- a node over two parts with numbers
-fork_put : (old new : List (List ℕ)) (form left right at : ℕ) → new ≡ with_key old (3 ∷ left ∷ right ∷ form ∷ []) → at ≡ place old (3 ∷ left ∷ right ∷ form ∷ []) → (x y : Shape) → Stands old left x → Stands old right y → Stands new at (fork form x y)
+fork_put : (old new : List (List ℕ)) (form : Form) (left right at : ℕ) → new ≡ with_key old (fork_key form left right) → at ≡ place old (fork_key form left right) → (x y : Shape) → Stands old left x → Stands old right y → Stands new at (fork form x y)
 fork_put old new form left right at is here x y h j =
-    let key = 3 ∷ left ∷ right ∷ form ∷ [] in
+    let key = fork_key form left right in
     let k = put_at old new key at is here in
     let e = part_at new at 1 left key k refl in
     let f = part_at new at 2 right key k refl in
-    subst (λ a. IsAt new at (3 ∷ a ∷ second new at ∷ form ∷ []) × Stands new a x × Stands new (second new at) y) (sym e)
-    (subst (λ b. IsAt new at (3 ∷ left ∷ b ∷ form ∷ []) × Stands new left x × Stands new b y) (sym f)
+    subst (λ a. IsAt new at (fork_key form a (second new at)) × Stands new a x × Stands new (second new at) y) (sym e)
+    (subst (λ b. IsAt new at (fork_key form left b) × Stands new left x × Stands new b y) (sym f)
     (k, put_keeps old new key is x left h, put_keeps old new key is y right j))
 
 -- a branch and those behind it, with numbers
-link_put : (old new : List (List ℕ)) (l : List ℕ) (left right at : ℕ) → new ≡ with_key old (4 ∷ left ∷ right ∷ l) → at ≡ place old (4 ∷ left ∷ right ∷ l) → (x y : Shape) → Stands old left x → Stands old right y → Stands new at (link l x y)
+link_put : (old new : List (List ℕ)) (l : List ℕ) (left right at : ℕ) → new ≡ with_key old (link_key l left right) → at ≡ place old (link_key l left right) → (x y : Shape) → Stands old left x → Stands old right y → Stands new at (link l x y)
 link_put old new l left right at is here x y h j =
-    let key = 4 ∷ left ∷ right ∷ l in
+    let key = link_key l left right in
     let k = put_at old new key at is here in
     let e = part_at new at 1 left key k refl in
     let f = part_at new at 2 right key k refl in
-    subst (λ a. IsAt new at (4 ∷ a ∷ second new at ∷ l) × Stands new a x × Stands new (second new at) y) (sym e)
-    (subst (λ b. IsAt new at (4 ∷ left ∷ b ∷ l) × Stands new left x × Stands new b y) (sym f)
+    subst (λ a. IsAt new at (link_key l a (second new at)) × Stands new a x × Stands new (second new at) y) (sym e)
+    (subst (λ b. IsAt new at (link_key l left b) × Stands new left x × Stands new b y) (sym f)
     (k, put_keeps old new key is x left h, put_keeps old new key is y right j))
 
 -- the same of a key that was built
-pub put_leaf : (old new : List (List ℕ)) (key : List ℕ) (form holds at : ℕ) → key ≡ 1 ∷ form ∷ holds ∷ [] → new ≡ with_key old key → at ≡ place old key → Stands new at (leaf form holds)
-put_leaf old new key form holds at e is here = put_at old new (1 ∷ form ∷ holds ∷ []) at (is ∙ ap (with_key old) e) (here ∙ ap (place old) e)
+pub put_leaf : (old new : List (List ℕ)) (key : List ℕ) (form : Form) (holds at : ℕ) → key ≡ leaf_key form holds → new ≡ with_key old key → at ≡ place old key → Stands new at (leaf form holds)
+put_leaf old new key form holds at e is here = put_at old new (leaf_key form holds) at (is ∙ ap (with_key old) e) (here ∙ ap (place old) e)
 
 pub put_end : (old new : List (List ℕ)) (key : List ℕ) (at : ℕ) → key ≡ [] → new ≡ with_key old key → at ≡ place old key → Stands new at end
 put_end old new key at e is here = put_at old new [] at (is ∙ ap (with_key old) e) (here ∙ ap (place old) e)
 
-pub put_wrap : (old new : List (List ℕ)) (key : List ℕ) (form part at : ℕ) → key ≡ 2 ∷ part ∷ form ∷ [] → new ≡ with_key old key → at ≡ place old key → (x : Shape) → Stands old part x → Stands new at (wrap form x)
+pub put_wrap : (old new : List (List ℕ)) (key : List ℕ) (form : Form) (part at : ℕ) → key ≡ wrap_key form part → new ≡ with_key old key → at ≡ place old key → (x : Shape) → Stands old part x → Stands new at (wrap form x)
 put_wrap old new key form part at e is here = wrap_put old new form part at (is ∙ ap (with_key old) e) (here ∙ ap (place old) e)
 
-pub put_fork : (old new : List (List ℕ)) (key : List ℕ) (form left right at : ℕ) → key ≡ 3 ∷ left ∷ right ∷ form ∷ [] → new ≡ with_key old key → at ≡ place old key → (x y : Shape) → Stands old left x → Stands old right y → Stands new at (fork form x y)
+pub put_fork : (old new : List (List ℕ)) (key : List ℕ) (form : Form) (left right at : ℕ) → key ≡ fork_key form left right → new ≡ with_key old key → at ≡ place old key → (x y : Shape) → Stands old left x → Stands old right y → Stands new at (fork form x y)
 put_fork old new key form left right at e is here = fork_put old new form left right at (is ∙ ap (with_key old) e) (here ∙ ap (place old) e)
 
-pub put_link : (old new : List (List ℕ)) (key l : List ℕ) (left right at : ℕ) → key ≡ 4 ∷ left ∷ right ∷ l → new ≡ with_key old key → at ≡ place old key → (x y : Shape) → Stands old left x → Stands old right y → Stands new at (link l x y)
+pub put_link : (old new : List (List ℕ)) (key l : List ℕ) (left right at : ℕ) → key ≡ link_key l left right → new ≡ with_key old key → at ≡ place old key → (x y : Shape) → Stands old left x → Stands old right y → Stands new at (link l x y)
 put_link old new key l left right at e is here = link_put old new l left right at (is ∙ ap (with_key old) e) (here ∙ ap (place old) e)
 
 -- a tree has one number
@@ -158,15 +160,15 @@ pub one_number : (keys : List (List ℕ)) (x : Shape) (i j : ℕ) → Stands key
 one_number keys end i j h k = sym h.0 ∙ k.0
 one_number keys (leaf form holds) i j h k = sym h.0 ∙ k.0
 one_number keys (wrap form x) i j h k =
-    sym h.0.0 ∙ ap (λ n. place keys (2 ∷ n ∷ form ∷ [])) (one_number keys x (first keys i) (first keys j) h.1 k.1) ∙ k.0.0
+    sym h.0.0 ∙ ap (λ n. place keys (wrap_key form n)) (one_number keys x (first keys i) (first keys j) h.1 k.1) ∙ k.0.0
 one_number keys (fork form x y) i j h k =
     let e = one_number keys x (first keys i) (first keys j) h.1 k.1 in
     let f = one_number keys y (second keys i) (second keys j) h.2 k.2 in
-    sym h.0.0 ∙ (λ a. place keys (3 ∷ e a ∷ f a ∷ form ∷ [])) ∙ k.0.0
+    sym h.0.0 ∙ (λ a. place keys (fork_key form (e a) (f a))) ∙ k.0.0
 one_number keys (link l x y) i j h k =
     let e = one_number keys x (first keys i) (first keys j) h.1 k.1 in
     let f = one_number keys y (second keys i) (second keys j) h.2 k.2 in
-    sym h.0.0 ∙ (λ a. place keys (4 ∷ e a ∷ f a ∷ l)) ∙ k.0.0
+    sym h.0.0 ∙ (λ a. place keys (link_key l (e a) (f a))) ∙ k.0.0
 
 -- the number with which a node's key begins
 mark : Shape → ℕ
@@ -179,16 +181,33 @@ mark (link l x y) = 4
 marked : (keys : List (List ℕ)) (at : ℕ) (x : Shape) → Stands keys at x → number_in keys at 0 ≡ mark x
 unfolding mark
 marked keys at end h = part_at keys at 0 0 [] h refl
-marked keys at (leaf form holds) h = part_at keys at 0 1 (1 ∷ form ∷ holds ∷ []) h refl
-marked keys at (wrap form x) h = part_at keys at 0 2 (2 ∷ first keys at ∷ form ∷ []) h.0 refl
-marked keys at (fork form x y) h = part_at keys at 0 3 (3 ∷ first keys at ∷ second keys at ∷ form ∷ []) h.0 refl
-marked keys at (link l x y) h = part_at keys at 0 4 (4 ∷ first keys at ∷ second keys at ∷ l) h.0 refl
+marked keys at (leaf form holds) h = part_at keys at 0 1 (leaf_key form holds) h refl
+marked keys at (wrap form x) h = part_at keys at 0 2 (wrap_key form (first keys at)) h.0 refl
+marked keys at (fork form x y) h = part_at keys at 0 3 (fork_key form (first keys at) (second keys at)) h.0 refl
+marked keys at (link l x y) h = part_at keys at 0 4 (link_key l (first keys at) (second keys at)) h.0 refl
 
 same_key : (keys : List (List ℕ)) (at : ℕ) (a b : List ℕ) → IsAt keys at a → IsAt keys at b → a ≡ b
 same_key keys at a b h k = sym (at_key keys at a h) ∙ at_key keys at b k
 
 apart : (keys : List (List ℕ)) (at : ℕ) (x y : Shape) (m n : ℕ) → Stands keys at x → Stands keys at y → mark x ≡ m → mark y ≡ n → (m ≡ n → ⊥) → ⊥
 apart keys at x y m n h k e f differ = differ (sym e ∙ sym (marked keys at x h) ∙ marked keys at y k ∙ f)
+
+-- a form is told by its number
+same_form : (f g : Form) → form_number f ≡ form_number g → f ≡ g
+same_form forms.Send forms.Send e = refl
+same_form forms.Receive forms.Receive e = refl
+same_form forms.Select forms.Select e = refl
+same_form forms.Offer forms.Offer e = refl
+same_form forms.Seq forms.Seq e = refl
+same_form forms.Rec forms.Rec e = refl
+same_form forms.Back forms.Back e = refl
+same_form forms.Var forms.Var e = refl
+same_form forms.Plain forms.Plain e = refl
+same_form forms.Many forms.Many e = refl
+same_form forms.Once forms.Once e = refl
+same_form forms.Pair forms.Pair e = refl
+same_form forms.Named forms.Named e = refl
+same_form f g e = absurd (omega arith)
 
 -- a number is that of one tree
 pub one_shape : (keys : List (List ℕ)) (x y : Shape) (at : ℕ) → Stands keys at x → Stands keys at y → x ≡ y
@@ -200,34 +219,37 @@ one_shape keys end (fork f z w) at h k = absurd (apart keys at end (fork f z w) 
 one_shape keys end (link m z w) at h k = absurd (apart keys at end (link m z w) 0 4 h k refl refl (omega arith))
 one_shape keys (leaf form holds) end at h k = absurd (apart keys at (leaf form holds) end 1 0 h k refl refl (omega arith))
 one_shape keys (leaf form holds) (leaf f n) at h k =
-    let e = same_key keys at (1 ∷ form ∷ holds ∷ []) (1 ∷ f ∷ n ∷ []) h k in
-    λ i. leaf (get_or (e i) 1 0) (get_or (e i) 2 0)
+    let e = same_key keys at (leaf_key form holds) (leaf_key f n) h k in
+    let g = same_form form f (ap (λ key. get_or key 1 0) e) in
+    λ i. leaf (g i) (get_or (e i) 2 0)
 one_shape keys (leaf form holds) (wrap f z) at h k = absurd (apart keys at (leaf form holds) (wrap f z) 1 2 h k refl refl (omega arith))
 one_shape keys (leaf form holds) (fork f z w) at h k = absurd (apart keys at (leaf form holds) (fork f z w) 1 3 h k refl refl (omega arith))
 one_shape keys (leaf form holds) (link m z w) at h k = absurd (apart keys at (leaf form holds) (link m z w) 1 4 h k refl refl (omega arith))
 one_shape keys (wrap form x) end at h k = absurd (apart keys at (wrap form x) end 2 0 h k refl refl (omega arith))
 one_shape keys (wrap form x) (leaf f n) at h k = absurd (apart keys at (wrap form x) (leaf f n) 2 1 h k refl refl (omega arith))
 one_shape keys (wrap form x) (wrap f z) at h k =
-    let e = same_key keys at (2 ∷ first keys at ∷ form ∷ []) (2 ∷ first keys at ∷ f ∷ []) h.0 k.0 in
+    let e = same_key keys at (wrap_key form (first keys at)) (wrap_key f (first keys at)) h.0 k.0 in
     let p = one_shape keys x z (first keys at) h.1 k.1 in
-    λ i. wrap (get_or (e i) 2 0) (p i)
+    let g = same_form form f (ap (λ key. get_or key 2 0) e) in
+    λ i. wrap (g i) (p i)
 one_shape keys (wrap form x) (fork f z w) at h k = absurd (apart keys at (wrap form x) (fork f z w) 2 3 h k refl refl (omega arith))
 one_shape keys (wrap form x) (link m z w) at h k = absurd (apart keys at (wrap form x) (link m z w) 2 4 h k refl refl (omega arith))
 one_shape keys (fork form x y) end at h k = absurd (apart keys at (fork form x y) end 3 0 h k refl refl (omega arith))
 one_shape keys (fork form x y) (leaf f n) at h k = absurd (apart keys at (fork form x y) (leaf f n) 3 1 h k refl refl (omega arith))
 one_shape keys (fork form x y) (wrap f z) at h k = absurd (apart keys at (fork form x y) (wrap f z) 3 2 h k refl refl (omega arith))
 one_shape keys (fork form x y) (fork f z w) at h k =
-    let e = same_key keys at (3 ∷ first keys at ∷ second keys at ∷ form ∷ []) (3 ∷ first keys at ∷ second keys at ∷ f ∷ []) h.0 k.0 in
+    let e = same_key keys at (fork_key form (first keys at) (second keys at)) (fork_key f (first keys at) (second keys at)) h.0 k.0 in
     let p = one_shape keys x z (first keys at) h.1 k.1 in
     let q = one_shape keys y w (second keys at) h.2 k.2 in
-    λ i. fork (get_or (e i) 3 0) (p i) (q i)
+    let g = same_form form f (ap (λ key. get_or key 3 0) e) in
+    λ i. fork (g i) (p i) (q i)
 one_shape keys (fork form x y) (link m z w) at h k = absurd (apart keys at (fork form x y) (link m z w) 3 4 h k refl refl (omega arith))
 one_shape keys (link l x y) end at h k = absurd (apart keys at (link l x y) end 4 0 h k refl refl (omega arith))
 one_shape keys (link l x y) (leaf f n) at h k = absurd (apart keys at (link l x y) (leaf f n) 4 1 h k refl refl (omega arith))
 one_shape keys (link l x y) (wrap f z) at h k = absurd (apart keys at (link l x y) (wrap f z) 4 2 h k refl refl (omega arith))
 one_shape keys (link l x y) (fork f z w) at h k = absurd (apart keys at (link l x y) (fork f z w) 4 3 h k refl refl (omega arith))
 one_shape keys (link l x y) (link m z w) at h k =
-    let e = same_key keys at (4 ∷ first keys at ∷ second keys at ∷ l) (4 ∷ first keys at ∷ second keys at ∷ m) h.0 k.0 in
+    let e = same_key keys at (link_key l (first keys at) (second keys at)) (link_key m (first keys at) (second keys at)) h.0 k.0 in
     let p = one_shape keys x z (first keys at) h.1 k.1 in
     let q = one_shape keys y w (second keys at) h.2 k.2 in
     λ i. link (drop 3 (e i)) (p i) (q i)

@@ -4,7 +4,7 @@ use Rattle.std.specs.Prelude.{if◌then◌else◌, slice_get, option_map}
 use Rattle.std.proofs.lemmas.Bool.{eqb-true, eq-eqb}
 use Rattle.fst_types.specs.declared.label.Label.{Label}
 use Rattle.fst_types.specs.Order.{same_label}
-use Rattle.fst_types.proofs.Labels.{same_label-same, same_label-itself}
+use Rattle.fst_types.proofs.Laws.{same_label-same, same_label-itself}
 use Rattle.fst_words.specs.Words.{letter_of}
 use Rattle.fst_grammar.specs.Labels.{is_name, names, label_position}
 

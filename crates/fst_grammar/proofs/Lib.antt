@@ -14,6 +14,7 @@ pub mod RowLaws
 pub mod RankLaws
 pub mod SoundLaws
 pub mod SolveLaws
+pub mod RuledLaws
 pub mod LabelLaws
 pub mod TranslationLaws
 pub mod UniqueLaws
@@ -22,4 +23,4 @@ pub mod PlaceLaws
 pub mod HeadLaws
 pub mod SizeLaws
 pub mod DoneLaws
-pub mod TestLaws
+pub mod Rulesets

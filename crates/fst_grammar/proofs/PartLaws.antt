@@ -2,12 +2,11 @@
 use Rattle.std.proofs.Common.{◌≡◌, ◌∙◌, ◌+◌, ◌<◌, ◌≤◌, refl, sym, ap, subst, arith, ℕ, zero, suc, List, [], ◌∷◌, ◌++◌, length, get_or, map, Bool, true, false, cond, not, ◌&&◌}
 use Rattle.std.specs.Prelude.{All, if◌then◌else◌, nat_eq}
 use Rattle.std.specs.Str.{bytes_eq}
-use Rattle.std.proofs.lemmas.Bool.{eq-eqb, eqb-true}
+use Rattle.std.proofs.lemmas.Bool.{eq-eqb, eqb-true, and_parts}
 use Rattle.std.proofs.lemmas.Slice.Eq.{bytes_eq-Decides}
 use Rattle.std.proofs.lemmas.List.{map-append, length-map}
 use Rattle.std.proofs.lemmas.List.Elements.{All-append}
 use Rattle.fst_types.specs.Tree.{Tree}
-use Rattle.fst_lts.proofs.GuardLaws.{both_true}
 use Rattle.fst_grammar.specs.Shapes.{shape_of}
 use Rattle.fst_grammar.specs.Keys.{place, with_key, Stands}
 use Rattle.fst_grammar.specs.Same.{same_tree}
@@ -36,7 +35,7 @@ tells keys p w root at h k = pick (bytes_eq (root ∷ at ∷ []) (key_of p)) ref
         let both : stands_at (part_of p) w at ≡ true = λ i. eq-eqb p.at at here i && itself i in
         sym both ∙ f
     pick false e true f =
-        let h2 = both_true (nat_eq p.at at) (same_tree p.whole.ty.now w) f in
+        let h2 = and_parts (nat_eq p.at at) (same_tree p.whole.ty.now w) f in
         let here : p.at ≡ at = eqb-true p.at at h2.0 in
         let tree : p.whole.ty.now ≡ w = same_tree-same p.whole.ty.now w h2.1 in
         let number : root ≡ p.whole.number = one_number keys (shape_of w) root p.whole.number h (subst (λ t. Stands keys p.whole.number (shape_of t)) tree k.0) in

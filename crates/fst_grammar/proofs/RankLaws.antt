@@ -9,14 +9,14 @@ use Rattle.fst_types.specs.Scoped.{IsScoped}
 use Rattle.fst_types.specs.declared.label.Label.{Label}
 use Rattle.fst_types.specs.declared.label.Label.TheVariants.{Send, Receive, Var}
 use Rattle.fst_kinds.specs.Contractive.{guards, reaches}
-use Rattle.fst_kinds.proofs.SubstitutedGuards.{unreached}
+use Rattle.fst_kinds.proofs.Laws.{unreached}
 use Rattle.fst_lts.specs.Step.{terminated}
-use Rattle.fst_lts.proofs.GuardLaws.{unguarded}
-use Rattle.fst_grammar.specs.Place.{Place, is_closed, moved, entered, entered_if, under, binder}
+use Rattle.fst_lts.proofs.Laws.{unguarded}
+use Rattle.fst_grammar.specs.Place.{Place, is_closed, place_past, own_place, own_place_if, body_place, binder}
 use Rattle.fst_grammar.specs.Word.{Numbers, node_at, word}
 use Rattle.fst_grammar.specs.Labels.{is_name, names}
 use Rattle.fst_grammar.specs.Parts.{Part, position, numbers_by}
-use Rattle.fst_grammar.specs.Translation.{most_nodes}
+use Rattle.fst_base.specs.Limits.{most_nodes}
 use Rattle.fst_grammar.specs.Equations.{most_rank}
 use Rattle.fst_grammar.proofs.ClosingLaws.{scoped_if_closed}
 use Rattle.fst_grammar.proofs.StandLaws.{ended_word}
@@ -154,7 +154,7 @@ module _ (letters : List Label) (found : List Part) (seated : Every IsSeated fou
   name_head : (a : Label) → is_name a ≡ true → Known letters a → Headed (n.name a ∷ []) 0
   name_head a is k = (n.name a, [], refl, rank_few (length (names letters)) found (n.name a) (name_known letters a is k))
 
-  entered_rank : (c : Bool) (p : Place) (t : Tree) → is_closed t ≡ c → rank_in (ranks (entered_if c p t).whole (entered_if c p t).binders) t ≡ rank_in (ranks p.whole p.binders) t
+  entered_rank : (c : Bool) (p : Place) (t : Tree) → is_closed t ≡ c → rank_in (ranks (own_place_if c p t).whole (own_place_if c p t).binders) t ≡ rank_in (ranks p.whole p.binders) t
   entered_rank true p t is = rank_free t [] (ranks p.whole p.binders) (scoped_if_closed t is)
   entered_rank false p t is = refl
 
@@ -166,22 +166,22 @@ module _ (letters : List Label) (found : List Part) (seated : Every IsSeated fou
   head_rank p skip h e = absurd (cc e)
   head_rank p (send b) h e = name_head (Send b) refl h.known
   head_rank p (receive b) h e = name_head (Receive b) refl h.known
-  head_rank p (select cs) h e = (node_at n (entered p (select cs)), [], refl, node_rank _ _ _ (own_select letters found p cs h))
-  head_rank p (offer cs) h e = (node_at n (entered p (offer cs)), [], refl, node_rank _ _ _ (own_offer letters found p cs h))
+  head_rank p (select cs) h e = (node_at n (own_place p (select cs)), [], refl, node_rank _ _ _ (own_select letters found p cs h))
+  head_rank p (offer cs) h e = (node_at n (own_place p (offer cs)), [], refl, node_rank _ _ _ (own_offer letters found p cs h))
   head_rank p (seq s r) h e =
-      pick (head_rank (moved p 1) s (fit_first letters found p s r h)) (head_rank (moved p (1 + nodes s)) r (fit_second letters found p s r h)) (terminated s) refl e
+      pick (head_rank (place_past p 1) s (fit_first letters found p s r h)) (head_rank (place_past p (1 + nodes s)) r (fit_second letters found p s r h)) (terminated s) refl e
     where
-      pick : (terminated s ≡ false → Headed (word n (moved p 1) s) (rank_in (ranks p.whole p.binders) s)) →
-          (terminated r ≡ false → Headed (word n (moved p (1 + nodes s)) r) (rank_in (ranks p.whole p.binders) r)) →
+      pick : (terminated s ≡ false → Headed (word n (place_past p 1) s) (rank_in (ranks p.whole p.binders) s)) →
+          (terminated r ≡ false → Headed (word n (place_past p (1 + nodes s)) r) (rank_in (ranks p.whole p.binders) r)) →
           (c : Bool) → terminated s ≡ c → c && terminated r ≡ false →
-          Headed (word n (moved p 1) s ++ word n (moved p (1 + nodes s)) r) (if c then rank_in (ranks p.whole p.binders) r else rank_in (ranks p.whole p.binders) s)
+          Headed (word n (place_past p 1) s ++ word n (place_past p (1 + nodes s)) r) (if c then rank_in (ranks p.whole p.binders) r else rank_in (ranks p.whole p.binders) s)
       pick front behind true is e =
-          subst (λ u. Headed (u ++ word n (moved p (1 + nodes s)) r) (rank_in (ranks p.whole p.binders) r)) (sym (ended_word n (moved p 1) s is)) (behind e)
-      pick front behind false is e = headed_behind (word n (moved p 1) s) (word n (moved p (1 + nodes s)) r) (rank_in (ranks p.whole p.binders) s) (front is)
+          subst (λ u. Headed (u ++ word n (place_past p (1 + nodes s)) r) (rank_in (ranks p.whole p.binders) r)) (sym (ended_word n (place_past p 1) s is)) (behind e)
+      pick front behind false is e = headed_behind (word n (place_past p 1) s) (word n (place_past p (1 + nodes s)) r) (rank_in (ranks p.whole p.binders) s) (front is)
   head_rank p (rec s) h e = (
-    node_at n (entered p (rec s)),
+    node_at n (own_place p (rec s)),
     [],
-    ap (λ c. if c then [] else node_at n (entered p (rec s)) ∷ []) e,
+    ap (λ c. if c then [] else node_at n (own_place p (rec s)) ∷ []) e,
     node_rank _ _ _ (own_rec letters found p s e h) ∙ entered_rank (is_closed (rec s)) p (rec s) refl,
   )
   head_rank p (back k) h e = (n.node p.whole (binder p.binders k), [], refl, binder_rank p.whole p.binders h.bound k h.scoped)
@@ -193,12 +193,12 @@ module _ (letters : List Label) (found : List Part) (seated : Every IsSeated fou
 
   -- a `rec` has a higher rank than the first non-terminal of its body's word
   abbrev pub Falls : Place → Tree → Type 0
-  Falls q s = (z : ℕ) × (d : List ℕ) × (word n (under q) s ≡ z ∷ d) × (rank z < part_rank (record { place = q; type = rec s }))
+  Falls q s = (z : ℕ) × (d : List ℕ) × (word n (body_place q) s ≡ z ∷ d) × (rank z < part_rank (record { place = q; type = rec s }))
 
-  pub body_falls : (p : Place) (s : Tree) → terminated s ≡ false → IsFit letters found p (rec s) → Falls (entered p (rec s)) s
+  pub body_falls : (p : Place) (s : Tree) → terminated s ≡ false → IsFit letters found p (rec s) → Falls (own_place p (rec s)) s
   body_falls p s e h =
-      let q = entered p (rec s) in
-      let r = head_rank (under q) s (fit_body letters found p s e h) e in
+      let q = own_place p (rec s) in
+      let r = head_rank (body_place q) s (fit_body letters found p s e h) e in
       let same : rank r.0 ≡ rank_in (0 ∷ ranks q.whole q.binders) s = r.3 ∙ rank_body s (spot_rank (ranks q.whole q.binders) (found_in q.whole q.at)) (ranks q.whole q.binders) h.contractive.1 in
       (r.0, r.1, r.2, omega arith)
 
@@ -217,10 +217,10 @@ module _ (letters : List Label) (found : List Part) (seated : Every IsSeated fou
       omega arith
 
   -- no part goes through more `rec`s than this
-  pub part_most : (p : Place) (t : Tree) → IsFit letters found p t → part_rank (record { place = entered p t; type = t }) ≤ most_rank
+  pub part_most : (p : Place) (t : Tree) → IsFit letters found p t → part_rank (record { place = own_place p t; type = t }) ≤ most_rank
   part_most p t h =
       let c = is_closed t in
-      let q = entered p t in
+      let q = own_place p t in
       let le = rank_most t (ranks q.whole q.binders) (length q.binders * nodes q.whole) (ranks_most q.whole q.binders (bound_in letters found c p t h.bound)) in
       let small : length q.binders + nodes t ≤ nodes q.whole = small_in letters found c p t h.small in
       let few : nodes q.whole ≤ most_nodes = few_in letters found c p t h.small h.few in

@@ -5,16 +5,17 @@ use Rattle.fst_types.specs.declared.base.Base.{Base}
 use Rattle.fst_types.specs.declared.base.Base.TheVariants.{Int, Bool as Truth, Char, Unit as Nothing}
 use Rattle.fst_types.specs.declared.kind.Use.TheVariants.{Many, Once}
 use Rattle.fst_types.specs.Tree.{Tree, skip, send, receive, select, offer, seq, rec, back, var, plain, arrow, pair, named, Branches, none, branch}
-use Rattle.fst_types.specs.Code.{code_of, code_of_all, name_code, base_code, tree_code}
+use Rattle.fst_types.specs.ModelCode.{code_of, code_of_all, name_code, base_code, tree_code}
 use Rattle.fst_types.specs.Order.{base_number}
+use Rattle.fst_grammar.specs.Keys.{form_number}
 use Rattle.fst_grammar.specs.Shapes.{Shape, end, leaf, wrap, fork, link, shape_of, shape_of_all}
 
 -- the code of a shape
 abbrev code_by : Shape → Gv
 code_by end = gnil
-code_by (leaf form holds) = gcons (gnum form) (gcons (gnum holds) gnil)
-code_by (wrap form x) = gcons (gnum form) (gcons (code_by x) gnil)
-code_by (fork form x y) = gcons (gnum form) (gcons (code_by x) (code_by y))
+code_by (leaf form holds) = gcons (gnum (form_number form)) (gcons (gnum holds) gnil)
+code_by (wrap form x) = gcons (gnum (form_number form)) (gcons (code_by x) gnil)
+code_by (fork form x y) = gcons (gnum (form_number form)) (gcons (code_by x) (code_by y))
 code_by (link l x y) = gcons (name_code l) (gcons (code_by x) (code_by y))
 
 base_is : (b : Base) → gnum (base_number b) ≡ base_code b

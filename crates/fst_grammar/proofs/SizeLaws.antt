@@ -3,7 +3,7 @@ use Rattle.std.proofs.Common.{◌≡◌, ◌∙◌, ◌+◌, ◌<◌, ◌≤◌,
 use Rattle.std.specs.Prelude.{All, nat_lt, if◌then◌else◌}
 use Rattle.std.specs.declared.cmp.Ordering.{Ordering}
 use Rattle.std.specs.declared.cmp.Ordering.TheVariants.{Less, Equal, Greater}
-use Rattle.std.proofs.lemmas.List.{length-append}
+use Rattle.std.proofs.lemmas.List.{length-append, length-map}
 use Rattle.std.proofs.lemmas.List.Elements.{All-cons}
 use Rattle.std.proofs.lemmas.List.Sums.{sum_by-cons}
 use Rattle.fst_types.specs.Tree.{Tree, skip, send, receive, select, offer, seq, rec, back, var, plain, arrow, pair, named, Branches, none, branch}
@@ -13,11 +13,11 @@ use Rattle.fst_types.specs.declared.label.Label.{Label}
 use Rattle.fst_types.specs.declared.label.Label.TheVariants.{Select, Offer}
 use Rattle.fst_lts.specs.Step.{terminated}
 use Rattle.fst_words.specs.declared.rules.Rule.{Rule}
-use Rattle.fst_grammar.specs.Place.{Place, is_closed, top_of, moved, entered, entered_if, under}
+use Rattle.fst_grammar.specs.Place.{Place, is_closed, top_of, place_past, own_place, own_place_if, body_place}
 use Rattle.fst_grammar.specs.Labels.{labels_in, branch_labels, is_name, names}
-use Rattle.fst_grammar.specs.Letters.{inserted, inserted_by, inserted_all}
+use Rattle.fst_grammar.specs.Letters.{with_label, with_label_by, with_labels}
 use Rattle.fst_grammar.specs.Parts.{Part, parts, parts_all, position, with_part, with_parts, parts_of, numbers_by}
-use Rattle.fst_grammar.specs.Rules.{carried, name_rules}
+use Rattle.fst_grammar.specs.Rules.{rules_before, name_rules}
 use Rattle.fst_grammar.specs.Equations.{own, part_equation, equations_by}
 use Rattle.fst_grammar.specs.Translation.{right_side}
 use Rattle.fst_grammar.specs.Views.{part_of, equation_of}
@@ -25,7 +25,6 @@ use Rattle.fst_grammar.specs.declared.equations.Equation.{Equation as Kept}
 use Rattle.fst_grammar.specs.declared.found.Found.{Found}
 use Rattle.fst_grammar.proofs.SeekLaws.{Every, every_both}
 use Rattle.fst_grammar.proofs.TableLaws.{every_with}
-use Rattle.fst_grammar.proofs.RowLaws.{length_map}
 
 mutual
   labels_few : (t : Tree) → length (labels_in t) ≤ nodes t
@@ -47,18 +46,18 @@ mutual
   branches_few make none = omega arith
   branches_few make (branch l s cs) = omega (arith, length-append (labels_in s) (branch_labels make cs), labels_few s, branches_few make cs)
 
-inserted_few : (letters : List Label) (a : Label) → length (inserted letters a) ≤ suc (length letters)
+inserted_few : (letters : List Label) (a : Label) → length (with_label letters a) ≤ suc (length letters)
 inserted_few [] a = omega arith
 inserted_few (b ∷ letters) a = pick (inserted_few letters a) (label_cmp a b)
   where
-    pick : length (inserted letters a) ≤ suc (length letters) → (o : Ordering) → length (inserted_by o a b letters (inserted letters a)) ≤ suc (suc (length letters))
+    pick : length (with_label letters a) ≤ suc (length letters) → (o : Ordering) → length (with_label_by o a b letters (with_label letters a)) ≤ suc (suc (length letters))
     pick h Less = omega arith
     pick h Equal = omega arith
     pick h Greater = omega arith
 
-inserted_all_few : (labels letters : List Label) → length (inserted_all letters labels) ≤ length labels + length letters
+inserted_all_few : (labels letters : List Label) → length (with_labels letters labels) ≤ length labels + length letters
 inserted_all_few [] letters = omega arith
-inserted_all_few (a ∷ labels) letters = omega (arith, inserted_all_few labels (inserted letters a), inserted_few letters a)
+inserted_all_few (a ∷ labels) letters = omega (arith, inserted_all_few labels (with_label letters a), inserted_few letters a)
 
 -- there are no more names than letters
 pub names_few : (letters : List Label) → length (names letters) ≤ length letters
@@ -74,12 +73,12 @@ mutual
   parts_few p skip = omega arith
   parts_few p (send b) = omega arith
   parts_few p (receive b) = omega arith
-  parts_few p (select cs) = omega (arith, parts_all_few (moved (entered p (select cs)) 1) cs)
-  parts_few p (offer cs) = omega (arith, parts_all_few (moved (entered p (offer cs)) 1) cs)
-  parts_few p (seq s r) = omega (arith, length-append (parts (moved p 1) s) (parts (moved p (1 + nodes s)) r), parts_few (moved p 1) s, parts_few (moved p (1 + nodes s)) r)
-  parts_few p (rec s) = pick (parts_few (under (entered p (rec s))) s) (terminated s)
+  parts_few p (select cs) = omega (arith, parts_all_few (place_past (own_place p (select cs)) 1) cs)
+  parts_few p (offer cs) = omega (arith, parts_all_few (place_past (own_place p (offer cs)) 1) cs)
+  parts_few p (seq s r) = omega (arith, length-append (parts (place_past p 1) s) (parts (place_past p (1 + nodes s)) r), parts_few (place_past p 1) s, parts_few (place_past p (1 + nodes s)) r)
+  parts_few p (rec s) = pick (parts_few (body_place (own_place p (rec s))) s) (terminated s)
     where
-      pick : length (parts (under (entered p (rec s))) s) ≤ nodes s → (c : Bool) → length (if c then [] else record { place = entered p (rec s); type = rec s } ∷ parts (under (entered p (rec s))) s) ≤ nodes s + 1
+      pick : length (parts (body_place (own_place p (rec s))) s) ≤ nodes s → (c : Bool) → length (if c then [] else record { place = own_place p (rec s); type = rec s } ∷ parts (body_place (own_place p (rec s))) s) ≤ nodes s + 1
       pick h true = omega arith
       pick h false = omega arith
   parts_few p (back k) = omega arith
@@ -91,7 +90,7 @@ mutual
 
   parts_all_few : (p : Place) (cs : Branches) → length (parts_all p cs) ≤ nodes_all cs
   parts_all_few p none = omega arith
-  parts_all_few p (branch l s cs) = omega (arith, length-append (parts (moved p 1) s) (parts_all (moved p (1 + nodes s)) cs), parts_few (moved p 1) s, parts_all_few (moved p (1 + nodes s)) cs)
+  parts_all_few p (branch l s cs) = omega (arith, length-append (parts (place_past p 1) s) (parts_all (place_past p (1 + nodes s)) cs), parts_few (place_past p 1) s, parts_all_few (place_past p (1 + nodes s)) cs)
 
 with_part_few : (found : List Part) (e : Part) → length (with_part found e) ≤ suc (length found)
 with_part_few found e = pick (nat_lt (position found e.place.whole e.place.at) (length found))
@@ -106,7 +105,7 @@ with_parts_few found (e ∷ es) = omega (arith, with_parts_few (with_part found 
 
 -- no part ends behind its whole
 
-entered_within : (c : Bool) (p : Place) (t : Tree) (b : ℕ) → p.at + nodes t ≤ b → (entered_if c p t).at + nodes t ≤ b
+entered_within : (c : Bool) (p : Place) (t : Tree) (b : ℕ) → p.at + nodes t ≤ b → (own_place_if c p t).at + nodes t ≤ b
 entered_within true p t b h = omega arith
 entered_within false p t b h = h
 
@@ -118,16 +117,16 @@ mutual
   parts_within p skip b h = tt
   parts_within p (send x) b h = tt
   parts_within p (receive x) b h = tt
-  parts_within p (select cs) b h = let le = entered_within (is_closed (select cs)) p (select cs) b h in (le, parts_all_within (moved (entered p (select cs)) 1) cs b (omega arith))
-  parts_within p (offer cs) b h = let le = entered_within (is_closed (offer cs)) p (offer cs) b h in (le, parts_all_within (moved (entered p (offer cs)) 1) cs b (omega arith))
+  parts_within p (select cs) b h = let le = entered_within (is_closed (select cs)) p (select cs) b h in (le, parts_all_within (place_past (own_place p (select cs)) 1) cs b (omega arith))
+  parts_within p (offer cs) b h = let le = entered_within (is_closed (offer cs)) p (offer cs) b h in (le, parts_all_within (place_past (own_place p (offer cs)) 1) cs b (omega arith))
   parts_within p (seq s r) b h =
-      every_both (EndsWithin b) (parts (moved p 1) s) (parts (moved p (1 + nodes s)) r) (parts_within (moved p 1) s b (omega arith)) (parts_within (moved p (1 + nodes s)) r b (omega arith))
+      every_both (EndsWithin b) (parts (place_past p 1) s) (parts (place_past p (1 + nodes s)) r) (parts_within (place_past p 1) s b (omega arith)) (parts_within (place_past p (1 + nodes s)) r b (omega arith))
   parts_within p (rec s) b h =
       let le = entered_within (is_closed (rec s)) p (rec s) b h in
-      pick le (parts_within (under (entered p (rec s))) s b (omega arith)) (terminated s)
+      pick le (parts_within (body_place (own_place p (rec s))) s b (omega arith)) (terminated s)
     where
-      pick : EndsWithin b (record { place = entered p (rec s); type = rec s }) → Every (EndsWithin b) (parts (under (entered p (rec s))) s) → (c : Bool) →
-          Every (EndsWithin b) (if c then [] else record { place = entered p (rec s); type = rec s } ∷ parts (under (entered p (rec s))) s)
+      pick : EndsWithin b (record { place = own_place p (rec s); type = rec s }) → Every (EndsWithin b) (parts (body_place (own_place p (rec s))) s) → (c : Bool) →
+          Every (EndsWithin b) (if c then [] else record { place = own_place p (rec s); type = rec s } ∷ parts (body_place (own_place p (rec s))) s)
       pick here body true = tt
       pick here body false = (here, body)
   parts_within p (back k) b h = tt
@@ -140,7 +139,7 @@ mutual
   parts_all_within : (p : Place) (cs : Branches) (b : ℕ) → p.at + nodes_all cs ≤ b → Every (EndsWithin b) (parts_all p cs)
   parts_all_within p none b h = tt
   parts_all_within p (branch l s cs) b h =
-      every_both (EndsWithin b) (parts (moved p 1) s) (parts_all (moved p (1 + nodes s)) cs) (parts_within (moved p 1) s b (omega arith)) (parts_all_within (moved p (1 + nodes s)) cs b (omega arith))
+      every_both (EndsWithin b) (parts (place_past p 1) s) (parts_all (place_past p (1 + nodes s)) cs) (parts_within (place_past p 1) s b (omega arith)) (parts_all_within (place_past p (1 + nodes s)) cs b (omega arith))
 
 pub found_within : (b : ℕ) (ps : List Found) → Every (EndsWithin b) (map part_of ps) → All (λ p. p.at + nodes p.part.ty.now ≤ b) ps
 found_within b [] h = λ i d lt. absurd (omega arith)
@@ -149,28 +148,28 @@ found_within b (p ∷ ps) h = All-cons (λ (q : Found). q.at + nodes q.part.ty.n
 -- letters on right sides
 
 carried_from : (d : List ℕ) (rules : List Rule) (i : ℕ) (r : Rule) → i < length rules →
-    carried d (drop i rules) ≡ record { letter = (get_or rules i r).letter; word = (get_or rules i r).word ++ d } ∷ carried d (drop (suc i) rules)
+    rules_before d (drop i rules) ≡ record { letter = (get_or rules i r).letter; word = (get_or rules i r).word ++ d } ∷ rules_before d (drop (suc i) rules)
 carried_from d [] i r h = absurd (omega arith)
 carried_from d (q ∷ rules) zero r h = refl
 carried_from d (q ∷ rules) (suc i) r h = carried_from d rules i r (omega arith)
 
 -- the rules from one on, with more behind their words
-pub carried_at : (d : List ℕ) (rules : List Rule) (i : ℕ) (r : Rule) → i < length rules → r ≡ get_or rules i r → carried d (drop i rules) ≡ record { letter = r.letter; word = r.word ++ d } ∷ carried d (drop (i + 1) rules)
+pub carried_at : (d : List ℕ) (rules : List Rule) (i : ℕ) (r : Rule) → i < length rules → r ≡ get_or rules i r → rules_before d (drop i rules) ≡ record { letter = r.letter; word = r.word ++ d } ∷ rules_before d (drop (i + 1) rules)
 carried_at d rules i r h is =
-    rw add-one (carried_from d rules i r h ∙ ap (λ (q : Rule). record { letter = q.letter; word = q.word ++ d } ∷ carried d (drop (suc i) rules)) (sym is))
+    rw add-one (carried_from d rules i r h ∙ ap (λ (q : Rule). record { letter = q.letter; word = q.word ++ d } ∷ rules_before d (drop (suc i) rules)) (sym is))
 
-pub right_at : (d : List ℕ) (rules : List Rule) (i : ℕ) (r : Rule) → i < length rules → r ≡ get_or rules i r → right_side (carried d (drop i rules)) ≡ (length r.word + length d) + right_side (carried d (drop (i + 1) rules))
+pub right_at : (d : List ℕ) (rules : List Rule) (i : ℕ) (r : Rule) → i < length rules → r ≡ get_or rules i r → right_side (rules_before d (drop i rules)) ≡ (length r.word + length d) + right_side (rules_before d (drop (i + 1) rules))
 right_at d rules i r h is =
-    ap right_side (carried_at d rules i r h is) ∙ sum_by-cons (λ (q : Rule). length q.word) (record { letter = r.letter; word = r.word ++ d }) (carried d (drop (i + 1) rules))
-    ∙ ap (λ n. n + right_side (carried d (drop (i + 1) rules))) (length-append r.word d)
+    ap right_side (carried_at d rules i r h is) ∙ sum_by-cons (λ (q : Rule). length q.word) (record { letter = r.letter; word = r.word ++ d }) (rules_before d (drop (i + 1) rules))
+    ∙ ap (λ n. n + right_side (rules_before d (drop (i + 1) rules))) (length-append r.word d)
 
 -- all numbers of two types within the limit fit
-pub table_small : (s r : Tree) (letters : List Label) (found : List Part) → nodes s ≤ 4096 → nodes r ≤ 4096 → letters ≡ inserted_all [] (labels_in s ++ labels_in r) → found ≡ parts_of s r →
+pub table_small : (s r : Tree) (letters : List Label) (found : List Part) → nodes s ≤ 4096 → nodes r ≤ 4096 → letters ≡ with_labels [] (labels_in s ++ labels_in r) → found ≡ parts_of s r →
     (length letters < 2 ^ 31) × (length (names letters) + length found < 2 ^ 31)
 table_small s r letters found few_s few_r is at =
     let labels = inserted_all_few (labels_in s ++ labels_in r) [] in
     let both = length-append (labels_in s) (labels_in r) in
-    let long : length letters ≡ length (inserted_all [] (labels_in s ++ labels_in r)) = ap length is in
+    let long : length letters ≡ length (with_labels [] (labels_in s ++ labels_in r)) = ap length is in
     let parts_long : length found ≡ length (parts_of s r) = ap length at in
     let parts_both = length-append (parts (top_of s) s) (parts (top_of r) r) in
     (omega (arith, labels_few s, labels_few r), omega (arith, labels_few s, labels_few r, names_few letters, with_parts_few [] (parts (top_of s) s ++ parts (top_of r) r), parts_few (top_of s) s, parts_few (top_of r) r))
@@ -186,6 +185,6 @@ table_within s r ps few_s few_r is i d lt =
 -- there is an equation for each name and each part
 pub equations_count : (es : List Kept) (letters : List Label) (found : List Part) → map equation_of es ≡ equations_by letters found → length es ≡ length (names letters) + length found
 equations_count es letters found is =
-    sym (length_map equation_of es) ∙ ap length is
+    sym (length-map es equation_of) ∙ ap length is
     ∙ length-append (map (λ a. own (name_rules letters a)) (names letters)) (map (part_equation (numbers_by letters found) letters) found)
-    ∙ (λ i. length_map (λ a. own (name_rules letters a)) (names letters) i + length_map (part_equation (numbers_by letters found) letters) found i)
+    ∙ (λ i. length-map (names letters) (λ a. own (name_rules letters a)) i + length-map found (part_equation (numbers_by letters found) letters) i)

@@ -2,18 +2,19 @@
 use Rattle.std.proofs.Common.{◌≡◌, ◌∙◌, ◌<◌, ◌≤◌, refl, sym, ap, subst, arith, ℕ, zero, suc, List, [], ◌∷◌, length, Option, Some, None, map}
 use Rattle.std.specs.Prelude.{All, slice_get}
 use Rattle.std.proofs.lemmas.List.Elements.{All-cons, All-head, All-tail, All-append}
+use Rattle.fst_base.proofs.Lists.{get_there}
 use Rattle.fst_words.specs.declared.rules.Rule.{Rule}
-use Rattle.fst_words.specs.Words.{Rows, row_of, WordBelow}
+use Rattle.fst_words.specs.Words.{Productions, row_of, WordBelow}
 use Rattle.fst_words.specs.Ordered.{AreOrdered}
-use Rattle.fst_grammar.specs.Rules.{carried}
+use Rattle.fst_grammar.specs.Rules.{rules_before}
 use Rattle.fst_grammar.specs.Equations.{Equation, own, like, rules_by, Solves, IsGrounded, AreFine, IsFine}
-use Rattle.fst_grammar.proofs.RowLaws.{length_map}
+use Rattle.std.proofs.lemmas.List.{length-map}
 
 -- the rules by an equation, where others have the rules that f says
 abbrev rules_with : (ℕ → List Rule) → Equation → List Rule
 rules_with f (own rules) = rules
 rules_with f (like []) = []
-rules_with f (like (z ∷ d)) = carried d (f z)
+rules_with f (like (z ∷ d)) = rules_before d (f z)
 
 abbrev rules_there : (ℕ → List Rule) → Option Equation → List Rule
 rules_there f None = []
@@ -25,7 +26,7 @@ solved equations zero m = []
 solved equations (suc fuel) m = rules_there (solved equations fuel) (slice_get equations m)
 
 -- the solution of equations
-abbrev pub solution : ℕ → List Equation → Rows
+abbrev pub solution : ℕ → List Equation → Productions
 solution fuel equations = map (rules_with (solved equations fuel)) equations
 
 row_map : (f : Equation → List Rule) (es : List Equation) (m : ℕ) → (e : Equation) → slice_get es m ≡ Some e → row_of (map f es) m ≡ f e
@@ -34,11 +35,6 @@ row_map f (x ∷ es) zero e g =
     let is : x ≡ e = cc in
     ap f is
 row_map f (x ∷ es) (suc m) e g = row_map f es m e g
-
-pub get_there : (es : List Equation) (m : ℕ) → m < length es → (e : Equation) × (slice_get es m ≡ Some e)
-get_there [] m lt = absurd (omega arith)
-get_there (x ∷ es) zero lt = (x, refl)
-get_there (x ∷ es) (suc m) lt = get_there es m (omega arith)
 
 module _ (equations : List Equation) (rank : ℕ → ℕ) (bound : ℕ) (grounded : IsGrounded rank bound equations) where
   -- more equations than the rank give no other rules
@@ -55,11 +51,11 @@ module _ (equations : List Equation) (rank : ℕ → ℕ) (bound : ℕ) (grounde
           let same : g.0 ≡ z = cc in
           let up : rank g.0 < rank m = g.4 in
           let at : rank g.0 ≡ rank z = ap rank same in
-          ap (carried d) (next z (omega arith))
+          ap (rules_before d) (next z (omega arith))
 
   -- the solution solves the equations
   pub solves : Solves (solution bound equations) equations
-  solves = (length_map (rules_with (solved equations bound)) equations, λ m e g. at m e g)
+  solves = (length-map equations (rules_with (solved equations bound)), λ m e g. at m e g)
     where
       other : (z : ℕ) → z < length equations → rank z < bound → solved equations bound z ≡ row_of (solution bound equations) z
       other z lt le =
@@ -76,22 +72,22 @@ module _ (equations : List Equation) (rank : ℕ → ℕ) (bound : ℕ) (grounde
           let up : rank h.0 < rank m = h.4 in
           let le : rank m ≤ bound = grounded.1 m in
           let is : rank h.0 ≡ rank z = ap rank same in
-          row_map (rules_with (solved equations bound)) equations m (like (z ∷ d)) g ∙ ap (carried d) (other z (omega arith) (omega arith))
+          row_map (rules_with (solved equations bound)) equations m (like (z ∷ d)) g ∙ ap (rules_before d) (other z (omega arith) (omega arith))
 
 -- fine equations have fine rules
 
-carried_words : (total : ℕ) (d : List ℕ) → WordBelow total d → (rules : List Rule) → All (λ (r : Rule). WordBelow total r.word) rules → All (λ (r : Rule). WordBelow total r.word) (carried d rules)
+carried_words : (total : ℕ) (d : List ℕ) → WordBelow total d → (rules : List Rule) → All (λ (r : Rule). WordBelow total r.word) rules → All (λ (r : Rule). WordBelow total r.word) (rules_before d rules)
 carried_words total d b [] h = λ i e lt. absurd (omega arith)
 carried_words total d b (r ∷ rules) h =
-    All-cons (λ (q : Rule). WordBelow total q.word) _ (carried d rules) (All-append (λ k. k < total) r.word d (All-head (λ (q : Rule). WordBelow total q.word) r rules h) b)
+    All-cons (λ (q : Rule). WordBelow total q.word) _ (rules_before d rules) (All-append (λ k. k < total) r.word d (All-head (λ (q : Rule). WordBelow total q.word) r rules h) b)
     (carried_words total d b rules (All-tail (λ (q : Rule). WordBelow total q.word) r rules h))
 
-carried_letters : (few : ℕ) (d : List ℕ) (rules : List Rule) → All (λ (r : Rule). r.letter < few) rules → All (λ (r : Rule). r.letter < few) (carried d rules)
+carried_letters : (few : ℕ) (d : List ℕ) (rules : List Rule) → All (λ (r : Rule). r.letter < few) rules → All (λ (r : Rule). r.letter < few) (rules_before d rules)
 carried_letters few d [] h = λ i e lt. absurd (omega arith)
 carried_letters few d (r ∷ rules) h =
-    All-cons (λ (q : Rule). q.letter < few) _ (carried d rules) (All-head (λ (q : Rule). q.letter < few) r rules h) (carried_letters few d rules (All-tail (λ (q : Rule). q.letter < few) r rules h))
+    All-cons (λ (q : Rule). q.letter < few) _ (rules_before d rules) (All-head (λ (q : Rule). q.letter < few) r rules h) (carried_letters few d rules (All-tail (λ (q : Rule). q.letter < few) r rules h))
 
-pub carried_ordered : (d : List ℕ) (rules : List Rule) → AreOrdered rules → AreOrdered (carried d rules)
+pub carried_ordered : (d : List ℕ) (rules : List Rule) → AreOrdered rules → AreOrdered (rules_before d rules)
 carried_ordered d [] h = tt
 carried_ordered d (r ∷ []) h = (tt, tt)
 carried_ordered d (r ∷ (q ∷ rules)) h = (h.0, carried_ordered d (q ∷ rules) h.1)

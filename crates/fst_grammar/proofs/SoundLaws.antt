@@ -10,13 +10,14 @@ use Rattle.fst_types.specs.Size.{nodes}
 use Rattle.fst_types.specs.Order.{label_cmp, same_label, AreRising}
 use Rattle.fst_types.specs.declared.label.Label.{Label}
 use Rattle.fst_types.specs.declared.label.Label.TheVariants.{Send, Receive, Select, Offer, Var}
-use Rattle.fst_types.proofs.Labels.{same_label-same, same_label-itself, label_cmp_total}
-use Rattle.fst_lts.specs.Rising.{IsRising}
+use Rattle.fst_types.proofs.Laws.{same_label-same, same_label-itself, label_cmp_total}
+use Rattle.fst_base.specs.Order.{IsRising}
+use Rattle.fst_base.proofs.Orders.{rising_tail}
 use Rattle.fst_lts.specs.Step.{terminated}
 use Rattle.fst_words.specs.declared.rules.Rule.{Rule}
 use Rattle.fst_words.specs.Words.{WordBelow}
 use Rattle.fst_words.specs.Ordered.{AreOrdered}
-use Rattle.fst_grammar.specs.Place.{Place, moved, entered, under, binder}
+use Rattle.fst_grammar.specs.Place.{Place, place_past, own_place, body_place, binder}
 use Rattle.fst_grammar.specs.Word.{Numbers, node_at, word}
 use Rattle.fst_grammar.specs.Labels.{is_name, names, label_position}
 use Rattle.fst_grammar.specs.Parts.{Part, parts, parts_all, numbers_by}
@@ -24,14 +25,11 @@ use Rattle.fst_grammar.specs.Rules.{branch_rules}
 use Rattle.fst_grammar.proofs.LetterLaws.{Known, name_known}
 use Rattle.fst_grammar.proofs.SeekLaws.{Every, every_both}
 use Rattle.fst_grammar.proofs.FitLaws.{AllKnown, AreBinders, IsFit, AreFit, fit_first, fit_second, fit_select, fit_offer, fit_body, fit_branch, fit_others, own_select, own_offer, own_rec}
+use Rattle.fst_base.proofs.Orders.{rising_tail}
 
 -- rising letters
 
-pub rising_rest : (l : Label) (letters : List Label) → IsRising (l ∷ letters) → IsRising letters
-rising_rest l [] h = tt
-rising_rest l (m ∷ letters) h = h.1
-
-pub rising_first : (l a : Label) (letters : List Label) → IsRising (l ∷ letters) → Known letters a → label_cmp l a ≡ Less
+pub rising_first : (l a : Label) (letters : List Label) → IsRising label_cmp (l ∷ letters) → Known letters a → label_cmp l a ≡ Less
 rising_first l a [] h k = absurd (omega arith)
 rising_first l a (m ∷ letters) h k = pick (rising_first m a letters h.1) (same_label a m) refl k
   where
@@ -43,9 +41,9 @@ pub not_less : (a : Label) → label_cmp a a ≡ Less → ⊥
 not_less a e = absurd (cc (sym (ap is_eq e) ∙ same_label-itself a))
 
 -- a lesser label has an earlier place
-pub place_rises : (letters : List Label) (a b : Label) → IsRising letters → Known letters a → Known letters b → label_cmp a b ≡ Less → label_position letters a < label_position letters b
+pub place_rises : (letters : List Label) (a b : Label) → IsRising label_cmp letters → Known letters a → Known letters b → label_cmp a b ≡ Less → label_position letters a < label_position letters b
 place_rises [] a b h j k less = absurd (omega arith)
-place_rises (l ∷ letters) a b h j k less = pick (place_rises letters a b (rising_rest l letters h)) (same_label a l) refl (same_label b l) refl j k
+place_rises (l ∷ letters) a b h j k less = pick (place_rises letters a b (rising_tail label_cmp l letters h)) (same_label a l) refl (same_label b l) refl j k
   where
     pick : (Known letters a → Known letters b → label_cmp a b ≡ Less → label_position letters a < label_position letters b) → (c : Bool) → same_label a l ≡ c → (d : Bool) → same_label b l ≡ d →
         (if c then 0 else suc (label_position letters a)) < suc (length letters) → (if d then 0 else suc (label_position letters b)) < suc (length letters) →
@@ -69,17 +67,17 @@ selects_rise l m e = e
 pub offers_rise : IsMaker Offer
 offers_rise l m e = e
 
-pub rules_rise : (n : Numbers) (letters : List Label) (make : List ℕ → Label) (p : Place) (cs : Branches) → IsMaker make → IsRising letters → AllKnown letters make cs → AreRising cs →
+pub rules_rise : (n : Numbers) (letters : List Label) (make : List ℕ → Label) (p : Place) (cs : Branches) → IsMaker make → IsRising label_cmp letters → AllKnown letters make cs → AreRising cs →
     AreOrdered (branch_rules n letters make p cs)
 rules_rise n letters make p none up h k r = tt
 rules_rise n letters make p (branch l s none) up h k r = (tt, tt)
 rules_rise n letters make p (branch l s (branch m t cs)) up h k r =
-    (place_rises letters (make l) (make m) h k.0 k.2.0 (up l m r.0), rules_rise n letters make (moved p (1 + nodes s)) (branch m t cs) up h k.2 r.1)
+    (place_rises letters (make l) (make m) h k.0 k.2.0 (up l m r.0), rules_rise n letters make (place_past p (1 + nodes s)) (branch m t cs) up h k.2 r.1)
 
 pub rules_below : (n : Numbers) (letters : List Label) (make : List ℕ → Label) (p : Place) (cs : Branches) → AllKnown letters make cs → All (λ (r : Rule). r.letter < length letters) (branch_rules n letters make p cs)
 rules_below n letters make p none k = λ i d lt. absurd (omega arith)
 rules_below n letters make p (branch l s cs) k =
-    All-cons (λ (r : Rule). r.letter < length letters) _ (branch_rules n letters make (moved p (1 + nodes s)) cs) k.0 (rules_below n letters make (moved p (1 + nodes s)) cs k.2)
+    All-cons (λ (r : Rule). r.letter < length letters) _ (branch_rules n letters make (place_past p (1 + nodes s)) cs) k.0 (rules_below n letters make (place_past p (1 + nodes s)) cs k.2)
 
 none_below : (total : ℕ) → WordBelow total []
 none_below total i d lt = absurd (omega arith)
@@ -107,15 +105,15 @@ module _ (letters : List Label) (found : List Part) where
   word_below p skip h = none_below total
   word_below p (send b) h = name_below (Send b) refl h.known
   word_below p (receive b) h = name_below (Receive b) refl h.known
-  word_below p (select cs) h = let has = (own_select letters found p cs h).1 in one_below total (node_at n (entered p (select cs))) (omega arith)
-  word_below p (offer cs) h = let has = (own_offer letters found p cs h).1 in one_below total (node_at n (entered p (offer cs))) (omega arith)
+  word_below p (select cs) h = let has = (own_select letters found p cs h).1 in one_below total (node_at n (own_place p (select cs))) (omega arith)
+  word_below p (offer cs) h = let has = (own_offer letters found p cs h).1 in one_below total (node_at n (own_place p (offer cs))) (omega arith)
   word_below p (seq s r) h =
-      All-append (λ k. k < total) (word n (moved p 1) s) (word n (moved p (1 + nodes s)) r) (word_below (moved p 1) s (fit_first letters found p s r h)) (word_below (moved p (1 + nodes s)) r (fit_second letters found p s r h))
+      All-append (λ k. k < total) (word n (place_past p 1) s) (word n (place_past p (1 + nodes s)) r) (word_below (place_past p 1) s (fit_first letters found p s r h)) (word_below (place_past p (1 + nodes s)) r (fit_second letters found p s r h))
   word_below p (rec s) h = pick (terminated s) refl
     where
-      pick : (c : Bool) → terminated s ≡ c → WordBelow total (if c then [] else node_at n (entered p (rec s)) ∷ [])
+      pick : (c : Bool) → terminated s ≡ c → WordBelow total (if c then [] else node_at n (own_place p (rec s)) ∷ [])
       pick true e = none_below total
-      pick false e = let has = (own_rec letters found p s e h).1 in one_below total (node_at n (entered p (rec s))) (omega arith)
+      pick false e = let has = (own_rec letters found p s e h).1 in one_below total (node_at n (own_place p (rec s))) (omega arith)
   word_below p (back k) h = one_below total (n.node p.whole (binder p.binders k)) (binder_below p.whole p.binders h.bound k h.scoped)
   word_below p (var k) h = name_below (Var k) refl h.known
   word_below p (plain b) h = absurd h.known
@@ -126,12 +124,12 @@ module _ (letters : List Label) (found : List Part) where
   pub branches_below : (make : List ℕ → Label) (p : Place) (cs : Branches) → AreFit letters found make p cs → All (λ (r : Rule). WordBelow total r.word) (branch_rules n letters make p cs)
   branches_below make p none h = λ i d lt. absurd (omega arith)
   branches_below make p (branch l s cs) h =
-      All-cons (λ (r : Rule). WordBelow total r.word) _ (branch_rules n letters make (moved p (1 + nodes s)) cs) (word_below (moved p 1) s (fit_branch letters found make p l s cs h)) (branches_below make (moved p (1 + nodes s)) cs (fit_others letters found make p l s cs h))
+      All-cons (λ (r : Rule). WordBelow total r.word) _ (branch_rules n letters make (place_past p (1 + nodes s)) cs) (word_below (place_past p 1) s (fit_branch letters found make p l s cs h)) (branches_below make (place_past p (1 + nodes s)) cs (fit_others letters found make p l s cs h))
 
   module _ (P : Place → Tree → Type 0)
-      (at_select : (p : Place) (cs : Branches) → IsFit letters found p (select cs) → P (entered p (select cs)) (select cs))
-      (at_offer : (p : Place) (cs : Branches) → IsFit letters found p (offer cs) → P (entered p (offer cs)) (offer cs))
-      (at_rec : (p : Place) (s : Tree) → terminated s ≡ false → IsFit letters found p (rec s) → P (entered p (rec s)) (rec s))
+      (at_select : (p : Place) (cs : Branches) → IsFit letters found p (select cs) → P (own_place p (select cs)) (select cs))
+      (at_offer : (p : Place) (cs : Branches) → IsFit letters found p (offer cs) → P (own_place p (offer cs)) (offer cs))
+      (at_rec : (p : Place) (s : Tree) → terminated s ≡ false → IsFit letters found p (rec s) → P (own_place p (rec s)) (rec s))
     where
       mutual
         -- what holds of each choice and `rec` at its place holds of all parts
@@ -139,15 +137,15 @@ module _ (letters : List Label) (found : List Part) where
         every_part p skip h = tt
         every_part p (send b) h = tt
         every_part p (receive b) h = tt
-        every_part p (select cs) h = (at_select p cs h, every_branch Select (moved (entered p (select cs)) 1) cs (fit_select letters found p cs h))
-        every_part p (offer cs) h = (at_offer p cs h, every_branch Offer (moved (entered p (offer cs)) 1) cs (fit_offer letters found p cs h))
+        every_part p (select cs) h = (at_select p cs h, every_branch Select (place_past (own_place p (select cs)) 1) cs (fit_select letters found p cs h))
+        every_part p (offer cs) h = (at_offer p cs h, every_branch Offer (place_past (own_place p (offer cs)) 1) cs (fit_offer letters found p cs h))
         every_part p (seq s r) h =
-            every_both (λ e. P e.place e.type) (parts (moved p 1) s) (parts (moved p (1 + nodes s)) r) (every_part (moved p 1) s (fit_first letters found p s r h)) (every_part (moved p (1 + nodes s)) r (fit_second letters found p s r h))
+            every_both (λ e. P e.place e.type) (parts (place_past p 1) s) (parts (place_past p (1 + nodes s)) r) (every_part (place_past p 1) s (fit_first letters found p s r h)) (every_part (place_past p (1 + nodes s)) r (fit_second letters found p s r h))
         every_part p (rec s) h =
-            pick (terminated s) refl (λ e. at_rec p s e h) (λ e. every_part (under (entered p (rec s))) s (fit_body letters found p s e h))
+            pick (terminated s) refl (λ e. at_rec p s e h) (λ e. every_part (body_place (own_place p (rec s))) s (fit_body letters found p s e h))
           where
-            pick : (c : Bool) → terminated s ≡ c → (terminated s ≡ false → P (entered p (rec s)) (rec s)) → (terminated s ≡ false → Every (λ e. P e.place e.type) (parts (under (entered p (rec s))) s)) →
-                Every (λ e. P e.place e.type) (if c then [] else record { place = entered p (rec s); type = rec s } ∷ parts (under (entered p (rec s))) s)
+            pick : (c : Bool) → terminated s ≡ c → (terminated s ≡ false → P (own_place p (rec s)) (rec s)) → (terminated s ≡ false → Every (λ e. P e.place e.type) (parts (body_place (own_place p (rec s))) s)) →
+                Every (λ e. P e.place e.type) (if c then [] else record { place = own_place p (rec s); type = rec s } ∷ parts (body_place (own_place p (rec s))) s)
             pick true e here body = tt
             pick false e here body = (here e, body e)
         every_part p (back k) h = tt
@@ -160,5 +158,5 @@ module _ (letters : List Label) (found : List Part) where
         every_branch : (make : List ℕ → Label) (p : Place) (cs : Branches) → AreFit letters found make p cs → Every (λ e. P e.place e.type) (parts_all p cs)
         every_branch make p none h = tt
         every_branch make p (branch l s cs) h =
-            every_both (λ e. P e.place e.type) (parts (moved p 1) s) (parts_all (moved p (1 + nodes s)) cs)
-            (every_part (moved p 1) s (fit_branch letters found make p l s cs h)) (every_branch make (moved p (1 + nodes s)) cs (fit_others letters found make p l s cs h))
+            every_both (λ e. P e.place e.type) (parts (place_past p 1) s) (parts_all (place_past p (1 + nodes s)) cs)
+            (every_part (place_past p 1) s (fit_branch letters found make p l s cs h)) (every_branch make (place_past p (1 + nodes s)) cs (fit_others letters found make p l s cs h))

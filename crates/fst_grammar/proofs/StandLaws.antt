@@ -1,7 +1,7 @@
 -- Words stand for types.
 use Rattle.std.proofs.Common.{◌≡◌, ◌∙◌, ◌<◌, ◌+◌, ◌↔◌, ℕ, zero, suc, List, [], ◌∷◌, ◌++◌, length, Bool, true, false, Option, Some, None, refl, sym, ap, subst, arith, append_assoc}
 use Rattle.std.specs.Prelude.{option_map, if◌then◌else◌, ◌&&◌, not}
-use Rattle.std.proofs.lemmas.Bool.{eq-eqb}
+use Rattle.std.proofs.lemmas.Bool.{eq-eqb, or_parts, and_parts}
 use Rattle.fst_types.specs.Tree.{Tree, skip, send, receive, select, offer, seq, rec, back, var, plain, arrow, pair, named, Branches, none, branch}
 use Rattle.fst_types.specs.Size.{nodes}
 use Rattle.fst_types.specs.Order.{same_label}
@@ -9,14 +9,13 @@ use Rattle.fst_types.specs.Substitution.{variable, substituted, substituted_all}
 use Rattle.fst_types.specs.Scoped.{IsScoped, AllScoped}
 use Rattle.fst_types.specs.declared.label.Label.{Label}
 use Rattle.fst_types.specs.declared.label.Label.TheVariants.{Send, Receive, Select, Offer, Var}
-use Rattle.fst_types.proofs.SubstitutionLaws.{substituted_nothing}
+use Rattle.fst_types.proofs.Laws.{substituted_nothing}
 use Rattle.fst_kinds.specs.Contractive.{guards, reaches, IsContractive, AllContractive}
-use Rattle.fst_kinds.proofs.SubstitutedGuards.{both_false}
 use Rattle.fst_lts.specs.Step.{terminated, branch_at, step_in, step}
-use Rattle.fst_lts.specs.Agree.{BothOrNeither, Performs, AgreeTo, Agree}
-use Rattle.fst_lts.proofs.GuardLaws.{both_true, unguarded}
-use Rattle.fst_lts.proofs.WordLaws.{agree_is_words}
-use Rattle.fst_grammar.specs.Place.{Place, is_closed, top_of, moved, entered, entered_if, under, binder}
+use Rattle.fst_base.specs.Agreement.{BothOrNeither, Performs, AgreeTo, Agree}
+use Rattle.fst_lts.proofs.Laws.{unguarded}
+use Rattle.fst_base.proofs.TraceLaws.{agree_is_traces}
+use Rattle.fst_grammar.specs.Place.{Place, is_closed, top_of, place_past, own_place, own_place_if, body_place, binder}
 use Rattle.fst_grammar.specs.Word.{Numbers, node_at, word}
 use Rattle.fst_grammar.proofs.AbstractRules.{Rule, move, branch_word, IsName, IsChoice, IsRec, HasRules, HaveRules}
 use Rattle.fst_grammar.proofs.ClosingLaws.{scoped_if_closed, AllClosed, Lays, top, over, composed, NoneEnds, under_none, kept_terminated, no_step}
@@ -37,9 +36,9 @@ module _ (n : Numbers) where
   ended_word p (select cs) e = absurd (cc e)
   ended_word p (offer cs) e = absurd (cc e)
   ended_word p (seq s r) e =
-      let h = both_true (terminated s) (terminated r) e in
-      λ i. ended_word (moved p 1) s h.0 i ++ ended_word (moved p (1 + nodes s)) r h.1 i
-  ended_word p (rec s) e = ap (λ c. if c then [] else node_at n (entered p (rec s)) ∷ []) e
+      let h = and_parts (terminated s) (terminated r) e in
+      λ i. ended_word (place_past p 1) s h.0 i ++ ended_word (place_past p (1 + nodes s)) r h.1 i
+  ended_word p (rec s) e = ap (λ c. if c then [] else node_at n (own_place p (rec s)) ∷ []) e
   ended_word p (back k) e = absurd (cc e)
   ended_word p (var k) e = absurd (cc e)
   ended_word p (plain b) e = absurd (cc e)
@@ -54,18 +53,18 @@ module _ (n : Numbers) where
   moving_word rule p skip h e = absurd (cc e)
   moving_word rule p (send b) h e = (n.name (Send b), [], refl)
   moving_word rule p (receive b) h e = (n.name (Receive b), [], refl)
-  moving_word rule p (select cs) h e = (node_at n (entered p (select cs)), [], refl)
-  moving_word rule p (offer cs) h e = (node_at n (entered p (offer cs)), [], refl)
+  moving_word rule p (select cs) h e = (node_at n (own_place p (select cs)), [], refl)
+  moving_word rule p (offer cs) h e = (node_at n (own_place p (offer cs)), [], refl)
   moving_word rule p (seq s r) h e =
-      pick (moving_word rule (moved p 1) s h.0) (moving_word rule (moved p (1 + nodes s)) r h.1) (terminated s) refl e
+      pick (moving_word rule (place_past p 1) s h.0) (moving_word rule (place_past p (1 + nodes s)) r h.1) (terminated s) refl e
     where
-      pick : (terminated s ≡ false → Moving (word n (moved p 1) s)) → (terminated r ≡ false → Moving (word n (moved p (1 + nodes s)) r)) →
-          (c : Bool) → terminated s ≡ c → c && terminated r ≡ false → Moving (word n (moved p 1) s ++ word n (moved p (1 + nodes s)) r)
+      pick : (terminated s ≡ false → Moving (word n (place_past p 1) s)) → (terminated r ≡ false → Moving (word n (place_past p (1 + nodes s)) r)) →
+          (c : Bool) → terminated s ≡ c → c && terminated r ≡ false → Moving (word n (place_past p 1) s ++ word n (place_past p (1 + nodes s)) r)
       pick front behind true is e =
-          subst (λ u. Moving (u ++ word n (moved p (1 + nodes s)) r)) (sym (ended_word (moved p 1) s is)) (behind e)
-      pick front behind false is e = moving_front (word n (moved p 1) s) (word n (moved p (1 + nodes s)) r) (front is)
+          subst (λ u. Moving (u ++ word n (place_past p (1 + nodes s)) r)) (sym (ended_word (place_past p 1) s is)) (behind e)
+      pick front behind false is e = moving_front (word n (place_past p 1) s) (word n (place_past p (1 + nodes s)) r) (front is)
   moving_word rule p (rec s) h e =
-      (node_at n (entered p (rec s)), [], ap (λ c. if c then [] else node_at n (entered p (rec s)) ∷ []) e)
+      (node_at n (own_place p (rec s)), [], ap (λ c. if c then [] else node_at n (own_place p (rec s)) ∷ []) e)
   moving_word rule p (back k) h e = (n.node p.whole (binder p.binders k), [], refl)
   moving_word rule p (var k) h e = (n.name (Var k), [], refl)
   moving_word rule p (plain b) h e = absurd h
@@ -92,7 +91,7 @@ module _ (n : Numbers) (rule : Rule) where
   -- the binders around a part, with what they stand for
   data Chain : Tree → List ℕ → List (Option Tree) → Type 0 where
     open_air : {whole : Tree} → Chain whole [] []
-    within : {whole : Tree} {bs : List ℕ} {env : List (Option Tree)} → Chain whole bs env → (at : ℕ) (s : Tree) → IsScoped (length env) (rec s) → IsContractive (rec s) → terminated s ≡ false → IsRec n rule (record { whole = whole; at = at; binders = bs }) s → HasRules n rule (under (record { whole = whole; at = at; binders = bs })) s → Chain whole (at ∷ bs) (Some (substituted env (rec s)) ∷ env)
+    within : {whole : Tree} {bs : List ℕ} {env : List (Option Tree)} → Chain whole bs env → (at : ℕ) (s : Tree) → IsScoped (length env) (rec s) → IsContractive (rec s) → terminated s ≡ false → IsRec n rule (record { whole = whole; at = at; binders = bs }) s → HasRules n rule (body_place (record { whole = whole; at = at; binders = bs })) s → Chain whole (at ∷ bs) (Some (substituted env (rec s)) ∷ env)
 
   -- the word stands for the substituted type
   data Stands : Tree → List ℕ → Type 0 where
@@ -135,7 +134,7 @@ module _ (n : Numbers) (rule : Rule) where
   -- a type with nothing free stays under closing
   closed_free : (F : List (Option Tree)) (s : Tree) → IsScoped 0 s → substituted F s ≡ s
   closed_free F s h =
-      sym (ap (λ t. substituted F t) (substituted_nothing 0 s)) ∙ composed {outer = []} {names = []} (top F) tt s h ∙ substituted_nothing 0 s
+      sym (ap (λ t. substituted F t) (substituted_nothing s)) ∙ composed {outer = []} {names = []} (top F) tt s h ∙ substituted_nothing s
 
   both_branch : (make : List ℕ → Label) {whole : Tree} {bs : List ℕ} {env : List (Option Tree)} (E D : List (Option Tree)) → Chain whole bs env → ((s : Tree) → IsScoped (length env) s → substituted E (substituted D s) ≡ substituted env s) → (at : ℕ) (cs : Branches) → AllScoped (length env) cs → AllContractive cs → HaveRules n rule (record { whole = whole; at = at; binders = bs }) cs → (a : Label) → BothOrNeither Stands (option_map (substituted E) (branch_at make (substituted_all D cs) a)) (branch_word n make (record { whole = whole; at = at; binders = bs }) cs a)
   both_branch make E D c comp at none h k r a = tt
@@ -148,13 +147,13 @@ module _ (n : Numbers) (rule : Rule) where
       pick next false = next
 
   -- a choice at its own place
-  choice_case : (make : List ℕ → Label) (t : Tree) {whole : Tree} {bs : List ℕ} {env : List (Option Tree)} (E D : List (Option Tree)) → Chain whole bs env → ((s : Tree) → IsScoped (length env) s → substituted E (substituted D s) ≡ substituted env s) → (at : ℕ) (cs : Branches) → AllScoped (length env) cs → (is_closed t ≡ true → AllScoped 0 cs) → AllContractive cs → IsChoice n rule make (entered (record { whole = whole; at = at; binders = bs }) t) cs → HaveRules n rule (moved (entered (record { whole = whole; at = at; binders = bs }) t) 1) cs → (a : Label) → BothOrNeither Stands (option_map (substituted E) (branch_at make (substituted_all D cs) a)) (move rule (node_at n (entered (record { whole = whole; at = at; binders = bs }) t) ∷ []) a)
+  choice_case : (make : List ℕ → Label) (t : Tree) {whole : Tree} {bs : List ℕ} {env : List (Option Tree)} (E D : List (Option Tree)) → Chain whole bs env → ((s : Tree) → IsScoped (length env) s → substituted E (substituted D s) ≡ substituted env s) → (at : ℕ) (cs : Branches) → AllScoped (length env) cs → (is_closed t ≡ true → AllScoped 0 cs) → AllContractive cs → IsChoice n rule make (own_place (record { whole = whole; at = at; binders = bs }) t) cs → HaveRules n rule (place_past (own_place (record { whole = whole; at = at; binders = bs }) t) 1) cs → (a : Label) → BothOrNeither Stands (option_map (substituted E) (branch_at make (substituted_all D cs) a)) (move rule (node_at n (own_place (record { whole = whole; at = at; binders = bs }) t) ∷ []) a)
   choice_case make t {whole} {bs} {env} E D c comp at cs h free k i r a =
       subst (λ o. BothOrNeither Stands (option_map (substituted E) (branch_at make (substituted_all D cs) a)) o)
-      (sym (move_one (node_at n (entered (record { whole = whole; at = at; binders = bs }) t)) a ∙ i a))
+      (sym (move_one (node_at n (own_place (record { whole = whole; at = at; binders = bs }) t)) a ∙ i a))
       (pick (is_closed t) refl r)
     where
-      pick : (b : Bool) → is_closed t ≡ b → HaveRules n rule (moved (entered_if b (record { whole = whole; at = at; binders = bs }) t) 1) cs → BothOrNeither Stands (option_map (substituted E) (branch_at make (substituted_all D cs) a)) (branch_word n make (moved (entered_if b (record { whole = whole; at = at; binders = bs }) t) 1) cs a)
+      pick : (b : Bool) → is_closed t ≡ b → HaveRules n rule (place_past (own_place_if b (record { whole = whole; at = at; binders = bs }) t) 1) cs → BothOrNeither Stands (option_map (substituted E) (branch_at make (substituted_all D cs) a)) (branch_word n make (place_past (own_place_if b (record { whole = whole; at = at; binders = bs }) t) 1) cs a)
       pick true is r =
           both_branch make {whole = t} E D open_air (λ s f. ap (λ x. substituted E x) (closed_free D s f) ∙ closed_free E s f ∙ sym (closed_free [] s f)) (0 + 1) cs (free is) k r a
       pick false is r = both_branch make E D c comp (at + 1) cs h k r a
@@ -175,23 +174,23 @@ module _ (n : Numbers) (rule : Rule) where
   body_step E D W s w a e h =
       subst (λ x. BothOrNeither Stands (step_in (Some x ∷ E) (substituted (None ∷ D) s) a) (move rule w a)) (sym e) h
 
-  rec_case : (p : Place) (E D G : List (Option Tree)) (s : Tree) (a : Label) → NoneEnds D → substituted E (substituted D (rec s)) ≡ substituted G (rec s) → HasRules n rule p (rec s) → (terminated s ≡ false → IsRec n rule p s → HasRules n rule (under p) s → BothOrNeither Stands (step_in (Some (substituted G (rec s)) ∷ E) (substituted (None ∷ D) s) a) (move rule (word n (under p) s) a)) → (terminated s ≡ false → IsScoped 0 (rec s) → IsRec n rule (top_of (rec s)) s → HasRules n rule (under (top_of (rec s))) s → BothOrNeither Stands (step_in (Some (substituted [] (rec s)) ∷ E) (substituted (None ∷ []) s) a) (move rule (word n (under (top_of (rec s))) s) a)) → BothOrNeither Stands (step_in E (substituted D (rec s)) a) (move rule (word n p (rec s)) a)
+  rec_case : (p : Place) (E D G : List (Option Tree)) (s : Tree) (a : Label) → NoneEnds D → substituted E (substituted D (rec s)) ≡ substituted G (rec s) → HasRules n rule p (rec s) → (terminated s ≡ false → IsRec n rule p s → HasRules n rule (body_place p) s → BothOrNeither Stands (step_in (Some (substituted G (rec s)) ∷ E) (substituted (None ∷ D) s) a) (move rule (word n (body_place p) s) a)) → (terminated s ≡ false → IsScoped 0 (rec s) → IsRec n rule (top_of (rec s)) s → HasRules n rule (body_place (top_of (rec s))) s → BothOrNeither Stands (step_in (Some (substituted [] (rec s)) ∷ E) (substituted (None ∷ []) s) a) (move rule (word n (body_place (top_of (rec s))) s) a)) → BothOrNeither Stands (step_in E (substituted D (rec s)) a) (move rule (word n p (rec s)) a)
   rec_case p E D G s a ends comp rules open_body closed_body = pick (terminated s) refl
     where
-      place : terminated s ≡ false → (c : Bool) → is_closed (rec s) ≡ c → IsRec n rule (entered_if c p (rec s)) s × HasRules n rule (under (entered_if c p (rec s))) s → BothOrNeither Stands (step_in E (substituted D (rec s)) a) (move rule (word n (under (entered_if c p (rec s))) s) a)
+      place : terminated s ≡ false → (c : Bool) → is_closed (rec s) ≡ c → IsRec n rule (own_place_if c p (rec s)) s × HasRules n rule (body_place (own_place_if c p (rec s))) s → BothOrNeither Stands (step_in E (substituted D (rec s)) a) (move rule (word n (body_place (own_place_if c p (rec s))) s) a)
       place moves true is r =
           let h = scoped_if_closed (rec s) is in
-          subst (λ x. BothOrNeither Stands (step_in E x a) (move rule (word n (under (top_of (rec s))) s) a)) (closed_free [] (rec s) h ∙ sym (closed_free D (rec s) h))
-          (body_step E [] (substituted [] (rec s)) s (word n (under (top_of (rec s))) s) a (composed {outer = []} {names = []} (top E) tt (rec s) h) (closed_body moves h r.0 r.1))
+          subst (λ x. BothOrNeither Stands (step_in E x a) (move rule (word n (body_place (top_of (rec s))) s) a)) (closed_free [] (rec s) h ∙ sym (closed_free D (rec s) h))
+          (body_step E [] (substituted [] (rec s)) s (word n (body_place (top_of (rec s))) s) a (composed {outer = []} {names = []} (top E) tt (rec s) h) (closed_body moves h r.0 r.1))
       place moves false is r =
-          body_step E D (substituted G (rec s)) s (word n (under p) s) a comp (open_body moves r.0 r.1)
+          body_step E D (substituted G (rec s)) s (word n (body_place p) s) a comp (open_body moves r.0 r.1)
 
-      pick : (c : Bool) → terminated s ≡ c → BothOrNeither Stands (step_in E (substituted D (rec s)) a) (move rule (if c then [] else node_at n (entered p (rec s)) ∷ []) a)
+      pick : (c : Bool) → terminated s ≡ c → BothOrNeither Stands (step_in E (substituted D (rec s)) a) (move rule (if c then [] else node_at n (own_place p (rec s)) ∷ []) a)
       pick true is =
           subst (λ o. BothOrNeither Stands o None) (sym (no_step E (substituted D (rec s)) a (kept_terminated D ends (rec s) ∙ is))) tt
       pick false is =
           let r = rules is in
-          subst (λ o. BothOrNeither Stands (step_in E (substituted D (rec s)) a) o) (sym (move_one (node_at n (entered p (rec s))) a ∙ r.0 a))
+          subst (λ o. BothOrNeither Stands (step_in E (substituted D (rec s)) a) o) (sym (move_one (node_at n (own_place p (rec s))) a ∙ r.0 a))
           (place is (is_closed (rec s)) refl r)
 
   -- what the binders stand for moves as their non-terminals
@@ -205,7 +204,7 @@ module _ (n : Numbers) (rule : Rule) where
 
   second_unreached : (m : ℕ) (s r : Tree) → terminated s ≡ true → ((k : ℕ) → k < m → reaches (seq s r) k ≡ false) → (k : ℕ) → k < m → reaches r k ≡ false
   second_unreached m s r e h k lt =
-      let both = both_false (reaches s k) (not (guards s) && reaches r k) (h k lt) in
+      let both = or_parts (reaches s k) (not (guards s) && reaches r k) (h k lt) in
       subst (λ g. not g && reaches r k ≡ false) (unguarded s e) both.1
 
   body_unreached : (m : ℕ) (s : Tree) → reaches s 0 ≡ false → ((k : ℕ) → k < m → reaches (rec s) k ≡ false) → (k : ℕ) → k < suc m → reaches s k ≡ false
@@ -225,7 +224,7 @@ module _ (n : Numbers) (rule : Rule) where
       let front : Place = record { whole = whole; at = at + 1; binders = bs } in
       let behind : Place = record { whole = whole; at = at + (1 + nodes s); binders = bs } in
       seq_case E (substituted D s) (substituted D r) (word n front s) (word n behind r) a
-      (inner s l c0 heads c (at + 1) h.0 k.0 rs.0 (λ j lt. (both_false (reaches s j) (not (guards s) && reaches r j) (g j lt)).0) a)
+      (inner s l c0 heads c (at + 1) h.0 k.0 rs.0 (λ j lt. (or_parts (reaches s j) (not (guards s) && reaches r j) (g j lt)).0) a)
       (λ e. (ended_word n front s (sym (kept_terminated D ends s) ∙ e), inner r l c0 heads c (at + (1 + nodes s)) h.1 k.1 rs.1 (second_unreached m s r (sym (kept_terminated D ends s) ∙ e) g) a))
       (λ e. moving_word n rule front s rs.0 (sym (kept_terminated D ends s) ∙ e))
       (subst (λ t. Stands t (word n behind r)) (sym (composed l (chain_closed c0) r h.1)) (part c (at + (1 + nodes s)) r h.1 k.1 rs.1))
@@ -246,7 +245,7 @@ module _ (n : Numbers) (rule : Rule) where
   heads_of (within {whole} {bs} {env} c at s h k e i r) zero j lt F a =
       let p : Place = record { whole = whole; at = at; binders = bs } in
       subst (λ o. BothOrNeither Stands (step_in F (substituted env (rec s)) a) o) (sym (move_one (n.node whole at) a ∙ i a))
-      (body_step F env (substituted env (rec s)) s (word n (under p) s) a (composed {names = bs} (top F) (chain_closed c) (rec s) h)
+      (body_step F env (substituted env (rec s)) s (word n (body_place p) s) a (composed {names = bs} (top F) (chain_closed c) (rec s) h)
       (inner s (over (Some (substituted env (rec s))) at (top F)) c (heads_of c) (within c at s h k e i r) (at + 1) h k.0 r (body_unreached 0 s k.1 (λ j lt. absurd (omega arith))) a))
   heads_of (within c at s h k e i r) (suc m) j lt F a = heads_of c m j (omega arith) F a
 
@@ -254,7 +253,7 @@ module _ (n : Numbers) (rule : Rule) where
   ended (part {whole} {bs} {env} c at t h k r) e =
       ended_word n (record { whole = whole; at = at; binders = bs }) t (sym (kept_terminated env (chain_moves c) t) ∙ e)
   ended (joined {s} {r} x y) e =
-      let b = both_true (terminated s) (terminated r) e in
+      let b = and_parts (terminated s) (terminated r) e in
       λ i. ended x b.0 i ++ ended y b.1 i
 
   joined_moving : (c d : Bool) (u v : List ℕ) → c && d ≡ false → (c ≡ true → u ≡ []) → (c ≡ false → Moving u) → (d ≡ false → Moving v) → Moving (u ++ v)
@@ -270,7 +269,7 @@ module _ (n : Numbers) (rule : Rule) where
   simulate : {s : Tree} {w : List ℕ} → Stands s w → (a : Label) → BothOrNeither Stands (step s a) (move rule w a)
   simulate (part c at t h k r) a = inner t (top []) c (heads_of c) c at h k r (λ j lt. absurd (omega arith)) a
   simulate (joined {s} {r} {u} {v} x y) a =
-      seq_case [] s r u v a (simulate x a) (λ e. (ended x e, simulate y a)) (moving x) (subst (λ t. Stands t v) (sym (substituted_nothing 0 r)) y)
+      seq_case [] s r u v a (simulate x a) (λ e. (ended x e, simulate y a)) (moving x) (subst (λ t. Stands t v) (sym (substituted_nothing r)) y)
 
   agree_after : (m : ℕ) → ((s : Tree) (w : List ℕ) → Stands s w → AgreeTo step (move rule) m s w) → (o : Option Tree) (p : Option (List ℕ)) → BothOrNeither Stands o p → BothOrNeither (AgreeTo step (move rule) m) o p
   agree_after m h None None b = tt
@@ -285,8 +284,8 @@ module _ (n : Numbers) (rule : Rule) where
   -- the word of a substituted and contractive type stands for it
   pub stands_for : (s : Tree) → IsScoped 0 s → IsContractive s → HasRules n rule (top_of s) s → Agree step (move rule) s (word n (top_of s) s)
   stands_for s h k r m =
-      stands_agree m s (word n (top_of s) s) (subst (λ t. Stands t (word n (top_of s) s)) (substituted_nothing 0 s) (part {whole = s} open_air 0 s h k r))
+      stands_agree m s (word n (top_of s) s) (subst (λ t. Stands t (word n (top_of s) s)) (substituted_nothing s) (part {whole = s} open_air 0 s h k r))
 
   pub performs_same : (s : Tree) → IsScoped 0 s → IsContractive s → HasRules n rule (top_of s) s →
       (w : List Label) → Performs step s w ↔ Performs (move rule) (word n (top_of s) s) w
-  performs_same s h k r w = (agree_is_words step (move rule) (length w) s (word n (top_of s) s)).0 (stands_for s h k r (length w)) w (omega arith)
+  performs_same s h k r w = (agree_is_traces step (move rule) (length w) s (word n (top_of s) s)).0 (stands_for s h k r (length w)) w (omega arith)

@@ -1,9 +1,8 @@
 -- A list that has each part once.
 use Rattle.std.proofs.Common.{◌≡◌, ◌∙◌, ◌<◌, refl, sym, ap, subst, arith, ℕ, zero, suc, List, [], ◌∷◌, ◌++◌, length, Bool, true, false, Some, ◌&&◌}
 use Rattle.std.specs.Prelude.{if◌then◌else◌, nat_lt, nat_eq, slice_get}
-use Rattle.std.proofs.lemmas.Bool.{eq-eqb, eqb-true, ltb-true}
+use Rattle.std.proofs.lemmas.Bool.{eq-eqb, eqb-true, ltb-true, and_parts}
 use Rattle.fst_types.specs.Tree.{Tree}
-use Rattle.fst_lts.proofs.GuardLaws.{both_true}
 use Rattle.fst_grammar.specs.Same.{same_tree}
 use Rattle.fst_grammar.specs.Parts.{Part, stands_at, position, with_part, with_parts}
 use Rattle.fst_grammar.proofs.SameLaws.{same_tree-itself, same_tree-same}
@@ -83,7 +82,7 @@ found_at (e ∷ found) w a h = pick (found_at found w a) (stands_at e w a) refl 
     pick : (Has found w a → (f : Part) × (slice_get found (position found w a) ≡ Some f) × (f.place.whole ≡ w) × (f.place.at ≡ a)) → (c : Bool) → stands_at e w a ≡ c →
         (if c then 0 else suc (position found w a)) < suc (length found) → (f : Part) × (slice_get (e ∷ found) (if c then 0 else suc (position found w a)) ≡ Some f) × (f.place.whole ≡ w) × (f.place.at ≡ a)
     pick next true is lt =
-        let h = both_true (nat_eq e.place.at a) (same_tree e.place.whole w) is in
+        let h = and_parts (nat_eq e.place.at a) (same_tree e.place.whole w) is in
         (e, refl, same_tree-same e.place.whole w h.1, eqb-true e.place.at a h.0)
     pick next false is lt = next (omega arith)
 

@@ -1,7 +1,7 @@
 -- The equations of two session types are those of their grammar.
 use Rattle.std.proofs.Common.{◌≡◌, ◌∙◌, ◌+◌, ◌<◌, ◌≤◌, refl, sym, ap, subst, arith, ℕ, zero, suc, List, [], ◌∷◌, ◌++◌, length, Bool, true, false, Some, map}
 use Rattle.std.specs.Prelude.{All, Contains, slice_get, if◌then◌else◌, ⊤}
-use Rattle.std.proofs.lemmas.List.{length-append}
+use Rattle.std.proofs.lemmas.List.{length-append, length-map}
 use Rattle.std.proofs.lemmas.List.Elements.{All-cons, All-head, All-append, Contains-append_left, Contains-append_right}
 use Rattle.fst_types.specs.Tree.{Tree, skip, send, receive, select, offer, seq, rec, back, var, plain, arrow, pair, named, Branches}
 use Rattle.fst_types.specs.Size.{nodes}
@@ -10,16 +10,16 @@ use Rattle.fst_types.specs.declared.label.Label.{Label}
 use Rattle.fst_types.specs.declared.label.Label.TheVariants.{Select, Offer}
 use Rattle.fst_kinds.specs.WellFormed.{IsSession}
 use Rattle.fst_lts.specs.Step.{terminated}
-use Rattle.fst_lts.specs.Agree.{Performs}
+use Rattle.fst_base.specs.Agreement.{Performs}
 use Rattle.fst_words.specs.declared.rules.Rule.{Rule}
-use Rattle.fst_words.specs.Words.{Rows, WordBelow, label_step, StandsFor}
-use Rattle.fst_grammar.specs.Place.{Place, top_of, moved, entered, under}
+use Rattle.fst_words.specs.Words.{Productions, WordBelow, label_step}
+use Rattle.fst_grammar.specs.Place.{Place, top_of, place_past, own_place, body_place}
 use Rattle.fst_grammar.specs.Word.{Numbers, word}
 use Rattle.fst_grammar.specs.Labels.{is_name, names, labels_in, AreLetters}
 use Rattle.fst_grammar.specs.Parts.{Part, parts, parts_of, numbers_by}
 use Rattle.fst_grammar.specs.Rules.{name_rules, HasRows}
 use Rattle.fst_grammar.specs.Equations.{Equation, own, like, Solves, equation_at, part_equation, equations_by, IsGrounded, IsFine, most_rank}
-use Rattle.fst_grammar.specs.Translation.{IsGrammar, most_nodes}
+use Rattle.fst_grammar.specs.Translation.{IsGrammar}
 use Rattle.fst_grammar.proofs.AbstractRules.{move}
 use Rattle.fst_grammar.proofs.StandLaws.{performs_same}
 use Rattle.fst_grammar.proofs.LetterLaws.{Known}
@@ -27,9 +27,12 @@ use Rattle.fst_grammar.proofs.LabelLaws.{contains_known, session_known}
 use Rattle.fst_grammar.proofs.SeekLaws.{Every, every_front, every_behind, every_both, IsSeated, all_seated}
 use Rattle.fst_grammar.proofs.TableLaws.{Holds, all_held, every_with, every_get}
 use Rattle.fst_grammar.proofs.FitLaws.{AreKnown, IsFit, fit_select, fit_offer, fit_body}
-use Rattle.fst_grammar.proofs.RowLaws.{has_rows, rule_in, has_rules, moves_by_label, length_map}
+use Rattle.fst_grammar.proofs.RowLaws.{has_rows, rule_in, has_rules, moves_by_label}
 use Rattle.fst_grammar.proofs.RankLaws.{rank, part_rank, entry_rank, rank_entry, body_falls, part_most, number_most}
+use Rattle.fst_grammar.proofs.RuledLaws.{HasRule, names_ruled, branches_ruled}
 use Rattle.fst_grammar.proofs.SoundLaws.{rules_rise, rules_below, selects_rise, offers_rise, word_below, branches_below, every_part}
+use Rattle.fst_grammar.specs.Standing.{StandsFor}
+use Rattle.fst_base.specs.Limits.{most_nodes}
 
 every_map : (P Q : Part → Type 0) → ((e : Part) → P e → Q e) → (es : List Part) → Every P es → Every Q es
 every_map P Q f [] h = tt
@@ -123,9 +126,9 @@ module _ (vars : List Kind) (s r : Tree) (ws : IsSession vars s) (wr : (other : 
 
   -- what holds of each choice and `rec` of both types holds of each in the list
   every_found : (P : Place → Tree → Type 0) →
-      ((p : Place) (cs : Branches) → IsFit letters found p (select cs) → P (entered p (select cs)) (select cs)) →
-      ((p : Place) (cs : Branches) → IsFit letters found p (offer cs) → P (entered p (offer cs)) (offer cs)) →
-      ((p : Place) (b : Tree) → terminated b ≡ false → IsFit letters found p (rec b) → P (entered p (rec b)) (rec b)) →
+      ((p : Place) (cs : Branches) → IsFit letters found p (select cs) → P (own_place p (select cs)) (select cs)) →
+      ((p : Place) (cs : Branches) → IsFit letters found p (offer cs) → P (own_place p (offer cs)) (offer cs)) →
+      ((p : Place) (b : Tree) → terminated b ≡ false → IsFit letters found p (rec b) → P (own_place p (rec b)) (rec b)) →
       Every (λ e. P e.place e.type) found
   every_found P f g h =
       every_with (λ e. P e.place e.type) [] (parts (top_of s) s ++ parts (top_of r) r) tt
@@ -136,29 +139,42 @@ module _ (vars : List Kind) (s r : Tree) (ws : IsSession vars s) (wr : (other : 
       every_all (IsFine total (length letters)) (part_equation n letters) found
       (every_found (λ q t. IsFine total (length letters) (equation_at n letters q t))
       (λ p cs h. let f = fit_select letters found p cs h in
-      (branches_below letters found Select (moved (entered p (select cs)) 1) cs f, rules_below n letters Select (moved (entered p (select cs)) 1) cs f.known, rules_rise n letters Select (moved (entered p (select cs)) 1) cs selects_rise are.0 f.known h.ordered.0))
+      (branches_below letters found Select (place_past (own_place p (select cs)) 1) cs f, rules_below n letters Select (place_past (own_place p (select cs)) 1) cs f.known, rules_rise n letters Select (place_past (own_place p (select cs)) 1) cs selects_rise are.0 f.known h.ordered.0))
       (λ p cs h. let f = fit_offer letters found p cs h in
-      (branches_below letters found Offer (moved (entered p (offer cs)) 1) cs f, rules_below n letters Offer (moved (entered p (offer cs)) 1) cs f.known, rules_rise n letters Offer (moved (entered p (offer cs)) 1) cs offers_rise are.0 f.known h.ordered.0))
-      (λ p b e h. word_below letters found (under (entered p (rec b))) b (fit_body letters found p b e h)))
+      (branches_below letters found Offer (place_past (own_place p (offer cs)) 1) cs f, rules_below n letters Offer (place_past (own_place p (offer cs)) 1) cs f.known, rules_rise n letters Offer (place_past (own_place p (offer cs)) 1) cs offers_rise are.0 f.known h.ordered.0))
+      (λ p b e h. word_below letters found (body_place (own_place p (rec b))) b (fit_body letters found p b e h)))
 
   -- the equations are in order, with words and letters of the grammar
   pub equations_fine : All (IsFine total (length letters)) (equations_by letters found)
   equations_fine =
       All-append (IsFine total (length letters)) (map (λ a. own (name_rules letters a)) (names letters)) (map (part_equation n letters) found) (names_fine total letters letters (contains_known letters)) parts_fine
 
+  -- each equation by rules has a rule
+  parts_ruled : All HasRule (map (part_equation n letters) found)
+  parts_ruled =
+      every_all HasRule (part_equation n letters) found
+      (every_found (λ q t. HasRule (equation_at n letters q t))
+      (λ p cs h. branches_ruled n letters Select (place_past (own_place p (select cs)) 1) cs h.ordered.0)
+      (λ p cs h. branches_ruled n letters Offer (place_past (own_place p (offer cs)) 1) cs h.ordered.0)
+      (λ p b e h. tt))
+
+  pub equations_ruled : All HasRule (equations_by letters found)
+  equations_ruled =
+      All-append HasRule (map (λ a. own (name_rules letters a)) (names letters)) (map (part_equation n letters) found) (names_ruled letters (names letters)) parts_ruled
+
   pub equations_length : length (equations_by letters found) ≡ total
   equations_length =
       length-append (map (λ a. own (name_rules letters a)) (names letters)) (map (part_equation n letters) found)
-      ∙ (λ i. length_map (λ a. own (name_rules letters a)) (names letters) i + length_map (part_equation n letters) found i)
+      ∙ (λ i. length-map (names letters) (λ a. own (name_rules letters a)) i + length-map found (part_equation n letters) i)
 
   abbrev Sinks : Place → Tree → Type 0
-  Sinks q (rec b) = (z : ℕ) × (d : List ℕ) × (word n (under q) b ≡ z ∷ d) × (z < total) × (rank letters found seated z < part_rank (record { place = q; type = rec b }))
+  Sinks q (rec b) = (z : ℕ) × (d : List ℕ) × (word n (body_place q) b ≡ z ∷ d) × (z < total) × (rank letters found seated z < part_rank (record { place = q; type = rec b }))
   Sinks q t = ⊤
 
-  body_sinks : (p : Place) (b : Tree) → terminated b ≡ false → IsFit letters found p (rec b) → Sinks (entered p (rec b)) (rec b)
+  body_sinks : (p : Place) (b : Tree) → terminated b ≡ false → IsFit letters found p (rec b) → Sinks (own_place p (rec b)) (rec b)
   body_sinks p b e h =
       let f = body_falls letters found seated p b e h in
-      let below = subst (WordBelow total) f.2 (word_below letters found (under (entered p (rec b))) b (fit_body letters found p b e h)) in
+      let below = subst (WordBelow total) f.2 (word_below letters found (body_place (own_place p (rec b))) b (fit_body letters found p b e h)) in
       (f.0, f.1, f.2, All-head (λ k. k < total) f.0 f.1 below, f.3)
 
   all_sink : Every (λ e. Sinks e.place e.type) found
@@ -173,7 +189,7 @@ module _ (vars : List Kind) (s r : Tree) (ws : IsSession vars s) (wr : (other : 
   sunk : (q : Place) (t : Tree) (w : List ℕ) → equation_at n letters q t ≡ like w → Sinks q t →
       (z : ℕ) × (d : List ℕ) × (w ≡ z ∷ d) × (z < total) × (rank letters found seated z < part_rank (record { place = q; type = t }))
   sunk q (rec b) w e h =
-      let same : word n (under q) b ≡ w = cc in
+      let same : word n (body_place q) b ≡ w = cc in
       (h.0, h.1, sym same ∙ h.2, h.3, h.4)
   sunk q skip w e h = absurd (cc e)
   sunk q (send b) w e h = absurd (cc e)
@@ -201,7 +217,7 @@ module _ (vars : List Kind) (s r : Tree) (ws : IsSession vars s) (wr : (other : 
           (sinks.0, sinks.1, sinks.2, omega (arith, sinks.3), omega (arith, sinks.4))
 
   -- rows that solve the equations are the grammar
-  pub grammar_is : (rows : Rows) → Solves rows (equations_by letters found) → IsGrammar s r letters rows
+  pub grammar_is : (rows : Productions) → Solves rows (equations_by letters found) → IsGrammar s r letters rows
   grammar_is rows h = record {
     labels = are;
     count = h.0 ∙ equations_length;
@@ -210,7 +226,7 @@ module _ (vars : List Kind) (s r : Tree) (ws : IsSession vars s) (wr : (other : 
   }
 
 -- the word of a type stands for it
-pub stands : (vars : List Kind) (n : Numbers) (letters : List Label) (rows : Rows) (s : Tree) → IsSession vars s → AreKnown letters s → HasRows n letters rows (top_of s) s → StandsFor letters rows (word n (top_of s) s) s
+pub stands : (vars : List Kind) (n : Numbers) (letters : List Label) (rows : Productions) (s : Tree) → IsSession vars s → AreKnown letters s → HasRows n letters rows (top_of s) s → StandsFor letters rows (word n (top_of s) s) s
 stands vars n letters rows s w known h a =
     let f = rule_in n letters rows in
     let same = performs_same n f s w.1.scoped w.1.contractive (has_rules n letters rows (top_of s) s known h) a in

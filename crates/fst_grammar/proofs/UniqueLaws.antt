@@ -4,66 +4,67 @@ use Rattle.std.specs.Prelude.{Contains, slice_get, nat_lt, if◌then◌else◌}
 use Rattle.std.specs.declared.cmp.Ordering.TheVariants.{Less}
 use Rattle.std.proofs.lemmas.List.{ext_get_or}
 use Rattle.std.proofs.lemmas.List.Elements.{Contains-append_cases}
-use Rattle.std.proofs.lemmas.Bool.{eq-eqb, ltb-false}
+use Rattle.std.proofs.lemmas.Bool.{eq-eqb, ltb-false, and_parts}
 use Rattle.fst_types.specs.Tree.{Tree, skip, send, receive, select, offer, seq, rec, back, var, plain, arrow, pair, named, Branches, none, branch}
 use Rattle.fst_types.specs.Size.{nodes}
 use Rattle.fst_types.specs.Order.{label_cmp, same_label}
 use Rattle.fst_types.specs.declared.kind.Kind.{Kind}
 use Rattle.fst_types.specs.declared.label.Label.{Label}
 use Rattle.fst_types.specs.declared.label.Label.TheVariants.{Send, Receive, Select, Offer, Var}
-use Rattle.fst_types.proofs.Labels.{same_label-same, same_label-itself, label_cmp_total}
+use Rattle.fst_types.proofs.Laws.{same_label-same, same_label-itself, label_cmp_total}
 use Rattle.fst_kinds.specs.WellFormed.{IsSession}
-use Rattle.fst_lts.specs.Rising.{IsRising}
+use Rattle.fst_base.specs.Order.{IsRising}
 use Rattle.fst_lts.specs.Step.{terminated}
-use Rattle.fst_lts.proofs.GuardLaws.{both_true}
-use Rattle.fst_words.specs.Words.{Rows, row_of}
-use Rattle.fst_grammar.specs.Place.{Place, top_of, moved, entered, under}
+use Rattle.fst_words.specs.Words.{Productions, row_of}
+use Rattle.fst_grammar.specs.Place.{Place, top_of, place_past, own_place, body_place}
 use Rattle.fst_grammar.specs.Word.{Numbers, node_at}
 use Rattle.fst_grammar.specs.Labels.{labels_in, branch_labels, AreLetters, is_name, names, label_position}
 use Rattle.fst_grammar.specs.Parts.{Part, parts, parts_all, stands_at, position, with_part, with_parts, parts_of, numbers_by}
-use Rattle.fst_grammar.specs.Rules.{carried, name_rules, HasRows, HaveRows}
+use Rattle.fst_grammar.specs.Rules.{rules_before, name_rules, HasRows, HaveRows}
 use Rattle.fst_grammar.specs.Equations.{Equation, own, like, rules_by, Solves, part_equation, equations_by, IsGrounded, most_rank}
-use Rattle.fst_grammar.specs.Translation.{IsGrammar, OneGrammar, most_nodes}
+use Rattle.fst_grammar.specs.Translation.{IsGrammar, OneGrammar}
 use Rattle.fst_grammar.proofs.SameLaws.{same_tree-itself}
-use Rattle.fst_grammar.proofs.LabelLaws.{head_in, tail_in, from_cons, contains_known}
+use Rattle.fst_base.proofs.Lists.{contains_head, contains_tail, from_contains, get_there}
+use Rattle.fst_grammar.proofs.LabelLaws.{contains_known}
 use Rattle.fst_grammar.proofs.SeekLaws.{Every, every_both}
 use Rattle.fst_grammar.proofs.TableLaws.{Has, every_with, every_get}
-use Rattle.fst_grammar.proofs.SolveLaws.{get_there}
-use Rattle.fst_grammar.proofs.SoundLaws.{rising_rest, rising_first, not_less}
+use Rattle.fst_grammar.proofs.SoundLaws.{rising_first, not_less}
 use Rattle.fst_grammar.proofs.RankLaws.{rank}
 use Rattle.fst_grammar.proofs.TranslationLaws.{seated, equations_length, equations_grounded}
+use Rattle.fst_base.proofs.Orders.{rising_tail}
+use Rattle.fst_base.specs.Limits.{most_nodes}
 
 -- one list of letters
 
 -- the first of rising letters is less than all behind it
-less_behind : (l a : Label) (letters : List Label) → IsRising (l ∷ letters) → Contains letters a → label_cmp l a ≡ Less
+less_behind : (l a : Label) (letters : List Label) → IsRising label_cmp (l ∷ letters) → Contains letters a → label_cmp l a ≡ Less
 less_behind l a letters h c = rising_first l a letters h (contains_known letters a c)
 
 -- rising letters have no label twice
-not_behind : (l : Label) (letters : List Label) → IsRising (l ∷ letters) → Contains letters l → ⊥
+not_behind : (l : Label) (letters : List Label) → IsRising label_cmp (l ∷ letters) → Contains letters l → ⊥
 not_behind l letters h c = not_less l (less_behind l l letters h c)
 
 -- rising letters that have the same labels are one list
-same_letters : (xs ys : List Label) → IsRising xs → IsRising ys → ((a : Label) → Contains xs a → Contains ys a) → ((a : Label) → Contains ys a → Contains xs a) → xs ≡ ys
+same_letters : (xs ys : List Label) → IsRising label_cmp xs → IsRising label_cmp ys → ((a : Label) → Contains xs a → Contains ys a) → ((a : Label) → Contains ys a → Contains xs a) → xs ≡ ys
 same_letters [] [] h k f g = refl
-same_letters [] (y ∷ ys) h k f g = absurd (omega (arith, (g y (head_in ys y y refl)).1))
-same_letters (x ∷ xs) [] h k f g = absurd (omega (arith, (f x (head_in xs x x refl)).1))
+same_letters [] (y ∷ ys) h k f g = absurd (omega (arith, (g y (contains_head ys y y refl)).1))
+same_letters (x ∷ xs) [] h k f g = absurd (omega (arith, (f x (contains_head xs x x refl)).1))
 same_letters (x ∷ xs) (y ∷ ys) h k f g =
-    λ i. first i ∷ same_letters xs ys (rising_rest x xs h) (rising_rest y ys k) rest_left rest_right i
+    λ i. first i ∷ same_letters xs ys (rising_tail label_cmp x xs h) (rising_tail label_cmp y ys k) rest_left rest_right i
   where
     first : x ≡ y
     first =
         ⊎_elim (λ e. sym e)
         (λ behind. ⊎_elim (λ e. e)
         (λ m. absurd (not_less x (label_cmp_total.trans x y x (less_behind x y xs h m) (less_behind y x ys k behind))))
-        (from_cons xs y x (g y (head_in ys y y refl))))
-        (from_cons ys x y (f x (head_in xs x x refl)))
+        (from_contains xs y x (g y (contains_head ys y y refl))))
+        (from_contains ys x y (f x (contains_head xs x x refl)))
 
     rest_left : (a : Label) → Contains xs a → Contains ys a
-    rest_left a m = ⊎_elim (λ e. absurd (not_behind x xs h (subst (Contains xs) (sym (first ∙ e)) m))) (λ n. n) (from_cons ys a y (f a (tail_in xs a x m)))
+    rest_left a m = ⊎_elim (λ e. absurd (not_behind x xs h (subst (Contains xs) (sym (first ∙ e)) m))) (λ n. n) (from_contains ys a y (f a (contains_tail xs a x m)))
 
     rest_right : (a : Label) → Contains ys a → Contains xs a
-    rest_right a m = ⊎_elim (λ e. absurd (not_behind y ys k (subst (Contains ys) (sym (sym first ∙ e)) m))) (λ n. n) (from_cons xs a x (g a (tail_in ys a y m)))
+    rest_right a m = ⊎_elim (λ e. absurd (not_behind y ys k (subst (Contains ys) (sym (sym first ∙ e)) m))) (λ n. n) (from_contains xs a x (g a (contains_tail ys a y m)))
 
 -- the place of each name
 
@@ -75,14 +76,14 @@ name_in (l ∷ letters) m a g = pick (λ k. name_in letters k a) (is_name l) ref
     pick : ((k : ℕ) → slice_get (names letters) k ≡ Some a → (is_name a ≡ true) × Contains letters a) → (c : Bool) → is_name l ≡ c → (k : ℕ) → slice_get (if c then l ∷ names letters else names letters) k ≡ Some a → (is_name a ≡ true) × Contains (l ∷ letters) a
     pick next true is zero g =
         let same : l ≡ a = cc in
-        (ap is_name (sym same) ∙ is, head_in letters a l same)
-    pick next true is (suc k) g = let n = next k g in (n.0, tail_in letters a l n.1)
-    pick next false is k g = let n = next k g in (n.0, tail_in letters a l n.1)
+        (ap is_name (sym same) ∙ is, contains_head letters a l same)
+    pick next true is (suc k) g = let n = next k g in (n.0, contains_tail letters a l n.1)
+    pick next false is k g = let n = next k g in (n.0, contains_tail letters a l n.1)
 
 -- the place of the m-th name is m
-name_place : (letters : List Label) (m : ℕ) (a : Label) → IsRising letters → slice_get (names letters) m ≡ Some a → label_position (names letters) a ≡ m
+name_place : (letters : List Label) (m : ℕ) (a : Label) → IsRising label_cmp letters → slice_get (names letters) m ≡ Some a → label_position (names letters) a ≡ m
 name_place [] m a h g = absurd (cc g)
-name_place (l ∷ letters) m a h g = pick (λ k. name_place letters k a (rising_rest l letters h)) (is_name l) m g
+name_place (l ∷ letters) m a h g = pick (λ k. name_place letters k a (rising_tail label_cmp l letters h)) (is_name l) m g
   where
     other : (k : ℕ) → slice_get (names letters) k ≡ Some a → (c : Bool) → same_label a l ≡ c → c ≡ false
     other k g true is = absurd (not_behind l letters h (subst (Contains letters) (same_label-same a l is) (name_in letters k a g).1))
@@ -165,7 +166,7 @@ ended_labels (receive b) a e c = cc e
 ended_labels (select cs) a e c = cc e
 ended_labels (offer cs) a e c = cc e
 ended_labels (seq s r) a e c =
-    let h = both_true (terminated s) (terminated r) e in
+    let h = and_parts (terminated s) (terminated r) e in
     ⊎_elim (ended_labels s a h.0) (ended_labels r a h.1) (Contains-append_cases (labels_in s) (labels_in r) a c)
 ended_labels (rec s) a e c = ended_labels s a e c
 ended_labels (back k) a e c = cc e
@@ -175,7 +176,7 @@ ended_labels (arrow u s r) a e c = cc e
 ended_labels (pair s r) a e c = cc e
 ended_labels (named k) a e c = cc e
 
-module _ (n : Numbers) (letters : List Label) (rows : Rows) where
+module _ (n : Numbers) (letters : List Label) (rows : Productions) where
   -- the part has the row of its equation
   abbrev IsRow : Part → Type 0
   IsRow e = row_of rows (node_at n e.place) ≡ rules_by rows (part_equation n letters e)
@@ -186,12 +187,12 @@ module _ (n : Numbers) (letters : List Label) (rows : Rows) where
     part_rows p skip h = tt
     part_rows p (send b) h = tt
     part_rows p (receive b) h = tt
-    part_rows p (select cs) h = (h.0, branch_rows (moved (entered p (select cs)) 1) cs h.1)
-    part_rows p (offer cs) h = (h.0, branch_rows (moved (entered p (offer cs)) 1) cs h.1)
-    part_rows p (seq s r) h = every_both IsRow (parts (moved p 1) s) (parts (moved p (1 + nodes s)) r) (part_rows (moved p 1) s h.0) (part_rows (moved p (1 + nodes s)) r h.1)
-    part_rows p (rec s) h = pick (terminated s) refl (λ e. part_rows (under (entered p (rec s))) s (h e).1)
+    part_rows p (select cs) h = (h.0, branch_rows (place_past (own_place p (select cs)) 1) cs h.1)
+    part_rows p (offer cs) h = (h.0, branch_rows (place_past (own_place p (offer cs)) 1) cs h.1)
+    part_rows p (seq s r) h = every_both IsRow (parts (place_past p 1) s) (parts (place_past p (1 + nodes s)) r) (part_rows (place_past p 1) s h.0) (part_rows (place_past p (1 + nodes s)) r h.1)
+    part_rows p (rec s) h = pick (terminated s) refl (λ e. part_rows (body_place (own_place p (rec s))) s (h e).1)
       where
-        pick : (c : Bool) → terminated s ≡ c → (terminated s ≡ false → Every IsRow (parts (under (entered p (rec s))) s)) → Every IsRow (if c then [] else record { place = entered p (rec s); type = rec s } ∷ parts (under (entered p (rec s))) s)
+        pick : (c : Bool) → terminated s ≡ c → (terminated s ≡ false → Every IsRow (parts (body_place (own_place p (rec s))) s)) → Every IsRow (if c then [] else record { place = own_place p (rec s); type = rec s } ∷ parts (body_place (own_place p (rec s))) s)
         pick true e body = tt
         pick false e body = ((h e).0, body e)
     part_rows p (back k) h = tt
@@ -203,14 +204,14 @@ module _ (n : Numbers) (letters : List Label) (rows : Rows) where
 
     branch_rows : (p : Place) (cs : Branches) → HaveRows n letters rows p cs → Every IsRow (parts_all p cs)
     branch_rows p none h = tt
-    branch_rows p (branch l s cs) h = every_both IsRow (parts (moved p 1) s) (parts_all (moved p (1 + nodes s)) cs) (part_rows (moved p 1) s h.0) (branch_rows (moved p (1 + nodes s)) cs h.1)
+    branch_rows p (branch l s cs) h = every_both IsRow (parts (place_past p 1) s) (parts_all (place_past p (1 + nodes s)) cs) (part_rows (place_past p 1) s h.0) (branch_rows (place_past p (1 + nodes s)) cs h.1)
 
   abbrev HasNameRow : Label → Type 0
   HasNameRow a = row_of rows (n.name a) ≡ name_rules letters a
 
   -- the only label of a message or variable
   only : (a b : Label) → HasNameRow b → Contains (b ∷ []) a → HasNameRow a
-  only a b h c = ⊎_elim (λ e. subst HasNameRow e h) (λ m. absurd (omega (arith, m.1))) (from_cons [] a b c)
+  only a b h c = ⊎_elim (λ e. subst HasNameRow e h) (λ m. absurd (omega (arith, m.1))) (from_contains [] a b c)
 
   mutual
     -- each message and variable in a type has its label's row
@@ -218,11 +219,11 @@ module _ (n : Numbers) (letters : List Label) (rows : Rows) where
     name_rows p skip h a is c = absurd (omega (arith, c.1))
     name_rows p (send b) h a is c = only a (Send b) h c
     name_rows p (receive b) h a is c = only a (Receive b) h c
-    name_rows p (select cs) h a is c = names_rows Select (λ l. refl) (moved (entered p (select cs)) 1) cs h.1 a is c
-    name_rows p (offer cs) h a is c = names_rows Offer (λ l. refl) (moved (entered p (offer cs)) 1) cs h.1 a is c
+    name_rows p (select cs) h a is c = names_rows Select (λ l. refl) (place_past (own_place p (select cs)) 1) cs h.1 a is c
+    name_rows p (offer cs) h a is c = names_rows Offer (λ l. refl) (place_past (own_place p (offer cs)) 1) cs h.1 a is c
     name_rows p (seq s r) h a is c =
-        ⊎_elim (name_rows (moved p 1) s h.0 a is) (name_rows (moved p (1 + nodes s)) r h.1 a is) (Contains-append_cases (labels_in s) (labels_in r) a c)
-    name_rows p (rec s) h a is c = pick (terminated s) refl (λ e. name_rows (under (entered p (rec s))) s (h e).1 a is c)
+        ⊎_elim (name_rows (place_past p 1) s h.0 a is) (name_rows (place_past p (1 + nodes s)) r h.1 a is) (Contains-append_cases (labels_in s) (labels_in r) a c)
+    name_rows p (rec s) h a is c = pick (terminated s) refl (λ e. name_rows (body_place (own_place p (rec s))) s (h e).1 a is c)
       where
         pick : (b : Bool) → terminated s ≡ b → (terminated s ≡ false → HasNameRow a) → HasNameRow a
         pick true e body = absurd (ended_labels s a e c)
@@ -238,8 +239,8 @@ module _ (n : Numbers) (letters : List Label) (rows : Rows) where
     names_rows make no_name p none h a is c = absurd (omega (arith, c.1))
     names_rows make no_name p (branch l s cs) h a is c =
         ⊎_elim (λ e. absurd (cc (sym (no_name l) ∙ ap is_name e ∙ is)))
-        (λ m. ⊎_elim (name_rows (moved p 1) s h.0 a is) (names_rows make no_name (moved p (1 + nodes s)) cs h.1 a is) (Contains-append_cases (labels_in s) (branch_labels make cs) a m))
-        (from_cons (labels_in s ++ branch_labels make cs) a (make l) c)
+        (λ m. ⊎_elim (name_rows (place_past p 1) s h.0 a is) (names_rows make no_name (place_past p (1 + nodes s)) cs h.1 a is) (Contains-append_cases (labels_in s) (branch_labels make cs) a m))
+        (from_contains (labels_in s ++ branch_labels make cs) a (make l) c)
 
 -- the rows of a grammar solve its equations
 
@@ -256,7 +257,7 @@ equation_cases f (x ∷ xs) g es zero q h = inl (x, refl, cc)
 equation_cases f (x ∷ xs) g es (suc m) q h =
     ⊎_elim (λ c. inl c) (λ c. inr (c.0, c.1, omega (arith, c.2), c.3, c.4)) (equation_cases f xs g es m q h)
 
-module _ (s r : Tree) (letters : List Label) (rows : Rows) (h : IsGrammar s r letters rows) where
+module _ (s r : Tree) (letters : List Label) (rows : Productions) (h : IsGrammar s r letters rows) where
   abbrev found : List Part
   found = parts_of s r
 
@@ -286,7 +287,7 @@ module _ (s r : Tree) (letters : List Label) (rows : Rows) (h : IsGrammar s r le
   ]
 
 -- grounded equations have at most one solution
-module _ (equations : List Equation) (rank : ℕ → ℕ) (bound : ℕ) (grounded : IsGrounded rank bound equations) (rows rules : Rows) (one : Solves rows equations) (two : Solves rules equations) where
+module _ (equations : List Equation) (rank : ℕ → ℕ) (bound : ℕ) (grounded : IsGrounded rank bound equations) (rows rules : Productions) (one : Solves rows equations) (two : Solves rules equations) where
   same_row : (fuel m : ℕ) → rank m < fuel → m < length equations → row_of rows m ≡ row_of rules m
   same_row zero m lt there = absurd (omega arith)
   same_row (suc fuel) m lt there =
@@ -302,21 +303,21 @@ module _ (equations : List Equation) (rank : ℕ → ℕ) (bound : ℕ) (grounde
           let within : g.0 < length equations = g.3 in
           let up : rank g.0 < rank m = g.4 in
           let at : rank g.0 ≡ rank z = ap rank same in
-          ap (carried d) (next z (omega arith) (omega arith))
+          ap (rules_before d) (next z (omega arith) (omega arith))
 
   same_rows : rows ≡ rules
   same_rows = ext_get_or [] rows rules (one.0 ∙ sym two.0) (λ m lt. same_row (suc bound) m (let le = grounded.1 m in omega arith) (let long = one.0 in omega arith))
 
 module _ (vars others : List Kind) (s r : Tree) (ws : IsSession vars s) (wr : IsSession others r) (few_s : nodes s ≤ most_nodes) (few_r : nodes r ≤ most_nodes) where
   -- a grammar solves the equations of the two types
-  grammar_solves : (letters : List Label) (rows : Rows) → IsGrammar s r letters rows → Solves rows (equations_by letters (parts_of s r))
+  grammar_solves : (letters : List Label) (rows : Productions) → IsGrammar s r letters rows → Solves rows (equations_by letters (parts_of s r))
   grammar_solves letters rows h = (h.count ∙ sym (equations_length vars s r ws (others, wr) few_s few_r letters h.labels), grammar_row s r letters rows h)
 
   -- its letters are determined, and so are its rows
   same_labels : (letters more : List Label) → AreLetters s r letters → AreLetters s r more → letters ≡ more
   same_labels letters more h k = same_letters letters more h.0 k.0 (λ a c. (k.1 a).1 ((h.1 a).0 c)) (λ a c. (h.1 a).1 ((k.1 a).0 c))
 
-  same_grammar : (letters : List Label) (rows rules : Rows) → IsGrammar s r letters rows → IsGrammar s r letters rules → rows ≡ rules
+  same_grammar : (letters : List Label) (rows rules : Productions) → IsGrammar s r letters rows → IsGrammar s r letters rules → rows ≡ rules
   same_grammar letters rows rules h k =
       same_rows (equations_by letters (parts_of s r)) (rank letters (parts_of s r) (seated vars s r ws (others, wr) few_s few_r letters h.labels)) most_rank (equations_grounded vars s r ws (others, wr) few_s few_r letters h.labels) rows rules
       (grammar_solves letters rows h) (grammar_solves letters rules k)

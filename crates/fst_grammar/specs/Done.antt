@@ -2,12 +2,15 @@
 use Rattle.std.specs.Prelude.{ℕ, List}
 use Rattle.fst_types.specs.Tree.{Tree}
 use Rattle.fst_types.specs.declared.label.Label.{Label}
-use Rattle.fst_words.specs.Words.{Rows, StandsFor}
+use Rattle.fst_words.specs.Words.{Productions, EachHasRule}
 use Rattle.fst_grammar.specs.Translation.{IsTranslation, IsInRange}
+use Rattle.fst_grammar.specs.Standing.{StandsFor}
 
--- the grammar and words are the translation, the words stand for the types, and all numbers are in range
-pub record IsDone (s r : Tree) (letters : List Label) (rows : Rows) (u v : List ℕ) : Type 0 where
+-- the grammar and words are the translation, the words stand for the types, all numbers are in range, and each
+-- non-terminal has a rule
+pub record IsDone (s r : Tree) (letters : List Label) (rows : Productions) (u v : List ℕ) : Type 0 where
   pub translation : IsTranslation s r letters rows u v
   pub left : StandsFor letters rows u s
   pub right : StandsFor letters rows v r
   pub range : IsInRange letters rows u v
+  pub ruled : EachHasRule rows

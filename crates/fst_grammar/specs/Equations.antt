@@ -1,12 +1,12 @@
 -- The rules of non-terminals by equations.
 use Rattle.std.specs.Prelude.{◌≡◌, ◌<◌, ◌≤◌, All, ℕ, List, [], ◌∷◌, ◌++◌, map, length, slice_get, Some}
-use Rattle.fst_types.specs.Tree.{Tree, select, offer, rec}
+use Rattle.fst_types.specs.Tree.{Tree, skip, send, receive, select, offer, seq, rec, back, var, plain, arrow, pair, named}
 use Rattle.fst_types.specs.declared.label.Label.{Label}
 use Rattle.fst_types.specs.declared.label.Label.TheVariants.{Select, Offer}
 use Rattle.fst_words.specs.declared.rules.Rule.{Rule}
 use Rattle.fst_words.specs.Ordered.{AreOrdered}
-use Rattle.fst_words.specs.Words.{Rows, row_of, WordBelow}
-use Rattle.fst_grammar.specs.Place.{Place, moved, under}
+use Rattle.fst_words.specs.Words.{Productions, row_of, WordBelow}
+use Rattle.fst_grammar.specs.Place.{Place, place_past, body_place}
 use Rattle.fst_grammar.specs.Word.{Numbers, word}
 use Rattle.fst_grammar.specs.Labels.{names}
 use Rattle.fst_grammar.specs.Parts.{Part, numbers_by}
@@ -18,22 +18,32 @@ pub data Equation : Type 0 where
   like : List ℕ → Equation
 
 -- the rules by an equation
-abbrev pub rules_by : Rows → Equation → List Rule
+abbrev pub rules_by : Productions → Equation → List Rule
 rules_by rows (own rules) = rules
 rules_by rows (like w) = word_rules rows w
 
 -- each non-terminal has the rules of its equation
-abbrev pub Solves : Rows → List Equation → Type 0
+abbrev pub Solves : Productions → List Equation → Type 0
 Solves rows equations =
     (length rows ≡ length equations) × ((m : ℕ) (e : Equation) → slice_get equations m ≡ Some e → row_of rows m ≡ rules_by rows e)
 
 -- the equation of a choice or `rec` at its own place
 abbrev pub equation_at : Numbers → List Label → Place → Tree → Equation
-equation_at n letters p (select cs) = own (branch_rules n letters Select (moved p 1) cs)
-equation_at n letters p (offer cs) = own (branch_rules n letters Offer (moved p 1) cs)
-equation_at n letters p (rec s) = like (word n (under p) s)
-equation_at n letters p _ = own []
+equation_at n letters p skip = own []
+equation_at n letters p (send b) = own []
+equation_at n letters p (receive b) = own []
+equation_at n letters p (select cs) = own (branch_rules n letters Select (place_past p 1) cs)
+equation_at n letters p (offer cs) = own (branch_rules n letters Offer (place_past p 1) cs)
+equation_at n letters p (seq s r) = own []
+equation_at n letters p (rec s) = like (word n (body_place p) s)
+equation_at n letters p (back k) = own []
+equation_at n letters p (var k) = own []
+equation_at n letters p (plain b) = own []
+equation_at n letters p (arrow u s r) = own []
+equation_at n letters p (pair s r) = own []
+equation_at n letters p (named k) = own []
 
+-- the equation of a choice or `rec` at the place where it stands
 abbrev pub part_equation : Numbers → List Label → Part → Equation
 part_equation n letters e = equation_at n letters e.place e.type
 

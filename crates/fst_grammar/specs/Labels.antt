@@ -1,23 +1,28 @@
 -- The labels of types.
 use Rattle.std.specs.Prelude.{ℕ, suc, List, [], ◌∷◌, ◌++◌, Bool, true, false, Contains, ◌↔◌, if◌then◌else◌}
 use Rattle.std.specs.List.{filter}
-use Rattle.fst_types.specs.Tree.{Tree, send, receive, select, offer, seq, rec, var, Branches, none, branch}
-use Rattle.fst_types.specs.Order.{same_label}
+use Rattle.fst_types.specs.Tree.{Tree, skip, send, receive, select, offer, seq, rec, back, var, plain, arrow, pair, named, Branches, none, branch}
+use Rattle.fst_types.specs.Order.{same_label, label_cmp}
 use Rattle.fst_types.specs.declared.label.Label.{Label}
 use Rattle.fst_types.specs.declared.label.Label.TheVariants.{Send, Receive, Select, Offer, Var}
-use Rattle.fst_lts.specs.Rising.{IsRising}
+use Rattle.fst_base.specs.Order.{IsRising}
 
 abbrev mutual
   -- the labels of the messages, variables and branches in a type, in preorder
   pub labels_in : Tree → List Label
+  labels_in skip = []
   labels_in (send b) = Send b ∷ []
   labels_in (receive b) = Receive b ∷ []
   labels_in (select cs) = branch_labels Select cs
   labels_in (offer cs) = branch_labels Offer cs
   labels_in (seq s r) = labels_in s ++ labels_in r
   labels_in (rec s) = labels_in s
+  labels_in (back k) = []
   labels_in (var k) = Var k ∷ []
-  labels_in _ = []
+  labels_in (plain b) = []
+  labels_in (arrow u s r) = []
+  labels_in (pair s r) = []
+  labels_in (named k) = []
 
   -- the labels of the branches, each before those in its type
   pub branch_labels : (List ℕ → Label) → Branches → List Label
@@ -26,7 +31,7 @@ abbrev mutual
 
 -- the labels of the two types, each once, in label order
 abbrev pub AreLetters : Tree → Tree → List Label → Type 0
-AreLetters s r letters = IsRising letters × ((a : Label) → Contains letters a ↔ Contains (labels_in s ++ labels_in r) a)
+AreLetters s r letters = IsRising label_cmp letters × ((a : Label) → Contains letters a ↔ Contains (labels_in s ++ labels_in r) a)
 
 -- the label of a message or variable
 abbrev pub is_name : Label → Bool

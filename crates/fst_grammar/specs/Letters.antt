@@ -7,23 +7,24 @@ use Rattle.fst_types.specs.declared.label.Label.{Label}
 use Rattle.fst_grammar.specs.Labels.{label_position}
 
 -- the list with the label at its place, unless it is there
-abbrev pub inserted_by : Ordering → Label → Label → List Label → List Label → List Label
-inserted_by Less a b bs rest = a ∷ b ∷ bs
-inserted_by Equal a b bs rest = b ∷ bs
-inserted_by Greater a b bs rest = b ∷ rest
+abbrev pub with_label_by : Ordering → Label → Label → List Label → List Label → List Label
+with_label_by Less a b bs rest = a ∷ b ∷ bs
+with_label_by Equal a b bs rest = b ∷ bs
+with_label_by Greater a b bs rest = b ∷ rest
 
-abbrev pub inserted : List Label → Label → List Label
-inserted [] a = a ∷ []
-inserted (b ∷ bs) a = inserted_by (label_cmp a b) a b bs (inserted bs a)
+-- the list with a label at its place, unless it is there
+abbrev pub with_label : List Label → Label → List Label
+with_label [] a = a ∷ []
+with_label (b ∷ bs) a = with_label_by (label_cmp a b) a b bs (with_label bs a)
 
 -- the same with one label after the other
-abbrev pub inserted_all : List Label → List Label → List Label
-inserted_all letters [] = letters
-inserted_all letters (a ∷ labels) = inserted_all (inserted letters a) labels
+abbrev pub with_labels : List Label → List Label → List Label
+with_labels letters [] = letters
+with_labels letters (a ∷ labels) = with_labels (with_label letters a) labels
 
 -- the place of a label in a rising list, or else the place where it goes
 abbrev pub IsPlaceFor : List Label → Label → Result ℕ ℕ → Type 0
 IsPlaceFor letters a found =
     MatchResult found
-    (λ i. (i < length letters) × (label_position letters a ≡ i) × (inserted letters a ≡ letters))
-    (λ i. (i ≤ length letters) × (label_position letters a ≡ length letters) × (inserted letters a ≡ take i letters ++ a ∷ drop i letters))
+    (λ i. (i < length letters) × (label_position letters a ≡ i) × (with_label letters a ≡ letters))
+    (λ i. (i ≤ length letters) × (label_position letters a ≡ length letters) × (with_label letters a ≡ take i letters ++ a ∷ drop i letters))

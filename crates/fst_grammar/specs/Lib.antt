@@ -1,3 +1,4 @@
+pub mod Standing
 pub mod Place
 pub mod Word
 pub mod Labels

@@ -3,7 +3,7 @@ use Rattle.std.specs.Prelude.{◌≡◌, ℕ, ◌+◌, ◌<◌, ◌^◌, List, [
 use Rattle.fst_types.specs.Tree.{Tree}
 use Rattle.fst_types.specs.declared.label.Label.{Label}
 use Rattle.fst_types.specs.declared.label.Label.TheVariants.{Select, Offer}
-use Rattle.fst_lts.specs.Rising.{IsRising}
+use Rattle.fst_base.specs.Order.{IsRising}
 use Rattle.fst_grammar.specs.Shapes.{shape_of}
 use Rattle.fst_grammar.specs.Keys.{Stands}
 use Rattle.fst_grammar.specs.Place.{Place}
@@ -18,21 +18,26 @@ use Rattle.fst_grammar.specs.declared.parts.Binders.{Binders, Top, Under'}
 use Rattle.fst_grammar.specs.declared.table.Table.{Table}
 use Rattle.fst_grammar.specs.declared.equations.Equation.{Equation as Kept}
 use Rattle.fst_grammar.specs.declared.equations.Equation.TheVariants.{Own, Like}
+use Rattle.fst_types.specs.Order.{label_cmp}
 
 -- the label of a branch
-abbrev pub made : Bool → List ℕ → Label
-made offers l = if offers then Offer l else Select l
+abbrev pub branch_label : Bool → List ℕ → Label
+branch_label offers l = if offers then Offer l else Select l
 
+-- the place at this count of nodes in a closed type, under these binders
 abbrev pub place_in : Tree → ℕ → List ℕ → Place
 place_in whole at binders = record { whole = whole; at = at; binders = binders }
 
+-- the part that a found one stands for
 abbrev pub part_of : Found → Part
 part_of p = record { place = place_in p.whole.ty.now p.at p.binders.items; type = p.part.ty.now }
 
+-- the places of the binders around, from the innermost outward
 abbrev pub places_of : Binders → List ℕ
 places_of Top = []
 places_of (Under' n p outer) = n ∷ places_of outer
 
+-- the numbers of the non-terminals that a table has
 abbrev pub numbers_in : Table → Numbers
 numbers_in t = numbers_by t.letters.items (map part_of t.parts.found.items)
 
@@ -54,12 +59,15 @@ IsKept keys p = (p.index ≡ map key_of p.found.items) × All (AreNumbered keys)
 
 -- letters and names stand in label order, the names are those among the letters, all numbers of non-terminals fit into
 -- 32 bits, and the parts are found by their numbers
-abbrev pub IsTable : Table → Type 0
-IsTable t =
-    (t.names.items ≡ names t.letters.items)
-    × (length t.letters.items < 2 ^ 31) × (length t.names.items + length t.parts.found.items < 2 ^ 31)
-    × IsRising t.letters.items × IsRising t.names.items × IsKept t.keys t.parts
+pub record IsTable (t : Table) : Type 0 where
+  pub names_are : t.names.items ≡ names t.letters.items
+  pub letters_fit : length t.letters.items < 2 ^ 31
+  pub numbers_fit : length t.names.items + length t.parts.found.items < 2 ^ 31
+  pub letters_rise : IsRising label_cmp t.letters.items
+  pub names_rise : IsRising label_cmp t.names.items
+  pub kept : IsKept t.keys t.parts
 
+-- the equation that a kept one stands for
 abbrev pub equation_of : Kept → Equation
 equation_of (Own rules) = own rules.items
 equation_of (Like w) = like w

@@ -1,14 +1,14 @@
 ghost use Rattle.std.specs.Prelude.{◌≡◌, ◌<◌, ◌^◌};
-ghost use Rattle.fst_types.specs.View.{branches_of};
+ghost use Rattle.fst_types.specs.ModelView.{branches_of};
 ghost use Rattle.fst_types.specs.Size.{nodes};
-ghost use Rattle.fst_grammar.specs.Place.{loose, loose_all, is_closed};
+ghost use Rattle.fst_grammar.specs.Place.{open_depth, open_depths, is_closed};
 
 use fst_types::{Branch, Ty, TyForm, size};
 
 /// How many binders around a type its free recursion variables ask for.
 #[cycle(loose)]
 fn loose_count(t: &Ty) -> u64
-    ensures value { result ≡ loose t.now }
+    ensures value { result ≡ open_depth t.now }
 {
     match &t.form {
         TyForm::Skip => 0,
@@ -28,9 +28,9 @@ fn loose_count(t: &Ty) -> u64
 }
 
 #[cycle(loose)]
-#[tactic(auto, using(fst_types::proofs::Heights::height_at))]
+#[tactic(auto, using(fst_types::proofs::Laws::height_at))]
 fn branches_loose(branches: &[Branch]) -> u64
-    ensures { result ≡ loose_all (branches_of branches.now) }
+    ensures { result ≡ open_depths (branches_of branches.now) }
 {
     let mut most: u64 = 0;
     for branch in branches {

@@ -1,5 +1,5 @@
 ghost use Rattle.std.specs.Prelude.{◌≡◌, ◌+◌, ◌<◌, ◌^◌, ◌++◌, ◌∷◌, [], All, IfOk, OnOk, length, map};
-ghost use Rattle.fst_types.specs.View.{branches_of};
+ghost use Rattle.fst_types.specs.ModelView.{branches_of};
 ghost use Rattle.fst_types.specs.Size.{nodes, nodes_all};
 ghost use Rattle.fst_types.specs.declared.label.Label.{Label};
 ghost use Rattle.fst_grammar.specs.Labels.{names};
@@ -7,7 +7,7 @@ ghost use Rattle.fst_grammar.specs.Rules.{name_rules, branch_rules};
 ghost use Rattle.fst_grammar.specs.Equations.{own, part_equation, equations_by};
 ghost use Rattle.fst_grammar.specs.Shapes.{shape_of_all};
 ghost use Rattle.fst_grammar.specs.Keys.{Stands};
-ghost use Rattle.fst_grammar.specs.Views.{made, numbers_in, part_of, place_in, equation_of, HasNumber, AreNumbered, IsTable};
+ghost use Rattle.fst_grammar.specs.Views.{branch_label, numbers_in, part_of, place_in, equation_of, HasNumber, AreNumbered, IsTable};
 
 use crate::closing::node_count;
 use crate::found::Found;
@@ -42,7 +42,7 @@ fn choice_rules(
     requires whole { HasNumber table.now.keys whole }
     requires part { Stands table.now.keys list (shape_of_all (branches_of branches.now)) }
     requires fits { at + nodes_all (branches_of branches.now) < 2 ^ 31 }
-    ensures { IfOk result (λ r. r.items ≡ branch_rules (numbers_in table.now) table.now.letters.items (made offers) (place_in whole.entry.ty.now at binders.now) (branches_of branches.now)) }
+    ensures { IfOk result (λ r. r.items ≡ branch_rules (numbers_in table.now) table.now.letters.items (branch_label offers) (place_in whole.entry.ty.now at binders.now) (branches_of branches.now)) }
 {
     let mut rules = Vec::new(alloc);
     let mut place = at;

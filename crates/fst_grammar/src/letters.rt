@@ -1,9 +1,10 @@
 ghost use Rattle.std.specs.Prelude.{◌≡◌, ◌≤◌, IfOk, OnOk, length};
-ghost use Rattle.fst_types.specs.View.{branches_of};
-ghost use Rattle.fst_lts.specs.Rising.{IsRising};
+ghost use Rattle.fst_types.specs.ModelView.{branches_of};
+ghost use Rattle.fst_base.specs.Order.{IsRising};
 ghost use Rattle.fst_grammar.specs.Labels.{labels_in, branch_labels, is_name as names_itself, names, label_position};
-ghost use Rattle.fst_grammar.specs.Letters.{inserted, inserted_all, IsPlaceFor};
-ghost use Rattle.fst_grammar.specs.Views.{made};
+ghost use Rattle.fst_grammar.specs.Letters.{with_label, with_labels, IsPlaceFor};
+ghost use Rattle.fst_grammar.specs.Views.{branch_label};
+ghost use Rattle.fst_types.specs.Order.{label_cmp};
 
 use fst_types::{Branch, Label, Name, Ty, TyForm};
 use std::alloc::{AllocError, Global};
@@ -12,11 +13,12 @@ use std::alloc::{AllocError, Global};
 #[cycle(labels)]
 #[tactic(auto, using(crate::proofs::LabelLaws::inserted_append))]
 pub(crate) fn add_labels(alloc: Global, letters: &mut Vec<Label>, t: &Ty) -> Result<(), AllocError>
-    requires { IsRising letters.old.items }
-    ensures letters { OnOk result (letters.new.items ≡ inserted_all letters.old.items (labels_in t.now)) }
-    ensures rising { OnOk result (IsRising letters.new.items) }
+    requires { IsRising label_cmp letters.old.items }
+    ensures letters { OnOk result (letters.new.items ≡ with_labels letters.old.items (labels_in t.now)) }
+    ensures rising { OnOk result (IsRising label_cmp letters.new.items) }
 {
     match &t.form {
+        TyForm::Skip => Ok(()),
         TyForm::Send(base) => insert(letters, Label::Send(*base)),
         TyForm::Receive(base) => insert(letters, Label::Receive(*base)),
         TyForm::Var(k) => insert(letters, Label::Var(*k)),
@@ -27,21 +29,25 @@ pub(crate) fn add_labels(alloc: Global, letters: &mut Vec<Label>, t: &Ty) -> Res
             add_labels(alloc, letters, second)
         }
         TyForm::Rec(body) => add_labels(alloc, letters, body),
-        _ => Ok(()),
+        TyForm::Back(_) => Ok(()),
+        TyForm::Plain(_) => Ok(()),
+        TyForm::Arrow(_, _, _) => Ok(()),
+        TyForm::Pair(_, _) => Ok(()),
+        TyForm::Named(_) => Ok(()),
     }
 }
 
 #[cycle(labels)]
-#[tactic(auto, using(fst_types::proofs::Heights::height_at, crate::proofs::LabelLaws::inserted_append, crate::proofs::BranchLaws::branches_at))]
+#[tactic(auto, using(crate::proofs::Rulesets::labels_of_branches))]
 fn add_branches(
     alloc: Global,
     letters: &mut Vec<Label>,
     branches: &[Branch],
     offers: bool,
 ) -> Result<(), AllocError>
-    requires { IsRising letters.old.items }
-    ensures letters { OnOk result (letters.new.items ≡ inserted_all letters.old.items (branch_labels (made offers) (branches_of branches.now))) }
-    ensures rising { OnOk result (IsRising letters.new.items) }
+    requires { IsRising label_cmp letters.old.items }
+    ensures letters { OnOk result (letters.new.items ≡ with_labels letters.old.items (branch_labels (branch_label offers) (branches_of branches.now))) }
+    ensures rising { OnOk result (IsRising label_cmp letters.new.items) }
 {
     for branch in branches {
         insert(letters, choice_label(alloc, &branch.label, offers)?)?;
@@ -52,7 +58,7 @@ fn add_branches(
 
 /// The label of a branch, offered or selected.
 pub(crate) fn choice_label(alloc: Global, name: &Name, offers: bool) -> Result<Label, AllocError>
-    ensures { IfOk result (λ a. a ≡ made offers name.now) }
+    ensures { IfOk result (λ a. a ≡ branch_label offers name.now) }
 {
     let own = name.copy(alloc)?;
     if offers {
@@ -64,7 +70,7 @@ pub(crate) fn choice_label(alloc: Global, name: &Name, offers: bool) -> Result<L
 
 /// The place of a label among labels in order, or else the place where it goes.
 fn place_for(letters: &[Label], a: &Label) -> Result<usize, usize>
-    requires { IsRising letters.now }
+    requires { IsRising label_cmp letters.now }
     ensures { IsPlaceFor letters.now a.now result }
 {
     letters.binary_search_by(|letter| letter.order(a))
@@ -73,9 +79,9 @@ fn place_for(letters: &[Label], a: &Label) -> Result<usize, usize>
 /// Puts a label at its place among labels in order, unless it is there.
 #[tactic(auto, using(crate::proofs::LabelLaws::inserted_rising))]
 fn insert(letters: &mut Vec<Label>, label: Label) -> Result<(), AllocError>
-    requires { IsRising letters.old.items }
-    ensures letters { OnOk result (letters.new.items ≡ inserted letters.old.items label) }
-    ensures rising { OnOk result (IsRising letters.new.items) }
+    requires { IsRising label_cmp letters.old.items }
+    ensures letters { OnOk result (letters.new.items ≡ with_label letters.old.items label) }
+    ensures rising { OnOk result (IsRising label_cmp letters.new.items) }
 {
     if let Err(i) = place_for(letters, &label) {
         letters.insert(i, label)?;
@@ -110,7 +116,7 @@ pub(crate) fn names_among(alloc: Global, letters: &[Label]) -> Result<Vec<Label>
 
 /// The place of a label among labels in order, or their number where it isn't there.
 pub(crate) fn place_among(letters: &[Label], a: &Label) -> usize
-    requires { IsRising letters.now }
+    requires { IsRising label_cmp letters.now }
     ensures value { result ≡ label_position letters.now a.now }
     ensures within { result ≤ length letters.now }
 {

@@ -4,9 +4,10 @@
 mod closing;
 mod equations;
 mod fault;
+mod forms;
 mod found;
 mod keys;
-mod laws;
+mod law;
 mod letters;
 mod numbers;
 mod parts;
@@ -16,8 +17,5 @@ mod translation;
 mod words;
 
 pub use fault::TranslateFault;
-pub use laws::one_grammar;
+pub use law::{one_grammar, standing_law};
 pub use translation::translate;
-
-#[cfg(test)]
-mod tests;

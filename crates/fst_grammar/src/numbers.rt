@@ -1,9 +1,10 @@
 ghost use Rattle.std.specs.Prelude.{◌≡◌, IfOk, OnOk};
-ghost use Rattle.fst_types.specs.View.{branches_of};
+ghost use Rattle.fst_types.specs.ModelView.{branches_of};
 ghost use Rattle.fst_grammar.specs.Shapes.{Shape, end, leaf, wrap, fork, link, shape_of, shape_of_all};
 ghost use Rattle.fst_grammar.specs.Keys.{first, second, Stands, KeepsNumbers};
 ghost use Rattle.fst_grammar.specs.Views.{HasNumber};
 
+use crate::forms::{Form, Node};
 use crate::keys::Keys;
 use fst_types::{Branch, Name, Ty, TyForm, Use};
 use std::alloc::{AllocError, Global};
@@ -15,13 +16,13 @@ pub(crate) struct Numbered<'a> {
     pub number: usize,
 }
 
-/// The number of a node without parts, by the number of its form and what it holds.
+/// The number of a node without parts, by its form and what it holds.
 #[tactic(auto, using(crate::proofs::KeyLaws::put_keeps))]
-fn number_leaf(alloc: Global, keys: &mut Keys, form: usize, holds: u32) -> Result<usize, AllocError>
+fn number_leaf(alloc: Global, keys: &mut Keys, form: Form, holds: u32) -> Result<usize, AllocError>
     ensures stands { IfOk result (λ i. Stands keys.new i (leaf form holds)) }
     ensures kept { OnOk result (KeepsNumbers keys.old keys.new) }
 {
-    let key = Vec::from_slice(alloc, &[1, form, holds as usize])?;
+    let key = Vec::from_slice(alloc, &[Node::Leaf.mark(), form.number(), holds as usize])?;
     let at = keys.put(key)?;
     Ok(at)
 }
@@ -39,16 +40,11 @@ fn number_end(alloc: Global, keys: &mut Keys) -> Result<usize, AllocError>
 
 /// The number of a node with one part of this number.
 #[tactic(auto, using(crate::proofs::KeyLaws::put_keeps))]
-fn number_wrap(
-    alloc: Global,
-    keys: &mut Keys,
-    form: usize,
-    part: usize,
-) -> Result<usize, AllocError>
+fn number_wrap(alloc: Global, keys: &mut Keys, form: Form, part: usize) -> Result<usize, AllocError>
     ensures stands { IfOk result (λ i. (x : Shape) → Stands keys.old part x → Stands keys.new i (wrap form x)) }
     ensures kept { OnOk result (KeepsNumbers keys.old keys.new) }
 {
-    let key = Vec::from_slice(alloc, &[2, part, form])?;
+    let key = Vec::from_slice(alloc, &[Node::Wrap.mark(), part, form.number()])?;
     let at = keys.put(key)?;
     Ok(at)
 }
@@ -58,14 +54,14 @@ fn number_wrap(
 fn number_fork(
     alloc: Global,
     keys: &mut Keys,
-    form: usize,
+    form: Form,
     first: usize,
     second: usize,
 ) -> Result<usize, AllocError>
     ensures stands { IfOk result (λ i. (x y : Shape) → Stands keys.old first x → Stands keys.old second y → Stands keys.new i (fork form x y)) }
     ensures kept { OnOk result (KeepsNumbers keys.old keys.new) }
 {
-    let key = Vec::from_slice(alloc, &[3, first, second, form])?;
+    let key = Vec::from_slice(alloc, &[Node::Fork.mark(), first, second, form.number()])?;
     let at = keys.put(key)?;
     Ok(at)
 }
@@ -82,7 +78,7 @@ fn number_link(
     ensures stands { IfOk result (λ i. (x y : Shape) → Stands keys.old first x → Stands keys.old second y → Stands keys.new i (link name.now x y)) }
     ensures kept { OnOk result (KeepsNumbers keys.old keys.new) }
 {
-    let mut key = Vec::from_slice(alloc, &[4, first, second])?;
+    let mut key = Vec::from_slice(alloc, &[Node::Link.mark(), first, second])?;
     let bytes = name.as_slice();
     for byte in bytes {
         key.push(usize::from(*byte))?;
@@ -99,36 +95,36 @@ fn number_of(alloc: Global, keys: &mut Keys, t: &Ty) -> Result<usize, AllocError
 {
     match &t.form {
         TyForm::Skip => number_end(alloc, keys),
-        TyForm::Send(base) => number_leaf(alloc, keys, 0, base.number()),
-        TyForm::Receive(base) => number_leaf(alloc, keys, 1, base.number()),
-        TyForm::Select(branches) => number_choice(alloc, keys, 2, branches),
-        TyForm::Offer(branches) => number_choice(alloc, keys, 3, branches),
-        TyForm::Seq(first, second) => number_both(alloc, keys, 4, first, second),
+        TyForm::Send(base) => number_leaf(alloc, keys, Form::Send, base.number()),
+        TyForm::Receive(base) => number_leaf(alloc, keys, Form::Receive, base.number()),
+        TyForm::Select(branches) => number_choice(alloc, keys, Form::Select, branches),
+        TyForm::Offer(branches) => number_choice(alloc, keys, Form::Offer, branches),
+        TyForm::Seq(first, second) => number_both(alloc, keys, Form::Seq, first, second),
         TyForm::Rec(body) => number_rec(alloc, keys, body),
-        TyForm::Back(k) => number_leaf(alloc, keys, 6, *k),
-        TyForm::Var(k) => number_leaf(alloc, keys, 7, *k),
-        TyForm::Plain(base) => number_leaf(alloc, keys, 8, base.number()),
-        TyForm::Arrow(Use::Many, from, to) => number_both(alloc, keys, 9, from, to),
-        TyForm::Arrow(Use::Once, from, to) => number_both(alloc, keys, 10, from, to),
-        TyForm::Pair(first, second) => number_both(alloc, keys, 11, first, second),
-        TyForm::Named(k) => number_leaf(alloc, keys, 12, *k),
+        TyForm::Back(k) => number_leaf(alloc, keys, Form::Back, *k),
+        TyForm::Var(k) => number_leaf(alloc, keys, Form::Var, *k),
+        TyForm::Plain(base) => number_leaf(alloc, keys, Form::Plain, base.number()),
+        TyForm::Arrow(Use::Many, from, to) => number_both(alloc, keys, Form::Many, from, to),
+        TyForm::Arrow(Use::Once, from, to) => number_both(alloc, keys, Form::Once, from, to),
+        TyForm::Pair(first, second) => number_both(alloc, keys, Form::Pair, first, second),
+        TyForm::Named(k) => number_leaf(alloc, keys, Form::Named, *k),
     }
 }
 
 #[cycle(number)]
 fn number_rec(alloc: Global, keys: &mut Keys, body: &Ty) -> Result<usize, AllocError>
-    ensures stands { IfOk result (λ i. Stands keys.new i (wrap 5 (shape_of body.now))) }
+    ensures stands { IfOk result (λ i. Stands keys.new i (wrap Form.Rec (shape_of body.now))) }
     ensures kept { OnOk result (KeepsNumbers keys.old keys.new) }
 {
     let part = number_of(alloc, keys, body)?;
-    number_wrap(alloc, keys, 5, part)
+    number_wrap(alloc, keys, Form::Rec, part)
 }
 
 #[cycle(number)]
 fn number_both(
     alloc: Global,
     keys: &mut Keys,
-    form: usize,
+    form: Form,
     first: &Ty,
     second: &Ty,
 ) -> Result<usize, AllocError>
@@ -144,7 +140,7 @@ fn number_both(
 fn number_choice(
     alloc: Global,
     keys: &mut Keys,
-    form: usize,
+    form: Form,
     branches: &[Branch],
 ) -> Result<usize, AllocError>
     ensures stands { IfOk result (λ i. Stands keys.new i (wrap form (shape_of_all (branches_of branches.now)))) }

@@ -1,11 +1,11 @@
 ghost use Rattle.std.specs.Prelude.{◌≡◌, ◌+◌, ◌<◌, ◌≤◌, ◌^◌, ◌++◌, OnOk, map, length};
-ghost use Rattle.fst_types.specs.View.{branches_of};
+ghost use Rattle.fst_types.specs.ModelView.{branches_of};
 ghost use Rattle.fst_types.specs.Size.{nodes, nodes_all};
 ghost use Rattle.fst_grammar.specs.Shapes.{shape_of_all};
 ghost use Rattle.fst_grammar.specs.Keys.{Stands};
 ghost use Rattle.fst_grammar.specs.Parts.{position, with_part, with_parts, parts as parts_in, parts_all};
 ghost use Rattle.fst_grammar.specs.Views.{part_of, places_of, place_in, HasNumber, IsKept};
-ghost use Rattle.fst_grammar.specs.Place.{entered};
+ghost use Rattle.fst_grammar.specs.Place.{own_place};
 ghost use Rattle.fst_grammar.specs.PartsAt.{own_parts};
 
 use crate::closing::{is_whole, node_count};
@@ -136,7 +136,7 @@ fn note_entered<'a>(
     requires part { HasNumber keys.now t }
     requires kept { IsKept keys.now parts.old }
     ensures kept { OnOk result (IsKept keys.now parts.new) }
-    ensures parts { OnOk result (map part_of parts.new.found.items ≡ with_parts (map part_of parts.old.found.items) (own_parts (entered (place_in whole.entry.ty.now at (places_of binders.now)) t.entry.ty.now) t.entry.ty.now)) }
+    ensures parts { OnOk result (map part_of parts.new.found.items ≡ with_parts (map part_of parts.old.found.items) (own_parts (own_place (place_in whole.entry.ty.now at (places_of binders.now)) t.entry.ty.now) t.entry.ty.now)) }
 {
     if is_whole(t.ty) {
         note_own(alloc, keys, parts, t, 0, &Binders::Top, t)
@@ -187,7 +187,7 @@ fn note_own<'a>(
 }
 
 #[cycle(note)]
-#[tactic(auto, using(fst_types::proofs::Heights::height_at, crate::proofs::TableLaws::with_append, crate::proofs::BranchLaws::branches_at))]
+#[tactic(auto, using(crate::proofs::Rulesets::parts_of_branches))]
 fn note_branches<'a>(
     alloc: Global,
     keys: &Keys,

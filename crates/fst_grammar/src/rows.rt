@@ -1,18 +1,18 @@
 ghost use Rattle.std.specs.Prelude.{◌≡◌, ◌+◌, ◌<◌, ◌≤◌, ◌^◌, ◌++◌, ◌∷◌, [], ℕ, All, IfErr, IfOk, OnOk, map, length};
-ghost use Rattle.fst_words.specs.Words.{Rows, row_of};
+ghost use Rattle.fst_words.specs.Words.{Productions, row_of};
 ghost use Rattle.fst_words.specs.Ordered.{AreOrdered};
-ghost use Rattle.fst_grammar.specs.Rules.{carried};
+ghost use Rattle.fst_grammar.specs.Rules.{rules_before};
 ghost use Rattle.fst_grammar.specs.Equations.{Solves, Leads, IsGrounded, most_rank};
-ghost use Rattle.fst_grammar.specs.Translation.{right_sides, right_side, most_letters};
+ghost use Rattle.fst_grammar.specs.Translation.{right_sides, right_side};
 ghost use Rattle.fst_grammar.specs.Views.{equation_of};
 ghost use Rattle.fst_grammar.specs.declared.fault.TranslateFault.TheVariants.{TooLarge};
+ghost use Rattle.fst_base.specs.Limits.{most_letters};
 
 use crate::equations::Equation;
 use crate::fault::TranslateFault;
+use fst_base::MOST_LETTERS;
 use fst_words::{Rule, Rules, Word};
 use std::alloc::{AllocError, Global};
-
-const MOST_LETTERS: u64 = 1_048_576;
 
 /// A bound on how many equations stand behind one another.
 const MOST_STEPS: u32 = 16_781_312;
@@ -25,7 +25,7 @@ struct Head<'a> {
 }
 
 /// Goes from equation to equation to rules, at most so many steps.
-#[tactic(auto, using(crate::proofs::HeadLaws::led, crate::proofs::HeadLaws::own_row, crate::proofs::HeadLaws::like_row))]
+#[tactic(auto, using(crate::proofs::Rulesets::heads))]
 fn head_of<'a>(
     alloc: Global,
     equations: &'a [Equation],
@@ -34,7 +34,7 @@ fn head_of<'a>(
 ) -> Result<Head<'a>, AllocError>
     requires within { z < length equations.now }
     requires leads { Leads (map equation_of equations.now) z left }
-    ensures rules { (rows : Rows) → Solves rows (map equation_of equations.now) → IfOk result (λ h. row_of rows z ≡ carried h.rest.items h.rules.now) }
+    ensures rules { (rows : Productions) → Solves rows (map equation_of equations.now) → IfOk result (λ h. row_of rows z ≡ rules_before h.rest.items h.rules.now) }
 {
     match &equations[z as usize] {
         Equation::Own(rules) => Ok(Head {
@@ -58,9 +58,9 @@ fn carry(
     rest: &[u32],
     room: &mut u64,
 ) -> Result<Vec<Rule>, TranslateFault>
-    ensures rules { IfOk result (λ r. r.items ≡ carried rest.now rules.now) }
-    ensures room { OnOk result (room.new + right_side (carried rest.now rules.now) ≡ room.old) }
-    ensures too_large { IfErr result (λ f. f ≡ TooLarge → room.old < right_side (carried rest.now rules.now)) }
+    ensures rules { IfOk result (λ r. r.items ≡ rules_before rest.now rules.now) }
+    ensures room { OnOk result (room.new + right_side (rules_before rest.now rules.now) ≡ room.old) }
+    ensures too_large { IfErr result (λ f. f ≡ TooLarge → room.old < right_side (rules_before rest.now rules.now)) }
 {
     let mut longer = Vec::new(alloc);
     for rule in rules {
@@ -99,10 +99,10 @@ fn row(
 ) -> Result<Rules, TranslateFault>
     requires within { z < length equations.now }
     requires grounded { (rank : ℕ → ℕ) × IsGrounded rank most_rank (map equation_of equations.now) }
-    requires ordered { (rows : Rows) × Solves rows (map equation_of equations.now) × All AreOrdered rows }
-    ensures rules { (rows : Rows) → Solves rows (map equation_of equations.now) → IfOk result (λ r. r ≡ row_of rows z) }
-    ensures room { (rows : Rows) → Solves rows (map equation_of equations.now) → OnOk result (room.new + right_side (row_of rows z) ≡ room.old) }
-    ensures too_large { (rows : Rows) → Solves rows (map equation_of equations.now) → IfErr result (λ f. f ≡ TooLarge → room.old < right_side (row_of rows z)) }
+    requires ordered { (rows : Productions) × Solves rows (map equation_of equations.now) × All AreOrdered rows }
+    ensures rules { (rows : Productions) → Solves rows (map equation_of equations.now) → IfOk result (λ r. r ≡ row_of rows z) }
+    ensures room { (rows : Productions) → Solves rows (map equation_of equations.now) → OnOk result (room.new + right_side (row_of rows z) ≡ room.old) }
+    ensures too_large { (rows : Productions) → Solves rows (map equation_of equations.now) → IfErr result (λ f. f ≡ TooLarge → room.old < right_side (row_of rows z)) }
 {
     let head = head_of(alloc, equations, z, MOST_STEPS)?;
     let rules = carry(alloc, head.rules, &head.rest, room)?;
@@ -113,10 +113,10 @@ fn row(
 pub(crate) fn rows_of(alloc: Global, equations: &[Equation]) -> Result<Vec<Rules>, TranslateFault>
     requires few { length equations.now < 2 ^ 32 }
     requires grounded { (rank : ℕ → ℕ) × IsGrounded rank most_rank (map equation_of equations.now) }
-    requires ordered { (rows : Rows) × Solves rows (map equation_of equations.now) × All AreOrdered rows }
-    ensures rules { (rows : Rows) → Solves rows (map equation_of equations.now) → IfOk result (λ r. r.items ≡ rows) }
+    requires ordered { (rows : Productions) × Solves rows (map equation_of equations.now) × All AreOrdered rows }
+    ensures rules { (rows : Productions) → Solves rows (map equation_of equations.now) → IfOk result (λ r. r.items ≡ rows) }
     ensures small { IfOk result (λ r. right_sides r.items ≤ most_letters) }
-    ensures too_large { (rows : Rows) → Solves rows (map equation_of equations.now) → IfErr result (λ f. f ≡ TooLarge → most_letters < right_sides rows) }
+    ensures too_large { (rows : Productions) → Solves rows (map equation_of equations.now) → IfErr result (λ f. f ≡ TooLarge → most_letters < right_sides rows) }
 {
     let mut rows = Vec::new(alloc);
     let mut room = MOST_LETTERS;

@@ -1,5 +1,5 @@
 ghost use Rattle.std.specs.Prelude.{◌≡◌, []};
-ghost use Rattle.fst_grammar.specs.Place.{entered};
+ghost use Rattle.fst_grammar.specs.Place.{own_place};
 ghost use Rattle.fst_grammar.specs.Word.{node_at};
 ghost use Rattle.fst_grammar.specs.Views.{numbers_in, place_in, HasNumber, IsTable};
 
@@ -44,7 +44,7 @@ impl Table<'_> {
         requires table { IsTable self.now }
         requires whole { HasNumber self.now.keys whole }
         requires part { HasNumber self.now.keys t }
-        ensures { result ≡ node_at (numbers_in self.now) (entered (place_in whole.entry.ty.now at []) t.entry.ty.now) }
+        ensures { result ≡ node_at (numbers_in self.now) (own_place (place_in whole.entry.ty.now at []) t.entry.ty.now) }
     {
         if is_whole(t.ty) {
             self.node(t, 0)

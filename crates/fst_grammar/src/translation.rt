@@ -2,14 +2,16 @@ ghost use Rattle.std.specs.Prelude.{◌≡◌, ◌≤◌, ◌<◌, ◌+◌, ◌^
 ghost use Rattle.fst_types.specs.Size.{nodes};
 ghost use Rattle.fst_types.specs.declared.kind.Kind.{Kind};
 ghost use Rattle.fst_kinds.specs.WellFormed.{IsSession};
-ghost use Rattle.fst_words.specs.Words.{StandsFor};
+ghost use Rattle.fst_words.specs.Words.{EachHasRule};
+ghost use Rattle.fst_grammar.specs.Standing.{StandsFor};
 ghost use Rattle.fst_grammar.specs.Labels.{labels_in, names};
-ghost use Rattle.fst_grammar.specs.Letters.{inserted_all};
+ghost use Rattle.fst_grammar.specs.Letters.{with_labels};
 ghost use Rattle.fst_grammar.specs.Parts.{parts_of};
-ghost use Rattle.fst_grammar.specs.Translation.{IsTranslation, IsInRange, IsSmall, IsTooLarge, right_sides, most_letters, most_nodes};
+ghost use Rattle.fst_grammar.specs.Translation.{IsTranslation, IsInRange, IsSmall, IsTooLarge, right_sides};
 ghost use Rattle.fst_grammar.specs.Done.{IsDone};
 ghost use Rattle.fst_grammar.specs.Views.{part_of, HasNumber, IsTable, IsKept};
 ghost use Rattle.fst_grammar.specs.declared.fault.TranslateFault.TheVariants.{TooLarge};
+ghost use Rattle.fst_base.specs.Limits.{most_letters, most_nodes};
 
 use crate::equations::equations_of;
 use crate::fault::TranslateFault;
@@ -20,11 +22,10 @@ use crate::parts::{Binders, Parts, note_all};
 use crate::rows::rows_of;
 use crate::table::Table;
 use crate::words::word_of;
+use fst_base::MOST_NODES;
 use fst_types::{Ty, size};
 use fst_words::{Grammar, Word};
 use std::alloc::{AllocError, Global};
-
-const MOST_NODES: u64 = 4096;
 
 /// The grammar of two session types, and the words that stand for the left and the right one.
 pub fn translate(alloc: Global, s: &Ty, r: &Ty) -> Result<(Grammar, Word, Word), TranslateFault>
@@ -34,6 +35,7 @@ pub fn translate(alloc: Global, s: &Ty, r: &Ty) -> Result<(Grammar, Word, Word),
     ensures left { IfOk result (λ t. StandsFor t.0.letters.items t.0.rules.items t.1 s.now) }
     ensures right { IfOk result (λ t. StandsFor t.0.letters.items t.0.rules.items t.2 r.now) }
     ensures range { IfOk result (λ t. IsInRange t.0.letters.items t.0.rules.items t.1 t.2) }
+    ensures ruled { IfOk result (λ t. EachHasRule t.0.rules.items) }
     ensures small { IfOk result (λ t. IsSmall s.now r.now t.0.rules.items) }
     ensures too_large { IfErr result (λ f. f ≡ TooLarge → IsTooLarge s.now r.now) }
 {
@@ -64,7 +66,7 @@ fn translate_small(alloc: Global, s: &Ty, r: &Ty) -> Result<(Grammar, Word, Word
 
 /// The choices and `rec`s of two types, the left before the right.
 #[tactic(auto, using(crate::proofs::TableLaws::with_append))]
-fn noted<'a>(
+fn parts_of_both<'a>(
     alloc: Global,
     keys: &Keys,
     left: Numbered<'a>,
@@ -87,11 +89,11 @@ fn noted<'a>(
 }
 
 /// The letters, names and parts of two types.
-#[tactic(auto, using(crate::proofs::LabelLaws::inserted_append, crate::proofs::TableLaws::with_append, crate::proofs::SizeLaws::table_small, crate::proofs::SizeLaws::table_within))]
+#[tactic(auto, using(crate::proofs::Rulesets::tables))]
 fn table_of<'a>(alloc: Global, s: &'a Ty, r: &'a Ty) -> Result<Table<'a>, AllocError>
     requires left { nodes s.now ≤ most_nodes }
     requires right { nodes r.now ≤ most_nodes }
-    ensures letters { IfOk result (λ t. t.letters.items ≡ inserted_all [] (labels_in s.now ++ labels_in r.now)) }
+    ensures letters { IfOk result (λ t. t.letters.items ≡ with_labels [] (labels_in s.now ++ labels_in r.now)) }
     ensures parts { IfOk result (λ t. map part_of t.parts.found.items ≡ parts_of s.now r.now) }
     ensures table { IfOk result IsTable }
     ensures left { IfOk result (λ t. t.left.ty.now ≡ s.now) }
@@ -107,7 +109,7 @@ fn table_of<'a>(alloc: Global, s: &'a Ty, r: &'a Ty) -> Result<Table<'a>, AllocE
     let mut keys = Keys::new(alloc);
     let left = with_number(alloc, &mut keys, s)?;
     let right = with_number(alloc, &mut keys, r)?;
-    let parts = noted(alloc, &keys, left, right)?;
+    let parts = parts_of_both(alloc, &keys, left, right)?;
     Ok(Table {
         letters,
         names,

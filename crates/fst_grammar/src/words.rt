@@ -12,7 +12,7 @@ use fst_types::{Label, TyForm};
 use fst_words::Word;
 use std::alloc::{AllocError, Global};
 
-#[tactic(auto, using(crate::proofs::BranchLaws::binder_read, crate::proofs::BranchLaws::binder_past))]
+#[tactic(auto, using(crate::proofs::Rulesets::binders))]
 fn binder_at(binders: &[u32], k: u32) -> u32
     ensures { result ≡ binder binders.now k }
 {
@@ -47,6 +47,7 @@ fn push_word(
 {
     let ty = t.ty;
     match &ty.form {
+        TyForm::Skip => Ok(()),
         TyForm::Send(base) => add(out, table.name(&Label::Send(*base))),
         TyForm::Receive(base) => add(out, table.name(&Label::Receive(*base))),
         TyForm::Var(k) => add(out, table.name(&Label::Var(*k))),
@@ -67,7 +68,10 @@ fn push_word(
                 add(out, table.number(whole, at, t))
             }
         }
-        _ => Ok(()),
+        TyForm::Plain(_) => Ok(()),
+        TyForm::Arrow(_, _, _) => Ok(()),
+        TyForm::Pair(_, _) => Ok(()),
+        TyForm::Named(_) => Ok(()),
     }
 }
 

@@ -1,3 +1,4 @@
 pub mod Faults
 pub mod GivingUp
 pub mod Memory
+pub mod Adapters

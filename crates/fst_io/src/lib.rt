@@ -8,8 +8,6 @@ mod reading;
 mod sink;
 mod source;
 mod steady;
-#[cfg(test)]
-mod tests;
 mod writing;
 
 pub use adapters::{InputSource, OutputSink};

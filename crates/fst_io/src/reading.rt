@@ -1,9 +1,9 @@
-ghost use Rattle.std.specs.Prelude.{◌<◌, ◌≤◌, ◌^◌, ◌-◌, vec_len, IfOk, IfErr, OnOk};
+ghost use Rattle.std.specs.Prelude.{◌≡◌, ◌<◌, ◌≤◌, ◌^◌, ◌-◌, vec_len, IfOk, IfErr, OnOk};
 ghost use Rattle.std.specs.Io.KnownBytes.{Consumes, IsAtEnd};
 ghost use Rattle.fst_io.specs.GivingUp.{ReadGaveUp};
 
 use crate::source::Source;
-use std::alloc::Global;
+use std::alloc::{AllocError, Global};
 use thiserror::Error;
 
 /// Why not all bytes were read.
@@ -18,6 +18,16 @@ pub enum ReadFault {
     /// There was no memory for the bytes.
     #[error("out of memory")]
     Memory,
+}
+
+impl From<AllocError> for ReadFault {
+    ghost use Rattle.fst_io.specs.declared.reading.ReadFault.TheVariants.{Memory};
+
+    ghost from_gives = { λ _ fault. fault ≡ Memory };
+
+    fn from(_error: AllocError) -> ReadFault {
+        ReadFault::Memory
+    }
 }
 
 /// The greatest number of bytes that one read asks for.
@@ -47,11 +57,7 @@ pub fn read_all<S: Source>(
         match source.read(buffer) {
             Err(_) => return Err(ReadFault::Failed),
             Ok(0) => return Ok(all),
-            Ok(n) => {
-                if all.extend_from_slice(&buffer[..n]).is_err() {
-                    return Err(ReadFault::Memory);
-                }
-            }
+            Ok(n) => all.extend_from_slice(&buffer[..n])?,
         }
     }
     Err(ReadFault::TooLong)

@@ -1,7 +1,9 @@
+pub mod Laws
 pub mod FrontLaws
 pub mod KindLaws
 pub mod LabelLaws
 pub mod WalkLaws
+pub mod FaultLaws
 pub mod SubstitutedKinds
 pub mod SubstitutedGuards
 pub mod OpenSessions

@@ -1,29 +1,18 @@
 -- What types guard and reach in which types are put for recursion variables.
 use Rattle.std.proofs.Common.{◌≡◌, ◌∙◌, ◌<◌, ◌≤◌, ℕ, zero, suc, List, [], ◌∷◌, Bool, true, false, Option, Some, None, refl, ap, arith}
-use Rattle.std.specs.Prelude.{◌&&◌, ◌||◌, not, nat_eq, IfSome, ⊤}
-use Rattle.std.proofs.lemmas.Bool.{eqb-true, false_from_ne_true}
+use Rattle.std.specs.Prelude.{◌&&◌, ◌||◌, not, nat_eq}
+use Rattle.std.proofs.Math.Bool.{or-true, and-false}
+use Rattle.std.proofs.lemmas.Bool.{eqb-true, false_from_ne_true, or_parts}
 use Rattle.fst_types.specs.Tree.{Tree, skip, send, receive, select, offer, seq, rec, back, var, plain, arrow, pair, named, Branches, none, branch}
 use Rattle.fst_types.specs.declared.kind.Kind.{Kind}
 use Rattle.fst_types.specs.declared.kind.Prekind.TheVariants.{Session, Top}
 use Rattle.fst_types.specs.declared.kind.Use.{Use}
-use Rattle.fst_types.specs.Substitution.{variable, substituted, substituted_all}
+use Rattle.fst_types.specs.Substitution.{variable, substituted, substituted_all, EnvHas}
 use Rattle.fst_types.specs.Scoped.{IsScoped, AllScoped}
-use Rattle.fst_types.proofs.SubstitutionLaws.{EnvHas, variable_has}
+use Rattle.fst_types.proofs.Laws.{variable_has}
 use Rattle.fst_kinds.specs.Kinds.{session, top, HasKind}
+use Rattle.fst_kinds.specs.OpenSession.{GuardsTo}
 use Rattle.fst_kinds.specs.Contractive.{guards, reaches, IsContractive, AllContractive}
-
-pub both_false : (c d : Bool) → c || d ≡ false → (c ≡ false) × (d ≡ false)
-both_false true d e = absurd (cc e)
-both_false false true e = absurd (cc e)
-both_false false false e = (refl, refl)
-
-or_true : (c : Bool) → c || true ≡ true
-or_true true = refl
-or_true false = refl
-
-and_false : (c : Bool) → c && false ≡ false
-and_false true = refl
-and_false false = refl
 
 -- the kind of a session type is none of a type of any values
 pub not_top : {A : Type 0} (u v : Use) → session u ≡ top v → A
@@ -39,7 +28,7 @@ unguarded_scoped vars n (receive b) u h e = tt
 unguarded_scoped vars n (select bs) u h e = absurd (cc e)
 unguarded_scoped vars n (offer bs) u h e = absurd (cc e)
 unguarded_scoped vars n (seq s r) u h e =
-    let both = both_false (guards s) (guards r) e in
+    let both = or_parts (guards s) (guards r) e in
     (unguarded_scoped vars n s h.0 h.2 both.0, unguarded_scoped vars n r h.1 h.3 both.1)
 unguarded_scoped vars n (rec s) u h e = unguarded_scoped vars (suc n) s u h.0 e
 unguarded_scoped vars n (back k) u h e = absurd (cc e)
@@ -58,7 +47,7 @@ unreached (select bs) n k h le = refl
 unreached (offer bs) n k h le = refl
 unreached (seq s r) n k h le =
     ap (λ b. b || (not (guards s) && reaches r k)) (unreached s n k h.0 le)
-    ∙ ap (λ b. not (guards s) && b) (unreached r n k h.1 le) ∙ and_false (not (guards s))
+    ∙ ap (λ b. not (guards s) && b) (unreached r n k h.1 le) ∙ and-false (not (guards s))
 unreached (rec s) n k h le = unreached s (suc n) (suc k) h (omega arith)
 unreached (back j) n k h le = false_from_ne_true (nat_eq j k) (λ e. absurd (omega (arith, eqb-true j k e)))
 unreached (var j) n k h le = refl
@@ -66,12 +55,6 @@ unreached (plain b) n k h le = refl
 unreached (arrow u s r) n k h le = refl
 unreached (pair s r) n k h le = refl
 unreached (named j) n k h le = refl
-
--- what the first n binders stand for guards
-abbrev pub GuardsTo : ℕ → List (Option Tree) → Type 0
-GuardsTo zero env = ⊤
-GuardsTo (suc n) [] = ⊤
-GuardsTo (suc n) (o ∷ env) = IfSome o (λ t. guards t ≡ true) × GuardsTo n env
 
 variable_guards : (n : ℕ) (env : List (Option Tree)) (k : ℕ) (t : Tree) → GuardsTo n env → k < n → guards t ≡ true → guards (variable env k t) ≡ true
 variable_guards zero env k t g lt h = absurd (omega arith)
@@ -92,7 +75,7 @@ substituted_guards n env (seq s r) g h e = pick (substituted_guards n env s g h.
     pick : (guards s ≡ true → guards (substituted env s) ≡ true) → (guards r ≡ true → guards (substituted env r) ≡ true) →
         (c : Bool) → guards s ≡ c → c || guards r ≡ true → guards (substituted env s) || guards (substituted env r) ≡ true
     pick first second true is e = ap (λ b. b || guards (substituted env r)) (first is)
-    pick first second false is e = ap (λ b. guards (substituted env s) || b) (second e) ∙ or_true (guards (substituted env s))
+    pick first second false is e = ap (λ b. guards (substituted env s) || b) (second e) ∙ or-true (guards (substituted env s))
 substituted_guards n env (rec s) g h e = substituted_guards (suc n) (None ∷ env) s (tt, g) h e
 substituted_guards n env (back k) g h e = variable_guards n env k (back k) g h refl
 substituted_guards n env (var k) g h e = e
@@ -116,13 +99,13 @@ substituted_unreached n env (receive b) j g c h e = refl
 substituted_unreached n env (select bs) j g c h e = refl
 substituted_unreached n env (offer bs) j g c h e = refl
 substituted_unreached n env (seq s r) j g c h e =
-    let both = both_false (reaches s j) (not (guards s) && reaches r j) e in
+    let both = or_parts (reaches s j) (not (guards s) && reaches r j) e in
     pick (substituted_unreached n env s j g c h.0 both.0) (substituted_unreached n env r j g c h.1) (guards s) refl both.1
   where
     pick : reaches (substituted env s) j ≡ false → (reaches r j ≡ false → reaches (substituted env r) j ≡ false) → (b : Bool) → guards s ≡ b → not b && reaches r j ≡ false →
         reaches (substituted env s) j || (not (guards (substituted env s)) && reaches (substituted env r) j) ≡ false
     pick first second true is e = λ i. first i || (not (substituted_guards n env s g h.0 is i) && reaches (substituted env r) j)
-    pick first second false is e = (λ i. first i || (not (guards (substituted env s)) && second e i)) ∙ and_false (not (guards (substituted env s)))
+    pick first second false is e = (λ i. first i || (not (guards (substituted env s)) && second e i)) ∙ and-false (not (guards (substituted env s)))
 substituted_unreached n env (rec s) j g c h e = substituted_unreached (suc n) (None ∷ env) s (suc j) (tt, g) (tt, c) h e
 substituted_unreached n env (back k) j g c h e = variable_unreached env k j (back k) c e
 substituted_unreached n env (var k) j g c h e = refl

@@ -4,8 +4,7 @@ use Rattle.fst_types.specs.Tree.{Tree, skip, send, receive, select, offer, seq, 
 use Rattle.fst_types.specs.declared.kind.Kind.{Kind}
 use Rattle.fst_types.specs.declared.kind.Use.{Use}
 use Rattle.fst_types.specs.declared.kind.Use.TheVariants.{Many, Once}
-use Rattle.fst_types.specs.Substitution.{variable, substituted, substituted_all}
-use Rattle.fst_types.proofs.SubstitutionLaws.{EnvHas}
+use Rattle.fst_types.specs.Substitution.{variable, substituted, substituted_all, EnvHas}
 use Rattle.fst_kinds.specs.Kinds.{session, use_below, joined, HasKind, AllSessions}
 
 -- two uses that are below each other are one
@@ -15,6 +14,7 @@ use_antisymmetric Many Once a b = absurd (cc b)
 use_antisymmetric Once Many a b = absurd (cc a)
 use_antisymmetric Once Once a b = refl
 
+-- each use is below itself
 pub below_itself : (u : Use) → use_below u u ≡ true
 below_itself Many = refl
 below_itself Once = refl
@@ -23,6 +23,7 @@ below_joined : (u w : Use) → use_below u (joined u w) ≡ true
 below_joined Many w = refl
 below_joined Once w = refl
 
+-- a use joined with itself is the use
 pub joined_itself : (u : Use) → joined u u ≡ u
 joined_itself Many = refl
 joined_itself Once = refl
@@ -126,6 +127,7 @@ env_has P Q f [] e = tt
 env_has P Q f (None ∷ env) e = (tt, env_has P Q f env e.1)
 env_has P Q f (Some t ∷ env) e = (f t e.0, env_has P Q f env e.1)
 
+-- each use is below a single one
 pub below_once : (u : Use) → use_below u Once ≡ true
 below_once Many = refl
 below_once Once = refl

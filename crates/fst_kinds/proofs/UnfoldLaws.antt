@@ -1,69 +1,46 @@
 -- An unfolding is as well formed as the type, of the same kind.
 use Rattle.std.proofs.Common.{◌≡◌, ℕ, List, [], ◌∷◌, Bool, true, false, Some, refl, subst}
-use Rattle.fst_types.specs.Tree.{Tree, skip, send, receive, select, offer, seq, rec, back, var, plain, arrow, pair, named}
+use Rattle.fst_types.specs.Tree.{Tree, rec}
 use Rattle.fst_types.specs.declared.kind.Kind.{Kind}
 use Rattle.fst_types.specs.declared.kind.Prekind.TheVariants.{Session}
-use Rattle.fst_types.specs.Substitution.{substituted, unfolded}
+use Rattle.fst_types.specs.Substitution.{unfolded}
 use Rattle.fst_types.specs.Scoped.{IsScoped}
-use Rattle.fst_types.proofs.SubstitutionLaws.{unfolded_scoped, unfolded_ordered}
+use Rattle.fst_types.proofs.Laws.{unfolded_scoped, unfolded_ordered}
 use Rattle.fst_kinds.specs.Kinds.{session, use_below, HasKind}
 use Rattle.fst_kinds.specs.Contractive.{guards, IsContractive}
 use Rattle.fst_kinds.specs.WellFormed.{IsWellFormed}
 use Rattle.fst_kinds.proofs.SubstitutedKinds.{use_antisymmetric, below_itself, joined_itself, used, substituted_kind}
-use Rattle.fst_kinds.proofs.SubstitutedGuards.{unguarded_scoped, GuardsTo, substituted_contractive}
+use Rattle.fst_kinds.proofs.SubstitutedGuards.{unguarded_scoped, substituted_contractive}
+use Rattle.fst_kinds.specs.OpenSession.{GuardsTo}
 
 -- a kind with the prekind of session types, as the kind of a session type
 session_of : (k : Kind) → k.prekind ≡ Session → k ≡ session k.uses
 session_of k e = λ i. record { prekind = e i; uses = k.uses }
 
 -- an unfolding has exactly the kind of the type
-pub unfolded_kind : (vars : List Kind) (t : Tree) (k : Kind) → HasKind vars t k → HasKind vars (unfolded t) k
-unfolded_kind vars (rec s) k h =
+pub unfolded_kind : (vars : List Kind) (s : Tree) (k : Kind) → HasKind vars (rec s) k → HasKind vars (unfolded s) k
+unfolded_kind vars s k h =
     let whole : HasKind vars (rec s) (session k.uses) = subst (λ j. HasKind vars (rec s) j) (session_of k h.1) h in
     let found = substituted_kind vars k.uses (Some (rec s) ∷ []) s k ((k.uses, whole, below_itself k.uses), tt) h.0 in
     let within : use_below found.0 k.uses ≡ true = subst (λ u. use_below found.0 u ≡ true) (joined_itself k.uses) found.3 in
-    subst (λ u. HasKind vars (substituted (Some (rec s) ∷ []) s) (used k u)) (use_antisymmetric found.0 k.uses within found.2) found.1
-unfolded_kind vars skip k h = h
-unfolded_kind vars (send b) k h = h
-unfolded_kind vars (receive b) k h = h
-unfolded_kind vars (select bs) k h = h
-unfolded_kind vars (offer bs) k h = h
-unfolded_kind vars (seq s r) k h = h
-unfolded_kind vars (back n) k h = h
-unfolded_kind vars (var n) k h = h
-unfolded_kind vars (plain b) k h = h
-unfolded_kind vars (arrow u s r) k h = h
-unfolded_kind vars (pair s r) k h = h
-unfolded_kind vars (named n) k h = h
+    subst (λ u. HasKind vars (unfolded s) (used k u)) (use_antisymmetric found.0 k.uses within found.2) found.1
 
 -- an unfolding of a contractive session type is contractive
-pub unfolded_contractive : (vars : List Kind) (t : Tree) (k : Kind) → HasKind vars t k → IsScoped 0 t → IsContractive t → IsContractive (unfolded t)
-unfolded_contractive vars (rec s) k h o c = pick (guards s) refl
+pub unfolded_contractive : (vars : List Kind) (s : Tree) (k : Kind) → HasKind vars (rec s) k → IsScoped 0 (rec s) → IsContractive (rec s) → IsContractive (unfolded s)
+unfolded_contractive vars s k h o c = pick (guards s) refl
   where
-    put : (n : ℕ) → GuardsTo n (Some (rec s) ∷ []) → IsScoped n s → IsContractive (substituted (Some (rec s) ∷ []) s)
+    put : (n : ℕ) → GuardsTo n (Some (rec s) ∷ []) → IsScoped n s → IsContractive (unfolded s)
     put n g l = substituted_contractive n (Some (rec s) ∷ []) s g (o, tt) (c, tt) l c.0
 
-    pick : (b : Bool) → guards s ≡ b → IsContractive (substituted (Some (rec s) ∷ []) s)
+    pick : (b : Bool) → guards s ≡ b → IsContractive (unfolded s)
     pick true is = put 1 (is, tt) o
     pick false is = put 0 tt (unguarded_scoped vars 0 s k.uses (subst (λ j. HasKind vars s j) (session_of k h.1) h.0) is)
-unfolded_contractive vars skip k h o c = c
-unfolded_contractive vars (send b) k h o c = c
-unfolded_contractive vars (receive b) k h o c = c
-unfolded_contractive vars (select bs) k h o c = c
-unfolded_contractive vars (offer bs) k h o c = c
-unfolded_contractive vars (seq s r) k h o c = c
-unfolded_contractive vars (back n) k h o c = c
-unfolded_contractive vars (var n) k h o c = c
-unfolded_contractive vars (plain b) k h o c = c
-unfolded_contractive vars (arrow u s r) k h o c = c
-unfolded_contractive vars (pair s r) k h o c = c
-unfolded_contractive vars (named n) k h o c = c
 
 -- an unfolding of a well-formed type is well formed, of the same kind
-pub unfolded_well_formed : (vars : List Kind) (t : Tree) (k : Kind) → IsWellFormed vars t k → IsWellFormed vars (unfolded t) k
-unfolded_well_formed vars t k w = record {
-  kinded = unfolded_kind vars t k w.kinded;
-  contractive = unfolded_contractive vars t k w.kinded w.scoped w.contractive;
-  scoped = unfolded_scoped t w.scoped;
-  ordered = unfolded_ordered t w.ordered;
+pub unfolded_well_formed : (vars : List Kind) (s : Tree) (k : Kind) → IsWellFormed vars (rec s) k → IsWellFormed vars (unfolded s) k
+unfolded_well_formed vars s k w = record {
+  kinded = unfolded_kind vars s k w.kinded;
+  contractive = unfolded_contractive vars s k w.kinded w.scoped w.contractive;
+  scoped = unfolded_scoped s w.scoped;
+  ordered = unfolded_ordered s w.ordered;
 }

@@ -4,6 +4,7 @@ use Rattle.fst_types.specs.Tree.{Tree, skip, send, receive, select, offer, seq, 
 
 -- what stands behind the type comes after a move
 abbrev pub guards : Tree → Bool
+guards skip = false
 guards (send b) = true
 guards (receive b) = true
 guards (select bs) = true
@@ -11,14 +12,27 @@ guards (offer bs) = true
 guards (seq s r) = guards s || guards r
 guards (rec s) = guards s
 guards (back k) = true
-guards _ = false
+guards (var k) = false
+guards (plain b) = false
+guards (arrow u s r) = false
+guards (pair s r) = false
+guards (named k) = false
 
 -- the type comes to the k-th enclosing `rec`'s variable before any move
 abbrev pub reaches : Tree → ℕ → Bool
+reaches skip k = false
+reaches (send b) k = false
+reaches (receive b) k = false
+reaches (select bs) k = false
+reaches (offer bs) k = false
 reaches (seq s r) k = reaches s k || (not (guards s) && reaches r k)
 reaches (rec s) k = reaches s (suc k)
 reaches (back j) k = nat_eq j k
-reaches _ k = false
+reaches (var j) k = false
+reaches (plain b) k = false
+reaches (arrow u s r) k = false
+reaches (pair s r) k = false
+reaches (named j) k = false
 
 abbrev mutual
   -- in no part `rec x. S` does S reach x

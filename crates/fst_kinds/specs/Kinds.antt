@@ -15,11 +15,13 @@ session u = record { prekind = Session; uses = u }
 abbrev pub top : Use → Kind
 top u = record { prekind = Top; uses = u }
 
+-- session types are types of any values
 abbrev pub prekind_below : Prekind → Prekind → Bool
 prekind_below Session p = true
 prekind_below Top Session = false
 prekind_below Top Top = true
 
+-- what may be used often may be used once
 abbrev pub use_below : Use → Use → Bool
 use_below Many u = true
 use_below Once Many = false
@@ -55,3 +57,7 @@ abbrev mutual
   pub AllSessions : List Kind → Branches → Type 0
   AllSessions vars none = ⊤
   AllSessions vars (branch l s bs) = ((u : Use) × HasKind vars s (session u)) × AllSessions vars bs
+
+-- the kind of the type is below 1S
+abbrev pub HasSessionKind : List Kind → Tree → Type 0
+HasSessionKind vars s = (u : Use) × HasKind vars s (session u)

@@ -1,5 +1,6 @@
--- The walk that finds the kind of a type or its first fault: from left to right, children before their node.
-use Rattle.std.specs.Prelude.{◌≡◌, ℕ, List, Bool, true, false, Option, Some, None, Result, Ok, Err, ok_or, slice_get, if◌then◌else◌, ⊤}
+-- The walk that finds the kind of a type or its first fault: from left to right, children before their node. The law
+-- of the walk says what it finds without walking.
+use Rattle.std.specs.Prelude.{◌≡◌, ◌⊎◌, ℕ, List, Bool, true, false, Option, Some, None, Result, Ok, Err, ok_or, slice_get, if◌then◌else◌}
 use Rattle.std.specs.Ordering.{nat_cmp, is_eq}
 use Rattle.std.specs.Cmp.Lexicographic.{slice_cmp}
 use Rattle.fst_types.specs.Tree.{Tree, skip, send, receive, select, offer, seq, rec, back, var, plain, arrow, pair, named, Branches, none, branch}
@@ -65,7 +66,6 @@ abbrev mutual
       and_next (walk vars s) (λ k. and_next (walk_all vars bs) (λ wrong.
       Ok (if subkind k (session Once) then wrong else Some k)))
 
--- the answer is what the walk finds, or that memory is wanted
+-- the answer is what was found, or that memory is wanted
 abbrev pub Answers : {T : Type 0} → Result T KindFault → Result T KindFault → Type 0
-Answers found (Err Memory) = ⊤
-Answers found answer = answer ≡ found
+Answers found answer = (answer ≡ found) ⊎ (answer ≡ Err Memory)

@@ -19,8 +19,15 @@ pub record IsWellFormed (vars : List Kind) (t : Tree) (k : Kind) : Type 0 where
 abbrev pub IsSession : List Kind → Tree → Type 0
 IsSession vars t = (u : Use) × IsWellFormed vars t (session u)
 
+-- a closed, well-formed type whose kind is below the variable's kind k
+pub record IsInstance (k : Kind) (t : Tree) : Type 0 where
+  pub kind : Kind
+  pub well_formed : IsWellFormed [] t kind
+  pub below : subkind kind k ≡ true
+
 -- a closing instantiation gives each variable a closed, well-formed type whose kind is below the variable's
 abbrev pub IsClosing : List Kind → List Tree → Type 0
 IsClosing [] [] = ⊤
-IsClosing (k ∷ vars) (t ∷ ts) = ((i : Kind) × IsWellFormed [] t i × (subkind i k ≡ true)) × IsClosing vars ts
-IsClosing _ _ = ⊥
+IsClosing [] (t ∷ ts) = ⊥
+IsClosing (k ∷ vars) [] = ⊥
+IsClosing (k ∷ vars) (t ∷ ts) = IsInstance k t × IsClosing vars ts

@@ -6,14 +6,11 @@ mod fault;
 mod front;
 mod kinds;
 mod labels;
-mod laws;
+mod law;
 mod walk;
 
 pub use contraction::contractive;
 pub use fault::KindFault;
 pub use kinds::subkind;
-pub use laws::{one_kind, unfolding_keeps_kinds};
+pub use law::{one_kind, unfolding_keeps_kinds, walk_law};
 pub use walk::kind_of;
-
-#[cfg(test)]
-mod tests;

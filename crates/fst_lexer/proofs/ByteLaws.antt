@@ -11,12 +11,14 @@ use Rattle.std.specs.List.{list_all, list_any}
 use Rattle.std.specs.Str.{byte, chars, bytes_eq, IsAscii, IsUtf8}
 use Rattle.std.specs.Char.{is_ascii_alphabetic, is_ascii_alphanumeric}
 use Rattle.std.specs.Fmt.{decimal}
+use Rattle.std.proofs.lemmas.Bool.{or_cases, and_parts}
+use Rattle.std.proofs.Math.Bool.{or-true}
 use Rattle.unicode_ident.proofs.IdentLemmas.{is_xid_start-ascii, is_xid_continue-ascii, is_xid_start-is_xid_continue}
-use Rattle.unicode_ident.specs.Ident.{is_xid_start, is_xid_continue}
-use Rattle.fst_lexer.specs.Limits.{longest_name}
+use Rattle.unicode_ident.specs.Ident.{is_xid_start}
+use Rattle.fst_base.specs.Limits.{longest_name}
 use Rattle.fst_lexer.specs.Classes.{is_blank, is_dash, is_quote, is_digit, is_long, is_reserved, short_signs, long_signs, lower_words, upper_words, continues_name}
 use Rattle.fst_lexer.specs.Spelling.{is_name, is_sign, ends_name, ends_number, ends_sign}
-use Rattle.fst_lexer.proofs.ClassLaws.{both, one_of, each, each_text}
+use Rattle.fst_lexer.proofs.ClassLaws.{each, each_text}
 use Rattle.fst_lexer.proofs.LetterLaws.{number_from, fails_at, first_of}
 
 -- an ASCII byte
@@ -26,7 +28,7 @@ is_low c = nat_lt c 128
 all_low : (test : ℕ → Bool) → ((c : ℕ) → test c ≡ true → c < 128) → (cs : List ℕ) → list_all test cs ≡ true → All (λ b. b < 128) cs
 all_low test low [] e = All-nil (λ b. b < 128)
 all_low test low (c ∷ cs) e =
-    let h = both (test c) (list_all test cs) e in
+    let h = and_parts (test c) (list_all test cs) e in
     All-cons (λ b. b < 128) c cs (low c h.0) (all_low test low cs h.1)
 
 low_is : (c : ℕ) → is_low c ≡ true → c < 128
@@ -50,7 +52,7 @@ is_plain_word (c ∷ cs) = list_all is_ascii_alphabetic (c ∷ cs) && nat_le (le
 
 plain_word : (t : List ℕ) → is_reserved t ≡ true → is_plain_word t ≡ true
 plain_word t e =
-    elim (one_of (list_any (bytes_eq t) lower_words) (list_any (bytes_eq t) upper_words) e) [
+    elim (or_cases (list_any (bytes_eq t) lower_words) (list_any (bytes_eq t) upper_words) e) [
       | inl h ↦ each_text is_plain_word lower_words t refl h
       | inr h ↦ each_text is_plain_word upper_words t refl h
     ]
@@ -61,15 +63,11 @@ letter_low c e = grind (arith, nat_tests)
 letter_starts : (c : ℕ) → is_ascii_alphabetic c ≡ true → is_xid_start c ≡ true
 letter_starts c e = is_xid_start-ascii c (letter_low c e) ∙ e
 
-or_true : (a b : Bool) → b ≡ true → (a || b) ≡ true
-or_true true b e = refl
-or_true false b e = e
-
 letters_go_on : (cs : List ℕ) → list_all is_ascii_alphabetic cs ≡ true → list_all continues_name cs ≡ true
 letters_go_on [] e = refl
 letters_go_on (c ∷ cs) e =
-    let h = both (is_ascii_alphabetic c) (list_all is_ascii_alphabetic cs) e in
-    rw (or_true (is_quote c) (is_xid_continue c) (is_xid_start-is_xid_continue c (letter_starts c h.0))) (letters_go_on cs h.1)
+    let h = and_parts (is_ascii_alphabetic c) (list_all is_ascii_alphabetic cs) e in
+    rw (is_xid_start-is_xid_continue c (letter_starts c h.0), or-true (is_quote c)) (letters_go_on cs h.1)
 
 -- what a reserved word is
 pub record Letters (t : List ℕ) : Type 0 where
@@ -83,11 +81,11 @@ reserved_letters t e = by_letters t (plain_word t e)
     by_letters : (cs : List ℕ) → is_plain_word cs ≡ true → Letters cs
     by_letters [] h = absurd (cc h)
     by_letters (c ∷ cs) h =
-        let k = both (list_all is_ascii_alphabetic (c ∷ cs)) (nat_le (length (c ∷ cs)) 10) h in
-        let m = both (is_ascii_alphabetic c) (list_all is_ascii_alphabetic cs) k.0 in
+        let k = and_parts (list_all is_ascii_alphabetic (c ∷ cs)) (nat_le (length (c ∷ cs)) 10) h in
+        let m = and_parts (is_ascii_alphabetic c) (list_all is_ascii_alphabetic cs) k.0 in
         record {
           ascii = IsAscii-from_all (c ∷ cs) (all_low is_ascii_alphabetic letter_low (c ∷ cs) k.0);
-          name = rw (or_true (c == byte "_") (is_xid_start c) (letter_starts c m.0)) (letters_go_on cs m.1);
+          name = rw (letter_starts c m.0, or-true (c == byte "_")) (letters_go_on cs m.1);
           short = grind (arith, nat_tests);
         }
 
@@ -114,7 +112,7 @@ pub ends_name_is : (rest : List ℕ) → IsUtf8 rest → ends_name rest ≡ true
 ends_name_is [] text e = rw chars-nil refl
 ends_name_is (b ∷ bs) text e =
     let f = first_of b bs text in
-    let h = both (is_low b) (not (is_quote b || (is_ascii_alphanumeric b || (b == byte "_")))) e in
+    let h = and_parts (is_low b) (not (is_quote b || (is_ascii_alphanumeric b || (b == byte "_")))) e in
     let low = low_is b h.0 in
     let one : f.character ≡ b = elim f.same [ inl x ↦ x | inr x ↦ absurd (omega (arith, x.1)) ] in
     rw (f.are, one, is_xid_continue-ascii b low) h.1

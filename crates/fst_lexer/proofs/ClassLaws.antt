@@ -1,42 +1,21 @@
 -- The first character of a piece tells its kind.
-use Rattle.std.proofs.Common.{◌≡◌, ℕ, ◌<◌, ◌⊎◌, inl, inr, Bool, true, false, not, ◌&&◌, ◌||◌, ◌==◌, List, [], ◌∷◌, refl, sym, subst, ◌∙◌, arith}
+use Rattle.std.proofs.Common.{◌≡◌, ℕ, ◌<◌, inl, inr, Bool, true, false, not, ◌&&◌, ◌==◌, List, [], ◌∷◌, refl, sym, subst, ◌∙◌, arith}
 use Rattle.std.proofs.lemmas.Bool.Decides.{nat_tests}
-use Rattle.std.proofs.lemmas.Slice.Eq.{bytes_eq-Decides}
 use Rattle.std.specs.Prelude.{codes, nat_lt}
 use Rattle.std.specs.List.{list_any, list_all}
 use Rattle.std.specs.Str.{byte, bytes_eq}
 use Rattle.std.specs.Char.{is_ascii_alphabetic}
+use Rattle.std.proofs.lemmas.Bool.{not-true, or_cases, and_parts}
 use Rattle.unicode_ident.proofs.IdentLemmas.{is_xid_start-ascii}
 use Rattle.fst_lexer.specs.Classes.{is_among, is_blank, is_dash, is_feed, is_quote, is_backslash, is_digit, is_plain, is_short, is_long, starts_name, short_signs, long_signs}
-
--- both parts of a test that holds
-pub both : (a b : Bool) → (a && b) ≡ true → (a ≡ true) × (b ≡ true)
-both true b e = (refl, e)
-both false b e = absurd (cc e)
-
--- one part of a test that holds does
-pub one_of : (a b : Bool) → (a || b) ≡ true → (a ≡ true) ⊎ (b ≡ true)
-one_of true b e = inl refl
-one_of false b e = inr e
-
--- a test that fails where another holds, the other way round
-pub other : (b d : Bool) → (b ≡ true → d ≡ false) → d ≡ true → b ≡ false
-other true d f h = sym h ∙ f refl
-other false d f h = refl
-
-pub is_not : (a : Bool) → not a ≡ true → a ≡ false
-is_not true e = absurd (cc e)
-is_not false e = refl
-
-pub same_number : (d c : ℕ) → (d == c) ≡ true → d ≡ c
-same_number d c e = grind (arith, nat_tests)
+use Rattle.fst_base.proofs.Bools.{same_number, same_text, excluded}
 
 -- what holds of each of these characters holds of one that is among them
 pub each : (test : ℕ → Bool) (cs : List ℕ) (c : ℕ) → list_all test cs ≡ true → is_among cs c ≡ true → test c ≡ true
 each test [] c all e = absurd (cc e)
 each test (d ∷ cs) c all e =
-    let h = both (test d) (list_all test cs) all in
-    elim (one_of (d == c) (is_among cs c) e) [
+    let h = and_parts (test d) (list_all test cs) all in
+    elim (or_cases (d == c) (is_among cs c) e) [
       | inl x ↦ subst (λ y. test y ≡ true) (same_number d c x) h.0
       | inr x ↦ each test cs c h.1 x
     ]
@@ -54,22 +33,22 @@ is_outside c = nat_lt c 128 && (not (is_ascii_alphabetic c) && not (c == byte "_
 
 no_name : (c : ℕ) → is_outside c ≡ true → starts_name c ≡ false
 no_name c e =
-    let h = both (nat_lt c 128) (not (is_ascii_alphabetic c) && not (c == byte "_")) e in
-    let k = both (not (is_ascii_alphabetic c)) (not (c == byte "_")) h.1 in
+    let h = and_parts (nat_lt c 128) (not (is_ascii_alphabetic c) && not (c == byte "_")) e in
+    let k = and_parts (not (is_ascii_alphabetic c)) (not (c == byte "_")) h.1 in
     let low : c < 128 = grind (arith, nat_tests) in
-    rw (is_not (c == byte "_") k.1) (is_xid_start-ascii c low ∙ is_not (is_ascii_alphabetic c) k.0)
+    rw (not-true (c == byte "_") k.1) (is_xid_start-ascii c low ∙ not-true (is_ascii_alphabetic c) k.0)
 
 pub blank_class : (c : ℕ) → is_blank c ≡ true → Class c true false false false
 blank_class c e = record {
   blank = e;
   name = no_name c (each is_outside (codes " \t\r\n") c refl e);
-  digit = is_not _ (each (λ d. not (is_digit d)) (codes " \t\r\n") c refl e);
-  quote = is_not _ (each (λ d. not (is_quote d)) (codes " \t\r\n") c refl e);
+  digit = not-true _ (each (λ d. not (is_digit d)) (codes " \t\r\n") c refl e);
+  quote = not-true _ (each (λ d. not (is_quote d)) (codes " \t\r\n") c refl e);
 }
 
 pub digit_class : (c : ℕ) → is_digit c ≡ true → Class c false false true false
 digit_class c e = record {
-  blank = other (is_blank c) (is_digit c) (λ h. (blank_class c h).digit) e;
+  blank = excluded (is_blank c) (is_digit c) (λ h. (blank_class c h).digit) e;
   name = no_name c (grind (arith, nat_tests));
   digit = e;
   quote = grind (arith, nat_tests);
@@ -79,18 +58,18 @@ pub quote_class : (c : ℕ) → is_quote c ≡ true → Class c false false fals
 quote_class c e =
     let is = same_number c (byte "'") e in
     record {
-      blank = other (is_blank c) (is_quote c) (λ h. (blank_class c h).quote) e;
+      blank = excluded (is_blank c) (is_quote c) (λ h. (blank_class c h).quote) e;
       name = no_name c (rw is refl);
-      digit = other (is_digit c) (is_quote c) (λ h. (digit_class c h).quote) e;
+      digit = excluded (is_digit c) (is_quote c) (λ h. (digit_class c h).quote) e;
       quote = e;
     }
 
 pub name_class : (c : ℕ) → starts_name c ≡ true → Class c false true false false
 name_class c e = record {
-  blank = other (is_blank c) (starts_name c) (λ h. (blank_class c h).name) e;
+  blank = excluded (is_blank c) (starts_name c) (λ h. (blank_class c h).name) e;
   name = e;
-  digit = other (is_digit c) (starts_name c) (λ h. (digit_class c h).name) e;
-  quote = other (is_quote c) (starts_name c) (λ h. (quote_class c h).name) e;
+  digit = excluded (is_digit c) (starts_name c) (λ h. (digit_class c h).name) e;
+  quote = excluded (is_quote c) (starts_name c) (λ h. (quote_class c h).name) e;
 }
 
 -- what begins a sign
@@ -99,10 +78,10 @@ sign_starts = byte "/" ∷ short_signs
 
 among_class : (c : ℕ) → is_among sign_starts c ≡ true → Class c false false false false
 among_class c e = record {
-  blank = is_not _ (each (λ d. not (is_blank d)) sign_starts c refl e);
+  blank = not-true _ (each (λ d. not (is_blank d)) sign_starts c refl e);
   name = no_name c (each is_outside sign_starts c refl e);
-  digit = is_not _ (each (λ d. not (is_digit d)) sign_starts c refl e);
-  quote = is_not _ (each (λ d. not (is_quote d)) sign_starts c refl e);
+  digit = not-true _ (each (λ d. not (is_digit d)) sign_starts c refl e);
+  quote = not-true _ (each (λ d. not (is_quote d)) sign_starts c refl e);
 }
 
 pub short_class : (c : ℕ) → is_short c ≡ true → Class c false false false false
@@ -121,20 +100,17 @@ backslash_not_plain c e = rw (same_number c (byte "\\") e) refl
 pub each_text : (test : List ℕ → Bool) (texts : List (List ℕ)) (t : List ℕ) → list_all test texts ≡ true → list_any (bytes_eq t) texts ≡ true → test t ≡ true
 each_text test [] t all e = absurd (cc e)
 each_text test (d ∷ ds) t all e =
-    let h = both (test d) (list_all test ds) all in
-    elim (one_of (bytes_eq t d) (list_any (bytes_eq t) ds) e) [
+    let h = and_parts (test d) (list_all test ds) all in
+    elim (or_cases (bytes_eq t d) (list_any (bytes_eq t) ds) e) [
       | inl x ↦ subst (λ y. test y ≡ true) (sym (same_text t d x)) h.0
       | inr x ↦ each_text test ds t h.1 x
     ]
-  where
-    same_text : (a b : List ℕ) → bytes_eq a b ≡ true → a ≡ b
-    same_text a b x = (bytes_eq-Decides a b).0 x
 
 -- a sign of two characters begins no other piece
 pub long_class : (a b : ℕ) → is_long a b ≡ true → Class a false false false false × ((is_dash a && is_dash b) ≡ false)
 long_class a b e = (
   among_class a (each_text starts long_signs (a ∷ b ∷ []) refl e),
-  is_not (is_dash a && is_dash b) (each_text no_comment long_signs (a ∷ b ∷ []) refl e),
+  not-true (is_dash a && is_dash b) (each_text no_comment long_signs (a ∷ b ∷ []) refl e),
 )
   where
     starts : List ℕ → Bool

@@ -9,9 +9,9 @@ use Rattle.fst_lexer.specs.declared.pieces.Piece.{Piece}
 use Rattle.fst_lexer.specs.declared.pieces.Piece.TheVariants.{Name, Digits, Quoted, Sign}
 use Rattle.fst_lexer.specs.declared.token.TokenKind.{TokenKind}
 use Rattle.fst_lexer.specs.declared.token.TokenKind.TheVariants as kind
-use Rattle.fst_lexer.specs.Limits.{longest_name}
+use Rattle.fst_base.specs.Limits.{longest_name}
 use Rattle.fst_lexer.specs.Classes.{is_reserved}
-use Rattle.fst_lexer.specs.Choice.{choose}
+use Rattle.fst_base.specs.Choice.{choose}
 use Rattle.fst_lexer.specs.Spelling.{IsWordOf, IsFreeName, ends_before, is_capital}
 use Rattle.fst_lexer.proofs.WordLaws.{Reads, Makes, name_reads, digits_read, sign_reads, quoted_reads, name_makes, digits_make, sign_makes, quoted_makes}
 use Rattle.fst_lexer.proofs.ByteLaws.{sign_ascii, reserved_letters, figures, ends_name_is, ends_number_is, ends_sign_is}

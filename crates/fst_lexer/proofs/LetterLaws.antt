@@ -1,6 +1,6 @@
 -- Characters with their places, and the characters alone.
 use Rattle.std.proofs.Common.{◌≡◌, ℕ, ◌+◌, ◌-◌, ◌*◌, ◌≤◌, ◌⊎◌, inl, inr, Bool, true, not, ◌&&◌, List, [], ◌∷◌, ◌++◌, length, refl, sym, ap, ◌∙◌, length-append, arith}
-use Rattle.std.proofs.lemmas.Bool.{cases_lt}
+use Rattle.std.proofs.lemmas.Bool.{cases_lt, not-true, and_parts}
 use Rattle.std.proofs.lemmas.List.Sums.{sum_by-cons}
 use Rattle.std.proofs.lemmas.Str.{encodes-chars, byte_from_char, char_from_byte, length-encode}
 use Rattle.std.proofs.Math.Utf8.{encode, encodes}
@@ -10,7 +10,6 @@ use Rattle.std.specs.Str.{byte, chars, IsUtf8}
 use Rattle.fst_lexer.specs.declared.pieces.Placed.{Placed}
 use Rattle.fst_lexer.specs.Places.{place_all}
 use Rattle.fst_lexer.specs.Tokens.{byte_count, letters, value_from}
-use Rattle.fst_lexer.proofs.ClassLaws.{both, is_not}
 
 pub place_all-append : (at : ℕ) (xs ys : List ℕ) → place_all at (xs ++ ys) ≡ place_all at xs ++ place_all (at + length (encodes xs)) ys
 place_all-append at [] ys = ap (λ n. place_all n ys) (omega arith)
@@ -50,9 +49,9 @@ fails_at test (c ∷ cs) = not (test c)
 pub prefix_is : (test : ℕ → Bool) (at to : ℕ) (cs ds : List ℕ) → list_all test cs ≡ true → fails_at test ds ≡ true →
     prefix_len (λ (p : Placed). test p.ch) (place_all at cs ++ place_all to ds) ≡ length cs
 prefix_is test at to [] [] all end = refl
-prefix_is test at to [] (d ∷ ds) all end = rw (is_not (test d) end) refl
+prefix_is test at to [] (d ∷ ds) all end = rw (not-true (test d) end) refl
 prefix_is test at to (c ∷ cs) ds all end =
-    let h = both (test c) (list_all test cs) all in
+    let h = and_parts (test c) (list_all test cs) all in
     rw h.0 (omega (arith, prefix_is test (at + len_utf8 c) to cs ds h.1 end))
 
 -- the first character of a text is its first byte, or both are beyond ASCII

@@ -5,10 +5,13 @@ pub mod NumberLaws
 pub mod StepLaws
 pub mod PlaceLaws
 pub mod OneLaws
+pub mod FewLaws
 pub mod SpanLaws
+pub mod FirstLaws
 pub mod ByteLaws
 pub mod WordLaws
 pub mod KindLaws
 pub mod LineLaws
 pub mod SpellingLaws
 pub mod TokenLaws
+pub mod Laws

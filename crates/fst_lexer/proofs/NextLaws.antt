@@ -1,5 +1,5 @@
 -- The piece that is read is the longest one.
-use Rattle.std.proofs.Common.{◌≡◌, ℕ, ◌+◌, ◌≤◌, ◌⊎◌, inl, inr, Bool, true, false, not, ◌&&◌, List, [], ◌∷◌, ◌++◌, length, take, drop, Some, None, refl, sym, ap, subst, ◌∙◌, arith}
+use Rattle.std.proofs.Common.{◌≡◌, ℕ, ◌+◌, ◌≤◌, inl, inr, Bool, true, false, not, ◌&&◌, List, [], ◌∷◌, ◌++◌, length, take, drop, Some, None, refl, sym, ap, subst, ◌∙◌, arith}
 use Rattle.std.proofs.Math.Numerals.{one-add}
 use Rattle.std.proofs.lemmas.List.{take-append-drop, length-take}
 use Rattle.std.specs.List.{prefix_len, list_all}
@@ -9,21 +9,18 @@ use Rattle.fst_lexer.specs.declared.pieces.Piece.{Piece}
 use Rattle.fst_lexer.specs.declared.pieces.Piece.TheVariants.{Blank, Comment, Name, Digits, Quoted, Sign}
 use Rattle.fst_lexer.specs.Classes.{is_dash, is_feed, is_quote, is_backslash, is_digit, is_plain, is_escape, is_short, is_long, starts_name, continues_name}
 use Rattle.fst_lexer.specs.Piece.{is_piece}
-use Rattle.fst_lexer.specs.Choice.{choose}
+use Rattle.fst_base.specs.Choice.{choose}
 use Rattle.fst_lexer.specs.Reading.{sign_at, escaped_at, quoted_at, begins_comment, piece_at}
 use Rattle.fst_lexer.specs.Next.{IsNext, NoPiece}
-use Rattle.fst_lexer.proofs.ClassLaws.{both, Class, name_class, digit_class, quote_class, short_class, long_class, dash_short, dash_goes_on, backslash_not_plain}
-
-pub chosen : {A : Type 0} (b : Bool) (x y z : A) → choose b x y ≡ z → ((b ≡ true) × (x ≡ z)) ⊎ ((b ≡ false) × (y ≡ z))
-unfolding choose
-chosen true x y z e = inl (refl, e)
-chosen false x y z e = inr (refl, e)
+use Rattle.fst_lexer.proofs.ClassLaws.{Class, name_class, digit_class, quote_class, short_class, long_class, dash_short, dash_goes_on, backslash_not_plain}
+use Rattle.std.proofs.lemmas.Bool.{and_parts}
+use Rattle.fst_base.proofs.Choices.{chosen}
 
 module _ (p : Placed → Bool) where
   prefix_long : (v r : List Placed) → list_all p v ≡ true → length v ≤ prefix_len p (v ++ r)
   prefix_long [] r e = omega arith
   prefix_long (c ∷ cs) r e =
-      let h = both (p c) (list_all p cs) e in
+      let h = and_parts (p c) (list_all p cs) e in
       rw h.0 (omega (arith, prefix_long cs r h.1))
 
   prefix_all : (xs : List Placed) → list_all p (take (prefix_len p xs) xs) ≡ true
@@ -57,16 +54,16 @@ reads : (q : Piece) (v r : List Placed) → is_piece q v ≡ true → Reads (v +
 unfolding piece_at choose
 reads Blank (c ∷ []) r e = record { piece = Blank; size = 1; is = rw e refl; long = omega arith }
 reads Name (c ∷ cs) r e =
-    let h = both (starts_name c.ch) (list_all (λ p. continues_name p.ch) cs) e in
+    let h = and_parts (starts_name c.ch) (list_all (λ p. continues_name p.ch) cs) e in
     let k = name_class c.ch h.0 in
     record { piece = Name; size = 1 + prefix_len (λ p. continues_name p.ch) (cs ++ r); is = rw (k.blank, h.0) refl; long = omega (arith, prefix_long (λ p. continues_name p.ch) cs r h.1) }
 reads Digits (c ∷ cs) r e =
-    let h = both (is_digit c.ch) (list_all (λ p. is_digit p.ch) cs) e in
+    let h = and_parts (is_digit c.ch) (list_all (λ p. is_digit p.ch) cs) e in
     let k = digit_class c.ch h.0 in
     record { piece = Digits; size = 1 + prefix_len (λ p. is_digit p.ch) (cs ++ r); is = rw (k.blank, k.name, h.0) refl; long = omega (arith, prefix_long (λ p. is_digit p.ch) cs r h.1) }
 reads Comment (a ∷ b ∷ body) r e =
-    let h = both (is_dash a.ch && is_dash b.ch) (list_all (λ p. not (is_feed p.ch)) body) e in
-    let d = both (is_dash a.ch) (is_dash b.ch) h.0 in
+    let h = and_parts (is_dash a.ch && is_dash b.ch) (list_all (λ p. not (is_feed p.ch)) body) e in
+    let d = and_parts (is_dash a.ch) (is_dash b.ch) h.0 in
     let k = short_class a.ch (dash_short a.ch d.0) in
     record {
       piece = Comment;
@@ -75,13 +72,13 @@ reads Comment (a ∷ b ∷ body) r e =
       long = rw (dash_goes_on b.ch d.1) (omega (arith, prefix_long (λ p. not (is_feed p.ch)) body r h.1));
     }
 reads Quoted (a ∷ c ∷ b ∷ []) r e =
-    let h = both (is_quote a.ch) (is_plain c.ch && is_quote b.ch) e in
+    let h = and_parts (is_quote a.ch) (is_plain c.ch && is_quote b.ch) e in
     let k = quote_class a.ch h.0 in
     record { piece = Quoted; size = 3; is = rw (k.blank, k.name, k.digit, h.0, h.1) refl; long = omega arith }
 reads Quoted (a ∷ c ∷ x ∷ b ∷ []) r e =
-    let h = both (is_quote a.ch) (is_backslash c.ch && (is_escape x.ch && is_quote b.ch)) e in
+    let h = and_parts (is_quote a.ch) (is_backslash c.ch && (is_escape x.ch && is_quote b.ch)) e in
     let k = quote_class a.ch h.0 in
-    let m = both (is_backslash c.ch) (is_escape x.ch && is_quote b.ch) h.1 in
+    let m = and_parts (is_backslash c.ch) (is_escape x.ch && is_quote b.ch) h.1 in
     record { piece = Quoted; size = 4; is = rw (k.blank, k.name, k.digit, h.0, backslash_not_plain c.ch m.0, h.1) refl; long = omega arith }
 reads Sign (a ∷ []) r e = single_reads a r e
 reads Sign (a ∷ b ∷ []) r e =
@@ -145,7 +142,7 @@ module _ (a : Placed) (quote : is_quote a.ch ≡ true) where
 comment_fits : (c : Placed) (cs : List Placed) → begins_comment (c ∷ cs) ≡ true → Fits (c ∷ cs) Comment (1 + prefix_len (λ p. not (is_feed p.ch)) cs)
 comment_fits c [] e = absurd (cc e)
 comment_fits c (d ∷ cs) e =
-    let h = both (is_dash c.ch) (is_dash d.ch) e in
+    let h = and_parts (is_dash c.ch) (is_dash d.ch) e in
     let size : prefix_len (λ p. not (is_feed p.ch)) (d ∷ cs) ≡ 1 + prefix_len (λ p. not (is_feed p.ch)) cs = rw (dash_goes_on d.ch h.1) refl in
     record {
       is = rw (size, one-add, one-add) (rw e (prefix_all (λ p. not (is_feed p.ch)) cs));

@@ -4,9 +4,9 @@ use Rattle.std.proofs.lemmas.List.{nil_from_length}
 use Rattle.std.proofs.lemmas.Bool.Decides.{nat_tests}
 use Rattle.std.specs.Prelude.{nat_le}
 use Rattle.std.specs.Str.{byte}
-use Rattle.fst_lexer.specs.Limits.{greatest_number}
+use Rattle.fst_base.specs.Limits.{greatest_number}
 use Rattle.fst_lexer.specs.declared.pieces.Placed.{Placed}
-use Rattle.fst_lexer.specs.Choice.{choose}
+use Rattle.fst_base.specs.Choice.{choose}
 use Rattle.fst_lexer.specs.Tokens.{value_from, number_of}
 
 value_grows : (n : ℕ) (cs : List Placed) → n ≤ value_from n cs

@@ -11,13 +11,14 @@ use Rattle.fst_lexer.specs.declared.token.LexFault.{LexFault}
 use Rattle.fst_lexer.specs.declared.token.LexFault.TheVariants as fault
 use Rattle.fst_lexer.specs.Classes.{is_blank, is_dash, is_quote, is_digit, starts_name}
 use Rattle.fst_lexer.specs.Piece.{is_piece}
-use Rattle.fst_lexer.specs.Choice.{choose}
+use Rattle.fst_base.specs.Choice.{choose}
 use Rattle.fst_lexer.specs.Reading.{begins_comment}
 use Rattle.fst_lexer.specs.Next.{IsNext}
 use Rattle.fst_lexer.specs.Places.{place_all}
-use Rattle.fst_lexer.specs.Tokens.{Lexed, start, piece, token_of, list_of, ends_line, IsFaultAt, AreTokens, finish}
+use Rattle.fst_lexer.specs.Tokens.{LexesTo, start, piece, token_of, list_of, ends_line, IsFaultAt, FaultBehind, AreTokens, finish}
 use Rattle.fst_lexer.specs.Lexes.{Lexes, Refuses, OneLexing}
-use Rattle.fst_lexer.proofs.ClassLaws.{both, name_class, digit_class, quote_class, short_class, long_class, dash_short}
+use Rattle.fst_lexer.proofs.ClassLaws.{name_class, digit_class, quote_class, short_class, long_class, dash_short}
+use Rattle.std.proofs.lemmas.Bool.{and_parts}
 
 -- the kind of a piece, by how it begins
 abbrev kind_of : List Placed → Piece
@@ -30,20 +31,20 @@ kind_is : (p : Piece) (w : List Placed) → is_piece p w ≡ true → kind_of w 
 unfolding choose
 kind_is Blank (c ∷ []) e = rw e refl
 kind_is Name (c ∷ cs) e =
-    let k = name_class c.ch (both (starts_name c.ch) _ e).0 in
+    let k = name_class c.ch (and_parts (starts_name c.ch) _ e).0 in
     rw (k.blank, k.name) refl
 kind_is Digits (c ∷ cs) e =
-    let k = digit_class c.ch (both (is_digit c.ch) _ e).0 in
+    let k = digit_class c.ch (and_parts (is_digit c.ch) _ e).0 in
     rw (k.blank, k.name, k.digit) refl
 kind_is Quoted (a ∷ c ∷ b ∷ []) e =
-    let k = quote_class a.ch (both (is_quote a.ch) _ e).0 in
+    let k = quote_class a.ch (and_parts (is_quote a.ch) _ e).0 in
     rw (k.blank, k.name, k.digit, k.quote) refl
 kind_is Quoted (a ∷ c ∷ x ∷ b ∷ []) e =
-    let k = quote_class a.ch (both (is_quote a.ch) _ e).0 in
+    let k = quote_class a.ch (and_parts (is_quote a.ch) _ e).0 in
     rw (k.blank, k.name, k.digit, k.quote) refl
 kind_is Comment (a ∷ b ∷ body) e =
-    let h = both (is_dash a.ch && is_dash b.ch) _ e in
-    let k = short_class a.ch (dash_short a.ch (both (is_dash a.ch) (is_dash b.ch) h.0).0) in
+    let h = and_parts (is_dash a.ch && is_dash b.ch) _ e in
+    let k = short_class a.ch (dash_short a.ch (and_parts (is_dash a.ch) (is_dash b.ch) h.0).0) in
     rw (k.blank, k.name, k.digit, k.quote, h.0) refl
 kind_is Sign (a ∷ []) e =
     let k = short_class a.ch e in
@@ -102,7 +103,7 @@ one_more f t _ g u (stop _ _) p w r o n e = step f t (list_of o) [] (ends_line w
 one_more f t ts g u (step _ _ _ us _ _ q v s x n e more is) p w r o m k =
     step f t (ts ++ list_of o) (us ++ list_of o) (ends_line w) r q v s x n e (one_more (ends_line v) s us g u more p w r o m k) (rw is (append_assoc (list_of x) us (list_of o)))
 
-onward : (text : List Placed) (ts : List Token) (f : Bool) (here : List Placed) → Lexed text ts f here → Onward true text ts f here
+onward : (text : List Placed) (ts : List Token) (f : Bool) (here : List Placed) → LexesTo text ts f here → Onward true text ts f here
 onward text _ _ _ start = stop true text
 onward text us last rest (piece ts _ first _ here w _ p o before n e is ends) =
     subst (λ (x : List Token). Onward true text x last rest) (sym is)
@@ -145,47 +146,49 @@ end_stuck : (f : Bool) → IsStuck f []
 end_stuck f p w r o n e = nothing_next p w r n
 
 fault_stuck : (f : Bool) (u : List Placed) (e : LexFault) → IsFaultAt u f e → IsStuck f u
-fault_stuck f u e (inl a) p w r o n k = a.1 p w r n.parts n.is
+fault_stuck f u e (inl a) p w r o n k = a.none p w r n.parts n.is
 fault_stuck f u e (inr a) p w r o n k =
-    let same = same_token u a.0 p a.1 w a.2 r f a.3 n in
-    let here : token_of a.0 a.1 f ≡ Err e = a.4 in
+    let same = same_token u a.piece p a.word w a.rest r f a.next n in
+    let here : token_of a.piece a.word f ≡ Err e = a.bad in
     cc
 
 -- one place has one fault
 same_fault : (f : Bool) (u : List Placed) (e d : LexFault) → IsFaultAt u f e → IsFaultAt u f d → e ≡ d
-same_fault f u e d (inl a) (inl b) = a.2 ∙ sym b.2
-same_fault f u e d (inl a) (inr b) = let n = b.3 in absurd (a.1 b.0 b.1 b.2 n.parts n.is)
-same_fault f u e d (inr a) (inl b) = let n = a.3 in absurd (b.1 a.0 a.1 a.2 n.parts n.is)
-same_fault f u e d (inr a) (inr b) = err_is e d (sym a.4 ∙ (same_token u a.0 b.0 a.1 b.1 a.2 b.2 f a.3 b.3 ∙ b.4))
-
--- a text with this fault
-abbrev Faulty : List Placed → LexFault → Type 0
-Faulty text e = (ts : List Token) × (first : Bool) × (here : List Placed) × Lexed text ts first here × IsFaultAt here first e
+same_fault f u e d (inl a) (inl b) = a.is ∙ sym b.is
+same_fault f u e d (inl a) (inr b) = absurd (a.none b.piece b.word b.rest b.next.parts b.next.is)
+same_fault f u e d (inr a) (inl b) = absurd (b.none a.piece a.word a.rest a.next.parts a.next.is)
+same_fault f u e d (inr a) (inr b) = err_is e d (sym a.bad ∙ (same_token u a.piece b.piece a.word b.word a.rest b.rest f a.next b.next ∙ b.bad))
 
 -- a text has one list of tokens
 one_list : (text : List Placed) (end : ℕ) (tokens others : List Token) → AreTokens text end tokens → AreTokens text end others → tokens ≡ others
 one_list text end tokens others a b =
-    let one = one_reading true text a.0 b.0 a.1 b.1 [] [] (onward text a.0 a.1 [] a.2) (onward text b.0 b.1 [] b.2) (end_stuck a.1) (end_stuck b.1) in
-    a.3 ∙ (ap (λ (y : List Token × Bool). y.0 ++ finish end y.1 ∷ []) (pair one.tokens one.first) ∙ sym b.3)
+    let one = one_reading true text a.before b.before a.first b.first [] [] (onward text a.before a.first [] a.lexed) (onward text b.before b.first [] b.lexed)
+    (end_stuck a.first) (end_stuck b.first) in
+    a.whole ∙ (ap (λ (y : List Token × Bool). y.0 ++ finish end y.1 ∷ []) (pair one.tokens one.first) ∙ sym b.whole)
 
 -- a text with tokens has no fault
-no_fault : (text : List Placed) (end : ℕ) (tokens : List Token) (e : LexFault) → AreTokens text end tokens → Faulty text e → ⊥
+no_fault : (text : List Placed) (end : ℕ) (tokens : List Token) (e : LexFault) → AreTokens text end tokens → FaultBehind text e → ⊥
 no_fault text end tokens e a b =
-    let one = one_reading true text a.0 b.0 a.1 b.1 [] b.2 (onward text a.0 a.1 [] a.2) (onward text b.0 b.1 b.2 b.3) (end_stuck a.1) (fault_stuck b.1 b.2 e b.4) in
-    elim b.4 [ inl x ↦ omega (arith, ap length one.rest) | inr x ↦ nothing_next x.0 x.1 x.2 (subst (λ (y : List Placed). IsNext y x.0 x.1 x.2) (sym one.rest) x.3) ]
+    let one = one_reading true text a.before b.before a.first b.first [] b.here (onward text a.before a.first [] a.lexed) (onward text b.before b.first b.here b.lexed)
+    (end_stuck a.first) (fault_stuck b.first b.here e b.fault) in
+    elim b.fault [
+      | inl x ↦ omega (arith, x.some, ap length one.rest)
+      | inr x ↦ nothing_next x.piece x.word x.rest (subst (λ (y : List Placed). IsNext y x.piece x.word x.rest) (sym one.rest) x.next)
+    ]
 
 -- a text has one fault
-one_fault : (text : List Placed) (e f : LexFault) → Faulty text e → Faulty text f → e ≡ f
+one_fault : (text : List Placed) (e f : LexFault) → FaultBehind text e → FaultBehind text f → e ≡ f
 one_fault text e f a b =
-    let one = one_reading true text a.0 b.0 a.1 b.1 a.2 b.2 (onward text a.0 a.1 a.2 a.3) (onward text b.0 b.1 b.2 b.3) (fault_stuck a.1 a.2 e a.4) (fault_stuck b.1 b.2 f b.4) in
-    same_fault b.1 b.2 e f (subst (λ (y : Bool × List Placed). IsFaultAt y.1 y.0 e) (pair one.first one.rest) a.4) b.4
+    let one = one_reading true text a.before b.before a.first b.first a.here b.here (onward text a.before a.first a.here a.lexed) (onward text b.before b.first b.here b.lexed)
+    (fault_stuck a.first a.here e a.fault) (fault_stuck b.first b.here f b.fault) in
+    same_fault b.first b.here e f (subst (λ (y : Bool × List Placed). IsFaultAt y.1 y.0 e) (pair one.first one.rest) a.fault) b.fault
 
 -- bytes that are no text from here on, and why
 abbrev IsNoText : List ℕ → LexFault → Type 0
 IsNoText bytes e = (at : ℕ) × (e ≡ fault.NotUtf8 at) × ¬ (IsUtf8 bytes) × IsValidUpTo bytes at
 
 -- what a fault other than Memory says of the bytes
-told : (bytes : List ℕ) (e : LexFault) → e ≢ fault.Memory → Refuses bytes e → IsNoText bytes e ⊎ (IsUtf8 bytes × Faulty (place_all 0 (chars bytes)) e)
+told : (bytes : List ℕ) (e : LexFault) → e ≢ fault.Memory → Refuses bytes e → IsNoText bytes e ⊎ (IsUtf8 bytes × FaultBehind (place_all 0 (chars bytes)) e)
 told bytes (fault.NotUtf8 at) ne r = inl (at, refl, r.0, r.1)
 told bytes (fault.BadChar at) ne r = inr r
 told bytes (fault.WideNumber at) ne r = inr r
@@ -199,7 +202,7 @@ only_memory bytes tokens (fault.WideNumber at) l r = absurd (no_fault _ _ tokens
 only_memory bytes tokens (fault.LongName at) l r = absurd (no_fault _ _ tokens (fault.LongName at) l.tokens_are r.1)
 only_memory bytes tokens fault.Memory l r = refl
 
-one_refusal : (bytes : List ℕ) (e f : LexFault) → IsNoText bytes e ⊎ (IsUtf8 bytes × Faulty (place_all 0 (chars bytes)) e) → IsNoText bytes f ⊎ (IsUtf8 bytes × Faulty (place_all 0 (chars bytes)) f) → e ≡ f
+one_refusal : (bytes : List ℕ) (e f : LexFault) → IsNoText bytes e ⊎ (IsUtf8 bytes × FaultBehind (place_all 0 (chars bytes)) e) → IsNoText bytes f ⊎ (IsUtf8 bytes × FaultBehind (place_all 0 (chars bytes)) f) → e ≡ f
 one_refusal bytes e f (inl a) (inl b) = a.1 ∙ (ap (λ n. fault.NotUtf8 n) (sym (utf8_valid_len-IsValidUpTo bytes a.0 a.3) ∙ utf8_valid_len-IsValidUpTo bytes b.0 b.3) ∙ sym b.1)
 one_refusal bytes e f (inl a) (inr b) = absurd (a.2 b.0)
 one_refusal bytes e f (inr a) (inl b) = absurd (b.2 a.0)

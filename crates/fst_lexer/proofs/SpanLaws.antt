@@ -20,13 +20,14 @@ use Rattle.fst_lexer.specs.declared.token.LexFault.{LexFault}
 use Rattle.fst_lexer.specs.Piece.{is_piece}
 use Rattle.fst_lexer.specs.Places.{place_all}
 use Rattle.fst_lexer.specs.declared.token.LexFault.TheVariants as fault
-use Rattle.fst_lexer.specs.Limits.{longest_name}
-use Rattle.fst_lexer.specs.Choice.{choose}
-use Rattle.fst_lexer.specs.Tokens.{Lexed, start, piece, token_of, number_of, number_token, token_with, name_kind, list_of, place, byte_count, finish}
+use Rattle.fst_base.specs.Limits.{longest_name}
+use Rattle.fst_base.specs.Choice.{choose}
+use Rattle.fst_lexer.specs.Tokens.{LexesTo, start, piece, token_of, number_of, number_token, token_with, name_kind, list_of, place, byte_count, finish}
 use Rattle.fst_lexer.specs.Lexes.{Lexes}
 use Rattle.fst_lexer.specs.Spans.{HaveSpans}
-use Rattle.fst_lexer.proofs.ClassLaws.{both}
 use Rattle.fst_lexer.proofs.OneLaws.{no_piece}
+use Rattle.fst_lexer.proofs.FewLaws.{few_tokens}
+use Rattle.std.proofs.lemmas.Bool.{and_parts}
 
 -- the characters end with these, which begin at this byte
 pub record EndsWith (cs ds : List ℕ) (at : ℕ) : Type 0 where
@@ -47,7 +48,7 @@ one_on cs ds c at e =
 
 pub scalars-behind : (xs ys : List ℕ) → scalars (xs ++ ys) ≡ true → scalars ys ≡ true
 scalars-behind [] ys h = h
-scalars-behind (x ∷ xs) ys h = scalars-behind xs ys (both (scalar x) (scalars (xs ++ ys)) h).1
+scalars-behind (x ∷ xs) ys h = scalars-behind xs ys (and_parts (scalar x) (scalars (xs ++ ys)) h).1
 
 boundary : (bytes ds : List ℕ) (at : ℕ) → IsUtf8 bytes → EndsWith (chars bytes) ds at → IsCharBoundary bytes at
 boundary bytes ds at text e =
@@ -91,34 +92,39 @@ stands_at cs (q ∷ word) rest p at is s = by_characters s.characters s.placed
         let first : q ≡ record { at = at; ch = d } = cc in
         ap (λ (r : Placed). r.at) first
 
--- a token has the span of its word
-abbrev pub Spans : Option Token → List Placed → Type 0
-Spans None word = Unit {0}
-Spans (Some t) word = (t.at ≡ place word) × (t.len ≡ byte_count word)
+-- a token stands where its word does, and begins a line as the word does
+pub record IsSpan (t : Token) (word : List Placed) (first : Bool) : Type 0 where
+  pub at : t.at ≡ place word
+  pub len : t.len ≡ byte_count word
+  pub column : t.first_column ≡ first
 
-abbrev SpansOk : Result (Option Token) LexFault → List Placed → Type 0
-SpansOk (Ok o) word = Spans o word
-SpansOk (Err e) word = Unit {0}
+abbrev pub Spans : Option Token → List Placed → Bool → Type 0
+Spans None word first = Unit {0}
+Spans (Some t) word first = IsSpan t word first
 
-pub token_spans : (p : Piece) (word : List Placed) (first : Bool) (o : Option Token) → token_of p word first ≡ Ok o → Spans o word
+abbrev SpansOk : Result (Option Token) LexFault → List Placed → Bool → Type 0
+SpansOk (Ok o) word first = Spans o word first
+SpansOk (Err e) word first = Unit {0}
+
+pub token_spans : (p : Piece) (word : List Placed) (first : Bool) (o : Option Token) → token_of p word first ≡ Ok o → Spans o word first
 unfolding token_of choose
-token_spans p word first o e = subst (λ r. SpansOk r word) e (by_piece p)
+token_spans p word first o e = subst (λ r. SpansOk r word first) e (by_piece p)
   where
-    by_number : (n : Option ℕ) → SpansOk (number_token n word first) word
-    by_number (Some n) = (refl, refl)
+    by_number : (n : Option ℕ) → SpansOk (number_token n word first) word first
+    by_number (Some n) = record { at = refl; len = refl; column = refl }
     by_number None = tt
 
-    by_length : (b : Bool) → SpansOk (choose b (Ok (token_with (name_kind word) word first)) (Err (fault.LongName (place word)))) word
-    by_length true = (refl, refl)
+    by_length : (b : Bool) → SpansOk (choose b (Ok (token_with (name_kind word) word first)) (Err (fault.LongName (place word)))) word first
+    by_length true = record { at = refl; len = refl; column = refl }
     by_length false = tt
 
-    by_piece : (q : Piece) → SpansOk (token_of q word first) word
+    by_piece : (q : Piece) → SpansOk (token_of q word first) word first
     by_piece Blank = tt
     by_piece Comment = tt
     by_piece Name = by_length (nat_le (byte_count word) longest_name)
     by_piece Digits = by_number (number_of word)
-    by_piece Quoted = (refl, refl)
-    by_piece Sign = (refl, refl)
+    by_piece Quoted = record { at = refl; len = refl; column = refl }
+    by_piece Sign = record { at = refl; len = refl; column = refl }
 
 -- what is known of the tokens so far where this rest is left
 record Reached (bytes : List ℕ) (ts : List Token) (here : List Placed) : Type 0 where
@@ -133,9 +139,9 @@ record Reached (bytes : List ℕ) (ts : List Token) (here : List Placed) : Type 
 pub with_one : (P : Token → Type 0) (ts : List Token) (t : Token) → All P ts → P t → All P (ts ++ t ∷ [])
 with_one P ts t all one = All-append P ts (t ∷ []) all (All-cons P t [] one (All-nil P))
 
-one_token : (bytes : List ℕ) (ts : List Token) (here rest word : List Placed) (o : Option Token) → IsUtf8 bytes → (r : Reached bytes ts here) → Stands (chars bytes) rest (r.at + byte_count word) →
-    place word ≡ r.at → Spans o word → Reached bytes (ts ++ list_of o) rest
-one_token bytes ts here rest word None text r s p spans = record {
+one_token : (bytes : List ℕ) (ts : List Token) (here rest word : List Placed) (first : Bool) (o : Option Token) → IsUtf8 bytes → (r : Reached bytes ts here) →
+    Stands (chars bytes) rest (r.at + byte_count word) → place word ≡ r.at → Spans o word first → Reached bytes (ts ++ list_of o) rest
+one_token bytes ts here rest word first None text r s p spans = record {
   at = r.at + byte_count word;
   stands = s;
   start = rw (append-nil ts) r.start;
@@ -143,9 +149,9 @@ one_token bytes ts here rest word None text r s p spans = record {
   within = rw (append-nil ts) (λ k d lt. omega (arith, r.within k d lt));
   in_order = rw (append-nil ts) r.in_order;
 }
-one_token bytes ts here rest word (Some t) text r s p spans =
-    let begin : t.at ≡ r.at = spans.0 ∙ p in
-    let end : t.at + t.len ≡ r.at + byte_count word = omega (arith, spans.1) in
+one_token bytes ts here rest word first (Some t) text r s p spans =
+    let begin : t.at ≡ r.at = spans.at ∙ p in
+    let end : t.at + t.len ≡ r.at + byte_count word = omega (arith, spans.len) in
     record {
       at = r.at + byte_count word;
       stands = s;
@@ -155,7 +161,7 @@ one_token bytes ts here rest word (Some t) text r s p spans =
       in_order = all_pairs_push (λ u v. u.at + u.len ≤ v.at) ts t r.in_order (λ k d lt. omega (arith, r.within k d lt));
     }
 
-reached : (bytes : List ℕ) → IsUtf8 bytes → (ts : List Token) (first : Bool) (here : List Placed) → Lexed (place_all 0 (chars bytes)) ts first here → Reached bytes ts here
+reached : (bytes : List ℕ) → IsUtf8 bytes → (ts : List Token) (first : Bool) (here : List Placed) → LexesTo (place_all 0 (chars bytes)) ts first here → Reached bytes ts here
 reached bytes text _ _ _ start = record {
   at = 0;
   stands = record { characters = chars bytes; placed = refl; ends = record { before = []; parts = refl; size = refl } };
@@ -168,20 +174,21 @@ reached bytes text us last rest (piece ts _ first _ here word _ p o so_far next 
     let r = reached bytes text ts first here so_far in
     let stands : Stands (chars bytes) (word ++ rest) r.at = subst (λ x. Stands (chars bytes) x r.at) next.parts r.stands in
     subst (λ x. Reached bytes x rest) (sym more)
-    (one_token bytes ts here rest word o text r (behind (chars bytes) word rest r.at stands) (stands_at (chars bytes) word rest p r.at next.is stands) (token_spans p word first o token))
+    (one_token bytes ts here rest word first o text r (behind (chars bytes) word rest r.at stands) (stands_at (chars bytes) word rest p r.at next.is stands) (token_spans p word first o token))
 
 -- the tokens of bytes stand in order in them
 pub have_spans : (bytes : List ℕ) (tokens : List Token) → Lexes bytes tokens → HaveSpans bytes tokens
 have_spans bytes tokens l =
     let a = l.tokens_are in
-    let r = reached bytes l.text a.0 a.1 [] a.2 in
-    let last = finish (length bytes) a.1 in
-    let whole : tokens ≡ a.0 ++ last ∷ [] = a.3 in
+    let r = reached bytes l.text a.before a.first [] a.lexed in
+    let last = finish (length bytes) a.first in
+    let whole : tokens ≡ a.before ++ last ∷ [] = a.whole in
     let low : r.at ≤ length bytes = (boundary bytes r.stands.characters r.at l.text r.stands.ends).0 in
     subst (λ x. HaveSpans bytes x) (sym whole) (record {
-      start = with_one (λ u. IsCharBoundary bytes u.at) a.0 last r.start (IsCharBoundary-end bytes);
-      stop = with_one (λ u. IsCharBoundary bytes (u.at + u.len)) a.0 last r.stop (subst (λ n. IsCharBoundary bytes n) (omega arith) (IsCharBoundary-end bytes));
-      in_order = all_pairs_push (λ u v. u.at + u.len ≤ v.at) a.0 last r.in_order (λ k d lt. omega (arith, r.within k d lt));
+      start = with_one (λ u. IsCharBoundary bytes u.at) a.before last r.start (IsCharBoundary-end bytes);
+      stop = with_one (λ u. IsCharBoundary bytes (u.at + u.len)) a.before last r.stop (subst (λ n. IsCharBoundary bytes n) (omega arith) (IsCharBoundary-end bytes));
+      in_order = all_pairs_push (λ u v. u.at + u.len ≤ v.at) a.before last r.in_order (λ k d lt. omega (arith, r.within k d lt));
+      few = subst (λ x. length x ≤ length bytes + 1) whole (few_tokens bytes tokens l);
     })
 
 pub ok_spans : (bytes : List ℕ) (result : Result (Vec Token Global) LexFault) → IfOk result (λ v. Lexes bytes v.items) → IfOk result (λ v. HaveSpans bytes v.items)

@@ -16,19 +16,21 @@ use Rattle.fst_lexer.specs.declared.pieces.Piece.{Piece}
 use Rattle.fst_lexer.specs.declared.pieces.Piece.TheVariants.{Blank, Comment, Name, Digits, Quoted, Sign}
 use Rattle.fst_lexer.specs.declared.token.Token.{Token}
 use Rattle.fst_lexer.specs.declared.token.TokenKind.TheVariants as kind
-use Rattle.fst_lexer.specs.Limits.{longest_name, greatest_number}
-use Rattle.fst_lexer.specs.Choice.{choose}
+use Rattle.fst_base.specs.Limits.{longest_name, greatest_number}
+use Rattle.fst_base.specs.Choice.{choose}
 use Rattle.fst_lexer.specs.Classes.{is_quote, is_backslash, is_plain, is_escape, is_reserved, starts_name, continues_name}
 use Rattle.fst_lexer.specs.Piece.{is_piece}
 use Rattle.fst_lexer.specs.Places.{place_all}
-use Rattle.fst_lexer.specs.Tokens.{Lexed, start, piece, token_of, number_token, number_of, value_from, character_of, begins_upper, name_kind, list_of, letters, place, byte_count, finish}
-use Rattle.fst_lexer.specs.Spelling.{IsTokenOf, IsTokenWord, IsFreeName, is_name, is_capital, is_sign, quoted, word_at, TokenWords}
-use Rattle.fst_lexer.proofs.ClassLaws.{both, other, backslash_not_plain}
-use Rattle.fst_lexer.proofs.NextLaws.{chosen}
+use Rattle.fst_lexer.specs.Tokens.{LexesTo, start, piece, token_of, number_token, number_of, value_from, character_of, begins_upper, name_kind, list_of, letters, place, byte_count, finish}
+use Rattle.fst_lexer.specs.Spelling.{IsTokenOf, IsTokenWord, IsFreeName, is_name, is_capital, is_sign, quoted_character, word_at, TokenWords}
+use Rattle.fst_lexer.proofs.ClassLaws.{backslash_not_plain}
+use Rattle.fst_base.proofs.Choices.{chosen}
 use Rattle.fst_lexer.proofs.OneLaws.{ok_is}
 use Rattle.fst_lexer.proofs.ByteLaws.{sign_ascii, reserved_letters}
 use Rattle.fst_lexer.proofs.LetterLaws.{letters-place_all}
 use Rattle.fst_lexer.proofs.SpanLaws.{Stands, Spans, behind, stands_at, token_spans, scalars-behind, with_one}
+use Rattle.fst_base.proofs.Bools.{excluded}
+use Rattle.std.proofs.lemmas.Bool.{and_parts}
 
 -- the token that is made
 made_is : (t u : Token) → ◌≡◌ {A = Option Token} (Some t) (Some u) → t ≡ u
@@ -41,7 +43,7 @@ ascii_bytes cs ascii = ap encodes (sym (chars-IsAscii cs ascii)) ∙ encodes-cha
 name_letters : (word : List Placed) → is_piece Name word ≡ true → is_name (letters word) ≡ true
 name_letters [] e = absurd (cc e)
 name_letters (c ∷ cs) e =
-    let h = both (starts_name c.ch) (list_all (λ p. continues_name p.ch) cs) e in
+    let h = and_parts (starts_name c.ch) (list_all (λ p. continues_name p.ch) cs) e in
     rw h.0 (list_all-map continues_name (λ (p : Placed). p.ch) cs ∙ h.1)
 
 capital_letters : (word : List Placed) → begins_upper word ≡ is_capital (letters word)
@@ -53,15 +55,15 @@ sign_letters (a ∷ []) e = e
 sign_letters (a ∷ b ∷ []) e = e
 sign_letters _ e = absurd (cc e)
 
-quoted_letters : (word : List Placed) → is_piece Quoted word ≡ true → quoted (letters word) ≡ Some (character_of word)
+quoted_letters : (word : List Placed) → is_piece Quoted word ≡ true → quoted_character (letters word) ≡ Some (character_of word)
 unfolding choose
 quoted_letters (a ∷ c ∷ b ∷ []) e =
-    let h = both (is_quote a.ch) (is_plain c.ch && is_quote b.ch) e in
-    let plain = (both (is_plain c.ch) (is_quote b.ch) h.1).0 in
-    rw (e, other (is_backslash c.ch) (is_plain c.ch) (backslash_not_plain c.ch) plain) refl
+    let h = and_parts (is_quote a.ch) (is_plain c.ch && is_quote b.ch) e in
+    let plain = (and_parts (is_plain c.ch) (is_quote b.ch) h.1).0 in
+    rw (e, excluded (is_backslash c.ch) (is_plain c.ch) (backslash_not_plain c.ch) plain) refl
 quoted_letters (a ∷ c ∷ x ∷ b ∷ []) e =
-    let h = both (is_quote a.ch) (is_backslash c.ch && (is_escape x.ch && is_quote b.ch)) e in
-    let slash = (both (is_backslash c.ch) (is_escape x.ch && is_quote b.ch) h.1).0 in
+    let h = and_parts (is_quote a.ch) (is_backslash c.ch && (is_escape x.ch && is_quote b.ch)) e in
+    let slash = (and_parts (is_backslash c.ch) (is_escape x.ch && is_quote b.ch) h.1).0 in
     rw (e, slash) refl
 quoted_letters _ e = absurd (cc e)
 
@@ -130,7 +132,7 @@ made_word Sign word first t is good size e =
 scalars-front : (xs ys : List ℕ) → scalars (xs ++ ys) ≡ true → scalars xs ≡ true
 scalars-front [] ys h = refl
 scalars-front (x ∷ xs) ys h =
-    let k = both (scalar x) (scalars (xs ++ ys)) h in
+    let k = and_parts (scalar x) (scalars (xs ++ ys)) h in
     rw k.0 (scalars-front xs ys k.1)
 
 size_of : (word : List Placed) → length (encodes (letters word)) ≡ byte_count word
@@ -161,13 +163,13 @@ record Reached (bytes : List ℕ) (ts : List Token) (here : List Placed) : Type 
   words : All (λ t. IsTokenWord (word_at bytes t)) ts
 
 one_token : (bytes : List ℕ) (ts : List Token) (p : Piece) (word : List Placed) (first : Bool) (at : ℕ) (o : Option Token) → All (λ t. IsTokenWord (word_at bytes t)) ts → Bytes bytes word at →
-    is_piece p word ≡ true → place word ≡ at → Spans o word → token_of p word first ≡ Ok o → All (λ t. IsTokenWord (word_at bytes t)) (ts ++ list_of o)
+    is_piece p word ≡ true → place word ≡ at → Spans o word first → token_of p word first ≡ Ok o → All (λ t. IsTokenWord (word_at bytes t)) (ts ++ list_of o)
 one_token bytes ts p word first at None all b is begin spans e = rw (append-nil ts) all
 one_token bytes ts p word first at (Some t) all b is begin spans e =
-    let text : take t.len (drop t.at bytes) ≡ encodes (letters word) = rw (spans.0, spans.1, begin) b.are in
+    let text : take t.len (drop t.at bytes) ≡ encodes (letters word) = rw (spans.at, spans.len, begin) b.are in
     with_one (λ u. IsTokenWord (word_at bytes u)) ts t all (rw text (made_word p word first t is b.good (size_of word) e))
 
-reached : (bytes : List ℕ) → IsUtf8 bytes → (ts : List Token) (first : Bool) (here : List Placed) → Lexed (place_all 0 (chars bytes)) ts first here → Reached bytes ts here
+reached : (bytes : List ℕ) → IsUtf8 bytes → (ts : List Token) (first : Bool) (here : List Placed) → LexesTo (place_all 0 (chars bytes)) ts first here → Reached bytes ts here
 reached bytes text _ _ _ start = record {
   at = 0;
   stands = record { characters = chars bytes; placed = refl; ends = record { before = []; parts = refl; size = refl } };
@@ -186,8 +188,8 @@ reached bytes text us last rest (piece ts _ first _ here word _ p o so_far next 
 pub token_words : TokenWords
 token_words text tokens l =
     let a = l.tokens_are in
-    let last = finish (length text) a.1 in
-    let r = reached text l.text a.0 a.1 [] a.2 in
-    let count : length a.0 ≡ length (a.0 ++ last ∷ []) - 1 = omega (arith, length-append a.0 (last ∷ [])) in
-    let whole : tokens ≡ a.0 ++ last ∷ [] = a.3 in
-    subst (λ x. All (λ t. IsTokenWord (word_at text t)) (take (length x - 1) x)) (sym whole) (rw (take_at a.0 (last ∷ []) (length (a.0 ++ last ∷ []) - 1) count) r.words)
+    let last = finish (length text) a.first in
+    let r = reached text l.text a.before a.first [] a.lexed in
+    let count : length a.before ≡ length (a.before ++ last ∷ []) - 1 = omega (arith, length-append a.before (last ∷ [])) in
+    let whole : tokens ≡ a.before ++ last ∷ [] = a.whole in
+    subst (λ x. All (λ t. IsTokenWord (word_at text t)) (take (length x - 1) x)) (sym whole) (rw (take_at a.before (last ∷ []) (length (a.before ++ last ∷ []) - 1) count) r.words)

@@ -1,24 +1,27 @@
 -- What is read where a word stands.
-use Rattle.std.proofs.Common.{◌≡◌, ℕ, ◌+◌, ◌≤◌, Bool, true, false, not, ◌&&◌, List, [], ◌∷◌, ◌++◌, length, Some, None, Ok, refl, arith}
+use Rattle.std.proofs.Common.{◌≡◌, ℕ, ◌+◌, ◌≤◌, Bool, true, not, ◌&&◌, List, [], ◌∷◌, ◌++◌, length, Some, Ok, refl, arith}
 use Rattle.std.proofs.Math.Numerals.{one-add}
 use Rattle.std.proofs.Math.Utf8.{encodes}
 use Rattle.std.proofs.lemmas.Bool.Decides.{nat_tests}
 use Rattle.std.specs.Prelude.{pos, nat_le}
 use Rattle.std.specs.List.{list_all}
 use Rattle.std.specs.Char.{len_utf8}
+use Rattle.std.proofs.lemmas.Bool.{not-true, and_parts}
 use Rattle.fst_lexer.specs.declared.pieces.Piece.{Piece}
 use Rattle.fst_lexer.specs.declared.pieces.Piece.TheVariants.{Blank, Name, Digits, Quoted, Sign}
 use Rattle.fst_lexer.specs.declared.token.TokenKind.{TokenKind}
 use Rattle.fst_lexer.specs.declared.token.TokenKind.TheVariants as kind
-use Rattle.fst_lexer.specs.Limits.{longest_name, greatest_number}
-use Rattle.fst_lexer.specs.Classes.{is_blank, is_dash, is_quote, is_backslash, is_digit, is_plain, is_escape, is_long, is_reserved, escaped, starts_name, continues_name}
-use Rattle.fst_lexer.specs.Choice.{choose}
+use Rattle.fst_base.specs.Limits.{longest_name, greatest_number}
+use Rattle.fst_lexer.specs.Classes.{is_blank, is_dash, is_quote, is_backslash, is_digit, is_plain, is_escape, is_long, is_reserved, escaped_character, starts_name, continues_name}
+use Rattle.fst_base.specs.Choice.{choose}
 use Rattle.fst_lexer.specs.Places.{place_all}
 use Rattle.fst_lexer.specs.Reading.{piece_at}
 use Rattle.fst_lexer.specs.Tokens.{token_of, token_with, number_of, begins_upper}
-use Rattle.fst_lexer.specs.Spelling.{is_name, is_capital, is_sign, quoted, ends_sign}
-use Rattle.fst_lexer.proofs.ClassLaws.{both, other, is_not, name_class, digit_class, quote_class, short_class, long_class, backslash_not_plain}
+use Rattle.fst_lexer.specs.Spelling.{is_name, is_capital, is_sign, quoted_character, ends_sign}
+use Rattle.fst_lexer.proofs.ClassLaws.{name_class, digit_class, quote_class, short_class, long_class, backslash_not_plain}
 use Rattle.fst_lexer.proofs.LetterLaws.{letters-place_all, byte_count-place_all, value_from-place_all, number_from, fails_at, prefix_is}
+use Rattle.fst_base.proofs.Bools.{excluded}
+use Rattle.fst_base.proofs.Choices.{some_chosen}
 
 -- the piece that is read at characters, before others
 abbrev pub Reads : Piece → List ℕ → List ℕ → Type 0
@@ -36,14 +39,14 @@ pub name_reads : (cs ds : List ℕ) → is_name cs ≡ true → fails_at continu
 unfolding piece_at choose
 name_reads [] ds is end at to = absurd (cc is)
 name_reads (c ∷ cs) ds is end at to =
-    let h = both (starts_name c) (list_all continues_name cs) is in
+    let h = and_parts (starts_name c) (list_all continues_name cs) is in
     let k = name_class c h.0 in
     rw (k.blank, h.0, prefix_is continues_name (at + len_utf8 c) to cs ds h.1 end, one-add) refl
 
 pub digits_read : (c : ℕ) (cs ds : List ℕ) → list_all is_digit (c ∷ cs) ≡ true → fails_at is_digit ds ≡ true → Reads Digits (c ∷ cs) ds
 unfolding piece_at choose
 digits_read c cs ds is end at to =
-    let h = both (is_digit c) (list_all is_digit cs) is in
+    let h = and_parts (is_digit c) (list_all is_digit cs) is in
     let k = digit_class c h.0 in
     rw (k.blank, k.name, h.0, prefix_is is_digit (at + len_utf8 c) to cs ds h.1 end, one-add) refl
 
@@ -54,31 +57,25 @@ sign_reads (a ∷ []) [] is end at to =
     rw (k.blank, k.name, k.digit, k.quote, is) refl
 sign_reads (a ∷ []) (d ∷ ds) is end at to =
     let k = short_class a is in
-    let h = both (not (is_long a d)) (not (is_dash a && is_dash d)) end in
-    rw (k.blank, k.name, k.digit, k.quote, is_not (is_dash a && is_dash d) h.1, is_not (is_long a d) h.0, is) refl
+    let h = and_parts (not (is_long a d)) (not (is_dash a && is_dash d)) end in
+    rw (k.blank, k.name, k.digit, k.quote, not-true (is_dash a && is_dash d) h.1, not-true (is_long a d) h.0, is) refl
 sign_reads (a ∷ b ∷ []) ds is end at to =
     let k = long_class a b is in
     rw (k.0.blank, k.0.name, k.0.digit, k.0.quote, k.1, is) refl
 sign_reads _ ds is end at to = absurd (cc is)
 
--- what is chosen where it isn't None
-some_chosen : (b : Bool) (c x : ℕ) → choose b (Some c) None ≡ Some x → (b ≡ true) × (c ≡ x)
-unfolding choose
-some_chosen true c x e = (refl, cc)
-some_chosen false c x e = absurd (cc e)
-
-pub quoted_reads : (cs ds : List ℕ) (c : ℕ) → quoted cs ≡ Some c → Reads Quoted cs ds
+pub quoted_reads : (cs ds : List ℕ) (c : ℕ) → quoted_character cs ≡ Some c → Reads Quoted cs ds
 unfolding piece_at choose
 quoted_reads (a ∷ c ∷ b ∷ []) ds x is at to =
     let test = (some_chosen (is_quote a && (is_plain c && is_quote b)) c x is).0 in
-    let q = both (is_quote a) (is_plain c && is_quote b) test in
+    let q = and_parts (is_quote a) (is_plain c && is_quote b) test in
     let k = quote_class a q.0 in
     rw (k.blank, k.name, k.digit, k.quote, q.1) refl
 quoted_reads (a ∷ c ∷ e ∷ b ∷ []) ds x is at to =
-    let test = (some_chosen (is_quote a && (is_backslash c && (is_escape e && is_quote b))) (escaped e) x is).0 in
-    let q = both (is_quote a) (is_backslash c && (is_escape e && is_quote b)) test in
+    let test = (some_chosen (is_quote a && (is_backslash c && (is_escape e && is_quote b))) (escaped_character e) x is).0 in
+    let q = and_parts (is_quote a) (is_backslash c && (is_escape e && is_quote b)) test in
     let k = quote_class a q.0 in
-    rw (k.blank, k.name, k.digit, k.quote, backslash_not_plain c (both (is_backslash c) (is_escape e && is_quote b) q.1).0, q.1) refl
+    rw (k.blank, k.name, k.digit, k.quote, backslash_not_plain c (and_parts (is_backslash c) (is_escape e && is_quote b) q.1).0, q.1) refl
 quoted_reads _ ds x is at to = absurd (cc is)
 
 capital-place_all : (at : ℕ) (cs : List ℕ) → begins_upper (place_all at cs) ≡ is_capital cs
@@ -102,14 +99,14 @@ pub sign_makes : (cs : List ℕ) → Makes Sign cs kind.Sign
 unfolding token_of
 sign_makes cs at first = refl
 
-pub quoted_makes : (cs : List ℕ) (c : ℕ) → quoted cs ≡ Some c → Makes Quoted cs (kind.Character c)
+pub quoted_makes : (cs : List ℕ) (c : ℕ) → quoted_character cs ≡ Some c → Makes Quoted cs (kind.Character c)
 unfolding token_of choose
 quoted_makes (a ∷ c ∷ b ∷ []) x is at first =
     let h = some_chosen (is_quote a && (is_plain c && is_quote b)) c x is in
-    let plain = (both (is_plain c) (is_quote b) (both (is_quote a) (is_plain c && is_quote b) h.0).1).0 in
-    rw (other (is_backslash c) (is_plain c) (backslash_not_plain c) plain, h.1) refl
+    let plain = (and_parts (is_plain c) (is_quote b) (and_parts (is_quote a) (is_plain c && is_quote b) h.0).1).0 in
+    rw (excluded (is_backslash c) (is_plain c) (backslash_not_plain c) plain, h.1) refl
 quoted_makes (a ∷ c ∷ e ∷ b ∷ []) x is at first =
-    let h = some_chosen (is_quote a && (is_backslash c && (is_escape e && is_quote b))) (escaped e) x is in
-    let slash = (both (is_backslash c) (is_escape e && is_quote b) (both (is_quote a) (is_backslash c && (is_escape e && is_quote b)) h.0).1).0 in
+    let h = some_chosen (is_quote a && (is_backslash c && (is_escape e && is_quote b))) (escaped_character e) x is in
+    let slash = (and_parts (is_backslash c) (is_escape e && is_quote b) (and_parts (is_quote a) (is_backslash c && (is_escape e && is_quote b)) h.0).1).0 in
     rw (slash, h.1) refl
 quoted_makes _ x is at first = absurd (cc is)

@@ -54,8 +54,8 @@ abbrev pub is_escape : ℕ → Bool
 is_escape c = is_among (codes "nt\\'") c
 
 -- what such a character stands for
-abbrev pub escaped : ℕ → ℕ
-escaped c = if c == byte "n" then byte "\n" else (if c == byte "t" then byte "\t" else c)
+abbrev pub escaped_character : ℕ → ℕ
+escaped_character c = if c == byte "n" then byte "\n" else (if c == byte "t" then byte "\t" else c)
 
 -- the signs of one character
 abbrev pub short_signs : List ℕ

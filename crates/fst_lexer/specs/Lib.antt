@@ -1,5 +1,3 @@
-pub mod Limits
-pub mod Choice
 pub mod Classes
 pub mod Piece
 pub mod Next

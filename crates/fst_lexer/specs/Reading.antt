@@ -4,7 +4,7 @@ use Rattle.std.specs.List.{prefix_len}
 use Rattle.fst_lexer.specs.declared.pieces.Placed.{Placed}
 use Rattle.fst_lexer.specs.declared.pieces.Piece.{Piece}
 use Rattle.fst_lexer.specs.declared.pieces.Piece.TheVariants.{Blank, Comment, Name, Digits, Quoted, Sign}
-use Rattle.fst_lexer.specs.Choice.{choose}
+use Rattle.fst_base.specs.Choice.{choose}
 use Rattle.fst_lexer.specs.Classes.{is_blank, is_dash, is_feed, is_quote, is_backslash, is_digit, is_plain, is_escape, is_short, is_long, starts_name, continues_name}
 
 -- the sign at the front of a text, and how many characters it has

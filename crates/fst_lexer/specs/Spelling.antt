@@ -7,9 +7,9 @@ use Rattle.std.specs.Fmt.{decimal}
 use Rattle.fst_lexer.specs.declared.token.Token.{Token}
 use Rattle.fst_lexer.specs.declared.token.TokenKind.{TokenKind}
 use Rattle.fst_lexer.specs.declared.token.TokenKind.TheVariants as kind
-use Rattle.fst_lexer.specs.Limits.{longest_name, greatest_number}
-use Rattle.fst_lexer.specs.Choice.{choose}
-use Rattle.fst_lexer.specs.Classes.{is_blank, is_feed, is_dash, is_quote, is_backslash, is_upper, is_digit, is_plain, is_escape, is_short, is_long, is_reserved, escaped, starts_name, continues_name}
+use Rattle.fst_base.specs.Limits.{longest_name, greatest_number}
+use Rattle.fst_base.specs.Choice.{choose}
+use Rattle.fst_lexer.specs.Classes.{is_blank, is_feed, is_dash, is_quote, is_backslash, is_upper, is_digit, is_plain, is_escape, is_short, is_long, is_reserved, escaped_character, starts_name, continues_name}
 use Rattle.fst_lexer.specs.Lexes.{Lexes}
 
 -- a word: what it is, and its bytes
@@ -34,10 +34,10 @@ is_sign (a ∷ b ∷ []) = is_long a b
 is_sign _ = false
 
 -- what the characters stand for, where they are one in quotes
-abbrev pub quoted : List ℕ → Option ℕ
-quoted (a ∷ c ∷ b ∷ []) = choose (is_quote a && (is_plain c && is_quote b)) (Some c) None
-quoted (a ∷ c ∷ e ∷ b ∷ []) = choose (is_quote a && (is_backslash c && (is_escape e && is_quote b))) (Some (escaped e)) None
-quoted _ = None
+abbrev pub quoted_character : List ℕ → Option ℕ
+quoted_character (a ∷ c ∷ b ∷ []) = choose (is_quote a && (is_plain c && is_quote b)) (Some c) None
+quoted_character (a ∷ c ∷ e ∷ b ∷ []) = choose (is_quote a && (is_backslash c && (is_escape e && is_quote b))) (Some (escaped_character e)) None
+quoted_character _ = None
 
 -- the bytes are a name that isn't reserved
 pub record IsFreeName (text : List ℕ) : Type 0 where
@@ -54,7 +54,7 @@ IsWordOf kind.Reserved text = is_reserved text ≡ true
 IsWordOf kind.Sign text = is_sign text ≡ true
 IsWordOf (kind.Number (pos n)) text = (n ≤ greatest_number) × (text ≡ decimal n)
 IsWordOf (kind.Number (negsuc n)) text = ⊥
-IsWordOf (kind.Character c) text = IsUtf8 text × (quoted (chars text) ≡ Some c)
+IsWordOf (kind.Character c) text = IsUtf8 text × (quoted_character (chars text) ≡ Some c)
 IsWordOf kind.Finish text = ⊥
 
 -- the bytes of the word are a word of its kind
@@ -119,9 +119,15 @@ pub record HasWords (text : List ℕ) (tokens : List Token) (ws : List LinedWord
   pub last : Bool
   pub words : map (lined_word_at text) tokens ≡ ws ++ record { first = last; word = end_word } ∷ []
 
+-- the text has just these words as its tokens
+pub record LexesToWords (text : List ℕ) (ws : List LinedWord) : Type 0 where
+  pub tokens : List Token
+  pub lexes : Lexes text tokens
+  pub has : HasWords text tokens ws
+
 -- a text that is put together from words has just these words as its tokens, and each begins a line as its token does
 abbrev pub SpellingLaw : Type 0
-SpellingLaw = (text : List ℕ) (ws : List LinedWord) → IsSpelled true text ws → (tokens : List Token) × Lexes text tokens × HasWords text tokens ws
+SpellingLaw = (text : List ℕ) (ws : List LinedWord) → IsSpelled true text ws → LexesToWords text ws
 
 -- a token of this kind may have these bytes: they are a word, or it is a number that isn't too wide
 abbrev pub IsTokenOf : TokenKind → List ℕ → Type 0

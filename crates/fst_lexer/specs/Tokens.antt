@@ -10,10 +10,10 @@ use Rattle.fst_lexer.specs.declared.token.TokenKind.{TokenKind}
 use Rattle.fst_lexer.specs.declared.token.TokenKind.TheVariants as kind
 use Rattle.fst_lexer.specs.declared.token.LexFault.{LexFault}
 use Rattle.fst_lexer.specs.declared.token.LexFault.TheVariants as fault
-use Rattle.fst_lexer.specs.Limits.{longest_name, greatest_number}
-use Rattle.fst_lexer.specs.Classes.{is_backslash, is_feed, is_reserved, is_upper, escaped}
+use Rattle.fst_base.specs.Limits.{longest_name, greatest_number}
+use Rattle.fst_lexer.specs.Classes.{is_backslash, is_feed, is_reserved, is_upper, escaped_character}
 use Rattle.fst_lexer.specs.Next.{IsNext, NoPiece}
-use Rattle.fst_lexer.specs.Choice.{choose}
+use Rattle.fst_base.specs.Choice.{choose}
 
 -- the byte at which the first character begins
 abbrev pub place : List Placed → ℕ
@@ -39,7 +39,7 @@ number_of word = choose (nat_le (value_from 0 word) greatest_number) (Some (valu
 
 -- the character that stands between quotes, or that an escape there stands for; of no character token 0
 abbrev pub character_of : List Placed → ℕ
-character_of (a ∷ c ∷ e ∷ cs) = choose (is_backslash c.ch) (escaped e.ch) c.ch
+character_of (a ∷ c ∷ e ∷ cs) = choose (is_backslash c.ch) (escaped_character e.ch) c.ch
 character_of _ = 0
 
 -- the first character is one of `A` to `Z`
@@ -81,28 +81,51 @@ list_of None = []
 list_of (Some t) = t ∷ []
 
 -- these are the tokens of a text up to a rest, and whether the rest begins a line
-pub data Lexed (text : List Placed) : List Token → Bool → List Placed → Type 0 where
-  start : Lexed text [] true text
+pub data LexesTo (text : List Placed) : List Token → Bool → List Placed → Type 0 where
+  start : LexesTo text [] true text
   piece : (ts us : List Token) (first last : Bool) (here word rest : List Placed) (p : Piece) (o : Option Token) →
-      Lexed text ts first here → IsNext here p word rest → token_of p word first ≡ Ok o → us ≡ ts ++ list_of o → last ≡ ends_line word →
-      Lexed text us last rest
+      LexesTo text ts first here → IsNext here p word rest → token_of p word first ≡ Ok o → us ≡ ts ++ list_of o → last ≡ ends_line word →
+      LexesTo text us last rest
 
 -- the last token
 abbrev pub finish : ℕ → Bool → Token
 finish end first = record { kind = kind.Finish; at = end; len = 0; first_column = first }
 
 -- these are the tokens of a text that ends at this byte
-abbrev pub AreTokens : List Placed → ℕ → List Token → Type 0
-AreTokens text end tokens = (ts : List Token) × (first : Bool) × Lexed text ts first [] × (tokens ≡ ts ++ finish end first ∷ [])
+pub record AreTokens (text : List Placed) (end : ℕ) (tokens : List Token) : Type 0 where
+  pub before : List Token
+  pub first : Bool
+  pub lexed : LexesTo text before first []
+  pub whole : tokens ≡ before ++ finish end first ∷ []
 
--- what is wrong where the tokens so far end: no piece begins there, or the next one is no token
+-- the text doesn't end here, no piece begins here, and that is the fault
+pub record BeginsNoPiece (here : List Placed) (e : LexFault) : Type 0 where
+  pub some : 0 < length here
+  pub none : NoPiece here
+  pub is : e ≡ fault.BadChar (place here)
+
+-- the next piece is no token, and that is the fault
+pub record BeginsNoToken (here : List Placed) (first : Bool) (e : LexFault) : Type 0 where
+  pub piece : Piece
+  pub word : List Placed
+  pub rest : List Placed
+  pub next : IsNext here piece word rest
+  pub bad : token_of piece word first ≡ Err e
+
+-- what is wrong where the tokens so far end
 abbrev pub IsFaultAt : List Placed → Bool → LexFault → Type 0
-IsFaultAt here first e =
-    ((0 < length here) × NoPiece here × (e ≡ fault.BadChar (place here)))
-    ⊎ ((p : Piece) × (word : List Placed) × (rest : List Placed) × IsNext here p word rest × (token_of p word first ≡ Err e))
+IsFaultAt here first e = BeginsNoPiece here e ⊎ BeginsNoToken here first e
+
+-- behind these tokens stands this fault
+pub record FaultBehind (text : List Placed) (e : LexFault) : Type 0 where
+  pub before : List Token
+  pub first : Bool
+  pub here : List Placed
+  pub lexed : LexesTo text before first here
+  pub fault : IsFaultAt here first e
 
 -- this is the first fault of a text
 abbrev pub IsFault : List Placed → LexFault → Type 0
 IsFault text fault.Memory = Unit {0}
 IsFault text (fault.NotUtf8 at) = ⊥
-IsFault text e = (ts : List Token) × (first : Bool) × (here : List Placed) × Lexed text ts first here × IsFaultAt here first e
+IsFault text e = FaultBehind text e

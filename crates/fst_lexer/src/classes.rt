@@ -1,5 +1,5 @@
 ghost use Rattle.std.specs.Prelude.{◌≡◌};
-ghost use Rattle.fst_lexer.specs.Classes.{continues_name, escaped, is_blank, is_digit, is_escape, is_feed, is_long, is_plain, is_quote, is_short, is_upper, starts_name};
+ghost use Rattle.fst_lexer.specs.Classes.{continues_name, escaped_character, is_blank, is_digit, is_escape, is_feed, is_long, is_plain, is_quote, is_short, is_upper, starts_name};
 
 /// The signs of one character.
 const SHORT_SIGNS: [char; 21] = [
@@ -62,8 +62,8 @@ pub(crate) fn is_escape(c: char) -> bool
 }
 
 /// What a character stands for behind a backslash.
-pub(crate) fn escaped(c: char) -> char
-    ensures { result ≡ escaped c }
+pub(crate) fn escaped_character(c: char) -> char
+    ensures { result ≡ escaped_character c }
 {
     match c {
         'n' => '\n',

@@ -1,7 +1,8 @@
 ghost use Rattle.std.specs.Prelude.{◌≡◌, ◌≤◌, ◌++◌, length, OnOk, IfOk, IfErr};
+ghost use Rattle.fst_base.specs.Limits.{most_bytes};
 ghost use Rattle.fst_lexer.specs.Tokens.{AreTokens, IsFault, list_of};
 ghost use Rattle.fst_lexer.specs.Lexes.{Lexes, OneLexing, Refuses};
-ghost use Rattle.fst_lexer.specs.Spans.{HaveSpans};
+ghost use Rattle.fst_lexer.specs.Spans.{HaveSpans, TellLines};
 ghost use Rattle.fst_lexer.specs.Spelling.{SpellingLaw, TokenWords};
 
 use crate::making::{ends_line, place, token_of};
@@ -22,7 +23,7 @@ fn push_token(tokens: &mut Vec<Token>, token: Option<Token>) -> Result<(), Alloc
 
 /// The tokens of a text that ends at this byte.
 fn lex_placed(alloc: Global, text: &[Placed], end: u32) -> Result<Vec<Token>, LexFault>
-    requires { length text.now ≤ 1048576 }
+    requires { length text.now ≤ most_bytes }
     ensures tokens { IfOk result (λ v. AreTokens text.now end v.items) }
     ensures fault { IfErr result (λ e. IsFault text.now e) }
 {
@@ -50,9 +51,10 @@ fn lex_placed(alloc: Global, text: &[Placed], end: u32) -> Result<Vec<Token>, Le
 
 /// The tokens of a text, or why it has none.
 pub fn lex(alloc: Global, bytes: &[u8]) -> Result<Vec<Token>, LexFault>
-    requires { length bytes.now ≤ 1048576 }
+    requires { length bytes.now ≤ most_bytes }
     ensures tokens { IfOk result (λ v. Lexes bytes.now v.items) }
     ensures spans { IfOk result (λ v. HaveSpans bytes.now v.items) }
+    ensures lines { IfOk result (λ v. TellLines bytes.now v.items) }
     ensures fault { IfErr result (λ e. Refuses bytes.now e) }
 {
     match str::from_utf8(bytes) {

@@ -6,8 +6,6 @@ mod lexing;
 mod making;
 mod pieces;
 mod placing;
-#[cfg(test)]
-mod tests;
 mod token;
 mod words;
 

@@ -1,16 +1,12 @@
-ghost use Rattle.std.specs.Prelude.{◌≡◌, ◌≤◌, ◌*◌, length};
+ghost use Rattle.std.specs.Prelude.{◌≡◌, ◌≤◌, ◌*◌, length, IfSome};
+ghost use Rattle.fst_base.specs.Limits.{greatest_number, most_bytes};
 ghost use Rattle.fst_lexer.specs.Tokens.{begins_upper, byte_count, character_of, ends_line, name_kind, number_of, place, token_of};
 
-use crate::classes::{escaped, is_feed, is_upper};
+use crate::classes::{escaped_character, is_feed, is_upper};
 use crate::pieces::{Piece, Placed};
 use crate::token::{LexFault, Token, TokenKind};
 use crate::words::is_reserved;
-
-/// How many bytes a name has at most.
-const LONGEST_NAME: usize = 255;
-
-/// The greatest value of a number.
-const GREATEST_NUMBER: u128 = 9223372036854775807;
+use fst_base::{GREATEST_NUMBER, LONGEST_NAME};
 
 pub(crate) fn place(text: &[Placed]) -> u32
     ensures { result ≡ place text.now }
@@ -22,7 +18,7 @@ pub(crate) fn place(text: &[Placed]) -> u32
 }
 
 fn byte_count(word: &[Placed]) -> usize
-    requires { length word.now ≤ 1048576 }
+    requires { length word.now ≤ most_bytes }
     ensures value { result ≡ byte_count word.now }
     ensures bound { result ≤ 4 * length word.now }
 {
@@ -34,12 +30,14 @@ fn byte_count(word: &[Placed]) -> usize
 }
 
 fn number_of(word: &[Placed]) -> Option<u64>
-    ensures { result ≡ number_of word.now }
+    ensures value { result ≡ number_of word.now }
+    ensures bound { IfSome result (λ n. n ≤ greatest_number) }
 {
+    let greatest = u128::from(GREATEST_NUMBER);
     let mut value: u64 = 0;
     for p in word {
         let next = u128::from(value) * 10 + u128::from((p.ch as u32).saturating_sub('0' as u32));
-        if next > GREATEST_NUMBER {
+        if next > greatest {
             return None;
         }
         value = next as u64;
@@ -47,12 +45,18 @@ fn number_of(word: &[Placed]) -> Option<u64>
     Some(value)
 }
 
-#[tactic(auto, unfolding(crate::specs::Choice::choose))]
+#[tactic(auto, unfolding(fst_base::specs::Choice::choose))]
 fn character_of(word: &[Placed]) -> char
     ensures { result ≡ character_of word.now }
 {
     match word {
-        [_, c, e, ..] => { if c.ch == '\\' { escaped(e.ch) } else { c.ch } }
+        [_, c, e, ..] => {
+            if c.ch == '\\' {
+                escaped_character(e.ch)
+            } else {
+                c.ch
+            }
+        }
         _ => '\0',
     }
 }
@@ -76,7 +80,7 @@ pub(crate) fn ends_line(word: &[Placed]) -> bool
     }
 }
 
-#[tactic(auto, unfolding(crate::specs::Choice::choose))]
+#[tactic(auto, unfolding(fst_base::specs::Choice::choose))]
 fn name_kind(word: &[Placed]) -> TokenKind
     ensures { result ≡ name_kind word.now }
 {
@@ -90,13 +94,13 @@ fn name_kind(word: &[Placed]) -> TokenKind
 }
 
 /// The token of a piece, where it is one.
-#[tactic(auto, unfolding(crate::specs::Choice::choose, crate::specs::Tokens::token_of, crate::specs::Tokens::number_of))]
+#[tactic(auto, unfolding(fst_base::specs::Choice::choose, crate::specs::Tokens::token_of))]
 pub(crate) fn token_of(
     piece: Piece,
     word: &[Placed],
     first: bool,
 ) -> Result<Option<Token>, LexFault>
-    requires { length word.now ≤ 1048576 }
+    requires { length word.now ≤ most_bytes }
     ensures { result ≡ token_of piece word.now first }
 {
     let at = place(word);

@@ -47,7 +47,7 @@ fn line_len(cs: &[Placed]) -> usize
     cs.iter().take_while(|p| !is_feed(p.ch)).count()
 }
 
-#[tactic(auto, unfolding(crate::specs::Choice::choose))]
+#[tactic(auto, unfolding(fst_base::specs::Choice::choose))]
 fn sign_at(cs: &[Placed]) -> Option<(Piece, usize)>
     ensures value { result ≡ sign_at cs.now }
     ensures bound { IfSome result (λ r. (0 < r.1) × (r.1 ≤ length cs.now)) }
@@ -67,7 +67,7 @@ fn sign_at(cs: &[Placed]) -> Option<(Piece, usize)>
     }
 }
 
-#[tactic(auto, unfolding(crate::specs::Choice::choose))]
+#[tactic(auto, unfolding(fst_base::specs::Choice::choose))]
 fn escaped_at(cs: &[Placed]) -> Option<(Piece, usize)>
     ensures value { result ≡ escaped_at cs.now }
     ensures bound { IfSome result (λ r. (0 < r.1) × (r.1 ≤ length cs.now + 1)) }
@@ -84,7 +84,7 @@ fn escaped_at(cs: &[Placed]) -> Option<(Piece, usize)>
     }
 }
 
-#[tactic(auto, unfolding(crate::specs::Choice::choose))]
+#[tactic(auto, unfolding(fst_base::specs::Choice::choose))]
 fn quoted_at(cs: &[Placed]) -> Option<(Piece, usize)>
     ensures value { result ≡ quoted_at cs.now }
     ensures bound { IfSome result (λ r. (0 < r.1) × (r.1 ≤ length cs.now + 1)) }
@@ -111,7 +111,7 @@ fn begins_comment(cs: &[Placed]) -> bool
 }
 
 /// The longest piece at the front of a text, and how many characters it has.
-#[tactic(auto, unfolding(crate::specs::Choice::choose, crate::specs::Reading::piece_at))]
+#[tactic(auto, unfolding(fst_base::specs::Choice::choose, crate::specs::Reading::piece_at))]
 pub(crate) fn piece_at(cs: &[Placed]) -> Option<(Piece, usize)>
     ensures value { result ≡ piece_at cs.now }
     ensures bound { IfSome result (λ r. (0 < r.1) × (r.1 ≤ length cs.now)) }

@@ -1,5 +1,6 @@
 ghost use Rattle.std.specs.Prelude.{◌≡◌, ◌≤◌, length, IfOk};
 ghost use Rattle.std.specs.Str.{chars};
+ghost use Rattle.fst_base.specs.Limits.{most_bytes};
 ghost use Rattle.fst_lexer.specs.Places.{place_all};
 
 use crate::pieces::Placed;
@@ -7,7 +8,7 @@ use std::alloc::{AllocError, Global};
 
 /// The characters of a text, each with the byte at which it begins.
 pub(crate) fn places(alloc: Global, text: &str) -> Result<Vec<Placed>, AllocError>
-    requires { length text.now ≤ 1048576 }
+    requires { length text.now ≤ most_bytes }
     ensures { IfOk result (λ v. v.items ≡ place_all 0 (chars text.now)) }
 {
     let mut placed = Vec::new(alloc);

@@ -5,62 +5,21 @@ use Rattle.fst_types.specs.Tree.{Tree, seq}
 use Rattle.fst_types.specs.declared.kind.Kind.{Kind}
 use Rattle.fst_types.specs.declared.label.Label.{Label}
 use Rattle.fst_types.specs.Substitution.{substituted}
-use Rattle.fst_types.proofs.SubstitutionLaws.{substituted_nothing}
+use Rattle.fst_types.proofs.Laws.{substituted_nothing}
 use Rattle.fst_kinds.specs.WellFormed.{IsSession}
 use Rattle.fst_lts.specs.Step.{step, labels, terminated}
-use Rattle.fst_lts.specs.Agree.{AgreeTo, BothOrNeither}
+use Rattle.fst_base.specs.Agreement.{AgreeTo, BothOrNeither}
 use Rattle.fst_lts.proofs.LabelLaws.{labels_are_moves}
 use Rattle.fst_lts.proofs.ResidualLaws.{step_session, terminated_exactly}
-
-same_related : {T : Type 0} (R : T → T → Type 0) → ((x : T) → R x x) → (o : Option T) → BothOrNeither R o o
-same_related R h None = tt
-same_related R h (Some x) = h x
-
-pub agrees_itself : {T A : Type 0} (f : T → A → Option T) (n : ℕ) (x : T) → AgreeTo f f n x x
-agrees_itself f zero x = tt
-agrees_itself f (suc n) x = λ a. same_related (AgreeTo f f n) (agrees_itself f n) (f x a)
-
-other_way : {T U : Type 0} (R : T → U → Type 0) (S : U → T → Type 0) → ((x : T) (y : U) → R x y → S y x) → (o : Option T) (p : Option U) → BothOrNeither R o p → BothOrNeither S p o
-other_way R S h None None b = tt
-other_way R S h None (Some y) b = absurd b
-other_way R S h (Some x) None b = absurd b
-other_way R S h (Some x) (Some y) b = h x y b
-
-pub agrees_back : {T U A : Type 0} (f : T → A → Option T) (g : U → A → Option U) (n : ℕ) (x : T) (y : U) → AgreeTo f g n x y → AgreeTo g f n y x
-agrees_back f g zero x y h = tt
-agrees_back f g (suc n) x y h = λ a. other_way (AgreeTo f g n) (AgreeTo g f n) (agrees_back f g n) (f x a) (g y a) (h a)
-
-joined_ways : {T U V : Type 0} (R : T → U → Type 0) (S : U → V → Type 0) (Q : T → V → Type 0) → ((x : T) (y : U) (z : V) → R x y → S y z → Q x z) →
-    (o : Option T) (p : Option U) (q : Option V) → BothOrNeither R o p → BothOrNeither S p q → BothOrNeither Q o q
-joined_ways R S Q h None None None b c = tt
-joined_ways R S Q h None None (Some z) b c = absurd c
-joined_ways R S Q h None (Some y) q b c = absurd b
-joined_ways R S Q h (Some x) None q b c = absurd b
-joined_ways R S Q h (Some x) (Some y) None b c = absurd c
-joined_ways R S Q h (Some x) (Some y) (Some z) b c = h x y z b c
-
-pub agrees_through : {T U V A : Type 0} (f : T → A → Option T) (g : U → A → Option U) (h : V → A → Option V) (n : ℕ) (x : T) (y : U) (z : V) → AgreeTo f g n x y → AgreeTo g h n y z → AgreeTo f h n x z
-agrees_through f g h zero x y z b c = tt
-agrees_through f g h (suc n) x y z b c = λ a.
-    joined_ways (AgreeTo f g n) (AgreeTo g h n) (AgreeTo f h n) (agrees_through f g h n) (f x a) (g y a) (h z a) (b a) (c a)
-
-weaker : {T U : Type 0} (R S : T → U → Type 0) → ((x : T) (y : U) → R x y → S x y) → (o : Option T) (p : Option U) → BothOrNeither R o p → BothOrNeither S o p
-weaker R S h None None b = tt
-weaker R S h None (Some y) b = absurd b
-weaker R S h (Some x) None b = absurd b
-weaker R S h (Some x) (Some y) b = h x y b
-
--- what agrees to a depth agrees to the one before
-agrees_less : {T U A : Type 0} (f : T → A → Option T) (g : U → A → Option U) (n : ℕ) (x : T) (y : U) → AgreeTo f g (suc n) x y → AgreeTo f g n x y
-agrees_less f g zero x y h = tt
-agrees_less f g (suc n) x y h = λ a. weaker (AgreeTo f g (suc n)) (AgreeTo f g n) (agrees_less f g n) (f x a) (g y a) (h a)
+use Rattle.fst_base.proofs.AgreementLaws.{same_related, agrees_itself, agrees_back, agrees_less, related_some}
+use Rattle.fst_base.proofs.Bools.{same_bool}
 
 -- the step of a sequence whose first part goes on or is over
 abbrev after_first : Tree → Bool → Option Tree → Option Tree → Option Tree
 after_first s over first second = if over then second else option_map (λ t. seq t s) first
 
 first_then : (s r : Tree) (a : Label) → step (seq s r) a ≡ after_first r (terminated s) (step s a) (step r a)
-first_then s r a = ap (λ z. if terminated s then step r a else option_map (λ t. seq t z) (step s a)) (substituted_nothing 0 r)
+first_then s r a = ap (λ z. if terminated s then step r a else option_map (λ t. seq t z) (step s a)) (substituted_nothing r)
 
 -- both sides of a step of two sequences
 sequences_agree : (n : ℕ) (x y : Tree) (over : Bool) (o p q u : Option Tree) → (over ≡ false → BothOrNeither (λ s r. AgreeTo step step n (seq s x) (seq r y)) o p) → (over ≡ true → BothOrNeither (AgreeTo step step n) q u) →
@@ -115,21 +74,9 @@ over_too : (n : ℕ) (s r : Tree) → Moving s → Moving r → AgreeTo step ste
 over_too n s r ms mr h over =
     mr.1 (label_there r (labels r) refl (λ a there. no_step s a (ms.0 over) (unmatched n (step s a) (step r a) (h a) there)))
 
-same_bool : (c d : Bool) → (c ≡ true → d ≡ true) → (d ≡ true → c ≡ true) → c ≡ d
-same_bool true d f g = sym (f refl)
-same_bool false true f g = g refl
-same_bool false false f g = refl
-
 over_alike : (n : ℕ) (s r : Tree) → Moving s → Moving r → AgreeTo step step (suc n) s r → terminated s ≡ terminated r
 over_alike n s r ms mr h =
     same_bool (terminated s) (terminated r) (over_too n s r ms mr h) (over_too n r s mr ms (agrees_back step step (suc n) s r h))
-
-related_some : {T U : Type 0} (R S : T → U → Type 0) (P : T → Type 0) (Q : U → Type 0) → ((x : T) (y : U) → P x → Q y → R x y → S x y) →
-    (o : Option T) (p : Option U) → IfSome o P → IfSome p Q → BothOrNeither R o p → BothOrNeither S o p
-related_some R S P Q h None None i j b = tt
-related_some R S P Q h None (Some y) i j b = absurd b
-related_some R S P Q h (Some x) None i j b = absurd b
-related_some R S P Q h (Some x) (Some y) i j b = h x y i j b
 
 -- a type behind both sides
 pub agree_behind : (n : ℕ) (vars : List Kind) (s r t : Tree) → IsSession vars s → IsSession vars r → AgreeTo step step n s r → AgreeTo step step n (seq s t) (seq r t)

@@ -5,7 +5,7 @@ use Rattle.std.specs.declared.alloc.AllocError.{AllocError}
 use Rattle.fst_types.specs.Tree.{Tree}
 use Rattle.fst_types.specs.declared.label.Label.{Label}
 use Rattle.fst_lts.specs.Step.{step, labels}
-use Rattle.fst_lts.specs.Agree.{AgreeTo, BothOrNeither}
+use Rattle.fst_base.specs.Agreement.{AgreeTo, BothOrNeither}
 use Rattle.fst_lts.proofs.LabelLaws.{labels_are_moves}
 
 at_label : (P : Label → Type 0) (ls : List Label) (a : Label) → All P ls → Contains ls a → P a
@@ -20,12 +20,14 @@ either_side R (Some x) p left right = left refl
 abbrev pub AgreeAfter : ℕ → Tree → Tree → Label → Type 0
 AgreeAfter n s r a = BothOrNeither (AgreeTo step step n) (step s a) (step r a)
 
+-- what agrees after the labels of both types agrees one deeper
 pub one_deeper : (n : ℕ) (s r : Tree) → All (AgreeAfter n s r) (labels s) → All (AgreeAfter n s r) (labels r) → AgreeTo step step (suc n) s r
 one_deeper n s r left right = λ a.
     either_side (AgreeTo step step n) (step s a) (step r a)
     (λ m. at_label (AgreeAfter n s r) (labels s) a left ((labels_are_moves s a).1 m))
     (λ m. at_label (AgreeAfter n s r) (labels r) a right ((labels_are_moves r a).1 m))
 
+-- what agrees one deeper agrees after all labels
 pub after_all : (n : ℕ) (s r : Tree) (ls : List Label) → AgreeTo step step (suc n) s r → All (AgreeAfter n s r) ls
 after_all n s r ls h = λ k d lt. h (get_or ls k d)
 

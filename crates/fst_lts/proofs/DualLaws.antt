@@ -6,10 +6,10 @@ use Rattle.fst_types.specs.Order.{same_label}
 use Rattle.fst_types.specs.declared.label.Label.{Label}
 use Rattle.fst_types.specs.declared.label.Label.TheVariants.{Send, Receive, Select, Offer, Var}
 use Rattle.fst_types.specs.declared.ty.Branch.{Branch}
-use Rattle.fst_types.specs.View.{branches_of}
+use Rattle.fst_types.specs.ModelView.{branches_of}
 use Rattle.fst_types.specs.Substitution.{variable, substituted, substituted_all}
 use Rattle.fst_lts.specs.Step.{terminated, branch_at, step_in, step}
-use Rattle.fst_lts.specs.Agree.{residual}
+use Rattle.fst_base.specs.Agreement.{residual}
 use Rattle.fst_lts.specs.Dual.{dual, dual_all, dual_label, dual_branch}
 
 -- the duals of a list of branches are the dual of the choice
@@ -18,6 +18,7 @@ dual_all_map [] = refl
 dual_all_map (b ∷ bs) = ap (branch b.label (dual b.body)) (dual_all_map bs)
 
 mutual
+  -- the dual of the dual is the type
   pub dual-dual : (s : Tree) → dual (dual s) ≡ s
   dual-dual skip = refl
   dual-dual (send b) = refl
@@ -33,10 +34,12 @@ mutual
   dual-dual (pair s r) = λ i. pair (dual-dual s i) (dual-dual r i)
   dual-dual (named k) = refl
 
+  -- and so with branches
   pub dual_all-dual_all : (bs : Branches) → dual_all (dual_all bs) ≡ bs
   dual_all-dual_all none = refl
   dual_all-dual_all (branch l s bs) = λ i. branch l (dual-dual s i) (dual_all-dual_all bs i)
 
+-- and with labels
 pub dual_label-dual_label : (a : Label) → dual_label (dual_label a) ≡ a
 dual_label-dual_label (Send b) = refl
 dual_label-dual_label (Receive b) = refl
@@ -158,7 +161,7 @@ after_dual : (w : List Label) (o p : Option Tree) →
 after_dual w o None h e = ap (option_and_then (λ s. residual step s (map dual_label w))) e
 after_dual w o (Some s) h e = ap (option_and_then (λ s. residual step s (map dual_label w))) e ∙ h s
 
--- what is left of the dual after the dual word
+-- what is left of the dual after the dual trace
 pub residual-dual : (w : List Label) (s : Tree) → residual step (dual s) (map dual_label w) ≡ option_map dual (residual step s w)
 residual-dual [] s = refl
 residual-dual (a ∷ w) s = after_dual w _ (step s a) (residual-dual w) (step_in-dual [] s a)

@@ -1,16 +1,10 @@
 -- What a type that comes to no free recursion variable before a move gives.
 use Rattle.std.proofs.Common.{◌≡◌, ◌∙◌, ℕ, zero, suc, Bool, true, false, refl, sym, subst}
 use Rattle.std.specs.Prelude.{◌&&◌, ◌||◌, not}
-use Rattle.std.proofs.lemmas.Bool.{eq-eqb}
+use Rattle.std.proofs.lemmas.Bool.{eq-eqb, or_parts, and_parts}
 use Rattle.fst_types.specs.Tree.{Tree, skip, send, receive, select, offer, seq, rec, back, var, plain, arrow, pair, named}
 use Rattle.fst_kinds.specs.Contractive.{guards, reaches}
-use Rattle.fst_kinds.proofs.SubstitutedGuards.{both_false}
 use Rattle.fst_lts.specs.Step.{terminated}
-
-pub both_true : (c d : Bool) → c && d ≡ true → (c ≡ true) × (d ≡ true)
-both_true true true e = (refl, refl)
-both_true true false e = absurd (cc e)
-both_true false d e = absurd (cc e)
 
 -- a terminated type guards nothing
 pub unguarded : (s : Tree) → terminated s ≡ true → guards s ≡ false
@@ -20,7 +14,7 @@ unguarded (receive b) e = absurd (cc e)
 unguarded (select bs) e = absurd (cc e)
 unguarded (offer bs) e = absurd (cc e)
 unguarded (seq s r) e =
-    let h = both_true (terminated s) (terminated r) e in
+    let h = and_parts (terminated s) (terminated r) e in
     λ i. unguarded s h.0 i || unguarded r h.1 i
 unguarded (rec s) e = unguarded s e
 unguarded (back k) e = absurd (cc e)
@@ -34,17 +28,21 @@ unguarded (named k) e = absurd (cc e)
 abbrev pub IsGuarded : Tree → Type 0
 IsGuarded s = (k : ℕ) → reaches s k ≡ false
 
+-- behind a terminated first part the second part comes first
 pub guarded_second : (s r : Tree) → IsGuarded (seq s r) → terminated s ≡ true → IsGuarded r
 guarded_second s r h e k =
-    let both = both_false (reaches s k) (not (guards s) && reaches r k) (h k) in
+    let both = or_parts (reaches s k) (not (guards s) && reaches r k) (h k) in
     subst (λ g. not g && reaches r k ≡ false) (unguarded s e) both.1
 
+-- the first part of a sequence comes to no variable that the sequence doesn't come to
 pub guarded_first : (s r : Tree) → IsGuarded (seq s r) → IsGuarded s
-guarded_first s r h k = (both_false (reaches s k) (not (guards s) && reaches r k) (h k)).0
+guarded_first s r h k = (or_parts (reaches s k) (not (guards s) && reaches r k) (h k)).0
 
+-- nor does a contractive body
 pub guarded_body : (s : Tree) → reaches s 0 ≡ false → IsGuarded (rec s) → IsGuarded s
 guarded_body s z h zero = z
 guarded_body s z h (suc k) = h k
 
+-- a variable comes to itself
 pub no_variable : (k : ℕ) → IsGuarded (back k) → ⊥
 no_variable k h = absurd (cc (sym (h k) ∙ eq-eqb k k refl))

@@ -1,9 +1,10 @@
+pub mod Laws
 pub mod LabelLaws
 pub mod OrderLaws
 pub mod DepthLaws
-pub mod WordLaws
 pub mod DualLaws
 pub mod GuardLaws
 pub mod MoveLaws
 pub mod ResidualLaws
 pub mod AgreementLaws
+pub mod MoveRules

@@ -1,24 +1,21 @@
 -- The steps of a type are its moves by the rules, and by each label it moves to at most one type.
 use Rattle.std.proofs.Common.{◌≡◌, ◌∙◌, ◌≤◌, ◌+◌, ◌⊎◌, inl, inr, ℕ, zero, suc, List, [], ◌∷◌, length, Bool, true, false, Option, Some, None, refl, sym, ap, subst, arith}
 use Rattle.std.specs.Prelude.{option_map, if◌then◌else◌, ◌&&◌, ◌||◌, not, nat_eq}
-use Rattle.std.proofs.lemmas.Bool.{eq-eqb, eqb-true}
+use Rattle.std.proofs.lemmas.Bool.{eq-eqb, eqb-true, and_parts, or_parts, false_from_ne_true}
 use Rattle.fst_types.specs.Tree.{Tree, skip, send, receive, select, offer, seq, rec, back, var, plain, arrow, pair, named, Branches, none, branch}
 use Rattle.fst_types.specs.Order.{same_label}
-use Rattle.fst_types.specs.Substitution.{substituted, substituted_all, unfolded}
+use Rattle.fst_types.specs.Substitution.{substituted, substituted_all, unfolded, AllClosed}
 use Rattle.fst_types.specs.Scoped.{IsScoped}
 use Rattle.fst_types.specs.declared.label.Label.{Label}
 use Rattle.fst_types.specs.declared.label.Label.TheVariants.{Send, Receive, Select, Offer, Var}
-use Rattle.fst_types.proofs.Labels.{same_label-same, same_label-itself}
-use Rattle.fst_types.proofs.SubstitutionLaws.{AllClosed, substituted_nothing, substituted_scoped, substituted_after, unfolded_scoped}
+use Rattle.fst_types.proofs.Laws.{same_label-same, same_label-itself, substituted_nothing, substituted_scoped, substituted_after, unfolded_scoped}
+use Rattle.fst_lts.proofs.Laws.{unguarded}
 use Rattle.fst_kinds.specs.Contractive.{guards, reaches, IsContractive}
 use Rattle.fst_lts.specs.Step.{terminated, branch_at, step_in, step}
-use Rattle.fst_lts.proofs.GuardLaws.{both_true, unguarded, IsGuarded, guarded_first, guarded_second, guarded_body, no_variable}
-use Rattle.fst_kinds.proofs.SubstitutedGuards.{both_false, unreached}
+use Rattle.fst_lts.proofs.GuardLaws.{IsGuarded, guarded_first, guarded_second, guarded_body, no_variable}
+use Rattle.fst_kinds.proofs.Laws.{unreached}
 use Rattle.fst_lts.specs.Moves.{Moves, sends, receives, selects, offers, first, second, unfolds, variables}
-
-not_true : (c : Bool) → (c ≡ true → ⊥) → c ≡ false
-not_true true h = absurd (h refl)
-not_true false h = refl
+use Rattle.fst_base.proofs.Options.{mapped_some}
 
 -- a terminated type holds no variable before its end
 substituted-terminated : (env : List (Option Tree)) (s : Tree) → terminated s ≡ true → terminated (substituted env s) ≡ true
@@ -28,7 +25,7 @@ substituted-terminated env (receive b) e = absurd (cc e)
 substituted-terminated env (select bs) e = absurd (cc e)
 substituted-terminated env (offer bs) e = absurd (cc e)
 substituted-terminated env (seq s r) e =
-    let h = both_true (terminated s) (terminated r) e in
+    let h = and_parts (terminated s) (terminated r) e in
     λ i. substituted-terminated env s h.0 i && substituted-terminated env r h.1 i
 substituted-terminated env (rec s) e = substituted-terminated (None ∷ env) s e
 substituted-terminated env (back k) e = absurd (cc e)
@@ -44,8 +41,8 @@ moving sends e = absurd (cc e)
 moving receives e = absurd (cc e)
 moving (selects h) e = absurd (cc e)
 moving (offers h) e = absurd (cc e)
-moving (first {s} {r} h m) e = moving m (both_true (terminated s) (terminated r) e).0
-moving (second {s} {r} h m) e = moving m (both_true (terminated s) (terminated r) e).1
+moving (first {s} {r} h m) e = moving m (and_parts (terminated s) (terminated r) e).0
+moving (second {s} {r} h m) e = moving m (and_parts (terminated s) (terminated r) e).1
 moving (unfolds {s} m) e = moving m (substituted-terminated (Some (rec s) ∷ []) s e)
 moving variables e = absurd (cc e)
 
@@ -77,10 +74,6 @@ one_move x a b t m e = pick (same_label a b) refl e
         subst (λ y. Moves x a y) is (subst (λ l. Moves x l skip) (sym (same_label-same a b h)) m)
     pick false h e = absurd (cc e)
 
-mapped_some : {X Y : Type 0} (f : X → Y) (o : Option X) (y : Y) → option_map f o ≡ Some y → (x : X) × (o ≡ Some x) × (f x ≡ y)
-mapped_some f None y e = absurd (cc e)
-mapped_some f (Some x) y e = (x, refl, cc)
-
 select_moves : (bs : Branches) (a : Label) (t : Tree) → branch_at Select bs a ≡ Some t → Moves (select bs) a t
 select_moves bs a t e =
     let l = branch_label Select bs a t e in
@@ -93,9 +86,7 @@ offer_moves bs a t e =
 
 -- what a `rec` stands for has no free variables
 whole_closed : (env : List (Option Tree)) → AllClosed env → (s : Tree) → IsScoped (suc (length env)) s → AllClosed (Some (substituted env (rec s)) ∷ env)
-whole_closed env ok s h =
-    let n : length env ≡ 0 + length env = omega arith in
-    (substituted_scoped 0 env (rec s) ok (subst (λ m. IsScoped m (rec s)) n h), ok)
+whole_closed env ok s h = (substituted_scoped env (rec s) ok h, ok)
 
 -- a step is a move
 steps_move : (env : List (Option Tree)) → AllClosed env → (s : Tree) → IsScoped (length env) s → (a : Label) (t : Tree) → step_in env s a ≡ Some t → Moves (substituted env s) a t
@@ -114,10 +105,10 @@ steps_move env ok (seq s r) h a t e =
     pick front behind false is e =
         let found = mapped_some (λ u. seq u (substituted env r)) (step_in env s a) t e in
         let m = front found.0 found.1 in
-        subst (λ y. Moves (seq (substituted env s) (substituted env r)) a y) found.2 (first (not_true _ (moving m)) m)
+        subst (λ y. Moves (seq (substituted env s) (substituted env r)) a y) found.2 (first (false_from_ne_true _ (moving m)) m)
 steps_move env ok (rec s) h a t e =
     let whole = substituted env (rec s) in
-    unfolds (subst (λ y. Moves y a t) (sym (substituted_after whole env ok 0 s)) (steps_move (Some whole ∷ env) (whole_closed env ok s h) s h a t e))
+    unfolds (subst (λ y. Moves y a t) (sym (substituted_after whole env ok s)) (steps_move (Some whole ∷ env) (whole_closed env ok s h) s h a t e))
 steps_move env ok (back k) h a t e = absurd (cc e)
 steps_move env ok (var k) h a t e = one_move (var k) a (Var k) t variables e
 steps_move env ok (plain b) h a t e = absurd (cc e)
@@ -161,7 +152,7 @@ seq_part : {s r t : Tree} {a : Label} → Moves (seq s r) a t →
 seq_part (first {t} h m) = inl (h, (t, m, refl))
 seq_part (second h m) = inr (h, m)
 
-rec_part : {s t : Tree} {a : Label} → Moves (rec s) a t → Moves (unfolded (rec s)) a t
+rec_part : {s t : Tree} {a : Label} → Moves (rec s) a t → Moves (unfolded s) a t
 rec_part (unfolds m) = m
 
 -- putting types into a guarded type doesn't change whether it is terminated
@@ -216,7 +207,7 @@ moves_step env ok (seq s r) h c g a t m =
 moves_step env ok (rec s) h c g a t m =
     let whole = substituted env (rec s) in
     moves_step (Some whole ∷ env) (whole_closed env ok s h) s h c.0 (guarded_body s c.1 g) a t
-    (subst (λ y. Moves y a t) (substituted_after whole env ok 0 s) (rec_part m))
+    (subst (λ y. Moves y a t) (substituted_after whole env ok s) (rec_part m))
 moves_step env ok (back k) h c g a t m = absurd (no_variable k g)
 moves_step env ok (var k) h c g a t m = one_step a (Var k) t (variable_label m)
 moves_step env ok (plain b) h c g a t m = absurd (no_plain m)
@@ -230,8 +221,8 @@ closed_guarded s h k = unreached s 0 k h (omega arith)
 -- the steps of a contractive type without free variables are its moves
 pub steps_are_moves : (s : Tree) → IsScoped 0 s → IsContractive s → (a : Label) (t : Tree) → (step s a ≡ Some t → Moves s a t) × (Moves s a t → step s a ≡ Some t)
 steps_are_moves s h c a t = (
-  λ e. subst (λ x. Moves x a t) (substituted_nothing 0 s) (steps_move [] tt s h a t e),
-  λ m. moves_step [] tt s h c (closed_guarded s h) a t (subst (λ x. Moves x a t) (sym (substituted_nothing 0 s)) m),
+  λ e. subst (λ x. Moves x a t) (substituted_nothing s) (steps_move [] tt s h a t e),
+  λ m. moves_step [] tt s h c (closed_guarded s h) a t (subst (λ x. Moves x a t) (sym (substituted_nothing s)) m),
 )
 
 same_some : (t u : Tree) → Some t ≡ Some u → t ≡ u
@@ -262,14 +253,12 @@ same_option None (Some y) f g = g y refl
 same_option (Some x) p f g = sym (f x refl)
 
 -- an unfolding moves as its type does
-pub unfolded_step : (t : Tree) → IsScoped 0 t → IsContractive t → IsContractive (unfolded t) → (a : Label) → step (unfolded t) a ≡ step t a
-unfolded_step (rec s) h c d a =
-    let inner = steps_are_moves (unfolded (rec s)) (unfolded_scoped (rec s) h) d a in
+pub unfolded_step : (s : Tree) → IsScoped 0 (rec s) → IsContractive (rec s) → IsContractive (unfolded s) → (a : Label) → step (unfolded s) a ≡ step (rec s) a
+unfolded_step s h c d a =
+    let inner = steps_are_moves (unfolded s) (unfolded_scoped s h) d a in
     let outer = steps_are_moves (rec s) h c a in
-    same_option (step (unfolded (rec s)) a) (step (rec s) a) (λ x e. (outer x).1 (unfolds ((inner x).0 e))) (λ x e. (inner x).1 (rec_part ((outer x).0 e)))
-unfolded_step t h c d a = refl
+    same_option (step (unfolded s) a) (step (rec s) a) (λ x e. (outer x).1 (unfolds ((inner x).0 e))) (λ x e. (inner x).1 (rec_part ((outer x).0 e)))
 
 -- an unfolding is terminated exactly where its type is
-pub unfolded_terminated : (t : Tree) → IsScoped 0 t → IsContractive t → terminated (unfolded t) ≡ terminated t
-unfolded_terminated (rec s) h c = still_terminated (Some (rec s) ∷ []) s c.0 (guarded_body s c.1 (closed_guarded (rec s) h))
-unfolded_terminated t h c = refl
+pub unfolded_terminated : (s : Tree) → IsScoped 0 (rec s) → IsContractive (rec s) → terminated (unfolded s) ≡ terminated (rec s)
+unfolded_terminated s h c = still_terminated (Some (rec s) ∷ []) s c.0 (guarded_body s c.1 (closed_guarded (rec s) h))

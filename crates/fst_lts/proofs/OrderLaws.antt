@@ -8,19 +8,20 @@ use Rattle.fst_types.specs.Tree.{Tree, skip, send, receive, select, offer, seq, 
 use Rattle.fst_types.specs.Order.{same_label, IsOrdered, AllOrdered, AreRising, label_cmp}
 use Rattle.fst_types.specs.declared.label.Label.{Label}
 use Rattle.fst_types.specs.declared.label.Label.TheVariants.{Send, Receive, Select, Offer, Var}
-use Rattle.fst_types.specs.Substitution.{substituted}
-use Rattle.fst_types.proofs.SubstitutionLaws.{EnvHas, substituted_ordered}
+use Rattle.fst_types.specs.Substitution.{substituted, EnvHas}
+use Rattle.fst_types.proofs.Laws.{substituted_ordered}
 use Rattle.fst_lts.specs.Step.{terminated, branch_at, step_in, step, labels, choice_labels}
-use Rattle.fst_lts.specs.Agree.{residual}
-use Rattle.fst_lts.specs.Rising.{IsRising}
+use Rattle.fst_base.specs.Agreement.{residual}
+use Rattle.fst_base.specs.Order.{IsRising}
 
 choice_rises : (make : List ℕ → Label) → ((l m : List ℕ) → slice_cmp nat_cmp l m ≡ Less → label_cmp (make l) (make m) ≡ Less) →
-    (bs : Branches) → AreRising bs → IsRising (choice_labels make bs)
+    (bs : Branches) → AreRising bs → IsRising label_cmp (choice_labels make bs)
 choice_rises make h none r = absurd r
 choice_rises make h (branch l s none) r = tt
 choice_rises make h (branch l s (branch m t bs)) r = (h l m r.0, choice_rises make h (branch m t bs) r.1)
 
-pub labels_rise : (s : Tree) → IsOrdered s → IsRising (labels s)
+-- the labels of an ordered type rise
+pub labels_rise : (s : Tree) → IsOrdered s → IsRising label_cmp (labels s)
 labels_rise skip o = tt
 labels_rise (send b) o = tt
 labels_rise (receive b) o = tt
@@ -28,7 +29,7 @@ labels_rise (select bs) o = choice_rises Select (λ l m e. e) bs o.0
 labels_rise (offer bs) o = choice_rises Offer (λ l m e. e) bs o.0
 labels_rise (seq s r) o = pick (labels_rise s o.0) (labels_rise r o.1) (terminated s)
   where
-    pick : IsRising (labels s) → IsRising (labels r) → (c : Bool) → IsRising (if c then labels r else labels s)
+    pick : IsRising label_cmp (labels s) → IsRising label_cmp (labels r) → (c : Bool) → IsRising label_cmp (if c then labels r else labels s)
     pick first second true = second
     pick first second false = first
 labels_rise (rec s) o = labels_rise s o
@@ -75,7 +76,7 @@ step_in_ordered env (named k) a e o = tt
 pub step_ordered : (s : Tree) (a : Label) → IsOrdered s → IfSome (step s a) IsOrdered
 step_ordered s a o = step_in_ordered [] s a tt o
 
--- what a word leaves of an ordered type is ordered
+-- what a trace leaves of an ordered type is ordered
 pub residual_ordered : (w : List Label) (s : Tree) → IsOrdered s → IfSome (residual step s w) IsOrdered
 residual_ordered [] s o = o
 residual_ordered (a ∷ w) s o = pick (residual_ordered w) (step s a) (step_ordered s a o)

@@ -12,11 +12,12 @@ use Rattle.fst_types.specs.Substitution.{substituted}
 use Rattle.fst_kinds.specs.Kinds.{joined, AllSessions}
 use Rattle.fst_kinds.specs.Contractive.{guards, reaches, AllContractive}
 use Rattle.fst_kinds.specs.WellFormed.{IsSession}
-use Rattle.fst_kinds.proofs.SubstitutedGuards.{not_top, unreached, GuardsTo, substituted_guards}
-use Rattle.fst_kinds.proofs.OpenSessions.{IsOpenSession, IsPut, opened, open_first, open_second, open_body, unguarded_body, substituted_session}
+use Rattle.fst_kinds.proofs.Laws.{not_top, unreached, substituted_guards, opened, open_first, open_second, open_body, unguarded_body, substituted_session}
+use Rattle.fst_kinds.specs.OpenSession.{GuardsTo, IsOpenSession, IsPut}
 use Rattle.fst_lts.specs.Step.{terminated, branch_at, step_in, step, labels, choice_labels}
-use Rattle.fst_lts.specs.Agree.{residual}
-use Rattle.fst_lts.proofs.GuardLaws.{both_true, IsGuarded, guarded_first, guarded_second, guarded_body, no_variable}
+use Rattle.fst_base.specs.Agreement.{residual}
+use Rattle.fst_lts.proofs.GuardLaws.{IsGuarded, guarded_first, guarded_second, guarded_body, no_variable}
+use Rattle.std.proofs.lemmas.Bool.{and_parts}
 
 -- a move leaves a session type
 skip_session : (vars : List Kind) → IsSession vars skip
@@ -46,6 +47,7 @@ branch_session vars n env make (branch l s bs) a p k c h o = pick (branch_sessio
     pick next true = substituted_session vars n env s p (record { kinded = k.0; contractive = c.0; scoped = h.0; ordered = o.0 })
     pick next false = next
 
+-- a step of an open session type, with session types for its variables, leaves a session type
 pub step_in_session : (vars : List Kind) (n : ℕ) (env : List (Option Tree)) (s : Tree) (a : Label) → IsPut vars n env → IsOpenSession vars n s → IfSome (step_in env s a) (IsSession vars)
 step_in_session vars n env skip a p h = tt
 step_in_session vars n env (send b) a p h = skip_if_session vars (same_label a (Send b))
@@ -83,7 +85,7 @@ step_in_session vars n env (named k) a p h = tt
 pub step_session : (vars : List Kind) (s : Tree) (a : Label) → IsSession vars s → IfSome (step s a) (IsSession vars)
 step_session vars s a h = step_in_session vars 0 [] s a (record { closed = tt; sessions = tt; enough = omega arith; guarded = tt }) (opened vars s h)
 
--- what a word leaves is a session type if the type is one
+-- what a trace leaves is a session type if the type is one
 pub residual_session : (vars : List Kind) (w : List Label) (s : Tree) → IsSession vars s → IfSome (residual step s w) (IsSession vars)
 residual_session vars [] s h = h
 residual_session vars (a ∷ w) s h = pick (residual_session vars w) (step s a) (step_session vars s a h)
@@ -128,7 +130,7 @@ terminated_unlabelled (receive b) e = absurd (cc e)
 terminated_unlabelled (select bs) e = absurd (cc e)
 terminated_unlabelled (offer bs) e = absurd (cc e)
 terminated_unlabelled (seq s r) e =
-    let h = both_true (terminated s) (terminated r) e in
+    let h = and_parts (terminated s) (terminated r) e in
     ap (λ c. if c then labels r else labels s) h.0 ∙ terminated_unlabelled r h.1
 terminated_unlabelled (rec s) e = terminated_unlabelled s e
 terminated_unlabelled (back k) e = refl

@@ -22,6 +22,6 @@ pub data Moves : Tree → Label → Tree → Type 0 where
   -- `S;R` as R moves, where no move of S is left
   second : {s r t : Tree} {a : Label} → terminated s ≡ true → Moves r a t → Moves (seq s r) a t
   -- `rec x. S` as its unfolding moves
-  unfolds : {s t : Tree} {a : Label} → Moves (unfolded (rec s)) a t → Moves (rec s) a t
+  unfolds : {s t : Tree} {a : Label} → Moves (unfolded s) a t → Moves (rec s) a t
   -- a signature's variable by itself to Skip
   variables : {k : ℕ} → Moves (var k) (Var k) skip

@@ -10,9 +10,18 @@ use Rattle.fst_types.specs.Substitution.{substituted}
 -- no move is left
 abbrev pub terminated : Tree → Bool
 terminated skip = true
+terminated (send b) = false
+terminated (receive b) = false
+terminated (select bs) = false
+terminated (offer bs) = false
 terminated (seq s r) = terminated s && terminated r
 terminated (rec s) = terminated s
-terminated _ = false
+terminated (back k) = false
+terminated (var k) = false
+terminated (plain b) = false
+terminated (arrow u s r) = false
+terminated (pair s r) = false
+terminated (named k) = false
 
 -- the branch that a label leads to
 abbrev pub branch_at : (List ℕ → Label) → Branches → Label → Option Tree
@@ -21,6 +30,7 @@ branch_at make (branch l s bs) a = if same_label a (make l) then Some s else bra
 
 -- the type after a label, where env has what the binders around the type stand for; a `rec` stands for itself in its body
 abbrev pub step_in : List (Option Tree) → Tree → Label → Option Tree
+step_in env skip a = None
 step_in env (send b) a = if same_label a (Send b) then Some skip else None
 step_in env (receive b) a = if same_label a (Receive b) then Some skip else None
 step_in env (select bs) a = option_map (substituted env) (branch_at Select bs a)
@@ -28,8 +38,12 @@ step_in env (offer bs) a = option_map (substituted env) (branch_at Offer bs a)
 step_in env (seq s r) a =
     if terminated s then step_in env r a else option_map (λ t. seq t (substituted env r)) (step_in env s a)
 step_in env (rec s) a = step_in (Some (substituted env (rec s)) ∷ env) s a
+step_in env (back k) a = None
 step_in env (var k) a = if same_label a (Var k) then Some skip else None
-step_in env _ a = None
+step_in env (plain b) a = None
+step_in env (arrow u s r) a = None
+step_in env (pair s r) a = None
+step_in env (named k) a = None
 
 -- the type after a label, if the type moves by it
 abbrev pub step : Tree → Label → Option Tree
@@ -42,11 +56,16 @@ choice_labels make (branch l s bs) = make l ∷ choice_labels make bs
 
 -- the labels by which a type moves, those of a choice in the order of its branches
 abbrev pub labels : Tree → List Label
+labels skip = []
 labels (send b) = Send b ∷ []
 labels (receive b) = Receive b ∷ []
 labels (select bs) = choice_labels Select bs
 labels (offer bs) = choice_labels Offer bs
 labels (seq s r) = if terminated s then labels r else labels s
 labels (rec s) = labels s
+labels (back k) = []
 labels (var k) = Var k ∷ []
-labels _ = []
+labels (plain b) = []
+labels (arrow u s r) = []
+labels (pair s r) = []
+labels (named k) = []

@@ -1,14 +1,14 @@
 ghost use Rattle.std.specs.Prelude.{suc, All, IfOk, IsTrue, ◌↔◌};
 ghost use Rattle.fst_types.specs.Tree.{Tree};
 ghost use Rattle.fst_lts.specs.Step.{step};
-ghost use Rattle.fst_lts.specs.Agree.{AgreeTo, BothOrNeither};
+ghost use Rattle.fst_base.specs.Agreement.{AgreeTo, BothOrNeither};
 
 use crate::moves::{labels, step};
 use fst_types::{Label, Ty};
 use std::alloc::{AllocError, Global};
 
 /// Whether two types agree to a depth, straight from the definition: for small types and depths, since it
-/// walks through every word up to that length.
+/// walks through every trace up to that length.
 #[cycle(agree)]
 pub fn agree_to(alloc: Global, s: &Ty, r: &Ty, depth: u32) -> Result<bool, AllocError>
     ensures { IfOk result (λ agrees. IsTrue agrees ↔ AgreeTo step step depth s.now r.now) }

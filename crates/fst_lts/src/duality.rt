@@ -40,7 +40,7 @@ pub fn dual(alloc: Global, t: &Ty) -> Result<Ty, AllocError>
 }
 
 #[cycle(dual)]
-#[tactic(auto, using(fst_types::proofs::Heights::height_at))]
+#[tactic(auto, using(fst_types::proofs::Laws::height_at))]
 fn dual_branches(alloc: Global, branches: &[Branch]) -> Result<Vec<Branch>, AllocError>
     ensures { IfOk result (λ d. d.items ≡ map dual_branch branches.now) }
 {

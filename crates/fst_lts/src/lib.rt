@@ -1,15 +1,12 @@
-//! How session types move: the labels by which a type moves, the type after a label and after a word, and the dual.
+//! How session types move: the labels by which a type moves, the type after a label and after a trace, and the dual.
 #![tactic(auto)]
 
 mod depth;
 mod duality;
-mod laws;
+mod law;
 mod moves;
 
 pub use depth::agree_to;
 pub use duality::{dual, dual_label};
-pub use laws::{agreement_law, depth_law, dual_law, moves_law, unfolding_law};
+pub use law::{agreement_law, depth_law, dual_law, moves_law, unfolding_law};
 pub use moves::{labels, residual, step, terminated};
-
-#[cfg(test)]
-mod tests;

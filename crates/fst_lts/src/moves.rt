@@ -1,14 +1,14 @@
 ghost use Rattle.std.specs.Prelude.{◌≡◌, ◌∷◌, [], List, IfOk, IfSome, IsSome, IsTrue, Contains, ◌↔◌, option_map, Some, None, if◌then◌else◌};
 ghost use Rattle.fst_types.specs.Tree as tree;
-ghost use Rattle.fst_types.specs.View.{branches_of};
-ghost use Rattle.fst_types.specs.Order.{IsOrdered};
+ghost use Rattle.fst_types.specs.ModelView.{branches_of};
+ghost use Rattle.fst_types.specs.Order.{IsOrdered, label_cmp};
 ghost use Rattle.fst_types.specs.declared.label.Label.{Label};
 ghost use Rattle.fst_types.specs.declared.kind.Kind.{Kind};
 ghost use Rattle.fst_kinds.specs.WellFormed.{IsSession};
 ghost use Rattle.fst_lts.specs.Step.{terminated, labels, choice_labels, step, step_in, branch_at};
-ghost use Rattle.fst_lts.specs.Agree.{residual};
-ghost use Rattle.fst_lts.specs.Rising.{IsRising};
-ghost use Rattle.fst_types.specs.Scopes.{env_of};
+ghost use Rattle.fst_base.specs.Agreement.{residual};
+ghost use Rattle.fst_base.specs.Order.{IsRising};
+ghost use Rattle.fst_types.specs.ModelScopes.{env_of};
 ghost use Rattle.fst_types.specs.Substitution.{substituted};
 
 use fst_types::{Branch, Label, Scope, Ty, TyForm, copy, substitute};
@@ -27,18 +27,27 @@ fn is_terminated(t: &Ty) -> bool
 {
     match &t.form {
         TyForm::Skip => true,
+        TyForm::Send(_) => false,
+        TyForm::Receive(_) => false,
+        TyForm::Select(_) => false,
+        TyForm::Offer(_) => false,
         TyForm::Seq(first, second) => is_terminated(first) && is_terminated(second),
         TyForm::Rec(body) => is_terminated(body),
-        _ => false,
+        TyForm::Back(_) => false,
+        TyForm::Var(_) => false,
+        TyForm::Plain(_) => false,
+        TyForm::Arrow(_, _, _) => false,
+        TyForm::Pair(_, _) => false,
+        TyForm::Named(_) => false,
     }
 }
 
 /// The labels by which a type moves, those of a choice in the order of its branches.
-#[tactic(auto, using(crate::proofs::LabelLaws::labels_are_moves, crate::proofs::OrderLaws::labels_rise))]
+#[tactic(auto, using(crate::proofs::MoveRules::of_labels))]
 pub fn labels(alloc: Global, t: &Ty) -> Result<Vec<Label>, AllocError>
     ensures items { IfOk result (λ found. found.items ≡ labels t.now) }
     ensures moves { IfOk result (λ found. (a : Label) → Contains found.items a ↔ IsSome (step t.now a)) }
-    ensures rising { IsOrdered t.now → IfOk result (λ found. IsRising found.items) }
+    ensures rising { IsOrdered t.now → IfOk result (λ found. IsRising label_cmp found.items) }
 {
     labels_within(alloc, t)
 }
@@ -47,6 +56,7 @@ fn labels_within(alloc: Global, t: &Ty) -> Result<Vec<Label>, AllocError>
     ensures { IfOk result (λ found. found.items ≡ labels t.now) }
 {
     match &t.form {
+        TyForm::Skip => Ok(Vec::new(alloc)),
         TyForm::Send(base) => one_label(alloc, Label::Send(*base)),
         TyForm::Receive(base) => one_label(alloc, Label::Receive(*base)),
         TyForm::Select(branches) => select_labels(alloc, branches),
@@ -59,8 +69,12 @@ fn labels_within(alloc: Global, t: &Ty) -> Result<Vec<Label>, AllocError>
             }
         }
         TyForm::Rec(body) => labels_within(alloc, body),
+        TyForm::Back(_) => Ok(Vec::new(alloc)),
         TyForm::Var(k) => one_label(alloc, Label::Var(*k)),
-        _ => Ok(Vec::new(alloc)),
+        TyForm::Plain(_) => Ok(Vec::new(alloc)),
+        TyForm::Arrow(_, _, _) => Ok(Vec::new(alloc)),
+        TyForm::Pair(_, _) => Ok(Vec::new(alloc)),
+        TyForm::Named(_) => Ok(Vec::new(alloc)),
     }
 }
 
@@ -93,7 +107,7 @@ fn offer_labels(alloc: Global, branches: &[Branch]) -> Result<Vec<Label>, AllocE
 }
 
 /// The type after a label, or none where the type doesn't move by it.
-#[tactic(auto, using(crate::proofs::OrderLaws::step_ordered, crate::proofs::ResidualLaws::step_session))]
+#[tactic(auto, using(crate::proofs::MoveRules::of_step))]
 pub fn step(alloc: Global, t: &Ty, a: &Label) -> Result<Option<Ty>, AllocError>
     ensures next { IfOk result (λ next. next ≡ step t.now a.now) }
     ensures ordered { IsOrdered t.now → IfOk result (λ next. IfSome next IsOrdered) }
@@ -111,6 +125,7 @@ fn step_within(
     ensures { IfOk result (λ next. next ≡ step_in (env_of scope.now) t.now a.now) }
 {
     match &t.form {
+        TyForm::Skip => Ok(None),
         TyForm::Send(base) => Ok(skip_if(a.same(&Label::Send(*base)))),
         TyForm::Receive(base) => Ok(skip_if(a.same(&Label::Receive(*base)))),
         TyForm::Select(branches) => select_branch(alloc, scope, branches, a),
@@ -134,8 +149,12 @@ fn step_within(
             let whole = substitute(alloc, scope, t)?;
             step_within(alloc, &Scope::Under(&whole, scope), body, a)
         }
+        TyForm::Back(_) => Ok(None),
         TyForm::Var(k) => Ok(skip_if(a.same(&Label::Var(*k)))),
-        _ => Ok(None),
+        TyForm::Plain(_) => Ok(None),
+        TyForm::Arrow(_, _, _) => Ok(None),
+        TyForm::Pair(_, _) => Ok(None),
+        TyForm::Named(_) => Ok(None),
     }
 }
 
@@ -181,21 +200,21 @@ fn offer_branch(
     Ok(None)
 }
 
-/// What is left of a type after a word, or none where the type doesn't perform the word.
-#[tactic(auto, using(crate::proofs::OrderLaws::residual_ordered, crate::proofs::ResidualLaws::residual_session))]
-pub fn residual(alloc: Global, t: &Ty, w: &[Label]) -> Result<Option<Ty>, AllocError>
-    ensures residual { IfOk result (λ left. left ≡ residual step t.now w.now) }
+/// What is left of a type after a trace, or none where the type doesn't perform the trace.
+#[tactic(auto, using(crate::proofs::MoveRules::of_residual))]
+pub fn residual(alloc: Global, t: &Ty, trace: &[Label]) -> Result<Option<Ty>, AllocError>
+    ensures residual { IfOk result (λ left. left ≡ residual step t.now trace.now) }
     ensures ordered { IsOrdered t.now → IfOk result (λ left. IfSome left IsOrdered) }
     ensures well_formed { (vars : List Kind) → IsSession vars t.now → IfOk result (λ left. IfSome left (IsSession vars)) }
 {
-    residual_within(alloc, t, w)
+    residual_within(alloc, t, trace)
 }
 
-fn residual_within(alloc: Global, t: &Ty, w: &[Label]) -> Result<Option<Ty>, AllocError>
-    ensures { IfOk result (λ left. left ≡ residual step t.now w.now) }
+fn residual_within(alloc: Global, t: &Ty, trace: &[Label]) -> Result<Option<Ty>, AllocError>
+    ensures { IfOk result (λ left. left ≡ residual step t.now trace.now) }
 {
     let mut left = copy(alloc, t)?;
-    for a in w {
+    for a in trace {
         match step(alloc, &left, a)? {
             Some(next) => left = next,
             None => return Ok(None),

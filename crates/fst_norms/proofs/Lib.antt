@@ -1,2 +1,3 @@
 pub mod NormLaws
 pub mod PruneLaws
+pub mod Laws

@@ -1,7 +1,8 @@
 -- Upper bounds of norms, which the rules lower until they are the norms.
-use Rattle.std.specs.Prelude.{◌≡◌, ℕ, ◌+◌, ◌^◌, ◌≤◌, ◌&&◌, List, [], ◌∷◌, length, Option, Some, None, slice_index_or, Bool, true, is_some, min, unwrap_or, if◌then◌else◌}
+use Rattle.std.specs.Prelude.{◌≡◌, ℕ, ◌+◌, ◌≤◌, ◌&&◌, List, [], ◌∷◌, length, Option, Some, None, slice_index_or, Bool, true, is_some, min, unwrap_or, if◌then◌else◌}
+use Rattle.fst_base.specs.Limits.{greatest_norm}
 use Rattle.fst_words.specs.declared.rules.Rule.{Rule}
-use Rattle.fst_words.specs.Words.{Rows, row_of}
+use Rattle.fst_words.specs.Words.{Productions, row_of}
 use Rattle.fst_norms.specs.Norms.{Empties}
 
 -- the bound of a non-terminal
@@ -20,12 +21,12 @@ total bounds (n ∷ w) = unwrap_or (bound_at bounds n) 0 + total bounds w
 
 -- the bound of a word
 abbrev pub word_bound : List (Option ℕ) → List ℕ → Option ℕ
-word_bound bounds w = if all_bounded bounds w then Some (min (total bounds w) (2 ^ 63)) else None
+word_bound bounds w = if all_bounded bounds w then Some (min (total bounds w) greatest_norm) else None
 
 -- one letter more than a bound
 abbrev pub one_more : Option ℕ → Option ℕ
 one_more None = None
-one_more (Some k) = Some (min (k + 1) (2 ^ 63))
+one_more (Some k) = Some (min (k + 1) greatest_norm)
 
 -- the bound by a rule
 abbrev pub rule_bound : List (Option ℕ) → Rule → Option ℕ
@@ -33,8 +34,8 @@ rule_bound bounds r = one_more (word_bound bounds r.word)
 
 -- a bound as a number, where none stands above all
 abbrev pub weight : Option ℕ → ℕ
-weight None = 2 ^ 63 + 1
-weight (Some k) = min k (2 ^ 63)
+weight None = greatest_norm + 1
+weight (Some k) = min k greatest_norm
 
 -- the lesser of two bounds
 abbrev pub lesser : Option ℕ → Option ℕ → Option ℕ
@@ -47,10 +48,10 @@ abbrev pub best_bound : List (Option ℕ) → List Rule → Option ℕ
 best_bound bounds [] = None
 best_bound bounds (r ∷ rules) = lesser (rule_bound bounds r) (best_bound bounds rules)
 
--- each bound is the length of a sequence to the empty word, or 2^63 where that is longer
-abbrev pub IsSound : Rows → List (Option ℕ) → Type 0
-IsSound rows bounds = (n k : ℕ) → bound_at bounds n ≡ Some k → (s : List ℕ) × Empties rows (n ∷ []) s × (k ≡ min (length s) (2 ^ 63))
+-- each bound is the length of a trace to the empty word, or 2^63 where that is longer
+abbrev pub IsSound : Productions → List (Option ℕ) → Type 0
+IsSound rows bounds = (n k : ℕ) → bound_at bounds n ≡ Some k → (s : List ℕ) × Empties rows (n ∷ []) s × (k ≡ min (length s) greatest_norm)
 
 -- no rule gives the non-terminal a lesser bound
-abbrev pub IsSettledAt : Rows → List (Option ℕ) → ℕ → Type 0
+abbrev pub IsSettledAt : Productions → List (Option ℕ) → ℕ → Type 0
 IsSettledAt rows bounds n = weight (bound_at bounds n) ≤ weight (best_bound bounds (row_of rows n))

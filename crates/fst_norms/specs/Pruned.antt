@@ -1,6 +1,6 @@
 -- Unnormed non-terminals, and words cut behind the first of them (Almeida, Mordido, Vasconcelos, TACAS 2020).
 use Rattle.std.specs.Prelude.{◌≡◌, ℕ, ◌<◌, ◌||◌, List, [], ◌∷◌, length, Some, slice_index_or, Bool, true, false, if◌then◌else◌}
-use Rattle.fst_words.specs.Words.{Rows, row_of, rule_of}
+use Rattle.fst_words.specs.Words.{Productions, row_of, rule_of}
 
 -- the non-terminal is marked
 abbrev pub is_marked : List Bool → ℕ → Bool
@@ -12,16 +12,20 @@ has_marked marks [] = false
 has_marked marks (n ∷ w) = is_marked marks n || has_marked marks w
 
 -- every rule of every marked non-terminal contains a marked one
-abbrev pub IsUnnormedSet : Rows → List Bool → Type 0
+abbrev pub IsUnnormedSet : Productions → List Bool → Type 0
 IsUnnormedSet rows marks = (n a : ℕ) (v : List ℕ) → is_marked marks n ≡ true → rule_of (row_of rows n) a ≡ Some v → has_marked marks v ≡ true
 
 -- the marks are those of the largest unnormed set, one for each non-terminal
-pub record AreUnnormed (rows : Rows) (marks : List Bool) : Type 0 where
+pub record AreUnnormed (rows : Productions) (marks : List Bool) : Type 0 where
   pub count : length marks ≡ length rows
   pub set : IsUnnormedSet rows marks
   pub largest : (other : List Bool) (n : ℕ) → IsUnnormedSet rows other → is_marked other n ≡ true → n < length rows → is_marked marks n ≡ true
 
 -- the word up to its first marked non-terminal
-abbrev pub pruned : List Bool → List ℕ → List ℕ
-pruned marks [] = []
-pruned marks (n ∷ w) = n ∷ (if is_marked marks n then [] else pruned marks w)
+abbrev pub pruned_word : List Bool → List ℕ → List ℕ
+pruned_word marks [] = []
+pruned_word marks (n ∷ w) = n ∷ (if is_marked marks n then [] else pruned_word marks w)
+
+-- nothing stands behind the word's first marked non-terminal
+abbrev pub IsPruned : List Bool → List ℕ → Type 0
+IsPruned marks w = pruned_word marks w ≡ w

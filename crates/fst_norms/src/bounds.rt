@@ -3,10 +3,8 @@ ghost use Rattle.std.specs.Prelude.{◌≡◌, All, length};
 ghost use Rattle.fst_words.specs.Words.{WordBelow};
 ghost use Rattle.fst_norms.specs.Bounds.{word_bound, rule_bound, best_bound, lesser, weight};
 
+use fst_base::GREATEST_NORM;
 use fst_words::Rule;
-
-// What a norm that is greater is given as.
-const GREATEST: u64 = 1 << 63;
 
 fn word_bound(bounds: &[Option<u64>], word: &[u32]) -> Option<u64>
     requires { WordBelow (length bounds.now) word.now }
@@ -17,7 +15,7 @@ fn word_bound(bounds: &[Option<u64>], word: &[u32]) -> Option<u64>
         let Some(bound) = bounds[*n as usize] else {
             return None;
         };
-        total = total.saturating_add(bound).min(GREATEST);
+        total = total.saturating_add(bound).min(GREATEST_NORM);
     }
     Some(total)
 }
@@ -26,7 +24,7 @@ pub(crate) fn rule_bound(bounds: &[Option<u64>], rule: &Rule) -> Option<u64>
     requires { WordBelow (length bounds.now) rule.now.word }
     ensures { result ≡ rule_bound bounds.now rule.now }
 {
-    word_bound(bounds, rule.word.as_slice()).map(|bound| bound.saturating_add(1).min(GREATEST))
+    word_bound(bounds, rule.word.as_slice()).map(|bound| bound.saturating_add(1).min(GREATEST_NORM))
 }
 
 // A bound as a number, where none stands above all.
@@ -34,8 +32,8 @@ pub(crate) fn weight(bound: Option<u64>) -> u64
     ensures { result ≡ weight bound }
 {
     match bound {
-        None => GREATEST + 1,
-        Some(k) => k.min(GREATEST),
+        None => GREATEST_NORM + 1,
+        Some(k) => k.min(GREATEST_NORM),
     }
 }
 

@@ -1,7 +1,7 @@
 // A first estimate of the norms: the rules in the order of the bounds that they give, the least first, each rule
 // once all non-terminals of its word have a bound (Knuth, A generalization of Dijkstra's algorithm, 1977).
 ghost use Rattle.std.specs.Prelude.{◌≡◌, ◌<◌, ℕ, IfOk, IfSome, OnOk, All, length, []};
-ghost use Rattle.fst_words.specs.Words.{Rows, row_of, InRange, WordBelow};
+ghost use Rattle.fst_words.specs.Words.{Productions, row_of, InRange, WordBelow};
 ghost use Rattle.fst_norms.specs.Bounds.{IsSound};
 ghost use Rattle.fst_norms.specs.Pending.{IsPending, IsEstimate};
 
@@ -27,7 +27,7 @@ pub(crate) struct Estimate {
 }
 
 fn add_pending(pending: &mut Vec<Pending>, number: usize, rules: &[Rule]) -> Result<(), AllocError>
-    ensures { (rows : Rows) → number < length rows → row_of rows number ≡ rules.now → All (IsPending rows) pending.old.items → OnOk result (All (IsPending rows) pending.new.items) }
+    ensures { (rows : Productions) → number < length rows → row_of rows number ≡ rules.now → All (IsPending rows) pending.old.items → OnOk result (All (IsPending rows) pending.new.items) }
 {
     for (rule, r) in rules.iter().enumerate() {
         let open = r.word.as_slice().len();
@@ -156,7 +156,7 @@ fn take_least(g: &Grammar, e: &mut Estimate) -> Option<(u64, usize)>
     }
 }
 
-// Bounds of the norms that come from sequences; that they are the norms is left to the rounds that follow.
+// Bounds of the norms that come from traces; that they are the norms is left to the rounds that follow.
 pub(crate) fn first_bounds(alloc: Global, g: &Grammar) -> Result<Vec<Option<u64>>, AllocError>
     requires { InRange g.now.rules.items }
     ensures len { IfOk result (λ bounds. length bounds.items ≡ length g.now.rules.items) }

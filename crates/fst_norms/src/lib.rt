@@ -8,6 +8,3 @@ mod rounds;
 
 pub use pruning::{prune, unnormed};
 pub use rounds::norms;
-
-#[cfg(test)]
-mod tests;

@@ -1,8 +1,8 @@
 ghost use Rattle.std.specs.Prelude.{◌≡◌, ◌<◌, ℕ, IfOk, length, take, map, is_none, true, false};
-ghost use Rattle.fst_words.specs.Words.{Rows, step, InRange, WordBelow};
-ghost use Rattle.fst_lts.specs.Agree.{PerformSame};
+ghost use Rattle.fst_words.specs.Words.{Productions, step, InRange, WordBelow};
+ghost use Rattle.fst_base.specs.Agreement.{HaveSameTraces};
 ghost use Rattle.fst_norms.specs.Norms.{HasNoNorm, HasNorm};
-ghost use Rattle.fst_norms.specs.Pruned.{pruned, is_marked, AreUnnormed, IsUnnormedSet};
+ghost use Rattle.fst_norms.specs.Pruned.{pruned_word, is_marked, AreUnnormed, IsPruned, IsUnnormedSet};
 
 use crate::rounds::norms;
 use fst_words::{Grammar, Word};
@@ -10,7 +10,7 @@ use std::alloc::{AllocError, Global};
 
 fn pruned_len(word: &[u32], unnormed: &[bool]) -> usize
     requires { WordBelow (length unnormed.now) word.now }
-    ensures { take result word.now ≡ pruned unnormed.now word.now }
+    ensures { take result word.now ≡ pruned_word unnormed.now word.now }
 {
     for (i, n) in word.iter().enumerate() {
         if unnormed[*n as usize] {
@@ -23,8 +23,10 @@ fn pruned_len(word: &[u32], unnormed: &[bool]) -> usize
 /// Cuts all that stands behind the word's first unnormed non-terminal, since no letter leads there.
 pub fn prune(w: &mut Word, unnormed: &[bool])
     requires { WordBelow (length unnormed.now) w.old }
-    ensures cut { w.new ≡ pruned unnormed.now w.old }
-    ensures same { (rows : Rows) → IsUnnormedSet rows unnormed.now → PerformSame (step rows) (step rows) w.new w.old }
+    ensures cut { w.new ≡ pruned_word unnormed.now w.old }
+    ensures pruned { IsPruned unnormed.now w.new }
+    ensures range { (n : ℕ) → WordBelow n w.old → WordBelow n w.new }
+    ensures same { (rows : Productions) → IsUnnormedSet rows unnormed.now → HaveSameTraces (step rows) (step rows) w.new w.old }
 {
     let len = pruned_len(w.as_slice(), unnormed);
     w.truncate(len);
@@ -37,7 +39,7 @@ fn without_norm(alloc: Global, norms: &[Option<u64>]) -> Result<Vec<bool>, Alloc
 }
 
 /// Marks the unnormed non-terminals: the largest set of which every rule of every member contains a member,
-/// which are those that no sequence of letters takes to the empty word.
+/// which are those that no trace of letters takes to the empty word.
 pub fn unnormed(alloc: Global, g: &Grammar) -> Result<Vec<bool>, AllocError>
     requires { InRange g.now.rules.items }
     ensures unnormed { IfOk result (λ marks. AreUnnormed g.now.rules.items marks.items) }

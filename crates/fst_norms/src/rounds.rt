@@ -30,8 +30,8 @@ fn improve(g: &Grammar, bounds: &mut Vec<Option<u64>>) -> bool
     changed
 }
 
-/// The norm of each non-terminal, the length of a shortest sequence of letters that takes it to the empty word,
-/// or none where no sequence does. A norm above 2^63 is given as 2^63.
+/// The norm of each non-terminal, the length of a shortest trace of letters that takes it to the empty word,
+/// or none where no trace does. A norm above 2^63 is given as 2^63.
 pub fn norms(alloc: Global, g: &Grammar) -> Result<Vec<Option<u64>>, AllocError>
     requires { InRange g.now.rules.items }
     ensures len { IfOk result (λ norms. length norms.items ≡ length g.now.rules.items) }

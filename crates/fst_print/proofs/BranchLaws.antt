@@ -2,7 +2,8 @@
 use Rattle.std.proofs.Common.{ℕ, zero, suc, ◌<◌, List, [], ◌∷◌, length, get_or, arith}
 use Rattle.fst_types.specs.declared.ty.Branch.{Branch}
 use Rattle.fst_types.specs.Scoped.{IsScoped, AllScoped}
-use Rattle.fst_types.specs.View.{branches_of}
+use Rattle.fst_types.specs.ModelView.{branches_of}
+use Rattle.fst_types.proofs.Laws.{height_at}
 use Rattle.fst_print.specs.Named.{IsNamedWithin, AllNamedWithin}
 
 -- each branch has its recursion variables bound
@@ -16,3 +17,6 @@ pub named_at : (n : ℕ) (bs : List Branch) (i : ℕ) (d : Branch) → AllNamedW
 named_at n [] i d all h = absurd (omega arith)
 named_at n (b ∷ bs) zero d all h = all.0
 named_at n (b ∷ bs) (suc i) d all h = named_at n bs i d all.1 (omega arith)
+
+-- what is known of one branch of a choice
+pub ruleset each_branch = (height_at, scoped_at, named_at)

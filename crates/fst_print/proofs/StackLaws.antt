@@ -14,6 +14,9 @@ pub weight_after_push : (ps : List Piece) (p : Piece) → pieces_weight (ps ++ (
 weight_after_push [] p = omega arith
 weight_after_push (q ∷ ps) p = omega (arith, weight_after_push ps p)
 
+-- what a stack with one more piece comes to
+pub ruleset after_push = (text_after_push, weight_after_push)
+
 -- what is left of its text behind the piece that is taken
 pub text_popped : (old new : List Piece) (n m : ℕ) (r : Option Piece) → n ≡ length old → old ≡ new ++ option_to_list r → MatchOption r ((n ≡ 0) × (m ≡ 0)) (λ _. m + 1 ≡ n) → MatchOption r (pieces_text old ≡ []) (λ p. pieces_text old ≡ piece_text p ++ pieces_text new)
 text_popped [] new n m None long is cases = refl

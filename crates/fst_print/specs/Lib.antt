@@ -1,7 +1,6 @@
 pub mod Named
 pub mod Texts
-pub mod ReadBack
+pub mod Ranks
 pub mod ModuleTexts
 pub mod Stack
-pub mod Showable
-pub mod ReadAgain
+pub mod Adds

@@ -1,5 +1,5 @@
 -- How modules, and the terms and types in them, are written.
-use Rattle.std.specs.Prelude.{ℕ, ◌==◌, nat_lt, List, [], ◌∷◌, ◌++◌, Bool, true, false, codes, map, encode_utf8, if◌then◌else◌}
+use Rattle.std.specs.Prelude.{ℕ, ◌==◌, List, [], ◌∷◌, ◌++◌, Bool, true, false, codes, map, encode_utf8, if◌then◌else◌}
 use Rattle.std.specs.Fmt.{signed_decimal}
 use Rattle.std.specs.List.{flat_map}
 use Rattle.std.specs.Str.{byte}
@@ -11,19 +11,36 @@ use Rattle.fst_terms.specs.declared.term.Op.{Op}
 use Rattle.fst_terms.specs.declared.term.Op.TheVariants.{Add, Subtract, Multiply, Equal, Unequal, Less, AtMost, Greater, AtLeast, And, Or}
 use Rattle.fst_terms.specs.TermTree.{TermTree, named, int, bool, char, unit, pair, make, lambda, apply, let_in, split, if_else, case_of, operate, negate, new, send, receive, select, match_with, fork, seq, TermList, no_terms, term, TermArms, no_arms, arm}
 use Rattle.fst_terms.specs.ModuleTree.{Maker, Declared, family, alias, signature, equation}
+use Rattle.fst_print.specs.Ranks.{or_rank, negation_rank, atom_rank, left_rank, right_rank, is_below, is_no_head}
 use Rattle.fst_print.specs.Texts.{base_text, send_text, receive_text, arrow_text, kind_text, in_parens, in_parens_if, in_braces, joined_text}
 
 -- the type is a sequence, a rec or a function: no atomic one
 abbrev pub is_compound : WrittenTree → Bool
+is_compound (written.skip at) = false
+is_compound (written.send at b) = false
+is_compound (written.receive at b) = false
+is_compound (written.select at bs) = false
+is_compound (written.offer at bs) = false
 is_compound (written.seq at s t) = true
 is_compound (written.rec at x t) = true
+is_compound (written.named at x) = false
+is_compound (written.plain at b) = false
 is_compound (written.arrow at u s t) = true
-is_compound _ = false
+is_compound (written.pair at s t) = false
 
 -- the type is a function
 abbrev pub is_arrow : WrittenTree → Bool
+is_arrow (written.skip at) = false
+is_arrow (written.send at b) = false
+is_arrow (written.receive at b) = false
+is_arrow (written.select at bs) = false
+is_arrow (written.offer at bs) = false
+is_arrow (written.seq at s t) = false
+is_arrow (written.rec at x t) = false
+is_arrow (written.named at x) = false
+is_arrow (written.plain at b) = false
 is_arrow (written.arrow at u s t) = true
-is_arrow _ = false
+is_arrow (written.pair at s t) = false
 
 abbrev mutual
   -- a type
@@ -67,71 +84,6 @@ op_text AtLeast = codes ">="
 op_text And = codes "&&"
 op_text Or = codes "||"
 
--- The forms of terms in the order in which the grammar nests them: 0 for a whole term, then a chain of `||`, of `&&`, a
--- comparison, a chain of `+` and `-`, of `*`, then `not`, an application, and 8 for an atom.
-abbrev pub op_rank : Op → ℕ
-op_rank Or = 1
-op_rank And = 2
-op_rank Add = 4
-op_rank Subtract = 4
-op_rank Multiply = 5
-op_rank _ = 3
-
--- a constructor with arguments is an application, and one without is an atom
-abbrev pub make_rank : TermList → ℕ
-make_rank no_terms = 8
-make_rank (term t ts) = 7
-
-abbrev pub rank : TermTree → ℕ
-rank (named at x types) = 8
-rank (int at n) = 8
-rank (bool at b) = 8
-rank (char at c) = 8
-rank (unit at) = 8
-rank (pair at s t) = 8
-rank (make at x ts) = make_rank ts
-rank (lambda at u a x t) = 0
-rank (apply at s t) = 7
-rank (let_in at x s t) = 0
-rank (split at x y s t) = 0
-rank (if_else at s t u) = 0
-rank (case_of at t bs) = 0
-rank (operate at o s t) = op_rank o
-rank (negate at t) = 6
-rank (new at a) = 7
-rank (send at s t) = 7
-rank (receive at t) = 7
-rank (select at l t) = 7
-rank (match_with at t bs) = 0
-rank (fork at t) = 7
-rank (seq at s t) = 0
-
--- which forms the grammar takes on the left of a sign: a chain goes on with itself, a comparison doesn't
-abbrev pub left_rank : Op → ℕ
-left_rank Or = 1
-left_rank And = 2
-left_rank Multiply = 5
-left_rank _ = 4
-
--- and on its right
-abbrev pub right_rank : Op → ℕ
-right_rank Or = 2
-right_rank And = 3
-right_rank Add = 5
-right_rank Subtract = 5
-right_rank Multiply = 6
-right_rank _ = 4
-
--- a term stands in parentheses where the grammar takes only such forms
-abbrev pub is_below : ℕ → TermTree → Bool
-is_below n t = nat_lt (rank t) n
-
--- the term stands in parentheses where it is applied: it is no application and no atom, or a constructor
-abbrev pub is_no_head : TermTree → Bool
-is_no_head (apply at s t) = false
-is_no_head (make at x ts) = true
-is_no_head t = is_below 8 t
-
 -- a truth value
 abbrev pub truth_text : Bool → List ℕ
 truth_text true = codes "True"
@@ -165,26 +117,26 @@ abbrev mutual
   term_text (pair at s t) = in_parens (term_text s ++ codes ", " ++ term_text t)
   term_text (make at x ts) = x ++ arguments_text ts
   term_text (lambda at u a x t) = codes "\\" ++ x.name ++ codes ":" ++ seq_text a ++ arrow_text u ++ term_text t
-  term_text (apply at s t) = in_parens_if (is_no_head s) (term_text s) ++ codes " " ++ in_parens_if (is_below 8 t) (term_text t)
+  term_text (apply at s t) = in_parens_if (is_no_head s) (term_text s) ++ codes " " ++ in_parens_if (is_below atom_rank t) (term_text t)
   term_text (let_in at x s t) = codes "let " ++ x.name ++ codes " = " ++ term_text s ++ codes " in " ++ term_text t
   term_text (split at x y s t) = codes "let (" ++ x.name ++ codes ", " ++ y.name ++ codes ") = " ++ term_text s ++ codes " in " ++ term_text t
   term_text (if_else at s t u) = codes "if " ++ term_text s ++ codes " then " ++ term_text t ++ codes " else " ++ term_text u
   term_text (case_of at t bs) = codes "case " ++ term_text t ++ codes " of " ++ in_braces (joined_text (codes ", ") (arm_texts bs))
   term_text (operate at o s t) =
       in_parens_if (is_below (left_rank o) s) (term_text s) ++ codes " " ++ op_text o ++ codes " " ++ in_parens_if (is_below (right_rank o) t) (term_text t)
-  term_text (negate at t) = codes "not " ++ in_parens_if (is_below 6 t) (term_text t)
+  term_text (negate at t) = codes "not " ++ in_parens_if (is_below negation_rank t) (term_text t)
   term_text (new at a) = codes "new " ++ atom_text a
-  term_text (send at s t) = codes "send " ++ in_parens_if (is_below 8 s) (term_text s) ++ codes " " ++ in_parens_if (is_below 8 t) (term_text t)
-  term_text (receive at t) = codes "receive " ++ in_parens_if (is_below 8 t) (term_text t)
-  term_text (select at l t) = codes "select " ++ l ++ codes " " ++ in_parens_if (is_below 8 t) (term_text t)
+  term_text (send at s t) = codes "send " ++ in_parens_if (is_below atom_rank s) (term_text s) ++ codes " " ++ in_parens_if (is_below atom_rank t) (term_text t)
+  term_text (receive at t) = codes "receive " ++ in_parens_if (is_below atom_rank t) (term_text t)
+  term_text (select at l t) = codes "select " ++ l ++ codes " " ++ in_parens_if (is_below atom_rank t) (term_text t)
   term_text (match_with at t bs) = codes "match " ++ term_text t ++ codes " with " ++ in_braces (joined_text (codes ", ") (arm_texts bs))
-  term_text (fork at t) = codes "fork " ++ in_parens_if (is_below 8 t) (term_text t)
-  term_text (seq at s t) = in_parens_if (is_below 1 s) (term_text s) ++ codes "; " ++ term_text t
+  term_text (fork at t) = codes "fork " ++ in_parens_if (is_below atom_rank t) (term_text t)
+  term_text (seq at s t) = in_parens_if (is_below or_rank s) (term_text s) ++ codes "; " ++ term_text t
 
   -- the arguments of a constructor, with a space before each
   pub arguments_text : TermList → List ℕ
   arguments_text no_terms = []
-  arguments_text (term t ts) = codes " " ++ in_parens_if (is_below 8 t) (term_text t) ++ arguments_text ts
+  arguments_text (term t ts) = codes " " ++ in_parens_if (is_below atom_rank t) (term_text t) ++ arguments_text ts
 
   -- the arms of a case or a match: a constructor or a label, the variables that it binds, and what follows
   pub arm_texts : TermArms → List (List ℕ)

@@ -65,14 +65,35 @@ in_parens_if false text = text
 
 -- on the left of a semicolon, a sequence and a rec stand in parentheses
 abbrev pub in_parens_before_semicolon : Tree → Bool
+in_parens_before_semicolon skip = false
+in_parens_before_semicolon (send b) = false
+in_parens_before_semicolon (receive b) = false
+in_parens_before_semicolon (select bs) = false
+in_parens_before_semicolon (offer bs) = false
 in_parens_before_semicolon (seq s r) = true
 in_parens_before_semicolon (rec s) = true
-in_parens_before_semicolon _ = false
+in_parens_before_semicolon (back k) = false
+in_parens_before_semicolon (var k) = false
+in_parens_before_semicolon (plain b) = false
+in_parens_before_semicolon (arrow u s r) = false
+in_parens_before_semicolon (pair s r) = false
+in_parens_before_semicolon (named k) = false
 
 -- on the left of an arrow, an arrow stands in parentheses
 abbrev pub in_parens_before_arrow : Tree → Bool
+in_parens_before_arrow skip = false
+in_parens_before_arrow (send b) = false
+in_parens_before_arrow (receive b) = false
+in_parens_before_arrow (select bs) = false
+in_parens_before_arrow (offer bs) = false
+in_parens_before_arrow (seq s r) = false
+in_parens_before_arrow (rec s) = false
+in_parens_before_arrow (back k) = false
+in_parens_before_arrow (var k) = false
+in_parens_before_arrow (plain b) = false
 in_parens_before_arrow (arrow u s r) = true
-in_parens_before_arrow _ = false
+in_parens_before_arrow (pair s r) = false
+in_parens_before_arrow (named k) = false
 
 -- a function that is used at will, and one that is used once
 abbrev pub arrow_text : Use → List ℕ

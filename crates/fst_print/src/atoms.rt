@@ -1,8 +1,8 @@
 //! The texts of terms that have no term in them.
 
-ghost use Rattle.std.specs.Prelude.{◌≡◌, ◌++◌, OnOk, codes};
-ghost use Rattle.std.specs.String.{string_bytes};
+ghost use Rattle.std.specs.Prelude.{◌≡◌, ◌++◌, codes};
 ghost use Rattle.fst_terms.specs.TermTree as tree;
+ghost use Rattle.fst_print.specs.Adds.{Adds};
 ghost use Rattle.fst_print.specs.ModuleTexts.{applied_text, character_text, names_text, term_text, truth_text};
 
 use crate::pieces::name_text;
@@ -18,7 +18,7 @@ pub(crate) fn truth_text(b: bool) -> &'static str
 }
 
 fn push_character(text: &mut String, c: char) -> Result<(), AllocError>
-    ensures { OnOk result (string_bytes text.new ≡ string_bytes text.old ++ character_text c) }
+    ensures { Adds result text.old text.new (character_text c) }
 {
     match c {
         '\n' => text.push_str("\\n"),
@@ -30,7 +30,7 @@ fn push_character(text: &mut String, c: char) -> Result<(), AllocError>
 }
 
 pub(crate) fn push_quoted(text: &mut String, c: char) -> Result<(), AllocError>
-    ensures { OnOk result (string_bytes text.new ≡ string_bytes text.old ++ codes "'" ++ character_text c ++ codes "'") }
+    ensures { Adds result text.old text.new (codes "'" ++ character_text c ++ codes "'") }
 {
     text.push_str("'")?;
     push_character(text, c)?;
@@ -39,7 +39,7 @@ pub(crate) fn push_quoted(text: &mut String, c: char) -> Result<(), AllocError>
 
 /// Names with a space before each.
 pub(crate) fn push_names(text: &mut String, names: &[Binder]) -> Result<(), AllocError>
-    ensures { OnOk result (string_bytes text.new ≡ string_bytes text.old ++ names_text names.now) }
+    ensures { Adds result text.old text.new (names_text names.now) }
 {
     for binder in names {
         text.push_str(" ")?;
@@ -49,7 +49,7 @@ pub(crate) fn push_names(text: &mut String, names: &[Binder]) -> Result<(), Allo
 }
 
 fn push_applied(text: &mut String, types: &[Written]) -> Result<(), AllocError>
-    ensures { OnOk result (string_bytes text.new ≡ string_bytes text.old ++ applied_text types.now) }
+    ensures { Adds result text.old text.new (applied_text types.now) }
 {
     for t in types {
         text.push_str(" @")?;
@@ -63,14 +63,14 @@ pub(crate) fn push_named(
     name: &Name,
     types: &[Written],
 ) -> Result<(), AllocError>
-    ensures { OnOk result (string_bytes text.new ≡ string_bytes text.old ++ (name.now ++ applied_text types.now)) }
+    ensures { Adds result text.old text.new (name.now ++ applied_text types.now) }
 {
     text.push_str(name_text(name))?;
     push_applied(text, types)
 }
 
 pub(crate) fn push_new(text: &mut String, t: &Written) -> Result<(), AllocError>
-    ensures { OnOk result (string_bytes text.new ≡ string_bytes text.old ++ term_text (tree.new 0 t.now)) }
+    ensures { Adds result text.old text.new (term_text (tree.new 0 t.now)) }
 {
     text.push_str("new ")?;
     push_atom(text, t)

@@ -1,11 +1,10 @@
 //! Terms by the form at their top: how each begins is written, and its parts go on the stack.
 
-ghost use Rattle.std.specs.Prelude.{◌≡◌, ◌<◌, ◌+◌, ◌++◌, OnOk};
-ghost use Rattle.std.specs.String.{string_bytes};
 ghost use Rattle.fst_terms.specs.TermTree as tree;
-ghost use Rattle.fst_terms.specs.TermView.{arms_of, terms_of};
+ghost use Rattle.fst_terms.specs.ModelView.{arms_of, terms_of};
+ghost use Rattle.fst_print.specs.Adds.{Lightens, Stacks, Unfolds};
 ghost use Rattle.fst_print.specs.ModuleTexts.{term_text};
-ghost use Rattle.fst_print.specs.Stack.{pieces_text, pieces_weight, term_weight};
+ghost use Rattle.fst_print.specs.Stack.{term_weight};
 
 use crate::pieces::name_text;
 use crate::ranks::{
@@ -24,8 +23,8 @@ pub(crate) fn unfold_pair<'a>(
     first: &'a SourceTerm,
     second: &'a SourceTerm,
 ) -> Result<(), AllocError>
-    ensures same { OnOk result (string_bytes text.new ++ pieces_text stack.new.items ≡ string_bytes text.old ++ (term_text (tree.pair 0 first.now second.now) ++ pieces_text stack.old.items)) }
-    ensures less { OnOk result (pieces_weight stack.new.items < term_weight (tree.pair 0 first.now second.now) + pieces_weight stack.old.items) }
+    ensures same { Unfolds result text.old text.new stack.old stack.new (term_text (tree.pair 0 first.now second.now)) }
+    ensures less { Lightens result stack.old stack.new (term_weight (tree.pair 0 first.now second.now)) }
 {
     text.push_str("(")?;
     push_text(stack, ")")?;
@@ -40,8 +39,8 @@ pub(crate) fn unfold_make<'a>(
     name: &Name,
     arguments: &'a [SourceTerm],
 ) -> Result<(), AllocError>
-    ensures same { OnOk result (string_bytes text.new ++ pieces_text stack.new.items ≡ string_bytes text.old ++ (term_text (tree.make 0 name.now (terms_of arguments.now)) ++ pieces_text stack.old.items)) }
-    ensures less { OnOk result (pieces_weight stack.new.items < term_weight (tree.make 0 name.now (terms_of arguments.now)) + pieces_weight stack.old.items) }
+    ensures same { Unfolds result text.old text.new stack.old stack.new (term_text (tree.make 0 name.now (terms_of arguments.now))) }
+    ensures less { Lightens result stack.old stack.new (term_weight (tree.make 0 name.now (terms_of arguments.now))) }
 {
     text.push_str(name_text(name))?;
     push(stack, Piece::Arguments(arguments))
@@ -55,8 +54,8 @@ pub(crate) fn unfold_lambda<'a>(
     binder: &Binder,
     body: &'a SourceTerm,
 ) -> Result<(), AllocError>
-    ensures same { OnOk result (string_bytes text.new ++ pieces_text stack.new.items ≡ string_bytes text.old ++ (term_text (tree.lambda 0 uses from.now binder.now body.now) ++ pieces_text stack.old.items)) }
-    ensures less { OnOk result (pieces_weight stack.new.items < term_weight (tree.lambda 0 uses from.now binder.now body.now) + pieces_weight stack.old.items) }
+    ensures same { Unfolds result text.old text.new stack.old stack.new (term_text (tree.lambda 0 uses from.now binder.now body.now)) }
+    ensures less { Lightens result stack.old stack.new (term_weight (tree.lambda 0 uses from.now binder.now body.now)) }
 {
     text.push_str("\\")?;
     text.push_str(name_text(&binder.name))?;
@@ -73,8 +72,8 @@ pub(crate) fn unfold_let<'a>(
     first: &'a SourceTerm,
     second: &'a SourceTerm,
 ) -> Result<(), AllocError>
-    ensures same { OnOk result (string_bytes text.new ++ pieces_text stack.new.items ≡ string_bytes text.old ++ (term_text (tree.let_in 0 binder.now first.now second.now) ++ pieces_text stack.old.items)) }
-    ensures less { OnOk result (pieces_weight stack.new.items < term_weight (tree.let_in 0 binder.now first.now second.now) + pieces_weight stack.old.items) }
+    ensures same { Unfolds result text.old text.new stack.old stack.new (term_text (tree.let_in 0 binder.now first.now second.now)) }
+    ensures less { Lightens result stack.old stack.new (term_weight (tree.let_in 0 binder.now first.now second.now)) }
 {
     text.push_str("let ")?;
     text.push_str(name_text(&binder.name))?;
@@ -92,8 +91,8 @@ pub(crate) fn unfold_split<'a>(
     first: &'a SourceTerm,
     second: &'a SourceTerm,
 ) -> Result<(), AllocError>
-    ensures same { OnOk result (string_bytes text.new ++ pieces_text stack.new.items ≡ string_bytes text.old ++ (term_text (tree.split 0 left.now right.now first.now second.now) ++ pieces_text stack.old.items)) }
-    ensures less { OnOk result (pieces_weight stack.new.items < term_weight (tree.split 0 left.now right.now first.now second.now) + pieces_weight stack.old.items) }
+    ensures same { Unfolds result text.old text.new stack.old stack.new (term_text (tree.split 0 left.now right.now first.now second.now)) }
+    ensures less { Lightens result stack.old stack.new (term_weight (tree.split 0 left.now right.now first.now second.now)) }
 {
     text.push_str("let (")?;
     text.push_str(name_text(&left.name))?;
@@ -112,8 +111,8 @@ pub(crate) fn unfold_if<'a>(
     yes: &'a SourceTerm,
     no: &'a SourceTerm,
 ) -> Result<(), AllocError>
-    ensures same { OnOk result (string_bytes text.new ++ pieces_text stack.new.items ≡ string_bytes text.old ++ (term_text (tree.if_else 0 test.now yes.now no.now) ++ pieces_text stack.old.items)) }
-    ensures less { OnOk result (pieces_weight stack.new.items < term_weight (tree.if_else 0 test.now yes.now no.now) + pieces_weight stack.old.items) }
+    ensures same { Unfolds result text.old text.new stack.old stack.new (term_text (tree.if_else 0 test.now yes.now no.now)) }
+    ensures less { Lightens result stack.old stack.new (term_weight (tree.if_else 0 test.now yes.now no.now)) }
 {
     text.push_str("if ")?;
     push_term(stack, no)?;
@@ -129,8 +128,8 @@ pub(crate) fn unfold_case<'a>(
     value: &'a SourceTerm,
     arms: &'a [SourceArm],
 ) -> Result<(), AllocError>
-    ensures same { OnOk result (string_bytes text.new ++ pieces_text stack.new.items ≡ string_bytes text.old ++ (term_text (tree.case_of 0 value.now (arms_of arms.now)) ++ pieces_text stack.old.items)) }
-    ensures less { OnOk result (pieces_weight stack.new.items < term_weight (tree.case_of 0 value.now (arms_of arms.now)) + pieces_weight stack.old.items) }
+    ensures same { Unfolds result text.old text.new stack.old stack.new (term_text (tree.case_of 0 value.now (arms_of arms.now))) }
+    ensures less { Lightens result stack.old stack.new (term_weight (tree.case_of 0 value.now (arms_of arms.now))) }
 {
     text.push_str("case ")?;
     push_text(stack, "}")?;
@@ -145,8 +144,8 @@ pub(crate) fn unfold_match<'a>(
     channel: &'a SourceTerm,
     arms: &'a [SourceArm],
 ) -> Result<(), AllocError>
-    ensures same { OnOk result (string_bytes text.new ++ pieces_text stack.new.items ≡ string_bytes text.old ++ (term_text (tree.match_with 0 channel.now (arms_of arms.now)) ++ pieces_text stack.old.items)) }
-    ensures less { OnOk result (pieces_weight stack.new.items < term_weight (tree.match_with 0 channel.now (arms_of arms.now)) + pieces_weight stack.old.items) }
+    ensures same { Unfolds result text.old text.new stack.old stack.new (term_text (tree.match_with 0 channel.now (arms_of arms.now))) }
+    ensures less { Lightens result stack.old stack.new (term_weight (tree.match_with 0 channel.now (arms_of arms.now))) }
 {
     text.push_str("match ")?;
     push_text(stack, "}")?;
@@ -161,8 +160,8 @@ pub(crate) fn unfold_send<'a>(
     value: &'a SourceTerm,
     channel: &'a SourceTerm,
 ) -> Result<(), AllocError>
-    ensures same { OnOk result (string_bytes text.new ++ pieces_text stack.new.items ≡ string_bytes text.old ++ (term_text (tree.send 0 value.now channel.now) ++ pieces_text stack.old.items)) }
-    ensures less { OnOk result (pieces_weight stack.new.items < term_weight (tree.send 0 value.now channel.now) + pieces_weight stack.old.items) }
+    ensures same { Unfolds result text.old text.new stack.old stack.new (term_text (tree.send 0 value.now channel.now)) }
+    ensures less { Lightens result stack.old stack.new (term_weight (tree.send 0 value.now channel.now)) }
 {
     text.push_str("send ")?;
     push_enclosed(stack, channel, is_no_atom(channel))?;
@@ -176,8 +175,8 @@ pub(crate) fn unfold_select<'a>(
     label: &Name,
     channel: &'a SourceTerm,
 ) -> Result<(), AllocError>
-    ensures same { OnOk result (string_bytes text.new ++ pieces_text stack.new.items ≡ string_bytes text.old ++ (term_text (tree.select 0 label.now channel.now) ++ pieces_text stack.old.items)) }
-    ensures less { OnOk result (pieces_weight stack.new.items < term_weight (tree.select 0 label.now channel.now) + pieces_weight stack.old.items) }
+    ensures same { Unfolds result text.old text.new stack.old stack.new (term_text (tree.select 0 label.now channel.now)) }
+    ensures less { Lightens result stack.old stack.new (term_weight (tree.select 0 label.now channel.now)) }
 {
     text.push_str("select ")?;
     text.push_str(name_text(label))?;
@@ -190,8 +189,8 @@ pub(crate) fn unfold_receive<'a>(
     stack: &mut Stack<'a>,
     channel: &'a SourceTerm,
 ) -> Result<(), AllocError>
-    ensures same { OnOk result (string_bytes text.new ++ pieces_text stack.new.items ≡ string_bytes text.old ++ (term_text (tree.receive 0 channel.now) ++ pieces_text stack.old.items)) }
-    ensures less { OnOk result (pieces_weight stack.new.items < term_weight (tree.receive 0 channel.now) + pieces_weight stack.old.items) }
+    ensures same { Unfolds result text.old text.new stack.old stack.new (term_text (tree.receive 0 channel.now)) }
+    ensures less { Lightens result stack.old stack.new (term_weight (tree.receive 0 channel.now)) }
 {
     text.push_str("receive ")?;
     push_enclosed(stack, channel, is_no_atom(channel))
@@ -202,8 +201,8 @@ pub(crate) fn unfold_fork<'a>(
     stack: &mut Stack<'a>,
     task: &'a SourceTerm,
 ) -> Result<(), AllocError>
-    ensures same { OnOk result (string_bytes text.new ++ pieces_text stack.new.items ≡ string_bytes text.old ++ (term_text (tree.fork 0 task.now) ++ pieces_text stack.old.items)) }
-    ensures less { OnOk result (pieces_weight stack.new.items < term_weight (tree.fork 0 task.now) + pieces_weight stack.old.items) }
+    ensures same { Unfolds result text.old text.new stack.old stack.new (term_text (tree.fork 0 task.now)) }
+    ensures less { Lightens result stack.old stack.new (term_weight (tree.fork 0 task.now)) }
 {
     text.push_str("fork ")?;
     push_enclosed(stack, task, is_no_atom(task))
@@ -214,8 +213,8 @@ pub(crate) fn unfold_not<'a>(
     stack: &mut Stack<'a>,
     t: &'a SourceTerm,
 ) -> Result<(), AllocError>
-    ensures same { OnOk result (string_bytes text.new ++ pieces_text stack.new.items ≡ string_bytes text.old ++ (term_text (tree.negate 0 t.now) ++ pieces_text stack.old.items)) }
-    ensures less { OnOk result (pieces_weight stack.new.items < term_weight (tree.negate 0 t.now) + pieces_weight stack.old.items) }
+    ensures same { Unfolds result text.old text.new stack.old stack.new (term_text (tree.negate 0 t.now)) }
+    ensures less { Lightens result stack.old stack.new (term_weight (tree.negate 0 t.now)) }
 {
     text.push_str("not ")?;
     push_enclosed(stack, t, is_no_negation(t))
@@ -226,8 +225,8 @@ pub(crate) fn unfold_apply<'a>(
     function: &'a SourceTerm,
     argument: &'a SourceTerm,
 ) -> Result<(), AllocError>
-    ensures same { OnOk result (pieces_text stack.new.items ≡ term_text (tree.apply 0 function.now argument.now) ++ pieces_text stack.old.items) }
-    ensures less { OnOk result (pieces_weight stack.new.items < term_weight (tree.apply 0 function.now argument.now) + pieces_weight stack.old.items) }
+    ensures same { Stacks result stack.old stack.new (term_text (tree.apply 0 function.now argument.now)) }
+    ensures less { Lightens result stack.old stack.new (term_weight (tree.apply 0 function.now argument.now)) }
 {
     push_enclosed(stack, argument, is_no_atom(argument))?;
     push_text(stack, " ")?;
@@ -240,8 +239,8 @@ pub(crate) fn unfold_operate<'a>(
     left: &'a SourceTerm,
     right: &'a SourceTerm,
 ) -> Result<(), AllocError>
-    ensures same { OnOk result (pieces_text stack.new.items ≡ term_text (tree.operate 0 op left.now right.now) ++ pieces_text stack.old.items) }
-    ensures less { OnOk result (pieces_weight stack.new.items < term_weight (tree.operate 0 op left.now right.now) + pieces_weight stack.old.items) }
+    ensures same { Stacks result stack.old stack.new (term_text (tree.operate 0 op left.now right.now)) }
+    ensures less { Lightens result stack.old stack.new (term_weight (tree.operate 0 op left.now right.now)) }
 {
     push_enclosed(stack, right, is_no_right(op, right))?;
     push_text(stack, " ")?;
@@ -255,8 +254,8 @@ pub(crate) fn unfold_then<'a>(
     first: &'a SourceTerm,
     next: &'a SourceTerm,
 ) -> Result<(), AllocError>
-    ensures same { OnOk result (pieces_text stack.new.items ≡ term_text (tree.seq 0 first.now next.now) ++ pieces_text stack.old.items) }
-    ensures less { OnOk result (pieces_weight stack.new.items < term_weight (tree.seq 0 first.now next.now) + pieces_weight stack.old.items) }
+    ensures same { Stacks result stack.old stack.new (term_text (tree.seq 0 first.now next.now)) }
+    ensures less { Lightens result stack.old stack.new (term_weight (tree.seq 0 first.now next.now)) }
 {
     push_term(stack, next)?;
     push_text(stack, "; ")?;

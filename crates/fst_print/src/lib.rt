@@ -3,20 +3,16 @@
 
 mod atoms;
 mod forms;
-mod laws;
 mod modules;
 mod pieces;
 mod ranks;
 mod refusals;
 mod stack;
 mod terms;
-#[cfg(test)]
-mod tests;
 mod types;
 mod words;
 mod written;
 
-pub use laws::{read_again, read_back};
 pub use modules::module_text;
 pub use refusals::{Phrase, Refusal, refusal_text};
 pub use types::type_text;

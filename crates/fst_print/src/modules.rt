@@ -1,8 +1,10 @@
-ghost use Rattle.std.specs.Prelude.{◌≡◌, ◌++◌, IfOk, OnOk, codes, map};
+ghost use Rattle.std.specs.Prelude.{◌≡◌, ◌++◌, IfOk, codes, map};
 ghost use Rattle.std.specs.List.{flat_map};
 ghost use Rattle.std.specs.String.{string_bytes};
 ghost use Rattle.fst_terms.specs.ModuleTree as tree;
-ghost use Rattle.fst_terms.specs.ModuleTree.{declarations, declared, maker};
+ghost use Rattle.fst_terms.specs.ModuleTree.{declared, maker};
+ghost use Rattle.fst_terms.specs.ModuleView.{declarations};
+ghost use Rattle.fst_print.specs.Adds.{Adds};
 ghost use Rattle.fst_print.specs.ModuleTexts.{atom_text, binder_kind_text, binders_text, decl_text, maker_text, module_text};
 ghost use Rattle.fst_print.specs.Texts.{joined_text, separated_text};
 
@@ -16,7 +18,7 @@ use fst_types::{Kind, Written};
 use std::alloc::{AllocError, Global};
 
 fn push_fields(text: &mut String, fields: &[Written]) -> Result<(), AllocError>
-    ensures { OnOk result (string_bytes text.new ≡ string_bytes text.old ++ flat_map (λ t. codes " " ++ atom_text t) fields.now) }
+    ensures { Adds result text.old text.new (flat_map (λ t. codes " " ++ atom_text t) fields.now) }
 {
     for field in fields {
         text.push_str(" ")?;
@@ -26,14 +28,14 @@ fn push_fields(text: &mut String, fields: &[Written]) -> Result<(), AllocError>
 }
 
 fn push_maker(text: &mut String, constructor: &SourceMaker) -> Result<(), AllocError>
-    ensures { OnOk result (string_bytes text.new ≡ string_bytes text.old ++ maker_text (maker constructor.now)) }
+    ensures { Adds result text.old text.new (maker_text (maker constructor.now)) }
 {
     text.push_str(name_text(&constructor.name.name))?;
     push_fields(text, &constructor.fields)
 }
 
 fn push_makers(text: &mut String, makers: &[SourceMaker]) -> Result<(), AllocError>
-    ensures { OnOk result (string_bytes text.new ≡ string_bytes text.old ++ joined_text (codes " | ") (map maker_text (map maker makers.now))) }
+    ensures { Adds result text.old text.new (joined_text (codes " | ") (map maker_text (map maker makers.now))) }
 {
     let [first, others @ ..] = makers else {
         return Ok(());
@@ -47,7 +49,7 @@ fn push_makers(text: &mut String, makers: &[SourceMaker]) -> Result<(), AllocErr
 }
 
 fn push_binder_kind(text: &mut String, binder: &Binder, kind: Kind) -> Result<(), AllocError>
-    ensures { OnOk result (string_bytes text.new ≡ string_bytes text.old ++ binder_kind_text (binder.now, kind)) }
+    ensures { Adds result text.old text.new (binder_kind_text (binder.now, kind)) }
 {
     text.push_str(name_text(&binder.name))?;
     text.push_str(":")?;
@@ -55,7 +57,7 @@ fn push_binder_kind(text: &mut String, binder: &Binder, kind: Kind) -> Result<()
 }
 
 fn push_later_binders(text: &mut String, binders: &[(Binder, Kind)]) -> Result<(), AllocError>
-    ensures { OnOk result (string_bytes text.new ≡ string_bytes text.old ++ separated_text (codes ", ") (map binder_kind_text binders.now)) }
+    ensures { Adds result text.old text.new (separated_text (codes ", ") (map binder_kind_text binders.now)) }
 {
     for (binder, kind) in binders {
         text.push_str(", ")?;
@@ -65,7 +67,7 @@ fn push_later_binders(text: &mut String, binders: &[(Binder, Kind)]) -> Result<(
 }
 
 fn push_binders(text: &mut String, binders: &[(Binder, Kind)]) -> Result<(), AllocError>
-    ensures { OnOk result (string_bytes text.new ≡ string_bytes text.old ++ binders_text binders.now) }
+    ensures { Adds result text.old text.new (binders_text binders.now) }
 {
     let [(binder, kind), others @ ..] = binders else {
         return Ok(());
@@ -77,7 +79,7 @@ fn push_binders(text: &mut String, binders: &[(Binder, Kind)]) -> Result<(), All
 }
 
 fn push_family(text: &mut String, name: &Binder, makers: &[SourceMaker]) -> Result<(), AllocError>
-    ensures { OnOk result (string_bytes text.new ≡ string_bytes text.old ++ decl_text (tree.family name.now (map maker makers.now))) }
+    ensures { Adds result text.old text.new (decl_text (tree.family name.now (map maker makers.now))) }
 {
     text.push_str("data ")?;
     text.push_str(name_text(&name.name))?;
@@ -86,7 +88,7 @@ fn push_family(text: &mut String, name: &Binder, makers: &[SourceMaker]) -> Resu
 }
 
 fn push_alias(text: &mut String, name: &Binder, t: &Written) -> Result<(), AllocError>
-    ensures { OnOk result (string_bytes text.new ≡ string_bytes text.old ++ decl_text (tree.alias name.now t.now)) }
+    ensures { Adds result text.old text.new (decl_text (tree.alias name.now t.now)) }
 {
     text.push_str("type ")?;
     text.push_str(name_text(&name.name))?;
@@ -100,7 +102,7 @@ fn push_signature(
     binders: &[(Binder, Kind)],
     t: &Written,
 ) -> Result<(), AllocError>
-    ensures { OnOk result (string_bytes text.new ≡ string_bytes text.old ++ decl_text (tree.signature name.now binders.now t.now)) }
+    ensures { Adds result text.old text.new (decl_text (tree.signature name.now binders.now t.now)) }
 {
     text.push_str(name_text(&name.name))?;
     text.push_str(" : ")?;
@@ -115,7 +117,7 @@ fn push_equation(
     parameters: &[Binder],
     body: &SourceTerm,
 ) -> Result<(), AllocError>
-    ensures { OnOk result (string_bytes text.new ≡ string_bytes text.old ++ decl_text (tree.equation name.now parameters.now body.now)) }
+    ensures { Adds result text.old text.new (decl_text (tree.equation name.now parameters.now body.now)) }
 {
     text.push_str(name_text(&name.name))?;
     push_names(text, parameters)?;
@@ -124,7 +126,7 @@ fn push_equation(
 }
 
 fn push_decl(alloc: Global, text: &mut String, decl: &Decl) -> Result<(), AllocError>
-    ensures { OnOk result (string_bytes text.new ≡ string_bytes text.old ++ decl_text (declared decl.now)) }
+    ensures { Adds result text.old text.new (decl_text (declared decl.now)) }
 {
     match decl {
         Decl::Family(name, makers) => push_family(text, name, makers),
@@ -137,7 +139,7 @@ fn push_decl(alloc: Global, text: &mut String, decl: &Decl) -> Result<(), AllocE
 }
 
 fn push_decls(alloc: Global, text: &mut String, decls: &[Decl]) -> Result<(), AllocError>
-    ensures { OnOk result (string_bytes text.new ≡ string_bytes text.old ++ module_text (map declared decls.now)) }
+    ensures { Adds result text.old text.new (module_text (map declared decls.now)) }
 {
     for decl in decls {
         push_decl(alloc, text, decl)?;

@@ -1,5 +1,5 @@
-ghost use Rattle.std.specs.Prelude.{◌≡◌, ◌++◌, OnOk};
-ghost use Rattle.std.specs.String.{string_bytes};
+ghost use Rattle.std.specs.Prelude.{◌≡◌};
+ghost use Rattle.fst_print.specs.Adds.{Adds};
 ghost use Rattle.fst_print.specs.Texts.{base_text, receive_text, send_text, variable_text};
 
 use fst_types::{Base, Name};
@@ -25,21 +25,21 @@ pub(crate) fn base_text(base: Base) -> &'static str
 }
 
 pub(crate) fn push_number<I: Integer>(text: &mut String, n: I) -> Result<(), AllocError>
-    ensures { OnOk result (string_bytes text.new ≡ string_bytes text.old ++ I.text n) }
+    ensures { Adds result text.old text.new (I.text n) }
 {
     let mut buffer = Buffer::new();
     text.push_str(buffer.format(n))
 }
 
 pub(crate) fn push_send(text: &mut String, base: Base) -> Result<(), AllocError>
-    ensures { OnOk result (string_bytes text.new ≡ string_bytes text.old ++ send_text base) }
+    ensures { Adds result text.old text.new (send_text base) }
 {
     text.push_str("!")?;
     text.push_str(base_text(base))
 }
 
 pub(crate) fn push_receive(text: &mut String, base: Base) -> Result<(), AllocError>
-    ensures { OnOk result (string_bytes text.new ≡ string_bytes text.old ++ receive_text base) }
+    ensures { Adds result text.old text.new (receive_text base) }
 {
     text.push_str("?")?;
     text.push_str(base_text(base))
@@ -47,7 +47,7 @@ pub(crate) fn push_receive(text: &mut String, base: Base) -> Result<(), AllocErr
 
 /// The k-th type variable of a signature. Its number, one more than `k`, may need more than 64 bits.
 pub(crate) fn push_variable(text: &mut String, k: u64) -> Result<(), AllocError>
-    ensures { OnOk result (string_bytes text.new ≡ string_bytes text.old ++ variable_text k) }
+    ensures { Adds result text.old text.new (variable_text k) }
 {
     text.push_str("a")?;
     push_number(text, u128::from(k) + 1)

@@ -1,8 +1,9 @@
 //! Which forms of terms stand in parentheses where.
 
 ghost use Rattle.std.specs.Prelude.{◌≡◌};
-ghost use Rattle.fst_terms.specs.TermView.{terms_of};
-ghost use Rattle.fst_print.specs.ModuleTexts.{is_below, is_no_head, left_rank, make_rank, op_rank, op_text, rank, right_rank};
+ghost use Rattle.fst_terms.specs.ModelView.{terms_of};
+ghost use Rattle.fst_print.specs.ModuleTexts.{op_text};
+ghost use Rattle.fst_print.specs.Ranks.{atom_rank, is_below, is_no_head, left_rank, make_rank, negation_rank, op_rank, or_rank, rank, right_rank};
 
 use fst_terms::{Op, SourceForm, SourceTerm};
 
@@ -50,9 +51,10 @@ fn op_rank(op: Op) -> u8
     match op {
         Op::Or => OR,
         Op::And => AND,
+        Op::Equal | Op::Unequal => COMPARISON,
+        Op::Less | Op::AtMost | Op::Greater | Op::AtLeast => COMPARISON,
         Op::Add | Op::Subtract => SUM,
         Op::Multiply => PRODUCT,
-        _ => COMPARISON,
     }
 }
 
@@ -62,8 +64,10 @@ fn left_rank(op: Op) -> u8
     match op {
         Op::Or => OR,
         Op::And => AND,
+        Op::Equal | Op::Unequal => SUM,
+        Op::Less | Op::AtMost | Op::Greater | Op::AtLeast => SUM,
+        Op::Add | Op::Subtract => SUM,
         Op::Multiply => PRODUCT,
-        _ => SUM,
     }
 }
 
@@ -73,9 +77,10 @@ fn right_rank(op: Op) -> u8
     match op {
         Op::Or => AND,
         Op::And => COMPARISON,
+        Op::Equal | Op::Unequal => SUM,
+        Op::Less | Op::AtMost | Op::Greater | Op::AtLeast => SUM,
         Op::Add | Op::Subtract => PRODUCT,
         Op::Multiply => NEGATION,
-        _ => SUM,
     }
 }
 
@@ -90,15 +95,21 @@ fn rank(t: &SourceTerm) -> u8
         SourceForm::Unit => ATOM,
         SourceForm::Pair(_, _) => ATOM,
         SourceForm::Make(_, arguments) => make_rank(arguments),
+        SourceForm::Lambda(_, _, _, _) => WHOLE,
         SourceForm::Apply(_, _) => APPLICATION,
+        SourceForm::Let(_, _, _) => WHOLE,
+        SourceForm::Split(_, _, _, _) => WHOLE,
+        SourceForm::If(_, _, _) => WHOLE,
+        SourceForm::Case(_, _) => WHOLE,
         SourceForm::Operate(op, _, _) => op_rank(*op),
         SourceForm::Not(_) => NEGATION,
         SourceForm::New(_) => APPLICATION,
         SourceForm::Send(_, _) => APPLICATION,
         SourceForm::Receive(_) => APPLICATION,
         SourceForm::Select(_, _) => APPLICATION,
+        SourceForm::Match(_, _) => WHOLE,
         SourceForm::Fork(_) => APPLICATION,
-        _ => WHOLE,
+        SourceForm::Then(_, _) => WHOLE,
     }
 }
 
@@ -113,7 +124,7 @@ fn make_rank(arguments: &[SourceTerm]) -> u8
 
 /// Whether the term stands in parentheses where only an atom may stand.
 pub(crate) fn is_no_atom(t: &SourceTerm) -> bool
-    ensures { result ≡ is_below 8 t.now }
+    ensures { result ≡ is_below atom_rank t.now }
 {
     rank(t) < ATOM
 }
@@ -131,14 +142,14 @@ pub(crate) fn is_no_head(t: &SourceTerm) -> bool
 
 /// Whether the term stands in parentheses behind `not`.
 pub(crate) fn is_no_negation(t: &SourceTerm) -> bool
-    ensures { result ≡ is_below 6 t.now }
+    ensures { result ≡ is_below negation_rank t.now }
 {
     rank(t) < NEGATION
 }
 
 /// Whether the term stands in parentheses on the left of `;`.
 pub(crate) fn is_no_chain(t: &SourceTerm) -> bool
-    ensures { result ≡ is_below 1 t.now }
+    ensures { result ≡ is_below or_rank t.now }
 {
     rank(t) < OR
 }

@@ -1,5 +1,6 @@
-ghost use Rattle.std.specs.Prelude.{◌≡◌, ◌++◌, IfOk, OnOk};
+ghost use Rattle.std.specs.Prelude.{◌≡◌, IfOk};
 ghost use Rattle.std.specs.String.{string_bytes};
+ghost use Rattle.fst_print.specs.Adds.{Adds};
 ghost use Rattle.fst_print.specs.Texts.{kind_text, phrase_text, prekind_text, refusal_text, use_text};
 
 use crate::pieces::{name_text, push_number, push_variable};
@@ -58,14 +59,14 @@ fn prekind_text(prekind: Prekind) -> &'static str
 }
 
 pub(crate) fn push_kind(text: &mut String, kind: Kind) -> Result<(), AllocError>
-    ensures { OnOk result (string_bytes text.new ≡ string_bytes text.old ++ kind_text kind) }
+    ensures { Adds result text.old text.new (kind_text kind) }
 {
     text.push_str(use_text(kind.uses))?;
     text.push_str(prekind_text(kind.prekind))
 }
 
 fn push_phrase(text: &mut String, phrase: &Phrase) -> Result<(), AllocError>
-    ensures { OnOk result (string_bytes text.new ≡ string_bytes text.old ++ phrase_text phrase.now) }
+    ensures { Adds result text.old text.new (phrase_text phrase.now) }
 {
     match phrase {
         Phrase::NotUtf8 => text.push_str("not utf-8"),

@@ -1,6 +1,7 @@
 //! What is still to be written of a term, as a stack.
 
 ghost use Rattle.std.specs.Prelude.{◌≡◌, [], ◌+◌, ◌≤◌, ◌++◌, MatchOption, IfSome, OnOk};
+ghost use Rattle.fst_print.specs.Adds.{Stacks};
 ghost use Rattle.fst_print.specs.ModuleTexts.{term_text};
 ghost use Rattle.fst_print.specs.Stack.{piece_text, piece_weight, pieces_text, pieces_weight, term_weight};
 ghost use Rattle.fst_print.specs.Texts.{in_parens_if};
@@ -26,9 +27,9 @@ pub(crate) enum Piece<'a> {
 /// The pieces of which the last is written first.
 pub(crate) type Stack<'a> = Vec<Piece<'a>>;
 
-#[tactic(auto, using(crate::proofs::StackLaws::text_after_push, crate::proofs::StackLaws::weight_after_push))]
+#[tactic(auto, using(crate::proofs::StackLaws::after_push))]
 pub(crate) fn push<'a>(stack: &mut Stack<'a>, piece: Piece<'a>) -> Result<(), AllocError>
-    ensures text { OnOk result (pieces_text stack.new.items ≡ piece_text piece.entry ++ pieces_text stack.old.items) }
+    ensures text { Stacks result stack.old stack.new (piece_text piece.entry) }
     ensures weight { OnOk result (pieces_weight stack.new.items ≡ piece_weight piece.entry + pieces_weight stack.old.items) }
 {
     stack.push(piece)?;
@@ -43,14 +44,14 @@ pub(crate) fn pop<'a>(stack: &mut Stack<'a>) -> Option<Piece<'a>>
 }
 
 pub(crate) fn push_text<'a>(stack: &mut Stack<'a>, text: &'a str) -> Result<(), AllocError>
-    ensures text { OnOk result (pieces_text stack.new.items ≡ text.now ++ pieces_text stack.old.items) }
+    ensures text { Stacks result stack.old stack.new text.now }
     ensures weight { OnOk result (pieces_weight stack.new.items ≡ 1 + pieces_weight stack.old.items) }
 {
     push(stack, Piece::Text(text))
 }
 
 pub(crate) fn push_term<'a>(stack: &mut Stack<'a>, t: &'a SourceTerm) -> Result<(), AllocError>
-    ensures text { OnOk result (pieces_text stack.new.items ≡ term_text t.now ++ pieces_text stack.old.items) }
+    ensures text { Stacks result stack.old stack.new (term_text t.now) }
     ensures weight { OnOk result (pieces_weight stack.new.items ≡ term_weight t.now + pieces_weight stack.old.items) }
 {
     push(stack, Piece::Term(t))
@@ -62,7 +63,7 @@ pub(crate) fn push_enclosed<'a>(
     t: &'a SourceTerm,
     in_parens: bool,
 ) -> Result<(), AllocError>
-    ensures text { OnOk result (pieces_text stack.new.items ≡ in_parens_if in_parens (term_text t.now) ++ pieces_text stack.old.items) }
+    ensures text { Stacks result stack.old stack.new (in_parens_if in_parens (term_text t.now)) }
     ensures weight { OnOk result (pieces_weight stack.new.items ≤ 2 + (term_weight t.now + pieces_weight stack.old.items)) }
 {
     if !in_parens {

@@ -1,8 +1,8 @@
-ghost use Rattle.std.specs.Prelude.{◌≡◌, ◌<◌, ◌+◌, ◌∷◌, ◌++◌, OnOk, codes};
-ghost use Rattle.std.specs.String.{string_bytes};
-ghost use Rattle.fst_terms.specs.TermView.{arms_of, terms_of};
+ghost use Rattle.std.specs.Prelude.{◌∷◌, codes};
+ghost use Rattle.fst_terms.specs.ModelView.{arms_of, terms_of};
+ghost use Rattle.fst_print.specs.Adds.{Adds, Lightens, Unfolds};
 ghost use Rattle.fst_print.specs.ModuleTexts.{arguments_text, arm_texts, term_text};
-ghost use Rattle.fst_print.specs.Stack.{arms_weight, piece_text, piece_weight, pieces_text, pieces_weight, term_weight, terms_weight};
+ghost use Rattle.fst_print.specs.Stack.{arms_weight, piece_text, piece_weight, term_weight, terms_weight};
 ghost use Rattle.fst_print.specs.Texts.{joined_text, separated_text};
 
 use crate::atoms::{push_named, push_names, push_new, push_quoted, truth_text};
@@ -18,8 +18,8 @@ use fst_terms::{SourceArm, SourceForm, SourceTerm};
 use std::alloc::{AllocError, Global};
 
 fn unfold<'a>(text: &mut String, stack: &mut Stack<'a>, t: &'a SourceTerm) -> Result<(), AllocError>
-    ensures same { OnOk result (string_bytes text.new ++ pieces_text stack.new.items ≡ string_bytes text.old ++ (term_text t.now ++ pieces_text stack.old.items)) }
-    ensures less { OnOk result (pieces_weight stack.new.items < term_weight t.now + pieces_weight stack.old.items) }
+    ensures same { Unfolds result text.old text.new stack.old stack.new (term_text t.now) }
+    ensures less { Lightens result stack.old stack.new (term_weight t.now) }
 {
     match &t.form {
         SourceForm::Named(name, types) => push_named(text, name, types),
@@ -56,8 +56,8 @@ fn unfold_arguments<'a>(
     stack: &mut Stack<'a>,
     arguments: &'a [SourceTerm],
 ) -> Result<(), AllocError>
-    ensures same { OnOk result (string_bytes text.new ++ pieces_text stack.new.items ≡ string_bytes text.old ++ (arguments_text (terms_of arguments.now) ++ pieces_text stack.old.items)) }
-    ensures less { OnOk result (pieces_weight stack.new.items < terms_weight (terms_of arguments.now) + pieces_weight stack.old.items) }
+    ensures same { Unfolds result text.old text.new stack.old stack.new (arguments_text (terms_of arguments.now)) }
+    ensures less { Lightens result stack.old stack.new (terms_weight (terms_of arguments.now)) }
 {
     let [first, others @ ..] = arguments else {
         return Ok(());
@@ -73,8 +73,8 @@ fn unfold_arm<'a>(
     arm: &'a SourceArm,
     others: &'a [SourceArm],
 ) -> Result<(), AllocError>
-    ensures same { OnOk result (string_bytes text.new ++ pieces_text stack.new.items ≡ string_bytes text.old ++ (joined_text (codes ", ") (arm_texts (arms_of (arm.now ∷ others.now))) ++ pieces_text stack.old.items)) }
-    ensures less { OnOk result (pieces_weight stack.new.items < arms_weight (arms_of (arm.now ∷ others.now)) + pieces_weight stack.old.items) }
+    ensures same { Unfolds result text.old text.new stack.old stack.new (joined_text (codes ", ") (arm_texts (arms_of (arm.now ∷ others.now)))) }
+    ensures less { Lightens result stack.old stack.new (arms_weight (arms_of (arm.now ∷ others.now))) }
 {
     text.push_str(name_text(&arm.label.name))?;
     push_names(text, &arm.binders)?;
@@ -88,8 +88,8 @@ fn unfold_arms<'a>(
     stack: &mut Stack<'a>,
     arms: &'a [SourceArm],
 ) -> Result<(), AllocError>
-    ensures same { OnOk result (string_bytes text.new ++ pieces_text stack.new.items ≡ string_bytes text.old ++ (joined_text (codes ", ") (arm_texts (arms_of arms.now)) ++ pieces_text stack.old.items)) }
-    ensures less { OnOk result (pieces_weight stack.new.items < arms_weight (arms_of arms.now) + pieces_weight stack.old.items) }
+    ensures same { Unfolds result text.old text.new stack.old stack.new (joined_text (codes ", ") (arm_texts (arms_of arms.now))) }
+    ensures less { Lightens result stack.old stack.new (arms_weight (arms_of arms.now)) }
 {
     let [first, others @ ..] = arms else {
         return Ok(());
@@ -102,8 +102,8 @@ fn unfold_later_arms<'a>(
     stack: &mut Stack<'a>,
     later: &'a [SourceArm],
 ) -> Result<(), AllocError>
-    ensures same { OnOk result (string_bytes text.new ++ pieces_text stack.new.items ≡ string_bytes text.old ++ (separated_text (codes ", ") (arm_texts (arms_of later.now)) ++ pieces_text stack.old.items)) }
-    ensures less { OnOk result (pieces_weight stack.new.items < arms_weight (arms_of later.now) + pieces_weight stack.old.items) }
+    ensures same { Unfolds result text.old text.new stack.old stack.new (separated_text (codes ", ") (arm_texts (arms_of later.now))) }
+    ensures less { Lightens result stack.old stack.new (arms_weight (arms_of later.now)) }
 {
     let [first, others @ ..] = later else {
         return Ok(());
@@ -117,8 +117,8 @@ fn unfold_piece<'a>(
     stack: &mut Stack<'a>,
     piece: Piece<'a>,
 ) -> Result<(), AllocError>
-    ensures same { OnOk result (string_bytes text.new ++ pieces_text stack.new.items ≡ string_bytes text.old ++ (piece_text piece.entry ++ pieces_text stack.old.items)) }
-    ensures less { OnOk result (pieces_weight stack.new.items < piece_weight piece.entry + pieces_weight stack.old.items) }
+    ensures same { Unfolds result text.old text.new stack.old stack.new (piece_text piece.entry) }
+    ensures less { Lightens result stack.old stack.new (piece_weight piece.entry) }
 {
     match piece {
         Piece::Text(s) => text.push_str(s),
@@ -135,7 +135,7 @@ pub(crate) fn push_term_text(
     text: &mut String,
     t: &SourceTerm,
 ) -> Result<(), AllocError>
-    ensures { OnOk result (string_bytes text.new ≡ string_bytes text.old ++ term_text t.now) }
+    ensures { Adds result text.old text.new (term_text t.now) }
 {
     let mut stack = Vec::new(alloc);
     push_term(&mut stack, t)?;

@@ -1,8 +1,9 @@
-ghost use Rattle.std.specs.Prelude.{◌≡◌, ◌≤◌, ◌++◌, IfOk, OnOk, codes, length, suc};
+ghost use Rattle.std.specs.Prelude.{◌≡◌, ◌≤◌, ◌++◌, IfOk, codes, length, suc};
 ghost use Rattle.std.specs.String.{string_bytes};
 ghost use Rattle.fst_types.specs.Scoped.{AllScoped, IsScoped};
 ghost use Rattle.fst_types.specs.Tree as tree;
-ghost use Rattle.fst_types.specs.View.{branches_of};
+ghost use Rattle.fst_types.specs.ModelView.{branches_of};
+ghost use Rattle.fst_print.specs.Adds.{Adds};
 ghost use Rattle.fst_print.specs.Named.{AllNamedWithin, IsNamedWithin};
 ghost use Rattle.fst_print.specs.Texts.{arrow_text, binder_text, branch_texts, family_names, in_braces, in_parens_before_arrow, in_parens_before_semicolon, in_parens_if, joined_text, separated_text, text_under, type_text};
 
@@ -26,13 +27,24 @@ pub fn type_text(alloc: Global, t: &Ty, families: &[Family]) -> Result<String, A
 fn in_parens_before_semicolon(t: &Ty) -> bool
     ensures { result ≡ in_parens_before_semicolon t.now }
 {
-    matches!(&t.form, TyForm::Seq(_, _) | TyForm::Rec(_))
+    match &t.form {
+        TyForm::Seq(_, _) | TyForm::Rec(_) => true,
+        TyForm::Skip | TyForm::Send(_) | TyForm::Receive(_) => false,
+        TyForm::Select(_) | TyForm::Offer(_) | TyForm::Back(_) | TyForm::Var(_) => false,
+        TyForm::Plain(_) | TyForm::Arrow(_, _, _) | TyForm::Pair(_, _) | TyForm::Named(_) => false,
+    }
 }
 
 fn in_parens_before_arrow(t: &Ty) -> bool
     ensures { result ≡ in_parens_before_arrow t.now }
 {
-    matches!(&t.form, TyForm::Arrow(_, _, _))
+    match &t.form {
+        TyForm::Arrow(_, _, _) => true,
+        TyForm::Skip | TyForm::Send(_) | TyForm::Receive(_) => false,
+        TyForm::Select(_) | TyForm::Offer(_) | TyForm::Seq(_, _) | TyForm::Rec(_) => false,
+        TyForm::Back(_) | TyForm::Var(_) | TyForm::Plain(_) => false,
+        TyForm::Pair(_, _) | TyForm::Named(_) => false,
+    }
 }
 
 pub(crate) fn arrow_text(uses: Use) -> &'static str
@@ -47,7 +59,7 @@ pub(crate) fn arrow_text(uses: Use) -> &'static str
 // The variable of a binder under so many others, of which each has been written.
 fn push_binder(text: &mut String, outer: usize) -> Result<(), AllocError>
     requires { outer ≤ length (string_bytes text.old) }
-    ensures { OnOk result (string_bytes text.new ≡ string_bytes text.old ++ binder_text outer) }
+    ensures { Adds result text.old text.new (binder_text outer) }
 {
     text.push_str("x")?;
     push_number(text, outer + 1)
@@ -59,7 +71,7 @@ fn push_type(text: &mut String, t: &Ty, depth: usize, families: &[Family]) -> Re
     requires scoped { IsScoped depth t.now }
     requires named { IsNamedWithin (length families.now) t.now }
     requires written { depth ≤ length (string_bytes text.old) }
-    ensures { OnOk result (string_bytes text.new ≡ string_bytes text.old ++ text_under (family_names families.now) depth t.now) }
+    ensures { Adds result text.old text.new (text_under (family_names families.now) depth t.now) }
 {
     match &t.form {
         TyForm::Skip => text.push_str("Skip"),
@@ -100,7 +112,7 @@ fn push_left(
     requires scoped { IsScoped depth t.now }
     requires named { IsNamedWithin (length families.now) t.now }
     requires written { depth ≤ length (string_bytes text.old) }
-    ensures { OnOk result (string_bytes text.new ≡ string_bytes text.old ++ in_parens_if in_parens (text_under (family_names families.now) depth t.now)) }
+    ensures { Adds result text.old text.new (in_parens_if in_parens (text_under (family_names families.now) depth t.now)) }
 {
     if !in_parens {
         return push_type(text, t, depth, families);
@@ -120,7 +132,7 @@ fn push_rec(
     requires scoped { IsScoped (suc depth) body.now }
     requires named { IsNamedWithin (length families.now) body.now }
     requires written { depth ≤ length (string_bytes text.old) }
-    ensures { OnOk result (string_bytes text.new ≡ string_bytes text.old ++ text_under (family_names families.now) depth (tree.rec body.now)) }
+    ensures { Adds result text.old text.new (text_under (family_names families.now) depth (tree.rec body.now)) }
 {
     text.push_str("rec ")?;
     push_binder(text, depth)?;
@@ -140,7 +152,7 @@ fn push_pair(
     requires scoped { IsScoped depth first.now × IsScoped depth second.now }
     requires named { IsNamedWithin (length families.now) first.now × IsNamedWithin (length families.now) second.now }
     requires written { depth ≤ length (string_bytes text.old) }
-    ensures { OnOk result (string_bytes text.new ≡ string_bytes text.old ++ text_under (family_names families.now) depth (tree.pair first.now second.now)) }
+    ensures { Adds result text.old text.new (text_under (family_names families.now) depth (tree.pair first.now second.now)) }
 {
     text.push_str("(")?;
     push_type(text, first, depth, families)?;
@@ -161,7 +173,7 @@ fn push_choice(
     requires scoped { AllScoped depth (branches_of branches.now) }
     requires named { AllNamedWithin (length families.now) (branches_of branches.now) }
     requires written { depth ≤ length (string_bytes text.old) }
-    ensures { OnOk result (string_bytes text.new ≡ string_bytes text.old ++ sign.now ++ in_braces (joined_text (codes ", ") (branch_texts (family_names families.now) depth (branches_of branches.now)))) }
+    ensures { Adds result text.old text.new (sign.now ++ in_braces (joined_text (codes ", ") (branch_texts (family_names families.now) depth (branches_of branches.now)))) }
 {
     text.push_str(sign)?;
     text.push_str("{")?;
@@ -179,7 +191,7 @@ fn push_branch(
     requires scoped { IsScoped depth branch.now.body }
     requires named { IsNamedWithin (length families.now) branch.now.body }
     requires written { depth ≤ length (string_bytes text.old) }
-    ensures { OnOk result (string_bytes text.new ≡ string_bytes text.old ++ branch.now.label ++ codes ": " ++ text_under (family_names families.now) depth branch.now.body) }
+    ensures { Adds result text.old text.new (branch.now.label ++ codes ": " ++ text_under (family_names families.now) depth branch.now.body) }
 {
     text.push_str(name_text(&branch.label))?;
     text.push_str(": ")?;
@@ -196,7 +208,7 @@ fn push_branches(
     requires scoped { AllScoped depth (branches_of branches.now) }
     requires named { AllNamedWithin (length families.now) (branches_of branches.now) }
     requires written { depth ≤ length (string_bytes text.old) }
-    ensures { OnOk result (string_bytes text.new ≡ string_bytes text.old ++ joined_text (codes ", ") (branch_texts (family_names families.now) depth (branches_of branches.now))) }
+    ensures { Adds result text.old text.new (joined_text (codes ", ") (branch_texts (family_names families.now) depth (branches_of branches.now))) }
 {
     let [first, others @ ..] = branches else {
         return Ok(());
@@ -206,7 +218,7 @@ fn push_branches(
 }
 
 #[cycle(types)]
-#[tactic(auto, using(fst_types::proofs::Heights::height_at, crate::proofs::BranchLaws::scoped_at, crate::proofs::BranchLaws::named_at))]
+#[tactic(auto, using(crate::proofs::BranchLaws::each_branch))]
 fn push_others(
     text: &mut String,
     others: &[Branch],
@@ -216,7 +228,7 @@ fn push_others(
     requires scoped { AllScoped depth (branches_of others.now) }
     requires named { AllNamedWithin (length families.now) (branches_of others.now) }
     requires written { depth ≤ length (string_bytes text.old) }
-    ensures { OnOk result (string_bytes text.new ≡ string_bytes text.old ++ separated_text (codes ", ") (branch_texts (family_names families.now) depth (branches_of others.now))) }
+    ensures { Adds result text.old text.new (separated_text (codes ", ") (branch_texts (family_names families.now) depth (branches_of others.now))) }
 {
     for branch in others {
         text.push_str(", ")?;

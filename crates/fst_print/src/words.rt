@@ -1,5 +1,6 @@
-ghost use Rattle.std.specs.Prelude.{◌≡◌, ◌++◌, IfOk, OnOk};
+ghost use Rattle.std.specs.Prelude.{◌≡◌, IfOk};
 ghost use Rattle.std.specs.String.{string_bytes};
+ghost use Rattle.fst_print.specs.Adds.{Adds};
 ghost use Rattle.fst_print.specs.Texts.{label_text, side_text, word_text};
 
 use crate::pieces::{name_text, push_receive, push_send, push_variable};
@@ -17,7 +18,7 @@ pub fn side_text(side: Side) -> &'static str
 }
 
 fn push_label(text: &mut String, label: &Label) -> Result<(), AllocError>
-    ensures { OnOk result (string_bytes text.new ≡ string_bytes text.old ++ label_text label.now) }
+    ensures { Adds result text.old text.new (label_text label.now) }
 {
     match label {
         Label::Send(base) => push_send(text, *base),
@@ -35,7 +36,7 @@ fn push_label(text: &mut String, label: &Label) -> Result<(), AllocError>
 }
 
 fn push_word(text: &mut String, word: &[Label]) -> Result<(), AllocError>
-    ensures { OnOk result (string_bytes text.new ≡ string_bytes text.old ++ word_text word.now) }
+    ensures { Adds result text.old text.new (word_text word.now) }
 {
     let [first, others @ ..] = word else {
         return Ok(());

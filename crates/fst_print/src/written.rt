@@ -1,7 +1,7 @@
-ghost use Rattle.std.specs.Prelude.{◌≡◌, ◌++◌, OnOk, codes};
-ghost use Rattle.std.specs.String.{string_bytes};
+ghost use Rattle.std.specs.Prelude.{◌≡◌, ◌++◌, codes};
 ghost use Rattle.fst_types.specs.WrittenTree as written;
-ghost use Rattle.fst_types.specs.WrittenView.{written_branches};
+ghost use Rattle.fst_types.specs.ModelWrittenView.{written_branches};
+ghost use Rattle.fst_print.specs.Adds.{Adds};
 ghost use Rattle.fst_print.specs.ModuleTexts.{atom_text, is_arrow, is_compound, seq_text, written_branch_texts, written_text};
 ghost use Rattle.fst_print.specs.Texts.{in_braces, in_parens_if, joined_text, separated_text};
 
@@ -13,21 +13,29 @@ use std::alloc::AllocError;
 fn is_compound(t: &Written) -> bool
     ensures { result ≡ is_compound t.now }
 {
-    matches!(
-        &t.form,
-        WrittenForm::Seq(_, _) | WrittenForm::Rec(_, _) | WrittenForm::Arrow(_, _, _)
-    )
+    match &t.form {
+        WrittenForm::Skip | WrittenForm::Send(_) | WrittenForm::Receive(_) => false,
+        WrittenForm::Select(_) | WrittenForm::Offer(_) => false,
+        WrittenForm::Seq(_, _) | WrittenForm::Rec(_, _) | WrittenForm::Arrow(_, _, _) => true,
+        WrittenForm::Named(_) | WrittenForm::Plain(_) | WrittenForm::Pair(_, _) => false,
+    }
 }
 
 fn is_arrow(t: &Written) -> bool
     ensures { result ≡ is_arrow t.now }
 {
-    matches!(&t.form, WrittenForm::Arrow(_, _, _))
+    match &t.form {
+        WrittenForm::Skip | WrittenForm::Send(_) | WrittenForm::Receive(_) => false,
+        WrittenForm::Select(_) | WrittenForm::Offer(_) => false,
+        WrittenForm::Seq(_, _) | WrittenForm::Rec(_, _) => false,
+        WrittenForm::Named(_) | WrittenForm::Plain(_) | WrittenForm::Pair(_, _) => false,
+        WrittenForm::Arrow(_, _, _) => true,
+    }
 }
 
 #[cycle(written)]
 pub(crate) fn push_written(text: &mut String, t: &Written) -> Result<(), AllocError>
-    ensures { OnOk result (string_bytes text.new ≡ string_bytes text.old ++ written_text t.now) }
+    ensures { Adds result text.old text.new (written_text t.now) }
 {
     match &t.form {
         WrittenForm::Skip => text.push_str("Skip"),
@@ -60,7 +68,7 @@ pub(crate) fn push_written(text: &mut String, t: &Written) -> Result<(), AllocEr
 /// A type where an atomic one stands without parentheses.
 #[cycle(written)]
 pub(crate) fn push_atom(text: &mut String, t: &Written) -> Result<(), AllocError>
-    ensures { OnOk result (string_bytes text.new ≡ string_bytes text.old ++ atom_text t.now) }
+    ensures { Adds result text.old text.new (atom_text t.now) }
 {
     push_enclosed(text, t, is_compound(t))
 }
@@ -68,14 +76,14 @@ pub(crate) fn push_atom(text: &mut String, t: &Written) -> Result<(), AllocError
 /// A type where no function stands without parentheses.
 #[cycle(written)]
 pub(crate) fn push_seq(text: &mut String, t: &Written) -> Result<(), AllocError>
-    ensures { OnOk result (string_bytes text.new ≡ string_bytes text.old ++ seq_text t.now) }
+    ensures { Adds result text.old text.new (seq_text t.now) }
 {
     push_enclosed(text, t, is_arrow(t))
 }
 
 #[cycle(written)]
 fn push_enclosed(text: &mut String, t: &Written, in_parens: bool) -> Result<(), AllocError>
-    ensures { OnOk result (string_bytes text.new ≡ string_bytes text.old ++ in_parens_if in_parens (written_text t.now)) }
+    ensures { Adds result text.old text.new (in_parens_if in_parens (written_text t.now)) }
 {
     if !in_parens {
         return push_written(text, t);
@@ -87,7 +95,7 @@ fn push_enclosed(text: &mut String, t: &Written, in_parens: bool) -> Result<(), 
 
 #[cycle(written)]
 fn push_pair(text: &mut String, first: &Written, second: &Written) -> Result<(), AllocError>
-    ensures { OnOk result (string_bytes text.new ≡ string_bytes text.old ++ written_text (written.pair 0 first.now second.now)) }
+    ensures { Adds result text.old text.new (written_text (written.pair 0 first.now second.now)) }
 {
     text.push_str("(")?;
     push_written(text, first)?;
@@ -99,7 +107,7 @@ fn push_pair(text: &mut String, first: &Written, second: &Written) -> Result<(),
 // A choice, whose sign says which side makes it.
 #[cycle(written)]
 fn push_choice(text: &mut String, sign: &str, branches: &[WrittenBranch]) -> Result<(), AllocError>
-    ensures { OnOk result (string_bytes text.new ≡ string_bytes text.old ++ sign.now ++ in_braces (joined_text (codes ", ") (written_branch_texts (written_branches branches.now)))) }
+    ensures { Adds result text.old text.new (sign.now ++ in_braces (joined_text (codes ", ") (written_branch_texts (written_branches branches.now)))) }
 {
     text.push_str(sign)?;
     text.push_str("{")?;
@@ -109,7 +117,7 @@ fn push_choice(text: &mut String, sign: &str, branches: &[WrittenBranch]) -> Res
 
 #[cycle(written)]
 fn push_branch(text: &mut String, branch: &WrittenBranch) -> Result<(), AllocError>
-    ensures { OnOk result (string_bytes text.new ≡ string_bytes text.old ++ branch.now.label ++ codes ": " ++ seq_text branch.now.body) }
+    ensures { Adds result text.old text.new (branch.now.label ++ codes ": " ++ seq_text branch.now.body) }
 {
     text.push_str(name_text(&branch.label))?;
     text.push_str(": ")?;
@@ -118,7 +126,7 @@ fn push_branch(text: &mut String, branch: &WrittenBranch) -> Result<(), AllocErr
 
 #[cycle(written)]
 fn push_branches(text: &mut String, branches: &[WrittenBranch]) -> Result<(), AllocError>
-    ensures { OnOk result (string_bytes text.new ≡ string_bytes text.old ++ joined_text (codes ", ") (written_branch_texts (written_branches branches.now))) }
+    ensures { Adds result text.old text.new (joined_text (codes ", ") (written_branch_texts (written_branches branches.now))) }
 {
     let [first, others @ ..] = branches else {
         return Ok(());
@@ -128,9 +136,9 @@ fn push_branches(text: &mut String, branches: &[WrittenBranch]) -> Result<(), Al
 }
 
 #[cycle(written)]
-#[tactic(auto, using(crate::proofs::WrittenHeights::height_at))]
+#[tactic(auto, using(fst_types::proofs::Laws::written_height_at))]
 fn push_others(text: &mut String, others: &[WrittenBranch]) -> Result<(), AllocError>
-    ensures { OnOk result (string_bytes text.new ≡ string_bytes text.old ++ separated_text (codes ", ") (written_branch_texts (written_branches others.now))) }
+    ensures { Adds result text.old text.new (separated_text (codes ", ") (written_branch_texts (written_branches others.now))) }
 {
     for branch in others {
         text.push_str(", ")?;

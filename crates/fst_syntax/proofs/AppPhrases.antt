@@ -2,15 +2,14 @@
 use Rattle.std.proofs.Common.{◌≡◌, ℕ, suc, ◌<◌, List, [], ◌∷◌, ◌++◌, length, refl, sym, ap, subst, ◌∙◌, arith}
 use Rattle.fst_terms.specs.TermTree as term
 use Rattle.fst_terms.specs.TermTree.{TermTree, TermList, no_terms}
-use Rattle.fst_type_syntax.specs.Lexeme.{Lexeme}
-use Rattle.fst_type_syntax.specs.Grammar.{start}
-use Rattle.fst_type_syntax.specs.Faults.{Phrase}
-use Rattle.fst_type_syntax.specs.TypeReading.{upper_of}
-use Rattle.fst_type_syntax.proofs.Phrases as phrase
-use Rattle.fst_type_syntax.proofs.Phrases.{Give, nothing, Then, Mapped, made, Switch, first, Located, at, Either, one, other, Repeat, enough, again}
-use Rattle.fst_type_syntax.proofs.Parts.{One, locate}
-use Rattle.fst_type_syntax.proofs.TypePhrases.{moved, AtomP as TypeAtomP}
-use Rattle.fst_type_syntax.proofs.Tokens.{upper_is, is_upper}
+use Rattle.fst_reading.specs.Lexeme.{Lexeme, start, upper_of}
+use Rattle.fst_reading.specs.Faults.{Phrase}
+use Rattle.fst_reading.proofs.Words.{moved}
+use Rattle.fst_reading.proofs.Tokens.{upper_is, is_upper}
+use Rattle.fst_reading.proofs.Phrases as phrase
+use Rattle.fst_reading.proofs.Phrases.{nothing, Then, Mapped, made, Switch, first, Located, at, Either, one, other, Repeat, enough, again}
+use Rattle.fst_reading.proofs.Parts.{One}
+use Rattle.fst_type_syntax.specs.Derives.{AtomPhrase as TypeAtomP}
 use Rattle.fst_syntax.specs.Grammar.{IsApp, send, receive, select, new, fork, make, head, AreAtoms, no_atoms, atom}
 use Rattle.fst_syntax.specs.Nesting.{app_nests, head_nests, head_operands, atoms_nests, atom_nests}
 use Rattle.fst_syntax.specs.declared.starts.AppStart.{AppStart}
@@ -20,6 +19,7 @@ use Rattle.fst_syntax.proofs.Lefts.{Right, left_filled, to_left, of_left}
 use Rattle.fst_syntax.proofs.ChainPhrases.{AtomP, PlainP, Argument, head_to, head_from}
 use Rattle.fst_syntax.proofs.Begins.{plain_begins}
 use Rattle.fst_syntax.proofs.TermTokens.{MeansApp, app_means, means_app}
+use Rattle.fst_reading.proofs.Located.{locate}
 
 abbrev pub AppP : ℕ → Phrase TermTree
 AppP d ts t ns = (s : IsApp ts t) × (app_nests d s ≡ ns)

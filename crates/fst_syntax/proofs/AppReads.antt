@@ -4,21 +4,20 @@ use Rattle.std.specs.Prelude.{codes}
 use Rattle.fst_lexer.specs.declared.token.TokenKind.{TokenKind}
 use Rattle.fst_lexer.specs.declared.token.TokenKind.TheVariants as kind
 use Rattle.fst_terms.specs.TermTree as term
-use Rattle.fst_terms.specs.TermTree.{TermTree, TermList, no_terms}
-use Rattle.fst_type_syntax.specs.Lexeme.{Lexeme, spells, IsUpper}
-use Rattle.fst_type_syntax.specs.Faults.{Phrase}
-use Rattle.fst_type_syntax.specs.Reading.{Reader, switch, choose, mapped, begins, repeat}
-use Rattle.fst_type_syntax.specs.TypeReading.{upper_of}
-use Rattle.fst_type_syntax.proofs.Phrases as phrase
-use Rattle.fst_type_syntax.proofs.Phrases.{Reads, never, Give, nothing, Then, Mapped, made, Switch, first, On, taken, other, Located, Repeat, enough, again}
-use Rattle.fst_type_syntax.proofs.Steps.{Some_}
-use Rattle.fst_type_syntax.proofs.Parts.{reads_one, reads_mapped, reads_switch, reads_located, reads_as, reads_until}
-use Rattle.fst_type_syntax.proofs.Sequences.{reads_then}
-use Rattle.fst_type_syntax.proofs.Shut.{reads_shut}
-use Rattle.fst_type_syntax.proofs.Repeats.{Fits, fits_next, reads_when, reads_repeat}
-use Rattle.fst_type_syntax.proofs.Tokens.{fixed, fixed_is, a_lower, an_upper, upper_is}
-use Rattle.fst_type_syntax.proofs.TypePhrases.{BeginsWith, AtomP as TypeAtomP}
-use Rattle.fst_type_syntax.proofs.TypeReads.{or_false, sample_mapped, uppers}
+use Rattle.fst_terms.specs.TermTree.{TermTree, no_terms}
+use Rattle.fst_reading.specs.Lexeme.{Lexeme, spells, IsUpper, upper_of}
+use Rattle.fst_reading.specs.Faults.{Phrase}
+use Rattle.fst_reading.specs.Reading.{Reader, switch, mapped, begins, repeat}
+use Rattle.fst_reading.proofs.Steps.{SomePhrase}
+use Rattle.fst_reading.proofs.Phrases as phrase
+use Rattle.fst_reading.proofs.Phrases.{Reads, never, nothing, Mapped, made, Switch, first, taken, Located, Repeat, enough, again}
+use Rattle.fst_reading.proofs.Tokens.{fixed, fixed_is, a_lower, an_upper, upper_is}
+use Rattle.fst_reading.proofs.Parts.{reads_one, reads_mapped, reads_switch, reads_as, reads_until}
+use Rattle.fst_reading.proofs.Sequences.{reads_then}
+use Rattle.fst_reading.proofs.Shut.{reads_shut}
+use Rattle.fst_reading.proofs.Repeats.{Fits, fits_next, reads_when, reads_repeat}
+use Rattle.fst_reading.proofs.Words.{BeginsWith, sample_mapped, uppers}
+use Rattle.fst_type_syntax.specs.Derives.{AtomPhrase as TypeAtomP}
 use Rattle.fst_syntax.specs.Grammar.{none}
 use Rattle.fst_syntax.specs.declared.starts.AtomStart.{AtomStart}
 use Rattle.fst_syntax.specs.declared.starts.AtomStart.TheVariants.{Name, Constructor, Number, Character, Truth, Paren}
@@ -35,6 +34,9 @@ use Rattle.fst_syntax.proofs.Begins.{StartsAtom, atom_begins}
 use Rattle.fst_syntax.proofs.Counts.{atom_count}
 use Rattle.fst_syntax.proofs.Follows.{at, after_app, after_expr}
 use Rattle.fst_syntax.proofs.TermTokens.{atom_spelled, means_plain, means_app, no_app}
+use Rattle.fst_base.specs.Choice.{choose}
+use Rattle.std.proofs.lemmas.Bool.{or_parts}
+use Rattle.fst_reading.proofs.Located.{reads_located}
 
 -- each reader inside reads the terms that may stand there
 abbrev pub Good : ℕ → Inside → Type 0
@@ -46,7 +48,7 @@ pub atom_of : (o : Option AtomStart) → is_start o ≡ true → (s : AtomStart)
 atom_of (Some s) e = (s, refl)
 atom_of None e = absurd cc
 
-pub opening_atom : (d : ℕ) (k : Lexeme) (s : AtomStart) → Some_ (BegunR d s k)
+pub opening_atom : (d : ℕ) (k : Lexeme) (s : AtomStart) → SomePhrase (BegunR d s k)
 opening_atom d k Name = record { tokens = []; value = term.named k.at k.text []; nests = []; phrase = made [] [] [] (none, refl) }
 opening_atom d k Constructor = record { tokens = []; value = term.make k.at k.text no_terms; nests = []; phrase = nothing }
 opening_atom d k (Number n) = record { tokens = []; value = term.int k.at n; nests = []; phrase = nothing }
@@ -109,11 +111,11 @@ module _ (limit : ℕ) {A : Type 0} (h : A → TermTree → A) where
       (λ e es d good fits x. reads_mapped limit (h x) (atom_with (e ∷ es)) (AtomP d) at (reads_atom limit (e ∷ es) d good fits))
       (λ d n x. let s = sample_atom d n in (record { tokens = s.0.tokens; value = h x s.0.value; nests = s.0.nests; phrase = made s.0.tokens s.0.value s.0.nests s.0.phrase }, s.1))
       (λ d x k is. let o = opens_atom d k is in (o.0, h x o.1, o.2, made (k ∷ o.0) o.1 (d ∷ o.2) o.3))
-      more_begun more_counted (λ k ts is. no_at k is) (λ rest st. or_false _ _ st) es d good fits x
+      more_begun more_counted (λ k ts is. no_at k is) (λ rest st. or_parts _ _ st) es d good fits x
 
   -- what stands behind one goes on with none
   pub at_more : (d : ℕ) (x : A) (us : List Lexeme) (y : A) (ns : List ℕ) (rest : List Lexeme) → Repeat More d x us y ns → after_app rest ≡ false → at (us ++ rest) ≡ false
-  at_more _ _ _ _ _ rest (enough d x) st = (or_false _ _ st).0
+  at_more _ _ _ _ _ rest (enough d x) st = (or_parts _ _ st).0
   at_more _ _ _ _ _ rest (again ts us vs d x y z ns ms ks s q parts nests) st =
       let b = more_begun d x us y ms s in
       ap (λ (w : List Lexeme). at (w ++ rest)) (parts ∙ ap (λ (w : List Lexeme). w ++ vs) b.3) ∙ no_at b.0 b.5
@@ -162,7 +164,7 @@ module _ (limit d : ℕ) (e : Reader TermTree) (es : Inside) (good : Good limit 
   good_next (e ∷ es) g = g.1
 
   loud : {A : Type 0} (f : Reader A) (P : Phrase A) → Reads limit f P at → Reads limit f P after_app
-  loud f P q = reads_until limit f P at after_app q (λ ts st. (or_false _ _ st).0)
+  loud f P q = reads_until limit f P at after_app q (λ ts st. (or_parts _ _ st).0)
 
   silent : {A : Type 0} (f : Reader A) (P : Phrase A) → Reads limit f P never → Reads limit f P after_app
   silent f P q = reads_until limit f P never after_app q (λ ts st. refl)
@@ -176,7 +178,7 @@ module _ (limit d : ℕ) (e : Reader TermTree) (es : Inside) (good : Good limit 
   at_mapped : (h : TermTree → TermTree) (n : ℕ) (us : List Lexeme) (y : TermTree) (ns : List ℕ) (rest : List Lexeme) → Mapped h (AtomP n) us y ns → at (us ++ rest) ≡ false
   at_mapped h n _ _ _ rest (made us t ns p) = at_atom n us t ns rest p
 
-  some_atom : (h : TermTree → TermTree) (n : ℕ) → Some_ (Mapped h (AtomP n))
+  some_atom : (h : TermTree → TermTree) (n : ℕ) → SomePhrase (Mapped h (AtomP n))
   some_atom h n = sample_mapped h (AtomP n) (sample_atom n 0).0
 
   label_filled : (us : List Lexeme) (x : Lexeme) (ns : List ℕ) → LabelP (suc d) us x ns → 0 < length us

@@ -1,13 +1,13 @@
 -- Steps of an application and of a constructor's arguments, each with what may be opened in one operand less.
 use Rattle.std.proofs.Common.{◌≡◌, ℕ, ◌-◌, ◌<◌, true, false, List, [], ◌∷◌, ◌++◌, Ok, Err, refl, ap}
 use Rattle.fst_terms.specs.TermTree as term
-use Rattle.fst_terms.specs.TermTree.{TermTree, TermList}
-use Rattle.fst_terms.specs.TermView.{terms_of}
-use Rattle.fst_type_syntax.specs.declared.reading.Stop.{Stop}
-use Rattle.fst_type_syntax.specs.declared.reading.Stop.TheVariants as stop
-use Rattle.fst_type_syntax.specs.Lexeme.{Lexeme}
-use Rattle.fst_type_syntax.specs.Reading.{Deep, Reader, bind, mapped, begins}
-use Rattle.fst_type_syntax.specs.Gives.{Fails}
+use Rattle.fst_terms.specs.TermTree.{TermTree}
+use Rattle.fst_terms.specs.ModelView.{terms_of}
+use Rattle.fst_reading.specs.declared.stop.Stop.{Stop}
+use Rattle.fst_reading.specs.declared.stop.Stop.TheVariants as stop
+use Rattle.fst_reading.specs.Lexeme.{Lexeme}
+use Rattle.fst_reading.specs.Reading.{Deep, Reader, bind, mapped, begins}
+use Rattle.fst_reading.specs.Gives.{Fails}
 use Rattle.fst_syntax.specs.TermReading.{Inside, inside, starts_atom, atom_with, appended, applications_with, arguments_with}
 use Rattle.fst_syntax.proofs.Chains.{repeat_stops, repeat_shut, repeat_goes_on, repeat_fails}
 

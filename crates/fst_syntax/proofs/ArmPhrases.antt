@@ -5,16 +5,14 @@ use Rattle.fst_types.specs.declared.kind.Use.{Use}
 use Rattle.fst_types.specs.declared.kind.Use.TheVariants as how
 use Rattle.fst_terms.specs.declared.binder.Binder.{Binder}
 use Rattle.fst_terms.specs.TermTree.{TermTree, TermArms, arm, no_arms}
-use Rattle.fst_type_syntax.specs.Lexeme.{Lexeme, spells, Is, IsLower, IsUpper}
+use Rattle.fst_reading.specs.Lexeme.{Lexeme, spells, Is, IsLower, IsUpper, lower_of, upper_of, is_one}
 use Rattle.fst_type_syntax.specs.Grammar.{IsArrow, many, once}
-use Rattle.fst_type_syntax.specs.Nesting.{level}
-use Rattle.fst_type_syntax.specs.Faults.{Phrase}
-use Rattle.fst_type_syntax.specs.TypeReading.{lower_of, upper_of, is_one}
-use Rattle.fst_type_syntax.proofs.Phrases as phrase
-use Rattle.fst_type_syntax.proofs.Phrases.{nothing, Then, Mapped, made, first, On, taken, other, Separated, Many}
-use Rattle.fst_type_syntax.proofs.Parts.{One}
-use Rattle.fst_type_syntax.proofs.TypePhrases.{Word, word_at, moved}
-use Rattle.fst_type_syntax.proofs.Tokens.{only_is, lower_is, is_lower, one_is, is_one_so}
+use Rattle.fst_reading.specs.Faults.{level, Phrase}
+use Rattle.fst_reading.proofs.Words.{Word, word_at, moved}
+use Rattle.fst_reading.proofs.Tokens.{only_is, lower_is, is_lower, one_is, is_one_so}
+use Rattle.fst_reading.proofs.Phrases as phrase
+use Rattle.fst_reading.proofs.Phrases.{nothing, Then, Mapped, made, first, On, taken, other, Separated, Many}
+use Rattle.fst_reading.proofs.Parts.{One}
 use Rattle.fst_syntax.specs.Grammar.{bound, AreNames, none, name, AreCases, last_case, further_case, AreMatches, last_match, further_match}
 use Rattle.fst_syntax.specs.Nesting.{expr_nests, cases_nests, matches_nests}
 use Rattle.fst_syntax.specs.TermReading.{Arm, arms}

@@ -7,20 +7,17 @@ use Rattle.fst_terms.specs.declared.binder.Binder.{Binder}
 use Rattle.fst_terms.specs.TermTree.{TermTree, TermArms}
 use Rattle.fst_lexer.specs.declared.token.TokenKind.{TokenKind}
 use Rattle.fst_lexer.specs.declared.token.TokenKind.TheVariants as kind
-use Rattle.fst_type_syntax.specs.Lexeme.{Lexeme, spells_by, spells, Is}
-use Rattle.fst_type_syntax.specs.Grammar.{start}
-use Rattle.fst_type_syntax.specs.Faults.{Phrase}
-use Rattle.fst_type_syntax.specs.Reading.{Halt, Reader, bind, give, andthen, mapped, switch, one, only, word, begins, when, many_within, separated}
-use Rattle.fst_type_syntax.specs.TypeReading.{lower_of, upper_of, is_one}
-use Rattle.fst_type_syntax.proofs.Phrases as phrase
-use Rattle.fst_type_syntax.proofs.Phrases.{Reads, never, nothing, Then, Mapped, made, first, Separated}
-use Rattle.fst_type_syntax.proofs.Steps.{Some_, chosen, mapped_err}
-use Rattle.fst_type_syntax.proofs.Parts.{One, reads_one, reads_mapped, reads_on, reads_as}
-use Rattle.fst_type_syntax.proofs.Sequences.{reads_then, reads_behind, reads_separated}
-use Rattle.fst_type_syntax.proofs.Manys.{reads_many}
-use Rattle.fst_type_syntax.proofs.TypePhrases.{Word}
-use Rattle.fst_type_syntax.proofs.TypeReads.{reads_first, reads_word, words, lowers, uppers, sample_then, or_false}
-use Rattle.fst_type_syntax.proofs.Tokens.{no_other, only_is, lower_is, word_not_one, is_lower as means_lower}
+use Rattle.fst_reading.specs.Lexeme.{Lexeme, spells_by, spells, Is, start, lower_of, upper_of, is_one}
+use Rattle.fst_reading.specs.Faults.{Phrase}
+use Rattle.fst_reading.proofs.Steps.{mapped_err, SomePhrase}
+use Rattle.fst_reading.specs.Reading.{Halt, Reader, bind, give, andthen, mapped, switch, one, only, word, begins, when, many_within, separated}
+use Rattle.fst_reading.proofs.Words.{Word, reads_first, reads_word, words, lowers, uppers, sample_then}
+use Rattle.fst_reading.proofs.Phrases as phrase
+use Rattle.fst_reading.proofs.Phrases.{Reads, never, nothing, Mapped, made, first}
+use Rattle.fst_reading.proofs.Tokens.{no_other, only_is, lower_is, word_not_one, is_lower as means_lower}
+use Rattle.fst_reading.proofs.Parts.{One, reads_one, reads_mapped, reads_on, reads_as}
+use Rattle.fst_reading.proofs.Sequences.{reads_then, reads_behind, reads_separated}
+use Rattle.fst_reading.proofs.Manys.{reads_many}
 use Rattle.fst_syntax.specs.Grammar.{bound, none}
 use Rattle.fst_syntax.specs.TermReading.{is_lower, lower_kind, Arm, arms, names, arrow_at, case_arm_with, match_arm_with, arms_with}
 use Rattle.fst_syntax.proofs.AtomPhrases.{ExprP}
@@ -29,6 +26,8 @@ use Rattle.fst_syntax.proofs.Samples.{sample_lower, sample_term, sample_body, sa
 use Rattle.fst_syntax.proofs.Fronts.{by_word}
 use Rattle.fst_syntax.proofs.ExprPhrases.{ClosedR, ArmsR}
 use Rattle.fst_syntax.proofs.Follows.{after_expr, brace, comma, ends_expr}
+use Rattle.fst_base.proofs.Choices.{chosen}
+use Rattle.std.proofs.lemmas.Bool.{or_parts}
 
 -- a name behind others makes them more
 abbrev pub lower_next : List Lexeme → Bool
@@ -135,10 +134,10 @@ module _ (limit d : ℕ) (low : d ≤ limit) (e : Reader TermTree) (r : Reads li
   arm_next ts = after_expr ts || begins (spells (codes ",")) ts
 
   -- arms in braces, of one sort
-  module _ (f : Reader Arm) (F : Phrase Arm) (rf : Reads limit f F after_expr) (some : (n : ℕ) → (s : Some_ F) × (0 < length s.tokens) × (start s.tokens ≡ n))
+  module _ (f : Reader Arm) (F : Phrase Arm) (rf : Reads limit f F after_expr) (some : (n : ℕ) → (s : SomePhrase F) × (0 < length s.tokens) × (start s.tokens ≡ n))
       (filled : (us : List Lexeme) (x : Arm) (ns : List ℕ) → F us x ns → 0 < length us) where
     reads_list : Reads limit (separated (spells (codes ",")) f) (ListR d F) arm_next
-    reads_list = reads_separated limit d low (spells (codes ",")) f F after_expr arm_next rf some filled (λ k ts is. ends_expr (codes ",") comma k ts is) (λ rest st. or_false _ _ st)
+    reads_list = reads_separated limit d low (spells (codes ",")) f F after_expr arm_next rf some filled (λ k ts is. ends_expr (codes ",") comma k ts is) (λ rest st. or_parts _ _ st)
 
     list_filled : (us : List Lexeme) (xs : List Arm) (ns : List ℕ) → ListR d F us xs ns → 0 < length us
     list_filled _ _ _ (phrase.last ts x ns p) = filled ts x ns p

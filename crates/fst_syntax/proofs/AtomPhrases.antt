@@ -3,14 +3,14 @@ use Rattle.std.proofs.Common.{◌≡◌, ℕ, suc, true, false, List, [], ◌∷
 use Rattle.std.specs.Prelude.{codes}
 use Rattle.fst_types.specs.WrittenTree.{WrittenTree}
 use Rattle.fst_terms.specs.TermTree as term
-use Rattle.fst_terms.specs.TermTree.{TermTree, TermList, no_terms}
-use Rattle.fst_type_syntax.specs.Lexeme.{Lexeme, spells, Is}
-use Rattle.fst_type_syntax.specs.Faults.{Phrase}
+use Rattle.fst_terms.specs.TermTree.{TermTree, no_terms}
+use Rattle.fst_reading.specs.Lexeme.{Lexeme, spells, Is}
+use Rattle.fst_reading.specs.Faults.{Phrase}
 use Rattle.fst_type_syntax.specs.Nesting.{atom_nests as type_atom_nests}
-use Rattle.fst_type_syntax.proofs.Phrases as phrase
-use Rattle.fst_type_syntax.proofs.Phrases.{Give, nothing, Then, Mapped, made, Switch, first, On, taken, other, Many}
-use Rattle.fst_type_syntax.proofs.TypePhrases.{Word, word_at, moved, AtomP as TypeAtomP}
-use Rattle.fst_type_syntax.proofs.Tokens.{only_is}
+use Rattle.fst_reading.proofs.Phrases as phrase
+use Rattle.fst_reading.proofs.Phrases.{Give, nothing, Then, Mapped, made, Switch, first, On, taken, other, Many}
+use Rattle.fst_type_syntax.specs.Derives.{AtomPhrase as TypeAtomP}
+use Rattle.fst_reading.proofs.Words.{Word, word_at, moved}
 use Rattle.fst_syntax.specs.Grammar.{AreApplied, none, applied, IsExpr, IsAtom, constructor, plain, IsPlain, named, number, character, yes, no, unit, group, pair}
 use Rattle.fst_syntax.specs.Nesting.{applied_nests, expr_nests, atom_nests, plain_nests}
 use Rattle.fst_syntax.specs.declared.starts.AtomStart.{AtomStart}
@@ -18,6 +18,7 @@ use Rattle.fst_syntax.specs.declared.starts.AtomStart.TheVariants.{Name, Constru
 use Rattle.fst_syntax.specs.TermReading.{atom_start, plain_start}
 use Rattle.fst_syntax.proofs.ChainPhrases.{AtomP, PlainP}
 use Rattle.fst_syntax.proofs.TermTokens.{MeansAtom, atom_means, means_atom, MeansPlain, plain_means, plain_atom, means_plain}
+use Rattle.fst_reading.proofs.Tokens.{only_is}
 
 abbrev pub ExprP : ℕ → Phrase TermTree
 ExprP d ts t ns = (s : IsExpr ts t) × (expr_nests d s ≡ ns)

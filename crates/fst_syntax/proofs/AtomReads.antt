@@ -5,22 +5,20 @@ use Rattle.fst_types.specs.WrittenTree as written
 use Rattle.fst_types.specs.WrittenTree.{WrittenTree}
 use Rattle.fst_terms.specs.TermTree as term
 use Rattle.fst_terms.specs.TermTree.{TermTree, no_terms}
-use Rattle.fst_type_syntax.specs.Lexeme.{Lexeme, spells}
-use Rattle.fst_type_syntax.specs.Grammar.{start, skip}
-use Rattle.fst_type_syntax.specs.Faults.{Phrase}
-use Rattle.fst_type_syntax.specs.Reading.{Reader, choose, mapped, only, word, begins, on}
-use Rattle.fst_type_syntax.specs.TypeReading.{start_of, is_begun, starts_type_atom, seq_at, type_at}
-use Rattle.fst_type_syntax.proofs.Phrases as phrase
-use Rattle.fst_type_syntax.proofs.Phrases.{Reads, never, Give, nothing, Then, Mapped, made, first, On, taken, other, Many}
-use Rattle.fst_type_syntax.proofs.Steps.{Some_}
-use Rattle.fst_type_syntax.proofs.Parts.{Sample, reads_give, reads_mapped, reads_switch, reads_on, reads_as, reads_until}
-use Rattle.fst_type_syntax.proofs.Sequences.{reads_then}
-use Rattle.fst_type_syntax.proofs.Shut.{reads_shut}
-use Rattle.fst_type_syntax.proofs.Repeats.{Fits}
-use Rattle.fst_type_syntax.proofs.Manys.{reads_many}
-use Rattle.fst_type_syntax.proofs.Tokens.{fixed, fixed_is, a_lower, only_is, no_other, option_of}
-use Rattle.fst_type_syntax.proofs.TypePhrases.{Word, AtomP as TypeAtomP, atom_to as type_atom_to, atom_begins as type_atom_begins}
-use Rattle.fst_type_syntax.proofs.TypeReads.{reads_atom as reads_type_atom_with, reads_seq, reads_type, atom_count as type_atom_count, opening_by, reads_first, reads_word, words, sample_mapped, sample_word}
+use Rattle.fst_reading.specs.Lexeme.{Lexeme, spells, start}
+use Rattle.fst_type_syntax.specs.Grammar.{skip}
+use Rattle.fst_reading.specs.Faults.{Phrase}
+use Rattle.fst_reading.specs.Reading.{Reader, mapped, only, word, begins, on}
+use Rattle.fst_type_syntax.specs.TypeReading.{starts_type_atom, seq_at, type_at}
+use Rattle.fst_reading.proofs.Phrases as phrase
+use Rattle.fst_reading.proofs.Phrases.{Reads, never, nothing, Then, Mapped, made, first, taken, other, Many}
+use Rattle.fst_reading.proofs.Steps.{SomePhrase}
+use Rattle.fst_reading.proofs.Parts.{Sample, reads_give, reads_mapped, reads_switch, reads_on, reads_as, reads_until}
+use Rattle.fst_reading.proofs.Sequences.{reads_then}
+use Rattle.fst_reading.proofs.Shut.{reads_shut}
+use Rattle.fst_reading.proofs.Repeats.{Fits}
+use Rattle.fst_reading.proofs.Manys.{reads_many}
+use Rattle.fst_reading.proofs.Tokens.{fixed, fixed_is, a_lower, only_is, no_other}
 use Rattle.fst_syntax.specs.Grammar.{none, named, plain, one_plain, head, one_app, one_unary, one_prod, one_sum, one_cmp, one_and, one_or}
 use Rattle.fst_syntax.specs.declared.starts.AtomStart.{AtomStart}
 use Rattle.fst_syntax.specs.declared.starts.AtomStart.TheVariants.{Name, Constructor, Number, Character, Truth, Paren}
@@ -30,23 +28,21 @@ use Rattle.fst_syntax.proofs.AtomPhrases.{ExprP, AppliedP, ArgumentR, applied_to
 use Rattle.fst_syntax.proofs.Follows.{at, after_expr, closes, comma, ends_expr}
 use Rattle.fst_syntax.proofs.TermBegins.{expr_begins, no_expr}
 use Rattle.fst_syntax.proofs.TermTokens.{means_atom}
+use Rattle.fst_base.specs.Choice.{choose}
+use Rattle.fst_reading.proofs.Words.{Word, reads_first, reads_word, words, sample_mapped, sample_word}
+use Rattle.fst_type_syntax.specs.Derives.{AtomPhrase as TypeAtomP}
+use Rattle.fst_type_syntax.proofs.Laws.{atom_begins as type_atom_begins, atom_opens, reads_atom as reads_type_atom_with, reads_seq, reads_type, atom_count as type_atom_count}
 
 -- an atomic type is read where it isn't too deep
-sample_type_atom : (d n : ℕ) → (s : Some_ (TypeAtomP d)) × (start s.tokens ≡ n)
+sample_type_atom : (d n : ℕ) → (s : SomePhrase (TypeAtomP d)) × (start s.tokens ≡ n)
 sample_type_atom d n = (record { tokens = fixed (codes "Skip") n ∷ []; value = written.skip n; nests = d ∷ []; phrase = (skip (fixed (codes "Skip") n) (fixed_is (codes "Skip") n), refl) }, refl)
-
-opens_type_atom : (d : ℕ) (k : Lexeme) → starts_type_atom k ≡ true → (others : List Lexeme) × (x : WrittenTree) × (ns : List ℕ) × TypeAtomP d (k ∷ others) x (d ∷ ns)
-opens_type_atom d k is =
-    let s = option_of (start_of k) is in
-    let q = opening_by d k s.0 in
-    (q.tokens, q.value, q.nests, type_atom_to d _ _ _ (first k s.0 q.tokens q.value q.nests s.1 q.phrase))
 
 pub reads_type_atom : (limit : ℕ) (es : Inside) (d : ℕ) → Fits limit es d → Reads limit (type_atom_with es) (TypeAtomP d) never
 unfolding type_atom_with
 reads_type_atom limit [] d over =
     reads_shut limit starts_type_atom (TypeAtomP d) never (λ n. sample_type_atom d n)
-    (λ k is. let o = opens_type_atom d k is in (o.0, o.1, d, o.2, o.3, over))
-    (λ us x ns p. let b = type_atom_begins d us x ns p in (b.0, b.1, d, b.2, b.3, b.4, ap is_begun b.5.1, over))
+    (λ k is. let o = atom_opens d k is in (o.0, o.1, d, o.2, o.3, over))
+    (λ us x ns p. let b = type_atom_begins d us x ns p in (b.0, b.1, d, b.2, b.3, b.4, b.5, over))
     (λ us x ns p. ap length (sym p.1) ∙ type_atom_count d p.0)
 reads_type_atom limit (e ∷ es) d is =
     let n = length es in
@@ -66,10 +62,10 @@ reads_applied limit e es d is =
     begun _ _ _ (phrase.pair _ _ ws _ _ _ _ ls (first k x _ _ _ e nothing) a parts nests) = (k, ws, parts, only_is (spells (codes "@")) k x e)
 
 -- a term made up
-pub sample_atom : (d n : ℕ) → (s : Some_ (AtomP d)) × (start s.tokens ≡ n)
+pub sample_atom : (d n : ℕ) → (s : SomePhrase (AtomP d)) × (start s.tokens ≡ n)
 sample_atom d n = (record { tokens = a_lower n ∷ []; value = term.named n [] []; nests = d ∷ []; phrase = (plain _ _ (named (a_lower n) [] [] refl none), refl) }, refl)
 
-pub sample_expr : (d n : ℕ) → (s : Some_ (ExprP d)) × (start s.tokens ≡ n)
+pub sample_expr : (d n : ℕ) → (s : SomePhrase (ExprP d)) × (start s.tokens ≡ n)
 sample_expr d n =
     let a = one_plain _ _ (named (a_lower n) [] [] refl none) in
     (record { tokens = a_lower n ∷ []; value = term.named n [] []; nests = d ∷ []; phrase = (one_or _ _ (one_and _ _ (one_cmp _ _ (one_sum _ _ (one_prod _ _ (one_unary _ _ (one_app _ _ (head _ _ a))))))), refl) }, refl)
@@ -88,7 +84,7 @@ module _ (limit d : ℕ) (e : Reader TermTree) (es : Inside) (fits : Fits limit 
   closing : (t : TermTree) → Reads limit (mapped (λ c. t) (word (codes ")"))) (Mapped (λ (c : Unit {0}). t) (Word d (codes ")"))) never
   closing t = reads_mapped limit (λ c. t) (word (codes ")")) (Word d (codes ")")) never (reads_word limit d low (codes ")"))
 
-  some_closing : (t : TermTree) → Some_ (Mapped (λ (c : Unit {0}). t) (Word d (codes ")")))
+  some_closing : (t : TermTree) → SomePhrase (Mapped (λ (c : Unit {0}). t) (Word d (codes ")")))
   some_closing t = sample_mapped (λ (c : Unit {0}). t) (Word d (codes ")")) (sample_word d (codes ")"))
 
   reads_pair : (k : Lexeme) (t : TermTree) → Reads limit (pair_with e k.at t) (PairR d k t) never

@@ -1,8 +1,8 @@
 -- With which tokens atoms begin.
 use Rattle.std.proofs.Common.{◌≡◌, ℕ, true, List, [], ◌++◌, refl, ap, ◌∙◌}
 use Rattle.fst_terms.specs.TermTree.{TermTree}
-use Rattle.fst_type_syntax.specs.Lexeme.{Lexeme}
-use Rattle.fst_type_syntax.proofs.TypePhrases.{BeginsWith}
+use Rattle.fst_reading.specs.Lexeme.{Lexeme}
+use Rattle.fst_reading.proofs.Words.{BeginsWith}
 use Rattle.fst_syntax.specs.Grammar.{IsHead, one_plain, apply, IsAtom, constructor, plain, IsPlain}
 use Rattle.fst_syntax.specs.Nesting.{head_nests, atom_nests, plain_nests}
 use Rattle.fst_syntax.specs.declared.starts.AtomStart.TheVariants.{Constructor}

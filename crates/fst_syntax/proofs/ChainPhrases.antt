@@ -5,12 +5,11 @@ use Rattle.fst_terms.specs.declared.term.Op.{Op}
 use Rattle.fst_terms.specs.declared.term.Op.TheVariants as op
 use Rattle.fst_terms.specs.TermTree as term
 use Rattle.fst_terms.specs.TermTree.{TermTree}
-use Rattle.fst_type_syntax.specs.Lexeme.{Lexeme, spells, Is}
-use Rattle.fst_type_syntax.specs.Grammar.{start}
-use Rattle.fst_type_syntax.specs.Faults.{Phrase}
-use Rattle.fst_type_syntax.specs.Reading.{choose}
-use Rattle.fst_type_syntax.proofs.Phrases.{Mapped, made, Switch, first}
-use Rattle.fst_type_syntax.proofs.Tokens.{no_other}
+use Rattle.fst_reading.specs.Lexeme.{Lexeme, spells, Is, start}
+use Rattle.fst_reading.specs.Faults.{Phrase}
+use Rattle.fst_reading.proofs.Tokens.{no_other}
+use Rattle.fst_base.specs.Choice.{choose}
+use Rattle.fst_reading.proofs.Phrases.{Mapped, made, Switch, first}
 use Rattle.fst_syntax.specs.Grammar.{IsAddition, add, subtract, IsOr, one_and, more_or, IsAnd, one_cmp, more_and, IsCmp, IsSum, one_prod, more_sum, IsProd, one_unary, more_prod, IsUnary, IsHead, one_plain, apply, IsAtom, IsPlain}
 use Rattle.fst_syntax.specs.Nesting.{or_nests, or_operands, and_nests, and_operands, cmp_nests, sum_nests, sum_operands, prod_nests, prod_operands, unary_nests, head_nests, head_operands, atom_nests, plain_nests}
 use Rattle.fst_syntax.specs.TermReading.{operator, addition}

@@ -3,19 +3,19 @@ use Rattle.std.proofs.Common.{◌≡◌, ℕ, suc, ◌<◌, Bool, true, false, L
 use Rattle.fst_terms.specs.declared.term.Op.{Op}
 use Rattle.fst_terms.specs.TermTree as term
 use Rattle.fst_terms.specs.TermTree.{TermTree}
-use Rattle.fst_type_syntax.specs.Lexeme.{Lexeme}
-use Rattle.fst_type_syntax.specs.Grammar.{start}
-use Rattle.fst_type_syntax.specs.Faults.{Phrase}
-use Rattle.fst_type_syntax.specs.Reading.{Reader, mapped, switch, begins}
-use Rattle.fst_type_syntax.proofs.Phrases.{Reads, pair, Mapped, made, first, Located, Repeat, enough, again}
-use Rattle.fst_type_syntax.proofs.Steps.{Some_}
-use Rattle.fst_type_syntax.proofs.Parts.{Sample, reads_mapped, reads_switch, reads_located, reads_as, locate}
-use Rattle.fst_type_syntax.proofs.Sequences.{reads_then}
-use Rattle.fst_type_syntax.proofs.Repeats.{Fits, fits_next, reads_repeat}
-use Rattle.fst_type_syntax.proofs.TypeReads.{sample_mapped}
+use Rattle.fst_reading.specs.Lexeme.{Lexeme, start}
+use Rattle.fst_reading.specs.Faults.{Phrase}
+use Rattle.fst_reading.proofs.Steps.{SomePhrase}
+use Rattle.fst_reading.specs.Reading.{Reader, mapped, switch, begins}
+use Rattle.fst_reading.proofs.Phrases.{Reads, pair, Mapped, made, first, Located, Repeat, enough, again}
+use Rattle.fst_reading.proofs.Words.{sample_mapped}
+use Rattle.fst_reading.proofs.Parts.{Sample, reads_mapped, reads_switch, reads_as}
+use Rattle.fst_reading.proofs.Sequences.{reads_then}
+use Rattle.fst_reading.proofs.Repeats.{Fits, fits_next, reads_repeat}
 use Rattle.fst_syntax.specs.TermReading.{Inside, is_op, next, chain_with, chain}
 use Rattle.fst_syntax.proofs.Lefts.{Left, Right, left_filled, to_left, of_left}
 use Rattle.fst_syntax.proofs.ChainPhrases.{Step}
+use Rattle.fst_reading.proofs.Located.{reads_located, locate}
 
 -- what fits still fits behind the first operand
 pub fits_behind : (limit : ℕ) (es : Inside) (d : ℕ) → Fits limit es d → Fits limit (next es) (suc d)
@@ -25,7 +25,7 @@ fits_behind limit (e ∷ es) d is = fits_next limit e es d is
 module _ (limit : ℕ) (p : Lexeme → Option Op) (operand : Inside → Reader TermTree) (P : ℕ → Phrase TermTree) (more stop : List Lexeme → Bool)
     (Good : Inside → Type 0) (nil : Good []) (tail : (e : Reader TermTree) (es : Inside) → Good (e ∷ es) → Good es)
     (r : (es : Inside) (d : ℕ) → Good es → Fits limit es d → Reads limit (operand es) (P d) more)
-    (sample : (d n : ℕ) → (s : Some_ (P d)) × (start s.tokens ≡ n))
+    (sample : (d n : ℕ) → (s : SomePhrase (P d)) × (start s.tokens ≡ n))
     (filled : (d : ℕ) (us : List Lexeme) (t : TermTree) (ns : List ℕ) → P d us t ns → 0 < length us)
     (count : (d : ℕ) (us : List Lexeme) (t : TermTree) (ns : List ℕ) → P d us t ns → length ns ≡ length us)
     (ops : (n : ℕ) → (k : Lexeme) × (o : Op) × (k.at ≡ n) × (p k ≡ Some o))
@@ -44,7 +44,7 @@ module _ (limit : ℕ) (p : Lexeme → Option Op) (operand : Inside → Reader T
       reads_switch limit d (omega (arith, fits)) p (λ o k. mapped (term.operate at o t) (operand (e ∷ es))) (λ o k. Mapped (term.operate at o t) (P d)) more
       (λ o k. reads_mapped limit (term.operate at o t) (operand (e ∷ es)) (P d) more (r (e ∷ es) d good fits)) (λ n. step_sample at d n t)
 
-  some_step : (at d n : ℕ) (t : TermTree) → (s : Some_ (Step p P at d t)) × (start s.tokens ≡ n)
+  some_step : (at d n : ℕ) (t : TermTree) → (s : SomePhrase (Step p P at d t)) × (start s.tokens ≡ n)
   some_step at d n t =
       let s = step_sample at d n t in
       (record { tokens = s.token ∷ s.rest.tokens; value = s.rest.value; nests = d ∷ s.rest.nests; phrase = first s.token s.meaning s.rest.tokens s.rest.value s.rest.nests s.is s.rest.phrase }, s.place_is)

@@ -3,12 +3,13 @@ use Rattle.std.proofs.Common.{◌≡◌, ℕ, zero, suc, ◌-◌, ◌<◌, Bool,
 use Rattle.fst_terms.specs.declared.term.Op.{Op}
 use Rattle.fst_terms.specs.TermTree as term
 use Rattle.fst_terms.specs.TermTree.{TermTree}
-use Rattle.fst_type_syntax.specs.declared.reading.Stop.{Stop}
-use Rattle.fst_type_syntax.specs.declared.reading.Stop.TheVariants as stop
-use Rattle.fst_type_syntax.specs.Lexeme.{Lexeme}
-use Rattle.fst_type_syntax.specs.Reading.{Deep, Reader, bind, choose, give, andthen, mapped, switch, when, shut, begins, repeat}
-use Rattle.fst_type_syntax.specs.Gives.{Fails}
+use Rattle.fst_reading.specs.declared.stop.Stop.{Stop}
+use Rattle.fst_reading.specs.declared.stop.Stop.TheVariants as stop
+use Rattle.fst_reading.specs.Lexeme.{Lexeme}
+use Rattle.fst_reading.specs.Reading.{Deep, Reader, bind, give, andthen, mapped, switch, when, shut, begins, repeat}
+use Rattle.fst_reading.specs.Gives.{Fails}
 use Rattle.fst_syntax.specs.TermReading.{Inside, inside, is_op, chain_with}
+use Rattle.fst_base.specs.Choice.{choose}
 
 module _ {A : Type 0} (test : Lexeme → Bool) (step : Inside → A → Reader A) (x : A) (ts : List Lexeme) where
   pub repeat_stops : (es : Inside) → begins test ts ≡ false → repeat test step es x ts ≡ Ok (x, ts)

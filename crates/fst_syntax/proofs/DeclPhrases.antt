@@ -6,15 +6,14 @@ use Rattle.fst_types.specs.WrittenTree.{WrittenTree}
 use Rattle.fst_terms.specs.declared.binder.Binder.{Binder}
 use Rattle.fst_terms.specs.ModuleTree as declared
 use Rattle.fst_terms.specs.ModuleTree.{Maker, Declared}
-use Rattle.fst_type_syntax.specs.Lexeme.{Lexeme, spells, Is, IsLower, IsUpper}
-use Rattle.fst_type_syntax.specs.Nesting.{level, type_nests, atom_nests}
-use Rattle.fst_type_syntax.specs.Faults.{Phrase}
-use Rattle.fst_type_syntax.specs.TypeReading.{lower_of, upper_of}
-use Rattle.fst_type_syntax.proofs.Phrases as phrase
-use Rattle.fst_type_syntax.proofs.Phrases.{Then, Mapped, made, On, taken, other, Separated, Many}
-use Rattle.fst_type_syntax.proofs.Parts.{One}
-use Rattle.fst_type_syntax.proofs.TypePhrases.{Word, moved, TypeP, AtomP as TypeAtomP}
-use Rattle.fst_type_syntax.proofs.QuestionReads.{BindersR, binders_to, binders_from}
+use Rattle.fst_reading.specs.Lexeme.{Lexeme, spells, Is, IsLower, IsUpper, lower_of, upper_of}
+use Rattle.fst_type_syntax.specs.Nesting.{type_nests, atom_nests}
+use Rattle.fst_reading.specs.Faults.{level, Phrase}
+use Rattle.fst_reading.proofs.Words.{Word, moved}
+use Rattle.fst_reading.proofs.Phrases as phrase
+use Rattle.fst_reading.proofs.Phrases.{Then, Mapped, made, On, taken, other, Separated, Many}
+use Rattle.fst_reading.proofs.Parts.{One}
+use Rattle.fst_type_syntax.specs.Derives.{TypePhrase, AtomPhrase as TypeAtomP, BindersPhrase}
 use Rattle.fst_syntax.specs.Grammar.{bound, AreTypes, none, type, AreMakers, last, further, IsDecl, family, alias, signature, over, equation}
 use Rattle.fst_syntax.specs.Nesting.{expr_nests, fields_nests, makers_nests, decl_nests}
 use Rattle.fst_syntax.proofs.AtomPhrases.{ExprP}
@@ -106,17 +105,17 @@ FamilyR = Then (One 0 upper_of) (λ (x : Lexeme). MakersBehindR x)
 
 -- behind `type`
 abbrev pub TypeBehindR : Lexeme → Phrase Declared
-TypeBehindR x = Then (Word 0 (codes "=")) (λ (u : Unit {0}). Mapped (declared.alias (bound x)) (TypeP 0))
+TypeBehindR x = Then (Word 0 (codes "=")) (λ (u : Unit {0}). Mapped (declared.alias (bound x)) (TypePhrase 0))
 
 abbrev pub AliasR : Phrase Declared
 AliasR = Then (One 0 upper_of) (λ (x : Lexeme). TypeBehindR x)
 
 -- behind the colon of a signature
 abbrev pub DotR : Lexeme → List (Binder × Kind) → Phrase Declared
-DotR x bs = Then (Word 0 (codes ".")) (λ (u : Unit {0}). Mapped (declared.signature (bound x) bs) (TypeP 0))
+DotR x bs = Then (Word 0 (codes ".")) (λ (u : Unit {0}). Mapped (declared.signature (bound x) bs) (TypePhrase 0))
 
 abbrev pub SignatureR : Lexeme → Phrase Declared
-SignatureR x = On 0 (spells (codes "forall")) (Then BindersR (λ (bs : List (Binder × Kind)). DotR x bs)) (Mapped (declared.signature (bound x) []) (TypeP 0))
+SignatureR x = On 0 (spells (codes "forall")) (Then BindersPhrase (λ (bs : List (Binder × Kind)). DotR x bs)) (Mapped (declared.signature (bound x) []) (TypePhrase 0))
 
 -- behind the name of an equation
 abbrev pub BodyR : Lexeme → List Binder → Phrase Declared
@@ -141,16 +140,16 @@ family_to k is =
 alias_to : (k : Lexeme) → Is (codes "type") k → (ts : List Lexeme) (d : Declared) (ns : List ℕ) → AliasR ts d ns → DeclP (k ∷ ts) d (0 ∷ ns)
 alias_to k is =
     by_upper 0 (λ x. TypeBehindR x) (λ ts d ns. DeclP (k ∷ ts) d (0 ∷ ns))
-    (λ x us d ms name q. by_word 0 (codes "=") (Mapped (declared.alias (bound x)) (TypeP 0)) (λ ts d ns. DeclP (k ∷ x ∷ ts) d (0 ∷ 0 ∷ ns))
-    (λ e vs d ks equals q. by_mapped (declared.alias (bound x)) (TypeP 0) (λ ts d ns. DeclP (k ∷ x ∷ e ∷ ts) d (0 ∷ 0 ∷ 0 ∷ ns))
+    (λ x us d ms name q. by_word 0 (codes "=") (Mapped (declared.alias (bound x)) (TypePhrase 0)) (λ ts d ns. DeclP (k ∷ x ∷ ts) d (0 ∷ 0 ∷ ns))
+    (λ e vs d ks equals q. by_mapped (declared.alias (bound x)) (TypePhrase 0) (λ ts d ns. DeclP (k ∷ x ∷ e ∷ ts) d (0 ∷ 0 ∷ 0 ∷ ns))
     (λ vs t ks s. (alias k x e vs t is name equals s.0, ap (λ (w : List ℕ). 0 ∷ 0 ∷ 0 ∷ w) s.1)) vs d ks q) us d ms q)
 
 signature_to : (x c : Lexeme) → IsLower x → Is (codes ":") c → (ts : List Lexeme) (d : Declared) (ns : List ℕ) → SignatureR x ts d ns → DeclP (x ∷ c ∷ ts) d (0 ∷ 0 ∷ ns)
 signature_to x c name colon _ _ _ (taken f ts d ns is p) =
-    by_then BindersR (λ (bs : List (Binder × Kind)). DotR x bs) (λ ts d ns. DeclP (x ∷ c ∷ f ∷ ts) d (0 ∷ 0 ∷ 0 ∷ ns))
-    (λ us vs bs d ms ks b q. let o = binders_to us bs ms b in by_word 0 (codes ".") (Mapped (declared.signature (bound x) bs) (TypeP 0)) (λ ts d ns. DeclP (x ∷ c ∷ f ∷ us ++ ts) d (0 ∷ 0 ∷ 0 ∷ ms ++ ns))
-    (λ p vs d ks dot q. by_mapped (declared.signature (bound x) bs) (TypeP 0) (λ ts d ns. DeclP (x ∷ c ∷ f ∷ us ++ p ∷ ts) d (0 ∷ 0 ∷ 0 ∷ ms ++ 0 ∷ ns))
-    (λ vs t ks s. (over x c f p us vs _ bs t name colon is o.0 dot s.0 refl, (let e : 0 ∷ 0 ∷ 0 ∷ level 0 us ++ 0 ∷ type_nests 0 s.0 ≡ 0 ∷ 0 ∷ 0 ∷ ms ++ 0 ∷ ks = rw (o.1, s.1) refl in e))) vs d ks q) vs d ks q) ts d ns p
+    by_then BindersPhrase (λ (bs : List (Binder × Kind)). DotR x bs) (λ ts d ns. DeclP (x ∷ c ∷ f ∷ ts) d (0 ∷ 0 ∷ 0 ∷ ns))
+    (λ us vs bs d ms ks b q. by_word 0 (codes ".") (Mapped (declared.signature (bound x) bs) (TypePhrase 0)) (λ ts d ns. DeclP (x ∷ c ∷ f ∷ us ++ ts) d (0 ∷ 0 ∷ 0 ∷ ms ++ ns))
+    (λ p vs d ks dot q. by_mapped (declared.signature (bound x) bs) (TypePhrase 0) (λ ts d ns. DeclP (x ∷ c ∷ f ∷ us ++ p ∷ ts) d (0 ∷ 0 ∷ 0 ∷ ms ++ 0 ∷ ns))
+    (λ vs t ks s. (over x c f p us vs _ bs t name colon is b.0 dot s.0 refl, (let e : 0 ∷ 0 ∷ 0 ∷ level 0 us ++ 0 ∷ type_nests 0 s.0 ≡ 0 ∷ 0 ∷ 0 ∷ ms ++ 0 ∷ ks = rw (b.1, s.1) refl in e))) vs d ks q) vs d ks q) ts d ns p
 signature_to x c name colon _ _ _ (other _ _ _ (made ts t ns s)) = (signature x c ts t name colon s.0, ap (λ (w : List ℕ). 0 ∷ 0 ∷ w) s.1)
 
 equation_to : (x : Lexeme) → IsLower x → (ts : List Lexeme) (d : Declared) (ns : List ℕ) → EquationR x ts d ns → DeclP (x ∷ ts) d (0 ∷ ns)
@@ -178,14 +177,14 @@ of_decl _ _ (family k x e ts makers is name equals s) =
     (then_word 0 (codes "=") (Mapped (declared.family (bound x)) MakersP) e ts _ _ equals (made ts makers _ (s, refl))))
 of_decl _ _ (alias k x e ts t is name equals s) =
     other _ _ _ (taken k (x ∷ e ∷ ts) _ _ is (then_upper 0 (λ x. TypeBehindR x) x (e ∷ ts) _ _ name
-    (then_word 0 (codes "=") (Mapped (declared.alias (bound x)) (TypeP 0)) e ts _ _ equals (made ts t _ (s, refl)))))
+    (then_word 0 (codes "=") (Mapped (declared.alias (bound x)) (TypePhrase 0)) e ts _ _ equals (made ts t _ (s, refl)))))
 of_decl _ _ (signature x c ts t name colon s) =
     other _ _ _ (other _ _ _ (then_lower 0 (λ x. On 0 (spells (codes ":")) (SignatureR x) (EquationR x)) x (c ∷ ts) _ _ name (taken c ts _ _ colon (other _ _ _ (made ts t _ (s, refl))))))
 of_decl _ _ (over x c f p vs ts all bs t name colon is b dot s parts) =
     moved DeclR all (x ∷ c ∷ f ∷ vs ++ p ∷ ts) _ _ _ _ parts refl refl
     (other _ _ _ (other _ _ _ (then_lower 0 (λ x. On 0 (spells (codes ":")) (SignatureR x) (EquationR x)) x (c ∷ f ∷ vs ++ p ∷ ts) _ _ name (taken c (f ∷ vs ++ p ∷ ts) _ _ colon
-    (taken f (vs ++ p ∷ ts) _ _ is (phrase.pair _ vs (p ∷ ts) bs _ _ (level 0 vs) (0 ∷ type_nests 0 s) (binders_from vs bs b)
-    (then_word 0 (codes ".") (Mapped (declared.signature (bound x) bs) (TypeP 0)) p ts _ _ dot (made ts t _ (s, refl))) refl refl))))))
+    (taken f (vs ++ p ∷ ts) _ _ is (phrase.pair _ vs (p ∷ ts) bs _ _ (level 0 vs) (0 ∷ type_nests 0 s) (b, refl)
+    (then_word 0 (codes ".") (Mapped (declared.signature (bound x) bs) (TypePhrase 0)) p ts _ _ dot (made ts t _ (s, refl))) refl refl))))))
 of_decl _ _ (equation x e xs ts all binders t name names equals s parts) =
     moved DeclR all (x ∷ xs ++ e ∷ ts) _ _ _ _ parts refl refl
     (other _ _ _ (other _ _ _ (then_lower 0 (λ x. On 0 (spells (codes ":")) (SignatureR x) (EquationR x)) x (xs ++ e ∷ ts) _ _ name

@@ -8,23 +8,22 @@ use Rattle.fst_types.specs.WrittenTree.{WrittenTree}
 use Rattle.fst_terms.specs.declared.binder.Binder.{Binder}
 use Rattle.fst_terms.specs.ModuleTree as declared
 use Rattle.fst_terms.specs.ModuleTree.{Maker, Declared}
-use Rattle.fst_type_syntax.specs.Lexeme.{Lexeme, spells, Is}
-use Rattle.fst_type_syntax.specs.Grammar.{start}
-use Rattle.fst_type_syntax.specs.Faults.{Phrase}
-use Rattle.fst_type_syntax.specs.Reading.{choose, andthen, mapped, one, only, finish, begins, on, separated}
-use Rattle.fst_type_syntax.specs.TypeReading.{start_named, base_named, is_begun, starts_type_atom, lower_of, upper_of, seq_at, type_at, atom_with as written_atom_with, binder_at}
-use Rattle.fst_type_syntax.proofs.Phrases as phrase
-use Rattle.fst_type_syntax.proofs.Phrases.{Reads, never, nothing, Then, Mapped, made, first, On, taken, other, Many}
-use Rattle.fst_type_syntax.proofs.Steps.{Some_}
-use Rattle.fst_type_syntax.proofs.Parts.{End, ended, any, reads_mapped, reads_on, reads_as, reads_until, reads_finish}
-use Rattle.fst_type_syntax.proofs.Sequences.{reads_then, reads_behind, reads_separated}
-use Rattle.fst_type_syntax.proofs.Manys.{reads_many}
-use Rattle.fst_type_syntax.proofs.TypePhrases.{Word, TypeP, AtomP as TypeAtomP, atom_begins as type_atom_begins, type_begins, moved}
-use Rattle.fst_type_syntax.proofs.TypeReads.{reads_atom as reads_type_atom_with, reads_seq, reads_type, reads_first, words, lowers, uppers, sample_word, sample_mapped, sample_then, sample_type, goes}
-use Rattle.fst_type_syntax.proofs.QuestionReads.{BindersR, reads_binders, binders_filled, comma}
-use Rattle.fst_type_syntax.proofs.Tokens.{no_other, an_upper, start_spelled, no_type}
+use Rattle.fst_reading.specs.Lexeme.{Lexeme, spells, Is, start, lower_of, upper_of}
+use Rattle.fst_reading.specs.Faults.{Phrase}
+use Rattle.fst_reading.proofs.Steps.{SomePhrase}
+use Rattle.fst_reading.specs.Reading.{andthen, mapped, one, only, finish, begins, on, separated}
+use Rattle.fst_type_syntax.specs.TypeReading.{start_named, base_named, starts_type_atom, seq_at, type_at, atom_with as written_atom_with, binder_at}
+use Rattle.fst_reading.proofs.Phrases as phrase
+use Rattle.fst_reading.proofs.Phrases.{Reads, never, Then, Mapped, made, On, taken, other, Many}
+use Rattle.fst_reading.proofs.Words.{Word, moved, reads_first, words, lowers, uppers, sample_word, sample_mapped, sample_then, comma}
+use Rattle.fst_reading.proofs.Parts.{End, ended, any, reads_mapped, reads_on, reads_as, reads_until, reads_finish}
+use Rattle.fst_reading.proofs.Sequences.{reads_then, reads_behind, reads_separated}
+use Rattle.fst_reading.proofs.Manys.{reads_many}
+use Rattle.fst_type_syntax.specs.Derives.{TypePhrase, AtomPhrase as TypeAtomP, lengthens, BindersPhrase}
+use Rattle.fst_type_syntax.proofs.Laws.{atom_begins as type_atom_begins, no_atom_word, type_begins, reads_atom as reads_type_atom_with, reads_seq, reads_type, sample_type, reads_binders, binders_filled, no_type_word}
+use Rattle.fst_reading.proofs.Tokens.{no_other, an_upper}
 use Rattle.fst_syntax.specs.Grammar.{bound, AreNames, none, name, IsDecl, family, alias, signature, over, equation}
-use Rattle.fst_syntax.specs.TermReading.{names, fields_at, maker_at, family_at, alias_at, signature_at, equation_at, decl_at, decl_whole, expr_at}
+use Rattle.fst_syntax.specs.TermReading.{names, expr_at}
 use Rattle.fst_syntax.proofs.AtomPhrases.{ExprP}
 use Rattle.fst_syntax.proofs.AtomReads.{sample_expr}
 use Rattle.fst_syntax.proofs.ArmPhrases.{NamesP}
@@ -34,6 +33,8 @@ use Rattle.fst_syntax.proofs.DeclPhrases.{FieldsP, fields_to, fields_from, maker
 use Rattle.fst_syntax.proofs.ExprReads.{name_spells}
 use Rattle.fst_syntax.proofs.Follows.{after_expr}
 use Rattle.fst_syntax.proofs.Fronts.{by_word, by_lower}
+use Rattle.fst_base.specs.Choice.{choose}
+use Rattle.fst_syntax.specs.DeclReading.{fields_at, maker_at, family_at, alias_at, signature_at, equation_at, decl_at, decl_whole}
 
 -- what may stand behind the fields of a constructor to make them more
 abbrev field_next : List Lexeme → Bool
@@ -42,7 +43,7 @@ field_next ts = begins starts_type_atom ts
 -- a reserved word or a sign with which no atomic type begins
 bar_no_field : (k : Lexeme) → Is (codes "|") k → starts_type_atom k ≡ false
 unfolding start_named base_named choose
-bar_no_field k is = ap is_begun (start_spelled (codes "|") k is)
+bar_no_field k is = no_atom_word (codes "|") k refl is
 
 nothing_left : (f : List Lexeme → Bool) → f [] ≡ false → (rest : List Lexeme) → any rest ≡ false → f rest ≡ false
 nothing_left f free [] st = free
@@ -73,10 +74,10 @@ module _ (limit : ℕ) where
       reads_as limit _ (Many (TypeAtomP 0)) FieldsP field_next
       (reads_many limit starts_type_atom (written_atom_with (seq_at limit) (type_at limit)) (TypeAtomP 0) never field_next
       (reads_type_atom_with limit 0 low (seq_at limit) (type_at limit) (reads_seq limit limit 1 (omega arith)) (reads_type limit limit 0 (omega arith)))
-      (λ us x ns p. let b = type_atom_begins 0 us x ns p in (b.0, b.1, b.3, ap is_begun b.5.1)) (λ k ts is. refl) (λ rest st. (refl, st)))
+      (λ us x ns p. let b = type_atom_begins 0 us x ns p in (b.0, b.1, b.3, b.5)) (λ k ts is. refl) (λ rest st. (refl, st)))
       fields_to fields_from
 
-  sample_fields : Some_ FieldsP
+  sample_fields : SomePhrase FieldsP
   sample_fields = record { tokens = []; value = []; nests = []; phrase = (none, refl) }
 
   reads_maker : Reads limit (maker_at limit) MakerR field_next
@@ -85,7 +86,7 @@ module _ (limit : ℕ) where
       reads_first limit 0 low upper_of uppers _ _ field_next (λ l. reads_mapped limit (maker_of l) (fields_at limit) FieldsP field_next reads_fields)
       (λ l. record { tokens = []; value = maker_of l []; nests = []; phrase = made [] [] [] (none, refl) })
 
-  sample_maker : (n : ℕ) → (s : Some_ MakerR) × (0 < length s.tokens) × (start s.tokens ≡ n)
+  sample_maker : (n : ℕ) → (s : SomePhrase MakerR) × (0 < length s.tokens) × (start s.tokens ≡ n)
   sample_maker n = (record { tokens = an_upper n ∷ []; value = maker_of (an_upper n) []; nests = 0 ∷ []; phrase = maker_from (an_upper n) [] [] [] refl (none, refl) }, omega arith, refl)
 
   maker_filled : (us : List Lexeme) (m : Maker) (ns : List ℕ) → MakerR us m ns → 0 < length us
@@ -98,7 +99,7 @@ module _ (limit : ℕ) where
       (λ rest st. (nothing_left field_next refl rest st, nothing_left (begins (spells (codes "|"))) refl rest st)))
       makers_to makers_from
 
-  some_makers : (x : Lexeme) → Some_ (MakersBehindR x)
+  some_makers : (x : Lexeme) → SomePhrase (MakersBehindR x)
   some_makers x =
       let m = (sample_maker 0).0 in
       let s = makers_to m.tokens (m.value ∷ []) m.nests (phrase.last m.tokens m.value m.nests m.phrase) in
@@ -114,11 +115,11 @@ module _ (limit : ℕ) where
       (λ x. some_makers x)
 
   -- what a function makes of a type
-  reads_whole_type : (h : WrittenTree → Declared) → Reads limit (mapped h (type_at limit)) (Mapped h (TypeP 0)) any
-  reads_whole_type h = reads_mapped limit h (type_at limit) (TypeP 0) any (reads_until limit (type_at limit) (TypeP 0) goes any (reads_type limit limit 0 (omega arith)) (λ rest st. nothing_left goes refl rest st))
+  reads_whole_type : (h : WrittenTree → Declared) → Reads limit (mapped h (type_at limit)) (Mapped h (TypePhrase 0)) any
+  reads_whole_type h = reads_mapped limit h (type_at limit) (TypePhrase 0) any (reads_until limit (type_at limit) (TypePhrase 0) lengthens any (reads_type limit limit 0 (omega arith)) (λ rest st. nothing_left lengthens refl rest st))
 
-  some_type : (h : WrittenTree → Declared) → Some_ (Mapped h (TypeP 0))
-  some_type h = sample_mapped h (TypeP 0) (sample_type 0 0)
+  some_type : (h : WrittenTree → Declared) → SomePhrase (Mapped h (TypePhrase 0))
+  some_type h = sample_mapped h (TypePhrase 0) (sample_type 0 0)
 
   reads_alias : Reads limit (alias_at limit) AliasR any
   unfolding alias_at
@@ -127,23 +128,23 @@ module _ (limit : ℕ) where
       (λ x. reads_first limit 0 low (only (spells (codes "="))) (words (codes "=")) _ _ any (λ u. reads_whole_type (declared.alias (bound x))) (λ u. some_type (declared.alias (bound x))))
       (λ x. sample_then (Word 0 (codes "=")) _ (sample_word 0 (codes "=")) (λ u. some_type (declared.alias (bound x))))
 
-  some_dot : (x : Lexeme) (bs : List (Binder × Kind)) → Some_ (DotR x bs)
+  some_dot : (x : Lexeme) (bs : List (Binder × Kind)) → SomePhrase (DotR x bs)
   some_dot x bs = sample_then (Word 0 (codes ".")) _ (sample_word 0 (codes ".")) (λ u. some_type (declared.signature (bound x) bs))
 
   no_comma : (x : Lexeme) (bs : List (Binder × Kind)) (us : List Lexeme) (y : Declared) (ns : List ℕ) (rest : List Lexeme) → DotR x bs us y ns → comma (us ++ rest) ≡ false
-  no_comma x bs us y ns rest = by_word 0 (codes ".") (Mapped (declared.signature (bound x) bs) (TypeP 0)) (λ us y ns. comma (us ++ rest) ≡ false) (λ k us y ns is q. no_other (codes ".") (codes ",") k refl is) us y ns
+  no_comma x bs us y ns rest = by_word 0 (codes ".") (Mapped (declared.signature (bound x) bs) (TypePhrase 0)) (λ us y ns. comma (us ++ rest) ≡ false) (λ k us y ns is q. no_other (codes ".") (codes ",") k refl is) us y ns
 
-  no_forall : (x : Lexeme) (us : List Lexeme) (y : Declared) (ns : List ℕ) (rest : List Lexeme) → Mapped (declared.signature (bound x) []) (TypeP 0) us y ns → any rest ≡ false → begins (spells (codes "forall")) (us ++ rest) ≡ false
+  no_forall : (x : Lexeme) (us : List Lexeme) (y : Declared) (ns : List ℕ) (rest : List Lexeme) → Mapped (declared.signature (bound x) []) (TypePhrase 0) us y ns → any rest ≡ false → begins (spells (codes "forall")) (us ++ rest) ≡ false
   unfolding start_named base_named choose
   no_forall x _ _ _ rest (made us t ns p) st =
       let b = type_begins 0 us t ns p in
-      ap (λ (w : List Lexeme). begins (spells (codes "forall")) (w ++ rest)) b.3 ∙ no_type (codes "forall") b.0 refl refl b.5
+      ap (λ (w : List Lexeme). begins (spells (codes "forall")) (w ++ rest)) b.3 ∙ no_type_word (codes "forall") b.0 refl refl b.5
 
   reads_signature : (x : Lexeme) → Reads limit (signature_at limit (bound x)) (SignatureR x) any
   unfolding signature_at
   reads_signature x =
       reads_on limit 0 low (spells (codes "forall")) _ _ _ _ any
-      (reads_then limit (separated (spells (codes ",")) binder_at) _ BindersR _ comma any (reads_binders limit)
+      (reads_then limit (separated (spells (codes ",")) binder_at) _ BindersPhrase _ comma any (reads_binders limit)
       (λ bs. reads_first limit 0 low (only (spells (codes "."))) (words (codes ".")) _ _ any (λ u. reads_whole_type (declared.signature (bound x) bs)) (λ u. some_type (declared.signature (bound x) bs)))
       (λ bs. some_dot x bs) binders_filled (λ us bs ns vs y ms rest q st. no_comma x bs vs y ms rest q))
       (reads_whole_type (declared.signature (bound x) [])) (no_forall x)
@@ -154,10 +155,10 @@ module _ (limit : ℕ) where
       reads_mapped limit (declared.equation (bound x) xs) (expr_at limit) (ExprP 1) any
       (reads_until limit (expr_at limit) (ExprP 1) after_expr any (reads_expr_at limit limit 1 (omega arith)) (λ rest st. nothing_left after_expr refl rest st))
 
-  some_term : (x : Lexeme) (xs : List Binder) → Some_ (Mapped (declared.equation (bound x) xs) (ExprP 1))
+  some_term : (x : Lexeme) (xs : List Binder) → SomePhrase (Mapped (declared.equation (bound x) xs) (ExprP 1))
   some_term x xs = let s = (sample_expr 1 0).0 in record { tokens = s.tokens; value = declared.equation (bound x) xs s.value; nests = s.nests; phrase = made s.tokens s.value s.nests s.phrase }
 
-  some_body : (x : Lexeme) (xs : List Binder) → Some_ (BodyR x xs)
+  some_body : (x : Lexeme) (xs : List Binder) → SomePhrase (BodyR x xs)
   some_body x xs = sample_then (Word 0 (codes "=")) _ (sample_word 0 (codes "=")) (λ u. some_term x xs)
 
   no_name : (x : Lexeme) (xs : List Binder) (us : List Lexeme) (y : Declared) (ns : List ℕ) (rest : List Lexeme) → BodyR x xs us y ns → lower_next (us ++ rest) ≡ false
@@ -188,9 +189,9 @@ module _ (limit : ℕ) where
       (λ x. reads_on limit 0 low (spells (codes ":")) _ _ _ _ any (reads_signature x) (reads_equation x) (no_colon x))
       (λ x. let s = sample_then (NamesP 0) _ (record { tokens = []; value = []; nests = []; phrase = (none, refl) }) (λ xs. some_body x xs) in record { tokens = s.tokens; value = s.value; nests = s.nests; phrase = other _ _ _ s.phrase })
 
-  no_type_word : (w : List ℕ) → bytes_eq (codes "type") w ≡ false → (us : List Lexeme) (y : Declared) (ns : List ℕ) (rest : List Lexeme) → On 0 (spells (codes "type")) AliasR NamedR us y ns → any rest ≡ false → begins (spells w) (us ++ rest) ≡ false
-  no_type_word w not us _ _ rest (taken k ts y ns is q) st = no_other (codes "type") w k not is
-  no_type_word w not _ _ _ rest (other us y ns q) st = no_named w us y ns rest q st
+  not_type : (w : List ℕ) → bytes_eq (codes "type") w ≡ false → (us : List Lexeme) (y : Declared) (ns : List ℕ) (rest : List Lexeme) → On 0 (spells (codes "type")) AliasR NamedR us y ns → any rest ≡ false → begins (spells w) (us ++ rest) ≡ false
+  not_type w not us _ _ rest (taken k ts y ns is q) st = no_other (codes "type") w k not is
+  not_type w not _ _ _ rest (other us y ns q) st = no_named w us y ns rest q st
 
   pub reads_decl : Reads limit (decl_at limit) DeclP any
   unfolding decl_at
@@ -198,7 +199,7 @@ module _ (limit : ℕ) where
       reads_as limit _ DeclR DeclP any
       (reads_on limit 0 low (spells (codes "data")) _ _ _ _ any reads_family
       (reads_on limit 0 low (spells (codes "type")) _ _ _ _ any reads_alias reads_named (no_named (codes "type")))
-      (no_type_word (codes "data") refl))
+      (not_type (codes "data") refl))
       decl_to decl_from
 
   -- a declaration with nothing behind it

@@ -6,17 +6,16 @@ use Rattle.fst_types.specs.declared.kind.Use.{Use}
 use Rattle.fst_types.specs.WrittenTree.{WrittenTree}
 use Rattle.fst_terms.specs.TermTree as term
 use Rattle.fst_terms.specs.TermTree.{TermTree, TermArms}
-use Rattle.fst_type_syntax.specs.Lexeme.{Lexeme, spells, Is}
-use Rattle.fst_type_syntax.specs.Grammar.{start}
-use Rattle.fst_type_syntax.specs.Nesting.{level, seq_nests}
-use Rattle.fst_type_syntax.specs.Faults.{Phrase}
-use Rattle.fst_type_syntax.specs.TypeReading.{lower_of}
-use Rattle.fst_type_syntax.proofs.Phrases as phrase
-use Rattle.fst_type_syntax.proofs.Phrases.{Give, nothing, Then, Mapped, made, Switch, first, On, taken, other, Located, at, Either, one}
-use Rattle.fst_type_syntax.proofs.Parts.{One, locate}
-use Rattle.fst_type_syntax.proofs.TypePhrases.{Word, word_at, moved, SeqP}
-use Rattle.fst_type_syntax.proofs.Steps.{start_more}
-use Rattle.fst_type_syntax.proofs.Tokens.{only_is}
+use Rattle.fst_reading.specs.Lexeme.{Lexeme, spells, Is, start, lower_of}
+use Rattle.fst_reading.specs.Faults.{level, Phrase}
+use Rattle.fst_type_syntax.specs.Nesting.{seq_nests}
+use Rattle.fst_reading.proofs.Words.{Word, word_at, moved}
+use Rattle.fst_reading.proofs.Steps.{start_more}
+use Rattle.fst_reading.proofs.Phrases as phrase
+use Rattle.fst_reading.proofs.Phrases.{Give, nothing, Then, Mapped, made, Switch, first, On, taken, other, Located, at, Either, one}
+use Rattle.fst_reading.proofs.Parts.{One}
+use Rattle.fst_type_syntax.specs.Derives.{SeqPhrase}
+use Rattle.fst_reading.proofs.Tokens.{only_is}
 use Rattle.fst_syntax.specs.Grammar.{bound, IsExpr, let_in, split, if_else, lambda, case_of, match_with, one_or, seq}
 use Rattle.fst_syntax.specs.Nesting.{expr_nests, cases_nests, matches_nests, or_nests}
 use Rattle.fst_syntax.specs.declared.starts.ExprStart.{ExprStart}
@@ -28,6 +27,7 @@ use Rattle.fst_syntax.proofs.ArmPhrases.{ArrowP, CaseArmR, MatchArmR, ListR, cas
 use Rattle.fst_syntax.proofs.TermBegins.{or_begins}
 use Rattle.fst_syntax.proofs.ExprTokens.{MeansExpr, expr_means, means_expr}
 use Rattle.fst_syntax.proofs.Fronts.{by_then, by_mapped, by_word, then_word, by_lower, then_lower}
+use Rattle.fst_reading.proofs.Located.{locate}
 
 -- a term, and behind a word another one
 abbrev pub BetweenR : ℕ → List ℕ → (TermTree → Phrase TermTree) → Phrase TermTree
@@ -62,7 +62,7 @@ abbrev pub ResultR : ℕ → Lexeme → Lexeme → WrittenTree → Phrase TermTr
 ResultR d k x t = Then (ArrowP d) (λ (uses : Use). Mapped (term.lambda k.at uses t (bound x)) (ExprP (suc d)))
 
 abbrev pub ParameterR : ℕ → Lexeme → Lexeme → Phrase TermTree
-ParameterR d k x = Then (Word d (codes ":")) (λ (u : Unit {0}). Then (SeqP (suc d)) (λ (t : WrittenTree). ResultR d k x t))
+ParameterR d k x = Then (Word d (codes ":")) (λ (u : Unit {0}). Then (SeqPhrase (suc d)) (λ (t : WrittenTree). ResultR d k x t))
 
 abbrev pub LambdaR : ℕ → Lexeme → Phrase TermTree
 LambdaR d k = Then (One d lower_of) (λ (x : Lexeme). ParameterR d k x)
@@ -156,8 +156,8 @@ if_to d k is =
 lambda_to : (d : ℕ) (k : Lexeme) → Is (codes "\\") k → (ts : List Lexeme) (t : TermTree) (ns : List ℕ) → LambdaR d k ts t ns → ExprP d (k ∷ ts) t (d ∷ ns)
 lambda_to d k is =
     by_lower d (λ (x : Lexeme). ParameterR d k x) (λ ts t ns. ExprP d (k ∷ ts) t (d ∷ ns))
-    (λ x us t ms name q. by_word d (codes ":") (Then (SeqP (suc d)) (λ (t : WrittenTree). ResultR d k x t)) (λ ts t ns. ExprP d (k ∷ x ∷ ts) t (d ∷ d ∷ ns))
-    (λ c us t ms colon q. by_then (SeqP (suc d)) (λ (t : WrittenTree). ResultR d k x t) (λ ts t ns. ExprP d (k ∷ x ∷ c ∷ ts) t (d ∷ d ∷ d ∷ ns))
+    (λ x us t ms name q. by_word d (codes ":") (Then (SeqPhrase (suc d)) (λ (t : WrittenTree). ResultR d k x t)) (λ ts t ns. ExprP d (k ∷ x ∷ ts) t (d ∷ d ∷ ns))
+    (λ c us t ms colon q. by_then (SeqPhrase (suc d)) (λ (t : WrittenTree). ResultR d k x t) (λ ts t ns. ExprP d (k ∷ x ∷ c ∷ ts) t (d ∷ d ∷ d ∷ ns))
     (λ us vs a t ms ks s q. by_then (ArrowP d) (λ (uses : Use). Mapped (term.lambda k.at uses a (bound x)) (ExprP (suc d))) (λ ts t ns. ExprP d (k ∷ x ∷ c ∷ us ++ ts) t (d ∷ d ∷ d ∷ ms ++ ns))
     (λ vs ws uses t ks ls r q. by_mapped (term.lambda k.at uses a (bound x)) (ExprP (suc d)) (λ ts t ns. ExprP d (k ∷ x ∷ c ∷ us ++ (vs ++ ts)) t (d ∷ d ∷ d ∷ ms ++ (ks ++ ns)))
     (λ ws t ls p. (
@@ -255,7 +255,7 @@ of_expr d _ _ (if_else k h e ts us vs all t u v is s then_is r else_is q parts) 
 of_expr d _ _ (lambda k x c ts ks us all a uses t is name colon s r q parts) =
     begun d Lambda k all (x ∷ c ∷ ts ++ (ks ++ us)) _ _ is parts
     (then_lower d (λ (x : Lexeme). ParameterR d k x) x (c ∷ ts ++ (ks ++ us)) _ _ name
-    (then_word d (codes ":") (Then (SeqP (suc d)) (λ (t : WrittenTree). ResultR d k x t)) c (ts ++ (ks ++ us)) _ _ colon
+    (then_word d (codes ":") (Then (SeqPhrase (suc d)) (λ (t : WrittenTree). ResultR d k x t)) c (ts ++ (ks ++ us)) _ _ colon
     (phrase.pair _ ts (ks ++ us) a _ _ (seq_nests (suc d) s) (level d ks ++ expr_nests (suc d) q) (s, refl)
     (phrase.pair _ ks us uses _ _ (level d ks) (expr_nests (suc d) q) (r, refl) (made us t _ (q, refl)) refl refl) refl refl)))
 of_expr d _ _ (case_of k f o c ts us all t bs is s of_is opens a closes parts) =

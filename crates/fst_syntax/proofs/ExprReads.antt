@@ -4,20 +4,20 @@ use Rattle.std.specs.Prelude.{codes}
 use Rattle.fst_types.specs.declared.kind.Use.{Use}
 use Rattle.fst_types.specs.WrittenTree.{WrittenTree}
 use Rattle.fst_terms.specs.TermTree as term
-use Rattle.fst_terms.specs.TermTree.{TermTree, TermArms}
-use Rattle.fst_type_syntax.specs.Lexeme.{Lexeme, spells, IsLower}
+use Rattle.fst_terms.specs.TermTree.{TermTree}
+use Rattle.fst_reading.specs.Lexeme.{Lexeme, spells, IsLower, lower_of}
 use Rattle.fst_type_syntax.specs.Grammar.{IsArrow, many, once}
-use Rattle.fst_type_syntax.specs.Faults.{Phrase}
-use Rattle.fst_type_syntax.specs.Reading.{Reader, give, andthen, mapped, one, only, word, begins, on}
-use Rattle.fst_type_syntax.specs.TypeReading.{lower_of, seq_at}
-use Rattle.fst_type_syntax.proofs.Phrases as phrase
-use Rattle.fst_type_syntax.proofs.Phrases.{Reads, never, Give, nothing, Then, Mapped, made, Switch, first, On, taken, other, Located, Either, one as one_way}
-use Rattle.fst_type_syntax.proofs.Steps.{Some_}
-use Rattle.fst_type_syntax.proofs.Parts.{One, reads_give, reads_mapped, reads_on, reads_until}
-use Rattle.fst_type_syntax.proofs.Sequences.{reads_then}
-use Rattle.fst_type_syntax.proofs.TypePhrases.{Word, SeqP, seq_begins}
-use Rattle.fst_type_syntax.proofs.TypeReads.{reads_first, reads_seq, words, lowers, sample_word, sample_then, sample_seq, semi, or_false}
-use Rattle.fst_type_syntax.proofs.Tokens.{no_other, lower_is, one_spells}
+use Rattle.fst_reading.specs.Faults.{Phrase}
+use Rattle.fst_reading.specs.Reading.{Reader, give, andthen, mapped, one, only, word, begins, on}
+use Rattle.fst_type_syntax.specs.TypeReading.{seq_at}
+use Rattle.fst_reading.proofs.Phrases as phrase
+use Rattle.fst_reading.proofs.Phrases.{Reads, never, Give, nothing, Then, Mapped, first}
+use Rattle.fst_reading.proofs.Steps.{SomePhrase}
+use Rattle.fst_reading.proofs.Parts.{One, reads_give, reads_mapped, reads_on, reads_until}
+use Rattle.fst_reading.proofs.Sequences.{reads_then}
+use Rattle.fst_type_syntax.specs.Derives.{SeqPhrase, lengthens_seq}
+use Rattle.fst_type_syntax.proofs.Laws.{seq_begins, reads_seq, sample_seq}
+use Rattle.fst_reading.proofs.Words.{Word, reads_first, words, lowers, sample_word, sample_then}
 use Rattle.fst_syntax.specs.Grammar.{bound}
 use Rattle.fst_syntax.specs.declared.starts.ExprStart.{ExprStart}
 use Rattle.fst_syntax.specs.declared.starts.ExprStart.TheVariants.{Let, If, Lambda, Case, Match}
@@ -30,6 +30,8 @@ use Rattle.fst_syntax.proofs.Samples.{sample_lower, sample_term, sample_case_arm
 use Rattle.fst_syntax.proofs.ExprPhrases.{BetweenR, InR, NamedR, SplitR, ElseR, IfR, ResultR, LambdaR, ArmsR, CasesR, MatchesR, BegunR, BehindR}
 use Rattle.fst_syntax.proofs.Follows.{after_expr, Ends, in_, then_, else_, of_, with_, ends_expr}
 use Rattle.fst_syntax.proofs.Fronts.{by_word}
+use Rattle.fst_reading.proofs.Tokens.{no_other, lower_is, one_spells}
+use Rattle.std.proofs.lemmas.Bool.{or_parts}
 
 -- a lower name is no reserved word and no sign
 pub name_spells : (w : List ℕ) (k : Lexeme) → IsLower k → spells w k ≡ false
@@ -45,7 +47,7 @@ module _ (limit d n : ℕ) (low : d + n ≡ limit) (e : Reader TermTree) (r : Re
 
   -- a term, a word that ends it, and what follows
   module _ (w : List ℕ) (ends : Ends w) (g : TermTree → Reader TermTree) (Q : TermTree → Phrase TermTree) (more : List Lexeme → Bool)
-      (s : (t : TermTree) → Reads limit (g t) (Q t) more) (some : (t : TermTree) → Some_ (Q t)) where
+      (s : (t : TermTree) → Reads limit (g t) (Q t) more) (some : (t : TermTree) → SomePhrase (Q t)) where
     closed : (t : TermTree) (us : List Lexeme) (y : TermTree) (ns : List ℕ) (rest : List Lexeme) → Then (Word d w) (λ (u : Unit {0}). Q t) us y ns → after_expr (us ++ rest) ≡ false
     closed t us y ns rest = by_word d w (Q t) (λ us y ns. after_expr (us ++ rest) ≡ false) (λ k us y ns is q. ends_expr w ends k (us ++ rest) is) us y ns
 
@@ -93,7 +95,7 @@ module _ (limit d n : ℕ) (low : d + n ≡ limit) (e : Reader TermTree) (r : Re
   unfolding if_with
   reads_if k = reads_between (codes "then") then_ _ (λ t. ElseR d k t) after_expr (λ t. reads_else k t) (λ t. sample_else d k t)
 
-  seq_filled : (us : List Lexeme) (t : WrittenTree) (ns : List ℕ) → SeqP (suc d) us t ns → 0 < length us
+  seq_filled : (us : List Lexeme) (t : WrittenTree) (ns : List ℕ) → SeqPhrase (suc d) us t ns → 0 < length us
   seq_filled us t ns p = let b = seq_begins (suc d) us t ns p in omega (arith, ap length b.3)
 
   arrow_filled : (us : List Lexeme) (u : Use) (ns : List ℕ) → ArrowP d us u ns → 0 < length us
@@ -103,24 +105,24 @@ module _ (limit d n : ℕ) (low : d + n ≡ limit) (e : Reader TermTree) (r : Re
       of_arrow (many k is) = omega arith
       of_arrow (once m k is is') = omega arith
 
-  no_semi : (us : List Lexeme) (u : Use) → IsArrow us u → (rest : List Lexeme) → semi (us ++ rest) ≡ false
+  no_semi : (us : List Lexeme) (u : Use) → IsArrow us u → (rest : List Lexeme) → lengthens_seq (us ++ rest) ≡ false
   no_semi _ _ (many k is) rest = no_other (codes "->") (codes ";") k refl is
   no_semi _ _ (once m k is is') rest = one_spells (codes ";") m is
 
-  no_semi_behind : (k x : Lexeme) (t : WrittenTree) (us : List Lexeme) (y : TermTree) (ns : List ℕ) (rest : List Lexeme) → ResultR d k x t us y ns → semi (us ++ rest) ≡ false
+  no_semi_behind : (k x : Lexeme) (t : WrittenTree) (us : List Lexeme) (y : TermTree) (ns : List ℕ) (rest : List Lexeme) → ResultR d k x t us y ns → lengthens_seq (us ++ rest) ≡ false
   no_semi_behind k x t _ _ _ rest (phrase.pair ts us vs uses _ _ _ _ p q parts nests) =
-      ap (λ (w : List Lexeme). semi (w ++ rest)) parts ∙ ap semi (append_assoc us vs rest) ∙ no_semi us uses p.0 (vs ++ rest)
+      ap (λ (w : List Lexeme). lengthens_seq (w ++ rest)) parts ∙ ap lengthens_seq (append_assoc us vs rest) ∙ no_semi us uses p.0 (vs ++ rest)
 
   reads_lambda : (k : Lexeme) → Reads limit (lambda_with e n k.at) (LambdaR d k) after_expr
   unfolding lambda_with
   reads_lambda k =
       reads_first limit d fits lower_of lowers _ _ after_expr
       (λ x. reads_first limit d fits (only (spells (codes ":"))) (words (codes ":")) _ _ after_expr
-      (λ c. reads_then limit (seq_at n) _ (SeqP (suc d)) _ semi after_expr (reads_seq limit n (suc d) (omega (arith, low)))
+      (λ c. reads_then limit (seq_at n) _ (SeqPhrase (suc d)) _ lengthens_seq after_expr (reads_seq limit n (suc d) (omega (arith, low)))
       (λ t. reads_then limit arrow_at _ (ArrowP d) _ never after_expr (reads_arrow limit d fits) (λ uses. reads_term (term.lambda k.at uses t (bound x))) (λ uses. sample_term d (term.lambda k.at uses t (bound x)))
       arrow_filled (λ us u ns vs y ms rest q st. refl))
       (λ t. sample_result d k x t) seq_filled (λ us t ns vs y ms rest q st. no_semi_behind k x t vs y ms rest q))
-      (λ c. sample_then (SeqP (suc d)) _ (sample_seq (suc d) 0) (λ t. sample_result d k x t)))
+      (λ c. sample_then (SeqPhrase (suc d)) _ (sample_seq (suc d) 0) (λ t. sample_result d k x t)))
       (λ x. sample_parameter d k x)
 
   reads_cases : (k : Lexeme) (t : TermTree) → Reads limit (mapped (term.case_of k.at t) (arms_with e (case_arm_with e))) (CasesR d k t) never
@@ -153,4 +155,4 @@ module _ (limit d n : ℕ) (low : d + n ≡ limit) (e : Reader TermTree) (r : Re
       reads_on limit d fits (spells (codes ";")) _ _ _ _ after_expr (reads_term (term.seq at t)) (reads_until limit (give t) (Give t) never after_expr (reads_give limit t) (λ ts st. refl)) free
     where
       free : (us : List Lexeme) (y : TermTree) (ns : List ℕ) (rest : List Lexeme) → Give t us y ns → after_expr rest ≡ false → begins (spells (codes ";")) (us ++ rest) ≡ false
-      free _ _ _ rest nothing st = (or_false _ _ st).1
+      free _ _ _ rest nothing st = (or_parts _ _ st).1

@@ -3,10 +3,10 @@ use Rattle.std.proofs.Common.{◌≡◌, ◌⊎◌, inl, inr, true, Option, Some
 use Rattle.std.specs.Prelude.{codes}
 use Rattle.fst_lexer.specs.declared.token.TokenKind.{TokenKind}
 use Rattle.fst_lexer.specs.declared.token.TokenKind.TheVariants as kind
-use Rattle.fst_type_syntax.specs.Lexeme.{Lexeme, Is}
-use Rattle.fst_type_syntax.specs.Reading.{choose}
-use Rattle.fst_type_syntax.proofs.Steps.{chosen}
-use Rattle.fst_type_syntax.proofs.Tokens.{spelled_so, some_is}
+use Rattle.fst_reading.specs.Lexeme.{Lexeme, Is}
+use Rattle.fst_base.specs.Choice.{choose}
+use Rattle.fst_base.proofs.Choices.{chosen}
+use Rattle.fst_reading.proofs.Tokens.{spelled_so, some_is}
 use Rattle.fst_syntax.specs.declared.starts.ExprStart.{ExprStart}
 use Rattle.fst_syntax.specs.declared.starts.ExprStart.TheVariants.{Let, If, Lambda, Case, Match}
 use Rattle.fst_syntax.specs.TermReading.{expr_named, expr_by, expr_start, is_expr_start}

@@ -3,11 +3,12 @@ use Rattle.std.proofs.Common.{◌≡◌, ℕ, Bool, false, ◌||◌, List, [], �
 use Rattle.std.specs.Prelude.{codes}
 use Rattle.std.specs.Str.{bytes_eq}
 use Rattle.fst_terms.specs.declared.term.Op.TheVariants as op
-use Rattle.fst_type_syntax.specs.Lexeme.{Lexeme, spells, Is}
-use Rattle.fst_type_syntax.specs.Reading.{choose, begins}
-use Rattle.fst_type_syntax.proofs.Tokens.{fixed, spelled}
+use Rattle.fst_reading.specs.Lexeme.{Lexeme, spells, Is}
+use Rattle.fst_reading.specs.Reading.{begins}
+use Rattle.fst_reading.proofs.Tokens.{fixed, spelled}
 use Rattle.fst_syntax.specs.TermReading.{operator, addition, comparison, is_op, is_start, atom_named, starts_atom}
 use Rattle.fst_syntax.proofs.TermTokens.{atom_spelled}
+use Rattle.fst_base.specs.Choice.{choose}
 
 -- whether a token is an operator of such a chain
 abbrev pub times : Lexeme → Bool

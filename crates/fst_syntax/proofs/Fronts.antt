@@ -1,14 +1,13 @@
 -- Phrases by what stands at their front, taken apart and put together.
 use Rattle.std.proofs.Common.{ℕ, List, [], ◌∷◌, ◌++◌, refl, sym, subst}
-use Rattle.fst_type_syntax.specs.Lexeme.{Lexeme, Is, IsLower, IsUpper}
-use Rattle.fst_type_syntax.specs.Faults.{Phrase}
-use Rattle.fst_type_syntax.specs.TypeReading.{lower_of, upper_of}
-use Rattle.fst_type_syntax.proofs.Phrases as phrase
-use Rattle.fst_type_syntax.proofs.Phrases.{nothing, Then, Mapped, made, first}
-use Rattle.fst_type_syntax.proofs.Parts.{One}
-use Rattle.fst_type_syntax.proofs.TypePhrases.{Word, word_at, moved}
-use Rattle.fst_type_syntax.proofs.Tokens.{only_is, lower_is, is_lower, upper_is, is_upper}
-use Rattle.fst_type_syntax.specs.Lexeme.{spells}
+use Rattle.fst_reading.specs.Lexeme.{Lexeme, Is, IsLower, IsUpper, lower_of, upper_of}
+use Rattle.fst_reading.specs.Faults.{Phrase}
+use Rattle.fst_reading.proofs.Words.{Word, word_at, moved}
+use Rattle.fst_reading.proofs.Phrases as phrase
+use Rattle.fst_reading.proofs.Phrases.{nothing, Then, Mapped, made, first}
+use Rattle.fst_reading.proofs.Parts.{One}
+use Rattle.fst_reading.proofs.Tokens.{only_is, lower_is, is_lower, upper_is, is_upper}
+use Rattle.fst_reading.specs.Lexeme.{spells}
 
 -- what holds of one phrase behind another holds of both together
 pub by_then : {A B : Type 0} (P : Phrase A) (Q : A → Phrase B) (G : Phrase B) →

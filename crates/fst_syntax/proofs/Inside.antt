@@ -2,14 +2,15 @@
 use Rattle.std.proofs.Common.{◌≡◌, ℕ, zero, suc, ◌-◌, ◌<◌, List, [], ◌∷◌, length, map, Err, refl, ap, arith}
 use Rattle.fst_terms.specs.declared.term.SourceArm.{SourceArm}
 use Rattle.fst_terms.specs.TermTree.{TermTree, arm}
-use Rattle.fst_terms.specs.TermView.{arms_of}
-use Rattle.fst_type_syntax.specs.Lexeme.{Lexeme}
-use Rattle.fst_type_syntax.specs.Reading.{Reader, Syntax, bind, choose, andthen, switch, on, when, shut}
+use Rattle.fst_terms.specs.ModelView.{arms_of}
+use Rattle.fst_reading.specs.Lexeme.{Lexeme}
+use Rattle.fst_reading.specs.Reading.{Reader, Syntax, bind, andthen, switch, on, when, shut}
 use Rattle.fst_syntax.specs.declared.heads.Arms.TheVariants as by
 use Rattle.fst_syntax.specs.declared.operators.Level.{Level}
 use Rattle.fst_syntax.specs.declared.operators.Level.TheVariants.{Or, And, Sum, Product}
 use Rattle.fst_syntax.specs.TermReading.{inside, next, expr_at, expr_with, then_with, chain, cmp_with, unary_with, app_with, head_with, plain_with, arms, case_with, match_with}
 use Rattle.fst_syntax.specs.Levels.{arm_parts, choice_with}
+use Rattle.fst_base.specs.Choice.{choose}
 
 -- how far an operand of a chain is from an application
 abbrev pub rank : Level → ℕ

@@ -1,11 +1,10 @@
 -- Chains that associate to the left, as they are read: a first operand, and then step behind step.
 use Rattle.std.proofs.Common.{◌≡◌, ℕ, suc, ◌+◌, ◌<◌, List, [], ◌++◌, length, refl, sym, ap, subst, ◌∙◌, arith, append_assoc, length-append}
 use Rattle.std.proofs.lemmas.List.{append-nil}
-use Rattle.fst_type_syntax.specs.Lexeme.{Lexeme}
-use Rattle.fst_type_syntax.specs.Grammar.{start}
-use Rattle.fst_type_syntax.specs.Faults.{Phrase}
-use Rattle.fst_type_syntax.proofs.Phrases.{Then, pair, Repeat, enough, again}
-use Rattle.fst_type_syntax.proofs.Steps.{start_more}
+use Rattle.fst_reading.specs.Lexeme.{Lexeme, start}
+use Rattle.fst_reading.specs.Faults.{Phrase}
+use Rattle.fst_reading.proofs.Steps.{start_more}
+use Rattle.fst_reading.proofs.Phrases.{Then, pair, Repeat, enough, again}
 
 -- a chain whose first operand is nested so deep: what it has so far, and one step more by the place of its first token, the
 -- nesting there and what it stands for so far

@@ -1,4 +1,3 @@
-pub mod Manys
 pub mod Inside
 pub mod Chains
 pub mod Applying
@@ -35,3 +34,6 @@ pub mod OneModule
 pub mod LineReads
 pub mod LineAnswers
 pub mod ModuleAnswers
+pub mod Filled
+pub mod Few
+pub mod ModuleFacts

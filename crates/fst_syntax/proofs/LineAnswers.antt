@@ -3,23 +3,23 @@ use Rattle.std.proofs.Common.{◌≡◌, ℕ, suc, ◌+◌, ◌-◌, ◌≤◌, 
 use Rattle.std.specs.Prelude.{⊤}
 use Rattle.fst_lexer.specs.declared.token.Token.{Token}
 use Rattle.fst_terms.specs.ModuleTree.{Declared}
-use Rattle.fst_type_syntax.specs.declared.fault.SyntaxFault.{SyntaxFault}
-use Rattle.fst_type_syntax.specs.declared.fault.SyntaxFault.TheVariants as fault
-use Rattle.fst_type_syntax.specs.declared.reading.Stop.{Stop}
-use Rattle.fst_type_syntax.specs.declared.reading.Stop.TheVariants as stop
-use Rattle.fst_type_syntax.specs.Limits.{most_nested}
-use Rattle.fst_type_syntax.specs.Lexeme.{Lexeme, place}
-use Rattle.fst_type_syntax.specs.Gives.{Fails}
-use Rattle.fst_type_syntax.specs.Views.{fault_view}
-use Rattle.fst_type_syntax.specs.Reading.{HaltOf, Halt, Syntax, Deep, choose}
-use Rattle.fst_type_syntax.proofs.Phrases.{left}
-use Rattle.fst_type_syntax.proofs.Steps.{choose_true, choose_false}
+use Rattle.fst_reading.specs.declared.fault.SyntaxFault.{SyntaxFault}
+use Rattle.fst_reading.specs.declared.fault.SyntaxFault.TheVariants as fault
+use Rattle.fst_reading.specs.declared.stop.Stop.{Stop}
+use Rattle.fst_reading.specs.declared.stop.Stop.TheVariants as stop
+use Rattle.fst_base.specs.Limits.{most_nested}
+use Rattle.fst_reading.specs.Lexeme.{Lexeme, place}
+use Rattle.fst_reading.specs.Gives.{Fails, fault_view}
+use Rattle.fst_reading.specs.Reading.{HaltOf, Halt, Syntax, Deep}
+use Rattle.fst_reading.proofs.Phrases.{left}
+use Rattle.fst_base.specs.Choice.{choose}
 use Rattle.fst_syntax.specs.Grammar.{Lined, unlined}
-use Rattle.fst_syntax.specs.TermReading.{decl_whole}
+use Rattle.fst_syntax.specs.DeclReading.{decl_whole}
 use Rattle.fst_syntax.specs.ModuleReading.{in_line, next_lines, last_of, in_front, first_decl}
 use Rattle.fst_syntax.specs.Views.{lines_of, line_length, counted, line_read, line_fault, GivesLine}
 use Rattle.fst_syntax.proofs.DeclReads.{reads_decl_whole}
 use Rattle.fst_syntax.proofs.Lines.{unlined_append, cut, last_is}
+use Rattle.fst_base.proofs.Choices.{choose_true, choose_false}
 
 -- the lexemes of a line and those behind it, and how many the line has
 first_lexemes : (b : Bool) (k : Lined) (us : List Lined) (n : ℕ) (ls : List Lexeme) → unlined us ≡ take n ls → unlined (choose b [] (k ∷ us)) ≡ take (choose b 0 (suc n)) (k.lexeme ∷ ls)

@@ -2,14 +2,15 @@
 use Rattle.std.proofs.Common.{◌≡◌, ℕ, zero, suc, ◌≤◌, ◌<◌, Bool, true, false, List, [], ◌∷◌, ◌++◌, length, drop, Result, Ok, Err, refl, sym, ap, ◌∙◌, arith, append_assoc, length-append}
 use Rattle.fst_lexer.specs.declared.token.Token.{Token}
 use Rattle.fst_terms.specs.ModuleTree.{Declared}
-use Rattle.fst_type_syntax.specs.Lexeme.{Lexeme}
-use Rattle.fst_type_syntax.specs.Reading.{HaltOf, Syntax, choose}
-use Rattle.fst_type_syntax.proofs.Steps.{choose_true, choose_false}
+use Rattle.fst_reading.specs.Lexeme.{Lexeme}
+use Rattle.fst_reading.specs.Reading.{HaltOf, Syntax}
+use Rattle.fst_base.specs.Choice.{choose}
 use Rattle.fst_syntax.specs.Grammar.{Lined}
 use Rattle.fst_syntax.specs.ModuleReading.{in_line, next_lines, followed, first_decl, module_within, module_at}
 use Rattle.fst_syntax.specs.Views.{lines_of, counted, line_read}
 use Rattle.fst_syntax.proofs.Lines.{lines_are}
 use Rattle.fst_syntax.proofs.ModuleFound.{ok_same, err_same}
+use Rattle.fst_base.proofs.Choices.{choose_true, choose_false}
 
 -- what was read before, and what is still read
 abbrev pub with_decls : List Declared → Result (List Declared × List Lined) (HaltOf Lined) → Result (List Declared × List Lined) (HaltOf Lined)

@@ -1,9 +1,9 @@
 -- Tokens by lines.
 use Rattle.std.proofs.Common.{◌≡◌, ℕ, suc, ◌-◌, Bool, true, false, List, [], ◌∷◌, ◌++◌, length, drop, refl, sym, ap, subst, ◌∙◌, arith, length-append}
 use Rattle.fst_terms.specs.ModuleTree.{Declared}
-use Rattle.fst_type_syntax.specs.Lexeme.{Lexeme}
-use Rattle.fst_type_syntax.specs.Reading.{choose}
-use Rattle.fst_type_syntax.proofs.Steps.{choose_true, choose_false}
+use Rattle.fst_reading.specs.Lexeme.{Lexeme}
+use Rattle.fst_base.specs.Choice.{choose}
+use Rattle.fst_base.proofs.Choices.{choose_true, choose_false}
 use Rattle.fst_syntax.specs.Grammar.{Lined, unlined, AreInside, IsModule, none, decl}
 use Rattle.fst_syntax.specs.ModuleReading.{in_line, next_lines, last_of}
 

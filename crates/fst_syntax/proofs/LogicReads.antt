@@ -6,20 +6,18 @@ use Rattle.fst_terms.specs.declared.term.Op.{Op}
 use Rattle.fst_terms.specs.declared.term.Op.TheVariants as op
 use Rattle.fst_terms.specs.TermTree as term
 use Rattle.fst_terms.specs.TermTree.{TermTree}
-use Rattle.fst_type_syntax.specs.Lexeme.{Lexeme}
-use Rattle.fst_type_syntax.specs.Grammar.{start}
-use Rattle.fst_type_syntax.specs.Faults.{Phrase}
-use Rattle.fst_type_syntax.specs.Reading.{choose, give, mapped, begins}
-use Rattle.fst_type_syntax.proofs.Phrases as phrase
-use Rattle.fst_type_syntax.proofs.Phrases.{Reads, never, Give, nothing, Then, Mapped, made, Switch, first, Either, one, other, Located}
-use Rattle.fst_type_syntax.proofs.Steps.{Some_, start_more, chosen}
-use Rattle.fst_type_syntax.proofs.Parts.{reads_give, reads_mapped, reads_switch, reads_located, reads_as, reads_until, locate}
-use Rattle.fst_type_syntax.proofs.Sequences.{reads_then}
-use Rattle.fst_type_syntax.proofs.Shut.{reads_shut}
-use Rattle.fst_type_syntax.proofs.Repeats.{Fits, reads_when}
-use Rattle.fst_type_syntax.proofs.Tokens.{fixed, fixed_is, some_is, spelled}
-use Rattle.fst_type_syntax.proofs.TypePhrases.{moved}
-use Rattle.fst_type_syntax.proofs.TypeReads.{or_false, sample_mapped}
+use Rattle.fst_reading.specs.Lexeme.{Lexeme, start}
+use Rattle.fst_reading.specs.Faults.{Phrase}
+use Rattle.fst_reading.proofs.Steps.{start_more, SomePhrase}
+use Rattle.fst_reading.specs.Reading.{give, mapped, begins}
+use Rattle.fst_reading.proofs.Phrases as phrase
+use Rattle.fst_reading.proofs.Phrases.{Reads, never, Give, nothing, Then, Mapped, made, first, Either, one, other, Located}
+use Rattle.fst_reading.proofs.Tokens.{fixed, fixed_is, some_is, spelled}
+use Rattle.fst_reading.proofs.Parts.{reads_give, reads_mapped, reads_switch, reads_as, reads_until}
+use Rattle.fst_reading.proofs.Sequences.{reads_then}
+use Rattle.fst_reading.proofs.Shut.{reads_shut}
+use Rattle.fst_reading.proofs.Repeats.{Fits, reads_when}
+use Rattle.fst_reading.proofs.Words.{moved, sample_mapped}
 use Rattle.fst_syntax.specs.Grammar.{IsComparison, equal, unequal, less, at_most, greater, at_least, IsCmp, one_sum, compare, one_unary, one_prod, one_cmp}
 use Rattle.fst_syntax.specs.Nesting.{cmp_nests, sum_nests, and_operands, or_operands}
 use Rattle.fst_syntax.specs.TermReading.{Inside, atom_named, operator, addition, comparison, is_op, starts_unary, sum_with, compare_with, cmp_with, and_with, or_with}
@@ -30,6 +28,10 @@ use Rattle.fst_syntax.proofs.OperatorReads.{op_of, operator_word, operators, ope
 use Rattle.fst_syntax.proofs.TermBegins.{StartsUnary, sum_begins, cmp_begins, and_begins}
 use Rattle.fst_syntax.proofs.Counts.{cmp_count, and_count}
 use Rattle.fst_syntax.proofs.Follows.{compares, after_sum, after_cmp, after_and, after_or, sum_fixed, cmp_fixed, and_fixed}
+use Rattle.fst_base.specs.Choice.{choose}
+use Rattle.fst_base.proofs.Choices.{chosen}
+use Rattle.std.proofs.lemmas.Bool.{or_parts}
+use Rattle.fst_reading.proofs.Located.{reads_located, locate}
 
 -- which token is which comparison
 pub comparison_is : (k : Lexeme) (o : Op) → comparison k ≡ Some o → IsComparison k o
@@ -98,7 +100,7 @@ of_cmp d _ _ (compare ts us all k o t u a is c parts) =
 read_cmp : (d : ℕ) (ts : List Lexeme) (t : TermTree) (ns : List ℕ) → CmpP d ts t ns → CmpR d ts t ns
 read_cmp d ts t ns p = subst (CmpR d ts t) p.1 (of_cmp d ts t p.0)
 
-sample_sum : (d n : ℕ) → (s : Some_ (SumP d)) × (start s.tokens ≡ n)
+sample_sum : (d n : ℕ) → (s : SomePhrase (SumP d)) × (start s.tokens ≡ n)
 sample_sum d n = let a = sample_prod d n in (record { tokens = a.0.tokens; value = a.0.value; nests = a.0.nests; phrase = (one_prod _ _ a.0.phrase.0, a.0.phrase.1) }, a.1)
 
 compare_ends : (k : Lexeme) (ts : List Lexeme) → is_op (comparison k) ≡ true → after_sum (k ∷ ts) ≡ false
@@ -114,7 +116,7 @@ compare_ends k ts e = let x = op_of (comparison k) e in by_op (comparison_is k x
     by_op (at_least _ is) = sum_fixed (codes ">=") k ts is
 
 module _ (limit : ℕ) (es : Inside) (d : ℕ) (good : Good limit es) (fits : Fits limit es d) (low : d ≤ limit) where
-  step_sample : (n m : ℕ) (t : TermTree) → (s : Some_ (Step comparison SumP n d t)) × (start s.tokens ≡ m)
+  step_sample : (n m : ℕ) (t : TermTree) → (s : SomePhrase (Step comparison SumP n d t)) × (start s.tokens ≡ m)
   step_sample n m t =
       let a = (sample_sum d 0).0 in (
         record {
@@ -134,19 +136,19 @@ module _ (limit : ℕ) (es : Inside) (d : ℕ) (good : Good limit es) (fits : Fi
       (reads_switch limit d low comparison (λ o k. mapped (term.operate n o t) (sum_with es)) (λ o k. Mapped (term.operate n o t) (SumP d)) after_sum
       (λ o k. reads_mapped limit (term.operate n o t) (sum_with es) (SumP d) after_sum (reads_sum limit es d good fits))
       (λ m. record { token = fixed (codes "<") m; meaning = op.Less; place_is = refl; is = is_comparison (fixed (codes "<") m) op.Less (less (fixed (codes "<") m) (fixed_is (codes "<") m)); rest = sample_mapped (term.operate n op.Less t) (SumP d) (sample_sum d 0).0 }))
-      (λ ts st. (or_false _ _ st).0))
+      (λ ts st. (or_parts _ _ st).0))
       (reads_until limit _ _ never after_cmp (reads_give limit t) (λ ts st. refl)) opens free
     where
       opens : (us : List Lexeme) (x : TermTree) (ns : List ℕ) (rest : List Lexeme) → Step comparison SumP n d t us x ns → begins compares (us ++ rest) ≡ true
       opens _ _ _ rest (first k o us y ns e q) = ap is_op e
 
       free : (us : List Lexeme) (x : TermTree) (ns : List ℕ) (rest : List Lexeme) → Give t us x ns → after_cmp rest ≡ false → begins compares (us ++ rest) ≡ false
-      free _ _ _ rest nothing st = (or_false _ _ st).1
+      free _ _ _ rest nothing st = (or_parts _ _ st).1
 
 sum_filled : (d : ℕ) (us : List Lexeme) (t : TermTree) (ns : List ℕ) → SumP d us t ns → 0 < length us
 sum_filled d us t ns p = let b = sum_begins d p.0 in omega (arith, ap length b.3)
 
-sample_cmp : (d n : ℕ) → (s : Some_ (CmpP d)) × (start s.tokens ≡ n)
+sample_cmp : (d n : ℕ) → (s : SomePhrase (CmpP d)) × (start s.tokens ≡ n)
 sample_cmp d n = let a = sample_sum d n in (record { tokens = a.0.tokens; value = a.0.value; nests = a.0.nests; phrase = (one_sum _ _ a.0.phrase.0, a.0.phrase.1) }, a.1)
 
 opens_cmp : (d : ℕ) (k : Lexeme) → StartsUnary k → (others : List Lexeme) × (x : TermTree) × (ns : List ℕ) × CmpP d (k ∷ others) x (d ∷ ns)
@@ -171,7 +173,7 @@ reads_cmp limit (e ∷ es) d good fits =
   where
     next : (n : ℕ) (t : TermTree) (us : List Lexeme) (x : TermTree) (ns : List ℕ) (rest : List Lexeme) → CompareR d n t us x ns → after_cmp rest ≡ false → after_sum (us ++ rest) ≡ false
     next n t _ _ _ rest (one _ _ _ (first k o us x ns e q)) st = compare_ends k (us ++ rest) (ap is_op e)
-    next n t _ _ _ rest (other _ _ _ nothing) st = (or_false _ _ st).0
+    next n t _ _ _ rest (other _ _ _ nothing) st = (or_parts _ _ st).0
 
     filled : (n : ℕ) (us : List Lexeme) (x : TermTree) (ns : List ℕ) → Then (SumP d) (CompareR d n) us x ns → 0 < length us
     filled n _ _ _ (phrase.pair ts us vs t y ns ms ks p q parts nests) = omega (arith, sum_filled d us t ms p, ap length parts, length-append us vs)
@@ -184,11 +186,11 @@ pub reads_and : (limit : ℕ) (es : Inside) (d : ℕ) → Good limit es → Fits
 reads_and limit =
     reads_chain_as limit (operator (codes "&&") op.And) cmp_with CmpP after_cmp after_and (Good limit) tt (λ e es g. g.1) (λ es d. reads_cmp limit es d)
     sample_cmp (λ d us t ns p. let b = cmp_begins d p.0 in omega (arith, ap length b.3)) (λ d us t ns p. ap length (sym p.1) ∙ cmp_count d p.0)
-    (operators (codes "&&") op.And) and_ends (λ rest st. or_false _ _ st) AndP
+    (operators (codes "&&") op.And) and_ends (λ rest st. or_parts _ _ st) AndP
     (λ d c ts t ns l. let s = and_to d c ts t ns l in (s.0, s.1))
     (λ d ts t ns p. (and_operands p.0, subst (AndLeft d (and_operands p.0) ts t) p.1 (and_from d ts t p.0)))
 
-sample_and : (d n : ℕ) → (s : Some_ (AndP d)) × (start s.tokens ≡ n)
+sample_and : (d n : ℕ) → (s : SomePhrase (AndP d)) × (start s.tokens ≡ n)
 sample_and d n = let a = sample_cmp d n in (record { tokens = a.0.tokens; value = a.0.value; nests = a.0.nests; phrase = (one_cmp _ _ a.0.phrase.0, a.0.phrase.1) }, a.1)
 
 or_ends : (k : Lexeme) (ts : List Lexeme) → is_op (operator (codes "||") op.Or k) ≡ true → after_and (k ∷ ts) ≡ false
@@ -199,6 +201,6 @@ pub reads_or : (limit : ℕ) (es : Inside) (d : ℕ) → Good limit es → Fits 
 reads_or limit =
     reads_chain_as limit (operator (codes "||") op.Or) and_with AndP after_and after_or (Good limit) tt (λ e es g. g.1) (λ es d. reads_and limit es d)
     sample_and (λ d us t ns p. let b = and_begins d p.0 in omega (arith, ap length b.3)) (λ d us t ns p. ap length (sym p.1) ∙ and_count d p.0)
-    (operators (codes "||") op.Or) or_ends (λ rest st. or_false _ _ st) OrP
+    (operators (codes "||") op.Or) or_ends (λ rest st. or_parts _ _ st) OrP
     (λ d c ts t ns l. let s = or_to d c ts t ns l in (s.0, s.1))
     (λ d ts t ns p. (or_operands p.0, subst (OrLeft d (or_operands p.0) ts t) p.1 (or_from d ts t p.0)))

@@ -2,15 +2,14 @@
 use Rattle.std.proofs.Common.{◌≡◌, ℕ, zero, suc, ◌≤◌, ◌<◌, Bool, true, false, List, [], ◌∷◌, ◌++◌, length, Result, Ok, Err, refl, sym, ap, subst, ◌∙◌, arith, append_assoc, length-append}
 use Rattle.std.proofs.lemmas.List.{append-nil}
 use Rattle.fst_terms.specs.ModuleTree.{Declared}
-use Rattle.fst_type_syntax.specs.Lexeme.{Lexeme}
-use Rattle.fst_type_syntax.specs.Faults.{Low}
-use Rattle.fst_type_syntax.specs.Reading.{HaltOf, Halt, Syntax, Deep}
-use Rattle.fst_type_syntax.specs.Derives.{is_left}
-use Rattle.fst_type_syntax.proofs.Phrases.{left, left_by, leaving, Outcome, whole, deep, SameUpTo, ReadsJust}
-use Rattle.fst_type_syntax.proofs.Steps.{choose_false}
-use Rattle.fst_type_syntax.proofs.Lists.{one_cut}
+use Rattle.fst_reading.specs.Lexeme.{Lexeme}
+use Rattle.fst_reading.specs.Faults.{IsWithinLimit, is_left}
+use Rattle.fst_reading.specs.Reading.{HaltOf, Halt, Syntax, Deep}
+use Rattle.fst_reading.proofs.Phrases.{left, left_by, leaving, Outcome, whole, deep, SameUpTo, ReadsJust}
+use Rattle.fst_base.proofs.Choices.{choose_false}
+use Rattle.fst_base.proofs.Lists.{one_cut}
 use Rattle.fst_syntax.specs.Grammar.{Lined, unlined, AreInside}
-use Rattle.fst_syntax.specs.TermReading.{decl_whole}
+use Rattle.fst_syntax.specs.DeclReading.{decl_whole}
 use Rattle.fst_syntax.specs.ModuleReading.{in_line, next_lines, last_of, in_front, followed, module_within, module_at}
 use Rattle.fst_syntax.specs.Derives.{ModulePhrase}
 use Rattle.fst_syntax.proofs.DeclReads.{reads_decl_whole}
@@ -215,7 +214,7 @@ module _ (limit : ℕ) where
       same = ap (λ (n : ℕ). module_within limit n (us ++ [])) (ap length (append-nil us))
 
       of_within : {ms : List ℕ} → Outcome limit (module_within limit (length us)) us ds ms [] → ms ≡ ns → Outcome limit (module_at limit) us ds ns []
-      of_within (whole low e) g = whole (subst (Low limit) g low) (same ∙ e)
+      of_within (whole low e) g = whole (subst (IsWithinLimit limit) g low) (same ∙ e)
       of_within (deep pre v c low high n a b l o q e) g = deep pre v c low high n a (sym g ∙ b) l o q (same ∙ e)
   read us ds ns (k ∷ rest) p st = absurd cc
 

@@ -4,12 +4,12 @@ use Rattle.std.proofs.lemmas.List.{append-nil, length-map, length-take-le}
 use Rattle.fst_lexer.specs.declared.token.Token.{Token}
 use Rattle.fst_terms.specs.declared.module.Decl.{Decl}
 use Rattle.fst_terms.specs.ModuleTree.{Declared, declared}
-use Rattle.fst_type_syntax.specs.declared.fault.SyntaxFault.{SyntaxFault}
-use Rattle.fst_type_syntax.specs.declared.fault.SyntaxFault.TheVariants as fault
-use Rattle.fst_type_syntax.specs.Limits.{most_nested}
-use Rattle.fst_type_syntax.specs.Lexeme.{Lexeme, lexeme, lexemes}
-use Rattle.fst_type_syntax.specs.Reading.{HaltOf, Syntax, Deep}
-use Rattle.fst_type_syntax.proofs.OneAnswer.{fault_at}
+use Rattle.fst_reading.specs.declared.fault.SyntaxFault.{SyntaxFault}
+use Rattle.fst_reading.specs.declared.fault.SyntaxFault.TheVariants as fault
+use Rattle.fst_base.specs.Limits.{most_nested}
+use Rattle.fst_reading.specs.Lexeme.{Lexeme, lexeme, lexemes}
+use Rattle.fst_reading.specs.Reading.{HaltOf, Syntax, Deep}
+use Rattle.fst_reading.proofs.Answers.{fault_at}
 use Rattle.fst_syntax.specs.Grammar.{Lined}
 use Rattle.fst_syntax.specs.ModuleReading.{module_at}
 use Rattle.fst_syntax.specs.Derives.{lined, lined_tokens, line_place, AnswersModule}

@@ -2,21 +2,22 @@
 use Rattle.std.proofs.Common.{◌≡◌, ℕ, zero, suc, ◌≤◌, ◌⊎◌, inl, inr, Bool, true, false, List, [], ◌∷◌, ◌++◌, length, Result, Ok, Err, refl, sym, ap, subst, ◌∙◌, arith, append_assoc, length-append}
 use Rattle.std.proofs.lemmas.List.{append-nil}
 use Rattle.fst_terms.specs.ModuleTree.{Declared}
-use Rattle.fst_type_syntax.specs.Lexeme.{Lexeme}
-use Rattle.fst_type_syntax.specs.Faults.{Low, BeginsLow}
-use Rattle.fst_type_syntax.specs.Reading.{HaltOf, Halt, Syntax, Deep, andthen, finish}
-use Rattle.fst_type_syntax.proofs.Phrases.{left, IsOver, Over, StoppedAt, Stopped, reads_just}
-use Rattle.fst_type_syntax.proofs.Steps.{Low-append, chosen, bind_ok, mapped_is}
-use Rattle.fst_type_syntax.proofs.Parts.{any}
-use Rattle.fst_type_syntax.proofs.Exactness.{is_read}
+use Rattle.fst_reading.specs.Lexeme.{Lexeme}
+use Rattle.fst_reading.specs.Faults.{IsWithinLimit, BeginsWithinLimit}
+use Rattle.fst_reading.specs.Reading.{HaltOf, Halt, Syntax, Deep, andthen, finish}
+use Rattle.fst_reading.proofs.Phrases.{left, IsOver, Over, StoppedAt, Stopped, reads_just}
+use Rattle.fst_reading.proofs.Steps.{IsWithinLimit-append, bind_ok, mapped_is}
+use Rattle.fst_reading.proofs.Parts.{any}
+use Rattle.fst_reading.proofs.Exactness.{is_read}
 use Rattle.fst_syntax.specs.Grammar.{Lined, unlined, AreInside, IsDecl, IsModule, none, decl}
 use Rattle.fst_syntax.specs.Nesting.{decl_nests, module_nests}
-use Rattle.fst_syntax.specs.TermReading.{decl_whole}
+use Rattle.fst_syntax.specs.DeclReading.{decl_whole}
 use Rattle.fst_syntax.specs.ModuleReading.{in_line, next_lines, last_of, in_front, followed, module_within}
 use Rattle.fst_syntax.specs.Derives.{ModulePhrase}
 use Rattle.fst_syntax.proofs.DeclPhrases.{DeclP}
 use Rattle.fst_syntax.proofs.DeclReads.{reads_decl_whole, decl_filled}
 use Rattle.fst_syntax.proofs.Lines.{lines_are, inside_line, unlined_append, cut, last_is, unlined_length, all_inside, unlined_inside, all_are_inside, inside_append, inside_front}
+use Rattle.fst_base.proofs.Choices.{chosen}
 
 abbrev pub read : List Declared → List Lined → List Declared × List Lined
 read ds rest = (ds, rest)
@@ -70,8 +71,8 @@ unfolding finish
 finish_ends [] rest u e = ap (λ (p : Unit {0} × List Lexeme). any p.1) (sym (ok_same (tt, []) (u, rest) e))
 finish_ends (k ∷ us) rest u e = absurd cc
 
-none_found : (limit : ℕ) (ds : List Declared) (rest : List Lined) → read [] [] ≡ read ds rest → (rest ≡ []) × (s : IsModule [] ds) × Low limit (module_nests s)
-none_found limit ds rest e = subst (λ (p : List Declared × List Lined). (p.1 ≡ []) × (s : IsModule [] p.0) × Low limit (module_nests s)) e (refl, none, tt)
+none_found : (limit : ℕ) (ds : List Declared) (rest : List Lined) → read [] [] ≡ read ds rest → (rest ≡ []) × (s : IsModule [] ds) × IsWithinLimit limit (module_nests s)
+none_found limit ds rest e = subst (λ (p : List Declared × List Lined). (p.1 ≡ []) × (s : IsModule [] p.0) × IsWithinLimit limit (module_nests s)) e (refl, none, tt)
 
 -- a token by its parts
 as_lined : (c : Lined) (b : Bool) (k : Lexeme) → c.first ≡ b → c.lexeme ≡ k → record { first = b; lexeme = k } ≡ c
@@ -96,14 +97,14 @@ module _ (limit : ℕ) where
       finish_ends a.0.1 rest b.0 b.1
 
   -- a declaration that is read stands there, and no token of it is over the limit
-  pub decl_read : (ts : List Lexeme) (d : Declared) (rest : List Lexeme) → decl_whole limit ts ≡ Ok (d, rest) → (s : IsDecl ts d) × Low limit (decl_nests s)
+  pub decl_read : (ts : List Lexeme) (d : Declared) (rest : List Lexeme) → decl_whole limit ts ≡ Ok (d, rest) → (s : IsDecl ts d) × IsWithinLimit limit (decl_nests s)
   decl_read ts d rest e = of_rest rest (is_read limit (decl_whole limit) DeclP any (reads_just (reads_decl_whole limit)) decl_ends refl ts d rest e)
     where
-      of_rest : (rest : List Lexeme) → BeginsLow limit DeclP any ts d rest → (s : IsDecl ts d) × Low limit (decl_nests s)
+      of_rest : (rest : List Lexeme) → BeginsWithinLimit limit DeclP any ts d rest → (s : IsDecl ts d) × IsWithinLimit limit (decl_nests s)
       of_rest [] b = low_decl (subst (λ z. DeclP z d b.0.nests) (sym (b.0.parts ∙ append-nil b.0.tokens)) b.0.phrase) b.1
         where
-          low_decl : {ns : List ℕ} (p : DeclP ts d ns) → Low limit ns → (s : IsDecl ts d) × Low limit (decl_nests s)
-          low_decl p low = (p.0, subst (Low limit) (sym p.1) low)
+          low_decl : {ns : List ℕ} (p : DeclP ts d ns) → IsWithinLimit limit ns → (s : IsDecl ts d) × IsWithinLimit limit (decl_nests s)
+          low_decl p low = (p.0, subst (IsWithinLimit limit) (sym p.1) low)
       of_rest (k ∷ rest) b = absurd (let end = b.0.ended in cc)
 
   -- a module of one declaration more
@@ -111,16 +112,16 @@ module _ (limit : ℕ) where
       ModulePhrase all (d ∷ ds) (ns ++ ms)
   one_more k ts us all d ds ns ms first inside p q parts = (decl k ts us all d ds first inside p.0 q.0 parts, (let e : decl_nests p.0 ++ module_nests q.0 ≡ ns ++ ms = rw (p.1, q.1) refl in e))
 
-  more_found : (k : Lined) (ts : List Lined) (ds : List Declared) (rest : List Lined) (d : Declared) (x : List Declared × List Lined) → k.first ≡ true → (s : IsDecl (k.lexeme ∷ unlined (in_line ts)) d) × Low limit (decl_nests s) →
-      (x.1 ≡ []) × (s : IsModule (next_lines ts) x.0) × Low limit (module_nests s) → read ds rest ≡ read (d ∷ x.0) x.1 → (rest ≡ []) × (s : IsModule (k ∷ ts) ds) × Low limit (module_nests s)
+  more_found : (k : Lined) (ts : List Lined) (ds : List Declared) (rest : List Lined) (d : Declared) (x : List Declared × List Lined) → k.first ≡ true → (s : IsDecl (k.lexeme ∷ unlined (in_line ts)) d) × IsWithinLimit limit (decl_nests s) →
+      (x.1 ≡ []) × (s : IsModule (next_lines ts) x.0) × IsWithinLimit limit (module_nests s) → read ds rest ≡ read (d ∷ x.0) x.1 → (rest ≡ []) × (s : IsModule (k ∷ ts) ds) × IsWithinLimit limit (module_nests s)
   more_found k ts ds rest d x first s m e =
-      subst (λ (p : List Declared × List Lined). (p.1 ≡ []) × (s : IsModule (k ∷ ts) p.0) × Low limit (module_nests s)) (sym e) (
+      subst (λ (p : List Declared × List Lined). (p.1 ≡ []) × (s : IsModule (k ∷ ts) p.0) × IsWithinLimit limit (module_nests s)) (sym e) (
         m.0,
         decl k (in_line ts) (next_lines ts) (k ∷ ts) d x.0 first (inside_line ts) s.0 m.1 (ap (λ (w : List Lined). k ∷ w) (lines_are ts)),
-        Low-append limit (decl_nests s.0) (module_nests m.1) s.1 m.2,
+        IsWithinLimit-append limit (decl_nests s.0) (module_nests m.1) s.1 m.2,
       )
 
-  pub within_found : (n : ℕ) (ts : List Lined) (ds : List Declared) (rest : List Lined) → module_within limit n ts ≡ Ok (ds, rest) → (rest ≡ []) × (s : IsModule ts ds) × Low limit (module_nests s)
+  pub within_found : (n : ℕ) (ts : List Lined) (ds : List Declared) (rest : List Lined) → module_within limit n ts ≡ Ok (ds, rest) → (rest ≡ []) × (s : IsModule ts ds) × IsWithinLimit limit (module_nests s)
   unfolding module_within
   within_found zero [] ds rest e = none_found limit ds rest (ok_same ([], []) (ds, rest) e)
   within_found (suc n) [] ds rest e = none_found limit ds rest (ok_same ([], []) (ds, rest) e)
@@ -217,7 +218,7 @@ module _ (limit : ℕ) where
       }
 
   -- behind a whole declaration some module goes on where the rest does
-  stopped_behind : (k : Lined) (ts : List Lined) (d : Declared) (h : HaltOf Lined) → k.first ≡ true → (s : IsDecl (k.lexeme ∷ unlined (in_line ts)) d) × Low limit (decl_nests s) → StoppedAt limit ModulePhrase h (next_lines ts) →
+  stopped_behind : (k : Lined) (ts : List Lined) (d : Declared) (h : HaltOf Lined) → k.first ≡ true → (s : IsDecl (k.lexeme ∷ unlined (in_line ts)) d) × IsWithinLimit limit (decl_nests s) → StoppedAt limit ModulePhrase h (next_lines ts) →
       StoppedAt limit ModulePhrase h (k ∷ ts)
   stopped_behind k ts d h first s q = record {
     tokens = k ∷ in_line ts ++ q.tokens;
@@ -236,7 +237,7 @@ module _ (limit : ℕ) where
       length-append (decl_nests s.0) q.nests,
       length-append (in_line ts) q.tokens,
     );
-    low = Low-append limit (decl_nests s.0) q.nests s.1 q.low;
+    low = IsWithinLimit-append limit (decl_nests s.0) q.nests s.1 q.low;
     over = q.over;
   }
 

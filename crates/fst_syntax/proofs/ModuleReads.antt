@@ -2,16 +2,17 @@
 use Rattle.std.proofs.Common.{◌≡◌, ℕ, zero, suc, ◌≤◌, true, List, [], ◌∷◌, ◌++◌, length, Ok, Err, refl, sym, ap, subst, ◌∙◌, arith, append_assoc, length-append}
 use Rattle.std.proofs.lemmas.List.{append-nil}
 use Rattle.fst_terms.specs.ModuleTree.{Declared}
-use Rattle.fst_type_syntax.specs.Lexeme.{Lexeme}
-use Rattle.fst_type_syntax.specs.Reading.{Deep}
-use Rattle.fst_type_syntax.proofs.Phrases.{Outcome, whole, deep}
-use Rattle.fst_type_syntax.proofs.Steps.{Low-append, choose_true}
+use Rattle.fst_reading.specs.Lexeme.{Lexeme}
+use Rattle.fst_reading.specs.Reading.{Deep}
+use Rattle.fst_reading.proofs.Phrases.{Outcome, whole, deep}
+use Rattle.fst_reading.proofs.Steps.{IsWithinLimit-append}
 use Rattle.fst_syntax.specs.Grammar.{Lined, unlined, AreInside, IsModule, none, decl}
 use Rattle.fst_syntax.specs.Nesting.{decl_nests, module_nests}
-use Rattle.fst_syntax.specs.TermReading.{decl_whole}
+use Rattle.fst_syntax.specs.DeclReading.{decl_whole}
 use Rattle.fst_syntax.specs.ModuleReading.{next_lines, last_of, in_front, followed, module_within}
 use Rattle.fst_syntax.proofs.DeclReads.{reads_decl_whole}
 use Rattle.fst_syntax.proofs.Lines.{BeginsLine, line_is, module_begins, unlined_length, cut, last_is}
+use Rattle.fst_base.proofs.Choices.{choose_true}
 
 module _ (limit : ℕ) where
   -- a line that begins one, and the lines behind it
@@ -39,10 +40,10 @@ module _ (limit : ℕ) where
       step = ap (module_within limit (suc n)) (append-nil (k ∷ ts ++ us)) ∙ by_lines n k ts us first inside begins ∙ ap (λ z. followed (in_front (k ∷ ts) us z) (module_within limit n us)) is_read
 
       of_rest : ReadWithin n us ds ms → ReadWithin (suc n) (k ∷ ts ++ us) (d ∷ ds) (ns ++ ms)
-      of_rest (whole lows g) = whole (Low-append limit ns ms low lows) (step ∙ ap (followed (Ok d)) (ap (module_within limit n) (sym (append-nil us)) ∙ g))
+      of_rest (whole lows g) = whole (IsWithinLimit-append limit ns ms low lows) (step ∙ ap (followed (Ok d)) (ap (module_within limit n) (sym (append-nil us)) ∙ g))
       of_rest (deep pre v c lows highs m a b l o q g) =
           deep (k ∷ ts ++ pre) v c (ns ++ lows) highs m (ap (λ (w : List Lined). k ∷ w) (ap (λ (w : List Lined). ts ++ w) a ∙ sym (append_assoc ts pre (c ∷ v))))
-          (ap (λ (w : List ℕ). ns ++ w) b ∙ sym (append_assoc ns lows (m ∷ highs))) (omega (arith, count, l, length-append ns lows, length-append ts pre)) (Low-append limit ns lows low o) q
+          (ap (λ (w : List ℕ). ns ++ w) b ∙ sym (append_assoc ns lows (m ∷ highs))) (omega (arith, count, l, length-append ns lows, length-append ts pre)) (IsWithinLimit-append limit ns lows low o) q
           (step ∙ ap (followed (Ok d)) (ap (module_within limit n) (sym (append-nil us)) ∙ g))
   more_read n k ts us d ds ns ms first inside begins count (deep pre v c lows highs m a b l o q e) second =
       let x = cut (k ∷ ts) pre (c ∷ v) a in

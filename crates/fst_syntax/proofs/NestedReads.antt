@@ -2,16 +2,16 @@
 use Rattle.std.proofs.Common.{◌≡◌, ℕ, zero, suc, ◌+◌, ◌<◌, Bool, true, false, ◌||◌, List, [], ◌∷◌, ◌++◌, length, refl, sym, ap, ◌∙◌, arith, length-append}
 use Rattle.std.specs.Prelude.{codes}
 use Rattle.fst_terms.specs.TermTree.{TermTree}
-use Rattle.fst_type_syntax.specs.Lexeme.{Lexeme}
-use Rattle.fst_type_syntax.specs.Reading.{Reader, choose, begins}
-use Rattle.fst_type_syntax.proofs.Phrases as phrase
-use Rattle.fst_type_syntax.proofs.Phrases.{Reads, nothing, Switch, first, taken, other, at}
-use Rattle.fst_type_syntax.proofs.Parts.{Sample, reads_switch, reads_located, reads_as}
-use Rattle.fst_type_syntax.proofs.Sequences.{reads_then}
-use Rattle.fst_type_syntax.proofs.Shut.{reads_shut}
-use Rattle.fst_type_syntax.proofs.Repeats.{Fits, fits_next, reads_when}
-use Rattle.fst_type_syntax.proofs.TypeReads.{or_false}
-use Rattle.fst_type_syntax.proofs.Tokens.{fixed, fixed_is}
+use Rattle.fst_reading.specs.Lexeme.{Lexeme}
+use Rattle.fst_reading.specs.Reading.{Reader, begins}
+use Rattle.fst_reading.proofs.Phrases as phrase
+use Rattle.fst_reading.proofs.Phrases.{Reads, nothing, Switch, first, taken, other, at}
+use Rattle.fst_reading.proofs.Parts.{Sample, reads_switch, reads_as}
+use Rattle.fst_reading.proofs.Sequences.{reads_then}
+use Rattle.fst_reading.proofs.Shut.{reads_shut}
+use Rattle.fst_reading.proofs.Repeats.{Fits, fits_next, reads_when}
+use Rattle.fst_base.specs.Choice.{choose}
+use Rattle.fst_reading.proofs.Tokens.{fixed, fixed_is}
 use Rattle.fst_syntax.specs.Grammar.{one_or, one_and, one_cmp, one_sum, one_prod, one_unary}
 use Rattle.fst_syntax.specs.declared.starts.ExprStart.{ExprStart}
 use Rattle.fst_syntax.specs.declared.starts.ExprStart.TheVariants.{Let, If, Lambda, Case, Match}
@@ -30,6 +30,8 @@ use Rattle.fst_syntax.proofs.Inside.{length_inside}
 use Rattle.fst_syntax.proofs.Follows.{after_or, after_expr, or_fixed}
 use Rattle.fst_syntax.proofs.TermBegins.{StartsUnary, StartsExpr, unary_as_fixed, or_begins, expr_begins}
 use Rattle.fst_syntax.proofs.Counts.{expr_count}
+use Rattle.std.proofs.lemmas.Bool.{or_parts}
+use Rattle.fst_reading.proofs.Located.{reads_located}
 
 -- what an operand begins with begins no other term
 means_no_unary : (s : ExprStart) (k : Lexeme) → MeansExpr s k → starts_unary k ≡ false
@@ -52,7 +54,7 @@ module _ (limit d : ℕ) (e : Reader TermTree) (es : Inside) (good : Good limit 
   behind_or : (n : ℕ) (t : TermTree) (us : List Lexeme) (y : TermTree) (ns : List ℕ) (rest : List Lexeme) → BehindR d n t us y ns → after_expr rest ≡ false → after_or (us ++ rest) ≡ false
   unfolding operator addition comparison atom_named choose
   behind_or n t _ _ _ rest (taken k us y ns is q) st = or_fixed (codes ";") k (us ++ rest) is
-  behind_or n t _ _ _ rest (other _ _ _ nothing) st = (or_false _ _ st).0
+  behind_or n t _ _ _ rest (other _ _ _ nothing) st = (or_parts _ _ st).0
 
   then_filled : (n : ℕ) (us : List Lexeme) (y : TermTree) (ns : List ℕ) → phrase.Then (OrP d) (λ (t : TermTree). BehindR d n t) us y ns → 0 < length us
   then_filled n _ _ _ (phrase.pair ts us vs t y ns ms ks p q parts nests) = omega (arith, or_filled d us t ms p, ap length parts, length-append us vs)

@@ -3,17 +3,16 @@ use Rattle.std.proofs.Common.{◌≡◌, ◌≢◌, ◌⊎◌, inl, inr, ℕ, ma
 use Rattle.std.proofs.lemmas.List.{append-nil}
 use Rattle.fst_lexer.specs.declared.token.Token.{Token}
 use Rattle.fst_terms.specs.ModuleTree.{Declared}
-use Rattle.fst_type_syntax.specs.declared.fault.SyntaxFault.{SyntaxFault}
-use Rattle.fst_type_syntax.specs.declared.fault.SyntaxFault.TheVariants as fault
-use Rattle.fst_type_syntax.specs.Limits.{most_nested}
-use Rattle.fst_type_syntax.specs.Faults.{Begins}
-use Rattle.fst_type_syntax.specs.Reading.{HaltOf, Deep}
-use Rattle.fst_type_syntax.specs.Derives.{is_left}
-use Rattle.fst_type_syntax.proofs.Phrases as outcome
-use Rattle.fst_type_syntax.proofs.Phrases.{Outcome, deep}
-use Rattle.fst_type_syntax.proofs.Lists.{most, Low-most}
-use Rattle.fst_type_syntax.proofs.Exactness.{is_read, read_gives}
-use Rattle.fst_type_syntax.proofs.OneAnswer.{fault_at, refused, refuses}
+use Rattle.fst_reading.specs.declared.fault.SyntaxFault.{SyntaxFault}
+use Rattle.fst_reading.specs.declared.fault.SyntaxFault.TheVariants as fault
+use Rattle.fst_base.specs.Limits.{most_nested}
+use Rattle.fst_reading.specs.Faults.{Begins, is_left}
+use Rattle.fst_reading.specs.Reading.{HaltOf, Deep}
+use Rattle.fst_reading.proofs.Lists.{most, IsWithinLimit-most}
+use Rattle.fst_reading.proofs.Phrases as outcome
+use Rattle.fst_reading.proofs.Phrases.{Outcome, deep}
+use Rattle.fst_reading.proofs.Answers.{fault_at, refused, refuses}
+use Rattle.fst_reading.proofs.Exactness.{is_read, read_gives}
 use Rattle.fst_syntax.specs.Grammar.{Lined, IsModule}
 use Rattle.fst_syntax.specs.Nesting.{module_nests}
 use Rattle.fst_syntax.specs.ModuleReading.{module_at}
@@ -46,8 +45,8 @@ whole ts ds s = record { tokens = ts; nests = module_nests s; parts = sym (appen
 one_module : (ts : List Lined) (ds es : List Declared) → IsModule ts ds → IsModule ts es → ds ≡ es
 one_module ts ds es a b =
     let n = max (most (module_nests a)) (most (module_nests b)) in
-    let one = read_gives n (module_at n) ModulePhrase is_left (reads_module n) (module_ends n) refl ts ds [] (whole ts ds a, Low-most n (module_nests a) (omega arith)) in
-    let two = read_gives n (module_at n) ModulePhrase is_left (reads_module n) (module_ends n) refl ts es [] (whole ts es b, Low-most n (module_nests b) (omega arith)) in
+    let one = read_gives n (module_at n) ModulePhrase is_left (reads_module n) (module_ends n) refl ts ds [] (whole ts ds a, IsWithinLimit-most n (module_nests a) (omega arith)) in
+    let two = read_gives n (module_at n) ModulePhrase is_left (reads_module n) (module_ends n) refl ts es [] (whole ts es b, IsWithinLimit-most n (module_nests b) (omega arith)) in
     ap (λ (p : List Declared × List Lined). p.0) (ok_same (ds, []) (es, []) (sym one ∙ two))
 
 -- a module is read, or a token of it is too deep

@@ -5,17 +5,16 @@ use Rattle.fst_terms.specs.declared.term.Op.{Op}
 use Rattle.fst_terms.specs.declared.term.Op.TheVariants as op
 use Rattle.fst_terms.specs.TermTree as term
 use Rattle.fst_terms.specs.TermTree.{TermTree}
-use Rattle.fst_type_syntax.specs.Lexeme.{Lexeme, spells, Is}
-use Rattle.fst_type_syntax.specs.Grammar.{start}
-use Rattle.fst_type_syntax.specs.Faults.{Phrase}
-use Rattle.fst_type_syntax.specs.Reading.{choose, begins}
-use Rattle.fst_type_syntax.proofs.Phrases.{Reads, Mapped, made, On, taken, other, Located}
-use Rattle.fst_type_syntax.proofs.Steps.{Some_}
-use Rattle.fst_type_syntax.proofs.Parts.{reads_mapped, reads_on, reads_located, reads_as, locate}
-use Rattle.fst_type_syntax.proofs.Shut.{reads_shut}
-use Rattle.fst_type_syntax.proofs.Repeats.{Fits, fits_next}
-use Rattle.fst_type_syntax.proofs.Tokens.{fixed, fixed_is}
-use Rattle.fst_type_syntax.proofs.TypeReads.{or_false}
+use Rattle.fst_reading.specs.Lexeme.{Lexeme, spells, Is, start}
+use Rattle.fst_reading.specs.Faults.{Phrase}
+use Rattle.fst_reading.proofs.Steps.{SomePhrase}
+use Rattle.fst_reading.specs.Reading.{begins}
+use Rattle.fst_reading.proofs.Phrases.{Reads, Mapped, made, On, taken, other, Located}
+use Rattle.fst_reading.proofs.Tokens.{fixed, fixed_is}
+use Rattle.fst_reading.proofs.Parts.{reads_mapped, reads_on, reads_as}
+use Rattle.fst_reading.proofs.Shut.{reads_shut}
+use Rattle.fst_reading.proofs.Repeats.{Fits, fits_next}
+use Rattle.fst_base.specs.Choice.{choose}
 use Rattle.fst_syntax.specs.Grammar.{IsUnary, one_app, negate, one_unary, IsAddition, add, subtract}
 use Rattle.fst_syntax.specs.Nesting.{unary_nests, app_nests, prod_operands, sum_operands}
 use Rattle.fst_syntax.specs.TermReading.{Inside, app_named, atom_named, operator, addition, is_op, starts_app, starts_unary, unary_with, prod_with, sum_with}
@@ -27,6 +26,8 @@ use Rattle.fst_syntax.proofs.TermReads.{opens_as_app, sample_app, reads_app}
 use Rattle.fst_syntax.proofs.TermBegins.{StartsApp, StartsUnary, app_begins, unary_begins, prod_begins, app_as_fixed}
 use Rattle.fst_syntax.proofs.Counts.{unary_count, prod_count}
 use Rattle.fst_syntax.proofs.Follows.{after_app, after_prod, after_sum, app_fixed, prod_fixed}
+use Rattle.std.proofs.lemmas.Bool.{or_parts}
+use Rattle.fst_reading.proofs.Located.{reads_located, locate}
 
 -- a term behind `not`s as it is read
 abbrev pub UnaryR : ℕ → Phrase TermTree
@@ -45,7 +46,7 @@ of_unary d _ _ (negate k ts t is s) = Located.at k ts _ _ (taken k ts _ _ is (ma
 read_unary : (d : ℕ) (ts : List Lexeme) (t : TermTree) (ns : List ℕ) → UnaryP d ts t ns → UnaryR d ts t ns
 read_unary d ts t ns p = subst (UnaryR d ts t) p.1 (of_unary d ts t p.0)
 
-pub sample_unary : (d n : ℕ) → (s : Some_ (UnaryP d)) × (start s.tokens ≡ n)
+pub sample_unary : (d n : ℕ) → (s : SomePhrase (UnaryP d)) × (start s.tokens ≡ n)
 sample_unary d n = let a = sample_app d n in (record { tokens = a.0.tokens; value = a.0.value; nests = a.0.nests; phrase = (one_app _ _ a.0.phrase.0, a.0.phrase.1) }, a.1)
 
 pub unary_filled : (d : ℕ) (us : List Lexeme) (t : TermTree) (ns : List ℕ) → UnaryP d us t ns → 0 < length us
@@ -110,11 +111,11 @@ star_ends k ts e = app_fixed (codes "*") k ts (operator_word (codes "*") op.Mult
 pub reads_prod : (limit : ℕ) (es : Inside) (d : ℕ) → Good limit es → Fits limit es d → Reads limit (prod_with es) (ProdP d) after_prod
 reads_prod limit =
     reads_chain_as limit (operator (codes "*") op.Multiply) unary_with UnaryP after_app after_prod (Good limit) tt (λ e es g. g.1) (λ es d. reads_unary limit es d)
-    sample_unary unary_filled unary_counted (operators (codes "*") op.Multiply) star_ends (λ rest st. or_false _ _ st) ProdP
+    sample_unary unary_filled unary_counted (operators (codes "*") op.Multiply) star_ends (λ rest st. or_parts _ _ st) ProdP
     (λ d c ts t ns l. let s = prod_to d c ts t ns l in (s.0, s.1))
     (λ d ts t ns p. (prod_operands p.0, subst (ProdLeft d (prod_operands p.0) ts t) p.1 (prod_from d ts t p.0)))
 
-pub sample_prod : (d n : ℕ) → (s : Some_ (ProdP d)) × (start s.tokens ≡ n)
+pub sample_prod : (d n : ℕ) → (s : SomePhrase (ProdP d)) × (start s.tokens ≡ n)
 sample_prod d n = let a = sample_unary d n in (record { tokens = a.0.tokens; value = a.0.value; nests = a.0.nests; phrase = (one_unary _ _ a.0.phrase.0, a.0.phrase.1) }, a.1)
 
 plus_ends : (k : Lexeme) (ts : List Lexeme) → is_op (addition k) ≡ true → after_prod (k ∷ ts) ≡ false
@@ -129,6 +130,6 @@ pub reads_sum : (limit : ℕ) (es : Inside) (d : ℕ) → Good limit es → Fits
 reads_sum limit =
     reads_chain_as limit addition prod_with ProdP after_prod after_sum (Good limit) tt (λ e es g. g.1) (λ es d. reads_prod limit es d)
     sample_prod (λ d us t ns p. let b = prod_begins d p.0 in omega (arith, ap length b.3)) (λ d us t ns p. ap length (sym p.1) ∙ prod_count d p.0)
-    (λ n. (fixed (codes "+") n, op.Add, refl, is_addition (fixed (codes "+") n) op.Add (add (fixed (codes "+") n) (fixed_is (codes "+") n)))) plus_ends (λ rest st. or_false _ _ st) SumP
+    (λ n. (fixed (codes "+") n, op.Add, refl, is_addition (fixed (codes "+") n) op.Add (add (fixed (codes "+") n) (fixed_is (codes "+") n)))) plus_ends (λ rest st. or_parts _ _ st) SumP
     (λ d c ts t ns l. let s = sum_to d c ts t ns l in (s.0, s.1))
     (λ d ts t ns p. (sum_operands p.0, subst (SumLeft d (sum_operands p.0) ts t) p.1 (sum_from d ts t p.0)))

@@ -4,16 +4,17 @@ use Rattle.std.specs.Prelude.{codes}
 use Rattle.fst_lexer.specs.declared.token.TokenKind.{TokenKind}
 use Rattle.fst_lexer.specs.declared.token.TokenKind.TheVariants as kind
 use Rattle.fst_terms.specs.TermTree.{TermTree}
-use Rattle.fst_type_syntax.specs.Lexeme.{Lexeme, spells_by, spells, Is}
-use Rattle.fst_type_syntax.specs.Reading.{choose}
-use Rattle.fst_type_syntax.proofs.TypePhrases.{BeginsWith}
-use Rattle.fst_type_syntax.proofs.Tokens.{fixed, spelled, same_text}
+use Rattle.fst_reading.specs.Lexeme.{Lexeme, spells_by, spells, Is}
+use Rattle.fst_base.specs.Choice.{choose}
+use Rattle.fst_reading.proofs.Words.{BeginsWith}
+use Rattle.fst_reading.proofs.Tokens.{fixed, spelled}
 use Rattle.fst_syntax.specs.Grammar.{IsExpr, let_in, split, if_else, lambda, case_of, match_with, one_or, seq, IsOr, one_and, more_or, IsAnd, one_cmp, more_and, IsCmp, one_sum, compare, IsSum, one_prod, more_sum, IsProd, one_unary, more_prod, IsUnary, one_app, negate, IsApp, send, receive, select, new, fork, make, head}
 use Rattle.fst_syntax.specs.Nesting.{expr_nests, or_nests, and_nests, cmp_nests, sum_nests, prod_nests, unary_nests, app_nests}
 use Rattle.fst_syntax.specs.declared.starts.AppStart.TheVariants.{Send, Receive, Select, New, Fork, Make}
 use Rattle.fst_syntax.specs.TermReading.{is_app, is_start, starts_app, starts_unary, expr_named, expr_by, expr_start, is_expr_start, starts_expr}
 use Rattle.fst_syntax.proofs.Begins.{StartsAtom, in_front, weaker, head_begins}
 use Rattle.fst_syntax.proofs.TermTokens.{app_spelled, means_app, atom_spelled}
+use Rattle.fst_base.proofs.Bools.{same_text}
 
 abbrev pub StartsApp : Lexeme → Type 0
 StartsApp k = starts_app k ≡ true

@@ -3,14 +3,14 @@ use Rattle.std.proofs.Common.{◌≡◌, ℕ, suc, Bool, true, false, ◌||◌, 
 use Rattle.std.specs.Prelude.{codes}
 use Rattle.fst_types.specs.WrittenTree as written
 use Rattle.fst_terms.specs.TermTree as term
-use Rattle.fst_terms.specs.TermTree.{TermTree, TermList, no_terms}
-use Rattle.fst_type_syntax.specs.Lexeme.{Lexeme}
-use Rattle.fst_type_syntax.specs.Grammar.{start, skip}
-use Rattle.fst_type_syntax.proofs.Phrases.{Reads}
-use Rattle.fst_type_syntax.proofs.Steps.{Some_}
-use Rattle.fst_type_syntax.proofs.Shut.{reads_shut}
-use Rattle.fst_type_syntax.proofs.Repeats.{Fits}
-use Rattle.fst_type_syntax.proofs.Tokens.{fixed, fixed_is, a_lower, an_upper}
+use Rattle.fst_terms.specs.TermTree.{TermTree, no_terms}
+use Rattle.fst_reading.specs.Lexeme.{Lexeme, start}
+use Rattle.fst_type_syntax.specs.Grammar.{skip}
+use Rattle.fst_reading.proofs.Phrases.{Reads}
+use Rattle.fst_reading.proofs.Steps.{SomePhrase}
+use Rattle.fst_reading.proofs.Shut.{reads_shut}
+use Rattle.fst_reading.proofs.Repeats.{Fits}
+use Rattle.fst_reading.proofs.Tokens.{fixed, fixed_is, a_lower, an_upper}
 use Rattle.fst_syntax.specs.Grammar.{send, receive, select, new, fork, make, head, one_plain, named, none, no_atoms}
 use Rattle.fst_syntax.specs.Nesting.{atom_nests}
 use Rattle.fst_syntax.specs.declared.starts.AtomStart.{AtomStart}
@@ -77,7 +77,7 @@ opens_as_app d k is = by_test (opens_app k) refl is
     by_test true e g = let s = app_of (app_start k) e in by_app d k s.0 (app_means k s.0 s.1)
     by_test false e g = let s = atom_of (atom_start k) g in by_plain d k s.0 (atom_means k s.0 s.1)
 
-pub sample_app : (d n : ℕ) → (s : Some_ (AppP d)) × (start s.tokens ≡ n)
+pub sample_app : (d n : ℕ) → (s : SomePhrase (AppP d)) × (start s.tokens ≡ n)
 sample_app d n = (record { tokens = a_lower n ∷ []; value = term.named n [] []; nests = d ∷ []; phrase = (head _ _ (one_plain _ _ (named (a_lower n) [] [] refl none)), refl) }, refl)
 
 -- an application is read where it isn't too deep

@@ -3,15 +3,16 @@ use Rattle.std.proofs.Common.{◌≡◌, ℕ, ◌⊎◌, inl, inr, true, false, 
 use Rattle.std.specs.Prelude.{codes}
 use Rattle.fst_lexer.specs.declared.token.TokenKind.{TokenKind}
 use Rattle.fst_lexer.specs.declared.token.TokenKind.TheVariants as kind
-use Rattle.fst_type_syntax.specs.Lexeme.{Lexeme, spells_by, Is, IsLower, IsUpper}
-use Rattle.fst_type_syntax.specs.Reading.{choose}
-use Rattle.fst_type_syntax.proofs.Steps.{chosen}
-use Rattle.fst_type_syntax.proofs.Tokens.{same_text, some_is, spelled_so}
+use Rattle.fst_reading.specs.Lexeme.{Lexeme, spells_by, Is, IsLower, IsUpper}
+use Rattle.fst_base.specs.Choice.{choose}
+use Rattle.fst_base.proofs.Choices.{chosen}
+use Rattle.fst_reading.proofs.Tokens.{some_is, spelled_so}
 use Rattle.fst_syntax.specs.declared.starts.AtomStart.{AtomStart}
 use Rattle.fst_syntax.specs.declared.starts.AtomStart.TheVariants.{Name, Constructor, Number, Character, Truth, Paren}
 use Rattle.fst_syntax.specs.declared.starts.AppStart.{AppStart}
 use Rattle.fst_syntax.specs.declared.starts.AppStart.TheVariants.{Send, Receive, Select, New, Fork, Make}
 use Rattle.fst_syntax.specs.TermReading.{atom_named, atom_by, atom_start, is_start, starts_atom, no_constructor, plain_start, app_named, app_by, app_start, is_app}
+use Rattle.fst_base.proofs.Bools.{same_text}
 
 -- a reserved word or a sign
 abbrev pub IsFixed : Lexeme → Type 0

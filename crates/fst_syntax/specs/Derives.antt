@@ -2,12 +2,11 @@
 use Rattle.std.specs.Prelude.{◌≡◌, ◌≢◌, ◌⊎◌, ℕ, ◌-◌, List, [], length, take, map, Result, Ok, Err}
 use Rattle.fst_lexer.specs.declared.token.Token.{Token}
 use Rattle.fst_terms.specs.ModuleTree.{Declared}
-use Rattle.fst_type_syntax.specs.declared.fault.SyntaxFault.{SyntaxFault}
-use Rattle.fst_type_syntax.specs.declared.fault.SyntaxFault.TheVariants as fault
-use Rattle.fst_type_syntax.specs.Limits.{most_nested}
-use Rattle.fst_type_syntax.specs.Lexeme.{lexeme, place}
-use Rattle.fst_type_syntax.specs.Faults.{PhraseOf, BeginsLow}
-use Rattle.fst_type_syntax.specs.Derives.{is_left, Refuses}
+use Rattle.fst_reading.specs.declared.fault.SyntaxFault.{SyntaxFault}
+use Rattle.fst_reading.specs.declared.fault.SyntaxFault.TheVariants as fault
+use Rattle.fst_base.specs.Limits.{most_nested}
+use Rattle.fst_reading.specs.Lexeme.{lexeme, place}
+use Rattle.fst_reading.specs.Faults.{PhraseOf, BeginsWithinLimit, is_left, Refuses}
 use Rattle.fst_syntax.specs.Grammar.{Lined, unlined, IsModule}
 use Rattle.fst_syntax.specs.Nesting.{module_nests}
 
@@ -29,7 +28,7 @@ ModulePhrase ts ds ns = (s : IsModule ts ds) × (module_nests s ≡ ns)
 
 -- the tokens of the text are this module, or why they are none
 abbrev pub AnswersModule : List ℕ → List Token → Result (List Declared) SyntaxFault → Type 0
-AnswersModule text tokens (Ok ds) = BeginsLow most_nested ModulePhrase is_left (lined_tokens text tokens) ds []
+AnswersModule text tokens (Ok ds) = BeginsWithinLimit most_nested ModulePhrase is_left (lined_tokens text tokens) ds []
 AnswersModule text tokens (Err e) = Refuses ModulePhrase is_left (line_place (length text)) (lined_tokens text tokens) e
 
 -- a list of tokens is at most one module, a text has at most one answer, and a module is read where no token is too deep

@@ -11,8 +11,8 @@ use Rattle.fst_terms.specs.TermTree as term
 use Rattle.fst_terms.specs.TermTree.{TermTree, TermList, no_terms, TermArms, no_arms, arm}
 use Rattle.fst_terms.specs.ModuleTree as declared
 use Rattle.fst_terms.specs.ModuleTree.{Maker, Declared}
-use Rattle.fst_type_syntax.specs.Lexeme.{Lexeme, Is, IsLower, IsUpper}
-use Rattle.fst_type_syntax.specs.Grammar.{start, IsArrow, IsType, IsSeq, IsAtom as IsTypeAtom, IsBinders}
+use Rattle.fst_reading.specs.Lexeme.{Lexeme, Is, IsLower, IsUpper, start}
+use Rattle.fst_type_syntax.specs.Grammar.{IsArrow, IsType, IsSeq, IsAtom as IsTypeAtom, IsBinders}
 
 -- a token that is a name, as what it binds
 abbrev pub bound : Lexeme → Binder

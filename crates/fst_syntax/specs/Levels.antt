@@ -1,5 +1,6 @@
--- The chains of operators by how tightly they bind, and the arms of `case` and `match`.
-use Rattle.std.specs.Prelude.{◌≡◌, ℕ, List, Option, Result, Ok, Err, codes}
+-- The chains of operators by how tightly they bind, the arms of `case` and `match`, and what is looked for where nothing may
+-- be opened any more.
+use Rattle.std.specs.Prelude.{◌≡◌, ℕ, Bool, List, Option, Result, Ok, Err, codes}
 use Rattle.fst_terms.specs.declared.term.Op.{Op}
 use Rattle.fst_terms.specs.declared.term.Op.TheVariants as op
 use Rattle.fst_terms.specs.declared.term.SourceArm.{SourceArm}
@@ -9,13 +10,16 @@ use Rattle.fst_syntax.specs.declared.operators.Level.{Level}
 use Rattle.fst_syntax.specs.declared.operators.Level.TheVariants.{Or, And, Sum, Product}
 use Rattle.fst_syntax.specs.declared.heads.Arms.{Arms}
 use Rattle.fst_syntax.specs.declared.heads.Arms.TheVariants as by
+use Rattle.fst_syntax.specs.declared.shut.Wanted.{Wanted}
+use Rattle.fst_syntax.specs.declared.shut.Wanted.TheVariants as wanted
 use Rattle.fst_syntax.specs.declared.heads.Binding.{Binding}
 use Rattle.fst_syntax.specs.declared.heads.Binding.TheVariants.{One, Two}
-use Rattle.fst_type_syntax.specs.declared.reading.Stop.{Stop}
-use Rattle.fst_type_syntax.specs.Lexeme.{Lexeme}
-use Rattle.fst_type_syntax.specs.Reading.{Reader, Halt, ◌>>=◌, mapped, word}
-use Rattle.fst_type_syntax.specs.Gives.{Fails}
-use Rattle.fst_syntax.specs.TermReading.{Inside, Arm, addition, operator, unary_with, prod_with, cmp_with, and_with, chain, case_arm_with, match_arm_with, arms_with}
+use Rattle.fst_reading.specs.declared.stop.Stop.{Stop}
+use Rattle.fst_reading.specs.Lexeme.{Lexeme}
+use Rattle.fst_reading.specs.Reading.{Reader, Halt, ◌>>=◌, mapped, word}
+use Rattle.fst_reading.specs.Gives.{Fails}
+use Rattle.fst_type_syntax.specs.TypeReading.{starts_type_atom}
+use Rattle.fst_syntax.specs.TermReading.{Inside, Arm, is_upper, starts_atom, starts_unary, starts_expr, addition, operator, unary_with, prod_with, cmp_with, and_with, chain, case_arm_with, match_arm_with, arms_with}
 
 -- the operator that a chain has between its operands
 abbrev pub operator_of : Level → Lexeme → Option Op
@@ -67,3 +71,11 @@ bind_term at (Two x y) = term.split at x y
 abbrev pub GoesOn : {X Y : Type 0} → (X → Result Y Halt) → Result X Stop → Result Y Halt → Type 0
 GoesOn more (Ok x) read = read ≡ more x
 GoesOn more (Err e) read = Fails e read
+
+-- whether what is looked for may begin with this token
+abbrev pub starts_wanted : Wanted → Lexeme → Bool
+starts_wanted wanted.Atom = starts_atom
+starts_wanted wanted.Operand = starts_unary
+starts_wanted wanted.Term = starts_expr
+starts_wanted wanted.Label = is_upper
+starts_wanted wanted.Type = starts_type_atom

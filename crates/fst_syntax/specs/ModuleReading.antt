@@ -1,10 +1,11 @@
 -- Reading a module: declaration by declaration, each up to the next token that begins a line.
 use Rattle.std.specs.Prelude.{ℕ, zero, suc, ◌-◌, List, [], ◌∷◌, ◌++◌, length, drop, Result, Ok, Err}
 use Rattle.fst_terms.specs.ModuleTree.{Declared}
-use Rattle.fst_type_syntax.specs.Lexeme.{Lexeme}
-use Rattle.fst_type_syntax.specs.Reading.{HaltOf, Halt, Syntax, Deep, ReaderOf, choose}
+use Rattle.fst_reading.specs.Lexeme.{Lexeme}
+use Rattle.fst_reading.specs.Reading.{HaltOf, Halt, Syntax, Deep, ReaderOf}
 use Rattle.fst_syntax.specs.Grammar.{Lined, unlined}
-use Rattle.fst_syntax.specs.TermReading.{decl_whole}
+use Rattle.fst_syntax.specs.DeclReading.{decl_whole}
+use Rattle.fst_base.specs.Choice.{choose}
 
 -- the tokens in front of the first one that begins a line
 unfoldable pub in_line : List Lined → List Lined

@@ -4,9 +4,10 @@ use Rattle.std.specs.Prelude.{ℕ, suc, ◌+◌, List, [], ◌∷◌, ◌++◌}
 use Rattle.fst_types.specs.WrittenTree.{WrittenTree}
 use Rattle.fst_terms.specs.TermTree.{TermTree, TermList, TermArms}
 use Rattle.fst_terms.specs.ModuleTree.{Maker, Declared}
-use Rattle.fst_type_syntax.specs.Lexeme.{Lexeme}
-use Rattle.fst_type_syntax.specs.Nesting.{level, type_nests, seq_nests, atom_nests as type_atom_nests}
+use Rattle.fst_reading.specs.Lexeme.{Lexeme}
+use Rattle.fst_type_syntax.specs.Nesting.{type_nests, seq_nests, atom_nests as type_atom_nests}
 use Rattle.fst_syntax.specs.Grammar.{AreApplied, none, applied, IsExpr, let_in, split, if_else, lambda, case_of, match_with, one_or, seq, AreCases, last_case, further_case, AreMatches, last_match, further_match, IsOr, one_and, more_or, IsAnd, one_cmp, more_and, IsCmp, one_sum, compare, IsSum, one_prod, more_sum, IsProd, one_unary, more_prod, IsUnary, one_app, negate, IsApp, send, receive, select, new, fork, make, head, IsHead, one_plain, apply, AreAtoms, no_atoms, atom, IsAtom, constructor, plain, IsPlain, named, number, character, yes, no, unit, group, pair, AreTypes, type, AreMakers, last, further, IsDecl, family, alias, signature, over, equation, Lined, IsModule, decl}
+use Rattle.fst_reading.specs.Faults.{level}
 
 -- the same number for the type arguments of a name
 abbrev pub applied_nests : ℕ → {ts : List Lexeme} {types : List WrittenTree} → AreApplied ts types → List ℕ
@@ -18,18 +19,22 @@ abbrev pub or_operands : {ts : List Lexeme} {t : TermTree} → IsOr ts t → ℕ
 or_operands (one_and ts t a) = 1
 or_operands (more_or ts us all k t u d is a parts) = suc (or_operands d)
 
+-- how many operands a chain of `&&` has
 abbrev pub and_operands : {ts : List Lexeme} {t : TermTree} → IsAnd ts t → ℕ
 and_operands (one_cmp ts t a) = 1
 and_operands (more_and ts us all k t u d is a parts) = suc (and_operands d)
 
+-- how many operands a chain of `+` and `-` has
 abbrev pub sum_operands : {ts : List Lexeme} {t : TermTree} → IsSum ts t → ℕ
 sum_operands (one_prod ts t a) = 1
 sum_operands (more_sum ts us all k o t u d is a parts) = suc (sum_operands d)
 
+-- how many operands a chain of `*` has
 abbrev pub prod_operands : {ts : List Lexeme} {t : TermTree} → IsProd ts t → ℕ
 prod_operands (one_unary ts t a) = 1
 prod_operands (more_prod ts us all k t u d is a parts) = suc (prod_operands d)
 
+-- how many operands the front of an application has
 abbrev pub head_operands : {ts : List Lexeme} {t : TermTree} → IsHead ts t → ℕ
 head_operands (one_plain ts t a) = 1
 head_operands (apply ts us all t u d a parts) = suc (head_operands d)
@@ -59,22 +64,27 @@ abbrev mutual
   matches_nests n (last_match l x a ts t is name arrow d) = n ∷ n ∷ n ∷ expr_nests (suc n) d
   matches_nests n (further_match l x a m ts us all t arms is name arrow d comma f parts) = n ∷ n ∷ n ∷ expr_nests (suc n) d ++ n ∷ matches_nests n f
 
+  -- the same of a chain of `||`
   pub or_nests : ℕ → {ts : List Lexeme} {t : TermTree} → IsOr ts t → List ℕ
   or_nests n (one_and ts t a) = and_nests n a
   or_nests n (more_or ts us all k t u d is a parts) = or_nests n d ++ (n + or_operands d) ∷ and_nests (n + or_operands d) a
 
+  -- the same of a chain of `&&`
   pub and_nests : ℕ → {ts : List Lexeme} {t : TermTree} → IsAnd ts t → List ℕ
   and_nests n (one_cmp ts t a) = cmp_nests n a
   and_nests n (more_and ts us all k t u d is a parts) = and_nests n d ++ (n + and_operands d) ∷ cmp_nests (n + and_operands d) a
 
+  -- the same of a comparison
   pub cmp_nests : ℕ → {ts : List Lexeme} {t : TermTree} → IsCmp ts t → List ℕ
   cmp_nests n (one_sum ts t a) = sum_nests n a
   cmp_nests n (compare ts us all k o t u d is a parts) = sum_nests n d ++ n ∷ sum_nests n a
 
+  -- the same of a chain of `+` and `-`
   pub sum_nests : ℕ → {ts : List Lexeme} {t : TermTree} → IsSum ts t → List ℕ
   sum_nests n (one_prod ts t a) = prod_nests n a
   sum_nests n (more_sum ts us all k o t u d is a parts) = sum_nests n d ++ (n + sum_operands d) ∷ prod_nests (n + sum_operands d) a
 
+  -- the same of a chain of `*`
   pub prod_nests : ℕ → {ts : List Lexeme} {t : TermTree} → IsProd ts t → List ℕ
   prod_nests n (one_unary ts t a) = unary_nests n a
   prod_nests n (more_prod ts us all k t u d is a parts) = prod_nests n d ++ (n + prod_operands d) ∷ unary_nests (n + prod_operands d) a
@@ -84,6 +94,7 @@ abbrev mutual
   unary_nests n (one_app ts t a) = app_nests n a
   unary_nests n (negate k ts t is d) = n ∷ unary_nests (suc n) d
 
+  -- the same of an application
   pub app_nests : ℕ → {ts : List Lexeme} {t : TermTree} → IsApp ts t → List ℕ
   app_nests n (send k ts us all t u is a b parts) = n ∷ atom_nests (suc n) a ++ atom_nests (suc (suc n)) b
   app_nests n (receive k ts t is a) = n ∷ atom_nests (suc n) a
@@ -93,6 +104,7 @@ abbrev mutual
   app_nests n (make k ts args is d) = n ∷ atoms_nests (suc n) d
   app_nests n (head ts t d) = head_nests n d
 
+  -- the same of the front of an application
   pub head_nests : ℕ → {ts : List Lexeme} {t : TermTree} → IsHead ts t → List ℕ
   head_nests n (one_plain ts t a) = plain_nests n a
   head_nests n (apply ts us all t u d a parts) = head_nests n d ++ atom_nests (n + head_operands d) a
@@ -102,10 +114,12 @@ abbrev mutual
   atoms_nests n no_atoms = []
   atoms_nests n (atom ts us all t args a d parts) = atom_nests n a ++ atoms_nests (suc n) d
 
+  -- the same of an atom
   pub atom_nests : ℕ → {ts : List Lexeme} {t : TermTree} → IsAtom ts t → List ℕ
   atom_nests n (constructor k is) = n ∷ []
   atom_nests n (plain ts t a) = plain_nests n a
 
+  -- the same of an atom that is no constructor
   pub plain_nests : ℕ → {ts : List Lexeme} {t : TermTree} → IsPlain ts t → List ℕ
   plain_nests n (named k ts types is d) = n ∷ applied_nests n d
   plain_nests n (number k m is) = n ∷ []

@@ -12,24 +12,26 @@ use Rattle.fst_terms.specs.declared.term.Op.TheVariants as op
 use Rattle.fst_terms.specs.TermTree as term
 use Rattle.fst_terms.specs.TermTree.{TermTree, TermList, no_terms, TermArms, no_arms, arm}
 use Rattle.fst_terms.specs.ModuleTree as declared
-use Rattle.fst_terms.specs.ModuleTree.{Maker, Declared}
 use Rattle.fst_syntax.specs.declared.starts.AtomStart.{AtomStart}
 use Rattle.fst_syntax.specs.declared.starts.AtomStart.TheVariants.{Name, Constructor, Number, Character, Truth, Paren}
 use Rattle.fst_syntax.specs.declared.starts.AppStart.{AppStart}
 use Rattle.fst_syntax.specs.declared.starts.AppStart.TheVariants.{Send, Receive, Select, New, Fork, Make}
 use Rattle.fst_syntax.specs.declared.starts.ExprStart.{ExprStart}
 use Rattle.fst_syntax.specs.declared.starts.ExprStart.TheVariants.{Let, If, Lambda, Case, Match}
-use Rattle.fst_type_syntax.specs.Lexeme.{Lexeme, spells}
-use Rattle.fst_type_syntax.specs.Reading.{Reader, choose, give, ◌>>=◌, mapped, switch, one, word, located, on, separated, when, shut, repeat, many, finish}
-use Rattle.fst_type_syntax.specs.TypeReading.{lower_of, upper_of, is_one, starts_type_atom, seq_at, type_at, atom_with as written_atom_with, binder_at}
+use Rattle.fst_reading.specs.Lexeme.{Lexeme, spells, lower_of, upper_of, is_one}
+use Rattle.fst_reading.specs.Reading.{Reader, give, ◌>>=◌, mapped, switch, one, word, located, on, separated, when, shut, repeat, many}
+use Rattle.fst_type_syntax.specs.TypeReading.{starts_type_atom, seq_at, type_at, atom_with as written_atom_with}
 use Rattle.fst_syntax.specs.Grammar.{bound}
+use Rattle.fst_base.specs.Choice.{choose}
 
+-- what a reserved word or sign begins as an atom
 unfoldable pub atom_named : List ℕ → Option AtomStart
 atom_named text =
     choose (bytes_eq text (codes "True")) (Some (Truth true))
     (choose (bytes_eq text (codes "False")) (Some (Truth false))
     (choose (bytes_eq text (codes "(")) (Some Paren) None))
 
+-- what a token begins as an atom, by its kind and text
 abbrev pub atom_by : TokenKind → List ℕ → Option AtomStart
 atom_by kind.Lower text = Some Name
 atom_by kind.Upper text = Some Constructor
@@ -39,9 +41,11 @@ atom_by kind.Reserved text = atom_named text
 atom_by kind.Sign text = atom_named text
 atom_by _ text = None
 
+-- what a token begins as an atom
 abbrev pub atom_start : Lexeme → Option AtomStart
 atom_start k = atom_by k.kind k.text
 
+-- whether this is the kind of lower names
 abbrev pub lower_kind : TokenKind → Bool
 lower_kind kind.Lower = true
 lower_kind _ = false
@@ -50,6 +54,7 @@ lower_kind _ = false
 abbrev pub is_lower : Lexeme → Bool
 is_lower k = lower_kind k.kind
 
+-- whether this is the kind of upper names
 abbrev pub upper_kind : TokenKind → Bool
 upper_kind kind.Upper = true
 upper_kind _ = false
@@ -58,6 +63,7 @@ upper_kind _ = false
 abbrev pub is_upper : Lexeme → Bool
 is_upper k = upper_kind k.kind
 
+-- whether a token begins an atom
 abbrev pub is_start : Option AtomStart → Bool
 is_start (Some s) = true
 is_start None = false
@@ -76,6 +82,7 @@ comparison k =
     (choose (spells (codes ">") k) (Some op.Greater)
     (choose (spells (codes ">=") k) (Some op.AtLeast) None)))))
 
+-- the operator of a chain of `+` and `-` that a token is
 unfoldable pub addition : Lexeme → Option Op
 addition k = choose (spells (codes "+") k) (Some op.Add) (choose (spells (codes "-") k) (Some op.Subtract) None)
 
@@ -83,10 +90,12 @@ addition k = choose (spells (codes "+") k) (Some op.Add) (choose (spells (codes 
 unfoldable pub operator : List ℕ → Op → Lexeme → Option Op
 operator w o k = choose (spells w k) (Some o) None
 
+-- whether a token is an operator of a chain
 abbrev pub is_op : Option Op → Bool
 is_op (Some o) = true
 is_op None = false
 
+-- what a reserved word begins as an application
 unfoldable pub app_named : List ℕ → Option AppStart
 app_named text =
     choose (bytes_eq text (codes "send")) (Some Send)
@@ -95,15 +104,18 @@ app_named text =
     (choose (bytes_eq text (codes "new")) (Some New)
     (choose (bytes_eq text (codes "fork")) (Some Fork) None))))
 
+-- what a token begins as an application, by its kind and text
 abbrev pub app_by : TokenKind → List ℕ → Option AppStart
 app_by kind.Upper text = Some Make
 app_by kind.Reserved text = app_named text
 app_by kind.Sign text = app_named text
 app_by _ text = None
 
+-- what a token begins as an application
 abbrev pub app_start : Lexeme → Option AppStart
 app_start k = app_by k.kind k.text
 
+-- whether a token begins an application by a word of its own
 abbrev pub is_app : Option AppStart → Bool
 is_app (Some s) = true
 is_app None = false
@@ -116,9 +128,11 @@ opens_app k = is_app (app_start k)
 abbrev pub starts_app : Lexeme → Bool
 starts_app k = opens_app k || starts_atom k
 
+-- whether a token begins a `not` or an application
 abbrev pub starts_unary : Lexeme → Bool
 starts_unary k = spells (codes "not") k || starts_app k
 
+-- what a reserved word or sign begins as a term
 unfoldable pub expr_named : List ℕ → Option ExprStart
 expr_named text =
     choose (bytes_eq text (codes "let")) (Some Let)
@@ -127,18 +141,22 @@ expr_named text =
     (choose (bytes_eq text (codes "case")) (Some Case)
     (choose (bytes_eq text (codes "match")) (Some Match) None))))
 
+-- what a token begins as a term, by its kind and text
 abbrev pub expr_by : TokenKind → List ℕ → Option ExprStart
 expr_by kind.Reserved text = expr_named text
 expr_by kind.Sign text = expr_named text
 expr_by _ text = None
 
+-- what a token begins as a term
 abbrev pub expr_start : Lexeme → Option ExprStart
 expr_start k = expr_by k.kind k.text
 
+-- whether a token begins a term by a word of its own
 abbrev pub is_expr_start : Option ExprStart → Bool
 is_expr_start (Some s) = true
 is_expr_start None = false
 
+-- whether a token begins a term by a word of its own
 abbrev pub opens_expr : Lexeme → Bool
 opens_expr k = is_expr_start (expr_start k)
 
@@ -179,6 +197,7 @@ begun_with e es (Character c) k = give (term.char k.at c)
 begun_with e es (Truth b) k = give (term.bool k.at b)
 begun_with e es Paren k = paren_with e k.at
 
+-- what a token begins as an atom, where a constructor counts as none
 abbrev pub no_constructor : Option AtomStart → Option AtomStart
 no_constructor (Some Constructor) = None
 no_constructor o = o
@@ -191,10 +210,12 @@ plain_start k = no_constructor (atom_start k)
 unfoldable pub plain_with : Reader TermTree → Inside → Reader TermTree
 plain_with e es = switch plain_start (begun_with e es)
 
+-- an atom
 unfoldable pub atom_with : Inside → Reader TermTree
 atom_with [] = shut starts_atom
 atom_with (e ∷ es) = switch atom_start (begun_with e es)
 
+-- a list of terms with one more at its end
 abbrev pub appended : TermList → TermTree → TermList
 appended no_terms t = term.term t no_terms
 appended (term.term u us) t = term.term u (appended us t)
@@ -230,6 +251,7 @@ app_begun_with es Make k = mapped (term.make k.at k.text) (arguments_with es no_
 unfoldable pub head_with : Reader TermTree → Inside → Reader TermTree
 head_with e es = located (λ at. plain_with e es >>= λ t. applications_with at es t)
 
+-- an application
 unfoldable pub app_with : Inside → Reader TermTree
 app_with [] = shut starts_app
 app_with (e ∷ es) = when opens_app (switch app_start (app_begun_with es)) (head_with e es)
@@ -247,9 +269,11 @@ chain_with p operand at = repeat (λ k. is_op (p k)) (λ es t. switch p (λ o k.
 unfoldable pub chain : (Lexeme → Option Op) → (Inside → Reader TermTree) → Inside → Reader TermTree
 chain p operand es = located (λ at. operand es >>= λ t. chain_with p operand at (next es) t)
 
+-- a chain of `*`
 abbrev pub prod_with : Inside → Reader TermTree
 prod_with = chain (operator (codes "*") op.Multiply) unary_with
 
+-- a chain of `+` and `-`
 abbrev pub sum_with : Inside → Reader TermTree
 sum_with = chain addition prod_with
 
@@ -257,13 +281,16 @@ sum_with = chain addition prod_with
 unfoldable pub compare_with : ℕ → Inside → TermTree → Reader TermTree
 compare_with at es t = when (λ k. is_op (comparison k)) (switch comparison (λ o k. mapped (term.operate at o t) (sum_with es))) (give t)
 
+-- one operand, or a comparison of two
 unfoldable pub cmp_with : Inside → Reader TermTree
 cmp_with [] = shut starts_unary
 cmp_with (e ∷ es) = located (λ at. sum_with (e ∷ es) >>= λ t. compare_with at (e ∷ es) t)
 
+-- a chain of `&&`
 abbrev pub and_with : Inside → Reader TermTree
 and_with = chain (operator (codes "&&") op.And) cmp_with
 
+-- a chain of `||`
 abbrev pub or_with : Inside → Reader TermTree
 or_with = chain (operator (codes "||") op.Or) and_with
 
@@ -271,10 +298,12 @@ or_with = chain (operator (codes "||") op.Or) and_with
 abbrev pub Arm : Type 0
 Arm = Binder × (List Binder × TermTree)
 
+-- arms as they stand in a term
 abbrev pub arms : List Arm → TermArms
 arms [] = no_arms
 arms (b ∷ bs) = arm b.0 b.1.0 b.1.1 (arms bs)
 
+-- binders one behind the other
 unfoldable pub names : Reader (List Binder)
 names = many is_lower (mapped bound (one lower_of))
 
@@ -283,6 +312,7 @@ unfoldable pub arrow_at : Reader Use
 arrow_at = on is_one (mapped (λ k. Once) (word (codes "->"))) (mapped (λ k. Many) (word (codes "->")))
 
 module _ (e : Reader TermTree) where
+  -- an arm of a `case`
   unfoldable pub case_arm_with : Reader Arm
   case_arm_with = do
     l ← one upper_of
@@ -290,6 +320,7 @@ module _ (e : Reader TermTree) where
     a ← word (codes "->")
     mapped (λ t. (bound l, (xs, t))) e
 
+  -- an arm of a `match`
   unfoldable pub match_arm_with : Reader Arm
   match_arm_with = do
     l ← one upper_of
@@ -344,6 +375,7 @@ module _ (e : Reader TermTree) where
     q ← word (codes "=")
     in_with (term.split at (bound x) (bound y))
 
+  -- what stands behind `let`
   unfoldable pub let_with : ℕ → Reader TermTree
   let_with at = on (spells (codes "(")) (split_with at) (do
     x ← one lower_of
@@ -371,6 +403,7 @@ expr_begun_with e n Match k = match_with e k.at
 unfoldable pub then_with : Reader TermTree → Inside → Reader TermTree
 then_with e es = located (λ at. or_with (e ∷ es) >>= λ t. on (spells (codes ";")) (mapped (term.seq at t) e) (give t))
 
+-- a term
 unfoldable pub expr_with : Inside → Reader TermTree
 expr_with [] = shut starts_expr
 expr_with (e ∷ es) = when opens_expr (switch expr_start (expr_begun_with e (length es))) (then_with e es)
@@ -383,47 +416,3 @@ inside (suc n) = expr_with (inside n) ∷ inside n
 -- a term, at most so many of them inside one another
 abbrev pub expr_at : ℕ → Reader TermTree
 expr_at n = expr_with (inside n)
-
--- the fields of a constructor
-unfoldable pub fields_at : ℕ → Reader (List WrittenTree)
-fields_at n = many starts_type_atom (written_atom_with (seq_at n) (type_at n))
-
-unfoldable pub maker_at : ℕ → Reader Maker
-maker_at n = do
-  l ← one upper_of
-  mapped (λ types. record { name = bound l; fields = types }) (fields_at n)
-
--- behind `data`
-unfoldable pub family_at : ℕ → Reader Declared
-family_at n = do
-  x ← one upper_of
-  q ← word (codes "=")
-  mapped (declared.family (bound x)) (separated (spells (codes "|")) (maker_at n))
-
--- behind `type`
-unfoldable pub alias_at : ℕ → Reader Declared
-alias_at n = do
-  x ← one upper_of
-  q ← word (codes "=")
-  mapped (declared.alias (bound x)) (type_at n)
-
--- behind the colon of a signature
-unfoldable pub signature_at : ℕ → Binder → Reader Declared
-signature_at n x = on (spells (codes "forall"))
-    (separated (spells (codes ",")) binder_at >>= λ bs. word (codes ".") >>= λ d. mapped (declared.signature x bs) (type_at n))
-    (mapped (declared.signature x []) (type_at n))
-
-unfoldable pub equation_at : ℕ → Binder → Reader Declared
-equation_at n x = do
-  xs ← names
-  q ← word (codes "=")
-  mapped (declared.equation x xs) (expr_at n)
-
--- a declaration, at most so deep
-unfoldable pub decl_at : ℕ → Reader Declared
-decl_at n = on (spells (codes "data")) (family_at n) (on (spells (codes "type")) (alias_at n)
-    (one lower_of >>= λ x. on (spells (codes ":")) (signature_at n (bound x)) (equation_at n (bound x))))
-
--- a declaration with nothing behind it
-unfoldable pub decl_whole : ℕ → Reader Declared
-decl_whole n = decl_at n >>= λ d. mapped (λ e. d) finish

@@ -3,13 +3,15 @@ use Rattle.std.specs.Prelude.{◌≡◌, ℕ, suc, List, [], ◌∷◌, length, 
 use Rattle.fst_lexer.specs.declared.token.Token.{Token}
 use Rattle.fst_terms.specs.declared.module.Decl.{Decl}
 use Rattle.fst_terms.specs.declared.module.SourceModule.{SourceModule}
-use Rattle.fst_terms.specs.ModuleTree.{Declared, declared, declarations}
-use Rattle.fst_type_syntax.specs.declared.fault.SyntaxFault.{SyntaxFault}
-use Rattle.fst_type_syntax.specs.declared.fault.SyntaxFault.TheVariants as fault
-use Rattle.fst_type_syntax.specs.Lexeme.{Lexeme, place}
-use Rattle.fst_type_syntax.specs.Reading.{HaltOf, Syntax, Deep, choose}
+use Rattle.fst_terms.specs.ModuleTree.{Declared, declared}
+use Rattle.fst_reading.specs.declared.fault.SyntaxFault.{SyntaxFault}
+use Rattle.fst_reading.specs.declared.fault.SyntaxFault.TheVariants as fault
+use Rattle.fst_reading.specs.Lexeme.{Lexeme, place}
+use Rattle.fst_reading.specs.Reading.{HaltOf, Syntax, Deep}
 use Rattle.fst_syntax.specs.Grammar.{Lined, unlined}
 use Rattle.fst_syntax.specs.ModuleReading.{first_decl, in_line}
+use Rattle.fst_base.specs.Choice.{choose}
+use Rattle.fst_terms.specs.ModuleView.{declarations}
 
 -- tokens by lines, each with its text
 abbrev pub lines_of : List Token → List Lexeme → List Lined
@@ -43,6 +45,7 @@ GivesLine (Ok x) end read = read ≡ Ok (declared x.0, x.1)
 GivesLine (Err fault.Memory) end read = ⊤
 GivesLine (Err e) end read = (h : HaltOf Lined) × (read ≡ Err h) × (e ≡ line_fault end h)
 
+-- what the reader of modules answers, as the definitions see it
 abbrev pub module_view : Result SourceModule SyntaxFault → Result (List Declared) SyntaxFault
 module_view (Ok m) = Ok (declarations m)
 module_view (Err e) = Err e

@@ -1,17 +1,17 @@
-ghost use Rattle.std.specs.Prelude.{◌≡◌, ◌∷◌, codes};
-ghost use Rattle.fst_type_syntax.specs.Lexeme.{spells};
-ghost use Rattle.fst_type_syntax.specs.Reading.{andthen, word};
-ghost use Rattle.fst_type_syntax.specs.Gives.{Gives};
+ghost use Rattle.std.specs.Prelude.{◌∷◌, codes};
+ghost use Rattle.fst_reading.specs.Reading.{andthen, word};
+ghost use Rattle.fst_reading.specs.Gives.{Gives};
 ghost use Rattle.fst_syntax.specs.TermReading.{inside, expr_at, type_atom_with, applied_with};
 
-use crate::shut::shut_type;
-use fst_type_syntax::{Lexeme, Stop, atom, comes, expect};
+use crate::shut::{Wanted, shut};
+use fst_reading::{Lexeme, Stop, comes, expect};
+use fst_type_syntax::atom;
 use fst_types::Written;
 use std::alloc::Global;
 use std::convert::identity;
 
 /// An atomic type, where `left` more operands may stand, and what stands behind it.
-#[tactic(auto, using(crate::proofs::Inside::length_inside), unfolding(crate::specs::TermReading::inside, crate::specs::TermReading::type_atom_with))]
+#[tactic(auto, using(crate::proofs::Inside::length_inside), unfolding(crate::specs::Steps::types))]
 pub(crate) fn type_atom<'a>(
     alloc: Global,
     left: u32,
@@ -20,13 +20,13 @@ pub(crate) fn type_atom<'a>(
     ensures { Gives (λ x. (x.0, x.1.now)) result (type_atom_with (inside left) tokens.now) }
 {
     if left == 0 {
-        return Err(shut_type(tokens));
+        return Err(shut(Wanted::Type, tokens));
     }
     atom(alloc, left - 1, tokens)
 }
 
 /// A type argument, and what stands behind it.
-#[tactic(auto, using(crate::proofs::Inside::length_inside), unfolding(fst_type_syntax::specs::Reading::bind, fst_type_syntax::specs::Reading::andthen, crate::specs::TermReading::type_atom_with))]
+#[tactic(auto, using(crate::proofs::Inside::length_inside), unfolding(crate::specs::Steps::apply))]
 fn argument<'a>(
     alloc: Global,
     left: u32,

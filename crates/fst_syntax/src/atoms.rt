@@ -1,15 +1,14 @@
-ghost use Rattle.std.specs.Prelude.{◌≡◌};
-ghost use Rattle.fst_terms.specs.TermView.{terms_of};
-ghost use Rattle.fst_type_syntax.specs.Gives.{Gives};
+ghost use Rattle.fst_terms.specs.ModelView.{terms_of};
+ghost use Rattle.fst_reading.specs.Gives.{Gives};
 ghost use Rattle.fst_syntax.specs.TermReading.{inside, expr_at, arguments_with, applications_with, head_with, atom_with, begun_with, paren_with};
 
 use crate::applied::applied;
 use crate::building::apply;
-use crate::shut::{begins_atom, shut_atom};
+use crate::shut::{Wanted, begins_atom, shut};
 use crate::starts::{AtomStart, atom_start, plain_start};
 use crate::terms::expr;
+use fst_reading::{Lexeme, Stop, after, expect};
 use fst_terms::{SourceForm, SourceTerm};
-use fst_type_syntax::{Lexeme, Stop, after, expect};
 use fst_types::Name;
 use std::alloc::Global;
 
@@ -36,7 +35,7 @@ pub(crate) fn arguments<'a>(
 
 /// An atom that is no upper name, and what it is applied to.
 #[cycle(reader)]
-#[tactic(auto, unfolding(fst_type_syntax::specs::Reading::bind, fst_type_syntax::specs::Reading::andthen, fst_type_syntax::specs::Reading::switch, crate::specs::TermReading::plain_with, crate::specs::TermReading::head_with))]
+#[tactic(auto, unfolding(crate::specs::Steps::head))]
 pub(crate) fn head<'a>(
     alloc: Global,
     left: u32,
@@ -81,7 +80,7 @@ fn applications<'a>(
 
 /// An atom, where `left` more operands may stand, and what stands behind it.
 #[cycle(reader)]
-#[tactic(auto, unfolding(fst_type_syntax::specs::Reading::switch, crate::specs::TermReading::atom_with, crate::specs::TermReading::inside))]
+#[tactic(auto, unfolding(crate::specs::Steps::atom))]
 pub(crate) fn atom<'a>(
     alloc: Global,
     left: u32,
@@ -90,7 +89,7 @@ pub(crate) fn atom<'a>(
     ensures { Gives (λ x. (x.0, x.1.now)) result (atom_with (inside left) tokens.now) }
 {
     if left == 0 {
-        return Err(shut_atom(tokens));
+        return Err(shut(Wanted::Atom, tokens));
     }
     match tokens {
         [] => Err(Stop::Syntax(tokens)),
@@ -103,7 +102,7 @@ pub(crate) fn atom<'a>(
 
 /// An atom that begins so with this token.
 #[cycle(reader)]
-#[tactic(auto, unfolding(fst_type_syntax::specs::Reading::bind, fst_type_syntax::specs::Reading::mapped, fst_type_syntax::specs::Reading::give))]
+#[tactic(auto, unfolding(fst_reading::specs::Steps::all))]
 fn begun<'a>(
     alloc: Global,
     left: u32,
@@ -144,7 +143,7 @@ fn begun<'a>(
 
 /// What stands behind a parenthesis: nothing, one term or two.
 #[cycle(reader)]
-#[tactic(auto, unfolding(fst_type_syntax::specs::Reading::bind, fst_type_syntax::specs::Reading::choose, fst_type_syntax::specs::Reading::andthen, fst_type_syntax::specs::Reading::mapped, fst_type_syntax::specs::Reading::on, fst_type_syntax::specs::Reading::give, crate::specs::TermReading::pair_with, crate::specs::TermReading::paren_with))]
+#[tactic(auto, unfolding(crate::specs::Steps::paren))]
 fn paren<'a>(
     alloc: Global,
     left: u32,

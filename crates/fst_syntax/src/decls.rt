@@ -1,19 +1,17 @@
 ghost use Rattle.std.specs.Prelude.{◌≡◌, [], codes, map};
 ghost use Rattle.fst_terms.specs.ModuleTree as tree;
 ghost use Rattle.fst_terms.specs.ModuleTree.{maker, declared};
-ghost use Rattle.fst_type_syntax.specs.Lexeme.{spells};
-ghost use Rattle.fst_type_syntax.specs.Reading.{begins, mapped, separated};
+ghost use Rattle.fst_reading.specs.Lexeme.{spells};
+ghost use Rattle.fst_reading.specs.Reading.{begins, mapped, separated};
 ghost use Rattle.fst_type_syntax.specs.TypeReading.{starts_type_atom, type_at};
-ghost use Rattle.fst_type_syntax.specs.Gives.{Gives};
-ghost use Rattle.fst_syntax.specs.TermReading.{fields_at, maker_at, family_at, alias_at, signature_at, equation_at, decl_at, decl_whole};
+ghost use Rattle.fst_reading.specs.Gives.{Gives};
+ghost use Rattle.fst_syntax.specs.DeclReading.{fields_at, maker_at, family_at, alias_at, signature_at, equation_at, decl_at, decl_whole};
 
 use crate::names::{bound, names};
 use crate::terms::expr;
+use fst_reading::{Lexeme, Stop, after, behind, comes, expect, lower, upper};
 use fst_terms::{Binder, Decl, SourceMaker};
-use fst_type_syntax::{
-    Lexeme, Stop, after, atom, behind, binders, comes, expect, lower, starts_type_atom, type_,
-    upper,
-};
+use fst_type_syntax::{atom, binders, starts_type_atom, type_};
 use fst_types::{Kind, Written};
 use std::alloc::Global;
 use std::convert::identity;
@@ -50,7 +48,7 @@ fn fields<'a>(
 }
 
 /// A constructor of a data type, and what stands behind it.
-#[tactic(auto, unfolding(fst_type_syntax::specs::Reading::bind, fst_type_syntax::specs::Reading::andthen, fst_type_syntax::specs::Reading::mapped, crate::specs::TermReading::maker_at))]
+#[tactic(auto, unfolding(fst_reading::specs::Steps::all, crate::specs::DeclReading::maker_at))]
 fn maker<'a>(
     alloc: Global,
     left: u32,
@@ -86,7 +84,7 @@ fn makers<'a>(
 }
 
 /// A data type behind its reserved word, and what stands behind it.
-#[tactic(auto, unfolding(fst_type_syntax::specs::Reading::bind, fst_type_syntax::specs::Reading::andthen, fst_type_syntax::specs::Reading::mapped, crate::specs::TermReading::family_at))]
+#[tactic(auto, unfolding(fst_reading::specs::Steps::all, crate::specs::DeclReading::family_at))]
 fn family<'a>(
     alloc: Global,
     left: u32,
@@ -102,7 +100,7 @@ fn family<'a>(
 }
 
 /// A name for a type behind its reserved word, and what stands behind it.
-#[tactic(auto, unfolding(fst_type_syntax::specs::Reading::bind, fst_type_syntax::specs::Reading::andthen, fst_type_syntax::specs::Reading::mapped, crate::specs::TermReading::alias_at))]
+#[tactic(auto, unfolding(fst_reading::specs::Steps::all, crate::specs::DeclReading::alias_at))]
 fn alias<'a>(
     alloc: Global,
     left: u32,
@@ -118,7 +116,7 @@ fn alias<'a>(
 }
 
 /// The type of a global, and what stands behind it; these are its variables.
-#[tactic(auto, unfolding(fst_type_syntax::specs::Reading::bind, fst_type_syntax::specs::Reading::mapped))]
+#[tactic(auto, unfolding(fst_reading::specs::Reading::bind, fst_reading::specs::Reading::mapped))]
 fn typed<'a>(
     alloc: Global,
     left: u32,
@@ -133,7 +131,7 @@ fn typed<'a>(
 }
 
 /// The type of a global behind its colon, and what stands behind it.
-#[tactic(auto, unfolding(fst_type_syntax::specs::Reading::bind, fst_type_syntax::specs::Reading::choose, fst_type_syntax::specs::Reading::andthen, fst_type_syntax::specs::Reading::on, crate::specs::TermReading::signature_at))]
+#[tactic(auto, unfolding(fst_reading::specs::Steps::all, crate::specs::DeclReading::signature_at))]
 fn signature<'a>(
     alloc: Global,
     left: u32,
@@ -153,7 +151,7 @@ fn signature<'a>(
 }
 
 /// The parameters and the body of a global, and what stands behind them.
-#[tactic(auto, unfolding(fst_type_syntax::specs::Reading::bind, fst_type_syntax::specs::Reading::andthen, fst_type_syntax::specs::Reading::mapped, crate::specs::TermReading::equation_at))]
+#[tactic(auto, unfolding(fst_reading::specs::Steps::all, crate::specs::DeclReading::equation_at))]
 fn equation<'a>(
     alloc: Global,
     left: u32,
@@ -169,7 +167,7 @@ fn equation<'a>(
 }
 
 /// A declaration, with at most `left` types or terms inside one another, and what stands behind it.
-#[tactic(auto, unfolding(fst_type_syntax::specs::Reading::bind, fst_type_syntax::specs::Reading::choose, fst_type_syntax::specs::Reading::andthen, fst_type_syntax::specs::Reading::on, crate::specs::TermReading::decl_at))]
+#[tactic(auto, unfolding(fst_reading::specs::Steps::all, crate::specs::DeclReading::decl_at))]
 pub(crate) fn decl<'a>(
     alloc: Global,
     left: u32,
@@ -192,7 +190,7 @@ pub(crate) fn decl<'a>(
 }
 
 /// A declaration with nothing behind it, with at most `left` types or terms inside one another.
-#[tactic(auto, unfolding(fst_type_syntax::specs::Reading::bind, fst_type_syntax::specs::Reading::andthen, fst_type_syntax::specs::Reading::mapped, fst_type_syntax::specs::Reading::finish, crate::specs::TermReading::decl_whole))]
+#[tactic(auto, unfolding(fst_reading::specs::Steps::all, crate::specs::DeclReading::decl_whole))]
 pub(crate) fn whole_decl<'a>(
     alloc: Global,
     left: u32,

@@ -1,16 +1,17 @@
-ghost use Rattle.std.specs.Prelude.{◌≡◌, ℕ, codes, length};
+ghost use Rattle.std.specs.Prelude.{◌≡◌, ℕ, length};
 ghost use Rattle.fst_terms.specs.TermTree as term;
 ghost use Rattle.fst_terms.specs.TermTree.{TermTree};
-ghost use Rattle.fst_terms.specs.TermView.{arms_of};
-ghost use Rattle.fst_type_syntax.specs.Reading.{Reader, mapped};
-ghost use Rattle.fst_type_syntax.specs.Gives.{Gives};
+ghost use Rattle.fst_terms.specs.ModelView.{arms_of};
+ghost use Rattle.fst_reading.specs.Reading.{Reader, mapped};
+ghost use Rattle.fst_reading.specs.Gives.{Gives};
 ghost use Rattle.fst_syntax.specs.TermReading.{inside, label_with, arrow_at, let_with, in_with, lambda_with};
 ghost use Rattle.fst_syntax.specs.Levels.{GoesOn, bind_term, arm_by, word_of, tree_by};
 
 use crate::names::{bound, names};
-use crate::shut::shut_upper;
+use crate::shut::{Wanted, shut};
+use fst_reading::{Lexeme, Stop, after, after_one, expect, lower, upper};
 use fst_terms::{Binder, SourceArm, SourceForm, SourceTerm};
-use fst_type_syntax::{Lexeme, Stop, after, after_one, expect, lower, seq, upper};
+use fst_type_syntax::seq;
 use fst_types::{Use, Written};
 use std::alloc::Global;
 
@@ -37,13 +38,13 @@ pub(crate) fn label<'a>(
     ensures { Gives (λ x. (x.0.now, x.1.now)) result (label_with (inside left) tokens.now) }
 {
     if left == 0 {
-        return Err(shut_upper(tokens));
+        return Err(shut(Wanted::Label, tokens));
     }
     upper(tokens)
 }
 
 /// An arrow, and what stands behind it.
-#[tactic(auto, unfolding(fst_type_syntax::specs::Reading::bind, fst_type_syntax::specs::Reading::choose, fst_type_syntax::specs::Reading::mapped, fst_type_syntax::specs::Reading::on, crate::specs::TermReading::arrow_at))]
+#[tactic(auto, unfolding(fst_reading::specs::Steps::all, crate::specs::TermReading::arrow_at))]
 fn arrow<'a>(tokens: &'a [Lexeme<'a>]) -> Result<(Use, &'a [Lexeme<'a>]), Stop<'a>>
     ensures { Gives (λ x. (x.0, x.1.now)) result (arrow_at tokens.now) }
 {
@@ -60,7 +61,7 @@ fn arrow<'a>(tokens: &'a [Lexeme<'a>]) -> Result<(Use, &'a [Lexeme<'a>]), Stop<'
 }
 
 /// What stands between `let` and the term whose value is bound.
-#[tactic(auto, unfolding(fst_type_syntax::specs::Reading::bind, fst_type_syntax::specs::Reading::choose, fst_type_syntax::specs::Reading::andthen, fst_type_syntax::specs::Reading::on, crate::specs::TermReading::split_with, crate::specs::TermReading::let_with))]
+#[tactic(auto, unfolding(crate::specs::Steps::let_head))]
 pub(crate) fn let_head<'a>(
     alloc: Global,
     tokens: &'a [Lexeme<'a>],
@@ -88,7 +89,7 @@ pub(crate) fn let_head<'a>(
 }
 
 /// What stands between `\` and the body of a function: its parameter with its type, and the arrow.
-#[tactic(auto, using(crate::proofs::Inside::length_inside), unfolding(fst_type_syntax::specs::Reading::bind, fst_type_syntax::specs::Reading::andthen, crate::specs::TermReading::lambda_with))]
+#[tactic(auto, using(crate::proofs::Inside::length_inside), unfolding(crate::specs::Steps::lambda))]
 pub(crate) fn parameter<'a>(
     alloc: Global,
     left: u32,
@@ -105,7 +106,7 @@ pub(crate) fn parameter<'a>(
 }
 
 /// What stands before the term of an arm: a constructor or a label, what it binds, and the arrow.
-#[tactic(auto, unfolding(fst_type_syntax::specs::Reading::bind, fst_type_syntax::specs::Reading::andthen, crate::specs::TermReading::case_arm_with, crate::specs::TermReading::match_arm_with))]
+#[tactic(auto, unfolding(crate::specs::Steps::arm_head))]
 pub(crate) fn arm_head<'a>(
     alloc: Global,
     arms: Arms,

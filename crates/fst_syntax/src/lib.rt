@@ -13,7 +13,5 @@ mod operators;
 mod shut;
 mod starts;
 mod terms;
-#[cfg(test)]
-mod tests;
 
 pub use modules::{one_module, read_module};

@@ -1,21 +1,18 @@
 ghost use Rattle.std.specs.Prelude.{◌≡◌, ◌≤◌, length};
 ghost use Rattle.fst_lexer.specs.Spans.{HaveSpans};
-ghost use Rattle.fst_terms.specs.ModuleTree.{declared};
-ghost use Rattle.fst_type_syntax.specs.Limits.{most_bytes, most_nested};
+ghost use Rattle.fst_base.specs.Limits.{most_bytes, most_nested};
 ghost use Rattle.fst_syntax.specs.Derives.{AnswersModule, OneModule};
 ghost use Rattle.fst_syntax.specs.Views.{GivesLine, line_length, line_read, lines_of, module_view};
 
 use crate::decls::whole_decl;
+use fst_base::MOST_NESTED;
 use fst_lexer::Token;
+use fst_reading::{Lexeme, SyntaxFault, fault_of, lexemes, place};
 use fst_terms::{Decl, SourceModule};
-use fst_type_syntax::{Lexeme, SyntaxFault, fault_of, lexemes, place};
 use std::alloc::Global;
 
-/// How deep a token may be nested.
-const MOST_NESTED: u32 = 200;
-
 /// How many tokens stand in front of the first one that begins a line.
-#[tactic(auto, unfolding(fst_type_syntax::specs::Reading::choose, crate::specs::Views::line_length))]
+#[tactic(auto, unfolding(fst_base::specs::Choice::choose, crate::specs::Views::line_length))]
 fn line_length(tokens: &[Token]) -> usize
     ensures line { result ≡ line_length tokens.now }
     ensures short { result ≤ length tokens.now }

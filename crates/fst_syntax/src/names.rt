@@ -1,13 +1,13 @@
 ghost use Rattle.std.specs.Prelude.{◌≡◌, IfOk};
-ghost use Rattle.fst_type_syntax.specs.Reading.{one, mapped, begins};
-ghost use Rattle.fst_type_syntax.specs.TypeReading.{lower_of};
-ghost use Rattle.fst_type_syntax.specs.Gives.{Gives};
+ghost use Rattle.fst_reading.specs.Reading.{one, mapped, begins};
+ghost use Rattle.fst_reading.specs.Lexeme.{lower_of};
+ghost use Rattle.fst_reading.specs.Gives.{Gives};
 ghost use Rattle.fst_syntax.specs.Grammar.{bound};
 ghost use Rattle.fst_syntax.specs.TermReading.{is_lower, names};
 
 use fst_lexer::TokenKind;
+use fst_reading::{Lexeme, Stop, lower};
 use fst_terms::Binder;
-use fst_type_syntax::{Lexeme, Stop, lower};
 use fst_types::Name;
 use std::alloc::{AllocError, Global};
 use std::convert::identity;
@@ -34,7 +34,7 @@ fn comes_lower(tokens: &[Lexeme<'_>]) -> bool
 }
 
 /// A lower name as what it binds, and what stands behind it.
-#[tactic(auto, unfolding(fst_type_syntax::specs::Reading::bind, fst_type_syntax::specs::Reading::mapped))]
+#[tactic(auto, unfolding(fst_reading::specs::Reading::bind, fst_reading::specs::Reading::mapped))]
 fn name<'a>(alloc: Global, tokens: &'a [Lexeme<'a>]) -> Result<(Binder, &'a [Lexeme<'a>]), Stop<'a>>
     ensures { Gives (λ x. (x.0, x.1.now)) result (mapped bound (one lower_of) tokens.now) }
 {

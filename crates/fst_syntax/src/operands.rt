@@ -1,5 +1,4 @@
-ghost use Rattle.std.specs.Prelude.{◌≡◌};
-ghost use Rattle.fst_type_syntax.specs.Gives.{Gives};
+ghost use Rattle.fst_reading.specs.Gives.{Gives};
 ghost use Rattle.fst_syntax.specs.TermReading.{inside, chain_with, cmp_with, unary_with, app_begun_with};
 ghost use Rattle.fst_syntax.specs.Levels.{operator_of, operand_with, level_with};
 
@@ -8,16 +7,16 @@ use crate::atoms::{arguments, atom, head};
 use crate::building::operate;
 use crate::heads::label;
 use crate::operators::{Level, chained_by, compared_by};
-use crate::shut::shut_unary;
+use crate::shut::{Wanted, shut};
 use crate::starts::{AppStart, app_start};
+use fst_reading::{Lexeme, Stop, spells, start};
 use fst_terms::{SourceForm, SourceTerm};
-use fst_type_syntax::{Lexeme, Stop, spells, start};
 use fst_types::Name;
 use std::alloc::Global;
 
 /// A chain of operands, and what stands behind it.
 #[cycle(reader)]
-#[tactic(auto, using(crate::proofs::Inside::next_inside), unfolding(fst_type_syntax::specs::Reading::bind, fst_type_syntax::specs::Reading::andthen, crate::specs::TermReading::chain))]
+#[tactic(auto, using(crate::proofs::Inside::next_inside), unfolding(crate::specs::Steps::chains))]
 pub(crate) fn chain<'a>(
     alloc: Global,
     level: Level,
@@ -77,7 +76,7 @@ fn more<'a>(
 
 /// A sum, or a comparison of two.
 #[cycle(reader)]
-#[tactic(auto, unfolding(fst_type_syntax::specs::Reading::bind, fst_type_syntax::specs::Reading::choose, fst_type_syntax::specs::Reading::andthen, fst_type_syntax::specs::Reading::mapped, fst_type_syntax::specs::Reading::give, fst_type_syntax::specs::Reading::when, fst_type_syntax::specs::Reading::switch, crate::specs::TermReading::compare_with, crate::specs::TermReading::cmp_with, crate::specs::TermReading::inside))]
+#[tactic(auto, unfolding(crate::specs::Steps::compared))]
 fn compared<'a>(
     alloc: Global,
     left: u32,
@@ -86,7 +85,7 @@ fn compared<'a>(
     ensures { Gives (λ x. (x.0, x.1.now)) result (cmp_with (inside left) tokens.now) }
 {
     if left == 0 {
-        return Err(shut_unary(tokens));
+        return Err(shut(Wanted::Operand, tokens));
     }
     let at = start(tokens);
     let (first, rest) = chain(alloc, Level::Sum, left, tokens)?;
@@ -104,7 +103,7 @@ fn compared<'a>(
 
 /// An application behind any number of `not`s.
 #[cycle(reader)]
-#[tactic(auto, unfolding(fst_type_syntax::specs::Reading::bind, fst_type_syntax::specs::Reading::choose, fst_type_syntax::specs::Reading::andthen, fst_type_syntax::specs::Reading::mapped, fst_type_syntax::specs::Reading::on, fst_type_syntax::specs::Reading::when, fst_type_syntax::specs::Reading::switch, crate::specs::TermReading::plain_with, crate::specs::TermReading::head_with, crate::specs::TermReading::app_with, crate::specs::TermReading::unary_with, crate::specs::TermReading::inside))]
+#[tactic(auto, unfolding(crate::specs::Steps::unary))]
 fn unary<'a>(
     alloc: Global,
     left: u32,
@@ -113,7 +112,7 @@ fn unary<'a>(
     ensures { Gives (λ x. (x.0, x.1.now)) result (unary_with (inside left) tokens.now) }
 {
     if left == 0 {
-        return Err(shut_unary(tokens));
+        return Err(shut(Wanted::Operand, tokens));
     }
     match tokens {
         [] => Err(Stop::Syntax(tokens)),
@@ -133,7 +132,7 @@ fn unary<'a>(
 
 /// An application that begins so with this token.
 #[cycle(reader)]
-#[tactic(auto, using(crate::proofs::Inside::next_inside), unfolding(fst_type_syntax::specs::Reading::bind, fst_type_syntax::specs::Reading::andthen, fst_type_syntax::specs::Reading::mapped))]
+#[tactic(auto, using(crate::proofs::Inside::next_inside), unfolding(crate::specs::Steps::app))]
 fn app<'a>(
     alloc: Global,
     left: u32,

@@ -1,11 +1,11 @@
 ghost use Rattle.std.specs.Prelude.{◌≡◌, ◌∷◌, false, MatchOption};
-ghost use Rattle.fst_type_syntax.specs.Lexeme.{Lexeme};
-ghost use Rattle.fst_type_syntax.specs.Reading.{begins};
+ghost use Rattle.fst_reading.specs.Lexeme.{Lexeme};
+ghost use Rattle.fst_reading.specs.Reading.{begins};
 ghost use Rattle.fst_syntax.specs.TermReading.{comparison, addition, is_op};
 ghost use Rattle.fst_syntax.specs.Levels.{operator_of};
 
+use fst_reading::{Lexeme, spells};
 use fst_terms::Op;
-use fst_type_syntax::{Lexeme, spells};
 
 /// The chains of operators, from the loosest to the tightest.
 #[derive(Clone, Copy, Debug)]
@@ -17,7 +17,7 @@ pub(crate) enum Level {
 }
 
 /// The operator of a comparison that is this token.
-#[tactic(auto, unfolding(fst_type_syntax::specs::Reading::choose, crate::specs::TermReading::comparison))]
+#[tactic(auto, unfolding(fst_base::specs::Choice::choose, crate::specs::TermReading::comparison))]
 fn comparison(token: &Lexeme<'_>) -> Option<Op>
     ensures { result ≡ comparison token.now }
 {
@@ -39,7 +39,7 @@ fn comparison(token: &Lexeme<'_>) -> Option<Op>
 }
 
 /// The operator of a sum that is this token.
-#[tactic(auto, unfolding(fst_type_syntax::specs::Reading::choose, crate::specs::TermReading::addition))]
+#[tactic(auto, unfolding(fst_base::specs::Choice::choose, crate::specs::TermReading::addition))]
 fn addition(token: &Lexeme<'_>) -> Option<Op>
     ensures { result ≡ addition token.now }
 {
@@ -53,7 +53,7 @@ fn addition(token: &Lexeme<'_>) -> Option<Op>
 }
 
 /// The operator of a chain that is this token.
-#[tactic(auto, unfolding(fst_type_syntax::specs::Reading::choose, crate::specs::TermReading::operator))]
+#[tactic(auto, unfolding(fst_base::specs::Choice::choose, crate::specs::TermReading::operator))]
 fn operator(level: Level, token: &Lexeme<'_>) -> Option<Op>
     ensures { result ≡ operator_of level token.now }
 {

@@ -1,15 +1,26 @@
 ghost use Rattle.std.specs.Prelude.{◌≡◌};
 ghost use Rattle.fst_types.specs.WrittenTree.{WrittenTree};
 ghost use Rattle.fst_terms.specs.TermTree.{TermTree};
-ghost use Rattle.fst_type_syntax.specs.Lexeme.{Lexeme};
-ghost use Rattle.fst_type_syntax.specs.Reading.{begins, shut};
-ghost use Rattle.fst_type_syntax.specs.TypeReading.{starts_type_atom};
-ghost use Rattle.fst_type_syntax.specs.Gives.{Fails};
-ghost use Rattle.fst_syntax.specs.TermReading.{is_upper, starts_atom, starts_app, starts_unary, starts_expr};
+ghost use Rattle.fst_reading.specs.Lexeme.{Lexeme};
+ghost use Rattle.fst_reading.specs.Reading.{begins, shut};
+ghost use Rattle.fst_reading.specs.Gives.{Fails};
+ghost use Rattle.fst_syntax.specs.TermReading.{starts_atom};
+ghost use Rattle.fst_syntax.specs.Levels.{starts_wanted};
 
-use crate::starts::{starts_app, starts_atom, starts_expr, starts_unary};
+use crate::starts::{starts_atom, starts_expr, starts_unary};
 use fst_lexer::TokenKind;
-use fst_type_syntax::{Lexeme, Stop, starts_type_atom};
+use fst_reading::{Lexeme, Stop};
+use fst_type_syntax::starts_type_atom;
+
+/// What is looked for where nothing may be opened any more.
+#[derive(Clone, Copy, Debug)]
+pub(crate) enum Wanted {
+    Atom,
+    Operand,
+    Term,
+    Label,
+    Type,
+}
 
 /// Whether an atom may begin here.
 pub(crate) fn begins_atom(tokens: &[Lexeme<'_>]) -> bool
@@ -21,60 +32,31 @@ pub(crate) fn begins_atom(tokens: &[Lexeme<'_>]) -> bool
     }
 }
 
-/// Why no atom is read where none may be opened any more.
-#[tactic(auto, unfolding(fst_type_syntax::specs::Reading::choose, fst_type_syntax::specs::Reading::shut))]
-pub(crate) fn shut_atom<'a>(tokens: &'a [Lexeme<'a>]) -> Stop<'a>
-    ensures { Fails result (shut {A = TermTree} starts_atom tokens.now) }
+/// Whether what is looked for may begin with this token.
+fn starts_wanted(wanted: Wanted, token: &Lexeme<'_>) -> bool
+    ensures { result ≡ starts_wanted wanted token.now }
 {
-    match tokens {
-        [first, ..] if starts_atom(first) => Stop::TooDeep(tokens),
-        _ => Stop::Syntax(tokens),
-    }
-}
-
-/// Why no operand is read where none may be opened any more.
-#[tactic(auto, unfolding(fst_type_syntax::specs::Reading::choose, fst_type_syntax::specs::Reading::shut))]
-pub(crate) fn shut_unary<'a>(tokens: &'a [Lexeme<'a>]) -> Stop<'a>
-    ensures { Fails result (shut {A = TermTree} starts_unary tokens.now) }
-{
-    match tokens {
-        [first, ..] if starts_unary(first) => Stop::TooDeep(tokens),
-        _ => Stop::Syntax(tokens),
-    }
-}
-
-/// Why no term is read where none may be opened any more.
-#[tactic(auto, unfolding(fst_type_syntax::specs::Reading::choose, fst_type_syntax::specs::Reading::shut))]
-pub(crate) fn shut_expr<'a>(tokens: &'a [Lexeme<'a>]) -> Stop<'a>
-    ensures { Fails result (shut {A = TermTree} starts_expr tokens.now) }
-{
-    match tokens {
-        [first, ..] if starts_expr(first) => Stop::TooDeep(tokens),
-        _ => Stop::Syntax(tokens),
-    }
-}
-
-/// Why no upper name is read where no operand may be opened any more.
-#[tactic(auto, unfolding(fst_type_syntax::specs::Reading::choose, fst_type_syntax::specs::Reading::shut))]
-pub(crate) fn shut_upper<'a>(tokens: &'a [Lexeme<'a>]) -> Stop<'a>
-    ensures { Fails result (shut {A = Lexeme} is_upper tokens.now) }
-{
-    match tokens {
-        [] => Stop::Syntax(tokens),
-        [first, ..] => match first.kind {
-            TokenKind::Upper => Stop::TooDeep(tokens),
-            _ => Stop::Syntax(tokens),
+    match wanted {
+        Wanted::Atom => starts_atom(token),
+        Wanted::Operand => starts_unary(token),
+        Wanted::Term => starts_expr(token),
+        Wanted::Label => match token.kind {
+            TokenKind::Upper => true,
+            _ => false,
         },
+        Wanted::Type => starts_type_atom(token),
     }
 }
 
-/// Why no type is read where no operand may be opened any more.
-#[tactic(auto, unfolding(fst_type_syntax::specs::Reading::choose, fst_type_syntax::specs::Reading::shut))]
-pub(crate) fn shut_type<'a>(tokens: &'a [Lexeme<'a>]) -> Stop<'a>
-    ensures { Fails result (shut {A = WrittenTree} starts_type_atom tokens.now) }
+/// Why nothing is read where nothing may be opened any more: it would be too deep, where it begins here.
+#[tactic(auto, unfolding(fst_base::specs::Choice::choose, fst_reading::specs::Reading::shut))]
+pub(crate) fn shut<'a>(wanted: Wanted, tokens: &'a [Lexeme<'a>]) -> Stop<'a>
+    ensures term { Fails result (shut {A = TermTree} (starts_wanted wanted) tokens.now) }
+    ensures label { Fails result (shut {A = Lexeme} (starts_wanted wanted) tokens.now) }
+    ensures written { Fails result (shut {A = WrittenTree} (starts_wanted wanted) tokens.now) }
 {
     match tokens {
-        [first, ..] if starts_type_atom(first) => Stop::TooDeep(tokens),
+        [first, ..] if starts_wanted(wanted, first) => Stop::TooDeep(tokens),
         _ => Stop::Syntax(tokens),
     }
 }

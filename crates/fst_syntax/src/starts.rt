@@ -2,7 +2,7 @@ ghost use Rattle.std.specs.Prelude.{◌≡◌};
 ghost use Rattle.fst_syntax.specs.TermReading.{atom_named, atom_start, plain_start, app_named, app_start, expr_named, expr_start, starts_atom, starts_app, starts_unary, starts_expr};
 
 use fst_lexer::TokenKind;
-use fst_type_syntax::{Lexeme, spells};
+use fst_reading::{Lexeme, spells};
 
 /// What an atom begins with.
 #[derive(Clone, Copy, Debug)]
@@ -37,7 +37,7 @@ pub(crate) enum ExprStart {
 }
 
 /// The atom that begins with this reserved word or sign.
-#[tactic(auto, unfolding(fst_type_syntax::specs::Reading::choose, crate::specs::TermReading::atom_named))]
+#[tactic(auto, unfolding(fst_base::specs::Choice::choose, crate::specs::TermReading::atom_named))]
 fn atom_named(text: &str) -> Option<AtomStart>
     ensures { result ≡ atom_named text.now }
 {
@@ -77,7 +77,7 @@ pub(crate) fn plain_start(token: &Lexeme<'_>) -> Option<AtomStart>
 }
 
 /// The application that begins with this reserved word.
-#[tactic(auto, unfolding(fst_type_syntax::specs::Reading::choose, crate::specs::TermReading::app_named))]
+#[tactic(auto, unfolding(fst_base::specs::Choice::choose, crate::specs::TermReading::app_named))]
 fn app_named(text: &str) -> Option<AppStart>
     ensures { result ≡ app_named text.now }
 {
@@ -108,7 +108,7 @@ pub(crate) fn app_start(token: &Lexeme<'_>) -> Option<AppStart>
 }
 
 /// The term that begins with this reserved word or sign.
-#[tactic(auto, unfolding(fst_type_syntax::specs::Reading::choose, crate::specs::TermReading::expr_named))]
+#[tactic(auto, unfolding(fst_base::specs::Choice::choose, crate::specs::TermReading::expr_named))]
 fn expr_named(text: &str) -> Option<ExprStart>
     ensures { result ≡ expr_named text.now }
 {

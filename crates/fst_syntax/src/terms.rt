@@ -1,22 +1,22 @@
-ghost use Rattle.std.specs.Prelude.{◌≡◌, ◌-◌, ◌<◌, codes, length, map};
-ghost use Rattle.fst_type_syntax.specs.Lexeme.{spells};
-ghost use Rattle.fst_type_syntax.specs.Reading.{separated};
-ghost use Rattle.fst_type_syntax.specs.Gives.{Gives};
+ghost use Rattle.std.specs.Prelude.{◌-◌, ◌<◌, codes, length, map};
+ghost use Rattle.fst_reading.specs.Lexeme.{spells};
+ghost use Rattle.fst_reading.specs.Reading.{separated};
+ghost use Rattle.fst_reading.specs.Gives.{Gives};
 ghost use Rattle.fst_syntax.specs.TermReading.{inside, expr_at, let_with, if_with, lambda_with, case_with, match_with, then_with};
 ghost use Rattle.fst_syntax.specs.Levels.{choice_with, arm_by, arm_parts};
 
 use crate::heads::{Arms, Binding, arm_head, choose, let_head, parameter, word_of};
 use crate::operands::chain;
 use crate::operators::Level;
-use crate::shut::shut_expr;
+use crate::shut::{Wanted, shut};
 use crate::starts::{ExprStart, expr_start};
+use fst_reading::{Lexeme, Stop, after, behind, comes, expect, start};
 use fst_terms::{SourceArm, SourceForm, SourceTerm};
-use fst_type_syntax::{Lexeme, Stop, after, behind, comes, expect, start};
 use std::alloc::Global;
 
 /// A term, at most `left` of them inside one another, and what stands behind it.
 #[cycle(reader)]
-#[tactic(auto, using(crate::proofs::Inside::expr_empty), unfolding(fst_type_syntax::specs::Reading::choose, fst_type_syntax::specs::Reading::when, fst_type_syntax::specs::Reading::switch, crate::specs::TermReading::expr_with, crate::specs::TermReading::inside))]
+#[tactic(auto, using(crate::proofs::Inside::expr_empty), unfolding(crate::specs::Steps::expr))]
 pub(crate) fn expr<'a>(
     alloc: Global,
     left: u32,
@@ -25,7 +25,7 @@ pub(crate) fn expr<'a>(
     ensures { Gives (λ x. (x.0, x.1.now)) result (expr_at left tokens.now) }
 {
     if left == 0 {
-        return Err(shut_expr(tokens));
+        return Err(shut(Wanted::Term, tokens));
     }
     match tokens {
         [] => Err(Stop::Syntax(tokens)),
@@ -42,7 +42,7 @@ pub(crate) fn expr<'a>(
 
 /// A term that begins with an operand, where at least one may be opened.
 #[cycle(reader)]
-#[tactic(auto, using(crate::proofs::Inside::inside_next), unfolding(fst_type_syntax::specs::Reading::bind, fst_type_syntax::specs::Reading::choose, fst_type_syntax::specs::Reading::andthen, fst_type_syntax::specs::Reading::mapped, fst_type_syntax::specs::Reading::on, fst_type_syntax::specs::Reading::give, crate::specs::TermReading::then_with))]
+#[tactic(auto, using(crate::proofs::Inside::inside_next), unfolding(crate::specs::Steps::then_))]
 fn then<'a>(
     alloc: Global,
     left: u32,
@@ -67,7 +67,7 @@ fn then<'a>(
 
 /// What stands behind `let`.
 #[cycle(reader)]
-#[tactic(auto, unfolding(fst_type_syntax::specs::Reading::bind, fst_type_syntax::specs::Reading::andthen, fst_type_syntax::specs::Reading::mapped, crate::specs::TermReading::in_with))]
+#[tactic(auto, unfolding(fst_reading::specs::Steps::all, crate::specs::TermReading::in_with))]
 fn let_in<'a>(
     alloc: Global,
     left: u32,
@@ -96,7 +96,7 @@ fn let_in<'a>(
 
 /// What stands behind `if`.
 #[cycle(reader)]
-#[tactic(auto, unfolding(fst_type_syntax::specs::Reading::bind, fst_type_syntax::specs::Reading::andthen, fst_type_syntax::specs::Reading::mapped, crate::specs::TermReading::if_with))]
+#[tactic(auto, unfolding(fst_reading::specs::Steps::all, crate::specs::TermReading::if_with))]
 fn if_else<'a>(
     alloc: Global,
     left: u32,
@@ -119,7 +119,7 @@ fn if_else<'a>(
 
 /// What stands behind `\`.
 #[cycle(reader)]
-#[tactic(auto, unfolding(fst_type_syntax::specs::Reading::bind, fst_type_syntax::specs::Reading::mapped))]
+#[tactic(auto, unfolding(fst_reading::specs::Reading::bind, fst_reading::specs::Reading::mapped))]
 fn lambda<'a>(
     alloc: Global,
     left: u32,
@@ -163,7 +163,7 @@ fn match_with<'a>(
 
 /// What stands behind `case` or `match`.
 #[cycle(reader)]
-#[tactic(auto, using(crate::proofs::Inside::arms_parts), unfolding(fst_type_syntax::specs::Reading::bind, fst_type_syntax::specs::Reading::andthen, fst_type_syntax::specs::Reading::mapped, crate::specs::TermReading::arms_with, crate::specs::Levels::choice_with))]
+#[tactic(auto, using(crate::proofs::Inside::arms_parts), unfolding(crate::specs::Steps::choices))]
 fn with_arms<'a>(
     alloc: Global,
     left: u32,
@@ -207,7 +207,7 @@ fn arms<'a>(
 
 /// One arm.
 #[cycle(reader)]
-#[tactic(auto, unfolding(fst_type_syntax::specs::Reading::bind, fst_type_syntax::specs::Reading::mapped))]
+#[tactic(auto, unfolding(fst_reading::specs::Reading::bind, fst_reading::specs::Reading::mapped))]
 fn arm<'a>(
     alloc: Global,
     left: u32,

@@ -1,8 +1,12 @@
 pub mod Arranged
 pub mod Naming
 pub mod TermTree
-pub mod PartCodes
-pub mod TermCode
-pub mod TermView
-pub mod TermFalls
+pub mod ModelParts
+pub mod ModelCode
+pub mod ModelView
+pub mod ModelFalls
 pub mod ModuleTree
+pub mod ModuleView
+pub mod Filled
+pub mod FilledFacts
+pub mod Count

@@ -1,55 +1,38 @@
 -- Where a reader ended, nothing stands with which it would have gone on.
-use Rattle.std.proofs.Common.{◌≡◌, ℕ, zero, suc, inl, inr, Bool, false, ◌||◌, List, [], ◌∷◌, Ok, refl, sym, ap, ◌∙◌}
+use Rattle.std.proofs.Common.{◌≡◌, ℕ, zero, suc, inl, inr, Bool, false, ◌||◌, List, [], refl, sym, ap, ◌∙◌}
 use Rattle.std.specs.Prelude.{codes}
 use Rattle.fst_types.specs.WrittenTree as written
 use Rattle.fst_types.specs.WrittenTree.{WrittenTree}
 use Rattle.fst_types.specs.declared.kind.Use.TheVariants.{Once}
-use Rattle.fst_type_syntax.specs.Lexeme.{Lexeme, spells}
-use Rattle.fst_type_syntax.specs.Grammar.{start}
-use Rattle.fst_type_syntax.specs.Derives.{lengthens, is_left}
-use Rattle.fst_type_syntax.specs.Reading.{Reader, andthen, mapped, finish, begins, behind, on, word, shut}
+use Rattle.fst_reading.specs.Lexeme.{Lexeme, spells, start}
+use Rattle.fst_reading.specs.Faults.{is_left}
+use Rattle.fst_type_syntax.specs.Derives.{lengthens, lengthens_seq}
+use Rattle.fst_reading.specs.Reading.{Reader, andthen, mapped, finish, behind, on, word, shut}
 use Rattle.fst_type_syntax.specs.TypeReading.{rec_with, chain_with, seq_with, arrow_with, type_with, starts_type, seq_at, type_at, types_at, question_at}
-use Rattle.fst_type_syntax.proofs.Steps.{bind_ok, chosen, mapped_is, give_is, ok_is}
-
--- what is left by the reader isn't this
-abbrev Ends : {A : Type 0} → Reader A → (List Lexeme → Bool) → Type 0
-Ends {A} f more = (ts : List Lexeme) (x : A) (rest : List Lexeme) → f ts ≡ Ok (x, rest) → more rest ≡ false
-
-module _ {A B : Type 0} (more : List Lexeme → Bool) where
-  ends_mapped : (h : A → B) (f : Reader A) → Ends f more → Ends (mapped h f) more
-  ends_mapped h f p ts y rest e = let a = mapped_is h f ts y rest e in p ts a.0 rest a.1
-
-  ends_then : (f : Reader A) (g : A → Reader B) → ((x : A) → Ends (g x) more) → Ends (andthen f g) more
-  unfolding andthen
-  ends_then f g p ts y rest e = let a = bind_ok _ _ (y, rest) e in p a.0.0 a.0.1 y rest a.2
-
-ends_on : {A : Type 0} (more : List Lexeme → Bool) (test : Lexeme → Bool) (f g : Reader A) → Ends f more → ((ts : List Lexeme) (x : A) (rest : List Lexeme) → begins test ts ≡ false → g ts ≡ Ok (x, rest) → more rest ≡ false) → Ends (on test f g) more
-unfolding on
-ends_on more test f g p q ts x rest e = elim (chosen _ _ _ _ e) [ inl h ↦ p (behind ts) x rest h.1 | inr h ↦ q ts x rest h.0 h.1 ]
+use Rattle.fst_reading.proofs.Steps.{bind_ok, give_is}
+use Rattle.fst_base.proofs.Choices.{chosen}
+use Rattle.fst_reading.proofs.Ends.{Ends, ends_mapped, ends_then, ends_on, ends_finish}
 
 ends_shut : (more : List Lexeme → Bool) → Ends (shut {A = WrittenTree} starts_type) more
 unfolding shut
 ends_shut more ts x rest e = elim (chosen _ _ _ _ e) [ inl h ↦ absurd (let is = h.1 in cc) | inr h ↦ absurd (let is = h.1 in cc) ]
 
-abbrev semi : List Lexeme → Bool
-semi ts = begins (spells (codes ";")) ts
-
-ends_seq_with : (seq type : Reader WrittenTree) → Ends seq semi → Ends (seq_with seq type) semi
+ends_seq_with : (seq type : Reader WrittenTree) → Ends seq lengthens_seq → Ends (seq_with seq type) lengthens_seq
 unfolding seq_with rec_with chain_with
 ends_seq_with seq type p ts =
-    ends_on semi (spells (codes "rec")) _ _ (ends_then semi _ _ (λ x. ends_then semi _ _ (λ d. ends_mapped semi _ seq p)))
-    (λ us x rest no e. ends_then semi _ _ (λ t. ends_on semi (spells (codes ";")) _ _ (ends_mapped semi _ seq p) (λ vs y end stop g. ap semi (sym (give_is t vs y end g).1) ∙ stop)) us x rest e) ts
+    ends_on lengthens_seq (spells (codes "rec")) _ _ (ends_then lengthens_seq _ _ (λ x. ends_then lengthens_seq _ _ (λ d. ends_mapped lengthens_seq _ seq p)))
+    (λ us x rest no e. ends_then lengthens_seq _ _ (λ t. ends_on lengthens_seq (spells (codes ";")) _ _ (ends_mapped lengthens_seq _ seq p) (λ vs y end stop g. ap lengthens_seq (sym (give_is t vs y end g).1) ∙ stop)) us x rest e) ts
 
 -- a `seqtype` ends where no `;` stands
-pub ends_seq : (n : ℕ) → Ends (seq_at n) semi
+pub ends_seq : (n : ℕ) → Ends (seq_at n) lengthens_seq
 unfolding seq_at
-ends_seq zero = ends_shut semi
+ends_seq zero = ends_shut lengthens_seq
 ends_seq (suc n) = ends_seq_with (seq_at n) (type_at n) (ends_seq n)
 
 none_of : (a b c : Bool) → a ≡ false → b ≡ false → c ≡ false → a || (b || c) ≡ false
 none_of a b c p q r = rw (p, q, r) refl
 
-ends_type_with : (seq type : Reader WrittenTree) → Ends seq semi → Ends type lengthens → Ends (type_with seq type) lengthens
+ends_type_with : (seq type : Reader WrittenTree) → Ends seq lengthens_seq → Ends type lengthens → Ends (type_with seq type) lengthens
 unfolding type_with arrow_with andthen on
 ends_type_with seq type p q ts y rest e =
     let a = bind_ok _ _ (y, rest) e in
@@ -66,11 +49,6 @@ pub ends_type : (n : ℕ) → Ends (type_at n) lengthens
 unfolding type_at
 ends_type zero = ends_shut lengthens
 ends_type (suc n) = ends_type_with (seq_at n) (type_at n) (ends_seq n) (ends_type n)
-
-ends_finish : Ends finish is_left
-unfolding finish
-ends_finish [] x rest e = let same = ok_is (tt, []) (x, rest) e in ap (λ (p : Unit {0} × List Lexeme). is_left p.1) (sym same)
-ends_finish (k ∷ ts) x rest e = absurd cc
 
 ends_types : (n : ℕ) (bs : List _) → Ends (types_at n bs) is_left
 unfolding types_at

@@ -1,13 +1,13 @@
 -- Each choice that is written has a branch.
 use Rattle.std.proofs.Common.{◌≡◌, ℕ, List, Ok, arith}
 use Rattle.fst_types.specs.WrittenTree.{WrittenTree, WrittenBranches, HasBranches, HaveBranches}
-use Rattle.fst_type_syntax.specs.Lexeme.{Lexeme}
+use Rattle.fst_reading.specs.Lexeme.{Lexeme}
 use Rattle.fst_type_syntax.specs.Grammar.{IsType, single, arrow, IsSeq, rec, atom, chain, IsAtom, skip, send, receive, select, offer, plain, lower, upper, group, pair, IsAlts, last, further, IsAlt, alt}
 use Rattle.fst_type_syntax.specs.TypeReading.{seq_at}
 use Rattle.fst_type_syntax.proofs.TypeReads.{reads_seq}
 
 mutual
-  type_filled : {ts : List Lexeme} {t : WrittenTree} → IsType ts t → HasBranches t
+  pub type_filled : {ts : List Lexeme} {t : WrittenTree} → IsType ts t → HasBranches t
   type_filled (single ts t s) = seq_filled s
   type_filled (arrow ts ks us all t u uses s a r parts) = (seq_filled s, type_filled r)
 
@@ -16,7 +16,7 @@ mutual
   seq_filled (atom ts t a) = atom_filled a
   seq_filled (chain ts us all k t u a is s parts) = (atom_filled a, seq_filled s)
 
-  atom_filled : {ts : List Lexeme} {t : WrittenTree} → IsAtom ts t → HasBranches t
+  pub atom_filled : {ts : List Lexeme} {t : WrittenTree} → IsAtom ts t → HasBranches t
   atom_filled (skip k is) = tt
   atom_filled (send k ts b is s) = tt
   atom_filled (receive k ts b is s) = tt

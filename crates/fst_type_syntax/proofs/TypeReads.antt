@@ -1,79 +1,42 @@
 -- The readers of types have the laws of readers.
-use Rattle.std.proofs.Common.{◌≡◌, ℕ, zero, suc, ◌+◌, ◌≤◌, ◌<◌, ◌⊎◌, inl, inr, Bool, true, false, ◌||◌, List, [], ◌∷◌, ◌++◌, length, Option, Some, refl, sym, ap, ◌∙◌, arith, length-append}
+use Rattle.std.proofs.Common.{◌≡◌, ℕ, zero, suc, ◌+◌, ◌≤◌, ◌<◌, ◌⊎◌, inl, inr, Bool, false, ◌||◌, List, [], ◌∷◌, ◌++◌, length, Some, refl, sym, ap, ◌∙◌, arith, length-append}
 use Rattle.std.specs.Prelude.{codes}
 use Rattle.std.specs.Str.{bytes_eq}
 use Rattle.fst_types.specs.declared.base.Base.{Base}
 use Rattle.fst_types.specs.declared.base.Base.TheVariants as base
 use Rattle.fst_types.specs.declared.kind.Use.TheVariants.{Once}
 use Rattle.fst_types.specs.WrittenTree as written
-use Rattle.fst_types.specs.WrittenTree.{WrittenTree, WrittenBranches, none, branch}
+use Rattle.fst_types.specs.WrittenTree.{WrittenTree, WrittenBranches}
 use Rattle.fst_type_syntax.specs.declared.starts.Start.{Start}
 use Rattle.fst_type_syntax.specs.declared.starts.Start.TheVariants as begin
-use Rattle.fst_type_syntax.specs.Lexeme.{Lexeme, spells, Is}
-use Rattle.fst_type_syntax.specs.Grammar.{start, int, IsType, single, arrow, IsSeq, rec, atom, chain, IsAtom, skip, send, receive, select, offer, plain, lower, upper, group, pair, IsAlts, last, further, IsAlt, alt}
-use Rattle.fst_type_syntax.specs.Nesting.{level, type_nests, seq_nests, atom_nests, alts_nests, alt_nests}
-use Rattle.fst_type_syntax.specs.Faults.{Phrase}
-use Rattle.fst_type_syntax.specs.Reading.{Reader, choose, give, andthen, mapped, switch, only, word, located, begins, on, separated, shut}
-use Rattle.fst_type_syntax.specs.Reading as reading
-use Rattle.fst_type_syntax.specs.TypeReading.{base_named, base_word, start_named, start_of, lower_of, upper_of, is_one, base_at, alt_with, choice_with, pair_with, paren_with, begun_with, atom_with, rec_with, chain_with, seq_with, arrow_with, type_with, starts_type, seq_at, type_at}
-use Rattle.fst_type_syntax.proofs.Phrases as phrase
-use Rattle.fst_type_syntax.proofs.Phrases.{Reads, never, Give, nothing, Then, Mapped, made, Switch, first, On, taken, other, Located, at, Separated}
-use Rattle.fst_type_syntax.proofs.Steps.{Some_}
-use Rattle.fst_type_syntax.proofs.Parts.{One, Sample, reads_give, reads_one, reads_mapped, reads_switch, reads_on, reads_located, reads_as, reads_until}
-use Rattle.fst_type_syntax.proofs.Sequences.{reads_then, reads_separated}
-use Rattle.fst_type_syntax.proofs.Shut.{reads_shut}
-use Rattle.fst_type_syntax.proofs.Tokens.{fixed, fixed_is, a_lower, an_upper, no_other, is_only, only_is, one_is, word_not_one, one_spells, is_base_word, no_base, means_start, no_start, no_type, starts_with}
-use Rattle.fst_type_syntax.proofs.TypePhrases.{Word, BaseP, SeqP, TypeP, AtomP, AltP, BaseR, base_to, base_from, AltR, alt_to, alt_from, AltsR, ChoiceR, PairR, ClosedR, ParenR, BegunR, AtomR, atom_to, atom_from, RecR, ChainR, SeqR, seq_to, seq_from, IsBegun, StartsType, BeginsWith, atom_begins, filled_by, seq_begins, ArrowR, TypeR, type_to, type_from, type_begins}
-
--- what may stand behind a `seqtype` to make it longer, and behind a type
-abbrev pub semi : List Lexeme → Bool
-semi ts = begins (spells (codes ";")) ts
-
-abbrev pub goes : List Lexeme → Bool
-goes ts = semi ts || (begins (spells (codes "->")) ts || begins is_one ts)
-
-pub or_false : (a b : Bool) → a || b ≡ false → (a ≡ false) × (b ≡ false)
-or_false false b e = (refl, e)
-or_false true b e = absurd cc
+use Rattle.fst_reading.specs.Lexeme.{Lexeme, spells, Is, start, lower_of, upper_of, is_one}
+use Rattle.fst_type_syntax.specs.Grammar.{int, IsType, single, arrow, IsSeq, rec, atom, chain, IsAtom, skip, send, receive, select, offer, plain, lower, upper, group, pair, IsAlts, last, further, IsAlt, alt}
+use Rattle.fst_type_syntax.specs.Nesting.{type_nests, seq_nests, atom_nests, alts_nests, alt_nests}
+use Rattle.fst_reading.specs.Faults.{level}
+use Rattle.fst_reading.specs.Reading.{Reader, mapped, only, word, begins, on, separated, shut}
+use Rattle.fst_reading.specs.Reading as reading
+use Rattle.fst_type_syntax.specs.TypeReading.{base_named, base_word, start_named, start_of, base_at, alt_with, choice_with, pair_with, paren_with, begun_with, atom_with, rec_with, chain_with, seq_with, arrow_with, type_with, starts_type, seq_at, type_at}
+use Rattle.fst_reading.proofs.Phrases as phrase
+use Rattle.fst_reading.proofs.Phrases.{Reads, never, Give, nothing, Then, Mapped, made, first, On, taken, other, at}
+use Rattle.fst_reading.proofs.Steps.{SomePhrase}
+use Rattle.fst_reading.proofs.Parts.{One, Sample, reads_give, reads_one, reads_mapped, reads_switch, reads_on, reads_as, reads_until}
+use Rattle.fst_reading.proofs.Sequences.{reads_then, reads_separated}
+use Rattle.fst_reading.proofs.Shut.{reads_shut}
+use Rattle.fst_reading.proofs.Tokens.{fixed, fixed_is, a_lower, an_upper, no_other, only_is, one_is, word_not_one, one_spells}
+use Rattle.fst_type_syntax.proofs.TypePhrases.{BaseP, AltP, BaseR, base_to, base_from, AltR, alt_to, alt_from, AltsR, ChoiceR, PairR, ClosedR, ParenR, BegunR, AtomR, atom_to, atom_from, RecR, ChainR, SeqR, seq_to, seq_from, IsBegun, StartsType, atom_begins, seq_begins, ArrowR, TypeR, type_to, type_from, type_begins}
+use Rattle.fst_base.specs.Choice.{choose}
+use Rattle.fst_type_syntax.proofs.TypeTokens.{is_base_word, no_base, means_start, no_start, no_type, starts_with}
+use Rattle.fst_reading.proofs.Words.{Word, BeginsWith, filled_by, sample_word, sample_mapped, sample_then, one_filled, reads_first, words, lowers, uppers, reads_word, level_count}
+use Rattle.std.proofs.lemmas.Bool.{or_parts}
+use Rattle.fst_type_syntax.specs.Derives.{SeqPhrase, TypePhrase, AtomPhrase, lengthens_seq, lengthens}
+use Rattle.fst_reading.proofs.Located.{reads_located}
 
 -- samples
-pub sample_seq : (d n : ℕ) → Some_ (SeqP d)
+pub sample_seq : (d n : ℕ) → SomePhrase (SeqPhrase d)
 sample_seq d n = record { tokens = fixed (codes "Skip") n ∷ []; value = written.skip n; nests = d ∷ []; phrase = (atom _ _ (skip (fixed (codes "Skip") n) (fixed_is (codes "Skip") n)), refl) }
 
-pub sample_type : (d n : ℕ) → Some_ (TypeP d)
+pub sample_type : (d n : ℕ) → SomePhrase (TypePhrase d)
 sample_type d n = let s = sample_seq (suc d) n in record { tokens = s.tokens; value = s.value; nests = s.nests; phrase = (single _ _ s.phrase.0, s.phrase.1) }
-
-pub sample_word : (d : ℕ) (w : List ℕ) → Some_ (Word d w)
-sample_word d w = record { tokens = fixed w 0 ∷ []; value = tt; nests = d ∷ []; phrase = first (fixed w 0) tt [] tt [] (is_only (spells w) (fixed w 0) (fixed_is w 0)) nothing }
-
-pub sample_mapped : {A B : Type 0} (h : A → B) (P : Phrase A) → Some_ P → Some_ (Mapped h P)
-sample_mapped h P s = record { tokens = s.tokens; value = h s.value; nests = s.nests; phrase = made s.tokens s.value s.nests s.phrase }
-
-pub sample_then : {A B : Type 0} (P : Phrase A) (Q : A → Phrase B) → Some_ P → ((x : A) → Some_ (Q x)) → Some_ (Then P Q)
-sample_then P Q s q =
-    let t = q s.value in
-    record { tokens = s.tokens ++ t.tokens; value = t.value; nests = s.nests ++ t.nests; phrase = phrase.pair _ s.tokens t.tokens s.value t.value _ s.nests t.nests s.phrase t.phrase refl refl }
-
-pub one_filled : {A : Type 0} (d : ℕ) (p : Lexeme → Option A) (us : List Lexeme) (x : A) (ns : List ℕ) → One d p us x ns → 0 < length us
-one_filled d p _ _ _ (first k s ts x ns e q) = omega arith
-
--- one token, and then a phrase
-module _ {A B : Type 0} (limit d : ℕ) (low : d ≤ limit) (p : Lexeme → Option A) (samples : (n : ℕ) → (k : Lexeme) × (x : A) × (k.at ≡ n) × (p k ≡ Some x))
-    (g : A → Reader B) (Q : A → Phrase B) (more : List Lexeme → Bool) (s : (x : A) → Reads limit (g x) (Q x) more) (some : (x : A) → Some_ (Q x)) where
-  pub reads_first : Reads limit (andthen (reading.one p) g) (Then (One d p) Q) more
-  reads_first = reads_then limit (reading.one p) g (One d p) Q never more (reads_one limit d low p samples) s some (one_filled d p) (λ us x ns vs y ms rest q stop. refl)
-
-pub words : (w : List ℕ) (n : ℕ) → (k : Lexeme) × (x : Unit {0}) × (k.at ≡ n) × (only (spells w) k ≡ Some x)
-words w n = (fixed w n, tt, refl, is_only (spells w) (fixed w n) (fixed_is w n))
-
-pub lowers : (n : ℕ) → (k : Lexeme) × (x : Lexeme) × (k.at ≡ n) × (lower_of k ≡ Some x)
-lowers n = (a_lower n, a_lower n, refl, refl)
-
-pub uppers : (n : ℕ) → (k : Lexeme) × (x : Lexeme) × (k.at ≡ n) × (upper_of k ≡ Some x)
-uppers n = (an_upper n, an_upper n, refl, refl)
-
-pub reads_word : (limit d : ℕ) → d ≤ limit → (w : List ℕ) → Reads limit (word w) (Word d w) never
-reads_word limit d low w = reads_one limit d low (only (spells w)) (words w)
 
 base_words : (n : ℕ) → (k : Lexeme) × (x : Base) × (k.at ≡ n) × (base_word k ≡ Some x)
 base_words n = (fixed (codes "Int") n, base.Int, refl, is_base_word base.Int (fixed (codes "Int") n) (fixed_is (codes "Int") n))
@@ -90,18 +53,18 @@ reads_base limit d low =
     (reads_one limit d low base_word base_words) (no_paren d)) (base_to d) (base_from d)
 
 -- the readers of the types inside, and what is known of them
-module _ (limit d : ℕ) (low : d ≤ limit) (seq type : Reader WrittenTree) (rs : Reads limit seq (SeqP (suc d)) semi) (rt : Reads limit type (TypeP d) goes) where
-  reads_alt : Reads limit (alt_with seq type) (AltP d) semi
+module _ (limit d : ℕ) (low : d ≤ limit) (seq type : Reader WrittenTree) (rs : Reads limit seq (SeqPhrase (suc d)) lengthens_seq) (rt : Reads limit type (TypePhrase d) lengthens) where
+  reads_alt : Reads limit (alt_with seq type) (AltP d) lengthens_seq
   unfolding alt_with
   reads_alt =
-      reads_as limit _ (AltR d) (AltP d) semi
-      (reads_first limit d low upper_of uppers _ _ semi
-      (λ l. reads_first limit d low (only (spells (codes ":"))) (words (codes ":")) _ _ semi (λ c. reads_mapped limit _ seq (SeqP (suc d)) semi rs) (λ c. sample_mapped _ (SeqP (suc d)) (sample_seq (suc d) 0)))
-      (λ l. sample_then (Word d (codes ":")) _ (sample_word d (codes ":")) (λ c. sample_mapped _ (SeqP (suc d)) (sample_seq (suc d) 0))))
+      reads_as limit _ (AltR d) (AltP d) lengthens_seq
+      (reads_first limit d low upper_of uppers _ _ lengthens_seq
+      (λ l. reads_first limit d low (only (spells (codes ":"))) (words (codes ":")) _ _ lengthens_seq (λ c. reads_mapped limit _ seq (SeqPhrase (suc d)) lengthens_seq rs) (λ c. sample_mapped _ (SeqPhrase (suc d)) (sample_seq (suc d) 0)))
+      (λ l. sample_then (Word d (codes ":")) _ (sample_word d (codes ":")) (λ c. sample_mapped _ (SeqPhrase (suc d)) (sample_seq (suc d) 0))))
       (alt_to d) (alt_from d)
 
   -- a branch made up
-  sample_alt : (n : ℕ) → (s : Some_ (AltP d)) × (0 < length s.tokens) × (start s.tokens ≡ n)
+  sample_alt : (n : ℕ) → (s : SomePhrase (AltP d)) × (0 < length s.tokens) × (start s.tokens ≡ n)
   sample_alt n =
       let s = sample_seq (suc d) 0 in (
         record {
@@ -122,12 +85,12 @@ module _ (limit d : ℕ) (low : d ≤ limit) (seq type : Reader WrittenTree) (rs
 
   -- what may stand behind branches to make them more
   abbrev comma : List Lexeme → Bool
-  comma ts = semi ts || begins (spells (codes ",")) ts
+  comma ts = lengthens_seq ts || begins (spells (codes ",")) ts
 
   reads_alts : Reads limit (separated (spells (codes ",")) (alt_with seq type)) (AltsR d) comma
   reads_alts =
-      reads_separated limit d low (spells (codes ",")) (alt_with seq type) (AltP d) semi comma reads_alt sample_alt alt_filled
-      (λ k ts is. no_other (codes ",") (codes ";") k refl is) (λ rest stop. or_false _ _ stop)
+      reads_separated limit d low (spells (codes ",")) (alt_with seq type) (AltP d) lengthens_seq comma reads_alt sample_alt alt_filled
+      (λ k ts is. no_other (codes ",") (codes ";") k refl is) (λ rest stop. or_parts _ _ stop)
 
   no_more_alts : (us : List Lexeme) (y : WrittenTree) (ns : List ℕ) (rest : List Lexeme) (h : Unit {0} → WrittenTree) → Mapped h (Word d (codes "}")) us y ns → comma (us ++ rest) ≡ false
   no_more_alts _ _ _ rest h (made _ _ _ (first c x _ _ _ e nothing)) =
@@ -147,20 +110,20 @@ module _ (limit d : ℕ) (low : d ≤ limit) (seq type : Reader WrittenTree) (rs
       (λ o. sample_then (AltsR d) _ (let a = sample_alt 0 in record { tokens = a.0.tokens; value = a.0.value ∷ []; nests = a.0.nests; phrase = phrase.last a.0.tokens a.0.value a.0.nests a.0.phrase })
       (λ bs. sample_mapped _ (Word d (codes "}")) (sample_word d (codes "}"))))
 
-  type_filled : (us : List Lexeme) (x : WrittenTree) (ns : List ℕ) → TypeP d us x ns → 0 < length us
+  type_filled : (us : List Lexeme) (x : WrittenTree) (ns : List ℕ) → TypePhrase d us x ns → 0 < length us
   type_filled us x ns p = filled_by StartsType (suc d) us ns (type_begins d us x ns p)
 
-  -- no type goes on with a parenthesis or a comma
-  goes_not : (w : List ℕ) (k : Lexeme) (ts : List Lexeme) → bytes_eq w (codes ";") ≡ false → bytes_eq w (codes "->") ≡ false → Is w k → goes (k ∷ ts) ≡ false
+  -- no type lengthens on with a parenthesis or a comma
+  goes_not : (w : List ℕ) (k : Lexeme) (ts : List Lexeme) → bytes_eq w (codes ";") ≡ false → bytes_eq w (codes "->") ≡ false → Is w k → lengthens (k ∷ ts) ≡ false
   goes_not w k ts a b is = rw (no_other w (codes ";") k a is, no_other w (codes "->") k b is, word_not_one w k is) refl
 
-  goes_not_closed : (h : Unit {0} → WrittenTree) (us : List Lexeme) (y : WrittenTree) (ns : List ℕ) (rest : List Lexeme) → Mapped h (Word d (codes ")")) us y ns → goes (us ++ rest) ≡ false
+  goes_not_closed : (h : Unit {0} → WrittenTree) (us : List Lexeme) (y : WrittenTree) (ns : List ℕ) (rest : List Lexeme) → Mapped h (Word d (codes ")")) us y ns → lengthens (us ++ rest) ≡ false
   goes_not_closed h _ _ _ rest (made _ _ _ (first c x _ _ _ e nothing)) = goes_not (codes ")") c rest refl refl (only_is (spells (codes ")")) c x e)
 
   reads_pair : (k : Lexeme) (t : WrittenTree) → Reads limit (pair_with seq type k.at t) (PairR d k t) never
   unfolding pair_with
   reads_pair k t =
-      reads_then limit _ _ (TypeP d) _ goes never rt (λ u. reads_mapped limit _ (word (codes ")")) (Word d (codes ")")) never (reads_word limit d low (codes ")")))
+      reads_then limit _ _ (TypePhrase d) _ lengthens never rt (λ u. reads_mapped limit _ (word (codes ")")) (Word d (codes ")")) never (reads_word limit d low (codes ")")))
       (λ u. sample_mapped _ (Word d (codes ")")) (sample_word d (codes ")"))) type_filled (λ us x ns vs y ms rest q stop. goes_not_closed _ vs y ms rest q)
 
   closed_free : (h : Unit {0} → WrittenTree) (us : List Lexeme) (y : WrittenTree) (ns : List ℕ) (rest : List Lexeme) → Mapped h (Word d (codes ")")) us y ns → never rest ≡ false → begins (spells (codes ",")) (us ++ rest) ≡ false
@@ -170,11 +133,11 @@ module _ (limit d : ℕ) (low : d ≤ limit) (seq type : Reader WrittenTree) (rs
   reads_closed k t =
       reads_on limit d low (spells (codes ",")) _ _ _ _ never (reads_pair k t) (reads_mapped limit _ (word (codes ")")) (Word d (codes ")")) never (reads_word limit d low (codes ")"))) (closed_free _)
 
-  closed_goes : (k : Lexeme) (t : WrittenTree) (us : List Lexeme) (y : WrittenTree) (ns : List ℕ) (rest : List Lexeme) → ClosedR d k t us y ns → goes (us ++ rest) ≡ false
+  closed_goes : (k : Lexeme) (t : WrittenTree) (us : List Lexeme) (y : WrittenTree) (ns : List ℕ) (rest : List Lexeme) → ClosedR d k t us y ns → lengthens (us ++ rest) ≡ false
   closed_goes k t _ _ _ rest (taken c ts _ _ is p) = goes_not (codes ",") c (ts ++ rest) refl refl is
   closed_goes k t _ _ _ rest (other us y ns p) = goes_not_closed _ us y ns rest p
 
-  type_no_close : (k : Lexeme) (us : List Lexeme) (y : WrittenTree) (ns : List ℕ) (rest : List Lexeme) → Then (TypeP d) (ClosedR d k) us y ns → never rest ≡ false → begins (spells (codes ")")) (us ++ rest) ≡ false
+  type_no_close : (k : Lexeme) (us : List Lexeme) (y : WrittenTree) (ns : List ℕ) (rest : List Lexeme) → Then (TypePhrase d) (ClosedR d k) us y ns → never rest ≡ false → begins (spells (codes ")")) (us ++ rest) ≡ false
   unfolding start_named base_named choose
   type_no_close k _ _ _ rest (phrase.pair ts us vs t y ns ms ks p q parts nests) stop =
       let b = type_begins d us t ms p in
@@ -185,7 +148,7 @@ module _ (limit d : ℕ) (low : d ≤ limit) (seq type : Reader WrittenTree) (rs
   unfolding paren_with
   reads_paren k =
       reads_on limit d low (spells (codes ")")) _ _ _ _ never (reads_give limit (written.plain k.at base.Unit))
-      (reads_then limit _ _ (TypeP d) (ClosedR d k) goes never rt (reads_closed k)
+      (reads_then limit _ _ (TypePhrase d) (ClosedR d k) lengthens never rt (reads_closed k)
       (λ t.
       let s = sample_mapped (λ (c : Unit {0}). t) (Word d (codes ")")) (sample_word d (codes ")")) in
       record { tokens = s.tokens; value = s.value; nests = s.nests; phrase = other _ _ _ s.phrase })
@@ -211,28 +174,28 @@ module _ (limit d : ℕ) (low : d ≤ limit) (seq type : Reader WrittenTree) (rs
     rest = record { tokens = []; value = written.skip n; nests = []; phrase = nothing };
   }
 
-  pub reads_atom : Reads limit (atom_with seq type) (AtomP d) never
+  pub reads_atom : Reads limit (atom_with seq type) (AtomPhrase d) never
   unfolding atom_with
-  reads_atom = reads_as limit _ (AtomR d) (AtomP d) never (reads_switch limit d low start_of (begun_with seq type) (BegunR d) never reads_begun sample_begun) (atom_to d) (atom_from d)
+  reads_atom = reads_as limit _ (AtomR d) (AtomPhrase d) never (reads_switch limit d low start_of (begun_with seq type) (BegunR d) never reads_begun sample_begun) (atom_to d) (atom_from d)
 
-  reads_rec : (n : ℕ) → Reads limit (rec_with seq type n) (RecR d n) semi
+  reads_rec : (n : ℕ) → Reads limit (rec_with seq type n) (RecR d n) lengthens_seq
   unfolding rec_with
   reads_rec n =
-      reads_first limit d low lower_of lowers _ _ semi
-      (λ x. reads_first limit d low (only (spells (codes "."))) (words (codes ".")) _ _ semi (λ c. reads_mapped limit _ seq (SeqP (suc d)) semi rs) (λ c. sample_mapped _ (SeqP (suc d)) (sample_seq (suc d) 0)))
-      (λ x. sample_then (Word d (codes ".")) _ (sample_word d (codes ".")) (λ c. sample_mapped _ (SeqP (suc d)) (sample_seq (suc d) 0)))
+      reads_first limit d low lower_of lowers _ _ lengthens_seq
+      (λ x. reads_first limit d low (only (spells (codes "."))) (words (codes ".")) _ _ lengthens_seq (λ c. reads_mapped limit _ seq (SeqPhrase (suc d)) lengthens_seq rs) (λ c. sample_mapped _ (SeqPhrase (suc d)) (sample_seq (suc d) 0)))
+      (λ x. sample_then (Word d (codes ".")) _ (sample_word d (codes ".")) (λ c. sample_mapped _ (SeqPhrase (suc d)) (sample_seq (suc d) 0)))
 
   nothing_free : {A : Type 0} (test : Lexeme → Bool) (t : A) (us : List Lexeme) (y : A) (ns : List ℕ) (rest : List Lexeme) → Give t us y ns → begins test rest ≡ false → begins test (us ++ rest) ≡ false
   nothing_free test t _ _ _ rest nothing stop = stop
 
-  atom_filled : (us : List Lexeme) (x : WrittenTree) (ns : List ℕ) → AtomP d us x ns → 0 < length us
+  atom_filled : (us : List Lexeme) (x : WrittenTree) (ns : List ℕ) → AtomPhrase d us x ns → 0 < length us
   atom_filled us x ns p = filled_by IsBegun d us ns (atom_begins d us x ns p)
 
-  reads_chain : (n : ℕ) → Reads limit (chain_with seq type n) (ChainR d n) semi
+  reads_chain : (n : ℕ) → Reads limit (chain_with seq type n) (ChainR d n) lengthens_seq
   unfolding chain_with
   reads_chain n =
-      reads_then limit _ _ (AtomP d) _ never semi reads_atom
-      (λ t. reads_on limit d low (spells (codes ";")) _ _ _ _ semi (reads_mapped limit _ seq (SeqP (suc d)) semi rs) (reads_until limit _ _ never semi (reads_give limit t) (λ ts stop. refl))
+      reads_then limit _ _ (AtomPhrase d) _ never lengthens_seq reads_atom
+      (λ t. reads_on limit d low (spells (codes ";")) _ _ _ _ lengthens_seq (reads_mapped limit _ seq (SeqPhrase (suc d)) lengthens_seq rs) (reads_until limit _ _ never lengthens_seq (reads_give limit t) (λ ts stop. refl))
       (λ us y ns rest q stop. nothing_free (spells (codes ";")) t us y ns rest q stop))
       (λ t. record { tokens = []; value = t; nests = []; phrase = other _ _ _ nothing }) atom_filled (λ us x ns vs y ms rest q stop. refl)
 
@@ -241,7 +204,7 @@ module _ (limit d : ℕ) (low : d ≤ limit) (seq type : Reader WrittenTree) (rs
       let b = atom_begins d us t ms p in
       (b.0, b.1 ++ vs, b.2 ++ ks, parts ∙ ap (λ (w : List Lexeme). w ++ vs) b.3, nests ∙ ap (λ (w : List ℕ). w ++ ks) b.4, b.5)
 
-  no_rec : (n : ℕ) (us : List Lexeme) (y : WrittenTree) (ns : List ℕ) (rest : List Lexeme) → ChainR d n us y ns → semi rest ≡ false → begins (spells (codes "rec")) (us ++ rest) ≡ false
+  no_rec : (n : ℕ) (us : List Lexeme) (y : WrittenTree) (ns : List ℕ) (rest : List Lexeme) → ChainR d n us y ns → lengthens_seq rest ≡ false → begins (spells (codes "rec")) (us ++ rest) ≡ false
   unfolding start_named base_named choose
   no_rec n us y ns rest p stop =
       let b = chain_begins n us y ns p in
@@ -251,56 +214,52 @@ module _ (limit d : ℕ) (low : d ≤ limit) (seq type : Reader WrittenTree) (rs
   seq_inside_filled n _ _ _ (taken k ts x ns is p) = omega arith
   seq_inside_filled n _ _ _ (other us y ns p) = filled_by IsBegun d us ns (chain_begins n us y ns p)
 
-  pub reads_seq_with : Reads limit (seq_with seq type) (SeqP d) semi
+  pub reads_seq_with : Reads limit (seq_with seq type) (SeqPhrase d) lengthens_seq
   unfolding seq_with
   reads_seq_with =
-      reads_as limit _ (SeqR d) (SeqP d) semi
-      (reads_located limit _ _ semi (λ n. reads_on limit d low (spells (codes "rec")) _ _ _ _ semi (reads_rec n) (reads_chain n) (no_rec n)) seq_inside_filled)
+      reads_as limit _ (SeqR d) (SeqPhrase d) lengthens_seq
+      (reads_located limit _ _ lengthens_seq (λ n. reads_on limit d low (spells (codes "rec")) _ _ _ _ lengthens_seq (reads_rec n) (reads_chain n) (no_rec n)) seq_inside_filled)
       (seq_to d) (seq_from d)
 
 -- one level further out: a type is read
-module _ (limit d : ℕ) (low : suc d ≤ limit) (seq type : Reader WrittenTree) (rs : Reads limit seq (SeqP (suc (suc d))) semi) (rt : Reads limit type (TypeP (suc d)) goes) where
+module _ (limit d : ℕ) (low : suc d ≤ limit) (seq type : Reader WrittenTree) (rs : Reads limit seq (SeqPhrase (suc (suc d))) lengthens_seq) (rt : Reads limit type (TypePhrase (suc d)) lengthens) where
   arrow_free : (n : ℕ) (t : WrittenTree) (us : List Lexeme) (y : WrittenTree) (ns : List ℕ) (rest : List Lexeme) →
-      On (suc d) is_one (Then (Word (suc d) (codes "->")) (λ (c : Unit {0}). Mapped (written.arrow n Once t) (TypeP (suc d)))) (Give t) us y ns → goes rest ≡ false → begins (spells (codes "->")) (us ++ rest) ≡ false
+      On (suc d) is_one (Then (Word (suc d) (codes "->")) (λ (c : Unit {0}). Mapped (written.arrow n Once t) (TypePhrase (suc d)))) (Give t) us y ns → lengthens rest ≡ false → begins (spells (codes "->")) (us ++ rest) ≡ false
   arrow_free n t _ _ _ rest (taken k ts x ns is p) stop = one_spells (codes "->") k (one_is k is)
-  arrow_free n t _ _ _ rest (other _ _ _ nothing) stop = (or_false _ _ (or_false _ _ stop).1).0
+  arrow_free n t _ _ _ rest (other _ _ _ nothing) stop = (or_parts _ _ (or_parts _ _ stop).1).0
 
-  one_free : (t : WrittenTree) (us : List Lexeme) (y : WrittenTree) (ns : List ℕ) (rest : List Lexeme) → Give t us y ns → goes rest ≡ false → begins is_one (us ++ rest) ≡ false
-  one_free t _ _ _ rest nothing stop = (or_false _ _ (or_false _ _ stop).1).1
+  one_free : (t : WrittenTree) (us : List Lexeme) (y : WrittenTree) (ns : List ℕ) (rest : List Lexeme) → Give t us y ns → lengthens rest ≡ false → begins is_one (us ++ rest) ≡ false
+  one_free t _ _ _ rest nothing stop = (or_parts _ _ (or_parts _ _ stop).1).1
 
-  reads_arrow : (n : ℕ) (t : WrittenTree) → Reads limit (arrow_with seq type n t) (ArrowR d n t) goes
+  reads_arrow : (n : ℕ) (t : WrittenTree) → Reads limit (arrow_with seq type n t) (ArrowR d n t) lengthens
   unfolding arrow_with
   reads_arrow n t =
-      reads_on limit (suc d) low (spells (codes "->")) _ _ _ _ goes (reads_mapped limit _ type (TypeP (suc d)) goes rt)
-      (reads_on limit (suc d) low is_one _ _ _ _ goes
-      (reads_first limit (suc d) low (only (spells (codes "->"))) (words (codes "->")) _ _ goes (λ c. reads_mapped limit _ type (TypeP (suc d)) goes rt) (λ c. sample_mapped _ (TypeP (suc d)) (sample_type (suc d) 0)))
-      (reads_until limit _ _ never goes (reads_give limit t) (λ ts stop. refl)) (one_free t))
+      reads_on limit (suc d) low (spells (codes "->")) _ _ _ _ lengthens (reads_mapped limit _ type (TypePhrase (suc d)) lengthens rt)
+      (reads_on limit (suc d) low is_one _ _ _ _ lengthens
+      (reads_first limit (suc d) low (only (spells (codes "->"))) (words (codes "->")) _ _ lengthens (λ c. reads_mapped limit _ type (TypePhrase (suc d)) lengthens rt) (λ c. sample_mapped _ (TypePhrase (suc d)) (sample_type (suc d) 0)))
+      (reads_until limit _ _ never lengthens (reads_give limit t) (λ ts stop. refl)) (one_free t))
       (arrow_free n t)
 
-  arrow_semi : (n : ℕ) (t : WrittenTree) (us : List Lexeme) (y : WrittenTree) (ns : List ℕ) (rest : List Lexeme) → ArrowR d n t us y ns → goes rest ≡ false → semi (us ++ rest) ≡ false
+  arrow_semi : (n : ℕ) (t : WrittenTree) (us : List Lexeme) (y : WrittenTree) (ns : List ℕ) (rest : List Lexeme) → ArrowR d n t us y ns → lengthens rest ≡ false → lengthens_seq (us ++ rest) ≡ false
   arrow_semi n t _ _ _ rest (taken k ts x ns is p) stop = no_other (codes "->") (codes ";") k refl is
   arrow_semi n t _ _ _ rest (other _ _ _ (taken k ts x ns is p)) stop = one_spells (codes ";") k (one_is k is)
-  arrow_semi n t _ _ _ rest (other _ _ _ (other _ _ _ nothing)) stop = (or_false _ _ stop).0
+  arrow_semi n t _ _ _ rest (other _ _ _ (other _ _ _ nothing)) stop = (or_parts _ _ stop).0
 
-  seq_filled : (us : List Lexeme) (y : WrittenTree) (ns : List ℕ) → SeqP (suc d) us y ns → 0 < length us
+  seq_filled : (us : List Lexeme) (y : WrittenTree) (ns : List ℕ) → SeqPhrase (suc d) us y ns → 0 < length us
   seq_filled us y ns p = filled_by StartsType (suc d) us ns (seq_begins (suc d) us y ns p)
 
-  type_inside_filled : (n : ℕ) (us : List Lexeme) (y : WrittenTree) (ns : List ℕ) → Then (SeqP (suc d)) (ArrowR d n) us y ns → 0 < length us
+  type_inside_filled : (n : ℕ) (us : List Lexeme) (y : WrittenTree) (ns : List ℕ) → Then (SeqPhrase (suc d)) (ArrowR d n) us y ns → 0 < length us
   type_inside_filled n _ _ _ (phrase.pair ts us vs t y ns ms ks p q parts nests) = omega (arith, seq_filled us t ms p, ap length parts, length-append us vs)
 
-  pub reads_type_with : Reads limit (type_with seq type) (TypeP d) goes
+  pub reads_type_with : Reads limit (type_with seq type) (TypePhrase d) lengthens
   unfolding type_with
   reads_type_with =
-      reads_as limit _ (TypeR d) (TypeP d) goes
-      (reads_located limit _ _ goes
-      (λ n. reads_then limit _ _ (SeqP (suc d)) (ArrowR d n) semi goes (reads_seq_with limit (suc d) low seq type rs rt) (λ t. reads_arrow n t)
+      reads_as limit _ (TypeR d) (TypePhrase d) lengthens
+      (reads_located limit _ _ lengthens
+      (λ n. reads_then limit _ _ (SeqPhrase (suc d)) (ArrowR d n) lengthens_seq lengthens (reads_seq_with limit (suc d) low seq type rs rt) (λ t. reads_arrow n t)
       (λ t. record { tokens = []; value = t; nests = []; phrase = other _ _ _ (other _ _ _ nothing) }) seq_filled (λ us x ns vs y ms rest q stop. arrow_semi n x vs y ms rest q stop))
       type_inside_filled)
       (type_to d) (type_from d)
-
-pub level_count : (n : ℕ) (ts : List Lexeme) → length (level n ts) ≡ length ts
-level_count n [] = refl
-level_count n (k ∷ ts) = ap suc (level_count n ts)
 
 mutual
   -- one number for each token
@@ -359,14 +318,14 @@ record Opening (d : ℕ) (k : Lexeme) : Type 0 where
   others : List Lexeme
   value : WrittenTree
   nests : List ℕ
-  phrase : SeqP d (k ∷ others) value (d ∷ nests)
+  phrase : SeqPhrase d (k ∷ others) value (d ∷ nests)
 
-by_atom : (d : ℕ) (k : Lexeme) (s : Start) → start_of k ≡ Some s → Some_ (BegunR d s k) → Opening d k
+by_atom : (d : ℕ) (k : Lexeme) (s : Start) → start_of k ≡ Some s → SomePhrase (BegunR d s k) → Opening d k
 by_atom d k s e q =
     let a = atom_to d _ _ _ (first k s q.tokens q.value q.nests e q.phrase) in
     record { others = q.tokens; value = q.value; nests = q.nests; phrase = (atom _ _ a.0, a.1) }
 
-sample_choice : (d : ℕ) (make : WrittenBranches → WrittenTree) → Some_ (ChoiceR d make)
+sample_choice : (d : ℕ) (make : WrittenBranches → WrittenTree) → SomePhrase (ChoiceR d make)
 sample_choice d make =
     let s = sample_seq (suc d) 0 in
     let l = an_upper 0 in
@@ -376,10 +335,10 @@ sample_choice d make =
     (λ o. sample_then (AltsR d) _ (record { tokens = l ∷ c ∷ s.tokens; value = ([], s.value) ∷ []; nests = d ∷ d ∷ s.nests; phrase = phrase.last (l ∷ c ∷ s.tokens) ([], s.value) (d ∷ d ∷ s.nests) a })
     (λ bs. sample_mapped _ (Word d (codes "}")) (sample_word d (codes "}"))))
 
-sample_base : (d : ℕ) → Some_ (BaseP d)
+sample_base : (d : ℕ) → SomePhrase (BaseP d)
 sample_base d = record { tokens = fixed (codes "Int") 0 ∷ []; value = base.Int; nests = d ∷ []; phrase = (int (fixed (codes "Int") 0) (fixed_is (codes "Int") 0), refl) }
 
-pub opening_by : (d : ℕ) (k : Lexeme) (s : Start) → Some_ (BegunR d s k)
+pub opening_by : (d : ℕ) (k : Lexeme) (s : Start) → SomePhrase (BegunR d s k)
 opening_by d k begin.Skip = record { tokens = []; value = written.skip k.at; nests = []; phrase = nothing }
 opening_by d k begin.Send = sample_mapped (written.send k.at) (BaseP d) (sample_base d)
 opening_by d k begin.Receive = sample_mapped (written.receive k.at) (BaseP d) (sample_base d)
@@ -404,18 +363,18 @@ opening d k e = of_start (starts_with k e)
         }
     of_start (inr s) = by_atom d k s.0 s.1 (opening_by d k s.0)
 
-shut_seq : (limit d : ℕ) → limit < d → Reads limit (shut starts_type) (SeqP d) semi
+shut_seq : (limit d : ℕ) → limit < d → Reads limit (shut starts_type) (SeqPhrase d) lengthens_seq
 unfolding sample_seq
 shut_seq limit d over =
-    reads_shut limit starts_type (SeqP d) semi (λ n. (sample_seq d n, refl))
+    reads_shut limit starts_type (SeqPhrase d) lengthens_seq (λ n. (sample_seq d n, refl))
     (λ k e. let o = opening d k e in (o.others, o.value, d, o.nests, o.phrase, over))
     (λ us x ns p. let b = seq_begins d us x ns p in (b.0, b.1, d, b.2, b.3, b.4, b.5, over))
     (λ us x ns p. ap length (sym p.1) ∙ seq_count d p.0)
 
-shut_type : (limit d : ℕ) → limit < suc d → Reads limit (shut starts_type) (TypeP d) goes
+shut_type : (limit d : ℕ) → limit < suc d → Reads limit (shut starts_type) (TypePhrase d) lengthens
 unfolding sample_type sample_seq
 shut_type limit d over =
-    reads_shut limit starts_type (TypeP d) goes (λ n. (sample_type d n, refl))
+    reads_shut limit starts_type (TypePhrase d) lengthens (λ n. (sample_type d n, refl))
     (λ k e. let o = opening (suc d) k e in (o.others, o.value, suc d, o.nests, (single _ _ o.phrase.0, o.phrase.1), over))
     (λ us x ns p. let b = type_begins d us x ns p in (b.0, b.1, suc d, b.2, b.3, b.4, b.5, over))
     (λ us x ns p. ap length (sym p.1) ∙ type_count d p.0)
@@ -424,11 +383,11 @@ mutual
   unfolding seq_at type_at
 
   -- each `seqtype` is read where it isn't too deep
-  pub reads_seq : (limit n d : ℕ) → d + n ≡ suc limit → Reads limit (seq_at n) (SeqP d) semi
+  pub reads_seq : (limit n d : ℕ) → d + n ≡ suc limit → Reads limit (seq_at n) (SeqPhrase d) lengthens_seq
   reads_seq limit zero d e = shut_seq limit d (omega arith)
   reads_seq limit (suc n) d e = reads_seq_with limit d (omega arith) (seq_at n) (type_at n) (reads_seq limit n (suc d) (omega arith)) (reads_type limit n d (omega arith))
 
   -- and each type
-  pub reads_type : (limit n d : ℕ) → d + n ≡ limit → Reads limit (type_at n) (TypeP d) goes
+  pub reads_type : (limit n d : ℕ) → d + n ≡ limit → Reads limit (type_at n) (TypePhrase d) lengthens
   reads_type limit zero d e = shut_type limit d (omega arith)
   reads_type limit (suc n) d e = reads_type_with limit d (omega arith) (seq_at n) (type_at n) (reads_seq limit n (suc (suc d)) (omega arith)) (reads_type limit n (suc d) (omega arith))

@@ -10,12 +10,7 @@ use Rattle.fst_types.specs.declared.kind.Prekind.TheVariants.{Session, Top}
 use Rattle.fst_types.specs.WrittenTree as written
 use Rattle.fst_types.specs.WrittenTree.{WrittenTree, WrittenBranches, none, branch}
 use Rattle.fst_terms.specs.declared.binder.Binder.{Binder}
-use Rattle.fst_type_syntax.specs.Lexeme.{Lexeme, Is, IsLower, IsUpper, IsOne}
-
--- where a phrase begins; one without tokens begins nowhere
-abbrev pub start : List Lexeme → ℕ
-start [] = 0
-start (k ∷ ts) = k.at
+use Rattle.fst_reading.specs.Lexeme.{Lexeme, Is, IsLower, IsUpper, IsOne, start}
 
 -- base = "Int" | "Bool" | "Char" | "(" ")"
 pub data IsBase : List Lexeme → Base → Type 0 where

@@ -1,11 +1,7 @@
-pub mod Lexeme
 pub mod Grammar
 pub mod Nesting
-pub mod Limits
-pub mod Faults
-pub mod Reading
 pub mod TypeReading
 pub mod Derives
 pub mod Filled
-pub mod Gives
 pub mod Views
+pub mod Steps

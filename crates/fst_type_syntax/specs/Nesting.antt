@@ -1,13 +1,10 @@
 -- How deep a token of a type or a question is nested: how many `seqtype`s enclose it, and for each chain of arrows that
 -- encloses it how many operands stand before it there.
-use Rattle.std.specs.Prelude.{ℕ, suc, List, [], ◌∷◌, ◌++◌, map}
+use Rattle.std.specs.Prelude.{ℕ, suc, List, [], ◌∷◌, ◌++◌}
 use Rattle.fst_types.specs.WrittenTree.{WrittenTree, WrittenBranches}
-use Rattle.fst_type_syntax.specs.Lexeme.{Lexeme}
+use Rattle.fst_reading.specs.Lexeme.{Lexeme}
 use Rattle.fst_type_syntax.specs.Grammar.{IsType, single, arrow, IsSeq, rec, atom, chain, IsAtom, skip, send, receive, select, offer, plain, lower, upper, group, pair, IsAlts, last, further, IsAlt, alt, Asked, IsQuestion, closed, over}
-
--- the same number for each of these tokens
-abbrev pub level : ℕ → List Lexeme → List ℕ
-level n ts = map (λ k. n) ts
+use Rattle.fst_reading.specs.Faults.{level}
 
 abbrev mutual
   -- for each token of a type its nesting, where this much encloses the type
@@ -21,6 +18,7 @@ abbrev mutual
   seq_nests n (atom ts t a) = atom_nests n a
   seq_nests n (chain ts us all k t u a is s parts) = atom_nests n a ++ n ∷ seq_nests (suc n) s
 
+  -- the same of an atomic type
   pub atom_nests : ℕ → {ts : List Lexeme} {t : WrittenTree} → IsAtom ts t → List ℕ
   atom_nests n (skip k is) = n ∷ []
   atom_nests n (send k ts b is d) = n ∷ level n ts
@@ -33,10 +31,12 @@ abbrev mutual
   atom_nests n (group k c ts all t is d closes parts) = n ∷ type_nests n d ++ n ∷ []
   atom_nests n (pair k m c ts us all t u is d comma e closes parts) = n ∷ (type_nests n d ++ (n ∷ (type_nests n e ++ n ∷ [])))
 
+  -- the same of branches with commas between them
   pub alts_nests : ℕ → {ts : List Lexeme} {bs : WrittenBranches} → IsAlts ts bs → List ℕ
   alts_nests n (last ts l t a) = alt_nests n a
   alts_nests n (further ts us all k l t bs a is d parts) = alt_nests n a ++ n ∷ alts_nests n d
 
+  -- the same of a branch
   pub alt_nests : ℕ → {ts : List Lexeme} {l : List ℕ} {t : WrittenTree} → IsAlt ts l t → List ℕ
   alt_nests n (alt l c ts t is colon s) = n ∷ n ∷ seq_nests (suc n) s
 

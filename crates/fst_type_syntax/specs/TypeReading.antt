@@ -15,9 +15,10 @@ use Rattle.fst_lexer.specs.declared.token.TokenKind.{TokenKind}
 use Rattle.fst_lexer.specs.declared.token.TokenKind.TheVariants as kind
 use Rattle.fst_type_syntax.specs.declared.starts.Start.{Start}
 use Rattle.fst_type_syntax.specs.declared.starts.Start.TheVariants as begin
-use Rattle.fst_type_syntax.specs.Lexeme.{Lexeme, spells}
+use Rattle.fst_reading.specs.Lexeme.{Lexeme, spells, upper_of, lower_of, is_one}
 use Rattle.fst_type_syntax.specs.Grammar.{Asked}
-use Rattle.fst_type_syntax.specs.Reading.{Reader, choose, give, ◌>>=◌, mapped, switch, one, word, located, finish, on, separated, shut}
+use Rattle.fst_reading.specs.Reading.{Reader, give, ◌>>=◌, mapped, switch, one, word, located, finish, on, separated, shut}
+use Rattle.fst_base.specs.Choice.{choose}
 
 -- the base type that is this word
 unfoldable pub base_named : List ℕ → Option Base
@@ -26,6 +27,7 @@ base_named text =
     (choose (bytes_eq text (codes "Bool")) (Some base.Bool)
     (choose (bytes_eq text (codes "Char")) (Some base.Char) None))
 
+-- the base type of a token, by its kind and text
 abbrev pub base_by : TokenKind → List ℕ → Option Base
 base_by kind.Reserved text = base_named text
 base_by kind.Sign text = base_named text
@@ -35,6 +37,7 @@ base_by _ text = None
 abbrev pub base_word : Lexeme → Option Base
 base_word k = base_by k.kind k.text
 
+-- what a base type's word begins
 abbrev pub word_begun : Option Base → Option Start
 word_begun (Some b) = Some (begin.Word b)
 word_begun None = None
@@ -49,6 +52,7 @@ start_named text =
     (choose (bytes_eq text (codes "&")) (Some begin.Offer)
     (choose (bytes_eq text (codes "(")) (Some begin.Paren) (word_begun (base_named text)))))))
 
+-- what a token begins, by its kind and text
 abbrev pub start_by : TokenKind → List ℕ → Option Start
 start_by kind.Lower text = Some begin.Name
 start_by kind.Upper text = Some begin.Name
@@ -60,46 +64,25 @@ start_by _ text = None
 abbrev pub start_of : Lexeme → Option Start
 start_of k = start_by k.kind k.text
 
-abbrev pub lower_by : TokenKind → Lexeme → Option Lexeme
-lower_by kind.Lower k = Some k
-lower_by _ k = None
-
--- a lower name
-abbrev pub lower_of : Lexeme → Option Lexeme
-lower_of k = lower_by k.kind k
-
-abbrev pub upper_by : TokenKind → Lexeme → Option Lexeme
-upper_by kind.Upper k = Some k
-upper_by _ k = None
-
--- an upper name
-abbrev pub upper_of : Lexeme → Option Lexeme
-upper_of k = upper_by k.kind k
-
-abbrev pub one_by : TokenKind → Bool
-one_by (kind.Number (pos (suc zero))) = true
-one_by _ = false
-
--- whether this is a number of value 1
-abbrev pub is_one : Lexeme → Bool
-is_one k = one_by k.kind
-
 -- a base type
 unfoldable pub base_at : Reader Base
 base_at = on (spells (codes "(")) (mapped (λ u. base.Unit) (word (codes ")"))) (one base_word)
 
+-- branches as they stand in a written type
 abbrev pub branches : List (List ℕ × WrittenTree) → WrittenBranches
 branches [] = none
 branches (b ∷ bs) = branch b.0 b.1 (branches bs)
 
 -- The steps of the reader of types, over the readers of the types inside it.
 module _ (seq type : Reader WrittenTree) where
+  -- a branch: its label and its type
   unfoldable pub alt_with : Reader (List ℕ × WrittenTree)
   alt_with = do
     l ← one upper_of
     c ← word (codes ":")
     mapped (λ t. (l.text, t)) seq
 
+  -- the branches of a choice, in braces
   unfoldable pub choice_with : (WrittenBranches → WrittenTree) → Reader WrittenTree
   choice_with make = do
     o ← word (codes "{")
@@ -129,6 +112,7 @@ module _ (seq type : Reader WrittenTree) where
   begun_with begin.Name k = give (written.named k.at k.text)
   begun_with (begin.Word b) k = give (written.plain k.at b)
 
+  -- an atomic type
   unfoldable pub atom_with : Reader WrittenTree
   atom_with = switch start_of begun_with
 
@@ -139,9 +123,11 @@ module _ (seq type : Reader WrittenTree) where
     d ← word (codes ".")
     mapped (written.rec at x.text) seq
 
+  -- an atomic type, and what goes on behind `;`
   unfoldable pub chain_with : ℕ → Reader WrittenTree
   chain_with at = atom_with >>= λ t. on (spells (codes ";")) (mapped (written.seq at t) seq) (give t)
 
+  -- a `rec` or a chain of `;`
   unfoldable pub seq_with : Reader WrittenTree
   seq_with = located (λ at. on (spells (codes "rec")) (rec_with at) (chain_with at))
 
@@ -151,9 +137,11 @@ module _ (seq type : Reader WrittenTree) where
       on (spells (codes "->")) (mapped (written.arrow at Many t) type)
       (on is_one (word (codes "->") >>= λ k. mapped (written.arrow at Once t) type) (give t))
 
+  -- a type with its arrows
   unfoldable pub type_with : Reader WrittenTree
   type_with = located (λ at. seq_with >>= λ t. arrow_with at t)
 
+-- whether a token begins a type
 abbrev pub is_begun : Option Start → Bool
 is_begun (Some s) = true
 is_begun None = false
@@ -177,6 +165,7 @@ unfoldable mutual
   type_at zero = shut starts_type
   type_at (suc n) = type_with (seq_at n) (type_at n)
 
+-- the multiplicity of a token, by its kind and text
 abbrev pub use_by : TokenKind → List ℕ → Option Use
 use_by (kind.Number (pos (suc zero))) text = Some Once
 use_by kind.Sign text = choose (bytes_eq text (codes "*")) (Some Many) None
@@ -187,9 +176,11 @@ use_by _ text = None
 abbrev pub use_of : Lexeme → Option Use
 use_of k = use_by k.kind k.text
 
+-- the prekind of a text
 unfoldable pub prekind_named : List ℕ → Option Prekind
 prekind_named text = choose (bytes_eq text (codes "S")) (Some Session) (choose (bytes_eq text (codes "T")) (Some Top) None)
 
+-- the prekind of a token, by its kind and text
 abbrev pub prekind_by : TokenKind → List ℕ → Option Prekind
 prekind_by kind.Upper text = prekind_named text
 prekind_by _ text = None
@@ -198,6 +189,7 @@ prekind_by _ text = None
 abbrev pub prekind_of : Lexeme → Option Prekind
 prekind_of k = prekind_by k.kind k.text
 
+-- a variable with its kind
 unfoldable pub binder_at : Reader (Binder × Kind)
 binder_at = do
   x ← one lower_of

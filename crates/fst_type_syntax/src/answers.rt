@@ -1,48 +1,21 @@
-ghost use Rattle.std.specs.Prelude.{◌≡◌, ◌<◌, ◌≤◌, length};
+ghost use Rattle.std.specs.Prelude.{◌<◌, ◌≤◌, length};
 ghost use Rattle.fst_lexer.specs.Spans.{HaveSpans};
-ghost use Rattle.fst_type_syntax.specs.Limits.{most_bytes};
-ghost use Rattle.fst_type_syntax.specs.Lexeme.{place};
+ghost use Rattle.fst_base.specs.Limits.{most_bytes};
 ghost use Rattle.fst_type_syntax.specs.Derives.{AnswersQuestion, AnswersType, OneReading};
-ghost use Rattle.fst_type_syntax.specs.Views.{fault_view, question_view, type_view};
+ghost use Rattle.fst_type_syntax.specs.Views.{question_view, type_view};
 
-use crate::fault::SyntaxFault;
-use crate::lexeme::Lexeme;
 use crate::questions::question;
-use crate::reading::Stop;
-use crate::slicing::lexemes;
 use crate::source::SourceQuestion;
 use crate::types::type_;
+use fst_base::MOST_NESTED;
 use fst_lexer::Token;
+use fst_reading::{Lexeme, SyntaxFault, fault_of, lexemes};
 use fst_types::Written;
 use std::alloc::Global;
 
-/// How deep a token may be nested.
-const MOST_NESTED: u32 = 200;
-
-/// Where the first token begins, and where none is left the text ends.
-pub fn place(tokens: &[Lexeme<'_>], end: u32) -> u32
-    ensures { result ≡ place end tokens.now }
-{
-    match tokens {
-        [] => end,
-        [first, ..] => first.at,
-    }
-}
-
-/// The fault of a stop, where the text ends at this byte.
-pub fn fault_of(stop: Stop<'_>, end: u32) -> SyntaxFault
-    ensures { result ≡ fault_view end stop.entry }
-{
-    match stop {
-        Stop::Memory => SyntaxFault::Memory,
-        Stop::Syntax(rest) => SyntaxFault::Syntax(place(rest, end)),
-        Stop::TooDeep(rest) => SyntaxFault::TooDeep(place(rest, end)),
-    }
-}
-
 /// Reads the type that begins at a token of a text, and answers behind which token it ends: the token there is none of `;`,
 /// `->` and a number of value 1.
-#[tactic(auto, using(crate::proofs::Answering::type_read, crate::proofs::Answering::type_stopped, crate::proofs::Answering::no_more))]
+#[tactic(auto, using(crate::proofs::Answering::type_answers))]
 pub fn read_type(
     alloc: Global,
     tokens: &[Token],
@@ -64,7 +37,7 @@ pub fn read_type(
 }
 
 /// Reads the question whether two types are equivalent.
-#[tactic(auto, using(crate::proofs::Answering::question_read, crate::proofs::Answering::question_stopped))]
+#[tactic(auto, using(crate::proofs::Answering::question_answers))]
 pub fn read_question(
     alloc: Global,
     tokens: &[Token],

@@ -1,21 +1,20 @@
-ghost use Rattle.std.specs.Prelude.{◌≡◌, [], codes};
-ghost use Rattle.fst_type_syntax.specs.Lexeme.{spells};
-ghost use Rattle.fst_type_syntax.specs.Reading.{one, separated};
+ghost use Rattle.std.specs.Prelude.{[], codes};
+ghost use Rattle.fst_reading.specs.Lexeme.{spells};
+ghost use Rattle.fst_reading.specs.Reading.{one, separated};
 ghost use Rattle.fst_type_syntax.specs.TypeReading.{use_of, prekind_of, binder_at, types_at, question_at};
-ghost use Rattle.fst_type_syntax.specs.Gives.{Gives};
+ghost use Rattle.fst_reading.specs.Gives.{Gives};
 ghost use Rattle.fst_type_syntax.specs.Views.{asked};
 
-use crate::lexeme::Lexeme;
-use crate::reading::{Stop, after, behind, comes, expect, lower};
 use crate::source::SourceQuestion;
 use crate::starts::{prekind_of, use_of};
 use crate::types::seq;
+use fst_reading::{Lexeme, Stop, after, behind, comes, expect, lower};
 use fst_terms::Binder;
 use fst_types::{Kind, Name, Prekind, Use};
 use std::alloc::Global;
 
 /// The first half of a kind, and what stands behind it.
-#[tactic(auto, unfolding(crate::specs::Reading::switch, crate::specs::Reading::give))]
+#[tactic(auto, unfolding(fst_reading::specs::Reading::switch, fst_reading::specs::Reading::give))]
 fn uses<'a>(tokens: &'a [Lexeme<'a>]) -> Result<(Use, &'a [Lexeme<'a>]), Stop<'a>>
     ensures { Gives (λ x. (x.0, x.1.now)) result (one use_of tokens.now) }
 {
@@ -29,7 +28,7 @@ fn uses<'a>(tokens: &'a [Lexeme<'a>]) -> Result<(Use, &'a [Lexeme<'a>]), Stop<'a
 }
 
 /// The second half of a kind, and what stands behind it.
-#[tactic(auto, unfolding(crate::specs::Reading::switch, crate::specs::Reading::give))]
+#[tactic(auto, unfolding(fst_reading::specs::Reading::switch, fst_reading::specs::Reading::give))]
 fn prekind<'a>(tokens: &'a [Lexeme<'a>]) -> Result<(Prekind, &'a [Lexeme<'a>]), Stop<'a>>
     ensures { Gives (λ x. (x.0, x.1.now)) result (one prekind_of tokens.now) }
 {
@@ -43,7 +42,7 @@ fn prekind<'a>(tokens: &'a [Lexeme<'a>]) -> Result<(Prekind, &'a [Lexeme<'a>]), 
 }
 
 /// A variable with its kind, and what stands behind it.
-#[tactic(auto, unfolding(crate::specs::Reading::bind, crate::specs::Reading::andthen, crate::specs::Reading::mapped, crate::specs::TypeReading::binder_at))]
+#[tactic(auto, unfolding(fst_reading::specs::Steps::all, crate::specs::TypeReading::binder_at))]
 fn binder<'a>(
     alloc: Global,
     tokens: &'a [Lexeme<'a>],
@@ -80,7 +79,7 @@ pub fn binders<'a>(
 }
 
 /// The two types of a question, with nothing behind them; these are its variables.
-#[tactic(auto, using(crate::proofs::Filled::read_filled), unfolding(crate::specs::Reading::bind, crate::specs::Reading::andthen, crate::specs::Reading::mapped, crate::specs::Reading::finish, crate::specs::TypeReading::types_at))]
+#[tactic(auto, using(crate::proofs::Filled::read_filled), unfolding(crate::specs::Steps::types))]
 fn types<'a>(
     alloc: Global,
     left: u32,
@@ -103,7 +102,7 @@ fn types<'a>(
 }
 
 /// A question with nothing behind it, with at most `left` types inside one another.
-#[tactic(auto, unfolding(crate::specs::Reading::bind, crate::specs::Reading::choose, crate::specs::Reading::andthen, crate::specs::Reading::on, crate::specs::TypeReading::question_at))]
+#[tactic(auto, unfolding(fst_reading::specs::Steps::all, crate::specs::TypeReading::question_at))]
 pub(crate) fn question<'a>(
     alloc: Global,
     left: u32,

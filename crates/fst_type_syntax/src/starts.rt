@@ -1,9 +1,11 @@
 ghost use Rattle.std.specs.Prelude.{◌≡◌};
-ghost use Rattle.fst_type_syntax.specs.Lexeme.{spells};
-ghost use Rattle.fst_type_syntax.specs.TypeReading.{base_named, base_word, start_named, start_of, is_one, starts_type_atom, starts_type, use_of, prekind_named, prekind_of};
+ghost use Rattle.fst_types.specs.WrittenTree.{WrittenTree};
+ghost use Rattle.fst_reading.specs.Reading.{begins, shut};
+ghost use Rattle.fst_reading.specs.Gives.{Fails};
+ghost use Rattle.fst_type_syntax.specs.TypeReading.{base_named, base_word, start_named, start_of, starts_type_atom, starts_type, use_of, prekind_named, prekind_of};
 
-use crate::lexeme::Lexeme;
 use fst_lexer::TokenKind;
+use fst_reading::{Lexeme, Stop, is_one, spells};
 use fst_types::{Base, Prekind, Use};
 
 /// What an atomic type begins with.
@@ -19,18 +21,8 @@ pub(crate) enum Start {
     Word(Base),
 }
 
-/// Whether a token is this reserved word or sign.
-pub fn spells(word: &str, token: &Lexeme<'_>) -> bool
-    ensures { result ≡ spells word.now token.now }
-{
-    match token.kind {
-        TokenKind::Reserved | TokenKind::Sign => token.text == word,
-        _ => false,
-    }
-}
-
 /// The base type that is this word.
-#[tactic(auto, unfolding(crate::specs::Reading::choose, crate::specs::TypeReading::base_named))]
+#[tactic(auto, unfolding(fst_base::specs::Choice::choose, crate::specs::TypeReading::base_named))]
 fn base_named(text: &str) -> Option<Base>
     ensures { result ≡ base_named text.now }
 {
@@ -56,7 +48,7 @@ pub(crate) fn base_word(token: &Lexeme<'_>) -> Option<Base>
 }
 
 /// What begins with this reserved word or sign.
-#[tactic(auto, unfolding(crate::specs::Reading::choose, crate::specs::TypeReading::start_named))]
+#[tactic(auto, unfolding(fst_base::specs::Choice::choose, crate::specs::TypeReading::start_named))]
 fn start_named(text: &str) -> Option<Start>
     ensures { result ≡ start_named text.now }
 {
@@ -91,16 +83,6 @@ pub(crate) fn start_of(token: &Lexeme<'_>) -> Option<Start>
     }
 }
 
-/// Whether this is a number of value 1.
-pub fn is_one(token: &Lexeme<'_>) -> bool
-    ensures { result ≡ is_one token.now }
-{
-    match token.kind {
-        TokenKind::Number(value) => value == 1,
-        _ => false,
-    }
-}
-
 /// Whether an atomic type may begin with this token.
 pub fn starts_type_atom(token: &Lexeme<'_>) -> bool
     ensures { result ≡ starts_type_atom token.now }
@@ -116,7 +98,7 @@ pub(crate) fn starts_type(token: &Lexeme<'_>) -> bool
 }
 
 /// The first half of a kind.
-#[tactic(auto, unfolding(crate::specs::Reading::choose))]
+#[tactic(auto, unfolding(fst_base::specs::Choice::choose))]
 pub(crate) fn use_of(token: &Lexeme<'_>) -> Option<Use>
     ensures { result ≡ use_of token.now }
 {
@@ -130,7 +112,7 @@ pub(crate) fn use_of(token: &Lexeme<'_>) -> Option<Use>
 }
 
 /// The second half of a kind, by its name.
-#[tactic(auto, unfolding(crate::specs::Reading::choose, crate::specs::TypeReading::prekind_named))]
+#[tactic(auto, unfolding(fst_reading::specs::Steps::all, crate::specs::TypeReading::prekind_named))]
 fn prekind_named(text: &str) -> Option<Prekind>
     ensures { result ≡ prekind_named text.now }
 {
@@ -150,5 +132,27 @@ pub(crate) fn prekind_of(token: &Lexeme<'_>) -> Option<Prekind>
     match token.kind {
         TokenKind::Upper => prekind_named(token.text),
         _ => None,
+    }
+}
+
+/// Whether a type may begin here.
+pub(crate) fn begins_type(tokens: &[Lexeme<'_>]) -> bool
+    ensures { result ≡ begins starts_type tokens.now }
+{
+    match tokens {
+        [] => false,
+        [first, ..] => starts_type(first),
+    }
+}
+
+/// Why no type is read where none may be opened any more.
+#[tactic(auto, unfolding(fst_base::specs::Choice::choose, fst_reading::specs::Reading::shut))]
+pub(crate) fn shut<'a>(tokens: &'a [Lexeme<'a>]) -> Stop<'a>
+    ensures { Fails result (shut {A = WrittenTree} starts_type tokens.now) }
+{
+    if begins_type(tokens) {
+        Stop::TooDeep(tokens)
+    } else {
+        Stop::Syntax(tokens)
     }
 }

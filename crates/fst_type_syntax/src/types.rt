@@ -1,23 +1,22 @@
-ghost use Rattle.std.specs.Prelude.{◌≡◌, ◌∷◌, codes, length, map};
+ghost use Rattle.std.specs.Prelude.{codes, map};
 ghost use Rattle.fst_types.specs.WrittenTree as written;
 ghost use Rattle.fst_types.specs.WrittenTree.{WrittenTree, WrittenBranches};
-ghost use Rattle.fst_types.specs.WrittenView.{written_branches};
-ghost use Rattle.fst_type_syntax.specs.Lexeme.{spells};
-ghost use Rattle.fst_type_syntax.specs.Reading.{separated, mapped};
+ghost use Rattle.fst_types.specs.ModelWrittenView.{written_branches};
+ghost use Rattle.fst_reading.specs.Lexeme.{spells};
+ghost use Rattle.fst_reading.specs.Reading.{separated, mapped};
 ghost use Rattle.fst_type_syntax.specs.TypeReading.{alt_with, choice_with, pair_with, paren_with, begun_with, atom_with, rec_with, chain_with, seq_with, arrow_with, type_with, seq_at, type_at};
-ghost use Rattle.fst_type_syntax.specs.Gives.{Gives, labelled};
+ghost use Rattle.fst_reading.specs.Gives.{Gives};
+ghost use Rattle.fst_type_syntax.specs.Views.{labelled};
 
-use crate::lexeme::Lexeme;
-use crate::reading::{
-    Stop, after, after_one, base, behind, comes, expect, lower, shut, start, upper,
-};
-use crate::starts::{Start, start_of};
+use crate::bases::base;
+use crate::starts::{Start, shut, start_of};
+use fst_reading::{Lexeme, Stop, after, after_one, behind, comes, expect, lower, start, upper};
 use fst_types::{Base, Name, Use, Written, WrittenBranch, WrittenForm};
 use std::alloc::Global;
 
 /// One branch of a choice.
 #[cycle(reader)]
-#[tactic(auto, unfolding(crate::specs::Reading::bind, crate::specs::Reading::andthen, crate::specs::Reading::mapped, crate::specs::TypeReading::alt_with))]
+#[tactic(auto, unfolding(fst_reading::specs::Steps::all, crate::specs::TypeReading::alt_with))]
 fn alt<'a>(
     alloc: Global,
     left: u32,
@@ -56,7 +55,7 @@ fn alts<'a>(
 
 /// The branches of a choice in braces.
 #[cycle(reader)]
-#[tactic(auto, using(crate::proofs::Branches::branches_labelled), unfolding(crate::specs::Reading::bind, crate::specs::Reading::andthen, crate::specs::Reading::mapped, crate::specs::TypeReading::choice_with))]
+#[tactic(auto, using(crate::proofs::Branches::same_kept), unfolding(crate::specs::Steps::choice))]
 fn choice<'a>(
     alloc: Global,
     left: u32,
@@ -87,7 +86,7 @@ pub fn seq<'a>(
 }
 
 #[cycle(reader)]
-#[tactic(auto, unfolding(crate::specs::Reading::choose, crate::specs::Reading::on, crate::specs::TypeReading::seq_with))]
+#[tactic(auto, unfolding(fst_reading::specs::Steps::all, crate::specs::TypeReading::seq_with))]
 fn seq_inside<'a>(
     alloc: Global,
     left: u32,
@@ -103,7 +102,7 @@ fn seq_inside<'a>(
 }
 
 #[cycle(reader)]
-#[tactic(auto, unfolding(crate::specs::Reading::bind, crate::specs::Reading::andthen, crate::specs::Reading::mapped, crate::specs::TypeReading::rec_with))]
+#[tactic(auto, unfolding(fst_reading::specs::Steps::all, crate::specs::TypeReading::rec_with))]
 fn rec_body<'a>(
     alloc: Global,
     left: u32,
@@ -117,17 +116,12 @@ fn rec_body<'a>(
     let (body, rest) = seq(alloc, left, rest)?;
     let name = Name::of(alloc, name.text.as_bytes())?;
     let body = Box::new(alloc, body)?;
-    Ok((
-        Written {
-            at,
-            form: WrittenForm::Rec(name, body),
-        },
-        rest,
-    ))
+    let form = WrittenForm::Rec(name, body);
+    Ok((Written { at, form }, rest))
 }
 
 #[cycle(reader)]
-#[tactic(auto, unfolding(crate::specs::Reading::bind, crate::specs::Reading::choose, crate::specs::Reading::andthen, crate::specs::Reading::mapped, crate::specs::Reading::on, crate::specs::Reading::give, crate::specs::TypeReading::chain_with))]
+#[tactic(auto, unfolding(fst_reading::specs::Steps::all, crate::specs::TypeReading::chain_with))]
 fn chain<'a>(
     alloc: Global,
     left: u32,
@@ -143,19 +137,15 @@ fn chain<'a>(
             let (second, rest) = seq(alloc, left, behind)?;
             let first = Box::new(alloc, first)?;
             let second = Box::new(alloc, second)?;
-            Ok((
-                Written {
-                    at,
-                    form: WrittenForm::Seq(first, second),
-                },
-                rest,
-            ))
+            let form = WrittenForm::Seq(first, second);
+            Ok((Written { at, form }, rest))
         }
     }
 }
 
+/// An atomic type with at most `left` types inside one another in it, and what stands behind it.
 #[cycle(reader)]
-#[tactic(auto, unfolding(crate::specs::Reading::switch, crate::specs::TypeReading::atom_with))]
+#[tactic(auto, unfolding(fst_reading::specs::Steps::all, crate::specs::TypeReading::atom_with))]
 pub fn atom<'a>(
     alloc: Global,
     left: u32,
@@ -174,7 +164,7 @@ pub fn atom<'a>(
 
 /// An atomic type that begins so with this token.
 #[cycle(reader)]
-#[tactic(auto, unfolding(crate::specs::Reading::bind, crate::specs::Reading::mapped, crate::specs::Reading::give))]
+#[tactic(auto, unfolding(fst_reading::specs::Steps::all))]
 fn begun<'a>(
     alloc: Global,
     left: u32,
@@ -186,69 +176,37 @@ fn begun<'a>(
 {
     let at = first.at;
     match start {
-        Start::Skip => Ok((
-            Written {
-                at,
-                form: WrittenForm::Skip,
-            },
-            rest,
-        )),
-        Start::Word(base) => Ok((
-            Written {
-                at,
-                form: WrittenForm::Plain(base),
-            },
-            rest,
-        )),
+        Start::Skip => {
+            let form = WrittenForm::Skip;
+            Ok((Written { at, form }, rest))
+        }
+        Start::Word(base) => {
+            let form = WrittenForm::Plain(base);
+            Ok((Written { at, form }, rest))
+        }
         Start::Name => {
-            let name = Name::of(alloc, first.text.as_bytes())?;
-            Ok((
-                Written {
-                    at,
-                    form: WrittenForm::Named(name),
-                },
-                rest,
-            ))
+            let form = WrittenForm::Named(Name::of(alloc, first.text.as_bytes())?);
+            Ok((Written { at, form }, rest))
         }
         Start::Send => {
             let (base, rest) = base(rest)?;
-            Ok((
-                Written {
-                    at,
-                    form: WrittenForm::Send(base),
-                },
-                rest,
-            ))
+            let form = WrittenForm::Send(base);
+            Ok((Written { at, form }, rest))
         }
         Start::Receive => {
             let (base, rest) = base(rest)?;
-            Ok((
-                Written {
-                    at,
-                    form: WrittenForm::Receive(base),
-                },
-                rest,
-            ))
+            let form = WrittenForm::Receive(base);
+            Ok((Written { at, form }, rest))
         }
         Start::Select => {
             let (branches, rest) = choice(alloc, left, rest)?;
-            Ok((
-                Written {
-                    at,
-                    form: WrittenForm::Select(branches),
-                },
-                rest,
-            ))
+            let form = WrittenForm::Select(branches);
+            Ok((Written { at, form }, rest))
         }
         Start::Offer => {
             let (branches, rest) = choice(alloc, left, rest)?;
-            Ok((
-                Written {
-                    at,
-                    form: WrittenForm::Offer(branches),
-                },
-                rest,
-            ))
+            let form = WrittenForm::Offer(branches);
+            Ok((Written { at, form }, rest))
         }
         Start::Paren => paren(alloc, left, at, rest),
     }
@@ -256,7 +214,7 @@ fn begun<'a>(
 
 /// What stands behind a parenthesis: nothing, one type or two.
 #[cycle(reader)]
-#[tactic(auto, unfolding(crate::specs::Reading::bind, crate::specs::Reading::choose, crate::specs::Reading::andthen, crate::specs::Reading::mapped, crate::specs::Reading::on, crate::specs::Reading::give, crate::specs::TypeReading::paren_with))]
+#[tactic(auto, unfolding(fst_reading::specs::Steps::all, crate::specs::TypeReading::paren_with))]
 fn paren<'a>(
     alloc: Global,
     left: u32,
@@ -286,7 +244,7 @@ fn paren<'a>(
 
 /// The second type of a pair.
 #[cycle(reader)]
-#[tactic(auto, unfolding(crate::specs::Reading::bind, crate::specs::Reading::andthen, crate::specs::Reading::mapped, crate::specs::TypeReading::pair_with))]
+#[tactic(auto, unfolding(fst_reading::specs::Steps::all, crate::specs::TypeReading::pair_with))]
 fn pair<'a>(
     alloc: Global,
     left: u32,
@@ -300,18 +258,13 @@ fn pair<'a>(
     let rest = expect(")", rest)?;
     let first = Box::new(alloc, first)?;
     let second = Box::new(alloc, second)?;
-    Ok((
-        Written {
-            at,
-            form: WrittenForm::Pair(first, second),
-        },
-        rest,
-    ))
+    let form = WrittenForm::Pair(first, second);
+    Ok((Written { at, form }, rest))
 }
 
 /// A type with its arrows, at most `left` of them inside one another, and what stands behind it.
 #[cycle(reader)]
-#[tactic(auto, unfolding(crate::specs::Reading::bind, crate::specs::Reading::andthen, crate::specs::TypeReading::type_at, crate::specs::TypeReading::type_with))]
+#[tactic(auto, unfolding(crate::specs::Steps::arrows))]
 pub fn type_<'a>(
     alloc: Global,
     left: u32,
@@ -329,7 +282,7 @@ pub fn type_<'a>(
 
 /// What stands behind the first type of a type: an arrow and a type, or nothing of it.
 #[cycle(reader)]
-#[tactic(auto, unfolding(crate::specs::Reading::bind, crate::specs::Reading::choose, crate::specs::Reading::andthen, crate::specs::Reading::mapped, crate::specs::Reading::on, crate::specs::Reading::give, crate::specs::TypeReading::arrow_with))]
+#[tactic(auto, unfolding(fst_reading::specs::Steps::all, crate::specs::TypeReading::arrow_with))]
 fn arrow<'a>(
     alloc: Global,
     left: u32,
@@ -353,7 +306,7 @@ fn arrow<'a>(
 
 /// What stands behind an arrow.
 #[cycle(reader)]
-#[tactic(auto, unfolding(crate::specs::Reading::bind, crate::specs::Reading::mapped))]
+#[tactic(auto, unfolding(fst_reading::specs::Reading::bind, fst_reading::specs::Reading::mapped))]
 fn function<'a>(
     alloc: Global,
     left: u32,
@@ -367,11 +320,6 @@ fn function<'a>(
     let (second, rest) = type_(alloc, left, tokens)?;
     let first = Box::new(alloc, first)?;
     let second = Box::new(alloc, second)?;
-    Ok((
-        Written {
-            at,
-            form: WrittenForm::Arrow(uses, first, second),
-        },
-        rest,
-    ))
+    let form = WrittenForm::Arrow(uses, first, second);
+    Ok((Written { at, form }, rest))
 }

@@ -12,7 +12,7 @@ use Rattle.fst_types.specs.declared.base.Base.TheVariants.{Int, Bool as Truth, C
 use Rattle.fst_types.specs.declared.label.Label.{Label}
 use Rattle.fst_types.specs.declared.label.Label.TheVariants.{Send, Receive, Select, Offer, Var}
 use Rattle.fst_types.specs.Order.{base_number, label_rank, label_number, label_text, label_cmp, same_label}
-use Rattle.fst_types.specs.Code.{base_at}
+use Rattle.fst_types.specs.ModelCode.{base_at}
 
 -- a base type comes back from its number
 base_at-number : (b : Base) → base_at (base_number b) ≡ b

@@ -1,16 +1,11 @@
 -- What substitution keeps, and how substitutions compose.
 use Rattle.std.proofs.Common.{◌≡◌, ◌<◌, ◌≤◌, ◌+◌, ℕ, zero, suc, List, [], ◌∷◌, length, Option, Some, None, refl, ap, subst, arith}
-use Rattle.std.specs.Prelude.{IfSome, ⊤}
 use Rattle.fst_types.specs.Tree.{Tree, skip, send, receive, select, offer, seq, rec, back, var, plain, arrow, pair, named, Branches, none, branch}
 use Rattle.fst_types.specs.Order.{IsOrdered, AllOrdered, AreRising}
-use Rattle.fst_types.specs.Substitution.{variable, substituted, substituted_all, unfolded}
+use Rattle.fst_types.specs.Substitution.{variable, substituted, substituted_all, unfolded, EnvHas, AllClosed}
 use Rattle.fst_types.specs.Scoped.{IsScoped, AllScoped}
 
--- all that the binders stand for is as P says
-abbrev pub EnvHas : (Tree → Type 0) → List (Option Tree) → Type 0
-EnvHas P [] = ⊤
-EnvHas P (o ∷ env) = IfSome o P × EnvHas P env
-
+-- what holds of all that the binders stand for, and of a variable, holds of what the variable stands for
 pub variable_has : (P : Tree → Type 0) (env : List (Option Tree)) (k : ℕ) (t : Tree) → EnvHas P env → P t → P (variable env k t)
 variable_has P [] k t e h = h
 variable_has P (None ∷ env) zero t e h = h
@@ -23,6 +18,7 @@ substituted_rising env (branch l s none) r = tt
 substituted_rising env (branch l s (branch m t bs)) r = (r.0, substituted_rising env (branch m t bs) r.1)
 
 mutual
+  -- ordered types put into an ordered type give an ordered type
   pub substituted_ordered : (env : List (Option Tree)) (s : Tree) → EnvHas IsOrdered env → IsOrdered s → IsOrdered (substituted env s)
   substituted_ordered env skip e o = tt
   substituted_ordered env (send b) e o = tt
@@ -38,6 +34,7 @@ mutual
   substituted_ordered env (pair s r) e o = (substituted_ordered env s e o.0, substituted_ordered env r e o.1)
   substituted_ordered env (named k) e o = tt
 
+  -- and put into ordered branches, ordered branches
   pub substituted_all_ordered : (env : List (Option Tree)) (bs : Branches) → EnvHas IsOrdered env → AllOrdered bs → AllOrdered (substituted_all env bs)
   substituted_all_ordered env none e o = tt
   substituted_all_ordered env (branch l s bs) e o = (substituted_ordered env s e o.0, substituted_all_ordered env bs e o.1)
@@ -46,12 +43,6 @@ mutual
 abbrev pub below : ℕ → List (Option Tree) → List (Option Tree)
 below zero env = env
 below (suc n) env = None ∷ below n env
-
--- each binder stands for a type without free variables
-abbrev pub AllClosed : List (Option Tree) → Type 0
-AllClosed [] = ⊤
-AllClosed (None ∷ env) = ⊥
-AllClosed (Some t ∷ env) = IsScoped 0 t × AllClosed env
 
 kept : (n : ℕ) (env : List (Option Tree)) (k : ℕ) (t : Tree) → k < n → variable (below n env) k t ≡ t
 kept zero env k t lt = absurd (omega arith)
@@ -157,6 +148,12 @@ mutual
   substituted_all_scoped n env none ok h = tt
   substituted_all_scoped n env (branch l s bs) ok h = (substituted_scoped n env s ok h.0, substituted_all_scoped n env bs ok h.1)
 
+-- a type whose free variables all stand for types without any has none left
+pub all_put_scoped : (env : List (Option Tree)) (s : Tree) → AllClosed env → IsScoped (length env) s → IsScoped 0 (substituted env s)
+all_put_scoped env s ok h =
+    let sum : length env ≡ 0 + length env = omega arith in
+    substituted_scoped 0 env s ok (subst (λ m. IsScoped m s) sum h)
+
 past : (E env : List (Option Tree)) → AllClosed env → (k j : ℕ) → variable E j (back j) ≡ back j → substituted E (variable env k (back j)) ≡ variable env k (back j)
 past E [] ok k j h = h
 past E (None ∷ env) ok k j h = absurd ok
@@ -194,32 +191,9 @@ module _ (whole : Tree) (env : List (Option Tree)) (ok : AllClosed env) where
     substituted_all_after n (branch l s bs) = λ i. branch l (substituted_after n s i) (substituted_all_after n bs i)
 
 -- an unfolding has no free variables
-pub unfolded_scoped : (t : Tree) → IsScoped 0 t → IsScoped 0 (unfolded t)
-unfolded_scoped (rec s) h = substituted_scoped 0 (Some (rec s) ∷ []) s (h, tt) h
-unfolded_scoped skip h = h
-unfolded_scoped (send b) h = h
-unfolded_scoped (receive b) h = h
-unfolded_scoped (select bs) h = h
-unfolded_scoped (offer bs) h = h
-unfolded_scoped (seq s r) h = h
-unfolded_scoped (back k) h = h
-unfolded_scoped (var k) h = h
-unfolded_scoped (plain b) h = h
-unfolded_scoped (arrow u s r) h = h
-unfolded_scoped (pair s r) h = h
-unfolded_scoped (named k) h = h
+pub unfolded_scoped : (s : Tree) → IsScoped 0 (rec s) → IsScoped 0 (unfolded s)
+unfolded_scoped s h = substituted_scoped 0 (Some (rec s) ∷ []) s (h, tt) h
 
-pub unfolded_ordered : (t : Tree) → IsOrdered t → IsOrdered (unfolded t)
-unfolded_ordered (rec s) o = substituted_ordered (Some (rec s) ∷ []) s (o, tt) o
-unfolded_ordered skip o = o
-unfolded_ordered (send b) o = o
-unfolded_ordered (receive b) o = o
-unfolded_ordered (select bs) o = o
-unfolded_ordered (offer bs) o = o
-unfolded_ordered (seq s r) o = o
-unfolded_ordered (back k) o = o
-unfolded_ordered (var k) o = o
-unfolded_ordered (plain b) o = o
-unfolded_ordered (arrow u s r) o = o
-unfolded_ordered (pair s r) o = o
-unfolded_ordered (named k) o = o
+-- an unfolding is ordered
+pub unfolded_ordered : (s : Tree) → IsOrdered (rec s) → IsOrdered (unfolded s)
+unfolded_ordered s o = substituted_ordered (Some (rec s) ∷ []) s (o, tt) o

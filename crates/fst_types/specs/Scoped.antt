@@ -1,5 +1,5 @@
 -- Which recursion variables a type has free.
-use Rattle.std.specs.Prelude.{ℕ, suc, ◌<◌, ⊤}
+use Rattle.std.specs.Prelude.{◌≡◌, ◌⊎◌, ℕ, suc, ◌<◌, ⊤}
 use Rattle.fst_types.specs.Tree.{Tree, skip, send, receive, select, offer, seq, rec, back, var, plain, arrow, pair, named, Branches, none, branch}
 
 abbrev mutual
@@ -23,3 +23,25 @@ abbrev mutual
   pub AllScoped : ℕ → Branches → Type 0
   AllScoped n none = ⊤
   AllScoped n (branch l s bs) = IsScoped n s × AllScoped n bs
+
+abbrev mutual
+  -- the variable of the k-th `rec` around the type, counted outward, is free in it
+  pub IsFree : ℕ → Tree → Type 0
+  IsFree k skip = ⊥
+  IsFree k (send b) = ⊥
+  IsFree k (receive b) = ⊥
+  IsFree k (select bs) = IsFreeInSome k bs
+  IsFree k (offer bs) = IsFreeInSome k bs
+  IsFree k (seq s r) = IsFree k s ⊎ IsFree k r
+  IsFree k (rec s) = IsFree (suc k) s
+  IsFree k (back j) = j ≡ k
+  IsFree k (var j) = ⊥
+  IsFree k (plain b) = ⊥
+  IsFree k (arrow u s r) = IsFree k s ⊎ IsFree k r
+  IsFree k (pair s r) = IsFree k s ⊎ IsFree k r
+  IsFree k (named j) = ⊥
+
+  -- it is free in one of the branches
+  pub IsFreeInSome : ℕ → Branches → Type 0
+  IsFreeInSome k none = ⊥
+  IsFreeInSome k (branch l s bs) = IsFree k s ⊎ IsFreeInSome k bs

@@ -65,7 +65,7 @@ impl Label {
     }
 
     /// Whether two labels are the same.
-    #[tactic(auto, using(crate::proofs::Labels::same_label_is))]
+    #[tactic(auto, using(crate::proofs::Laws::same_label_is))]
     pub fn same(&self, other: &Label) -> bool
         ensures test { result ≡ same_label self.now other.now }
         ensures same { IsTrue result ↔ (self.now ≡ other.now) }

@@ -6,6 +6,7 @@ mod base;
 mod family;
 mod kind;
 mod label;
+mod law;
 mod name;
 mod scope;
 mod side;
@@ -17,12 +18,10 @@ pub use base::Base;
 pub use family::{Family, Maker};
 pub use kind::{Kind, Prekind, Use};
 pub use label::Label;
+pub use law::{label_order_law, substitution_law};
 pub use name::Name;
 pub use scope::{Scope, substitute, unfold};
 pub use side::Side;
 pub use ty::{Branch, Ty, TyForm};
 pub use walks::{copy, same, size};
 pub use written::{Written, WrittenBranch, WrittenForm};
-
-#[cfg(test)]
-mod tests;

@@ -1,2 +1,4 @@
 pub mod RuleLaws
 pub mod RangeLaws
+pub mod LabelLaws
+pub mod Laws

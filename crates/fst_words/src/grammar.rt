@@ -42,7 +42,7 @@ fn step_by_rule(
     }
 }
 
-/// Whether each non-terminal in a rule's word has rules of its own.
+/// Whether each non-terminal in a rule's word is one of the grammar's.
 pub fn is_in_range(g: &Grammar) -> bool
     ensures { IsTrue result ↔ InRange g.now.rules.items }
 {

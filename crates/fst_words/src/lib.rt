@@ -2,14 +2,9 @@
 #![tactic(auto)]
 
 mod grammar;
-mod laws;
 mod rules;
 mod word;
 
 pub use grammar::{Grammar, is_below, is_in_range, step};
-pub use laws::standing_law;
 pub use rules::{Rule, Rules};
 pub use word::{Pair, Word};
-
-#[cfg(test)]
-mod tests;

@@ -1,4 +1,4 @@
-ghost use Rattle.std.specs.Prelude.{◌≡◌, ◌↔◌, IfSome, IsNone, IsTrue};
+ghost use Rattle.std.specs.Prelude.{◌≡◌, ◌↔◌, IfErr, IfOk, IsTrue};
 ghost use Rattle.std.specs.Option.{option_copied};
 ghost use Rattle.fst_words.specs.Ordered.{AreOrdered};
 ghost use Rattle.fst_words.specs.Words.{rule_of};
@@ -40,16 +40,25 @@ impl Rules {
         Rules { rules }
     }
 
-    /// The rules of this list, or none where it isn't in order.
-    pub fn of(rules: Vec<Rule>) -> Option<Rules>
-        ensures some { IfSome result (λ r. r ≡ rules.items) }
-        ensures none { IsNone result → AreOrdered rules.items → ⊥ }
+    /// The rules of this list, or the list again where it isn't in order.
+    pub fn of(rules: Vec<Rule>) -> Result<Rules, Vec<Rule>>
+        ensures ok { IfOk result (λ r. r ≡ rules.items) }
+        ensures err { IfErr result (λ back. back ≡ rules) }
+        ensures refused { IfErr result (λ back. AreOrdered rules.items → ⊥) }
     {
         if are_ordered(&rules) {
-            Some(Rules { rules })
+            Ok(Rules { rules })
         } else {
-            None
+            Err(rules)
         }
+    }
+
+    /// The list of the rules, in order.
+    pub fn into_vec(self) -> Vec<Rule>
+        ensures rules { result.items ≡ self }
+        ensures ordered { AreOrdered self }
+    {
+        self.rules
     }
 
     /// The rules in order.

@@ -1,8 +1,8 @@
 use Rattle.std.proofs.Common.{◌<◌, ◌∙◌, refl, sym, ap, length, map, codes, arith}
 use Rattle.std.proofs.lemmas.Result.{err_from_is_err_and}
 use Rattle.std.proofs.lemmas.List.{map-append}
-use Rattle.fst_type_syntax.specs.Lexeme.{spells}
-use Rattle.fst_type_syntax.proofs.Loops.{begins_empty, goes_on, stops, runs_out, fails}
+use Rattle.fst_reading.specs.Lexeme.{spells}
+use Rattle.fst_reading.proofs.Loops.{begins_empty, goes_on, stops, runs_out, fails}
 use Rattle.fst_syntax.specs.TermReading.{expr_at}
 use Rattle.fst_syntax.specs.Levels.{operator_of, operand_with, arm_by, arm_parts}
 use Rattle.fst_syntax.proofs.Inside.{case_choice, match_choice}

@@ -1,7 +1,7 @@
 use Rattle.std.proofs.Common.{◌≡◌, ◌+◌, ◌-◌, ◌*◌, length, map, codes}
-use Rattle.fst_type_syntax.specs.Lexeme.{spells}
-use Rattle.fst_type_syntax.specs.Reading.{separated_within}
-use Rattle.fst_type_syntax.proofs.Loops.{with_front}
+use Rattle.fst_reading.specs.Lexeme.{spells}
+use Rattle.fst_reading.specs.Reading.{separated_within}
+use Rattle.fst_reading.proofs.Loops.{with_front}
 use Rattle.fst_syntax.specs.TermReading.{expr_at}
 use Rattle.fst_syntax.specs.Levels.{arm_by, arm_parts}
 use Rattle.fst_syntax.proofs.Inside.{rank}

@@ -1,23 +1,44 @@
-use Rattle.std.proofs.Common.{Ok, Err}
+use Rattle.std.proofs.Common.{inl, Ok, Err}
 use Rattle.fst_type_syntax.specs.Derives.{AnswersQuestion}
 use Rattle.fst_type_syntax.specs.Views.{asked}
-use Rattle.fst_command.specs.Finding.{question_finding}
-use Rattle.fst_command.proofs.FindingLaws.{without_tokens, without_reading, with_question, same_answer}
+use Rattle.fst_command.specs.Finding.{IsNoQuestion, no_tokens}
+use Rattle.fst_command.specs.Views.{IfFound}
+use Rattle.fst_command.proofs.Placing.{read_in_order}
+use Rattle.fst_command.proofs.FindingLaws.{lexical_unread, syntax_unread, same_answer, with_question, with_fault}
 use Rattle.fst_command.proofs.finding.find.Goals as goal
 
-pub returns-in-Err-clause-found : goal.returns-in-Err-clause-found
-returns-in-Err-clause-found c = without_tokens AnswersQuestion question_finding c.args.bytes.now c.in-Err.fault c.in_ok-lexical-in-Err.field-0 c.in-Err.ensures.fault c.in_ok-lexical-in-Err.ensures
+pub returns-in_err-tokens-clause-fault : goal.returns-in_err-tokens-clause-fault
+returns-in_err-tokens-clause-fault c =
+    lexical_unread AnswersQuestion (IsNoQuestion c.args.bytes.now) c.args.bytes.now (λ f u. inl u) c.in_err-tokens.field-0.0 c.from_residual.result
+    c.from_residual.ensures.1 c.in_err-tokens.ensures.fault
 
-pub returns-in-Ok-read_question-clause-found : goal.returns-in-Ok-read_question-clause-found
-returns-in-Ok-read_question-clause-found c =
-    let cases = rw c.unwrap-text.ensures at c.from_utf8.ensures.cases in
-    let q = asked c.in-Ok-read_question.question in
-    let derived = same_answer AnswersQuestion question_finding c.unwrap-text.result.now c.args.bytes.now c.deref.result.now c.in-Ok.tokens.items (Ok q) cases.0 c.deref.ensures.value c.in-Ok-read_question.ensures in
-    with_question c.args.bytes.now c.in-Ok.tokens.items q c.of_question.result c.in-Ok.ensures.tokens derived c.of_question.ensures.found
+pub returns-in_err-question-clause-fault : goal.returns-in_err-question-clause-fault
+returns-in_err-question-clause-fault c =
+    let e = c.in_err-question.field-0.0 in
+    let refused = same_answer AnswersQuestion c.from_utf8_unchecked-text.result.now c.args.bytes.now c.deref.result.now c.in_ok-tokens.tokens.items (Err e)
+    c.from_utf8_unchecked-text.ensures c.deref.ensures.value c.in_err-question.ensures in
+    syntax_unread AnswersQuestion (IsNoQuestion c.args.bytes.now) c.args.bytes.now (λ f u. inl u) c.in_ok-tokens.tokens.items e c.from_residual-in_err-question.result
+    c.from_residual-in_err-question.ensures.1 c.in_ok-tokens.ensures.tokens refused
 
-pub returns-clause-found : goal.returns-clause-found
-returns-clause-found c =
-    let cases = rw c.unwrap-text.ensures at c.from_utf8.ensures.cases in
-    let e = c.in-Err-read_question.fault in
-    let refused = same_answer AnswersQuestion question_finding c.unwrap-text.result.now c.args.bytes.now c.deref.result.now c.in-Ok.tokens.items (Err e) cases.0 c.deref.ensures.value c.in-Err-read_question.ensures in
-    without_reading AnswersQuestion question_finding c.args.bytes.now c.in-Ok.tokens.items e c.in_ok-syntactic-in-Err-read_question.field-0 c.in-Ok.ensures.tokens refused c.in_ok-syntactic-in-Err-read_question.ensures
+pub of_question-requires : goal.of_question-requires
+of_question-requires c =
+    let q = asked c.in_ok-question.question in
+    let derived = same_answer AnswersQuestion c.from_utf8_unchecked-text.result.now c.args.bytes.now c.deref.result.now c.in_ok-tokens.tokens.items (Ok q)
+    c.from_utf8_unchecked-text.ensures c.deref.ensures.value c.in_ok-question.ensures in
+    read_in_order c.args.bytes.now c.in_ok-tokens.tokens.items q c.in_ok-tokens.ensures.spans derived
+
+pub returns-clause-question : goal.returns-clause-question
+returns-clause-question c =
+    let q = asked c.in_ok-question.question in
+    let derived = same_answer AnswersQuestion c.from_utf8_unchecked-text.result.now c.args.bytes.now c.deref.result.now c.in_ok-tokens.tokens.items (Ok q)
+    c.from_utf8_unchecked-text.ensures c.deref.ensures.value c.in_ok-question.ensures in
+    with_question c.args.bytes.now q c.of_question.result
+    (record { tokens = c.in_ok-tokens.tokens.items; lexes = c.in_ok-tokens.ensures.tokens; reads = derived }) c.of_question.ensures.asks
+
+pub returns-clause-fault : goal.returns-clause-fault
+returns-clause-fault c =
+    let q = asked c.in_ok-question.question in
+    let derived = same_answer AnswersQuestion c.from_utf8_unchecked-text.result.now c.args.bytes.now c.deref.result.now c.in_ok-tokens.tokens.items (Ok q)
+    c.from_utf8_unchecked-text.ensures c.deref.ensures.value c.in_ok-question.ensures in
+    with_fault c.args.bytes.now q c.of_question.result
+    (record { tokens = c.in_ok-tokens.tokens.items; lexes = c.in_ok-tokens.ensures.tokens; reads = derived }) c.of_question.ensures.fault

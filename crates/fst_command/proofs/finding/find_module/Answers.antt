@@ -1,23 +1,26 @@
-use Rattle.std.proofs.Common.{Ok, Err, refl}
-use Rattle.fst_terms.specs.ModuleTree.{declarations}
+use Rattle.std.proofs.Common.{Ok, Err}
+use Rattle.fst_terms.specs.ModuleView.{declarations}
 use Rattle.fst_syntax.specs.Derives.{AnswersModule}
-use Rattle.fst_command.specs.Finding.{shown, reading}
-use Rattle.fst_command.proofs.FindingLaws.{without_tokens, without_reading, same_answer}
+use Rattle.fst_command.specs.Finding.{IsNoModule}
+use Rattle.fst_command.proofs.FindingLaws.{lexical_unread, syntax_unread, same_answer}
 use Rattle.fst_command.proofs.finding.find_module.Goals as goal
 
-pub returns-in-Err : goal.returns-in-Err
-returns-in-Err c = without_tokens AnswersModule shown c.args.bytes.now c.in-Err.fault c.in_ok-lexical-in-Err.field-0 c.in-Err.ensures.fault c.in_ok-lexical-in-Err.ensures
+pub returns-in_err-tokens-clause-fault : goal.returns-in_err-tokens-clause-fault
+returns-in_err-tokens-clause-fault c =
+    lexical_unread AnswersModule (IsNoModule c.args.bytes.now) c.args.bytes.now (λ f u. u) c.in_err-tokens.field-0.0 c.from_residual.result
+    c.from_residual.ensures.1 c.in_err-tokens.ensures.fault
 
-pub returns-in-Ok-read_module : goal.returns-in-Ok-read_module
-returns-in-Ok-read_module c =
-    let cases = rw c.unwrap-text.ensures at c.from_utf8.ensures.cases in
-    let ds = declarations c.in-Ok-read_module.module in
-    let derived = same_answer AnswersModule shown c.unwrap-text.result.now c.args.bytes.now c.deref.result.now c.in-Ok.tokens.items (Ok ds) cases.0 c.deref.ensures.value c.in-Ok-read_module.ensures in
-    reading c.in-Ok.tokens.items ds c.in-Ok.ensures.tokens derived refl
+pub returns-in_err-read_module-clause-fault : goal.returns-in_err-read_module-clause-fault
+returns-in_err-read_module-clause-fault c =
+    let e = c.in_err-read_module.field-0.0 in
+    let refused = same_answer AnswersModule c.from_utf8_unchecked-text.result.now c.args.bytes.now c.deref.result.now c.in_ok-tokens.tokens.items (Err e)
+    c.from_utf8_unchecked-text.ensures c.deref.ensures.value c.in_err-read_module.ensures in
+    syntax_unread AnswersModule (IsNoModule c.args.bytes.now) c.args.bytes.now (λ f u. u) c.in_ok-tokens.tokens.items e c.from_residual-in_err-read_module.result
+    c.from_residual-in_err-read_module.ensures.1 c.in_ok-tokens.ensures.tokens refused
 
-pub returns : goal.returns
-returns c =
-    let cases = rw c.unwrap-text.ensures at c.from_utf8.ensures.cases in
-    let e = c.in-Err-read_module.fault in
-    let refused = same_answer AnswersModule shown c.unwrap-text.result.now c.args.bytes.now c.deref.result.now c.in-Ok.tokens.items (Err e) cases.0 c.deref.ensures.value c.in-Err-read_module.ensures in
-    without_reading AnswersModule shown c.args.bytes.now c.in-Ok.tokens.items e c.in_ok-syntactic-in-Err-read_module.field-0 c.in-Ok.ensures.tokens refused c.in_ok-syntactic-in-Err-read_module.ensures
+pub returns-clause-module : goal.returns-clause-module
+returns-clause-module c =
+    let ds = declarations c.in_ok-read_module.field-0 in
+    let derived = same_answer AnswersModule c.from_utf8_unchecked-text.result.now c.args.bytes.now c.deref.result.now c.in_ok-tokens.tokens.items (Ok ds)
+    c.from_utf8_unchecked-text.ensures c.deref.ensures.value c.in_ok-read_module.ensures in
+    record { tokens = c.in_ok-tokens.tokens.items; lexes = c.in_ok-tokens.ensures.tokens; reads = derived }

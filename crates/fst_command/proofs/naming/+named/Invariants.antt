@@ -1,5 +1,5 @@
 use Rattle.std.proofs.Common.{◌+◌, ◌*◌}
-use Rattle.fst_types.specs.WrittenView.{written_branches}
+use Rattle.fst_types.specs.ModelWrittenView.{written_branches}
 use Rattle.fst_terms.specs.Naming.{nodes, nodes_in}
 use Rattle.fst_command.proofs.naming.+named.Given as goal
 

@@ -1,6 +1,6 @@
 use Rattle.std.proofs.Common.{◌≡◌, ◌+◌, ◌*◌, ◌-◌, ◌^◌, ◌<◌, min, drop}
-use Rattle.fst_types.specs.WrittenTree.{height, height_all}
-use Rattle.fst_types.specs.WrittenView.{written_branches}
+use Rattle.fst_types.specs.ModelWrittenHeight.{height, height_all}
+use Rattle.fst_types.specs.ModelWrittenView.{written_branches}
 use Rattle.fst_terms.specs.Naming.{nodes_in}
 use Rattle.fst_command.proofs.naming.+nodes.Given as goal
 

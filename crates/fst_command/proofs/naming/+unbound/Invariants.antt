@@ -1,6 +1,6 @@
 use Rattle.std.proofs.Common.{◌≡◌, ◌+◌, ◌*◌, drop}
-use Rattle.fst_types.specs.WrittenTree.{height, height_all}
-use Rattle.fst_types.specs.WrittenView.{written_branches}
+use Rattle.fst_types.specs.ModelWrittenHeight.{height, height_all}
+use Rattle.fst_types.specs.ModelWrittenView.{written_branches}
 use Rattle.fst_terms.specs.Naming.{unbound_in}
 use Rattle.fst_command.specs.Scopes.{names_of, scope_of}
 use Rattle.fst_command.proofs.naming.+unbound.Given as goal

@@ -1,6 +1,6 @@
 use Rattle.std.proofs.Common.{◌+◌, ◌*◌}
 use Rattle.fst_types.specs.Size.{nodes, nodes_all}
-use Rattle.fst_types.specs.View.{branches_of}
+use Rattle.fst_types.specs.ModelView.{branches_of}
 use Rattle.fst_grammar.proofs.numbers.+number.Given as goal
 
 abbrev pub decreases-number_of : goal.decreases-number_of

@@ -1,7 +1,7 @@
 use Rattle.std.proofs.Common.{◌≡◌, ◌+◌, ◌*◌, ◌^◌, ◌<◌, drop, map}
 use Rattle.fst_types.specs.Height.{height, height_all}
 use Rattle.fst_types.specs.Size.{nodes_all}
-use Rattle.fst_types.specs.View.{branches_of}
+use Rattle.fst_types.specs.ModelView.{branches_of}
 use Rattle.fst_grammar.specs.Shapes.{shape_of_all}
 use Rattle.fst_grammar.specs.Keys.{Stands}
 use Rattle.fst_grammar.specs.Parts.{parts_all, with_parts}

@@ -1,5 +1,5 @@
 use Rattle.std.proofs.Common.{◌∙◌, ◌<◌, sym, ap, arith, rules, length}
-use Rattle.fst_grammar.specs.Rules.{carried}
+use Rattle.fst_grammar.specs.Rules.{rules_before}
 use Rattle.fst_grammar.specs.Equations.{like}
 use Rattle.fst_grammar.specs.Views.{equation_of}
 use Rattle.fst_grammar.proofs.HeadLaws.{led, like_row}
@@ -36,5 +36,5 @@ returns-in_ok-extend_from_slice-in-Like t c =
     record {
       rules = λ rows s.
           like_row c.args.equations.now c.args.z c.index-equations-z.result w c.in_ok-head-in-Like.head.rest.items c.in_ok-head-in-Like.head.rules.now rows s c.requires.within c.index-equations-z.is is h.some (c.in_ok-head-in-Like.ensures.rules rows s)
-          ∙ ap (λ d. carried d c.in_ok-head-in-Like.head.rules.now) (sym c.in_ok-extend_from_slice-in-Like.ensures.items);
+          ∙ ap (λ d. rules_before d c.in_ok-head-in-Like.head.rules.now) (sym c.in_ok-extend_from_slice-in-Like.ensures.items);
     }

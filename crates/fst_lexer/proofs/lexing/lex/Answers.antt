@@ -2,6 +2,7 @@ use Rattle.std.proofs.Common.{rules, length, arith, sym, subst, ap, ◌∙◌}
 use Rattle.std.specs.Str.{IsUtf8}
 use Rattle.fst_lexer.proofs.PlaceLaws.{few_places}
 use Rattle.fst_lexer.proofs.SpanLaws.{ok_spans}
+use Rattle.fst_lexer.proofs.FirstLaws.{ok_lines}
 use Rattle.fst_lexer.proofs.lexing.lex.Goals as goal
 
 pub lex_placed-requires : goal.lex_placed-requires
@@ -11,3 +12,6 @@ lex_placed-requires c =
 
 pub returns-in_ok-placed-in-Ok-clause-spans : goal.returns-in_ok-placed-in-Ok-clause-spans
 returns-in_ok-placed-in-Ok-clause-spans c = ok_spans c.args.bytes.now c.lex_placed.result (search rules)
+
+pub returns-in_ok-placed-in-Ok-clause-lines : goal.returns-in_ok-placed-in-Ok-clause-lines
+returns-in_ok-placed-in-Ok-clause-lines c = ok_lines c.args.bytes.now c.lex_placed.result (search rules)

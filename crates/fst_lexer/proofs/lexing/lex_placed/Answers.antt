@@ -1,11 +1,11 @@
 use Rattle.std.proofs.Common.{◌<◌, true, length, arith, rules, sym, subst}
 use Rattle.std.proofs.lemmas.Result.{err_from_is_err_and}
-use Rattle.fst_lexer.specs.Tokens.{Lexed, start}
+use Rattle.fst_lexer.specs.Tokens.{LexesTo, start}
 use Rattle.fst_lexer.proofs.StepLaws.{goes_on, bad_char, bad_piece}
 use Rattle.fst_lexer.proofs.lexing.lex_placed.Goals as goal
 
 pub loop-rest-init : goal.loop-rest-init
-loop-rest-init c = (subst (λ ts. Lexed c.args.text.now ts true c.args.text.now) (sym c.new-tokens.ensures.items) start, omega arith)
+loop-rest-init c = (subst (λ ts. LexesTo c.args.text.now ts true c.args.text.now) (sym c.new-tokens.ensures.items) start, omega arith)
 
 pub returns-in_default-clause-fault : goal.returns-in_default-clause-fault
 returns-in_default-clause-fault c =

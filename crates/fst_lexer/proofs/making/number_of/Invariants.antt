@@ -1,5 +1,5 @@
 use Rattle.std.proofs.Common.{◌≡◌, ◌≤◌, drop}
-use Rattle.fst_lexer.specs.Limits.{greatest_number}
+use Rattle.fst_base.specs.Limits.{greatest_number}
 use Rattle.fst_lexer.specs.Tokens.{value_from}
 use Rattle.fst_lexer.proofs.making.number_of.Given as goal
 

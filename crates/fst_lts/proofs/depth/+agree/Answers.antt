@@ -1,7 +1,7 @@
 use Rattle.std.proofs.Common.{rules, ◌≡◌, ◌∙◌, ◌-◌, suc, subst, arith, ◌↔◌}
 use Rattle.std.specs.Prelude.{IfOk, IsTrue, All}
 use Rattle.fst_lts.specs.Step.{step}
-use Rattle.fst_lts.specs.Agree.{AgreeTo}
+use Rattle.fst_base.specs.Agreement.{AgreeTo}
 use Rattle.fst_lts.proofs.DepthLaws.{AgreeAfter, deeper_from_labels}
 use Rattle.fst_lts.proofs.depth.+agree.Goals as goal
 

@@ -1,7 +1,7 @@
 use Rattle.std.proofs.Common.{◌+◌, ◌*◌, ℕ, ◌<◌, get_or}
 use Rattle.fst_types.specs.declared.label.Label.{Label}
 use Rattle.fst_lts.specs.Step.{step}
-use Rattle.fst_lts.specs.Agree.{AgreeTo, BothOrNeither}
+use Rattle.fst_base.specs.Agreement.{AgreeTo, BothOrNeither}
 use Rattle.fst_lts.proofs.depth.+agree.Given as goal
 
 abbrev pub invariant-agree_after_all-loop-label : goal.invariant-agree_after_all-loop-label

@@ -1,6 +1,6 @@
 use Rattle.std.proofs.Common.{◌≡◌, ◌+◌, ◌*◌, take, map}
 use Rattle.fst_types.specs.Height.{height, height_all}
-use Rattle.fst_types.specs.View.{branches_of}
+use Rattle.fst_types.specs.ModelView.{branches_of}
 use Rattle.fst_lts.specs.Dual.{dual_branch}
 use Rattle.fst_lts.proofs.duality.+dual.Given as goal
 

@@ -1,5 +1,5 @@
 use Rattle.std.proofs.Common.{◌≡◌, drop}
-use Rattle.fst_types.specs.View.{branches_of}
+use Rattle.fst_types.specs.ModelView.{branches_of}
 use Rattle.fst_types.specs.declared.label.Label.TheVariants.{Offer}
 use Rattle.fst_lts.specs.Step.{branch_at}
 use Rattle.fst_lts.proofs.moves.offer_branch.Given as goal

@@ -1,4 +1,4 @@
-use Rattle.std.proofs.Common.{◌≡◌, ◌∙◌, sym, map, ap, length, arith, ℕ}
+use Rattle.std.proofs.Common.{◌≡◌, ◌∙◌, map, ap, length, arith}
 use Rattle.std.specs.Prelude.{is_none}
 use Rattle.std.proofs.lemmas.List.{length-map}
 use Rattle.fst_norms.proofs.PruneLaws.{marked, unmarked, unnormed_set, largest}

@@ -1,9 +1,8 @@
-use Rattle.std.proofs.Common.{◌≡◌, ◌<◌, List, [], arith, length, sym, ◌∙◌, below_more, ap, None}
+use Rattle.std.proofs.Common.{◌≡◌, arith, sym, ◌∙◌, below_more, ap, None}
 use Rattle.std.proofs.lemmas.List.{get_or_read}
 use Rattle.std.proofs.lemmas.Grind.{common_steps}
 use Rattle.fst_words.specs.Words.{row_of}
-use Rattle.fst_words.specs.declared.rules.Rule.{Rule}
-use Rattle.fst_norms.specs.Bounds.{IsSound, IsSettledAt, best_bound, bound_at, weight}
+use Rattle.fst_norms.specs.Bounds.{IsSettledAt, best_bound, bound_at, weight}
 use Rattle.fst_norms.proofs.NormLaws.{improved_sound}
 use Rattle.fst_norms.proofs.rounds.improve.Goals as goal
 use Rattle.fst_norms.proofs.rounds.improve.Goals.{then-weight, else-weight}

@@ -1,4 +1,4 @@
-use Rattle.std.proofs.Common.{◌≡◌, ◌+◌, ◌<◌, ◌≤◌, ℕ, length, cond, Bool, true, false}
+use Rattle.std.proofs.Common.{◌≡◌, ◌+◌, ◌<◌, ◌≤◌, ℕ, length, cond, false}
 use Rattle.std.specs.Prelude.{sum_by}
 use Rattle.fst_norms.specs.Bounds.{IsSound, IsSettledAt, weight}
 use Rattle.fst_norms.proofs.rounds.improve.Given as goal

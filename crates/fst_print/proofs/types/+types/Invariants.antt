@@ -2,7 +2,7 @@ use Rattle.std.proofs.Common.{◌≡◌, ◌+◌, ◌*◌, ◌≤◌, ◌++◌, 
 use Rattle.std.specs.Prelude.{codes, max}
 use Rattle.std.specs.String.{string_bytes}
 use Rattle.fst_types.specs.Height.{height, height_all}
-use Rattle.fst_types.specs.View.{branches_of}
+use Rattle.fst_types.specs.ModelView.{branches_of}
 use Rattle.fst_print.specs.Texts.{branch_texts, family_names, separated_text}
 use Rattle.fst_print.proofs.types.+types.Given as goal
 

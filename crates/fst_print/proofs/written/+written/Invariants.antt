@@ -1,8 +1,8 @@
 use Rattle.std.proofs.Common.{◌≡◌, ◌+◌, ◌*◌, ◌++◌, drop}
 use Rattle.std.specs.Prelude.{codes, max}
 use Rattle.std.specs.String.{string_bytes}
-use Rattle.fst_types.specs.WrittenTree.{height, height_all}
-use Rattle.fst_types.specs.WrittenView.{written_branches}
+use Rattle.fst_types.specs.ModelWrittenHeight.{height, height_all}
+use Rattle.fst_types.specs.ModelWrittenView.{written_branches}
 use Rattle.fst_print.specs.ModuleTexts.{written_branch_texts}
 use Rattle.fst_print.specs.Texts.{separated_text}
 use Rattle.fst_print.proofs.written.+written.Given as goal

@@ -1,9 +1,9 @@
 use Rattle.std.proofs.Common.{◌∙◌, ◌∷◌, refl, sym, length, codes}
 use Rattle.std.proofs.lemmas.Result.{err_from_is_err_and}
-use Rattle.fst_type_syntax.specs.Lexeme.{spells}
-use Rattle.fst_type_syntax.specs.Reading.{andthen, word}
+use Rattle.fst_reading.specs.Lexeme.{spells}
+use Rattle.fst_reading.specs.Reading.{andthen, word}
 use Rattle.fst_syntax.specs.TermReading.{inside, expr_at, type_atom_with, applied_with}
-use Rattle.fst_syntax.proofs.Manys.{begins_empty, goes_on, stops, runs_out, fails}
+use Rattle.fst_reading.proofs.ManyLoops.{begins_empty, goes_on, stops, runs_out, fails}
 use Rattle.fst_syntax.proofs.applied.applied.Goals as goal
 
 pub loop-init : goal.loop-init

@@ -1,7 +1,7 @@
 use Rattle.std.proofs.Common.{◌≡◌, ◌∷◌, ◌-◌, length, codes}
-use Rattle.fst_type_syntax.specs.Lexeme.{spells}
-use Rattle.fst_type_syntax.specs.Reading.{andthen, word, many_within}
-use Rattle.fst_type_syntax.proofs.Loops.{with_front}
+use Rattle.fst_reading.specs.Lexeme.{spells}
+use Rattle.fst_reading.specs.Reading.{andthen, word, many_within}
+use Rattle.fst_reading.proofs.Loops.{with_front}
 use Rattle.fst_syntax.specs.TermReading.{inside, expr_at, type_atom_with}
 use Rattle.fst_syntax.proofs.applied.applied.Given as goal
 

@@ -1,8 +1,8 @@
 use Rattle.std.proofs.Common.{◌∙◌, refl, sym, length}
 use Rattle.std.proofs.lemmas.Result.{err_from_is_err_and}
 use Rattle.fst_type_syntax.specs.TypeReading.{starts_type_atom, atom_with, seq_at, type_at}
-use Rattle.fst_syntax.specs.TermReading.{fields_at}
-use Rattle.fst_syntax.proofs.Manys.{begins_empty, goes_on, stops, runs_out, fails}
+use Rattle.fst_syntax.specs.DeclReading.{fields_at}
+use Rattle.fst_reading.proofs.ManyLoops.{begins_empty, goes_on, stops, runs_out, fails}
 use Rattle.fst_syntax.proofs.decls.fields.Goals as goal
 
 pub loop-init : goal.loop-init

@@ -1,7 +1,7 @@
 use Rattle.std.proofs.Common.{◌≡◌, ◌-◌, length}
-use Rattle.fst_type_syntax.specs.Reading.{many_within}
+use Rattle.fst_reading.specs.Reading.{many_within}
 use Rattle.fst_type_syntax.specs.TypeReading.{starts_type_atom, atom_with, seq_at, type_at}
-use Rattle.fst_type_syntax.proofs.Loops.{with_front}
+use Rattle.fst_reading.proofs.Loops.{with_front}
 use Rattle.fst_syntax.proofs.decls.fields.Given as goal
 
 abbrev pub invariant-loop : goal.invariant-loop

@@ -2,9 +2,9 @@ use Rattle.std.proofs.Common.{◌∙◌, refl, sym, ap, length, map, codes}
 use Rattle.std.proofs.lemmas.Result.{err_from_is_err_and}
 use Rattle.std.proofs.lemmas.List.{map-append}
 use Rattle.fst_terms.specs.ModuleTree.{maker}
-use Rattle.fst_type_syntax.specs.Lexeme.{spells}
-use Rattle.fst_type_syntax.proofs.Loops.{begins_empty, goes_on, stops, runs_out, fails}
-use Rattle.fst_syntax.specs.TermReading.{maker_at}
+use Rattle.fst_reading.specs.Lexeme.{spells}
+use Rattle.fst_reading.proofs.Loops.{begins_empty, goes_on, stops, runs_out, fails}
+use Rattle.fst_syntax.specs.DeclReading.{maker_at}
 use Rattle.fst_syntax.proofs.decls.makers.Goals as goal
 
 pub loop-init : goal.loop-init

@@ -1,9 +1,9 @@
 use Rattle.std.proofs.Common.{◌≡◌, ◌-◌, length, map, codes}
 use Rattle.fst_terms.specs.ModuleTree.{maker}
-use Rattle.fst_type_syntax.specs.Lexeme.{spells}
-use Rattle.fst_type_syntax.specs.Reading.{separated_within}
-use Rattle.fst_type_syntax.proofs.Loops.{with_front}
-use Rattle.fst_syntax.specs.TermReading.{maker_at}
+use Rattle.fst_reading.specs.Lexeme.{spells}
+use Rattle.fst_reading.specs.Reading.{separated_within}
+use Rattle.fst_reading.proofs.Loops.{with_front}
+use Rattle.fst_syntax.specs.DeclReading.{maker_at}
 use Rattle.fst_syntax.proofs.decls.makers.Given as goal
 
 abbrev pub invariant-loop : goal.invariant-loop

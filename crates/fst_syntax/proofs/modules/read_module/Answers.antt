@@ -3,6 +3,7 @@ use Rattle.std.proofs.lemmas.List.{map-append}
 use Rattle.std.proofs.lemmas.Result.{err_from_is_err_and}
 use Rattle.fst_terms.specs.ModuleTree.{declared}
 use Rattle.fst_syntax.proofs.ModuleAnswers.{refused, further, finished}
+use Rattle.fst_syntax.proofs.ModuleFacts.{read_filled, read_few}
 use Rattle.fst_syntax.proofs.modules.read_module.Goals as goal
 
 pub returns-in_err-decl : goal.returns-in_err-decl
@@ -28,6 +29,14 @@ loop-from-preserved c =
     let given = rw c.deref.ensures.value at c.in_ok-decl.ensures in
     let f = further c.args.text.now c.args.tokens.now c.in_ok-lexemes.lexemes.items (map declared c.loop-from.decls.items) c.loop-from.from c.in_ok-lexemes.ensures c.loop-from.invariant.read c.in_ok-decl.decl c.in_ok-decl.count given in
     record { within = f.0; read = rw (ap (map declared) c.in_ok-push.ensures.items ∙ map-append declared c.loop-from.decls.items _) f.2 }
+
+pub invariant_of-result : goal.invariant_of-result
+invariant_of-result c =
+    let answer = finished c.args.text.now c.args.tokens.now c.in_ok-lexemes.lexemes.items (map declared c.loop-from.decls.items) c.loop-from.from c.in_ok-lexemes.ensures c.loop-from.invariant.read (omega (arith, c.loop-from-test.false, c.len.ensures)) in
+    record {
+      filled = read_filled c.args.text.now c.args.tokens.now (map declared c.loop-from.decls.items) answer;
+      few = read_few c.args.text.now c.args.tokens.now (map declared c.loop-from.decls.items) c.requires.spans c.requires.size answer;
+    }
 
 pub returns : goal.returns
 returns c =

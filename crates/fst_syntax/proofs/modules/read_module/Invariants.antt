@@ -1,6 +1,6 @@
 use Rattle.std.proofs.Common.{◌≡◌, ◌-◌, ◌≤◌, length, drop, map}
 use Rattle.fst_terms.specs.ModuleTree.{declared}
-use Rattle.fst_type_syntax.specs.Limits.{most_nested}
+use Rattle.fst_base.specs.Limits.{most_nested}
 use Rattle.fst_syntax.specs.ModuleReading.{module_at}
 use Rattle.fst_syntax.specs.Views.{lines_of}
 use Rattle.fst_syntax.proofs.LineReads.{with_decls}

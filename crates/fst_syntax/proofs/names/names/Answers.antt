@@ -1,10 +1,10 @@
 use Rattle.std.proofs.Common.{◌∙◌, refl, sym, length}
 use Rattle.std.proofs.lemmas.Result.{err_from_is_err_and}
-use Rattle.fst_type_syntax.specs.Reading.{one, mapped}
-use Rattle.fst_type_syntax.specs.TypeReading.{lower_of}
+use Rattle.fst_reading.specs.Reading.{one, mapped}
+use Rattle.fst_reading.specs.Lexeme.{lower_of}
 use Rattle.fst_syntax.specs.Grammar.{bound}
 use Rattle.fst_syntax.specs.TermReading.{is_lower, names}
-use Rattle.fst_syntax.proofs.Manys.{begins_empty, goes_on, stops, runs_out, fails}
+use Rattle.fst_reading.proofs.ManyLoops.{begins_empty, goes_on, stops, runs_out, fails}
 use Rattle.fst_syntax.proofs.names.names.Goals as goal
 
 pub loop-init : goal.loop-init

@@ -1,7 +1,7 @@
 use Rattle.std.proofs.Common.{◌≡◌, ◌-◌, length}
-use Rattle.fst_type_syntax.specs.Reading.{one, mapped, many_within}
-use Rattle.fst_type_syntax.specs.TypeReading.{lower_of}
-use Rattle.fst_type_syntax.proofs.Loops.{with_front}
+use Rattle.fst_reading.specs.Reading.{one, mapped, many_within}
+use Rattle.fst_reading.specs.Lexeme.{lower_of}
+use Rattle.fst_reading.proofs.Loops.{with_front}
 use Rattle.fst_syntax.specs.Grammar.{bound}
 use Rattle.fst_syntax.specs.TermReading.{is_lower}
 use Rattle.fst_syntax.proofs.names.names.Given as goal

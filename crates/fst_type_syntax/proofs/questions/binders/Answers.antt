@@ -1,8 +1,8 @@
 use Rattle.std.proofs.Common.{◌∙◌, refl, sym, length, codes}
 use Rattle.std.proofs.lemmas.Result.{err_from_is_err_and}
-use Rattle.fst_type_syntax.specs.Lexeme.{spells}
+use Rattle.fst_reading.specs.Lexeme.{spells}
 use Rattle.fst_type_syntax.specs.TypeReading.{binder_at}
-use Rattle.fst_type_syntax.proofs.Loops.{begins_empty, goes_on, stops, runs_out, fails}
+use Rattle.fst_reading.proofs.Loops.{begins_empty, goes_on, stops, runs_out, fails}
 use Rattle.fst_type_syntax.proofs.questions.binders.Goals as goal
 
 pub loop-init : goal.loop-init

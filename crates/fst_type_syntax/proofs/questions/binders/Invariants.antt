@@ -1,8 +1,8 @@
 use Rattle.std.proofs.Common.{◌≡◌, ◌-◌, length, codes}
-use Rattle.fst_type_syntax.specs.Lexeme.{spells}
-use Rattle.fst_type_syntax.specs.Reading.{separated_within}
+use Rattle.fst_reading.specs.Lexeme.{spells}
+use Rattle.fst_reading.specs.Reading.{separated_within}
 use Rattle.fst_type_syntax.specs.TypeReading.{binder_at}
-use Rattle.fst_type_syntax.proofs.Loops.{with_front}
+use Rattle.fst_reading.proofs.Loops.{with_front}
 use Rattle.fst_type_syntax.proofs.questions.binders.Given as goal
 
 abbrev pub invariant-loop : goal.invariant-loop

@@ -1,10 +1,10 @@
 use Rattle.std.proofs.Common.{◌∙◌, refl, sym, ap, length, map, codes}
 use Rattle.std.proofs.lemmas.Result.{err_from_is_err_and}
 use Rattle.std.proofs.lemmas.List.{map-append}
-use Rattle.fst_type_syntax.specs.Lexeme.{spells}
+use Rattle.fst_reading.specs.Lexeme.{spells}
 use Rattle.fst_type_syntax.specs.TypeReading.{alt_with, seq_at, type_at}
-use Rattle.fst_type_syntax.specs.Gives.{labelled}
-use Rattle.fst_type_syntax.proofs.Loops.{begins_empty, goes_on, stops, runs_out, fails}
+use Rattle.fst_type_syntax.specs.Views.{labelled}
+use Rattle.fst_reading.proofs.Loops.{begins_empty, goes_on, stops, runs_out, fails}
 use Rattle.fst_type_syntax.proofs.types.+reader.Goals as goal
 
 pub alts-loop-init : goal.alts-loop-init

@@ -1,9 +1,9 @@
 use Rattle.std.proofs.Common.{◌≡◌, ◌+◌, ◌-◌, ◌*◌, length, map, codes}
-use Rattle.fst_type_syntax.specs.Lexeme.{spells}
-use Rattle.fst_type_syntax.specs.Reading.{separated_within}
+use Rattle.fst_reading.specs.Lexeme.{spells}
+use Rattle.fst_reading.specs.Reading.{separated_within}
 use Rattle.fst_type_syntax.specs.TypeReading.{alt_with, seq_at, type_at}
-use Rattle.fst_type_syntax.specs.Gives.{labelled}
-use Rattle.fst_type_syntax.proofs.Loops.{with_front}
+use Rattle.fst_type_syntax.specs.Views.{labelled}
+use Rattle.fst_reading.proofs.Loops.{with_front}
 use Rattle.fst_type_syntax.proofs.types.+reader.Given as goal
 
 abbrev pub decreases-seq : goal.decreases-seq

@@ -1,8 +1,6 @@
-use Rattle.std.proofs.Common.{◌≡◌, ◌∙◌, sym, ap, rules, arith, Some, get_or, []}
-use Rattle.std.proofs.lemmas.List.{get_or_read}
+use Rattle.std.proofs.Common.{◌∙◌, sym, ap, rules, Some, []}
 use Rattle.std.proofs.lemmas.List.Sorted.{answers_always}
 use Rattle.fst_words.specs.declared.rules.Rule.{Rule}
-use Rattle.fst_words.specs.Words.{rule_of}
 use Rattle.fst_words.proofs.RuleLaws.{searched}
 use Rattle.fst_words.proofs.rules.Rules.word_for.Goals as goal
 

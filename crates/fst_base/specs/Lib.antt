@@ -1,0 +1,4 @@
+pub mod Limits
+pub mod Agreement
+pub mod Order
+pub mod Choice

@@ -1,0 +1,8 @@
+//! What every crate stands on: the limits of the language, and what is said of whatever moves by labels.
+#![tactic(auto)]
+
+mod limits;
+
+pub use limits::{
+    GREATEST_NORM, GREATEST_NUMBER, LONGEST_NAME, MOST_BYTES, MOST_LETTERS, MOST_NESTED, MOST_NODES,
+};

@@ -1,7 +1,0 @@
--- A choice by a test.
-use Rattle.std.specs.Prelude.{Bool, true, false}
-
--- one of two, by a test
-unfoldable pub choose : {A : Type 0} → Bool → A → A → A
-choose true x y = x
-choose false x y = y

@@ -1,0 +1,269 @@
+//! The program over ends in memory.
+
+use crate::ends::{shown, sink_of, source_of};
+use crate::tables::{each_line, each_pair};
+use fst_command::{Status, top};
+use fst_io::{OpenGate, OutputSink, SteadySink, SteadySource};
+use std::alloc::{AllocError, Global};
+use std::io;
+use std::io::Write;
+use std::test::Fail;
+
+fn words(alloc: Global, text: &str) -> Result<Vec<String>, AllocError> {
+    let mut list = Vec::new(alloc);
+    for word in text.split_whitespace() {
+        list.push(String::from_str(alloc, word)?)?;
+    }
+    Ok(list)
+}
+
+/// The status that a text is written with.
+fn number_of(text: &str) -> u8 {
+    if text.starts_with("refused") {
+        1
+    } else if text.starts_with("usage") {
+        2
+    } else if text.starts_with("undecided") {
+        5
+    } else if text.starts_with("limit") {
+        8
+    } else {
+        0
+    }
+}
+
+/// What is written for words and an input, which is read as far as the words want it.
+pub(crate) fn answer(alloc: Global, command: &str, input: &[u8]) -> Result<String, Fail> {
+    let mut source = SteadySource {
+        bytes: input.to_vec(alloc)?,
+        next: 0,
+    };
+    let mut sink = SteadySink {
+        bytes: Vec::new(alloc),
+    };
+    let words = words(alloc, command)?;
+    let status = top(&(), alloc, &words, &mut source, &mut sink, &OpenGate);
+    let text = shown(&sink.bytes)?;
+    let wanted = if status == Status::Words {
+        0
+    } else {
+        input.len()
+    };
+    if status.number() != number_of(text) || source.next != wanted {
+        return Err(Fail::new("another status, or not all is read"));
+    }
+    Ok(String::from_str(alloc, text)?)
+}
+
+/// What is written for the words in front of ` ¦ ` and the input behind it; a module's text is written again.
+pub(crate) fn program_row(alloc: Global, given: &str) -> Result<String, Fail> {
+    let (command, input) = given.split_once(" ¦ ").ok_or("no input")?;
+    let text = answer(alloc, command, input.as_bytes())?;
+    if command == "show" && number_of(&text) == 0 {
+        return answer(alloc, command, text.as_str().as_bytes());
+    }
+    Ok(text)
+}
+
+// The words and the input, and what is written.
+const ROWS: [(&str, &str); 18] = [
+    // swap-skip, send-is-not-receive, choice-distributes
+    ("equiv ¦ Skip;!Int ~ !Int;Skip", "yes\n"),
+    ("equiv ¦ !Int ~ ?Int", "no !Int left\n"),
+    (
+        "equiv ¦ +{A:!Int,B:Skip};?Bool ~ +{B:?Bool,A:!Int;?Bool}",
+        "yes\n",
+    ),
+    // unrolled-stream, and types that differ only in how often they go on
+    ("equiv ¦ (rec x.!Int;x);?Bool ~ rec y.!Int;!Int;y", "yes\n"),
+    (
+        "equiv ¦ (rec x.+{L:Skip,N:!Int;x;x});!Bool ~ (rec y.+{L:Skip,N:!Int;y;y;Skip});!Bool",
+        "undecided 1000\n",
+    ),
+    // nested-difference
+    (
+        "equiv ¦ rec x.+{A:x;!Int,B:Skip} ~ rec x.+{A:x;!Bool,B:Skip}",
+        "no +A +B !Int left\n",
+    ),
+    (
+        "equiv --budget 4 ¦ rec x.+{A:x;!Int,B:Skip} ~ rec x.+{A:x;!Bool,B:Skip}",
+        "no +A +B !Int left\n",
+    ),
+    (
+        "equiv --budget=3 ¦ rec x.+{A:x;!Int,B:Skip} ~ rec x.+{A:x;!Bool,B:Skip}",
+        "undecided 3\n",
+    ),
+    // kinds-of-questions
+    (
+        "equiv ¦ rec x.Skip;x ~ Skip",
+        "refused 1:1 not contractive\n",
+    ),
+    ("equiv ¦ Int ~ Int", "refused 1:1 kind *T wanted 1S\n"),
+    (
+        "equiv ¦ +{A:Skip,A:Skip} ~ Skip",
+        "refused 1:1 double label A\n",
+    ),
+    // empty-and-long
+    ("equiv ¦ ", "refused 1:1 syntax\n"),
+    ("show ¦ ", ""),
+    // cut-match
+    (
+        "show ¦ main : Int\nmain = match c with {A x",
+        "refused 2:25 syntax\n",
+    ),
+    // canonical-show
+    (
+        "show ¦ f:(!Int;(?Bool;Skip))->((Skip))\nf c=(f) (c)\n",
+        "f : !Int;?Bool;Skip -> Skip\nf c = f c\n",
+    ),
+    ("show ¦ data T=A Int|B -- two\n", "data T = A Int | B\n"),
+    // places behind line feeds
+    ("equiv ¦ !Int ~\n rec x.y", "refused 2:8 unbound y\n"),
+    (
+        "show ¦ main : Int\nmain = 9223372036854775808",
+        "refused 2:8 number too wide\n",
+    ),
+];
+
+#[test]
+fn inputs_are_answered(rt: HostRuntime) -> Result<(), Fail> {
+    each_pair(&rt, rt.alloc(), &ROWS, program_row)
+}
+
+// Words of no command; the usage is written.
+const OTHER_WORDS: &str = "\
+help = usage: freest equiv|show|check|run|make
+ = usage: freest equiv|show|check|run|make
+--version = usage: freest equiv|show|check|run|make
+run = usage: freest equiv|show|check|run|make
+Equiv = usage: freest equiv|show|check|run|make
+equiv equiv = usage: freest equiv|show|check|run|make
+equiv 5 = usage: freest equiv|show|check|run|make
+equiv --budget = usage: freest equiv|show|check|run|make
+equiv --budget= = usage: freest equiv|show|check|run|make
+equiv --budget 0 = usage: freest equiv|show|check|run|make
+equiv --budget=000000000 = usage: freest equiv|show|check|run|make
+equiv --budget=10001 = usage: freest equiv|show|check|run|make
+equiv --budget 0000010000 = usage: freest equiv|show|check|run|make
+equiv --budget +5 = usage: freest equiv|show|check|run|make
+equiv --budget -5 = usage: freest equiv|show|check|run|make
+equiv --budget=5x = usage: freest equiv|show|check|run|make
+equiv --budget=5 --budget=5 = usage: freest equiv|show|check|run|make
+equiv --budget 5 5 = usage: freest equiv|show|check|run|make
+--budget=5 equiv = usage: freest equiv|show|check|run|make
+equiv --steps=5 = usage: freest equiv|show|check|run|make
+equiv --Budget=5 = usage: freest equiv|show|check|run|make
+Show = usage: freest equiv|show|check|run|make
+show show = usage: freest equiv|show|check|run|make
+show --budget=5 = usage: freest equiv|show|check|run|make
+equiv show = usage: freest equiv|show|check|run|make";
+
+fn words_row(alloc: Global, given: &str) -> Result<String, Fail> {
+    answer(alloc, given, b"Skip ~ Skip")
+}
+
+#[test]
+fn other_words_are_refused_and_nothing_is_read(rt: HostRuntime) -> Result<(), Fail> {
+    each_line(&rt, rt.alloc(), OTHER_WORDS, words_row)
+}
+
+/// The status and the text of a question, over ends that fail.
+fn run_between(
+    alloc: Global,
+    reads: (usize, u64),
+    writes: (usize, u64),
+) -> Result<(u8, Vec<u8>), Fail> {
+    let mut source = source_of(alloc, b"Skip;!Int ~ !Int;Skip", reads.0, reads.1)?;
+    let mut sink = sink_of(alloc, writes.0, writes.1)?;
+    let words = words(alloc, "equiv")?;
+    let status = top(&(), alloc, &words, &mut source, &mut sink, &OpenGate);
+    Ok((status.number(), sink.bytes))
+}
+
+/// How many of the first 23 calls on the source fail the run where they fail; then nothing is written.
+fn reads_row(alloc: Global, given: &str) -> Result<String, Fail> {
+    let piece = given.parse::<usize>()?;
+    let mut count = 0;
+    for fail in 1..24 {
+        let (number, text) = run_between(alloc, (piece, fail), (99, 0))?;
+        if number == 6 && text.is_empty() {
+            count = fail;
+        } else if number != 0 || text.len() != 4 {
+            return Err(Fail::new("a fault without its status"));
+        }
+    }
+    Ok(format!(in alloc; "{count}")?)
+}
+
+#[test]
+fn failing_reads_write_nothing(rt: HostRuntime) -> Result<(), Fail> {
+    // how many of the 21 bytes a call gives; how many calls read them and their end
+    let table = "\
+1 = 22
+2 = 12
+4 = 7
+7 = 4";
+    each_line(&rt, rt.alloc(), table, reads_row)
+}
+
+fn writes_row(alloc: Global, given: &str) -> Result<String, Fail> {
+    let (piece, fail) = given.split_once(" ¦ ").ok_or("no call")?;
+    let writes = (piece.parse::<usize>()?, fail.parse::<u64>()?);
+    let (number, text) = run_between(alloc, (99, 0), writes)?;
+    Ok(format!(in alloc; "{number} {}", shown(&text)?)?)
+}
+
+#[test]
+fn failing_writes_leave_a_prefix(rt: HostRuntime) -> Result<(), Fail> {
+    // how many bytes a call takes and which call fails; the status, and what is written
+    let table = "\
+1 ¦ 1 = 7
+1 ¦ 3 = 7 ye
+1 ¦ 4 = 7 yes
+1 ¦ 5 = 0 yes
+2 ¦ 1 = 7
+2 ¦ 2 = 7 ye
+2 ¦ 3 = 0 yes
+7 ¦ 1 = 7
+7 ¦ 2 = 0 yes";
+    each_line(&rt, rt.alloc(), table, writes_row)
+}
+
+/// A writer whose every call answers an error.
+#[derive(Drop)]
+struct Broken;
+
+impl Write for Broken {
+    fn write(&mut self, _buf: &[u8]) -> io::Result<usize> {
+        Err(io::ErrorKind::Other.into())
+    }
+
+    fn flush(&mut self) -> io::Result<()> {
+        Ok(())
+    }
+}
+
+fn broken_row(alloc: Global, given: &str) -> Result<String, Fail> {
+    let mut source = SteadySource {
+        bytes: b"Skip ~ Skip".to_vec(alloc)?,
+        next: 0,
+    };
+    let mut sink = OutputSink::new(Broken);
+    let words = words(alloc, given)?;
+    let status = top(&(), alloc, &words, &mut source, &mut sink, &OpenGate);
+    Ok(format!(in alloc; "{status:?} {}", sink.faults)?)
+}
+
+#[test]
+fn a_broken_output_is_a_write_fault(rt: HostRuntime) -> Result<(), Fail> {
+    each_line(&rt, rt.alloc(), "equiv = WriteFault 1", broken_row)
+}
+
+#[test]
+fn statuses_have_their_numbers(rt: HostRuntime) {
+    let (done, refused, words) = (Status::Done, Status::Refused, Status::Words);
+    let (read, write) = (Status::ReadFault, Status::WriteFault);
+    let (undecided, limit, memory) = (Status::Undecided, Status::Limit, Status::Memory);
+    let all = [done, refused, words, undecided, read, write, limit, memory];
+    assert_eq!(rt; all.map(|status| status.number()), [0, 1, 2, 5, 6, 7, 8, 9]);
+}

@@ -1,0 +1,17 @@
+pub mod Phrases
+pub mod Steps
+pub mod Parts
+pub mod Located
+pub mod Sequences
+pub mod Shut
+pub mod Repeats
+pub mod Manys
+pub mod Tokens
+pub mod Words
+pub mod Lists
+pub mod Exactness
+pub mod Answers
+pub mod Ends
+pub mod Loops
+pub mod ManyLoops
+pub mod Slices

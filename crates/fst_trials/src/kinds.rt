@@ -1,0 +1,152 @@
+//! Kinds of types.
+
+use crate::building::{sound, ty};
+use crate::tables::{each_line, fields, no_row};
+use fst_kinds::{KindFault, contractive, kind_of, subkind};
+use fst_types::{Kind, Prekind, Ty, Use};
+use std::alloc::{AllocError, Global};
+use std::test::Fail;
+
+fn kind_text(k: Kind) -> &'static str {
+    match (k.prekind, k.uses) {
+        (Prekind::Session, Use::Many) => "*S",
+        (Prekind::Session, Use::Once) => "1S",
+        (Prekind::Top, Use::Many) => "*T",
+        (Prekind::Top, Use::Once) => "1T",
+    }
+}
+
+fn answer_text(alloc: Global, answer: &Result<Kind, KindFault>) -> Result<String, AllocError> {
+    match answer {
+        Ok(k) => format!(in alloc; "{}", kind_text(*k)),
+        Err(KindFault::NotContractive) => format!(in alloc; "not contractive"),
+        Err(KindFault::WrongKind(k, wanted)) => {
+            format!(in alloc; "{} for {}", kind_text(*k), kind_text(*wanted))
+        }
+        Err(KindFault::UnboundType(k)) => format!(in alloc; "unbound {k}"),
+        Err(KindFault::DoubleLabel(label)) => {
+            format!(in alloc;
+                "double {}",
+                str::from_utf8(label.as_slice()).unwrap_or("?")
+            )
+        }
+        Err(KindFault::Memory) => format!(in alloc; "memory"),
+    }
+}
+
+/// What `kind_of` answers for a type, as text.
+pub(crate) fn kind(alloc: Global, t: &Ty, vars: &[Kind]) -> Result<String, AllocError> {
+    if sound(t, 0) {
+        answer_text(alloc, &kind_of(alloc, t, vars))
+    } else {
+        format!(in alloc; "not sound")
+    }
+}
+
+/// The four kinds: `*S`, `1S`, `*T` and `1T`.
+pub(crate) fn four_kinds() -> [Kind; 4] {
+    let kind = |prekind: Prekind, uses: Use| Kind { prekind, uses };
+    [
+        kind(Prekind::Session, Use::Many),
+        kind(Prekind::Session, Use::Once),
+        kind(Prekind::Top, Use::Many),
+        kind(Prekind::Top, Use::Once),
+    ]
+}
+
+#[test]
+fn kinds_are_below_one_another(rt: HostRuntime) -> Result<(), Fail> {
+    let mut text = String::new(rt.alloc());
+    for a in four_kinds() {
+        for b in four_kinds() {
+            if subkind(a, b) {
+                write!(text, " {}<{}", kind_text(a), kind_text(b))?;
+            }
+        }
+    }
+    let wanted = " *S<*S *S<1S *S<*T *S<1T 1S<1S 1S<1T *T<*T *T<1T 1T<1T";
+    assert_eq!(rt; text.as_str(), wanted);
+    Ok(())
+}
+
+// A type as it is written and as a code, the answer of `kind_of` where a, b, c and d have the four kinds in turn, and
+// whether each recursion variable stands behind a move.
+const KINDS: &str = "\
+Skip ¦ s = *S true
+!Int ¦ ! = 1S true
+?Bool ¦ ? = 1S true
+Skip;Skip ¦ ;ss = *S true
+Skip;!Int ¦ ;s! = 1S true
+!Int;Skip ¦ ;!s = 1S true
+Int;Int ¦ ;ii = *T for 1S true
+Skip;Int ¦ ;si = *T for 1S true
+(Int 1-> Int);Int ¦ ;oiii = 1T for 1S true
+Int;+{C:Skip,C:Skip} ¦ ;i#ss = double C true
+!Int;rec x.x ¦ ;!r0 = not contractive false
++{A:Skip,B:!Int} ¦ +s! = 1S true
+&{A:Skip,B:Skip} ¦ &ss = 1S true
++{A:Int,B:Skip} ¦ +is = *T for 1S true
+&{A:Int,B:Int 1-> Int} ¦ &ioii = *T for 1S true
+&{A:Int 1-> Int,B:Int} ¦ &oiii = 1T for 1S true
++{A:Int,B:f} ¦ +if = unbound 5 true
++{C:Skip,C:Skip} ¦ #ss = double C true
++{A:rec x.x,A:Skip} ¦ =r0s = double A false
++{A:rec x.x,B:Int} ¦ +r0i = not contractive false
+&{A:Int,B:rec x.x} ¦ &ir0 = not contractive false
+rec x.Skip ¦ rs = *S true
+rec x.Int ¦ ri = *T for 1S true
+rec x.Int 1-> x ¦ roi0 = 1T for 1S true
+rec x.x ¦ r0 = not contractive false
+rec x.!Int;x ¦ r;!0 = 1S true
+rec x.x;!Int ¦ r;0! = not contractive false
+rec x.Skip;x ¦ r;s0 = not contractive false
+rec x.Int;x ¦ r;i0 = *T for 1S false
+rec x.+{A:x,B:Skip} ¦ r+0s = 1S true
+rec x.&{A:!Int,B:Skip};x ¦ r;&!s0 = 1S true
+rec x.(rec y.Skip);x ¦ r;rs0 = not contractive false
+rec x.(rec y.!Int;y);x ¦ r;r;!00 = 1S true
+rec x.rec y.x ¦ rr1 = not contractive false
+rec x.rec y.y;x ¦ rr;01 = not contractive false
+rec x.rec y.!Int;x;y ¦ rr;!;10 = 1S true
+rec x.+{C:x,C:x} ¦ r#00 = double C true
+Int ¦ i = *T true
+D ¦ n = *T true
+Int -> !Int ¦ >i! = *T true
+Int 1-> Int ¦ oii = 1T true
+(Int, Skip) ¦ ,is = *T true
+(!Int, Skip) ¦ ,!s = 1T true
+(Skip, !Int) ¦ ,s! = 1T true
+(rec x.x) -> +{A:Skip,A:Skip} ¦ >r0=ss = not contractive false
++{A:Skip,A:Skip} -> rec x.x ¦ >=ssr0 = double A false
+(rec x.x, Int) ¦ ,r0i = not contractive false
+(Int, rec x.x) ¦ ,ir0 = not contractive false
+(+{A:Skip,A:Skip}, rec x.x) ¦ ,=ssr0 = double A false
+a ¦ a = *S true
+b ¦ b = 1S true
+c ¦ c = *T true
+d ¦ d = 1T true
+e ¦ e = unbound 4 true
+a;b ¦ ;ab = 1S true
+c;a ¦ ;ca = *T for 1S true
++{A:d,B:c} ¦ +dc = 1T for 1S true
+(a, c) ¦ ,ac = *T true
+(b, a) ¦ ,ba = 1T true
+rec x.b ¦ rb = 1S true
+rec x.d ¦ rd = 1T for 1S true
+rec x.a;x ¦ r;a0 = not contractive false
+rec x.b;x ¦ r;b0 = not contractive false";
+
+fn kind_row(alloc: Global, given: &str) -> Result<String, Fail> {
+    let fields = fields(alloc, given)?;
+    let [_, code] = fields.as_slice() else {
+        return Err(no_row());
+    };
+    let t = ty(alloc, code)?;
+    let kind = kind(alloc, &t, &four_kinds())?;
+    Ok(format!(in alloc; "{kind} {}", contractive(&t))?)
+}
+
+#[test]
+fn types_have_a_kind_or_a_first_fault(rt: HostRuntime) -> Result<(), Fail> {
+    each_line(&rt, rt.alloc(), KINDS, kind_row)
+}

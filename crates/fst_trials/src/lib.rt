@@ -1,0 +1,21 @@
+//! Trials of types, grammars and equivalence: tables of cases whose answers were worked out by hand.
+#![tactic(auto)]
+
+#[cfg(test)]
+mod building;
+#[cfg(test)]
+mod deep;
+#[cfg(test)]
+mod equivalence;
+#[cfg(test)]
+mod grammars;
+#[cfg(test)]
+mod kinds;
+#[cfg(test)]
+mod moves;
+#[cfg(test)]
+mod tables;
+#[cfg(test)]
+mod texts;
+#[cfg(test)]
+mod types;

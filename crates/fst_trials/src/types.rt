@@ -1,0 +1,153 @@
+//! Types and labels as trees.
+
+use crate::building::{ty, unfolded, word};
+use crate::tables::{each_line, each_pair, fields, no_row};
+use fst_print::word_text;
+use fst_types::{Name, Scope, Ty, copy, same, size, substitute};
+use std::alloc::{AllocError, Global};
+use std::test::Fail;
+
+// The codes of a type and of its unfolding, or its own where it is no `rec`. How many nodes it has, how many lines have the
+// same type, and whether its copy is the same and its unfolding this.
+const TYPES: &str = "\
+s ¦ s = 1 1 true true
+! ¦ ! = 1 1 true true
+^ ¦ ^ = 1 1 true true
+@ ¦ @ = 1 1 true true
+? ¦ ? = 1 1 true true
+i ¦ i = 1 1 true true
+u ¦ u = 1 1 true true
+a ¦ a = 1 1 true true
+b ¦ b = 1 1 true true
+n ¦ n = 1 1 true true
+m ¦ m = 1 1 true true
+-a ¦ -a = 3 1 true true
+-b ¦ -b = 3 1 true true
+_a ¦ _a = 3 1 true true
++aa ¦ +aa = 5 1 true true
+*aa ¦ *aa = 5 1 true true
+&aa ¦ &aa = 5 1 true true
+;!? ¦ ;!? = 3 1 true true
+;?! ¦ ;?! = 3 1 true true
+,iu ¦ ,iu = 3 1 true true
+>iu ¦ >iu = 3 1 true true
+oiu ¦ oiu = 3 1 true true
+rs ¦ s = 2 1 true true
+r;!0 ¦ ;!r;!0 = 4 1 true true
+r;00 ¦ ;r;00r;00 = 4 1 true true
+rr;!;10 ¦ r;!;rr;!;100 = 7 1 true true
+rrr;2;10 ¦ rr;rrr;2;10;10 = 8 1 true true
+r+;!0s ¦ +;!r+;!0ss = 8 1 true true
+r&0+0a ¦ &r&0+0a+r&0+0aa = 10 1 true true
+r,0>i0 ¦ ,r,0>i0>ir,0>i0 = 6 1 true true
+;!r;?0 ¦ ;!r;?0 = 6 1 true true
++r0a ¦ +r0a = 6 1 true true";
+
+/// How many lines have this type.
+fn alike(alloc: Global, t: &Ty) -> Result<usize, AllocError> {
+    let mut count = 0usize;
+    for line in TYPES.lines() {
+        if let Some((code, _)) = line.split_once(' ') {
+            if same(&ty(alloc, code)?, t) {
+                count = count.saturating_add(1);
+            }
+        }
+    }
+    Ok(count)
+}
+
+fn shape(alloc: Global, given: &str) -> Result<String, Fail> {
+    let fields = fields(alloc, given)?;
+    let [code, next] = fields.as_slice() else {
+        return Err(no_row());
+    };
+    let t = ty(alloc, code)?;
+    let is_copied = same(&t, &copy(alloc, &t)?);
+    let is_unfolded = same(&unfolded(alloc, &t)?, &ty(alloc, next)?);
+    let alike = alike(alloc, &t)?;
+    Ok(format!(in alloc; "{} {alike} {is_copied} {is_unfolded}", size(&t))?)
+}
+
+#[test]
+fn types_have_nodes_copies_and_unfoldings(rt: HostRuntime) -> Result<(), Fail> {
+    each_line(&rt, rt.alloc(), TYPES, shape)
+}
+
+fn puts(alloc: Global, scope: &Scope<'_>, code: &str, wanted: &str) -> Result<bool, AllocError> {
+    let found = substitute(alloc, scope, &ty(alloc, code)?)?;
+    Ok(same(&found, &ty(alloc, wanted)?))
+}
+
+#[test]
+fn binders_stand_for_types_or_for_nothing(rt: HostRuntime) -> Result<(), Fail> {
+    let alloc = rt.alloc();
+    let inner = ty(alloc, "!")?;
+    let outer = ty(alloc, "r;?0")?;
+    let top = Scope::Top;
+    assert!(rt; puts(alloc, &top, ";0r;10", ";0r;10")?);
+    let under_outer = Scope::Under(&outer, &top);
+    let both = Scope::Under(&inner, &under_outer);
+    assert!(rt; puts(alloc, &both, ";01", ";!r;?0")?);
+    assert!(rt; puts(alloc, &both, ";2r;2;10", ";2r;r;?0;!0")?);
+    let kept = Scope::Kept(&under_outer);
+    assert!(rt; puts(alloc, &kept, ";01", ";0r;?0")?);
+    Ok(())
+}
+
+// Labels in their order: by form, by payload or number, and by bytes. How many come before each, how many are the same, and
+// whether it selects or offers `Bo`.
+const LABELS: &str = "\
+!Int = 0 1 false false
+!Bool = 1 1 false false
+!Char = 2 1 false false
+!() = 3 1 false false
+?Int = 4 1 false false
+?Bool = 5 1 false false
+?Char = 6 1 false false
+?() = 7 1 false false
++B = 8 1 false false
++Bo = 9 1 true false
++a = 10 1 false false
++é = 11 1 false false
+&A = 12 1 false false
+&Bo = 13 1 false true
+&Boa = 14 1 false false
+&b = 15 1 false false
+a4 = 16 1 false false";
+
+fn place(alloc: Global, given: &str) -> Result<String, Fail> {
+    let labels = word(alloc, given)?;
+    let [label] = labels.as_slice() else {
+        return Err(no_row());
+    };
+    let (mut before, mut alike) = (0u32, 0u32);
+    for line in LABELS.lines() {
+        let (text, _) = line.split_once(" = ").ok_or("no label")?;
+        for other in &word(alloc, text)? {
+            before = before.saturating_add(u32::from(other.order(label).is_lt()));
+            alike = alike.saturating_add(u32::from(other.same(&label.copy(alloc)?)));
+        }
+    }
+    let name = Name::of(alloc, "Bo".as_bytes())?;
+    let (selects, offers) = (label.is_select(&name), label.is_offer(&name));
+    Ok(format!(in alloc; "{before} {alike} {selects} {offers}")?)
+}
+
+#[test]
+fn labels_stand_in_one_order(rt: HostRuntime) -> Result<(), Fail> {
+    each_line(&rt, rt.alloc(), LABELS, place)
+}
+
+fn again(alloc: Global, given: &str) -> Result<String, Fail> {
+    Ok(word_text(alloc, &word(alloc, given)?)?)
+}
+
+#[test]
+fn words_have_one_space_between_their_labels(rt: HostRuntime) -> Result<(), Fail> {
+    let table = [
+        ("", ""),
+        ("!Int", "!Int"),
+        (" ?Bool  +A &größer a4", "?Bool +A &größer a4"),
+    ];
+    each_pair(&rt, rt.alloc(), &table, again)
+}

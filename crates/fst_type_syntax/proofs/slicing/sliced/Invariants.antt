@@ -1,6 +1,0 @@
-use Rattle.std.proofs.Common.{◌≡◌, map, take}
-use Rattle.fst_type_syntax.specs.Lexeme.{lexeme}
-use Rattle.fst_type_syntax.proofs.slicing.sliced.Given as goal
-
-abbrev pub invariant-loop-token : goal.invariant-loop-token
-invariant-loop-token l = l.lexemes.items ≡ map (lexeme l.text) (take l.token-index l.tokens)

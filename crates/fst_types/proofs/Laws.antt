@@ -1,0 +1,75 @@
+-- What other crates cite of types, their labels and substitution.
+use Rattle.std.proofs.Common.{◌≡◌, ◌<◌, ◌≤◌, ℕ, List, [], ◌∷◌, length, get_or, true, Option, Some, None}
+use Rattle.std.specs.Cmp.{IsTotalOrder}
+use Rattle.fst_types.specs.Tree.{Tree, rec}
+use Rattle.fst_types.specs.Height.{height, height_all}
+use Rattle.fst_types.specs.ModelView.{branches_of}
+use Rattle.fst_types.specs.ModelWrittenHeight as written
+use Rattle.fst_types.specs.ModelWrittenView.{written_branches}
+use Rattle.fst_types.specs.Order.{IsOrdered, label_cmp, same_label}
+use Rattle.fst_types.specs.Scoped.{IsScoped}
+use Rattle.fst_types.specs.Substitution.{variable, substituted, unfolded, EnvHas, AllClosed}
+use Rattle.fst_types.specs.declared.label.Label.{Label}
+use Rattle.fst_types.specs.declared.ty.Branch.{Branch}
+use Rattle.fst_types.specs.declared.written.WrittenBranch.{WrittenBranch}
+use Rattle.fst_types.proofs.Heights as heights
+use Rattle.fst_types.proofs.Labels as labels
+use Rattle.fst_types.proofs.SubstitutionLaws as substitution
+
+-- a branch is no higher than the highest branch of its choice
+pub height_at : (bs : List Branch) (i : ℕ) (d : Branch) → i < length bs → height ((get_or bs i d).body) ≤ height_all (branches_of bs)
+height_at = heights.height_at
+
+-- a written branch is no higher than the highest branch of its choice
+pub written_height_at : (bs : List WrittenBranch) (i : ℕ) (d : WrittenBranch) → i < length bs →
+    written.height ((get_or bs i d).body) ≤ written.height_all (written_branches bs)
+written_height_at = heights.written_height_at
+
+-- the order of labels is total
+pub label_cmp_total : IsTotalOrder label_cmp
+label_cmp_total = labels.label_cmp_total
+
+-- two labels pass the test exactly where they are the same
+pub same_label_is : (a b : Label) → (same_label a b ≡ true → a ≡ b) × (a ≡ b → same_label a b ≡ true)
+same_label_is = labels.same_label_is
+
+-- labels that pass the test are the same
+pub same_label-same : (a b : Label) → same_label a b ≡ true → a ≡ b
+same_label-same = labels.same_label-same
+
+-- each label passes the test with itself
+pub same_label-itself : (a : Label) → same_label a a ≡ true
+same_label-itself = labels.same_label-itself
+
+-- what holds of all that the binders stand for, and of a variable, holds of what the variable stands for
+pub variable_has : (P : Tree → Type 0) (env : List (Option Tree)) (k : ℕ) (t : Tree) → EnvHas P env → P t → P (variable env k t)
+variable_has = substitution.variable_has
+
+-- a type without free variables from n on has none from a later m on
+pub scoped_wider : (n m : ℕ) (s : Tree) → n ≤ m → IsScoped n s → IsScoped m s
+scoped_wider = substitution.scoped_wider
+
+-- binders that stand for nothing change no type
+pub substituted_nothing : (s : Tree) → substituted [] s ≡ s
+substituted_nothing = substitution.substituted_nothing 0
+
+-- a type whose free variables all stand for types without any has none left
+pub substituted_scoped : (env : List (Option Tree)) (s : Tree) → AllClosed env → IsScoped (length env) s → IsScoped 0 (substituted env s)
+substituted_scoped = substitution.all_put_scoped
+
+-- ordered types put into an ordered type give an ordered type
+pub substituted_ordered : (env : List (Option Tree)) (s : Tree) → EnvHas IsOrdered env → IsOrdered s → IsOrdered (substituted env s)
+substituted_ordered = substitution.substituted_ordered
+
+-- putting in one type after the others is putting them in all at once
+pub substituted_after : (whole : Tree) (env : List (Option Tree)) → AllClosed env → (s : Tree) →
+    substituted (Some whole ∷ []) (substituted (None ∷ env) s) ≡ substituted (Some whole ∷ env) s
+substituted_after whole env ok = substitution.substituted_after whole env ok 0
+
+-- the unfolding of a type without free variables has none
+pub unfolded_scoped : (s : Tree) → IsScoped 0 (rec s) → IsScoped 0 (unfolded s)
+unfolded_scoped = substitution.unfolded_scoped
+
+-- the unfolding of an ordered type is ordered
+pub unfolded_ordered : (s : Tree) → IsOrdered (rec s) → IsOrdered (unfolded s)
+unfolded_ordered = substitution.unfolded_ordered
