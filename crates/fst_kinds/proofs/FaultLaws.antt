@@ -8,7 +8,7 @@ use Rattle.fst_types.specs.declared.kind.Use.{Use}
 use Rattle.fst_types.specs.declared.kind.Use.TheVariants.{Once}
 use Rattle.fst_kinds.specs.declared.fault.KindFault.{KindFault}
 use Rattle.fst_kinds.specs.declared.fault.KindFault.TheVariants.{NotContractive, WrongKind, UnboundType, DoubleLabel, Memory}
-use Rattle.fst_kinds.specs.Kinds.{session, top, subkind, joined, HasKind, HasSessionKind, AllSessions}
+use Rattle.fst_kinds.specs.Kinds.{session, top, subkind, join, HasKind, HasSessionKind, AllSessions}
 use Rattle.fst_kinds.specs.Contractive.{reaches, IsContractive, AllContractive}
 use Rattle.fst_kinds.specs.Walk.{double_label, needs_session, and_next, unless_double, choice_kind, walk, walk_all, Answers}
 use Rattle.fst_kinds.specs.Faults.{Need, single, node, needs, needs_all, bodies, session_parts, IsFirstWrong, Fails, double, wrong, unguarded, unbound, Holds, IsFirstFailure, IsFirstFault}
@@ -293,8 +293,8 @@ mutual
   walk_fault vars (select bs) f e = of_choice vars bs (node (select bs)) f (all_walk_fault vars bs f) (λ k w. wrong w) e
   walk_fault vars (offer bs) f e = of_choice vars bs (node (offer bs)) f (all_walk_fault vars bs f) (λ k w. wrong w) e
   walk_fault vars (seq s r) f e =
-      of_two vars s r (λ i j. needs_session i (needs_session j (Ok (session (joined i.uses j.uses))))) (node (seq s r)) f (walk_fault vars s f) (walk_fault vars r f)
-      (λ i j h g. seq_fails vars s r i j (session (joined i.uses j.uses)) f h g) e
+      of_two vars s r (λ i j. needs_session i (needs_session j (Ok (session (join i.uses j.uses))))) (node (seq s r)) f (walk_fault vars s f) (walk_fault vars r f)
+      (λ i j h g. seq_fails vars s r i j (session (join i.uses j.uses)) f h g) e
   walk_fault vars (rec s) f e = of_body vars s f (walk_fault vars s f) e
   walk_fault vars (back n) f e = no_fault _ f e
   walk_fault vars (var n) f e = inl (var_fails vars n f e)
@@ -302,7 +302,7 @@ mutual
   walk_fault vars (arrow u s r) f e =
       of_two vars s r (λ i j. Ok (top u)) (node (arrow u s r)) f (walk_fault vars s f) (walk_fault vars r f) (λ i j h g e. no_fault (top u) f e) e
   walk_fault vars (pair s r) f e =
-      of_two vars s r (λ i j. Ok (top (joined i.uses j.uses))) (node (pair s r)) f (walk_fault vars s f) (walk_fault vars r f) (λ i j h g e. no_fault (top (joined i.uses j.uses)) f e) e
+      of_two vars s r (λ i j. Ok (top (join i.uses j.uses))) (node (pair s r)) f (walk_fault vars s f) (walk_fault vars r f) (λ i j h g e. no_fault (top (join i.uses j.uses)) f e) e
   walk_fault vars (named n) f e = no_fault _ f e
 
   all_walk_fault : (vars : List Kind) (bs : Branches) (f : KindFault) → walk_all vars bs ≡ Err f → IsFirstFailure vars (needs_all bs) f

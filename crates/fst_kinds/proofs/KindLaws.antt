@@ -6,7 +6,7 @@ use Rattle.fst_types.specs.declared.kind.Prekind.{Prekind}
 use Rattle.fst_types.specs.declared.kind.Prekind.TheVariants.{Session, Top}
 use Rattle.fst_types.specs.declared.kind.Use.{Use}
 use Rattle.fst_types.specs.declared.kind.Use.TheVariants.{Many, Once}
-use Rattle.fst_kinds.specs.Kinds.{session, top, subkind, joined, HasKind}
+use Rattle.fst_kinds.specs.Kinds.{session, top, subkind, join, HasKind}
 
 -- the prekind of a kind below 1S is that of sessions
 below_session-prekind : (p : Prekind) (u : Use) → subkind (record { prekind = p; uses = u }) (session Once) ≡ true → p ≡ Session
@@ -34,7 +34,7 @@ one_kind vars (offer bs) j k h g = cc
 one_kind vars (seq s r) j k h g =
     let first : session h.0 ≡ session g.0 = one_kind vars s (session h.0) (session g.0) h.2 g.2 in
     let second : session h.1 ≡ session g.1 = one_kind vars r (session h.1) (session g.1) h.3 g.3 in
-    h.4 ∙ (λ i. session (joined ((first i).uses) ((second i).uses))) ∙ sym g.4
+    h.4 ∙ (λ i. session (join ((first i).uses) ((second i).uses))) ∙ sym g.4
 one_kind vars (rec s) j k h g = one_kind vars s j k h.0 g.0
 one_kind vars (back n) j k h g = cc
 one_kind vars (var n) j k h g = cc
@@ -43,5 +43,5 @@ one_kind vars (arrow u s r) j k h g = cc
 one_kind vars (pair s r) j k h g =
     let first = one_kind vars s h.0 g.0 h.2 g.2 in
     let second = one_kind vars r h.1 g.1 h.3 g.3 in
-    h.4 ∙ (λ i. top (joined ((first i).uses) ((second i).uses))) ∙ sym g.4
+    h.4 ∙ (λ i. top (join ((first i).uses) ((second i).uses))) ∙ sym g.4
 one_kind vars (named n) j k h g = cc

@@ -4,7 +4,7 @@ use Rattle.fst_types.specs.Tree.{Tree, seq, rec}
 use Rattle.fst_types.specs.declared.kind.Kind.{Kind}
 use Rattle.fst_types.specs.declared.kind.Use.{Use}
 use Rattle.fst_types.specs.Scoped.{IsScoped}
-use Rattle.fst_types.specs.Substitution.{substituted, unfolded}
+use Rattle.fst_types.specs.Substitution.{substitute, unfolding_of}
 use Rattle.fst_kinds.specs.Kinds.{session, top, HasKind}
 use Rattle.fst_kinds.specs.Contractive.{guards, reaches, IsContractive}
 use Rattle.fst_kinds.specs.WellFormed.{IsSession}
@@ -22,8 +22,8 @@ pub unreached : (s : Tree) (n k : ℕ) → IsScoped n s → n ≤ k → reaches 
 unreached = guard.unreached
 
 -- a type that guards still does, where all that is put in guards
-pub substituted_guards : (n : ℕ) (env : List (Option Tree)) (s : Tree) → GuardsTo n env → IsScoped n s → guards s ≡ true → guards (substituted env s) ≡ true
-substituted_guards = guard.substituted_guards
+pub substitute_guards : (n : ℕ) (env : List (Option Tree)) (s : Tree) → GuardsTo n env → IsScoped n s → guards s ≡ true → guards (substitute env s) ≡ true
+substitute_guards = guard.substitute_guards
 
 -- a session type is an open one in which no variable may be free
 pub opened : (vars : List Kind) (s : Tree) → IsSession vars s → IsOpenSession vars 0 s
@@ -46,9 +46,9 @@ pub unguarded_body : (vars : List Kind) (n : ℕ) (s : Tree) → IsOpenSession v
 unguarded_body = session_part.unguarded_body
 
 -- an open session type with session types for its variables is a session type
-pub substituted_session : (vars : List Kind) (n : ℕ) (env : List (Option Tree)) (s : Tree) → IsPut vars n env → IsOpenSession vars n s → IsSession vars (substituted env s)
-substituted_session = session_part.substituted_session
+pub substitute_session : (vars : List Kind) (n : ℕ) (env : List (Option Tree)) (s : Tree) → IsPut vars n env → IsOpenSession vars n s → IsSession vars (substitute env s)
+substitute_session = session_part.substitute_session
 
 -- the unfolding of a contractive type without free variables is contractive
-pub unfolded_contractive : (vars : List Kind) (s : Tree) (k : Kind) → HasKind vars (rec s) k → IsScoped 0 (rec s) → IsContractive (rec s) → IsContractive (unfolded s)
-unfolded_contractive = unfoldings.unfolded_contractive
+pub unfolding_of_contractive : (vars : List Kind) (s : Tree) (k : Kind) → HasKind vars (rec s) k → IsScoped 0 (rec s) → IsContractive (rec s) → IsContractive (unfolding_of s)
+unfolding_of_contractive = unfoldings.unfolding_of_contractive

@@ -7,7 +7,7 @@ use Rattle.fst_types.specs.Tree.{Tree, skip, send, receive, select, offer, seq, 
 use Rattle.fst_types.specs.declared.kind.Kind.{Kind}
 use Rattle.fst_types.specs.declared.kind.Prekind.TheVariants.{Session, Top}
 use Rattle.fst_types.specs.declared.kind.Use.{Use}
-use Rattle.fst_types.specs.Substitution.{variable, substituted, substituted_all, EnvHas}
+use Rattle.fst_types.specs.Substitution.{variable, substitute, substitute_all, EnvHas}
 use Rattle.fst_types.specs.Scoped.{IsScoped, AllScoped}
 use Rattle.fst_types.proofs.Laws.{variable_has}
 use Rattle.fst_kinds.specs.Kinds.{session, top, HasKind}
@@ -64,25 +64,25 @@ variable_guards (suc n) (Some s ∷ env) zero t g lt h = g.0
 variable_guards (suc n) (o ∷ env) (suc k) t g lt h = variable_guards n env k t g.1 (omega arith) h
 
 -- a type that guards still does, where all that is put in guards
-pub substituted_guards : (n : ℕ) (env : List (Option Tree)) (s : Tree) → GuardsTo n env → IsScoped n s → guards s ≡ true → guards (substituted env s) ≡ true
-substituted_guards n env skip g h e = e
-substituted_guards n env (send b) g h e = refl
-substituted_guards n env (receive b) g h e = refl
-substituted_guards n env (select bs) g h e = refl
-substituted_guards n env (offer bs) g h e = refl
-substituted_guards n env (seq s r) g h e = pick (substituted_guards n env s g h.0) (substituted_guards n env r g h.1) (guards s) refl e
+pub substitute_guards : (n : ℕ) (env : List (Option Tree)) (s : Tree) → GuardsTo n env → IsScoped n s → guards s ≡ true → guards (substitute env s) ≡ true
+substitute_guards n env skip g h e = e
+substitute_guards n env (send b) g h e = refl
+substitute_guards n env (receive b) g h e = refl
+substitute_guards n env (select bs) g h e = refl
+substitute_guards n env (offer bs) g h e = refl
+substitute_guards n env (seq s r) g h e = pick (substitute_guards n env s g h.0) (substitute_guards n env r g h.1) (guards s) refl e
   where
-    pick : (guards s ≡ true → guards (substituted env s) ≡ true) → (guards r ≡ true → guards (substituted env r) ≡ true) →
-        (c : Bool) → guards s ≡ c → c || guards r ≡ true → guards (substituted env s) || guards (substituted env r) ≡ true
-    pick first second true is e = ap (λ b. b || guards (substituted env r)) (first is)
-    pick first second false is e = ap (λ b. guards (substituted env s) || b) (second e) ∙ or-true (guards (substituted env s))
-substituted_guards n env (rec s) g h e = substituted_guards (suc n) (None ∷ env) s (tt, g) h e
-substituted_guards n env (back k) g h e = variable_guards n env k (back k) g h refl
-substituted_guards n env (var k) g h e = e
-substituted_guards n env (plain b) g h e = e
-substituted_guards n env (arrow u s r) g h e = e
-substituted_guards n env (pair s r) g h e = e
-substituted_guards n env (named k) g h e = e
+    pick : (guards s ≡ true → guards (substitute env s) ≡ true) → (guards r ≡ true → guards (substitute env r) ≡ true) →
+        (c : Bool) → guards s ≡ c → c || guards r ≡ true → guards (substitute env s) || guards (substitute env r) ≡ true
+    pick first second true is e = ap (λ b. b || guards (substitute env r)) (first is)
+    pick first second false is e = ap (λ b. guards (substitute env s) || b) (second e) ∙ or-true (guards (substitute env s))
+substitute_guards n env (rec s) g h e = substitute_guards (suc n) (None ∷ env) s (tt, g) h e
+substitute_guards n env (back k) g h e = variable_guards n env k (back k) g h refl
+substitute_guards n env (var k) g h e = e
+substitute_guards n env (plain b) g h e = e
+substitute_guards n env (arrow u s r) g h e = e
+substitute_guards n env (pair s r) g h e = e
+substitute_guards n env (named k) g h e = e
 
 variable_unreached : (env : List (Option Tree)) (k j : ℕ) (t : Tree) → EnvHas (IsScoped 0) env → reaches t j ≡ false → reaches (variable env k t) j ≡ false
 variable_unreached [] k j t c h = h
@@ -91,51 +91,51 @@ variable_unreached (Some s ∷ env) zero j t c h = unreached s 0 j c.0 (omega ar
 variable_unreached (o ∷ env) (suc k) j t c h = variable_unreached env k j t c.1 h
 
 -- a type reaches no further variable where all that is put in guards and has no free variables
-pub substituted_unreached : (n : ℕ) (env : List (Option Tree)) (s : Tree) (j : ℕ) →
-    GuardsTo n env → EnvHas (IsScoped 0) env → IsScoped n s → reaches s j ≡ false → reaches (substituted env s) j ≡ false
-substituted_unreached n env skip j g c h e = refl
-substituted_unreached n env (send b) j g c h e = refl
-substituted_unreached n env (receive b) j g c h e = refl
-substituted_unreached n env (select bs) j g c h e = refl
-substituted_unreached n env (offer bs) j g c h e = refl
-substituted_unreached n env (seq s r) j g c h e =
+pub substitute_unreached : (n : ℕ) (env : List (Option Tree)) (s : Tree) (j : ℕ) →
+    GuardsTo n env → EnvHas (IsScoped 0) env → IsScoped n s → reaches s j ≡ false → reaches (substitute env s) j ≡ false
+substitute_unreached n env skip j g c h e = refl
+substitute_unreached n env (send b) j g c h e = refl
+substitute_unreached n env (receive b) j g c h e = refl
+substitute_unreached n env (select bs) j g c h e = refl
+substitute_unreached n env (offer bs) j g c h e = refl
+substitute_unreached n env (seq s r) j g c h e =
     let both = or_parts (reaches s j) (not (guards s) && reaches r j) e in
-    pick (substituted_unreached n env s j g c h.0 both.0) (substituted_unreached n env r j g c h.1) (guards s) refl both.1
+    pick (substitute_unreached n env s j g c h.0 both.0) (substitute_unreached n env r j g c h.1) (guards s) refl both.1
   where
-    pick : reaches (substituted env s) j ≡ false → (reaches r j ≡ false → reaches (substituted env r) j ≡ false) → (b : Bool) → guards s ≡ b → not b && reaches r j ≡ false →
-        reaches (substituted env s) j || (not (guards (substituted env s)) && reaches (substituted env r) j) ≡ false
-    pick first second true is e = λ i. first i || (not (substituted_guards n env s g h.0 is i) && reaches (substituted env r) j)
-    pick first second false is e = (λ i. first i || (not (guards (substituted env s)) && second e i)) ∙ and-false (not (guards (substituted env s)))
-substituted_unreached n env (rec s) j g c h e = substituted_unreached (suc n) (None ∷ env) s (suc j) (tt, g) (tt, c) h e
-substituted_unreached n env (back k) j g c h e = variable_unreached env k j (back k) c e
-substituted_unreached n env (var k) j g c h e = refl
-substituted_unreached n env (plain b) j g c h e = refl
-substituted_unreached n env (arrow u s r) j g c h e = refl
-substituted_unreached n env (pair s r) j g c h e = refl
-substituted_unreached n env (named k) j g c h e = refl
+    pick : reaches (substitute env s) j ≡ false → (reaches r j ≡ false → reaches (substitute env r) j ≡ false) → (b : Bool) → guards s ≡ b → not b && reaches r j ≡ false →
+        reaches (substitute env s) j || (not (guards (substitute env s)) && reaches (substitute env r) j) ≡ false
+    pick first second true is e = λ i. first i || (not (substitute_guards n env s g h.0 is i) && reaches (substitute env r) j)
+    pick first second false is e = (λ i. first i || (not (guards (substitute env s)) && second e i)) ∙ and-false (not (guards (substitute env s)))
+substitute_unreached n env (rec s) j g c h e = substitute_unreached (suc n) (None ∷ env) s (suc j) (tt, g) (tt, c) h e
+substitute_unreached n env (back k) j g c h e = variable_unreached env k j (back k) c e
+substitute_unreached n env (var k) j g c h e = refl
+substitute_unreached n env (plain b) j g c h e = refl
+substitute_unreached n env (arrow u s r) j g c h e = refl
+substitute_unreached n env (pair s r) j g c h e = refl
+substitute_unreached n env (named k) j g c h e = refl
 
 mutual
   -- a contractive type stays so where all that is put in is contractive, guards and has no free variables
-  pub substituted_contractive : (n : ℕ) (env : List (Option Tree)) (s : Tree) →
-      GuardsTo n env → EnvHas (IsScoped 0) env → EnvHas IsContractive env → IsScoped n s → IsContractive s → IsContractive (substituted env s)
-  substituted_contractive n env skip g c d h e = tt
-  substituted_contractive n env (send b) g c d h e = tt
-  substituted_contractive n env (receive b) g c d h e = tt
-  substituted_contractive n env (select bs) g c d h e = substituted_all_contractive n env bs g c d h e
-  substituted_contractive n env (offer bs) g c d h e = substituted_all_contractive n env bs g c d h e
-  substituted_contractive n env (seq s r) g c d h e = (substituted_contractive n env s g c d h.0 e.0, substituted_contractive n env r g c d h.1 e.1)
-  substituted_contractive n env (rec s) g c d h e = (
-    substituted_contractive (suc n) (None ∷ env) s (tt, g) (tt, c) (tt, d) h e.0,
-    substituted_unreached (suc n) (None ∷ env) s 0 (tt, g) (tt, c) h e.1,
+  pub substitute_contractive : (n : ℕ) (env : List (Option Tree)) (s : Tree) →
+      GuardsTo n env → EnvHas (IsScoped 0) env → EnvHas IsContractive env → IsScoped n s → IsContractive s → IsContractive (substitute env s)
+  substitute_contractive n env skip g c d h e = tt
+  substitute_contractive n env (send b) g c d h e = tt
+  substitute_contractive n env (receive b) g c d h e = tt
+  substitute_contractive n env (select bs) g c d h e = substitute_all_contractive n env bs g c d h e
+  substitute_contractive n env (offer bs) g c d h e = substitute_all_contractive n env bs g c d h e
+  substitute_contractive n env (seq s r) g c d h e = (substitute_contractive n env s g c d h.0 e.0, substitute_contractive n env r g c d h.1 e.1)
+  substitute_contractive n env (rec s) g c d h e = (
+    substitute_contractive (suc n) (None ∷ env) s (tt, g) (tt, c) (tt, d) h e.0,
+    substitute_unreached (suc n) (None ∷ env) s 0 (tt, g) (tt, c) h e.1,
   )
-  substituted_contractive n env (back k) g c d h e = variable_has IsContractive env k (back k) d tt
-  substituted_contractive n env (var k) g c d h e = tt
-  substituted_contractive n env (plain b) g c d h e = tt
-  substituted_contractive n env (arrow u s r) g c d h e = (substituted_contractive n env s g c d h.0 e.0, substituted_contractive n env r g c d h.1 e.1)
-  substituted_contractive n env (pair s r) g c d h e = (substituted_contractive n env s g c d h.0 e.0, substituted_contractive n env r g c d h.1 e.1)
-  substituted_contractive n env (named k) g c d h e = tt
+  substitute_contractive n env (back k) g c d h e = variable_has IsContractive env k (back k) d tt
+  substitute_contractive n env (var k) g c d h e = tt
+  substitute_contractive n env (plain b) g c d h e = tt
+  substitute_contractive n env (arrow u s r) g c d h e = (substitute_contractive n env s g c d h.0 e.0, substitute_contractive n env r g c d h.1 e.1)
+  substitute_contractive n env (pair s r) g c d h e = (substitute_contractive n env s g c d h.0 e.0, substitute_contractive n env r g c d h.1 e.1)
+  substitute_contractive n env (named k) g c d h e = tt
 
-  substituted_all_contractive : (n : ℕ) (env : List (Option Tree)) (bs : Branches) →
-      GuardsTo n env → EnvHas (IsScoped 0) env → EnvHas IsContractive env → AllScoped n bs → AllContractive bs → AllContractive (substituted_all env bs)
-  substituted_all_contractive n env none g c d h e = tt
-  substituted_all_contractive n env (branch l s bs) g c d h e = (substituted_contractive n env s g c d h.0 e.0, substituted_all_contractive n env bs g c d h.1 e.1)
+  substitute_all_contractive : (n : ℕ) (env : List (Option Tree)) (bs : Branches) →
+      GuardsTo n env → EnvHas (IsScoped 0) env → EnvHas IsContractive env → AllScoped n bs → AllContractive bs → AllContractive (substitute_all env bs)
+  substitute_all_contractive n env none g c d h e = tt
+  substitute_all_contractive n env (branch l s bs) g c d h e = (substitute_contractive n env s g c d h.0 e.0, substitute_all_contractive n env bs g c d h.1 e.1)

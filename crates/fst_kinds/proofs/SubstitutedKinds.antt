@@ -4,8 +4,8 @@ use Rattle.fst_types.specs.Tree.{Tree, skip, send, receive, select, offer, seq, 
 use Rattle.fst_types.specs.declared.kind.Kind.{Kind}
 use Rattle.fst_types.specs.declared.kind.Use.{Use}
 use Rattle.fst_types.specs.declared.kind.Use.TheVariants.{Many, Once}
-use Rattle.fst_types.specs.Substitution.{variable, substituted, substituted_all, EnvHas}
-use Rattle.fst_kinds.specs.Kinds.{session, use_below, joined, HasKind, AllSessions}
+use Rattle.fst_types.specs.Substitution.{variable, substitute, substitute_all, EnvHas}
+use Rattle.fst_kinds.specs.Kinds.{session, use_below, join, HasKind, AllSessions}
 
 -- two uses that are below each other are one
 pub use_antisymmetric : (u v : Use) → use_below u v ≡ true → use_below v u ≡ true → u ≡ v
@@ -19,31 +19,31 @@ pub below_itself : (u : Use) → use_below u u ≡ true
 below_itself Many = refl
 below_itself Once = refl
 
-below_joined : (u w : Use) → use_below u (joined u w) ≡ true
-below_joined Many w = refl
-below_joined Once w = refl
+below_join : (u w : Use) → use_below u (join u w) ≡ true
+below_join Many w = refl
+below_join Once w = refl
 
 -- a use joined with itself is the use
-pub joined_itself : (u : Use) → joined u u ≡ u
-joined_itself Many = refl
-joined_itself Once = refl
+pub join_itself : (u : Use) → join u u ≡ u
+join_itself Many = refl
+join_itself Once = refl
 
-joined_below : (u v a b : Use) → use_below u a ≡ true → use_below v b ≡ true → use_below (joined u v) (joined a b) ≡ true
-joined_below Many Many a b e f = refl
-joined_below Many Once Many b e f = f
-joined_below Many Once Once b e f = refl
-joined_below Once v Many b e f = absurd (cc e)
-joined_below Once v Once b e f = refl
+join_below : (u v a b : Use) → use_below u a ≡ true → use_below v b ≡ true → use_below (join u v) (join a b) ≡ true
+join_below Many Many a b e f = refl
+join_below Many Once Many b e f = f
+join_below Many Once Once b e f = refl
+join_below Once v Many b e f = absurd (cc e)
+join_below Once v Once b e f = refl
 
-joined_within : (u v w a b : Use) → use_below a (joined u w) ≡ true → use_below b (joined v w) ≡ true → use_below (joined a b) (joined (joined u v) w) ≡ true
-joined_within Many Many w Many b e f = f
-joined_within Many Many w Once b e f = e
-joined_within Many Once w Many Many e f = refl
-joined_within Many Once w Many Once e f = refl
-joined_within Many Once w Once b e f = refl
-joined_within Once v w Many Many e f = refl
-joined_within Once v w Many Once e f = refl
-joined_within Once v w Once b e f = refl
+join_within : (u v w a b : Use) → use_below a (join u w) ≡ true → use_below b (join v w) ≡ true → use_below (join a b) (join (join u v) w) ≡ true
+join_within Many Many w Many b e f = f
+join_within Many Many w Once b e f = e
+join_within Many Once w Many Many e f = refl
+join_within Many Once w Many Once e f = refl
+join_within Many Once w Once b e f = refl
+join_within Once v w Many Many e f = refl
+join_within Once v w Many Once e f = refl
+join_within Once v w Once b e f = refl
 
 -- k with other uses
 abbrev pub used : Kind → Use → Kind
@@ -55,10 +55,10 @@ SessionUpTo vars w t = (u : Use) × HasKind vars t (session u) × (use_below u w
 
 -- the kind k, with the same uses or with more, and no more than w adds
 abbrev pub KindFrom : List Kind → Use → Kind → Tree → Type 0
-KindFrom vars w k t = (u : Use) × HasKind vars t (used k u) × (use_below k.uses u ≡ true) × (use_below u (joined k.uses w) ≡ true)
+KindFrom vars w k t = (u : Use) × HasKind vars t (used k u) × (use_below k.uses u ≡ true) × (use_below u (join k.uses w) ≡ true)
 
 same_kind : (vars : List Kind) (w : Use) (k : Kind) (t : Tree) → HasKind vars t k → KindFrom vars w k t
-same_kind vars w k t h = (k.uses, h, below_itself k.uses, below_joined k.uses w)
+same_kind vars w k t h = (k.uses, h, below_itself k.uses, below_join k.uses w)
 
 variable_kind : (vars : List Kind) (w : Use) (env : List (Option Tree)) (n : ℕ) (t : Tree) (k : Kind) →
     EnvHas (SessionUpTo vars w) env → HasKind vars t k → k ≡ session Many → KindFrom vars w k (variable env n t)
@@ -66,60 +66,60 @@ variable_kind vars w [] n t k e h is = same_kind vars w k t h
 variable_kind vars w (None ∷ env) zero t k e h is = same_kind vars w k t h
 variable_kind vars w (Some s ∷ env) zero t k e h is =
     let u = e.0.0 in
-    (u, subst (λ i. HasKind vars s (used i u)) (sym is) e.0.1, subst (λ i. use_below i.uses u ≡ true) (sym is) refl, subst (λ i. use_below u (joined i.uses w) ≡ true) (sym is) e.0.2)
+    (u, subst (λ i. HasKind vars s (used i u)) (sym is) e.0.1, subst (λ i. use_below i.uses u ≡ true) (sym is) refl, subst (λ i. use_below u (join i.uses w) ≡ true) (sym is) e.0.2)
 variable_kind vars w (o ∷ env) (suc n) t k e h is = variable_kind vars w env n t k e.1 h is
 
 mutual
   -- a type keeps its kind, but for the uses of what is put in
-  pub substituted_kind : (vars : List Kind) (w : Use) (env : List (Option Tree)) (s : Tree) (k : Kind) →
-      EnvHas (SessionUpTo vars w) env → HasKind vars s k → KindFrom vars w k (substituted env s)
-  substituted_kind vars w env skip k e h = same_kind vars w k skip h
-  substituted_kind vars w env (send b) k e h = same_kind vars w k (send b) h
-  substituted_kind vars w env (receive b) k e h = same_kind vars w k (receive b) h
-  substituted_kind vars w env (select bs) k e h = same_kind vars w k (select (substituted_all env bs)) (substituted_sessions vars w env bs e h.0, h.1)
-  substituted_kind vars w env (offer bs) k e h = same_kind vars w k (offer (substituted_all env bs)) (substituted_sessions vars w env bs e h.0, h.1)
-  substituted_kind vars w env (seq s r) k e h =
+  pub substitute_kind : (vars : List Kind) (w : Use) (env : List (Option Tree)) (s : Tree) (k : Kind) →
+      EnvHas (SessionUpTo vars w) env → HasKind vars s k → KindFrom vars w k (substitute env s)
+  substitute_kind vars w env skip k e h = same_kind vars w k skip h
+  substitute_kind vars w env (send b) k e h = same_kind vars w k (send b) h
+  substitute_kind vars w env (receive b) k e h = same_kind vars w k (receive b) h
+  substitute_kind vars w env (select bs) k e h = same_kind vars w k (select (substitute_all env bs)) (substitute_sessions vars w env bs e h.0, h.1)
+  substitute_kind vars w env (offer bs) k e h = same_kind vars w k (offer (substitute_all env bs)) (substitute_sessions vars w env bs e h.0, h.1)
+  substitute_kind vars w env (seq s r) k e h =
       let u = h.0 in
       let v = h.1 in
-      let first = substituted_kind vars w env s (session u) e h.2 in
-      let second = substituted_kind vars w env r (session v) e h.3 in
-      let is : joined u v ≡ k.uses = ap (λ (i : Kind). i.uses) (sym h.4) in
-      let new = joined first.0 second.0 in (
+      let first = substitute_kind vars w env s (session u) e h.2 in
+      let second = substitute_kind vars w env r (session v) e h.3 in
+      let is : join u v ≡ k.uses = ap (λ (i : Kind). i.uses) (sym h.4) in
+      let new = join first.0 second.0 in (
         new,
         (first.0, second.0, first.1, second.1, ap (λ (i : Kind). used i new) h.4),
-        subst (λ x. use_below x new ≡ true) is (joined_below u v first.0 second.0 first.2 second.2),
-        subst (λ x. use_below new (joined x w) ≡ true) is (joined_within u v w first.0 second.0 first.3 second.3),
+        subst (λ x. use_below x new ≡ true) is (join_below u v first.0 second.0 first.2 second.2),
+        subst (λ x. use_below new (join x w) ≡ true) is (join_within u v w first.0 second.0 first.3 second.3),
       )
-  substituted_kind vars w env (rec s) k e h =
-      let body = substituted_kind vars w (None ∷ env) s k (tt, e) h.0 in
+  substitute_kind vars w env (rec s) k e h =
+      let body = substitute_kind vars w (None ∷ env) s k (tt, e) h.0 in
       (body.0, (body.1, h.1), body.2, body.3)
-  substituted_kind vars w env (back n) k e h = variable_kind vars w env n (back n) k e h h
-  substituted_kind vars w env (var n) k e h = same_kind vars w k (var n) h
-  substituted_kind vars w env (plain b) k e h = same_kind vars w k (plain b) h
-  substituted_kind vars w env (arrow u s r) k e h =
-      let first = substituted_kind vars w env s h.0.0 e h.0.1 in
-      let second = substituted_kind vars w env r h.1.0 e h.1.1 in
-      same_kind vars w k (arrow u (substituted env s) (substituted env r)) ((used h.0.0 first.0, first.1), (used h.1.0 second.0, second.1), h.2)
-  substituted_kind vars w env (pair s r) k e h =
+  substitute_kind vars w env (back n) k e h = variable_kind vars w env n (back n) k e h h
+  substitute_kind vars w env (var n) k e h = same_kind vars w k (var n) h
+  substitute_kind vars w env (plain b) k e h = same_kind vars w k (plain b) h
+  substitute_kind vars w env (arrow u s r) k e h =
+      let first = substitute_kind vars w env s h.0.0 e h.0.1 in
+      let second = substitute_kind vars w env r h.1.0 e h.1.1 in
+      same_kind vars w k (arrow u (substitute env s) (substitute env r)) ((used h.0.0 first.0, first.1), (used h.1.0 second.0, second.1), h.2)
+  substitute_kind vars w env (pair s r) k e h =
       let i = h.0 in
       let j = h.1 in
-      let first = substituted_kind vars w env s i e h.2 in
-      let second = substituted_kind vars w env r j e h.3 in
-      let is : joined i.uses j.uses ≡ k.uses = ap (λ (i : Kind). i.uses) (sym h.4) in
-      let new = joined first.0 second.0 in (
+      let first = substitute_kind vars w env s i e h.2 in
+      let second = substitute_kind vars w env r j e h.3 in
+      let is : join i.uses j.uses ≡ k.uses = ap (λ (i : Kind). i.uses) (sym h.4) in
+      let new = join first.0 second.0 in (
         new,
         (used i first.0, used j second.0, first.1, second.1, ap (λ (i : Kind). used i new) h.4),
-        subst (λ x. use_below x new ≡ true) is (joined_below i.uses j.uses first.0 second.0 first.2 second.2),
-        subst (λ x. use_below new (joined x w) ≡ true) is (joined_within i.uses j.uses w first.0 second.0 first.3 second.3),
+        subst (λ x. use_below x new ≡ true) is (join_below i.uses j.uses first.0 second.0 first.2 second.2),
+        subst (λ x. use_below new (join x w) ≡ true) is (join_within i.uses j.uses w first.0 second.0 first.3 second.3),
       )
-  substituted_kind vars w env (named n) k e h = same_kind vars w k (named n) h
+  substitute_kind vars w env (named n) k e h = same_kind vars w k (named n) h
 
-  substituted_sessions : (vars : List Kind) (w : Use) (env : List (Option Tree)) (bs : Branches) →
-      EnvHas (SessionUpTo vars w) env → AllSessions vars bs → AllSessions vars (substituted_all env bs)
-  substituted_sessions vars w env none e h = tt
-  substituted_sessions vars w env (branch l s bs) e h =
-      let first = substituted_kind vars w env s (session h.0.0) e h.0.1 in
-      ((first.0, first.1), substituted_sessions vars w env bs e h.1)
+  substitute_sessions : (vars : List Kind) (w : Use) (env : List (Option Tree)) (bs : Branches) →
+      EnvHas (SessionUpTo vars w) env → AllSessions vars bs → AllSessions vars (substitute_all env bs)
+  substitute_sessions vars w env none e h = tt
+  substitute_sessions vars w env (branch l s bs) e h =
+      let first = substitute_kind vars w env s (session h.0.0) e h.0.1 in
+      ((first.0, first.1), substitute_sessions vars w env bs e h.1)
 
 -- what holds of all that the binders stand for, so does what follows from it
 pub env_has : (P Q : Tree → Type 0) → ((t : Tree) → P t → Q t) → (env : List (Option Tree)) → EnvHas P env → EnvHas Q env
@@ -133,8 +133,8 @@ below_once Many = refl
 below_once Once = refl
 
 -- a type in which session types are put for recursion variables has a kind, with the same prekind
-pub substituted_prekind : (vars : List Kind) (env : List (Option Tree)) (s : Tree) (k : Kind) →
-    EnvHas (λ t. (u : Use) × HasKind vars t (session u)) env → HasKind vars s k → (j : Kind) × HasKind vars (substituted env s) j × (j.prekind ≡ k.prekind)
-substituted_prekind vars env s k e h =
-    let found = substituted_kind vars Once env s k (env_has (λ t. (u : Use) × HasKind vars t (session u)) (SessionUpTo vars Once) (λ t i. (i.0, i.1, below_once i.0)) env e) h in
+pub substitute_prekind : (vars : List Kind) (env : List (Option Tree)) (s : Tree) (k : Kind) →
+    EnvHas (λ t. (u : Use) × HasKind vars t (session u)) env → HasKind vars s k → (j : Kind) × HasKind vars (substitute env s) j × (j.prekind ≡ k.prekind)
+substitute_prekind vars env s k e h =
+    let found = substitute_kind vars Once env s k (env_has (λ t. (u : Use) × HasKind vars t (session u)) (SessionUpTo vars Once) (λ t i. (i.0, i.1, below_once i.0)) env e) h in
     (used k found.0, found.1, refl)

@@ -8,7 +8,7 @@ use Rattle.fst_types.specs.declared.kind.Kind.{Kind}
 use Rattle.fst_types.specs.declared.kind.Use.TheVariants.{Once}
 use Rattle.fst_kinds.specs.declared.fault.KindFault.{KindFault}
 use Rattle.fst_kinds.specs.declared.fault.KindFault.TheVariants.{NotContractive, WrongKind, UnboundType, Memory}
-use Rattle.fst_kinds.specs.Kinds.{session, top, subkind, joined, HasKind, AllSessions}
+use Rattle.fst_kinds.specs.Kinds.{session, top, subkind, join, HasKind, AllSessions}
 use Rattle.fst_kinds.specs.Contractive.{reaches, IsContractive, AllContractive}
 use Rattle.fst_kinds.specs.WellFormed.{IsWellFormed}
 use Rattle.fst_kinds.specs.Walk.{double_label, needs_session, and_next, unless_double, choice_kind, walk, walk_all, Answers}
@@ -98,10 +98,10 @@ mutual
       let all = all_walked vars bs choice.1 in
       record { kinded = (all.kinded, choice.2); contractive = all.contractive; single = (choice.0, all.single) }
   walked vars (seq s r) k e =
-      let first = next_ok (walk vars s) (λ i. and_next (walk vars r) (λ j. needs_session i (needs_session j (Ok (session (joined i.uses j.uses)))))) k e in
-      let second = next_ok (walk vars r) (λ j. needs_session first.0 (needs_session j (Ok (session (joined first.0.uses j.uses))))) k first.2 in
-      let below = session_ok first.0 (needs_session second.0 (Ok (session (joined first.0.uses second.0.uses)))) k second.2 in
-      let next = session_ok second.0 (Ok (session (joined first.0.uses second.0.uses))) k below.1 in
+      let first = next_ok (walk vars s) (λ i. and_next (walk vars r) (λ j. needs_session i (needs_session j (Ok (session (join i.uses j.uses)))))) k e in
+      let second = next_ok (walk vars r) (λ j. needs_session first.0 (needs_session j (Ok (session (join first.0.uses j.uses))))) k first.2 in
+      let below = session_ok first.0 (needs_session second.0 (Ok (session (join first.0.uses second.0.uses)))) k second.2 in
+      let next = session_ok second.0 (Ok (session (join first.0.uses second.0.uses))) k below.1 in
       let part = walked vars s first.0 first.1 in
       let rest = walked vars r second.0 second.1 in
       record {
@@ -133,8 +133,8 @@ mutual
         single = (part.single, rest.single);
       }
   walked vars (pair s r) k e =
-      let first = next_ok (walk vars s) (λ i. and_next (walk vars r) (λ j. Ok (top (joined i.uses j.uses)))) k e in
-      let second = next_ok (walk vars r) (λ j. Ok (top (joined first.0.uses j.uses))) k first.2 in
+      let first = next_ok (walk vars s) (λ i. and_next (walk vars r) (λ j. Ok (top (join i.uses j.uses)))) k e in
+      let second = next_ok (walk vars r) (λ j. Ok (top (join first.0.uses j.uses))) k first.2 in
       let part = walked vars s first.0 first.1 in
       let rest = walked vars r second.0 second.1 in
       record {
@@ -178,10 +178,10 @@ mutual
   kinded_walk vars (select bs) k h c o = choice_kinded vars bs k o.0 (kinded_walk_all vars bs h.0 c o.1) h.1
   kinded_walk vars (offer bs) k h c o = choice_kinded vars bs k o.0 (kinded_walk_all vars bs h.0 c o.1) h.1
   kinded_walk vars (seq s r) k h c o =
-      ap (λ found. and_next found (λ i. and_next (walk vars r) (λ j. needs_session i (needs_session j (Ok (session (joined i.uses j.uses))))))) (kinded_walk vars s (session h.0) h.2 c.0 o.0)
-      ∙ ap (λ found. and_next found (λ j. needs_session (session h.0) (needs_session j (Ok (session (joined h.0 j.uses)))))) (kinded_walk vars r (session h.1) h.3 c.1 o.1)
-      ∙ past_session (session h.0) (needs_session (session h.1) (Ok (session (joined h.0 h.1)))) refl
-      ∙ past_session (session h.1) (Ok (session (joined h.0 h.1))) refl
+      ap (λ found. and_next found (λ i. and_next (walk vars r) (λ j. needs_session i (needs_session j (Ok (session (join i.uses j.uses))))))) (kinded_walk vars s (session h.0) h.2 c.0 o.0)
+      ∙ ap (λ found. and_next found (λ j. needs_session (session h.0) (needs_session j (Ok (session (join h.0 j.uses)))))) (kinded_walk vars r (session h.1) h.3 c.1 o.1)
+      ∙ past_session (session h.0) (needs_session (session h.1) (Ok (session (join h.0 h.1)))) refl
+      ∙ past_session (session h.1) (Ok (session (join h.0 h.1))) refl
       ∙ ap Ok (sym h.4)
   kinded_walk vars (rec s) k h c o =
       ap (λ found. and_next found (λ i. needs_session i (if reaches s 0 then Err NotContractive else Ok i))) (kinded_walk vars s k h.0 c.0 o)
@@ -195,8 +195,8 @@ mutual
       ∙ ap (λ found. and_next found (λ j. Ok (top u))) (kinded_walk vars r h.1.0 h.1.1 c.1 o.1)
       ∙ ap Ok (sym h.2)
   kinded_walk vars (pair s r) k h c o =
-      ap (λ found. and_next found (λ i. and_next (walk vars r) (λ j. Ok (top (joined i.uses j.uses))))) (kinded_walk vars s h.0 h.2 c.0 o.0)
-      ∙ ap (λ found. and_next found (λ j. Ok (top (joined h.0.uses j.uses)))) (kinded_walk vars r h.1 h.3 c.1 o.1)
+      ap (λ found. and_next found (λ i. and_next (walk vars r) (λ j. Ok (top (join i.uses j.uses))))) (kinded_walk vars s h.0 h.2 c.0 o.0)
+      ∙ ap (λ found. and_next found (λ j. Ok (top (join h.0.uses j.uses)))) (kinded_walk vars r h.1 h.3 c.1 o.1)
       ∙ ap Ok (sym h.4)
   kinded_walk vars (named n) k h c o = cc
 

@@ -32,9 +32,9 @@ abbrev pub subkind : Kind → Kind → Bool
 subkind i j = prekind_below i.prekind j.prekind && use_below i.uses j.uses
 
 -- once where either part is used once
-abbrev pub joined : Use → Use → Use
-joined Many v = v
-joined Once v = Once
+abbrev pub join : Use → Use → Use
+join Many v = v
+join Once v = Once
 
 abbrev mutual
   -- the type has this kind, where vars has the kinds of the signature's variables; a recursion variable has *S
@@ -44,13 +44,13 @@ abbrev mutual
   HasKind vars (receive b) k = k ≡ session Once
   HasKind vars (select bs) k = AllSessions vars bs × (k ≡ session Once)
   HasKind vars (offer bs) k = AllSessions vars bs × (k ≡ session Once)
-  HasKind vars (seq s r) k = (u : Use) × (v : Use) × HasKind vars s (session u) × HasKind vars r (session v) × (k ≡ session (joined u v))
+  HasKind vars (seq s r) k = (u : Use) × (v : Use) × HasKind vars s (session u) × HasKind vars r (session v) × (k ≡ session (join u v))
   HasKind vars (rec s) k = HasKind vars s k × (k.prekind ≡ Session)
   HasKind vars (back n) k = k ≡ session Many
   HasKind vars (var n) k = slice_get vars n ≡ Some k
   HasKind vars (plain b) k = k ≡ top Many
   HasKind vars (arrow u s r) k = ((i : Kind) × HasKind vars s i) × ((j : Kind) × HasKind vars r j) × (k ≡ top u)
-  HasKind vars (pair s r) k = (i : Kind) × (j : Kind) × HasKind vars s i × HasKind vars r j × (k ≡ top (joined i.uses j.uses))
+  HasKind vars (pair s r) k = (i : Kind) × (j : Kind) × HasKind vars s i × HasKind vars r j × (k ≡ top (join i.uses j.uses))
   HasKind vars (named n) k = k ≡ top Many
 
   -- the type of each branch is a session type

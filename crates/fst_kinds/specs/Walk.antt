@@ -8,7 +8,7 @@ use Rattle.fst_types.specs.declared.kind.Kind.{Kind}
 use Rattle.fst_types.specs.declared.kind.Use.TheVariants.{Many, Once}
 use Rattle.fst_kinds.specs.declared.fault.KindFault.{KindFault}
 use Rattle.fst_kinds.specs.declared.fault.KindFault.TheVariants.{NotContractive, WrongKind, UnboundType, DoubleLabel, Memory}
-use Rattle.fst_kinds.specs.Kinds.{session, top, subkind, joined}
+use Rattle.fst_kinds.specs.Kinds.{session, top, subkind, join}
 use Rattle.fst_kinds.specs.Contractive.{reaches}
 
 -- a branch has this label
@@ -50,13 +50,13 @@ abbrev mutual
   walk vars (offer bs) = unless_double (double_label bs) (and_next (walk_all vars bs) choice_kind)
   walk vars (seq s r) =
       and_next (walk vars s) (λ i. and_next (walk vars r) (λ j.
-      needs_session i (needs_session j (Ok (session (joined i.uses j.uses))))))
+      needs_session i (needs_session j (Ok (session (join i.uses j.uses))))))
   walk vars (rec s) = and_next (walk vars s) (λ k. needs_session k (if reaches s 0 then Err NotContractive else Ok k))
   walk vars (back n) = Ok (session Many)
   walk vars (var n) = ok_or (slice_get vars n) (UnboundType n)
   walk vars (plain b) = Ok (top Many)
   walk vars (arrow u s r) = and_next (walk vars s) (λ i. and_next (walk vars r) (λ j. Ok (top u)))
-  walk vars (pair s r) = and_next (walk vars s) (λ i. and_next (walk vars r) (λ j. Ok (top (joined i.uses j.uses))))
+  walk vars (pair s r) = and_next (walk vars s) (λ i. and_next (walk vars r) (λ j. Ok (top (join i.uses j.uses))))
   walk vars (named n) = Ok (top Many)
 
   -- of the branches, one after the other, the first kind not below 1S

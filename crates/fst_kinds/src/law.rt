@@ -1,7 +1,7 @@
 ghost use Rattle.std.specs.Prelude.{◌≡◌, ◌↔◌, List, Ok, Err};
 ghost use Rattle.fst_types.specs.Tree.{Tree, rec};
 ghost use Rattle.fst_types.specs.declared.kind.Kind.{Kind};
-ghost use Rattle.fst_types.specs.Substitution.{unfolded};
+ghost use Rattle.fst_types.specs.Substitution.{unfolding_of};
 ghost use Rattle.fst_kinds.specs.Kinds.{HasKind};
 ghost use Rattle.fst_types.specs.Scoped.{IsScoped};
 ghost use Rattle.fst_types.specs.Order.{IsSorted};
@@ -18,7 +18,7 @@ pub fn one_kind()
 
 /// The unfolding of a well-formed recursive type is well formed, and of the same kind.
 pub fn unfolding_keeps_kinds()
-    ensures { (vars : List Kind) (s : Tree) (k : Kind) → IsWellFormed vars (rec s) k → IsWellFormed vars (unfolded s) k }
+    ensures { (vars : List Kind) (s : Tree) (k : Kind) → IsWellFormed vars (rec s) k → IsWellFormed vars (unfolding_of s) k }
 {}
 
 /// The walk over a type finds a kind exactly where the type is well formed and of that kind, and a fault exactly where

@@ -1,11 +1,10 @@
 -- Agreement is an equivalence, and a type in front of or behind both sides keeps it.
 use Rattle.std.proofs.Common.{◌≡◌, ◌∙◌, ◌↔◌, ℕ, zero, suc, List, [], ◌∷◌, Bool, true, false, Option, Some, None, refl, sym, ap, subst, arith}
-use Rattle.std.specs.Prelude.{IsSome, IfSome, IsTrue, Contains, option_map, if◌then◌else◌}
+use Rattle.std.specs.Prelude.{IsSome, IsTrue, Contains, option_map, if◌then◌else◌}
 use Rattle.fst_types.specs.Tree.{Tree, seq}
 use Rattle.fst_types.specs.declared.kind.Kind.{Kind}
 use Rattle.fst_types.specs.declared.label.Label.{Label}
-use Rattle.fst_types.specs.Substitution.{substituted}
-use Rattle.fst_types.proofs.Laws.{substituted_nothing}
+use Rattle.fst_types.proofs.Laws.{substitute_nothing}
 use Rattle.fst_kinds.specs.WellFormed.{IsSession}
 use Rattle.fst_lts.specs.Step.{step, labels, terminated}
 use Rattle.fst_base.specs.Agreement.{AgreeTo, BothOrNeither}
@@ -19,7 +18,7 @@ abbrev after_first : Tree → Bool → Option Tree → Option Tree → Option Tr
 after_first s over first second = if over then second else option_map (λ t. seq t s) first
 
 first_then : (s r : Tree) (a : Label) → step (seq s r) a ≡ after_first r (terminated s) (step s a) (step r a)
-first_then s r a = ap (λ z. if terminated s then step r a else option_map (λ t. seq t z) (step s a)) (substituted_nothing r)
+first_then s r a = ap (λ z. if terminated s then step r a else option_map (λ t. seq t z) (step s a)) (substitute_nothing r)
 
 -- both sides of a step of two sequences
 sequences_agree : (n : ℕ) (x y : Tree) (over : Bool) (o p q u : Option Tree) → (over ≡ false → BothOrNeither (λ s r. AgreeTo step step n (seq s x) (seq r y)) o p) → (over ≡ true → BothOrNeither (AgreeTo step step n) q u) →

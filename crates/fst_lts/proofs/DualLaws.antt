@@ -7,7 +7,7 @@ use Rattle.fst_types.specs.declared.label.Label.{Label}
 use Rattle.fst_types.specs.declared.label.Label.TheVariants.{Send, Receive, Select, Offer, Var}
 use Rattle.fst_types.specs.declared.ty.Branch.{Branch}
 use Rattle.fst_types.specs.ModelView.{branches_of}
-use Rattle.fst_types.specs.Substitution.{variable, substituted, substituted_all}
+use Rattle.fst_types.specs.Substitution.{variable, substitute, substitute_all}
 use Rattle.fst_lts.specs.Step.{terminated, branch_at, step_in, step}
 use Rattle.fst_base.specs.Agreement.{residual}
 use Rattle.fst_lts.specs.Dual.{dual, dual_all, dual_label, dual_branch}
@@ -74,24 +74,24 @@ variable-dual_env (Some t ∷ env) zero s = refl
 variable-dual_env (o ∷ env) (suc k) s = variable-dual_env env k s
 
 mutual
-  substituted-dual : (env : List (Option Tree)) (s : Tree) → substituted (dual_env env) (dual s) ≡ dual (substituted env s)
-  substituted-dual env skip = refl
-  substituted-dual env (send b) = refl
-  substituted-dual env (receive b) = refl
-  substituted-dual env (select bs) = ap offer (substituted_all-dual_all env bs)
-  substituted-dual env (offer bs) = ap select (substituted_all-dual_all env bs)
-  substituted-dual env (seq s r) = λ i. seq (substituted-dual env s i) (substituted-dual env r i)
-  substituted-dual env (rec s) = ap rec (substituted-dual (None ∷ env) s)
-  substituted-dual env (back k) = variable-dual_env env k (back k)
-  substituted-dual env (var k) = refl
-  substituted-dual env (plain b) = refl
-  substituted-dual env (arrow u s r) = λ i. arrow u (substituted-dual env s i) (substituted-dual env r i)
-  substituted-dual env (pair s r) = λ i. pair (substituted-dual env s i) (substituted-dual env r i)
-  substituted-dual env (named k) = refl
+  substitute-dual : (env : List (Option Tree)) (s : Tree) → substitute (dual_env env) (dual s) ≡ dual (substitute env s)
+  substitute-dual env skip = refl
+  substitute-dual env (send b) = refl
+  substitute-dual env (receive b) = refl
+  substitute-dual env (select bs) = ap offer (substitute_all-dual_all env bs)
+  substitute-dual env (offer bs) = ap select (substitute_all-dual_all env bs)
+  substitute-dual env (seq s r) = λ i. seq (substitute-dual env s i) (substitute-dual env r i)
+  substitute-dual env (rec s) = ap rec (substitute-dual (None ∷ env) s)
+  substitute-dual env (back k) = variable-dual_env env k (back k)
+  substitute-dual env (var k) = refl
+  substitute-dual env (plain b) = refl
+  substitute-dual env (arrow u s r) = λ i. arrow u (substitute-dual env s i) (substitute-dual env r i)
+  substitute-dual env (pair s r) = λ i. pair (substitute-dual env s i) (substitute-dual env r i)
+  substitute-dual env (named k) = refl
 
-  substituted_all-dual_all : (env : List (Option Tree)) (bs : Branches) → substituted_all (dual_env env) (dual_all bs) ≡ dual_all (substituted_all env bs)
-  substituted_all-dual_all env none = refl
-  substituted_all-dual_all env (branch l s bs) = λ i. branch l (substituted-dual env s i) (substituted_all-dual_all env bs i)
+  substitute_all-dual_all : (env : List (Option Tree)) (bs : Branches) → substitute_all (dual_env env) (dual_all bs) ≡ dual_all (substitute_all env bs)
+  substitute_all-dual_all env none = refl
+  substitute_all-dual_all env (branch l s bs) = λ i. branch l (substitute-dual env s i) (substitute_all-dual_all env bs i)
 
 same_label-dual_label : (a b : Label) → same_label (dual_label a) (dual_label b) ≡ same_label a b
 same_label-dual_label (Send x) (Send y) = refl
@@ -119,15 +119,15 @@ branch_dual make (branch l s bs) a =
     pick true e = refl
     pick false e = e
 
-substituted_branch_dual : (env : List (Option Tree)) (o : Option Tree) →
-    option_map (substituted (dual_env env)) (option_map dual o) ≡ option_map dual (option_map (substituted env) o)
-substituted_branch_dual env None = refl
-substituted_branch_dual env (Some s) = ap Some (substituted-dual env s)
+substitute_branch_dual : (env : List (Option Tree)) (o : Option Tree) →
+    option_map (substitute (dual_env env)) (option_map dual o) ≡ option_map dual (option_map (substitute env) o)
+substitute_branch_dual env None = refl
+substitute_branch_dual env (Some s) = ap Some (substitute-dual env s)
 
 behind_dual : (env : List (Option Tree)) (r : Tree) (o p : Option Tree) → o ≡ option_map dual p →
-    option_map (λ t. seq t (substituted (dual_env env) (dual r))) o ≡ option_map dual (option_map (λ t. seq t (substituted env r)) p)
-behind_dual env r o None e = ap (option_map (λ t. seq t (substituted (dual_env env) (dual r)))) e
-behind_dual env r o (Some t) e = ap (option_map (λ t. seq t (substituted (dual_env env) (dual r)))) e ∙ ap (λ q. Some (seq (dual t) q)) (substituted-dual env r)
+    option_map (λ t. seq t (substitute (dual_env env) (dual r))) o ≡ option_map dual (option_map (λ t. seq t (substitute env r)) p)
+behind_dual env r o None e = ap (option_map (λ t. seq t (substitute (dual_env env) (dual r)))) e
+behind_dual env r o (Some t) e = ap (option_map (λ t. seq t (substitute (dual_env env) (dual r)))) e ∙ ap (λ q. Some (seq (dual t) q)) (substitute-dual env r)
 
 chosen_dual : (c d : Bool) (x y : Option Tree) (x' y' : Option Tree) → c ≡ d → x ≡ option_map dual x' → y ≡ option_map dual y' →
     (if c then x else y) ≡ option_map dual (if d then x' else y')
@@ -140,14 +140,14 @@ step_in-dual : (env : List (Option Tree)) (s : Tree) (a : Label) → step_in (du
 step_in-dual env skip a = refl
 step_in-dual env (send b) a = ap (λ c. if c then Some skip else None) (same_label-dual_label a (Send b)) ∙ ended (same_label a (Send b))
 step_in-dual env (receive b) a = ap (λ c. if c then Some skip else None) (same_label-dual_label a (Receive b)) ∙ ended (same_label a (Receive b))
-step_in-dual env (select bs) a = ap (option_map (substituted (dual_env env))) (branch_dual Select bs a) ∙ substituted_branch_dual env (branch_at Select bs a)
-step_in-dual env (offer bs) a = ap (option_map (substituted (dual_env env))) (branch_dual Offer bs a) ∙ substituted_branch_dual env (branch_at Offer bs a)
+step_in-dual env (select bs) a = ap (option_map (substitute (dual_env env))) (branch_dual Select bs a) ∙ substitute_branch_dual env (branch_at Select bs a)
+step_in-dual env (offer bs) a = ap (option_map (substitute (dual_env env))) (branch_dual Offer bs a) ∙ substitute_branch_dual env (branch_at Offer bs a)
 step_in-dual env (seq s r) a =
     chosen_dual (terminated (dual s)) (terminated s) _ _ _ _ (terminated-dual s) (step_in-dual env r a)
     (behind_dual env r _ (step_in env s a) (step_in-dual env s a))
 step_in-dual env (rec s) a =
-    ap (λ t. step_in (Some t ∷ dual_env env) (dual s) (dual_label a)) (substituted-dual env (rec s))
-    ∙ step_in-dual (Some (substituted env (rec s)) ∷ env) s a
+    ap (λ t. step_in (Some t ∷ dual_env env) (dual s) (dual_label a)) (substitute-dual env (rec s))
+    ∙ step_in-dual (Some (substitute env (rec s)) ∷ env) s a
 step_in-dual env (back k) a = refl
 step_in-dual env (var k) a = ap (λ c. if c then Some skip else None) (same_label-dual_label a (Var k)) ∙ ended (same_label a (Var k))
 step_in-dual env (plain b) a = refl

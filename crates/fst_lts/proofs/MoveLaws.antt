@@ -1,16 +1,15 @@
 -- The steps of a type are its moves by the rules, and by each label it moves to at most one type.
-use Rattle.std.proofs.Common.{◌≡◌, ◌∙◌, ◌≤◌, ◌+◌, ◌⊎◌, inl, inr, ℕ, zero, suc, List, [], ◌∷◌, length, Bool, true, false, Option, Some, None, refl, sym, ap, subst, arith}
-use Rattle.std.specs.Prelude.{option_map, if◌then◌else◌, ◌&&◌, ◌||◌, not, nat_eq}
-use Rattle.std.proofs.lemmas.Bool.{eq-eqb, eqb-true, and_parts, or_parts, false_from_ne_true}
+use Rattle.std.proofs.Common.{◌≡◌, ◌∙◌, ◌⊎◌, inl, inr, ℕ, suc, List, [], ◌∷◌, length, Bool, true, false, Option, Some, None, refl, sym, ap, subst, arith}
+use Rattle.std.specs.Prelude.{option_map, if◌then◌else◌, ◌&&◌}
+use Rattle.std.proofs.lemmas.Bool.{and_parts, false_from_ne_true}
 use Rattle.fst_types.specs.Tree.{Tree, skip, send, receive, select, offer, seq, rec, back, var, plain, arrow, pair, named, Branches, none, branch}
 use Rattle.fst_types.specs.Order.{same_label}
-use Rattle.fst_types.specs.Substitution.{substituted, substituted_all, unfolded, AllClosed}
+use Rattle.fst_types.specs.Substitution.{substitute, substitute_all, unfolding_of, AllClosed}
 use Rattle.fst_types.specs.Scoped.{IsScoped}
 use Rattle.fst_types.specs.declared.label.Label.{Label}
 use Rattle.fst_types.specs.declared.label.Label.TheVariants.{Send, Receive, Select, Offer, Var}
-use Rattle.fst_types.proofs.Laws.{same_label-same, same_label-itself, substituted_nothing, substituted_scoped, substituted_after, unfolded_scoped}
-use Rattle.fst_lts.proofs.Laws.{unguarded}
-use Rattle.fst_kinds.specs.Contractive.{guards, reaches, IsContractive}
+use Rattle.fst_types.proofs.Laws.{same_label-same, same_label-itself, substitute_nothing, substitute_scoped, substitute_after, unfolding_of_scoped}
+use Rattle.fst_kinds.specs.Contractive.{IsContractive}
 use Rattle.fst_lts.specs.Step.{terminated, branch_at, step_in, step}
 use Rattle.fst_lts.proofs.GuardLaws.{IsGuarded, guarded_first, guarded_second, guarded_body, no_variable}
 use Rattle.fst_kinds.proofs.Laws.{unreached}
@@ -18,22 +17,22 @@ use Rattle.fst_lts.specs.Moves.{Moves, sends, receives, selects, offers, first, 
 use Rattle.fst_base.proofs.Options.{mapped_some}
 
 -- a terminated type holds no variable before its end
-substituted-terminated : (env : List (Option Tree)) (s : Tree) → terminated s ≡ true → terminated (substituted env s) ≡ true
-substituted-terminated env skip e = refl
-substituted-terminated env (send b) e = absurd (cc e)
-substituted-terminated env (receive b) e = absurd (cc e)
-substituted-terminated env (select bs) e = absurd (cc e)
-substituted-terminated env (offer bs) e = absurd (cc e)
-substituted-terminated env (seq s r) e =
+substitute-terminated : (env : List (Option Tree)) (s : Tree) → terminated s ≡ true → terminated (substitute env s) ≡ true
+substitute-terminated env skip e = refl
+substitute-terminated env (send b) e = absurd (cc e)
+substitute-terminated env (receive b) e = absurd (cc e)
+substitute-terminated env (select bs) e = absurd (cc e)
+substitute-terminated env (offer bs) e = absurd (cc e)
+substitute-terminated env (seq s r) e =
     let h = and_parts (terminated s) (terminated r) e in
-    λ i. substituted-terminated env s h.0 i && substituted-terminated env r h.1 i
-substituted-terminated env (rec s) e = substituted-terminated (None ∷ env) s e
-substituted-terminated env (back k) e = absurd (cc e)
-substituted-terminated env (var k) e = absurd (cc e)
-substituted-terminated env (plain b) e = absurd (cc e)
-substituted-terminated env (arrow u s r) e = absurd (cc e)
-substituted-terminated env (pair s r) e = absurd (cc e)
-substituted-terminated env (named k) e = absurd (cc e)
+    λ i. substitute-terminated env s h.0 i && substitute-terminated env r h.1 i
+substitute-terminated env (rec s) e = substitute-terminated (None ∷ env) s e
+substitute-terminated env (back k) e = absurd (cc e)
+substitute-terminated env (var k) e = absurd (cc e)
+substitute-terminated env (plain b) e = absurd (cc e)
+substitute-terminated env (arrow u s r) e = absurd (cc e)
+substitute-terminated env (pair s r) e = absurd (cc e)
+substitute-terminated env (named k) e = absurd (cc e)
 
 -- what moves is not terminated
 moving : {s t : Tree} {a : Label} → Moves s a t → terminated s ≡ true → ⊥
@@ -43,16 +42,16 @@ moving (selects h) e = absurd (cc e)
 moving (offers h) e = absurd (cc e)
 moving (first {s} {r} h m) e = moving m (and_parts (terminated s) (terminated r) e).0
 moving (second {s} {r} h m) e = moving m (and_parts (terminated s) (terminated r) e).1
-moving (unfolds {s} m) e = moving m (substituted-terminated (Some (rec s) ∷ []) s e)
+moving (unfolds {s} m) e = moving m (substitute-terminated (Some (rec s) ∷ []) s e)
 moving variables e = absurd (cc e)
 
 branch_substituted : (make : List ℕ → Label) (env : List (Option Tree)) (bs : Branches) (a : Label) →
-    branch_at make (substituted_all env bs) a ≡ option_map (substituted env) (branch_at make bs a)
+    branch_at make (substitute_all env bs) a ≡ option_map (substitute env) (branch_at make bs a)
 branch_substituted make env none a = refl
 branch_substituted make env (branch l s bs) a = pick (branch_substituted make env bs a) (same_label a (make l))
   where
-    pick : branch_at make (substituted_all env bs) a ≡ option_map (substituted env) (branch_at make bs a) → (c : Bool) →
-        (if c then Some (substituted env s) else branch_at make (substituted_all env bs) a) ≡ option_map (substituted env) (if c then Some s else branch_at make bs a)
+    pick : branch_at make (substitute_all env bs) a ≡ option_map (substitute env) (branch_at make bs a) → (c : Bool) →
+        (if c then Some (substitute env s) else branch_at make (substitute_all env bs) a) ≡ option_map (substitute env) (if c then Some s else branch_at make bs a)
     pick next true = refl
     pick next false = next
 
@@ -85,30 +84,30 @@ offer_moves bs a t e =
     subst (λ b. Moves (offer bs) b t) (sym l.1) (offers (subst (λ b. branch_at Offer bs b ≡ Some t) l.1 e))
 
 -- what a `rec` stands for has no free variables
-whole_closed : (env : List (Option Tree)) → AllClosed env → (s : Tree) → IsScoped (suc (length env)) s → AllClosed (Some (substituted env (rec s)) ∷ env)
-whole_closed env ok s h = (substituted_scoped env (rec s) ok h, ok)
+whole_closed : (env : List (Option Tree)) → AllClosed env → (s : Tree) → IsScoped (suc (length env)) s → AllClosed (Some (substitute env (rec s)) ∷ env)
+whole_closed env ok s h = (substitute_scoped env (rec s) ok h, ok)
 
 -- a step is a move
-steps_move : (env : List (Option Tree)) → AllClosed env → (s : Tree) → IsScoped (length env) s → (a : Label) (t : Tree) → step_in env s a ≡ Some t → Moves (substituted env s) a t
+steps_move : (env : List (Option Tree)) → AllClosed env → (s : Tree) → IsScoped (length env) s → (a : Label) (t : Tree) → step_in env s a ≡ Some t → Moves (substitute env s) a t
 steps_move env ok skip h a t e = absurd (cc e)
 steps_move env ok (send b) h a t e = one_move (send b) a (Send b) t sends e
 steps_move env ok (receive b) h a t e = one_move (receive b) a (Receive b) t receives e
-steps_move env ok (select bs) h a t e = select_moves (substituted_all env bs) a t (branch_substituted Select env bs a ∙ e)
-steps_move env ok (offer bs) h a t e = offer_moves (substituted_all env bs) a t (branch_substituted Offer env bs a ∙ e)
+steps_move env ok (select bs) h a t e = select_moves (substitute_all env bs) a t (branch_substituted Select env bs a ∙ e)
+steps_move env ok (offer bs) h a t e = offer_moves (substitute_all env bs) a t (branch_substituted Offer env bs a ∙ e)
 steps_move env ok (seq s r) h a t e =
     pick (steps_move env ok s h.0 a) (steps_move env ok r h.1 a t) (terminated s) refl e
   where
-    pick : ((u : Tree) → step_in env s a ≡ Some u → Moves (substituted env s) a u) → (step_in env r a ≡ Some t → Moves (substituted env r) a t) →
-        (c : Bool) → terminated s ≡ c → (if c then step_in env r a else option_map (λ u. seq u (substituted env r)) (step_in env s a)) ≡ Some t →
-        Moves (seq (substituted env s) (substituted env r)) a t
-    pick front behind true is e = second (substituted-terminated env s is) (behind e)
+    pick : ((u : Tree) → step_in env s a ≡ Some u → Moves (substitute env s) a u) → (step_in env r a ≡ Some t → Moves (substitute env r) a t) →
+        (c : Bool) → terminated s ≡ c → (if c then step_in env r a else option_map (λ u. seq u (substitute env r)) (step_in env s a)) ≡ Some t →
+        Moves (seq (substitute env s) (substitute env r)) a t
+    pick front behind true is e = second (substitute-terminated env s is) (behind e)
     pick front behind false is e =
-        let found = mapped_some (λ u. seq u (substituted env r)) (step_in env s a) t e in
+        let found = mapped_some (λ u. seq u (substitute env r)) (step_in env s a) t e in
         let m = front found.0 found.1 in
-        subst (λ y. Moves (seq (substituted env s) (substituted env r)) a y) found.2 (first (false_from_ne_true _ (moving m)) m)
+        subst (λ y. Moves (seq (substitute env s) (substitute env r)) a y) found.2 (first (false_from_ne_true _ (moving m)) m)
 steps_move env ok (rec s) h a t e =
-    let whole = substituted env (rec s) in
-    unfolds (subst (λ y. Moves y a t) (sym (substituted_after whole env ok s)) (steps_move (Some whole ∷ env) (whole_closed env ok s h) s h a t e))
+    let whole = substitute env (rec s) in
+    unfolds (subst (λ y. Moves y a t) (sym (substitute_after whole env ok s)) (steps_move (Some whole ∷ env) (whole_closed env ok s h) s h a t e))
 steps_move env ok (back k) h a t e = absurd (cc e)
 steps_move env ok (var k) h a t e = one_move (var k) a (Var k) t variables e
 steps_move env ok (plain b) h a t e = absurd (cc e)
@@ -152,11 +151,11 @@ seq_part : {s r t : Tree} {a : Label} → Moves (seq s r) a t →
 seq_part (first {t} h m) = inl (h, (t, m, refl))
 seq_part (second h m) = inr (h, m)
 
-rec_part : {s t : Tree} {a : Label} → Moves (rec s) a t → Moves (unfolded s) a t
+rec_part : {s t : Tree} {a : Label} → Moves (rec s) a t → Moves (unfolding_of s) a t
 rec_part (unfolds m) = m
 
 -- putting types into a guarded type doesn't change whether it is terminated
-still_terminated : (env : List (Option Tree)) (s : Tree) → IsContractive s → IsGuarded s → terminated (substituted env s) ≡ terminated s
+still_terminated : (env : List (Option Tree)) (s : Tree) → IsContractive s → IsGuarded s → terminated (substitute env s) ≡ terminated s
 still_terminated env skip c g = refl
 still_terminated env (send b) c g = refl
 still_terminated env (receive b) c g = refl
@@ -165,10 +164,10 @@ still_terminated env (offer bs) c g = refl
 still_terminated env (seq s r) c g =
     pick (still_terminated env s c.0 (guarded_first s r g)) (still_terminated env r c.1) (terminated s) refl
   where
-    pick : terminated (substituted env s) ≡ terminated s → (IsGuarded r → terminated (substituted env r) ≡ terminated r) → (b : Bool) → terminated s ≡ b →
-        terminated (substituted env s) && terminated (substituted env r) ≡ terminated s && terminated r
+    pick : terminated (substitute env s) ≡ terminated s → (IsGuarded r → terminated (substitute env r) ≡ terminated r) → (b : Bool) → terminated s ≡ b →
+        terminated (substitute env s) && terminated (substitute env r) ≡ terminated s && terminated r
     pick front behind true is = λ i. front i && behind (guarded_second s r g is) i
-    pick front behind false is = ap (λ b. b && terminated (substituted env r)) (front ∙ is) ∙ sym (ap (λ b. b && terminated r) is)
+    pick front behind false is = ap (λ b. b && terminated (substitute env r)) (front ∙ is) ∙ sym (ap (λ b. b && terminated r) is)
 still_terminated env (rec s) c g = still_terminated (None ∷ env) s c.0 (guarded_body s c.1 g)
 still_terminated env (back k) c g = absurd (no_variable k g)
 still_terminated env (var k) c g = refl
@@ -184,7 +183,7 @@ one_step a b t h =
 
 -- a move is a step
 moves_step : (env : List (Option Tree)) → AllClosed env → (s : Tree) → IsScoped (length env) s → IsContractive s → IsGuarded s →
-    (a : Label) (t : Tree) → Moves (substituted env s) a t → step_in env s a ≡ Some t
+    (a : Label) (t : Tree) → Moves (substitute env s) a t → step_in env s a ≡ Some t
 moves_step env ok skip h c g a t m = absurd (no_skip m)
 moves_step env ok (send b) h c g a t m = one_step a (Send b) t (send_label m)
 moves_step env ok (receive b) h c g a t m = one_step a (Receive b) t (receive_label m)
@@ -193,21 +192,21 @@ moves_step env ok (offer bs) h c g a t m = sym (branch_substituted Offer env bs 
 moves_step env ok (seq s r) h c g a t m =
     pick (moves_step env ok s h.0 c.0 (guarded_first s r g) a) (λ k. moves_step env ok r h.1 c.1 k a t) (terminated s) refl (seq_part m)
   where
-    same : terminated (substituted env s) ≡ terminated s
+    same : terminated (substitute env s) ≡ terminated s
     same = still_terminated env s c.0 (guarded_first s r g)
 
-    pick : ((u : Tree) → Moves (substituted env s) a u → step_in env s a ≡ Some u) → (IsGuarded r → Moves (substituted env r) a t → step_in env r a ≡ Some t) →
+    pick : ((u : Tree) → Moves (substitute env s) a u → step_in env s a ≡ Some u) → (IsGuarded r → Moves (substitute env r) a t → step_in env r a ≡ Some t) →
         (b : Bool) → terminated s ≡ b →
-        ((terminated (substituted env s) ≡ false) × ((u : Tree) × Moves (substituted env s) a u × (seq u (substituted env r) ≡ t))) ⊎ ((terminated (substituted env s) ≡ true) × Moves (substituted env r) a t) →
-        (if b then step_in env r a else option_map (λ u. seq u (substituted env r)) (step_in env s a)) ≡ Some t
+        ((terminated (substitute env s) ≡ false) × ((u : Tree) × Moves (substitute env s) a u × (seq u (substitute env r) ≡ t))) ⊎ ((terminated (substitute env s) ≡ true) × Moves (substitute env r) a t) →
+        (if b then step_in env r a else option_map (λ u. seq u (substitute env r)) (step_in env s a)) ≡ Some t
     pick front behind true is (inl (n, u)) = absurd (cc (sym n ∙ same ∙ is))
     pick front behind true is (inr (y, m)) = behind (guarded_second s r g is) m
-    pick front behind false is (inl (n, (u, m, e))) = ap (option_map (λ v. seq v (substituted env r))) (front u m) ∙ ap Some e
+    pick front behind false is (inl (n, (u, m, e))) = ap (option_map (λ v. seq v (substitute env r))) (front u m) ∙ ap Some e
     pick front behind false is (inr (y, m)) = absurd (cc (sym y ∙ same ∙ is))
 moves_step env ok (rec s) h c g a t m =
-    let whole = substituted env (rec s) in
+    let whole = substitute env (rec s) in
     moves_step (Some whole ∷ env) (whole_closed env ok s h) s h c.0 (guarded_body s c.1 g) a t
-    (subst (λ y. Moves y a t) (substituted_after whole env ok s) (rec_part m))
+    (subst (λ y. Moves y a t) (substitute_after whole env ok s) (rec_part m))
 moves_step env ok (back k) h c g a t m = absurd (no_variable k g)
 moves_step env ok (var k) h c g a t m = one_step a (Var k) t (variable_label m)
 moves_step env ok (plain b) h c g a t m = absurd (no_plain m)
@@ -221,8 +220,8 @@ closed_guarded s h k = unreached s 0 k h (omega arith)
 -- the steps of a contractive type without free variables are its moves
 pub steps_are_moves : (s : Tree) → IsScoped 0 s → IsContractive s → (a : Label) (t : Tree) → (step s a ≡ Some t → Moves s a t) × (Moves s a t → step s a ≡ Some t)
 steps_are_moves s h c a t = (
-  λ e. subst (λ x. Moves x a t) (substituted_nothing s) (steps_move [] tt s h a t e),
-  λ m. moves_step [] tt s h c (closed_guarded s h) a t (subst (λ x. Moves x a t) (sym (substituted_nothing s)) m),
+  λ e. subst (λ x. Moves x a t) (substitute_nothing s) (steps_move [] tt s h a t e),
+  λ m. moves_step [] tt s h c (closed_guarded s h) a t (subst (λ x. Moves x a t) (sym (substitute_nothing s)) m),
 )
 
 same_some : (t u : Tree) → Some t ≡ Some u → t ≡ u
@@ -253,12 +252,12 @@ same_option None (Some y) f g = g y refl
 same_option (Some x) p f g = sym (f x refl)
 
 -- an unfolding moves as its type does
-pub unfolded_step : (s : Tree) → IsScoped 0 (rec s) → IsContractive (rec s) → IsContractive (unfolded s) → (a : Label) → step (unfolded s) a ≡ step (rec s) a
-unfolded_step s h c d a =
-    let inner = steps_are_moves (unfolded s) (unfolded_scoped s h) d a in
+pub unfolding_of_step : (s : Tree) → IsScoped 0 (rec s) → IsContractive (rec s) → IsContractive (unfolding_of s) → (a : Label) → step (unfolding_of s) a ≡ step (rec s) a
+unfolding_of_step s h c d a =
+    let inner = steps_are_moves (unfolding_of s) (unfolding_of_scoped s h) d a in
     let outer = steps_are_moves (rec s) h c a in
-    same_option (step (unfolded s) a) (step (rec s) a) (λ x e. (outer x).1 (unfolds ((inner x).0 e))) (λ x e. (inner x).1 (rec_part ((outer x).0 e)))
+    same_option (step (unfolding_of s) a) (step (rec s) a) (λ x e. (outer x).1 (unfolds ((inner x).0 e))) (λ x e. (inner x).1 (rec_part ((outer x).0 e)))
 
 -- an unfolding is terminated exactly where its type is
-pub unfolded_terminated : (s : Tree) → IsScoped 0 (rec s) → IsContractive (rec s) → terminated (unfolded s) ≡ terminated (rec s)
-unfolded_terminated s h c = still_terminated (Some (rec s) ∷ []) s c.0 (guarded_body s c.1 (closed_guarded (rec s) h))
+pub unfolding_of_terminated : (s : Tree) → IsScoped 0 (rec s) → IsContractive (rec s) → terminated (unfolding_of s) ≡ terminated (rec s)
+unfolding_of_terminated s h c = still_terminated (Some (rec s) ∷ []) s c.0 (guarded_body s c.1 (closed_guarded (rec s) h))

@@ -1,6 +1,6 @@
 -- What ordered branches give: labels that rise, and successors that are ordered too.
 use Rattle.std.proofs.Common.{◌≡◌, ℕ, List, [], ◌∷◌, Bool, true, false, Option, Some, None}
-use Rattle.std.specs.Prelude.{option_map, option_and_then, if◌then◌else◌, IfSome, ⊤}
+use Rattle.std.specs.Prelude.{option_map, option_and_then, if◌then◌else◌, IfSome}
 use Rattle.std.specs.declared.cmp.Ordering.TheVariants.{Less}
 use Rattle.std.specs.Ordering.{nat_cmp}
 use Rattle.std.specs.Cmp.Lexicographic.{slice_cmp}
@@ -8,8 +8,8 @@ use Rattle.fst_types.specs.Tree.{Tree, skip, send, receive, select, offer, seq, 
 use Rattle.fst_types.specs.Order.{same_label, IsOrdered, AllOrdered, AreRising, label_cmp}
 use Rattle.fst_types.specs.declared.label.Label.{Label}
 use Rattle.fst_types.specs.declared.label.Label.TheVariants.{Send, Receive, Select, Offer, Var}
-use Rattle.fst_types.specs.Substitution.{substituted, EnvHas}
-use Rattle.fst_types.proofs.Laws.{substituted_ordered}
+use Rattle.fst_types.specs.Substitution.{substitute, EnvHas}
+use Rattle.fst_types.proofs.Laws.{substitute_ordered}
 use Rattle.fst_lts.specs.Step.{terminated, branch_at, step_in, step, labels, choice_labels}
 use Rattle.fst_base.specs.Agreement.{residual}
 use Rattle.fst_base.specs.Order.{IsRising}
@@ -40,12 +40,12 @@ labels_rise (arrow u s r) o = tt
 labels_rise (pair s r) o = tt
 labels_rise (named k) o = tt
 
-branch_ordered : (make : List ℕ → Label) (env : List (Option Tree)) (bs : Branches) (a : Label) → EnvHas IsOrdered env → AllOrdered bs → IfSome (option_map (substituted env) (branch_at make bs a)) IsOrdered
+branch_ordered : (make : List ℕ → Label) (env : List (Option Tree)) (bs : Branches) (a : Label) → EnvHas IsOrdered env → AllOrdered bs → IfSome (option_map (substitute env) (branch_at make bs a)) IsOrdered
 branch_ordered make env none a e o = tt
 branch_ordered make env (branch l s bs) a e o = pick (same_label a (make l)) (branch_ordered make env bs a e o.1)
   where
-    pick : (c : Bool) → IfSome (option_map (substituted env) (branch_at make bs a)) IsOrdered → IfSome (option_map (substituted env) (if c then Some s else branch_at make bs a)) IsOrdered
-    pick true next = substituted_ordered env s e o.0
+    pick : (c : Bool) → IfSome (option_map (substitute env) (branch_at make bs a)) IsOrdered → IfSome (option_map (substitute env) (if c then Some s else branch_at make bs a)) IsOrdered
+    pick true next = substitute_ordered env s e o.0
     pick false next = next
 
 skip_ordered : (c : Bool) → IfSome (if c then Some skip else None) IsOrdered
@@ -60,11 +60,11 @@ step_in_ordered env (select bs) a e o = branch_ordered Select env bs a e o.1
 step_in_ordered env (offer bs) a e o = branch_ordered Offer env bs a e o.1
 step_in_ordered env (seq s r) a e o = pick (step_in_ordered env r a e o.1) (step_in env s a) (step_in_ordered env s a e o.0) (terminated s)
   where
-    pick : IfSome (step_in env r a) IsOrdered → (p : Option Tree) → IfSome p IsOrdered → (c : Bool) → IfSome (if c then step_in env r a else option_map (λ t. seq t (substituted env r)) p) IsOrdered
+    pick : IfSome (step_in env r a) IsOrdered → (p : Option Tree) → IfSome p IsOrdered → (c : Bool) → IfSome (if c then step_in env r a else option_map (λ t. seq t (substitute env r)) p) IsOrdered
     pick second p first true = second
     pick second None first false = tt
-    pick second (Some t) first false = (first, substituted_ordered env r e o.1)
-step_in_ordered env (rec s) a e o = step_in_ordered (Some (substituted env (rec s)) ∷ env) s a (substituted_ordered env (rec s) e o, e) o
+    pick second (Some t) first false = (first, substitute_ordered env r e o.1)
+step_in_ordered env (rec s) a e o = step_in_ordered (Some (substitute env (rec s)) ∷ env) s a (substitute_ordered env (rec s) e o, e) o
 step_in_ordered env (back k) a e o = tt
 step_in_ordered env (var k) a e o = skip_ordered (same_label a (Var k))
 step_in_ordered env (plain b) a e o = tt

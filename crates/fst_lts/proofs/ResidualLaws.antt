@@ -1,6 +1,6 @@
 -- What moves leave of a session type is one, and one without labels is terminated.
-use Rattle.std.proofs.Common.{◌≡◌, ◌∙◌, ◌≤◌, ℕ, zero, suc, List, [], ◌∷◌, length, Bool, true, false, Option, Some, None, refl, sym, ap, subst, arith}
-use Rattle.std.specs.Prelude.{◌&&◌, ◌||◌, not, option_map, option_and_then, if◌then◌else◌, IfSome, IsTrue, ◌↔◌}
+use Rattle.std.proofs.Common.{◌≡◌, ◌∙◌, ◌≤◌, ℕ, suc, List, [], ◌∷◌, length, Bool, true, false, Option, Some, None, refl, sym, ap, arith}
+use Rattle.std.specs.Prelude.{◌&&◌, option_map, option_and_then, if◌then◌else◌, IfSome, IsTrue, ◌↔◌}
 use Rattle.fst_types.specs.Tree.{Tree, skip, send, receive, select, offer, seq, rec, back, var, plain, arrow, pair, named, Branches, none, branch}
 use Rattle.fst_types.specs.declared.kind.Kind.{Kind}
 use Rattle.fst_types.specs.declared.kind.Use.TheVariants.{Many}
@@ -8,11 +8,11 @@ use Rattle.fst_types.specs.declared.label.Label.{Label}
 use Rattle.fst_types.specs.declared.label.Label.TheVariants.{Send, Receive, Select, Offer, Var}
 use Rattle.fst_types.specs.Order.{same_label, AllOrdered, AreRising}
 use Rattle.fst_types.specs.Scoped.{AllScoped}
-use Rattle.fst_types.specs.Substitution.{substituted}
-use Rattle.fst_kinds.specs.Kinds.{joined, AllSessions}
-use Rattle.fst_kinds.specs.Contractive.{guards, reaches, AllContractive}
+use Rattle.fst_types.specs.Substitution.{substitute}
+use Rattle.fst_kinds.specs.Kinds.{join, AllSessions}
+use Rattle.fst_kinds.specs.Contractive.{guards, AllContractive}
 use Rattle.fst_kinds.specs.WellFormed.{IsSession}
-use Rattle.fst_kinds.proofs.Laws.{not_top, unreached, substituted_guards, opened, open_first, open_second, open_body, unguarded_body, substituted_session}
+use Rattle.fst_kinds.proofs.Laws.{not_top, unreached, substitute_guards, opened, open_first, open_second, open_body, unguarded_body, substitute_session}
 use Rattle.fst_kinds.specs.OpenSession.{GuardsTo, IsOpenSession, IsPut}
 use Rattle.fst_lts.specs.Step.{terminated, branch_at, step_in, step, labels, choice_labels}
 use Rattle.fst_base.specs.Agreement.{residual}
@@ -29,7 +29,7 @@ skip_if_session vars false = tt
 
 seq_session : (vars : List Kind) (s r : Tree) → IsSession vars s → IsSession vars r → IsSession vars (seq s r)
 seq_session vars s r h g = (
-  joined h.0 g.0,
+  join h.0 g.0,
   record {
     kinded = (h.0, g.0, h.1.kinded, g.1.kinded, refl);
     contractive = (h.1.contractive, g.1.contractive);
@@ -39,12 +39,12 @@ seq_session vars s r h g = (
 )
 
 branch_session : (vars : List Kind) (n : ℕ) (env : List (Option Tree)) (make : List ℕ → Label) (bs : Branches) (a : Label) →
-    IsPut vars n env → AllSessions vars bs → AllContractive bs → AllScoped n bs → AllOrdered bs → IfSome (option_map (substituted env) (branch_at make bs a)) (IsSession vars)
+    IsPut vars n env → AllSessions vars bs → AllContractive bs → AllScoped n bs → AllOrdered bs → IfSome (option_map (substitute env) (branch_at make bs a)) (IsSession vars)
 branch_session vars n env make none a p k c h o = tt
 branch_session vars n env make (branch l s bs) a p k c h o = pick (branch_session vars n env make bs a p k.1 c.1 h.1 o.1) (same_label a (make l))
   where
-    pick : IfSome (option_map (substituted env) (branch_at make bs a)) (IsSession vars) → (b : Bool) → IfSome (option_map (substituted env) (if b then Some s else branch_at make bs a)) (IsSession vars)
-    pick next true = substituted_session vars n env s p (record { kinded = k.0; contractive = c.0; scoped = h.0; ordered = o.0 })
+    pick : IfSome (option_map (substitute env) (branch_at make bs a)) (IsSession vars) → (b : Bool) → IfSome (option_map (substitute env) (if b then Some s else branch_at make bs a)) (IsSession vars)
+    pick next true = substitute_session vars n env s p (record { kinded = k.0; contractive = c.0; scoped = h.0; ordered = o.0 })
     pick next false = next
 
 -- a step of an open session type, with session types for its variables, leaves a session type
@@ -58,21 +58,21 @@ step_in_session vars n env (seq s r) a p h =
     pick (step_in_session vars n env r a p (open_second vars n s r h)) (step_in env s a) (step_in_session vars n env s a p (open_first vars n s r h)) (terminated s)
   where
     pick : IfSome (step_in env r a) (IsSession vars) → (o : Option Tree) → IfSome o (IsSession vars) → (c : Bool) →
-        IfSome (if c then step_in env r a else option_map (λ t. seq t (substituted env r)) o) (IsSession vars)
+        IfSome (if c then step_in env r a else option_map (λ t. seq t (substitute env r)) o) (IsSession vars)
     pick second o first true = second
     pick second None first false = tt
-    pick second (Some t) first false = seq_session vars t (substituted env r) first (substituted_session vars n env r p (open_second vars n s r h))
+    pick second (Some t) first false = seq_session vars t (substitute env r) first (substitute_session vars n env r p (open_second vars n s r h))
 step_in_session vars n env (rec s) a p h =
-    pick (λ m. step_in_session vars m (Some (substituted env (rec s)) ∷ env) s a) (guards s) refl
+    pick (λ m. step_in_session vars m (Some (substitute env (rec s)) ∷ env) s a) (guards s) refl
   where
-    whole : IsSession vars (substituted env (rec s))
-    whole = substituted_session vars n env (rec s) p h
+    whole : IsSession vars (substitute env (rec s))
+    whole = substitute_session vars n env (rec s) p h
 
-    put : (m : ℕ) → m ≤ suc (length env) → GuardsTo m (Some (substituted env (rec s)) ∷ env) → IsPut vars m (Some (substituted env (rec s)) ∷ env)
+    put : (m : ℕ) → m ≤ suc (length env) → GuardsTo m (Some (substitute env (rec s)) ∷ env) → IsPut vars m (Some (substitute env (rec s)) ∷ env)
     put m le g = record { closed = (whole.1.scoped, p.closed); sessions = (whole, p.sessions); enough = le; guarded = g }
 
-    pick : ((m : ℕ) → IsPut vars m (Some (substituted env (rec s)) ∷ env) → IsOpenSession vars m s → IfSome (step_in env (rec s) a) (IsSession vars)) → (b : Bool) → guards s ≡ b → IfSome (step_in env (rec s) a) (IsSession vars)
-    pick next true is = next (suc n) (put (suc n) (omega (arith, p.enough)) (substituted_guards n env (rec s) p.guarded h.scoped is, p.guarded)) (open_body vars n s h)
+    pick : ((m : ℕ) → IsPut vars m (Some (substitute env (rec s)) ∷ env) → IsOpenSession vars m s → IfSome (step_in env (rec s) a) (IsSession vars)) → (b : Bool) → guards s ≡ b → IfSome (step_in env (rec s) a) (IsSession vars)
+    pick next true is = next (suc n) (put (suc n) (omega (arith, p.enough)) (substitute_guards n env (rec s) p.guarded h.scoped is, p.guarded)) (open_body vars n s h)
     pick next false is = next 0 (put 0 (omega arith) tt) (unguarded_body vars n s h is)
 step_in_session vars n env (back k) a p h = tt
 step_in_session vars n env (var k) a p h = skip_if_session vars (same_label a (Var k))

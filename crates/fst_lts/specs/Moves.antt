@@ -4,7 +4,7 @@ use Rattle.fst_types.specs.Tree.{Tree, skip, send, receive, select, offer, seq, 
 use Rattle.fst_types.specs.declared.base.Base.{Base}
 use Rattle.fst_types.specs.declared.label.Label.{Label}
 use Rattle.fst_types.specs.declared.label.Label.TheVariants.{Send, Receive, Select, Offer, Var}
-use Rattle.fst_types.specs.Substitution.{unfolded}
+use Rattle.fst_types.specs.Substitution.{unfolding_of}
 use Rattle.fst_lts.specs.Step.{terminated, branch_at}
 
 -- the type moves by the label to the other type, by one of the rules
@@ -22,6 +22,6 @@ pub data Moves : Tree → Label → Tree → Type 0 where
   -- `S;R` as R moves, where no move of S is left
   second : {s r t : Tree} {a : Label} → terminated s ≡ true → Moves r a t → Moves (seq s r) a t
   -- `rec x. S` as its unfolding moves
-  unfolds : {s t : Tree} {a : Label} → Moves (unfolded s) a t → Moves (rec s) a t
+  unfolds : {s t : Tree} {a : Label} → Moves (unfolding_of s) a t → Moves (rec s) a t
   -- a signature's variable by itself to Skip
   variables : {k : ℕ} → Moves (var k) (Var k) skip

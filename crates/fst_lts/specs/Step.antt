@@ -5,7 +5,7 @@ use Rattle.fst_types.specs.Tree.{Tree, skip, send, receive, select, offer, seq, 
 use Rattle.fst_types.specs.declared.label.Label.{Label}
 use Rattle.fst_types.specs.declared.label.Label.TheVariants.{Send, Receive, Select, Offer, Var}
 use Rattle.fst_types.specs.Order.{same_label}
-use Rattle.fst_types.specs.Substitution.{substituted}
+use Rattle.fst_types.specs.Substitution.{substitute}
 
 -- no move is left
 abbrev pub terminated : Tree → Bool
@@ -33,11 +33,11 @@ abbrev pub step_in : List (Option Tree) → Tree → Label → Option Tree
 step_in env skip a = None
 step_in env (send b) a = if same_label a (Send b) then Some skip else None
 step_in env (receive b) a = if same_label a (Receive b) then Some skip else None
-step_in env (select bs) a = option_map (substituted env) (branch_at Select bs a)
-step_in env (offer bs) a = option_map (substituted env) (branch_at Offer bs a)
+step_in env (select bs) a = option_map (substitute env) (branch_at Select bs a)
+step_in env (offer bs) a = option_map (substitute env) (branch_at Offer bs a)
 step_in env (seq s r) a =
-    if terminated s then step_in env r a else option_map (λ t. seq t (substituted env r)) (step_in env s a)
-step_in env (rec s) a = step_in (Some (substituted env (rec s)) ∷ env) s a
+    if terminated s then step_in env r a else option_map (λ t. seq t (substitute env r)) (step_in env s a)
+step_in env (rec s) a = step_in (Some (substitute env (rec s)) ∷ env) s a
 step_in env (back k) a = None
 step_in env (var k) a = if same_label a (Var k) then Some skip else None
 step_in env (plain b) a = None

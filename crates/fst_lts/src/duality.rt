@@ -11,32 +11,53 @@ use std::alloc::{AllocError, Global};
 pub fn dual(alloc: Global, t: &Ty) -> Result<Ty, AllocError>
     ensures { IfOk result (λ d. d ≡ dual t.now) }
 {
-    let form = match &t.form {
-        TyForm::Skip => TyForm::Skip,
-        TyForm::Send(base) => TyForm::Receive(*base),
-        TyForm::Receive(base) => TyForm::Send(*base),
-        TyForm::Select(branches) => TyForm::Offer(dual_branches(alloc, branches)?),
-        TyForm::Offer(branches) => TyForm::Select(dual_branches(alloc, branches)?),
-        TyForm::Seq(first, second) => TyForm::Seq(
-            Box::new(alloc, dual(alloc, first)?)?,
-            Box::new(alloc, dual(alloc, second)?)?,
-        ),
-        TyForm::Rec(body) => TyForm::Rec(Box::new(alloc, dual(alloc, body)?)?),
-        TyForm::Back(k) => TyForm::Back(*k),
-        TyForm::Var(k) => TyForm::Var(*k),
-        TyForm::Plain(base) => TyForm::Plain(*base),
-        TyForm::Arrow(uses, from, to) => TyForm::Arrow(
-            *uses,
-            Box::new(alloc, dual(alloc, from)?)?,
-            Box::new(alloc, dual(alloc, to)?)?,
-        ),
-        TyForm::Pair(first, second) => TyForm::Pair(
-            Box::new(alloc, dual(alloc, first)?)?,
-            Box::new(alloc, dual(alloc, second)?)?,
-        ),
-        TyForm::Named(k) => TyForm::Named(*k),
-    };
-    Ok(Ty { form })
+    match &t.form {
+        TyForm::Skip => Ok(Ty { form: TyForm::Skip }),
+        TyForm::Send(base) => Ok(Ty {
+            form: TyForm::Receive(*base),
+        }),
+        TyForm::Receive(base) => Ok(Ty {
+            form: TyForm::Send(*base),
+        }),
+        TyForm::Select(branches) => Ok(Ty {
+            form: TyForm::Offer(dual_branches(alloc, branches)?),
+        }),
+        TyForm::Offer(branches) => Ok(Ty {
+            form: TyForm::Select(dual_branches(alloc, branches)?),
+        }),
+        TyForm::Seq(first, second) => Ok(Ty {
+            form: TyForm::Seq(dual_part(alloc, first)?, dual_part(alloc, second)?),
+        }),
+        TyForm::Rec(body) => Ok(Ty {
+            form: TyForm::Rec(dual_part(alloc, body)?),
+        }),
+        TyForm::Back(k) => Ok(Ty {
+            form: TyForm::Back(*k),
+        }),
+        TyForm::Var(k) => Ok(Ty {
+            form: TyForm::Var(*k),
+        }),
+        TyForm::Plain(base) => Ok(Ty {
+            form: TyForm::Plain(*base),
+        }),
+        TyForm::Arrow(uses, from, to) => Ok(Ty {
+            form: TyForm::Arrow(*uses, dual_part(alloc, from)?, dual_part(alloc, to)?),
+        }),
+        TyForm::Pair(first, second) => Ok(Ty {
+            form: TyForm::Pair(dual_part(alloc, first)?, dual_part(alloc, second)?),
+        }),
+        TyForm::Named(k) => Ok(Ty {
+            form: TyForm::Named(*k),
+        }),
+    }
+}
+
+#[cycle(dual)]
+fn dual_part(alloc: Global, part: &Ty) -> Result<Box<Ty>, AllocError>
+    ensures { IfOk result (λ d. d.value ≡ dual part.now) }
+{
+    let other = dual(alloc, part)?;
+    Ok(Box::new(alloc, other)?)
 }
 
 #[cycle(dual)]

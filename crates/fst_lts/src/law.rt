@@ -2,7 +2,7 @@ ghost use Rattle.std.specs.Prelude.{◌≡◌, ◌↔◌, ℕ, List, Some, map, 
 ghost use Rattle.fst_types.specs.Tree.{Tree};
 ghost use Rattle.fst_types.specs.Tree as tree;
 ghost use Rattle.fst_types.specs.Scoped.{IsScoped};
-ghost use Rattle.fst_types.specs.Substitution.{unfolded};
+ghost use Rattle.fst_types.specs.Substitution.{unfolding_of};
 ghost use Rattle.fst_types.specs.declared.kind.Kind.{Kind};
 ghost use Rattle.fst_types.specs.declared.label.Label.{Label};
 ghost use Rattle.fst_kinds.specs.Contractive.{IsContractive};
@@ -34,8 +34,8 @@ pub fn moves_law()
 
 /// The unfolding of a recursive session type moves as the type does, and is terminated where the type is.
 pub fn unfolding_law()
-    ensures steps { (vars : List Kind) (s : Tree) → IsSession vars (tree.rec s) → (a : Label) → step (unfolded s) a ≡ step (tree.rec s) a }
-    ensures ends { (vars : List Kind) (s : Tree) → IsSession vars (tree.rec s) → terminated (unfolded s) ≡ terminated (tree.rec s) }
+    ensures steps { (vars : List Kind) (s : Tree) → IsSession vars (tree.rec s) → (a : Label) → step (unfolding_of s) a ≡ step (tree.rec s) a }
+    ensures ends { (vars : List Kind) (s : Tree) → IsSession vars (tree.rec s) → terminated (unfolding_of s) ≡ terminated (tree.rec s) }
 {}
 
 /// Agreement at every depth is an equivalence, and is kept with any type in front of both sides, and with any type

@@ -3,10 +3,14 @@
 
 mod depth;
 mod duality;
+mod fault;
 mod law;
+mod limited;
 mod moves;
 
 pub use depth::agree_to;
 pub use duality::{dual, dual_label};
+pub use fault::StepFault;
 pub use law::{agreement_law, depth_law, dual_law, moves_law, unfolding_law};
+pub use limited::step_within_limit;
 pub use moves::{labels, residual, step, terminated};

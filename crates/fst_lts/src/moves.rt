@@ -9,7 +9,7 @@ ghost use Rattle.fst_lts.specs.Step.{terminated, labels, choice_labels, step, st
 ghost use Rattle.fst_base.specs.Agreement.{residual};
 ghost use Rattle.fst_base.specs.Order.{IsRising};
 ghost use Rattle.fst_types.specs.ModelScopes.{env_of};
-ghost use Rattle.fst_types.specs.Substitution.{substituted};
+ghost use Rattle.fst_types.specs.Substitution.{substitute};
 
 use fst_types::{Branch, Label, Scope, Ty, TyForm, copy, substitute};
 use std::alloc::{AllocError, Global};
@@ -22,7 +22,7 @@ pub fn terminated(t: &Ty) -> bool
     is_terminated(t)
 }
 
-fn is_terminated(t: &Ty) -> bool
+pub(crate) fn is_terminated(t: &Ty) -> bool
     ensures { result ≡ terminated t.now }
 {
     match &t.form {
@@ -128,27 +128,25 @@ fn step_within(
         TyForm::Skip => Ok(None),
         TyForm::Send(base) => Ok(skip_if(a.same(&Label::Send(*base)))),
         TyForm::Receive(base) => Ok(skip_if(a.same(&Label::Receive(*base)))),
-        TyForm::Select(branches) => select_branch(alloc, scope, branches, a),
-        TyForm::Offer(branches) => offer_branch(alloc, scope, branches, a),
+        TyForm::Select(branches) => match selected(branches, a) {
+            Some(body) => substituted(alloc, scope, body),
+            None => Ok(None),
+        },
+        TyForm::Offer(branches) => match offered(branches, a) {
+            Some(body) => substituted(alloc, scope, body),
+            None => Ok(None),
+        },
         TyForm::Seq(first, second) => {
             if is_terminated(first) {
                 step_within(alloc, scope, second, a)
             } else {
                 match step_within(alloc, scope, first, a)? {
                     None => Ok(None),
-                    Some(next) => Ok(Some(Ty {
-                        form: TyForm::Seq(
-                            Box::new(alloc, next)?,
-                            Box::new(alloc, substitute(alloc, scope, second)?)?,
-                        ),
-                    })),
+                    Some(next) => Ok(Some(followed(alloc, scope, next, second)?)),
                 }
             }
         }
-        TyForm::Rec(body) => {
-            let whole = substitute(alloc, scope, t)?;
-            step_within(alloc, &Scope::Under(&whole, scope), body, a)
-        }
+        TyForm::Rec(body) => step_within(alloc, &Scope::Under(t, scope), body, a),
         TyForm::Back(_) => Ok(None),
         TyForm::Var(k) => Ok(skip_if(a.same(&Label::Var(*k)))),
         TyForm::Plain(_) => Ok(None),
@@ -156,6 +154,22 @@ fn step_within(
         TyForm::Pair(_, _) => Ok(None),
         TyForm::Named(_) => Ok(None),
     }
+}
+
+fn substituted(alloc: Global, scope: &Scope<'_>, t: &Ty) -> Result<Option<Ty>, AllocError>
+    ensures { IfOk result (λ next. next ≡ Some (substitute (env_of scope.now) t.now)) }
+{
+    Ok(Some(substitute(alloc, scope, t)?))
+}
+
+// The type with another one behind it, into which what the binders around it stand for is put.
+fn followed(alloc: Global, scope: &Scope<'_>, next: Ty, second: &Ty) -> Result<Ty, AllocError>
+    ensures { IfOk result (λ t. t ≡ tree.seq next (substitute (env_of scope.now) second.now)) }
+{
+    let behind = substitute(alloc, scope, second)?;
+    Ok(Ty {
+        form: TyForm::Seq(Box::new(alloc, next)?, Box::new(alloc, behind)?),
+    })
 }
 
 fn skip_if(moves: bool) -> Option<Ty>
@@ -168,36 +182,28 @@ fn skip_if(moves: bool) -> Option<Ty>
     }
 }
 
-fn select_branch(
-    alloc: Global,
-    scope: &Scope<'_>,
-    branches: &[Branch],
-    a: &Label,
-) -> Result<Option<Ty>, AllocError>
-    ensures { IfOk result (λ next. next ≡ option_map (substituted (env_of scope.now)) (branch_at Label.Select (branches_of branches.now) a.now)) }
+/// The branch of a selection that a label leads to.
+pub(crate) fn selected<'a>(branches: &'a [Branch], a: &Label) -> Option<&'a Ty>
+    ensures { option_map (λ t. t.now) result ≡ branch_at Label.Select (branches_of branches.now) a.now }
 {
     for branch in branches {
         if a.is_select(&branch.label) {
-            return Ok(Some(substitute(alloc, scope, &branch.body)?));
+            return Some(&branch.body);
         }
     }
-    Ok(None)
+    None
 }
 
-fn offer_branch(
-    alloc: Global,
-    scope: &Scope<'_>,
-    branches: &[Branch],
-    a: &Label,
-) -> Result<Option<Ty>, AllocError>
-    ensures { IfOk result (λ next. next ≡ option_map (substituted (env_of scope.now)) (branch_at Label.Offer (branches_of branches.now) a.now)) }
+/// The branch of an offer that a label leads to.
+pub(crate) fn offered<'a>(branches: &'a [Branch], a: &Label) -> Option<&'a Ty>
+    ensures { option_map (λ t. t.now) result ≡ branch_at Label.Offer (branches_of branches.now) a.now }
 {
     for branch in branches {
         if a.is_offer(&branch.label) {
-            return Ok(Some(substitute(alloc, scope, &branch.body)?));
+            return Some(&branch.body);
         }
     }
-    Ok(None)
+    None
 }
 
 /// What is left of a type after a trace, or none where the type doesn't perform the trace.

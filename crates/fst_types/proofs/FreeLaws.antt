@@ -2,7 +2,7 @@
 use Rattle.std.proofs.Common.{◌≡◌, ◌<◌, ◌↔◌, ◌⊎◌, inl, inr, ℕ, zero, suc, List, [], ◌∷◌, Option, Some, None, refl, subst, sym, arith}
 use Rattle.fst_types.specs.Tree.{Tree, skip, send, receive, select, offer, seq, rec, back, var, plain, arrow, pair, named, Branches, none, branch}
 use Rattle.fst_types.specs.Scoped.{IsScoped, AllScoped, IsFree, IsFreeInSome}
-use Rattle.fst_types.specs.Substitution.{variable, substituted, substituted_all, EnvHas, StandsForNothing}
+use Rattle.fst_types.specs.Substitution.{variable, substitute, substitute_all, EnvHas, StandsForNothing}
 
 mutual
   -- each free variable belongs to one of the binders around
@@ -89,24 +89,24 @@ in_neither = (λ f. absurd f, λ p. p.0)
 
 mutual
   -- the free variables of a type in which types without any are put: those of the type that stand for nothing
-  pub substituted_free : (env : List (Option Tree)) → EnvHas (IsScoped 0) env → (t : Tree) (k : ℕ) → IsFree k (substituted env t) ↔ (IsFree k t × StandsForNothing env k)
-  substituted_free env ok skip k = in_neither
-  substituted_free env ok (send b) k = in_neither
-  substituted_free env ok (receive b) k = in_neither
-  substituted_free env ok (select bs) k = substituted_free_in_some env ok bs k
-  substituted_free env ok (offer bs) k = substituted_free_in_some env ok bs k
-  substituted_free env ok (seq s r) k = in_either (substituted_free env ok s k) (substituted_free env ok r k)
-  substituted_free env ok (rec s) k = substituted_free (None ∷ env) (tt, ok) s (suc k)
-  substituted_free env ok (back j) k = at_one env j k (IsFree k (variable env j (back j))) (variable_free env ok j j k)
-  substituted_free env ok (var j) k = in_neither
-  substituted_free env ok (plain b) k = in_neither
-  substituted_free env ok (arrow u s r) k = in_either (substituted_free env ok s k) (substituted_free env ok r k)
-  substituted_free env ok (pair s r) k = in_either (substituted_free env ok s k) (substituted_free env ok r k)
-  substituted_free env ok (named j) k = in_neither
+  pub substitute_free : (env : List (Option Tree)) → EnvHas (IsScoped 0) env → (t : Tree) (k : ℕ) → IsFree k (substitute env t) ↔ (IsFree k t × StandsForNothing env k)
+  substitute_free env ok skip k = in_neither
+  substitute_free env ok (send b) k = in_neither
+  substitute_free env ok (receive b) k = in_neither
+  substitute_free env ok (select bs) k = substitute_free_in_some env ok bs k
+  substitute_free env ok (offer bs) k = substitute_free_in_some env ok bs k
+  substitute_free env ok (seq s r) k = in_either (substitute_free env ok s k) (substitute_free env ok r k)
+  substitute_free env ok (rec s) k = substitute_free (None ∷ env) (tt, ok) s (suc k)
+  substitute_free env ok (back j) k = at_one env j k (IsFree k (variable env j (back j))) (variable_free env ok j j k)
+  substitute_free env ok (var j) k = in_neither
+  substitute_free env ok (plain b) k = in_neither
+  substitute_free env ok (arrow u s r) k = in_either (substitute_free env ok s k) (substitute_free env ok r k)
+  substitute_free env ok (pair s r) k = in_either (substitute_free env ok s k) (substitute_free env ok r k)
+  substitute_free env ok (named j) k = in_neither
 
-  substituted_free_in_some : (env : List (Option Tree)) → EnvHas (IsScoped 0) env → (bs : Branches) (k : ℕ) → IsFreeInSome k (substituted_all env bs) ↔ (IsFreeInSome k bs × StandsForNothing env k)
-  substituted_free_in_some env ok none k = in_neither
-  substituted_free_in_some env ok (branch l s bs) k = in_either (substituted_free env ok s k) (substituted_free_in_some env ok bs k)
+  substitute_free_in_some : (env : List (Option Tree)) → EnvHas (IsScoped 0) env → (bs : Branches) (k : ℕ) → IsFreeInSome k (substitute_all env bs) ↔ (IsFreeInSome k bs × StandsForNothing env k)
+  substitute_free_in_some env ok none k = in_neither
+  substitute_free_in_some env ok (branch l s bs) k = in_either (substitute_free env ok s k) (substitute_free_in_some env ok bs k)
 
 -- what the law of substitution says
-pub ruleset substitution_laws = (scoped_exactly, substituted_free)
+pub ruleset substitution_laws = (scoped_exactly, substitute_free)

@@ -8,7 +8,7 @@ use Rattle.fst_types.specs.ModelWrittenHeight as written
 use Rattle.fst_types.specs.ModelWrittenView.{written_branches}
 use Rattle.fst_types.specs.Order.{IsOrdered, label_cmp, same_label}
 use Rattle.fst_types.specs.Scoped.{IsScoped}
-use Rattle.fst_types.specs.Substitution.{variable, substituted, unfolded, EnvHas, AllClosed}
+use Rattle.fst_types.specs.Substitution.{variable, substitute, unfolding_of, EnvHas, AllClosed}
 use Rattle.fst_types.specs.declared.label.Label.{Label}
 use Rattle.fst_types.specs.declared.ty.Branch.{Branch}
 use Rattle.fst_types.specs.declared.written.WrittenBranch.{WrittenBranch}
@@ -50,26 +50,26 @@ pub scoped_wider : (n m : ℕ) (s : Tree) → n ≤ m → IsScoped n s → IsSco
 scoped_wider = substitution.scoped_wider
 
 -- binders that stand for nothing change no type
-pub substituted_nothing : (s : Tree) → substituted [] s ≡ s
-substituted_nothing = substitution.substituted_nothing 0
+pub substitute_nothing : (s : Tree) → substitute [] s ≡ s
+substitute_nothing = substitution.substitute_nothing 0
 
 -- a type whose free variables all stand for types without any has none left
-pub substituted_scoped : (env : List (Option Tree)) (s : Tree) → AllClosed env → IsScoped (length env) s → IsScoped 0 (substituted env s)
-substituted_scoped = substitution.all_put_scoped
+pub substitute_scoped : (env : List (Option Tree)) (s : Tree) → AllClosed env → IsScoped (length env) s → IsScoped 0 (substitute env s)
+substitute_scoped = substitution.all_put_scoped
 
 -- ordered types put into an ordered type give an ordered type
-pub substituted_ordered : (env : List (Option Tree)) (s : Tree) → EnvHas IsOrdered env → IsOrdered s → IsOrdered (substituted env s)
-substituted_ordered = substitution.substituted_ordered
+pub substitute_ordered : (env : List (Option Tree)) (s : Tree) → EnvHas IsOrdered env → IsOrdered s → IsOrdered (substitute env s)
+substitute_ordered = substitution.substitute_ordered
 
 -- putting in one type after the others is putting them in all at once
-pub substituted_after : (whole : Tree) (env : List (Option Tree)) → AllClosed env → (s : Tree) →
-    substituted (Some whole ∷ []) (substituted (None ∷ env) s) ≡ substituted (Some whole ∷ env) s
-substituted_after whole env ok = substitution.substituted_after whole env ok 0
+pub substitute_after : (whole : Tree) (env : List (Option Tree)) → AllClosed env → (s : Tree) →
+    substitute (Some whole ∷ []) (substitute (None ∷ env) s) ≡ substitute (Some whole ∷ env) s
+substitute_after whole env ok = substitution.substitute_after whole env ok 0
 
 -- the unfolding of a type without free variables has none
-pub unfolded_scoped : (s : Tree) → IsScoped 0 (rec s) → IsScoped 0 (unfolded s)
-unfolded_scoped = substitution.unfolded_scoped
+pub unfolding_of_scoped : (s : Tree) → IsScoped 0 (rec s) → IsScoped 0 (unfolding_of s)
+unfolding_of_scoped = substitution.unfolding_of_scoped
 
 -- the unfolding of an ordered type is ordered
-pub unfolded_ordered : (s : Tree) → IsOrdered (rec s) → IsOrdered (unfolded s)
-unfolded_ordered = substitution.unfolded_ordered
+pub unfolding_of_ordered : (s : Tree) → IsOrdered (rec s) → IsOrdered (unfolding_of s)
+unfolding_of_ordered = substitution.unfolding_of_ordered

@@ -3,6 +3,7 @@ pub mod Size
 pub mod Height
 pub mod Order
 pub mod Scoped
+pub mod Named
 pub mod Substitution
 pub mod Differences
 pub mod WrittenTree

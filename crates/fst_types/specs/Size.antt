@@ -1,5 +1,6 @@
 -- How large a type is.
-use Rattle.std.specs.Prelude.{ℕ, ◌+◌}
+use Rattle.std.specs.Prelude.{ℕ, ◌+◌, ◌<◌}
+use Rattle.fst_base.specs.Limits.{most_nodes}
 use Rattle.fst_types.specs.Tree.{Tree, skip, send, receive, select, offer, seq, rec, back, var, plain, arrow, pair, named, Branches, none, branch}
 
 abbrev mutual
@@ -23,3 +24,7 @@ abbrev mutual
   pub nodes_all : Branches → ℕ
   nodes_all none = 0
   nodes_all (branch l t bs) = nodes t + 1 + nodes_all bs
+
+-- the tree has more nodes than a type may have
+abbrev pub HasTooManyNodes : Tree → Type 0
+HasTooManyNodes t = most_nodes < nodes t

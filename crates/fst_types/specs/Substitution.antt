@@ -12,29 +12,29 @@ variable (o ∷ env) (suc k) t = variable env k t
 abbrev mutual
   -- the type with what the binders around it stand for in place of its variables, put in as it stands: no variable
   -- of what is put in is counted anew, so only what has no free variables means the same there
-  pub substituted : List (Option Tree) → Tree → Tree
-  substituted env skip = skip
-  substituted env (send b) = send b
-  substituted env (receive b) = receive b
-  substituted env (select bs) = select (substituted_all env bs)
-  substituted env (offer bs) = offer (substituted_all env bs)
-  substituted env (seq s r) = seq (substituted env s) (substituted env r)
-  substituted env (rec s) = rec (substituted (None ∷ env) s)
-  substituted env (back k) = variable env k (back k)
-  substituted env (var k) = var k
-  substituted env (plain b) = plain b
-  substituted env (arrow u s r) = arrow u (substituted env s) (substituted env r)
-  substituted env (pair s r) = pair (substituted env s) (substituted env r)
-  substituted env (named k) = named k
+  pub substitute : List (Option Tree) → Tree → Tree
+  substitute env skip = skip
+  substitute env (send b) = send b
+  substitute env (receive b) = receive b
+  substitute env (select bs) = select (substitute_all env bs)
+  substitute env (offer bs) = offer (substitute_all env bs)
+  substitute env (seq s r) = seq (substitute env s) (substitute env r)
+  substitute env (rec s) = rec (substitute (None ∷ env) s)
+  substitute env (back k) = variable env k (back k)
+  substitute env (var k) = var k
+  substitute env (plain b) = plain b
+  substitute env (arrow u s r) = arrow u (substitute env s) (substitute env r)
+  substitute env (pair s r) = pair (substitute env s) (substitute env r)
+  substitute env (named k) = named k
 
   -- the same in each branch
-  pub substituted_all : List (Option Tree) → Branches → Branches
-  substituted_all env none = none
-  substituted_all env (branch l s bs) = branch l (substituted env s) (substituted_all env bs)
+  pub substitute_all : List (Option Tree) → Branches → Branches
+  substitute_all env none = none
+  substitute_all env (branch l s bs) = branch l (substitute env s) (substitute_all env bs)
 
 -- the unfolding of `rec s`: its body with the whole type in place of its variable
-abbrev pub unfolded : Tree → Tree
-unfolded s = substituted (Some (rec s) ∷ []) s
+abbrev pub unfolding_of : Tree → Tree
+unfolding_of s = substitute (Some (rec s) ∷ []) s
 
 -- all that the binders stand for is as P says
 abbrev pub EnvHas : (Tree → Type 0) → List (Option Tree) → Type 0

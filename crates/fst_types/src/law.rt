@@ -3,7 +3,7 @@ ghost use Rattle.std.specs.Cmp.{IsTotalOrder};
 ghost use Rattle.fst_types.specs.Tree.{Tree};
 ghost use Rattle.fst_types.specs.Order.{label_cmp, same_label};
 ghost use Rattle.fst_types.specs.Scoped.{IsScoped, IsFree};
-ghost use Rattle.fst_types.specs.Substitution.{substituted, EnvHas, StandsForNothing};
+ghost use Rattle.fst_types.specs.Substitution.{substitute, EnvHas, StandsForNothing};
 ghost use Rattle.fst_types.specs.declared.label.Label.{Label};
 
 /// The order of labels is total, and the test for one label is equality.
@@ -18,5 +18,5 @@ pub fn label_order_law()
 #[tactic(auto, using(crate::proofs::FreeLaws::substitution_laws))]
 pub fn substitution_law()
     ensures scoped { (n : ℕ) (t : Tree) → IsScoped n t ↔ ((k : ℕ) → IsFree k t → k < n) }
-    ensures free { (env : List (Option Tree)) → EnvHas (IsScoped 0) env → (t : Tree) (k : ℕ) → IsFree k (substituted env t) ↔ (IsFree k t × StandsForNothing env k) }
+    ensures free { (env : List (Option Tree)) → EnvHas (IsScoped 0) env → (t : Tree) (k : ℕ) → IsFree k (substitute env t) ↔ (IsFree k t × StandsForNothing env k) }
 {}

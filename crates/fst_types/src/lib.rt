@@ -3,7 +3,9 @@
 #![tactic(auto)]
 
 mod base;
+mod counting;
 mod family;
+mod fault;
 mod kind;
 mod label;
 mod law;
@@ -11,17 +13,21 @@ mod name;
 mod scope;
 mod side;
 mod ty;
+mod unfolding;
 mod walks;
 mod written;
 
 pub use base::Base;
+pub use counting::substituted_size;
 pub use family::{Family, Maker};
+pub use fault::UnfoldFault;
 pub use kind::{Kind, Prekind, Use};
 pub use label::Label;
 pub use law::{label_order_law, substitution_law};
 pub use name::Name;
-pub use scope::{Scope, substitute, unfold};
+pub use scope::{Scope, substitute};
 pub use side::Side;
 pub use ty::{Branch, Ty, TyForm};
+pub use unfolding::{unfold, unfold_within_limit};
 pub use walks::{copy, same, size};
 pub use written::{Written, WrittenBranch, WrittenForm};

@@ -1,5 +1,5 @@
-use Rattle.fst_kinds.proofs.UnfoldLaws.{unfolded_well_formed}
+use Rattle.fst_kinds.proofs.UnfoldLaws.{unfolding_of_well_formed}
 use Rattle.fst_kinds.proofs.law.unfolding_keeps_kinds.Goals as goal
 
 pub returns : goal.returns
-returns c = unfolded_well_formed
+returns c = unfolding_of_well_formed

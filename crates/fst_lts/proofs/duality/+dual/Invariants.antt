@@ -12,3 +12,6 @@ decreases-dual l = 2 * height l.t.now
 
 abbrev pub decreases-dual_branches : goal.decreases-dual_branches
 decreases-dual_branches l = 2 * height_all (branches_of l.branches.now) + 1
+
+abbrev pub decreases-dual_part : goal.decreases-dual_part
+decreases-dual_part l = 2 * height l.part.now + 1

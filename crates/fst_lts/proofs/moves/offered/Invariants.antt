@@ -2,7 +2,7 @@ use Rattle.std.proofs.Common.{◌≡◌, drop}
 use Rattle.fst_types.specs.ModelView.{branches_of}
 use Rattle.fst_types.specs.declared.label.Label.TheVariants.{Offer}
 use Rattle.fst_lts.specs.Step.{branch_at}
-use Rattle.fst_lts.proofs.moves.offer_branch.Given as goal
+use Rattle.fst_lts.proofs.moves.offered.Given as goal
 
 abbrev pub invariant-loop-branch : goal.invariant-loop-branch
 invariant-loop-branch l = branch_at Offer (branches_of (drop l.branch-index l.branches)) l.a ≡ branch_at Offer (branches_of l.branches) l.a
