@@ -1,5 +1,5 @@
 -- Lists: what stands where, and lists that are put together in two ways.
-use Rattle.std.proofs.Common.{◌≡◌, ℕ, zero, suc, ◌<◌, List, [], ◌∷◌, ◌++◌, length, refl, sym, ap, ◌∙◌, arith, ◌⊎◌, inl, inr, Some}
+use Rattle.std.proofs.Common.{◌≡◌, ℕ, zero, suc, ◌<◌, List, [], ◌∷◌, ◌++◌, length, length-append, refl, sym, ap, ◌∙◌, arith, ◌⊎◌, inl, inr, Some}
 use Rattle.std.specs.Prelude.{Contains, slice_get}
 
 -- what stands in a list with one more at its end
@@ -34,6 +34,21 @@ pub get_there : {A : Type 0} (E : List A) (k : ℕ) → k < length E → (x : A)
 get_there [] k l = absurd (omega arith)
 get_there (x ∷ E) zero l = (x, refl)
 get_there (x ∷ E) (suc k) l = get_there E k (omega arith)
+
+-- a list with one more is one longer
+pub length-push : {A : Type 0} (E : List A) (n : A) → length (E ++ n ∷ []) ≡ suc (length E)
+length-push E n = let e = length-append E (n ∷ []) in omega arith
+
+-- lists as long as one another with the same item at each place are one
+pub same_items : {A : Type 0} (xs ys : List A) → length xs ≡ length ys →
+    ((k : ℕ) (x y : A) → slice_get xs k ≡ Some x → slice_get ys k ≡ Some y → x ≡ y) → xs ≡ ys
+same_items [] [] len h = refl
+same_items [] (y ∷ ys) len h = absurd (omega arith)
+same_items (x ∷ xs) [] len h = absurd (omega arith)
+same_items (x ∷ xs) (y ∷ ys) len h =
+    let first : x ≡ y = h 0 x y refl refl in
+    let rest : xs ≡ ys = same_items xs ys (omega arith) (λ k a b e f. h (suc k) a b e f) in
+    λ i. first i ∷ rest i
 
 -- a list is empty, or has a last item
 pub snoc_view : {A : Type 0} (s : List A) → (s ≡ []) ⊎ ((t : List A) × (b : A) × (s ≡ t ++ b ∷ []))

@@ -6,9 +6,9 @@ pub mod OneAnswer
 pub mod RangeLaws
 pub mod LabelLaws
 pub mod RowLaws
+pub mod CutLaws
+pub mod PairLaws
+pub mod NotedLaws
 pub mod ExpandLaws
 pub mod FollowLaws
-pub mod NotedLaws
 pub mod AnswerLaws
-pub mod TableLaws
-pub mod UnprunedLaws

@@ -1,38 +1,24 @@
 -- A question of two words within a budget has at most one answer.
-use Rattle.std.proofs.Common.{◌≡◌, ◌∙◌, ℕ, suc, ◌<◌, ◌≤◌, List, [], ◌∷◌, ◌++◌, length, Bool, Some, inl, inr, refl, sym, ap, subst, arith}
+use Rattle.std.proofs.Common.{◌≡◌, ◌∙◌, ℕ, ◌<◌, ◌≤◌, List, [], ◌∷◌, ◌++◌, length, Bool, Some, inl, inr, refl, sym, ap, subst, arith}
 use Rattle.std.specs.Prelude.{map, slice_get, is_some}
 use Rattle.std.proofs.lemmas.Bool.Decides.{leb_tells}
 use Rattle.std.proofs.lemmas.Bool.{cases_lt}
 use Rattle.std.proofs.lemmas.Option.{slice_get_within}
 use Rattle.std.proofs.lemmas.List.{length-map}
-use Rattle.fst_base.proofs.Lists.{get_there}
+use Rattle.fst_base.proofs.Lists.{get_there, same_items}
 use Rattle.fst_types.specs.declared.label.Label.{Label}
 use Rattle.fst_types.specs.declared.side.Side.{Side}
 use Rattle.fst_types.specs.declared.side.Side.TheVariants.{Left, Right}
 use Rattle.fst_words.specs.Words.{Productions, step}
-use Rattle.fst_words.specs.declared.word.Pair.{Pair}
+use Rattle.fst_shared.specs.declared.handle.SharedPair.{SharedPair}
 use Rattle.fst_breadth.specs.Reached.{ReachedPair, AreFirst, AreAll}
 use Rattle.fst_breadth.specs.Answer.{pair_of, IsAlone, IsFirstDifference, IsLabelTrace, IsEqual, IsDifferent, IsBudgetSpent, equal, differ, spent, OneAnswer}
 use Rattle.fst_breadth.proofs.Determined.{same_entries}
-
--- lists as long as one another with the same item at each place are one
-same_items : {A : Type 0} (xs ys : List A) → length xs ≡ length ys → ((k : ℕ) (x y : A) → slice_get xs k ≡ Some x → slice_get ys k ≡ Some y → x ≡ y) → xs ≡ ys
-same_items [] [] len h = refl
-same_items [] (y ∷ ys) len h = absurd (omega arith)
-same_items (x ∷ xs) [] len h = absurd (omega arith)
-same_items (x ∷ xs) (y ∷ ys) len h =
-    let first : x ≡ y = h 0 x y refl refl in
-    let rest : xs ≡ ys = same_items xs ys (omega arith) (λ k a b e f. h (suc k) a b e f) in
-    λ i. first i ∷ rest i
+use Rattle.fst_breadth.proofs.RowLaws.{not_alone}
 
 -- a list of pairs is as long as the list that it was taken from
-length-pairs : (found : List ReachedPair) (pairs : List Pair) → map pair_of found ≡ pairs → length found ≡ length pairs
+length-pairs : (found : List ReachedPair) (pairs : List SharedPair) → map pair_of found ≡ pairs → length found ≡ length pairs
 length-pairs found pairs e = sym (length-map found pair_of) ∙ ap length e
-
--- of two tests that are the same, neither holds alone
-not_alone : (side : Side) (p q : Bool) → IsAlone side p q → p ≡ q → ⊥
-not_alone Left p q alone same = let a = alone.0 in let b = alone.1 in cc
-not_alone Right p q alone same = let a = alone.0 in let b = alone.1 in cc
 
 -- at most one side's test holds alone
 one_side : (s t : Side) (p q : Bool) → IsAlone s p q → IsAlone t p q → s ≡ t
@@ -91,18 +77,18 @@ module _ (rows : Productions) (marks : List Bool) (u v : List ℕ) where
   ]
 
   -- lists of first pairs as long as one another have the same pairs
-  same_pairs : (E F : List ReachedPair) (pairs others : List Pair) → AreFirst rows marks u v E → AreFirst rows marks u v F → length E ≡ length F →
+  same_pairs : (E F : List ReachedPair) (pairs others : List SharedPair) → AreFirst rows marks u v E → AreFirst rows marks u v F → length E ≡ length F →
       map pair_of E ≡ pairs → map pair_of F ≡ others → pairs ≡ others
   same_pairs E F pairs others a b len e f = sym e ∙ ap (map pair_of) (same_items E F len (same_entries rows marks u v E F a b)) ∙ f
 
   module _ (budget : ℕ) where
-    two_equal : (pairs others : List Pair) → IsEqual rows marks u v budget pairs → IsEqual rows marks u v budget others → pairs ≡ others
+    two_equal : (pairs others : List SharedPair) → IsEqual rows marks u v budget pairs → IsEqual rows marks u v budget others → pairs ≡ others
     two_equal pairs others p q =
         let le = not_longer p.found q.found p.first p.all q.first in
         let ge = not_longer q.found p.found q.first q.all p.first in
         same_pairs p.found q.found pairs others p.first q.first (omega arith) p.pairs_are q.pairs_are
 
-    two_spent : (pairs others : List Pair) → IsBudgetSpent rows marks u v budget pairs → IsBudgetSpent rows marks u v budget others → pairs ≡ others
+    two_spent : (pairs others : List SharedPair) → IsBudgetSpent rows marks u v budget pairs → IsBudgetSpent rows marks u v budget others → pairs ≡ others
     two_spent pairs others p q =
         let m = length-pairs p.found pairs p.pairs_are in
         let n = length-pairs q.found others q.pairs_are in
@@ -135,14 +121,14 @@ module _ (rows : Productions) (marks : List Bool) (u v : List ℕ) where
         (one_trace letters (d.entry.trace ++ d.letter ∷ []) v1 v2 d.labels labels, one_owner rows d.entry.left d.entry.right d.letter e.letter s t d.differs other)
 
     -- all pairs show no difference, or one does
-    not_equal_and_different : (letters : List Label) (pairs : List Pair) (trace : List Label) (side : Side) → IsEqual rows marks u v budget pairs → IsDifferent rows marks letters u v budget trace side → ⊥
+    not_equal_and_different : (letters : List Label) (pairs : List SharedPair) (trace : List Label) (side : Side) → IsEqual rows marks u v budget pairs → IsDifferent rows marks letters u v budget trace side → ⊥
     not_equal_and_different letters pairs trace side p q =
         let d = q.difference in
         let l = p.all d.entry.trace d.entry.left d.entry.right (q.first.reached q.at d.entry d.there) in
         not_alone side (is_some (step rows d.entry.left d.letter)) (is_some (step rows d.entry.right d.letter)) d.differs.here
         (ap (λ (z : List ℕ). is_some (step rows z d.letter)) (sym l.left) ∙ p.alike l.at l.entry l.there d.letter ∙ ap (λ (z : List ℕ). is_some (step rows z d.letter)) l.right)
 
-    module _ (pairs : List Pair) (p : IsBudgetSpent rows marks u v budget pairs) where
+    module _ (pairs : List SharedPair) (p : IsBudgetSpent rows marks u v budget pairs) where
       -- an entry of a list of at most as many first pairs as the budget is in the spent one
       in_spent : (found : List ReachedPair) (at : ℕ) (e : ReachedPair) → AreFirst rows marks u v found → length found ≤ budget → slice_get found at ≡ Some e → slice_get p.found at ≡ Some e
       in_spent found at e first within there =
@@ -154,7 +140,7 @@ module _ (rows : Productions) (marks : List Bool) (u v : List ℕ) where
           other.1 ∙ ap Some (sym same)
 
       -- all pairs are within the budget, or there is one behind them
-      not_equal_and_spent : (others : List Pair) → IsEqual rows marks u v budget others → ⊥
+      not_equal_and_spent : (others : List SharedPair) → IsEqual rows marks u v budget others → ⊥
       not_equal_and_spent others q =
           let more = p.more in
           let listed = q.all more.s more.x more.y more.reached in

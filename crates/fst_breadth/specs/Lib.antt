@@ -4,3 +4,4 @@ pub mod Rows
 pub mod State
 pub mod Following
 pub mod Tables
+pub mod Numbers

@@ -5,9 +5,12 @@ mod answers;
 mod breadth;
 mod following;
 mod law;
+mod noted;
+mod numbers;
+mod pairs;
 mod rows;
 mod table;
 
 pub use answers::Found;
-pub use breadth::{search, search_pruned};
+pub use breadth::search;
 pub use law::{first_pairs_are_determined, search_is_determined};

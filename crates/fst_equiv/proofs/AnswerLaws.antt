@@ -6,7 +6,7 @@ use Rattle.fst_types.specs.declared.label.Label.{Label}
 use Rattle.fst_types.specs.declared.side.Side.{Side}
 use Rattle.fst_kinds.specs.WellFormed.{IsSession}
 use Rattle.fst_words.specs.Words.{Productions}
-use Rattle.fst_words.specs.declared.word.Pair.{Pair}
+use Rattle.fst_shared.specs.declared.handle.SharedPair.{SharedPair}
 use Rattle.fst_norms.specs.Pruned.{pruned_word}
 use Rattle.fst_breadth.specs.Answer.{IsEqual, IsBudgetSpent, equal, differ, spent}
 use Rattle.fst_breadth.specs.Answer as breadth
@@ -17,7 +17,7 @@ use Rattle.fst_equiv.proofs.LeastLaws.{one_no, not_yes_and_no}
 use Rattle.fst_equiv.proofs.ProblemLaws.{AreSame, one_problem, problem_small}
 
 -- what holds of one problem's pairs holds of the same problem's
-moved : (letters more : List Label) (rows rules : Productions) (u v x y : List ℕ) (marks set : List Bool) (budget : ℕ) (pairs : List Pair) →
+moved : (letters more : List Label) (rows rules : Productions) (u v x y : List ℕ) (marks set : List Bool) (budget : ℕ) (pairs : List SharedPair) →
     AreSame letters more rows rules u v x y marks set → IsBudgetSpent rows marks (pruned_word marks u) (pruned_word marks v) budget pairs → IsBudgetSpent rules set (pruned_word set x) (pruned_word set y) budget pairs
 moved letters more rows rules u v x y marks set budget pairs same h =
     subst (λ z. IsBudgetSpent rules set (pruned_word set x) (pruned_word set z) budget pairs) same.right
@@ -27,7 +27,7 @@ moved letters more rows rules u v x y marks set budget pairs same h =
 
 module _ (one : OneGrammar) (by_search : breadth.OneAnswer) (vars others : List Kind) (s r : Tree) (budget : ℕ) (left : IsSession vars s) (right : IsSession others r) where
   -- all pairs of two types are within the budget, or there are more
-  not_yes_and_undecided : (letters more : List Label) (rows rules : Productions) (x y : List ℕ) (pairs visited : List Pair) →
+  not_yes_and_undecided : (letters more : List Label) (rows rules : Productions) (x y : List ℕ) (pairs visited : List SharedPair) →
       IsShownEqual s r budget letters rows x y pairs → IsShownSpent s r budget more rules visited → ⊥
   not_yes_and_undecided letters more rows rules x y pairs visited e p =
       let same = one_problem one vars others s r left right more letters rules rows p.u p.v e.u e.v p.marks e.marks p.problem e.problem in
@@ -36,7 +36,7 @@ module _ (one : OneGrammar) (by_search : breadth.OneAnswer) (vars others : List 
       cc (by_search rows e.marks more (pruned_word e.marks e.u) (pruned_word e.marks e.v) budget (equal pairs) (spent visited) all more_pairs)
 
   -- one of the first pairs of two types shows a difference, or none does
-  not_no_and_undecided : (trace : List Label) (side : Side) (more : List Label) (rules : Productions) (visited : List Pair) →
+  not_no_and_undecided : (trace : List Label) (side : Side) (more : List Label) (rules : Productions) (visited : List SharedPair) →
       IsShownDifferent s r budget trace side → IsShownSpent s r budget more rules visited → ⊥
   not_no_and_undecided trace side more rules visited d p =
       let same = one_problem one vars others s r left right more d.letters rules d.rows p.u p.v d.u d.v p.marks d.marks p.problem d.problem in

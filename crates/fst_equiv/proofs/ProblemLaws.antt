@@ -1,26 +1,24 @@
 -- Two types within the limits have one grammar, one word each, and one list of marks.
-use Rattle.std.proofs.Common.{◌≡◌, ◌∙◌, inl, inr, ℕ, suc, ◌<◌, List, [], ◌∷◌, length, Bool, refl, sym, ap, subst, arith}
+use Rattle.std.proofs.Common.{◌≡◌, ◌∙◌, inl, inr, ℕ, ◌<◌, List, length, Bool, false, refl, sym, ap, subst, arith}
 use Rattle.fst_types.specs.Tree.{Tree}
 use Rattle.fst_types.specs.declared.kind.Kind.{Kind}
 use Rattle.fst_types.specs.declared.label.Label.{Label}
 use Rattle.fst_kinds.specs.WellFormed.{IsSession}
 use Rattle.fst_words.specs.Words.{Productions}
-use Rattle.fst_norms.specs.Pruned.{AreUnnormed, is_marked}
+use Rattle.fst_words.specs.Marks.{is_marked}
+use Rattle.fst_norms.specs.Pruned.{AreUnnormed}
 use Rattle.fst_grammar.specs.Place.{top_of}
 use Rattle.fst_grammar.specs.Word.{word}
 use Rattle.fst_grammar.specs.Translation.{OneGrammar, IsTooLarge, numbers_of, right_sides}
 use Rattle.fst_equiv.specs.Problem.{IsProblem}
+use Rattle.std.proofs.lemmas.Option.{get_or_from_slice_get, slice_get_within}
 use Rattle.fst_base.proofs.Bools.{same_bool}
+use Rattle.fst_base.proofs.Lists.{same_items}
 
 -- lists of marks as long as each other with the same members are one
 same_members : (a b : List Bool) → length a ≡ length b → ((n : ℕ) → n < length a → is_marked a n ≡ is_marked b n) → a ≡ b
-same_members [] [] len h = refl
-same_members [] (y ∷ b) len h = absurd (omega arith)
-same_members (x ∷ a) [] len h = absurd (omega arith)
-same_members (x ∷ a) (y ∷ b) len h =
-    let first : x ≡ y = h 0 (omega arith) in
-    let rest : a ≡ b = same_members a b (omega arith) (λ n lt. h (suc n) (omega arith)) in
-    λ i. first i ∷ rest i
+same_members a b len h = same_items a b len (λ n x y at_a at_b.
+    sym (get_or_from_slice_get a n x false at_a) ∙ h n (slice_get_within a n x at_a) ∙ get_or_from_slice_get b n y false at_b)
 
 -- two largest unnormed sets of one grammar are one
 same_marks : (rows : Productions) (marks others : List Bool) → AreUnnormed rows marks → AreUnnormed rows others → marks ≡ others

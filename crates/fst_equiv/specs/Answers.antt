@@ -6,7 +6,7 @@ use Rattle.fst_types.specs.declared.label.Label.{Label}
 use Rattle.fst_types.specs.declared.side.Side.{Side}
 use Rattle.fst_kinds.specs.WellFormed.{IsSession}
 use Rattle.fst_words.specs.Words.{Productions}
-use Rattle.fst_words.specs.declared.word.Pair.{Pair}
+use Rattle.fst_shared.specs.declared.handle.SharedPair.{SharedPair}
 use Rattle.fst_grammar.specs.Translation.{IsTooLarge}
 use Rattle.fst_equiv.specs.Problem.{IsShownEqual, IsShownDifferent, IsShownSpent}
 
@@ -24,14 +24,14 @@ pub record AreShownEqual (s r : Tree) (budget : ℕ) : Type 0 where
   pub rows : Productions
   pub x : List ℕ
   pub y : List ℕ
-  pub pairs : List Pair
+  pub pairs : List SharedPair
   pub shown : IsShownEqual s r budget letters rows x y pairs
 
 -- a grammar and a list of pairs show that the budget is spent
 pub record AreShownSpent (s r : Tree) (budget : ℕ) : Type 0 where
   pub letters : List Label
   pub rows : Productions
-  pub pairs : List Pair
+  pub pairs : List SharedPair
   pub shown : IsShownSpent s r budget letters rows pairs
 
 -- the answer to the question of two types

@@ -8,7 +8,7 @@ use Rattle.fst_lts.specs.Step.{step}
 use Rattle.fst_base.specs.Agreement.{Agree}
 use Rattle.fst_types.specs.Differences.{IsLeastDistinguishingTrace}
 use Rattle.fst_words.specs.Words.{Productions, EachHasRule}
-use Rattle.fst_words.specs.declared.word.Pair.{Pair}
+use Rattle.fst_shared.specs.declared.handle.SharedPair.{SharedPair}
 use Rattle.fst_norms.specs.Pruned.{AreUnnormed, pruned_word}
 use Rattle.fst_grammar.specs.Translation.{IsTranslation, IsInRange, IsSmall}
 use Rattle.fst_breadth.specs.Answer.{IsEqual, IsDifferent, IsBudgetSpent}
@@ -24,7 +24,7 @@ pub record IsProblem (s r : Tree) (letters : List Label) (rows : Productions) (u
 
 -- x and y are the pruned words of two types, and these are all the pairs that they reach: at most budget many, of
 -- which none shows a difference. The types agree at every depth.
-pub record IsShownEqual (s r : Tree) (budget : ℕ) (letters : List Label) (rows : Productions) (x y : List ℕ) (pairs : List Pair) : Type 0 where
+pub record IsShownEqual (s r : Tree) (budget : ℕ) (letters : List Label) (rows : Productions) (x y : List ℕ) (pairs : List SharedPair) : Type 0 where
   pub agree : Agree step step s r
   pub u : List ℕ
   pub v : List ℕ
@@ -46,7 +46,7 @@ pub record IsShownDifferent (s r : Tree) (budget : ℕ) (trace : List Label) (si
   pub first : IsDifferent rows marks letters (pruned_word marks u) (pruned_word marks v) budget trace side
 
 -- these are the first budget pairs that two types reach: there are more, and these show no difference
-pub record IsShownSpent (s r : Tree) (budget : ℕ) (letters : List Label) (rows : Productions) (pairs : List Pair) : Type 0 where
+pub record IsShownSpent (s r : Tree) (budget : ℕ) (letters : List Label) (rows : Productions) (pairs : List SharedPair) : Type 0 where
   pub u : List ℕ
   pub v : List ℕ
   pub marks : List Bool

@@ -8,7 +8,7 @@ ghost use Rattle.fst_equiv.specs.declared.fault.EquivFault.TheVariants.{TooLarge
 
 use crate::fault::EquivFault;
 use crate::verdict::{Certificate, Verdict};
-use fst_breadth::{Found, search_pruned};
+use fst_breadth::{Found, search};
 use fst_grammar::translate;
 use fst_norms::{prune, unnormed};
 use fst_types::Ty;
@@ -30,7 +30,7 @@ pub fn ask(alloc: Global, t: &Ty, u: &Ty, budget: u32) -> Result<Verdict, EquivF
     let marks = marks.as_slice();
     prune(&mut left, marks);
     prune(&mut right, marks);
-    let found = search_pruned(alloc, &g, marks, &left, &right, budget)?;
+    let found = search(alloc, &g, marks, &left, &right, budget)?;
     Ok(verdict_of(g, left, right, found))
 }
 

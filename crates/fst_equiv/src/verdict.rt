@@ -1,12 +1,13 @@
+use fst_shared::SharedPair;
 use fst_types::{Label, Side};
-use fst_words::{Grammar, Pair, Word};
+use fst_words::{Grammar, Word};
 
 /// What shows that two types are equivalent.
 #[derive(Drop)]
 pub enum Certificate {
     /// The grammar of the two types, their pruned words, and all pairs of different pruned words that these reach, in
     /// the order of the least traces that reach them (Almeida, Mordido, Vasconcelos, TACAS 2020).
-    Visited(Grammar, Word, Word, Vec<Pair>),
+    Visited(Grammar, Word, Word, Vec<SharedPair>),
 }
 
 /// Whether two types are equivalent.
@@ -18,5 +19,5 @@ pub enum Verdict {
     No(Vec<Label>, Side),
     /// There are more pairs than the budget: the grammar, and as many pairs as the budget, of which none shows a
     /// difference.
-    Undecided(Grammar, Vec<Pair>),
+    Undecided(Grammar, Vec<SharedPair>),
 }

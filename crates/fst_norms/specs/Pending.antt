@@ -7,8 +7,9 @@ use Rattle.fst_norms.specs.declared.estimate.Estimate.{Estimate}
 use Rattle.fst_norms.specs.Bounds.{IsSound}
 
 -- it names a rule of the grammar
-abbrev pub IsPending : Productions → Pending → Type 0
-IsPending rows p = (p.number < length rows) × (p.rule < length (row_of rows p.number))
+pub record IsPending (rows : Productions) (p : Pending) : Type 0 where
+  pub number : p.number < length rows
+  pub rule : p.rule < length (row_of rows p.number)
 
 -- one sound bound, or none, for each non-terminal; what was found are bounds of non-terminals
 pub record IsEstimate (rows : Productions) (e : Estimate) : Type 0 where

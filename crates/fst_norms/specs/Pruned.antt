@@ -1,10 +1,7 @@
 -- Unnormed non-terminals, and words cut behind the first of them (Almeida, Mordido, Vasconcelos, TACAS 2020).
-use Rattle.std.specs.Prelude.{◌≡◌, ℕ, ◌<◌, ◌||◌, List, [], ◌∷◌, length, Some, slice_index_or, Bool, true, false, if◌then◌else◌}
+use Rattle.std.specs.Prelude.{◌≡◌, ℕ, ◌<◌, ◌||◌, List, [], ◌∷◌, length, Some, Bool, true, false, if◌then◌else◌}
+use Rattle.fst_words.specs.Marks.{is_marked}
 use Rattle.fst_words.specs.Words.{Productions, row_of, rule_of}
-
--- the non-terminal is marked
-abbrev pub is_marked : List Bool → ℕ → Bool
-is_marked marks n = slice_index_or marks n false
 
 -- some non-terminal of the word is marked
 abbrev pub has_marked : List Bool → List ℕ → Bool

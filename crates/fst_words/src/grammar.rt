@@ -38,7 +38,7 @@ fn step_by_rule(
     };
     match g.rules[*first as usize].word_for(letter) {
         None => Ok(None),
-        Some(word) => Ok(Some(Word::joined(alloc, word.as_slice(), rest)?)),
+        Some(word) => Ok(Some(Word::concat(alloc, word.as_slice(), rest)?)),
     }
 }
 

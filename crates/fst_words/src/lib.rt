@@ -7,4 +7,4 @@ mod word;
 
 pub use grammar::{Grammar, is_below, is_in_range, step};
 pub use rules::{Rule, Rules};
-pub use word::{Pair, Word};
+pub use word::Word;

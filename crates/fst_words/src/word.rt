@@ -27,6 +27,20 @@ impl Word {
         })
     }
 
+    /// The word of the non-terminals of this list, without a copy.
+    pub fn from_vec(numbers: Vec<u32>) -> Word
+        ensures { result ≡ numbers.items }
+    {
+        Word { numbers }
+    }
+
+    /// The list of the non-terminals, without a copy.
+    pub fn into_vec(self) -> Vec<u32>
+        ensures { result.items ≡ self }
+    {
+        self.numbers
+    }
+
     /// The numbers of the non-terminals.
     pub fn as_slice(&self) -> &[u32]
         ensures { result.now ≡ self.now }
@@ -35,7 +49,7 @@ impl Word {
     }
 
     /// The first word, and then the second.
-    pub fn joined(alloc: Global, first: &[u32], second: &[u32]) -> Result<Word, AllocError>
+    pub fn concat(alloc: Global, first: &[u32], second: &[u32]) -> Result<Word, AllocError>
         ensures { IfOk result (λ w. w ≡ first.now ++ second.now) }
     {
         let mut numbers = Vec::from_slice(alloc, first)?;
@@ -56,11 +70,4 @@ impl Word {
     {
         self.numbers.truncate(len);
     }
-}
-
-/// Two words, one of each side.
-#[derive(Drop)]
-pub struct Pair {
-    pub left: Word,
-    pub right: Word,
 }

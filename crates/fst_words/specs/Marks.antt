@@ -1,0 +1,6 @@
+-- Non-terminals that are marked.
+use Rattle.std.specs.Prelude.{ℕ, List, Bool, false, slice_index_or}
+
+-- the non-terminal is marked
+abbrev pub is_marked : List Bool → ℕ → Bool
+is_marked marks n = slice_index_or marks n false
