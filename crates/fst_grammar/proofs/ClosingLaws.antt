@@ -3,7 +3,7 @@ use Rattle.std.proofs.Common.{◌≡◌, ◌∙◌, ◌<◌, ◌≤◌, ℕ, zer
 use Rattle.std.specs.Prelude.{option_map, if◌then◌else◌, ◌&&◌, ⊤}
 use Rattle.std.proofs.lemmas.Bool.{eqb-true, and_parts}
 use Rattle.fst_types.specs.Tree.{Tree, skip, send, receive, select, offer, seq, rec, back, var, plain, arrow, pair, named, Branches, none, branch}
-use Rattle.fst_types.specs.Substitution.{variable, substituted, substituted_all}
+use Rattle.fst_types.specs.Substitution.{variable, substitute, substitute_all}
 use Rattle.fst_types.specs.Scoped.{IsScoped, AllScoped}
 use Rattle.fst_types.specs.declared.label.Label.{Label}
 use Rattle.fst_lts.specs.Step.{terminated, step_in}
@@ -33,7 +33,7 @@ pub scoped_if_closed : (t : Tree) → is_closed t ≡ true → IsScoped 0 t
 scoped_if_closed t h = let e : open_depth t ≡ 0 = eqb-true (open_depth t) 0 h in scoped_if_loose t 0 (omega arith)
 
 abbrev pub IsClosed : Tree → Type 0
-IsClosed t = (e : List (Option Tree)) → substituted e t ≡ t
+IsClosed t = (e : List (Option Tree)) → substitute e t ≡ t
 
 abbrev pub AllClosed : List (Option Tree) → Type 0
 AllClosed [] = ⊤
@@ -45,19 +45,19 @@ pub data Lays (outer : List (Option Tree)) (names : List ℕ) : ℕ → List (Op
   top : (E : List (Option Tree)) → Lays outer names 0 E outer outer names
   over : {n : ℕ} {E D G : List (Option Tree)} {bs : List ℕ} → (o : Option Tree) (b : ℕ) → Lays outer names n E D G bs → Lays outer names (suc n) (o ∷ E) (None ∷ D) (o ∷ G) (b ∷ bs)
 
-outside : (F env : List (Option Tree)) → AllClosed env → (k j : ℕ) → k < length env → substituted F (variable env k (back j)) ≡ variable env k (back j)
+outside : (F env : List (Option Tree)) → AllClosed env → (k j : ℕ) → k < length env → substitute F (variable env k (back j)) ≡ variable env k (back j)
 outside F [] ok k j h = absurd (omega arith)
 outside F (None ∷ env) ok k j h = absurd ok
 outside F (Some t ∷ env) ok zero j h = ok.0 F
 outside F (Some t ∷ env) ok (suc k) j h = outside F env ok.1 k j (omega arith)
 
-at_variable : {outer : List (Option Tree)} {names : List ℕ} {n : ℕ} {E D G : List (Option Tree)} {bs : List ℕ} → Lays outer names n E D G bs → AllClosed outer → (F : List (Option Tree)) (k j : ℕ) → k < length G → variable F j (back j) ≡ variable E k (back j) → substituted F (variable D k (back j)) ≡ variable G k (back j)
+at_variable : {outer : List (Option Tree)} {names : List ℕ} {n : ℕ} {E D G : List (Option Tree)} {bs : List ℕ} → Lays outer names n E D G bs → AllClosed outer → (F : List (Option Tree)) (k j : ℕ) → k < length G → variable F j (back j) ≡ variable E k (back j) → substitute F (variable D k (back j)) ≡ variable G k (back j)
 at_variable {outer} (top E) ok F k j lt h = outside F outer ok k j lt
 at_variable (over o b l) ok F zero j lt h = h
 at_variable (over o b l) ok F (suc k) j lt h = at_variable l ok F k j (omega arith) h
 
 mutual
-  pub composed : {outer : List (Option Tree)} {names : List ℕ} {n : ℕ} {E D G : List (Option Tree)} {bs : List ℕ} → Lays outer names n E D G bs → AllClosed outer → (s : Tree) → IsScoped (length G) s → substituted E (substituted D s) ≡ substituted G s
+  pub composed : {outer : List (Option Tree)} {names : List ℕ} {n : ℕ} {E D G : List (Option Tree)} {bs : List ℕ} → Lays outer names n E D G bs → AllClosed outer → (s : Tree) → IsScoped (length G) s → substitute E (substitute D s) ≡ substitute G s
   composed l ok skip h = refl
   composed l ok (send b) h = refl
   composed l ok (receive b) h = refl
@@ -72,7 +72,7 @@ mutual
   composed l ok (pair s r) h = λ i. pair (composed l ok s h.0 i) (composed l ok r h.1 i)
   composed l ok (named k) h = refl
 
-  all_composed : {outer : List (Option Tree)} {names : List ℕ} {n : ℕ} {E D G : List (Option Tree)} {bs : List ℕ} → Lays outer names n E D G bs → AllClosed outer → (cs : Branches) → AllScoped (length G) cs → substituted_all E (substituted_all D cs) ≡ substituted_all G cs
+  all_composed : {outer : List (Option Tree)} {names : List ℕ} {n : ℕ} {E D G : List (Option Tree)} {bs : List ℕ} → Lays outer names n E D G bs → AllClosed outer → (cs : Branches) → AllScoped (length G) cs → substitute_all E (substitute_all D cs) ≡ substitute_all G cs
   all_composed l ok none h = refl
   all_composed l ok (branch t s cs) h = λ i. branch t (composed l ok s h.0 i) (all_composed l ok cs h.1 i)
 
@@ -85,7 +85,7 @@ under_none env h zero j = refl
 under_none env h (suc k) j = h k j
 
 -- closing doesn't change whether a type is terminated
-pub kept_terminated : (env : List (Option Tree)) → NoneEnds env → (s : Tree) → terminated (substituted env s) ≡ terminated s
+pub kept_terminated : (env : List (Option Tree)) → NoneEnds env → (s : Tree) → terminated (substitute env s) ≡ terminated s
 kept_terminated env h skip = refl
 kept_terminated env h (send b) = refl
 kept_terminated env h (receive b) = refl
@@ -109,8 +109,8 @@ no_step env (select cs) a e = absurd (cc e)
 no_step env (offer cs) a e = absurd (cc e)
 no_step env (seq s r) a e =
     let h = and_parts (terminated s) (terminated r) e in
-    ap (λ c. if c then step_in env r a else option_map (λ t. seq t (substituted env r)) (step_in env s a)) h.0 ∙ no_step env r a h.1
-no_step env (rec s) a e = no_step (Some (substituted env (rec s)) ∷ env) s a e
+    ap (λ c. if c then step_in env r a else option_map (λ t. seq t (substitute env r)) (step_in env s a)) h.0 ∙ no_step env r a h.1
+no_step env (rec s) a e = no_step (Some (substitute env (rec s)) ∷ env) s a e
 no_step env (back k) a e = absurd (cc e)
 no_step env (var k) a e = absurd (cc e)
 no_step env (plain b) a e = absurd (cc e)

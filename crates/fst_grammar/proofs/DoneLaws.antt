@@ -9,13 +9,12 @@ use Rattle.fst_types.specs.declared.label.Label.{Label}
 use Rattle.fst_kinds.specs.WellFormed.{IsSession}
 use Rattle.fst_words.specs.declared.rules.Rule.{Rule}
 use Rattle.fst_words.specs.Words.{Productions, WordBelow, EachHasRule}
-use Rattle.fst_words.specs.Ordered.{AreOrdered}
 use Rattle.fst_grammar.specs.Place.{top_of}
 use Rattle.fst_grammar.specs.Word.{word}
 use Rattle.fst_grammar.specs.Labels.{labels_in, names}
 use Rattle.fst_grammar.specs.Letters.{with_labels}
 use Rattle.fst_grammar.specs.Parts.{Part, parts_of, numbers_by}
-use Rattle.fst_grammar.specs.Equations.{Equation, Solves, equations_by, IsGrounded, AreFine, most_rank}
+use Rattle.fst_grammar.specs.Equations.{Equation, Solves, equations_by, IsGrounded, HasRanks, HasOrderedRows, AreFine, most_rank}
 use Rattle.fst_grammar.specs.Translation.{IsGrammar, IsTooLarge, right_sides}
 use Rattle.fst_grammar.specs.Done.{IsDone}
 use Rattle.fst_grammar.specs.declared.fault.TranslateFault.{TranslateFault}
@@ -56,7 +55,7 @@ module _ (s r : Tree) (ws : (vars : List Kind) × IsSession vars s) (wr : (vars 
   rows_grammar = grammar_is ws.0 s r ws.1 wr few_s few_r all_letters (letters_are s r) rows rows_solve
 
   rows_length : length rows ≡ total
-  rows_length = rows_solve.0 ∙ equations_length ws.0 s r ws.1 wr few_s few_r all_letters (letters_are s r)
+  rows_length = rows_solve.count ∙ equations_length ws.0 s r ws.1 wr few_s few_r all_letters (letters_are s r)
 
   rows_ruled : EachHasRule rows
   rows_ruled =
@@ -70,10 +69,10 @@ module _ (s r : Tree) (ws : (vars : List Kind) × IsSession vars s) (wr : (vars 
     left = stands ws.0 (numbers_by all_letters (parts_of s r)) all_letters rows s ws.1 (known_left ws.0 s r ws.1 wr few_s few_r all_letters (letters_are s r)) rows_grammar.left;
     right = stands wr.0 (numbers_by all_letters (parts_of s r)) all_letters rows r wr.1 (known_right ws.0 s r ws.1 wr few_s few_r all_letters (letters_are s r)) rows_grammar.right;
     range = record {
-      rules = λ i d lt. subst (λ n. All (λ (q : Rule). WordBelow n q.word) (get_or rows i d)) (sym rows_length) (rows_fine i d lt).0;
+      rules = λ i d lt. subst (λ n. All (λ (q : Rule). WordBelow n q.word) (get_or rows i d)) (sym rows_length) (rows_fine i d lt).words;
       left = subst (λ n. WordBelow n (word (numbers_by all_letters (parts_of s r)) (top_of s) s)) (sym rows_length) (word_below all_letters (parts_of s r) (top_of s) s (fit_left ws.0 s r ws.1 wr few_s few_r all_letters (letters_are s r)));
       right = subst (λ n. WordBelow n (word (numbers_by all_letters (parts_of s r)) (top_of r) r)) (sym rows_length) (word_below all_letters (parts_of s r) (top_of r) r (fit_right ws.0 s r ws.1 wr few_s few_r all_letters (letters_are s r)));
-      below = λ i d lt. (rows_fine i d lt).1;
+      below = λ i d lt. (rows_fine i d lt).below;
       rising = (letters_are s r).0;
     };
     ruled = rows_ruled;
@@ -83,17 +82,17 @@ module _ (s r : Tree) (ws : (vars : List Kind) × IsSession vars s) (wr : (vars 
     same_equations : equations ≡ all_equations
     same_equations = equations_is ∙ λ i. equations_by (letters_is i) (found_is i)
 
-    pub is_grounded : (rank : ℕ → ℕ) × IsGrounded rank most_rank equations
-    is_grounded = (
-      rank all_letters (parts_of s r) (seated ws.0 s r ws.1 wr few_s few_r all_letters (letters_are s r)),
-      subst (IsGrounded (rank all_letters (parts_of s r) (seated ws.0 s r ws.1 wr few_s few_r all_letters (letters_are s r))) most_rank) (sym same_equations) (equations_grounded ws.0 s r ws.1 wr few_s few_r all_letters (letters_are s r)),
-    )
+    pub is_grounded : HasRanks equations
+    is_grounded = record {
+      rank = rank all_letters (parts_of s r) (seated ws.0 s r ws.1 wr few_s few_r all_letters (letters_are s r));
+      grounded = subst (IsGrounded (rank all_letters (parts_of s r) (seated ws.0 s r ws.1 wr few_s few_r all_letters (letters_are s r))) most_rank) (sym same_equations) (equations_grounded ws.0 s r ws.1 wr few_s few_r all_letters (letters_are s r));
+    }
 
     is_solved : Solves rows equations
     is_solved = subst (Solves rows) (sym same_equations) rows_solve
 
-    pub is_ordered : (rows : Productions) × Solves rows equations × All AreOrdered rows
-    is_ordered = (rows, is_solved, λ i d lt. (rows_fine i d lt).2)
+    pub is_ordered : HasOrderedRows equations
+    is_ordered = record { rows = rows; solves = is_solved; ordered = λ i d lt. (rows_fine i d lt).ordered }
 
     pub is_too_large : ((others : Productions) → Solves others equations → most_letters < right_sides others) → IsTooLarge s r
     is_too_large h = inr (record { letters = all_letters; rows = rows; grammar = rows_grammar; over = h rows is_solved })

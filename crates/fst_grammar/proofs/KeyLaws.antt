@@ -2,7 +2,7 @@
 use Rattle.std.proofs.Common.{◌≡◌, ◌∙◌, ◌+◌, ◌<◌, ◌≤◌, refl, sym, ap, subst, arith, ℕ, suc, List, [], ◌∷◌, ◌++◌, length, get_or, drop, Bool, true, false, cond, not}
 use Rattle.std.specs.Prelude.{if◌then◌else◌, nat_lt}
 use Rattle.std.specs.Str.{bytes_eq}
-use Rattle.std.proofs.lemmas.Bool.{ltb-true}
+use Rattle.std.proofs.lemmas.Bool.{ltb-true, ltb-false}
 use Rattle.std.proofs.lemmas.List.{get_or_append_left, length-append}
 use Rattle.std.proofs.lemmas.Slice.Eq.{bytes_eq-Decides}
 use Rattle.fst_grammar.specs.Shapes.{Shape, end, leaf, wrap, fork, link}
@@ -97,12 +97,9 @@ at_with keys key = pick (nat_lt (place keys key) (length keys)) refl
     pick : (c : Bool) → nat_lt (place keys key) (length keys) ≡ c → IsAt (if c then keys else keys ++ key ∷ []) (place keys key) key
     pick true is = (refl, ltb-true (place keys key) (length keys) is)
     pick false is =
-        let le : length keys ≤ place keys key = not_less (place keys key) (length keys) is in
+        let le : length keys ≤ place keys key = ltb-false (place keys key) (length keys) is in
         let same : place keys key ≡ length keys = let w = place_within keys key in omega arith in
         (place_last keys key le ∙ sym same, let long = length-append keys (key ∷ []) in omega (arith, long))
-      where
-        not_less : (a b : ℕ) → nat_lt a b ≡ false → b ≤ a
-        not_less a b e = grind arith
 
 pub put_at : (old new : List (List ℕ)) (key : List ℕ) (at : ℕ) → new ≡ with_key old key → at ≡ place old key → IsAt new at key
 put_at old new key at is here = subst (λ keys. IsAt keys at key) (sym is) (subst (λ n. IsAt (with_key old key) n key) (sym here) (at_with old key))

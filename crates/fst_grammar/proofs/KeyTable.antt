@@ -1,18 +1,18 @@
 -- What a table over indexmap finds, in the list of keys that it stands for.
-use Rattle.std.proofs.Common.{◌≡◌, ◌∙◌, ◌+◌, ◌<◌, ◌≤◌, refl, sym, ap, subst, arith, ℕ, suc, List, [], ◌∷◌, ◌++◌, length, map, Bool, true, false, cond, not, ◌||◌, Some, None}
-use Rattle.std.specs.Prelude.{if◌then◌else◌, nat_lt}
+use Rattle.std.proofs.Common.{◌≡◌, ◌∙◌, ◌+◌, ◌<◌, ◌≤◌, refl, sym, ap, subst, arith, ℕ, suc, List, [], ◌∷◌, ◌++◌, length, map, get_or, Bool, true, false, cond, not, ◌||◌, Some, None}
+use Rattle.std.specs.Prelude.{if◌then◌else◌, nat_lt, slice_get, option_map}
+use Rattle.std.proofs.lemmas.Option.{slice_get-map, get_or_from_slice_get}
 use Rattle.std.specs.List.{position, position_or_len, list_any}
 use Rattle.std.specs.Str.{bytes_eq}
-use Rattle.std.proofs.lemmas.Bool.{ltb-true, lt-ltb}
+use Rattle.std.proofs.lemmas.Bool.{ltb-true, ltb-false, lt-ltb}
 use Rattle.std.proofs.lemmas.List.{map-append, length-map}
+use Rattle.std.specs.Map.{keys_of}
 use Rattle.std.specs.declared.vec.Vec.{Vec}
 use Rattle.std.specs.declared.alloc.Global.{Global}
+use Rattle.indexmap.specs.IndexMap.{insert_entry}
 use Rattle.fst_grammar.specs.Keys.{place, with_key}
 use Rattle.fst_grammar.specs.Kept.{items_of}
 use Rattle.fst_grammar.proofs.KeyLaws.{place_within}
-
-not_less : (a b : ℕ) → nat_lt a b ≡ false → b ≤ a
-not_less a b e = grind arith
 
 next_less : (m n : ℕ) → nat_lt (1 + m) (suc n) ≡ nat_lt m n
 next_less m n = pick (nat_lt (1 + m) (suc n)) refl (nat_lt m n) refl
@@ -61,5 +61,31 @@ module _ (test : Vec ℕ Global → Bool) (key : List ℕ) (says : (k : Vec ℕ 
       pick true is e = absurd (cc e)
       pick false is e =
           let within : position_or_len test ks ≤ length ks = subst (λ n. n ≤ length ks) (sym (place_is ks)) (subst (λ n. place (map items_of ks) key ≤ n) (length-map ks items_of) (place_within (map items_of ks) key)) in
-          let past : length ks ≤ position_or_len test ks = not_less (position_or_len test ks) (length ks) is in
+          let past : length ks ≤ position_or_len test ks = ltb-false (position_or_len test ks) (length ks) is in
           omega arith
+
+module _ (eq : Vec ℕ Global → Vec ℕ Global → Bool) (v : Vec ℕ Global) (says : (k : Vec ℕ Global) → eq v k ≡ bytes_eq v.items k.items) {C : Type 0} (c : C) where
+  -- the keys of a table with values once one is put
+  pub with_entry : (es : List (Vec ℕ Global × C)) → map items_of (keys_of (insert_entry eq es v c)) ≡ with_key (map items_of (keys_of es)) v.items
+  with_entry [] = refl
+  with_entry (p ∷ es) =
+      ap (λ b. map items_of (keys_of (if b then (p.0, c) ∷ es else p ∷ insert_entry eq es v c))) (says p.0)
+      ∙ pick (with_entry es) (bytes_eq v.items p.0.items)
+    where
+      inner : (b : Bool) → p.0.items ∷ (if b then map items_of (keys_of es) else map items_of (keys_of es) ++ v.items ∷ []) ≡ (if b then p.0.items ∷ map items_of (keys_of es) else (p.0.items ∷ map items_of (keys_of es)) ++ v.items ∷ [])
+      inner true = refl
+      inner false = refl
+
+      pick : map items_of (keys_of (insert_entry eq es v c)) ≡ with_key (map items_of (keys_of es)) v.items → (b : Bool) →
+          map items_of (keys_of (if b then (p.0, c) ∷ es else p ∷ insert_entry eq es v c))
+          ≡ (if nat_lt (cond (not b) (1 + place (map items_of (keys_of es)) v.items) 0) (suc (length (map items_of (keys_of es)))) then p.0.items ∷ map items_of (keys_of es) else (p.0.items ∷ map items_of (keys_of es)) ++ v.items ∷ [])
+      pick next true = ap (λ b. if b then p.0.items ∷ map items_of (keys_of es) else (p.0.items ∷ map items_of (keys_of es)) ++ v.items ∷ []) (sym (lt-ltb 0 (suc (length (map items_of (keys_of es)))) (omega arith)))
+      pick next false =
+          ap (λ l. p.0.items ∷ l) next ∙ inner (nat_lt (place (map items_of (keys_of es)) v.items) (length (map items_of (keys_of es))))
+          ∙ ap (λ b. if b then p.0.items ∷ map items_of (keys_of es) else (p.0.items ∷ map items_of (keys_of es)) ++ v.items ∷ []) (sym (next_less (place (map items_of (keys_of es)) v.items) (length (map items_of (keys_of es)))))
+
+-- the key of an entry
+pub entry_key : {C : Type 0} (es : List (Vec ℕ Global × C)) (at : ℕ) (e : Vec ℕ Global × C) → Some e ≡ slice_get es at → get_or (map items_of (keys_of es)) at [] ≡ e.0.items
+entry_key es at e g =
+    get_or_from_slice_get (map items_of (keys_of es)) at e.0.items []
+    (slice_get-map items_of (keys_of es) at ∙ ap (option_map items_of) (slice_get-map (λ p. p.0) es at ∙ ap (option_map (λ p. p.0)) (sym g)))

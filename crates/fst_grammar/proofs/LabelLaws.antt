@@ -1,5 +1,5 @@
 -- The labels of types, inserted one by one.
-use Rattle.std.proofs.Common.{◌≡◌, ◌∙◌, ◌↔◌, ◌<◌, ◌⊎◌, inl, inr, ⊎_elim, refl, sym, ap, arith, ℕ, zero, suc, List, [], ◌∷◌, ◌++◌, length, Bool, true, false}
+use Rattle.std.proofs.Common.{◌≡◌, ◌∙◌, ◌↔◌, ◌<◌, ◌⊎◌, inl, inr, ⊎_elim, refl, sym, ap, arith, ℕ, suc, List, [], ◌∷◌, ◌++◌, length, Bool, true, false}
 use Rattle.std.specs.Prelude.{Contains, if◌then◌else◌}
 use Rattle.std.specs.declared.cmp.Ordering.{Ordering}
 use Rattle.std.specs.declared.cmp.Ordering.TheVariants.{Less, Equal, Greater}

@@ -5,6 +5,7 @@ pub mod SameLaws
 pub mod KeyLaws
 pub mod ShapeLaws
 pub mod KeyTable
+pub mod CountLaws
 pub mod PartLaws
 pub mod SeekLaws
 pub mod TableLaws

@@ -81,11 +81,11 @@ nowhere (b ∷ letters) a (suc i) le low high =
 
 -- what a binary search finds
 pub searched : (letters : List Label) (a : Label) (found : Result ℕ ℕ) → IsRising label_cmp letters → IsSearchInRange found (length letters) → IsBinarySearchResult (λ y. label_cmp y a) letters found → IsPlaceFor letters a found
-searched letters a (Ok i) h bound is = let at = here letters a h i bound is in (bound, at.0, at.1)
+searched letters a (Ok i) h bound is = let at = here letters a h i bound is in record { within = bound; position = at.0; kept = at.1 }
 searched letters a (Err i) h bound is =
     let point = is (rises letters a h) in
     let at = nowhere letters a i bound point.0 point.1 in
-    (bound, at.0, at.1)
+    record { within = bound; position = at.0; more = at.1 }
 
 less_first : (a b : Label) (letters : List Label) → label_cmp a b ≡ Less → IsRising label_cmp (b ∷ letters) → IsRising label_cmp (a ∷ letters)
 less_first a b [] h k = tt

@@ -32,10 +32,6 @@ rank_in env (rec s) = suc (rank_in (0 ∷ env) s)
 rank_in env (back k) = binder env k
 rank_in env _ = 0
 
-or_first : (b c : Bool) → b ≡ true → b || c ≡ true
-or_first true c e = refl
-or_first false c e = absurd (cc e)
-
 or_second : (b g c : Bool) → g ≡ false → c ≡ true → b || (not g && c) ≡ true
 or_second true g c e h = refl
 or_second false true c e h = absurd (cc e)
@@ -49,7 +45,7 @@ rank_same (receive b) e f h = refl
 rank_same (select cs) e f h = refl
 rank_same (offer cs) e f h = refl
 rank_same (seq s r) e f h =
-    pick (rank_same s e f (λ j is. h j (or_first (reaches s j) (not (guards s) && reaches r j) is)))
+    pick (rank_same s e f (λ j is. h j (ap (λ b. b || (not (guards s) && reaches r j)) is)))
     (λ ends. rank_same r e f (λ j is. h j (or_second (reaches s j) (guards s) (reaches r j) (unguarded s ends) is)))
     (terminated s) refl
   where

@@ -22,15 +22,9 @@ use Rattle.fst_grammar.proofs.SeekLaws.{Every, IsSeated, found_in}
 use Rattle.fst_grammar.proofs.TableLaws.{Has, numbered}
 use Rattle.fst_grammar.proofs.FitLaws.{AreKnown, AllKnown, IsFit, AreFit, fit_first, fit_second, fit_select, fit_offer, fit_body, fit_branch, fit_others, own_select, own_offer, own_rec}
 use Rattle.std.proofs.lemmas.List.{length-map}
+use Rattle.std.proofs.lemmas.Option.{slice_get-map}
 
 -- reading lists
-
-pub get_map : {A B : Type 0} (f : A → B) (xs : List A) (k : ℕ) (x : A) → slice_get xs k ≡ Some x → slice_get (map f xs) k ≡ Some (f x)
-get_map f [] k x e = absurd (cc e)
-get_map f (y ∷ xs) zero x e =
-    let is : y ≡ x = cc in
-    ap (λ z. Some (f z)) is
-get_map f (y ∷ xs) (suc k) x e = get_map f xs k x e
 
 get_front : {A : Type 0} (xs ys : List A) (k : ℕ) (x : A) → slice_get xs k ≡ Some x → slice_get (xs ++ ys) k ≡ Some x
 get_front [] ys k x e = absurd (cc e)
@@ -48,7 +42,8 @@ pub name_equation : (letters : List Label) (found : List Part) (a : Label) → i
     slice_get (equations_by letters found) (label_position (names letters) a) ≡ Some (own (name_rules letters a))
 name_equation letters found a is k =
     get_front (map (λ b. own (name_rules letters b)) (names letters)) (map (part_equation (numbers_by letters found) letters) found) (label_position (names letters) a) (own (name_rules letters a))
-    (get_map (λ b. own (name_rules letters b)) (names letters) (label_position (names letters) a) a (located (names letters) a (name_known letters a is k)))
+    (slice_get-map (λ b. own (name_rules letters b)) (names letters) (label_position (names letters) a)
+    ∙ ap (option_map (λ b. own (name_rules letters b))) (located (names letters) a (name_known letters a is k)))
 
 -- the equation of a part at its place
 pub node_equation : (letters : List Label) (found : List Part) → Every IsSeated found → (w : Tree) (a : ℕ) (x : Part) → (found_in w a ≡ Some x) × Has found w a →
@@ -57,17 +52,17 @@ node_equation letters found seated w a x h =
     let f = part_equation (numbers_by letters found) letters in
     ap (λ m. slice_get (equations_by letters found) (m + position found w a)) (sym (length-map (names letters) (λ b. own (name_rules letters b))))
     ∙ get_behind (map (λ b. own (name_rules letters b)) (names letters)) (map f found) (position found w a)
-    ∙ get_map f found (position found w a) x (numbered found seated w a x h.1 h.0)
+    ∙ slice_get-map f found (position found w a) ∙ ap (option_map f) (numbered found seated w a x h.1 h.0)
 
 module _ (letters : List Label) (found : List Part) (rows : Productions) (seated : Every IsSeated found) (solved : Solves rows (equations_by letters found)) where
   abbrev n : Numbers
   n = numbers_by letters found
 
   name_row : (a : Label) → is_name a ≡ true → Known letters a → row_of rows (n.name a) ≡ name_rules letters a
-  name_row a is k = solved.1 (n.name a) (own (name_rules letters a)) (name_equation letters found a is k)
+  name_row a is k = solved.each (n.name a) (own (name_rules letters a)) (name_equation letters found a is k)
 
   node_row : (q : Place) (t : Tree) → (found_in q.whole q.at ≡ Some (record { place = q; type = t })) × Has found q.whole q.at → row_of rows (node_at n q) ≡ rules_by rows (equation_at n letters q t)
-  node_row q t h = solved.1 (node_at n q) (equation_at n letters q t) (node_equation letters found seated q.whole q.at (record { place = q; type = t }) h)
+  node_row q t h = solved.each (node_at n q) (equation_at n letters q t) (node_equation letters found seated q.whole q.at (record { place = q; type = t }) h)
 
   mutual
     -- the rows have the rules of the part

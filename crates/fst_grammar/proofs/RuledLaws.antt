@@ -1,7 +1,7 @@
 -- Each non-terminal has a rule: each choice has a branch, and each `rec` comes to one.
-use Rattle.std.proofs.Common.{◌≡◌, ◌≢◌, ◌∙◌, ◌<◌, ◌≤◌, refl, sym, ap, subst, arith, ℕ, zero, suc, List, [], ◌∷◌, length, Some, map}
+use Rattle.std.proofs.Common.{◌≡◌, ◌≢◌, ◌∙◌, ◌<◌, refl, sym, ap, arith, ℕ, zero, suc, List, [], ◌∷◌, length, Some, map}
 use Rattle.std.specs.Prelude.{All, slice_get, ⊤}
-use Rattle.std.proofs.lemmas.List.Elements.{All-cons, All-head, All-tail}
+use Rattle.std.proofs.lemmas.List.Elements.{All-cons}
 use Rattle.fst_types.specs.Tree.{Branches, none, branch}
 use Rattle.fst_types.specs.Order.{AreRising}
 use Rattle.fst_types.specs.declared.label.Label.{Label}
@@ -12,6 +12,7 @@ use Rattle.fst_grammar.specs.Word.{Numbers}
 use Rattle.fst_grammar.specs.Rules.{rules_before, name_rules, branch_rules}
 use Rattle.fst_grammar.specs.Equations.{Equation, own, like, rules_by, Solves, IsGrounded}
 use Rattle.fst_base.proofs.Lists.{get_there}
+use Rattle.fst_grammar.proofs.SolveLaws.{all_get}
 
 -- an equation by rules has a rule
 abbrev pub HasRule : Equation → Type 0
@@ -32,32 +33,25 @@ carried_some : (d : List ℕ) (rules : List Rule) → rules ≢ [] → rules_bef
 carried_some d [] h = absurd (h refl)
 carried_some d (r ∷ rules) h = λ e. absurd (cc e)
 
-all_get : (es : List Equation) → All HasRule es → (k : ℕ) (x : Equation) → slice_get es k ≡ Some x → HasRule x
-all_get [] h k x g = absurd (cc g)
-all_get (y ∷ es) h zero x g =
-    let is : y ≡ x = cc in
-    subst HasRule is (All-head HasRule y es h)
-all_get (y ∷ es) h (suc k) x g = all_get es (All-tail HasRule y es h) k x g
-
 module _ (equations : List Equation) (rank : ℕ → ℕ) (bound : ℕ) (grounded : IsGrounded rank bound equations) (ruled : All HasRule equations) (rows : Productions) (solved : Solves rows equations) where
   row_ruled : (fuel m : ℕ) → rank m < fuel → m < length equations → row_of rows m ≢ []
   row_ruled zero m lt there = absurd (omega arith)
   row_ruled (suc fuel) m lt there =
       let e = get_there equations m there in
       let here = pick (λ z. row_ruled fuel z) e.0 e.1 in
-      λ none. here (sym (solved.1 m e.0 e.1) ∙ none)
+      λ none. here (sym (solved.each m e.0 e.1) ∙ none)
     where
       pick : ((z : ℕ) → rank z < fuel → z < length equations → row_of rows z ≢ []) → (e : Equation) → slice_get equations m ≡ Some e → rules_by rows e ≢ []
-      pick next (own rules) is = all_get equations ruled m (own rules) is
-      pick next (like []) is = let g = grounded.0 m [] is in absurd (cc g.2)
+      pick next (own rules) is = all_get HasRule equations m (own rules) ruled is
+      pick next (like []) is = let g = grounded.begins m [] is in absurd (cc g.is)
       pick next (like (z ∷ d)) is =
-          let g = grounded.0 m (z ∷ d) is in
-          let same : g.0 ≡ z = cc in
-          let within : g.0 < length equations = g.3 in
-          let up : rank g.0 < rank m = g.4 in
-          let at : rank g.0 ≡ rank z = ap rank same in
+          let g = grounded.begins m (z ∷ d) is in
+          let same : g.first ≡ z = cc in
+          let within : g.first < length equations = g.within in
+          let up : rank g.first < rank m = g.lower in
+          let at : rank g.first ≡ rank z = ap rank same in
           carried_some d (row_of rows z) (next z (omega arith) (omega arith))
 
   -- rows that solve grounded equations have a rule for each non-terminal
   pub each_ruled : EachHasRule rows
-  each_ruled m lt = row_ruled (suc bound) m (let le = grounded.1 m in omega arith) (let long = solved.0 in omega arith)
+  each_ruled m lt = row_ruled (suc bound) m (let le = grounded.most m in omega arith) (let long = solved.count in omega arith)

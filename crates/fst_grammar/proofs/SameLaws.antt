@@ -1,5 +1,5 @@
 -- The test of types is equality.
-use Rattle.std.proofs.Common.{◌≡◌, ◌↔◌, refl, ap, subst, true, false, ◌&&◌}
+use Rattle.std.proofs.Common.{◌≡◌, ◌↔◌, refl, ap, subst, true, ◌&&◌}
 use Rattle.std.specs.Str.{bytes_eq}
 use Rattle.std.proofs.lemmas.Bool.{eq-eqb, eqb-true, and_parts}
 use Rattle.std.proofs.lemmas.Slice.Eq.{bytes_eq-Decides}

@@ -1,7 +1,7 @@
 -- Which part stands at a place of a closed type.
 use Rattle.std.proofs.Common.{◌≡◌, ◌∙◌, ◌+◌, ◌<◌, ◌≤◌, refl, ap, arith, ℕ, List, [], ◌∷◌, ◌++◌, Bool, true, false, Option, Some, None, ◌==◌}
 use Rattle.std.specs.Prelude.{if◌then◌else◌, nat_lt, ⊤}
-use Rattle.std.proofs.lemmas.Bool.{eq-eqb, lt-ltb, ltb-true, ne_eqb}
+use Rattle.std.proofs.lemmas.Bool.{eq-eqb, lt-ltb, le-ltb, ne_eqb}
 use Rattle.fst_types.specs.Tree.{Tree, skip, send, receive, select, offer, seq, rec, back, var, plain, arrow, pair, named, Branches, none, branch}
 use Rattle.fst_types.specs.Size.{nodes, nodes_all}
 use Rattle.fst_lts.specs.Step.{terminated}
@@ -33,13 +33,6 @@ Sees p t = (k : ℕ) → p.at ≤ k → k < p.at + nodes t → found_in p.whole 
 abbrev pub SeesAll : Place → Branches → Type 0
 SeesAll p cs = (k : ℕ) → p.at ≤ k → k < p.at + nodes_all cs → found_in p.whole k ≡ seek_all p cs k
 
-pub not_below : (k m : ℕ) → m ≤ k → nat_lt k m ≡ false
-not_below k m h = pick (nat_lt k m) refl
-  where
-    pick : (c : Bool) → nat_lt k m ≡ c → c ≡ false
-    pick true e = let lt : k < m = ltb-true k m e in absurd (omega arith)
-    pick false e = refl
-
 pub sees_first : (p : Place) (s r : Tree) → Sees p (seq s r) → Sees (place_past p 1) s
 sees_first p s r h k lo hi =
     h k (omega arith) (omega arith)
@@ -48,7 +41,7 @@ sees_first p s r h k lo hi =
 pub sees_second : (p : Place) (s r : Tree) → Sees p (seq s r) → Sees (place_past p (1 + nodes s)) r
 sees_second p s r h k lo hi =
     h k (omega arith) (omega arith)
-    ∙ ap (λ c. if c then seek (place_past p 1) s k else seek (place_past p (1 + nodes s)) r k) (not_below k (p.at + (1 + nodes s)) lo)
+    ∙ ap (λ c. if c then seek (place_past p 1) s k else seek (place_past p (1 + nodes s)) r k) (le-ltb k (p.at + (1 + nodes s)) lo)
 
 pub sees_body : (p : Place) (s : Tree) → Sees p (rec s) → Sees (body_place p) s
 sees_body p s h k lo hi =
@@ -73,7 +66,7 @@ sees_branch p l s cs h k lo hi =
 pub sees_others : (p : Place) (l : List ℕ) (s : Tree) (cs : Branches) → SeesAll p (branch l s cs) → SeesAll (place_past p (1 + nodes s)) cs
 sees_others p l s cs h k lo hi =
     h k (omega arith) (omega arith)
-    ∙ ap (λ c. if c then seek (place_past p 1) s k else seek_all (place_past p (1 + nodes s)) cs k) (not_below k (p.at + (1 + nodes s)) lo)
+    ∙ ap (λ c. if c then seek (place_past p 1) s k else seek_all (place_past p (1 + nodes s)) cs k) (le-ltb k (p.at + (1 + nodes s)) lo)
 
 sees_entered_if : (c : Bool) (p : Place) (t : Tree) → Sees p t → Sees (own_place_if c p t) t
 sees_entered_if true p t h = λ k lo hi. refl

@@ -1,25 +1,22 @@
 -- How many labels and parts types have, how far on they stand, and how many letters rules have.
-use Rattle.std.proofs.Common.{◌≡◌, ◌∙◌, ◌+◌, ◌<◌, ◌≤◌, ◌^◌, refl, sym, ap, subst, arith, ℕ, zero, suc, List, [], ◌∷◌, ◌++◌, length, Bool, true, false, map, drop, get_or, add-one}
+use Rattle.std.proofs.Common.{◌≡◌, ◌∙◌, ◌+◌, ◌<◌, ◌≤◌, ◌^◌, sym, ap, subst, arith, ℕ, suc, List, [], ◌∷◌, ◌++◌, length, Bool, true, false, map}
 use Rattle.std.specs.Prelude.{All, nat_lt, if◌then◌else◌}
 use Rattle.std.specs.declared.cmp.Ordering.{Ordering}
 use Rattle.std.specs.declared.cmp.Ordering.TheVariants.{Less, Equal, Greater}
 use Rattle.std.proofs.lemmas.List.{length-append, length-map}
 use Rattle.std.proofs.lemmas.List.Elements.{All-cons}
-use Rattle.std.proofs.lemmas.List.Sums.{sum_by-cons}
 use Rattle.fst_types.specs.Tree.{Tree, skip, send, receive, select, offer, seq, rec, back, var, plain, arrow, pair, named, Branches, none, branch}
 use Rattle.fst_types.specs.Size.{nodes, nodes_all}
 use Rattle.fst_types.specs.Order.{label_cmp}
 use Rattle.fst_types.specs.declared.label.Label.{Label}
 use Rattle.fst_types.specs.declared.label.Label.TheVariants.{Select, Offer}
 use Rattle.fst_lts.specs.Step.{terminated}
-use Rattle.fst_words.specs.declared.rules.Rule.{Rule}
 use Rattle.fst_grammar.specs.Place.{Place, is_closed, top_of, place_past, own_place, own_place_if, body_place}
 use Rattle.fst_grammar.specs.Labels.{labels_in, branch_labels, is_name, names}
 use Rattle.fst_grammar.specs.Letters.{with_label, with_label_by, with_labels}
 use Rattle.fst_grammar.specs.Parts.{Part, parts, parts_all, position, with_part, with_parts, parts_of, numbers_by}
-use Rattle.fst_grammar.specs.Rules.{rules_before, name_rules}
+use Rattle.fst_grammar.specs.Rules.{name_rules}
 use Rattle.fst_grammar.specs.Equations.{own, part_equation, equations_by}
-use Rattle.fst_grammar.specs.Translation.{right_side}
 use Rattle.fst_grammar.specs.Views.{part_of, equation_of}
 use Rattle.fst_grammar.specs.declared.equations.Equation.{Equation as Kept}
 use Rattle.fst_grammar.specs.declared.found.Found.{Found}
@@ -146,22 +143,6 @@ found_within b [] h = λ i d lt. absurd (omega arith)
 found_within b (p ∷ ps) h = All-cons (λ (q : Found). q.at + nodes q.part.ty.now ≤ b) p ps h.0 (found_within b ps h.1)
 
 -- letters on right sides
-
-carried_from : (d : List ℕ) (rules : List Rule) (i : ℕ) (r : Rule) → i < length rules →
-    rules_before d (drop i rules) ≡ record { letter = (get_or rules i r).letter; word = (get_or rules i r).word ++ d } ∷ rules_before d (drop (suc i) rules)
-carried_from d [] i r h = absurd (omega arith)
-carried_from d (q ∷ rules) zero r h = refl
-carried_from d (q ∷ rules) (suc i) r h = carried_from d rules i r (omega arith)
-
--- the rules from one on, with more behind their words
-pub carried_at : (d : List ℕ) (rules : List Rule) (i : ℕ) (r : Rule) → i < length rules → r ≡ get_or rules i r → rules_before d (drop i rules) ≡ record { letter = r.letter; word = r.word ++ d } ∷ rules_before d (drop (i + 1) rules)
-carried_at d rules i r h is =
-    rw add-one (carried_from d rules i r h ∙ ap (λ (q : Rule). record { letter = q.letter; word = q.word ++ d } ∷ rules_before d (drop (suc i) rules)) (sym is))
-
-pub right_at : (d : List ℕ) (rules : List Rule) (i : ℕ) (r : Rule) → i < length rules → r ≡ get_or rules i r → right_side (rules_before d (drop i rules)) ≡ (length r.word + length d) + right_side (rules_before d (drop (i + 1) rules))
-right_at d rules i r h is =
-    ap right_side (carried_at d rules i r h is) ∙ sum_by-cons (λ (q : Rule). length q.word) (record { letter = r.letter; word = r.word ++ d }) (rules_before d (drop (i + 1) rules))
-    ∙ ap (λ n. n + right_side (rules_before d (drop (i + 1) rules))) (length-append r.word d)
 
 -- all numbers of two types within the limit fit
 pub table_small : (s r : Tree) (letters : List Label) (found : List Part) → nodes s ≤ 4096 → nodes r ≤ 4096 → letters ≡ with_labels [] (labels_in s ++ labels_in r) → found ≡ parts_of s r →

@@ -9,6 +9,7 @@ use Rattle.fst_words.specs.Ordered.{AreOrdered}
 use Rattle.fst_grammar.specs.Rules.{rules_before}
 use Rattle.fst_grammar.specs.Equations.{Equation, own, like, rules_by, Solves, IsGrounded, AreFine, IsFine}
 use Rattle.std.proofs.lemmas.List.{length-map}
+use Rattle.std.proofs.lemmas.Option.{get_or_from_slice_get, slice_get_within}
 
 -- the rules by an equation, where others have the rules that f says
 abbrev rules_with : (ℕ → List Rule) → Equation → List Rule
@@ -47,15 +48,15 @@ module _ (equations : List Equation) (rank : ℕ → ℕ) (bound : ℕ) (grounde
       pick next (Some (own rules)) is = refl
       pick next (Some (like [])) is = refl
       pick next (Some (like (z ∷ d))) is =
-          let g = grounded.0 m (z ∷ d) is in
-          let same : g.0 ≡ z = cc in
-          let up : rank g.0 < rank m = g.4 in
-          let at : rank g.0 ≡ rank z = ap rank same in
+          let g = grounded.begins m (z ∷ d) is in
+          let same : g.first ≡ z = cc in
+          let up : rank g.first < rank m = g.lower in
+          let at : rank g.first ≡ rank z = ap rank same in
           ap (rules_before d) (next z (omega arith))
 
   -- the solution solves the equations
   pub solves : Solves (solution bound equations) equations
-  solves = (length-map equations (rules_with (solved equations bound)), λ m e g. at m e g)
+  solves = record { count = length-map equations (rules_with (solved equations bound)); each = λ m e g. at m e g }
     where
       other : (z : ℕ) → z < length equations → rank z < bound → solved equations bound z ≡ row_of (solution bound equations) z
       other z lt le =
@@ -66,12 +67,12 @@ module _ (equations : List Equation) (rank : ℕ → ℕ) (bound : ℕ) (grounde
       at m (own rules) g = row_map (rules_with (solved equations bound)) equations m (own rules) g
       at m (like []) g = row_map (rules_with (solved equations bound)) equations m (like []) g
       at m (like (z ∷ d)) g =
-          let h = grounded.0 m (z ∷ d) g in
-          let same : h.0 ≡ z = cc in
-          let lt : h.0 < length equations = h.3 in
-          let up : rank h.0 < rank m = h.4 in
-          let le : rank m ≤ bound = grounded.1 m in
-          let is : rank h.0 ≡ rank z = ap rank same in
+          let h = grounded.begins m (z ∷ d) g in
+          let same : h.first ≡ z = cc in
+          let lt : h.first < length equations = h.within in
+          let up : rank h.first < rank m = h.lower in
+          let le : rank m ≤ bound = grounded.most m in
+          let is : rank h.first ≡ rank z = ap rank same in
           row_map (rules_with (solved equations bound)) equations m (like (z ∷ d)) g ∙ ap (rules_before d) (other z (omega arith) (omega arith))
 
 -- fine equations have fine rules
@@ -93,7 +94,7 @@ carried_ordered d (r ∷ []) h = (tt, tt)
 carried_ordered d (r ∷ (q ∷ rules)) h = (h.0, carried_ordered d (q ∷ rules) h.1)
 
 none_fine : (total few : ℕ) → AreFine total few []
-none_fine total few = (λ i e lt. absurd (omega arith), λ i e lt. absurd (omega arith), tt)
+none_fine total few = record { words = λ i e lt. absurd (omega arith); below = λ i e lt. absurd (omega arith); ordered = tt }
 
 fine_with : (total few : ℕ) (f : ℕ → List Rule) → ((m : ℕ) → AreFine total few (f m)) → (e : Equation) → IsFine total few e → AreFine total few (rules_with f e)
 fine_with total few f h (own rules) k = k
@@ -101,14 +102,11 @@ fine_with total few f h (like []) k = none_fine total few
 fine_with total few f h (like (z ∷ d)) k =
     let rest = All-tail (λ x. x < total) z d k in
     let g = h z in
-    (carried_words total d rest (f z) g.0, carried_letters few d (f z) g.1, carried_ordered d (f z) g.2)
+    record { words = carried_words total d rest (f z) g.words; below = carried_letters few d (f z) g.below; ordered = carried_ordered d (f z) g.ordered }
 
-all_get : (total few : ℕ) (es : List Equation) → All (IsFine total few) es → (k : ℕ) (x : Equation) → slice_get es k ≡ Some x → IsFine total few x
-all_get total few [] h k x g = absurd (cc g)
-all_get total few (y ∷ es) h zero x g =
-    let is : y ≡ x = cc in
-    subst (IsFine total few) is (All-head (IsFine total few) y es h)
-all_get total few (y ∷ es) h (suc k) x g = all_get total few es (All-tail (IsFine total few) y es h) k x g
+-- what holds of all items holds of each
+pub all_get : {A : Type 0} (P : A → Type 0) (xs : List A) (k : ℕ) (x : A) → All P xs → slice_get xs k ≡ Some x → P x
+all_get P xs k x h g = subst P (get_or_from_slice_get xs k x x g) (h k x (slice_get_within xs k x g))
 
 module _ (total few : ℕ) (equations : List Equation) (fine : All (IsFine total few) equations) where
   solved_fine : (fuel m : ℕ) → AreFine total few (solved equations fuel m)
@@ -117,7 +115,7 @@ module _ (total few : ℕ) (equations : List Equation) (fine : All (IsFine total
     where
       there : ((z : ℕ) → AreFine total few (solved equations fuel z)) → (o : Option Equation) → slice_get equations m ≡ o → AreFine total few (rules_there (solved equations fuel) o)
       there h None is = none_fine total few
-      there h (Some e) is = fine_with total few (solved equations fuel) h e (all_get total few equations fine m e is)
+      there h (Some e) is = fine_with total few (solved equations fuel) h e (all_get (IsFine total few) equations m e fine is)
 
   fine_map : (f : Equation → List Rule) → ((e : Equation) → IsFine total few e → AreFine total few (f e)) → (es : List Equation) → All (IsFine total few) es → All (AreFine total few) (map f es)
   fine_map f h [] k = λ i e lt. absurd (omega arith)

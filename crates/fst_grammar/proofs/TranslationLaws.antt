@@ -18,7 +18,7 @@ use Rattle.fst_grammar.specs.Word.{Numbers, word}
 use Rattle.fst_grammar.specs.Labels.{is_name, names, labels_in, AreLetters}
 use Rattle.fst_grammar.specs.Parts.{Part, parts, parts_of, numbers_by}
 use Rattle.fst_grammar.specs.Rules.{name_rules, HasRows}
-use Rattle.fst_grammar.specs.Equations.{Equation, own, like, Solves, equation_at, part_equation, equations_by, IsGrounded, IsFine, most_rank}
+use Rattle.fst_grammar.specs.Equations.{Equation, own, like, Solves, equation_at, part_equation, equations_by, BeginsLower, IsGrounded, IsFine, most_rank}
 use Rattle.fst_grammar.specs.Translation.{IsGrammar}
 use Rattle.fst_grammar.proofs.AbstractRules.{move}
 use Rattle.fst_grammar.proofs.StandLaws.{performs_same}
@@ -67,11 +67,11 @@ names_fine total letters (x ∷ xs) h = pick (names_fine total letters xs (λ a 
     none P i e lt = absurd (omega arith)
 
     here : IsFine total (length letters) (own (name_rules letters x))
-    here = (
-      All-cons (λ (r : Rule). WordBelow total r.word) _ [] (none (λ k. k < total)) (λ i e lt. absurd (omega arith)),
-      All-cons (λ (r : Rule). r.letter < length letters) _ [] (h x (0, omega arith, refl)) (λ i e lt. absurd (omega arith)),
-      (tt, tt),
-    )
+    here = record {
+      words = All-cons (λ (r : Rule). WordBelow total r.word) _ [] (none (λ k. k < total)) (λ i e lt. absurd (omega arith));
+      below = All-cons (λ (r : Rule). r.letter < length letters) _ [] (h x (0, omega arith, refl)) (λ i e lt. absurd (omega arith));
+      ordered = (tt, tt);
+    }
 
     pick : All (IsFine total (length letters)) (map (λ a. own (name_rules letters a)) (names xs)) → (c : Bool) → All (IsFine total (length letters)) (map (λ a. own (name_rules letters a)) (if c then x ∷ names xs else names xs))
     pick next true = All-cons (IsFine total (length letters)) (own (name_rules letters x)) (map (λ a. own (name_rules letters a)) (names xs)) here next
@@ -139,9 +139,9 @@ module _ (vars : List Kind) (s r : Tree) (ws : IsSession vars s) (wr : (other : 
       every_all (IsFine total (length letters)) (part_equation n letters) found
       (every_found (λ q t. IsFine total (length letters) (equation_at n letters q t))
       (λ p cs h. let f = fit_select letters found p cs h in
-      (branches_below letters found Select (place_past (own_place p (select cs)) 1) cs f, rules_below n letters Select (place_past (own_place p (select cs)) 1) cs f.known, rules_rise n letters Select (place_past (own_place p (select cs)) 1) cs selects_rise are.0 f.known h.ordered.0))
+      record { words = branches_below letters found Select (place_past (own_place p (select cs)) 1) cs f; below = rules_below n letters Select (place_past (own_place p (select cs)) 1) cs f.known; ordered = rules_rise n letters Select (place_past (own_place p (select cs)) 1) cs selects_rise are.0 f.known h.ordered.0 })
       (λ p cs h. let f = fit_offer letters found p cs h in
-      (branches_below letters found Offer (place_past (own_place p (offer cs)) 1) cs f, rules_below n letters Offer (place_past (own_place p (offer cs)) 1) cs f.known, rules_rise n letters Offer (place_past (own_place p (offer cs)) 1) cs offers_rise are.0 f.known h.ordered.0))
+      record { words = branches_below letters found Offer (place_past (own_place p (offer cs)) 1) cs f; below = rules_below n letters Offer (place_past (own_place p (offer cs)) 1) cs f.known; ordered = rules_rise n letters Offer (place_past (own_place p (offer cs)) 1) cs offers_rise are.0 f.known h.ordered.0 })
       (λ p b e h. word_below letters found (body_place (own_place p (rec b))) b (fit_body letters found p b e h)))
 
   -- the equations are in order, with words and letters of the grammar
@@ -206,21 +206,21 @@ module _ (vars : List Kind) (s r : Tree) (ws : IsSession vars s) (wr : (other : 
 
   -- the equations are grounded
   pub equations_grounded : IsGrounded (rank letters found seated) most_rank (equations_by letters found)
-  equations_grounded = (at, number_most letters found seated all_most)
+  equations_grounded = record { begins = at; most = number_most letters found seated all_most }
     where
-      at : (m : ℕ) (w : List ℕ) → slice_get (equations_by letters found) m ≡ Some (like w) → (z : ℕ) × (d : List ℕ) × (w ≡ z ∷ d) × (z < length (equations_by letters found)) × (rank letters found seated z < rank letters found seated m)
+      at : (m : ℕ) (w : List ℕ) → slice_get (equations_by letters found) m ≡ Some (like w) → BeginsLower (rank letters found seated) (equations_by letters found) m w
       at m w g =
           let l = like_behind (name_rules letters) (names letters) (part_equation n letters) found m w g in
           let sinks = sunk l.1.place l.1.type w l.4 (every_get (λ e. Sinks e.place e.type) found all_sink l.0 l.1 l.3) in
           let is : rank letters found seated m ≡ part_rank l.1 = ap (rank letters found seated) l.2 ∙ rank_entry (length (names letters)) found l.0 ∙ ap entry_rank l.3 in
           let long = equations_length in
-          (sinks.0, sinks.1, sinks.2, omega (arith, sinks.3), omega (arith, sinks.4))
+          record { first = sinks.0; rest = sinks.1; is = sinks.2; within = omega (arith, sinks.3); lower = omega (arith, sinks.4) }
 
   -- rows that solve the equations are the grammar
   pub grammar_is : (rows : Productions) → Solves rows (equations_by letters found) → IsGrammar s r letters rows
   grammar_is rows h = record {
     labels = are;
-    count = h.0 ∙ equations_length;
+    count = h.count ∙ equations_length;
     left = has_rows letters found rows seated h (top_of s) s fit_left;
     right = has_rows letters found rows seated h (top_of r) r fit_right;
   }

@@ -292,26 +292,26 @@ module _ (equations : List Equation) (rank : ℕ → ℕ) (bound : ℕ) (grounde
   same_row zero m lt there = absurd (omega arith)
   same_row (suc fuel) m lt there =
       let e = get_there equations m there in
-      one.1 m e.0 e.1 ∙ pick (λ z. same_row fuel z) e.0 e.1 ∙ sym (two.1 m e.0 e.1)
+      one.each m e.0 e.1 ∙ pick (λ z. same_row fuel z) e.0 e.1 ∙ sym (two.each m e.0 e.1)
     where
       pick : ((z : ℕ) → rank z < fuel → z < length equations → row_of rows z ≡ row_of rules z) → (e : Equation) → slice_get equations m ≡ Some e → rules_by rows e ≡ rules_by rules e
       pick next (own row) is = refl
       pick next (like []) is = refl
       pick next (like (z ∷ d)) is =
-          let g = grounded.0 m (z ∷ d) is in
-          let same : g.0 ≡ z = cc in
-          let within : g.0 < length equations = g.3 in
-          let up : rank g.0 < rank m = g.4 in
-          let at : rank g.0 ≡ rank z = ap rank same in
+          let g = grounded.begins m (z ∷ d) is in
+          let same : g.first ≡ z = cc in
+          let within : g.first < length equations = g.within in
+          let up : rank g.first < rank m = g.lower in
+          let at : rank g.first ≡ rank z = ap rank same in
           ap (rules_before d) (next z (omega arith) (omega arith))
 
   same_rows : rows ≡ rules
-  same_rows = ext_get_or [] rows rules (one.0 ∙ sym two.0) (λ m lt. same_row (suc bound) m (let le = grounded.1 m in omega arith) (let long = one.0 in omega arith))
+  same_rows = ext_get_or [] rows rules (one.count ∙ sym two.count) (λ m lt. same_row (suc bound) m (let le = grounded.most m in omega arith) (let long = one.count in omega arith))
 
 module _ (vars others : List Kind) (s r : Tree) (ws : IsSession vars s) (wr : IsSession others r) (few_s : nodes s ≤ most_nodes) (few_r : nodes r ≤ most_nodes) where
   -- a grammar solves the equations of the two types
   grammar_solves : (letters : List Label) (rows : Productions) → IsGrammar s r letters rows → Solves rows (equations_by letters (parts_of s r))
-  grammar_solves letters rows h = (h.count ∙ sym (equations_length vars s r ws (others, wr) few_s few_r letters h.labels), grammar_row s r letters rows h)
+  grammar_solves letters rows h = record { count = h.count ∙ sym (equations_length vars s r ws (others, wr) few_s few_r letters h.labels); each = grammar_row s r letters rows h }
 
   -- its letters are determined, and so are its rows
   same_labels : (letters more : List Label) → AreLetters s r letters → AreLetters s r more → letters ≡ more

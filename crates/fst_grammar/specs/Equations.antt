@@ -1,5 +1,5 @@
 -- The rules of non-terminals by equations.
-use Rattle.std.specs.Prelude.{◌≡◌, ◌<◌, ◌≤◌, All, ℕ, List, [], ◌∷◌, ◌++◌, map, length, slice_get, Some}
+use Rattle.std.specs.Prelude.{◌≡◌, ◌<◌, ◌≤◌, All, ℕ, List, [], ◌∷◌, ◌++◌, map, length, slice_get, take, reverse, Some}
 use Rattle.fst_types.specs.Tree.{Tree, skip, send, receive, select, offer, seq, rec, back, var, plain, arrow, pair, named}
 use Rattle.fst_types.specs.declared.label.Label.{Label}
 use Rattle.fst_types.specs.declared.label.Label.TheVariants.{Select, Offer}
@@ -23,9 +23,9 @@ rules_by rows (own rules) = rules
 rules_by rows (like w) = word_rules rows w
 
 -- each non-terminal has the rules of its equation
-abbrev pub Solves : Productions → List Equation → Type 0
-Solves rows equations =
-    (length rows ≡ length equations) × ((m : ℕ) (e : Equation) → slice_get equations m ≡ Some e → row_of rows m ≡ rules_by rows e)
+pub record Solves (rows : Productions) (equations : List Equation) : Type 0 where
+  pub count : length rows ≡ length equations
+  pub each : (m : ℕ) (e : Equation) → slice_get equations m ≡ Some e → row_of rows m ≡ rules_by rows e
 
 -- the equation of a choice or `rec` at its own place
 abbrev pub equation_at : Numbers → List Label → Place → Tree → Equation
@@ -52,15 +52,24 @@ abbrev pub equations_by : List Label → List Part → List Equation
 equations_by letters found =
     map (λ a. own (name_rules letters a)) (names letters) ++ map (part_equation (numbers_by letters found) letters) found
 
+-- a word begins with a non-terminal of a smaller rank
+pub record BeginsLower (rank : ℕ → ℕ) (equations : List Equation) (m : ℕ) (w : List ℕ) : Type 0 where
+  pub first : ℕ
+  pub rest : List ℕ
+  pub is : w ≡ first ∷ rest
+  pub within : first < length equations
+  pub lower : rank first < rank m
+
 -- each word of an equation begins with a non-terminal of a smaller rank, and no rank is over the bound
-abbrev pub IsGrounded : (ℕ → ℕ) → ℕ → List Equation → Type 0
-IsGrounded rank bound equations =
-    ((m : ℕ) (w : List ℕ) → slice_get equations m ≡ Some (like w) → (z : ℕ) × (d : List ℕ) × (w ≡ z ∷ d) × (z < length equations) × (rank z < rank m))
-    × ((m : ℕ) → rank m ≤ bound)
+pub record IsGrounded (rank : ℕ → ℕ) (bound : ℕ) (equations : List Equation) : Type 0 where
+  pub begins : (m : ℕ) (w : List ℕ) → slice_get equations m ≡ Some (like w) → BeginsLower rank equations m w
+  pub most : (m : ℕ) → rank m ≤ bound
 
 -- the rules are in letter order, with words and letters of the grammar
-abbrev pub AreFine : ℕ → ℕ → List Rule → Type 0
-AreFine total letters rules = All (λ r. WordBelow total r.word) rules × All (λ r. r.letter < letters) rules × AreOrdered rules
+pub record AreFine (total letters : ℕ) (rules : List Rule) : Type 0 where
+  pub words : All (λ (r : Rule). WordBelow total r.word) rules
+  pub below : All (λ (r : Rule). r.letter < letters) rules
+  pub ordered : AreOrdered rules
 
 -- the rules or the word of an equation are those of the grammar
 abbrev pub IsFine : ℕ → ℕ → Equation → Type 0
@@ -70,6 +79,21 @@ IsFine total letters (like w) = WordBelow total w
 -- a bound on how many equations stand behind one another, in types within the limit
 abbrev pub most_rank : ℕ
 most_rank = 16781312
+
+-- the equations are grounded by some ranks
+pub record HasRanks (equations : List Equation) : Type 0 where
+  pub rank : ℕ → ℕ
+  pub grounded : IsGrounded rank most_rank equations
+
+-- the equations have a solution whose rules are in letter order
+pub record HasOrderedRows (equations : List Equation) : Type 0 where
+  pub rows : Productions
+  pub solves : Solves rows equations
+  pub ordered : All AreOrdered rows
+
+-- the rows of the last non-terminals, the last one's first
+abbrev pub AreLast : Productions → Productions → Type 0
+AreLast rows known = known ≡ take (length known) (reverse rows)
 
 -- from a non-terminal it is at most so many equations to rules
 pub record Leads (equations : List Equation) (z left : ℕ) : Type 0 where

@@ -22,9 +22,18 @@ abbrev pub with_labels : List Label → List Label → List Label
 with_labels letters [] = letters
 with_labels letters (a ∷ labels) = with_labels (with_label letters a) labels
 
+-- a label stands at this place of a rising list
+pub record IsLabelAt (letters : List Label) (a : Label) (i : ℕ) : Type 0 where
+  pub within : i < length letters
+  pub position : label_position letters a ≡ i
+  pub kept : with_label letters a ≡ letters
+
+-- a label isn't in a rising list, and goes to this place
+pub record GoesTo (letters : List Label) (a : Label) (i : ℕ) : Type 0 where
+  pub within : i ≤ length letters
+  pub position : label_position letters a ≡ length letters
+  pub more : with_label letters a ≡ take i letters ++ a ∷ drop i letters
+
 -- the place of a label in a rising list, or else the place where it goes
 abbrev pub IsPlaceFor : List Label → Label → Result ℕ ℕ → Type 0
-IsPlaceFor letters a found =
-    MatchResult found
-    (λ i. (i < length letters) × (label_position letters a ≡ i) × (with_label letters a ≡ letters))
-    (λ i. (i ≤ length letters) × (label_position letters a ≡ length letters) × (with_label letters a ≡ take i letters ++ a ∷ drop i letters))
+IsPlaceFor letters a found = MatchResult found (IsLabelAt letters a) (GoesTo letters a)

@@ -6,6 +6,7 @@ pub mod Same
 pub mod Shapes
 pub mod Keys
 pub mod Kept
+pub mod Counts
 pub mod Parts
 pub mod Rules
 pub mod Translation

@@ -46,16 +46,18 @@ abbrev pub HasNumber : List (List ℕ) → Numbered → Type 0
 HasNumber keys t = Stands keys t.number (shape_of t.ty.now)
 
 -- a part and the closed type around it have their numbers
-abbrev pub AreNumbered : List (List ℕ) → Found → Type 0
-AreNumbered keys p = HasNumber keys p.whole × HasNumber keys p.part
+pub record AreNumbered (keys : List (List ℕ)) (p : Found) : Type 0 where
+  pub whole : HasNumber keys p.whole
+  pub part : HasNumber keys p.part
 
 -- what a part is found by: the number of its closed type, and its place there
 abbrev pub key_of : Found → List ℕ
 key_of p = p.whole.number ∷ p.at ∷ []
 
 -- the parts have their numbers, and are found by them in this order
-abbrev pub IsKept : List (List ℕ) → Parts → Type 0
-IsKept keys p = (p.index ≡ map key_of p.found.items) × All (AreNumbered keys) p.found.items
+pub record IsKept (keys : List (List ℕ)) (p : Parts) : Type 0 where
+  pub index : p.index ≡ map key_of p.found.items
+  pub numbered : All (AreNumbered keys) p.found.items
 
 -- letters and names stand in label order, the names are those among the letters, all numbers of non-terminals fit into
 -- 32 bits, and the parts are found by their numbers
@@ -65,7 +67,7 @@ pub record IsTable (t : Table) : Type 0 where
   pub numbers_fit : length t.names.items + length t.parts.found.items < 2 ^ 31
   pub letters_rise : IsRising label_cmp t.letters.items
   pub names_rise : IsRising label_cmp t.names.items
-  pub kept : IsKept t.keys t.parts
+  pub kept : IsKept t.trees t.parts
 
 -- the equation that a kept one stands for
 abbrev pub equation_of : Kept → Equation

@@ -9,7 +9,6 @@ ghost use Rattle.fst_grammar.specs.Shapes.{shape_of_all};
 ghost use Rattle.fst_grammar.specs.Keys.{Stands};
 ghost use Rattle.fst_grammar.specs.Views.{branch_label, numbers_in, part_of, place_in, equation_of, HasNumber, AreNumbered, IsTable};
 
-use crate::closing::node_count;
 use crate::found::Found;
 use crate::letters::{choice_label, place_among};
 use crate::numbers::{Numbered, first_part};
@@ -39,8 +38,8 @@ fn choice_rules(
     offers: bool,
 ) -> Result<Vec<Rule>, AllocError>
     requires table { IsTable table.now }
-    requires whole { HasNumber table.now.keys whole }
-    requires part { Stands table.now.keys list (shape_of_all (branches_of branches.now)) }
+    requires whole { HasNumber table.now.trees whole }
+    requires part { Stands table.now.trees list (shape_of_all (branches_of branches.now)) }
     requires fits { at + nodes_all (branches_of branches.now) < 2 ^ 31 }
     ensures { IfOk result (λ r. r.items ≡ branch_rules (numbers_in table.now) table.now.letters.items (branch_label offers) (place_in whole.entry.ty.now at binders.now) (branches_of branches.now)) }
 {
@@ -52,12 +51,12 @@ fn choice_rules(
         let letter = place_among(&table.letters, &label) as u32;
         let body = Numbered {
             ty: &branch.body,
-            number: table.keys.first(list),
+            number: table.trees.first(list),
         };
         let word = word_of(alloc, table, binders, whole, place + 1, body)?;
         rules.push(Rule { letter, word })?;
-        place += 1 + node_count(&branch.body);
-        list = table.keys.second(list);
+        place += 1 + body.counts(&table.trees).nodes;
+        list = table.trees.second(list);
     }
     Ok(rules)
 }
@@ -94,7 +93,7 @@ fn found_equation(
 ) -> Result<Equation, AllocError>
     requires table { IsTable table.now }
     requires fits { found.now.at + nodes found.now.part.ty.now < 2 ^ 31 }
-    requires numbered { AreNumbered table.now.keys found.now }
+    requires numbered { AreNumbered table.now.trees found.now }
     ensures { IfOk result (λ e. equation_of e ≡ part_equation (numbers_in table.now) table.now.letters.items (part_of found.now)) }
 {
     let (whole, at, binders) = (found.whole, found.at, &found.binders);
@@ -102,18 +101,18 @@ fn found_equation(
     let ty = part.ty;
     match &ty.form {
         TyForm::Select(branches) => {
-            let list = table.keys.first(part.number);
+            let list = table.trees.first(part.number);
             let rules = choice_rules(alloc, table, binders, whole, at + 1, branches, list, false)?;
             Ok(Equation::Own(rules))
         }
         TyForm::Offer(branches) => {
-            let list = table.keys.first(part.number);
+            let list = table.trees.first(part.number);
             let rules = choice_rules(alloc, table, binders, whole, at + 1, branches, list, true)?;
             Ok(Equation::Own(rules))
         }
         TyForm::Rec(body) => {
             let places = places_under(alloc, at, binders)?;
-            let body = first_part(&table.keys, part, body);
+            let body = first_part(&table.trees, part, body);
             let word = word_of(alloc, table, &places, whole, at + 1, body)?;
             Ok(Equation::Like(word))
         }

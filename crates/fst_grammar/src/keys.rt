@@ -1,5 +1,5 @@
 ghost use Rattle.std.specs.Prelude.{◌≡◌, [], IfOk, OnOk};
-ghost use Rattle.fst_grammar.specs.Keys.{place, with_key, number_in, first, second};
+ghost use Rattle.fst_grammar.specs.Keys.{place, with_key};
 
 use indexmap::IndexSet;
 use std::alloc::{AllocError, Global};
@@ -47,32 +47,5 @@ impl Keys {
     {
         let (at, _) = self.set.insert_full(key)?;
         Ok(at)
-    }
-
-    /// A number in the key at a place, or 0.
-    fn number_in(&self, at: usize, k: usize) -> usize
-        ensures { result ≡ number_in self.now at k }
-    {
-        match self.set.get_index(at) {
-            Some(key) => match key.get(k) {
-                Some(n) => *n,
-                None => 0,
-            },
-            None => 0,
-        }
-    }
-
-    /// The place of the key of a tree's first part.
-    pub(crate) fn first(&self, at: usize) -> usize
-        ensures { result ≡ first self.now at }
-    {
-        self.number_in(at, 1)
-    }
-
-    /// The place of the key of a tree's second part.
-    pub(crate) fn second(&self, at: usize) -> usize
-        ensures { result ≡ second self.now at }
-    {
-        self.number_in(at, 2)
     }
 }

@@ -1,7 +1,7 @@
 //! The translation of session types to simple grammars.
 #![tactic(auto)]
 
-mod closing;
+mod counts;
 mod equations;
 mod fault;
 mod forms;
@@ -14,6 +14,7 @@ mod parts;
 mod rows;
 mod table;
 mod translation;
+mod trees;
 mod words;
 
 pub use fault::TranslateFault;

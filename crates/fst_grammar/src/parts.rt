@@ -8,11 +8,10 @@ ghost use Rattle.fst_grammar.specs.Views.{part_of, places_of, place_in, HasNumbe
 ghost use Rattle.fst_grammar.specs.Place.{own_place};
 ghost use Rattle.fst_grammar.specs.PartsAt.{own_parts};
 
-use crate::closing::{is_whole, node_count};
 use crate::found::Found;
 use crate::keys::Keys;
 use crate::numbers::{Numbered, first_part, second_part};
-use fst_lts::terminated;
+use crate::trees::Trees;
 use fst_types::{Branch, TyForm};
 use std::alloc::{AllocError, Global};
 
@@ -32,9 +31,9 @@ pub(crate) struct Parts<'a> {
 
 /// The place of a part in the list, or the length.
 #[tactic(auto, using(crate::proofs::PartLaws::place_position))]
-pub(crate) fn place_of(keys: &Keys, parts: &Parts<'_>, whole: Numbered<'_>, at: u32) -> usize
-    requires whole { HasNumber keys.now whole }
-    requires kept { IsKept keys.now parts.now }
+pub(crate) fn place_of(trees: &Trees, parts: &Parts<'_>, whole: Numbered<'_>, at: u32) -> usize
+    requires whole { HasNumber trees.now whole }
+    requires kept { IsKept trees.now parts.now }
     ensures value { result ≡ position (map part_of parts.now.found.items) whole.entry.ty.now at }
     ensures within { result ≤ length parts.now.found.items }
 {
@@ -56,20 +55,20 @@ fn list_places(out: &mut Vec<u32>, binders: &Binders<'_>) -> Result<(), AllocErr
 /// Puts a part behind the list, unless it is there.
 fn note<'a>(
     alloc: Global,
-    keys: &Keys,
+    trees: &Trees,
     parts: &mut Parts<'a>,
     whole: Numbered<'a>,
     at: u32,
     binders: &Binders<'_>,
     t: Numbered<'a>,
 ) -> Result<(), AllocError>
-    requires whole { HasNumber keys.now whole }
-    requires part { HasNumber keys.now t }
-    requires kept { IsKept keys.now parts.old }
-    ensures kept { OnOk result (IsKept keys.now parts.new) }
+    requires whole { HasNumber trees.now whole }
+    requires part { HasNumber trees.now t }
+    requires kept { IsKept trees.now parts.old }
+    ensures kept { OnOk result (IsKept trees.now parts.new) }
     ensures parts { OnOk result (map part_of parts.new.found.items ≡ with_part (map part_of parts.old.found.items) (record { place = place_in whole.entry.ty.now at (places_of binders.now); type = t.entry.ty.now })) }
 {
-    if place_of(keys, parts, whole, at) < parts.found.len() {
+    if place_of(trees, parts, whole, at) < parts.found.len() {
         return Ok(());
     }
     let mut places = Vec::new(alloc);
@@ -90,7 +89,7 @@ fn note<'a>(
 #[tactic(auto, using(crate::proofs::TableLaws::with_append))]
 pub(crate) fn note_all<'a>(
     alloc: Global,
-    keys: &Keys,
+    trees: &Trees,
     parts: &mut Parts<'a>,
     whole: Numbered<'a>,
     at: u32,
@@ -98,24 +97,24 @@ pub(crate) fn note_all<'a>(
     t: Numbered<'a>,
 ) -> Result<(), AllocError>
     requires fits { at + nodes t.ty.now < 2 ^ 31 }
-    requires whole { HasNumber keys.now whole }
-    requires part { HasNumber keys.now t }
-    requires kept { IsKept keys.now parts.old }
-    ensures kept { OnOk result (IsKept keys.now parts.new) }
+    requires whole { HasNumber trees.now whole }
+    requires part { HasNumber trees.now t }
+    requires kept { IsKept trees.now parts.old }
+    ensures kept { OnOk result (IsKept trees.now parts.new) }
     ensures parts { OnOk result (map part_of parts.new.found.items ≡ with_parts (map part_of parts.old.found.items) (parts_in (place_in whole.entry.ty.now at (places_of binders.now)) t.entry.ty.now)) }
 {
     let ty = t.ty;
     match &ty.form {
         TyForm::Seq(first, second) => {
-            let after = at + (1 + node_count(first));
-            let first = first_part(keys, t, first);
-            note_all(alloc, keys, parts, whole, at + 1, binders, first)?;
-            let second = second_part(keys, t, second);
-            note_all(alloc, keys, parts, whole, after, binders, second)
+            let first = first_part(trees, t, first);
+            let after = at + (1 + first.counts(trees).nodes);
+            note_all(alloc, trees, parts, whole, at + 1, binders, first)?;
+            let second = second_part(trees, t, second);
+            note_all(alloc, trees, parts, whole, after, binders, second)
         }
-        TyForm::Select(_) => note_entered(alloc, keys, parts, whole, at, binders, t),
-        TyForm::Offer(_) => note_entered(alloc, keys, parts, whole, at, binders, t),
-        TyForm::Rec(_) => note_entered(alloc, keys, parts, whole, at, binders, t),
+        TyForm::Select(_) => note_entered(alloc, trees, parts, whole, at, binders, t),
+        TyForm::Offer(_) => note_entered(alloc, trees, parts, whole, at, binders, t),
+        TyForm::Rec(_) => note_entered(alloc, trees, parts, whole, at, binders, t),
         _ => Ok(()),
     }
 }
@@ -124,7 +123,7 @@ pub(crate) fn note_all<'a>(
 #[cycle(note)]
 fn note_entered<'a>(
     alloc: Global,
-    keys: &Keys,
+    trees: &Trees,
     parts: &mut Parts<'a>,
     whole: Numbered<'a>,
     at: u32,
@@ -132,16 +131,16 @@ fn note_entered<'a>(
     t: Numbered<'a>,
 ) -> Result<(), AllocError>
     requires fits { at + nodes t.ty.now < 2 ^ 31 }
-    requires whole { HasNumber keys.now whole }
-    requires part { HasNumber keys.now t }
-    requires kept { IsKept keys.now parts.old }
-    ensures kept { OnOk result (IsKept keys.now parts.new) }
+    requires whole { HasNumber trees.now whole }
+    requires part { HasNumber trees.now t }
+    requires kept { IsKept trees.now parts.old }
+    ensures kept { OnOk result (IsKept trees.now parts.new) }
     ensures parts { OnOk result (map part_of parts.new.found.items ≡ with_parts (map part_of parts.old.found.items) (own_parts (own_place (place_in whole.entry.ty.now at (places_of binders.now)) t.entry.ty.now) t.entry.ty.now)) }
 {
-    if is_whole(t.ty) {
-        note_own(alloc, keys, parts, t, 0, &Binders::Top, t)
+    if t.counts(trees).is_closed() {
+        note_own(alloc, trees, parts, t, 0, &Binders::Top, t)
     } else {
-        note_own(alloc, keys, parts, whole, at, binders, t)
+        note_own(alloc, trees, parts, whole, at, binders, t)
     }
 }
 
@@ -149,7 +148,7 @@ fn note_entered<'a>(
 #[cycle(note)]
 fn note_own<'a>(
     alloc: Global,
-    keys: &Keys,
+    trees: &Trees,
     parts: &mut Parts<'a>,
     whole: Numbered<'a>,
     at: u32,
@@ -157,30 +156,30 @@ fn note_own<'a>(
     t: Numbered<'a>,
 ) -> Result<(), AllocError>
     requires fits { at + nodes t.ty.now < 2 ^ 31 }
-    requires whole { HasNumber keys.now whole }
-    requires part { HasNumber keys.now t }
-    requires kept { IsKept keys.now parts.old }
-    ensures kept { OnOk result (IsKept keys.now parts.new) }
+    requires whole { HasNumber trees.now whole }
+    requires part { HasNumber trees.now t }
+    requires kept { IsKept trees.now parts.old }
+    ensures kept { OnOk result (IsKept trees.now parts.new) }
     ensures parts { OnOk result (map part_of parts.new.found.items ≡ with_parts (map part_of parts.old.found.items) (own_parts (place_in whole.entry.ty.now at (places_of binders.now)) t.entry.ty.now)) }
 {
-    let (ty, list) = (t.ty, keys.first(t.number));
+    let (ty, list) = (t.ty, trees.first(t.number));
     match &ty.form {
         TyForm::Select(branches) => {
-            note(alloc, keys, parts, whole, at, binders, t)?;
-            note_branches(alloc, keys, parts, whole, at + 1, binders, branches, list)
+            note(alloc, trees, parts, whole, at, binders, t)?;
+            note_branches(alloc, trees, parts, whole, at + 1, binders, branches, list)
         }
         TyForm::Offer(branches) => {
-            note(alloc, keys, parts, whole, at, binders, t)?;
-            note_branches(alloc, keys, parts, whole, at + 1, binders, branches, list)
+            note(alloc, trees, parts, whole, at, binders, t)?;
+            note_branches(alloc, trees, parts, whole, at + 1, binders, branches, list)
         }
         TyForm::Rec(body) => {
-            if terminated(body) {
+            let body = first_part(trees, t, body);
+            if body.counts(trees).terminated {
                 return Ok(());
             }
-            note(alloc, keys, parts, whole, at, binders, t)?;
+            note(alloc, trees, parts, whole, at, binders, t)?;
             let inner = Binders::Under(at, &*binders);
-            let body = first_part(keys, t, body);
-            note_all(alloc, keys, parts, whole, at + 1, &inner, body)
+            note_all(alloc, trees, parts, whole, at + 1, &inner, body)
         }
         _ => Ok(()),
     }
@@ -190,7 +189,7 @@ fn note_own<'a>(
 #[tactic(auto, using(crate::proofs::Rulesets::parts_of_branches))]
 fn note_branches<'a>(
     alloc: Global,
-    keys: &Keys,
+    trees: &Trees,
     parts: &mut Parts<'a>,
     whole: Numbered<'a>,
     at: u32,
@@ -199,10 +198,10 @@ fn note_branches<'a>(
     list: usize,
 ) -> Result<(), AllocError>
     requires fits { at + nodes_all (branches_of branches.now) < 2 ^ 31 }
-    requires whole { HasNumber keys.now whole }
-    requires part { Stands keys.now list (shape_of_all (branches_of branches.now)) }
-    requires kept { IsKept keys.now parts.old }
-    ensures kept { OnOk result (IsKept keys.now parts.new) }
+    requires whole { HasNumber trees.now whole }
+    requires part { Stands trees.now list (shape_of_all (branches_of branches.now)) }
+    requires kept { IsKept trees.now parts.old }
+    ensures kept { OnOk result (IsKept trees.now parts.new) }
     ensures parts { OnOk result (map part_of parts.new.found.items ≡ with_parts (map part_of parts.old.found.items) (parts_all (place_in whole.entry.ty.now at (places_of binders.now)) (branches_of branches.now))) }
 {
     let mut place = at;
@@ -210,11 +209,11 @@ fn note_branches<'a>(
     for branch in branches {
         let body = Numbered {
             ty: &branch.body,
-            number: keys.first(list),
+            number: trees.first(list),
         };
-        note_all(alloc, keys, parts, whole, place + 1, binders, body)?;
-        place += 1 + node_count(&branch.body);
-        list = keys.second(list);
+        note_all(alloc, trees, parts, whole, place + 1, binders, body)?;
+        place += 1 + body.counts(trees).nodes;
+        list = trees.second(list);
     }
     Ok(())
 }

@@ -1,8 +1,7 @@
-ghost use Rattle.std.specs.Prelude.{◌≡◌, ◌+◌, ◌<◌, ◌≤◌, ◌^◌, ◌++◌, ◌∷◌, [], ℕ, All, IfErr, IfOk, OnOk, map, length};
+ghost use Rattle.std.specs.Prelude.{◌≡◌, ◌+◌, ◌<◌, ◌≤◌, ◌^◌, ◌++◌, ◌∷◌, [], IfErr, IfOk, OnOk, map, length};
 ghost use Rattle.fst_words.specs.Words.{Productions, row_of};
-ghost use Rattle.fst_words.specs.Ordered.{AreOrdered};
 ghost use Rattle.fst_grammar.specs.Rules.{rules_before};
-ghost use Rattle.fst_grammar.specs.Equations.{Solves, Leads, IsGrounded, most_rank};
+ghost use Rattle.fst_grammar.specs.Equations.{Solves, Leads, HasRanks, HasOrderedRows, AreLast};
 ghost use Rattle.fst_grammar.specs.Translation.{right_sides, right_side};
 ghost use Rattle.fst_grammar.specs.Views.{equation_of};
 ghost use Rattle.fst_grammar.specs.declared.fault.TranslateFault.TheVariants.{TooLarge};
@@ -24,18 +23,28 @@ struct Head<'a> {
     rest: Vec<u32>,
 }
 
-/// Goes from equation to equation to rules, at most so many steps.
+/// Goes from equation to equation to rules, at most so many steps: to an equation's own, or to those of one of the last
+/// non-terminals, whose rules are known.
 #[tactic(auto, using(crate::proofs::Rulesets::heads))]
 fn head_of<'a>(
     alloc: Global,
     equations: &'a [Equation],
+    known: &'a [Rules],
     z: u32,
     left: u32,
 ) -> Result<Head<'a>, AllocError>
     requires within { z < length equations.now }
+    requires known { (rows : Productions) → Solves rows (map equation_of equations.now) → AreLast rows known.now }
     requires leads { Leads (map equation_of equations.now) z left }
     ensures rules { (rows : Productions) → Solves rows (map equation_of equations.now) → IfOk result (λ h. row_of rows z ≡ rules_before h.rest.items h.rules.now) }
 {
+    let behind = equations.len() - 1 - z as usize;
+    if behind < known.len() {
+        return Ok(Head {
+            rules: known[behind].as_slice(),
+            rest: Vec::new(alloc),
+        });
+    }
     match &equations[z as usize] {
         Equation::Own(rules) => Ok(Head {
             rules,
@@ -43,7 +52,7 @@ fn head_of<'a>(
         }),
         Equation::Like(word) => {
             let word = word.as_slice();
-            let mut head = head_of(alloc, equations, word[0], left - 1)?;
+            let mut head = head_of(alloc, equations, known, word[0], left - 1)?;
             head.rest.extend_from_slice(&word[1..])?;
             Ok(head)
         }
@@ -51,7 +60,6 @@ fn head_of<'a>(
 }
 
 /// The rules with more behind each word, which take their letters from those that are left.
-#[tactic(auto, using(crate::proofs::SizeLaws::carried_at, crate::proofs::SizeLaws::right_at))]
 fn carry(
     alloc: Global,
     rules: &[Rule],
@@ -84,46 +92,50 @@ fn add_rule(
 {
     rules.push(Rule {
         letter: rule.letter,
-        word: Word::joined(alloc, rule.word.as_slice(), rest)?,
+        word: Word::concat(alloc, rule.word.as_slice(), rest)?,
     })?;
     Ok(())
 }
 
-/// The rules of a non-terminal, which take their letters from those that are left.
+/// The rules of a non-terminal, from those of the last ones, which take their letters from those that are left.
 #[tactic(auto, using(crate::proofs::HeadLaws::leads_all))]
 fn row(
     alloc: Global,
     equations: &[Equation],
+    known: &[Rules],
     z: u32,
     room: &mut u64,
 ) -> Result<Rules, TranslateFault>
     requires within { z < length equations.now }
-    requires grounded { (rank : ℕ → ℕ) × IsGrounded rank most_rank (map equation_of equations.now) }
-    requires ordered { (rows : Productions) × Solves rows (map equation_of equations.now) × All AreOrdered rows }
+    requires known { (rows : Productions) → Solves rows (map equation_of equations.now) → AreLast rows known.now }
+    requires grounded { HasRanks (map equation_of equations.now) }
+    requires ordered { HasOrderedRows (map equation_of equations.now) }
     ensures rules { (rows : Productions) → Solves rows (map equation_of equations.now) → IfOk result (λ r. r ≡ row_of rows z) }
     ensures room { (rows : Productions) → Solves rows (map equation_of equations.now) → OnOk result (room.new + right_side (row_of rows z) ≡ room.old) }
     ensures too_large { (rows : Productions) → Solves rows (map equation_of equations.now) → IfErr result (λ f. f ≡ TooLarge → room.old < right_side (row_of rows z)) }
 {
-    let head = head_of(alloc, equations, z, MOST_STEPS)?;
+    let head = head_of(alloc, equations, known, z, MOST_STEPS)?;
     let rules = carry(alloc, head.rules, &head.rest, room)?;
     Ok(Rules::new(rules))
 }
 
-/// The rules of all non-terminals.
+/// The rules of all non-terminals, found from the last one on: most equations lead to a later one.
 pub(crate) fn rows_of(alloc: Global, equations: &[Equation]) -> Result<Vec<Rules>, TranslateFault>
     requires few { length equations.now < 2 ^ 32 }
-    requires grounded { (rank : ℕ → ℕ) × IsGrounded rank most_rank (map equation_of equations.now) }
-    requires ordered { (rows : Productions) × Solves rows (map equation_of equations.now) × All AreOrdered rows }
+    requires grounded { HasRanks (map equation_of equations.now) }
+    requires ordered { HasOrderedRows (map equation_of equations.now) }
     ensures rules { (rows : Productions) → Solves rows (map equation_of equations.now) → IfOk result (λ r. r.items ≡ rows) }
     ensures small { IfOk result (λ r. right_sides r.items ≤ most_letters) }
     ensures too_large { (rows : Productions) → Solves rows (map equation_of equations.now) → IfErr result (λ f. f ≡ TooLarge → most_letters < right_sides rows) }
 {
     let mut rows = Vec::new(alloc);
     let mut room = MOST_LETTERS;
-    for z in 0..equations.len() {
-        let rules = row(alloc, equations, z as u32, &mut room)?;
+    for i in 0..equations.len() {
+        let z = (equations.len() - 1 - i) as u32;
+        let rules = row(alloc, equations, &rows, z, &mut room)?;
         add_row(&mut rows, rules)?;
     }
+    rows.reverse();
     Ok(rows)
 }
 

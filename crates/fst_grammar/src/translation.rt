@@ -21,6 +21,7 @@ use crate::numbers::{Numbered, with_number};
 use crate::parts::{Binders, Parts, note_all};
 use crate::rows::rows_of;
 use crate::table::Table;
+use crate::trees::Trees;
 use crate::words::word_of;
 use fst_base::MOST_NODES;
 use fst_types::{Ty, size};
@@ -68,23 +69,23 @@ fn translate_small(alloc: Global, s: &Ty, r: &Ty) -> Result<(Grammar, Word, Word
 #[tactic(auto, using(crate::proofs::TableLaws::with_append))]
 fn parts_of_both<'a>(
     alloc: Global,
-    keys: &Keys,
+    trees: &Trees,
     left: Numbered<'a>,
     right: Numbered<'a>,
 ) -> Result<Parts<'a>, AllocError>
     requires left { nodes left.ty.now ≤ most_nodes }
     requires right { nodes right.ty.now ≤ most_nodes }
-    requires number_left { HasNumber keys.now left }
-    requires number_right { HasNumber keys.now right }
+    requires number_left { HasNumber trees.now left }
+    requires number_right { HasNumber trees.now right }
     ensures parts { IfOk result (λ p. map part_of p.found.items ≡ parts_of left.entry.ty.now right.entry.ty.now) }
-    ensures kept { IfOk result (IsKept keys.now) }
+    ensures kept { IfOk result (IsKept trees.now) }
 {
     let mut parts = Parts {
         found: Vec::new(alloc),
         index: Keys::new(alloc),
     };
-    note_all(alloc, keys, &mut parts, left, 0, &Binders::Top, left)?;
-    note_all(alloc, keys, &mut parts, right, 0, &Binders::Top, right)?;
+    note_all(alloc, trees, &mut parts, left, 0, &Binders::Top, left)?;
+    note_all(alloc, trees, &mut parts, right, 0, &Binders::Top, right)?;
     Ok(parts)
 }
 
@@ -98,23 +99,23 @@ fn table_of<'a>(alloc: Global, s: &'a Ty, r: &'a Ty) -> Result<Table<'a>, AllocE
     ensures table { IfOk result IsTable }
     ensures left { IfOk result (λ t. t.left.ty.now ≡ s.now) }
     ensures right { IfOk result (λ t. t.right.ty.now ≡ r.now) }
-    ensures number_left { IfOk result (λ t. HasNumber t.keys t.left) }
-    ensures number_right { IfOk result (λ t. HasNumber t.keys t.right) }
+    ensures number_left { IfOk result (λ t. HasNumber t.trees t.left) }
+    ensures number_right { IfOk result (λ t. HasNumber t.trees t.right) }
     ensures within { IfOk result (λ t. All (λ p. p.at + nodes p.part.ty.now < 2 ^ 31) t.parts.found.items) }
 {
     let mut letters = Vec::new(alloc);
     add_labels(alloc, &mut letters, s)?;
     add_labels(alloc, &mut letters, r)?;
     let names = names_among(alloc, &letters)?;
-    let mut keys = Keys::new(alloc);
-    let left = with_number(alloc, &mut keys, s)?;
-    let right = with_number(alloc, &mut keys, r)?;
-    let parts = parts_of_both(alloc, &keys, left, right)?;
+    let mut trees = Trees::new(alloc);
+    let left = with_number(alloc, &mut trees, s)?;
+    let right = with_number(alloc, &mut trees, r)?;
+    let parts = parts_of_both(alloc, &trees, left, right)?;
     Ok(Table {
         letters,
         names,
         parts,
-        keys,
+        trees,
         left,
         right,
     })

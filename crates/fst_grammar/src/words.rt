@@ -4,10 +4,8 @@ ghost use Rattle.fst_grammar.specs.Place.{binder};
 ghost use Rattle.fst_grammar.specs.Word.{word};
 ghost use Rattle.fst_grammar.specs.Views.{numbers_in, place_in, HasNumber, IsTable};
 
-use crate::closing::node_count;
 use crate::numbers::{Numbered, first_part, second_part};
 use crate::table::Table;
-use fst_lts::terminated;
 use fst_types::{Label, TyForm};
 use fst_words::Word;
 use std::alloc::{AllocError, Global};
@@ -41,8 +39,8 @@ fn push_word(
 ) -> Result<(), AllocError>
     requires table { IsTable table.now }
     requires fits { at + nodes t.ty.now < 2 ^ 31 }
-    requires whole { HasNumber table.now.keys whole }
-    requires part { HasNumber table.now.keys t }
+    requires whole { HasNumber table.now.trees whole }
+    requires part { HasNumber table.now.trees t }
     ensures { OnOk result (out.new.items ≡ out.old.items ++ word (numbers_in table.now) (place_in whole.entry.ty.now at binders.now) t.entry.ty.now) }
 {
     let ty = t.ty;
@@ -55,14 +53,15 @@ fn push_word(
         TyForm::Select(_) => add(out, table.number(whole, at, t)),
         TyForm::Offer(_) => add(out, table.number(whole, at, t)),
         TyForm::Seq(first, second) => {
-            let after = at + (1 + node_count(first));
-            let first = first_part(&table.keys, t, first);
+            let first = first_part(&table.trees, t, first);
+            let after = at + (1 + first.counts(&table.trees).nodes);
             push_word(out, table, binders, whole, at + 1, first)?;
-            let second = second_part(&table.keys, t, second);
+            let second = second_part(&table.trees, t, second);
             push_word(out, table, binders, whole, after, second)
         }
         TyForm::Rec(body) => {
-            if terminated(body) {
+            let body = first_part(&table.trees, t, body);
+            if body.counts(&table.trees).terminated {
                 Ok(())
             } else {
                 add(out, table.number(whole, at, t))
@@ -86,8 +85,8 @@ pub(crate) fn word_of(
 ) -> Result<Word, AllocError>
     requires table { IsTable table.now }
     requires fits { at + nodes t.ty.now < 2 ^ 31 }
-    requires whole { HasNumber table.now.keys whole }
-    requires part { HasNumber table.now.keys t }
+    requires whole { HasNumber table.now.trees whole }
+    requires part { HasNumber table.now.trees t }
     ensures { IfOk result (λ w. w ≡ word (numbers_in table.now) (place_in whole.entry.ty.now at binders.now) t.entry.ty.now) }
 {
     let mut out = Vec::new(alloc);

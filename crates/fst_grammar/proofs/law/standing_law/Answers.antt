@@ -1,4 +1,4 @@
-use Rattle.std.proofs.Common.{◌≤◌, length, arith}
+use Rattle.std.proofs.Common.{length, arith}
 use Rattle.fst_lts.specs.Step as type
 use Rattle.fst_base.proofs.TraceLaws.{agree_is_traces}
 use Rattle.fst_words.specs.Words.{label_step}

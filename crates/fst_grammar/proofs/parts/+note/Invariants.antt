@@ -23,7 +23,7 @@ decreases-note_branches l = 4 * height_all (branches_of l.branches.now) + 4
 abbrev pub invariant-note_branches-loop-branch : goal.invariant-note_branches-loop-branch
 invariant-note_branches-loop-branch l = record {
   fits : l.place + nodes_all (branches_of (drop l.branch-index l.branches)) < 2 ^ 31;
-  part : Stands l.keys l.list (shape_of_all (branches_of (drop l.branch-index l.branches)));
-  kept : IsKept l.keys l.parts;
+  part : Stands l.trees l.list (shape_of_all (branches_of (drop l.branch-index l.branches)));
+  kept : IsKept l.trees l.parts;
   rest : with_parts (map part_of l.parts.found.items) (parts_all (place_in l.whole.ty.now l.place (places_of l.binders)) (branches_of (drop l.branch-index l.branches))) ≡ with_parts (map part_of l.initial.parts.found.items) (parts_all (place_in l.whole.ty.now l.at (places_of l.binders)) (branches_of l.branches));
 }

@@ -1,8 +1,8 @@
-use Rattle.std.proofs.Common.{◌∙◌, ◌<◌, sym, ap, arith, rules, length}
+use Rattle.std.proofs.Common.{◌∙◌, ◌-◌, ◌<◌, refl, sym, ap, arith, rules, length, get_or}
 use Rattle.fst_grammar.specs.Rules.{rules_before}
 use Rattle.fst_grammar.specs.Equations.{like}
 use Rattle.fst_grammar.specs.Views.{equation_of}
-use Rattle.fst_grammar.proofs.HeadLaws.{led, like_row}
+use Rattle.fst_grammar.proofs.HeadLaws.{led, like_row, known_row}
 use Rattle.fst_grammar.proofs.rows.+head_of.Goals as goal
 
 pub bounds-word-0 : goal.bounds-word-0
@@ -16,7 +16,7 @@ overflow_sub-left t c =
 pub head_of-requires : goal.head_of-requires
 head_of-requires t c =
     let h = led c.args.equations.now c.args.z c.args.left c.index-equations-z.result c.as_slice-word.result.now c.requires.leads c.requires.within c.index-equations-z.is (ap equation_of c.in-Like.is ∙ ap like (sym c.as_slice-word.ensures)) in
-    (omega (arith, h.more), (h.within, h.leads))
+    (omega (arith, h.more), (h.within, (c.requires.known, h.leads)))
 
 pub slice_bounds-extend_from_slice-count : goal.slice_bounds-extend_from_slice-count
 slice_bounds-extend_from_slice-count t c =
@@ -37,4 +37,13 @@ returns-in_ok-extend_from_slice-in-Like t c =
       rules = λ rows s.
           like_row c.args.equations.now c.args.z c.index-equations-z.result w c.in_ok-head-in-Like.head.rest.items c.in_ok-head-in-Like.head.rules.now rows s c.requires.within c.index-equations-z.is is h.some (c.in_ok-head-in-Like.ensures.rules rows s)
           ∙ ap (λ d. rules_before d c.in_ok-head-in-Like.head.rules.now) (sym c.in_ok-extend_from_slice-in-Like.ensures.items);
+    }
+
+pub returns-then-behind-known : goal.returns-then-behind-known
+returns-then-behind-known t c =
+    let read = c.as_slice.ensures.rules ∙ c.index-known-behind.is ∙ ap (get_or c.args.known.now _) (sym c.as_slice.ensures.rules) in
+    record {
+      rules = λ rows s.
+          known_row rows c.args.known.now c.args.equations.now c.args.z (length c.args.equations.now - 1 - c.args.z) c.as_slice.result.now s (c.requires.known rows s) c.requires.within refl c.if-behind-known.true read
+          ∙ ap (λ d. rules_before d c.as_slice.result.now) (sym c.new.ensures.items);
     }
