@@ -1,1 +1,4 @@
 pub mod TermDrops
+pub mod CoreDrops
+pub mod SourceAround
+pub mod Around

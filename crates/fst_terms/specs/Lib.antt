@@ -10,3 +10,12 @@ pub mod ModuleView
 pub mod Filled
 pub mod FilledFacts
 pub mod Count
+pub mod CoreTree
+pub mod ModelCoreView
+pub mod ModelCoreCode
+pub mod ModelCoreFalls
+pub mod SourceAround
+pub mod Around
+pub mod InRange
+pub mod InRangeFacts
+pub mod CoreCount
