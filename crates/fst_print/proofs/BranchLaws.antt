@@ -4,7 +4,7 @@ use Rattle.fst_types.specs.declared.ty.Branch.{Branch}
 use Rattle.fst_types.specs.Scoped.{IsScoped, AllScoped}
 use Rattle.fst_types.specs.ModelView.{branches_of}
 use Rattle.fst_types.proofs.Laws.{height_at}
-use Rattle.fst_print.specs.Named.{IsNamedWithin, AllNamedWithin}
+use Rattle.fst_types.specs.Named.{IsNamedWithin, AllNamedWithin}
 
 -- each branch has its recursion variables bound
 pub scoped_at : (n : ℕ) (bs : List Branch) (i : ℕ) (d : Branch) → AllScoped n (branches_of bs) → i < length bs → IsScoped n ((get_or bs i d).body)

@@ -1,4 +1,3 @@
-pub mod Named
 pub mod Texts
 pub mod Ranks
 pub mod ModuleTexts

@@ -15,7 +15,7 @@ use Rattle.fst_types.specs.declared.label.Label.TheVariants.{Send, Receive, Sele
 use Rattle.fst_types.specs.declared.side.Side.{Side}
 use Rattle.fst_types.specs.declared.side.Side.TheVariants.{Left, Right}
 use Rattle.fst_print.specs.declared.refusals.Phrase.{Phrase}
-use Rattle.fst_print.specs.declared.refusals.Phrase.TheVariants.{NotUtf8, BadChar, WideNumber, LongName, Syntax, Unbound, NotContractive, WrongKind, UnboundType, DoubleLabel}
+use Rattle.fst_print.specs.declared.refusals.Phrase.TheVariants.{NotUtf8, BadChar, WideNumber, LongName, Syntax, Unbound, Twice, AliasLoop, Arity, NoMain, NotContractive, WrongKind, UnboundType, DoubleLabel}
 use Rattle.fst_print.specs.declared.refusals.Refusal.{Refusal}
 
 -- a type of plain values
@@ -173,6 +173,10 @@ phrase_text WideNumber = codes "number too wide"
 phrase_text LongName = codes "name too long"
 phrase_text Syntax = codes "syntax"
 phrase_text (Unbound name) = codes "unbound " ++ name
+phrase_text (Twice name) = codes "twice " ++ name
+phrase_text (AliasLoop name) = codes "alias loop " ++ name
+phrase_text (Arity got wanted) = codes "arity " ++ decimal got ++ codes " wanted " ++ decimal wanted
+phrase_text NoMain = codes "no main"
 phrase_text NotContractive = codes "not contractive"
 phrase_text (WrongKind got wanted) = codes "kind " ++ kind_text got ++ codes " wanted " ++ kind_text wanted
 phrase_text (UnboundType k) = codes "unbound type " ++ variable_text k

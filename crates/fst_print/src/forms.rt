@@ -1,15 +1,15 @@
 //! Terms by the form at their top: how each begins is written, and its parts go on the stack.
 
+ghost use Rattle.std.specs.Prelude.{◌++◌, ◌+◌, codes};
 ghost use Rattle.fst_terms.specs.TermTree as tree;
 ghost use Rattle.fst_terms.specs.ModelView.{arms_of, terms_of};
 ghost use Rattle.fst_print.specs.Adds.{Lightens, Stacks, Unfolds};
-ghost use Rattle.fst_print.specs.ModuleTexts.{term_text};
-ghost use Rattle.fst_print.specs.Stack.{term_weight};
+ghost use Rattle.fst_print.specs.ModuleTexts.{arm_texts, term_text};
+ghost use Rattle.fst_print.specs.Stack.{arms_weight, form_weight, term_weight};
+ghost use Rattle.fst_print.specs.Texts.{in_parens_if, joined_text};
 
 use crate::pieces::name_text;
-use crate::ranks::{
-    is_no_atom, is_no_chain, is_no_head, is_no_left, is_no_negation, is_no_right, op_text,
-};
+use crate::ranks::{is_no_atom, is_no_chain, is_no_head, is_no_left, is_no_right, op_text};
 use crate::stack::{Piece, Stack, push, push_enclosed, push_term, push_text};
 use crate::types::arrow_text;
 use crate::written::push_seq;
@@ -122,36 +122,24 @@ pub(crate) fn unfold_if<'a>(
     push_term(stack, test)
 }
 
-pub(crate) fn unfold_case<'a>(
+// A word, a term, another word, and arms in braces.
+pub(crate) fn unfold_choice<'a>(
     text: &mut String,
     stack: &mut Stack<'a>,
+    word: &str,
     value: &'a SourceTerm,
+    behind: &'a str,
     arms: &'a [SourceArm],
 ) -> Result<(), AllocError>
-    ensures same { Unfolds result text.old text.new stack.old stack.new (term_text (tree.case_of 0 value.now (arms_of arms.now))) }
-    ensures less { Lightens result stack.old stack.new (term_weight (tree.case_of 0 value.now (arms_of arms.now))) }
+    ensures same { Unfolds result text.old text.new stack.old stack.new
+        (word.now ++ term_text value.now ++ behind.now ++ joined_text (codes ", ") (arm_texts (arms_of arms.now)) ++ codes "}") }
+    ensures less { Lightens result stack.old stack.new (form_weight + (term_weight value.now + arms_weight (arms_of arms.now))) }
 {
-    text.push_str("case ")?;
+    text.push_str(word)?;
     push_text(stack, "}")?;
     push(stack, Piece::Arms(arms))?;
-    push_text(stack, " of {")?;
+    push_text(stack, behind)?;
     push_term(stack, value)
-}
-
-pub(crate) fn unfold_match<'a>(
-    text: &mut String,
-    stack: &mut Stack<'a>,
-    channel: &'a SourceTerm,
-    arms: &'a [SourceArm],
-) -> Result<(), AllocError>
-    ensures same { Unfolds result text.old text.new stack.old stack.new (term_text (tree.match_with 0 channel.now (arms_of arms.now))) }
-    ensures less { Lightens result stack.old stack.new (term_weight (tree.match_with 0 channel.now (arms_of arms.now))) }
-{
-    text.push_str("match ")?;
-    push_text(stack, "}")?;
-    push(stack, Piece::Arms(arms))?;
-    push_text(stack, " with {")?;
-    push_term(stack, channel)
 }
 
 pub(crate) fn unfold_send<'a>(
@@ -184,40 +172,19 @@ pub(crate) fn unfold_select<'a>(
     push_enclosed(stack, channel, is_no_atom(channel))
 }
 
-pub(crate) fn unfold_receive<'a>(
+// A word, and the operand behind it.
+pub(crate) fn unfold_behind<'a>(
     text: &mut String,
     stack: &mut Stack<'a>,
-    channel: &'a SourceTerm,
-) -> Result<(), AllocError>
-    ensures same { Unfolds result text.old text.new stack.old stack.new (term_text (tree.receive 0 channel.now)) }
-    ensures less { Lightens result stack.old stack.new (term_weight (tree.receive 0 channel.now)) }
-{
-    text.push_str("receive ")?;
-    push_enclosed(stack, channel, is_no_atom(channel))
-}
-
-pub(crate) fn unfold_fork<'a>(
-    text: &mut String,
-    stack: &mut Stack<'a>,
-    task: &'a SourceTerm,
-) -> Result<(), AllocError>
-    ensures same { Unfolds result text.old text.new stack.old stack.new (term_text (tree.fork 0 task.now)) }
-    ensures less { Lightens result stack.old stack.new (term_weight (tree.fork 0 task.now)) }
-{
-    text.push_str("fork ")?;
-    push_enclosed(stack, task, is_no_atom(task))
-}
-
-pub(crate) fn unfold_not<'a>(
-    text: &mut String,
-    stack: &mut Stack<'a>,
+    word: &str,
     t: &'a SourceTerm,
+    in_parens: bool,
 ) -> Result<(), AllocError>
-    ensures same { Unfolds result text.old text.new stack.old stack.new (term_text (tree.negate 0 t.now)) }
-    ensures less { Lightens result stack.old stack.new (term_weight (tree.negate 0 t.now)) }
+    ensures same { Unfolds result text.old text.new stack.old stack.new (word.now ++ in_parens_if in_parens (term_text t.now)) }
+    ensures less { Lightens result stack.old stack.new (form_weight + term_weight t.now) }
 {
-    text.push_str("not ")?;
-    push_enclosed(stack, t, is_no_negation(t))
+    text.push_str(word)?;
+    push_enclosed(stack, t, in_parens)
 }
 
 pub(crate) fn unfold_apply<'a>(

@@ -2,7 +2,7 @@ ghost use Rattle.std.specs.Prelude.{◌≡◌, ◌++◌, IfOk, codes, map};
 ghost use Rattle.std.specs.List.{flat_map};
 ghost use Rattle.std.specs.String.{string_bytes};
 ghost use Rattle.fst_terms.specs.ModuleTree as tree;
-ghost use Rattle.fst_terms.specs.ModuleTree.{declared, maker};
+ghost use Rattle.fst_terms.specs.ModuleTree.{decl_tree, maker};
 ghost use Rattle.fst_terms.specs.ModuleView.{declarations};
 ghost use Rattle.fst_print.specs.Adds.{Adds};
 ghost use Rattle.fst_print.specs.ModuleTexts.{atom_text, binder_kind_text, binders_text, decl_text, maker_text, module_text};
@@ -126,7 +126,7 @@ fn push_equation(
 }
 
 fn push_decl(alloc: Global, text: &mut String, decl: &Decl) -> Result<(), AllocError>
-    ensures { Adds result text.old text.new (decl_text (declared decl.now)) }
+    ensures { Adds result text.old text.new (decl_text (decl_tree decl.now)) }
 {
     match decl {
         Decl::Family(name, makers) => push_family(text, name, makers),
@@ -139,7 +139,7 @@ fn push_decl(alloc: Global, text: &mut String, decl: &Decl) -> Result<(), AllocE
 }
 
 fn push_decls(alloc: Global, text: &mut String, decls: &[Decl]) -> Result<(), AllocError>
-    ensures { Adds result text.old text.new (module_text (map declared decls.now)) }
+    ensures { Adds result text.old text.new (module_text (map decl_tree decls.now)) }
 {
     for decl in decls {
         push_decl(alloc, text, decl)?;

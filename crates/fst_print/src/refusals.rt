@@ -1,4 +1,4 @@
-ghost use Rattle.std.specs.Prelude.{◌≡◌, IfOk};
+ghost use Rattle.std.specs.Prelude.{◌≡◌, ◌++◌, IfOk};
 ghost use Rattle.std.specs.String.{string_bytes};
 ghost use Rattle.fst_print.specs.Adds.{Adds};
 ghost use Rattle.fst_print.specs.Texts.{kind_text, phrase_text, prekind_text, refusal_text, use_text};
@@ -22,6 +22,14 @@ pub enum Phrase {
     Syntax,
     /// A name that nothing around it binds.
     Unbound(Name),
+    /// A name that is declared a second time.
+    Twice(Name),
+    /// An alias of this name that leads back to itself.
+    AliasLoop(Name),
+    /// A name with the first number of parts, where the second one is wanted.
+    Arity(u64, u64),
+    /// A module that declares no main function.
+    NoMain,
     /// A recursive type whose body comes to its own variable before any move.
     NotContractive,
     /// A part has the first kind, which isn't below the second, wanted one.
@@ -65,6 +73,13 @@ pub(crate) fn push_kind(text: &mut String, kind: Kind) -> Result<(), AllocError>
     text.push_str(prekind_text(kind.prekind))
 }
 
+fn push_cause(text: &mut String, cause: &str, name: &Name) -> Result<(), AllocError>
+    ensures { Adds result text.old text.new (cause.now ++ name.now) }
+{
+    text.push_str(cause)?;
+    text.push_str(name_text(name))
+}
+
 fn push_phrase(text: &mut String, phrase: &Phrase) -> Result<(), AllocError>
     ensures { Adds result text.old text.new (phrase_text phrase.now) }
 {
@@ -74,10 +89,16 @@ fn push_phrase(text: &mut String, phrase: &Phrase) -> Result<(), AllocError>
         Phrase::WideNumber => text.push_str("number too wide"),
         Phrase::LongName => text.push_str("name too long"),
         Phrase::Syntax => text.push_str("syntax"),
-        Phrase::Unbound(name) => {
-            text.push_str("unbound ")?;
-            text.push_str(name_text(name))
+        Phrase::Unbound(name) => push_cause(text, "unbound ", name),
+        Phrase::Twice(name) => push_cause(text, "twice ", name),
+        Phrase::AliasLoop(name) => push_cause(text, "alias loop ", name),
+        Phrase::Arity(got, wanted) => {
+            text.push_str("arity ")?;
+            push_number(text, *got)?;
+            text.push_str(" wanted ")?;
+            push_number(text, *wanted)
         }
+        Phrase::NoMain => text.push_str("no main"),
         Phrase::NotContractive => text.push_str("not contractive"),
         Phrase::WrongKind(got, wanted) => {
             text.push_str("kind ")?;
@@ -89,10 +110,7 @@ fn push_phrase(text: &mut String, phrase: &Phrase) -> Result<(), AllocError>
             text.push_str("unbound type ")?;
             push_variable(text, *k)
         }
-        Phrase::DoubleLabel(label) => {
-            text.push_str("double label ")?;
-            text.push_str(name_text(label))
-        }
+        Phrase::DoubleLabel(label) => push_cause(text, "double label ", label),
     }
 }
 

@@ -7,12 +7,11 @@ ghost use Rattle.fst_print.specs.Texts.{joined_text, separated_text};
 
 use crate::atoms::{push_named, push_names, push_new, push_quoted, truth_text};
 use crate::forms::{
-    unfold_apply, unfold_case, unfold_fork, unfold_if, unfold_lambda, unfold_let, unfold_make,
-    unfold_match, unfold_not, unfold_operate, unfold_pair, unfold_receive, unfold_select,
-    unfold_send, unfold_split, unfold_then,
+    unfold_apply, unfold_behind, unfold_choice, unfold_if, unfold_lambda, unfold_let, unfold_make,
+    unfold_operate, unfold_pair, unfold_select, unfold_send, unfold_split, unfold_then,
 };
 use crate::pieces::{name_text, push_number};
-use crate::ranks::is_no_atom;
+use crate::ranks::{is_no_atom, is_no_negation};
 use crate::stack::{Piece, Stack, pop, push, push_enclosed, push_term};
 use fst_terms::{SourceArm, SourceForm, SourceTerm};
 use std::alloc::{AllocError, Global};
@@ -38,15 +37,15 @@ fn unfold<'a>(text: &mut String, stack: &mut Stack<'a>, t: &'a SourceTerm) -> Re
             text, stack, left, right, first, second,
         ),
         SourceForm::If(test, yes, no) => unfold_if(text, stack, test, yes, no),
-        SourceForm::Case(value, arms) => unfold_case(text, stack, value, arms),
+        SourceForm::Case(value, arms) => unfold_choice(text, stack, "case ", value, " of {", arms),
         SourceForm::Operate(op, left, right) => unfold_operate(stack, *op, left, right),
-        SourceForm::Not(operand) => unfold_not(text, stack, operand),
+        SourceForm::Not(t) => unfold_behind(text, stack, "not ", t, is_no_negation(t)),
         SourceForm::New(of) => push_new(text, of),
         SourceForm::Send(value, channel) => unfold_send(text, stack, value, channel),
-        SourceForm::Receive(channel) => unfold_receive(text, stack, channel),
+        SourceForm::Receive(end) => unfold_behind(text, stack, "receive ", end, is_no_atom(end)),
         SourceForm::Select(label, channel) => unfold_select(text, stack, label, channel),
-        SourceForm::Match(channel, arms) => unfold_match(text, stack, channel, arms),
-        SourceForm::Fork(task) => unfold_fork(text, stack, task),
+        SourceForm::Match(end, arms) => unfold_choice(text, stack, "match ", end, " with {", arms),
+        SourceForm::Fork(task) => unfold_behind(text, stack, "fork ", task, is_no_atom(task)),
         SourceForm::Then(first, second) => unfold_then(stack, first, second),
     }
 }

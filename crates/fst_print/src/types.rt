@@ -4,7 +4,7 @@ ghost use Rattle.fst_types.specs.Scoped.{AllScoped, IsScoped};
 ghost use Rattle.fst_types.specs.Tree as tree;
 ghost use Rattle.fst_types.specs.ModelView.{branches_of};
 ghost use Rattle.fst_print.specs.Adds.{Adds};
-ghost use Rattle.fst_print.specs.Named.{AllNamedWithin, IsNamedWithin};
+ghost use Rattle.fst_types.specs.Named.{AllNamedWithin, IsNamedWithin};
 ghost use Rattle.fst_print.specs.Texts.{arrow_text, binder_text, branch_texts, family_names, in_braces, in_parens_before_arrow, in_parens_before_semicolon, in_parens_if, joined_text, separated_text, text_under, type_text};
 
 use crate::pieces::{base_text, name_text, push_number, push_receive, push_send, push_variable};

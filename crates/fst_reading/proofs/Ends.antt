@@ -2,7 +2,7 @@
 use Rattle.std.proofs.Common.{◌≡◌, inl, inr, Bool, false, List, [], ◌∷◌, Ok, sym, ap}
 use Rattle.fst_reading.specs.Lexeme.{Lexeme}
 use Rattle.fst_reading.specs.Faults.{is_left}
-use Rattle.fst_reading.specs.Reading.{Reader, andthen, mapped, finish, begins, behind, on}
+use Rattle.fst_reading.specs.Reading.{Reader, andthen, map_reader, finish, begins, behind, on}
 use Rattle.fst_reading.proofs.Steps.{bind_ok, mapped_is, ok_is}
 use Rattle.fst_base.proofs.Choices.{chosen}
 
@@ -11,7 +11,7 @@ abbrev pub Ends : {A : Type 0} → Reader A → (List Lexeme → Bool) → Type 
 Ends {A} f more = (ts : List Lexeme) (x : A) (rest : List Lexeme) → f ts ≡ Ok (x, rest) → more rest ≡ false
 
 module _ {A B : Type 0} (more : List Lexeme → Bool) where
-  pub ends_mapped : (h : A → B) (f : Reader A) → Ends f more → Ends (mapped h f) more
+  pub ends_mapped : (h : A → B) (f : Reader A) → Ends f more → Ends (map_reader h f) more
   ends_mapped h f p ts y rest e = let a = mapped_is h f ts y rest e in p ts a.0 rest a.1
 
   pub ends_then : (f : Reader A) (g : A → Reader B) → ((x : A) → Ends (g x) more) → Ends (andthen f g) more

@@ -3,7 +3,7 @@ use Rattle.std.proofs.Common.{◌≡◌, ℕ, suc, ◌+◌, ◌-◌, ◌≤◌, 
 use Rattle.fst_reading.specs.declared.stop.Stop.{Stop}
 use Rattle.fst_reading.specs.declared.stop.Stop.TheVariants as stop
 use Rattle.fst_reading.specs.Lexeme.{Lexeme}
-use Rattle.fst_reading.specs.Reading.{Halt, Syntax, Deep, Reader, bind, give, andthen, mapped, on, begins, behind, separated_within}
+use Rattle.fst_reading.specs.Reading.{Halt, Syntax, Deep, Reader, bind, give, andthen, map_reader, on, begins, behind, sep_by_within}
 use Rattle.fst_reading.specs.Gives.{Fails}
 use Rattle.fst_base.specs.Choice.{choose}
 
@@ -23,44 +23,44 @@ with_none (Ok x) = refl
 with_none (Err h) = refl
 
 pub begins_empty : {A : Type 0} (test : Lexeme → Bool) (f : Reader A) (n : ℕ) (ts : List Lexeme) →
-    with_front [] (separated_within test f (n - 0) ts) ≡ separated_within test f n ts
+    with_front [] (sep_by_within test f (n - 0) ts) ≡ sep_by_within test f n ts
 begins_empty test f n ts =
     let k : n - 0 ≡ n = omega arith in
-    rw k (with_none (separated_within test f n ts))
+    rw k (with_none (sep_by_within test f n ts))
 
 module _ {A : Type 0} (test : Lexeme → Bool) (f : Reader A) (front : List A) (end i : ℕ) (rest : List Lexeme) (total : Result (List A × List Lexeme) Halt) where
   pub goes_on : (a : A) (after : List Lexeme) → i < end → f rest ≡ Ok (a, after) → begins test after ≡ true →
-      with_front front (separated_within test f (end - i) rest) ≡ total → with_front (front ++ a ∷ []) (separated_within test f (end - (i + 1)) (behind after)) ≡ total
-  unfolding separated_within andthen mapped on bind choose
+      with_front front (sep_by_within test f (end - i) rest) ≡ total → with_front (front ++ a ∷ []) (sep_by_within test f (end - (i + 1)) (behind after)) ≡ total
+  unfolding sep_by_within andthen map_reader on bind choose
   goes_on a after lt h comma so_far =
       let k : end - i ≡ suc (end - (i + 1)) = omega arith in
-      let one : with_front front (separated_within test f (end - i) rest) ≡ with_front (front ++ a ∷ []) (separated_within test f (end - (i + 1)) (behind after)) =
-      rw (k, h, comma) (regroup front a (separated_within test f (end - (i + 1)) (behind after))) in
+      let one : with_front front (sep_by_within test f (end - i) rest) ≡ with_front (front ++ a ∷ []) (sep_by_within test f (end - (i + 1)) (behind after)) =
+      rw (k, h, comma) (regroup front a (sep_by_within test f (end - (i + 1)) (behind after))) in
       sym one ∙ so_far
 
   pub stops : (a : A) (after : List Lexeme) → i < end → f rest ≡ Ok (a, after) → begins test after ≡ false →
-      with_front front (separated_within test f (end - i) rest) ≡ total → total ≡ Ok (front ++ a ∷ [], after)
-  unfolding separated_within andthen on give bind choose
+      with_front front (sep_by_within test f (end - i) rest) ≡ total → total ≡ Ok (front ++ a ∷ [], after)
+  unfolding sep_by_within andthen on give bind choose
   stops a after lt h comma so_far =
       let k : end - i ≡ suc (end - (i + 1)) = omega arith in
-      let one : with_front front (separated_within test f (end - i) rest) ≡ Ok (front ++ a ∷ [], after) = rw (k, h, comma) refl in
+      let one : with_front front (sep_by_within test f (end - i) rest) ≡ Ok (front ++ a ∷ [], after) = rw (k, h, comma) refl in
       sym so_far ∙ one
 
-  pub runs_out : end ≤ i → with_front front (separated_within test f (end - i) rest) ≡ total → total ≡ Err (Syntax rest)
-  unfolding separated_within bind
+  pub runs_out : end ≤ i → with_front front (sep_by_within test f (end - i) rest) ≡ total → total ≡ Err (Syntax rest)
+  unfolding sep_by_within bind
   runs_out le so_far =
       let k : end - i ≡ 0 = omega arith in
-      let one : with_front front (separated_within test f (end - i) rest) ≡ Err (Syntax rest) = rw k refl in
+      let one : with_front front (sep_by_within test f (end - i) rest) ≡ Err (Syntax rest) = rw k refl in
       sym so_far ∙ one
 
-  pub fails : (e : Stop) → i < end → Fails e (f rest) → with_front front (separated_within test f (end - i) rest) ≡ total → Fails e total
-  unfolding separated_within andthen bind
+  pub fails : (e : Stop) → i < end → Fails e (f rest) → with_front front (sep_by_within test f (end - i) rest) ≡ total → Fails e total
+  unfolding sep_by_within andthen bind
   fails stop.Memory lt h so_far = tt
   fails (stop.Syntax ts) lt h so_far =
       let k : end - i ≡ suc (end - (i + 1)) = omega arith in
-      let one : with_front front (separated_within test f (end - i) rest) ≡ Err (Syntax ts.now) = rw (k, h) refl in
+      let one : with_front front (sep_by_within test f (end - i) rest) ≡ Err (Syntax ts.now) = rw (k, h) refl in
       sym so_far ∙ one
   fails (stop.TooDeep ts) lt h so_far =
       let k : end - i ≡ suc (end - (i + 1)) = omega arith in
-      let one : with_front front (separated_within test f (end - i) rest) ≡ Err (Deep ts.now) = rw (k, h) refl in
+      let one : with_front front (sep_by_within test f (end - i) rest) ≡ Err (Deep ts.now) = rw (k, h) refl in
       sym so_far ∙ one

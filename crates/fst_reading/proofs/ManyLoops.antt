@@ -4,7 +4,7 @@ use Rattle.std.proofs.lemmas.List.{append-nil}
 use Rattle.fst_reading.specs.declared.stop.Stop.{Stop}
 use Rattle.fst_reading.specs.declared.stop.Stop.TheVariants as stop
 use Rattle.fst_reading.specs.Lexeme.{Lexeme}
-use Rattle.fst_reading.specs.Reading.{Halt, Syntax, Deep, Reader, bind, give, andthen, mapped, when, begins, many_within}
+use Rattle.fst_reading.specs.Reading.{Halt, Syntax, Deep, Reader, bind, give, andthen, map_reader, when, begins, many_within}
 use Rattle.fst_reading.specs.Gives.{Fails}
 use Rattle.fst_reading.proofs.Loops.{with_front, regroup, with_none}
 use Rattle.fst_base.specs.Choice.{choose}
@@ -24,7 +24,7 @@ none_begins test f (suc n) rest b = rw b refl
 module _ {A : Type 0} (test : Lexeme → Bool) (f : Reader A) (front : List A) (end i : ℕ) (rest : List Lexeme) (total : Result (List A × List Lexeme) Halt) where
   pub goes_on : (a : A) (after : List Lexeme) → i < end → begins test rest ≡ true → f rest ≡ Ok (a, after) →
       with_front front (many_within test f (end - i) rest) ≡ total → with_front (front ++ a ∷ []) (many_within test f (end - (i + 1)) after) ≡ total
-  unfolding many_within andthen mapped when bind choose
+  unfolding many_within andthen map_reader when bind choose
   goes_on a after lt b h so_far =
       let k : end - i ≡ suc (end - (i + 1)) = omega arith in
       let one : with_front front (many_within test f (end - i) rest) ≡ with_front (front ++ a ∷ []) (many_within test f (end - (i + 1)) after) =

@@ -2,7 +2,7 @@
 use Rattle.std.proofs.Common.{◌≡◌, ℕ, zero, suc, ◌+◌, ◌≤◌, ◌<◌, Bool, true, false, List, [], ◌∷◌, ◌++◌, length, Result, Ok, Err, refl, sym, ap, subst, ◌∙◌, arith, length-append}
 use Rattle.fst_reading.specs.Lexeme.{Lexeme}
 use Rattle.fst_reading.specs.Faults.{Phrase}
-use Rattle.fst_reading.specs.Reading.{Halt, Reader, bind, give, andthen, mapped, begins, when, many_within, many}
+use Rattle.fst_reading.specs.Reading.{Halt, Reader, bind, give, andthen, map_reader, begins, when, many_within, many}
 use Rattle.fst_reading.proofs.Phrases.{Outcome, whole, deep, SameUpTo, Reads, never, Give, nothing, Then, pair, Mapped, made, Either, one, other, Many, none, some}
 use Rattle.fst_reading.proofs.Parts.{reads_give, reads_mapped, reads_as, reads_until}
 use Rattle.fst_reading.proofs.Sequences.{reads_then}
@@ -65,7 +65,7 @@ module _ {A : Type 0} (limit : ℕ) (test : Lexeme → Bool) (f : Reader A) (P :
   reads_within (suc n) =
       reads_as limit _ (Either (Further n) (Give [])) (AtMost (suc n)) stop
       (reads_when limit test _ (give []) (Further n) (Give []) stop
-      (reads_then limit f (λ a. mapped (λ bs. a ∷ bs) (many_within test f n)) P (λ a. Mapped (λ bs. a ∷ bs) (AtMost n)) more stop
+      (reads_then limit f (λ a. map_reader (λ bs. a ∷ bs) (many_within test f n)) P (λ a. Mapped (λ bs. a ∷ bs) (AtMost n)) more stop
       r (λ a. reads_mapped limit (λ bs. a ∷ bs) (many_within test f n) (AtMost n) stop (reads_within n))
       (λ a. record { tokens = []; value = a ∷ []; nests = []; phrase = made [] [] [] (none, omega arith) })
       filled (λ us x ns vs ys ms rest q st. next x n vs ys ms rest q st))
@@ -77,7 +77,7 @@ module _ {A : Type 0} (limit : ℕ) (test : Lexeme → Bool) (f : Reader A) (P :
 
   -- as many steps as there are tokens are enough
   enough : (n m : ℕ) (ts : List Lexeme) → length ts ≤ n → length ts ≤ m → many_within test f n ts ≡ many_within test f m ts
-  unfolding many_within when choose give andthen bind mapped
+  unfolding many_within when choose give andthen bind map_reader
   enough zero zero ts le le' = refl
   enough zero (suc m) [] le le' = refl
   enough zero (suc m) (k ∷ ts) le le' = absurd (omega (arith, le))

@@ -3,7 +3,7 @@ use Rattle.std.proofs.Common.{◌≡◌, ℕ, suc, ◌≤◌, inl, inr, Bool, tr
 use Rattle.fst_reading.specs.Lexeme.{Lexeme, start}
 use Rattle.fst_reading.specs.Faults.{Phrase}
 use Rattle.fst_reading.proofs.Steps.{bind_ok, bind_err, bind_with, bind_without, ok_is, err_is, tail_of, same_front, SomePhrase}
-use Rattle.fst_reading.specs.Reading.{Halt, Syntax, Deep, Reader, bind, give, mapped, switched, switch, one, finish, begins, on}
+use Rattle.fst_reading.specs.Reading.{Halt, Syntax, Deep, Reader, bind, give, map_reader, switch_on, switch, one, finish, begins, on}
 use Rattle.fst_reading.proofs.Phrases.{left, Found, Over, Stopped, Outcome, whole, deep, left_by, SameUpTo, Reads, never, Give, nothing, Mapped, made, Switch, first, On, taken, other, at}
 use Rattle.fst_base.specs.Choice.{choose}
 use Rattle.fst_base.proofs.Choices.{chosen, choose_true, choose_false}
@@ -31,8 +31,8 @@ reads_give limit x = record {
 
 -- what a function makes of a phrase
 module _ {A B : Type 0} (limit : ℕ) (h : A → B) (f : Reader A) (P : Phrase A) (more : List Lexeme → Bool) (r : Reads limit f P more) where
-  mapped_alike : (k : Lexeme) (s s' w : List Lexeme) → SameUpTo k s s' (mapped h f (w ++ k ∷ s)) (mapped h f (w ++ k ∷ s'))
-  unfolding mapped bind
+  mapped_alike : (k : Lexeme) (s s' w : List Lexeme) → SameUpTo k s s' (map_reader h f (w ++ k ∷ s)) (map_reader h f (w ++ k ∷ s'))
+  unfolding map_reader bind
   mapped_alike k s s' w = of_step (f (w ++ k ∷ s)) refl
     where
       of_step : (v : Result _ Halt) → f (w ++ k ∷ s) ≡ v → SameUpTo k s s' (bind (f (w ++ k ∷ s)) (λ x. Ok (h x.0, x.1))) (bind (f (w ++ k ∷ s')) (λ x. Ok (h x.0, x.1)))
@@ -40,8 +40,8 @@ module _ {A B : Type 0} (limit : ℕ) (h : A → B) (f : Reader A) (P : Phrase A
       of_step (Err (Syntax t)) e = rw e (λ u is. let same = rw e at (r.alike k s s' w) in rw (same u is) refl)
       of_step (Err (Deep t)) e = rw e (λ u is. let same = rw e at (r.alike k s s' w) in rw (same u is) refl)
 
-  mapped_found : (ts : List Lexeme) (y : B) (rest : List Lexeme) → mapped h f ts ≡ Ok (y, rest) → Found limit (Mapped h P) ts y rest
-  unfolding mapped
+  mapped_found : (ts : List Lexeme) (y : B) (rest : List Lexeme) → map_reader h f ts ≡ Ok (y, rest) → Found limit (Mapped h P) ts y rest
+  unfolding map_reader
   mapped_found ts y rest e =
       let a = bind_ok _ _ (y, rest) e in
       let p = r.found ts a.0.0 a.0.1 a.1 in
@@ -56,8 +56,8 @@ module _ {A B : Type 0} (limit : ℕ) (h : A → B) (f : Reader A) (P : Phrase A
         low = p.low;
       }
 
-  mapped_stopped : (ts : List Lexeme) (d : Halt) → mapped h f ts ≡ Err d → Stopped limit (Mapped h P) d ts
-  unfolding mapped
+  mapped_stopped : (ts : List Lexeme) (d : Halt) → map_reader h f ts ≡ Err d → Stopped limit (Mapped h P) d ts
+  unfolding map_reader
   mapped_stopped ts d e = elim (bind_err _ _ d e) [
     | inl g ↦
         let p = r.stopped ts d g in
@@ -77,18 +77,18 @@ module _ {A B : Type 0} (limit : ℕ) (h : A → B) (f : Reader A) (P : Phrase A
     | inr g ↦ absurd (let is = g.2 in cc)
   ]
 
-  mapped_reads : (us : List Lexeme) (y : B) (ns : List ℕ) (rest : List Lexeme) → Mapped h P us y ns → more rest ≡ false → Outcome limit (mapped h f) us y ns rest
-  unfolding mapped
+  mapped_reads : (us : List Lexeme) (y : B) (ns : List ℕ) (rest : List Lexeme) → Mapped h P us y ns → more rest ≡ false → Outcome limit (map_reader h f) us y ns rest
+  unfolding map_reader
   mapped_reads _ _ _ rest (made us x ns p) stop = of_outcome (r.reads us x ns rest p stop)
     where
-      of_outcome : Outcome limit f us x ns rest → Outcome limit (mapped h f) us (h x) ns rest
+      of_outcome : Outcome limit f us x ns rest → Outcome limit (map_reader h f) us (h x) ns rest
       of_outcome (whole low e) = whole low (bind_with _ _ (x, rest) e)
       of_outcome (deep pre v k low high n a b c d o e) = deep pre v k low high n a b c d o (bind_without _ _ _ e)
 
   mapped_counted : (us : List Lexeme) (y : B) (ns : List ℕ) → Mapped h P us y ns → length ns ≡ length us
   mapped_counted _ _ _ (made us x ns p) = r.counted us x ns p
 
-  pub reads_mapped : Reads limit (mapped h f) (Mapped h P) more
+  pub reads_mapped : Reads limit (map_reader h f) (Mapped h P) more
   reads_mapped = record { found = mapped_found; stopped = mapped_stopped; reads = mapped_reads; alike = mapped_alike; counted = mapped_counted }
 
 -- a token that stands for something, with a phrase behind it, that begins at a place
@@ -102,7 +102,7 @@ pub record Sample {A S : Type 0} (p : Lexeme → Option S) (P : S → Lexeme →
 -- a token that stands for something, and what stands behind it
 module _ {A S : Type 0} (limit d : ℕ) (low : d ≤ limit) (p : Lexeme → Option S) (f : S → Lexeme → Reader A) (P : S → Lexeme → Phrase A) (more : List Lexeme → Bool)
     (r : (s : S) (k : Lexeme) → Reads limit (f s k) (P s k) more) (sample : (n : ℕ) → Sample p P n) where
-  switched_found : (k : Lexeme) (o : Option S) (ts : List Lexeme) (y : A) (rest : List Lexeme) → p k ≡ o → switched o f k ts ≡ Ok (y, rest) → Found limit (Switch d p P) (k ∷ ts) y rest
+  switched_found : (k : Lexeme) (o : Option S) (ts : List Lexeme) (y : A) (rest : List Lexeme) → p k ≡ o → switch_on o f k ts ≡ Ok (y, rest) → Found limit (Switch d p P) (k ∷ ts) y rest
   switched_found k (Some s) ts y rest is e =
       let q = (r s k).found ts y rest e in
       record { tokens = k ∷ q.tokens; nests = d ∷ q.nests; parts = ap (λ (w : List Lexeme). k ∷ w) q.parts; phrase = first k s q.tokens y q.nests is q.phrase; low = (low, q.low) }
@@ -131,7 +131,7 @@ module _ {A S : Type 0} (limit d : ℕ) (low : d ≤ limit) (p : Lexeme → Opti
         begins_so = λ lt. q.place_is;
       }
 
-  switched_stopped : (k : Lexeme) (o : Option S) (ts : List Lexeme) (h : Halt) → p k ≡ o → switched o f k ts ≡ Err h → Stopped limit (Switch d p P) h (k ∷ ts)
+  switched_stopped : (k : Lexeme) (o : Option S) (ts : List Lexeme) (h : Halt) → p k ≡ o → switch_on o f k ts ≡ Err h → Stopped limit (Switch d p P) h (k ∷ ts)
   switched_stopped k (Some s) ts h is e =
       let q = (r s k).stopped ts h e in
       record {
@@ -167,14 +167,14 @@ module _ {A S : Type 0} (limit d : ℕ) (low : d ≤ limit) (p : Lexeme → Opti
   unfolding switch
   switch_alike k t t' [] = at_end (p k)
     where
-      at_end : (o : Option S) → SameUpTo k t t' (switched o f k t) (switched o f k t')
+      at_end : (o : Option S) → SameUpTo k t t' (switch_on o f k t) (switch_on o f k t')
       at_end (Some s) u is =
           let back = tail_of limit (f s k) (P s k) more (r s k) t in
           absurd (omega (arith, ap length back.1, ap length is, length-append back.0 (left_by (f s k t)), length-append u (k ∷ t)))
       at_end None u is = ap (λ z. Err (Syntax z)) (same_front [] u k t t' is)
   switch_alike k t t' (c ∷ w) = before (p c)
     where
-      before : (o : Option S) → SameUpTo k t t' (switched o f c (w ++ k ∷ t)) (switched o f c (w ++ k ∷ t'))
+      before : (o : Option S) → SameUpTo k t t' (switch_on o f c (w ++ k ∷ t)) (switch_on o f c (w ++ k ∷ t'))
       before (Some s) u is = (r s c).alike k t t' w u is
       before None u is = ap (λ z. Err (Syntax z)) (same_front (c ∷ w) u k t t' is)
 

@@ -3,7 +3,7 @@ use Rattle.std.proofs.Common.{◌≡◌, ℕ, zero, suc, ◌≤◌, ◌<◌, inl
 use Rattle.fst_reading.specs.Lexeme.{Lexeme, start}
 use Rattle.fst_reading.specs.Faults.{Phrase}
 use Rattle.fst_reading.proofs.Steps.{IsWithinLimit-append, bind_ok, bind_err, bind_with, bind_without, err_is, tail_of, same_front, over_longer, start_front, start_more, give_is, give_never, mapped_is, mapped_err, left_mapped, SomePhrase}
-use Rattle.fst_reading.specs.Reading.{Halt, Syntax, Deep, Reader, bind, give, andthen, mapped, begins, on, separated_within, separated}
+use Rattle.fst_reading.specs.Reading.{Halt, Syntax, Deep, Reader, bind, give, andthen, map_reader, begins, on, sep_by_within, sep_by}
 use Rattle.fst_reading.proofs.Phrases.{left, Found, Over, Stopped, Outcome, whole, deep, left_by, leaving, SameUpTo, Reads, Then, pair, Separated, last, further}
 use Rattle.fst_base.specs.Choice.{choose}
 use Rattle.fst_base.proofs.Choices.{chosen}
@@ -136,11 +136,11 @@ module _ {A : Type 0} (limit d : ℕ) (low : d ≤ limit) (test : Lexeme → Boo
     (sign : (k : Lexeme) (ts : List Lexeme) → test k ≡ true → more (k ∷ ts) ≡ false)
     (last_ : (rest : List Lexeme) → stop rest ≡ false → (more rest ≡ false) × (begins test rest ≡ false)) where
   abbrev tail_with : ℕ → A → Reader (List A)
-  tail_with n a = on test (mapped (λ bs. a ∷ bs) (separated_within test f n)) (give (a ∷ []))
+  tail_with n a = on test (map_reader (λ bs. a ∷ bs) (sep_by_within test f n)) (give (a ∷ []))
 
   before : (n n' : ℕ) (x : A) (c : Lexeme) (s s' : List Lexeme) (k : Lexeme) (t t' : List Lexeme) → ((u : List Lexeme) → c ∷ s ≡ u ++ k ∷ t → c ∷ s' ≡ u ++ k ∷ t') →
-      SameUpTo k t t' (separated_within test f n s) (separated_within test f n' s') → SameUpTo k t t' (tail_with n x (c ∷ s)) (tail_with n' x (c ∷ s'))
-  unfolding on mapped give choose bind
+      SameUpTo k t t' (sep_by_within test f n s) (sep_by_within test f n' s') → SameUpTo k t t' (tail_with n x (c ∷ s)) (tail_with n' x (c ∷ s'))
+  unfolding on map_reader give choose bind
   before n n' x c s s' k t t' front inner = by_test (test c)
     where
       of_value : (v v' : Result (List A × List Lexeme) Halt) → SameUpTo k t t' v v' → SameUpTo k t t' (bind v (λ z. Ok (x ∷ z.0, z.1))) (bind v' (λ z. Ok (x ∷ z.0, z.1)))
@@ -148,8 +148,8 @@ module _ {A : Type 0} (limit d : ℕ) (low : d ≤ limit) (test : Lexeme → Boo
       of_value (Err (Syntax y)) v' h u is = rw (h u is) refl
       of_value (Err (Deep y)) v' h u is = rw (h u is) refl
 
-      by_test : (b : Bool) → SameUpTo k t t' (choose b (mapped (λ bs. x ∷ bs) (separated_within test f n) s) (give (x ∷ []) (c ∷ s))) (choose b (mapped (λ bs. x ∷ bs) (separated_within test f n') s') (give (x ∷ []) (c ∷ s')))
-      by_test true u is = of_value (separated_within test f n s) (separated_within test f n' s') inner u is
+      by_test : (b : Bool) → SameUpTo k t t' (choose b (map_reader (λ bs. x ∷ bs) (sep_by_within test f n) s) (give (x ∷ []) (c ∷ s))) (choose b (map_reader (λ bs. x ∷ bs) (sep_by_within test f n') s') (give (x ∷ []) (c ∷ s')))
+      by_test true u is = of_value (sep_by_within test f n s) (sep_by_within test f n' s') inner u is
       by_test false u is = ap (λ z. Ok (x ∷ [], z)) (front u is)
 
   glue_last : (ts : List Lexeme) (x : A) (ns : List ℕ) (rest s : List Lexeme) (ys : List A) → (x ∷ []) ≡ ys → s ≡ rest → (q : Found limit P ts x s) → Found limit (Separated d test P) ts ys rest
@@ -162,21 +162,21 @@ module _ {A : Type 0} (limit d : ℕ) (low : d ≤ limit) (test : Lexeme → Boo
         low = q.low;
       }
 
-  within_found : (n : ℕ) (ts : List Lexeme) (ys : List A) (rest : List Lexeme) → separated_within test f n ts ≡ Ok (ys, rest) → Found limit (Separated d test P) ts ys rest
-  unfolding separated_within andthen on
+  within_found : (n : ℕ) (ts : List Lexeme) (ys : List A) (rest : List Lexeme) → sep_by_within test f n ts ≡ Ok (ys, rest) → Found limit (Separated d test P) ts ys rest
+  unfolding sep_by_within andthen on
   within_found zero ts ys rest e = absurd cc
   within_found (suc n) ts ys rest e =
       let a = bind_ok _ _ (ys, rest) e in
       by_rest (λ us zs g. within_found n us zs rest g) a.0.0 a.0.1 (r.found ts a.0.0 a.0.1 a.1) a.2
     where
-      by_rest : ((us : List Lexeme) (zs : List A) → separated_within test f n us ≡ Ok (zs, rest) → Found limit (Separated d test P) us zs rest) → (x : A) (s : List Lexeme) → Found limit P ts x s → on test (mapped (λ bs. x ∷ bs) (separated_within test f n)) (give (x ∷ [])) s ≡ Ok (ys, rest) → Found limit (Separated d test P) ts ys rest
+      by_rest : ((us : List Lexeme) (zs : List A) → sep_by_within test f n us ≡ Ok (zs, rest) → Found limit (Separated d test P) us zs rest) → (x : A) (s : List Lexeme) → Found limit P ts x s → on test (map_reader (λ bs. x ∷ bs) (sep_by_within test f n)) (give (x ∷ [])) s ≡ Ok (ys, rest) → Found limit (Separated d test P) ts ys rest
       by_rest inner x [] q g = elim (chosen _ _ _ _ g) [
         | inl c ↦ absurd cc
         | inr c ↦ let same = give_is (x ∷ []) [] ys rest c.1 in glue_last ts x [] rest [] ys same.0 same.1 q
       ]
       by_rest inner x (k ∷ s) q g = elim (chosen _ _ _ _ g) [
         | inl c ↦
-            let b = mapped_is (λ bs. x ∷ bs) (separated_within test f n) s ys rest c.1 in
+            let b = mapped_is (λ bs. x ∷ bs) (sep_by_within test f n) s ys rest c.1 in
             let o = inner s b.0 b.1 in
             record {
               tokens = q.tokens ++ k ∷ o.tokens;
@@ -189,8 +189,8 @@ module _ {A : Type 0} (limit d : ℕ) (low : d ≤ limit) (test : Lexeme → Boo
         | inr c ↦ let same = give_is (x ∷ []) (k ∷ s) ys rest c.1 in glue_last ts x [] rest (k ∷ s) ys same.0 same.1 q
       ]
 
-  within_stopped : (n : ℕ) (ts : List Lexeme) (h : Halt) → separated_within test f n ts ≡ Err h → Stopped limit (Separated d test P) h ts
-  unfolding separated_within andthen on
+  within_stopped : (n : ℕ) (ts : List Lexeme) (h : Halt) → sep_by_within test f n ts ≡ Err h → Stopped limit (Separated d test P) h ts
+  unfolding sep_by_within andthen on
   within_stopped zero ts h e =
       let is : h ≡ Syntax ts = sym (err_is _ _ e) in
       let q = some (start ts) in
@@ -226,11 +226,11 @@ module _ {A : Type 0} (limit d : ℕ) (low : d ≤ limit) (test : Lexeme → Boo
     | inr g ↦ by_rest (λ us z. within_stopped n us h z) g.0.0 g.0.1 (r.found ts g.0.0 g.0.1 g.1) g.2
   ]
     where
-      by_rest : ((us : List Lexeme) → separated_within test f n us ≡ Err h → Stopped limit (Separated d test P) h us) → (x : A) (s : List Lexeme) → Found limit P ts x s → on test (mapped (λ bs. x ∷ bs) (separated_within test f n)) (give (x ∷ [])) s ≡ Err h → Stopped limit (Separated d test P) h ts
+      by_rest : ((us : List Lexeme) → sep_by_within test f n us ≡ Err h → Stopped limit (Separated d test P) h us) → (x : A) (s : List Lexeme) → Found limit P ts x s → on test (map_reader (λ bs. x ∷ bs) (sep_by_within test f n)) (give (x ∷ [])) s ≡ Err h → Stopped limit (Separated d test P) h ts
       by_rest inner x [] q g = elim (chosen _ _ _ _ g) [ inl c ↦ absurd cc | inr c ↦ absurd (give_never (x ∷ []) [] h c.1) ]
       by_rest inner x (k ∷ s) q g = elim (chosen _ _ _ _ g) [
         | inl c ↦
-            let o = inner s (mapped_err (λ bs. x ∷ bs) (separated_within test f n) s h c.1) in
+            let o = inner s (mapped_err (λ bs. x ∷ bs) (sep_by_within test f n) s h c.1) in
             record {
               tokens = q.tokens ++ k ∷ o.tokens;
               others = o.others;
@@ -247,21 +247,21 @@ module _ {A : Type 0} (limit d : ℕ) (low : d ≤ limit) (test : Lexeme → Boo
         | inr c ↦ absurd (give_never (x ∷ []) (k ∷ s) h c.1)
       ]
 
-  within_tail : (n : ℕ) (ts : List Lexeme) → (us : List Lexeme) × (ts ≡ us ++ left_by (separated_within test f n ts))
-  within_tail n ts = of_step (separated_within test f n ts) refl
+  within_tail : (n : ℕ) (ts : List Lexeme) → (us : List Lexeme) × (ts ≡ us ++ left_by (sep_by_within test f n ts))
+  within_tail n ts = of_step (sep_by_within test f n ts) refl
     where
-      of_step : (v : Result _ Halt) → separated_within test f n ts ≡ v → (us : List Lexeme) × (ts ≡ us ++ left_by v)
+      of_step : (v : Result _ Halt) → sep_by_within test f n ts ≡ v → (us : List Lexeme) × (ts ≡ us ++ left_by v)
       of_step (Ok x) e = let p = within_found n ts x.0 x.1 e in (p.tokens, p.parts)
       of_step (Err h) e = let p = within_stopped n ts h e in (p.tokens, p.parts)
 
   within_reads : (n : ℕ) (ts : List Lexeme) (ys : List A) (ns : List ℕ) (rest : List Lexeme) → Separated d test P ts ys ns → stop rest ≡ false → length (ts ++ rest) ≤ n →
-      Outcome limit (separated_within test f n) ts ys ns rest
-  unfolding separated_within andthen on mapped give choose
+      Outcome limit (sep_by_within test f n) ts ys ns rest
+  unfolding sep_by_within andthen on map_reader give choose
   within_reads zero _ _ _ rest (last ts x ns p) end le = absurd (omega (arith, filled ts x ns p, length-append ts rest))
   within_reads zero _ _ _ rest (further ts us vs k x xs ns ms ks p is q parts nests) end le = absurd (omega (arith, filled us x ms p, ap length parts, length-append us (k ∷ vs), length-append ts rest))
   within_reads (suc n) _ _ _ rest (last ts x ns p) end le = of_first (r.reads ts x ns rest p (last_ rest end).0)
     where
-      of_first : Outcome limit f ts x ns rest → Outcome limit (separated_within test f (suc n)) ts (x ∷ []) ns rest
+      of_first : Outcome limit f ts x ns rest → Outcome limit (sep_by_within test f (suc n)) ts (x ∷ []) ns rest
       of_first (whole lows e) = whole lows (bind_with _ _ (x, rest) e ∙ rw (last_ rest end).1 refl)
       of_first (deep pre v c lows highs m a b l o g e) = deep pre v c lows highs m a b l o g (bind_without _ _ _ e)
   within_reads (suc n) _ _ _ rest (further ts us vs k x xs ns ms ks p is q parts nests) end le =
@@ -270,10 +270,10 @@ module _ {A : Type 0} (limit d : ℕ) (low : d ≤ limit) (test : Lexeme → Boo
       same : ts ++ rest ≡ us ++ (k ∷ (vs ++ rest))
       same = ap (λ (w : List Lexeme). w ++ rest) parts ∙ append_assoc us (k ∷ vs) rest
 
-      goes : (e : f (us ++ (k ∷ (vs ++ rest))) ≡ Ok (x, k ∷ (vs ++ rest))) → separated_within test f (suc n) (ts ++ rest) ≡ bind (separated_within test f n (vs ++ rest)) (λ z. Ok (x ∷ z.0, z.1))
+      goes : (e : f (us ++ (k ∷ (vs ++ rest))) ≡ Ok (x, k ∷ (vs ++ rest))) → sep_by_within test f (suc n) (ts ++ rest) ≡ bind (sep_by_within test f n (vs ++ rest)) (λ z. Ok (x ∷ z.0, z.1))
       goes e = rw same (bind_with _ _ (x, k ∷ (vs ++ rest)) e ∙ rw is refl)
 
-      of_first : Outcome limit f us x ms (k ∷ (vs ++ rest)) → Outcome limit (separated_within test f n) vs xs ks rest → Outcome limit (separated_within test f (suc n)) ts (x ∷ xs) ns rest
+      of_first : Outcome limit f us x ms (k ∷ (vs ++ rest)) → Outcome limit (sep_by_within test f n) vs xs ks rest → Outcome limit (sep_by_within test f (suc n)) ts (x ∷ xs) ns rest
       of_first (whole lows e) (whole others g) = whole (rw nests (IsWithinLimit-append limit ms (d ∷ ks) lows (low, others))) (goes e ∙ bind_with _ _ (xs, rest) g)
       of_first (whole lows e) (deep pre v c lo highs m a b l o h g) =
           deep (us ++ k ∷ pre) v c (ms ++ d ∷ lo) highs m (parts ∙ ap (λ (w : List Lexeme). us ++ k ∷ w) a ∙ sym (append_assoc us (k ∷ pre) (c ∷ v)))
@@ -285,25 +285,25 @@ module _ {A : Type 0} (limit d : ℕ) (low : d ≤ limit) (test : Lexeme → Boo
           (rw same (bind_without _ _ _ g) ∙ ap (λ (w : List Lexeme). Err (Deep (c ∷ w))) (sym (append_assoc v (k ∷ vs) rest)))
 
   tail_back : (n : ℕ) (x : A) (ts : List Lexeme) → (us : List Lexeme) × (ts ≡ us ++ left_by (tail_with n x ts))
-  unfolding on mapped give choose
+  unfolding on map_reader give choose
   tail_back n x [] = ([], refl)
   tail_back n x (k ∷ ts) = of_test (test k)
     where
-      of_test : (b : Bool) → (us : List Lexeme) × ((k ∷ ts) ≡ us ++ left_by (choose b (mapped (λ bs. x ∷ bs) (separated_within test f n) ts) (give (x ∷ []) (k ∷ ts))))
+      of_test : (b : Bool) → (us : List Lexeme) × ((k ∷ ts) ≡ us ++ left_by (choose b (map_reader (λ bs. x ∷ bs) (sep_by_within test f n) ts) (give (x ∷ []) (k ∷ ts))))
       of_test true =
           let back = within_tail n ts in
-          (k ∷ back.0, ap (λ (w : List Lexeme). k ∷ w) (back.1 ∙ ap (λ (w : List Lexeme). back.0 ++ w) (sym (left_mapped (λ (bs : List A). x ∷ bs) (separated_within test f n ts)))))
+          (k ∷ back.0, ap (λ (w : List Lexeme). k ∷ w) (back.1 ∙ ap (λ (w : List Lexeme). back.0 ++ w) (sym (left_mapped (λ (bs : List A). x ∷ bs) (sep_by_within test f n ts)))))
       of_test false = ([], refl)
 
   at_end : (n n' : ℕ) (x : A) (k : Lexeme) (t t' : List Lexeme) → SameUpTo k t t' (tail_with n x (k ∷ t)) (tail_with n' x (k ∷ t'))
-  unfolding on mapped give choose
+  unfolding on map_reader give choose
   at_end n n' x k t t' = by_test (test k)
     where
-      by_test : (b : Bool) → SameUpTo k t t' (choose b (mapped (λ bs. x ∷ bs) (separated_within test f n) t) (give (x ∷ []) (k ∷ t))) (choose b (mapped (λ bs. x ∷ bs) (separated_within test f n') t') (give (x ∷ []) (k ∷ t')))
+      by_test : (b : Bool) → SameUpTo k t t' (choose b (map_reader (λ bs. x ∷ bs) (sep_by_within test f n) t) (give (x ∷ []) (k ∷ t))) (choose b (map_reader (λ bs. x ∷ bs) (sep_by_within test f n') t') (give (x ∷ []) (k ∷ t')))
       by_test true u is =
           let back = within_tail n t in
-          let same = left_mapped (λ (bs : List A). x ∷ bs) (separated_within test f n t) in
-          absurd (omega (arith, ap length back.1, ap length (sym same ∙ is), length-append back.0 (left_by (separated_within test f n t)), length-append u (k ∷ t)))
+          let same = left_mapped (λ (bs : List A). x ∷ bs) (sep_by_within test f n t) in
+          absurd (omega (arith, ap length back.1, ap length (sym same ∙ is), length-append back.0 (left_by (sep_by_within test f n t)), length-append u (k ∷ t)))
       by_test false u is = ap (λ z. Ok (x ∷ [], z)) (same_front [] u k t t' is)
 
   all_counted : (ts : List Lexeme) (ys : List A) (ns : List ℕ) → Separated d test P ts ys ns → length ns ≡ length ts
@@ -312,15 +312,15 @@ module _ {A : Type 0} (limit d : ℕ) (low : d ≤ limit) (test : Lexeme → Boo
       omega (arith, r.counted us x ms p, all_counted vs xs ks q, ap length parts, ap length nests, length-append us (k ∷ vs), length-append ms (d ∷ ks))
 
   within_alike : (n n' : ℕ) (k : Lexeme) (t t' w : List Lexeme) → length (w ++ k ∷ t) ≤ n → length (w ++ k ∷ t') ≤ n' →
-      SameUpTo k t t' (separated_within test f n (w ++ k ∷ t)) (separated_within test f n' (w ++ k ∷ t'))
-  unfolding separated_within
+      SameUpTo k t t' (sep_by_within test f n (w ++ k ∷ t)) (sep_by_within test f n' (w ++ k ∷ t'))
+  unfolding sep_by_within
   within_alike zero n' k t t' w le le' = absurd (omega (arith, length-append w (k ∷ t)))
   within_alike (suc n) zero k t t' w le le' = absurd (omega (arith, length-append w (k ∷ t')))
   within_alike (suc n) (suc n') k t t' w le le' =
       go_on_alike limit f (tail_with n) (tail_with n') P more r (tail_back n) k t t' w
       (λ x v e e'. by_rest (λ u a b. within_alike n n' k t t' u a b) x v (r.found (w ++ k ∷ t) x (v ++ k ∷ t) e) (r.found (w ++ k ∷ t') x (v ++ k ∷ t') e'))
     where
-      by_rest : ((u : List Lexeme) → length (u ++ k ∷ t) ≤ n → length (u ++ k ∷ t') ≤ n' → SameUpTo k t t' (separated_within test f n (u ++ k ∷ t)) (separated_within test f n' (u ++ k ∷ t'))) →
+      by_rest : ((u : List Lexeme) → length (u ++ k ∷ t) ≤ n → length (u ++ k ∷ t') ≤ n' → SameUpTo k t t' (sep_by_within test f n (u ++ k ∷ t)) (sep_by_within test f n' (u ++ k ∷ t'))) →
           (x : A) (v : List Lexeme) → Found limit P (w ++ k ∷ t) x (v ++ k ∷ t) → Found limit P (w ++ k ∷ t') x (v ++ k ∷ t') →
           SameUpTo k t t' (tail_with n x (v ++ k ∷ t)) (tail_with n' x (v ++ k ∷ t'))
       by_rest inner x [] q q' = at_end n n' x k t t'
@@ -328,7 +328,7 @@ module _ {A : Type 0} (limit d : ℕ) (low : d ≤ limit) (test : Lexeme → Boo
           before n n' x c (v ++ k ∷ t) (v ++ k ∷ t') k t t' (λ u is. same_front (c ∷ v) u k t t' is)
           (inner v (omega (arith, le, ap length q.parts, length-append q.tokens (c ∷ (v ++ k ∷ t)))) (omega (arith, le', ap length q'.parts, length-append q'.tokens (c ∷ (v ++ k ∷ t')))))
 
-  pub reads_separated : Reads limit (separated test f) (Separated d test P) stop
+  pub reads_separated : Reads limit (sep_by test f) (Separated d test P) stop
   reads_separated = record {
     found = λ ts x rest e. within_found (length ts) ts x rest e;
     stopped = λ ts h e. within_stopped (length ts) ts h e;
@@ -337,6 +337,6 @@ module _ {A : Type 0} (limit d : ℕ) (low : d ≤ limit) (test : Lexeme → Boo
     counted = all_counted;
   }
     where
-      same_outcome : (us : List Lexeme) (x : List A) (ns : List ℕ) (rest : List Lexeme) → Outcome limit (separated_within test f (length (us ++ rest))) us x ns rest → Outcome limit (separated test f) us x ns rest
+      same_outcome : (us : List Lexeme) (x : List A) (ns : List ℕ) (rest : List Lexeme) → Outcome limit (sep_by_within test f (length (us ++ rest))) us x ns rest → Outcome limit (sep_by test f) us x ns rest
       same_outcome us x ns rest (whole lows e) = whole lows e
       same_outcome us x ns rest (deep pre v c lo highs m a b l o h g) = deep pre v c lo highs m a b l o h g

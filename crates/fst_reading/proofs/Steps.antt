@@ -2,7 +2,7 @@
 use Rattle.std.proofs.Common.{◌≡◌, ℕ, ◌<◌, ◌⊎◌, inl, inr, Bool, List, [], ◌∷◌, ◌++◌, length, Result, Ok, Err, refl, ap, ◌∙◌, arith, length-append}
 use Rattle.fst_reading.specs.Lexeme.{Lexeme, start}
 use Rattle.fst_reading.specs.Faults.{Phrase, IsWithinLimit}
-use Rattle.fst_reading.specs.Reading.{Halt, Syntax, Deep, Reader, bind, give, mapped}
+use Rattle.fst_reading.specs.Reading.{Halt, Syntax, Deep, Reader, bind, give, map_reader}
 use Rattle.fst_reading.proofs.Phrases.{Over, left_by, Reads}
 
 pub IsWithinLimit-append : (limit : ℕ) (xs ys : List ℕ) → IsWithinLimit limit xs → IsWithinLimit limit ys → IsWithinLimit limit (xs ++ ys)
@@ -98,16 +98,16 @@ pub give_never : {A : Type 0} (x : A) (ts : List Lexeme) (h : Halt) → give x t
 unfolding give
 give_never x ts h e = cc
 
-pub mapped_is : {A B : Type 0} (h : A → B) (f : Reader A) (ts : List Lexeme) (y : B) (rest : List Lexeme) → mapped h f ts ≡ Ok (y, rest) → (x : A) × (f ts ≡ Ok (x, rest)) × (h x ≡ y)
-unfolding mapped
+pub mapped_is : {A B : Type 0} (h : A → B) (f : Reader A) (ts : List Lexeme) (y : B) (rest : List Lexeme) → map_reader h f ts ≡ Ok (y, rest) → (x : A) × (f ts ≡ Ok (x, rest)) × (h x ≡ y)
+unfolding map_reader
 mapped_is h f ts y rest e =
     let a = bind_ok _ _ (y, rest) e in
     let same = ok_is (h a.0.0, a.0.1) (y, rest) a.2 in
     let tail : a.0.1 ≡ rest = ap (λ (p : _ × List Lexeme). p.1) same in
     (a.0.0, a.1 ∙ ap (λ (s : List Lexeme). Ok (a.0.0, s)) tail, ap (λ (p : _ × List Lexeme). p.0) same)
 
-pub mapped_err : {A B : Type 0} (h : A → B) (f : Reader A) (ts : List Lexeme) (d : Halt) → mapped h f ts ≡ Err d → f ts ≡ Err d
-unfolding mapped
+pub mapped_err : {A B : Type 0} (h : A → B) (f : Reader A) (ts : List Lexeme) (d : Halt) → map_reader h f ts ≡ Err d → f ts ≡ Err d
+unfolding map_reader
 mapped_err h f ts d e = elim (bind_err _ _ d e) [ inl g ↦ g | inr g ↦ absurd (let is = g.2 in cc) ]
 
 pub left_mapped : {A B : Type 0} (h : A → B) (v : Result (A × List Lexeme) Halt) → left_by (bind v (λ x. Ok (h x.0, x.1))) ≡ left_by v

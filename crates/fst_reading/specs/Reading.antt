@@ -39,18 +39,18 @@ abbrev pub ◌>>=◌ : {A B : Type 0} → Reader A → (A → Reader B) → Read
 f >>= g = andthen f g
 
 -- what a function makes of what is read
-unfoldable pub mapped : {A B : Type 0} → (A → B) → Reader A → Reader B
-mapped h f ts = bind (f ts) (λ x. Ok (h x.0, x.1))
+unfoldable pub map_reader : {A B : Type 0} → (A → B) → Reader A → Reader B
+map_reader h f ts = bind (f ts) (λ x. Ok (h x.0, x.1))
 
 -- what is read behind a token, by what the token stands for
-abbrev pub switched : {A S : Type 0} → Option S → (S → Lexeme → Reader A) → Lexeme → Reader A
-switched (Some s) f k ts = f s k ts
-switched None f k ts = Err (Syntax (k ∷ ts))
+abbrev pub switch_on : {A S : Type 0} → Option S → (S → Lexeme → Reader A) → Lexeme → Reader A
+switch_on (Some s) f k ts = f s k ts
+switch_on None f k ts = Err (Syntax (k ∷ ts))
 
 -- one token that stands for something, and behind it a reader by what it stands for
 unfoldable pub switch : {A S : Type 0} → (Lexeme → Option S) → (S → Lexeme → Reader A) → Reader A
 switch p f [] = Err (Syntax [])
-switch p f (k ∷ ts) = switched (p k) f k ts
+switch p f (k ∷ ts) = switch_on (p k) f k ts
 
 -- one token that stands for something
 abbrev pub one : {A : Type 0} → (Lexeme → Option A) → Reader A
@@ -65,8 +65,8 @@ abbrev pub word : List ℕ → Reader (Unit {0})
 word w = one (only (spells w))
 
 -- a reader that is told where its phrase begins
-abbrev pub located : {A : Type 0} → (ℕ → Reader A) → Reader A
-located f ts = f (start ts) ts
+abbrev pub with_start : {A : Type 0} → (ℕ → Reader A) → Reader A
+with_start f ts = f (start ts) ts
 
 -- the end of the tokens
 unfoldable pub finish : Reader (Unit {0})
@@ -88,13 +88,13 @@ unfoldable pub on : {A : Type 0} → (Lexeme → Bool) → Reader A → Reader A
 on test f g ts = choose (begins test ts) (f (behind ts)) (g ts)
 
 -- one behind the other, with a sign between each two: at most so many
-unfoldable pub separated_within : {A : Type 0} → (Lexeme → Bool) → Reader A → ℕ → Reader (List A)
-separated_within test f zero ts = Err (Syntax ts)
-separated_within test f (suc n) ts = (f >>= λ a. on test (mapped (λ bs. a ∷ bs) (separated_within test f n)) (give (a ∷ []))) ts
+unfoldable pub sep_by_within : {A : Type 0} → (Lexeme → Bool) → Reader A → ℕ → Reader (List A)
+sep_by_within test f zero ts = Err (Syntax ts)
+sep_by_within test f (suc n) ts = (f >>= λ a. on test (map_reader (λ bs. a ∷ bs) (sep_by_within test f n)) (give (a ∷ []))) ts
 
 -- one behind the other, with a sign between each two
-abbrev pub separated : {A : Type 0} → (Lexeme → Bool) → Reader A → Reader (List A)
-separated test f ts = separated_within test f (length ts) ts
+abbrev pub sep_by : {A : Type 0} → (Lexeme → Bool) → Reader A → Reader (List A)
+sep_by test f ts = sep_by_within test f (length ts) ts
 
 -- one reader where the first token passes a test, and else another
 unfoldable pub when : {A : Type 0} → (Lexeme → Bool) → Reader A → Reader A → Reader A
@@ -112,7 +112,7 @@ repeat test step (b ∷ bs) x = when test (step (b ∷ bs) x >>= repeat test ste
 -- one behind the other as long as one begins: at most so many
 unfoldable pub many_within : {A : Type 0} → (Lexeme → Bool) → Reader A → ℕ → Reader (List A)
 many_within test f zero = give []
-many_within test f (suc n) = when test (f >>= λ a. mapped (λ bs. a ∷ bs) (many_within test f n)) (give [])
+many_within test f (suc n) = when test (f >>= λ a. map_reader (λ bs. a ∷ bs) (many_within test f n)) (give [])
 
 -- one behind the other as long as one begins
 abbrev pub many : {A : Type 0} → (Lexeme → Bool) → Reader A → Reader (List A)

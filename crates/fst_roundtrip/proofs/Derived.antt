@@ -17,7 +17,7 @@ use Rattle.fst_reading.specs.Lexeme.{Lexeme, IsLower, IsUpper}
 use Rattle.fst_type_syntax.specs.Grammar as types
 use Rattle.fst_type_syntax.specs.Grammar.{IsType, IsSeq, IsAlts, IsAlt, IsBinder, IsBinders}
 use Rattle.fst_syntax.specs.Grammar as terms
-use Rattle.fst_syntax.specs.Grammar.{AreNames, AreApplied, IsExpr, AreCases, AreMatches, IsOr, IsAnd, IsCmp, IsSum, IsProd, IsUnary, IsApp, IsHead, AreAtoms, IsAtom, IsPlain, AreTypes, AreMakers, IsDecl, Lined, unlined, IsModule}
+use Rattle.fst_syntax.specs.Grammar.{AreNames, AreApplied, IsExpr, AreCases, AreMatches, IsOr, IsAnd, IsCmp, IsSum, IsProd, IsUnary, IsApp, IsHead, AreAtoms, IsAtom, IsPlain, AreTypes, AreMakers, IsDecl, Lined, lexemes_of, IsModule}
 use Rattle.fst_roundtrip.proofs.Showable.{IsLowerName, IsUpperName, IsShowableType, AreShowableBranches, AreLowerNames, IsShowable, AreShowable, AreShowableCases, AreShowableMatches, IsShowableMaker, AreShowableMakers, IsShowableDecl}
 
 -- a token with its text
@@ -300,12 +300,12 @@ decl_shown all _ (terms.equation x q xs ts _ binders t low names eq d is) m =
     let g = around xs ts q h.1 in
     (lower_name x h.0 low, names_shown xs binders names g.0, expr_shown ts t d g.1)
 
-module_shown : (ts : List Lined) (ds : List Declared) → IsModule ts ds → AreMade (unlined ts) → All IsShowableDecl ds
+module_shown : (ts : List Lined) (ds : List Declared) → IsModule ts ds → AreMade (lexemes_of ts) → All IsShowableDecl ds
 module_shown _ _ terms.none m = All-nil _
 module_shown all _ (terms.decl k ts us _ d ds begins inside e others is) m =
-    let h = subst (λ x. AreMade (unlined x)) is m in
-    let g = parted (unlined ts) (unlined us) (subst AreMade (map-append (λ (x : Lined). x.lexeme) ts us) h.1) in
-    All-cons IsShowableDecl d ds (decl_shown (k.lexeme ∷ unlined ts) d e (h.0, g.0)) (module_shown us ds others g.1)
+    let h = subst (λ x. AreMade (lexemes_of x)) is m in
+    let g = parted (lexemes_of ts) (lexemes_of us) (subst AreMade (map-append (λ (x : Lined). x.lexeme) ts us) h.1) in
+    All-cons IsShowableDecl d ds (decl_shown (k.lexeme ∷ lexemes_of ts) d e (h.0, g.0)) (module_shown us ds others g.1)
 
 -- a type that tokens are
 pub showable_type : (ts : List Lexeme) (t : WrittenTree) → All IsMade ts → IsType ts t → IsShowableType t
@@ -321,4 +321,4 @@ showable_decl ts d all e = decl_shown ts d e (recursion_from_All IsMade ts all)
 
 -- a module
 pub showable_module : (ts : List Lined) (ds : List Declared) → All (λ k. IsMade k.lexeme) ts → IsModule ts ds → All IsShowableDecl ds
-showable_module ts ds all d = module_shown ts ds d (recursion_from_All IsMade (unlined ts) (All-map IsMade (λ (k : Lined). k.lexeme) ts all))
+showable_module ts ds all d = module_shown ts ds d (recursion_from_All IsMade (lexemes_of ts) (All-map IsMade (λ (k : Lined). k.lexeme) ts all))

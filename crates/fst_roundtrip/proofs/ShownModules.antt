@@ -9,8 +9,8 @@ use Rattle.fst_lexer.specs.declared.token.Token.{Token}
 use Rattle.fst_lexer.specs.Spelling as spelling
 use Rattle.fst_lexer.specs.Spelling.{Word, LinedWord, IsSpelled, HasWords, SpellingLaw, TokenWords, IsTokenWord, word_at, lined_word_at, end_word}
 use Rattle.fst_terms.specs.ModuleTree.{Declared}
-use Rattle.fst_syntax.specs.Grammar.{Lined, unlined, AreInside, IsModule, none, decl}
-use Rattle.fst_syntax.specs.Derives.{lined, lined_tokens}
+use Rattle.fst_syntax.specs.Grammar.{Lined, lexemes_of, AreInside, IsModule, none, decl}
+use Rattle.fst_syntax.specs.Derives.{line_lexeme, line_lexemes}
 use Rattle.fst_print.specs.ModuleTexts.{decl_text, module_text}
 use Rattle.fst_roundtrip.proofs.Showable.{IsShowableDecl}
 use Rattle.fst_roundtrip.specs.ReadAgain.{ReadAgain}
@@ -25,7 +25,7 @@ abbrev lined_word_of : Lined → LinedWord
 lined_word_of k = record { first = k.first; word = word_of k.lexeme }
 
 -- tokens that are words inside a line
-inside_words : (ts : List Lined) (ws : List Word) → map lined_word_of ts ≡ map inside ws → AreInside ts × (map word_of (unlined ts) ≡ ws)
+inside_words : (ts : List Lined) (ws : List Word) → map lined_word_of ts ≡ map inside ws → AreInside ts × (map word_of (lexemes_of ts) ≡ ws)
 inside_words [] [] e = (tt, refl)
 inside_words [] (w ∷ ws) e = absurd (cc e)
 inside_words (k ∷ ts) [] e = absurd (cc e)
@@ -74,7 +74,7 @@ one_more d ds h w = record {
         let tail : map lined_word_of ts ≡ map inside r.words ++ w.words = cc in
         let c = halves lined_word_of ts (map inside r.words) w.words tail in
         let i = inside_words c.front r.words c.first in
-        let s = r.read (unlined c.front) i.1 k.lexeme (ap (λ (z : LinedWord). z.word.kind) head) (ap (λ (z : LinedWord). z.word.text) head) in
+        let s = r.read (lexemes_of c.front) i.1 k.lexeme (ap (λ (z : LinedWord). z.word.kind) head) (ap (λ (z : LinedWord). z.word.text) head) in
         let m = w.again c.back c.second in
         record {
           read = s.wrote ∷ m.read;
@@ -91,7 +91,7 @@ written [] all = record { words = []; spelled = spelling.nothing true; again = r
 written (d ∷ ds) all = one_more d ds all.0 (written ds all.1)
 
 -- the tokens of a text by lines are its words
-lined_words : (text : List ℕ) (tokens : List Token) (ws : List LinedWord) (end : LinedWord) (n : ℕ) → map (lined_word_at text) tokens ≡ ws ++ end ∷ [] → n ≡ length ws → map lined_word_of (map (lined text) (take n tokens)) ≡ ws
+lined_words : (text : List ℕ) (tokens : List Token) (ws : List LinedWord) (end : LinedWord) (n : ℕ) → map (lined_word_at text) tokens ≡ ws ++ end ∷ [] → n ≡ length ws → map lined_word_of (map (line_lexeme text) (take n tokens)) ≡ ws
 lined_words text tokens [] end n e is = rw is refl
 lined_words text [] (w ∷ ws) end n e is = absurd (cc e)
 lined_words text (k ∷ tokens) (w ∷ ws) end zero e is = absurd (omega (arith, is))
@@ -103,11 +103,11 @@ lined_words text (k ∷ tokens) (w ∷ ws) end (suc n) e is =
 
 pub read_again_law : SpellingLaw → TokenWords → ReadAgain
 read_again_law spelled token_words text tokens ds lexes derives =
-    let all = showable_module (lined_tokens text tokens) ds (All-map (λ k. IsMade k.lexeme) (lined text) (take (length tokens - 1) tokens) (token_words text tokens lexes)) derives in
+    let all = showable_module (line_lexemes text tokens) ds (All-map (λ k. IsMade k.lexeme) (line_lexeme text) (take (length tokens - 1) tokens) (token_words text tokens lexes)) derives in
     let w = written ds (recursion_from_All IsShowableDecl ds all) in
     let found = spelled (module_text ds) w.words w.spelled in
     let end : LinedWord = record { first = found.has.last; word = end_word } in
     let many : length (map (lined_word_at (module_text ds)) found.tokens) ≡ length found.tokens = length-map found.tokens (lined_word_at (module_text ds)) in
     let size : length found.tokens - 1 ≡ length w.words = omega (arith, many, ap length found.has.words, length-append w.words (end ∷ [])) in
-    let a = w.again (lined_tokens (module_text ds) found.tokens) (lined_words (module_text ds) found.tokens w.words end (length found.tokens - 1) found.has.words size) in
+    let a = w.again (line_lexemes (module_text ds) found.tokens) (lined_words (module_text ds) found.tokens w.words end (length found.tokens - 1) found.has.words size) in
     record { tokens = found.tokens; read = a.read; lexes = found.lexes; derives = a.derives; same = a.same; same_text = one_text a.read ds a.same }

@@ -15,10 +15,10 @@ use Rattle.fst_types.specs.Scoped.{IsScoped, AllScoped}
 use Rattle.fst_types.specs.Order.{IsSorted, AreSorted, EachChoiceBelow}
 use Rattle.fst_lexer.specs.declared.token.TokenKind.TheVariants as kind
 use Rattle.fst_lexer.specs.Spelling.{IsWordOf}
-use Rattle.fst_terms.specs.Arranged.{placed, placed_by}
+use Rattle.fst_terms.specs.Arranged.{insert, insert_by}
 use Rattle.fst_terms.specs.Naming as naming
 use Rattle.fst_terms.specs.Naming.{Scope, within, type_of}
-use Rattle.fst_print.specs.Named.{IsNamedWithin, AllNamedWithin}
+use Rattle.fst_types.specs.Named.{IsNamedWithin, AllNamedWithin}
 use Rattle.fst_print.specs.Texts.{in_parens, in_parens_if, in_braces, joined_text, arrow_text, in_parens_before_semicolon, in_parens_before_arrow, binder_text, variable_text, name_at, text_under, branch_texts}
 use Rattle.fst_print.specs.ModuleTexts.{is_compound, is_arrow, written_text, written_branch_texts}
 use Rattle.fst_roundtrip.specs.ReadBack.{IsNoArrow, IsWritable, AreWritable, variable_names}
@@ -152,7 +152,7 @@ named_meant names m n k g below fits =
     }
 
 -- a branch that stands before another stays there
-in_place : (o : Ordering) (l m : List ℕ) (t u : Tree) (bs behind : Branches) → o ≢ Greater → placed_by o l t m u bs behind ≡ branch l t (branch m u bs)
+in_place : (o : Ordering) (l m : List ℕ) (t u : Tree) (bs behind : Branches) → o ≢ Greater → insert_by o l t m u bs behind ≡ branch l t (branch m u bs)
 in_place Less l m t u bs behind below = refl
 in_place Equal l m t u bs behind below = refl
 in_place Greater l m t u bs behind below = absurd (below refl)
@@ -206,7 +206,7 @@ mutual
       let others = all_meant names m g n (branch o u bs) scoped.1 within.1 order.1 sorted.1 writable.3 (omega arith) in
       record {
         showable = (writable.0, one.showable, others.showable);
-        means = rw (one.means, others.means) (ap Some (in_place (slice_cmp nat_cmp l o) l o t u bs (placed l t bs) order.0));
+        means = rw (one.means, others.means) (ap Some (in_place (slice_cmp nat_cmp l o) l o t u bs (insert l t bs) order.0));
       }
 
 mutual
@@ -226,7 +226,7 @@ mutual
 
   branches_same : (s : Scope) (bs : WrittenBranches) → naming.branches_of s (unplaced_branches bs) ≡ naming.branches_of s bs
   branches_same s written.none = refl
-  branches_same s (written.branch l t bs) = λ i. naming.both (placed l) (meaning_same s t i) (branches_same s bs i)
+  branches_same s (written.branch l t bs) = λ i. naming.both (insert l) (meaning_same s t i) (branches_same s bs i)
 
 -- types that differ in places alone mean the same
 pub means_same : (s : Scope) (w v : WrittenTree) (t : Tree) → unplaced_type w ≡ unplaced_type v → type_of s v ≡ Some t → type_of s w ≡ Some t

@@ -4,7 +4,7 @@ use Rattle.fst_lexer.specs.declared.token.Token.{Token}
 use Rattle.fst_lexer.specs.Lexes.{Lexes}
 use Rattle.fst_terms.specs.ModuleTree.{Declared}
 use Rattle.fst_syntax.specs.Grammar.{IsModule}
-use Rattle.fst_syntax.specs.Derives.{lined_tokens}
+use Rattle.fst_syntax.specs.Derives.{line_lexemes}
 use Rattle.fst_print.specs.ModuleTexts.{module_text}
 use Rattle.fst_roundtrip.specs.Unplaced.{unplaced_decl}
 
@@ -13,10 +13,10 @@ pub record IsReadAgain (ds : List Declared) : Type 0 where
   pub tokens : List Token
   pub read : List Declared
   pub lexes : Lexes (module_text ds) tokens
-  pub derives : IsModule (lined_tokens (module_text ds) tokens) read
+  pub derives : IsModule (line_lexemes (module_text ds) tokens) read
   pub same : map unplaced_decl read ≡ map unplaced_decl ds
   pub same_text : module_text read ≡ module_text ds
 
 -- so do those of each module that a text has
 abbrev pub ReadAgain : Type 0
-ReadAgain = (text : List ℕ) (tokens : List Token) (ds : List Declared) → Lexes text tokens → IsModule (lined_tokens text tokens) ds → IsReadAgain ds
+ReadAgain = (text : List ℕ) (tokens : List Token) (ds : List Declared) → Lexes text tokens → IsModule (line_lexemes text tokens) ds → IsReadAgain ds

@@ -14,7 +14,7 @@ use Rattle.fst_syntax.specs.Grammar.{IsApp, send, receive, select, new, fork, ma
 use Rattle.fst_syntax.specs.Nesting.{app_nests, head_nests, head_operands, atoms_nests, atom_nests}
 use Rattle.fst_syntax.specs.declared.starts.AppStart.{AppStart}
 use Rattle.fst_syntax.specs.declared.starts.AppStart.TheVariants.{Send, Receive, Select, New, Fork, Make}
-use Rattle.fst_syntax.specs.TermReading.{app_start, appended}
+use Rattle.fst_syntax.specs.TermReading.{app_start, append_term}
 use Rattle.fst_syntax.proofs.Lefts.{Right, left_filled, to_left, of_left}
 use Rattle.fst_syntax.proofs.ChainPhrases.{AtomP, PlainP, Argument, head_to, head_from}
 use Rattle.fst_syntax.proofs.Begins.{plain_begins}
@@ -26,35 +26,35 @@ AppP d ts t ns = (s : IsApp ts t) × (app_nests d s ≡ ns)
 
 -- one argument more
 abbrev pub ArgumentS : ℕ → TermList → Phrase TermList
-ArgumentS e args = Mapped (appended args) (AtomP e)
+ArgumentS e args = Mapped (append_term args) (AtomP e)
 
-abbrev pub joined : TermList → TermList → TermList
-joined no_terms us = us
-joined (term.term t ts) us = term.term t (joined ts us)
+abbrev pub append_terms : TermList → TermList → TermList
+append_terms no_terms us = us
+append_terms (term.term t ts) us = term.term t (append_terms ts us)
 
-joined_none : (ts : TermList) → joined ts no_terms ≡ ts
-joined_none no_terms = refl
-joined_none (term.term t ts) = ap (term.term t) (joined_none ts)
+append_terms_none : (ts : TermList) → append_terms ts no_terms ≡ ts
+append_terms_none no_terms = refl
+append_terms_none (term.term t ts) = ap (term.term t) (append_terms_none ts)
 
-appended_joined : (ts : TermList) (t : TermTree) (us : TermList) → joined (appended ts t) us ≡ joined ts (term.term t us)
-appended_joined no_terms t us = refl
-appended_joined (term.term s ts) t us = ap (term.term s) (appended_joined ts t us)
+append_terms_behind : (ts : TermList) (t : TermTree) (us : TermList) → append_terms (append_term ts t) us ≡ append_terms ts (term.term t us)
+append_terms_behind no_terms t us = refl
+append_terms_behind (term.term s ts) t us = ap (term.term s) (append_terms_behind ts t us)
 
 -- arguments behind others
 abbrev pub ArgumentsP : ℕ → TermList → Phrase TermList
-ArgumentsP e args ts all ns = (more : TermList) × (s : AreAtoms ts more) × (all ≡ joined args more) × (atoms_nests e s ≡ ns)
+ArgumentsP e args ts all ns = (more : TermList) × (s : AreAtoms ts more) × (all ≡ append_terms args more) × (atoms_nests e s ≡ ns)
 
 pub arguments_to : (e : ℕ) (args : TermList) (ts : List Lexeme) (all : TermList) (ns : List ℕ) → Repeat ArgumentS e args ts all ns → ArgumentsP e args ts all ns
-arguments_to _ _ _ _ _ (enough e args) = (no_terms, no_atoms, sym (joined_none args), refl)
+arguments_to _ _ _ _ _ (enough e args) = (no_terms, no_atoms, sym (append_terms_none args), refl)
 arguments_to _ _ _ _ _ (again ts us vs e args y all ns ms ks (made _ t _ a) r parts nests) =
-    let o = arguments_to (suc e) (appended args t) vs all ks r in
-    (term.term t o.0, atom us vs ts t o.0 a.0 o.1 parts, o.2 ∙ appended_joined args t o.0, (let e2 : atom_nests e a.0 ++ atoms_nests (suc e) o.1 ≡ ns = rw (a.1, o.3) (sym nests) in e2))
+    let o = arguments_to (suc e) (append_term args t) vs all ks r in
+    (term.term t o.0, atom us vs ts t o.0 a.0 o.1 parts, o.2 ∙ append_terms_behind args t o.0, (let e2 : atom_nests e a.0 ++ atoms_nests (suc e) o.1 ≡ ns = rw (a.1, o.3) (sym nests) in e2))
 
-of_arguments : (e : ℕ) (args : TermList) (ts : List Lexeme) (more : TermList) (s : AreAtoms ts more) → Repeat ArgumentS e args ts (joined args more) (atoms_nests e s)
-of_arguments e args _ _ no_atoms = subst (λ z. Repeat ArgumentS e args [] z []) (sym (joined_none args)) (enough e args)
+of_arguments : (e : ℕ) (args : TermList) (ts : List Lexeme) (more : TermList) (s : AreAtoms ts more) → Repeat ArgumentS e args ts (append_terms args more) (atoms_nests e s)
+of_arguments e args _ _ no_atoms = subst (λ z. Repeat ArgumentS e args [] z []) (sym (append_terms_none args)) (enough e args)
 of_arguments e args _ _ (atom ts us all t more a s parts) =
-    again all ts us e args (appended args t) _ _ (atom_nests e a) (atoms_nests (suc e) s) (made ts t _ (a, refl))
-    (subst (λ z. Repeat ArgumentS (suc e) (appended args t) us z (atoms_nests (suc e) s)) (appended_joined args t more) (of_arguments (suc e) (appended args t) us more s)) parts refl
+    again all ts us e args (append_term args t) _ _ (atom_nests e a) (atoms_nests (suc e) s) (made ts t _ (a, refl))
+    (subst (λ z. Repeat ArgumentS (suc e) (append_term args t) us z (atoms_nests (suc e) s)) (append_terms_behind args t more) (of_arguments (suc e) (append_term args t) us more s)) parts refl
 
 pub plain_filled : (d : ℕ) (us : List Lexeme) (t : TermTree) (ns : List ℕ) → PlainP d us t ns → 0 < length us
 plain_filled d us t ns p = let b = plain_begins d p.0 in omega (arith, ap length b.3)

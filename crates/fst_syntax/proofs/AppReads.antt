@@ -7,7 +7,7 @@ use Rattle.fst_terms.specs.TermTree as term
 use Rattle.fst_terms.specs.TermTree.{TermTree, no_terms}
 use Rattle.fst_reading.specs.Lexeme.{Lexeme, spells, IsUpper, upper_of}
 use Rattle.fst_reading.specs.Faults.{Phrase}
-use Rattle.fst_reading.specs.Reading.{Reader, switch, mapped, begins, repeat}
+use Rattle.fst_reading.specs.Reading.{Reader, switch, map_reader, begins, repeat}
 use Rattle.fst_reading.proofs.Steps.{SomePhrase}
 use Rattle.fst_reading.proofs.Phrases as phrase
 use Rattle.fst_reading.proofs.Phrases.{Reads, never, nothing, Mapped, made, Switch, first, taken, Located, Repeat, enough, again}
@@ -23,7 +23,7 @@ use Rattle.fst_syntax.specs.declared.starts.AtomStart.{AtomStart}
 use Rattle.fst_syntax.specs.declared.starts.AtomStart.TheVariants.{Name, Constructor, Number, Character, Truth, Paren}
 use Rattle.fst_syntax.specs.declared.starts.AppStart.{AppStart}
 use Rattle.fst_syntax.specs.declared.starts.AppStart.TheVariants.{Send, Receive, Select, New, Fork, Make}
-use Rattle.fst_syntax.specs.TermReading.{Inside, next, atom_named, atom_start, is_start, starts_atom, is_upper, label_with, type_atom_with, begun_with, plain_start, plain_with, atom_with, arguments_with, applications_with, appended, app_start, is_app, opens_app, app_begun_with, head_with, app_with}
+use Rattle.fst_syntax.specs.TermReading.{Inside, next, atom_named, atom_start, is_start, starts_atom, is_upper, label_with, type_atom_with, begun_with, plain_start, plain_with, atom_with, arguments_with, applications_with, append_term, app_start, is_app, opens_app, app_begun_with, head_with, app_with}
 use Rattle.fst_syntax.proofs.Lefts.{Right}
 use Rattle.fst_syntax.proofs.ChainPhrases.{AtomP, PlainP, Argument}
 use Rattle.fst_syntax.proofs.ChainReads.{fits_behind}
@@ -105,9 +105,9 @@ module _ (limit : ℕ) {A : Type 0} (h : A → TermTree → A) where
   more_counted : (d : ℕ) (x : A) (us : List Lexeme) (y : A) (ns : List ℕ) → More d x us y ns → length ns ≡ length us
   more_counted d x _ _ _ (made us t ns p) = atom_counted d us t ns p
 
-  pub reads_more : (es : Inside) (d : ℕ) → Good limit es → Fits limit es d → (x : A) → Reads limit (repeat starts_atom (λ es x. mapped (h x) (atom_with es)) es x) (Repeat More d x) after_app
+  pub reads_more : (es : Inside) (d : ℕ) → Good limit es → Fits limit es d → (x : A) → Reads limit (repeat starts_atom (λ es x. map_reader (h x) (atom_with es)) es x) (Repeat More d x) after_app
   reads_more es d good fits x =
-      reads_repeat limit starts_atom (λ es x. mapped (h x) (atom_with es)) More at after_app (Good limit) (λ e es good. good.1)
+      reads_repeat limit starts_atom (λ es x. map_reader (h x) (atom_with es)) More at after_app (Good limit) (λ e es good. good.1)
       (λ e es d good fits x. reads_mapped limit (h x) (atom_with (e ∷ es)) (AtomP d) at (reads_atom limit (e ∷ es) d good fits))
       (λ d n x. let s = sample_atom d n in (record { tokens = s.0.tokens; value = h x s.0.value; nests = s.0.nests; phrase = made s.0.tokens s.0.value s.0.nests s.0.phrase }, s.1))
       (λ d x k is. let o = opens_atom d k is in (o.0, h x o.1, o.2, made (k ∷ o.0) o.1 (d ∷ o.2) o.3))
@@ -198,7 +198,7 @@ module _ (limit d : ℕ) (e : Reader TermTree) (es : Inside) (good : Good limit 
   reads_app_begun New k = silent _ _ (reads_mapped limit (term.new k.at) (type_atom_with es) (TypeAtomP (suc d)) never (reads_type_atom limit es (suc d) one_on))
   reads_app_begun Fork k = loud _ _ (reads_mapped limit (term.fork k.at) (atom_with es) (AtomP (suc d)) at first_atom)
   reads_app_begun Make k =
-      reads_mapped limit (term.make k.at k.text) (arguments_with es no_terms) (Repeat ArgumentS (suc d) no_terms) after_app (reads_more limit appended es (suc d) good.1 one_on no_terms)
+      reads_mapped limit (term.make k.at k.text) (arguments_with es no_terms) (Repeat ArgumentS (suc d) no_terms) after_app (reads_more limit append_term es (suc d) good.1 one_on no_terms)
 
   reads_plain : Reads limit (plain_with e es) (PlainP d) at
   unfolding plain_with

@@ -10,7 +10,7 @@ use Rattle.fst_lexer.specs.declared.token.TokenKind.TheVariants as kind
 use Rattle.fst_reading.specs.Lexeme.{Lexeme, spells_by, spells, Is, start, lower_of, upper_of, is_one}
 use Rattle.fst_reading.specs.Faults.{Phrase}
 use Rattle.fst_reading.proofs.Steps.{mapped_err, SomePhrase}
-use Rattle.fst_reading.specs.Reading.{Halt, Reader, bind, give, andthen, mapped, switch, one, only, word, begins, when, many_within, separated}
+use Rattle.fst_reading.specs.Reading.{Halt, Reader, bind, give, andthen, map_reader, switch, one, only, word, begins, when, many_within, sep_by}
 use Rattle.fst_reading.proofs.Words.{Word, reads_first, reads_word, words, lowers, uppers, sample_then}
 use Rattle.fst_reading.proofs.Phrases as phrase
 use Rattle.fst_reading.proofs.Phrases.{Reads, never, nothing, Mapped, made, first}
@@ -40,7 +40,7 @@ pub reads_names : (limit d : ℕ) → d ≤ limit → Reads limit names (NamesP 
 unfolding names
 reads_names limit d low =
     reads_as limit _ (NamesR d) (NamesP d) lower_next
-    (reads_many limit is_lower (mapped bound (one lower_of)) (Mapped bound (One d lower_of)) never lower_next (reads_mapped limit bound (one lower_of) (One d lower_of) never (reads_one limit d low lower_of lowers))
+    (reads_many limit is_lower (map_reader bound (one lower_of)) (Mapped bound (One d lower_of)) never lower_next (reads_mapped limit bound (one lower_of) (One d lower_of) never (reads_one limit d low lower_of lowers))
     (begins_name d) (λ k ts is. refl) (λ rest stop. (refl, stop)))
     (names_to d) (names_from d)
 
@@ -48,8 +48,8 @@ lower_kind_is : (t : TokenKind) → lower_kind t ≡ true → t ≡ kind.Lower
 lower_kind_is kind.Lower e = refl
 lower_kind_is _ e = absurd cc
 
-one_name : (k : Lexeme) (ts : List Lexeme) → is_lower k ≡ true → mapped bound (one lower_of) (k ∷ ts) ≡ Ok (bound k, ts)
-unfolding mapped switch give bind
+one_name : (k : Lexeme) (ts : List Lexeme) → is_lower k ≡ true → map_reader bound (one lower_of) (k ∷ ts) ≡ Ok (bound k, ts)
+unfolding map_reader switch give bind
 one_name k ts is = rw (means_lower k (lower_kind_is k.kind is)) refl
 
 andthen_with : {A B : Type 0} (f : Reader A) (g : A → Reader B) (ts : List Lexeme) (x : A) (us : List Lexeme) → f ts ≡ Ok (x, us) → andthen f g ts ≡ g x us
@@ -58,12 +58,12 @@ andthen_with f g ts x us e = rw e refl
 
 -- names are never refused
 abbrev NeverRefused : ℕ → Type 0
-NeverRefused n = (ts : List Lexeme) (h : Halt) → many_within is_lower (mapped bound (one lower_of)) n ts ≡ Err h → ⊥
+NeverRefused n = (ts : List Lexeme) (h : Halt) → many_within is_lower (map_reader bound (one lower_of)) n ts ≡ Err h → ⊥
 
 more_given : (n : ℕ) → NeverRefused n → (ts : List Lexeme) (h : Halt) → begins is_lower ts ≡ true →
-    andthen (mapped bound (one lower_of)) (λ x. mapped (λ bs. x ∷ bs) (many_within is_lower (mapped bound (one lower_of)) n)) ts ≡ Err h → ⊥
+    andthen (map_reader bound (one lower_of)) (λ x. map_reader (λ bs. x ∷ bs) (many_within is_lower (map_reader bound (one lower_of)) n)) ts ≡ Err h → ⊥
 more_given n given [] h b e = absurd cc
-more_given n given (k ∷ ts) h b e = given ts h (mapped_err _ _ ts h (sym (andthen_with (mapped bound (one lower_of)) _ (k ∷ ts) (bound k) ts (one_name k ts b)) ∙ e))
+more_given n given (k ∷ ts) h b e = given ts h (mapped_err _ _ ts h (sym (andthen_with (map_reader bound (one lower_of)) _ (k ∷ ts) (bound k) ts (one_name k ts b)) ∙ e))
 
 names_given : (n : ℕ) → NeverRefused n
 unfolding many_within when give
@@ -106,9 +106,9 @@ match_arm_filled d us x ns p = let a = match_arm_to d us x ns p in omega (arith,
 
 -- the reader of the terms inside, and what is known of it
 module _ (limit d : ℕ) (low : d ≤ limit) (e : Reader TermTree) (r : Reads limit e (ExprP (suc d)) after_expr) where
-  reads_body : (make : TermTree → Arm) → Reads limit (andthen (word (codes "->")) (λ a. mapped make e)) (BodyR d make) after_expr
+  reads_body : (make : TermTree → Arm) → Reads limit (andthen (word (codes "->")) (λ a. map_reader make e)) (BodyR d make) after_expr
   reads_body make =
-      reads_first limit d low (only (spells (codes "->"))) (words (codes "->")) (λ a. mapped make e) (λ a. Mapped make (ExprP (suc d))) after_expr
+      reads_first limit d low (only (spells (codes "->"))) (words (codes "->")) (λ a. map_reader make e) (λ a. Mapped make (ExprP (suc d))) after_expr
       (λ a. reads_mapped limit make e (ExprP (suc d)) after_expr r) (λ a. sample_term d make)
 
   no_name : (make : TermTree → Arm) (us : List Lexeme) (y : Arm) (ns : List ℕ) (rest : List Lexeme) → BodyR d make us y ns → lower_next (us ++ rest) ≡ false
@@ -136,14 +136,14 @@ module _ (limit d : ℕ) (low : d ≤ limit) (e : Reader TermTree) (r : Reads li
   -- arms in braces, of one sort
   module _ (f : Reader Arm) (F : Phrase Arm) (rf : Reads limit f F after_expr) (some : (n : ℕ) → (s : SomePhrase F) × (0 < length s.tokens) × (start s.tokens ≡ n))
       (filled : (us : List Lexeme) (x : Arm) (ns : List ℕ) → F us x ns → 0 < length us) where
-    reads_list : Reads limit (separated (spells (codes ",")) f) (ListR d F) arm_next
+    reads_list : Reads limit (sep_by (spells (codes ",")) f) (ListR d F) arm_next
     reads_list = reads_separated limit d low (spells (codes ",")) f F after_expr arm_next rf some filled (λ k ts is. ends_expr (codes ",") comma k ts is) (λ rest st. or_parts _ _ st)
 
     list_filled : (us : List Lexeme) (xs : List Arm) (ns : List ℕ) → ListR d F us xs ns → 0 < length us
     list_filled _ _ _ (phrase.last ts x ns p) = filled ts x ns p
     list_filled _ _ _ (phrase.further ts us vs k x xs ns ms ks p is q parts nests) = omega (arith, ap length parts, length-append us (k ∷ vs))
 
-    closing : (bs : List Arm) → Reads limit (mapped (λ c. arms bs) (word (codes "}"))) (ClosedR d bs) never
+    closing : (bs : List Arm) → Reads limit (map_reader (λ c. arms bs) (word (codes "}"))) (ClosedR d bs) never
     closing bs = reads_mapped limit (λ (c : Unit {0}). arms bs) (word (codes "}")) (Word d (codes "}")) never (reads_word limit d low (codes "}"))
 
     no_more : (bs : List Arm) (us : List Lexeme) (y : TermArms) (ns : List ℕ) (rest : List Lexeme) → ClosedR d bs us y ns → arm_next (us ++ rest) ≡ false

@@ -8,7 +8,7 @@ use Rattle.fst_terms.specs.TermTree.{TermTree, no_terms}
 use Rattle.fst_reading.specs.Lexeme.{Lexeme, spells, start}
 use Rattle.fst_type_syntax.specs.Grammar.{skip}
 use Rattle.fst_reading.specs.Faults.{Phrase}
-use Rattle.fst_reading.specs.Reading.{Reader, mapped, only, word, begins, on}
+use Rattle.fst_reading.specs.Reading.{Reader, map_reader, only, word, begins, on}
 use Rattle.fst_type_syntax.specs.TypeReading.{starts_type_atom, seq_at, type_at}
 use Rattle.fst_reading.proofs.Phrases as phrase
 use Rattle.fst_reading.proofs.Phrases.{Reads, never, nothing, Then, Mapped, made, first, taken, other, Many}
@@ -81,7 +81,7 @@ module _ (limit d : ℕ) (e : Reader TermTree) (es : Inside) (fits : Fits limit 
   after_closed : (h : Unit {0} → TermTree) (us : List Lexeme) (y : TermTree) (ns : List ℕ) (rest : List Lexeme) → Mapped h (Word d (codes ")")) us y ns → after_expr (us ++ rest) ≡ false
   after_closed h _ _ _ rest (made _ _ _ (first c x _ _ _ g nothing)) = ends_expr (codes ")") closes c rest (only_is (spells (codes ")")) c x g)
 
-  closing : (t : TermTree) → Reads limit (mapped (λ c. t) (word (codes ")"))) (Mapped (λ (c : Unit {0}). t) (Word d (codes ")"))) never
+  closing : (t : TermTree) → Reads limit (map_reader (λ c. t) (word (codes ")"))) (Mapped (λ (c : Unit {0}). t) (Word d (codes ")"))) never
   closing t = reads_mapped limit (λ c. t) (word (codes ")")) (Word d (codes ")")) never (reads_word limit d low (codes ")"))
 
   some_closing : (t : TermTree) → SomePhrase (Mapped (λ (c : Unit {0}). t) (Word d (codes ")")))
@@ -96,7 +96,7 @@ module _ (limit d : ℕ) (e : Reader TermTree) (es : Inside) (fits : Fits limit 
   closed_free : (t : TermTree) (us : List Lexeme) (y : TermTree) (ns : List ℕ) (rest : List Lexeme) → Mapped (λ (c : Unit {0}). t) (Word d (codes ")")) us y ns → never rest ≡ false → begins (spells (codes ",")) (us ++ rest) ≡ false
   closed_free t _ _ _ rest (made _ _ _ (first c x _ _ _ g nothing)) st = no_other (codes ")") (codes ",") c refl (only_is (spells (codes ")")) c x g)
 
-  reads_closed : (k : Lexeme) (t : TermTree) → Reads limit (on (spells (codes ",")) (pair_with e k.at t) (mapped (λ c. t) (word (codes ")")))) (ClosedR d k t) never
+  reads_closed : (k : Lexeme) (t : TermTree) → Reads limit (on (spells (codes ",")) (pair_with e k.at t) (map_reader (λ c. t) (word (codes ")")))) (ClosedR d k t) never
   reads_closed k t = reads_on limit d low (spells (codes ",")) _ _ _ _ never (reads_pair k t) (closing t) (closed_free t)
 
   after_behind : (k : Lexeme) (t : TermTree) (us : List Lexeme) (y : TermTree) (ns : List ℕ) (rest : List Lexeme) → ClosedR d k t us y ns → after_expr (us ++ rest) ≡ false

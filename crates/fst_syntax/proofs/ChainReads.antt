@@ -6,7 +6,7 @@ use Rattle.fst_terms.specs.TermTree.{TermTree}
 use Rattle.fst_reading.specs.Lexeme.{Lexeme, start}
 use Rattle.fst_reading.specs.Faults.{Phrase}
 use Rattle.fst_reading.proofs.Steps.{SomePhrase}
-use Rattle.fst_reading.specs.Reading.{Reader, mapped, switch, begins}
+use Rattle.fst_reading.specs.Reading.{Reader, map_reader, switch, begins}
 use Rattle.fst_reading.proofs.Phrases.{Reads, pair, Mapped, made, first, Located, Repeat, enough, again}
 use Rattle.fst_reading.proofs.Words.{sample_mapped}
 use Rattle.fst_reading.proofs.Parts.{Sample, reads_mapped, reads_switch, reads_as}
@@ -32,7 +32,7 @@ module _ (limit : ℕ) (p : Lexeme → Option Op) (operand : Inside → Reader T
     (sign : (k : Lexeme) (ts : List Lexeme) → is_op (p k) ≡ true → more (k ∷ ts) ≡ false)
     (end_ : (rest : List Lexeme) → stop rest ≡ false → (more rest ≡ false) × (begins (λ k. is_op (p k)) rest ≡ false)) where
   abbrev operate_with : ℕ → Inside → TermTree → Reader TermTree
-  operate_with at es t = switch p (λ o k. mapped (term.operate at o t) (operand es))
+  operate_with at es t = switch p (λ o k. map_reader (term.operate at o t) (operand es))
 
   step_sample : (at d n : ℕ) (t : TermTree) → Sample p (λ o k. Mapped (term.operate at o t) (P d)) n
   step_sample at d n t =
@@ -41,7 +41,7 @@ module _ (limit : ℕ) (p : Lexeme → Option Op) (operand : Inside → Reader T
 
   reads_step : (at : ℕ) (e : Reader TermTree) (es : Inside) (d : ℕ) → Good (e ∷ es) → Fits limit (e ∷ es) d → (t : TermTree) → Reads limit (operate_with at (e ∷ es) t) (Step p P at d t) more
   reads_step at e es d good fits t =
-      reads_switch limit d (omega (arith, fits)) p (λ o k. mapped (term.operate at o t) (operand (e ∷ es))) (λ o k. Mapped (term.operate at o t) (P d)) more
+      reads_switch limit d (omega (arith, fits)) p (λ o k. map_reader (term.operate at o t) (operand (e ∷ es))) (λ o k. Mapped (term.operate at o t) (P d)) more
       (λ o k. reads_mapped limit (term.operate at o t) (operand (e ∷ es)) (P d) more (r (e ∷ es) d good fits)) (λ n. step_sample at d n t)
 
   some_step : (at d n : ℕ) (t : TermTree) → (s : SomePhrase (Step p P at d t)) × (start s.tokens ≡ n)

@@ -6,7 +6,7 @@ use Rattle.fst_terms.specs.TermTree.{TermTree}
 use Rattle.fst_reading.specs.declared.stop.Stop.{Stop}
 use Rattle.fst_reading.specs.declared.stop.Stop.TheVariants as stop
 use Rattle.fst_reading.specs.Lexeme.{Lexeme}
-use Rattle.fst_reading.specs.Reading.{Deep, Reader, bind, give, andthen, mapped, switch, when, shut, begins, repeat}
+use Rattle.fst_reading.specs.Reading.{Deep, Reader, bind, give, andthen, map_reader, switch, when, shut, begins, repeat}
 use Rattle.fst_reading.specs.Gives.{Fails}
 use Rattle.fst_syntax.specs.TermReading.{Inside, inside, is_op, chain_with}
 use Rattle.fst_base.specs.Choice.{choose}
@@ -39,7 +39,7 @@ module _ (p : Lexeme → Option Op) (operand : Inside → Reader TermTree) (at :
   test k = is_op (p k)
 
   abbrev step : Inside → TermTree → Reader TermTree
-  step es t = switch p (λ o k. mapped (term.operate at o t) (operand es))
+  step es t = switch p (λ o k. map_reader (term.operate at o t) (operand es))
 
   pub chain_stops : (es : Inside) → begins test ts ≡ false → chain_with p operand at es t ts ≡ Ok (t, ts)
   unfolding chain_with
@@ -54,11 +54,11 @@ module _ (p : Lexeme → Option Op) (operand : Inside → Reader TermTree) (at :
     chain_shut = repeat_shut test step t ts sign
 
     step_reads : (es : Inside) (u : TermTree) (rest : List Lexeme) → operand es us ≡ Ok (u, rest) → step es t ts ≡ Ok (term.operate at o t u, rest)
-    unfolding switch mapped bind
+    unfolding switch map_reader bind
     step_reads es u rest h = rw (parts, is, h) refl
 
     step_fails : (es : Inside) (e : Stop) → Fails e (operand es us) → Fails e (step es t ts)
-    unfolding switch mapped bind
+    unfolding switch map_reader bind
     step_fails es stop.Memory h = tt
     step_fails es (stop.Syntax vs) h = rw (parts, is, h) refl
     step_fails es (stop.TooDeep vs) h = rw (parts, is, h) refl

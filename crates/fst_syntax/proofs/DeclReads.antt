@@ -11,7 +11,7 @@ use Rattle.fst_terms.specs.ModuleTree.{Maker, Declared}
 use Rattle.fst_reading.specs.Lexeme.{Lexeme, spells, Is, start, lower_of, upper_of}
 use Rattle.fst_reading.specs.Faults.{Phrase}
 use Rattle.fst_reading.proofs.Steps.{SomePhrase}
-use Rattle.fst_reading.specs.Reading.{andthen, mapped, one, only, finish, begins, on, separated}
+use Rattle.fst_reading.specs.Reading.{andthen, map_reader, one, only, finish, begins, on, sep_by}
 use Rattle.fst_type_syntax.specs.TypeReading.{start_named, base_named, starts_type_atom, seq_at, type_at, atom_with as written_atom_with, binder_at}
 use Rattle.fst_reading.proofs.Phrases as phrase
 use Rattle.fst_reading.proofs.Phrases.{Reads, never, Then, Mapped, made, On, taken, other, Many}
@@ -92,7 +92,7 @@ module _ (limit : ℕ) where
   maker_filled : (us : List Lexeme) (m : Maker) (ns : List ℕ) → MakerR us m ns → 0 < length us
   maker_filled us m ns p = let q = maker_to us m ns p in omega (arith, ap length q.parts)
 
-  reads_makers : Reads limit (separated (spells (codes "|")) (maker_at limit)) MakersP any
+  reads_makers : Reads limit (sep_by (spells (codes "|")) (maker_at limit)) MakersP any
   reads_makers =
       reads_as limit _ MakersR MakersP any
       (reads_separated limit 0 low (spells (codes "|")) (maker_at limit) MakerR field_next any reads_maker sample_maker maker_filled (λ k ts is. bar_no_field k is)
@@ -115,7 +115,7 @@ module _ (limit : ℕ) where
       (λ x. some_makers x)
 
   -- what a function makes of a type
-  reads_whole_type : (h : WrittenTree → Declared) → Reads limit (mapped h (type_at limit)) (Mapped h (TypePhrase 0)) any
+  reads_whole_type : (h : WrittenTree → Declared) → Reads limit (map_reader h (type_at limit)) (Mapped h (TypePhrase 0)) any
   reads_whole_type h = reads_mapped limit h (type_at limit) (TypePhrase 0) any (reads_until limit (type_at limit) (TypePhrase 0) lengthens any (reads_type limit limit 0 (omega arith)) (λ rest st. nothing_left lengthens refl rest st))
 
   some_type : (h : WrittenTree → Declared) → SomePhrase (Mapped h (TypePhrase 0))
@@ -144,13 +144,13 @@ module _ (limit : ℕ) where
   unfolding signature_at
   reads_signature x =
       reads_on limit 0 low (spells (codes "forall")) _ _ _ _ any
-      (reads_then limit (separated (spells (codes ",")) binder_at) _ BindersPhrase _ comma any (reads_binders limit)
+      (reads_then limit (sep_by (spells (codes ",")) binder_at) _ BindersPhrase _ comma any (reads_binders limit)
       (λ bs. reads_first limit 0 low (only (spells (codes "."))) (words (codes ".")) _ _ any (λ u. reads_whole_type (declared.signature (bound x) bs)) (λ u. some_type (declared.signature (bound x) bs)))
       (λ bs. some_dot x bs) binders_filled (λ us bs ns vs y ms rest q st. no_comma x bs vs y ms rest q))
       (reads_whole_type (declared.signature (bound x) [])) (no_forall x)
 
   -- what a function makes of a term
-  reads_whole_term : (x : Lexeme) (xs : List Binder) → Reads limit (mapped (declared.equation (bound x) xs) (expr_at limit)) (Mapped (declared.equation (bound x) xs) (ExprP 1)) any
+  reads_whole_term : (x : Lexeme) (xs : List Binder) → Reads limit (map_reader (declared.equation (bound x) xs) (expr_at limit)) (Mapped (declared.equation (bound x) xs) (ExprP 1)) any
   reads_whole_term x xs =
       reads_mapped limit (declared.equation (bound x) xs) (expr_at limit) (ExprP 1) any
       (reads_until limit (expr_at limit) (ExprP 1) after_expr any (reads_expr_at limit limit 1 (omega arith)) (λ rest st. nothing_left after_expr refl rest st))

@@ -8,7 +8,7 @@ use Rattle.fst_terms.specs.TermTree.{TermTree}
 use Rattle.fst_reading.specs.Lexeme.{Lexeme, spells, IsLower, lower_of}
 use Rattle.fst_type_syntax.specs.Grammar.{IsArrow, many, once}
 use Rattle.fst_reading.specs.Faults.{Phrase}
-use Rattle.fst_reading.specs.Reading.{Reader, give, andthen, mapped, one, only, word, begins, on}
+use Rattle.fst_reading.specs.Reading.{Reader, give, andthen, map_reader, one, only, word, begins, on}
 use Rattle.fst_type_syntax.specs.TypeReading.{seq_at}
 use Rattle.fst_reading.proofs.Phrases as phrase
 use Rattle.fst_reading.proofs.Phrases.{Reads, never, Give, nothing, Then, Mapped, first}
@@ -21,7 +21,8 @@ use Rattle.fst_reading.proofs.Words.{Word, reads_first, words, lowers, sample_wo
 use Rattle.fst_syntax.specs.Grammar.{bound}
 use Rattle.fst_syntax.specs.declared.starts.ExprStart.{ExprStart}
 use Rattle.fst_syntax.specs.declared.starts.ExprStart.TheVariants.{Let, If, Lambda, Case, Match}
-use Rattle.fst_syntax.specs.TermReading.{case_arm_with, match_arm_with, arms_with, case_with, match_with, if_with, in_with, split_with, let_with, arrow_at, lambda_with, expr_begun_with}
+use Rattle.fst_syntax.specs.declared.heads.Arms.TheVariants as by
+use Rattle.fst_syntax.specs.TermReading.{case_arm_with, match_arm_with, arms_with, choice_with, if_with, in_with, split_with, let_with, arrow_at, lambda_with, expr_begun_with}
 use Rattle.fst_syntax.proofs.AtomPhrases.{ExprP}
 use Rattle.fst_syntax.proofs.AtomReads.{expr_filled}
 use Rattle.fst_syntax.proofs.ArmPhrases.{ArrowP, CaseArmR, MatchArmR}
@@ -42,7 +43,7 @@ module _ (limit d n : ℕ) (low : d + n ≡ limit) (e : Reader TermTree) (r : Re
   fits : d ≤ limit
   fits = omega (arith, low)
 
-  reads_term : (h : TermTree → TermTree) → Reads limit (mapped h e) (Mapped h (ExprP (suc d))) after_expr
+  reads_term : (h : TermTree → TermTree) → Reads limit (map_reader h e) (Mapped h (ExprP (suc d))) after_expr
   reads_term h = reads_mapped limit h e (ExprP (suc d)) after_expr r
 
   -- a term, a word that ends it, and what follows
@@ -59,7 +60,7 @@ module _ (limit d n : ℕ) (low : d + n ≡ limit) (e : Reader TermTree) (r : Re
 
   reads_in : (make : TermTree → TermTree → TermTree) → Reads limit (in_with e make) (InR d make) after_expr
   unfolding in_with
-  reads_in make = reads_between (codes "in") in_ (λ t. mapped (make t) e) (λ t. Mapped (make t) (ExprP (suc d))) after_expr (λ t. reads_term (make t)) (λ t. sample_term d (make t))
+  reads_in make = reads_between (codes "in") in_ (λ t. map_reader (make t) e) (λ t. Mapped (make t) (ExprP (suc d))) after_expr (λ t. reads_term (make t)) (λ t. sample_term d (make t))
 
   reads_named : (k : Lexeme) → Reads limit (andthen (one lower_of) (λ x. andthen (word (codes "=")) (λ q. in_with e (term.let_in k.at (bound x))))) (NamedR d k) after_expr
   reads_named k =
@@ -88,8 +89,8 @@ module _ (limit d n : ℕ) (low : d + n ≡ limit) (e : Reader TermTree) (r : Re
   unfolding let_with
   reads_let k = reads_on limit d fits (spells (codes "(")) _ _ _ _ after_expr (reads_split k) (reads_named k) (no_paren k)
 
-  reads_else : (k : Lexeme) (t : TermTree) → Reads limit (andthen e (λ u. andthen (word (codes "else")) (λ l. mapped (term.if_else k.at t u) e))) (ElseR d k t) after_expr
-  reads_else k t = reads_between (codes "else") else_ (λ u. mapped (term.if_else k.at t u) e) (λ u. Mapped (term.if_else k.at t u) (ExprP (suc d))) after_expr (λ u. reads_term (term.if_else k.at t u)) (λ u. sample_term d (term.if_else k.at t u))
+  reads_else : (k : Lexeme) (t : TermTree) → Reads limit (andthen e (λ u. andthen (word (codes "else")) (λ l. map_reader (term.if_else k.at t u) e))) (ElseR d k t) after_expr
+  reads_else k t = reads_between (codes "else") else_ (λ u. map_reader (term.if_else k.at t u) e) (λ u. Mapped (term.if_else k.at t u) (ExprP (suc d))) after_expr (λ u. reads_term (term.if_else k.at t u)) (λ u. sample_term d (term.if_else k.at t u))
 
   reads_if : (k : Lexeme) → Reads limit (if_with e k.at) (IfR d k) after_expr
   unfolding if_with
@@ -125,32 +126,32 @@ module _ (limit d n : ℕ) (low : d + n ≡ limit) (e : Reader TermTree) (r : Re
       (λ c. sample_then (SeqPhrase (suc d)) _ (sample_seq (suc d) 0) (λ t. sample_result d k x t)))
       (λ x. sample_parameter d k x)
 
-  reads_cases : (k : Lexeme) (t : TermTree) → Reads limit (mapped (term.case_of k.at t) (arms_with e (case_arm_with e))) (CasesR d k t) never
+  reads_cases : (k : Lexeme) (t : TermTree) → Reads limit (map_reader (term.case_of k.at t) (arms_with e (case_arm_with e))) (CasesR d k t) never
   reads_cases k t =
       reads_mapped limit (term.case_of k.at t) (arms_with e (case_arm_with e)) (ArmsR d (CaseArmR d)) never
       (reads_arms limit d fits e r (case_arm_with e) (CaseArmR d) (reads_case_arm limit d fits e r) (sample_case_arm d) (case_arm_filled d))
 
-  reads_matches : (k : Lexeme) (t : TermTree) → Reads limit (mapped (term.match_with k.at t) (arms_with e (match_arm_with e))) (MatchesR d k t) never
+  reads_matches : (k : Lexeme) (t : TermTree) → Reads limit (map_reader (term.match_with k.at t) (arms_with e (match_arm_with e))) (MatchesR d k t) never
   reads_matches k t =
       reads_mapped limit (term.match_with k.at t) (arms_with e (match_arm_with e)) (ArmsR d (MatchArmR d)) never
       (reads_arms limit d fits e r (match_arm_with e) (MatchArmR d) (reads_match_arm limit d fits e r) (sample_match_arm d) (match_arm_filled d))
 
-  reads_case : (k : Lexeme) → Reads limit (case_with e k.at) (BegunR d Case k) never
-  unfolding case_with
+  reads_case : (k : Lexeme) → Reads limit (choice_with e by.Case k.at) (BegunR d Case k) never
+  unfolding choice_with
   reads_case k = reads_between (codes "of") of_ _ (λ t. CasesR d k t) never (λ t. reads_cases k t) (λ t. sample_cases d k t)
 
-  reads_match : (k : Lexeme) → Reads limit (match_with e k.at) (BegunR d Match k) never
-  unfolding match_with
+  reads_match : (k : Lexeme) → Reads limit (choice_with e by.Match k.at) (BegunR d Match k) never
+  unfolding choice_with
   reads_match k = reads_between (codes "with") with_ _ (λ t. MatchesR d k t) never (λ t. reads_matches k t) (λ t. sample_matches d k t)
 
   pub reads_begun : (s : ExprStart) (k : Lexeme) → Reads limit (expr_begun_with e n s k) (BegunR d s k) after_expr
   reads_begun Let k = reads_let k
   reads_begun If k = reads_if k
   reads_begun Lambda k = reads_lambda k
-  reads_begun Case k = reads_until limit (case_with e k.at) (BegunR d Case k) never after_expr (reads_case k) (λ ts st. refl)
-  reads_begun Match k = reads_until limit (match_with e k.at) (BegunR d Match k) never after_expr (reads_match k) (λ ts st. refl)
+  reads_begun Case k = reads_until limit (choice_with e by.Case k.at) (BegunR d Case k) never after_expr (reads_case k) (λ ts st. refl)
+  reads_begun Match k = reads_until limit (choice_with e by.Match k.at) (BegunR d Match k) never after_expr (reads_match k) (λ ts st. refl)
 
-  pub reads_behind_or : (at : ℕ) (t : TermTree) → Reads limit (on (spells (codes ";")) (mapped (term.seq at t) e) (give t)) (BehindR d at t) after_expr
+  pub reads_behind_or : (at : ℕ) (t : TermTree) → Reads limit (on (spells (codes ";")) (map_reader (term.seq at t) e) (give t)) (BehindR d at t) after_expr
   reads_behind_or at t =
       reads_on limit d fits (spells (codes ";")) _ _ _ _ after_expr (reads_term (term.seq at t)) (reads_until limit (give t) (Give t) never after_expr (reads_give limit t) (λ ts st. refl)) free
     where

@@ -8,7 +8,7 @@ use Rattle.fst_terms.specs.ModuleTree.{Maker, Declared}
 use Rattle.fst_terms.specs.Count.{types_count, term_count, terms_count, arms_count, makers_count, decl_count, module_count}
 use Rattle.fst_reading.specs.Lexeme.{Lexeme}
 use Rattle.fst_type_syntax.proofs.Laws.{type_few, seq_few, atom_few as type_atom_few, arrow_some, binders_few}
-use Rattle.fst_syntax.specs.Grammar.{AreNames, name, AreApplied, none, applied, IsExpr, let_in, split, if_else, lambda, case_of, match_with, one_or, seq, AreCases, last_case, further_case, AreMatches, last_match, further_match, IsOr, one_and, more_or, IsAnd, one_cmp, more_and, IsCmp, one_sum, compare, IsSum, one_prod, more_sum, IsProd, one_unary, more_prod, IsUnary, one_app, negate, IsApp, send, receive, select, new, fork, make, head, IsHead, one_plain, apply, AreAtoms, no_atoms, atom, IsAtom, constructor, plain, IsPlain, named, number, character, yes, no, unit, group, pair, AreTypes, type, AreMakers, last, further, IsDecl, family, alias, signature, over, equation, Lined, unlined, IsModule, decl}
+use Rattle.fst_syntax.specs.Grammar.{AreNames, name, AreApplied, none, applied, IsExpr, let_in, split, if_else, lambda, case_of, match_with, one_or, seq, AreCases, last_case, further_case, AreMatches, last_match, further_match, IsOr, one_and, more_or, IsAnd, one_cmp, more_and, IsCmp, one_sum, compare, IsSum, one_prod, more_sum, IsProd, one_unary, more_prod, IsUnary, one_app, negate, IsApp, send, receive, select, new, fork, make, head, IsHead, one_plain, apply, AreAtoms, no_atoms, atom, IsAtom, constructor, plain, IsPlain, named, number, character, yes, no, unit, group, pair, AreTypes, type, AreMakers, last, further, IsDecl, family, alias, signature, over, equation, Lined, lexemes_of, IsModule, decl}
 
 names_few : {ts : List Lexeme} {xs : List Binder} → AreNames ts xs → length xs ≤ length ts
 names_few none = omega arith
@@ -114,7 +114,7 @@ decl_few (signature x c ts t name_is colon d) = omega (arith, type_few d)
 decl_few (over x c f p vs ts all binders t name_is colon is b dot d parts) = omega (arith, binders_few b, type_few d, ap length parts, length-append vs (p ∷ ts))
 decl_few (equation x e xs ts all binders t name_is names equals d parts) = omega (arith, names_few names, expr_few d, ap length parts, length-append xs (e ∷ ts))
 
-unlined_count : (ts : List Lined) → length (unlined ts) ≡ length ts
+unlined_count : (ts : List Lined) → length (lexemes_of ts) ≡ length ts
 unlined_count ts = length-map ts (λ k. k.lexeme)
 
 -- a module has at most twice as many parts as tokens

@@ -5,11 +5,10 @@ use Rattle.fst_terms.specs.TermTree.{TermTree, arm}
 use Rattle.fst_terms.specs.ModelView.{arms_of}
 use Rattle.fst_reading.specs.Lexeme.{Lexeme}
 use Rattle.fst_reading.specs.Reading.{Reader, Syntax, bind, andthen, switch, on, when, shut}
-use Rattle.fst_syntax.specs.declared.heads.Arms.TheVariants as by
 use Rattle.fst_syntax.specs.declared.operators.Level.{Level}
 use Rattle.fst_syntax.specs.declared.operators.Level.TheVariants.{Or, And, Sum, Product}
-use Rattle.fst_syntax.specs.TermReading.{inside, next, expr_at, expr_with, then_with, chain, cmp_with, unary_with, app_with, head_with, plain_with, arms, case_with, match_with}
-use Rattle.fst_syntax.specs.Levels.{arm_parts, choice_with}
+use Rattle.fst_syntax.specs.TermReading.{inside, next, expr_at, expr_with, then_with, chain, cmp_with, unary_with, app_with, head_with, plain_with, arms}
+use Rattle.fst_syntax.specs.Levels.{arm_parts}
 use Rattle.fst_base.specs.Choice.{choose}
 
 -- how far an operand of a chain is from an application
@@ -43,11 +42,3 @@ expr_empty (suc n) = refl
 pub arms_parts : (bs : List SourceArm) → arms (map arm_parts bs) ≡ arms_of bs
 arms_parts [] = refl
 arms_parts (b ∷ bs) = ap (arm b.label b.binders.items b.body) (arms_parts bs)
-
-pub case_choice : (e : Reader TermTree) (at : ℕ) (ts : List Lexeme) → case_with e at ts ≡ choice_with by.Case e at ts
-unfolding case_with choice_with
-case_choice e at ts = refl
-
-pub match_choice : (e : Reader TermTree) (at : ℕ) (ts : List Lexeme) → match_with e at ts ≡ choice_with by.Match e at ts
-unfolding match_with choice_with
-match_choice e at ts = refl

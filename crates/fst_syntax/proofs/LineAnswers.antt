@@ -13,7 +13,7 @@ use Rattle.fst_reading.specs.Gives.{Fails, fault_view}
 use Rattle.fst_reading.specs.Reading.{HaltOf, Halt, Syntax, Deep}
 use Rattle.fst_reading.proofs.Phrases.{left}
 use Rattle.fst_base.specs.Choice.{choose}
-use Rattle.fst_syntax.specs.Grammar.{Lined, unlined}
+use Rattle.fst_syntax.specs.Grammar.{Lined, lexemes_of}
 use Rattle.fst_syntax.specs.DeclReading.{decl_whole}
 use Rattle.fst_syntax.specs.ModuleReading.{in_line, next_lines, last_of, in_front, first_decl}
 use Rattle.fst_syntax.specs.Views.{lines_of, line_length, counted, line_read, line_fault, GivesLine}
@@ -22,36 +22,36 @@ use Rattle.fst_syntax.proofs.Lines.{unlined_append, cut, last_is}
 use Rattle.fst_base.proofs.Choices.{choose_true, choose_false}
 
 -- the lexemes of a line and those behind it, and how many the line has
-first_lexemes : (b : Bool) (k : Lined) (us : List Lined) (n : ℕ) (ls : List Lexeme) → unlined us ≡ take n ls → unlined (choose b [] (k ∷ us)) ≡ take (choose b 0 (suc n)) (k.lexeme ∷ ls)
+first_lexemes : (b : Bool) (k : Lined) (us : List Lined) (n : ℕ) (ls : List Lexeme) → lexemes_of us ≡ take n ls → lexemes_of (choose b [] (k ∷ us)) ≡ take (choose b 0 (suc n)) (k.lexeme ∷ ls)
 unfolding choose
 first_lexemes true k us n ls e = refl
 first_lexemes false k us n ls e = ap (λ (w : List Lexeme). k.lexeme ∷ w) e
 
-line_is : (ts : List Token) (ls : List Lexeme) → length ls ≤ length ts → unlined (in_line (lines_of ts ls)) ≡ take (line_length (take (length ls) ts)) ls
+line_is : (ts : List Token) (ls : List Lexeme) → length ls ≤ length ts → lexemes_of (in_line (lines_of ts ls)) ≡ take (line_length (take (length ls) ts)) ls
 unfolding in_line line_length
 line_is [] [] le = refl
 line_is (t ∷ ts) [] le = refl
 line_is [] (l ∷ ls) le = absurd (omega (arith, le))
 line_is (t ∷ ts) (l ∷ ls) le = first_lexemes t.first_column (record { first = t.first_column; lexeme = l }) (in_line (lines_of ts ls)) (line_length (take (length ls) ts)) ls (line_is ts ls (omega (arith, le)))
 
-behind_first : (b : Bool) (k : Lined) (us vs : List Lined) (n : ℕ) (ls : List Lexeme) → unlined us ≡ ls → unlined vs ≡ drop n ls → unlined (choose b (k ∷ us) vs) ≡ drop (choose b 0 (suc n)) (k.lexeme ∷ ls)
+behind_first : (b : Bool) (k : Lined) (us vs : List Lined) (n : ℕ) (ls : List Lexeme) → lexemes_of us ≡ ls → lexemes_of vs ≡ drop n ls → lexemes_of (choose b (k ∷ us) vs) ≡ drop (choose b 0 (suc n)) (k.lexeme ∷ ls)
 unfolding choose
 behind_first true k us vs n ls all e = ap (λ (w : List Lexeme). k.lexeme ∷ w) all
 behind_first false k us vs n ls all e = e
 
-lexemes_of : (ts : List Token) (ls : List Lexeme) → length ls ≤ length ts → unlined (lines_of ts ls) ≡ ls
-lexemes_of [] [] le = refl
-lexemes_of (t ∷ ts) [] le = refl
-lexemes_of [] (l ∷ ls) le = absurd (omega (arith, le))
-lexemes_of (t ∷ ts) (l ∷ ls) le = ap (λ (w : List Lexeme). l ∷ w) (lexemes_of ts ls (omega (arith, le)))
+lexemes_given : (ts : List Token) (ls : List Lexeme) → length ls ≤ length ts → lexemes_of (lines_of ts ls) ≡ ls
+lexemes_given [] [] le = refl
+lexemes_given (t ∷ ts) [] le = refl
+lexemes_given [] (l ∷ ls) le = absurd (omega (arith, le))
+lexemes_given (t ∷ ts) (l ∷ ls) le = ap (λ (w : List Lexeme). l ∷ w) (lexemes_given ts ls (omega (arith, le)))
 
-more_is : (ts : List Token) (ls : List Lexeme) → length ls ≤ length ts → unlined (next_lines (lines_of ts ls)) ≡ drop (line_length (take (length ls) ts)) ls
+more_is : (ts : List Token) (ls : List Lexeme) → length ls ≤ length ts → lexemes_of (next_lines (lines_of ts ls)) ≡ drop (line_length (take (length ls) ts)) ls
 unfolding next_lines line_length
 more_is [] [] le = refl
 more_is (t ∷ ts) [] le = refl
 more_is [] (l ∷ ls) le = absurd (omega (arith, le))
 more_is (t ∷ ts) (l ∷ ls) le =
-    behind_first t.first_column (record { first = t.first_column; lexeme = l }) (lines_of ts ls) (next_lines (lines_of ts ls)) (line_length (take (length ls) ts)) ls (lexemes_of ts ls (omega (arith, le))) (more_is ts ls (omega (arith, le)))
+    behind_first t.first_column (record { first = t.first_column; lexeme = l }) (lines_of ts ls) (next_lines (lines_of ts ls)) (line_length (take (length ls) ts)) ls (lexemes_given ts ls (omega (arith, le))) (more_is ts ls (omega (arith, le)))
 
 count_first : (b : Bool) (k : Lined) (us : List Lined) (n : ℕ) → length us ≡ n → length (choose b [] (k ∷ us)) ≡ choose b 0 (suc n)
 unfolding choose
@@ -109,7 +109,7 @@ module _ (t : Token) (ts : List Token) (l : Lexeme) (ls : List Lexeme) (end n : 
   count : suc (length (in_line tail)) ≡ n + 1
   count = omega (arith, n_is, count_is ts ls within)
 
-  lexemes_are : l ∷ unlined (in_line tail) ≡ l ∷ take n ls
+  lexemes_are : l ∷ lexemes_of (in_line tail) ≡ l ∷ take n ls
   lexemes_are = ap (λ (w : List Lexeme). l ∷ w) (line_is ts ls within ∙ ap (λ (m : ℕ). take m ls) (sym n_is))
 
   read_is : line_read most_nested (head ∷ tail) ≡ counted (n + 1) (in_front (head ∷ in_line tail) (next_lines tail) (decl_whole most_nested (l ∷ take n ls)))
@@ -120,13 +120,13 @@ module _ (t : Token) (ts : List Token) (l : Lexeme) (ls : List Lexeme) (end n : 
   decl_line d e = read_is ∙ ap (λ z. counted (n + 1) (in_front (head ∷ in_line tail) (next_lines tail) z)) e
 
   -- where a declaration stopped in its line
-  left_there : (g : Halt) → decl_whole most_nested (l ∷ take n ls) ≡ Err g → place end (unlined (last_of (length (left g)) (head ∷ in_line tail) ++ next_lines tail)) ≡ place (place end (drop n ls)) (left g)
+  left_there : (g : Halt) → decl_whole most_nested (l ∷ take n ls) ≡ Err g → place end (lexemes_of (last_of (length (left g)) (head ∷ in_line tail) ++ next_lines tail)) ≡ place (place end (drop n ls)) (left g)
   left_there g e =
       let q = (reads_decl_whole most_nested).stopped (l ∷ take n ls) g e in
       let c = cut (head ∷ in_line tail) q.tokens (left g) (lexemes_are ∙ q.parts) in
       let last : last_of (length (left g)) (head ∷ in_line tail) ≡ c.back = ap (last_of (length (left g))) c.parts ∙ last_is c.front c.back (left g) c.back_is in
       ap (place end) (unlined_append (last_of (length (left g)) (head ∷ in_line tail)) (next_lines tail)) ∙
-      ap (place end) (λ i. (ap unlined last ∙ c.back_is) i ++ (more_is ts ls within ∙ ap (λ (m : ℕ). drop m ls) (sym n_is)) i) ∙ place_behind end (left g) (drop n ls)
+      ap (place end) (λ i. (ap lexemes_of last ∙ c.back_is) i ++ (more_is ts ls within ∙ ap (λ (m : ℕ). drop m ls) (sym n_is)) i) ∙ place_behind end (left g) (drop n ls)
 
   stopped_line : (s : Stop) → Fails s (decl_whole most_nested (l ∷ take n ls)) → GivesLine (Err (fault_view (place end (drop n ls)) s)) end (line_read most_nested (head ∷ tail))
   stopped_line stop.Memory e = tt

@@ -6,7 +6,7 @@ use Rattle.fst_reading.specs.Lexeme.{Lexeme}
 use Rattle.fst_reading.specs.Reading.{HaltOf, Syntax}
 use Rattle.fst_base.specs.Choice.{choose}
 use Rattle.fst_syntax.specs.Grammar.{Lined}
-use Rattle.fst_syntax.specs.ModuleReading.{in_line, next_lines, followed, first_decl, module_within, module_at}
+use Rattle.fst_syntax.specs.ModuleReading.{in_line, next_lines, cons_decl, first_decl, module_within, module_at}
 use Rattle.fst_syntax.specs.Views.{lines_of, counted, line_read}
 use Rattle.fst_syntax.proofs.Lines.{lines_are}
 use Rattle.fst_syntax.proofs.ModuleFound.{ok_same, err_same}
@@ -21,7 +21,7 @@ pub with_none : (r : Result (List Declared × List Lined) (HaltOf Lined)) → wi
 with_none (Ok x) = refl
 with_none (Err h) = refl
 
-with_one : (front : List Declared) (d : Declared) (r : Result (List Declared × List Lined) (HaltOf Lined)) → with_decls front (followed (Ok d) r) ≡ with_decls (front ++ d ∷ []) r
+with_one : (front : List Declared) (d : Declared) (r : Result (List Declared × List Lined) (HaltOf Lined)) → with_decls front (cons_decl (Ok d) r) ≡ with_decls (front ++ d ∷ []) r
 with_one front d (Ok x) = ap (λ (ds : List Declared). Ok (ds, x.1)) (sym (append_assoc front (d ∷ []) x.0))
 with_one front d (Err h) = refl
 
@@ -37,7 +37,7 @@ enough limit (suc n) zero (k ∷ ts) a b = absurd (omega (arith, b))
 enough limit (suc n) (suc m) (k ∷ ts) a b =
     let few : length (next_lines ts) ≤ length ts = omega (arith, ap length (lines_are ts), length-append (in_line ts) (next_lines ts)) in
     let same = enough limit n m (next_lines ts) (omega (arith, a, few)) (omega (arith, b, few)) in
-    ap (λ z. choose k.first (followed (first_decl limit k ts) z) (Err (Syntax (k ∷ ts)))) same
+    ap (λ z. choose k.first (cons_decl (first_decl limit k ts) z) (Err (Syntax (k ∷ ts)))) same
 
 -- what a declaration with its tokens says
 counted_ok : (n m : ℕ) (r : Result Declared (HaltOf Lined)) (d : Declared) → counted n r ≡ Ok (d, m) → (r ≡ Ok d) × (n ≡ m)
@@ -58,19 +58,19 @@ next_is : (ts : List Lined) → next_lines ts ≡ drop (length (in_line ts)) ts
 next_is ts = sym (drop_length (in_line ts) (next_lines ts)) ∙ ap (drop (length (in_line ts))) (sym (lines_are ts))
 
 -- a declaration that was read, and the lines behind it
-pub one_line : (limit : ℕ) (ts : List Lined) (d : Declared) (n : ℕ) → line_read limit ts ≡ Ok (d, n) → (module_at limit ts ≡ followed (Ok d) (module_at limit (drop n ts))) × (n ≤ length ts) × (0 < n)
+pub one_line : (limit : ℕ) (ts : List Lined) (d : Declared) (n : ℕ) → line_read limit ts ≡ Ok (d, n) → (module_at limit ts ≡ cons_decl (Ok d) (module_at limit (drop n ts))) × (n ≤ length ts) × (0 < n)
 unfolding line_read module_at module_within
 one_line limit [] d n e = absurd cc
 one_line limit (k ∷ ts) d n e = by_first k.first refl e
   where
     by_first : (b : Bool) → k.first ≡ b → choose b (counted (suc (length (in_line ts))) (first_decl limit k ts)) (Err (Syntax (k ∷ ts))) ≡ Ok (d, n) →
-        (choose k.first (followed (first_decl limit k ts) (module_within limit (length ts) (next_lines ts))) (Err (Syntax (k ∷ ts))) ≡ followed (Ok d) (module_at limit (drop n (k ∷ ts)))) × (n ≤ suc (length ts)) × (0 < n)
+        (choose k.first (cons_decl (first_decl limit k ts) (module_within limit (length ts) (next_lines ts))) (Err (Syntax (k ∷ ts))) ≡ cons_decl (Ok d) (module_at limit (drop n (k ∷ ts)))) × (n ≤ suc (length ts)) × (0 < n)
     by_first false f g = absurd (let none = sym (choose_false _ _ _ refl) ∙ g in cc)
     by_first true f g =
         let c = counted_ok (suc (length (in_line ts))) n (first_decl limit k ts) d (sym (choose_true _ _ _ refl) ∙ g) in
         let behind : drop n (k ∷ ts) ≡ next_lines ts = ap (λ (m : ℕ). drop m (k ∷ ts)) (sym c.1) ∙ sym (next_is ts) in
         let few : length (next_lines ts) ≤ length ts = omega (arith, ap length (lines_are ts), length-append (in_line ts) (next_lines ts)) in (
-          choose_true _ _ _ f ∙ ap (λ z. followed z (module_within limit (length ts) (next_lines ts))) c.0 ∙ ap (followed (Ok d)) (enough limit (length ts) (length (next_lines ts)) (next_lines ts) few (omega arith) ∙ ap (module_at limit) (sym behind)),
+          choose_true _ _ _ f ∙ ap (λ z. cons_decl z (module_within limit (length ts) (next_lines ts))) c.0 ∙ ap (cons_decl (Ok d)) (enough limit (length ts) (length (next_lines ts)) (next_lines ts) few (omega arith) ∙ ap (module_at limit) (sym behind)),
           omega (arith, c.1, ap length (lines_are ts), length-append (in_line ts) (next_lines ts)),
           omega (arith, c.1),
         )
@@ -82,11 +82,11 @@ stopped_line limit [] h lt e = absurd (omega (arith, lt))
 stopped_line limit (k ∷ ts) h lt e = by_first k.first refl e
   where
     by_first : (b : Bool) → k.first ≡ b → choose b (counted (suc (length (in_line ts))) (first_decl limit k ts)) (Err (Syntax (k ∷ ts))) ≡ Err h →
-        choose k.first (followed (first_decl limit k ts) (module_within limit (length ts) (next_lines ts))) (Err (Syntax (k ∷ ts))) ≡ Err h
+        choose k.first (cons_decl (first_decl limit k ts) (module_within limit (length ts) (next_lines ts))) (Err (Syntax (k ∷ ts))) ≡ Err h
     by_first false f g = choose_false _ _ _ f ∙ ap Err (err_same (Syntax (k ∷ ts)) h (sym (choose_false _ _ _ refl) ∙ g))
     by_first true f g =
         let c = counted_err (suc (length (in_line ts))) (first_decl limit k ts) h (sym (choose_true _ _ _ refl) ∙ g) in
-        choose_true _ _ _ f ∙ ap (λ z. followed z (module_within limit (length ts) (next_lines ts))) c
+        choose_true _ _ _ f ∙ ap (λ z. cons_decl z (module_within limit (length ts) (next_lines ts))) c
 
 -- in a loop: one declaration further
 pub goes_on : (limit : ℕ) (front : List Declared) (ts : List Lined) (d : Declared) (n : ℕ) (total : Result (List Declared × List Lined) (HaltOf Lined)) → line_read limit ts ≡ Ok (d, n) →

@@ -4,7 +4,7 @@ use Rattle.fst_terms.specs.ModuleTree.{Declared}
 use Rattle.fst_reading.specs.Lexeme.{Lexeme}
 use Rattle.fst_base.specs.Choice.{choose}
 use Rattle.fst_base.proofs.Choices.{choose_true, choose_false}
-use Rattle.fst_syntax.specs.Grammar.{Lined, unlined, AreInside, IsModule, none, decl}
+use Rattle.fst_syntax.specs.Grammar.{Lined, lexemes_of, AreInside, IsModule, none, decl}
 use Rattle.fst_syntax.specs.ModuleReading.{in_line, next_lines, last_of}
 
 -- the first token, if any, begins a line
@@ -58,7 +58,7 @@ module_begins _ _ none = tt
 module_begins _ _ (decl k ts us all d ds first inside is m parts) = subst BeginsLine (sym parts) first
 
 -- the tokens without their lines, of two lists
-pub unlined_append : (ts us : List Lined) → unlined (ts ++ us) ≡ unlined ts ++ unlined us
+pub unlined_append : (ts us : List Lined) → lexemes_of (ts ++ us) ≡ lexemes_of ts ++ lexemes_of us
 unlined_append [] us = refl
 unlined_append (k ∷ ts) us = ap (λ (w : List Lexeme). k.lexeme ∷ w) (unlined_append ts us)
 
@@ -67,19 +67,19 @@ pub record Cut (ts : List Lined) (a b : List Lexeme) : Type 0 where
   pub front : List Lined
   pub back : List Lined
   pub parts : ts ≡ front ++ back
-  pub front_is : unlined front ≡ a
-  pub back_is : unlined back ≡ b
+  pub front_is : lexemes_of front ≡ a
+  pub back_is : lexemes_of back ≡ b
 
-pub cut : (ts : List Lined) (a b : List Lexeme) → unlined ts ≡ a ++ b → Cut ts a b
+pub cut : (ts : List Lined) (a b : List Lexeme) → lexemes_of ts ≡ a ++ b → Cut ts a b
 cut ts [] b e = record { front = []; back = ts; parts = refl; front_is = refl; back_is = e }
 cut [] (k ∷ a) b e = absurd (cc e)
 cut (c ∷ ts) (k ∷ a) b e =
     let head : c.lexeme ≡ k = cc in
-    let tail : unlined ts ≡ a ++ b = cc in
+    let tail : lexemes_of ts ≡ a ++ b = cc in
     let o = cut ts a b tail in
     record { front = c ∷ o.front; back = o.back; parts = ap (λ (w : List Lined). c ∷ w) o.parts; front_is = let same = o.front_is in cc; back_is = o.back_is }
 
-pub unlined_length : (ts : List Lined) → length (unlined ts) ≡ length ts
+pub unlined_length : (ts : List Lined) → length (lexemes_of ts) ≡ length ts
 unlined_length [] = refl
 unlined_length (k ∷ ts) = ap suc (unlined_length ts)
 
@@ -88,7 +88,7 @@ drop_front [] b = refl
 drop_front (k ∷ a) b = drop_front a b
 
 -- the last tokens of two lists are those of the second
-pub last_is : (a b : List Lined) (s : List Lexeme) → unlined b ≡ s → last_of (length s) (a ++ b) ≡ b
+pub last_is : (a b : List Lined) (s : List Lexeme) → lexemes_of b ≡ s → last_of (length s) (a ++ b) ≡ b
 last_is a b s e =
     let n : length (a ++ b) - length s ≡ length a = omega (arith, length-append a b, ap length e, unlined_length b) in
     ap (λ (n : ℕ). drop n (a ++ b)) n ∙ drop_front a b
@@ -101,7 +101,7 @@ abbrev pub all_inside : List Lexeme → List Lined
 all_inside [] = []
 all_inside (k ∷ ts) = as_inside k ∷ all_inside ts
 
-pub unlined_inside : (ts : List Lexeme) → unlined (all_inside ts) ≡ ts
+pub unlined_inside : (ts : List Lexeme) → lexemes_of (all_inside ts) ≡ ts
 unlined_inside [] = refl
 unlined_inside (k ∷ ts) = ap (λ (w : List Lexeme). k ∷ w) (unlined_inside ts)
 

@@ -9,7 +9,7 @@ use Rattle.fst_terms.specs.TermTree.{TermTree}
 use Rattle.fst_reading.specs.Lexeme.{Lexeme, start}
 use Rattle.fst_reading.specs.Faults.{Phrase}
 use Rattle.fst_reading.proofs.Steps.{start_more, SomePhrase}
-use Rattle.fst_reading.specs.Reading.{give, mapped, begins}
+use Rattle.fst_reading.specs.Reading.{give, map_reader, begins}
 use Rattle.fst_reading.proofs.Phrases as phrase
 use Rattle.fst_reading.proofs.Phrases.{Reads, never, Give, nothing, Then, Mapped, made, first, Either, one, other, Located}
 use Rattle.fst_reading.proofs.Tokens.{fixed, fixed_is, some_is, spelled}
@@ -133,7 +133,7 @@ module _ (limit : ℕ) (es : Inside) (d : ℕ) (good : Good limit es) (fits : Fi
   reads_compare n t =
       reads_when limit compares _ (give t) (Step comparison SumP n d t) (Give t) after_cmp
       (reads_until limit _ _ after_sum after_cmp
-      (reads_switch limit d low comparison (λ o k. mapped (term.operate n o t) (sum_with es)) (λ o k. Mapped (term.operate n o t) (SumP d)) after_sum
+      (reads_switch limit d low comparison (λ o k. map_reader (term.operate n o t) (sum_with es)) (λ o k. Mapped (term.operate n o t) (SumP d)) after_sum
       (λ o k. reads_mapped limit (term.operate n o t) (sum_with es) (SumP d) after_sum (reads_sum limit es d good fits))
       (λ m. record { token = fixed (codes "<") m; meaning = op.Less; place_is = refl; is = is_comparison (fixed (codes "<") m) op.Less (less (fixed (codes "<") m) (fixed_is (codes "<") m)); rest = sample_mapped (term.operate n op.Less t) (SumP d) (sample_sum d 0).0 }))
       (λ ts st. (or_parts _ _ st).0))

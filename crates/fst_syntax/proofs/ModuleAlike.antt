@@ -8,9 +8,9 @@ use Rattle.fst_reading.specs.Reading.{HaltOf, Halt, Syntax, Deep}
 use Rattle.fst_reading.proofs.Phrases.{left, left_by, leaving, Outcome, whole, deep, SameUpTo, ReadsJust}
 use Rattle.fst_base.proofs.Choices.{choose_false}
 use Rattle.fst_base.proofs.Lists.{one_cut}
-use Rattle.fst_syntax.specs.Grammar.{Lined, unlined, AreInside}
+use Rattle.fst_syntax.specs.Grammar.{Lined, lexemes_of, AreInside}
 use Rattle.fst_syntax.specs.DeclReading.{decl_whole}
-use Rattle.fst_syntax.specs.ModuleReading.{in_line, next_lines, last_of, in_front, followed, module_within, module_at}
+use Rattle.fst_syntax.specs.ModuleReading.{in_line, next_lines, last_of, in_front, cons_decl, module_within, module_at}
 use Rattle.fst_syntax.specs.Derives.{ModulePhrase}
 use Rattle.fst_syntax.proofs.DeclReads.{reads_decl_whole}
 use Rattle.fst_syntax.proofs.Lines.{BeginsLine, lines_are, inside_line, begins_next, unlined_append, cut, last_is, inside_append}
@@ -72,10 +72,10 @@ module _ (k : Lined) (t t' : List Lined) where
   stops_behind : (a b : Result (List Declared × List Lined) (HaltOf Lined)) → length (left_by a) ≤ length t → SameUpTo k t t' a b
   stops_behind a b le u is = absurd (omega (arith, le, ap length is, length-append u (k ∷ t)))
 
-  followed_alike : (d : Declared) (a b : Result (List Declared × List Lined) (HaltOf Lined)) → SameUpTo k t t' a b → SameUpTo k t t' (followed (Ok d) a) (followed (Ok d) b)
-  followed_alike d (Ok x) b same u is = ap (followed (Ok d)) (same u is)
-  followed_alike d (Err (Syntax s)) b same u is = ap (followed (Ok d)) (same u is)
-  followed_alike d (Err (Deep s)) b same u is = ap (followed (Ok d)) (same u is)
+  followed_alike : (d : Declared) (a b : Result (List Declared × List Lined) (HaltOf Lined)) → SameUpTo k t t' a b → SameUpTo k t t' (cons_decl (Ok d) a) (cons_decl (Ok d) b)
+  followed_alike d (Ok x) b same u is = ap (cons_decl (Ok d)) (same u is)
+  followed_alike d (Err (Syntax s)) b same u is = ap (cons_decl (Ok d)) (same u is)
+  followed_alike d (Err (Deep s)) b same u is = ap (cons_decl (Ok d)) (same u is)
 
 module _ (limit : ℕ) where
   abbrev Alike : ℕ → ℕ → Lined → List Lined → List Lined → List Lined → Type 0
@@ -94,27 +94,27 @@ module _ (limit : ℕ) where
   line_alike : (n n' : ℕ) (c k : Lined) (ts us t t' : List Lined) → c.first ≡ true → AreInside ts → BeginsLine (us ++ k ∷ t) → BeginsLine (us ++ k ∷ t') → Alike n n' k t t' us → Alike (suc n) (suc n') k t t' (c ∷ ts ++ us)
   line_alike n n' c k ts us t t' first inside begins begins' same =
       subst (λ z. SameUpTo k t t' z (module_within limit (suc n') ((c ∷ ts ++ us) ++ k ∷ t'))) (sym (step n t begins))
-      (subst (λ z. SameUpTo k t t' (followed (in_front (c ∷ ts) (us ++ k ∷ t) read) (module_within limit n (us ++ k ∷ t))) z) (sym (step n' t' begins')) (of_read read))
+      (subst (λ z. SameUpTo k t t' (cons_decl (in_front (c ∷ ts) (us ++ k ∷ t) read) (module_within limit n (us ++ k ∷ t))) z) (sym (step n' t' begins')) (of_read read))
     where
       read : Result (Declared × List Lexeme) Halt
-      read = decl_whole limit (c.lexeme ∷ unlined ts)
+      read = decl_whole limit (c.lexeme ∷ lexemes_of ts)
 
-      step : (m : ℕ) (v : List Lined) → BeginsLine (us ++ k ∷ v) → module_within limit (suc m) ((c ∷ ts ++ us) ++ k ∷ v) ≡ followed (in_front (c ∷ ts) (us ++ k ∷ v) read) (module_within limit m (us ++ k ∷ v))
+      step : (m : ℕ) (v : List Lined) → BeginsLine (us ++ k ∷ v) → module_within limit (suc m) ((c ∷ ts ++ us) ++ k ∷ v) ≡ cons_decl (in_front (c ∷ ts) (us ++ k ∷ v) read) (module_within limit m (us ++ k ∷ v))
       step m v b = ap (λ (w : List Lined). module_within limit (suc m) (c ∷ w)) (append_assoc ts us (k ∷ v)) ∙ by_lines limit m c ts (us ++ k ∷ v) first inside b
 
-      of_read : (r : Result (Declared × List Lexeme) Halt) → SameUpTo k t t' (followed (in_front (c ∷ ts) (us ++ k ∷ t) r) (module_within limit n (us ++ k ∷ t))) (followed (in_front (c ∷ ts) (us ++ k ∷ t') r) (module_within limit n' (us ++ k ∷ t')))
+      of_read : (r : Result (Declared × List Lexeme) Halt) → SameUpTo k t t' (cons_decl (in_front (c ∷ ts) (us ++ k ∷ t) r) (module_within limit n (us ++ k ∷ t))) (cons_decl (in_front (c ∷ ts) (us ++ k ∷ t') r) (module_within limit n' (us ++ k ∷ t')))
       of_read (Ok x) = followed_alike k t t' x.0 _ _ same
       of_read (Err g) =
           let s = last_of (length (left g)) (c ∷ ts) in
-          let stopped : (m : ℕ) (v : List Lined) → followed (in_front (c ∷ ts) (us ++ k ∷ v) (Err g)) (module_within limit m (us ++ k ∷ v)) ≡ stop (put g ((s ++ us) ++ k ∷ v)) =
-          λ m v. ap (λ z. followed z (module_within limit m (us ++ k ∷ v))) (in_front_put (c ∷ ts) (us ++ k ∷ v) g) ∙ ap (λ (w : List Lined). stop (put g w)) (sym (append_assoc s us (k ∷ v))) in
+          let stopped : (m : ℕ) (v : List Lined) → cons_decl (in_front (c ∷ ts) (us ++ k ∷ v) (Err g)) (module_within limit m (us ++ k ∷ v)) ≡ stop (put g ((s ++ us) ++ k ∷ v)) =
+          λ m v. ap (λ z. cons_decl z (module_within limit m (us ++ k ∷ v))) (in_front_put (c ∷ ts) (us ++ k ∷ v) g) ∙ ap (λ (w : List Lined). stop (put g w)) (sym (append_assoc s us (k ∷ v))) in
           stops_alike k t t' _ _ g (s ++ us) (stopped n t) (stopped n' t')
 
   -- what is left behind a declaration is no more than the lines behind it
-  left_behind : (n : ℕ) (d : Declared) (ts : List Lined) → length ts ≤ n → length (left_by (followed (Ok d) (module_within limit n ts))) ≤ length ts
+  left_behind : (n : ℕ) (d : Declared) (ts : List Lined) → length ts ≤ n → length (left_by (cons_decl (Ok d) (module_within limit n ts))) ≤ length ts
   left_behind n d ts le = of_step (module_within limit n ts) refl
     where
-      of_step : (r : Result (List Declared × List Lined) (HaltOf Lined)) → module_within limit n ts ≡ r → length (left_by (followed (Ok d) r)) ≤ length ts
+      of_step : (r : Result (List Declared × List Lined) (HaltOf Lined)) → module_within limit n ts ≡ r → length (left_by (cons_decl (Ok d) r)) ≤ length ts
       of_step (Ok x) e = let f = within_found limit n ts x.0 x.1 e in omega (arith, ap length f.0)
       of_step (Err h) e = let q = within_stopped limit n ts h le e in omega (arith, ap length q.parts, length-append q.tokens (left h))
 
@@ -122,48 +122,48 @@ module _ (limit : ℕ) where
   whole_line : (pre : List Lined) (k : Lined) (t : List Lined) → pre ++ k ∷ t ≡ (pre ++ k ∷ in_line t) ++ next_lines t
   whole_line pre k t = ap (λ (w : List Lined). pre ++ k ∷ w) (lines_are t) ∙ sym (append_assoc pre (k ∷ in_line t) (next_lines t))
 
-  line_step : (n : ℕ) (line more : List Lined) → 0 < length line → IsLine line → BeginsLine more → module_within limit (suc n) (line ++ more) ≡ followed (in_front line more (decl_whole limit (unlined line))) (module_within limit n more)
+  line_step : (n : ℕ) (line more : List Lined) → 0 < length line → IsLine line → BeginsLine more → module_within limit (suc n) (line ++ more) ≡ cons_decl (in_front line more (decl_whole limit (lexemes_of line))) (module_within limit n more)
   line_step n [] more lt l b = absurd (omega (arith, lt))
   line_step n (c ∷ ts) more lt l b = by_lines limit n c ts more l.0 l.1 b
 
   -- the token stands within the line
   within_alike : (n n' : ℕ) (k : Lined) (pre t t' : List Lined) → IsLine (pre ++ k ∷ in_line t) → IsLine (pre ++ k ∷ in_line t') → length t ≤ n → Alike (suc n) (suc n') k t t' pre
   within_alike n n' k pre t t' l l' le =
-      subst (λ z. SameUpTo k t t' z (module_within limit (suc n') (pre ++ k ∷ t'))) (sym (step n t l)) (of_read (decl_whole limit (unlined (pre ++ k ∷ in_line t))) refl)
+      subst (λ z. SameUpTo k t t' z (module_within limit (suc n') (pre ++ k ∷ t'))) (sym (step n t l)) (of_read (decl_whole limit (lexemes_of (pre ++ k ∷ in_line t))) refl)
     where
-      step : (m : ℕ) (v : List Lined) → IsLine (pre ++ k ∷ in_line v) → module_within limit (suc m) (pre ++ k ∷ v) ≡ followed (in_front (pre ++ k ∷ in_line v) (next_lines v) (decl_whole limit (unlined (pre ++ k ∷ in_line v)))) (module_within limit m (next_lines v))
+      step : (m : ℕ) (v : List Lined) → IsLine (pre ++ k ∷ in_line v) → module_within limit (suc m) (pre ++ k ∷ v) ≡ cons_decl (in_front (pre ++ k ∷ in_line v) (next_lines v) (decl_whole limit (lexemes_of (pre ++ k ∷ in_line v)))) (module_within limit m (next_lines v))
       step m v line = ap (module_within limit (suc m)) (whole_line pre k v) ∙ line_step m (pre ++ k ∷ in_line v) (next_lines v) (omega (arith, length-append pre (k ∷ in_line v))) line (begins_next v)
 
       few : length (next_lines t) ≤ length t
       few = omega (arith, ap length (lines_are t), length-append (in_line t) (next_lines t))
 
-      of_stop : (g : Halt) → decl_whole limit (unlined (pre ++ k ∷ in_line t)) ≡ Err g → SameUpTo k t t' (followed (in_front (pre ++ k ∷ in_line t) (next_lines t) (Err g)) (module_within limit n (next_lines t))) (module_within limit (suc n') (pre ++ k ∷ t'))
+      of_stop : (g : Halt) → decl_whole limit (lexemes_of (pre ++ k ∷ in_line t)) ≡ Err g → SameUpTo k t t' (cons_decl (in_front (pre ++ k ∷ in_line t) (next_lines t) (Err g)) (module_within limit n (next_lines t))) (module_within limit (suc n') (pre ++ k ∷ t'))
       of_stop g e u is =
           let line = pre ++ k ∷ in_line t in
           let r = reads_decl_whole limit in
-          let q = r.stopped (unlined line) g e in
+          let q = r.stopped (lexemes_of line) g e in
           let c = cut line q.tokens (left g) q.parts in
           let last : last_of (length (left g)) line ≡ c.back = ap (last_of (length (left g))) c.parts ∙ last_is c.front c.back (left g) c.back_is in
-          let here : followed (in_front line (next_lines t) (Err g)) (module_within limit n (next_lines t)) ≡ stop (put g (c.back ++ next_lines t)) =
-          ap (λ z. followed z (module_within limit n (next_lines t))) (in_front_put line (next_lines t) g) ∙ ap (λ (w : List Lined). stop (put g (w ++ next_lines t))) last in
+          let here : cons_decl (in_front line (next_lines t) (Err g)) (module_within limit n (next_lines t)) ≡ stop (put g (c.back ++ next_lines t)) =
+          ap (λ z. cons_decl z (module_within limit n (next_lines t))) (in_front_put line (next_lines t) g) ∙ ap (λ (w : List Lined). stop (put g (w ++ next_lines t))) last in
           let whole : c.back ++ next_lines t ≡ (u ++ k ∷ in_line t) ++ next_lines t = sym (ap left_by here ∙ left_put g (c.back ++ next_lines t)) ∙ is ∙ whole_line u k t in
           let back : c.back ≡ u ++ k ∷ in_line t = same_front c.back (u ++ k ∷ in_line t) (next_lines t) whole in
           let front : pre ≡ c.front ++ u = same_front pre (c.front ++ u) (k ∷ in_line t) (c.parts ∙ ap (λ (w : List Lined). c.front ++ w) back ∙ sym (append_assoc c.front u (k ∷ in_line t))) in
-          let left_is : left_by (decl_whole limit (unlined pre ++ k.lexeme ∷ unlined (in_line t))) ≡ unlined u ++ k.lexeme ∷ unlined (in_line t) =
-          ap (λ z. left_by (decl_whole limit z)) (sym (unlined_append pre (k ∷ in_line t))) ∙ ap left_by e ∙ sym c.back_is ∙ ap unlined back ∙ unlined_append u (k ∷ in_line t) in
-          let again = r.alike k.lexeme (unlined (in_line t)) (unlined (in_line t')) (unlined pre) (unlined u) left_is in
-          let s = unlined u ++ k.lexeme ∷ unlined (in_line t') in
-          let read : decl_whole limit (unlined (pre ++ k ∷ in_line t')) ≡ decl_stop (keep g s) =
+          let left_is : left_by (decl_whole limit (lexemes_of pre ++ k.lexeme ∷ lexemes_of (in_line t))) ≡ lexemes_of u ++ k.lexeme ∷ lexemes_of (in_line t) =
+          ap (λ z. left_by (decl_whole limit z)) (sym (unlined_append pre (k ∷ in_line t))) ∙ ap left_by e ∙ sym c.back_is ∙ ap lexemes_of back ∙ unlined_append u (k ∷ in_line t) in
+          let again = r.alike k.lexeme (lexemes_of (in_line t)) (lexemes_of (in_line t')) (lexemes_of pre) (lexemes_of u) left_is in
+          let s = lexemes_of u ++ k.lexeme ∷ lexemes_of (in_line t') in
+          let read : decl_whole limit (lexemes_of (pre ++ k ∷ in_line t')) ≡ decl_stop (keep g s) =
           ap (decl_whole limit) (unlined_append pre (k ∷ in_line t')) ∙ again ∙ ap (λ z. leaving z s) (ap (decl_whole limit) (sym (unlined_append pre (k ∷ in_line t))) ∙ e) ∙ leaving_keep g s in
           let last' : last_of (length s) (pre ++ k ∷ in_line t') ≡ u ++ k ∷ in_line t' =
           ap (last_of (length s)) (ap (λ (w : List Lined). w ++ k ∷ in_line t') front ∙ append_assoc c.front u (k ∷ in_line t')) ∙ last_is c.front (u ++ k ∷ in_line t') s (unlined_append u (k ∷ in_line t')) in
-          step n' t' l' ∙ ap (λ z. followed (in_front (pre ++ k ∷ in_line t') (next_lines t') z) (module_within limit n' (next_lines t'))) read
-          ∙ ap (λ z. followed z (module_within limit n' (next_lines t'))) (in_front_keep (pre ++ k ∷ in_line t') (next_lines t') g s)
+          step n' t' l' ∙ ap (λ z. cons_decl (in_front (pre ++ k ∷ in_line t') (next_lines t') z) (module_within limit n' (next_lines t'))) read
+          ∙ ap (λ z. cons_decl z (module_within limit n' (next_lines t'))) (in_front_keep (pre ++ k ∷ in_line t') (next_lines t') g s)
           ∙ ap (λ (w : List Lined). stop (put g w)) (ap (λ (w : List Lined). w ++ next_lines t') last' ∙ sym (whole_line u k t'))
           ∙ sym (ap (λ z. leaving z (u ++ k ∷ t')) here ∙ leaving_put g (c.back ++ next_lines t) (u ++ k ∷ t'))
 
-      of_read : (r : Result (Declared × List Lexeme) Halt) → decl_whole limit (unlined (pre ++ k ∷ in_line t)) ≡ r →
-          SameUpTo k t t' (followed (in_front (pre ++ k ∷ in_line t) (next_lines t) (decl_whole limit (unlined (pre ++ k ∷ in_line t)))) (module_within limit n (next_lines t))) (module_within limit (suc n') (pre ++ k ∷ t'))
+      of_read : (r : Result (Declared × List Lexeme) Halt) → decl_whole limit (lexemes_of (pre ++ k ∷ in_line t)) ≡ r →
+          SameUpTo k t t' (cons_decl (in_front (pre ++ k ∷ in_line t) (next_lines t) (decl_whole limit (lexemes_of (pre ++ k ∷ in_line t)))) (module_within limit n (next_lines t))) (module_within limit (suc n') (pre ++ k ∷ t'))
       of_read (Ok x) e = rw e (stops_behind k t t' _ _ (omega (arith, few, left_behind n x.0 (next_lines t) (omega (arith, le, few)))))
       of_read (Err g) e = rw e (of_stop g e)
 

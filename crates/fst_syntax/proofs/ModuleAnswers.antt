@@ -3,7 +3,7 @@ use Rattle.std.proofs.Common.{◌≡◌, ℕ, zero, suc, ◌+◌, ◌-◌, ◌�
 use Rattle.std.proofs.lemmas.List.{append-nil, length-map, length-take-le}
 use Rattle.fst_lexer.specs.declared.token.Token.{Token}
 use Rattle.fst_terms.specs.declared.module.Decl.{Decl}
-use Rattle.fst_terms.specs.ModuleTree.{Declared, declared}
+use Rattle.fst_terms.specs.ModuleTree.{Declared, decl_tree}
 use Rattle.fst_reading.specs.declared.fault.SyntaxFault.{SyntaxFault}
 use Rattle.fst_reading.specs.declared.fault.SyntaxFault.TheVariants as fault
 use Rattle.fst_base.specs.Limits.{most_nested}
@@ -12,7 +12,7 @@ use Rattle.fst_reading.specs.Reading.{HaltOf, Syntax, Deep}
 use Rattle.fst_reading.proofs.Answers.{fault_at}
 use Rattle.fst_syntax.specs.Grammar.{Lined}
 use Rattle.fst_syntax.specs.ModuleReading.{module_at}
-use Rattle.fst_syntax.specs.Derives.{lined, lined_tokens, line_place, AnswersModule}
+use Rattle.fst_syntax.specs.Derives.{line_lexeme, line_lexemes, line_place, AnswersModule}
 use Rattle.fst_syntax.specs.Views.{lines_of, line_read, line_fault, GivesLine}
 use Rattle.fst_syntax.proofs.LineReads.{with_decls, one_line, goes_on, stops, ended, lines_drop, lines_count}
 use Rattle.fst_syntax.proofs.OneModule.{module_read, module_stopped}
@@ -30,13 +30,13 @@ drop_more (suc n) m [] = drop_none m ∙ sym (drop_none (suc n + m))
 drop_more (suc n) m (x ∷ xs) = let e : suc n + m ≡ suc (n + m) = omega arith in drop_more n m xs ∙ ap (λ (k : ℕ). drop k (x ∷ xs)) (sym e)
 
 -- the code's lines are the tokens of the text
-lines_tokens : (text : List ℕ) (n : ℕ) (ts : List Token) → lines_of ts (map (lexeme text) (take n ts)) ≡ map (lined text) (take n ts)
+lines_tokens : (text : List ℕ) (n : ℕ) (ts : List Token) → lines_of ts (map (lexeme text) (take n ts)) ≡ map (line_lexeme text) (take n ts)
 lines_tokens text zero [] = refl
 lines_tokens text zero (t ∷ ts) = refl
 lines_tokens text (suc n) [] = refl
-lines_tokens text (suc n) (t ∷ ts) = ap (λ (w : List Lined). lined text t ∷ w) (lines_tokens text n ts)
+lines_tokens text (suc n) (t ∷ ts) = ap (λ (w : List Lined). line_lexeme text t ∷ w) (lines_tokens text n ts)
 
-pub lines_are : (text : List ℕ) (tokens : List Token) → lines_of tokens (lexemes text tokens) ≡ lined_tokens text tokens
+pub lines_are : (text : List ℕ) (tokens : List Token) → lines_of tokens (lexemes text tokens) ≡ line_lexemes text tokens
 lines_are text tokens = lines_tokens text (length tokens - 1) tokens
 
 -- a text has no more lexemes than tokens
@@ -56,7 +56,7 @@ module _ (text : List ℕ) (tokens : List Token) (ls : List Lexeme) (front : Lis
   few : length ls ≤ length tokens
   few = omega (arith, ap length ls_is, few_lexemes text tokens)
 
-  total : module_at most_nested (lines_of tokens ls) ≡ module_at most_nested (lined_tokens text tokens)
+  total : module_at most_nested (lines_of tokens ls) ≡ module_at most_nested (line_lexemes text tokens)
   total = ap (λ (w : List Lexeme). module_at most_nested (lines_of tokens w)) ls_is ∙ ap (module_at most_nested) (lines_are text tokens)
 
   left_count : length (drop from (lines_of tokens ls)) ≡ length ls - from
@@ -74,14 +74,14 @@ module _ (text : List ℕ) (tokens : List Token) (ls : List Lexeme) (front : Lis
   refused (fault.Syntax at) lt g = stopped (fault.Syntax at) lt g
   refused (fault.TooDeep at) lt g = stopped (fault.TooDeep at) lt g
 
-  pub further : (d : Decl) (n : ℕ) → line_read most_nested (lines_of (take (length tokens - from) (drop from tokens)) (take (length ls - from) (drop from ls))) ≡ Ok (declared d, n) →
-      (from + n ≤ length ls) × (0 < n) × (with_decls (front ++ declared d ∷ []) (module_at most_nested (drop (from + n) (lines_of tokens ls))) ≡ module_at most_nested (lines_of tokens ls))
+  pub further : (d : Decl) (n : ℕ) → line_read most_nested (lines_of (take (length tokens - from) (drop from tokens)) (take (length ls - from) (drop from ls))) ≡ Ok (decl_tree d, n) →
+      (from + n ≤ length ls) × (0 < n) × (with_decls (front ++ decl_tree d ∷ []) (module_at most_nested (drop (from + n) (lines_of tokens ls))) ≡ module_at most_nested (lines_of tokens ls))
   further d n e =
       let read = ap (line_read most_nested) (sym (lines_left from tokens ls)) ∙ e in
-      let one = one_line most_nested (drop from (lines_of tokens ls)) (declared d) n read in (
+      let one = one_line most_nested (drop from (lines_of tokens ls)) (decl_tree d) n read in (
         omega (arith, one.1, one.2, left_count),
         one.2,
-        ap (λ (w : List Lined). with_decls (front ++ declared d ∷ []) (module_at most_nested w)) (sym (drop_more from n (lines_of tokens ls))) ∙ goes_on most_nested front (drop from (lines_of tokens ls)) (declared d) n _ read so_far,
+        ap (λ (w : List Lined). with_decls (front ++ decl_tree d ∷ []) (module_at most_nested w)) (sym (drop_more from n (lines_of tokens ls))) ∙ goes_on most_nested front (drop from (lines_of tokens ls)) (decl_tree d) n _ read so_far,
       )
 
   pub finished : length ls ≤ from → AnswersModule text tokens (Ok front)

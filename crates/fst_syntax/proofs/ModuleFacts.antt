@@ -7,7 +7,7 @@ use Rattle.fst_lexer.specs.Spans.{HaveSpans}
 use Rattle.fst_terms.specs.ModuleTree.{Declared}
 use Rattle.fst_terms.specs.Filled.{IsModuleFilled}
 use Rattle.fst_terms.specs.Count.{module_count, part_limit}
-use Rattle.fst_syntax.specs.Derives.{lined, AnswersModule}
+use Rattle.fst_syntax.specs.Derives.{line_lexeme, AnswersModule}
 use Rattle.fst_syntax.proofs.Filled.{module_filled}
 use Rattle.fst_syntax.proofs.Few.{module_few}
 
@@ -19,4 +19,4 @@ read_filled text tokens ds a = module_filled a.0.phrase.0
 pub read_few : (text : List ℕ) (tokens : List Token) (ds : List Declared) → HaveSpans text tokens → length text ≤ most_bytes → AnswersModule text tokens (Ok ds) → module_count ds < part_limit
 read_few text tokens ds spans size a =
     let count = module_few a.0.phrase.0 in
-    omega (arith, count, spans.few, size, ap length a.0.parts, length-append a.0.tokens [], length-map (take (length tokens - 1) tokens) (lined text), length-take-le (length tokens - 1) tokens (omega arith))
+    omega (arith, count, spans.few, size, ap length a.0.parts, length-append a.0.tokens [], length-map (take (length tokens - 1) tokens) (line_lexeme text), length-take-le (length tokens - 1) tokens (omega arith))

@@ -9,10 +9,10 @@ use Rattle.fst_reading.proofs.Phrases.{left, IsOver, Over, StoppedAt, Stopped, r
 use Rattle.fst_reading.proofs.Steps.{IsWithinLimit-append, bind_ok, mapped_is}
 use Rattle.fst_reading.proofs.Parts.{any}
 use Rattle.fst_reading.proofs.Exactness.{is_read}
-use Rattle.fst_syntax.specs.Grammar.{Lined, unlined, AreInside, IsDecl, IsModule, none, decl}
+use Rattle.fst_syntax.specs.Grammar.{Lined, lexemes_of, AreInside, IsDecl, IsModule, none, decl}
 use Rattle.fst_syntax.specs.Nesting.{decl_nests, module_nests}
 use Rattle.fst_syntax.specs.DeclReading.{decl_whole}
-use Rattle.fst_syntax.specs.ModuleReading.{in_line, next_lines, last_of, in_front, followed, module_within}
+use Rattle.fst_syntax.specs.ModuleReading.{in_line, next_lines, last_of, in_front, cons_decl, module_within}
 use Rattle.fst_syntax.specs.Derives.{ModulePhrase}
 use Rattle.fst_syntax.proofs.DeclPhrases.{DeclP}
 use Rattle.fst_syntax.proofs.DeclReads.{reads_decl_whole, decl_filled}
@@ -35,13 +35,13 @@ pub err_same : {A E : Type 0} (x y : E) → err {A = A} x ≡ err y → x ≡ y
 err_same x y e = cc
 
 -- the parts of what was read
-pub followed_ok : (a : Result Declared (HaltOf Lined)) (r : Result (List Declared × List Lined) (HaltOf Lined)) (y : List Declared × List Lined) → followed a r ≡ Ok y →
+pub followed_ok : (a : Result Declared (HaltOf Lined)) (r : Result (List Declared × List Lined) (HaltOf Lined)) (y : List Declared × List Lined) → cons_decl a r ≡ Ok y →
     (d : Declared) × (x : List Declared × List Lined) × (a ≡ Ok d) × (r ≡ Ok x) × (y ≡ read (d ∷ x.0) x.1)
 followed_ok (Ok d) (Ok x) y e = (d, x, refl, refl, sym (ok_same (d ∷ x.0, x.1) y e))
 followed_ok (Ok d) (Err h) y e = absurd cc
 followed_ok (Err h) r y e = absurd cc
 
-pub followed_err : (a : Result Declared (HaltOf Lined)) (r : Result (List Declared × List Lined) (HaltOf Lined)) (h : HaltOf Lined) → followed a r ≡ Err h →
+pub followed_err : (a : Result Declared (HaltOf Lined)) (r : Result (List Declared × List Lined) (HaltOf Lined)) (h : HaltOf Lined) → cons_decl a r ≡ Err h →
     (a ≡ Err h) ⊎ ((d : Declared) × (a ≡ Ok d) × (r ≡ Err h))
 followed_err (Ok d) (Ok x) h e = absurd cc
 followed_err (Ok d) (Err g) h e = inr (d, refl, ap Err (err_same g h e))
@@ -108,11 +108,11 @@ module _ (limit : ℕ) where
       of_rest (k ∷ rest) b = absurd (let end = b.0.ended in cc)
 
   -- a module of one declaration more
-  pub one_more : (k : Lined) (ts us all : List Lined) (d : Declared) (ds : List Declared) (ns ms : List ℕ) → k.first ≡ true → AreInside ts → DeclP (k.lexeme ∷ unlined ts) d ns → ModulePhrase us ds ms → all ≡ k ∷ ts ++ us →
+  pub one_more : (k : Lined) (ts us all : List Lined) (d : Declared) (ds : List Declared) (ns ms : List ℕ) → k.first ≡ true → AreInside ts → DeclP (k.lexeme ∷ lexemes_of ts) d ns → ModulePhrase us ds ms → all ≡ k ∷ ts ++ us →
       ModulePhrase all (d ∷ ds) (ns ++ ms)
   one_more k ts us all d ds ns ms first inside p q parts = (decl k ts us all d ds first inside p.0 q.0 parts, (let e : decl_nests p.0 ++ module_nests q.0 ≡ ns ++ ms = rw (p.1, q.1) refl in e))
 
-  more_found : (k : Lined) (ts : List Lined) (ds : List Declared) (rest : List Lined) (d : Declared) (x : List Declared × List Lined) → k.first ≡ true → (s : IsDecl (k.lexeme ∷ unlined (in_line ts)) d) × IsWithinLimit limit (decl_nests s) →
+  more_found : (k : Lined) (ts : List Lined) (ds : List Declared) (rest : List Lined) (d : Declared) (x : List Declared × List Lined) → k.first ≡ true → (s : IsDecl (k.lexeme ∷ lexemes_of (in_line ts)) d) × IsWithinLimit limit (decl_nests s) →
       (x.1 ≡ []) × (s : IsModule (next_lines ts) x.0) × IsWithinLimit limit (module_nests s) → read ds rest ≡ read (d ∷ x.0) x.1 → (rest ≡ []) × (s : IsModule (k ∷ ts) ds) × IsWithinLimit limit (module_nests s)
   more_found k ts ds rest d x first s m e =
       subst (λ (p : List Declared × List Lined). (p.1 ≡ []) × (s : IsModule (k ∷ ts) p.0) × IsWithinLimit limit (module_nests s)) (sym e) (
@@ -130,7 +130,7 @@ module _ (limit : ℕ) where
     | inl b ↦
         let f = followed_ok _ _ (ds, rest) b.1 in
         let p = in_front_ok (k ∷ in_line ts) (next_lines ts) _ f.0 f.2 in
-        let s = decl_read (k.lexeme ∷ unlined (in_line ts)) f.0 p.0 p.1 in
+        let s = decl_read (k.lexeme ∷ lexemes_of (in_line ts)) f.0 p.0 p.1 in
         let m = within_found n (next_lines ts) f.1.0 f.1.1 f.3 in
         more_found k ts ds rest f.0 f.1 b.0 s m f.4
     | inr b ↦ absurd (let g = b.1 in cc)
@@ -147,7 +147,7 @@ module _ (limit : ℕ) where
   line_front (k ∷ front) back l = (l.0, inside_front front back l.1)
 
   -- a declaration is a module of one line
-  line_module : (front : List Lined) (a others : List Lexeme) (d : Declared) (ns : List ℕ) → unlined front ≡ a → IsLine front → DeclP (a ++ others) d ns → ModulePhrase (front ++ behind front others) (d ∷ []) (ns ++ [])
+  line_module : (front : List Lined) (a others : List Lexeme) (d : Declared) (ns : List ℕ) → lexemes_of front ≡ a → IsLine front → DeclP (a ++ others) d ns → ModulePhrase (front ++ behind front others) (d ∷ []) (ns ++ [])
   line_module [] a [] d ns e l p = absurd (omega (arith, decl_filled (a ++ []) d ns p, ap length (append-nil a), ap length e))
   line_module [] a (k ∷ others) d ns e l p =
       one_more (record { first = true; lexeme = k }) (all_inside others) [] _ d [] ns [] refl (all_are_inside others)
@@ -155,14 +155,14 @@ module _ (limit : ℕ) where
       (ap (λ (w : List Lined). record { first = true; lexeme = k } ∷ w) (sym (append-nil (all_inside others))))
   line_module (k ∷ front) a others d ns e l p =
       one_more k (front ++ all_inside others) [] _ d [] ns [] l.0 (inside_append front (all_inside others) l.1 (all_are_inside others))
-      (subst (λ w. DeclP w d ns) (ap (λ (w : List Lexeme). w ++ others) (sym e) ∙ ap (λ (w : List Lexeme). k.lexeme ∷ w) (ap (λ (w : List Lexeme). unlined front ++ w) (sym (unlined_inside others)) ∙ sym (unlined_append front (all_inside others)))) p) (none, refl)
+      (subst (λ w. DeclP w d ns) (ap (λ (w : List Lexeme). w ++ others) (sym e) ∙ ap (λ (w : List Lexeme). k.lexeme ∷ w) (ap (λ (w : List Lexeme). lexemes_of front ++ w) (sym (unlined_inside others)) ∙ sym (unlined_append front (all_inside others)))) p) (none, refl)
       (ap (λ (w : List Lined). k ∷ w) (sym (append-nil (front ++ all_inside others))))
 
   -- the token over the limit, as it stands in its line
-  over_in_line : (front back : List Lined) (s others : List Lexeme) (high : List ℕ) → IsLine (front ++ back) → unlined back ≡ s → IsOver limit s others high → (more : List Lined) → IsOver limit (back ++ more) (behind front others) high
+  over_in_line : (front back : List Lined) (s others : List Lexeme) (high : List ℕ) → IsLine (front ++ back) → lexemes_of back ≡ s → IsOver limit s others high → (more : List Lined) → IsOver limit (back ++ more) (behind front others) high
   over_in_line front [] s others high l e o more = absurd (let both = e ∙ o.here in cc)
   over_in_line [] (c ∷ back) s others high l e o more =
-      let same : c.lexeme ∷ unlined back ≡ o.token ∷ o.after = e ∙ o.here in
+      let same : c.lexeme ∷ lexemes_of back ≡ o.token ∷ o.after = e ∙ o.here in
       let head : c.lexeme ≡ o.token = cc in
       record {
         token = c;
@@ -176,7 +176,7 @@ module _ (limit : ℕ) where
         over = o.over;
       }
   over_in_line (k ∷ front) (c ∷ back) s others high l e o more =
-      let same : c.lexeme ∷ unlined back ≡ o.token ∷ o.after = e ∙ o.here in
+      let same : c.lexeme ∷ lexemes_of back ≡ o.token ∷ o.after = e ∙ o.here in
       let head : c.lexeme ≡ o.token = cc in
       record {
         token = c;
@@ -190,7 +190,7 @@ module _ (limit : ℕ) where
         over = o.over;
       }
 
-  over_in_lines : (line front back more : List Lined) (g : Halt) (others : List Lexeme) (high : List ℕ) → line ≡ front ++ back → IsLine line → unlined back ≡ left g → Over g limit others high →
+  over_in_lines : (line front back more : List Lined) (g : Halt) (others : List Lexeme) (high : List ℕ) → line ≡ front ++ back → IsLine line → lexemes_of back ≡ left g → Over g limit others high →
       Over (in_lines line more g) limit (behind front others) high
   over_in_lines line front back more (Syntax s) others high parts l e o = tt
   over_in_lines line front back more (Deep s) others high parts l e o =
@@ -198,7 +198,7 @@ module _ (limit : ℕ) where
       (over_in_line front back s others high (subst IsLine parts l) e o more)
 
   -- where a declaration stops, some module goes on
-  stopped_in_line : (k : Lined) (ts : List Lined) (g : Halt) → k.first ≡ true → Stopped limit DeclP g (k.lexeme ∷ unlined (in_line ts)) → StoppedAt limit ModulePhrase (in_lines (k ∷ in_line ts) (next_lines ts) g) (k ∷ ts)
+  stopped_in_line : (k : Lined) (ts : List Lined) (g : Halt) → k.first ≡ true → Stopped limit DeclP g (k.lexeme ∷ lexemes_of (in_line ts)) → StoppedAt limit ModulePhrase (in_lines (k ∷ in_line ts) (next_lines ts) g) (k ∷ ts)
   stopped_in_line k ts g first q =
       let line = k ∷ in_line ts in
       let c = cut line q.tokens (left g) q.parts in
@@ -218,7 +218,7 @@ module _ (limit : ℕ) where
       }
 
   -- behind a whole declaration some module goes on where the rest does
-  stopped_behind : (k : Lined) (ts : List Lined) (d : Declared) (h : HaltOf Lined) → k.first ≡ true → (s : IsDecl (k.lexeme ∷ unlined (in_line ts)) d) × IsWithinLimit limit (decl_nests s) → StoppedAt limit ModulePhrase h (next_lines ts) →
+  stopped_behind : (k : Lined) (ts : List Lined) (d : Declared) (h : HaltOf Lined) → k.first ≡ true → (s : IsDecl (k.lexeme ∷ lexemes_of (in_line ts)) d) × IsWithinLimit limit (decl_nests s) → StoppedAt limit ModulePhrase h (next_lines ts) →
       StoppedAt limit ModulePhrase h (k ∷ ts)
   stopped_behind k ts d h first s q = record {
     tokens = k ∷ in_line ts ++ q.tokens;
@@ -231,7 +231,7 @@ module _ (limit : ℕ) where
         (one_more k (in_line ts) (q.tokens ++ q.others) _ d q.value (decl_nests s.0) (q.nests ++ q.high) first (inside_line ts) (s.0, refl) q.phrase (ap (λ (w : List Lined). k ∷ w) (append_assoc (in_line ts) q.tokens q.others)));
     count = omega (
       arith,
-      (reads_decl_whole limit).counted (k.lexeme ∷ unlined (in_line ts)) d (decl_nests s.0) (s.0, refl),
+      (reads_decl_whole limit).counted (k.lexeme ∷ lexemes_of (in_line ts)) d (decl_nests s.0) (s.0, refl),
       unlined_length (in_line ts),
       q.count,
       length-append (decl_nests s.0) q.nests,
@@ -257,10 +257,10 @@ module _ (limit : ℕ) where
     | inl b ↦ elim (followed_err _ _ h b.1) [
       | inl f ↦
           let g = in_front_err (k ∷ in_line ts) (next_lines ts) _ h f in
-          subst (λ z. StoppedAt limit ModulePhrase z (k ∷ ts)) (sym g.2) (stopped_in_line k ts g.0 b.0 ((reads_decl_whole limit).stopped (k.lexeme ∷ unlined (in_line ts)) g.0 g.1))
+          subst (λ z. StoppedAt limit ModulePhrase z (k ∷ ts)) (sym g.2) (stopped_in_line k ts g.0 b.0 ((reads_decl_whole limit).stopped (k.lexeme ∷ lexemes_of (in_line ts)) g.0 g.1))
       | inr f ↦
           let p = in_front_ok (k ∷ in_line ts) (next_lines ts) _ f.0 f.1 in
-          stopped_behind k ts f.0 h b.0 (decl_read (k.lexeme ∷ unlined (in_line ts)) f.0 p.0 p.1) (within_stopped n (next_lines ts) h (shorter_rest k ts n le) f.2)
+          stopped_behind k ts f.0 h b.0 (decl_read (k.lexeme ∷ lexemes_of (in_line ts)) f.0 p.0 p.1) (within_stopped n (next_lines ts) h (shorter_rest k ts n le) f.2)
     ]
     | inr b ↦ stopped_at_once (k ∷ ts) h (err_same (Syntax (k ∷ ts)) h b.1)
   ]

@@ -6,10 +6,10 @@ use Rattle.fst_reading.specs.Lexeme.{Lexeme}
 use Rattle.fst_reading.specs.Reading.{Deep}
 use Rattle.fst_reading.proofs.Phrases.{Outcome, whole, deep}
 use Rattle.fst_reading.proofs.Steps.{IsWithinLimit-append}
-use Rattle.fst_syntax.specs.Grammar.{Lined, unlined, AreInside, IsModule, none, decl}
+use Rattle.fst_syntax.specs.Grammar.{Lined, lexemes_of, AreInside, IsModule, none, decl}
 use Rattle.fst_syntax.specs.Nesting.{decl_nests, module_nests}
 use Rattle.fst_syntax.specs.DeclReading.{decl_whole}
-use Rattle.fst_syntax.specs.ModuleReading.{next_lines, last_of, in_front, followed, module_within}
+use Rattle.fst_syntax.specs.ModuleReading.{next_lines, last_of, in_front, cons_decl, module_within}
 use Rattle.fst_syntax.proofs.DeclReads.{reads_decl_whole}
 use Rattle.fst_syntax.proofs.Lines.{BeginsLine, line_is, module_begins, unlined_length, cut, last_is}
 use Rattle.fst_base.proofs.Choices.{choose_true}
@@ -17,45 +17,45 @@ use Rattle.fst_base.proofs.Choices.{choose_true}
 module _ (limit : ℕ) where
   -- a line that begins one, and the lines behind it
   pub by_lines : (n : ℕ) (k : Lined) (ts us : List Lined) → k.first ≡ true → AreInside ts → BeginsLine us →
-      module_within limit (suc n) (k ∷ ts ++ us) ≡ followed (in_front (k ∷ ts) us (decl_whole limit (k.lexeme ∷ unlined ts))) (module_within limit n us)
+      module_within limit (suc n) (k ∷ ts ++ us) ≡ cons_decl (in_front (k ∷ ts) us (decl_whole limit (k.lexeme ∷ lexemes_of ts))) (module_within limit n us)
   unfolding module_within
   by_lines n k ts us first inside begins =
       let l = line_is ts us inside begins in
       choose_true _ _ _ first
-      ∙ ap (λ (w : List Lined). followed (in_front (k ∷ w) (next_lines (ts ++ us)) (decl_whole limit (k.lexeme ∷ unlined w))) (module_within limit n (next_lines (ts ++ us)))) l.0
-      ∙ ap (λ (w : List Lined). followed (in_front (k ∷ ts) w (decl_whole limit (k.lexeme ∷ unlined ts))) (module_within limit n w)) l.1
+      ∙ ap (λ (w : List Lined). cons_decl (in_front (k ∷ w) (next_lines (ts ++ us)) (decl_whole limit (k.lexeme ∷ lexemes_of w))) (module_within limit n (next_lines (ts ++ us)))) l.0
+      ∙ ap (λ (w : List Lined). cons_decl (in_front (k ∷ ts) w (decl_whole limit (k.lexeme ∷ lexemes_of ts))) (module_within limit n w)) l.1
 
   -- a module is read, or refused at its first token over the limit
   abbrev ReadWithin : ℕ → (us : List Lined) (ds : List Declared) → List ℕ → Type 0
   ReadWithin n us ds ns = Outcome limit (module_within limit n) us ds ns []
 
   more_read : (n : ℕ) (k : Lined) (ts us : List Lined) (d : Declared) (ds : List Declared) (ns ms : List ℕ) → k.first ≡ true → AreInside ts → BeginsLine us → length ns ≡ length (k ∷ ts) →
-      Outcome limit (decl_whole limit) (k.lexeme ∷ unlined ts) d ns [] → ReadWithin n us ds ms → ReadWithin (suc n) (k ∷ ts ++ us) (d ∷ ds) (ns ++ ms)
+      Outcome limit (decl_whole limit) (k.lexeme ∷ lexemes_of ts) d ns [] → ReadWithin n us ds ms → ReadWithin (suc n) (k ∷ ts ++ us) (d ∷ ds) (ns ++ ms)
   more_read n k ts us d ds ns ms first inside begins count (whole low e) second = of_rest second
     where
-      is_read : decl_whole limit (k.lexeme ∷ unlined ts) ≡ Ok (d, [])
-      is_read = ap (decl_whole limit) (sym (append-nil (k.lexeme ∷ unlined ts))) ∙ e
+      is_read : decl_whole limit (k.lexeme ∷ lexemes_of ts) ≡ Ok (d, [])
+      is_read = ap (decl_whole limit) (sym (append-nil (k.lexeme ∷ lexemes_of ts))) ∙ e
 
-      step : module_within limit (suc n) ((k ∷ ts ++ us) ++ []) ≡ followed (Ok d) (module_within limit n us)
-      step = ap (module_within limit (suc n)) (append-nil (k ∷ ts ++ us)) ∙ by_lines n k ts us first inside begins ∙ ap (λ z. followed (in_front (k ∷ ts) us z) (module_within limit n us)) is_read
+      step : module_within limit (suc n) ((k ∷ ts ++ us) ++ []) ≡ cons_decl (Ok d) (module_within limit n us)
+      step = ap (module_within limit (suc n)) (append-nil (k ∷ ts ++ us)) ∙ by_lines n k ts us first inside begins ∙ ap (λ z. cons_decl (in_front (k ∷ ts) us z) (module_within limit n us)) is_read
 
       of_rest : ReadWithin n us ds ms → ReadWithin (suc n) (k ∷ ts ++ us) (d ∷ ds) (ns ++ ms)
-      of_rest (whole lows g) = whole (IsWithinLimit-append limit ns ms low lows) (step ∙ ap (followed (Ok d)) (ap (module_within limit n) (sym (append-nil us)) ∙ g))
+      of_rest (whole lows g) = whole (IsWithinLimit-append limit ns ms low lows) (step ∙ ap (cons_decl (Ok d)) (ap (module_within limit n) (sym (append-nil us)) ∙ g))
       of_rest (deep pre v c lows highs m a b l o q g) =
           deep (k ∷ ts ++ pre) v c (ns ++ lows) highs m (ap (λ (w : List Lined). k ∷ w) (ap (λ (w : List Lined). ts ++ w) a ∙ sym (append_assoc ts pre (c ∷ v))))
           (ap (λ (w : List ℕ). ns ++ w) b ∙ sym (append_assoc ns lows (m ∷ highs))) (omega (arith, count, l, length-append ns lows, length-append ts pre)) (IsWithinLimit-append limit ns lows low o) q
-          (step ∙ ap (followed (Ok d)) (ap (module_within limit n) (sym (append-nil us)) ∙ g))
+          (step ∙ ap (cons_decl (Ok d)) (ap (module_within limit n) (sym (append-nil us)) ∙ g))
   more_read n k ts us d ds ns ms first inside begins count (deep pre v c lows highs m a b l o q e) second =
       let x = cut (k ∷ ts) pre (c ∷ v) a in
       of_cut x.front x.back x.parts x.front_is x.back_is
     where
-      stops : decl_whole limit (k.lexeme ∷ unlined ts) ≡ Err (Deep (c ∷ v))
-      stops = ap (decl_whole limit) (sym (append-nil (k.lexeme ∷ unlined ts))) ∙ e ∙ ap (λ (w : List Lexeme). Err (Deep (c ∷ w))) (append-nil v)
+      stops : decl_whole limit (k.lexeme ∷ lexemes_of ts) ≡ Err (Deep (c ∷ v))
+      stops = ap (decl_whole limit) (sym (append-nil (k.lexeme ∷ lexemes_of ts))) ∙ e ∙ ap (λ (w : List Lexeme). Err (Deep (c ∷ w))) (append-nil v)
 
       step : module_within limit (suc n) ((k ∷ ts ++ us) ++ []) ≡ Err (Deep (last_of (length (c ∷ v)) (k ∷ ts) ++ us))
-      step = ap (module_within limit (suc n)) (append-nil (k ∷ ts ++ us)) ∙ by_lines n k ts us first inside begins ∙ ap (λ z. followed (in_front (k ∷ ts) us z) (module_within limit n us)) stops
+      step = ap (module_within limit (suc n)) (append-nil (k ∷ ts ++ us)) ∙ by_lines n k ts us first inside begins ∙ ap (λ z. cons_decl (in_front (k ∷ ts) us z) (module_within limit n us)) stops
 
-      of_cut : (front back : List Lined) → k ∷ ts ≡ front ++ back → unlined front ≡ pre → unlined back ≡ c ∷ v → ReadWithin (suc n) (k ∷ ts ++ us) (d ∷ ds) (ns ++ ms)
+      of_cut : (front back : List Lined) → k ∷ ts ≡ front ++ back → lexemes_of front ≡ pre → lexemes_of back ≡ c ∷ v → ReadWithin (suc n) (k ∷ ts ++ us) (d ∷ ds) (ns ++ ms)
       of_cut front [] parts f r = absurd (cc r)
       of_cut front (j ∷ back) parts f r =
           deep front (back ++ us) j lows (highs ++ ms) m (ap (λ (w : List Lined). w ++ us) parts ∙ append_assoc front (j ∷ back) us)
@@ -71,5 +71,5 @@ module _ (limit : ℕ) where
       let r = reads_decl_whole limit in
       subst (λ (w : List Lined). ReadWithin (suc n) w (d ∷ ds) (decl_nests is ++ module_nests m)) (sym parts)
       (more_read n k ts us d ds (decl_nests is) (module_nests m) first inside (module_begins us ds m)
-      (r.counted (k.lexeme ∷ unlined ts) d (decl_nests is) (is, refl) ∙ ap suc (unlined_length ts)) (r.reads (k.lexeme ∷ unlined ts) d (decl_nests is) [] (is, refl) refl)
+      (r.counted (k.lexeme ∷ lexemes_of ts) d (decl_nests is) (is, refl) ∙ ap suc (unlined_length ts)) (r.reads (k.lexeme ∷ lexemes_of ts) d (decl_nests is) [] (is, refl) refl)
       (within_reads n us ds m (omega (arith, le, ap length parts, length-append ts us))))

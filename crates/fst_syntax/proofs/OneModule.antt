@@ -16,27 +16,27 @@ use Rattle.fst_reading.proofs.Exactness.{is_read, read_gives}
 use Rattle.fst_syntax.specs.Grammar.{Lined, IsModule}
 use Rattle.fst_syntax.specs.Nesting.{module_nests}
 use Rattle.fst_syntax.specs.ModuleReading.{module_at}
-use Rattle.fst_syntax.specs.Derives.{lined_tokens, line_place, ModulePhrase, AnswersModule, OneModule}
+use Rattle.fst_syntax.specs.Derives.{line_lexemes, line_place, ModulePhrase, AnswersModule, OneModule}
 use Rattle.fst_syntax.proofs.ModuleAlike.{module_ends, reads_module}
 use Rattle.fst_syntax.proofs.ModuleFound.{ok_same}
 
-pub module_read : (text : List ℕ) (tokens : List Token) (ds : List Declared) → module_at most_nested (lined_tokens text tokens) ≡ Ok (ds, []) → AnswersModule text tokens (Ok ds)
-module_read text tokens ds e = is_read most_nested (module_at most_nested) ModulePhrase is_left (reads_module most_nested) (module_ends most_nested) refl (lined_tokens text tokens) ds [] e
+pub module_read : (text : List ℕ) (tokens : List Token) (ds : List Declared) → module_at most_nested (line_lexemes text tokens) ≡ Ok (ds, []) → AnswersModule text tokens (Ok ds)
+module_read text tokens ds e = is_read most_nested (module_at most_nested) ModulePhrase is_left (reads_module most_nested) (module_ends most_nested) refl (line_lexemes text tokens) ds [] e
 
-pub module_stopped : (text : List ℕ) (tokens : List Token) (h : HaltOf Lined) → module_at most_nested (lined_tokens text tokens) ≡ Err h → AnswersModule text tokens (Err (fault_at (line_place (length text)) h))
+pub module_stopped : (text : List ℕ) (tokens : List Token) (h : HaltOf Lined) → module_at most_nested (line_lexemes text tokens) ≡ Err h → AnswersModule text tokens (Err (fault_at (line_place (length text)) h))
 module_stopped text tokens h e =
-    refuses (module_at most_nested) ModulePhrase is_left (reads_module most_nested) (module_ends most_nested) refl (line_place (length text)) (lined_tokens text tokens) h e
+    refuses (module_at most_nested) ModulePhrase is_left (reads_module most_nested) (module_ends most_nested) refl (line_place (length text)) (line_lexemes text tokens) h e
 
 -- the answer by what was read, where the text ends at this byte
 abbrev shown : ℕ → Result (List Declared × List Lined) (HaltOf Lined) → Result (List Declared) SyntaxFault
 shown end (Ok x) = Ok x.0
 shown end (Err h) = Err (fault_at (line_place end) h)
 
-answer_shown : (text : List ℕ) (tokens : List Token) (a : Result (List Declared) SyntaxFault) → a ≢ Err fault.Memory → AnswersModule text tokens a → a ≡ shown (length text) (module_at most_nested (lined_tokens text tokens))
+answer_shown : (text : List ℕ) (tokens : List Token) (a : Result (List Declared) SyntaxFault) → a ≢ Err fault.Memory → AnswersModule text tokens a → a ≡ shown (length text) (module_at most_nested (line_lexemes text tokens))
 answer_shown text tokens (Ok ds) other b =
-    sym (ap (shown (length text)) (read_gives most_nested (module_at most_nested) ModulePhrase is_left (reads_module most_nested) (module_ends most_nested) refl (lined_tokens text tokens) ds [] b))
+    sym (ap (shown (length text)) (read_gives most_nested (module_at most_nested) ModulePhrase is_left (reads_module most_nested) (module_ends most_nested) refl (line_lexemes text tokens) ds [] b))
 answer_shown text tokens (Err e) other b =
-    let g = refused (module_at most_nested) ModulePhrase is_left (reads_module most_nested) (module_ends most_nested) refl (line_place (length text)) (lined_tokens text tokens) e (λ is. other (ap Err is)) b in
+    let g = refused (module_at most_nested) ModulePhrase is_left (reads_module most_nested) (module_ends most_nested) refl (line_place (length text)) (line_lexemes text tokens) e (λ is. other (ap Err is)) b in
     ap Err g.2 ∙ sym (ap (shown (length text)) g.1)
 
 abbrev whole : (ts : List Lined) (ds : List Declared) (s : IsModule ts ds) → Begins ModulePhrase is_left ts ds []
@@ -50,11 +50,11 @@ one_module ts ds es a b =
     ap (λ (p : List Declared × List Lined). p.0) (ok_same (ds, []) (es, []) (sym one ∙ two))
 
 -- a module is read, or a token of it is too deep
-answered : (text : List ℕ) (tokens : List Token) (ds : List Declared) → IsModule (lined_tokens text tokens) ds → AnswersModule text tokens (Ok ds) ⊎ ((at : ℕ) × AnswersModule text tokens (Err (fault.TooDeep at)))
+answered : (text : List ℕ) (tokens : List Token) (ds : List Declared) → IsModule (line_lexemes text tokens) ds → AnswersModule text tokens (Ok ds) ⊎ ((at : ℕ) × AnswersModule text tokens (Err (fault.TooDeep at)))
 answered text tokens ds s = of_outcome ((reads_module most_nested).reads ts ds (module_nests s) [] (s, refl) refl)
   where
     ts : List Lined
-    ts = lined_tokens text tokens
+    ts = line_lexemes text tokens
 
     whole_is : ts ++ [] ≡ ts
     whole_is = append-nil ts

@@ -14,7 +14,7 @@ use Rattle.fst_syntax.specs.declared.starts.AppStart.TheVariants.{Send, Receive,
 use Rattle.fst_syntax.specs.TermReading.{is_app, is_start, starts_app, starts_unary, expr_named, expr_by, expr_start, is_expr_start, starts_expr}
 use Rattle.fst_syntax.proofs.Begins.{StartsAtom, in_front, weaker, head_begins}
 use Rattle.fst_syntax.proofs.TermTokens.{app_spelled, means_app, atom_spelled}
-use Rattle.fst_base.proofs.Bools.{same_text}
+use Rattle.fst_base.proofs.Bools.{same_text, or_left}
 
 abbrev pub StartsApp : Lexeme → Type 0
 StartsApp k = starts_app k ≡ true
@@ -24,9 +24,6 @@ StartsUnary k = starts_unary k ≡ true
 
 abbrev pub StartsExpr : Lexeme → Type 0
 StartsExpr k = starts_expr k ≡ true
-
-or_left : (a b : Bool) → a ≡ true → a || b ≡ true
-or_left a b e = rw e refl
 
 or_right : (a b : Bool) → b ≡ true → a || b ≡ true
 or_right true b e = refl

@@ -197,8 +197,8 @@ pub record Lined : Type 0 where
   pub lexeme : Lexeme
 
 -- the tokens without their lines
-abbrev pub unlined : List Lined → List Lexeme
-unlined ts = map (λ k. k.lexeme) ts
+abbrev pub lexemes_of : List Lined → List Lexeme
+lexemes_of ts = map (λ k. k.lexeme) ts
 
 -- these begin no line
 abbrev pub AreInside : List Lined → Type 0
@@ -209,4 +209,4 @@ AreInside (k ∷ ts) = (k.first ≡ false) × AreInside ts
 pub data IsModule : List Lined → List Declared → Type 0 where
   none : IsModule [] []
   decl : (k : Lined) (ts us all : List Lined) (d : Declared) (ds : List Declared) →
-      k.first ≡ true → AreInside ts → IsDecl (k.lexeme ∷ unlined ts) d → IsModule us ds → all ≡ k ∷ ts ++ us → IsModule all (d ∷ ds)
+      k.first ≡ true → AreInside ts → IsDecl (k.lexeme ∷ lexemes_of ts) d → IsModule us ds → all ≡ k ∷ ts ++ us → IsModule all (d ∷ ds)

@@ -1,25 +1,23 @@
--- The chains of operators by how tightly they bind, the arms of `case` and `match`, and what is looked for where nothing may
--- be opened any more.
+-- The chains of operators by how tightly they bind, arms as they are read, and what is looked for where nothing may be opened
+-- any more.
 use Rattle.std.specs.Prelude.{◌≡◌, ℕ, Bool, List, Option, Result, Ok, Err, codes}
 use Rattle.fst_terms.specs.declared.term.Op.{Op}
 use Rattle.fst_terms.specs.declared.term.Op.TheVariants as op
 use Rattle.fst_terms.specs.declared.term.SourceArm.{SourceArm}
 use Rattle.fst_terms.specs.TermTree as term
-use Rattle.fst_terms.specs.TermTree.{TermTree, TermArms}
+use Rattle.fst_terms.specs.TermTree.{TermTree}
 use Rattle.fst_syntax.specs.declared.operators.Level.{Level}
 use Rattle.fst_syntax.specs.declared.operators.Level.TheVariants.{Or, And, Sum, Product}
-use Rattle.fst_syntax.specs.declared.heads.Arms.{Arms}
-use Rattle.fst_syntax.specs.declared.heads.Arms.TheVariants as by
 use Rattle.fst_syntax.specs.declared.shut.Wanted.{Wanted}
 use Rattle.fst_syntax.specs.declared.shut.Wanted.TheVariants as wanted
 use Rattle.fst_syntax.specs.declared.heads.Binding.{Binding}
 use Rattle.fst_syntax.specs.declared.heads.Binding.TheVariants.{One, Two}
 use Rattle.fst_reading.specs.declared.stop.Stop.{Stop}
 use Rattle.fst_reading.specs.Lexeme.{Lexeme}
-use Rattle.fst_reading.specs.Reading.{Reader, Halt, ◌>>=◌, mapped, word}
+use Rattle.fst_reading.specs.Reading.{Reader, Halt}
 use Rattle.fst_reading.specs.Gives.{Fails}
 use Rattle.fst_type_syntax.specs.TypeReading.{starts_type_atom}
-use Rattle.fst_syntax.specs.TermReading.{Inside, Arm, is_upper, starts_atom, starts_unary, starts_expr, addition, operator, unary_with, prod_with, cmp_with, and_with, chain, case_arm_with, match_arm_with, arms_with}
+use Rattle.fst_syntax.specs.TermReading.{Inside, Arm, is_upper, starts_atom, starts_unary, starts_expr, addition, operator, unary_with, prod_with, cmp_with, and_with, chain}
 
 -- the operator that a chain has between its operands
 abbrev pub operator_of : Level → Lexeme → Option Op
@@ -38,25 +36,6 @@ operand_with Product = unary_with
 -- a chain
 abbrev pub level_with : Level → Inside → Reader TermTree
 level_with l = chain (operator_of l) (operand_with l)
-
--- one arm
-abbrev pub arm_by : Arms → Reader TermTree → Reader Arm
-arm_by by.Case = case_arm_with
-arm_by by.Match = match_arm_with
-
--- the reserved word behind the term that chooses among arms
-abbrev pub word_of : Arms → List ℕ
-word_of by.Case = codes "of"
-word_of by.Match = codes "with"
-
--- the term with these arms
-abbrev pub tree_by : Arms → ℕ → TermTree → TermArms → TermTree
-tree_by by.Case = term.case_of
-tree_by by.Match = term.match_with
-
--- behind `case` or `match`
-unfoldable pub choice_with : Arms → Reader TermTree → ℕ → Reader TermTree
-choice_with a e at = e >>= λ t. word (word_of a) >>= λ w. mapped (tree_by a at t) (arms_with e (arm_by a e))
 
 -- an arm as it is read
 abbrev pub arm_parts : SourceArm → Arm

@@ -3,7 +3,7 @@ use Rattle.std.specs.Prelude.{ℕ, zero, suc, ◌-◌, List, [], ◌∷◌, ◌+
 use Rattle.fst_terms.specs.ModuleTree.{Declared}
 use Rattle.fst_reading.specs.Lexeme.{Lexeme}
 use Rattle.fst_reading.specs.Reading.{HaltOf, Halt, Syntax, Deep, ReaderOf}
-use Rattle.fst_syntax.specs.Grammar.{Lined, unlined}
+use Rattle.fst_syntax.specs.Grammar.{Lined, lexemes_of}
 use Rattle.fst_syntax.specs.DeclReading.{decl_whole}
 use Rattle.fst_base.specs.Choice.{choose}
 
@@ -28,20 +28,20 @@ in_front line more (Err (Syntax s)) = Err (Syntax (last_of (length s) line ++ mo
 in_front line more (Err (Deep s)) = Err (Deep (last_of (length s) line ++ more))
 
 -- a declaration and what was read behind it
-abbrev pub followed : Result Declared (HaltOf Lined) → Result (List Declared × List Lined) (HaltOf Lined) → Result (List Declared × List Lined) (HaltOf Lined)
-followed (Ok d) (Ok x) = Ok (d ∷ x.0, x.1)
-followed (Ok d) (Err h) = Err h
-followed (Err h) read = Err h
+abbrev pub cons_decl : Result Declared (HaltOf Lined) → Result (List Declared × List Lined) (HaltOf Lined) → Result (List Declared × List Lined) (HaltOf Lined)
+cons_decl (Ok d) (Ok x) = Ok (d ∷ x.0, x.1)
+cons_decl (Ok d) (Err h) = Err h
+cons_decl (Err h) read = Err h
 
 -- the first declaration, where a token begins a line
 abbrev pub first_decl : ℕ → Lined → List Lined → Result Declared (HaltOf Lined)
-first_decl limit k ts = in_front (k ∷ in_line ts) (next_lines ts) (decl_whole limit (k.lexeme ∷ unlined (in_line ts)))
+first_decl limit k ts = in_front (k ∷ in_line ts) (next_lines ts) (decl_whole limit (k.lexeme ∷ lexemes_of (in_line ts)))
 
 -- at most so many declarations, of which each token is at most so deep
 unfoldable pub module_within : ℕ → ℕ → ReaderOf Lined (List Declared)
 module_within limit n [] = Ok ([], [])
 module_within limit zero (k ∷ ts) = Err (Syntax (k ∷ ts))
-module_within limit (suc n) (k ∷ ts) = choose k.first (followed (first_decl limit k ts) (module_within limit n (next_lines ts))) (Err (Syntax (k ∷ ts)))
+module_within limit (suc n) (k ∷ ts) = choose k.first (cons_decl (first_decl limit k ts) (module_within limit n (next_lines ts))) (Err (Syntax (k ∷ ts)))
 
 -- a module
 unfoldable pub module_at : ℕ → ReaderOf Lined (List Declared)

@@ -1,7 +1,6 @@
 -- What the proof of a reader of the code opens, under one name, where that is much.
 use Rattle.fst_reading.specs.Steps.{all}
-use Rattle.fst_syntax.specs.TermReading.{inside, type_atom_with, plain_with, head_with, atom_with, pair_with, paren_with, split_with, let_with, lambda_with, case_arm_with, match_arm_with, chain, compare_with, cmp_with, app_with, unary_with, expr_with, then_with, arms_with}
-use Rattle.fst_syntax.specs.Levels.{choice_with}
+use Rattle.fst_syntax.specs.TermReading.{inside, type_atom_with, plain_with, head_with, atom_with, pair_with, paren_with, split_with, let_with, lambda_with, case_arm_with, match_arm_with, chain, compare_with, cmp_with, app_with, unary_with, expr_with, then_with, arms_with, choice_with}
 
 unfoldable pub types : Unit {0}
 unfolding inside type_atom_with

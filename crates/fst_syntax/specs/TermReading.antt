@@ -16,10 +16,12 @@ use Rattle.fst_syntax.specs.declared.starts.AtomStart.{AtomStart}
 use Rattle.fst_syntax.specs.declared.starts.AtomStart.TheVariants.{Name, Constructor, Number, Character, Truth, Paren}
 use Rattle.fst_syntax.specs.declared.starts.AppStart.{AppStart}
 use Rattle.fst_syntax.specs.declared.starts.AppStart.TheVariants.{Send, Receive, Select, New, Fork, Make}
+use Rattle.fst_syntax.specs.declared.heads.Arms.{Arms}
+use Rattle.fst_syntax.specs.declared.heads.Arms.TheVariants as by
 use Rattle.fst_syntax.specs.declared.starts.ExprStart.{ExprStart}
 use Rattle.fst_syntax.specs.declared.starts.ExprStart.TheVariants.{Let, If, Lambda, Case, Match}
 use Rattle.fst_reading.specs.Lexeme.{Lexeme, spells, lower_of, upper_of, is_one}
-use Rattle.fst_reading.specs.Reading.{Reader, give, ◌>>=◌, mapped, switch, one, word, located, on, separated, when, shut, repeat, many}
+use Rattle.fst_reading.specs.Reading.{Reader, give, ◌>>=◌, map_reader, switch, one, word, with_start, on, sep_by, when, shut, repeat, many}
 use Rattle.fst_type_syntax.specs.TypeReading.{starts_type_atom, seq_at, type_at, atom_with as written_atom_with}
 use Rattle.fst_syntax.specs.Grammar.{bound}
 use Rattle.fst_base.specs.Choice.{choose}
@@ -180,17 +182,17 @@ applied_with es = many (spells (codes "@")) (word (codes "@") >>= λ k. type_ato
 
 -- behind the first term of a pair
 unfoldable pub pair_with : Reader TermTree → ℕ → TermTree → Reader TermTree
-pair_with e at t = e >>= λ u. mapped (λ c. term.pair at t u) (word (codes ")"))
+pair_with e at t = e >>= λ u. map_reader (λ c. term.pair at t u) (word (codes ")"))
 
 -- behind a parenthesis
 unfoldable pub paren_with : Reader TermTree → ℕ → Reader TermTree
 paren_with e at =
     on (spells (codes ")")) (give (term.unit at))
-    (e >>= λ t. on (spells (codes ",")) (pair_with e at t) (mapped (λ c. t) (word (codes ")"))))
+    (e >>= λ t. on (spells (codes ",")) (pair_with e at t) (map_reader (λ c. t) (word (codes ")"))))
 
 -- behind what an atom begins with
 abbrev pub begun_with : Reader TermTree → Inside → AtomStart → Lexeme → Reader TermTree
-begun_with e es Name k = mapped (term.named k.at k.text) (applied_with (e ∷ es))
+begun_with e es Name k = map_reader (term.named k.at k.text) (applied_with (e ∷ es))
 begun_with e es Constructor k = give (term.make k.at k.text no_terms)
 begun_with e es (Number n) k = give (term.int k.at n)
 begun_with e es (Character c) k = give (term.char k.at c)
@@ -216,17 +218,17 @@ atom_with [] = shut starts_atom
 atom_with (e ∷ es) = switch atom_start (begun_with e es)
 
 -- a list of terms with one more at its end
-abbrev pub appended : TermList → TermTree → TermList
-appended no_terms t = term.term t no_terms
-appended (term.term u us) t = term.term u (appended us t)
+abbrev pub append_term : TermList → TermTree → TermList
+append_term no_terms t = term.term t no_terms
+append_term (term.term u us) t = term.term u (append_term us t)
 
 -- the atoms behind a constructor
 unfoldable pub arguments_with : Inside → TermList → Reader TermList
-arguments_with es args = repeat starts_atom (λ es args. mapped (appended args) (atom_with es)) es args
+arguments_with es args = repeat starts_atom (λ es args. map_reader (append_term args) (atom_with es)) es args
 
 -- the atoms behind another atom
 unfoldable pub applications_with : ℕ → Inside → TermTree → Reader TermTree
-applications_with at es t = repeat starts_atom (λ es t. mapped (term.apply at t) (atom_with es)) es t
+applications_with at es t = repeat starts_atom (λ es t. map_reader (term.apply at t) (atom_with es)) es t
 
 -- the readers inside the next operand
 abbrev pub next : Inside → Inside
@@ -240,16 +242,16 @@ label_with (e ∷ es) = one upper_of
 
 -- behind what an application begins with; es are the readers inside the next operand
 abbrev pub app_begun_with : Inside → AppStart → Lexeme → Reader TermTree
-app_begun_with es Send k = atom_with es >>= λ t. mapped (term.send k.at t) (atom_with (next es))
-app_begun_with es Receive k = mapped (term.receive k.at) (atom_with es)
-app_begun_with es Select k = label_with es >>= λ l. mapped (term.select k.at l.text) (atom_with (next es))
-app_begun_with es New k = mapped (term.new k.at) (type_atom_with es)
-app_begun_with es Fork k = mapped (term.fork k.at) (atom_with es)
-app_begun_with es Make k = mapped (term.make k.at k.text) (arguments_with es no_terms)
+app_begun_with es Send k = atom_with es >>= λ t. map_reader (term.send k.at t) (atom_with (next es))
+app_begun_with es Receive k = map_reader (term.receive k.at) (atom_with es)
+app_begun_with es Select k = label_with es >>= λ l. map_reader (term.select k.at l.text) (atom_with (next es))
+app_begun_with es New k = map_reader (term.new k.at) (type_atom_with es)
+app_begun_with es Fork k = map_reader (term.fork k.at) (atom_with es)
+app_begun_with es Make k = map_reader (term.make k.at k.text) (arguments_with es no_terms)
 
 -- an atom and what it is applied to
 unfoldable pub head_with : Reader TermTree → Inside → Reader TermTree
-head_with e es = located (λ at. plain_with e es >>= λ t. applications_with at es t)
+head_with e es = with_start (λ at. plain_with e es >>= λ t. applications_with at es t)
 
 -- an application
 unfoldable pub app_with : Inside → Reader TermTree
@@ -259,15 +261,15 @@ app_with (e ∷ es) = when opens_app (switch app_start (app_begun_with es)) (hea
 -- a term behind `not`s
 unfoldable pub unary_with : Inside → Reader TermTree
 unary_with [] = shut starts_unary
-unary_with (e ∷ es) = located (λ at. on (spells (codes "not")) (mapped (term.negate at) (unary_with es)) (app_with (e ∷ es)))
+unary_with (e ∷ es) = with_start (λ at. on (spells (codes "not")) (map_reader (term.negate at) (unary_with es)) (app_with (e ∷ es)))
 
 -- behind the first operand of a chain
 unfoldable pub chain_with : (Lexeme → Option Op) → (Inside → Reader TermTree) → ℕ → Inside → TermTree → Reader TermTree
-chain_with p operand at = repeat (λ k. is_op (p k)) (λ es t. switch p (λ o k. mapped (term.operate at o t) (operand es)))
+chain_with p operand at = repeat (λ k. is_op (p k)) (λ es t. switch p (λ o k. map_reader (term.operate at o t) (operand es)))
 
 -- a chain of operands
 unfoldable pub chain : (Lexeme → Option Op) → (Inside → Reader TermTree) → Inside → Reader TermTree
-chain p operand es = located (λ at. operand es >>= λ t. chain_with p operand at (next es) t)
+chain p operand es = with_start (λ at. operand es >>= λ t. chain_with p operand at (next es) t)
 
 -- a chain of `*`
 abbrev pub prod_with : Inside → Reader TermTree
@@ -279,12 +281,12 @@ sum_with = chain addition prod_with
 
 -- behind the first operand of a comparison
 unfoldable pub compare_with : ℕ → Inside → TermTree → Reader TermTree
-compare_with at es t = when (λ k. is_op (comparison k)) (switch comparison (λ o k. mapped (term.operate at o t) (sum_with es))) (give t)
+compare_with at es t = when (λ k. is_op (comparison k)) (switch comparison (λ o k. map_reader (term.operate at o t) (sum_with es))) (give t)
 
 -- one operand, or a comparison of two
 unfoldable pub cmp_with : Inside → Reader TermTree
 cmp_with [] = shut starts_unary
-cmp_with (e ∷ es) = located (λ at. sum_with (e ∷ es) >>= λ t. compare_with at (e ∷ es) t)
+cmp_with (e ∷ es) = with_start (λ at. sum_with (e ∷ es) >>= λ t. compare_with at (e ∷ es) t)
 
 -- a chain of `&&`
 abbrev pub and_with : Inside → Reader TermTree
@@ -305,11 +307,21 @@ arms (b ∷ bs) = arm b.0 b.1.0 b.1.1 (arms bs)
 
 -- binders one behind the other
 unfoldable pub names : Reader (List Binder)
-names = many is_lower (mapped bound (one lower_of))
+names = many is_lower (map_reader bound (one lower_of))
 
 -- an arrow
 unfoldable pub arrow_at : Reader Use
-arrow_at = on is_one (mapped (λ k. Once) (word (codes "->"))) (mapped (λ k. Many) (word (codes "->")))
+arrow_at = on is_one (map_reader (λ k. Once) (word (codes "->"))) (map_reader (λ k. Many) (word (codes "->")))
+
+-- the reserved word behind the term that chooses among arms
+abbrev pub word_of : Arms → List ℕ
+word_of by.Case = codes "of"
+word_of by.Match = codes "with"
+
+-- the term with these arms
+abbrev pub tree_by : Arms → ℕ → TermTree → TermArms → TermTree
+tree_by by.Case = term.case_of
+tree_by by.Match = term.match_with
 
 module _ (e : Reader TermTree) where
   -- an arm of a `case`
@@ -318,7 +330,7 @@ module _ (e : Reader TermTree) where
     l ← one upper_of
     xs ← names
     a ← word (codes "->")
-    mapped (λ t. (bound l, (xs, t))) e
+    map_reader (λ t. (bound l, (xs, t))) e
 
   -- an arm of a `match`
   unfoldable pub match_arm_with : Reader Arm
@@ -326,28 +338,26 @@ module _ (e : Reader TermTree) where
     l ← one upper_of
     x ← one lower_of
     a ← word (codes "->")
-    mapped (λ t. (bound l, (bound x ∷ [], t))) e
+    map_reader (λ t. (bound l, (bound x ∷ [], t))) e
 
   -- arms in braces
   unfoldable pub arms_with : Reader Arm → Reader TermArms
   arms_with f = do
     o ← word (codes "{")
-    bs ← separated (spells (codes ",")) f
-    mapped (λ c. arms bs) (word (codes "}"))
+    bs ← sep_by (spells (codes ",")) f
+    map_reader (λ c. arms bs) (word (codes "}"))
 
-  -- behind `case`
-  unfoldable pub case_with : ℕ → Reader TermTree
-  case_with at = do
-    t ← e
-    f ← word (codes "of")
-    mapped (term.case_of at t) (arms_with case_arm_with)
+  -- an arm of a `case` or a `match`
+  abbrev pub arm_by : Arms → Reader Arm
+  arm_by by.Case = case_arm_with
+  arm_by by.Match = match_arm_with
 
-  -- behind `match`
-  unfoldable pub match_with : ℕ → Reader TermTree
-  match_with at = do
+  -- behind `case` or `match`
+  unfoldable pub choice_with : Arms → ℕ → Reader TermTree
+  choice_with a at = do
     t ← e
-    w ← word (codes "with")
-    mapped (term.match_with at t) (arms_with match_arm_with)
+    w ← word (word_of a)
+    map_reader (tree_by a at t) (arms_with (arm_by a))
 
   -- behind `if`
   unfoldable pub if_with : ℕ → Reader TermTree
@@ -356,14 +366,14 @@ module _ (e : Reader TermTree) where
     h ← word (codes "then")
     u ← e
     l ← word (codes "else")
-    mapped (term.if_else at t u) e
+    map_reader (term.if_else at t u) e
 
   -- behind the `=` of a `let`
   unfoldable pub in_with : (TermTree → TermTree → TermTree) → Reader TermTree
   in_with make = do
     t ← e
     i ← word (codes "in")
-    mapped (make t) e
+    map_reader (make t) e
 
   -- behind the parenthesis of a `let`
   unfoldable pub split_with : ℕ → Reader TermTree
@@ -389,19 +399,19 @@ module _ (e : Reader TermTree) where
     c ← word (codes ":")
     t ← seq_at n
     uses ← arrow_at
-    mapped (term.lambda at uses t (bound x)) e
+    map_reader (term.lambda at uses t (bound x)) e
 
 -- behind what a term begins with
 abbrev pub expr_begun_with : Reader TermTree → ℕ → ExprStart → Lexeme → Reader TermTree
 expr_begun_with e n Let k = let_with e k.at
 expr_begun_with e n If k = if_with e k.at
 expr_begun_with e n Lambda k = lambda_with e n k.at
-expr_begun_with e n Case k = case_with e k.at
-expr_begun_with e n Match k = match_with e k.at
+expr_begun_with e n Case k = choice_with e by.Case k.at
+expr_begun_with e n Match k = choice_with e by.Match k.at
 
 -- a term that begins with an operand
 unfoldable pub then_with : Reader TermTree → Inside → Reader TermTree
-then_with e es = located (λ at. or_with (e ∷ es) >>= λ t. on (spells (codes ";")) (mapped (term.seq at t) e) (give t))
+then_with e es = with_start (λ at. or_with (e ∷ es) >>= λ t. on (spells (codes ";")) (map_reader (term.seq at t) e) (give t))
 
 -- a term
 unfoldable pub expr_with : Inside → Reader TermTree

@@ -3,12 +3,12 @@ use Rattle.std.specs.Prelude.{◌≡◌, ℕ, suc, List, [], ◌∷◌, length, 
 use Rattle.fst_lexer.specs.declared.token.Token.{Token}
 use Rattle.fst_terms.specs.declared.module.Decl.{Decl}
 use Rattle.fst_terms.specs.declared.module.SourceModule.{SourceModule}
-use Rattle.fst_terms.specs.ModuleTree.{Declared, declared}
+use Rattle.fst_terms.specs.ModuleTree.{Declared, decl_tree}
 use Rattle.fst_reading.specs.declared.fault.SyntaxFault.{SyntaxFault}
 use Rattle.fst_reading.specs.declared.fault.SyntaxFault.TheVariants as fault
 use Rattle.fst_reading.specs.Lexeme.{Lexeme, place}
 use Rattle.fst_reading.specs.Reading.{HaltOf, Syntax, Deep}
-use Rattle.fst_syntax.specs.Grammar.{Lined, unlined}
+use Rattle.fst_syntax.specs.Grammar.{Lined, lexemes_of}
 use Rattle.fst_syntax.specs.ModuleReading.{first_decl, in_line}
 use Rattle.fst_base.specs.Choice.{choose}
 use Rattle.fst_terms.specs.ModuleView.{declarations}
@@ -36,12 +36,12 @@ line_read limit (k ∷ ts) = choose k.first (counted (suc (length (in_line ts)))
 
 -- the fault of a stop, where the text ends at this byte
 abbrev pub line_fault : ℕ → HaltOf Lined → SyntaxFault
-line_fault end (Syntax ts) = fault.Syntax (place end (unlined ts))
-line_fault end (Deep ts) = fault.TooDeep (place end (unlined ts))
+line_fault end (Syntax ts) = fault.Syntax (place end (lexemes_of ts))
+line_fault end (Deep ts) = fault.TooDeep (place end (lexemes_of ts))
 
 -- it gives the first declaration and how many tokens it has, or the fault there; want of memory says nothing
 abbrev pub GivesLine : Result (Decl × ℕ) SyntaxFault → ℕ → Result (Declared × ℕ) (HaltOf Lined) → Type 0
-GivesLine (Ok x) end read = read ≡ Ok (declared x.0, x.1)
+GivesLine (Ok x) end read = read ≡ Ok (decl_tree x.0, x.1)
 GivesLine (Err fault.Memory) end read = ⊤
 GivesLine (Err e) end read = (h : HaltOf Lined) × (read ≡ Err h) × (e ≡ line_fault end h)
 

@@ -1,8 +1,8 @@
 ghost use Rattle.std.specs.Prelude.{◌≡◌, [], codes, map};
 ghost use Rattle.fst_terms.specs.ModuleTree as tree;
-ghost use Rattle.fst_terms.specs.ModuleTree.{maker, declared};
+ghost use Rattle.fst_terms.specs.ModuleTree.{maker, decl_tree};
 ghost use Rattle.fst_reading.specs.Lexeme.{spells};
-ghost use Rattle.fst_reading.specs.Reading.{begins, mapped, separated};
+ghost use Rattle.fst_reading.specs.Reading.{begins, map_reader, sep_by};
 ghost use Rattle.fst_type_syntax.specs.TypeReading.{starts_type_atom, type_at};
 ghost use Rattle.fst_reading.specs.Gives.{Gives};
 ghost use Rattle.fst_syntax.specs.DeclReading.{fields_at, maker_at, family_at, alias_at, signature_at, equation_at, decl_at, decl_whole};
@@ -68,7 +68,7 @@ fn makers<'a>(
     left: u32,
     tokens: &'a [Lexeme<'a>],
 ) -> Result<(Vec<SourceMaker>, &'a [Lexeme<'a>]), Stop<'a>>
-    ensures { Gives (λ x. (map maker x.0.items, x.1.now)) result (separated (spells (codes "|")) (maker_at left) tokens.now) }
+    ensures { Gives (λ x. (map maker x.0.items, x.1.now)) result (sep_by (spells (codes "|")) (maker_at left) tokens.now) }
 {
     let mut makers = Vec::new(alloc);
     let mut rest = tokens;
@@ -90,7 +90,7 @@ fn family<'a>(
     left: u32,
     tokens: &'a [Lexeme<'a>],
 ) -> Result<(Decl, &'a [Lexeme<'a>]), Stop<'a>>
-    ensures { Gives (λ x. (declared x.0, x.1.now)) result (family_at left tokens.now) }
+    ensures { Gives (λ x. (decl_tree x.0, x.1.now)) result (family_at left tokens.now) }
 {
     let (name, rest) = upper(tokens)?;
     let rest = expect("=", rest)?;
@@ -106,7 +106,7 @@ fn alias<'a>(
     left: u32,
     tokens: &'a [Lexeme<'a>],
 ) -> Result<(Decl, &'a [Lexeme<'a>]), Stop<'a>>
-    ensures { Gives (λ x. (declared x.0, x.1.now)) result (alias_at left tokens.now) }
+    ensures { Gives (λ x. (decl_tree x.0, x.1.now)) result (alias_at left tokens.now) }
 {
     let (name, rest) = upper(tokens)?;
     let rest = expect("=", rest)?;
@@ -116,7 +116,7 @@ fn alias<'a>(
 }
 
 /// The type of a global, and what stands behind it; these are its variables.
-#[tactic(auto, unfolding(fst_reading::specs::Reading::bind, fst_reading::specs::Reading::mapped))]
+#[tactic(auto, unfolding(fst_reading::specs::Reading::bind, fst_reading::specs::Reading::map_reader))]
 fn typed<'a>(
     alloc: Global,
     left: u32,
@@ -124,7 +124,7 @@ fn typed<'a>(
     binders: Vec<(Binder, Kind)>,
     tokens: &'a [Lexeme<'a>],
 ) -> Result<(Decl, &'a [Lexeme<'a>]), Stop<'a>>
-    ensures { Gives (λ x. (declared x.0, x.1.now)) result (mapped (tree.signature name binders.items) (type_at left) tokens.now) }
+    ensures { Gives (λ x. (decl_tree x.0, x.1.now)) result (map_reader (tree.signature name binders.items) (type_at left) tokens.now) }
 {
     let (body, rest) = type_(alloc, left, tokens)?;
     Ok((Decl::Signature(name, binders, body), rest))
@@ -138,7 +138,7 @@ fn signature<'a>(
     name: Binder,
     tokens: &'a [Lexeme<'a>],
 ) -> Result<(Decl, &'a [Lexeme<'a>]), Stop<'a>>
-    ensures { Gives (λ x. (declared x.0, x.1.now)) result (signature_at left name tokens.now) }
+    ensures { Gives (λ x. (decl_tree x.0, x.1.now)) result (signature_at left name tokens.now) }
 {
     match after("forall", tokens) {
         None => typed(alloc, left, name, Vec::new(alloc), tokens),
@@ -158,7 +158,7 @@ fn equation<'a>(
     name: Binder,
     tokens: &'a [Lexeme<'a>],
 ) -> Result<(Decl, &'a [Lexeme<'a>]), Stop<'a>>
-    ensures { Gives (λ x. (declared x.0, x.1.now)) result (equation_at left name tokens.now) }
+    ensures { Gives (λ x. (decl_tree x.0, x.1.now)) result (equation_at left name tokens.now) }
 {
     let (binders, rest) = names(alloc, tokens)?;
     let rest = expect("=", rest)?;
@@ -173,7 +173,7 @@ pub(crate) fn decl<'a>(
     left: u32,
     tokens: &'a [Lexeme<'a>],
 ) -> Result<(Decl, &'a [Lexeme<'a>]), Stop<'a>>
-    ensures { Gives (λ x. (declared x.0, x.1.now)) result (decl_at left tokens.now) }
+    ensures { Gives (λ x. (decl_tree x.0, x.1.now)) result (decl_at left tokens.now) }
 {
     if let Some(behind) = after("data", tokens) {
         return family(alloc, left, behind);
@@ -196,7 +196,7 @@ pub(crate) fn whole_decl<'a>(
     left: u32,
     tokens: &'a [Lexeme<'a>],
 ) -> Result<Decl, Stop<'a>>
-    ensures { Gives (λ d. (declared d, [])) result (decl_whole left tokens.now) }
+    ensures { Gives (λ d. (decl_tree d, [])) result (decl_whole left tokens.now) }
 {
     let (decl, rest) = decl(alloc, left, tokens)?;
     match rest {

@@ -2,10 +2,10 @@ ghost use Rattle.std.specs.Prelude.{◌≡◌, ℕ, length};
 ghost use Rattle.fst_terms.specs.TermTree as term;
 ghost use Rattle.fst_terms.specs.TermTree.{TermTree};
 ghost use Rattle.fst_terms.specs.ModelView.{arms_of};
-ghost use Rattle.fst_reading.specs.Reading.{Reader, mapped};
+ghost use Rattle.fst_reading.specs.Reading.{Reader, map_reader};
 ghost use Rattle.fst_reading.specs.Gives.{Gives};
-ghost use Rattle.fst_syntax.specs.TermReading.{inside, label_with, arrow_at, let_with, in_with, lambda_with};
-ghost use Rattle.fst_syntax.specs.Levels.{GoesOn, bind_term, arm_by, word_of, tree_by};
+ghost use Rattle.fst_syntax.specs.TermReading.{inside, label_with, arrow_at, let_with, in_with, lambda_with, arm_by, word_of, tree_by};
+ghost use Rattle.fst_syntax.specs.Levels.{GoesOn, bind_term};
 
 use crate::names::{bound, names};
 use crate::shut::{Wanted, shut};
@@ -95,7 +95,7 @@ pub(crate) fn parameter<'a>(
     left: u32,
     tokens: &'a [Lexeme<'a>],
 ) -> Result<((Binder, Written, Use), &'a [Lexeme<'a>]), Stop<'a>>
-    ensures { (e : Reader TermTree) (at : ℕ) → GoesOn (λ x. mapped (term.lambda at x.0.2 x.0.1 x.0.0) e x.1.now) result (lambda_with e (length (inside left)) at tokens.now) }
+    ensures { (e : Reader TermTree) (at : ℕ) → GoesOn (λ x. map_reader (term.lambda at x.0.2 x.0.1 x.0.0) e x.1.now) result (lambda_with e (length (inside left)) at tokens.now) }
 {
     let (name, rest) = lower(tokens)?;
     let rest = expect(":", rest)?;
@@ -112,7 +112,7 @@ pub(crate) fn arm_head<'a>(
     arms: Arms,
     tokens: &'a [Lexeme<'a>],
 ) -> Result<((Binder, Vec<Binder>), &'a [Lexeme<'a>]), Stop<'a>>
-    ensures { (e : Reader TermTree) → GoesOn (λ x. mapped (λ t. (x.0.0, (x.0.1.items, t))) e x.1.now) result (arm_by arms e tokens.now) }
+    ensures { (e : Reader TermTree) → GoesOn (λ x. map_reader (λ t. (x.0.0, (x.0.1.items, t))) e x.1.now) result (arm_by e arms tokens.now) }
 {
     let (label, rest) = upper(tokens)?;
     match arms {

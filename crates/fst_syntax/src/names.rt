@@ -1,5 +1,5 @@
 ghost use Rattle.std.specs.Prelude.{◌≡◌, IfOk};
-ghost use Rattle.fst_reading.specs.Reading.{one, mapped, begins};
+ghost use Rattle.fst_reading.specs.Reading.{one, map_reader, begins};
 ghost use Rattle.fst_reading.specs.Lexeme.{lower_of};
 ghost use Rattle.fst_reading.specs.Gives.{Gives};
 ghost use Rattle.fst_syntax.specs.Grammar.{bound};
@@ -26,17 +26,14 @@ fn comes_lower(tokens: &[Lexeme<'_>]) -> bool
 {
     match tokens {
         [] => false,
-        [first, ..] => match first.kind {
-            TokenKind::Lower => true,
-            _ => false,
-        },
+        [first, ..] => matches!(first.kind, TokenKind::Lower),
     }
 }
 
 /// A lower name as what it binds, and what stands behind it.
-#[tactic(auto, unfolding(fst_reading::specs::Reading::bind, fst_reading::specs::Reading::mapped))]
+#[tactic(auto, unfolding(fst_reading::specs::Reading::bind, fst_reading::specs::Reading::map_reader))]
 fn name<'a>(alloc: Global, tokens: &'a [Lexeme<'a>]) -> Result<(Binder, &'a [Lexeme<'a>]), Stop<'a>>
-    ensures { Gives (λ x. (x.0, x.1.now)) result (mapped bound (one lower_of) tokens.now) }
+    ensures { Gives (λ x. (x.0, x.1.now)) result (map_reader bound (one lower_of) tokens.now) }
 {
     let (token, rest) = lower(tokens)?;
     let name = bound(alloc, token)?;

@@ -40,10 +40,7 @@ fn starts_wanted(wanted: Wanted, token: &Lexeme<'_>) -> bool
         Wanted::Atom => starts_atom(token),
         Wanted::Operand => starts_unary(token),
         Wanted::Term => starts_expr(token),
-        Wanted::Label => match token.kind {
-            TokenKind::Upper => true,
-            _ => false,
-        },
+        Wanted::Label => matches!(token.kind, TokenKind::Upper),
         Wanted::Type => starts_type_atom(token),
     }
 }

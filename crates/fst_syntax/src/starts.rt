@@ -41,14 +41,11 @@ pub(crate) enum ExprStart {
 fn atom_named(text: &str) -> Option<AtomStart>
     ensures { result ≡ atom_named text.now }
 {
-    if text == "True" {
-        Some(AtomStart::Truth(true))
-    } else if text == "False" {
-        Some(AtomStart::Truth(false))
-    } else if text == "(" {
-        Some(AtomStart::Paren)
-    } else {
-        None
+    match text {
+        "True" => Some(AtomStart::Truth(true)),
+        "False" => Some(AtomStart::Truth(false)),
+        "(" => Some(AtomStart::Paren),
+        _ => None,
     }
 }
 
@@ -81,18 +78,13 @@ pub(crate) fn plain_start(token: &Lexeme<'_>) -> Option<AtomStart>
 fn app_named(text: &str) -> Option<AppStart>
     ensures { result ≡ app_named text.now }
 {
-    if text == "send" {
-        Some(AppStart::Send)
-    } else if text == "receive" {
-        Some(AppStart::Receive)
-    } else if text == "select" {
-        Some(AppStart::Select)
-    } else if text == "new" {
-        Some(AppStart::New)
-    } else if text == "fork" {
-        Some(AppStart::Fork)
-    } else {
-        None
+    match text {
+        "send" => Some(AppStart::Send),
+        "receive" => Some(AppStart::Receive),
+        "select" => Some(AppStart::Select),
+        "new" => Some(AppStart::New),
+        "fork" => Some(AppStart::Fork),
+        _ => None,
     }
 }
 
@@ -112,18 +104,13 @@ pub(crate) fn app_start(token: &Lexeme<'_>) -> Option<AppStart>
 fn expr_named(text: &str) -> Option<ExprStart>
     ensures { result ≡ expr_named text.now }
 {
-    if text == "let" {
-        Some(ExprStart::Let)
-    } else if text == "if" {
-        Some(ExprStart::If)
-    } else if text == "\\" {
-        Some(ExprStart::Lambda)
-    } else if text == "case" {
-        Some(ExprStart::Case)
-    } else if text == "match" {
-        Some(ExprStart::Match)
-    } else {
-        None
+    match text {
+        "let" => Some(ExprStart::Let),
+        "if" => Some(ExprStart::If),
+        "\\" => Some(ExprStart::Lambda),
+        "case" => Some(ExprStart::Case),
+        "match" => Some(ExprStart::Match),
+        _ => None,
     }
 }
 

@@ -1,9 +1,9 @@
 ghost use Rattle.std.specs.Prelude.{◌-◌, ◌<◌, codes, length, map};
 ghost use Rattle.fst_reading.specs.Lexeme.{spells};
-ghost use Rattle.fst_reading.specs.Reading.{separated};
+ghost use Rattle.fst_reading.specs.Reading.{sep_by};
 ghost use Rattle.fst_reading.specs.Gives.{Gives};
-ghost use Rattle.fst_syntax.specs.TermReading.{inside, expr_at, let_with, if_with, lambda_with, case_with, match_with, then_with};
-ghost use Rattle.fst_syntax.specs.Levels.{choice_with, arm_by, arm_parts};
+ghost use Rattle.fst_syntax.specs.TermReading.{inside, expr_at, let_with, if_with, lambda_with, arm_by, choice_with, then_with};
+ghost use Rattle.fst_syntax.specs.Levels.{arm_parts};
 
 use crate::heads::{Arms, Binding, arm_head, choose, let_head, parameter, word_of};
 use crate::operands::chain;
@@ -33,8 +33,8 @@ pub(crate) fn expr<'a>(
             Some(ExprStart::Let) => let_in(alloc, left - 1, first.at, rest),
             Some(ExprStart::If) => if_else(alloc, left - 1, first.at, rest),
             Some(ExprStart::Lambda) => lambda(alloc, left - 1, first.at, rest),
-            Some(ExprStart::Case) => case_of(alloc, left - 1, first.at, rest),
-            Some(ExprStart::Match) => match_with(alloc, left - 1, first.at, rest),
+            Some(ExprStart::Case) => with_arms(alloc, left - 1, Arms::Case, first.at, rest),
+            Some(ExprStart::Match) => with_arms(alloc, left - 1, Arms::Match, first.at, rest),
             None => then(alloc, left, tokens),
         },
     }
@@ -119,7 +119,7 @@ fn if_else<'a>(
 
 /// What stands behind `\`.
 #[cycle(reader)]
-#[tactic(auto, unfolding(fst_reading::specs::Reading::bind, fst_reading::specs::Reading::mapped))]
+#[tactic(auto, unfolding(fst_reading::specs::Reading::bind, fst_reading::specs::Reading::map_reader))]
 fn lambda<'a>(
     alloc: Global,
     left: u32,
@@ -135,32 +135,6 @@ fn lambda<'a>(
     Ok((SourceTerm { at, form }, rest))
 }
 
-/// What stands behind `case`.
-#[cycle(reader)]
-fn case_of<'a>(
-    alloc: Global,
-    left: u32,
-    at: u32,
-    tokens: &'a [Lexeme<'a>],
-) -> Result<(SourceTerm, &'a [Lexeme<'a>]), Stop<'a>>
-    ensures { Gives (λ x. (x.0, x.1.now)) result (case_with (expr_at left) at tokens.now) }
-{
-    with_arms(alloc, left, Arms::Case, at, tokens)
-}
-
-/// What stands behind `match`.
-#[cycle(reader)]
-fn match_with<'a>(
-    alloc: Global,
-    left: u32,
-    at: u32,
-    tokens: &'a [Lexeme<'a>],
-) -> Result<(SourceTerm, &'a [Lexeme<'a>]), Stop<'a>>
-    ensures { Gives (λ x. (x.0, x.1.now)) result (match_with (expr_at left) at tokens.now) }
-{
-    with_arms(alloc, left, Arms::Match, at, tokens)
-}
-
 /// What stands behind `case` or `match`.
 #[cycle(reader)]
 #[tactic(auto, using(crate::proofs::Inside::arms_parts), unfolding(crate::specs::Steps::choices))]
@@ -171,7 +145,7 @@ fn with_arms<'a>(
     at: u32,
     tokens: &'a [Lexeme<'a>],
 ) -> Result<(SourceTerm, &'a [Lexeme<'a>]), Stop<'a>>
-    ensures { Gives (λ x. (x.0, x.1.now)) result (choice_with kind (expr_at left) at tokens.now) }
+    ensures { Gives (λ x. (x.0, x.1.now)) result (choice_with (expr_at left) kind at tokens.now) }
 {
     let (subject, rest) = expr(alloc, left, tokens)?;
     let subject = Box::new(alloc, subject)?;
@@ -190,7 +164,7 @@ fn arms<'a>(
     kind: Arms,
     tokens: &'a [Lexeme<'a>],
 ) -> Result<(Vec<SourceArm>, &'a [Lexeme<'a>]), Stop<'a>>
-    ensures { Gives (λ x. (map arm_parts x.0.items, x.1.now)) result (separated (spells (codes ",")) (arm_by kind (expr_at left)) tokens.now) }
+    ensures { Gives (λ x. (map arm_parts x.0.items, x.1.now)) result (sep_by (spells (codes ",")) (arm_by (expr_at left) kind) tokens.now) }
 {
     let mut arms = Vec::new(alloc);
     let mut rest = tokens;
@@ -207,14 +181,14 @@ fn arms<'a>(
 
 /// One arm.
 #[cycle(reader)]
-#[tactic(auto, unfolding(fst_reading::specs::Reading::bind, fst_reading::specs::Reading::mapped))]
+#[tactic(auto, unfolding(fst_reading::specs::Reading::bind, fst_reading::specs::Reading::map_reader))]
 fn arm<'a>(
     alloc: Global,
     left: u32,
     kind: Arms,
     tokens: &'a [Lexeme<'a>],
 ) -> Result<(SourceArm, &'a [Lexeme<'a>]), Stop<'a>>
-    ensures { Gives (λ x. (arm_parts x.0, x.1.now)) result (arm_by kind (expr_at left) tokens.now) }
+    ensures { Gives (λ x. (arm_parts x.0, x.1.now)) result (arm_by (expr_at left) kind tokens.now) }
 {
     let ((label, binders), rest) = arm_head(alloc, kind, tokens)?;
     let (body, rest) = expr(alloc, left, rest)?;

@@ -7,7 +7,7 @@ use Rattle.fst_types.specs.declared.kind.Use.TheVariants.{Once}
 use Rattle.fst_reading.specs.Lexeme.{Lexeme, spells, start}
 use Rattle.fst_reading.specs.Faults.{is_left}
 use Rattle.fst_type_syntax.specs.Derives.{lengthens, lengthens_seq}
-use Rattle.fst_reading.specs.Reading.{Reader, andthen, mapped, finish, behind, on, word, shut}
+use Rattle.fst_reading.specs.Reading.{Reader, andthen, map_reader, finish, behind, on, word, shut}
 use Rattle.fst_type_syntax.specs.TypeReading.{rec_with, chain_with, seq_with, arrow_with, type_with, starts_type, seq_at, type_at, types_at, question_at}
 use Rattle.fst_reading.proofs.Steps.{bind_ok, give_is}
 use Rattle.fst_base.proofs.Choices.{chosen}
@@ -39,7 +39,7 @@ ends_type_with seq type p q ts y rest e =
     elim (chosen _ _ _ _ a.2) [
       | inl h ↦ ends_mapped lengthens _ type q (behind a.0.1) y rest h.1
       | inr h ↦ elim (chosen _ _ _ _ h.1) [
-        | inl i ↦ ends_then lengthens (word (codes "->")) (λ k. mapped (written.arrow (start ts) Once a.0.0) type) (λ k. ends_mapped lengthens _ type q) (behind a.0.1) y rest i.1
+        | inl i ↦ ends_then lengthens (word (codes "->")) (λ k. map_reader (written.arrow (start ts) Once a.0.0) type) (λ k. ends_mapped lengthens _ type q) (behind a.0.1) y rest i.1
         | inr i ↦ ap lengthens (sym (give_is a.0.0 a.0.1 y rest i.1).1) ∙ none_of _ _ _ (ends_seq_with seq type p ts a.0.0 a.0.1 a.1) h.0 i.0
       ]
     ]

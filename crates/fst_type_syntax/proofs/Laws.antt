@@ -9,7 +9,7 @@ use Rattle.fst_types.specs.declared.kind.Use.{Use}
 use Rattle.fst_terms.specs.declared.binder.Binder.{Binder}
 use Rattle.fst_terms.specs.Count.{type_count}
 use Rattle.fst_reading.specs.Lexeme.{Lexeme, spells, Is}
-use Rattle.fst_reading.specs.Reading.{Reader, separated}
+use Rattle.fst_reading.specs.Reading.{Reader, sep_by}
 use Rattle.fst_reading.proofs.Phrases.{Reads, never, first}
 use Rattle.fst_reading.proofs.Steps.{SomePhrase}
 use Rattle.fst_reading.proofs.Words.{BeginsWith, comma}
@@ -38,7 +38,7 @@ pub reads_atom : (limit d : ℕ) → d ≤ limit → (seq type : Reader WrittenT
 reads_atom = types.reads_atom
 
 -- and the reader of variables with their kinds
-pub reads_binders : (limit : ℕ) → Reads limit (separated (spells (codes ",")) binder_at) BindersPhrase comma
+pub reads_binders : (limit : ℕ) → Reads limit (sep_by (spells (codes ",")) binder_at) BindersPhrase comma
 reads_binders = questions.reads_binders
 
 -- variables with their kinds have a token

@@ -15,7 +15,7 @@ use Rattle.fst_type_syntax.specs.Grammar.{IsBinder, binder, IsBinders, last, fur
 use Rattle.fst_type_syntax.specs.Nesting.{seq_nests, question_nests}
 use Rattle.fst_reading.specs.Faults.{level, Phrase, is_left}
 use Rattle.fst_type_syntax.specs.Derives.{QuestionPhrase, SeqPhrase, BindersPhrase, lengthens_seq}
-use Rattle.fst_reading.specs.Reading.{one, only, finish, begins, separated}
+use Rattle.fst_reading.specs.Reading.{one, only, finish, begins, sep_by}
 use Rattle.fst_type_syntax.specs.TypeReading.{base_named, start_named, use_of, prekind_named, prekind_of, binder_at, types_at, question_at}
 use Rattle.fst_reading.proofs.Phrases as phrase
 use Rattle.fst_reading.proofs.Phrases.{Reads, never, nothing, Then, Mapped, made, first, On, taken, other, Separated}
@@ -120,7 +120,7 @@ binders_from : (ts : List Lexeme) (bs : List (Binder × Kind)) (ns : List ℕ) �
 binders_from ts bs ns p = subst (BindersR ts bs) p.1 (of_binders ts bs p.0)
 
 -- variables with their kinds are read, and what stands behind them is no comma
-pub reads_binders : (limit : ℕ) → Reads limit (separated (spells (codes ",")) binder_at) BindersPhrase comma
+pub reads_binders : (limit : ℕ) → Reads limit (sep_by (spells (codes ",")) binder_at) BindersPhrase comma
 reads_binders limit =
     reads_as limit _ BindersR BindersPhrase comma
     (reads_separated limit 0 (omega arith) (spells (codes ",")) binder_at BinderP never comma (reads_binder limit) sample_binder binder_filled (λ k ts is. refl) (λ rest stop. (refl, stop)))

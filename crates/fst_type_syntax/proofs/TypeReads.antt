@@ -13,7 +13,7 @@ use Rattle.fst_reading.specs.Lexeme.{Lexeme, spells, Is, start, lower_of, upper_
 use Rattle.fst_type_syntax.specs.Grammar.{int, IsType, single, arrow, IsSeq, rec, atom, chain, IsAtom, skip, send, receive, select, offer, plain, lower, upper, group, pair, IsAlts, last, further, IsAlt, alt}
 use Rattle.fst_type_syntax.specs.Nesting.{type_nests, seq_nests, atom_nests, alts_nests, alt_nests}
 use Rattle.fst_reading.specs.Faults.{level}
-use Rattle.fst_reading.specs.Reading.{Reader, mapped, only, word, begins, on, separated, shut}
+use Rattle.fst_reading.specs.Reading.{Reader, map_reader, only, word, begins, on, sep_by, shut}
 use Rattle.fst_reading.specs.Reading as reading
 use Rattle.fst_type_syntax.specs.TypeReading.{base_named, base_word, start_named, start_of, base_at, alt_with, choice_with, pair_with, paren_with, begun_with, atom_with, rec_with, chain_with, seq_with, arrow_with, type_with, starts_type, seq_at, type_at}
 use Rattle.fst_reading.proofs.Phrases as phrase
@@ -87,7 +87,7 @@ module _ (limit d : ℕ) (low : d ≤ limit) (seq type : Reader WrittenTree) (rs
   abbrev comma : List Lexeme → Bool
   comma ts = lengthens_seq ts || begins (spells (codes ",")) ts
 
-  reads_alts : Reads limit (separated (spells (codes ",")) (alt_with seq type)) (AltsR d) comma
+  reads_alts : Reads limit (sep_by (spells (codes ",")) (alt_with seq type)) (AltsR d) comma
   reads_alts =
       reads_separated limit d low (spells (codes ",")) (alt_with seq type) (AltP d) lengthens_seq comma reads_alt sample_alt alt_filled
       (λ k ts is. no_other (codes ",") (codes ";") k refl is) (λ rest stop. or_parts _ _ stop)
@@ -129,7 +129,7 @@ module _ (limit d : ℕ) (low : d ≤ limit) (seq type : Reader WrittenTree) (rs
   closed_free : (h : Unit {0} → WrittenTree) (us : List Lexeme) (y : WrittenTree) (ns : List ℕ) (rest : List Lexeme) → Mapped h (Word d (codes ")")) us y ns → never rest ≡ false → begins (spells (codes ",")) (us ++ rest) ≡ false
   closed_free h _ _ _ rest (made _ _ _ (first c x _ _ _ e nothing)) stop = no_other (codes ")") (codes ",") c refl (only_is (spells (codes ")")) c x e)
 
-  reads_closed : (k : Lexeme) (t : WrittenTree) → Reads limit (on (spells (codes ",")) (pair_with seq type k.at t) (mapped (λ c. t) (word (codes ")")))) (ClosedR d k t) never
+  reads_closed : (k : Lexeme) (t : WrittenTree) → Reads limit (on (spells (codes ",")) (pair_with seq type k.at t) (map_reader (λ c. t) (word (codes ")")))) (ClosedR d k t) never
   reads_closed k t =
       reads_on limit d low (spells (codes ",")) _ _ _ _ never (reads_pair k t) (reads_mapped limit _ (word (codes ")")) (Word d (codes ")")) never (reads_word limit d low (codes ")"))) (closed_free _)
 

@@ -17,7 +17,7 @@ use Rattle.fst_type_syntax.specs.declared.starts.Start.{Start}
 use Rattle.fst_type_syntax.specs.declared.starts.Start.TheVariants as begin
 use Rattle.fst_reading.specs.Lexeme.{Lexeme, spells, upper_of, lower_of, is_one}
 use Rattle.fst_type_syntax.specs.Grammar.{Asked}
-use Rattle.fst_reading.specs.Reading.{Reader, give, ◌>>=◌, mapped, switch, one, word, located, finish, on, separated, shut}
+use Rattle.fst_reading.specs.Reading.{Reader, give, ◌>>=◌, map_reader, switch, one, word, with_start, finish, on, sep_by, shut}
 use Rattle.fst_base.specs.Choice.{choose}
 
 -- the base type that is this word
@@ -66,7 +66,7 @@ start_of k = start_by k.kind k.text
 
 -- a base type
 unfoldable pub base_at : Reader Base
-base_at = on (spells (codes "(")) (mapped (λ u. base.Unit) (word (codes ")"))) (one base_word)
+base_at = on (spells (codes "(")) (map_reader (λ u. base.Unit) (word (codes ")"))) (one base_word)
 
 -- branches as they stand in a written type
 abbrev pub branches : List (List ℕ × WrittenTree) → WrittenBranches
@@ -80,32 +80,32 @@ module _ (seq type : Reader WrittenTree) where
   alt_with = do
     l ← one upper_of
     c ← word (codes ":")
-    mapped (λ t. (l.text, t)) seq
+    map_reader (λ t. (l.text, t)) seq
 
   -- the branches of a choice, in braces
   unfoldable pub choice_with : (WrittenBranches → WrittenTree) → Reader WrittenTree
   choice_with make = do
     o ← word (codes "{")
-    bs ← separated (spells (codes ",")) alt_with
-    mapped (λ c. make (branches bs)) (word (codes "}"))
+    bs ← sep_by (spells (codes ",")) alt_with
+    map_reader (λ c. make (branches bs)) (word (codes "}"))
 
   -- behind the second type of a pair
   unfoldable pub pair_with : ℕ → WrittenTree → Reader WrittenTree
   pair_with at t = do
     u ← type
-    mapped (λ c. written.pair at t u) (word (codes ")"))
+    map_reader (λ c. written.pair at t u) (word (codes ")"))
 
   -- behind a parenthesis
   unfoldable pub paren_with : ℕ → Reader WrittenTree
   paren_with at =
       on (spells (codes ")")) (give (written.plain at base.Unit))
-      (type >>= λ t. on (spells (codes ",")) (pair_with at t) (mapped (λ c. t) (word (codes ")"))))
+      (type >>= λ t. on (spells (codes ",")) (pair_with at t) (map_reader (λ c. t) (word (codes ")"))))
 
   -- behind what a `tatom` begins with
   abbrev pub begun_with : Start → Lexeme → Reader WrittenTree
   begun_with begin.Skip k = give (written.skip k.at)
-  begun_with begin.Send k = mapped (written.send k.at) base_at
-  begun_with begin.Receive k = mapped (written.receive k.at) base_at
+  begun_with begin.Send k = map_reader (written.send k.at) base_at
+  begun_with begin.Receive k = map_reader (written.receive k.at) base_at
   begun_with begin.Select k = choice_with (written.select k.at)
   begun_with begin.Offer k = choice_with (written.offer k.at)
   begun_with begin.Paren k = paren_with k.at
@@ -121,25 +121,25 @@ module _ (seq type : Reader WrittenTree) where
   rec_with at = do
     x ← one lower_of
     d ← word (codes ".")
-    mapped (written.rec at x.text) seq
+    map_reader (written.rec at x.text) seq
 
   -- an atomic type, and what goes on behind `;`
   unfoldable pub chain_with : ℕ → Reader WrittenTree
-  chain_with at = atom_with >>= λ t. on (spells (codes ";")) (mapped (written.seq at t) seq) (give t)
+  chain_with at = atom_with >>= λ t. on (spells (codes ";")) (map_reader (written.seq at t) seq) (give t)
 
   -- a `rec` or a chain of `;`
   unfoldable pub seq_with : Reader WrittenTree
-  seq_with = located (λ at. on (spells (codes "rec")) (rec_with at) (chain_with at))
+  seq_with = with_start (λ at. on (spells (codes "rec")) (rec_with at) (chain_with at))
 
   -- behind the first `seqtype` of a type
   unfoldable pub arrow_with : ℕ → WrittenTree → Reader WrittenTree
   arrow_with at t =
-      on (spells (codes "->")) (mapped (written.arrow at Many t) type)
-      (on is_one (word (codes "->") >>= λ k. mapped (written.arrow at Once t) type) (give t))
+      on (spells (codes "->")) (map_reader (written.arrow at Many t) type)
+      (on is_one (word (codes "->") >>= λ k. map_reader (written.arrow at Once t) type) (give t))
 
   -- a type with its arrows
   unfoldable pub type_with : Reader WrittenTree
-  type_with = located (λ at. seq_with >>= λ t. arrow_with at t)
+  type_with = with_start (λ at. seq_with >>= λ t. arrow_with at t)
 
 -- whether a token begins a type
 abbrev pub is_begun : Option Start → Bool
@@ -195,7 +195,7 @@ binder_at = do
   x ← one lower_of
   c ← word (codes ":")
   u ← one use_of
-  mapped (λ (p : Prekind). (record { name = x.text; at = x.at }, record { prekind = p; uses = u })) (one prekind_of)
+  map_reader (λ (p : Prekind). (record { name = x.text; at = x.at }, record { prekind = p; uses = u })) (one prekind_of)
 
 -- the two types of a question, behind its binders
 unfoldable pub types_at : ℕ → List (Binder × Kind) → Reader Asked
@@ -203,8 +203,8 @@ types_at n bs = do
   t ← seq_at n
   k ← word (codes "~")
   u ← seq_at n
-  mapped (λ e. record { binders = bs; left = t; right = u }) finish
+  map_reader (λ e. record { binders = bs; left = t; right = u }) finish
 
 -- a question with nothing behind it
 unfoldable pub question_at : ℕ → Reader Asked
-question_at n = on (spells (codes "forall")) (separated (spells (codes ",")) binder_at >>= λ bs. word (codes ".") >>= λ d. types_at n bs) (types_at n [])
+question_at n = on (spells (codes "forall")) (sep_by (spells (codes ",")) binder_at >>= λ bs. word (codes ".") >>= λ d. types_at n bs) (types_at n [])

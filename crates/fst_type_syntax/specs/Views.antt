@@ -11,12 +11,12 @@ abbrev pub labelled : WrittenBranch → List ℕ × WrittenTree
 labelled b = (b.label, b.body)
 
 -- the binders of a question with their kinds, and its two types
-abbrev pub asked : SourceQuestion → Asked
-asked q = record { binders = q.binders.items; left = q.left; right = q.right }
+abbrev pub question_tree : SourceQuestion → Asked
+question_tree q = record { binders = q.binders.items; left = q.left; right = q.right }
 
 -- what the reader of questions answers, as the definitions see it
 abbrev pub question_view : Result SourceQuestion SyntaxFault → Result Asked SyntaxFault
-question_view (Ok q) = Ok (asked q)
+question_view (Ok q) = Ok (question_tree q)
 question_view (Err e) = Err e
 
 -- what the reader of types answers, as the definitions see it

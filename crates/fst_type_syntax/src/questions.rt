@@ -1,9 +1,9 @@
 ghost use Rattle.std.specs.Prelude.{[], codes};
 ghost use Rattle.fst_reading.specs.Lexeme.{spells};
-ghost use Rattle.fst_reading.specs.Reading.{one, separated};
+ghost use Rattle.fst_reading.specs.Reading.{one, sep_by};
 ghost use Rattle.fst_type_syntax.specs.TypeReading.{use_of, prekind_of, binder_at, types_at, question_at};
 ghost use Rattle.fst_reading.specs.Gives.{Gives};
-ghost use Rattle.fst_type_syntax.specs.Views.{asked};
+ghost use Rattle.fst_type_syntax.specs.Views.{question_tree};
 
 use crate::source::SourceQuestion;
 use crate::starts::{prekind_of, use_of};
@@ -63,7 +63,7 @@ pub fn binders<'a>(
     alloc: Global,
     tokens: &'a [Lexeme<'a>],
 ) -> Result<(Vec<(Binder, Kind)>, &'a [Lexeme<'a>]), Stop<'a>>
-    ensures { Gives (λ x. (x.0.items, x.1.now)) result (separated (spells (codes ",")) binder_at tokens.now) }
+    ensures { Gives (λ x. (x.0.items, x.1.now)) result (sep_by (spells (codes ",")) binder_at tokens.now) }
 {
     let mut binders = Vec::new(alloc);
     let mut rest = tokens;
@@ -86,7 +86,7 @@ fn types<'a>(
     binders: Vec<(Binder, Kind)>,
     tokens: &'a [Lexeme<'a>],
 ) -> Result<SourceQuestion, Stop<'a>>
-    ensures { Gives (λ q. (asked q, [])) result (types_at left binders.items tokens.now) }
+    ensures { Gives (λ q. (question_tree q, [])) result (types_at left binders.items tokens.now) }
 {
     let (first, rest) = seq(alloc, left, tokens)?;
     let rest = expect("~", rest)?;
@@ -108,7 +108,7 @@ pub(crate) fn question<'a>(
     left: u32,
     tokens: &'a [Lexeme<'a>],
 ) -> Result<SourceQuestion, Stop<'a>>
-    ensures { Gives (λ q. (asked q, [])) result (question_at left tokens.now) }
+    ensures { Gives (λ q. (question_tree q, [])) result (question_at left tokens.now) }
 {
     match after("forall", tokens) {
         None => types(alloc, left, Vec::new(alloc), tokens),

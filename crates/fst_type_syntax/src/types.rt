@@ -3,7 +3,7 @@ ghost use Rattle.fst_types.specs.WrittenTree as written;
 ghost use Rattle.fst_types.specs.WrittenTree.{WrittenTree, WrittenBranches};
 ghost use Rattle.fst_types.specs.ModelWrittenView.{written_branches};
 ghost use Rattle.fst_reading.specs.Lexeme.{spells};
-ghost use Rattle.fst_reading.specs.Reading.{separated, mapped};
+ghost use Rattle.fst_reading.specs.Reading.{sep_by, map_reader};
 ghost use Rattle.fst_type_syntax.specs.TypeReading.{alt_with, choice_with, pair_with, paren_with, begun_with, atom_with, rec_with, chain_with, seq_with, arrow_with, type_with, seq_at, type_at};
 ghost use Rattle.fst_reading.specs.Gives.{Gives};
 ghost use Rattle.fst_type_syntax.specs.Views.{labelled};
@@ -38,7 +38,7 @@ fn alts<'a>(
     left: u32,
     tokens: &'a [Lexeme<'a>],
 ) -> Result<(Vec<WrittenBranch>, &'a [Lexeme<'a>]), Stop<'a>>
-    ensures { Gives (λ x. (map labelled x.0.items, x.1.now)) result (separated (spells (codes ",")) (alt_with (seq_at left) (type_at left)) tokens.now) }
+    ensures { Gives (λ x. (map labelled x.0.items, x.1.now)) result (sep_by (spells (codes ",")) (alt_with (seq_at left) (type_at left)) tokens.now) }
 {
     let mut branches = Vec::new(alloc);
     let mut rest = tokens;
@@ -306,7 +306,7 @@ fn arrow<'a>(
 
 /// What stands behind an arrow.
 #[cycle(reader)]
-#[tactic(auto, unfolding(fst_reading::specs::Reading::bind, fst_reading::specs::Reading::mapped))]
+#[tactic(auto, unfolding(fst_reading::specs::Reading::bind, fst_reading::specs::Reading::map_reader))]
 fn function<'a>(
     alloc: Global,
     left: u32,
@@ -315,7 +315,7 @@ fn function<'a>(
     first: Written,
     tokens: &'a [Lexeme<'a>],
 ) -> Result<(Written, &'a [Lexeme<'a>]), Stop<'a>>
-    ensures { Gives (λ x. (x.0, x.1.now)) result (mapped (written.arrow at uses first) (type_at left) tokens.now) }
+    ensures { Gives (λ x. (x.0, x.1.now)) result (map_reader (written.arrow at uses first) (type_at left) tokens.now) }
 {
     let (second, rest) = type_(alloc, left, tokens)?;
     let first = Box::new(alloc, first)?;

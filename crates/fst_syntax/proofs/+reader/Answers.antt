@@ -3,25 +3,24 @@ use Rattle.std.proofs.lemmas.Result.{err_from_is_err_and}
 use Rattle.std.proofs.lemmas.List.{map-append}
 use Rattle.fst_reading.specs.Lexeme.{spells}
 use Rattle.fst_reading.proofs.Loops.{begins_empty, goes_on, stops, runs_out, fails}
-use Rattle.fst_syntax.specs.TermReading.{expr_at}
-use Rattle.fst_syntax.specs.Levels.{operator_of, operand_with, arm_by, arm_parts}
-use Rattle.fst_syntax.proofs.Inside.{case_choice, match_choice}
+use Rattle.fst_syntax.specs.TermReading.{expr_at, arm_by}
+use Rattle.fst_syntax.specs.Levels.{operator_of, operand_with, arm_parts}
 use Rattle.fst_syntax.proofs.Chains.{chain_stops, chain_shut, chain_goes_on, chain_fails}
 use Rattle.fst_syntax.proofs.Applying.{applications_stop, applications_shut, applications_go_on, applications_fail, arguments_stop, arguments_shut, arguments_go_on, arguments_fail}
 use Rattle.fst_syntax.proofs.+reader.Goals as goal
 
 pub terms::arms-loop-init : goal.terms::arms-loop-init
-terms::arms-loop-init t c = (rw c.new-arms.ensures.items (begins_empty (spells (codes ",")) (arm_by c.args.kind (expr_at c.args.left)) (length c.args.tokens.now) c.args.tokens.now), refl)
+terms::arms-loop-init t c = (rw c.new-arms.ensures.items (begins_empty (spells (codes ",")) (arm_by (expr_at c.args.left) c.args.kind) (length c.args.tokens.now) c.args.tokens.now), refl)
 
 pub terms::arms-returns-in_err-arm : goal.terms::arms-returns-in_err-arm
 terms::arms-returns-in_err-arm t c =
-    let arm = arm_by c.args.kind (expr_at c.args.left) in
+    let arm = arm_by (expr_at c.args.left) c.args.kind in
     let p = err_from_is_err_and c.from_residual.result c.from_residual.ensures.1 in
     rw (p.1, p.2) (fails (spells (codes ",")) arm (map arm_parts c.loop.arms.items) (length c.args.tokens.now) c.loop.counter c.loop.rest.now _ _ c.loop-test.true c.in_err-arm.ensures c.loop.invariant.0)
 
 pub terms::arms-returns-then-not-comes : goal.terms::arms-returns-then-not-comes
 terms::arms-returns-then-not-comes t c =
-    let arm = arm_by c.args.kind (expr_at c.args.left) in
+    let arm = arm_by (expr_at c.args.left) c.args.kind in
     let last = stops (spells (codes ",")) arm (map arm_parts c.loop.arms.items) (length c.args.tokens.now) c.loop.counter c.loop.rest.now _ (arm_parts c.in_ok-arm.arm) c.in_ok-arm.remaining.now
     c.loop-test.true c.in_ok-arm.ensures (sym c.comes.ensures ∙ c.if-not-comes.true) c.loop.invariant.0 in
     let items = ap (map arm_parts) c.in_ok-push.ensures.items ∙ map-append arm_parts c.loop.arms.items _ in
@@ -29,7 +28,7 @@ terms::arms-returns-then-not-comes t c =
 
 pub terms::arms-loop-preserved : goal.terms::arms-loop-preserved
 terms::arms-loop-preserved t c =
-    let arm = arm_by c.args.kind (expr_at c.args.left) in
+    let arm = arm_by (expr_at c.args.left) c.args.kind in
     let next = goes_on (spells (codes ",")) arm (map arm_parts c.loop.arms.items) (length c.args.tokens.now) c.loop.counter c.loop.rest.now _ (arm_parts c.in_ok-arm.arm) c.in_ok-arm.remaining.now
     c.loop-test.true c.in_ok-arm.ensures (sym c.comes.ensures ∙ c.if-not-comes.false) c.loop.invariant.0 in
     let items = ap (map arm_parts) c.in_ok-push.ensures.items ∙ map-append arm_parts c.loop.arms.items _ in
@@ -37,7 +36,7 @@ terms::arms-loop-preserved t c =
 
 pub terms::arms-returns : goal.terms::arms-returns
 terms::arms-returns t c =
-    let arm = arm_by c.args.kind (expr_at c.args.left) in
+    let arm = arm_by (expr_at c.args.left) c.args.kind in
     runs_out (spells (codes ",")) arm (map arm_parts c.loop.arms.items) (length c.args.tokens.now) c.loop.counter c.loop.rest.now _ c.loop-test.false c.loop.invariant.0
 
 pub atoms::applications-returns-then-not-begins_atom : goal.atoms::applications-returns-then-not-begins_atom
@@ -104,9 +103,3 @@ operands::more-returns-in_ok-operate-in-Some t c =
     let step = chain_goes_on (operator_of c.args.level) (operand_with c.args.level) c.args.at c.args.term.now c.args.tokens.now sign.0 c.in-Some.op c.in-Some.behind.now sign.1 sign.2
     c.args.left c.in_ok-second-in-Some.second c.in_ok-second-in-Some.rest.now lt c.in_ok-second-in-Some.ensures in
     rw (step, ← c.in_ok-operate-in-Some.ensures) c.more.ensures
-
-pub terms::case_of-returns : goal.terms::case_of-returns
-terms::case_of-returns t c = rw (case_choice (expr_at c.args.left) c.args.at c.args.tokens.now) c.with_arms.ensures
-
-pub terms::match_with-returns : goal.terms::match_with-returns
-terms::match_with-returns t c = rw (match_choice (expr_at c.args.left) c.args.at c.args.tokens.now) c.with_arms.ensures

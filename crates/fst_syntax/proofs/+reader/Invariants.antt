@@ -1,9 +1,9 @@
 use Rattle.std.proofs.Common.{◌≡◌, ◌+◌, ◌-◌, ◌*◌, length, map, codes}
 use Rattle.fst_reading.specs.Lexeme.{spells}
-use Rattle.fst_reading.specs.Reading.{separated_within}
+use Rattle.fst_reading.specs.Reading.{sep_by_within}
 use Rattle.fst_reading.proofs.Loops.{with_front}
-use Rattle.fst_syntax.specs.TermReading.{expr_at}
-use Rattle.fst_syntax.specs.Levels.{arm_by, arm_parts}
+use Rattle.fst_syntax.specs.TermReading.{expr_at, arm_by}
+use Rattle.fst_syntax.specs.Levels.{arm_parts}
 use Rattle.fst_syntax.proofs.Inside.{rank}
 use Rattle.fst_syntax.proofs.+reader.Given as goal
 
@@ -67,14 +67,8 @@ decreases-terms::with_arms l = 128 * l.left + 63
 abbrev pub invariant-terms::arms-loop : goal.invariant-terms::arms-loop
 invariant-terms::arms-loop l =
     let comma = spells (codes ",") in
-    let arm = arm_by l.kind (expr_at l.left) in
-    (with_front (map arm_parts l.arms.items) (separated_within comma arm (l.end - l.counter) l.rest) ≡ separated_within comma arm (length l.tokens) l.tokens) × (l.end ≡ length l.tokens)
+    let arm = arm_by (expr_at l.left) l.kind in
+    (with_front (map arm_parts l.arms.items) (sep_by_within comma arm (l.end - l.counter) l.rest) ≡ sep_by_within comma arm (length l.tokens) l.tokens) × (l.end ≡ length l.tokens)
 
 abbrev pub decreases-terms::then : goal.decreases-terms::then
 decreases-terms::then l = 128 * l.left + 59
-
-abbrev pub decreases-terms::case_of : goal.decreases-terms::case_of
-decreases-terms::case_of l = 128 * l.left + 64
-
-abbrev pub decreases-terms::match_with : goal.decreases-terms::match_with
-decreases-terms::match_with l = 128 * l.left + 64

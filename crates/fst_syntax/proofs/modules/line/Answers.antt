@@ -1,5 +1,5 @@
 use Rattle.std.proofs.Common.{arith, true, false}
-use Rattle.fst_terms.specs.ModuleTree.{declared}
+use Rattle.fst_terms.specs.ModuleTree.{decl_tree}
 use Rattle.fst_syntax.proofs.LineAnswers.{first_of, no_line, line_given, line_refused}
 use Rattle.fst_syntax.proofs.modules.line.Goals as goal
 
@@ -11,7 +11,7 @@ returns-then-not-tokens c =
 pub returns-in-Ok : goal.returns-in-Ok
 returns-in-Ok c =
     let first = first_of c.args.tokens.now _ true (omega (arith, c.requires.some, c.requires.within)) c.if-not-tokens.false in
-    line_given c.args.tokens.now c.args.lexemes.now c.line_length-count.result (declared c.in-Ok.decl) c.requires.some c.requires.within first c.line_length-count.ensures.line c.in-Ok.ensures
+    line_given c.args.tokens.now c.args.lexemes.now c.line_length-count.result (decl_tree c.in-Ok.decl) c.requires.some c.requires.within first c.line_length-count.ensures.line c.in-Ok.ensures
 
 pub returns-in-Err : goal.returns-in-Err
 returns-in-Err c =

@@ -1,6 +1,6 @@
 use Rattle.std.proofs.Common.{◌≡◌, ◌+◌, ◌-◌, ◌*◌, length, map, codes}
 use Rattle.fst_reading.specs.Lexeme.{spells}
-use Rattle.fst_reading.specs.Reading.{separated_within}
+use Rattle.fst_reading.specs.Reading.{sep_by_within}
 use Rattle.fst_type_syntax.specs.TypeReading.{alt_with, seq_at, type_at}
 use Rattle.fst_type_syntax.specs.Views.{labelled}
 use Rattle.fst_reading.proofs.Loops.{with_front}
@@ -52,4 +52,4 @@ abbrev pub invariant-alts-loop : goal.invariant-alts-loop
 invariant-alts-loop l =
     let comma = spells (codes ",") in
     let alt = alt_with (seq_at l.left) (type_at l.left) in
-    (with_front (map labelled l.branches.items) (separated_within comma alt (l.end - l.counter) l.rest) ≡ separated_within comma alt (length l.tokens) l.tokens) × (l.end ≡ length l.tokens)
+    (with_front (map labelled l.branches.items) (sep_by_within comma alt (l.end - l.counter) l.rest) ≡ sep_by_within comma alt (length l.tokens) l.tokens) × (l.end ≡ length l.tokens)
