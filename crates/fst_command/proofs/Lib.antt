@@ -1,9 +1,4 @@
 pub mod WordLaws
-pub mod Places
-pub mod Bound
-pub mod Plain
-pub mod Unbound
-pub mod Placing
 pub mod FindingLaws
 pub mod OneFinding
 pub mod OutputLaws

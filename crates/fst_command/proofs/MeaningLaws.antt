@@ -3,16 +3,14 @@ use Rattle.std.proofs.Common.{◌≡◌, ◌∙◌, ℕ, List, [], ◌∷◌, �
 use Rattle.std.specs.Prelude.{codes}
 use Rattle.std.specs.Str.{byte}
 use Rattle.std.proofs.lemmas.List.{length-map}
-use Rattle.fst_types.specs.Tree.{Tree}
 use Rattle.fst_equiv.specs.Answers.{Answer, yes, no, undecided, too_large, Answers}
-use Rattle.fst_terms.specs.Naming.{place}
 use Rattle.fst_command.specs.declared.status.Status.{Status}
 use Rattle.fst_command.specs.Words.{equiv}
 use Rattle.fst_command.specs.Finding.{Finding, refused, too_deep}
 use Rattle.fst_command.specs.Finding as finding
-use Rattle.fst_command.specs.Output.{finding_text, answer_text, AnswersQuestion, Writes, too_long, is_none, makes}
+use Rattle.fst_command.specs.Output.{answer_text, AnswersQuestion, Writes, too_long, is_none, makes}
 use Rattle.fst_command.specs.Texts.{yes_text}
-use Rattle.fst_command.specs.Meanings.{AreAsked, MeansYes, MeansNo, MeansUndecided, EquivMeanings}
+use Rattle.fst_command.specs.Meanings.{MeansYes, MeansNo, MeansUndecided, EquivMeanings}
 
 -- the first byte of a text
 abbrev initial : List ℕ → ℕ
@@ -27,18 +25,14 @@ of_question budget bytes text s (is_none short (too_deep at) h w e) r l = absurd
 of_question budget bytes text s (is_none short (finding.too_large at) h w e) r l = absurd (l (ap initial w))
 of_question budget bytes text s (makes short m) r l = m
 
--- the two types that a question asks about
-asked : (budget : ℕ) (bytes text : List ℕ) (s : Status) (m : AnswersQuestion budget bytes text s) → AreAsked bytes m.left m.right
-asked budget bytes text s m = record { question = m.question; read = m.read; asks = m.asks }
-
 says_yes : (budget : ℕ) (bytes : List ℕ) (s : Status) → Writes (equiv budget) bytes yes_text s → MeansYes bytes
 says_yes budget bytes s w = by m.answer.answer m.answer.answers m.answer.written
   where
     m : AnswersQuestion budget bytes yes_text s
     m = of_question budget bytes yes_text s w (λ e. absurd (omega (arith, e))) (λ e. absurd (omega (arith, e)))
 
-    by : (a : Answer) → Answers m.left m.right budget a → yes_text ≡ answer_text bytes (place m.question.left) budget a → MeansYes bytes
-    by yes h is = record { left = m.left; right = m.right; asked = asked budget bytes yes_text s m; agree = h.shown.agree }
+    by : (a : Answer) → Answers m.asked.left m.asked.right budget a → yes_text ≡ answer_text bytes m.asked.left_at budget a → MeansYes bytes
+    by yes h is = record { asked = m.asked; is_asked = m.is_asked; agree = h.shown.agree }
     by (no word side) h is = absurd (omega (arith, ap initial is))
     by undecided h is = absurd (omega (arith, ap initial is))
     by too_large h is = absurd (omega (arith, ap initial is))
@@ -49,12 +43,11 @@ says_no budget bytes rest s w = by m.answer.answer m.answer.answers m.answer.wri
     m : AnswersQuestion budget bytes (codes "no " ++ rest) s
     m = of_question budget bytes (codes "no " ++ rest) s w (λ e. absurd (omega (arith, e))) (λ e. absurd (omega (arith, e)))
 
-    by : (a : Answer) → Answers m.left m.right budget a → codes "no " ++ rest ≡ answer_text bytes (place m.question.left) budget a → MeansNo bytes (codes "no " ++ rest)
+    by : (a : Answer) → Answers m.asked.left m.asked.right budget a → codes "no " ++ rest ≡ answer_text bytes m.asked.left_at budget a → MeansNo bytes (codes "no " ++ rest)
     by yes h is = absurd (omega (arith, ap initial is))
     by (no word side) h is = record {
-      left = m.left;
-      right = m.right;
-      asked = asked budget bytes (codes "no " ++ rest) s m;
+      asked = m.asked;
+      is_asked = m.is_asked;
       trace = word;
       side = side;
       written = is;
@@ -70,13 +63,12 @@ says_undecided budget bytes rest s w = by m.answer.answer m.answer.answers m.ans
     m : AnswersQuestion budget bytes (codes "undecided " ++ rest) s
     m = of_question budget bytes (codes "undecided " ++ rest) s w (λ e. absurd (omega (arith, e))) (λ e. absurd (omega (arith, e)))
 
-    by : (a : Answer) → Answers m.left m.right budget a → codes "undecided " ++ rest ≡ answer_text bytes (place m.question.left) budget a → MeansUndecided budget bytes (codes "undecided " ++ rest)
+    by : (a : Answer) → Answers m.asked.left m.asked.right budget a → codes "undecided " ++ rest ≡ answer_text bytes m.asked.left_at budget a → MeansUndecided budget bytes (codes "undecided " ++ rest)
     by yes h is = absurd (omega (arith, ap initial is))
     by (no word side) h is = absurd (omega (arith, ap initial is))
     by undecided h is = record {
-      left = m.left;
-      right = m.right;
-      asked = asked budget bytes (codes "undecided " ++ rest) s m;
+      asked = m.asked;
+      is_asked = m.is_asked;
       written = is;
       letters = h.letters;
       rows = h.rows;

@@ -5,33 +5,28 @@ use Rattle.std.specs.declared.alloc.AllocError.{AllocError}
 use Rattle.std.specs.Str.Parse.{digits_value}
 use Rattle.std.proofs.lemmas.List.{append-nil, append_cancel_left}
 use Rattle.fst_base.specs.Limits.{most_bytes}
-use Rattle.fst_types.specs.Tree.{Tree}
-use Rattle.fst_kinds.specs.WellFormed.{IsSession}
 use Rattle.fst_lexer.specs.Lexes.{OneLexing}
-use Rattle.fst_terms.specs.Naming.{place}
 use Rattle.fst_terms.specs.ModuleTree.{Declared}
 use Rattle.fst_reading.specs.Faults.{Begins, is_left}
 use Rattle.fst_type_syntax.specs.Derives.{OneReading}
-use Rattle.fst_type_syntax.specs.Derives.{AnswersQuestion as ReadsQuestion}
-use Rattle.fst_reading.specs.declared.fault.SyntaxFault.TheVariants as syntax
 use Rattle.fst_syntax.specs.Grammar.{IsModule}
-use Rattle.fst_syntax.specs.Derives.{lined_tokens, ModulePhrase, OneModule}
+use Rattle.fst_syntax.specs.Derives.{line_lexemes, ModulePhrase, OneModule}
 use Rattle.fst_syntax.specs.Derives.{AnswersModule as ReadsModule}
 use Rattle.fst_print.specs.ModuleTexts.{module_text}
 use Rattle.fst_roundtrip.specs.ReadAgain.{IsReadAgain, ReadAgain}
-use Rattle.fst_equiv.specs.Answers.{Answer, Answers, OneAnswer}
+use Rattle.fst_equiv.specs.Answers.{Answers, OneAnswer}
 use Rattle.fst_command.specs.declared.answer.Answer.{Answer as Written}
 use Rattle.fst_command.specs.declared.finding.Fault.{Fault}
 use Rattle.fst_command.specs.declared.finding.Fault.TheVariants as fault
-use Rattle.fst_command.specs.declared.finding.Question.{Question}
+use Rattle.fst_names.specs.declared.question.Question.{Question}
 use Rattle.fst_command.specs.declared.status.Status.{Status}
 use Rattle.fst_command.specs.declared.status.Status.TheVariants as status
-use Rattle.fst_command.specs.Words.{IsBudget, IsOption, IsEquiv, Command, equiv, show, IsCommand, NoCommand}
-use Rattle.fst_command.specs.Finding.{Finding, refused, too_deep, too_large, IsRead, Asks, IsNoQuestion, IsNoModule, no_reading}
+use Rattle.fst_command.specs.Words.{IsBudget, IsOption, IsEquiv, Command, equiv, show, IsCommand}
+use Rattle.fst_command.specs.Finding.{Finding, refused, too_deep, too_large, IsRead, AreAsked, IsNoQuestion, IsNoModule, no_reading}
 use Rattle.fst_command.specs.Finding as finding
-use Rattle.fst_command.specs.Output.{finding_text, finding_status, answer_text, answer_status, IsAnswerTo, AnswersQuestion, ShowsModule, WritesOf, too_long, is_none, makes, Writes, IsOutput, usage, command, OneOutput, ShownAgain}
-use Rattle.fst_command.specs.Views.{IfFound, Found, IsQuestionOf}
-use Rattle.fst_command.proofs.OneFinding.{one_read, read_once, one_unread, one_no_question, question_or_not, one_asked_left, one_asked_right}
+use Rattle.fst_command.specs.Output.{finding_text, finding_status, answer_text, answer_status, IsAnswerTo, AnswersQuestion, ShowsModule, WritesOf, too_long, is_none, makes, Writes, usage, command, OneOutput, ShownAgain}
+use Rattle.fst_command.specs.Views.{IfFound, Found}
+use Rattle.fst_command.proofs.OneFinding.{one_read, read_once, one_unread, one_no_question, question_or_not, asked_once}
 
 -- ---- the words
 
@@ -81,16 +76,9 @@ fault_output IsNone Makes bytes f (Ok a) short h w = fault_written IsNone Makes 
 fault_output IsNone Makes bytes f (Err e) short h w = tt
 
 -- a question of two session types
-pub asked_output : (bytes : List ℕ) (budget : ℕ) (q : Question) (r : Result Written AllocError) → length bytes ≤ most_bytes → IsQuestionOf bytes q →
-    IfOk r (λ a. IsAnswerTo bytes q.left q.right q.left_at budget a.text.items a.status) → IfOk r (λ a. Writes (equiv budget) bytes a.text.items a.status)
-asked_output bytes budget q (Ok a) short is answer = makes short (record {
-  question = is.question;
-  left = q.left;
-  right = q.right;
-  read = is.read;
-  asks = is.about.asks;
-  answer = subst (λ at. IsAnswerTo bytes q.left q.right at budget a.text.items a.status) is.about.place_is answer;
-})
+pub asked_output : (bytes : List ℕ) (budget : ℕ) (q : Question) (r : Result Written AllocError) → length bytes ≤ most_bytes → AreAsked bytes q →
+    IfOk r (λ a. IsAnswerTo bytes q budget a.text.items a.status) → IfOk r (λ a. Writes (equiv budget) bytes a.text.items a.status)
+asked_output bytes budget q (Ok a) short is answer = makes short (record { asked = q; is_asked = is; answer = answer })
 asked_output bytes budget q (Err e) short is answer = tt
 
 -- a module
@@ -118,23 +106,15 @@ one_written IsNone Makes bytes one none made t u s r (makes short m) (is_none lo
 one_written IsNone Makes bytes one none made t u s r (makes short m) (makes low n) = made t u s r m n
 
 module _ (answers : OneAnswer) (lexing : OneLexing) (readings : OneReading) (modules : OneModule) where
-  -- two types have one answer
-  one_answer : (bytes : List ℕ) (left right : Tree) (at budget : ℕ) (t u : List ℕ) (s r : Status) → IsSession [] left → IsSession [] right →
-      IsAnswerTo bytes left right at budget t s → IsAnswerTo bytes left right at budget u r → (t ≡ u) × (s ≡ r)
-  one_answer bytes left right at budget t u s r one two a b =
-      let same = answers [] [] left right budget one two a.answer b.answer a.answers b.answers in
-      (a.written ∙ ap (answer_text bytes at budget) same ∙ sym b.written, a.ended ∙ ap answer_status same ∙ sym b.ended)
-
+  -- a question of two types has one answer
   one_question : (budget : ℕ) (bytes : List ℕ) → IsOne (AnswersQuestion budget bytes)
   one_question budget bytes t u s r p q =
-      let same = one_read ReadsQuestion lexing readings.one_question_answer bytes p.question q.question p.read q.read in
-      let asks = subst (λ z. Asks z p.left p.right) same p.asks in
-      let left = one_asked_left q.question p.left p.right q.left q.right asks q.asks in
-      let right = one_asked_right q.question p.left p.right q.left q.right asks q.asks in
-      let mine = subst (λ z. IsAnswerTo bytes z q.right (place q.question.left) budget t s) left
-      (subst (λ z. IsAnswerTo bytes p.left z (place q.question.left) budget t s) right
-      (subst (λ z. IsAnswerTo bytes p.left p.right (place z.left) budget t s) same p.answer)) in
-      one_answer bytes q.left q.right (place q.question.left) budget t u s r q.asks.left_session q.asks.right_session mine q.answer
+      let a = p.answer in
+      let b = q.answer in
+      let same = asked_once lexing readings bytes p.asked q.asked p.is_asked q.is_asked in
+      let mine = subst (λ z. Answers z q.asked.right budget a.answer) same.left (subst (λ z. Answers p.asked.left z budget a.answer) same.right a.answers) in
+      let one = answers q.asked.kinds.items q.asked.kinds.items q.asked.left q.asked.right budget q.is_asked.asks.left.session q.is_asked.asks.right.session a.answer b.answer mine b.answers in
+      (a.written ∙ ap (λ at. answer_text bytes at budget a.answer) same.left_at ∙ ap (answer_text bytes q.asked.left_at budget) one ∙ sym b.written, a.ended ∙ ap answer_status one ∙ sym b.ended)
 
   one_module : (bytes : List ℕ) → IsOne (ShowsModule bytes)
   one_module bytes t u s r p q =
@@ -145,7 +125,7 @@ module _ (answers : OneAnswer) (lexing : OneLexing) (readings : OneReading) (mod
   one_text : (c : Command) (bytes : List ℕ) → IsOne (Writes c bytes)
   one_text (equiv budget) bytes =
       one_written IsNoQuestion (AnswersQuestion budget) bytes (one_no_question lexing readings bytes)
-      (λ f t s none m. question_or_not lexing readings bytes m.question m.left m.right f m.read m.asks none) (one_question budget bytes)
+      (λ f t s none m. question_or_not lexing readings bytes m.asked f m.is_asked none) (one_question budget bytes)
   one_text show bytes =
       one_written IsNoModule ShowsModule bytes (one_unread ReadsModule lexing modules.one_answer bytes)
       (λ f t s none m. read_once ReadsModule lexing modules.one_answer bytes m.declared f m.read none) (one_module bytes)
@@ -164,7 +144,7 @@ module _ (answers : OneAnswer) (lexing : OneLexing) (readings : OneReading) (mod
 read_again : ReadAgain → (bytes : List ℕ) (ds : List Declared) → IsRead ReadsModule bytes ds → IsReadAgain ds
 read_again again bytes ds r = again bytes r.tokens ds r.lexes (stands r.reads.0)
   where
-    stands : Begins ModulePhrase is_left (lined_tokens bytes r.tokens) ds [] → IsModule (lined_tokens bytes r.tokens) ds
+    stands : Begins ModulePhrase is_left (line_lexemes bytes r.tokens) ds [] → IsModule (line_lexemes bytes r.tokens) ds
     stands b = subst (λ z. IsModule z ds) (sym (b.parts ∙ append-nil b.tokens)) b.phrase.0
 
 -- the text of a module is a module with the same text, or a token of it is too deep

@@ -1,10 +1,7 @@
 pub mod Status
 pub mod Words
 pub mod Texts
-pub mod Unbound
 pub mod Finding
-pub mod Scopes
-pub mod Arranging
 pub mod Output
 pub mod Top
 pub mod Views

@@ -1,8 +1,7 @@
--- What the texts of `equiv` say of the two types that an input asks about.
+-- What the texts of `equiv` say of the two types that an input asks about, over the variables of the question.
 use Rattle.std.specs.Prelude.{◌≡◌, ◌↔◌, ℕ, List, ◌++◌, length, codes, Bool}
 use Rattle.fst_base.specs.Agreement.{Performs, Agree}
 use Rattle.fst_base.specs.Order.{IsBefore}
-use Rattle.fst_types.specs.Tree.{Tree}
 use Rattle.fst_types.specs.Order.{label_cmp}
 use Rattle.fst_types.specs.Differences.{PerformsAlone}
 use Rattle.fst_types.specs.declared.label.Label.{Label}
@@ -12,51 +11,41 @@ use Rattle.fst_words.specs.Words.{Productions}
 use Rattle.fst_norms.specs.Pruned.{pruned_word}
 use Rattle.fst_breadth.specs.Reached.{AreFirst, IsBeyond, AreAlike, ReachedPair}
 use Rattle.fst_equiv.specs.Problem.{IsProblem}
-use Rattle.fst_type_syntax.specs.Grammar.{Asked}
-use Rattle.fst_type_syntax.specs.Derives.{AnswersQuestion}
+use Rattle.fst_names.specs.declared.question.Question.{Question}
 use Rattle.fst_command.specs.declared.status.Status.{Status}
 use Rattle.fst_command.specs.Words.{equiv}
-use Rattle.fst_command.specs.Finding.{IsRead, Asks}
+use Rattle.fst_command.specs.Finding.{AreAsked}
 use Rattle.fst_command.specs.Output.{Writes}
 use Rattle.fst_command.specs.Texts.{yes_text, no_text, undecided_text}
 
--- the bytes ask about these two session types
-pub record AreAsked (bytes : List ℕ) (left right : Tree) : Type 0 where
-  pub question : Asked
-  pub read : IsRead AnswersQuestion bytes question
-  pub asks : Asks question left right
-
 -- the two types agree at every depth
 pub record MeansYes (bytes : List ℕ) : Type 0 where
-  pub left : Tree
-  pub right : Tree
-  pub asked : AreAsked bytes left right
-  pub agree : Agree step step left right
+  pub asked : Question
+  pub is_asked : AreAsked bytes asked
+  pub agree : Agree step step asked.left asked.right
 
 -- the text has a trace and a side: this side alone performs the trace, and no lesser trace is performed by one side alone
 pub record MeansNo (bytes text : List ℕ) : Type 0 where
-  pub left : Tree
-  pub right : Tree
-  pub asked : AreAsked bytes left right
+  pub asked : Question
+  pub is_asked : AreAsked bytes asked
   pub trace : List Label
   pub side : Side
   pub written : text ≡ no_text trace side
-  pub alone : PerformsAlone step step left right trace side
-  pub least : (v : List Label) → IsBefore label_cmp v trace → (Performs step left v ↔ Performs step right v)
+  pub alone : PerformsAlone step step asked.left asked.right trace side
+  pub least : (v : List Label) → IsBefore label_cmp v trace → (Performs step asked.left v ↔ Performs step asked.right v)
 
 -- the text has the budget: the pruned words of the two types reach more different pairs than that, and of the first pairs, as
 -- many as the budget, none performs different letters on its two sides
 pub record MeansUndecided (budget : ℕ) (bytes text : List ℕ) : Type 0 where
-  pub left : Tree
-  pub right : Tree
-  pub asked : AreAsked bytes left right
+  pub asked : Question
+  pub is_asked : AreAsked bytes asked
   pub written : text ≡ undecided_text budget
   pub letters : List Label
   pub rows : Productions
   pub u : List ℕ
   pub v : List ℕ
   pub marks : List Bool
-  pub words : IsProblem left right letters rows u v marks
+  pub words : IsProblem asked.left asked.right letters rows u v marks
   pub pairs : List ReachedPair
   pub count : length pairs ≡ budget
   pub first : AreFirst rows marks (pruned_word marks u) (pruned_word marks v) pairs

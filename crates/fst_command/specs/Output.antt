@@ -1,18 +1,15 @@
 -- Which text and which status belong to which words and which bytes: a command has its own case in `Writes`.
 use Rattle.std.specs.Prelude.{◌≡◌, ℕ, ◌+◌, ◌≤◌, ◌⊎◌, List, [], length}
 use Rattle.fst_base.specs.Limits.{most_bytes}
-use Rattle.fst_types.specs.Tree.{Tree}
 use Rattle.fst_equiv.specs.Answers.{Answer, yes, no, undecided, too_large, Answers}
-use Rattle.fst_terms.specs.Naming.{place}
 use Rattle.fst_terms.specs.ModuleTree.{Declared}
-use Rattle.fst_type_syntax.specs.Grammar.{Asked}
-use Rattle.fst_type_syntax.specs.Derives.{AnswersQuestion as ReadsQuestion}
 use Rattle.fst_syntax.specs.Derives.{AnswersModule as ReadsModule}
+use Rattle.fst_names.specs.declared.question.Question.{Question}
 use Rattle.fst_print.specs.ModuleTexts.{module_text}
 use Rattle.fst_command.specs.declared.status.Status.{Status}
 use Rattle.fst_command.specs.declared.status.Status.TheVariants as status
 use Rattle.fst_command.specs.Words.{Command, equiv, show, IsCommand, NoCommand}
-use Rattle.fst_command.specs.Finding.{Finding, refused, too_deep, IsRead, Asks, IsNoQuestion, IsNoModule}
+use Rattle.fst_command.specs.Finding.{Finding, refused, too_deep, IsRead, AreAsked, IsNoQuestion, IsNoModule}
 use Rattle.fst_command.specs.Finding as finding
 use Rattle.fst_command.specs.Texts.{yes_text, no_text, undecided_text, refused_text, too_deep_text, too_large_text, too_long_text, usage_text}
 
@@ -46,21 +43,18 @@ answer_status (no word side) = status.Done
 answer_status undecided = status.Undecided
 answer_status too_large = status.Limit
 
--- this text and status are the answer to the question of two types, of which the left one begins at a byte of the input
-pub record IsAnswerTo (bytes : List ℕ) (left right : Tree) (left_at budget : ℕ) (text : List ℕ) (s : Status) : Type 0 where
+-- this text and status are the answer to a question of two types
+pub record IsAnswerTo (bytes : List ℕ) (asked : Question) (budget : ℕ) (text : List ℕ) (s : Status) : Type 0 where
   pub answer : Answer
-  pub answers : Answers left right budget answer
-  pub written : text ≡ answer_text bytes left_at budget answer
+  pub answers : Answers asked.left asked.right budget answer
+  pub written : text ≡ answer_text bytes asked.left_at budget answer
   pub ended : s ≡ answer_status answer
 
 -- the bytes are a question of two session types, and this text and status are its answer within a budget
 pub record AnswersQuestion (budget : ℕ) (bytes text : List ℕ) (s : Status) : Type 0 where
-  pub question : Asked
-  pub left : Tree
-  pub right : Tree
-  pub read : IsRead ReadsQuestion bytes question
-  pub asks : Asks question left right
-  pub answer : IsAnswerTo bytes left right (place question.left) budget text s
+  pub asked : Question
+  pub is_asked : AreAsked bytes asked
+  pub answer : IsAnswerTo bytes asked budget text s
 
 -- ---- `show`
 

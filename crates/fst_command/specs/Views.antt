@@ -1,22 +1,20 @@
 -- What the code finds, as the definitions see it.
-use Rattle.std.specs.Prelude.{◌≡◌, ℕ, List, ⊤}
+use Rattle.std.specs.Prelude.{ℕ, ⊤}
 use Rattle.fst_kinds.specs.declared.fault.KindFault.{KindFault}
 use Rattle.fst_kinds.specs.declared.fault.KindFault.TheVariants as kind
 use Rattle.fst_lexer.specs.declared.token.LexFault.{LexFault}
 use Rattle.fst_lexer.specs.declared.token.LexFault.TheVariants as lexical
-use Rattle.fst_terms.specs.Naming.{place}
 use Rattle.fst_reading.specs.declared.fault.SyntaxFault.{SyntaxFault}
 use Rattle.fst_reading.specs.declared.fault.SyntaxFault.TheVariants as syntax
-use Rattle.fst_type_syntax.specs.Derives.{AnswersQuestion}
-use Rattle.fst_type_syntax.specs.Grammar.{Asked}
 use Rattle.fst_print.specs.declared.refusals.Phrase.TheVariants as phrase
+use Rattle.fst_names.specs.declared.fault.NameFault.{NameFault}
+use Rattle.fst_names.specs.declared.fault.NameFault.TheVariants as naming
 use Rattle.fst_command.specs.declared.words.Command.{Command as Said}
 use Rattle.fst_command.specs.declared.words.Command.TheVariants as said
-use Rattle.fst_command.specs.declared.finding.Question.{Question}
 use Rattle.fst_command.specs.declared.finding.Fault.{Fault}
 use Rattle.fst_command.specs.declared.finding.Fault.TheVariants as fault
 use Rattle.fst_command.specs.Words.{Command, equiv, show}
-use Rattle.fst_command.specs.Finding.{Finding, refused, too_deep, too_large, IsRead, Asks}
+use Rattle.fst_command.specs.Finding.{Finding, refused, too_deep, too_large}
 
 -- this holds of what a fault says; want of memory says nothing
 abbrev pub IfFound : Fault → (Finding → Type 0) → Type 0
@@ -46,6 +44,16 @@ syntax_fault (syntax.Syntax at) = fault.Refused at phrase.Syntax
 syntax_fault (syntax.TooDeep at) = fault.TooDeep at
 syntax_fault syntax.Memory = fault.Memory
 
+-- the fault of names and sizes
+abbrev pub name_fault : NameFault → Fault
+name_fault (naming.Unbound at x) = fault.Refused at (phrase.Unbound x)
+name_fault (naming.Twice at x) = fault.Refused at (phrase.Twice x)
+name_fault (naming.Arity at got wanted) = fault.Refused at (phrase.Arity got wanted)
+name_fault (naming.AliasLoop at x) = fault.Refused at (phrase.AliasLoop x)
+name_fault (naming.TooLarge at) = fault.TooLarge at
+name_fault naming.NoMain = fault.Refused 0 phrase.NoMain
+name_fault naming.Memory = fault.Memory
+
 -- the fault of a type that is written at a byte and is no session type
 abbrev pub kind_fault : ℕ → KindFault → Fault
 kind_fault at kind.NotContractive = fault.Refused at phrase.NotContractive
@@ -53,17 +61,6 @@ kind_fault at (kind.WrongKind got wanted) = fault.Refused at (phrase.WrongKind g
 kind_fault at (kind.UnboundType k) = fault.Refused at (phrase.UnboundType k)
 kind_fault at (kind.DoubleLabel l) = fault.Refused at (phrase.DoubleLabel l)
 kind_fault at kind.Memory = fault.Memory
-
--- a question asks about the two types, of which the left one begins at the byte that is told
-pub record AsksAbout (q : Asked) (found : Question) : Type 0 where
-  pub asks : Asks q found.left found.right
-  pub place_is : found.left_at ≡ place q.left
-
--- the bytes are such a question
-pub record IsQuestionOf (bytes : List ℕ) (found : Question) : Type 0 where
-  pub question : Asked
-  pub read : IsRead AnswersQuestion bytes question
-  pub about : AsksAbout question found
 
 -- a command as the definitions have it
 abbrev pub command_of : Said → Command

@@ -1,14 +1,15 @@
-ghost use Rattle.std.specs.Prelude.{◌≡◌, ◌≤◌, [], IfOk, length};
+ghost use Rattle.std.specs.Prelude.{◌≡◌, ◌≤◌, IfOk, length};
 ghost use Rattle.fst_base.specs.Limits.{most_bytes};
 ghost use Rattle.fst_kinds.specs.WellFormed.{IsSession};
 ghost use Rattle.fst_command.specs.Words.{equiv, show};
 ghost use Rattle.fst_command.specs.Output.{IsAnswerTo, Writes, finding_status, finding_text};
 ghost use Rattle.fst_command.specs.Views.{Found};
 
-use crate::finding::{Fault, Question, find, find_module};
+use crate::finding::{Fault, find, find_module};
 use crate::status::Status;
 use crate::texts::{no_text, refused_text, too_deep_text, too_large_text, undecided_text};
 use fst_equiv::{EquivFault, Verdict, ask};
+use fst_names::Question;
 use fst_print::module_text;
 use std::alloc::{AllocError, Global};
 
@@ -28,10 +29,9 @@ fn answer_session(
 ) -> Result<Answer, AllocError>
     requires budget { 1 ≤ budget }
     requires short { length bytes.now ≤ most_bytes }
-    requires left { IsSession [] question.now.left }
-    requires right { IsSession [] question.now.right }
-    ensures { IfOk result (λ a. IsAnswerTo bytes.now question.now.left question.now.right
-        question.now.left_at budget a.text.items a.status) }
+    requires left { IsSession question.now.kinds.items question.now.left }
+    requires right { IsSession question.now.kinds.items question.now.right }
+    ensures { IfOk result (λ a. IsAnswerTo bytes.now question.now budget a.text.items a.status) }
 {
     match ask(alloc, &question.left, &question.right, budget) {
         Ok(Verdict::Yes(_)) => fixed(alloc, Status::Done, b"yes\n"),

@@ -1,39 +1,22 @@
-ghost use Rattle.std.specs.Prelude.{◌≡◌, ◌≤◌, [], IfErr, IfOk, OnOk, Ok, length, ℕ};
+ghost use Rattle.std.specs.Prelude.{◌≡◌, ◌≤◌, IfErr, IfOk, OnOk, length};
 ghost use Rattle.fst_base.specs.Limits.{most_bytes};
 ghost use Rattle.fst_types.specs.Order.{IsSorted};
 ghost use Rattle.fst_types.specs.Scoped.{IsScoped};
-ghost use Rattle.fst_types.specs.WrittenTree.{HasBranches};
-ghost use Rattle.fst_types.specs.declared.kind.Kind.{Kind};
-ghost use Rattle.fst_kinds.specs.WellFormed.{IsSession};
 ghost use Rattle.fst_terms.specs.ModuleView.{declarations};
-ghost use Rattle.fst_terms.specs.Naming.{place};
-ghost use Rattle.fst_type_syntax.specs.Views.{asked};
+ghost use Rattle.fst_type_syntax.specs.Views.{question_tree};
 ghost use Rattle.fst_syntax.specs.Derives.{AnswersModule};
-ghost use Rattle.fst_command.specs.Unbound.{StandsIn, StandsInOrder};
-ghost use Rattle.fst_command.specs.Finding.{IsFirst, IsTypeFault, IsTypeOf, KindFinding, QuestionFinding, session_kind, IsNoModule, IsNoQuestion, IsRead};
-ghost use Rattle.fst_command.specs.Views.{AsksAbout, IfFound, IsQuestionOf, kind_fault};
+ghost use Rattle.fst_command.specs.Finding.{AreAsked, Asks, IsFaultless, IsNoModule, IsNoQuestion, IsRead, KindFinding, QuestionFinding};
+ghost use Rattle.fst_command.specs.Views.{IfFound, kind_fault};
 
-use crate::naming::{Names, named, nodes, unbound};
-use fst_base::MOST_NODES;
 use fst_kinds::{KindFault, kind_of, subkind};
 use fst_lexer::{LexFault, lex};
+use fst_names::{NameFault, Question, resolve_question};
 use fst_print::Phrase;
 use fst_syntax::read_module;
 use fst_terms::SourceModule;
 use fst_type_syntax::{SourceQuestion, SyntaxFault, read_question};
-use fst_types::{Kind, Name, Prekind, Ty, Use, Written};
+use fst_types::{Kind, Prekind, Ty, Use};
 use std::alloc::{AllocError, Global};
-
-/// Two session types that are asked about.
-#[derive(Drop)]
-pub(crate) struct Question {
-    /// The type in front of the tilde.
-    pub(crate) left: Ty,
-    /// The type behind the tilde.
-    pub(crate) right: Ty,
-    /// How many bytes stand before the first token of the left type.
-    pub(crate) left_at: u32,
-}
 
 /// Why an input isn't what its command is for, and at which byte.
 #[derive(Drop)]
@@ -88,34 +71,21 @@ impl From<SyntaxFault> for Fault {
     }
 }
 
-// The byte at which a written type begins.
-fn place(w: &Written) -> u32
-    ensures { result ≡ place w.now }
-{
-    w.at
-}
+impl From<NameFault> for Fault {
+    ghost use Rattle.fst_command.specs.Views.{name_fault};
 
-// That a name stands for nothing.
-fn unbound_phrase(alloc: Global, name: &Name) -> Result<Phrase, AllocError>
-    ensures { IfOk result (λ p. p ≡ Phrase.Unbound name.now) }
-{
-    Ok(Phrase::Unbound(name.copy(alloc)?))
-}
+    ghost from_gives = { λ e f. f ≡ name_fault e };
 
-// The type that is written, or the first of its faults of names and sizes.
-fn resolve(alloc: Global, w: &Written) -> Result<Ty, Fault>
-    requires filled { HasBranches w.now }
-    ensures typed { IfOk result (IsTypeOf w.now) }
-    ensures plain { IfOk result (λ t. IsScoped 0 t × IsSorted t) }
-    ensures fault { IfErr result (λ f. IfFound f (λ g.
-        (from to : ℕ) → StandsIn from to w.now → IsFirst (IsTypeFault w.now) g)) }
-{
-    let begin = place(w);
-    match unbound(w, &Names::Outermost) {
-        Some((at, name)) if at <= begin => Err(Fault::Refused(at, unbound_phrase(alloc, name)?)),
-        _ if nodes(w) > MOST_NODES => Err(Fault::TooLarge(begin)),
-        Some((at, name)) => Err(Fault::Refused(at, unbound_phrase(alloc, name)?)),
-        None => Ok(named(alloc, w, &Names::Outermost)?),
+    fn from(fault: NameFault) -> Fault {
+        match fault {
+            NameFault::Unbound(at, name) => Fault::Refused(at, Phrase::Unbound(name)),
+            NameFault::Twice(at, name) => Fault::Refused(at, Phrase::Twice(name)),
+            NameFault::Arity(at, got, wanted) => Fault::Refused(at, Phrase::Arity(got, wanted)),
+            NameFault::AliasLoop(at, name) => Fault::Refused(at, Phrase::AliasLoop(name)),
+            NameFault::TooLarge(at) => Fault::TooLarge(at),
+            NameFault::NoMain => Fault::Refused(0, Phrase::NoMain),
+            NameFault::Memory => Fault::Memory,
+        }
     }
 }
 
@@ -132,15 +102,14 @@ fn kind_fault(at: u32, fault: KindFault) -> Fault
     }
 }
 
-// Looks at a type, which begins at this byte: whether it is a session type.
-fn session(alloc: Global, t: &Ty, at: u32) -> Result<(), Fault>
+// Looks at a type over variables of these kinds, which begins at this byte: whether it is a session type.
+fn session(alloc: Global, t: &Ty, kinds: &[Kind], at: u32) -> Result<(), Fault>
     requires scoped { IsScoped 0 t.now }
     requires sorted { IsSorted t.now }
-    ensures session { OnOk result (IsSession [] t.now) }
-    ensures kind { OnOk result ((k : Kind) × (session_kind t.now ≡ Ok k)) }
-    ensures fault { IfErr result (λ f. IfFound f (KindFinding t.now at)) }
+    ensures faultless { OnOk result (IsFaultless kinds.now t.now) }
+    ensures fault { IfErr result (λ f. IfFound f (KindFinding kinds.now t.now at)) }
 {
-    let kind = match kind_of(alloc, t, &[]) {
+    let kind = match kind_of(alloc, t, kinds) {
         Ok(kind) => kind,
         Err(fault) => return Err(kind_fault(at, fault)),
     };
@@ -157,29 +126,19 @@ fn session(alloc: Global, t: &Ty, at: u32) -> Result<(), Fault>
 
 // The two session types that a question which was read asks about, or the first of its faults.
 fn of_question(alloc: Global, question: &SourceQuestion) -> Result<Question, Fault>
-    requires { StandsInOrder (asked question.now) }
-    ensures asks { IfOk result (AsksAbout (asked question.now)) }
-    ensures fault { IfErr result (λ f. IfFound f (QuestionFinding (asked question.now))) }
+    ensures asks { IfOk result (Asks (question_tree question.now)) }
+    ensures fault { IfErr result (λ f. IfFound f (QuestionFinding (question_tree question.now))) }
 {
-    if !question.binders.is_empty() {
-        return Err(Fault::Refused(0, Phrase::Syntax));
-    }
-    let left = resolve(alloc, &question.left)?;
-    let right = resolve(alloc, &question.right)?;
-    let left_at = place(&question.left);
-    session(alloc, &left, left_at)?;
-    session(alloc, &right, place(&question.right))?;
-    Ok(Question {
-        left,
-        right,
-        left_at,
-    })
+    let asked = resolve_question(alloc, question)?;
+    session(alloc, &asked.left, &asked.kinds, asked.left_at)?;
+    session(alloc, &asked.right, &asked.kinds, asked.right_at)?;
+    Ok(asked)
 }
 
 /// What the bytes ask: a question of two session types, or why they are none.
 pub(crate) fn find(alloc: Global, bytes: &[u8]) -> Result<Question, Fault>
     requires { length bytes.now ≤ most_bytes }
-    ensures question { IfOk result (IsQuestionOf bytes.now) }
+    ensures question { IfOk result (AreAsked bytes.now) }
     ensures fault { IfErr result (λ f. IfFound f (IsNoQuestion bytes.now)) }
 {
     let tokens = lex(alloc, bytes)?;

@@ -3,7 +3,6 @@
 
 mod answer;
 mod finding;
-mod naming;
 mod run;
 mod status;
 mod texts;

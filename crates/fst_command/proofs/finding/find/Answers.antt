@@ -1,9 +1,7 @@
 use Rattle.std.proofs.Common.{inl, Ok, Err}
 use Rattle.fst_type_syntax.specs.Derives.{AnswersQuestion}
-use Rattle.fst_type_syntax.specs.Views.{asked}
-use Rattle.fst_command.specs.Finding.{IsNoQuestion, no_tokens}
-use Rattle.fst_command.specs.Views.{IfFound}
-use Rattle.fst_command.proofs.Placing.{read_in_order}
+use Rattle.fst_type_syntax.specs.Views.{question_tree}
+use Rattle.fst_command.specs.Finding.{IsNoQuestion}
 use Rattle.fst_command.proofs.FindingLaws.{lexical_unread, syntax_unread, same_answer, with_question, with_fault}
 use Rattle.fst_command.proofs.finding.find.Goals as goal
 
@@ -20,16 +18,9 @@ returns-in_err-question-clause-fault c =
     syntax_unread AnswersQuestion (IsNoQuestion c.args.bytes.now) c.args.bytes.now (λ f u. inl u) c.in_ok-tokens.tokens.items e c.from_residual-in_err-question.result
     c.from_residual-in_err-question.ensures.1 c.in_ok-tokens.ensures.tokens refused
 
-pub of_question-requires : goal.of_question-requires
-of_question-requires c =
-    let q = asked c.in_ok-question.question in
-    let derived = same_answer AnswersQuestion c.from_utf8_unchecked-text.result.now c.args.bytes.now c.deref.result.now c.in_ok-tokens.tokens.items (Ok q)
-    c.from_utf8_unchecked-text.ensures c.deref.ensures.value c.in_ok-question.ensures in
-    read_in_order c.args.bytes.now c.in_ok-tokens.tokens.items q c.in_ok-tokens.ensures.spans derived
-
 pub returns-clause-question : goal.returns-clause-question
 returns-clause-question c =
-    let q = asked c.in_ok-question.question in
+    let q = question_tree c.in_ok-question.question in
     let derived = same_answer AnswersQuestion c.from_utf8_unchecked-text.result.now c.args.bytes.now c.deref.result.now c.in_ok-tokens.tokens.items (Ok q)
     c.from_utf8_unchecked-text.ensures c.deref.ensures.value c.in_ok-question.ensures in
     with_question c.args.bytes.now q c.of_question.result
@@ -37,7 +28,7 @@ returns-clause-question c =
 
 pub returns-clause-fault : goal.returns-clause-fault
 returns-clause-fault c =
-    let q = asked c.in_ok-question.question in
+    let q = question_tree c.in_ok-question.question in
     let derived = same_answer AnswersQuestion c.from_utf8_unchecked-text.result.now c.args.bytes.now c.deref.result.now c.in_ok-tokens.tokens.items (Ok q)
     c.from_utf8_unchecked-text.ensures c.deref.ensures.value c.in_ok-question.ensures in
     with_fault c.args.bytes.now q c.of_question.result

@@ -1,0 +1,9 @@
+pub mod FirstLaws
+pub mod Bound
+pub mod TableLaws
+pub mod VariableLaws
+pub mod ScopeLaws
+pub mod BranchLaws
+pub mod QuestionLaws
+pub mod Places
+pub mod Plain
