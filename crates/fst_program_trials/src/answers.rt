@@ -1,7 +1,7 @@
 //! What the program writes of questions and modules that stand on one line.
 
 use crate::program::{answer, program_row};
-use crate::tables::each_line;
+use fst_tables::each_line;
 use std::alloc::Global;
 use std::test::Fail;
 
@@ -68,7 +68,7 @@ equiv ¦ rec é.!Int;é ~ Skip = no !Int left";
 
 #[test]
 fn questions_are_answered(rt: HostRuntime) -> Result<(), Fail> {
-    each_line(&rt, rt.alloc(), ANSWERED, program_row)
+    each_line(rt.alloc(), ANSWERED, program_row)
 }
 
 fn question_row(alloc: Global, given: &str) -> Result<String, Fail> {
@@ -131,9 +131,6 @@ Skip ~ Int -> Int = refused 1:12 syntax
 (Int, Int, Int) ~ Skip = refused 1:10 syntax
 (Int,) ~ Skip = refused 1:6 syntax
 x;Int ~ !Skip = refused 1:10 syntax
-forall a:1S. a ~ Skip = refused 1:1 syntax
-  forall a:1S,b:*T. Skip ~ Skip = refused 1:1 syntax
-forall a:1S. x;Int ~ y = refused 1:1 syntax
 forall ~ Skip = refused 1:8 syntax
 forall A:1S. Skip ~ Skip = refused 1:8 syntax
 forall a. a ~ Skip = refused 1:9 syntax
@@ -196,7 +193,37 @@ Skip ~ forall a:*S . a = refused 1:8 syntax";
 
 #[test]
 fn misspelled_questions_are_refused(rt: HostRuntime) -> Result<(), Fail> {
-    each_line(&rt, rt.alloc(), MISSPELLED, question_row)
+    each_line(rt.alloc(), MISSPELLED, question_row)
+}
+
+// Types over variables.
+const OVER_VARIABLES: &str = "\
+forall a:1S. a ~ a = yes
+forall a:1S. a ~ Skip = no a1 left
+  forall a:1S,b:*T. Skip ~ Skip = yes
+forall a:*S, b:1S. a;b ~ b;a = no a1 left
+forall b:1S, a:1S. !Int;a ~ !Int;b = no !Int a1 right
+forall a:1S. (a;Skip);!Int ~ a;!Int = yes
+forall a:1S. rec a.!Int;a ~ rec b.!Int;b = yes
+forall a:1S. rec b.!Int;a;b ~ rec b.!Int;b = no !Int !Int right
+forall a:1S, b:1S. rec a.+{A:a,B:b} ~ rec x.+{A:x,B:b} = yes
+forall a:1S. x;Int ~ y = refused 1:14 unbound x
+forall a:1S. a ~ A = refused 1:18 unbound A
+forall a:1S. rec x.a;x ~ x = refused 1:26 unbound x
+forall a:1S, a:1S. a ~ a = refused 1:14 twice a
+forall a:1S, b:1S, a:1S, b:1T, a:1S. x ~ a = refused 1:20 twice a
+forall b:1S, a:1S, b:1S. x ~ a = refused 1:20 twice b
+forall a:*S. rec x.a;x ~ Skip = refused 1:14 not contractive
+forall a:1S. rec x.a;!Int;x ~ a = no a1 !Int left
+forall a:1T. Skip ~ a = refused 1:21 kind 1T wanted 1S
+forall a:*T. a ~ Int = refused 1:14 kind *T wanted 1S
+forall a:*S. a ~ (a, Int) = refused 1:18 kind *T wanted 1S
+forall a:1T. !Int;a ~ a = refused 1:14 kind 1T wanted 1S
+forall a:1S. +{A:a,A:a} ~ a = refused 1:14 double label A";
+
+#[test]
+fn questions_have_variables(rt: HostRuntime) -> Result<(), Fail> {
+    each_line(rt.alloc(), OVER_VARIABLES, question_row)
 }
 
 // Other tokens or names than there are, or no two session types.
@@ -269,7 +296,7 @@ x 'a = refused 1:3 bad character
 
 #[test]
 fn questions_of_no_session_types_are_refused(rt: HostRuntime) -> Result<(), Fail> {
-    each_line(&rt, rt.alloc(), UNTYPED, question_row)
+    each_line(rt.alloc(), UNTYPED, question_row)
 }
 
 fn module_row(alloc: Global, given: &str) -> Result<String, Fail> {
@@ -345,5 +372,5 @@ f = new let = refused 1:9 syntax";
 
 #[test]
 fn misspelled_modules_are_refused(rt: HostRuntime) -> Result<(), Fail> {
-    each_line(&rt, rt.alloc(), MODULES, module_row)
+    each_line(rt.alloc(), MODULES, module_row)
 }

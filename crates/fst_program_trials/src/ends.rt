@@ -1,10 +1,10 @@
 //! Reading and writing all bytes, over ends that fail and ends that don't.
 
-use crate::tables::{each_line, fields, no_row};
 use fst_io::{
     Failed, Gate, InputSource, MemorySink, MemorySource, OpenGate, OutputSink, ReadFault, Sink,
     SinkFault, Source, SteadySink, SteadySource, WriteFault, read_all, write_all,
 };
+use fst_tables::{each_line, fields, no_row};
 use std::alloc::Global;
 use std::io;
 use std::io::{Read, Write};
@@ -75,7 +75,7 @@ fn steady_row(alloc: Global, given: &str) -> Result<String, Fail> {
 
 #[test]
 fn reads_to_the_end_or_one_past_the_limit(rt: HostRuntime) -> Result<(), Fail> {
-    each_line(&rt, rt.alloc(), STEADY, steady_row)
+    each_line(rt.alloc(), STEADY, steady_row)
 }
 
 // Of `abcde`, how many bytes a call gives and which call fails; what is read, or the fault, and how many bytes are left.
@@ -108,7 +108,7 @@ fn read_row(alloc: Global, given: &str) -> Result<String, Fail> {
 
 #[test]
 fn reads_in_pieces_up_to_the_call_that_fails(rt: HostRuntime) -> Result<(), Fail> {
-    each_line(&rt, rt.alloc(), READS, read_row)
+    each_line(rt.alloc(), READS, read_row)
 }
 
 // Of `abcde`, how many bytes a call takes and which call fails; the answer, and what is taken.
@@ -132,7 +132,7 @@ fn write_row(alloc: Global, given: &str) -> Result<String, Fail> {
 
 #[test]
 fn writes_in_pieces_up_to_the_call_that_fails(rt: HostRuntime) -> Result<(), Fail> {
-    each_line(&rt, rt.alloc(), WRITES, write_row)
+    each_line(rt.alloc(), WRITES, write_row)
 }
 
 #[test]

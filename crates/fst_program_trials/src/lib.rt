@@ -11,5 +11,3 @@ mod limits;
 mod program;
 #[cfg(test)]
 mod reading;
-#[cfg(test)]
-mod tables;

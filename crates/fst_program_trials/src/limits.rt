@@ -1,7 +1,7 @@
 //! Inputs at the limits, and over them.
 
 use crate::program::answer;
-use crate::tables::{each_line, fields, no_row};
+use fst_tables::{each_line, fields, no_row};
 use std::alloc::{AllocError, Global};
 use std::test::Fail;
 
@@ -32,7 +32,7 @@ Skip)~ ¦ ( ¦ 200 ¦ Skip ¦ ¦ = refused 1:5 syntax
 x~ ¦ ( ¦ 200 ¦ Skip ¦ ¦ = limit 1:203 depth
 ¦ ( ¦ 200 ¦ Skip # ¦ ¦ = refused 1:206 bad character
 +{ ¦ A:x, ¦ 262142 ¦ A:x} ¦ ¦ ~x = limit 1:1 type size
-forall x:*S, ¦ a:*S, ¦ 170000 ¦ b:1T. x ¦ ¦ ~ y = refused 1:1 syntax
+forall x:*S, ¦ a:*S, ¦ 170000 ¦ b:1T. x ¦ ¦ ~ y = refused 1:18 twice a
 +{ ¦ A ¦ 255 ¦ :Skip} ¦ ¦ ~ ?Int;+{B:Skip} = no ?Int right
 +{ ¦ A ¦ 256 ¦ :Skip} ¦ ¦ ~ ?Int;+{B:Skip} = refused 1:3 name too long
 +{A ¦ é ¦ 127 ¦ :Skip} ¦ ¦ ~ ?Int;+{B:Skip} = no ?Int right
@@ -52,7 +52,7 @@ fn nested_row(alloc: Global, given: &str) -> Result<String, Fail> {
 
 #[test]
 fn nesting_and_names_are_limited(rt: HostRuntime) -> Result<(), Fail> {
-    each_line(&rt, rt.alloc(), NESTED, nested_row)
+    each_line(rt.alloc(), NESTED, nested_row)
 }
 
 fn spaced_row(alloc: Global, given: &str) -> Result<String, Fail> {
@@ -66,7 +66,7 @@ fn lengths_are_limited(rt: HostRuntime) -> Result<(), Fail> {
     let table = "\
 1048565 = yes
 1048566 = limit length";
-    each_line(&rt, rt.alloc(), table, spaced_row)
+    each_line(rt.alloc(), table, spaced_row)
 }
 
 /// `Skip` so many times and once more, with `;` between, behind 31 groups of 127 nodes each and their `;`s: with 63 times
@@ -91,7 +91,7 @@ fn sizes_are_limited(rt: HostRuntime) -> Result<(), Fail> {
 rec x. ¦ 63 ¦ ~ Skip = yes
 rec x.rec y. ¦ 63 ¦ ~ x = limit 1:1 type size
 Int ~ ( ¦ 64 ¦ ) = limit 1:8 type size";
-    each_line(&rt, rt.alloc(), table, groups_row)
+    each_line(rt.alloc(), table, groups_row)
 }
 
 /// So many branches with a comma between them, each with this body.
@@ -123,8 +123,11 @@ fn choices_are_limited(rt: HostRuntime) -> Result<(), Fail> {
 +{ ¦ 2048 ¦ x ¦ } ~ x = limit 1:1 type size
 x;+{ ¦ 2048 ¦ Skip ¦ } ~ Skip = refused 1:1 unbound x
 x ~ +{ ¦ 2048 ¦ Skip ¦ } = refused 1:1 unbound x
-Int ~ +{ ¦ 2048 ¦ Skip ¦ } = limit 1:7 type size";
-    each_line(&rt, rt.alloc(), table, choice_row)
+Int ~ +{ ¦ 2048 ¦ Skip ¦ } = limit 1:7 type size
+forall a:*S. Int ~ +{ ¦ 2048 ¦ a ¦ } = limit 1:20 type size
+forall a:*S, a:*S. +{ ¦ 2048 ¦ a ¦ } ~ a = refused 1:14 twice a
+forall a:*S. +{ ¦ 2047 ¦ a ¦ } ~ Skip = no +L_0 left";
+    each_line(rt.alloc(), table, choice_row)
 }
 
 /// So many branches under 90 `rec`s, each with a message behind it: the grammar has 4,095 letters a branch on the right
@@ -142,7 +145,7 @@ fn grammars_are_limited(rt: HostRuntime) -> Result<(), Fail> {
     let table = "\
 256 = no +L_0 left
 257 = limit 1:1 type size";
-    each_line(&rt, rt.alloc(), table, grammar_row)
+    each_line(rt.alloc(), table, grammar_row)
 }
 
 // What is repeated in front of a term, and how often; the term; what is repeated behind it as often. What is written of the
@@ -168,7 +171,7 @@ fn term_row(alloc: Global, given: &str) -> Result<String, Fail> {
 
 #[test]
 fn terms_are_limited(rt: HostRuntime) -> Result<(), Fail> {
-    each_line(&rt, rt.alloc(), TERMS, term_row)
+    each_line(rt.alloc(), TERMS, term_row)
 }
 
 // Chains of all operators, each of them the first operand of a longer one: 99,500 terms stand inside one another, each the

@@ -1,9 +1,9 @@
 //! The program over ends in memory.
 
 use crate::ends::{shown, sink_of, source_of};
-use crate::tables::{each_line, each_pair};
 use fst_command::{Status, top};
 use fst_io::{OpenGate, OutputSink, SteadySink, SteadySource};
+use fst_tables::{each_line, each_pair};
 use std::alloc::{AllocError, Global};
 use std::io;
 use std::io::Write;
@@ -127,7 +127,7 @@ const ROWS: [(&str, &str); 18] = [
 
 #[test]
 fn inputs_are_answered(rt: HostRuntime) -> Result<(), Fail> {
-    each_pair(&rt, rt.alloc(), &ROWS, program_row)
+    each_pair(rt.alloc(), &ROWS, program_row)
 }
 
 // Words of no command; the usage is written.
@@ -164,7 +164,7 @@ fn words_row(alloc: Global, given: &str) -> Result<String, Fail> {
 
 #[test]
 fn other_words_are_refused_and_nothing_is_read(rt: HostRuntime) -> Result<(), Fail> {
-    each_line(&rt, rt.alloc(), OTHER_WORDS, words_row)
+    each_line(rt.alloc(), OTHER_WORDS, words_row)
 }
 
 /// The status and the text of a question, over ends that fail.
@@ -203,7 +203,7 @@ fn failing_reads_write_nothing(rt: HostRuntime) -> Result<(), Fail> {
 2 = 12
 4 = 7
 7 = 4";
-    each_line(&rt, rt.alloc(), table, reads_row)
+    each_line(rt.alloc(), table, reads_row)
 }
 
 fn writes_row(alloc: Global, given: &str) -> Result<String, Fail> {
@@ -226,7 +226,7 @@ fn failing_writes_leave_a_prefix(rt: HostRuntime) -> Result<(), Fail> {
 2 ¦ 3 = 0 yes
 7 ¦ 1 = 7
 7 ¦ 2 = 0 yes";
-    each_line(&rt, rt.alloc(), table, writes_row)
+    each_line(rt.alloc(), table, writes_row)
 }
 
 /// A writer whose every call answers an error.
@@ -256,7 +256,7 @@ fn broken_row(alloc: Global, given: &str) -> Result<String, Fail> {
 
 #[test]
 fn a_broken_output_is_a_write_fault(rt: HostRuntime) -> Result<(), Fail> {
-    each_line(&rt, rt.alloc(), "equiv = WriteFault 1", broken_row)
+    each_line(rt.alloc(), "equiv = WriteFault 1", broken_row)
 }
 
 #[test]

@@ -1,9 +1,9 @@
 //! Tokens, and the types, questions and modules that are read from them.
 
-use crate::tables::{each_line, each_pair};
 use fst_lexer::{TokenKind, lex};
 use fst_print::module_text;
 use fst_syntax::read_module;
+use fst_tables::{each_line, each_pair};
 use fst_terms::{Binder, Decl};
 use fst_type_syntax::{read_question, read_type};
 use fst_types::{Kind, Written, WrittenBranch, WrittenForm};
@@ -100,8 +100,8 @@ fn reserved_words(alloc: Global, given: &str) -> Result<String, Fail> {
 #[test]
 fn texts_have_tokens(rt: HostRuntime) -> Result<(), Fail> {
     let alloc = rt.alloc();
-    each_pair(&rt, alloc, &TOKENS, tokens_row)?;
-    each_pair(&rt, alloc, &[(RESERVED, "29")], reserved_words)?;
+    each_pair(alloc, &TOKENS, tokens_row)?;
+    each_pair(alloc, &[(RESERVED, "29")], reserved_words)?;
     assert_eq!(rt; tokens_text(alloc, b"# \xff")?.as_str(), "NotUtf8(2)");
     Ok(())
 }
@@ -232,7 +232,7 @@ Skip ~ forall a:*S . a = syntax at 7
 
 #[test]
 fn texts_are_questions(rt: HostRuntime) -> Result<(), Fail> {
-    each_line(&rt, rt.alloc(), QUESTIONS, question_text)
+    each_line(rt.alloc(), QUESTIONS, question_text)
 }
 
 /// The type from a token of a text on, written out with the number of the token behind it, or its fault.
@@ -274,7 +274,7 @@ fn type_row(alloc: Global, given: &str) -> Result<String, Fail> {
 
 #[test]
 fn types_stand_in_texts(rt: HostRuntime) -> Result<(), Fail> {
-    each_line(&rt, rt.alloc(), TYPES, type_row)
+    each_line(rt.alloc(), TYPES, type_row)
 }
 
 fn show_decl(decl: &Decl, text: &mut String) -> Result<(), Fail> {
@@ -356,5 +356,5 @@ const MODULES: [(&str, &str); 7] = [
 
 #[test]
 fn texts_are_modules(rt: HostRuntime) -> Result<(), Fail> {
-    each_pair(&rt, rt.alloc(), &MODULES, module_row)
+    each_pair(rt.alloc(), &MODULES, module_row)
 }

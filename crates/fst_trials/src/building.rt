@@ -7,7 +7,10 @@ ghost use Rattle.fst_types.specs.Order.{IsSorted, AreSorted, EachChoiceBelow};
 ghost use Rattle.fst_kinds.specs.WellFormed.{IsSession};
 
 use fst_kinds::kind_of;
-use fst_types::{Base, Branch, Kind, Label, Name, Prekind, Ty, TyForm, Use, copy, unfold};
+use fst_types::{
+    Base, Branch, Kind, Label, Name, Prekind, Ty, TyForm, UnfoldFault, Use, copy, unfold,
+    unfold_within_limit,
+};
 use std::alloc::{AllocError, Global};
 use std::test::Fail;
 
@@ -164,6 +167,17 @@ pub(crate) fn unfolded(alloc: Global, t: &Ty) -> Result<Ty, AllocError> {
     match &t.form {
         TyForm::Rec(_) => unfold(alloc, t),
         _ => copy(alloc, t),
+    }
+}
+
+/// The same within the limit on nodes.
+pub(crate) fn unfolded_within_limit(alloc: Global, t: &Ty) -> Result<Ty, UnfoldFault> {
+    if !sound(t, 0) {
+        return Ok(copy(alloc, t)?);
+    }
+    match &t.form {
+        TyForm::Rec(_) => unfold_within_limit(alloc, t),
+        _ => Ok(copy(alloc, t)?),
     }
 }
 

@@ -1,15 +1,16 @@
 //! Types of as many nodes as are allowed, in one chain: these take most of the stack, and `rt try` has too little of it.
 
-use crate::building::{ty, unfolded};
+use crate::building::{ty, unfolded, unfolded_within_limit};
 use crate::equivalence::{asked, translated, verdict_text};
 use crate::kinds::kind;
 use crate::moves::left_behind;
-use crate::tables::{each_line, fields, no_row};
 use crate::texts::text_of;
 use fst_grammar::TranslateFault;
-use fst_lts::{dual, labels};
+use fst_kinds::contractive;
+use fst_lts::{StepFault, dual, labels, residual, step, step_within_limit, terminated};
 use fst_print::word_text;
-use fst_types::{Ty, copy, same, size};
+use fst_tables::{each_line, fields, no_row};
+use fst_types::{Label, Scope, Ty, TyForm, UnfoldFault, copy, same, size, substitute};
 use std::alloc::{AllocError, Global};
 use std::test::Fail;
 
@@ -80,7 +81,138 @@ fn chain_row(alloc: Global, given: &str) -> Result<String, Fail> {
 
 #[test]
 fn deep_types_fit_the_stack(rt: HostRuntime) -> Result<(), Fail> {
-    each_line(&rt, rt.alloc(), CHAINS, chain_row)
+    each_line(rt.alloc(), CHAINS, chain_row)
+}
+
+// Types with variables, whose successors and unfoldings may be far larger: the signs in front and behind, how often they stand
+// there, and the code between them. How many nodes the type has, whether it is the same as its copy and as the dual of its dual;
+// its kind, and whether it is contractive and terminated; how many nodes its unfolding has; each label by which it moves,
+// and how many nodes are left then.
+const WRITTEN_OUT: &str = "\
+r ¦ ¦ 4070 ¦ -;0;1;2;3;4;56 = 4085 true 1S true false 4084 +B 2560
+r ¦ ¦ 4000 ¦ +s0 = 4005 true 1S true false 4004 +A 1 +B 6
+r ¦ ¦ 4000 ¦ +s;09 = 4007 true 1S true false 4006 +A 1 +B 42
+r ¦ ¦ 10 ¦ +s;0;1;2;3;4;5;6;7;89 = 33 true 1S true false 64 +A 1 +B large
+r ¦ ¦ 20 ¦ +s;0;1;2;3;4;5;6;7;89 = 43 true 1S true false 42 +A 1 +B large
+r- ¦ ¦ 1360 ¦ ;s0 = 4083 true 1S true false 4082 +B 4080
+r-;s ¦ ¦ 800 ¦ ;!0 = 4003 true 1S true false 4002 +B 4000
+;s ¦ ¦ 1020 ¦ r+s0 = 2046 true 1S true false 2046 +A 1 +B 6
+; ¦ s ¦ 1020 ¦ r+s0 = 2046 true 1S true false 2046 +A 2041 +B 2046
+r; ¦ s ¦ 1360 ¦ +s9 = 4085 true 1S true false 4084 +A 2721 +B 2755";
+
+fn count_text(alloc: Global, answer: &Option<Ty>) -> Result<String, AllocError> {
+    match answer {
+        None => String::from_str(alloc, "none"),
+        Some(t) => format!(in alloc; "{}", size(t)),
+    }
+}
+
+/// How many nodes the type after a label has, where it is within the limit and `step` and `residual` give the same.
+fn step_count(alloc: Global, t: &Ty, label: &Label) -> Result<String, Fail> {
+    let next = match step_within_limit(alloc, t, label) {
+        Ok(next) => next,
+        Err(StepFault::TooLarge) => return Ok(String::from_str(alloc, "large")?),
+        Err(StepFault::Memory) => return Err(Fail::new("no memory")),
+    };
+    let by = label.copy(alloc)?;
+    let other = residual(alloc, t, &[by])?;
+    match (&next, &step(alloc, t, label)?, &other) {
+        (None, None, None) => {}
+        (Some(x), Some(y), Some(z)) if same(x, y) && same(x, z) => {}
+        _ => return Err(Fail::new("two answers")),
+    }
+    Ok(count_text(alloc, &next)?)
+}
+
+/// Each label by which a type moves, and how many nodes are left then.
+fn step_counts(alloc: Global, t: &Ty) -> Result<String, Fail> {
+    let mut text = String::new(alloc);
+    for label in &labels(alloc, t)? {
+        let count = step_count(alloc, t, label)?;
+        let by = label.copy(alloc)?;
+        let by = word_text(alloc, &[by])?;
+        text.push_str(" ")?;
+        text.push_str(&by)?;
+        text.push_str(" ")?;
+        text.push_str(&count)?;
+    }
+    Ok(text)
+}
+
+fn unfolding_count(alloc: Global, t: &Ty) -> Result<String, Fail> {
+    match unfolded_within_limit(alloc, t) {
+        Ok(next) => Ok(format!(in alloc; "{}", size(&next))?),
+        Err(UnfoldFault::TooLarge) => Ok(String::from_str(alloc, "large")?),
+        Err(UnfoldFault::Memory) => Err(Fail::new("no memory")),
+    }
+}
+
+/// Whether a type is the same as its copy, as the dual of its dual, and as itself with nothing put into it.
+fn is_kept(alloc: Global, t: &Ty) -> Result<bool, AllocError> {
+    Ok(
+        same(t, &copy(alloc, t)?)
+            && same(t, &dual(alloc, &dual(alloc, t)?)?)
+            && same(t, &substitute(alloc, &Scope::Top, t)?),
+    )
+}
+
+fn calls_row(alloc: Global, t: &Ty) -> Result<String, Fail> {
+    let is_kept = is_kept(alloc, t)?;
+    let kind = kind(alloc, t, &[])?;
+    let (is_contractive, is_terminated) = (contractive(t), terminated(t));
+    let unfolding = unfolding_count(alloc, t)?;
+    let steps = step_counts(alloc, t)?;
+    let nodes = size(t);
+    Ok(format!(in alloc;
+        "{nodes} {is_kept} {kind} {is_contractive} {is_terminated} {unfolding}{steps}"
+    )?)
+}
+
+fn written_out_row(alloc: Global, given: &str) -> Result<String, Fail> {
+    let fields = fields(alloc, given)?;
+    let [front, back, times, middle] = fields.as_slice() else {
+        return Err(no_row());
+    };
+    let t = chained(alloc, front, back, times.parse::<usize>()?, middle)?;
+    calls_row(alloc, &t)
+}
+
+#[test]
+fn deep_types_with_variables_fit_the_stack(rt: HostRuntime) -> Result<(), Fail> {
+    each_line(rt.alloc(), WRITTEN_OUT, written_out_row)
+}
+
+/// So many `rec`s around a message and the variable of the outermost of them.
+fn outermost(alloc: Global, times: u32) -> Result<Ty, AllocError> {
+    let back = Ty {
+        form: TyForm::Back(times.saturating_sub(1)),
+    };
+    let message = ty(alloc, "!")?;
+    let mut t = Ty {
+        form: TyForm::Seq(Box::new(alloc, message)?, Box::new(alloc, back)?),
+    };
+    for _ in 0..times {
+        t = Ty {
+            form: TyForm::Rec(Box::new(alloc, t)?),
+        };
+    }
+    Ok(t)
+}
+
+fn outermost_row(alloc: Global, given: &str) -> Result<String, Fail> {
+    let t = outermost(alloc, given.parse::<u32>()?)?;
+    calls_row(alloc, &t)
+}
+
+#[test]
+fn deep_successors_are_within_the_limit_or_refused(rt: HostRuntime) -> Result<(), Fail> {
+    let table = "\
+2046 = 2049 true 1S true false 4096 !Int 2051
+2047 = 2050 true 1S true false large !Int 2052
+4091 = 4094 true 1S true false large !Int 4096
+4092 = 4095 true 1S true false large !Int large
+4093 = 4096 true 1S true false large !Int large";
+    each_line(rt.alloc(), table, outermost_row)
 }
 
 fn large_row(alloc: Global, given: &str) -> Result<String, Fail> {
@@ -98,7 +230,7 @@ fn larger_types_are_refused(rt: HostRuntime) -> Result<(), Fail> {
     let table = "\
 2047 = 1 1 yes yes
 2048 = large large too large too large";
-    each_line(&rt, rt.alloc(), table, large_row)
+    each_line(rt.alloc(), table, large_row)
 }
 
 #[test]

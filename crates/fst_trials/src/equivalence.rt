@@ -1,12 +1,11 @@
 //! The grammars of types, and whether types are equivalent.
 
 use crate::building::{is_session, ty};
-use crate::grammars::{digits_text, pairs_text};
-use crate::tables::{each_line, fields, no_row};
 use fst_equiv::{Certificate, EquivFault, Verdict, ask};
 use fst_grammar::{TranslateFault, translate};
 use fst_lts::{agree_to, residual};
 use fst_print::{side_text, word_text};
+use fst_tables::{digits_text, each_line, fields, no_row, pairs_text};
 use fst_types::{Kind, Label, Prekind, Side, Ty, Use};
 use fst_words::{Grammar, Word};
 use std::alloc::{AllocError, Global};
@@ -102,7 +101,7 @@ fn translation_row(alloc: Global, given: &str) -> Result<String, Fail> {
 
 #[test]
 fn types_have_grammars(rt: HostRuntime) -> Result<(), Fail> {
-    each_line(&rt, rt.alloc(), TRANSLATIONS, translation_row)
+    each_line(rt.alloc(), TRANSLATIONS, translation_row)
 }
 
 /// The verdict on two session types; types that are none come out as a want of memory.
@@ -164,7 +163,7 @@ fn verdict_row(alloc: Global, given: &str) -> Result<String, Fail> {
 
 #[test]
 fn types_have_verdicts_within_a_budget(rt: HostRuntime) -> Result<(), Fail> {
-    each_line(&rt, rt.alloc(), VERDICTS, verdict_row)
+    each_line(rt.alloc(), VERDICTS, verdict_row)
 }
 
 // The codes of session types.

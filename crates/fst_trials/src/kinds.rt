@@ -1,8 +1,8 @@
 //! Kinds of types.
 
 use crate::building::{sound, ty};
-use crate::tables::{each_line, fields, no_row};
 use fst_kinds::{KindFault, contractive, kind_of, subkind};
+use fst_tables::{each_line, fields, no_row};
 use fst_types::{Kind, Prekind, Ty, Use};
 use std::alloc::{AllocError, Global};
 use std::test::Fail;
@@ -148,5 +148,5 @@ fn kind_row(alloc: Global, given: &str) -> Result<String, Fail> {
 
 #[test]
 fn types_have_a_kind_or_a_first_fault(rt: HostRuntime) -> Result<(), Fail> {
-    each_line(&rt, rt.alloc(), KINDS, kind_row)
+    each_line(rt.alloc(), KINDS, kind_row)
 }

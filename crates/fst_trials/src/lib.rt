@@ -1,4 +1,4 @@
-//! Trials of types, grammars and equivalence: tables of cases whose answers were worked out by hand.
+//! Trials of types and of equivalence: tables of cases whose answers were worked out by hand.
 #![tactic(auto)]
 
 #[cfg(test)]
@@ -8,13 +8,9 @@ mod deep;
 #[cfg(test)]
 mod equivalence;
 #[cfg(test)]
-mod grammars;
-#[cfg(test)]
 mod kinds;
 #[cfg(test)]
 mod moves;
-#[cfg(test)]
-mod tables;
 #[cfg(test)]
 mod texts;
 #[cfg(test)]

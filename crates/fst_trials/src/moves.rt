@@ -1,9 +1,11 @@
 //! How types move, and their duals.
 
 use crate::building::{ty, word};
-use crate::tables::{each_line, fields, no_row};
-use fst_lts::{agree_to, dual, dual_label, labels, residual, step, terminated};
+use fst_lts::{
+    StepFault, agree_to, dual, dual_label, labels, residual, step, step_within_limit, terminated,
+};
 use fst_print::word_text;
+use fst_tables::{each_line, fields, no_row};
 use fst_types::{Label, Ty, same};
 use std::alloc::{AllocError, Global};
 use std::test::Fail;
@@ -32,7 +34,7 @@ fn labels_row(alloc: Global, given: &str) -> Result<String, Fail> {
 
 #[test]
 fn types_move_by_their_labels(rt: HostRuntime) -> Result<(), Fail> {
-    each_line(&rt, rt.alloc(), LABELS, labels_row)
+    each_line(rt.alloc(), LABELS, labels_row)
 }
 
 // The code of a type, a word, and the code of what is left behind it; or that there is nothing.
@@ -84,6 +86,20 @@ fn against(found: &Option<Ty>, wanted: &Ty) -> &'static str {
     }
 }
 
+/// The type after a label within the limit on nodes, against this.
+fn stepped_within_limit(
+    alloc: Global,
+    t: &Ty,
+    label: &Label,
+    wanted: &Ty,
+) -> Result<&'static str, AllocError> {
+    match step_within_limit(alloc, t, label) {
+        Ok(found) => Ok(against(&found, wanted)),
+        Err(StepFault::TooLarge) => Ok("too large"),
+        Err(StepFault::Memory) => Err(AllocError),
+    }
+}
+
 /// What is left of a type behind a word, against this; where the word is one label, a step has to say the same.
 pub(crate) fn left_behind(
     alloc: Global,
@@ -95,7 +111,8 @@ pub(crate) fn left_behind(
     match word {
         [label] => {
             let stepped = against(&step(alloc, t, label)?, wanted);
-            Ok(if stepped == answer {
+            let limited = stepped_within_limit(alloc, t, label, wanted)?;
+            Ok(if stepped == answer && limited == answer {
                 answer
             } else {
                 "two answers"
@@ -117,7 +134,7 @@ fn residual_row(alloc: Global, given: &str) -> Result<String, Fail> {
 
 #[test]
 fn words_leave_what_their_labels_leave(rt: HostRuntime) -> Result<(), Fail> {
-    each_line(&rt, rt.alloc(), RESIDUALS, residual_row)
+    each_line(rt.alloc(), RESIDUALS, residual_row)
 }
 
 // The codes of two types, each the dual of the other.
@@ -150,7 +167,7 @@ fn dual_row(alloc: Global, given: &str) -> Result<String, Fail> {
 
 #[test]
 fn each_side_is_the_dual_of_the_other(rt: HostRuntime) -> Result<(), Fail> {
-    each_line(&rt, rt.alloc(), DUALS, dual_row)
+    each_line(rt.alloc(), DUALS, dual_row)
 }
 
 fn dual_word(alloc: Global, given: &str) -> Result<String, Fail> {
@@ -164,7 +181,7 @@ fn dual_word(alloc: Global, given: &str) -> Result<String, Fail> {
 #[test]
 fn labels_meet_their_duals(rt: HostRuntime) -> Result<(), Fail> {
     let table = "!Int ?Int !Bool ?() +A &A a4 = ?Int !Int ?Bool !() &A +A a4";
-    each_line(&rt, rt.alloc(), table, dual_word)
+    each_line(rt.alloc(), table, dual_word)
 }
 
 // The codes of two types, and the greatest depth up to 5 at which they agree.
@@ -196,5 +213,5 @@ fn depth_row(alloc: Global, given: &str) -> Result<String, Fail> {
 
 #[test]
 fn types_agree_as_deep_as_their_moves(rt: HostRuntime) -> Result<(), Fail> {
-    each_line(&rt, rt.alloc(), AGREEMENTS, depth_row)
+    each_line(rt.alloc(), AGREEMENTS, depth_row)
 }

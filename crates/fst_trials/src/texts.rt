@@ -2,11 +2,11 @@
 
 ghost use Rattle.std.specs.Prelude.{IsTrue};
 ghost use Rattle.fst_types.specs.ModelView.{branches_of};
-ghost use Rattle.fst_print.specs.Named.{AllNamedWithin, IsNamedWithin};
+ghost use Rattle.fst_types.specs.Named.{AllNamedWithin, IsNamedWithin};
 
 use crate::building::{sound, ty};
-use crate::tables::each_line;
 use fst_print::{Phrase, Refusal, refusal_text, type_text};
+use fst_tables::each_line;
 use fst_types::{Branch, Family, Kind, Name, Prekind, Ty, TyForm, Use};
 use std::alloc::Global;
 use std::test::Fail;
@@ -89,7 +89,7 @@ fn type_row(alloc: Global, given: &str) -> Result<String, Fail> {
 
 #[test]
 fn types_have_texts(rt: HostRuntime) -> Result<(), Fail> {
-    each_line(&rt, rt.alloc(), TYPES, type_row)
+    each_line(rt.alloc(), TYPES, type_row)
 }
 
 fn phrase_of(name: &str) -> Phrase {
@@ -99,6 +99,8 @@ fn phrase_of(name: &str) -> Phrase {
         b"kind" => Phrase::WrongKind(kind(Prekind::Top, once), kind(Prekind::Session, many)),
         b"first" => Phrase::UnboundType(0),
         b"last" => Phrase::UnboundType(u64::MAX),
+        b"arity" => Phrase::Arity(0, u64::MAX),
+        b"main" => Phrase::NoMain,
         _ => Phrase::Syntax,
     }
 }
@@ -118,6 +120,8 @@ fn refusals_have_texts(rt: HostRuntime) -> Result<(), Fail> {
 kind = refused 4294967295:1 kind 1T wanted *S
 first = refused 4294967295:1 unbound type a1
 last = refused 4294967295:1 unbound type a18446744073709551616
+arity = refused 4294967295:1 arity 0 wanted 18446744073709551615
+main = refused 4294967295:1 no main
 syntax = refused 4294967295:1 syntax";
-    each_line(&rt, rt.alloc(), table, refusal_row)
+    each_line(rt.alloc(), table, refusal_row)
 }

@@ -1,9 +1,9 @@
 //! Types and labels as trees.
 
 use crate::building::{ty, unfolded, word};
-use crate::tables::{each_line, each_pair, fields, no_row};
 use fst_print::word_text;
-use fst_types::{Name, Scope, Ty, copy, same, size, substitute};
+use fst_tables::{each_line, each_pair, fields, no_row};
+use fst_types::{Name, Scope, Ty, copy, same, size, substitute, substituted_size};
 use std::alloc::{AllocError, Global};
 use std::test::Fail;
 
@@ -70,12 +70,17 @@ fn shape(alloc: Global, given: &str) -> Result<String, Fail> {
 
 #[test]
 fn types_have_nodes_copies_and_unfoldings(rt: HostRuntime) -> Result<(), Fail> {
-    each_line(&rt, rt.alloc(), TYPES, shape)
+    each_line(rt.alloc(), TYPES, shape)
 }
 
 fn puts(alloc: Global, scope: &Scope<'_>, code: &str, wanted: &str) -> Result<bool, AllocError> {
-    let found = substitute(alloc, scope, &ty(alloc, code)?)?;
-    Ok(same(&found, &ty(alloc, wanted)?))
+    let t = ty(alloc, code)?;
+    let found = substitute(alloc, scope, &t)?;
+    let nodes = size(&found);
+    let is_counted = substituted_size(scope, &t, 2, 100) == nodes.saturating_add(2)
+        && substituted_size(scope, &t, 0, nodes) == nodes
+        && substituted_size(scope, &t, 1, nodes) == nodes;
+    Ok(is_counted && same(&found, &ty(alloc, wanted)?))
 }
 
 #[test]
@@ -91,6 +96,9 @@ fn binders_stand_for_types_or_for_nothing(rt: HostRuntime) -> Result<(), Fail> {
     assert!(rt; puts(alloc, &both, ";2r;2;10", ";2r;r;?0;!0")?);
     let kept = Scope::Kept(&under_outer);
     assert!(rt; puts(alloc, &kept, ";01", ";0r;?0")?);
+    let open = ty(alloc, "r;!;01")?;
+    let within = Scope::Under(&open, &under_outer);
+    assert!(rt; puts(alloc, &within, "+0;1r;01", "+r;!;0r;?0;r;?0r;0r;!;0r;?0")?);
     Ok(())
 }
 
@@ -135,7 +143,7 @@ fn place(alloc: Global, given: &str) -> Result<String, Fail> {
 
 #[test]
 fn labels_stand_in_one_order(rt: HostRuntime) -> Result<(), Fail> {
-    each_line(&rt, rt.alloc(), LABELS, place)
+    each_line(rt.alloc(), LABELS, place)
 }
 
 fn again(alloc: Global, given: &str) -> Result<String, Fail> {
@@ -149,5 +157,5 @@ fn words_have_one_space_between_their_labels(rt: HostRuntime) -> Result<(), Fail
         ("!Int", "!Int"),
         (" ?Bool  +A &größer a4", "?Bool +A &größer a4"),
     ];
-    each_pair(&rt, rt.alloc(), &table, again)
+    each_pair(rt.alloc(), &table, again)
 }

@@ -5,12 +5,12 @@ ghost use Rattle.fst_base.specs.Order.{IsRising};
 ghost use Rattle.fst_words.specs.Words.{LettersBelow};
 ghost use Rattle.fst_types.specs.Order.{label_cmp};
 
-use crate::tables::{each_line, fields, no_row};
 use fst_breadth::{Found, search};
 use fst_norms::{norms, prune, unnormed};
 use fst_print::{side_text, word_text};
+use fst_tables::{digits_text, each_line, fields, no_row, pairs_text};
 use fst_types::{Base, Label};
-use fst_words::{Grammar, Pair, Rule, Rules, Word, is_below, is_in_range, step};
+use fst_words::{Grammar, Rule, Rules, Word, is_below, is_in_range, step};
 use std::alloc::{AllocError, Global};
 use std::test::Fail;
 
@@ -80,14 +80,6 @@ fn grammar(alloc: Global, text: &str) -> Result<Grammar, Fail>
     Ok(Grammar { letters, rules })
 }
 
-pub(crate) fn digits_text(alloc: Global, numbers: &[u32]) -> Result<String, AllocError> {
-    let mut text = String::new(alloc);
-    for number in numbers {
-        text.push(char::from_digit(*number % 10, 10).unwrap_or('?'))?;
-    }
-    Ok(text)
-}
-
 // `X0 -> !Int X0 X1 | ?Int`, `X1 -> ?Int X1 X2`, and no rule for X2.
 const STEPS: &str = "001 1 / 112 / ";
 
@@ -123,16 +115,18 @@ fn after(alloc: Global, given: &str) -> Result<String, Fail> {
 
 #[test]
 fn words_move_by_the_rules_of_their_first(rt: HostRuntime) -> Result<(), Fail> {
-    each_line(&rt, rt.alloc(), WORDS, after)
+    each_line(rt.alloc(), WORDS, after)
 }
 
 #[test]
 fn words_are_lists_of_numbers(rt: HostRuntime) -> Result<(), Fail> {
     let alloc = rt.alloc();
-    let mut word = Word::joined(alloc, &[3, 1], &[2])?;
+    let mut word = Word::concat(alloc, &[3, 1], &[2])?;
     assert!(rt; word.same(&Word::of(alloc, &[3, 1, 2])?));
     word.truncate(1);
     assert_eq!(rt; word.as_slice(), [3].as_slice());
+    let again = Word::from_vec(word.into_vec());
+    assert_eq!(rt; again.as_slice(), [3].as_slice());
     Ok(())
 }
 
@@ -150,7 +144,7 @@ fn is_ordered(alloc: Global, given: &str) -> Result<String, Fail> {
 
 #[test]
 fn rules_stand_in_the_order_of_their_letters(rt: HostRuntime) -> Result<(), Fail> {
-    each_line(&rt, rt.alloc(), ORDERS, is_ordered)
+    each_line(rt.alloc(), ORDERS, is_ordered)
 }
 
 // A grammar and a word; the norms of the non-terminals, with `-` for none, and the word pruned.
@@ -210,7 +204,7 @@ fn are_marked(norms: &[Option<u64>], marks: &[bool]) -> bool {
 
 #[test]
 fn norms_are_shortest_ways_and_words_end_behind_none(rt: HostRuntime) -> Result<(), Fail> {
-    each_line(&rt, rt.alloc(), NORMS, norms_row)
+    each_line(rt.alloc(), NORMS, norms_row)
 }
 
 // A grammar of so many non-terminals, each with one rule, whose word has the next non-terminal once and the last one so
@@ -284,7 +278,7 @@ fn norms_stay_at_two_to_the_63(rt: HostRuntime) -> Result<(), Fail> {
 62 = 9223372036854775807
 63 = 9223372036854775808
 69 = 9223372036854775808";
-    each_line(&rt, rt.alloc(), table, doubled)
+    each_line(rt.alloc(), table, doubled)
 }
 
 #[test]
@@ -324,18 +318,6 @@ fn searched(alloc: Global, g: &Grammar, u: &str, v: &str, budget: u32) -> Result
     prune(&mut u, marks);
     prune(&mut v, marks);
     Ok(search(alloc, g, marks, &u, &v, budget)?)
-}
-
-/// Pairs as text, such as ` 0-1 2-3`.
-pub(crate) fn pairs_text(alloc: Global, pairs: &[Pair]) -> Result<String, AllocError> {
-    let mut text = String::new(alloc);
-    for pair in pairs {
-        text.push(' ')?;
-        text.push_str(&digits_text(alloc, pair.left.as_slice())?)?;
-        text.push('-')?;
-        text.push_str(&digits_text(alloc, pair.right.as_slice())?)?;
-    }
-    Ok(text)
 }
 
 /// As `equal 0-1 2-3`, `spent 0-1`, or `!Int ?Bool left`.
@@ -396,5 +378,5 @@ fn search_row(alloc: Global, given: &str) -> Result<String, Fail> {
 
 #[test]
 fn words_have_a_least_difference_or_pairs(rt: HostRuntime) -> Result<(), Fail> {
-    each_line(&rt, rt.alloc(), SEARCHES, search_row)
+    each_line(rt.alloc(), SEARCHES, search_row)
 }
