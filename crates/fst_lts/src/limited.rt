@@ -14,9 +14,6 @@ use fst_base::MOST_NODES;
 use fst_types::{Label, Scope, Ty, TyForm, substituted_size};
 use std::alloc::Global;
 
-// How far the nodes of a successor are counted.
-const CEILING: u64 = MOST_NODES + 1;
-
 /// The type after a label, as `step` gives it, where it has at most 4,096 nodes; otherwise it is too large, which is
 /// known before any of it is built.
 pub fn step_within_limit(alloc: Global, t: &Ty, a: &Label) -> Result<Option<Ty>, StepFault>
@@ -49,11 +46,11 @@ fn step_size(scope: &Scope<'_>, t: &Ty, a: &Label) -> Option<u64>
         TyForm::Send(base) => one_node_if(a.same(&Label::Send(*base))),
         TyForm::Receive(base) => one_node_if(a.same(&Label::Receive(*base))),
         TyForm::Select(branches) => match selected(branches, a) {
-            Some(body) => Some(substituted_size(scope, body, 0, CEILING)),
+            Some(body) => Some(substituted_size(scope, body, 0)),
             None => None,
         },
         TyForm::Offer(branches) => match offered(branches, a) {
-            Some(body) => Some(substituted_size(scope, body, 0, CEILING)),
+            Some(body) => Some(substituted_size(scope, body, 0)),
             None => None,
         },
         TyForm::Seq(first, second) => {
@@ -61,9 +58,7 @@ fn step_size(scope: &Scope<'_>, t: &Ty, a: &Label) -> Option<u64>
                 step_size(scope, second, a)
             } else {
                 match step_size(scope, first, a) {
-                    Some(size) => {
-                        Some(substituted_size(scope, second, size.saturating_add(1), CEILING))
-                    }
+                    Some(size) => Some(substituted_size(scope, second, size.saturating_add(1))),
                     None => None,
                 }
             }

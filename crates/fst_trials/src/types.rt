@@ -1,6 +1,7 @@
 //! Types and labels as trees.
 
 use crate::building::{ty, unfolded, word};
+use fst_base::MOST_NODES;
 use fst_print::word_text;
 use fst_tables::{each_line, each_pair, fields, no_row};
 use fst_types::{Name, Scope, Ty, copy, same, size, substitute, substituted_size};
@@ -77,9 +78,9 @@ fn puts(alloc: Global, scope: &Scope<'_>, code: &str, wanted: &str) -> Result<bo
     let t = ty(alloc, code)?;
     let found = substitute(alloc, scope, &t)?;
     let nodes = size(&found);
-    let is_counted = substituted_size(scope, &t, 2, 100) == nodes.saturating_add(2)
-        && substituted_size(scope, &t, 0, nodes) == nodes
-        && substituted_size(scope, &t, 1, nodes) == nodes;
+    let is_counted = substituted_size(scope, &t, 2) == nodes.saturating_add(2)
+        && substituted_size(scope, &t, MOST_NODES) == MOST_NODES.saturating_add(1)
+        && substituted_size(scope, &t, u64::MAX) == MOST_NODES.saturating_add(1);
     Ok(is_counted && same(&found, &ty(alloc, wanted)?))
 }
 

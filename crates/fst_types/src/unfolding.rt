@@ -51,7 +51,7 @@ fn unfolding_is_too_large(t: &Ty) -> bool
 {
     match &t.form {
         TyForm::Rec(body) => {
-            substituted_size(&Scope::Under(t, &Scope::Top), body, 0, MOST_NODES + 1) > MOST_NODES
+            substituted_size(&Scope::Under(t, &Scope::Top), body, 0) > MOST_NODES
         }
         _ => unreachable!(),
     }
