@@ -11,7 +11,7 @@ ghost use Rattle.fst_base.specs.Order.{IsRising};
 ghost use Rattle.fst_types.specs.ModelScopes.{env_of};
 ghost use Rattle.fst_types.specs.Substitution.{substitute};
 
-use fst_types::{Branch, Label, Scope, Ty, TyForm, copy, substitute};
+use fst_types::{Branch, Label, MOST_OPEN, Scope, Ty, TyForm, copy, substitute_within};
 use std::alloc::{AllocError, Global};
 
 /// Whether no move is left.
@@ -113,7 +113,19 @@ pub fn step(alloc: Global, t: &Ty, a: &Label) -> Result<Option<Ty>, AllocError>
     ensures ordered { IsOrdered t.now → IfOk result (λ next. IfSome next IsOrdered) }
     ensures well_formed { (vars : List Kind) → IsSession vars t.now → IfOk result (λ next. IfSome next (IsSession vars)) }
 {
-    step_within(alloc, &Scope::Top, t, a)
+    step_opening(alloc, t, a, MOST_OPEN)
+}
+
+/// The same by a call that may open so many levels.
+pub(crate) fn step_opening(
+    alloc: Global,
+    t: &Ty,
+    a: &Label,
+    left: u32,
+) -> Result<Option<Ty>, AllocError>
+    ensures { IfOk result (λ next. next ≡ step t.now a.now) }
+{
+    step_within(alloc, &Scope::Top, t, a, left)
 }
 
 fn step_within(
@@ -121,32 +133,37 @@ fn step_within(
     scope: &Scope<'_>,
     t: &Ty,
     a: &Label,
+    left: u32,
 ) -> Result<Option<Ty>, AllocError>
     ensures { IfOk result (λ next. next ≡ step_in (env_of scope.now) t.now a.now) }
 {
+    if left == 0 {
+        return Err(AllocError);
+    }
+    let left = left - 1;
     match &t.form {
         TyForm::Skip => Ok(None),
         TyForm::Send(base) => Ok(skip_if(a.same(&Label::Send(*base)))),
         TyForm::Receive(base) => Ok(skip_if(a.same(&Label::Receive(*base)))),
         TyForm::Select(branches) => match selected(branches, a) {
-            Some(body) => substituted(alloc, scope, body),
+            Some(body) => substituted(alloc, scope, body, left),
             None => Ok(None),
         },
         TyForm::Offer(branches) => match offered(branches, a) {
-            Some(body) => substituted(alloc, scope, body),
+            Some(body) => substituted(alloc, scope, body, left),
             None => Ok(None),
         },
         TyForm::Seq(first, second) => {
             if is_terminated(first) {
-                step_within(alloc, scope, second, a)
+                step_within(alloc, scope, second, a, left)
             } else {
-                match step_within(alloc, scope, first, a)? {
+                match step_within(alloc, scope, first, a, left)? {
                     None => Ok(None),
-                    Some(next) => Ok(Some(followed(alloc, scope, next, second)?)),
+                    Some(next) => Ok(Some(followed(alloc, scope, next, second, left)?)),
                 }
             }
         }
-        TyForm::Rec(body) => step_within(alloc, &Scope::Under(t, scope), body, a),
+        TyForm::Rec(body) => step_within(alloc, &Scope::Under(t, scope), body, a, left),
         TyForm::Back(_) => Ok(None),
         TyForm::Var(k) => Ok(skip_if(a.same(&Label::Var(*k)))),
         TyForm::Plain(_) => Ok(None),
@@ -156,17 +173,28 @@ fn step_within(
     }
 }
 
-fn substituted(alloc: Global, scope: &Scope<'_>, t: &Ty) -> Result<Option<Ty>, AllocError>
+fn substituted(
+    alloc: Global,
+    scope: &Scope<'_>,
+    t: &Ty,
+    left: u32,
+) -> Result<Option<Ty>, AllocError>
     ensures { IfOk result (λ next. next ≡ Some (substitute (env_of scope.now) t.now)) }
 {
-    Ok(Some(substitute(alloc, scope, t)?))
+    Ok(Some(substitute_within(alloc, scope, t, left)?))
 }
 
 // The type with another one behind it, into which what the binders around it stand for is put.
-fn followed(alloc: Global, scope: &Scope<'_>, next: Ty, second: &Ty) -> Result<Ty, AllocError>
+fn followed(
+    alloc: Global,
+    scope: &Scope<'_>,
+    next: Ty,
+    second: &Ty,
+    left: u32,
+) -> Result<Ty, AllocError>
     ensures { IfOk result (λ t. t ≡ tree.seq next (substitute (env_of scope.now) second.now)) }
 {
-    let behind = substitute(alloc, scope, second)?;
+    let behind = substitute_within(alloc, scope, second, left)?;
     Ok(Ty {
         form: TyForm::Seq(Box::new(alloc, next)?, Box::new(alloc, behind)?),
     })

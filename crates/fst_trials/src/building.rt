@@ -87,10 +87,29 @@ fn node(alloc: Global, sign: u8, stack: &mut Vec<Ty>) -> Result<TyForm, AllocErr
 /// selects `A` or `B`, `&` offers both, `*` selects `A` or `C`, `=` between two `A`, `#` between two `C`.
 pub(crate) fn ty(alloc: Global, code: &str) -> Result<Ty, AllocError> {
     let mut stack = Vec::new(alloc);
+    stack_up(alloc, code, &mut stack)?;
+    Ok(taken(&mut stack))
+}
+
+fn stack_up(alloc: Global, code: &str, stack: &mut Vec<Ty>) -> Result<(), AllocError> {
     for sign in code.bytes().rev() {
-        let form = node(alloc, sign, &mut stack)?;
+        let form = node(alloc, sign, stack)?;
         stack.push(Ty { form })?;
     }
+    Ok(())
+}
+
+/// The type of a code in which this type stands between these signs.
+pub(crate) fn ty_around(
+    alloc: Global,
+    front: &str,
+    inner: Ty,
+    back: &str,
+) -> Result<Ty, AllocError> {
+    let mut stack = Vec::new(alloc);
+    stack_up(alloc, back, &mut stack)?;
+    stack.push(inner)?;
+    stack_up(alloc, front, &mut stack)?;
     Ok(taken(&mut stack))
 }
 

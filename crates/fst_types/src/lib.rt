@@ -25,7 +25,7 @@ pub use kind::{Kind, Prekind, Use};
 pub use label::Label;
 pub use law::{label_order_law, substitution_law};
 pub use name::Name;
-pub use scope::{Scope, substitute};
+pub use scope::{MOST_OPEN, Scope, substitute, substitute_within};
 pub use side::Side;
 pub use ty::{Branch, Ty, TyForm};
 pub use unfolding::{unfold, unfold_within_limit};

@@ -8,8 +8,8 @@ abbrev pub invariant-agree_after_all-loop-label : goal.invariant-agree_after_all
 invariant-agree_after_all-loop-label l =
     (k : ℕ) (d : Label) → k < l.label-index → BothOrNeither (AgreeTo step step l.depth) (step l.s (get_or l.labels k d)) (step l.r (get_or l.labels k d))
 
-abbrev pub decreases-agree_to : goal.decreases-agree_to
-decreases-agree_to l = 4 * l.depth
+abbrev pub decreases-agree_within : goal.decreases-agree_within
+decreases-agree_within l = 4 * l.depth
 
 abbrev pub decreases-agree_deeper : goal.decreases-agree_deeper
 decreases-agree_deeper l = 4 * l.depth + 3
