@@ -9,9 +9,9 @@ use Rattle.fst_lexer.specs.Lexes.{OneLexing}
 use Rattle.fst_terms.specs.ModuleTree.{Declared}
 use Rattle.fst_reading.specs.Faults.{Begins, is_left}
 use Rattle.fst_type_syntax.specs.Derives.{OneReading}
-use Rattle.fst_syntax.specs.Grammar.{IsModule}
-use Rattle.fst_syntax.specs.Derives.{line_lexemes, ModulePhrase, OneModule}
-use Rattle.fst_syntax.specs.Derives.{AnswersModule as ReadsModule}
+use Rattle.fst_module_grammar.specs.Grammar.{IsModule}
+use Rattle.fst_module_grammar.specs.Derives.{line_lexemes, ModulePhrase, OneModule}
+use Rattle.fst_module_grammar.specs.Derives.{AnswersModule as ReadsModule}
 use Rattle.fst_print.specs.ModuleTexts.{module_text}
 use Rattle.fst_roundtrip.specs.ReadAgain.{IsReadAgain, ReadAgain}
 use Rattle.fst_equiv.specs.Answers.{Answers, OneAnswer}

@@ -3,7 +3,7 @@ use Rattle.std.specs.Prelude.{◌≡◌, ℕ, ◌+◌, ◌≤◌, ◌⊎◌, Lis
 use Rattle.fst_base.specs.Limits.{most_bytes}
 use Rattle.fst_equiv.specs.Answers.{Answer, yes, no, undecided, too_large, Answers}
 use Rattle.fst_terms.specs.ModuleTree.{Declared}
-use Rattle.fst_syntax.specs.Derives.{AnswersModule as ReadsModule}
+use Rattle.fst_module_grammar.specs.Derives.{AnswersModule as ReadsModule}
 use Rattle.fst_names.specs.declared.question.Question.{Question}
 use Rattle.fst_print.specs.ModuleTexts.{module_text}
 use Rattle.fst_command.specs.declared.status.Status.{Status}

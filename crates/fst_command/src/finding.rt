@@ -4,7 +4,7 @@ ghost use Rattle.fst_types.specs.Order.{IsSorted};
 ghost use Rattle.fst_types.specs.Scoped.{IsScoped};
 ghost use Rattle.fst_terms.specs.ModuleView.{declarations};
 ghost use Rattle.fst_type_syntax.specs.Views.{question_tree};
-ghost use Rattle.fst_syntax.specs.Derives.{AnswersModule};
+ghost use Rattle.fst_module_grammar.specs.Derives.{AnswersModule};
 ghost use Rattle.fst_command.specs.Finding.{AreAsked, Asks, IsFaultless, IsNoModule, IsNoQuestion, IsRead, KindFinding, QuestionFinding};
 ghost use Rattle.fst_command.specs.Views.{IfFound, kind_fault};
 

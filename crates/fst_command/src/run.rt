@@ -13,8 +13,8 @@ use fst_base::MOST_BYTES;
 use fst_equiv::one_answer;
 use fst_io::{Gate, ReadFault, Sink, Source, WriteFault, read_all, write_all};
 use fst_lexer::one_lexing;
+use fst_module_grammar::one_module;
 use fst_roundtrip::read_again;
-use fst_syntax::one_module;
 use fst_type_syntax::one_reading;
 use std::alloc::Global;
 

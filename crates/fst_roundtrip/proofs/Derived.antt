@@ -16,8 +16,8 @@ use Rattle.fst_terms.specs.ModuleTree.{Maker, Declared}
 use Rattle.fst_reading.specs.Lexeme.{Lexeme, IsLower, IsUpper}
 use Rattle.fst_type_syntax.specs.Grammar as types
 use Rattle.fst_type_syntax.specs.Grammar.{IsType, IsSeq, IsAlts, IsAlt, IsBinder, IsBinders}
-use Rattle.fst_syntax.specs.Grammar as terms
-use Rattle.fst_syntax.specs.Grammar.{AreNames, AreApplied, IsExpr, AreCases, AreMatches, IsOr, IsAnd, IsCmp, IsSum, IsProd, IsUnary, IsApp, IsHead, AreAtoms, IsAtom, IsPlain, AreTypes, AreMakers, IsDecl, Lined, lexemes_of, IsModule}
+use Rattle.fst_module_grammar.specs.Grammar as terms
+use Rattle.fst_module_grammar.specs.Grammar.{AreNames, AreApplied, IsExpr, AreCases, AreMatches, IsOr, IsAnd, IsCmp, IsSum, IsProd, IsUnary, IsApp, IsHead, AreAtoms, IsAtom, IsPlain, AreTypes, AreMakers, IsDecl, Lined, lexemes_of, IsModule}
 use Rattle.fst_roundtrip.proofs.Showable.{IsLowerName, IsUpperName, IsShowableType, AreShowableBranches, AreLowerNames, IsShowable, AreShowable, AreShowableCases, AreShowableMatches, IsShowableMaker, AreShowableMakers, IsShowableDecl}
 
 -- a token with its text

@@ -7,8 +7,8 @@ use Rattle.fst_terms.specs.declared.binder.Binder.{Binder}
 use Rattle.fst_terms.specs.TermTree as term
 use Rattle.fst_terms.specs.TermTree.{TermTree, TermArms, no_arms, arm}
 use Rattle.fst_reading.specs.Lexeme.{Lexeme, Is, IsUpper}
-use Rattle.fst_syntax.specs.Grammar as grammar
-use Rattle.fst_syntax.specs.Grammar.{bound, IsExpr, AreCases, AreMatches}
+use Rattle.fst_module_grammar.specs.Grammar as grammar
+use Rattle.fst_module_grammar.specs.Grammar.{bound, IsExpr, AreCases, AreMatches}
 use Rattle.fst_print.specs.Texts.{in_braces}
 use Rattle.fst_print.specs.ModuleTexts.{names_text}
 use Rattle.fst_roundtrip.proofs.Showable.{IsLowerName, IsUpperName, AreLowerNames}

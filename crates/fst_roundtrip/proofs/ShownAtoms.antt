@@ -10,8 +10,8 @@ use Rattle.fst_lexer.specs.Spelling.{IsWordOf, ends_number}
 use Rattle.fst_terms.specs.TermTree as term
 use Rattle.fst_terms.specs.TermTree.{TermTree}
 use Rattle.fst_reading.specs.Lexeme.{Lexeme, Is, IsLower}
-use Rattle.fst_syntax.specs.Grammar as grammar
-use Rattle.fst_syntax.specs.Grammar.{IsExpr, IsPlain}
+use Rattle.fst_module_grammar.specs.Grammar as grammar
+use Rattle.fst_module_grammar.specs.Grammar.{IsExpr, IsPlain}
 use Rattle.fst_print.specs.Texts.{in_parens}
 use Rattle.fst_print.specs.ModuleTexts.{truth_text, applied_text}
 use Rattle.fst_roundtrip.proofs.Showable.{IsLowerName, IsShowableType}

@@ -9,8 +9,8 @@ use Rattle.fst_terms.specs.declared.term.Op.TheVariants.{Add, Subtract, Multiply
 use Rattle.fst_terms.specs.TermTree as term
 use Rattle.fst_terms.specs.TermTree.{TermTree, TermList, no_terms}
 use Rattle.fst_reading.specs.Lexeme.{Lexeme, Is, IsUpper, start}
-use Rattle.fst_syntax.specs.Grammar as grammar
-use Rattle.fst_syntax.specs.Grammar.{IsExpr, IsOr, IsApp, IsHead, IsAtom, AreAtoms}
+use Rattle.fst_module_grammar.specs.Grammar as grammar
+use Rattle.fst_module_grammar.specs.Grammar.{IsExpr, IsOr, IsApp, IsHead, IsAtom, AreAtoms}
 use Rattle.fst_print.specs.ModuleTexts.{op_text}
 use Rattle.fst_roundtrip.proofs.Showable.{IsUpperName}
 use Rattle.fst_roundtrip.proofs.Spelled.{Reads, Any, EndsName, One, one, Two, two, so, both, sign_before, upper_name, spaced}

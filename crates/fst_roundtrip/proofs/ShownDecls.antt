@@ -12,8 +12,8 @@ use Rattle.fst_terms.specs.TermTree.{TermTree}
 use Rattle.fst_terms.specs.ModuleTree.{Maker, Declared, family, alias, signature, equation}
 use Rattle.fst_reading.specs.Lexeme.{Lexeme, Is}
 use Rattle.fst_type_syntax.specs.Grammar.{IsType}
-use Rattle.fst_syntax.specs.Grammar as grammar
-use Rattle.fst_syntax.specs.Grammar.{bound, IsDecl, IsExpr}
+use Rattle.fst_module_grammar.specs.Grammar as grammar
+use Rattle.fst_module_grammar.specs.Grammar.{bound, IsDecl, IsExpr}
 use Rattle.fst_print.specs.Texts.{joined_text}
 use Rattle.fst_print.specs.ModuleTexts.{written_text, names_text, term_text, maker_text, binder_kind_text, binders_text, decl_text}
 use Rattle.fst_roundtrip.proofs.Showable.{IsUpperName, IsShowableDecl}

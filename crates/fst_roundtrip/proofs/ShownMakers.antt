@@ -5,8 +5,8 @@ use Rattle.std.proofs.lemmas.List.{append-nil}
 use Rattle.std.proofs.lemmas.List.Elements.{All-head, All-tail}
 use Rattle.fst_terms.specs.ModuleTree.{Maker}
 use Rattle.fst_reading.specs.Lexeme.{Lexeme, Is, IsUpper}
-use Rattle.fst_syntax.specs.Grammar as grammar
-use Rattle.fst_syntax.specs.Grammar.{bound, AreMakers}
+use Rattle.fst_module_grammar.specs.Grammar as grammar
+use Rattle.fst_module_grammar.specs.Grammar.{bound, AreMakers}
 use Rattle.fst_print.specs.Texts.{joined_text}
 use Rattle.fst_print.specs.ModuleTexts.{maker_text}
 use Rattle.fst_roundtrip.proofs.Showable.{IsShowableMaker}

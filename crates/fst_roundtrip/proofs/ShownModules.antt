@@ -9,8 +9,8 @@ use Rattle.fst_lexer.specs.declared.token.Token.{Token}
 use Rattle.fst_lexer.specs.Spelling as spelling
 use Rattle.fst_lexer.specs.Spelling.{Word, LinedWord, IsSpelled, HasWords, SpellingLaw, TokenWords, IsTokenWord, word_at, lined_word_at, end_word}
 use Rattle.fst_terms.specs.ModuleTree.{Declared}
-use Rattle.fst_syntax.specs.Grammar.{Lined, lexemes_of, AreInside, IsModule, none, decl}
-use Rattle.fst_syntax.specs.Derives.{line_lexeme, line_lexemes}
+use Rattle.fst_module_grammar.specs.Grammar.{Lined, lexemes_of, AreInside, IsModule, none, decl}
+use Rattle.fst_module_grammar.specs.Derives.{line_lexeme, line_lexemes}
 use Rattle.fst_print.specs.ModuleTexts.{decl_text, module_text}
 use Rattle.fst_roundtrip.proofs.Showable.{IsShowableDecl}
 use Rattle.fst_roundtrip.specs.ReadAgain.{ReadAgain}

@@ -5,8 +5,8 @@ use Rattle.fst_terms.specs.declared.term.Op.{Op}
 use Rattle.fst_terms.specs.declared.term.Op.TheVariants.{Add, Subtract, Multiply, Equal, Unequal, Less, AtMost, Greater, AtLeast, And, Or}
 use Rattle.fst_terms.specs.TermTree as term
 use Rattle.fst_terms.specs.TermTree.{TermTree, TermList, no_terms, TermArms, no_arms, arm}
-use Rattle.fst_syntax.specs.Grammar as grammar
-use Rattle.fst_syntax.specs.Grammar.{IsExpr, IsAtom, IsHead}
+use Rattle.fst_module_grammar.specs.Grammar as grammar
+use Rattle.fst_module_grammar.specs.Grammar.{IsExpr, IsAtom, IsHead}
 use Rattle.fst_print.specs.Texts.{in_parens_if, joined_text}
 use Rattle.fst_print.specs.ModuleTexts.{seq_text, atom_text, term_text, arguments_text, arm_texts}
 use Rattle.fst_roundtrip.proofs.Showable.{IsShowable, AreShowable, AreShowableCases, AreShowableMatches}

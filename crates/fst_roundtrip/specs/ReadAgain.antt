@@ -3,8 +3,8 @@ use Rattle.std.specs.Prelude.{◌≡◌, ℕ, List, map}
 use Rattle.fst_lexer.specs.declared.token.Token.{Token}
 use Rattle.fst_lexer.specs.Lexes.{Lexes}
 use Rattle.fst_terms.specs.ModuleTree.{Declared}
-use Rattle.fst_syntax.specs.Grammar.{IsModule}
-use Rattle.fst_syntax.specs.Derives.{line_lexemes}
+use Rattle.fst_module_grammar.specs.Grammar.{IsModule}
+use Rattle.fst_module_grammar.specs.Derives.{line_lexemes}
 use Rattle.fst_print.specs.ModuleTexts.{module_text}
 use Rattle.fst_roundtrip.specs.Unplaced.{unplaced_decl}
 

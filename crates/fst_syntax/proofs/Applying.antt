@@ -8,7 +8,7 @@ use Rattle.fst_reading.specs.declared.stop.Stop.TheVariants as stop
 use Rattle.fst_reading.specs.Lexeme.{Lexeme}
 use Rattle.fst_reading.specs.Reading.{Deep, Reader, bind, map_reader, begins}
 use Rattle.fst_reading.specs.Gives.{Fails}
-use Rattle.fst_syntax.specs.TermReading.{Inside, inside, starts_atom, atom_with, append_term, applications_with, arguments_with}
+use Rattle.fst_module_grammar.specs.TermReading.{Inside, inside, starts_atom, atom_with, append_term, applications_with, arguments_with}
 use Rattle.fst_syntax.proofs.Chains.{repeat_stops, repeat_shut, repeat_goes_on, repeat_fails}
 
 -- an atom behind others

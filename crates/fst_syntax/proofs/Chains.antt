@@ -8,7 +8,7 @@ use Rattle.fst_reading.specs.declared.stop.Stop.TheVariants as stop
 use Rattle.fst_reading.specs.Lexeme.{Lexeme}
 use Rattle.fst_reading.specs.Reading.{Deep, Reader, bind, give, andthen, map_reader, switch, when, shut, begins, repeat}
 use Rattle.fst_reading.specs.Gives.{Fails}
-use Rattle.fst_syntax.specs.TermReading.{Inside, inside, is_op, chain_with}
+use Rattle.fst_module_grammar.specs.TermReading.{Inside, inside, is_op, chain_with}
 use Rattle.fst_base.specs.Choice.{choose}
 
 module _ {A : Type 0} (test : Lexeme → Bool) (step : Inside → A → Reader A) (x : A) (ts : List Lexeme) where

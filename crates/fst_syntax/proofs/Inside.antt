@@ -1,14 +1,13 @@
 -- What may be opened within so many levels, and arms as they are read and as they are kept.
-use Rattle.std.proofs.Common.{◌≡◌, ℕ, zero, suc, ◌-◌, ◌<◌, List, [], ◌∷◌, length, map, Err, refl, ap, arith}
+use Rattle.std.proofs.Common.{◌≡◌, ℕ, zero, suc, ◌-◌, ◌<◌, List, [], ◌∷◌, map, Err, refl, ap, arith}
 use Rattle.fst_terms.specs.declared.term.SourceArm.{SourceArm}
-use Rattle.fst_terms.specs.TermTree.{TermTree, arm}
+use Rattle.fst_terms.specs.TermTree.{arm}
 use Rattle.fst_terms.specs.ModelView.{arms_of}
-use Rattle.fst_reading.specs.Lexeme.{Lexeme}
-use Rattle.fst_reading.specs.Reading.{Reader, Syntax, bind, andthen, switch, on, when, shut}
-use Rattle.fst_syntax.specs.declared.operators.Level.{Level}
-use Rattle.fst_syntax.specs.declared.operators.Level.TheVariants.{Or, And, Sum, Product}
-use Rattle.fst_syntax.specs.TermReading.{inside, next, expr_at, expr_with, then_with, chain, cmp_with, unary_with, app_with, head_with, plain_with, arms}
-use Rattle.fst_syntax.specs.Levels.{arm_parts}
+use Rattle.fst_reading.specs.Reading.{Syntax, bind, andthen, switch, on, when, shut}
+use Rattle.fst_module_grammar.specs.declared.operators.Level.{Level}
+use Rattle.fst_module_grammar.specs.declared.operators.Level.TheVariants.{Or, And, Sum, Product}
+use Rattle.fst_module_grammar.specs.TermReading.{inside, next, expr_at, expr_with, then_with, chain, cmp_with, unary_with, app_with, head_with, plain_with, arms}
+use Rattle.fst_module_grammar.specs.Levels.{arm_parts}
 use Rattle.fst_base.specs.Choice.{choose}
 
 -- how far an operand of a chain is from an application
@@ -17,11 +16,6 @@ rank Or = 40
 rank And = 31
 rank Sum = 20
 rank Product = 10
-
-pub length_inside : (n : ℕ) → length (inside n) ≡ n
-unfolding inside
-length_inside zero = refl
-length_inside (suc n) = ap suc (length_inside n)
 
 pub next_inside : (n : ℕ) → next (inside n) ≡ inside (n - 1)
 unfolding inside

@@ -8,8 +8,8 @@ use Rattle.fst_reading.specs.declared.fault.SyntaxFault.{SyntaxFault}
 use Rattle.fst_reading.specs.declared.fault.SyntaxFault.TheVariants as fault
 use Rattle.fst_reading.specs.Lexeme.{Lexeme, place}
 use Rattle.fst_reading.specs.Reading.{HaltOf, Syntax, Deep}
-use Rattle.fst_syntax.specs.Grammar.{Lined, lexemes_of}
-use Rattle.fst_syntax.specs.ModuleReading.{first_decl, in_line}
+use Rattle.fst_module_grammar.specs.Grammar.{Lined, lexemes_of}
+use Rattle.fst_module_grammar.specs.ModuleReading.{first_decl, in_line}
 use Rattle.fst_base.specs.Choice.{choose}
 use Rattle.fst_terms.specs.ModuleView.{declarations}
 

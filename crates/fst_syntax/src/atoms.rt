@@ -1,12 +1,12 @@
 ghost use Rattle.fst_terms.specs.ModelView.{terms_of};
 ghost use Rattle.fst_reading.specs.Gives.{Gives};
-ghost use Rattle.fst_syntax.specs.TermReading.{inside, expr_at, arguments_with, applications_with, head_with, atom_with, begun_with, paren_with};
+ghost use Rattle.fst_module_grammar.specs.TermReading.{inside, expr_at, arguments_with, applications_with, head_with, atom_with, begun_with, paren_with};
 
-use crate::applied::applied;
-use crate::building::apply;
-use crate::shut::{Wanted, begins_atom, shut};
-use crate::starts::{AtomStart, atom_start, plain_start};
 use crate::terms::expr;
+use fst_module_grammar::applied::applied;
+use fst_module_grammar::building::apply;
+use fst_module_grammar::shut::{Wanted, begins_atom, shut};
+use fst_module_grammar::starts::{AtomStart, atom_start, plain_start};
 use fst_reading::{Lexeme, Stop, after, expect};
 use fst_terms::{SourceForm, SourceTerm};
 use fst_types::Name;

@@ -1,7 +1,7 @@
 ghost use Rattle.std.specs.Prelude.{◌≡◌, ◌≤◌, length};
 ghost use Rattle.fst_lexer.specs.Spans.{HaveSpans};
 ghost use Rattle.fst_base.specs.Limits.{most_bytes, most_nested};
-ghost use Rattle.fst_syntax.specs.Derives.{AnswersModule, OneModule};
+ghost use Rattle.fst_module_grammar.specs.Derives.{AnswersModule};
 ghost use Rattle.fst_syntax.specs.Views.{GivesLine, line_length, line_read, lines_of, module_view};
 
 use crate::decls::whole_decl;
@@ -63,8 +63,3 @@ pub fn read_module(alloc: Global, tokens: &[Token], text: &str) -> Result<Source
     }
     Ok(SourceModule { decls })
 }
-
-/// A list of tokens is at most one module, and a text has at most one answer.
-pub fn one_module()
-    ensures { OneModule }
-{}

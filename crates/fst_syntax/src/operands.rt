@@ -1,14 +1,14 @@
 ghost use Rattle.fst_reading.specs.Gives.{Gives};
-ghost use Rattle.fst_syntax.specs.TermReading.{inside, chain_with, cmp_with, unary_with, app_begun_with};
-ghost use Rattle.fst_syntax.specs.Levels.{operator_of, operand_with, level_with};
+ghost use Rattle.fst_module_grammar.specs.TermReading.{inside, chain_with, cmp_with, unary_with, app_begun_with};
+ghost use Rattle.fst_module_grammar.specs.Levels.{operator_of, operand_with, level_with};
 
-use crate::applied::type_atom;
 use crate::atoms::{arguments, atom, head};
-use crate::building::operate;
-use crate::heads::label;
-use crate::operators::{Level, chained_by, compared_by};
-use crate::shut::{Wanted, shut};
-use crate::starts::{AppStart, app_start};
+use fst_module_grammar::applied::type_atom;
+use fst_module_grammar::building::operate;
+use fst_module_grammar::heads::label;
+use fst_module_grammar::operators::{Level, chained_by, compared_by};
+use fst_module_grammar::shut::{Wanted, shut};
+use fst_module_grammar::starts::{AppStart, app_start};
 use fst_reading::{Lexeme, Stop, spells, start};
 use fst_terms::{SourceForm, SourceTerm};
 use fst_types::Name;

@@ -2,14 +2,14 @@ ghost use Rattle.std.specs.Prelude.{◌-◌, ◌<◌, codes, length, map};
 ghost use Rattle.fst_reading.specs.Lexeme.{spells};
 ghost use Rattle.fst_reading.specs.Reading.{sep_by};
 ghost use Rattle.fst_reading.specs.Gives.{Gives};
-ghost use Rattle.fst_syntax.specs.TermReading.{inside, expr_at, let_with, if_with, lambda_with, arm_by, choice_with, then_with};
-ghost use Rattle.fst_syntax.specs.Levels.{arm_parts};
+ghost use Rattle.fst_module_grammar.specs.TermReading.{inside, expr_at, let_with, if_with, lambda_with, arm_by, choice_with, then_with};
+ghost use Rattle.fst_module_grammar.specs.Levels.{arm_parts};
 
-use crate::heads::{Arms, Binding, arm_head, choose, let_head, parameter, word_of};
 use crate::operands::chain;
-use crate::operators::Level;
-use crate::shut::{Wanted, shut};
-use crate::starts::{ExprStart, expr_start};
+use fst_module_grammar::heads::{Binding, arm_head, choose, let_head, parameter, word_of};
+use fst_module_grammar::operators::Level;
+use fst_module_grammar::shut::{Wanted, shut};
+use fst_module_grammar::starts::{Arms, ExprStart, expr_start};
 use fst_reading::{Lexeme, Stop, after, behind, comes, expect, start};
 use fst_terms::{SourceArm, SourceForm, SourceTerm};
 use std::alloc::Global;
@@ -67,7 +67,7 @@ fn then<'a>(
 
 /// What stands behind `let`.
 #[cycle(reader)]
-#[tactic(auto, unfolding(fst_reading::specs::Steps::all, crate::specs::TermReading::in_with))]
+#[tactic(auto, unfolding(crate::specs::Steps::let_in))]
 fn let_in<'a>(
     alloc: Global,
     left: u32,
@@ -96,7 +96,7 @@ fn let_in<'a>(
 
 /// What stands behind `if`.
 #[cycle(reader)]
-#[tactic(auto, unfolding(fst_reading::specs::Steps::all, crate::specs::TermReading::if_with))]
+#[tactic(auto, unfolding(crate::specs::Steps::if_else))]
 fn if_else<'a>(
     alloc: Global,
     left: u32,

@@ -3,8 +3,8 @@ use Rattle.std.proofs.lemmas.Result.{err_from_is_err_and}
 use Rattle.std.proofs.lemmas.List.{map-append}
 use Rattle.fst_reading.specs.Lexeme.{spells}
 use Rattle.fst_reading.proofs.Loops.{begins_empty, goes_on, stops, runs_out, fails}
-use Rattle.fst_syntax.specs.TermReading.{expr_at, arm_by}
-use Rattle.fst_syntax.specs.Levels.{operator_of, operand_with, arm_parts}
+use Rattle.fst_module_grammar.specs.TermReading.{expr_at, arm_by}
+use Rattle.fst_module_grammar.specs.Levels.{operator_of, operand_with, arm_parts}
 use Rattle.fst_syntax.proofs.Chains.{chain_stops, chain_shut, chain_goes_on, chain_fails}
 use Rattle.fst_syntax.proofs.Applying.{applications_stop, applications_shut, applications_go_on, applications_fail, arguments_stop, arguments_shut, arguments_go_on, arguments_fail}
 use Rattle.fst_syntax.proofs.+reader.Goals as goal

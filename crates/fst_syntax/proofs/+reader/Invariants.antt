@@ -2,8 +2,8 @@ use Rattle.std.proofs.Common.{◌≡◌, ◌+◌, ◌-◌, ◌*◌, length, map,
 use Rattle.fst_reading.specs.Lexeme.{spells}
 use Rattle.fst_reading.specs.Reading.{sep_by_within}
 use Rattle.fst_reading.proofs.Loops.{with_front}
-use Rattle.fst_syntax.specs.TermReading.{expr_at, arm_by}
-use Rattle.fst_syntax.specs.Levels.{arm_parts}
+use Rattle.fst_module_grammar.specs.TermReading.{expr_at, arm_by}
+use Rattle.fst_module_grammar.specs.Levels.{arm_parts}
 use Rattle.fst_syntax.proofs.Inside.{rank}
 use Rattle.fst_syntax.proofs.+reader.Given as goal
 

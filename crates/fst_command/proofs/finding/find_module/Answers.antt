@@ -1,6 +1,6 @@
 use Rattle.std.proofs.Common.{Ok, Err}
 use Rattle.fst_terms.specs.ModuleView.{declarations}
-use Rattle.fst_syntax.specs.Derives.{AnswersModule}
+use Rattle.fst_module_grammar.specs.Derives.{AnswersModule}
 use Rattle.fst_command.specs.Finding.{IsNoModule}
 use Rattle.fst_command.proofs.FindingLaws.{lexical_unread, syntax_unread, same_answer}
 use Rattle.fst_command.proofs.finding.find_module.Goals as goal

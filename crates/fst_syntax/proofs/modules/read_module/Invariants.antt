@@ -1,7 +1,7 @@
 use Rattle.std.proofs.Common.{◌≡◌, ◌-◌, ◌≤◌, length, drop, map}
 use Rattle.fst_terms.specs.ModuleTree.{decl_tree}
 use Rattle.fst_base.specs.Limits.{most_nested}
-use Rattle.fst_syntax.specs.ModuleReading.{module_at}
+use Rattle.fst_module_grammar.specs.ModuleReading.{module_at}
 use Rattle.fst_syntax.specs.Views.{lines_of}
 use Rattle.fst_syntax.proofs.LineReads.{with_decls}
 use Rattle.fst_syntax.proofs.modules.read_module.Given as goal
