@@ -1,4 +1,5 @@
-//! The grammar of terms and modules and the reading of them on lists, with the readers of what stands around the terms.
+//! The grammar of terms and modules, the reading of them on lists, and the readers of what stands
+//! around terms.
 #![tactic(auto)]
 
 pub mod applied;
