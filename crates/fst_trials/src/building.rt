@@ -1,4 +1,4 @@
-//! What the trials build and read: types by codes, labels by their texts.
+//! What the trials build: types by codes.
 
 ghost use Rattle.std.specs.Prelude.{◌∷◌, IsTrue};
 ghost use Rattle.fst_types.specs.ModelView.{branches_of};
@@ -8,7 +8,7 @@ ghost use Rattle.fst_kinds.specs.WellFormed.{IsSession};
 
 use fst_kinds::kind_of;
 use fst_types::{
-    Base, Branch, Kind, Label, Name, Prekind, Ty, TyForm, UnfoldFault, Use, copy, unfold,
+    Base, Branch, Kind, Name, Prekind, Ty, TyForm, UnfoldFault, Use, copy, unfold,
     unfold_within_limit,
 };
 use std::alloc::{AllocError, Global};
@@ -198,37 +198,4 @@ pub(crate) fn unfolded_within_limit(alloc: Global, t: &Ty) -> Result<Ty, UnfoldF
         TyForm::Rec(_) => unfold_within_limit(alloc, t),
         _ => Ok(copy(alloc, t)?),
     }
-}
-
-fn base(text: &str) -> Base {
-    match text.as_bytes() {
-        b"Int" => Base::Int,
-        b"Bool" => Base::Bool,
-        b"Char" => Base::Char,
-        _ => Base::Unit,
-    }
-}
-
-/// The label of a text such as `!Int`, `?()`, `+A` or `&A`; any other is that of the fourth variable.
-fn label(alloc: Global, text: &str) -> Result<Label, AllocError> {
-    if let Some(text) = text.strip_prefix('!') {
-        Ok(Label::Send(base(text)))
-    } else if let Some(text) = text.strip_prefix('?') {
-        Ok(Label::Receive(base(text)))
-    } else if let Some(text) = text.strip_prefix('+') {
-        Ok(Label::Select(Name::of(alloc, text.as_bytes())?))
-    } else if let Some(text) = text.strip_prefix('&') {
-        Ok(Label::Offer(Name::of(alloc, text.as_bytes())?))
-    } else {
-        Ok(Label::Var(3))
-    }
-}
-
-/// The labels of their texts, with spaces between.
-pub(crate) fn word(alloc: Global, text: &str) -> Result<Vec<Label>, AllocError> {
-    let mut labels = Vec::new(alloc);
-    for part in text.split_whitespace() {
-        labels.push(label(alloc, part)?)?;
-    }
-    Ok(labels)
 }

@@ -1,6 +1,6 @@
 //! Types of as many nodes as are allowed, in one chain: these take most of the stack, and `rt try` has too little of it.
 
-use crate::building::{ty, ty_around, unfolded, unfolded_within_limit, word};
+use crate::building::{ty, ty_around, unfolded, unfolded_within_limit};
 use crate::equivalence::{asked, translated, verdict_text};
 use crate::kinds::kind;
 use crate::moves::left_behind;
@@ -9,7 +9,7 @@ use fst_grammar::TranslateFault;
 use fst_kinds::contractive;
 use fst_lts::{StepFault, agree_to, dual, labels, residual, step, step_within_limit, terminated};
 use fst_print::word_text;
-use fst_tables::{each_line, fields, no_row};
+use fst_tables::{each_line, fields, no_row, word};
 use fst_types::{Label, Scope, Ty, TyForm, UnfoldFault, copy, same, size, substitute};
 use std::alloc::{AllocError, Global};
 use std::test::Fail;

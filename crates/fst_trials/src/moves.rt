@@ -1,11 +1,11 @@
 //! How types move, and their duals.
 
-use crate::building::{ty, word};
+use crate::building::ty;
 use fst_lts::{
     StepFault, agree_to, dual, dual_label, labels, residual, step, step_within_limit, terminated,
 };
 use fst_print::word_text;
-use fst_tables::{each_line, fields, no_row};
+use fst_tables::{each_line, fields, no_row, word};
 use fst_types::{Label, Ty, same};
 use std::alloc::{AllocError, Global};
 use std::test::Fail;
