@@ -17,11 +17,11 @@ use Rattle.fst_reading.specs.declared.fault.SyntaxFault.{SyntaxFault}
 use Rattle.fst_reading.specs.declared.fault.SyntaxFault.TheVariants as syntax
 use Rattle.fst_type_syntax.specs.Grammar.{Asked}
 use Rattle.fst_type_syntax.specs.Derives.{AnswersQuestion}
-use Rattle.fst_names.specs.declared.fault.NameFault.{NameFault}
-use Rattle.fst_names.specs.declared.fault.NameFault.TheVariants as naming
+use Rattle.fst_scopes.specs.declared.fault.NameFault.{NameFault}
+use Rattle.fst_scopes.specs.declared.fault.NameFault.TheVariants as naming
 use Rattle.fst_names.specs.declared.question.Question.{Question}
 use Rattle.fst_names.specs.Faults.{question_faults}
-use Rattle.fst_names.specs.First.{first_fault}
+use Rattle.fst_scopes.specs.First.{first_fault}
 use Rattle.fst_names.specs.Resolved.{IsResolved}
 use Rattle.fst_print.specs.declared.refusals.Phrase.TheVariants as phrase
 use Rattle.fst_command.specs.declared.finding.Fault.{Fault}

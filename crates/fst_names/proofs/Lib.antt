@@ -1,9 +1,1 @@
-pub mod FirstLaws
-pub mod Bound
-pub mod TableLaws
-pub mod VariableLaws
-pub mod ScopeLaws
-pub mod BranchLaws
-pub mod QuestionLaws
-pub mod Places
-pub mod Plain
+mod QuestionLaws

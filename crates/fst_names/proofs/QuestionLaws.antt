@@ -1,44 +1,54 @@
 -- The faults of a question, and what it is without any.
-use Rattle.std.proofs.Common.{◌≡◌, ◌∙◌, ℕ, ◌≤◌, Bool, true, false, List, [], ◌∷◌, ◌++◌, Option, None, refl, sym, ap, subst, arith}
-use Rattle.std.specs.Prelude.{nat_lt, if◌then◌else◌}
-use Rattle.fst_base.specs.Limits.{most_nodes}
-use Rattle.fst_types.specs.WrittenTree.{WrittenTree}
-use Rattle.fst_types.specs.declared.kind.Kind.{Kind}
-use Rattle.fst_terms.specs.declared.binder.Binder.{Binder}
-use Rattle.fst_terms.specs.Naming.{nodes, place}
+use Rattle.std.proofs.Common.{◌≡◌, ◌∙◌, ℕ, ◌+◌, ◌<◌, ◌^◌, List, [], Option, Some, None, Bor, refl, sym, ap, subst, arith}
+use Rattle.std.specs.Prelude.{IsSome, option_map}
+use Rattle.std.proofs.lemmas.Option.{same_Some}
+use Rattle.fst_types.specs.ModelWrittenHeight.{height}
+use Rattle.fst_types.specs.Tree as tree
+use Rattle.fst_types.specs.Tree.{Tree}
+use Rattle.fst_types.specs.WrittenTree.{WrittenTree, HasBranches}
+use Rattle.fst_terms.specs.Naming.{Scope, place, type_of}
 use Rattle.fst_type_syntax.specs.Grammar.{Asked}
-use Rattle.fst_names.specs.declared.fault.NameFault.{NameFault}
-use Rattle.fst_names.specs.declared.fault.NameFault.TheVariants.{TooLarge}
-use Rattle.fst_names.specs.Faults.{names, is_among, twice_if, twice, unbound, too_large, type_faults, with_variables, scope_of, question_faults}
-use Rattle.fst_names.specs.First.{first_from, first_fault}
-use Rattle.fst_names.specs.Kept.{AreNames}
-use Rattle.fst_base.proofs.Bools.{not_less}
-use Rattle.fst_names.proofs.Bound.{none_named}
-use Rattle.fst_names.proofs.FirstLaws.{first_append, no_first}
-use Rattle.fst_names.proofs.ScopeLaws.{same_unbound}
-use Rattle.fst_names.proofs.VariableLaws.{twice_push}
+use Rattle.fst_scopes.specs.declared.fault.NameFault.{NameFault}
+use Rattle.fst_scopes.specs.declared.names.Names as names
+use Rattle.fst_scopes.specs.declared.types.TypeNames.{TypeNames}
+use Rattle.fst_scopes.specs.Faults.{unbound, too_large, type_faults}
+use Rattle.fst_scopes.specs.First.{first_from, first_fault}
+use Rattle.fst_scopes.specs.Plain.{IsPlain}
+use Rattle.fst_scopes.specs.Scopes.{entry_decl, flat, of_name, scope_around}
+use Rattle.fst_scopes.specs.Twice as twice
+use Rattle.fst_scopes.specs.Twice.{AreNames, variables}
+use Rattle.fst_scopes.specs.TypeNames.{scope_with, standing_for}
+use Rattle.fst_scopes.proofs.Laws.{first_append, no_first, none_named, type_there, no_higher, no_larger, same_faults, closed_plain}
+use Rattle.fst_names.specs.Faults.{no_types, no_aliases, scope_of, types_faults, question_faults}
+
+-- ---- the scope of a question
+
+-- what is in scope where the code looks, with no types
+pub scope_is : (vars : Bor (List (List ℕ))) (types : Bor TypeNames) → types.now.names ≡ [] → scope_around (names.Outermost vars types) [] ≡ scope_with vars.now no_types no_aliases
+scope_is vars types e = λ i. record {
+  recs = [];
+  vars = vars.now;
+  declared = λ x. standing_for (λ y. flat (of_name (e i) [] y)) x (option_map entry_decl (of_name (e i) types.now.entries.items x));
+  otherwise = Some tree.skip;
+}
 
 -- ---- the first fault
 
--- one more variable, and what is kept then
-pub variable_noted : (old kept new : Option NameFault) (bs all : List (Binder × Kind)) (b : Binder × Kind) (known : Bool) → all ≡ bs ++ b ∷ [] → known ≡ is_among (names bs) b.0.name →
-    kept ≡ first_from old (twice bs) → new ≡ first_from kept (twice_if known b.0) → new ≡ first_from old (twice all)
-variable_noted old kept new bs all b known whole is before after =
-    after ∙ ap (λ k. first_from k (twice_if known b.0)) before ∙ sym (first_append old (twice bs) (twice_if known b.0)) ∙
-    ap (λ c. first_from old (twice bs ++ twice_if c b.0)) is ∙ ap (first_from old) (sym (twice_push bs b)) ∙ ap (λ z. first_from old (twice z)) (sym whole)
-
--- the faults of a type over variables of which each name is kept once
-same_faults : (bs : List (Binder × Kind)) (xs : List (List ℕ)) (w : WrittenTree) → AreNames bs xs → type_faults (with_variables xs) w ≡ type_faults (with_variables (names bs)) w
-same_faults bs xs w are = ap (λ fs. fs ++ too_large w) (same_unbound xs (names bs) are.among [] w)
+-- what is kept of the two types' faults
+pub types_noted : (q : Asked) (vars : Bor (List (List ℕ))) (types : Bor TypeNames) (old one two : Option NameFault) → AreNames (variables q.binders) vars.now → types.now.names ≡ [] →
+    one ≡ first_from old (type_faults (scope_around (names.Outermost vars types) []) q.left) → two ≡ first_from one (type_faults (scope_around (names.Outermost vars types) []) q.right) →
+    two ≡ first_from old (types_faults q)
+types_noted q vars types old one two are none first second =
+    second ∙ ap (first_from one) (here q.right) ∙ ap (λ k. first_from k (type_faults (scope_of q) q.right)) (first ∙ ap (first_from old) (here q.left)) ∙
+    sym (first_append old (type_faults (scope_of q) q.left) (type_faults (scope_of q) q.right))
+  where
+    here : (w : WrittenTree) → type_faults (scope_around (names.Outermost vars types) []) w ≡ type_faults (scope_of q) w
+    here w = ap (λ s. type_faults s w) (scope_is vars types none) ∙ same_faults vars.now (twice.names (variables q.binders)) no_types no_aliases are.among w
 
 -- what is kept of all faults
-pub question_first : (q : Asked) (xs : List (List ℕ)) (one two three : Option NameFault) → AreNames q.binders xs → one ≡ first_from None (twice q.binders) →
-    two ≡ first_from one (type_faults (with_variables xs) q.left) → three ≡ first_from two (type_faults (with_variables xs) q.right) → three ≡ first_fault (question_faults q)
-question_first q xs one two three are first second third =
-    third ∙ ap (first_from two) (same_faults q.binders xs q.right are) ∙
-    ap (λ k. first_from k (type_faults (scope_of q) q.right)) (second ∙ ap (first_from one) (same_faults q.binders xs q.left are) ∙ ap (λ k. first_from k (type_faults (scope_of q) q.left)) first) ∙
-    sym (first_append (first_from None (twice q.binders)) (type_faults (scope_of q) q.left) (type_faults (scope_of q) q.right)) ∙
-    sym (first_append None (twice q.binders) (type_faults (scope_of q) q.left ++ type_faults (scope_of q) q.right))
+pub question_first : (q : Asked) (one two : Option NameFault) → one ≡ first_from None (twice.twice (variables q.binders)) → two ≡ first_from one (types_faults q) → two ≡ first_fault (question_faults q)
+question_first q one two first second =
+    second ∙ ap (λ k. first_from k (types_faults q)) first ∙ sym (first_append None (twice.twice (variables q.binders)) (types_faults q))
 
 -- where none is kept there is none
 pub question_none : (q : Asked) (first : Option NameFault) → first ≡ first_fault (question_faults q) → first ≡ None → question_faults q ≡ []
@@ -46,32 +56,45 @@ question_none q first is none = no_first (question_faults q) (sym is ∙ none)
 
 -- ---- a question without faults
 
--- a type without faults
-pub record IsFaultless (xs : List (List ℕ)) (w : WrittenTree) : Type 0 where
-  pub bound : unbound (with_variables xs) w ≡ []
-  pub small : nodes w ≤ most_nodes
+-- a type that is no fault
+pub record IsSound (s : Scope) (w : WrittenTree) : Type 0 where
+  pub known : IsSome (type_of s w)
+  pub depth : 0 + height w < 2 ^ 32
 
-is_small : (w : WrittenTree) → too_large w ≡ [] → nodes w ≤ most_nodes
-is_small w e = pick (nat_lt most_nodes (nodes w)) refl e
+all_known : (xs : List (List ℕ)) (w : WrittenTree) → IsSome (type_of (scope_with xs no_types no_aliases) w)
+all_known xs w = type_there (scope_with xs no_types no_aliases) (λ x. refl) w
+
+sound : (xs : List (List ℕ)) (w : WrittenTree) → type_faults (scope_with xs no_types no_aliases) w ≡ [] → IsSound (scope_with xs no_types no_aliases) w
+sound xs w e = record { known = all_known xs w; depth = low (type_of (scope_with xs no_types no_aliases) w) refl (all_known xs w) }
   where
-    pick : (c : Bool) → nat_lt most_nodes (nodes w) ≡ c → (if c then TooLarge (place w) ∷ [] else []) ≡ [] → nodes w ≤ most_nodes
-    pick true is e = absurd (cc e)
-    pick false is e = not_less most_nodes (nodes w) is
+    low : (o : Option Tree) → type_of (scope_with xs no_types no_aliases) w ≡ o → IsSome o → 0 + height w < 2 ^ 32
+    low (Some t) is h =
+        let small = no_larger (place w) t (ap (too_large (place w)) (sym is) ∙ (none_named (unbound (scope_with xs no_types no_aliases) w) (too_large (place w) (type_of (scope_with xs no_types no_aliases) w)) e).1) in
+        let high = no_higher (scope_with xs no_types no_aliases) w t is in
+        omega (arith, small, high)
+    low None is h = absurd (cc h)
 
-faultless : (xs : List (List ℕ)) (w : WrittenTree) → type_faults (with_variables xs) w ≡ [] → IsFaultless xs w
-faultless xs w e =
-    let parts = none_named (unbound (with_variables xs) w) (too_large w) e in
-    record { bound = parts.0; small = is_small w parts.1 }
+-- the scope of a question without faults
+own_scope : (q : Asked) (vars : Bor (List (List ℕ))) (types : Bor TypeNames) → vars.now ≡ twice.names (variables q.binders) → types.now.names ≡ [] → scope_around (names.Outermost vars types) [] ≡ scope_of q
+own_scope q vars types is none = scope_is vars types none ∙ ap (λ xs. scope_with xs no_types no_aliases) is
 
-pub no_twice : (q : Asked) → question_faults q ≡ [] → twice q.binders ≡ []
-no_twice q e = (none_named (twice q.binders) (type_faults (scope_of q) q.left ++ type_faults (scope_of q) q.right) e).0
+pub no_twice : (q : Asked) → question_faults q ≡ [] → twice.twice (variables q.binders) ≡ []
+no_twice q e = (none_named (twice.twice (variables q.binders)) (types_faults q) e).0
 
-pub left_faultless : (q : Asked) (xs : List (List ℕ)) → question_faults q ≡ [] → xs ≡ names q.binders → IsFaultless xs q.left
-left_faultless q xs e is =
-    let types = (none_named (twice q.binders) (type_faults (scope_of q) q.left ++ type_faults (scope_of q) q.right) e).1 in
-    subst (λ z. IsFaultless z q.left) (sym is) (faultless (names q.binders) q.left (none_named (type_faults (scope_of q) q.left) (type_faults (scope_of q) q.right) types).0)
+module _ (q : Asked) (vars : Bor (List (List ℕ))) (types : Bor TypeNames) (faultless : question_faults q ≡ []) (is : vars.now ≡ twice.names (variables q.binders)) (none : types.now.names ≡ []) where
+  types_faultless : (type_faults (scope_of q) q.left ≡ []) × (type_faults (scope_of q) q.right ≡ [])
+  types_faultless = none_named (type_faults (scope_of q) q.left) (type_faults (scope_of q) q.right) (none_named (twice.twice (variables q.binders)) (types_faults q) faultless).1
 
-pub right_faultless : (q : Asked) (xs : List (List ℕ)) → question_faults q ≡ [] → xs ≡ names q.binders → IsFaultless xs q.right
-right_faultless q xs e is =
-    let types = (none_named (twice q.binders) (type_faults (scope_of q) q.left ++ type_faults (scope_of q) q.right) e).1 in
-    subst (λ z. IsFaultless z q.right) (sym is) (faultless (names q.binders) q.right (none_named (type_faults (scope_of q) q.left) (type_faults (scope_of q) q.right) types).1)
+  pub left_sound : IsSound (scope_around (names.Outermost vars types) []) q.left
+  left_sound = subst (λ s. IsSound s q.left) (sym (own_scope q vars types is none)) (sound (twice.names (variables q.binders)) q.left types_faultless.0)
+
+  pub right_sound : IsSound (scope_around (names.Outermost vars types) []) q.right
+  right_sound = subst (λ s. IsSound s q.right) (sym (own_scope q vars types is none)) (sound (twice.names (variables q.binders)) q.right types_faultless.1)
+
+  -- what a type stands for
+  pub stands : (w : WrittenTree) (t : Tree) → type_of (scope_around (names.Outermost vars types) []) w ≡ Some t → type_of (scope_of q) w ≡ Some t
+  stands w t e = ap (λ s. type_of s w) (sym (own_scope q vars types is none)) ∙ e
+
+  -- and that it is plain
+  pub is_plain : (w : WrittenTree) (t : Tree) → HasBranches w → type_of (scope_around (names.Outermost vars types) []) w ≡ Some t → IsPlain 0 0 t
+  is_plain w t h e = closed_plain 0 (scope_of q) w t (record { declared = λ x u d. absurd (cc d); otherwise = λ u o. subst (IsPlain 0 0) (same_Some tree.skip u o) (record { scoped = tt; sorted = tt; named = tt }) }) refl h (stands w t e)

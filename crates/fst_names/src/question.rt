@@ -1,16 +1,14 @@
-ghost use Rattle.std.specs.Prelude.{◌≡◌, ◌≢◌, ◌≤◌, ◌^◌, [], Some, IfErr, IfOk, length};
+ghost use Rattle.std.specs.Prelude.{◌≡◌, ◌≢◌, ◌≤◌, ◌^◌, [], Some, IfErr, IfOk, OnOk, length};
 ghost use Rattle.fst_types.specs.Order.{IsSorted};
 ghost use Rattle.fst_types.specs.Scoped.{IsScoped};
 ghost use Rattle.fst_type_syntax.specs.Views.{question_tree};
-ghost use Rattle.fst_names.specs.declared.fault.NameFault.TheVariants.{Memory};
-ghost use Rattle.fst_names.specs.Faults.{names, question_faults};
-ghost use Rattle.fst_names.specs.First.{first_fault};
+ghost use Rattle.fst_names.specs.Faults.{question_faults, types_faults};
+ghost use Rattle.fst_scopes.specs.declared.fault.NameFault.TheVariants.{Memory};
+ghost use Rattle.fst_scopes.specs.First.{first_fault, first_from};
+ghost use Rattle.fst_scopes.specs.Twice.{AreNames, names, variables};
 ghost use Rattle.fst_names.specs.Resolved.{IsResolved, kinds};
 
-use crate::fault::NameFault;
-use crate::faults::{note_type, place};
-use crate::naming::{Names, named};
-use crate::variables::{Variables, variables_of};
+use fst_scopes::{NameFault, NameTable, Names, TypeNames, named, note_type, place, variables_of};
 use fst_terms::Binder;
 use fst_type_syntax::SourceQuestion;
 use fst_types::{Kind, Ty};
@@ -49,18 +47,21 @@ fn kinds_of(alloc: Global, binders: &[(Binder, Kind)]) -> Result<Vec<Kind>, Allo
 fn resolved(
     alloc: Global,
     q: &SourceQuestion,
-    variables: &Variables,
+    vars: &NameTable,
+    types: &TypeNames<'_>,
 ) -> Result<Question, AllocError>
     requires faultless { question_faults (question_tree q.now) ≡ [] }
-    requires variables { variables.now ≡ names q.now.binders.items }
-    requires count { length variables.now ≤ 2 ^ 32 }
+    requires variables { vars.now ≡ names (variables q.now.binders.items) }
+    requires count { length vars.now ≤ 2 ^ 32 }
+    requires types { types.now.names ≡ [] }
     ensures resolved { IfOk result (IsResolved (question_tree q.now)) }
     ensures scoped { IfOk result (λ r. IsScoped 0 r.left × IsScoped 0 r.right) }
     ensures sorted { IfOk result (λ r. IsSorted r.left × IsSorted r.right) }
 {
     let kinds = kinds_of(alloc, &q.binders)?;
-    let left = named(alloc, &q.left, &Names::Outermost(variables))?;
-    let right = named(alloc, &q.right, &Names::Outermost(variables))?;
+    let names = Names::Outermost(vars, types);
+    let left = named(alloc, &q.left, &names, &[])?;
+    let right = named(alloc, &q.right, &names, &[])?;
     Ok(Question {
         kinds,
         left,
@@ -68,6 +69,24 @@ fn resolved(
         left_at: place(&q.left),
         right_at: place(&q.right),
     })
+}
+
+// Notes the faults of the two types.
+fn note_types(
+    alloc: Global,
+    q: &SourceQuestion,
+    vars: &NameTable,
+    types: &TypeNames<'_>,
+    least: &mut Option<NameFault>,
+) -> Result<(), AllocError>
+    requires variables { AreNames (variables q.now.binders.items) vars.now }
+    requires types { types.now.names ≡ [] }
+    ensures { OnOk result (least.new ≡ first_from least.old (types_faults (question_tree q.now))) }
+{
+    let names = Names::Outermost(vars, types);
+    note_type(alloc, &q.left, &names, &[], least)?;
+    note_type(alloc, &q.right, &names, &[], least)?;
+    Ok(())
 }
 
 /// A question with numbers in place of names: of the `rec`s around, innermost first, and of the variables of its
@@ -84,14 +103,14 @@ pub fn resolve_question(alloc: Global, q: &SourceQuestion) -> Result<Question, N
         first_fault (question_faults (question_tree q.now)) ≡ Some f) }
 {
     let mut least = None;
-    let variables = variables_of(alloc, &q.binders, &mut least)?;
-    note_type(alloc, &q.left, &variables, &mut least)?;
-    note_type(alloc, &q.right, &variables, &mut least)?;
+    let vars = variables_of(alloc, &q.binders, &mut least)?;
+    let types = TypeNames::none(alloc);
+    note_types(alloc, q, &vars, &types, &mut least)?;
     if let Some(fault) = least {
         return Err(fault);
     }
-    if variables.len() > MOST_VARIABLES {
+    if vars.len() > MOST_VARIABLES {
         return Err(NameFault::Memory);
     }
-    Ok(resolved(alloc, q, &variables)?)
+    Ok(resolved(alloc, q, &vars, &types)?)
 }

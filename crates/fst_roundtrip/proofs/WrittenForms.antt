@@ -1,5 +1,5 @@
 -- A type as it is written: its text, that it can be read, and what it means.
-use Rattle.std.proofs.Common.{◌≡◌, ℕ, suc, ◌+◌, ◌-◌, ◌<◌, ◌^◌, inl, inr, Bool, true, false, List, ◌∷◌, ◌++◌, length, Some, refl, sym, ap, ◌∙◌, arith}
+use Rattle.std.proofs.Common.{◌≡◌, ℕ, suc, ◌+◌, ◌-◌, ◌<◌, ◌^◌, inl, inr, Bool, true, false, List, ◌∷◌, ◌++◌, length, Some, None, refl, sym, ap, ◌∙◌, arith}
 use Rattle.std.specs.Prelude.{◌≢◌, All, codes, option_map}
 use Rattle.std.specs.List.{AllPairs}
 use Rattle.std.specs.declared.cmp.Ordering.{Ordering}
@@ -21,7 +21,7 @@ use Rattle.fst_terms.specs.Naming.{Scope, within, type_of}
 use Rattle.fst_types.specs.Named.{IsNamedWithin, AllNamedWithin}
 use Rattle.fst_print.specs.Texts.{in_parens, in_parens_if, in_braces, joined_text, arrow_text, in_parens_before_semicolon, in_parens_before_arrow, binder_text, variable_text, name_at, text_under, branch_texts}
 use Rattle.fst_print.specs.ModuleTexts.{is_compound, is_arrow, written_text, written_branch_texts}
-use Rattle.fst_roundtrip.specs.ReadBack.{IsNoArrow, IsWritable, AreWritable, variable_names}
+use Rattle.fst_roundtrip.specs.ReadBack.{IsNoArrow, IsWritable, AreWritable, variable_names, family_named}
 use Rattle.fst_roundtrip.proofs.Showable.{IsShowableType, AreShowableBranches}
 use Rattle.fst_roundtrip.proofs.Numbered.{binder_names, binder_lower, variable_lower, binder_place, no_binder, variable_place, upper_no_binder, upper_no_variable, name_in, name_place}
 use Rattle.fst_roundtrip.specs.Unplaced.{unplaced_type, unplaced_branches}
@@ -117,7 +117,7 @@ pub record Around (names : List (List ℕ)) (m : ℕ) : Type 0 where
 
 -- the names in scope within n recs
 abbrev pub scope_under : List (List ℕ) → ℕ → ℕ → Scope
-scope_under names m n = record { recs = binder_names n; vars = variable_names 0 m; families = names }
+scope_under names m n = record { recs = binder_names n; vars = variable_names 0 m; declared = family_named names; otherwise = None }
 
 -- what is written can be read, and means the type
 pub record IsMeant (names : List (List ℕ)) (m n : ℕ) (t : Tree) : Type 0 where

@@ -1,5 +1,5 @@
 -- What stands in the text of a type is the type again.
-use Rattle.std.specs.Prelude.{◌≡◌, ◌≢◌, ℕ, zero, suc, ◌<◌, ◌^◌, List, [], ◌∷◌, length, All, false, Some, ⊤}
+use Rattle.std.specs.Prelude.{◌≡◌, ◌≢◌, ℕ, zero, suc, ◌<◌, ◌^◌, List, [], ◌∷◌, length, All, false, Option, Some, None, option_map, ⊤}
 use Rattle.std.specs.List.{AllPairs}
 use Rattle.fst_types.specs.Tree.{Tree, skip, send, receive, select, offer, seq, rec, back, var, plain, arrow, pair, named, Branches, none, branch}
 use Rattle.fst_types.specs.WrittenTree.{WrittenTree}
@@ -12,7 +12,7 @@ use Rattle.fst_lexer.specs.Lexes.{Lexes}
 use Rattle.fst_lexer.specs.Spelling.{IsWordOf}
 use Rattle.fst_reading.specs.Lexeme.{lexemes}
 use Rattle.fst_type_syntax.specs.Grammar.{IsType}
-use Rattle.fst_terms.specs.Naming.{Scope, type_of}
+use Rattle.fst_terms.specs.Naming.{Scope, place_of, type_of}
 use Rattle.fst_types.specs.Named.{IsNamedWithin}
 use Rattle.fst_print.specs.Texts.{in_parens_before_arrow, type_text, variable_text}
 
@@ -47,9 +47,13 @@ abbrev pub variable_names : ℕ → ℕ → List (List ℕ)
 variable_names k zero = []
 variable_names k (suc m) = variable_text k ∷ variable_names (suc k) m
 
+-- the data type with a name
+abbrev pub family_named : List (List ℕ) → List ℕ → Option (Option Tree)
+family_named names x = option_map (λ k. Some (named k)) (place_of names x)
+
 -- the names in scope around a type: those of the first m variables, and of the data types
 abbrev pub scope_of : List (List ℕ) → ℕ → Scope
-scope_of names m = record { recs = []; vars = variable_names 0 m; families = names }
+scope_of names m = record { recs = []; vars = variable_names 0 m; declared = family_named names; otherwise = None }
 
 -- the text of the type can be read
 pub record IsReadable (names : List (List ℕ)) (m : ℕ) (t : Tree) : Type 0 where

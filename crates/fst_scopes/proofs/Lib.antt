@@ -1,0 +1,16 @@
+pub mod FirstLaws
+pub mod Bound
+pub mod TableLaws
+pub mod TwiceLaws
+pub mod ScopeLaws
+pub mod BranchLaws
+pub mod MeasureLaws
+pub mod TypeLaws
+pub mod Places
+pub mod Plain
+pub mod There
+pub mod GraphLaws
+pub mod AliasLaws
+pub mod OrderLaws
+pub mod CountLaws
+pub mod Laws

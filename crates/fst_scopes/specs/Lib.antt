@@ -1,0 +1,13 @@
+pub mod Bytes
+pub mod First
+pub mod Faults
+pub mod Twice
+pub mod Kept
+pub mod TypeNames
+pub mod Aliases
+pub mod Measures
+pub mod Scopes
+pub mod Counted
+pub mod Graph
+pub mod Arranging
+pub mod Plain
