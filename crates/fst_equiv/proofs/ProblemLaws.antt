@@ -1,5 +1,5 @@
 -- Two types within the limits have one grammar, one word each, and one list of marks.
-use Rattle.std.proofs.Common.{◌≡◌, ◌∙◌, inl, inr, ℕ, ◌<◌, List, length, Bool, false, refl, sym, ap, subst, arith}
+use Rattle.std.proofs.Common.{◌≡◌, ◌∙◌, inl, inr, ℕ, ◌<◌, List, length, Bool, false, sym, ap, subst, arith}
 use Rattle.fst_types.specs.Tree.{Tree}
 use Rattle.fst_types.specs.declared.kind.Kind.{Kind}
 use Rattle.fst_types.specs.declared.label.Label.{Label}
@@ -7,7 +7,7 @@ use Rattle.fst_kinds.specs.WellFormed.{IsSession}
 use Rattle.fst_words.specs.Words.{Productions}
 use Rattle.fst_words.specs.Marks.{is_marked}
 use Rattle.fst_norms.specs.Pruned.{AreUnnormed}
-use Rattle.fst_grammar.specs.Place.{top_of}
+use Rattle.fst_parts.specs.Place.{top_of}
 use Rattle.fst_grammar.specs.Word.{word}
 use Rattle.fst_grammar.specs.Translation.{OneGrammar, IsTooLarge, numbers_of, right_sides}
 use Rattle.fst_equiv.specs.Problem.{IsProblem}

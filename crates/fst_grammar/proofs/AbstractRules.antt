@@ -7,7 +7,7 @@ use Rattle.fst_types.specs.Order.{same_label}
 use Rattle.fst_types.specs.declared.label.Label.{Label}
 use Rattle.fst_types.specs.declared.label.Label.TheVariants.{Send, Receive, Select, Offer, Var}
 use Rattle.fst_lts.specs.Step.{terminated}
-use Rattle.fst_grammar.specs.Place.{Place, place_past, own_place, body_place}
+use Rattle.fst_parts.specs.Place.{Place, place_past, own_place, body_place}
 use Rattle.fst_grammar.specs.Word.{Numbers, node_at, word}
 
 -- the rule of a non-terminal for a label

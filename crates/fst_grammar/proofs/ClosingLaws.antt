@@ -7,7 +7,7 @@ use Rattle.fst_types.specs.Substitution.{variable, substitute, substitute_all}
 use Rattle.fst_types.specs.Scoped.{IsScoped, AllScoped}
 use Rattle.fst_types.specs.declared.label.Label.{Label}
 use Rattle.fst_lts.specs.Step.{terminated, step_in}
-use Rattle.fst_grammar.specs.Place.{open_depth, open_depths, is_closed}
+use Rattle.fst_parts.specs.Place.{open_depth, open_depths, is_closed}
 
 mutual
   scoped_if_loose : (t : Tree) (n : ℕ) → open_depth t ≤ n → IsScoped n t

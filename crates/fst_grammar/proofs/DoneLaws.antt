@@ -9,17 +9,18 @@ use Rattle.fst_types.specs.declared.label.Label.{Label}
 use Rattle.fst_kinds.specs.WellFormed.{IsSession}
 use Rattle.fst_words.specs.declared.rules.Rule.{Rule}
 use Rattle.fst_words.specs.Words.{Productions, WordBelow, EachHasRule}
-use Rattle.fst_grammar.specs.Place.{top_of}
+use Rattle.fst_parts.specs.Place.{top_of}
 use Rattle.fst_grammar.specs.Word.{word}
-use Rattle.fst_grammar.specs.Labels.{labels_in, names}
-use Rattle.fst_grammar.specs.Letters.{with_labels}
-use Rattle.fst_grammar.specs.Parts.{Part, parts_of, numbers_by}
+use Rattle.fst_parts.specs.Labels.{labels_in, names}
+use Rattle.fst_parts.specs.Letters.{with_labels}
+use Rattle.fst_parts.specs.Once.{Part}
+use Rattle.fst_grammar.specs.Parts.{parts_of, numbers_by}
 use Rattle.fst_grammar.specs.Equations.{Equation, Solves, equations_by, IsGrounded, HasRanks, HasOrderedRows, AreFine, most_rank}
 use Rattle.fst_grammar.specs.Translation.{IsGrammar, IsTooLarge, right_sides}
 use Rattle.fst_grammar.specs.Done.{IsDone}
 use Rattle.fst_grammar.specs.declared.fault.TranslateFault.{TranslateFault}
 use Rattle.fst_grammar.specs.declared.fault.TranslateFault.TheVariants.{TooLarge}
-use Rattle.fst_grammar.proofs.LabelLaws.{letters_are}
+use Rattle.fst_parts.proofs.Laws.{letters_are}
 use Rattle.fst_grammar.proofs.SolveLaws.{solution, solves, solution_fine}
 use Rattle.fst_grammar.proofs.RuledLaws.{each_ruled}
 use Rattle.fst_grammar.proofs.RankLaws.{rank}

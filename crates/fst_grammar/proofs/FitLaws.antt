@@ -9,8 +9,9 @@ use Rattle.fst_types.specs.declared.label.Label.{Label}
 use Rattle.fst_types.specs.declared.label.Label.TheVariants.{Send, Receive, Select, Offer, Var}
 use Rattle.fst_kinds.specs.Contractive.{IsContractive, AllContractive}
 use Rattle.fst_lts.specs.Step.{terminated}
-use Rattle.fst_grammar.specs.Place.{Place, is_closed, place_past, own_place, own_place_if, body_place}
-use Rattle.fst_grammar.specs.Parts.{Part, parts, parts_all}
+use Rattle.fst_parts.specs.Place.{Place, is_closed, place_past, own_place, own_place_if, body_place}
+use Rattle.fst_parts.specs.Once.{Part}
+use Rattle.fst_grammar.specs.Parts.{parts, parts_all}
 use Rattle.fst_base.specs.Limits.{most_nodes}
 use Rattle.fst_grammar.proofs.ClosingLaws.{scoped_if_closed}
 use Rattle.fst_grammar.proofs.LetterLaws.{Known}

@@ -6,7 +6,7 @@ use Rattle.fst_types.specs.declared.label.Label.{Label}
 use Rattle.fst_types.specs.Order.{same_label}
 use Rattle.fst_types.proofs.Laws.{same_label-same, same_label-itself}
 use Rattle.fst_words.specs.Words.{letter_of}
-use Rattle.fst_grammar.specs.Labels.{is_name, names, label_position}
+use Rattle.fst_parts.specs.Labels.{is_name, names, label_position}
 
 -- the label is among the letters
 abbrev pub Known : List Label → Label → Type 0

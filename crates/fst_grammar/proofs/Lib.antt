@@ -1,12 +1,7 @@
 pub mod AbstractRules
 pub mod ClosingLaws
 pub mod StandLaws
-pub mod SameLaws
-pub mod KeyLaws
-pub mod ShapeLaws
-pub mod KeyTable
 pub mod CountLaws
-pub mod PartLaws
 pub mod SeekLaws
 pub mod TableLaws
 pub mod LetterLaws
@@ -16,11 +11,10 @@ pub mod RankLaws
 pub mod SoundLaws
 pub mod SolveLaws
 pub mod RuledLaws
-pub mod LabelLaws
+pub mod KnownLaws
 pub mod TranslationLaws
 pub mod UniqueLaws
-pub mod BranchLaws
-pub mod PlaceLaws
+pub mod BinderLaws
 pub mod HeadLaws
 pub mod SizeLaws
 pub mod DoneLaws

@@ -12,10 +12,11 @@ use Rattle.fst_kinds.specs.Contractive.{guards, reaches}
 use Rattle.fst_kinds.proofs.Laws.{unreached}
 use Rattle.fst_lts.specs.Step.{terminated}
 use Rattle.fst_lts.proofs.Laws.{unguarded}
-use Rattle.fst_grammar.specs.Place.{Place, is_closed, place_past, own_place, own_place_if, body_place, binder}
+use Rattle.fst_parts.specs.Place.{Place, is_closed, place_past, own_place, own_place_if, body_place, binder}
 use Rattle.fst_grammar.specs.Word.{Numbers, node_at, word}
-use Rattle.fst_grammar.specs.Labels.{is_name, names}
-use Rattle.fst_grammar.specs.Parts.{Part, position, numbers_by}
+use Rattle.fst_parts.specs.Labels.{is_name, names}
+use Rattle.fst_parts.specs.Once.{Part, position}
+use Rattle.fst_grammar.specs.Parts.{numbers_by}
 use Rattle.fst_base.specs.Limits.{most_nodes}
 use Rattle.fst_grammar.specs.Equations.{most_rank}
 use Rattle.fst_grammar.proofs.ClosingLaws.{scoped_if_closed}

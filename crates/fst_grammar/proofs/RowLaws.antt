@@ -9,10 +9,11 @@ use Rattle.fst_types.specs.declared.label.Label.{Label}
 use Rattle.fst_types.specs.declared.label.Label.TheVariants.{Send, Receive, Select, Offer, Var}
 use Rattle.fst_words.specs.declared.rules.Rule.{Rule}
 use Rattle.fst_words.specs.Words.{Productions, row_of, rule_of, step, letter_of, label_step}
-use Rattle.fst_grammar.specs.Place.{Place, place_past, own_place, body_place}
+use Rattle.fst_parts.specs.Place.{Place, place_past, own_place, body_place}
 use Rattle.fst_grammar.specs.Word.{Numbers, node_at, word}
-use Rattle.fst_grammar.specs.Labels.{is_name, names, label_position}
-use Rattle.fst_grammar.specs.Parts.{Part, position, numbers_by}
+use Rattle.fst_parts.specs.Labels.{is_name, names, label_position}
+use Rattle.fst_parts.specs.Once.{Part, position}
+use Rattle.fst_grammar.specs.Parts.{numbers_by}
 use Rattle.fst_grammar.specs.Rules.{rules_before, word_rules, name_rules, branch_rules, HasRows, HaveRows}
 use Rattle.fst_grammar.specs.Equations.{own, rules_by, Solves, equation_at, part_equation, equations_by}
 use Rattle.fst_grammar.proofs.AbstractRules.{Rule as Rewriting, move, branch_word, HasRules, HaveRules}

@@ -7,7 +7,7 @@ use Rattle.fst_types.specs.Order.{AreRising}
 use Rattle.fst_types.specs.declared.label.Label.{Label}
 use Rattle.fst_words.specs.declared.rules.Rule.{Rule}
 use Rattle.fst_words.specs.Words.{Productions, row_of, EachHasRule}
-use Rattle.fst_grammar.specs.Place.{Place}
+use Rattle.fst_parts.specs.Place.{Place}
 use Rattle.fst_grammar.specs.Word.{Numbers}
 use Rattle.fst_grammar.specs.Rules.{rules_before, name_rules, branch_rules}
 use Rattle.fst_grammar.specs.Equations.{Equation, own, like, rules_by, Solves, IsGrounded}

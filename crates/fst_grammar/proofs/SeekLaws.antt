@@ -5,8 +5,9 @@ use Rattle.std.proofs.lemmas.Bool.{eq-eqb, lt-ltb, le-ltb, ne_eqb}
 use Rattle.fst_types.specs.Tree.{Tree, skip, send, receive, select, offer, seq, rec, back, var, plain, arrow, pair, named, Branches, none, branch}
 use Rattle.fst_types.specs.Size.{nodes, nodes_all}
 use Rattle.fst_lts.specs.Step.{terminated}
-use Rattle.fst_grammar.specs.Place.{Place, is_closed, top_of, place_past, own_place, own_place_if, body_place}
-use Rattle.fst_grammar.specs.Parts.{Part, parts, parts_all}
+use Rattle.fst_parts.specs.Place.{Place, is_closed, top_of, place_past, own_place, own_place_if, body_place}
+use Rattle.fst_parts.specs.Once.{Part}
+use Rattle.fst_grammar.specs.Parts.{parts, parts_all}
 
 abbrev mutual
   -- the choice or `rec` that stands at the place k

@@ -11,15 +11,17 @@ use Rattle.fst_types.specs.Order.{label_cmp}
 use Rattle.fst_types.specs.declared.label.Label.{Label}
 use Rattle.fst_types.specs.declared.label.Label.TheVariants.{Select, Offer}
 use Rattle.fst_lts.specs.Step.{terminated}
-use Rattle.fst_grammar.specs.Place.{Place, is_closed, top_of, place_past, own_place, own_place_if, body_place}
-use Rattle.fst_grammar.specs.Labels.{labels_in, branch_labels, is_name, names}
-use Rattle.fst_grammar.specs.Letters.{with_label, with_label_by, with_labels}
-use Rattle.fst_grammar.specs.Parts.{Part, parts, parts_all, position, with_part, with_parts, parts_of, numbers_by}
+use Rattle.fst_parts.specs.Place.{Place, is_closed, top_of, place_past, own_place, own_place_if, body_place}
+use Rattle.fst_parts.specs.Labels.{labels_in, branch_labels, is_name, names}
+use Rattle.fst_parts.specs.Letters.{with_label, with_label_by, with_labels}
+use Rattle.fst_parts.specs.Once.{Part, position, with_part, with_parts}
+use Rattle.fst_grammar.specs.Parts.{parts, parts_all, parts_of, numbers_by}
 use Rattle.fst_grammar.specs.Rules.{name_rules}
 use Rattle.fst_grammar.specs.Equations.{own, part_equation, equations_by}
-use Rattle.fst_grammar.specs.Views.{part_of, equation_of}
+use Rattle.fst_parts.specs.Views.{part_of}
+use Rattle.fst_grammar.specs.Views.{equation_of}
 use Rattle.fst_grammar.specs.declared.equations.Equation.{Equation as Kept}
-use Rattle.fst_grammar.specs.declared.found.Found.{Found}
+use Rattle.fst_parts.specs.declared.found.Found.{Found}
 use Rattle.fst_grammar.proofs.SeekLaws.{Every, every_both}
 use Rattle.fst_grammar.proofs.TableLaws.{every_with}
 

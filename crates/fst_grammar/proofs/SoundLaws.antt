@@ -17,10 +17,11 @@ use Rattle.fst_lts.specs.Step.{terminated}
 use Rattle.fst_words.specs.declared.rules.Rule.{Rule}
 use Rattle.fst_words.specs.Words.{WordBelow}
 use Rattle.fst_words.specs.Ordered.{AreOrdered}
-use Rattle.fst_grammar.specs.Place.{Place, place_past, own_place, body_place, binder}
+use Rattle.fst_parts.specs.Place.{Place, place_past, own_place, body_place, binder}
 use Rattle.fst_grammar.specs.Word.{Numbers, node_at, word}
-use Rattle.fst_grammar.specs.Labels.{is_name, names, label_position}
-use Rattle.fst_grammar.specs.Parts.{Part, parts, parts_all, numbers_by}
+use Rattle.fst_parts.specs.Labels.{is_name, names, label_position}
+use Rattle.fst_parts.specs.Once.{Part}
+use Rattle.fst_grammar.specs.Parts.{parts, parts_all, numbers_by}
 use Rattle.fst_grammar.specs.Rules.{branch_rules}
 use Rattle.fst_grammar.proofs.LetterLaws.{Known, name_known}
 use Rattle.fst_grammar.proofs.SeekLaws.{Every, every_both}

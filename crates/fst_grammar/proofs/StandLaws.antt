@@ -15,7 +15,7 @@ use Rattle.fst_lts.specs.Step.{terminated, branch_at, step_in, step}
 use Rattle.fst_base.specs.Agreement.{BothOrNeither, Performs, AgreeTo, Agree}
 use Rattle.fst_lts.proofs.Laws.{unguarded}
 use Rattle.fst_base.proofs.TraceLaws.{agree_is_traces}
-use Rattle.fst_grammar.specs.Place.{Place, is_closed, top_of, place_past, own_place, own_place_if, body_place, binder}
+use Rattle.fst_parts.specs.Place.{Place, is_closed, top_of, place_past, own_place, own_place_if, body_place, binder}
 use Rattle.fst_grammar.specs.Word.{Numbers, node_at, word}
 use Rattle.fst_grammar.proofs.AbstractRules.{Rule, move, branch_word, IsName, IsChoice, IsRec, HasRules, HaveRules}
 use Rattle.fst_grammar.proofs.ClosingLaws.{scoped_if_closed, AllClosed, Lays, top, over, composed, NoneEnds, under_none, kept_terminated, no_step}

@@ -3,9 +3,9 @@ use Rattle.std.proofs.Common.{◌≡◌, ◌∙◌, ◌<◌, refl, sym, ap, subs
 use Rattle.std.specs.Prelude.{if◌then◌else◌, nat_lt, nat_eq, slice_get}
 use Rattle.std.proofs.lemmas.Bool.{eq-eqb, eqb-true, ltb-true, and_parts}
 use Rattle.fst_types.specs.Tree.{Tree}
-use Rattle.fst_grammar.specs.Same.{same_tree}
-use Rattle.fst_grammar.specs.Parts.{Part, stands_at, position, with_part, with_parts}
-use Rattle.fst_grammar.proofs.SameLaws.{same_tree-itself, same_tree-same}
+use Rattle.fst_parts.specs.Same.{same_tree}
+use Rattle.fst_parts.specs.Once.{Part, stands_at, position, with_part, with_parts}
+use Rattle.fst_parts.proofs.Laws.{same_tree-itself, same_tree-same}
 use Rattle.fst_grammar.proofs.SeekLaws.{Every, every_both, found_in, IsSeated}
 
 -- the list has this part of this closed type

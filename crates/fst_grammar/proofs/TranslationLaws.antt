@@ -13,17 +13,18 @@ use Rattle.fst_lts.specs.Step.{terminated}
 use Rattle.fst_base.specs.Agreement.{Performs}
 use Rattle.fst_words.specs.declared.rules.Rule.{Rule}
 use Rattle.fst_words.specs.Words.{Productions, WordBelow, label_step}
-use Rattle.fst_grammar.specs.Place.{Place, top_of, place_past, own_place, body_place}
+use Rattle.fst_parts.specs.Place.{Place, top_of, place_past, own_place, body_place}
 use Rattle.fst_grammar.specs.Word.{Numbers, word}
-use Rattle.fst_grammar.specs.Labels.{is_name, names, labels_in, AreLetters}
-use Rattle.fst_grammar.specs.Parts.{Part, parts, parts_of, numbers_by}
+use Rattle.fst_parts.specs.Labels.{is_name, names, labels_in, AreLetters}
+use Rattle.fst_parts.specs.Once.{Part}
+use Rattle.fst_grammar.specs.Parts.{parts, parts_of, numbers_by}
 use Rattle.fst_grammar.specs.Rules.{name_rules, HasRows}
 use Rattle.fst_grammar.specs.Equations.{Equation, own, like, Solves, equation_at, part_equation, equations_by, BeginsLower, IsGrounded, IsFine, most_rank}
 use Rattle.fst_grammar.specs.Translation.{IsGrammar}
 use Rattle.fst_grammar.proofs.AbstractRules.{move}
 use Rattle.fst_grammar.proofs.StandLaws.{performs_same}
 use Rattle.fst_grammar.proofs.LetterLaws.{Known}
-use Rattle.fst_grammar.proofs.LabelLaws.{contains_known, session_known}
+use Rattle.fst_grammar.proofs.KnownLaws.{contains_known, session_known}
 use Rattle.fst_grammar.proofs.SeekLaws.{Every, every_front, every_behind, every_both, IsSeated, all_seated}
 use Rattle.fst_grammar.proofs.TableLaws.{Holds, all_held, every_with, every_get}
 use Rattle.fst_grammar.proofs.FitLaws.{AreKnown, IsFit, fit_select, fit_offer, fit_body}

@@ -16,16 +16,17 @@ use Rattle.fst_kinds.specs.WellFormed.{IsSession}
 use Rattle.fst_base.specs.Order.{IsRising}
 use Rattle.fst_lts.specs.Step.{terminated}
 use Rattle.fst_words.specs.Words.{Productions, row_of}
-use Rattle.fst_grammar.specs.Place.{Place, top_of, place_past, own_place, body_place}
+use Rattle.fst_parts.specs.Place.{Place, top_of, place_past, own_place, body_place}
 use Rattle.fst_grammar.specs.Word.{Numbers, node_at}
-use Rattle.fst_grammar.specs.Labels.{labels_in, branch_labels, AreLetters, is_name, names, label_position}
-use Rattle.fst_grammar.specs.Parts.{Part, parts, parts_all, stands_at, position, with_part, with_parts, parts_of, numbers_by}
+use Rattle.fst_parts.specs.Labels.{labels_in, branch_labels, AreLetters, is_name, names, label_position}
+use Rattle.fst_parts.specs.Once.{Part, stands_at, position, with_part, with_parts}
+use Rattle.fst_grammar.specs.Parts.{parts, parts_all, parts_of, numbers_by}
 use Rattle.fst_grammar.specs.Rules.{rules_before, name_rules, HasRows, HaveRows}
 use Rattle.fst_grammar.specs.Equations.{Equation, own, like, rules_by, Solves, part_equation, equations_by, IsGrounded, most_rank}
 use Rattle.fst_grammar.specs.Translation.{IsGrammar, OneGrammar}
-use Rattle.fst_grammar.proofs.SameLaws.{same_tree-itself}
+use Rattle.fst_parts.proofs.Laws.{same_tree-itself}
 use Rattle.fst_base.proofs.Lists.{contains_head, contains_tail, from_contains, get_there}
-use Rattle.fst_grammar.proofs.LabelLaws.{contains_known}
+use Rattle.fst_grammar.proofs.KnownLaws.{contains_known}
 use Rattle.fst_grammar.proofs.SeekLaws.{Every, every_both}
 use Rattle.fst_grammar.proofs.TableLaws.{Has, every_with, every_get}
 use Rattle.fst_grammar.proofs.SoundLaws.{rising_first, not_less}

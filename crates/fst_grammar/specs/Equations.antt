@@ -6,10 +6,11 @@ use Rattle.fst_types.specs.declared.label.Label.TheVariants.{Select, Offer}
 use Rattle.fst_words.specs.declared.rules.Rule.{Rule}
 use Rattle.fst_words.specs.Ordered.{AreOrdered}
 use Rattle.fst_words.specs.Words.{Productions, row_of, WordBelow}
-use Rattle.fst_grammar.specs.Place.{Place, place_past, body_place}
+use Rattle.fst_parts.specs.Place.{Place, place_past, body_place}
 use Rattle.fst_grammar.specs.Word.{Numbers, word}
-use Rattle.fst_grammar.specs.Labels.{names}
-use Rattle.fst_grammar.specs.Parts.{Part, numbers_by}
+use Rattle.fst_parts.specs.Labels.{names}
+use Rattle.fst_parts.specs.Once.{Part}
+use Rattle.fst_grammar.specs.Parts.{numbers_by}
 use Rattle.fst_grammar.specs.Rules.{name_rules, branch_rules, word_rules}
 
 -- what a non-terminal's rules are: these, or those of a word

@@ -1,17 +1,10 @@
 pub mod Standing
-pub mod Place
 pub mod Word
-pub mod Labels
-pub mod Same
-pub mod Shapes
-pub mod Keys
-pub mod Kept
 pub mod Counts
 pub mod Parts
 pub mod Rules
 pub mod Translation
 pub mod Equations
-pub mod Letters
 pub mod Views
 pub mod PartsAt
 pub mod Done

@@ -2,8 +2,9 @@
 use Rattle.std.specs.Prelude.{List, [], ◌∷◌, if◌then◌else◌}
 use Rattle.fst_types.specs.Tree.{Tree, skip, send, receive, select, offer, seq, rec, back, var, plain, arrow, pair, named}
 use Rattle.fst_lts.specs.Step.{terminated}
-use Rattle.fst_grammar.specs.Place.{Place, place_past, body_place}
-use Rattle.fst_grammar.specs.Parts.{Part, parts, parts_all}
+use Rattle.fst_parts.specs.Place.{Place, place_past, body_place}
+use Rattle.fst_parts.specs.Once.{Part}
+use Rattle.fst_grammar.specs.Parts.{parts, parts_all}
 
 -- a choice or `rec` at its own place and all parts within it
 abbrev pub own_parts : Place → Tree → List Part

@@ -7,9 +7,9 @@ use Rattle.fst_types.specs.declared.label.Label.TheVariants.{Send, Receive, Sele
 use Rattle.fst_lts.specs.Step.{terminated}
 use Rattle.fst_words.specs.declared.rules.Rule.{Rule}
 use Rattle.fst_words.specs.Words.{Productions, row_of}
-use Rattle.fst_grammar.specs.Place.{Place, place_past, own_place, body_place}
+use Rattle.fst_parts.specs.Place.{Place, place_past, own_place, body_place}
 use Rattle.fst_grammar.specs.Word.{Numbers, node_at, word}
-use Rattle.fst_grammar.specs.Labels.{label_position}
+use Rattle.fst_parts.specs.Labels.{label_position}
 
 -- the rules with more behind each word
 abbrev pub rules_before : List ℕ → List Rule → List Rule

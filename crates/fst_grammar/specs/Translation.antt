@@ -10,9 +10,9 @@ use Rattle.fst_kinds.specs.WellFormed.{IsSession}
 use Rattle.fst_words.specs.declared.rules.Rule.{Rule}
 use Rattle.fst_base.specs.Order.{IsRising}
 use Rattle.fst_words.specs.Words.{Productions, WordBelow, InRange, LettersBelow}
-use Rattle.fst_grammar.specs.Place.{top_of}
+use Rattle.fst_parts.specs.Place.{top_of}
 use Rattle.fst_grammar.specs.Word.{Numbers, word}
-use Rattle.fst_grammar.specs.Labels.{AreLetters, names}
+use Rattle.fst_parts.specs.Labels.{AreLetters, names}
 use Rattle.fst_grammar.specs.Parts.{parts_of, numbers_by}
 use Rattle.fst_grammar.specs.Rules.{HasRows}
 use Rattle.fst_types.specs.Order.{label_cmp}

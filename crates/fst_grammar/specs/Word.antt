@@ -5,7 +5,7 @@ use Rattle.fst_types.specs.Size.{nodes}
 use Rattle.fst_types.specs.declared.label.Label.{Label}
 use Rattle.fst_types.specs.declared.label.Label.TheVariants.{Send, Receive, Var}
 use Rattle.fst_lts.specs.Step.{terminated}
-use Rattle.fst_grammar.specs.Place.{Place, place_past, own_place, binder}
+use Rattle.fst_parts.specs.Place.{Place, place_past, own_place, binder}
 
 -- the numbers of the non-terminals: of a message or variable, and of the part at a place of a closed type
 pub record Numbers : Type 0 where

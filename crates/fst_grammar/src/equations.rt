@@ -2,19 +2,20 @@ ghost use Rattle.std.specs.Prelude.{◌≡◌, ◌+◌, ◌<◌, ◌^◌, ◌++�
 ghost use Rattle.fst_types.specs.ModelView.{branches_of};
 ghost use Rattle.fst_types.specs.Size.{nodes, nodes_all};
 ghost use Rattle.fst_types.specs.declared.label.Label.{Label};
-ghost use Rattle.fst_grammar.specs.Labels.{names};
+ghost use Rattle.fst_parts.specs.Labels.{names, label_position};
+ghost use Rattle.fst_grammar.specs.Word.{word};
 ghost use Rattle.fst_grammar.specs.Rules.{name_rules, branch_rules};
 ghost use Rattle.fst_grammar.specs.Equations.{own, part_equation, equations_by};
-ghost use Rattle.fst_grammar.specs.Shapes.{shape_of_all};
-ghost use Rattle.fst_grammar.specs.Keys.{Stands};
-ghost use Rattle.fst_grammar.specs.Views.{branch_label, numbers_in, part_of, place_in, equation_of, HasNumber, AreNumbered, IsTable};
+ghost use Rattle.fst_parts.specs.Shapes.{shape_of_all};
+ghost use Rattle.fst_parts.specs.Keys.{Stands};
+ghost use Rattle.fst_parts.specs.Views.{branch_label, part_of, place_in, HasNumber, AreNumbered};
+ghost use Rattle.fst_grammar.specs.Views.{numbers_in, equation_of, IsTable};
 
-use crate::found::Found;
-use crate::letters::{choice_label, place_among};
-use crate::numbers::{Numbered, first_part};
+use crate::counts::counts;
 use crate::table::Table;
 use crate::words::word_of;
-use fst_types::{Branch, Label, TyForm};
+use fst_parts::{Found, Numbered, choice_label, first_part, place_among};
+use fst_types::{Branch, Label, Name, TyForm};
 use fst_words::{Rule, Word};
 use std::alloc::{AllocError, Global};
 
@@ -25,8 +26,32 @@ pub(crate) enum Equation {
     Like(Word),
 }
 
+/// The rule of a branch, whose type stands at a place.
+fn branch_rule(
+    alloc: Global,
+    table: &Table<'_>,
+    binders: &[u32],
+    whole: Numbered<'_>,
+    at: u32,
+    name: &Name,
+    body: Numbered<'_>,
+    offers: bool,
+) -> Result<Rule, AllocError>
+    requires table { IsTable table.now }
+    requires whole { HasNumber table.now.trees whole }
+    requires part { HasNumber table.now.trees body }
+    requires fits { at + nodes body.ty.now < 2 ^ 31 }
+    ensures letter { IfOk result (λ r. r.letter ≡ label_position table.now.letters.items (branch_label offers name.now)) }
+    ensures word { IfOk result (λ r. r.word ≡ word (numbers_in table.now) (place_in whole.entry.ty.now at binders.now) body.entry.ty.now) }
+{
+    let label = choice_label(alloc, name, offers)?;
+    let letter = place_among(&table.letters, &label) as u32;
+    let word = word_of(alloc, table, binders, whole, at, body)?;
+    Ok(Rule { letter, word })
+}
+
 /// The rules of a choice.
-#[tactic(auto, using(crate::proofs::BranchLaws::branches_at))]
+#[tactic(auto, using(fst_parts::proofs::Laws::branches_at))]
 fn choice_rules(
     alloc: Global,
     table: &Table<'_>,
@@ -47,15 +72,10 @@ fn choice_rules(
     let mut place = at;
     let mut list = list;
     for branch in branches {
-        let label = choice_label(alloc, &branch.label, offers)?;
-        let letter = place_among(&table.letters, &label) as u32;
-        let body = Numbered {
-            ty: &branch.body,
-            number: table.trees.first(list),
-        };
-        let word = word_of(alloc, table, binders, whole, place + 1, body)?;
-        rules.push(Rule { letter, word })?;
-        place += 1 + body.counts(&table.trees).nodes;
+        let (name, ty, number) = (&branch.label, &branch.body, table.trees.first(list));
+        let body = Numbered { ty, number };
+        rules.push(branch_rule(alloc, table, binders, whole, place + 1, name, body, offers)?)?;
+        place += 1 + counts(&table.trees, body).nodes;
         list = table.trees.second(list);
     }
     Ok(rules)

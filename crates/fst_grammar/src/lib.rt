@@ -4,17 +4,11 @@
 mod counts;
 mod equations;
 mod fault;
-mod forms;
-mod found;
-mod keys;
 mod law;
-mod letters;
-mod numbers;
 mod parts;
 mod rows;
 mod table;
 mod translation;
-mod trees;
 mod words;
 
 pub use fault::TranslateFault;

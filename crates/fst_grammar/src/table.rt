@@ -1,12 +1,11 @@
 ghost use Rattle.std.specs.Prelude.{◌≡◌, []};
-ghost use Rattle.fst_grammar.specs.Place.{own_place};
+ghost use Rattle.fst_parts.specs.Place.{own_place};
 ghost use Rattle.fst_grammar.specs.Word.{node_at};
-ghost use Rattle.fst_grammar.specs.Views.{numbers_in, place_in, HasNumber, IsTable};
+ghost use Rattle.fst_parts.specs.Views.{place_in, HasNumber};
+ghost use Rattle.fst_grammar.specs.Views.{numbers_in, IsTable};
 
-use crate::letters::place_among;
-use crate::numbers::Numbered;
-use crate::parts::{Parts, place_of};
-use crate::trees::Trees;
+use crate::counts::counts;
+use fst_parts::{Numbered, Parts, Trees, place_among, place_of};
 use fst_types::Label;
 
 /// The letters of two types in label order, the messages and variables among them, and the choices and `rec`s.
@@ -21,6 +20,13 @@ pub(crate) struct Table<'a> {
 }
 
 impl Table<'_> {
+    /// The letters, without all else.
+    pub(crate) fn into_letters(self) -> Vec<Label>
+        ensures { result.items ≡ self.entry.letters.items }
+    {
+        self.letters
+    }
+
     /// The number of a message or variable.
     pub(crate) fn name(&self, a: &Label) -> u32
         requires { IsTable self.now }
@@ -45,7 +51,7 @@ impl Table<'_> {
         requires part { HasNumber self.now.trees t }
         ensures { result ≡ node_at (numbers_in self.now) (own_place (place_in whole.entry.ty.now at []) t.entry.ty.now) }
     {
-        if t.counts(&self.trees).is_closed() {
+        if counts(&self.trees, t).is_closed() {
             self.node(t, 0)
         } else {
             self.node(whole, at)

@@ -1,31 +1,32 @@
-ghost use Rattle.std.specs.Prelude.{◌≡◌, ◌≤◌, ◌<◌, ◌+◌, ◌^◌, All, ◌++◌, [], List, IfErr, IfOk, map};
+ghost use Rattle.std.specs.Prelude.{◌≡◌, ◌≤◌, ◌<◌, ◌++◌, [], List, IfErr, IfOk, map};
 ghost use Rattle.fst_types.specs.Size.{nodes};
 ghost use Rattle.fst_types.specs.declared.kind.Kind.{Kind};
 ghost use Rattle.fst_kinds.specs.WellFormed.{IsSession};
-ghost use Rattle.fst_words.specs.Words.{EachHasRule};
+ghost use Rattle.fst_words.specs.Words.{Productions, EachHasRule};
+ghost use Rattle.fst_grammar.specs.Equations.{Solves, HasRanks, HasOrderedRows};
 ghost use Rattle.fst_grammar.specs.Standing.{StandsFor};
-ghost use Rattle.fst_grammar.specs.Labels.{labels_in, names};
-ghost use Rattle.fst_grammar.specs.Letters.{with_labels};
+ghost use Rattle.fst_parts.specs.Labels.{labels_in};
+ghost use Rattle.fst_parts.specs.Letters.{with_labels};
 ghost use Rattle.fst_grammar.specs.Parts.{parts_of};
 ghost use Rattle.fst_grammar.specs.Translation.{IsTranslation, IsInRange, IsSmall, IsTooLarge, right_sides};
 ghost use Rattle.fst_grammar.specs.Done.{IsDone};
-ghost use Rattle.fst_grammar.specs.Views.{part_of, HasNumber, IsTable, IsKept};
+ghost use Rattle.fst_parts.specs.Views.{part_of, HasNumber, IsKept};
+ghost use Rattle.fst_parts.specs.Place.{top_of};
+ghost use Rattle.fst_grammar.specs.Word.{word};
+ghost use Rattle.fst_grammar.specs.Views.{numbers_in, equations_in, IsWhole};
 ghost use Rattle.fst_grammar.specs.declared.fault.TranslateFault.TheVariants.{TooLarge};
 ghost use Rattle.fst_base.specs.Limits.{most_letters, most_nodes};
 
 use crate::equations::equations_of;
 use crate::fault::TranslateFault;
-use crate::keys::Keys;
-use crate::letters::{add_labels, names_among};
-use crate::numbers::{Numbered, with_number};
-use crate::parts::{Binders, Parts, note_all};
+use crate::parts::note_all;
 use crate::rows::rows_of;
 use crate::table::Table;
-use crate::trees::Trees;
-use crate::words::word_of;
+use crate::words::whole_word;
 use fst_base::MOST_NODES;
+use fst_parts::{Binders, Numbered, Parts, Trees, letters_of, names_among, with_numbers};
 use fst_types::{Ty, size};
-use fst_words::{Grammar, Word};
+use fst_words::{Grammar, Rules, Word};
 use std::alloc::{AllocError, Global};
 
 /// The grammar of two session types, and the words that stand for the left and the right one.
@@ -57,12 +58,42 @@ fn translate_small(alloc: Global, s: &Ty, r: &Ty) -> Result<(Grammar, Word, Word
     ensures too_large { IfErr result (λ f. f ≡ TooLarge → IsTooLarge s.now r.now) }
 {
     let table = table_of(alloc, s, r)?;
-    let left = word_of(alloc, &table, &[], table.left, 0, table.left)?;
-    let right = word_of(alloc, &table, &[], table.right, 0, table.right)?;
-    let equations = equations_of(alloc, &table)?;
-    let rules = rows_of(alloc, &equations)?;
-    let letters = table.letters;
+    let (rules, left, right) = rules_and_words(alloc, &table)?;
+    let letters = table.into_letters();
     Ok((Grammar { letters, rules }, left, right))
+}
+
+/// The rules of all non-terminals, and the words of the left and the right type.
+fn rules_and_words(
+    alloc: Global,
+    table: &Table<'_>,
+) -> Result<(Vec<Rules>, Word, Word), TranslateFault>
+    requires table { IsWhole table.now }
+    requires grounded { HasRanks (equations_in table.now) }
+    requires ordered { HasOrderedRows (equations_in table.now) }
+    ensures rules { (rows : Productions) → Solves rows (equations_in table.now) → IfOk result (λ t. t.0.items ≡ rows) }
+    ensures small { IfOk result (λ t. right_sides t.0.items ≤ most_letters) }
+    ensures too_large { (rows : Productions) → Solves rows (equations_in table.now) → IfErr result (λ f. f ≡ TooLarge → most_letters < right_sides rows) }
+    ensures left { IfOk result (λ t. t.1 ≡ word (numbers_in table.now) (top_of table.now.left.ty.now) table.now.left.ty.now) }
+    ensures right { IfOk result (λ t. t.2 ≡ word (numbers_in table.now) (top_of table.now.right.ty.now) table.now.right.ty.now) }
+{
+    let rules = rules_of(alloc, table)?;
+    let left = whole_word(alloc, table, table.left)?;
+    let right = whole_word(alloc, table, table.right)?;
+    Ok((rules, left, right))
+}
+
+/// The rules of all non-terminals, which solve their equations.
+fn rules_of(alloc: Global, table: &Table<'_>) -> Result<Vec<Rules>, TranslateFault>
+    requires table { IsWhole table.now }
+    requires grounded { HasRanks (equations_in table.now) }
+    requires ordered { HasOrderedRows (equations_in table.now) }
+    ensures rules { (rows : Productions) → Solves rows (equations_in table.now) → IfOk result (λ r. r.items ≡ rows) }
+    ensures small { IfOk result (λ r. right_sides r.items ≤ most_letters) }
+    ensures too_large { (rows : Productions) → Solves rows (equations_in table.now) → IfErr result (λ f. f ≡ TooLarge → most_letters < right_sides rows) }
+{
+    let equations = equations_of(alloc, table)?;
+    rows_of(alloc, &equations)
 }
 
 /// The choices and `rec`s of two types, the left before the right.
@@ -80,36 +111,25 @@ fn parts_of_both<'a>(
     ensures parts { IfOk result (λ p. map part_of p.found.items ≡ parts_of left.entry.ty.now right.entry.ty.now) }
     ensures kept { IfOk result (IsKept trees.now) }
 {
-    let mut parts = Parts {
-        found: Vec::new(alloc),
-        index: Keys::new(alloc),
-    };
+    let mut parts = Parts::new(alloc);
     note_all(alloc, trees, &mut parts, left, 0, &Binders::Top, left)?;
     note_all(alloc, trees, &mut parts, right, 0, &Binders::Top, right)?;
     Ok(parts)
 }
 
 /// The letters, names and parts of two types.
-#[tactic(auto, using(crate::proofs::Rulesets::tables))]
 fn table_of<'a>(alloc: Global, s: &'a Ty, r: &'a Ty) -> Result<Table<'a>, AllocError>
     requires left { nodes s.now ≤ most_nodes }
     requires right { nodes r.now ≤ most_nodes }
     ensures letters { IfOk result (λ t. t.letters.items ≡ with_labels [] (labels_in s.now ++ labels_in r.now)) }
     ensures parts { IfOk result (λ t. map part_of t.parts.found.items ≡ parts_of s.now r.now) }
-    ensures table { IfOk result IsTable }
+    ensures table { IfOk result IsWhole }
     ensures left { IfOk result (λ t. t.left.ty.now ≡ s.now) }
     ensures right { IfOk result (λ t. t.right.ty.now ≡ r.now) }
-    ensures number_left { IfOk result (λ t. HasNumber t.trees t.left) }
-    ensures number_right { IfOk result (λ t. HasNumber t.trees t.right) }
-    ensures within { IfOk result (λ t. All (λ p. p.at + nodes p.part.ty.now < 2 ^ 31) t.parts.found.items) }
 {
-    let mut letters = Vec::new(alloc);
-    add_labels(alloc, &mut letters, s)?;
-    add_labels(alloc, &mut letters, r)?;
+    let letters = letters_of(alloc, s, r)?;
     let names = names_among(alloc, &letters)?;
-    let mut trees = Trees::new(alloc);
-    let left = with_number(alloc, &mut trees, s)?;
-    let right = with_number(alloc, &mut trees, r)?;
+    let (trees, left, right) = with_numbers(alloc, s, r)?;
     let parts = parts_of_both(alloc, &trees, left, right)?;
     Ok(Table {
         letters,

@@ -1,6 +1,7 @@
 use Rattle.std.proofs.Common.{◌≡◌, ◌++◌, drop, map}
 use Rattle.fst_grammar.specs.Equations.{part_equation}
-use Rattle.fst_grammar.specs.Views.{equation_of, numbers_in, part_of}
+use Rattle.fst_parts.specs.Views.{part_of}
+use Rattle.fst_grammar.specs.Views.{equation_of, numbers_in}
 use Rattle.fst_grammar.proofs.equations.add_parts.Given as goal
 
 abbrev pub invariant-loop-part : goal.invariant-loop-part

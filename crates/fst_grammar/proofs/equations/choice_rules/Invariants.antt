@@ -1,10 +1,11 @@
 use Rattle.std.proofs.Common.{◌≡◌, ◌++◌, ◌+◌, ◌<◌, ◌^◌, drop}
 use Rattle.fst_types.specs.Size.{nodes_all}
 use Rattle.fst_types.specs.ModelView.{branches_of}
-use Rattle.fst_grammar.specs.Shapes.{shape_of_all}
-use Rattle.fst_grammar.specs.Keys.{Stands}
+use Rattle.fst_parts.specs.Shapes.{shape_of_all}
+use Rattle.fst_parts.specs.Keys.{Stands}
 use Rattle.fst_grammar.specs.Rules.{branch_rules}
-use Rattle.fst_grammar.specs.Views.{branch_label, numbers_in, place_in}
+use Rattle.fst_parts.specs.Views.{branch_label, place_in}
+use Rattle.fst_grammar.specs.Views.{numbers_in}
 use Rattle.fst_grammar.proofs.equations.choice_rules.Given as goal
 
 abbrev pub invariant-loop-branch : goal.invariant-loop-branch

@@ -2,10 +2,11 @@ use Rattle.std.proofs.Common.{◌≡◌, ◌+◌, ◌*◌, ◌^◌, ◌<◌, dro
 use Rattle.fst_types.specs.Height.{height, height_all}
 use Rattle.fst_types.specs.Size.{nodes_all}
 use Rattle.fst_types.specs.ModelView.{branches_of}
-use Rattle.fst_grammar.specs.Shapes.{shape_of_all}
-use Rattle.fst_grammar.specs.Keys.{Stands}
-use Rattle.fst_grammar.specs.Parts.{parts_all, with_parts}
-use Rattle.fst_grammar.specs.Views.{part_of, place_in, places_of, IsKept}
+use Rattle.fst_parts.specs.Shapes.{shape_of_all}
+use Rattle.fst_parts.specs.Keys.{Stands}
+use Rattle.fst_parts.specs.Once.{with_parts}
+use Rattle.fst_grammar.specs.Parts.{parts_all}
+use Rattle.fst_parts.specs.Views.{part_of, place_in, places_of, IsKept}
 use Rattle.fst_grammar.proofs.parts.+note.Given as goal
 
 abbrev pub decreases-note_all : goal.decreases-note_all

@@ -1,0 +1,11 @@
+pub mod SameLaws
+pub mod KeyLaws
+pub mod ShapeLaws
+pub mod KeyTable
+pub mod CountLaws
+pub mod PartLaws
+pub mod LabelLaws
+pub mod PlaceLaws
+pub mod BranchLaws
+pub mod Rulesets
+pub mod Laws

@@ -1,0 +1,10 @@
+pub mod Place
+pub mod Labels
+pub mod Letters
+pub mod Same
+pub mod Shapes
+pub mod Keys
+pub mod Kept
+pub mod Counts
+pub mod Once
+pub mod Views
