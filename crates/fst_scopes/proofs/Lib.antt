@@ -13,4 +13,5 @@ pub mod GraphLaws
 pub mod AliasLaws
 pub mod OrderLaws
 pub mod CountLaws
+pub mod MeasureLengths
 pub mod Laws

@@ -143,7 +143,8 @@ module _ (xs ys : List (List ℕ)) (declared : List ℕ → Option TypeDecl) (al
   unfolding outside
   same_outside = λ i x. both_counted x (place_of xs x) (place_of ys x) (same x) i
 
-  same_size : (w : WrittenTree) → option_map measured (type_of (scope_with xs declared aliases) w) ≡ option_map measured (type_of (scope_with ys declared aliases) w)
+  -- a type is as large
+  pub same_size : (w : WrittenTree) → option_map measured (type_of (scope_with xs declared aliases) w) ≡ option_map measured (type_of (scope_with ys declared aliases) w)
   unfolding outside
   same_size w =
       sym (measured_is (scope_with xs declared aliases) (outside xs) (λ x. refl) [] w) ∙ ap (λ m. measure [] m w) same_outside ∙ measured_is (scope_with ys declared aliases) (outside ys) (λ x. refl) [] w
