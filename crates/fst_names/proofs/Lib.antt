@@ -1,1 +1,18 @@
 mod QuestionLaws
+mod FirstTables
+mod DeclaredTables
+mod DeclarationLaws
+mod FaultlessLaws
+mod GlobalLaws
+mod RangeLaws
+mod CountLaws
+mod OnceLaws
+mod FamilyLaws
+mod SoundTypes
+mod WholeLaws
+pub mod OneModule
+mod ModuleLaws
+mod TreeLaws
+mod FaultlessTrees
+mod EquationLaws
+mod PartLaws

@@ -32,8 +32,8 @@ pub struct Question {
     pub right_at: u32,
 }
 
-// The kinds of variables.
-fn kinds_of(alloc: Global, binders: &[(Binder, Kind)]) -> Result<Vec<Kind>, AllocError>
+/// The kinds of variables.
+pub(crate) fn kinds_of(alloc: Global, binders: &[(Binder, Kind)]) -> Result<Vec<Kind>, AllocError>
     ensures { IfOk result (λ ks. ks.items ≡ kinds binders.now) }
 {
     let mut kinds = Vec::new(alloc);

@@ -11,3 +11,5 @@ mod limits;
 mod program;
 #[cfg(test)]
 mod reading;
+#[cfg(test)]
+mod resolving;
