@@ -1,17 +1,30 @@
 -- What other crates cite of kinds and of session types with free recursion variables.
 use Rattle.std.proofs.Common.{◌≡◌, ◌≤◌, ℕ, suc, List, true, false, Option}
-use Rattle.fst_types.specs.Tree.{Tree, seq, rec}
+use Rattle.fst_types.specs.Tree.{Tree, seq, rec, var}
 use Rattle.fst_types.specs.declared.kind.Kind.{Kind}
+use Rattle.fst_types.specs.declared.kind.Prekind.TheVariants.{Session}
 use Rattle.fst_types.specs.declared.kind.Use.{Use}
+use Rattle.fst_types.specs.Instance.{instantiated, ArgumentsHave}
 use Rattle.fst_types.specs.Scoped.{IsScoped}
 use Rattle.fst_types.specs.Substitution.{substitute, unfolding_of}
 use Rattle.fst_kinds.specs.Kinds.{session, top, HasKind}
 use Rattle.fst_kinds.specs.Contractive.{guards, reaches, IsContractive}
-use Rattle.fst_kinds.specs.WellFormed.{IsSession}
+use Rattle.fst_kinds.specs.WellFormed.{IsWellFormed, IsSession, IsInstantiation}
 use Rattle.fst_kinds.specs.OpenSession.{IsOpenSession, IsPut, GuardsTo}
+use Rattle.fst_kinds.proofs.KindLaws as one
 use Rattle.fst_kinds.proofs.SubstitutedGuards as guard
 use Rattle.fst_kinds.proofs.OpenSessions as session_part
 use Rattle.fst_kinds.proofs.UnfoldLaws as unfoldings
+use Rattle.fst_kinds.proofs.InstanceKinds as instance_kinds
+use Rattle.fst_kinds.proofs.InstanceLaws as instance_part
+
+-- a type has one kind
+pub one_kind : (vars : List Kind) (t : Tree) (j k : Kind) → HasKind vars t j → HasKind vars t k → j ≡ k
+one_kind = one.one_kind
+
+-- a kind with the prekind of session types, as the kind of a session type
+pub session_of : (k : Kind) → k.prekind ≡ Session → k ≡ session k.uses
+session_of = unfoldings.session_of
 
 -- the kind of a session type is none of a type of any values
 pub not_top : {A : Type 0} (u v : Use) → session u ≡ top v → A
@@ -52,3 +65,24 @@ substitute_session = session_part.substitute_session
 -- the unfolding of a contractive type without free variables is contractive
 pub unfolding_of_contractive : (vars : List Kind) (s : Tree) (k : Kind) → HasKind vars (rec s) k → IsScoped 0 (rec s) → IsContractive (rec s) → IsContractive (unfolding_of s)
 unfolding_of_contractive = unfoldings.unfolding_of_contractive
+
+-- an unfolding has exactly the kind of the type
+pub unfolding_of_kind : (vars : List Kind) (s : Tree) (k : Kind) → HasKind vars (rec s) k → HasKind vars (unfolding_of s) k
+unfolding_of_kind = unfoldings.unfolding_of_kind
+
+-- the unfolding of a well-formed type is well formed, of the same kind
+pub unfolding_of_well_formed : (vars : List Kind) (s : Tree) (k : Kind) → IsWellFormed vars (rec s) k → IsWellFormed vars (unfolding_of s) k
+unfolding_of_well_formed = unfoldings.unfolding_of_well_formed
+
+-- what holds of variables and of well-formed types holds of all that an instantiation puts for variables
+pub put_have : (P : Tree → Type 0) (outer vars : List Kind) (args : List Tree) → ((k : ℕ) → P (var k)) → ((t : Tree) (i : Kind) → IsWellFormed outer t i → P t) →
+    IsInstantiation outer vars args → ArgumentsHave P args
+put_have = instance_kinds.put_have
+
+-- what an instantiation puts for variables has no free recursion variables
+pub put_scoped : (outer vars : List Kind) (args : List Tree) → IsInstantiation outer vars args → ArgumentsHave (IsScoped 0) args
+put_scoped = instance_part.put_scoped
+
+-- an instance of a session type is a session type
+pub instantiated_session : (outer vars : List Kind) (args : List Tree) (s : Tree) → IsInstantiation outer vars args → IsSession vars s → IsSession outer (instantiated args s)
+instantiated_session = instance_part.instantiated_session

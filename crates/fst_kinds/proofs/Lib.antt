@@ -8,3 +8,6 @@ pub mod SubstitutedKinds
 pub mod SubstitutedGuards
 pub mod OpenSessions
 pub mod UnfoldLaws
+pub mod InstanceKinds
+pub mod InstanceGuards
+pub mod InstanceLaws

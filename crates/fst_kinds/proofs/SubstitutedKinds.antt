@@ -28,7 +28,8 @@ pub join_itself : (u : Use) → join u u ≡ u
 join_itself Many = refl
 join_itself Once = refl
 
-join_below : (u v a b : Use) → use_below u a ≡ true → use_below v b ≡ true → use_below (join u v) (join a b) ≡ true
+-- what is below two uses joins to what is below their join
+pub join_below : (u v a b : Use) → use_below u a ≡ true → use_below v b ≡ true → use_below (join u v) (join a b) ≡ true
 join_below Many Many a b e f = refl
 join_below Many Once Many b e f = f
 join_below Many Once Once b e f = refl

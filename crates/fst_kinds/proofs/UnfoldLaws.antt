@@ -14,7 +14,7 @@ use Rattle.fst_kinds.proofs.SubstitutedGuards.{unguarded_scoped, substitute_cont
 use Rattle.fst_kinds.specs.OpenSession.{GuardsTo}
 
 -- a kind with the prekind of session types, as the kind of a session type
-session_of : (k : Kind) → k.prekind ≡ Session → k ≡ session k.uses
+pub session_of : (k : Kind) → k.prekind ≡ Session → k ≡ session k.uses
 session_of k e = λ i. record { prekind = e i; uses = k.uses }
 
 -- an unfolding has exactly the kind of the type

@@ -34,6 +34,10 @@ reaches (arrow u s r) k = false
 reaches (pair s r) k = false
 reaches (named j) k = false
 
+-- the type comes to no enclosing `rec`'s variable before any move
+abbrev pub IsGuarded : Tree → Type 0
+IsGuarded s = (k : ℕ) → reaches s k ≡ false
+
 abbrev mutual
   -- in no part `rec x. S` does S reach x
   pub IsContractive : Tree → Type 0

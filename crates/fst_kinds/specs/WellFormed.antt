@@ -19,15 +19,19 @@ pub record IsWellFormed (vars : List Kind) (t : Tree) (k : Kind) : Type 0 where
 abbrev pub IsSession : List Kind → Tree → Type 0
 IsSession vars t = (u : Use) × IsWellFormed vars t (session u)
 
--- a closed, well-formed type whose kind is below the variable's kind k
-pub record IsInstance (k : Kind) (t : Tree) : Type 0 where
+-- the type is well formed, of a kind below k; outer has the kinds of the variables that it may hold
+pub record IsInstance (outer : List Kind) (k : Kind) (t : Tree) : Type 0 where
   pub kind : Kind
-  pub well_formed : IsWellFormed [] t kind
+  pub well_formed : IsWellFormed outer t kind
   pub below : subkind kind k ≡ true
 
--- a closing instantiation gives each variable a closed, well-formed type whose kind is below the variable's
+-- an instantiation gives each variable a well-formed type whose kind is below the variable's; outer has the kinds of the variables that these types may hold
+abbrev pub IsInstantiation : List Kind → List Kind → List Tree → Type 0
+IsInstantiation outer [] [] = ⊤
+IsInstantiation outer [] (t ∷ ts) = ⊥
+IsInstantiation outer (k ∷ vars) [] = ⊥
+IsInstantiation outer (k ∷ vars) (t ∷ ts) = IsInstance outer k t × IsInstantiation outer vars ts
+
+-- a closing instantiation gives each variable a closed type
 abbrev pub IsClosing : List Kind → List Tree → Type 0
-IsClosing [] [] = ⊤
-IsClosing [] (t ∷ ts) = ⊥
-IsClosing (k ∷ vars) [] = ⊥
-IsClosing (k ∷ vars) (t ∷ ts) = IsInstance k t × IsClosing vars ts
+IsClosing vars args = IsInstantiation [] vars args

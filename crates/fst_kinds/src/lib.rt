@@ -12,5 +12,5 @@ mod walk;
 pub use contraction::contractive;
 pub use fault::KindFault;
 pub use kinds::subkind;
-pub use law::{one_kind, unfolding_keeps_kinds, walk_law};
+pub use law::{instances_keep_kinds, instantiation_law, one_kind, unfolding_keeps_kinds, walk_law};
 pub use walk::kind_of;

@@ -14,10 +14,11 @@ use Rattle.fst_base.proofs.AgreementLaws.{same_related, agrees_itself, agrees_ba
 use Rattle.fst_base.proofs.Bools.{same_bool}
 
 -- the step of a sequence whose first part goes on or is over
-abbrev after_first : Tree → Bool → Option Tree → Option Tree → Option Tree
+abbrev pub after_first : Tree → Bool → Option Tree → Option Tree → Option Tree
 after_first s over first second = if over then second else option_map (λ t. seq t s) first
 
-first_then : (s r : Tree) (a : Label) → step (seq s r) a ≡ after_first r (terminated s) (step s a) (step r a)
+-- the step of a sequence
+pub first_then : (s r : Tree) (a : Label) → step (seq s r) a ≡ after_first r (terminated s) (step s a) (step r a)
 first_then s r a = ap (λ z. if terminated s then step r a else option_map (λ t. seq t z) (step s a)) (substitute_nothing r)
 
 -- both sides of a step of two sequences
@@ -51,10 +52,11 @@ agree_in_front (suc n) t s r h = λ a.
     (λ over. h a)
 
 -- the type is terminated exactly where it has no labels
-abbrev Moving : Tree → Type 0
+abbrev pub Moving : Tree → Type 0
 Moving s = IsTrue (terminated s) ↔ (labels s ≡ [])
 
-no_step : (s : Tree) (a : Label) → labels s ≡ [] → IsSome (step s a) → ⊥
+-- a type without labels moves by none
+pub no_step : (s : Tree) (a : Label) → labels s ≡ [] → IsSome (step s a) → ⊥
 no_step s a none h =
     let found : Contains [] a = subst (λ ls. Contains ls a) none ((labels_are_moves s a).1 h) in
     absurd (omega (arith, found.1))
@@ -73,7 +75,8 @@ over_too : (n : ℕ) (s r : Tree) → Moving s → Moving r → AgreeTo step ste
 over_too n s r ms mr h over =
     mr.1 (label_there r (labels r) refl (λ a there. no_step s a (ms.0 over) (unmatched n (step s a) (step r a) (h a) there)))
 
-over_alike : (n : ℕ) (s r : Tree) → Moving s → Moving r → AgreeTo step step (suc n) s r → terminated s ≡ terminated r
+-- types that agree to a depth over 0 are terminated alike
+pub over_alike : (n : ℕ) (s r : Tree) → Moving s → Moving r → AgreeTo step step (suc n) s r → terminated s ≡ terminated r
 over_alike n s r ms mr h =
     same_bool (terminated s) (terminated r) (over_too n s r ms mr h) (over_too n r s mr ms (agrees_back step step (suc n) s r h))
 

@@ -3,7 +3,7 @@ use Rattle.std.proofs.Common.{◌≡◌, ◌∙◌, ℕ, zero, suc, true, false,
 use Rattle.std.specs.Prelude.{◌&&◌, ◌||◌, not}
 use Rattle.std.proofs.lemmas.Bool.{eq-eqb, or_parts, and_parts}
 use Rattle.fst_types.specs.Tree.{Tree, skip, send, receive, select, offer, seq, rec, back, var, plain, arrow, pair, named}
-use Rattle.fst_kinds.specs.Contractive.{guards, reaches}
+use Rattle.fst_kinds.specs.Contractive.{guards, reaches, IsGuarded}
 use Rattle.fst_lts.specs.Step.{terminated}
 
 -- a terminated type guards nothing
@@ -23,10 +23,6 @@ unguarded (plain b) e = absurd (cc e)
 unguarded (arrow u s r) e = absurd (cc e)
 unguarded (pair s r) e = absurd (cc e)
 unguarded (named k) e = absurd (cc e)
-
--- the type comes to no free recursion variable before a move
-abbrev pub IsGuarded : Tree → Type 0
-IsGuarded s = (k : ℕ) → reaches s k ≡ false
 
 -- behind a terminated first part the second part comes first
 pub guarded_second : (s r : Tree) → IsGuarded (seq s r) → terminated s ≡ true → IsGuarded r

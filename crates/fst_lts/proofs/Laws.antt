@@ -1,10 +1,73 @@
--- What other crates cite of the moves of types.
-use Rattle.std.proofs.Common.{◌≡◌, true, false}
-use Rattle.fst_types.specs.Tree.{Tree}
-use Rattle.fst_kinds.specs.Contractive.{guards}
-use Rattle.fst_lts.specs.Step.{terminated}
+-- What other crates cite of the moves of types and of agreement.
+use Rattle.std.proofs.Common.{◌≡◌, ℕ, suc, List, true, false, Some}
+use Rattle.std.specs.Prelude.{IsSome, IfSome, option_map, if◌then◌else◌}
+use Rattle.fst_types.specs.Tree.{Tree, seq, rec, back}
+use Rattle.fst_types.specs.declared.kind.Kind.{Kind}
+use Rattle.fst_types.specs.declared.label.Label.{Label}
+use Rattle.fst_types.specs.Scoped.{IsScoped}
+use Rattle.fst_types.specs.Substitution.{unfolding_of}
+use Rattle.fst_kinds.specs.Contractive.{guards, reaches, IsContractive, IsGuarded}
+use Rattle.fst_kinds.specs.WellFormed.{IsSession}
+use Rattle.fst_base.specs.Agreement.{AgreeTo}
+use Rattle.fst_lts.specs.Step.{terminated, step}
+use Rattle.fst_lts.specs.Moves.{Moves}
 use Rattle.fst_lts.proofs.GuardLaws as guard
+use Rattle.fst_lts.proofs.MoveLaws as moved
+use Rattle.fst_lts.proofs.ResidualLaws as left
+use Rattle.fst_lts.proofs.AgreementLaws as agreement
 
 -- a terminated type guards nothing
 pub unguarded : (s : Tree) → terminated s ≡ true → guards s ≡ false
 unguarded = guard.unguarded
+
+-- the first part of a sequence comes to no variable that the sequence doesn't come to
+pub guarded_first : (s r : Tree) → IsGuarded (seq s r) → IsGuarded s
+guarded_first = guard.guarded_first
+
+-- behind a terminated first part, nor does the second part
+pub guarded_second : (s r : Tree) → IsGuarded (seq s r) → terminated s ≡ true → IsGuarded r
+guarded_second = guard.guarded_second
+
+-- nor does a contractive body
+pub guarded_body : (s : Tree) → reaches s 0 ≡ false → IsGuarded (rec s) → IsGuarded s
+guarded_body = guard.guarded_body
+
+-- a variable comes to itself
+pub no_variable : (k : ℕ) → IsGuarded (back k) → ⊥
+no_variable = guard.no_variable
+
+-- the steps of a contractive type without free variables are its moves
+pub steps_are_moves : (s : Tree) → IsScoped 0 s → IsContractive s → (a : Label) (t : Tree) → (step s a ≡ Some t → Moves s a t) × (Moves s a t → step s a ≡ Some t)
+steps_are_moves = moved.steps_are_moves
+
+-- an unfolding moves as its type does
+pub unfolding_of_step : (s : Tree) → IsScoped 0 (rec s) → IsContractive (rec s) → IsContractive (unfolding_of s) → (a : Label) → step (unfolding_of s) a ≡ step (rec s) a
+unfolding_of_step = moved.unfolding_of_step
+
+-- two session types, one behind the other, are a session type
+pub seq_session : (vars : List Kind) (s r : Tree) → IsSession vars s → IsSession vars r → IsSession vars (seq s r)
+seq_session = left.seq_session
+
+-- the type after a label is a session type if the type is one
+pub step_session : (vars : List Kind) (s : Tree) (a : Label) → IsSession vars s → IfSome (step s a) (IsSession vars)
+step_session = left.step_session
+
+-- a terminated type moves by no label
+pub no_step : (s : Tree) → terminated s ≡ true → (a : Label) → IsSome (step s a) → ⊥
+no_step s over a = agreement.no_step s a (left.terminated_unlabelled s over)
+
+-- a sequence moves as its second part where the first one is terminated, and otherwise as the first, with the second behind
+pub seq_step : (s r : Tree) (a : Label) → step (seq s r) a ≡ (if terminated s then step r a else option_map (λ t. seq t r) (step s a))
+seq_step = agreement.first_then
+
+-- session types that agree to a depth over 0 are terminated alike
+pub agree_terminated : (n : ℕ) (vars : List Kind) (s r : Tree) → IsSession vars s → IsSession vars r → AgreeTo step step (suc n) s r → terminated s ≡ terminated r
+agree_terminated n vars s r ws wr = agreement.over_alike n s r (left.terminated_exactly vars s ws) (left.terminated_exactly vars r wr)
+
+-- a type in front of both sides keeps agreement
+pub agree_in_front : (n : ℕ) (t s r : Tree) → AgreeTo step step n s r → AgreeTo step step n (seq t s) (seq t r)
+agree_in_front = agreement.agree_in_front
+
+-- and so does a type behind two session types
+pub agree_behind : (n : ℕ) (vars : List Kind) (s r t : Tree) → IsSession vars s → IsSession vars r → AgreeTo step step n s r → AgreeTo step step n (seq s t) (seq r t)
+agree_behind = agreement.agree_behind

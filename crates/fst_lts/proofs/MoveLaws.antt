@@ -9,9 +9,9 @@ use Rattle.fst_types.specs.Scoped.{IsScoped}
 use Rattle.fst_types.specs.declared.label.Label.{Label}
 use Rattle.fst_types.specs.declared.label.Label.TheVariants.{Send, Receive, Select, Offer, Var}
 use Rattle.fst_types.proofs.Laws.{same_label-same, same_label-itself, substitute_nothing, substitute_scoped, substitute_after, unfolding_of_scoped}
-use Rattle.fst_kinds.specs.Contractive.{IsContractive}
+use Rattle.fst_kinds.specs.Contractive.{IsContractive, IsGuarded}
 use Rattle.fst_lts.specs.Step.{terminated, branch_at, step_in, step}
-use Rattle.fst_lts.proofs.GuardLaws.{IsGuarded, guarded_first, guarded_second, guarded_body, no_variable}
+use Rattle.fst_lts.proofs.GuardLaws.{guarded_first, guarded_second, guarded_body, no_variable}
 use Rattle.fst_kinds.proofs.Laws.{unreached}
 use Rattle.fst_lts.specs.Moves.{Moves, sends, receives, selects, offers, first, second, unfolds, variables}
 use Rattle.fst_base.proofs.Options.{mapped_some}

@@ -10,13 +10,13 @@ use Rattle.fst_types.specs.Order.{same_label, AllOrdered, AreRising}
 use Rattle.fst_types.specs.Scoped.{AllScoped}
 use Rattle.fst_types.specs.Substitution.{substitute}
 use Rattle.fst_kinds.specs.Kinds.{join, AllSessions}
-use Rattle.fst_kinds.specs.Contractive.{guards, AllContractive}
+use Rattle.fst_kinds.specs.Contractive.{guards, AllContractive, IsGuarded}
 use Rattle.fst_kinds.specs.WellFormed.{IsSession}
 use Rattle.fst_kinds.proofs.Laws.{not_top, unreached, substitute_guards, opened, open_first, open_second, open_body, unguarded_body, substitute_session}
 use Rattle.fst_kinds.specs.OpenSession.{GuardsTo, IsOpenSession, IsPut}
 use Rattle.fst_lts.specs.Step.{terminated, branch_at, step_in, step, labels, choice_labels}
 use Rattle.fst_base.specs.Agreement.{residual}
-use Rattle.fst_lts.proofs.GuardLaws.{IsGuarded, guarded_first, guarded_second, guarded_body, no_variable}
+use Rattle.fst_lts.proofs.GuardLaws.{guarded_first, guarded_second, guarded_body, no_variable}
 use Rattle.std.proofs.lemmas.Bool.{and_parts}
 
 -- a move leaves a session type
@@ -27,7 +27,8 @@ skip_if_session : (vars : List Kind) (c : Bool) → IfSome (if c then Some skip 
 skip_if_session vars true = skip_session vars
 skip_if_session vars false = tt
 
-seq_session : (vars : List Kind) (s r : Tree) → IsSession vars s → IsSession vars r → IsSession vars (seq s r)
+-- two session types, one behind the other, are a session type
+pub seq_session : (vars : List Kind) (s r : Tree) → IsSession vars s → IsSession vars r → IsSession vars (seq s r)
 seq_session vars s r h g = (
   join h.0 g.0,
   record {

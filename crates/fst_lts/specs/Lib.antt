@@ -1,3 +1,4 @@
 pub mod Step
 pub mod Dual
 pub mod Moves
+pub mod Equal

@@ -3,6 +3,7 @@ use Rattle.std.proofs.Common.{◌≡◌, ◌<◌, ◌≤◌, ℕ, List, [], ◌�
 use Rattle.std.specs.Cmp.{IsTotalOrder}
 use Rattle.fst_types.specs.Tree.{Tree, rec}
 use Rattle.fst_types.specs.Height.{height, height_all}
+use Rattle.fst_types.specs.Instance.{instantiated, instantiated_env, ArgumentsHave}
 use Rattle.fst_types.specs.ModelView.{branches_of}
 use Rattle.fst_types.specs.ModelWrittenHeight as written
 use Rattle.fst_types.specs.ModelWrittenView.{written_branches}
@@ -13,6 +14,7 @@ use Rattle.fst_types.specs.declared.label.Label.{Label}
 use Rattle.fst_types.specs.declared.ty.Branch.{Branch}
 use Rattle.fst_types.specs.declared.written.WrittenBranch.{WrittenBranch}
 use Rattle.fst_types.proofs.Heights as heights
+use Rattle.fst_types.proofs.InstanceLaws as instance_part
 use Rattle.fst_types.proofs.Labels as labels
 use Rattle.fst_types.proofs.SubstitutionLaws as substitution
 
@@ -73,3 +75,20 @@ unfolding_of_scoped = substitution.unfolding_of_scoped
 -- the unfolding of an ordered type is ordered
 pub unfolding_of_ordered : (s : Tree) → IsOrdered (rec s) → IsOrdered (unfolding_of s)
 unfolding_of_ordered = substitution.unfolding_of_ordered
+
+-- where types without free variables are put for a signature's variables, no variable gets free
+pub instantiated_scoped : (n : ℕ) (args : List Tree) (s : Tree) → ArgumentsHave (IsScoped 0) args → IsScoped n s → IsScoped n (instantiated args s)
+instantiated_scoped = instance_part.instantiated_scoped
+
+-- an instance of an ordered type by ordered types is ordered
+pub instantiated_ordered : (args : List Tree) (s : Tree) → ArgumentsHave IsOrdered args → IsOrdered s → IsOrdered (instantiated args s)
+instantiated_ordered = instance_part.instantiated_ordered
+
+-- instantiating goes through substitution
+pub instantiated_substitute : (args : List Tree) (env : List (Option Tree)) (s : Tree) → ArgumentsHave (IsScoped 0) args →
+    instantiated args (substitute env s) ≡ substitute (instantiated_env args env) (instantiated args s)
+instantiated_substitute = instance_part.instantiated_substitute
+
+-- the instance of an unfolding is the unfolding of the instance
+pub instantiated_unfolding_of : (args : List Tree) (s : Tree) → ArgumentsHave (IsScoped 0) args → instantiated args (unfolding_of s) ≡ unfolding_of (instantiated args s)
+instantiated_unfolding_of = instance_part.instantiated_unfolding_of

@@ -4,7 +4,9 @@ pub mod Height
 pub mod Order
 pub mod Scoped
 pub mod Named
+pub mod Sent
 pub mod Substitution
+pub mod Instance
 pub mod Differences
 pub mod WrittenTree
 pub mod ModelCode

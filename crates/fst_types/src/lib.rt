@@ -1,14 +1,16 @@
 //! Types as trees, their labels, and what every later crate asks of them: size, equality, a copy,
-//! substitution and unfolding; and types as they were written.
+//! substitution, unfolding and instances; and types as they were written.
 #![tactic(auto)]
 
 mod base;
 mod counting;
 mod family;
 mod fault;
+mod instance;
 mod kind;
 mod label;
 mod law;
+mod moves;
 mod name;
 mod scope;
 mod side;
@@ -21,9 +23,11 @@ pub use base::Base;
 pub use counting::substituted_size;
 pub use family::{Family, Maker};
 pub use fault::UnfoldFault;
+pub use instance::{instance_size, instantiate};
 pub use kind::{Kind, Prekind, Use};
 pub use label::Label;
 pub use law::{label_order_law, substitution_law};
+pub use moves::Move;
 pub use name::Name;
 pub use scope::{MOST_OPEN, Scope, substitute, substitute_within};
 pub use side::Side;

@@ -1,0 +1,9 @@
+pub mod SessionLaws
+pub mod SequenceLaws
+pub mod InstanceMoves
+pub mod VariableRuns
+pub mod InstanceLaws
+pub mod LedLaws
+pub mod InstanceDuals
+pub mod EqualLaws
+pub mod EqualKinds
