@@ -2,3 +2,5 @@ pub mod Problem
 pub mod Answers
 pub mod Verdicts
 pub mod Faults
+pub mod Comparison
+pub mod Outcomes

@@ -1,12 +1,14 @@
-//! Whether two session types are equivalent, within a budget of pairs.
+//! Whether two session types are equivalent, within a budget of pairs, and how two types of any shape compare.
 #![tactic(auto)]
 
 mod asking;
+mod comparing;
 mod fault;
 mod law;
 mod verdict;
 
 pub use asking::ask;
+pub use comparing::{Same, same_type};
 pub use fault::EquivFault;
-pub use law::one_answer;
+pub use law::{difference_law, one_answer, one_outcome};
 pub use verdict::{Certificate, Verdict};
