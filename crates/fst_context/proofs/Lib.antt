@@ -1,0 +1,4 @@
+mod Backward
+mod Places
+mod MarkLaws
+mod Taking

@@ -1,0 +1,4 @@
+pub mod Vars
+pub mod Scope
+pub mod ModelScope
+pub mod View
