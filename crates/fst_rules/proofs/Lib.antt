@@ -1,0 +1,5 @@
+mod Parts
+mod Rows
+mod Unique
+mod Weaker
+mod Plainly

@@ -1,0 +1,10 @@
+use Rattle.std.proofs.Common.{◌≡◌}
+use Rattle.fst_rules.specs.Parts.{IsConversion, IsAnyConversion}
+use Rattle.fst_rules.proofs.Weaker.{plain_derives, bare_over, derives_more}
+use Rattle.fst_rules.proofs.law.derivations_law.Goals as goal
+
+pub returns-clause-plain : goal.returns-clause-plain
+returns-clause-plain c = λ m e g u d x. bare_over m (IsConversion m.vars) e g u d x
+
+pub returns-clause-shaped : goal.returns-clause-shaped
+returns-clause-shaped c = λ m e g u d x. derives_more m (IsConversion m.vars) (IsAnyConversion m.vars) (λ s t y. record { left = y.left; right = y.right }) e g u d x

@@ -1,0 +1,4 @@
+pub mod Deriv
+pub mod Parts
+pub mod Rules
+pub mod Laws
