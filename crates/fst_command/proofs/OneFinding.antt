@@ -19,7 +19,7 @@ use Rattle.fst_names.specs.declared.question.Question.{Question}
 use Rattle.fst_names.specs.Faults.{question_faults}
 use Rattle.fst_scopes.specs.First.{first_fault}
 use Rattle.fst_names.specs.Resolved.{IsResolved}
-use Rattle.fst_print.specs.declared.refusals.Phrase.TheVariants as phrase
+use Rattle.fst_type_print.specs.declared.refusals.Phrase.TheVariants as phrase
 use Rattle.fst_command.specs.Finding.{Finding, refused, too_deep, LexicalFinding, not_utf8, bad_char, wide_number, long_name, SyntaxFinding, IsRead, IsUnread, no_tokens, no_reading, name_finding, session_kind, KindFinding, not_contractive, wrong_kind, unbound_type, double_label, IsFaultless, KindsFinding, Asks, AreAsked, QuestionFinding, IsNoQuestion}
 use Rattle.fst_command.specs.Finding as finding
 

@@ -15,8 +15,8 @@ use Rattle.fst_reading.specs.declared.fault.SyntaxFault.TheVariants as syntax
 use Rattle.fst_type_syntax.specs.Grammar.{Asked}
 use Rattle.fst_type_syntax.specs.Derives.{AnswersQuestion}
 use Rattle.fst_module_grammar.specs.Derives.{AnswersModule}
-use Rattle.fst_print.specs.declared.refusals.Phrase.{Phrase}
-use Rattle.fst_print.specs.declared.refusals.Phrase.TheVariants as phrase
+use Rattle.fst_type_print.specs.declared.refusals.Phrase.{Phrase}
+use Rattle.fst_type_print.specs.declared.refusals.Phrase.TheVariants as phrase
 use Rattle.fst_scopes.specs.declared.fault.NameFault.{NameFault}
 use Rattle.fst_scopes.specs.declared.fault.NameFault.TheVariants as naming
 use Rattle.fst_names.specs.declared.question.Question.{Question}

@@ -3,8 +3,8 @@ use Rattle.std.specs.Prelude.{ℕ, ◌+◌, ◌==◌, Bool, not, List, ◌++◌,
 use Rattle.std.specs.List.{list_any, suffix_len}
 use Rattle.fst_types.specs.declared.label.Label.{Label}
 use Rattle.fst_types.specs.declared.side.Side.{Side}
-use Rattle.fst_print.specs.declared.refusals.Phrase.{Phrase}
-use Rattle.fst_print.specs.Texts.{word_text, side_text, refusal_text}
+use Rattle.fst_type_print.specs.declared.refusals.Phrase.{Phrase}
+use Rattle.fst_type_print.specs.Texts.{word_text, side_text, refusal_text}
 
 -- the two types agree
 abbrev pub yes_text : List ℕ

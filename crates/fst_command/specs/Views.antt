@@ -6,7 +6,7 @@ use Rattle.fst_lexer.specs.declared.token.LexFault.{LexFault}
 use Rattle.fst_lexer.specs.declared.token.LexFault.TheVariants as lexical
 use Rattle.fst_reading.specs.declared.fault.SyntaxFault.{SyntaxFault}
 use Rattle.fst_reading.specs.declared.fault.SyntaxFault.TheVariants as syntax
-use Rattle.fst_print.specs.declared.refusals.Phrase.TheVariants as phrase
+use Rattle.fst_type_print.specs.declared.refusals.Phrase.TheVariants as phrase
 use Rattle.fst_scopes.specs.declared.fault.NameFault.{NameFault}
 use Rattle.fst_scopes.specs.declared.fault.NameFault.TheVariants as naming
 use Rattle.fst_command.specs.declared.words.Command.{Command as Said}

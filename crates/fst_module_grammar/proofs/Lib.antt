@@ -32,3 +32,4 @@ pub mod OneModule
 pub mod Filled
 pub mod Few
 pub mod ModuleFacts
+pub mod Laws

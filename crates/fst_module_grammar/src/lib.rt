@@ -6,10 +6,10 @@ pub mod applied;
 pub mod building;
 pub mod families;
 pub mod heads;
-mod laws;
+mod law;
 pub mod names;
 pub mod operators;
 pub mod shut;
 pub mod starts;
 
-pub use laws::one_module;
+pub use law::one_module;

@@ -21,11 +21,11 @@ use Rattle.fst_terms.specs.declared.binder.Binder.{Binder}
 use Rattle.fst_terms.specs.declared.global.GlobalEntry.{GlobalEntry}
 use Rattle.fst_scopes.specs.Aliases.{Known}
 use Rattle.fst_scopes.specs.Twice.{names}
+use Rattle.fst_term_faults.specs.TermFaults.{within}
 use Rattle.fst_term_names.specs.CoreTerms.{Numbers, name_term, maker_term, core_term, core_terms, core_arms}
-use Rattle.fst_term_names.specs.TermFaults.{within}
 use Rattle.fst_term_names.specs.TermTypes.{with_variables, written_in, written_in_all, written_in_arms}
-use Rattle.fst_names.specs.ModuleFaults.{Signed, signed, signed_type}
-use Rattle.fst_names.specs.ModuleNames.{equation_names}
+use Rattle.fst_declarations.specs.ModuleFaults.{Signed, signed, signed_type}
+use Rattle.fst_declarations.specs.ModuleNames.{equation_names}
 use Rattle.fst_names.specs.Modules.{field_types, types_in, closed_type, decl_types, decls_types, parameter_types, Equation, equations_from, Global, global_parts, numbers, functions, kinds_of, place_of_type, globals_from, parameters_types, module_types, module_globals}
 use Rattle.fst_names.proofs.RangeLaws.{from_long}
 

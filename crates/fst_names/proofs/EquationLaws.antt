@@ -12,21 +12,22 @@ use Rattle.fst_scopes.specs.Graph.{final_trees}
 use Rattle.fst_scopes.specs.Scopes.{declared_in, standing_in}
 use Rattle.fst_scopes.specs.Twice.{names, twice, variables}
 use Rattle.fst_scopes.specs.TypeNames.{scope_with}
-use Rattle.fst_term_names.specs.CodeSurroundings.{entry_of, numbers_of, scope_of, surroundings_of}
+use Rattle.fst_term_faults.specs.CodeSurroundings.{entry_of, scope_of, surroundings_of}
+use Rattle.fst_term_faults.specs.TermFaults.{term_faults, within}
+use Rattle.fst_term_faults.specs.declared.surroundings.Surroundings as code
+use Rattle.fst_term_faults.proofs.Laws.{AreAlike, same_term_faults}
+use Rattle.fst_term_names.specs.CodeNumbers.{numbers_of}
 use Rattle.fst_term_names.specs.CoreTerms.{core_term}
-use Rattle.fst_term_names.specs.TermFaults.{term_faults, within}
 use Rattle.fst_term_names.specs.TermTypes.{TypeUse, with_variables, without, begins_at, tree_of}
 use Rattle.fst_term_names.specs.declared.meanings.TypeList.{TypeList}
-use Rattle.fst_term_names.specs.declared.surroundings.Surroundings as code
-use Rattle.fst_term_names.proofs.Laws.{AreAlike, same_term_faults}
-use Rattle.fst_names.specs.Declarations.{IsScopeFor, known_in}
+use Rattle.fst_declarations.specs.Declarations.{IsScopeFor, known_in}
+use Rattle.fst_declarations.specs.ModuleFaults.{Signed, decl_faults, globals, module_scope, signed, surroundings, vars_of}
+use Rattle.fst_declarations.specs.ModuleNames.{equation_names, signature_names}
+use Rattle.fst_declarations.specs.declared.declarations.Declarations.{Declarations}
+use Rattle.fst_declarations.specs.declared.scopes.SignatureScope.{SignatureScope}
 use Rattle.fst_names.specs.Faultless.{IsFaultless}
-use Rattle.fst_names.specs.ModuleFaults.{Signed, decl_faults, globals, module_scope, signed, surroundings, vars_of}
-use Rattle.fst_names.specs.ModuleNames.{equation_names, signature_names}
 use Rattle.fst_names.specs.Modules.{TypeAt, numbers}
 use Rattle.fst_names.specs.Parts.{IsLonger}
-use Rattle.fst_names.specs.declared.declarations.Declarations.{Declarations}
-use Rattle.fst_names.specs.declared.scopes.SignatureScope.{SignatureScope}
 use Rattle.fst_names.proofs.FaultlessLaws.{equation_sound, is_global, signed_once}
 use Rattle.fst_names.proofs.FaultlessTrees.{same_scope, sound}
 use Rattle.fst_names.proofs.OnceLaws.{among_right}
@@ -97,7 +98,7 @@ module _ (ds : List Declared) (d : Declarations) (h : IsFaultless ds d) where
 
   -- a body has no more faults there than in the module
   pub body_sound : (x : Binder) (ps : List Binder) (t : TermTree) (a : code.Surroundings) → IsAround x.name a → decl_faults ds (known_in d) (equation x ps t) ≡ [] → term_faults (surroundings_of a) (within ps []) t ≡ []
-  body_sound x ps t a is e = same_term_faults (surroundings_of a) (surroundings ds (known_in d) x.name) (alike x.name a is) (within ps []) t ∙ equation_sound ds (known_in d) x ps t e
+  body_sound x ps t a is e = same_term_faults (surroundings_of a) (surroundings ds (known_in d) x.name) (alike x.name a is) (within ps []) t ∙ (equation_sound ds (known_in d) x ps t e).body
 
   -- its term is that of the module
   pub body_term : (x : List ℕ) (xs : List (List ℕ)) (n : ℕ) (t : TermTree) (a : code.Surroundings) (own : CoreTree) → own ≡ core_term (numbers_of a) xs n t → IsAround x a → own ≡ core_term (numbers ds) xs n t

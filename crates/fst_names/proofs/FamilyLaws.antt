@@ -16,8 +16,9 @@ use Rattle.fst_scopes.specs.Twice.{names}
 use Rattle.fst_scopes.specs.TypeNames.{data_type, other_name, declared_from}
 use Rattle.fst_term_names.specs.CoreTerms.{from}
 use Rattle.fst_term_names.specs.TermTypes.{written_in}
-use Rattle.fst_names.specs.ModuleNames.{makers, fields_of}
-use Rattle.fst_names.specs.Modules.{field_types, makers_from, families_from, family_parts, numbers_from, maker_numbers}
+use Rattle.fst_declarations.specs.ModuleNames.{makers, fields_of}
+use Rattle.fst_declarations.specs.MakerNumbers.{numbers_from, maker_numbers}
+use Rattle.fst_names.specs.Modules.{field_types, makers_from, families_from, family_parts}
 use Rattle.fst_names.proofs.CountLaws.{types_there}
 use Rattle.fst_names.proofs.OnceLaws.{own_here, own_next}
 use Rattle.fst_names.proofs.RangeLaws.{from_long, from_below}

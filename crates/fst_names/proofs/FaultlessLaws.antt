@@ -1,5 +1,5 @@
 -- What declarations without faults are like.
-use Rattle.std.proofs.Common.{◌≡◌, ◌∙◌, ◌⊎◌, inl, inr, ℕ, suc, Bool, true, false, List, [], ◌∷◌, ◌++◌, length, map, Some, refl, sym, subst}
+use Rattle.std.proofs.Common.{◌≡◌, ◌∙◌, ◌⊎◌, inl, inr, ℕ, suc, Bool, true, false, List, [], ◌∷◌, ◌++◌, codes, length, map, Some, refl, sym, subst}
 use Rattle.std.specs.Prelude.{if◌then◌else◌}
 use Rattle.std.specs.Str.{bytes_eq}
 use Rattle.fst_base.proofs.Bools.{same_text}
@@ -13,41 +13,47 @@ use Rattle.fst_scopes.specs.Faults.{is_among, type_faults}
 use Rattle.fst_scopes.specs.Twice.{names, twice, variables}
 use Rattle.fst_scopes.specs.TypeNames.{data_type, other_name, declared_from}
 use Rattle.fst_scopes.specs.declared.fault.NameFault.{NameFault}
-use Rattle.fst_scopes.specs.declared.fault.NameFault.TheVariants.{AliasLoop, Unbound}
+use Rattle.fst_scopes.specs.declared.fault.NameFault.TheVariants.{AliasLoop, NoMain, Unbound}
 use Rattle.fst_scopes.proofs.Laws.{none_named}
-use Rattle.fst_term_names.specs.TermFaults.{term_faults, within}
-use Rattle.fst_names.specs.ModuleFaults.{Signed, module_scope, signed, signed_type, surroundings, globals, alone, more_parameters, looped, decl_faults, decls_faults, twice_declared, faults_but_main, no_main, module_faults}
-use Rattle.fst_names.specs.ModuleNames.{type_names, makers, signature_names, equation_names}
+use Rattle.fst_term_faults.specs.TermFaults.{term_faults, within}
+use Rattle.fst_declarations.specs.ModuleFaults.{Signed, module_scope, signed, signed_type, surroundings, globals, alone, more_parameters, looped, decl_faults, decls_faults, twice_declared, faults_but_main, no_main, module_faults}
+use Rattle.fst_declarations.specs.ModuleNames.{type_names, makers, signature_names, equation_names}
 use Rattle.fst_names.proofs.OnceLaws.{among_next, among_either}
 
 -- ---- all faults
 
--- where nothing is told, not even that nothing is named main, there is no other fault
-none_but_main : (ds : List Declared) (fs : List NameFault) → no_main ds fs ≡ [] → fs ≡ []
-none_but_main ds [] e = refl
+-- where nothing is told, not even that nothing is named main, there is no other fault, and something is named main
+none_but_main : (ds : List Declared) (fs : List NameFault) → no_main ds fs ≡ [] → (fs ≡ []) × (is_among (globals ds) (codes "main") ≡ true)
+none_but_main ds [] e = (refl, pick (is_among (globals ds) (codes "main")) e)
+  where
+    pick : (c : Bool) → (if c then [] else NoMain ∷ []) ≡ [] → c ≡ true
+    pick true h = refl
+    pick false h = absurd (cc h)
 none_but_main ds (f ∷ fs) e = absurd (cc e)
 
--- each name is declared once, and no declaration has a fault
+-- each name is declared once, no declaration has a fault, and something is named main
 pub record AreSound (ds : List Declared) (known : Known) : Type 0 where
   pub types_once : twice (type_names ds) ≡ []
   pub makers_once : twice (map (λ (m : Maker). m.name) (makers ds)) ≡ []
   pub signatures_once : twice (signature_names ds) ≡ []
   pub equations_once : twice (equation_names ds) ≡ []
   pub decls : decls_faults ds known ds ≡ []
+  pub main_there : is_among (globals ds) (codes "main") ≡ true
 
 -- so it is in a module without faults
 pub are_sound : (ds : List Declared) (known : Known) → module_faults ds known ≡ [] → AreSound ds known
 are_sound ds known e =
-    let both = none_named (twice_declared ds) (decls_faults ds known ds) (none_but_main ds (faults_but_main ds known) e) in
+    let whole = none_but_main ds (faults_but_main ds known) e in
+    let both = none_named (twice_declared ds) (decls_faults ds known ds) whole.0 in
     let one = none_named (twice (type_names ds)) (twice (map (λ (m : Maker). m.name) (makers ds)) ++ (twice (signature_names ds) ++ twice (equation_names ds))) both.0 in
     let two = none_named (twice (map (λ (m : Maker). m.name) (makers ds))) (twice (signature_names ds) ++ twice (equation_names ds)) one.1 in
     let three = none_named (twice (signature_names ds)) (twice (equation_names ds)) two.1 in
-    record { types_once = one.0; makers_once = two.0; signatures_once = three.0; equations_once = three.1; decls = both.1 }
+    record { types_once = one.0; makers_once = two.0; signatures_once = three.0; equations_once = three.1; decls = both.1; main_there = whole.1 }
 
 -- ---- some declarations
 
 -- a name that isn't alone is among the others
-has_other : (others : List Binder) (x : Binder) → alone others x ≡ [] → is_among (names others) x.name ≡ true
+pub has_other : (others : List Binder) (x : Binder) → alone others x ≡ [] → is_among (names others) x.name ≡ true
 has_other others x e = pick (is_among (names others) x.name) e
   where
     pick : (c : Bool) → (if c then [] else Unbound x.at x.name ∷ []) ≡ [] → c ≡ true
@@ -72,6 +78,12 @@ pub record IsSoundAlias (ds : List Declared) (known : Known) (x : List ℕ) (w :
   pub open_ended : known.loops x ≡ false
   pub faultless : type_faults (module_scope ds known []) w ≡ []
 
+-- an equation without faults has a signature, no more parameters than arrows stand in its type, and a body without faults
+pub record IsFaultlessEquation (ds : List Declared) (known : Known) (x : Binder) (ps : List Binder) (t : TermTree) : Type 0 where
+  pub has_signature : alone (signature_names ds) x ≡ []
+  pub few : more_parameters x.at (length ps) (signed_type ds known (signed ds x.name)) ≡ []
+  pub body : term_faults (surroundings ds known x.name) (within ps []) t ≡ []
+
 module _ (ds : List Declared) (known : Known) where
   -- the first of some declarations and the others have no faults
   pub first_sound : (e : Declared) (es : List Declared) → decls_faults ds known (e ∷ es) ≡ [] → decl_faults ds known e ≡ []
@@ -91,11 +103,12 @@ module _ (ds : List Declared) (known : Known) where
       let two = none_named (twice (variables bs)) (type_faults (module_scope ds known (names (variables bs))) w) one.1 in
       record { once = two.0; faultless = two.1 }
 
-  -- nor the body of an equation without faults
-  pub equation_sound : (x : Binder) (ps : List Binder) (t : TermTree) → decl_faults ds known (equation x ps t) ≡ [] → term_faults (surroundings ds known x.name) (within ps []) t ≡ []
+  -- nor an equation without faults
+  pub equation_sound : (x : Binder) (ps : List Binder) (t : TermTree) → decl_faults ds known (equation x ps t) ≡ [] → IsFaultlessEquation ds known x ps t
   equation_sound x ps t e =
       let one = none_named (alone (signature_names ds) x) (more_parameters x.at (length ps) (signed_type ds known (signed ds x.name)) ++ term_faults (surroundings ds known x.name) (within ps []) t) e in
-      (none_named (more_parameters x.at (length ps) (signed_type ds known (signed ds x.name))) (term_faults (surroundings ds known x.name) (within ps []) t) one.1).1
+      let two = none_named (more_parameters x.at (length ps) (signed_type ds known (signed ds x.name))) (term_faults (surroundings ds known x.name) (within ps []) t) one.1 in
+      record { has_signature = one.0; few = two.0; body = two.1 }
 
   -- what is declared as an alias is one without faults
   pub alias_sound : (k : ℕ) (es : List Declared) (x : List ℕ) (w : WrittenTree) → decls_faults ds known es ≡ [] → declared_from k es x ≡ Some (other_name w) → IsSoundAlias ds known x w

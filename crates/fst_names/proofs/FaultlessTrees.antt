@@ -15,14 +15,15 @@ use Rattle.fst_scopes.specs.Faults.{too_large, type_faults, unbound}
 use Rattle.fst_scopes.specs.Graph.{tree_after}
 use Rattle.fst_scopes.specs.Scopes.{declared_in, entry_decl, standing_in}
 use Rattle.fst_scopes.specs.Twice.{names}
-use Rattle.fst_scopes.specs.TypeNames.{TypeDecl, data_type, other_name, scope_with, standing_for, type_declared}
+use Rattle.fst_scopes.specs.TypeNames.{TypeDecl, data_type, other_name, scope_with, standing_for}
 use Rattle.fst_scopes.specs.declared.types.TypeEntry.TheVariants as entry
 use Rattle.fst_scopes.proofs.Laws.{no_higher, no_larger, none_named, type_there}
-use Rattle.fst_names.specs.Declarations.{known_in, trees_in}
+use Rattle.fst_declarations.specs.Declarations.{known_in, trees_in}
+use Rattle.fst_declarations.proofs.Laws.{same_declared}
+use Rattle.fst_declarations.specs.ModuleFaults.{module_scope}
+use Rattle.fst_declarations.specs.ModuleNames.{type_names}
+use Rattle.fst_declarations.specs.declared.declarations.Declarations.{Declarations}
 use Rattle.fst_names.specs.Faultless.{IsFaultless, IsReady}
-use Rattle.fst_names.specs.ModuleFaults.{module_scope}
-use Rattle.fst_names.specs.ModuleNames.{type_names}
-use Rattle.fst_names.specs.declared.declarations.Declarations.{Declarations}
 use Rattle.fst_names.proofs.FaultlessLaws.{AreSound, IsSoundAlias, alias_sound, are_sound}
 use Rattle.fst_names.proofs.OnceLaws.{once}
 use Rattle.fst_names.proofs.TreeLaws.{NoneLoops, after, after_all, after_long, after_next, final_stands, next_there, node_within, place_once}
@@ -31,13 +32,9 @@ module _ (ds : List Declared) (d : Declarations) (h : IsFaultless ds d) where
   pub sound : AreSound ds (known_in d)
   sound = are_sound ds (known_in d) h.faultless
 
-  -- the types that the table has are those that are declared
-  same_declared : declared_in d.types ≡ type_declared ds
-  same_declared = λ i x. h.declared.types x i
-
   -- what is in scope in types with these variables, by the table
   pub same_scope : (vars : List (List ℕ)) → scope_with vars (declared_in d.types) (standing_in d.types (trees_in d)) ≡ module_scope ds (known_in d) vars
-  same_scope vars = ap (λ declared. scope_with vars declared (standing_in d.types (trees_in d))) same_declared
+  same_scope vars = ap (λ declared. scope_with vars declared (standing_in d.types (trees_in d))) (same_declared ds d.types h.declared.types)
 
   declared_sound : (y : List ℕ) (v : WrittenTree) → declared_in d.types y ≡ Some (other_name v) → IsSoundAlias ds (known_in d) y v
   declared_sound y v e = alias_sound ds (known_in d) 0 ds y v sound.decls (sym (h.declared.types y) ∙ e)

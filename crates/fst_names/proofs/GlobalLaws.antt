@@ -15,25 +15,23 @@ use Rattle.fst_scopes.specs.Aliases.{Known}
 use Rattle.fst_scopes.specs.Twice.{names}
 use Rattle.fst_scopes.specs.declared.fault.NameFault.TheVariants.{Arity}
 use Rattle.fst_scopes.specs.Measures.{arrows}
-use Rattle.fst_scopes.proofs.Laws.{none_named}
-use Rattle.fst_term_names.specs.TermFaults.{term_faults, within}
 use Rattle.fst_term_names.specs.TermTypes.{written_in}
 use Rattle.fst_term_names.specs.declared.meanings.TypeList.{TypeList}
-use Rattle.fst_names.specs.Declarations.{known_in}
+use Rattle.fst_declarations.specs.Declarations.{known_in}
+use Rattle.fst_declarations.specs.ModuleFaults.{decls_faults, more_parameters, signed, signed_type}
+use Rattle.fst_declarations.specs.ModuleNames.{signature_names}
+use Rattle.fst_declarations.specs.Tables.{signed_of}
+use Rattle.fst_declarations.specs.declared.declarations.Declarations.{Declarations}
+use Rattle.fst_declarations.specs.declared.entries.SignatureEntry.{SignatureEntry}
 use Rattle.fst_names.specs.Faultless.{IsFaultless}
-use Rattle.fst_names.specs.ModuleFaults.{alone, decls_faults, more_parameters, signed, signed_type, surroundings}
-use Rattle.fst_names.specs.ModuleNames.{signature_names}
 use Rattle.fst_names.specs.Modules.{TypeAt, Equation, decls_types, decl_types, equations_from, functions, global_of, global_parts, globals_from, kinds_of, parameter_types, parameters_types, place_of_type, signature_numbers, types_in}
 use Rattle.fst_names.specs.Parts.{HasTypes, IsLonger, IsSoundEquation, Numbered, equation_part, global_from, numbered, types_of_parameters}
 use Rattle.fst_names.specs.Resolved.{kinds}
-use Rattle.fst_names.specs.Tables.{signed_of}
-use Rattle.fst_names.specs.declared.declarations.Declarations.{Declarations}
 use Rattle.fst_names.specs.declared.parts.EquationPart.{EquationPart}
-use Rattle.fst_names.specs.declared.tables.entries.SignatureEntry.{SignatureEntry}
 use Rattle.fst_names.proofs.CountLaws.{parameters_long}
 use Rattle.fst_names.proofs.FamilyLaws.{heads, tails}
 use Rattle.fst_names.proofs.PartLaws.{longer_length, longer_twice, no_longer}
-use Rattle.fst_names.proofs.FaultlessLaws.{AreSound, are_sound, first_sound, others_sound}
+use Rattle.fst_names.proofs.FaultlessLaws.{AreSound, are_sound, equation_sound, first_sound, others_sound}
 
 -- what the types of some declarations stand for
 abbrev stand : List Declared → Known → List Declared → List (Option Tree)
@@ -217,9 +215,8 @@ module _ (ds : List Declared) (known : Known) where
   equations_sound n (alias x w ∷ es) none i e low = equations_sound _ es (others_sound ds known (alias x w) es none) i e low
   equations_sound n (signature x bs w ∷ es) none i e low = equations_sound _ es (others_sound ds known (signature x bs w) es none) i e low
   equations_sound n (equation x ps t ∷ es) none zero e low =
-      let one = none_named (alone (signature_names ds) x) (more_parameters x.at (length ps) (signed_type ds known (signed ds x.name)) ++ term_faults (surroundings ds known x.name) (within ps []) t) (first_sound ds known (equation x ps t) es none) in
-      let two = none_named (more_parameters x.at (length ps) (signed_type ds known (signed ds x.name))) (term_faults (surroundings ds known x.name) (within ps []) t) one.1 in
-      record { has_signature = one.0; few = two.0 }
+      let own = equation_sound ds known x ps t (first_sound ds known (equation x ps t) es none) in
+      record { has_signature = own.has_signature; few = own.few }
   equations_sound n (equation x ps t ∷ es) none (suc i) e low =
       let low' : i < length (equations_from (n + length (written_in t)) es) = omega (arith, low) in
       equations_sound (n + length (written_in t)) es (others_sound ds known (equation x ps t) es none) i e low'

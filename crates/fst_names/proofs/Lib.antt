@@ -1,7 +1,4 @@
 mod QuestionLaws
-mod FirstTables
-mod DeclaredTables
-mod DeclarationLaws
 mod FaultlessLaws
 mod GlobalLaws
 mod RangeLaws

@@ -13,15 +13,15 @@ use Rattle.fst_scopes.specs.declared.fault.NameFault.{NameFault}
 use Rattle.fst_scopes.specs.declared.fault.NameFault.TheVariants.{NoMain}
 use Rattle.fst_scopes.proofs.Laws.{first_append, no_first}
 use Rattle.fst_term_names.specs.declared.meanings.TypeList.{TypeList}
-use Rattle.fst_names.specs.Declarations.{AreDeclarations, known_in}
+use Rattle.fst_declarations.specs.Declarations.{AreDeclarations, known_in}
+use Rattle.fst_declarations.specs.ModuleFaults.{globals, twice_declared, decls_faults, faults_but_main, no_main, module_faults}
+use Rattle.fst_declarations.specs.declared.declarations.Declarations.{Declarations}
+use Rattle.fst_declarations.proofs.Laws.{same_declared}
 use Rattle.fst_names.specs.Faultless.{IsFaultless}
-use Rattle.fst_names.specs.ModuleFaults.{globals, twice_declared, decls_faults, faults_but_main, no_main, module_faults}
 use Rattle.fst_names.specs.Modules.{TypeAt, decls_types, equations_from, global_parts, module_globals, parameters_types}
 use Rattle.fst_names.specs.Parts.{AreParts, IsLonger}
 use Rattle.fst_names.specs.ResolvedModule.{IsResolvedModule}
-use Rattle.fst_names.specs.declared.declarations.Declarations.{Declarations}
 use Rattle.fst_names.specs.declared.parts.Parts.{Parts}
-use Rattle.fst_names.proofs.DeclarationLaws.{same_declared}
 use Rattle.fst_names.proofs.OneModule.{known_same}
 use Rattle.fst_names.proofs.WholeLaws.{IsBuilt, sized}
 

@@ -16,11 +16,11 @@ use Rattle.fst_scopes.specs.Aliases.{Known}
 use Rattle.fst_scopes.specs.Faults.{type_faults}
 use Rattle.fst_scopes.specs.Twice.{names, variables}
 use Rattle.fst_scopes.proofs.Laws.{none_named}
+use Rattle.fst_term_faults.specs.TermFaults.{types_faults, within}
 use Rattle.fst_term_names.specs.CoreTerms.{core_term, from}
-use Rattle.fst_term_names.specs.TermFaults.{types_faults, within}
 use Rattle.fst_term_names.specs.TermTypes.{TypeUse, begins_at, tree_of, written_in}
 use Rattle.fst_term_names.specs.declared.meanings.TypeList.{TypeList}
-use Rattle.fst_names.specs.ModuleFaults.{decl_faults, decls_faults, fields_faults, module_scope, surroundings}
+use Rattle.fst_declarations.specs.ModuleFaults.{decl_faults, decls_faults, fields_faults, module_scope, surroundings}
 use Rattle.fst_names.specs.Modules.{TypeAt, types_in, closed_type, decl_types, decls_types, equations_from, families_from, family_parts, field_types, makers_from, numbers, signature_numbers}
 use Rattle.fst_names.specs.Parts.{AreParts, IsLonger, equation_part, maker_parts, numbered, open_type}
 use Rattle.fst_names.specs.declared.parts.EquationPart.{EquationPart}

@@ -15,8 +15,8 @@ use Rattle.fst_scopes.specs.declared.fault.NameFault.TheVariants.{Arity}
 use Rattle.fst_scopes.specs.Faults.{is_among, unless_there, type_faults}
 use Rattle.fst_scopes.specs.Twice.{names}
 use Rattle.fst_scopes.proofs.Laws.{none_named, place_within}
+use Rattle.fst_term_faults.specs.TermFaults.{Surroundings, types_faults, name_faults, maker_faults, terms_length, within, term_faults, terms_faults, cases_faults, matches_faults}
 use Rattle.fst_term_names.specs.CoreTerms.{Numbers, from, number, name_term, maker_term, core_term, core_terms, core_arms}
-use Rattle.fst_term_names.specs.TermFaults.{Surroundings, types_faults, name_faults, maker_faults, terms_length, within, term_faults, terms_faults, cases_faults, matches_faults}
 use Rattle.fst_term_names.specs.TermTypes.{TypeUse, with_variables, written_in, written_in_all, written_in_arms}
 
 -- what is in scope has numbers: each global has one, and each constructor has those of its data type and its own there, which

@@ -18,14 +18,14 @@ use Rattle.fst_terms.specs.declared.binder.Binder.{Binder}
 use Rattle.fst_scopes.specs.Aliases.{StandsFor, alias as stands_alias, Known, IsKnown}
 use Rattle.fst_scopes.specs.Faults.{unbound, too_large, type_faults}
 use Rattle.fst_scopes.specs.Plain.{IsPlain, AllPlain}
-use Rattle.fst_scopes.specs.Twice.{names, variables, twice}
+use Rattle.fst_scopes.specs.Twice.{names, variables}
 use Rattle.fst_scopes.specs.TypeNames.{TypeDecl, data_type, other_name, declared_from, type_declared, standing_for, scope_with}
 use Rattle.fst_scopes.proofs.Laws.{none_named, closed_plain, no_larger}
-use Rattle.fst_term_names.specs.TermFaults.{Surroundings, types_faults, name_faults, maker_faults, terms_length, within, term_faults, terms_faults, cases_faults, matches_faults}
+use Rattle.fst_term_faults.specs.TermFaults.{Surroundings, types_faults, name_faults, maker_faults, terms_length, within, term_faults, terms_faults, cases_faults, matches_faults}
 use Rattle.fst_term_names.specs.TermTypes.{TypeUse, with_variables, without, written_in, written_in_all, written_in_arms, tree_of, begins_at}
-use Rattle.fst_names.specs.ModuleFaults.{module_scope, signed, vars_of, surroundings, alone, more_parameters, signed_type, looped, fields_faults, decl_faults, decls_faults}
-use Rattle.fst_names.specs.ModuleNames.{signature_names, equation_names}
+use Rattle.fst_declarations.specs.ModuleFaults.{module_scope, signed, vars_of, surroundings, signed_type, fields_faults, decl_faults, decls_faults}
 use Rattle.fst_names.specs.Modules.{TypeAt, field_types, closed_type, decl_types, decls_types, parameter_types, Equation, equations_from, place_of_type, parameters_types, module_types}
+use Rattle.fst_names.proofs.FaultlessLaws.{alias_type_sound, equation_sound, first_sound, others_sound, signature_sound}
 use Rattle.fst_names.proofs.FamilyLaws.{families_there, family_below}
 
 -- ---- lists of which something is said of each item
@@ -235,48 +235,38 @@ module _ (ds : List Declared) (filled : IsModuleFilled ds) (known : Known) (is_k
   use_fine x (without w) sound t e = fine [] w sound t e
 
   -- the type of a signature is sound
-  signature_sound : (x : Binder) (bs : List (Binder × Kind)) (w : WrittenTree) → decl_faults ds known (signature x bs w) ≡ [] → HasBranches w → IsSound (module_scope ds known (names (variables bs))) w
-  signature_sound x bs w e filled = record {
-    filled = filled;
-    faultless = (none_named (twice (variables bs)) (type_faults (module_scope ds known (names (variables bs))) w)
-        (none_named (alone (equation_names ds) x) (twice (variables bs) ++ type_faults (module_scope ds known (names (variables bs))) w) e).1).1;
-  }
+  signed_sound : (x : Binder) (bs : List (Binder × Kind)) (w : WrittenTree) → decl_faults ds known (signature x bs w) ≡ [] → HasBranches w → IsSound (module_scope ds known (names (variables bs))) w
+  signed_sound x bs w e filled = record { filled = filled; faultless = (signature_sound ds known x bs w e).faultless }
 
   -- the types of a declaration
   decl_fine : (d : Declared) → decl_faults ds known d ≡ [] → IsModuleFilled (d ∷ []) → AllByRecursion (StandsFine (families_there ds)) (decl_types ds known d)
   decl_fine (family x ms) e filled =
       all_map (IsSound (module_scope ds known [])) (StandsFine (families_there ds)) (closed_type ds known) (λ w sound. fine [] w sound) (field_types ms) (fields_sound (module_scope ds known []) ms e filled.0.1)
   decl_fine (alias x w) e filled =
-      (fine [] w (record { filled = filled.0; faultless = (none_named (looped known x) (type_faults (module_scope ds known []) w) e).1 }), tt)
-  decl_fine (signature x bs w) e filled = (fine (names (variables bs)) w (signature_sound x bs w e filled.0), tt)
+      (fine [] w (record { filled = filled.0; faultless = alias_type_sound ds known x w e }), tt)
+  decl_fine (signature x bs w) e filled = (fine (names (variables bs)) w (signed_sound x bs w e filled.0), tt)
   decl_fine (equation x ps t) e filled =
       all_map (IsUseSound (surroundings ds known x.name)) (StandsFine (families_there ds)) (λ u. record { at = begins_at u; stands = tree_of (surroundings ds known x.name) u }) (use_fine x.name) (written_in t)
-      (uses_sound (surroundings ds known x.name) (within ps []) t
-      (none_named (more_parameters x.at (length ps) (signed_type ds known (signed ds x.name))) (term_faults (surroundings ds known x.name) (within ps []) t)
-      (none_named (alone (signature_names ds) x)
-      (more_parameters x.at (length ps) (signed_type ds known (signed ds x.name)) ++ term_faults (surroundings ds known x.name) (within ps []) t) e).1).1
-      filled.0)
+      (uses_sound (surroundings ds known x.name) (within ps []) t (equation_sound ds known x ps t e).body filled.0)
 
   decls_fine : (es : List Declared) → decls_faults ds known es ≡ [] → IsModuleFilled es → AllByRecursion (StandsFine (families_there ds)) (decls_types ds known es)
   decls_fine [] e filled = tt
   decls_fine (d ∷ es) e filled =
-      let two = none_named (decl_faults ds known d) (decls_faults ds known es) e in
-      all_append (StandsFine (families_there ds)) (decl_types ds known d) (decls_types ds known es) (decl_fine d two.0 (filled.0, tt)) (decls_fine es two.1 filled.1)
+      all_append (StandsFine (families_there ds)) (decl_types ds known d) (decls_types ds known es) (decl_fine d (first_sound ds known d es e) (filled.0, tt)) (decls_fine es (others_sound ds known d es e) filled.1)
 
   -- the type of a name's signature
   signed_fine : (es : List Declared) → decls_faults ds known es ≡ [] → IsModuleFilled es → (x : List ℕ) (t : Tree) → signed_type ds known (signed es x) ≡ Some t → IsFine (families_there ds) t
   signed_fine [] e filled x t h = absurd (cc h)
-  signed_fine (family y ms ∷ es) e filled x t h = signed_fine es (none_named (decl_faults ds known (family y ms)) (decls_faults ds known es) e).1 filled.1 x t h
-  signed_fine (alias y w ∷ es) e filled x t h = signed_fine es (none_named (decl_faults ds known (alias y w)) (decls_faults ds known es) e).1 filled.1 x t h
+  signed_fine (family y ms ∷ es) e filled x t h = signed_fine es (others_sound ds known (family y ms) es e) filled.1 x t h
+  signed_fine (alias y w ∷ es) e filled x t h = signed_fine es (others_sound ds known (alias y w) es e) filled.1 x t h
   signed_fine (signature y bs w ∷ es) e filled x t h =
-      let two = none_named (decl_faults ds known (signature y bs w)) (decls_faults ds known es) e in
-      pick (bytes_eq x y.name) (signature_sound y bs w two.0 filled.0) (signed_fine es two.1 filled.1 x t) h
+      pick (bytes_eq x y.name) (signed_sound y bs w (first_sound ds known (signature y bs w) es e) filled.0) (signed_fine es (others_sound ds known (signature y bs w) es e) filled.1 x t) h
     where
       pick : (c : Bool) → IsSound (module_scope ds known (names (variables bs))) w → (signed_type ds known (signed es x) ≡ Some t → IsFine (families_there ds) t) →
           signed_type ds known (if c then Some (record { vars = bs; its_type = w }) else signed es x) ≡ Some t → IsFine (families_there ds) t
       pick true sound rest h = fine (names (variables bs)) w sound t h
       pick false sound rest h = rest h
-  signed_fine (equation y ps u ∷ es) e filled x t h = signed_fine es (none_named (decl_faults ds known (equation y ps u)) (decls_faults ds known es) e).1 filled.1 x t h
+  signed_fine (equation y ps u ∷ es) e filled x t h = signed_fine es (others_sound ds known (equation y ps u) es e) filled.1 x t h
 
   -- the types of parameters
   all_parameters_fine : decls_faults ds known ds ≡ [] → (es : List Equation) → AllByRecursion (StandsFine (families_there ds)) (parameters_types ds known es)

@@ -1,11 +1,10 @@
 -- The module that a text without faults stands for fits together.
-use Rattle.std.proofs.Common.{◌≡◌, ◌∙◌, inl, inr, ◌⊎◌, ℕ, suc, ◌+◌, ◌≤◌, ◌<◌, Bool, true, false, All, List, [], ◌∷◌, ◌++◌, length, map, count_by, codes, Option, Some, refl, sym, ap, subst, arith}
-use Rattle.std.specs.Prelude.{unwrap_or, if◌then◌else◌}
+use Rattle.std.proofs.Common.{◌≡◌, ◌∙◌, ℕ, suc, ◌+◌, ◌≤◌, ◌<◌, Bool, true, false, All, List, [], ◌∷◌, ◌++◌, length, map, count_by, codes, Option, Some, refl, sym, ap, subst, arith}
+use Rattle.std.specs.Prelude.{unwrap_or}
 use Rattle.std.specs.List.{AllByRecursion, IsDistinct}
 use Rattle.std.specs.Str.{bytes_eq}
 use Rattle.std.proofs.lemmas.List.{length-append, length-map}
 use Rattle.std.proofs.lemmas.List.Elements.{All-from_recursion}
-use Rattle.fst_base.proofs.Bools.{same_text}
 use Rattle.fst_base.specs.Limits.{most_nodes}
 use Rattle.fst_types.specs.Size.{nodes}
 use Rattle.fst_types.specs.Tree as tree
@@ -21,59 +20,22 @@ use Rattle.fst_terms.specs.TermTree.{TermTree}
 use Rattle.fst_terms.specs.declared.binder.Binder.{Binder}
 use Rattle.fst_terms.specs.declared.global.GlobalEntry.{GlobalEntry}
 use Rattle.fst_scopes.specs.Aliases.{Known, IsKnown}
-use Rattle.fst_scopes.specs.declared.fault.NameFault.{NameFault}
-use Rattle.fst_scopes.specs.declared.fault.NameFault.TheVariants.{NoMain, Unbound}
 use Rattle.fst_scopes.specs.Faults.{is_among}
 use Rattle.fst_scopes.specs.Scopes.{of_name}
-use Rattle.fst_scopes.specs.Twice.{names, twice}
+use Rattle.fst_scopes.specs.Twice.{names}
 use Rattle.fst_scopes.specs.TypeNames.{type_declared}
-use Rattle.fst_scopes.proofs.Laws.{none_named}
+use Rattle.fst_term_faults.specs.TermFaults.{within}
 use Rattle.fst_term_names.specs.CoreTerms.{core_term}
-use Rattle.fst_term_names.specs.TermFaults.{within, term_faults}
 use Rattle.fst_term_names.specs.TermTypes.{written_in}
-use Rattle.fst_names.specs.ModuleFaults.{signed, globals, surroundings, alone, more_parameters, signed_type, decl_faults, decls_faults, twice_declared, faults_but_main, no_main, module_faults}
-use Rattle.fst_names.specs.ModuleNames.{type_names, makers, signature_names, equation_names}
+use Rattle.fst_declarations.specs.ModuleFaults.{signed, surroundings, signed_type, decl_faults, decls_faults, module_faults}
+use Rattle.fst_declarations.specs.ModuleNames.{makers, signature_names, equation_names}
 use Rattle.fst_names.specs.Modules.{TypeAt, field_types, decls_types, parameter_types, families_from, family_parts, signature_numbers, Equation, equations_from, Global, global_parts, numbers, functions, place_of_type, global_of, globals_from, parameters_types, module_types, module_globals}
 use Rattle.fst_names.proofs.CountLaws.{types_there, decls_long, parameters_long, equations_named, few_parts}
+use Rattle.fst_names.proofs.FaultlessLaws.{AreSound, are_sound, equation_sound, first_sound, has_other, is_global, others_sound}
 use Rattle.fst_names.proofs.FamilyLaws.{families_there, families_long, families_in_range, all_makers_named, numbered, heads, tails}
-use Rattle.fst_names.proofs.OnceLaws.{among_next, among_either, own_here, own_next, once, counted_named, just_once}
+use Rattle.fst_names.proofs.OnceLaws.{among_next, own_here, own_next, once, counted_named, just_once}
 use Rattle.fst_names.proofs.RangeLaws.{Fits, bounds_of, long_within, in_range}
 use Rattle.fst_names.proofs.SoundTypes.{IsFine, StandsFine, types_fine}
-
--- ---- faults
-
--- where there is no fault, there is none but that of main, and something is named main
-no_faults : (ds : List Declared) (fs : List NameFault) → no_main ds fs ≡ [] → (fs ≡ []) × (is_among (globals ds) (codes "main") ≡ true)
-no_faults ds [] e = (refl, pick (is_among (globals ds) (codes "main")) e)
-  where
-    pick : (c : Bool) → (if c then [] else NoMain ∷ []) ≡ [] → c ≡ true
-    pick true h = refl
-    pick false h = absurd (cc h)
-no_faults ds (f ∷ fs) e = absurd (cc e)
-
--- a name that isn't alone is among the others
-has_other : (others : List Binder) (x : Binder) → alone others x ≡ [] → is_among (names others) x.name ≡ true
-has_other others x e = pick (is_among (names others) x.name) e
-  where
-    pick : (c : Bool) → (if c then [] else Unbound x.at x.name ∷ []) ≡ [] → c ≡ true
-    pick true h = refl
-    pick false h = absurd (cc h)
-
--- what a module without faults has
-record IsFaultless (ds : List Declared) (known : Known) : Type 0 where
-  decls : decls_faults ds known ds ≡ []
-  makers_once : twice (map (λ (m : Maker). m.name) (makers ds)) ≡ []
-  equations_once : twice (equation_names ds) ≡ []
-  main_there : is_among (globals ds) (codes "main") ≡ true
-
-faultless_parts : (ds : List Declared) (known : Known) → module_faults ds known ≡ [] → IsFaultless ds known
-faultless_parts ds known e =
-    let whole = no_faults ds (faults_but_main ds known) e in
-    let both = none_named (twice_declared ds) (decls_faults ds known ds) whole.0 in
-    let one = none_named (twice (type_names ds)) (twice (map (λ (m : Maker). m.name) (makers ds)) ++ (twice (signature_names ds) ++ twice (equation_names ds))) both.0 in
-    let two = none_named (twice (map (λ (m : Maker). m.name) (makers ds))) (twice (signature_names ds) ++ twice (equation_names ds)) one.1 in
-    let three = none_named (twice (signature_names ds)) (twice (equation_names ds)) two.1 in
-    record { decls = both.1; makers_once = two.0; equations_once = three.1; main_there = whole.1 }
 
 -- ---- types
 
@@ -144,30 +106,6 @@ signature_number top n (equation y ps t ∷ ds) x e low = again (signature_numbe
     again : HasNumber top (n + length (written_in t)) ds x → HasNumber top n (equation y ps t ∷ ds) x
     again h = record { number = h.number; its_own = h.its_own; low = h.low }
 
--- a name with a signature has an equation
-has_equation : (ds : List Declared) (known : Known) (es : List Declared) → decls_faults ds known es ≡ [] → (x : List ℕ) → is_among (names (signature_names es)) x ≡ true →
-    is_among (names (equation_names ds)) x ≡ true
-has_equation ds known [] e x h = absurd (cc h)
-has_equation ds known (family y ms ∷ es) e x h = has_equation ds known es (none_named (decl_faults ds known (family y ms)) (decls_faults ds known es) e).1 x h
-has_equation ds known (alias y w ∷ es) e x h = has_equation ds known es (none_named (decl_faults ds known (alias y w)) (decls_faults ds known es) e).1 x h
-has_equation ds known (signature y bs w ∷ es) e x h = pick (bytes_eq x y.name) refl (has_equation ds known es (none_named (decl_faults ds known (signature y bs w)) (decls_faults ds known es) e).1 x)
-  where
-    own : is_among (names (equation_names ds)) y.name ≡ true
-    own = has_other (equation_names ds) y (none_named (alone (equation_names ds) y) _ (none_named (decl_faults ds known (signature y bs w)) (decls_faults ds known es) e).0).0
-
-    pick : (c : Bool) → bytes_eq x y.name ≡ c → (is_among (names (signature_names es)) x ≡ true → is_among (names (equation_names ds)) x ≡ true) → is_among (names (equation_names ds)) x ≡ true
-    pick true is rest = subst (λ z. is_among (names (equation_names ds)) z ≡ true) (sym (same_text x y.name is)) own
-    pick false is rest = rest (sym (among_next y.name (names (signature_names es)) x is) ∙ h)
-has_equation ds known (equation y ps t ∷ es) e x h = has_equation ds known es (none_named (decl_faults ds known (equation y ps t)) (decls_faults ds known es) e).1 x h
-
--- so each name that stands for a global has an equation
-is_global : (ds : List Declared) (known : Known) → decls_faults ds known ds ≡ [] → (x : List ℕ) → is_among (globals ds) x ≡ true → is_among (names (equation_names ds)) x ≡ true
-is_global ds known e x h = pick (among_either (names (signature_names ds)) (names (equation_names ds)) x h)
-  where
-    pick : (is_among (names (signature_names ds)) x ≡ true) ⊎ (is_among (names (equation_names ds)) x ≡ true) → is_among (names (equation_names ds)) x ≡ true
-    pick (inl g) = has_equation ds known ds e x g
-    pick (inr g) = g
-
 -- ---- globals
 
 -- functions around a body, whose parameters' types are there
@@ -200,8 +138,8 @@ pub record IsBuilt (ds : List Declared) (known : Known) (families : List Family)
   pub globals_are : map global_parts entries ≡ module_globals ds known
 
 module _ (ds : List Declared) (known : Known) (families : List Family) (entries : List GlobalEntry) (types : List Tree) (places : List ℕ) (parts : IsBuilt ds known families entries types places) where
-  sound : IsFaultless ds known
-  sound = faultless_parts ds known parts.faultless
+  sound : AreSound ds known
+  sound = are_sound ds known parts.faultless
 
   -- as many types as stand in the text and as there are parameters
   types_long : length types ≡ length (module_types ds known)
@@ -232,9 +170,7 @@ module _ (ds : List Declared) (known : Known) (families : List Family) (entries 
   -- the number of the type of an equation's signature
   number_low : (x : Binder) (ps : List Binder) (t : TermTree) → decl_faults ds known (equation x ps t) ≡ [] → unwrap_or (of_name (names (signature_names ds)) (signature_numbers 0 ds) x.name) 0 < length types
   number_low x ps t e =
-      let there = has_other (signature_names ds) x
-      (none_named (alone (signature_names ds) x)
-      (more_parameters x.at (length ps) (signed_type ds known (signed ds x.name)) ++ term_faults (surroundings ds known x.name) (within ps []) t) e).0 in
+      let there = has_other (signature_names ds) x (equation_sound ds known x ps t e).has_signature in
       let h = signature_number (length types) 0 ds x.name there (omega (arith, types_count)) in
       subst (λ o. unwrap_or o 0 < length types) (sym h.its_own) h.low
 
@@ -243,9 +179,7 @@ module _ (ds : List Declared) (known : Known) (families : List Family) (entries 
       AllThere (parameter_types (place_of_type (signed ds x.name)) ps (signed_type ds known (signed ds x.name))) → n + length (written_in t) ≤ length types → m + length ps ≤ length types →
       IsInRange (bounds_of (numbers ds) families (length types)) 0 (functions m ps (signed_type ds known (signed ds x.name)) (core_term (numbers ds) (within ps []) n t))
   body_in_range x ps t n m e filled there low top =
-      let faultless = (none_named (more_parameters x.at (length ps) (signed_type ds known (signed ds x.name))) (term_faults (surroundings ds known x.name) (within ps []) t)
-      (none_named (alone (signature_names ds) x)
-      (more_parameters x.at (length ps) (signed_type ds known (signed ds x.name)) ++ term_faults (surroundings ds known x.name) (within ps []) t) e).1).1 in
+      let faultless = (equation_sound ds known x ps t e).body in
       functions_in_range (bounds_of (numbers ds) families (length types)) 0 m (place_of_type (signed ds x.name)) ps (signed_type ds known (signed ds x.name))
       (core_term (numbers ds) (within ps []) n t) there top
       (subst (λ k. IsInRange (bounds_of (numbers ds) families (length types)) k (core_term (numbers ds) (within ps []) n t)) (long_within ps [])
@@ -262,14 +196,14 @@ module _ (ds : List Declared) (known : Known) (families : List Family) (entries 
   entries_in_range n m [] [] e faultless filled there low top = tt
   entries_in_range n m [] (g ∷ gs) e faultless filled there low top = absurd (cc e)
   entries_in_range n m (family x ms ∷ es) gs e faultless filled there low top =
-      entries_in_range (n + length (field_types ms)) m es gs e (none_named (decl_faults ds known (family x ms)) (decls_faults ds known es) faultless).1 filled.1 there (omega (arith, low)) top
+      entries_in_range (n + length (field_types ms)) m es gs e (others_sound ds known (family x ms) es faultless) filled.1 there (omega (arith, low)) top
   entries_in_range n m (alias x w ∷ es) gs e faultless filled there low top =
-      entries_in_range (suc n) m es gs e (none_named (decl_faults ds known (alias x w)) (decls_faults ds known es) faultless).1 filled.1 there (omega (arith, low)) top
+      entries_in_range (suc n) m es gs e (others_sound ds known (alias x w) es faultless) filled.1 there (omega (arith, low)) top
   entries_in_range n m (signature x bs w ∷ es) gs e faultless filled there low top =
-      entries_in_range (suc n) m es gs e (none_named (decl_faults ds known (signature x bs w)) (decls_faults ds known es) faultless).1 filled.1 there (omega (arith, low)) top
+      entries_in_range (suc n) m es gs e (others_sound ds known (signature x bs w) es faultless) filled.1 there (omega (arith, low)) top
   entries_in_range n m (equation x ps t ∷ es) [] e faultless filled there low top = absurd (cc e)
   entries_in_range n m (equation x ps t ∷ es) (g ∷ gs) e faultless filled there low top =
-      let all = none_named (decl_faults ds known (equation x ps t)) (decls_faults ds known es) faultless in
+      let own = first_sound ds known (equation x ps t) es faultless in
       let further = parameters_types ds known (equations_from (n + length (written_in t)) es) in
       let head = heads (global_parts g) (global_of ds known m (record { name = x; parameters = ps; body = t; first = n })) (map global_parts gs)
       (globals_from ds known (m + length ps) (equations_from (n + length (written_in t)) es)) e in
@@ -277,10 +211,10 @@ module _ (ds : List Declared) (known : Known) (families : List Family) (entries 
       (globals_from ds known (m + length ps) (equations_from (n + length (written_in t)) es)) e in
       let long = length-append (own_types x ps) further in
       let params = parameters_long (place_of_type (signed ds x.name)) ps (signed_type ds known (signed ds x.name)) in (
-        subst (λ k. k < length types) (sym (ap (λ (p : Global). p.signature) head)) (number_low x ps t all.0),
+        subst (λ k. k < length types) (sym (ap (λ (p : Global). p.signature) head)) (number_low x ps t own),
         subst (IsInRange (bounds_of (numbers ds) families (length types)) 0) (sym (ap (λ (p : Global). p.body) head))
-            (body_in_range x ps t n m all.0 filled.0 (there_left (own_types x ps) further there) (omega (arith, low)) (omega (arith, top, long, params))),
-        entries_in_range (n + length (written_in t)) (m + length ps) es gs rest all.1 filled.1 (there_right (own_types x ps) further there) (omega (arith, low)) (omega (arith, top, long, params)),
+            (body_in_range x ps t n m own filled.0 (there_left (own_types x ps) further there) (omega (arith, low)) (omega (arith, top, long, params))),
+        entries_in_range (n + length (written_in t)) (m + length ps) es gs rest (others_sound ds known (equation x ps t) es faultless) filled.1 (there_right (own_types x ps) further there) (omega (arith, low)) (omega (arith, top, long, params)),
       )
 
   all_are_fine : AllByRecursion (IsFine (families_there ds)) types

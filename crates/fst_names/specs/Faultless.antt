@@ -9,9 +9,9 @@ use Rattle.fst_terms.specs.ModuleTree.{Declared}
 use Rattle.fst_terms.specs.Naming.{type_of}
 use Rattle.fst_scopes.specs.Graph.{alias_scope}
 use Rattle.fst_scopes.specs.declared.types.TypeEntry.TheVariants as entry
-use Rattle.fst_names.specs.Declarations.{AreDeclarations, known_in}
-use Rattle.fst_names.specs.ModuleFaults.{module_faults}
-use Rattle.fst_names.specs.declared.declarations.Declarations.{Declarations}
+use Rattle.fst_declarations.specs.Declarations.{AreDeclarations, known_in}
+use Rattle.fst_declarations.specs.ModuleFaults.{module_faults}
+use Rattle.fst_declarations.specs.declared.declarations.Declarations.{Declarations}
 
 -- this is what a module declares, and it has no faults
 pub record IsFaultless (ds : List Declared) (d : Declarations) : Type 0 where

@@ -1,11 +1,6 @@
 pub mod Faults
 pub mod Resolved
-pub mod ModuleNames
-pub mod ModuleFaults
 pub mod Modules
-pub mod Tables
-pub mod SignatureScopes
-pub mod Declarations
 pub mod Faultless
 pub mod Parts
 pub mod ResolvedModule

@@ -15,11 +15,12 @@ use Rattle.fst_terms.specs.TermTree.{TermTree}
 use Rattle.fst_scopes.specs.Aliases.{Known}
 use Rattle.fst_scopes.specs.Scopes.{of_name}
 use Rattle.fst_scopes.specs.Twice.{names, variables}
+use Rattle.fst_term_faults.specs.TermFaults.{within}
 use Rattle.fst_term_names.specs.CoreTerms.{Numbers, core_term, from}
-use Rattle.fst_term_names.specs.TermFaults.{within}
 use Rattle.fst_term_names.specs.TermTypes.{written_in, tree_of, begins_at}
-use Rattle.fst_names.specs.ModuleFaults.{Signed, module_scope, signed, signed_type, surroundings}
-use Rattle.fst_names.specs.ModuleNames.{makers, signature_names, equation_names}
+use Rattle.fst_declarations.specs.MakerNumbers.{maker_numbers}
+use Rattle.fst_declarations.specs.ModuleFaults.{Signed, module_scope, signed, signed_type, surroundings}
+use Rattle.fst_declarations.specs.ModuleNames.{makers, signature_names, equation_names}
 use Rattle.fst_names.specs.Resolved.{kinds}
 
 -- a type of a module: at which byte it begins, and what it stands for
@@ -82,19 +83,6 @@ families_from n (equation x ps t ∷ ds) = families_from (n + length (written_in
 abbrev pub family_parts : Family → List ℕ × List (List ℕ × List ℕ)
 family_parts f = (f.name, map (λ (m : code.Maker). (m.name, m.fields.items)) f.makers.items)
 
--- the numbers of some constructors' data type and their own there, from one on
-abbrev pub numbers_from : ℕ → ℕ → List Maker → List (ℕ × ℕ)
-numbers_from k n [] = []
-numbers_from k n (m ∷ ms) = (k, n) ∷ numbers_from k (suc n) ms
-
--- those of all constructors, where so many data types stand before
-abbrev pub maker_numbers : ℕ → List Declared → List (ℕ × ℕ)
-maker_numbers k [] = []
-maker_numbers k (family x ms ∷ ds) = numbers_from k 0 ms ++ maker_numbers (suc k) ds
-maker_numbers k (alias x w ∷ ds) = maker_numbers k ds
-maker_numbers k (signature x bs w ∷ ds) = maker_numbers k ds
-maker_numbers k (equation x ps t ∷ ds) = maker_numbers k ds
-
 -- ---- globals
 
 -- the numbers of the signatures' types, where so many types stand before
@@ -145,11 +133,12 @@ functions n [] o b = b
 functions n (p ∷ ps) (Some (arrow u s t)) b = core.lambda p.at u n p (functions (suc n) ps (Some t) b)
 functions n (p ∷ ps) o b = b
 
--- what a signature says of a global: the kinds of its variables, where its type begins, and this type
+-- the kinds of a signature's variables
 abbrev pub kinds_of : Option Signed → List Kind
 kinds_of (Some s) = kinds s.vars
 kinds_of None = []
 
+-- the byte at which its type begins
 abbrev pub place_of_type : Option Signed → ℕ
 place_of_type (Some s) = place s.its_type
 place_of_type None = 0

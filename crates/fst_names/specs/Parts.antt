@@ -10,11 +10,11 @@ use Rattle.fst_terms.specs.Naming.{type_of, place}
 use Rattle.fst_scopes.specs.Aliases.{Known}
 use Rattle.fst_scopes.specs.Scopes.{of_name}
 use Rattle.fst_scopes.specs.Twice.{names}
+use Rattle.fst_term_faults.specs.TermFaults.{within}
 use Rattle.fst_term_names.specs.CoreTerms.{core_term}
-use Rattle.fst_term_names.specs.TermFaults.{within}
 use Rattle.fst_term_names.specs.declared.meanings.TypeList.{TypeList}
-use Rattle.fst_names.specs.ModuleFaults.{alone, module_scope, more_parameters, signed, signed_type}
-use Rattle.fst_names.specs.ModuleNames.{signature_names}
+use Rattle.fst_declarations.specs.ModuleFaults.{alone, module_scope, more_parameters, signed, signed_type}
+use Rattle.fst_declarations.specs.ModuleNames.{signature_names}
 use Rattle.fst_names.specs.Modules.{TypeAt, Equation, Global, decls_types, equations_from, families_from, family_parts, functions, kinds_of, numbers, parameter_types, place_of_type, signature_numbers}
 use Rattle.fst_names.specs.declared.parts.EquationPart.{EquationPart}
 use Rattle.fst_names.specs.declared.parts.Parts.{Parts}

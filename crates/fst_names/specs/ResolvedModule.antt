@@ -8,7 +8,7 @@ use Rattle.fst_scopes.specs.Aliases.{Known, IsKnown}
 use Rattle.fst_scopes.specs.First.{first_fault}
 use Rattle.fst_scopes.specs.TypeNames.{type_declared}
 use Rattle.fst_scopes.specs.declared.fault.NameFault.{NameFault}
-use Rattle.fst_names.specs.ModuleFaults.{module_faults}
+use Rattle.fst_declarations.specs.ModuleFaults.{module_faults}
 use Rattle.fst_names.specs.Modules.{TypeAt, family_parts, families_from, global_parts, module_globals, module_types}
 
 -- a source without faults stands for a module: its types, with the bytes at which they begin, its data types and its globals;

@@ -3,7 +3,7 @@ ghost use Rattle.fst_scopes.specs.Measures.{arrows};
 ghost use Rattle.fst_names.specs.Modules.{functions, parameter_types};
 ghost use Rattle.fst_names.specs.Parts.{IsLonger};
 
-use crate::numbers::number_of;
+use fst_declarations::number_of;
 use fst_term_names::TypeList;
 use fst_terms::{Binder, Form, Term};
 use fst_types::{Ty, TyForm, copy};
@@ -11,7 +11,6 @@ use std::alloc::{AllocError, Global};
 
 /// Functions around a body, one for each parameter, with the uses of a type's arrows; puts the types in front of these
 /// behind the others, each at the byte where the whole type begins. Recurses once for each parameter.
-
 pub(crate) fn add_functions(
     alloc: Global,
     at: u32,

@@ -1,14 +1,14 @@
 ghost use Rattle.std.specs.Prelude.{◌≡◌, List, Some, IfOk, OnOk, length, map};
 ghost use Rattle.fst_terms.specs.ModuleTree.{Declared};
-ghost use Rattle.fst_names.specs.Declarations.{known_in};
+ghost use Rattle.fst_declarations.specs.Declarations.{known_in};
 ghost use Rattle.fst_names.specs.Faultless.{IsFaultless};
 ghost use Rattle.fst_names.specs.Modules.{decls_types, equations_from, global_parts, module_globals, parameters_types, signature_numbers};
 ghost use Rattle.fst_names.specs.Parts.{HasTypes, IsLonger, IsSoundEquation, equation_part, global_from, numbered, types_of_parameters};
 
-use crate::declarations::Declarations;
 use crate::functions::add_functions;
 use crate::parts::EquationPart;
 use crate::question::kinds_of;
+use fst_declarations::Declarations;
 use fst_scopes::place;
 use fst_term_names::TypeList;
 use fst_terms::GlobalEntry;

@@ -1,18 +1,12 @@
 //! Names turned into numbers: what the names of a question or a module stand for, and its first fault of names and sizes.
 #![tactic(auto)]
 
-mod collect;
-mod declarations;
-mod faults;
 mod functions;
 mod globals;
 mod module;
-mod numbers;
 mod parts;
 mod question;
 mod resolving;
-mod scopes;
-mod tables;
 mod trees;
 
 pub use fst_scopes::{NameFault, first_fault_law};

@@ -4,10 +4,10 @@ ghost use Rattle.fst_terms.specs.ModuleTree.{Declared, decl_tree};
 ghost use Rattle.fst_names.specs.Faultless.{IsFaultless};
 ghost use Rattle.fst_names.specs.ResolvedModule.{IsResolvedModule};
 
-use crate::declarations::Declarations;
 use crate::globals::add_globals;
 use crate::parts::{Parts, parts_of};
 use crate::trees::trees_of;
+use fst_declarations::Declarations;
 use fst_term_names::TypeList;
 use fst_terms::{Decl, Module};
 use std::alloc::{AllocError, Global};

@@ -2,19 +2,18 @@ ghost use Rattle.std.specs.Prelude.{◌≡◌, ◌≤◌, ◌++◌, ◌∷◌, �
 ghost use Rattle.fst_terms.specs.ModuleTree.{Declared, decl_tree, equation, family, maker, alias, signature};
 ghost use Rattle.fst_scopes.specs.Faults.{type_faults};
 ghost use Rattle.fst_scopes.specs.Twice.{AreNames, variables};
+ghost use Rattle.fst_term_faults.specs.TermFaults.{types_faults};
 ghost use Rattle.fst_term_names.specs.CoreTerms.{from};
-ghost use Rattle.fst_term_names.specs.TermFaults.{types_faults};
-ghost use Rattle.fst_names.specs.Declarations.{known_in, trees_in};
+ghost use Rattle.fst_declarations.specs.Declarations.{known_in, trees_in};
+ghost use Rattle.fst_declarations.specs.ModuleFaults.{decl_faults, decls_faults, fields_faults, module_scope, signed, vars_of};
 ghost use Rattle.fst_names.specs.Faultless.{IsFaultless};
-ghost use Rattle.fst_names.specs.ModuleFaults.{decl_faults, decls_faults, fields_faults, module_scope, signed, vars_of};
 ghost use Rattle.fst_names.specs.Modules.{closed_type, field_types, makers_from};
 ghost use Rattle.fst_names.specs.Parts.{AreParts, IsLonger, maker_parts, open_type};
 
-use crate::collect::scope_for;
-use crate::declarations::Declarations;
-use crate::numbers::number_of;
+use fst_declarations::{Declarations, number_of, scope_for};
 use fst_scopes::{NameTable, Names, named, place, variables_of};
-use fst_term_names::{Meanings, Surroundings, TypeList, core_body};
+use fst_term_faults::Surroundings;
+use fst_term_names::{Meanings, TypeList, core_body};
 use fst_terms::{Binder, Decl, SourceMaker, SourceTerm, Term};
 use fst_types::{Family, Kind, Maker, Name, Ty, Written};
 use std::alloc::{AllocError, Global};

@@ -2,10 +2,10 @@ ghost use Rattle.std.specs.Prelude.{◌≡◌, ◌≢◌, ◌≤◌, ◌^◌, []
 ghost use Rattle.fst_types.specs.Order.{IsSorted};
 ghost use Rattle.fst_types.specs.Scoped.{IsScoped};
 ghost use Rattle.fst_type_syntax.specs.Views.{question_tree};
-ghost use Rattle.fst_names.specs.Faults.{question_faults, types_faults};
 ghost use Rattle.fst_scopes.specs.declared.fault.NameFault.TheVariants.{Memory};
 ghost use Rattle.fst_scopes.specs.First.{first_fault, first_from};
 ghost use Rattle.fst_scopes.specs.Twice.{AreNames, names, variables};
+ghost use Rattle.fst_names.specs.Faults.{question_faults, types_faults};
 ghost use Rattle.fst_names.specs.Resolved.{IsResolved, kinds};
 
 use fst_scopes::{NameFault, NameTable, Names, TypeNames, named, note_type, place, variables_of};

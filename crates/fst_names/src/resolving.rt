@@ -7,14 +7,12 @@ ghost use Rattle.fst_scopes.specs.declared.fault.NameFault.TheVariants.{Memory};
 ghost use Rattle.fst_scopes.specs.Faults.{is_among};
 ghost use Rattle.fst_scopes.specs.First.{first_fault};
 ghost use Rattle.fst_scopes.specs.TypeNames.{type_declared};
-ghost use Rattle.fst_names.specs.Declarations.{AreDeclarations};
-ghost use Rattle.fst_names.specs.ModuleFaults.{globals, module_faults, no_main};
+ghost use Rattle.fst_declarations.specs.Declarations.{AreDeclarations};
+ghost use Rattle.fst_declarations.specs.ModuleFaults.{globals, module_faults, no_main};
 ghost use Rattle.fst_names.specs.ResolvedModule.{IsAnswer, IsResolvedModule, OneModuleLaw};
 
-use crate::collect::declarations_of;
-use crate::declarations::Declarations;
-use crate::faults::note_decls;
 use crate::module::module_of;
+use fst_declarations::{Declarations, declarations_of, note_decls};
 use fst_scopes::{NameFault, note};
 use fst_terms::{Module, SourceModule};
 use fst_types::Name;

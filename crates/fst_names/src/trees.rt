@@ -1,10 +1,10 @@
 ghost use Rattle.std.specs.Prelude.{◌≡◌, ◌<◌, List, IfOk, length, replicate};
 ghost use Rattle.fst_terms.specs.ModuleTree.{Declared};
 ghost use Rattle.fst_scopes.specs.Graph.{tree_after};
-ghost use Rattle.fst_names.specs.Declarations.{trees_in};
+ghost use Rattle.fst_declarations.specs.Declarations.{trees_in};
 ghost use Rattle.fst_names.specs.Faultless.{IsFaultless, IsReady};
 
-use crate::declarations::Declarations;
+use fst_declarations::Declarations;
 use fst_scopes::{Names, TypeEntry, named};
 use fst_types::Ty;
 use std::alloc::{AllocError, Global};

@@ -1,3 +1,1 @@
-pub mod Appended
-pub mod BranchLaws
 pub mod StackLaws

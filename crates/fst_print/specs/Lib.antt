@@ -1,5 +1,4 @@
-pub mod Texts
 pub mod Ranks
 pub mod ModuleTexts
 pub mod Stack
-pub mod Adds
+pub mod Unfolds

@@ -1,74 +1,18 @@
--- How modules, and the terms and types in them, are written.
+-- How modules, and the terms in them, are written.
 use Rattle.std.specs.Prelude.{ℕ, ◌==◌, List, [], ◌∷◌, ◌++◌, Bool, true, false, codes, map, encode_utf8, if◌then◌else◌}
 use Rattle.std.specs.Fmt.{signed_decimal}
 use Rattle.std.specs.List.{flat_map}
 use Rattle.std.specs.Str.{byte}
 use Rattle.fst_types.specs.declared.kind.Kind.{Kind}
-use Rattle.fst_types.specs.WrittenTree as written
-use Rattle.fst_types.specs.WrittenTree.{WrittenTree, WrittenBranches, none, branch}
+use Rattle.fst_types.specs.WrittenTree.{WrittenTree}
 use Rattle.fst_terms.specs.declared.binder.Binder.{Binder}
 use Rattle.fst_terms.specs.declared.term.Op.{Op}
 use Rattle.fst_terms.specs.declared.term.Op.TheVariants.{Add, Subtract, Multiply, Equal, Unequal, Less, AtMost, Greater, AtLeast, And, Or}
 use Rattle.fst_terms.specs.TermTree.{TermTree, named, int, bool, char, unit, pair, make, lambda, apply, let_in, split, if_else, case_of, operate, negate, new, send, receive, select, match_with, fork, seq, TermList, no_terms, term, TermArms, no_arms, arm}
 use Rattle.fst_terms.specs.ModuleTree.{Maker, Declared, family, alias, signature, equation}
+use Rattle.fst_type_print.specs.Texts.{arrow_text, kind_text, in_parens, in_parens_if, in_braces, joined_text}
+use Rattle.fst_type_print.specs.WrittenTexts.{written_text, seq_text, atom_text}
 use Rattle.fst_print.specs.Ranks.{or_rank, negation_rank, atom_rank, left_rank, right_rank, is_below, is_no_head}
-use Rattle.fst_print.specs.Texts.{base_text, send_text, receive_text, arrow_text, kind_text, in_parens, in_parens_if, in_braces, joined_text}
-
--- the type is a sequence, a rec or a function: no atomic one
-abbrev pub is_compound : WrittenTree → Bool
-is_compound (written.skip at) = false
-is_compound (written.send at b) = false
-is_compound (written.receive at b) = false
-is_compound (written.select at bs) = false
-is_compound (written.offer at bs) = false
-is_compound (written.seq at s t) = true
-is_compound (written.rec at x t) = true
-is_compound (written.named at x) = false
-is_compound (written.plain at b) = false
-is_compound (written.arrow at u s t) = true
-is_compound (written.pair at s t) = false
-
--- the type is a function
-abbrev pub is_arrow : WrittenTree → Bool
-is_arrow (written.skip at) = false
-is_arrow (written.send at b) = false
-is_arrow (written.receive at b) = false
-is_arrow (written.select at bs) = false
-is_arrow (written.offer at bs) = false
-is_arrow (written.seq at s t) = false
-is_arrow (written.rec at x t) = false
-is_arrow (written.named at x) = false
-is_arrow (written.plain at b) = false
-is_arrow (written.arrow at u s t) = true
-is_arrow (written.pair at s t) = false
-
-abbrev mutual
-  -- a type
-  pub written_text : WrittenTree → List ℕ
-  written_text (written.skip at) = codes "Skip"
-  written_text (written.send at b) = send_text b
-  written_text (written.receive at b) = receive_text b
-  written_text (written.select at bs) = codes "+" ++ in_braces (joined_text (codes ", ") (written_branch_texts bs))
-  written_text (written.offer at bs) = codes "&" ++ in_braces (joined_text (codes ", ") (written_branch_texts bs))
-  written_text (written.seq at s t) = in_parens_if (is_compound s) (written_text s) ++ codes ";" ++ in_parens_if (is_arrow t) (written_text t)
-  written_text (written.rec at x t) = codes "rec " ++ x ++ codes ". " ++ in_parens_if (is_arrow t) (written_text t)
-  written_text (written.named at x) = x
-  written_text (written.plain at b) = base_text b
-  written_text (written.arrow at u s t) = in_parens_if (is_arrow s) (written_text s) ++ arrow_text u ++ written_text t
-  written_text (written.pair at s t) = in_parens (written_text s ++ codes ", " ++ written_text t)
-
-  -- the branches of a choice, each a label and its type
-  pub written_branch_texts : WrittenBranches → List (List ℕ)
-  written_branch_texts none = []
-  written_branch_texts (branch l t bs) = (l ++ codes ": " ++ in_parens_if (is_arrow t) (written_text t)) ∷ written_branch_texts bs
-
--- a type where no function stands without parentheses
-abbrev pub seq_text : WrittenTree → List ℕ
-seq_text t = in_parens_if (is_arrow t) (written_text t)
-
--- a type where an atomic one stands without parentheses
-abbrev pub atom_text : WrittenTree → List ℕ
-atom_text t = in_parens_if (is_compound t) (written_text t)
 
 -- the sign between two terms
 abbrev pub op_text : Op → List ℕ

@@ -5,7 +5,7 @@ use Rattle.fst_terms.specs.ModelView.{terms_of, arms_of}
 use Rattle.fst_print.specs.declared.stack.Piece.{Piece}
 use Rattle.fst_print.specs.declared.stack.Piece.TheVariants.{Text, Term, Arguments, Arms, LaterArms}
 use Rattle.fst_print.specs.ModuleTexts.{term_text, arguments_text, arm_texts}
-use Rattle.fst_print.specs.Texts.{joined_text, separated_text}
+use Rattle.fst_type_print.specs.Texts.{joined_text, separated_text}
 
 -- the text of a piece
 abbrev pub piece_text : Piece → List ℕ

@@ -2,12 +2,11 @@
 
 ghost use Rattle.std.specs.Prelude.{◌≡◌, ◌++◌, codes};
 ghost use Rattle.fst_terms.specs.TermTree as tree;
-ghost use Rattle.fst_print.specs.Adds.{Adds};
+ghost use Rattle.fst_type_print.specs.Adds.{Adds};
 ghost use Rattle.fst_print.specs.ModuleTexts.{applied_text, character_text, names_text, term_text, truth_text};
 
-use crate::pieces::name_text;
-use crate::written::push_atom;
 use fst_terms::Binder;
+use fst_type_print::{name_text, push_atom};
 use fst_types::{Name, Written};
 use std::alloc::AllocError;
 

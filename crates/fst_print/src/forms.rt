@@ -3,17 +3,15 @@
 ghost use Rattle.std.specs.Prelude.{◌++◌, ◌+◌, codes};
 ghost use Rattle.fst_terms.specs.TermTree as tree;
 ghost use Rattle.fst_terms.specs.ModelView.{arms_of, terms_of};
-ghost use Rattle.fst_print.specs.Adds.{Lightens, Stacks, Unfolds};
+ghost use Rattle.fst_print.specs.Unfolds.{Lightens, Stacks, Unfolds};
 ghost use Rattle.fst_print.specs.ModuleTexts.{arm_texts, term_text};
 ghost use Rattle.fst_print.specs.Stack.{arms_weight, form_weight, term_weight};
-ghost use Rattle.fst_print.specs.Texts.{in_parens_if, joined_text};
+ghost use Rattle.fst_type_print.specs.Texts.{in_parens_if, joined_text};
 
-use crate::pieces::name_text;
 use crate::ranks::{is_no_atom, is_no_chain, is_no_head, is_no_left, is_no_right, op_text};
 use crate::stack::{Piece, Stack, push, push_enclosed, push_term, push_text};
-use crate::types::arrow_text;
-use crate::written::push_seq;
 use fst_terms::{Binder, Op, SourceArm, SourceTerm};
+use fst_type_print::{arrow_text, name_text, push_seq};
 use fst_types::{Name, Use, Written};
 use std::alloc::AllocError;
 

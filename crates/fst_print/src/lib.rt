@@ -1,19 +1,15 @@
-//! The texts of types, of words, of refusals and of modules, as a user reads them.
+//! The texts of modules, and with them those of types, of words, of moves and of refusals, as a
+//! user reads them.
 #![tactic(auto)]
 
 mod atoms;
 mod forms;
 mod modules;
-mod pieces;
 mod ranks;
-mod refusals;
 mod stack;
 mod terms;
-mod types;
-mod words;
-mod written;
 
+pub use fst_type_print::{
+    Phrase, Refusal, move_text, refusal_text, side_text, type_text, word_text,
+};
 pub use modules::module_text;
-pub use refusals::{Phrase, Refusal, refusal_text};
-pub use types::type_text;
-pub use words::{side_text, word_text};

@@ -4,16 +4,15 @@ ghost use Rattle.std.specs.String.{string_bytes};
 ghost use Rattle.fst_terms.specs.ModuleTree as tree;
 ghost use Rattle.fst_terms.specs.ModuleTree.{decl_tree, maker};
 ghost use Rattle.fst_terms.specs.ModuleView.{declarations};
-ghost use Rattle.fst_print.specs.Adds.{Adds};
-ghost use Rattle.fst_print.specs.ModuleTexts.{atom_text, binder_kind_text, binders_text, decl_text, maker_text, module_text};
-ghost use Rattle.fst_print.specs.Texts.{joined_text, separated_text};
+ghost use Rattle.fst_type_print.specs.Adds.{Adds};
+ghost use Rattle.fst_type_print.specs.WrittenTexts.{atom_text};
+ghost use Rattle.fst_print.specs.ModuleTexts.{binder_kind_text, binders_text, decl_text, maker_text, module_text};
+ghost use Rattle.fst_type_print.specs.Texts.{joined_text, separated_text};
 
 use crate::atoms::push_names;
-use crate::pieces::name_text;
-use crate::refusals::push_kind;
 use crate::terms::push_term_text;
-use crate::written::{push_atom, push_written};
 use fst_terms::{Binder, Decl, SourceMaker, SourceModule, SourceTerm};
+use fst_type_print::{name_text, push_atom, push_kind, push_written};
 use fst_types::{Kind, Written};
 use std::alloc::{AllocError, Global};
 

@@ -1,10 +1,10 @@
 //! What is still to be written of a term, as a stack.
 
 ghost use Rattle.std.specs.Prelude.{◌≡◌, [], ◌+◌, ◌≤◌, ◌++◌, MatchOption, IfSome, OnOk};
-ghost use Rattle.fst_print.specs.Adds.{Stacks};
+ghost use Rattle.fst_print.specs.Unfolds.{Stacks};
 ghost use Rattle.fst_print.specs.ModuleTexts.{term_text};
 ghost use Rattle.fst_print.specs.Stack.{piece_text, piece_weight, pieces_text, pieces_weight, term_weight};
-ghost use Rattle.fst_print.specs.Texts.{in_parens_if};
+ghost use Rattle.fst_type_print.specs.Texts.{in_parens_if};
 
 use fst_terms::{SourceArm, SourceTerm};
 use std::alloc::AllocError;

@@ -18,7 +18,7 @@ use Rattle.fst_lexer.specs.Classes.{is_digit, is_quote, is_reserved, starts_name
 use Rattle.fst_lexer.specs.Spelling.{IsWordOf, is_capital}
 use Rattle.fst_lexer.proofs.Laws.{digits_alone}
 use Rattle.fst_terms.specs.Naming.{place_of}
-use Rattle.fst_print.specs.Texts.{binder_text, variable_text, name_at}
+use Rattle.fst_type_print.specs.Texts.{binder_text, variable_text, name_at}
 use Rattle.fst_roundtrip.specs.ReadBack.{variable_names}
 use Rattle.std.proofs.lemmas.Bool.{and_parts}
 

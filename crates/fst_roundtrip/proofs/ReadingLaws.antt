@@ -5,7 +5,7 @@ use Rattle.fst_lexer.specs.declared.token.Token.{Token}
 use Rattle.fst_lexer.specs.Spelling.{Word, LinedWord, IsSpelled, nothing, blank, word, word_at, lined_word_at, end_word, HasWords, SpellingLaw}
 use Rattle.fst_reading.specs.Lexeme.{lexeme, lexemes}
 use Rattle.fst_type_syntax.specs.Grammar.{IsType}
-use Rattle.fst_print.specs.Texts.{type_text}
+use Rattle.fst_type_print.specs.Texts.{type_text}
 use Rattle.fst_roundtrip.specs.ReadBack.{ReadBack}
 use Rattle.fst_roundtrip.proofs.Spelled.{word_of, inside, Reads, EndsName}
 use Rattle.fst_roundtrip.proofs.ShownTypes.{ShownType, type_shown}

@@ -9,7 +9,7 @@ use Rattle.fst_terms.specs.TermTree.{TermTree, TermArms, no_arms, arm}
 use Rattle.fst_reading.specs.Lexeme.{Lexeme, Is, IsUpper}
 use Rattle.fst_module_grammar.specs.Grammar as grammar
 use Rattle.fst_module_grammar.specs.Grammar.{bound, IsExpr, AreCases, AreMatches}
-use Rattle.fst_print.specs.Texts.{in_braces}
+use Rattle.fst_type_print.specs.Texts.{in_braces}
 use Rattle.fst_print.specs.ModuleTexts.{names_text}
 use Rattle.fst_roundtrip.proofs.Showable.{IsLowerName, IsUpperName, AreLowerNames}
 use Rattle.fst_roundtrip.proofs.Spelled.{Reads, Any, EndsName, One, one, Two, two, so, both, sign, lower_name, upper_name, spaced, arrow_sign}

@@ -12,7 +12,7 @@ use Rattle.fst_terms.specs.TermTree.{TermTree}
 use Rattle.fst_reading.specs.Lexeme.{Lexeme, Is, IsLower}
 use Rattle.fst_module_grammar.specs.Grammar as grammar
 use Rattle.fst_module_grammar.specs.Grammar.{IsExpr, IsPlain}
-use Rattle.fst_print.specs.Texts.{in_parens}
+use Rattle.fst_type_print.specs.Texts.{in_parens}
 use Rattle.fst_print.specs.ModuleTexts.{truth_text, applied_text}
 use Rattle.fst_roundtrip.proofs.Showable.{IsLowerName, IsShowableType}
 use Rattle.fst_roundtrip.proofs.Spelled.{Reads, Any, EndsName, One, one, Two, two, so, both, word, reserved, sign, lower_name, parts_of_pair}

@@ -17,7 +17,7 @@ use Rattle.fst_terms.specs.declared.binder.Binder.{Binder}
 use Rattle.fst_reading.specs.Lexeme.{Lexeme, Is, IsLower, IsUpper, IsOne}
 use Rattle.fst_type_syntax.specs.Grammar as grammar
 use Rattle.fst_type_syntax.specs.Grammar.{IsUse, IsPrekind, IsBinder, IsBinders}
-use Rattle.fst_print.specs.Texts.{use_text, prekind_text, joined_text}
+use Rattle.fst_type_print.specs.Texts.{use_text, prekind_text, joined_text}
 use Rattle.fst_print.specs.ModuleTexts.{binder_kind_text}
 use Rattle.fst_roundtrip.proofs.Showable.{IsLowerName}
 use Rattle.fst_roundtrip.proofs.Spelled.{Reads, Any, EndsName, One, one, Two, two, so, both, sign, number_one, lower_name, upper_name, spaced}

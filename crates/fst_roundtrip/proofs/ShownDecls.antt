@@ -14,8 +14,9 @@ use Rattle.fst_reading.specs.Lexeme.{Lexeme, Is}
 use Rattle.fst_type_syntax.specs.Grammar.{IsType}
 use Rattle.fst_module_grammar.specs.Grammar as grammar
 use Rattle.fst_module_grammar.specs.Grammar.{bound, IsDecl, IsExpr}
-use Rattle.fst_print.specs.Texts.{joined_text}
-use Rattle.fst_print.specs.ModuleTexts.{written_text, names_text, term_text, maker_text, binder_kind_text, binders_text, decl_text}
+use Rattle.fst_type_print.specs.Texts.{joined_text}
+use Rattle.fst_type_print.specs.WrittenTexts.{written_text}
+use Rattle.fst_print.specs.ModuleTexts.{names_text, term_text, maker_text, binder_kind_text, binders_text, decl_text}
 use Rattle.fst_roundtrip.proofs.Showable.{IsUpperName, IsShowableDecl}
 use Rattle.fst_roundtrip.proofs.Spelled.{Reads, Any, EndsName, One, one, Two, two, so, both, upper_name, spaced}
 use Rattle.fst_roundtrip.proofs.ShownWords.{Shown, blank_before, sign_blank, word_blank}

@@ -13,7 +13,7 @@ use Rattle.fst_reading.specs.Lexeme.{Lexeme, Is, IsLower, IsUpper}
 use Rattle.fst_type_syntax.specs.Grammar.{IsArrow, IsSeq, IsAtom as IsTypeAtom}
 use Rattle.fst_module_grammar.specs.Grammar as grammar
 use Rattle.fst_module_grammar.specs.Grammar.{bound, IsExpr, IsUnary, IsApp, IsAtom}
-use Rattle.fst_print.specs.Texts.{arrow_text}
+use Rattle.fst_type_print.specs.Texts.{arrow_text}
 use Rattle.fst_roundtrip.proofs.Showable.{IsLowerName, IsUpperName}
 use Rattle.fst_roundtrip.proofs.Spelled.{Reads, Any, EndsName, One, one, Two, two, so, both, sign, lower_name, upper_name, spaced, arrow_reads}
 use Rattle.fst_roundtrip.proofs.ShownWords.{blank_before, blank_behind, word_blank, sign_blank}

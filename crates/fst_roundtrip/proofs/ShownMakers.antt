@@ -7,7 +7,7 @@ use Rattle.fst_terms.specs.ModuleTree.{Maker}
 use Rattle.fst_reading.specs.Lexeme.{Lexeme, Is, IsUpper}
 use Rattle.fst_module_grammar.specs.Grammar as grammar
 use Rattle.fst_module_grammar.specs.Grammar.{bound, AreMakers}
-use Rattle.fst_print.specs.Texts.{joined_text}
+use Rattle.fst_type_print.specs.Texts.{joined_text}
 use Rattle.fst_print.specs.ModuleTexts.{maker_text}
 use Rattle.fst_roundtrip.proofs.Showable.{IsShowableMaker}
 use Rattle.fst_roundtrip.proofs.Spelled.{Reads, Any, EndsName, One, one, Two, two, so, both, upper_name}

@@ -8,7 +8,7 @@ use Rattle.fst_terms.specs.TermTree.{TermTree}
 use Rattle.fst_reading.specs.Lexeme.{Lexeme, Is}
 use Rattle.fst_module_grammar.specs.Grammar as grammar
 use Rattle.fst_module_grammar.specs.Grammar.{IsExpr, IsOr, IsAnd, IsCmp, IsSum, IsProd, IsUnary, IsApp, IsHead, IsAtom, IsPlain}
-use Rattle.fst_print.specs.Texts.{in_parens, in_parens_if}
+use Rattle.fst_type_print.specs.Texts.{in_parens, in_parens_if}
 use Rattle.fst_print.specs.Ranks.{whole_rank, atom_rank, rank, is_below, is_no_head}
 use Rattle.fst_roundtrip.specs.Unplaced.{unplaced_term}
 use Rattle.fst_roundtrip.proofs.Spelled.{Reads, Any, EndsName, One, one, Two, two, so, both, sign}

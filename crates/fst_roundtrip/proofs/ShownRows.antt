@@ -10,7 +10,8 @@ use Rattle.fst_reading.specs.Lexeme.{Lexeme, Is, IsLower}
 use Rattle.fst_type_syntax.specs.Grammar.{IsAtom}
 use Rattle.fst_module_grammar.specs.Grammar as grammar
 use Rattle.fst_module_grammar.specs.Grammar.{bound, AreNames, AreApplied, AreTypes}
-use Rattle.fst_print.specs.ModuleTexts.{atom_text, names_text, applied_text}
+use Rattle.fst_type_print.specs.WrittenTexts.{atom_text}
+use Rattle.fst_print.specs.ModuleTexts.{names_text, applied_text}
 use Rattle.fst_roundtrip.proofs.Showable.{IsLowerName, IsShowableType, AreLowerNames}
 use Rattle.fst_roundtrip.proofs.Spelled.{Reads, Any, EndsName, One, one, Two, two, so, both, sign, lower_name}
 use Rattle.fst_roundtrip.proofs.ShownWords.{Shown, blank_before}

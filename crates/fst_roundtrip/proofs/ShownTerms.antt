@@ -7,8 +7,9 @@ use Rattle.fst_terms.specs.TermTree as term
 use Rattle.fst_terms.specs.TermTree.{TermTree, TermList, no_terms, TermArms, no_arms, arm}
 use Rattle.fst_module_grammar.specs.Grammar as grammar
 use Rattle.fst_module_grammar.specs.Grammar.{IsExpr, IsAtom, IsHead}
-use Rattle.fst_print.specs.Texts.{in_parens_if, joined_text}
-use Rattle.fst_print.specs.ModuleTexts.{seq_text, atom_text, term_text, arguments_text, arm_texts}
+use Rattle.fst_type_print.specs.Texts.{in_parens_if, joined_text}
+use Rattle.fst_type_print.specs.WrittenTexts.{seq_text, atom_text}
+use Rattle.fst_print.specs.ModuleTexts.{term_text, arguments_text, arm_texts}
 use Rattle.fst_roundtrip.proofs.Showable.{IsShowable, AreShowable, AreShowableCases, AreShowableMatches}
 use Rattle.fst_roundtrip.proofs.Spelled.{Reads, EndsName}
 use Rattle.fst_roundtrip.proofs.ShownWords.{reshown}

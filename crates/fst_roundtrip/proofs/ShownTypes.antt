@@ -12,8 +12,8 @@ use Rattle.fst_lexer.specs.Spelling.{is_sign, ends_sign}
 use Rattle.fst_reading.specs.Lexeme.{Lexeme, Is, IsLower, IsUpper, start}
 use Rattle.fst_type_syntax.specs.Grammar as grammar
 use Rattle.fst_type_syntax.specs.Grammar.{IsBase, IsArrow, IsType, IsSeq, IsAtom, IsAlts, IsAlt}
-use Rattle.fst_print.specs.Texts.{base_text, send_text, receive_text, arrow_text, in_braces, in_parens, in_parens_if, joined_text}
-use Rattle.fst_print.specs.ModuleTexts.{is_compound, is_arrow, written_text, written_branch_texts, seq_text, atom_text}
+use Rattle.fst_type_print.specs.Texts.{base_text, send_text, receive_text, arrow_text, in_braces, in_parens, in_parens_if, joined_text}
+use Rattle.fst_type_print.specs.WrittenTexts.{is_compound, is_arrow, written_text, written_branch_texts, seq_text, atom_text}
 use Rattle.fst_roundtrip.proofs.Showable.{IsLowerName, IsUpperName, IsShowableType, AreShowableBranches}
 use Rattle.fst_roundtrip.proofs.Spelled.{Reads, Any, EndsName, One, one, Two, two, so, both, reserved, sign_before, sign, lower_name, upper_name, spaced, rec_word, arrow_reads, base_reads, parts_of_pair}
 use Rattle.fst_roundtrip.proofs.ShownWords.{Shown, reshown}

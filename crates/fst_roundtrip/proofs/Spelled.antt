@@ -16,7 +16,7 @@ use Rattle.fst_lexer.specs.Spelling as spelling
 use Rattle.fst_lexer.specs.Spelling.{Word, LinedWord, IsWordOf, IsWord, IsSpelled, StandsApart, is_sign, ends_before, ends_name, ends_number, ends_sign}
 use Rattle.fst_reading.specs.Lexeme.{Lexeme, Is, IsLower, IsUpper, IsOne}
 use Rattle.fst_type_syntax.specs.Grammar.{IsBase, int, bool, char, unit, IsArrow, many, once}
-use Rattle.fst_print.specs.Texts.{base_text, arrow_text, in_parens}
+use Rattle.fst_type_print.specs.Texts.{base_text, arrow_text, in_parens}
 
 -- a lexeme as a word: its kind and its text
 abbrev pub word_of : Lexeme → Word

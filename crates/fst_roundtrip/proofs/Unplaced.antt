@@ -8,8 +8,9 @@ use Rattle.fst_types.specs.WrittenTree.{WrittenTree, WrittenBranches, none, bran
 use Rattle.fst_terms.specs.declared.binder.Binder.{Binder}
 use Rattle.fst_terms.specs.TermTree.{TermTree, named, int, bool, char, unit, pair, make, lambda, apply, let_in, split, if_else, case_of, operate, negate, new, send, receive, select, match_with, fork, seq, TermList, no_terms, term, TermArms, no_arms, arm}
 use Rattle.fst_terms.specs.ModuleTree.{Maker, Declared, family, alias, signature, equation}
-use Rattle.fst_print.specs.Texts.{in_parens, in_parens_if, in_braces, joined_text, arrow_text}
-use Rattle.fst_print.specs.ModuleTexts.{is_compound, is_arrow, written_text, written_branch_texts, atom_text, op_text, names_text, applied_text, term_text, arguments_text, arm_texts, maker_text, binder_kind_text, binders_text, decl_text, module_text}
+use Rattle.fst_type_print.specs.Texts.{in_parens, in_parens_if, in_braces, joined_text, arrow_text}
+use Rattle.fst_type_print.specs.WrittenTexts.{is_compound, is_arrow, written_text, written_branch_texts, atom_text}
+use Rattle.fst_print.specs.ModuleTexts.{op_text, names_text, applied_text, term_text, arguments_text, arm_texts, maker_text, binder_kind_text, binders_text, decl_text, module_text}
 use Rattle.fst_roundtrip.specs.Unplaced.{unplaced_type, unplaced_branches, unplaced_binder, unplaced_term, unplaced_terms, unplaced_arms, unplaced_maker, unplaced_decl}
 use Rattle.fst_print.specs.Ranks.{or_rank, negation_rank, atom_rank, rank, make_rank, left_rank, right_rank, is_below, is_no_head}
 

@@ -19,8 +19,8 @@ use Rattle.fst_terms.specs.Arranged.{insert, insert_by}
 use Rattle.fst_terms.specs.Naming as naming
 use Rattle.fst_terms.specs.Naming.{Scope, within, type_of}
 use Rattle.fst_types.specs.Named.{IsNamedWithin, AllNamedWithin}
-use Rattle.fst_print.specs.Texts.{in_parens, in_parens_if, in_braces, joined_text, arrow_text, in_parens_before_semicolon, in_parens_before_arrow, binder_text, variable_text, name_at, text_under, branch_texts}
-use Rattle.fst_print.specs.ModuleTexts.{is_compound, is_arrow, written_text, written_branch_texts}
+use Rattle.fst_type_print.specs.Texts.{in_parens, in_parens_if, in_braces, joined_text, arrow_text, in_parens_before_semicolon, in_parens_before_arrow, binder_text, variable_text, name_at, text_under, branch_texts}
+use Rattle.fst_type_print.specs.WrittenTexts.{is_compound, is_arrow, written_text, written_branch_texts}
 use Rattle.fst_roundtrip.specs.ReadBack.{IsNoArrow, IsWritable, AreWritable, variable_names, family_named}
 use Rattle.fst_roundtrip.proofs.Showable.{IsShowableType, AreShowableBranches}
 use Rattle.fst_roundtrip.proofs.Numbered.{binder_names, binder_lower, variable_lower, binder_place, no_binder, variable_place, upper_no_binder, upper_no_variable, name_in, name_place}

@@ -14,7 +14,7 @@ use Rattle.fst_reading.specs.Lexeme.{lexemes}
 use Rattle.fst_type_syntax.specs.Grammar.{IsType}
 use Rattle.fst_terms.specs.Naming.{Scope, place_of, type_of}
 use Rattle.fst_types.specs.Named.{IsNamedWithin}
-use Rattle.fst_print.specs.Texts.{in_parens_before_arrow, type_text, variable_text}
+use Rattle.fst_type_print.specs.Texts.{in_parens_before_arrow, type_text, variable_text}
 
 -- the type is no function
 abbrev pub IsNoArrow : Tree → Type 0

@@ -17,8 +17,7 @@ use Rattle.fst_module_grammar.specs.Grammar.{Lined, lexemes_of}
 use Rattle.fst_module_grammar.specs.DeclReading.{decl_whole}
 use Rattle.fst_module_grammar.specs.ModuleReading.{in_line, next_lines, last_of, in_front, first_decl}
 use Rattle.fst_syntax.specs.Views.{lines_of, line_length, counted, line_read, line_fault, GivesLine}
-use Rattle.fst_module_grammar.proofs.DeclReads.{reads_decl_whole}
-use Rattle.fst_module_grammar.proofs.Lines.{unlined_append, cut, last_is}
+use Rattle.fst_module_grammar.proofs.Laws.{reads_decl_whole, unlined_append, cut, last_is}
 use Rattle.fst_base.proofs.Choices.{choose_true, choose_false}
 
 -- the lexemes of a line and those behind it, and how many the line has

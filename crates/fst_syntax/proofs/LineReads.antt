@@ -8,8 +8,7 @@ use Rattle.fst_base.specs.Choice.{choose}
 use Rattle.fst_module_grammar.specs.Grammar.{Lined}
 use Rattle.fst_module_grammar.specs.ModuleReading.{in_line, next_lines, cons_decl, first_decl, module_within, module_at}
 use Rattle.fst_syntax.specs.Views.{lines_of, counted, line_read}
-use Rattle.fst_module_grammar.proofs.Lines.{lines_are}
-use Rattle.fst_module_grammar.proofs.ModuleFound.{ok_same, err_same}
+use Rattle.fst_module_grammar.proofs.Laws.{lines_are, ok_same, err_same}
 use Rattle.fst_base.proofs.Choices.{choose_true, choose_false}
 
 -- what was read before, and what is still read

@@ -15,7 +15,7 @@ use Rattle.fst_module_grammar.specs.ModuleReading.{module_at}
 use Rattle.fst_module_grammar.specs.Derives.{line_lexeme, line_lexemes, line_place, AnswersModule}
 use Rattle.fst_syntax.specs.Views.{lines_of, line_read, line_fault, GivesLine}
 use Rattle.fst_syntax.proofs.LineReads.{with_decls, one_line, goes_on, stops, ended, lines_drop, lines_count}
-use Rattle.fst_module_grammar.proofs.OneModule.{module_read, module_stopped}
+use Rattle.fst_module_grammar.proofs.Laws.{module_read, module_stopped}
 
 rest_is : {A : Type 0} (n : ℕ) (xs : List A) → take (length xs - n) (drop n xs) ≡ drop n xs
 rest_is n xs = take_all (length xs - n) (drop n xs) (omega (arith, length-drop n xs))

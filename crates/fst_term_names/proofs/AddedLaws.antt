@@ -3,7 +3,7 @@ use Rattle.std.proofs.Common.{◌≡◌, ◌∙◌, ◌+◌, List, ◌++◌, len
 use Rattle.std.specs.Prelude.{OnOk, Result}
 use Rattle.std.proofs.lemmas.List.{length-append, length-map, map-append}
 use Rattle.fst_term_names.specs.CodeMeanings.{AreAdded}
-use Rattle.fst_term_names.specs.TermFaults.{Surroundings}
+use Rattle.fst_term_faults.specs.TermFaults.{Surroundings}
 use Rattle.fst_term_names.specs.TermTypes.{TypeUse, begins_at, tree_of}
 use Rattle.fst_term_names.specs.declared.meanings.TypeList.{TypeList}
 

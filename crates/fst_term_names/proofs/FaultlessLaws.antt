@@ -5,7 +5,7 @@ use Rattle.fst_terms.specs.Naming.{Scope}
 use Rattle.fst_scopes.specs.declared.fault.NameFault.{NameFault}
 use Rattle.fst_scopes.specs.Faults.{type_faults}
 use Rattle.fst_scopes.proofs.Laws.{none_named}
-use Rattle.fst_term_names.specs.TermFaults.{types_faults}
+use Rattle.fst_term_faults.specs.TermFaults.{types_faults}
 
 -- of some things without faults each has none
 pub all_none : {A : Type 0} (faults : A → List NameFault) (all : List A → List NameFault) → ((x : A) (xs : List A) → all (x ∷ xs) ≡ faults x ++ all xs) →

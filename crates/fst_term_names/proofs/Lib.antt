@@ -1,7 +1,3 @@
-mod Heights
-mod TermLaws
-mod NotedLaws
-mod AlikeLaws
 mod TypeSound
 mod AddedLaws
 mod MadeLaws
@@ -9,4 +5,3 @@ mod FaultlessLaws
 mod NamingLaws
 mod MeaningLaws
 mod PartLaws
-pub mod Laws

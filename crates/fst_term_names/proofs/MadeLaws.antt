@@ -4,7 +4,7 @@ use Rattle.std.proofs.lemmas.List.{length-append, map-append, take_more, take_al
 use Rattle.fst_types.specs.WrittenTree.{WrittenTree}
 use Rattle.fst_term_names.specs.CodeMeanings.{AreAdded}
 use Rattle.fst_term_names.specs.CoreTerms.{from}
-use Rattle.fst_term_names.specs.TermFaults.{Surroundings}
+use Rattle.fst_term_faults.specs.TermFaults.{Surroundings}
 use Rattle.fst_term_names.specs.TermTypes.{TypeUse, with_variables}
 use Rattle.fst_term_names.specs.declared.meanings.TypeList.{TypeList}
 use Rattle.fst_term_names.proofs.AddedLaws.{both_added}

@@ -8,7 +8,7 @@ use Rattle.fst_terms.specs.Naming.{Scope, type_of}
 use Rattle.fst_scopes.specs.declared.names.Names as names
 use Rattle.fst_scopes.specs.Faults.{type_faults}
 use Rattle.fst_scopes.specs.Scopes.{scope_around}
-use Rattle.fst_term_names.specs.CodeSurroundings.{scope_of}
+use Rattle.fst_term_faults.specs.CodeSurroundings.{scope_of}
 use Rattle.fst_term_names.specs.declared.meanings.Meanings.{Meanings}
 use Rattle.fst_scopes.proofs.Laws.{trees_long}
 use Rattle.fst_term_names.proofs.TypeSound.{type_known, type_low}

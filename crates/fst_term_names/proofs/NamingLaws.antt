@@ -4,7 +4,7 @@ use Rattle.fst_types.specs.WrittenTree.{WrittenTree}
 use Rattle.fst_terms.specs.CoreTree as core
 use Rattle.fst_terms.specs.Naming.{place_of}
 use Rattle.fst_term_names.specs.CoreTerms.{Numbers, from, name_term, number}
-use Rattle.fst_term_names.specs.TermFaults.{name_faults}
+use Rattle.fst_term_faults.specs.TermFaults.{name_faults}
 
 -- where it is no fault it is that of a global
 pub global_there : (locals globals : List (List ℕ)) (at : ℕ) (x : List ℕ) (ws : List WrittenTree) → name_faults locals globals at x ws ≡ [] → (ws ≡ [] → place_of locals x ≡ None) → place_of globals x ≡ None → ⊥

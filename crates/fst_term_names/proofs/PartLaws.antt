@@ -12,13 +12,15 @@ use Rattle.fst_terms.specs.declared.source_steps.SourceStep.{SourceStep}
 use Rattle.fst_terms.specs.declared.source_steps.SourceStep.TheVariants.{Operate, Apply}
 use Rattle.fst_terms.specs.declared.term.SourceArm.{SourceArm}
 use Rattle.fst_scopes.proofs.Laws.{none_named}
+use Rattle.fst_term_faults.specs.TermFaults.{Surroundings, cases_faults, maker_faults, matches_faults, term_faults, terms_faults, within}
 use Rattle.fst_term_names.specs.CodeMeanings.{AreAdded}
 use Rattle.fst_term_names.specs.CoreTerms.{Numbers, core_arms, core_term, core_terms}
-use Rattle.fst_term_names.specs.TermFaults.{Surroundings, cases_faults, maker_faults, matches_faults, term_faults, terms_faults, within}
 use Rattle.fst_term_names.specs.TermTypes.{TypeUse, written_in, written_in_all, written_in_arms}
 use Rattle.fst_term_names.specs.declared.meanings.TypeList.{TypeList}
 use Rattle.fst_term_names.proofs.FaultlessLaws.{all_none}
 use Rattle.fst_term_names.proofs.MadeLaws.{AreMade, all_made, all_used, made_added, made_are}
+-- the variables of an arm can be left, and what was around is left then
+pub use Rattle.fst_term_faults.proofs.Laws.{within_long, within_left}
 
 -- a term, as it is
 abbrev pub itself : CoreTree → CoreTree

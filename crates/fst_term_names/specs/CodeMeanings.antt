@@ -1,8 +1,9 @@
 -- What the names in an equation stand for, and what is put behind the types of a module, by what the code keeps of them.
 use Rattle.std.specs.Prelude.{◌≡◌, ◌+◌, ◌++◌, List, length, map, Some}
-use Rattle.fst_term_names.specs.CodeSurroundings.{numbers_of, surroundings_of}
+use Rattle.fst_term_faults.specs.CodeSurroundings.{surroundings_of}
+use Rattle.fst_term_faults.specs.TermFaults.{Surroundings}
+use Rattle.fst_term_names.specs.CodeNumbers.{numbers_of}
 use Rattle.fst_term_names.specs.CoreTerms.{Numbers}
-use Rattle.fst_term_names.specs.TermFaults.{Surroundings}
 use Rattle.fst_term_names.specs.TermTypes.{TypeUse, begins_at, tree_of}
 use Rattle.fst_term_names.specs.declared.meanings.Meanings.{Meanings}
 use Rattle.fst_term_names.specs.declared.meanings.TypeList.{TypeList}

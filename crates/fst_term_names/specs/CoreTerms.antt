@@ -5,7 +5,7 @@ use Rattle.fst_terms.specs.CoreTree as core
 use Rattle.fst_terms.specs.CoreTree.{CoreTree, CoreList, CoreArms}
 use Rattle.fst_terms.specs.Naming.{place_of}
 use Rattle.fst_terms.specs.TermTree.{TermTree, named, int, bool, char, unit, pair, make, lambda, apply, let_in, split, if_else, case_of, operate, negate, new, send, receive, select, match_with, fork, seq, TermList, no_terms, term, TermArms, no_arms, arm}
-use Rattle.fst_term_names.specs.TermFaults.{within}
+use Rattle.fst_term_faults.specs.TermFaults.{within}
 use Rattle.fst_term_names.specs.TermTypes.{written_in}
 
 -- what the names of globals and constructors stand for: the number of a global is its place; a constructor has the number of

@@ -1,6 +1,5 @@
-pub mod TermFaults
 pub mod TermTypes
 pub mod CoreTerms
-pub mod CodeSurroundings
+pub mod CodeNumbers
 pub mod TreesFacts
 pub mod CodeMeanings

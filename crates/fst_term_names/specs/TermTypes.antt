@@ -5,7 +5,7 @@ use Rattle.fst_types.specs.WrittenTree.{WrittenTree}
 use Rattle.fst_terms.specs.Naming as naming
 use Rattle.fst_terms.specs.Naming.{type_of}
 use Rattle.fst_terms.specs.TermTree.{TermTree, named, int, bool, char, unit, pair, make, lambda, apply, let_in, split, if_else, case_of, operate, negate, new, send, receive, select, match_with, fork, seq, TermList, no_terms, term, TermArms, no_arms, arm}
-use Rattle.fst_term_names.specs.TermFaults.{Surroundings}
+use Rattle.fst_term_faults.specs.TermFaults.{Surroundings}
 
 -- a type in a term, which may have the variables of the signature in it, or none, where a channel is made
 pub data TypeUse : Type 0 where

@@ -1,36 +1,15 @@
 ghost use Rattle.std.specs.Prelude.{◌≡◌, ◌++◌, [], Some, IfOk, OnOk, length, map};
-ghost use Rattle.fst_scopes.specs.First.{first_from};
+ghost use Rattle.fst_term_faults.specs.TermFaults.{term_faults, within};
 ghost use Rattle.fst_term_names.specs.CodeMeanings.{numbers_in, scope_in};
-ghost use Rattle.fst_term_names.specs.CodeSurroundings.{surroundings_of};
 ghost use Rattle.fst_term_names.specs.CoreTerms.{core_term};
-ghost use Rattle.fst_term_names.specs.TermFaults.{term_faults, within};
 ghost use Rattle.fst_term_names.specs.TermTypes.{begins_at, tree_of, written_in};
 
-use crate::binding::enter_all;
 use crate::core_terms::core_term;
 use crate::meanings::{Meanings, TypeList};
-use crate::surroundings::Surroundings;
-use crate::terms::note_term;
 use fst_locals::Locals;
-use fst_scopes::NameFault;
+use fst_term_faults::enter_all;
 use fst_terms::{Binder, SourceTerm, Term};
 use std::alloc::{AllocError, Global};
-
-/// Notes the faults of the body of an equation with these parameters, of which later ones hide earlier ones.
-pub fn note_body(
-    alloc: Global,
-    parameters: &[Binder],
-    body: &SourceTerm,
-    around: &Surroundings<'_>,
-    least: &mut Option<NameFault>,
-) -> Result<(), AllocError>
-    ensures { OnOk result (least.new ≡ first_from least.old
-        (term_faults (surroundings_of around.now) (within parameters.now []) body.now)) }
-{
-    let mut locals = Locals::new(alloc);
-    enter_all(alloc, parameters, &mut locals)?;
-    note_term(alloc, body, around, &mut locals, least)
-}
 
 /// The body of an equation with these parameters, with numbers in place of names, where it has no fault of names and sizes.
 /// The types in it are put behind the others in order of text. Want of memory comes also where a number has more than 32 bits.

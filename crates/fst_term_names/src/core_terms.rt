@@ -3,15 +3,16 @@ ghost use Rattle.fst_terms.specs.ModelCoreView.{core_arms_of, cores_of};
 ghost use Rattle.fst_terms.specs.ModelView.{arms_of, terms_of};
 ghost use Rattle.fst_terms.specs.SourceAround.{has_first, second, wrap};
 ghost use Rattle.fst_terms.specs.TermTree.{TermTree};
+ghost use Rattle.fst_term_faults.specs.TermFaults.{matches_faults, term_faults, terms_faults, within};
 ghost use Rattle.fst_term_names.specs.CodeMeanings.{AreAdded, numbers_in, scope_in};
 ghost use Rattle.fst_term_names.specs.CoreTerms.{core_arms, core_term, core_terms};
-ghost use Rattle.fst_term_names.specs.TermFaults.{matches_faults, term_faults, terms_faults, within};
 ghost use Rattle.fst_term_names.specs.TermTypes.{begins_at, tree_of, written_in, written_in_all, written_in_arms};
 
-use crate::binding::{copy_binder, copy_binders, enter_all, leave_all};
+use crate::copies::{copy_binder, copy_binders};
 use crate::meanings::{Meanings, TypeList};
 use crate::naming::{add_closed_type, add_open_type, maker_term, name_term};
 use fst_locals::Locals;
+use fst_term_faults::{enter_all, leave_all};
 use fst_terms::{
     Arm, Binder, Form, SourceArm, SourceForm, SourceStep, SourceTerm, Term, pop_source_step,
     source_spine_of,
@@ -120,7 +121,7 @@ fn core_under_both(
 
 // The arm with numbers in place of names.
 #[cycle(core)]
-#[tactic(auto, using(crate::proofs::TermLaws::within_long, crate::proofs::TermLaws::within_left))]
+#[tactic(auto, using(crate::proofs::PartLaws::within_long, crate::proofs::PartLaws::within_left))]
 fn core_arm(
     alloc: Global,
     arm: &SourceArm,
@@ -152,7 +153,7 @@ fn core_arm(
 
 // Some terms with numbers in place of names, one behind the other.
 #[cycle(core)]
-#[tactic(auto, using(crate::proofs::Heights::terms_height_at))]
+#[tactic(auto, using(fst_term_faults::proofs::Laws::terms_height_at))]
 fn core_terms(
     alloc: Global,
     terms: &[SourceTerm],
@@ -177,7 +178,7 @@ fn core_terms(
 
 // Some arms with numbers in place of names, one behind the other.
 #[cycle(core)]
-#[tactic(auto, using(crate::proofs::Heights::arms_height_at))]
+#[tactic(auto, using(fst_term_faults::proofs::Laws::arms_height_at))]
 fn core_arms(
     alloc: Global,
     arms: &[SourceArm],

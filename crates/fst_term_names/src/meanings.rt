@@ -1,8 +1,8 @@
 ghost use Rattle.std.specs.Prelude.{◌≡◌, ◌≤◌, ◌^◌, [], ℕ, List, IsSome, length, unwrap_or};
-ghost use Rattle.fst_term_names.specs.CodeSurroundings.{scope_of, trees_of};
+ghost use Rattle.fst_term_faults.specs.CodeSurroundings.{scope_of, trees_of};
 ghost use Rattle.fst_term_names.specs.TreesFacts.{trees_prop};
 
-use crate::surroundings::Surroundings;
+use fst_term_faults::Surroundings;
 use fst_types::Ty;
 
 /// The types of a module, one behind the other, and the bytes at which they begin.

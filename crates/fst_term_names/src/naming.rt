@@ -4,9 +4,9 @@ ghost use Rattle.fst_terms.specs.ModelCoreView.{cores_of};
 ghost use Rattle.fst_terms.specs.Naming.{place, place_of, type_of};
 ghost use Rattle.fst_scopes.specs.Faults.{type_faults};
 ghost use Rattle.fst_scopes.specs.Scopes.{recs_of, scope_around, types_of, vars_of};
+ghost use Rattle.fst_term_faults.specs.TermFaults.{maker_faults, name_faults, types_faults};
 ghost use Rattle.fst_term_names.specs.CodeMeanings.{AreAdded, numbers_in, scope_in};
 ghost use Rattle.fst_term_names.specs.CoreTerms.{from, maker_term, name_term};
-ghost use Rattle.fst_term_names.specs.TermFaults.{maker_faults, name_faults, types_faults};
 ghost use Rattle.fst_term_names.specs.TermTypes.{with_variables, without};
 
 use crate::meanings::{Meanings, TypeList};

@@ -4,7 +4,9 @@ ghost use Rattle.std.specs.Prelude.{◌∷◌, IsTrue};
 ghost use Rattle.fst_types.specs.ModelView.{branches_of};
 ghost use Rattle.fst_types.specs.Scoped.{IsScoped, AllScoped};
 ghost use Rattle.fst_types.specs.Order.{IsSorted, AreSorted, EachChoiceBelow};
-ghost use Rattle.fst_kinds.specs.WellFormed.{IsSession};
+ghost use Rattle.fst_types.specs.declared.kind.Kind.{Kind};
+ghost use Rattle.fst_kinds.specs.WellFormed.{IsSession, IsWellFormed};
+ghost use Rattle.fst_equiv.specs.Comparison.{AreFormed};
 
 use fst_kinds::kind_of;
 use fst_types::{
@@ -176,6 +178,20 @@ pub(crate) fn is_session(alloc: Global, t: &Ty, vars: &[Kind]) -> bool
         Ok(kind) => kind.prekind == Prekind::Session,
         Err(_) => false,
     }
+}
+
+/// Whether a type is well formed where its variables have these kinds.
+fn has_kind(alloc: Global, t: &Ty, vars: &[Kind]) -> bool
+    ensures { IsTrue result → (k : Kind) × IsWellFormed vars.now t.now k }
+{
+    sound(t, 0) && kind_of(alloc, t, vars).is_ok()
+}
+
+/// Whether two types are well formed where their variables have these kinds.
+pub(crate) fn are_formed(alloc: Global, t: &Ty, u: &Ty, vars: &[Kind]) -> bool
+    ensures { IsTrue result → AreFormed t.now u.now }
+{
+    has_kind(alloc, t, vars) && has_kind(alloc, u, vars)
 }
 
 /// The unfolding of a `rec` without free recursion variables; any other type is copied.

@@ -1,6 +1,7 @@
 //! Types of as many nodes as are allowed, in one chain: these take most of the stack, and `rt try` has too little of it.
 
 use crate::building::{ty, ty_around, unfolded, unfolded_within_limit};
+use crate::comparisons::{compared, comparison_text};
 use crate::equivalence::{asked, translated, verdict_text};
 use crate::kinds::kind;
 use crate::moves::left_behind;
@@ -10,7 +11,9 @@ use fst_kinds::contractive;
 use fst_lts::{StepFault, agree_to, dual, labels, residual, step, step_within_limit, terminated};
 use fst_print::word_text;
 use fst_tables::{each_line, fields, no_row, word};
-use fst_types::{Label, Scope, Ty, TyForm, UnfoldFault, copy, same, size, substitute};
+use fst_types::{
+    Label, Scope, Ty, TyForm, UnfoldFault, copy, instance_size, instantiate, same, size, substitute,
+};
 use std::alloc::{AllocError, Global};
 use std::test::Fail;
 
@@ -180,6 +183,62 @@ fn written_out_row(alloc: Global, given: &str) -> Result<String, Fail> {
 #[test]
 fn deep_types_with_variables_fit_the_stack(rt: HostRuntime) -> Result<(), Fail> {
     each_line(rt.alloc(), WRITTEN_OUT, written_out_row)
+}
+
+// Signs in front of a variable and behind it, and how often; as often they stand around what is put for the variable. How
+// many nodes the instance has, whether that was foretold, and whether the signs stand there twice as often.
+const INSTANCES: &str = "\
+; ¦ s ¦ 2047 = 8189 true true
+;s ¦ ¦ 2047 = 8189 true true
+r ¦ ¦ 4095 = 8191 true true
+- ¦ ¦ 2047 = 8189 true true
+_ ¦ ¦ 2047 = 8189 true true";
+
+fn instance_row(alloc: Global, given: &str) -> Result<String, Fail> {
+    let fields = fields(alloc, given)?;
+    let [front, back, times] = fields.as_slice() else {
+        return Err(no_row());
+    };
+    let times = times.parse::<usize>()?;
+    let t = chained(alloc, front, back, times, "a")?;
+    let args = [chained(alloc, front, back, times, "!")?];
+    let instance = instantiate(alloc, &t, &args)?;
+    let nodes = size(&instance);
+    let is_foretold = instance_size(&t, &args) == nodes;
+    let wanted = chained(alloc, front, back, times.saturating_mul(2), "!")?;
+    let is_wanted = same(&instance, &wanted);
+    Ok(format!(in alloc; "{nodes} {is_foretold} {is_wanted}")?)
+}
+
+#[test]
+fn deep_instances_fit_the_stack(rt: HostRuntime) -> Result<(), Fail> {
+    each_line(rt.alloc(), INSTANCES, instance_row)
+}
+
+// Signs in front of one part and of another and behind them, and how often; the two parts; how the two types compare. Those of the
+// last two rows have 4,097 nodes each.
+const COMPARISONS: &str = "\
+,i ¦ ¦ 2047 ¦ ! ¦ ^ = word !Int left
+, ¦ i ¦ 2047 ¦ ! ¦ ^ = word !Int left
+>i ¦ ¦ 2047 ¦ i ¦ h = shape
+o ¦ i ¦ 2047 ¦ ! ¦ ;s! = yes
+- ¦ ¦ 2048 ¦ ! ¦ ! = yes
+- ¦ ¦ 2048 ¦ ! ¦ ^ = too large";
+
+fn comparison_row(alloc: Global, given: &str) -> Result<String, Fail> {
+    let fields = fields(alloc, given)?;
+    let [front, back, times, left, right] = fields.as_slice() else {
+        return Err(no_row());
+    };
+    let times = times.parse::<usize>()?;
+    let t = chained(alloc, front, back, times, left)?;
+    let u = chained(alloc, front, back, times, right)?;
+    Ok(comparison_text(alloc, &compared(alloc, &t, &u, 1))?)
+}
+
+#[test]
+fn deep_comparisons_fit_the_stack(rt: HostRuntime) -> Result<(), Fail> {
+    each_line(rt.alloc(), COMPARISONS, comparison_row)
 }
 
 /// A type under so many `rec`s.

@@ -4,6 +4,8 @@
 #[cfg(test)]
 mod building;
 #[cfg(test)]
+mod comparisons;
+#[cfg(test)]
 mod deep;
 #[cfg(test)]
 mod equivalence;

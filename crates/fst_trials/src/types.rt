@@ -3,7 +3,9 @@
 use crate::building::{ty, unfolded};
 use fst_base::MOST_NODES;
 use fst_tables::{each_line, fields, no_row};
-use fst_types::{Scope, Ty, copy, same, size, substitute, substituted_size};
+use fst_types::{
+    Scope, Ty, copy, instance_size, instantiate, same, size, substitute, substituted_size,
+};
 use std::alloc::{AllocError, Global};
 use std::test::Fail;
 
@@ -100,4 +102,51 @@ fn binders_stand_for_types_or_for_nothing(rt: HostRuntime) -> Result<(), Fail> {
     let within = Scope::Under(&open, &under_outer);
     assert!(rt; puts(alloc, &within, "+0;1r;01", "+r;!;0r;?0;r;?0r;0r;!;0r;?0")?);
     Ok(())
+}
+
+// The codes of a type, of the types for the first variables, and of the instance. How many nodes the instance has, counted
+// and foretold, and whether it is this.
+const INSTANCES: &str = "\
+a ¦ r;!0 ,ia ¦ r;!0 = 4 4 true
+b ¦ r;!0 ,ia ¦ ,ia = 3 3 true
+c ¦ r;!0 ,ia ¦ c = 1 1 true
+z ¦ r;!0 ,ia ¦ z = 1 1 true
+a ¦ ¦ a = 1 1 true
+s ¦ ! ¦ s = 1 1 true
+! ¦ ? ¦ ! = 1 1 true
+@ ¦ ? ¦ @ = 1 1 true
+i ¦ ! ¦ i = 1 1 true
+n ¦ ! ¦ n = 1 1 true
+0 ¦ ! ¦ 0 = 1 1 true
+;a? ¦ r;!0 ,ia ¦ ;r;!0? = 6 6 true
+;ba ¦ r;!0 ,ia ¦ ;,iar;!0 = 8 8 true
+r;!;a0 ¦ r;!0 ,ia ¦ r;!;r;!00 = 9 9 true
+rr;a;01 ¦ r;!0 ,ia ¦ rr;r;!0;01 = 10 10 true
+-a ¦ r;!0 ,ia ¦ -r;!0 = 6 6 true
++a&0a ¦ r;!0 ,ia ¦ +r;!0&0r;!0 = 15 15 true
+>b,ia ¦ r;!0 ,ia ¦ >,ia,ir;!0 = 10 10 true
+oab ¦ r;!0 ,ia ¦ or;!0,ia = 8 8 true
+r+0s ¦ r;!0 ,ia ¦ r+0s = 6 6 true
+;a;bc ¦ b a ¦ ;b;ac = 5 5 true
+,aa ¦ ,aa ¦ ,,aa,aa = 7 7 true";
+
+fn instance_row(alloc: Global, given: &str) -> Result<String, Fail> {
+    let fields = fields(alloc, given)?;
+    let [code, codes, wanted] = fields.as_slice() else {
+        return Err(no_row());
+    };
+    let t = ty(alloc, code)?;
+    let mut args = Vec::new(alloc);
+    for code in codes.split_whitespace() {
+        args.push(ty(alloc, code)?)?;
+    }
+    let instance = instantiate(alloc, &t, &args)?;
+    let (nodes, foretold) = (size(&instance), instance_size(&t, &args));
+    let is_wanted = same(&instance, &ty(alloc, wanted)?);
+    Ok(format!(in alloc; "{nodes} {foretold} {is_wanted}")?)
+}
+
+#[test]
+fn types_stand_for_the_variables_of_a_signature(rt: HostRuntime) -> Result<(), Fail> {
+    each_line(rt.alloc(), INSTANCES, instance_row)
 }

@@ -2,7 +2,7 @@ use Rattle.std.proofs.Common.{◌∙◌, ap, sym, subst, length, take}
 use Rattle.std.proofs.lemmas.Iterator.Adapters.{YieldsList-from_vec}
 use Rattle.std.proofs.lemmas.Iterator.Consumers.{YieldsList-turn, YieldsList-end}
 use Rattle.std.proofs.lemmas.List.{length_push}
-use Rattle.fst_names.specs.Declarations.{known_in}
+use Rattle.fst_declarations.specs.Declarations.{known_in}
 use Rattle.fst_names.specs.Modules.{equations_from, globals_from}
 use Rattle.fst_names.proofs.FaultlessLaws.{are_sound}
 use Rattle.fst_names.proofs.GlobalLaws.{AreAdded, all_added, equation_at, has_types, part_added, part_sound, types_counted}

@@ -1,5 +1,5 @@
 use Rattle.std.proofs.Common.{length, take}
-use Rattle.fst_names.specs.Declarations.{known_in}
+use Rattle.fst_declarations.specs.Declarations.{known_in}
 use Rattle.fst_names.specs.Modules.{equations_from}
 use Rattle.fst_names.proofs.GlobalLaws.{AreAdded}
 use Rattle.fst_names.proofs.globals.add_globals.Given as goal

@@ -1,5 +1,5 @@
 use Rattle.std.proofs.Common.{subst}
-use Rattle.fst_names.specs.Declarations.{known_in}
+use Rattle.fst_declarations.specs.Declarations.{known_in}
 use Rattle.fst_names.specs.Parts.{AreParts}
 use Rattle.fst_names.proofs.ModuleLaws.{built, is_resolved}
 use Rattle.fst_names.proofs.WholeLaws.{whole, few}

@@ -1,6 +1,6 @@
 use Rattle.std.proofs.Common.{refl}
 use Rattle.fst_terms.specs.ModuleTree.{alias}
-use Rattle.fst_names.specs.Declarations.{known_in}
+use Rattle.fst_declarations.specs.Declarations.{known_in}
 use Rattle.fst_names.proofs.FaultlessLaws.{alias_type_sound}
 use Rattle.fst_names.proofs.PartLaws.{alias_added, parts_added}
 use Rattle.fst_names.proofs.parts.add_alias.Goals as goal

@@ -1,6 +1,6 @@
 use Rattle.std.proofs.Common.{map, take}
 use Rattle.fst_terms.specs.ModuleTree.{decl_tree}
-use Rattle.fst_names.specs.Declarations.{known_in}
+use Rattle.fst_declarations.specs.Declarations.{known_in}
 use Rattle.fst_names.proofs.PartLaws.{next_added, next_sound}
 use Rattle.fst_names.proofs.parts.add_decls.Goals as goal
 

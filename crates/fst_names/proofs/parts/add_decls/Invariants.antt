@@ -1,7 +1,7 @@
 use Rattle.std.proofs.Common.{◌≡◌, [], drop, map, take}
 use Rattle.fst_terms.specs.ModuleTree.{decl_tree}
-use Rattle.fst_names.specs.Declarations.{known_in}
-use Rattle.fst_names.specs.ModuleFaults.{decls_faults}
+use Rattle.fst_declarations.specs.Declarations.{known_in}
+use Rattle.fst_declarations.specs.ModuleFaults.{decls_faults}
 use Rattle.fst_names.specs.Parts.{AreParts}
 use Rattle.fst_names.proofs.parts.add_decls.Given as goal
 

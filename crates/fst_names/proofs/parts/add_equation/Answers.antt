@@ -1,8 +1,8 @@
 use Rattle.std.proofs.Common.{◌∙◌, [], refl}
 use Rattle.fst_terms.specs.ModuleTree.{equation}
-use Rattle.fst_term_names.specs.TermFaults.{within}
+use Rattle.fst_term_faults.specs.TermFaults.{within}
 use Rattle.fst_term_names.specs.TermTypes.{written_in}
-use Rattle.fst_names.specs.Declarations.{known_in}
+use Rattle.fst_declarations.specs.Declarations.{known_in}
 use Rattle.fst_names.proofs.FaultlessTrees.{all_there}
 use Rattle.fst_names.proofs.EquationLaws.{body_longer, body_sound, body_term}
 use Rattle.fst_names.proofs.PartLaws.{equation_added, parts_added}

@@ -1,6 +1,6 @@
 use Rattle.std.proofs.Common.{map, refl}
 use Rattle.fst_terms.specs.ModuleTree.{family, maker}
-use Rattle.fst_names.specs.Declarations.{known_in}
+use Rattle.fst_declarations.specs.Declarations.{known_in}
 use Rattle.fst_names.proofs.PartLaws.{family_added, parts_added}
 use Rattle.fst_names.proofs.parts.add_family.Goals as goal
 

@@ -1,5 +1,5 @@
 use Rattle.std.proofs.Common.{◌∙◌}
-use Rattle.fst_names.specs.Declarations.{known_in}
+use Rattle.fst_declarations.specs.Declarations.{known_in}
 use Rattle.fst_names.proofs.PartLaws.{field_numbered, field_sound}
 use Rattle.fst_names.proofs.parts.add_fields.Goals as goal
 

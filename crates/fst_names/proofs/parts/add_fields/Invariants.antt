@@ -1,4 +1,4 @@
-use Rattle.fst_names.specs.Declarations.{known_in}
+use Rattle.fst_declarations.specs.Declarations.{known_in}
 use Rattle.fst_names.proofs.PartLaws.{AreNumbered}
 use Rattle.fst_names.proofs.parts.add_fields.Given as goal
 

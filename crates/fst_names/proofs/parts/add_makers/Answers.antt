@@ -1,4 +1,4 @@
-use Rattle.fst_names.specs.Declarations.{known_in}
+use Rattle.fst_declarations.specs.Declarations.{known_in}
 use Rattle.fst_names.proofs.PartLaws.{maker_made, maker_sound}
 use Rattle.fst_names.proofs.parts.add_makers.Goals as goal
 

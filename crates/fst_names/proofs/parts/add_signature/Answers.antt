@@ -1,6 +1,6 @@
 use Rattle.std.proofs.Common.{◌∙◌, refl}
 use Rattle.fst_terms.specs.ModuleTree.{signature}
-use Rattle.fst_names.specs.Declarations.{known_in}
+use Rattle.fst_declarations.specs.Declarations.{known_in}
 use Rattle.fst_names.proofs.FaultlessLaws.{signature_sound}
 use Rattle.fst_names.proofs.PartLaws.{parts_added, signature_added}
 use Rattle.fst_names.proofs.parts.add_signature.Goals as goal

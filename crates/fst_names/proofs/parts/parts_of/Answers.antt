@@ -1,6 +1,6 @@
 use Rattle.std.proofs.Common.{map}
 use Rattle.fst_terms.specs.ModuleTree.{decl_tree}
-use Rattle.fst_names.specs.Declarations.{known_in}
+use Rattle.fst_declarations.specs.Declarations.{known_in}
 use Rattle.fst_names.proofs.FaultlessTrees.{sound}
 use Rattle.fst_names.proofs.PartLaws.{no_parts}
 use Rattle.fst_names.proofs.parts.parts_of.Goals as goal

@@ -2,9 +2,9 @@ use Rattle.std.proofs.Common.{◌≡◌, ◌∙◌, ◌<◌, ap, map, refl, sym,
 use Rattle.fst_terms.specs.Count.{module_count, part_limit}
 use Rattle.fst_terms.specs.ModuleTree.{decl_tree}
 use Rattle.fst_scopes.specs.First.{first_fault, first_from}
-use Rattle.fst_names.specs.Declarations.{AreDeclarations, known_in}
+use Rattle.fst_declarations.specs.Declarations.{AreDeclarations, known_in}
+use Rattle.fst_declarations.specs.ModuleFaults.{decls_faults, faults_but_main, module_faults, twice_declared}
 use Rattle.fst_names.specs.Faultless.{IsFaultless}
-use Rattle.fst_names.specs.ModuleFaults.{decls_faults, faults_but_main, module_faults, twice_declared}
 use Rattle.fst_names.proofs.ModuleLaws.{all_noted, any_known, none_first}
 use Rattle.fst_names.proofs.resolving.module_or_fault.Goals as goal
 

@@ -2,7 +2,7 @@ use Rattle.std.proofs.Common.{◌≡◌, ◌++◌, drop, map}
 use Rattle.std.specs.Prelude.{codes}
 use Rattle.std.specs.String.{string_bytes}
 use Rattle.fst_print.specs.ModuleTexts.{binder_kind_text}
-use Rattle.fst_print.specs.Texts.{separated_text}
+use Rattle.fst_type_print.specs.Texts.{separated_text}
 use Rattle.fst_print.proofs.modules.push_later_binders.Given as goal
 
 abbrev pub invariant-loop-binder : goal.invariant-loop-binder

@@ -2,7 +2,7 @@ use Rattle.std.proofs.Common.{◌≡◌, ◌++◌, drop, map}
 use Rattle.std.specs.Prelude.{codes}
 use Rattle.std.specs.String.{string_bytes}
 use Rattle.fst_print.specs.ModuleTexts.{maker_text}
-use Rattle.fst_print.specs.Texts.{separated_text}
+use Rattle.fst_type_print.specs.Texts.{separated_text}
 use Rattle.fst_terms.specs.ModuleTree.{maker}
 use Rattle.fst_print.proofs.modules.push_makers.Given as goal
 

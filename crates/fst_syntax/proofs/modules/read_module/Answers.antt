@@ -3,7 +3,7 @@ use Rattle.std.proofs.lemmas.List.{map-append}
 use Rattle.std.proofs.lemmas.Result.{err_from_is_err_and}
 use Rattle.fst_terms.specs.ModuleTree.{decl_tree}
 use Rattle.fst_syntax.proofs.ModuleAnswers.{refused, further, finished}
-use Rattle.fst_module_grammar.proofs.ModuleFacts.{read_filled, read_few}
+use Rattle.fst_module_grammar.proofs.Laws.{read_filled, read_few}
 use Rattle.fst_syntax.proofs.modules.read_module.Goals as goal
 
 pub returns-in_err-decl : goal.returns-in_err-decl

@@ -5,15 +5,15 @@ use Rattle.fst_terms.specs.TermTree.{arms_height, term_height}
 use Rattle.fst_terms.specs.declared.term.SourceArm.{SourceArm}
 use Rattle.fst_scopes.specs.Faults.{type_faults}
 use Rattle.fst_scopes.proofs.Laws.{none_named}
+use Rattle.fst_term_faults.specs.TermFaults.{cases_faults, maker_faults, matches_faults, term_faults, terms_faults, terms_length, within}
+use Rattle.fst_term_faults.proofs.Laws.{arms_height_at, terms_height_at}
+use Rattle.fst_term_faults.proofs.Laws.{length_of}
 use Rattle.fst_term_names.specs.CodeMeanings.{AreAdded, numbers_in, scope_in}
 use Rattle.fst_term_names.specs.CoreTerms.{core_term}
-use Rattle.fst_term_names.specs.TermFaults.{cases_faults, maker_faults, matches_faults, term_faults, terms_faults, terms_length, within}
 use Rattle.fst_term_names.specs.TermTypes.{written_in}
 use Rattle.fst_term_names.proofs.AddedLaws.{are_added, both_added}
-use Rattle.fst_term_names.proofs.Heights.{arms_height_at, terms_height_at}
 use Rattle.fst_term_names.proofs.MadeLaws.{one_made}
 use Rattle.fst_term_names.proofs.PartLaws.{all_arms, all_arms_added, all_terms, all_terms_added, arm_as, arm_none, arm_types, as_arm, inner_none, itself, no_cases, second_none, term_none, wrap_types}
-use Rattle.fst_term_names.proofs.TermLaws.{length_of}
 use Rattle.fst_term_names.proofs.core_terms.+core.Goals as goal
 
 -- ---- two terms

@@ -1,7 +1,7 @@
 use Rattle.std.proofs.Common.{◌∙◌, ◌∷◌, ◌++◌, [], Some, ap, map}
 use Rattle.fst_terms.specs.Naming.{type_of}
+use Rattle.fst_term_faults.specs.CodeSurroundings.{surroundings_of}
 use Rattle.fst_term_names.specs.CodeMeanings.{scope_in}
-use Rattle.fst_term_names.specs.CodeSurroundings.{surroundings_of}
 use Rattle.fst_term_names.specs.TermTypes.{without}
 use Rattle.fst_term_names.proofs.AddedLaws.{are_added, both_ok}
 use Rattle.fst_term_names.proofs.MeaningLaws.{scope_is, trees_counted, type_sound}

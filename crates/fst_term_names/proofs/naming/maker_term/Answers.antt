@@ -1,6 +1,7 @@
 use Rattle.std.proofs.Common.{arith}
 use Rattle.std.proofs.lemmas.Grind.{common_steps}
-use Rattle.fst_term_names.specs.CodeSurroundings.{numbers_of, surroundings_of}
+use Rattle.fst_term_faults.specs.CodeSurroundings.{surroundings_of}
+use Rattle.fst_term_names.specs.CodeNumbers.{numbers_of}
 use Rattle.fst_term_names.proofs.naming.maker_term.Goals as goal
 
 pub unreachable-requires : goal.unreachable-requires

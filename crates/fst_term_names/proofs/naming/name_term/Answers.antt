@@ -1,7 +1,8 @@
 use Rattle.std.proofs.Common.{◌≡◌, ◌==◌, ◌∙◌, [], None, ap, length, sym, true}
 use Rattle.fst_terms.specs.Naming.{place_of}
+use Rattle.fst_term_faults.specs.CodeSurroundings.{surroundings_of}
 use Rattle.fst_term_names.specs.CodeMeanings.{numbers_in}
-use Rattle.fst_term_names.specs.CodeSurroundings.{numbers_of, surroundings_of}
+use Rattle.fst_term_names.specs.CodeNumbers.{numbers_of}
 use Rattle.fst_term_names.proofs.NamingLaws.{global_is, global_there}
 use Rattle.fst_term_names.proofs.naming.name_term.Goals as goal
 use Rattle.fst_term_names.proofs.naming.name_term.Goals.{then-is_empty+in_default, else-is_empty}

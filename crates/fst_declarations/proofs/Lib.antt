@@ -1,0 +1,4 @@
+mod FirstTables
+mod DeclaredTables
+mod DeclarationLaws
+pub mod Laws

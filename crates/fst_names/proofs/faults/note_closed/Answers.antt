@@ -1,5 +1,0 @@
-use Rattle.fst_names.proofs.DeclarationLaws.{counted_long}
-use Rattle.fst_names.proofs.faults.note_closed.Goals as goal
-
-pub note_type-requires : goal.note_type-requires
-note_type-requires c = rw c.deref.ensures.value (counted_long c.args.declarations.now)

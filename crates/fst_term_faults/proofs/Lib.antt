@@ -1,0 +1,5 @@
+mod Heights
+mod TermLaws
+mod NotedLaws
+mod AlikeLaws
+pub mod Laws

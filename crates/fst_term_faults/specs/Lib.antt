@@ -1,0 +1,2 @@
+pub mod TermFaults
+pub mod CodeSurroundings

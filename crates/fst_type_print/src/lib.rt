@@ -1,0 +1,16 @@
+//! The texts of types, of words, of moves and of refusals, as a user reads them.
+#![tactic(auto)]
+
+mod moves;
+mod pieces;
+mod refusals;
+mod types;
+mod words;
+mod written;
+
+pub use moves::move_text;
+pub use pieces::{name_text, push_number};
+pub use refusals::{Phrase, Refusal, push_kind, refusal_text};
+pub use types::{arrow_text, type_text};
+pub use words::{side_text, word_text};
+pub use written::{push_atom, push_seq, push_written};
