@@ -2,3 +2,4 @@ mod Backward
 mod Places
 mod MarkLaws
 mod Taking
+pub mod Laws

@@ -9,7 +9,7 @@ use Rattle.fst_equiv.specs.declared.comparing.Same.{Same}
 use Rattle.fst_equiv.specs.declared.comparing.Same.TheVariants.{Yes, Shape, Word, Undecided}
 
 -- all are Yes where the first ones and the others are
-pub yes_behind : (budget : ℕ) (xs ys : List Compared) → AreYes budget xs → AreYes budget ys → AreYes budget (xs ++ ys)
+yes_behind : (budget : ℕ) (xs ys : List Compared) → AreYes budget xs → AreYes budget ys → AreYes budget (xs ++ ys)
 yes_behind budget [] ys a b = b
 yes_behind budget (x ∷ xs) ys a b = (a.0, yes_behind budget xs ys a.1 b)
 
@@ -21,12 +21,12 @@ yes_split budget (x ∷ xs) ys a =
     ((a.0, rest.0), rest.1)
 
 -- what decides the first ones decides all
-pub decisive_in_front : (budget : ℕ) (xs ys : List Compared) (c : Compared) → IsDecisive budget xs c → IsDecisive budget (xs ++ ys) c
+decisive_in_front : (budget : ℕ) (xs ys : List Compared) (c : Compared) → IsDecisive budget xs c → IsDecisive budget (xs ++ ys) c
 decisive_in_front budget xs ys c d =
     record { front = d.front; rest = d.rest ++ ys; parts = ap (λ zs. zs ++ ys) d.parts ∙ append_assoc d.front (c ∷ d.rest) ys; before = d.before }
 
 -- behind ones that are Yes, what decides the others decides all
-pub decisive_behind : (budget : ℕ) (xs ys : List Compared) (c : Compared) → AreYes budget xs → IsDecisive budget ys c → IsDecisive budget (xs ++ ys) c
+decisive_behind : (budget : ℕ) (xs ys : List Compared) (c : Compared) → AreYes budget xs → IsDecisive budget ys c → IsDecisive budget (xs ++ ys) c
 decisive_behind budget xs ys c ahead d = record {
   front = xs ++ d.front;
   rest = d.rest;
@@ -48,17 +48,14 @@ comes_in_front budget xs ys (Word trace side) n h = (h.0, h.1, question_in_front
 comes_in_front budget xs ys (Undecided g pairs) n h = (h.0, h.1, question_in_front budget xs ys h.0 h.1 h.2, h.3)
 
 -- behind ones that are Yes, the others come to what all come to
-pub comes_behind : (budget : ℕ) (xs ys : List Compared) (a : Same) → AreYes budget xs → ComesTo ys budget a → ComesTo (xs ++ ys) budget a
+comes_behind : (budget : ℕ) (xs ys : List Compared) (a : Same) → AreYes budget xs → ComesTo ys budget a → ComesTo (xs ++ ys) budget a
 comes_behind budget xs ys Yes ahead h = yes_behind budget xs ys ahead h
 comes_behind budget xs ys Shape ahead h = decisive_behind budget xs ys differing ahead h
 comes_behind budget xs ys (Word trace side) ahead h = (h.0, h.1, question_behind budget xs ys h.0 h.1 ahead h.2, h.3)
 comes_behind budget xs ys (Undecided g pairs) ahead h = (h.0, h.1, question_behind budget xs ys h.0 h.1 ahead h.2, h.3)
 
 -- so it is with a question that is too large
-pub too_large_in_front : (budget : ℕ) (xs ys : List Compared) → ComesToTooLarge xs budget → ComesToTooLarge (xs ++ ys) budget
-too_large_in_front budget xs ys h = (h.0, h.1, question_in_front budget xs ys h.0 h.1 h.2, h.3)
-
-pub too_large_behind : (budget : ℕ) (xs ys : List Compared) → AreYes budget xs → ComesToTooLarge ys budget → ComesToTooLarge (xs ++ ys) budget
+too_large_behind : (budget : ℕ) (xs ys : List Compared) → AreYes budget xs → ComesToTooLarge ys budget → ComesToTooLarge (xs ++ ys) budget
 too_large_behind budget xs ys ahead h = (h.0, h.1, question_behind budget xs ys h.0 h.1 ahead h.2, h.3)
 
 -- the only comparison decides, if nothing shows that it is Yes

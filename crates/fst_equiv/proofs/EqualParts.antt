@@ -38,11 +38,11 @@ pair_parts vars s r k w = (
 )
 
 -- a variable whose values need not be channels
-pub record IsTopVariable (vars : List Kind) (s : Tree) : Type 0 where
-  pub number : ℕ
-  pub is : s ≡ var number
-  pub uses : Use
-  pub kind : slice_get vars number ≡ Some (top uses)
+record IsTopVariable (vars : List Kind) (s : Tree) : Type 0 where
+  number : ℕ
+  is : s ≡ var number
+  uses : Use
+  kind : slice_get vars number ≡ Some (top uses)
 
 -- a kind with the prekind of types of any values, as such a kind
 top_of : (k : Kind) → k.prekind ≡ Top → k ≡ top k.uses
@@ -53,7 +53,7 @@ session_by : (vars : List Kind) (s : Tree) (k : Kind) (u : Use) → k ≡ sessio
 session_by vars s k u e w = (u, subst (λ j. IsWellFormed vars s j) e w)
 
 -- a well-formed part is a session type, or a variable whose values need not be channels
-pub part_sorts : (vars : List Kind) (s : Tree) (k : Kind) → is_part s ≡ true → IsWellFormed vars s k → IsSession vars s ⊎ IsTopVariable vars s
+part_sorts : (vars : List Kind) (s : Tree) (k : Kind) → is_part s ≡ true → IsWellFormed vars s k → IsSession vars s ⊎ IsTopVariable vars s
 part_sorts vars skip k p w = inl (session_by vars skip k Many w.kinded w)
 part_sorts vars (send b) k p w = inl (session_by vars (send b) k Once w.kinded w)
 part_sorts vars (receive b) k p w = inl (session_by vars (receive b) k Once w.kinded w)

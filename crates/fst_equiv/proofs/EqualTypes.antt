@@ -59,7 +59,7 @@ module _ (vars : List Kind) (budget : ℕ) where
   by_use s r x y u v false e f g h = absurd h.0
 
   -- well-formed types of which all comparisons are Yes are equal
-  pub types_equal : (t u : Tree) (j k : Kind) → IsWellFormed vars t j → IsWellFormed vars u k → AreYes budget (comparisons t u) → IsEqual vars t u
+  types_equal : (t u : Tree) (j k : Kind) → IsWellFormed vars t j → IsWellFormed vars u k → AreYes budget (comparisons t u) → IsEqual vars t u
   types_equal skip u j k wt wu h = part_equal skip u j k refl wt wu h
   types_equal (send b) u j k wt wu h = part_equal (send b) u j k refl wt wu h
   types_equal (receive b) u j k wt wu h = part_equal (receive b) u j k refl wt wu h
@@ -87,9 +87,13 @@ module _ (vars : List Kind) (budget : ℕ) where
       by_test (nat_eq n m) (λ e. subst (λ t. IsEqual vars (named n) t) (same_tree-same (named n) (named m) e) equal.data_types) h
   types_equal (named n) u j k wt wu h = absurd h.0
 
--- what is found to be Yes are equal types
+-- types of which all comparisons are Yes are equal
+pub comparison_equal : (t u : Tree) (budget : ℕ) → AreYes budget (comparisons t u) → AreEqual t u
+comparison_equal t u budget h = λ vars j k wt wu. types_equal vars budget t u j k wt wu h
+
+-- so are those that are found to be Yes
 pub found_equal : (t u : Tree) (budget : ℕ) (r : Result Same EquivFault) → IfOk r (λ a. IsComparison t u budget a) → IfOk r (λ a. a ≡ Yes → AreEqual t u)
-found_equal t u budget (Ok a) h = λ e vars j k wt wu. types_equal vars budget t u j k wt wu (subst (λ b. IsComparison t u budget b) e h)
+found_equal t u budget (Ok a) h = λ e. comparison_equal t u budget (subst (λ b. IsComparison t u budget b) e h)
 found_equal t u budget (Err f) h = tt
 
 -- each question is of parts that agree, and no forms differ

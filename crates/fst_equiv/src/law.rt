@@ -3,9 +3,10 @@ ghost use Rattle.fst_types.specs.Tree.{Tree};
 ghost use Rattle.fst_types.specs.declared.kind.Kind.{Kind};
 ghost use Rattle.fst_lts.specs.Equal.{IsEqual};
 ghost use Rattle.fst_equiv.specs.Answers.{OneAnswer};
-ghost use Rattle.fst_equiv.specs.Comparison.{IsComparison, IsDifference};
+ghost use Rattle.fst_equiv.specs.Comparison.{IsComparison, IsDifference, AreEqual};
 ghost use Rattle.fst_equiv.specs.Outcomes.{HasOutcome, outcome_of, OneOutcome};
 ghost use Rattle.fst_equiv.specs.declared.comparing.Same.{Same};
+ghost use Rattle.fst_equiv.specs.declared.comparing.Same.TheVariants.{Yes};
 
 use fst_breadth::search_is_determined;
 use fst_grammar::one_grammar;
@@ -26,7 +27,9 @@ pub fn one_outcome()
     one_answer();
 }
 
-/// Law: types that differ in their shape or by a word aren't equal, over any list of kinds.
-pub fn difference_law()
-    ensures { (vars : List Kind) (t u : Tree) (budget : ℕ) (a : Same) → IsComparison t u budget a → IsDifference a → IsEqual vars t u → ⊥ }
+/// Law: types of which all comparisons are Yes are equal, over each list of kinds over which both are well formed; and
+/// types that differ in their shape or by a word aren't equal, over any list of kinds.
+pub fn comparison_law()
+    ensures equal { (t u : Tree) (budget : ℕ) → IsComparison t u budget Yes → AreEqual t u }
+    ensures differ { (vars : List Kind) (t u : Tree) (budget : ℕ) (a : Same) → IsComparison t u budget a → IsDifference a → IsEqual vars t u → ⊥ }
 {}

@@ -10,5 +10,5 @@ mod verdict;
 pub use asking::ask;
 pub use comparing::{Same, same_type};
 pub use fault::EquivFault;
-pub use law::{difference_law, one_answer, one_outcome};
+pub use law::{comparison_law, one_answer, one_outcome};
 pub use verdict::{Certificate, Verdict};

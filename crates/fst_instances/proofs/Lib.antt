@@ -7,3 +7,4 @@ pub mod LedLaws
 pub mod InstanceDuals
 pub mod EqualLaws
 pub mod EqualKinds
+pub mod Laws

@@ -1,6 +1,6 @@
 -- What other crates cite of the moves of types and of agreement.
 use Rattle.std.proofs.Common.{◌≡◌, ℕ, suc, List, true, false, Some}
-use Rattle.std.specs.Prelude.{IsSome, IfSome, option_map, if◌then◌else◌}
+use Rattle.std.specs.Prelude.{Contains, IsSome, IfSome, option_map, if◌then◌else◌}
 use Rattle.fst_types.specs.Tree.{Tree, seq, rec, back}
 use Rattle.fst_types.specs.declared.kind.Kind.{Kind}
 use Rattle.fst_types.specs.declared.label.Label.{Label}
@@ -9,9 +9,10 @@ use Rattle.fst_types.specs.Substitution.{unfolding_of}
 use Rattle.fst_kinds.specs.Contractive.{guards, reaches, IsContractive, IsGuarded}
 use Rattle.fst_kinds.specs.WellFormed.{IsSession}
 use Rattle.fst_base.specs.Agreement.{AgreeTo}
-use Rattle.fst_lts.specs.Step.{terminated, step}
+use Rattle.fst_lts.specs.Step.{terminated, labels, step}
 use Rattle.fst_lts.specs.Moves.{Moves}
 use Rattle.fst_lts.proofs.GuardLaws as guard
+use Rattle.fst_lts.proofs.LabelLaws as label
 use Rattle.fst_lts.proofs.MoveLaws as moved
 use Rattle.fst_lts.proofs.ResidualLaws as left
 use Rattle.fst_lts.proofs.AgreementLaws as agreement
@@ -71,3 +72,7 @@ agree_in_front = agreement.agree_in_front
 -- and so does a type behind two session types
 pub agree_behind : (n : ℕ) (vars : List Kind) (s r t : Tree) → IsSession vars s → IsSession vars r → AgreeTo step step n s r → AgreeTo step step n (seq s t) (seq r t)
 agree_behind = agreement.agree_behind
+
+-- the labels of a type are those by which it moves
+pub labels_are_moves : (s : Tree) (a : Label) → (Contains (labels s) a → IsSome (step s a)) × (IsSome (step s a) → Contains (labels s) a)
+labels_are_moves = label.labels_are_moves
