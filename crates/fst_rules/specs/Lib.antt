@@ -2,3 +2,4 @@ pub mod Deriv
 pub mod Parts
 pub mod Rules
 pub mod Laws
+pub mod Modules
