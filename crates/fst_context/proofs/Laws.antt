@@ -24,3 +24,7 @@ takes_inside = taking.takes_inside
 -- what was taken in the body of an unrestricted function
 pub takes_body : (P : Vars → Type 0) (r s : Scope) → Takes P (begun r) s → Takes (λ u. (u ≡ no_vars) × P u) r (ended s)
 takes_body = taking.takes_body
+
+-- two takings between the same scopes are of the same set
+pub takes_same : (P Q : Vars → Type 0) (r s : Scope) → Takes P r s → Takes Q r s → Takes (λ u. P u × Q u) r s
+takes_same = taking.takes_same

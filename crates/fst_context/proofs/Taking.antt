@@ -131,3 +131,22 @@ takes_body P r s x =
       within = λ k h. absurd (cc h);
       rest = ap ended x.rest ∙ (λ i. record { names = r.names; variables = r.variables; there = mark (none i) r.there; bodies = joined_zero r.bodies i });
     }
+
+-- two sets of open variables that leave the same marks are the same
+same_bit : (a i u v : Bool) → (u ≡ true → (a && i) ≡ true) → (v ≡ true → (a && i) ≡ true) → (a && not u) ≡ (a && not v) → u ≡ v
+same_bit a i true true f g e = refl
+same_bit a i false false f g e = refl
+same_bit true i true false f g e = absurd (cc e)
+same_bit true i false true f g e = absurd (cc e)
+same_bit false i true false f g e = absurd (cc (f refl))
+same_bit false i false true f g e = absurd (cc (g refl))
+
+pub same_used : (u v : Vars) (r : Scope) → ((k : ℕ) → u k ≡ true → open_in r k ≡ true) → ((k : ℕ) → v k ≡ true → open_in r k ≡ true) → without u r ≡ without v r → u ≡ v
+same_used u v r f g e = λ i k. same_bit (at_or_not r.there k) (is_inside r.bodies k) (u k) (v k) (f k) (g k)
+    (sym (at-mark u r.there k) ∙ ap (λ (z : Scope). at_or_not z.there k) e ∙ at-mark v r.there k) i
+
+-- two takings between the same scopes are of the same set
+pub takes_same : (P Q : Vars → Type 0) (r s : Scope) → Takes P r s → Takes Q r s → Takes (λ u. P u × Q u) r s
+takes_same P Q r s x y =
+    let same : y.used ≡ x.used = same_used y.used x.used r y.within x.within (sym y.rest ∙ x.rest) in
+    record { used = x.used; fact = (x.fact, subst Q same y.fact); within = x.within; rest = x.rest }
