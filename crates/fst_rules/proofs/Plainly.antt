@@ -12,10 +12,11 @@ use Rattle.fst_types.specs.declared.label.Label.TheVariants.{Send, Receive, Sele
 use Rattle.fst_lts.specs.Step.{step}
 use Rattle.fst_lts.specs.Dual.{dual}
 use Rattle.fst_terms.specs.CoreTree.{CoreTree, local, global, int, bool, char, unit, pair, make, lambda, apply, let_in, split, if_else, case_of, operate, negate, new, send, receive, select, match_with, fork, seq, CoreList, no_terms, term, CoreArms, no_arms, arm}
+use Rattle.fst_arms.specs.Arms.{AreEachOnce}
 use Rattle.fst_context.specs.Scope.{Variable, is_once}
 use Rattle.fst_context.specs.Vars.{Vars, no_vars, under, single, Both}
 use Rattle.fst_rules.specs.Deriv.{Deriv, row, convert, type_of, Derivs, none, part, one, two, three}
-use Rattle.fst_rules.specs.Parts.{IsFormed, HasUse, AreVariables, enter_all, under_all, AreEachOnce}
+use Rattle.fst_rules.specs.Parts.{IsFormed, HasUse, AreVariables, enter_all, under_all}
 use Rattle.fst_rules.specs.Rules.{Surroundings, Converted, itself, turned, Bare, Compared, Over, At, Binding, fields, rest, Binds, Row, Fields, Arms, FurtherArms, PlainRow, Derives}
 use Rattle.fst_rules.proofs.Parts.{plain_formed}
 use Rattle.fst_rules.specs.Laws.{IsTypeEquality, AllEqual, HasPlain}

@@ -1,7 +1,5 @@
 -- What the rules ask of types, of variables and of arms.
-use Rattle.std.specs.Prelude.{◌≡◌, ◌↔◌, ◌⊎◌, ℕ, Bool, List, [], ◌∷◌, map, slice_get, Option, Some, Contains, ⊤}
-use Rattle.std.specs.List.{IsDistinct}
-use Rattle.std.specs.Str.{bytes_eq}
+use Rattle.std.specs.Prelude.{◌≡◌, ◌⊎◌, ℕ, Bool, List, [], ◌∷◌, map, slice_get, Option, Some, ⊤}
 use Rattle.fst_types.specs.Tree.{Tree, plain}
 use Rattle.fst_types.specs.declared.base.Base.TheVariants.{Int, Char}
 use Rattle.fst_types.specs.declared.kind.Kind.{Kind}
@@ -11,7 +9,6 @@ use Rattle.fst_types.specs.declared.label.Label.TheVariants.{Offer}
 use Rattle.fst_kinds.specs.WellFormed.{IsWellFormed}
 use Rattle.fst_lts.specs.Step.{labels}
 use Rattle.fst_lts.specs.Equal.{IsEqual}
-use Rattle.fst_terms.specs.CoreTree.{CoreArms, no_arms, arm}
 use Rattle.fst_context.specs.Scope.{Variable, is_once}
 use Rattle.fst_context.specs.Vars.{Vars, under}
 
@@ -59,16 +56,6 @@ enter_all (v ∷ vs) g = enter_all vs (v ∷ g)
 abbrev pub under_all : List Variable → Vars → Vars
 under_all [] u = u
 under_all (v ∷ vs) u = under_all vs (under (is_once v.uses) u)
-
--- the labels of arms
-abbrev pub arm_labels : CoreArms → List (List ℕ)
-arm_labels no_arms = []
-arm_labels (arm l xs t bs) = l ∷ arm_labels bs
-
--- the same names, each found once
-pub record AreEachOnce (wanted found : List (List ℕ)) : Type 0 where
-  pub distinct : IsDistinct bytes_eq found
-  pub same : (x : List ℕ) → Contains wanted x ↔ Contains found x
 
 -- the type moves by these labels of an offered choice, of which there is one at least, and by no other
 pub record IsOffering (t : Tree) (names : List (List ℕ)) : Type 0 where
