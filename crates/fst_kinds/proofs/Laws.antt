@@ -1,5 +1,6 @@
 -- What other crates cite of kinds and of session types with free recursion variables.
-use Rattle.std.proofs.Common.{◌≡◌, ◌≤◌, ℕ, suc, List, true, false, Option}
+use Rattle.std.proofs.Common.{◌≡◌, ◌≤◌, ℕ, suc, List, length, true, false, Option, Err}
+use Rattle.std.specs.Prelude.{◌≢◌}
 use Rattle.fst_types.specs.Tree.{Tree, seq, rec, var}
 use Rattle.fst_types.specs.declared.kind.Kind.{Kind}
 use Rattle.fst_types.specs.declared.kind.Prekind.TheVariants.{Session}
@@ -7,10 +8,16 @@ use Rattle.fst_types.specs.declared.kind.Use.{Use}
 use Rattle.fst_types.specs.Instance.{instantiated, ArgumentsHave}
 use Rattle.fst_types.specs.Scoped.{IsScoped}
 use Rattle.fst_types.specs.Substitution.{substitute, unfolding_of}
+use Rattle.fst_types.specs.Variables.{HasVariablesBelow}
+use Rattle.fst_kinds.specs.declared.fault.KindFault.{KindFault}
+use Rattle.fst_kinds.specs.declared.fault.KindFault.TheVariants.{UnboundType}
+use Rattle.fst_kinds.specs.Faults.{IsFirstFault}
+use Rattle.fst_kinds.specs.Walk.{walk}
 use Rattle.fst_kinds.specs.Kinds.{session, top, HasKind}
 use Rattle.fst_kinds.specs.Contractive.{guards, reaches, IsContractive}
 use Rattle.fst_kinds.specs.WellFormed.{IsWellFormed, IsSession, IsInstantiation}
 use Rattle.fst_kinds.specs.OpenSession.{IsOpenSession, IsPut, GuardsTo}
+use Rattle.fst_kinds.proofs.BoundLaws as bound
 use Rattle.fst_kinds.proofs.KindLaws as one
 use Rattle.fst_kinds.proofs.SubstitutedGuards as guard
 use Rattle.fst_kinds.proofs.OpenSessions as session_part
@@ -86,3 +93,11 @@ put_scoped = instance_part.put_scoped
 -- an instance of a session type is a session type
 pub instantiated_session : (outer vars : List Kind) (args : List Tree) (s : Tree) → IsInstantiation outer vars args → IsSession vars s → IsSession outer (instantiated args s)
 instantiated_session = instance_part.instantiated_session
+
+-- where each variable of a type is one of those that vars has the kinds of, the first fault of the type is no unbound variable
+pub never_unbound : (vars : List Kind) (t : Tree) (f : KindFault) (k : ℕ) → HasVariablesBelow (length vars) t → IsFirstFault vars t f → f ≢ UnboundType k
+never_unbound = bound.never_unbound
+
+-- nor does the walk find one
+pub walk_bound : (vars : List Kind) (t : Tree) (k : ℕ) → HasVariablesBelow (length vars) t → walk vars t ≡ Err (UnboundType k) → ⊥
+walk_bound = bound.walk_bound

@@ -4,6 +4,7 @@ pub mod KindLaws
 pub mod LabelLaws
 pub mod WalkLaws
 pub mod FaultLaws
+pub mod BoundLaws
 pub mod SubstitutedKinds
 pub mod SubstitutedGuards
 pub mod OpenSessions

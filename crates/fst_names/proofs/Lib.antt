@@ -6,6 +6,9 @@ mod CountLaws
 mod OnceLaws
 mod FamilyLaws
 mod SoundTypes
+mod VariableLaws
+mod OverLaws
+mod NumberLaws
 mod WholeLaws
 pub mod OneModule
 mod ModuleLaws

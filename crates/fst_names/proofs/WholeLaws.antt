@@ -1,10 +1,10 @@
 -- The module that a text without faults stands for fits together.
 use Rattle.std.proofs.Common.{◌≡◌, ◌∙◌, ℕ, suc, ◌+◌, ◌≤◌, ◌<◌, Bool, true, false, All, List, [], ◌∷◌, ◌++◌, length, map, count_by, codes, Option, Some, refl, sym, ap, subst, arith}
-use Rattle.std.specs.Prelude.{unwrap_or}
+use Rattle.std.specs.Prelude.{Contains, unwrap_or}
 use Rattle.std.specs.List.{AllByRecursion, IsDistinct}
 use Rattle.std.specs.Str.{bytes_eq}
 use Rattle.std.proofs.lemmas.List.{length-append, length-map}
-use Rattle.std.proofs.lemmas.List.Elements.{All-from_recursion}
+use Rattle.std.proofs.lemmas.List.Elements.{All-from_recursion, Contains-append_right}
 use Rattle.fst_base.specs.Limits.{most_nodes}
 use Rattle.fst_types.specs.Size.{nodes}
 use Rattle.fst_types.specs.Tree as tree
@@ -14,9 +14,11 @@ use Rattle.fst_terms.specs.CoreCount.{core_limit, globals_count}
 use Rattle.fst_terms.specs.CoreTree.{CoreTree}
 use Rattle.fst_terms.specs.Count.{part_limit, module_count}
 use Rattle.fst_terms.specs.Filled.{IsFilled, IsModuleFilled}
+use Rattle.fst_terms.specs.InRange as core
 use Rattle.fst_terms.specs.InRange.{Bounds, IsInRange, AreGlobals, AreTypes, IsModule}
 use Rattle.fst_terms.specs.ModuleTree.{Maker, Declared, family, alias, signature, equation}
 use Rattle.fst_terms.specs.TermTree.{TermTree}
+use Rattle.fst_terms.specs.Variables.{AreOthersClosed, field_numbers, global_numbers}
 use Rattle.fst_terms.specs.declared.binder.Binder.{Binder}
 use Rattle.fst_terms.specs.declared.global.GlobalEntry.{GlobalEntry}
 use Rattle.fst_scopes.specs.Aliases.{Known, IsKnown}
@@ -33,9 +35,12 @@ use Rattle.fst_names.specs.Modules.{TypeAt, field_types, decls_types, parameter_
 use Rattle.fst_names.proofs.CountLaws.{types_there, decls_long, parameters_long, equations_named, few_parts}
 use Rattle.fst_names.proofs.FaultlessLaws.{AreSound, are_sound, equation_sound, first_sound, has_other, is_global, others_sound}
 use Rattle.fst_names.proofs.FamilyLaws.{families_there, families_long, families_in_range, all_makers_named, numbered, heads, tails}
+use Rattle.fst_names.proofs.NumberLaws.{IsPlaced, all_placed, others_closed, signatures_stand}
 use Rattle.fst_names.proofs.OnceLaws.{among_next, own_here, own_next, once, counted_named, just_once}
+use Rattle.fst_names.proofs.OverLaws.{all_at, fields_closed, globals_over}
 use Rattle.fst_names.proofs.RangeLaws.{Fits, bounds_of, long_within, in_range}
 use Rattle.fst_names.proofs.SoundTypes.{IsFine, StandsFine, types_fine}
+use Rattle.fst_names.proofs.VariableLaws.{EachAt, IsAt, each_append, each_left, each_right}
 
 -- ---- types
 
@@ -224,6 +229,29 @@ module _ (ds : List Declared) (known : Known) (families : List Family) (entries 
   parameters_there : AllThere (parameters_types ds known (equations_from 0 ds))
   parameters_there = there_right (decls_types ds known ds) (parameters_types ds known (equations_from 0 ds)) (all_there types (module_types ds known) parts.types_are)
 
+  -- each type has its place for a number
+  written_at : EachAt (IsAt types) 0 (decls_types ds known ds)
+  written_at = each_left (IsAt types) 0 (decls_types ds known ds) (parameters_types ds known (equations_from 0 ds)) (all_at types (module_types ds known) parts.types_are)
+
+  parameters_at : EachAt (IsAt types) (length (decls_types ds known ds)) (parameters_types ds known (equations_from 0 ds))
+  parameters_at =
+      subst (λ n. EachAt (IsAt types) n (parameters_types ds known (equations_from 0 ds))) (omega arith)
+      (each_right (IsAt types) 0 (decls_types ds known ds) (parameters_types ds known (equations_from 0 ds)) (all_at types (module_types ds known) parts.types_are))
+
+  -- the numbers of types that stand in fields and globals
+  abbrev standing : List ℕ
+  standing = field_numbers (core.makers families) ++ global_numbers entries
+
+  -- a type without any of them has no variables
+  others : AreOthersClosed standing types
+  others =
+      let behind : (k : ℕ) → Contains (global_numbers entries) k → Contains standing k = λ k c. Contains-append_right (field_numbers (core.makers families)) (global_numbers entries) k c in
+      let placed = all_placed ds known parts.is_known types standing 0 (length (decls_types ds known ds)) ds entries parts.globals_are parameters_at
+      (λ k c. behind k (signatures_stand ds known entries sound names_are parts.globals_are k c)) behind in
+      others_closed standing types (module_types ds known) parts.types_are
+      (each_append (IsPlaced standing) 0 (decls_types ds known ds) (parameters_types ds known (equations_from 0 ds)) placed.0
+      (subst (λ n. EachAt (IsPlaced standing) n (parameters_types ds known (equations_from 0 ds))) (omega arith) placed.1))
+
   -- the parts of a module fit together
   pub whole : IsModule families entries types places
   whole = record {
@@ -237,6 +265,9 @@ module _ (ds : List Declared) (known : Known) (families : List Family) (entries 
     one_main =
         counted_named (λ (g : GlobalEntry). g.name) (codes "main") entries ∙ ap (count_by (λ y. bytes_eq y (codes "main"))) names_are ∙
         just_once (codes "main") (names (equation_names ds)) (once (equation_names ds) sound.equations_once) (is_global ds known sound.decls (codes "main") sound.main_there);
+    field_variables = fields_closed ds known parts.is_known types 0 ds families parts.families_are written_at;
+    global_variables = globals_over ds known parts.is_known types parts.types_are 0 (length (decls_types ds known ds)) ds entries parts.globals_are sound.decls written_at parameters_at;
+    other_variables = others;
   }
 
   -- where its text has few parts it has few

@@ -4,6 +4,7 @@ use Rattle.std.specs.Prelude.{Bool, IsSome, option_map, unwrap_or}
 use Rattle.fst_types.specs.ModelWrittenHeight.{height}
 use Rattle.fst_types.specs.Size.{nodes}
 use Rattle.fst_types.specs.Tree.{Tree}
+use Rattle.fst_types.specs.Variables.{HasVariablesBelow}
 use Rattle.fst_types.specs.WrittenTree.{WrittenTree, HasBranches}
 use Rattle.fst_terms.specs.Naming.{Scope, place_of, type_of}
 use Rattle.fst_scopes.specs.declared.fault.NameFault.{NameFault}
@@ -18,8 +19,9 @@ use Rattle.fst_scopes.specs.Scopes.{counted, recs_of, scope_around, types_of, va
 use Rattle.fst_base.specs.Limits.{most_nodes}
 use Rattle.fst_scopes.specs.Faults.{is_among, too_large, type_faults}
 use Rattle.fst_scopes.specs.TypeNames.{TypeDecl, scope_with}
-use Rattle.fst_scopes.specs.Plain.{IsPlain, AllPlain}
+use Rattle.fst_scopes.specs.Plain.{IsPlain, AllPlain, DeclaresClosed}
 use Rattle.fst_scopes.proofs.Bound as bound
+use Rattle.fst_scopes.proofs.VariableLaws as variables
 use Rattle.fst_scopes.proofs.FirstLaws as first
 use Rattle.fst_scopes.proofs.MeasureLengths as lengths
 use Rattle.fst_scopes.proofs.Plain as plain
@@ -53,6 +55,10 @@ no_higher = there.no_higher
 -- what is declared is plain, and so is each type with no `rec` around
 pub closed_plain : (families : ℕ) (s : Scope) (w : WrittenTree) (t : Tree) → AllPlain families s → s.recs ≡ [] → HasBranches w → type_of s w ≡ Some t → IsPlain families 0 t
 closed_plain = plain.closed_plain
+
+-- where what is declared has no variables of a signature, those of a type are among the ones in scope
+pub variables_below : (s : Scope) (w : WrittenTree) (t : Tree) → DeclaresClosed s → type_of s w ≡ Some t → HasVariablesBelow (length s.vars) t
+variables_below = variables.variables_below
 
 -- the faults of a type go by which names its variables have, and not by their numbers
 pub same_faults : (xs ys : List (List ℕ)) (declared : List ℕ → Option TypeDecl) (aliases : List ℕ → Option Tree) → ((x : List ℕ) → is_among xs x ≡ is_among ys x) → (w : WrittenTree) →

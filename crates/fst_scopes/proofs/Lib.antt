@@ -8,6 +8,7 @@ pub mod MeasureLaws
 pub mod TypeLaws
 pub mod Places
 pub mod Plain
+pub mod VariableLaws
 pub mod There
 pub mod GraphLaws
 pub mod AliasLaws

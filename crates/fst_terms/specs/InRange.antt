@@ -9,6 +9,7 @@ use Rattle.fst_types.specs.Named.{IsNamedWithin}
 use Rattle.fst_types.specs.declared.family.Maker.{Maker}
 use Rattle.fst_types.specs.declared.family.Family.{Family}
 use Rattle.fst_terms.specs.declared.global.GlobalEntry.{GlobalEntry}
+use Rattle.fst_terms.specs.Variables.{AreTypesOver, AreGlobalsOver, AreOthersClosed, field_numbers, global_numbers}
 use Rattle.fst_terms.specs.CoreTree.{CoreTree, local, global, int, bool, char, unit, pair, make, lambda, apply, let_in, split, if_else, case_of, operate, negate, new, send, receive, select, match_with, fork, seq, CoreList, no_terms, term, CoreArms, no_arms, arm}
 
 -- the constructors of these data types, one data type after the other
@@ -117,7 +118,8 @@ AreTypes n [] = ⊤
 AreTypes n (t ∷ ts) = IsScoped 0 t × IsNamedWithin n t × EachChoice AreSorted t × AreTypes n ts
 
 -- the parts of a module fit together: each number is that of a part, each type has a place, constructors have different names,
--- and just one global is named main
+-- and just one global is named main; and a type has only the variables of the global that it stands in, and none where it
+-- stands in a field, in an alias or under `new`
 pub record IsModule (families : List Family) (globals : List GlobalEntry) (types : List Tree) (places : List ℕ) : Type 0 where
   pub family_parts : AreFamilies (length types) families
   pub global_parts : AreGlobals (record { families = families; globals = length globals; types = length types }) globals
@@ -125,3 +127,6 @@ pub record IsModule (families : List Family) (globals : List GlobalEntry) (types
   pub places_there : length places ≡ length types
   pub makers_differ : IsDistinct bytes_eq (map (λ m. m.name) (makers families))
   pub one_main : count_by (λ g. bytes_eq g.name (codes "main")) globals ≡ 1
+  pub field_variables : AreTypesOver types 0 (field_numbers (makers families))
+  pub global_variables : AreGlobalsOver types globals
+  pub other_variables : AreOthersClosed (field_numbers (makers families) ++ global_numbers globals) types

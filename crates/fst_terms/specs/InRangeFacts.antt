@@ -1,5 +1,5 @@
 -- That the parts of a module fit together has one proof at most, so a module can keep it.
-use Rattle.std.specs.Prelude.{ℕ, ◌+◌, suc, ⊤, List, [], ◌∷◌, length, map, Option, Some, None}
+use Rattle.std.specs.Prelude.{ℕ, ◌+◌, suc, List, [], ◌∷◌, ◌++◌, length, map, Option, Some, None}
 use Rattle.std.specs.Str.{bytes_eq}
 use Rattle.std.proofs.Math.Nat.{ℕ_set}
 use Rattle.std.proofs.Math.Bridge.{le_prop}
@@ -14,13 +14,9 @@ use Rattle.fst_types.specs.declared.family.Family.{Family}
 use Rattle.fst_terms.specs.declared.global.GlobalEntry.{GlobalEntry}
 use Rattle.fst_terms.specs.CoreTree.{CoreTree, local, global, int, bool, char, unit, pair, make, lambda, apply, let_in, split, if_else, case_of, operate, negate, new, send, receive, select, match_with, fork, seq, CoreList, no_terms, term, CoreArms, no_arms, arm}
 use Rattle.fst_terms.specs.FilledFacts.{both, all_three, all_four}
+use Rattle.fst_terms.specs.Variables.{field_numbers, global_numbers}
+use Rattle.fst_terms.specs.VariablesFacts.{always, never, types_over_prop, globals_over_prop, others_closed_prop}
 use Rattle.fst_terms.specs.InRange.{makers, maker_named, maker_of, HasFields, AreNumbersBelow, HasCoreArm, Bounds, IsInRange, AreInRange, AreCasesInRange, AreMatchesInRange, HaveFieldsInRange, AreFamilies, AreGlobals, AreTypes, IsModule}
-
-always : IsProp ⊤
-always x y i = tt
-
-never : IsProp ⊥
-never x = absurd x
 
 fields_prop : (m : Option Maker) (n : ℕ) → IsProp (HasFields m n)
 fields_prop (Some m) n = ℕ_set (length m.fields.items) n
@@ -162,4 +158,7 @@ is_module_prop families globals types places x y i = record {
   places_there = ℕ_set (length places) (length types) x.places_there y.places_there i;
   makers_differ = IsDistinct-prop bytes_eq (map (λ m. m.name) (makers families)) x.makers_differ y.makers_differ i;
   one_main = ℕ_set _ 1 x.one_main y.one_main i;
+  field_variables = types_over_prop types 0 (field_numbers (makers families)) x.field_variables y.field_variables i;
+  global_variables = globals_over_prop types globals x.global_variables y.global_variables i;
+  other_variables = others_closed_prop (field_numbers (makers families) ++ global_numbers globals) types x.other_variables y.other_variables i;
 }

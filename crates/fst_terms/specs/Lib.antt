@@ -16,6 +16,8 @@ pub mod ModelCoreCode
 pub mod ModelCoreFalls
 pub mod SourceAround
 pub mod Around
+pub mod Variables
+pub mod VariablesFacts
 pub mod InRange
 pub mod InRangeFacts
 pub mod CoreCount

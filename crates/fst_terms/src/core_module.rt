@@ -12,7 +12,8 @@ use fst_types::{Family, Ty};
 /// Its parts fit together: each number is that of a part, constructors have different names, just one global is named `main`,
 /// each data type has a constructor and each choice a branch, each `Case` and `Match` an arm; a `Make` has as many terms and
 /// an arm of a `Case` as many binders as the constructor has fields, and an arm of a `Match` has one binder. It has fewer
-/// terms, bound names and types together than 2^32.
+/// terms, bound names and types together than 2^32. A type has only the variables of the global that it stands in, and none
+/// where it stands in a field, in an alias or in a `New`.
 #[derive(Drop)]
 pub struct Module {
     pub families: Vec<Family>,

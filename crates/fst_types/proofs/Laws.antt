@@ -16,7 +16,9 @@ use Rattle.fst_types.specs.declared.written.WrittenBranch.{WrittenBranch}
 use Rattle.fst_types.proofs.Heights as heights
 use Rattle.fst_types.proofs.InstanceLaws as instance_part
 use Rattle.fst_types.proofs.Labels as labels
+use Rattle.fst_types.specs.Variables.{HasVariablesBelow}
 use Rattle.fst_types.proofs.SubstitutionLaws as substitution
+use Rattle.fst_types.proofs.VariableLaws as variables
 
 -- a branch is no higher than the highest branch of its choice
 pub height_at : (bs : List Branch) (i : ℕ) (d : Branch) → i < length bs → height ((get_or bs i d).body) ≤ height_all (branches_of bs)
@@ -50,6 +52,10 @@ variable_has = substitution.variable_has
 -- a type without free variables from n on has none from a later m on
 pub scoped_wider : (n m : ℕ) (s : Tree) → n ≤ m → IsScoped n s → IsScoped m s
 scoped_wider = substitution.scoped_wider
+
+-- a type with variables of a signature below n has them below a later m
+pub variables_wider : (n m : ℕ) (t : Tree) → n ≤ m → HasVariablesBelow n t → HasVariablesBelow m t
+variables_wider = variables.variables_wider
 
 -- binders that stand for nothing change no type
 pub substitute_nothing : (s : Tree) → substitute [] s ≡ s

@@ -4,6 +4,7 @@ pub mod Height
 pub mod Order
 pub mod Scoped
 pub mod Named
+pub mod Variables
 pub mod Sent
 pub mod Substitution
 pub mod Instance
