@@ -1,0 +1,11 @@
+pub mod Laws
+mod Heights
+mod FirstLaws
+mod ReadingLaws
+mod OtherLaws
+mod RangeLaws
+mod ModuleLaws
+mod LeastLaws
+mod PrintableLaws
+mod OneLaws
+mod FieldLaws

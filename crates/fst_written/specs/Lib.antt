@@ -1,0 +1,4 @@
+pub mod First
+pub mod Readings
+pub mod Faults
+pub mod Printable
