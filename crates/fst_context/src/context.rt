@@ -1,4 +1,4 @@
-ghost use Rattle.std.specs.Prelude.{◌≡◌, ◌<◌, length, IfOk, IfSome, IfNone, ℕ, slice_get, option_map, Some, OnOk, OnErr};
+ghost use Rattle.std.specs.Prelude.{◌≡◌, ◌<◌, length, IfOk, IfSome, IfNone, ℕ, slice_get, option_map, Some, OnOk, OnErr, IsTrue, ◌↔◌};
 ghost use mathlib.Core.List.{reverse};
 ghost use Rattle.fst_context.specs.Scope.{empty, entered, left, begun, ended, at_or_not, is_once, with_marks};
 ghost use Rattle.fst_context.specs.View.{taken_at, after_take, left_at};
@@ -91,6 +91,13 @@ impl Context {
         self.there.push(is_once(uses))?;
         count_one(&mut self.bodies);
         Ok(())
+    }
+
+    /// Whether there is a k-th variable.
+    pub fn has(&self, k: u32) -> bool
+        ensures { IsTrue result ↔ (k < length self.now.variables) }
+    {
+        (k as usize) < self.entries.len()
     }
 
     /// The name of the k-th variable.

@@ -1,20 +1,13 @@
 -- A term that has a derivation has a plain one.
 use Rattle.std.proofs.Common.{◌≡◌, ◌∙◌, ℕ, zero, suc, List, [], ◌∷◌, Some, length, slice_get, refl, sym, ap, subst}
-use Rattle.std.specs.Prelude.{◌↔◌, Contains}
 use Rattle.fst_types.specs.Tree as type
 use Rattle.fst_types.specs.Tree.{Tree, plain, arrow, named}
-use Rattle.fst_types.specs.Instance.{instantiated}
-use Rattle.fst_types.specs.declared.base.Base.TheVariants.{Int, Bool as Truth, Char, Unit as Nothing}
-use Rattle.fst_types.specs.declared.kind.Kind.{Kind}
-use Rattle.fst_types.specs.declared.kind.Use.{Use}
-use Rattle.fst_types.specs.declared.label.Label.{Label}
-use Rattle.fst_types.specs.declared.label.Label.TheVariants.{Send, Receive, Select, Offer, Var}
-use Rattle.fst_lts.specs.Step.{step}
-use Rattle.fst_lts.specs.Dual.{dual}
+use Rattle.fst_types.specs.declared.base.Base.TheVariants.{Bool as Truth, Unit as Nothing}
+use Rattle.fst_types.specs.declared.label.Label.TheVariants.{Send, Receive, Select, Offer}
 use Rattle.fst_terms.specs.CoreTree.{CoreTree, local, global, int, bool, char, unit, pair, make, lambda, apply, let_in, split, if_else, case_of, operate, negate, new, send, receive, select, match_with, fork, seq, CoreList, no_terms, term, CoreArms, no_arms, arm}
 use Rattle.fst_arms.specs.Arms.{AreEachOnce}
 use Rattle.fst_context.specs.Scope.{Variable, is_once}
-use Rattle.fst_context.specs.Vars.{Vars, no_vars, under, single, Both}
+use Rattle.fst_context.specs.Vars.{Vars, under, single}
 use Rattle.fst_rules.specs.Deriv.{Deriv, row, convert, type_of, Derivs, none, part, one, two, three}
 use Rattle.fst_rules.specs.Parts.{IsFormed, HasUse, AreVariables, enter_all, under_all}
 use Rattle.fst_rules.specs.Rules.{Surroundings, Converted, itself, turned, Bare, Compared, Over, At, Binding, fields, rest, Binds, Row, Fields, Arms, FurtherArms, PlainRow, Derives}

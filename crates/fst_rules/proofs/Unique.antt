@@ -1,29 +1,22 @@
 -- A term has at most one plain type, and a determined set of linear variables.
-use Rattle.std.proofs.Common.{◌≡◌, ◌∙◌, ℕ, Bool, List, [], ◌∷◌, Option, Some, length, map, slice_get, refl, sym, ap, subst}
+use Rattle.std.proofs.Common.{◌≡◌, ◌∙◌, List, [], ◌∷◌, slice_get, refl, sym, ap, subst}
 use Rattle.std.proofs.lemmas.Option.{same_Some}
 use Rattle.fst_types.specs.Tree as type
 use Rattle.fst_types.specs.Tree.{Tree, plain, arrow, named}
 use Rattle.fst_types.specs.Instance.{instantiated}
-use Rattle.fst_types.specs.declared.base.Base.{Base}
 use Rattle.fst_types.specs.declared.base.Base.TheVariants.{Int, Bool as Truth, Char, Unit as Nothing}
-use Rattle.fst_types.specs.declared.family.Family.{Family}
-use Rattle.fst_types.specs.declared.family.Maker.{Maker}
 use Rattle.fst_types.specs.declared.kind.Kind.{Kind}
-use Rattle.fst_types.specs.declared.kind.Use.{Use}
-use Rattle.fst_types.specs.declared.label.Label.TheVariants.{Send, Receive, Select, Offer}
-use Rattle.fst_kinds.specs.WellFormed.{IsWellFormed}
+use Rattle.fst_types.specs.declared.label.Label.TheVariants.{Send, Receive, Select}
 use Rattle.fst_lts.specs.Step.{step}
 use Rattle.fst_lts.specs.Dual.{dual}
 use Rattle.fst_terms.specs.CoreTree.{CoreTree, local, global, int, bool, char, unit, pair, make, lambda, apply, let_in, split, if_else, case_of, operate, negate, new, send, receive, select, match_with, fork, seq, CoreList, no_terms, term, CoreArms, no_arms, arm}
-use Rattle.fst_terms.specs.InRange.{maker_of, maker_named}
-use Rattle.fst_terms.specs.declared.global.GlobalEntry.{GlobalEntry}
 use Rattle.fst_terms.specs.declared.term.Op.{Op}
 use Rattle.fst_terms.specs.declared.term.Op.TheVariants.{Add, Subtract, Multiply, Equal, Unequal, Less, AtMost, Greater, AtLeast, And, Or}
 use Rattle.fst_context.specs.Scope.{Variable, is_once}
-use Rattle.fst_context.specs.Vars.{Vars, no_vars, under, outside, single, union, IsSplit, Both}
-use Rattle.fst_rules.specs.Deriv.{Deriv, row, convert, type_of, Derivs, none, part, one, two, three}
-use Rattle.fst_rules.specs.Parts.{IsFormed, HasUse, AreAt, AreVariables, enter_all, under_all, IsOffering, IsComparable}
-use Rattle.fst_rules.specs.Rules.{Surroundings, Bare, Compared, Over, At, Operates, Binding, fields, rest, Row, Fields, Arms, FurtherArms, PlainRow}
+use Rattle.fst_context.specs.Vars.{Vars, under, outside, single, union, Both}
+use Rattle.fst_rules.specs.Deriv.{Deriv, row, type_of, Derivs, none}
+use Rattle.fst_rules.specs.Parts.{enter_all, under_all}
+use Rattle.fst_rules.specs.Rules.{Surroundings, Bare, Compared, Over, At, Operates, Binding, fields, rest, Fields, Arms, PlainRow}
 use Rattle.fst_rules.proofs.Parts.{one_use, same_at, same_variables, one_step, outside_all, one_bound}
 
 -- two judgements of a part agree on the type and on the variables

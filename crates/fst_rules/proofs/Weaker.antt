@@ -1,12 +1,12 @@
 -- What follows the rules under fewer conversions follows them under more.
-use Rattle.std.proofs.Common.{◌≡◌, ◌∙◌, ℕ, List, [], ◌∷◌, refl, sym, ap, subst}
+use Rattle.std.proofs.Common.{List, [], ◌∷◌, refl, sym, subst}
 use Rattle.fst_types.specs.Tree.{Tree, plain}
 use Rattle.fst_types.specs.declared.base.Base.TheVariants.{Bool as Truth}
 use Rattle.fst_types.specs.declared.kind.Kind.{Kind}
 use Rattle.fst_terms.specs.CoreTree.{CoreTree, local, global, int, bool, char, unit, pair, make, lambda, apply, let_in, split, if_else, case_of, operate, negate, new, send, receive, select, match_with, fork, seq, CoreList, no_terms, term, CoreArms, no_arms, arm}
 use Rattle.fst_context.specs.Scope.{Variable, is_once}
 use Rattle.fst_context.specs.Vars.{Vars, under, Both}
-use Rattle.fst_rules.specs.Deriv.{Deriv, convert, type_of, Derivs}
+use Rattle.fst_rules.specs.Deriv.{Deriv, type_of, Derivs}
 use Rattle.fst_rules.specs.Parts.{enter_all, under_all}
 use Rattle.fst_rules.specs.Rules.{Surroundings, Converted, itself, turned, Bare, Compared, Over, At, Binding, Row, Fields, Arms, FurtherArms, PlainRow, Derives}
 

@@ -12,7 +12,7 @@ use Rattle.fst_context.specs.Scope.{Variable}
 use Rattle.fst_context.specs.Vars.{Vars}
 use Rattle.fst_rules.specs.Deriv.{Deriv, type_of}
 use Rattle.fst_rules.specs.Parts.{IsFormed, HasUse, IsOffering, IsConversion, IsAnyConversion}
-use Rattle.fst_rules.specs.Rules.{Surroundings, Over, Bare, Row, PlainRow, Derives}
+use Rattle.fst_rules.specs.Rules.{Surroundings, Over, Bare, PlainRow, Derives}
 
 -- a term has at most one plain type in a context, and has the same linear variables in all plain derivations
 abbrev pub PlainTypesAreUnique : Type 0

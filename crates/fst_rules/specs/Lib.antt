@@ -3,3 +3,7 @@ pub mod Parts
 pub mod Rules
 pub mod Laws
 pub mod Modules
+pub mod Tests
+pub mod ArmTests
+pub mod Walks
+pub mod Levels

@@ -4,7 +4,6 @@ use Rattle.fst_types.specs.Tree.{Tree, plain}
 use Rattle.fst_types.specs.declared.base.Base.TheVariants.{Int, Char}
 use Rattle.fst_types.specs.declared.kind.Kind.{Kind}
 use Rattle.fst_types.specs.declared.kind.Use.{Use}
-use Rattle.fst_types.specs.declared.kind.Use.TheVariants.{Many}
 use Rattle.fst_types.specs.declared.label.Label.TheVariants.{Offer}
 use Rattle.fst_kinds.specs.WellFormed.{IsWellFormed}
 use Rattle.fst_lts.specs.Step.{labels}

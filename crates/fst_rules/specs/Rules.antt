@@ -1,5 +1,5 @@
 -- Which trees are derivations (after Almeida, Mordido, Thiemann, Vasconcelos, 2022; the linear variables are split as sets).
-use Rattle.std.specs.Prelude.{◌≡◌, ℕ, Bool, false, List, [], ◌∷◌, map, Option, Some, slice_get, ⊤, length}
+use Rattle.std.specs.Prelude.{◌≡◌, ℕ, List, [], ◌∷◌, map, Some, slice_get, length}
 use Rattle.fst_types.specs.Tree as type
 use Rattle.fst_types.specs.Tree.{Tree, plain, arrow, named}
 use Rattle.fst_types.specs.Instance.{instantiated}
@@ -9,14 +9,13 @@ use Rattle.fst_types.specs.declared.family.Family.{Family}
 use Rattle.fst_types.specs.declared.family.Maker.{Maker}
 use Rattle.fst_types.specs.declared.kind.Kind.{Kind}
 use Rattle.fst_types.specs.declared.kind.Use.{Use}
-use Rattle.fst_types.specs.declared.kind.Use.TheVariants.{Many, Once}
+use Rattle.fst_types.specs.declared.kind.Use.TheVariants.{Many}
 use Rattle.fst_types.specs.declared.label.Label.TheVariants.{Send, Receive, Select, Offer}
 use Rattle.fst_kinds.specs.WellFormed.{IsSession, IsInstantiation}
 use Rattle.fst_lts.specs.Step.{step}
 use Rattle.fst_lts.specs.Dual.{dual}
 use Rattle.fst_terms.specs.CoreTree.{CoreTree, local, global, int, bool, char, unit, pair, make, lambda, apply, let_in, split, if_else, case_of, operate, negate, new, send, receive, select, match_with, fork, seq, CoreList, no_terms, term, CoreArms, no_arms, arm}
 use Rattle.fst_terms.specs.InRange.{maker_of, maker_named}
-use Rattle.fst_terms.specs.declared.binder.Binder.{Binder}
 use Rattle.fst_terms.specs.declared.global.GlobalEntry.{GlobalEntry}
 use Rattle.fst_terms.specs.declared.term.Op.{Op}
 use Rattle.fst_terms.specs.declared.term.Op.TheVariants.{Add, Subtract, Multiply, Equal, Unequal, Less, AtMost, Greater, AtLeast, And, Or}

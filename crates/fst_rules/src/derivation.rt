@@ -86,7 +86,8 @@ impl Derivation {
         second: Derivation,
         third: Derivation,
     ) -> Result<Derivation, AllocError>
-        ensures { IfOk result (λ d. deriv_of d ≡ row ty (three (deriv_of first) (deriv_of second) (deriv_of third))) }
+        ensures { IfOk result (λ d. deriv_of d ≡ row ty (three (deriv_of first) (deriv_of second)
+            (deriv_of third))) }
     {
         let mut parts = Vec::new(alloc);
         parts.push(first)?;

@@ -1,6 +1,5 @@
-use Rattle.std.proofs.Common.{◌≡◌}
 use Rattle.fst_rules.specs.Parts.{IsConversion, IsAnyConversion}
-use Rattle.fst_rules.proofs.Weaker.{plain_derives, bare_over, derives_more}
+use Rattle.fst_rules.proofs.Weaker.{bare_over, derives_more}
 use Rattle.fst_rules.proofs.law.derivations_law.Goals as goal
 
 pub returns-clause-plain : goal.returns-clause-plain
