@@ -1,0 +1,48 @@
+-- A part that is refused, or fails what is asked of it, refuses the term.
+use Rattle.std.proofs.Common.{◌≡◌, ℕ, List, [], ◌∷◌, inl, inr, subst}
+use Rattle.fst_types.specs.Tree.{Tree, arrow}
+use Rattle.fst_types.specs.declared.kind.Use.{Use}
+use Rattle.fst_terms.specs.Around.{around}
+use Rattle.fst_terms.specs.CoreTree.{CoreTree, apply, operate}
+use Rattle.fst_terms.specs.declared.binder.Binder.{Binder}
+use Rattle.fst_terms.specs.declared.steps.Step.{Step}
+use Rattle.fst_terms.specs.declared.steps.Step.TheVariants.{Operate, Apply}
+use Rattle.fst_terms.specs.declared.term.Op.{Op}
+use Rattle.fst_context.specs.Scope.{Scope}
+use Rattle.fst_rules.specs.Deriv.{Deriv, type_of}
+use Rattle.fst_typing.specs.Shown.{Shows, After, AfterUnder, IsUnequal, IsOperand, ShowsOperand, ShowsNoFunction, operand, place}
+use Rattle.fst_typing.specs.Typed.{Check, IsTyped, IsTypedUnder}
+use Rattle.fst_typing.specs.declared.fault.CheckFault.{CheckFault}
+
+-- what is refused inside steps
+pub shows_around : (c : Check) (s : Scope) (f : CheckFault) (e : CoreTree) (xs : List Step) → Shows c e s f → Shows c (around e xs) s f
+shows_around c s f e [] h = h
+shows_around c s f e (Operate at o t ∷ xs) h = inl (shows_around c s f e xs h)
+shows_around c s f e (Apply at t ∷ xs) h = inl (shows_around c s f e xs h)
+
+-- behind the derivation of a first part
+pub behind : {c : Check} {s r : Scope} {e : CoreTree} {d : Deriv} {P : Scope → Deriv → Type 0} → IsTyped c s r e d → P r d → After c s e P
+behind {c} {s} {r} {e} {d} x p = record { scope = r; derivation = d; typed = x; then = p }
+
+pub behind_under : {c : Check} {xs : List Binder} {ts : List Tree} {s r : Scope} {e : CoreTree} {d : Deriv} {P : Scope → Deriv → Type 0} → IsTypedUnder c xs ts s r e d → P r d → AfterUnder c xs ts s e P
+behind_under {c} {xs} {ts} {s} {r} {e} {d} x p = record { scope = r; derivation = d; typed = x; then = p }
+
+pub shows_operand : {c : Check} {p : ℕ} (at : ℕ) (o : Op) {e b : CoreTree} {s r : Scope} {d : Deriv} {f : CheckFault} → IsTyped c s r e d → p ≡ place e → ShowsOperand c (operand o) p (type_of d) f → Shows c (operate at o e b) s f
+shows_operand {c} {p} at o {e} {b} {s} {r} {d} {f} x q h = inr (behind x (inl (subst (λ n. ShowsOperand c (operand o) n (type_of d) f) q h)))
+
+pub shows_second_operand : {c : Check} (at : ℕ) (o : Op) {e b : CoreTree} {s r : Scope} {d : Deriv} {f : CheckFault} (w : Tree) → IsTyped c s r e d → IsOperand c (operand o) (type_of d) w → Shows c b r f → Shows c (operate at o e b) s f
+shows_second_operand at o w x i h = inr (behind x (inr (w, i, inl h)))
+
+pub shows_unequal_operand : {c : Check} {p : ℕ} (at : ℕ) (o : Op) {e b : CoreTree} {s r z : Scope} {d h : Deriv} {f : CheckFault} (w : Tree) → IsTyped c s r e d → IsOperand c (operand o) (type_of d) w → IsTyped c r z b h →
+    p ≡ place b → IsUnequal c p (type_of h) w f → Shows c (operate at o e b) s f
+shows_unequal_operand {c} {p} at o {e} {b} {s} {r} {z} {d} {h} {f} w x i y q j = inr (behind x (inr (w, i, inr (behind y (subst (λ n. IsUnequal c n (type_of h) w f) q j)))))
+
+pub shows_no_function : {c : Check} {p : ℕ} (at : ℕ) {e b : CoreTree} {s r : Scope} {d : Deriv} {f : CheckFault} → IsTyped c s r e d → p ≡ place e → ShowsNoFunction p (type_of d) f → Shows c (apply at e b) s f
+shows_no_function {c} {p} at {e} {b} {s} {r} {d} {f} x q h = inr (behind x (inl (subst (λ n. ShowsNoFunction n (type_of d) f) q h)))
+
+pub shows_argument : {c : Check} (at : ℕ) {e b : CoreTree} {s r : Scope} {d : Deriv} {f : CheckFault} (u : Use) (from to : Tree) → IsTyped c s r e d → type_of d ≡ arrow u from to → Shows c b r f → Shows c (apply at e b) s f
+shows_argument at u from to x i h = inr (behind x (inr (u, from, to, i, inl h)))
+
+pub shows_unequal_argument : {c : Check} {p : ℕ} (at : ℕ) {e b : CoreTree} {s r z : Scope} {d h : Deriv} {f : CheckFault} (u : Use) (from to : Tree) → IsTyped c s r e d → type_of d ≡ arrow u from to → IsTyped c r z b h →
+    p ≡ place b → IsUnequal c p (type_of h) from f → Shows c (apply at e b) s f
+shows_unequal_argument {c} {p} at {e} {b} {s} {r} {z} {d} {h} {f} u from to x i y q j = inr (behind x (inr (u, from, to, i, inr (behind y (subst (λ n. IsUnequal c n (type_of h) from f) q j)))))
