@@ -14,7 +14,7 @@ use Rattle.fst_types.specs.declared.label.Label.{Label}
 use Rattle.fst_types.specs.declared.label.Label.TheVariants.{Send, Receive, Select, Offer, Var}
 use Rattle.fst_lts.specs.Step.{labels}
 use Rattle.fst_arms.specs.Arms.{AreEachOnce}
-use Rattle.fst_rules.specs.Parts.{IsOffering}
+use Rattle.fst_derivations.specs.Parts.{IsOffering}
 use Rattle.fst_rules.specs.ArmTests.{has, all_in, apart, each_once, with_name, offered, wanted_once, offers}
 use Rattle.fst_rules.proofs.TestLaws.{and_left, and_right, and_both}
 

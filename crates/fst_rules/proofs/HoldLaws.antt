@@ -8,12 +8,12 @@ use Rattle.fst_terms.specs.declared.core_module.Module.{Module}
 use Rattle.fst_terms.specs.declared.global.GlobalEntry.{GlobalEntry}
 use Rattle.fst_context.specs.Vars.{no_vars}
 use Rattle.fst_context.specs.Scope.{Scope, empty, without}
-use Rattle.fst_rules.specs.Deriv.{Deriv, deriv_of, type_of}
-use Rattle.fst_rules.specs.declared.derivation.Derivation.{Derivation}
+use Rattle.fst_derivations.specs.Deriv.{Deriv, deriv_of, type_of}
+use Rattle.fst_derivations.specs.declared.derivation.Derivation.{Derivation}
 use Rattle.fst_rules.specs.Levels.{IsDerived}
-use Rattle.fst_rules.specs.Modules.{surroundings, AreDerived}
-use Rattle.fst_rules.specs.Parts.{IsAnyConversion}
-use Rattle.fst_rules.specs.Rules.{Surroundings}
+use Rattle.fst_derivations.specs.Modules.{surroundings, AreDerived}
+use Rattle.fst_derivations.specs.Parts.{IsAnyConversion}
+use Rattle.fst_derivations.specs.Rules.{Surroundings}
 use Rattle.fst_rules.specs.Tests.{same_tree}
 use Rattle.fst_rules.specs.Walks.{came, walk_of}
 use Rattle.fst_rules.proofs.TestLaws.{tree_same, tree_itself}

@@ -4,8 +4,8 @@ use Rattle.std.specs.Prelude.{Option, None, Some, MatchOption, IfSome, option_to
 use Rattle.fst_types.specs.Tree.{Tree}
 use Rattle.fst_terms.specs.CoreTree.{CoreTree, core_height}
 use Rattle.fst_context.specs.Scope.{Scope}
-use Rattle.fst_rules.specs.Deriv.{Deriv, Derivs, deriv_of, type_of}
-use Rattle.fst_rules.specs.Rules.{Surroundings}
+use Rattle.fst_derivations.specs.Deriv.{Deriv, Derivs, deriv_of, type_of}
+use Rattle.fst_derivations.specs.Rules.{Surroundings}
 use Rattle.fst_rules.specs.Walks.{Walk, nowhere, next, only, given, after, parts_2, peeled, row_2, row_walk, walk_of}
 use Rattle.fst_rules.specs.Levels.{rest_walk, AreLower}
 use Rattle.fst_rules.specs.declared.levels.Level.{Level}

@@ -1,8 +1,4 @@
-mod Parts
 mod Rows
-mod Unique
-mod Weaker
-mod Plainly
 mod Deciding
 mod DecidingInside
 mod TestLaws

@@ -14,9 +14,9 @@ use Rattle.fst_terms.specs.CoreTree.{CoreTree, local, global, int, bool, char, u
 use Rattle.fst_terms.specs.declared.term.Op.{Op}
 use Rattle.fst_context.specs.Vars.{Vars, no_vars, single, Both}
 use Rattle.fst_context.specs.Scope.{Variable, is_once}
-use Rattle.fst_rules.specs.Deriv.{Deriv, row, type_of, Derivs, none, part, one, two, three}
-use Rattle.fst_rules.specs.Parts.{IsAnyConversion}
-use Rattle.fst_rules.specs.Rules.{Surroundings, Converted, Over, At, Row, Operates}
+use Rattle.fst_derivations.specs.Deriv.{Deriv, row, type_of, Derivs, none, part, one, two, three}
+use Rattle.fst_derivations.specs.Parts.{IsAnyConversion}
+use Rattle.fst_derivations.specs.Rules.{Surroundings, Converted, Over, At, Row, Operates}
 use Rattle.fst_rules.specs.Tests.{same_tree, use_in, is_many, is_global_type, is_channel, operates}
 use Rattle.fst_rules.specs.Walks.{only, given, taking, has_none, local_row, leaf_row, pair_fits, apply_fits, operate_fits, send_fits, seq_fits, negate_fits, receive_fits, select_fits, fork_fits, whole, row_walk}
 use Rattle.fst_rules.proofs.Deciding.{Decides, decides_as, decides_only, decides_given, decides_equal}

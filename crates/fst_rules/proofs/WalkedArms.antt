@@ -14,9 +14,9 @@ use Rattle.fst_terms.specs.declared.binder.Binder.{Binder}
 use Rattle.fst_arms.specs.Arms.{arm_labels, AreEachOnce}
 use Rattle.fst_context.specs.Vars.{Vars, under, Both}
 use Rattle.fst_context.specs.Scope.{Scope, Variable, is_once, entered, without}
-use Rattle.fst_rules.specs.Deriv.{Deriv, row, type_of, Derivs, none, part}
-use Rattle.fst_rules.specs.Parts.{AreVariables, enter_all, under_all, IsOffering}
-use Rattle.fst_rules.specs.Rules.{Surroundings, Binding, fields, rest, Binds, Arms, FurtherArms}
+use Rattle.fst_derivations.specs.Deriv.{Deriv, row, type_of, Derivs, none, part}
+use Rattle.fst_derivations.specs.Parts.{AreVariables, enter_all, under_all, IsOffering}
+use Rattle.fst_derivations.specs.Rules.{Surroundings, Binding, fields, rest, Binds, Arms, FurtherArms}
 use Rattle.fst_rules.specs.ArmTests.{each_once, offers}
 use Rattle.fst_rules.specs.Tests.{same_tree, use_in, types_at, family_number}
 use Rattle.fst_rules.specs.Walks.{Walk, next, only, given, after, closed, inside, has_none, parts_more, bound_types, entered_all, closed_all, inside_all, arm_walk, further, family_of, whole, row_walk, arms_walk, further_walk}

@@ -6,9 +6,9 @@ use Rattle.fst_terms.specs.CoreTree.{CoreTree, make, CoreList, no_terms, term}
 use Rattle.fst_terms.specs.InRange.{maker_of}
 use Rattle.fst_context.specs.Vars.{Vars, no_vars, Both}
 use Rattle.fst_context.specs.Scope.{Variable}
-use Rattle.fst_rules.specs.Deriv.{Deriv, row, type_of, Derivs, none, part}
-use Rattle.fst_rules.specs.Parts.{AreAt}
-use Rattle.fst_rules.specs.Rules.{Surroundings, Fields}
+use Rattle.fst_derivations.specs.Deriv.{Deriv, row, type_of, Derivs, none, part}
+use Rattle.fst_derivations.specs.Parts.{AreAt}
+use Rattle.fst_derivations.specs.Rules.{Surroundings, Fields}
 use Rattle.fst_rules.specs.Tests.{same_tree, is_type}
 use Rattle.fst_rules.specs.Walks.{given, after, has_none, whole, row_walk, fields_walk}
 use Rattle.fst_rules.proofs.Deciding.{Decides, decides_as, decides_none, decides_never, decides_only, decides_given, decides_both}

@@ -11,9 +11,9 @@ use Rattle.fst_terms.specs.CoreTree.{CoreTree, lambda, let_in, split, if_else}
 use Rattle.fst_terms.specs.declared.binder.Binder.{Binder}
 use Rattle.fst_context.specs.Vars.{Vars, no_vars, under, Both}
 use Rattle.fst_context.specs.Scope.{Variable, is_once}
-use Rattle.fst_rules.specs.Deriv.{Deriv, row, type_of, one, two, three}
-use Rattle.fst_rules.specs.Parts.{HasUse}
-use Rattle.fst_rules.specs.Rules.{Surroundings}
+use Rattle.fst_derivations.specs.Deriv.{Deriv, row, type_of, one, two, three}
+use Rattle.fst_derivations.specs.Parts.{HasUse}
+use Rattle.fst_derivations.specs.Rules.{Surroundings}
 use Rattle.fst_rules.specs.Tests.{same_tree, use_in, pair_parts, is_arrow, arrow_of}
 use Rattle.fst_rules.specs.Walks.{Walk, only, given, after, inside, in_body, branches, parts_1, parts_2, parts_3, if_fits, whole, row_walk}
 use Rattle.fst_rules.proofs.Deciding.{Decides, decides_as, decides_only, decides_given, decides_both}

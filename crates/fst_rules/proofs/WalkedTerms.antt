@@ -4,8 +4,8 @@ use Rattle.fst_types.specs.declared.base.Base.TheVariants.{Int, Bool as Truth, C
 use Rattle.fst_terms.specs.CoreTree.{CoreTree, local, global, int, bool, char, unit, pair, make, lambda, apply, let_in, split, if_else, case_of, operate, negate, new, send, receive, select, match_with, fork, seq, CoreList, no_terms, term, CoreArms, no_arms, arm}
 use Rattle.fst_context.specs.Vars.{Vars, outside}
 use Rattle.fst_context.specs.Scope.{Scope, mark, Takes}
-use Rattle.fst_rules.specs.Deriv.{Deriv}
-use Rattle.fst_rules.specs.Rules.{Surroundings}
+use Rattle.fst_derivations.specs.Deriv.{Deriv}
+use Rattle.fst_derivations.specs.Rules.{Surroundings}
 use Rattle.fst_rules.specs.Walks.{walk_of, Keeps}
 use Rattle.fst_rules.proofs.Walked.{Parts, Rows, parts, local_rows, plain_rows, global_rows, new_rows, negate_rows, receive_rows, select_rows, fork_rows, pair_rows, apply_rows, operate_rows, send_rows, seq_rows}
 use Rattle.fst_rules.proofs.WalkedFields.{Lists, no_terms_lists, term_lists, make_rows}

@@ -3,13 +3,13 @@ use Rattle.std.specs.Prelude.{◌≡◌, ◌<◌, ℕ, List, [], ◌∷◌, Some
 use Rattle.fst_types.specs.Tree.{Tree}
 use Rattle.fst_terms.specs.Around.{has_first}
 use Rattle.fst_terms.specs.CoreTree.{CoreTree, core_height}
-use Rattle.fst_rules.specs.Deriv.{Deriv, Derivs, deriv_of}
-use Rattle.fst_rules.specs.Parts.{IsAnyConversion}
+use Rattle.fst_derivations.specs.Deriv.{Deriv, Derivs, deriv_of}
+use Rattle.fst_derivations.specs.Parts.{IsAnyConversion}
 use Rattle.fst_context.specs.Vars.{no_vars}
 use Rattle.fst_terms.specs.declared.core_module.Module.{Module}
 use Rattle.fst_terms.specs.declared.global.GlobalEntry.{GlobalEntry}
-use Rattle.fst_rules.specs.Modules.{surroundings}
-use Rattle.fst_rules.specs.Rules.{Surroundings, Binding, fields, rest, Converted, At, Row}
+use Rattle.fst_derivations.specs.Modules.{surroundings}
+use Rattle.fst_derivations.specs.Rules.{Surroundings, Binding, fields, rest, Converted, At, Row}
 use Rattle.fst_rules.specs.Walks.{Walk, nowhere, after, row_walk, walk_of}
 use Rattle.fst_rules.specs.declared.binding.Binds.{Binds}
 use Rattle.fst_rules.specs.declared.binding.Binds.TheVariants.{Fields, Rest}

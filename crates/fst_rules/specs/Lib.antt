@@ -1,8 +1,3 @@
-pub mod Deriv
-pub mod Parts
-pub mod Rules
-pub mod Laws
-pub mod Modules
 pub mod Tests
 pub mod ArmTests
 pub mod Walks

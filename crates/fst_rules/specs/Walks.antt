@@ -19,8 +19,8 @@ use Rattle.fst_context.specs.Scope.{Scope, Variable, at_or_not, entered, left, b
 use Rattle.fst_context.specs.View.{taken_at, after_take}
 use Rattle.fst_context.specs.declared.context.Taken.{Taken}
 use Rattle.fst_context.specs.declared.context.Taken.TheVariants.{Here, Gone, Outside}
-use Rattle.fst_rules.specs.Deriv.{Deriv, row, convert, type_of, Derivs, none, part}
-use Rattle.fst_rules.specs.Rules.{Surroundings, Binding, fields, rest}
+use Rattle.fst_derivations.specs.Deriv.{Deriv, row, convert, type_of, Derivs, none, part}
+use Rattle.fst_derivations.specs.Rules.{Surroundings, Binding, fields, rest}
 use Rattle.fst_rules.specs.ArmTests.{each_once, offers}
 use Rattle.fst_rules.specs.Tests.{types_at, same_tree, kind_in, has_some, use_in, is_many, is_type, is_pair, is_arrow, pair_parts, arrow_of, arrow_parts, family_number, base_of, applies, operates, sends, receives_pair, is_channel, is_global_type}
 

@@ -291,22 +291,22 @@ fn instantiates(
 /// Whether a type is that of a global with these type arguments.
 pub(crate) fn global_fits(
     alloc: Global,
-    module: &Module,
+    m: &Module,
     vars: &[Kind],
     k: u32,
     places: &[u32],
     t: &Ty,
 ) -> Result<bool, AllocError>
-    ensures { IfOk result (λ b. b ≡ is_global_type vars.now module.now.types.items (slice_get
-        module.now.globals.items k) places.now t.now) }
+    ensures { IfOk result (λ b. b ≡ is_global_type vars.now m.now.types.items (slice_get
+        m.now.globals.items k) places.now t.now) }
 {
-    let Some(global) = module.globals.get(k as usize) else {
+    let Some(global) = m.globals.get(k as usize) else {
         return Ok(false);
     };
-    let Some(signature) = type_at(&module.types, global.signature) else {
+    let Some(signature) = type_at(&m.types, global.signature) else {
         return Ok(false);
     };
-    let Some(args) = types_at(alloc, &module.types, places)? else {
+    let Some(args) = types_at(alloc, &m.types, places)? else {
         return Ok(false);
     };
     if !instantiates(alloc, vars, &global.kinds, &args)? {

@@ -3,11 +3,11 @@ ghost use Rattle.fst_terms.specs.InRange.{maker_of};
 ghost use Rattle.fst_terms.specs.ModelCoreView.{core_arms_of, cores_of};
 ghost use Rattle.fst_arms.specs.Arms.{arm_labels};
 ghost use Rattle.fst_context.specs.Scope.{with_marks};
-ghost use Rattle.fst_rules.specs.Rules.{fields, rest};
+ghost use Rattle.fst_derivations.specs.Rules.{fields, rest};
 ghost use Rattle.std.specs.Prelude.{◌≡◌, ◌<◌, ◌&&◌, IfOk, IsFalse, length, slice_get};
 ghost use Rattle.fst_types.specs.Tree as tree;
 ghost use Rattle.fst_terms.specs.Around.{has_first};
-ghost use Rattle.fst_rules.specs.Deriv.{deriv_of, parts_of};
+ghost use Rattle.fst_derivations.specs.Deriv.{deriv_of, parts_of};
 ghost use Rattle.fst_rules.specs.Levels.{binding_of, surroundings_at};
 ghost use Rattle.fst_rules.specs.Tests.{is_channel, is_global_type, same_tree};
 ghost use Rattle.fst_rules.specs.Walks.{arm_walk, arms_walk, bound_types, case_row, further, further_walk, fields_walk, given, match_row, only, after, branches, came, closed, has_none, fork_fits, if_row, in_body, inside, lambda_row, let_row, local_row, negate_fits, pair_fits, receive_fits, row_1, row_2, row_walk, select_fits, send_fits, seq_fits, split_row, walk_of};
@@ -15,7 +15,6 @@ ghost use Rattle.fst_rules.specs.Walks.{arm_walk, arms_walk, bound_types, case_r
 use crate::binding::{
     Binds, bound_types, close_all, closes, enter_all, family_at, labels_fit, makers_fit,
 };
-use crate::derivation::Derivation;
 use crate::fitting::{
     arrow_fits, channel_fits, fork_fits, global_fits, if_fits, is_at, is_named, maker_at,
     negate_fits, pair_fits, pair_parts, receive_fits, select_fits, send_fits, seq_fits, type_at,
@@ -24,6 +23,7 @@ use crate::levels::{Place, levels_of, pop_level};
 use crate::peeling::{Row, has_none, one, three, two};
 use crate::ready::{is_plain, is_same, use_in};
 use fst_context::{Context, Taken};
+use fst_derivations::Derivation;
 use fst_terms::{Arm, Binder, Form, Term};
 use fst_types::{Base, Name, Ty, Use, copy};
 use std::alloc::AllocError;

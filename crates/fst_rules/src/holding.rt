@@ -1,15 +1,15 @@
 ghost use Rattle.std.specs.Prelude.{◌↔◌, IfOk, IsTrue, map};
-ghost use Rattle.fst_rules.specs.Deriv.{deriv_of};
+ghost use Rattle.fst_derivations.specs.Deriv.{deriv_of};
 ghost use Rattle.fst_rules.specs.Levels.{IsDerived};
-ghost use Rattle.fst_rules.specs.Modules.{AreDerived};
-ghost use Rattle.fst_rules.specs.Parts.{IsAnyConversion};
+ghost use Rattle.fst_derivations.specs.Modules.{AreDerived};
+ghost use Rattle.fst_derivations.specs.Parts.{IsAnyConversion};
 
-use crate::derivation::Derivation;
 use crate::fitting::type_at;
 use crate::following::follows;
 use crate::levels::Place;
 use crate::ready::is_same;
 use fst_context::Context;
+use fst_derivations::Derivation;
 use fst_terms::{GlobalEntry, Module};
 use std::alloc::{AllocError, Global};
 

@@ -1,14 +1,14 @@
 ghost use Rattle.std.specs.Prelude.{◌≡◌, ◌<◌, ◌≤◌, ℕ, IfOk, IfSome, IsFalse, MatchOption, Some, length};
 ghost use Rattle.fst_terms.specs.Around.{has_first};
 ghost use Rattle.fst_terms.specs.CoreTree.{core_height};
-ghost use Rattle.fst_rules.specs.Deriv.{deriv_of, parts_of};
+ghost use Rattle.fst_derivations.specs.Deriv.{deriv_of, parts_of};
 ghost use Rattle.fst_rules.specs.Levels.{AreLower, Descends, rest_walk, surroundings_at};
-ghost use Rattle.fst_rules.specs.Rules.{Surroundings};
+ghost use Rattle.fst_derivations.specs.Rules.{Surroundings};
 ghost use Rattle.fst_rules.specs.Walks.{after, nowhere, row_walk, walk_of};
 
-use crate::derivation::Derivation;
 use crate::fitting::{apply_fits, operate_fits};
 use crate::peeling::{Row, peel, two};
+use fst_derivations::Derivation;
 use fst_terms::{Form, Module, Term};
 use fst_types::Kind;
 use std::alloc::{AllocError, Global};

@@ -4,7 +4,7 @@ use Rattle.std.specs.Prelude.{MatchOption, IfSome}
 use Rattle.std.specs.List.{AllByRecursion}
 use Rattle.std.proofs.lemmas.Option.{slice_get_within}
 use Rattle.fst_terms.specs.declared.core_module.Module.{Module}
-use Rattle.fst_rules.specs.Modules.{AreFamiliesPrintable, family_types}
+use Rattle.fst_derivations.specs.Modules.{AreFamiliesPrintable, family_types}
 use Rattle.fst_written.specs.Printable.{IsFirstUnprintable, IsPrintableAt, IsLeastField}
 use Rattle.fst_written.proofs.OneLaws.{unprintable}
 use Rattle.fst_written.proofs.PrintableLaws.{families_printable, printable_families}

@@ -1,5 +1,5 @@
 -- What other crates cite of the types of a module.
-use Rattle.std.proofs.Common.{◌≡◌, ◌<◌, ℕ, zero, suc, List, [], ◌∷◌, Some, subst, arith}
+use Rattle.std.proofs.Common.{◌≡◌, ◌<◌, ℕ, zero, suc, List, [], ◌∷◌, ◌++◌, Some, subst, arith}
 use Rattle.std.specs.Prelude.{slice_get, Contains}
 use Rattle.std.specs.List.{AllByRecursion}
 use Rattle.std.proofs.lemmas.Option.{get_or_from_slice_get}
@@ -8,11 +8,24 @@ use Rattle.fst_types.specs.declared.family.Family.{Family}
 use Rattle.fst_kinds.specs.declared.fault.KindFault.{KindFault}
 use Rattle.fst_terms.specs.declared.core_module.Module.{Module}
 use Rattle.fst_terms.specs.declared.global.GlobalEntry.{GlobalEntry}
-use Rattle.fst_rules.specs.Modules.{types_in, IsFormedAt, AreStandingFormed, AreMakersFormed, AreFamiliesFormed, AreGlobalsFormed, AreTypesFormed}
+use Rattle.fst_derivations.specs.Modules.{types_in, IsFormedAt, AreStandingFormed, AreMakersFormed, AreFamiliesFormed, AreGlobalsFormed, AreTypesFormed}
 use Rattle.fst_written.specs.Faults.{IsFirstKindFault}
+use Rattle.fst_written.specs.First.{IsFirst}
 use Rattle.fst_written.specs.Readings.{Reading, readings, begins, IsFormedReading}
-use Rattle.fst_written.proofs.FirstLaws.{first_before}
+use Rattle.fst_written.proofs.FirstLaws as firsts
 use Rattle.fst_written.proofs.ModuleLaws as modules
+
+-- behind what is as P says the next one is the first
+pub first_new : {A : Type 0} (begins : A → ℕ) (P : A → Type 0) (xs : List A) (x : A) → AllByRecursion P xs → IsFirst begins P (xs ++ x ∷ []) x
+first_new = firsts.first_new
+
+-- the first stays, where the next one doesn't begin before it or is as P says
+pub first_kept : {A : Type 0} (begins : A → ℕ) (P : A → Type 0) (xs : List A) (x y : A) → IsFirst begins P xs y → (begins x < begins y → P x) → IsFirst begins P (xs ++ x ∷ []) y
+first_kept = firsts.first_kept
+
+-- the next one is the first, where it begins before the one so far
+pub first_less : {A : Type 0} (begins : A → ℕ) (P : A → Type 0) (xs : List A) (x y : A) → IsFirst begins P xs y → begins x < begins y → IsFirst begins P (xs ++ x ∷ []) x
+first_less = firsts.first_less
 
 signature_at : (types : List Tree) (gs : List GlobalEntry) (k : ℕ) (g : GlobalEntry) → AreGlobalsFormed types gs → slice_get gs k ≡ Some g → IsFormedAt types g.kinds.items g.signature
 signature_at types [] k g h is = absurd (cc is)
@@ -57,4 +70,4 @@ module _ (m : Module) where
   pub formed_before : (rs : List Reading) (at : ℕ) (f : KindFault) → IsFirstKindFault m rs at f → (r : Reading) → Contains rs r → begins m r < at → IsFormedReading m r
   formed_before rs at f found r there lt =
       let place = get_or_from_slice_get m.places.items found.reading.number at 0 found.fails.begins in
-      first_before (begins m) (IsFormedReading m) rs found.reading found.first r there (omega (arith, place))
+      firsts.first_before (begins m) (IsFormedReading m) rs found.reading found.first r there (omega (arith, place))

@@ -5,7 +5,7 @@ use Rattle.std.proofs.lemmas.Bool.{cases_lt}
 use Rattle.std.proofs.lemmas.Option.{get_or_from_slice_get}
 use Rattle.fst_types.specs.Tree.{Tree}
 use Rattle.fst_terms.specs.declared.core_module.Module.{Module}
-use Rattle.fst_rules.specs.Modules.{IsPrintable}
+use Rattle.fst_derivations.specs.Modules.{IsPrintable}
 use Rattle.fst_written.specs.Faults.{HasFault, IsFirstKindFault, IsLeast}
 use Rattle.fst_written.specs.Printable.{IsFirstUnprintable, IsPrintableAt, IsLeastField}
 use Rattle.fst_written.specs.Readings.{Reading, IsFormedReading, begins, begins_at}

@@ -5,6 +5,9 @@ mod ReadingLaws
 mod OtherLaws
 mod RangeLaws
 mod ModuleLaws
+mod NumberLaws
+mod VariableLaws
+mod ToldLaws
 mod LeastLaws
 mod PrintableLaws
 mod OneLaws

@@ -5,8 +5,8 @@ use Rattle.std.proofs.lemmas.List.{map-append}
 use Rattle.fst_kinds.specs.declared.fault.KindFault.{KindFault}
 use Rattle.fst_terms.specs.InRange.{AreNumbersBelow}
 use Rattle.fst_terms.specs.declared.core_module.Module.{Module}
-use Rattle.fst_rules.specs.Modules.{IsFormedAt, AreTypesFormed, global_types, family_types}
-use Rattle.fst_rules.specs.Parts.{IsFormed}
+use Rattle.fst_derivations.specs.Modules.{IsFormedAt, AreTypesFormed, global_types, family_types}
+use Rattle.fst_derivations.specs.Parts.{IsFormed}
 use Rattle.fst_written.specs.Faults.{HasFault, IsFirstKindFault}
 use Rattle.fst_written.specs.Readings.{Reading, global_readings, closed_readings, others, readings, reading_of, IsFormedReading}
 use Rattle.fst_written.specs.declared.readings.Occurrence.{Occurrence}

@@ -6,7 +6,7 @@ use Rattle.fst_types.specs.declared.kind.Kind.{Kind}
 use Rattle.fst_kinds.specs.Faults.{IsFirstFault}
 use Rattle.fst_kinds.specs.declared.fault.KindFault.{KindFault}
 use Rattle.fst_terms.specs.declared.core_module.Module.{Module}
-use Rattle.fst_rules.specs.Modules.{IsPrintable}
+use Rattle.fst_derivations.specs.Modules.{IsPrintable}
 use Rattle.fst_written.specs.Faults.{HasFault, IsFirstKindFault}
 use Rattle.fst_written.specs.Printable.{IsFirstUnprintable, IsPrintableAt}
 use Rattle.fst_written.specs.Readings.{Reading, IsFormedReading, begins, begins_at}

@@ -5,7 +5,7 @@ use Rattle.std.specs.List.{AllByRecursion}
 use Rattle.fst_types.specs.Tree.{Tree, skip, send, receive, select, offer, seq, rec, back, var, plain, arrow, pair, named}
 use Rattle.fst_types.specs.declared.family.Family.{Family}
 use Rattle.fst_types.specs.declared.family.Maker.{Maker}
-use Rattle.fst_rules.specs.Modules.{IsPrintable, base_types, data_types, pairs, ArePrintable, HavePrintableFields, AreFamiliesPrintable, maker_types, family_types}
+use Rattle.fst_derivations.specs.Modules.{IsPrintable, base_types, data_types, pairs, ArePrintable, HavePrintableFields, AreFamiliesPrintable, maker_types, family_types}
 use Rattle.fst_written.specs.Printable.{printable, IsPrintableAt}
 use Rattle.fst_written.proofs.ReadingLaws.{all_append, all_left, all_right}
 

@@ -11,7 +11,7 @@ use Rattle.fst_types.specs.declared.family.Maker.{Maker}
 use Rattle.fst_terms.specs.CoreTree.{CoreTree, local, global, int, bool, char, unit, pair, make, lambda, apply, let_in, split, if_else, case_of, operate, negate, new, send, receive, select, match_with, fork, seq, CoreList, no_terms, term, CoreArms, no_arms, arm}
 use Rattle.fst_terms.specs.InRange.{Bounds, IsInRange, AreInRange, AreCasesInRange, AreMatchesInRange, AreNumbersBelow, AreGlobals, AreFamilies, HaveFieldsInRange, AreTypes}
 use Rattle.fst_terms.specs.declared.global.GlobalEntry.{GlobalEntry}
-use Rattle.fst_rules.specs.Modules.{Standing, all_open, types_in, types_in_all, types_in_arms, global_types, maker_types, family_types}
+use Rattle.fst_derivations.specs.Modules.{Standing, all_open, types_in, types_in_all, types_in_arms, global_types, maker_types, family_types}
 use Rattle.fst_written.specs.Readings.{others}
 
 pub below_append : (n : ℕ) (ks js : List ℕ) → AreNumbersBelow n ks → AreNumbersBelow n js → AreNumbersBelow n (ks ++ js)

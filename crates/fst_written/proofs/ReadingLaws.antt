@@ -7,7 +7,7 @@ use Rattle.fst_types.specs.declared.family.Maker.{Maker}
 use Rattle.fst_types.specs.declared.kind.Kind.{Kind}
 use Rattle.fst_terms.specs.declared.core_module.Module.{Module}
 use Rattle.fst_terms.specs.declared.global.GlobalEntry.{GlobalEntry}
-use Rattle.fst_rules.specs.Modules.{Standing, types_in, IsFormedAt, AreStandingFormed, AreFieldsFormed, AreMakersFormed, AreFamiliesFormed, AreGlobalsFormed, global_types, maker_types, family_types}
+use Rattle.fst_derivations.specs.Modules.{Standing, types_in, IsFormedAt, AreStandingFormed, AreFieldsFormed, AreMakersFormed, AreFamiliesFormed, AreGlobalsFormed, global_types, maker_types, family_types}
 use Rattle.fst_written.specs.Readings.{Reading, standing_readings, global_readings, closed_readings, IsFormedReading}
 
 module _ {A : Type 0} (P : A → Type 0) where

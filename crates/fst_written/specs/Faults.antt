@@ -4,8 +4,9 @@ use Rattle.std.specs.List.{AllByRecursion}
 use Rattle.fst_types.specs.Tree.{Tree}
 use Rattle.fst_kinds.specs.Faults.{IsFirstFault}
 use Rattle.fst_kinds.specs.declared.fault.KindFault.{KindFault}
+use Rattle.fst_kinds.specs.declared.fault.KindFault.TheVariants as kind
 use Rattle.fst_terms.specs.declared.core_module.Module.{Module}
-use Rattle.fst_rules.specs.Parts.{IsFormed}
+use Rattle.fst_derivations.specs.Parts.{IsFormed}
 use Rattle.fst_written.specs.First.{IsFirst}
 use Rattle.fst_written.specs.Readings.{Reading, readings, begins, IsFormedReading}
 use Rattle.fst_written.specs.declared.fault.WrittenFault.{WrittenFault}
@@ -34,3 +35,16 @@ IsWrittenFault m Memory = ⊤
 -- these types are well formed, or the first in order of text that isn't has this fault
 abbrev pub IsLeast : Module → List Reading → Option Placed → Type 0
 IsLeast m rs found = MatchOption found (AllByRecursion (IsFormedReading m) rs) (λ p. IsFirstKindFault m rs p.at p.fault)
+
+-- a fault that a written type of a module may have: its variables are bound
+abbrev pub IsWrittenKindFault : KindFault → Type 0
+IsWrittenKindFault kind.NotContractive = ⊤
+IsWrittenKindFault (kind.WrongKind got wanted) = ⊤
+IsWrittenKindFault (kind.UnboundType k) = ⊥
+IsWrittenKindFault (kind.DoubleLabel l) = ⊤
+IsWrittenKindFault kind.Memory = ⊥
+
+-- the same of what the check of written types finds
+abbrev pub IsTold : WrittenFault → Type 0
+IsTold (Kinds at fault) = IsWrittenKindFault fault
+IsTold Memory = ⊤

@@ -3,7 +3,7 @@ use Rattle.std.specs.Prelude.{◌≡◌, ℕ, Bool, true, false, ◌&&◌, List,
 use Rattle.std.specs.List.{AllByRecursion}
 use Rattle.fst_types.specs.Tree.{Tree, skip, send, receive, select, offer, seq, rec, back, var, plain, arrow, pair, named}
 use Rattle.fst_terms.specs.declared.core_module.Module.{Module}
-use Rattle.fst_rules.specs.Modules.{IsPrintable}
+use Rattle.fst_derivations.specs.Modules.{IsPrintable}
 use Rattle.fst_written.specs.First.{IsFirst}
 use Rattle.fst_written.specs.Readings.{begins_at}
 

@@ -4,7 +4,7 @@ use Rattle.std.specs.List.{list_any}
 use Rattle.fst_types.specs.declared.kind.Kind.{Kind}
 use Rattle.fst_terms.specs.declared.core_module.Module.{Module}
 use Rattle.fst_terms.specs.declared.global.GlobalEntry.{GlobalEntry}
-use Rattle.fst_rules.specs.Modules.{Standing, types_in, IsFormedAt, scope_at, global_types, family_types}
+use Rattle.fst_derivations.specs.Modules.{Standing, types_in, IsFormedAt, scope_at, global_types, family_types}
 use Rattle.fst_written.specs.declared.readings.Occurrence.{Occurrence}
 
 -- a type that stands in a module, by its number, and the kinds of the variables in scope there

@@ -1,8 +1,8 @@
 ghost use Rattle.std.specs.Prelude.{◌≡◌, ◌<◌, ◌≤◌, ◌≢◌, IfErr, IfOk, MatchOption, OnOk, length, map};
 ghost use Rattle.fst_terms.specs.InRange.{AreNumbersBelow};
-ghost use Rattle.fst_rules.specs.Modules.{AreTypesFormed};
+ghost use Rattle.fst_derivations.specs.Modules.{AreTypesFormed};
 ghost use Rattle.fst_written.specs.Readings.{IsFormedReading, reading_of};
-ghost use Rattle.fst_written.specs.Faults.{HasFault, IsLeast, IsWrittenFault};
+ghost use Rattle.fst_written.specs.Faults.{HasFault, IsLeast, IsTold, IsWrittenFault};
 ghost use Rattle.fst_written.specs.declared.fault.WrittenFault.TheVariants as written;
 
 use crate::fault::WrittenFault;
@@ -76,6 +76,7 @@ pub fn check_kinds(alloc: Global, m: &Module) -> Result<(), WrittenFault>
     ensures formed { OnOk result (AreTypesFormed m.now) }
     ensures fault { IfErr result (IsWrittenFault m.now) }
     ensures refused { IfErr result (λ f. f ≢ written.Memory → AreTypesFormed m.now → ⊥) }
+    ensures told { IfErr result IsTold }
 {
     let standing = occurrences(alloc, m)?;
     match first_fault(alloc, m, &standing)? {

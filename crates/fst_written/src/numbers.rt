@@ -1,7 +1,7 @@
 ghost use Rattle.std.specs.Prelude.{◌≡◌, ◌++◌, ◌<◌, ◌^◌, ℕ, IfOk, OnOk, length, map, false, nat_eq, slice_index_or};
 ghost use Rattle.std.specs.List.{list_any};
 ghost use Rattle.fst_terms.specs.InRange.{AreNumbersBelow};
-ghost use Rattle.fst_rules.specs.Modules.{family_types, maker_types};
+ghost use Rattle.fst_derivations.specs.Modules.{family_types, maker_types};
 ghost use Rattle.fst_written.specs.Readings.{others};
 
 use crate::readings::Occurrence;

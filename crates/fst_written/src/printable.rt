@@ -1,6 +1,6 @@
 ghost use Rattle.std.specs.Prelude.{◌≡◌, ◌↔◌, ◌<◌, ◌≤◌, IfOk, IfSome, IsTrue, MatchOption, length};
 ghost use Rattle.fst_terms.specs.InRange.{AreNumbersBelow};
-ghost use Rattle.fst_rules.specs.Modules.{AreFamiliesPrintable, IsPrintable, family_types};
+ghost use Rattle.fst_derivations.specs.Modules.{AreFamiliesPrintable, IsPrintable, family_types};
 ghost use Rattle.fst_written.specs.Printable.{IsFirstUnprintable, IsLeastField, printable};
 ghost use Rattle.fst_written.specs.Readings.{begins_at};
 

@@ -1,5 +1,5 @@
 ghost use Rattle.std.specs.Prelude.{◌≡◌, ◌++◌, IfOk, OnOk, map};
-ghost use Rattle.fst_rules.specs.Modules.{types_in};
+ghost use Rattle.fst_derivations.specs.Modules.{types_in};
 ghost use Rattle.fst_written.specs.Readings.{closed_readings, global_readings, reading_of, readings, standing_readings};
 
 use crate::numbers::{field_types, other_types};

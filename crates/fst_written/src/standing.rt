@@ -2,7 +2,7 @@ ghost use Rattle.std.specs.Prelude.{◌≡◌, ◌++◌, List, OnOk, IsFalse};
 ghost use Rattle.fst_terms.specs.CoreTree.{CoreTree};
 ghost use Rattle.fst_terms.specs.ModelCoreView.{cores_of, core_arms_of};
 ghost use Rattle.fst_terms.specs.Around.{has_first, wrap};
-ghost use Rattle.fst_rules.specs.Modules.{Standing, all_open, types_in, types_in_all, types_in_arms};
+ghost use Rattle.fst_derivations.specs.Modules.{Standing, all_open, types_in, types_in_all, types_in_arms};
 
 use fst_terms::{Arm, Form, Step, Term, pop_step, spine_of};
 use std::alloc::{AllocError, Global};

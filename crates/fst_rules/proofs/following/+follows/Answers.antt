@@ -6,7 +6,7 @@ use Rattle.fst_terms.specs.CoreTree.{core_height, core_arms_height}
 use Rattle.fst_terms.specs.ModelCoreView.{core_arms_of}
 use Rattle.std.proofs.lemmas.Result.{IfOk-weaker}
 use Rattle.fst_context.specs.Scope.{Variable, with_marks}
-use Rattle.fst_rules.specs.Deriv.{deriv_of, parts_of}
+use Rattle.fst_derivations.specs.Deriv.{deriv_of, parts_of}
 use Rattle.fst_rules.specs.Levels.{surroundings_at, rest_walk, binding_of}
 use Rattle.fst_rules.specs.Walks.{next, came, walk_of, arm_walk, bound_types, further, further_walk}
 use Rattle.fst_rules.specs.Tests.{same_tree}

@@ -3,7 +3,7 @@ use mathlib.Core.List.{reverse}
 use Rattle.fst_terms.specs.ModelCoreView.{core_arms_of, cores_of}
 use Rattle.fst_context.specs.Scope.{with_marks}
 use Rattle.fst_terms.specs.CoreTree.{core_height, cores_height, core_arms_height}
-use Rattle.fst_rules.specs.Deriv.{deriv_of, parts_of}
+use Rattle.fst_derivations.specs.Deriv.{deriv_of, parts_of}
 use Rattle.fst_rules.specs.Levels.{AreLower, binding_of, rest_walk, surroundings_at}
 use Rattle.fst_rules.specs.Walks.{walk_of, fields_walk, further_walk, Keeps}
 use Rattle.fst_rules.proofs.following.+follows.Given as goal

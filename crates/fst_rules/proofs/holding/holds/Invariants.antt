@@ -1,7 +1,7 @@
 use Rattle.std.proofs.Common.{◌↔◌, drop, map}
-use Rattle.fst_rules.specs.Deriv.{deriv_of}
-use Rattle.fst_rules.specs.Modules.{AreDerived}
-use Rattle.fst_rules.specs.Parts.{IsAnyConversion}
+use Rattle.fst_derivations.specs.Deriv.{deriv_of}
+use Rattle.fst_derivations.specs.Modules.{AreDerived}
+use Rattle.fst_derivations.specs.Parts.{IsAnyConversion}
 use Rattle.fst_rules.proofs.holding.holds.Given as goal
 
 abbrev pub invariant-loop-i : goal.invariant-loop-i

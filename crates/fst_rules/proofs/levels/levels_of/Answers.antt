@@ -1,6 +1,6 @@
 use Rattle.std.proofs.Common.{◌∙◌, ◌<◌, sym, ap, subst, arith}
 use Rattle.fst_terms.specs.CoreTree.{core_height}
-use Rattle.fst_rules.specs.Deriv.{deriv_of, parts_of}
+use Rattle.fst_derivations.specs.Deriv.{deriv_of, parts_of}
 use Rattle.fst_rules.specs.Levels.{surroundings_at, rest_walk, AreLower}
 use Rattle.fst_rules.specs.Walks.{after, walk_of}
 use Rattle.fst_rules.proofs.LevelLaws.{walk_none, walk_peeled, after_twice, rest_last, lower_last}

@@ -1,6 +1,6 @@
 use Rattle.std.proofs.Common.{◌≡◌, ◌≤◌}
 use Rattle.fst_terms.specs.CoreTree.{core_height}
-use Rattle.fst_rules.specs.Deriv.{deriv_of}
+use Rattle.fst_derivations.specs.Deriv.{deriv_of}
 use Rattle.fst_rules.specs.Levels.{AreLower, rest_walk, surroundings_at}
 use Rattle.fst_rules.specs.Walks.{after, walk_of}
 use Rattle.fst_rules.proofs.levels.levels_of.Given as goal

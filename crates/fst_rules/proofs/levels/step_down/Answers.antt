@@ -1,7 +1,7 @@
 use Rattle.std.proofs.Common.{◌≡◌, ◌∙◌, sym, ap, subst, arith, Some}
 use Rattle.fst_terms.specs.CoreTree.{operate, apply, core_height}
 use Rattle.fst_terms.specs.ModelCoreView.{core_of}
-use Rattle.fst_rules.specs.Deriv.{deriv_of, parts_of, type_of}
+use Rattle.fst_derivations.specs.Deriv.{deriv_of, parts_of, type_of}
 use Rattle.fst_rules.specs.Levels.{surroundings_at}
 use Rattle.fst_rules.specs.Walks.{after, row_walk, walk_of, parts_2, operate_fits, apply_fits}
 use Rattle.fst_rules.proofs.LevelLaws.{row_2_some}

@@ -1,6 +1,6 @@
 use Rattle.std.proofs.Common.{◌≡◌}
-use Rattle.fst_rules.specs.declared.derivation.Derivation.{size-Derivation}
-use Rattle.fst_rules.specs.Deriv.{deriv_of}
+use Rattle.fst_derivations.specs.declared.derivation.Derivation.{size-Derivation}
+use Rattle.fst_derivations.specs.Deriv.{deriv_of}
 use Rattle.fst_rules.specs.Walks.{peeled}
 use Rattle.fst_rules.proofs.peeling.peel.Given as goal
 

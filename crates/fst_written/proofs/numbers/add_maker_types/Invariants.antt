@@ -1,5 +1,5 @@
 use Rattle.std.proofs.Common.{◌≡◌, ◌++◌, drop}
-use Rattle.fst_rules.specs.Modules.{maker_types}
+use Rattle.fst_derivations.specs.Modules.{maker_types}
 use Rattle.fst_written.proofs.numbers.add_maker_types.Given as goal
 
 abbrev pub invariant-loop-maker : goal.invariant-loop-maker

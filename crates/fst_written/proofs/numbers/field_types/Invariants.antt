@@ -1,5 +1,5 @@
 use Rattle.std.proofs.Common.{◌≡◌, ◌++◌, drop}
-use Rattle.fst_rules.specs.Modules.{family_types}
+use Rattle.fst_derivations.specs.Modules.{family_types}
 use Rattle.fst_written.proofs.numbers.field_types.Given as goal
 
 abbrev pub invariant-loop-family : goal.invariant-loop-family

@@ -1,6 +1,6 @@
 use Rattle.std.proofs.Common.{◌≡◌, ◌∙◌, ap, sym, subst, length}
 use Rattle.fst_terms.specs.InRange.{AreNumbersBelow}
-use Rattle.fst_rules.specs.Modules.{family_types}
+use Rattle.fst_derivations.specs.Modules.{family_types}
 use Rattle.fst_written.specs.Printable.{IsLeastField}
 use Rattle.fst_written.proofs.FieldLaws.{least_fields, fields_refused}
 use Rattle.fst_written.proofs.RangeLaws.{families_in_range}

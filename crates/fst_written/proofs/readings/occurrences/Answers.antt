@@ -1,5 +1,5 @@
 use Rattle.std.proofs.Common.{◌≡◌, ◌++◌, ◌∙◌, sym, ap, map, length, subst, append_assoc, arith}
-use Rattle.fst_rules.specs.Modules.{family_types}
+use Rattle.fst_derivations.specs.Modules.{family_types}
 use Rattle.fst_terms.specs.InRange.{AreNumbersBelow}
 use Rattle.fst_written.specs.Readings.{closed_readings, global_readings, others, reading_of}
 use Rattle.fst_written.specs.declared.readings.Occurrence.{Occurrence}

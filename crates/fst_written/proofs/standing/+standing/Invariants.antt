@@ -2,7 +2,7 @@ use Rattle.std.proofs.Common.{◌≡◌, ◌+◌, ◌*◌, ◌++◌, length, dro
 use Rattle.fst_terms.specs.CoreTree.{CoreTree, core_height, cores_height, core_arms_height}
 use Rattle.fst_terms.specs.ModelCoreView.{cores_of, core_arms_of}
 use Rattle.fst_terms.specs.Around.{second, around}
-use Rattle.fst_rules.specs.Modules.{types_in, types_in_all, types_in_arms}
+use Rattle.fst_derivations.specs.Modules.{types_in, types_in_all, types_in_arms}
 use Rattle.fst_written.proofs.standing.+standing.Given as goal
 
 abbrev pub decreases-add_standing : goal.decreases-add_standing

@@ -1,5 +1,5 @@
 use Rattle.std.proofs.Common.{◌≡◌, ◌++◌, drop}
-use Rattle.fst_rules.specs.Modules.{all_open}
+use Rattle.fst_derivations.specs.Modules.{all_open}
 use Rattle.fst_written.proofs.standing.add_open.Given as goal
 
 abbrev pub invariant-loop-number : goal.invariant-loop-number

@@ -14,9 +14,9 @@ use Rattle.fst_terms.specs.declared.binder.Binder.{Binder}
 use Rattle.fst_terms.specs.declared.global.GlobalEntry.{GlobalEntry}
 use Rattle.fst_context.specs.Scope.{Variable, is_once}
 use Rattle.fst_context.specs.Vars.{Vars, no_vars, under}
-use Rattle.fst_rules.specs.Deriv.{Deriv, row, one}
-use Rattle.fst_rules.specs.Parts.{IsFormed, HasUse, IsConversion}
-use Rattle.fst_rules.specs.Rules.{Surroundings, Converted, Bare, Compared, At, Row}
+use Rattle.fst_derivations.specs.Deriv.{Deriv, row, one}
+use Rattle.fst_derivations.specs.Parts.{IsFormed, HasUse, IsConversion}
+use Rattle.fst_derivations.specs.Rules.{Surroundings, Converted, Bare, Compared, At, Row}
 
 -- what the terms of an equation speak of, in a module
 abbrev pub surroundings : Module → List Kind → Surroundings

@@ -1,7 +1,7 @@
 -- Derivations without where they lie in memory.
 use Rattle.std.specs.Prelude.{List, [], ◌∷◌}
 use Rattle.fst_types.specs.Tree.{Tree}
-use Rattle.fst_rules.specs.declared.derivation.Derivation.{Derivation, Row', Convert', Row_of-Derivation, end_of-Derivation, more_of-Derivation}
+use Rattle.fst_derivations.specs.declared.derivation.Derivation.{Derivation, Row', Convert', Row_of-Derivation, end_of-Derivation, more_of-Derivation}
 
 mutual
   -- a row: the type of a term, and the derivations of its parts; a conversion: the type found, the type wanted

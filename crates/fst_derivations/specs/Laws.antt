@@ -1,5 +1,5 @@
 -- What the laws of derivations say.
-use Rattle.std.specs.Prelude.{◌≡◌, ◌↔◌, ℕ, List, [], ◌∷◌, Some, Contains, ⊤}
+use Rattle.std.specs.Prelude.{◌≡◌, ◌↔◌, ℕ, List, [], ◌∷◌, length, Some, Contains, ⊤}
 use Rattle.fst_types.specs.Tree.{Tree, plain, arrow, pair, named}
 use Rattle.fst_types.specs.declared.base.Base.{Base}
 use Rattle.fst_types.specs.declared.kind.Kind.{Kind}
@@ -10,15 +10,22 @@ use Rattle.fst_lts.specs.Step.{step}
 use Rattle.fst_terms.specs.CoreTree.{CoreTree}
 use Rattle.fst_context.specs.Scope.{Variable}
 use Rattle.fst_context.specs.Vars.{Vars}
-use Rattle.fst_rules.specs.Deriv.{Deriv, type_of}
-use Rattle.fst_rules.specs.Parts.{IsFormed, HasUse, IsOffering, IsConversion, IsAnyConversion}
-use Rattle.fst_rules.specs.Rules.{Surroundings, Over, Bare, PlainRow, Derives}
+use Rattle.fst_derivations.specs.Deriv.{Deriv, type_of}
+use Rattle.fst_derivations.specs.Parts.{IsFormed, HasUse, IsOffering, IsConversion, IsAnyConversion}
+use Rattle.fst_derivations.specs.Rules.{Surroundings, Over, Bare, PlainRow, Derives}
+use Rattle.fst_derivations.specs.Texts.{HasText, AllHaveText, VariablesHaveText}
 
 -- a term has at most one plain type in a context, and has the same linear variables in all plain derivations
 abbrev pub PlainTypesAreUnique : Type 0
 PlainTypesAreUnique =
     (m : Surroundings) (e : CoreTree) (g : List Variable) (u v : Vars) (c d : Deriv) →
     PlainRow m (IsConversion m.vars) e g u c → PlainRow m (IsConversion m.vars) e g v d → (type_of c ≡ type_of d) × (u ≡ v)
+
+-- where the types of a module and of the variables in scope have texts, so has the type of a plain derivation
+abbrev pub PlainTypesHaveTexts : Type 0
+PlainTypesHaveTexts =
+    (m : Surroundings) → AllHaveText (length m.families) m.types → (e : CoreTree) (g : List Variable) → VariablesHaveText (length m.families) g →
+    (u : Vars) (d : Deriv) → PlainRow m (IsConversion m.vars) e g u d → HasText (length m.families) (type_of d)
 
 -- a plain derivation is a derivation
 abbrev pub PlainIsDerived : Type 0

@@ -8,11 +8,11 @@ use Rattle.fst_terms.specs.CoreTree.{CoreTree, local, global, int, bool, char, u
 use Rattle.fst_arms.specs.Arms.{AreEachOnce}
 use Rattle.fst_context.specs.Scope.{Variable, is_once}
 use Rattle.fst_context.specs.Vars.{Vars, under, single}
-use Rattle.fst_rules.specs.Deriv.{Deriv, row, convert, type_of, Derivs, none, part, one, two, three}
-use Rattle.fst_rules.specs.Parts.{IsFormed, HasUse, AreVariables, enter_all, under_all}
-use Rattle.fst_rules.specs.Rules.{Surroundings, Converted, itself, turned, Bare, Compared, Over, At, Binding, fields, rest, Binds, Row, Fields, Arms, FurtherArms, PlainRow, Derives}
-use Rattle.fst_rules.proofs.Parts.{plain_formed}
-use Rattle.fst_rules.specs.Laws.{IsTypeEquality, AllEqual, HasPlain}
+use Rattle.fst_derivations.specs.Deriv.{Deriv, row, convert, type_of, Derivs, none, part, one, two, three}
+use Rattle.fst_derivations.specs.Parts.{IsFormed, HasUse, AreVariables, enter_all, under_all}
+use Rattle.fst_derivations.specs.Rules.{Surroundings, Converted, itself, turned, Bare, Compared, Over, At, Binding, fields, rest, Binds, Row, Fields, Arms, FurtherArms, PlainRow, Derives}
+use Rattle.fst_derivations.proofs.Parts.{plain_formed}
+use Rattle.fst_derivations.specs.Laws.{IsTypeEquality, AllEqual, HasPlain}
 
 module _ (m : Surroundings) (E : Tree → Tree → Type 0) (L : IsTypeEquality m.vars E) where
   abbrev Plain : CoreTree → List Variable → Vars → Deriv → Type 0

@@ -14,10 +14,10 @@ use Rattle.fst_terms.specs.declared.term.Op.{Op}
 use Rattle.fst_terms.specs.declared.term.Op.TheVariants.{Add, Subtract, Multiply, Equal, Unequal, Less, AtMost, Greater, AtLeast, And, Or}
 use Rattle.fst_context.specs.Scope.{Variable, is_once}
 use Rattle.fst_context.specs.Vars.{Vars, under, outside, single, union, Both}
-use Rattle.fst_rules.specs.Deriv.{Deriv, row, type_of, Derivs, none}
-use Rattle.fst_rules.specs.Parts.{enter_all, under_all}
-use Rattle.fst_rules.specs.Rules.{Surroundings, Bare, Compared, Over, At, Operates, Binding, fields, rest, Fields, Arms, PlainRow}
-use Rattle.fst_rules.proofs.Parts.{one_use, same_at, same_variables, one_step, outside_all, one_bound}
+use Rattle.fst_derivations.specs.Deriv.{Deriv, row, type_of, Derivs, none}
+use Rattle.fst_derivations.specs.Parts.{enter_all, under_all}
+use Rattle.fst_derivations.specs.Rules.{Surroundings, Bare, Compared, Over, At, Operates, Binding, fields, rest, Fields, Arms, PlainRow}
+use Rattle.fst_derivations.proofs.Parts.{one_use, same_at, same_variables, one_step, outside_all, one_bound}
 
 -- two judgements of a part agree on the type and on the variables
 abbrev Alike : (P Q : Vars → Deriv → Type 0) → Type 0

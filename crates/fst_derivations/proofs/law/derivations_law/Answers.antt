@@ -1,6 +1,6 @@
-use Rattle.fst_rules.specs.Parts.{IsConversion, IsAnyConversion}
-use Rattle.fst_rules.proofs.Weaker.{bare_over, derives_more}
-use Rattle.fst_rules.proofs.law.derivations_law.Goals as goal
+use Rattle.fst_derivations.specs.Parts.{IsConversion, IsAnyConversion}
+use Rattle.fst_derivations.proofs.Weaker.{bare_over, derives_more}
+use Rattle.fst_derivations.proofs.law.derivations_law.Goals as goal
 
 pub returns-clause-plain : goal.returns-clause-plain
 returns-clause-plain c = λ m e g u d x. bare_over m (IsConversion m.vars) e g u d x

@@ -1,8 +1,13 @@
-ghost use Rattle.fst_rules.specs.Laws.{PlainTypesAreUnique, PlainIsDerived, DerivedIsShaped, DerivedIsPlain};
+ghost use Rattle.fst_derivations.specs.Laws.{PlainTypesAreUnique, PlainTypesHaveTexts, PlainIsDerived, DerivedIsShaped, DerivedIsPlain};
 
 /// A term has at most one plain type in a context, and has the same linear variables in all plain derivations.
 pub fn plain_types_are_unique()
     ensures { PlainTypesAreUnique }
+{}
+
+/// Where the types of a module and of the variables in scope can be written as texts, so can the type of a plain derivation.
+pub fn plain_types_have_texts()
+    ensures { PlainTypesHaveTexts }
 {}
 
 /// A plain derivation is a derivation; and a derivation stays one where types that aren't equal may be turned into one

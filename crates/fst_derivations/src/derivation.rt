@@ -1,5 +1,5 @@
 ghost use Rattle.std.specs.Prelude.{◌≡◌, IfOk};
-ghost use Rattle.fst_rules.specs.Deriv.{deriv_of, parts_of, type_of, row, convert, none, one, two, three};
+ghost use Rattle.fst_derivations.specs.Deriv.{deriv_of, parts_of, type_of, row, convert, none, one, two, three};
 
 use fst_types::Ty;
 use std::alloc::{AllocError, Global};

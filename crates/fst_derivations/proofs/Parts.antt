@@ -18,8 +18,8 @@ use Rattle.fst_lts.specs.Step.{terminated, branch_at, step_in, step}
 use Rattle.fst_base.proofs.Options.{mapped_some}
 use Rattle.fst_context.specs.Scope.{Variable, is_once}
 use Rattle.fst_context.specs.Vars.{Vars, under, outside}
-use Rattle.fst_rules.specs.Parts.{IsFormed, HasUse, AreAt, AreVariables, under_all}
-use Rattle.fst_rules.specs.Rules.{Surroundings, Binding, fields, rest, Binds}
+use Rattle.fst_derivations.specs.Parts.{IsFormed, HasUse, AreAt, AreVariables, under_all}
+use Rattle.fst_derivations.specs.Rules.{Surroundings, Binding, fields, rest, Binds}
 
 -- a type has one use
 pub one_use : (vars : List Kind) (t t' : Tree) (n n' : Use) → t ≡ t' → HasUse vars t n → HasUse vars t' n' → n ≡ n'
