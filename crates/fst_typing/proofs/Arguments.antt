@@ -5,8 +5,8 @@ use Rattle.fst_types.specs.Tree.{Tree}
 use Rattle.fst_types.specs.declared.kind.Kind.{Kind}
 use Rattle.fst_kinds.specs.Kinds.{subkind}
 use Rattle.fst_kinds.specs.WellFormed.{IsInstantiation, IsWellFormed}
-use Rattle.fst_rules.specs.Modules.{AreStandingFormed, IsFormedAt, all_open}
-use Rattle.fst_rules.specs.Parts.{AreAt}
+use Rattle.fst_derivations.specs.Modules.{AreStandingFormed, IsFormedAt, all_open}
+use Rattle.fst_derivations.specs.Parts.{AreAt}
 use Rattle.fst_typing.specs.Shown.{ShowsArguments}
 use Rattle.fst_typing.specs.Typed.{Check}
 use Rattle.fst_typing.specs.declared.fault.CheckFault.{CheckFault}

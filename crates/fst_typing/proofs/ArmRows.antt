@@ -6,10 +6,10 @@ use Rattle.fst_terms.specs.CoreTree.{no_arms, arm}
 use Rattle.fst_terms.specs.ModelCoreView.{core_arms_of}
 use Rattle.fst_terms.specs.declared.core_term.Arm.{Arm}
 use Rattle.fst_context.specs.Scope.{Scope, Takes}
-use Rattle.fst_rules.specs.Deriv.{Deriv, convert, deriv_of, none, part, parts_of, row, type_of}
-use Rattle.fst_rules.specs.declared.derivation.Derivation.{Derivation}
-use Rattle.fst_rules.specs.Parts.{IsFormed, enter_all, under_all}
-use Rattle.fst_rules.specs.Rules.{Bare, Binding, Compared, FurtherArms}
+use Rattle.fst_derivations.specs.Deriv.{Deriv, convert, deriv_of, none, part, parts_of, row, type_of}
+use Rattle.fst_derivations.specs.declared.derivation.Derivation.{Derivation}
+use Rattle.fst_derivations.specs.Parts.{IsFormed, enter_all, under_all}
+use Rattle.fst_derivations.specs.Rules.{Bare, Binding, Compared, FurtherArms}
 use Rattle.fst_typing.specs.Scenes.{AreArmsReady, AreArmsTyped, IsArmReady, IsArmTyped, IsFirstTyped, ShowsArm}
 use Rattle.fst_typing.specs.Shown.{IsUnequal, ShowsArms, ShowsFurther, UseDifferent, place}
 use Rattle.fst_typing.specs.Typed.{Check, IsKnown, IsPlain}

@@ -9,10 +9,10 @@ use Rattle.fst_terms.specs.declared.core_term.Arm.{Arm}
 use Rattle.fst_context.specs.Scope.{Scope, Variable, Takes}
 use Rattle.fst_context.specs.Vars.{Vars}
 use Rattle.fst_context.proofs.Laws.{takes_as, takes_same}
-use Rattle.fst_rules.specs.Deriv.{Deriv, Derivs, convert, deriv_of, none, part, parts_of, type_of}
-use Rattle.fst_rules.specs.declared.derivation.Derivation.{Derivation}
-use Rattle.fst_rules.specs.Parts.{enter_all, under_all}
-use Rattle.fst_rules.specs.Rules.{Bare, Binding, Binds, Compared, Arms, FurtherArms}
+use Rattle.fst_derivations.specs.Deriv.{Deriv, Derivs, convert, deriv_of, none, part, parts_of, type_of}
+use Rattle.fst_derivations.specs.declared.derivation.Derivation.{Derivation}
+use Rattle.fst_derivations.specs.Parts.{enter_all, under_all}
+use Rattle.fst_derivations.specs.Rules.{Bare, Binding, Binds, Compared, Arms, FurtherArms}
 use Rattle.fst_typing.specs.Shown.{ShowsArms, ShowsFurther}
 use Rattle.fst_typing.specs.Typed.{Check, IsKnown, IsPlain, IsTypedUnder}
 use Rattle.fst_typing.specs.declared.fault.CheckFault.{CheckFault}

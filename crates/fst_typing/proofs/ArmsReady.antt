@@ -14,10 +14,10 @@ use Rattle.fst_terms.specs.CoreTree.{CoreTree, CoreArms, no_arms, arm, case_of, 
 use Rattle.fst_terms.specs.InRange.{AreCasesInRange, AreMatchesInRange, HasFields, IsInRange, makers}
 use Rattle.fst_context.specs.Scope.{Scope, Variable}
 use Rattle.fst_arms.specs.Arms.{arm_labels, AreEachOnce}
-use Rattle.fst_rules.specs.Deriv.{Deriv}
-use Rattle.fst_rules.specs.Modules.{AreFieldsFormed, AreStandingFormed, types_in, types_in_arms}
-use Rattle.fst_rules.specs.Parts.{AreAt, AreVariables, HasUse, IsFormed, IsOffering, enter_all}
-use Rattle.fst_rules.specs.Rules.{fields, rest}
+use Rattle.fst_derivations.specs.Deriv.{Deriv}
+use Rattle.fst_derivations.specs.Modules.{AreFieldsFormed, AreStandingFormed, types_in, types_in_arms}
+use Rattle.fst_derivations.specs.Parts.{AreAt, AreVariables, HasUse, IsFormed, IsOffering, enter_all}
+use Rattle.fst_derivations.specs.Rules.{fields, rest}
 use Rattle.fst_typing.specs.Scenes.{AreArmsReady, AreFormed, AreHeld, IsArmReady, IsReady, IsSetUp, bounds}
 use Rattle.fst_typing.specs.Typed.{Check, IsTyped}
 use Rattle.fst_typing.proofs.Containing.{contains_first, contains_later, mapped_contains}

@@ -11,9 +11,9 @@ use Rattle.fst_terms.specs.declared.binder.Binder.{Binder}
 use Rattle.fst_context.specs.Scope.{Scope, Variable, is_once, begun, ended, Takes}
 use Rattle.fst_context.specs.Vars.{Vars, no_vars, under, Both}
 use Rattle.fst_context.proofs.Laws.{takes_both, takes_as, takes_body, takes_same}
-use Rattle.fst_rules.specs.Deriv.{Deriv, row, convert, type_of, one, two, three}
-use Rattle.fst_rules.specs.Parts.{IsFormed, HasUse, AreVariables, enter_all, under_all}
-use Rattle.fst_rules.specs.Rules.{Surroundings}
+use Rattle.fst_derivations.specs.Deriv.{Deriv, row, convert, type_of, one, two, three}
+use Rattle.fst_derivations.specs.Parts.{IsFormed, HasUse, AreVariables, enter_all, under_all}
+use Rattle.fst_derivations.specs.Rules.{Surroundings}
 use Rattle.fst_typing.specs.Typed.{Check, IsKnown, IsPlain, IsTyped, IsTypedUnder}
 use Rattle.fst_typing.proofs.Formed.{arrow_of_formed}
 use Rattle.fst_typing.proofs.Forms.{over, at_type, same_variables}

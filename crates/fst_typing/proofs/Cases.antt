@@ -15,9 +15,9 @@ use Rattle.fst_arms.specs.Arms.{arm_labels, AreEachOnce, AreMakerNumbers}
 use Rattle.fst_context.specs.Scope.{Scope, Variable, Takes}
 use Rattle.fst_context.specs.Vars.{Vars, Both}
 use Rattle.fst_context.proofs.Laws.{takes_as, takes_both}
-use Rattle.fst_rules.specs.Deriv.{Deriv, type_of}
-use Rattle.fst_rules.specs.Parts.{AreAt, AreVariables, IsFormed, IsOffering, enter_all}
-use Rattle.fst_rules.specs.Rules.{Arms, Bare, Binds, Compared, fields, rest}
+use Rattle.fst_derivations.specs.Deriv.{Deriv, type_of}
+use Rattle.fst_derivations.specs.Parts.{AreAt, AreVariables, IsFormed, IsOffering, enter_all}
+use Rattle.fst_derivations.specs.Rules.{Arms, Bare, Binds, Compared, fields, rest}
 use Rattle.fst_typing.specs.declared.choices.Constructors.{Constructors}
 use Rattle.fst_typing.specs.Scenes.{AreArmsTyped, AreFormed, IsArmReady, IsCase, IsReady}
 use Rattle.fst_typing.specs.Typed.{Check, IsKnown, IsPlain, IsTyped}

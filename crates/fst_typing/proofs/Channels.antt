@@ -13,8 +13,8 @@ use Rattle.fst_kinds.proofs.Laws.{session_of}
 use Rattle.fst_lts.specs.Dual.{dual}
 use Rattle.fst_terms.specs.CoreTree.{new}
 use Rattle.fst_context.specs.Scope.{Scope}
-use Rattle.fst_rules.specs.Deriv.{Deriv, none, row, type_of}
-use Rattle.fst_rules.specs.Parts.{IsFormed}
+use Rattle.fst_derivations.specs.Deriv.{Deriv, none, row, type_of}
+use Rattle.fst_derivations.specs.Parts.{IsFormed}
 use Rattle.fst_typing.specs.Typed.{Check, IsTyped}
 use Rattle.fst_typing.proofs.Duals.{dual_formed}
 use Rattle.fst_typing.proofs.Formed.{closed_formed, pair_of_formed}

@@ -4,7 +4,7 @@ use Rattle.fst_types.specs.Tree.{Tree}
 use Rattle.fst_equiv.specs.Comparison.{IsComparison}
 use Rattle.fst_equiv.specs.declared.comparing.Same.TheVariants.{Yes}
 use Rattle.fst_instances.proofs.Laws.{equal_itself}
-use Rattle.fst_rules.specs.Parts.{IsComparable, IsFormed}
+use Rattle.fst_derivations.specs.Parts.{IsComparable, IsFormed}
 use Rattle.fst_typing.specs.Typed.{Check, IsKnown}
 
 compares_itself : (budget : ℕ) (s : Tree) → IsComparable s → IsComparison s s budget Yes

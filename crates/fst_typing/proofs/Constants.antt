@@ -4,8 +4,8 @@ use Rattle.fst_types.specs.Tree.{Tree, plain}
 use Rattle.fst_types.specs.declared.base.Base.TheVariants.{Int, Bool as Truth, Char, Unit as Nothing}
 use Rattle.fst_terms.specs.CoreTree.{int, bool, char, unit}
 use Rattle.fst_context.specs.Scope.{Scope}
-use Rattle.fst_rules.specs.Deriv.{Deriv, none, row, type_of}
-use Rattle.fst_rules.specs.Parts.{IsFormed}
+use Rattle.fst_derivations.specs.Deriv.{Deriv, none, row, type_of}
+use Rattle.fst_derivations.specs.Parts.{IsFormed}
 use Rattle.fst_typing.specs.Typed.{Check, IsTyped}
 use Rattle.fst_typing.proofs.Forms.{base_formed, typed_leaf}
 

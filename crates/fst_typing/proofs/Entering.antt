@@ -6,8 +6,8 @@ use Rattle.fst_types.specs.declared.kind.Kind.{Kind}
 use Rattle.fst_types.specs.declared.kind.Use.{Use}
 use Rattle.fst_terms.specs.declared.binder.Binder.{Binder}
 use Rattle.fst_context.specs.Scope.{Scope, Variable, entered}
-use Rattle.fst_rules.specs.Modules.{IsFormedAt}
-use Rattle.fst_rules.specs.Parts.{AreAt, AreVariables, HasUse}
+use Rattle.fst_derivations.specs.Modules.{IsFormedAt}
+use Rattle.fst_derivations.specs.Parts.{AreAt, AreVariables, HasUse}
 use Rattle.fst_typing.specs.Scenes.{AreFormed}
 use Rattle.fst_typing.specs.Shown.{IsLargeBinder, IsTooLargeAt}
 use Rattle.fst_typing.specs.Typed.{Check, entered_all}

@@ -8,11 +8,11 @@ use Rattle.fst_terms.specs.ModelCoreView.{cores_of}
 use Rattle.fst_context.specs.Scope.{Scope, Variable, Takes}
 use Rattle.fst_context.specs.Vars.{Vars, Both}
 use Rattle.fst_context.proofs.Laws.{takes_both, takes_none, takes_as}
-use Rattle.fst_rules.specs.Deriv.{Deriv, Derivs, convert, deriv_of, none, part, parts_of, type_of}
-use Rattle.fst_rules.specs.declared.derivation.Derivation.{Derivation}
-use Rattle.fst_rules.specs.Modules.{IsFormedAt, types_in, types_in_all}
-use Rattle.fst_rules.specs.Parts.{AreAt}
-use Rattle.fst_rules.specs.Rules.{Compared, Bare, Fields}
+use Rattle.fst_derivations.specs.Deriv.{Deriv, Derivs, convert, deriv_of, none, part, parts_of, type_of}
+use Rattle.fst_derivations.specs.declared.derivation.Derivation.{Derivation}
+use Rattle.fst_derivations.specs.Modules.{IsFormedAt, types_in, types_in_all}
+use Rattle.fst_derivations.specs.Parts.{AreAt}
+use Rattle.fst_derivations.specs.Rules.{Compared, Bare, Fields}
 use Rattle.fst_typing.specs.Scenes.{AreFieldsReady, IsReady}
 use Rattle.fst_typing.specs.Shown.{IsUnequal, ShowsFields, place}
 use Rattle.fst_typing.specs.Typed.{AreFieldsTyped, Check, IsKnown, IsPlain, IsTyped}

@@ -14,7 +14,7 @@ use Rattle.fst_kinds.specs.WellFormed.{IsWellFormed, IsSession}
 use Rattle.fst_kinds.proofs.Laws.{session_of}
 use Rattle.fst_lts.specs.Step.{step}
 use Rattle.fst_lts.proofs.Laws.{step_session}
-use Rattle.fst_rules.specs.Parts.{IsFormed}
+use Rattle.fst_derivations.specs.Parts.{IsFormed}
 
 -- ---- parts of well-formed types are well formed
 

@@ -16,9 +16,9 @@ use Rattle.fst_terms.specs.declared.term.Op.TheVariants.{Add, Subtract, Multiply
 use Rattle.fst_context.specs.Scope.{Scope, Variable, Takes}
 use Rattle.fst_context.specs.Vars.{Vars, no_vars, Both}
 use Rattle.fst_context.proofs.Laws.{takes_both, takes_none, takes_as}
-use Rattle.fst_rules.specs.Deriv.{Deriv, row, convert, type_of, one, two}
-use Rattle.fst_rules.specs.Parts.{IsFormed, HasUse, IsComparable}
-use Rattle.fst_rules.specs.Rules.{Surroundings, Bare, Compared, Over, At, Operates, PlainRow}
+use Rattle.fst_derivations.specs.Deriv.{Deriv, row, convert, type_of, one, two}
+use Rattle.fst_derivations.specs.Parts.{IsFormed, HasUse, IsComparable}
+use Rattle.fst_derivations.specs.Rules.{Surroundings, Bare, Compared, Over, At, Operates, PlainRow}
 use Rattle.fst_typing.specs.Typed.{Check, IsKnown, IsPlain, IsTyped}
 use Rattle.fst_typing.specs.Shown.{IsOperand, operand, result_type}
 use Rattle.fst_typing.proofs.Formed.{arrow_formed, moved_formed, moving_session, pair_of_formed}

@@ -14,7 +14,7 @@ mod Equality
 mod Fields
 mod Formed
 mod Forms
-mod Globals
+mod GlobalUses
 mod Heights
 mod Leaving
 mod Makers
@@ -29,3 +29,10 @@ mod Unequal
 mod Uses
 mod Variables
 mod Wholes
+mod EquationLaws
+mod Founds
+mod Refusing
+mod Accepting
+mod TextLaws
+mod TextParts
+mod TextShown

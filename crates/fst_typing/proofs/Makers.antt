@@ -11,10 +11,10 @@ use Rattle.fst_terms.specs.ModelCoreView.{cores_of}
 use Rattle.fst_terms.specs.CoreTree.{CoreTree}
 use Rattle.fst_context.specs.Scope.{Scope, Variable}
 use Rattle.fst_context.proofs.Laws.{takes_as}
-use Rattle.fst_rules.specs.Deriv.{Deriv, Derivs, row, type_of}
-use Rattle.fst_rules.specs.Modules.{AreFieldsFormed, AreMakersFormed}
-use Rattle.fst_rules.specs.Parts.{AreAt, IsFormed}
-use Rattle.fst_rules.specs.Rules.{Bare, Compared, Fields}
+use Rattle.fst_derivations.specs.Deriv.{Deriv, Derivs, row, type_of}
+use Rattle.fst_derivations.specs.Modules.{AreFieldsFormed, AreMakersFormed}
+use Rattle.fst_derivations.specs.Parts.{AreAt, IsFormed}
+use Rattle.fst_derivations.specs.Rules.{Bare, Compared, Fields}
 use Rattle.fst_typing.specs.Scenes.{AreFieldsReady, IsReady, IsSetUp}
 use Rattle.fst_typing.specs.Typed.{AreFieldsTyped, Check, IsKnown, IsPlain, IsTyped}
 

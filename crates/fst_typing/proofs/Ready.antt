@@ -9,9 +9,9 @@ use Rattle.fst_terms.specs.declared.binder.Binder.{Binder}
 use Rattle.fst_terms.specs.declared.steps.Step.{Step}
 use Rattle.fst_terms.specs.declared.steps.Step.TheVariants.{Operate, Apply}
 use Rattle.fst_context.specs.Scope.{Scope, Variable}
-use Rattle.fst_rules.specs.Deriv.{Deriv}
-use Rattle.fst_rules.specs.Parts.{HasUse, AreVariables, enter_all}
-use Rattle.fst_rules.specs.Modules.{Standing, AreStandingFormed, types_in}
+use Rattle.fst_derivations.specs.Deriv.{Deriv}
+use Rattle.fst_derivations.specs.Parts.{HasUse, AreVariables, enter_all}
+use Rattle.fst_derivations.specs.Modules.{Standing, AreStandingFormed, types_in}
 use Rattle.fst_typing.specs.Typed.{Check, IsTyped}
 use Rattle.fst_typing.specs.Scenes.{IsReady}
 

@@ -9,7 +9,7 @@ use Rattle.fst_terms.specs.declared.steps.Step.{Step}
 use Rattle.fst_terms.specs.declared.steps.Step.TheVariants.{Operate, Apply}
 use Rattle.fst_terms.specs.declared.term.Op.{Op}
 use Rattle.fst_context.specs.Scope.{Scope}
-use Rattle.fst_rules.specs.Deriv.{Deriv, type_of}
+use Rattle.fst_derivations.specs.Deriv.{Deriv, type_of}
 use Rattle.fst_typing.specs.Shown.{Shows, After, AfterUnder, IsUnequal, IsOperand, ShowsOperand, ShowsNoFunction, operand, place}
 use Rattle.fst_typing.specs.Typed.{Check, IsTyped, IsTypedUnder}
 use Rattle.fst_typing.specs.declared.fault.CheckFault.{CheckFault}

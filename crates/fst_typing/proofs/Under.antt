@@ -6,8 +6,8 @@ use Rattle.fst_terms.specs.declared.binder.Binder.{Binder}
 use Rattle.fst_context.specs.Scope.{Scope, Variable, is_once, at_or_not, entered, fewer, left, more, tail, Takes}
 use Rattle.fst_context.specs.Vars.{Vars, under}
 use Rattle.fst_context.proofs.Laws.{takes_inside}
-use Rattle.fst_rules.specs.Deriv.{Deriv}
-use Rattle.fst_rules.specs.Parts.{enter_all, under_all}
+use Rattle.fst_derivations.specs.Deriv.{Deriv}
+use Rattle.fst_derivations.specs.Parts.{enter_all, under_all}
 use Rattle.fst_typing.specs.Typed.{Check, IsPlain, IsTypedUnder, AreUsed, entered_all, left_all}
 
 -- leaving one variable after n others is leaving it before them

@@ -9,8 +9,8 @@ use Rattle.fst_context.specs.Vars.{single}
 use Rattle.fst_context.specs.View.{after_take, taken_at}
 use Rattle.fst_context.specs.declared.context.Taken.{Taken}
 use Rattle.fst_context.specs.declared.context.Taken.TheVariants.{Here, Gone, Outside}
-use Rattle.fst_rules.specs.Deriv.{Deriv, row, none, type_of}
-use Rattle.fst_rules.specs.Parts.{HasUse, IsFormed}
+use Rattle.fst_derivations.specs.Deriv.{Deriv, row, none, type_of}
+use Rattle.fst_derivations.specs.Parts.{HasUse, IsFormed}
 use Rattle.fst_typing.specs.Scenes.{AreHeld}
 use Rattle.fst_typing.specs.Typed.{Check, IsTyped}
 

@@ -1,3 +1,7 @@
 pub mod Typed
 pub mod Shown
 pub mod Scenes
+pub mod Equations
+pub mod Checked
+pub mod Texts
+pub mod Views

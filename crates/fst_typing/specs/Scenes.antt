@@ -13,11 +13,11 @@ use Rattle.fst_arms.specs.Arms.{arm_labels, AreEachOnce, AreMakerNumbers}
 use Rattle.fst_context.specs.Scope.{Scope, Takes, Variable}
 use Rattle.fst_context.specs.declared.context.Left.{Left}
 use Rattle.fst_context.specs.declared.context.Left.TheVariants.{Used, Unused}
-use Rattle.fst_rules.specs.Deriv.{Deriv, Derivs, part, row}
-use Rattle.fst_rules.specs.Parts.{AreVariables, HasUse, IsFormed, enter_all}
-use Rattle.fst_rules.specs.Rules as rules
-use Rattle.fst_rules.specs.Rules.{Arms, Bare, Binds, Compared}
-use Rattle.fst_rules.specs.Modules.{surroundings, types_in, types_in_all, IsFormedAt, AreStandingFormed, AreFieldsFormed, AreMakersFormed}
+use Rattle.fst_derivations.specs.Deriv.{Deriv, Derivs, part, row}
+use Rattle.fst_derivations.specs.Parts.{AreVariables, HasUse, IsFormed, enter_all}
+use Rattle.fst_derivations.specs.Rules as rules
+use Rattle.fst_derivations.specs.Rules.{Arms, Bare, Binds, Compared}
+use Rattle.fst_derivations.specs.Modules.{surroundings, types_in, types_in_all, IsFormedAt, AreStandingFormed, AreFieldsFormed, AreMakersFormed}
 use Rattle.fst_typing.specs.Typed.{Check, IsKnown, IsTypedUnder}
 use Rattle.fst_typing.specs.Shown.{IsLargeBinder, Shows, Under}
 use Rattle.fst_typing.specs.declared.choices.Binding.{Binding}
@@ -25,7 +25,6 @@ use Rattle.fst_typing.specs.declared.choices.Binding.TheVariants.{Fields, Rest}
 use Rattle.fst_typing.specs.declared.choices.Constructors.{Constructors}
 use Rattle.fst_typing.specs.declared.scene.Scene.{Scene}
 use Rattle.fst_typing.specs.declared.fault.CheckFault.{CheckFault}
-use Rattle.fst_typing.specs.declared.fault.CheckFault.TheVariants.{Memory}
 
 -- what is checked with in an equation of a module
 abbrev pub check_in : Scene → Check
@@ -131,11 +130,3 @@ pub record AreArmsTyped (c : Check) (B : rules.Binding) (bs : CoreArms) (before 
 abbrev pub noted : Left → ℕ → Option ℕ → Option ℕ
 noted Unused k u = Some k
 noted Used k u = u
-
--- a refusal that isn't for want of memory shows this
-abbrev pub IsShown : CheckFault → Type 0 → Type 0
-IsShown f P = (f ≡ Memory → ⊥) → P
-
--- the same of a term
-abbrev pub IsRefused : Check → CoreTree → Scope → CheckFault → Type 0
-IsRefused c e s f = IsShown f (Shows c e s f)

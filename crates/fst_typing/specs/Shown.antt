@@ -29,13 +29,13 @@ use Rattle.fst_context.specs.View.{taken_at}
 use Rattle.fst_context.specs.declared.context.Taken.TheVariants.{Gone, Outside}
 use Rattle.fst_equiv.specs.Comparison.{IsComparison, IsTooLargeComparison}
 use Rattle.fst_equiv.specs.declared.comparing.Same.TheVariants as same
-use Rattle.fst_rules.specs.Deriv.{Deriv, type_of}
+use Rattle.fst_derivations.specs.Deriv.{Deriv, type_of}
 use Rattle.fst_arms.specs.Arms.{arm_labels, AreEachOnce}
-use Rattle.fst_rules.specs.Parts.{HasUse, AreAt, AreVariables, IsOffering, IsComparable}
-use Rattle.fst_rules.specs.Rules.{Binding, fields, rest, Binds}
+use Rattle.fst_derivations.specs.Parts.{HasUse, AreAt, AreVariables, IsOffering, IsComparable}
+use Rattle.fst_derivations.specs.Rules.{Binding, fields, rest, Binds}
 use Rattle.fst_typing.specs.Typed.{Check, IsKnown, IsTyped, IsTypedUnder, entered_all}
 use Rattle.fst_typing.specs.declared.fault.CheckFault.{CheckFault}
-use Rattle.fst_typing.specs.declared.fault.CheckFault.TheVariants.{Mismatch, Unused, UsedTwice, CapturedLinear, NotFunction, TypeArguments, KindOfArgument, NoSuchMove, Branches, Undecided, Arms, Dropped, NotPair, Kinds, TooLarge}
+use Rattle.fst_typing.specs.declared.fault.CheckFault.TheVariants.{Memory, Mismatch, Unused, UsedTwice, CapturedLinear, NotFunction, TypeArguments, KindOfArgument, NoSuchMove, Branches, Undecided, Arms, Dropped, NotPair, Kinds, TooLarge}
 use Rattle.fst_typing.specs.declared.fault.Difference.TheVariants.{Shape, Word}
 
 -- the byte at which a term's first token begins
@@ -319,3 +319,11 @@ abbrev mutual
       ⊎ (Under c xs ts e (λ z. Shows c e z f) s f
       ⊎ AfterUnder c xs ts s e (λ z d. UseDifferent (place e) r z f
       ⊎ ((z ≡ r) × (IsUnequal c (place e) (type_of d) t f ⊎ (IsKnown c (type_of d) t × ShowsFurther c b bs s r t f))))))
+
+-- a refusal that isn't for want of memory shows this
+abbrev pub IsShown : CheckFault → Type 0 → Type 0
+IsShown f P = (f ≡ Memory → ⊥) → P
+
+-- the same of a term
+abbrev pub IsRefused : Check → CoreTree → Scope → CheckFault → Type 0
+IsRefused c e s f = IsShown f (Shows c e s f)

@@ -7,9 +7,9 @@ use Rattle.fst_context.specs.Scope.{Scope, Variable, entered, left, at_or_not, T
 use Rattle.fst_context.specs.Vars.{Vars}
 use Rattle.fst_equiv.specs.Comparison.{IsComparison}
 use Rattle.fst_equiv.specs.declared.comparing.Same.TheVariants as same
-use Rattle.fst_rules.specs.Deriv.{Deriv, Derivs, type_of}
-use Rattle.fst_rules.specs.Parts.{IsFormed, IsConversion, AreVariables}
-use Rattle.fst_rules.specs.Rules.{Surroundings, Bare, Compared, Fields, PlainRow}
+use Rattle.fst_derivations.specs.Deriv.{Deriv, Derivs, type_of}
+use Rattle.fst_derivations.specs.Parts.{IsFormed, IsConversion, AreVariables}
+use Rattle.fst_derivations.specs.Rules.{Surroundings, Bare, Compared, Fields, PlainRow}
 
 -- what a check is made with: what the terms speak of, where each type of the module is written, and the budget of a question
 pub record Check : Type 0 where

@@ -6,10 +6,10 @@ ghost use mathlib.Core.List.{reverse};
 ghost use Rattle.fst_context.specs.Scope.{entered, with_marks};
 ghost use Rattle.fst_types.specs.Tree.{Tree};
 ghost use Rattle.fst_context.specs.Scope.{Variable};
-ghost use Rattle.fst_rules.specs.Parts.{AreAt, AreVariables, HasUse, IsFormed};
+ghost use Rattle.fst_derivations.specs.Parts.{AreAt, AreVariables, HasUse, IsFormed};
 ghost use Rattle.fst_typing.specs.Typed.{AreUsed, entered_all, left_all};
-ghost use Rattle.fst_typing.specs.Shown.{IsLargeBinder, ShowsUnused, UseDifferent};
-ghost use Rattle.fst_typing.specs.Scenes.{AreFormed, IsShown, noted};
+ghost use Rattle.fst_typing.specs.Shown.{IsLargeBinder, ShowsUnused, UseDifferent, IsShown};
+ghost use Rattle.fst_typing.specs.Scenes.{AreFormed, noted};
 
 use crate::fault::CheckFault;
 use crate::parts::use_of;

@@ -2,8 +2,7 @@
 
 ghost use Rattle.std.specs.Prelude.{◌≡◌, IfOk, IfErr};
 ghost use Rattle.fst_types.specs.Tree as tree;
-ghost use Rattle.fst_typing.specs.Shown.{IsTooLargeAt};
-ghost use Rattle.fst_typing.specs.Scenes.{IsShown};
+ghost use Rattle.fst_typing.specs.Shown.{IsTooLargeAt, IsShown};
 
 use crate::fault::CheckFault;
 use fst_base::MOST_NODES;

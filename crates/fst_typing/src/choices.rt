@@ -6,9 +6,9 @@ ghost use Rattle.fst_types.specs.declared.family.Family.{Family};
 ghost use Rattle.fst_types.specs.declared.label.Label.TheVariants as label;
 ghost use Rattle.fst_terms.specs.ModelCoreView.{core_arms_of};
 ghost use Rattle.fst_arms.specs.Arms.{arm_labels, AreEachOnce};
-ghost use Rattle.fst_rules.specs.Parts.{IsOffering};
-ghost use Rattle.fst_typing.specs.Shown.{ShowsNoCase, ShowsNoMatch};
-ghost use Rattle.fst_typing.specs.Scenes.{IsCase, IsShown};
+ghost use Rattle.fst_derivations.specs.Parts.{IsOffering};
+ghost use Rattle.fst_typing.specs.Shown.{ShowsNoCase, ShowsNoMatch, IsShown};
+ghost use Rattle.fst_typing.specs.Scenes.{IsCase};
 
 use crate::fault::CheckFault;
 use crate::scene::Scene;

@@ -4,6 +4,7 @@ use fst_kinds::KindFault;
 use fst_shared::SharedPair;
 use fst_types::{Kind, Label, Move, Name, Side, Ty};
 use fst_words::Grammar;
+use fst_written::WrittenFault;
 use std::alloc::{AllocError, AllocFailed};
 
 /// How the type found differs from the one wanted.
@@ -72,5 +73,18 @@ impl<T: Drop> From<AllocFailed<T>> for CheckFault {
 
     fn from(_error: AllocFailed<T>) -> CheckFault {
         CheckFault::Memory
+    }
+}
+
+impl From<WrittenFault> for CheckFault {
+    ghost use Rattle.fst_typing.specs.Views.{written_fault};
+
+    ghost from_gives = { λ e f. f ≡ written_fault e };
+
+    fn from(fault: WrittenFault) -> CheckFault {
+        match fault {
+            WrittenFault::Kinds(at, fault) => CheckFault::Kinds(at, fault),
+            WrittenFault::Memory => CheckFault::Memory,
+        }
     }
 }

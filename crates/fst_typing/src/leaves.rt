@@ -4,21 +4,21 @@ ghost use Rattle.std.specs.Prelude.{◌≡◌, ◌<◌, ◌≤◌, IfOk, IfErr, 
 ghost use Rattle.fst_types.specs.Tree.{Tree};
 ghost use Rattle.fst_kinds.specs.WellFormed.{IsWellFormed, IsInstantiation};
 ghost use Rattle.fst_terms.specs.CoreTree.{local, global, new};
-ghost use Rattle.fst_rules.specs.Deriv.{deriv_of};
-ghost use Rattle.fst_rules.specs.Parts.{AreAt};
-ghost use Rattle.fst_rules.specs.Modules.{IsFormedAt, AreStandingFormed, all_open};
-ghost use Rattle.fst_typing.specs.Shown.{ShowsArguments};
+ghost use Rattle.fst_derivations.specs.Deriv.{deriv_of};
+ghost use Rattle.fst_derivations.specs.Parts.{AreAt};
+ghost use Rattle.fst_derivations.specs.Modules.{IsFormedAt, AreStandingFormed, all_open};
+ghost use Rattle.fst_typing.specs.Shown.{ShowsArguments, IsRefused, IsShown};
 ghost use Rattle.fst_typing.specs.Typed.{IsTyped};
-ghost use Rattle.fst_typing.specs.Scenes.{check_in, IsReady, IsRefused, IsSetUp, IsShown};
+ghost use Rattle.fst_typing.specs.Scenes.{check_in, IsReady, IsSetUp};
 
 use crate::builders::pair_of;
 use crate::fault::CheckFault;
 use crate::scene::{Scene, place_at, type_at};
 use fst_base::MOST_NODES;
 use fst_context::{Context, Taken};
+use fst_derivations::Derivation;
 use fst_kinds::{KindFault, instances_keep_kinds, kind_of, subkind};
 use fst_lts::dual;
-use fst_rules::Derivation;
 use fst_types::{Kind, Prekind, Ty, Use, copy, instance_size, instantiate};
 use std::alloc::{AllocError, Global};
 

@@ -3,8 +3,11 @@
 
 mod binding;
 mod builders;
+mod checking;
 mod choices;
+mod equations;
 mod fault;
+mod globals;
 mod infer;
 mod law;
 mod leaves;
@@ -14,5 +17,6 @@ mod parts;
 mod rows;
 mod scene;
 
+pub use checking::{Accepted, check};
 pub use fault::{CheckFault, Difference};
-pub use law::equality_law;
+pub use law::{accepted_law, equality_law};

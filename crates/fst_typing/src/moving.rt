@@ -6,8 +6,7 @@ ghost use Rattle.fst_types.specs.Tree.{Tree};
 ghost use Rattle.fst_types.specs.declared.base.Base.{Base};
 ghost use Rattle.fst_types.specs.declared.label.Label.TheVariants as label;
 ghost use Rattle.fst_lts.specs.Step.{step};
-ghost use Rattle.fst_typing.specs.Shown.{IsTooLargeAt, ShowsReceive, ShowsSelect, ShowsSend};
-ghost use Rattle.fst_typing.specs.Scenes.{IsShown};
+ghost use Rattle.fst_typing.specs.Shown.{IsTooLargeAt, ShowsReceive, ShowsSelect, ShowsSend, IsShown};
 
 use crate::builders::{base, pair_of};
 use crate::fault::CheckFault;

@@ -2,17 +2,17 @@
 
 ghost use Rattle.std.specs.Prelude.{◌≡◌, ◌≤◌, IfOk, IfErr, IsTrue, None, Some, option_map};
 ghost use Rattle.fst_types.specs.Tree.{plain};
-ghost use Rattle.fst_rules.specs.Deriv.{deriv_of, type_of, convert};
-ghost use Rattle.fst_rules.specs.Parts.{IsComparable, IsFormed};
+ghost use Rattle.fst_derivations.specs.Deriv.{deriv_of, type_of, convert};
+ghost use Rattle.fst_derivations.specs.Parts.{IsComparable, IsFormed};
 ghost use Rattle.fst_typing.specs.Typed.{IsKnown};
-ghost use Rattle.fst_typing.specs.Shown.{IsOperand, ShowsOperand, operand, result_type};
-ghost use Rattle.fst_typing.specs.Scenes.{check_in, IsShown};
+ghost use Rattle.fst_typing.specs.Shown.{IsOperand, ShowsOperand, operand, result_type, IsShown};
+ghost use Rattle.fst_typing.specs.Scenes.{check_in};
 
 use crate::builders::base;
 use crate::fault::CheckFault;
 use crate::parts::compared;
 use crate::scene::Scene;
-use fst_rules::Derivation;
+use fst_derivations::Derivation;
 use fst_terms::Op;
 use fst_types::{Base, Ty, TyForm, copy};
 use std::alloc::Global;

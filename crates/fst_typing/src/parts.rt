@@ -6,18 +6,18 @@ ghost use Rattle.fst_types.specs.Tree as tree;
 ghost use Rattle.fst_types.specs.declared.base.Base.TheVariants.{Bool as Truth};
 ghost use Rattle.fst_types.specs.declared.kind.Use.{Use};
 ghost use Rattle.fst_types.specs.declared.kind.Use.TheVariants.{Many};
-ghost use Rattle.fst_rules.specs.Deriv.{deriv_of, type_of, convert};
-ghost use Rattle.fst_rules.specs.Parts.{IsFormed, HasUse};
+ghost use Rattle.fst_derivations.specs.Deriv.{deriv_of, type_of, convert};
+ghost use Rattle.fst_derivations.specs.Parts.{IsFormed, HasUse};
 ghost use Rattle.fst_typing.specs.Typed.{IsKnown};
-ghost use Rattle.fst_typing.specs.Shown.{IsUnequal, ShowsDropped, ShowsNoFunction, ShowsNoPair};
-ghost use Rattle.fst_typing.specs.Scenes.{check_in, IsShown};
+ghost use Rattle.fst_typing.specs.Shown.{IsUnequal, ShowsDropped, ShowsNoFunction, ShowsNoPair, IsShown};
+ghost use Rattle.fst_typing.specs.Scenes.{check_in};
 
 use crate::builders::base;
 use crate::fault::{CheckFault, Difference};
 use crate::scene::Scene;
+use fst_derivations::Derivation;
 use fst_equiv::{EquivFault, Same, same_type};
 use fst_kinds::kind_of;
-use fst_rules::Derivation;
 use fst_types::{Base, Kind, Ty, TyForm, Use, copy};
 use std::alloc::{AllocError, Global};
 

@@ -1,9 +1,9 @@
 // Rows that have the type of a part.
 
 ghost use Rattle.std.specs.Prelude.{◌≡◌, IfOk};
-ghost use Rattle.fst_rules.specs.Deriv.{deriv_of, type_of, row, two, three};
+ghost use Rattle.fst_derivations.specs.Deriv.{deriv_of, type_of, row, two, three};
 
-use fst_rules::Derivation;
+use fst_derivations::Derivation;
 use fst_types::copy;
 use std::alloc::{AllocError, Global};
 

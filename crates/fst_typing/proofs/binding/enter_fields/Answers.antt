@@ -1,6 +1,6 @@
 use Rattle.std.proofs.Common.{◌≡◌, ◌∙◌, ◌<◌, arith, get_or, length, subst, sym}
 use Rattle.std.proofs.lemmas.Result.{err_from_is_err_and}
-use Rattle.fst_rules.specs.Parts.{IsFormed}
+use Rattle.fst_derivations.specs.Parts.{IsFormed}
 use Rattle.fst_typing.specs.Scenes.{check_in}
 use Rattle.fst_typing.proofs.Entering.{EnteredSoFar, entered_end, entered_large, entered_start, entered_step, formed_at}
 use Rattle.fst_typing.proofs.Fields.{same_some}

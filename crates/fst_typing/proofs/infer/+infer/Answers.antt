@@ -17,11 +17,11 @@ use Rattle.fst_terms.specs.declared.core_term.Arm.{Arm}
 use Rattle.fst_terms.specs.declared.binder.Binder.{Binder}
 use Rattle.fst_context.specs.Scope.{Scope, Variable, entered, with_marks}
 use Rattle.fst_arms.specs.Arms.{arm_labels}
-use Rattle.fst_rules.specs.Deriv.{convert, deriv_of, parts_of, row, two, type_of}
-use Rattle.fst_rules.specs.Parts.{AreAt, AreVariables, HasUse, IsFormed, IsOffering, enter_all}
-use Rattle.fst_rules.specs.Rules.{fields, rest}
-use Rattle.fst_typing.specs.Scenes.{binding_of, check_in, AreArmsReady, AreArmsTyped, AreFieldsReady, IsArmReady, IsArmTyped, IsFirstTyped, IsNumbered, IsReady, IsRefused, IsShown, ShowsArm, AreFormed}
-use Rattle.fst_typing.specs.Shown.{Shows, IsLargeBinder, IsTooLargeAt, ShowsNoCase, ShowsNoMatch, ShowsUnused, IsUnequal, ShowsArms, ShowsDropped, ShowsNoFunction, ShowsNoPair, ShowsReceive, ShowsSelect, ShowsSend, Under, UseDifferent, place}
+use Rattle.fst_derivations.specs.Deriv.{convert, deriv_of, parts_of, row, two, type_of}
+use Rattle.fst_derivations.specs.Parts.{AreAt, AreVariables, HasUse, IsFormed, IsOffering, enter_all}
+use Rattle.fst_derivations.specs.Rules.{fields, rest}
+use Rattle.fst_typing.specs.Scenes.{binding_of, check_in, AreArmsReady, AreArmsTyped, AreFieldsReady, IsArmReady, IsArmTyped, IsFirstTyped, IsNumbered, IsReady, ShowsArm, AreFormed}
+use Rattle.fst_typing.specs.Shown.{Shows, IsLargeBinder, IsTooLargeAt, ShowsNoCase, ShowsNoMatch, ShowsUnused, IsUnequal, ShowsArms, ShowsDropped, ShowsNoFunction, ShowsNoPair, ShowsReceive, ShowsSelect, ShowsSend, Under, UseDifferent, place, IsRefused, IsShown}
 use Rattle.fst_typing.specs.Typed.{AreUsed, IsKnown, IsPlain, IsTyped, IsTypedUnder, entered_all, left_all}
 use Rattle.fst_typing.proofs.ArmRows.{RowSoFar, all_seen, arm_ready, arm_takes, first_is, first_refused, further_different, further_refused, further_unequal, row_begin, row_end, row_step, row_takes}
 use Rattle.fst_typing.proofs.ArmsReady.{case_first_ready, case_ready, enter_length, match_first_ready, match_ready}

@@ -6,7 +6,7 @@ use Rattle.fst_kinds.specs.WellFormed.{IsInstantiation}
 use Rattle.fst_typing.specs.Scenes.{check_in}
 use Rattle.fst_typing.specs.Shown.{ShowsArguments}
 use Rattle.fst_typing.specs.declared.fault.CheckFault.TheVariants.{TypeArguments}
-use Rattle.fst_typing.proofs.Globals.{global_typed}
+use Rattle.fst_typing.proofs.GlobalUses.{global_typed}
 use Rattle.fst_typing.proofs.Makers.{below_length, read_at}
 use Rattle.fst_typing.proofs.leaves.global_use.Goals as goal
 

@@ -1,6 +1,6 @@
 use Rattle.std.proofs.Common.{subst, sym}
 use Rattle.fst_types.specs.declared.base.Base.TheVariants.{Bool as Truth}
-use Rattle.fst_rules.specs.Parts.{IsFormed}
+use Rattle.fst_derivations.specs.Parts.{IsFormed}
 use Rattle.fst_typing.specs.Scenes.{check_in}
 use Rattle.fst_typing.proofs.Forms.{base_formed}
 use Rattle.fst_typing.proofs.parts.truth.Goals as goal

@@ -7,9 +7,9 @@ use Rattle.fst_kinds.specs.WellFormed.{IsInstance, IsInstantiation, IsWellFormed
 use Rattle.fst_terms.specs.CoreTree.{global}
 use Rattle.fst_terms.specs.declared.global.GlobalEntry.{GlobalEntry}
 use Rattle.fst_context.specs.Scope.{Scope}
-use Rattle.fst_rules.specs.Deriv.{Deriv, none, row, type_of}
-use Rattle.fst_rules.specs.Modules.{IsFormedAt}
-use Rattle.fst_rules.specs.Parts.{AreAt, IsFormed}
+use Rattle.fst_derivations.specs.Deriv.{Deriv, none, row, type_of}
+use Rattle.fst_derivations.specs.Modules.{IsFormedAt}
+use Rattle.fst_derivations.specs.Parts.{AreAt, IsFormed}
 use Rattle.fst_typing.specs.Typed.{Check, IsTyped}
 use Rattle.fst_typing.proofs.Fields.{same_some}
 use Rattle.fst_typing.proofs.Forms.{typed_leaf}

@@ -1,0 +1,51 @@
+ghost use Rattle.std.specs.Prelude.{◌≤◌, ℕ, IfErr, IfOk, OnOk, length, map};
+ghost use Rattle.fst_derivations.specs.Deriv.{deriv_of};
+ghost use Rattle.fst_derivations.specs.Modules.{AreFamiliesPrintable, AreTypesFormed, HasDerivations};
+ghost use Rattle.fst_typing.specs.Checked.{IsAccepted, IsRefusal};
+ghost use Rattle.fst_typing.specs.Texts.{HaveTexts};
+ghost use Rattle.fst_typing.specs.Shown.{IsShown};
+
+use crate::fault::CheckFault;
+use crate::globals::check_globals;
+use fst_derivations::Derivation;
+use fst_terms::Module;
+use fst_types::copy;
+use fst_written::{check_kinds, unprintable_field};
+use std::alloc::Global;
+
+/// The derivations of an accepted module.
+#[derive(Drop)]
+pub struct Accepted {
+    /// One for each global, in their order.
+    pub derivations: Vec<Derivation>,
+}
+
+/// That the written types of a module are well formed and its fields can be printed.
+fn check_written(alloc: Global, m: &Module) -> Result<(), CheckFault>
+    ensures types { OnOk result (AreTypesFormed m.now) }
+    ensures fields { OnOk result (AreFamiliesPrintable m.now.types.items m.now.families.items) }
+    ensures refused { IfErr result (λ f. IsShown f ((budget : ℕ) → IsRefusal m.now budget f)) }
+{
+    check_kinds(alloc, m)?;
+    match unprintable_field(alloc, m)? {
+        None => Ok(()),
+        Some(k) => {
+            let t = copy(alloc, &m.types[k as usize])?;
+            Err(CheckFault::NotPrintable(m.places[k as usize], t))
+        }
+    }
+}
+
+/// Whether a module is well typed: its plain derivations, or the first cause for which it is refused. A question between two
+/// types has so many pairs as the budget says.
+pub fn check(alloc: Global, m: &Module, budget: u32) -> Result<Accepted, CheckFault>
+    requires { 1 ≤ budget }
+    ensures accepted { IfOk result (λ a. IsAccepted m.now budget (map deriv_of a.derivations.items)) }
+    ensures derived { IfOk result (λ a. HasDerivations m.now (map deriv_of a.derivations.items)) }
+    ensures refused { IfErr result (λ f. IsShown f (IsRefusal m.now budget f)) }
+    ensures texts { IfErr result (HaveTexts (length m.now.families.items)) }
+{
+    check_written(alloc, m)?;
+    let derivations = check_globals(alloc, m, budget)?;
+    Ok(Accepted { derivations })
+}
