@@ -66,7 +66,7 @@ kind_found vars t at kind.Memory h = tt
 -- ---- names and sizes
 
 -- a fault says what is found of it
-said_found : (P : Finding → Type 0) (e : NameFault) → ((g : Finding) → name_finding e ≡ Some g → P g) → IfFound (name_fault e) P
+pub said_found : (P : Finding → Type 0) (e : NameFault) → ((g : Finding) → name_finding e ≡ Some g → P g) → IfFound (name_fault e) P
 said_found P (naming.Unbound at x) h = h (refused at (phrase.Unbound x)) refl
 said_found P (naming.Twice at x) h = h (refused at (phrase.Twice x)) refl
 said_found P (naming.Arity at got wanted) h = h (refused at (phrase.Arity got wanted)) refl

@@ -1,19 +1,22 @@
 -- How a run ends.
-use Rattle.std.proofs.Common.{◌≡◌, ℕ, ◌+◌, List, length, Option, arith}
+use Rattle.std.proofs.Common.{◌≡◌, ℕ, ◌+◌, List, length, Option, subst, arith}
 use Rattle.std.specs.Io.KnownBytes.{Consumes, IsAtEnd}
 use Rattle.fst_io.specs.GivingUp.{Loses}
 use Rattle.fst_base.specs.Limits.{most_bytes}
 use Rattle.fst_command.specs.declared.status.Status.{Status}
 use Rattle.fst_command.specs.declared.status.Status.TheVariants as status
-use Rattle.fst_command.specs.Words.{Command, equiv, show, IsCommand}
-use Rattle.fst_command.specs.Output.{Writes, too_long, command}
+use Rattle.fst_command.specs.Words.{Command, equiv, show, check, IsCommand}
+use Rattle.fst_command.specs.Output.{Writes, too_long, usage, command, IsOutput}
 use Rattle.fst_command.specs.Texts.{too_long_text}
 use Rattle.fst_command.specs.Top.{ReadsInput, ReadsFor, IsAnswered}
+use Rattle.fst_command.specs.Meanings.{CheckMeanings, ReadsAccepted}
+use Rattle.fst_command.proofs.OutputLaws.{one_command}
 
 -- what is read for a command
 reads_for : (c : Command) (old new : Option (List ℕ)) (bytes : List ℕ) → ReadsInput old new bytes → ReadsFor c old new bytes
 reads_for (equiv budget) old new bytes r = r
 reads_for show old new bytes r = r
+reads_for (check budget) old new bytes r = r
 
 -- an input that was read to its end has its command's output
 pub read_whole : (s : Status) (words : List (List ℕ)) (c : Command) (old new : Option (List ℕ)) (bytes text : List ℕ) → IsCommand words c → Consumes old new bytes → IsAtEnd new → Writes c bytes text s → IsAnswered words old new text s
@@ -27,6 +30,7 @@ read_whole s words c old new bytes text is read end w = record {
 too_long_written : (c : Command) (bytes text : List ℕ) (s : Status) → length bytes ≡ most_bytes + 1 → text ≡ too_long_text → s ≡ status.Limit → Writes c bytes text s
 too_long_written (equiv budget) bytes text s long w e = too_long long w e
 too_long_written show bytes text s long w e = too_long long w e
+too_long_written (check budget) bytes text s long w e = too_long long w e
 
 pub read_over : (s : Status) (words : List (List ℕ)) (c : Command) (old new : Option (List ℕ)) (text : List ℕ) → IsCommand words c → Loses (most_bytes + 1) old new → text ≡ too_long_text → s ≡ status.Limit → IsAnswered words old new text s
 read_over s words c old new text is lost w e = record {
@@ -34,3 +38,18 @@ read_over s words c old new text is lost w e = record {
   read = λ d it. reads_for d old new lost.0 (record { read = lost.1; end = λ short. absurd (omega (arith, short, lost.2)) });
   output = command c is (too_long_written c lost.0 text s lost.2 w e);
 }
+
+-- where `check` did its work, what was read is a source of a module that has derivations
+pub read_accepted : CheckMeanings → (words : List (List ℕ)) (old new : Option (List ℕ)) (text : List ℕ) (s : Status) → IsAnswered words old new text s → s ≡ status.Done → (budget : ℕ) → IsCommand words (check budget) → ReadsAccepted old new
+read_accepted meanings words old new text s a done budget it = by a.output
+  where
+    by : IsOutput words a.bytes text s → ReadsAccepted old new
+    by (usage none nothing w e) = absurd (none (check budget) it)
+    by (command c is w) =
+        let one = one_command words c (check budget) is it in
+        let written = subst (λ d. Writes d a.bytes text s) one w in
+        record {
+          bytes = a.bytes;
+          read = a.read (check budget) it;
+          accepted = meanings budget a.bytes text (subst (λ r. Writes (check budget) a.bytes text r) done written);
+        }

@@ -9,7 +9,7 @@ use Rattle.std.specs.Str.Parse.{ParsesUnsigned, digits_value}
 use Rattle.std.proofs.lemmas.Slice.Eq.{bytes_eq-Decides}
 use Rattle.std.proofs.lemmas.Str.Parse.{IsNumeralModel, numerals_by_value, parse_gives, digits_value_short}
 use Rattle.std.proofs.Math.Seq.{take-length}
-use Rattle.fst_command.specs.Words.{IsBudget, IsOption, IsEquiv, equiv, show, IsShow, NoCommand}
+use Rattle.fst_command.specs.Words.{IsBudget, IsOption, IsBudgeted, equiv, show, check, IsShow, NoCommand}
 
 own : IsNumeralModel (λ ds. list_all is_ascii_digit ds ≡ true) (digits_value 10)
 own = numerals_by_value _ (search rules)
@@ -44,13 +44,13 @@ two_words f (v ∷ u ∷ []) w d test word digits r first second some few is_wor
     by (Some n) h = (option, h)
 two_words f (v ∷ u ∷ x ∷ ws) w d test word digits r first second some few is_word is_digits eq holds h = absurd (omega arith)
 
--- the budget behind `equiv`
-pub first_word : {A : Type 0} (f : A → List ℕ) (ws : List A) (w : A) (test : Bool) (word : List ℕ) (r : Option ℕ) →
-    w ≡ get_or ws 0 w → 1 ≤ length ws → word ≡ f w → test ≡ bytes_eq word (codes "equiv") → test ≡ true →
+-- the budget behind a command's name
+pub first_word : {A : Type 0} (f : A → List ℕ) (name : List ℕ) (ws : List A) (w : A) (test : Bool) (word : List ℕ) (r : Option ℕ) →
+    w ≡ get_or ws 0 w → 1 ≤ length ws → word ≡ f w → test ≡ bytes_eq word name → test ≡ true →
     MatchOption r ((n : ℕ) → IsOption (map f (take (length ws - 1) (drop 1 ws))) n → ⊥) (IsOption (map f (take (length ws - 1) (drop 1 ws)))) →
-    MatchOption r ((n : ℕ) → IsEquiv (map f ws) n → ⊥) (IsEquiv (map f ws))
-first_word f [] w test word r first some is_word eq holds h = absurd (omega arith)
-first_word f (v ∷ ws) w test word r first some is_word eq holds h =
+    MatchOption r ((n : ℕ) → IsBudgeted name (map f ws) n → ⊥) (IsBudgeted name (map f ws))
+first_word f name [] w test word r first some is_word eq holds h = absurd (omega arith)
+first_word f name (v ∷ ws) w test word r first some is_word eq holds h =
     by r (subst (λ x. MatchOption r ((n : ℕ) → IsOption (map f x) n → ⊥) (IsOption (map f x))) all h)
   where
     count : length (v ∷ ws) - 1 ≡ length ws
@@ -59,10 +59,10 @@ first_word f (v ∷ ws) w test word r first some is_word eq holds h =
     all : take (length (v ∷ ws) - 1) ws ≡ ws
     all = ap (λ n. take n ws) count ∙ take-length ws
 
-    command : f v ≡ codes "equiv"
-    command = ap f (sym first) ∙ sym is_word ∙ equal word (codes "equiv") test eq holds
+    command : f v ≡ name
+    command = ap f (sym first) ∙ sym is_word ∙ equal word name test eq holds
 
-    by : (r : Option ℕ) → MatchOption r ((n : ℕ) → IsOption (map f ws) n → ⊥) (IsOption (map f ws)) → MatchOption r ((n : ℕ) → IsEquiv (f v ∷ map f ws) n → ⊥) (IsEquiv (f v ∷ map f ws))
+    by : (r : Option ℕ) → MatchOption r ((n : ℕ) → IsOption (map f ws) n → ⊥) (IsOption (map f ws)) → MatchOption r ((n : ℕ) → IsBudgeted name (f v ∷ map f ws) n → ⊥) (IsBudgeted name (f v ∷ map f ws))
     by None h = λ n both. h n both.1
     by (Some n) h = (command, h)
 
@@ -86,7 +86,8 @@ only_word f (v ∷ []) w test word first some few is_word eq = by_test test eq
         let both = e ∙ (bytes_eq-Decides word (codes "show")).1 (sym same ∙ head) in
         absurd cc
 
--- words that are neither of the two are none
-pub neither : (words : List (List ℕ)) → IsShow false words → ((n : ℕ) → IsEquiv words n → ⊥) → NoCommand words
-neither words no_show no_equiv (equiv n) c = no_equiv n c
-neither words no_show no_equiv show c = no_show c
+-- words that are none of the three are no command's
+pub none_of_them : (words : List (List ℕ)) → IsShow false words → ((n : ℕ) → IsBudgeted (codes "equiv") words n → ⊥) → ((n : ℕ) → IsBudgeted (codes "check") words n → ⊥) → NoCommand words
+none_of_them words no_show no_equiv no_check (equiv n) c = no_equiv n c
+none_of_them words no_show no_equiv no_check show c = no_show c
+none_of_them words no_show no_equiv no_check (check n) c = no_check n c

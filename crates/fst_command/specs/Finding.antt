@@ -1,5 +1,5 @@
 -- Why an input isn't what its command is for. What comes first in the order of refusals is found: tokens, then syntax and
--- nesting, then names and sizes, in each the first by its place, then kinds, of the left type before those of the right one. For `show` only tokens, syntax and nesting count.
+-- nesting, then names and sizes, in each the first by its place, then kinds, of the left type before those of the right one. For `show` only tokens, syntax and nesting count; for `check` also names and sizes.
 use Rattle.std.specs.Prelude.{◌≡◌, ◌⊎◌, ℕ, List, Option, Some, None, Result, Ok, Err}
 use Rattle.fst_types.specs.Tree.{Tree}
 use Rattle.fst_types.specs.declared.kind.Kind.{Kind}
@@ -19,10 +19,16 @@ use Rattle.fst_type_print.specs.declared.refusals.Phrase.{Phrase}
 use Rattle.fst_type_print.specs.declared.refusals.Phrase.TheVariants as phrase
 use Rattle.fst_scopes.specs.declared.fault.NameFault.{NameFault}
 use Rattle.fst_scopes.specs.declared.fault.NameFault.TheVariants as naming
+use Rattle.fst_terms.specs.ModuleTree.{Declared}
+use Rattle.fst_terms.specs.declared.core_module.Module.{Module}
+use Rattle.fst_scopes.specs.Aliases.{Known, IsKnown}
+use Rattle.fst_scopes.specs.TypeNames.{type_declared}
+use Rattle.fst_declarations.specs.ModuleFaults.{module_faults}
 use Rattle.fst_names.specs.declared.question.Question.{Question}
 use Rattle.fst_names.specs.Faults.{question_faults}
 use Rattle.fst_scopes.specs.First.{first_fault}
 use Rattle.fst_names.specs.Resolved.{IsResolved}
+use Rattle.fst_names.specs.ResolvedModule.{IsResolvedModule}
 
 -- an input is refused at a byte, or a token there is nested too deep, or a type there is too large
 pub data Finding : Type 0 where
@@ -118,3 +124,19 @@ IsNoQuestion bytes f = IsUnread AnswersQuestion bytes f ⊎ ((q : Asked) × IsRe
 -- the bytes are no module
 abbrev pub IsNoModule : List ℕ → Finding → Type 0
 IsNoModule bytes f = IsUnread AnswersModule bytes f
+
+-- a source stands for no module: it has a fault of names and sizes, of which the first is found
+pub record NamesFinding (ds : List Declared) (f : Finding) : Type 0 where
+  pub fault : NameFault
+  pub first : (known : Known) → IsKnown (type_declared ds) known → first_fault (module_faults ds known) ≡ Some fault
+  pub says : name_finding fault ≡ Some f
+
+-- the bytes are a source that stands for the module
+pub record AreResolved (bytes : List ℕ) (m : Module) : Type 0 where
+  pub declared : List Declared
+  pub read : IsRead AnswersModule bytes declared
+  pub resolved : IsResolvedModule declared m
+
+-- the bytes are no such source
+abbrev pub AreUnresolved : List ℕ → Finding → Type 0
+AreUnresolved bytes f = IsUnread AnswersModule bytes f ⊎ ((ds : List Declared) × IsRead AnswersModule bytes ds × NamesFinding ds f)

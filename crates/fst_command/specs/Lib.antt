@@ -1,6 +1,7 @@
 pub mod Status
 pub mod Words
 pub mod Texts
+pub mod CheckTexts
 pub mod Finding
 pub mod Output
 pub mod Top

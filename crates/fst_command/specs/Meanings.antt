@@ -1,5 +1,6 @@
--- What the texts of `equiv` say of the two types that an input asks about, over the variables of the question.
-use Rattle.std.specs.Prelude.{◌≡◌, ◌↔◌, ℕ, List, ◌++◌, length, codes, Bool}
+-- What the texts of `equiv` say of the two types that an input asks about, over the variables of the question, and what that
+-- of `check` says of a module.
+use Rattle.std.specs.Prelude.{◌≡◌, ◌↔◌, ℕ, List, ◌++◌, length, codes, Bool, Option}
 use Rattle.fst_base.specs.Agreement.{Performs, Agree}
 use Rattle.fst_base.specs.Order.{IsBefore}
 use Rattle.fst_types.specs.Order.{label_cmp}
@@ -11,11 +12,19 @@ use Rattle.fst_words.specs.Words.{Productions}
 use Rattle.fst_norms.specs.Pruned.{pruned_word}
 use Rattle.fst_breadth.specs.Reached.{AreFirst, IsBeyond, AreAlike, ReachedPair}
 use Rattle.fst_equiv.specs.Problem.{IsProblem}
+use Rattle.fst_terms.specs.ModuleTree.{Declared}
+use Rattle.fst_terms.specs.declared.core_module.Module.{Module}
+use Rattle.fst_module_grammar.specs.Derives.{AnswersModule}
 use Rattle.fst_names.specs.declared.question.Question.{Question}
+use Rattle.fst_names.specs.ResolvedModule.{IsResolvedModule}
+use Rattle.fst_derivations.specs.Deriv.{Deriv}
+use Rattle.fst_derivations.specs.Modules.{HasDerivations}
 use Rattle.fst_command.specs.declared.status.Status.{Status}
-use Rattle.fst_command.specs.Words.{equiv}
-use Rattle.fst_command.specs.Finding.{AreAsked}
+use Rattle.fst_command.specs.declared.status.Status.TheVariants as status
+use Rattle.fst_command.specs.Words.{equiv, check}
+use Rattle.fst_command.specs.Finding.{IsRead, AreAsked}
 use Rattle.fst_command.specs.Output.{Writes}
+use Rattle.fst_command.specs.Top.{ReadsInput}
 use Rattle.fst_command.specs.Texts.{yes_text, no_text, undecided_text}
 
 -- the two types agree at every depth
@@ -57,3 +66,22 @@ pub record EquivMeanings : Type 0 where
   pub yes : (budget : ℕ) (bytes : List ℕ) (s : Status) → Writes (equiv budget) bytes yes_text s → MeansYes bytes
   pub no : (budget : ℕ) (bytes rest : List ℕ) (s : Status) → Writes (equiv budget) bytes (codes "no " ++ rest) s → MeansNo bytes (codes "no " ++ rest)
   pub undecided : (budget : ℕ) (bytes rest : List ℕ) (s : Status) → Writes (equiv budget) bytes (codes "undecided " ++ rest) s → MeansUndecided budget bytes (codes "undecided " ++ rest)
+
+-- the bytes are a source that stands for a module, and that has derivations
+pub record MeansAccepted (bytes : List ℕ) : Type 0 where
+  pub declared : List Declared
+  pub read : IsRead AnswersModule bytes declared
+  pub resolved : Module
+  pub is_resolved : IsResolvedModule declared resolved
+  pub derivations : List Deriv
+  pub derived : HasDerivations resolved derivations
+
+-- what it means that `check` did its work
+abbrev pub CheckMeanings : Type 0
+CheckMeanings = (budget : ℕ) (bytes text : List ℕ) → Writes (check budget) bytes text status.Done → MeansAccepted bytes
+
+-- what was read is a source of a module that has derivations
+pub record ReadsAccepted (old new : Option (List ℕ)) : Type 0 where
+  pub bytes : List ℕ
+  pub read : ReadsInput old new bytes
+  pub accepted : MeansAccepted bytes

@@ -3,15 +3,21 @@ use Rattle.std.specs.Prelude.{◌≡◌, ℕ, ◌+◌, ◌≤◌, ◌⊎◌, Lis
 use Rattle.fst_base.specs.Limits.{most_bytes}
 use Rattle.fst_equiv.specs.Answers.{Answer, yes, no, undecided, too_large, Answers}
 use Rattle.fst_terms.specs.ModuleTree.{Declared}
+use Rattle.fst_terms.specs.declared.core_module.Module.{Module}
 use Rattle.fst_module_grammar.specs.Derives.{AnswersModule as ReadsModule}
 use Rattle.fst_names.specs.declared.question.Question.{Question}
+use Rattle.fst_type_print.specs.Texts.{family_names}
 use Rattle.fst_print.specs.ModuleTexts.{module_text}
+use Rattle.fst_derivations.specs.Deriv.{Deriv}
+use Rattle.fst_typing.specs.Checked.{IsAccepted, IsRefusal}
+use Rattle.fst_typing.specs.declared.fault.CheckFault.{CheckFault}
 use Rattle.fst_command.specs.declared.status.Status.{Status}
 use Rattle.fst_command.specs.declared.status.Status.TheVariants as status
-use Rattle.fst_command.specs.Words.{Command, equiv, show, IsCommand, NoCommand}
-use Rattle.fst_command.specs.Finding.{Finding, refused, too_deep, IsRead, AreAsked, IsNoQuestion, IsNoModule}
+use Rattle.fst_command.specs.Words.{Command, equiv, show, check, IsCommand, NoCommand}
+use Rattle.fst_command.specs.Finding.{Finding, refused, too_deep, IsRead, AreAsked, IsNoQuestion, IsNoModule, AreResolved, AreUnresolved}
 use Rattle.fst_command.specs.Finding as finding
 use Rattle.fst_command.specs.Texts.{yes_text, no_text, undecided_text, refused_text, too_deep_text, too_large_text, too_long_text, usage_text}
+use Rattle.fst_command.specs.CheckTexts.{accepted_text, cause, cause_text, cause_status}
 
 -- ---- an input that isn't what its command is for
 
@@ -65,6 +71,21 @@ pub record ShowsModule (bytes text : List ℕ) (s : Status) : Type 0 where
   pub written : text ≡ module_text declared
   pub ended : s ≡ status.Done
 
+-- ---- `check`
+
+-- this text and status are what is found of a module within a budget: it is accepted with some derivations, or it is refused
+-- with a fault
+pub data IsFoundOf (bytes : List ℕ) (m : Module) (budget : ℕ) (text : List ℕ) (s : Status) : Type 0 where
+  accepted : (ds : List Deriv) → IsAccepted m budget ds → text ≡ accepted_text → s ≡ status.Done → IsFoundOf bytes m budget text s
+  unaccepted : (f : CheckFault) → IsRefusal m budget f → text ≡ cause_text bytes budget (cause (family_names m.families.items) f) →
+      s ≡ cause_status (cause (family_names m.families.items) f) → IsFoundOf bytes m budget text s
+
+-- the bytes stand for a module, and this text and status are what is found of it within a budget
+pub record ChecksModule (budget : ℕ) (bytes text : List ℕ) (s : Status) : Type 0 where
+  pub resolved : Module
+  pub is_resolved : AreResolved bytes resolved
+  pub found : IsFoundOf bytes resolved budget text s
+
 -- ---- all commands
 
 -- what is written of an input: that it is too long, or why it isn't what the command is for, or what the command makes of it
@@ -77,6 +98,7 @@ pub data WritesOf (IsNone : List ℕ → Finding → Type 0) (Makes : List ℕ �
 abbrev pub Writes : Command → List ℕ → List ℕ → Status → Type 0
 Writes (equiv budget) = WritesOf IsNoQuestion (AnswersQuestion budget)
 Writes show = WritesOf IsNoModule ShowsModule
+Writes (check budget) = WritesOf AreUnresolved (ChecksModule budget)
 
 -- what is written of words and bytes: the usage line where the words are no command's, with nothing read, and else what
 -- the command writes
@@ -86,9 +108,12 @@ pub data IsOutput (words : List (List ℕ)) (bytes text : List ℕ) (s : Status)
 
 -- ---- laws
 
--- words and bytes have at most one output
+-- words that aren't those of `check`, and bytes have at most one output; of `check` it isn't said yet that a module has one
+-- answer
 abbrev pub OneOutput : Type 0
-OneOutput = (words : List (List ℕ)) (bytes text other : List ℕ) (s t : Status) → IsOutput words bytes text s → IsOutput words bytes other t → (text ≡ other) × (s ≡ t)
+OneOutput =
+    (words : List (List ℕ)) (bytes text other : List ℕ) (s t : Status) → ((budget : ℕ) → IsCommand words (check budget) → ⊥) →
+    IsOutput words bytes text s → IsOutput words bytes other t → (text ≡ other) × (s ≡ t)
 
 -- the text of a module that is shown is a module that is shown by the same text, or a token of it is nested too deep
 abbrev pub ShownAgain : Type 0

@@ -1,5 +1,6 @@
 -- What the code finds, as the definitions see it.
 use Rattle.std.specs.Prelude.{ℕ, ⊤}
+use Rattle.std.specs.String.{string_bytes}
 use Rattle.fst_kinds.specs.declared.fault.KindFault.{KindFault}
 use Rattle.fst_kinds.specs.declared.fault.KindFault.TheVariants as kind
 use Rattle.fst_lexer.specs.declared.token.LexFault.{LexFault}
@@ -7,13 +8,18 @@ use Rattle.fst_lexer.specs.declared.token.LexFault.TheVariants as lexical
 use Rattle.fst_reading.specs.declared.fault.SyntaxFault.{SyntaxFault}
 use Rattle.fst_reading.specs.declared.fault.SyntaxFault.TheVariants as syntax
 use Rattle.fst_type_print.specs.declared.refusals.Phrase.TheVariants as phrase
+use Rattle.fst_type_print.specs.Texts.{phrase_text}
 use Rattle.fst_scopes.specs.declared.fault.NameFault.{NameFault}
 use Rattle.fst_scopes.specs.declared.fault.NameFault.TheVariants as naming
 use Rattle.fst_command.specs.declared.words.Command.{Command as Said}
 use Rattle.fst_command.specs.declared.words.Command.TheVariants as said
 use Rattle.fst_command.specs.declared.finding.Fault.{Fault}
 use Rattle.fst_command.specs.declared.finding.Fault.TheVariants as fault
-use Rattle.fst_command.specs.Words.{Command, equiv, show}
+use Rattle.fst_command.specs.declared.refusals.Cause.{Cause as Given}
+use Rattle.fst_command.specs.declared.refusals.Cause.TheVariants as given
+use Rattle.fst_command.specs.CheckTexts as check_texts
+use Rattle.fst_command.specs.CheckTexts.{Cause, undecided}
+use Rattle.fst_command.specs.Words.{Command, equiv, show, check}
 use Rattle.fst_command.specs.Finding.{Finding, refused, too_deep, too_large}
 
 -- this holds of what a fault says; want of memory says nothing
@@ -66,3 +72,10 @@ kind_fault at kind.Memory = fault.Memory
 abbrev pub command_of : Said → Command
 command_of (said.Equiv n) = equiv n
 command_of said.Show = show
+command_of (said.Check n) = check n
+
+-- a cause as the definitions have it
+abbrev pub cause_of : Given → Cause
+cause_of (given.Refused at phrase) = check_texts.refused at (phrase_text phrase)
+cause_of (given.Undecided at got wanted) = undecided at (string_bytes got) (string_bytes wanted)
+cause_of (given.TooLarge at) = check_texts.too_large at

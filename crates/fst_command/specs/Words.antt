@@ -25,27 +25,30 @@ pub record IsBudget (digits : List ℕ) (n : ℕ) : Type 0 where
   pub least : 1 ≤ n
   pub most : n ≤ greatest_budget
 
--- the words behind `equiv` set this budget: there are none, or `--budget` has its value behind `=` or as the next word
+-- the words behind a command's name set this budget: there are none, or `--budget` has its value behind `=` or as the next word
 abbrev pub IsOption : List (List ℕ) → ℕ → Type 0
 IsOption [] n = n ≡ default_budget
 IsOption (w ∷ []) n = (digits : List ℕ) × (w ≡ codes "--budget=" ++ digits) × IsBudget digits n
 IsOption (w ∷ digits ∷ []) n = (w ≡ codes "--budget") × IsBudget digits n
 IsOption (w ∷ digits ∷ v ∷ ws) n = ⊥
 
--- the words of the command `equiv` with this budget
-abbrev pub IsEquiv : List (List ℕ) → ℕ → Type 0
-IsEquiv [] n = ⊥
-IsEquiv (w ∷ ws) n = (w ≡ codes "equiv") × IsOption ws n
+-- the words of the command of this name with this budget
+abbrev pub IsBudgeted : List ℕ → List (List ℕ) → ℕ → Type 0
+IsBudgeted name [] n = ⊥
+IsBudgeted name (w ∷ ws) n = (w ≡ name) × IsOption ws n
 
--- a command: whether two types are equivalent, within a budget, or the canonical text of a module
+-- a command: whether two types are equivalent, within a budget, or the canonical text of a module, or whether a module is
+-- well typed, within a budget
 pub data Command : Type 0 where
   equiv : ℕ → Command
   show : Command
+  check : ℕ → Command
 
 -- the words of a command
 abbrev pub IsCommand : List (List ℕ) → Command → Type 0
-IsCommand words (equiv n) = IsEquiv words n
+IsCommand words (equiv n) = IsBudgeted (codes "equiv") words n
 IsCommand words show = words ≡ codes "show" ∷ []
+IsCommand words (check n) = IsBudgeted (codes "check") words n
 
 -- whether the words are those of `show`
 abbrev pub IsShow : Bool → List (List ℕ) → Type 0

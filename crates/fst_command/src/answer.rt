@@ -52,7 +52,7 @@ fn answer_session(
 }
 
 /// The answer to an input that isn't what its command is for.
-fn answer_fault(alloc: Global, bytes: &[u8], fault: Fault) -> Result<Answer, AllocError>
+pub(crate) fn answer_fault(alloc: Global, bytes: &[u8], fault: Fault) -> Result<Answer, AllocError>
     requires { length bytes.now ≤ most_bytes }
     ensures { IfOk result (λ a. Found fault (λ f.
         (a.text.items ≡ finding_text bytes.now f) × (a.status ≡ finding_status f))) }

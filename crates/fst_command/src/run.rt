@@ -1,12 +1,13 @@
-ghost use Rattle.std.specs.Prelude.{◌≡◌, ◌⊎◌, [], map, IfOk, IfErr, string_bytes};
+ghost use Rattle.std.specs.Prelude.{◌≡◌, ◌⊎◌, ℕ, [], map, IfOk, IfErr, string_bytes};
 ghost use Rattle.std.specs.Io.KnownBytes.{Appends};
 ghost use Rattle.fst_io.specs.Faults.{Rose};
-ghost use Rattle.fst_command.specs.Words.{NoCommand};
-ghost use Rattle.fst_command.specs.Meanings.{EquivMeanings};
+ghost use Rattle.fst_command.specs.Words.{IsCommand, NoCommand, check};
+ghost use Rattle.fst_command.specs.Meanings.{CheckMeanings, EquivMeanings, ReadsAccepted};
 ghost use Rattle.fst_command.specs.Output.{OneOutput, ShownAgain};
 ghost use Rattle.fst_command.specs.Top.{HaveCommand, IsAnswer, IsAnswered, WasCut, WasWritten};
 
 use crate::answer::{Answer, answer_equiv, answer_show, fixed};
+use crate::checks::answer_check;
 use crate::status::Status;
 use crate::words::{Command, parse};
 use fst_base::MOST_BYTES;
@@ -16,6 +17,7 @@ use fst_lexer::one_lexing;
 use fst_module_grammar::one_module;
 use fst_roundtrip::read_again;
 use fst_type_syntax::one_reading;
+use fst_typing::accepted_law;
 use std::alloc::Global;
 
 const USAGE: &[u8] = b"usage: freest equiv|show|check|run|make\n";
@@ -37,6 +39,7 @@ fn answer<S: Source>(alloc: Global, words: &[String], source: &mut S) -> Result<
         Ok(bytes) => match command {
             Command::Equiv(budget) => Ok(answer_equiv(alloc, &bytes, budget)?),
             Command::Show => Ok(answer_show(alloc, &bytes)?),
+            Command::Check(budget) => Ok(answer_check(alloc, &bytes, budget)?),
         },
         Err(ReadFault::TooLong) => Ok(fixed(alloc, Status::Limit, b"limit length\n")?),
         Err(ReadFault::Failed) => Err(Status::ReadFault),
@@ -57,6 +60,11 @@ pub fn top<R, S: Source, K: Sink, G: Gate + Sync>(
     // With the status of an answer, an output of the words and of what was read is written whole.
     ensures answered { IsAnswer result → WasWritten (map string_bytes words.now)
         (S.left source.old) (S.left source.new) (K.taken sink.old) (K.taken sink.new) result }
+
+    // Where `check` did its work, what was read is a module that has derivations.
+    ensures accepted { result ≡ Status.Done → (budget : ℕ) →
+        IsCommand (map string_bytes words.now) (check budget) →
+        ReadsAccepted (S.left source.old) (S.left source.new) }
 
     // A read fault comes only where the source's count rose, for words that want the source, and
     // nothing is written.
@@ -80,6 +88,7 @@ pub fn top<R, S: Source, K: Sink, G: Gate + Sync>(
     // Words that are no command's leave the source as it is.
     ensures unread { NoCommand (map string_bytes words.now) → source.new ≡ source.old }
 {
+    check_meanings();
     match answer(alloc, words, source) {
         Err(status) => status,
         Ok(answer) => match write_all(sink, &answer.text) {
@@ -90,7 +99,8 @@ pub fn top<R, S: Source, K: Sink, G: Gate + Sync>(
     }
 }
 
-/// Words and bytes have at most one output: what is written is a function of what was read.
+/// Words and bytes have at most one output: what is written is a function of what was read. Of the words of `check` this
+/// isn't said.
 pub fn one_output()
     ensures { OneOutput }
 {
@@ -113,3 +123,10 @@ pub fn shown_again()
 pub fn equiv_meanings()
     ensures { EquivMeanings }
 {}
+
+/// What it means that `check` did its work.
+pub fn check_meanings()
+    ensures { CheckMeanings }
+{
+    accepted_law();
+}

@@ -19,7 +19,7 @@ pub(crate) fn no_text(alloc: Global, word: &[Label], side: Side) -> Result<Strin
     Ok(text)
 }
 
-fn push_decimal(text: &mut String, n: u64) -> Result<(), AllocError>
+pub(crate) fn push_decimal(text: &mut String, n: u64) -> Result<(), AllocError>
     ensures { OnOk result (string_bytes text.new ≡ string_bytes text.old ++ decimal n) }
 {
     let mut buffer = Buffer::new();
@@ -100,7 +100,7 @@ pub(crate) fn refused_text(
     Ok(out)
 }
 
-fn push_place(out: &mut String, text: &[u8], at: u32) -> Result<(), AllocError>
+pub(crate) fn push_place(out: &mut String, text: &[u8], at: u32) -> Result<(), AllocError>
     requires { length text.now ≤ most_bytes }
     ensures { OnOk result (string_bytes out.new ≡ string_bytes out.old ++ place_text text.now at) }
 {

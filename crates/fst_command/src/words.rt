@@ -1,7 +1,7 @@
 ghost use Rattle.std.specs.Prelude.{◌≡◌, ◌++◌, ◌≢◌, ℕ, List, MatchOption, codes, map, string_bytes};
 ghost use Rattle.std.specs.List.{list_all};
 ghost use Rattle.std.specs.Char.{is_ascii_digit};
-ghost use Rattle.fst_command.specs.Words.{IsBudget, IsCommand, IsEquiv, IsOption, IsShow, NoCommand};
+ghost use Rattle.fst_command.specs.Words.{IsBudget, IsBudgeted, IsCommand, IsOption, IsShow, NoCommand};
 ghost use Rattle.fst_command.specs.Views.{command_of};
 
 /// How many pairs a question may have where the words don't say it.
@@ -66,16 +66,18 @@ pub(crate) enum Command {
     Equiv(u32),
     /// The canonical text of a module.
     Show,
+    /// Whether a module is well typed, within a budget of pairs.
+    Check(u32),
 }
 
-// The budget of the command `equiv`, or none where the words aren't its words.
-fn equiv_budget(words: &[String]) -> Option<u32>
+// The budget of the command of this name, or none where the words aren't its words.
+fn budget_behind(name: &str, words: &[String]) -> Option<u32>
     ensures { MatchOption result
-        ((n : ℕ) → IsEquiv (map string_bytes words.now) n → ⊥)
-        (IsEquiv (map string_bytes words.now)) }
+        ((n : ℕ) → IsBudgeted name.now (map string_bytes words.now) n → ⊥)
+        (IsBudgeted name.now (map string_bytes words.now)) }
 {
     match words {
-        [command, options @ ..] if command.as_str() == "equiv" => option_budget(options),
+        [command, options @ ..] if command.as_str() == name => option_budget(options),
         _ => None,
     }
 }
@@ -91,7 +93,7 @@ fn is_show(words: &[String]) -> bool
 }
 
 /// The command that the words are, or none.
-#[tactic(auto, using(crate::proofs::WordLaws::neither))]
+#[tactic(auto, using(crate::proofs::WordLaws::none_of_them))]
 pub(crate) fn parse(words: &[String]) -> Option<Command>
     ensures { MatchOption result
         (NoCommand (map string_bytes words.now))
@@ -100,8 +102,11 @@ pub(crate) fn parse(words: &[String]) -> Option<Command>
     if is_show(words) {
         return Some(Command::Show);
     }
-    match equiv_budget(words) {
-        Some(budget) => Some(Command::Equiv(budget)),
+    if let Some(budget) = budget_behind("equiv", words) {
+        return Some(Command::Equiv(budget));
+    }
+    match budget_behind("check", words) {
+        Some(budget) => Some(Command::Check(budget)),
         None => None,
     }
 }

@@ -1,0 +1,9 @@
+use Rattle.std.proofs.Common.{map}
+use Rattle.std.specs.Prelude.{string_bytes}
+use Rattle.fst_command.proofs.Runs.{read_accepted}
+use Rattle.fst_command.proofs.run.top.Goals as goal
+
+pub returns-in-Ok-write_all-clause-accepted : goal.returns-in-Ok-write_all-clause-accepted
+returns-in-Ok-write_all-clause-accepted g c =
+    read_accepted c.check_meanings.ensures (map string_bytes c.args.words.now) (g.S.Source.left c.args.source.now) (g.S.Source.left c.answer.new.source)
+    c.in-Ok.answer.text.items c.in-Ok.answer.status c.in-Ok.ensures.answered
