@@ -12,7 +12,7 @@ use Rattle.fst_context.specs.Scope.{Scope, Variable, at_or_not, entered, left, t
 use Rattle.fst_derivations.specs.Deriv.{deriv_of, parts_of, type_of}
 use Rattle.fst_derivations.specs.declared.derivation.Derivation.{Derivation}
 use Rattle.fst_derivations.specs.Rules.{Surroundings, Binding}
-use Rattle.fst_rules.specs.Tests.{use_in, same_tree, is_type}
+use Rattle.fst_fits.specs.Tests.{use_in, same_tree, is_type}
 use Rattle.fst_rules.specs.Walks.{Walk, next, only, further, entered_all, closed, closed_all, further_walk, fields_walk, arm_walk, bound_types, whole, row_walk}
 
 -- ---- entering

@@ -9,10 +9,10 @@ use Rattle.fst_context.specs.Scope.{Variable}
 use Rattle.fst_derivations.specs.Deriv.{Deriv, row, convert, type_of, Derivs, none, part, one, two, three}
 use Rattle.fst_derivations.specs.Parts.{IsFormed, IsAnyConversion}
 use Rattle.fst_derivations.specs.Rules.{Converted, itself, turned, Over}
-use Rattle.fst_rules.specs.Tests.{same_tree, has_some, kind_in}
+use Rattle.fst_fits.specs.Tests.{same_tree, has_some, kind_in}
 use Rattle.fst_rules.specs.Walks.{Walk, only, after, has_none, parts_1, parts_2, parts_3, peeled, leaf_row, row_1, row_2, whole}
 use Rattle.fst_rules.proofs.Deciding.{Decides, decides_as, decides_none, decides_only, decides_given, decides_both}
-use Rattle.fst_rules.proofs.TestLaws.{and_left, and_right, and_both, tree_same, tree_itself, is_formed, of_formed}
+use Rattle.fst_fits.proofs.Laws.{and_left, and_right, and_both, tree_same, tree_itself, is_formed, of_formed}
 
 -- ---- parts
 

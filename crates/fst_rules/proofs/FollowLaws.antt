@@ -11,7 +11,7 @@ use Rattle.fst_terms.specs.declared.core_term.Arm.{Arm}
 use Rattle.fst_context.specs.Scope.{Scope, Variable, at_or_not, entered, begun, with_marks}
 use Rattle.fst_derivations.specs.Deriv.{Deriv, deriv_of, parts_of, type_of}
 use Rattle.fst_derivations.specs.Rules.{Surroundings, Binding}
-use Rattle.fst_rules.specs.Tests.{same_tree}
+use Rattle.fst_fits.specs.Tests.{same_tree}
 use Rattle.fst_derivations.specs.declared.derivation.Derivation.{Derivation}
 use Rattle.fst_rules.specs.Walks.{Walk, next, only, further, arm_walk, bound_types, arms_walk, further_walk, inside, came, same_marks, agreed, branches, walk_of, Keeps}
 use Rattle.fst_rules.proofs.Deciding.{next_some}

@@ -14,9 +14,9 @@ use Rattle.fst_rules.specs.Levels.{IsDerived}
 use Rattle.fst_derivations.specs.Modules.{surroundings, AreDerived}
 use Rattle.fst_derivations.specs.Parts.{IsAnyConversion}
 use Rattle.fst_derivations.specs.Rules.{Surroundings}
-use Rattle.fst_rules.specs.Tests.{same_tree}
+use Rattle.fst_fits.specs.Tests.{same_tree}
 use Rattle.fst_rules.specs.Walks.{came, walk_of}
-use Rattle.fst_rules.proofs.TestLaws.{tree_same, tree_itself}
+use Rattle.fst_fits.proofs.Laws.{tree_same, tree_itself}
 use Rattle.fst_rules.proofs.Walked.{Conversions, Rule, Part, at_over, over_at}
 use Rattle.fst_rules.proofs.WalkedTerms.{derived}
 

@@ -1,15 +1,12 @@
 mod Rows
 mod Deciding
 mod DecidingInside
-mod TestLaws
 mod DecidingRows
-mod FitLaws
 mod Walked
 mod WalkedInside
 mod LevelLaws
 mod WalkedTerms
 mod FollowLaws
-mod ArmTestLaws
 mod WalkedFields
 mod WalkedArms
 mod ListHeights

@@ -3,7 +3,7 @@ use Rattle.std.proofs.Common.{◌≡◌, ◌∙◌, refl, ap, sym, List, [], ◌
 use Rattle.std.specs.Prelude.{if◌then◌else◌}
 use Rattle.fst_types.specs.Tree.{Tree}
 use Rattle.fst_types.specs.declared.kind.Kind.{Kind}
-use Rattle.fst_rules.specs.Tests.{has_some, kind_in}
+use Rattle.fst_fits.specs.Tests.{has_some, kind_in}
 use Rattle.fst_rules.specs.Walks.{parts_1, parts_2, parts_3, peeled}
 use Rattle.fst_derivations.specs.Deriv.{deriv_of, parts_of}
 use Rattle.fst_derivations.specs.declared.derivation.Derivation.{Derivation}

@@ -17,13 +17,14 @@ use Rattle.fst_context.specs.Scope.{Variable, is_once}
 use Rattle.fst_derivations.specs.Deriv.{Deriv, row, type_of, Derivs, none, part, one, two, three}
 use Rattle.fst_derivations.specs.Parts.{IsAnyConversion}
 use Rattle.fst_derivations.specs.Rules.{Surroundings, Converted, Over, At, Row, Operates}
-use Rattle.fst_rules.specs.Tests.{same_tree, use_in, is_many, is_global_type, is_channel, operates}
-use Rattle.fst_rules.specs.Walks.{only, given, taking, has_none, local_row, leaf_row, pair_fits, apply_fits, operate_fits, send_fits, seq_fits, negate_fits, receive_fits, select_fits, fork_fits, whole, row_walk}
+use Rattle.fst_fits.specs.Tests.{same_tree, use_in, is_many, is_global_type, is_channel, operates}
+use Rattle.fst_rules.specs.Walks.{only, given, taking, has_none, local_row, leaf_row, whole, row_walk}
+use Rattle.fst_fits.specs.Fits.{pair_fits, apply_fits, operate_fits, send_fits, seq_fits, negate_fits, receive_fits, select_fits, fork_fits}
 use Rattle.fst_rules.proofs.Deciding.{Decides, decides_as, decides_only, decides_given, decides_equal}
 use Rattle.fst_rules.proofs.DecidingInside.{decides_variable}
 use Rattle.fst_rules.proofs.DecidingRows.{decides_leaf, decides_row_1, decides_row_2, decides_whole}
-use Rattle.fst_rules.proofs.TestLaws.{and_left, and_right, and_both, tree_same, tree_itself, has_many, of_many, type_is, of_type}
-use Rattle.fst_rules.proofs.FitLaws.{paired, of_paired, applied, of_applied, operated, of_operated, sent, of_sent, received, of_received, channel, of_channel, global_type, of_global_type}
+use Rattle.fst_fits.proofs.Laws.{and_left, and_right, and_both, tree_same, tree_itself, has_many, of_many, type_is, of_type}
+use Rattle.fst_fits.proofs.Laws.{paired, of_paired, applied, of_applied, operated, of_operated, sent, of_sent, received, of_received, channel, of_channel, global_type, of_global_type}
 
 -- ---- rows and their parts
 

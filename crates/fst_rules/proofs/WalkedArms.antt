@@ -17,14 +17,14 @@ use Rattle.fst_context.specs.Scope.{Scope, Variable, is_once, entered, without}
 use Rattle.fst_derivations.specs.Deriv.{Deriv, row, type_of, Derivs, none, part}
 use Rattle.fst_derivations.specs.Parts.{AreVariables, enter_all, under_all, IsOffering}
 use Rattle.fst_derivations.specs.Rules.{Surroundings, Binding, fields, rest, Binds, Arms, FurtherArms}
-use Rattle.fst_rules.specs.ArmTests.{each_once, offers}
-use Rattle.fst_rules.specs.Tests.{same_tree, use_in, types_at, family_number}
+use Rattle.fst_fits.specs.ArmTests.{each_once, offers}
+use Rattle.fst_fits.specs.Tests.{same_tree, use_in, types_at, family_number}
 use Rattle.fst_rules.specs.Walks.{Walk, next, only, given, after, closed, inside, has_none, parts_more, bound_types, entered_all, closed_all, inside_all, arm_walk, further, family_of, whole, row_walk, arms_walk, further_walk}
 use Rattle.fst_rules.proofs.Deciding.{Decides, decides_as, decides_never, decides_only, decides_given, decides_both, decides_equal}
 use Rattle.fst_rules.proofs.DecidingInside.{decides_inside, Agrees, decides_agreed, agrees_further}
-use Rattle.fst_rules.proofs.TestLaws.{tree_same, tree_itself, has_use, of_use, types_are, are_types}
-use Rattle.fst_rules.proofs.FitLaws.{family_is}
-use Rattle.fst_rules.proofs.ArmTestLaws.{once, of_once, offering, of_offering}
+use Rattle.fst_fits.proofs.Laws.{tree_same, tree_itself, has_use, of_use, types_are, are_types}
+use Rattle.fst_fits.proofs.Laws.{family_is}
+use Rattle.fst_fits.proofs.Laws.{once, of_once, offering, of_offering}
 use Rattle.fst_rules.proofs.Walked.{Conversions, Rule, Part, Parts, Rows, rows, as_row, at_over, over_at, none_there, none_is}
 
 same_part : (d h : Deriv) (ds es : Derivs) → part d ds ≡ part h es → (d ≡ h) × (ds ≡ es)

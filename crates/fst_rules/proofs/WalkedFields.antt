@@ -9,10 +9,10 @@ use Rattle.fst_context.specs.Scope.{Variable}
 use Rattle.fst_derivations.specs.Deriv.{Deriv, row, type_of, Derivs, none, part}
 use Rattle.fst_derivations.specs.Parts.{AreAt}
 use Rattle.fst_derivations.specs.Rules.{Surroundings, Fields}
-use Rattle.fst_rules.specs.Tests.{same_tree, is_type}
+use Rattle.fst_fits.specs.Tests.{same_tree, is_type}
 use Rattle.fst_rules.specs.Walks.{given, after, has_none, whole, row_walk, fields_walk}
 use Rattle.fst_rules.proofs.Deciding.{Decides, decides_as, decides_none, decides_never, decides_only, decides_given, decides_both}
-use Rattle.fst_rules.proofs.TestLaws.{tree_same, tree_itself, type_is, of_type}
+use Rattle.fst_fits.proofs.Laws.{tree_same, tree_itself, type_is, of_type}
 use Rattle.fst_rules.proofs.Walked.{Conversions, Rule, Part, PartAt, Parts, Rows, rows, as_row, at_over, over_at, both, none_there, none_is}
 
 same_part : (d h : Deriv) (ds es : Derivs) → part d ds ≡ part h es → (d ≡ h) × (ds ≡ es)

@@ -14,13 +14,14 @@ use Rattle.fst_context.specs.Scope.{Variable, is_once}
 use Rattle.fst_derivations.specs.Deriv.{Deriv, row, type_of, one, two, three}
 use Rattle.fst_derivations.specs.Parts.{HasUse}
 use Rattle.fst_derivations.specs.Rules.{Surroundings}
-use Rattle.fst_rules.specs.Tests.{same_tree, use_in, pair_parts, is_arrow, arrow_of}
-use Rattle.fst_rules.specs.Walks.{Walk, only, given, after, inside, in_body, branches, parts_1, parts_2, parts_3, if_fits, whole, row_walk}
+use Rattle.fst_fits.specs.Tests.{same_tree, use_in, pair_parts, is_arrow, arrow_of}
+use Rattle.fst_rules.specs.Walks.{Walk, only, given, after, inside, in_body, branches, parts_1, parts_2, parts_3, whole, row_walk}
+use Rattle.fst_fits.specs.Fits.{if_fits}
 use Rattle.fst_rules.proofs.Deciding.{Decides, decides_as, decides_only, decides_given, decides_both}
 use Rattle.fst_rules.proofs.DecidingInside.{decides_inside, decides_body, decides_branches}
 use Rattle.fst_rules.proofs.DecidingRows.{one_of, two_of, three_of, same_first, same_second}
-use Rattle.fst_rules.proofs.TestLaws.{and_left, and_right, and_both, tree_same, tree_itself, has_use, of_use}
-use Rattle.fst_rules.proofs.FitLaws.{pair_is, function, of_function}
+use Rattle.fst_fits.proofs.Laws.{and_left, and_right, and_both, tree_same, tree_itself, has_use, of_use}
+use Rattle.fst_fits.proofs.Laws.{pair_is, function, of_function}
 use Rattle.fst_rules.proofs.Walked.{Conversions, Rule, Part, PartAt, Parts, Rows, rows, as_row, at_over, over_at, both}
 
 same_one : (d h : Deriv) → one d ≡ one h → d ≡ h

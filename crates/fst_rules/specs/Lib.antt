@@ -1,4 +1,2 @@
-pub mod Tests
-pub mod ArmTests
 pub mod Walks
 pub mod Levels

@@ -21,8 +21,9 @@ use Rattle.fst_context.specs.declared.context.Taken.{Taken}
 use Rattle.fst_context.specs.declared.context.Taken.TheVariants.{Here, Gone, Outside}
 use Rattle.fst_derivations.specs.Deriv.{Deriv, row, convert, type_of, Derivs, none, part}
 use Rattle.fst_derivations.specs.Rules.{Surroundings, Binding, fields, rest}
-use Rattle.fst_rules.specs.ArmTests.{each_once, offers}
-use Rattle.fst_rules.specs.Tests.{types_at, same_tree, kind_in, has_some, use_in, is_many, is_type, is_pair, is_arrow, pair_parts, arrow_of, arrow_parts, family_number, base_of, applies, operates, sends, receives_pair, is_channel, is_global_type}
+use Rattle.fst_fits.specs.ArmTests.{each_once, offers}
+use Rattle.fst_fits.specs.Fits.{if_fits, pair_fits, apply_fits, operate_fits, send_fits, seq_fits, negate_fits, receive_fits, select_fits, fork_fits}
+use Rattle.fst_fits.specs.Tests.{types_at, same_tree, kind_in, has_some, use_in, is_many, is_type, is_pair, is_arrow, pair_parts, arrow_of, arrow_parts, family_number, base_of, applies, operates, sends, receives_pair, is_channel, is_global_type}
 
 -- from a scope to the one after some variables were taken, or to none
 abbrev pub Walk : Type 0
@@ -161,42 +162,10 @@ split_row vars x y t ds A B =
     given (use_in vars r.0) (λ n. given (use_in vars r.1) (λ o. after (A p.0)
     (inside x (record { type = r.0; uses = n }) (inside y (record { type = r.1; uses = o }) (B p.1))))))))
 
--- whether the condition is a truth value, and both branches have the type
-abbrev pub if_fits : Tree → Tree → Tree → Tree → Bool
-if_fits t a b c = same_tree a (plain Truth) && (same_tree t b && same_tree c b)
-
 -- a row of a condition and two branches
 abbrev pub if_row : Tree → Derivs → (Deriv → Walk) → (Deriv → Walk) → (Deriv → Walk) → Walk
 if_row t ds A B C =
     given (parts_3 ds) (λ p. only (if_fits t (type_of p.0) (type_of p.1) (type_of p.2)) (after (A p.0) (branches (B p.1) (C p.2))))
-
--- the types of parts that fit a row of this type, by the form of its term
-abbrev pub pair_fits : Tree → Tree → Tree → Bool
-pair_fits t a b = is_pair (pair_parts t) a b
-
-abbrev pub apply_fits : Tree → Tree → Tree → Bool
-apply_fits t a b = applies (arrow_parts a) b t
-
-abbrev pub operate_fits : Op → Tree → Tree → Tree → Bool
-operate_fits o t a b = same_tree b a && operates o a t
-
-abbrev pub send_fits : Tree → Tree → Tree → Bool
-send_fits t a b = sends (base_of a) b t
-
-abbrev pub seq_fits : List Kind → Tree → Tree → Tree → Bool
-seq_fits vars t a b = is_many (use_in vars a) && same_tree t b
-
-abbrev pub negate_fits : Tree → Tree → Bool
-negate_fits t a = same_tree a (plain Truth) && same_tree t (plain Truth)
-
-abbrev pub receive_fits : Tree → Tree → Bool
-receive_fits t a = receives_pair (pair_parts t) a
-
-abbrev pub select_fits : List ℕ → Tree → Tree → Bool
-select_fits l t a = is_type (step a (Select l)) t
-
-abbrev pub fork_fits : List Kind → Tree → Tree → Bool
-fork_fits vars t a = is_many (use_in vars a) && same_tree t (plain Nothing)
 
 -- the walk over a derivation, where R walks over the row below its conversions
 abbrev pub whole : List Kind → (Tree → Derivs → Walk) → Deriv → Walk

@@ -1,24 +1,18 @@
-ghost use Rattle.std.specs.Prelude.{◌≡◌, ◌≤◌, ◌<◌, ◌∷◌, [], IfOk, IsFalse, IsTrue, length, map, option_map};
+ghost use Rattle.std.specs.Prelude.{◌≡◌, ◌≤◌, ◌<◌, ◌∷◌, [], IfOk, length, option_map};
 ghost use Rattle.fst_terms.specs.InRange.{maker_named};
-ghost use Rattle.fst_terms.specs.ModelCoreView.{core_arms_of};
-ghost use Rattle.fst_arms.specs.Arms.{arm_labels};
-ghost use Rattle.fst_lts.specs.Step.{labels};
-ghost use Rattle.fst_rules.specs.ArmTests.{each_once, offers};
 ghost use Rattle.fst_rules.specs.Levels.{binding_of, surroundings_at};
-ghost use Rattle.fst_rules.specs.Tests.{family_number};
+ghost use Rattle.fst_fits.specs.Tests.{family_number};
 ghost use Rattle.fst_rules.specs.Walks.{bound_types, came, closed, closed_all, entered_all, family_of};
 
-use crate::fitting::types_at;
 use crate::levels::Place;
-use crate::ready::use_in;
-use fst_arms::{are_labels, maker_numbers};
 use fst_context::{Context, Left};
-use fst_lts::{labels, step};
-use fst_terms::{Arm, Binder};
+use fst_fits::{types_at, use_in};
+use fst_lts::step;
+use fst_terms::Binder;
 use fst_types::{Family, Label, Maker, Name, Ty, TyForm, copy};
 use std::alloc::{AllocError, Global};
 
-// What arms bind, and which arms are wanted.
+// What arms bind.
 
 /// What the variables of arms hold: the fields of constructors, or what is left of a channel's type.
 #[derive(Clone, Copy)]
@@ -129,39 +123,4 @@ pub(crate) fn family_at<'a>(families: &'a [Family], ty: &Ty) -> Option<&'a Famil
         TyForm::Named(n) => families.get(*n as usize),
         _ => None,
     }
-}
-
-/// Whether the labels of arms are the names of these constructors, each once.
-pub(crate) fn makers_fit(alloc: Global, makers: &[Maker], arms: &[Arm]) -> Result<bool, AllocError>
-    ensures { IfOk result (λ b. b ≡ each_once (map (λ o. o.name) makers.now) (arm_labels
-        (core_arms_of arms.now))) }
-{
-    if u32::MAX as usize <= makers.len() {
-        return Err(AllocError);
-    }
-    let numbers = maker_numbers(alloc, makers, arms)?;
-    Ok(numbers.is_some())
-}
-
-// Whether there are labels.
-fn has_any(labels: &[Label]) -> bool
-    ensures some { IsTrue result → labels.now ≡ [] → ⊥ }
-    ensures none { IsFalse result → labels.now ≡ [] }
-{
-    match labels.split_first() {
-        None => false,
-        Some(_) => true,
-    }
-}
-
-/// Whether a type offers the labels of arms, each once, and no others.
-pub(crate) fn labels_fit(alloc: Global, ty: &Ty, arms: &[Arm]) -> Result<bool, AllocError>
-    ensures { IfOk result (λ b. b ≡ offers (labels ty.now) (arm_labels (core_arms_of arms.now))) }
-{
-    let moves = labels(alloc, ty)?;
-    if !has_any(&moves) {
-        return Ok(false);
-    }
-    let fits = are_labels(alloc, &moves, arms)?;
-    Ok(fits)
 }

@@ -4,12 +4,11 @@ ghost use Rattle.fst_rules.specs.Levels.{IsDerived};
 ghost use Rattle.fst_derivations.specs.Modules.{AreDerived};
 ghost use Rattle.fst_derivations.specs.Parts.{IsAnyConversion};
 
-use crate::fitting::type_at;
 use crate::following::follows;
 use crate::levels::Place;
-use crate::ready::is_same;
 use fst_context::Context;
 use fst_derivations::Derivation;
+use fst_fits::{is_same, type_at};
 use fst_terms::{GlobalEntry, Module};
 use std::alloc::{AllocError, Global};
 

@@ -6,9 +6,9 @@ ghost use Rattle.fst_rules.specs.Levels.{AreLower, Descends, rest_walk, surround
 ghost use Rattle.fst_derivations.specs.Rules.{Surroundings};
 ghost use Rattle.fst_rules.specs.Walks.{after, nowhere, row_walk, walk_of};
 
-use crate::fitting::{apply_fits, operate_fits};
 use crate::peeling::{Row, peel, two};
 use fst_derivations::Derivation;
+use fst_fits::{apply_fits, operate_fits};
 use fst_terms::{Form, Module, Term};
 use fst_types::Kind;
 use std::alloc::{AllocError, Global};

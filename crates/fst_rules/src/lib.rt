@@ -1,12 +1,12 @@
 //! Whether trees are the derivations of a module.
 #![tactic(auto)]
 
+mod arms;
 mod binding;
-mod fitting;
 mod following;
 mod holding;
+mod inside;
 mod levels;
 mod peeling;
-mod ready;
 
 pub use holding::holds;

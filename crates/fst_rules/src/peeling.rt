@@ -2,8 +2,8 @@ ghost use Rattle.std.specs.Prelude.{◌≡◌, IfOk, MatchOption, None, Some, op
 ghost use Rattle.fst_derivations.specs.Deriv.{deriv_of, parts_of};
 ghost use Rattle.fst_rules.specs.Walks.{has_none, parts_1, parts_2, parts_3, parts_more, peeled};
 
-use crate::ready::{is_formed, is_same};
 use fst_derivations::Derivation;
+use fst_fits::{is_formed, is_same};
 use fst_types::{Kind, Ty};
 use std::alloc::{AllocError, Global};
 

@@ -1,7 +1,7 @@
 use Rattle.std.proofs.Common.{◌∙◌, slice_get, sym, ap}
 use Rattle.fst_derivations.specs.Deriv.{deriv_of}
 use Rattle.fst_derivations.specs.Modules.{surroundings}
-use Rattle.fst_rules.specs.Tests.{same_tree}
+use Rattle.fst_fits.specs.Tests.{same_tree}
 use Rattle.fst_rules.specs.Walks.{walk_of}
 use Rattle.fst_rules.proofs.HoldLaws.{global_derived, wrong_type}
 use Rattle.fst_rules.proofs.holding.global_holds.Goals as goal

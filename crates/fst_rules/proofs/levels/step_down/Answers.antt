@@ -3,7 +3,8 @@ use Rattle.fst_terms.specs.CoreTree.{operate, apply, core_height}
 use Rattle.fst_terms.specs.ModelCoreView.{core_of}
 use Rattle.fst_derivations.specs.Deriv.{deriv_of, parts_of, type_of}
 use Rattle.fst_rules.specs.Levels.{surroundings_at}
-use Rattle.fst_rules.specs.Walks.{after, row_walk, walk_of, parts_2, operate_fits, apply_fits}
+use Rattle.fst_rules.specs.Walks.{after, row_walk, walk_of, parts_2}
+use Rattle.fst_fits.specs.Fits.{operate_fits, apply_fits}
 use Rattle.fst_rules.proofs.LevelLaws.{row_2_some}
 use Rattle.fst_rules.proofs.levels.step_down.Goals as goal
 

@@ -20,8 +20,8 @@ use Rattle.fst_terms.specs.declared.term.Op.{Op}
 use Rattle.fst_terms.specs.declared.term.Op.TheVariants.{Add, Subtract, Multiply, Equal, Unequal, Less, AtMost, Greater, AtLeast, And, Or}
 use Rattle.fst_derivations.specs.Parts.{AreAt, IsComparable}
 use Rattle.fst_derivations.specs.Rules.{Operates}
-use Rattle.fst_rules.specs.Tests.{same_tree, kind_in, is_session, arrow_parts, arrow_of, pair_parts, is_pair, is_arrow, same_use, base_of, family_number, applies, is_ordered, operates, sends, receives, receives_pair, is_channel, types_at, instantiates, is_instance, is_global_type}
-use Rattle.fst_rules.proofs.TestLaws.{and_left, and_right, and_both, tree_same, tree_itself, type_is, of_type, has_session, of_session, types_are, are_types, instantiation, of_instantiation}
+use Rattle.fst_fits.specs.Tests.{same_tree, kind_in, is_session, arrow_parts, arrow_of, pair_parts, is_pair, is_arrow, same_use, base_of, family_number, applies, is_ordered, operates, sends, receives, receives_pair, is_channel, types_at, instantiates, is_instance, is_global_type}
+use Rattle.fst_fits.proofs.TestLaws.{and_left, and_right, and_both, tree_same, tree_itself, type_is, of_type, has_session, of_session, types_are, are_types, instantiation, of_instantiation}
 
 -- ---- what types are made of
 

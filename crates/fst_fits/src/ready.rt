@@ -1,7 +1,7 @@
 ghost use Rattle.std.specs.Prelude.{◌≡◌, IfOk};
 ghost use Rattle.fst_types.specs.ModelView.{branches_of};
 ghost use Rattle.fst_types.specs.Tree as tree;
-ghost use Rattle.fst_rules.specs.Tests.{are_ready, has_some, is_many, is_ready, kind_in, rising, same_tree, use_in};
+ghost use Rattle.fst_fits.specs.Tests.{are_ready, has_some, is_many, is_ready, kind_in, rising, same_tree, use_in};
 
 use fst_kinds::{KindFault, kind_of};
 use fst_types::{Base, Branch, Kind, Ty, TyForm, Use, same};
@@ -9,14 +9,14 @@ use std::alloc::{AllocError, Global};
 
 /// Whether two types are one tree.
 #[tactic(auto, using(crate::proofs::TestLaws::same_answer))]
-pub(crate) fn is_same(a: &Ty, b: &Ty) -> bool
+pub fn is_same(a: &Ty, b: &Ty) -> bool
     ensures { result ≡ same_tree a.now b.now }
 {
     same(a, b)
 }
 
 /// Whether a type is that of the plain values of a base type.
-pub(crate) fn is_plain(t: &Ty, base: Base) -> bool
+pub fn is_plain(t: &Ty, base: Base) -> bool
     ensures { result ≡ same_tree t.now (tree.plain base) }
 {
     let plain = Ty {
@@ -78,7 +78,7 @@ fn are_ready(branches: &[Branch], n: u32) -> Result<bool, AllocError>
 
 /// The kind of a type over the variables of a signature, if it is well formed.
 #[tactic(auto, using(crate::proofs::TestLaws::is_ready_scoped, crate::proofs::TestLaws::is_ready_sorted), unfolding(crate::specs::Tests::kind_in))]
-pub(crate) fn kind_in(alloc: Global, vars: &[Kind], t: &Ty) -> Result<Option<Kind>, AllocError>
+pub fn kind_in(alloc: Global, vars: &[Kind], t: &Ty) -> Result<Option<Kind>, AllocError>
     ensures { IfOk result (λ k. k ≡ kind_in vars.now t.now) }
 {
     if !is_ready(t, 0)? {
@@ -95,7 +95,7 @@ pub(crate) fn kind_in(alloc: Global, vars: &[Kind], t: &Ty) -> Result<Option<Kin
 }
 
 /// Whether a type is well formed.
-pub(crate) fn is_formed(alloc: Global, vars: &[Kind], t: &Ty) -> Result<bool, AllocError>
+pub fn is_formed(alloc: Global, vars: &[Kind], t: &Ty) -> Result<bool, AllocError>
     ensures { IfOk result (λ b. b ≡ has_some (kind_in vars.now t.now)) }
 {
     match kind_in(alloc, vars, t)? {
@@ -105,7 +105,7 @@ pub(crate) fn is_formed(alloc: Global, vars: &[Kind], t: &Ty) -> Result<bool, Al
 }
 
 /// How often the values of a type may be used, if it is well formed.
-pub(crate) fn use_in(alloc: Global, vars: &[Kind], t: &Ty) -> Result<Option<Use>, AllocError>
+pub fn use_in(alloc: Global, vars: &[Kind], t: &Ty) -> Result<Option<Use>, AllocError>
     ensures { IfOk result (λ n. n ≡ use_in vars.now t.now) }
 {
     match kind_in(alloc, vars, t)? {
@@ -115,7 +115,7 @@ pub(crate) fn use_in(alloc: Global, vars: &[Kind], t: &Ty) -> Result<Option<Use>
 }
 
 /// Whether a type is well formed, and its values may be used often.
-pub(crate) fn is_often(alloc: Global, vars: &[Kind], t: &Ty) -> Result<bool, AllocError>
+pub fn is_often(alloc: Global, vars: &[Kind], t: &Ty) -> Result<bool, AllocError>
     ensures { IfOk result (λ b. b ≡ is_many (use_in vars.now t.now)) }
 {
     match use_in(alloc, vars, t)? {

@@ -1,8 +1,8 @@
 use Rattle.std.proofs.Common.{◌∙◌, map, is_some}
 use Rattle.fst_terms.specs.ModelCoreView.{core_arms_of}
 use Rattle.fst_arms.specs.Arms.{arm_labels}
-use Rattle.fst_rules.proofs.ArmTestLaws.{once_answer}
-use Rattle.fst_rules.proofs.binding.makers_fit.Goals as goal
+use Rattle.fst_fits.proofs.ArmTestLaws.{once_answer}
+use Rattle.fst_fits.proofs.arms.makers_fit.Goals as goal
 
 pub returns : goal.returns
 returns c =

@@ -15,8 +15,8 @@ use Rattle.fst_types.specs.declared.label.Label.TheVariants.{Send, Receive, Sele
 use Rattle.fst_lts.specs.Step.{labels}
 use Rattle.fst_arms.specs.Arms.{AreEachOnce}
 use Rattle.fst_derivations.specs.Parts.{IsOffering}
-use Rattle.fst_rules.specs.ArmTests.{has, all_in, apart, each_once, with_name, offered, wanted_once, offers}
-use Rattle.fst_rules.proofs.TestLaws.{and_left, and_right, and_both}
+use Rattle.fst_fits.specs.ArmTests.{has, all_in, apart, each_once, with_name, offered, wanted_once, offers}
+use Rattle.fst_fits.proofs.TestLaws.{and_left, and_right, and_both}
 
 contains : (xs : List (List ℕ)) (x : List ℕ) → has xs x ≡ true → Contains xs x
 contains xs x h = Contains-from_any {eq = bytes_eq} same_text x xs h

@@ -9,21 +9,21 @@ use Rattle.fst_context.specs.Scope.{Variable, with_marks}
 use Rattle.fst_derivations.specs.Deriv.{deriv_of, parts_of}
 use Rattle.fst_rules.specs.Levels.{surroundings_at, rest_walk, binding_of}
 use Rattle.fst_rules.specs.Walks.{next, came, walk_of, arm_walk, bound_types, further, further_walk}
-use Rattle.fst_rules.specs.Tests.{same_tree}
+use Rattle.fst_fits.specs.Tests.{same_tree}
 use Rattle.fst_rules.proofs.ArmLaws.{entered_long}
 use Rattle.fst_rules.proofs.ListHeights.{core_arms_height_at}
 use Rattle.fst_rules.proofs.FollowLaws.{arm_keeps, further_done, further_keeps, marked_again, marked_back, further_step, arms_step, came_keeps, inside_keeps, entered_there, begun_there, marks_long, restored, branches_none, branches_done, not_back}
-use Rattle.fst_rules.proofs.following.+follows.Goals as goal
+use Rattle.fst_rules.proofs.+follows.Goals as goal
 
 -- ---- two branches
 
-pub branches_follow-exchange-after-requires : goal.branches_follow-exchange-after-requires
-branches_follow-exchange-after-requires t c =
+pub inside::branches_follow-exchange-after-requires : goal.inside::branches_follow-exchange-after-requires
+inside::branches_follow-exchange-after-requires t c =
     marks_long c.in_ok-before.before.items c.args.context.now c.follows.new.context c.in_ok-before.ensures
     (came_keeps (surroundings_at c.args.place.now) c.args.first.now (deriv_of c.args.first_derivation.now) c.args.context.now c.follows.new.context c.in_ok-follows.field-0 c.in_ok-follows.ensures c.if-not-branch.false)
 
-pub branches_follow-returns-then-not-branch-2 : goal.branches_follow-returns-then-not-branch-2
-branches_follow-returns-then-not-branch-2 t c =
+pub inside::branches_follow-returns-then-not-branch-2 : goal.inside::branches_follow-returns-then-not-branch-2
+inside::branches_follow-returns-then-not-branch-2 t c =
     let m = surroundings_at c.args.place.now in
     let s = c.args.context.now in
     let r = c.follows.new.context in
@@ -32,8 +32,8 @@ branches_follow-returns-then-not-branch-2 t c =
     c.in_ok-follows.field-0 c.in_ok-follows-2.field-0 c.in_ok-follows.ensures c.if-not-branch.false
     (restored c.in_ok-before.before.items s r c.exchange-after.new.self c.in_ok-before.ensures k c.exchange-after.ensures.after) c.in_ok-follows-2.ensures c.if-not-branch-2.true
 
-pub branches_follow-differs-requires : goal.branches_follow-differs-requires
-branches_follow-differs-requires t c =
+pub inside::branches_follow-differs-requires : goal.inside::branches_follow-differs-requires
+inside::branches_follow-differs-requires t c =
     let m = surroundings_at c.args.place.now in
     let s = c.args.context.now in
     let r = c.follows.new.context in
@@ -43,8 +43,8 @@ branches_follow-differs-requires t c =
     ap length c.deref.ensures.value
     ∙ sym (length-reverse c.exchange-after.result.items) ∙ ap length c.exchange-after.ensures.given ∙ k.marks ∙ sym (ap (λ z. length z.there) same) ∙ sym l.marks
 
-pub branches_follow-returns : goal.branches_follow-returns
-branches_follow-returns t c =
+pub inside::branches_follow-returns : goal.inside::branches_follow-returns
+inside::branches_follow-returns t c =
     let m = surroundings_at c.args.place.now in
     let s = c.args.context.now in
     let r = c.follows.new.context in
@@ -57,17 +57,17 @@ branches_follow-returns t c =
 
 -- ---- levels
 
-pub follows-returns-in_default : goal.follows-returns-in_default
-follows-returns-in_default t c = let w = rw c.in_default.is at c.in_ok-walk.ensures.walk in ap (λ F. F c.args.context.now) w
+pub following::follows-returns-in_default : goal.following::follows-returns-in_default
+following::follows-returns-in_default t c = let w = rw c.in_default.is at c.in_ok-walk.ensures.walk in ap (λ F. F c.args.context.now) w
 
-pub follows-returns-then-not-branch : goal.follows-returns-then-not-branch
-follows-returns-then-not-branch t c =
+pub following::follows-returns-then-not-branch : goal.following::follows-returns-then-not-branch
+following::follows-returns-then-not-branch t c =
     let w = rw c.in-Some.is at c.in_ok-walk.ensures.walk in
     ap (λ F. F c.args.context.now) w
     ∙ ap (λ o. next o (rest_walk (surroundings_at c.args.place.now) c.in-Some.walk.levels.items)) (c.in_ok-head_follows.ensures ∙ ap (λ b. came b c.head_follows.new.context) c.if-not-branch.true)
 
-pub follows-loop-level-init : goal.follows-loop-level-init
-follows-loop-level-init t c =
+pub following::follows-loop-level-init : goal.following::follows-loop-level-init
+following::follows-loop-level-init t c =
     let w = rw c.in-Some.is at c.in_ok-walk.ensures.walk in
     let l = rw c.in-Some.is at c.in_ok-walk.ensures.lower in
     record {
@@ -76,13 +76,13 @@ follows-loop-level-init t c =
       lower = l;
     }
 
-pub follows-follows-requires : goal.follows-follows-requires
-follows-follows-requires t c =
+pub following::follows-follows-requires : goal.following::follows-follows-requires
+following::follows-follows-requires t c =
     let low = c.in-Some-pop_level.ensures.low (core_height c.args.term.now) c.loop-level.invariant.lower in
     (omega (arith, low, c.decreases), tt)
 
-pub follows-loop-level-preserved : goal.follows-loop-level-preserved
-follows-loop-level-preserved t c =
+pub following::follows-loop-level-preserved : goal.following::follows-loop-level-preserved
+following::follows-loop-level-preserved t c =
     let m = surroundings_at c.args.place.now in
     record {
       walk = c.loop-level.invariant.walk
@@ -93,20 +93,20 @@ follows-loop-level-preserved t c =
 
 -- ---- inside variables and bodies
 
-pub follows_inside-closes-requires : goal.follows_inside-closes-requires
-follows_inside-closes-requires t c =
+pub inside::follows_inside-closes-requires : goal.inside::follows_inside-closes-requires
+inside::follows_inside-closes-requires t c =
     let v : Variable = record { type = c.in_ok-copy.field-0; uses = c.args.uses } in
     entered_there c.args.binder.now.name v c.args.context.now c.enter.new.self c.follows.new.context c.in_ok-enter.ensures.entered
     (came_keeps (surroundings_at c.args.place.now) c.args.body.now (deriv_of c.args.derivation.now) c.enter.new.self c.follows.new.context c.in_ok-follows.field-0 c.in_ok-follows.ensures c.if-not-branch.false)
 
-pub function_follows-end-requires : goal.function_follows-end-requires
-function_follows-end-requires t c =
+pub inside::function_follows-end-requires : goal.inside::function_follows-end-requires
+inside::function_follows-end-requires t c =
     begun_there c.args.context.now c.begin.new.self c.follows_inside-in-Many.new.context c.in_ok-begin-in-Many.ensures.begun
     (inside_keeps (surroundings_at c.args.place.now) c.args.binder.now.name (record { type = c.args.ty.now; uses = c.args.use_of }) c.args.body.now (deriv_of c.args.derivation.now) c.begin.new.self c.follows_inside-in-Many.new.context
     c.in_ok-follows_inside-in-Many.field-0 c.in_ok-follows_inside-in-Many.ensures c.if-not-branch.false)
 
-pub split_follows-closes-requires : goal.split_follows-closes-requires
-split_follows-closes-requires t c =
+pub inside::split_follows-closes-requires : goal.inside::split_follows-closes-requires
+inside::split_follows-closes-requires t c =
     let v : Variable = record { type = c.in_ok-copy.field-0; uses = c.in-Some-2.left_use } in
     entered_there c.args.left_binder.now.name v c.follows.new.context c.enter.new.self c.follows_inside.new.context c.in_ok-enter.ensures.entered
     (inside_keeps (surroundings_at c.args.place.now) c.args.right_binder.now.name (record { type = c.in-Some-pair_parts.right.now; uses = c.in-Some-3.right_use }) c.args.body.now (deriv_of c.in-Some.second.now) c.enter.new.self c.follows_inside.new.context
@@ -114,16 +114,16 @@ split_follows-closes-requires t c =
 
 -- ---- arms
 
-pub arm_follows-close_all-requires : goal.arm_follows-close_all-requires
-arm_follows-close_all-requires t c =
+pub arms::arm_follows-close_all-requires : goal.arms::arm_follows-close_all-requires
+arms::arm_follows-close_all-requires t c =
     let e = entered_long c.args.place.now.vars.now c.deref.result.now c.deref-2.result.now c.args.context.now c.enter_all.new.context (c.in_ok-enter_all.ensures ∙ ap (λ b. came b c.enter_all.new.context) c.if-not-branch.false) in
     let k = came_keeps (surroundings_at c.args.place.now) c.args.arm.now.body (deriv_of c.args.derivation.now) c.enter_all.new.context c.follows.new.context c.in_ok-follows.field-0 c.in_ok-follows.ensures c.if-not-branch-2.false in
     let n = ap length k.variables in
     let same = ap length c.deref.ensures.value in
     omega (arith, e, n, same, c.len.ensures, c.args.arm.now.binders.ok.0)
 
-pub arms_follow-further_arms_follow-requires : goal.arms_follow-further_arms_follow-requires
-arms_follow-further_arms_follow-requires t c =
+pub arms::arms_follow-further_arms_follow-requires : goal.arms::arms_follow-further_arms_follow-requires
+arms::arms_follow-further_arms_follow-requires t c =
     let m = surroundings_at c.args.place.now in
     let a = c.in-Some.arm.now in
     let p = c.in-Some-split_first.first.now in
@@ -132,8 +132,8 @@ arms_follow-further_arms_follow-requires t c =
     let high = ap (λ z. core_arms_height (core_arms_of z)) c.in-Some.ensures.cases.0 in
     (omega (arith, high, c.decreases), ap length c.deref.ensures.value ∙ marks_long c.in_ok-before.before.items c.args.context.now r c.in_ok-before.ensures k)
 
-pub arms_follow-returns : goal.arms_follow-returns
-arms_follow-returns t c =
+pub arms::arms_follow-returns : goal.arms::arms_follow-returns
+arms::arms_follow-returns t c =
     let m = surroundings_at c.args.place.now in
     let B = binding_of c.args.binds in
     let ty = c.args.ty.now in
@@ -148,8 +148,8 @@ arms_follow-returns t c =
     let others = ap (λ z. further_walk m B (core_arms_of c.in-Some.others.now) ty (parts_of c.in-Some-split_first.rest.now) z r) (sym back) in
     IfOk-weaker c.further_arms_follow.result _ _ (λ b h. step ∙ others ∙ h) c.further_arms_follow.ensures
 
-pub further_arm_follows-differs-requires : goal.further_arm_follows-differs-requires
-further_arm_follows-differs-requires t c =
+pub arms::further_arm_follows-differs-requires : goal.arms::further_arm_follows-differs-requires
+arms::further_arm_follows-differs-requires t c =
     let m = surroundings_at c.args.place.now in
     let s = c.exchange-after.new.self in
     let k = arm_keeps m (binding_of c.args.binds) c.args.arm.now.label c.args.arm.now.binders.items c.args.arm.now.body (deriv_of c.args.derivation.now) s c.arm_follows.new.context c.in_ok-arm_follows.field-0 c.in_ok-arm_follows.ensures c.if-not-branch.false in
@@ -158,8 +158,8 @@ further_arm_follows-differs-requires t c =
     ∙ sym c.requires ∙ ap length (sym c.in_ok-marks.ensures.items) ∙ sym (length-reverse c.in_ok-marks.marks.items)
     ∙ sym (ap (λ z. length z.there) c.exchange-after.ensures.after) ∙ sym k.marks
 
-pub further_arm_follows-returns : goal.further_arm_follows-returns
-further_arm_follows-returns t c =
+pub arms::further_arm_follows-returns : goal.arms::further_arm_follows-returns
+arms::further_arm_follows-returns t c =
     let m = surroundings_at c.args.place.now in
     let G = arm_walk m.vars (bound_types m (binding_of c.args.binds) c.args.arm.now.label) c.args.arm.now.binders.items (walk_of m c.args.arm.now.body (deriv_of c.args.derivation.now)) in
     let s = with_marks (reverse c.args.before.now) c.args.context.now in
@@ -168,15 +168,15 @@ further_arm_follows-returns t c =
     (ap reverse c.deref.ensures.value ∙ c.exchange-after.ensures.given) c.differs.ensures.none c.differs.ensures.differs
     ∙ ap (λ b. came b c.arm_follows.new.context) (not_back c.is_none.result (is_some c.differs.result) (sym c.is_none.ensures))
 
-pub further_arms_follow-further_arm_follows-requires :
-    goal.further_arms_follow-further_arm_follows-requires
-further_arms_follow-further_arm_follows-requires t c =
+pub arms::further_arms_follow-further_arm_follows-requires :
+    goal.arms::further_arms_follow-further_arm_follows-requires
+arms::further_arms_follow-further_arm_follows-requires t c =
     let high = core_arms_height_at c.args.arms.now c.loop-i.i c.index-arms-i.result (omega arith) in
     let same = ap (λ b. core_height b.body) c.index-arms-i.is in
     (omega (arith, high, same, c.decreases), sym (length-reverse c.args.before.now) ∙ sym c.loop-i.invariant.keeps.marks)
 
-pub further_arms_follow-loop-i-preserved : goal.further_arms_follow-loop-i-preserved
-further_arms_follow-loop-i-preserved t c =
+pub arms::further_arms_follow-loop-i-preserved : goal.arms::further_arms_follow-loop-i-preserved
+arms::further_arms_follow-loop-i-preserved t c =
     let m = surroundings_at c.args.place.now in
     let B = binding_of c.args.binds in
     let s = with_marks (reverse c.args.before.now) c.args.context.now in

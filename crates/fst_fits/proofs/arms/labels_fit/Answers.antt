@@ -2,8 +2,8 @@ use Rattle.std.proofs.Common.{◌∙◌, sym}
 use Rattle.fst_terms.specs.ModelCoreView.{core_arms_of}
 use Rattle.fst_lts.specs.Step.{labels}
 use Rattle.fst_arms.specs.Arms.{arm_labels}
-use Rattle.fst_rules.proofs.ArmTestLaws.{offers_answer, offers_none}
-use Rattle.fst_rules.proofs.binding.labels_fit.Goals as goal
+use Rattle.fst_fits.proofs.ArmTestLaws.{offers_answer, offers_none}
+use Rattle.fst_fits.proofs.arms.labels_fit.Goals as goal
 
 pub returns-then-not-has_any : goal.returns-then-not-has_any
 returns-then-not-has_any c =

@@ -4,8 +4,8 @@ ghost use Rattle.fst_types.specs.declared.base.Base.TheVariants as base;
 ghost use Rattle.fst_types.specs.declared.label.Label.{Label};
 ghost use Rattle.fst_lts.specs.Step.{step};
 ghost use Rattle.fst_terms.specs.InRange.{maker_of};
-ghost use Rattle.fst_rules.specs.Tests.{applies, arrow_of, arrow_parts, base_of, instantiates, is_arrow, is_below, is_channel, is_global_type, is_instance, is_ordered, is_pair, is_session, is_type, kind_in, operates, pair_parts, receives, receives_pair, same_tree, same_use, sends, types_at};
-ghost use Rattle.fst_rules.specs.Walks.{apply_fits, fork_fits, if_fits, negate_fits, operate_fits, pair_fits, receive_fits, select_fits, send_fits, seq_fits};
+ghost use Rattle.fst_fits.specs.Tests.{applies, arrow_of, arrow_parts, base_of, instantiates, is_arrow, is_below, is_channel, is_global_type, is_instance, is_ordered, is_pair, is_session, is_type, kind_in, operates, pair_parts, receives, receives_pair, same_tree, same_use, sends, types_at};
+ghost use Rattle.fst_fits.specs.Fits.{apply_fits, fork_fits, if_fits, negate_fits, operate_fits, pair_fits, receive_fits, select_fits, send_fits, seq_fits};
 
 use crate::ready::{is_often, is_plain, is_same, kind_in};
 use fst_kinds::subkind;
@@ -30,7 +30,7 @@ fn same_use(u: Use, v: Use) -> bool
 }
 
 /// Whether a type is that of pairs of values of two types.
-pub(crate) fn pair_fits(t: &Ty, first: &Ty, second: &Ty) -> bool
+pub fn pair_fits(t: &Ty, first: &Ty, second: &Ty) -> bool
     ensures { result ≡ pair_fits t.now first.now second.now }
 {
     match &t.form {
@@ -40,7 +40,7 @@ pub(crate) fn pair_fits(t: &Ty, first: &Ty, second: &Ty) -> bool
 }
 
 /// The types of a pair's parts, if a type is that of pairs.
-pub(crate) fn pair_parts<'a>(t: &'a Ty) -> Option<(&'a Ty, &'a Ty)>
+pub fn pair_parts<'a>(t: &'a Ty) -> Option<(&'a Ty, &'a Ty)>
     ensures { option_map (λ p. (p.0.now, p.1.now)) result ≡ pair_parts t.now }
 {
     match &t.form {
@@ -50,7 +50,7 @@ pub(crate) fn pair_parts<'a>(t: &'a Ty) -> Option<(&'a Ty, &'a Ty)>
 }
 
 /// Whether a type is that of functions of this use from the one type to the other.
-pub(crate) fn arrow_fits(t: &Ty, uses: Use, from: &Ty, to: &Ty) -> bool
+pub fn arrow_fits(t: &Ty, uses: Use, from: &Ty, to: &Ty) -> bool
     ensures { result ≡ is_arrow (arrow_of t.now) uses from.now to.now }
 {
     match &t.form {
@@ -60,7 +60,7 @@ pub(crate) fn arrow_fits(t: &Ty, uses: Use, from: &Ty, to: &Ty) -> bool
 }
 
 /// Whether functions of a type take an argument of another and give a result of a third.
-pub(crate) fn apply_fits(t: &Ty, function: &Ty, argument: &Ty) -> bool
+pub fn apply_fits(t: &Ty, function: &Ty, argument: &Ty) -> bool
     ensures { result ≡ apply_fits t.now function.now argument.now }
 {
     match &function.form {
@@ -90,21 +90,21 @@ fn operates(op: Op, operand: &Ty, t: &Ty) -> bool
 }
 
 /// Whether a sign takes operands of two types, which have to be one, and gives a result of a third.
-pub(crate) fn operate_fits(op: Op, t: &Ty, first: &Ty, second: &Ty) -> bool
+pub fn operate_fits(op: Op, t: &Ty, first: &Ty, second: &Ty) -> bool
     ensures { result ≡ operate_fits op t.now first.now second.now }
 {
     is_same(second, first) && operates(op, first, t)
 }
 
 /// Whether a type is that of truth values, and so is that of the negated part.
-pub(crate) fn negate_fits(t: &Ty, part: &Ty) -> bool
+pub fn negate_fits(t: &Ty, part: &Ty) -> bool
     ensures { result ≡ negate_fits t.now part.now }
 {
     is_plain(part, Base::Bool) && is_plain(t, Base::Bool)
 }
 
 /// Whether the condition is a truth value, and both branches have the type.
-pub(crate) fn if_fits(t: &Ty, condition: &Ty, first: &Ty, second: &Ty) -> bool
+pub fn if_fits(t: &Ty, condition: &Ty, first: &Ty, second: &Ty) -> bool
     ensures { result ≡ if_fits t.now condition.now first.now second.now }
 {
     is_plain(condition, Base::Bool) && is_same(t, first) && is_same(second, first)
@@ -121,7 +121,7 @@ fn moves_to(alloc: Global, from: &Ty, label: &Label, to: &Ty) -> Result<bool, Al
 }
 
 /// Whether a channel of one type is left at another after a value of a third was sent on it.
-pub(crate) fn send_fits(alloc: Global, t: &Ty, value: &Ty, channel: &Ty) -> Result<bool, AllocError>
+pub fn send_fits(alloc: Global, t: &Ty, value: &Ty, channel: &Ty) -> Result<bool, AllocError>
     ensures { IfOk result (λ b. b ≡ send_fits t.now value.now channel.now) }
 {
     match &value.form {
@@ -140,7 +140,7 @@ fn receives(alloc: Global, value: &Ty, channel: &Ty, rest: &Ty) -> Result<bool, 
 }
 
 /// Whether a type is that of a value that is received on a channel of another, with what is left of the channel.
-pub(crate) fn receive_fits(alloc: Global, t: &Ty, channel: &Ty) -> Result<bool, AllocError>
+pub fn receive_fits(alloc: Global, t: &Ty, channel: &Ty) -> Result<bool, AllocError>
     ensures { IfOk result (λ b. b ≡ receive_fits t.now channel.now) }
 {
     match &t.form {
@@ -150,12 +150,7 @@ pub(crate) fn receive_fits(alloc: Global, t: &Ty, channel: &Ty) -> Result<bool, 
 }
 
 /// Whether a channel of one type is left at another after a branch was selected on it.
-pub(crate) fn select_fits(
-    alloc: Global,
-    label: &Name,
-    t: &Ty,
-    channel: &Ty,
-) -> Result<bool, AllocError>
+pub fn select_fits(alloc: Global, label: &Name, t: &Ty, channel: &Ty) -> Result<bool, AllocError>
     ensures { IfOk result (λ b. b ≡ select_fits label.now t.now channel.now) }
 {
     let label = Label::Select(label.copy(alloc)?);
@@ -163,14 +158,14 @@ pub(crate) fn select_fits(
 }
 
 /// Whether a type is that of the value without content, and the values of the part's type may be used often.
-pub(crate) fn fork_fits(alloc: Global, vars: &[Kind], t: &Ty, part: &Ty) -> Result<bool, AllocError>
+pub fn fork_fits(alloc: Global, vars: &[Kind], t: &Ty, part: &Ty) -> Result<bool, AllocError>
     ensures { IfOk result (λ b. b ≡ fork_fits vars.now t.now part.now) }
 {
     Ok(is_often(alloc, vars, part)? && is_plain(t, Base::Unit))
 }
 
 /// Whether a type is that of the second part, and the values of the first part's type may be used often.
-pub(crate) fn seq_fits(
+pub fn seq_fits(
     alloc: Global,
     vars: &[Kind],
     t: &Ty,
@@ -192,7 +187,7 @@ fn is_session(alloc: Global, t: &Ty) -> Result<bool, AllocError>
 }
 
 /// Whether a type is that of both ends of a channel of the module's type with this number.
-pub(crate) fn channel_fits(alloc: Global, types: &[Ty], k: u32, t: &Ty) -> Result<bool, AllocError>
+pub fn channel_fits(alloc: Global, types: &[Ty], k: u32, t: &Ty) -> Result<bool, AllocError>
     ensures { IfOk result (λ b. b ≡ is_channel (slice_get types.now k) t.now) }
 {
     let Some(end) = type_at(types, k) else {
@@ -206,14 +201,14 @@ pub(crate) fn channel_fits(alloc: Global, types: &[Ty], k: u32, t: &Ty) -> Resul
 }
 
 // The type with this number, if it is there.
-pub(crate) fn type_at<'a>(types: &'a [Ty], k: u32) -> Option<&'a Ty>
+pub fn type_at<'a>(types: &'a [Ty], k: u32) -> Option<&'a Ty>
     ensures { option_map (λ t. t.now) result ≡ slice_get types.now k }
 {
     types.get(k as usize)
 }
 
 /// Whether the type with this number is there, and is this one.
-pub(crate) fn is_at(types: &[Ty], k: u32, t: &Ty) -> bool
+pub fn is_at(types: &[Ty], k: u32, t: &Ty) -> bool
     ensures { result ≡ is_type (slice_get types.now k) t.now }
 {
     match type_at(types, k) {
@@ -223,7 +218,7 @@ pub(crate) fn is_at(types: &[Ty], k: u32, t: &Ty) -> bool
 }
 
 /// Whether a type is the data type with this number.
-pub(crate) fn is_named(t: &Ty, n: u32) -> bool
+pub fn is_named(t: &Ty, n: u32) -> bool
     ensures { result ≡ same_tree t.now (tree.named n) }
 {
     let named = Ty {
@@ -233,7 +228,7 @@ pub(crate) fn is_named(t: &Ty, n: u32) -> bool
 }
 
 /// The constructor with this number of the data type with this number.
-pub(crate) fn maker_at<'a>(families: &'a [Family], n: u32, k: u32) -> Option<&'a Maker>
+pub fn maker_at<'a>(families: &'a [Family], n: u32, k: u32) -> Option<&'a Maker>
     ensures { option_map (λ o. o.now) result ≡ maker_of (slice_get families.now n) k }
 {
     match families.get(n as usize) {
@@ -242,11 +237,7 @@ pub(crate) fn maker_at<'a>(families: &'a [Family], n: u32, k: u32) -> Option<&'a
     }
 }
 
-pub(crate) fn types_at(
-    alloc: Global,
-    types: &[Ty],
-    places: &[u32],
-) -> Result<Option<Vec<Ty>>, AllocError>
+pub fn types_at(alloc: Global, types: &[Ty], places: &[u32]) -> Result<Option<Vec<Ty>>, AllocError>
     ensures { IfOk result (λ o. option_map (λ ts. ts.items) o ≡ types_at types.now places.now) }
 {
     let mut found = Vec::new(alloc);
@@ -289,7 +280,7 @@ fn instantiates(
 }
 
 /// Whether a type is that of a global with these type arguments.
-pub(crate) fn global_fits(
+pub fn global_fits(
     alloc: Global,
     m: &Module,
     vars: &[Kind],

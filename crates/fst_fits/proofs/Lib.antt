@@ -1,0 +1,4 @@
+mod TestLaws
+mod FitLaws
+mod ArmTestLaws
+pub mod Laws
