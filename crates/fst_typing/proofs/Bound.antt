@@ -1,7 +1,7 @@
 -- The derivations of terms that bind variables or have branches.
 use Rattle.std.proofs.Common.{◌≡◌, ◌∙◌, ℕ, List, [], ◌∷◌, Some, slice_get, sym, ap, subst}
 use Rattle.fst_types.specs.Tree as type
-use Rattle.fst_types.specs.Tree.{Tree, plain, arrow, named}
+use Rattle.fst_types.specs.Tree.{Tree, plain, arrow}
 use Rattle.fst_types.specs.declared.base.Base.TheVariants.{Bool as Truth}
 use Rattle.fst_types.specs.declared.kind.Kind.{Kind}
 use Rattle.fst_types.specs.declared.kind.Use.{Use}
@@ -14,6 +14,7 @@ use Rattle.fst_context.proofs.Laws.{takes_both, takes_as, takes_body, takes_same
 use Rattle.fst_derivations.specs.Deriv.{Deriv, row, convert, type_of, one, two, three}
 use Rattle.fst_derivations.specs.Parts.{IsFormed, HasUse, AreVariables, enter_all, under_all}
 use Rattle.fst_derivations.specs.Rules.{Surroundings}
+use Rattle.fst_typing.specs.Shown.{after_body, inside}
 use Rattle.fst_typing.specs.Typed.{Check, IsKnown, IsPlain, IsTyped, IsTypedUnder}
 use Rattle.fst_typing.proofs.Formed.{arrow_of_formed}
 use Rattle.fst_typing.proofs.Forms.{over, at_type, same_variables}
@@ -120,6 +121,12 @@ module _ (c : Check) where
       (takes_as (λ u. (u ≡ no_vars) × P u) (Judged (lambda at Many k x a) r.variables w) r (ended z)
       (λ u v. record { rule = (t, n, d, p, inner.has, (λ l. v.0), over c a (var_of t n ∷ r.variables) d (under (is_once n) u) v.1, is); formed = subst (λ j. IsFormed V (type_of j)) (sym is) (function_formed Many n t d inner.has v.1.formed) })
       (takes_body P r z inner.takes))
+
+  -- a function of either use
+  pub function_typed : (at k : ℕ) (n : Use) (x : Binder) (a : CoreTree) (w d : Deriv) (t o : Tree) (r z s : Scope) → IsTypedUnder c (x ∷ []) (t ∷ []) (inside n r) z a d → s ≡ after_body n z →
+      slice_get M.types k ≡ Some t → o ≡ arrow n t (type_of d) → w ≡ row o (one d) → IsTyped c r s (lambda at n k x a) w
+  function_typed at k Once x a w d t o r z s y j p e q = subst (λ l. IsTyped c r l (lambda at Once k x a) w) (sym j) (once_typed at k x a w d t o r z y p e q)
+  function_typed at k Many x a w d t o r z s y j p e q = many_typed at k x a w d t o r z s y j p e q
 
   pub if_typed : (at : ℕ) (a b o : CoreTree) (w d k h l m : Deriv) (t wanted : Tree) (r s z : Scope) → IsTyped c r s a d → t ≡ plain Truth → k ≡ convert (type_of d) t d → E (type_of d) t →
       IsTyped c s z b h → IsTyped c s z o l → m ≡ convert (type_of l) (type_of h) l → E (type_of l) (type_of h) → w ≡ row (type_of h) (three k h m) → IsTyped c r z (if_else at a b o) w

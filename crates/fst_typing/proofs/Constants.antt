@@ -1,6 +1,7 @@
 -- Terms without parts that have one type.
-use Rattle.std.proofs.Common.{◌≡◌, ◌∙◌, ℕ, ℤ, Bool, ap, refl, subst, sym}
-use Rattle.fst_types.specs.Tree.{Tree, plain}
+use Rattle.std.proofs.Common.{◌≡◌, ℕ, ℤ, Bool, refl, subst, sym}
+use Rattle.fst_types.specs.Tree.{plain}
+use Rattle.fst_types.specs.declared.base.Base.{Base}
 use Rattle.fst_types.specs.declared.base.Base.TheVariants.{Int, Bool as Truth, Char, Unit as Nothing}
 use Rattle.fst_terms.specs.CoreTree.{int, bool, char, unit}
 use Rattle.fst_context.specs.Scope.{Scope}
@@ -9,22 +10,18 @@ use Rattle.fst_derivations.specs.Parts.{IsFormed}
 use Rattle.fst_typing.specs.Typed.{Check, IsTyped}
 use Rattle.fst_typing.proofs.Forms.{base_formed, typed_leaf}
 
-pub int_typed : (c : Check) (at : ℕ) (n : ℤ) (s : Scope) (w : Deriv) (t : Tree) → t ≡ plain Int → w ≡ row t none → IsTyped c s s (int at n) w
-int_typed c at n s w t e q =
-    let is : w ≡ row (plain Int) none = q ∙ ap (λ o. row o none) e in
-    typed_leaf c s (int at n) w (record { rule = (refl, is); formed = subst (λ d. IsFormed c.surroundings.vars (type_of d)) (sym is) (base_formed c Int) })
+-- its row has a well-formed type
+plain_formed : (c : Check) (b : Base) (w : Deriv) → w ≡ row (plain b) none → IsFormed c.surroundings.vars (type_of w)
+plain_formed c b w is = subst (λ d. IsFormed c.surroundings.vars (type_of d)) (sym is) (base_formed c b)
 
-pub bool_typed : (c : Check) (at : ℕ) (n : Bool) (s : Scope) (w : Deriv) (t : Tree) → t ≡ plain Truth → w ≡ row t none → IsTyped c s s (bool at n) w
-bool_typed c at n s w t e q =
-    let is : w ≡ row (plain Truth) none = q ∙ ap (λ o. row o none) e in
-    typed_leaf c s (bool at n) w (record { rule = (refl, is); formed = subst (λ d. IsFormed c.surroundings.vars (type_of d)) (sym is) (base_formed c Truth) })
+pub int_typed : (c : Check) (at : ℕ) (n : ℤ) (s : Scope) (w : Deriv) → w ≡ row (plain Int) none → IsTyped c s s (int at n) w
+int_typed c at n s w is = typed_leaf c s (int at n) w (record { rule = (refl, is); formed = plain_formed c Int w is })
 
-pub char_typed : (c : Check) (at : ℕ) (n : ℕ) (s : Scope) (w : Deriv) (t : Tree) → t ≡ plain Char → w ≡ row t none → IsTyped c s s (char at n) w
-char_typed c at n s w t e q =
-    let is : w ≡ row (plain Char) none = q ∙ ap (λ o. row o none) e in
-    typed_leaf c s (char at n) w (record { rule = (refl, is); formed = subst (λ d. IsFormed c.surroundings.vars (type_of d)) (sym is) (base_formed c Char) })
+pub bool_typed : (c : Check) (at : ℕ) (n : Bool) (s : Scope) (w : Deriv) → w ≡ row (plain Truth) none → IsTyped c s s (bool at n) w
+bool_typed c at n s w is = typed_leaf c s (bool at n) w (record { rule = (refl, is); formed = plain_formed c Truth w is })
 
-pub unit_typed : (c : Check) (at : ℕ) (s : Scope) (w : Deriv) (t : Tree) → t ≡ plain Nothing → w ≡ row t none → IsTyped c s s (unit at) w
-unit_typed c at s w t e q =
-    let is : w ≡ row (plain Nothing) none = q ∙ ap (λ o. row o none) e in
-    typed_leaf c s (unit at) w (record { rule = (refl, is); formed = subst (λ d. IsFormed c.surroundings.vars (type_of d)) (sym is) (base_formed c Nothing) })
+pub char_typed : (c : Check) (at : ℕ) (n : ℕ) (s : Scope) (w : Deriv) → w ≡ row (plain Char) none → IsTyped c s s (char at n) w
+char_typed c at n s w is = typed_leaf c s (char at n) w (record { rule = (refl, is); formed = plain_formed c Char w is })
+
+pub unit_typed : (c : Check) (at : ℕ) (s : Scope) (w : Deriv) → w ≡ row (plain Nothing) none → IsTyped c s s (unit at) w
+unit_typed c at s w is = typed_leaf c s (unit at) w (record { rule = (refl, is); formed = plain_formed c Nothing w is })

@@ -1,6 +1,8 @@
 -- What is taken under variables that are all used at their end.
 use Rattle.std.proofs.Common.{◌≡◌, ◌∙◌, ◌+◌, ◌<◌, ℕ, zero, suc, Bool, false, List, [], ◌∷◌, length, refl, sym, ap, subst, arith}
 use Rattle.fst_types.specs.Tree.{Tree}
+use Rattle.fst_types.specs.declared.kind.Use.{Use}
+use Rattle.fst_types.specs.declared.kind.Use.TheVariants.{Many, Once}
 use Rattle.fst_terms.specs.CoreTree.{CoreTree}
 use Rattle.fst_terms.specs.declared.binder.Binder.{Binder}
 use Rattle.fst_context.specs.Scope.{Scope, Variable, is_once, at_or_not, entered, fewer, left, more, tail, Takes}
@@ -8,6 +10,7 @@ use Rattle.fst_context.specs.Vars.{Vars, under}
 use Rattle.fst_context.proofs.Laws.{takes_inside}
 use Rattle.fst_derivations.specs.Deriv.{Deriv}
 use Rattle.fst_derivations.specs.Parts.{enter_all, under_all}
+use Rattle.fst_typing.specs.Shown.{inside}
 use Rattle.fst_typing.specs.Typed.{Check, IsPlain, IsTypedUnder, AreUsed, entered_all, left_all}
 
 -- leaving one variable after n others is leaving it before them
@@ -75,3 +78,8 @@ bodies_entered (x ∷ xs) (v ∷ vs) s h = bodies_entered xs vs (entered x.name 
 pub bodies_left : (n : ℕ) (s : Scope) → 0 < length s.bodies → 0 < length (left_all n s).bodies
 bodies_left zero s h = h
 bodies_left (suc n) s h = bodies_left n (left s) (omega (arith, h, fewer_length s.bodies))
+
+-- beginning a body keeps the variables
+pub inside_variables : (n : Use) (s : Scope) → (inside n s).variables ≡ s.variables
+inside_variables Many s = refl
+inside_variables Once s = refl

@@ -68,7 +68,8 @@ ShowsGlobal m budget g f =
     ((t : Tree) × (slice_get m.types.items g.signature ≡ Some t) × ShowsEquation (check_over m budget g.kinds.items) g.body t empty f))
 
 -- the module is refused, for the first of these in order: a written type that isn't well formed, a field that can't be
--- printed, the equation that begins first of those that aren't accepted
+-- printed, a global that is refused, where each global is accepted whose equation begins before this one's, or begins where
+-- it does and stands before it
 pub data IsRefusal (m : Module) (budget : ℕ) (f : CheckFault) : Type 0 where
   kinds : (at : ℕ) (fault : KindFault) → IsFirstKindFault m (readings m) at fault → IsWrittenKindFault fault → f ≡ Kinds at fault → IsRefusal m budget f
   field : (k at : ℕ) (t : Tree) → AreTypesFormed m → IsFirstUnprintable m (family_types m.families.items) k →
@@ -78,8 +79,8 @@ pub data IsRefusal (m : Module) (budget : ℕ) (f : CheckFault) : Type 0 where
 
 -- ---- while the equations are looked at
 
--- what was found of some globals: their derivations, or the refusal of the one among them whose equation begins first of those
--- that aren't accepted
+-- what was found of some globals: their derivations, or the refusal of one among them, where each of them is accepted whose
+-- equation begins before this one's, or begins where it does and stands before it
 unfoldable pub IsFoundOf : Module → ℕ → List GlobalEntry → List Deriv → Option Refused → Type 0
 IsFoundOf m budget gs ds None =
     ArePlainlyDerived m (IsKnownOver m budget) gs ds × HasMain m.types.items gs × AllByRecursion (IsGlobalAccepted m budget) gs

@@ -1,5 +1,5 @@
 -- The plain derivation of an equation, and why an equation is refused.
-use Rattle.std.specs.Prelude.{◌≡◌, ◌⊎◌, ℕ, false, slice_get, Some}
+use Rattle.std.specs.Prelude.{◌≡◌, ◌⊎◌, ℕ, false, List, [], ◌∷◌, slice_get, Some}
 use Rattle.fst_types.specs.Tree.{Tree, arrow}
 use Rattle.fst_types.specs.declared.kind.Use.{Use}
 use Rattle.fst_terms.specs.CoreTree.{CoreTree, lambda}
@@ -66,5 +66,19 @@ pub record HasParameter (c : Check) (e : CoreTree) (t : Tree) (p : Parameter) : 
   pub number : ℕ
   pub term : e ≡ lambda at p.uses number p.binder.now p.body.now
   pub place : at ≡ p.binder.now.at
+  pub wanted : t ≡ p.wanted.now
   pub type : t ≡ arrow p.uses p.from.now p.to.now
   pub written : slice_get c.surroundings.types number ≡ Some p.from.now
+
+-- the parameter is entered between the scopes
+pub record IsEntered (c : Check) (p : Parameter) (before after : Scope) : Type 0 where
+  pub uses : Use
+  pub has : HasUse c.surroundings.vars p.from.now uses
+  pub is : after ≡ with_parameter p.binder.now p.from.now uses (inside p.uses before)
+
+-- at this type the term has these parameters in front, the first outermost, which are entered between the scopes; under them
+-- is b at the type r
+abbrev pub AreEntered : Check → CoreTree → Tree → Scope → List Parameter → CoreTree → Tree → Scope → Type 0
+AreEntered c e t before [] b r after = (e ≡ b) × (t ≡ r) × (before ≡ after)
+AreEntered c e t before (p ∷ ps) b r after =
+    HasParameter c e t p × ((z : Scope) × IsEntered c p before z × AreEntered c p.body.now p.to.now z ps b r after)

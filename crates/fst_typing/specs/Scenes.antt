@@ -1,4 +1,4 @@
--- What a term is checked with, and refusals for any other reason than want of memory.
+-- What a term is checked with: the module and the types that are well formed there, and what the arms of a term bind.
 use Rattle.std.specs.Prelude.{◌≡◌, ◌⊎◌, ◌<◌, ◌≤◌, ℕ, List, [], ◌∷◌, Option, Some, get_or, map, slice_get, slice_index, length, ⊤}
 use Rattle.fst_types.specs.Tree.{Tree, named}
 use Rattle.fst_types.specs.declared.family.Family.{Family}

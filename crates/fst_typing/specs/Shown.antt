@@ -24,7 +24,7 @@ use Rattle.fst_terms.specs.declared.binder.Binder.{Binder}
 use Rattle.fst_terms.specs.declared.global.GlobalEntry.{GlobalEntry}
 use Rattle.fst_terms.specs.declared.term.Op.{Op}
 use Rattle.fst_terms.specs.declared.term.Op.TheVariants.{Add, Subtract, Multiply, Equal, Unequal, Less, AtMost, Greater, AtLeast, And, Or}
-use Rattle.fst_context.specs.Scope.{Scope, Variable, begun, at_or_not}
+use Rattle.fst_context.specs.Scope.{Scope, Variable, begun, ended, at_or_not}
 use Rattle.fst_context.specs.View.{taken_at}
 use Rattle.fst_context.specs.declared.context.Taken.TheVariants.{Gone, Outside}
 use Rattle.fst_equiv.specs.Comparison.{IsComparison, IsTooLargeComparison}
@@ -170,6 +170,11 @@ IsOperand c None s wanted = IsComparable s × (wanted ≡ s)
 abbrev pub inside : Use → Scope → Scope
 inside Many s = begun s
 inside Once s = s
+
+-- the scope after a function, where this is the one at the end of its body
+abbrev pub after_body : Use → Scope → Scope
+after_body Many s = ended s
+after_body Once s = s
 
 -- of the types that names are bound at the first that is over its size
 abbrev pub IsLargeBinder : List Binder → List Tree → CheckFault → Type 0

@@ -1,14 +1,15 @@
-// Entering and leaving the variables of a context.
+// Entering and leaving the variables and the bodies of a context.
 
 ghost use Rattle.std.specs.Prelude.{◌≡◌, ◌∷◌, [], ◌<◌, ◌≤◌, IfErr, List, OnOk, length};
 ghost use Rattle.fst_types.specs.declared.kind.Use.{Use};
+ghost use Rattle.fst_types.specs.declared.kind.Use.TheVariants.{Many};
 ghost use mathlib.Core.List.{reverse};
 ghost use Rattle.fst_context.specs.Scope.{entered, with_marks};
 ghost use Rattle.fst_types.specs.Tree.{Tree};
 ghost use Rattle.fst_context.specs.Scope.{Variable};
 ghost use Rattle.fst_derivations.specs.Parts.{AreAt, AreVariables, HasUse, IsFormed};
 ghost use Rattle.fst_typing.specs.Typed.{AreUsed, entered_all, left_all};
-ghost use Rattle.fst_typing.specs.Shown.{IsLargeBinder, ShowsUnused, UseDifferent, IsShown};
+ghost use Rattle.fst_typing.specs.Shown.{after_body, inside, IsLargeBinder, ShowsUnused, UseDifferent, IsShown};
 ghost use Rattle.fst_typing.specs.Scenes.{AreFormed, noted};
 
 use crate::fault::CheckFault;
@@ -16,8 +17,29 @@ use crate::parts::use_of;
 use crate::scene::{Scene, fits, type_at};
 use fst_context::{Context, Left};
 use fst_terms::Binder;
-use fst_types::{Ty, copy};
+use fst_types::{Ty, Use, copy};
 use std::alloc::{AllocError, Global};
+
+/// Begins the body of a function that is used so often.
+pub(crate) fn begin_body(context: &mut Context, uses: Use) -> Result<(), AllocError>
+    ensures { OnOk result (context.new ≡ inside uses context.old) }
+{
+    match uses {
+        Use::Once => Ok(()),
+        Use::Many => context.begin(),
+    }
+}
+
+/// Ends the body of a function that is used so often.
+pub(crate) fn end_body(context: &mut Context, uses: Use)
+    requires { uses ≡ Many → 0 < length context.old.bodies }
+    ensures { context.new ≡ after_body uses context.old }
+{
+    match uses {
+        Use::Once => {}
+        Use::Many => context.end(),
+    }
+}
 
 /// Enters a variable of a well-formed type.
 pub(crate) fn enter(

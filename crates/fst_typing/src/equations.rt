@@ -1,17 +1,20 @@
 // The plain derivation of an equation: its parameters have the types in front of its signature's arrows, and the term under
 // them is compared with the result.
 
-ghost use Rattle.std.specs.Prelude.{◌≡◌, ◌∷◌, [], ◌<◌, ℕ, List, IfErr, IfOk, MatchOption, length};
+ghost use Rattle.std.specs.Prelude.{◌≡◌, ◌∷◌, ◌++◌, [], ◌<◌, ℕ, List, IfErr, IfOk, IfSome, MatchOption, OnOk, length};
+ghost use Rattle.fst_types.specs.Tree.{Tree};
+ghost use Rattle.fst_types.specs.declared.kind.Use.TheVariants.{Many};
 ghost use Rattle.fst_terms.specs.CoreTree.{CoreTree};
 ghost use Rattle.fst_terms.specs.InRange.{IsInRange};
-ghost use Rattle.fst_context.specs.Scope.{Variable};
-ghost use Rattle.fst_derivations.specs.Deriv.{deriv_of, row, one};
-ghost use Rattle.fst_derivations.specs.Parts.{AreVariables, IsFormed, enter_all};
+ghost use Rattle.fst_context.specs.Scope.{Scope};
+ghost use Rattle.fst_derivations.specs.Deriv.{deriv_of};
+ghost use Rattle.fst_derivations.specs.Parts.{IsFormed};
 ghost use Rattle.fst_typing.specs.Scenes.{bounds, check_in, IsReady, IsSetUp};
-ghost use Rattle.fst_typing.specs.Shown.{IsShown};
-ghost use Rattle.fst_typing.specs.Equations.{HasNoParameter, HasParameter, IsEquationTyped, IsParameterTyped, ShowsEquation, ShowsResult, UnderParameter};
+ghost use Rattle.fst_typing.specs.Shown.{IsShown, IsTooLargeAt};
+ghost use Rattle.fst_typing.specs.Typed.{Check};
+ghost use Rattle.fst_typing.specs.Equations.{AreEntered, HasNoParameter, HasParameter, IsEntered, IsEquationTyped, ShowsEquation, ShowsResult};
 
-use crate::binding::{enter, leave};
+use crate::binding::{begin_body, end_body, enter, leave};
 use crate::fault::CheckFault;
 use crate::infer::infer;
 use crate::parts::compared;
@@ -20,17 +23,26 @@ use fst_context::Context;
 use fst_derivations::Derivation;
 use fst_terms::{Binder, Form, Term};
 use fst_types::{Ty, TyForm, Use, copy, same};
-use std::alloc::{AllocError, Global};
+use std::alloc::Global;
 
-/// The first parameter of an equation: the use of its arrow, its name, what is under it, and the types in front of the arrow
-/// and behind it.
+/// The first parameter of an equation: the use of its arrow, its name, what is under it, the type of the equation, and the
+/// types in front of its arrow and behind it.
 #[derive(Clone, Copy)]
 pub(crate) struct Parameter<'a> {
     pub uses: Use,
     pub binder: &'a Binder,
     pub body: &'a Term,
+    pub wanted: &'a Ty,
     pub from: &'a Ty,
     pub to: &'a Ty,
+}
+
+/// An equation from the inside: its parameters, the first outermost, the term under them and the type that it is to have.
+#[derive(Drop)]
+pub(crate) struct Entered<'a> {
+    parameters: Vec<Parameter<'a>>,
+    body: &'a Term,
+    to: &'a Ty,
 }
 
 /// The parameter in front of a term at this type: a function at the place of its variable, of just the arrow's type.
@@ -50,6 +62,7 @@ fn parameter_of<'a>(scene: Scene<'a>, wanted: &'a Ty, term: &'a Term) -> Option<
                 uses: *uses,
                 binder,
                 body,
+                wanted,
                 from,
                 to,
             })
@@ -58,25 +71,87 @@ fn parameter_of<'a>(scene: Scene<'a>, wanted: &'a Ty, term: &'a Term) -> Option<
     }
 }
 
-/// The derivation of an equation at its type, whose linear variables are taken out of the context.
-#[cycle(equation)]
-pub(crate) fn infer_equation(
+/// Enters a parameter.
+fn enter_parameter(
     alloc: Global,
     scene: Scene<'_>,
     context: &mut Context,
-    wanted: &Ty,
-    term: &Term,
-) -> Result<Derivation, CheckFault>
-    requires set_up { IsSetUp (check_in scene) }
+    parameter: Parameter<'_>,
+) -> Result<(), CheckFault>
+    requires { IsFormed scene.vars.now parameter.from.now }
+    ensures entered { OnOk result (IsEntered (check_in scene.entry) parameter.entry context.old context.new) }
+    ensures refused { IfErr result (λ f. IsShown f (IsTooLargeAt parameter.entry.binder.now.at parameter.entry.from.now f)) }
+{
+    fits(parameter.binder.at, parameter.from)?;
+    begin_body(context, parameter.uses)?;
+    let from = copy(alloc, parameter.from)?;
+    enter(alloc, scene, context, parameter.binder, from)?;
+    Ok(())
+}
+
+/// Enters the parameters of an equation, from the first one.
+fn enter_parameters<'a>(
+    alloc: Global,
+    scene: Scene<'a>,
+    context: &mut Context,
+    wanted: &'a Ty,
+    term: &'a Term,
+) -> Result<Entered<'a>, CheckFault>
     requires ready { IsReady (check_in scene) term.now context.old.variables }
     requires formed { IsFormed scene.vars.now wanted.now }
-    ensures typed { IfOk result (λ d. IsEquationTyped (check_in scene.entry) wanted.now context.old context.new term.now (deriv_of d)) }
+    ensures entered { IfOk result (λ o. AreEntered (check_in scene.entry) term.now wanted.now context.old o.parameters.items o.body.now o.to.now context.new) }
+    ensures last { IfOk result (λ o. HasNoParameter (check_in scene.entry) o.body.now o.to.now) }
+    ensures ready { IfOk result (λ o. IsReady (check_in scene.entry) o.body.now context.new.variables) }
+    ensures formed { IfOk result (λ o. IsFormed scene.entry.vars.now o.to.now) }
     ensures refused { IfErr result (λ f. IsShown f (ShowsEquation (check_in scene.entry) term.now wanted.now context.old f)) }
 {
-    match parameter_of(scene, wanted, term) {
-        Some(parameter) => infer_parameter(alloc, scene, context, wanted, parameter),
-        None => infer_result(alloc, scene, context, wanted, term),
+    let mut parameters = Vec::new(alloc);
+    let mut body = term;
+    let mut to = wanted;
+    while let Some(parameter) = parameter_of(scene, to, body) {
+        enter_parameter(alloc, scene, context, parameter)?;
+        parameters.push(parameter)?;
+        body = parameter.body;
+        to = parameter.to;
     }
+    Ok(Entered {
+        parameters,
+        body,
+        to,
+    })
+}
+
+/// The innermost parameter, which is taken off.
+#[tactic(auto, using(crate::proofs::EquationLaws::last_popped))]
+fn pop_parameter<'a>(parameters: &mut Vec<Parameter<'a>>) -> Option<Parameter<'a>>
+    ensures less { IfSome result (λ p. length parameters.new.items < length parameters.old.items) }
+    ensures items { MatchOption result (parameters.old.items ≡ []) (λ p. parameters.old.items ≡ parameters.new.items ++ p ∷ []) }
+{
+    parameters.pop()
+}
+
+/// The derivation of an equation with a parameter, which is left, from that of what is under it.
+fn leave_parameter(
+    alloc: Global,
+    context: &mut Context,
+    parameter: Parameter<'_>,
+    under: Derivation,
+) -> Result<Derivation, CheckFault>
+    requires some { 0 < length context.old.variables }
+    requires bodies { parameter.uses ≡ Many → 0 < length context.old.bodies }
+    ensures typed { IfOk result (λ d. (c : Check) (e : CoreTree) (t : Tree) (s z : Scope) →
+        HasParameter c e t parameter.entry → IsEntered c parameter.entry s z →
+        IsEquationTyped c parameter.entry.to.now z context.old parameter.entry.body.now (deriv_of under) →
+        IsEquationTyped c t s context.new e (deriv_of d)) }
+    ensures refused { IfErr result (λ f. (c : Check) (e : CoreTree) (t : Tree) (s z : Scope) →
+        HasParameter c e t parameter.entry → IsEntered c parameter.entry s z →
+        IsEquationTyped c parameter.entry.to.now z context.old parameter.entry.body.now (deriv_of under) →
+        IsShown f (ShowsEquation c e t s f)) }
+{
+    leave(alloc, context, parameter.binder)?;
+    end_body(context, parameter.uses);
+    let t = copy(alloc, parameter.wanted)?;
+    Ok(Derivation::with_one(alloc, t, under)?)
 }
 
 /// The derivation of an equation without parameters, compared with its type.
@@ -98,63 +173,25 @@ fn infer_result(
     compared(alloc, scene, place_of(term), wanted, found)
 }
 
-/// The derivation of an equation with a parameter, at its type.
-#[cycle(equation)]
-fn infer_parameter(
+/// The derivation of an equation at its type, whose linear variables are taken out of the context. Its parameters are
+/// entered from the first one and left from the last, in loops, so many of them take no deep stack.
+pub(crate) fn infer_equation(
     alloc: Global,
     scene: Scene<'_>,
     context: &mut Context,
     wanted: &Ty,
-    parameter: Parameter<'_>,
+    term: &Term,
 ) -> Result<Derivation, CheckFault>
     requires set_up { IsSetUp (check_in scene) }
-    requires ready { (vs : List Variable) → AreVariables scene.vars.now (parameter.from.now ∷ []) vs →
-        IsReady (check_in scene) parameter.body.now (enter_all vs context.old.variables) }
-    requires from { IsFormed scene.vars.now parameter.from.now }
-    requires to { IsFormed scene.vars.now parameter.to.now }
-    ensures typed { IfOk result (λ d. (e : CoreTree) → HasParameter (check_in scene.entry) e wanted.now parameter.entry →
-        IsEquationTyped (check_in scene.entry) wanted.now context.old context.new e (deriv_of d)) }
-    ensures refused { IfErr result (λ f. (e : CoreTree) → HasParameter (check_in scene.entry) e wanted.now parameter.entry →
-        IsShown f (ShowsEquation (check_in scene.entry) e wanted.now context.old f)) }
+    requires ready { IsReady (check_in scene) term.now context.old.variables }
+    requires formed { IsFormed scene.vars.now wanted.now }
+    ensures typed { IfOk result (λ d. IsEquationTyped (check_in scene.entry) wanted.now context.old context.new term.now (deriv_of d)) }
+    ensures refused { IfErr result (λ f. IsShown f (ShowsEquation (check_in scene.entry) term.now wanted.now context.old f)) }
 {
-    fits(parameter.binder.at, parameter.from)?;
-    match parameter.uses {
-        Use::Once => {
-            let d = infer_under_parameter(alloc, scene, context, parameter)?;
-            let t = copy(alloc, wanted)?;
-            Ok(Derivation::with_one(alloc, t, d)?)
-        }
-        Use::Many => {
-            context.begin()?;
-            let d = infer_under_parameter(alloc, scene, context, parameter)?;
-            context.end();
-            let t = copy(alloc, wanted)?;
-            Ok(Derivation::with_one(alloc, t, d)?)
-        }
+    let mut entered = enter_parameters(alloc, scene, context, wanted, term)?;
+    let mut found = infer_result(alloc, scene, context, entered.to, entered.body)?;
+    while let Some(parameter) = pop_parameter(&mut entered.parameters) {
+        found = leave_parameter(alloc, context, parameter, found)?;
     }
-}
-
-/// The derivation of what is under a parameter.
-#[cycle(equation)]
-fn infer_under_parameter(
-    alloc: Global,
-    scene: Scene<'_>,
-    context: &mut Context,
-    parameter: Parameter<'_>,
-) -> Result<Derivation, CheckFault>
-    requires set_up { IsSetUp (check_in scene) }
-    requires ready { (vs : List Variable) → AreVariables scene.vars.now (parameter.from.now ∷ []) vs →
-        IsReady (check_in scene) parameter.body.now (enter_all vs context.old.variables) }
-    requires from { IsFormed scene.vars.now parameter.from.now }
-    requires to { IsFormed scene.vars.now parameter.to.now }
-    ensures typed { IfOk result (λ d. IsParameterTyped (check_in scene.entry) parameter.entry.binder.now parameter.entry.from.now parameter.entry.to.now
-        context.old context.new parameter.entry.body.now (deriv_of d)) }
-    ensures refused { IfErr result (λ f. IsShown f (UnderParameter (check_in scene.entry) parameter.entry.binder.now parameter.entry.from.now parameter.entry.to.now
-        parameter.entry.body.now (λ z. ShowsEquation (check_in scene.entry) parameter.entry.body.now parameter.entry.to.now z f) context.old f)) }
-{
-    let from = copy(alloc, parameter.from)?;
-    enter(alloc, scene, context, parameter.binder, from)?;
-    let d = infer_equation(alloc, scene, context, parameter.to, parameter.body)?;
-    leave(alloc, context, parameter.binder)?;
-    Ok(d)
+    Ok(found)
 }

@@ -1,17 +1,17 @@
-// Variables, uses of globals and new channels.
+// Plain values, variables, uses of globals and new channels.
 
 ghost use Rattle.std.specs.Prelude.{◌≡◌, ◌<◌, ◌≤◌, IfOk, IfErr, length, slice_get, Some, List};
-ghost use Rattle.fst_types.specs.Tree.{Tree};
+ghost use Rattle.fst_types.specs.Tree.{Tree, plain};
 ghost use Rattle.fst_kinds.specs.WellFormed.{IsWellFormed, IsInstantiation};
 ghost use Rattle.fst_terms.specs.CoreTree.{local, global, new};
-ghost use Rattle.fst_derivations.specs.Deriv.{deriv_of};
+ghost use Rattle.fst_derivations.specs.Deriv.{deriv_of, none, row};
 ghost use Rattle.fst_derivations.specs.Parts.{AreAt};
 ghost use Rattle.fst_derivations.specs.Modules.{IsFormedAt, AreStandingFormed, all_open};
 ghost use Rattle.fst_typing.specs.Shown.{ShowsArguments, IsRefused, IsShown};
 ghost use Rattle.fst_typing.specs.Typed.{IsTyped};
 ghost use Rattle.fst_typing.specs.Scenes.{check_in, IsReady, IsSetUp};
 
-use crate::builders::pair_of;
+use crate::builders::{base, pair_of};
 use crate::fault::CheckFault;
 use crate::scene::{Scene, place_at, type_at};
 use fst_base::MOST_NODES;
@@ -19,8 +19,15 @@ use fst_context::{Context, Taken};
 use fst_derivations::Derivation;
 use fst_kinds::{KindFault, instances_keep_kinds, kind_of, subkind};
 use fst_lts::dual;
-use fst_types::{Kind, Prekind, Ty, Use, copy, instance_size, instantiate};
+use fst_types::{Base, Kind, Prekind, Ty, Use, copy, instance_size, instantiate};
 use std::alloc::{AllocError, Global};
+
+/// A plain value of a base type.
+pub(crate) fn plain_value(alloc: Global, of: Base) -> Derivation
+    ensures { deriv_of result ≡ row (plain of) none }
+{
+    Derivation::leaf(alloc, base(of))
+}
 
 /// A variable, which is taken out of the context if it is linear.
 pub(crate) fn variable(
