@@ -1,0 +1,10 @@
+//! One task: what it asks, and how it goes on after an answer; and the code that it runs as.
+#![tactic(auto)]
+
+mod code;
+mod law;
+mod request;
+
+pub use code::{Instr, LambdaEntry};
+pub use law::code_law;
+pub use request::{Answer, Request};

@@ -1,0 +1,101 @@
+-- A configuration: all tasks by their paths, and all channels by their names.
+use Rattle.std.specs.Prelude.{ℕ, zero, suc, Bool, true, false, ◌&&◌, Option, Some, None, option_and_then, List, [], ◌∷◌, ◌++◌, codes, nat_eq, if◌then◌else◌}
+use Rattle.std.specs.Str.{bytes_eq}
+use Rattle.fst_types.specs.Tree.{Tree}
+use Rattle.fst_types.specs.declared.side.Side.{Side}
+use Rattle.fst_types.specs.declared.side.Side.TheVariants.{Left, Right}
+use Rattle.fst_terms.specs.CoreTree.{CoreTree}
+use Rattle.fst_terms.specs.declared.core_module.Module.{Module}
+use Rattle.fst_terms.specs.declared.global.GlobalEntry.{GlobalEntry}
+use Rattle.fst_value.specs.declared.ends.ChannelName.{ChannelName}
+use Rattle.fst_value.specs.declared.ends.EndName.{EndName}
+use Rattle.fst_value.specs.declared.event.Entry.{Entry}
+use Rattle.fst_machine.specs.Machine.{Program, State, begins}
+use Rattle.fst_runs.specs.Histories.{after_history, side_type, opposite}
+
+-- the path of a task: main's is 0, and the k-th task that a task forks has its path with k behind it
+abbrev pub Path : Type 0
+Path = List ℕ
+
+-- a task: its state, how many channels it has made, how many tasks it has forked, and its clock
+pub record Task : Type 0 where
+  pub state : State
+  pub made : ℕ
+  pub forked : ℕ
+  pub clock : ℕ
+
+-- a channel: the type of its left end when it was made, and what passed over it, the earliest first
+pub record Channel : Type 0 where
+  pub declared : Tree
+  pub history : List Entry
+
+pub record Config : Type 0 where
+  pub tasks : Path → Option Task
+  pub channels : ChannelName → Option Channel
+
+-- the paths are the same
+abbrev pub same_path : Path → Path → Bool
+same_path p q = bytes_eq p q
+
+-- the names are the same
+abbrev pub same_channel : ChannelName → ChannelName → Bool
+same_channel g h = bytes_eq g.maker h.maker && nat_eq g.count h.count
+
+-- the sides are the same
+abbrev pub same_side : Side → Side → Bool
+same_side Left Left = true
+same_side Left Right = false
+same_side Right Left = false
+same_side Right Right = true
+
+-- the ends are the same
+abbrev pub same_end : EndName → EndName → Bool
+same_end x y = same_channel x.channel y.channel && same_side x.side y.side
+
+-- the other end of the same channel
+abbrev pub other : EndName → EndName
+other x = record { channel = x.channel; side = opposite x.side }
+
+-- the type that an end of the channel still has before it
+abbrev pub channel_residual : Side → Channel → Option Tree
+channel_residual side k = after_history (side_type side k.declared) k.history
+
+-- the residual of an end
+abbrev pub residual_in : Config → EndName → Option Tree
+residual_in c x = option_and_then (channel_residual x.side) (c.channels x.channel)
+
+-- the path of the k-th task that the task with the path p forks, where it has forked so many
+abbrev pub child_path : Path → ℕ → Path
+child_path p forked = p ++ suc forked ∷ []
+
+-- the name of the next channel of the task with the path p, where it has made so many
+abbrev pub channel_name : Path → ℕ → ChannelName
+channel_name p made = record { maker = p; count = suc made }
+
+-- a task that begins at this clock
+abbrev pub new_task : State → ℕ → Task
+new_task s clock = record { state = s; made = zero; forked = zero; clock = clock }
+
+-- what terms of the module speak of
+abbrev pub bodies : List GlobalEntry → List CoreTree
+bodies [] = []
+bodies (g ∷ gs) = g.body ∷ bodies gs
+
+abbrev pub program : Module → Program
+program m = record { families = m.families.items; bodies = bodies m.globals.items }
+
+-- the body of the global named main
+abbrev pub main_body : List GlobalEntry → Option CoreTree
+main_body [] = None
+main_body (g ∷ gs) = if bytes_eq g.name (codes "main") then Some g.body else main_body gs
+
+-- the path of main's task
+abbrev pub main_path : Path
+main_path = zero ∷ []
+
+-- the one task main at this term, and no channel
+abbrev pub started : CoreTree → Config
+started e = record {
+  tasks = λ p. if same_path main_path p then Some (new_task (begins e []) zero) else None;
+  channels = λ h. None;
+}

@@ -1,0 +1,4 @@
+pub mod Histories
+pub mod Configs
+pub mod Events
+pub mod Wrong

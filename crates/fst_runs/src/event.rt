@@ -1,0 +1,14 @@
+use fst_value::{ChannelName, Path};
+
+/// What happens in a run.
+#[derive(Drop)]
+pub enum CoreEvent {
+    /// The task with this path applies a function or uses a global.
+    Local(Path),
+    /// The task makes a channel.
+    New(Path),
+    /// The task makes a task.
+    Fork(Path),
+    /// The first task sends on one end of this channel what the second receives on the other.
+    Meet(Path, Path, ChannelName),
+}
