@@ -13,6 +13,12 @@ use Rattle.fst_lts.specs.Equal.{IsEqual}
 use Rattle.fst_instances.specs.EqualParts.{IsFunctionLike, IsPairLike, StepsToEqual}
 use Rattle.fst_instances.proofs.EqualLaws as equal
 use Rattle.fst_instances.proofs.EqualKinds as kind
+-- the variable by which a type moves, if it moves by one; a type is terminated as its instance where it moves by none; an instance
+-- moves by what is no variable as its type does; the dual of an instance; and instances of equal types
+pub use Rattle.fst_instances.proofs.InstanceMoves.{leading, leading_moves, instantiated_terminated, terminated_kept}
+pub use Rattle.fst_instances.proofs.LedLaws.{instance_moves}
+pub use Rattle.fst_instances.proofs.InstanceDuals.{instantiated-dual}
+pub use Rattle.fst_instances.proofs.EqualLaws.{instances_equal}
 
 -- a well-formed type is equal to itself
 pub equal_itself : (vars : List Kind) (t : Tree) (k : Kind) → IsWellFormed vars t k → IsEqual vars t t

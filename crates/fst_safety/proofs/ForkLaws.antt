@@ -1,0 +1,243 @@
+-- A configuration stays sound where a task makes a task.
+use Rattle.std.proofs.Common.{◌≡◌, ◌∙◌, ◌⊎◌, inl, inr, ℕ, zero, suc, ◌<◌, ◌+◌, List, [], ◌∷◌, ◌++◌, length, length-append, Bool, true, false, Option, Some, None, refl, sym, ap, subst, arith}
+use Rattle.fst_types.specs.Tree.{Tree}
+use Rattle.fst_terms.specs.CoreTree.{CoreTree}
+use Rattle.fst_derivations.specs.Rules.{Surroundings}
+use Rattle.fst_value.specs.declared.ends.EndName.{EndName}
+use Rattle.fst_machine.specs.declared.request.Answer.TheVariants.{Forked}
+use Rattle.fst_machine.specs.Values.{Environment}
+use Rattle.fst_machine.specs.Machine.{Program, State, Frame, Pause, forks, pause, after, answered, child}
+use Rattle.fst_runs.specs.declared.event.CoreEvent.TheVariants.{Fork}
+use Rattle.fst_runs.specs.Configs.{Path, Task, Config, same_path, residual_in, child_path, main_path, new_task}
+use Rattle.fst_runs.specs.Events.{Write, written, Does}
+use Rattle.fst_runs.specs.Wrong.{held_state, amount, IsUnspent}
+use Rattle.fst_safety.specs.Fitting.{Residuals, IsTyped}
+use Rattle.fst_safety.specs.WellTyped.{IsWellTyped, program_in}
+use Rattle.fst_safety.specs.Pauses.{Reached}
+use Rattle.fst_safety.specs.Sound.{IsSound, IsOwned}
+use Rattle.fst_safety.proofs.Answers.{child_goes, parent_goes}
+use Rattle.fst_safety.proofs.Settles.{pause_goes}
+use Rattle.fst_safety.proofs.Asked.{fork_pause}
+use Rattle.fst_safety.proofs.NameLaws.{same_path-itself, same_path-same}
+use Rattle.fst_safety.proofs.Typed.{some_same, none_some}
+use Rattle.fst_safety.proofs.Updates.{put, put_two, with_task, in_put, makers_with, parents_with}
+
+last_same : (p q : List ℕ) (j k : ℕ) → p ++ j ∷ [] ≡ q ++ k ∷ [] → (p ≡ q) × (j ≡ k)
+last_same [] [] j k e =
+    let f : j ≡ k = cc in
+    (refl, f)
+last_same [] (b ∷ q) j k e =
+    let f : [] ≡ q ++ k ∷ [] = cc in
+    let n = ap length f in
+    let l = length-append q (k ∷ []) in
+    absurd (omega (arith, n, l))
+last_same (a ∷ p) [] j k e =
+    let f : p ++ j ∷ [] ≡ [] = cc in
+    let n = ap length f in
+    let l = length-append p (j ∷ []) in
+    absurd (omega (arith, n, l))
+last_same (a ∷ p) (b ∷ q) j k e =
+    let f : a ≡ b = cc in
+    let g : p ++ j ∷ [] ≡ q ++ k ∷ [] = cc in
+    let h = last_same p q j k g in
+    (λ i. f i ∷ h.0 i, h.1)
+
+-- a task's path says who forked it, and as which
+pub one_parent : (p q : Path) (j k : ℕ) → child_path p j ≡ child_path q k → (p ≡ q) × (j ≡ k)
+one_parent p q j k e =
+    let h = last_same p q (suc j) (suc k) e in
+    let f = h.1 in
+    (h.0, omega (arith, f))
+
+-- main has no parent
+pub no_parent : (p : Path) (k : ℕ) → child_path p k ≡ main_path → ⊥
+no_parent p k e =
+    let h = last_same p [] (suc k) zero e in
+    let f = h.1 in
+    omega (arith, f)
+
+-- what a fork makes of a state: two typed ones that share its unspent ends
+abbrev pub Parts : Surroundings → Residuals → Tree → (EndName → ℕ) → State → State → Type 0
+Parts m r a n s k = IsTyped m r s a × ((b : Tree) × IsTyped m r k b) × ((z : EndName) → IsUnspent r z → held_state z s + held_state z k ≡ n z)
+
+-- a fork makes two such states
+pub fork_parts : (m : Surroundings) (well : IsWellTyped m) (r : Residuals) (w : Program) (p : Pause) (a : Tree) (n : EndName → ℕ) (s k : State) →
+    Reached m r p a n → child p ≡ Some k → after w p Forked ≡ Some s → Parts m r a n s k
+fork_parts m well r w p a n s k h e f = (fork_pause (λ p. Reached m r p a n → after w p Forked ≡ Some s → Parts m r a n s k) p k e go) h f
+  where
+    go : (b : CoreTree) (env : Environment) (fs : List Frame) → record { term = b; environment = env; frames = [] } ≡ k → Reached m r (forks b env fs) a n →
+        after w (forks b env fs) Forked ≡ Some s → Parts m r a n s k
+    go b env fs q h f =
+        let c = child_goes m well r b env fs a h.0 in
+        let o = parent_goes m well r b env fs a h.0 in
+        subst (λ k. Parts m r a n s k) q (subst (λ s. Parts m r a n s (record { term = b; environment = env; frames = [] })) (some_same f)
+        (o.0, (c.0, c.1.0), λ z u. let x = o.1 z u in let y = c.1.1 z u in let w = h.1 z u in omega (arith, x, y, w)))
+
+-- all that is about a fork; i and j are the clocks of both tasks after it
+module _ (m : Surroundings) (well : IsWellTyped m) (a : Tree) (c : Config) (p : Path) (t : Task) (s k : State) (i j : ℕ) (hs : IsSound m a c)
+    (ep : c.tasks p ≡ Some t) (ch : child (pause m.families t.state) ≡ Some k) (an : answered (program_in m) t.state Forked ≡ Some s) where
+  abbrev r : Residuals
+  r = residual_in c
+
+  abbrev q : Path
+  q = child_path p t.forked
+
+  abbrev tp : Task
+  tp = record { state = s; made = t.made; forked = suc t.forked; clock = i }
+
+  abbrev tk : Task
+  tk = new_task k j
+
+  abbrev d : Config
+  d = with_task (with_task c p tp) q tk
+
+  abbrev A : Tree
+  A = (hs.tasks p t ep).0
+
+  parts : Parts m r A (λ z. held_state z t.state) s k
+  parts = fork_parts m well r (program_in m) (pause m.families t.state) A (λ z. held_state z t.state) s k (pause_goes m well r t.state A (hs.tasks p t ep).1) ch an
+
+  not_less : (n : ℕ) → n < n → ⊥
+  not_less n h = omega (arith, h)
+
+  free_path : (o : Option Task) → c.tasks q ≡ o → o ≡ None
+  free_path None e = refl
+  free_path (Some w) e =
+      let f = hs.parents p t.forked w e in
+      absurd (not_less t.forked (subst (λ w. t.forked < w.forked) (some_same (sym f.1 ∙ ep)) f.2))
+
+  no_task : c.tasks q ≡ None
+  no_task = free_path (c.tasks q) refl
+
+  differ : (o : Path) → same_path q o ≡ true → same_path p o ≡ false
+  differ o e = go (same_path p o) refl
+    where
+      go : (b : Bool) → same_path p o ≡ b → b ≡ false
+      go false f = refl
+      go true f = absurd (none_some (sym no_task ∙ ap c.tasks (same_path-same q o e ∙ sym (same_path-same p o f)) ∙ ep))
+
+  at_p : same_path q p ≡ false
+  at_p = go (same_path q p) refl
+    where
+      go : (b : Bool) → same_path q p ≡ b → b ≡ false
+      go false f = refl
+      go true f = absurd (none_some (sym no_task ∙ ap c.tasks (same_path-same q p f) ∙ ep))
+
+  p_now : d.tasks p ≡ Some tp
+  p_now = ap (λ b. put b tk (put (same_path p p) tp (c.tasks p))) at_p ∙ ap (λ b. put b tp (c.tasks p)) (same_path-itself p)
+
+  q_now : d.tasks q ≡ Some tk
+  q_now = ap (λ b. put b tk (put (same_path p q) tp (c.tasks q))) (same_path-itself q)
+
+  else_now : (o : Path) → same_path p o ≡ false → same_path q o ≡ false → d.tasks o ≡ c.tasks o
+  else_now o e f = ap (λ b. put b tk (put (same_path p o) tp (c.tasks o))) f ∙ ap (λ b. put b tp (c.tasks o)) e
+
+  outside : (z : EndName) (n : (o : Path) → same_path p o ≡ false → amount z (c.tasks o) ≡ 0) (o : Path) → same_path p o ≡ false → same_path q o ≡ false → amount z (d.tasks o) ≡ 0
+  outside z n o e f = ap (λ w. amount z w) (else_now o e f) ∙ n o e
+
+  share_out : (x y : ℕ) → x + y ≡ 1 → ((x ≡ 1) × (y ≡ 0)) ⊎ ((x ≡ 0) × (y ≡ 1))
+  share_out zero y e = inr (refl, omega (arith, e))
+  share_out (suc x) y e = inl (omega (arith, e), omega (arith, e))
+
+  zero_both : (x y n : ℕ) → x + y ≡ n → n ≡ 0 → (x ≡ 0) × (y ≡ 0)
+  zero_both x y n e f = (omega (arith, e, f), omega (arith, e, f))
+
+  zero_one : ◌≡◌ {A = ℕ} 0 1 → ⊥
+  zero_one e = omega (arith, e)
+
+  -- what the task held before, one of both holds
+  owned_by_p : (z : EndName) → IsUnspent r z → (o : IsOwned c z) → same_path o.0 p ≡ true → IsOwned d z
+  owned_by_p z u o e = split_by (share_out (held_state z s) (held_state z k) (parts.2 z u ∙ held_before))
+    where
+      held_before : held_state z t.state ≡ 1
+      held_before = sym (ap (λ w. amount z w) (ap c.tasks (same_path-same o.0 p e) ∙ ep)) ∙ o.1
+
+      outside_both : (x : Path) → same_path p x ≡ false → same_path q x ≡ false → amount z (d.tasks x) ≡ 0
+      outside_both x f h = outside z (λ y l. o.2 y (ap (λ v. same_path v y) (same_path-same o.0 p e) ∙ l)) x f h
+
+      split_by : ((held_state z s ≡ 1) × (held_state z k ≡ 0)) ⊎ ((held_state z s ≡ 0) × (held_state z k ≡ 1)) → IsOwned d z
+      split_by (inl g) = (p, ap (λ w. amount z w) p_now ∙ g.0, λ x f. at_x x f (same_path q x) refl)
+        where
+          at_x : (x : Path) → same_path p x ≡ false → (b : Bool) → same_path q x ≡ b → amount z (d.tasks x) ≡ 0
+          at_x x f true h = ap (λ w. amount z w) (ap d.tasks (sym (same_path-same q x h)) ∙ q_now) ∙ g.1
+          at_x x f false h = outside_both x f h
+      split_by (inr g) = (q, ap (λ w. amount z w) q_now ∙ g.1, λ x f. at_x x f (same_path p x) refl)
+        where
+          at_x : (x : Path) → same_path q x ≡ false → (b : Bool) → same_path p x ≡ b → amount z (d.tasks x) ≡ 0
+          at_x x f true h = ap (λ w. amount z w) (ap d.tasks (sym (same_path-same p x h)) ∙ p_now) ∙ g.0
+          at_x x f false h = outside_both x h f
+
+  -- what it didn't hold, neither does
+  owned_else : (z : EndName) → IsUnspent r z → (o : IsOwned c z) → same_path o.0 p ≡ false → IsOwned d z
+  owned_else z u o e = (o.0, stays (same_path p o.0) refl (same_path q o.0) refl, λ x f. others x f (same_path p x) refl (same_path q x) refl)
+    where
+      n : (held_state z s ≡ 0) × (held_state z k ≡ 0)
+      n = zero_both (held_state z s) (held_state z k) (held_state z t.state) (parts.2 z u) (sym (ap (λ w. amount z w) ep) ∙ o.2 p e)
+
+      not_p : same_path p o.0 ≡ true → ⊥
+      not_p h =
+          let f : true ≡ false = sym (same_path-itself p) ∙ ap (λ v. same_path v p) (same_path-same p o.0 h) ∙ e in
+          absurd (cc f)
+
+      stays : (x : Bool) → same_path p o.0 ≡ x → (b : Bool) → same_path q o.0 ≡ b → amount z (d.tasks o.0) ≡ 1
+      stays true h b h' = absurd (not_p h)
+      stays false h true h' = absurd (zero_one (sym (ap (λ w. amount z w) (ap c.tasks (sym (same_path-same q o.0 h')) ∙ no_task)) ∙ o.1))
+      stays false h false h' = ap (λ w. amount z w) (else_now o.0 h h') ∙ o.1
+
+      others : (x : Path) → same_path o.0 x ≡ false → (y : Bool) → same_path p x ≡ y → (b : Bool) → same_path q x ≡ b → amount z (d.tasks x) ≡ 0
+      others x f true h b h' = ap (λ w. amount z w) (ap d.tasks (sym (same_path-same p x h)) ∙ p_now) ∙ n.0
+      others x f false h true h' = ap (λ w. amount z w) (ap d.tasks (sym (same_path-same q x h')) ∙ q_now) ∙ n.1
+      others x f false h false h' = ap (λ w. amount z w) (else_now x h h') ∙ o.2 x f
+
+  owned : (z : EndName) → IsUnspent r z → IsOwned d z
+  owned z u = go (same_path (hs.owned z u).0 p) refl
+    where
+      go : (b : Bool) → same_path (hs.owned z u).0 p ≡ b → IsOwned d z
+      go true e = owned_by_p z u (hs.owned z u) e
+      go false e = owned_else z u (hs.owned z u) e
+
+  there : (o : Path) (w : Task) → (with_task c p tp).tasks o ≡ Some w → d.tasks o ≡ Some w
+  there o w e = go (same_path q o) refl
+    where
+      go : (b : Bool) → same_path q o ≡ b → put b tk (put (same_path p o) tp (c.tasks o)) ≡ Some w
+      go false f = e
+      go true f = absurd (none_some (sym (ap (λ b. put b tp (c.tasks o)) (differ o f) ∙ ap c.tasks (sym (same_path-same q o f)) ∙ no_task) ∙ e))
+
+  under : {n : ℕ} → t.forked ≡ n → n < suc t.forked
+  under e = omega (arith, e)
+
+  -- the configuration with a new task is sound
+  pub forked : IsSound m a d
+  forked = record {
+    tasks = λ o w e. in_put (same_path q o) tk w (put (same_path p o) tp (c.tasks o))
+        (λ f g. (parts.1.0, subst (λ z. IsTyped m r z.state parts.1.0) g parts.1.1, λ h. absurd (no_parent p t.forked (same_path-same q o f ∙ h))))
+        (λ f g. in_put (same_path p o) tp w (c.tasks o)
+        (λ f' g'. (A, subst (λ z. IsTyped m r z.state A) g' parts.0, λ h. (hs.tasks p t ep).2 (same_path-same p o f' ∙ h)))
+        (λ f' g'. hs.tasks o w g') g) e;
+    owned = owned;
+    traces = hs.traces;
+    makers = λ g h e.
+        let b = makers_with c p t tp hs.makers ep (omega arith, omega arith) g h e in
+        (b.0, there g.maker b.0 b.1, b.2, b.3);
+    parents = λ o n w e. in_put (same_path q (child_path o n)) tk w (put (same_path p (child_path o n)) tp (c.tasks (child_path o n)))
+        (λ f g.
+        let one = one_parent p o t.forked n (same_path-same q (child_path o n) f) in
+        (tp, subst (λ x. d.tasks x ≡ Some tp) one.0 p_now, under one.1))
+        (λ f g.
+        let b = parents_with c p t tp hs.parents ep (omega arith, omega arith) o n w g in
+        (b.0, there o b.0 b.1, b.2)) e;
+  }
+
+-- a configuration stays sound where a task makes a task
+pub fork_sound : (m : Surroundings) (well : IsWellTyped m) (a : Tree) (c : Config) (p : Path) (w : Write) →
+    IsSound m a c → Does (program_in m) m.types c (Fork p) w → IsSound m a (written c w)
+fork_sound m well a c p w h d =
+    let done = forked m well a c p d.0 d.1 d.2 (suc d.0.clock) (suc d.0.clock) h d.3.0 d.4 d.5 in
+    let parent : Task = record { state = d.1; made = d.0.made; forked = suc d.0.forked; clock = suc d.0.clock } in
+    let its_child = new_task d.2 (suc d.0.clock) in
+    let is : with_task (with_task c p parent) (child_path p d.0.forked) its_child ≡ written c w =
+    sym (ap (written c) d.6 ∙ (λ i. record {
+      tasks = λ o. put_two (same_path (child_path p d.0.forked) o) (same_path p o) its_child parent (c.tasks o) i;
+      channels = c.channels;
+    })) in
+    subst (IsSound m a) is done

@@ -1,0 +1,251 @@
+-- A configuration stays sound where two tasks meet.
+use Rattle.std.proofs.Common.{◌≡◌, ◌∙◌, ◌⊎◌, inl, inr, ℕ, ◌<◌, ◌≤◌, List, [], Bool, true, false, Some, refl, sym, ap, subst, arith}
+use Rattle.std.specs.Prelude.{option_map, option_and_then}
+use Rattle.fst_types.specs.Tree.{Tree}
+use Rattle.fst_types.specs.declared.side.Side.{Side}
+use Rattle.fst_kinds.specs.WellFormed.{IsSession}
+use Rattle.fst_lts.specs.Step.{step}
+use Rattle.fst_lts.specs.Dual.{dual}
+use Rattle.fst_derivations.specs.Rules.{Surroundings}
+use Rattle.fst_value.specs.declared.ends.ChannelName.{ChannelName}
+use Rattle.fst_value.specs.declared.ends.EndName.{EndName}
+use Rattle.fst_value.specs.declared.event.Entry.{Entry}
+use Rattle.fst_machine.specs.declared.request.Request.TheVariants as request
+use Rattle.fst_machine.specs.declared.request.Answer.TheVariants.{Sent, Got}
+use Rattle.fst_machine.specs.Values as value
+use Rattle.fst_machine.specs.Values.{Environment}
+use Rattle.fst_machine.specs.Machine.{State, Frame, Pause, puts, gets, matches, giving, pause, after, answered}
+use Rattle.fst_machine.specs.Machine as machine
+use Rattle.fst_runs.specs.Histories.{sending, receiving, opposite}
+use Rattle.fst_runs.specs.Configs.{Path, Task, Channel, Config, same_path, same_channel, other, residual_in, channel_residual, main_path}
+use Rattle.fst_runs.specs.declared.event.CoreEvent.TheVariants.{Meet}
+use Rattle.fst_runs.specs.Events.{Write, written, extended, meeting_stamp, Does}
+use Rattle.fst_runs.specs.Wrong.{held_state, amount, IsUnspent}
+use Rattle.fst_safety.specs.Fitting.{Residuals, IsTyped}
+use Rattle.fst_safety.specs.WellTyped.{IsWellTyped, program_in}
+use Rattle.fst_safety.specs.Pauses.{Allowed, held_pause, Reached, Goes}
+use Rattle.fst_safety.specs.Sound.{IsSound, IsTrace, HasMakers}
+use Rattle.fst_safety.proofs.Asked.{put_pause, get_pause}
+use Rattle.fst_safety.proofs.Equals.{session_step}
+use Rattle.fst_safety.proofs.EventLaws.{moving, dual_receives}
+use Rattle.fst_safety.proofs.Meets.{Meeting, still_but, put_goes, get_goes, choose_goes}
+use Rattle.fst_safety.proofs.NameLaws.{same_path-same, same_channel-itself, same_channel-same}
+use Rattle.fst_safety.proofs.Owners.{or_other, owner}
+use Rattle.fst_safety.proofs.Settles.{pause_goes}
+use Rattle.fst_safety.proofs.SoundLaws.{end_moves}
+use Rattle.fst_safety.proofs.StillLaws.{own_once, typed_still}
+use Rattle.fst_safety.proofs.TraceLaws.{Sides, sides_from, trace_from, sides_grow}
+use Rattle.fst_safety.proofs.Typed.{some_same}
+use Rattle.fst_safety.proofs.Updates.{put, put_one, put_two, with_task, with_channel, in_put, same_amount, makers_with, parents_with}
+
+-- all that a meeting is about; n is the clock of both tasks after it
+module _ (m : Surroundings) (well : IsWellTyped m) (a : Tree) (c : Config) (p q : Path) (t u : Task) (x : EndName) (e : Entry) (s v : State) (k : Channel) (n : ℕ)
+    (hs : IsSound m a c) (ep : c.tasks p ≡ Some t) (eq : c.tasks q ≡ Some u)
+    (rp : machine.request m.families t.state ≡ Some (request.Put x e.event)) (rq : machine.request m.families u.state ≡ Some (request.Get (other x)))
+    (ap' : answered (program_in m) t.state Sent ≡ Some s) (aq : answered (program_in m) u.state (Got e.event) ≡ Some v) (ek : c.channels x.channel ≡ Some k) where
+  abbrev r : Residuals
+  r = residual_in c
+
+  abbrev t' : Task
+  t' = record t { state = s; clock = n }
+
+  abbrev u' : Task
+  u' = record u { state = v; clock = n }
+
+  abbrev grown : Config
+  grown = with_channel c x.channel (extended k e)
+
+  abbrev d : Config
+  d = with_task (with_task grown p t') q u'
+
+  abbrev r' : Residuals
+  r' = residual_in d
+
+  abbrev y : EndName
+  y = other x
+
+  abbrev A : Tree
+  A = (hs.tasks p t ep).0
+
+  abbrev B : Tree
+  B = (hs.tasks q u eq).0
+
+  abbrev fs : List Frame
+  fs = (put_pause (pause m.families t.state) x e.event rp).0
+
+  is_puts : pause m.families t.state ≡ puts x e.event fs
+  is_puts = (put_pause (pause m.families t.state) x e.event rp).1
+
+  put_reached : Reached m r (puts x e.event fs) A (λ z. held_state z t.state)
+  put_reached = subst (λ z. Reached m r z A (λ z. held_state z t.state)) is_puts (pause_goes m well r t.state A (hs.tasks p t ep).1)
+
+  get_reached : Reached m r (pause m.families u.state) B (λ z. held_state z u.state)
+  get_reached = pause_goes m well r u.state B (hs.tasks q u eq).1
+
+  mv : (now : Tree) × (next : Tree) × (r x ≡ Some now) × (step now (sending e.event) ≡ Some next) × IsSession [] now
+  mv =
+      let g = end_moves m r x put_reached.0.0 put_reached.0.1 (sending e.event) put_reached.0.2 put_reached.0.3 in
+      (g.0, g.1, g.2, g.3, g.4)
+
+  its_trace : IsTrace k
+  its_trace = hs.traces x.channel k ek
+
+  sides : Sides x.side k mv.0
+  sides = sides_from k x.side mv.0 its_trace (sym (ap (option_and_then (channel_residual x.side)) ek) ∙ mv.2)
+
+  new_sides : Sides x.side (extended k e) mv.1
+  new_sides = sides_grow k x.side e mv.0 mv.1 sides mv.3
+
+  new_trace : IsTrace (extended k e)
+  new_trace = trace_from (extended k e) x.side mv.1 its_trace.1 (session_step mv.0 mv.1 (sending e.event) mv.4 mv.3) new_sides
+
+  at_own : (b : Side) → option_and_then (channel_residual b) (d.channels x.channel) ≡ channel_residual b (extended k e)
+  at_own b = ap (λ o. option_and_then (channel_residual b) (put o (extended k e) (c.channels x.channel))) (same_channel-itself x.channel)
+
+  others : (z : EndName) → (z ≡ x) ⊎ ((z ≡ y) ⊎ (r' z ≡ r z))
+  others z = go (same_channel x.channel z.channel) refl
+    where
+      put_in : (z ≡ x) ⊎ (z ≡ y) → (z ≡ x) ⊎ ((z ≡ y) ⊎ (r' z ≡ r z))
+      put_in (inl f) = inl f
+      put_in (inr f) = inr (inl f)
+
+      go : (b : Bool) → same_channel x.channel z.channel ≡ b → (z ≡ x) ⊎ ((z ≡ y) ⊎ (r' z ≡ r z))
+      go true f = put_in (or_other z x (sym (same_channel-same x.channel z.channel f)))
+      go false f = inr (inr (ap (λ o. option_and_then (channel_residual z.side) (put o (extended k e) (c.channels z.channel))) f))
+
+  before_other : r y ≡ Some (dual mv.0)
+  before_other = ap (option_and_then (channel_residual (opposite x.side))) ek ∙ sides.1
+
+  meeting : Meeting r r' x e.event
+  meeting = record {
+    now = mv.0;
+    next = mv.1;
+    moves = mv.3;
+    before = mv.2;
+    before_other = before_other;
+    later = at_own x.side ∙ new_sides.0;
+    later_other = at_own (opposite x.side) ∙ new_sides.1;
+    others = others;
+  }
+
+  x_unspent : IsUnspent r x
+  x_unspent = (mv.0, mv.2, moving mv.0 mv.1 (sending e.event) mv.3)
+
+  y_unspent : IsUnspent r y
+  y_unspent = (dual mv.0, before_other, moving (dual mv.0) (dual mv.1) (receiving e.event) (dual_receives mv.0 e.event ∙ ap (option_map dual) mv.3))
+
+  no_meeting : u ≡ t → ⊥
+  no_meeting f =
+      let g : Some (request.Get (other x)) ≡ Some (request.Put x e.event) = sym rq ∙ ap (λ z. machine.request m.families z.state) f ∙ rp in
+      absurd (cc g)
+
+  apart : (b : Bool) → same_path p q ≡ b → b ≡ false
+  apart false f = refl
+  apart true f = absurd (no_meeting (some_same (sym eq ∙ ap c.tasks (sym (same_path-same p q f)) ∙ ep)))
+
+  apart_too : (b : Bool) → same_path q p ≡ b → b ≡ false
+  apart_too false f = refl
+  apart_too true f = absurd (no_meeting (some_same (sym eq ∙ ap c.tasks (same_path-same q p f) ∙ ep)))
+
+  x_owned : (held_state x t.state ≡ 1) × ((o : Path) → same_path p o ≡ false → amount x (c.tasks o) ≡ 0)
+  x_owned = owner m a c x p t hs x_unspent ep (λ z. let f = put_reached.1 x x_unspent in let o = own_once x in omega (arith, z, f, o))
+
+  y_in : held_pause y (pause m.families u.state) ≡ 0 → ⊥
+  y_in = get_pause (λ z. held_pause y z ≡ 0 → ⊥) (pause m.families u.state) y rq
+      (λ fs f. let o = own_once y in omega (arith, f, o))
+      (λ bs env fs f. let o = own_once y in omega (arith, f, o))
+
+  y_owned : (held_state y u.state ≡ 1) × ((o : Path) → same_path q o ≡ false → amount y (c.tasks o) ≡ 0)
+  y_owned = owner m a c y q u hs y_unspent eq (λ z. y_in (get_reached.1 y y_unspent ∙ z))
+
+  x_at_q : held_state x u.state ≡ 0
+  x_at_q = sym (ap (λ o. amount x o) eq) ∙ x_owned.1 q (apart (same_path p q) refl)
+
+  y_at_p : held_state y t.state ≡ 0
+  y_at_p = sym (ap (λ o. amount y o) ep) ∙ y_owned.1 p (apart_too (same_path q p) refl)
+
+  is_given : s ≡ giving (value.end x) fs
+  is_given = sym (some_same (sym (ap (λ z. after (program_in m) z Sent) is_puts) ∙ ap'))
+
+  sent : Goes m r' s A (λ z. held_pause z (puts x e.event fs))
+  sent = subst (λ w. Goes m r' w A (λ z. held_pause z (puts x e.event fs))) (sym is_given)
+      (put_goes m well r r' x e.event meeting fs A put_reached.0
+      (let f = put_reached.1 x x_unspent in let o = own_once x in let w = x_owned.0 in omega (arith, f, o, w))
+      (let f = put_reached.1 y y_unspent in let w = y_at_p in omega (arith, f, w)))
+
+  got : Goes m r' v B (λ z. held_pause z (pause m.families u.state))
+  got = get_pause
+      (λ w. Allowed m r w B → ((z : EndName) → IsUnspent r z → held_pause z w ≡ held_state z u.state) → after (program_in m) w (Got e.event) ≡ Some v → Goes m r' v B (λ z. held_pause z w))
+      (pause m.families u.state) y rq
+      (λ fs k h f. get_goes m well r r' x e.event meeting (program_in m) fs B v k
+      (let g = h x x_unspent in let w = x_at_q in omega (arith, g, w))
+      (let g = h y y_unspent in let w = y_owned.0 in let o = own_once y in omega (arith, g, w, o)) f)
+      (λ bs env fs k h f. choose_goes m well r r' x e.event meeting (program_in m) bs env fs B v k
+      (let g = h x x_unspent in let w = x_at_q in omega (arith, g, w))
+      (let g = h y y_unspent in let w = y_owned.0 in let o = own_once y in omega (arith, g, w, o)) f)
+      get_reached.0 get_reached.1 aq
+
+  was_unspent : (z : EndName) → IsUnspent r' z → IsUnspent r z
+  was_unspent z h = go (others z)
+    where
+      go : (z ≡ x) ⊎ ((z ≡ y) ⊎ (r' z ≡ r z)) → IsUnspent r z
+      go (inl f) = subst (IsUnspent r) (sym f) x_unspent
+      go (inr (inl f)) = subst (IsUnspent r) (sym f) y_unspent
+      go (inr (inr f)) = (h.0, sym f ∙ h.1, h.2)
+
+  at_q : (with_task grown p t').tasks q ≡ Some u
+  at_q = ap (λ b. put b t' (c.tasks q)) (apart (same_path p q) refl) ∙ eq
+
+  same_amounts : (z : EndName) (o : Path) → IsUnspent r' z → amount z (d.tasks o) ≡ amount z (c.tasks o)
+  same_amounts z o h =
+      same_amount z (with_task c p t') q o u u' at_q (got.1 z h ∙ get_reached.1 z (was_unspent z h))
+      ∙ same_amount z c p o t t' ep (sent.1 z h ∙ put_reached.1 z (was_unspent z h))
+
+  third : (o : Path) (w : Task) → same_path p o ≡ false → same_path q o ≡ false → c.tasks o ≡ Some w → (b : Tree) × IsTyped m r' w.state b × (o ≡ main_path → b ≡ a)
+  third o w f g i =
+      let h = hs.tasks o w i in (
+        h.0,
+        typed_still m r r' w.state h.0 h.1
+            (still_but m well r r' x e.event meeting (λ z. held_state z w.state) (sym (ap (λ z. amount x z) i) ∙ x_owned.1 o f) (sym (ap (λ z. amount y z) i) ∙ y_owned.1 o g)),
+        h.2,
+      )
+
+  new_makers : HasMakers grown
+  new_makers h j i = in_put (same_channel x.channel h) (extended k e) j (c.channels h)
+      (λ f g. subst (λ h. (t : Task) × (c.tasks h.maker ≡ Some t) × (0 < h.count) × (h.count ≤ t.made)) (same_channel-same x.channel h f) (hs.makers x.channel k ek))
+      (λ f g. hs.makers h j g) i
+
+  -- the configuration after a meeting is sound
+  pub met : IsSound m a d
+  met = record {
+    tasks = λ o w i. in_put (same_path q o) u' w (put (same_path p o) t' (c.tasks o))
+        (λ f g. (B, subst (λ z. IsTyped m r' z.state B) g got.0, λ j. (hs.tasks q u eq).2 (same_path-same q o f ∙ j)))
+        (λ f g. in_put (same_path p o) t' w (c.tasks o)
+        (λ f' g'. (A, subst (λ z. IsTyped m r' z.state A) g' sent.0, λ j. (hs.tasks p t ep).2 (same_path-same p o f' ∙ j)))
+        (λ f' g'. third o w f' f g') g) i;
+    owned = λ z h.
+        let o = hs.owned z (was_unspent z h) in
+        (o.0, same_amounts z o.0 h ∙ o.1, λ o' f. same_amounts z o' h ∙ o.2 o' f);
+    traces = λ h j i. in_put (same_channel x.channel h) (extended k e) j (c.channels h)
+        (λ f g. subst IsTrace g new_trace)
+        (λ f g. hs.traces h j g) i;
+    makers = makers_with (with_task grown p t') q u u' (makers_with grown p t t' new_makers ep (omega arith, omega arith)) at_q (omega arith, omega arith);
+    parents = parents_with (with_task grown p t') q u u' (parents_with grown p t t' hs.parents ep (omega arith, omega arith)) at_q (omega arith, omega arith);
+  }
+
+-- a configuration stays sound where two tasks meet
+pub meet_sound : (m : Surroundings) (well : IsWellTyped m) (a : Tree) (c : Config) (p q : Path) (h : ChannelName) (w : Write) →
+    IsSound m a c → Does (program_in m) m.types c (Meet p q h) w → IsSound m a (written c w)
+meet_sound m well a c p q h w sound d =
+    let n = meeting_stamp d.0 d.1 d.6 in
+    let entry : Entry = record { event = d.3; stamp = n; sent = d.0.clock; got = d.1.clock } in
+    let done = met m well a c p q d.0 d.1 d.2 entry d.4 d.5 d.6 n sound d.7.0 d.8.0 d.7.1 d.8.1 d.11 d.12 (ap c.channels d.9 ∙ d.10) in
+    let sender : Task = record d.0 { state = d.4; clock = n } in
+    let receiver : Task = record d.1 { state = d.5; clock = n } in
+    let is : with_task (with_task (with_channel c d.2.channel (extended d.6 entry)) p sender) q receiver ≡ written c w =
+    ap (λ g. with_task (with_task (with_channel c g (extended d.6 entry)) p sender) q receiver) d.9
+    ∙ sym (ap (written c) d.13 ∙ (λ i. record {
+      tasks = λ o. put_two (same_path q o) (same_path p o) receiver sender (c.tasks o) i;
+      channels = λ g. put_one (same_channel h g) (extended d.6 entry) (c.channels g) i;
+    })) in
+    subst (IsSound m a) is done

@@ -1,0 +1,111 @@
+-- All that a run leads to is sound.
+use Rattle.std.proofs.Common.{◌≡◌, ◌⊎◌, inl, inr, zero, List, [], ◌∷◌, Bool, true, false, Some, None, refl, sym, subst}
+use Rattle.std.specs.Prelude.{if◌then◌else◌}
+use Rattle.fst_types.specs.Tree.{Tree, plain}
+use Rattle.fst_types.specs.declared.base.Base.TheVariants.{Unit as Nothing}
+use Rattle.fst_types.specs.declared.kind.Use.TheVariants.{Many}
+use Rattle.fst_kinds.specs.Kinds.{top, join}
+use Rattle.fst_terms.specs.CoreTree.{CoreTree}
+use Rattle.fst_derivations.specs.Modules.{IsPrintable, base_types, data_types, pairs}
+use Rattle.fst_derivations.specs.Parts.{IsFormed}
+use Rattle.fst_derivations.specs.Rules.{Surroundings}
+use Rattle.fst_machine.specs.Values.{Value}
+use Rattle.fst_machine.specs.Machine.{pause, ended, begins}
+use Rattle.fst_runs.specs.declared.event.CoreEvent.{CoreEvent}
+use Rattle.fst_runs.specs.declared.event.CoreEvent.TheVariants.{Local, New, Fork, Meet}
+use Rattle.fst_runs.specs.Configs.{Task, Config, same_path, residual_in, child_path, main_path, new_task, started}
+use Rattle.fst_runs.specs.Events.{Write, written, Does, Runs}
+use Rattle.fst_runs.specs.Wrong.{IsRight}
+use Rattle.fst_safety.specs.Running.{HasType}
+use Rattle.fst_safety.specs.Fitting.{Fits, IsTyped}
+use Rattle.fst_safety.specs.WellTyped.{IsWellTyped, program_in}
+use Rattle.fst_safety.specs.Pauses.{Allowed}
+use Rattle.fst_safety.specs.Safety.{IsShown}
+use Rattle.fst_safety.specs.Sound.{IsSound}
+use Rattle.fst_safety.proofs.Closed.{closed_by}
+use Rattle.fst_safety.proofs.Settles.{pause_goes}
+use Rattle.fst_safety.proofs.Shown.{result_shown}
+use Rattle.fst_safety.proofs.Equals.{equals_itself}
+use Rattle.fst_safety.proofs.Formed.{formed_or_any}
+use Rattle.fst_safety.proofs.Shapes.{plain_formed}
+use Rattle.fst_safety.proofs.ForkLaws.{fork_sound, no_parent}
+use Rattle.fst_safety.proofs.MeetLaws.{meet_sound}
+use Rattle.fst_safety.proofs.NameLaws.{same_path-same}
+use Rattle.fst_safety.proofs.NewLaws.{new_sound}
+use Rattle.fst_safety.proofs.SoundLaws.{sound_right, local_sound}
+use Rattle.fst_safety.proofs.Typed.{some_same, none_some}
+
+-- a type whose values can be printed is well formed
+pub printable_formed : (t : Tree) → IsPrintable t → IsFormed [] t
+printable_formed t (base_types {b}) = plain_formed b
+printable_formed t (data_types {n}) = (top Many, record { kinded = refl; contractive = tt; scoped = tt; ordered = tt })
+printable_formed t (pairs {s} {t = r} p q) =
+    let f = printable_formed s p in
+    let g = printable_formed r q in (
+      top (join f.0.uses g.0.uses),
+      record {
+        kinded = (f.0, g.0, f.1.kinded, g.1.kinded, refl);
+        contractive = (f.1.contractive, g.1.contractive);
+        scoped = (f.1.scoped, g.1.scoped);
+        ordered = (f.1.ordered, g.1.ordered);
+      },
+    )
+
+module _ (m : Surroundings) (well : IsWellTyped m) (a : Tree) where
+  -- a configuration stays sound whatever happens
+  pub does_sound : (c : Config) (e : CoreEvent) (w : Write) → IsSound m a c → Does (program_in m) m.types c e w → IsSound m a (written c w)
+  does_sound c (Local p) w h d = local_sound m well a c p w h d
+  does_sound c (New p) w h d = new_sound m well a c p w h d
+  does_sound c (Fork p) w h d = fork_sound m well a c p w h d
+  does_sound c (Meet p q h') w h d = meet_sound m well a c p q h' w h d
+
+  -- a run leads to sound configurations
+  pub runs_sound : (es : List CoreEvent) (c d : Config) → IsSound m a c → Runs (program_in m) m.types c es d → IsSound m a d
+  runs_sound [] c d h r = subst (IsSound m a) (sym r) h
+  runs_sound (e ∷ es) c d h r = runs_sound es (written c r.0) d (does_sound c e r.0 h r.1) r.2
+
+  in_test : {X P : Type 0} (b : Bool) (x y : X) → (b ≡ true → x ≡ y → P) → (if b then Some x else None) ≡ Some y → P
+  in_test true x y f e = f refl (some_same e)
+  in_test false x y f e = absurd (none_some e)
+
+  -- the start of a typed term is sound
+  pub started_sound : (e : CoreTree) → IsFormed [] a → HasType m [] e a → IsSound m a (started e)
+  started_sound e f h = record {
+    tasks = λ p t i. in_test (same_path main_path p) (new_task (begins e []) zero) t
+        (λ g q. (a, subst (λ z. IsTyped m (residual_in (started e)) z.state a) q first_typed, λ z. refl)) i;
+    owned = λ x u. absurd (none_some u.1);
+    traces = λ k t i. absurd (none_some i);
+    makers = λ k t i. absurd (none_some i);
+    parents = λ p k t i. in_test (same_path main_path (child_path p k)) (new_task (begins e []) zero) t
+        (λ g q. absurd (no_parent p k (sym (same_path-same main_path (child_path p k) g)))) i;
+  }
+    where
+      first_typed : IsTyped m (residual_in (started e)) (begins e []) a
+      first_typed = record {
+        variables = [];
+        type = a;
+        environment = (tt, λ k. sym (closed_by m [] e a k h refl));
+        term = h;
+        frames = equals_itself a f;
+      }
+
+  -- nothing that a run leads to is wrong, where the term's type is well formed
+  pub formed_never_wrong : (e : CoreTree) → IsFormed [] a → HasType m [] e a → (es : List CoreEvent) (c : Config) → Runs (program_in m) m.types (started e) es c → IsRight (program_in m) c
+  formed_never_wrong e f h es c r = sound_right m well a c (runs_sound es (started e) c (started_sound e f h) r)
+
+  -- where main has ended, its value can be printed if those of its type can
+  pub result : (e : CoreTree) → HasType m [] e a → IsPrintable a → (es : List CoreEvent) (c : Config) → Runs (program_in m) m.types (started e) es c →
+      (t : Task) (v : Value) → c.tasks main_path ≡ Some t → pause m.families t.state ≡ ended v → IsShown v
+  result e h q es c r t v f g =
+      let s = (runs_sound es (started e) c (started_sound e (printable_formed a q) h) r).tasks main_path t f in
+      let k : Allowed m (residual_in c) (ended v) s.0 = subst (λ z. Allowed m (residual_in c) z s.0) g (pause_goes m well (residual_in c) t.state s.0 s.1).0 in
+      result_shown m well (residual_in c) v a q (subst (Fits m (residual_in c) v) (s.2 refl) k)
+
+-- nothing that a run of a typed term leads to is wrong
+pub never_wrong : (m : Surroundings) (well : IsWellTyped m) (a : Tree) (e : CoreTree) → HasType m [] e a → (es : List CoreEvent) (c : Config) →
+    Runs (program_in m) m.types (started e) es c → IsRight (program_in m) c
+never_wrong m well a e h es c r = pick (formed_or_any m [] e a h)
+  where
+    pick : IsFormed [] a ⊎ ((t : Tree) → HasType m [] e t) → IsRight (program_in m) c
+    pick (inl f) = formed_never_wrong m well a e f h es c r
+    pick (inr k) = formed_never_wrong m well (plain Nothing) e (plain_formed Nothing) (k (plain Nothing)) es c r

@@ -1,0 +1,22 @@
+ghost use Rattle.fst_safety.specs.Diamond.{DiamondLaw, OneEnd};
+ghost use Rattle.fst_safety.specs.Safety.{DerivedIsSafe};
+
+/// A module that has derivations is safe: whatever happens in a run of it, in any order, each task asks for something that
+/// the residuals of its ends allow, each history is a trace of its channel's type, and each end that isn't spent is held by
+/// one task, once; and where the task of `main` has ended, no function and no end stands in its value.
+#[tactic(auto, using(crate::proofs::Modules::modules_safe))]
+pub fn safety_law()
+    ensures { DerivedIsSafe }
+{}
+
+/// Where two different events are possible after a run of a module that has derivations, each stays possible after the other
+/// and writes the same tasks and channels, and both orders lead to the same configuration, clocks and stamps included.
+pub fn diamond_law()
+    ensures { DiamondLaw }
+{}
+
+/// Where a run of a module that has derivations comes to a configuration in which no event is possible, no run has more
+/// events, and each that comes to such a configuration has as many and leads to the same one.
+pub fn one_end_law()
+    ensures { OneEnd }
+{}
