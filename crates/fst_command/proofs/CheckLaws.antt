@@ -34,6 +34,7 @@ use Rattle.fst_command.specs.Finding as finding
 use Rattle.fst_command.specs.Finding.{Finding, IsRead, IsUnread, NamesFinding, AreResolved, AreUnresolved, name_finding}
 use Rattle.fst_command.specs.Output.{IsFoundOf, accepted, unaccepted, too_long, is_none, makes, Writes, finding_text, finding_status}
 use Rattle.fst_command.specs.Top.{IsAnswer}
+use Rattle.fst_safety.specs.Safety.{DerivedIsSafe}
 use Rattle.fst_command.specs.Meanings.{MeansAccepted, CheckMeanings}
 use Rattle.fst_command.specs.Views.{IfFound, Found, cause_of, name_fault}
 use Rattle.fst_command.proofs.FindingLaws.{if_found, said_found}
@@ -118,7 +119,7 @@ cause_refuses (undecided at got wanted) e = absurd (cc e)
 cause_refuses (too_large at) e = absurd (cc e)
 cause_refuses nothing e = absurd (cc e)
 
-module _ (law : (m : Module) (budget : ℕ) (ds : List Deriv) → IsAccepted m budget ds → HasDerivations m ds) where
+module _ (law : (m : Module) (budget : ℕ) (ds : List Deriv) → IsAccepted m budget ds → HasDerivations m ds) (safety : DerivedIsSafe) where
   found_means : (budget : ℕ) (bytes text : List ℕ) (m : Module) → AreResolved bytes m → IsFoundOf bytes m budget text status.Done → MeansAccepted bytes
   found_means budget bytes text m is (accepted ds a w e) = record {
     declared = is.declared;
@@ -127,6 +128,7 @@ module _ (law : (m : Module) (budget : ℕ) (ds : List Deriv) → IsAccepted m b
     is_resolved = is.resolved;
     derivations = ds;
     derived = law m budget ds a;
+    safe = safety m ds (law m budget ds a);
   }
   found_means budget bytes text m is (unaccepted f h w e) = absurd (cause_refuses (cause (family_names m.families.items) f) e)
 

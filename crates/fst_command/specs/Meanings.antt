@@ -19,6 +19,7 @@ use Rattle.fst_names.specs.declared.question.Question.{Question}
 use Rattle.fst_names.specs.ResolvedModule.{IsResolvedModule}
 use Rattle.fst_derivations.specs.Deriv.{Deriv}
 use Rattle.fst_derivations.specs.Modules.{HasDerivations}
+use Rattle.fst_safety.specs.Safety.{IsSafe}
 use Rattle.fst_command.specs.declared.status.Status.{Status}
 use Rattle.fst_command.specs.declared.status.Status.TheVariants as status
 use Rattle.fst_command.specs.Words.{equiv, check}
@@ -67,7 +68,8 @@ pub record EquivMeanings : Type 0 where
   pub no : (budget : ℕ) (bytes rest : List ℕ) (s : Status) → Writes (equiv budget) bytes (codes "no " ++ rest) s → MeansNo bytes (codes "no " ++ rest)
   pub undecided : (budget : ℕ) (bytes rest : List ℕ) (s : Status) → Writes (equiv budget) bytes (codes "undecided " ++ rest) s → MeansUndecided budget bytes (codes "undecided " ++ rest)
 
--- the bytes are a source that stands for a module, and that has derivations
+-- the bytes are a source that stands for a module, which has derivations; and whatever happens in a run of it, nothing goes
+-- wrong
 pub record MeansAccepted (bytes : List ℕ) : Type 0 where
   pub declared : List Declared
   pub read : IsRead AnswersModule bytes declared
@@ -75,12 +77,13 @@ pub record MeansAccepted (bytes : List ℕ) : Type 0 where
   pub is_resolved : IsResolvedModule declared resolved
   pub derivations : List Deriv
   pub derived : HasDerivations resolved derivations
+  pub safe : IsSafe resolved
 
 -- what it means that `check` did its work
 abbrev pub CheckMeanings : Type 0
 CheckMeanings = (budget : ℕ) (bytes text : List ℕ) → Writes (check budget) bytes text status.Done → MeansAccepted bytes
 
--- what was read is a source of a module that has derivations
+-- what was read is a source of a module that has derivations, and no run of which goes wrong
 pub record ReadsAccepted (old new : Option (List ℕ)) : Type 0 where
   pub bytes : List ℕ
   pub read : ReadsInput old new bytes

@@ -16,6 +16,7 @@ use fst_io::{Gate, ReadFault, Sink, Source, WriteFault, read_all, write_all};
 use fst_lexer::one_lexing;
 use fst_module_grammar::one_module;
 use fst_roundtrip::read_again;
+use fst_safety::safety_law;
 use fst_type_syntax::one_reading;
 use fst_typing::accepted_law;
 use std::alloc::Global;
@@ -61,7 +62,8 @@ pub fn top<R, S: Source, K: Sink, G: Gate + Sync>(
     ensures answered { IsAnswer result → WasWritten (map string_bytes words.now)
         (S.left source.old) (S.left source.new) (K.taken sink.old) (K.taken sink.new) result }
 
-    // Where `check` did its work, what was read is a module that has derivations.
+    // Where `check` did its work, what was read is a module that has derivations; and whatever happens in a run of it, in any
+    // order, no task meets a wrong message, a wrong label or a spent end.
     ensures accepted { result ≡ Status.Done → (budget : ℕ) →
         IsCommand (map string_bytes words.now) (check budget) →
         ReadsAccepted (S.left source.old) (S.left source.new) }
@@ -129,4 +131,5 @@ pub fn check_meanings()
     ensures { CheckMeanings }
 {
     accepted_law();
+    safety_law();
 }
