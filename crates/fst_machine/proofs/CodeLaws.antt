@@ -10,7 +10,7 @@ use Rattle.fst_machine.specs.Values.{Value}
 use Rattle.fst_machine.specs.Machine.{State, Pause, stuck, ended, asked, pause, after, child, begins}
 use Rattle.fst_machine.specs.Code.{Compiled, no_variables, IsCode}
 use Rattle.fst_machine.specs.Spots.{Spot, begins_at, inner, asked_at, told_at, child_at}
-use Rattle.fst_machine.specs.Standing.{Means, Reaches, here, further, Rests, StandsFor, Stands, DistinctMakers, GoesDown, measure}
+use Rattle.fst_machine.specs.Standing.{AreAlike, Means, Reaches, here, further, Rests, StandsFor, Stands, DistinctMakers, GoesDown, measure}
 use Rattle.fst_machine.proofs.Slots.{without}
 use Rattle.fst_machine.proofs.Requests.{of_globals, ended_awaited}
 use Rattle.fst_machine.proofs.Lowers.{step_lowers}
@@ -69,18 +69,19 @@ module _ (c : Compiled) (bodies : List CoreTree) (ic : IsCode c bodies) (dm : Di
       told : (n : ℕ) → (t : Spot) × (told_at c s a ≡ Some t) × StandsFor n c t (pause c.families st)
       told n = go n (rests_or_stuck n c s q e (h (suc n)))
 
-  -- the code that a fork starts stands for the task that it makes
+  -- the code that a fork starts stands for the task that it makes, and its variables have the same values
   pub child_stands : (s : Spot) (q : Pause) (st : State) → Stands c s q → inner c s ≡ None → child q ≡ Some st →
-      (t : Spot) × (child_at c s ≡ Some t) × Stands c t (pause c.families st)
+      (t : Spot) × (child_at c s ≡ Some t) × AreAlike c t.slots st.environment × Stands c t (pause c.families st)
   child_stands s q st h e u =
       let first = made 0 in
-      (first.0, first.1, λ n. let r = made n in subst (λ t. StandsFor n c t (pause c.families st)) (same_Some r.0 first.0 (sym r.1 ∙ first.1)) r.2)
+      (first.0, first.1, first.2, λ n. let r = made n in subst (λ t. StandsFor n c t (pause c.families st)) (same_Some r.0 first.0 (sym r.1 ∙ first.1)) r.3)
     where
-      go : (n : ℕ) → (q ≡ stuck) ⊎ Rests c (StandsFor n c) s q → (t : Spot) × (child_at c s ≡ Some t) × StandsFor n c t (pause c.families st)
+      go : (n : ℕ) → (q ≡ stuck) ⊎ Rests c (StandsFor n c) s q →
+          (t : Spot) × (child_at c s ≡ Some t) × AreAlike c t.slots st.environment × StandsFor n c t (pause c.families st)
       go n (inl b) = absurd (none-some st (ap child (sym b) ∙ u))
       go n (inr r) = r.made st u
 
-      made : (n : ℕ) → (t : Spot) × (child_at c s ≡ Some t) × StandsFor n c t (pause c.families st)
+      made : (n : ℕ) → (t : Spot) × (child_at c s ≡ Some t) × AreAlike c t.slots st.environment × StandsFor n c t (pause c.families st)
       made n = go n (rests_or_stuck n c s q e (h (suc n)))
 
   -- where the task has ended, the only value on the stack means its value

@@ -8,8 +8,8 @@ use Rattle.std.proofs.lemmas.Slice.Eq.{bytes_eq-Decides}
 use Rattle.fst_types.specs.declared.family.Family.{Family}
 use Rattle.fst_types.specs.declared.family.Maker.{Maker}
 use Rattle.fst_terms.specs.CoreTree.{CoreTree, local, global, int, bool, char, unit, pair, make, lambda, apply, let_in, split, if_else, case_of, operate, negate, new, send, receive, select, match_with, fork, seq, CoreList, no_terms, term, CoreArms, no_arms, arm}
-use Rattle.fst_terms.specs.InRange.{makers, maker_of, Bounds, IsInRange, AreInRange, AreCasesInRange, AreMatchesInRange}
-use Rattle.fst_machine.specs.Free.{is, free, free_in, free_below, outside_all}
+use Rattle.fst_terms.specs.InRange.{makers, Bounds, IsInRange, AreInRange, AreCasesInRange, AreMatchesInRange}
+use Rattle.fst_machine.specs.Free.{free, free_in, free_below, outside_all}
 use Rattle.fst_machine.specs.Machine.{name_of}
 use Rattle.fst_machine.specs.Standing.{DistinctMakers}
 use Rattle.fst_machine.proofs.Slots.{is_same}

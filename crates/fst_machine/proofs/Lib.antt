@@ -16,3 +16,4 @@ pub mod Lowers
 pub mod Wholes
 pub mod CodeLaws
 pub mod Conditions
+pub mod Started

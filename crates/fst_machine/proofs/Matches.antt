@@ -1,9 +1,10 @@
 -- Where a label is waited for, its arm has its place in the code.
-use Rattle.std.proofs.Common.{◌≡◌, ℕ, zero, suc, ◌+◌, Bool, true, false, Some, option_map, List, ◌∷◌, length, if◌then◌else◌, refl, ap, ◌∙◌, subst, arith}
+use Rattle.std.proofs.Common.{◌≡◌, ℕ, zero, suc, ◌+◌, Bool, true, false, Some, option_map, List, [], ◌∷◌, length, if◌then◌else◌, refl, sym, ap, ◌∙◌, subst, arith}
 use Rattle.std.specs.Str.{bytes_eq}
 use Rattle.std.specs.Global.{Global}
 use Rattle.std.specs.Prelude.{Vec}
-use Rattle.std.proofs.lemmas.Bool.{or_left, or_right}
+use Rattle.std.proofs.lemmas.Bool.{or_left, or_right, false≢true}
+use Rattle.std.proofs.lemmas.Slice.Eq.{bytes_eq-Decides}
 use Rattle.std.proofs.lemmas.Option.{none-some, same_Some}
 use Rattle.fst_terms.specs.declared.binder.Binder.{Binder}
 use Rattle.fst_terms.specs.CoreTree.{CoreTree, CoreArms, no_arms, arm}
@@ -16,7 +17,7 @@ use Rattle.fst_machine.specs.declared.code.Instr.TheVariants as instr
 use Rattle.fst_machine.specs.Free.{free, free_below, outside, outside_all}
 use Rattle.fst_machine.specs.Values as value
 use Rattle.fst_machine.specs.Values.{Environment, enter, keep}
-use Rattle.fst_machine.specs.Machine.{Frame, stuck, matches, pause, arm_state}
+use Rattle.fst_machine.specs.Machine.{State, Frame, stuck, matches, pause, arm_state}
 use Rattle.fst_machine.specs.Code.{Compiled, At, ComputesMatches, place_of}
 use Rattle.fst_machine.specs.Spots.{Slots, Call, moved_to}
 use Rattle.fst_machine.specs.Standing.{MeansSlots, StandsFor}
@@ -31,6 +32,16 @@ use Rattle.fst_machine.proofs.Arms.{same_label}
 pub outside_one : (xs : List Binder) (p : ℕ → Bool) (k : ℕ) → length xs ≡ 1 → p (suc k) ≡ true → outside_all xs p k ≡ true
 outside_one xs p k l h = let e : length xs + k ≡ suc k = omega (arith, l) in outside_all_at xs p k ∙ ap p e ∙ h
 
+same_either : (k l : List ℕ) (a b : Bool) → bytes_eq k l ≡ a → bytes_eq l k ≡ b → a ≡ b
+same_either k l true true e g = refl
+same_either k l false false e g = refl
+same_either k l true false e g = absurd (false≢true (sym g ∙ (bytes_eq-Decides l k).1 (sym (same_label k l e))))
+same_either k l false true e g = absurd (false≢true (sym e ∙ (bytes_eq-Decides k l).1 (sym (same_label l k g))))
+
+-- a label in a table against another is that of the arm against it
+label_either : (t key l : List ℕ) → t ≡ key → bytes_eq t l ≡ bytes_eq l key
+label_either t key l e = ap (λ z. bytes_eq z l) e ∙ same_either key l (bytes_eq key l) (bytes_eq l key) refl refl
+
 module _ (n : ℕ) (c : Compiled) (before : (e : CoreTree) → Good n c e) where
   -- a label that has an arm has a place, where the code stands for the arm
   pub arm_stands : (bs : CoreArms) (ps : List (List ℕ × ℕ)) (j : ℕ) (p q : ℕ → Bool) (l : List ℕ) (y : EndName) (env : Environment) (slots : Slots) (ops : List ValueTree) (calls : List Call) (fs : List Frame) →
@@ -38,25 +49,31 @@ module _ (n : ℕ) (c : Compiled) (before : (e : CoreTree) → Good n c e) where
       (pause c.families (arm_state bs l y env fs) ≡ stuck → ⊥) →
       (i : ℕ) × (place_of ps l ≡ Some i) × StandsFor n c (spot i slots (tree.end y ∷ ops) calls) (pause c.families (arm_state bs l y env fs))
   arm_stands no_arms ps j p q l y env slots ops calls fs hc m u k g = absurd (g refl)
-  arm_stands (arm key xs e bs) ps j p q l y env slots ops calls fs hc m u k nope =
-      pick (bytes_eq l key) refl (λ v. arm_stands bs ps j p q l y env slots ops calls fs hc.12 m v k) nope
+  arm_stands (arm key xs e bs) [] j p q l y env slots ops calls fs hc m u k g = absurd hc
+  arm_stands (arm key xs e bs) (o ∷ os) j p q l y env slots ops calls fs hc m u k nope =
+      pick (bytes_eq l key) refl (λ v. arm_stands bs os j p q l y env slots ops calls fs hc.11 m v k) nope
     where
+      own : State
+      own = record { term = e; environment = enter (free e zero) (value.end y) (keep (outside (free e)) env); frames = fs }
+
       pick : (z : Bool) → bytes_eq l key ≡ z →
           (((r : ℕ) → free_below bs r ≡ true → q r ≡ true) → (pause c.families (arm_state bs l y env fs) ≡ stuck → ⊥) →
-          (i : ℕ) × (place_of ps l ≡ Some i) × StandsFor n c (spot i slots (tree.end y ∷ ops) calls) (pause c.families (arm_state bs l y env fs))) →
-          (pause c.families (if z then record { term = e; environment = enter (free e zero) (value.end y) (keep (outside (free e)) env); frames = fs } else arm_state bs l y env fs) ≡ stuck → ⊥) →
-          (i : ℕ) × (place_of ps l ≡ Some i) ×
-          StandsFor n c (spot i slots (tree.end y ∷ ops) calls) (pause c.families (if z then record { term = e; environment = enter (free e zero) (value.end y) (keep (outside (free e)) env); frames = fs } else arm_state bs l y env fs))
+          (i : ℕ) × (place_of os l ≡ Some i) × StandsFor n c (spot i slots (tree.end y ∷ ops) calls) (pause c.families (arm_state bs l y env fs))) →
+          (pause c.families (if z then own else arm_state bs l y env fs) ≡ stuck → ⊥) →
+          (i : ℕ) × (place_of (o ∷ os) l ≡ Some i) ×
+          StandsFor n c (spot i slots (tree.end y ∷ ops) calls) (pause c.families (if z then own else arm_state bs l y env fs))
       pick true w again g = (
-        hc.0,
-        ap (place_of ps) (same_label l key w) ∙ hc.6,
-        forgotten n c hc.0 hc.1 q (outside (free e)) p slots (tree.end y ∷ ops) calls env _ hc.7 m
-            (λ os a.
-            below_one n c e hc.1 hc.2 hc.3 hc.4 p q env slots os ops calls fs (tree.end y) (value.end y) (before e) hc.8 hc.9 hc.10 m
-            (λ r s. u r (or_left (outside_all xs (free e) r) (free_below bs r) (outside_one xs (free e) r hc.5 s))) a refl
-            (comes_awaited n c hc.4 j p slots ops calls fs hc.11 k)),
+        o.1,
+        ap (λ b. if b then Some o.1 else place_of os l) (label_either o.0 key l hc.5 ∙ w),
+        forgotten n c o.1 hc.0 q (outside (free e)) p slots (tree.end y ∷ ops) calls env _ hc.6 m
+            (λ ot a.
+            below_one n c e hc.0 hc.1 hc.2 hc.3 p q env slots ot ops calls fs (tree.end y) (value.end y) (before e) hc.7 hc.8 hc.9 m
+            (λ r s. u r (or_left (outside_all xs (free e) r) (free_below bs r) (outside_one xs (free e) r hc.4 s))) a refl
+            (comes_awaited n c hc.3 j p slots ops calls fs hc.10 k)),
       )
-      pick false w again g = again (λ r s. u r (or_right (outside_all xs (free e) r) (free_below bs r) s)) g
+      pick false w again g =
+          let r = again (λ r s. u r (or_right (outside_all xs (free e) r) (free_below bs r) s)) g in
+          (r.0, ap (λ b. if b then Some o.1 else place_of os l) (label_either o.0 key l hc.5 ∙ w) ∙ r.1, r.2)
 
   -- a label is waited for
   pub matches_stand : (bs : CoreArms) (i b : ℕ) (places : Vec (List ℕ × ℕ) Global) (j : ℕ) (p q : ℕ → Bool) (y : EndName) (env : Environment) (slots : Slots) (ops : List ValueTree) (calls : List Call) (fs : List Frame) →

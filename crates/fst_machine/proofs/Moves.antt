@@ -150,15 +150,26 @@ module _ (n : ℕ) (c : Compiled) where
       none_right true b e = absurd (false≢true (sym e))
       none_right false b e = e
 
+  -- the code jumps
+  pub led : (i j : ℕ) (slots : Slots) (ops : List ValueTree) (calls : List Call) (q : Pause) →
+      Leads c i j → StandsFor n c (spot j slots ops calls) q → StandsFor n c (spot i slots ops calls) q
+  led i j slots ops calls q h f = stepped n c i (instr.Jump j) h.behind slots ops calls (spot j slots ops calls) q h.jump refl f
+
+  -- or is there
+  pub comes : (i j : ℕ) (slots : Slots) (ops : List ValueTree) (calls : List Call) (q : Pause) →
+      Comes c i j → StandsFor n c (spot j slots ops calls) q → StandsFor n c (spot i slots ops calls) q
+  comes i j slots ops calls q (inl e) f = subst (λ z. StandsFor n c (spot z slots ops calls) q) (sym e) f
+  comes i j slots ops calls q (inr h) f = led i j slots ops calls q h f
+
   -- what isn't used behind is forgotten
   pub forgotten : (i j : ℕ) (r f p : ℕ → Bool) (slots : Slots) (ops : List ValueTree) (calls : List Call) (env : Environment) (q : Pause) →
       Forgets c i r f p j → MeansSlots c r slots env →
       ((os : Slots) → Agree (also f p) slots os → StandsFor n c (spot j os ops calls) q) →
       StandsFor n c (spot i slots ops calls) q
   forgotten i j r f p slots ops calls env q h m g =
-      cleared h.variables i j slots ops calls q h.clears h.listed.apart
+      cleared h.variables i h.last slots ops calls q h.clears h.listed.apart
       (λ k e. let v = m.meant k (dropped_there (r k) (f k) (p k) (sym (h.listed.members k) ∙ e)) in (v.0, v.2))
-      (λ os a. g os (λ k e. a k (h.listed.members k ∙ not_dropped (r k) (f k) (p k) e)))
+      (λ os a. comes h.last j os ops calls q h.comes (g os (λ k e. a k (h.listed.members k ∙ not_dropped (r k) (f k) (p k) e))))
 
   -- the last value becomes a variable
   pub bound : (b : Bool) (i j : ℕ) (slots : Slots) (ops : List ValueTree) (calls : List Call) (x : ValueTree) (q : Pause) →
@@ -173,17 +184,6 @@ module _ (n : ℕ) (c : Compiled) where
   pub unbound : (m i j : ℕ) (slots : Slots) (ops : List ValueTree) (calls : List Call) (q : Pause) →
       At c i (instr.Unbind m) j → StandsFor n c (spot j (drop m slots) ops calls) q → StandsFor n c (spot i slots ops calls) q
   unbound m i j slots ops calls q h f = stepped n c i (instr.Unbind m) j slots ops calls (spot j (drop m slots) ops calls) q h refl f
-
-  -- the code jumps
-  pub led : (i j : ℕ) (slots : Slots) (ops : List ValueTree) (calls : List Call) (q : Pause) →
-      Leads c i j → StandsFor n c (spot j slots ops calls) q → StandsFor n c (spot i slots ops calls) q
-  led i j slots ops calls q h f = stepped n c i (instr.Jump j) h.behind slots ops calls (spot j slots ops calls) q h.jump refl f
-
-  -- or is there
-  pub comes : (i j : ℕ) (slots : Slots) (ops : List ValueTree) (calls : List Call) (q : Pause) →
-      Comes c i j → StandsFor n c (spot j slots ops calls) q → StandsFor n c (spot i slots ops calls) q
-  comes i j slots ops calls q (inl e) f = subst (λ z. StandsFor n c (spot z slots ops calls) q) (sym e) f
-  comes i j slots ops calls q (inr h) f = led i j slots ops calls q h f
 
   -- the fields become variables
   pub bound_all : (xs : List Binder) (i j : ℕ) (p : ℕ → Bool) (ts : ValueTrees) (vs : Values) (slots : Slots) (ops : List ValueTree) (calls : List Call) (env : Environment) (q : Pause) →

@@ -18,9 +18,9 @@ use Rattle.fst_machine.specs.Values.{Value, Environment, enter}
 use Rattle.fst_machine.specs.Machine.{State, Frame, Pause, stuck, calls as applies, uses, makes, forks, puts, gets, ended, resume, pause, after, giving, lost, begins, ends, or_lost}
 use Rattle.fst_machine.specs.Code.{Compiled, At, Lists, Computes, no_variables, ComputesGlobals, IsCode}
 use Rattle.fst_machine.specs.Spots.{Slots, Call, Spot, inner, asked_at, told_at, child_at, spread, called, start_of, captured_by, captured_count, collected, without_captured, forked_spot, begins_at, ends_of}
-use Rattle.fst_machine.specs.Standing.{IsFunction, HasJust, Means, MeanCaptured, StandsFor}
+use Rattle.fst_machine.specs.Standing.{IsFunction, HasJust, Means, MeanCaptured, AreAlike, StandsFor}
 use Rattle.fst_machine.proofs.Steps.{spot, step_at, asked_at_instr, told_at_instr, child_at_instr, stepped, rests_here}
-use Rattle.fst_machine.proofs.Slots.{kept, entered, without, captured_means}
+use Rattle.fst_machine.proofs.Slots.{kept, entered, without, captured_means, captured_alike}
 use Rattle.fst_machine.proofs.Moves.{pushed, captured_collected, bound}
 use Rattle.fst_machine.proofs.Goods.{Awaits, Good}
 
@@ -203,10 +203,12 @@ module _ (n : ℕ) (c : Compiled) where
             (told_at_instr c i (instr.Fork l) j slots (pushed xs ops) calls Forked h ∙ ap (λ o. without_captured j o (spot i slots (pushed xs ops) calls)) taken) k
         go bodies ic b st z g = absurd (none-some st z)
 
-        make : (st : State) → Some (record { term = e; environment = env; frames = [] }) ≡ Some st → (t : Spot) × (child_at c (spot i slots (pushed xs ops) calls) ≡ Some t) × StandsFor n c t (pause c.families st)
+        make : (st : State) → Some (record { term = e; environment = env; frames = [] }) ≡ Some st →
+            (t : Spot) × (child_at c (spot i slots (pushed xs ops) calls) ≡ Some t) × AreAlike c t.slots st.environment × StandsFor n c t (pause c.families st)
         make st z = (
           begins_at entry.start (spread entry.captured.items xs),
           child_at_instr c i (instr.Fork l) j slots (pushed xs ops) calls h ∙ ap (λ o. forked_spot o (collected (captured_count (slice_get c.lambdas l)) (pushed xs ops) tree.none)) u ∙ ap (λ o. forked_spot (Some entry) o) taken,
+          subst (λ (y : State). AreAlike c (spread entry.captured.items xs) y.environment) (same_Some _ st z) (captured_alike c xs entry.captured.items (free e) env mc ls.members hj),
           subst (λ y. StandsFor n c (begins_at entry.start (spread entry.captured.items xs)) (pause c.families y)) (same_Some _ st z)
               (before e entry.start r no_variables env (spread entry.captured.items xs) [] [] [] hc (captured_means c xs entry.captured.items (free e) env mc ls.members hj)
               (ended_awaited n c r q (spread entry.captured.items xs) hr)),

@@ -1,13 +1,13 @@
 -- Variables of code against those of terms, where values are kept, entered, emptied and dropped.
-use Rattle.std.proofs.Common.{◌≡◌, ℕ, zero, suc, ◌+◌, Bool, true, false, ◌||◌, Option, Some, None, List, [], ◌∷◌, drop, refl, sym, ap, ◌∙◌, arith}
-use Rattle.std.proofs.lemmas.Bool.{or_left, or_right, false≢true}
+use Rattle.std.proofs.Common.{◌≡◌, ◌⊎◌, ℕ, zero, suc, ◌+◌, Bool, true, false, ◌||◌, Option, Some, None, List, [], ◌∷◌, drop, refl, sym, ap, ◌∙◌, inl, inr, arith}
+use Rattle.std.proofs.lemmas.Bool.{or_left, or_right, or_parts, false≢true}
 use Rattle.fst_value.specs.ValueTree as tree
 use Rattle.fst_value.specs.ValueTree.{ValueTree, ValueTrees}
 use Rattle.fst_machine.specs.Free.{is, outside}
 use Rattle.fst_machine.specs.Values.{Value, Environment, none, hole, slot, lookup, enter, keep}
 use Rattle.fst_machine.specs.Code.{Compiled, also, among}
 use Rattle.fst_machine.specs.Spots.{Slots, slot_at, emptied, filled, spread}
-use Rattle.fst_machine.specs.Standing.{Means, MeanCaptured, MeansAt, MeansSlots, HasJust}
+use Rattle.fst_machine.specs.Standing.{Means, MeanCaptured, MeansAt, MeansSlots, HasJust, AreAlike}
 
 -- a variable is itself
 pub is_itself : (j : ℕ) → is j j ≡ true
@@ -59,6 +59,13 @@ filled_other (suc k) x [] zero h = refl
 filled_other (suc k) x (o ∷ os) zero h = refl
 filled_other (suc k) x [] (suc j) h = filled_other k x [] j h
 filled_other (suc k) x (o ∷ os) (suc j) h = filled_other k x os j h
+
+-- what isn't among these variables is not filled
+pub spread_other : (ks : List ℕ) (xs : ValueTrees) (k : ℕ) → among ks k ≡ false → slot_at (spread ks xs) k ≡ None
+spread_other [] xs k h = refl
+spread_other (j ∷ ks) tree.none k h = refl
+spread_other (j ∷ ks) (tree.value x xs) k h =
+    let r = or_parts (is j k) (among ks k) h in filled_other j x (spread ks xs) k r.0 ∙ spread_other ks xs k r.1
 
 -- behind the innermost variables
 pub dropped_at : (n : ℕ) (s : Slots) (k : ℕ) → slot_at (drop n s) k ≡ slot_at s (n + k)
@@ -166,3 +173,12 @@ module _ (c : Compiled) where
   pub captured_means : (xs : ValueTrees) (ks : List ℕ) (q : ℕ → Bool) (env : Environment) → MeanCaptured c xs ks env → ((k : ℕ) → among ks k ≡ q k) → HasJust q env →
       MeansSlots c q (spread ks xs) env
   captured_means xs ks q env m i j = record { meant = λ k g. all_captured xs ks env m k (i k ∙ g); just = j }
+
+  -- and no other variable has a value in either
+  pub captured_alike : (xs : ValueTrees) (ks : List ℕ) (q : ℕ → Bool) (env : Environment) → MeanCaptured c xs ks env → ((k : ℕ) → among ks k ≡ q k) → HasJust q env →
+      AreAlike c (spread ks xs) env
+  captured_alike xs ks q env m i j k = pick (among ks k) refl
+    where
+      pick : (b : Bool) → among ks k ≡ b → ((slot_at (spread ks xs) k ≡ None) × (lookup env k ≡ None)) ⊎ MeansAt c k (spread ks xs) env
+      pick true e = inr (all_captured xs ks env m k e)
+      pick false e = inl (spread_other ks xs k e, j k (sym (i k) ∙ e))

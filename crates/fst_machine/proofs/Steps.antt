@@ -62,7 +62,7 @@ rests_map c S T s q f r =
       alike = r.alike;
       value = r.value;
       told = λ b i a st e g. let t = r.told b i a st e g in (t.0, t.1, f t.0 _ t.2);
-      made = λ st e. let t = r.made st e in (t.0, t.1, f t.0 _ t.2);
+      made = λ st e. let t = r.made st e in (t.0, t.1, t.2, f t.0 _ t.3);
     }
 
 -- what stands for a task stands for it with one request less

@@ -78,11 +78,17 @@ abbrev pub Clears : Compiled → ℕ → List ℕ → ℕ → Type 0
 Clears c i [] j = i ≡ j
 Clears c i (k ∷ ks) j = (h : ℕ) × (n : ℕ) × At c i (instr.Take k) h × At c h instr.Drop n × Clears c n ks j
 
--- the variables of a set that are in neither of the others are dropped
+-- place i is place j, or jumps there
+abbrev pub Comes : Compiled → ℕ → ℕ → Type 0
+Comes c i j = (i ≡ j) ⊎ Leads c i j
+
+-- the variables of a set that are in neither of the others are dropped, and then place j comes
 pub record Forgets (c : Compiled) (i : ℕ) (q f p : ℕ → Bool) (j : ℕ) : Type 0 where
   pub variables : List ℕ
   pub listed : Lists variables (dropped q f p)
-  pub clears : Clears c i variables j
+  pub last : ℕ
+  pub clears : Clears c i variables last
+  pub comes : Comes c last j
 
 -- the last value becomes that of a new variable, and is dropped where this isn't used
 abbrev pub Binds : Compiled → ℕ → Bool → ℕ → Type 0
@@ -94,15 +100,11 @@ abbrev pub BindsAll : Compiled → ℕ → List Binder → (ℕ → Bool) → �
 BindsAll c i [] p j = i ≡ j
 BindsAll c i (x ∷ xs) p j = (h : ℕ) × Binds c i (p (length xs)) h × BindsAll c h xs p j
 
--- place i is place j, or jumps there
-abbrev pub Comes : Compiled → ℕ → ℕ → Type 0
-Comes c i j = (i ≡ j) ⊎ Leads c i j
-
 -- no variable
 abbrev pub no_variables : ℕ → Bool
 no_variables k = false
 
--- the place of a label in a table, which has it once at most
+-- the first place of a label in a table
 abbrev pub place_of : List (List ℕ × ℕ) → List ℕ → Option ℕ
 place_of [] l = None
 place_of (p ∷ ps) l = if bytes_eq p.0 l then Some p.1 else place_of ps l
@@ -175,13 +177,15 @@ abbrev mutual
       Forgets c i q (outside_all xs (free e)) p h × BindsAll c h xs (free e) n × Computes c n e (within_all xs p) r ×
       At c r (instr.Unbind (length xs)) s × Comes c s j × ComputesCases c f places bs q p j
 
-  -- the same of labels, each of which has one variable, for the end
+  -- the same of labels: the table has the places of the arms in order, each with its label, and an arm has one variable, for the end
   pub ComputesMatches : Compiled → List (List ℕ × ℕ) → CoreArms → (ℕ → Bool) → (ℕ → Bool) → ℕ → Type 0
-  ComputesMatches c places no_arms q p j = ⊤
-  ComputesMatches c places (arm l xs e bs) q p j =
-      (i : ℕ) × (h : ℕ) × (n : ℕ) × (r : ℕ) × (s : ℕ) × (length xs ≡ 1) × (place_of places l ≡ Some i) ×
-      Forgets c i q (outside (free e)) p h × Binds c h (free e zero) n × Computes c n e (within p) r ×
-      At c r (instr.Unbind 1) s × Comes c s j × ComputesMatches c places bs q p j
+  ComputesMatches c [] no_arms q p j = ⊤
+  ComputesMatches c (o ∷ os) no_arms q p j = ⊥
+  ComputesMatches c [] (arm l xs e bs) q p j = ⊥
+  ComputesMatches c (o ∷ os) (arm l xs e bs) q p j =
+      (h : ℕ) × (n : ℕ) × (r : ℕ) × (s : ℕ) × (length xs ≡ 1) × (o.0 ≡ l) ×
+      Forgets c o.1 q (outside (free e)) p h × Binds c h (free e zero) n × Computes c n e (within p) r ×
+      At c r (instr.Unbind 1) s × Comes c s j × ComputesMatches c os bs q p j
 
 -- each global's body has no variable free, is computed from the place where it starts, and then returns
 abbrev pub ComputesGlobals : Compiled → List CoreTree → List ℕ → Type 0

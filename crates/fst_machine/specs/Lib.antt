@@ -4,3 +4,4 @@ pub mod Machine
 pub mod Code
 pub mod Spots
 pub mod Standing
+pub mod Programs

@@ -1,11 +1,9 @@
 -- How code runs: the steps between two requests, what is asked for, and how it goes on after an answer.
-use Rattle.std.specs.Prelude.{◌≡◌, ℕ, zero, suc, Bool, true, false, not, Option, Some, None, option_map, option_and_then, List, [], ◌∷◌, length, drop, slice_get}
+use Rattle.std.specs.Prelude.{ℕ, zero, suc, true, false, not, Option, Some, None, option_map, option_and_then, List, [], ◌∷◌, length, drop, slice_get}
 use Rattle.fst_types.specs.declared.side.Side.TheVariants.{Left, Right}
-use Rattle.fst_terms.specs.declared.term.Op.{Op}
 use Rattle.fst_value.specs.ValueTree.{ValueTree, int, bool, char, unit, pair, make, function, end, ValueTrees, none, value}
+pub use Rattle.fst_value.specs.Stacks.{collected, stacked}
 use Rattle.fst_value.specs.declared.ends.ChannelName.{ChannelName}
-use Rattle.fst_value.specs.declared.ends.EndName.{EndName}
-use Rattle.fst_value.specs.declared.event.Event.{Event}
 use Rattle.fst_value.specs.declared.event.Event.TheVariants.{Label}
 use Rattle.fst_machine.specs.declared.request.Request.{Request}
 use Rattle.fst_machine.specs.declared.request.Request.TheVariants.{Step, New, Fork, Put, Get, Ended}
@@ -66,17 +64,6 @@ abbrev pub spread : List ℕ → ValueTrees → Slots
 spread [] vs = []
 spread (k ∷ ks) none = []
 spread (k ∷ ks) (value v vs) = filled k v (spread ks vs)
-
--- the last n values in order, in front of others, and the values below them
-abbrev pub collected : ℕ → List ValueTree → ValueTrees → Option (ValueTrees × List ValueTree)
-collected zero ops vs = Some (vs, ops)
-collected (suc n) [] vs = None
-collected (suc n) (v ∷ ops) vs = collected n ops (value v vs)
-
--- values on the stack, the first one last
-abbrev pub stacked : ValueTrees → List ValueTree → List ValueTree
-stacked none ops = ops
-stacked (value v vs) ops = v ∷ stacked vs ops
 
 -- a value of a base type as it is; of any other value one that no sign takes and that isn't sent
 abbrev pub scalar : ValueTree → Value

@@ -70,6 +70,10 @@ pub record MeansSlots (c : Compiled) (q : ℕ → Bool) (slots : Slots) (env : E
   pub meant : (k : ℕ) → q k ≡ true → MeansAt c k slots env
   pub just : HasJust q env
 
+-- the variables that have values are the same in both, and these mean each other
+abbrev pub AreAlike : Compiled → Slots → Environment → Type 0
+AreAlike c slots env = (k : ℕ) → ((slot_at slots k ≡ None) × (lookup env k ≡ None)) ⊎ MeansAt c k slots env
+
 -- inner steps lead from a spot to one of these
 pub data Reaches (c : Compiled) (P : Spot → Type 0) : Spot → Type 0 where
   here : {s : Spot} → P s → Reaches c P s
@@ -87,7 +91,8 @@ HasEnded c ops (puts x ev fs) = ⊤
 HasEnded c ops (gets x fs) = ⊤
 HasEnded c ops (matches x bs env fs) = ⊤
 
--- the spot asks for what is asked for at the pause, and after an answer it stands as S says; so does the task that it makes
+-- the spot asks for what is asked for at the pause, and after an answer it stands as S says; so does the task that it makes,
+-- whose variables have the same values
 pub record Rests (c : Compiled) (S : Spot → Pause → Type 0) (s : Spot) (q : Pause) : Type 0 where
   pub still : inner c s ≡ None
   pub alike : asked_at c s ≡ asked q
@@ -95,7 +100,8 @@ pub record Rests (c : Compiled) (S : Spot → Pause → Type 0) (s : Spot) (q : 
   pub told : (bodies : List CoreTree) → IsCode c bodies → (a : Answer) (st : State) →
       after (record { families = c.families; bodies = bodies }) q a ≡ Some st → (pause c.families st ≡ stuck → ⊥) →
       (t : Spot) × (told_at c s a ≡ Some t) × S t (pause c.families st)
-  pub made : (st : State) → child q ≡ Some st → (t : Spot) × (child_at c s ≡ Some t) × S t (pause c.families st)
+  pub made : (st : State) → child q ≡ Some st →
+      (t : Spot) × (child_at c s ≡ Some t) × AreAlike c t.slots st.environment × S t (pause c.families st)
 
 -- for so many requests the spot stands for the task, or this is stuck
 abbrev pub StandsFor : ℕ → Compiled → Spot → Pause → Type 0

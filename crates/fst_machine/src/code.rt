@@ -1,5 +1,8 @@
-use fst_terms::Op;
-use fst_types::Name;
+ghost use Rattle.fst_machine.specs.Programs.{IsCodeOf};
+
+use fst_terms::{Module, Op};
+use fst_types::{Name, Ty};
+use std::snapshot::Snapshot;
 
 /// An instruction of the code that a module runs as. A place in code is how many instructions stand at it and below it; an
 /// instruction is followed by the one at the place below, so code runs from the greatest place down. Variables are numbers
@@ -63,4 +66,19 @@ pub enum Instr {
 pub struct LambdaEntry {
     pub start: u64,
     pub captured: Vec<u32>,
+}
+
+/// The code of a module. Its greatest place is where the body of `main` begins.
+#[derive(Drop)]
+pub struct Code {
+    pub code: Vec<Instr>,
+    /// What `Function` and `Fork` name.
+    pub lambdas: Vec<LambdaEntry>,
+    /// The places where the globals start.
+    pub globals: Vec<u64>,
+    /// The module's types, which `New` names.
+    pub types: Vec<Ty>,
+    /// The module, for contracts alone: the code stands for it.
+    pub module: Snapshot<Module>,
+    ghost stands: { ∥ IsCodeOf module.value code.items lambdas.items globals.items types.items ∥₁ },
 }

@@ -5,6 +5,6 @@ mod code;
 mod law;
 mod request;
 
-pub use code::{Instr, LambdaEntry};
+pub use code::{Code, Instr, LambdaEntry};
 pub use law::code_law;
 pub use request::{Answer, Request};

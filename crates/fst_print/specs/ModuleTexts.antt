@@ -1,8 +1,7 @@
 -- How modules, and the terms in them, are written.
-use Rattle.std.specs.Prelude.{ℕ, ◌==◌, List, [], ◌∷◌, ◌++◌, Bool, true, false, codes, map, encode_utf8, if◌then◌else◌}
+use Rattle.std.specs.Prelude.{ℕ, List, [], ◌∷◌, ◌++◌, codes, map}
 use Rattle.std.specs.Fmt.{signed_decimal}
 use Rattle.std.specs.List.{flat_map}
-use Rattle.std.specs.Str.{byte}
 use Rattle.fst_types.specs.declared.kind.Kind.{Kind}
 use Rattle.fst_types.specs.WrittenTree.{WrittenTree}
 use Rattle.fst_terms.specs.declared.binder.Binder.{Binder}
@@ -10,6 +9,7 @@ use Rattle.fst_terms.specs.declared.term.Op.{Op}
 use Rattle.fst_terms.specs.declared.term.Op.TheVariants.{Add, Subtract, Multiply, Equal, Unequal, Less, AtMost, Greater, AtLeast, And, Or}
 use Rattle.fst_terms.specs.TermTree.{TermTree, named, int, bool, char, unit, pair, make, lambda, apply, let_in, split, if_else, case_of, operate, negate, new, send, receive, select, match_with, fork, seq, TermList, no_terms, term, TermArms, no_arms, arm}
 use Rattle.fst_terms.specs.ModuleTree.{Maker, Declared, family, alias, signature, equation}
+pub use Rattle.fst_value.specs.Texts.{truth_text, character_text}
 use Rattle.fst_type_print.specs.Texts.{arrow_text, kind_text, in_parens, in_parens_if, in_braces, joined_text}
 use Rattle.fst_type_print.specs.WrittenTexts.{written_text, seq_text, atom_text}
 use Rattle.fst_print.specs.Ranks.{or_rank, negation_rank, atom_rank, left_rank, right_rank, is_below, is_no_head}
@@ -27,20 +27,6 @@ op_text Greater = codes ">"
 op_text AtLeast = codes ">="
 op_text And = codes "&&"
 op_text Or = codes "||"
-
--- a truth value
-abbrev pub truth_text : Bool → List ℕ
-truth_text true = codes "True"
-truth_text false = codes "False"
-
--- a character between its quotes, which four are escaped
-abbrev pub character_text : ℕ → List ℕ
-character_text c =
-    if c == byte "\n" then codes "\\n" else
-    if c == byte "\t" then codes "\\t" else
-    if c == byte "\\" then codes "\\\\" else
-    if c == byte "'" then codes "\\'" else
-    encode_utf8 c
 
 -- names with a space before each
 abbrev pub names_text : List Binder → List ℕ

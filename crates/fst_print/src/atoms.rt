@@ -1,40 +1,14 @@
 //! The texts of terms that have no term in them.
 
-ghost use Rattle.std.specs.Prelude.{◌≡◌, ◌++◌, codes};
+ghost use Rattle.std.specs.Prelude.{◌++◌};
 ghost use Rattle.fst_terms.specs.TermTree as tree;
 ghost use Rattle.fst_type_print.specs.Adds.{Adds};
-ghost use Rattle.fst_print.specs.ModuleTexts.{applied_text, character_text, names_text, term_text, truth_text};
+ghost use Rattle.fst_print.specs.ModuleTexts.{applied_text, names_text, term_text};
 
 use fst_terms::Binder;
 use fst_type_print::{name_text, push_atom};
 use fst_types::{Name, Written};
 use std::alloc::AllocError;
-
-pub(crate) fn truth_text(b: bool) -> &'static str
-    ensures { result.now ≡ truth_text b }
-{
-    if b { "True" } else { "False" }
-}
-
-fn push_character(text: &mut String, c: char) -> Result<(), AllocError>
-    ensures { Adds result text.old text.new (character_text c) }
-{
-    match c {
-        '\n' => text.push_str("\\n"),
-        '\t' => text.push_str("\\t"),
-        '\\' => text.push_str("\\\\"),
-        '\'' => text.push_str("\\'"),
-        _ => text.push(c),
-    }
-}
-
-pub(crate) fn push_quoted(text: &mut String, c: char) -> Result<(), AllocError>
-    ensures { Adds result text.old text.new (codes "'" ++ character_text c ++ codes "'") }
-{
-    text.push_str("'")?;
-    push_character(text, c)?;
-    text.push_str("'")
-}
 
 /// Names with a space before each.
 pub(crate) fn push_names(text: &mut String, names: &[Binder]) -> Result<(), AllocError>

@@ -6,7 +6,7 @@ ghost use Rattle.fst_print.specs.ModuleTexts.{arguments_text, arm_texts, term_te
 ghost use Rattle.fst_print.specs.Stack.{arms_weight, piece_text, piece_weight, term_weight, terms_weight};
 ghost use Rattle.fst_type_print.specs.Texts.{joined_text, separated_text};
 
-use crate::atoms::{push_named, push_names, push_new, push_quoted, truth_text};
+use crate::atoms::{push_named, push_names, push_new};
 use crate::forms::{
     unfold_apply, unfold_behind, unfold_choice, unfold_if, unfold_lambda, unfold_let, unfold_make,
     unfold_operate, unfold_pair, unfold_select, unfold_send, unfold_split, unfold_then,
@@ -15,6 +15,7 @@ use crate::ranks::{is_no_atom, is_no_negation};
 use crate::stack::{Piece, Stack, pop, push, push_enclosed, push_term};
 use fst_terms::{SourceArm, SourceForm, SourceTerm};
 use fst_type_print::{name_text, push_number};
+use fst_value::{push_quoted, truth_text};
 use std::alloc::{AllocError, Global};
 
 fn unfold<'a>(text: &mut String, stack: &mut Stack<'a>, t: &'a SourceTerm) -> Result<(), AllocError>

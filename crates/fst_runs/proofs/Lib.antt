@@ -1,1 +1,10 @@
+pub mod Asked
+pub mod EventLaws
 pub mod FirstRun
+pub mod HeldEnds
+pub mod HistoryLaws
+pub mod Laws
+pub mod NameLaws
+pub mod Naming
+pub mod Owners
+pub mod Updates

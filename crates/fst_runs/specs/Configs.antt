@@ -1,16 +1,15 @@
 -- A configuration: all tasks by their paths, and all channels by their names.
-use Rattle.std.specs.Prelude.{ℕ, zero, suc, Bool, true, false, ◌&&◌, Option, Some, None, option_and_then, List, [], ◌∷◌, ◌++◌, codes, nat_eq, if◌then◌else◌}
+use Rattle.std.specs.Prelude.{ℕ, zero, suc, Bool, true, false, ◌&&◌, Option, Some, None, option_and_then, List, [], ◌∷◌, ◌++◌, nat_eq, if◌then◌else◌}
 use Rattle.std.specs.Str.{bytes_eq}
 use Rattle.fst_types.specs.Tree.{Tree}
 use Rattle.fst_types.specs.declared.side.Side.{Side}
 use Rattle.fst_types.specs.declared.side.Side.TheVariants.{Left, Right}
 use Rattle.fst_terms.specs.CoreTree.{CoreTree}
-use Rattle.fst_terms.specs.declared.core_module.Module.{Module}
-use Rattle.fst_terms.specs.declared.global.GlobalEntry.{GlobalEntry}
 use Rattle.fst_value.specs.declared.ends.ChannelName.{ChannelName}
 use Rattle.fst_value.specs.declared.ends.EndName.{EndName}
 use Rattle.fst_value.specs.declared.event.Entry.{Entry}
-use Rattle.fst_machine.specs.Machine.{Program, State, begins}
+use Rattle.fst_machine.specs.Machine.{State, begins}
+pub use Rattle.fst_machine.specs.Programs.{bodies, program, main_body}
 use Rattle.fst_runs.specs.Histories.{after_history, side_type, opposite}
 
 -- the path of a task: main's is 0, and the k-th task that a task forks has its path with k behind it
@@ -75,19 +74,6 @@ channel_name p made = record { maker = p; count = suc made }
 -- a task that begins at this clock
 abbrev pub new_task : State → ℕ → Task
 new_task s clock = record { state = s; made = zero; forked = zero; clock = clock }
-
--- what terms of the module speak of
-abbrev pub bodies : List GlobalEntry → List CoreTree
-bodies [] = []
-bodies (g ∷ gs) = g.body ∷ bodies gs
-
-abbrev pub program : Module → Program
-program m = record { families = m.families.items; bodies = bodies m.globals.items }
-
--- the body of the global named main
-abbrev pub main_body : List GlobalEntry → Option CoreTree
-main_body [] = None
-main_body (g ∷ gs) = if bytes_eq g.name (codes "main") then Some g.body else main_body gs
 
 -- the path of main's task
 abbrev pub main_path : Path

@@ -2,3 +2,5 @@ pub mod Histories
 pub mod Configs
 pub mod Events
 pub mod Wrong
+pub mod Least
+pub mod Names

@@ -9,7 +9,7 @@ use Rattle.fst_value.specs.declared.ends.ChannelName.{ChannelName}
 use Rattle.fst_value.specs.declared.ends.EndName.{EndName}
 use Rattle.fst_machine.specs.Values as value
 use Rattle.fst_machine.specs.Values.{Value, Values, no_values, Environment, none, hole, slot}
-use Rattle.fst_machine.specs.Machine.{Program, State, Frame, at_function, at_argument, at_first, at_second, at_field, at_let, at_split, at_if, at_case, at_left, at_right, at_not, at_value, at_target, at_receive, at_select, at_match, at_seq, request}
+use Rattle.fst_machine.specs.Machine.{Program, State, Frame, at_function, at_argument, at_first, at_second, at_field, at_let, at_split, at_if, at_case, at_left, at_right, at_not, at_value, at_target, at_receive, at_select, at_match, at_seq, Pause, stuck, calls, uses, makes, forks, puts, gets, matches, ended, request}
 use Rattle.fst_machine.specs.declared.request.Request.{Request}
 use Rattle.fst_machine.specs.declared.request.Request.TheVariants as request
 use Rattle.fst_runs.specs.Histories.{sending}
@@ -73,6 +73,18 @@ held_frames x (f ∷ fs) = held_frame x f + held_frames x fs
 abbrev pub held_state : EndName → State → ℕ
 held_state x s = held_env x s.environment + held_frames x s.frames
 
+-- in all that a task holds where it stands still
+abbrev pub held_pause : EndName → Pause → ℕ
+held_pause x stuck = 0
+held_pause x (calls e env v fs) = (held_env x env + held x v) + held_frames x fs
+held_pause x (uses g fs) = held_frames x fs
+held_pause x (makes k fs) = held_frames x fs
+held_pause x (forks e env fs) = held_env x env + held_frames x fs
+held_pause x (puts y ev fs) = held x (value.end y) + held_frames x fs
+held_pause x (gets y fs) = held x (value.end y) + held_frames x fs
+held_pause x (matches y bs env fs) = (held x (value.end y) + held_env x env) + held_frames x fs
+held_pause x (ended v) = held x v
+
 -- in a task that may be there
 abbrev pub amount : EndName → Option Task → ℕ
 amount x None = 0
@@ -81,6 +93,19 @@ amount x (Some t) = held_state x t.state
 -- the end isn't spent: its residual isn't terminated
 abbrev pub IsUnspent : (EndName → Option Tree) → EndName → Type 0
 IsUnspent r x = (s : Tree) × (r x ≡ Some s) × (terminated s ≡ false)
+
+-- the end is held by one task, once
+abbrev pub IsOwned : Config → EndName → Type 0
+IsOwned c x = (p : Path) × (amount x (c.tasks p) ≡ 1) × ((q : Path) → same_path p q ≡ false → amount x (c.tasks q) ≡ 0)
+
+-- the end at which something is asked for, where it is at one
+abbrev pub end_of : Request → Option EndName
+end_of request.Step = None
+end_of (request.New n) = None
+end_of request.Fork = None
+end_of (request.Put x ev) = Some x
+end_of (request.Get x) = Some x
+end_of request.Ended = None
 
 -- something is received by the label
 abbrev pub IsInput : Label → Type 0
@@ -104,8 +129,7 @@ IsAllowed r request.Ended = ⊤
 pub record IsRight (m : Program) (c : Config) : Type 0 where
   pub asks : (p : Path) (t : Task) → c.tasks p ≡ Some t → (q : Request) × (request m.families t.state ≡ Some q) × IsAllowed (residual_in c) q
   pub traces : (h : ChannelName) (k : Channel) → c.channels h ≡ Some k → (s : Tree) × (channel_residual Left k ≡ Some s)
-  pub owned : (x : EndName) → IsUnspent (residual_in c) x →
-      (p : Path) × (amount x (c.tasks p) ≡ 1) × ((q : Path) → same_path p q ≡ false → amount x (c.tasks q) ≡ 0)
+  pub owned : (x : EndName) → IsUnspent (residual_in c) x → IsOwned c x
 
 -- the configuration is wrong
 abbrev pub IsWrong : Program → Config → Type 0

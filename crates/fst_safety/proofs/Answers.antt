@@ -21,18 +21,17 @@ use Rattle.fst_machine.specs.Values as value
 use Rattle.fst_machine.specs.Values.{Value, Environment, none, slot, enter, keep}
 use Rattle.fst_machine.specs.Machine.{Frame, calls, uses, forks, giving, begins, arm_state}
 use Rattle.fst_runs.specs.Configs.{bodies}
-use Rattle.fst_runs.specs.Wrong.{held, held_env, held_frames}
+use Rattle.fst_runs.specs.Wrong.{held, held_env, held_frames, held_pause}
 use Rattle.fst_safety.specs.Running.{Alike, SpendAll, AreAlike, HasType, ArmsHaveType}
 use Rattle.fst_safety.specs.Fitting.{Residuals, Exactly, Fits, IsEnv, Takes}
 use Rattle.fst_safety.specs.WellTyped.{IsWellTyped}
-use Rattle.fst_safety.specs.Pauses.{Allowed, held_pause, Goes}
+use Rattle.fst_safety.specs.Pauses.{Allowed, Goes}
 use Rattle.fst_safety.proofs.Equals.{equals_itself, equals_back, equals_through, use_formed, formed_use, arrows_equal}
 use Rattle.fst_safety.proofs.Exact.{exactly_enter, exactly_keep}
 use Rattle.fst_safety.proofs.Typed.{type_equal, fits_equal, fits_formed, fits_enter, fits_keep, some_same}
 use Rattle.fst_safety.proofs.Held.{held_enter, held_kept}
 use Rattle.fst_safety.proofs.Lists.{contains_later}
 use Rattle.fst_safety.proofs.Closed.{closed_by}
-pub use Rattle.fst_safety.proofs.Shown.{result_shown}
 
 -- the body of a global that is there
 pub body_at : (gs : List GlobalEntry) (k : ℕ) (g : GlobalEntry) → slice_get gs k ≡ Some g → slice_get (bodies gs) k ≡ Some g.body

@@ -1,5 +1,5 @@
 -- Which event a task takes part in: a request belongs to one event alone.
-use Rattle.std.proofs.Common.{◌≡◌, ◌∙◌, ◌⊎◌, inl, inr, ℕ, Bool, true, false, Some, refl, sym, ap, subst, arith}
+use Rattle.std.proofs.Common.{◌≡◌, ◌∙◌, ◌⊎◌, inl, inr, ℕ, Some, refl, sym, ap, subst}
 use Rattle.std.specs.Prelude.{⊤}
 use Rattle.fst_types.specs.declared.side.Side.{Side}
 use Rattle.fst_types.specs.declared.side.Side.TheVariants.{Left, Right}
@@ -9,21 +9,15 @@ use Rattle.fst_value.specs.declared.event.Event.{Event}
 use Rattle.fst_machine.specs.declared.request.Request.{Request}
 use Rattle.fst_machine.specs.declared.request.Request.TheVariants as request
 use Rattle.fst_machine.specs.Machine as machine
-use Rattle.fst_machine.specs.Machine.{Program, Pause, puts, pause, asked}
+use Rattle.fst_machine.specs.Machine.{Program}
 use Rattle.fst_runs.specs.declared.event.CoreEvent.{CoreEvent}
 use Rattle.fst_runs.specs.declared.event.CoreEvent.TheVariants.{Local, New, Fork, Meet}
-use Rattle.fst_runs.specs.Histories.{sending, opposite}
-use Rattle.fst_runs.specs.Configs.{Path, Task, Config, same_path, other, residual_in}
+use Rattle.fst_runs.specs.Histories.{opposite}
+use Rattle.fst_runs.specs.Configs.{Path, Task, Config, other}
 use Rattle.fst_runs.specs.Events.{Asks}
-use Rattle.fst_runs.specs.Wrong.{held_state, amount, IsUnspent, IsAllowed, IsRight}
-use Rattle.fst_safety.specs.Fitting.{Residuals}
-use Rattle.fst_safety.specs.Pauses.{held_pause}
-use Rattle.fst_safety.specs.Sound.{HasMakers, HasParents, IsOwned}
-use Rattle.fst_safety.proofs.Asked.{put_pause, get_pause}
-use Rattle.fst_safety.proofs.EventLaws.{moving}
-use Rattle.fst_safety.proofs.HeldEnds.{pause_none}
-use Rattle.fst_safety.proofs.NameLaws.{same_path-same}
-use Rattle.fst_safety.proofs.StillLaws.{own_once}
+use Rattle.fst_runs.specs.Names.{HasMakers, HasParents}
+use Rattle.fst_runs.specs.Wrong.{IsRight}
+use Rattle.fst_runs.proofs.Laws.{right_one}
 use Rattle.fst_safety.proofs.Typed.{some_same}
 
 -- nothing has gone wrong, and names are fresh
@@ -37,38 +31,6 @@ pub same_asks : (m : Program) (c : Config) (p : Path) (t u : Task) (q r : Reques
 same_asks m c p t u q r a b =
     let e : t ≡ u = some_same (sym a.0 ∙ b.0) in
     (e, some_same (sym a.1 ∙ ap (λ z. machine.request m.families z.state) e ∙ b.1))
-
--- what is asked for is asked on this end
-abbrev NamesEnd : Request → EndName → Type 0
-NamesEnd request.Step x = ⊥
-NamesEnd (request.New n) x = ⊥
-NamesEnd request.Fork x = ⊥
-NamesEnd (request.Put y ev) x = y ≡ x
-NamesEnd (request.Get y) x = y ≡ x
-NamesEnd request.Ended x = ⊥
-
-allowed_unspent : (r : Residuals) (q : Request) (x : EndName) → NamesEnd q x → IsAllowed r q → IsUnspent r x
-allowed_unspent r request.Step x n f = absurd n
-allowed_unspent r (request.New k) x n f = absurd n
-allowed_unspent r request.Fork x n f = absurd n
-allowed_unspent r (request.Put y ev) x n f = subst (IsUnspent r) n (f.0, f.2, moving f.0 f.1 (sending ev) f.3)
-allowed_unspent r (request.Get y) x n f = subst (IsUnspent r) n (f.0, f.3, moving f.0 f.2 f.1 f.5)
-allowed_unspent r request.Ended x n f = absurd n
-
-asks_held : (p : Pause) (q : Request) (x : EndName) → NamesEnd q x → asked p ≡ Some q → held_pause x p ≡ 0 → ⊥
-asks_held p request.Step x n e z = absurd n
-asks_held p (request.New k) x n e z = absurd n
-asks_held p request.Fork x n e z = absurd n
-asks_held p (request.Put y ev) x n e z =
-    let w = put_pause p y ev e in
-    let f : held_pause y (puts y ev w.0) ≡ 0 = sym (ap (λ o. held_pause y o) w.1) ∙ ap (λ o. held_pause o p) n ∙ z in
-    let o = own_once y in
-    omega (arith, f, o)
-asks_held p (request.Get y) x n e z =
-    (get_pause (λ w. held_pause y w ≡ 0 → ⊥) p y e
-    (λ fs f. let o = own_once y in omega (arith, f, o))
-    (λ bs env fs f. let o = own_once y in omega (arith, f, o))) (ap (λ o. held_pause o p) n ∙ z)
-asks_held p request.Ended x n e z = absurd n
 
 other_other : (x y : EndName) → other x ≡ other y → x ≡ y
 other_other x y e = λ i. record { channel = (e i).channel; side = (back x.side ∙ ap (λ (z : EndName). opposite z.side) e ∙ sym (back y.side)) i }
@@ -87,32 +49,6 @@ IsMeeting (request.Get y) = ⊤
 IsMeeting request.Ended = ⊥
 
 module _ (m : Program) (c : Config) (hs : IsRegular m c) where
-  unspent_at : (p : Path) (t : Task) (q : Request) (x : EndName) → Asks m c p t q → NamesEnd q x → IsUnspent (residual_in c) x
-  unspent_at p t q x a n =
-      let f = hs.fine.asks p t a.0 in
-      allowed_unspent (residual_in c) q x n (subst (IsAllowed (residual_in c)) (some_same (sym f.1 ∙ a.1)) f.2)
-
-  held_at : (p : Path) (t : Task) (q : Request) (x : EndName) → Asks m c p t q → NamesEnd q x → held_state x t.state ≡ 0 → ⊥
-  held_at p t q x a n z = asks_held (pause m.families t.state) q x n a.1 (pause_none m.families x t.state z)
-
-  -- where one task holds an unspent end, no other does
-  sole : (x : EndName) (p : Path) (t : Task) → IsOwned c x → c.tasks p ≡ Some t → (held_state x t.state ≡ 0 → ⊥) → (q : Path) → same_path p q ≡ false → amount x (c.tasks q) ≡ 0
-  sole x p t o e n = go (same_path o.0 p) refl
-    where
-      go : (b : Bool) → same_path o.0 p ≡ b → (q : Path) → same_path p q ≡ false → amount x (c.tasks q) ≡ 0
-      go true s q f = o.2 q (ap (λ y. same_path y q) (same_path-same o.0 p s) ∙ f)
-      go false s q f = absurd (n (sym (ap (λ z. amount x z) e) ∙ o.2 p s))
-
-  -- two tasks that ask on one end are one task
-  pub one_holder : (p q : Path) (t u : Task) (a b : Request) (x : EndName) → Asks m c p t a → Asks m c q u b → NamesEnd a x → NamesEnd b x → p ≡ q
-  one_holder p q t u a b x f g n k = go (same_path p q) refl
-    where
-      go : (z : Bool) → same_path p q ≡ z → p ≡ q
-      go true e = same_path-same p q e
-      go false e =
-          let o = hs.fine.owned x (unspent_at p t a x f n) in
-          absurd (held_at q u b x g k (sym (ap (λ o. amount x o) g.0) ∙ sole x p t o f.0 (held_at p t a x f n) q e))
-
   -- what the task with a path asks for where it takes part in an event
   abbrev pub Role : CoreEvent → Path → Request → Type 0
   Role (Local p) o q = (p ≡ o) × (q ≡ request.Step)
@@ -127,7 +63,7 @@ module _ (m : Program) (c : Config) (hs : IsRegular m c) where
       let z : request.Put f.1 f.2 ≡ request.Put g.1 g.2 = sym f.4 ∙ g.4 in
       let e : f.1 ≡ g.1 = cc z in
       let first : p ≡ q = f.3 ∙ sym g.3 in
-      let second : p' ≡ q' = one_holder p' q' f.0 g.0 (request.Get (other f.1)) (request.Get (other g.1)) (other f.1) f.5 g.5 refl (ap other (sym e)) in
+      let second : p' ≡ q' = right_one m c hs.fine p' q' f.0 g.0 (request.Get (other f.1)) (request.Get (other g.1)) (other f.1) f.5 g.5 refl (ap (λ z. Some (other z)) (sym e)) in
       let over : h ≡ h' = sym f.6 ∙ ap (λ (x : EndName). x.channel) e ∙ g.6 in
       λ i. Meet (first i) (second i) (over i)
   same_meet p p' q q' h h' o r (inl f) (inr g) =
@@ -140,7 +76,7 @@ module _ (m : Program) (c : Config) (hs : IsRegular m c) where
       let z : request.Get (other f.1) ≡ request.Get (other g.1) = sym f.4 ∙ g.4 in
       let others : other f.1 ≡ other g.1 = cc z in
       let e : f.1 ≡ g.1 = other_other f.1 g.1 others in
-      let first : p ≡ q = one_holder p q f.0 g.0 (request.Put f.1 f.2) (request.Put g.1 g.2) f.1 f.5 g.5 refl (sym e) in
+      let first : p ≡ q = right_one m c hs.fine p q f.0 g.0 (request.Put f.1 f.2) (request.Put g.1 g.2) f.1 f.5 g.5 refl (ap Some (sym e)) in
       let second : p' ≡ q' = f.3 ∙ sym g.3 in
       let over : h ≡ h' = sym f.6 ∙ ap (λ (x : EndName). x.channel) e ∙ g.6 in
       λ i. Meet (first i) (second i) (over i)

@@ -9,9 +9,9 @@ use Rattle.fst_runs.specs.declared.event.CoreEvent.TheVariants.{Local, New, Fork
 use Rattle.fst_runs.specs.Histories.{over}
 use Rattle.fst_runs.specs.Configs.{Path, Task, Channel, Config}
 use Rattle.fst_runs.specs.Events.{Write, written, task_at, channel_at, Does}
+use Rattle.fst_runs.proofs.NameLaws.{same_path-itself, same_channel-itself}
 use Rattle.fst_safety.specs.Diamond.{Commutes}
 use Rattle.fst_safety.proofs.Askers.{IsRegular}
-use Rattle.fst_safety.proofs.NameLaws.{same_path-itself, same_channel-itself}
 use Rattle.fst_safety.proofs.Places.{apart_tasks, apart_channels}
 
 some_none : {X : Type 0} {x : X} → Some x ≡ None → ⊥

@@ -1,5 +1,5 @@
 -- A configuration stays sound where a task makes a task.
-use Rattle.std.proofs.Common.{◌≡◌, ◌∙◌, ◌⊎◌, inl, inr, ℕ, zero, suc, ◌<◌, ◌+◌, List, [], ◌∷◌, ◌++◌, length, length-append, Bool, true, false, Option, Some, None, refl, sym, ap, subst, arith}
+use Rattle.std.proofs.Common.{◌≡◌, ◌∙◌, ◌⊎◌, inl, inr, ℕ, zero, suc, ◌+◌, List, [], Bool, true, false, Some, None, refl, sym, ap, subst, arith}
 use Rattle.fst_types.specs.Tree.{Tree}
 use Rattle.fst_terms.specs.CoreTree.{CoreTree}
 use Rattle.fst_derivations.specs.Rules.{Surroundings}
@@ -8,53 +8,20 @@ use Rattle.fst_machine.specs.declared.request.Answer.TheVariants.{Forked}
 use Rattle.fst_machine.specs.Values.{Environment}
 use Rattle.fst_machine.specs.Machine.{Program, State, Frame, Pause, forks, pause, after, answered, child}
 use Rattle.fst_runs.specs.declared.event.CoreEvent.TheVariants.{Fork}
-use Rattle.fst_runs.specs.Configs.{Path, Task, Config, same_path, residual_in, child_path, main_path, new_task}
+use Rattle.fst_runs.specs.Configs.{Path, Task, Config, same_path, residual_in, child_path, new_task}
 use Rattle.fst_runs.specs.Events.{Write, written, Does}
-use Rattle.fst_runs.specs.Wrong.{held_state, amount, IsUnspent}
+use Rattle.fst_runs.specs.Wrong.{held_state, amount, IsUnspent, IsOwned}
+use Rattle.fst_runs.proofs.Asked.{fork_pause}
+use Rattle.fst_runs.proofs.NameLaws.{same_path-itself, same_path-same}
+use Rattle.fst_runs.proofs.Naming.{no_parent, fork_free, named_fork}
+use Rattle.fst_runs.proofs.Updates.{put, with_task, in_put, has_forked, put_there, stays_there, stays_free, fork_puts}
 use Rattle.fst_safety.specs.Fitting.{Residuals, IsTyped}
 use Rattle.fst_safety.specs.WellTyped.{IsWellTyped, program_in}
 use Rattle.fst_safety.specs.Pauses.{Reached}
-use Rattle.fst_safety.specs.Sound.{IsSound, IsOwned}
+use Rattle.fst_safety.specs.Sound.{IsSound}
 use Rattle.fst_safety.proofs.Answers.{child_goes, parent_goes}
 use Rattle.fst_safety.proofs.Settles.{pause_goes}
-use Rattle.fst_safety.proofs.Asked.{fork_pause}
-use Rattle.fst_safety.proofs.NameLaws.{same_path-itself, same_path-same}
-use Rattle.fst_safety.proofs.Typed.{some_same, none_some}
-use Rattle.fst_safety.proofs.Updates.{put, put_two, with_task, in_put, makers_with, parents_with}
-
-last_same : (p q : List ℕ) (j k : ℕ) → p ++ j ∷ [] ≡ q ++ k ∷ [] → (p ≡ q) × (j ≡ k)
-last_same [] [] j k e =
-    let f : j ≡ k = cc in
-    (refl, f)
-last_same [] (b ∷ q) j k e =
-    let f : [] ≡ q ++ k ∷ [] = cc in
-    let n = ap length f in
-    let l = length-append q (k ∷ []) in
-    absurd (omega (arith, n, l))
-last_same (a ∷ p) [] j k e =
-    let f : p ++ j ∷ [] ≡ [] = cc in
-    let n = ap length f in
-    let l = length-append p (j ∷ []) in
-    absurd (omega (arith, n, l))
-last_same (a ∷ p) (b ∷ q) j k e =
-    let f : a ≡ b = cc in
-    let g : p ++ j ∷ [] ≡ q ++ k ∷ [] = cc in
-    let h = last_same p q j k g in
-    (λ i. f i ∷ h.0 i, h.1)
-
--- a task's path says who forked it, and as which
-pub one_parent : (p q : Path) (j k : ℕ) → child_path p j ≡ child_path q k → (p ≡ q) × (j ≡ k)
-one_parent p q j k e =
-    let h = last_same p q (suc j) (suc k) e in
-    let f = h.1 in
-    (h.0, omega (arith, f))
-
--- main has no parent
-pub no_parent : (p : Path) (k : ℕ) → child_path p k ≡ main_path → ⊥
-no_parent p k e =
-    let h = last_same p [] (suc k) zero e in
-    let f = h.1 in
-    omega (arith, f)
+use Rattle.fst_safety.proofs.Typed.{some_same}
 
 -- what a fork makes of a state: two typed ones that share its unspent ends
 abbrev pub Parts : Surroundings → Residuals → Tree → (EndName → ℕ) → State → State → Type 0
@@ -83,7 +50,7 @@ module _ (m : Surroundings) (well : IsWellTyped m) (a : Tree) (c : Config) (p : 
   q = child_path p t.forked
 
   abbrev tp : Task
-  tp = record { state = s; made = t.made; forked = suc t.forked; clock = i }
+  tp = has_forked t s i
 
   abbrev tk : Task
   tk = new_task k j
@@ -97,37 +64,14 @@ module _ (m : Surroundings) (well : IsWellTyped m) (a : Tree) (c : Config) (p : 
   parts : Parts m r A (λ z. held_state z t.state) s k
   parts = fork_parts m well r (program_in m) (pause m.families t.state) A (λ z. held_state z t.state) s k (pause_goes m well r t.state A (hs.tasks p t ep).1) ch an
 
-  not_less : (n : ℕ) → n < n → ⊥
-  not_less n h = omega (arith, h)
-
-  free_path : (o : Option Task) → c.tasks q ≡ o → o ≡ None
-  free_path None e = refl
-  free_path (Some w) e =
-      let f = hs.parents p t.forked w e in
-      absurd (not_less t.forked (subst (λ w. t.forked < w.forked) (some_same (sym f.1 ∙ ep)) f.2))
-
   no_task : c.tasks q ≡ None
-  no_task = free_path (c.tasks q) refl
-
-  differ : (o : Path) → same_path q o ≡ true → same_path p o ≡ false
-  differ o e = go (same_path p o) refl
-    where
-      go : (b : Bool) → same_path p o ≡ b → b ≡ false
-      go false f = refl
-      go true f = absurd (none_some (sym no_task ∙ ap c.tasks (same_path-same q o e ∙ sym (same_path-same p o f)) ∙ ep))
-
-  at_p : same_path q p ≡ false
-  at_p = go (same_path q p) refl
-    where
-      go : (b : Bool) → same_path q p ≡ b → b ≡ false
-      go false f = refl
-      go true f = absurd (none_some (sym no_task ∙ ap c.tasks (same_path-same q p f) ∙ ep))
+  no_task = fork_free c p t hs.parents ep
 
   p_now : d.tasks p ≡ Some tp
-  p_now = ap (λ b. put b tk (put (same_path p p) tp (c.tasks p))) at_p ∙ ap (λ b. put b tp (c.tasks p)) (same_path-itself p)
+  p_now = stays_there (with_task c p tp) q p tk tp (stays_free c p q t tp ep no_task) (put_there c p tp)
 
   q_now : d.tasks q ≡ Some tk
-  q_now = ap (λ b. put b tk (put (same_path p q) tp (c.tasks q))) (same_path-itself q)
+  q_now = put_there (with_task c p tp) q tk
 
   else_now : (o : Path) → same_path p o ≡ false → same_path q o ≡ false → d.tasks o ≡ c.tasks o
   else_now o e f = ap (λ b. put b tk (put (same_path p o) tp (c.tasks o))) f ∙ ap (λ b. put b tp (c.tasks o)) e
@@ -196,16 +140,6 @@ module _ (m : Surroundings) (well : IsWellTyped m) (a : Tree) (c : Config) (p : 
       go true e = owned_by_p z u (hs.owned z u) e
       go false e = owned_else z u (hs.owned z u) e
 
-  there : (o : Path) (w : Task) → (with_task c p tp).tasks o ≡ Some w → d.tasks o ≡ Some w
-  there o w e = go (same_path q o) refl
-    where
-      go : (b : Bool) → same_path q o ≡ b → put b tk (put (same_path p o) tp (c.tasks o)) ≡ Some w
-      go false f = e
-      go true f = absurd (none_some (sym (ap (λ b. put b tp (c.tasks o)) (differ o f) ∙ ap c.tasks (sym (same_path-same q o f)) ∙ no_task) ∙ e))
-
-  under : {n : ℕ} → t.forked ≡ n → n < suc t.forked
-  under e = omega (arith, e)
-
   -- the configuration with a new task is sound
   pub forked : IsSound m a d
   forked = record {
@@ -216,28 +150,13 @@ module _ (m : Surroundings) (well : IsWellTyped m) (a : Tree) (c : Config) (p : 
         (λ f' g'. hs.tasks o w g') g) e;
     owned = owned;
     traces = hs.traces;
-    makers = λ g h e.
-        let b = makers_with c p t tp hs.makers ep (omega arith, omega arith) g h e in
-        (b.0, there g.maker b.0 b.1, b.2, b.3);
-    parents = λ o n w e. in_put (same_path q (child_path o n)) tk w (put (same_path p (child_path o n)) tp (c.tasks (child_path o n)))
-        (λ f g.
-        let one = one_parent p o t.forked n (same_path-same q (child_path o n) f) in
-        (tp, subst (λ x. d.tasks x ≡ Some tp) one.0 p_now, under one.1))
-        (λ f g.
-        let b = parents_with c p t tp hs.parents ep (omega arith, omega arith) o n w g in
-        (b.0, there o b.0 b.1, b.2)) e;
+    makers = (named_fork c p t s i tk hs.makers hs.parents ep).0;
+    parents = (named_fork c p t s i tk hs.makers hs.parents ep).1;
   }
 
 -- a configuration stays sound where a task makes a task
 pub fork_sound : (m : Surroundings) (well : IsWellTyped m) (a : Tree) (c : Config) (p : Path) (w : Write) →
     IsSound m a c → Does (program_in m) m.types c (Fork p) w → IsSound m a (written c w)
 fork_sound m well a c p w h d =
-    let done = forked m well a c p d.0 d.1 d.2 (suc d.0.clock) (suc d.0.clock) h d.3.0 d.4 d.5 in
-    let parent : Task = record { state = d.1; made = d.0.made; forked = suc d.0.forked; clock = suc d.0.clock } in
-    let its_child = new_task d.2 (suc d.0.clock) in
-    let is : with_task (with_task c p parent) (child_path p d.0.forked) its_child ≡ written c w =
-    sym (ap (written c) d.6 ∙ (λ i. record {
-      tasks = λ o. put_two (same_path (child_path p d.0.forked) o) (same_path p o) its_child parent (c.tasks o) i;
-      channels = c.channels;
-    })) in
-    subst (IsSound m a) is done
+    subst (IsSound m a) (sym (fork_puts (program_in m) m.types c p w d))
+    (forked m well a c p d.0 d.1 d.2 (suc d.0.clock) (suc d.0.clock) h d.3.0 d.4 d.5)

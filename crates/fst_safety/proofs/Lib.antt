@@ -1,5 +1,4 @@
 pub mod Answers
-pub mod Asked
 pub mod Askers
 pub mod AtOnce
 pub mod Checked
@@ -8,12 +7,10 @@ pub mod Comes
 pub mod Commuting
 pub mod DualSessions
 pub mod Equals
-pub mod EventLaws
 pub mod Exact
 pub mod ForkLaws
 pub mod Formed
 pub mod Held
-pub mod HeldEnds
 pub mod Idle
 pub mod InstanceContexts
 pub mod InstanceTypes
@@ -22,10 +19,10 @@ pub mod MakerNames
 pub mod Makers
 pub mod MeetLaws
 pub mod Meets
-pub mod NameLaws
 pub mod NewLaws
 pub mod Next
 pub mod NextChoices
+pub mod Offers
 pub mod OneEnd
 pub mod OneWrite
 pub mod Operators
@@ -41,7 +38,6 @@ pub mod StillLaws
 pub mod TraceLaws
 pub mod Typed
 pub mod Unknown
-pub mod Updates
 pub mod Uses
 pub mod Modules
 pub mod Orders

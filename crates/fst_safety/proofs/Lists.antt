@@ -1,5 +1,5 @@
 -- Elements of lists, the types that numbers stand for, and values turned round.
-use Rattle.std.proofs.Common.{◌≡◌, ◌<◌, ℕ, zero, suc, ◌+◌, List, [], ◌∷◌, length, map, false, Some, Contains, slice_index_or, le_of_suc-le-suc, refl, sym, ap, ◌∙◌, subst, arith}
+use Rattle.std.proofs.Common.{◌≡◌, ◌<◌, ℕ, zero, suc, List, [], ◌∷◌, length, map, false, Some, Contains, slice_index_or, le_of_suc-le-suc, refl, sym, ap, ◌∙◌, subst}
 use Rattle.std.specs.Prelude.{slice_get, bytes_eq, option_map}
 use Rattle.std.proofs.lemmas.Bool.{true≢false}
 use Rattle.std.proofs.lemmas.Option.{slice_get_within, get_or_from_slice_get, slice_get-map}
@@ -7,10 +7,8 @@ use Rattle.std.proofs.lemmas.Slice.Eq.{bytes_eq-Decides}
 use Rattle.fst_types.specs.Tree.{Tree}
 use Rattle.fst_derivations.specs.Parts.{AreAt}
 use Rattle.fst_derivations.specs.Rules.{Surroundings}
-use Rattle.fst_value.specs.declared.ends.EndName.{EndName}
 use Rattle.fst_machine.specs.Values as value
-use Rattle.fst_machine.specs.Values.{Value, Values, no_values, turned_onto}
-use Rattle.fst_runs.specs.Wrong.{held_all}
+use Rattle.fst_machine.specs.Values.{Values, no_values, turned_onto}
 use Rattle.fst_safety.specs.Fitting.{Residuals, FitAll, FitBefore}
 use Rattle.fst_safety.proofs.Typed.{some_same}
 
@@ -43,8 +41,3 @@ are_at_one types (k ∷ ks) (t ∷ ts) (u ∷ us) a b = λ i. some_same (sym b.0
 pub fit_turned : (m : Surroundings) (r : Residuals) (done ws : Values) (all ts : List Tree) → FitBefore m r done all ts → FitAll m r ws ts → FitAll m r (turned_onto done ws) all
 fit_turned m r no_values ws all ts b f = subst (FitAll m r ws) (sym b) f
 fit_turned m r (value.value v vs) ws all ts b f = fit_turned m r vs (value.value v ws) all (b.0 ∷ ts) b.2 (b.1, f)
-
--- and hold what they held
-pub held_turned : (x : EndName) (done ws : Values) → held_all x (turned_onto done ws) ≡ held_all x done + held_all x ws
-held_turned x no_values ws = omega arith
-held_turned x (value.value v vs) ws = let h = held_turned x vs (value.value v ws) in omega (arith, h)

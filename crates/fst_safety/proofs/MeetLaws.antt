@@ -1,5 +1,5 @@
 -- A configuration stays sound where two tasks meet.
-use Rattle.std.proofs.Common.{◌≡◌, ◌∙◌, ◌⊎◌, inl, inr, ℕ, ◌<◌, ◌≤◌, List, [], Bool, true, false, Some, refl, sym, ap, subst, arith}
+use Rattle.std.proofs.Common.{◌≡◌, ◌∙◌, ◌⊎◌, inl, inr, ℕ, List, [], Bool, true, false, Some, refl, sym, ap, subst, arith}
 use Rattle.std.specs.Prelude.{option_map, option_and_then}
 use Rattle.fst_types.specs.Tree.{Tree}
 use Rattle.fst_types.specs.declared.side.Side.{Side}
@@ -13,30 +13,32 @@ use Rattle.fst_value.specs.declared.event.Entry.{Entry}
 use Rattle.fst_machine.specs.declared.request.Request.TheVariants as request
 use Rattle.fst_machine.specs.declared.request.Answer.TheVariants.{Sent, Got}
 use Rattle.fst_machine.specs.Values as value
-use Rattle.fst_machine.specs.Values.{Environment}
-use Rattle.fst_machine.specs.Machine.{State, Frame, Pause, puts, gets, matches, giving, pause, after, answered}
+use Rattle.fst_machine.specs.Machine.{State, Frame, puts, giving, pause, after, answered}
 use Rattle.fst_machine.specs.Machine as machine
 use Rattle.fst_runs.specs.Histories.{sending, receiving, opposite}
 use Rattle.fst_runs.specs.Configs.{Path, Task, Channel, Config, same_path, same_channel, other, residual_in, channel_residual, main_path}
 use Rattle.fst_runs.specs.declared.event.CoreEvent.TheVariants.{Meet}
 use Rattle.fst_runs.specs.Events.{Write, written, extended, meeting_stamp, Does}
-use Rattle.fst_runs.specs.Wrong.{held_state, amount, IsUnspent}
+use Rattle.fst_runs.specs.Names.{HasMakers, HasParents}
+use Rattle.fst_runs.specs.Wrong.{held_state, held_pause, amount, IsUnspent}
+use Rattle.fst_runs.proofs.Asked.{put_pause, get_pause}
+use Rattle.fst_runs.proofs.EventLaws.{moving, dual_receives}
+use Rattle.fst_runs.proofs.NameLaws.{same_path-same, same_path-apart, same_channel-itself, same_channel-same}
+use Rattle.fst_runs.proofs.Naming.{asks_apart, named_meet}
+use Rattle.fst_runs.proofs.Owners.{owner, own_once}
+use Rattle.fst_runs.proofs.Updates.{put, with_task, with_channel, in_put, has_met, passed, stays_apart, same_amount, meet_puts}
 use Rattle.fst_safety.specs.Fitting.{Residuals, IsTyped}
 use Rattle.fst_safety.specs.WellTyped.{IsWellTyped, program_in}
-use Rattle.fst_safety.specs.Pauses.{Allowed, held_pause, Reached, Goes}
-use Rattle.fst_safety.specs.Sound.{IsSound, IsTrace, HasMakers}
-use Rattle.fst_safety.proofs.Asked.{put_pause, get_pause}
+use Rattle.fst_safety.specs.Pauses.{Allowed, Reached, Goes}
+use Rattle.fst_safety.specs.Sound.{IsSound, IsTrace}
 use Rattle.fst_safety.proofs.Equals.{session_step}
-use Rattle.fst_safety.proofs.EventLaws.{moving, dual_receives}
 use Rattle.fst_safety.proofs.Meets.{Meeting, still_but, put_goes, get_goes, choose_goes}
-use Rattle.fst_safety.proofs.NameLaws.{same_path-same, same_channel-itself, same_channel-same}
-use Rattle.fst_safety.proofs.Owners.{or_other, owner}
+use Rattle.fst_safety.proofs.Owners.{or_other}
 use Rattle.fst_safety.proofs.Settles.{pause_goes}
 use Rattle.fst_safety.proofs.SoundLaws.{end_moves}
-use Rattle.fst_safety.proofs.StillLaws.{own_once, typed_still}
+use Rattle.fst_safety.proofs.StillLaws.{typed_still}
 use Rattle.fst_safety.proofs.TraceLaws.{Sides, sides_from, trace_from, sides_grow}
 use Rattle.fst_safety.proofs.Typed.{some_same}
-use Rattle.fst_safety.proofs.Updates.{put, put_one, put_two, with_task, with_channel, in_put, same_amount, makers_with, parents_with}
 
 -- all that a meeting is about; n is the clock of both tasks after it
 module _ (m : Surroundings) (well : IsWellTyped m) (a : Tree) (c : Config) (p q : Path) (t u : Task) (x : EndName) (e : Entry) (s v : State) (k : Channel) (n : ℕ)
@@ -47,10 +49,10 @@ module _ (m : Surroundings) (well : IsWellTyped m) (a : Tree) (c : Config) (p q 
   r = residual_in c
 
   abbrev t' : Task
-  t' = record t { state = s; clock = n }
+  t' = has_met t s n
 
   abbrev u' : Task
-  u' = record u { state = v; clock = n }
+  u' = has_met u v n
 
   abbrev grown : Config
   grown = with_channel c x.channel (extended k e)
@@ -91,7 +93,7 @@ module _ (m : Surroundings) (well : IsWellTyped m) (a : Tree) (c : Config) (p q 
   its_trace = hs.traces x.channel k ek
 
   sides : Sides x.side k mv.0
-  sides = sides_from k x.side mv.0 its_trace (sym (ap (option_and_then (channel_residual x.side)) ek) ∙ mv.2)
+  sides = sides_from k x.side mv.0 (sym (ap (option_and_then (channel_residual x.side)) ek) ∙ mv.2)
 
   new_sides : Sides x.side (extended k e) mv.1
   new_sides = sides_grow k x.side e mv.0 mv.1 sides mv.3
@@ -134,21 +136,11 @@ module _ (m : Surroundings) (well : IsWellTyped m) (a : Tree) (c : Config) (p q 
   y_unspent : IsUnspent r y
   y_unspent = (dual mv.0, before_other, moving (dual mv.0) (dual mv.1) (receiving e.event) (dual_receives mv.0 e.event ∙ ap (option_map dual) mv.3))
 
-  no_meeting : u ≡ t → ⊥
-  no_meeting f =
-      let g : Some (request.Get (other x)) ≡ Some (request.Put x e.event) = sym rq ∙ ap (λ z. machine.request m.families z.state) f ∙ rp in
-      absurd (cc g)
-
-  apart : (b : Bool) → same_path p q ≡ b → b ≡ false
-  apart false f = refl
-  apart true f = absurd (no_meeting (some_same (sym eq ∙ ap c.tasks (sym (same_path-same p q f)) ∙ ep)))
-
-  apart_too : (b : Bool) → same_path q p ≡ b → b ≡ false
-  apart_too false f = refl
-  apart_too true f = absurd (no_meeting (some_same (sym eq ∙ ap c.tasks (same_path-same q p f) ∙ ep)))
+  apart : p ≡ q → ⊥
+  apart = asks_apart (program_in m) c p q t u x y e.event (ep, rp) (eq, rq)
 
   x_owned : (held_state x t.state ≡ 1) × ((o : Path) → same_path p o ≡ false → amount x (c.tasks o) ≡ 0)
-  x_owned = owner m a c x p t hs x_unspent ep (λ z. let f = put_reached.1 x x_unspent in let o = own_once x in omega (arith, z, f, o))
+  x_owned = owner c x p t (hs.owned x x_unspent) ep (λ z. let f = put_reached.1 x x_unspent in let o = own_once x in omega (arith, z, f, o))
 
   y_in : held_pause y (pause m.families u.state) ≡ 0 → ⊥
   y_in = get_pause (λ z. held_pause y z ≡ 0 → ⊥) (pause m.families u.state) y rq
@@ -156,13 +148,13 @@ module _ (m : Surroundings) (well : IsWellTyped m) (a : Tree) (c : Config) (p q 
       (λ bs env fs f. let o = own_once y in omega (arith, f, o))
 
   y_owned : (held_state y u.state ≡ 1) × ((o : Path) → same_path q o ≡ false → amount y (c.tasks o) ≡ 0)
-  y_owned = owner m a c y q u hs y_unspent eq (λ z. y_in (get_reached.1 y y_unspent ∙ z))
+  y_owned = owner c y q u (hs.owned y y_unspent) eq (λ z. y_in (get_reached.1 y y_unspent ∙ z))
 
   x_at_q : held_state x u.state ≡ 0
-  x_at_q = sym (ap (λ o. amount x o) eq) ∙ x_owned.1 q (apart (same_path p q) refl)
+  x_at_q = sym (ap (λ o. amount x o) eq) ∙ x_owned.1 q (same_path-apart p q apart)
 
   y_at_p : held_state y t.state ≡ 0
-  y_at_p = sym (ap (λ o. amount y o) ep) ∙ y_owned.1 p (apart_too (same_path q p) refl)
+  y_at_p = sym (ap (λ o. amount y o) ep) ∙ y_owned.1 p (same_path-apart q p (λ f. apart (sym f)))
 
   is_given : s ≡ giving (value.end x) fs
   is_given = sym (some_same (sym (ap (λ z. after (program_in m) z Sent) is_puts) ∙ ap'))
@@ -194,7 +186,7 @@ module _ (m : Surroundings) (well : IsWellTyped m) (a : Tree) (c : Config) (p q 
       go (inr (inr f)) = (h.0, sym f ∙ h.1, h.2)
 
   at_q : (with_task grown p t').tasks q ≡ Some u
-  at_q = ap (λ b. put b t' (c.tasks q)) (apart (same_path p q) refl) ∙ eq
+  at_q = stays_apart grown p q t' apart ∙ eq
 
   same_amounts : (z : EndName) (o : Path) → IsUnspent r' z → amount z (d.tasks o) ≡ amount z (c.tasks o)
   same_amounts z o h =
@@ -210,10 +202,8 @@ module _ (m : Surroundings) (well : IsWellTyped m) (a : Tree) (c : Config) (p q 
         h.2,
       )
 
-  new_makers : HasMakers grown
-  new_makers h j i = in_put (same_channel x.channel h) (extended k e) j (c.channels h)
-      (λ f g. subst (λ h. (t : Task) × (c.tasks h.maker ≡ Some t) × (0 < h.count) × (h.count ≤ t.made)) (same_channel-same x.channel h f) (hs.makers x.channel k ek))
-      (λ f g. hs.makers h j g) i
+  names : HasMakers d × HasParents d
+  names = named_meet c p q t u s v n x.channel k (extended k e) hs.makers hs.parents ep eq apart ek
 
   -- the configuration after a meeting is sound
   pub met : IsSound m a d
@@ -229,8 +219,8 @@ module _ (m : Surroundings) (well : IsWellTyped m) (a : Tree) (c : Config) (p q 
     traces = λ h j i. in_put (same_channel x.channel h) (extended k e) j (c.channels h)
         (λ f g. subst IsTrace g new_trace)
         (λ f g. hs.traces h j g) i;
-    makers = makers_with (with_task grown p t') q u u' (makers_with grown p t t' new_makers ep (omega arith, omega arith)) at_q (omega arith, omega arith);
-    parents = parents_with (with_task grown p t') q u u' (parents_with grown p t t' hs.parents ep (omega arith, omega arith)) at_q (omega arith, omega arith);
+    makers = names.0;
+    parents = names.1;
   }
 
 -- a configuration stays sound where two tasks meet
@@ -238,14 +228,9 @@ pub meet_sound : (m : Surroundings) (well : IsWellTyped m) (a : Tree) (c : Confi
     IsSound m a c → Does (program_in m) m.types c (Meet p q h) w → IsSound m a (written c w)
 meet_sound m well a c p q h w sound d =
     let n = meeting_stamp d.0 d.1 d.6 in
-    let entry : Entry = record { event = d.3; stamp = n; sent = d.0.clock; got = d.1.clock } in
-    let done = met m well a c p q d.0 d.1 d.2 entry d.4 d.5 d.6 n sound d.7.0 d.8.0 d.7.1 d.8.1 d.11 d.12 (ap c.channels d.9 ∙ d.10) in
-    let sender : Task = record d.0 { state = d.4; clock = n } in
-    let receiver : Task = record d.1 { state = d.5; clock = n } in
-    let is : with_task (with_task (with_channel c d.2.channel (extended d.6 entry)) p sender) q receiver ≡ written c w =
-    ap (λ g. with_task (with_task (with_channel c g (extended d.6 entry)) p sender) q receiver) d.9
-    ∙ sym (ap (written c) d.13 ∙ (λ i. record {
-      tasks = λ o. put_two (same_path q o) (same_path p o) receiver sender (c.tasks o) i;
-      channels = λ g. put_one (same_channel h g) (extended d.6 entry) (c.channels g) i;
-    })) in
-    subst (IsSound m a) is done
+    let entry = passed d.3 d.0 d.1 d.6 in
+    let is : with_task (with_task (with_channel c d.2.channel (extended d.6 entry)) p (has_met d.0 d.4 n)) q (has_met d.1 d.5 n) ≡ written c w =
+    ap (λ g. with_task (with_task (with_channel c g (extended d.6 entry)) p (has_met d.0 d.4 n)) q (has_met d.1 d.5 n)) d.9
+    ∙ sym (meet_puts (program_in m) m.types c p q h w d) in
+    subst (IsSound m a) is
+    (met m well a c p q d.0 d.1 d.2 entry d.4 d.5 d.6 n sound d.7.0 d.8.0 d.7.1 d.8.1 d.11 d.12 (ap c.channels d.9 ∙ d.10))

@@ -20,18 +20,19 @@ use Rattle.fst_machine.specs.Values.{Value, Environment, received}
 use Rattle.fst_machine.specs.Machine.{Program, State, Frame, puts, gets, matches, giving, after, arm_state, or_lost}
 use Rattle.fst_runs.specs.Histories.{sending, receiving}
 use Rattle.fst_runs.specs.Configs.{other}
-use Rattle.fst_runs.specs.Wrong.{held, held_env, held_frames}
+use Rattle.fst_runs.specs.Wrong.{held, held_env, held_frames, held_pause}
+use Rattle.fst_runs.proofs.EventLaws.{dual_receives, one_message, one_offer}
 use Rattle.fst_safety.specs.Running.{Equals}
 use Rattle.fst_safety.specs.Fitting.{Residuals, Fits}
 use Rattle.fst_safety.specs.WellTyped.{IsWellTyped}
-use Rattle.fst_safety.specs.Pauses.{Allowed, held_pause, Goes}
+use Rattle.fst_safety.specs.Pauses.{Allowed, Goes}
 use Rattle.fst_safety.proofs.Equals.{equals_itself, equals_back, equals_through, equals_session, equals_steps, session_formed, session_step}
-use Rattle.fst_safety.proofs.EventLaws.{dual_receives, one_message, one_offer, offering_moves}
 use Rattle.fst_safety.proofs.Answers.{giving_goes, match_goes}
 use Rattle.fst_safety.proofs.Shapes.{plain_formed}
 use Rattle.fst_safety.proofs.SoundLaws.{end_moves}
 use Rattle.fst_safety.proofs.StillLaws.{Still, less, takes_still, env_still}
 use Rattle.fst_safety.proofs.Typed.{some_same}
+use Rattle.fst_safety.proofs.Offers.{offering_moves}
 
 -- what an event does to the residuals of the two ends: that of x moves from now to next, that of the other end from dual to dual
 pub record Meeting (r s : Residuals) (x : EndName) (ev : Event) : Type 0 where

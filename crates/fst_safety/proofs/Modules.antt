@@ -1,7 +1,8 @@
 -- No run of a module that has derivations goes wrong.
-use Rattle.std.proofs.Common.{◌≡◌, ℕ, zero, suc, List, [], ◌∷◌, Bool, true, false, Some, refl, sym, subst, codes}
+use Rattle.std.proofs.Common.{◌≡◌, ℕ, zero, suc, List, [], ◌∷◌, Bool, true, false, Some, refl, sym, ap, ◌∙◌, subst, codes}
 use Rattle.std.specs.Prelude.{slice_get, if◌then◌else◌}
 use Rattle.std.specs.Str.{bytes_eq}
+use Rattle.fst_types.specs.Tree as type
 use Rattle.fst_types.specs.Tree.{Tree}
 use Rattle.fst_types.specs.Instance.{instantiated}
 use Rattle.fst_kinds.specs.WellFormed.{IsInstantiation}
@@ -10,11 +11,15 @@ use Rattle.fst_terms.specs.declared.core_module.Module.{Module}
 use Rattle.fst_terms.specs.declared.global.GlobalEntry.{GlobalEntry}
 use Rattle.fst_derivations.specs.Deriv.{Deriv}
 use Rattle.fst_derivations.specs.Modules.{HasDerivations, HasMain, IsMain, IsPrintable, base_types, data_types, pairs, surroundings}
-use Rattle.fst_runs.specs.Configs.{main_body}
+use Rattle.fst_machine.specs.Values.{Value}
+use Rattle.fst_runs.specs.Configs.{main_body, residual_in}
 use Rattle.fst_safety.specs.Running.{HasType}
-use Rattle.fst_safety.specs.Safety.{DerivedIsSafe}
+use Rattle.fst_safety.specs.Fitting.{Residuals, Fits}
+use Rattle.fst_safety.specs.WellTyped.{IsWellTyped}
+use Rattle.fst_safety.specs.Safety.{main_type, HasMainType, DerivedIsSafe}
 use Rattle.fst_safety.proofs.Checked.{checked}
 use Rattle.fst_safety.proofs.Runs.{never_wrong, result}
+use Rattle.fst_safety.proofs.Shown.{result_of, of_shown}
 use Rattle.fst_safety.proofs.Typed.{some_same, none_some}
 
 -- the global named main, which has this body
@@ -23,6 +28,7 @@ record HasMainAt (types : List Tree) (gs : List GlobalEntry) (e : CoreTree) : Ty
   entry : GlobalEntry
   there : slice_get gs number ≡ Some entry
   body : entry.body ≡ e
+  declared : main_type types gs ≡ slice_get types entry.signature
   main : IsMain types entry
 
 main_at : (types : List Tree) (gs : List GlobalEntry) (e : CoreTree) → HasMain types gs → main_body gs ≡ Some e → HasMainAt types gs e
@@ -30,34 +36,59 @@ main_at types [] e h q = absurd (none_some q)
 main_at types (g ∷ gs) e h q = pick (main_at types gs e h.1) (bytes_eq g.name (codes "main")) refl q
   where
     pick : (main_body gs ≡ Some e → HasMainAt types gs e) → (b : Bool) → bytes_eq g.name (codes "main") ≡ b → (if b then Some g.body else main_body gs) ≡ Some e → HasMainAt types (g ∷ gs) e
-    pick later true i q = record { number = zero; entry = g; there = refl; body = some_same q; main = h.0 i }
+    pick later true i q = record {
+      number = zero;
+      entry = g;
+      there = refl;
+      body = some_same q;
+      declared = ap (λ b. if b then slice_get types g.signature else main_type types gs) i;
+      main = h.0 i;
+    }
     pick later false i q =
         let k = later q in
-        record { number = suc k.number; entry = k.entry; there = k.there; body = k.body; main = k.main }
+        record {
+          number = suc k.number;
+          entry = k.entry;
+          there = k.there;
+          body = k.body;
+          declared = ap (λ b. if b then slice_get types g.signature else main_type types gs) i ∙ k.declared;
+          main = k.main;
+        }
 
--- an instance of a type whose values can be printed is such a type
-printable_in : (args : List Tree) (t : Tree) → IsPrintable t → IsPrintable (instantiated args t)
-printable_in args t (base_types {b}) = base_types
-printable_in args t (data_types {n}) = data_types
-printable_in args t (pairs {s} {t = r} p q) = pairs (printable_in args s p) (printable_in args r q)
+-- an instance of a type whose values can be printed is that type
+printable_instance : (args : List Tree) (t : Tree) → IsPrintable t → instantiated args t ≡ t
+printable_instance args t (base_types {b}) = refl
+printable_instance args t (data_types {n}) = refl
+printable_instance args t (pairs {s} {t = r} p q) = λ i. type.pair (printable_instance args s p i) (printable_instance args r q i)
 
--- main's body has a type whose values can be printed
-pub record HasMainType (m : Module) (e : CoreTree) : Type 0 where
+-- main's body has its declared type, whose values can be printed
+pub record IsMainTyped (m : Module) (e : CoreTree) : Type 0 where
   pub type : Tree
+  pub declared : main_type m.types.items m.globals.items ≡ Some type
   pub typed : HasType (surroundings m []) [] e type
   pub printable : IsPrintable type
 
--- main's body has such a type where the module has derivations
-pub main_typed : (m : Module) (ds : List Deriv) → HasDerivations m ds → (e : CoreTree) → main_body m.globals.items ≡ Some e → HasMainType m e
+-- so it is where the module has derivations
+pub main_typed : (m : Module) (ds : List Deriv) → HasDerivations m ds → (e : CoreTree) → main_body m.globals.items ≡ Some e → IsMainTyped m e
 main_typed m ds h e q =
     let k = main_at m.types.items m.globals.items e h.main q in
     let t = k.main.1.0 in
+    let closing = subst (λ vars. IsInstantiation [] vars []) (sym k.main.0) tt in
     record {
-      type = instantiated [] t;
-      typed = subst (λ b. HasType (surroundings m []) [] b (instantiated [] t)) k.body
-          ((checked m ds h).bodies_typed k.number k.entry t [] k.there k.main.1.1 (subst (λ vars. IsInstantiation [] vars []) (sym k.main.0) tt));
-      printable = printable_in [] t k.main.1.2;
+      type = t;
+      declared = k.declared ∙ k.main.1.1;
+      typed = subst (λ b. HasType (surroundings m []) [] b t) k.body
+          (subst (HasType (surroundings m []) [] k.entry.body) (printable_instance [] t k.main.1.2)
+          ((checked m ds h).bodies_typed k.number k.entry t [] k.there k.main.1.1 closing));
+      printable = k.main.1.2;
     }
+
+-- a value that fits main's declared type is one of it
+main_value : (m : Module) → IsWellTyped (surroundings m []) → (r : Residuals) (v : Value) (e : CoreTree) (k : IsMainTyped m e) →
+    Fits (surroundings m []) r v k.type → HasMainType m v
+main_value m w r v e k f =
+    let o = result_of m w r v k.type k.printable f in
+    record { type = k.type; declared = k.declared; typed = o; shown = of_shown m v k.type o }
 
 -- a module that has derivations is safe
 pub modules_safe : DerivedIsSafe
@@ -67,5 +98,5 @@ modules_safe m ds h = record {
       never_wrong (surroundings m []) (checked m ds h) k.type e k.typed es c r;
   result = λ e q es c r t v i f.
       let k = main_typed m ds h e q in
-      result (surroundings m []) (checked m ds h) k.type e k.typed k.printable es c r t v i f;
+      main_value m (checked m ds h) (residual_in c) v e k (result (surroundings m []) (checked m ds h) k.type e k.typed k.printable es c r t v i f);
 }

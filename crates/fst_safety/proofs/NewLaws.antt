@@ -1,5 +1,5 @@
 -- A configuration stays sound where a task makes a channel.
-use Rattle.std.proofs.Common.{◌≡◌, ◌∙◌, ℕ, suc, ◌<◌, ◌≤◌, ◌+◌, List, [], Bool, true, false, Option, Some, None, refl, sym, ap, subst, arith}
+use Rattle.std.proofs.Common.{◌≡◌, ◌∙◌, ℕ, suc, ◌+◌, List, [], Bool, true, false, Option, Some, None, refl, sym, ap, subst, arith}
 use Rattle.std.specs.Prelude.{option_and_then, slice_get}
 use Rattle.fst_types.specs.Tree as type
 use Rattle.fst_types.specs.Tree.{Tree}
@@ -12,32 +12,31 @@ use Rattle.fst_value.specs.declared.ends.ChannelName.{ChannelName}
 use Rattle.fst_value.specs.declared.ends.EndName.{EndName}
 use Rattle.fst_machine.specs.declared.request.Request.TheVariants as request
 use Rattle.fst_machine.specs.declared.request.Answer.TheVariants.{Made}
-use Rattle.fst_machine.specs.Machine.{State, Frame, Pause, makes, giving, ends, pause, after, answered}
+use Rattle.fst_machine.specs.Machine.{State, Frame, makes, giving, ends, pause, after, answered}
 use Rattle.fst_machine.specs.Machine as machine
 use Rattle.fst_runs.specs.declared.event.CoreEvent.TheVariants.{New}
 use Rattle.fst_runs.specs.Histories.{side_type}
 use Rattle.fst_runs.specs.Configs.{Path, Task, Channel, Config, same_path, same_channel, residual_in, channel_residual, channel_name}
 use Rattle.fst_runs.specs.Events.{Write, written, Does}
-use Rattle.fst_runs.specs.Wrong.{held, held_frames, held_state, amount, IsUnspent}
+use Rattle.fst_runs.specs.Wrong.{held, held_frames, held_state, amount, IsUnspent, IsOwned}
+use Rattle.fst_runs.proofs.Asked.{new_pause}
+use Rattle.fst_runs.proofs.NameLaws.{same_path-itself, same_path-same, same_channel-itself, same_channel-same}
+use Rattle.fst_runs.proofs.Naming.{new_free, named_new}
+use Rattle.fst_runs.proofs.Owners.{own_once}
+use Rattle.fst_runs.proofs.Updates.{put, with_task, with_channel, in_put, has_made, same_amount, new_puts}
 use Rattle.fst_safety.specs.Running.{Equals}
 use Rattle.fst_safety.specs.Fitting.{Residuals, Fits, IsTyped}
 use Rattle.fst_safety.specs.WellTyped.{IsWellTyped, program_in}
 use Rattle.fst_safety.specs.Pauses.{Reached, Goes}
-use Rattle.fst_safety.specs.Sound.{IsSound, IsOwned, IsTrace}
+use Rattle.fst_safety.specs.Sound.{IsSound, IsTrace}
 use Rattle.fst_safety.proofs.Answers.{giving_goes}
 use Rattle.fst_safety.proofs.Settles.{pause_goes}
-use Rattle.fst_safety.proofs.Asked.{new_pause}
 use Rattle.fst_safety.proofs.DualSessions.{dual_session}
 use Rattle.fst_safety.proofs.Equals.{equals_itself, session_formed}
-use Rattle.fst_safety.proofs.NameLaws.{same_path-itself, same_path-same, same_channel-itself, same_channel-same}
 use Rattle.fst_safety.proofs.Owners.{held_apart}
-use Rattle.fst_safety.proofs.StillLaws.{Still, own_once, takes_still, typed_still}
+use Rattle.fst_safety.proofs.StillLaws.{Still, takes_still, typed_still}
 use Rattle.fst_safety.proofs.Typed.{some_same, none_some}
 use Rattle.fst_safety.proofs.Unknown.{unknown_frames, unknown_state}
-use Rattle.fst_safety.proofs.Updates.{put, put_one, with_task, with_channel, in_put, same_amount, makers_with, parents_with}
-
-not_less : (n : ℕ) → suc n ≤ n → ⊥
-not_less n h = omega (arith, h)
 
 -- all that is about a new channel; n is the task's clock after it
 module _ (m : Surroundings) (well : IsWellTyped m) (a : Tree) (c : Config) (p : Path) (t : Task) (s : State) (i : ℕ) (k : Tree) (n : ℕ)
@@ -53,7 +52,7 @@ module _ (m : Surroundings) (well : IsWellTyped m) (a : Tree) (c : Config) (p : 
   channel = record { declared = k; history = [] }
 
   abbrev t' : Task
-  t' = record { state = s; made = suc t.made; forked = t.forked; clock = n }
+  t' = has_made t s n
 
   abbrev d : Config
   d = with_task (with_channel c h channel) p t'
@@ -70,14 +69,8 @@ module _ (m : Surroundings) (well : IsWellTyped m) (a : Tree) (c : Config) (p : 
   is_makes : pause m.families t.state ≡ makes i fs
   is_makes = (new_pause (pause m.families t.state) i rp).1
 
-  fresh : (o : Option Channel) → c.channels h ≡ o → o ≡ None
-  fresh None e = refl
-  fresh (Some j) e =
-      let f = hs.makers h j e in
-      absurd (not_less t.made (subst (λ w. suc t.made ≤ w.made) (some_same (sym f.1 ∙ ep)) f.3))
-
   no_channel_there : c.channels h ≡ None
-  no_channel_there = fresh (c.channels h) refl
+  no_channel_there = new_free c p t hs.makers ep
 
   no_residual : (b : Side) → r (end_at b) ≡ None
   no_residual b = ap (option_and_then (channel_residual b)) no_channel_there
@@ -189,23 +182,13 @@ module _ (m : Surroundings) (well : IsWellTyped m) (a : Tree) (c : Config) (p : 
     traces = λ g j e. in_put (same_channel h g) channel j (c.channels g)
         (λ f q. subst IsTrace q (k, session_new, session_new, refl, refl))
         (λ f q. hs.traces g j q) e;
-    makers = λ g j e. in_put (same_channel h g) channel j (c.channels g)
-        (λ f q. subst (λ g. (w : Task) × (d.tasks g.maker ≡ Some w) × (0 < g.count) × (g.count ≤ w.made)) (same_channel-same h g f)
-        (t', ap (λ b. put b t' (c.tasks p)) (same_path-itself p), omega arith, omega arith))
-        (λ f q. makers_with c p t t' hs.makers ep (omega arith, omega arith) g j q) e;
-    parents = parents_with c p t t' hs.parents ep (omega arith, omega arith);
+    makers = (named_new c p t s n channel hs.makers hs.parents ep).0;
+    parents = (named_new c p t s n channel hs.makers hs.parents ep).1;
   }
 
 -- a configuration stays sound where a task makes a channel
 pub new_sound : (m : Surroundings) (well : IsWellTyped m) (a : Tree) (c : Config) (p : Path) (w : Write) →
     IsSound m a c → Does (program_in m) m.types c (New p) w → IsSound m a (written c w)
 new_sound m well a c p w h d =
-    let made = made_new m well a c p d.0 d.1 d.2 d.3 (suc d.0.clock) h d.4.0 d.4.1 d.5 d.6 in
-    let task : Task = record { state = d.1; made = suc d.0.made; forked = d.0.forked; clock = suc d.0.clock } in
-    let channel : Channel = record { declared = d.3; history = [] } in
-    let is : with_task (with_channel c (channel_name p d.0.made) channel) p task ≡ written c w =
-    sym (ap (written c) d.7 ∙ (λ i. record {
-      tasks = λ o. put_one (same_path p o) task (c.tasks o) i;
-      channels = λ g. put_one (same_channel (channel_name p d.0.made) g) channel (c.channels g) i;
-    })) in
-    subst (IsSound m a) is made
+    subst (IsSound m a) (sym (new_puts (program_in m) m.types c p w d))
+    (made_new m well a c p d.0 d.1 d.2 d.3 (suc d.0.clock) h d.4.0 d.4.1 d.5 d.6)

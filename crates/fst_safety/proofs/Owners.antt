@@ -1,16 +1,13 @@
--- Which ends there are of a channel, and which task holds an end.
-use Rattle.std.proofs.Common.{◌≡◌, ◌∙◌, ◌⊎◌, inl, inr, Bool, true, false, Some, refl, sym, ap}
-use Rattle.fst_types.specs.Tree.{Tree}
+-- Which ends there are of a channel, and which stand in an end.
+use Rattle.std.proofs.Common.{◌≡◌, ◌⊎◌, inl, inr, Bool, true, false, refl}
 use Rattle.fst_types.specs.declared.side.Side.{Side}
 use Rattle.fst_types.specs.declared.side.Side.TheVariants.{Left, Right}
-use Rattle.fst_derivations.specs.Rules.{Surroundings}
 use Rattle.fst_value.specs.declared.ends.EndName.{EndName}
 use Rattle.fst_machine.specs.Values as value
 use Rattle.fst_runs.specs.Histories.{opposite}
-use Rattle.fst_runs.specs.Configs.{Path, Task, Config, same_path, same_side, same_end, other, residual_in}
-use Rattle.fst_runs.specs.Wrong.{once, held, held_state, amount, IsUnspent}
-use Rattle.fst_safety.specs.Sound.{IsSound, IsOwned}
-use Rattle.fst_safety.proofs.NameLaws.{same_path-same, same_side-same, same_end-same}
+use Rattle.fst_runs.specs.Configs.{same_side, same_end, other}
+use Rattle.fst_runs.specs.Wrong.{once, held}
+use Rattle.fst_runs.proofs.NameLaws.{same_side-same, same_end-same}
 
 -- an end of the channel is the end or the other one
 pub or_other : (z x : EndName) → z.channel ≡ x.channel → (z ≡ x) ⊎ (z ≡ other x)
@@ -33,17 +30,3 @@ held_apart z y n = go (same_end z y) refl
     go : (b : Bool) → same_end z y ≡ b → once b ≡ 0
     go true e = absurd (n (same_end-same z y e))
     go false e = refl
-
--- the task that holds an unspent end holds it once, and no other does
-pub owner : (m : Surroundings) (a : Tree) (c : Config) (x : EndName) (p : Path) (t : Task) → IsSound m a c → IsUnspent (residual_in c) x → c.tasks p ≡ Some t →
-    (held_state x t.state ≡ 0 → ⊥) → (held_state x t.state ≡ 1) × ((q : Path) → same_path p q ≡ false → amount x (c.tasks q) ≡ 0)
-owner m a c x p t h u e n = go (h.owned x u)
-  where
-    go : IsOwned c x → (held_state x t.state ≡ 1) × ((q : Path) → same_path p q ≡ false → amount x (c.tasks q) ≡ 0)
-    go o = pick (same_path o.0 p) refl
-      where
-        pick : (b : Bool) → same_path o.0 p ≡ b → (held_state x t.state ≡ 1) × ((q : Path) → same_path p q ≡ false → amount x (c.tasks q) ≡ 0)
-        pick true s =
-            let q : o.0 ≡ p = same_path-same o.0 p s in
-            (sym (ap (λ z. amount x z) (ap c.tasks q ∙ e)) ∙ o.1, λ z f. o.2 z (ap (λ y. same_path y z) q ∙ f))
-        pick false s = absurd (n (sym (ap (λ z. amount x z) e) ∙ o.2 p s))

@@ -1,5 +1,5 @@
 -- Where events write: two different ones never write one task or one channel.
-use Rattle.std.proofs.Common.{◌≡◌, ◌∙◌, ◌⊎◌, inl, inr, ℕ, suc, ◌≤◌, ◌<◌, List, Bool, true, false, Option, Some, None, refl, sym, ap, subst, arith}
+use Rattle.std.proofs.Common.{◌≡◌, ◌∙◌, ◌⊎◌, inl, inr, List, Bool, true, false, Option, Some, None, refl, sym, ap, subst}
 use Rattle.std.specs.Prelude.{if◌then◌else◌}
 use Rattle.fst_types.specs.Tree.{Tree}
 use Rattle.fst_value.specs.declared.ends.ChannelName.{ChannelName}
@@ -12,11 +12,12 @@ use Rattle.fst_runs.specs.declared.event.CoreEvent.TheVariants.{Local, New, Fork
 use Rattle.fst_runs.specs.Histories.{over}
 use Rattle.fst_runs.specs.Configs.{Path, Task, Channel, Config, same_path, same_channel, other, child_path, channel_name}
 use Rattle.fst_runs.specs.Events.{Write, task_at, channel_at, Asks, Does}
-use Rattle.fst_safety.proofs.Askers.{IsRegular, same_asks, one_holder, Asker, same_asker}
-use Rattle.fst_safety.proofs.ForkLaws.{one_parent}
-use Rattle.fst_safety.proofs.NameLaws.{same_path-same, same_channel-same}
+use Rattle.fst_runs.proofs.Laws.{right_one}
+use Rattle.fst_runs.proofs.NameLaws.{same_path-same, same_channel-same}
+use Rattle.fst_runs.proofs.Naming.{one_parent, new_free, fork_free}
+use Rattle.fst_safety.proofs.Askers.{IsRegular, same_asks, Asker, same_asker}
 use Rattle.fst_safety.proofs.Owners.{or_other}
-use Rattle.fst_safety.proofs.Typed.{some_same}
+use Rattle.fst_safety.proofs.Typed.{none_some}
 
 -- what a test writes is nothing where it fails
 test_none : {X : Type 0} (b : Bool) (x : X) (P : Type 0) → (b ≡ true → P) → ((if b then Some x else None) ≡ None) ⊎ P
@@ -33,12 +34,6 @@ either_written : (a b : Option Task) (P : Type 0) → (a ≡ None) ⊎ P → (b 
 either_written a b P (inr f) g = inr f
 either_written a b P (inl f) (inr g) = inr g
 either_written a b P (inl f) (inl g) = inl (ap (λ z. over z b) f ∙ g)
-
-not_less : (n : ℕ) → n < n → ⊥
-not_less n h = omega (arith, h)
-
-not_more : (n : ℕ) → suc n ≤ n → ⊥
-not_more n h = omega (arith, h)
 
 module _ (m : Program) (types : List Tree) (c : Config) (hs : IsRegular m c) where
   -- the path is that of the task that the event makes
@@ -87,15 +82,11 @@ module _ (m : Program) (types : List Tree) (c : Config) (hs : IsRegular m c) whe
 
   -- no task is there before it is made
   no_child : (e : CoreEvent) (o : Path) (t : Task) → Child e o → c.tasks o ≡ Some t → ⊥
-  no_child e o t f g =
-      let z = hs.parents f.0 f.1.forked t (ap c.tasks f.4 ∙ g) in
-      not_less f.1.forked (subst (λ w. f.1.forked < w.forked) (some_same (sym z.1 ∙ f.3)) z.2)
+  no_child e o t f g = none_some (sym (fork_free c f.0 f.1 hs.parents f.3) ∙ ap c.tasks f.4 ∙ g)
 
   -- no channel is there before it is made
   no_name : (e : CoreEvent) (h : ChannelName) (k : Channel) → Named e h → c.channels h ≡ Some k → ⊥
-  no_name e h k f g =
-      let z = hs.makers (channel_name f.0 f.1.made) k (ap c.channels f.4 ∙ g) in
-      not_more f.1.made (subst (λ w. suc f.1.made ≤ w.made) (some_same (sym z.1 ∙ f.3)) z.3)
+  no_name e h k f g = none_some (sym (new_free c f.0 f.1 hs.makers f.3) ∙ ap c.channels f.4 ∙ g)
 
   -- two different events write no task in common
   pub apart_tasks : (a b : CoreEvent) (v w : Write) → Does m types c a v → Does m types c b w → (a ≡ b → ⊥) → (o : Path) → (v.tasks o ≡ None) ⊎ (w.tasks o ≡ None)
@@ -115,11 +106,11 @@ module _ (m : Program) (types : List Tree) (c : Config) (hs : IsRegular m c) whe
     where
       go : (f.4 ≡ g.4) ⊎ (f.4 ≡ other g.4) → a ≡ b
       go (inl e) =
-          let first = one_holder m c hs f.0 g.0 f.2 g.2 (request.Put f.4 f.5) (request.Put g.4 g.5) f.4 f.8 g.8 refl (sym e) in
-          let second = one_holder m c hs f.1 g.1 f.3 g.3 (request.Get (other f.4)) (request.Get (other g.4)) (other f.4) f.9 g.9 refl (ap other (sym e)) in
+          let first = right_one m c hs.fine f.0 g.0 f.2 g.2 (request.Put f.4 f.5) (request.Put g.4 g.5) f.4 f.8 g.8 refl (ap Some (sym e)) in
+          let second = right_one m c hs.fine f.1 g.1 f.3 g.3 (request.Get (other f.4)) (request.Get (other g.4)) (other f.4) f.9 g.9 refl (ap (λ z. Some (other z)) (sym e)) in
           f.7 ∙ (λ i. Meet (first i) (second i) h) ∙ sym g.7
       go (inr e) =
-          let q : f.0 ≡ g.1 = one_holder m c hs f.0 g.1 f.2 g.3 (request.Put f.4 f.5) (request.Get (other g.4)) f.4 f.8 g.9 refl (sym e) in
+          let q : f.0 ≡ g.1 = right_one m c hs.fine f.0 g.1 f.2 g.3 (request.Put f.4 f.5) (request.Get (other g.4)) f.4 f.8 g.9 refl (ap Some (sym e)) in
           let z = (same_asks m c g.1 f.2 g.3 (request.Put f.4 f.5) (request.Get (other g.4)) (subst (λ z. Asks m c z f.2 (request.Put f.4 f.5)) q f.8) g.9).1 in
           absurd (cc z)
 

@@ -1,6 +1,5 @@
 -- All that a run leads to is sound.
-use Rattle.std.proofs.Common.{◌≡◌, ◌⊎◌, inl, inr, zero, List, [], ◌∷◌, Bool, true, false, Some, None, refl, sym, subst}
-use Rattle.std.specs.Prelude.{if◌then◌else◌}
+use Rattle.std.proofs.Common.{◌≡◌, ◌⊎◌, inl, inr, zero, List, [], ◌∷◌, Some, refl, sym, subst}
 use Rattle.fst_types.specs.Tree.{Tree, plain}
 use Rattle.fst_types.specs.declared.base.Base.TheVariants.{Unit as Nothing}
 use Rattle.fst_types.specs.declared.kind.Use.TheVariants.{Many}
@@ -13,27 +12,26 @@ use Rattle.fst_machine.specs.Values.{Value}
 use Rattle.fst_machine.specs.Machine.{pause, ended, begins}
 use Rattle.fst_runs.specs.declared.event.CoreEvent.{CoreEvent}
 use Rattle.fst_runs.specs.declared.event.CoreEvent.TheVariants.{Local, New, Fork, Meet}
-use Rattle.fst_runs.specs.Configs.{Task, Config, same_path, residual_in, child_path, main_path, new_task, started}
+use Rattle.fst_runs.specs.Configs.{Task, Config, same_path, residual_in, main_path, new_task, started}
 use Rattle.fst_runs.specs.Events.{Write, written, Does, Runs}
 use Rattle.fst_runs.specs.Wrong.{IsRight}
+use Rattle.fst_runs.proofs.Naming.{named_start}
+use Rattle.fst_runs.proofs.Updates.{in_test}
 use Rattle.fst_safety.specs.Running.{HasType}
 use Rattle.fst_safety.specs.Fitting.{Fits, IsTyped}
 use Rattle.fst_safety.specs.WellTyped.{IsWellTyped, program_in}
 use Rattle.fst_safety.specs.Pauses.{Allowed}
-use Rattle.fst_safety.specs.Safety.{IsShown}
 use Rattle.fst_safety.specs.Sound.{IsSound}
 use Rattle.fst_safety.proofs.Closed.{closed_by}
 use Rattle.fst_safety.proofs.Settles.{pause_goes}
-use Rattle.fst_safety.proofs.Shown.{result_shown}
 use Rattle.fst_safety.proofs.Equals.{equals_itself}
 use Rattle.fst_safety.proofs.Formed.{formed_or_any}
 use Rattle.fst_safety.proofs.Shapes.{plain_formed}
-use Rattle.fst_safety.proofs.ForkLaws.{fork_sound, no_parent}
+use Rattle.fst_safety.proofs.ForkLaws.{fork_sound}
 use Rattle.fst_safety.proofs.MeetLaws.{meet_sound}
-use Rattle.fst_safety.proofs.NameLaws.{same_path-same}
 use Rattle.fst_safety.proofs.NewLaws.{new_sound}
 use Rattle.fst_safety.proofs.SoundLaws.{sound_right, local_sound}
-use Rattle.fst_safety.proofs.Typed.{some_same, none_some}
+use Rattle.fst_safety.proofs.Typed.{none_some}
 
 -- a type whose values can be printed is well formed
 pub printable_formed : (t : Tree) → IsPrintable t → IsFormed [] t
@@ -64,10 +62,6 @@ module _ (m : Surroundings) (well : IsWellTyped m) (a : Tree) where
   runs_sound [] c d h r = subst (IsSound m a) (sym r) h
   runs_sound (e ∷ es) c d h r = runs_sound es (written c r.0) d (does_sound c e r.0 h r.1) r.2
 
-  in_test : {X P : Type 0} (b : Bool) (x y : X) → (b ≡ true → x ≡ y → P) → (if b then Some x else None) ≡ Some y → P
-  in_test true x y f e = f refl (some_same e)
-  in_test false x y f e = absurd (none_some e)
-
   -- the start of a typed term is sound
   pub started_sound : (e : CoreTree) → IsFormed [] a → HasType m [] e a → IsSound m a (started e)
   started_sound e f h = record {
@@ -75,9 +69,8 @@ module _ (m : Surroundings) (well : IsWellTyped m) (a : Tree) where
         (λ g q. (a, subst (λ z. IsTyped m (residual_in (started e)) z.state a) q first_typed, λ z. refl)) i;
     owned = λ x u. absurd (none_some u.1);
     traces = λ k t i. absurd (none_some i);
-    makers = λ k t i. absurd (none_some i);
-    parents = λ p k t i. in_test (same_path main_path (child_path p k)) (new_task (begins e []) zero) t
-        (λ g q. absurd (no_parent p k (sym (same_path-same main_path (child_path p k) g)))) i;
+    makers = (named_start e).0;
+    parents = (named_start e).1;
   }
     where
       first_typed : IsTyped m (residual_in (started e)) (begins e []) a
@@ -93,13 +86,13 @@ module _ (m : Surroundings) (well : IsWellTyped m) (a : Tree) where
   pub formed_never_wrong : (e : CoreTree) → IsFormed [] a → HasType m [] e a → (es : List CoreEvent) (c : Config) → Runs (program_in m) m.types (started e) es c → IsRight (program_in m) c
   formed_never_wrong e f h es c r = sound_right m well a c (runs_sound es (started e) c (started_sound e f h) r)
 
-  -- where main has ended, its value can be printed if those of its type can
+  -- where main has ended, its value fits its type if values of that can be printed
   pub result : (e : CoreTree) → HasType m [] e a → IsPrintable a → (es : List CoreEvent) (c : Config) → Runs (program_in m) m.types (started e) es c →
-      (t : Task) (v : Value) → c.tasks main_path ≡ Some t → pause m.families t.state ≡ ended v → IsShown v
+      (t : Task) (v : Value) → c.tasks main_path ≡ Some t → pause m.families t.state ≡ ended v → Fits m (residual_in c) v a
   result e h q es c r t v f g =
       let s = (runs_sound es (started e) c (started_sound e (printable_formed a q) h) r).tasks main_path t f in
       let k : Allowed m (residual_in c) (ended v) s.0 = subst (λ z. Allowed m (residual_in c) z s.0) g (pause_goes m well (residual_in c) t.state s.0 s.1).0 in
-      result_shown m well (residual_in c) v a q (subst (Fits m (residual_in c) v) (s.2 refl) k)
+      subst (Fits m (residual_in c) v) (s.2 refl) k
 
 -- nothing that a run of a typed term leads to is wrong
 pub never_wrong : (m : Surroundings) (well : IsWellTyped m) (a : Tree) (e : CoreTree) → HasType m [] e a → (es : List CoreEvent) (c : Config) →

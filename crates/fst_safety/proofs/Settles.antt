@@ -12,13 +12,14 @@ use Rattle.fst_machine.specs.Values as value
 use Rattle.fst_machine.specs.Values.{Value, Values, no_values, Environment, lookup, enter, keep, turned_onto, bool_in, operated, sent}
 use Rattle.fst_machine.specs.Machine.{State, Frame, at_function, at_argument, at_first, at_second, at_field, at_let, at_split, at_if, at_case, at_left, at_right, at_not, at_value, at_target, at_receive, at_select, at_match, at_seq, Pause, calls, puts, gets, matches, eval, eval_all, eval_arm, resume, pause, on, on_function, on_pair, on_made, on_end, chosen, name_of, in_either}
 use Rattle.fst_runs.specs.Wrong.{held, held_all, held_env, held_frames, held_state}
+use Rattle.fst_runs.proofs.HeldEnds.{held_turned}
 use Rattle.fst_safety.specs.Fitting.{Residuals, Fits, Exactly, Takes, IsTyped}
 use Rattle.fst_safety.specs.WellTyped.{IsWellTyped}
 use Rattle.fst_safety.specs.Pauses.{Reached}
 use Rattle.fst_safety.proofs.Exact.{is_itself}
 use Rattle.fst_safety.proofs.Typed.{fits_equal, fits_lookup}
 use Rattle.fst_safety.proofs.Held.{held_nothing, held_one}
-use Rattle.fst_safety.proofs.Lists.{fit_turned, held_turned}
+use Rattle.fst_safety.proofs.Lists.{fit_turned}
 use Rattle.fst_safety.proofs.Comes.{Comes, Good, GoodAll, GoodArms, counted, left, right, shared}
 use Rattle.fst_safety.proofs.Next.{next_argument, next_function, next_second, next_first, next_field, next_let, next_split, next_seq, next_right, next_left, next_not, next_target, next_value, next_receive, next_select, next_match}
 use Rattle.fst_safety.proofs.NextChoices.{next_if, no_arm, next_arm, next_case}

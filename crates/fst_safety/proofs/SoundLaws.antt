@@ -17,19 +17,20 @@ use Rattle.fst_runs.specs.declared.event.CoreEvent.TheVariants.{Local}
 use Rattle.fst_runs.specs.Histories.{sending}
 use Rattle.fst_runs.specs.Configs.{Path, Task, Config, same_path, residual_in, main_path}
 use Rattle.fst_runs.specs.Events.{Write, written, moved, Does}
-use Rattle.fst_runs.specs.Wrong.{held_state, IsUnspent, IsAllowed, IsRight}
+use Rattle.fst_runs.specs.Wrong.{held_state, held_pause, IsUnspent, IsAllowed, IsRight}
+use Rattle.fst_runs.proofs.NameLaws.{same_path-same}
+use Rattle.fst_runs.proofs.Naming.{Grows, makers_with, parents_with}
+use Rattle.fst_runs.proofs.Updates.{with_task, in_put, same_amount, local_puts}
 use Rattle.fst_safety.specs.Fitting.{Residuals, Fits, IsTyped}
 use Rattle.fst_safety.specs.WellTyped.{IsWellTyped, program_in}
-use Rattle.fst_safety.specs.Pauses.{Allowed, held_pause, Goes}
+use Rattle.fst_safety.specs.Pauses.{Allowed, Goes}
 use Rattle.fst_safety.specs.Sound.{IsSound}
 use Rattle.fst_safety.proofs.Answers.{call_goes, use_there, use_goes}
 use Rattle.fst_safety.proofs.Settles.{pause_goes}
 use Rattle.fst_safety.proofs.Equals.{equals_back, equals_session, equals_steps}
-use Rattle.fst_safety.proofs.EventLaws.{offering_moves}
-use Rattle.fst_safety.proofs.NameLaws.{same_path-same}
 use Rattle.fst_safety.proofs.Typed.{some_same, none_some}
-use Rattle.fst_safety.proofs.Updates.{with_task, put_one, in_put, same_amount, Grows, makers_with, parents_with}
 use Rattle.fst_safety.specs.Running.{Equals}
+use Rattle.fst_safety.proofs.Offers.{offering_moves}
 
 -- the residual of an end moves where a type moves at which the end stands, to an equal type
 pub end_moves : (m : Surroundings) (r : Residuals) (x : EndName) (s t : Tree) (a : Label) → Fits m r (value.end x) s → step s a ≡ Some t →
@@ -104,6 +105,5 @@ local_sound m well a c p w h d =
     let g = h.tasks p d.0 d.2.0 in
     let k = pause_goes m well (residual_in c) d.0.state g.0 g.1 in
     let n = steps_on m well (residual_in c) (pause m.families d.0.state) d.1 g.0 k.0 d.3 in
-    let is : with_task c p (moved d.0 d.1) ≡ written c w =
-    sym (ap (written c) d.4 ∙ (λ i. record { tasks = λ o. put_one (same_path p o) (moved d.0 d.1) (c.tasks o) i; channels = c.channels })) in
-    subst (IsSound m a) is (goes_on m a c p d.0 (moved d.0 d.1) g.0 h d.2.0 (omega arith, omega arith) n.0 g.2 (λ x u. n.1 x u ∙ k.1 x u))
+    subst (IsSound m a) (sym (local_puts (program_in m) m.types c p w d))
+    (goes_on m a c p d.0 (moved d.0 d.1) g.0 h d.2.0 (omega arith, omega arith) n.0 g.2 (λ x u. n.1 x u ∙ k.1 x u))

@@ -1,5 +1,5 @@
 -- Typing looks only at the residuals of ends that stand there.
-use Rattle.std.proofs.Common.{◌≡◌, ℕ, List, [], ◌∷◌, ◌+◌, Bool, Some, ap, arith}
+use Rattle.std.proofs.Common.{◌≡◌, ℕ, List, [], ◌∷◌, ◌+◌, Bool, Some, arith}
 use Rattle.fst_types.specs.Tree.{Tree}
 use Rattle.fst_terms.specs.CoreTree.{CoreList}
 use Rattle.fst_context.specs.Scope.{Variable}
@@ -8,15 +8,11 @@ use Rattle.fst_value.specs.declared.ends.EndName.{EndName}
 use Rattle.fst_machine.specs.Values as value
 use Rattle.fst_machine.specs.Values.{Value, Values, no_values, Environment, none, hole, slot}
 use Rattle.fst_machine.specs.Machine.{State, Frame, at_function, at_argument, at_first, at_second, at_field, at_let, at_split, at_if, at_case, at_left, at_right, at_not, at_value, at_target, at_receive, at_select, at_match, at_seq}
-use Rattle.fst_runs.specs.Wrong.{once, held, held_all, held_env, held_frame, held_frames, held_state}
+use Rattle.fst_runs.specs.Wrong.{held, held_all, held_env, held_frame, held_frames, held_state}
+use Rattle.fst_runs.proofs.Owners.{own_once}
 use Rattle.fst_safety.specs.Fitting.{Residuals, Fits, FitAll, FitsEnv, IsEnv, FitBefore, Takes, IsTyped}
-use Rattle.fst_safety.proofs.NameLaws.{same_end-itself}
 
--- an end stands once in itself
-pub own_once : (y : EndName) → held y (value.end y) ≡ 1
-own_once y = ap once (same_end-itself y)
-
--- so it stands in itself
+-- an end stands in itself
 pub own : (y : EndName) → held y (value.end y) ≡ 0 → ⊥
 own y q = let e = own_once y in omega (arith, q, e)
 

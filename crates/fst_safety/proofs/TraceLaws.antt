@@ -13,10 +13,10 @@ use Rattle.fst_value.specs.declared.event.Entry.{Entry}
 use Rattle.fst_runs.specs.Histories.{sending, after_event, after_history, side_type, opposite}
 use Rattle.fst_runs.specs.Configs.{Channel, channel_residual}
 use Rattle.fst_runs.specs.Events.{extended}
+use Rattle.fst_runs.proofs.EventLaws.{after_sent}
+use Rattle.fst_runs.proofs.HistoryLaws.{residual-opposite}
 use Rattle.fst_safety.specs.Sound.{IsTrace}
 use Rattle.fst_safety.proofs.DualSessions.{dual_session}
-use Rattle.fst_safety.proofs.EventLaws.{after_sent, after_received, dual_receives}
-use Rattle.fst_safety.proofs.Typed.{some_same}
 
 then_itself : (o : Option Tree) → option_and_then (λ y. residual after_event y []) o ≡ o
 then_itself None = refl
@@ -41,9 +41,8 @@ abbrev pub Sides : Side → Channel → Tree → Type 0
 Sides side k s = (channel_residual side k ≡ Some s) × (channel_residual (opposite side) k ≡ Some (dual s))
 
 -- from either side the other residual is the dual
-pub sides_from : (k : Channel) (side : Side) (u : Tree) → IsTrace k → channel_residual side k ≡ Some u → Sides side k u
-sides_from k Left u h e = (e, h.4 ∙ ap (λ z. Some (dual z)) (some_same (sym h.3 ∙ e)))
-sides_from k Right u h e = (e, h.3 ∙ ap Some (sym (dual-dual h.0) ∙ ap dual (some_same (sym h.4 ∙ e))))
+pub sides_from : (k : Channel) (side : Side) (u : Tree) → channel_residual side k ≡ Some u → Sides side k u
+sides_from k side u e = (e, residual-opposite side k ∙ ap (option_map dual) e)
 
 -- and so the channel is used as it says
 pub trace_from : (k : Channel) (side : Side) (u : Tree) → IsSession [] k.declared → IsSession [] u → Sides side k u → IsTrace k
@@ -52,7 +51,4 @@ trace_from k Right u d w h = (dual u, d, dual_session [] u w, h.1, h.0 ∙ ap So
 
 -- what one side sends takes both on
 pub sides_grow : (k : Channel) (side : Side) (e : Entry) (s t : Tree) → Sides side k s → step s (sending e.event) ≡ Some t → Sides side (extended k e) t
-sides_grow k side e s t h g = (
-  residual_extended side k e s h.0 ∙ after_sent s t e.event g,
-  residual_extended (opposite side) k e (dual s) h.1 ∙ after_received (dual s) (dual t) e.event (dual_receives s e.event ∙ ap (option_map dual) g),
-)
+sides_grow k side e s t h g = sides_from (extended k e) side t (residual_extended side k e s h.0 ∙ after_sent s t e.event g)

@@ -1,5 +1,5 @@
 -- What a task of a type may ask for where it stands still, and what it holds there.
-use Rattle.std.specs.Prelude.{◌≡◌, ℕ, ◌+◌, List, [], Some, slice_get}
+use Rattle.std.specs.Prelude.{◌≡◌, ℕ, List, [], Some, slice_get}
 use Rattle.fst_types.specs.Tree as type
 use Rattle.fst_types.specs.Tree.{Tree, plain, arrow}
 use Rattle.fst_types.specs.declared.base.Base.{Base}
@@ -19,7 +19,7 @@ use Rattle.fst_machine.specs.Free.{free, free_below}
 use Rattle.fst_machine.specs.Values as value
 use Rattle.fst_machine.specs.Machine.{State, Pause, stuck, calls, uses, makes, forks, puts, gets, matches, ended}
 use Rattle.fst_runs.specs.Histories.{sending}
-use Rattle.fst_runs.specs.Wrong.{IsUnspent, held, held_env, held_frames, held_state}
+use Rattle.fst_runs.specs.Wrong.{IsUnspent, held_state, held_pause}
 use Rattle.fst_safety.specs.Running.{Equals, IsUse, AreAlike, HasType, ArmsHaveType}
 use Rattle.fst_safety.specs.Fitting.{Residuals, Fits, IsEnv, Takes, IsTyped}
 
@@ -41,18 +41,6 @@ Allowed m r (matches x bs env fs) t =
     (s : Tree) × (names : List (List ℕ)) × (b : Tree) × (g : List Variable) × Fits m r (value.end x) s × IsOffering s names × AreEachOnce names (arm_labels bs) ×
     IsEnv m r g (free_below bs) env × ArmsHaveType m (rest s) g bs b × AreAlike g (free_below bs) bs × Takes m r fs b t
 Allowed m r (ended v) t = Fits m r v t
-
--- how often an end stands in all that the task holds
-abbrev pub held_pause : EndName → Pause → ℕ
-held_pause x stuck = 0
-held_pause x (calls e env v fs) = (held_env x env + held x v) + held_frames x fs
-held_pause x (uses g fs) = held_frames x fs
-held_pause x (makes k fs) = held_frames x fs
-held_pause x (forks e env fs) = held_env x env + held_frames x fs
-held_pause x (puts y ev fs) = held x (value.end y) + held_frames x fs
-held_pause x (gets y fs) = held x (value.end y) + held_frames x fs
-held_pause x (matches y bs env fs) = (held x (value.end y) + held_env x env) + held_frames x fs
-held_pause x (ended v) = held x v
 
 -- the pause is one of the type, and holds each unspent end so often
 abbrev pub Reached : Surroundings → Residuals → Pause → Tree → (EndName → ℕ) → Type 0

@@ -1,5 +1,5 @@
 -- What every configuration of a run keeps: its tasks have types, its channels are used as they say, and names are fresh.
-use Rattle.std.specs.Prelude.{◌≡◌, ℕ, ◌<◌, ◌≤◌, false, [], Some}
+use Rattle.std.specs.Prelude.{◌≡◌, [], Some}
 use Rattle.fst_types.specs.Tree.{Tree}
 use Rattle.fst_types.specs.declared.side.Side.TheVariants.{Left, Right}
 use Rattle.fst_kinds.specs.WellFormed.{IsSession}
@@ -7,25 +7,14 @@ use Rattle.fst_lts.specs.Dual.{dual}
 use Rattle.fst_derivations.specs.Rules.{Surroundings}
 use Rattle.fst_value.specs.declared.ends.ChannelName.{ChannelName}
 use Rattle.fst_value.specs.declared.ends.EndName.{EndName}
-use Rattle.fst_runs.specs.Configs.{Path, Task, Channel, Config, same_path, residual_in, channel_residual, child_path, main_path}
-use Rattle.fst_runs.specs.Wrong.{amount, IsUnspent}
+use Rattle.fst_runs.specs.Configs.{Path, Task, Channel, Config, residual_in, channel_residual, main_path}
+use Rattle.fst_runs.specs.Names.{HasMakers, HasParents}
+use Rattle.fst_runs.specs.Wrong.{IsUnspent, IsOwned}
 use Rattle.fst_safety.specs.Fitting.{IsTyped}
-
--- the task that made a channel is there, and has made as many
-abbrev pub HasMakers : Config → Type 0
-HasMakers c = (h : ChannelName) (k : Channel) → c.channels h ≡ Some k → (t : Task) × (c.tasks h.maker ≡ Some t) × (0 < h.count) × (h.count ≤ t.made)
-
--- the task that forked a task is there, and has forked more than those before it
-abbrev pub HasParents : Config → Type 0
-HasParents c = (p : Path) (k : ℕ) (t : Task) → c.tasks (child_path p k) ≡ Some t → (u : Task) × (c.tasks p ≡ Some u) × (k < u.forked)
 
 -- each side has gone on as the dual of the other
 abbrev pub IsTrace : Channel → Type 0
 IsTrace k = (s : Tree) × IsSession [] k.declared × IsSession [] s × (channel_residual Left k ≡ Some s) × (channel_residual Right k ≡ Some (dual s))
-
--- an end that isn't spent is held by one task, once
-abbrev pub IsOwned : Config → EndName → Type 0
-IsOwned c x = (p : Path) × (amount x (c.tasks p) ≡ 1) × ((q : Path) → same_path p q ≡ false → amount x (c.tasks q) ≡ 0)
 
 -- the configuration is sound, where a is the type of main
 pub record IsSound (m : Surroundings) (a : Tree) (c : Config) : Type 0 where

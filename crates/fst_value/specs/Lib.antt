@@ -1,1 +1,10 @@
 pub mod ValueTree
+pub mod Stacks
+pub mod Nodes
+pub mod Cells
+pub mod CellFacts
+pub mod CellCode
+pub mod Parts
+pub mod Texts
+pub mod Gains
+pub mod Pieces

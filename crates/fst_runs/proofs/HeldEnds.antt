@@ -14,9 +14,7 @@ use Rattle.fst_machine.specs.Free.{free, free_in, free_below, outside, outside_a
 use Rattle.fst_machine.specs.Values as value
 use Rattle.fst_machine.specs.Values.{Value, Values, no_values, Environment, none, hole, slot, lookup, enter, keep, count, enter_all, turned_onto, int_in, bool_in, both, either, compared, operated, sent}
 use Rattle.fst_machine.specs.Machine.{State, Frame, at_function, at_argument, at_first, at_second, at_field, at_let, at_split, at_if, at_case, at_left, at_right, at_not, at_value, at_target, at_receive, at_select, at_match, at_seq, Pause, calls, puts, gets, matches, eval, eval_all, eval_arm, resume, pause, on, on_function, on_pair, on_made, on_end, chosen, name_of, in_either}
-use Rattle.fst_runs.specs.Wrong.{held, held_all, held_env, held_frames, held_state}
-use Rattle.fst_safety.specs.Pauses.{held_pause}
-use Rattle.fst_safety.proofs.Lists.{held_turned}
+use Rattle.fst_runs.specs.Wrong.{held, held_all, held_env, held_frames, held_state, held_pause}
 
 left_zero : (a b : ℕ) → a + b ≡ 0 → a ≡ 0
 left_zero a b e = omega (arith, e)
@@ -26,6 +24,11 @@ right_zero a b e = omega (arith, e)
 
 zeros : (a b : ℕ) → a ≡ 0 → b ≡ 0 → a + b ≡ 0
 zeros a b e f = omega (arith, e, f)
+
+-- values turned round hold what they held
+pub held_turned : (x : EndName) (done ws : Values) → held_all x (turned_onto done ws) ≡ held_all x done + held_all x ws
+held_turned x no_values ws = omega arith
+held_turned x (value.value v vs) ws = let h = held_turned x vs (value.value v ws) in omega (arith, h)
 
 -- x stands nowhere in what the lemmas begin with
 module _ (m : List Family) (x : EndName) where

@@ -1,12 +1,12 @@
 -- The pauses that ask for something.
 use Rattle.std.proofs.Common.{◌≡◌, ℕ, List, [], Some, subst}
+use Rattle.std.proofs.lemmas.Option.{none-some, same_Some}
 use Rattle.fst_terms.specs.CoreTree.{CoreTree, CoreArms}
 use Rattle.fst_value.specs.declared.ends.EndName.{EndName}
 use Rattle.fst_value.specs.declared.event.Event.{Event}
 use Rattle.fst_machine.specs.declared.request.Request.TheVariants as request
 use Rattle.fst_machine.specs.Values.{Environment}
 use Rattle.fst_machine.specs.Machine.{State, Frame, Pause, stuck, calls, uses, makes, forks, puts, gets, matches, ended, asked, child}
-use Rattle.fst_safety.proofs.Typed.{some_same, none_some}
 
 -- what asks to send
 pub put_pause : (p : Pause) (x : EndName) (ev : Event) → asked p ≡ Some (request.Put x ev) → (fs : List Frame) × (p ≡ puts x ev fs)
@@ -57,12 +57,12 @@ new_pause (ended v) k e = absurd (cc e)
 -- whatever holds of a pause that makes a task, by its form
 pub fork_pause : (P : Pause → Type 0) (p : Pause) (k : State) → child p ≡ Some k →
     ((e : CoreTree) (env : Environment) (fs : List Frame) → record { term = e; environment = env; frames = [] } ≡ k → P (forks e env fs)) → P p
-fork_pause P stuck k e f = absurd (none_some e)
-fork_pause P (calls b env v fs) k e f = absurd (none_some e)
-fork_pause P (uses g fs) k e f = absurd (none_some e)
-fork_pause P (makes s fs) k e f = absurd (none_some e)
-fork_pause P (forks b env fs) k e f = f b env fs (some_same e)
-fork_pause P (puts y ew fs) k e f = absurd (none_some e)
-fork_pause P (gets y fs) k e f = absurd (none_some e)
-fork_pause P (matches y bs env fs) k e f = absurd (none_some e)
-fork_pause P (ended v) k e f = absurd (none_some e)
+fork_pause P stuck k e f = absurd (none-some _ e)
+fork_pause P (calls b env v fs) k e f = absurd (none-some _ e)
+fork_pause P (uses g fs) k e f = absurd (none-some _ e)
+fork_pause P (makes s fs) k e f = absurd (none-some _ e)
+fork_pause P (forks b env fs) k e f = f b env fs (same_Some _ _ e)
+fork_pause P (puts y ew fs) k e f = absurd (none-some _ e)
+fork_pause P (gets y fs) k e f = absurd (none-some _ e)
+fork_pause P (matches y bs env fs) k e f = absurd (none-some _ e)
+fork_pause P (ended v) k e f = absurd (none-some _ e)

@@ -1,5 +1,5 @@
 -- When paths, names of channels, sides and ends are the same.
-use Rattle.std.proofs.Common.{◌≡◌, ℕ, true, refl, arith}
+use Rattle.std.proofs.Common.{◌≡◌, ℕ, Bool, true, false, refl, arith}
 use Rattle.std.specs.Prelude.{nat_eq}
 use Rattle.std.specs.Str.{bytes_eq}
 use Rattle.std.proofs.lemmas.Bool.{and_from}
@@ -25,6 +25,14 @@ same_path-itself p = (bytes_eq-Decides p p).1 refl
 -- paths that pass the test are one
 pub same_path-same : (p q : Path) → same_path p q ≡ true → p ≡ q
 same_path-same p q e = (bytes_eq-Decides p q).0 e
+
+-- paths that aren't one don't pass it
+pub same_path-apart : (p q : Path) → (p ≡ q → ⊥) → same_path p q ≡ false
+same_path-apart p q n = go (same_path p q) refl
+  where
+    go : (b : Bool) → same_path p q ≡ b → b ≡ false
+    go false e = refl
+    go true e = absurd (n (same_path-same p q e))
 
 -- a channel's name is the same as itself
 pub same_channel-itself : (h : ChannelName) → same_channel h h ≡ true

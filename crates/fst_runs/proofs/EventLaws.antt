@@ -1,6 +1,6 @@
 -- How session types move by events: by labels of one direction, and the dual by those of the other.
 use Rattle.std.proofs.Common.{◌≡◌, ◌∙◌, ◌⊎◌, inl, inr, ℕ, List, [], ◌∷◌, Bool, true, false, Option, Some, None, refl, sym, ap, subst}
-use Rattle.std.specs.Prelude.{Contains, IsSome, map, option_map, option_and_then, if◌then◌else◌}
+use Rattle.std.specs.Prelude.{Contains, IsSome, option_map, option_and_then, if◌then◌else◌}
 use Rattle.fst_types.specs.Tree.{Tree, skip, send, receive, select, offer, seq, rec, back, var, plain, arrow, pair, named, Branches, none, branch}
 use Rattle.fst_types.specs.declared.base.Base.{Base}
 use Rattle.fst_types.specs.declared.label.Label.{Label}
@@ -10,8 +10,7 @@ use Rattle.fst_lts.specs.Dual.{dual, dual_label}
 use Rattle.fst_base.specs.Agreement.{residual}
 use Rattle.fst_lts.proofs.Laws.{no_step, labels_are_moves}
 use Rattle.fst_lts.proofs.DualLaws.{residual-dual}
-use Rattle.fst_base.proofs.Lists.{from_contains, contains_none, contains_head}
-use Rattle.fst_derivations.specs.Parts.{IsOffering}
+use Rattle.fst_base.proofs.Lists.{from_contains, contains_none}
 use Rattle.fst_value.specs.declared.event.Event.{Event}
 use Rattle.fst_value.specs.declared.event.Event.TheVariants.{Int, Bool as Truth, Char, Unit as Nothing, Label as Branch}
 use Rattle.fst_runs.specs.Histories.{sending, receiving, over, after_event}
@@ -199,18 +198,3 @@ only_offers (variable k) l a h g = absurd (cc (one_of (Offer l) (Var k) h))
 -- a type that offers a branch moves by branches that it offers alone
 pub one_offer : (s t u : Tree) (l : List ℕ) (a : Label) → step s (Offer l) ≡ Some t → step s a ≡ Some u → (k : List ℕ) × (Offer k ≡ a)
 one_offer s t u l a e f = only_offers (front s).0 l a (in_front s (Offer l) t e) (in_front s a u f)
-
-first_offer : (ls : List Label) (names : List (List ℕ)) → ls ≡ map Offer names → (names ≡ [] → ⊥) → (l : List ℕ) × Contains ls (Offer l)
-first_offer ls [] e h = absurd (h refl)
-first_offer ls (l ∷ names) e h = (l, subst (λ w. Contains w (Offer l)) (sym e) (contains_head (map Offer names) (Offer l) (Offer l) refl))
-
--- a type that offers branches moves by one of them
-pub offering_moves : (s : Tree) (names : List (List ℕ)) → IsOffering s names → (l : List ℕ) × (t : Tree) × (step s (Offer l) ≡ Some t)
-offering_moves s names h = pick (first_offer (labels s) names h.labels h.some)
-  where
-    found : (l : List ℕ) (o : Option Tree) → step s (Offer l) ≡ o → IsSome o → (l : List ℕ) × (t : Tree) × (step s (Offer l) ≡ Some t)
-    found l None e i = absurd (cc i)
-    found l (Some t) e i = (l, t, e)
-
-    pick : (l : List ℕ) × Contains (labels s) (Offer l) → (l : List ℕ) × (t : Tree) × (step s (Offer l) ≡ Some t)
-    pick f = found f.0 (step s (Offer f.0)) refl ((labels_are_moves s (Offer f.0)).0 f.1)

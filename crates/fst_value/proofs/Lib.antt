@@ -1,0 +1,6 @@
+mod Turned
+mod Walking
+mod Kept
+mod Joining
+mod Splitting
+mod Printed

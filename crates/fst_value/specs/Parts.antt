@@ -1,0 +1,112 @@
+-- A value's root and its parts.
+use Rattle.std.specs.Prelude.{ℕ, zero, suc, ◌+◌, Bool, true, false, Option, Some, None, List, [], ◌∷◌, ◌++◌, length}
+use Rattle.fst_value.specs.ValueTree.{ValueTree, int, bool, char, unit, pair, make, function, end, ValueTrees, none, value}
+use Rattle.fst_value.specs.declared.ends.EndName.{EndName}
+use Rattle.fst_value.specs.declared.cells.Cell.{Cell}
+use Rattle.fst_value.specs.declared.cells.Cell.TheVariants as cell
+use Rattle.fst_value.specs.declared.value.Form.{Form}
+use Rattle.fst_value.specs.declared.value.Form.TheVariants as form
+use Rattle.fst_value.specs.Stacks.{stacked}
+use Rattle.fst_value.specs.Cells.{count, cells_of, above, first_or_unit}
+
+-- the cell at the root of a value
+abbrev pub root_of : ValueTree → Cell
+root_of (int n) = cell.Int n
+root_of (bool b) = cell.Bool b
+root_of (char c) = cell.Char c
+root_of unit = cell.Unit
+root_of (pair v w) = cell.Pair
+root_of (make n o vs) = cell.Make n o (count vs)
+root_of (function l vs) = cell.Function l (count vs)
+root_of (end x) = cell.End x
+
+-- its parts, in order
+abbrev pub parts_of : ValueTree → ValueTrees
+parts_of (int n) = none
+parts_of (bool b) = none
+parts_of (char c) = none
+parts_of unit = none
+parts_of (pair v w) = value v (value w none)
+parts_of (make n o vs) = vs
+parts_of (function l vs) = vs
+parts_of (end x) = none
+
+-- the value with this root and these parts
+abbrev pub rooted : Cell → ValueTrees → ValueTree
+rooted c vs = first_or_unit (above c (stacked vs []))
+
+-- these values in a list
+abbrev pub listed : ValueTrees → List ValueTree
+listed vs = stacked vs []
+
+-- what a cell is the root of
+abbrev pub form_at : Cell → Form
+form_at (cell.Int n) = form.Int n
+form_at (cell.Bool b) = form.Bool b
+form_at (cell.Char c) = form.Char c
+form_at cell.Unit = form.Unit
+form_at cell.Pair = form.Pair
+form_at (cell.Make n o k) = form.Make n o
+form_at (cell.Function l k) = form.Function l
+form_at (cell.End x) = form.End
+
+-- what a value is
+abbrev pub form_of : ValueTree → Form
+form_of (int n) = form.Int n
+form_of (bool b) = form.Bool b
+form_of (char c) = form.Char c
+form_of unit = form.Unit
+form_of (pair v w) = form.Pair
+form_of (make n o vs) = form.Make n o
+form_of (function l vs) = form.Function l
+form_of (end x) = form.End
+
+-- the cells of the last n values, the last value's last, in front of others
+abbrev pub in_front : ℕ → List ValueTree → List Cell → List Cell
+in_front zero ops cs = cs
+in_front (suc n) [] cs = cs
+in_front (suc n) (v ∷ ops) cs = in_front n ops (cells_of v ++ cs)
+
+-- how many cells the last n values have
+abbrev pub room : ℕ → List ValueTree → ℕ
+room zero ops = zero
+room (suc n) [] = zero
+room (suc n) (v ∷ ops) = length (cells_of v) + room n ops
+
+-- the last value is replaced by its parts, the first one last
+abbrev pub unjoined : List ValueTree → List ValueTree
+unjoined [] = []
+unjoined (v ∷ ops) = stacked (parts_of v) ops
+
+-- it is a pair
+abbrev pub pair_form : Form → Bool
+pair_form (form.Int n) = false
+pair_form (form.Bool b) = false
+pair_form (form.Char c) = false
+pair_form form.Unit = false
+pair_form form.Pair = true
+pair_form (form.Make n o) = false
+pair_form (form.Function l) = false
+pair_form form.End = false
+
+-- it is a constructor
+abbrev pub make_form : Form → Bool
+make_form (form.Int n) = false
+make_form (form.Bool b) = false
+make_form (form.Char c) = false
+make_form form.Unit = false
+make_form form.Pair = false
+make_form (form.Make n o) = true
+make_form (form.Function l) = false
+make_form form.End = false
+
+-- the end that a value is
+abbrev pub end_in : ValueTree → Option EndName
+end_in (int n) = None
+end_in (bool b) = None
+end_in (char c) = None
+end_in unit = None
+end_in (pair v w) = None
+end_in (make n o vs) = None
+end_in (function l vs) = None
+end_in (end x) = Some x

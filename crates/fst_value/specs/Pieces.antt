@@ -1,0 +1,103 @@
+-- What is still to be written of a value.
+use Rattle.std.specs.Prelude.{◌≡◌, ℕ, ◌+◌, ◌*◌, nat_lt, List, [], ◌∷◌, ◌++◌, length, drop, reverse, slice_get, codes}
+use Rattle.std.specs.Prelude.{Bool, true, false, ◌&&◌, Option, None, Some, is_some, Result, IfOk}
+use Rattle.std.specs.Borrow.{Bor}
+use Rattle.std.specs.Fmt.{signed_decimal}
+use Rattle.std.specs.Int.{is_negative}
+use Rattle.std.specs.List.{flat_map}
+use Rattle.std.specs.String.{string_bytes}
+use Rattle.std.specs.declared.string.String.{String}
+use Rattle.std.specs.declared.vec.Vec.{Vec}
+use Rattle.fst_types.specs.declared.family.Family.{Family}
+use Rattle.fst_types.specs.declared.family.Maker.{Maker}
+use Rattle.fst_value.specs.ValueTree.{ValueTree}
+use Rattle.fst_value.specs.declared.cells.Cell.{Cell}
+use Rattle.fst_value.specs.declared.cells.Cell.TheVariants as cell
+use Rattle.fst_value.specs.declared.printing.Piece.{Piece}
+use Rattle.fst_value.specs.declared.printing.Piece.TheVariants.{Close, Next, Second, Fields}
+use Rattle.fst_value.specs.Cells.{cells_of, taken, spelled}
+use Rattle.fst_value.specs.Texts.{truth_text, character_text, maker_in, value_text, fields_text}
+
+-- the first of these values, if there is one
+abbrev pub next_text : List Family → List ValueTree → List ℕ
+next_text families [] = []
+next_text families (v ∷ vs) = value_text families v
+
+-- pieces, of which the first is written first, and the values that they take in order
+abbrev pub pieces_text : List Family → List Piece → List ValueTree → List ℕ
+pieces_text families [] vs = []
+pieces_text families (Close ∷ ps) vs = codes ")" ++ pieces_text families ps vs
+pieces_text families (Next ∷ ps) vs = next_text families vs ++ pieces_text families ps (drop 1 vs)
+pieces_text families (Second ∷ ps) vs = codes ", " ++ next_text families vs ++ pieces_text families ps (drop 1 vs)
+pieces_text families (Fields k ∷ ps) vs = fields_text families (taken k vs) ++ pieces_text families ps (drop k vs)
+
+-- a text, and behind it pieces with the values that these cells spell, the last cell first
+abbrev pub whole_text : {Z : Type 0} → List Family → String Z → List Piece → List Cell → List ℕ
+whole_text families text ps cs = string_bytes text ++ pieces_text families ps (spelled (reverse cs))
+
+-- where there is memory, and these cells are left, the whole text is what it was with these pieces and cells
+abbrev pub Unfolds : {E Z A : Type 0} → Result (Bor (List Cell)) E → List Family → String Z → String Z → List Piece → Vec Piece A → List Cell → Type 0
+Unfolds result families old new ps stack cs =
+    IfOk result (λ rest. whole_text families new (reverse stack.items) rest.now ≡ whole_text families old ps cs)
+
+-- these cells, the last one first, are those of the values that they spell
+abbrev pub AreCells : List Cell → Type 0
+AreCells cs = reverse cs ≡ flat_map cells_of (spelled (reverse cs))
+
+-- as many pieces as are still to come, or more
+abbrev pub weight : List Piece → List Cell → ℕ
+weight ps cs = length ps + 8 * length cs
+
+-- the name of a constructor, if there is one
+abbrev pub maker_name : Option Maker → List ℕ
+maker_name (Some m) = m.name
+maker_name None = codes "?"
+
+-- how the value with this root begins
+abbrev pub root_text : List Family → Cell → List ℕ
+root_text families (cell.Int n) = signed_decimal n
+root_text families (cell.Bool b) = truth_text b
+root_text families (cell.Char c) = codes "'" ++ character_text c ++ codes "'"
+root_text families cell.Unit = codes "()"
+root_text families cell.Pair = codes "("
+root_text families (cell.Make n o k) = maker_name (maker_in (slice_get families n) o)
+root_text families (cell.Function l k) = codes "?"
+root_text families (cell.End x) = codes "?"
+
+-- the fields of a constructor, if there is one
+abbrev pub made_pieces : Option Maker → ℕ → List Piece
+made_pieces (Some m) k = Fields k ∷ []
+made_pieces None k = []
+
+-- what is written behind that
+abbrev pub root_pieces : List Family → Cell → List Piece
+root_pieces families (cell.Int n) = []
+root_pieces families (cell.Bool b) = []
+root_pieces families (cell.Char c) = []
+root_pieces families cell.Unit = []
+root_pieces families cell.Pair = Next ∷ Second ∷ Close ∷ []
+root_pieces families (cell.Make n o k) = made_pieces (maker_in (slice_get families n) o) k
+root_pieces families (cell.Function l k) = []
+root_pieces families (cell.End x) = []
+
+-- the parts of a value with this root are written, if it has any
+abbrev pub is_shown : List Family → Cell → Bool
+is_shown families (cell.Int n) = true
+is_shown families (cell.Bool b) = true
+is_shown families (cell.Char c) = true
+is_shown families cell.Unit = true
+is_shown families cell.Pair = true
+is_shown families (cell.Make n o k) = is_some (maker_in (slice_get families n) o)
+is_shown families (cell.Function l k) = false
+is_shown families (cell.End x) = false
+
+-- a value with this root stands in parentheses as a field
+abbrev pub root_enclosed : List Family → Cell → Bool
+root_enclosed families (cell.Int n) = is_negative n
+root_enclosed families (cell.Bool b) = false
+root_enclosed families (cell.Char c) = false
+root_enclosed families cell.Unit = false
+root_enclosed families cell.Pair = false
+root_enclosed families (cell.Make n o k) = nat_lt 0 k && is_some (maker_in (slice_get families n) o)
+root_enclosed families (cell.Function l k) = false
+root_enclosed families (cell.End x) = false
