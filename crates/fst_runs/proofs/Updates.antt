@@ -88,7 +88,7 @@ module _ (m : Program) (types : List Tree) (c : Config) where
   -- two that meet are, and the channel over which something passes
   pub meet_puts : (p q : Path) (h : ChannelName) (w : Write) (d : Does m types c (Meet p q h) w) →
       written c w ≡ with_task (with_task (with_channel c h (extended d.6 (passed d.3 d.0 d.1 d.6))) p (has_met d.0 d.4 (meeting_stamp d.0 d.1 d.6)))
-          q (has_met d.1 d.5 (meeting_stamp d.0 d.1 d.6))
+      q (has_met d.1 d.5 (meeting_stamp d.0 d.1 d.6))
   meet_puts p q h w d =
       let n = meeting_stamp d.0 d.1 d.6 in
       ap (written c) d.13 ∙ (λ i. record {

@@ -1,0 +1,6 @@
+mod SlotLaws
+mod PlaceLaws
+mod StepLaws
+mod RunLaws
+mod TellLaws
+mod TaskLaws

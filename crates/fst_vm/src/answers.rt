@@ -1,0 +1,305 @@
+//! How code goes on after an answer.
+
+ghost use Rattle.std.specs.Prelude.{◌≡◌, ◌++◌, ◌∷◌, [], ℕ, List, IfOk, OnOk, OnErr, option_copied, option_map, reverse, slice_get, take};
+ghost use Rattle.std.specs.declared.result.Result.TheVariants.{Ok};
+ghost use Rattle.fst_types.specs.declared.family.Family.{Family};
+ghost use Rattle.fst_value.specs.ValueTree.{end};
+ghost use Rattle.fst_machine.specs.declared.code.Instr.TheVariants as does;
+ghost use Rattle.fst_machine.specs.declared.request.Answer.TheVariants.{Go, Got, Sent};
+ghost use Rattle.fst_machine.specs.Code.{Compiled, place_of};
+ghost use Rattle.fst_machine.specs.Spots.{child_at, told, told_at};
+ghost use Rattle.fst_value.specs.Stacks.{Makes};
+ghost use Rattle.fst_vm.specs.Moves.{end_on, entry_below, forked_entry, given_for, matched};
+ghost use Rattle.fst_vm.specs.Running.{code_of};
+
+use crate::act::captured_count;
+use crate::places::{entry_at, instr_at, start_at};
+use crate::running::{Caller, Running};
+use crate::slots::{Slots, spread};
+use crate::values::{ends_of, pair, received};
+use fst_machine::{Answer, Code, Instr, LambdaEntry};
+use fst_types::Name;
+use fst_value::{ChannelName, Event, Form, Stack, Value, copy};
+use std::alloc::{AllocError, Global};
+use std::mem;
+
+// Goes on with other variables in the code of a function or a global.
+fn call(
+    calls: &mut Vec<Caller>,
+    slots: &mut Slots,
+    behind: u64,
+    own: Slots,
+) -> Result<(), AllocError>
+    ensures calls { OnOk result (calls.new.items ≡ calls.old.items ++ record { place = behind; slots = slots.old } ∷ []) }
+    ensures slots { OnOk result (slots.new ≡ own) }
+    ensures unchanged { OnErr result ((calls.new.items ≡ calls.old.items) × (slots.new ≡ slots.old)) }
+{
+    calls.reserve(1)?;
+    let slots = mem::replace(slots, own);
+    calls.push(Caller {
+        place: behind,
+        slots,
+    })?;
+    Ok(())
+}
+
+// The entry of the function that the value before the last one is.
+fn function_entry<'a>(code: &'a Code, stack: &Stack) -> Option<&'a LambdaEntry>
+    ensures { (fs : List Family) → option_copied result ≡ entry_below (code_of fs code.now) stack.now }
+{
+    let value = stack.get(1)?;
+    match value.form() {
+        Form::Function(lambda) => entry_at(code, lambda),
+        _ => None,
+    }
+}
+
+// Goes on in the code of the function that the value before the last one is.
+fn go_into_function(
+    alloc: Global,
+    code: &Code,
+    behind: u64,
+    running: &mut Running,
+) -> Result<bool, AllocError>
+    ensures { (fs : List Family) → Makes (λ s. told (code_of fs code.now) does.Call behind s s.operands Go) running.old result running.new }
+{
+    let entry = match function_entry(code, &running.stack) {
+        Some(entry) => entry,
+        None => return Ok(false),
+    };
+    let parts = match running.stack.get(1) {
+        Some(value) => value.parts(alloc)?,
+        None => return Ok(false),
+    };
+    let slots = spread(alloc, &entry.captured, parts)?;
+    call(&mut running.calls, &mut running.slots, behind, slots)?;
+    running.stack.drop_second();
+    running.place = entry.start;
+    Ok(true)
+}
+
+// Goes on in the code of a global.
+fn go_into_global(
+    alloc: Global,
+    code: &Code,
+    global: u32,
+    behind: u64,
+    running: &mut Running,
+) -> Result<bool, AllocError>
+    ensures { (fs : List Family) → Makes (λ s. told (code_of fs code.now) (does.Global global) behind s s.operands Go) running.old result running.new }
+{
+    match start_at(code, global) {
+        Some(start) => {
+            call(
+                &mut running.calls,
+                &mut running.slots,
+                behind,
+                Slots::new(alloc),
+            )?;
+            running.place = start;
+            Ok(true)
+        }
+        None => Ok(false),
+    }
+}
+
+// Goes on with a value in place of the last `count` ones.
+fn go_on_with(
+    running: &mut Running,
+    behind: u64,
+    count: usize,
+    value: Value,
+) -> Result<bool, AllocError>
+    ensures { Makes (given_for behind count value) running.old result running.new }
+{
+    if running.stack.len() < count {
+        return Ok(false);
+    }
+    running.stack.replace(count, value)?;
+    running.place = behind;
+    Ok(true)
+}
+
+// The last value, if it is an end.
+fn last_end(stack: &Stack) -> Option<&Value>
+    ensures { option_copied result ≡ option_map end (end_on stack.now) }
+{
+    let value = stack.get(0)?;
+    match value.form() {
+        Form::End => Some(value),
+        _ => None,
+    }
+}
+
+// The value was received, of which the end is left.
+fn go_on_with_end(running: &mut Running, behind: u64) -> bool
+    ensures { (c : Compiled) → Makes (λ s. told c does.Send behind s s.operands Sent) running.old (Ok result) running.new }
+{
+    if running.stack.len() < 2 || last_end(&running.stack).is_none() {
+        return false;
+    }
+    running.stack.drop_second();
+    running.place = behind;
+    true
+}
+
+// The branch was selected on the end, which is left.
+fn go_on_selected(running: &mut Running, behind: u64) -> bool
+    ensures { (c : Compiled) (l : List ℕ) → Makes (λ s. told c (does.Select l) behind s s.operands Sent) running.old (Ok result) running.new }
+{
+    if last_end(&running.stack).is_none() {
+        return false;
+    }
+    running.place = behind;
+    true
+}
+
+// What was received goes into a pair with the end.
+fn go_on_received(
+    alloc: Global,
+    behind: u64,
+    event: &Event,
+    running: &mut Running,
+) -> Result<bool, AllocError>
+    ensures { (c : Compiled) → Makes (λ s. told c does.Receive behind s s.operands (Got event.now)) running.old result running.new }
+{
+    let end = match last_end(&running.stack) {
+        Some(end) => copy(alloc, end)?,
+        None => return Ok(false),
+    };
+    match received(alloc, event)? {
+        Some(value) => {
+            let both = pair(alloc, value, end)?;
+            go_on_with(running, behind, 1, both)
+        }
+        None => Ok(false),
+    }
+}
+
+// The place of a label in a table.
+fn place_of(places: &[(Name, u64)], label: &Name) -> Option<u64>
+    ensures { result ≡ place_of places.now label.now }
+{
+    for (name, place) in places {
+        if name.as_slice() == label.as_slice() {
+            return Some(*place);
+        }
+    }
+    None
+}
+
+// Goes on at the place of the label that was received, with the end.
+fn go_on_in_arm(places: &[(Name, u64)], event: &Event, running: &mut Running) -> bool
+    ensures { Makes (λ s. matched places.now event.now s s.operands) running.old (Ok result) running.new }
+{
+    if last_end(&running.stack).is_none() {
+        return false;
+    }
+    match event {
+        Event::Label(label) => match place_of(places, label) {
+            Some(place) => {
+                running.place = place;
+                true
+            }
+            None => false,
+        },
+        _ => false,
+    }
+}
+
+// Goes on after an answer to what an instruction asks for that is followed by a place.
+fn tell_instr(
+    alloc: Global,
+    code: &Code,
+    instr: &Instr,
+    behind: u64,
+    answer: &Answer,
+    running: &mut Running,
+) -> Result<bool, AllocError>
+    ensures { (fs : List Family) → Makes (λ s. told (code_of fs code.now) instr.now behind s s.operands answer.now) running.old result running.new }
+{
+    match (instr, answer) {
+        (Instr::Call, Answer::Go) => go_into_function(alloc, code, behind, running),
+        (Instr::Global(global), Answer::Go) => go_into_global(
+            alloc, code, *global, behind, running,
+        ),
+        (Instr::New(_), Answer::Made(name)) => {
+            go_on_with(running, behind, 0, ends_of(alloc, name)?)
+        }
+        (Instr::Fork(lambda), Answer::Forked) => {
+            go_on_with(
+                running,
+                behind,
+                captured_count(code, *lambda),
+                Value::unit(alloc)?,
+            )
+        }
+        (Instr::Send, Answer::Sent) => Ok(go_on_with_end(running, behind)),
+        (Instr::Select(_), Answer::Sent) => Ok(go_on_selected(running, behind)),
+        (Instr::Receive, Answer::Got(event)) => go_on_received(alloc, behind, event, running),
+        (Instr::Match(places), Answer::Got(event)) => Ok(go_on_in_arm(places, event, running)),
+        _ => Ok(false),
+    }
+}
+
+/// Goes on after an answer, and says whether the code asks for one of its kind and goes on after it. Where there is no room,
+/// nothing changes.
+pub(crate) fn tell(
+    alloc: Global,
+    code: &Code,
+    answer: &Answer,
+    running: &mut Running,
+) -> Result<bool, AllocError>
+    ensures { (fs : List Family) → Makes (λ s. told_at (code_of fs code.now) s answer.now) running.old result running.new }
+{
+    match instr_at(code, running.place) {
+        Some(instr) => tell_instr(alloc, code, instr, running.place - 1, answer, running),
+        None => Ok(false),
+    }
+}
+
+// Copies of the last values, in order.
+fn last_values(alloc: Global, stack: &Stack, count: usize) -> Result<Vec<Value>, AllocError>
+    ensures { IfOk result (λ values. values.items ≡ reverse (take count stack.now)) }
+{
+    let mut values = Vec::new(alloc);
+    let mut i = count;
+    while 0 < i {
+        i -= 1;
+        if let Some(value) = stack.get(i) {
+            values.push(copy(alloc, value)?)?;
+        }
+    }
+    Ok(values)
+}
+
+// The entry of the task that is made at a place.
+fn forked_entry(code: &Code, place: u64) -> Option<&LambdaEntry>
+    ensures { (fs : List Family) → option_copied result ≡ forked_entry (code_of fs code.now) place }
+{
+    match instr_at(code, place)? {
+        Instr::Fork(lambda) => entry_at(code, *lambda),
+        _ => None,
+    }
+}
+
+/// Where the task begins that is forked, if a fork is asked for.
+pub(crate) fn child_at(
+    alloc: Global,
+    code: &Code,
+    running: &Running,
+) -> Result<Option<Running>, AllocError>
+    ensures { IfOk result (λ o. (fs : List Family) → o ≡ child_at (code_of fs code.now) running.now) }
+{
+    let entry = match forked_entry(code, running.place) {
+        Some(entry) => entry,
+        None => return Ok(None),
+    };
+    let count = entry.captured.len();
+    if running.stack.len() < count {
+        return Ok(None);
+    }
+    let values = last_values(alloc, &running.stack, count)?;
+    let slots = spread(alloc, &entry.captured, values)?;
+    Ok(Some(Running::at(alloc, entry.start, slots)))
+}

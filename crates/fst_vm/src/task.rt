@@ -1,0 +1,133 @@
+ghost use Rattle.std.specs.Prelude.{◌≡◌, ◌<◌, ◌++◌, ◌∷◌, [], suc, IfOk, OnOk, IfErr};
+ghost use Rattle.fst_machine.specs.declared.request.Answer.TheVariants.{Forked};
+ghost use Rattle.fst_vm.specs.Moves.{ends_in_slots};
+ghost use Rattle.fst_vm.specs.Tasks.{AsksFor, Forks, GoesOn, HasEnded, HasNext, IsAtRest, IsChild, IsResult, IsStart, Stays, Takes, forked_after};
+
+use crate::answers::{child_at, tell};
+use crate::requests::request_at;
+use crate::running::Running;
+use crate::slots::Slots;
+use fst_machine::{Answer, Code, Request};
+use fst_value::{EndName, Path, Value};
+use std::alloc::{AllocError, Global};
+use std::marker::Model;
+
+// The path of the task that is forked next.
+fn child_path(alloc: Global, path: &Path, forked: u32) -> Result<Path, AllocError>
+    requires { forked < 4294967295 }
+    ensures { IfOk result (λ p. p ≡ path.now ++ suc forked ∷ []) }
+{
+    let mut numbers = Vec::from_slice(alloc, path.as_slice())?;
+    numbers.push(forked + 1)?;
+    let made = Path::of(alloc, &numbers)?;
+    Ok(made)
+}
+
+// How many tasks it has forked after an answer.
+fn forked_after(answer: &Answer, forked: u32) -> u32
+    requires { answer.now ≡ Forked → forked < 4294967295 }
+    ensures { result ≡ forked_after answer.now forked }
+{
+    match answer {
+        Answer::Forked => forked + 1,
+        _ => forked,
+    }
+}
+
+/// A task: its path, how many tasks it has forked, and where its code runs.
+#[derive(Drop)]
+pub struct Task {
+    alloc: Global,
+    path: Path,
+    forked: u32,
+    running: Running,
+}
+
+impl Model for Task {
+    ghost use Rattle.fst_vm.specs.TaskView.{TaskView};
+    ghost use Rattle.fst_vm.specs.TaskCode.{task_code};
+
+    ghost Value = { TaskView };
+
+    ghost coded = { task_code };
+
+    ghost view = { λ t. record { path = t.path; forked = t.forked; spot = t.running } };
+}
+
+impl Task {
+    /// The task of `main`, at the beginning of its body.
+    pub fn start(alloc: Global, code: &Code) -> Result<Task, AllocError>
+        ensures { IfOk result (IsStart code.now) }
+    {
+        let path = Path::of(alloc, &[0])?;
+        let running = Running::at(alloc, code.code.len() as u64, Slots::new(alloc));
+        Ok(Task {
+            alloc,
+            path,
+            forked: 0,
+            running,
+        })
+    }
+
+    /// The path of the task.
+    pub fn path(&self) -> &Path
+        ensures { result.now ≡ self.now.path }
+    {
+        &self.path
+    }
+
+    /// What the task asks for next. Where memory is wanting, it is in the state in which it was.
+    pub fn advance(&mut self, code: &Code) -> Result<Request, AllocError>
+        requires { ∥ HasNext code.now self.old ∥₁ }
+        ensures stays { Stays code.now self.old self.new }
+        ensures asked { IfOk result (AsksFor code.now self.old) }
+        ensures rests { OnOk result (IsAtRest code.now self.new) }
+    {
+        self.running.run_on(self.alloc, code)?;
+        let request = request_at(self.alloc, code, &self.running)?;
+        Ok(request.unwrap())
+    }
+
+    /// Goes on after an answer to what `advance` answered. Where memory is wanting, the answer comes back and the task is as
+    /// it was.
+    pub fn resume(&mut self, code: &Code, answer: Answer) -> Result<(), (Answer, AllocError)>
+        requires { ∥ Takes code.now self.old answer ∥₁ }
+        ensures goes_on { OnOk result (GoesOn code.now self.old answer self.new) }
+        ensures back { IfErr result (λ p. (p.0 ≡ answer) × (self.new ≡ self.old)) }
+    {
+        match tell(self.alloc, code, &answer, &mut self.running) {
+            Ok(_) => {}
+            Err(e) => return Err((answer, e)),
+        }
+        self.forked = forked_after(&answer, self.forked);
+        Ok(())
+    }
+
+    /// The task that a fork makes, and the ends that its variables have, from the innermost outward, each as often as it
+    /// stands there.
+    pub fn child(&self, code: &Code) -> Result<(Task, Vec<EndName>), AllocError>
+        requires { ∥ Forks code.now self.now ∥₁ }
+        ensures child { IfOk result (λ p. IsChild code.now self.now p.0) }
+        ensures ends { IfOk result (λ p. p.1.items ≡ ends_in_slots p.0.spot.slots) }
+    {
+        let running = child_at(self.alloc, code, &self.running)?.unwrap();
+        let ends = running.slots.ends(self.alloc)?;
+        let path = child_path(self.alloc, &self.path, self.forked)?;
+        let task = Task {
+            alloc: self.alloc,
+            path,
+            forked: 0,
+            running,
+        };
+        Ok((task, ends))
+    }
+
+    /// The value of a task that has ended.
+    pub fn result(self) -> Value
+        requires { ∥ HasEnded self ∥₁ }
+        ensures { IsResult self result }
+    {
+        let mut running = self.running;
+        running.stack.pop().unwrap()
+    }
+}
