@@ -1,0 +1,14 @@
+mod Lists
+mod Extended
+mod HeightLaws
+mod MarkLaws
+mod ListsLaws
+mod UnderLaws
+mod PieceLaws
+mod FormLaws
+mod Wholes
+mod MakerLaws
+mod ArmLaws
+mod TableLaws
+mod CaseLaws
+mod GlobalLaws

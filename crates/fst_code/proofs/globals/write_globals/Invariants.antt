@@ -1,0 +1,10 @@
+use Rattle.std.proofs.Common.{take}
+use Rattle.fst_code.specs.Globals.{AllStart}
+use Rattle.fst_code.specs.Written.{Extends, compiled}
+use Rattle.fst_code.proofs.globals.write_globals.Given as goal
+
+abbrev pub invariant-loop-global : goal.invariant-loop-global
+invariant-loop-global l = record {
+  more : Extends (compiled l.given.families.now l.fn.out) (compiled l.given.families.now l.out);
+  starts : AllStart (compiled l.given.families.now l.out) (take l.global-index l.globals) l.starts.items;
+}

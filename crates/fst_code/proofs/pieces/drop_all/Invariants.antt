@@ -1,0 +1,7 @@
+use Rattle.std.proofs.Common.{List, drop}
+use Rattle.fst_types.specs.declared.family.Family.{Family}
+use Rattle.fst_code.specs.Written.{Drops, compiled}
+use Rattle.fst_code.proofs.pieces.drop_all.Given as goal
+
+abbrev pub invariant-loop-i : goal.invariant-loop-i
+invariant-loop-i l = (fs : List Family) → Drops (compiled fs l.fn.out) (compiled fs l.out) (drop l.i l.variables)
