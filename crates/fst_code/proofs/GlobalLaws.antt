@@ -16,7 +16,7 @@ use Rattle.fst_machine.specs.Code.{Compiled, Comes, Computes, ComputesGlobals, n
 use Rattle.fst_machine.specs.Programs.{IsCodeOf, bodies, main_place}
 use Rattle.fst_machine.specs.Programs as program
 use Rattle.fst_machine.specs.Standing.{GoesDown}
-use Rattle.fst_machine.proofs.Conditions.{closed_in_range}
+use Rattle.fst_machine.proofs.Laws.{closed_in_range}
 use Rattle.fst_code.specs.declared.built.Built.{Built}
 use Rattle.fst_code.specs.Globals.{AllStart, Starts}
 use Rattle.fst_code.specs.Whole.{AreBodiesWhole}

@@ -34,6 +34,26 @@ one_step zero c s t q h k = tt
 one_step (suc n) c s t q h (inl e) = inl e
 one_step (suc n) c s t q h (inr r) = inr (one_on n c s t q h r)
 
+-- an inner step keeps what the code stands for
+pub inner_stands : (c : Compiled) (s t : Spot) (q : Pause) → Stands c s q → inner c s ≡ Some t → Stands c t q
+inner_stands c s t q h e n = one_step n c s t q e (h n)
+
+-- where no step is left, the code asks for what the terms ask for
+pub asks_alike : (c : Compiled) (s : Spot) (q : Pause) → Stands c s q → inner c s ≡ None → (q ≡ stuck → ⊥) → asked_at c s ≡ asked q
+asks_alike c s q h e g = go (rests_or_stuck 0 c s q e (h 1))
+  where
+    go : (q ≡ stuck) ⊎ Rests c (StandsFor 0 c) s q → asked_at c s ≡ asked q
+    go (inl b) = absurd (g b)
+    go (inr r) = r.alike
+
+-- where the task has ended, the only value on the stack means its value
+pub ended_means : (c : Compiled) (s : Spot) (v : Value) → Stands c s (ended v) → inner c s ≡ None → (x : ValueTree) × (s.operands ≡ x ∷ []) × Means c x v
+ended_means c s v h e = go (rests_or_stuck 0 c s (ended v) e (h 1))
+  where
+    go : (ended v ≡ stuck) ⊎ Rests c (StandsFor 0 c) s (ended v) → (x : ValueTree) × (s.operands ≡ x ∷ []) × Means c x v
+    go (inl b) = absurd (cc b)
+    go (inr r) = r.value
+
 module _ (c : Compiled) (bodies : List CoreTree) (ic : IsCode c bodies) (dm : DistinctMakers c.families) where
   -- the code of a global stands for its body
   pub start_stands : (g : ℕ) (e : CoreTree) → slice_get bodies g ≡ Some e →
@@ -41,18 +61,6 @@ module _ (c : Compiled) (bodies : List CoreTree) (ic : IsCode c bodies) (dm : Di
   start_stands g e h =
       let w = of_globals c bodies c.globals g e ic h in
       (w.0, w.3, λ n. all_go n c dm e w.0 w.1 no_variables value.none [] [] [] [] w.5 (without c (free e) w.4) (ended_awaited n c w.1 w.2 [] w.6))
-
-  -- an inner step keeps what the code stands for
-  pub inner_stands : (s t : Spot) (q : Pause) → Stands c s q → inner c s ≡ Some t → Stands c t q
-  inner_stands s t q h e n = one_step n c s t q e (h n)
-
-  -- where no step is left, the code asks for what the terms ask for
-  pub asks_alike : (s : Spot) (q : Pause) → Stands c s q → inner c s ≡ None → (q ≡ stuck → ⊥) → asked_at c s ≡ asked q
-  asks_alike s q h e g = go (rests_or_stuck 0 c s q e (h 1))
-    where
-      go : (q ≡ stuck) ⊎ Rests c (StandsFor 0 c) s q → asked_at c s ≡ asked q
-      go (inl b) = absurd (g b)
-      go (inr r) = r.alike
 
   -- after an answer it stands for what the terms go on with
   pub told_stands : (s : Spot) (q : Pause) (a : Answer) (st : State) → Stands c s q → inner c s ≡ None →
@@ -83,14 +91,6 @@ module _ (c : Compiled) (bodies : List CoreTree) (ic : IsCode c bodies) (dm : Di
 
       made : (n : ℕ) → (t : Spot) × (child_at c s ≡ Some t) × AreAlike c t.slots st.environment × StandsFor n c t (pause c.families st)
       made n = go n (rests_or_stuck n c s q e (h (suc n)))
-
-  -- where the task has ended, the only value on the stack means its value
-  pub ended_means : (s : Spot) (v : Value) → Stands c s (ended v) → inner c s ≡ None → (x : ValueTree) × (s.operands ≡ x ∷ []) × Means c x v
-  ended_means s v h e = go (rests_or_stuck 0 c s (ended v) e (h 1))
-    where
-      go : (ended v ≡ stuck) ⊎ Rests c (StandsFor 0 c) s (ended v) → (x : ValueTree) × (s.operands ≡ x ∷ []) × Means c x v
-      go (inl b) = absurd (cc b)
-      go (inr r) = r.value
 
 -- each inner step lowers the measure, where the code goes down
 pub inner_lowers : (c : Compiled) (s t : Spot) → GoesDown c → inner c s ≡ Some t → measure t < measure s

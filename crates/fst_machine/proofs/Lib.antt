@@ -17,3 +17,4 @@ pub mod Wholes
 pub mod CodeLaws
 pub mod Conditions
 pub mod Started
+pub mod Laws

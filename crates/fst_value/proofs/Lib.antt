@@ -4,3 +4,4 @@ mod Kept
 mod Joining
 mod Splitting
 mod Printed
+pub mod Firsts

@@ -110,3 +110,34 @@ end_in (pair v w) = None
 end_in (make n o vs) = None
 end_in (function l vs) = None
 end_in (end x) = Some x
+
+-- it is the unit value
+abbrev pub unit_form : Form → Bool
+unit_form (form.Int n) = false
+unit_form (form.Bool b) = false
+unit_form (form.Char c) = false
+unit_form form.Unit = true
+unit_form form.Pair = false
+unit_form (form.Make n o) = false
+unit_form (form.Function l) = false
+unit_form form.End = false
+
+-- a pair whose first part is the unit value
+abbrev pub unit_first : ValueTree → Bool
+unit_first (pair v w) = unit_form (form_of v)
+unit_first v = false
+
+-- the cell of a number, a truth value or a character with this form
+abbrev pub cell_with : Form → Option Cell
+cell_with (form.Int n) = Some (cell.Int n)
+cell_with (form.Bool b) = Some (cell.Bool b)
+cell_with (form.Char c) = Some (cell.Char c)
+cell_with f = None
+
+-- a pair whose first part is the unit value, with a number, a truth value or a character of this form in its place; any other value
+-- stays as it is
+abbrev pub with_first : Form → ValueTree → ValueTree
+with_first (form.Int n) (pair unit w) = pair (int n) w
+with_first (form.Bool b) (pair unit w) = pair (bool b) w
+with_first (form.Char c) (pair unit w) = pair (char c) w
+with_first f v = v

@@ -64,7 +64,7 @@ fn ends_in_make(values: &[Value]) -> bool
     is_make(values[values.len() - 1].form())
 }
 
-fn is_pair(form: Form) -> bool
+pub(crate) fn is_pair(form: Form) -> bool
     ensures { result ≡ pair_form form }
 {
     match form {

@@ -1,4 +1,4 @@
-ghost use Rattle.std.specs.Prelude.{◌≡◌, ◌<◌, ◌≤◌, ◌∷◌, [], length, drop, slice_get, IfOk, OnOk, OnErr, Some, MatchOption};
+ghost use Rattle.std.specs.Prelude.{◌≡◌, ◌<◌, ◌≤◌, ◌∷◌, [], length, drop, slice_get, IfOk, IsOk, OnOk, OnErr, Some, MatchOption};
 ghost use Rattle.std.specs.Option.{option_copied};
 ghost use Rattle.fst_value.specs.ValueTree.{ValueTree, make, function};
 ghost use Rattle.fst_value.specs.Stacks.{Makes, gathered, halved, moved_on, opened, paired};
@@ -58,13 +58,17 @@ impl Stack {
         }
     }
 
-    /// Puts a value in place of the last `count` ones. Where there is no room, nothing changes.
+    /// Puts a value in place of the last `count` ones. Where there is no room, nothing changes; in place of some there is room.
     pub fn replace(&mut self, count: usize, value: Value) -> Result<(), AllocError>
         requires { count ≤ length self.old }
         ensures replaced { OnOk result (self.new ≡ value ∷ drop count self.old) }
         ensures unchanged { OnErr result (self.new ≡ self.old) }
+        ensures in_place { 0 < count → IsOk result }
     {
-        self.values.reserve(1)?;
+        if count == 0 {
+            self.values.push(value)?;
+            return Ok(());
+        }
         let below = self.values.len() - count;
         self.values.truncate(below);
         self.values.push(value)?;

@@ -2,10 +2,11 @@ ghost use Rattle.std.specs.Prelude.{◌≡◌, ◌-◌, ◌<◌, [], length, tak
 ghost use Rattle.fst_value.specs.ValueTree.{int, bool, char, unit, end};
 ghost use Rattle.fst_value.specs.Cells.{ends_in, count, cells_of, cells_of_all};
 ghost use Rattle.std.specs.Option.{option_copied};
-ghost use Rattle.fst_value.specs.Parts.{end_in, form_of, form_at, parts_of, listed};
+ghost use Rattle.fst_value.specs.Parts.{cell_with, end_in, form_of, form_at, parts_of, listed, unit_first, unit_form, with_first};
 
 use crate::cells::{Cell, copies_of, ends_among, one, parts_at};
 use crate::ends::EndName;
+use crate::split::is_pair;
 use crate::walk::first_parts;
 use std::alloc::{AllocError, Global};
 use std::marker::Model;
@@ -150,6 +151,29 @@ impl Value {
     {
         self.cells.truncate(len);
     }
+
+    // whether it is a pair whose first part is the unit value
+    fn has_unit_first(&self) -> bool
+        ensures { result ≡ unit_first self.now }
+    {
+        if !is_pair(self.form()) {
+            return false;
+        }
+        is_unit(form_at(&self.cells[self.cells.len() - 2]))
+    }
+
+    /// Puts a number, a truth value or a character in place of the unit value that is a pair's first part. It takes no memory.
+    pub fn set_first(&mut self, form: Form)
+        ensures { self.new ≡ with_first form self.old }
+    {
+        if !self.has_unit_first() {
+            return;
+        }
+        if let Some(cell) = cell_with(form) {
+            let at = self.cells.len() - 2;
+            self.cells[at] = cell;
+        }
+    }
 }
 
 /// The same value in memory of its own.
@@ -181,5 +205,36 @@ fn form_at(cell: &Cell) -> Form
         Cell::Make(data, maker, _) => Form::Make(*data, *maker),
         Cell::Function(lambda, _) => Form::Function(*lambda),
         Cell::End(_) => Form::End,
+    }
+}
+
+fn is_unit(form: Form) -> bool
+    ensures { result ≡ unit_form form }
+{
+    match form {
+        Form::Int(_) => false,
+        Form::Bool(_) => false,
+        Form::Char(_) => false,
+        Form::Unit => true,
+        Form::Pair => false,
+        Form::Make(_, _) => false,
+        Form::Function(_) => false,
+        Form::End => false,
+    }
+}
+
+// The cell of a number, a truth value or a character.
+fn cell_with(form: Form) -> Option<Cell>
+    ensures { result ≡ cell_with form }
+{
+    match form {
+        Form::Int(number) => Some(Cell::Int(number)),
+        Form::Bool(truth) => Some(Cell::Bool(truth)),
+        Form::Char(character) => Some(Cell::Char(character)),
+        Form::Unit => None,
+        Form::Pair => None,
+        Form::Make(_, _) => None,
+        Form::Function(_) => None,
+        Form::End => None,
     }
 }

@@ -4,3 +4,4 @@ mod StepLaws
 mod RunLaws
 mod TellLaws
 mod TaskLaws
+mod SpareLaws

@@ -1,5 +1,5 @@
 -- What tasks promise, by the states that their code stands for.
-use Rattle.std.proofs.Common.{◌≡◌, ◌∙◌, ◌<◌, ℕ, zero, suc, Bool, true, false, inl, inr, Option, Some, None, List, [], ◌∷◌, ◌++◌, length, refl, sym, ap, subst}
+use Rattle.std.proofs.Common.{◌≡◌, ◌∙◌, ◌<◌, ℕ, zero, suc, Bool, true, false, Option, Some, None, List, [], ◌∷◌, ◌++◌, length, refl, sym, ap, subst}
 use Rattle.std.specs.Prelude.{IsSome, MatchOption, is_some}
 use Rattle.std.specs.declared.result.Result.TheVariants.{Ok}
 use Rattle.std.proofs.lemmas.Option.{none-some, same_Some}
@@ -16,46 +16,22 @@ use Rattle.fst_machine.specs.declared.request.Request.{Request}
 use Rattle.fst_machine.specs.declared.request.Request.TheVariants as request
 use Rattle.fst_machine.specs.declared.request.Answer.{Answer}
 use Rattle.fst_machine.specs.declared.request.Answer.TheVariants.{Forked}
-use Rattle.fst_machine.specs.Values.{Value}
 use Rattle.fst_machine.specs.Machine.{State, Pause, begins, pause, stuck, calls, uses, makes, forks, puts, gets, matches, ended, asked, request, child}
 use Rattle.fst_machine.specs.Code.{Compiled}
 use Rattle.fst_machine.specs.Programs.{bodies}
 use Rattle.fst_machine.specs.Spots.{Spot, begins_at, inner, asked_at, told_at, child_at}
-use Rattle.fst_machine.specs.Standing.{AreAlike, Means, Reaches, here, further, Rests, StandsFor, Stands, HasEnded, GoesDown}
-use Rattle.fst_machine.proofs.CodeLaws.{child_stands}
-use Rattle.fst_machine.proofs.Started.{main_stands, makers_apart, told_on}
+use Rattle.fst_machine.specs.Standing.{AreAlike, Means, Stands, GoesDown}
+use Rattle.fst_machine.proofs.Laws.{inner_stands, asks_alike, child_stands, ended_means, main_stands, makers_apart, told_on}
 use Rattle.fst_vm.specs.TaskView.{TaskView}
 use Rattle.fst_vm.specs.Running.{ComesTo, code_of}
 use Rattle.fst_vm.specs.Running as running
-use Rattle.fst_vm.specs.Tasks.{AsksFor, Forks, GoesOn, HasNext, IsAtRest, IsChild, IsFrom, IsIn, IsResult, IsStart, Stays, Takes, forked_after}
+use Rattle.fst_vm.specs.Tasks.{Forks, GoesOn, HasNext, IsAtRest, IsChild, IsFrom, IsIn, IsResult, IsStart, Stays, Takes, forked_after}
 use Rattle.fst_vm.specs.Tasks as tasks
 
--- a spot where no step is left and that stands for what isn't stuck rests
-still_here : (c : Compiled) (P : Spot → Type 0) (s : Spot) → inner c s ≡ None → Reaches c P s → P s
-still_here c P s h (here p) = p
-still_here c P s h (further e r) = absurd (none-some _ (sym h ∙ e))
-
-rests_here : (n : ℕ) (c : Compiled) (s : Spot) (q : Pause) → Stands c s q → inner c s ≡ None → (q ≡ stuck → ⊥) → Rests c (StandsFor n c) s q
-rests_here n c s q h e g = go (h (suc n))
-  where
-    go : StandsFor (suc n) c s q → Rests c (StandsFor n c) s q
-    go (inl b) = absurd (g b)
-    go (inr r) = still_here c (λ t. Rests c (StandsFor n c) t q) s e r
-
--- a step keeps what the code stands for
-one_on : (n : ℕ) (c : Compiled) (s t : Spot) (q : Pause) → inner c s ≡ Some t → Reaches c (λ u. Rests c (StandsFor n c) u q) s → Reaches c (λ u. Rests c (StandsFor n c) u q) t
-one_on n c s t q h (here r) = absurd (none-some t (sym r.still ∙ h))
-one_on n c s t q h (further e r) = subst (λ u. Reaches c (λ z. Rests c (StandsFor n c) z q) u) (same_Some _ t (sym e ∙ h)) r
-
-one_step : (n : ℕ) (c : Compiled) (s t : Spot) (q : Pause) → inner c s ≡ Some t → StandsFor n c s q → StandsFor n c t q
-one_step zero c s t q h k = tt
-one_step (suc n) c s t q h (inl e) = inl e
-one_step (suc n) c s t q h (inr r) = inr (one_on n c s t q h r)
-
--- so do steps
+-- on the way the code stands for the same
 on_the_way : (c : Compiled) (s t : Spot) (q : Pause) → ComesTo c s t → Stands c s q → Stands c t q
 on_the_way c s t q running.here h = h
-on_the_way c s t q (running.next e w) h = on_the_way c _ t q w (λ n. one_step n c s _ q e (h n))
+on_the_way c s t q (running.next e w) h = on_the_way c _ t q w (inner_stands c s _ q h e)
 
 -- what is none is none where only that much is known
 none_is : {X : Type 0} (o : Option X) → ∥ o ≡ None ∥₁ → o ≡ None
@@ -81,29 +57,30 @@ pub down_where : (k : Code) (t : TaskView) → ∥ HasNext k t ∥₁ → ∥ ((
 down_where k t h = ∥∥₁_map h (λ n. all_down n.source k n.from)
 
 -- the main task begins
-pub main_begins : (k : Code) (t : TaskView) → t.path ≡ zero ∷ [] → t.forked ≡ zero → t.spot ≡ begins_at (length k.code.items) [] → IsStart k t
-main_begins k t p f s =
+pub main_begins : (k : Code) (t : TaskView) → t.path ≡ zero ∷ [] → t.forked ≡ zero → t.ready ≡ false → t.spot ≡ begins_at (length k.code.items) [] →
+    IsStart k t
+main_begins k t p f b s =
     record {
       path = p;
       forked = f;
+      ready = b;
       begun = λ m e from main.
           subst (λ z. Stands (code_of m.families.items k) z (pause m.families.items (begins e []))) (sym s)
           (main_stands m k.code.items k.lambdas.items k.globals.items k.types.items from e main);
     }
 
 -- on its way a task stays in the state in which it is
-pub stays : (k : Code) (path : List ℕ) (forked : ℕ) (s r : Spot) (t : TaskView) → record { path = path; forked = forked; spot = s } ≡ t → ((fs : List Family) → ComesTo (code_of fs k) s r) →
-    Stays k t (record { path = path; forked = forked; spot = r })
-stays k path forked s r t v w =
-    subst (λ z. Stays k z (record { path = path; forked = forked; spot = r })) v
-    (record { path = refl; forked = refl; states = λ m b h. on_the_way (code_of m.families.items k) s r (pause m.families.items b) (w m.families.items) h })
+pub stays : (k : Code) (path : List ℕ) (forked : ℕ) (s r : Spot) (b d : Bool) (t : TaskView) → record { path = path; forked = forked; spot = s; ready = b } ≡ t →
+    ((fs : List Family) → ComesTo (code_of fs k) s r) → Stays k t (record { path = path; forked = forked; spot = r; ready = d })
+stays k path forked s r b d t v w =
+    subst (λ z. Stays k z (record { path = path; forked = forked; spot = r; ready = d })) v
+    (record { path = refl; forked = refl; states = λ m q h. on_the_way (code_of m.families.items k) s r (pause m.families.items q) (w m.families.items) h })
 
 -- where no step is left it asks for what its state asks for
 pub asks_for : (k : Code) (t u : TaskView) (o : Option Request) → Stays k t u → IsAtRest k u → ((fs : List Family) → o ≡ asked_at (code_of fs k) u.spot) →
     (m : Module) (s : State) → IsIn m k t s → (pause m.families.items s ≡ stuck → ⊥) → request m.families.items s ≡ o
 asks_for k t u o st r a m s h g =
-    let rest = rests_here 0 (code_of m.families.items k) u.spot (pause m.families.items s) (st.states m s h) (r m.families.items) g in
-    sym (a m.families.items ∙ rest.alike)
+    sym (a m.families.items ∙ asks_alike (code_of m.families.items k) u.spot (pause m.families.items s) (st.states m s h) (r m.families.items) g)
 
 -- a state that has a next request isn't stuck
 asked_on : (q : Pause) (r : Request) → asked q ≡ Some r → q ≡ stuck → ⊥
@@ -124,12 +101,14 @@ made_on f old new x true m e = same_Some x new (sym e ∙ m)
 made_on f old new x false m e = absurd (none-some x (sym m.0 ∙ e))
 
 -- a task goes on after an answer
-pub goes_on : (k : Code) (path : List ℕ) (forked after : ℕ) (s r : Spot) (t : TaskView) (a : Answer) (done : Bool) → record { path = path; forked = forked; spot = s } ≡ t →
-    after ≡ forked_after a forked → IsAtRest k t → ((fs : List Family) → Makes (λ z. told_at (code_of fs k) z a) s (Ok done) r) → GoesOn k t a (record { path = path; forked = after; spot = r })
-goes_on k path forked after s r t a done v f rest w =
+pub goes_on : (k : Code) (path : List ℕ) (forked after : ℕ) (s r : Spot) (ready : Bool) (t : TaskView) (a : Answer) (done : Bool) → record { path = path; forked = forked; spot = s; ready = ready } ≡ t →
+    after ≡ forked_after a forked → IsAtRest k t → ((fs : List Family) → Makes (λ z. told_at (code_of fs k) z a) s (Ok done) r) →
+    GoesOn k t a (record { path = path; forked = after; spot = r; ready = false })
+goes_on k path forked after s r ready t a done v f rest w =
     record {
       path = ap (λ z. z.path) v;
       forked = f ∙ ap (λ z. forked_after a z.forked) v;
+      ready = refl;
       states = λ m b next from h told g.
           let c = code_of m.families.items k in
           let on = told_on m k.code.items k.lambdas.items k.globals.items k.types.items from t.spot (pause m.families.items b) a next h (rest m.families.items) told g in
@@ -165,12 +144,13 @@ child_there k t o w h =
     ap is_some (w f.source.families.items ∙ (child_for k t f.source f.state b.0 f.from f.is_in f.rests b.1).1))
 
 -- a task whose code that is
-pub child_made : (k : Code) (t u : TaskView) → u.path ≡ t.path ++ suc t.forked ∷ [] → u.forked ≡ zero → ((fs : List Family) → Some u.spot ≡ child_at (code_of fs k) t.spot) → IsAtRest k t →
+pub child_made : (k : Code) (t u : TaskView) → u.path ≡ t.path ++ suc t.forked ∷ [] → u.forked ≡ zero → u.ready ≡ false → ((fs : List Family) → Some u.spot ≡ child_at (code_of fs k) t.spot) → IsAtRest k t →
     IsChild k t u
-child_made k t u p f w r =
+child_made k t u p f b w r =
     record {
       path = p;
       forked = f;
+      ready = b;
       states = λ m s b from h e. subst (λ z. Stands (code_of m.families.items k) z (pause m.families.items b)) (same m s b from h e) (child_for k t m s b from h r e).3;
       alike = λ m s b from h e. subst (λ z. AreAlike (code_of m.families.items k) z.slots b.environment) (same m s b from h e) (child_for k t m s b from h r e).2;
     }
@@ -178,11 +158,7 @@ child_made k t u p f w r =
     same : (m : Module) (s b : State) (from : IsFrom m k) (h : IsIn m k t s) (e : child (pause m.families.items s) ≡ Some b) → (child_for k t m s b from h r e).0 ≡ u.spot
     same m s b from h e = let v = child_for k t m s b from h r e in same_Some v.0 u.spot (sym v.1 ∙ sym (w m.families.items))
 
--- the only value on the stack of a task that has ended means the task's value
-only_value : (c : Compiled) (s : Spot) (q : Pause) (v : Value) → Stands c s q → inner c s ≡ None → q ≡ ended v → HasEnded c s.operands (ended v)
-only_value c s q v h e w = subst (λ z. HasEnded c s.operands z) w (rests_here 0 c s q h e (λ b. absurd (cc (sym w ∙ b)))).value
-
--- there is such a value
+-- a task that has ended has a value
 pub value_there : (t : TaskView) (o : Option ValueTree) (ops new : List ValueTree) → t.spot.operands ≡ ops → ∥ tasks.HasEnded t ∥₁ → MatchOption o ((ops ≡ []) × (new ≡ [])) (λ x. ops ≡ x ∷ new) →
     IsSome o
 value_there t (Some x) ops new e h m = refl
@@ -191,13 +167,13 @@ value_there t None ops new e h m =
     (∥∥₁_elim h ⊥_prop
     (λ d.
     let c = code_of d.source.families.items d.code in
-    let v = only_value c t.spot (pause d.source.families.items d.state) d.value d.is_in (d.rests d.source.families.items) d.ends in
+    let v = ended_means c t.spot d.value (subst (λ q. Stands c t.spot q) d.ends d.is_in) (d.rests d.source.families.items) in
     cc (sym v.1 ∙ e ∙ m.0)))
 
 -- and it is the one that is taken off
 pub value_is : (t : TaskView) (x : ValueTree) (ops new : List ValueTree) → t.spot.operands ≡ ops → ops ≡ x ∷ new → IsResult t x
 value_is t x ops new e m k c s v r h w =
     let code = code_of k.families.items c in
-    let u = only_value code t.spot (pause k.families.items s) v h (r k.families.items) w in
+    let u = ended_means code t.spot v (subst (λ q. Stands code t.spot q) w h) (r k.families.items) in
     let same : u.0 ≡ x = cc (sym u.1 ∙ e ∙ m) in
     subst (λ z. Means code z v) same u.2

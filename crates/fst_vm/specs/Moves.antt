@@ -1,7 +1,7 @@
 -- What single calls do to variables and to values on the stack.
 use Rattle.std.specs.Prelude.{ℕ, Bool, true, false, not, Option, Some, None, option_map, List, [], ◌∷◌, ◌++◌, slice_get}
 use Rattle.fst_terms.specs.declared.term.Op.{Op}
-use Rattle.fst_value.specs.ValueTree.{ValueTree, bool, function, end, ValueTrees, none, value}
+use Rattle.fst_value.specs.ValueTree.{ValueTree, bool, unit, pair, function, end, ValueTrees, none, value}
 use Rattle.fst_value.specs.Cells.{ends_in}
 use Rattle.fst_value.specs.declared.ends.EndName.{EndName}
 use Rattle.fst_value.specs.declared.event.Event.{Event}
@@ -53,6 +53,10 @@ negated ops = None
 abbrev pub end_on : List ValueTree → Option EndName
 end_on (end x ∷ ops) = Some x
 end_on ops = None
+
+-- the pair of the unit value and the last value, if this is an end
+abbrev pub spare_for : List ValueTree → Option ValueTree
+spare_for ops = option_map (λ x. pair unit (end x)) (end_on ops)
 
 -- these values in order
 abbrev pub trees_of : List ValueTree → ValueTrees

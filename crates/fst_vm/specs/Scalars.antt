@@ -1,4 +1,7 @@
 -- Values of base types by their forms.
+use Rattle.std.specs.Prelude.{Option, Some, None}
+use Rattle.fst_value.specs.declared.event.Event.{Event}
+use Rattle.fst_value.specs.declared.event.Event.TheVariants as event
 use Rattle.fst_value.specs.declared.value.Form.{Form}
 use Rattle.fst_value.specs.declared.value.Form.TheVariants as form
 use Rattle.fst_machine.specs.Values.{Value, int, bool, char, unit, pair}
@@ -13,3 +16,11 @@ scalar_at form.Pair = pair unit unit
 scalar_at (form.Make n o) = pair unit unit
 scalar_at (form.Function l) = pair unit unit
 scalar_at form.End = pair unit unit
+
+-- the form of the value that an event brings, if it is none of a label
+abbrev pub brought : Event → Option Form
+brought (event.Int n) = Some (form.Int n)
+brought (event.Bool b) = Some (form.Bool b)
+brought (event.Char c) = Some (form.Char c)
+brought event.Unit = Some form.Unit
+brought (event.Label l) = None

@@ -1,6 +1,6 @@
 -- Tasks as codes, and back.
-use Rattle.std.specs.Prelude.{ℕ, List, refl}
-use Rattle.std.specs.Coded.{Coded, code_by, coded×, coded_ℕ, coded_list, coded_option}
+use Rattle.std.specs.Prelude.{ℕ, Bool, List, refl}
+use Rattle.std.specs.Coded.{Coded, code_by, coded×, coded_ℕ, coded_bool, coded_list, coded_option}
 use Rattle.fst_value.specs.ValueTree.{ValueTree}
 use Rattle.fst_value.specs.CellCode.{value_code}
 use Rattle.fst_machine.specs.Spots.{Spot, Call, Slots}
@@ -23,5 +23,5 @@ spot_code =
 -- so are tasks
 abbrev pub task_code : Coded TaskView
 task_code =
-    code_by (List ℕ × (ℕ × Spot)) (coded× (coded_list coded_ℕ) (coded× coded_ℕ spot_code))
-    (λ t. (t.path, (t.forked, t.spot))) (λ p. record { path = p.0; forked = p.1.0; spot = p.1.1 }) (λ _. refl)
+    code_by (List ℕ × (ℕ × (Spot × Bool))) (coded× (coded_list coded_ℕ) (coded× coded_ℕ (coded× spot_code coded_bool)))
+    (λ t. (t.path, (t.forked, (t.spot, t.ready)))) (λ p. record { path = p.0; forked = p.1.0; spot = p.1.1.0; ready = p.1.1.1 }) (λ _. refl)

@@ -1,5 +1,5 @@
 -- What the calls of a task promise, by the states of the terms that its code stands for.
-use Rattle.std.specs.Prelude.{◌≡◌, ◌<◌, ◌++◌, ℕ, suc, zero, Some, None, List, [], ◌∷◌}
+use Rattle.std.specs.Prelude.{◌≡◌, ◌<◌, ◌++◌, ℕ, Bool, true, false, suc, zero, Some, None, List, [], ◌∷◌}
 use Rattle.fst_types.specs.declared.family.Family.{Family}
 use Rattle.fst_terms.specs.CoreTree.{CoreTree}
 use Rattle.fst_terms.specs.declared.core_module.Module.{Module}
@@ -41,6 +41,7 @@ pub record HasNext (k : Code) (t : TaskView) : Type 0 where
 pub record IsStart (k : Code) (t : TaskView) : Type 0 where
   pub path : t.path ≡ zero ∷ []
   pub forked : t.forked ≡ zero
+  pub ready : t.ready ≡ false
   pub begun : (m : Module) (e : CoreTree) → IsFrom m k → main_body m.globals.items ≡ Some e → IsIn m k t (begins e [])
 
 -- the task is the same, and is in each state in which it was
@@ -73,10 +74,23 @@ forked_after Forked n = suc n
 forked_after Sent n = n
 forked_after (Got ev) n = n
 
+-- it is an answer to what is sent or received
+abbrev pub is_exchange : Answer → Bool
+is_exchange Go = false
+is_exchange (Made h) = false
+is_exchange Forked = false
+is_exchange Sent = true
+is_exchange (Got ev) = true
+
+-- the same task, which is ready
+abbrev pub readied : TaskView → TaskView
+readied t = record t { ready = true }
+
 -- the task has gone on after an answer
 pub record GoesOn (k : Code) (t : TaskView) (a : Answer) (u : TaskView) : Type 0 where
   pub path : u.path ≡ t.path
   pub forked : u.forked ≡ forked_after a t.forked
+  pub ready : u.ready ≡ false
   pub states : (m : Module) (s after : State) → IsFrom m k → IsIn m k t s → answered (program m) s a ≡ Some after →
       (pause m.families.items after ≡ stuck → ⊥) → IsIn m k u after
 
@@ -94,6 +108,7 @@ pub record Forks (k : Code) (t : TaskView) : Type 0 where
 pub record IsChild (k : Code) (t u : TaskView) : Type 0 where
   pub path : u.path ≡ t.path ++ suc t.forked ∷ []
   pub forked : u.forked ≡ zero
+  pub ready : u.ready ≡ false
   pub states : (m : Module) (s b : State) → IsFrom m k → IsIn m k t s → child (pause m.families.items s) ≡ Some b → IsIn m k u b
   pub alike : (m : Module) (s b : State) → IsFrom m k → IsIn m k t s → child (pause m.families.items s) ≡ Some b →
       AreAlike (code_of m.families.items k) u.spot.slots b.environment

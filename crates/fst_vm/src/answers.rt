@@ -1,22 +1,22 @@
 //! How code goes on after an answer.
 
-ghost use Rattle.std.specs.Prelude.{◌≡◌, ◌++◌, ◌∷◌, [], ℕ, List, IfOk, OnOk, OnErr, option_copied, option_map, reverse, slice_get, take};
+ghost use Rattle.std.specs.Prelude.{◌≡◌, ◌++◌, ◌∷◌, [], ℕ, List, IfOk, IsOk, OnOk, OnErr, true, option_copied, reverse, slice_get, take};
 ghost use Rattle.std.specs.declared.result.Result.TheVariants.{Ok};
 ghost use Rattle.fst_types.specs.declared.family.Family.{Family};
-ghost use Rattle.fst_value.specs.ValueTree.{end};
 ghost use Rattle.fst_machine.specs.declared.code.Instr.TheVariants as does;
 ghost use Rattle.fst_machine.specs.declared.request.Answer.TheVariants.{Go, Got, Sent};
 ghost use Rattle.fst_machine.specs.Code.{Compiled, place_of};
 ghost use Rattle.fst_machine.specs.Spots.{child_at, told, told_at};
 ghost use Rattle.fst_value.specs.Stacks.{Makes};
-ghost use Rattle.fst_vm.specs.Moves.{end_on, entry_below, forked_entry, given_for, matched};
+ghost use Rattle.fst_vm.specs.Moves.{entry_below, forked_entry, given_for, matched, spare_for};
+ghost use Rattle.fst_vm.specs.Tasks.{is_exchange};
 ghost use Rattle.fst_vm.specs.Running.{code_of};
 
 use crate::act::captured_count;
 use crate::places::{entry_at, instr_at, start_at};
 use crate::running::{Caller, Running};
 use crate::slots::{Slots, spread};
-use crate::values::{ends_of, pair, received};
+use crate::values::{brought, ends_of, last_end, pair, received};
 use fst_machine::{Answer, Code, Instr, LambdaEntry};
 use fst_types::Name;
 use fst_value::{ChannelName, Event, Form, Stack, Value, copy};
@@ -118,17 +118,6 @@ fn go_on_with(
     running.stack.replace(count, value)?;
     running.place = behind;
     Ok(true)
-}
-
-// The last value, if it is an end.
-fn last_end(stack: &Stack) -> Option<&Value>
-    ensures { option_copied result ≡ option_map end (end_on stack.now) }
-{
-    let value = stack.get(0)?;
-    match value.form() {
-        Form::End => Some(value),
-        _ => None,
-    }
 }
 
 // The value was received, of which the end is left.
@@ -242,9 +231,9 @@ fn tell_instr(
     }
 }
 
-/// Goes on after an answer, and says whether the code asks for one of its kind and goes on after it. Where there is no room,
-/// nothing changes.
-pub(crate) fn tell(
+// Goes on after an answer, and says whether the code asks for one of its kind and goes on after it. Where there is no room,
+// nothing changes.
+fn tell(
     alloc: Global,
     code: &Code,
     answer: &Answer,
@@ -256,6 +245,103 @@ pub(crate) fn tell(
         Some(instr) => tell_instr(alloc, code, instr, running.place - 1, answer, running),
         None => Ok(false),
     }
+}
+
+// Goes on after what was sent on the last value.
+fn sent_instr(instr: &Instr, behind: u64, running: &mut Running) -> bool
+    ensures { (c : Compiled) → Makes (λ s. told c instr.now behind s s.operands Sent) running.old (Ok result) running.new }
+{
+    match instr {
+        Instr::Send => go_on_with_end(running, behind),
+        Instr::Select(_) => go_on_selected(running, behind),
+        _ => false,
+    }
+}
+
+// What was received goes into the spare pair, in place of the end.
+fn go_on_with_spare(running: &mut Running, behind: u64, event: &Event, spare: Option<Value>) -> bool
+    requires { spare ≡ spare_for running.old.operands }
+    ensures { (c : Compiled) → Makes (λ s. told c does.Receive behind s s.operands (Got event.now)) running.old (Ok result) running.new }
+{
+    let mut both = match spare {
+        Some(both) => both,
+        None => return false,
+    };
+    let form = match brought(event) {
+        Some(form) => form,
+        None => return false,
+    };
+    both.set_first(form);
+    match running.stack.replace(1, both) {
+        Ok(()) => {}
+        Err(_) => return false,
+    }
+    running.place = behind;
+    true
+}
+
+// Goes on after what was received on the last value.
+fn got_instr(
+    instr: &Instr,
+    behind: u64,
+    event: &Event,
+    spare: Option<Value>,
+    running: &mut Running,
+) -> bool
+    requires { spare ≡ spare_for running.old.operands }
+    ensures { (c : Compiled) → Makes (λ s. told c instr.now behind s s.operands (Got event.now)) running.old (Ok result) running.new }
+{
+    match instr {
+        Instr::Receive => go_on_with_spare(running, behind, event, spare),
+        Instr::Match(places) => go_on_in_arm(places, event, running),
+        _ => false,
+    }
+}
+
+// Goes on after what was sent, and says whether the code sends.
+fn tell_sent(code: &Code, running: &mut Running) -> bool
+    ensures { (fs : List Family) → Makes (λ s. told_at (code_of fs code.now) s Sent) running.old (Ok result) running.new }
+{
+    match instr_at(code, running.place) {
+        Some(instr) => sent_instr(instr, running.place - 1, running),
+        None => false,
+    }
+}
+
+// Goes on after what was received, and says whether the code receives it.
+fn tell_got(code: &Code, event: &Event, spare: Option<Value>, running: &mut Running) -> bool
+    requires { spare ≡ spare_for running.old.operands }
+    ensures { (fs : List Family) → Makes (λ s. told_at (code_of fs code.now) s (Got event.now)) running.old (Ok result) running.new }
+{
+    match instr_at(code, running.place) {
+        Some(instr) => got_instr(instr, running.place - 1, event, spare, running),
+        None => false,
+    }
+}
+
+/// Goes on after an answer, and says whether the code asks for one of its kind and goes on after it. With the spare pair no
+/// memory is wanting after what was sent or received. Where there is no room, nothing changes.
+pub(crate) fn tell_ready(
+    alloc: Global,
+    code: &Code,
+    answer: &Answer,
+    ready: bool,
+    spare: &mut Option<Value>,
+    running: &mut Running,
+) -> Result<bool, AllocError>
+    requires { ready ≡ true → spare.old ≡ spare_for running.old.operands }
+    ensures goes { (fs : List Family) → Makes (λ s. told_at (code_of fs code.now) s answer.now) running.old result running.new }
+    ensures sure { ready ≡ true → is_exchange answer.now ≡ true → IsOk result }
+    ensures kept { OnErr result (spare.new ≡ spare.old) }
+{
+    if ready {
+        match answer {
+            Answer::Sent => return Ok(tell_sent(code, running)),
+            Answer::Got(event) => return Ok(tell_got(code, event, spare.take(), running)),
+            _ => {}
+        }
+    }
+    tell(alloc, code, answer, running)
 }
 
 // Copies of the last values, in order.

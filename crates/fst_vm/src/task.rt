@@ -1,12 +1,13 @@
-ghost use Rattle.std.specs.Prelude.{◌≡◌, ◌<◌, ◌++◌, ◌∷◌, [], suc, IfOk, OnOk, IfErr};
+ghost use Rattle.std.specs.Prelude.{◌≡◌, ◌<◌, ◌++◌, ◌∷◌, [], suc, false, true, IfOk, IsOk, OnOk, OnErr, IfErr};
 ghost use Rattle.fst_machine.specs.declared.request.Answer.TheVariants.{Forked};
 ghost use Rattle.fst_vm.specs.Moves.{ends_in_slots};
-ghost use Rattle.fst_vm.specs.Tasks.{AsksFor, Forks, GoesOn, HasEnded, HasNext, IsAtRest, IsChild, IsResult, IsStart, Stays, Takes, forked_after};
+ghost use Rattle.fst_vm.specs.Tasks.{AsksFor, Forks, GoesOn, HasEnded, HasNext, IsAtRest, IsChild, IsResult, IsStart, Stays, Takes, forked_after, is_exchange, readied};
 
-use crate::answers::{child_at, tell};
+use crate::answers::{child_at, tell_ready};
 use crate::requests::request_at;
 use crate::running::Running;
 use crate::slots::Slots;
+use crate::values::spare_for;
 use fst_machine::{Answer, Code, Request};
 use fst_value::{EndName, Path, Value};
 use std::alloc::{AllocError, Global};
@@ -34,13 +35,17 @@ fn forked_after(answer: &Answer, forked: u32) -> u32
     }
 }
 
-/// A task: its path, how many tasks it has forked, and where its code runs.
+/// A task: its path, how many tasks it has forked, where its code runs, and whether it has the room to go on after what it
+/// sends or receives.
 #[derive(Drop)]
 pub struct Task {
     alloc: Global,
     path: Path,
     forked: u32,
     running: Running,
+    ready: bool,
+    // where the task is ready and its last value is an end, the pair of the unit value and the end
+    spare: Option<Value>,
 }
 
 impl Model for Task {
@@ -51,7 +56,12 @@ impl Model for Task {
 
     ghost coded = { task_code };
 
-    ghost view = { λ t. record { path = t.path; forked = t.forked; spot = t.running } };
+    ghost use Rattle.std.specs.Prelude.{◌≡◌, true};
+    ghost use Rattle.fst_vm.specs.Moves.{spare_for};
+
+    ghost view = { λ t. record { path = t.path; forked = t.forked; spot = t.running; ready = t.ready } };
+
+    ghost invariant = { λ t. t.ready ≡ true → t.spare ≡ spare_for t.running.operands };
 }
 
 impl Task {
@@ -66,6 +76,8 @@ impl Task {
             path,
             forked: 0,
             running,
+            ready: false,
+            spare: None,
         })
     }
 
@@ -82,24 +94,47 @@ impl Task {
         ensures stays { Stays code.now self.old self.new }
         ensures asked { IfOk result (AsksFor code.now self.old) }
         ensures rests { OnOk result (IsAtRest code.now self.new) }
+        ensures unready { self.new.ready ≡ false }
     {
+        self.ready = false;
         self.running.run_on(self.alloc, code)?;
         let request = request_at(self.alloc, code, &self.running)?;
         Ok(request.unwrap())
     }
 
+    /// Takes the room that the answer to what it sends or receives needs, whatever its code. Where memory is wanting, the task is
+    /// as it was.
+    pub fn ready(&mut self, _code: &Code) -> Result<(), AllocError>
+        ensures ready { OnOk result (self.new ≡ readied self.old) }
+        ensures unchanged { OnErr result (self.new ≡ self.old) }
+    {
+        let spare = spare_for(self.alloc, &self.running.stack)?;
+        self.spare = spare;
+        self.ready = true;
+        Ok(())
+    }
+
     /// Goes on after an answer to what `advance` answered. Where memory is wanting, the answer comes back and the task is as
-    /// it was.
+    /// it was; none is wanting where the task is ready and the answer is one to what it sent or received.
     pub fn resume(&mut self, code: &Code, answer: Answer) -> Result<(), (Answer, AllocError)>
         requires { ∥ Takes code.now self.old answer ∥₁ }
         ensures goes_on { OnOk result (GoesOn code.now self.old answer self.new) }
         ensures back { IfErr result (λ p. (p.0 ≡ answer) × (self.new ≡ self.old)) }
+        ensures sure { self.old.ready ≡ true → is_exchange answer ≡ true → IsOk result }
     {
-        match tell(self.alloc, code, &answer, &mut self.running) {
+        match tell_ready(
+            self.alloc,
+            code,
+            &answer,
+            self.ready,
+            &mut self.spare,
+            &mut self.running,
+        ) {
             Ok(_) => {}
             Err(e) => return Err((answer, e)),
         }
         self.forked = forked_after(&answer, self.forked);
+        self.ready = false;
         Ok(())
     }
 
@@ -118,6 +153,8 @@ impl Task {
             path,
             forked: 0,
             running,
+            ready: false,
+            spare: None,
         };
         Ok((task, ends))
     }

@@ -1,12 +1,14 @@
 //! Values that a task is given.
 
-ghost use Rattle.std.specs.Prelude.{◌≡◌, IfOk, option_map};
+ghost use Rattle.std.specs.Prelude.{◌≡◌, IfOk, option_copied, option_map};
 ghost use Rattle.fst_value.specs.ValueTree.{end, pair};
+ghost use Rattle.fst_vm.specs.Moves.{end_on, spare_for};
+ghost use Rattle.fst_vm.specs.Scalars.{brought};
 ghost use Rattle.fst_machine.specs.Spots.{ends_of, of_scalar};
 ghost use Rattle.fst_machine.specs.Values.{received};
 
 use fst_types::Side;
-use fst_value::{ChannelName, EndName, Event, Stack, Value};
+use fst_value::{ChannelName, EndName, Event, Form, Stack, Value, copy};
 use std::alloc::{AllocError, Global};
 
 // A pair of two values.
@@ -50,4 +52,41 @@ pub(crate) fn received(alloc: Global, event: &Event) -> Result<Option<Value>, Al
         Event::Label(_) => return Ok(None),
     };
     Ok(Some(value))
+}
+
+/// The last value, if it is an end.
+pub(crate) fn last_end(stack: &Stack) -> Option<&Value>
+    ensures { option_copied result ≡ option_map end (end_on stack.now) }
+{
+    let value = stack.get(0)?;
+    match value.form() {
+        Form::End => Some(value),
+        _ => None,
+    }
+}
+
+/// The pair of the unit value and the last value, if this is an end.
+pub(crate) fn spare_for(alloc: Global, stack: &Stack) -> Result<Option<Value>, AllocError>
+    ensures { IfOk result (λ o. o ≡ spare_for stack.now) }
+{
+    match last_end(stack) {
+        Some(end) => {
+            let both = pair(alloc, Value::unit(alloc)?, copy(alloc, end)?)?;
+            Ok(Some(both))
+        }
+        None => Ok(None),
+    }
+}
+
+/// The form of the value that an event brings, if it is none of a label.
+pub(crate) fn brought(event: &Event) -> Option<Form>
+    ensures { result ≡ brought event.now }
+{
+    match event {
+        Event::Int(number) => Some(Form::Int(*number)),
+        Event::Bool(truth) => Some(Form::Bool(*truth)),
+        Event::Char(character) => Some(Form::Char(*character)),
+        Event::Unit => Some(Form::Unit),
+        Event::Label(_) => None,
+    }
 }

@@ -6,7 +6,7 @@ use Rattle.std.proofs.lemmas.Grind.{merely}
 use Rattle.fst_terms.specs.declared.global.GlobalEntry.{GlobalEntry}
 use Rattle.fst_machine.specs.Programs.{IsCodeOf}
 use Rattle.fst_machine.specs.Standing.{DistinctMakers}
-use Rattle.fst_machine.proofs.Conditions.{distinct_makers}
+use Rattle.fst_machine.proofs.Laws.{distinct_makers}
 use Rattle.fst_code.specs.Written.{compiled}
 use Rattle.fst_code.proofs.GlobalLaws.{is_code_as, none_down}
 use Rattle.fst_code.proofs.generating.generate.Goals as goal

@@ -4,7 +4,7 @@ use Rattle.std.proofs.Math.Bridge.{le_prop}
 use Rattle.std.specs.declared.result.Result.TheVariants.{Ok}
 use Rattle.fst_value.specs.Stacks.{Makes}
 use Rattle.fst_machine.specs.Spots.{inner}
-use Rattle.fst_machine.proofs.CodeLaws.{inner_lowers}
+use Rattle.fst_machine.proofs.Laws.{inner_lowers}
 use Rattle.fst_vm.specs.Running.{ComesTo, here, code_of}
 use Rattle.fst_vm.proofs.RunLaws.{one_further}
 use Rattle.fst_vm.proofs.running.Running.run_on.Goals as goal
