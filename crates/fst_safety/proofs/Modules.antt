@@ -18,7 +18,7 @@ use Rattle.fst_safety.specs.Fitting.{Residuals, Fits}
 use Rattle.fst_safety.specs.WellTyped.{IsWellTyped}
 use Rattle.fst_safety.specs.Safety.{main_type, HasMainType, DerivedIsSafe}
 use Rattle.fst_safety.proofs.Checked.{checked}
-use Rattle.fst_safety.proofs.Runs.{never_wrong, result}
+use Rattle.fst_safety.proofs.Runs.{never_wrong, sessions, result}
 use Rattle.fst_safety.proofs.Shown.{result_of, of_shown}
 use Rattle.fst_safety.proofs.Typed.{some_same, none_some}
 
@@ -96,6 +96,9 @@ modules_safe m ds h = record {
   never_wrong = λ e q es c r.
       let k = main_typed m ds h e q in
       never_wrong (surroundings m []) (checked m ds h) k.type e k.typed es c r;
+  sessions = λ e q es c r x j i.
+      let k = main_typed m ds h e q in
+      sessions (surroundings m []) (checked m ds h) k.type e k.typed es c r x j i;
   result = λ e q es c r t v i f.
       let k = main_typed m ds h e q in
       main_value m (checked m ds h) (residual_in c) v e k (result (surroundings m []) (checked m ds h) k.type e k.typed k.printable es c r t v i f);

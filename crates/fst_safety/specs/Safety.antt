@@ -5,6 +5,7 @@ use Rattle.fst_types.specs.Tree as type
 use Rattle.fst_types.specs.Tree.{Tree, plain, named}
 use Rattle.fst_types.specs.declared.base.Base.TheVariants.{Int, Bool as Truth, Char, Unit as Nothing}
 use Rattle.fst_types.specs.declared.family.Maker.{Maker}
+use Rattle.fst_kinds.specs.WellFormed.{IsSession}
 use Rattle.fst_terms.specs.CoreTree.{CoreTree}
 use Rattle.fst_terms.specs.InRange.{maker_of}
 use Rattle.fst_terms.specs.declared.core_module.Module.{Module}
@@ -12,11 +13,12 @@ use Rattle.fst_terms.specs.declared.global.GlobalEntry.{GlobalEntry}
 use Rattle.fst_derivations.specs.Deriv.{Deriv}
 use Rattle.fst_derivations.specs.Modules.{HasDerivations}
 use Rattle.fst_derivations.specs.Parts.{AreAt}
+use Rattle.fst_value.specs.declared.ends.ChannelName.{ChannelName}
 use Rattle.fst_machine.specs.Values as value
 use Rattle.fst_machine.specs.Values.{Value, Values, no_values}
 use Rattle.fst_machine.specs.Machine.{pause, ended}
 use Rattle.fst_runs.specs.declared.event.CoreEvent.{CoreEvent}
-use Rattle.fst_runs.specs.Configs.{Config, Task, program, main_body, main_path, started}
+use Rattle.fst_runs.specs.Configs.{Config, Task, Channel, program, main_body, main_path, started}
 use Rattle.fst_runs.specs.Events.{Runs}
 use Rattle.fst_runs.specs.Wrong.{IsRight}
 
@@ -70,11 +72,13 @@ pub record HasMainType (m : Module) (v : Value) : Type 0 where
   pub typed : IsOf m v type
   pub shown : IsShown v
 
--- whatever happens in a run of the module, in any order, nothing goes wrong; and where main has ended, its value is one of main's
--- declared type
+-- whatever happens in a run of the module, in any order, nothing goes wrong; each channel's declared type is a closed well-formed
+-- session type; and where main has ended, its value is one of main's declared type
 pub record IsSafe (m : Module) : Type 0 where
   pub never_wrong : (e : CoreTree) → main_body m.globals.items ≡ Some e → (es : List CoreEvent) (c : Config) →
       Runs (program m) m.types.items (started e) es c → IsRight (program m) c
+  pub sessions : (e : CoreTree) → main_body m.globals.items ≡ Some e → (es : List CoreEvent) (c : Config) →
+      Runs (program m) m.types.items (started e) es c → (h : ChannelName) (k : Channel) → c.channels h ≡ Some k → IsSession [] k.declared
   pub result : (e : CoreTree) → main_body m.globals.items ≡ Some e → (es : List CoreEvent) (c : Config) →
       Runs (program m) m.types.items (started e) es c → (t : Task) (v : Value) → c.tasks main_path ≡ Some t →
       pause m.families.items t.state ≡ ended v → HasMainType m v

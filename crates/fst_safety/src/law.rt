@@ -2,9 +2,9 @@ ghost use Rattle.fst_safety.specs.Diamond.{DiamondLaw, OneEnd};
 ghost use Rattle.fst_safety.specs.Safety.{DerivedIsSafe};
 
 /// A module that has derivations is safe: whatever happens in a run of it, in any order, each task asks for something that
-/// the residuals of its ends allow, each history is a trace of its channel's type, and each end that isn't spent is held by
-/// one task, once; and where the task of `main` has ended, its value is one of `main`'s declared type, and no function and no
-/// end stands in it.
+/// the residuals of its ends allow, each history is a trace of its channel's type, which is a closed well-formed session type,
+/// and each end that isn't spent is held by one task, once; and where the task of `main` has ended, its value is one of
+/// `main`'s declared type, and no function and no end stands in it.
 #[tactic(auto, using(crate::proofs::Modules::modules_safe))]
 pub fn safety_law()
     ensures { DerivedIsSafe }

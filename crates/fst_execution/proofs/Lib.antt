@@ -1,0 +1,2 @@
+mod WholeLaws
+mod ExecutionLaws

@@ -1,0 +1,2 @@
+mod WordLaws
+pub mod Laws

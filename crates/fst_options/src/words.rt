@@ -1,0 +1,220 @@
+ghost use Rattle.std.specs.Prelude.{◌≡◌, ◌++◌, ◌∷◌, [], ℕ, List, MatchOption, codes, map, string_bytes};
+ghost use Rattle.std.specs.List.{list_all};
+ghost use Rattle.std.specs.Char.{is_ascii_digit};
+ghost use Rattle.fst_options.specs.Words.{AreOptions, Begins, IsCommand, IsOption, IsValue, NoCommand, Sets};
+ghost use Rattle.fst_options.specs.Views.{command_of, setting_of};
+
+/// The greatest number of digits of a value.
+const MAX_DIGITS: usize = 9;
+
+/// A number that words may set.
+#[derive(Clone, Copy, Debug)]
+pub(crate) enum Setting {
+    /// How many pairs a question may have.
+    Budget,
+    /// How many events a run may have.
+    Steps,
+}
+
+impl Setting {
+    fn name(self) -> &'static str
+        ensures { result.now ≡ (setting_of self).name }
+    {
+        match self {
+            Setting::Budget => "--budget",
+            Setting::Steps => "--steps",
+        }
+    }
+
+    // The least and the greatest value.
+    fn range(self) -> (u32, u32)
+        ensures { result ≡ ((setting_of self).least, (setting_of self).most) }
+    {
+        match self {
+            Setting::Budget => (1, 10_000),
+            Setting::Steps => (0, 2_000_000),
+        }
+    }
+
+    // The value where no word sets it.
+    fn default(self) -> u32
+        ensures { result ≡ (setting_of self).default }
+    {
+        match self {
+            Setting::Budget => 1000,
+            Setting::Steps => 1_000_000,
+        }
+    }
+}
+
+fn is_digits(text: &str) -> bool
+    ensures { result ≡ list_all is_ascii_digit text.now }
+{
+    text.as_bytes().iter().all(|byte| byte.is_ascii_digit())
+}
+
+// The value that these digits are.
+fn value_of(setting: Setting, digits: &str) -> Option<u32>
+    ensures { MatchOption result
+        ((n : ℕ) → IsValue (setting_of setting) digits.now n → ⊥)
+        (IsValue (setting_of setting) digits.now) }
+{
+    if digits.is_empty() || digits.len() > MAX_DIGITS || !is_digits(digits) {
+        return None;
+    }
+    let (least, most) = setting.range();
+    match digits.parse::<u32>() {
+        Ok(n) if least <= n && n <= most => Some(n),
+        Ok(_) => None,
+        Err(_) => None,
+    }
+}
+
+// What is behind an option's name and `=` in a word.
+fn joined<'a>(name: &str, word: &'a str) -> Option<&'a str>
+    ensures { MatchOption result
+        ((digits : List ℕ) → word.now ≡ name.now ++ codes "=" ++ digits → ⊥)
+        (λ d. word.now ≡ name.now ++ codes "=" ++ d.now) }
+{
+    match word.strip_prefix(name) {
+        Some(tail) => tail.strip_prefix("="),
+        None => None,
+    }
+}
+
+// The digits of the option of this name that the words begin with, and the words behind it.
+fn begins<'a>(name: &str, words: &'a [String]) -> Option<(&'a str, &'a [String])>
+    ensures { MatchOption result
+        ((digits : List ℕ) (rest : List (List ℕ)) → Begins name.now (map string_bytes words.now) digits rest → ⊥)
+        (λ p. Begins name.now (map string_bytes words.now) p.0.now (map string_bytes p.1.now)) }
+{
+    let (word, behind) = match words.split_first() {
+        Some(both) => both,
+        None => return None,
+    };
+    if word.as_str() == name {
+        return match behind.split_first() {
+            Some((digits, rest)) => Some((digits.as_str(), rest)),
+            None => None,
+        };
+    }
+    match joined(name, word.as_str()) {
+        Some(digits) => Some((digits, behind)),
+        None => None,
+    }
+}
+
+// The value that the words begin by setting, and the words behind it.
+fn sets<'a>(setting: Setting, words: &'a [String]) -> Option<(u32, &'a [String])>
+    ensures { MatchOption result
+        ((n : ℕ) (rest : List (List ℕ)) → Sets (setting_of setting) (map string_bytes words.now) n rest → ⊥)
+        (λ p. Sets (setting_of setting) (map string_bytes words.now) p.0 (map string_bytes p.1.now)) }
+{
+    match begins(setting.name(), words) {
+        Some((digits, rest)) => match value_of(setting, digits) {
+            Some(n) => Some((n, rest)),
+            None => None,
+        },
+        None => None,
+    }
+}
+
+// The value that the words set, or its default where there are none.
+fn option(setting: Setting, words: &[String]) -> Option<u32>
+    ensures { MatchOption result
+        ((n : ℕ) → IsOption (setting_of setting) (map string_bytes words.now) n → ⊥)
+        (IsOption (setting_of setting) (map string_bytes words.now)) }
+{
+    if words.is_empty() {
+        return Some(setting.default());
+    }
+    match sets(setting, words) {
+        Some((n, rest)) if rest.is_empty() => Some(n),
+        Some(_) => None,
+        None => None,
+    }
+}
+
+// The steps and the budget that the words set.
+fn options(words: &[String]) -> Option<(u32, u32)>
+    ensures { MatchOption result
+        ((s b : ℕ) → AreOptions (map string_bytes words.now) s b → ⊥)
+        (λ p. AreOptions (map string_bytes words.now) p.0 p.1) }
+{
+    if words.is_empty() {
+        return Some((Setting::Steps.default(), Setting::Budget.default()));
+    }
+    if let Some((steps, rest)) = sets(Setting::Steps, words) {
+        return match option(Setting::Budget, rest) {
+            Some(budget) => Some((steps, budget)),
+            None => None,
+        };
+    }
+    match sets(Setting::Budget, words) {
+        Some((budget, rest)) => match option(Setting::Steps, rest) {
+            Some(steps) => Some((steps, budget)),
+            None => None,
+        },
+        None => None,
+    }
+}
+
+/// A command with its options.
+#[derive(Clone, Copy, Debug)]
+pub enum Command {
+    /// Whether two types are equivalent, within a budget of pairs.
+    Equiv(u32),
+    /// The canonical text of a module.
+    Show,
+    /// Whether a module is well typed, within a budget of pairs.
+    Check(u32),
+    /// What so many steps of a module come to that is well typed, within a budget of pairs.
+    Run(u32, u32),
+}
+
+// The words behind a command's name, or none where another word is in front.
+fn behind<'a>(name: &str, words: &'a [String]) -> Option<&'a [String]>
+    ensures { MatchOption result
+        ((rest : List (List ℕ)) → map string_bytes words.now ≡ name.now ∷ rest → ⊥)
+        (λ rest. map string_bytes words.now ≡ name.now ∷ map string_bytes rest.now) }
+{
+    match words.split_first() {
+        Some((word, rest)) if word.as_str() == name => Some(rest),
+        Some(_) => None,
+        None => None,
+    }
+}
+
+/// The command that the words are, or none.
+pub fn parse(words: &[String]) -> Option<Command>
+    ensures { MatchOption result
+        (NoCommand (map string_bytes words.now))
+        (λ c. IsCommand (map string_bytes words.now) (command_of c)) }
+{
+    if let Some(rest) = behind("show", words) {
+        return if rest.is_empty() {
+            Some(Command::Show)
+        } else {
+            None
+        };
+    }
+    if let Some(rest) = behind("equiv", words) {
+        return match option(Setting::Budget, rest) {
+            Some(budget) => Some(Command::Equiv(budget)),
+            None => None,
+        };
+    }
+    if let Some(rest) = behind("check", words) {
+        return match option(Setting::Budget, rest) {
+            Some(budget) => Some(Command::Check(budget)),
+            None => None,
+        };
+    }
+    let Some(rest) = behind("run", words) else {
+        return None;
+    };
+    match options(rest) {
+        Some((steps, budget)) => Some(Command::Run(steps, budget)),
+        None => None,
+    }
+}

@@ -1,0 +1,131 @@
+-- A task forks another one.
+use Rattle.std.proofs.Common.{◌≡◌, ◌∙◌, ◌+◌, ◌++◌, ◌<◌, ℕ, suc, [], ◌∷◌, Some, None, refl, sym, ap, subst, arith}
+use Rattle.std.specs.Prelude.{length, IsSome}
+use Rattle.fst_terms.specs.declared.core_module.Module.{Module}
+use Rattle.fst_machine.specs.declared.code.Code.{Code}
+use Rattle.fst_machine.specs.declared.request.Answer.TheVariants.{Forked}
+use Rattle.fst_machine.specs.Machine.{stuck, pause}
+use Rattle.fst_vm.specs.TaskView.{TaskView}
+use Rattle.fst_vm.specs.Tasks.{IsIn, HasNext, Takes, GoesOn, Forks, IsChild}
+use Rattle.fst_runs.specs.declared.event.CoreEvent.TheVariants.{Fork}
+use Rattle.fst_runs.specs.Configs.{Path, Config, Task, child_path, new_task, program}
+use Rattle.fst_runs.specs.Events.{Write, Does, written}
+use Rattle.fst_runs.specs.Names.{HasParents}
+use Rattle.fst_runs.specs.Wrong.{IsRight}
+use Rattle.fst_runs.proofs.Naming.{fork_free}
+use Rattle.fst_runs.proofs.Updates.{with_task, has_forked, fork_puts, put_there, stays_there, stays_free}
+use Rattle.fst_process.specs.Kept.{Slot, Kept, without, settled}
+use Rattle.fst_process.specs.Reflects.{IsTask, Reflects}
+use Rattle.fst_process.specs.Firing.{IsPossible, Happens, Settles}
+use Rattle.fst_process.proofs.Going.{IsOf}
+use Rattle.fst_process.proofs.GoingForks.{fork_goes}
+use Rattle.fst_process.proofs.Begun.{unmade}
+use Rattle.fst_process.proofs.Rights.{right_fine, right_alive}
+use Rattle.fst_process.proofs.Stepping.{there_kept, its_task, takes, next_after, is_of, settled_types, one_more}
+
+module _ (m : Module) (c : Config) (p : Path) (w : Write) (right : IsRight (program m) (written c w)) (parents : HasParents c) (f : Does (program m) m.types.items c (Fork p) w) where
+  abbrev new_path : Path
+  new_path = child_path p f.0.forked
+
+  abbrev new : Task
+  new = new_task f.2 (suc f.0.clock)
+
+  fresh : c.tasks new_path ≡ None
+  fresh = fork_free c p f.0 parents f.3.0
+
+  abbrev parent : Task
+  parent = has_forked f.0 f.1 (suc f.0.clock)
+
+  puts : written c w ≡ with_task (with_task c p parent) new_path new
+  puts = fork_puts (program m) m.types.items c p w f
+
+  child_there : (written c w).tasks new_path ≡ Some new
+  child_there = ap (λ z. z.tasks new_path) puts ∙ put_there (with_task c p parent) new_path new
+
+  child_alive : pause m.families.items f.2 ≡ stuck → ⊥
+  child_alive = right_alive m (written c w) new_path new right child_there
+
+  parent_there : (written c w).tasks p ≡ Some parent
+  parent_there =
+      ap (λ z. z.tasks p) puts
+      ∙ stays_there (with_task c p parent) new_path p new parent (stays_free c p new_path f.0 parent f.3.0 fresh) (put_there c p parent)
+
+  parent_alive : pause m.families.items f.1 ≡ stuck → ⊥
+  parent_alive = right_alive m (written c w) p parent right parent_there
+
+module _ (k : Code) (d : Kept) (p : Path) where
+  -- the task that forks is kept
+  pub fork_there : IsPossible k d (Fork p) → IsSome (d.tasks p)
+  fork_there x = there_kept x.source k x.events d x.before p x.does.0 x.reflects x.does.3.0
+
+  module _ (s : Slot) (there : d.tasks p ≡ Some s) where
+    its_parent : (m : Module) (n : ℕ) (c : Config) (w : Write) → Reflects m k n d c → (f : Does (program m) m.types.items c (Fork p) w) → IsTask m k d p s f.0
+    its_parent m n c w r f = its_task m k n d c p s f.0 r there f.3.0
+
+    forked_few : IsPossible k d (Fork p) → s.task.forked < 4294967295
+    forked_few x = let a = x.reflects.forks p s there in let f = x.few in omega (arith, a, f)
+
+    -- it asks for a fork
+    pub forks_now : IsPossible k d (Fork p) → Forks k s.task
+    forks_now x =
+        let i = its_parent x.source x.events x.before x.write x.reflects x.does in
+        record {
+          rests = i.rests;
+          source = x.source;
+          from = x.reflects.from;
+          state = x.does.0.state;
+          is_in = i.is_in;
+          asks = x.does.3.1;
+          few = forked_few x;
+        }
+
+    -- it takes the answer
+    pub fork_takes : IsPossible k d (Fork p) → Takes k s.task Forked
+    fork_takes x =
+        let i = its_parent x.source x.events x.before x.write x.reflects x.does in
+        takes x.source k d p s x.does.0 x.reflects.from i Forked x.does.1 x.does.5 (parent_alive x.source x.before p x.write x.right_after x.parents x.does) (λ z. forked_few x)
+
+    -- and asks for something after it
+    pub fork_next : (v : TaskView) → GoesOn k s.task Forked v → IsPossible k d (Fork p) → HasNext k v
+    fork_next v g x =
+        let i = its_parent x.source x.events x.before x.write x.reflects x.does in
+        let a = x.right_after.asks p (has_forked x.does.0 x.does.1 (suc x.does.0.clock)) (parent_there x.source x.before p x.write x.right_after x.parents x.does) in
+        next_after x.source k d p s x.does.0 x.reflects.from i Forked x.does.1 x.does.5 (parent_alive x.source x.before p x.write x.right_after x.parents x.does) v g a.0 a.1
+
+    child_in : (v : TaskView) → IsChild k s.task v → (m : Module) (n : ℕ) (c : Config) (w : Write) → Reflects m k n d c → (f : Does (program m) m.types.items c (Fork p) w) →
+        IsIn m k v f.2
+    child_in v g m n c w r f = g.states m f.0.state f.2 r.from (its_parent m n c w r f).is_in f.4
+
+    -- so does the task that is forked
+    pub child_next : (v : TaskView) → IsChild k s.task v → IsPossible k d (Fork p) → HasNext k v
+    child_next v g x = record {
+      source = x.source;
+      from = x.reflects.from;
+      state = x.does.2;
+      is_in = child_in v g x.source x.events x.before x.write x.reflects x.does;
+      next =
+          let a = x.right_after.asks (child_path p x.does.0.forked) (new_task x.does.2 (suc x.does.0.clock)) (child_there x.source x.before p x.write x.right_after x.parents x.does) in
+          (a.0, a.1);
+    }
+
+    -- what is kept after a fork is the configuration after it
+    pub fork_happens : (v u : TaskView) (e g : Kept) → GoesOn k s.task Forked v → IsChild k s.task u → Settles k v (s.clock + 1) (without p d) e → Settles k u (s.clock + 1) e g →
+        Happens k d (Fork p) g
+    fork_happens v u e g on child z y = λ m n c w r f right makers parents.
+        let i = its_parent m n c w r f in
+        let one = one_more s.clock f.0.clock i.clock in
+        let inside = child_in u child m n c w r f in
+        let o = is_of m k d p s f.0 r.from i Forked f.1 f.5 (parent_alive m c p w right parents f) v (s.clock + 1) (without p d) e f.0.made (suc f.0.clock) (suc f.0.forked) on z one refl in
+        let q : IsOf m k (child_path p f.0.forked) y.slot (new_task f.2 (suc f.0.clock)) = record {
+          path = y.stays.path ∙ child.path ∙ (λ j. i.path j ++ suc (i.forked j) ∷ []);
+          rests = y.rests;
+          is_in = y.stays.states m f.2 inside;
+          asks = y.asked m f.2 inside (child_alive m c p w right parents f);
+          clock = y.clock ∙ one;
+          forked = y.stays.forked ∙ child.forked;
+        } in
+        let none = fork_free c p f.0 parents f.3.0 in
+        let kept = settled_types m k u (s.clock + 1) e g r.from y ∙ ap (settled (length m.types.items) y.slot) (settled_types m k v (s.clock + 1) (without p d) e r.from z) in
+        subst (λ h. Reflects m k (suc n) h (written c w)) (sym kept)
+        (fork_goes m k n d c p w z.slot y.slot r f o q none (unmade m k n d c (child_path p f.0.forked) r none (λ h j b. let a = makers h j b in (a.0, a.1)))
+        (right_fine m (written c w) right))

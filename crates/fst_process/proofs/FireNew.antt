@@ -1,0 +1,105 @@
+-- A task makes a channel.
+use Rattle.std.proofs.Common.{◌≡◌, ◌∙◌, ◌+◌, ◌<◌, ℕ, suc, [], List, Some, refl, sym, ap, subst, arith}
+use Rattle.std.specs.Prelude.{length, slice_get, IsSome}
+use Rattle.std.proofs.lemmas.Option.{slice_get_within}
+use Rattle.fst_types.specs.Tree.{Tree}
+use Rattle.fst_terms.specs.declared.core_module.Module.{Module}
+use Rattle.fst_value.specs.declared.ends.ChannelName.{ChannelName}
+use Rattle.fst_machine.specs.declared.code.Code.{Code}
+use Rattle.fst_machine.specs.declared.request.Request.TheVariants as request
+use Rattle.fst_machine.specs.declared.request.Answer.TheVariants.{Made}
+use Rattle.fst_machine.specs.Machine.{stuck, pause, answered}
+use Rattle.fst_vm.specs.TaskView.{TaskView}
+use Rattle.fst_vm.specs.Tasks.{HasNext, Takes, GoesOn}
+use Rattle.fst_runs.specs.declared.event.CoreEvent.TheVariants.{New}
+use Rattle.fst_runs.specs.Configs.{Path, Config, channel_name, program}
+use Rattle.fst_runs.specs.Events.{Write, Does, written}
+use Rattle.fst_runs.specs.Wrong.{IsRight}
+use Rattle.fst_runs.proofs.Naming.{new_free}
+use Rattle.fst_runs.proofs.Updates.{with_channel, has_made, new_puts, put_there}
+use Rattle.fst_process.specs.Kept.{Slot, Kept, without, opened, settled}
+use Rattle.fst_process.specs.Reflects.{IsTask, Reflects}
+use Rattle.fst_process.specs.Firing.{IsPossible, Happens, Settles}
+use Rattle.fst_process.proofs.PathLaws.{some_same}
+use Rattle.fst_process.proofs.GoingNew.{new_goes}
+use Rattle.fst_process.proofs.Rights.{right_fine, right_alive}
+use Rattle.fst_process.proofs.Stepping.{there_kept, its_task, takes, next_after, is_of, settled_types, one_more}
+
+new_number : (i j : ℕ) → request.New i ≡ request.New j → i ≡ j
+new_number i j e = cc e
+
+-- the task is there after it has made the channel
+maker_there : (m : Module) (c : Config) (p : Path) (w : Write) → (f : Does (program m) m.types.items c (New p) w) → (written c w).tasks p ≡ Some (has_made f.0 f.1 (suc f.0.clock))
+maker_there m c p w f =
+    ap (λ z. z.tasks p) (new_puts (program m) m.types.items c p w f)
+    ∙ put_there (with_channel c (channel_name p f.0.made) (record { declared = f.3; history = [] })) p (has_made f.0 f.1 (suc f.0.clock))
+
+maker_alive : (m : Module) (c : Config) (p : Path) (w : Write) → IsRight (program m) (written c w) → (f : Does (program m) m.types.items c (New p) w) →
+    pause m.families.items f.1 ≡ stuck → ⊥
+maker_alive m c p w right f = right_alive m (written c w) p (has_made f.0 f.1 (suc f.0.clock)) right (maker_there m c p w f)
+
+module _ (k : Code) (d : Kept) (p : Path) where
+  -- the task is kept
+  pub new_there : IsPossible k d (New p) → IsSome (d.tasks p)
+  new_there x = there_kept x.source k x.events d x.before p x.does.0 x.reflects x.does.4.0
+
+  -- it has not made too many channels
+  pub made_few : IsPossible k d (New p) → d.made p < 4294967295
+  made_few x = let a = x.reflects.makes p in let f = x.few in omega (arith, a, f)
+
+  module _ (s : Slot) (there : d.tasks p ≡ Some s) where
+    its_maker : (m : Module) (n : ℕ) (c : Config) (w : Write) → Reflects m k n d c → (f : Does (program m) m.types.items c (New p) w) → IsTask m k d p s f.0
+    its_maker m n c w r f = its_task m k n d c p s f.0 r there f.4.0
+
+    asks_new : (m : Module) (n : ℕ) (c : Config) (w : Write) → Reflects m k n d c → (f : Does (program m) m.types.items c (New p) w) → s.request ≡ request.New f.2
+    asks_new m n c w r f = some_same (sym (its_maker m n c w r f).asks ∙ f.4.1)
+
+    -- the type of the channel that it asks for is there
+    pub type_there : (number : ℕ) → s.request ≡ request.New number → IsPossible k d (New p) → number < length k.types.items
+    type_there number e x =
+        let same = new_number number x.does.2 (sym e ∙ asks_new x.source x.events x.before x.write x.reflects x.does) in
+        let within = slice_get_within x.source.types.items x.does.2 x.does.3 x.does.5 in
+        let types = ap (λ (ts : List Tree). length ts) x.reflects.from.same_types in
+        omega (arith, same, within, types)
+
+    -- where it asks for something else, it makes none
+    pub new_never : (e : Kept) → ((number : ℕ) → s.request ≡ request.New number → ⊥) → Happens k d (New p) e
+    new_never e h = λ m n c w r f right makers parents. absurd (h f.2 (asks_new m n c w r f))
+
+    module _ (h : ChannelName) (its : h ≡ channel_name p (d.made p)) where
+      name_is : (m : Module) (n : ℕ) (c : Config) (w : Write) → Reflects m k n d c → (f : Does (program m) m.types.items c (New p) w) → h ≡ channel_name p f.0.made
+      name_is m n c w r f = its ∙ ap (channel_name p) (its_maker m n c w r f).made
+
+      told : (m : Module) (n : ℕ) (c : Config) (w : Write) → Reflects m k n d c → (f : Does (program m) m.types.items c (New p) w) →
+          answered (program m) f.0.state (Made h) ≡ Some f.1
+      told m n c w r f = ap (λ z. answered (program m) f.0.state (Made z)) (name_is m n c w r f) ∙ f.6
+
+      -- it takes the channel's name
+      pub new_takes : IsPossible k d (New p) → Takes k s.task (Made h)
+      new_takes x =
+          let i = its_maker x.source x.events x.before x.write x.reflects x.does in
+          takes x.source k d p s x.does.0 x.reflects.from i (Made h) x.does.1 (told x.source x.events x.before x.write x.reflects x.does)
+          (maker_alive x.source x.before p x.write x.right_after x.does) (λ z. absurd (cc z))
+
+      -- and asks for something after it
+      pub new_next : (v : TaskView) → GoesOn k s.task (Made h) v → IsPossible k d (New p) → HasNext k v
+      new_next v g x =
+          let i = its_maker x.source x.events x.before x.write x.reflects x.does in
+          let a = x.right_after.asks p (has_made x.does.0 x.does.1 (suc x.does.0.clock)) (maker_there x.source x.before p x.write x.does) in
+          next_after x.source k d p s x.does.0 x.reflects.from i (Made h) x.does.1 (told x.source x.events x.before x.write x.reflects x.does)
+          (maker_alive x.source x.before p x.write x.right_after x.does) v g a.0 a.1
+
+      -- what is kept after the task has made the channel is the configuration after it
+      pub new_happens : (number : ℕ) (a : Tree) (v : TaskView) (mid e : Kept) → s.request ≡ request.New number → slice_get k.types.items number ≡ Some a →
+          mid ≡ opened h a (without p d) → GoesOn k s.task (Made h) v → Settles k v (s.clock + 1) mid e → Happens k d (New p) e
+      new_happens number a v mid e asks type after g z = λ m n c w r f right makers parents.
+          let i = its_maker m n c w r f in
+          let alive = maker_alive m c p w right f in
+          let o = is_of m k d p s f.0 r.from i (Made h) f.1 (told m n c w r f) alive v (s.clock + 1) mid e (suc f.0.made) (suc f.0.clock) f.0.forked g z
+          (one_more s.clock f.0.clock i.clock) refl in
+          let number_is = new_number number f.2 (sym asks ∙ asks_new m n c w r f) in
+          let type_is : a ≡ f.3 = some_same (sym type ∙ (λ j. slice_get (r.from.same_types j) (number_is j)) ∙ f.5) in
+          let kept = settled_types m k v (s.clock + 1) mid e r.from z ∙ ap (settled (length m.types.items) z.slot)
+          (after ∙ (λ j. opened (name_is m n c w r f j) (type_is j) (without p d))) in
+          subst (λ y. Reflects m k (suc n) y (written c w)) (sym kept)
+          (new_goes m k n d c p w z.slot r f o (new_free c p f.0 makers f.4.0) (right_fine m (written c w) right))

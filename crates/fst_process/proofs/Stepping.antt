@@ -1,0 +1,87 @@
+-- A task that is kept goes on after an answer, and is put in again.
+use Rattle.std.proofs.Common.{◌≡◌, ◌∙◌, ◌+◌, ◌<◌, ℕ, suc, Some, sym, ap, subst, arith}
+use Rattle.std.specs.Prelude.{length, IsSome, is_some}
+use Rattle.std.specs.Coded.{le_prop}
+use Rattle.std.proofs.Math.Logic.{∥∥₁_elim}
+use Rattle.fst_terms.specs.declared.core_module.Module.{Module}
+use Rattle.fst_machine.specs.declared.code.Code.{Code}
+use Rattle.fst_machine.specs.declared.request.Request.{Request}
+use Rattle.fst_machine.specs.declared.request.Answer.{Answer}
+use Rattle.fst_machine.specs.declared.request.Answer.TheVariants.{Forked}
+use Rattle.fst_machine.specs.Machine.{State, stuck, pause, request, answered}
+use Rattle.fst_vm.specs.TaskView.{TaskView}
+use Rattle.fst_vm.specs.Tasks.{IsIn, IsFrom, HasNext, Takes, GoesOn, forked_after}
+use Rattle.fst_runs.specs.declared.event.CoreEvent.{CoreEvent}
+use Rattle.fst_runs.specs.Configs.{Path, Config, Task, program}
+use Rattle.fst_process.specs.Kept.{Slot, Kept, settled}
+use Rattle.fst_process.specs.Reflects.{IsTask, Reflects}
+use Rattle.fst_process.specs.Firing.{IsPossible, Settles}
+use Rattle.fst_process.proofs.PathLaws.{some_same}
+use Rattle.fst_process.proofs.Taking.{is_kept}
+use Rattle.fst_process.proofs.Going.{IsOf}
+
+-- a task that is there is kept
+pub there_kept : (m : Module) (k : Code) (n : ℕ) (d : Kept) (c : Config) (p : Path) (t : Task) → Reflects m k n d c → c.tasks p ≡ Some t → IsSome (d.tasks p)
+there_kept m k n d c p t r e =
+    let f = is_kept m k d p (d.tasks p) (c.tasks p) t (r.tasks p) e in
+    ap (λ o. is_some o) f.1
+
+-- and it is what is kept
+pub its_task : (m : Module) (k : Code) (n : ℕ) (d : Kept) (c : Config) (p : Path) (s : Slot) (t : Task) → Reflects m k n d c → d.tasks p ≡ Some s → c.tasks p ≡ Some t →
+    IsTask m k d p s t
+its_task m k n d c p s t r there e =
+    let f = is_kept m k d p (d.tasks p) (c.tasks p) t (r.tasks p) e in
+    subst (λ z. IsTask m k d p z t) (some_same (sym f.1 ∙ there)) f.2
+
+-- how what a task is in becomes what it is in after an answer
+module _ (m : Module) (k : Code) (d : Kept) (p : Path) (s : Slot) (t : Task) (from : IsFrom m k) (is : IsTask m k d p s t) (a : Answer) (u : State)
+    (told : answered (program m) t.state a ≡ Some u) (alive : pause m.families.items u ≡ stuck → ⊥) where
+  -- it takes the answer
+  pub takes : (a ≡ Forked → s.task.forked < 4294967295) → Takes k s.task a
+  takes few = record {
+    rests = is.rests;
+    source = m;
+    from = from;
+    state = t.state;
+    is_in = is.is_in;
+    after = u;
+    told = told;
+    asks = alive;
+    few = few;
+  }
+
+  -- and is in the next state then
+  pub is_after : (v : TaskView) → GoesOn k s.task a v → IsIn m k v u
+  is_after v g = g.states m t.state u from is.is_in told alive
+
+  -- which asks for something
+  pub next_after : (v : TaskView) → GoesOn k s.task a v → (q : Request) → request m.families.items u ≡ Some q → HasNext k v
+  next_after v g q e = record { source = m; from = from; state = u; is_in = is_after v g; next = (q, e) }
+
+  -- put in again, it is the task in that state
+  pub is_of : (v : TaskView) (l : ℕ) (e f : Kept) (made clock forked : ℕ) → GoesOn k s.task a v → (z : Settles k v l e f) → l ≡ clock → forked_after a t.forked ≡ forked →
+      IsOf m k p z.slot (record { state = u; made = made; forked = forked; clock = clock })
+  is_of v l e f made clock forked g z same grown = record {
+    path = z.stays.path ∙ g.path ∙ is.path;
+    rests = z.rests;
+    is_in = z.stays.states m u (is_after v g);
+    asks = z.asked m u (is_after v g) alive;
+    clock = z.clock ∙ same;
+    forked = z.stays.forked ∙ g.forked ∙ ap (forked_after a) is.forked ∙ grown;
+  }
+
+-- what is kept after a task is put in, by the number of types of the module
+pub settled_types : (m : Module) (k : Code) (v : TaskView) (l : ℕ) (e f : Kept) → IsFrom m k → (z : Settles k v l e f) → f ≡ settled (length m.types.items) z.slot e
+settled_types m k v l e f from z = z.after ∙ ap (λ ts. settled (length ts) z.slot e) from.same_types
+
+-- a clock that counts one event more
+pub one_more : (i j : ℕ) → i ≡ j → i + 1 ≡ suc j
+one_more i j e = omega (arith, e)
+
+-- a clock in bounds
+pub clock_few : (k : Code) (d : Kept) (p : Path) (s : Slot) (e : CoreEvent) → d.tasks p ≡ Some s → IsPossible k d e → s.clock < 4294967295
+clock_few k d p s e there x = let c = x.reflects.clocks p s there in let f = x.few in omega (arith, c, f)
+
+-- even where the event is merely known to be possible
+pub clock_within : (k : Code) (d : Kept) (p : Path) (s : Slot) (e : CoreEvent) → d.tasks p ≡ Some s → ∥ IsPossible k d e ∥₁ → s.clock < 4294967295
+clock_within k d p s e there x = ∥∥₁_elim x le_prop (clock_few k d p s e there)

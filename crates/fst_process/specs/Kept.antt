@@ -1,0 +1,128 @@
+-- What is kept of a configuration, and how single steps change it.
+use Rattle.std.specs.Prelude.{ℕ, suc, Bool, true, false, Option, Some, None, option_map, option_and_then, is_some, List, [], ◌∷◌, ◌++◌, nat_lt, if◌then◌else◌}
+use Rattle.fst_types.specs.Tree.{Tree}
+use Rattle.fst_types.specs.declared.side.Side.{Side}
+use Rattle.fst_types.specs.declared.side.Side.TheVariants.{Left, Right}
+use Rattle.fst_value.specs.declared.ends.ChannelName.{ChannelName}
+use Rattle.fst_value.specs.declared.ends.EndName.{EndName}
+use Rattle.fst_value.specs.declared.event.Entry.{Entry}
+use Rattle.fst_machine.specs.declared.request.Request.{Request}
+use Rattle.fst_machine.specs.declared.request.Request.TheVariants.{Step, New, Fork, Put, Get, Ended}
+use Rattle.fst_vm.specs.TaskView.{TaskView}
+use Rattle.fst_runs.specs.Histories.{opposite}
+use Rattle.fst_runs.specs.Configs.{Path, same_path, same_channel}
+pub use Rattle.fst_runs.specs.Wrong.{end_of}
+
+-- what is kept of a task: where its code runs, what it asks for, and its clock
+pub record Slot : Type 0 where
+  pub task : TaskView
+  pub request : Request
+  pub clock : ℕ
+
+-- what is kept of a channel: the type of its left end, what passed over it, and which tasks ask at its ends
+pub record Channel : Type 0 where
+  pub declared : Tree
+  pub history : List Entry
+  pub left : Option Path
+  pub right : Option Path
+
+-- what is kept of all tasks and channels; how many channels each task has made; and which tasks can move
+pub record Kept : Type 0 where
+  pub tasks : Path → Option Slot
+  pub channels : ChannelName → Option Channel
+  pub made : Path → ℕ
+  pub ready : Path → Bool
+
+-- the task that asks at an end
+abbrev pub asker_at : Side → Channel → Option Path
+asker_at Left k = k.left
+asker_at Right k = k.right
+
+-- with this task, or none, that asks at an end
+abbrev pub with_asker : Side → Option Path → Channel → Channel
+with_asker Left o k = record k { left = o }
+with_asker Right o k = record k { right = o }
+
+-- the task that asks at an end, if there is such a channel
+abbrev pub asker : Kept → EndName → Option Path
+asker d x = option_and_then (asker_at x.side) (d.channels x.channel)
+
+-- the task that asks at the other end
+abbrev pub partner : Kept → EndName → Option Path
+partner d x = asker d (record { channel = x.channel; side = opposite x.side })
+
+-- a task that asks for this can move, where the module has so many types
+abbrev pub moves_with : ℕ → Kept → Request → Bool
+moves_with types d Step = true
+moves_with types d (New n) = nat_lt n types
+moves_with types d Fork = true
+moves_with types d (Put x ev) = is_some (partner d x)
+moves_with types d (Get x) = is_some (partner d x)
+moves_with types d Ended = false
+
+-- so can the task, if there is one
+abbrev pub moves_so : ℕ → Kept → Option Slot → Bool
+moves_so types d None = false
+moves_so types d (Some s) = moves_with types d s.request
+
+-- the task with this path can move
+abbrev pub moves : ℕ → Kept → Path → Bool
+moves types d p = moves_so types d (d.tasks p)
+
+-- a value at one path
+abbrev pub put_at : {X : Type 0} → Path → X → (Path → X) → Path → X
+put_at p x f q = if same_path p q then x else f q
+
+-- a value at one channel
+abbrev pub put_channel : ChannelName → Channel → (ChannelName → Option Channel) → ChannelName → Option Channel
+put_channel h k f g = if same_channel h g then Some k else f g
+
+-- without a task
+abbrev pub without : Path → Kept → Kept
+without p d = record d { tasks = put_at p None d.tasks; ready = put_at p false d.ready }
+
+-- a channel is changed, if it is there
+abbrev pub changed : ChannelName → (Channel → Channel) → Kept → Kept
+changed h f d = record d { channels = λ g. if same_channel h g then option_map f (d.channels g) else d.channels g }
+
+-- a task is marked, if this holds
+abbrev pub marked : Bool → Path → (Path → Bool) → Path → Bool
+marked true p f = put_at p true f
+marked false p f = f
+
+-- a task and its partner are marked, if the partner is there
+abbrev pub marked_both : Path → Option Path → (Path → Bool) → Path → Bool
+marked_both p None f = f
+marked_both p (Some q) f = put_at p true (put_at q true f)
+
+-- the task can move, if this holds
+abbrev pub able : Bool → Path → Kept → Kept
+able b p d = record d { ready = marked b p d.ready }
+
+-- the task asks at the end, and can move with its partner if that is there
+abbrev pub asking : Path → EndName → Kept → Kept
+asking p x d = record (changed x.channel (with_asker x.side (Some p)) d) { ready = marked_both p (partner d x) d.ready }
+
+-- what a task asks for is noted: where it can move, or at which end it asks
+abbrev pub noted : ℕ → Path → Request → Kept → Kept
+noted types p Step d = able true p d
+noted types p (New n) d = able (nat_lt n types) p d
+noted types p Fork d = able true p d
+noted types p (Put x ev) d = asking p x d
+noted types p (Get x) d = asking p x d
+noted types p Ended d = d
+
+-- a task is put in, and what it asks for is noted
+abbrev pub settled : ℕ → Slot → Kept → Kept
+settled types s d = noted types s.task.path s.request (record d { tasks = put_at s.task.path (Some s) d.tasks })
+
+-- a new channel of a task
+abbrev pub opened : ChannelName → Tree → Kept → Kept
+opened h t d = record d {
+  channels = put_channel h (record { declared = t; history = []; left = None; right = None }) d.channels;
+  made = put_at h.maker (suc (d.made h.maker)) d.made;
+}
+
+-- an entry is added to a channel, and nobody asks at its ends any more
+abbrev pub passed : Entry → Channel → Channel
+passed e k = record { declared = k.declared; history = k.history ++ e ∷ []; left = None; right = None }
