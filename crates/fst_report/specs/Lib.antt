@@ -1,0 +1,3 @@
+pub mod DeclaredTypes
+pub mod Parts
+pub mod ReportTexts
