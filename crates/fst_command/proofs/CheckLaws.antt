@@ -1,5 +1,5 @@
 -- What `check` writes of a module, and what that means.
-use Rattle.std.proofs.Common.{◌≡◌, ◌∙◌, inl, inr, ℕ, ◌≤◌, List, length, Some, Result, Ok, Err, sym, ap, subst, append_assoc}
+use Rattle.std.proofs.Common.{◌≡◌, ◌∙◌, inl, inr, ℕ, ◌≤◌, List, [], ◌∷◌, length, Some, Result, Ok, Err, sym, ap, subst, append_assoc}
 use Rattle.std.specs.Prelude.{◌≢◌, IfOk}
 use Rattle.std.specs.declared.alloc.AllocError.{AllocError}
 use Rattle.fst_base.specs.Limits.{most_bytes}
@@ -29,13 +29,21 @@ use Rattle.fst_command.specs.declared.refusals.Cause.TheVariants as given
 use Rattle.fst_command.specs.declared.status.Status.TheVariants as status
 use Rattle.fst_command.specs.Texts.{refused_text}
 use Rattle.fst_command.specs.CheckTexts.{Cause, nothing, refused, undecided, too_large, accepted_text, cause, cause_text, cause_status}
-use Rattle.fst_command.specs.Words.{check}
+use Rattle.fst_options.specs.Words.{check, run}
 use Rattle.fst_command.specs.Finding as finding
 use Rattle.fst_command.specs.Finding.{Finding, IsRead, IsUnread, NamesFinding, AreResolved, AreUnresolved, name_finding}
-use Rattle.fst_command.specs.Output.{IsFoundOf, accepted, unaccepted, too_long, is_none, makes, Writes, finding_text, finding_status}
+use Rattle.fst_command.specs.Output.{IsFoundOf, accepted, unaccepted, FindsModule, SaysAccepted, SaysOutcome, waiting_status, outcome_text, outcome_status, WritesOf, too_long, is_none, makes, Writes, finding_text, finding_status}
 use Rattle.fst_command.specs.Top.{IsAnswer}
 use Rattle.fst_safety.specs.Safety.{DerivedIsSafe}
-use Rattle.fst_command.specs.Meanings.{MeansAccepted, CheckMeanings}
+use Rattle.fst_process.specs.declared.report.Outcome.{Outcome}
+use Rattle.fst_process.specs.declared.report.Outcome.TheVariants.{Done, OutOfSteps}
+use Rattle.fst_process.specs.declared.report.Report.{Report}
+use Rattle.fst_process.specs.declared.report.Waiting.{Waiting}
+use Rattle.fst_process.specs.Reports.{IsAnswer as IsRunAnswer}
+use Rattle.fst_execution.specs.Execution.{AnswersAreSound}
+use Rattle.fst_report.specs.ReportTexts.{report_text}
+use Rattle.fst_command.specs.declared.status.Status.{Status}
+use Rattle.fst_command.specs.Meanings.{MeansAccepted, CheckMeanings, MeansReport, MeansRun, RunMeanings}
 use Rattle.fst_command.specs.Views.{IfFound, Found, cause_of, name_fault}
 use Rattle.fst_command.proofs.FindingLaws.{if_found, said_found}
 
@@ -86,42 +94,69 @@ pub refused_line : (bytes : List ℕ) (budget at : ℕ) (p : Phrase) → refused
 refused_line bytes budget at p = simp append_assoc
 
 -- a module that is accepted
-pub accepted_found : (bytes : List ℕ) (m : Module) (budget : ℕ) (ds : List Deriv) (r : Result Written AllocError) → IsAccepted m budget ds →
-    IfOk r (λ a. a.status ≡ status.Done) → IfOk r (λ a. a.text.items ≡ accepted_text) → IfOk r (λ a. IsFoundOf bytes m budget a.text.items a.status)
-accepted_found bytes m budget ds (Ok a) is ended written = accepted ds is written ended
-accepted_found bytes m budget ds (Err e) is ended written = tt
+pub accepted_found : (IsMade : List ℕ → Status → Type 0) (bytes : List ℕ) (m : Module) (budget : ℕ) (ds : List Deriv) (r : Result Written AllocError) → IsAccepted m budget ds →
+    IfOk r (λ a. IsMade a.text.items a.status) → IfOk r (λ a. IsFoundOf IsMade bytes m budget a.text.items a.status)
+accepted_found IsMade bytes m budget ds (Ok a) is made = accepted ds is made
+accepted_found IsMade bytes m budget ds (Err e) is made = tt
+
+-- what `check` says of it
+pub says_accepted : (m : Module) (r : Result Written AllocError) → IfOk r (λ a. a.text.items ≡ accepted_text) → IfOk r (λ a. a.status ≡ status.Done) → IfOk r (λ a. SaysAccepted m a.text.items a.status)
+says_accepted m (Ok a) written ended = (written, ended)
+says_accepted m (Err e) written ended = tt
 
 -- a module that is refused
-pub refused_found : (bytes : List ℕ) (m : Module) (budget : ℕ) (f : CheckFault) (r : Result Written AllocError) → IsShown f (IsRefusal m budget f) → IfOk r (λ a. f ≢ checking.Memory) →
+pub refused_found : (IsMade : List ℕ → Status → Type 0) (bytes : List ℕ) (m : Module) (budget : ℕ) (f : CheckFault) (r : Result Written AllocError) → IsShown f (IsRefusal m budget f) → IfOk r (λ a. f ≢ checking.Memory) →
     IfOk r (λ a. a.text.items ≡ cause_text bytes budget (cause (family_names m.families.items) f)) → IfOk r (λ a. a.status ≡ cause_status (cause (family_names m.families.items) f)) →
-    IfOk r (λ a. IsFoundOf bytes m budget a.text.items a.status)
-refused_found bytes m budget f (Ok a) is some written ended = unaccepted f (is some) written ended
-refused_found bytes m budget f (Err e) is some written ended = tt
+    IfOk r (λ a. IsFoundOf IsMade bytes m budget a.text.items a.status)
+refused_found IsMade bytes m budget f (Ok a) is some written ended = unaccepted f (is some) written ended
+refused_found IsMade bytes m budget f (Err e) is some written ended = tt
 
 -- a module that the bytes stand for
-pub checked_output : (bytes : List ℕ) (budget : ℕ) (m : Module) (r : Result Written AllocError) → length bytes ≤ most_bytes → AreResolved bytes m →
-    IfOk r (λ a. IsFoundOf bytes m budget a.text.items a.status) → IfOk r (λ a. Writes (check budget) bytes a.text.items a.status)
-checked_output bytes budget m (Ok a) short is found = makes short (record { resolved = m; is_resolved = is; found = found })
-checked_output bytes budget m (Err e) short is found = tt
+pub found_output : (IsMade : Module → List ℕ → Status → Type 0) (bytes : List ℕ) (budget : ℕ) (m : Module) (r : Result Written AllocError) → length bytes ≤ most_bytes → AreResolved bytes m →
+    IfOk r (λ a. IsFoundOf (IsMade m) bytes m budget a.text.items a.status) → IfOk r (λ a. WritesOf AreUnresolved (FindsModule IsMade budget) bytes a.text.items a.status)
+found_output IsMade bytes budget m (Ok a) short is found = makes short (record { resolved = m; is_resolved = is; found = found })
+found_output IsMade bytes budget m (Err e) short is found = tt
 
 -- ---- what it means
 
--- what is found of bytes that stand for no module isn't that `check` did its work
-finding_refuses : (f : Finding) → status.Done ≡ finding_status f → ⊥
-finding_refuses (finding.refused at phrase) e = absurd (cc e)
-finding_refuses (finding.too_deep at) e = absurd (cc e)
-finding_refuses (finding.too_large at) e = absurd (cc e)
+-- a status of an input for which nothing is made
+data IsRefused (s : Status) : Type 0 where
+  refused_so : s ≡ status.Refused → IsRefused s
+  undecided_so : s ≡ status.Undecided → IsRefused s
+  limited_so : s ≡ status.Limit → IsRefused s
+  memory_so : s ≡ status.Memory → IsRefused s
 
--- nor is a cause
-cause_refuses : (c : Cause) → status.Done ≡ cause_status c → ⊥
-cause_refuses (refused at why) e = absurd (cc e)
-cause_refuses (undecided at got wanted) e = absurd (cc e)
-cause_refuses (too_large at) e = absurd (cc e)
-cause_refuses nothing e = absurd (cc e)
+-- what is found of bytes that stand for no module has such a one
+finding_refuses : (f : Finding) (s : Status) → s ≡ finding_status f → IsRefused s
+finding_refuses (finding.refused at phrase) s e = refused_so e
+finding_refuses (finding.too_deep at) s e = limited_so e
+finding_refuses (finding.too_large at) s e = limited_so e
+
+-- so has a cause
+cause_refuses : (c : Cause) (s : Status) → s ≡ cause_status c → IsRefused s
+cause_refuses (refused at why) s e = refused_so e
+cause_refuses (undecided at got wanted) s e = undecided_so e
+cause_refuses (too_large at) s e = limited_so e
+cause_refuses nothing s e = memory_so e
+
+-- it isn't that of a command that did its work
+not_done : IsRefused status.Done → ⊥
+not_done (refused_so e) = absurd (cc e)
+not_done (undecided_so e) = absurd (cc e)
+not_done (limited_so e) = absurd (cc e)
+not_done (memory_so e) = absurd (cc e)
+
+-- and of `run` it means nothing
+no_run : (s : Status) (bytes text : List ℕ) → IsRefused s → MeansRun s bytes text
+no_run s bytes text (refused_so e) = subst (λ r. MeansRun r bytes text) (sym e) tt
+no_run s bytes text (undecided_so e) = subst (λ r. MeansRun r bytes text) (sym e) tt
+no_run s bytes text (limited_so e) = subst (λ r. MeansRun r bytes text) (sym e) tt
+no_run s bytes text (memory_so e) = subst (λ r. MeansRun r bytes text) (sym e) tt
 
 module _ (law : (m : Module) (budget : ℕ) (ds : List Deriv) → IsAccepted m budget ds → HasDerivations m ds) (safety : DerivedIsSafe) where
-  found_means : (budget : ℕ) (bytes text : List ℕ) (m : Module) → AreResolved bytes m → IsFoundOf bytes m budget text status.Done → MeansAccepted bytes
-  found_means budget bytes text m is (accepted ds a w e) = record {
+  -- what it means that a module is accepted
+  abbrev means_accepted : (budget : ℕ) (bytes : List ℕ) (m : Module) (ds : List Deriv) → AreResolved bytes m → IsAccepted m budget ds → MeansAccepted bytes
+  means_accepted budget bytes m ds is a = record {
     declared = is.declared;
     read = is.read;
     resolved = m;
@@ -130,9 +165,37 @@ module _ (law : (m : Module) (budget : ℕ) (ds : List Deriv) → IsAccepted m b
     derived = law m budget ds a;
     safe = safety m ds (law m budget ds a);
   }
-  found_means budget bytes text m is (unaccepted f h w e) = absurd (cause_refuses (cause (family_names m.families.items) f) e)
+
+  found_means : (budget : ℕ) (bytes text : List ℕ) (m : Module) → AreResolved bytes m → IsFoundOf (SaysAccepted m) bytes m budget text status.Done → MeansAccepted bytes
+  found_means budget bytes text m is (accepted ds a w) = means_accepted budget bytes m ds is a
+  found_means budget bytes text m is (unaccepted f h w e) = absurd (not_done (cause_refuses (cause (family_names m.families.items) f) status.Done e))
 
   pub check_meanings : CheckMeanings
-  check_meanings budget bytes text (too_long long w e) = absurd (cc e)
-  check_meanings budget bytes text (is_none short f h w e) = absurd (finding_refuses f e)
+  check_meanings budget bytes text (too_long long w e) = absurd (not_done (limited_so e))
+  check_meanings budget bytes text (is_none short f h w e) = absurd (not_done (finding_refuses f status.Done e))
   check_meanings budget bytes text (makes short m) = found_means budget bytes text m.resolved m.is_resolved m.found
+
+  module _ (sound : AnswersAreSound) where
+    -- what the outcome of a run means
+    outcome_means : (steps budget : ℕ) (bytes text : List ℕ) (s : Status) (m : Module) (ds : List Deriv) → AreResolved bytes m → IsAccepted m budget ds → SaysOutcome steps m text s → MeansRun s bytes text
+    outcome_means steps budget bytes text s m ds is a o = by o.outcome o.answer o.written o.ended
+      where
+        report_means : (r : Report) → IsRunAnswer m o.main steps (Done r) → text ≡ report_text m.families.items r → MeansReport bytes text
+        report_means r h w = record { accepted = means_accepted budget bytes m ds is a; report = r; written = w; sound = sound m ds (law m budget ds a) o.main o.body steps r h }
+
+        by_tasks : (ws : List Waiting) → MeansReport bytes text → MeansRun (waiting_status ws) bytes text
+        by_tasks [] h = h
+        by_tasks (w ∷ ws) h = h
+
+        by : (c : Outcome) → IsRunAnswer m o.main steps c → text ≡ outcome_text m.families.items c → s ≡ outcome_status c → MeansRun s bytes text
+        by (Done r) h w e = subst (λ z. MeansRun z bytes text) (sym e) (by_tasks r.waiting.items (report_means r h w))
+        by OutOfSteps h w e = subst (λ z. MeansRun z bytes text) (sym e) (means_accepted budget bytes m ds is a)
+
+    pub run_meanings : RunMeanings
+    run_meanings steps budget bytes text s (too_long long w e) = no_run s bytes text (limited_so e)
+    run_meanings steps budget bytes text s (is_none short f h w e) = no_run s bytes text (finding_refuses f s e)
+    run_meanings steps budget bytes text s (makes short m) = by m.found
+      where
+        by : IsFoundOf (SaysOutcome steps m.resolved) bytes m.resolved budget text s → MeansRun s bytes text
+        by (accepted ds a o) = outcome_means steps budget bytes text s m.resolved ds m.is_resolved a o
+        by (unaccepted f h w e) = no_run s bytes text (cause_refuses (cause (family_names m.resolved.families.items) f) s e)

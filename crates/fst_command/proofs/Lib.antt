@@ -1,7 +1,7 @@
-pub mod WordLaws
 pub mod FindingLaws
 pub mod OneFinding
 pub mod OutputLaws
 pub mod CheckLaws
 pub mod Runs
 pub mod MeaningLaws
+pub mod OutcomeLaws

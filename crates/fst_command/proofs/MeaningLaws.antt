@@ -5,7 +5,7 @@ use Rattle.std.specs.Str.{byte}
 use Rattle.std.proofs.lemmas.List.{length-map}
 use Rattle.fst_equiv.specs.Answers.{Answer, yes, no, undecided, too_large, Answers}
 use Rattle.fst_command.specs.declared.status.Status.{Status}
-use Rattle.fst_command.specs.Words.{equiv}
+use Rattle.fst_options.specs.Words.{equiv}
 use Rattle.fst_command.specs.Finding.{Finding, refused, too_deep}
 use Rattle.fst_command.specs.Finding as finding
 use Rattle.fst_command.specs.Output.{answer_text, AnswersQuestion, Writes, too_long, is_none, makes}

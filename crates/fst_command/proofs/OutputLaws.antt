@@ -21,57 +21,13 @@ use Rattle.fst_command.specs.declared.finding.Fault.TheVariants as fault
 use Rattle.fst_names.specs.declared.question.Question.{Question}
 use Rattle.fst_command.specs.declared.status.Status.{Status}
 use Rattle.fst_command.specs.declared.status.Status.TheVariants as status
-use Rattle.fst_command.specs.Words.{IsBudget, IsOption, IsBudgeted, Command, equiv, show, check, IsCommand}
+use Rattle.fst_options.specs.Words.{Command, equiv, show, check, run, IsCommand}
+use Rattle.fst_options.proofs.Laws.{one_command}
 use Rattle.fst_command.specs.Finding.{Finding, refused, too_deep, too_large, IsRead, AreAsked, IsNoQuestion, IsNoModule, no_reading}
 use Rattle.fst_command.specs.Finding as finding
 use Rattle.fst_command.specs.Output.{finding_text, finding_status, answer_text, answer_status, IsAnswerTo, AnswersQuestion, ShowsModule, WritesOf, too_long, is_none, makes, Writes, usage, command, OneOutput, ShownAgain}
 use Rattle.fst_command.specs.Views.{IfFound, Found}
 use Rattle.fst_command.proofs.OneFinding.{one_read, read_once, one_unread, one_no_question, question_or_not, asked_once}
-
--- ---- the words
-
-same_budget : (digits others : List ℕ) (m n : ℕ) → digits ≡ others → IsBudget digits m → IsBudget others n → m ≡ n
-same_budget digits others m n same p q = p.value ∙ ap (λ ds. digits_value 10 ds) same ∙ sym q.value
-
-one_option : (ws : List (List ℕ)) (m n : ℕ) → IsOption ws m → IsOption ws n → m ≡ n
-one_option [] m n p q = p ∙ sym q
-one_option (w ∷ []) m n p q = same_budget p.0 q.0 m n (append_cancel_left (codes "--budget=") p.0 q.0 (sym p.1 ∙ q.1)) p.2 q.2
-one_option (w ∷ digits ∷ []) m n p q = same_budget digits digits m n refl p.1 q.1
-one_option (w ∷ digits ∷ v ∷ ws) m n p q = absurd p
-
--- words set at most one budget
-one_budget : (name : List ℕ) (ws : List (List ℕ)) (m n : ℕ) → IsBudgeted name ws m → IsBudgeted name ws n → m ≡ n
-one_budget name [] m n p q = absurd p
-one_budget name (w ∷ ws) m n p q = one_option ws m n p.1 q.1
-
--- the first byte of a text
-abbrev initial : List ℕ → ℕ
-initial [] = 0
-initial (c ∷ cs) = c
-
--- words have one name in front
-not_both : (name other : List ℕ) (ws : List (List ℕ)) (m n : ℕ) → (name ≡ other → ⊥) → IsBudgeted name ws m → IsBudgeted other ws n → ⊥
-not_both name other [] m n differ p q = absurd p
-not_both name other (w ∷ ws) m n differ p q = differ (sym p.0 ∙ q.0)
-
--- the name of another command isn't `show`
-not_shown : (name : List ℕ) (ws : List (List ℕ)) (n : ℕ) → (name ≡ codes "show" → ⊥) → IsBudgeted name ws n → ws ≡ codes "show" ∷ [] → ⊥
-not_shown name [] n differ p q = absurd p
-not_shown name (w ∷ ws) n differ p q =
-    let head : w ≡ codes "show" = cc in
-    differ (sym p.0 ∙ head)
-
--- words are those of at most one command
-pub one_command : (ws : List (List ℕ)) (c d : Command) → IsCommand ws c → IsCommand ws d → c ≡ d
-one_command ws (equiv m) (equiv n) p q = ap equiv (one_budget (codes "equiv") ws m n p q)
-one_command ws (equiv m) show p q = absurd (not_shown (codes "equiv") ws m (λ e. absurd (omega (arith, ap initial e))) p q)
-one_command ws (equiv m) (check n) p q = absurd (not_both (codes "equiv") (codes "check") ws m n (λ e. absurd (omega (arith, ap initial e))) p q)
-one_command ws show (equiv n) p q = absurd (not_shown (codes "equiv") ws n (λ e. absurd (omega (arith, ap initial e))) q p)
-one_command ws show show p q = refl
-one_command ws show (check n) p q = absurd (not_shown (codes "check") ws n (λ e. absurd (omega (arith, ap initial e))) q p)
-one_command ws (check m) (equiv n) p q = absurd (not_both (codes "check") (codes "equiv") ws m n (λ e. absurd (omega (arith, ap initial e))) p q)
-one_command ws (check m) show p q = absurd (not_shown (codes "check") ws m (λ e. absurd (omega (arith, ap initial e))) p q)
-one_command ws (check m) (check n) p q = ap check (one_budget (codes "check") ws m n p q)
 
 -- ---- what is written
 
@@ -135,23 +91,24 @@ module _ (answers : OneAnswer) (lexing : OneLexing) (readings : OneReading) (mod
       let same = one_read ReadsModule lexing modules.one_answer bytes p.declared q.declared p.read q.read in
       (p.written ∙ ap module_text same ∙ sym q.written, p.ended ∙ sym q.ended)
 
-  -- of one command one thing is written, but for `check`
-  one_text : (c : Command) (bytes : List ℕ) → ((n : ℕ) → c ≡ check n → ⊥) → IsOne (Writes c bytes)
-  one_text (equiv budget) bytes other =
+  -- of one command one thing is written, but for `check` and `run`
+  one_text : (c : Command) (bytes : List ℕ) → ((n : ℕ) → c ≡ check n → ⊥) → ((k n : ℕ) → c ≡ run k n → ⊥) → IsOne (Writes c bytes)
+  one_text (equiv budget) bytes other others =
       one_written IsNoQuestion (AnswersQuestion budget) bytes (one_no_question lexing readings bytes)
       (λ f t s none m. question_or_not lexing readings bytes m.asked f m.is_asked none) (one_question budget bytes)
-  one_text show bytes other =
+  one_text show bytes other others =
       one_written IsNoModule ShowsModule bytes (one_unread ReadsModule lexing modules.one_answer bytes)
       (λ f t s none m. read_once ReadsModule lexing modules.one_answer bytes m.declared f m.read none) (one_module bytes)
-  one_text (check budget) bytes other = absurd (other budget refl)
+  one_text (check budget) bytes other others = absurd (other budget refl)
+  one_text (run steps budget) bytes other others = absurd (others steps budget refl)
 
   pub one_output : OneOutput
-  one_output words bytes text other s r not_check (usage n none w e) (usage m none' x d) = (w ∙ sym x, e ∙ sym d)
-  one_output words bytes text other s r not_check (usage n none w e) (command c is w') = absurd (n c is)
-  one_output words bytes text other s r not_check (command c is w) (usage n none x d) = absurd (n c is)
-  one_output words bytes text other s r not_check (command c is w) (command d it v) =
+  one_output words bytes text other s r not_check not_run (usage n none w e) (usage m none' x d) = (w ∙ sym x, e ∙ sym d)
+  one_output words bytes text other s r not_check not_run (usage n none w e) (command c is w') = absurd (n c is)
+  one_output words bytes text other s r not_check not_run (command c is w) (usage n none x d) = absurd (n c is)
+  one_output words bytes text other s r not_check not_run (command c is w) (command d it v) =
       let one = one_command words c d is it in
-      one_text d bytes (λ n e. not_check n (subst (IsCommand words) e it)) text other s r (subst (λ z. Writes z bytes text s) one w) v
+      one_text d bytes (λ n e. not_check n (subst (IsCommand words) e it)) (λ k n e. not_run k n (subst (IsCommand words) e it)) text other s r (subst (λ z. Writes z bytes text s) one w) v
 
 -- ---- shown again
 

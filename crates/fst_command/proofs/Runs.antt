@@ -1,22 +1,23 @@
 -- How a run ends.
 use Rattle.std.proofs.Common.{◌≡◌, ℕ, ◌+◌, List, length, Option, subst, arith}
-use Rattle.std.specs.Io.KnownBytes.{Consumes, IsAtEnd}
+use Rattle.std.specs.Io.KnownBytes.{Consumes, IsAtEnd, Appends}
 use Rattle.fst_io.specs.GivingUp.{Loses}
 use Rattle.fst_base.specs.Limits.{most_bytes}
 use Rattle.fst_command.specs.declared.status.Status.{Status}
 use Rattle.fst_command.specs.declared.status.Status.TheVariants as status
-use Rattle.fst_command.specs.Words.{Command, equiv, show, check, IsCommand}
+use Rattle.fst_options.specs.Words.{Command, equiv, show, check, run, IsCommand}
+use Rattle.fst_options.proofs.Laws.{one_command}
 use Rattle.fst_command.specs.Output.{Writes, too_long, usage, command, IsOutput}
 use Rattle.fst_command.specs.Texts.{too_long_text}
 use Rattle.fst_command.specs.Top.{ReadsInput, ReadsFor, IsAnswered}
-use Rattle.fst_command.specs.Meanings.{CheckMeanings, ReadsAccepted}
-use Rattle.fst_command.proofs.OutputLaws.{one_command}
+use Rattle.fst_command.specs.Meanings.{CheckMeanings, ReadsAccepted, RunMeanings, HasRun}
 
 -- what is read for a command
 reads_for : (c : Command) (old new : Option (List ℕ)) (bytes : List ℕ) → ReadsInput old new bytes → ReadsFor c old new bytes
 reads_for (equiv budget) old new bytes r = r
 reads_for show old new bytes r = r
 reads_for (check budget) old new bytes r = r
+reads_for (run steps budget) old new bytes r = r
 
 -- an input that was read to its end has its command's output
 pub read_whole : (s : Status) (words : List (List ℕ)) (c : Command) (old new : Option (List ℕ)) (bytes text : List ℕ) → IsCommand words c → Consumes old new bytes → IsAtEnd new → Writes c bytes text s → IsAnswered words old new text s
@@ -31,6 +32,7 @@ too_long_written : (c : Command) (bytes text : List ℕ) (s : Status) → length
 too_long_written (equiv budget) bytes text s long w e = too_long long w e
 too_long_written show bytes text s long w e = too_long long w e
 too_long_written (check budget) bytes text s long w e = too_long long w e
+too_long_written (run steps budget) bytes text s long w e = too_long long w e
 
 pub read_over : (s : Status) (words : List (List ℕ)) (c : Command) (old new : Option (List ℕ)) (text : List ℕ) → IsCommand words c → Loses (most_bytes + 1) old new → text ≡ too_long_text → s ≡ status.Limit → IsAnswered words old new text s
 read_over s words c old new text is lost w e = record {
@@ -52,4 +54,21 @@ read_accepted meanings words old new text s a done budget it = by a.output
           bytes = a.bytes;
           read = a.read (check budget) it;
           accepted = meanings budget a.bytes text (subst (λ r. Writes (check budget) a.bytes text r) done written);
+        }
+
+-- what `run` wrote, with its status, means what it means
+pub has_run : RunMeanings → (words : List (List ℕ)) (old new taken now : Option (List ℕ)) (text : List ℕ) (s : Status) → IsAnswered words old new text s → Appends taken now text →
+    (steps budget : ℕ) → IsCommand words (run steps budget) → HasRun old new taken now s
+has_run meanings words old new taken now text s a whole steps budget it = by a.output
+  where
+    by : IsOutput words a.bytes text s → HasRun old new taken now s
+    by (usage none nothing w e) = absurd (none (run steps budget) it)
+    by (command c is w) =
+        let one = one_command words c (run steps budget) is it in
+        record {
+          bytes = a.bytes;
+          read = a.read (run steps budget) it;
+          text = text;
+          whole = whole;
+          means = meanings steps budget a.bytes text s (subst (λ d. Writes d a.bytes text s) one w);
         }

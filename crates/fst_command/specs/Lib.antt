@@ -1,5 +1,4 @@
 pub mod Status
-pub mod Words
 pub mod Texts
 pub mod CheckTexts
 pub mod Finding

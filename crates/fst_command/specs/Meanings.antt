@@ -1,6 +1,7 @@
--- What the texts of `equiv` say of the two types that an input asks about, over the variables of the question, and what that
--- of `check` says of a module.
-use Rattle.std.specs.Prelude.{◌≡◌, ◌↔◌, ℕ, List, ◌++◌, length, codes, Bool, Option}
+-- What the texts of `equiv` say of the two types that an input asks about, over the variables of the question, and what those
+-- of `check` and `run` say of a module.
+use Rattle.std.specs.Prelude.{◌≡◌, ◌↔◌, ℕ, List, ◌++◌, length, codes, Bool, Option, ⊤}
+use Rattle.std.specs.Io.KnownBytes.{Appends}
 use Rattle.fst_base.specs.Agreement.{Performs, Agree}
 use Rattle.fst_base.specs.Order.{IsBefore}
 use Rattle.fst_types.specs.Order.{label_cmp}
@@ -20,9 +21,12 @@ use Rattle.fst_names.specs.ResolvedModule.{IsResolvedModule}
 use Rattle.fst_derivations.specs.Deriv.{Deriv}
 use Rattle.fst_derivations.specs.Modules.{HasDerivations}
 use Rattle.fst_safety.specs.Safety.{IsSafe}
+use Rattle.fst_process.specs.declared.report.Report.{Report}
+use Rattle.fst_execution.specs.Execution.{IsSound}
+use Rattle.fst_report.specs.ReportTexts.{report_text}
 use Rattle.fst_command.specs.declared.status.Status.{Status}
 use Rattle.fst_command.specs.declared.status.Status.TheVariants as status
-use Rattle.fst_command.specs.Words.{equiv, check}
+use Rattle.fst_options.specs.Words.{equiv, check, run}
 use Rattle.fst_command.specs.Finding.{IsRead, AreAsked}
 use Rattle.fst_command.specs.Output.{Writes}
 use Rattle.fst_command.specs.Top.{ReadsInput}
@@ -88,3 +92,36 @@ pub record ReadsAccepted (old new : Option (List ℕ)) : Type 0 where
   pub bytes : List ℕ
   pub read : ReadsInput old new bytes
   pub accepted : MeansAccepted bytes
+
+-- so are the bytes, and the text is that of a report, in which each history is a trace of its channel's declared type, and the value
+-- of main is one of main's type
+pub record MeansReport (bytes text : List ℕ) : Type 0 where
+  pub accepted : MeansAccepted bytes
+  pub report : Report
+  pub written : text ≡ report_text accepted.resolved.families.items report
+  pub sound : IsSound accepted.resolved report
+
+-- what it means that `run` wrote a text with this status
+abbrev pub MeansRun : Status → List ℕ → List ℕ → Type 0
+MeansRun status.Done bytes text = MeansReport bytes text
+MeansRun status.Refused bytes text = ⊤
+MeansRun status.Words bytes text = ⊤
+MeansRun status.Waiting bytes text = MeansReport bytes text
+MeansRun status.OutOfSteps bytes text = MeansAccepted bytes
+MeansRun status.Undecided bytes text = ⊤
+MeansRun status.ReadFault bytes text = ⊤
+MeansRun status.WriteFault bytes text = ⊤
+MeansRun status.Limit bytes text = ⊤
+MeansRun status.Memory bytes text = ⊤
+
+-- whatever `run` writes means that
+abbrev pub RunMeanings : Type 0
+RunMeanings = (steps budget : ℕ) (bytes text : List ℕ) (s : Status) → Writes (run steps budget) bytes text s → MeansRun s bytes text
+
+-- what was read and what was written, with this status, mean that
+pub record HasRun (old new taken now : Option (List ℕ)) (s : Status) : Type 0 where
+  pub bytes : List ℕ
+  pub read : ReadsInput old new bytes
+  pub text : List ℕ
+  pub whole : Appends taken now text
+  pub means : MeansRun s bytes text

@@ -1,7 +1,9 @@
 -- Which text and which status belong to which words and which bytes: a command has its own case in `Writes`.
-use Rattle.std.specs.Prelude.{◌≡◌, ℕ, ◌+◌, ◌≤◌, ◌⊎◌, List, [], length}
+use Rattle.std.specs.Prelude.{◌≡◌, ℕ, ◌+◌, ◌≤◌, ◌⊎◌, List, [], ◌∷◌, length, Some}
 use Rattle.fst_base.specs.Limits.{most_bytes}
 use Rattle.fst_equiv.specs.Answers.{Answer, yes, no, undecided, too_large, Answers}
+use Rattle.fst_types.specs.declared.family.Family.{Family}
+use Rattle.fst_terms.specs.CoreTree.{CoreTree}
 use Rattle.fst_terms.specs.ModuleTree.{Declared}
 use Rattle.fst_terms.specs.declared.core_module.Module.{Module}
 use Rattle.fst_module_grammar.specs.Derives.{AnswersModule as ReadsModule}
@@ -11,12 +13,18 @@ use Rattle.fst_print.specs.ModuleTexts.{module_text}
 use Rattle.fst_derivations.specs.Deriv.{Deriv}
 use Rattle.fst_typing.specs.Checked.{IsAccepted, IsRefusal}
 use Rattle.fst_typing.specs.declared.fault.CheckFault.{CheckFault}
+use Rattle.fst_runs.specs.Configs.{main_body}
+use Rattle.fst_process.specs.declared.report.Outcome.{Outcome}
+use Rattle.fst_process.specs.declared.report.Outcome.TheVariants.{Done, OutOfSteps}
+use Rattle.fst_process.specs.declared.report.Waiting.{Waiting}
+use Rattle.fst_process.specs.Reports.{IsAnswer}
+use Rattle.fst_report.specs.ReportTexts.{report_text}
 use Rattle.fst_command.specs.declared.status.Status.{Status}
 use Rattle.fst_command.specs.declared.status.Status.TheVariants as status
-use Rattle.fst_command.specs.Words.{Command, equiv, show, check, IsCommand, NoCommand}
+use Rattle.fst_options.specs.Words.{Command, equiv, show, check, run, IsCommand, NoCommand}
 use Rattle.fst_command.specs.Finding.{Finding, refused, too_deep, IsRead, AreAsked, IsNoQuestion, IsNoModule, AreResolved, AreUnresolved}
 use Rattle.fst_command.specs.Finding as finding
-use Rattle.fst_command.specs.Texts.{yes_text, no_text, undecided_text, refused_text, too_deep_text, too_large_text, too_long_text, usage_text}
+use Rattle.fst_command.specs.Texts.{yes_text, no_text, undecided_text, refused_text, too_deep_text, too_large_text, too_long_text, usage_text, out_of_steps_text}
 use Rattle.fst_command.specs.CheckTexts.{accepted_text, cause, cause_text, cause_status}
 
 -- ---- an input that isn't what its command is for
@@ -71,20 +79,49 @@ pub record ShowsModule (bytes text : List ℕ) (s : Status) : Type 0 where
   pub written : text ≡ module_text declared
   pub ended : s ≡ status.Done
 
--- ---- `check`
+-- ---- `check` and `run`
 
--- this text and status are what is found of a module within a budget: it is accepted with some derivations, or it is refused
--- with a fault
-pub data IsFoundOf (bytes : List ℕ) (m : Module) (budget : ℕ) (text : List ℕ) (s : Status) : Type 0 where
-  accepted : (ds : List Deriv) → IsAccepted m budget ds → text ≡ accepted_text → s ≡ status.Done → IsFoundOf bytes m budget text s
+-- this text and status are what is found of a module within a budget: it is accepted with some derivations, and then this holds of
+-- them, or it is refused with a fault
+pub data IsFoundOf (IsMade : List ℕ → Status → Type 0) (bytes : List ℕ) (m : Module) (budget : ℕ) (text : List ℕ) (s : Status) : Type 0 where
+  accepted : (ds : List Deriv) → IsAccepted m budget ds → IsMade text s → IsFoundOf IsMade bytes m budget text s
   unaccepted : (f : CheckFault) → IsRefusal m budget f → text ≡ cause_text bytes budget (cause (family_names m.families.items) f) →
-      s ≡ cause_status (cause (family_names m.families.items) f) → IsFoundOf bytes m budget text s
+      s ≡ cause_status (cause (family_names m.families.items) f) → IsFoundOf IsMade bytes m budget text s
 
--- the bytes stand for a module, and this text and status are what is found of it within a budget
-pub record ChecksModule (budget : ℕ) (bytes text : List ℕ) (s : Status) : Type 0 where
+-- the bytes stand for a module, and this text and status are what is found of it within a budget, where for one that is accepted
+-- this is made
+pub record FindsModule (IsMade : Module → List ℕ → Status → Type 0) (budget : ℕ) (bytes text : List ℕ) (s : Status) : Type 0 where
   pub resolved : Module
   pub is_resolved : AreResolved bytes resolved
-  pub found : IsFoundOf bytes resolved budget text s
+  pub found : IsFoundOf (IsMade resolved) bytes resolved budget text s
+
+-- what `check` writes of a module that is accepted
+abbrev pub SaysAccepted : Module → List ℕ → Status → Type 0
+SaysAccepted m text s = (text ≡ accepted_text) × (s ≡ status.Done)
+
+-- the status of a report, by the tasks that wait
+abbrev pub waiting_status : List Waiting → Status
+waiting_status [] = status.Done
+waiting_status (w ∷ ws) = status.Waiting
+
+-- the text of what a run comes to
+abbrev pub outcome_text : List Family → Outcome → List ℕ
+outcome_text families (Done r) = report_text families r
+outcome_text families OutOfSteps = out_of_steps_text
+
+-- its status
+abbrev pub outcome_status : Outcome → Status
+outcome_status (Done r) = waiting_status r.waiting.items
+outcome_status OutOfSteps = status.OutOfSteps
+
+-- this text and status are what so many steps of the module's least run come to
+pub record SaysOutcome (steps : ℕ) (m : Module) (text : List ℕ) (s : Status) : Type 0 where
+  pub main : CoreTree
+  pub body : main_body m.globals.items ≡ Some main
+  pub outcome : Outcome
+  pub answer : IsAnswer m main steps outcome
+  pub written : text ≡ outcome_text m.families.items outcome
+  pub ended : s ≡ outcome_status outcome
 
 -- ---- all commands
 
@@ -98,7 +135,8 @@ pub data WritesOf (IsNone : List ℕ → Finding → Type 0) (Makes : List ℕ �
 abbrev pub Writes : Command → List ℕ → List ℕ → Status → Type 0
 Writes (equiv budget) = WritesOf IsNoQuestion (AnswersQuestion budget)
 Writes show = WritesOf IsNoModule ShowsModule
-Writes (check budget) = WritesOf AreUnresolved (ChecksModule budget)
+Writes (check budget) = WritesOf AreUnresolved (FindsModule SaysAccepted budget)
+Writes (run steps budget) = WritesOf AreUnresolved (FindsModule (SaysOutcome steps) budget)
 
 -- what is written of words and bytes: the usage line where the words are no command's, with nothing read, and else what
 -- the command writes
@@ -108,12 +146,13 @@ pub data IsOutput (words : List (List ℕ)) (bytes text : List ℕ) (s : Status)
 
 -- ---- laws
 
--- words that aren't those of `check`, and bytes have at most one output; of `check` it isn't said yet that a module has one
--- answer
+-- words that aren't those of `check` or `run`, and bytes have at most one output; of these two it isn't said yet that a module
+-- is accepted or refused in one way
 abbrev pub OneOutput : Type 0
 OneOutput =
     (words : List (List ℕ)) (bytes text other : List ℕ) (s t : Status) → ((budget : ℕ) → IsCommand words (check budget) → ⊥) →
-    IsOutput words bytes text s → IsOutput words bytes other t → (text ≡ other) × (s ≡ t)
+    ((steps budget : ℕ) → IsCommand words (run steps budget) → ⊥) → IsOutput words bytes text s → IsOutput words bytes other t →
+    (text ≡ other) × (s ≡ t)
 
 -- the text of a module that is shown is a module that is shown by the same text, or a token of it is nested too deep
 abbrev pub ShownAgain : Type 0

@@ -50,6 +50,10 @@ too_large_text text at = codes "limit " ++ place_text text at ++ codes " type si
 abbrev pub too_long_text : List ℕ
 too_long_text = codes "limit length\n"
 
+-- the run has more events than its steps
+abbrev pub out_of_steps_text : List ℕ
+out_of_steps_text = codes "out of steps\n"
+
 -- the words aren't those of a command
 abbrev pub usage_text : List ℕ
 usage_text = codes "usage: freest equiv|show|check|run|make\n"

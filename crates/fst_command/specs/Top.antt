@@ -4,7 +4,7 @@ use Rattle.std.specs.Io.KnownBytes.{Consumes, IsAtEnd, Appends}
 use Rattle.fst_base.specs.Limits.{most_bytes}
 use Rattle.fst_command.specs.declared.status.Status.{Status}
 use Rattle.fst_command.specs.declared.status.Status.TheVariants as status
-use Rattle.fst_command.specs.Words.{Command, equiv, show, check, IsCommand}
+use Rattle.fst_options.specs.Words.{Command, equiv, show, check, run, IsCommand}
 use Rattle.fst_command.specs.Output.{IsOutput}
 
 -- the words are a command's
@@ -21,6 +21,7 @@ abbrev pub ReadsFor : Command → Option (List ℕ) → Option (List ℕ) → Li
 ReadsFor (equiv budget) = ReadsInput
 ReadsFor show = ReadsInput
 ReadsFor (check budget) = ReadsInput
+ReadsFor (run steps budget) = ReadsInput
 
 -- a text that with this status is an output of the words and of what was read
 pub record IsAnswered (words : List (List ℕ)) (old new : Option (List ℕ)) (text : List ℕ) (s : Status) : Type 0 where
@@ -48,6 +49,8 @@ abbrev pub IsAnswer : Status → Type 0
 IsAnswer status.Done = ⊤
 IsAnswer status.Refused = ⊤
 IsAnswer status.Words = ⊤
+IsAnswer status.Waiting = ⊤
+IsAnswer status.OutOfSteps = ⊤
 IsAnswer status.Undecided = ⊤
 IsAnswer status.ReadFault = ⊥
 IsAnswer status.WriteFault = ⊥

@@ -11,15 +11,12 @@ use Rattle.fst_type_print.specs.declared.refusals.Phrase.TheVariants as phrase
 use Rattle.fst_type_print.specs.Texts.{phrase_text}
 use Rattle.fst_scopes.specs.declared.fault.NameFault.{NameFault}
 use Rattle.fst_scopes.specs.declared.fault.NameFault.TheVariants as naming
-use Rattle.fst_command.specs.declared.words.Command.{Command as Said}
-use Rattle.fst_command.specs.declared.words.Command.TheVariants as said
 use Rattle.fst_command.specs.declared.finding.Fault.{Fault}
 use Rattle.fst_command.specs.declared.finding.Fault.TheVariants as fault
 use Rattle.fst_command.specs.declared.refusals.Cause.{Cause as Given}
 use Rattle.fst_command.specs.declared.refusals.Cause.TheVariants as given
 use Rattle.fst_command.specs.CheckTexts as check_texts
 use Rattle.fst_command.specs.CheckTexts.{Cause, undecided}
-use Rattle.fst_command.specs.Words.{Command, equiv, show, check}
 use Rattle.fst_command.specs.Finding.{Finding, refused, too_deep, too_large}
 
 -- this holds of what a fault says; want of memory says nothing
@@ -67,12 +64,6 @@ kind_fault at (kind.WrongKind got wanted) = fault.Refused at (phrase.WrongKind g
 kind_fault at (kind.UnboundType k) = fault.Refused at (phrase.UnboundType k)
 kind_fault at (kind.DoubleLabel l) = fault.Refused at (phrase.DoubleLabel l)
 kind_fault at kind.Memory = fault.Memory
-
--- a command as the definitions have it
-abbrev pub command_of : Said → Command
-command_of (said.Equiv n) = equiv n
-command_of said.Show = show
-command_of (said.Check n) = check n
 
 -- a cause as the definitions have it
 abbrev pub cause_of : Given → Cause

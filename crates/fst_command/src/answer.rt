@@ -1,7 +1,7 @@
 ghost use Rattle.std.specs.Prelude.{◌≡◌, ◌≤◌, IfOk, length};
 ghost use Rattle.fst_base.specs.Limits.{most_bytes};
 ghost use Rattle.fst_kinds.specs.WellFormed.{IsSession};
-ghost use Rattle.fst_command.specs.Words.{equiv, show};
+ghost use Rattle.fst_options.specs.Words.{equiv, show};
 ghost use Rattle.fst_command.specs.Output.{IsAnswerTo, Writes, finding_status, finding_text};
 ghost use Rattle.fst_command.specs.Views.{Found};
 

@@ -1,8 +1,9 @@
-ghost use Rattle.std.specs.Prelude.{◌≤◌, IfErr, IfOk, length};
+ghost use Rattle.std.specs.Prelude.{◌≡◌, ◌≤◌, ◌<◌, IfErr, IfOk, length};
 ghost use Rattle.fst_base.specs.Limits.{most_bytes};
-ghost use Rattle.fst_command.specs.Words.{check};
+ghost use Rattle.fst_execution.specs.Execution.{IsDerived};
+ghost use Rattle.fst_options.specs.Words.{check, run};
 ghost use Rattle.fst_command.specs.Finding.{AreResolved, AreUnresolved};
-ghost use Rattle.fst_command.specs.Output.{IsFoundOf, Writes};
+ghost use Rattle.fst_command.specs.Output.{IsFoundOf, SaysAccepted, SaysOutcome, Writes, waiting_status};
 ghost use Rattle.fst_command.specs.Top.{IsAnswer};
 ghost use Rattle.fst_command.specs.Views.{IfFound};
 
@@ -10,12 +11,15 @@ use crate::answer::{Answer, answer_fault, fixed};
 use crate::finding::{Fault, find_module};
 use crate::refusals::answer_refusal;
 use crate::status::Status;
+use fst_execution::execute;
 use fst_names::resolve;
+use fst_process::{Outcome, Waiting};
+use fst_report::report_text;
 use fst_terms::Module;
-use fst_typing::check;
+use fst_typing::{accepted_law, check};
 use std::alloc::{AllocError, Global};
 
-/// The module that the bytes stand for, or why they stand for none.
+// The module that the bytes stand for, or why they stand for none.
 fn find_resolved(alloc: Global, bytes: &[u8]) -> Result<Module, Fault>
     requires { length bytes.now ≤ most_bytes }
     ensures module { IfOk result (AreResolved bytes.now) }
@@ -25,11 +29,11 @@ fn find_resolved(alloc: Global, bytes: &[u8]) -> Result<Module, Fault>
     Ok(resolve(alloc, &source)?)
 }
 
-/// What is found of a module within a budget of pairs.
+// What is found of a module within a budget of pairs.
 fn answer_module(alloc: Global, bytes: &[u8], m: &Module, budget: u32) -> Result<Answer, AllocError>
     requires budget { 1 ≤ budget }
     requires short { length bytes.now ≤ most_bytes }
-    ensures found { IfOk result (λ a. IsFoundOf bytes.now m.now budget a.text.items a.status) }
+    ensures found { IfOk result (λ a. IsFoundOf (SaysAccepted m.now) bytes.now m.now budget a.text.items a.status) }
     ensures whole { IfOk result (λ a. IsAnswer a.status) }
 {
     match check(alloc, m, budget) {
@@ -47,6 +51,77 @@ pub(crate) fn answer_check(alloc: Global, bytes: &[u8], budget: u32) -> Result<A
 {
     match find_resolved(alloc, bytes) {
         Ok(m) => answer_module(alloc, bytes, &m, budget),
+        Err(fault) => answer_fault(alloc, bytes, fault),
+    }
+}
+
+// The status of a report in which these tasks wait.
+fn waiting_status(tasks: &[Waiting]) -> Status
+    ensures status { result ≡ waiting_status tasks.now }
+    ensures whole { IsAnswer result }
+{
+    if tasks.is_empty() {
+        Status::Done
+    } else {
+        Status::Waiting
+    }
+}
+
+// What so many steps of a module come to.
+fn answer_outcome(alloc: Global, m: &Module, steps: u32) -> Result<Answer, AllocError>
+    requires derived { IsDerived m.now }
+    requires few { steps < 4294967295 }
+    ensures outcome { IfOk result (λ a. SaysOutcome steps m.now a.text.items a.status) }
+    ensures whole { IfOk result (λ a. IsAnswer a.status) }
+{
+    match execute(alloc, m, steps as u64)? {
+        Outcome::Done(report) => {
+            let text = report_text(alloc, &report, &m.families)?;
+            Ok(Answer {
+                status: waiting_status(&report.waiting),
+                text: text.into_bytes(),
+            })
+        }
+        Outcome::OutOfSteps => fixed(alloc, Status::OutOfSteps, b"out of steps\n"),
+    }
+}
+
+// What is found of a module within a budget of pairs, and what so many steps of it come to.
+fn answer_steps(
+    alloc: Global,
+    bytes: &[u8],
+    m: &Module,
+    steps: u32,
+    budget: u32,
+) -> Result<Answer, AllocError>
+    requires few { steps < 4294967295 }
+    requires budget { 1 ≤ budget }
+    requires short { length bytes.now ≤ most_bytes }
+    ensures found { IfOk result (λ a. IsFoundOf (SaysOutcome steps m.now) bytes.now m.now budget a.text.items a.status) }
+    ensures whole { IfOk result (λ a. IsAnswer a.status) }
+{
+    accepted_law();
+    match check(alloc, m, budget) {
+        Ok(_) => answer_outcome(alloc, m, steps),
+        Err(fault) => answer_refusal(alloc, bytes, &m.families, budget, fault),
+    }
+}
+
+/// The answer to an input of the command `run` within so many steps and a budget of pairs.
+pub(crate) fn answer_run(
+    alloc: Global,
+    bytes: &[u8],
+    steps: u32,
+    budget: u32,
+) -> Result<Answer, AllocError>
+    requires few { steps < 4294967295 }
+    requires budget { 1 ≤ budget }
+    requires short { length bytes.now ≤ most_bytes }
+    ensures text { IfOk result (λ a. Writes (run steps budget) bytes.now a.text.items a.status) }
+    ensures whole { IfOk result (λ a. IsAnswer a.status) }
+{
+    match find_resolved(alloc, bytes) {
+        Ok(m) => answer_steps(alloc, bytes, &m, steps, budget),
         Err(fault) => answer_fault(alloc, bytes, fault),
     }
 }

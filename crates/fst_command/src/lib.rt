@@ -8,7 +8,6 @@ mod refusals;
 mod run;
 mod status;
 mod texts;
-mod words;
 
-pub use run::{check_meanings, equiv_meanings, one_output, shown_again, top};
+pub use run::{check_meanings, equiv_meanings, one_output, run_meanings, shown_again, top};
 pub use status::Status;

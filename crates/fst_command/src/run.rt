@@ -1,20 +1,21 @@
 ghost use Rattle.std.specs.Prelude.{◌≡◌, ◌⊎◌, ℕ, [], map, IfOk, IfErr, string_bytes};
 ghost use Rattle.std.specs.Io.KnownBytes.{Appends};
 ghost use Rattle.fst_io.specs.Faults.{Rose};
-ghost use Rattle.fst_command.specs.Words.{IsCommand, NoCommand, check};
-ghost use Rattle.fst_command.specs.Meanings.{CheckMeanings, EquivMeanings, ReadsAccepted};
+ghost use Rattle.fst_options.specs.Words.{IsCommand, NoCommand, check, run};
+ghost use Rattle.fst_command.specs.Meanings.{CheckMeanings, EquivMeanings, HasRun, ReadsAccepted, RunMeanings};
 ghost use Rattle.fst_command.specs.Output.{OneOutput, ShownAgain};
 ghost use Rattle.fst_command.specs.Top.{HaveCommand, IsAnswer, IsAnswered, WasCut, WasWritten};
 
 use crate::answer::{Answer, answer_equiv, answer_show, fixed};
-use crate::checks::answer_check;
+use crate::checks::{answer_check, answer_run};
 use crate::status::Status;
-use crate::words::{Command, parse};
 use fst_base::MOST_BYTES;
 use fst_equiv::one_answer;
+use fst_execution::sound_law;
 use fst_io::{Gate, ReadFault, Sink, Source, WriteFault, read_all, write_all};
 use fst_lexer::one_lexing;
 use fst_module_grammar::one_module;
+use fst_options::{Command, parse};
 use fst_roundtrip::read_again;
 use fst_safety::safety_law;
 use fst_type_syntax::one_reading;
@@ -41,6 +42,7 @@ fn answer<S: Source>(alloc: Global, words: &[String], source: &mut S) -> Result<
             Command::Equiv(budget) => Ok(answer_equiv(alloc, &bytes, budget)?),
             Command::Show => Ok(answer_show(alloc, &bytes)?),
             Command::Check(budget) => Ok(answer_check(alloc, &bytes, budget)?),
+            Command::Run(steps, budget) => Ok(answer_run(alloc, &bytes, steps, budget)?),
         },
         Err(ReadFault::TooLong) => Ok(fixed(alloc, Status::Limit, b"limit length\n")?),
         Err(ReadFault::Failed) => Err(Status::ReadFault),
@@ -68,6 +70,12 @@ pub fn top<R, S: Source, K: Sink, G: Gate + Sync>(
         IsCommand (map string_bytes words.now) (check budget) →
         ReadsAccepted (S.left source.old) (S.left source.new) }
 
+    // The same holds where `run` wrote a report, or ran out of steps; and in a report each history is a trace of its channel's
+    // declared type, and the value of `main` is one of its type.
+    ensures ran { IsAnswer result → (steps budget : ℕ) →
+        IsCommand (map string_bytes words.now) (run steps budget) →
+        HasRun (S.left source.old) (S.left source.new) (K.taken sink.old) (K.taken sink.new) result }
+
     // A read fault comes only where the source's count rose, for words that want the source, and
     // nothing is written.
     ensures read_fault { result ≡ Status.ReadFault →
@@ -91,6 +99,7 @@ pub fn top<R, S: Source, K: Sink, G: Gate + Sync>(
     ensures unread { NoCommand (map string_bytes words.now) → source.new ≡ source.old }
 {
     check_meanings();
+    run_meanings();
     match answer(alloc, words, source) {
         Err(status) => status,
         Ok(answer) => match write_all(sink, &answer.text) {
@@ -101,8 +110,8 @@ pub fn top<R, S: Source, K: Sink, G: Gate + Sync>(
     }
 }
 
-/// Words and bytes have at most one output: what is written is a function of what was read. Of the words of `check` this
-/// isn't said.
+/// Words and bytes have at most one output: what is written is a function of what was read. Of the words of `check`
+/// and `run` this isn't said.
 pub fn one_output()
     ensures { OneOutput }
 {
@@ -132,4 +141,13 @@ pub fn check_meanings()
 {
     accepted_law();
     safety_law();
+}
+
+/// What it means that `run` wrote a report, or ran out of steps.
+pub fn run_meanings()
+    ensures { RunMeanings }
+{
+    accepted_law();
+    safety_law();
+    sound_law();
 }

@@ -12,6 +12,10 @@ pub enum Status {
     Refused = 1,
     /// The words aren't those of a command; nothing was read.
     Words = 2,
+    /// The run came to its end, and tasks are left that wait.
+    Waiting = 3,
+    /// The run has more events than its steps.
+    OutOfSteps = 4,
     /// The question has more pairs than the budget, and as many as the budget show no difference.
     Undecided = 5,
     /// A read failed; nothing was written.

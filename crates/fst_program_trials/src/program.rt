@@ -23,6 +23,10 @@ fn number_of(text: &str) -> u8 {
         1
     } else if text.starts_with("usage") {
         2
+    } else if text.contains("\nwaiting ") {
+        3
+    } else if text.starts_with("out of") {
+        4
     } else if text.starts_with("undecided") {
         5
     } else if text.starts_with("limit") {
@@ -65,8 +69,11 @@ pub(crate) fn program_row(alloc: Global, given: &str) -> Result<String, Fail> {
     Ok(text)
 }
 
+/// What a run writes in which one number passes.
+const FIRST_RUN: &str = "result 42\nchannel 0#1 : !Int\nhistory 0#1 : !42\n";
+
 // The words and the input, and what is written.
-const ROWS: [(&str, &str); 18] = [
+const ROWS: [(&str, &str); 22] = [
     // swap-skip, send-is-not-receive, choice-distributes
     ("equiv ¦ Skip;!Int ~ !Int;Skip", "yes\n"),
     ("equiv ¦ !Int ~ ?Int", "no !Int left\n"),
@@ -123,6 +130,25 @@ const ROWS: [(&str, &str); 18] = [
         "show ¦ main : Int\nmain = 9223372036854775808",
         "refused 2:8 number too wide\n",
     ),
+    // first-run
+    (
+        "run ¦ main : Int\nmain = let (a, b) = new !Int in fork (send 42 a); let (x, c) = receive b in x",
+        FIRST_RUN,
+    ),
+    // two-waiting
+    (
+        "run ¦ main : Int\nmain = let (a, b) = new !Int in let (c, d) = new !Int in fork (let (x, e) = receive d in send x a); let (y, e) = receive b in send y c; 5",
+        "result none\nwaiting 0 at 0#1 right\nwaiting 0.1 at 0#2 right\nchannel 0#1 : !Int\nhistory 0#1 :\nchannel 0#2 : !Int\nhistory 0#2 :\n",
+    ),
+    // step-counts
+    (
+        "run --steps 100 ¦ main : Int\nmain = count 49\ncount : Int -> Int\ncount n = if n == 0 then 0 else count (n - 1)",
+        "result 0\n",
+    ),
+    (
+        "run --steps=99 ¦ main : Int\nmain = count 49\ncount : Int -> Int\ncount n = if n == 0 then 0 else count (n - 1)",
+        "out of steps\n",
+    ),
 ];
 
 #[test]
@@ -135,7 +161,11 @@ const OTHER_WORDS: &str = "\
 help = usage: freest equiv|show|check|run|make
  = usage: freest equiv|show|check|run|make
 --version = usage: freest equiv|show|check|run|make
-run = usage: freest equiv|show|check|run|make
+make = usage: freest equiv|show|check|run|make
+run 5 = usage: freest equiv|show|check|run|make
+run --workers 9 = usage: freest equiv|show|check|run|make
+run --steps 5 --steps 5 = usage: freest equiv|show|check|run|make
+run --steps=2000001 = usage: freest equiv|show|check|run|make
 Equiv = usage: freest equiv|show|check|run|make
 equiv equiv = usage: freest equiv|show|check|run|make
 equiv 5 = usage: freest equiv|show|check|run|make
@@ -167,15 +197,19 @@ fn other_words_are_refused_and_nothing_is_read(rt: HostRuntime) -> Result<(), Fa
     each_line(rt.alloc(), OTHER_WORDS, words_row)
 }
 
-/// The status and the text of a question, over ends that fail.
+/// A question.
+const QUESTION: (&str, &str) = ("equiv", "Skip;!Int ~ !Int;Skip");
+
+/// The status and the text for a word and an input, over ends that fail.
 fn run_between(
     alloc: Global,
+    (word, input): (&str, &str),
     reads: (usize, u64),
     writes: (usize, u64),
 ) -> Result<(u8, Vec<u8>), Fail> {
-    let mut source = source_of(alloc, b"Skip;!Int ~ !Int;Skip", reads.0, reads.1)?;
+    let mut source = source_of(alloc, input.as_bytes(), reads.0, reads.1)?;
     let mut sink = sink_of(alloc, writes.0, writes.1)?;
-    let words = words(alloc, "equiv")?;
+    let words = words(alloc, word)?;
     let status = top(&(), alloc, &words, &mut source, &mut sink, &OpenGate);
     Ok((status.number(), sink.bytes))
 }
@@ -185,7 +219,7 @@ fn reads_row(alloc: Global, given: &str) -> Result<String, Fail> {
     let piece = given.parse::<usize>()?;
     let mut count = 0;
     for fail in 1..24 {
-        let (number, text) = run_between(alloc, (piece, fail), (99, 0))?;
+        let (number, text) = run_between(alloc, QUESTION, (piece, fail), (99, 0))?;
         if number == 6 && text.is_empty() {
             count = fail;
         } else if number != 0 || text.len() != 4 {
@@ -209,8 +243,20 @@ fn failing_reads_write_nothing(rt: HostRuntime) -> Result<(), Fail> {
 fn writes_row(alloc: Global, given: &str) -> Result<String, Fail> {
     let (piece, fail) = given.split_once(" ¦ ").ok_or("no call")?;
     let writes = (piece.parse::<usize>()?, fail.parse::<u64>()?);
-    let (number, text) = run_between(alloc, (99, 0), writes)?;
+    let (number, text) = run_between(alloc, QUESTION, (99, 0), writes)?;
     Ok(format!(in alloc; "{number} {}", shown(&text)?)?)
+}
+
+#[test]
+fn a_report_is_cut_where_a_write_fails(rt: HostRuntime) -> Result<(), Fail> {
+    let input =
+        "main : Int\nmain = let (a, b) = new !Int in fork (send 42 a); let (x, c) = receive b in x";
+    let (number, text) = run_between(rt.alloc(), ("run", input), (99, 0), (7, 2))?;
+    if number == 7 && text.as_slice() == b"result " {
+        Ok(())
+    } else {
+        Err(Fail::new("another status, or more is written"))
+    }
 }
 
 #[test]

@@ -1,5 +1,5 @@
-use Rattle.fst_command.specs.Words.{equiv, show, check}
-use Rattle.fst_command.specs.Views.{command_of}
+use Rattle.fst_options.specs.Words.{equiv, show, check, run}
+use Rattle.fst_options.specs.Views.{command_of}
 use Rattle.fst_command.proofs.Runs.{read_whole, read_over}
 use Rattle.fst_command.proofs.run.answer.Goals as goal
 
@@ -17,12 +17,19 @@ returns-in-Show-clause-answered g c =
     read_whole c.in_ok-answer_show-in-Show.field-0.status _ show _ _ c.in-Ok.bytes.items
     c.in_ok-answer_show-in-Show.field-0.text.items command c.in-Ok.ensures.all c.in-Ok.ensures.end output
 
-pub returns-in-Ok-clause-answered : goal.returns-in-Ok-clause-answered
-returns-in-Ok-clause-answered g c =
+pub returns-in-Check-clause-answered : goal.returns-in-Check-clause-answered
+returns-in-Check-clause-answered g c =
     let command = rw c.in-Check.is at c.in-Some.ensures in
     let output = rw c.deref-in-Check.ensures.value at c.in_ok-answer_check-in-Check.ensures.text in
     read_whole c.in_ok-answer_check-in-Check.field-0.status _ (check c.in-Check.budget) _ _ c.in-Ok.bytes.items
     c.in_ok-answer_check-in-Check.field-0.text.items command c.in-Ok.ensures.all c.in-Ok.ensures.end output
+
+pub returns-in-Ok-clause-answered : goal.returns-in-Ok-clause-answered
+returns-in-Ok-clause-answered g c =
+    let command = rw c.in-Run.is at c.in-Some.ensures in
+    let output = rw c.deref-in-Run.ensures.value at c.in_ok-answer_run-in-Run.ensures.text in
+    read_whole c.in_ok-answer_run-in-Run.field-0.status _ (run c.in-Run.steps c.in-Run.budget) _ _ c.in-Ok.bytes.items
+    c.in_ok-answer_run-in-Run.field-0.text.items command c.in-Ok.ensures.all c.in-Ok.ensures.end output
 
 pub returns-in-Err-TooLong-clause-answered : goal.returns-in-Err-TooLong-clause-answered
 returns-in-Err-TooLong-clause-answered g c =

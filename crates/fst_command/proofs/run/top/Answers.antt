@@ -1,9 +1,15 @@
 use Rattle.std.proofs.Common.{map}
 use Rattle.std.specs.Prelude.{string_bytes}
-use Rattle.fst_command.proofs.Runs.{read_accepted}
+use Rattle.fst_command.proofs.Runs.{has_run, read_accepted}
 use Rattle.fst_command.proofs.run.top.Goals as goal
 
 pub returns-in-Ok-write_all-clause-accepted : goal.returns-in-Ok-write_all-clause-accepted
 returns-in-Ok-write_all-clause-accepted g c =
     read_accepted c.check_meanings.ensures (map string_bytes c.args.words.now) (g.S.Source.left c.args.source.now) (g.S.Source.left c.answer.new.source)
     c.in-Ok.answer.text.items c.in-Ok.answer.status c.in-Ok.ensures.answered
+
+pub returns-in-Ok-write_all-clause-ran : goal.returns-in-Ok-write_all-clause-ran
+returns-in-Ok-write_all-clause-ran g c = λ whole.
+    let written = rw c.deref.ensures.value at c.in-Ok-write_all.ensures.all in
+    has_run c.run_meanings.ensures (map string_bytes c.args.words.now) (g.S.Source.left c.args.source.now) (g.S.Source.left c.answer.new.source)
+    (g.K.Sink.taken c.args.sink.now) (g.K.Sink.taken c.write_all.new.sink) c.in-Ok.answer.text.items c.in-Ok.answer.status c.in-Ok.ensures.answered written
