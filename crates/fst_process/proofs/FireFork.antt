@@ -1,12 +1,12 @@
 -- A task forks another one.
-use Rattle.std.proofs.Common.{◌≡◌, ◌∙◌, ◌+◌, ◌++◌, ◌<◌, ℕ, suc, [], ◌∷◌, Some, None, refl, sym, ap, subst, arith}
+use Rattle.std.proofs.Common.{◌≡◌, ◌∙◌, ◌+◌, ◌++◌, ◌<◌, ℕ, zero, suc, max, [], ◌∷◌, Some, None, refl, sym, ap, subst, arith}
 use Rattle.std.specs.Prelude.{length, IsSome}
 use Rattle.fst_terms.specs.declared.core_module.Module.{Module}
 use Rattle.fst_machine.specs.declared.code.Code.{Code}
 use Rattle.fst_machine.specs.declared.request.Answer.TheVariants.{Forked}
 use Rattle.fst_machine.specs.Machine.{stuck, pause}
 use Rattle.fst_vm.specs.TaskView.{TaskView}
-use Rattle.fst_vm.specs.Tasks.{IsIn, HasNext, Takes, GoesOn, Forks, IsChild}
+use Rattle.fst_vm.specs.Tasks.{IsIn, HasNext, Forks, IsChild}
 use Rattle.fst_runs.specs.declared.event.CoreEvent.TheVariants.{Fork}
 use Rattle.fst_runs.specs.Configs.{Path, Config, Task, child_path, new_task, program}
 use Rattle.fst_runs.specs.Events.{Write, Does, written}
@@ -16,12 +16,13 @@ use Rattle.fst_runs.proofs.Naming.{fork_free}
 use Rattle.fst_runs.proofs.Updates.{with_task, has_forked, fork_puts, put_there, stays_there, stays_free}
 use Rattle.fst_process.specs.Kept.{Slot, Kept, without, settled}
 use Rattle.fst_process.specs.Reflects.{IsTask, Reflects}
-use Rattle.fst_process.specs.Firing.{IsPossible, Happens, Settles}
+use Rattle.fst_process.specs.Firing.{IsPossible, Happens, Settles, CanGoOn, HasGoneOn}
+use Rattle.fst_process.proofs.Moving.{moves_ready}
 use Rattle.fst_process.proofs.Going.{IsOf}
 use Rattle.fst_process.proofs.GoingForks.{fork_goes}
 use Rattle.fst_process.proofs.Begun.{unmade}
 use Rattle.fst_process.proofs.Rights.{right_fine, right_alive}
-use Rattle.fst_process.proofs.Stepping.{there_kept, its_task, takes, next_after, is_of, settled_types, one_more}
+use Rattle.fst_process.proofs.Stepping.{there_kept, its_task, can_go_on, is_of, settles_gone, settled_types, one_more, next_clock, clock_few}
 
 module _ (m : Module) (c : Config) (p : Path) (w : Write) (right : IsRight (program m) (written c w)) (parents : HasParents c) (f : Does (program m) m.types.items c (Fork p) w) where
   abbrev new_path : Path
@@ -79,18 +80,13 @@ module _ (k : Code) (d : Kept) (p : Path) where
           few = forked_few x;
         }
 
-    -- it takes the answer
-    pub fork_takes : IsPossible k d (Fork p) → Takes k s.task Forked
-    fork_takes x =
-        let i = its_parent x.source x.events x.before x.write x.reflects x.does in
-        takes x.source k d p s x.does.0 x.reflects.from i Forked x.does.1 x.does.5 (parent_alive x.source x.before p x.write x.right_after x.parents x.does) (λ z. forked_few x)
-
-    -- and asks for something after it
-    pub fork_next : (v : TaskView) → GoesOn k s.task Forked v → IsPossible k d (Fork p) → HasNext k v
-    fork_next v g x =
+    -- it can go on
+    pub fork_can : IsPossible k d (Fork p) → CanGoOn k d p Forked
+    fork_can x =
         let i = its_parent x.source x.events x.before x.write x.reflects x.does in
         let a = x.right_after.asks p (has_forked x.does.0 x.does.1 (suc x.does.0.clock)) (parent_there x.source x.before p x.write x.right_after x.parents x.does) in
-        next_after x.source k d p s x.does.0 x.reflects.from i Forked x.does.1 x.does.5 (parent_alive x.source x.before p x.write x.right_after x.parents x.does) v g a.0 a.1
+        can_go_on x.source k d p s x.does.0 x.reflects.from i Forked x.does.1 x.does.5 (parent_alive x.source x.before p x.write x.right_after x.parents x.does) d there
+        (moves_ready x.source k x.events d x.before x.reflects p (Fork p) x.write refl x.does) (clock_few k d p s (Fork p) there x) (λ z. forked_few x) a.0 a.1
 
     child_in : (v : TaskView) → IsChild k s.task v → (m : Module) (n : ℕ) (c : Config) (w : Write) → Reflects m k n d c → (f : Does (program m) m.types.items c (Fork p) w) →
         IsIn m k v f.2
@@ -109,23 +105,26 @@ module _ (k : Code) (d : Kept) (p : Path) where
     }
 
     -- what is kept after a fork is the configuration after it
-    pub fork_happens : (v u : TaskView) (e g : Kept) → GoesOn k s.task Forked v → IsChild k s.task u → Settles k v (s.clock + 1) (without p d) e → Settles k u (s.clock + 1) e g →
-        Happens k d (Fork p) g
-    fork_happens v u e g on child z y = λ m n c w r f right makers parents.
-        let i = its_parent m n c w r f in
-        let one = one_more s.clock f.0.clock i.clock in
+    pub fork_happens : (u : TaskView) (e g : Kept) → HasGoneOn k p Forked zero d e → IsChild k s.task u → Settles k u (s.clock + 1) e g → Happens k d (Fork p) g
+    fork_happens u e g b child y = λ m n c w r f right makers parents.
+        let j = its_parent m n c w r f in
+        let v = b.moves_on.task in
+        let l = max (suc b.slot.clock) zero in
+        let i = its_task m k n d c p b.slot f.0 r b.there f.3.0 in
+        let z = settles_gone k p Forked zero d e b i.path in
         let inside = child_in u child m n c w r f in
-        let o = is_of m k d p s f.0 r.from i Forked f.1 f.5 (parent_alive m c p w right parents f) v (s.clock + 1) (without p d) e f.0.made (suc f.0.clock) (suc f.0.forked) on z one refl in
+        let o = is_of m k d p b.slot f.0 r.from i Forked f.1 f.5 (parent_alive m c p w right parents f) v l (without p d) e f.0.made (suc f.0.clock) (suc f.0.forked)
+        b.moves_on.goes_on z (next_clock b.slot.clock f.0.clock i.clock) refl in
         let q : IsOf m k (child_path p f.0.forked) y.slot (new_task f.2 (suc f.0.clock)) = record {
-          path = y.stays.path ∙ child.path ∙ (λ j. i.path j ++ suc (i.forked j) ∷ []);
+          path = y.stays.path ∙ child.path ∙ (λ a. j.path a ++ suc (j.forked a) ∷ []);
           rests = y.rests;
           is_in = y.stays.states m f.2 inside;
           asks = y.asked m f.2 inside (child_alive m c p w right parents f);
-          clock = y.clock ∙ one;
+          clock = y.clock ∙ one_more s.clock f.0.clock j.clock;
           forked = y.stays.forked ∙ child.forked;
         } in
         let none = fork_free c p f.0 parents f.3.0 in
-        let kept = settled_types m k u (s.clock + 1) e g r.from y ∙ ap (settled (length m.types.items) y.slot) (settled_types m k v (s.clock + 1) (without p d) e r.from z) in
+        let kept = settled_types m k u (s.clock + 1) e g r.from y ∙ ap (settled (length m.types.items) y.slot) (settled_types m k v l (without p d) e r.from z) in
         subst (λ h. Reflects m k (suc n) h (written c w)) (sym kept)
         (fork_goes m k n d c p w z.slot y.slot r f o q none (unmade m k n d c (child_path p f.0.forked) r none (λ h j b. let a = makers h j b in (a.0, a.1)))
         (right_fine m (written c w) right))

@@ -1,33 +1,32 @@
 -- Two tasks meet.
-use Rattle.std.proofs.Common.{◌≡◌, ◌∙◌, ◌<◌, ℕ, suc, max, Some, None, refl, sym, ap, subst, arith}
-use Rattle.std.specs.Prelude.{length, IsSome, is_some}
+use Rattle.std.proofs.Common.{◌≡◌, ◌∙◌, inl, inr, ◌<◌, ℕ, suc, max, Some, refl, sym, ap, subst, arith}
+use Rattle.std.specs.Prelude.{length, IsSome}
 use Rattle.fst_terms.specs.declared.core_module.Module.{Module}
 use Rattle.fst_value.specs.declared.ends.ChannelName.{ChannelName}
 use Rattle.fst_value.specs.declared.ends.EndName.{EndName}
 use Rattle.fst_value.specs.declared.event.Event.{Event}
+use Rattle.fst_value.specs.declared.event.Entry.{Entry}
 use Rattle.fst_machine.specs.declared.code.Code.{Code}
 use Rattle.fst_machine.specs.declared.request.Request.TheVariants as request
 use Rattle.fst_machine.specs.declared.request.Answer.TheVariants.{Sent, Got}
 use Rattle.fst_machine.specs.Machine.{stuck, pause, answered}
-use Rattle.fst_vm.specs.TaskView.{TaskView}
-use Rattle.fst_vm.specs.Tasks.{HasNext, Takes, GoesOn}
 use Rattle.fst_runs.specs.declared.event.CoreEvent.TheVariants.{Meet}
 use Rattle.fst_runs.specs.Histories.{last_stamp}
 use Rattle.fst_runs.specs.Configs.{Path, Config, Task, other, program}
 use Rattle.fst_runs.specs.Events.{Write, Does, written, meeting_stamp, extended}
 use Rattle.fst_runs.specs.Wrong.{IsRight}
-use Rattle.fst_runs.proofs.NameLaws.{same_path-apart}
 use Rattle.fst_runs.proofs.Naming.{asks_apart}
 use Rattle.fst_runs.proofs.Updates.{with_task, with_channel, has_met, passed as passed_entry, meet_puts, put_there, stays_apart}
-use Rattle.fst_process.specs.Kept.{Slot, Channel, Kept, without, changed, passed, settled}
+use Rattle.fst_process.specs.Kept.{Slot, Channel, Kept, end_of, partner, without, changed, passed, settled_at, settled}
 use Rattle.fst_process.specs.Reflects.{IsTask, Reflects}
-use Rattle.fst_process.specs.Firing.{IsPossible, Happens, Settles}
-use Rattle.fst_process.proofs.PathLaws.{some_same, none_some}
-use Rattle.fst_process.proofs.Places.{put_cases, put_else}
+use Rattle.fst_process.specs.Firing.{IsPossible, Happens, CanGoOn, HasGoneOn}
+use Rattle.fst_process.proofs.PathLaws.{some_same}
+use Rattle.fst_process.proofs.Apart.{settled_apart, asks_elsewhere, rest_there, rest_ready}
 use Rattle.fst_process.proofs.Ends.{there_bare}
-use Rattle.fst_process.proofs.GoingMeets.{last_stamped, meet_goes}
+use Rattle.fst_process.proofs.Moving.{moves_ready}
+use Rattle.fst_process.proofs.GoingMeets.{last_stamped, its_entry, meet_goes}
 use Rattle.fst_process.proofs.Rights.{right_fine, right_alive}
-use Rattle.fst_process.proofs.Stepping.{there_kept, its_task, takes, next_after, is_of, settled_types}
+use Rattle.fst_process.proofs.Stepping.{there_kept, its_task, can_go_on, is_of, settles_gone, settled_types, clock_few}
 
 put_event : (x y : EndName) (ev ew : Event) → request.Put x ev ≡ request.Put y ew → ev ≡ ew
 put_event x y ev ew e = cc e
@@ -69,20 +68,21 @@ module _ (m : Module) (c : Config) (p q : Path) (h : ChannelName) (w : Write) (f
     receiver_alive : pause m.families.items f.5 ≡ stuck → ⊥
     receiver_alive = right_alive m (written c w) q receiver right receiver_there
 
--- a task that is left was there
-pub second_there : (d : Kept) (p q : Path) (o : Slot) → (without p d).tasks q ≡ Some o → d.tasks q ≡ Some o
-second_there d p q o = put_cases (λ z. z ≡ Some o → d.tasks q ≡ Some o) p q None d.tasks (λ z e. absurd (none_some e)) (λ z e. e)
+-- a stamp is over the clocks of both tasks
+stamp_first : (i a b c l : ℕ) → i ≡ a → l ≡ suc (max (max a b) c) → max (suc i) l ≡ l
+stamp_first i a b c l e f = omega (arith, e, f)
+
+stamp_second : (i a b c l : ℕ) → i ≡ b → l ≡ suc (max (max a b) c) → max (suc i) l ≡ l
+stamp_second i a b c l e f = omega (arith, e, f)
 
 module _ (k : Code) (d : Kept) (p q : Path) (h : ChannelName) where
   -- the task that sends is kept
   pub sender_kept : IsPossible k d (Meet p q h) → IsSome (d.tasks p)
   sender_kept x = there_kept x.source k x.events d x.before p x.does.0 x.reflects x.does.7.0
 
-  -- and so is the one that receives, once the other is taken out
-  pub receiver_kept : IsPossible k d (Meet p q h) → IsSome ((without p d).tasks q)
-  receiver_kept x =
-      ap (λ o. is_some o) (put_else p q None d.tasks (same_path-apart p q (differ x.source x.before p q h x.write x.does)))
-      ∙ there_kept x.source k x.events d x.before q x.does.1 x.reflects x.does.8.0
+  -- and so is the one that receives
+  pub receiver_kept : IsPossible k d (Meet p q h) → IsSome (d.tasks q)
+  receiver_kept x = there_kept x.source k x.events d x.before q x.does.1 x.reflects x.does.8.0
 
   -- the last stamp of the channel is in bounds
   pub stamps_few : (j : Channel) → d.channels h ≡ Some j → IsPossible k d (Meet p q h) → last_stamp j.history < 4294967296
@@ -105,18 +105,26 @@ module _ (k : Code) (d : Kept) (p q : Path) (h : ChannelName) where
     pub meet_never : (e : Kept) → ((x : EndName) (ev : Event) → s.request ≡ request.Put x ev → ⊥) → Happens k d (Meet p q h) e
     meet_never e g = λ m n c w r f right makers parents. absurd (g f.2 f.3 (asks_put m n c w r f))
 
-    -- the task that sends takes the answer
-    pub put_takes : IsPossible k d (Meet p q h) → Takes k s.task Sent
-    put_takes x =
-        let i = sender_is x.source x.events x.before x.write x.reflects x.does in
-        takes x.source k d p s x.does.0 x.reflects.from i Sent x.does.4 x.does.11 (sender_alive x.source x.before p q h x.write x.does x.right_after) (λ z. absurd (cc z))
-
-    -- and asks for something after it
-    pub put_next : (v : TaskView) → GoesOn k s.task Sent v → IsPossible k d (Meet p q h) → HasNext k v
-    put_next v g x =
+    -- the task that sends can go on, once it is kept what passes
+    pub put_can : (b : Kept) (en : Entry) → b ≡ changed h (passed en) d → IsPossible k d (Meet p q h) → CanGoOn k b p Sent
+    put_can b en after x =
         let i = sender_is x.source x.events x.before x.write x.reflects x.does in
         let a = x.right_after.asks p _ (sender_there x.source x.before p q h x.write x.does) in
-        next_after x.source k d p s x.does.0 x.reflects.from i Sent x.does.4 x.does.11 (sender_alive x.source x.before p q h x.write x.does x.right_after) v g a.0 a.1
+        can_go_on x.source k d p s x.does.0 x.reflects.from i Sent x.does.4 x.does.11 (sender_alive x.source x.before p q h x.write x.does x.right_after) b
+        (ap (λ (z : Kept). z.tasks p) after ∙ there)
+        (ap (λ (z : Kept). z.ready p) after ∙ moves_ready x.source k x.events d x.before x.reflects p (Meet p q h) x.write (inl refl) x.does)
+        (clock_few k d p s (Meet p q h) there x) (λ z. absurd (cc z)) a.0 a.1
+
+    -- the one that receives doesn't ask at another channel
+    never_partner : (m : Module) (n : ℕ) (c : Config) (w : Write) → Reflects m k n d c → (f : Does (program m) m.types.items c (Meet p q h) w) →
+        (en : Entry) (x : EndName) → partner (changed h (passed en) d) x ≡ Some q → ⊥
+    never_partner m n c w r f en x e =
+        let a = asks_elsewhere d h en (other x) q e in
+        let b = (r.askers (other x) q).0 a.1 in
+        let get : o.request ≡ request.Get (other f.2) = some_same (sym (receiver_is m n c w r f).asks ∙ f.8.1) in
+        let one : b.0 ≡ o = some_same (sym b.1 ∙ there') in
+        let same : other x ≡ other f.2 = some_same (sym b.2 ∙ ap (λ (z : Slot). end_of z.request) one ∙ ap end_of get) in
+        a.0 (sym (ap (λ (z : EndName). z.channel) same ∙ f.9))
 
     module _ (y : EndName) (ev : Event) (asks : s.request ≡ request.Put y ev) where
       event_is : (m : Module) (n : ℕ) (c : Config) (w : Write) → Reflects m k n d c → (f : Does (program m) m.types.items c (Meet p q h) w) → ev ≡ f.3
@@ -126,39 +134,57 @@ module _ (k : Code) (d : Kept) (p q : Path) (h : ChannelName) where
           answered (program m) f.1.state (Got ev) ≡ Some f.5
       told m n c w r f = ap (λ z. answered (program m) f.1.state (Got z)) (event_is m n c w r f) ∙ f.12
 
-      -- the task that receives takes what is sent
-      pub get_takes : IsPossible k d (Meet p q h) → Takes k o.task (Got ev)
-      get_takes x =
-          let i = receiver_is x.source x.events x.before x.write x.reflects x.does in
-          takes x.source k d q o x.does.1 x.reflects.from i (Got ev) x.does.5 (told x.source x.events x.before x.write x.reflects x.does)
-          (receiver_alive x.source x.before p q h x.write x.does x.right_after) (λ z. absurd (cc z))
-
-      -- and asks for something after it
-      pub get_next : (v : TaskView) → GoesOn k o.task (Got ev) v → IsPossible k d (Meet p q h) → HasNext k v
-      get_next v g x =
+      -- the task that receives can go on with what is sent, once the other one has gone on
+      pub get_can : (l : ℕ) (b e : Kept) (en : Entry) → b ≡ changed h (passed en) d → HasGoneOn k p Sent l b e → IsPossible k d (Meet p q h) → CanGoOn k e q (Got ev)
+      get_can l b e en after g x =
           let i = receiver_is x.source x.events x.before x.write x.reflects x.does in
           let a = x.right_after.asks q _ (receiver_there x.source x.before p q h x.write x.does) in
-          next_after x.source k d q o x.does.1 x.reflects.from i (Got ev) x.does.5 (told x.source x.events x.before x.write x.reflects x.does)
-          (receiver_alive x.source x.before p q h x.write x.does x.right_after) v g a.0 a.1
+          let types = length k.types.items in
+          let n = differ x.source x.before p q h x.write x.does in
+          let is = g.after ∙ ap (λ z. settled_at types p g.now (without p z)) after in
+          can_go_on x.source k d q o x.does.1 x.reflects.from i (Got ev) x.does.5 (told x.source x.events x.before x.write x.reflects x.does)
+          (receiver_alive x.source x.before p q h x.write x.does x.right_after) e
+          (ap (λ (z : Kept). z.tasks q) is ∙ rest_there types p q g.now (changed h (passed en) d) n ∙ there')
+          (ap (λ (z : Kept). z.ready q) is ∙ rest_ready types p q g.now (changed h (passed en) d) n
+          (moves_ready x.source k x.events d x.before x.reflects q (Meet p q h) x.write (inr refl) x.does))
+          (clock_few k d q o (Meet p q h) there' x) (λ z. absurd (cc z)) a.0 a.1
 
       -- what is kept after they have met is the configuration after it
-      pub meet_happens : (l : ℕ) (v u : TaskView) (b e g : Kept) →
+      pub meet_happens : (l : ℕ) (b e g : Kept) →
           ((j : Channel) → d.channels h ≡ Some j → l ≡ suc (max (max s.clock o.clock) (last_stamp j.history))) →
-          b ≡ changed h (passed (record { event = ev; stamp = l; sent = s.clock; got = o.clock })) (without q (without p d)) →
-          GoesOn k s.task Sent v → GoesOn k o.task (Got ev) u → Settles k v l b e → Settles k u l e g → Happens k d (Meet p q h) g
-      meet_happens l v u b e g stamped after on on' z z' = λ m n c w r f right makers parents.
+          b ≡ changed h (passed (record { event = ev; stamp = l; sent = s.clock; got = o.clock })) d →
+          HasGoneOn k p Sent l b e → HasGoneOn k q (Got ev) l e g → Happens k d (Meet p q h) g
+      meet_happens l b e g stamped after on on' = λ m n c w r f right makers parents.
+          let types = length m.types.items in
           let i = sender_is m n c w r f in
           let i' = receiver_is m n c w r f in
           let j = there_bare (d.channels h) (c.channels h) f.6 (r.channels h) f.10 in
-          let stamp_is : l ≡ stamp m c p q h w f = stamped j.0 j.1 ∙ (λ a. suc (max (max (i.clock a) (i'.clock a)) (last_stamp (j.2 a).history))) in
-          let alive = sender_alive m c p q h w f right in
-          let alive' = receiver_alive m c p q h w f right in
-          let first = is_of m k d p s f.0 r.from i Sent f.4 f.11 alive v l b e f.0.made (stamp m c p q h w f) f.0.forked on z stamp_is refl in
-          let second = is_of m k d q o f.1 r.from i' (Got ev) f.5 (told m n c w r f) alive' u l e g f.1.made (stamp m c p q h w f) f.1.forked on' z' stamp_is refl in
-          let entry : record { event = ev; stamp = l; sent = s.clock; got = o.clock } ≡ record { event = f.3; stamp = stamp m c p q h w f; sent = f.0.clock; got = f.1.clock } =
+          let over = stamped j.0 j.1 in
+          let stamp_is : l ≡ stamp m c p q h w f = over ∙ (λ a. suc (max (max (i.clock a) (i'.clock a)) (last_stamp (j.2 a).history))) in
+          let en : Entry = record { event = ev; stamp = l; sent = s.clock; got = o.clock } in
+          let entry : en ≡ its_entry m k n d c p q h w s o r f =
           λ a. record { event = event_is m n c w r f a; stamp = stamp_is a; sent = i.clock a; got = i'.clock a } in
-          let kept =
-          settled_types m k u l e g r.from z'
-          ∙ ap (settled (length m.types.items) z'.slot) (settled_types m k v l b e r.from z
-          ∙ ap (settled (length m.types.items) z.slot) (after ∙ ap (λ y. changed h (passed y) (without q (without p d))) entry)) in
-          subst (λ y. Reflects m k (suc n) y (written c w)) (sym kept) (meet_goes m k n d c p q h w z.slot z'.slot r f first second (right_fine m (written c w) right))
+          let is = on.after ∙ ap (λ z. settled_at (length k.types.items) p on.now (without p z)) after in
+          let first : d.tasks p ≡ Some on.slot = sym (ap (λ (z : Kept). z.tasks p) after) ∙ on.there in
+          let second : d.tasks q ≡ Some on'.slot =
+          sym (rest_there (length k.types.items) p q on.now (changed h (passed en) d) (differ m c p q h w f)) ∙ sym (ap (λ (z : Kept). z.tasks q) is) ∙ on'.there in
+          let t = its_task m k n d c p on.slot f.0 r first f.7.0 in
+          let t' = its_task m k n d c q on'.slot f.1 r second f.8.0 in
+          let z = settles_gone k p Sent l b e on t.path in
+          let z' = settles_gone k q (Got ev) l e g on' t'.path in
+          let at = stamp_first on.slot.clock s.clock o.clock (last_stamp j.0.history) l (t.clock ∙ sym i.clock) over ∙ stamp_is in
+          let at' = stamp_second on'.slot.clock s.clock o.clock (last_stamp j.0.history) l (t'.clock ∙ sym i'.clock) over ∙ stamp_is in
+          let it =
+          is_of m k d p on.slot f.0 r.from t Sent f.4 f.11 (sender_alive m c p q h w f right) on.moves_on.task (max (suc on.slot.clock) l) (without p b) e
+          f.0.made (stamp m c p q h w f) f.0.forked on.moves_on.goes_on z at refl in
+          let it' =
+          is_of m k d q on'.slot f.1 r.from t' (Got ev) f.5 (told m n c w r f) (receiver_alive m c p q h w f right) on'.moves_on.task (max (suc on'.slot.clock) l) (without q e) g
+          f.1.made (stamp m c p q h w f) f.1.forked on'.moves_on.goes_on z' at' refl in
+          let changed_is = after ∙ ap (λ y. changed h (passed y) d) entry in
+          let half =
+          ap (without q) (settled_types m k on.moves_on.task (max (suc on.slot.clock) l) (without p b) e r.from z)
+          ∙ ap (λ y. without q (settled types z.slot (without p y))) changed_is
+          ∙ settled_apart types z.slot.task.path q z.slot (without p (changed h (passed (its_entry m k n d c p q h w s o r f)) d))
+          (λ y. differ m c p q h w f (sym it.path ∙ y)) (λ x y. never_partner m n c w r f (its_entry m k n d c p q h w s o r f) x) in
+          let kept = settled_types m k on'.moves_on.task (max (suc on'.slot.clock) l) (without q e) g r.from z' ∙ ap (settled types z'.slot) half in
+          subst (λ y. Reflects m k (suc n) y (written c w)) (sym kept) (meet_goes m k n d c p q h w z.slot z'.slot r f it it' (right_fine m (written c w) right))

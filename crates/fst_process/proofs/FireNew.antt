@@ -1,5 +1,5 @@
 -- A task makes a channel.
-use Rattle.std.proofs.Common.{◌≡◌, ◌∙◌, ◌+◌, ◌<◌, ℕ, suc, [], List, Some, refl, sym, ap, subst, arith}
+use Rattle.std.proofs.Common.{◌≡◌, ◌∙◌, ◌<◌, ℕ, zero, suc, max, [], List, Some, refl, sym, ap, subst, arith}
 use Rattle.std.specs.Prelude.{length, slice_get, IsSome}
 use Rattle.std.proofs.lemmas.Option.{slice_get_within}
 use Rattle.fst_types.specs.Tree.{Tree}
@@ -9,8 +9,6 @@ use Rattle.fst_machine.specs.declared.code.Code.{Code}
 use Rattle.fst_machine.specs.declared.request.Request.TheVariants as request
 use Rattle.fst_machine.specs.declared.request.Answer.TheVariants.{Made}
 use Rattle.fst_machine.specs.Machine.{stuck, pause, answered}
-use Rattle.fst_vm.specs.TaskView.{TaskView}
-use Rattle.fst_vm.specs.Tasks.{HasNext, Takes, GoesOn}
 use Rattle.fst_runs.specs.declared.event.CoreEvent.TheVariants.{New}
 use Rattle.fst_runs.specs.Configs.{Path, Config, channel_name, program}
 use Rattle.fst_runs.specs.Events.{Write, Does, written}
@@ -19,11 +17,12 @@ use Rattle.fst_runs.proofs.Naming.{new_free}
 use Rattle.fst_runs.proofs.Updates.{with_channel, has_made, new_puts, put_there}
 use Rattle.fst_process.specs.Kept.{Slot, Kept, without, opened, settled}
 use Rattle.fst_process.specs.Reflects.{IsTask, Reflects}
-use Rattle.fst_process.specs.Firing.{IsPossible, Happens, Settles}
+use Rattle.fst_process.specs.Firing.{IsPossible, Happens, CanGoOn, HasGoneOn}
 use Rattle.fst_process.proofs.PathLaws.{some_same}
+use Rattle.fst_process.proofs.Moving.{moves_ready}
 use Rattle.fst_process.proofs.GoingNew.{new_goes}
 use Rattle.fst_process.proofs.Rights.{right_fine, right_alive}
-use Rattle.fst_process.proofs.Stepping.{there_kept, its_task, takes, next_after, is_of, settled_types, one_more}
+use Rattle.fst_process.proofs.Stepping.{there_kept, its_task, can_go_on, is_of, settles_gone, settled_types, next_clock, clock_few}
 
 new_number : (i j : ℕ) → request.New i ≡ request.New j → i ≡ j
 new_number i j e = cc e
@@ -74,32 +73,30 @@ module _ (k : Code) (d : Kept) (p : Path) where
           answered (program m) f.0.state (Made h) ≡ Some f.1
       told m n c w r f = ap (λ z. answered (program m) f.0.state (Made z)) (name_is m n c w r f) ∙ f.6
 
-      -- it takes the channel's name
-      pub new_takes : IsPossible k d (New p) → Takes k s.task (Made h)
-      new_takes x =
-          let i = its_maker x.source x.events x.before x.write x.reflects x.does in
-          takes x.source k d p s x.does.0 x.reflects.from i (Made h) x.does.1 (told x.source x.events x.before x.write x.reflects x.does)
-          (maker_alive x.source x.before p x.write x.right_after x.does) (λ z. absurd (cc z))
-
-      -- and asks for something after it
-      pub new_next : (v : TaskView) → GoesOn k s.task (Made h) v → IsPossible k d (New p) → HasNext k v
-      new_next v g x =
+      -- it can go on with the channel's name, once the channel is there
+      pub new_can : (a : Tree) (mid : Kept) → mid ≡ opened h a d → IsPossible k d (New p) → CanGoOn k mid p (Made h)
+      new_can a mid after x =
           let i = its_maker x.source x.events x.before x.write x.reflects x.does in
           let a = x.right_after.asks p (has_made x.does.0 x.does.1 (suc x.does.0.clock)) (maker_there x.source x.before p x.write x.does) in
-          next_after x.source k d p s x.does.0 x.reflects.from i (Made h) x.does.1 (told x.source x.events x.before x.write x.reflects x.does)
-          (maker_alive x.source x.before p x.write x.right_after x.does) v g a.0 a.1
+          can_go_on x.source k d p s x.does.0 x.reflects.from i (Made h) x.does.1 (told x.source x.events x.before x.write x.reflects x.does)
+          (maker_alive x.source x.before p x.write x.right_after x.does) mid (ap (λ (z : Kept). z.tasks p) after ∙ there)
+          (ap (λ (z : Kept). z.ready p) after ∙ moves_ready x.source k x.events d x.before x.reflects p (New p) x.write refl x.does)
+          (clock_few k d p s (New p) there x) (λ z. absurd (cc z)) a.0 a.1
 
       -- what is kept after the task has made the channel is the configuration after it
-      pub new_happens : (number : ℕ) (a : Tree) (v : TaskView) (mid e : Kept) → s.request ≡ request.New number → slice_get k.types.items number ≡ Some a →
-          mid ≡ opened h a (without p d) → GoesOn k s.task (Made h) v → Settles k v (s.clock + 1) mid e → Happens k d (New p) e
-      new_happens number a v mid e asks type after g z = λ m n c w r f right makers parents.
-          let i = its_maker m n c w r f in
-          let alive = maker_alive m c p w right f in
-          let o = is_of m k d p s f.0 r.from i (Made h) f.1 (told m n c w r f) alive v (s.clock + 1) mid e (suc f.0.made) (suc f.0.clock) f.0.forked g z
-          (one_more s.clock f.0.clock i.clock) refl in
+      pub new_happens : (number : ℕ) (a : Tree) (mid e : Kept) → s.request ≡ request.New number → slice_get k.types.items number ≡ Some a →
+          mid ≡ opened h a d → HasGoneOn k p (Made h) zero mid e → Happens k d (New p) e
+      new_happens number a mid e asks type after g = λ m n c w r f right makers parents.
+          let u = g.slot in
+          let v = g.moves_on.task in
+          let l = max (suc u.clock) zero in
+          let i = its_task m k n d c p u f.0 r (sym (ap (λ (z : Kept). z.tasks p) after) ∙ g.there) f.4.0 in
+          let z = settles_gone k p (Made h) zero mid e g i.path in
+          let o = is_of m k d p u f.0 r.from i (Made h) f.1 (told m n c w r f) (maker_alive m c p w right f) v l (without p mid) e (suc f.0.made) (suc f.0.clock) f.0.forked
+          g.moves_on.goes_on z (next_clock u.clock f.0.clock i.clock) refl in
           let number_is = new_number number f.2 (sym asks ∙ asks_new m n c w r f) in
           let type_is : a ≡ f.3 = some_same (sym type ∙ (λ j. slice_get (r.from.same_types j) (number_is j)) ∙ f.5) in
-          let kept = settled_types m k v (s.clock + 1) mid e r.from z ∙ ap (settled (length m.types.items) z.slot)
-          (after ∙ (λ j. opened (name_is m n c w r f j) (type_is j) (without p d))) in
+          let kept = settled_types m k v l (without p mid) e r.from z ∙ ap (settled (length m.types.items) z.slot)
+          (ap (without p) after ∙ (λ j. opened (name_is m n c w r f j) (type_is j) (without p d))) in
           subst (λ y. Reflects m k (suc n) y (written c w)) (sym kept)
           (new_goes m k n d c p w z.slot r f o (new_free c p f.0 makers f.4.0) (right_fine m (written c w) right))

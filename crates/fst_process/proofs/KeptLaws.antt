@@ -22,7 +22,7 @@ use Rattle.fst_process.specs.declared.kept.Slot as rust_slot
 use Rattle.fst_process.specs.declared.kept.Channel as rust_channel
 use Rattle.fst_process.specs.declared.config.Config.{Config}
 use Rattle.fst_process.specs.Kept.{Slot, Channel, Kept, put_at, changed, opened, noted, settled}
-use Rattle.fst_process.specs.KeptOf.{at_path, slot_of, channel_of, Slots, Channels, slot_in, listed, made_in, numbered, kept_of, IsChangedAt}
+use Rattle.fst_process.specs.KeptOf.{at_path, slot_of, channel_of, Keys, Slots, Channels, slot_in, listed, made_in, numbered, kept_in, kept_of, IsChangedAt}
 use Rattle.fst_process.proofs.PathLaws.{some_same, none_some}
 use Rattle.fst_process.proofs.Tables.{Key, same_key, found_after, has_after, put_mapped}
 
@@ -37,15 +37,14 @@ pub ready_after : (p : Path) (old new : List Key) (b : Bool) → list_any (at_pa
     (λ q. list_any (at_path q) new) ≡ put_at p b (λ q. list_any (at_path q) old)
 ready_after p old new b here others = λ i q. has_after p old new b here others q i
 
--- putting a task in and noting what it asks for come in either order
-pub noted_first : (types : ℕ) (p q : Path) (r : Request) (s : Option Slot) (d : Kept) →
-    record (noted types p r d) { tasks = put_at q s d.tasks } ≡ noted types p r (record d { tasks = put_at q s d.tasks })
-noted_first types p q Step s d = refl
-noted_first types p q (New n) s d = refl
-noted_first types p q Fork s d = refl
-noted_first types p q (Put x ev) s d = refl
-noted_first types p q (Get x) s d = refl
-noted_first types p q Ended s d = refl
+-- putting tasks in and noting what one asks for come in either order
+pub noted_first : (types : ℕ) (p : Path) (r : Request) (f : Path → Option Slot) (d : Kept) → record (noted types p r d) { tasks = f } ≡ noted types p r (record d { tasks = f })
+noted_first types p Step f d = refl
+noted_first types p (New n) f d = refl
+noted_first types p Fork f d = refl
+noted_first types p (Put x ev) f d = refl
+noted_first types p (Get x) f d = refl
+noted_first types p Ended f d = refl
 
 -- noting changes no tasks
 pub noted_tasks : (types : ℕ) (p : Path) (r : Request) (d : Kept) → (noted types p r d).tasks ≡ d.tasks
@@ -107,30 +106,30 @@ pub made_after : (p : Path) (old new : Channels) (w : Option (Vec rust_channel.C
 made_after p old new w here others q =
     ap listed (found_after p old new w here others q) ∙ put_mapped listed p w (λ o. lookup (at_path o) old) q
 
-module _ (k : Config) (new : BTreeMap Key (Vec rust_channel.Channel Global)) (h : ChannelName) (f : Channel → Channel) (p : Path) where
+module _ (ss : Slots) (ks : Keys) (old new : Channels) (h : ChannelName) (f : Channel → Channel) (p : Path) where
   -- a channel is changed where it is in the list of its maker
-  pub channel_changed : (v w : Vec rust_channel.Channel Global) → p ≡ h.maker → lookup (at_path p) k.channels.entries ≡ Some v → lookup (at_path p) new.entries ≡ Some w →
-      KeepsOthers same_key (at_path p) k.channels.entries new.entries → IsChangedAt h.count f v.items w.items → kept_of (record k { channels = new }) ≡ changed h f (kept_of k)
+  pub channel_changed : (v w : Vec rust_channel.Channel Global) → p ≡ h.maker → lookup (at_path p) old ≡ Some v → lookup (at_path p) new ≡ Some w →
+      KeepsOthers same_key (at_path p) old new → IsChangedAt h.count f v.items w.items → kept_in ss new ks ≡ changed h f (kept_in ss old ks)
   channel_changed v w is there here others c = λ i. record {
-    tasks = slot_in k.tasks.entries;
-    channels = λ g. changed_after h f k.channels.entries new.entries v.items w.items was now c g i;
-    made = λ q. lengths_after h f k.channels.entries new.entries v.items w.items was now c.same_length q i;
-    ready = λ q. list_any (at_path q) k.ready.keys;
+    tasks = slot_in ss;
+    channels = λ g. changed_after h f old new v.items w.items was now c g i;
+    made = λ q. lengths_after h f old new v.items w.items was now c.same_length q i;
+    ready = λ q. list_any (at_path q) ks;
   }
     where
-      was : made_in k.channels.entries h.maker ≡ v.items
-      was = ap (made_in k.channels.entries) (sym is) ∙ ap listed there
+      was : made_in old h.maker ≡ v.items
+      was = ap (made_in old) (sym is) ∙ ap listed there
 
-      now : (q : Path) → made_in new.entries q ≡ put_at h.maker w.items (made_in k.channels.entries) q
-      now q = made_after p k.channels.entries new.entries (Some w) here others q ∙ ap (λ o. put_at o w.items (made_in k.channels.entries) q) is
+      now : (q : Path) → made_in new q ≡ put_at h.maker w.items (made_in old) q
+      now q = made_after p old new (Some w) here others q ∙ ap (λ o. put_at o w.items (made_in old) q) is
 
   -- and nothing is where its maker has no list
-  pub channel_unchanged : p ≡ h.maker → lookup (at_path p) k.channels.entries ≡ None → new ≡ k.channels → kept_of (record k { channels = new }) ≡ changed h f (kept_of k)
-  channel_unchanged is none same = ap (λ z. kept_of (record k { channels = z })) same ∙ (λ i. record {
-    tasks = slot_in k.tasks.entries;
-    channels = λ g. unchanged_none h f k.channels.entries k.channels.entries (ap (made_in k.channels.entries) (sym is) ∙ ap listed none) g i;
-    made = λ q. length (made_in k.channels.entries q);
-    ready = λ q. list_any (at_path q) k.ready.keys;
+  pub channel_unchanged : p ≡ h.maker → lookup (at_path p) old ≡ None → new ≡ old → kept_in ss new ks ≡ changed h f (kept_in ss old ks)
+  channel_unchanged is none same = ap (λ z. kept_in ss z ks) same ∙ (λ i. record {
+    tasks = slot_in ss;
+    channels = λ g. unchanged_none h f old old (ap (made_in old) (sym is) ∙ ap listed none) g i;
+    made = λ q. length (made_in old q);
+    ready = λ q. list_any (at_path q) ks;
   })
 
 eq_next : (m n : ℕ) → nat_eq (suc m) (suc n) ≡ nat_eq m n
@@ -185,7 +184,7 @@ settled_after types s d mid new noting putting =
     putting
     ∙ ap (λ (z : Kept). record z { tasks = put_at p (Some s) z.tasks }) noting
     ∙ ap (λ z. record (noted types p s.request d) { tasks = put_at p (Some s) z }) (noted_tasks types p s.request d)
-    ∙ noted_first types p p s.request (Some s) d
+    ∙ noted_first types p s.request (put_at p (Some s) d.tasks) d
 
 -- no channel is in an empty list
 pub none_numbered : (n : ℕ) → numbered [] n ≡ None

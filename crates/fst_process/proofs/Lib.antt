@@ -16,6 +16,8 @@ pub mod Least
 pub mod Begun
 pub mod Tables
 pub mod KeptLaws
+pub mod Noting
+pub mod Apart
 pub mod Rights
 pub mod Stepping
 pub mod FireLocal

@@ -45,18 +45,18 @@ passed_bare e u v j f g =
 module _ (m : Module) (k : Code) (n : ℕ) (d : Kept) (c : Config) (p q : Path) (s o : Slot) (x : EndName) (e : Entry) (j : runs.Channel) (r : Reflects m k n d c)
     (ep : d.tasks p ≡ Some s) (eq : d.tasks q ≡ Some o) (xp : end_of s.request ≡ Some x) (xq : end_of o.request ≡ Some (other x)) (ej : c.channels x.channel ≡ Some j)
     (few : e.stamp ≤ n) where
-  abbrev d2 : Kept
-  d2 = changed x.channel (passed e) (without q (without p d))
+  abbrev met : Kept
+  met = changed x.channel (passed e) (without q (without p d))
 
   -- what is left is another task, that was there
-  left : (v : Path) (u : Slot) → d2.tasks v ≡ Some u → (d.tasks v ≡ Some u) × (p ≡ v → ⊥) × (q ≡ v → ⊥)
+  left : (v : Path) (u : Slot) → met.tasks v ≡ Some u → (d.tasks v ≡ Some u) × (p ≡ v → ⊥) × (q ≡ v → ⊥)
   left v u =
       put_cases (λ z. z ≡ Some u → (d.tasks v ≡ Some u) × (p ≡ v → ⊥) × (q ≡ v → ⊥)) q v None (put_at p None d.tasks) (λ z a. absurd (none_some a))
       (λ y. put_cases (λ z. z ≡ Some u → (d.tasks v ≡ Some u) × (p ≡ v → ⊥) × (q ≡ v → ⊥)) p v None d.tasks (λ z a. absurd (none_some a))
       (λ z a. (a, apart_paths p v z, apart_paths q v y)))
 
   -- and another task that was there is left
-  stays : (v : Path) (u : Slot) → d.tasks v ≡ Some u → (p ≡ v → ⊥) → (q ≡ v → ⊥) → d2.tasks v ≡ Some u
+  stays : (v : Path) (u : Slot) → d.tasks v ≡ Some u → (p ≡ v → ⊥) → (q ≡ v → ⊥) → met.tasks v ≡ Some u
   stays v u a f g =
       put_cases (λ z. z ≡ Some u) q v None (put_at p None d.tasks) (λ z. absurd (g z)) (λ y. put_cases (λ z. z ≡ Some u) p v None d.tasks (λ z. absurd (f z)) (λ z. a))
 
@@ -67,21 +67,21 @@ module _ (m : Module) (k : Code) (n : ℕ) (d : Kept) (c : Config) (p q : Path) 
     | inr h ↦ g (some_same (sym ((r.askers (other x) q).1 (o, eq, xq)) ∙ ap (asker d) h ∙ (r.askers y v).1 (u, a, b)))
   ]
 
-  asker_gone : (y : EndName) → same_channel x.channel y.channel ≡ true → asker d2 y ≡ None
+  asker_gone : (y : EndName) → same_channel x.channel y.channel ≡ true → asker met y ≡ None
   asker_gone y z =
       ap (λ b. option_and_then (asker_at y.side) (if b then option_map (passed e) (d.channels y.channel) else d.channels y.channel)) z
       ∙ passed_asked y.side e (d.channels y.channel)
 
-  asker_left : (y : EndName) → same_channel x.channel y.channel ≡ false → asker d2 y ≡ asker d y
+  asker_left : (y : EndName) → same_channel x.channel y.channel ≡ false → asker met y ≡ asker d y
   asker_left y z = ap (λ b. option_and_then (asker_at y.side) (if b then option_map (passed e) (d.channels y.channel) else d.channels y.channel)) z
 
-  askers_here : (y : EndName) (v : Path) → same_channel x.channel y.channel ≡ true → (asker d2 y ≡ Some v) ↔ AsksAt d2 v y
+  askers_here : (y : EndName) (v : Path) → same_channel x.channel y.channel ≡ true → (asker met y ≡ Some v) ↔ AsksAt met v y
   askers_here y v z = (
     λ a. absurd (none_some (sym (asker_gone y z) ∙ a)),
     λ b. let f = left v b.0 b.1 in absurd (elsewhere v b.0 y f.0 b.2 f.1 f.2 (same_channel-same x.channel y.channel z)),
   )
 
-  askers_else : (y : EndName) (v : Path) → same_channel x.channel y.channel ≡ false → (asker d2 y ≡ Some v) ↔ AsksAt d2 v y
+  askers_else : (y : EndName) (v : Path) → same_channel x.channel y.channel ≡ false → (asker met y ≡ Some v) ↔ AsksAt met v y
   askers_else y v z = (
     λ a.
         let b = (r.askers y v).0 (sym (asker_left y z) ∙ a) in
@@ -94,29 +94,29 @@ module _ (m : Module) (k : Code) (n : ℕ) (d : Kept) (c : Config) (p q : Path) 
       same_end : (a b : Path) (u w : Slot) (x y : EndName) → a ≡ b → d.tasks a ≡ Some u → d.tasks b ≡ Some w → end_of u.request ≡ Some x → end_of w.request ≡ Some y → x ≡ y
       same_end a b u w x y z f g h i = some_same (sym h ∙ ap (λ (l : Slot). end_of l.request) (some_same (sym f ∙ ap d.tasks z ∙ g)) ∙ i)
 
-  all_askers : (y : EndName) (v : Path) → (asker d2 y ≡ Some v) ↔ AsksAt d2 v y
+  all_askers : (y : EndName) (v : Path) → (asker met y ≡ Some v) ↔ AsksAt met v y
   all_askers y v = go (same_channel x.channel y.channel) refl
     where
-      go : (b : Bool) → same_channel x.channel y.channel ≡ b → (asker d2 y ≡ Some v) ↔ AsksAt d2 v y
+      go : (b : Bool) → same_channel x.channel y.channel ≡ b → (asker met y ≡ Some v) ↔ AsksAt met v y
       go true z = askers_here y v z
       go false z = askers_else y v z
 
-  rest_moves : (v : Path) → (p ≡ v → ⊥) → (q ≡ v → ⊥) → d.ready v ≡ moves_so (length m.types.items) d2 (d.tasks v)
-  rest_moves v f g = r.ready v ∙ moves_same (length m.types.items) d d2 (d.tasks v) same
+  rest_moves : (v : Path) → (p ≡ v → ⊥) → (q ≡ v → ⊥) → d.ready v ≡ moves_so (length m.types.items) met (d.tasks v)
+  rest_moves v f g = r.ready v ∙ moves_same (length m.types.items) d met (d.tasks v) same
     where
-      same : (u : Slot) (y : EndName) → d.tasks v ≡ Some u → end_of u.request ≡ Some y → is_some (partner d y) ≡ is_some (partner d2 y)
+      same : (u : Slot) (y : EndName) → d.tasks v ≡ Some u → end_of u.request ≡ Some y → is_some (partner d y) ≡ is_some (partner met y)
       same u y a b = go (same_channel x.channel y.channel) refl
         where
-          go : (b : Bool) → same_channel x.channel y.channel ≡ b → is_some (partner d y) ≡ is_some (partner d2 y)
+          go : (b : Bool) → same_channel x.channel y.channel ≡ b → is_some (partner d y) ≡ is_some (partner met y)
           go true z = absurd (elsewhere v u y a b f g (same_channel-same x.channel y.channel z))
           go false z = ap (λ (i : Option Path). is_some i) (sym (asker_left (other y) z))
 
-  meeting_here : Reflects m k n d2 (hide q (hide p (with_channel x.channel (extended j e) c)))
+  meeting_here : Reflects m k n met (hide q (hide p (with_channel x.channel (extended j e) c)))
   meeting_here = record {
     from = r.from;
     tasks = λ v.
-        put_both (AreTask m k d2 v) q v None (put_at p None d.tasks) None (put_at p None c.tasks) (λ z. tt)
-        (λ y. put_both (AreTask m k d2 v) p v None d.tasks None c.tasks (λ z. tt) (λ z. are_same m k d d2 v (d.tasks v) (c.tasks v) refl (r.tasks v)));
+        put_both (AreTask m k met v) q v None (put_at p None d.tasks) None (put_at p None c.tasks) (λ z. tt)
+        (λ y. put_both (AreTask m k met v) p v None d.tasks None c.tasks (λ z. tt) (λ z. are_same m k d met v (d.tasks v) (c.tasks v) refl (r.tasks v)));
     channels = λ h.
         channel_both (λ (y : Option Channel) (z : Option runs.Channel). option_map bare y ≡ z) x.channel h
         (option_map (passed e) (d.channels h)) (d.channels h) (Some (extended j e)) (c.channels h)
@@ -124,8 +124,8 @@ module _ (m : Module) (k : Code) (n : ℕ) (d : Kept) (c : Config) (p q : Path) 
         (λ z. r.channels h);
     askers = all_askers;
     ready = λ v.
-        put_both (λ b i. b ≡ moves_so (length m.types.items) d2 i) q v false (put_at p false d.ready) None (put_at p None d.tasks) (λ z. refl)
-        (λ y. put_both (λ b i. b ≡ moves_so (length m.types.items) d2 i) p v false d.ready None d.tasks (λ z. refl) (λ z. rest_moves v (apart_paths p v z) (apart_paths q v y)));
+        put_both (λ b i. b ≡ moves_so (length m.types.items) met i) q v false (put_at p false d.ready) None (put_at p None d.tasks) (λ z. refl)
+        (λ y. put_both (λ b i. b ≡ moves_so (length m.types.items) met i) p v false d.ready None d.tasks (λ z. refl) (λ z. rest_moves v (apart_paths p v z) (apart_paths q v y)));
     makers = λ v i a.
         let b = r.makers v i a in
         channel_cases (λ (z : Option Channel). (w : Channel) × (z ≡ Some w)) x.channel (channel_name v i)

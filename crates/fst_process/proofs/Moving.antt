@@ -35,7 +35,8 @@ element xs n e =
       | inr f ↦ let g = f.0 in absurd (omega (arith, l, g))
     ]
 
-below : (n l : ℕ) → n < l → nat_lt n l ≡ true
+-- a number that is less passes the test
+pub below : (n l : ℕ) → n < l → nat_lt n l ≡ true
 below n l h = grind (arith, nat_tests)
 
 module _ (m : Module) (k : Code) (n : ℕ) (d : Kept) (c : Config) (r : Reflects m k n d c) where

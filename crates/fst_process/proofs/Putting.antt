@@ -23,8 +23,8 @@ module _ (m : Module) (k : Code) (n : ℕ) (d : Kept) (c : Config) (p : Path) (s
   abbrev types : ℕ
   types = length m.types.items
 
-  abbrev d1 : Kept
-  d1 = record d { tasks = put_at p (Some s) d.tasks }
+  abbrev placed : Kept
+  placed = record d { tasks = put_at p (Some s) d.tasks }
 
   none : d.tasks p ≡ None
   none = none_kept m k d p (d.tasks p) (c.tasks p) (r.tasks p) free
@@ -54,7 +54,7 @@ module _ (m : Module) (k : Code) (n : ℕ) (d : Kept) (c : Config) (p : Path) (s
 
   -- where the task asks at no end
   module _ (none_asked : end_of s.request ≡ None) where
-    able_askers : (x : EndName) (q : Path) → (asker d x ≡ Some q) ↔ AsksAt d1 q x
+    able_askers : (x : EndName) (q : Path) → (asker d x ≡ Some q) ↔ AsksAt placed q x
     able_askers x q = (
       λ a. let b = (r.askers x q).0 a in (b.0, stays q b.0 b.1, b.2),
       λ b. put_cases (λ o. o ≡ Some b.0 → asker d x ≡ Some q) p q (Some s) d.tasks
@@ -62,21 +62,21 @@ module _ (m : Module) (k : Code) (n : ℕ) (d : Kept) (c : Config) (p : Path) (s
           (λ z a. (r.askers x q).1 (b.0, a, b.2)) b.1,
     )
 
-    able_ready : (b : Bool) → ((e : Kept) → moves_with types e s.request ≡ b) → (q : Path) → marked b p d.ready q ≡ moves_so types d1 (put_at p (Some s) d.tasks q)
+    able_ready : (b : Bool) → ((e : Kept) → moves_with types e s.request ≡ b) → (q : Path) → marked b p d.ready q ≡ moves_so types placed (put_at p (Some s) d.tasks q)
     able_ready true f q =
-        put_both (λ b o. b ≡ moves_so types d1 o) p q true d.ready (Some s) d.tasks (λ z. sym (f d1))
-        (λ z. r.ready q ∙ moves_same types d d1 (d.tasks q) (λ u x a b. refl))
+        put_both (λ b o. b ≡ moves_so types placed o) p q true d.ready (Some s) d.tasks (λ z. sym (f placed))
+        (λ z. r.ready q ∙ moves_same types d placed (d.tasks q) (λ u x a b. refl))
     able_ready false f q =
-        put_cases (λ o. d.ready q ≡ moves_so types d1 o) p q (Some s) d.tasks (λ z. not_ready q z ∙ sym (f d1))
-        (λ z. r.ready q ∙ moves_same types d d1 (d.tasks q) (λ u x a b. refl))
+        put_cases (λ o. d.ready q ≡ moves_so types placed o) p q (Some s) d.tasks (λ z. not_ready q z ∙ sym (f placed))
+        (λ z. r.ready q ∙ moves_same types d placed (d.tasks q) (λ u x a b. refl))
 
-    able_in : (b : Bool) → ((e : Kept) → moves_with types e s.request ≡ b) → Reflects m k n (able b p d1) (show p t c)
+    able_in : (b : Bool) → ((e : Kept) → moves_with types e s.request ≡ b) → Reflects m k n (able b p placed) (show p t c)
     able_in b f = record {
       from = r.from;
-      tasks = all_tasks (able b p d1) (λ q. refl);
+      tasks = all_tasks (able b p placed) (λ q. refl);
       channels = r.channels;
       askers = able_askers;
-      ready = λ q. able_ready b f q ∙ moves_same types d1 (able b p d1) (put_at p (Some s) d.tasks q) (λ u x a b. refl);
+      ready = λ q. able_ready b f q ∙ moves_same types placed (able b p placed) (put_at p (Some s) d.tasks q) (λ u x a b. refl);
       makers = r.makers;
       clocks = all_clocks;
       forks = all_forks;
@@ -87,7 +87,7 @@ module _ (m : Module) (k : Code) (n : ℕ) (d : Kept) (c : Config) (p : Path) (s
   -- where it asks at this one
   module _ (x : EndName) (asked : end_of s.request ≡ Some x) where
     abbrev e : Kept
-    e = asking p x d1
+    e = asking p x placed
 
     asks : Asks (program m) (show p t c) p t s.request
     asks = (put_here p (Some t) c.tasks, is.asks)
@@ -188,7 +188,7 @@ module _ (m : Module) (k : Code) (n : ℕ) (d : Kept) (c : Config) (p : Path) (s
           subst (λ (i : runs.Channel). StampedTo n i.history) b.2 (r.stamps h b.0 b.1);
     }
 
-  by_request : (a : Request) → s.request ≡ a → Reflects m k n (noted types p a d1) (show p t c)
+  by_request : (a : Request) → s.request ≡ a → Reflects m k n (noted types p a placed) (show p t c)
   by_request Step a = able_in (ap end_of a) true (λ e. ap (moves_with types e) a)
   by_request (New i) a = able_in (ap end_of a) (nat_lt i types) (λ e. ap (moves_with types e) a)
   by_request Fork a = able_in (ap end_of a) true (λ e. ap (moves_with types e) a)

@@ -1,5 +1,5 @@
 -- A task that is kept goes on after an answer, and is put in again.
-use Rattle.std.proofs.Common.{◌≡◌, ◌∙◌, ◌+◌, ◌<◌, ℕ, suc, Some, sym, ap, subst, arith}
+use Rattle.std.proofs.Common.{◌≡◌, ◌∙◌, ◌+◌, ◌<◌, ℕ, zero, suc, max, true, Some, sym, ap, subst, arith}
 use Rattle.std.specs.Prelude.{length, IsSome, is_some}
 use Rattle.std.specs.Coded.{le_prop}
 use Rattle.std.proofs.Math.Logic.{∥∥₁_elim}
@@ -13,9 +13,9 @@ use Rattle.fst_vm.specs.TaskView.{TaskView}
 use Rattle.fst_vm.specs.Tasks.{IsIn, IsFrom, HasNext, Takes, GoesOn, forked_after}
 use Rattle.fst_runs.specs.declared.event.CoreEvent.{CoreEvent}
 use Rattle.fst_runs.specs.Configs.{Path, Config, Task, program}
-use Rattle.fst_process.specs.Kept.{Slot, Kept, settled}
+use Rattle.fst_process.specs.Kept.{Slot, Kept, without, settled_at, settled}
 use Rattle.fst_process.specs.Reflects.{IsTask, Reflects}
-use Rattle.fst_process.specs.Firing.{IsPossible, Settles}
+use Rattle.fst_process.specs.Firing.{IsPossible, Settles, CanGoOn, HasGoneOn}
 use Rattle.fst_process.proofs.PathLaws.{some_same}
 use Rattle.fst_process.proofs.Taking.{is_kept}
 use Rattle.fst_process.proofs.Going.{IsOf}
@@ -37,7 +37,7 @@ its_task m k n d c p s t r there e =
 module _ (m : Module) (k : Code) (d : Kept) (p : Path) (s : Slot) (t : Task) (from : IsFrom m k) (is : IsTask m k d p s t) (a : Answer) (u : State)
     (told : answered (program m) t.state a ≡ Some u) (alive : pause m.families.items u ≡ stuck → ⊥) where
   -- it takes the answer
-  pub takes : (a ≡ Forked → s.task.forked < 4294967295) → Takes k s.task a
+  takes : (a ≡ Forked → s.task.forked < 4294967295) → Takes k s.task a
   takes few = record {
     rests = is.rests;
     source = m;
@@ -51,12 +51,24 @@ module _ (m : Module) (k : Code) (d : Kept) (p : Path) (s : Slot) (t : Task) (fr
   }
 
   -- and is in the next state then
-  pub is_after : (v : TaskView) → GoesOn k s.task a v → IsIn m k v u
+  is_after : (v : TaskView) → GoesOn k s.task a v → IsIn m k v u
   is_after v g = g.states m t.state u from is.is_in told alive
 
   -- which asks for something
-  pub next_after : (v : TaskView) → GoesOn k s.task a v → (q : Request) → request m.families.items u ≡ Some q → HasNext k v
+  next_after : (v : TaskView) → GoesOn k s.task a v → (q : Request) → request m.families.items u ≡ Some q → HasNext k v
   next_after v g q e = record { source = m; from = from; state = u; is_in = is_after v g; next = (q, e) }
+
+  -- it can go on where it is kept and can move
+  pub can_go_on : (e : Kept) → e.tasks p ≡ Some s → e.ready p ≡ true → s.clock < 4294967295 → (a ≡ Forked → s.task.forked < 4294967295) →
+      (q : Request) → request m.families.items u ≡ Some q → CanGoOn k e p a
+  can_go_on e there moves clock few q asks = record {
+    slot = s;
+    there = there;
+    moves = moves;
+    takes = takes few;
+    next = λ v g. next_after v g q asks;
+    few = clock;
+  }
 
   -- put in again, it is the task in that state
   pub is_of : (v : TaskView) (l : ℕ) (e f : Kept) (made clock forked : ℕ) → GoesOn k s.task a v → (z : Settles k v l e f) → l ≡ clock → forked_after a t.forked ≡ forked →
@@ -70,6 +82,18 @@ module _ (m : Module) (k : Code) (d : Kept) (p : Path) (s : Slot) (t : Task) (fr
     forked = z.stays.forked ∙ g.forked ∙ ap (forked_after a) is.forked ∙ grown;
   }
 
+-- a task that has gone on in its place is as if it were taken out and put in again
+pub settles_gone : (k : Code) (p : Path) (a : Answer) (n : ℕ) (d e : Kept) → (g : HasGoneOn k p a n d e) → g.slot.task.path ≡ p →
+    Settles k g.moves_on.task (max (suc g.slot.clock) n) (without p d) e
+settles_gone k p a n d e g path = record {
+  slot = g.now;
+  stays = g.moves_on.stays;
+  asked = g.moves_on.asked;
+  rests = g.moves_on.rests;
+  clock = g.moves_on.clock;
+  after = g.after ∙ ap (λ q. settled_at (length k.types.items) q g.now (without p d)) (sym (g.moves_on.stays.path ∙ g.moves_on.goes_on.path ∙ path));
+}
+
 -- what is kept after a task is put in, by the number of types of the module
 pub settled_types : (m : Module) (k : Code) (v : TaskView) (l : ℕ) (e f : Kept) → IsFrom m k → (z : Settles k v l e f) → f ≡ settled (length m.types.items) z.slot e
 settled_types m k v l e f from z = z.after ∙ ap (λ ts. settled (length ts) z.slot e) from.same_types
@@ -77,6 +101,10 @@ settled_types m k v l e f from z = z.after ∙ ap (λ ts. settled (length ts) z.
 -- a clock that counts one event more
 pub one_more : (i j : ℕ) → i ≡ j → i + 1 ≡ suc j
 one_more i j e = omega (arith, e)
+
+-- so it is where it has to be at least 0
+pub next_clock : (i j : ℕ) → i ≡ j → max (suc i) zero ≡ suc j
+next_clock i j e = omega (arith, e)
 
 -- a clock in bounds
 pub clock_few : (k : Code) (d : Kept) (p : Path) (s : Slot) (e : CoreEvent) → d.tasks p ≡ Some s → IsPossible k d e → s.clock < 4294967295

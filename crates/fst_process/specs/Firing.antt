@@ -1,16 +1,17 @@
 -- What it takes for an event to happen, and what is kept then.
-use Rattle.std.specs.Prelude.{◌≡◌, ℕ, ◌<◌, suc, zero, length, Some}
+use Rattle.std.specs.Prelude.{◌≡◌, ℕ, ◌<◌, true, suc, zero, max, length, Some}
 use Rattle.fst_terms.specs.CoreTree.{CoreTree}
 use Rattle.fst_terms.specs.declared.core_module.Module.{Module}
 use Rattle.fst_machine.specs.declared.code.Code.{Code}
+use Rattle.fst_machine.specs.declared.request.Answer.{Answer}
 use Rattle.fst_vm.specs.TaskView.{TaskView}
-use Rattle.fst_vm.specs.Tasks.{IsFrom, Stays, AsksFor, IsAtRest}
+use Rattle.fst_vm.specs.Tasks.{IsFrom, HasNext, Takes, GoesOn, Stays, AsksFor, IsAtRest}
 use Rattle.fst_runs.specs.declared.event.CoreEvent.{CoreEvent}
-use Rattle.fst_runs.specs.Configs.{Config, program, main_body, started}
+use Rattle.fst_runs.specs.Configs.{Path, Config, program, main_body, started}
 use Rattle.fst_runs.specs.Events.{Write, Does, written}
 use Rattle.fst_runs.specs.Names.{HasMakers, HasParents}
 use Rattle.fst_runs.specs.Wrong.{IsRight}
-use Rattle.fst_process.specs.Kept.{Slot, Kept, settled}
+use Rattle.fst_process.specs.Kept.{Slot, Kept, without, settled_at, settled}
 use Rattle.fst_process.specs.Reflects.{Reflects}
 
 -- what is kept is a configuration in which the event is possible, and nothing has gone wrong before it or after it
@@ -41,6 +42,32 @@ pub record Settles (k : Code) (t : TaskView) (n : ℕ) (d e : Kept) : Type 0 whe
   pub rests : IsAtRest k slot.task
   pub clock : slot.clock ≡ n
   pub after : e ≡ settled (length k.types.items) slot d
+
+-- the task can move, takes the answer and asks for something after it
+pub record CanGoOn (k : Code) (d : Kept) (p : Path) (a : Answer) : Type 0 where
+  pub slot : Slot
+  pub there : d.tasks p ≡ Some slot
+  pub moves : d.ready p ≡ true
+  pub takes : Takes k slot.task a
+  pub next : (u : TaskView) → GoesOn k slot.task a u → HasNext k u
+  pub few : slot.clock < 4294967295
+
+-- the task of a slot has gone on after the answer to what it asks for then; its clock counts one more, and is at least n
+pub record MovesOn (k : Code) (a : Answer) (n : ℕ) (s t : Slot) : Type 0 where
+  pub task : TaskView
+  pub goes_on : GoesOn k s.task a task
+  pub stays : Stays k task t.task
+  pub asked : AsksFor k task t.request
+  pub rests : IsAtRest k t.task
+  pub clock : t.clock ≡ max (suc s.clock) n
+
+-- the task with this path has gone on so, and what it asks for then is noted
+pub record HasGoneOn (k : Code) (p : Path) (a : Answer) (n : ℕ) (d e : Kept) : Type 0 where
+  pub slot : Slot
+  pub there : d.tasks p ≡ Some slot
+  pub now : Slot
+  pub moves_on : MovesOn k a n slot now
+  pub after : e ≡ settled_at (length k.types.items) p now (without p d)
 
 -- the code is that of a module whose first configuration is right
 pub record CanStart (k : Code) : Type 0 where

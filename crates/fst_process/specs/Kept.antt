@@ -60,6 +60,15 @@ moves_with types d (Put x ev) = is_some (partner d x)
 moves_with types d (Get x) = is_some (partner d x)
 moves_with types d Ended = false
 
+-- a task that asks for this can move alone
+abbrev pub moves_alone : ℕ → Request → Bool
+moves_alone types Step = true
+moves_alone types (New n) = nat_lt n types
+moves_alone types Fork = true
+moves_alone types (Put x ev) = false
+moves_alone types (Get x) = false
+moves_alone types Ended = false
+
 -- so can the task, if there is one
 abbrev pub moves_so : ℕ → Kept → Option Slot → Bool
 moves_so types d None = false
@@ -76,6 +85,10 @@ put_at p x f q = if same_path p q then x else f q
 -- a value at one channel
 abbrev pub put_channel : ChannelName → Channel → (ChannelName → Option Channel) → ChannelName → Option Channel
 put_channel h k f g = if same_channel h g then Some k else f g
+
+-- a task that can't move
+abbrev pub unable : Path → Kept → Kept
+unable p d = record d { ready = put_at p false d.ready }
 
 -- without a task
 abbrev pub without : Path → Kept → Kept
@@ -112,9 +125,13 @@ noted types p (Put x ev) d = asking p x d
 noted types p (Get x) d = asking p x d
 noted types p Ended d = d
 
--- a task is put in, and what it asks for is noted
+-- a task is put in at a path, and what it asks for is noted
+abbrev pub settled_at : ℕ → Path → Slot → Kept → Kept
+settled_at types p s d = noted types p s.request (record d { tasks = put_at p (Some s) d.tasks })
+
+-- so it is at the task's own path
 abbrev pub settled : ℕ → Slot → Kept → Kept
-settled types s d = noted types s.task.path s.request (record d { tasks = put_at s.task.path (Some s) d.tasks })
+settled types s d = settled_at types s.task.path s d
 
 -- a new channel of a task
 abbrev pub opened : ChannelName → Tree → Kept → Kept

@@ -24,6 +24,10 @@ slot_of s = record { task = s.task; request = s.request; clock = s.clock }
 abbrev pub channel_of : rust_channel.Channel → Channel
 channel_of j = record { declared = j.declared; history = j.entries.items; left = j.left; right = j.right }
 
+-- the keys of maps and sets
+abbrev pub Keys : Type 0
+Keys = List (Vec ℕ Global)
+
 -- tasks by their paths
 abbrev pub Slots : Type 0
 Slots = List (Vec ℕ Global × rust_slot.Slot)
@@ -50,14 +54,22 @@ abbrev pub numbered : List rust_channel.Channel → ℕ → Option Channel
 numbered js zero = None
 numbered js (suc n) = option_map channel_of (slice_get js n)
 
+-- what these tasks, channels and paths of tasks that can move keep
+abbrev pub kept_in : Slots → Channels → Keys → Kept
+kept_in ss js ks = record {
+  tasks = slot_in ss;
+  channels = λ h. numbered (made_in js h.maker) h.count;
+  made = λ p. length (made_in js p);
+  ready = λ p. list_any (at_path p) ks;
+}
+
+-- what is kept besides tasks
+abbrev pub kept_besides : Channels → Keys → Kept
+kept_besides js ks = kept_in [] js ks
+
 -- all that is kept
 abbrev pub kept_of : Config → Kept
-kept_of k = record {
-  tasks = slot_in k.tasks.entries;
-  channels = λ h. numbered (made_in k.channels.entries h.maker) h.count;
-  made = λ p. length (made_in k.channels.entries p);
-  ready = λ p. list_any (at_path p) k.ready.keys;
-}
+kept_of k = kept_in k.tasks.entries k.channels.entries k.ready.keys
 
 -- in a list of channels the one with this number is changed, if it is there
 pub record IsChangedAt (n : ℕ) (f : Channel → Channel) (old new : List rust_channel.Channel) : Type 0 where

@@ -1,17 +1,18 @@
-ghost use Rattle.std.specs.Prelude.{◌≡◌, ◌<◌, IsSome, Some, IfOk, OnOk, true, suc, max};
+ghost use Rattle.std.specs.Prelude.{◌≡◌, ◌<◌, IsSome, Some, IfOk, OnOk, suc, max};
 ghost use Rattle.std.specs.Option.{option_copied};
 ghost use Rattle.fst_vm.specs.Tasks.{HasNext};
 ghost use Rattle.fst_runs.specs.Configs.{channel_name};
 ghost use Rattle.fst_runs.specs.Histories.{last_stamp};
-ghost use Rattle.fst_process.specs.Kept.{able, without, with_asker, partner, changed, asking, noted, opened, passed};
+ghost use Rattle.fst_process.specs.Kept.{partner, changed, opened, passed};
 ghost use Rattle.fst_process.specs.KeptOf.{kept_of, slot_of};
-ghost use Rattle.fst_process.specs.Firing.{Settles, CanStart, IsBegun};
-ghost use Rattle.fst_process.specs.Nexts.{event_with, event_of, IsNext};
+ghost use Rattle.fst_process.specs.Firing.{Settles, CanGoOn, HasGoneOn, CanStart, IsBegun};
+ghost use Rattle.fst_process.specs.Nexts.{event_with, event_of, IsNext, TellsMoving};
 ghost use Rattle.fst_process.specs.Reports.{IsConfig, IsReported};
 
-use crate::kept::{Channel, Slot, ask_among, partner_among, record_among};
+use crate::kept::{Channel, Slot, move_on, partner_among, record_among};
+use crate::notes::{note, note_again};
 use crate::report::{Report, histories, main_result, waiting_tasks};
-use fst_machine::{Code, Request};
+use fst_machine::{Answer, Code, Request};
 use fst_runs::CoreEvent;
 use fst_types::Ty;
 use fst_value::{ChannelName, EndName, Event, Path};
@@ -48,7 +49,8 @@ impl Config {
 
     /// Whether the task with a path can move.
     pub fn can_move(&self, task: &Path) -> bool
-        ensures { result ≡ (kept_of self.now).ready task.now }
+        ensures noted { result ≡ (kept_of self.now).ready task.now }
+        ensures moves { TellsMoving (kept_of self.now) task.now result }
     {
         self.ready.contains(task.as_slice())
     }
@@ -140,70 +142,12 @@ impl Config {
         }
     }
 
-    // Notes that a task can move.
-    fn wake(&mut self, path: &Path) -> Result<(), AllocError>
-        ensures { OnOk result (kept_of self.new ≡ able true path.now (kept_of self.old)) }
+    /// What is kept of a task.
+    pub(crate) fn slot(&self, path: &Path) -> &Slot
+        requires { IsSome ((kept_of self.now).tasks path.now) }
+        ensures { (kept_of self.now).tasks path.now ≡ Some (slot_of result.now) }
     {
-        let key = Vec::from_slice(self.alloc, path.as_slice())?;
-        self.ready.insert(key)?;
-        Ok(())
-    }
-
-    /// Takes a task out, which can't move until it is put in again.
-    pub(crate) fn take_out(&mut self, path: &Path) -> Slot
-        requires { IsSome ((kept_of self.old).tasks path.now) }
-        ensures slot { (kept_of self.old).tasks path.now ≡ Some (slot_of result) }
-        ensures rest { kept_of self.new ≡ without path.now (kept_of self.old) }
-    {
-        self.ready.remove(path.as_slice());
-        self.tasks.remove(path.as_slice()).unwrap()
-    }
-
-    // Notes that a task asks at an end, and answers the one that asks at the other.
-    fn ask(&mut self, end: &EndName, path: &Path) -> Result<Option<Path>, AllocError>
-        ensures partner { IfOk result (λ o. o ≡ partner (kept_of self.old) end.now) }
-        ensures asked { OnOk result
-            (kept_of self.new ≡ changed end.now.channel (with_asker end.now.side (Some path.now)) (kept_of self.old)) }
-    {
-        match self.channels.get_mut(end.channel.maker.as_slice()) {
-            Some(channels) => {
-                let partner = ask_among(self.alloc, channels, end, path)?;
-                Ok(partner)
-            }
-            None => Ok(None),
-        }
-    }
-
-    // Notes at which end a task asks, and that it can move with the one that asks at the other.
-    fn note_end(&mut self, path: &Path, end: &EndName) -> Result<(), AllocError>
-        ensures { OnOk result (kept_of self.new ≡ asking path.now end.now (kept_of self.old)) }
-    {
-        match self.ask(end, path)? {
-            Some(partner) => {
-                self.wake(&partner)?;
-                self.wake(path)
-            }
-            None => Ok(()),
-        }
-    }
-
-    // Notes what a task asks for: that it can move, or at which end it asks.
-    fn note(&mut self, types: usize, path: &Path, request: &Request) -> Result<(), AllocError>
-        ensures { OnOk result (kept_of self.new ≡ noted types path.now request.now (kept_of self.old)) }
-    {
-        match request {
-            Request::Step => self.wake(path),
-            Request::New(number) => {
-                if (*number as usize) < types {
-                    self.wake(path)?;
-                }
-                Ok(())
-            }
-            Request::Fork => self.wake(path),
-            Request::Put(end, _) => self.note_end(path, end),
-            Request::Get(end) => self.note_end(path, end),
-            Request::Ended => Ok(()),
-        }
+        self.tasks.get(path.as_slice()).unwrap()
     }
 
     /// Puts a task in with what it asks for.
@@ -218,7 +162,14 @@ impl Config {
     {
         let request = task.advance(code)?;
         let key = Vec::from_slice(self.alloc, task.path().as_slice())?;
-        self.note(code.types.len(), task.path(), &request)?;
+        note(
+            self.alloc,
+            &mut self.channels,
+            &mut self.ready,
+            code.types.len(),
+            task.path(),
+            &request,
+        )?;
         let slot = Slot {
             task,
             request,
@@ -226,6 +177,34 @@ impl Config {
         };
         self.tasks.insert(key, slot)?;
         Ok(())
+    }
+
+    /// Gives a task that can move an answer, after which it goes on to what it asks for then. Its clock counts one more,
+    /// and is at least this.
+    pub(crate) fn go_on(
+        &mut self,
+        code: &Code,
+        path: &Path,
+        answer: Answer,
+        least: u64,
+    ) -> Result<(), AllocError>
+        requires { ∥ CanGoOn code.now (kept_of self.old) path.now answer ∥₁ }
+        ensures { OnOk result (HasGoneOn code.now path.now answer least (kept_of self.old) (kept_of self.new)) }
+    {
+        match self.tasks.get_mut(path.as_slice()) {
+            Some(slot) => {
+                move_on(slot, code, answer, least)?;
+                note_again(
+                    self.alloc,
+                    &mut self.channels,
+                    &mut self.ready,
+                    code.types.len(),
+                    path,
+                    &slot.request,
+                )
+            }
+            None => Ok(()),
+        }
     }
 
     /// Adds a channel of a task.

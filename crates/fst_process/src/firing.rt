@@ -1,15 +1,12 @@
 ghost use Rattle.std.specs.Prelude.{OnOk};
-ghost use Rattle.fst_vm.specs.Tasks.{Takes, GoesOn};
 ghost use Rattle.fst_process.specs.KeptOf.{kept_of};
 ghost use Rattle.fst_process.specs.Firing.{IsPossible, Happens};
 
 use crate::config::Config;
-use crate::kept::Slot;
 use fst_machine::{Answer, Code, Request};
 use fst_runs::CoreEvent;
 use fst_types::copy as copy_type;
 use fst_value::{ChannelName, Path};
-use fst_vm::Task;
 use std::alloc::AllocError;
 
 impl Config {
@@ -33,13 +30,7 @@ impl Config {
         requires { ∥ IsPossible code.now (kept_of self.old) (CoreEvent.Local path.now) ∥₁ }
         ensures { OnOk result (Happens code.now (kept_of self.old) (CoreEvent.Local path.now) (kept_of self.new)) }
     {
-        let Slot {
-            mut task,
-            clock,
-            ..
-        } = self.take_out(path);
-        resume(&mut task, code, Answer::Go)?;
-        self.settle(code, task, clock + 1)
+        self.go_on(code, path, Answer::Go, 0)
     }
 
     // A task makes a channel.
@@ -47,17 +38,11 @@ impl Config {
         requires { ∥ IsPossible code.now (kept_of self.old) (CoreEvent.New path.now) ∥₁ }
         ensures { OnOk result (Happens code.now (kept_of self.old) (CoreEvent.New path.now) (kept_of self.new)) }
     {
-        let Slot {
-            mut task,
-            request,
-            clock,
-        } = self.take_out(path);
-        match request {
+        match &self.slot(path).request {
             Request::New(number) => {
-                let declared = copy_type(self.alloc, &code.types[number as usize])?;
+                let declared = copy_type(self.alloc, &code.types[*number as usize])?;
                 let name = self.add_channel(path, declared)?;
-                resume(&mut task, code, Answer::Made(name))?;
-                self.settle(code, task, clock + 1)
+                self.go_on(code, path, Answer::Made(name), 0)
             }
             _ => Ok(()),
         }
@@ -68,14 +53,10 @@ impl Config {
         requires { ∥ IsPossible code.now (kept_of self.old) (CoreEvent.Fork path.now) ∥₁ }
         ensures { OnOk result (Happens code.now (kept_of self.old) (CoreEvent.Fork path.now) (kept_of self.new)) }
     {
-        let Slot {
-            mut task,
-            clock,
-            ..
-        } = self.take_out(path);
-        let (child, _) = task.child(code)?;
-        resume(&mut task, code, Answer::Forked)?;
-        self.settle(code, task, clock + 1)?;
+        let parent = self.slot(path);
+        let clock = parent.clock;
+        let (child, _) = parent.task.child(code)?;
+        self.go_on(code, path, Answer::Forked, 0)?;
         self.settle(code, child, clock + 1)
     }
 
@@ -91,37 +72,19 @@ impl Config {
         ensures { OnOk result (Happens code.now (kept_of self.old)
             (CoreEvent.Meet sender.now receiver.now channel.now) (kept_of self.new)) }
     {
-        let Slot {
-            task: mut first,
-            request,
-            clock: sent,
-        } = self.take_out(sender);
-        let Slot {
-            task: mut second,
-            clock: got,
-            ..
-        } = self.take_out(receiver);
-        match request {
+        let first = self.slot(sender);
+        let second = self.slot(receiver);
+        match &first.request {
             Request::Put(_, event) => {
+                let sent = first.clock;
+                let got = second.clock;
                 let answer = Answer::Got(event.copy(self.alloc)?);
-                let stamp = self.record(channel, event, sent, got)?;
-                resume(&mut first, code, Answer::Sent)?;
-                resume(&mut second, code, answer)?;
-                self.settle(code, first, stamp)?;
-                self.settle(code, second, stamp)
+                let passed = event.copy(self.alloc)?;
+                let stamp = self.record(channel, passed, sent, got)?;
+                self.go_on(code, sender, Answer::Sent, stamp)?;
+                self.go_on(code, receiver, answer, stamp)
             }
             _ => Ok(()),
         }
-    }
-}
-
-// Gives a task an answer.
-fn resume(task: &mut Task, code: &Code, answer: Answer) -> Result<(), AllocError>
-    requires { ∥ Takes code.now task.old answer ∥₁ }
-    ensures { OnOk result (GoesOn code.now task.old answer task.new) }
-{
-    match task.resume(code, answer) {
-        Ok(()) => Ok(()),
-        Err((_, e)) => Err(e),
     }
 }

@@ -1,10 +1,13 @@
 ghost use Rattle.std.specs.Prelude.{◌≡◌, ◌<◌, Some, IfOk, OnOk, suc, max, option_and_then};
 ghost use Rattle.std.specs.Option.{option_copied};
+ghost use Rattle.fst_vm.specs.TaskView.{TaskView};
+ghost use Rattle.fst_vm.specs.Tasks.{HasNext, Takes, GoesOn};
 ghost use Rattle.fst_runs.specs.Histories.{opposite, last_stamp};
 ghost use Rattle.fst_process.specs.Kept.{asker_at, with_asker, passed};
-ghost use Rattle.fst_process.specs.KeptOf.{channel_of, numbered, IsChangedAt};
+ghost use Rattle.fst_process.specs.Firing.{MovesOn};
+ghost use Rattle.fst_process.specs.KeptOf.{slot_of, channel_of, numbered, IsChangedAt};
 
-use fst_machine::Request;
+use fst_machine::{Answer, Code, Request};
 use fst_types::{Side, Ty};
 use fst_value::{EndName, Entry, Event, Path};
 use fst_vm::Task;
@@ -26,6 +29,36 @@ pub(crate) struct Channel {
     pub(crate) entries: Vec<Entry>,
     pub(crate) left: Option<Path>,
     pub(crate) right: Option<Path>,
+}
+
+// Gives a task an answer.
+fn resume(task: &mut Task, code: &Code, answer: Answer) -> Result<(), AllocError>
+    requires { ∥ Takes code.now task.old answer ∥₁ }
+    ensures { OnOk result (GoesOn code.now task.old answer task.new) }
+{
+    match task.resume(code, answer) {
+        Ok(()) => Ok(()),
+        Err((_, e)) => Err(e),
+    }
+}
+
+/// Gives the task of a slot an answer, after which it goes on to what it asks for then. Its clock counts one more, and is
+/// at least this.
+pub(crate) fn move_on(
+    slot: &mut Slot,
+    code: &Code,
+    answer: Answer,
+    least: u64,
+) -> Result<(), AllocError>
+    requires takes { ∥ Takes code.now slot.old.task answer ∥₁ }
+    requires next { (u : TaskView) → GoesOn code.now slot.old.task answer u → ∥ HasNext code.now u ∥₁ }
+    requires few { slot.old.clock < 4294967295 }
+    ensures { OnOk result (MovesOn code.now answer least (slot_of slot.old) (slot_of slot.new)) }
+{
+    resume(&mut slot.task, code, answer)?;
+    slot.request = slot.task.advance(code)?;
+    slot.clock = (slot.clock + 1).max(least);
+    Ok(())
 }
 
 // The other side.

@@ -4,6 +4,7 @@
 mod config;
 mod firing;
 mod kept;
+mod notes;
 mod report;
 mod run;
 

@@ -24,7 +24,8 @@ returns-in_ok-stamp-in-Some-clause-passed c =
     let written = c.get_mut.follows.holds c.record_among.new.channels in
     let there = sym c.in-Some.ensures.value in
     let updates = written.3 (ap is_some there) in
-    channel_changed c.args.self.now (c.get_mut.follows.lender c.record_among.new.channels) c.args.channel.now (passed entry) c.as_slice.result.now
+    let new = c.get_mut.follows.lender c.record_among.new.channels in
+    channel_changed c.args.self.now.tasks.entries c.args.self.now.ready.keys c.args.self.now.channels.entries new.entries c.args.channel.now (passed entry) c.as_slice.result.now
     c.in-Some.channels.now c.record_among.new.channels c.as_slice.ensures there updates.1 updates.3 c.in_ok-stamp-in-Some.ensures.passed
 
 pub returns-in-None-clause-stamp : goal.returns-in-None-clause-stamp

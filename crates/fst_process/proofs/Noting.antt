@@ -1,0 +1,52 @@
+-- What is kept once what a task asks for is noted anew.
+use Rattle.std.proofs.Common.{◌≡◌, ◌∙◌, ℕ, Bool, true, false, Some, None, refl, sym, ap}
+use Rattle.std.specs.Prelude.{if◌then◌else◌}
+use Rattle.std.proofs.lemmas.Bool.{false≢true}
+use Rattle.fst_machine.specs.declared.request.Request.{Request}
+use Rattle.fst_machine.specs.declared.request.Request.TheVariants.{Step, New, Fork, Put, Get, Ended}
+use Rattle.fst_runs.specs.Configs.{Path, same_path}
+use Rattle.fst_runs.proofs.NameLaws.{same_path-same}
+use Rattle.fst_process.specs.Kept.{Slot, Kept, put_at, able, unable, without, moves_alone, noted, settled_at}
+use Rattle.fst_process.specs.KeptOf.{Keys, Slots, Channels, slot_in, kept_in, kept_besides}
+use Rattle.fst_process.proofs.KeptLaws.{noted_first}
+
+-- what is put at a path in place of something else
+pub put_twice : {X : Type 0} (p : Path) (x y : X) (f : Path → X) → put_at p x f ≡ put_at p x (put_at p y f)
+put_twice {X} p x y f = λ i q. by (same_path p q) (f q) i
+  where
+    by : (b : Bool) (z : X) → (if b then x else z) ≡ (if b then x else if b then y else z)
+    by true z = refl
+    by false z = refl
+
+-- and where that is what was there at first
+pub put_back : {X : Type 0} (p : Path) (x y : X) (f : Path → X) → f p ≡ x → f ≡ put_at p x (put_at p y f)
+put_back {X} p x y f e = λ i q. by q (same_path p q) refl i
+  where
+    by : (q : Path) (b : Bool) → same_path p q ≡ b → f q ≡ (if b then x else if b then y else f q)
+    by q true g = ap f (sym (same_path-same p q g)) ∙ e
+    by q false g = refl
+
+able_again : (p : Path) (d : Kept) → d.ready p ≡ true → d ≡ able true p (unable p d)
+able_again p d f = λ i. record { tasks = d.tasks; channels = d.channels; made = d.made; ready = put_back p true false d.ready f i }
+
+-- a task that could move, and still can alone, is noted as before
+pub still_noted : (types : ℕ) (p : Path) (r : Request) (d : Kept) → moves_alone types r ≡ true → d.ready p ≡ true → d ≡ noted types p r (unable p d)
+still_noted types p Step d e f = able_again p d f
+still_noted types p (New n) d e f = able_again p d f ∙ ap (λ b. able b p (unable p d)) (sym e)
+still_noted types p Fork d e f = able_again p d f
+still_noted types p (Put x ev) d e f = absurd (false≢true e)
+still_noted types p (Get x) d e f = absurd (false≢true e)
+still_noted types p Ended d e f = absurd (false≢true e)
+
+module _ (types : ℕ) (p : Path) (js js' : Channels) (ks ks' : Keys) where
+  -- what is noted besides tasks is noted with them
+  pub noted_in : (ss : Slots) (r : Request) → kept_besides js' ks' ≡ noted types p r (kept_besides js ks) → kept_in ss js' ks' ≡ noted types p r (kept_in ss js ks)
+  noted_in ss r e = ap (λ (z : Kept). record z { tasks = slot_in ss }) e ∙ noted_first types p r (slot_in ss) (kept_besides js ks)
+
+  -- where it is noted anew what a task asks for, and the task is changed in its place, it is as if it were taken out and put in again
+  pub noted_again : (ss ss' : Slots) (s : Slot) → slot_in ss' ≡ put_at p (Some s) (slot_in ss) →
+      kept_besides js' ks' ≡ noted types p s.request (unable p (kept_besides js ks)) → kept_in ss' js' ks' ≡ settled_at types p s (without p (kept_in ss js ks))
+  noted_again ss ss' s f e =
+      (λ i. record (e i) { tasks = f i })
+      ∙ noted_first types p s.request (put_at p (Some s) (slot_in ss)) (unable p (kept_besides js ks))
+      ∙ ap (λ z. noted types p s.request (record (unable p (kept_besides js ks)) { tasks = z })) (put_twice p (Some s) None (slot_in ss))
