@@ -252,7 +252,7 @@ fn a_report_is_cut_where_a_write_fails(rt: HostRuntime) -> Result<(), Fail> {
     let input =
         "main : Int\nmain = let (a, b) = new !Int in fork (send 42 a); let (x, c) = receive b in x";
     let (number, text) = run_between(rt.alloc(), ("run", input), (99, 0), (7, 2))?;
-    if number == 7 && text.as_slice() == b"result " {
+    if number == 7 && text.as_slice() == b"result ".as_slice() {
         Ok(())
     } else {
         Err(Fail::new("another status, or more is written"))
