@@ -2,6 +2,7 @@
 use Rattle.std.specs.Prelude.{◌≡◌, ℕ, [], List, Contains, Some}
 use Rattle.fst_types.specs.Tree.{Tree}
 use Rattle.fst_kinds.specs.WellFormed.{IsSession}
+use Rattle.fst_lts.specs.Histories.{after_history}
 use Rattle.fst_terms.specs.CoreTree.{CoreTree}
 use Rattle.fst_terms.specs.declared.core_module.Module.{Module}
 use Rattle.fst_derivations.specs.Deriv.{Deriv}
@@ -10,7 +11,6 @@ use Rattle.fst_value.specs.ValueTree.{ValueTree}
 use Rattle.fst_value.specs.declared.event.ChannelHistory.{ChannelHistory}
 use Rattle.fst_machine.specs.Values.{Value}
 use Rattle.fst_runs.specs.Configs.{main_body}
-use Rattle.fst_runs.specs.Histories.{after_history}
 use Rattle.fst_process.specs.declared.report.Outcome.{Outcome}
 use Rattle.fst_process.specs.declared.report.Outcome.TheVariants.{Done}
 use Rattle.fst_process.specs.declared.report.Report.{Report}

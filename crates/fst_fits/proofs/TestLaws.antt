@@ -20,7 +20,7 @@ use Rattle.fst_kinds.specs.Kinds.{session}
 use Rattle.fst_kinds.specs.Walk.{walk}
 use Rattle.fst_kinds.specs.WellFormed.{IsWellFormed, IsSession, IsInstance, IsInstantiation}
 use Rattle.fst_kinds.specs.declared.fault.KindFault.{KindFault}
-use Rattle.fst_kinds.proofs.WalkLaws.{walk_kinds}
+use Rattle.fst_kinds.proofs.Laws.{walk_kinds}
 use Rattle.fst_derivations.specs.Parts.{IsFormed, HasUse, AreAt}
 use Rattle.fst_fits.specs.Tests.{same_code, same_tree, rises, rising, is_ready, are_ready, found_kind, kind_in, has_some, use_in, is_many, is_session, is_of_sessions, is_type, with_first, types_at, is_below, instantiates}
 

@@ -24,6 +24,12 @@ use Rattle.fst_kinds.proofs.OpenSessions as session_part
 use Rattle.fst_kinds.proofs.UnfoldLaws as unfoldings
 use Rattle.fst_kinds.proofs.InstanceKinds as instance_kinds
 use Rattle.fst_kinds.proofs.InstanceLaws as instance_part
+-- an instance of a well-formed type is well formed, of a kind below; by closed types it is closed
+pub use Rattle.fst_kinds.proofs.InstanceLaws.{instantiated_well_formed, instantiated_closed}
+-- an instance of an instance is one by instances
+pub use Rattle.fst_kinds.proofs.InstanceLaws.{instantiated_again, instantiation_again}
+-- what the walk over a type finds is its kind
+pub use Rattle.fst_kinds.proofs.WalkLaws.{walk_kinds}
 
 -- a type has one kind
 pub one_kind : (vars : List Kind) (t : Tree) (j k : Kind) → HasKind vars t j → HasKind vars t k → j ≡ k

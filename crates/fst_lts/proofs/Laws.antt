@@ -16,6 +16,20 @@ use Rattle.fst_lts.proofs.LabelLaws as label
 use Rattle.fst_lts.proofs.MoveLaws as moved
 use Rattle.fst_lts.proofs.ResidualLaws as left
 use Rattle.fst_lts.proofs.AgreementLaws as agreement
+-- the dual of the dual is the type itself, and so it is for labels
+pub use Rattle.fst_lts.proofs.DualLaws.{dual-dual, dual_label-dual_label}
+-- what the dual leaves after the dual trace is the dual of what the type leaves after the trace
+pub use Rattle.fst_lts.proofs.DualLaws.{residual-dual}
+-- outputs, and that a type moves by outputs alone or by none; what is sent is an output, what is received is none
+pub use Rattle.fst_lts.proofs.EventLaws.{is_output, one_direction, sending_output, receiving_output}
+-- a type that receives an event doesn't send it; one that receives a value moves by no other label, and one that offers a branch by branches alone
+pub use Rattle.fst_lts.proofs.EventLaws.{not_both, one_message, one_offer}
+-- what moves isn't terminated; where an event is sent or received, the type goes on so
+pub use Rattle.fst_lts.proofs.EventLaws.{moving, after_sent, after_received}
+-- the dual moves by the dual label, receives what the type sends and sends what it receives
+pub use Rattle.fst_lts.proofs.EventLaws.{dual_step, dual_receives, dual_sends}
+-- after an event, and after a history, the dual is the dual of the type
+pub use Rattle.fst_lts.proofs.EventLaws.{after_event-dual, after_history-dual}
 
 -- a terminated type guards nothing
 pub unguarded : (s : Tree) → terminated s ≡ true → guards s ≡ false

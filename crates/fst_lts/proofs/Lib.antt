@@ -8,3 +8,4 @@ pub mod MoveLaws
 pub mod ResidualLaws
 pub mod AgreementLaws
 pub mod MoveRules
+pub mod EventLaws

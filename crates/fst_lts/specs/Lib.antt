@@ -2,3 +2,4 @@ pub mod Step
 pub mod Dual
 pub mod Moves
 pub mod Equal
+pub mod Histories

@@ -1,6 +1,7 @@
 -- Two tasks meet.
 use Rattle.std.proofs.Common.{◌≡◌, ◌∙◌, inl, inr, ◌<◌, ℕ, suc, max, Some, refl, sym, ap, subst, arith}
 use Rattle.std.specs.Prelude.{length, IsSome}
+use Rattle.fst_lts.specs.Histories.{last_stamp}
 use Rattle.fst_terms.specs.declared.core_module.Module.{Module}
 use Rattle.fst_value.specs.declared.ends.ChannelName.{ChannelName}
 use Rattle.fst_value.specs.declared.ends.EndName.{EndName}
@@ -11,7 +12,6 @@ use Rattle.fst_machine.specs.declared.request.Request.TheVariants as request
 use Rattle.fst_machine.specs.declared.request.Answer.TheVariants.{Sent, Got}
 use Rattle.fst_machine.specs.Machine.{stuck, pause, answered}
 use Rattle.fst_runs.specs.declared.event.CoreEvent.TheVariants.{Meet}
-use Rattle.fst_runs.specs.Histories.{last_stamp}
 use Rattle.fst_runs.specs.Configs.{Path, Config, Task, other, program}
 use Rattle.fst_runs.specs.Events.{Write, Does, written, meeting_stamp, extended}
 use Rattle.fst_runs.specs.Wrong.{IsRight}

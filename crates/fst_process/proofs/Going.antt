@@ -1,6 +1,7 @@
 -- What is kept is the configuration after a task has made a step alone; what all events share.
 use Rattle.std.proofs.Common.{◌≡◌, ◌∙◌, ◌≤◌, ℕ, suc, Bool, true, false, Option, Some, None, refl, sym, ap, subst, arith}
 use Rattle.std.specs.Prelude.{length, if◌then◌else◌}
+use Rattle.fst_lts.specs.Histories.{over}
 use Rattle.fst_terms.specs.declared.core_module.Module.{Module}
 use Rattle.fst_machine.specs.declared.code.Code.{Code}
 use Rattle.fst_machine.specs.declared.request.Request.{Request}
@@ -8,7 +9,6 @@ use Rattle.fst_machine.specs.declared.request.Request.TheVariants as request
 use Rattle.fst_machine.specs.Machine as machine
 use Rattle.fst_vm.specs.Tasks.{IsIn, IsAtRest}
 use Rattle.fst_runs.specs.declared.event.CoreEvent.TheVariants.{Local}
-use Rattle.fst_runs.specs.Histories.{over}
 use Rattle.fst_runs.specs.Configs.{Path, Config, Task, same_path, program}
 use Rattle.fst_runs.specs.Events.{Write, written, moved, Asks, Does}
 use Rattle.fst_process.specs.Kept.{Slot, Kept, end_of, noted, put_at, without, settled}

@@ -1,11 +1,11 @@
 -- What is kept is the configuration after a task has forked another one.
 use Rattle.std.proofs.Common.{◌≡◌, ◌∙◌, ℕ, zero, suc, Bool, true, false, Option, Some, None, refl, sym, ap, subst, arith}
 use Rattle.std.specs.Prelude.{length, if◌then◌else◌}
+use Rattle.fst_lts.specs.Histories.{over}
 use Rattle.fst_terms.specs.declared.core_module.Module.{Module}
 use Rattle.fst_machine.specs.declared.code.Code.{Code}
 use Rattle.fst_machine.specs.declared.request.Request.TheVariants as request
 use Rattle.fst_runs.specs.declared.event.CoreEvent.TheVariants.{Fork}
-use Rattle.fst_runs.specs.Histories.{over}
 use Rattle.fst_runs.specs.Configs.{Path, Config, Task, same_path, child_path, new_task, program}
 use Rattle.fst_runs.specs.Events.{Write, written, Does}
 use Rattle.fst_runs.proofs.Updates.{has_forked}

@@ -1,13 +1,13 @@
 -- What is kept is the configuration after two tasks have met.
 use Rattle.std.proofs.Common.{◌≡◌, ◌∙◌, ◌≤◌, ℕ, suc, List, [], ◌∷◌, Bool, true, false, Option, Some, None, refl, sym, ap, subst, arith}
 use Rattle.std.specs.Prelude.{length, if◌then◌else◌}
+use Rattle.fst_lts.specs.Histories.{over, last_stamp}
 use Rattle.fst_terms.specs.declared.core_module.Module.{Module}
 use Rattle.fst_value.specs.declared.ends.ChannelName.{ChannelName}
 use Rattle.fst_value.specs.declared.event.Entry.{Entry}
 use Rattle.fst_machine.specs.declared.code.Code.{Code}
 use Rattle.fst_machine.specs.declared.request.Request.TheVariants as request
 use Rattle.fst_runs.specs.declared.event.CoreEvent.TheVariants.{Meet}
-use Rattle.fst_runs.specs.Histories.{over, last_stamp}
 use Rattle.fst_runs.specs.Configs as runs
 use Rattle.fst_runs.specs.Configs.{Path, Config, Task, same_path, same_channel, other, program}
 use Rattle.fst_runs.specs.Events.{Write, written, meeting_stamp, extended, Does}

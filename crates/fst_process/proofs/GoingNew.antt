@@ -1,12 +1,12 @@
 -- What is kept is the configuration after a task has made a channel.
 use Rattle.std.proofs.Common.{◌≡◌, ◌∙◌, ℕ, suc, [], Bool, true, false, Option, Some, None, refl, sym, ap, subst, arith}
 use Rattle.std.specs.Prelude.{length, if◌then◌else◌}
+use Rattle.fst_lts.specs.Histories.{over}
 use Rattle.fst_terms.specs.declared.core_module.Module.{Module}
 use Rattle.fst_value.specs.declared.ends.ChannelName.{ChannelName}
 use Rattle.fst_machine.specs.declared.code.Code.{Code}
 use Rattle.fst_machine.specs.declared.request.Request.TheVariants as request
 use Rattle.fst_runs.specs.declared.event.CoreEvent.TheVariants.{New}
-use Rattle.fst_runs.specs.Histories.{over}
 use Rattle.fst_runs.specs.Configs.{Path, Config, Task, Channel, same_path, same_channel, channel_name, program}
 use Rattle.fst_runs.specs.Events.{Write, written, Does}
 use Rattle.fst_runs.proofs.Updates.{has_made}

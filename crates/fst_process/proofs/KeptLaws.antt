@@ -11,11 +11,11 @@ use Rattle.std.proofs.Math.ListN.{length-set}
 use Rattle.std.proofs.lemmas.Option.{slice_get-get_or}
 use Rattle.std.proofs.lemmas.Bool.Decides.{nat_tests}
 use Rattle.fst_types.specs.Tree.{Tree}
+use Rattle.fst_lts.specs.Histories.{last_stamp}
 use Rattle.fst_value.specs.declared.ends.ChannelName.{ChannelName}
 use Rattle.fst_value.specs.declared.event.Entry.{Entry}
 use Rattle.fst_machine.specs.declared.request.Request.{Request}
 use Rattle.fst_machine.specs.declared.request.Request.TheVariants.{Step, New, Fork, Put, Get, Ended}
-use Rattle.fst_runs.specs.Histories.{last_stamp}
 use Rattle.fst_runs.specs.Configs.{Path, same_path, same_channel, channel_name}
 use Rattle.fst_runs.proofs.NameLaws.{same_path-same}
 use Rattle.fst_process.specs.declared.kept.Slot as rust_slot

@@ -3,9 +3,9 @@ use Rattle.std.proofs.Common.{◌≡◌, ◌∙◌, ◌⊎◌, inl, inr, false, 
 use Rattle.std.proofs.lemmas.Bool.{true≢false}
 use Rattle.fst_types.specs.declared.side.Side.{Side}
 use Rattle.fst_types.specs.declared.side.Side.TheVariants.{Left, Right}
+use Rattle.fst_lts.specs.Histories.{opposite}
 use Rattle.fst_value.specs.declared.ends.ChannelName.{ChannelName}
 use Rattle.fst_value.specs.declared.ends.EndName.{EndName}
-use Rattle.fst_runs.specs.Histories.{opposite}
 use Rattle.fst_runs.specs.Configs.{Path, same_path, same_channel, other}
 use Rattle.fst_runs.proofs.NameLaws.{same_path-itself, same_channel-itself}
 

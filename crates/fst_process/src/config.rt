@@ -1,8 +1,8 @@
 ghost use Rattle.std.specs.Prelude.{◌≡◌, ◌<◌, IsSome, Some, IfOk, OnOk, suc, max};
 ghost use Rattle.std.specs.Option.{option_copied};
+ghost use Rattle.fst_lts.specs.Histories.{last_stamp};
 ghost use Rattle.fst_vm.specs.Tasks.{HasNext};
 ghost use Rattle.fst_runs.specs.Configs.{channel_name};
-ghost use Rattle.fst_runs.specs.Histories.{last_stamp};
 ghost use Rattle.fst_process.specs.Kept.{partner, changed, opened, passed};
 ghost use Rattle.fst_process.specs.KeptOf.{kept_of, slot_of};
 ghost use Rattle.fst_process.specs.Firing.{Settles, CanGoOn, HasGoneOn, CanStart, IsBegun};

@@ -1,8 +1,8 @@
 ghost use Rattle.std.specs.Prelude.{◌≡◌, ◌<◌, Some, IfOk, OnOk, suc, max, option_and_then};
 ghost use Rattle.std.specs.Option.{option_copied};
+ghost use Rattle.fst_lts.specs.Histories.{opposite, last_stamp};
 ghost use Rattle.fst_vm.specs.TaskView.{TaskView};
 ghost use Rattle.fst_vm.specs.Tasks.{HasNext, Takes, GoesOn};
-ghost use Rattle.fst_runs.specs.Histories.{opposite, last_stamp};
 ghost use Rattle.fst_process.specs.Kept.{asker_at, with_asker, passed};
 ghost use Rattle.fst_process.specs.Firing.{MovesOn};
 ghost use Rattle.fst_process.specs.KeptOf.{slot_of, channel_of, numbered, IsChangedAt};

@@ -3,7 +3,7 @@
 ghost use Rattle.std.specs.Prelude.{◌≡◌, ◌<◌, ◌+◌, ◌∷◌, [], IfOk, OnOk, MatchOption, reverse};
 ghost use Rattle.fst_types.specs.Size.{nodes};
 ghost use Rattle.fst_lts.specs.Dual.{dual_label};
-ghost use Rattle.fst_runs.specs.Histories.{after_event, sending};
+ghost use Rattle.fst_lts.specs.Histories.{after_event, sending};
 ghost use Rattle.fst_report.specs.Parts.{MoveAlike, MovesFirst, left_in, nodes_in};
 ghost use Rattle.fst_report.specs.ReportTexts.{behind_event, sends};
 

@@ -8,7 +8,7 @@ use Rattle.fst_types.specs.declared.label.Label.{Label}
 use Rattle.fst_types.specs.declared.label.Label.TheVariants.{Send, Receive, Select, Offer, Var}
 use Rattle.fst_lts.specs.Step.{step}
 use Rattle.fst_lts.specs.Dual.{dual, dual_label}
-use Rattle.fst_lts.proofs.DualLaws.{dual_label-dual_label}
+use Rattle.fst_lts.specs.Histories.{sending, receiving, IsInput}
 use Rattle.fst_terms.specs.CoreTree.{CoreArms}
 use Rattle.fst_value.specs.declared.ends.EndName.{EndName}
 use Rattle.fst_value.specs.declared.event.Event.{Event}
@@ -18,12 +18,11 @@ use Rattle.fst_machine.specs.declared.request.Request.TheVariants.{Put, Get}
 use Rattle.fst_machine.specs.declared.request.Answer.TheVariants.{Sent, Got}
 use Rattle.fst_machine.specs.Values.{Environment}
 use Rattle.fst_machine.specs.Machine.{Program, State, Frame, Pause, matches, pause, asked, after, answered}
-use Rattle.fst_runs.specs.Histories.{sending, receiving}
+use Rattle.fst_lts.proofs.Laws.{is_output, one_direction, sending_output, receiving_output, dual_step, dual_sends, dual_label-dual_label}
 use Rattle.fst_runs.specs.Configs.{Path, Task, Channel, Config, same_path, other, residual_in, channel_residual}
 use Rattle.fst_runs.specs.Events.{Asks}
-use Rattle.fst_runs.specs.Wrong.{held_state, amount, IsUnspent, IsInput, IsAllowed, IsRight, end_of}
+use Rattle.fst_runs.specs.Wrong.{held_state, amount, IsUnspent, IsAllowed, IsRight, end_of}
 use Rattle.fst_runs.proofs.Asked.{put_pause, get_pause}
-use Rattle.fst_runs.proofs.EventLaws.{is_output, one_direction, sending_output, receiving_output, dual_step, dual_sends}
 use Rattle.fst_runs.proofs.HeldEnds.{pause_none}
 use Rattle.fst_runs.proofs.HistoryLaws.{residual-other}
 use Rattle.fst_runs.proofs.NameLaws.{same_path-same}

@@ -1,5 +1,4 @@
 pub mod Asked
-pub mod EventLaws
 pub mod FirstRun
 pub mod HeldEnds
 pub mod HistoryLaws

@@ -7,11 +7,11 @@ use Rattle.fst_machine.specs.declared.request.Request.{Request}
 use Rattle.fst_machine.specs.declared.request.Request.TheVariants as request
 use Rattle.fst_machine.specs.Values as value
 use Rattle.fst_machine.specs.Machine.{Pause, puts, asked}
-use Rattle.fst_runs.specs.Histories.{sending}
+use Rattle.fst_lts.specs.Histories.{sending}
+use Rattle.fst_lts.proofs.Laws.{moving}
 use Rattle.fst_runs.specs.Configs.{Path, Task, Config, same_path}
 use Rattle.fst_runs.specs.Wrong.{once, held, held_state, held_pause, amount, IsUnspent, IsOwned, IsAllowed, end_of}
 use Rattle.fst_runs.proofs.Asked.{put_pause, get_pause}
-use Rattle.fst_runs.proofs.EventLaws.{moving}
 use Rattle.fst_runs.proofs.NameLaws.{same_path-same, same_end-itself}
 
 -- an end stands once in itself

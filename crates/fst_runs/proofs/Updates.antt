@@ -3,13 +3,13 @@ use Rattle.std.proofs.Common.{◌≡◌, ◌∙◌, ℕ, suc, List, [], Bool, tr
 use Rattle.std.specs.Prelude.{if◌then◌else◌}
 use Rattle.std.proofs.lemmas.Option.{none-some, same_Some}
 use Rattle.fst_types.specs.Tree.{Tree}
+use Rattle.fst_lts.specs.Histories.{over}
 use Rattle.fst_value.specs.declared.ends.ChannelName.{ChannelName}
 use Rattle.fst_value.specs.declared.ends.EndName.{EndName}
 use Rattle.fst_value.specs.declared.event.Event.{Event}
 use Rattle.fst_value.specs.declared.event.Entry.{Entry}
 use Rattle.fst_machine.specs.Machine.{Program, State}
 use Rattle.fst_runs.specs.declared.event.CoreEvent.TheVariants.{Local, New, Fork, Meet}
-use Rattle.fst_runs.specs.Histories.{over}
 use Rattle.fst_runs.specs.Configs.{Path, Task, Channel, Config, same_path, same_channel, child_path, channel_name, new_task}
 use Rattle.fst_runs.specs.Events.{Write, written, moved, meeting_stamp, extended, Does}
 use Rattle.fst_runs.specs.Wrong.{amount, held_state}

@@ -1,6 +1,7 @@
 -- What may happen in a configuration, and what it writes; runs.
 use Rattle.std.specs.Prelude.{◌≡◌, ℕ, suc, max, Option, Some, None, List, [], ◌∷◌, ◌++◌, slice_get, if◌then◌else◌}
 use Rattle.fst_types.specs.Tree.{Tree}
+use Rattle.fst_lts.specs.Histories.{over, last_stamp}
 use Rattle.fst_value.specs.declared.ends.ChannelName.{ChannelName}
 use Rattle.fst_value.specs.declared.ends.EndName.{EndName}
 use Rattle.fst_value.specs.declared.event.Event.{Event}
@@ -11,7 +12,6 @@ use Rattle.fst_machine.specs.declared.request.Request.TheVariants as request
 use Rattle.fst_machine.specs.declared.request.Answer.TheVariants.{Go, Made, Forked, Sent, Got}
 use Rattle.fst_runs.specs.declared.event.CoreEvent.{CoreEvent}
 use Rattle.fst_runs.specs.declared.event.CoreEvent.TheVariants.{Local, New, Fork, Meet}
-use Rattle.fst_runs.specs.Histories.{over, last_stamp}
 use Rattle.fst_runs.specs.Configs.{Path, Task, Channel, Config, same_path, same_channel, other, child_path, channel_name, new_task}
 
 -- what is written: tasks and channels that are new or have changed

@@ -1,4 +1,3 @@
-pub mod Histories
 pub mod Configs
 pub mod Events
 pub mod Wrong

@@ -2,9 +2,9 @@
 use Rattle.std.specs.Prelude.{◌≡◌, ℕ, ◌+◌, Bool, true, false, Option, Some, None, List, [], ◌∷◌, ⊤}
 use Rattle.fst_types.specs.Tree.{Tree}
 use Rattle.fst_types.specs.declared.label.Label.{Label}
-use Rattle.fst_types.specs.declared.label.Label.TheVariants.{Send, Receive, Select, Offer, Var}
 use Rattle.fst_types.specs.declared.side.Side.TheVariants.{Left}
 use Rattle.fst_lts.specs.Step.{step, terminated}
+use Rattle.fst_lts.specs.Histories.{sending, IsInput}
 use Rattle.fst_value.specs.declared.ends.ChannelName.{ChannelName}
 use Rattle.fst_value.specs.declared.ends.EndName.{EndName}
 use Rattle.fst_machine.specs.Values as value
@@ -12,7 +12,6 @@ use Rattle.fst_machine.specs.Values.{Value, Values, no_values, Environment, none
 use Rattle.fst_machine.specs.Machine.{Program, State, Frame, at_function, at_argument, at_first, at_second, at_field, at_let, at_split, at_if, at_case, at_left, at_right, at_not, at_value, at_target, at_receive, at_select, at_match, at_seq, Pause, stuck, calls, uses, makes, forks, puts, gets, matches, ended, request}
 use Rattle.fst_machine.specs.declared.request.Request.{Request}
 use Rattle.fst_machine.specs.declared.request.Request.TheVariants as request
-use Rattle.fst_runs.specs.Histories.{sending}
 use Rattle.fst_runs.specs.Configs.{Path, Task, Channel, Config, same_path, same_end, residual_in, channel_residual}
 
 -- one or none
@@ -106,14 +105,6 @@ end_of request.Fork = None
 end_of (request.Put x ev) = Some x
 end_of (request.Get x) = Some x
 end_of request.Ended = None
-
--- something is received by the label
-abbrev pub IsInput : Label → Type 0
-IsInput (Send b) = ⊥
-IsInput (Receive b) = ⊤
-IsInput (Select l) = ⊥
-IsInput (Offer l) = ⊤
-IsInput (Var k) = ⊥
 
 -- the residual of the end that is asked at allows what is asked
 abbrev pub IsAllowed : (EndName → Option Tree) → Request → Type 0

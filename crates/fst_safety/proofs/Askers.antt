@@ -3,6 +3,7 @@ use Rattle.std.proofs.Common.{◌≡◌, ◌∙◌, ◌⊎◌, inl, inr, ℕ, So
 use Rattle.std.specs.Prelude.{⊤}
 use Rattle.fst_types.specs.declared.side.Side.{Side}
 use Rattle.fst_types.specs.declared.side.Side.TheVariants.{Left, Right}
+use Rattle.fst_lts.specs.Histories.{opposite}
 use Rattle.fst_value.specs.declared.ends.ChannelName.{ChannelName}
 use Rattle.fst_value.specs.declared.ends.EndName.{EndName}
 use Rattle.fst_value.specs.declared.event.Event.{Event}
@@ -12,7 +13,6 @@ use Rattle.fst_machine.specs.Machine as machine
 use Rattle.fst_machine.specs.Machine.{Program}
 use Rattle.fst_runs.specs.declared.event.CoreEvent.{CoreEvent}
 use Rattle.fst_runs.specs.declared.event.CoreEvent.TheVariants.{Local, New, Fork, Meet}
-use Rattle.fst_runs.specs.Histories.{opposite}
 use Rattle.fst_runs.specs.Configs.{Path, Task, Config, other}
 use Rattle.fst_runs.specs.Events.{Asks}
 use Rattle.fst_runs.specs.Names.{HasMakers, HasParents}

@@ -8,7 +8,7 @@ use Rattle.fst_types.specs.declared.base.Base.TheVariants.{Int, Bool as Truth, C
 use Rattle.fst_types.specs.declared.family.Family.{Family}
 use Rattle.fst_types.specs.declared.label.Label.TheVariants.{Send, Receive, Select, Offer}
 use Rattle.fst_kinds.specs.WellFormed.{IsInstantiation}
-use Rattle.fst_kinds.proofs.InstanceLaws.{instantiated_again, instantiation_again}
+use Rattle.fst_kinds.proofs.Laws.{instantiated_again, instantiation_again}
 use Rattle.fst_lts.specs.Dual.{dual}
 use Rattle.fst_instances.proofs.Laws.{instance_moves}
 use Rattle.fst_terms.specs.CoreTree.{CoreTree, local, global, int, bool, char, unit, pair, make, lambda, apply, let_in, split, if_else, case_of, operate, negate, new, send, receive, select, match_with, fork, seq, CoreList, no_terms, term, CoreArms, no_arms, arm}

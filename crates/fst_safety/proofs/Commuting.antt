@@ -2,11 +2,11 @@
 use Rattle.std.proofs.Common.{◌≡◌, ◌∙◌, ◌⊎◌, inl, inr, List, Option, Some, None, refl, sym, ap}
 use Rattle.std.specs.Prelude.{if◌then◌else◌}
 use Rattle.fst_types.specs.Tree.{Tree}
+use Rattle.fst_lts.specs.Histories.{over}
 use Rattle.fst_value.specs.declared.ends.ChannelName.{ChannelName}
 use Rattle.fst_machine.specs.Machine.{Program}
 use Rattle.fst_runs.specs.declared.event.CoreEvent.{CoreEvent}
 use Rattle.fst_runs.specs.declared.event.CoreEvent.TheVariants.{Local, New, Fork, Meet}
-use Rattle.fst_runs.specs.Histories.{over}
 use Rattle.fst_runs.specs.Configs.{Path, Task, Channel, Config}
 use Rattle.fst_runs.specs.Events.{Write, written, task_at, channel_at, Does}
 use Rattle.fst_runs.proofs.NameLaws.{same_path-itself, same_channel-itself}

@@ -9,7 +9,7 @@ use Rattle.fst_types.specs.declared.kind.Use.{Use}
 use Rattle.fst_types.specs.declared.kind.Use.TheVariants.{Many, Once}
 use Rattle.fst_kinds.specs.Kinds.{prekind_below, use_below}
 use Rattle.fst_kinds.specs.WellFormed.{IsInstantiation}
-use Rattle.fst_kinds.proofs.InstanceLaws.{instantiated_well_formed}
+use Rattle.fst_kinds.proofs.Laws.{instantiated_well_formed}
 use Rattle.fst_context.specs.Scope.{Variable, is_once}
 use Rattle.fst_context.specs.Vars.{Vars, no_vars, under, IsSplit}
 use Rattle.fst_derivations.specs.Parts.{HasUse, AreVariables, enter_all, under_all}

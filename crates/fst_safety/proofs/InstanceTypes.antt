@@ -9,11 +9,10 @@ use Rattle.fst_types.specs.declared.label.Label.{Label}
 use Rattle.fst_types.specs.declared.label.Label.TheVariants as label
 use Rattle.fst_kinds.specs.Kinds.{session}
 use Rattle.fst_kinds.specs.WellFormed.{IsSession, IsInstantiation}
-use Rattle.fst_kinds.proofs.InstanceLaws.{instantiated_well_formed, instantiated_closed}
+use Rattle.fst_kinds.proofs.Laws.{instantiated_well_formed, instantiated_closed}
 use Rattle.fst_lts.specs.Step.{step, labels, choice_labels, terminated}
 use Rattle.fst_lts.specs.Dual.{dual}
-use Rattle.fst_lts.proofs.Laws.{labels_are_moves}
-use Rattle.fst_lts.proofs.DualLaws.{dual-dual}
+use Rattle.fst_lts.proofs.Laws.{labels_are_moves, dual-dual}
 use Rattle.fst_instances.proofs.Laws.{leading, leading_moves, instantiated_terminated, terminated_kept, instantiated-dual, instances_equal}
 use Rattle.fst_terms.specs.declared.term.Op.{Op}
 use Rattle.fst_terms.specs.declared.term.Op.TheVariants.{Add, Subtract, Multiply, Equal, Unequal, Less, AtMost, Greater, AtLeast, And, Or}

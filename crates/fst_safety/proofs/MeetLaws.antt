@@ -6,6 +6,7 @@ use Rattle.fst_types.specs.declared.side.Side.{Side}
 use Rattle.fst_kinds.specs.WellFormed.{IsSession}
 use Rattle.fst_lts.specs.Step.{step}
 use Rattle.fst_lts.specs.Dual.{dual}
+use Rattle.fst_lts.specs.Histories.{sending, receiving, opposite}
 use Rattle.fst_derivations.specs.Rules.{Surroundings}
 use Rattle.fst_value.specs.declared.ends.ChannelName.{ChannelName}
 use Rattle.fst_value.specs.declared.ends.EndName.{EndName}
@@ -15,14 +16,13 @@ use Rattle.fst_machine.specs.declared.request.Answer.TheVariants.{Sent, Got}
 use Rattle.fst_machine.specs.Values as value
 use Rattle.fst_machine.specs.Machine.{State, Frame, puts, giving, pause, after, answered}
 use Rattle.fst_machine.specs.Machine as machine
-use Rattle.fst_runs.specs.Histories.{sending, receiving, opposite}
+use Rattle.fst_lts.proofs.Laws.{moving, dual_receives}
 use Rattle.fst_runs.specs.Configs.{Path, Task, Channel, Config, same_path, same_channel, other, residual_in, channel_residual, main_path}
 use Rattle.fst_runs.specs.declared.event.CoreEvent.TheVariants.{Meet}
 use Rattle.fst_runs.specs.Events.{Write, written, extended, meeting_stamp, Does}
 use Rattle.fst_runs.specs.Names.{HasMakers, HasParents}
 use Rattle.fst_runs.specs.Wrong.{held_state, held_pause, amount, IsUnspent}
 use Rattle.fst_runs.proofs.Asked.{put_pause, get_pause}
-use Rattle.fst_runs.proofs.EventLaws.{moving, dual_receives}
 use Rattle.fst_runs.proofs.NameLaws.{same_path-same, same_path-apart, same_channel-itself, same_channel-same}
 use Rattle.fst_runs.proofs.Naming.{asks_apart, named_meet}
 use Rattle.fst_runs.proofs.Owners.{owner, own_once}

@@ -9,6 +9,7 @@ use Rattle.fst_types.specs.declared.label.Label.TheVariants.{Receive, Offer}
 use Rattle.fst_kinds.specs.WellFormed.{IsSession}
 use Rattle.fst_lts.specs.Step.{step}
 use Rattle.fst_lts.specs.Dual.{dual}
+use Rattle.fst_lts.specs.Histories.{sending, receiving}
 use Rattle.fst_terms.specs.CoreTree.{CoreArms}
 use Rattle.fst_derivations.specs.Rules.{Surroundings}
 use Rattle.fst_value.specs.declared.ends.EndName.{EndName}
@@ -18,10 +19,9 @@ use Rattle.fst_machine.specs.declared.request.Answer.TheVariants.{Got}
 use Rattle.fst_machine.specs.Values as value
 use Rattle.fst_machine.specs.Values.{Value, Environment, received}
 use Rattle.fst_machine.specs.Machine.{Program, State, Frame, puts, gets, matches, giving, after, arm_state, or_lost}
-use Rattle.fst_runs.specs.Histories.{sending, receiving}
+use Rattle.fst_lts.proofs.Laws.{dual_receives, one_message, one_offer}
 use Rattle.fst_runs.specs.Configs.{other}
 use Rattle.fst_runs.specs.Wrong.{held, held_env, held_frames, held_pause}
-use Rattle.fst_runs.proofs.EventLaws.{dual_receives, one_message, one_offer}
 use Rattle.fst_safety.specs.Running.{Equals}
 use Rattle.fst_safety.specs.Fitting.{Residuals, Fits}
 use Rattle.fst_safety.specs.WellTyped.{IsWellTyped}

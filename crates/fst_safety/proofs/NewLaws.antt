@@ -7,6 +7,7 @@ use Rattle.fst_types.specs.declared.side.Side.{Side}
 use Rattle.fst_types.specs.declared.side.Side.TheVariants.{Left, Right}
 use Rattle.fst_kinds.specs.WellFormed.{IsSession}
 use Rattle.fst_lts.specs.Dual.{dual}
+use Rattle.fst_lts.specs.Histories.{side_type}
 use Rattle.fst_derivations.specs.Rules.{Surroundings}
 use Rattle.fst_value.specs.declared.ends.ChannelName.{ChannelName}
 use Rattle.fst_value.specs.declared.ends.EndName.{EndName}
@@ -15,7 +16,6 @@ use Rattle.fst_machine.specs.declared.request.Answer.TheVariants.{Made}
 use Rattle.fst_machine.specs.Machine.{State, Frame, makes, giving, ends, pause, after, answered}
 use Rattle.fst_machine.specs.Machine as machine
 use Rattle.fst_runs.specs.declared.event.CoreEvent.TheVariants.{New}
-use Rattle.fst_runs.specs.Histories.{side_type}
 use Rattle.fst_runs.specs.Configs.{Path, Task, Channel, Config, same_path, same_channel, residual_in, channel_residual, channel_name}
 use Rattle.fst_runs.specs.Events.{Write, written, Does}
 use Rattle.fst_runs.specs.Wrong.{held, held_frames, held_state, amount, IsUnspent, IsOwned}

@@ -4,12 +4,12 @@ use Rattle.std.proofs.lemmas.Bool.{and_from}
 use Rattle.std.specs.Prelude.{slice_get}
 use Rattle.fst_base.proofs.Bools.{and_parts}
 use Rattle.fst_types.specs.Tree.{Tree}
+use Rattle.fst_lts.specs.Histories.{over}
 use Rattle.fst_machine.specs.declared.request.Request.TheVariants as request
 use Rattle.fst_machine.specs.declared.request.Answer.TheVariants.{Go, Made, Forked, Sent, Got}
 use Rattle.fst_machine.specs.Machine.{Program, pause, answered, child}
 use Rattle.fst_runs.specs.declared.event.CoreEvent.{CoreEvent}
 use Rattle.fst_runs.specs.declared.event.CoreEvent.TheVariants.{Local, New, Fork, Meet}
-use Rattle.fst_runs.specs.Histories.{over}
 use Rattle.fst_runs.specs.Configs.{Config, same_path, same_channel, other, child_path, channel_name, new_task}
 use Rattle.fst_runs.specs.Events.{Write, task_at, channel_at, no_channel, moved, meeting_stamp, extended, Does}
 use Rattle.fst_runs.proofs.NameLaws.{same_path-itself, same_path-same, same_channel-itself, same_channel-same}

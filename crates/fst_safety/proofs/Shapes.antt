@@ -11,6 +11,7 @@ use Rattle.fst_types.specs.declared.label.Label.TheVariants.{Send, Offer}
 use Rattle.fst_kinds.specs.Kinds.{top}
 use Rattle.fst_kinds.specs.WellFormed.{IsSession}
 use Rattle.fst_lts.specs.Step.{step}
+use Rattle.fst_lts.specs.Histories.{sending}
 use Rattle.fst_derivations.specs.Parts.{IsFormed, IsOffering}
 use Rattle.fst_derivations.specs.Rules.{Surroundings}
 use Rattle.fst_value.specs.declared.ends.EndName.{EndName}
@@ -18,7 +19,6 @@ use Rattle.fst_value.specs.declared.event.Event.{Event}
 use Rattle.fst_value.specs.declared.event.Event.TheVariants as event
 use Rattle.fst_machine.specs.Values as value
 use Rattle.fst_machine.specs.Values.{Value, sent}
-use Rattle.fst_runs.specs.Histories.{sending}
 use Rattle.fst_runs.specs.Wrong.{held}
 use Rattle.fst_safety.specs.Running.{Equals}
 use Rattle.fst_safety.specs.Fitting.{Residuals, Fits}

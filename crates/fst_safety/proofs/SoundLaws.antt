@@ -6,6 +6,7 @@ use Rattle.fst_types.specs.declared.label.Label.{Label}
 use Rattle.fst_types.specs.declared.label.Label.TheVariants.{Receive, Offer}
 use Rattle.fst_kinds.specs.WellFormed.{IsSession}
 use Rattle.fst_lts.specs.Step.{step}
+use Rattle.fst_lts.specs.Histories.{sending}
 use Rattle.fst_derivations.specs.Rules.{Surroundings}
 use Rattle.fst_value.specs.declared.ends.EndName.{EndName}
 use Rattle.fst_machine.specs.declared.request.Request.{Request}
@@ -14,7 +15,6 @@ use Rattle.fst_machine.specs.declared.request.Answer.TheVariants.{Go}
 use Rattle.fst_machine.specs.Values as value
 use Rattle.fst_machine.specs.Machine.{State, Pause, stuck, calls, uses, makes, forks, puts, gets, matches, ended, pause, asked, after, begins, or_lost}
 use Rattle.fst_runs.specs.declared.event.CoreEvent.TheVariants.{Local}
-use Rattle.fst_runs.specs.Histories.{sending}
 use Rattle.fst_runs.specs.Configs.{Path, Task, Config, same_path, residual_in, main_path}
 use Rattle.fst_runs.specs.Events.{Write, written, moved, Does}
 use Rattle.fst_runs.specs.Wrong.{held_state, held_pause, IsUnspent, IsAllowed, IsRight}

@@ -7,13 +7,12 @@ use Rattle.fst_types.specs.declared.side.Side.TheVariants.{Left, Right}
 use Rattle.fst_kinds.specs.WellFormed.{IsSession}
 use Rattle.fst_lts.specs.Step.{step}
 use Rattle.fst_lts.specs.Dual.{dual}
-use Rattle.fst_lts.proofs.DualLaws.{dual-dual}
+use Rattle.fst_lts.specs.Histories.{sending, after_event, after_history, side_type, opposite}
+use Rattle.fst_lts.proofs.Laws.{dual-dual, after_sent}
 use Rattle.fst_base.specs.Agreement.{residual}
 use Rattle.fst_value.specs.declared.event.Entry.{Entry}
-use Rattle.fst_runs.specs.Histories.{sending, after_event, after_history, side_type, opposite}
 use Rattle.fst_runs.specs.Configs.{Channel, channel_residual}
 use Rattle.fst_runs.specs.Events.{extended}
-use Rattle.fst_runs.proofs.EventLaws.{after_sent}
 use Rattle.fst_runs.proofs.HistoryLaws.{residual-opposite}
 use Rattle.fst_safety.specs.Sound.{IsTrace}
 use Rattle.fst_safety.proofs.DualSessions.{dual_session}

@@ -10,6 +10,7 @@ use Rattle.fst_types.specs.declared.label.Label.TheVariants.{Receive}
 use Rattle.fst_kinds.specs.WellFormed.{IsSession}
 use Rattle.fst_lts.specs.Step.{step}
 use Rattle.fst_lts.specs.Dual.{dual}
+use Rattle.fst_lts.specs.Histories.{sending}
 use Rattle.fst_arms.specs.Arms.{arm_labels, AreEachOnce}
 use Rattle.fst_context.specs.Scope.{Variable}
 use Rattle.fst_derivations.specs.Parts.{HasUse, IsOffering}
@@ -18,7 +19,6 @@ use Rattle.fst_value.specs.declared.ends.EndName.{EndName}
 use Rattle.fst_machine.specs.Free.{free, free_below}
 use Rattle.fst_machine.specs.Values as value
 use Rattle.fst_machine.specs.Machine.{State, Pause, stuck, calls, uses, makes, forks, puts, gets, matches, ended}
-use Rattle.fst_runs.specs.Histories.{sending}
 use Rattle.fst_runs.specs.Wrong.{IsUnspent, held_state, held_pause}
 use Rattle.fst_safety.specs.Running.{Equals, IsUse, AreAlike, HasType, ArmsHaveType}
 use Rattle.fst_safety.specs.Fitting.{Residuals, Fits, IsEnv, Takes, IsTyped}

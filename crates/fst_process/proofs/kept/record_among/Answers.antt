@@ -1,6 +1,6 @@
 use Rattle.std.proofs.Common.{◌≡◌, ◌∙◌, ◌+◌, ◌-◌, ◌<◌, suc, max, Some, sym, ap, subst, arith}
 use Rattle.std.specs.Prelude.{slice_set}
-use Rattle.fst_runs.specs.Histories.{last_stamp}
+use Rattle.fst_lts.specs.Histories.{last_stamp}
 use Rattle.fst_value.specs.declared.event.Entry.{Entry}
 use Rattle.fst_process.specs.Kept.{Channel, passed}
 use Rattle.fst_process.specs.KeptOf.{IsChangedAt, channel_of, numbered}

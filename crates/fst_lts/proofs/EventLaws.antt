@@ -7,13 +7,17 @@ use Rattle.fst_types.specs.declared.label.Label.{Label}
 use Rattle.fst_types.specs.declared.label.Label.TheVariants.{Send, Receive, Select, Offer, Var}
 use Rattle.fst_lts.specs.Step.{step, terminated, labels, choice_labels}
 use Rattle.fst_lts.specs.Dual.{dual, dual_label}
+use Rattle.fst_lts.specs.Histories.{sending, receiving, over, after_event, after_history}
 use Rattle.fst_base.specs.Agreement.{residual}
-use Rattle.fst_lts.proofs.Laws.{no_step, labels_are_moves}
+use Rattle.fst_lts.proofs.AgreementLaws.{no_step}
 use Rattle.fst_lts.proofs.DualLaws.{residual-dual}
+use Rattle.fst_lts.proofs.LabelLaws.{labels_are_moves}
+use Rattle.fst_lts.proofs.ResidualLaws.{terminated_unlabelled}
 use Rattle.fst_base.proofs.Lists.{from_contains, contains_none}
+use Rattle.std.proofs.lemmas.Option.{none-some}
+use Rattle.fst_value.specs.declared.event.Entry.{Entry}
 use Rattle.fst_value.specs.declared.event.Event.{Event}
 use Rattle.fst_value.specs.declared.event.Event.TheVariants.{Int, Bool as Truth, Char, Unit as Nothing, Label as Branch}
-use Rattle.fst_runs.specs.Histories.{sending, receiving, over, after_event}
 
 -- the moves of a type: none, one message, the branches of one choice, or one variable
 data Front : Type 0 where
@@ -141,7 +145,7 @@ moving s t a e = pick (terminated s) refl
   where
     pick : (c : Bool) → terminated s ≡ c → c ≡ false
     pick false f = refl
-    pick true f = absurd (no_step s f a (subst IsSome (sym e) refl))
+    pick true f = absurd (no_step s a (terminated_unlabelled s f) (subst IsSome (sym e) refl))
 
 then_itself : (o : Option Tree) → option_and_then (λ y. residual step y []) o ≡ o
 then_itself None = refl
@@ -198,3 +202,23 @@ only_offers (variable k) l a h g = absurd (cc (one_of (Offer l) (Var k) h))
 -- a type that offers a branch moves by branches that it offers alone
 pub one_offer : (s t u : Tree) (l : List ℕ) (a : Label) → step s (Offer l) ≡ Some t → step s a ≡ Some u → (k : List ℕ) × (Offer k ≡ a)
 one_offer s t u l a e f = only_offers (front s).0 l a (in_front s (Offer l) t e) (in_front s a u f)
+
+-- the dual goes on with each event as the dual of what the type goes on as
+pub after_event-dual : (s : Tree) (ev : Event) → after_event (dual s) ev ≡ option_map dual (after_event s ev)
+after_event-dual s ev = (λ i. over (dual_sends s ev i) (dual_receives s ev i)) ∙ turned (step s (sending ev)) (step s (receiving ev)) refl refl
+  where
+    turned : (o p : Option Tree) → step s (sending ev) ≡ o → step s (receiving ev) ≡ p → over (option_map dual p) (option_map dual o) ≡ option_map dual (over o p)
+    turned None None e f = refl
+    turned None (Some t) e f = refl
+    turned (Some t) None e f = refl
+    turned (Some t) (Some u) e f = absurd (none-some t (sym (not_both s u ev f) ∙ e))
+
+-- so it is after a history
+pub after_history-dual : (s : Tree) (h : List Entry) → after_history (dual s) h ≡ option_map dual (after_history s h)
+after_history-dual s [] = refl
+after_history-dual s (e ∷ h) = ap (option_and_then (λ y. after_history y h)) (after_event-dual s e.event) ∙ rest (after_event s e.event) (λ y. after_history-dual y h)
+  where
+    rest : (o : Option Tree) → ((y : Tree) → after_history (dual y) h ≡ option_map dual (after_history y h)) →
+        option_and_then (λ y. after_history y h) (option_map dual o) ≡ option_map dual (option_and_then (λ y. after_history y h) o)
+    rest None f = refl
+    rest (Some y) f = f y

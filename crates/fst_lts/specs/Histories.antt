@@ -1,5 +1,5 @@
 -- What passes over channels: the labels of events, residuals of ends, and traces.
-use Rattle.std.specs.Prelude.{ℕ, zero, Option, Some, None, List, [], ◌∷◌}
+use Rattle.std.specs.Prelude.{ℕ, zero, Option, Some, None, List, [], ◌∷◌, ⊤}
 use Rattle.fst_types.specs.Tree.{Tree}
 use Rattle.fst_types.specs.declared.base.Base.TheVariants as base
 use Rattle.fst_types.specs.declared.label.Label.{Label}
@@ -28,6 +28,14 @@ receiving (Bool b) = label.Receive base.Bool
 receiving (Char c) = label.Receive base.Char
 receiving Unit = label.Receive base.Unit
 receiving (Branch l) = label.Offer l
+
+-- something is received by the label
+abbrev pub IsInput : Label → Type 0
+IsInput (label.Send b) = ⊥
+IsInput (label.Receive b) = ⊤
+IsInput (label.Select l) = ⊥
+IsInput (label.Offer l) = ⊤
+IsInput (label.Var k) = ⊥
 
 -- the first that is there
 abbrev pub over : {X : Type 0} → Option X → Option X → Option X
