@@ -1,40 +1,9 @@
 //! How types of any shape compare.
 
-use crate::building::{are_formed, ty};
-use crate::kinds::four_kinds;
-use fst_equiv::{EquivFault, Same, same_type};
-use fst_print::{side_text, word_text};
+use fst_samples::{compared, comparison_text, ty};
 use fst_tables::{each_line, fields, no_row};
-use fst_types::Ty;
-use std::alloc::{AllocError, Global};
+use std::alloc::Global;
 use std::test::Fail;
-
-/// How two types compare, where the variables a, b, c and d have the four kinds in turn; types that aren't well formed come
-/// out as a want of memory.
-pub(crate) fn compared(alloc: Global, t: &Ty, u: &Ty, budget: u32) -> Result<Same, EquivFault> {
-    if budget > 0 && are_formed(alloc, t, u, &four_kinds()) {
-        same_type(alloc, t, u, budget)
-    } else {
-        Err(EquivFault::Memory)
-    }
-}
-
-/// As `yes`, `shape`, `word +A !Int left`, `undecided 1000` or `too large`.
-pub(crate) fn comparison_text(
-    alloc: Global,
-    found: &Result<Same, EquivFault>,
-) -> Result<String, AllocError> {
-    match found {
-        Ok(Same::Yes) => format!(in alloc; "yes"),
-        Ok(Same::Shape) => format!(in alloc; "shape"),
-        Ok(Same::Word(word, side)) => {
-            format!(in alloc; "word {} {}", word_text(alloc, word)?, side_text(*side))
-        }
-        Ok(Same::Undecided(_, pairs)) => format!(in alloc; "undecided {}", pairs.len()),
-        Err(EquivFault::TooLarge) => format!(in alloc; "too large"),
-        Err(EquivFault::Memory) => format!(in alloc; "memory"),
-    }
-}
 
 // Two types as they are written, with S for `(rec x.!Int;x);?Bool` and R for `rec x.!Int;!Int;x`; their codes and a budget; how
 // they compare.

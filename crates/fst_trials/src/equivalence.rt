@@ -1,36 +1,14 @@
 //! The grammars of types, and whether types are equivalent.
 
-use crate::building::{is_session, ty};
-use fst_equiv::{Certificate, EquivFault, Verdict, ask};
-use fst_grammar::{TranslateFault, translate};
+use fst_equiv::Verdict;
 use fst_lts::{agree_to, residual};
-use fst_print::{side_text, word_text};
-use fst_tables::{digits_text, each_line, fields, no_row, pairs_text};
-use fst_types::{Kind, Label, Prekind, Side, Ty, Use};
-use fst_words::{Grammar, Word};
+use fst_print::word_text;
+use fst_samples::{asked, translated, ty, verdict_text};
+use fst_tables::{digits_text, each_line, fields, no_row};
+use fst_types::{Label, Side, Ty};
+use fst_words::Grammar;
 use std::alloc::{AllocError, Global};
 use std::test::Fail;
-
-/// The kinds of a signature's variables: `1S` each.
-fn vars() -> [Kind; 6] {
-    [Kind {
-        prekind: Prekind::Session,
-        uses: Use::Once,
-    }; 6]
-}
-
-/// The translation of two session types; types that are none come out as a want of memory.
-pub(crate) fn translated(
-    alloc: Global,
-    s: &Ty,
-    r: &Ty,
-) -> Result<(Grammar, Word, Word), TranslateFault> {
-    if is_session(alloc, s, &vars()) && is_session(alloc, r, &vars()) {
-        translate(alloc, s, r)
-    } else {
-        Err(TranslateFault::Memory)
-    }
-}
 
 /// The rules of a grammar, such as `02 1 / 03`: a digit for the letter and the word of each, `/` between non-terminals.
 fn rules_text(alloc: Global, g: &Grammar) -> Result<String, AllocError> {
@@ -102,33 +80,6 @@ fn translation_row(alloc: Global, given: &str) -> Result<String, Fail> {
 #[test]
 fn types_have_grammars(rt: HostRuntime) -> Result<(), Fail> {
     each_line(rt.alloc(), TRANSLATIONS, translation_row)
-}
-
-/// The verdict on two session types; types that are none come out as a want of memory.
-pub(crate) fn asked(alloc: Global, s: &Ty, r: &Ty, budget: u32) -> Result<Verdict, EquivFault> {
-    if budget > 0 && is_session(alloc, s, &[]) && is_session(alloc, r, &[]) {
-        ask(alloc, s, r, budget)
-    } else {
-        Err(EquivFault::Memory)
-    }
-}
-
-/// As `yes 0-1`, `no +A !Int left`, `undecided 1000` or `too large`; over nine pairs are counted.
-pub(crate) fn verdict_text(
-    alloc: Global,
-    found: &Result<Verdict, EquivFault>,
-) -> Result<String, AllocError> {
-    match found {
-        Ok(Verdict::Yes(Certificate::Visited(_, _, _, pairs))) => {
-            format!(in alloc; "yes{}", pairs_text(alloc, pairs)?)
-        }
-        Ok(Verdict::No(word, side)) => {
-            format!(in alloc; "no {} {}", word_text(alloc, word)?, side_text(*side))
-        }
-        Ok(Verdict::Undecided(_, pairs)) => format!(in alloc; "undecided {}", pairs.len()),
-        Err(EquivFault::TooLarge) => format!(in alloc; "too large"),
-        Err(EquivFault::Memory) => format!(in alloc; "memory"),
-    }
 }
 
 // The codes of two types and a budget; the verdict. The third two are `(rec x.+{A:Skip,C:!Int;x;x});!Bool` and the same with

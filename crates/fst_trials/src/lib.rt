@@ -2,11 +2,7 @@
 #![tactic(auto)]
 
 #[cfg(test)]
-mod building;
-#[cfg(test)]
 mod comparisons;
-#[cfg(test)]
-mod deep;
 #[cfg(test)]
 mod equivalence;
 #[cfg(test)]

@@ -1,12 +1,10 @@
 //! How types move, and their duals.
 
-use crate::building::ty;
-use fst_lts::{
-    StepFault, agree_to, dual, dual_label, labels, residual, step, step_within_limit, terminated,
-};
+use fst_lts::{agree_to, dual, dual_label, labels, terminated};
 use fst_print::word_text;
+use fst_samples::{left_behind, ty};
 use fst_tables::{each_line, fields, no_row, word};
-use fst_types::{Label, Ty, same};
+use fst_types::same;
 use std::alloc::{AllocError, Global};
 use std::test::Fail;
 
@@ -72,55 +70,6 @@ r+r&;!01s ¦ +B +A ¦ s = none
 r+r&;!01s ¦ &A ¦ s = none
 r+r&;!01s ¦ +A &A !Int &A !Int &B +A &A !Int &B +A &B +A &A !Int &A !Int &A !Int &A ¦ ;!r&;!0r+r&;!01s = this
 r+r&;!01s ¦ +A &A !Int &A !Int &B +A &A !Int &B +A &B +A &A !Int &A !Int &A !Int +A ¦ s = none";
-
-fn against(found: &Option<Ty>, wanted: &Ty) -> &'static str {
-    match found {
-        None => "none",
-        Some(found) => {
-            if same(found, wanted) {
-                "this"
-            } else {
-                "another"
-            }
-        }
-    }
-}
-
-/// The type after a label within the limit on nodes, against this.
-fn stepped_within_limit(
-    alloc: Global,
-    t: &Ty,
-    label: &Label,
-    wanted: &Ty,
-) -> Result<&'static str, AllocError> {
-    match step_within_limit(alloc, t, label) {
-        Ok(found) => Ok(against(&found, wanted)),
-        Err(StepFault::TooLarge) => Ok("too large"),
-        Err(StepFault::Memory) => Err(AllocError),
-    }
-}
-
-/// What is left of a type behind a word, against this; where the word is one label, a step has to say the same.
-pub(crate) fn left_behind(
-    alloc: Global,
-    t: &Ty,
-    word: &[Label],
-    wanted: &Ty,
-) -> Result<&'static str, AllocError> {
-    let answer = against(&residual(alloc, t, word)?, wanted);
-    match word {
-        [label] => {
-            let stepped = against(&step(alloc, t, label)?, wanted);
-            let limited = stepped_within_limit(alloc, t, label, wanted)?;
-            Ok(if stepped == answer && limited == answer {
-                answer
-            } else {
-                "two answers"
-            })
-        }
-        _ => Ok(answer),
-    }
-}
 
 fn residual_row(alloc: Global, given: &str) -> Result<String, Fail> {
     let fields = fields(alloc, given)?;

@@ -1,7 +1,7 @@
 //! Types as trees.
 
-use crate::building::{ty, unfolded};
 use fst_base::MOST_NODES;
+use fst_samples::{ty, unfolded};
 use fst_tables::{each_line, fields, no_row};
 use fst_types::{
     Scope, Ty, copy, instance_size, instantiate, same, size, substitute, substituted_size,

@@ -1,4 +1,4 @@
-//! What the trials build: types by codes.
+//! Types by their codes.
 
 ghost use Rattle.std.specs.Prelude.{◌∷◌, IsTrue};
 ghost use Rattle.fst_types.specs.ModelView.{branches_of};
@@ -87,7 +87,7 @@ fn node(alloc: Global, sign: u8, stack: &mut Vec<Ty>) -> Result<TyForm, AllocErr
 /// `m` the first two data types; `0` the innermost recursion variable, `1` the next; `a` to `f` the first variables of a
 /// signature, `z` the last. `r` is `rec`, `,` a pair, `>` is `->`, `o` is `1->`; `-` selects `B`, `_` offers it, `+`
 /// selects `A` or `B`, `&` offers both, `*` selects `A` or `C`, `=` between two `A`, `#` between two `C`.
-pub(crate) fn ty(alloc: Global, code: &str) -> Result<Ty, AllocError> {
+pub fn ty(alloc: Global, code: &str) -> Result<Ty, AllocError> {
     let mut stack = Vec::new(alloc);
     stack_up(alloc, code, &mut stack)?;
     Ok(taken(&mut stack))
@@ -102,12 +102,7 @@ fn stack_up(alloc: Global, code: &str, stack: &mut Vec<Ty>) -> Result<(), AllocE
 }
 
 /// The type of a code in which this type stands between these signs.
-pub(crate) fn ty_around(
-    alloc: Global,
-    front: &str,
-    inner: Ty,
-    back: &str,
-) -> Result<Ty, AllocError> {
+pub fn ty_around(alloc: Global, front: &str, inner: Ty, back: &str) -> Result<Ty, AllocError> {
     let mut stack = Vec::new(alloc);
     stack_up(alloc, back, &mut stack)?;
     stack.push(inner)?;
@@ -195,7 +190,7 @@ pub(crate) fn are_formed(alloc: Global, t: &Ty, u: &Ty, vars: &[Kind]) -> bool
 }
 
 /// The unfolding of a `rec` without free recursion variables; any other type is copied.
-pub(crate) fn unfolded(alloc: Global, t: &Ty) -> Result<Ty, AllocError> {
+pub fn unfolded(alloc: Global, t: &Ty) -> Result<Ty, AllocError> {
     if !sound(t, 0) {
         return copy(alloc, t);
     }
@@ -206,7 +201,7 @@ pub(crate) fn unfolded(alloc: Global, t: &Ty) -> Result<Ty, AllocError> {
 }
 
 /// The same within the limit on nodes.
-pub(crate) fn unfolded_within_limit(alloc: Global, t: &Ty) -> Result<Ty, UnfoldFault> {
+pub fn unfolded_within_limit(alloc: Global, t: &Ty) -> Result<Ty, UnfoldFault> {
     if !sound(t, 0) {
         return Ok(copy(alloc, t)?);
     }

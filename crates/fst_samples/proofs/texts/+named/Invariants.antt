@@ -2,7 +2,7 @@ use Rattle.std.proofs.Common.{◌+◌, ◌*◌, drop}
 use Rattle.fst_types.specs.Height.{height, height_all}
 use Rattle.fst_types.specs.ModelView.{branches_of}
 use Rattle.fst_types.specs.Named.{AllNamedWithin}
-use Rattle.fst_trials.proofs.texts.+named.Given as goal
+use Rattle.fst_samples.proofs.texts.+named.Given as goal
 
 abbrev pub invariant-all_named-loop-branch : goal.invariant-all_named-loop-branch
 invariant-all_named-loop-branch l = record {

@@ -3,7 +3,7 @@ use Rattle.fst_types.specs.Height.{height, height_all}
 use Rattle.fst_types.specs.ModelView.{branches_of}
 use Rattle.fst_types.specs.Scoped.{AllScoped}
 use Rattle.fst_types.specs.Order.{AreSorted, EachChoiceBelow}
-use Rattle.fst_trials.proofs.building.+sound.Given as goal
+use Rattle.fst_samples.proofs.building.+sound.Given as goal
 
 abbrev pub invariant-all_sound-loop-branch : goal.invariant-all_sound-loop-branch
 invariant-all_sound-loop-branch l = record {
