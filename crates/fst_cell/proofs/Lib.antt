@@ -1,0 +1,13 @@
+pub mod HeadLaws
+pub mod ResidualLaws
+pub mod StampLaws
+pub mod Words
+pub mod Focus
+pub mod Places
+pub mod Moves
+pub mod Phases
+pub mod Trying
+pub mod Calling
+pub mod Taking
+pub mod Noticing
+pub mod Joined

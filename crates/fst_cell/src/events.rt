@@ -1,0 +1,85 @@
+ghost use Rattle.std.specs.Prelude.{◌≡◌, IfOk, IsSome, Some, true};
+ghost use Rattle.fst_lts.specs.Step.{step};
+ghost use Rattle.fst_lts.specs.Histories.{sending, receiving};
+ghost use Rattle.fst_cell.specs.Heads.{GoesOn, MovesOn};
+ghost use Rattle.fst_cell.specs.Residuals.{sends, receives};
+
+use crate::heads::head;
+use fst_lts::step;
+use fst_types::{Base, Label, MOST_OPEN, Ty};
+use fst_value::Event;
+use std::alloc::{AllocError, Global};
+
+// The label by which an event is sent.
+fn sending_label(alloc: Global, event: &Event) -> Result<Label, AllocError>
+    ensures { IfOk result (λ a. a ≡ sending event.now) }
+{
+    match event {
+        Event::Int(_) => Ok(Label::Send(Base::Int)),
+        Event::Bool(_) => Ok(Label::Send(Base::Bool)),
+        Event::Char(_) => Ok(Label::Send(Base::Char)),
+        Event::Unit => Ok(Label::Send(Base::Unit)),
+        Event::Label(name) => Ok(Label::Select(name.copy(alloc)?)),
+    }
+}
+
+// The label by which it is received.
+fn receiving_label(alloc: Global, event: &Event) -> Result<Label, AllocError>
+    ensures { IfOk result (λ a. a ≡ receiving event.now) }
+{
+    match event {
+        Event::Int(_) => Ok(Label::Receive(Base::Int)),
+        Event::Bool(_) => Ok(Label::Receive(Base::Bool)),
+        Event::Char(_) => Ok(Label::Receive(Base::Char)),
+        Event::Unit => Ok(Label::Receive(Base::Unit)),
+        Event::Label(name) => Ok(Label::Offer(name.copy(alloc)?)),
+    }
+}
+
+// What the part of a residual that moves first leads to by a label by which the residual moves.
+#[tactic(auto, using(crate::proofs::HeadLaws::head_moves, crate::proofs::HeadLaws::head_stays))]
+fn next_by(alloc: Global, residual: &Ty, label: &Label) -> Result<Ty, AllocError>
+    requires { IsSome (step residual.now label.now) }
+    ensures { IfOk result (λ next. MovesOn residual.now label.now next) }
+{
+    let Some(first) = head(residual, MOST_OPEN)? else {
+        unreachable!()
+    };
+    let Some(next) = step(alloc, first, label)? else {
+        unreachable!()
+    };
+    Ok(next)
+}
+
+// What it leads to by an event that is sent.
+#[tactic(auto, unfolding(crate::specs::Residuals::sends), using(crate::proofs::HeadLaws::sent_on))]
+pub(crate) fn next_sent(alloc: Global, residual: &Ty, event: &Event) -> Result<Ty, AllocError>
+    requires { sends (Some residual.now) event.now ≡ true }
+    ensures { IfOk result (λ next. GoesOn residual.now event.now next) }
+{
+    let label = sending_label(alloc, event)?;
+    next_by(alloc, residual, &label)
+}
+
+// What it leads to by an event that is received.
+#[tactic(auto, unfolding(crate::specs::Residuals::receives), using(crate::proofs::HeadLaws::received_on))]
+fn next_received(alloc: Global, residual: &Ty, event: &Event) -> Result<Ty, AllocError>
+    requires { receives (Some residual.now) event.now ≡ true }
+    ensures { IfOk result (λ next. GoesOn residual.now event.now next) }
+{
+    let label = receiving_label(alloc, event)?;
+    next_by(alloc, residual, &label)
+}
+
+// The same, and the event twice.
+pub(crate) fn room(
+    alloc: Global,
+    residual: &Ty,
+    event: &Event,
+) -> Result<(Ty, Event, Event), AllocError>
+    requires { receives (Some residual.now) event.now ≡ true }
+    ensures { IfOk result (λ r. GoesOn residual.now event.now r.0 × (r.1 ≡ event.now) × (r.2 ≡ event.now)) }
+{
+    let next = next_received(alloc, residual, event)?;
+    Ok((next, event.copy(alloc)?, event.copy(alloc)?))
+}
