@@ -1,0 +1,1 @@
+autocmd BufNewFile,BufRead *.fst set filetype=freest
