@@ -18,9 +18,9 @@ use Rattle.fst_type_print.specs.declared.refusals.Phrase.{Phrase}
 use Rattle.fst_type_print.specs.Texts.{family_names, phrase_text}
 use Rattle.fst_derivations.specs.Modules.{HasDerivations}
 use Rattle.fst_typing.specs.Checked.{IsAccepted, IsRefusal}
-use Rattle.fst_typing.specs.Shown.{IsShown}
-use Rattle.fst_typing.specs.declared.fault.CheckFault.{CheckFault}
-use Rattle.fst_typing.specs.declared.fault.CheckFault.TheVariants as checking
+use Rattle.fst_premises.specs.Shown.{IsShown}
+use Rattle.fst_premises.specs.declared.fault.CheckFault.{CheckFault}
+use Rattle.fst_premises.specs.declared.fault.CheckFault.TheVariants as checking
 use Rattle.fst_command.specs.declared.answer.Answer.{Answer as Written}
 use Rattle.fst_command.specs.declared.finding.Fault.{Fault}
 use Rattle.fst_command.specs.declared.finding.Fault.TheVariants as fault

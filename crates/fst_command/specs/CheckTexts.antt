@@ -4,10 +4,10 @@ use Rattle.fst_kinds.specs.declared.fault.KindFault.{KindFault}
 use Rattle.fst_kinds.specs.declared.fault.KindFault.TheVariants as kind
 use Rattle.fst_type_print.specs.Texts.{counts_text, kinds_text, side_text, type_text, variable_text, word_text}
 use Rattle.fst_type_print.specs.MoveTexts.{move_text}
-use Rattle.fst_typing.specs.declared.fault.CheckFault.{CheckFault}
-use Rattle.fst_typing.specs.declared.fault.CheckFault.TheVariants.{Mismatch, Unused, UsedTwice, CapturedLinear, NotFunction, TypeArguments, KindOfArgument, NoSuchMove, Branches, NotPrintable, Undecided, Memory, Arms, Dropped, NotPair, Kinds, TooLarge}
-use Rattle.fst_typing.specs.declared.fault.Difference.{Difference}
-use Rattle.fst_typing.specs.declared.fault.Difference.TheVariants.{Shape, Word}
+use Rattle.fst_premises.specs.declared.fault.CheckFault.{CheckFault}
+use Rattle.fst_premises.specs.declared.fault.CheckFault.TheVariants.{Mismatch, Unused, UsedTwice, CapturedLinear, NotFunction, TypeArguments, KindOfArgument, NoSuchMove, Branches, NotPrintable, Undecided, Memory, Arms, Dropped, NotPair, Kinds, TooLarge}
+use Rattle.fst_premises.specs.declared.fault.Difference.{Difference}
+use Rattle.fst_premises.specs.declared.fault.Difference.TheVariants.{Shape, Word}
 use Rattle.fst_command.specs.declared.status.Status.{Status}
 use Rattle.fst_command.specs.declared.status.Status.TheVariants as status
 use Rattle.fst_command.specs.Texts.{place_text, too_large_text}

@@ -12,7 +12,7 @@ use Rattle.fst_type_print.specs.Texts.{family_names}
 use Rattle.fst_print.specs.ModuleTexts.{module_text}
 use Rattle.fst_derivations.specs.Deriv.{Deriv}
 use Rattle.fst_typing.specs.Checked.{IsAccepted, IsRefusal}
-use Rattle.fst_typing.specs.declared.fault.CheckFault.{CheckFault}
+use Rattle.fst_premises.specs.declared.fault.CheckFault.{CheckFault}
 use Rattle.fst_runs.specs.Configs.{main_body}
 use Rattle.fst_process.specs.declared.report.Outcome.{Outcome}
 use Rattle.fst_process.specs.declared.report.Outcome.TheVariants.{Done, OutOfSteps}

@@ -3,7 +3,7 @@ ghost use Rattle.std.specs.String.{string_bytes};
 ghost use Rattle.fst_base.specs.Limits.{most_bytes};
 ghost use Rattle.fst_type_print.specs.Texts.{difference_text, family_names};
 ghost use Rattle.fst_typing.specs.Texts.{HaveTexts};
-ghost use Rattle.fst_typing.specs.declared.fault.CheckFault.TheVariants.{Memory};
+ghost use Rattle.fst_premises.specs.declared.fault.CheckFault.TheVariants.{Memory};
 ghost use Rattle.fst_command.specs.declared.refusals.Cause.TheVariants.{Refused};
 ghost use Rattle.fst_command.specs.CheckTexts.{cause, cause_status, cause_text, kind_cause, undecided, word_behind};
 ghost use Rattle.fst_command.specs.Top.{IsAnswer};

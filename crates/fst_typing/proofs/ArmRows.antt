@@ -11,9 +11,11 @@ use Rattle.fst_derivations.specs.declared.derivation.Derivation.{Derivation}
 use Rattle.fst_derivations.specs.Parts.{IsFormed, enter_all, under_all}
 use Rattle.fst_derivations.specs.Rules.{Bare, Binding, Compared, FurtherArms}
 use Rattle.fst_typing.specs.Scenes.{AreArmsReady, AreArmsTyped, IsArmReady, IsArmTyped, IsFirstTyped, ShowsArm}
-use Rattle.fst_typing.specs.Shown.{IsUnequal, ShowsArms, ShowsFurther, UseDifferent, place}
-use Rattle.fst_typing.specs.Typed.{Check, IsKnown, IsPlain}
-use Rattle.fst_typing.specs.declared.fault.CheckFault.{CheckFault}
+use Rattle.fst_premises.specs.Shown.{UseDifferent, place}
+use Rattle.fst_typing.specs.Shown.{IsUnequal, ShowsArms, ShowsFurther}
+use Rattle.fst_premises.specs.Checks.{Check}
+use Rattle.fst_typing.specs.Typed.{IsKnown, IsPlain}
+use Rattle.fst_premises.specs.declared.fault.CheckFault.{CheckFault}
 use Rattle.fst_typing.proofs.Arms.{ArmsSoFar, arms_end, arms_start, arms_step}
 use Rattle.fst_typing.proofs.Under.{takes_under}
 

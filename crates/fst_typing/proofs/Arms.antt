@@ -14,8 +14,9 @@ use Rattle.fst_derivations.specs.declared.derivation.Derivation.{Derivation}
 use Rattle.fst_derivations.specs.Parts.{enter_all, under_all}
 use Rattle.fst_derivations.specs.Rules.{Bare, Binding, Binds, Compared, Arms, FurtherArms}
 use Rattle.fst_typing.specs.Shown.{ShowsArms, ShowsFurther}
-use Rattle.fst_typing.specs.Typed.{Check, IsKnown, IsPlain, IsTypedUnder}
-use Rattle.fst_typing.specs.declared.fault.CheckFault.{CheckFault}
+use Rattle.fst_premises.specs.Checks.{Check}
+use Rattle.fst_typing.specs.Typed.{IsKnown, IsPlain, IsTypedUnder}
+use Rattle.fst_premises.specs.declared.fault.CheckFault.{CheckFault}
 use Rattle.fst_typing.proofs.Forms.{over, at_type}
 use Rattle.fst_typing.proofs.Under.{takes_under}
 

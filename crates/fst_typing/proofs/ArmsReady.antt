@@ -18,11 +18,13 @@ use Rattle.fst_derivations.specs.Deriv.{Deriv}
 use Rattle.fst_derivations.specs.Modules.{AreFieldsFormed, AreStandingFormed, types_in, types_in_arms}
 use Rattle.fst_derivations.specs.Parts.{AreAt, AreVariables, HasUse, IsFormed, IsOffering, enter_all}
 use Rattle.fst_derivations.specs.Rules.{fields, rest}
-use Rattle.fst_typing.specs.Scenes.{AreArmsReady, AreFormed, AreHeld, IsArmReady, IsReady, IsSetUp, bounds}
-use Rattle.fst_typing.specs.Typed.{Check, IsTyped}
+use Rattle.fst_premises.specs.Scenes.{AreFormed, AreHeld, IsReady, IsSetUp, bounds}
+use Rattle.fst_premises.proofs.Laws.{closed_formed, numbers_long}
+use Rattle.fst_typing.specs.Scenes.{AreArmsReady, IsArmReady}
+use Rattle.fst_premises.specs.Checks.{Check}
+use Rattle.fst_typing.specs.Typed.{IsTyped}
 use Rattle.fst_typing.proofs.Containing.{contains_first, contains_later, mapped_contains}
-use Rattle.fst_typing.proofs.Fields.{numbers_long}
-use Rattle.fst_typing.proofs.Formed.{closed_formed, moved_formed, moving_session}
+use Rattle.fst_typing.proofs.Formed.{moved_formed, moving_session}
 use Rattle.fst_typing.proofs.Makers.{field_types, formed_named}
 use Rattle.fst_typing.proofs.Named.{contained_named, family_named}
 use Rattle.fst_typing.proofs.Ready.{standing_parts}

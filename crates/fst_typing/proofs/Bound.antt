@@ -14,8 +14,9 @@ use Rattle.fst_context.proofs.Laws.{takes_both, takes_as, takes_body, takes_same
 use Rattle.fst_derivations.specs.Deriv.{Deriv, row, convert, type_of, one, two, three}
 use Rattle.fst_derivations.specs.Parts.{IsFormed, HasUse, AreVariables, enter_all, under_all}
 use Rattle.fst_derivations.specs.Rules.{Surroundings}
-use Rattle.fst_typing.specs.Shown.{after_body, inside}
-use Rattle.fst_typing.specs.Typed.{Check, IsKnown, IsPlain, IsTyped, IsTypedUnder}
+use Rattle.fst_premises.specs.Scopes.{after_body, inside}
+use Rattle.fst_premises.specs.Checks.{Check}
+use Rattle.fst_typing.specs.Typed.{IsKnown, IsPlain, IsTyped, IsTypedUnder}
 use Rattle.fst_typing.proofs.Formed.{arrow_of_formed}
 use Rattle.fst_typing.proofs.Forms.{over, at_type, same_variables}
 use Rattle.fst_typing.proofs.Under.{takes_under}

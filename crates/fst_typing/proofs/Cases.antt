@@ -18,10 +18,12 @@ use Rattle.fst_context.proofs.Laws.{takes_as, takes_both}
 use Rattle.fst_derivations.specs.Deriv.{Deriv, type_of}
 use Rattle.fst_derivations.specs.Parts.{AreAt, AreVariables, IsFormed, IsOffering, enter_all}
 use Rattle.fst_derivations.specs.Rules.{Arms, Bare, Binds, Compared, fields, rest}
-use Rattle.fst_typing.specs.declared.choices.Constructors.{Constructors}
-use Rattle.fst_typing.specs.Scenes.{AreArmsTyped, AreFormed, IsArmReady, IsCase, IsReady}
-use Rattle.fst_typing.specs.Typed.{Check, IsKnown, IsPlain, IsTyped}
-use Rattle.fst_typing.proofs.Fields.{numbers_long}
+use Rattle.fst_premises.specs.declared.choices.Constructors.{Constructors}
+use Rattle.fst_premises.specs.Scenes.{AreFormed, IsCase, IsReady}
+use Rattle.fst_premises.proofs.Laws.{numbers_long}
+use Rattle.fst_typing.specs.Scenes.{AreArmsTyped, IsArmReady}
+use Rattle.fst_premises.specs.Checks.{Check}
+use Rattle.fst_typing.specs.Typed.{IsKnown, IsPlain, IsTyped}
 use Rattle.fst_typing.proofs.Forms.{over, same_variables}
 
 pub some_arms : (arms : List Arm) → HasCoreArm (core_arms_of arms) → 0 < length arms

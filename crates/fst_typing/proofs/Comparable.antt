@@ -5,7 +5,8 @@ use Rattle.fst_equiv.specs.Comparison.{IsComparison}
 use Rattle.fst_equiv.specs.declared.comparing.Same.TheVariants.{Yes}
 use Rattle.fst_instances.proofs.Laws.{equal_itself}
 use Rattle.fst_derivations.specs.Parts.{IsComparable, IsFormed}
-use Rattle.fst_typing.specs.Typed.{Check, IsKnown}
+use Rattle.fst_premises.specs.Checks.{Check}
+use Rattle.fst_typing.specs.Typed.{IsKnown}
 
 compares_itself : (budget : ℕ) (s : Tree) → IsComparable s → IsComparison s s budget Yes
 compares_itself budget s (inl e) = subst (λ o. IsComparison o o budget Yes) (sym e) tt

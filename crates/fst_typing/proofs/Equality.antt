@@ -13,10 +13,11 @@ use Rattle.fst_lts.proofs.Laws.{labels_are_moves}
 use Rattle.fst_instances.proofs.Laws.{equal_itself, equal_back, equal_through, equal_kind, equal_function, equal_pair, equal_base_type, equal_data_type, equal_session, equal_steps}
 use Rattle.fst_lts.specs.Equal as equal
 use Rattle.fst_base.specs.Agreement.{Agree, AgreeTo, BothOrNeither}
+use Rattle.fst_premises.proofs.Laws.{pair_of_formed}
 use Rattle.fst_typing.proofs.Containing.{contains_first, no_first, mapped_contains, contains_mapped, all_mapped, same_offer}
 use Rattle.fst_derivations.specs.Parts.{IsFormed, HasUse, IsConversion, IsOffering}
 use Rattle.fst_derivations.specs.Laws.{IsTypeEquality}
-use Rattle.fst_typing.proofs.Formed.{arrow_formed, pair_formed, arrow_of_formed, pair_of_formed, moving_session, moved_formed}
+use Rattle.fst_typing.proofs.Formed.{arrow_formed, pair_formed, arrow_of_formed, moving_session, moved_formed}
 
 module _ (vars : List Kind) where
   abbrev E : Tree → Tree → Type 0

@@ -1,24 +1,27 @@
 -- How an equation is derived, and refused, by what is under its parameters.
-use Rattle.std.proofs.Common.{◌≡◌, ◌∙◌, ◌+◌, ◌<◌, ◌++◌, ℕ, inl, inr, List, [], ◌∷◌, length, refl, sym, subst, ap, arith}
-use Rattle.std.specs.Prelude.{Result, Ok, Err, IfOk, Option, Some, None, MatchOption, option_to_list}
+use Rattle.std.proofs.Common.{◌≡◌, ◌∙◌, ◌<◌, ◌++◌, ℕ, inl, inr, List, [], ◌∷◌, length, refl, sym, subst, ap, arith}
+use Rattle.std.specs.Prelude.{Result, Ok, Err, IfOk}
 use Rattle.fst_types.specs.Tree.{Tree}
 use Rattle.fst_types.specs.declared.kind.Use.{Use}
 use Rattle.fst_types.specs.declared.kind.Use.TheVariants.{Many, Once}
 use Rattle.fst_terms.specs.CoreTree.{CoreTree, local, global, int, bool, char, unit, pair, make, lambda, apply, let_in, split, if_else, case_of, operate, negate, new, send, receive, select, match_with, fork, seq}
 use Rattle.fst_terms.specs.declared.binder.Binder.{Binder}
-use Rattle.fst_context.specs.Scope.{Scope, Variable, begun, ended, entered, is_once, left, more, Takes}
+use Rattle.fst_context.specs.Scope.{Scope, Variable, begun, ended, is_once, left, more, Takes}
 use Rattle.fst_context.specs.Vars.{Vars, no_vars, under}
 use Rattle.fst_context.proofs.Laws.{takes_as, takes_body, takes_inside}
 use Rattle.fst_derivations.specs.Deriv.{Deriv, row, convert, type_of, one}
-use Rattle.fst_derivations.specs.Parts.{HasUse, IsFormed, enter_all}
+use Rattle.fst_derivations.specs.Parts.{IsFormed, enter_all}
 use Rattle.fst_derivations.specs.Rules.{Surroundings, Bare, Compared, At, PlainRow}
 use Rattle.fst_derivations.specs.Modules.{Equation, IsParameter}
-use Rattle.fst_typing.specs.Scenes.{IsReady}
-use Rattle.fst_typing.specs.Typed.{AreUsed, Check, IsKnown, IsPlain, IsTyped}
-use Rattle.fst_typing.specs.Shown.{IsTooLargeAt, IsUnused, ShowsUnused, after_body, inside}
-use Rattle.fst_typing.specs.Equations.{AreEntered, HasNoParameter, HasParameter, IsEntered, IsEquationTyped, IsParameterTyped, ShowsEquation, ShowsResult, UnderParameter}
-use Rattle.fst_typing.specs.declared.equations.Parameter.{Parameter}
-use Rattle.fst_typing.specs.declared.fault.CheckFault.{CheckFault}
+use Rattle.fst_premises.specs.Scenes.{IsReady}
+use Rattle.fst_premises.specs.Scopes.{AreUsed, after_body, inside}
+use Rattle.fst_premises.specs.Checks.{Check}
+use Rattle.fst_typing.specs.Typed.{IsKnown, IsPlain, IsTyped}
+use Rattle.fst_premises.specs.Shown.{IsTooLargeAt, IsUnused, ShowsUnused}
+use Rattle.fst_premises.specs.Parameters.{AreEntered, HasNoParameter, HasParameter, IsEntered}
+use Rattle.fst_typing.specs.Equations.{IsEquationTyped, IsParameterTyped, ShowsEquation, ShowsResult, UnderParameter}
+use Rattle.fst_premises.specs.declared.parameters.Parameter.{Parameter}
+use Rattle.fst_premises.specs.declared.fault.CheckFault.{CheckFault}
 use Rattle.fst_typing.proofs.Formed.{arrow_formed}
 use Rattle.fst_typing.proofs.Forms.{at_type}
 use Rattle.fst_typing.proofs.Ready.{lambda_ready}
@@ -133,11 +136,6 @@ module _ (c : Check) where
       subst (λ o. ShowsEquation c o t s f) (sym h.term)
       (inl (is_parameter e t p h, inr (subst (λ o. UnderParameter c p.binder.now p.from.now p.to.now p.body.now (λ w. ShowsEquation c p.body.now p.to.now w f) o f) i l)))
 
-  -- a parameter is entered, where what it holds is known by other names
-  pub entered_is : (p : Parameter) (s m z : Scope) (t : Tree) (n : Use) → HasUse M.vars t n → z ≡ entered p.binder.now.name (record { type = t; uses = n }) m → m ≡ inside p.uses s → t ≡ p.from.now →
-      IsEntered c p s z
-  entered_is p s m z t n u e i f = record { uses = n; has = subst (λ o. HasUse M.vars o n) f u; is = e ∙ (λ j. entered p.binder.now.name (record { type = f j; uses = n }) (i j)) }
-
   -- under a parameter the term is ready
   pub entered_ready : (e : CoreTree) (t : Tree) (p : Parameter) (s z : Scope) → HasParameter c e t p → IsEntered c p s z → IsReady c e s.variables → IsReady c p.body.now z.variables
   entered_ready e t p s z h n r =
@@ -245,13 +243,6 @@ module _ (c : Check) where
   pub some_body : {P : Vars → Type 0} (p : Parameter) (s z w : Scope) → IsEntered c p s z → Takes P z w → p.uses ≡ Many → 0 < length w.bodies
   some_body p s z w n y m =
       subst (λ (g : List ℕ). 0 < length g) (sym (ap (λ (o : Scope). o.bodies) y.rest ∙ ap (λ (o : Scope). o.bodies) n.is ∙ ap (λ u. more (inside u s).bodies) m)) (omega arith)
-
--- the last of some parameters
-pub last_popped : (old kept : List Parameter) (n m : ℕ) (r : Option Parameter) → n ≡ length old → old ≡ kept ++ option_to_list r → MatchOption r ((n ≡ 0) × (m ≡ 0)) (λ _. m + 1 ≡ n) →
-    MatchOption r (old ≡ []) (λ p. old ≡ kept ++ p ∷ [])
-last_popped [] kept n m None long is cases = refl
-last_popped (p ∷ old) kept n m None long is cases = absurd (omega (arith, long, cases.0))
-last_popped old kept n m (Some p) long is cases = is
 
 -- what is so of an answer in two ways
 pub both_ok : {A F : Type 0} (r : Result A F) (P Q R : A → Type 0) → ((x : A) → P x → Q x → R x) → IfOk r P → IfOk r Q → IfOk r R

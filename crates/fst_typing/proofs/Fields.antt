@@ -1,6 +1,7 @@
 -- A constructor's arguments, one after the other.
-use Rattle.std.proofs.Common.{◌≡◌, ◌∙◌, ◌+◌, ◌<◌, ℕ, zero, suc, List, [], ◌∷◌, ◌++◌, Some, drop, get_or, length, slice_get, inl, inr, refl, sym, ap, subst, arith, append_assoc, append-nil}
+use Rattle.std.proofs.Common.{◌≡◌, ◌∙◌, ◌+◌, ◌<◌, ℕ, List, [], ◌∷◌, ◌++◌, Some, drop, get_or, length, slice_get, inl, inr, refl, sym, ap, subst, arith, append_assoc, append-nil}
 use Rattle.std.proofs.lemmas.List.{drop_all, drop_more}
+use Rattle.std.proofs.lemmas.Option.{same_Some}
 use Rattle.fst_types.specs.Tree.{Tree}
 use Rattle.fst_types.specs.declared.kind.Kind.{Kind}
 use Rattle.fst_terms.specs.CoreTree.{CoreTree, CoreList, no_terms, term}
@@ -13,34 +14,16 @@ use Rattle.fst_derivations.specs.declared.derivation.Derivation.{Derivation}
 use Rattle.fst_derivations.specs.Modules.{IsFormedAt, types_in, types_in_all}
 use Rattle.fst_derivations.specs.Parts.{AreAt}
 use Rattle.fst_derivations.specs.Rules.{Compared, Bare, Fields}
-use Rattle.fst_typing.specs.Scenes.{AreFieldsReady, IsReady}
-use Rattle.fst_typing.specs.Shown.{IsUnequal, ShowsFields, place}
-use Rattle.fst_typing.specs.Typed.{AreFieldsTyped, Check, IsKnown, IsPlain, IsTyped}
-use Rattle.fst_typing.specs.declared.fault.CheckFault.{CheckFault}
+use Rattle.fst_premises.specs.Scenes.{IsReady}
+use Rattle.fst_premises.proofs.Laws.{at_number, numbers_long}
+use Rattle.fst_typing.specs.Scenes.{AreFieldsReady}
+use Rattle.fst_premises.specs.Shown.{place}
+use Rattle.fst_typing.specs.Shown.{IsUnequal, ShowsFields}
+use Rattle.fst_premises.specs.Checks.{Check}
+use Rattle.fst_typing.specs.Typed.{AreFieldsTyped, IsKnown, IsPlain, IsTyped}
+use Rattle.fst_premises.specs.declared.fault.CheckFault.{CheckFault}
 use Rattle.fst_typing.proofs.Forms.{at_type, same_variables}
 use Rattle.fst_typing.proofs.Ready.{standing_parts}
-
--- types at numbers: the i-th one, and those behind it
-pub at_number : (types : List Tree) (ks : List ℕ) (ts : List Tree) (i d : ℕ) → AreAt types ks ts → i < length ks →
-    (t : Tree) × (slice_get types (get_or ks i d) ≡ Some t) × (drop i ts ≡ t ∷ drop (i + 1) ts)
-at_number types [] ts i d h l = absurd (omega (arith, l))
-at_number types (k ∷ ks) [] i d h l = absurd h
-at_number types (k ∷ ks) (t ∷ ts) zero d h l = (t, h.0, refl)
-at_number types (k ∷ ks) (t ∷ ts) (suc i) d h l =
-    let r = at_number types ks ts i d h.1 (omega (arith, l)) in
-    let e : suc (i + 1) ≡ suc i + 1 = omega arith in
-    (r.0, r.1, r.2 ∙ ap (λ n. r.0 ∷ drop n (t ∷ ts)) e)
-
--- there are as many types as numbers
-pub numbers_long : (types : List Tree) (ks : List ℕ) (ts : List Tree) → AreAt types ks ts → length ts ≡ length ks
-numbers_long types [] [] h = refl
-numbers_long types [] (t ∷ ts) h = absurd h
-numbers_long types (k ∷ ks) [] h = absurd h
-numbers_long types (k ∷ ks) (t ∷ ts) h = ap suc (numbers_long types ks ts h.1)
-
--- two types at one number are the same
-pub same_some : (s t : Tree) → Some s ≡ Some t → s ≡ t
-same_some s t h = cc
 
 module _ (c : Check) where
   abbrev V : List Kind
@@ -92,7 +75,7 @@ module _ (c : Check) where
       let rest : CoreList = cores_of (drop (i + 1) args) in
       let front : drop i args ≡ e ∷ drop (i + 1) args = drop_more args i e l ∙ ap (λ y. y ∷ drop (i + 1) args) at in
       let same : (ts : List Tree) → AreAt T ks ts → drop i ts ≡ t ∷ drop (i + 1) ts = λ ts a.
-      let r = at_number T ks ts i 0 a m in r.2 ∙ ap (λ y. y ∷ drop (i + 1) ts) (same_some r.0 t (sym r.1 ∙ w)) in
+      let r = at_number T ks ts i 0 a m in r.2 ∙ ap (λ y. y ∷ drop (i + 1) ts) (same_Some r.0 t (sym r.1 ∙ w)) in
       let ready = first_ready e rest (get_or ks i 0) (drop (i + 1) ks) now.variables
       (subst (λ xs. AreFieldsReady c (cores_of xs) (get_or ks i 0 ∷ drop (i + 1) ks) now.variables) front
       (subst (λ xs. AreFieldsReady c (cores_of (drop i args)) xs now.variables) (drop_more ks i 0 m) h.ready)) in
@@ -128,7 +111,7 @@ module _ (c : Check) where
   fields_unequal args ks i e before now next parts ts d t p f h l m at a x w q u =
       let front : drop i args ≡ e ∷ drop (i + 1) args = drop_more args i e l ∙ ap (λ y. y ∷ drop (i + 1) args) at in
       let r = at_number T ks ts i 0 a m in
-      let same : drop i ts ≡ t ∷ drop (i + 1) ts = r.2 ∙ ap (λ y. y ∷ drop (i + 1) ts) (same_some r.0 t (sym r.1 ∙ w)) in
+      let same : drop i ts ≡ t ∷ drop (i + 1) ts = r.2 ∙ ap (λ y. y ∷ drop (i + 1) ts) (same_Some r.0 t (sym r.1 ∙ w)) in
       let shown : ShowsFields c (term e (cores_of (drop (i + 1) args))) (t ∷ drop (i + 1) ts) now f =
       inr (record { scope = next; derivation = d; typed = x; then = inl (subst (λ n. IsUnequal c n (type_of d) t f) q u) }) in
       h.shown ts a f (subst (λ us. ShowsFields c (cores_of (drop i args)) us now f) (sym same) (subst (λ xs. ShowsFields c (cores_of xs) (t ∷ drop (i + 1) ts) now f) (sym front) shown))

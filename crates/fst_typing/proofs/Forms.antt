@@ -19,9 +19,12 @@ use Rattle.fst_context.proofs.Laws.{takes_both, takes_none, takes_as}
 use Rattle.fst_derivations.specs.Deriv.{Deriv, row, convert, type_of, one, two}
 use Rattle.fst_derivations.specs.Parts.{IsFormed, HasUse, IsComparable}
 use Rattle.fst_derivations.specs.Rules.{Surroundings, Bare, Compared, Over, At, Operates, PlainRow}
-use Rattle.fst_typing.specs.Typed.{Check, IsKnown, IsPlain, IsTyped}
-use Rattle.fst_typing.specs.Shown.{IsOperand, operand, result_type}
-use Rattle.fst_typing.proofs.Formed.{arrow_formed, moved_formed, moving_session, pair_of_formed}
+use Rattle.fst_premises.specs.Checks.{Check}
+use Rattle.fst_premises.proofs.Laws.{pair_of_formed}
+use Rattle.fst_typing.specs.Typed.{IsKnown, IsPlain, IsTyped}
+use Rattle.fst_premises.specs.Signs.{operand, result_type}
+use Rattle.fst_typing.specs.Shown.{IsOperand}
+use Rattle.fst_typing.proofs.Formed.{arrow_formed, moved_formed, moving_session}
 
 module _ (c : Check) where
   abbrev M : Surroundings

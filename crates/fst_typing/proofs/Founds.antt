@@ -17,9 +17,10 @@ use Rattle.fst_derivations.specs.Rules.{Bare, Compared}
 use Rattle.fst_derivations.specs.Modules.{ArePlainlyDerived, AreTypesFormed, Equation, HasMain, IsMain}
 use Rattle.fst_written.specs.First.{IsFirst}
 use Rattle.fst_written.proofs.Laws.{equation_formed, first_kept, first_less, first_new, makers_formed, signature_formed}
-use Rattle.fst_typing.specs.Typed.{Check, IsKnown}
-use Rattle.fst_typing.specs.Scenes.{IsReady, IsSetUp}
-use Rattle.fst_typing.specs.Shown.{IsShown}
+use Rattle.fst_premises.specs.Checks.{Check}
+use Rattle.fst_typing.specs.Typed.{IsKnown}
+use Rattle.fst_premises.specs.Scenes.{IsReady, IsSetUp}
+use Rattle.fst_premises.specs.Shown.{IsShown}
 use Rattle.fst_typing.specs.Equations.{IsEquationTyped}
 use Rattle.fst_typing.specs.Checked.{check_over, IsEarlier, IsEquationDerived, IsFoundOf, IsGlobalAccepted, IsKnownOver, IsNamedMain, ShowsGlobal}
 use Rattle.fst_typing.specs.declared.globals.Refused.{Refused}

@@ -1,5 +1,5 @@
 -- Constructors, and the types of their fields.
-use Rattle.std.proofs.Common.{◌≡◌, ◌∙◌, ◌<◌, ℕ, zero, suc, Bool, true, false, List, [], ◌∷◌, Option, Some, None, get_or, length, slice_get, refl, sym, ap, subst, arith}
+use Rattle.std.proofs.Common.{◌≡◌, ◌∙◌, ℕ, zero, suc, Bool, true, false, List, [], ◌∷◌, Option, Some, None, length, slice_get, refl, sym, ap, subst}
 use Rattle.std.specs.Prelude.{if◌then◌else◌}
 use Rattle.std.specs.Str.{bytes_eq}
 use Rattle.fst_types.specs.Tree.{Tree, named}
@@ -15,8 +15,10 @@ use Rattle.fst_derivations.specs.Deriv.{Deriv, Derivs, row, type_of}
 use Rattle.fst_derivations.specs.Modules.{AreFieldsFormed, AreMakersFormed}
 use Rattle.fst_derivations.specs.Parts.{AreAt, IsFormed}
 use Rattle.fst_derivations.specs.Rules.{Bare, Compared, Fields}
-use Rattle.fst_typing.specs.Scenes.{AreFieldsReady, IsReady, IsSetUp}
-use Rattle.fst_typing.specs.Typed.{AreFieldsTyped, Check, IsKnown, IsPlain, IsTyped}
+use Rattle.fst_premises.specs.Scenes.{IsReady, IsSetUp}
+use Rattle.fst_typing.specs.Scenes.{AreFieldsReady}
+use Rattle.fst_premises.specs.Checks.{Check}
+use Rattle.fst_typing.specs.Typed.{AreFieldsTyped, IsKnown, IsPlain, IsTyped}
 
 -- there are as many terms as in their list
 pub terms_of_length : (ts : List CoreTree) → terms_length (cores_of ts) ≡ length ts
@@ -42,13 +44,6 @@ pub field_types : (types : List Tree) (ks : List ℕ) → AreFieldsFormed types 
 field_types types [] h = ([], tt)
 field_types types (k ∷ ks) h = let r = field_types types ks h.1 in (h.0.0 ∷ r.0, (h.0.1, r.1))
 
--- a number that stands for something is below the length
-pub below_length : {X : Type 0} (xs : List X) (k : ℕ) (x : X) → slice_get xs k ≡ Some x → k < length xs
-below_length [] zero x h = absurd (cc h)
-below_length [] (suc k) x h = absurd (cc h)
-below_length (y ∷ xs) zero x h = omega arith
-below_length (y ∷ xs) (suc k) x h = omega (arith, below_length xs k x h)
-
 -- a constructor's arguments are ready where it is
 pub make_ready : (c : Check) (at n k : ℕ) (es : CoreList) (o : Maker) (g : List Variable) → IsSetUp c → IsReady c (make at n k es) g → maker_of (slice_get c.surroundings.families n) k ≡ Some o →
     AreFieldsReady c es o.fields.items g
@@ -66,35 +61,6 @@ make_typed c at n k es w o ts ds t r s e a x j q =
     let is : w ≡ row (named n) ds = q ∙ ap (λ p. row p ds) j in
     takes_as (λ u. Fields c.surroundings Bare (Compared (IsKnown c)) es ts r.variables u ds) (IsPlain c (make at n k es) r.variables w) r s
     (λ u p. record { rule = (o, ts, ds, e, a, p, is); formed = subst (λ v. IsFormed c.surroundings.vars (type_of v)) (sym is) (_, record { kinded = refl; contractive = tt; scoped = tt; ordered = tt }) }) x
-
--- what is read at a place is what is there
-pub read_at : {X : Type 0} (xs : List X) (k : ℕ) (x : X) → k < length xs → x ≡ get_or xs k x → slice_get xs k ≡ Some x
-read_at [] k x h e = absurd (omega (arith, h))
-read_at (y ∷ xs) zero x h e = ap Some (sym e)
-read_at (y ∷ xs) (suc k) x h e = read_at xs k x (omega (arith, h)) e
-
-none_read : {X : Type 0} (xs : List X) (k : ℕ) → (k < length xs → ⊥) → slice_get xs k ≡ None
-none_read [] zero h = refl
-none_read [] (suc k) h = refl
-none_read (y ∷ xs) zero h = absurd (h (omega arith))
-none_read (y ∷ xs) (suc k) h = none_read xs k (λ l. h (omega (arith, l)))
-
--- a constructor that is there, as it is read
-pub maker_at : (fs : List Family) (n k m : ℕ) (f : Family) (o : Maker) → HasFields (maker_of (slice_get fs n) k) m → f ≡ get_or fs n f → o ≡ get_or f.makers.items k o → maker_of (slice_get fs n) k ≡ Some o
-maker_at fs n k m f o h e g = pick (slice_get fs n) refl h
-  where
-    pick : (q : Option Family) → slice_get fs n ≡ q → HasFields (maker_of q k) m → maker_of (slice_get fs n) k ≡ Some o
-    pick None i j = absurd j
-    pick (Some p) i j =
-        let same : p ≡ f = same_read fs n p f i (below_length fs n p i) e in
-        ap (λ y. maker_of y k) i ∙ ap (λ (y : Family). slice_get y.makers.items k) same ∙ there (slice_get f.makers.items k) refl (subst (λ (y : Family). HasFields (slice_get y.makers.items k) m) same j)
-      where
-        same_read : (xs : List Family) (k : ℕ) (p x : Family) → slice_get xs k ≡ Some p → k < length xs → x ≡ get_or xs k x → p ≡ x
-        same_read xs k p x i l e = let both : Some p ≡ Some x = sym i ∙ read_at xs k x l e in cc
-
-        there : (y : Option Maker) → slice_get f.makers.items k ≡ y → HasFields y m → slice_get f.makers.items k ≡ Some o
-        there None z j = absurd j
-        there (Some q) z j = read_at f.makers.items k o (below_length f.makers.items k q z) g
 
 -- a constructor that a name stands for has formed fields
 pub formed_named : (types : List Tree) (os : List Maker) (l : List ℕ) (o : Maker) → AreMakersFormed types os → maker_named l os ≡ Some o → AreFieldsFormed types o.fields.items

@@ -12,8 +12,9 @@ use Rattle.fst_context.specs.Scope.{Scope, Variable}
 use Rattle.fst_derivations.specs.Deriv.{Deriv}
 use Rattle.fst_derivations.specs.Parts.{HasUse, AreVariables, enter_all}
 use Rattle.fst_derivations.specs.Modules.{Standing, AreStandingFormed, types_in}
-use Rattle.fst_typing.specs.Typed.{Check, IsTyped}
-use Rattle.fst_typing.specs.Scenes.{IsReady}
+use Rattle.fst_premises.specs.Checks.{Check}
+use Rattle.fst_typing.specs.Typed.{IsTyped}
+use Rattle.fst_premises.specs.Scenes.{IsReady}
 
 -- of types that stand one after the other both parts are well formed
 pub standing_parts : (types : List Tree) (vars : List Kind) (ps qs : List Standing) → AreStandingFormed types vars (ps ++ qs) → AreStandingFormed types vars ps × AreStandingFormed types vars qs

@@ -1,5 +1,5 @@
 -- A part that is refused, or fails what is asked of it, refuses the term.
-use Rattle.std.proofs.Common.{◌≡◌, ℕ, List, [], ◌∷◌, inl, inr, subst}
+use Rattle.std.proofs.Common.{◌≡◌, ◌⊎◌, ℕ, List, [], ◌∷◌, inl, inr, subst}
 use Rattle.fst_types.specs.Tree.{Tree, arrow}
 use Rattle.fst_types.specs.declared.kind.Use.{Use}
 use Rattle.fst_terms.specs.Around.{around}
@@ -10,9 +10,12 @@ use Rattle.fst_terms.specs.declared.steps.Step.TheVariants.{Operate, Apply}
 use Rattle.fst_terms.specs.declared.term.Op.{Op}
 use Rattle.fst_context.specs.Scope.{Scope}
 use Rattle.fst_derivations.specs.Deriv.{Deriv, type_of}
-use Rattle.fst_typing.specs.Shown.{Shows, After, AfterUnder, IsUnequal, IsOperand, ShowsOperand, ShowsNoFunction, operand, place}
-use Rattle.fst_typing.specs.Typed.{Check, IsTyped, IsTypedUnder}
-use Rattle.fst_typing.specs.declared.fault.CheckFault.{CheckFault}
+use Rattle.fst_premises.specs.Shown.{ShowsNoFunction, place}
+use Rattle.fst_premises.specs.Signs.{operand}
+use Rattle.fst_typing.specs.Shown.{Shows, After, AfterUnder, IsUnequal, IsOperand, ShowsOperand}
+use Rattle.fst_premises.specs.Checks.{Check}
+use Rattle.fst_typing.specs.Typed.{IsTyped, IsTypedUnder}
+use Rattle.fst_premises.specs.declared.fault.CheckFault.{CheckFault}
 
 -- what is refused inside steps
 pub shows_around : (c : Check) (s : Scope) (f : CheckFault) (e : CoreTree) (xs : List Step) → Shows c e s f → Shows c (around e xs) s f
@@ -46,3 +49,8 @@ shows_argument at u from to x i h = inr (behind x (inr (u, from, to, i, inl h)))
 pub shows_unequal_argument : {c : Check} {p : ℕ} (at : ℕ) {e b : CoreTree} {s r z : Scope} {d h : Deriv} {f : CheckFault} (u : Use) (from to : Tree) → IsTyped c s r e d → type_of d ≡ arrow u from to → IsTyped c r z b h →
     p ≡ place b → IsUnequal c p (type_of h) from f → Shows c (apply at e b) s f
 shows_unequal_argument {c} {p} at {e} {b} {s} {r} {z} {d} {h} {f} u from to x i y q j = inr (behind x (inr (u, from, to, i, inr (behind y (subst (λ n. IsUnequal c n (type_of h) from f) q j)))))
+
+-- what a further branch fails by: by the variables that it uses, or by its type where they are the same
+pub joined_refused : {A B E P : Type 0} → (A → P) → (B → E → P) → A ⊎ (B × E) → P
+joined_refused f g (inl a) = f a
+joined_refused f g (inr (b, e)) = g b e

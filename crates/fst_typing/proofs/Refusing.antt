@@ -6,7 +6,7 @@ use Rattle.fst_written.specs.declared.fault.WrittenFault.{WrittenFault}
 use Rattle.fst_written.specs.declared.fault.WrittenFault.TheVariants.{Kinds, Memory}
 use Rattle.fst_typing.specs.Checked.{IsRefusal}
 use Rattle.fst_typing.specs.Checked.IsRefusal.{kinds}
-use Rattle.fst_typing.specs.Shown.{IsShown}
+use Rattle.fst_premises.specs.Shown.{IsShown}
 use Rattle.fst_typing.specs.Views.{written_fault}
 
 -- a fault of written types refuses the module

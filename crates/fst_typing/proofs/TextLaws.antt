@@ -9,13 +9,14 @@ use Rattle.fst_context.specs.Scope.{Scope, entered, empty}
 use Rattle.fst_derivations.specs.Deriv.{type_of}
 use Rattle.fst_derivations.specs.Texts.{HasText, AllHaveText}
 use Rattle.fst_derivations.proofs.Laws.{arrow_texts, text_at}
-use Rattle.fst_typing.specs.Typed.{Check}
-use Rattle.fst_typing.specs.Shown.{place, inside, IsShown}
+use Rattle.fst_premises.specs.Checks.{Check}
+use Rattle.fst_premises.specs.Scopes.{inside}
+use Rattle.fst_premises.specs.Shown.{place, IsShown}
 use Rattle.fst_typing.specs.Equations.{ShowsEquation, ShowsResult}
 use Rattle.fst_typing.specs.Checked.{check_over, IsRefusal, kinds, field, equation, ShowsGlobal, ShowsMain}
 use Rattle.fst_typing.specs.Texts.{HaveTexts}
-use Rattle.fst_typing.specs.declared.fault.CheckFault.{CheckFault}
-use Rattle.fst_typing.specs.declared.fault.CheckFault.TheVariants.{Kinds, Memory, NotPrintable, TypeArguments}
+use Rattle.fst_premises.specs.declared.fault.CheckFault.{CheckFault}
+use Rattle.fst_premises.specs.declared.fault.CheckFault.TheVariants.{Kinds, Memory, NotPrintable, TypeArguments}
 use Rattle.fst_typing.proofs.TextParts.{ScopeHasText, either, said, large_text, unequal_text, unused_text, inside_text, after_text}
 use Rattle.fst_typing.proofs.TextShown.{shown_texts}
 

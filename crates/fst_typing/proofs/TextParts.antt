@@ -11,12 +11,15 @@ use Rattle.fst_context.specs.Vars.{Vars}
 use Rattle.fst_derivations.specs.Deriv.{Deriv, type_of}
 use Rattle.fst_derivations.specs.Texts.{HasText, AllHaveText, VariablesHaveText}
 use Rattle.fst_derivations.proofs.Laws.{row_text, variables_text}
-use Rattle.fst_typing.specs.Typed.{Check, IsKnown, IsTyped, entered_all}
-use Rattle.fst_typing.specs.Shown.{After, AfterUnder, IsTooLargeAt, IsLargeBinder, IsUnequal, IsUnused, ShowsUnused, ShowsArguments, Under, UseDifferent, inside}
+use Rattle.fst_premises.specs.Scopes.{entered_all, inside}
+use Rattle.fst_premises.specs.Checks.{Check}
+use Rattle.fst_typing.specs.Typed.{IsKnown, IsTyped}
+use Rattle.fst_premises.specs.Shown.{IsTooLargeAt, IsLargeBinder, IsUnused, ShowsUnused, ShowsArguments, UseDifferent}
+use Rattle.fst_typing.specs.Shown.{After, AfterUnder, IsUnequal, Under}
 use Rattle.fst_typing.specs.Shown.IsUnequal.{shape, word, undecided, too_large}
 use Rattle.fst_typing.specs.Texts.{HaveTexts}
-use Rattle.fst_typing.specs.declared.fault.CheckFault.{CheckFault}
-use Rattle.fst_typing.specs.declared.fault.CheckFault.TheVariants.{Unused, KindOfArgument, Branches, TooLarge}
+use Rattle.fst_premises.specs.declared.fault.CheckFault.{CheckFault}
+use Rattle.fst_premises.specs.declared.fault.CheckFault.TheVariants.{Unused, KindOfArgument, Branches, TooLarge}
 
 -- one of two causes
 pub either : {A B : Type 0} (n : ℕ) (f : CheckFault) → A ⊎ B → (A → HaveTexts n f) → (B → HaveTexts n f) → HaveTexts n f

@@ -17,11 +17,14 @@ use Rattle.fst_derivations.specs.Deriv.{type_of}
 use Rattle.fst_derivations.specs.Rules.{Binding, fields, rest}
 use Rattle.fst_derivations.specs.Texts.{HasText, AllHaveText, BindingHasText}
 use Rattle.fst_derivations.proofs.Laws.{arrow_texts, bound_texts, pair_texts, plain_text, text_at, texts_at}
-use Rattle.fst_typing.specs.Typed.{Check}
-use Rattle.fst_typing.specs.Shown.{inside, operand, place, IsOperand, Shows, ShowsArms, ShowsDropped, ShowsFields, ShowsFurther, ShowsNoCase, ShowsNoFunction, ShowsNoMatch, ShowsNoPair, ShowsOperand, ShowsReceive, ShowsSelect, ShowsSend}
+use Rattle.fst_premises.specs.Checks.{Check}
+use Rattle.fst_premises.specs.Scopes.{inside}
+use Rattle.fst_premises.specs.Shown.{place, ShowsDropped, ShowsNoCase, ShowsNoFunction, ShowsNoMatch, ShowsNoPair, ShowsReceive, ShowsSelect, ShowsSend}
+use Rattle.fst_premises.specs.Signs.{operand}
+use Rattle.fst_typing.specs.Shown.{IsOperand, Shows, ShowsArms, ShowsFields, ShowsFurther, ShowsOperand}
 use Rattle.fst_typing.specs.Texts.{HaveTexts}
-use Rattle.fst_typing.specs.declared.fault.CheckFault.{CheckFault}
-use Rattle.fst_typing.specs.declared.fault.CheckFault.TheVariants.{UsedTwice, CapturedLinear, NotFunction, TypeArguments, NoSuchMove, Arms, Dropped, NotPair, Kinds}
+use Rattle.fst_premises.specs.declared.fault.CheckFault.{CheckFault}
+use Rattle.fst_premises.specs.declared.fault.CheckFault.TheVariants.{UsedTwice, CapturedLinear, NotFunction, TypeArguments, NoSuchMove, Arms, Dropped, NotPair, Kinds}
 use Rattle.fst_typing.proofs.TextParts.{ScopeHasText, either, said, large_text, large_binder_text, argument_text, branches_text, unequal_text, inside_text, after_text, behind_text, under_text, after_under_text}
 
 -- the type of a sign's operands has a text

@@ -1,35 +1,19 @@
 -- What is taken under variables that are all used at their end.
-use Rattle.std.proofs.Common.{◌≡◌, ◌∙◌, ◌+◌, ◌<◌, ℕ, zero, suc, Bool, false, List, [], ◌∷◌, length, refl, sym, ap, subst, arith}
+use Rattle.std.proofs.Common.{◌≡◌, ◌∙◌, ◌<◌, ℕ, zero, suc, false, List, [], ◌∷◌, length, refl, sym, ap, subst, arith}
 use Rattle.fst_types.specs.Tree.{Tree}
 use Rattle.fst_types.specs.declared.kind.Use.{Use}
 use Rattle.fst_types.specs.declared.kind.Use.TheVariants.{Many, Once}
 use Rattle.fst_terms.specs.CoreTree.{CoreTree}
 use Rattle.fst_terms.specs.declared.binder.Binder.{Binder}
-use Rattle.fst_context.specs.Scope.{Scope, Variable, is_once, at_or_not, entered, fewer, left, more, tail, Takes}
+use Rattle.fst_context.specs.Scope.{Scope, Variable, is_once, at_or_not, entered, fewer, left, more, Takes}
 use Rattle.fst_context.specs.Vars.{Vars, under}
 use Rattle.fst_context.proofs.Laws.{takes_inside}
 use Rattle.fst_derivations.specs.Deriv.{Deriv}
 use Rattle.fst_derivations.specs.Parts.{enter_all, under_all}
-use Rattle.fst_typing.specs.Shown.{inside}
-use Rattle.fst_typing.specs.Typed.{Check, IsPlain, IsTypedUnder, AreUsed, entered_all, left_all}
-
--- leaving one variable after n others is leaving it before them
-pub left_commutes : (n : ℕ) (z : Scope) → left (left_all n z) ≡ left_all n (left z)
-left_commutes zero z = refl
-left_commutes (suc n) z = left_commutes n (left z)
-
--- leaving one variable and then n is leaving n + 1
-pub left_more : (n : ℕ) (z : Scope) → left_all n (left z) ≡ left_all (n + 1) z
-left_more n z = let e : suc n ≡ n + 1 = omega arith in ap (λ m. left_all m z) e
-
-at_tail : (bs : List Bool) (n : ℕ) → at_or_not (tail bs) n ≡ at_or_not bs (suc n)
-at_tail [] n = refl
-at_tail (b ∷ bs) n = refl
-
--- the innermost mark after n variables were left
-pub at_left : (n : ℕ) (z : Scope) → at_or_not (left_all n z).there 0 ≡ at_or_not z.there n
-at_left zero z = refl
-at_left (suc n) z = at_left n (left z) ∙ at_tail z.there n
+use Rattle.fst_premises.specs.Scopes.{inside, AreUsed, entered_all, left_all}
+use Rattle.fst_premises.specs.Checks.{Check}
+use Rattle.fst_premises.proofs.Laws.{at_left, left_commutes}
+use Rattle.fst_typing.specs.Typed.{IsPlain, IsTypedUnder}
 
 -- what is taken under variables that are used at their end is taken outside them
 pub under_takes : (P : Vars → Type 0) (xs : List Binder) (vs : List Variable) (r z : Scope) → length xs ≡ length vs → Takes P (entered_all xs vs r) z → AreUsed (length xs) z →

@@ -4,11 +4,11 @@ use Rattle.fst_types.specs.Tree.{Tree}
 use Rattle.fst_equiv.specs.Comparison.{IsComparison, IsTooLargeComparison}
 use Rattle.fst_equiv.specs.declared.comparing.Same.{Same}
 use Rattle.fst_equiv.specs.declared.comparing.Same.TheVariants as same
-use Rattle.fst_typing.specs.Typed.{Check}
+use Rattle.fst_premises.specs.Checks.{Check}
 use Rattle.fst_typing.specs.Shown.{IsUnequal}
 use Rattle.fst_typing.specs.Shown.IsUnequal.{shape, word, undecided, too_large}
-use Rattle.fst_typing.specs.declared.fault.CheckFault.TheVariants.{Mismatch, Undecided, TooLarge}
-use Rattle.fst_typing.specs.declared.fault.Difference.TheVariants.{Shape, Word}
+use Rattle.fst_premises.specs.declared.fault.CheckFault.TheVariants.{Mismatch, Undecided, TooLarge}
+use Rattle.fst_premises.specs.declared.fault.Difference.TheVariants.{Shape, Word}
 
 module _ (c : Check) (at : ℕ) where
   -- the answer, of the type that the derivation has

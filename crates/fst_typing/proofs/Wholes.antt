@@ -4,9 +4,11 @@ use Rattle.std.specs.Prelude.{Result, IfErr, IfOk}
 use Rattle.fst_terms.specs.CoreTree.{CoreTree}
 use Rattle.fst_context.specs.Scope.{Scope}
 use Rattle.fst_derivations.specs.Deriv.{Deriv}
-use Rattle.fst_typing.specs.Shown.{IsRefused, place}
-use Rattle.fst_typing.specs.Typed.{Check, IsTyped}
-use Rattle.fst_typing.specs.declared.fault.CheckFault.{CheckFault}
+use Rattle.fst_premises.specs.Shown.{place}
+use Rattle.fst_typing.specs.Shown.{IsRefused}
+use Rattle.fst_premises.specs.Checks.{Check}
+use Rattle.fst_typing.specs.Typed.{IsTyped}
+use Rattle.fst_premises.specs.declared.fault.CheckFault.{CheckFault}
 
 pub whole_none : (f : ℕ → CoreTree) → ((n : ℕ) → place (f n) ≡ n) → {e : CoreTree} {at p : ℕ} → f at ≡ e → p ≡ place e → e ≡ f p
 whole_none f g {e} {at} {p} w q = sym w ∙ ap f (sym (g at) ∙ ap place w ∙ sym q)

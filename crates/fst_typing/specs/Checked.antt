@@ -16,12 +16,13 @@ use Rattle.fst_written.specs.Faults.{IsFirstKindFault, IsWrittenKindFault}
 use Rattle.fst_written.specs.First.{IsFirst}
 use Rattle.fst_written.specs.Printable.{IsFirstUnprintable}
 use Rattle.fst_written.specs.Readings.{readings}
-use Rattle.fst_typing.specs.Typed.{Check, IsKnown}
-use Rattle.fst_typing.specs.Shown.{IsShown}
+use Rattle.fst_premises.specs.Checks.{Check}
+use Rattle.fst_typing.specs.Typed.{IsKnown}
+use Rattle.fst_premises.specs.Shown.{IsShown}
 use Rattle.fst_typing.specs.Equations.{ShowsEquation}
-use Rattle.fst_typing.specs.declared.fault.CheckFault.{CheckFault}
+use Rattle.fst_premises.specs.declared.fault.CheckFault.{CheckFault}
 use Rattle.fst_typing.specs.declared.globals.Refused.{Refused}
-use Rattle.fst_typing.specs.declared.fault.CheckFault.TheVariants.{Kinds, NotPrintable, TypeArguments}
+use Rattle.fst_premises.specs.declared.fault.CheckFault.TheVariants.{Kinds, NotPrintable, TypeArguments}
 
 -- what an equation is checked with, in a module, over variables of these kinds
 abbrev pub check_over : Module → ℕ → List Kind → Check

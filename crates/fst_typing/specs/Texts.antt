@@ -3,8 +3,8 @@ use Rattle.std.specs.Prelude.{ℕ, ⊤}
 use Rattle.fst_types.specs.declared.moves.Move.{Move}
 use Rattle.fst_types.specs.declared.moves.Move.TheVariants.{Send, Receive, Select, Offer}
 use Rattle.fst_derivations.specs.Texts.{HasText}
-use Rattle.fst_typing.specs.declared.fault.CheckFault.{CheckFault}
-use Rattle.fst_typing.specs.declared.fault.CheckFault.TheVariants.{Mismatch, Unused, UsedTwice, CapturedLinear, NotFunction, TypeArguments, KindOfArgument, NoSuchMove, Branches, NotPrintable, Undecided, Memory, Arms, Dropped, NotPair, Kinds, TooLarge}
+use Rattle.fst_premises.specs.declared.fault.CheckFault.{CheckFault}
+use Rattle.fst_premises.specs.declared.fault.CheckFault.TheVariants.{Mismatch, Unused, UsedTwice, CapturedLinear, NotFunction, TypeArguments, KindOfArgument, NoSuchMove, Branches, NotPrintable, Undecided, Memory, Arms, Dropped, NotPair, Kinds, TooLarge}
 
 -- the type that is sent, if there is one, has a text where there are n data types
 abbrev pub HasMoveText : ℕ → Move → Type 0

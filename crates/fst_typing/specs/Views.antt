@@ -1,8 +1,8 @@
 -- Faults of written types as refusals.
 use Rattle.fst_written.specs.declared.fault.WrittenFault.{WrittenFault}
 use Rattle.fst_written.specs.declared.fault.WrittenFault.TheVariants as written
-use Rattle.fst_typing.specs.declared.fault.CheckFault.{CheckFault}
-use Rattle.fst_typing.specs.declared.fault.CheckFault.TheVariants.{Kinds, Memory}
+use Rattle.fst_premises.specs.declared.fault.CheckFault.{CheckFault}
+use Rattle.fst_premises.specs.declared.fault.CheckFault.TheVariants.{Kinds, Memory}
 
 -- the refusal of a module with this fault
 abbrev pub written_fault : WrittenFault → CheckFault

@@ -1,16 +1,17 @@
-ghost use Rattle.std.specs.Prelude.{◌≤◌, ℕ, IfErr, IfOk, OnOk, length, map};
+ghost use Rattle.std.specs.Prelude.{◌≡◌, ◌≤◌, ℕ, IfErr, IfOk, OnOk, length, map};
 ghost use Rattle.fst_derivations.specs.Deriv.{deriv_of};
 ghost use Rattle.fst_derivations.specs.Modules.{AreFamiliesPrintable, AreTypesFormed, HasDerivations};
 ghost use Rattle.fst_typing.specs.Checked.{IsAccepted, IsRefusal};
+ghost use Rattle.fst_typing.specs.Views.{written_fault};
 ghost use Rattle.fst_typing.specs.Texts.{HaveTexts};
-ghost use Rattle.fst_typing.specs.Shown.{IsShown};
+ghost use Rattle.fst_premises.specs.Shown.{IsShown};
 
-use crate::fault::CheckFault;
 use crate::globals::check_globals;
 use fst_derivations::Derivation;
+use fst_premises::CheckFault;
 use fst_terms::Module;
 use fst_types::copy;
-use fst_written::{check_kinds, unprintable_field};
+use fst_written::{WrittenFault, check_kinds, unprintable_field};
 use std::alloc::Global;
 
 /// The derivations of an accepted module.
@@ -20,13 +21,25 @@ pub struct Accepted {
     pub derivations: Vec<Derivation>,
 }
 
+/// The refusal with a fault of written types.
+fn refusal_of(fault: WrittenFault) -> CheckFault
+    ensures { result ≡ written_fault fault }
+{
+    match fault {
+        WrittenFault::Kinds(at, fault) => CheckFault::Kinds(at, fault),
+        WrittenFault::Memory => CheckFault::Memory,
+    }
+}
+
 /// That the written types of a module are well formed and its fields can be printed.
 fn check_written(alloc: Global, m: &Module) -> Result<(), CheckFault>
     ensures types { OnOk result (AreTypesFormed m.now) }
     ensures fields { OnOk result (AreFamiliesPrintable m.now.types.items m.now.families.items) }
     ensures refused { IfErr result (λ f. IsShown f ((budget : ℕ) → IsRefusal m.now budget f)) }
 {
-    check_kinds(alloc, m)?;
+    if let Err(fault) = check_kinds(alloc, m) {
+        return Err(refusal_of(fault));
+    }
     match unprintable_field(alloc, m)? {
         None => Ok(()),
         Some(k) => {

@@ -1,41 +1,30 @@
 // The plain derivation of an equation: its parameters have the types in front of its signature's arrows, and the term under
 // them is compared with the result.
 
-ghost use Rattle.std.specs.Prelude.{◌≡◌, ◌∷◌, ◌++◌, [], ◌<◌, ℕ, List, IfErr, IfOk, IfSome, MatchOption, OnOk, length};
+ghost use Rattle.std.specs.Prelude.{◌≡◌, ◌∷◌, ◌++◌, [], ◌<◌, IfErr, IfOk, length};
 ghost use Rattle.fst_types.specs.Tree.{Tree};
 ghost use Rattle.fst_types.specs.declared.kind.Use.TheVariants.{Many};
 ghost use Rattle.fst_terms.specs.CoreTree.{CoreTree};
-ghost use Rattle.fst_terms.specs.InRange.{IsInRange};
 ghost use Rattle.fst_context.specs.Scope.{Scope};
 ghost use Rattle.fst_derivations.specs.Deriv.{deriv_of};
 ghost use Rattle.fst_derivations.specs.Parts.{IsFormed};
-ghost use Rattle.fst_typing.specs.Scenes.{bounds, check_in, IsReady, IsSetUp};
-ghost use Rattle.fst_typing.specs.Shown.{IsShown, IsTooLargeAt};
-ghost use Rattle.fst_typing.specs.Typed.{Check};
-ghost use Rattle.fst_typing.specs.Equations.{AreEntered, HasNoParameter, HasParameter, IsEntered, IsEquationTyped, ShowsEquation, ShowsResult};
+ghost use Rattle.fst_premises.specs.Scenes.{check_in, IsReady, IsSetUp};
+ghost use Rattle.fst_premises.specs.Shown.{IsShown};
+ghost use Rattle.fst_premises.specs.Checks.{Check};
+ghost use Rattle.fst_premises.specs.Parameters.{AreEntered, HasNoParameter, HasParameter, IsEntered};
+ghost use Rattle.fst_typing.specs.Equations.{IsEquationTyped, ShowsEquation, ShowsResult};
 
-use crate::binding::{begin_body, end_body, enter, leave};
-use crate::fault::CheckFault;
+use crate::comparing::compared;
 use crate::infer::infer;
-use crate::parts::compared;
-use crate::scene::{Scene, fits, place_of, type_at};
 use fst_context::Context;
 use fst_derivations::Derivation;
-use fst_terms::{Binder, Form, Term};
-use fst_types::{Ty, TyForm, Use, copy, same};
+use fst_premises::{
+    CheckFault, Parameter, Scene, end_body, enter_parameter, leave, parameter_of, place_of,
+    pop_parameter,
+};
+use fst_terms::Term;
+use fst_types::{Ty, copy};
 use std::alloc::Global;
-
-/// The first parameter of an equation: the use of its arrow, its name, what is under it, the type of the equation, and the
-/// types in front of its arrow and behind it.
-#[derive(Clone, Copy)]
-pub(crate) struct Parameter<'a> {
-    pub uses: Use,
-    pub binder: &'a Binder,
-    pub body: &'a Term,
-    pub wanted: &'a Ty,
-    pub from: &'a Ty,
-    pub to: &'a Ty,
-}
 
 /// An equation from the inside: its parameters, the first outermost, the term under them and the type that it is to have.
 #[derive(Drop)]
@@ -43,50 +32,6 @@ pub(crate) struct Entered<'a> {
     parameters: Vec<Parameter<'a>>,
     body: &'a Term,
     to: &'a Ty,
-}
-
-/// The parameter in front of a term at this type: a function at the place of its variable, of just the arrow's type.
-fn parameter_of<'a>(scene: Scene<'a>, wanted: &'a Ty, term: &'a Term) -> Option<Parameter<'a>>
-    requires { (n : ℕ) × IsInRange (bounds (check_in scene)) n term.now }
-    ensures { MatchOption result (HasNoParameter (check_in scene.entry) term.now wanted.now) (HasParameter (check_in scene.entry) term.now wanted.now) }
-{
-    let Form::Lambda(uses, k, binder, body) = &term.form else {
-        return None;
-    };
-    if term.at != binder.at {
-        return None;
-    }
-    match &wanted.form {
-        TyForm::Arrow(arrow, from, to) if arrow == uses && same(from, type_at(scene, *k)) => {
-            Some(Parameter {
-                uses: *uses,
-                binder,
-                body,
-                wanted,
-                from,
-                to,
-            })
-        }
-        _ => None,
-    }
-}
-
-/// Enters a parameter.
-fn enter_parameter(
-    alloc: Global,
-    scene: Scene<'_>,
-    context: &mut Context,
-    parameter: Parameter<'_>,
-) -> Result<(), CheckFault>
-    requires { IsFormed scene.vars.now parameter.from.now }
-    ensures entered { OnOk result (IsEntered (check_in scene.entry) parameter.entry context.old context.new) }
-    ensures refused { IfErr result (λ f. IsShown f (IsTooLargeAt parameter.entry.binder.now.at parameter.entry.from.now f)) }
-{
-    fits(parameter.binder.at, parameter.from)?;
-    begin_body(context, parameter.uses)?;
-    let from = copy(alloc, parameter.from)?;
-    enter(alloc, scene, context, parameter.binder, from)?;
-    Ok(())
 }
 
 /// Enters the parameters of an equation, from the first one.
@@ -119,15 +64,6 @@ fn enter_parameters<'a>(
         body,
         to,
     })
-}
-
-/// The innermost parameter, which is taken off.
-#[tactic(auto, using(crate::proofs::EquationLaws::last_popped))]
-fn pop_parameter<'a>(parameters: &mut Vec<Parameter<'a>>) -> Option<Parameter<'a>>
-    ensures less { IfSome result (λ p. length parameters.new.items < length parameters.old.items) }
-    ensures items { MatchOption result (parameters.old.items ≡ []) (λ p. parameters.old.items ≡ parameters.new.items ++ p ∷ []) }
-{
-    parameters.pop()
 }
 
 /// The derivation of an equation with a parameter, which is left, from that of what is under it.

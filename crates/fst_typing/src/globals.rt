@@ -6,14 +6,13 @@ ghost use Rattle.fst_terms.specs.declared.global.GlobalEntry.{GlobalEntry as Glo
 ghost use Rattle.fst_derivations.specs.Deriv.{deriv_of};
 ghost use Rattle.fst_derivations.specs.Modules.{ArePlainlyDerived, AreTypesFormed, HasMain, IsMain};
 ghost use Rattle.fst_typing.specs.Checked.{IsEquationDerived, IsFoundOf, IsGlobalAccepted, IsKnownOver, IsNamedMain, ShowsGlobal, ShowsMain};
-ghost use Rattle.fst_typing.specs.Shown.{IsShown};
+ghost use Rattle.fst_premises.specs.Shown.{IsShown};
 ghost use Rattle.fst_written.specs.First.{IsFirst};
 
 use crate::equations::infer_equation;
-use crate::fault::CheckFault;
-use crate::scene::{Scene, type_at};
 use fst_context::Context;
 use fst_derivations::Derivation;
+use fst_premises::{CheckFault, Scene, type_at};
 use fst_terms::{GlobalEntry, Module};
 use fst_types::copy;
 use fst_written::is_printable;

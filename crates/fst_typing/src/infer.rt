@@ -7,24 +7,25 @@ ghost use Rattle.fst_context.specs.Scope.{Scope};
 ghost use Rattle.fst_derivations.specs.Deriv.{deriv_of, type_of};
 ghost use Rattle.fst_derivations.specs.Parts.{IsFormed};
 ghost use Rattle.fst_typing.specs.Typed.{IsTyped};
-ghost use Rattle.fst_typing.specs.Shown.{place, IsRefused};
-ghost use Rattle.fst_typing.specs.Scenes.{check_in, IsReady, IsSetUp};
+ghost use Rattle.fst_premises.specs.Shown.{place};
+ghost use Rattle.fst_typing.specs.Shown.{IsRefused};
+ghost use Rattle.fst_premises.specs.Scenes.{check_in, IsReady, IsSetUp};
 
-use crate::fault::CheckFault;
+use crate::comparing::applied;
 use crate::infer_arms::{infer_case, infer_match};
 use crate::infer_parts::{
     infer_fork, infer_if, infer_make, infer_not, infer_pair, infer_receive, infer_select,
     infer_send, infer_then,
 };
 use crate::infer_under::{infer_function, infer_let, infer_split};
-use crate::leaves::{global_use, new_channel, plain_value, variable};
-use crate::operands::{first_operand, result_of};
-use crate::parts::{compared, function_parts};
-use crate::scene::{Scene, place_of};
+use crate::operands::{first_operand, operated};
 use fst_context::Context;
 use fst_derivations::Derivation;
+use fst_premises::{
+    CheckFault, Scene, function_parts, global_use, new_channel, place_of, plain_value, variable,
+};
 use fst_terms::{Form, Step, Term, pop_step, spine_of};
-use fst_types::{Base, copy};
+use fst_types::Base;
 use std::alloc::Global;
 
 /// The plain derivation of a term, whose linear variables are taken out of the context.
@@ -82,15 +83,12 @@ fn infer_step(
         Step::Operate(_at, op, second) => {
             let left = first_operand(alloc, scene, at, op, first)?;
             let h = infer(alloc, scene, context, second)?;
-            let right = compared(alloc, scene, place_of(second), left.type_of(), h)?;
-            Ok(Derivation::with_two(alloc, result_of(op), left, right)?)
+            operated(alloc, scene, place_of(second), op, left, h)
         }
         Step::Apply(_at, second) => {
             let parts = function_parts(alloc, at, first.type_of())?;
             let h = infer(alloc, scene, context, second)?;
-            let argument = compared(alloc, scene, place_of(second), parts.0, h)?;
-            let to = copy(alloc, parts.1)?;
-            Ok(Derivation::with_two(alloc, to, first, argument)?)
+            applied(alloc, scene, place_of(second), parts, first, h)
         }
     }
 }

@@ -10,22 +10,30 @@ ghost use Rattle.fst_derivations.specs.Deriv.{deriv_of, parts_of, row, type_of};
 ghost use Rattle.fst_derivations.specs.Parts.{AreAt, AreVariables, enter_all};
 ghost use Rattle.fst_derivations.specs.Rules.{rest};
 ghost use Rattle.fst_typing.specs.Typed.{IsTyped, IsTypedUnder};
-ghost use Rattle.fst_typing.specs.Shown.{IsLargeBinder, Shows, ShowsArms, Under, IsRefused, IsShown};
-ghost use Rattle.fst_typing.specs.Scenes.{check_in, binding_of, AreArmsReady, AreArmsTyped, AreFormed, AreNumbered, IsArmReady, IsArmTyped, IsFirstTyped, IsNumbered, IsReady, IsSetUp, ShowsArm};
+ghost use Rattle.fst_premises.specs.Shown.{IsLargeBinder, IsShown};
+ghost use Rattle.fst_typing.specs.Shown.{Shows, ShowsArms, Under, IsRefused};
+ghost use Rattle.fst_premises.specs.Scenes.{check_in, AreFormed, IsReady, IsSetUp};
+ghost use Rattle.fst_typing.specs.Scenes.{binding_of, AreArmsReady, AreArmsTyped, AreNumbered, IsArmReady, IsArmTyped, IsFirstTyped, IsNumbered, ShowsArm};
 
-use crate::binding::{enter_fields, leave_all, same_marks};
-use crate::choices::{Binding, case_constructors, match_labels};
-use crate::fault::CheckFault;
+use crate::comparing::joined;
 use crate::infer::infer;
 use crate::infer_under::infer_under;
-use crate::moving::offered;
-use crate::parts::compared;
-use crate::scene::{Scene, place_of};
 use fst_context::Context;
 use fst_derivations::Derivation;
+use fst_premises::{
+    CheckFault, Scene, case_constructors, enter_fields, leave_all, match_labels, offered, place_of,
+};
 use fst_terms::{Arm, Term};
-use fst_types::{Ty, copy};
+use fst_types::{Maker, Ty, copy};
 use std::alloc::Global;
+
+/// What the variables of arms hold: the fields of constructors, of which each arm has its own by a number; or what is left
+/// of a type after the arm's label.
+#[derive(Clone, Copy)]
+pub(crate) enum Binding<'a> {
+    Fields(&'a [Maker], &'a [u32]),
+    Rest(&'a Ty),
+}
 
 /// The derivation of an arm of a `case`, whose variables hold the fields with these types.
 #[cycle(infer)]
@@ -128,8 +136,7 @@ fn infer_further(
         let arm = &arms[i];
         let d = infer_arm(alloc, scene, context, binding, i, arm)?;
         let at = place_of(&arm.body);
-        same_marks(alloc, context, after, at)?;
-        parts.push(compared(alloc, scene, at, t, d)?)?;
+        parts.push(joined(alloc, scene, context, after, at, t, d)?)?;
         context.exchange(again);
     }
     Ok(parts)

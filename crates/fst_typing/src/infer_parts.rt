@@ -7,21 +7,21 @@ ghost use Rattle.fst_terms.specs.ModelCoreView.{cores_of};
 ghost use Rattle.fst_derivations.specs.Deriv.{deriv_of, parts_of};
 ghost use Rattle.fst_derivations.specs.Parts.{AreAt};
 ghost use Rattle.fst_typing.specs.Typed.{AreFieldsTyped, IsTyped};
-ghost use Rattle.fst_typing.specs.Shown.{ShowsFields, IsRefused, IsShown};
-ghost use Rattle.fst_typing.specs.Scenes.{check_in, AreFieldsReady, IsReady, IsSetUp};
+ghost use Rattle.fst_premises.specs.Shown.{IsShown};
+ghost use Rattle.fst_typing.specs.Shown.{ShowsFields, IsRefused};
+ghost use Rattle.fst_premises.specs.Scenes.{check_in, IsReady, IsSetUp};
+ghost use Rattle.fst_typing.specs.Scenes.{AreFieldsReady};
 
-use crate::binding::same_marks;
-use crate::builders::{base, named, pair_of};
-use crate::fault::CheckFault;
+use crate::comparing::{compared, joined, negated, truth};
 use crate::infer::infer;
-use crate::moving::{received, selected, sent};
-use crate::parts::{compared, may_be_dropped, truth};
-use crate::rows::{branches, sequence};
-use crate::scene::{Scene, fields_of, place_of, type_at};
 use fst_context::Context;
 use fst_derivations::Derivation;
+use fst_premises::{
+    CheckFault, Scene, branches, fields_of, forked_row, may_be_dropped, named, pair_row, place_of,
+    received_row, selected_row, sent_row, sequence, type_at,
+};
 use fst_terms::Term;
-use fst_types::{Base, Name};
+use fst_types::Name;
 use std::alloc::Global;
 
 /// The derivation of a pair.
@@ -41,8 +41,7 @@ pub(crate) fn infer_pair(
 {
     let d = infer(alloc, scene, context, first)?;
     let h = infer(alloc, scene, context, second)?;
-    let t = pair_of(alloc, at, d.type_of(), h.type_of())?;
-    Ok(Derivation::with_two(alloc, t, d, h)?)
+    pair_row(alloc, at, d, h)
 }
 
 /// The derivations of a constructor's arguments, each compared with its field's type.
@@ -114,8 +113,7 @@ pub(crate) fn infer_if(
     let d = infer(alloc, scene, context, yes)?;
     let after = context.exchange(before);
     let h = infer(alloc, scene, context, no)?;
-    same_marks(alloc, context, &after, place_of(no))?;
-    let other = compared(alloc, scene, place_of(no), d.type_of(), h)?;
+    let other = joined(alloc, scene, context, &after, place_of(no), d.type_of(), h)?;
     Ok(branches(alloc, tested, d, other)?)
 }
 
@@ -134,8 +132,7 @@ pub(crate) fn infer_not(
     ensures refused { IfErr result (λ f. IsRefused (check_in scene.entry) (negate at part.now) context.old f) }
 {
     let d = infer(alloc, scene, context, part)?;
-    let c = truth(alloc, scene, place_of(part), d)?;
-    Ok(Derivation::with_one(alloc, base(Base::Bool), c)?)
+    negated(alloc, scene, place_of(part), d)
 }
 
 /// The derivation of a value that is sent.
@@ -155,8 +152,7 @@ pub(crate) fn infer_send(
 {
     let d = infer(alloc, scene, context, value)?;
     let h = infer(alloc, scene, context, channel)?;
-    let t = sent(alloc, at, d.type_of(), h.type_of())?;
-    Ok(Derivation::with_two(alloc, t, d, h)?)
+    sent_row(alloc, at, d, h)
 }
 
 /// The derivation of a value that is received.
@@ -174,8 +170,7 @@ pub(crate) fn infer_receive(
     ensures refused { IfErr result (λ f. IsRefused (check_in scene.entry) (receive at channel.now) context.old f) }
 {
     let d = infer(alloc, scene, context, channel)?;
-    let t = received(alloc, at, d.type_of())?;
-    Ok(Derivation::with_one(alloc, t, d)?)
+    received_row(alloc, at, d)
 }
 
 /// The derivation of a branch that is selected.
@@ -194,8 +189,7 @@ pub(crate) fn infer_select(
     ensures refused { IfErr result (λ f. IsRefused (check_in scene.entry) (select at label.now channel.now) context.old f) }
 {
     let d = infer(alloc, scene, context, channel)?;
-    let t = selected(alloc, at, label, d.type_of())?;
-    Ok(Derivation::with_one(alloc, t, d)?)
+    selected_row(alloc, at, label, d)
 }
 
 /// The derivation of a term in a task of its own.
@@ -213,8 +207,7 @@ pub(crate) fn infer_fork(
     ensures refused { IfErr result (λ f. IsRefused (check_in scene.entry) (fork at part.now) context.old f) }
 {
     let d = infer(alloc, scene, context, part)?;
-    may_be_dropped(alloc, scene.vars, place_of(part), d.type_of())?;
-    Ok(Derivation::with_one(alloc, base(Base::Unit), d)?)
+    forked_row(alloc, scene.vars, place_of(part), d)
 }
 
 /// The derivation of one term after another.

@@ -6,18 +6,17 @@ ghost use Rattle.fst_context.specs.Scope.{Variable};
 ghost use Rattle.fst_derivations.specs.Deriv.{deriv_of};
 ghost use Rattle.fst_derivations.specs.Parts.{AreVariables, IsFormed, enter_all};
 ghost use Rattle.fst_typing.specs.Typed.{IsTyped, IsTypedUnder};
-ghost use Rattle.fst_typing.specs.Shown.{Shows, Under, IsRefused, IsShown};
-ghost use Rattle.fst_typing.specs.Scenes.{check_in, IsReady, IsSetUp};
+ghost use Rattle.fst_premises.specs.Shown.{IsShown};
+ghost use Rattle.fst_typing.specs.Shown.{Shows, Under, IsRefused};
+ghost use Rattle.fst_premises.specs.Scenes.{check_in, IsReady, IsSetUp};
 
-use crate::binding::{begin_body, end_body, enter, leave, leave_two};
-use crate::builders::arrow_of;
-use crate::fault::CheckFault;
 use crate::infer::infer;
-use crate::parts::pair_parts;
-use crate::rows::sequence;
-use crate::scene::{Scene, fits, place_of, type_at};
 use fst_context::Context;
 use fst_derivations::Derivation;
+use fst_premises::{
+    CheckFault, Scene, begin_function, end_body, enter, function_row, leave, leave_two, pair_parts,
+    place_of, sequence, type_at,
+};
 use fst_terms::{Binder, Term};
 use fst_types::{Ty, Use, copy};
 use std::alloc::Global;
@@ -87,14 +86,10 @@ pub(crate) fn infer_function(
     ensures typed { IfOk result (λ d. IsTyped (check_in scene.entry) context.old context.new (lambda at uses k binder.now body.now) (deriv_of d)) }
     ensures refused { IfErr result (λ f. IsRefused (check_in scene.entry) (lambda at uses k binder.now body.now) context.old f) }
 {
-    let from = type_at(scene, k);
-    fits(binder.at, from)?;
-    let copied = copy(alloc, from)?;
-    begin_body(context, uses)?;
-    let d = infer_under(alloc, scene, context, binder, copied, body)?;
+    let from = begin_function(alloc, scene, context, uses, k, binder)?;
+    let d = infer_under(alloc, scene, context, binder, from, body)?;
     end_body(context, uses);
-    let t = arrow_of(alloc, at, uses, from, d.type_of())?;
-    Ok(Derivation::with_one(alloc, t, d)?)
+    function_row(alloc, at, uses, type_at(scene, k), d)
 }
 
 /// The derivation of a term with a name for its first part.
@@ -138,8 +133,6 @@ pub(crate) fn infer_split(
 {
     let d = infer(alloc, scene, context, first)?;
     let parts = pair_parts(alloc, place_of(first), d.type_of())?;
-    let s = copy(alloc, parts.0)?;
-    let t = copy(alloc, parts.1)?;
-    let h = infer_under_two(alloc, scene, context, left, s, right, t, second)?;
+    let h = infer_under_two(alloc, scene, context, left, parts.0, right, parts.1, second)?;
     Ok(sequence(alloc, d, h)?)
 }

@@ -1,71 +1,21 @@
 // The operands of signs.
 
-ghost use Rattle.std.specs.Prelude.{◌≡◌, ◌≤◌, IfOk, IfErr, IsTrue, None, Some, option_map};
+ghost use Rattle.std.specs.Prelude.{◌≡◌, ◌≤◌, IfOk, IfErr, None, Some};
 ghost use Rattle.fst_types.specs.Tree.{plain};
-ghost use Rattle.fst_derivations.specs.Deriv.{deriv_of, type_of, convert};
-ghost use Rattle.fst_derivations.specs.Parts.{IsComparable, IsFormed};
+ghost use Rattle.fst_derivations.specs.Deriv.{deriv_of, type_of, convert, row, two};
+ghost use Rattle.fst_derivations.specs.Parts.{IsFormed};
 ghost use Rattle.fst_typing.specs.Typed.{IsKnown};
-ghost use Rattle.fst_typing.specs.Shown.{IsOperand, ShowsOperand, operand, result_type, IsShown};
-ghost use Rattle.fst_typing.specs.Scenes.{check_in};
+ghost use Rattle.fst_premises.specs.Shown.{IsShown};
+ghost use Rattle.fst_premises.specs.Signs.{operand, result_type};
+ghost use Rattle.fst_typing.specs.Shown.{IsOperand, IsUnequal, ShowsOperand};
+ghost use Rattle.fst_premises.specs.Scenes.{check_in};
 
-use crate::builders::base;
-use crate::fault::CheckFault;
-use crate::parts::compared;
-use crate::scene::Scene;
+use crate::comparing::compared;
 use fst_derivations::Derivation;
+use fst_premises::{CheckFault, Scene, base, fixed_operand, is_comparable, result_of};
 use fst_terms::Op;
-use fst_types::{Base, Ty, TyForm, copy};
+use fst_types::{Base, copy};
 use std::alloc::Global;
-
-/// The type that the operands of a sign have, where it is one.
-fn fixed_operand(op: Op) -> Option<Base>
-    ensures { option_map plain result ≡ operand op }
-{
-    match op {
-        Op::Add => Some(Base::Int),
-        Op::Subtract => Some(Base::Int),
-        Op::Multiply => Some(Base::Int),
-        Op::And => Some(Base::Bool),
-        Op::Or => Some(Base::Bool),
-        Op::Equal => None,
-        Op::Unequal => None,
-        Op::Less => None,
-        Op::AtMost => None,
-        Op::Greater => None,
-        Op::AtLeast => None,
-    }
-}
-
-/// Whether values of the type are compared by their order.
-fn is_comparable(t: &Ty) -> bool
-    ensures yes { IsTrue result → IsComparable t.now }
-    ensures no { IsComparable t.now → IsTrue result }
-{
-    match &t.form {
-        TyForm::Plain(Base::Int) => true,
-        TyForm::Plain(Base::Char) => true,
-        _ => false,
-    }
-}
-
-/// The type of what a sign gives.
-pub(crate) fn result_of(op: Op) -> Ty
-    ensures { result ≡ result_type op }
-{
-    match op {
-        Op::Add => base(Base::Int),
-        Op::Subtract => base(Base::Int),
-        Op::Multiply => base(Base::Int),
-        Op::And => base(Base::Bool),
-        Op::Or => base(Base::Bool),
-        Op::Equal => base(Base::Bool),
-        Op::Unequal => base(Base::Bool),
-        Op::Less => base(Base::Bool),
-        Op::AtMost => base(Base::Bool),
-        Op::Greater => base(Base::Bool),
-        Op::AtLeast => base(Base::Bool),
-    }
-}
 
 /// The derivation of the first operand of a comparison, turned to the type that both operands are to have.
 fn first_compared(
@@ -128,4 +78,24 @@ pub(crate) fn first_operand(
         Some(operand) => first_fixed(alloc, scene, at, operand, d),
         None => first_compared(alloc, scene, at, d),
     }
+}
+
+/// The row of a sign, whose first operand is turned to the type that both are to have.
+pub(crate) fn operated(
+    alloc: Global,
+    scene: Scene<'_>,
+    at: u32,
+    op: Op,
+    d: Derivation,
+    h: Derivation,
+) -> Result<Derivation, CheckFault>
+    requires budget { 1 ≤ scene.budget }
+    requires found { IsFormed scene.vars.now (type_of (deriv_of h)) }
+    requires wanted { IsFormed scene.vars.now (type_of (deriv_of d)) }
+    ensures made { IfOk result (λ w. IsKnown (check_in scene.entry) (type_of (deriv_of h)) (type_of (deriv_of d)) ×
+        (deriv_of w ≡ row (result_type op) (two (deriv_of d) (convert (type_of (deriv_of h)) (type_of (deriv_of d)) (deriv_of h))))) }
+    ensures refused { IfErr result (λ f. IsShown f (IsUnequal (check_in scene.entry) at (type_of (deriv_of h)) (type_of (deriv_of d)) f)) }
+{
+    let right = compared(alloc, scene, at, d.type_of(), h)?;
+    Ok(Derivation::with_two(alloc, result_of(op), d, right)?)
 }

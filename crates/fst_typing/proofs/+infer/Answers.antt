@@ -1,41 +1,48 @@
-use Rattle.std.proofs.Common.{◌≡◌, ◌∙◌, ◌<◌, ◌∷◌, ◌++◌, List, [], Bool, ap, arith, get_or, inl, inr, length, refl, reverse, subst, sym}
+use Rattle.std.proofs.Common.{◌≡◌, ◌∙◌, ◌<◌, ◌∷◌, ◌++◌, List, [], Some, Bool, ap, arith, get_or, inl, inr, length, refl, reverse, subst, sym}
 use Rattle.std.specs.Prelude.{◌⊎◌, IsSome}
 use Rattle.std.proofs.lemmas.List.{length-reverse}
 use Rattle.std.proofs.lemmas.Result.{IfErr-weaker, IfOk-weaker, err_from_is_err_and}
+use Rattle.std.proofs.lemmas.Option.{same_Some, slice_get_within}
 use Rattle.fst_types.specs.Tree as type
 use Rattle.fst_types.specs.Tree.{Tree, plain, arrow}
-use Rattle.fst_types.specs.declared.base.Base.TheVariants.{Bool as Truth}
+use Rattle.fst_types.specs.declared.base.Base.{Base}
+use Rattle.fst_types.specs.declared.base.Base.TheVariants.{Bool as Truth, Unit as Nothing}
 use Rattle.fst_types.specs.declared.family.Maker.{Maker}
 use Rattle.fst_types.specs.declared.kind.Use.TheVariants.{Many}
 use Rattle.fst_types.specs.declared.label.Label.TheVariants.{Send, Receive, Select}
 use Rattle.fst_lts.specs.Step.{step}
 use Rattle.fst_terms.specs.Around.{second, wrap}
-use Rattle.fst_terms.specs.CoreTree.{core_height, local, global, int, bool, char, unit, pair, make, lambda, let_in, split, if_else, case_of, match_with, negate, new, send, receive, select, fork, seq}
+use Rattle.fst_terms.specs.CoreTree.{CoreTree, core_height, local, global, int, bool, char, unit, pair, make, lambda, let_in, split, if_else, case_of, match_with, negate, new, send, receive, select, fork, seq}
 use Rattle.fst_terms.specs.InRange.{terms_length}
 use Rattle.fst_terms.specs.ModelCoreView.{core_arms_of, cores_of}
 use Rattle.fst_terms.specs.declared.core_term.Arm.{Arm}
 use Rattle.fst_terms.specs.declared.binder.Binder.{Binder}
 use Rattle.fst_context.specs.Scope.{Scope, Variable, entered, with_marks}
 use Rattle.fst_arms.specs.Arms.{arm_labels}
-use Rattle.fst_derivations.specs.Deriv.{convert, deriv_of, parts_of, row, two, type_of}
+use Rattle.fst_derivations.specs.Deriv.{convert, deriv_of, one, parts_of, row, two, type_of}
 use Rattle.fst_derivations.specs.Parts.{AreAt, AreVariables, HasUse, IsFormed, IsOffering, enter_all}
 use Rattle.fst_derivations.specs.Rules.{fields, rest}
-use Rattle.fst_typing.specs.Scenes.{binding_of, check_in, AreArmsReady, AreArmsTyped, AreFieldsReady, IsArmReady, IsArmTyped, IsFirstTyped, IsNumbered, IsReady, ShowsArm, AreFormed}
-use Rattle.fst_typing.specs.Shown.{inside, Shows, IsLargeBinder, IsTooLargeAt, ShowsNoCase, ShowsNoMatch, ShowsUnused, IsUnequal, ShowsArms, ShowsDropped, ShowsNoFunction, ShowsNoPair, ShowsReceive, ShowsSelect, ShowsSend, Under, UseDifferent, IsRefused, IsShown}
-use Rattle.fst_typing.specs.Typed.{AreUsed, IsKnown, IsPlain, IsTyped, IsTypedUnder, entered_all, left_all}
+use Rattle.fst_premises.specs.Scenes.{check_in, IsReady, AreFormed}
+use Rattle.fst_premises.proofs.Laws.{closed_formed}
+use Rattle.fst_typing.specs.Scenes.{binding_of, AreArmsReady, AreArmsTyped, AreFieldsReady, IsArmReady, IsArmTyped, IsFirstTyped, IsNumbered, ShowsArm}
+use Rattle.fst_premises.specs.Scopes.{inside, AreUsed, entered_all, left_all}
+use Rattle.fst_premises.specs.Shown.{place, IsLargeBinder, IsTooLargeAt, ShowsNoCase, ShowsNoMatch, ShowsUnused, ShowsDropped, ShowsNoFunction, ShowsNoPair, ShowsReceive, ShowsSelect, ShowsSend, UseDifferent, IsShown}
+use Rattle.fst_premises.specs.Signs.{result_type}
+use Rattle.fst_typing.specs.Shown.{Shows, IsUnequal, ShowsArms, Under, IsRefused}
+use Rattle.fst_typing.specs.Typed.{IsKnown, IsPlain, IsTyped, IsTypedUnder}
 use Rattle.fst_typing.proofs.ArmRows.{RowSoFar, all_seen, arm_ready, arm_takes, first_is, first_refused, further_different, further_refused, further_unequal, row_begin, row_end, row_step, row_takes}
 use Rattle.fst_typing.proofs.ArmsReady.{case_first_ready, case_ready, enter_length, match_first_ready, match_ready}
 use Rattle.fst_typing.proofs.Bound.{function_typed, if_typed, let_typed, split_typed}
 use Rattle.fst_typing.proofs.Cases.{case_numbered, case_typed, fields_arm, match_typed, one_binder, some_arms}
-use Rattle.fst_typing.proofs.Fields.{FieldsSoFar, fields_end, fields_refused, fields_start, fields_step, fields_unequal, next_ready, same_some}
-use Rattle.fst_typing.proofs.Formed.{arrow_formed, closed_formed, pair_formed}
+use Rattle.fst_typing.proofs.Fields.{FieldsSoFar, fields_end, fields_refused, fields_start, fields_step, fields_unequal, next_ready}
+use Rattle.fst_typing.proofs.Formed.{arrow_formed, pair_formed}
 use Rattle.fst_typing.proofs.Forms.{apply_typed, fork_typed, negate_typed, operate_typed, pair_typed, receive_typed, select_typed, send_typed, seq_typed}
 use Rattle.fst_typing.proofs.Heights.{core_arms_height_at, cores_height_at}
-use Rattle.fst_typing.proofs.Constants.{bool_typed, char_typed, int_typed, unit_typed}
-use Rattle.fst_typing.proofs.Makers.{below_length, field_types, formed_fields, make_ready, make_typed, terms_of_length}
+use Rattle.fst_typing.proofs.Constants.{alone_typed, bool_typed, char_typed, int_typed, unit_typed}
+use Rattle.fst_typing.proofs.Makers.{field_types, formed_fields, make_ready, make_typed, terms_of_length}
 use Rattle.fst_typing.proofs.Marks.{marks_back, marks_decide, marks_length, marks_on, with_marks_same}
 use Rattle.fst_typing.proofs.Ready.{fork_ready, if_ready, inner_ready, lambda_ready, later_ready, let_first_ready, let_ready, one_ready, pair_ready, receive_ready, second_ready, select_ready, send_ready, seq_ready, split_first_ready, split_ready}
-use Rattle.fst_typing.proofs.Refusals.{behind, behind_under, shows_argument, shows_around, shows_no_function, shows_operand, shows_second_operand, shows_unequal_argument, shows_unequal_operand}
+use Rattle.fst_typing.proofs.Refusals.{behind, behind_under, joined_refused, shows_argument, shows_around, shows_no_function, shows_operand, shows_second_operand, shows_unequal_argument, shows_unequal_operand}
 use Rattle.fst_typing.proofs.Under.{bodies_entered, bodies_left, entered_variables, inside_variables}
 use Rattle.fst_typing.proofs.Wholes.{refused_as, typed_as, whole_none, whole_one, whole_three, whole_two}
 use Rattle.fst_typing.proofs.+infer.Goals as goal
@@ -88,21 +95,29 @@ pub infer::infer_step-infer-requires-in-Apply : goal.infer::infer_step-infer-req
 infer::infer_step-infer-requires-in-Apply t c =
     (omega (arith, ap (λ x. core_height (second x)) c.in-Apply.is, c.decreases), (c.requires.set_up, subst (λ x. IsReady (check_in c.args.scene) (second x) c.args.context.now.variables) c.in-Apply.is c.requires.ready))
 
-pub infer::infer_step-compared-requires-clause-found : goal.infer::infer_step-compared-requires-clause-found
-infer::infer_step-compared-requires-clause-found t c =
+pub infer::infer_step-operated-requires-clause-found : goal.infer::infer_step-operated-requires-clause-found
+infer::infer_step-operated-requires-clause-found t c =
     c.in_ok-h-in-Operate.ensures.typed.fact.formed
 
-pub infer::infer_step-compared-requires-clause-wanted : goal.infer::infer_step-compared-requires-clause-wanted
-infer::infer_step-compared-requires-clause-wanted t c =
-    subst (IsFormed c.args.scene.vars.now) (sym c.type_of.ensures) c.in_ok-left-in-Operate.ensures.known.conversion.right
+pub infer::infer_step-operated-requires-clause-budget : goal.infer::infer_step-operated-requires-clause-budget
+infer::infer_step-operated-requires-clause-budget t c =
+    c.requires.set_up.budget
 
-pub infer::infer_step-compared-requires-in-Apply-clause-found : goal.infer::infer_step-compared-requires-in-Apply-clause-found
-infer::infer_step-compared-requires-in-Apply-clause-found t c =
+pub infer::infer_step-operated-requires-clause-wanted : goal.infer::infer_step-operated-requires-clause-wanted
+infer::infer_step-operated-requires-clause-wanted t c =
+    c.in_ok-left-in-Operate.ensures.known.conversion.right
+
+pub infer::infer_step-applied-requires-clause-found : goal.infer::infer_step-applied-requires-clause-found
+infer::infer_step-applied-requires-clause-found t c =
     c.in_ok-h-in-Apply.ensures.typed.fact.formed
 
-pub infer::infer_step-compared-requires-in-Apply-clause-wanted : goal.infer::infer_step-compared-requires-in-Apply-clause-wanted
-infer::infer_step-compared-requires-in-Apply-clause-wanted t c =
-    (arrow_formed c.args.scene.vars.now c.in_ok-parts-in-Apply.ensures.ok.0 c.in_ok-parts-in-Apply.parts.0.now c.in_ok-parts-in-Apply.parts.1.now (subst (IsFormed c.args.scene.vars.now) (sym c.type_of-in-Apply.ensures ∙ c.in_ok-parts-in-Apply.ensures.ok.1) c.requires.formed)).0
+pub infer::infer_step-applied-requires-clause-budget : goal.infer::infer_step-applied-requires-clause-budget
+infer::infer_step-applied-requires-clause-budget t c =
+    c.requires.set_up.budget
+
+pub infer::infer_step-applied-requires-clause-wanted : goal.infer::infer_step-applied-requires-clause-wanted
+infer::infer_step-applied-requires-clause-wanted t c =
+    (arrow_formed c.args.scene.vars.now c.in_ok-parts-in-Apply.ensures.ok.0 c.in_ok-parts-in-Apply.parts.0 c.in_ok-parts-in-Apply.parts.1 (subst (IsFormed c.args.scene.vars.now) (sym c.type_of.ensures ∙ c.in_ok-parts-in-Apply.ensures.ok.1) c.requires.formed)).0
 
 pub infer::infer_step-returns-in_err-left-in-Operate-clause-refused : goal.infer::infer_step-returns-in_err-left-in-Operate-clause-refused
 infer::infer_step-returns-in_err-left-in-Operate-clause-refused t c =
@@ -114,38 +129,41 @@ infer::infer_step-returns-in_err-h-in-Operate-clause-refused t c =
     let p = err_from_is_err_and c.from_residual-in_err-h-in-Operate.result c.from_residual-in_err-h-in-Operate.ensures.1 in
     rw (p.1, p.2) (λ s e y q m. subst (λ x. Shows (check_in c.args.scene) (wrap x e) s c.in_err-h-in-Operate.field-0.0) (sym c.in-Operate.is) (shows_second_operand 0 c.in-Operate.op (type_of (deriv_of c.in_ok-left-in-Operate.left)) y c.in_ok-left-in-Operate.ensures.operand (c.in_err-h-in-Operate.ensures.refused m)))
 
-pub infer::infer_step-returns-in_err-right-in-Operate-clause-refused : goal.infer::infer_step-returns-in_err-right-in-Operate-clause-refused
-infer::infer_step-returns-in_err-right-in-Operate-clause-refused t c =
-    let p = err_from_is_err_and c.from_residual-in_err-right-in-Operate.result c.from_residual-in_err-right-in-Operate.ensures.1 in
-    rw (p.1, p.2) (λ s e y q m. subst (λ x. Shows (check_in c.args.scene) (wrap x e) s c.in_err-right-in-Operate.field-0.0) (sym c.in-Operate.is) (shows_unequal_operand 0 c.in-Operate.op (type_of (deriv_of c.in_ok-left-in-Operate.left)) y c.in_ok-left-in-Operate.ensures.operand c.in_ok-h-in-Operate.ensures.typed c.place_of.ensures (subst (λ o. IsUnequal (check_in c.args.scene) c.place_of.result (type_of (deriv_of c.in_ok-h-in-Operate.h)) o c.in_err-right-in-Operate.field-0.0) c.type_of.ensures (c.in_err-right-in-Operate.ensures.refused m))))
+pub infer::infer_step-returns-in_ok-h-in-Operate-clause-refused : goal.infer::infer_step-returns-in_ok-h-in-Operate-clause-refused
+infer::infer_step-returns-in_ok-h-in-Operate-clause-refused t c =
+    IfErr-weaker c.operated.result (λ f. IsShown f (IsUnequal (check_in c.args.scene) c.place_of.result (type_of (deriv_of c.in_ok-h-in-Operate.h)) (type_of (deriv_of c.in_ok-left-in-Operate.left)) f)) (λ f. (s : Scope) (e : CoreTree) → IsTyped (check_in c.args.scene) s c.args.context.now e (deriv_of c.args.first) → c.args.at ≡ place e → IsRefused (check_in c.args.scene) (wrap c.args.step e) s f)
+    (λ f u s e y q m. subst (λ x. Shows (check_in c.args.scene) (wrap x e) s f) (sym c.in-Operate.is) (shows_unequal_operand 0 c.in-Operate.op (type_of (deriv_of c.in_ok-left-in-Operate.left)) y c.in_ok-left-in-Operate.ensures.operand c.in_ok-h-in-Operate.ensures.typed c.place_of.ensures (u m)))
+    c.operated.ensures.refused
 
-pub infer::infer_step-returns-in_ok-with_two-in-Operate-clause-typed : goal.infer::infer_step-returns-in_ok-with_two-in-Operate-clause-typed
-infer::infer_step-returns-in_ok-with_two-in-Operate-clause-typed t c =
-    λ s e y. subst (λ x. IsTyped (check_in c.args.scene) s c.infer.new.context (wrap x e) (deriv_of c.in_ok-with_two-in-Operate.field-0)) (sym c.in-Operate.is)
-    (operate_typed (check_in c.args.scene) _ _ _ _ _ _ _ _ _ _ (type_of (deriv_of c.in_ok-left-in-Operate.left)) _ _ _ y c.in_ok-h-in-Operate.ensures.typed c.in_ok-left-in-Operate.ensures.turned c.in_ok-left-in-Operate.ensures.known c.in_ok-left-in-Operate.ensures.operand
-    (c.in_ok-right-in-Operate.ensures.turned ∙ ap (λ o. convert (type_of (deriv_of c.in_ok-h-in-Operate.h)) o (deriv_of c.in_ok-h-in-Operate.h)) c.type_of.ensures)
-    (subst (IsKnown (check_in c.args.scene) (type_of (deriv_of c.in_ok-h-in-Operate.h))) c.type_of.ensures c.in_ok-right-in-Operate.ensures.known) c.result_of.ensures c.in_ok-with_two-in-Operate.ensures)
+pub infer::infer_step-returns-in_ok-h-in-Operate-clause-typed : goal.infer::infer_step-returns-in_ok-h-in-Operate-clause-typed
+infer::infer_step-returns-in_ok-h-in-Operate-clause-typed t c =
+    IfOk-weaker c.operated.result (λ w. IsKnown (check_in c.args.scene) (type_of (deriv_of c.in_ok-h-in-Operate.h)) (type_of (deriv_of c.in_ok-left-in-Operate.left)) × (deriv_of w ≡ row (result_type c.in-Operate.op) (two (deriv_of c.in_ok-left-in-Operate.left) (convert (type_of (deriv_of c.in_ok-h-in-Operate.h)) (type_of (deriv_of c.in_ok-left-in-Operate.left)) (deriv_of c.in_ok-h-in-Operate.h))))) (λ w. (s : Scope) (e : CoreTree) → IsTyped (check_in c.args.scene) s c.args.context.now e (deriv_of c.args.first) → IsTyped (check_in c.args.scene) s c.infer.new.context (wrap c.args.step e) (deriv_of w))
+    (λ w k s e y. subst (λ x. IsTyped (check_in c.args.scene) s c.infer.new.context (wrap x e) (deriv_of w)) (sym c.in-Operate.is)
+    (operate_typed (check_in c.args.scene) _ _ _ _ _ _ _ _ _ _ (type_of (deriv_of c.in_ok-left-in-Operate.left)) _ _ _ y c.in_ok-h-in-Operate.ensures.typed c.in_ok-left-in-Operate.ensures.turned c.in_ok-left-in-Operate.ensures.known c.in_ok-left-in-Operate.ensures.operand refl k.0 refl k.1))
+    c.operated.ensures.made
 
 pub infer::infer_step-returns-in_err-parts-in-Apply-clause-refused : goal.infer::infer_step-returns-in_err-parts-in-Apply-clause-refused
 infer::infer_step-returns-in_err-parts-in-Apply-clause-refused t c =
     let p = err_from_is_err_and c.from_residual-in_err-parts-in-Apply.result c.from_residual-in_err-parts-in-Apply.ensures.1 in
-    rw (p.1, p.2) (λ s e y q m. subst (λ x. Shows (check_in c.args.scene) (wrap x e) s c.in_err-parts-in-Apply.field-0.0) (sym c.in-Apply.is) (shows_no_function 0 y q (subst (λ o. ShowsNoFunction c.args.at o c.in_err-parts-in-Apply.field-0.0) c.type_of-in-Apply.ensures (c.in_err-parts-in-Apply.ensures.err m))))
+    rw (p.1, p.2) (λ s e y q m. subst (λ x. Shows (check_in c.args.scene) (wrap x e) s c.in_err-parts-in-Apply.field-0.0) (sym c.in-Apply.is) (shows_no_function 0 y q (subst (λ o. ShowsNoFunction c.args.at o c.in_err-parts-in-Apply.field-0.0) c.type_of.ensures (c.in_err-parts-in-Apply.ensures.err m))))
 
 pub infer::infer_step-returns-in_err-h-in-Apply-clause-refused : goal.infer::infer_step-returns-in_err-h-in-Apply-clause-refused
 infer::infer_step-returns-in_err-h-in-Apply-clause-refused t c =
     let p = err_from_is_err_and c.from_residual-in_err-h-in-Apply.result c.from_residual-in_err-h-in-Apply.ensures.1 in
-    rw (p.1, p.2) (λ s e y q m. subst (λ x. Shows (check_in c.args.scene) (wrap x e) s c.in_err-h-in-Apply.field-0.0) (sym c.in-Apply.is) (shows_argument 0 c.in_ok-parts-in-Apply.ensures.ok.0 c.in_ok-parts-in-Apply.parts.0.now c.in_ok-parts-in-Apply.parts.1.now y (sym c.type_of-in-Apply.ensures ∙ c.in_ok-parts-in-Apply.ensures.ok.1) (c.in_err-h-in-Apply.ensures.refused m)))
+    rw (p.1, p.2) (λ s e y q m. subst (λ x. Shows (check_in c.args.scene) (wrap x e) s c.in_err-h-in-Apply.field-0.0) (sym c.in-Apply.is) (shows_argument 0 c.in_ok-parts-in-Apply.ensures.ok.0 c.in_ok-parts-in-Apply.parts.0 c.in_ok-parts-in-Apply.parts.1 y (sym c.type_of.ensures ∙ c.in_ok-parts-in-Apply.ensures.ok.1) (c.in_err-h-in-Apply.ensures.refused m)))
 
-pub infer::infer_step-returns-in_err-argument-in-Apply-clause-refused : goal.infer::infer_step-returns-in_err-argument-in-Apply-clause-refused
-infer::infer_step-returns-in_err-argument-in-Apply-clause-refused t c =
-    let p = err_from_is_err_and c.from_residual-in_err-argument-in-Apply.result c.from_residual-in_err-argument-in-Apply.ensures.1 in
-    rw (p.1, p.2) (λ s e y q m. subst (λ x. Shows (check_in c.args.scene) (wrap x e) s c.in_err-argument-in-Apply.field-0.0) (sym c.in-Apply.is) (shows_unequal_argument 0 c.in_ok-parts-in-Apply.ensures.ok.0 c.in_ok-parts-in-Apply.parts.0.now c.in_ok-parts-in-Apply.parts.1.now y (sym c.type_of-in-Apply.ensures ∙ c.in_ok-parts-in-Apply.ensures.ok.1) c.in_ok-h-in-Apply.ensures.typed c.place_of-in-Apply.ensures (c.in_err-argument-in-Apply.ensures.refused m)))
+pub infer::infer_step-returns-in_ok-h-in-Apply-clause-refused : goal.infer::infer_step-returns-in_ok-h-in-Apply-clause-refused
+infer::infer_step-returns-in_ok-h-in-Apply-clause-refused t c =
+    IfErr-weaker c.applied.result (λ f. IsShown f (IsUnequal (check_in c.args.scene) c.place_of-in-Apply.result (type_of (deriv_of c.in_ok-h-in-Apply.h)) c.in_ok-parts-in-Apply.parts.0 f)) (λ f. (s : Scope) (e : CoreTree) → IsTyped (check_in c.args.scene) s c.args.context.now e (deriv_of c.args.first) → c.args.at ≡ place e → IsRefused (check_in c.args.scene) (wrap c.args.step e) s f)
+    (λ f u s e y q m. subst (λ x. Shows (check_in c.args.scene) (wrap x e) s f) (sym c.in-Apply.is) (shows_unequal_argument 0 c.in_ok-parts-in-Apply.ensures.ok.0 c.in_ok-parts-in-Apply.parts.0 c.in_ok-parts-in-Apply.parts.1 y (sym c.type_of.ensures ∙ c.in_ok-parts-in-Apply.ensures.ok.1) c.in_ok-h-in-Apply.ensures.typed c.place_of-in-Apply.ensures (u m)))
+    c.applied.ensures.refused
 
-pub infer::infer_step-returns-in_ok-with_two-in-Apply-clause-typed : goal.infer::infer_step-returns-in_ok-with_two-in-Apply-clause-typed
-infer::infer_step-returns-in_ok-with_two-in-Apply-clause-typed t c =
-    λ s e y. subst (λ x. IsTyped (check_in c.args.scene) s c.infer-in-Apply.new.context (wrap x e) (deriv_of c.in_ok-with_two-in-Apply.field-0)) (sym c.in-Apply.is)
-    (apply_typed (check_in c.args.scene) _ _ _ _ _ _ _ c.in_ok-parts-in-Apply.ensures.ok.0 c.in_ok-parts-in-Apply.parts.0.now c.in_ok-parts-in-Apply.parts.1.now _ _ _ y c.in_ok-h-in-Apply.ensures.typed (sym c.type_of-in-Apply.ensures ∙ c.in_ok-parts-in-Apply.ensures.ok.1) c.in_ok-argument-in-Apply.ensures.turned c.in_ok-argument-in-Apply.ensures.known
-    (c.in_ok-with_two-in-Apply.ensures ∙ ap (λ o. row o (two (deriv_of c.args.first) (deriv_of c.in_ok-argument-in-Apply.argument))) c.in_ok-to-in-Apply.ensures))
+pub infer::infer_step-returns-in_ok-h-in-Apply-clause-typed : goal.infer::infer_step-returns-in_ok-h-in-Apply-clause-typed
+infer::infer_step-returns-in_ok-h-in-Apply-clause-typed t c =
+    IfOk-weaker c.applied.result (λ w. IsKnown (check_in c.args.scene) (type_of (deriv_of c.in_ok-h-in-Apply.h)) c.in_ok-parts-in-Apply.parts.0 × (deriv_of w ≡ row c.in_ok-parts-in-Apply.parts.1 (two (deriv_of c.args.first) (convert (type_of (deriv_of c.in_ok-h-in-Apply.h)) c.in_ok-parts-in-Apply.parts.0 (deriv_of c.in_ok-h-in-Apply.h))))) (λ w. (s : Scope) (e : CoreTree) → IsTyped (check_in c.args.scene) s c.args.context.now e (deriv_of c.args.first) → IsTyped (check_in c.args.scene) s c.infer-in-Apply.new.context (wrap c.args.step e) (deriv_of w))
+    (λ w k s e y. subst (λ x. IsTyped (check_in c.args.scene) s c.infer-in-Apply.new.context (wrap x e) (deriv_of w)) (sym c.in-Apply.is)
+    (apply_typed (check_in c.args.scene) _ _ _ _ _ _ _ c.in_ok-parts-in-Apply.ensures.ok.0 c.in_ok-parts-in-Apply.parts.0 c.in_ok-parts-in-Apply.parts.1 _ _ _ y c.in_ok-h-in-Apply.ensures.typed (sym c.type_of.ensures ∙ c.in_ok-parts-in-Apply.ensures.ok.1) refl k.0 k.1))
+    c.applied.ensures.made
 
 pub infer::infer_head-infer_function-requires : goal.infer::infer_head-infer_function-requires
 infer::infer_head-infer_function-requires t c =
@@ -215,7 +233,8 @@ infer::infer_head-new_channel-requires t c =
 pub infer::infer_head-returns-in-New-clause-typed : goal.infer::infer_head-returns-in-New-clause-typed
 infer::infer_head-returns-in-New-clause-typed t c =
     let whole = whole_none (λ n. new n c.in-New.k) (λ n. refl) (rw c.in-New.is at c.head.view_is) c.place_of-at.ensures in
-    typed_as (check_in c.args.scene) c.args.context.now c.args.context.now c.new_channel.result (λ d. deriv_of d) whole c.new_channel.ensures.typed
+    typed_as (check_in c.args.scene) c.args.context.now c.args.context.now c.new_channel.result (λ d. deriv_of d) whole
+    (alone_typed (check_in c.args.scene) (new c.place_of-at.result c.in-New.k) c.args.context.now c.args.context.now c.new_channel.result (λ d. deriv_of d) (λ u d p. p) c.new_channel.ensures.typed)
 
 pub infer::infer_head-returns-in-New-clause-refused : goal.infer::infer_head-returns-in-New-clause-refused
 infer::infer_head-returns-in-New-clause-refused t c =
@@ -230,7 +249,8 @@ infer::infer_head-variable-requires t c =
 pub infer::infer_head-returns-in-Local-clause-typed : goal.infer::infer_head-returns-in-Local-clause-typed
 infer::infer_head-returns-in-Local-clause-typed t c =
     let whole = whole_none (λ n. local n c.in-Local.k) (λ n. refl) (rw c.in-Local.is at c.head.view_is) c.place_of-at.ensures in
-    typed_as (check_in c.args.scene) c.args.context.now c.variable.new.context c.variable.result (λ d. deriv_of d) whole c.variable.ensures.typed
+    typed_as (check_in c.args.scene) c.args.context.now c.variable.new.context c.variable.result (λ d. deriv_of d) whole
+    (alone_typed (check_in c.args.scene) (local c.place_of-at.result c.in-Local.k) c.args.context.now c.variable.new.context c.variable.result (λ d. deriv_of d) (λ u d p. p) c.variable.ensures.typed)
 
 pub infer::infer_head-returns-in-Local-clause-refused : goal.infer::infer_head-returns-in-Local-clause-refused
 infer::infer_head-returns-in-Local-clause-refused t c =
@@ -245,7 +265,8 @@ infer::infer_head-global_use-requires-clause-ready t c =
 pub infer::infer_head-returns-in-GlobalUse-clause-typed : goal.infer::infer_head-returns-in-GlobalUse-clause-typed
 infer::infer_head-returns-in-GlobalUse-clause-typed t c =
     let whole = whole_none (λ n. global n c.in-GlobalUse.k c.in-GlobalUse.ks.items) (λ n. refl) (rw c.in-GlobalUse.is at c.head.view_is) c.place_of-at.ensures ∙ ap (λ xs. global c.place_of-at.result c.in-GlobalUse.k xs) (sym c.deref.ensures.value) in
-    typed_as (check_in c.args.scene) c.args.context.now c.args.context.now c.global_use.result (λ d. deriv_of d) whole c.global_use.ensures.typed
+    typed_as (check_in c.args.scene) c.args.context.now c.args.context.now c.global_use.result (λ d. deriv_of d) whole
+    (alone_typed (check_in c.args.scene) (global c.place_of-at.result c.in-GlobalUse.k c.deref.result.now) c.args.context.now c.args.context.now c.global_use.result (λ d. deriv_of d) (λ u d p. p) c.global_use.ensures.typed)
 
 pub infer::infer_head-returns-in-GlobalUse-clause-refused : goal.infer::infer_head-returns-in-GlobalUse-clause-refused
 infer::infer_head-returns-in-GlobalUse-clause-refused t c =
@@ -504,22 +525,26 @@ infer_under::infer_under_two-returns-in_err-leave_two-clause-refused t c =
     let p = err_from_is_err_and c.from_residual-in_err-leave_two.result c.from_residual-in_err-leave_two.ensures.1 in
     rw (p.1, p.2) (λ m. ((record { type = c.args.s; uses = e.0 } ∷ record { type = c.args.t; uses = o.0 } ∷ []), (refl, e.1, (refl, o.1, tt)), refl, inr (behind (subst (λ s. IsTyped (check_in c.args.scene) s c.infer.new.context c.args.body.now (deriv_of c.in_ok-d.d)) both c.in_ok-d.ensures.typed) (c.in_err-leave_two.ensures.refused m))))
 
-pub infer_under::infer_function-type_at-from-requires : goal.infer_under::infer_function-type_at-from-requires
-infer_under::infer_function-type_at-from-requires t c =
+pub infer_under::infer_function-begin_function-requires : goal.infer_under::infer_function-begin_function-requires
+infer_under::infer_function-begin_function-requires t c =
+    c.requires.ready.range.0
+
+pub infer_under::infer_function-type_at-requires : goal.infer_under::infer_function-type_at-requires
+infer_under::infer_function-type_at-requires t c =
     c.requires.ready.range.0
 
 pub infer_under::infer_function-infer_under-requires : goal.infer_under::infer_function-infer_under-requires
 infer_under::infer_function-infer_under-requires t c =
-    let known = same_some c.requires.ready.formed.0.0 c.type_at-from.result.now (sym c.requires.ready.formed.0.1 ∙ c.type_at-from.ensures) in
-    let formed = subst (IsFormed c.args.scene.vars.now) (known ∙ sym c.in_ok-copied.ensures) c.requires.ready.formed.0.2 in
-    let inner = ap (λ (s : Scope). s.variables) c.in_ok-begin_body.ensures ∙ inside_variables c.args.uses c.args.context.now in
-    let ready = lambda_ready (check_in c.args.scene) c.args.at c.args.k c.args.uses c.args.binder.now c.args.body.now c.in_ok-copied.copied c.args.context.now.variables c.requires.ready in (
+    let known = same_Some c.requires.ready.formed.0.0 c.in_ok-from.from (sym c.requires.ready.formed.0.1 ∙ c.in_ok-from.ensures.from) in
+    let formed = subst (IsFormed c.args.scene.vars.now) known c.requires.ready.formed.0.2 in
+    let inner = ap (λ (s : Scope). s.variables) c.in_ok-from.ensures.begun ∙ inside_variables c.args.uses c.args.context.now in
+    let ready = lambda_ready (check_in c.args.scene) c.args.at c.args.k c.args.uses c.args.binder.now c.args.body.now c.in_ok-from.from c.args.context.now.variables c.requires.ready in (
       omega (arith, c.decreases),
       (
         c.requires.set_up,
         (
           formed,
-          subst (λ (g : List Variable). (vs : List Variable) → AreVariables c.args.scene.vars.now (c.in_ok-copied.copied ∷ []) vs →
+          subst (λ (g : List Variable). (vs : List Variable) → AreVariables c.args.scene.vars.now (c.in_ok-from.from ∷ []) vs →
               IsReady (check_in c.args.scene) c.args.body.now (enter_all vs g)) (sym inner) ready,
         ),
       ),
@@ -528,51 +553,44 @@ infer_under::infer_function-infer_under-requires t c =
 pub infer_under::infer_function-end_body-requires : goal.infer_under::infer_function-end_body-requires
 infer_under::infer_function-end_body-requires t c =
     λ m. let y = c.in_ok-d.ensures.typed in
-    let begun : 0 < length c.begin_body.new.context.bodies = subst (λ (s : Scope). 0 < length s.bodies) (sym (c.in_ok-begin_body.ensures ∙ ap (λ u. inside u c.args.context.now) m)) (omega arith) in
-    let inner = subst (λ (s : Scope). 0 < length s.bodies) (sym y.typed.rest) (bodies_entered (c.args.binder.now ∷ []) y.variables c.begin_body.new.context begun) in
+    let begun : 0 < length c.begin_function.new.context.bodies = subst (λ (s : Scope). 0 < length s.bodies) (sym (c.in_ok-from.ensures.begun ∙ ap (λ u. inside u c.args.context.now) m)) (omega arith) in
+    let inner = subst (λ (s : Scope). 0 < length s.bodies) (sym y.typed.rest) (bodies_entered (c.args.binder.now ∷ []) y.variables c.begin_function.new.context begun) in
     subst (λ (s : Scope). 0 < length s.bodies) (sym y.left) (bodies_left (length (c.args.binder.now ∷ [])) y.inner inner)
 
-pub infer_under::infer_function-returns-in_err-fits-clause-refused : goal.infer_under::infer_function-returns-in_err-fits-clause-refused
-infer_under::infer_function-returns-in_err-fits-clause-refused t c =
+pub infer_under::infer_function-returns-in_err-from-clause-refused : goal.infer_under::infer_function-returns-in_err-from-clause-refused
+infer_under::infer_function-returns-in_err-from-clause-refused t c =
     let p = err_from_is_err_and c.from_residual.result c.from_residual.ensures.1 in
-    rw (p.1, p.2) (λ m. (c.type_at-from.result.now, c.type_at-from.ensures, inl c.in_err-fits.ensures))
+    rw (p.1, p.2) (λ m. let shown = c.in_err-from.ensures.refused m in (shown.0, shown.1, inl shown.2))
 
 pub infer_under::infer_function-returns-in_err-d-clause-refused : goal.infer_under::infer_function-returns-in_err-d-clause-refused
 infer_under::infer_function-returns-in_err-d-clause-refused t c =
     let p = err_from_is_err_and c.from_residual-in_err-d.result c.from_residual-in_err-d.ensures.1 in
     let f = c.in_err-d.field-0.0 in
-    let x = c.args.binder.now ∷ [] in
     rw (p.1, p.2) (λ m. (
-      c.type_at-from.result.now,
-      c.type_at-from.ensures,
-      inr (inl
-          (subst (λ s. Under (check_in c.args.scene) x (c.type_at-from.result.now ∷ []) c.args.body.now (λ z. Shows (check_in c.args.scene) c.args.body.now z f) s f) c.in_ok-begin_body.ensures
-          (subst (λ o. Under (check_in c.args.scene) x (o ∷ []) c.args.body.now (λ z. Shows (check_in c.args.scene) c.args.body.now z f) c.begin_body.new.context f) c.in_ok-copied.ensures
-          (c.in_err-d.ensures.refused m)))),
+      c.in_ok-from.from,
+      c.in_ok-from.ensures.from,
+      inr (inl (subst (λ s. Under (check_in c.args.scene) (c.args.binder.now ∷ []) (c.in_ok-from.from ∷ []) c.args.body.now (λ z. Shows (check_in c.args.scene) c.args.body.now z f) s f) c.in_ok-from.ensures.begun (c.in_err-d.ensures.refused m))),
     ))
 
-pub infer_under::infer_function-returns-in_err-t-clause-refused : goal.infer_under::infer_function-returns-in_err-t-clause-refused
-infer_under::infer_function-returns-in_err-t-clause-refused t c =
-    let p = err_from_is_err_and c.from_residual-in_err-t.result c.from_residual-in_err-t.ensures.1 in
+pub infer_under::infer_function-returns-clause-refused : goal.infer_under::infer_function-returns-clause-refused
+infer_under::infer_function-returns-clause-refused t c =
     let x = c.args.binder.now ∷ [] in
-    let from = c.type_at-from.result.now in
-    let found = subst (λ o. IsTypedUnder (check_in c.args.scene) x (o ∷ []) c.begin_body.new.context c.infer_under.new.context c.args.body.now (deriv_of c.in_ok-d.d)) c.in_ok-copied.ensures c.in_ok-d.ensures.typed in
-    let typed = subst (λ s. IsTypedUnder (check_in c.args.scene) x (from ∷ []) s c.infer_under.new.context c.args.body.now (deriv_of c.in_ok-d.d)) c.in_ok-begin_body.ensures found in
-    rw (p.1, p.2) (λ m. (
-      from,
-      c.type_at-from.ensures,
-      inr (inr (behind_under typed
-          (subst (λ o. IsTooLargeAt c.args.at (arrow c.args.uses from o) c.in_err-t.field-0.0) c.type_of.ensures (c.in_err-t.ensures.err m)))),
-    ))
+    let from = c.type_at.result.now in
+    let same = same_Some c.in_ok-from.from from (sym c.in_ok-from.ensures.from ∙ c.type_at.ensures) in
+    let found = subst (λ o. IsTypedUnder (check_in c.args.scene) x (o ∷ []) c.begin_function.new.context c.infer_under.new.context c.args.body.now (deriv_of c.in_ok-d.d)) same c.in_ok-d.ensures.typed in
+    let typed = subst (λ s. IsTypedUnder (check_in c.args.scene) x (from ∷ []) s c.infer_under.new.context c.args.body.now (deriv_of c.in_ok-d.d)) c.in_ok-from.ensures.begun found in
+    IfErr-weaker c.function_row.result (λ f. IsShown f (IsTooLargeAt c.args.at (arrow c.args.uses from (type_of (deriv_of c.in_ok-d.d))) f)) (λ f. IsRefused (check_in c.args.scene) (lambda c.args.at c.args.uses c.args.k c.args.binder.now c.args.body.now) c.args.context.now f)
+    (λ f y m. (from, c.type_at.ensures, inr (inr (behind_under typed (y m))))) c.function_row.ensures.refused
 
 pub infer_under::infer_function-returns-clause-typed : goal.infer_under::infer_function-returns-clause-typed
 infer_under::infer_function-returns-clause-typed t c =
     let x = c.args.binder.now ∷ [] in
-    let from = c.type_at-from.result.now in
-    let found = subst (λ o. IsTypedUnder (check_in c.args.scene) x (o ∷ []) c.begin_body.new.context c.infer_under.new.context c.args.body.now (deriv_of c.in_ok-d.d)) c.in_ok-copied.ensures c.in_ok-d.ensures.typed in
-    let typed = subst (λ s. IsTypedUnder (check_in c.args.scene) x (from ∷ []) s c.infer_under.new.context c.args.body.now (deriv_of c.in_ok-d.d)) c.in_ok-begin_body.ensures found in
-    function_typed (check_in c.args.scene) _ _ _ _ _ _ _ from _ _ _ _ typed c.end_body.ensures c.type_at-from.ensures (c.in_ok-t.ensures.ok ∙ (λ i. arrow c.args.uses from (c.type_of.ensures i)))
-    c.in_ok-with_one.ensures
+    let from = c.type_at.result.now in
+    let same = same_Some c.in_ok-from.from from (sym c.in_ok-from.ensures.from ∙ c.type_at.ensures) in
+    let found = subst (λ o. IsTypedUnder (check_in c.args.scene) x (o ∷ []) c.begin_function.new.context c.infer_under.new.context c.args.body.now (deriv_of c.in_ok-d.d)) same c.in_ok-d.ensures.typed in
+    let typed = subst (λ s. IsTypedUnder (check_in c.args.scene) x (from ∷ []) s c.infer_under.new.context c.args.body.now (deriv_of c.in_ok-d.d)) c.in_ok-from.ensures.begun found in
+    IfOk-weaker c.function_row.result (λ w. deriv_of w ≡ row (arrow c.args.uses from (type_of (deriv_of c.in_ok-d.d))) (one (deriv_of c.in_ok-d.d))) _
+    (λ w e. function_typed (check_in c.args.scene) _ _ _ _ _ _ _ from _ _ _ _ typed c.end_body.ensures c.type_at.ensures refl e) c.function_row.ensures.made
 
 pub infer_under::infer_let-infer-requires : goal.infer_under::infer_let-infer-requires
 infer_under::infer_let-infer-requires t c =
@@ -602,7 +620,7 @@ infer_under::infer_split-infer-requires t c =
 
 pub infer_under::infer_split-infer_under_two-requires : goal.infer_under::infer_split-infer_under_two-requires
 infer_under::infer_split-infer_under_two-requires t c =
-    let both = pair_formed c.args.scene.vars.now c.in_ok-s.s c.in_ok-t.t (subst (IsFormed c.args.scene.vars.now) (sym c.type_of.ensures ∙ c.in_ok-parts.ensures.ok ∙ (λ i. type.pair (sym c.in_ok-s.ensures i) (sym c.in_ok-t.ensures i))) c.in_ok-d.ensures.typed.fact.formed) in
+    let both = pair_formed c.args.scene.vars.now c.in_ok-parts.parts.0 c.in_ok-parts.parts.1 (subst (IsFormed c.args.scene.vars.now) (sym c.type_of.ensures ∙ c.in_ok-parts.ensures.ok) c.in_ok-d.ensures.typed.fact.formed) in
     (omega (arith, c.decreases), (c.requires.set_up, (both.0, (both.1, split_ready (check_in c.args.scene) _ _ _ _ _ _ _ _ _ _ c.requires.ready c.in_ok-d.ensures.typed))))
 
 pub infer_under::infer_split-returns-in_err-d-clause-refused : goal.infer_under::infer_split-returns-in_err-d-clause-refused
@@ -618,11 +636,11 @@ infer_under::infer_split-returns-in_err-parts-clause-refused t c =
 pub infer_under::infer_split-returns-in_err-h-clause-refused : goal.infer_under::infer_split-returns-in_err-h-clause-refused
 infer_under::infer_split-returns-in_err-h-clause-refused t c =
     let p = err_from_is_err_and c.from_residual-in_err-h.result c.from_residual-in_err-h.ensures.1 in
-    rw (p.1, p.2) (λ m. inr (behind c.in_ok-d.ensures.typed (inr (c.in_ok-s.s, c.in_ok-t.t, (sym c.type_of.ensures ∙ c.in_ok-parts.ensures.ok ∙ (λ i. type.pair (sym c.in_ok-s.ensures i) (sym c.in_ok-t.ensures i))), c.in_err-h.ensures.refused m))))
+    rw (p.1, p.2) (λ m. inr (behind c.in_ok-d.ensures.typed (inr (c.in_ok-parts.parts.0, c.in_ok-parts.parts.1, (sym c.type_of.ensures ∙ c.in_ok-parts.ensures.ok), c.in_err-h.ensures.refused m))))
 
 pub infer_under::infer_split-returns-clause-typed : goal.infer_under::infer_split-returns-clause-typed
 infer_under::infer_split-returns-clause-typed t c =
-    split_typed (check_in c.args.scene) _ _ _ _ _ _ _ _ _ _ _ _ _ c.in_ok-d.ensures.typed c.in_ok-h.ensures.typed (sym c.type_of.ensures ∙ c.in_ok-parts.ensures.ok ∙ (λ i. type.pair (sym c.in_ok-s.ensures i) (sym c.in_ok-t.ensures i))) c.in_ok-sequence.ensures
+    split_typed (check_in c.args.scene) _ _ _ _ _ _ _ _ _ _ _ _ _ c.in_ok-d.ensures.typed c.in_ok-h.ensures.typed (sym c.type_of.ensures ∙ c.in_ok-parts.ensures.ok) c.in_ok-sequence.ensures
 
 pub infer_arms::infer_fields_arm-enter_fields-requires-clause-long : goal.infer_arms::infer_fields_arm-enter_fields-requires-clause-long
 infer_arms::infer_fields_arm-enter_fields-requires-clause-long t c =
@@ -704,7 +722,7 @@ infer_arms::infer_rest_arm-index-binder-requires t c =
 
 pub infer_arms::infer_rest_arm-infer_under-requires : goal.infer_arms::infer_rest_arm-infer_under-requires
 infer_arms::infer_rest_arm-infer_under-requires t c =
-    let types = c.requires.ready.binds.2 ∙ ap (λ x. x ∷ []) (same_some c.requires.ready.binds.0 c.in_ok-next.next (sym c.requires.ready.binds.1 ∙ c.in_ok-next.ensures.offered)) in
+    let types = c.requires.ready.binds.2 ∙ ap (λ x. x ∷ []) (same_Some c.requires.ready.binds.0 c.in_ok-next.next (sym c.requires.ready.binds.1 ∙ c.in_ok-next.ensures.offered)) in
     (omega (arith, c.decreases), (c.requires.set_up, ((subst (AreFormed c.args.scene.vars.now) types c.requires.ready.formed).0, λ vs a. c.requires.ready.body vs (subst (λ ts. AreVariables c.args.scene.vars.now ts vs) (sym types) a))))
 
 pub infer_arms::infer_rest_arm-returns-in_err-next-clause-refused : goal.infer_arms::infer_rest_arm-returns-in_err-next-clause-refused
@@ -782,9 +800,9 @@ infer_arms::infer_further-loop-i-preserved t c =
     let typed = subst (λ s. IsArmTyped (check_in c.args.scene) (binding_of c.args.binding) c.index-arms-i.result.label c.index-arms-i.result.binders.items s c.infer_arm.new.context c.index-arms-i.result.body (deriv_of c.in_ok-d.d)) c.loop-i.invariant.1 c.in_ok-d.ensures.typed in
     let takes = arm_takes (check_in c.args.scene) (binding_of c.args.binding) c.index-arms-i.result c.args.context.now c.infer_arm.new.context (deriv_of c.in_ok-d.d) typed in
     let all = row_takes (check_in c.args.scene) (binding_of c.args.binding) c.args.arms.now c.loop-i.i c.args.context.now (with_marks (reverse c.args.after.now) c.args.context.now) (deriv_of c.args.value) c.args.t.now c.loop-i.parts.items c.loop-i.invariant.0 in
-    let same = marks_decide _ _ c.args.context.now c.infer_arm.new.context (with_marks (reverse c.args.after.now) c.args.context.now) takes all c.in_ok-same_marks.ensures.same in
+    let same = marks_decide _ _ c.args.context.now c.infer_arm.new.context (with_marks (reverse c.args.after.now) c.args.context.now) takes all c.in_ok-joined.ensures.same in
     let again = ap (λ (bs : List Bool). reverse bs) (c.in_ok-again.ensures.items ∙ c.deref.ensures.value) ∙ c.loop-i.invariant.2 in (
-      row_step (check_in c.args.scene) (binding_of c.args.binding) c.args.arms.now c.loop-i.i c.index-arms-i.result (deriv_of c.in_ok-d.d) c.in_ok-compared.field-0 c.args.t.now c.args.context.now c.infer_arm.new.context (with_marks (reverse c.args.after.now) c.args.context.now) (deriv_of c.args.value) c.loop-i.parts.items c.push-in-loop-i.new.self.items c.loop-i.invariant.0 c.loop-i-test.true c.index-arms-i.is typed same c.in_ok-compared.ensures.known c.in_ok-compared.ensures.turned c.in_ok-push-3.ensures.items,
+      row_step (check_in c.args.scene) (binding_of c.args.binding) c.args.arms.now c.loop-i.i c.index-arms-i.result (deriv_of c.in_ok-d.d) c.in_ok-joined.field-0 c.args.t.now c.args.context.now c.infer_arm.new.context (with_marks (reverse c.args.after.now) c.args.context.now) (deriv_of c.args.value) c.loop-i.parts.items c.push-in-loop-i.new.self.items c.loop-i.invariant.0 c.loop-i-test.true c.index-arms-i.is typed same c.in_ok-joined.ensures.known c.in_ok-joined.ensures.turned c.in_ok-push-3.ensures.items,
       c.exchange.ensures.after ∙ ap (λ b. with_marks b c.infer_arm.new.context) again ∙ marks_back _ c.args.context.now c.infer_arm.new.context takes,
       c.loop-i.invariant.2,
     )
@@ -803,32 +821,38 @@ infer_arms::infer_further-returns-in_err-d-clause-refused t c =
     let p = err_from_is_err_and c.from_residual-in_err-d.result c.from_residual-in_err-d.ensures.1 in
     rw (p.1, p.2) (λ m. further_refused (check_in c.args.scene) (binding_of c.args.binding) c.args.arms.now c.loop-i.i c.index-arms-i.result c.args.context.now (with_marks (reverse c.args.after.now) c.args.context.now) c.args.t.now (deriv_of c.args.value) c.loop-i.parts.items c.in_err-d.field-0.0 c.loop-i.invariant.0 c.loop-i-test.true c.index-arms-i.is (subst (λ s. ShowsArm (check_in c.args.scene) (binding_of c.args.binding) c.index-arms-i.result.label c.index-arms-i.result.binders.items c.index-arms-i.result.body s c.in_err-d.field-0.0) c.loop-i.invariant.1 (c.in_err-d.ensures.refused m)))
 
-pub infer_arms::infer_further-returns-in_err-same_marks-clause-refused : goal.infer_arms::infer_further-returns-in_err-same_marks-clause-refused
-infer_arms::infer_further-returns-in_err-same_marks-clause-refused t c =
+pub infer_arms::infer_further-returns-in_err-joined-clause-refused : goal.infer_arms::infer_further-returns-in_err-joined-clause-refused
+infer_arms::infer_further-returns-in_err-joined-clause-refused t c =
     let typed = subst (λ s. IsArmTyped (check_in c.args.scene) (binding_of c.args.binding) c.index-arms-i.result.label c.index-arms-i.result.binders.items s c.infer_arm.new.context c.index-arms-i.result.body (deriv_of c.in_ok-d.d)) c.loop-i.invariant.1 c.in_ok-d.ensures.typed in
     let takes = arm_takes (check_in c.args.scene) (binding_of c.args.binding) c.index-arms-i.result c.args.context.now c.infer_arm.new.context (deriv_of c.in_ok-d.d) typed in
     let all = row_takes (check_in c.args.scene) (binding_of c.args.binding) c.args.arms.now c.loop-i.i c.args.context.now (with_marks (reverse c.args.after.now) c.args.context.now) (deriv_of c.args.value) c.args.t.now c.loop-i.parts.items c.loop-i.invariant.0 in
-    let p = err_from_is_err_and c.from_residual-in_err-same_marks.result c.from_residual-in_err-same_marks.ensures.1 in
-    rw (p.1, p.2) (λ m. further_different (check_in c.args.scene) (binding_of c.args.binding) c.args.arms.now c.loop-i.i c.index-arms-i.result c.args.context.now c.infer_arm.new.context (with_marks (reverse c.args.after.now) c.args.context.now) c.args.t.now (deriv_of c.args.value) (deriv_of c.in_ok-d.d) c.loop-i.parts.items c.in_err-same_marks.field-0.0 c.loop-i.invariant.0 c.loop-i-test.true c.index-arms-i.is typed
-    (subst (λ n. UseDifferent n (with_marks (reverse c.args.after.now) c.args.context.now) c.infer_arm.new.context c.in_err-same_marks.field-0.0) c.place_of-at.ensures (subst (λ s. UseDifferent c.place_of-at.result s c.infer_arm.new.context c.in_err-same_marks.field-0.0) (with_marks_same c.args.context.now (with_marks (reverse c.args.after.now) c.args.context.now) c.infer_arm.new.context _ _ all takes) (c.in_err-same_marks.ensures.refused m))))
+    let p = err_from_is_err_and c.from_residual-in_err-joined.result c.from_residual-in_err-joined.ensures.1 in
+    rw (p.1, p.2) (λ m. joined_refused
+    (λ u. further_different (check_in c.args.scene) (binding_of c.args.binding) c.args.arms.now c.loop-i.i c.index-arms-i.result c.args.context.now c.infer_arm.new.context (with_marks (reverse c.args.after.now) c.args.context.now) c.args.t.now (deriv_of c.args.value) (deriv_of c.in_ok-d.d) c.loop-i.parts.items c.in_err-joined.field-0.0 c.loop-i.invariant.0 c.loop-i-test.true c.index-arms-i.is typed
+    (subst (λ n. UseDifferent n (with_marks (reverse c.args.after.now) c.args.context.now) c.infer_arm.new.context c.in_err-joined.field-0.0) c.place_of-at.ensures (subst (λ s. UseDifferent c.place_of-at.result s c.infer_arm.new.context c.in_err-joined.field-0.0) (with_marks_same c.args.context.now (with_marks (reverse c.args.after.now) c.args.context.now) c.infer_arm.new.context _ _ all takes) u)))
+    (λ e u. further_unequal (check_in c.args.scene) (binding_of c.args.binding) c.args.arms.now c.loop-i.i c.index-arms-i.result c.args.context.now c.infer_arm.new.context (with_marks (reverse c.args.after.now) c.args.context.now) c.args.t.now (deriv_of c.args.value) (deriv_of c.in_ok-d.d) c.loop-i.parts.items c.in_err-joined.field-0.0 c.loop-i.invariant.0 c.loop-i-test.true c.index-arms-i.is typed (marks_decide _ _ c.args.context.now c.infer_arm.new.context (with_marks (reverse c.args.after.now) c.args.context.now) takes all e)
+    (subst (λ n. IsUnequal (check_in c.args.scene) n (type_of (deriv_of c.in_ok-d.d)) c.args.t.now c.in_err-joined.field-0.0) c.place_of-at.ensures u))
+    (c.in_err-joined.ensures.refused m))
 
-pub infer_arms::infer_further-returns-in_err-compared-clause-refused : goal.infer_arms::infer_further-returns-in_err-compared-clause-refused
-infer_arms::infer_further-returns-in_err-compared-clause-refused t c =
-    let typed = subst (λ s. IsArmTyped (check_in c.args.scene) (binding_of c.args.binding) c.index-arms-i.result.label c.index-arms-i.result.binders.items s c.infer_arm.new.context c.index-arms-i.result.body (deriv_of c.in_ok-d.d)) c.loop-i.invariant.1 c.in_ok-d.ensures.typed in
-    let takes = arm_takes (check_in c.args.scene) (binding_of c.args.binding) c.index-arms-i.result c.args.context.now c.infer_arm.new.context (deriv_of c.in_ok-d.d) typed in
-    let all = row_takes (check_in c.args.scene) (binding_of c.args.binding) c.args.arms.now c.loop-i.i c.args.context.now (with_marks (reverse c.args.after.now) c.args.context.now) (deriv_of c.args.value) c.args.t.now c.loop-i.parts.items c.loop-i.invariant.0 in
-    let same = marks_decide _ _ c.args.context.now c.infer_arm.new.context (with_marks (reverse c.args.after.now) c.args.context.now) takes all c.in_ok-same_marks.ensures.same in
-    let p = err_from_is_err_and c.from_residual-in_err-compared.result c.from_residual-in_err-compared.ensures.1 in
-    rw (p.1, p.2) (λ m. further_unequal (check_in c.args.scene) (binding_of c.args.binding) c.args.arms.now c.loop-i.i c.index-arms-i.result c.args.context.now c.infer_arm.new.context (with_marks (reverse c.args.after.now) c.args.context.now) c.args.t.now (deriv_of c.args.value) (deriv_of c.in_ok-d.d) c.loop-i.parts.items c.in_err-compared.field-0.0 c.loop-i.invariant.0 c.loop-i-test.true c.index-arms-i.is typed same
-    (subst (λ n. IsUnequal (check_in c.args.scene) n (type_of (deriv_of c.in_ok-d.d)) c.args.t.now c.in_err-compared.field-0.0) c.place_of-at.ensures (c.in_err-compared.ensures.refused m)))
-
-pub infer_arms::infer_further-same_marks-requires : goal.infer_arms::infer_further-same_marks-requires
-infer_arms::infer_further-same_marks-requires t c =
+pub infer_arms::infer_further-joined-requires-clause-long : goal.infer_arms::infer_further-joined-requires-clause-long
+infer_arms::infer_further-joined-requires-clause-long t c =
     let typed = subst (λ s. IsArmTyped (check_in c.args.scene) (binding_of c.args.binding) c.index-arms-i.result.label c.index-arms-i.result.binders.items s c.infer_arm.new.context c.index-arms-i.result.body (deriv_of c.in_ok-d.d)) c.loop-i.invariant.1 c.in_ok-d.ensures.typed in
     let takes = arm_takes (check_in c.args.scene) (binding_of c.args.binding) c.index-arms-i.result c.args.context.now c.infer_arm.new.context (deriv_of c.in_ok-d.d) typed in
     let all = row_takes (check_in c.args.scene) (binding_of c.args.binding) c.args.arms.now c.loop-i.i c.args.context.now (with_marks (reverse c.args.after.now) c.args.context.now) (deriv_of c.args.value) c.args.t.now c.loop-i.parts.items c.loop-i.invariant.0 in
     let long = length-reverse c.args.after.now in
     sym long ∙ marks_length _ c.args.context.now (with_marks (reverse c.args.after.now) c.args.context.now) all ∙ sym (marks_length _ c.args.context.now c.infer_arm.new.context takes)
+
+pub infer_arms::infer_further-joined-requires-clause-wanted : goal.infer_arms::infer_further-joined-requires-clause-wanted
+infer_arms::infer_further-joined-requires-clause-wanted t c =
+    c.loop-i.invariant.0.formed
+
+pub infer_arms::infer_further-joined-requires-clause-found : goal.infer_arms::infer_further-joined-requires-clause-found
+infer_arms::infer_further-joined-requires-clause-found t c =
+    c.in_ok-d.ensures.typed.typed.typed.fact.formed
+
+pub infer_arms::infer_further-joined-requires-clause-budget : goal.infer_arms::infer_further-joined-requires-clause-budget
+infer_arms::infer_further-joined-requires-clause-budget t c =
+    c.requires.set_up.budget
 
 pub infer_arms::infer_further-exchange-requires : goal.infer_arms::infer_further-exchange-requires
 infer_arms::infer_further-exchange-requires t c =
@@ -839,18 +863,6 @@ infer_arms::infer_further-exchange-requires t c =
     let items = ap (λ (bs : List Bool). length bs) (c.in_ok-again.ensures.items ∙ c.deref.ensures.value) in
     let marks = ap (λ (bs : List Bool). length bs) c.loop-i.invariant.2 in
     items ∙ sym long ∙ marks ∙ sym (marks_length _ c.args.context.now c.infer_arm.new.context takes)
-
-pub infer_arms::infer_further-compared-requires-clause-budget : goal.infer_arms::infer_further-compared-requires-clause-budget
-infer_arms::infer_further-compared-requires-clause-budget t c =
-    c.requires.set_up.budget
-
-pub infer_arms::infer_further-compared-requires-clause-found : goal.infer_arms::infer_further-compared-requires-clause-found
-infer_arms::infer_further-compared-requires-clause-found t c =
-    c.in_ok-d.ensures.typed.typed.typed.fact.formed
-
-pub infer_arms::infer_further-compared-requires-clause-wanted : goal.infer_arms::infer_further-compared-requires-clause-wanted
-infer_arms::infer_further-compared-requires-clause-wanted t c =
-    c.loop-i.invariant.0.formed
 
 pub infer_arms::infer_arms-infer_arm-requires : goal.infer_arms::infer_arms-infer_arm-requires
 infer_arms::infer_arms-infer_arm-requires t c =
@@ -1008,14 +1020,15 @@ infer_parts::infer_pair-returns-in_err-h-clause-refused t c =
     let p = err_from_is_err_and c.from_residual-in_err-h.result c.from_residual-in_err-h.ensures.1 in
     rw (p.1, p.2) (λ m. inr (behind c.in_ok-d.ensures.typed (inl (c.in_err-h.ensures.refused m))))
 
-pub infer_parts::infer_pair-returns-in_err-t-clause-refused : goal.infer_parts::infer_pair-returns-in_err-t-clause-refused
-infer_parts::infer_pair-returns-in_err-t-clause-refused t c =
-    let p = err_from_is_err_and c.from_residual-in_err-t.result c.from_residual-in_err-t.ensures.1 in
-    rw (p.1, p.2) (λ m. inr (behind c.in_ok-d.ensures.typed (inr (behind c.in_ok-h.ensures.typed (subst (λ o. IsTooLargeAt c.args.at o c.in_err-t.field-0.0) (λ i. type.pair (c.type_of.ensures i) (c.type_of-2.ensures i)) (c.in_err-t.ensures.err m))))))
+pub infer_parts::infer_pair-returns-clause-refused : goal.infer_parts::infer_pair-returns-clause-refused
+infer_parts::infer_pair-returns-clause-refused t c =
+    IfErr-weaker c.pair_row.result (λ f. IsShown f (IsTooLargeAt c.args.at (type.pair (type_of (deriv_of c.in_ok-d.d)) (type_of (deriv_of c.in_ok-h.h))) f)) (λ f. IsRefused (check_in c.args.scene) (pair c.args.at c.args.first.now c.args.second.now) c.args.context.now f)
+    (λ f y m. inr (behind c.in_ok-d.ensures.typed (inr (behind c.in_ok-h.ensures.typed (y m))))) c.pair_row.ensures.refused
 
 pub infer_parts::infer_pair-returns-clause-typed : goal.infer_parts::infer_pair-returns-clause-typed
 infer_parts::infer_pair-returns-clause-typed t c =
-    pair_typed (check_in c.args.scene) _ _ _ _ _ _ _ _ _ _ c.in_ok-d.ensures.typed c.in_ok-h.ensures.typed (c.in_ok-t.ensures.ok ∙ (λ i. type.pair (c.type_of.ensures i) (c.type_of-2.ensures i))) c.in_ok-with_two.ensures
+    IfOk-weaker c.pair_row.result (λ w. deriv_of w ≡ row (type.pair (type_of (deriv_of c.in_ok-d.d)) (type_of (deriv_of c.in_ok-h.h))) (two (deriv_of c.in_ok-d.d) (deriv_of c.in_ok-h.h))) _
+    (λ w e. pair_typed (check_in c.args.scene) _ _ _ _ _ _ _ _ _ _ c.in_ok-d.ensures.typed c.in_ok-h.ensures.typed refl e) c.pair_row.ensures.made
 
 pub infer_parts::infer_fields-infer-requires : goal.infer_parts::infer_fields-infer-requires
 infer_parts::infer_fields-infer-requires t c =
@@ -1037,7 +1050,7 @@ infer_parts::infer_fields-type_at-wanted-requires t c =
     let long = c.requires.ready.long ∙ terms_of_length c.args.arguments.now in
     let few : c.loop-i.i < length c.args.fields.now = omega (arith, long, c.loop-i-test.true) in
     let formed = (next_ready (check_in c.args.scene) c.args.arguments.now c.args.fields.now c.loop-i.i c.index-arguments-i.result c.args.context.now c.loop-i.context c.loop-i.parts.items c.loop-i.invariant c.loop-i-test.true few).1 in
-    below_length c.args.scene.module.now.types.items (get_or c.args.fields.now c.loop-i.i 0) formed.0 formed.1
+    slice_get_within c.args.scene.module.now.types.items (get_or c.args.fields.now c.loop-i.i 0) formed.0 formed.1
 
 pub infer_parts::infer_fields-compared-requires-clause-budget : goal.infer_parts::infer_fields-compared-requires-clause-budget
 infer_parts::infer_fields-compared-requires-clause-budget t c =
@@ -1052,7 +1065,7 @@ infer_parts::infer_fields-compared-requires-clause-wanted t c =
     let long = c.requires.ready.long ∙ terms_of_length c.args.arguments.now in
     let few : c.loop-i.i < length c.args.fields.now = omega (arith, long, c.loop-i-test.true) in
     let formed = (next_ready (check_in c.args.scene) c.args.arguments.now c.args.fields.now c.loop-i.i c.index-arguments-i.result c.args.context.now c.loop-i.context c.loop-i.parts.items c.loop-i.invariant c.loop-i-test.true few).1 in
-    subst (IsFormed c.args.scene.vars.now) (same_some formed.0 c.type_at-wanted.result.now (sym formed.1 ∙ c.type_at-wanted.ensures)) (closed_formed c.args.scene.vars.now formed.0 formed.2)
+    subst (IsFormed c.args.scene.vars.now) (same_Some formed.0 c.type_at-wanted.result.now (sym formed.1 ∙ c.type_at-wanted.ensures)) (closed_formed c.args.scene.vars.now formed.0 formed.2)
 
 pub infer_parts::infer_fields-loop-i-init : goal.infer_parts::infer_fields-loop-i-init
 infer_parts::infer_fields-loop-i-init t c =
@@ -1137,8 +1150,8 @@ infer_parts::infer_if-exchange-after-requires t c =
     let marks = ap (λ (bs : List Bool). length bs) c.in_ok-before.ensures in
     sym long ∙ marks ∙ sym same
 
-pub infer_parts::infer_if-same_marks-requires : goal.infer_parts::infer_if-same_marks-requires
-infer_parts::infer_if-same_marks-requires t c =
+pub infer_parts::infer_if-joined-requires-clause-long : goal.infer_parts::infer_if-joined-requires-clause-long
+infer_parts::infer_if-joined-requires-clause-long t c =
     let back = c.exchange-after.ensures.after ∙ ap (λ b. with_marks b c.infer-2.new.context) c.in_ok-before.ensures ∙ marks_back (IsPlain (check_in c.args.scene) c.args.yes.now c.infer.new.context.variables (deriv_of c.in_ok-d.d)) c.infer.new.context c.infer-2.new.context c.in_ok-d.ensures.typed in
     let no = subst (λ s. IsTyped (check_in c.args.scene) s c.infer-3.new.context c.args.no.now (deriv_of c.in_ok-h.h)) back c.in_ok-h.ensures.typed in
     let one = marks_length (IsPlain (check_in c.args.scene) c.args.yes.now c.infer.new.context.variables (deriv_of c.in_ok-d.d)) c.infer.new.context c.infer-2.new.context c.in_ok-d.ensures.typed in
@@ -1147,6 +1160,18 @@ infer_parts::infer_if-same_marks-requires t c =
     let given = ap (λ (bs : List Bool). length bs) c.exchange-after.ensures.given in
     let items = ap (λ (bs : List Bool). length bs) c.deref.ensures.value in
     items ∙ sym long ∙ given ∙ one ∙ sym two
+
+pub infer_parts::infer_if-joined-requires-clause-wanted : goal.infer_parts::infer_if-joined-requires-clause-wanted
+infer_parts::infer_if-joined-requires-clause-wanted t c =
+    subst (IsFormed c.args.scene.vars.now) (sym c.type_of.ensures) c.in_ok-d.ensures.typed.fact.formed
+
+pub infer_parts::infer_if-joined-requires-clause-found : goal.infer_parts::infer_if-joined-requires-clause-found
+infer_parts::infer_if-joined-requires-clause-found t c =
+    c.in_ok-h.ensures.typed.fact.formed
+
+pub infer_parts::infer_if-joined-requires-clause-budget : goal.infer_parts::infer_if-joined-requires-clause-budget
+infer_parts::infer_if-joined-requires-clause-budget t c =
+    c.requires.set_up.budget
 
 pub infer_parts::infer_if-returns-in_err-found-clause-refused : goal.infer_parts::infer_if-returns-in_err-found-clause-refused
 infer_parts::infer_if-returns-in_err-found-clause-refused t c =
@@ -1169,39 +1194,29 @@ infer_parts::infer_if-returns-in_err-h-clause-refused t c =
     let p = err_from_is_err_and c.from_residual-in_err-h.result c.from_residual-in_err-h.ensures.1 in
     rw (p.1, p.2) (λ m. inr (behind c.in_ok-found.ensures.typed (inr (c.in_ok-tested.ensures.known, inr (behind c.in_ok-d.ensures.typed (inl (subst (λ s. Shows (check_in c.args.scene) c.args.no.now s c.in_err-h.field-0.0) back (c.in_err-h.ensures.refused m))))))))
 
-pub infer_parts::infer_if-returns-in_err-same_marks-clause-refused : goal.infer_parts::infer_if-returns-in_err-same_marks-clause-refused
-infer_parts::infer_if-returns-in_err-same_marks-clause-refused t c =
-    let back = c.exchange-after.ensures.after ∙ ap (λ b. with_marks b c.infer-2.new.context) c.in_ok-before.ensures ∙ marks_back (IsPlain (check_in c.args.scene) c.args.yes.now c.infer.new.context.variables (deriv_of c.in_ok-d.d)) c.infer.new.context c.infer-2.new.context c.in_ok-d.ensures.typed in
-    let no = subst (λ s. IsTyped (check_in c.args.scene) s c.infer-3.new.context c.args.no.now (deriv_of c.in_ok-h.h)) back c.in_ok-h.ensures.typed in
-    let marked = ap (λ b. with_marks b c.infer-3.new.context) (ap (λ (bs : List Bool). reverse bs) c.deref.ensures.value ∙ c.exchange-after.ensures.given) ∙ with_marks_same c.infer.new.context c.infer-2.new.context c.infer-3.new.context _ _ c.in_ok-d.ensures.typed no in
-    let p = err_from_is_err_and c.from_residual-in_err-same_marks.result c.from_residual-in_err-same_marks.ensures.1 in
-    rw (p.1, p.2) (λ m. inr (behind c.in_ok-found.ensures.typed (inr (c.in_ok-tested.ensures.known, inr (behind c.in_ok-d.ensures.typed (inr (behind no (inl (subst (λ n. UseDifferent n c.infer-2.new.context c.infer-3.new.context c.in_err-same_marks.field-0.0) c.place_of-2.ensures (subst (λ s. UseDifferent c.place_of-2.result s c.infer-3.new.context c.in_err-same_marks.field-0.0) marked (c.in_err-same_marks.ensures.refused m)))))))))))
-
-pub infer_parts::infer_if-compared-requires-clause-budget : goal.infer_parts::infer_if-compared-requires-clause-budget
-infer_parts::infer_if-compared-requires-clause-budget t c =
-    c.requires.set_up.budget
-
-pub infer_parts::infer_if-compared-requires-clause-found : goal.infer_parts::infer_if-compared-requires-clause-found
-infer_parts::infer_if-compared-requires-clause-found t c =
-    c.in_ok-h.ensures.typed.fact.formed
-
-pub infer_parts::infer_if-compared-requires-clause-wanted : goal.infer_parts::infer_if-compared-requires-clause-wanted
-infer_parts::infer_if-compared-requires-clause-wanted t c =
-    subst (IsFormed c.args.scene.vars.now) (sym c.type_of.ensures) c.in_ok-d.ensures.typed.fact.formed
-
 pub infer_parts::infer_if-returns-in_err-other-clause-refused : goal.infer_parts::infer_if-returns-in_err-other-clause-refused
 infer_parts::infer_if-returns-in_err-other-clause-refused t c =
     let back = c.exchange-after.ensures.after ∙ ap (λ b. with_marks b c.infer-2.new.context) c.in_ok-before.ensures ∙ marks_back (IsPlain (check_in c.args.scene) c.args.yes.now c.infer.new.context.variables (deriv_of c.in_ok-d.d)) c.infer.new.context c.infer-2.new.context c.in_ok-d.ensures.typed in
     let no = subst (λ s. IsTyped (check_in c.args.scene) s c.infer-3.new.context c.args.no.now (deriv_of c.in_ok-h.h)) back c.in_ok-h.ensures.typed in
-    let same = marks_decide _ _ c.infer.new.context c.infer-3.new.context c.infer-2.new.context no c.in_ok-d.ensures.typed (c.in_ok-same_marks.ensures.same ∙ (ap (λ (bs : List Bool). reverse bs) c.deref.ensures.value ∙ c.exchange-after.ensures.given)) in
+    let marked = ap (λ b. with_marks b c.infer-3.new.context) (ap (λ (bs : List Bool). reverse bs) c.deref.ensures.value ∙ c.exchange-after.ensures.given) ∙ with_marks_same c.infer.new.context c.infer-2.new.context c.infer-3.new.context _ _ c.in_ok-d.ensures.typed no in
     let p = err_from_is_err_and c.from_residual-in_err-other.result c.from_residual-in_err-other.ensures.1 in
-    rw (p.1, p.2) (λ m. inr (behind c.in_ok-found.ensures.typed (inr (c.in_ok-tested.ensures.known, inr (behind c.in_ok-d.ensures.typed (inr (behind no (inr (same, subst (λ n. IsUnequal (check_in c.args.scene) n (type_of (deriv_of c.in_ok-h.h)) (type_of (deriv_of c.in_ok-d.d)) c.in_err-other.field-0.0) c.place_of-3.ensures (subst (λ o. IsUnequal (check_in c.args.scene) c.place_of-3.result (type_of (deriv_of c.in_ok-h.h)) o c.in_err-other.field-0.0) c.type_of.ensures (c.in_err-other.ensures.refused m)))))))))))
+    rw (p.1, p.2) (λ m. inr (behind c.in_ok-found.ensures.typed (inr (
+      c.in_ok-tested.ensures.known,
+      inr (behind c.in_ok-d.ensures.typed (inr (behind no (joined_refused
+          (λ u. inl (subst (λ n. UseDifferent n c.infer-2.new.context c.infer-3.new.context c.in_err-other.field-0.0) c.place_of-2.ensures (subst (λ s. UseDifferent c.place_of-2.result s c.infer-3.new.context c.in_err-other.field-0.0) marked u)))
+          (λ e u. inr (
+            marks_decide _ _ c.infer.new.context c.infer-3.new.context c.infer-2.new.context no c.in_ok-d.ensures.typed (e ∙ (ap (λ (bs : List Bool). reverse bs) c.deref.ensures.value ∙ c.exchange-after.ensures.given)),
+            subst (λ n. IsUnequal (check_in c.args.scene) n (type_of (deriv_of c.in_ok-h.h)) (type_of (deriv_of c.in_ok-d.d)) c.in_err-other.field-0.0) c.place_of-2.ensures (subst (λ o. IsUnequal (check_in c.args.scene) c.place_of-2.result (type_of (deriv_of c.in_ok-h.h)) o c.in_err-other.field-0.0) c.type_of.ensures u),
+          ))
+          (c.in_err-other.ensures.refused m))))),
+    )))
+    )
 
 pub infer_parts::infer_if-returns-clause-typed : goal.infer_parts::infer_if-returns-clause-typed
 infer_parts::infer_if-returns-clause-typed t c =
     let back = c.exchange-after.ensures.after ∙ ap (λ b. with_marks b c.infer-2.new.context) c.in_ok-before.ensures ∙ marks_back (IsPlain (check_in c.args.scene) c.args.yes.now c.infer.new.context.variables (deriv_of c.in_ok-d.d)) c.infer.new.context c.infer-2.new.context c.in_ok-d.ensures.typed in
     let no = subst (λ s. IsTyped (check_in c.args.scene) s c.infer-3.new.context c.args.no.now (deriv_of c.in_ok-h.h)) back c.in_ok-h.ensures.typed in
-    let same = marks_decide _ _ c.infer.new.context c.infer-3.new.context c.infer-2.new.context no c.in_ok-d.ensures.typed (c.in_ok-same_marks.ensures.same ∙ (ap (λ (bs : List Bool). reverse bs) c.deref.ensures.value ∙ c.exchange-after.ensures.given)) in
+    let same = marks_decide _ _ c.infer.new.context c.infer-3.new.context c.infer-2.new.context no c.in_ok-d.ensures.typed (c.in_ok-other.ensures.same ∙ (ap (λ (bs : List Bool). reverse bs) c.deref.ensures.value ∙ c.exchange-after.ensures.given)) in
     if_typed (check_in c.args.scene) _ _ _ _ _ _ _ _ _ _ (plain Truth) (plain Truth) _ _ _ c.in_ok-found.ensures.typed refl c.in_ok-tested.ensures.turned c.in_ok-tested.ensures.known
     (subst (λ z. IsTyped (check_in c.args.scene) c.infer.new.context z c.args.yes.now (deriv_of c.in_ok-d.d)) (sym same) c.in_ok-d.ensures.typed) no
     (c.in_ok-other.ensures.turned ∙ ap (λ o. convert (type_of (deriv_of c.in_ok-h.h)) o (deriv_of c.in_ok-h.h)) c.type_of.ensures)
@@ -1211,8 +1226,12 @@ pub infer_parts::infer_not-infer-requires : goal.infer_parts::infer_not-infer-re
 infer_parts::infer_not-infer-requires t c =
     (omega (arith, c.decreases), (c.requires.set_up, one_ready (check_in c.args.scene) _ _ _ c.requires.ready))
 
-pub infer_parts::infer_not-truth-requires-clause-found : goal.infer_parts::infer_not-truth-requires-clause-found
-infer_parts::infer_not-truth-requires-clause-found t c =
+pub infer_parts::infer_not-negated-requires-clause-budget : goal.infer_parts::infer_not-negated-requires-clause-budget
+infer_parts::infer_not-negated-requires-clause-budget t c =
+    c.requires.set_up.budget
+
+pub infer_parts::infer_not-negated-requires-clause-found : goal.infer_parts::infer_not-negated-requires-clause-found
+infer_parts::infer_not-negated-requires-clause-found t c =
     c.in_ok-d.ensures.typed.fact.formed
 
 pub infer_parts::infer_not-returns-in_err-d-clause-refused : goal.infer_parts::infer_not-returns-in_err-d-clause-refused
@@ -1220,18 +1239,15 @@ infer_parts::infer_not-returns-in_err-d-clause-refused t c =
     let p = err_from_is_err_and c.from_residual.result c.from_residual.ensures.1 in
     rw (p.1, p.2) (λ m. inl (c.in_err-d.ensures.refused m))
 
-pub infer_parts::infer_not-returns-in_err-c-clause-refused : goal.infer_parts::infer_not-returns-in_err-c-clause-refused
-infer_parts::infer_not-returns-in_err-c-clause-refused t c =
-    let p = err_from_is_err_and c.from_residual-in_err-c.result c.from_residual-in_err-c.ensures.1 in
-    rw (p.1, p.2) (λ m. inr (behind c.in_ok-d.ensures.typed (subst (λ n. IsUnequal (check_in c.args.scene) n (type_of (deriv_of c.in_ok-d.d)) (plain Truth) c.in_err-c.field-0.0) c.place_of.ensures (c.in_err-c.ensures.refused m))))
+pub infer_parts::infer_not-returns-clause-refused : goal.infer_parts::infer_not-returns-clause-refused
+infer_parts::infer_not-returns-clause-refused t c =
+    IfErr-weaker c.negated.result (λ f. IsShown f (IsUnequal (check_in c.args.scene) c.place_of.result (type_of (deriv_of c.in_ok-d.d)) (plain Truth) f)) (λ f. IsRefused (check_in c.args.scene) (negate c.args.at c.args.part.now) c.args.context.now f)
+    (λ f y m. inr (behind c.in_ok-d.ensures.typed (subst (λ n. IsUnequal (check_in c.args.scene) n (type_of (deriv_of c.in_ok-d.d)) (plain Truth) f) c.place_of.ensures (y m)))) c.negated.ensures.refused
 
 pub infer_parts::infer_not-returns-clause-typed : goal.infer_parts::infer_not-returns-clause-typed
 infer_parts::infer_not-returns-clause-typed t c =
-    negate_typed (check_in c.args.scene) _ _ _ _ _ _ (plain Truth) _ _ c.in_ok-d.ensures.typed refl c.in_ok-c.ensures.turned c.in_ok-c.ensures.known c.base.ensures c.in_ok-with_one.ensures
-
-pub infer_parts::infer_not-truth-requires-clause-budget : goal.infer_parts::infer_not-truth-requires-clause-budget
-infer_parts::infer_not-truth-requires-clause-budget t c =
-    c.requires.set_up.budget
+    IfOk-weaker c.negated.result (λ w. IsKnown (check_in c.args.scene) (type_of (deriv_of c.in_ok-d.d)) (plain Truth) × (deriv_of w ≡ row (plain Truth) (one (convert (type_of (deriv_of c.in_ok-d.d)) (plain Truth) (deriv_of c.in_ok-d.d))))) _
+    (λ w s. negate_typed (check_in c.args.scene) _ _ _ _ _ _ (plain Truth) _ _ c.in_ok-d.ensures.typed refl refl s.0 refl s.1) c.negated.ensures.made
 
 pub infer_parts::infer_send-infer-requires : goal.infer_parts::infer_send-infer-requires
 infer_parts::infer_send-infer-requires t c =
@@ -1251,15 +1267,15 @@ infer_parts::infer_send-returns-in_err-h-clause-refused t c =
     let p = err_from_is_err_and c.from_residual-in_err-h.result c.from_residual-in_err-h.ensures.1 in
     rw (p.1, p.2) (λ m. inr (behind c.in_ok-d.ensures.typed (inl (c.in_err-h.ensures.refused m))))
 
-pub infer_parts::infer_send-returns-in_err-t-clause-refused : goal.infer_parts::infer_send-returns-in_err-t-clause-refused
-infer_parts::infer_send-returns-in_err-t-clause-refused t c =
-    let p = err_from_is_err_and c.from_residual-in_err-t.result c.from_residual-in_err-t.ensures.1 in
-    rw (p.1, p.2) (λ m. inr (behind c.in_ok-d.ensures.typed (inr (behind c.in_ok-h.ensures.typed (subst (λ o. ShowsSend c.args.at (type_of (deriv_of c.in_ok-d.d)) o c.in_err-t.field-0.0) c.type_of-2.ensures (subst (λ o. ShowsSend c.args.at o c.type_of-2.result.now c.in_err-t.field-0.0) c.type_of.ensures (c.in_err-t.ensures.refused m)))))))
+pub infer_parts::infer_send-returns-clause-refused : goal.infer_parts::infer_send-returns-clause-refused
+infer_parts::infer_send-returns-clause-refused t c =
+    IfErr-weaker c.sent_row.result (λ f. IsShown f (ShowsSend c.args.at (type_of (deriv_of c.in_ok-d.d)) (type_of (deriv_of c.in_ok-h.h)) f)) (λ f. IsRefused (check_in c.args.scene) (send c.args.at c.args.value.now c.args.channel.now) c.args.context.now f)
+    (λ f y m. inr (behind c.in_ok-d.ensures.typed (inr (behind c.in_ok-h.ensures.typed (y m))))) c.sent_row.ensures.refused
 
 pub infer_parts::infer_send-returns-clause-typed : goal.infer_parts::infer_send-returns-clause-typed
 infer_parts::infer_send-returns-clause-typed t c =
-    let s = c.in_ok-t.ensures.sent in
-    send_typed (check_in c.args.scene) _ _ _ _ _ _ s.0 _ _ _ _ c.in_ok-d.ensures.typed c.in_ok-h.ensures.typed (sym c.type_of.ensures ∙ s.1) (ap (λ o. step o (Send s.0)) (sym c.type_of-2.ensures) ∙ s.2) c.in_ok-with_two.ensures
+    IfOk-weaker c.sent_row.result (λ w. (b : Base) × (next : Tree) × (type_of (deriv_of c.in_ok-d.d) ≡ plain b) × (step (type_of (deriv_of c.in_ok-h.h)) (Send b) ≡ Some next) × (deriv_of w ≡ row next (two (deriv_of c.in_ok-d.d) (deriv_of c.in_ok-h.h)))) _
+    (λ w s. send_typed (check_in c.args.scene) _ _ _ _ _ _ s.0 _ _ _ _ c.in_ok-d.ensures.typed c.in_ok-h.ensures.typed s.2 s.3 s.4) c.sent_row.ensures.made
 
 pub infer_parts::infer_receive-infer-requires : goal.infer_parts::infer_receive-infer-requires
 infer_parts::infer_receive-infer-requires t c =
@@ -1270,15 +1286,15 @@ infer_parts::infer_receive-returns-in_err-d-clause-refused t c =
     let p = err_from_is_err_and c.from_residual.result c.from_residual.ensures.1 in
     rw (p.1, p.2) (λ m. inl (c.in_err-d.ensures.refused m))
 
-pub infer_parts::infer_receive-returns-in_err-t-clause-refused : goal.infer_parts::infer_receive-returns-in_err-t-clause-refused
-infer_parts::infer_receive-returns-in_err-t-clause-refused t c =
-    let p = err_from_is_err_and c.from_residual-in_err-t.result c.from_residual-in_err-t.ensures.1 in
-    rw (p.1, p.2) (λ m. inr (behind c.in_ok-d.ensures.typed (subst (λ o. ShowsReceive c.args.at o c.in_err-t.field-0.0) c.type_of.ensures (c.in_err-t.ensures.refused m))))
+pub infer_parts::infer_receive-returns-clause-refused : goal.infer_parts::infer_receive-returns-clause-refused
+infer_parts::infer_receive-returns-clause-refused t c =
+    IfErr-weaker c.received_row.result (λ f. IsShown f (ShowsReceive c.args.at (type_of (deriv_of c.in_ok-d.d)) f)) (λ f. IsRefused (check_in c.args.scene) (receive c.args.at c.args.channel.now) c.args.context.now f)
+    (λ f y m. inr (behind c.in_ok-d.ensures.typed (y m))) c.received_row.ensures.refused
 
 pub infer_parts::infer_receive-returns-clause-typed : goal.infer_parts::infer_receive-returns-clause-typed
 infer_parts::infer_receive-returns-clause-typed t c =
-    let s = c.in_ok-t.ensures.received in
-    receive_typed (check_in c.args.scene) _ _ _ _ s.0 s.1 _ _ _ c.in_ok-d.ensures.typed (ap (λ o. step o (Receive s.0)) (sym c.type_of.ensures) ∙ s.2) s.3 c.in_ok-with_one.ensures
+    IfOk-weaker c.received_row.result (λ w. (b : Base) × (next : Tree) × (step (type_of (deriv_of c.in_ok-d.d)) (Receive b) ≡ Some next) × (deriv_of w ≡ row (type.pair (plain b) next) (one (deriv_of c.in_ok-d.d)))) _
+    (λ w s. receive_typed (check_in c.args.scene) _ _ _ _ s.0 s.1 _ _ _ c.in_ok-d.ensures.typed s.2 refl s.3) c.received_row.ensures.made
 
 pub infer_parts::infer_select-infer-requires : goal.infer_parts::infer_select-infer-requires
 infer_parts::infer_select-infer-requires t c =
@@ -1289,14 +1305,15 @@ infer_parts::infer_select-returns-in_err-d-clause-refused t c =
     let p = err_from_is_err_and c.from_residual.result c.from_residual.ensures.1 in
     rw (p.1, p.2) (λ m. inl (c.in_err-d.ensures.refused m))
 
-pub infer_parts::infer_select-returns-in_err-t-clause-refused : goal.infer_parts::infer_select-returns-in_err-t-clause-refused
-infer_parts::infer_select-returns-in_err-t-clause-refused t c =
-    let p = err_from_is_err_and c.from_residual-in_err-t.result c.from_residual-in_err-t.ensures.1 in
-    rw (p.1, p.2) (λ m. inr (behind c.in_ok-d.ensures.typed (subst (λ o. ShowsSelect c.args.at c.args.label.now o c.in_err-t.field-0.0) c.type_of.ensures (c.in_err-t.ensures.refused m))))
+pub infer_parts::infer_select-returns-clause-refused : goal.infer_parts::infer_select-returns-clause-refused
+infer_parts::infer_select-returns-clause-refused t c =
+    IfErr-weaker c.selected_row.result (λ f. IsShown f (ShowsSelect c.args.at c.args.label.now (type_of (deriv_of c.in_ok-d.d)) f)) (λ f. IsRefused (check_in c.args.scene) (select c.args.at c.args.label.now c.args.channel.now) c.args.context.now f)
+    (λ f y m. inr (behind c.in_ok-d.ensures.typed (y m))) c.selected_row.ensures.refused
 
 pub infer_parts::infer_select-returns-clause-typed : goal.infer_parts::infer_select-returns-clause-typed
 infer_parts::infer_select-returns-clause-typed t c =
-    select_typed (check_in c.args.scene) _ _ _ _ _ _ _ _ c.in_ok-d.ensures.typed (ap (λ o. step o (Select c.args.label.now)) (sym c.type_of.ensures) ∙ c.in_ok-t.ensures.selected) c.in_ok-with_one.ensures
+    IfOk-weaker c.selected_row.result (λ w. (next : Tree) × (step (type_of (deriv_of c.in_ok-d.d)) (Select c.args.label.now) ≡ Some next) × (deriv_of w ≡ row next (one (deriv_of c.in_ok-d.d)))) _
+    (λ w s. select_typed (check_in c.args.scene) _ _ _ _ _ s.0 _ _ c.in_ok-d.ensures.typed s.1 s.2) c.selected_row.ensures.made
 
 pub infer_parts::infer_fork-infer-requires : goal.infer_parts::infer_fork-infer-requires
 infer_parts::infer_fork-infer-requires t c =
@@ -1307,18 +1324,19 @@ infer_parts::infer_fork-returns-in_err-d-clause-refused t c =
     let p = err_from_is_err_and c.from_residual.result c.from_residual.ensures.1 in
     rw (p.1, p.2) (λ m. inl (c.in_err-d.ensures.refused m))
 
-pub infer_parts::infer_fork-may_be_dropped-requires : goal.infer_parts::infer_fork-may_be_dropped-requires
-infer_parts::infer_fork-may_be_dropped-requires t c =
-    subst (IsFormed c.args.scene.vars.now) (sym c.type_of.ensures) c.in_ok-d.ensures.typed.fact.formed
+pub infer_parts::infer_fork-forked_row-requires : goal.infer_parts::infer_fork-forked_row-requires
+infer_parts::infer_fork-forked_row-requires t c =
+    c.in_ok-d.ensures.typed.fact.formed
 
-pub infer_parts::infer_fork-returns-in_err-may_be_dropped-clause-refused : goal.infer_parts::infer_fork-returns-in_err-may_be_dropped-clause-refused
-infer_parts::infer_fork-returns-in_err-may_be_dropped-clause-refused t c =
-    let p = err_from_is_err_and c.from_residual-in_err-may_be_dropped.result c.from_residual-in_err-may_be_dropped.ensures.1 in
-    rw (p.1, p.2) (λ m. inr (behind c.in_ok-d.ensures.typed ((subst (λ n. ShowsDropped c.args.scene.vars.now n (type_of (deriv_of c.in_ok-d.d)) c.in_err-may_be_dropped.field-0.0) c.place_of.ensures (subst (λ o. ShowsDropped c.args.scene.vars.now c.place_of.result o c.in_err-may_be_dropped.field-0.0) c.type_of.ensures (c.in_err-may_be_dropped.ensures.err m))))))
+pub infer_parts::infer_fork-returns-clause-refused : goal.infer_parts::infer_fork-returns-clause-refused
+infer_parts::infer_fork-returns-clause-refused t c =
+    IfErr-weaker c.forked_row.result (λ f. IsShown f (ShowsDropped c.args.scene.vars.now c.place_of.result (type_of (deriv_of c.in_ok-d.d)) f)) (λ f. IsRefused (check_in c.args.scene) (fork c.args.at c.args.part.now) c.args.context.now f)
+    (λ f y m. inr (behind c.in_ok-d.ensures.typed (subst (λ n. ShowsDropped c.args.scene.vars.now n (type_of (deriv_of c.in_ok-d.d)) f) c.place_of.ensures (y m)))) c.forked_row.ensures.refused
 
 pub infer_parts::infer_fork-returns-clause-typed : goal.infer_parts::infer_fork-returns-clause-typed
 infer_parts::infer_fork-returns-clause-typed t c =
-    fork_typed (check_in c.args.scene) _ _ _ _ _ _ _ c.in_ok-d.ensures.typed (subst (λ o. HasUse c.args.scene.vars.now o Many) c.type_of.ensures c.in_ok-may_be_dropped.ensures.ok) c.base.ensures c.in_ok-with_one.ensures
+    IfOk-weaker c.forked_row.result (λ w. HasUse c.args.scene.vars.now (type_of (deriv_of c.in_ok-d.d)) Many × (deriv_of w ≡ row (plain Nothing) (one (deriv_of c.in_ok-d.d)))) _
+    (λ w s. fork_typed (check_in c.args.scene) _ _ _ _ _ _ _ c.in_ok-d.ensures.typed s.0 refl s.1) c.forked_row.ensures.made
 
 pub infer_parts::infer_then-infer-requires : goal.infer_parts::infer_then-infer-requires
 infer_parts::infer_then-infer-requires t c =

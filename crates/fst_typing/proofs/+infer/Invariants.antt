@@ -4,8 +4,9 @@ use Rattle.fst_terms.specs.CoreTree.{CoreTree, core_arms_height, core_height, co
 use Rattle.fst_terms.specs.ModelCoreView.{core_arms_of, cores_of}
 use Rattle.fst_context.specs.Scope.{with_marks}
 use Rattle.fst_derivations.specs.Deriv.{deriv_of}
-use Rattle.fst_typing.specs.Shown.{place}
-use Rattle.fst_typing.specs.Scenes.{binding_of, check_in}
+use Rattle.fst_premises.specs.Shown.{place}
+use Rattle.fst_premises.specs.Scenes.{check_in}
+use Rattle.fst_typing.specs.Scenes.{binding_of}
 use Rattle.fst_typing.specs.Typed.{IsTyped}
 use Rattle.fst_typing.proofs.Fields.{FieldsSoFar}
 use Rattle.fst_typing.proofs.ArmRows.{RowSoFar}

@@ -1,9 +1,9 @@
 use Rattle.std.proofs.Common.{List, ap, arith, length, refl, subst, sym}
 use Rattle.std.proofs.lemmas.Result.{err_from_is_err_and}
 use Rattle.fst_terms.specs.CoreTree.{core_height}
-use Rattle.fst_typing.specs.Equations.{AreEntered}
-use Rattle.fst_typing.specs.Scenes.{check_in}
-use Rattle.fst_typing.specs.declared.equations.Parameter.{Parameter}
+use Rattle.fst_premises.specs.Parameters.{AreEntered}
+use Rattle.fst_premises.specs.Scenes.{check_in}
+use Rattle.fst_premises.specs.declared.parameters.Parameter.{Parameter}
 use Rattle.fst_typing.proofs.EquationLaws.{all_shown, entered_last, entered_ready, large_shown, sides_formed}
 use Rattle.fst_typing.proofs.equations.enter_parameters.Goals as goal
 

@@ -1,7 +1,7 @@
 use Rattle.fst_terms.specs.CoreTree.{core_height}
 use Rattle.fst_derivations.specs.Parts.{IsFormed}
-use Rattle.fst_typing.specs.Equations.{AreEntered}
-use Rattle.fst_typing.specs.Scenes.{check_in, IsReady}
+use Rattle.fst_premises.specs.Parameters.{AreEntered}
+use Rattle.fst_premises.specs.Scenes.{check_in, IsReady}
 use Rattle.fst_typing.proofs.equations.enter_parameters.Given as goal
 
 abbrev pub decreases-loop-parameter : goal.decreases-loop-parameter

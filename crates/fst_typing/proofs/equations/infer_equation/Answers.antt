@@ -1,9 +1,9 @@
 use Rattle.std.proofs.Common.{List, subst}
 use Rattle.std.proofs.lemmas.Result.{err_from_is_err_and}
 use Rattle.fst_derivations.specs.Deriv.{deriv_of}
-use Rattle.fst_typing.specs.Equations.{AreEntered}
-use Rattle.fst_typing.specs.Scenes.{check_in}
-use Rattle.fst_typing.specs.declared.equations.Parameter.{Parameter}
+use Rattle.fst_premises.specs.Parameters.{AreEntered}
+use Rattle.fst_premises.specs.Scenes.{check_in}
+use Rattle.fst_premises.specs.declared.parameters.Parameter.{Parameter}
 use Rattle.fst_typing.proofs.EquationLaws.{all_shown, innermost, innermost_typed, none_typed, result_shown, some_body, some_entered}
 use Rattle.fst_typing.proofs.equations.infer_equation.Goals as goal
 

@@ -3,8 +3,9 @@ use Rattle.fst_types.specs.Tree.{Tree}
 use Rattle.fst_terms.specs.CoreTree.{CoreTree}
 use Rattle.fst_context.specs.Scope.{Scope}
 use Rattle.fst_derivations.specs.Deriv.{deriv_of}
-use Rattle.fst_typing.specs.Equations.{AreEntered, IsEquationTyped}
-use Rattle.fst_typing.specs.Scenes.{check_in}
+use Rattle.fst_premises.specs.Parameters.{AreEntered}
+use Rattle.fst_typing.specs.Equations.{IsEquationTyped}
+use Rattle.fst_premises.specs.Scenes.{check_in}
 use Rattle.fst_typing.proofs.equations.infer_equation.Given as goal
 
 abbrev pub decreases-loop-parameter : goal.decreases-loop-parameter

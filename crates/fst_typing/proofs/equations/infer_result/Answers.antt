@@ -1,7 +1,8 @@
 use Rattle.std.proofs.Common.{◌≡◌}
 use Rattle.fst_derivations.specs.Deriv.{convert, deriv_of, type_of}
-use Rattle.fst_typing.specs.Equations.{HasNoParameter, IsEquationTyped}
-use Rattle.fst_typing.specs.Scenes.{check_in}
+use Rattle.fst_premises.specs.Parameters.{HasNoParameter}
+use Rattle.fst_typing.specs.Equations.{IsEquationTyped}
+use Rattle.fst_premises.specs.Scenes.{check_in}
 use Rattle.fst_typing.specs.Typed.{IsKnown}
 use Rattle.fst_typing.proofs.EquationLaws.{both_ok, result_typed}
 use Rattle.fst_typing.proofs.equations.infer_result.Goals as goal

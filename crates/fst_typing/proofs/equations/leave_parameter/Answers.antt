@@ -3,7 +3,7 @@ use Rattle.std.proofs.lemmas.Result.{err_from_is_err_and}
 use Rattle.fst_context.specs.Scope.{Scope}
 use Rattle.fst_derivations.specs.Deriv.{deriv_of, one, row}
 use Rattle.fst_typing.specs.Equations.{IsEquationTyped}
-use Rattle.fst_typing.specs.Shown.{after_body}
+use Rattle.fst_premises.specs.Scopes.{after_body}
 use Rattle.fst_typing.proofs.EquationLaws.{left_derived, unused_shown}
 use Rattle.fst_typing.proofs.Under.{bodies_left}
 use Rattle.fst_typing.proofs.equations.leave_parameter.Goals as goal

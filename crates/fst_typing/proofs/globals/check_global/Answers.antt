@@ -1,5 +1,6 @@
 use Rattle.std.proofs.Common.{◌∙◌, List, [], inr, subst, sym}
 use Rattle.std.proofs.lemmas.Result.{IfErr-weaker, IfOk-weaker}
+use Rattle.std.proofs.lemmas.Option.{same_Some}
 use Rattle.fst_types.specs.declared.kind.Kind.{Kind}
 use Rattle.fst_context.specs.Scope.{Scope, empty}
 use Rattle.fst_context.specs.Vars.{no_vars}
@@ -10,9 +11,8 @@ use Rattle.fst_derivations.specs.Rules.{Bare, Compared}
 use Rattle.fst_written.proofs.Laws.{signature_formed}
 use Rattle.fst_typing.specs.Checked.{check_over, IsEquationDerived, IsKnownOver, ShowsGlobal}
 use Rattle.fst_typing.specs.Equations.{IsEquationTyped, ShowsEquation}
-use Rattle.fst_typing.specs.Scenes.{IsReady}
-use Rattle.fst_typing.specs.Shown.{IsShown}
-use Rattle.fst_typing.proofs.Fields.{same_some}
+use Rattle.fst_premises.specs.Scenes.{IsReady}
+use Rattle.fst_premises.specs.Shown.{IsShown}
 use Rattle.fst_typing.proofs.Founds.{equation_closed, equation_ready, set_up, signature_there}
 use Rattle.fst_typing.proofs.globals.check_global.Goals as goal
 
@@ -38,7 +38,7 @@ infer_equation-requires-clause-formed c =
     let g = c.args.global.now in
     let t = c.type_at-signature.result.now in
     let h = signature_formed c.args.m.now c.requires.types c.requires.there.0 g c.requires.there.1 in
-    subst (λ (vars : List Kind). IsFormed vars t) (sym c.deref.ensures.value) (subst (IsFormed g.kinds.items) (same_some h.0 t (sym h.1 ∙ c.type_at-signature.ensures)) h.2)
+    subst (λ (vars : List Kind). IsFormed vars t) (sym c.deref.ensures.value) (subst (IsFormed g.kinds.items) (same_Some h.0 t (sym h.1 ∙ c.type_at-signature.ensures)) h.2)
 
 pub returns-clause-derived : goal.returns-clause-derived
 returns-clause-derived c =

@@ -1,11 +1,11 @@
-use Rattle.std.proofs.Common.{◌≡◌, ◌≤◌, ◌<◌, List, [], None, Option, ap, arith, get_or, length, map, subst, sym}
+use Rattle.std.proofs.Common.{◌≡◌, ◌≤◌, ◌<◌, List, [], None, Option, ap, arith, get_or, length, map, refl, subst, sym}
+use Rattle.std.proofs.lemmas.Option.{slice_get_read}
 use Rattle.fst_terms.specs.declared.global.GlobalEntry.{GlobalEntry}
 use Rattle.fst_derivations.specs.Deriv.{deriv_of}
 use Rattle.fst_derivations.specs.declared.derivation.Derivation.{Derivation}
 use Rattle.fst_typing.specs.Checked.{IsFoundOf}
 use Rattle.fst_typing.specs.declared.globals.Refused.{Refused}
 use Rattle.fst_typing.proofs.Founds.{found_all, found_end, found_first, found_none}
-use Rattle.fst_typing.proofs.Makers.{read_at}
 use Rattle.fst_typing.proofs.globals.check_globals.Goals as goal
 
 pub loop-global-init : goal.loop-global-init
@@ -16,7 +16,7 @@ next_found-requires-clause-there c =
     let gs = c.args.m.now.globals.items in
     let i = c.loop-global.global-index in
     let lt : i < length gs = omega (arith, ap (λ (xs : List GlobalEntry). length xs) c.deref-global-items.ensures.value) in
-    (i, read_at gs i c.global-item.result lt (subst (λ (xs : List GlobalEntry). c.global-item.result ≡ get_or xs i c.global-item.result) c.deref-global-items.ensures.value c.global-item.is))
+    (i, slice_get_read gs (length gs) i c.global-item.result refl lt (subst (λ (xs : List GlobalEntry). c.global-item.result ≡ get_or xs i c.global-item.result) c.deref-global-items.ensures.value c.global-item.is))
 
 pub returns-in-None-clause-main : goal.returns-in-None-clause-main
 returns-in-None-clause-main c =

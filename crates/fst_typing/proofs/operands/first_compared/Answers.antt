@@ -2,7 +2,7 @@ use Rattle.std.proofs.Common.{◌∙◌, ap, subst, sym}
 use Rattle.fst_types.specs.declared.base.Base.TheVariants.{Int}
 use Rattle.fst_derivations.specs.Deriv.{deriv_of, type_of}
 use Rattle.fst_derivations.specs.Parts.{IsComparable, IsFormed}
-use Rattle.fst_typing.specs.Scenes.{check_in}
+use Rattle.fst_premises.specs.Scenes.{check_in}
 use Rattle.fst_typing.specs.Typed.{IsKnown}
 use Rattle.fst_typing.proofs.Comparable.{known_itself}
 use Rattle.fst_typing.proofs.Forms.{base_formed}

@@ -1,6 +1,6 @@
 use Rattle.std.proofs.Common.{subst, sym}
 use Rattle.fst_derivations.specs.Parts.{IsFormed}
-use Rattle.fst_typing.specs.Scenes.{check_in}
+use Rattle.fst_premises.specs.Scenes.{check_in}
 use Rattle.fst_typing.proofs.Forms.{base_formed}
 use Rattle.fst_typing.proofs.operands.first_fixed.Goals as goal
 

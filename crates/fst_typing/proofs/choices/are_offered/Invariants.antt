@@ -1,5 +1,0 @@
-use Rattle.fst_typing.proofs.Offered.{AreOfferedTo}
-use Rattle.fst_typing.proofs.choices.are_offered.Given as goal
-
-abbrev pub invariant-loop-label : goal.invariant-loop-label
-invariant-loop-label l = AreOfferedTo l.label-index l.labels

@@ -1,8 +1,0 @@
-use Rattle.fst_typing.specs.Scenes.{check_in}
-use Rattle.fst_typing.proofs.EquationLaws.{entered_is}
-use Rattle.fst_typing.proofs.equations.enter_parameter.Goals as goal
-
-pub returns-clause-entered : goal.returns-clause-entered
-returns-clause-entered c =
-    let e = c.in_ok-enter.ensures in
-    entered_is (check_in c.args.scene) c.args.parameter c.args.context.now c.begin_body.new.context c.enter.new.context c.in_ok-from.from e.0 e.1 e.2 c.in_ok-begin_body.ensures c.in_ok-from.ensures

@@ -1,5 +1,0 @@
-use Rattle.fst_typing.proofs.Formed.{formed_sorted}
-use Rattle.fst_typing.proofs.parts.use_of.Goals as goal
-
-pub kind_of-requires-clause-sorted : goal.kind_of-requires-clause-sorted
-kind_of-requires-clause-sorted c = formed_sorted c.args.vars.now c.args.t.now c.requires
