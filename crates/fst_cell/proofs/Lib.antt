@@ -11,3 +11,4 @@ pub mod Calling
 pub mod Taking
 pub mod Noticing
 pub mod Joined
+pub mod LabelLaws

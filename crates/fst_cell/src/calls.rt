@@ -1,15 +1,18 @@
-ghost use Rattle.std.specs.Prelude.{◌≡◌, ◌^◌, ◌<◌, ◌↔◌, true, Some, None, IsSome, IsTrue, length};
+ghost use Rattle.std.specs.Prelude.{◌≡◌, ◌^◌, ◌<◌, ◌≤◌, ◌↔◌, ℕ, true, List, Some, None, IfOk, IsSome, IsTrue, length};
+ghost use Rattle.fst_value.specs.declared.event.Event.TheVariants.{Label};
 ghost use Rattle.fst_cell.specs.Answers.{OfferedAs, TakenAs, NoticedAs};
 ghost use Rattle.fst_cell.specs.End.{end_name, residual_of};
-ghost use Rattle.fst_cell.specs.Residuals.{sends, asks};
+ghost use Rattle.fst_cell.specs.Residuals.{sends, receives, asks};
 
 use crate::answers::{Noticed, Offered, TakenEvent};
 use crate::content::{Offer, Standing};
 use crate::end::End;
 use crate::events::{next_sent, room};
-use crate::heads::go_on;
-use fst_types::Ty;
+use crate::heads::{go_on, head};
+use crate::labels::longest_offered;
+use fst_types::{MOST_OPEN, Ty};
 use fst_value::{EndName, Entry, Event};
+use std::alloc::AllocError;
 
 impl End {
     /// The end's name.
@@ -31,6 +34,16 @@ impl End {
         ensures { IsTrue result ↔ IsSome self.now.knows.offer }
     {
         self.next.is_some()
+    }
+
+    /// How many bytes no label is over that this end may receive next.
+    pub fn longest_label(&self) -> Result<usize, AllocError>
+        ensures { IfOk result (λ n. (l : List ℕ) → receives (residual_of self.now.knows) (Label l) ≡ true → length l ≤ n) }
+    {
+        match head(&self.residual, MOST_OPEN)? {
+            Some(first) => Ok(longest_offered(first).unwrap_or(0)),
+            None => Ok(0),
+        }
     }
 
     /// Offers an event, by one try for the turn. The clock is that of the task that sends.

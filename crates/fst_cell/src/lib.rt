@@ -9,6 +9,7 @@ mod end;
 mod entries;
 mod events;
 mod heads;
+mod labels;
 mod law;
 mod making;
 mod rule;

@@ -34,7 +34,7 @@ use Rattle.fst_safety.proofs.Settles.{pause_goes}
 use Rattle.fst_safety.proofs.DualSessions.{dual_session}
 use Rattle.fst_safety.proofs.Equals.{equals_itself, session_formed}
 use Rattle.fst_safety.proofs.Owners.{held_apart}
-use Rattle.fst_safety.proofs.StillLaws.{Still, takes_still, typed_still}
+use Rattle.fst_safety.proofs.StillLaws.{Still, unchanged, takes_still, typed_still}
 use Rattle.fst_safety.proofs.Typed.{some_same, none_some}
 use Rattle.fst_safety.proofs.Unknown.{unknown_frames, unknown_state}
 
@@ -85,11 +85,11 @@ module _ (m : Surroundings) (well : IsWellTyped m) (a : Tree) (c : Config) (p : 
   kept z e = ap (λ o. option_and_then (channel_residual z.side) (put o channel (c.channels z.channel))) e
 
   still : (n : EndName → ℕ) → Still m r r' n
-  still n z u e f = go (same_channel h z.channel) refl
+  still n = unchanged m r r' n (λ z u e f. go z u e (same_channel h z.channel) refl)
     where
-      go : (b : Bool) → same_channel h z.channel ≡ b → r' z ≡ Some u
-      go true g = absurd (none_some (sym (no_residual z.side) ∙ ap r (sym (is_side z g)) ∙ e))
-      go false g = kept z g ∙ e
+      go : (z : EndName) (u : Tree) → r z ≡ Some u → (b : Bool) → same_channel h z.channel ≡ b → r' z ≡ Some u
+      go z u e true g = absurd (none_some (sym (no_residual z.side) ∙ ap r (sym (is_side z g)) ∙ e))
+      go z u e false g = kept z g ∙ e
 
   abbrev A : Tree
   A = (hs.tasks p t ep).0

@@ -1,6 +1,7 @@
--- Typing looks only at the residuals of ends that stand there.
+-- Typing looks only at the residuals of ends that stand there, and at these up to equality.
 use Rattle.std.proofs.Common.{◌≡◌, ℕ, List, [], ◌∷◌, ◌+◌, Bool, Some, arith}
 use Rattle.fst_types.specs.Tree.{Tree}
+use Rattle.fst_kinds.specs.WellFormed.{IsSession}
 use Rattle.fst_terms.specs.CoreTree.{CoreList}
 use Rattle.fst_context.specs.Scope.{Variable}
 use Rattle.fst_derivations.specs.Rules.{Surroundings}
@@ -10,23 +11,29 @@ use Rattle.fst_machine.specs.Values.{Value, Values, no_values, Environment, none
 use Rattle.fst_machine.specs.Machine.{State, Frame, at_function, at_argument, at_first, at_second, at_field, at_let, at_split, at_if, at_case, at_left, at_right, at_not, at_value, at_target, at_receive, at_select, at_match, at_seq}
 use Rattle.fst_runs.specs.Wrong.{held, held_all, held_env, held_frame, held_frames, held_state}
 use Rattle.fst_runs.proofs.Owners.{own_once}
+use Rattle.fst_safety.specs.Running.{Equals}
 use Rattle.fst_safety.specs.Fitting.{Residuals, Fits, FitAll, FitsEnv, IsEnv, FitBefore, Takes, IsTyped}
+use Rattle.fst_safety.proofs.Equals.{equals_itself, equals_through, session_formed}
 
 -- an end stands in itself
 pub own : (y : EndName) → held y (value.end y) ≡ 0 → ⊥
 own y q = let e = own_once y in omega (arith, q, e)
 
 module _ (m : Surroundings) (r r' : Residuals) where
-  -- the ends that are counted keep their residuals
+  -- the ends that are counted have residuals that are equal types
   abbrev pub Still : (EndName → ℕ) → Type 0
-  Still n = (x : EndName) (s : Tree) → r x ≡ Some s → (n x ≡ 0 → ⊥) → r' x ≡ Some s
+  Still n = (x : EndName) (s : Tree) → r x ≡ Some s → IsSession [] s → (n x ≡ 0 → ⊥) → (u : Tree) × (r' x ≡ Some u) × IsSession [] u × Equals u s
 
-  -- where fewer ends are counted, they do too
+  -- so they have where they keep them
+  pub unchanged : (n : EndName → ℕ) → ((x : EndName) (s : Tree) → r x ≡ Some s → (n x ≡ 0 → ⊥) → r' x ≡ Some s) → Still n
+  unchanged n h x s e k z = (s, h x s e z, k, equals_itself s (session_formed k))
+
+  -- where fewer ends are counted, they have too
   pub less : (n o : EndName → ℕ) → Still n → ((x : EndName) → n x ≡ 0 → o x ≡ 0) → Still o
-  less n o h l x s e z = h x s e (λ q. z (l x q))
+  less n o h l x s e k z = h x s e k (λ q. z (l x q))
 
   mutual
-    -- a value fits its type where the ends in it keep their residuals
+    -- a value fits its type where the ends in it have equal residuals
     pub fits_still : (v : Value) (t : Tree) → Fits m r v t → Still (λ x. held x v) → Fits m r' v t
     fits_still (value.int n) t f h = f
     fits_still (value.bool b) t f h = f
@@ -41,7 +48,7 @@ module _ (m : Surroundings) (r r' : Residuals) where
     )
     fits_still (value.made n o vs) t f h = (f.0, f.1, f.2, f.3, all_still vs f.1 f.4 h, f.5)
     fits_still (value.function e env) t f h = (f.0, f.1, f.2, f.3, values_still env f.0 f.4 h, f.5, f.6, f.7, f.8, f.9, f.10)
-    fits_still (value.end y) t f h = (f.0, h y f.0 f.1 (own y), f.2, f.3)
+    fits_still (value.end y) t f h = let g = h y f.0 f.1 f.2 (own y) in (g.0, g.1, g.2, equals_through g.3 f.3)
 
     all_still : (vs : Values) (ts : List Tree) → FitAll m r vs ts → Still (λ x. held_all x vs) → FitAll m r' vs ts
     all_still no_values [] f h = tt

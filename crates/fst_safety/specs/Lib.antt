@@ -5,3 +5,8 @@ pub mod Pauses
 pub mod Sound
 pub mod Safety
 pub mod Diamond
+pub mod Logs
+pub mod Threads
+pub mod Bags
+pub mod Turns
+pub mod Going

@@ -1,4 +1,5 @@
 ghost use Rattle.fst_safety.specs.Diamond.{DiamondLaw, OneEnd};
+ghost use Rattle.fst_safety.specs.Going.{EndsAreHeld, StayTyped};
 ghost use Rattle.fst_safety.specs.Safety.{DerivedIsSafe};
 
 /// A module that has derivations is safe: whatever happens in a run of it, in any order, each task asks for something that
@@ -20,4 +21,17 @@ pub fn diamond_law()
 /// events, and each that comes to such a configuration has as many and leads to the same one.
 pub fn one_end_law()
     ensures { OneEnd }
+{}
+
+/// A task that is typed over what its own ends know stays so, whatever it is told: after a step, a new channel, a fork, a try at
+/// an end, and after what it sent was received or it received something. What its log gains is what its ends gain, a forked task
+/// gets the ends that stand in its state, and no spent end is lost. Nothing is asked of other tasks.
+#[tactic(auto, using(crate::proofs::Going::stay_typed))]
+pub fn typed_law()
+    ensures { StayTyped }
+{}
+
+/// The ends that the variables of a forked task have, as the machine lists them, are those that its state holds.
+pub fn ends_law()
+    ensures { EndsAreHeld }
 {}

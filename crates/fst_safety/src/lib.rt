@@ -1,6 +1,9 @@
-//! No run of a module that has derivations goes wrong, and all runs that come to an end lead to one configuration.
+//! No run of a module that has derivations goes wrong, and all runs that come to an end lead to one configuration; and its tasks
+//! stay typed by what their own ends know.
 #![tactic(auto)]
 
 mod law;
+mod tasks;
 
-pub use law::{diamond_law, one_end_law, safety_law};
+pub use law::{diamond_law, ends_law, one_end_law, safety_law, typed_law};
+pub use tasks::LogEntry;
