@@ -1,0 +1,6 @@
+//! The text of a module that makes as many channels as one asks for.
+#![tactic(auto)]
+
+mod making;
+
+pub use making::{MOST_MADE, make};
