@@ -15,7 +15,7 @@ use fst_types::Family;
 use fst_value::{ChannelHistory, Value, print};
 use std::alloc::{AllocError, Global};
 
-fn push_result(
+pub(crate) fn push_result(
     alloc: Global,
     text: &mut String,
     value: &Option<Value>,
