@@ -23,17 +23,17 @@ use Rattle.fst_premises.specs.declared.fault.CheckFault.{CheckFault}
 use Rattle.fst_premises.specs.declared.fault.CheckFault.TheVariants as checking
 use Rattle.fst_command.specs.declared.answer.Answer.{Answer as Written}
 use Rattle.fst_command.specs.declared.finding.Fault.{Fault}
-use Rattle.fst_command.specs.declared.finding.Fault.TheVariants as fault
 use Rattle.fst_command.specs.declared.refusals.Cause.{Cause as Given}
 use Rattle.fst_command.specs.declared.refusals.Cause.TheVariants as given
 use Rattle.fst_command.specs.declared.status.Status.TheVariants as status
 use Rattle.fst_command.specs.Texts.{refused_text}
 use Rattle.fst_command.specs.CheckTexts.{Cause, nothing, refused, undecided, too_large, accepted_text, cause, cause_text, cause_status}
+use Rattle.fst_types.specs.declared.family.Family.{Family}
+use Rattle.fst_options.specs.Words as setting
 use Rattle.fst_options.specs.Words.{check, run}
 use Rattle.fst_command.specs.Finding as finding
-use Rattle.fst_command.specs.Finding.{Finding, IsRead, IsUnread, NamesFinding, AreResolved, AreUnresolved, name_finding}
-use Rattle.fst_command.specs.Output.{IsFoundOf, accepted, unaccepted, FindsModule, SaysAccepted, SaysOutcome, waiting_status, outcome_text, outcome_status, WritesOf, too_long, is_none, makes, Writes, finding_text, finding_status}
-use Rattle.fst_command.specs.Top.{IsAnswer}
+use Rattle.fst_command.specs.Finding.{Finding, IsRead, IsUnread, AreResolved, AreUnresolved, name_finding}
+use Rattle.fst_command.specs.Output.{IsFoundOf, accepted, unaccepted, FindsModule, SaysAccepted, SaysOutcome, made_summary, waiting_status, outcome_text, outcome_status, WritesOf, too_long, is_none, makes, finding_status}
 use Rattle.fst_safety.specs.Safety.{DerivedIsSafe}
 use Rattle.fst_process.specs.declared.report.Outcome.{Outcome}
 use Rattle.fst_process.specs.declared.report.Outcome.TheVariants.{Done, OutOfSteps}
@@ -41,10 +41,11 @@ use Rattle.fst_process.specs.declared.report.Report.{Report}
 use Rattle.fst_process.specs.declared.report.Waiting.{Waiting}
 use Rattle.fst_process.specs.Reports.{IsAnswer as IsRunAnswer}
 use Rattle.fst_execution.specs.Execution.{AnswersAreSound}
+use Rattle.fst_make.specs.Made.{made_text}
 use Rattle.fst_report.specs.ReportTexts.{report_text}
 use Rattle.fst_command.specs.declared.status.Status.{Status}
-use Rattle.fst_command.specs.Meanings.{MeansAccepted, CheckMeanings, MeansReport, MeansRun, RunMeanings}
-use Rattle.fst_command.specs.Views.{IfFound, Found, cause_of, name_fault}
+use Rattle.fst_command.specs.Meanings.{MeansAccepted, CheckMeanings, MeansReport, MeansRun, RunMeanings, MakeMeanings}
+use Rattle.fst_command.specs.Views.{IfFound, cause_of, name_fault}
 use Rattle.fst_command.proofs.FindingLaws.{if_found, said_found}
 
 -- ---- what is found of the bytes
@@ -80,14 +81,6 @@ some_fault c names f is e = some_cause c (is ∙ ap (cause names) e)
 pub some_answer : (c : Given) (names : List (List ℕ)) (f : CheckFault) (r : Result Written AllocError) → cause_of c ≡ cause names f → IfOk r (λ a. f ≢ checking.Memory)
 some_answer c names f (Ok a) is = some_fault c names f is
 some_answer c names f (Err e) is = tt
-
--- what is found of bytes that stand for no module is written whole
-pub finding_whole : (bytes : List ℕ) (f : Fault) (r : Result Written AllocError) → IfOk r (λ a. Found f (λ g. (a.text.items ≡ finding_text bytes g) × (a.status ≡ finding_status g))) → IfOk r (λ a. IsAnswer a.status)
-finding_whole bytes (fault.Refused at p) (Ok a) h = subst IsAnswer (sym h.1) tt
-finding_whole bytes (fault.TooDeep at) (Ok a) h = subst IsAnswer (sym h.1) tt
-finding_whole bytes (fault.TooLarge at) (Ok a) h = subst IsAnswer (sym h.1) tt
-finding_whole bytes fault.Memory (Ok a) h = absurd h
-finding_whole bytes f (Err e) h = tt
 
 -- a refusal is written as its cause
 pub refused_line : (bytes : List ℕ) (budget at : ℕ) (p : Phrase) → refused_text bytes at p ≡ cause_text bytes budget (refused at (phrase_text p))
@@ -146,12 +139,12 @@ not_done (undecided_so e) = absurd (cc e)
 not_done (limited_so e) = absurd (cc e)
 not_done (memory_so e) = absurd (cc e)
 
--- and of `run` it means nothing
-no_run : (s : Status) (bytes text : List ℕ) → IsRefused s → MeansRun s bytes text
-no_run s bytes text (refused_so e) = subst (λ r. MeansRun r bytes text) (sym e) tt
-no_run s bytes text (undecided_so e) = subst (λ r. MeansRun r bytes text) (sym e) tt
-no_run s bytes text (limited_so e) = subst (λ r. MeansRun r bytes text) (sym e) tt
-no_run s bytes text (memory_so e) = subst (λ r. MeansRun r bytes text) (sym e) tt
+-- and of a run it means nothing
+no_run : (shown : List Family → Report → List ℕ) (s : Status) (bytes text : List ℕ) → IsRefused s → MeansRun shown s bytes text
+no_run shown s bytes text (refused_so e) = subst (λ r. MeansRun shown r bytes text) (sym e) tt
+no_run shown s bytes text (undecided_so e) = subst (λ r. MeansRun shown r bytes text) (sym e) tt
+no_run shown s bytes text (limited_so e) = subst (λ r. MeansRun shown r bytes text) (sym e) tt
+no_run shown s bytes text (memory_so e) = subst (λ r. MeansRun shown r bytes text) (sym e) tt
 
 module _ (law : (m : Module) (budget : ℕ) (ds : List Deriv) → IsAccepted m budget ds → HasDerivations m ds) (safety : DerivedIsSafe) where
   -- what it means that a module is accepted
@@ -176,26 +169,35 @@ module _ (law : (m : Module) (budget : ℕ) (ds : List Deriv) → IsAccepted m b
   check_meanings budget bytes text (makes short m) = found_means budget bytes text m.resolved m.is_resolved m.found
 
   module _ (sound : AnswersAreSound) where
-    -- what the outcome of a run means
-    outcome_means : (steps budget : ℕ) (bytes text : List ℕ) (s : Status) (m : Module) (ds : List Deriv) → AreResolved bytes m → IsAccepted m budget ds → SaysOutcome steps m text s → MeansRun s bytes text
-    outcome_means steps budget bytes text s m ds is a o = by o.outcome o.answer o.written o.ended
-      where
-        report_means : (r : Report) → IsRunAnswer m o.main steps (Done r) → text ≡ report_text m.families.items r → MeansReport bytes text
-        report_means r h w = record { accepted = means_accepted budget bytes m ds is a; report = r; written = w; sound = sound m ds (law m budget ds a) o.main o.body steps r h }
+    module _ (shown : List Family → Report → List ℕ) where
+      -- what the outcome of a run means, with reports written like this
+      outcome_means : (steps budget : ℕ) (bytes text : List ℕ) (s : Status) (m : Module) (ds : List Deriv) → AreResolved bytes m → IsAccepted m budget ds → SaysOutcome shown steps m text s →
+          MeansRun shown s bytes text
+      outcome_means steps budget bytes text s m ds is a o = by o.outcome o.answer o.written o.ended
+        where
+          report_means : (r : Report) → IsRunAnswer m o.main steps (Done r) → text ≡ shown m.families.items r → MeansReport shown bytes text
+          report_means r h w = record { accepted = means_accepted budget bytes m ds is a; report = r; written = w; sound = sound m ds (law m budget ds a) o.main o.body steps r h }
 
-        by_tasks : (ws : List Waiting) → MeansReport bytes text → MeansRun (waiting_status ws) bytes text
-        by_tasks [] h = h
-        by_tasks (w ∷ ws) h = h
+          by_tasks : (ws : List Waiting) → MeansReport shown bytes text → MeansRun shown (waiting_status ws) bytes text
+          by_tasks [] h = h
+          by_tasks (w ∷ ws) h = h
 
-        by : (c : Outcome) → IsRunAnswer m o.main steps c → text ≡ outcome_text m.families.items c → s ≡ outcome_status c → MeansRun s bytes text
-        by (Done r) h w e = subst (λ z. MeansRun z bytes text) (sym e) (by_tasks r.waiting.items (report_means r h w))
-        by OutOfSteps h w e = subst (λ z. MeansRun z bytes text) (sym e) (means_accepted budget bytes m ds is a)
+          by : (c : Outcome) → IsRunAnswer m o.main steps c → text ≡ outcome_text shown m.families.items c → s ≡ outcome_status c → MeansRun shown s bytes text
+          by (Done r) h w e = subst (λ z. MeansRun shown z bytes text) (sym e) (by_tasks r.waiting.items (report_means r h w))
+          by OutOfSteps h w e = subst (λ z. MeansRun shown z bytes text) (sym e) (means_accepted budget bytes m ds is a)
+
+      -- what is written of the run of a module
+      source_means : (steps budget : ℕ) (bytes text : List ℕ) (s : Status) → WritesOf AreUnresolved (FindsModule (SaysOutcome shown steps) budget) bytes text s → MeansRun shown s bytes text
+      source_means steps budget bytes text s (too_long long w e) = no_run shown s bytes text (limited_so e)
+      source_means steps budget bytes text s (is_none short f h w e) = no_run shown s bytes text (finding_refuses f s e)
+      source_means steps budget bytes text s (makes short m) = by m.found
+        where
+          by : IsFoundOf (SaysOutcome shown steps m.resolved) bytes m.resolved budget text s → MeansRun shown s bytes text
+          by (accepted ds a o) = outcome_means steps budget bytes text s m.resolved ds m.is_resolved a o
+          by (unaccepted f h w e) = no_run shown s bytes text (cause_refuses (cause (family_names m.resolved.families.items) f) s e)
 
     pub run_meanings : RunMeanings
-    run_meanings steps budget bytes text s (too_long long w e) = no_run s bytes text (limited_so e)
-    run_meanings steps budget bytes text s (is_none short f h w e) = no_run s bytes text (finding_refuses f s e)
-    run_meanings steps budget bytes text s (makes short m) = by m.found
-      where
-        by : IsFoundOf (SaysOutcome steps m.resolved) bytes m.resolved budget text s → MeansRun s bytes text
-        by (accepted ds a o) = outcome_means steps budget bytes text s m.resolved ds m.is_resolved a o
-        by (unaccepted f h w e) = no_run s bytes text (cause_refuses (cause (family_names m.resolved.families.items) f) s e)
+    run_meanings steps budget bytes text s w = source_means report_text steps budget bytes text s w
+
+    pub make_meanings : MakeMeanings
+    make_meanings n bytes text s w = source_means (made_summary n) setting.steps.default setting.budget.default (made_text n) text s w

@@ -5,3 +5,4 @@ pub mod CheckLaws
 pub mod Runs
 pub mod MeaningLaws
 pub mod OutcomeLaws
+pub mod MakeLaws

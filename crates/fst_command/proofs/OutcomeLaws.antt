@@ -1,23 +1,18 @@
--- What `run` writes of a module that is accepted.
-use Rattle.std.proofs.Common.{◌≡◌, ◌∙◌, ℕ, List, [], ◌∷◌, length, get_or, Bool, true, false, Result, Ok, Err, refl, sym, ap, arith}
-use Rattle.std.specs.Prelude.{◌==◌, IfOk}
-use Rattle.std.specs.declared.alloc.AllocError.{AllocError}
+-- What `run` and `make` write of a module that is accepted.
+use Rattle.std.proofs.Common.{◌≡◌, ℕ, List, [], ◌∷◌, length, get_or, Bool, true, false, refl, arith}
+use Rattle.std.specs.Prelude.{◌==◌}
 use Rattle.std.proofs.lemmas.Bool.Decides.{nat_tests}
 use Rattle.std.proofs.lemmas.List.Elements.{All-contains_itself}
 use Rattle.fst_terms.specs.declared.core_module.Module.{Module}
 use Rattle.fst_process.specs.declared.report.Outcome.{Outcome}
-use Rattle.fst_process.specs.declared.report.Outcome.TheVariants.{Done, OutOfSteps}
+use Rattle.fst_process.specs.declared.report.Outcome.TheVariants.{Done}
 use Rattle.fst_process.specs.declared.report.Report.{Report}
 use Rattle.fst_process.specs.declared.report.Waiting.{Waiting}
 use Rattle.fst_execution.specs.Execution.{IsExecuted}
 use Rattle.fst_report.specs.DeclaredTypes.{AreScoped, AreNamedWithin}
-use Rattle.fst_report.specs.ReportTexts.{report_text}
 use Rattle.fst_report.proofs.Laws.{of_sessions}
-use Rattle.fst_command.specs.declared.answer.Answer.{Answer as Written}
-use Rattle.fst_command.specs.declared.status.Status.{Status}
 use Rattle.fst_command.specs.declared.status.Status.TheVariants as status
-use Rattle.fst_command.specs.Output.{SaysOutcome, waiting_status, outcome_text, outcome_status}
-use Rattle.fst_command.specs.Texts.{out_of_steps_text}
+use Rattle.fst_command.specs.Output.{waiting_status}
 
 -- no task waits
 pub none_waits : (ws : List Waiting) (b : Bool) → b ≡ (length ws == 0) → b ≡ true → status.Done ≡ waiting_status ws
@@ -35,27 +30,3 @@ module _ (m : Module) (steps : ℕ) (o : Outcome) (x : IsExecuted m steps o) whe
   can_be_written n r is =
       let hs = r.channels.items in
       of_sessions n hs (λ k d i. (x.sound r is).sessions (get_or hs k d) (All-contains_itself hs k d i))
-
-  -- a report that is written
-  pub says_report : (r : Report) (text : List ℕ) (s : Status) → o ≡ Done r → text ≡ report_text m.families.items r → s ≡ waiting_status r.waiting.items → SaysOutcome steps m text s
-  says_report r text s is written ended = record {
-    main = x.main;
-    body = x.body;
-    outcome = o;
-    answer = x.answer;
-    written = written ∙ ap (outcome_text m.families.items) (sym is);
-    ended = ended ∙ ap outcome_status (sym is);
-  }
-
-  -- a run that has more events
-  pub says_more : (r : Result Written AllocError) → o ≡ OutOfSteps → IfOk r (λ a. a.text.items ≡ out_of_steps_text) → IfOk r (λ a. a.status ≡ status.OutOfSteps) →
-      IfOk r (λ a. SaysOutcome steps m a.text.items a.status)
-  says_more (Ok a) is written ended = record {
-    main = x.main;
-    body = x.body;
-    outcome = o;
-    answer = x.answer;
-    written = written ∙ ap (outcome_text m.families.items) (sym is);
-    ended = ended ∙ ap outcome_status (sym is);
-  }
-  says_more (Err e) is written ended = tt

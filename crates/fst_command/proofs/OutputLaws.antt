@@ -1,9 +1,8 @@
 -- What is written is an output, and there is at most one.
-use Rattle.std.proofs.Common.{◌≡◌, ◌∙◌, ◌⊎◌, inl, inr, ℕ, ◌≤◌, List, [], ◌∷◌, length, Result, Ok, Err, refl, sym, ap, subst, arith}
-use Rattle.std.specs.Prelude.{codes, IfOk}
+use Rattle.std.proofs.Common.{◌≡◌, ◌∙◌, ◌⊎◌, inl, inr, ℕ, ◌≤◌, List, [], length, Result, Ok, Err, refl, sym, ap, subst, arith}
+use Rattle.std.specs.Prelude.{IfOk}
 use Rattle.std.specs.declared.alloc.AllocError.{AllocError}
-use Rattle.std.specs.Str.Parse.{digits_value}
-use Rattle.std.proofs.lemmas.List.{append-nil, append_cancel_left}
+use Rattle.std.proofs.lemmas.List.{append-nil}
 use Rattle.fst_base.specs.Limits.{most_bytes}
 use Rattle.fst_lexer.specs.Lexes.{OneLexing}
 use Rattle.fst_terms.specs.ModuleTree.{Declared}
@@ -21,7 +20,7 @@ use Rattle.fst_command.specs.declared.finding.Fault.TheVariants as fault
 use Rattle.fst_names.specs.declared.question.Question.{Question}
 use Rattle.fst_command.specs.declared.status.Status.{Status}
 use Rattle.fst_command.specs.declared.status.Status.TheVariants as status
-use Rattle.fst_options.specs.Words.{Command, equiv, show, check, run, IsCommand}
+use Rattle.fst_options.specs.Words.{Command, equiv, show, check, run, make, IsCommand}
 use Rattle.fst_options.proofs.Laws.{one_command}
 use Rattle.fst_command.specs.Finding.{Finding, refused, too_deep, too_large, IsRead, AreAsked, IsNoQuestion, IsNoModule, no_reading}
 use Rattle.fst_command.specs.Finding as finding
@@ -91,24 +90,25 @@ module _ (answers : OneAnswer) (lexing : OneLexing) (readings : OneReading) (mod
       let same = one_read ReadsModule lexing modules.one_answer bytes p.declared q.declared p.read q.read in
       (p.written ∙ ap module_text same ∙ sym q.written, p.ended ∙ sym q.ended)
 
-  -- of one command one thing is written, but for `check` and `run`
-  one_text : (c : Command) (bytes : List ℕ) → ((n : ℕ) → c ≡ check n → ⊥) → ((k n : ℕ) → c ≡ run k n → ⊥) → IsOne (Writes c bytes)
-  one_text (equiv budget) bytes other others =
+  -- of one command one thing is written, but for `check`, `run` and `make`
+  one_text : (c : Command) (bytes : List ℕ) → ((n : ℕ) → c ≡ check n → ⊥) → ((k n : ℕ) → c ≡ run k n → ⊥) → ((n : ℕ) → c ≡ make n → ⊥) → IsOne (Writes c bytes)
+  one_text (equiv budget) bytes other others made =
       one_written IsNoQuestion (AnswersQuestion budget) bytes (one_no_question lexing readings bytes)
       (λ f t s none m. question_or_not lexing readings bytes m.asked f m.is_asked none) (one_question budget bytes)
-  one_text show bytes other others =
+  one_text show bytes other others made =
       one_written IsNoModule ShowsModule bytes (one_unread ReadsModule lexing modules.one_answer bytes)
       (λ f t s none m. read_once ReadsModule lexing modules.one_answer bytes m.declared f m.read none) (one_module bytes)
-  one_text (check budget) bytes other others = absurd (other budget refl)
-  one_text (run steps budget) bytes other others = absurd (others steps budget refl)
+  one_text (check budget) bytes other others made = absurd (other budget refl)
+  one_text (run steps budget) bytes other others made = absurd (others steps budget refl)
+  one_text (make n) bytes other others made = absurd (made n refl)
 
   pub one_output : OneOutput
-  one_output words bytes text other s r not_check not_run (usage n none w e) (usage m none' x d) = (w ∙ sym x, e ∙ sym d)
-  one_output words bytes text other s r not_check not_run (usage n none w e) (command c is w') = absurd (n c is)
-  one_output words bytes text other s r not_check not_run (command c is w) (usage n none x d) = absurd (n c is)
-  one_output words bytes text other s r not_check not_run (command c is w) (command d it v) =
+  one_output words bytes text other s r not_check not_run not_make (usage n none w e) (usage m none' x d) = (w ∙ sym x, e ∙ sym d)
+  one_output words bytes text other s r not_check not_run not_make (usage n none w e) (command c is w') = absurd (n c is)
+  one_output words bytes text other s r not_check not_run not_make (command c is w) (usage n none x d) = absurd (n c is)
+  one_output words bytes text other s r not_check not_run not_make (command c is w) (command d it v) =
       let one = one_command words c d is it in
-      one_text d bytes (λ n e. not_check n (subst (IsCommand words) e it)) (λ k n e. not_run k n (subst (IsCommand words) e it)) text other s r (subst (λ z. Writes z bytes text s) one w) v
+      one_text d bytes (λ n e. not_check n (subst (IsCommand words) e it)) (λ k n e. not_run k n (subst (IsCommand words) e it)) (λ n e. not_make n (subst (IsCommand words) e it)) text other s r (subst (λ z. Writes z bytes text s) one w) v
 
 -- ---- shown again
 

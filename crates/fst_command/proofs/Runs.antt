@@ -1,45 +1,61 @@
 -- How a run ends.
-use Rattle.std.proofs.Common.{◌≡◌, ℕ, ◌+◌, List, length, Option, subst, arith}
+use Rattle.std.proofs.Common.{◌≡◌, ℕ, ◌+◌, List, [], false, length, Option, Result, Ok, Err, refl, subst, arith}
+use Rattle.std.specs.Prelude.{IsTrue, IfOk, OnOk}
 use Rattle.std.specs.Io.KnownBytes.{Consumes, IsAtEnd, Appends}
 use Rattle.fst_io.specs.GivingUp.{Loses}
 use Rattle.fst_base.specs.Limits.{most_bytes}
 use Rattle.fst_command.specs.declared.status.Status.{Status}
 use Rattle.fst_command.specs.declared.status.Status.TheVariants as status
-use Rattle.fst_options.specs.Words.{Command, equiv, show, check, run, IsCommand}
+use Rattle.fst_options.specs.Words.{Command, equiv, show, check, run, make, IsCommand}
 use Rattle.fst_options.proofs.Laws.{one_command}
 use Rattle.fst_command.specs.Output.{Writes, too_long, usage, command, IsOutput}
 use Rattle.fst_command.specs.Texts.{too_long_text}
-use Rattle.fst_command.specs.Top.{ReadsInput, ReadsFor, IsAnswered}
-use Rattle.fst_command.specs.Meanings.{CheckMeanings, ReadsAccepted, RunMeanings, HasRun}
+use Rattle.fst_command.specs.Top.{ReadsInput, ReadsFor, IsAnswered, reads_input}
+use Rattle.fst_command.specs.Meanings.{CheckMeanings, ReadsAccepted, RunMeanings, HasRun, MakeMeanings, HasMade}
 
--- what is read for a command
-reads_for : (c : Command) (old new : Option (List ℕ)) (bytes : List ℕ) → ReadsInput old new bytes → ReadsFor c old new bytes
-reads_for (equiv budget) old new bytes r = r
-reads_for show old new bytes r = r
-reads_for (check budget) old new bytes r = r
-reads_for (run steps budget) old new bytes r = r
+-- what is read for a command that reads an input
+pub reads_for : (c : Command) (old new : Option (List ℕ)) (bytes : List ℕ) → IsTrue (reads_input c) → ReadsInput old new bytes → ReadsFor c old new bytes
+reads_for (equiv budget) old new bytes is r = r
+reads_for show old new bytes is r = r
+reads_for (check budget) old new bytes is r = r
+reads_for (run steps budget) old new bytes is r = r
+reads_for (make n) old new bytes is r = absurd (cc is)
 
--- an input that was read to its end has its command's output
-pub read_whole : (s : Status) (words : List (List ℕ)) (c : Command) (old new : Option (List ℕ)) (bytes text : List ℕ) → IsCommand words c → Consumes old new bytes → IsAtEnd new → Writes c bytes text s → IsAnswered words old new text s
-read_whole s words c old new bytes text is read end w = record {
+-- and so where it was read
+pub read_ok : {V E : Type 0} (c : Command) (old new : Option (List ℕ)) (items : V → List ℕ) (r : Result V E) → IsTrue (reads_input c) → IfOk r (λ v. Consumes old new (items v)) → OnOk r (IsAtEnd new) →
+    IfOk r (λ v. ReadsFor c old new (items v))
+read_ok c old new items (Ok v) reads all end = reads_for c old new (items v) reads (record { read = all; end = λ short. end })
+read_ok c old new items (Err e) reads all end = tt
+
+-- for another nothing is read
+pub reads_none : (c : Command) (old : Option (List ℕ)) (bytes : List ℕ) → reads_input c ≡ false → bytes ≡ [] → ReadsFor c old old bytes
+reads_none (equiv budget) old bytes not is = absurd (cc not)
+reads_none show old bytes not is = absurd (cc not)
+reads_none (check budget) old bytes not is = absurd (cc not)
+reads_none (run steps budget) old bytes not is = absurd (cc not)
+reads_none (make n) old bytes not is = record { none = is; same = refl }
+
+-- what was read for a command has its output
+pub read_whole : (s : Status) (words : List (List ℕ)) (c : Command) (old new : Option (List ℕ)) (bytes text : List ℕ) → IsCommand words c → ReadsFor c old new bytes → Writes c bytes text s → IsAnswered words old new text s
+read_whole s words c old new bytes text is read w = record {
   bytes = bytes;
-  read = λ d it. reads_for d old new bytes (record { read = read; end = λ short. end });
+  read = λ d it. subst (λ z. ReadsFor z old new bytes) (one_command words c d is it) read;
   output = command c is w;
 }
 
 -- an input that was read up to one byte over the limit is too long
-too_long_written : (c : Command) (bytes text : List ℕ) (s : Status) → length bytes ≡ most_bytes + 1 → text ≡ too_long_text → s ≡ status.Limit → Writes c bytes text s
-too_long_written (equiv budget) bytes text s long w e = too_long long w e
-too_long_written show bytes text s long w e = too_long long w e
-too_long_written (check budget) bytes text s long w e = too_long long w e
-too_long_written (run steps budget) bytes text s long w e = too_long long w e
+too_long_written : (c : Command) (bytes text : List ℕ) (s : Status) → IsTrue (reads_input c) → length bytes ≡ most_bytes + 1 → text ≡ too_long_text → s ≡ status.Limit → Writes c bytes text s
+too_long_written (equiv budget) bytes text s is long w e = too_long long w e
+too_long_written show bytes text s is long w e = too_long long w e
+too_long_written (check budget) bytes text s is long w e = too_long long w e
+too_long_written (run steps budget) bytes text s is long w e = too_long long w e
+too_long_written (make n) bytes text s is long w e = absurd (cc is)
 
-pub read_over : (s : Status) (words : List (List ℕ)) (c : Command) (old new : Option (List ℕ)) (text : List ℕ) → IsCommand words c → Loses (most_bytes + 1) old new → text ≡ too_long_text → s ≡ status.Limit → IsAnswered words old new text s
-read_over s words c old new text is lost w e = record {
-  bytes = lost.0;
-  read = λ d it. reads_for d old new lost.0 (record { read = lost.1; end = λ short. absurd (omega (arith, short, lost.2)) });
-  output = command c is (too_long_written c lost.0 text s lost.2 w e);
-}
+pub read_over : (s : Status) (words : List (List ℕ)) (c : Command) (old new : Option (List ℕ)) (text : List ℕ) → IsCommand words c → IsTrue (reads_input c) → Loses (most_bytes + 1) old new → text ≡ too_long_text →
+    s ≡ status.Limit → IsAnswered words old new text s
+read_over s words c old new text is reads lost w e =
+    read_whole s words c old new lost.0 text is (reads_for c old new lost.0 reads (record { read = lost.1; end = λ short. absurd (omega (arith, short, lost.2)) }))
+    (too_long_written c lost.0 text s reads lost.2 w e)
 
 -- where `check` did its work, what was read is a source of a module that has derivations
 pub read_accepted : CheckMeanings → (words : List (List ℕ)) (old new : Option (List ℕ)) (text : List ℕ) (s : Status) → IsAnswered words old new text s → s ≡ status.Done → (budget : ℕ) → IsCommand words (check budget) → ReadsAccepted old new
@@ -72,3 +88,14 @@ has_run meanings words old new taken now text s a whole steps budget it = by a.o
           whole = whole;
           means = meanings steps budget a.bytes text s (subst (λ d. Writes d a.bytes text s) one w);
         }
+
+-- what `make` wrote, with its status, means what it means
+pub has_made : MakeMeanings → (words : List (List ℕ)) (old new taken now : Option (List ℕ)) (text : List ℕ) (s : Status) → IsAnswered words old new text s → Appends taken now text →
+    (n : ℕ) → IsCommand words (make n) → HasMade n taken now s
+has_made meanings words old new taken now text s a whole n it = by a.output
+  where
+    by : IsOutput words a.bytes text s → HasMade n taken now s
+    by (usage none nothing w e) = absurd (none (make n) it)
+    by (command c is w) =
+        let one = one_command words c (make n) is it in
+        record { text = text; whole = whole; means = meanings n a.bytes text s (subst (λ d. Writes d a.bytes text s) one w) }

@@ -1,11 +1,12 @@
 -- What the texts of `equiv` say of the two types that an input asks about, over the variables of the question, and what those
--- of `check` and `run` say of a module.
+-- of `check`, `run` and `make` say of a module.
 use Rattle.std.specs.Prelude.{◌≡◌, ◌↔◌, ℕ, List, ◌++◌, length, codes, Bool, Option, ⊤}
 use Rattle.std.specs.Io.KnownBytes.{Appends}
 use Rattle.fst_base.specs.Agreement.{Performs, Agree}
 use Rattle.fst_base.specs.Order.{IsBefore}
 use Rattle.fst_types.specs.Order.{label_cmp}
 use Rattle.fst_types.specs.Differences.{PerformsAlone}
+use Rattle.fst_types.specs.declared.family.Family.{Family}
 use Rattle.fst_types.specs.declared.label.Label.{Label}
 use Rattle.fst_types.specs.declared.side.Side.{Side}
 use Rattle.fst_lts.specs.Step.{step}
@@ -26,9 +27,10 @@ use Rattle.fst_execution.specs.Execution.{IsSound}
 use Rattle.fst_report.specs.ReportTexts.{report_text}
 use Rattle.fst_command.specs.declared.status.Status.{Status}
 use Rattle.fst_command.specs.declared.status.Status.TheVariants as status
-use Rattle.fst_options.specs.Words.{equiv, check, run}
+use Rattle.fst_make.specs.Made.{made_text}
+use Rattle.fst_options.specs.Words.{equiv, check, run, make}
 use Rattle.fst_command.specs.Finding.{IsRead, AreAsked}
-use Rattle.fst_command.specs.Output.{Writes}
+use Rattle.fst_command.specs.Output.{Writes, made_summary}
 use Rattle.fst_command.specs.Top.{ReadsInput}
 use Rattle.fst_command.specs.Texts.{yes_text, no_text, undecided_text}
 
@@ -93,30 +95,30 @@ pub record ReadsAccepted (old new : Option (List ℕ)) : Type 0 where
   pub read : ReadsInput old new bytes
   pub accepted : MeansAccepted bytes
 
--- so are the bytes, and the text is that of a report, in which each history is a trace of its channel's declared type, and the value
--- of main is one of main's type
-pub record MeansReport (bytes text : List ℕ) : Type 0 where
+-- so are the bytes, and the text is that of a report, written like this, in which each history is a trace of its channel's declared
+-- type, and the value of main is one of main's type
+pub record MeansReport (shown : List Family → Report → List ℕ) (bytes text : List ℕ) : Type 0 where
   pub accepted : MeansAccepted bytes
   pub report : Report
-  pub written : text ≡ report_text accepted.resolved.families.items report
+  pub written : text ≡ shown accepted.resolved.families.items report
   pub sound : IsSound accepted.resolved report
 
--- what it means that `run` wrote a text with this status
-abbrev pub MeansRun : Status → List ℕ → List ℕ → Type 0
-MeansRun status.Done bytes text = MeansReport bytes text
-MeansRun status.Refused bytes text = ⊤
-MeansRun status.Words bytes text = ⊤
-MeansRun status.Waiting bytes text = MeansReport bytes text
-MeansRun status.OutOfSteps bytes text = MeansAccepted bytes
-MeansRun status.Undecided bytes text = ⊤
-MeansRun status.ReadFault bytes text = ⊤
-MeansRun status.WriteFault bytes text = ⊤
-MeansRun status.Limit bytes text = ⊤
-MeansRun status.Memory bytes text = ⊤
+-- what it means that a text was written with this status of the run of a module, with reports written like this
+abbrev pub MeansRun : (List Family → Report → List ℕ) → Status → List ℕ → List ℕ → Type 0
+MeansRun shown status.Done bytes text = MeansReport shown bytes text
+MeansRun shown status.Refused bytes text = ⊤
+MeansRun shown status.Words bytes text = ⊤
+MeansRun shown status.Waiting bytes text = MeansReport shown bytes text
+MeansRun shown status.OutOfSteps bytes text = MeansAccepted bytes
+MeansRun shown status.Undecided bytes text = ⊤
+MeansRun shown status.ReadFault bytes text = ⊤
+MeansRun shown status.WriteFault bytes text = ⊤
+MeansRun shown status.Limit bytes text = ⊤
+MeansRun shown status.Memory bytes text = ⊤
 
 -- whatever `run` writes means that
 abbrev pub RunMeanings : Type 0
-RunMeanings = (steps budget : ℕ) (bytes text : List ℕ) (s : Status) → Writes (run steps budget) bytes text s → MeansRun s bytes text
+RunMeanings = (steps budget : ℕ) (bytes text : List ℕ) (s : Status) → Writes (run steps budget) bytes text s → MeansRun report_text s bytes text
 
 -- what was read and what was written, with this status, mean that
 pub record HasRun (old new taken now : Option (List ℕ)) (s : Status) : Type 0 where
@@ -124,4 +126,14 @@ pub record HasRun (old new taken now : Option (List ℕ)) (s : Status) : Type 0 
   pub read : ReadsInput old new bytes
   pub text : List ℕ
   pub whole : Appends taken now text
-  pub means : MeansRun s bytes text
+  pub means : MeansRun report_text s bytes text
+
+-- whatever `make` writes means that of the made module
+abbrev pub MakeMeanings : Type 0
+MakeMeanings = (n : ℕ) (bytes text : List ℕ) (s : Status) → Writes (make n) bytes text s → MeansRun (made_summary n) s (made_text n) text
+
+-- what was written, with this status, means that of the made module of n channels
+pub record HasMade (n : ℕ) (taken now : Option (List ℕ)) (s : Status) : Type 0 where
+  pub text : List ℕ
+  pub whole : Appends taken now text
+  pub means : MeansRun (made_summary n) s (made_text n) text

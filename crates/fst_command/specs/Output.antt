@@ -16,12 +16,16 @@ use Rattle.fst_premises.specs.declared.fault.CheckFault.{CheckFault}
 use Rattle.fst_runs.specs.Configs.{main_body}
 use Rattle.fst_process.specs.declared.report.Outcome.{Outcome}
 use Rattle.fst_process.specs.declared.report.Outcome.TheVariants.{Done, OutOfSteps}
+use Rattle.fst_process.specs.declared.report.Report.{Report}
 use Rattle.fst_process.specs.declared.report.Waiting.{Waiting}
 use Rattle.fst_process.specs.Reports.{IsAnswer}
 use Rattle.fst_report.specs.ReportTexts.{report_text}
+use Rattle.fst_report.specs.SummaryTexts.{summary_text}
 use Rattle.fst_command.specs.declared.status.Status.{Status}
 use Rattle.fst_command.specs.declared.status.Status.TheVariants as status
-use Rattle.fst_options.specs.Words.{Command, equiv, show, check, run, IsCommand, NoCommand}
+use Rattle.fst_make.specs.Made.{made_text}
+use Rattle.fst_options.specs.Words as setting
+use Rattle.fst_options.specs.Words.{Command, equiv, show, check, run, make, IsCommand, NoCommand}
 use Rattle.fst_command.specs.Finding.{Finding, refused, too_deep, IsRead, AreAsked, IsNoQuestion, IsNoModule, AreResolved, AreUnresolved}
 use Rattle.fst_command.specs.Finding as finding
 use Rattle.fst_command.specs.Texts.{yes_text, no_text, undecided_text, refused_text, too_deep_text, too_large_text, too_long_text, usage_text, out_of_steps_text}
@@ -79,7 +83,7 @@ pub record ShowsModule (bytes text : List ℕ) (s : Status) : Type 0 where
   pub written : text ≡ module_text declared
   pub ended : s ≡ status.Done
 
--- ---- `check` and `run`
+-- ---- `check`, `run` and `make`
 
 -- this text and status are what is found of a module within a budget: it is accepted with some derivations, and then this holds of
 -- them, or it is refused with a fault
@@ -104,23 +108,23 @@ abbrev pub waiting_status : List Waiting → Status
 waiting_status [] = status.Done
 waiting_status (w ∷ ws) = status.Waiting
 
--- the text of what a run comes to
-abbrev pub outcome_text : List Family → Outcome → List ℕ
-outcome_text families (Done r) = report_text families r
-outcome_text families OutOfSteps = out_of_steps_text
+-- the text of what a run comes to, where this is how its report is written for the module's data types
+abbrev pub outcome_text : (List Family → Report → List ℕ) → List Family → Outcome → List ℕ
+outcome_text shown families (Done r) = shown families r
+outcome_text shown families OutOfSteps = out_of_steps_text
 
 -- its status
 abbrev pub outcome_status : Outcome → Status
 outcome_status (Done r) = waiting_status r.waiting.items
 outcome_status OutOfSteps = status.OutOfSteps
 
--- this text and status are what so many steps of the module's least run come to
-pub record SaysOutcome (steps : ℕ) (m : Module) (text : List ℕ) (s : Status) : Type 0 where
+-- this text and status are what so many steps of the module's least run come to, where this is how its report is written
+pub record SaysOutcome (shown : List Family → Report → List ℕ) (steps : ℕ) (m : Module) (text : List ℕ) (s : Status) : Type 0 where
   pub main : CoreTree
   pub body : main_body m.globals.items ≡ Some main
   pub outcome : Outcome
   pub answer : IsAnswer m main steps outcome
-  pub written : text ≡ outcome_text m.families.items outcome
+  pub written : text ≡ outcome_text shown m.families.items outcome
   pub ended : s ≡ outcome_status outcome
 
 -- ---- all commands
@@ -131,12 +135,22 @@ pub data WritesOf (IsNone : List ℕ → Finding → Type 0) (Makes : List ℕ �
   is_none : length bytes ≤ most_bytes → (f : Finding) → IsNone bytes f → text ≡ finding_text bytes f → s ≡ finding_status f → WritesOf IsNone Makes bytes text s
   makes : length bytes ≤ most_bytes → Makes bytes text s → WritesOf IsNone Makes bytes text s
 
+-- in place of the report `make` writes its summary, with the number of bytes of the made module, which has no data types
+abbrev pub made_summary : ℕ → List Family → Report → List ℕ
+made_summary n families r = summary_text (length (made_text n)) r
+
+-- what `make` writes, whatever the input: what `run` writes of the made module, with the steps and the budget that it has where no
+-- word sets them, but for the report
+abbrev pub WritesMade : ℕ → List ℕ → List ℕ → Status → Type 0
+WritesMade n bytes text s = WritesOf AreUnresolved (FindsModule (SaysOutcome (made_summary n) setting.steps.default) setting.budget.default) (made_text n) text s
+
 -- what a command writes of an input
 abbrev pub Writes : Command → List ℕ → List ℕ → Status → Type 0
 Writes (equiv budget) = WritesOf IsNoQuestion (AnswersQuestion budget)
 Writes show = WritesOf IsNoModule ShowsModule
 Writes (check budget) = WritesOf AreUnresolved (FindsModule SaysAccepted budget)
-Writes (run steps budget) = WritesOf AreUnresolved (FindsModule (SaysOutcome steps) budget)
+Writes (run steps budget) = WritesOf AreUnresolved (FindsModule (SaysOutcome report_text steps) budget)
+Writes (make n) = WritesMade n
 
 -- what is written of words and bytes: the usage line where the words are no command's, with nothing read, and else what
 -- the command writes
@@ -146,12 +160,12 @@ pub data IsOutput (words : List (List ℕ)) (bytes text : List ℕ) (s : Status)
 
 -- ---- laws
 
--- words that aren't those of `check` or `run`, and bytes have at most one output; of these two it isn't said yet that a module
--- is accepted or refused in one way
+-- words that aren't those of `check`, `run` or `make`, and bytes have at most one output; of these three it isn't said yet that a
+-- module is accepted or refused in one way
 abbrev pub OneOutput : Type 0
 OneOutput =
     (words : List (List ℕ)) (bytes text other : List ℕ) (s t : Status) → ((budget : ℕ) → IsCommand words (check budget) → ⊥) →
-    ((steps budget : ℕ) → IsCommand words (run steps budget) → ⊥) → IsOutput words bytes text s → IsOutput words bytes other t →
+    ((steps budget : ℕ) → IsCommand words (run steps budget) → ⊥) → ((n : ℕ) → IsCommand words (make n) → ⊥) → IsOutput words bytes text s → IsOutput words bytes other t →
     (text ≡ other) × (s ≡ t)
 
 -- the text of a module that is shown is a module that is shown by the same text, or a token of it is nested too deep

@@ -1,20 +1,33 @@
 -- What a run reads, and what it writes of that.
-use Rattle.std.specs.Prelude.{ℕ, ◌<◌, ◌≤◌, List, length, take, Option, ⊤}
+use Rattle.std.specs.Prelude.{ℕ, ◌<◌, ◌≤◌, ◌≡◌, List, [], length, take, Bool, true, false, Option, IsTrue, ⊤}
 use Rattle.std.specs.Io.KnownBytes.{Consumes, IsAtEnd, Appends}
 use Rattle.fst_base.specs.Limits.{most_bytes}
 use Rattle.fst_command.specs.declared.status.Status.{Status}
 use Rattle.fst_command.specs.declared.status.Status.TheVariants as status
-use Rattle.fst_options.specs.Words.{Command, equiv, show, check, run, IsCommand}
+use Rattle.fst_options.specs.Words.{Command, equiv, show, check, run, make, IsCommand}
 use Rattle.fst_command.specs.Output.{IsOutput}
 
--- the words are a command's
-abbrev pub HaveCommand : List (List ℕ) → Type 0
-HaveCommand words = (c : Command) × IsCommand words c
+-- whether the command reads an input
+abbrev pub reads_input : Command → Bool
+reads_input (equiv budget) = true
+reads_input show = true
+reads_input (check budget) = true
+reads_input (run steps budget) = true
+reads_input (make n) = false
+
+-- the words are those of a command that reads an input
+abbrev pub WantInput : List (List ℕ) → Type 0
+WantInput words = (c : Command) × IsCommand words c × IsTrue (reads_input c)
 
 -- these bytes were read from those that were left: all of them, or as many as are over the limit
 pub record ReadsInput (old new : Option (List ℕ)) (bytes : List ℕ) : Type 0 where
   pub read : Consumes old new bytes
   pub end : length bytes ≤ most_bytes → IsAtEnd new
+
+-- nothing was read
+pub record ReadsNothing (old new : Option (List ℕ)) (bytes : List ℕ) : Type 0 where
+  pub none : bytes ≡ []
+  pub same : new ≡ old
 
 -- what is read for a command
 abbrev pub ReadsFor : Command → Option (List ℕ) → Option (List ℕ) → List ℕ → Type 0
@@ -22,6 +35,7 @@ ReadsFor (equiv budget) = ReadsInput
 ReadsFor show = ReadsInput
 ReadsFor (check budget) = ReadsInput
 ReadsFor (run steps budget) = ReadsInput
+ReadsFor (make n) = ReadsNothing
 
 -- a text that with this status is an output of the words and of what was read
 pub record IsAnswered (words : List (List ℕ)) (old new : Option (List ℕ)) (text : List ℕ) (s : Status) : Type 0 where

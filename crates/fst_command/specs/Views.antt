@@ -1,6 +1,7 @@
 -- What the code finds, as the definitions see it.
-use Rattle.std.specs.Prelude.{ℕ, ⊤}
+use Rattle.std.specs.Prelude.{ℕ, List, ⊤}
 use Rattle.std.specs.String.{string_bytes}
+use Rattle.fst_types.specs.declared.family.Family.{Family}
 use Rattle.fst_kinds.specs.declared.fault.KindFault.{KindFault}
 use Rattle.fst_kinds.specs.declared.fault.KindFault.TheVariants as kind
 use Rattle.fst_lexer.specs.declared.token.LexFault.{LexFault}
@@ -11,10 +12,15 @@ use Rattle.fst_type_print.specs.declared.refusals.Phrase.TheVariants as phrase
 use Rattle.fst_type_print.specs.Texts.{phrase_text}
 use Rattle.fst_scopes.specs.declared.fault.NameFault.{NameFault}
 use Rattle.fst_scopes.specs.declared.fault.NameFault.TheVariants as naming
+use Rattle.fst_process.specs.declared.report.Report.{Report}
+use Rattle.fst_report.specs.ReportTexts.{report_text}
+use Rattle.fst_report.specs.SummaryTexts.{summary_text}
 use Rattle.fst_command.specs.declared.finding.Fault.{Fault}
 use Rattle.fst_command.specs.declared.finding.Fault.TheVariants as fault
 use Rattle.fst_command.specs.declared.refusals.Cause.{Cause as Given}
 use Rattle.fst_command.specs.declared.refusals.Cause.TheVariants as given
+use Rattle.fst_command.specs.declared.checks.Form.{Form}
+use Rattle.fst_command.specs.declared.checks.Form.TheVariants as form
 use Rattle.fst_command.specs.CheckTexts as check_texts
 use Rattle.fst_command.specs.CheckTexts.{Cause, undecided}
 use Rattle.fst_command.specs.Finding.{Finding, refused, too_deep, too_large}
@@ -70,3 +76,8 @@ abbrev pub cause_of : Given → Cause
 cause_of (given.Refused at phrase) = check_texts.refused at (phrase_text phrase)
 cause_of (given.Undecided at got wanted) = undecided at (string_bytes got) (string_bytes wanted)
 cause_of (given.TooLarge at) = check_texts.too_large at
+
+-- how a report is written
+abbrev pub shown_as : Form → List Family → Report → List ℕ
+shown_as form.Report families r = report_text families r
+shown_as (form.Summary bytes) families r = summary_text bytes r

@@ -3,6 +3,7 @@ ghost use Rattle.fst_base.specs.Limits.{most_bytes};
 ghost use Rattle.fst_kinds.specs.WellFormed.{IsSession};
 ghost use Rattle.fst_options.specs.Words.{equiv, show};
 ghost use Rattle.fst_command.specs.Output.{IsAnswerTo, Writes, finding_status, finding_text};
+ghost use Rattle.fst_command.specs.Top.{IsAnswer};
 ghost use Rattle.fst_command.specs.Views.{Found};
 
 use crate::finding::{Fault, find, find_module};
@@ -31,7 +32,8 @@ fn answer_session(
     requires short { length bytes.now ≤ most_bytes }
     requires left { IsSession question.now.kinds.items question.now.left }
     requires right { IsSession question.now.kinds.items question.now.right }
-    ensures { IfOk result (λ a. IsAnswerTo bytes.now question.now budget a.text.items a.status) }
+    ensures says { IfOk result (λ a. IsAnswerTo bytes.now question.now budget a.text.items a.status) }
+    ensures whole { IfOk result (λ a. IsAnswer a.status) }
 {
     match ask(alloc, &question.left, &question.right, budget) {
         Ok(Verdict::Yes(_)) => fixed(alloc, Status::Done, b"yes\n"),
@@ -54,8 +56,9 @@ fn answer_session(
 /// The answer to an input that isn't what its command is for.
 pub(crate) fn answer_fault(alloc: Global, bytes: &[u8], fault: Fault) -> Result<Answer, AllocError>
     requires { length bytes.now ≤ most_bytes }
-    ensures { IfOk result (λ a. Found fault (λ f.
+    ensures says { IfOk result (λ a. Found fault (λ f.
         (a.text.items ≡ finding_text bytes.now f) × (a.status ≡ finding_status f))) }
+    ensures whole { IfOk result (λ a. IsAnswer a.status) }
 {
     match fault {
         Fault::Refused(at, phrase) => Ok(Answer {
@@ -78,7 +81,8 @@ pub(crate) fn answer_fault(alloc: Global, bytes: &[u8], fault: Fault) -> Result<
 pub(crate) fn answer_equiv(alloc: Global, bytes: &[u8], budget: u32) -> Result<Answer, AllocError>
     requires budget { 1 ≤ budget }
     requires short { length bytes.now ≤ most_bytes }
-    ensures { IfOk result (λ a. Writes (equiv budget) bytes.now a.text.items a.status) }
+    ensures text { IfOk result (λ a. Writes (equiv budget) bytes.now a.text.items a.status) }
+    ensures whole { IfOk result (λ a. IsAnswer a.status) }
 {
     match find(alloc, bytes) {
         Ok(question) => answer_session(alloc, bytes, &question, budget),
@@ -89,7 +93,8 @@ pub(crate) fn answer_equiv(alloc: Global, bytes: &[u8], budget: u32) -> Result<A
 /// The answer to an input of the command `show`.
 pub(crate) fn answer_show(alloc: Global, bytes: &[u8]) -> Result<Answer, AllocError>
     requires { length bytes.now ≤ most_bytes }
-    ensures { IfOk result (λ a. Writes show bytes.now a.text.items a.status) }
+    ensures text { IfOk result (λ a. Writes show bytes.now a.text.items a.status) }
+    ensures whole { IfOk result (λ a. IsAnswer a.status) }
 {
     match find_module(alloc, bytes) {
         Ok(module) => Ok(Answer {

@@ -9,5 +9,7 @@ mod run;
 mod status;
 mod texts;
 
-pub use run::{check_meanings, equiv_meanings, one_output, run_meanings, shown_again, top};
+pub use run::{
+    check_meanings, equiv_meanings, make_meanings, one_output, run_meanings, shown_again, top,
+};
 pub use status::Status;

@@ -1,13 +1,16 @@
-ghost use Rattle.std.specs.Prelude.{◌≡◌, ◌⊎◌, ℕ, [], map, IfOk, IfErr, string_bytes};
+ghost use Rattle.std.specs.Prelude.{◌≡◌, ◌≤◌, ◌⊎◌, ℕ, [], length, map, IfOk, IfErr, IsTrue, OnErr, string_bytes};
 ghost use Rattle.std.specs.Io.KnownBytes.{Appends};
+ghost use Rattle.fst_base.specs.Limits.{most_bytes};
 ghost use Rattle.fst_io.specs.Faults.{Rose};
-ghost use Rattle.fst_options.specs.Words.{IsCommand, NoCommand, check, run};
-ghost use Rattle.fst_command.specs.Meanings.{CheckMeanings, EquivMeanings, HasRun, ReadsAccepted, RunMeanings};
-ghost use Rattle.fst_command.specs.Output.{OneOutput, ShownAgain};
-ghost use Rattle.fst_command.specs.Top.{HaveCommand, IsAnswer, IsAnswered, WasCut, WasWritten};
+ghost use Rattle.fst_io.specs.GivingUp.{ReadGaveUp};
+ghost use Rattle.fst_options.specs.Views.{command_of};
+ghost use Rattle.fst_options.specs.Words.{IsCommand, IsWithin, check, make, run};
+ghost use Rattle.fst_command.specs.Meanings.{CheckMeanings, EquivMeanings, HasMade, HasRun, MakeMeanings, ReadsAccepted, RunMeanings};
+ghost use Rattle.fst_command.specs.Output.{OneOutput, ShownAgain, Writes};
+ghost use Rattle.fst_command.specs.Top.{IsAnswer, IsAnswered, ReadsFor, WantInput, WasCut, WasWritten, reads_input};
 
 use crate::answer::{Answer, answer_equiv, answer_show, fixed};
-use crate::checks::{answer_check, answer_run};
+use crate::checks::{answer_check, answer_make, answer_run};
 use crate::status::Status;
 use fst_base::MOST_BYTES;
 use fst_equiv::one_answer;
@@ -20,30 +23,75 @@ use fst_roundtrip::read_again;
 use fst_safety::safety_law;
 use fst_type_syntax::one_reading;
 use fst_typing::accepted_law;
-use std::alloc::Global;
+use std::alloc::{AllocError, Global};
 
 const USAGE: &[u8] = b"usage: freest equiv|show|check|run|make\n";
 
-// Reads the input, where the words want one, and finds the answer.
+// Whether the command reads an input.
+fn reads_input(command: Command) -> bool
+    ensures { result ≡ reads_input (command_of command) }
+{
+    match command {
+        Command::Equiv(_) => true,
+        Command::Show => true,
+        Command::Check(_) => true,
+        Command::Run(_, _) => true,
+        Command::Make(_) => false,
+    }
+}
+
+// Reads what the command wants.
+fn read_for<S: Source>(
+    alloc: Global,
+    command: Command,
+    source: &mut S,
+) -> Result<Vec<u8>, ReadFault>
+    ensures read { IfOk result (λ bytes. ReadsFor (command_of command)
+        (S.left source.old) (S.left source.new) bytes.items) }
+    ensures short { IfOk result (λ bytes. length bytes.items ≤ most_bytes) }
+    ensures wanted { OnErr result (IsTrue (reads_input (command_of command))) }
+    ensures fault { IfErr result (λ e. ReadGaveUp e most_bytes
+        (S.left source.old) (S.left source.new)
+        (S.faults source.old) (S.faults source.new)) }
+    ensures unread { ¬ IsTrue (reads_input (command_of command)) → source.new ≡ source.old }
+{
+    if !reads_input(command) {
+        return Ok(Vec::new(alloc));
+    }
+    read_all(alloc, source, MOST_BYTES)
+}
+
+// What a command makes of the bytes that were read for it.
+fn answer_command(alloc: Global, command: Command, bytes: &[u8]) -> Result<Answer, AllocError>
+    requires within { IsWithin (command_of command) }
+    requires short { length bytes.now ≤ most_bytes }
+    ensures text { IfOk result (λ a. Writes (command_of command) bytes.now a.text.items a.status) }
+    ensures whole { IfOk result (λ a. IsAnswer a.status) }
+{
+    match command {
+        Command::Equiv(budget) => answer_equiv(alloc, bytes, budget),
+        Command::Show => answer_show(alloc, bytes),
+        Command::Check(budget) => answer_check(alloc, bytes, budget),
+        Command::Run(steps, budget) => answer_run(alloc, bytes, steps, budget),
+        Command::Make(n) => answer_make(alloc, n),
+    }
+}
+
+// Reads what the words want, and finds the answer.
 fn answer<S: Source>(alloc: Global, words: &[String], source: &mut S) -> Result<Answer, Status>
     ensures answered { IfOk result (λ a. IsAnswered (map string_bytes words.now)
         (S.left source.old) (S.left source.new) a.text.items a.status) }
     ensures whole { IfOk result (λ a. IsAnswer a.status) }
     ensures no_answer { IfErr result (λ s. (s ≡ Status.ReadFault) ⊎ (s ≡ Status.Memory)) }
     ensures read_fault { IfErr result (λ s. s ≡ Status.ReadFault →
-        HaveCommand (map string_bytes words.now) × Rose (S.faults source.old) (S.faults source.new)) }
-    ensures unread { NoCommand (map string_bytes words.now) → source.new ≡ source.old }
+        WantInput (map string_bytes words.now) × Rose (S.faults source.old) (S.faults source.new)) }
+    ensures unread { ¬ WantInput (map string_bytes words.now) → source.new ≡ source.old }
 {
     let Some(command) = parse(words) else {
         return Ok(fixed(alloc, Status::Words, USAGE)?);
     };
-    match read_all(alloc, source, MOST_BYTES) {
-        Ok(bytes) => match command {
-            Command::Equiv(budget) => Ok(answer_equiv(alloc, &bytes, budget)?),
-            Command::Show => Ok(answer_show(alloc, &bytes)?),
-            Command::Check(budget) => Ok(answer_check(alloc, &bytes, budget)?),
-            Command::Run(steps, budget) => Ok(answer_run(alloc, &bytes, steps, budget)?),
-        },
+    match read_for(alloc, command, source) {
+        Ok(bytes) => Ok(answer_command(alloc, command, &bytes)?),
         Err(ReadFault::TooLong) => Ok(fixed(alloc, Status::Limit, b"limit length\n")?),
         Err(ReadFault::Failed) => Err(Status::ReadFault),
         Err(ReadFault::Memory) => Err(Status::Memory),
@@ -76,11 +124,16 @@ pub fn top<R, S: Source, K: Sink, G: Gate + Sync>(
         IsCommand (map string_bytes words.now) (run steps budget) →
         HasRun (S.left source.old) (S.left source.new) (K.taken sink.old) (K.taken sink.new) result }
 
+    // The same holds of the module that `make` made, where it wrote a summary in place of the report.
+    ensures made { IsAnswer result → (n : ℕ) →
+        IsCommand (map string_bytes words.now) (make n) →
+        HasMade n (K.taken sink.old) (K.taken sink.new) result }
+
     // A read fault comes only where the source's count rose, for words that want the source, and
     // nothing is written.
     ensures read_fault { result ≡ Status.ReadFault →
         Rose (S.faults source.old) (S.faults source.new) }
-    ensures read_for { result ≡ Status.ReadFault → HaveCommand (map string_bytes words.now) }
+    ensures read_for { result ≡ Status.ReadFault → WantInput (map string_bytes words.now) }
     ensures silent { result ≡ Status.ReadFault → Appends (K.taken sink.old) (K.taken sink.new) [] }
 
     // A write fault comes only where the sink's count rose, and then a proper prefix of an output
@@ -95,11 +148,12 @@ pub fn top<R, S: Source, K: Sink, G: Gate + Sync>(
         ⊎ WasCut (map string_bytes words.now)
         (S.left source.old) (S.left source.new) (K.taken sink.old) (K.taken sink.new) }
 
-    // Words that are no command's leave the source as it is.
-    ensures unread { NoCommand (map string_bytes words.now) → source.new ≡ source.old }
+    // Words that aren't those of `equiv`, `show`, `check` or `run` leave the source as it is.
+    ensures unread { ¬ WantInput (map string_bytes words.now) → source.new ≡ source.old }
 {
     check_meanings();
     run_meanings();
+    make_meanings();
     match answer(alloc, words, source) {
         Err(status) => status,
         Ok(answer) => match write_all(sink, &answer.text) {
@@ -110,8 +164,8 @@ pub fn top<R, S: Source, K: Sink, G: Gate + Sync>(
     }
 }
 
-/// Words and bytes have at most one output: what is written is a function of what was read. Of the words of `check`
-/// and `run` this isn't said.
+/// Words and bytes have at most one output: what is written is a function of what was read. Of the words of `check`,
+/// `run` and `make` this isn't said.
 pub fn one_output()
     ensures { OneOutput }
 {
@@ -146,6 +200,15 @@ pub fn check_meanings()
 /// What it means that `run` wrote a report, or ran out of steps.
 pub fn run_meanings()
     ensures { RunMeanings }
+{
+    accepted_law();
+    safety_law();
+    sound_law();
+}
+
+/// What it means that `make` wrote a summary, or ran out of steps.
+pub fn make_meanings()
+    ensures { MakeMeanings }
 {
     accepted_law();
     safety_law();

@@ -1,5 +1,5 @@
 -- The words of the command line.
-use Rattle.std.proofs.Common.{◌≡◌, ◌∙◌, ◌⊎◌, inl, inr, ℕ, ◌≤◌, List, [], ◌∷◌, ◌++◌, length, map, Bool, true, false, Result, Ok, refl, sym, ap, subst, append_assoc, arith, rules}
+use Rattle.std.proofs.Common.{◌≡◌, ◌∙◌, inl, inr, ℕ, ◌≤◌, List, [], ◌∷◌, ◌++◌, length, map, Bool, true, false, Result, Ok, refl, sym, ap, subst, append_assoc, arith, rules}
 use Rattle.std.specs.Prelude.{◌==◌, codes}
 use Rattle.std.proofs.lemmas.Bool.Decides.{nat_tests}
 use Rattle.std.specs.List.{list_all}
@@ -7,7 +7,8 @@ use Rattle.std.specs.Char.{is_ascii_digit}
 use Rattle.std.specs.Str.Parse.{ParsesUnsigned, digits_value}
 use Rattle.std.proofs.lemmas.List.{append-nil, append_cancel_left}
 use Rattle.std.proofs.lemmas.Str.Parse.{IsNumeralModel, numerals_by_value, parse_gives, digits_value_short}
-use Rattle.fst_options.specs.Words.{Setting, budget, steps, IsValue, Begins, Sets, IsOption, AreOptions, IsNamed, Command, equiv, show, check, run, IsCommand, NoCommand, IsWithin}
+use Rattle.fst_make.specs.Made.{most_made}
+use Rattle.fst_options.specs.Words.{Setting, budget, steps, IsValue, Begins, Sets, IsOption, AreOptions, IsOneNumber, IsNamed, Command, equiv, show, check, run, make, IsCommand, NoCommand, IsWithin}
 
 own : IsNumeralModel (λ ds. list_all is_ascii_digit ds ≡ true) (digits_value 10)
 own = numerals_by_value _ (search rules)
@@ -95,6 +96,19 @@ one_pair ws s t b d (inr (inr p)) (inr (inr q)) =
     let same = one_setting budget ws b d p.0 q.0 p.1 q.1 in
     (one_option steps q.0 s t (subst (λ r. IsOption steps r s) same.1 p.2) q.2, same.0)
 
+-- ---- one number
+
+-- the first of words
+abbrev front : List (List ℕ) → List ℕ
+front [] = []
+front (w ∷ ws) = w
+
+-- the only word is one number
+one_number : (least most : ℕ) (ws : List (List ℕ)) (m n : ℕ) → IsOneNumber least most ws m → IsOneNumber least most ws n → m ≡ n
+one_number least most ws m n p q =
+    let same : p.digits ≡ q.digits = ap front (sym p.only ∙ q.only) in
+    p.number.value ∙ ap (digits_value 10) same ∙ sym q.number.value
+
 -- ---- one command
 
 -- the first byte of a text
@@ -113,6 +127,7 @@ mark (equiv n) = initial (codes "equiv")
 mark show = initial (codes "show")
 mark (check n) = initial (codes "check")
 mark (run s b) = initial (codes "run")
+mark (make n) = initial (codes "make")
 
 -- the words of a command begin with its name
 head_mark : (w : List ℕ) (ws : List (List ℕ)) (c : Command) → IsCommand (w ∷ ws) c → initial w ≡ mark c
@@ -120,6 +135,7 @@ head_mark w ws (equiv n) p = ap initial p.0
 head_mark w ws show p = ap initial p.0
 head_mark w ws (check n) p = ap initial p.0
 head_mark w ws (run s b) p = ap initial p.0
+head_mark w ws (make n) p = ap initial p.0
 
 -- so there are some
 no_words : (c : Command) → IsCommand [] c → ⊥
@@ -127,6 +143,7 @@ no_words (equiv n) p = p
 no_words show p = p
 no_words (check n) p = p
 no_words (run s b) p = p
+no_words (make n) p = p
 
 -- the names of two commands with the same words begin alike
 same_mark : (ws : List (List ℕ)) (c d : Command) → IsCommand ws c → IsCommand ws d → mark c ≡ mark d
@@ -146,6 +163,9 @@ one_command ws (run s b) (run t d) p q =
     let both = both_named (codes "run") (λ rest. AreOptions rest s b) (λ rest. AreOptions rest t d) ws p q in
     let same = one_pair both.0 s t b d both.1 both.2 in
     λ i. run (same.0 i) (same.1 i)
+one_command ws (make m) (make n) p q =
+    let both = both_named (codes "make") (λ rest. IsOneNumber 0 most_made rest m) (λ rest. IsOneNumber 0 most_made rest n) ws p q in
+    ap make (one_number 0 most_made both.0 m n both.1 both.2)
 one_command ws (equiv m) show p q = absurd (omega (arith, same_mark ws (equiv m) show p q))
 one_command ws (equiv m) (check n) p q = absurd (omega (arith, same_mark ws (equiv m) (check n) p q))
 one_command ws (equiv m) (run s b) p q = absurd (omega (arith, same_mark ws (equiv m) (run s b) p q))
@@ -158,6 +178,14 @@ one_command ws (check m) (run s b) p q = absurd (omega (arith, same_mark ws (che
 one_command ws (run s b) (equiv n) p q = absurd (omega (arith, same_mark ws (run s b) (equiv n) p q))
 one_command ws (run s b) show p q = absurd (omega (arith, same_mark ws (run s b) show p q))
 one_command ws (run s b) (check n) p q = absurd (omega (arith, same_mark ws (run s b) (check n) p q))
+one_command ws (equiv m) (make n) p q = absurd (omega (arith, same_mark ws (equiv m) (make n) p q))
+one_command ws show (make n) p q = absurd (omega (arith, same_mark ws show (make n) p q))
+one_command ws (check m) (make n) p q = absurd (omega (arith, same_mark ws (check m) (make n) p q))
+one_command ws (run s b) (make n) p q = absurd (omega (arith, same_mark ws (run s b) (make n) p q))
+one_command ws (make m) (equiv n) p q = absurd (omega (arith, same_mark ws (make m) (equiv n) p q))
+one_command ws (make m) show p q = absurd (omega (arith, same_mark ws (make m) show p q))
+one_command ws (make m) (check n) p q = absurd (omega (arith, same_mark ws (make m) (check n) p q))
+one_command ws (make m) (run s b) p q = absurd (omega (arith, same_mark ws (make m) (run s b) p q))
 
 -- ---- what the code finds
 
@@ -212,6 +240,7 @@ no_equiv ws rest is none c p = by c (subst (λ us. IsCommand us c) is p)
     by show q = absurd (omega (arith, head_mark (codes "equiv") rest show q))
     by (check n) q = absurd (omega (arith, head_mark (codes "equiv") rest (check n) q))
     by (run s b) q = absurd (omega (arith, head_mark (codes "equiv") rest (run s b) q))
+    by (make n) q = absurd (omega (arith, head_mark (codes "equiv") rest (make n) q))
     by (equiv n) q = none n q.1
 
 -- words behind `check` that set nothing of its are no command's
@@ -222,6 +251,7 @@ no_check ws rest is none c p = by c (subst (λ us. IsCommand us c) is p)
     by (equiv n) q = absurd (omega (arith, head_mark (codes "check") rest (equiv n) q))
     by show q = absurd (omega (arith, head_mark (codes "check") rest show q))
     by (run s b) q = absurd (omega (arith, head_mark (codes "check") rest (run s b) q))
+    by (make n) q = absurd (omega (arith, head_mark (codes "check") rest (make n) q))
     by (check n) q = none n q.1
 
 -- words behind `run` that set nothing of its are no command's
@@ -232,19 +262,41 @@ no_run ws rest is none c p = by c (subst (λ us. IsCommand us c) is p)
     by (equiv n) q = absurd (omega (arith, head_mark (codes "run") rest (equiv n) q))
     by show q = absurd (omega (arith, head_mark (codes "run") rest show q))
     by (check n) q = absurd (omega (arith, head_mark (codes "run") rest (check n) q))
+    by (make n) q = absurd (omega (arith, head_mark (codes "run") rest (make n) q))
     by (run s b) q = none s b q.1
+
+-- words behind `make` that aren't just its number are no command's
+pub no_make : (ws rest : List (List ℕ)) → ws ≡ codes "make" ∷ rest → ((n : ℕ) → IsOneNumber 0 most_made rest n → ⊥) → NoCommand ws
+no_make ws rest is none c p = by c (subst (λ us. IsCommand us c) is p)
+  where
+    by : (c : Command) → IsCommand (codes "make" ∷ rest) c → ⊥
+    by (equiv n) q = absurd (omega (arith, head_mark (codes "make") rest (equiv n) q))
+    by show q = absurd (omega (arith, head_mark (codes "make") rest show q))
+    by (check n) q = absurd (omega (arith, head_mark (codes "make") rest (check n) q))
+    by (run s b) q = absurd (omega (arith, head_mark (codes "make") rest (run s b) q))
+    by (make n) q = none n q.1
+
+-- words that begin with no command's name are no command's
+pub no_name : (ws : List (List ℕ)) → ((rest : List (List ℕ)) → ws ≡ codes "show" ∷ rest → ⊥) → ((rest : List (List ℕ)) → ws ≡ codes "equiv" ∷ rest → ⊥) →
+    ((rest : List (List ℕ)) → ws ≡ codes "check" ∷ rest → ⊥) → ((rest : List (List ℕ)) → ws ≡ codes "run" ∷ rest → ⊥) → ((rest : List (List ℕ)) → ws ≡ codes "make" ∷ rest → ⊥) → NoCommand ws
+no_name [] shows equivs checks runs makes c p = no_words c p
+no_name (w ∷ ws) shows equivs checks runs makes (equiv n) p = equivs ws (ap (λ v. v ∷ ws) p.0)
+no_name (w ∷ ws) shows equivs checks runs makes show p = shows ws (ap (λ v. v ∷ ws) p.0)
+no_name (w ∷ ws) shows equivs checks runs makes (check n) p = checks ws (ap (λ v. v ∷ ws) p.0)
+no_name (w ∷ ws) shows equivs checks runs makes (run s b) p = runs ws (ap (λ v. v ∷ ws) p.0)
+no_name (w ∷ ws) shows equivs checks runs makes (make n) p = makes ws (ap (λ v. v ∷ ws) p.0)
 
 -- ---- what commands have
 
 -- a value that words set is in its range, where its default is
 set_within : (o : Setting) (ws : List (List ℕ)) (n : ℕ) → o.least ≤ o.default → o.default ≤ o.most → IsOption o ws n → (o.least ≤ n) × (n ≤ o.most)
 set_within o ws n low high (inl p) = (subst (λ k. o.least ≤ k) (sym p.1) low, subst (λ k. k ≤ o.most) (sym p.1) high)
-set_within o ws n low high (inr p) = (p.value.least, p.value.most)
+set_within o ws n low high (inr p) = (p.value.at_least, p.value.at_most)
 
 options_within : (ws : List (List ℕ)) (s b : ℕ) → AreOptions ws s b → (s ≤ steps.most) × (1 ≤ b)
 options_within ws s b (inl p) = (omega (arith, p.1), omega (arith, p.2))
-options_within ws s b (inr (inl p)) = (p.1.value.most, (set_within budget p.0 b (omega arith) (omega arith) p.2).0)
-options_within ws s b (inr (inr p)) = ((set_within steps p.0 s (omega arith) (omega arith) p.2).1, p.1.value.least)
+options_within ws s b (inr (inl p)) = (p.1.value.at_most, (set_within budget p.0 b (omega arith) (omega arith) p.2).0)
+options_within ws s b (inr (inr p)) = ((set_within steps p.0 s (omega arith) (omega arith) p.2).1, p.1.value.at_least)
 
 -- the values of a command are in their ranges
 pub within : (ws : List (List ℕ)) (c : Command) → IsCommand ws c → IsWithin c
@@ -253,3 +305,4 @@ within (w ∷ ws) (equiv b) p = (set_within budget ws b (omega arith) (omega ari
 within (w ∷ ws) show p = tt
 within (w ∷ ws) (check b) p = (set_within budget ws b (omega arith) (omega arith) p.1).0
 within (w ∷ ws) (run s b) p = options_within ws s b p.1
+within (w ∷ ws) (make n) p = p.1.number.at_most

@@ -1,8 +1,17 @@
 ghost use Rattle.std.specs.Prelude.{◌≡◌, ◌++◌, ◌∷◌, [], ℕ, List, MatchOption, codes, map, string_bytes};
 ghost use Rattle.std.specs.List.{list_all};
 ghost use Rattle.std.specs.Char.{is_ascii_digit};
-ghost use Rattle.fst_options.specs.Words.{AreOptions, Begins, IsCommand, IsOption, IsValue, NoCommand, Sets};
+ghost use Rattle.fst_make.specs.Made.{most_made};
+ghost use Rattle.fst_options.specs.Words.{AreOptions, Begins, IsCommand, IsNumber, IsOneNumber, IsOption, IsValue, NoCommand, Sets};
 ghost use Rattle.fst_options.specs.Views.{command_of, setting_of};
+
+use fst_make::MOST_MADE;
+
+/// How many pairs a question may have where no word says it.
+pub const DEFAULT_BUDGET: u32 = 1000;
+
+/// How many events a run may have where no word says it.
+pub const DEFAULT_STEPS: u32 = 1_000_000;
 
 /// The greatest number of digits of a value.
 const MAX_DIGITS: usize = 9;
@@ -41,8 +50,8 @@ impl Setting {
         ensures { result ≡ (setting_of self).default }
     {
         match self {
-            Setting::Budget => 1000,
-            Setting::Steps => 1_000_000,
+            Setting::Budget => DEFAULT_BUDGET,
+            Setting::Steps => DEFAULT_STEPS,
         }
     }
 }
@@ -53,21 +62,30 @@ fn is_digits(text: &str) -> bool
     text.as_bytes().iter().all(|byte| byte.is_ascii_digit())
 }
 
+// The number from the least to the most that these digits are.
+fn number_of(least: u32, most: u32, digits: &str) -> Option<u32>
+    ensures { MatchOption result
+        ((n : ℕ) → IsNumber least most digits.now n → ⊥)
+        (IsNumber least most digits.now) }
+{
+    if digits.is_empty() || digits.len() > MAX_DIGITS || !is_digits(digits) {
+        return None;
+    }
+    match digits.parse::<u32>() {
+        Ok(n) if least <= n && n <= most => Some(n),
+        Ok(_) => None,
+        Err(_) => None,
+    }
+}
+
 // The value that these digits are.
 fn value_of(setting: Setting, digits: &str) -> Option<u32>
     ensures { MatchOption result
         ((n : ℕ) → IsValue (setting_of setting) digits.now n → ⊥)
         (IsValue (setting_of setting) digits.now) }
 {
-    if digits.is_empty() || digits.len() > MAX_DIGITS || !is_digits(digits) {
-        return None;
-    }
     let (least, most) = setting.range();
-    match digits.parse::<u32>() {
-        Ok(n) if least <= n && n <= most => Some(n),
-        Ok(_) => None,
-        Err(_) => None,
-    }
+    number_of(least, most, digits)
 }
 
 // What is behind an option's name and `=` in a word.
@@ -159,6 +177,19 @@ fn options(words: &[String]) -> Option<(u32, u32)>
     }
 }
 
+// The number from the least to the most that is the only word.
+fn one_number(least: u32, most: u32, words: &[String]) -> Option<u32>
+    ensures { MatchOption result
+        ((n : ℕ) → IsOneNumber least most (map string_bytes words.now) n → ⊥)
+        (IsOneNumber least most (map string_bytes words.now)) }
+{
+    match words.split_first() {
+        Some((digits, rest)) if rest.is_empty() => number_of(least, most, digits.as_str()),
+        Some(_) => None,
+        None => None,
+    }
+}
+
 /// A command with its options.
 #[derive(Clone, Copy, Debug)]
 pub enum Command {
@@ -170,6 +201,8 @@ pub enum Command {
     Check(u32),
     /// What so many steps of a module come to that is well typed, within a budget of pairs.
     Run(u32, u32),
+    /// In brief, what the made module of so many channels comes to.
+    Make(u32),
 }
 
 // The words behind a command's name, or none where another word is in front.
@@ -210,11 +243,17 @@ pub fn parse(words: &[String]) -> Option<Command>
             None => None,
         };
     }
-    let Some(rest) = behind("run", words) else {
+    if let Some(rest) = behind("run", words) {
+        return match options(rest) {
+            Some((steps, budget)) => Some(Command::Run(steps, budget)),
+            None => None,
+        };
+    }
+    let Some(rest) = behind("make", words) else {
         return None;
     };
-    match options(rest) {
-        Some((steps, budget)) => Some(Command::Run(steps, budget)),
+    match one_number(0, MOST_MADE, rest) {
+        Some(n) => Some(Command::Make(n)),
         None => None,
     }
 }

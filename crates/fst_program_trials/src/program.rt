@@ -3,6 +3,7 @@
 use crate::ends::{shown, sink_of, source_of};
 use fst_command::{Status, top};
 use fst_io::{OpenGate, OutputSink, SteadySink, SteadySource};
+use fst_make::make;
 use fst_tables::{each_line, each_pair};
 use std::alloc::{AllocError, Global};
 use std::io;
@@ -36,6 +37,15 @@ fn number_of(text: &str) -> u8 {
     }
 }
 
+/// How much of an input of so many bytes is read for words with this answer.
+fn read_for(command: &str, status: Status, input: usize) -> usize {
+    if status == Status::Words || command.starts_with("make ") {
+        0
+    } else {
+        input
+    }
+}
+
 /// What is written for words and an input, which is read as far as the words want it.
 pub(crate) fn answer(alloc: Global, command: &str, input: &[u8]) -> Result<String, Fail> {
     let mut source = SteadySource {
@@ -48,11 +58,7 @@ pub(crate) fn answer(alloc: Global, command: &str, input: &[u8]) -> Result<Strin
     let words = words(alloc, command)?;
     let status = top(&(), alloc, &words, &mut source, &mut sink, &OpenGate);
     let text = shown(&sink.bytes)?;
-    let wanted = if status == Status::Words {
-        0
-    } else {
-        input.len()
-    };
+    let wanted = read_for(command, status, input.len());
     if status.number() != number_of(text) || source.next != wanted {
         return Err(Fail::new("another status, or not all is read"));
     }
@@ -156,12 +162,63 @@ fn inputs_are_answered(rt: HostRuntime) -> Result<(), Fail> {
     each_pair(rt.alloc(), &ROWS, program_row)
 }
 
+// The words of made modules; nothing is read, and the summary of their run is written.
+const MADE: [(&str, &str); 4] = [
+    // made-modules
+    ("make 0", "bytes 48\nevents 2\nchannels 0\nresult 0\n"),
+    ("make 2", "bytes 312\nevents 16\nchannels 2\nresult 3\n"),
+    (
+        "make 1000",
+        "bytes 145308\nevents 7002\nchannels 1000\nresult 500500\n",
+    ),
+    // leading zeros
+    (
+        "make 000000002",
+        "bytes 312\nevents 16\nchannels 2\nresult 3\n",
+    ),
+];
+
+#[test]
+fn modules_are_made_and_nothing_is_read(rt: HostRuntime) -> Result<(), Fail> {
+    each_pair(rt.alloc(), &MADE, words_row)
+}
+
+/// The module of one channel.
+const ONE_CHANNEL: &str = "\
+main : Int
+main = r1 0
+p1 : !Int -> Skip
+p1 c = send 1 c
+r1 : Int -> Int
+r1 s = let (a, b) = new !Int in fork (p1 a); let (x, d) = receive b in r2 (s + x)
+r2 : Int -> Int
+r2 s = s
+";
+
+#[test]
+fn a_made_module_is_its_text(rt: HostRuntime) -> Result<(), Fail> {
+    if make(rt.alloc(), 1)?.as_str() == ONE_CHANNEL {
+        Ok(())
+    } else {
+        Err(Fail::new("another text"))
+    }
+}
+
 // Words of no command; the usage is written.
 const OTHER_WORDS: &str = "\
 help = usage: freest equiv|show|check|run|make
  = usage: freest equiv|show|check|run|make
 --version = usage: freest equiv|show|check|run|make
 make = usage: freest equiv|show|check|run|make
+make 5001 = usage: freest equiv|show|check|run|make
+make 0000000002 = usage: freest equiv|show|check|run|make
+make +2 = usage: freest equiv|show|check|run|make
+make 2 2 = usage: freest equiv|show|check|run|make
+make 2 --steps 5 = usage: freest equiv|show|check|run|make
+make --budget=2 2 = usage: freest equiv|show|check|run|make
+make --steps 2 = usage: freest equiv|show|check|run|make
+make=2 = usage: freest equiv|show|check|run|make
+2 make = usage: freest equiv|show|check|run|make
 run 5 = usage: freest equiv|show|check|run|make
 run --workers 9 = usage: freest equiv|show|check|run|make
 run --steps 5 --steps 5 = usage: freest equiv|show|check|run|make

@@ -1,7 +1,7 @@
 use Rattle.fst_command.specs.Finding.{AreUnresolved}
 use Rattle.fst_command.specs.Output.{FindsModule, SaysAccepted}
 use Rattle.fst_command.proofs.OutputLaws.{fault_output}
-use Rattle.fst_command.proofs.CheckLaws.{found_output, finding_whole}
+use Rattle.fst_command.proofs.CheckLaws.{found_output}
 use Rattle.fst_command.proofs.checks.answer_check.Goals as goal
 
 pub returns-in-Ok-clause-text : goal.returns-in-Ok-clause-text
@@ -11,7 +11,4 @@ returns-in-Ok-clause-text c =
 pub returns-in-Err-clause-text : goal.returns-in-Err-clause-text
 returns-in-Err-clause-text c =
     fault_output AreUnresolved (FindsModule SaysAccepted c.args.budget) c.args.bytes.now c.in-Err.fault c.answer_fault.result c.requires.short
-    c.in-Err.ensures.fault c.answer_fault.ensures
-
-pub returns-in-Err-clause-whole : goal.returns-in-Err-clause-whole
-returns-in-Err-clause-whole c = finding_whole c.args.bytes.now c.in-Err.fault c.answer_fault.result c.answer_fault.ensures
+    c.in-Err.ensures.fault c.answer_fault.ensures.says

@@ -1,6 +1,6 @@
 use Rattle.std.proofs.Common.{map}
 use Rattle.std.specs.Prelude.{string_bytes}
-use Rattle.fst_command.proofs.Runs.{has_run, read_accepted}
+use Rattle.fst_command.proofs.Runs.{has_made, has_run, read_accepted}
 use Rattle.fst_command.proofs.run.top.Goals as goal
 
 pub returns-in-Ok-write_all-clause-accepted : goal.returns-in-Ok-write_all-clause-accepted
@@ -12,4 +12,10 @@ pub returns-in-Ok-write_all-clause-ran : goal.returns-in-Ok-write_all-clause-ran
 returns-in-Ok-write_all-clause-ran g c = λ whole.
     let written = rw c.deref.ensures.value at c.in-Ok-write_all.ensures.all in
     has_run c.run_meanings.ensures (map string_bytes c.args.words.now) (g.S.Source.left c.args.source.now) (g.S.Source.left c.answer.new.source)
+    (g.K.Sink.taken c.args.sink.now) (g.K.Sink.taken c.write_all.new.sink) c.in-Ok.answer.text.items c.in-Ok.answer.status c.in-Ok.ensures.answered written
+
+pub returns-in-Ok-write_all-clause-made : goal.returns-in-Ok-write_all-clause-made
+returns-in-Ok-write_all-clause-made g c = λ whole.
+    let written = rw c.deref.ensures.value at c.in-Ok-write_all.ensures.all in
+    has_made c.make_meanings.ensures (map string_bytes c.args.words.now) (g.S.Source.left c.args.source.now) (g.S.Source.left c.answer.new.source)
     (g.K.Sink.taken c.args.sink.now) (g.K.Sink.taken c.write_all.new.sink) c.in-Ok.answer.text.items c.in-Ok.answer.status c.in-Ok.ensures.answered written
