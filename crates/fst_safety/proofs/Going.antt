@@ -74,7 +74,7 @@ longer_residual e k x now next q h =
     known_is (end_with e (longer e.knows k x)) ∙ then_more o e.knows.history x ∙ ap (λ t. then_after t x.event) (sym (known_is e) ∙ q) ∙ h
 
 -- what an end shows with one entry more
-longer_shown : (w : Exchange → ℕ) (e : EndView) (k : ℕ) (x : Entry) (b : Bool) → sends (residual_of e.knows) x.event ≡ b →
+pub longer_shown : (w : Exchange → ℕ) (e : EndView) (k : ℕ) (x : Entry) (b : Bool) → sends (residual_of e.knows) x.event ≡ b →
     by_exchanges w (end_with e (longer e.knows k x)) ≡ by_exchanges w e + w (part_in (end_name e) b x)
 longer_shown w e k x b h =
     let o = Some (side_type e.knows.side e.knows.declared) in

@@ -1,6 +1,7 @@
 pub mod Answers
 pub mod Askers
 pub mod AtOnce
+pub mod BagCalls
 pub mod BagLaws
 pub mod Checked
 pub mod Closed
@@ -17,6 +18,7 @@ pub mod Held
 pub mod Idle
 pub mod InstanceContexts
 pub mod InstanceTypes
+pub mod Keeping
 pub mod Lists
 pub mod MakerNames
 pub mod Makers
@@ -49,6 +51,10 @@ pub mod ThreadMaking
 pub mod ThreadOpenings
 pub mod ThreadTurns
 pub mod ThreadTyping
+pub mod TaskNews
+pub mod TaskStarts
+pub mod TaskTurns
+pub mod Told
 pub mod TraceLaws
 pub mod Typed
 pub mod Unknown

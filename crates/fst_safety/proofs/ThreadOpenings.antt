@@ -62,11 +62,11 @@ below_at x o q q' z e = go (same_end x z)
     go true = refl
     go false = e
 
-left_residual : (t : Tree) → residual Left t [] ≡ Some t
+pub left_residual : (t : Tree) → residual Left t [] ≡ Some t
 unfolding residual
 left_residual t = refl
 
-right_residual : (t : Tree) → residual Right t [] ≡ Some (dual t)
+pub right_residual : (t : Tree) → residual Right t [] ≡ Some (dual t)
 unfolding residual
 right_residual t = refl
 

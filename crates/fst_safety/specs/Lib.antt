@@ -8,5 +8,6 @@ pub mod Diamond
 pub mod Logs
 pub mod Threads
 pub mod Bags
+pub mod Tasks
 pub mod Turns
 pub mod Going

@@ -2,6 +2,8 @@ ghost use Rattle.fst_safety.specs.Diamond.{DiamondLaw, OneEnd};
 ghost use Rattle.fst_safety.specs.Going.{EndsAreHeld, StayTyped};
 ghost use Rattle.fst_safety.specs.Safety.{DerivedIsSafe};
 
+use crate::tasks::TypedTask;
+
 /// A module that has derivations is safe: whatever happens in a run of it, in any order, each task asks for something that
 /// the residuals of its ends allow, each history is a trace of its channel's type, which is a closed well-formed session type,
 /// and each end that isn't spent is held by one task, once; and where the task of `main` has ended, its value is one of
@@ -35,3 +37,10 @@ pub fn typed_law()
 pub fn ends_law()
     ensures { EndsAreHeld }
 {}
+
+/// A task may go from one thread to another.
+pub fn send_law() {
+    goes_to_threads::<TypedTask>()
+}
+
+fn goes_to_threads<T: Send>() {}

@@ -2,8 +2,10 @@
 //! stay typed by what their own ends know.
 #![tactic(auto)]
 
+mod bags;
 mod law;
 mod tasks;
+mod turning;
 
-pub use law::{diamond_law, ends_law, one_end_law, safety_law, typed_law};
-pub use tasks::LogEntry;
+pub use law::{diamond_law, ends_law, one_end_law, safety_law, send_law, typed_law};
+pub use tasks::{LogEntry, Turned, TypedTask};
