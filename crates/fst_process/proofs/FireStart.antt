@@ -12,13 +12,13 @@ use Rattle.fst_runs.specs.Configs.{main_path, new_task, started, program}
 use Rattle.fst_runs.specs.Wrong.{IsRight}
 use Rattle.fst_runs.proofs.NameLaws.{same_path-itself}
 use Rattle.fst_process.specs.declared.config.Config.{Config}
-use Rattle.fst_process.specs.Kept.{Kept, settled}
+use Rattle.fst_process.specs.Kept.{Kept, nothing, settled}
 use Rattle.fst_process.specs.KeptOf.{at_path, slot_in, made_in, numbered, kept_of}
 use Rattle.fst_process.specs.Reflects.{Reflects}
 use Rattle.fst_process.specs.Firing.{Settles, CanStart, IsBegun}
 use Rattle.fst_process.proofs.KeptLaws.{none_numbered}
 use Rattle.fst_process.proofs.Going.{IsOf}
-use Rattle.fst_process.proofs.Begun.{nothing, begun}
+use Rattle.fst_process.proofs.Begun.{begun}
 use Rattle.fst_process.proofs.Rights.{right_fine, right_alive}
 use Rattle.fst_process.proofs.Stepping.{settled_types}
 

@@ -10,7 +10,6 @@ use Rattle.std.specs.BTreeMap.{BTreeMap}
 use Rattle.std.proofs.Math.ListN.{length-set}
 use Rattle.std.proofs.lemmas.Option.{slice_get-get_or}
 use Rattle.std.proofs.lemmas.Bool.Decides.{nat_tests}
-use Rattle.fst_types.specs.Tree.{Tree}
 use Rattle.fst_lts.specs.Histories.{last_stamp}
 use Rattle.fst_value.specs.declared.ends.ChannelName.{ChannelName}
 use Rattle.fst_value.specs.declared.event.Entry.{Entry}
@@ -21,7 +20,7 @@ use Rattle.fst_runs.proofs.NameLaws.{same_path-same}
 use Rattle.fst_process.specs.declared.kept.Slot as rust_slot
 use Rattle.fst_process.specs.declared.kept.Channel as rust_channel
 use Rattle.fst_process.specs.declared.config.Config.{Config}
-use Rattle.fst_process.specs.Kept.{Slot, Channel, Kept, put_at, changed, opened, noted, settled}
+use Rattle.fst_process.specs.Kept.{Slot, Channel, Kept, put_at, changed, added, noted, settled}
 use Rattle.fst_process.specs.KeptOf.{at_path, slot_of, channel_of, Keys, Slots, Channels, slot_in, listed, made_in, numbered, kept_in, kept_of, IsChangedAt}
 use Rattle.fst_process.proofs.PathLaws.{some_same, none_some}
 use Rattle.fst_process.proofs.Tables.{Key, same_key, found_after, has_after, put_mapped}
@@ -208,14 +207,13 @@ snoc_numbered : (v : List rust_channel.Channel) (x : rust_channel.Channel) (n : 
 snoc_numbered v x zero = pick (nat_eq (suc (length v)) zero) false (Some (channel_of x)) None (eq_suc (length v))
 snoc_numbered v x (suc i) = snoc_at v x i ∙ pick (nat_eq (suc (length v)) (suc i)) (nat_eq (length v) i) _ _ (eq_next (length v) i)
 
-snoc_length : (v : List rust_channel.Channel) (x : rust_channel.Channel) → length (v ++ x ∷ []) ≡ suc (length v)
+pub snoc_length : (v : List rust_channel.Channel) (x : rust_channel.Channel) → length (v ++ x ∷ []) ≡ suc (length v)
 snoc_length [] x = refl
 snoc_length (y ∷ v) x = ap suc (snoc_length v x)
 
--- a channel is new where it is put behind those of its maker
-module _ (k : Config) (mid new : BTreeMap Key (Vec rust_channel.Channel Global)) (p a b : Path) (t : Tree) (x : rust_channel.Channel) (v : List rust_channel.Channel)
+-- a channel is there besides the others where it is put behind those of its maker
+module _ (k : Config) (mid new : BTreeMap Key (Vec rust_channel.Channel Global)) (p a b : Path) (x : rust_channel.Channel) (v : List rust_channel.Channel)
     (w : Vec rust_channel.Channel Global) (at_a : a ≡ p) (at_b : b ≡ p) (was : made_in k.channels.entries p ≡ v) (more : w.items ≡ v ++ x ∷ [])
-    (is : channel_of x ≡ record { declared = t; history = []; left = None; right = None })
     (gone : lookup (at_path a) mid.entries ≡ None) (gone_else : KeepsOthers same_key (at_path a) k.channels.entries mid.entries)
     (here : lookup (at_path b) new.entries ≡ Some w) (here_else : KeepsOthers same_key (at_path b) mid.entries new.entries) where
   now : (q : Path) → made_in new.entries q ≡ put_at p (v ++ x ∷ []) (made_in k.channels.entries) q
@@ -236,17 +234,17 @@ module _ (k : Config) (mid new : BTreeMap Key (Vec rust_channel.Channel Global))
 
   new_channels : (g : ChannelName) →
       numbered (made_in new.entries g.maker) g.count
-      ≡ (if same_channel h g then Some (record { declared = t; history = []; left = None; right = None }) else numbered (made_in k.channels.entries g.maker) g.count)
+      ≡ (if same_channel h g then Some (channel_of x) else numbered (made_in k.channels.entries g.maker) g.count)
   new_channels g = ap (λ z. numbered z g.count) (now g.maker) ∙ by (same_path p g.maker) refl
     where
       by : (c : Bool) → same_path p g.maker ≡ c →
           numbered (if c then v ++ x ∷ [] else made_in k.channels.entries g.maker) g.count
-          ≡ (if c && nat_eq h.count g.count then Some (record { declared = t; history = []; left = None; right = None }) else numbered (made_in k.channels.entries g.maker) g.count)
+          ≡ (if c && nat_eq h.count g.count then Some (channel_of x) else numbered (made_in k.channels.entries g.maker) g.count)
       by false e = refl
       by true e =
           let there : v ≡ made_in k.channels.entries g.maker = sym was ∙ ap (made_in k.channels.entries) (same_path-same p g.maker e) in
           snoc_numbered v x g.count
-          ∙ (λ i. if nat_eq (suc (length (sym was i))) g.count then Some (is i) else numbered (there i) g.count)
+          ∙ (λ i. if nat_eq (suc (length (sym was i))) g.count then Some (channel_of x) else numbered (there i) g.count)
 
   new_lengths : (q : Path) → length (made_in new.entries q) ≡ put_at p (suc (length (made_in k.channels.entries p))) (λ o. length (made_in k.channels.entries o)) q
   new_lengths q = ap (λ z. length z) (now q) ∙ by (same_path p q)
@@ -255,8 +253,8 @@ module _ (k : Config) (mid new : BTreeMap Key (Vec rust_channel.Channel Global))
       by false = refl
       by true = snoc_length v x ∙ ap (λ z. suc (length z)) (sym was)
 
-  pub channel_opened : kept_of (record k { channels = new }) ≡ opened h t (kept_of k)
-  channel_opened = λ i. record {
+  pub channel_added : kept_of (record k { channels = new }) ≡ added h (channel_of x) (kept_of k)
+  channel_added = λ i. record {
     tasks = slot_in k.tasks.entries;
     channels = λ g. new_channels g i;
     made = λ q. new_lengths q i;

@@ -27,6 +27,7 @@ pub mod FireMeet
 pub mod FireStart
 pub mod Firsts
 pub mod Running
+pub mod Restoring
 pub mod Alike
 pub mod Rising
 pub mod ReportLists

@@ -1,5 +1,5 @@
--- A channel is made.
-use Rattle.std.proofs.Common.{◌≡◌, ◌∙◌, ◌<◌, ◌≤◌, ℕ, suc, Bool, true, false, Option, Some, None, [], refl, sym, ap, subst, arith}
+-- A channel is put in, or made.
+use Rattle.std.proofs.Common.{◌≡◌, ◌∙◌, ◌<◌, ◌≤◌, ℕ, suc, Bool, true, false, Option, Some, None, List, [], refl, sym, ap, subst, arith}
 use Rattle.std.specs.Prelude.{option_map, option_and_then, is_some, length, if◌then◌else◌}
 use Rattle.fst_types.specs.Tree.{Tree}
 use Rattle.fst_types.specs.declared.side.Side.{Side}
@@ -7,11 +7,12 @@ use Rattle.fst_types.specs.declared.side.Side.TheVariants.{Left, Right}
 use Rattle.fst_terms.specs.declared.core_module.Module.{Module}
 use Rattle.fst_value.specs.declared.ends.ChannelName.{ChannelName}
 use Rattle.fst_value.specs.declared.ends.EndName.{EndName}
+use Rattle.fst_value.specs.declared.event.Entry.{Entry}
 use Rattle.fst_machine.specs.declared.code.Code.{Code}
 use Rattle.fst_runs.specs.Configs as runs
 use Rattle.fst_runs.specs.Configs.{Path, Config, Task, same_path, same_channel, other, channel_name}
 use Rattle.fst_runs.proofs.NameLaws.{same_path-same}
-use Rattle.fst_process.specs.Kept.{Slot, Channel, Kept, asker_at, asker, opened}
+use Rattle.fst_process.specs.Kept.{Slot, Channel, Kept, asker_at, asker, added, opened}
 use Rattle.fst_process.specs.Reflects.{AreTask, StampedTo, Reflects, bare}
 use Rattle.fst_process.proofs.PathLaws.{some_same, none_some}
 use Rattle.fst_process.proofs.Places.{put_cases, put_else, channel_cases, channel_both, channel_here}
@@ -30,16 +31,16 @@ no_bare : (u : Option Channel) → option_map bare u ≡ None → u ≡ None
 no_bare None e = refl
 no_bare (Some j) e = absurd (none_some (sym e))
 
-module _ (m : Module) (k : Code) (n : ℕ) (d : Kept) (c : Config) (h : ChannelName) (a : Tree) (r : Reflects m k n d c) (free : c.channels h ≡ None)
-    (away : c.tasks h.maker ≡ None) (next : h.count ≡ suc (d.made h.maker)) (few : d.made h.maker < n) where
-  abbrev e : Kept
-  e = opened h a d
-
+module _ (m : Module) (k : Code) (n : ℕ) (d : Kept) (c : Config) (h : ChannelName) (a : Tree) (es : List Entry) (r : Reflects m k n d c) (free : c.channels h ≡ None)
+    (away : c.tasks h.maker ≡ None) (next : h.count ≡ suc (d.made h.maker)) (few : d.made h.maker < n) (stamped : StampedTo n es) where
   abbrev new : Channel
-  new = record { declared = a; history = []; left = None; right = None }
+  new = record { declared = a; history = es; left = None; right = None }
 
   abbrev bare_new : runs.Channel
-  bare_new = record { declared = a; history = [] }
+  bare_new = record { declared = a; history = es }
+
+  abbrev e : Kept
+  e = added h new d
 
   fresh : d.channels h ≡ None
   fresh = no_bare (d.channels h) (r.channels h ∙ free)
@@ -78,8 +79,9 @@ module _ (m : Module) (k : Code) (n : ℕ) (d : Kept) (c : Config) (h : ChannelN
       named : h.maker ≡ q → suc (d.made h.maker) ≡ suc i → h ≡ channel_name q i
       named z f = λ o. record { maker = z o; count = (next ∙ f) o }
 
-  opening_here : Reflects m k n e (with_channel h bare_new c)
-  opening_here = record {
+  -- what is kept is a configuration after a channel is put in both at whose ends nobody asks, and whose maker is taken out
+  pub adding : Reflects m k n e (with_channel h bare_new c)
+  adding = record {
     from = r.from;
     tasks = all_tasks;
     channels = λ g.
@@ -93,10 +95,10 @@ module _ (m : Module) (k : Code) (n : ℕ) (d : Kept) (c : Config) (h : ChannelN
     makes = λ q. put_cases (λ z. z ≤ n) h.maker q (suc (d.made h.maker)) d.made (λ z. omega (arith, few)) (λ z. r.makes q);
     stamps = λ g j.
         channel_cases (λ (x : Option Channel). x ≡ Some j → StampedTo n j.history) h g (Some new) (d.channels g)
-        (λ z f. subst (λ (i : Channel). StampedTo n i.history) (some_same f) tt) (λ z. r.stamps g j);
+        (λ z f. subst (λ (i : Channel). StampedTo n i.history) (some_same f) stamped) (λ z. r.stamps g j);
   }
 
--- what is kept is a configuration after a channel is made in both whose maker is taken out
+-- so it is where the channel is made then
 pub opening : (m : Module) (k : Code) (n l : ℕ) (d : Kept) (c : Config) (h : ChannelName) (a : Tree) → Reflects m k n d c → c.channels h ≡ None → c.tasks h.maker ≡ None →
     h.count ≡ suc (d.made h.maker) → d.made h.maker < l → n ≤ l → Reflects m k l (opened h a d) (with_channel h (record { declared = a; history = [] }) c)
-opening m k n l d c h a r free away next few more = opening_here m k l d c h a (later m k n l d c r more) free away next few
+opening m k n l d c h a r free away next few more = adding m k l d c h a [] (later m k n l d c r more) free away next few tt

@@ -1,26 +1,26 @@
 -- What is kept along the least run.
-use Rattle.std.proofs.Common.{◌≡◌, ◌∙◌, inl, inr, ◌<◌, ◌≤◌, ℕ, zero, suc, List, [], ◌∷◌, ◌++◌, Some, None, length, refl, sym, ap, subst}
+use Rattle.std.proofs.Common.{◌≡◌, ◌∙◌, inl, inr, ◌<◌, ◌≤◌, ◌+◌, ℕ, zero, suc, List, [], ◌∷◌, ◌++◌, Some, None, length, refl, sym, ap, subst, arith}
 use Rattle.fst_types.specs.Tree.{Tree}
 use Rattle.fst_terms.specs.CoreTree.{CoreTree}
 use Rattle.fst_terms.specs.declared.core_module.Module.{Module}
 use Rattle.fst_machine.specs.declared.code.Code.{Code}
 use Rattle.fst_machine.specs.Machine.{Program}
-use Rattle.fst_vm.specs.Tasks.{IsFrom}
 use Rattle.fst_runs.specs.declared.event.CoreEvent.{CoreEvent}
-use Rattle.fst_runs.specs.Configs.{Path, Config, program, main_body, started}
+use Rattle.fst_runs.specs.Configs.{Path, Config, program, started}
 use Rattle.fst_runs.specs.Events.{Write, Does, Runs, IsLast, written}
 use Rattle.fst_runs.specs.Least.{TakesPart, IsLeast, RunsLeast}
 use Rattle.fst_runs.specs.Names.{HasMakers, HasParents}
 use Rattle.fst_runs.specs.Wrong.{IsRight}
 use Rattle.fst_runs.proofs.Naming.{named_start, named_after}
 use Rattle.fst_process.specs.declared.report.Report.{Report}
+use Rattle.fst_process.specs.declared.report.Outcome.{Outcome}
 use Rattle.fst_process.specs.declared.report.Outcome.TheVariants.{Done, OutOfSteps}
 use Rattle.fst_process.specs.Kept.{Kept}
 use Rattle.fst_process.specs.Reflects.{Reflects}
 use Rattle.fst_process.specs.Firing.{IsPossible, Happens, CanStart, IsBegun}
 use Rattle.fst_process.specs.Nexts.{IsNext}
-use Rattle.fst_process.specs.Reports.{IsReport, IsConfig, IsReported}
-use Rattle.fst_process.specs.Runs.{RunsRight, CanRun, IsOutcome}
+use Rattle.fst_process.specs.Reports.{IsReport, IsConfig, IsReported, IsAnswer, IsAnswerFrom}
+use Rattle.fst_process.specs.Runs.{RunsRightFrom, CanRun, IsOutcome, CanRunFrom, IsOutcomeFrom}
 use Rattle.fst_process.proofs.PathLaws.{some_same, none_some}
 use Rattle.fst_process.proofs.Moving.{nothing_ready, ready_moves}
 use Rattle.fst_process.proofs.Least.{is_least}
@@ -47,38 +47,76 @@ one_longer : (es : List CoreEvent) (e : CoreEvent) → length (es ++ e ∷ []) �
 one_longer [] e = refl
 one_longer (g ∷ es) e = ap suc (one_longer es e)
 
--- what is kept is what the least run of so many events has come to
-pub record IsReached (m : Module) (k : Code) (e : CoreTree) (n : ℕ) (d : Kept) : Type 0 where
+-- the least run as far as so many events
+shorter : (m : Program) (types : List Tree) (n : ℕ) (c : Config) (es : List CoreEvent) (d : Config) → RunsLeast m types c es d → n ≤ length es →
+    (fs : List CoreEvent) × (b : Config) × RunsLeast m types c fs b × (length fs ≡ n)
+shorter m types zero c es d r h = ([], c, refl, refl)
+shorter m types (suc n) c [] d r h = absurd (omega (arith, h))
+shorter m types (suc n) c (e ∷ es) d r h =
+    let s = shorter m types n (written c r.0) es d r.3 (omega (arith, h)) in
+    (e ∷ s.0, s.1, (r.0, r.1, r.2, s.2), ap suc s.3)
+
+-- what is kept is what the least run from a configuration has come to, so many events before it included
+pub record IsReached (m : Module) (k : Code) (b : Config) (before n : ℕ) (d : Kept) : Type 0 where
   pub events : List CoreEvent
   pub config : Config
-  pub runs : RunsLeast (program m) m.types.items (started e) events config
-  pub many : length events ≡ n
+  pub runs : RunsLeast (program m) m.types.items b events config
+  pub many : before + length events ≡ n
   pub reflects : Reflects m k n d config
   pub fresh : HasMakers config × HasParents config
 
--- so it is with each module whose code this is, and of which no run goes wrong
-abbrev pub IsKept : Code → ℕ → Kept → Type 0
-IsKept k n d = (m : Module) (e : CoreTree) → IsFrom m k → main_body m.globals.items ≡ Some e → RunsRight m e → IsReached m k e n d
+-- so it is with each configuration that was kept at first and from which no run goes wrong
+abbrev pub IsKept : Code → ℕ → Kept → ℕ → Kept → Type 0
+IsKept k before o n d =
+    (m : Module) (b : Config) → Reflects m k before o b → HasMakers b → HasParents b → RunsRightFrom m b → IsReached m k b before n d
 
 -- where no run goes wrong, the first configuration is right
 pub can_start : (k : Code) → CanRun k → CanStart k
 can_start k x = record { source = x.source; main = x.main; from = x.from; body = x.body; right = x.right [] (started x.main) refl }
 
--- it is so at first
-pub kept_first : (k : Code) (d : Kept) → IsBegun k d → IsKept k zero d
-kept_first k d b = λ m e from body right.
+-- and no run from it goes wrong
+pub can_run_from : (k : Code) (d : Kept) → IsBegun k d → CanRun k → CanRunFrom k zero d
+can_run_from k d b x =
+    let named = named_start x.main in
     record {
-      events = [];
-      config = started e;
-      runs = refl;
-      many = refl;
-      reflects = b m e from body (right [] (started e) refl);
-      fresh = named_start e;
+      source = x.source;
+      config = started x.main;
+      reflects = b x.source x.main x.from x.body (x.right [] (started x.main) refl);
+      makers = named.0;
+      parents = named.1;
+      right = x.right;
     }
 
-module _ (m : Module) (k : Code) (e : CoreTree) (n : ℕ) (d : Kept) (x : IsReached m k e n d) (right : RunsRight m e) where
+-- an answer from the first configuration is one of the module
+first_answer : (m : Module) (e : CoreTree) (steps : ℕ) (o : Outcome) → IsAnswerFrom m (started e) zero steps o → IsAnswer m e steps o
+first_answer m e steps (Done r) x =
+    let none : zero + length x.0 ≡ length x.0 = omega arith in
+    (x.0, x.1, x.2, x.3, subst (λ l. l ≤ steps) none x.4, subst (λ l. IsReport (program m) x.1 l r) none x.5)
+first_answer m e steps OutOfSteps x =
+    let over = x.3 in
+    shorter (program m) m.types.items (suc steps) (started e) x.0 x.1 x.2 (omega (arith, over))
+
+-- so the answer of a run that has begun is the answer of the run
+pub answers_begun : (k : Code) (steps : ℕ) (d : Kept) (o : Outcome) → IsBegun k d → IsOutcomeFrom k zero steps d o → IsOutcome k steps o
+answers_begun k steps d o b answer = λ m e from body right.
+    let named = named_start e in
+    first_answer m e steps o (answer m (started e) (b m e from body (right [] (started e) refl)) named.0 named.1 right)
+
+-- at first what is kept is what was
+pub kept_first : (k : Code) (n : ℕ) (d : Kept) → IsKept k n d n d
+kept_first k n d = λ m b reflects makers parents right.
+    record {
+      events = [];
+      config = b;
+      runs = refl;
+      many = omega arith;
+      reflects = reflects;
+      fresh = (makers, parents);
+    }
+
+module _ (m : Module) (k : Code) (b : Config) (before n : ℕ) (d : Kept) (x : IsReached m k b before n d) (right : RunsRightFrom m b) where
   right_here : IsRight (program m) x.config
-  right_here = right x.events x.config (runs_of_least (program m) m.types.items (started e) x.events x.config x.runs)
+  right_here = right x.events x.config (runs_of_least (program m) m.types.items b x.events x.config x.runs)
 
   -- the next event is possible, and the least one
   abbrev Goes : CoreEvent → Type 0
@@ -94,7 +132,7 @@ module _ (m : Module) (k : Code) (e : CoreTree) (n : ℕ) (d : Kept) (x : IsReac
   right_after : (ev : CoreEvent) (w : Write) → Does (program m) m.types.items x.config ev w → IsRight (program m) (written x.config w)
   right_after ev w f =
       right (x.events ++ ev ∷ []) (written x.config w)
-      (runs_more (program m) m.types.items (started e) x.events x.config ev w (runs_of_least (program m) m.types.items (started e) x.events x.config x.runs) f)
+      (runs_more (program m) m.types.items b x.events x.config ev w (runs_of_least (program m) m.types.items b x.events x.config x.runs) f)
 
   -- the next event is possible
   pub next_possible : (ev : CoreEvent) → IsNext d (Some ev) → n < 4294967295 → IsPossible k d ev
@@ -115,14 +153,14 @@ module _ (m : Module) (k : Code) (e : CoreTree) (n : ℕ) (d : Kept) (x : IsReac
       }
 
   -- what is kept after the next event
-  pub reached_next : (ev : CoreEvent) (f : Kept) → IsNext d (Some ev) → Happens k d ev f → IsReached m k e (suc n) f
+  pub reached_next : (ev : CoreEvent) (f : Kept) → IsNext d (Some ev) → Happens k d ev f → IsReached m k b before (suc n) f
   reached_next ev f next happens =
       let g = goes ev next in
       record {
         events = x.events ++ ev ∷ [];
         config = written x.config g.3;
-        runs = least_more (program m) m.types.items (started e) x.events x.config ev g.3 x.runs g.4 g.2;
-        many = one_longer x.events ev ∙ ap suc x.many;
+        runs = least_more (program m) m.types.items b x.events x.config ev g.3 x.runs g.4 g.2;
+        many = let more = one_longer x.events ev in let many = x.many in omega (arith, more, many);
         reflects = happens m n x.config g.3 x.reflects g.4 (right_after ev g.3 g.4) x.fresh.0 x.fresh.1;
         fresh = named_after (program m) m.types.items x.config ev g.3 g.4 x.fresh.0 x.fresh.1;
       }
@@ -134,36 +172,39 @@ module _ (m : Module) (k : Code) (e : CoreTree) (n : ℕ) (d : Kept) (x : IsReac
       let g = ready_moves m k n d x.config x.reflects (right_fine m x.config right_here) f.0 f.1.moves in
       absurd (none_some (f.2 ∙ g.1))
 
--- the next event is possible where a module's run is known to be right
-pub possible_next : (k : Code) (n : ℕ) (d : Kept) (ev : CoreEvent) → IsKept k n d → IsNext d (Some ev) → n < 4294967295 → CanRun k → IsPossible k d ev
-possible_next k n d ev kept next few x =
-    next_possible x.source k x.main n d (kept x.source x.main x.from x.body x.right) x.right ev next few
+-- the next event is possible where no run is known to go wrong
+pub possible_next : (k : Code) (before : ℕ) (o : Kept) (n : ℕ) (d : Kept) (ev : CoreEvent) → IsKept k before o n d → IsNext d (Some ev) → n < 4294967295 →
+    CanRunFrom k before o → IsPossible k d ev
+possible_next k before o n d ev kept next few x =
+    next_possible x.source k x.config before n d (kept x.source x.config x.reflects x.makers x.parents x.right) x.right ev next few
 
 -- and what is kept after it is what the run has come to
-pub kept_next : (k : Code) (n l : ℕ) (d f : Kept) (ev : CoreEvent) → IsKept k n d → IsNext d (Some ev) → Happens k d ev f → suc n ≡ l → IsKept k l f
-kept_next k n l d f ev kept next happens more = λ m e from body right.
-    subst (λ z. IsReached m k e z f) more (reached_next m k e n d (kept m e from body right) right ev f next happens)
+pub kept_next : (k : Code) (before : ℕ) (o : Kept) (n l : ℕ) (d f : Kept) (ev : CoreEvent) → IsKept k before o n d → IsNext d (Some ev) → Happens k d ev f → suc n ≡ l →
+    IsKept k before o l f
+kept_next k before o n l d f ev kept next happens more = λ m b reflects makers parents right.
+    subst (λ z. IsReached m k b before z f) more (reached_next m k b before n d (kept m b reflects makers parents right) right ev f next happens)
 
 -- the report of what is kept is the answer where there is no next event
-pub answers_done : (k : Code) (steps n : ℕ) (d : Kept) (r : Report) → IsKept k n d → IsNext d None → n ≤ steps → IsReported d n r → IsOutcome k steps (Done r)
-answers_done k steps n d r kept next few reported = λ m e from body right.
-    let x = kept m e from body right in (
+pub answers_done : (k : Code) (before : ℕ) (o : Kept) (steps n : ℕ) (d : Kept) (r : Report) → IsKept k before o n d → IsNext d None → n ≤ steps → IsReported d n r →
+    IsOutcomeFrom k before steps o (Done r)
+answers_done k before o steps n d r kept next few reported = λ m b reflects makers parents right.
+    let x = kept m b reflects makers parents right in (
       x.events,
       x.config,
       x.runs,
-      reached_last m k e n d x right next,
+      reached_last m k b before n d x right next,
       subst (λ l. l ≤ steps) (sym x.many) few,
       subst (λ l. IsReport (program m) x.config l r) (sym x.many) (reported m k n x.config x.reflects),
     )
 
 -- and the answer after one event too many
-pub answers_out : (k : Code) (steps n : ℕ) (d : Kept) → IsKept k n d → n ≡ suc steps → IsOutcome k steps OutOfSteps
-answers_out k steps n d kept over = λ m e from body right.
-    let x = kept m e from body right in
-    (x.events, x.config, x.runs, x.many ∙ over)
+pub answers_out : (k : Code) (before : ℕ) (o : Kept) (steps n : ℕ) (d : Kept) → IsKept k before o n d → steps < n → IsOutcomeFrom k before steps o OutOfSteps
+answers_out k before o steps n d kept over = λ m b reflects makers parents right.
+    let x = kept m b reflects makers parents right in
+    (x.events, x.config, x.runs, subst (λ l. steps < l) (sym x.many) over)
 
 -- what is kept is some configuration
-pub some_config : (k : Code) (n : ℕ) (d : Kept) → IsKept k n d → n < 4294967295 → CanRun k → IsConfig d
-some_config k n d kept few x =
-    let y = kept x.source x.main x.from x.body x.right in
+pub some_config : (k : Code) (before : ℕ) (o : Kept) (n : ℕ) (d : Kept) → IsKept k before o n d → n < 4294967295 → CanRunFrom k before o → IsConfig d
+some_config k before o n d kept few x =
+    let y = kept x.source x.config x.reflects x.makers x.parents x.right in
     record { source = x.source; code = k; events = n; config = y.config; reflects = y.reflects; few = few }

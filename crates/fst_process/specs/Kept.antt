@@ -1,5 +1,5 @@
 -- What is kept of a configuration, and how single steps change it.
-use Rattle.std.specs.Prelude.{ℕ, suc, Bool, true, false, Option, Some, None, option_map, option_and_then, is_some, List, [], ◌∷◌, ◌++◌, nat_lt, if◌then◌else◌}
+use Rattle.std.specs.Prelude.{ℕ, zero, suc, Bool, true, false, Option, Some, None, option_map, option_and_then, is_some, List, [], ◌∷◌, ◌++◌, nat_lt, if◌then◌else◌}
 use Rattle.fst_types.specs.Tree.{Tree}
 use Rattle.fst_types.specs.declared.side.Side.{Side}
 use Rattle.fst_types.specs.declared.side.Side.TheVariants.{Left, Right}
@@ -133,12 +133,17 @@ settled_at types p s d = noted types p s.request (record d { tasks = put_at p (S
 abbrev pub settled : ℕ → Slot → Kept → Kept
 settled types s d = settled_at types s.task.path s d
 
+-- nothing is kept
+abbrev pub nothing : Kept
+nothing = record { tasks = λ p. None; channels = λ h. None; made = λ p. zero; ready = λ p. false }
+
+-- a task has this channel besides those that it has made
+abbrev pub added : ChannelName → Channel → Kept → Kept
+added h j d = record d { channels = put_channel h j d.channels; made = put_at h.maker (suc (d.made h.maker)) d.made }
+
 -- a new channel of a task
 abbrev pub opened : ChannelName → Tree → Kept → Kept
-opened h t d = record d {
-  channels = put_channel h (record { declared = t; history = []; left = None; right = None }) d.channels;
-  made = put_at h.maker (suc (d.made h.maker)) d.made;
-}
+opened h t d = added h (record { declared = t; history = []; left = None; right = None }) d
 
 -- an entry is added to a channel, and nobody asks at its ends any more
 abbrev pub passed : Entry → Channel → Channel

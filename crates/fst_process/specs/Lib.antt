@@ -6,3 +6,4 @@ pub mod Nexts
 pub mod Reports
 pub mod Runs
 pub mod Listed
+pub mod Resuming

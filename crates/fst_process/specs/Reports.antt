@@ -1,5 +1,5 @@
 -- What a run answers.
-use Rattle.std.specs.Prelude.{◌≡◌, ◌↔◌, ◌⊎◌, ◌<◌, ◌≤◌, ℕ, suc, Option, Some, None, List, [], ◌∷◌, ⊤, length, Contains}
+use Rattle.std.specs.Prelude.{◌≡◌, ◌↔◌, ◌⊎◌, ◌<◌, ◌≤◌, ◌+◌, ℕ, suc, Option, Some, None, List, [], ◌∷◌, ⊤, length, Contains}
 use Rattle.fst_terms.specs.CoreTree.{CoreTree}
 use Rattle.fst_terms.specs.declared.core_module.Module.{Module}
 use Rattle.fst_value.specs.ValueTree as tree
@@ -84,3 +84,11 @@ IsAnswer m e steps (Done r) =
     (es : List CoreEvent) × (c : Config) × RunsLeast (program m) m.types.items (started e) es c × IsLast (program m) m.types.items c ×
     (length es ≤ steps) × IsReport (program m) c (length es) r
 IsAnswer m e steps OutOfSteps = (es : List CoreEvent) × (c : Config) × RunsLeast (program m) m.types.items (started e) es c × (length es ≡ suc steps)
+
+-- what the least run from a configuration comes to, where so many events before it count among the steps
+abbrev pub IsAnswerFrom : Module → Config → ℕ → ℕ → Outcome → Type 0
+IsAnswerFrom m b before steps (Done r) =
+    (es : List CoreEvent) × (c : Config) × RunsLeast (program m) m.types.items b es c × IsLast (program m) m.types.items c ×
+    (before + length es ≤ steps) × IsReport (program m) c (before + length es) r
+IsAnswerFrom m b before steps OutOfSteps =
+    (es : List CoreEvent) × (c : Config) × RunsLeast (program m) m.types.items b es c × (steps < before + length es)

@@ -3,8 +3,8 @@ ghost use Rattle.std.specs.Option.{option_copied};
 ghost use Rattle.fst_lts.specs.Histories.{last_stamp};
 ghost use Rattle.fst_vm.specs.Tasks.{HasNext};
 ghost use Rattle.fst_runs.specs.Configs.{channel_name};
-ghost use Rattle.fst_process.specs.Kept.{partner, changed, opened, passed};
-ghost use Rattle.fst_process.specs.KeptOf.{kept_of, slot_of};
+ghost use Rattle.fst_process.specs.Kept.{nothing, partner, changed, added, opened, passed};
+ghost use Rattle.fst_process.specs.KeptOf.{kept_of, slot_of, channel_of};
 ghost use Rattle.fst_process.specs.Firing.{Settles, CanGoOn, HasGoneOn, CanStart, IsBegun};
 ghost use Rattle.fst_process.specs.Nexts.{event_with, event_of, IsNext, TellsMoving};
 ghost use Rattle.fst_process.specs.Reports.{IsConfig, IsReported};
@@ -31,17 +31,24 @@ pub struct Config {
 }
 
 impl Config {
+    /// No task, and no channel.
+    pub(crate) fn empty(alloc: Global) -> Config
+        ensures { kept_of result ≡ nothing }
+    {
+        Config {
+            alloc,
+            tasks: BTreeMap::new(alloc),
+            channels: BTreeMap::new(alloc),
+            ready: BTreeSet::new(alloc),
+        }
+    }
+
     /// The task of `main` alone, and no channel.
     pub fn start(alloc: Global, code: &Code) -> Result<Config, AllocError>
         requires { ∥ CanStart code.now ∥₁ }
         ensures { IfOk result (λ v. IsBegun code.now (kept_of v)) }
     {
-        let mut config = Config {
-            alloc,
-            tasks: BTreeMap::new(alloc),
-            channels: BTreeMap::new(alloc),
-            ready: BTreeSet::new(alloc),
-        };
+        let mut config = Config::empty(alloc);
         let task = Task::start(alloc, code)?;
         config.settle(code, task, 0)?;
         Ok(config)
@@ -207,6 +214,27 @@ impl Config {
         }
     }
 
+    /// Puts a channel in behind those that its maker has, and answers how many these are then.
+    pub(crate) fn push_channel(
+        &mut self,
+        maker: &Path,
+        channel: Channel,
+    ) -> Result<usize, AllocError>
+        ensures count { IfOk result (λ n. n ≡ suc ((kept_of self.old).made maker.now)) }
+        ensures added { OnOk result (kept_of self.new ≡
+            added (channel_name maker.now ((kept_of self.old).made maker.now)) (channel_of channel) (kept_of self.old)) }
+    {
+        let mut channels = match self.channels.remove(maker.as_slice()) {
+            Some(channels) => channels,
+            None => Vec::new(self.alloc),
+        };
+        channels.push(channel)?;
+        let count = channels.len();
+        let key = Vec::from_slice(self.alloc, maker.as_slice())?;
+        self.channels.insert(key, channels)?;
+        Ok(count)
+    }
+
     /// Adds a channel of a task.
     pub(crate) fn add_channel(
         &mut self,
@@ -217,23 +245,17 @@ impl Config {
         ensures name { IfOk result (λ h. h ≡ channel_name maker.now ((kept_of self.old).made maker.now)) }
         ensures opened { IfOk result (λ h. kept_of self.new ≡ opened h declared (kept_of self.old)) }
     {
-        let mut channels = match self.channels.remove(maker.as_slice()) {
-            Some(channels) => channels,
-            None => Vec::new(self.alloc),
-        };
-        let count = channels.len() as u32 + 1;
         let entries = Vec::new(self.alloc);
-        channels.push(Channel {
+        let channel = Channel {
             declared,
             entries,
             left: None,
             right: None,
-        })?;
-        let key = Vec::from_slice(self.alloc, maker.as_slice())?;
-        self.channels.insert(key, channels)?;
+        };
+        let count = self.push_channel(maker, channel)?;
         Ok(ChannelName {
             maker: maker.copy(self.alloc)?,
-            count,
+            count: count as u32,
         })
     }
 

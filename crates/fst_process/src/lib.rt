@@ -6,8 +6,9 @@ mod firing;
 mod kept;
 mod notes;
 mod report;
+mod resuming;
 mod run;
 
 pub use config::Config;
 pub use report::{Outcome, Report, Waiting};
-pub use run::run_one;
+pub use run::{run_from, run_one};

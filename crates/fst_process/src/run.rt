@@ -1,5 +1,6 @@
 ghost use Rattle.std.specs.Prelude.{◌<◌, IfOk};
-ghost use Rattle.fst_process.specs.Runs.{CanRun, IsOutcome};
+ghost use Rattle.fst_process.specs.KeptOf.{kept_of};
+ghost use Rattle.fst_process.specs.Runs.{CanRun, IsOutcome, CanRunFrom, IsOutcomeFrom};
 
 use crate::config::Config;
 use crate::report::Outcome;
@@ -12,17 +13,34 @@ pub fn run_one(alloc: Global, code: &Code, steps: u64) -> Result<Outcome, AllocE
     requires right { ∥ CanRun code.now ∥₁ }
     ensures { IfOk result (IsOutcome code.now steps) }
 {
-    let mut config = Config::start(alloc, code)?;
-    let mut events: u64 = 0;
-    while events <= steps {
+    let config = Config::start(alloc, code)?;
+    run_from(config, code, 0, steps)
+}
+
+/// What the least run from a configuration comes to: always the event of the first task that can move happens. So many events
+/// have happened before, and count among the steps: no clock, number or stamp in the configuration is over their number, and
+/// no run from it goes wrong. The run is out of steps exactly where they and those that it has are more than `steps`. Where
+/// memory is wanting, the configuration is dropped.
+pub fn run_from(
+    mut config: Config,
+    code: &Code,
+    events: u64,
+    steps: u64,
+) -> Result<Outcome, AllocError>
+    requires few { steps < 4294967295 }
+    requires right { ∥ CanRunFrom code.now events (kept_of config) ∥₁ }
+    ensures { IfOk result (IsOutcomeFrom code.now events steps (kept_of config)) }
+{
+    let mut count = events;
+    while count <= steps {
         match config.next()? {
             Some(event) => config.fire(code, &event)?,
             None => {
-                let report = config.report(events)?;
+                let report = config.report(count)?;
                 return Ok(Outcome::Done(report));
             }
         }
-        events += 1;
+        count += 1;
     }
     Ok(Outcome::OutOfSteps)
 }
