@@ -1,0 +1,10 @@
+pub mod Sums
+pub mod Wholes
+pub mod Chains
+pub mod Starting
+pub mod Tests
+pub mod Paths
+pub mod Partners
+pub mod Shown
+pub mod Shutting
+pub mod Catching

@@ -1,0 +1,4 @@
+pub mod Works
+pub mod Pairs
+pub mod Records
+pub mod Laws
