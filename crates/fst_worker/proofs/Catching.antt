@@ -1,5 +1,5 @@
 -- Tasks are told what of theirs was taken, and then logs and histories are a record.
-use Rattle.std.proofs.Common.{◌≡◌, ◌∙◌, ◌⊎◌, inl, inr, ◌<◌, ◌≤◌, ℕ, zero, suc, ◌+◌, Bool, true, List, [], ◌∷◌, ◌++◌, Option, Some, None, refl, sym, ap, subst, arith}
+use Rattle.std.proofs.Common.{◌≡◌, ◌∙◌, ◌⊎◌, inl, inr, ◌<◌, ◌≤◌, ℕ, zero, suc, ◌+◌, Bool, true, List, [], ◌∷◌, ◌++◌, Option, Some, None, refl, sym, ap, arith}
 use Rattle.std.specs.Prelude.{sum_by, All, Contains, option_to_list}
 use Rattle.std.proofs.lemmas.List.{append-nil}
 use Rattle.std.proofs.lemmas.List.Elements.{All-nil, All-cons, All-head, All-tail, All-weaker, All-contains}
@@ -33,6 +33,7 @@ use Rattle.fst_worker.specs.Records.{FitsRecord, IsLogged, IsRecorded, Pair, IsS
 use Rattle.fst_worker.specs.Laws.{Finishes, RecordLaw}
 use Rattle.fst_worker.proofs.Shown.{shown_more}
 use Rattle.fst_worker.proofs.Shutting.{IsBehind, EndsPass, settled, shut_type, by_histories, all_histories, all_settled, all_behind, idle_level, lacking_waits}
+use Rattle.fst_worker.proofs.Standing.{as_closed, all_as_closed, waits_so}
 use Rattle.fst_worker.proofs.Sums.{exchanges_more, births_more, openings_more, sum_none, sum_both}
 use Rattle.fst_worker.proofs.Tests.{end_counts, there_sums}
 
@@ -192,19 +193,6 @@ module _ (m : Surroundings) (a : Tree) (main : Birth) (xs : List Thread) (ps : L
               omega (arith, b, c, q, r);
         }
 
-  waiting_of : (x : Thread) → IsHere x → All (λ (e : EndView). (o : Offer) → e.knows.offer ≡ Some o → (missing ks e ≡ None) ⊎ ((d : Entry) × IsTrailing ks e o d)) x.bag
-  waiting_of x h = λ k c l. one _ (h.1.0 k c l)
-    where
-      one : (e : EndView) → settles e ≡ true → (o : Offer) → e.knows.offer ≡ Some o → (missing ks e ≡ None) ⊎ ((d : Entry) × IsTrailing ks e o d)
-      one e s o q = by (missing ks e) refl
-        where
-          same : {u v : Offer} → Some u ≡ Some v → u ≡ v
-          same i = cc
-
-          by : (r : Option Entry) → missing ks e ≡ r → (r ≡ None) ⊎ ((d : Entry) × IsTrailing ks e o d)
-          by None i = inl refl
-          by (Some d) i = let v = waits_of e s d i in inr (d, subst (λ o. IsTrailing ks e o d) (same (sym v.1 ∙ q)) v.2)
-
   -- ---- the record
 
   -- the sums of a thread's log after it was told
@@ -332,7 +320,11 @@ module _ (m : Surroundings) (a : Tree) (main : Birth) (xs : List Thread) (ps : L
 
   pub finishes : Finishes m main xs ps
   finishes = record {
-    waiting = All-weaker IsHere (λ (x : Thread). All (λ (e : EndView). (o : Offer) → e.knows.offer ≡ Some o → (missing ks e ≡ None) ⊎ ((d : Entry) × IsTrailing ks e o d)) x.bag) waiting_of xs all_here;
+    waiting = λ k c l e o p in_bag q there is.
+        let h = all_here k c l in
+        let t = all_as_closed m a main xs ps root fit whole paired shut k c l in
+        waits_so m a main xs ps root fit whole paired shut e (All-contains (λ (e : EndView). settles e ≡ true) _ e h.1.0 in_bag)
+        (All-contains (λ (e : EndView). as_closed m a main xs ps root fit whole paired shut e ≡ true) _ e t.0 in_bag) o p q there is;
     level = All-weaker IsHere (λ (x : Thread). All (λ (e : EndView). e.knows.offer ≡ None → missing ks e ≡ None) x.bag) (λ x h k c l. level_of _ (h.1.0 k c l)) xs all_here;
     stays = λ k c l level bag retired. let h = all_here k c l in stays m a ks _ h.0 level (spent_level _ h) bag retired;
     told = λ k c l e d in_bag lacks. let h = all_here k c l in (asks_it _ h e d in_bag lacks, told _ h e d in_bag lacks);

@@ -7,4 +7,6 @@ pub mod Paths
 pub mod Partners
 pub mod Shown
 pub mod Shutting
+pub mod Standing
 pub mod Catching
+pub mod Pools

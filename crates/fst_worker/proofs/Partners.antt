@@ -1,8 +1,10 @@
 -- The two ends of a channel are among those of all threads, with one cell and one declared type.
-use Rattle.std.proofs.Common.{◌≡◌, ◌⊎◌, inl, inr, ◌<◌, ◌≤◌, ℕ, ◌+◌, ◌*◌, List, [], ◌∷◌, ◌++◌, refl, sym, ap, ◌∙◌, arith}
-use Rattle.std.specs.Prelude.{sum_by, All}
+use Rattle.std.proofs.Common.{◌≡◌, ◌⊎◌, inl, inr, ◌<◌, ◌≤◌, ℕ, ◌+◌, ◌*◌, List, [], ◌∷◌, ◌++◌, refl, sym, ap, ◌∙◌, subst, arith}
+use Rattle.std.specs.Prelude.{sum_by, All, Contains}
+use Rattle.std.proofs.lemmas.List.Elements.{Contains-append_left, Contains-append_right}
 use Rattle.std.proofs.lemmas.List.Sums.{sum_by-append, sum_by-cons}
 use Rattle.atomic_table.specs.Seated.{TableId, table_id_coded}
+use Rattle.fst_base.proofs.Lists.{from_contains, contains_none}
 use Rattle.fst_types.specs.ModelCode.{tree_code}
 use Rattle.fst_types.specs.Tree.{Tree}
 use Rattle.fst_types.specs.declared.side.Side.{Side}
@@ -23,7 +25,7 @@ use Rattle.fst_worker.proofs.Paths.{ends_once}
 use Rattle.fst_worker.proofs.Sums.{sum_same}
 use Rattle.fst_worker.proofs.Tests.{end_or, end_counts, by_side, by_sides, one_by}
 
-abbrev counted : EndName → EndView → ℕ
+abbrev pub counted : EndName → EndView → ℕ
 counted z e = once (same_end z (end_name e))
 
 -- ---- ends that are there
@@ -41,6 +43,14 @@ all_ends w (x ∷ xs) =
     let c = sum_by-append w x.retired (ends_of xs) in
     let ih = all_ends w xs in
     omega (arith, a, b, c, ih)
+
+bag_or : (y x : Thread) (ys : List Thread) (e : EndView) → Contains x.bag e → (y ≡ x) ⊎ Contains ys x → (Contains ys x → Contains (ends_of ys) e) → Contains (ends_of (y ∷ ys)) e
+bag_or y x ys e b (inl i) more = Contains-append_left y.bag (y.retired ++ ends_of ys) e (subst (λ (t : Thread). Contains t.bag e) (sym i) b)
+bag_or y x ys e b (inr c) more = Contains-append_right y.bag (y.retired ++ ends_of ys) e (Contains-append_right y.retired (ends_of ys) e (more c))
+
+of_bag : (xs : List Thread) (x : Thread) (e : EndView) → Contains xs x → Contains x.bag e → Contains (ends_of xs) e
+of_bag [] x e c b = absurd (contains_none x c)
+of_bag (y ∷ ys) x e c b = bag_or y x ys e b (from_contains ys x y c) (λ i. of_bag ys x e i b)
 
 -- an end of a name among some
 record Found (z : EndName) (es : List EndView) : Type 0 where
@@ -69,6 +79,25 @@ found_or z e es n more (inr q) =
 found : (z : EndName) (es : List EndView) → 0 < sum_by (counted z) es → Found z es
 found z [] n = absurd (omega (arith, n))
 found z (e ∷ es) n = found_or z e es n (found z es) (end_or z (end_name e))
+
+split_or : (f e : EndView) (es : List EndView) → (e ≡ f) ⊎ Contains es f → (Contains es f → (rest : List EndView) × ((w : EndView → ℕ) → sum_by w es ≡ w f + sum_by w rest)) →
+    (rest : List EndView) × ((w : EndView → ℕ) → sum_by w (e ∷ es) ≡ w f + sum_by w rest)
+split_or f e es (inl q) more = (es, λ w. sum_by-cons w e es ∙ ap (λ x. w x + sum_by w es) q)
+split_or f e es (inr c) more =
+    let r = more c in
+    (e ∷ r.0, λ w. let a = sum_by-cons w e es in let b = sum_by-cons w e r.0 in let d = r.1 w in omega (arith, a, b, d))
+
+-- some ends are one of them and others
+pub split_of : (f : EndView) (es : List EndView) → Contains es f → (rest : List EndView) × ((w : EndView → ℕ) → sum_by w es ≡ w f + sum_by w rest)
+split_of f [] c = absurd (contains_none f c)
+split_of f (e ∷ es) c = split_or f e es (from_contains es f e c) (split_of f es)
+
+-- an end of a thread's bag is one of all
+pub in_bag : (xs : List Thread) (x : Thread) (e : EndView) → Contains xs x → Contains x.bag e → HasEnd xs e
+in_bag xs x e c b = at_once (of_bag xs x e c b)
+  where
+    at_once : Contains (ends_of xs) e → HasEnd xs e
+    at_once c = let s = split_of e (ends_of xs) c in record { rest = s.0; ends = λ w. all_ends w xs ∙ s.1 w }
 
 -- an end that counts is there
 pub there : (z : EndName) (xs : List Thread) → 0 < sum_by (of_ends (counted z)) xs → (e : EndView) × HasEnd xs e × (end_name e ≡ z)
@@ -138,7 +167,7 @@ module _ (m : Surroundings) (a : Tree) (main : Birth) (xs : List Thread) (root :
       }
 
   -- as many ends have a name as have that of the other end
-  others_count : (z : EndName) → sum_by (of_ends (counted z)) xs ≡ sum_by (of_ends (counted (other z))) xs
+  pub others_count : (z : EndName) → sum_by (of_ends (counted z)) xs ≡ sum_by (of_ends (counted (other z))) xs
   others_count z =
       let w = λ (n : ChannelName) (t : Tree). once (same_channel z.channel n) in
       sym (same_ends (by_type z.side w) (counted z) (λ e. by_side (same_channel z.channel e.channel) z.side e.knows.side) xs)

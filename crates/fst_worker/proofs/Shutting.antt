@@ -73,7 +73,7 @@ settled (Some d) None = false
 settled (Some d) (Some o) = same_by event_code d.event o.event && (nat_eq d.sent o.clock && nat_lt o.clock d.stamp)
 
 -- an end doesn't wait, or its residual sends what it offers
-abbrev sends_by : Option Tree → Option Offer → Bool
+abbrev pub sends_by : Option Tree → Option Offer → Bool
 sends_by r None = true
 sends_by r (Some o) = sends r o.event
 
@@ -116,11 +116,11 @@ stamped_later n [] d f = let s = f.0 in omega (arith, s)
 stamped_later n (c ∷ h) d f = stamped_later c.stamp h d f.3
 
 -- how much of a history an end lacks
-record Reaches (h : List Entry) (v : Half) : Type 0 where
-  lacks : Option Entry
-  is : h ≡ v.history ++ option_to_list lacks
-  next : slice_get h (length v.history) ≡ lacks
-  settles : settled lacks v.offer ≡ true
+pub record Reaches (h : List Entry) (v : Half) : Type 0 where
+  pub lacks : Option Entry
+  pub is : h ≡ v.history ++ option_to_list lacks
+  pub next : slice_get h (length v.history) ≡ lacks
+  pub settles : settled lacks v.offer ≡ true
 
 level : (h : List Entry) (v : Half) → v.history ≡ h → Reaches h v
 level h v e = record { lacks = None; is = sym (append-nil v.history ∙ e); next = ap (λ l. slice_get l (length v.history)) (sym e) ∙ get_none v.history; settles = refl }
@@ -149,7 +149,7 @@ reaches h v idle trails stamped = by v.offer refl
 abbrev pub Passes : (EndView → Bool) → EndView → Type 0
 Passes t e = t e ≡ true
 
-abbrev BothPass : (EndView → Bool) → Pair → Type 0
+abbrev pub BothPass : (EndView → Bool) → Pair → Type 0
 BothPass t p = Passes t p.left × Passes t p.right
 
 abbrev pub EndsPass : (EndView → Bool) → Thread → Type 0
@@ -196,36 +196,47 @@ pub record IsBehind (ks : List ChannelHistory) (e : EndView) (h : List Entry) : 
   pub missing_is : missing ks e ≡ lacks
   pub sends_it : (d : Entry) → lacks ≡ Some d → sends (residual_of e.knows) d.event ≡ true
 
-abbrev of_channel : ChannelName → Pair → ℕ
+abbrev pub of_channel : ChannelName → Pair → ℕ
 of_channel h p = once (same_channel h p.closed.history.name)
 
--- what is looked up in a history, or later
-abbrev look : Pair → List Pair → EndView → Bool → Option Entry
-look q ps e b = if b then slice_get q.closed.history.entries.items (length e.knows.history) else missing (histories_of ps) e
+-- what is said of the channel of a name, by the first pair that has it
+abbrev pub look : {R : Type 0} → (Pair → R) → R → List Pair → ChannelName → R
+look f none [] h = none
+look f none (p ∷ ps) h = if same_channel h p.closed.history.name then f p else look f none ps h
 
-missing_or : (ps : List Pair) (e : EndView) (p q : Pair) → e.channel ≡ p.closed.history.name → sum_by (of_channel e.channel) (q ∷ ps) ≤ 1 →
-    (Contains ps p → missing (histories_of ps) e ≡ slice_get p.closed.history.entries.items (length e.knows.history)) → (q ≡ p) ⊎ Contains ps p →
-    look q ps e (same_channel e.channel q.closed.history.name) ≡ slice_get p.closed.history.entries.items (length e.knows.history)
-missing_or ps e p q is le more (inl i) =
-    ap (look q ps e) (ap (λ n. same_channel n q.closed.history.name) (is ∙ ap (λ (p : Pair). p.closed.history.name) (sym i)) ∙ same_channel-itself q.closed.history.name)
-    ∙ ap (λ (p : Pair). slice_get p.closed.history.entries.items (length e.knows.history)) i
-missing_or ps e p q is le more (inr i) = ap (look q ps e) (apart (same_channel e.channel q.closed.history.name) refl) ∙ more i
+look_or : {R : Type 0} (f : Pair → R) (none : R) (ps : List Pair) (h : ChannelName) (p q : Pair) → h ≡ p.closed.history.name → sum_by (of_channel h) (q ∷ ps) ≤ 1 →
+    (Contains ps p → look f none ps h ≡ f p) → (q ≡ p) ⊎ Contains ps p → look f none (q ∷ ps) h ≡ f p
+look_or f none ps h p q is le more (inl i) =
+    ap (λ (b : Bool). if b then f q else look f none ps h) (ap (λ n. same_channel n q.closed.history.name) (is ∙ ap (λ (p : Pair). p.closed.history.name) (sym i))
+    ∙ same_channel-itself q.closed.history.name) ∙ ap f i
+look_or f none ps h p q is le more (inr i) = ap (λ (b : Bool). if b then f q else look f none ps h) (apart (same_channel h q.closed.history.name) refl) ∙ more i
   where
-    apart : (b : Bool) → same_channel e.channel q.closed.history.name ≡ b → b ≡ false
+    apart : (b : Bool) → same_channel h q.closed.history.name ≡ b → b ≡ false
     apart false r = refl
     apart true r =
-        let a = sum_by-cons (of_channel e.channel) q ps in
+        let a = sum_by-cons (of_channel h) q ps in
         let b = ap once r in
-        let c = there_sums (of_channel e.channel) ps p i in
-        let d = channel_counts e.channel p.closed.history.name is in
+        let c = there_sums (of_channel h) ps p i in
+        let d = channel_counts h p.closed.history.name is in
         absurd (omega (arith, a, b, c, d, le))
 
--- the history of a name that only one pair has
+-- where only one pair has a name, it is said of that
+pub look_of : {R : Type 0} (f : Pair → R) (none : R) (ps : List Pair) (h : ChannelName) (p : Pair) → Contains ps p → h ≡ p.closed.history.name → sum_by (of_channel h) ps ≤ 1 →
+    look f none ps h ≡ f p
+look_of f none [] h p c is le = absurd (contains_none p c)
+look_of f none (q ∷ ps) h p c is le =
+    look_or f none ps h p q is le (λ i. look_of f none ps h p i is (let a = sum_by-cons (of_channel h) q ps in omega (arith, a, le))) (from_contains ps p q c)
+
+abbrev behind_in : EndView → Pair → Option Entry
+behind_in e p = slice_get p.closed.history.entries.items (length e.knows.history)
+
+missing_is : (ps : List Pair) (e : EndView) → missing (histories_of ps) e ≡ look (behind_in e) None ps e.channel
+missing_is [] e = refl
+missing_is (p ∷ ps) e = ap (λ (r : Option Entry). if same_channel e.channel p.closed.history.name then behind_in e p else r) (missing_is ps e)
+
 missing_of : (ps : List Pair) (e : EndView) (p : Pair) → Contains ps p → e.channel ≡ p.closed.history.name → sum_by (of_channel e.channel) ps ≤ 1 →
     missing (histories_of ps) e ≡ slice_get p.closed.history.entries.items (length e.knows.history)
-missing_of [] e p c is le = absurd (contains_none p c)
-missing_of (q ∷ ps) e p c is le =
-    missing_or ps e p q is le (λ i. missing_of ps e p i is (let a = sum_by-cons (of_channel e.channel) q ps in omega (arith, a, le))) (from_contains ps p q c)
+missing_of ps e p c is le = missing_is ps e ∙ look_of (behind_in e) None ps e.channel p c is le
 
 -- the left end of a pair, and its right one, weigh as the channel
 pub shut_type : (w : ChannelName → Tree → ℕ) (p : Pair) → IsShut p → by_type Left w p.left + by_type Left w p.right ≡ w p.closed.history.name p.closed.history.declared
@@ -254,7 +265,7 @@ module _ (m : Surroundings) (a : Tree) (main : Birth) (xs : List Thread) (ps : L
   abbrev ks : List ChannelHistory
   ks = histories_of ps
 
-  names_once : (h : ChannelName) → sum_by (of_channel h) ps ≤ 1
+  pub names_once : (h : ChannelName) → sum_by (of_channel h) ps ≤ 1
   names_once h =
       let w = λ (n : ChannelName) (t : Tree). once (same_channel h n) in
       let q = by_both w ps shut in
@@ -277,16 +288,16 @@ module _ (m : Surroundings) (a : Tree) (main : Birth) (xs : List Thread) (ps : L
   pub here : All (λ (p : Pair). Contains ps p × IsShut p) ps
   here = λ k d l. (All-contains_itself ps k d l, shut k d l)
 
-  left_reaches : (p : Pair) → IsShut p → Reaches p.closed.history.entries.items p.left.knows
+  pub left_reaches : (p : Pair) → IsShut p → Reaches p.closed.history.entries.items p.left.knows
   left_reaches p s = reaches p.closed.history.entries.items p.left.knows s.closed.left_level s.closed.left s.closed.stamped
 
-  right_reaches : (p : Pair) → IsShut p → Reaches p.closed.history.entries.items p.right.knows
+  pub right_reaches : (p : Pair) → IsShut p → Reaches p.closed.history.entries.items p.right.knows
   right_reaches p s = reaches p.closed.history.entries.items p.right.knows s.closed.right_level s.closed.right s.closed.stamped
 
-  left_missing : (p : Pair) → Contains ps p → (s : IsShut p) → missing ks p.left ≡ (left_reaches p s).lacks
+  pub left_missing : (p : Pair) → Contains ps p → (s : IsShut p) → missing ks p.left ≡ (left_reaches p s).lacks
   left_missing p c s = missing_of ps p.left p c (sym s.closed.named) (names_once p.left.channel) ∙ (left_reaches p s).next
 
-  right_missing : (p : Pair) → Contains ps p → (s : IsShut p) → missing ks p.right ≡ (right_reaches p s).lacks
+  pub right_missing : (p : Pair) → Contains ps p → (s : IsShut p) → missing ks p.right ≡ (right_reaches p s).lacks
   right_missing p c s = missing_of ps p.right p c (s.channel ∙ sym s.closed.named) (names_once p.right.channel) ∙ (right_reaches p s).next
 
   abbrev settles : EndView → Bool
@@ -301,7 +312,7 @@ module _ (m : Surroundings) (a : Tree) (main : Birth) (xs : List Thread) (ps : L
       )) ps here)
 
   -- all that wait may send what they offer
-  abbrev may_send : EndView → Bool
+  abbrev pub may_send : EndView → Bool
   may_send e = sends_by (residual_of e.knows) e.knows.offer
 
   sends_waiting : (t : Task) (e : EndView) → FitsEnd m t e → Passes may_send e
@@ -311,7 +322,7 @@ module _ (m : Surroundings) (a : Tree) (main : Birth) (xs : List Thread) (ps : L
       by None q = ap (sends_by (residual_of e.knows)) q
       by (Some o) q = ap (sends_by (residual_of e.knows)) q ∙ (f.waits o q).sends
 
-  all_send : All (BothPass may_send) ps
+  pub all_send : All (BothPass may_send) ps
   all_send = pairs_pass xs ps paired may_send (All-weaker (FitsIn m a) (EndsPass may_send)
       (λ x f. (
         All-weaker (FitsEnd m x.now) (Passes may_send) (sends_waiting x.now) x.bag f.ends,

@@ -1,5 +1,5 @@
 -- What the laws say.
-use Rattle.std.specs.Prelude.{◌≡◌, ◌⊎◌, zero, Some, None, List, [], ◌∷◌, All, Contains}
+use Rattle.std.specs.Prelude.{◌≡◌, zero, Some, None, List, [], ◌∷◌, All, Contains}
 use Rattle.fst_types.specs.Tree.{Tree}
 use Rattle.fst_terms.specs.CoreTree.{CoreTree}
 use Rattle.fst_terms.specs.declared.core_module.Module.{Module}
@@ -21,7 +21,7 @@ use Rattle.fst_safety.specs.Turns.{birth}
 use Rattle.fst_safety.specs.WellTyped.{program_in}
 use Rattle.fst_worker.specs.Works.{Went, GoesOnIn, Whole}
 use Rattle.fst_worker.specs.Pairs.{AreApart, ArePaired}
-use Rattle.fst_worker.specs.Records.{Pair, IsShut, Paired, histories_of, missing, IsTrailing, Caught, AllCaught, FitsRecord}
+use Rattle.fst_worker.specs.Records.{Pair, IsShut, Paired, Pooled, Closable, histories_of, missing, stands_on, IsAsClosed, Caught, AllCaught, FitsRecord}
 
 -- ---- the beginning
 
@@ -64,13 +64,18 @@ ApartLaw = (m : Surroundings) (a : Tree) (main : Birth) (xs : List Thread) → m
 abbrev pub PairLaw : Type 0
 PairLaw = (m : Surroundings) (a : Tree) (main : Birth) (xs : List Thread) → main.path ≡ main_path → All (FitsIn m a) xs → Whole m main xs → ArePaired xs
 
+-- so it is among the ends that are left when the channels of some were closed
+abbrev pub PoolLaw : Type 0
+PoolLaw = (m : Surroundings) (a : Tree) (main : Birth) (xs : List Thread) (ps : List Pair) (es : List EndView) → main.path ≡ main_path →
+    All (FitsIn m a) xs → Whole m main xs → Pooled xs ps es → All IsShut ps → Closable es
+
 -- ---- the end of a run
 
 -- the threads of a run, all of whose channels were closed, with these pairs of ends
 pub record Finishes (m : Surroundings) (main : Birth) (xs : List Thread) (ps : List Pair) : Type 0 where
-  -- an end that waits lacks nothing, or what it lacks is its offer
-  pub waiting : All (λ (x : Thread). All (λ (e : EndView). (o : Offer) → e.knows.offer ≡ Some o →
-      (missing (histories_of ps) e ≡ None) ⊎ ((d : Entry) × IsTrailing (histories_of ps) e o d)) x.bag) xs
+  -- an end that waits lacks nothing where closing has said that its offer stands; otherwise the last entry is its offer
+  pub waiting : All (λ (x : Thread). (e : EndView) (o : Offer) (p : Pair) → Contains x.bag e → e.knows.offer ≡ Some o → Contains ps p →
+      p.closed.history.name ≡ e.channel → IsAsClosed (histories_of ps) e o p.closed (stands_on e.knows.side p.closed.offered)) xs
   -- an end that doesn't wait lacks nothing
   pub level : All (λ (x : Thread). All (λ (e : EndView). e.knows.offer ≡ None → missing (histories_of ps) e ≡ None) x.bag) xs
   -- a task whose ends lack nothing stays as it is

@@ -1,15 +1,16 @@
 -- A record of a run: the logs of all its tasks and the histories of all its channels, and when they fit.
-use Rattle.std.specs.Prelude.{◌≡◌, ℕ, ◌+◌, ◌<◌, Option, Some, None, IsSome, true, List, [], ◌∷◌, ◌++◌, length, sum_by, All, slice_get, if◌then◌else◌, ⊤}
+use Rattle.std.specs.Prelude.{◌≡◌, ℕ, ◌+◌, ◌<◌, Option, Some, None, IsSome, Bool, true, false, Contains, IsPermutation, List, [], ◌∷◌, ◌++◌, length, sum_by, All, slice_get, if◌then◌else◌, ⊤}
 use Rattle.fst_types.specs.Tree.{Tree}
 use Rattle.fst_types.specs.declared.side.Side.{Side}
 use Rattle.fst_types.specs.declared.side.Side.TheVariants.{Left, Right}
 use Rattle.fst_kinds.specs.WellFormed.{IsSession}
-use Rattle.fst_lts.specs.Histories.{after_history, side_type}
+use Rattle.fst_lts.specs.Histories.{after_history, last_stamp, side_type}
 use Rattle.fst_derivations.specs.Rules.{Surroundings}
 use Rattle.fst_value.specs.declared.ends.ChannelName.{ChannelName}
 use Rattle.fst_value.specs.declared.event.ChannelHistory.{ChannelHistory}
 use Rattle.fst_value.specs.declared.event.Entry.{Entry}
-use Rattle.fst_runs.specs.Configs.{same_channel}
+use Rattle.fst_value.specs.declared.event.Event.{Event}
+use Rattle.fst_runs.specs.Configs.{same_channel, same_side, other}
 use Rattle.fst_cell.specs.declared.answers.Closed.{Closed}
 use Rattle.fst_cell.specs.declared.content.Offer.{Offer}
 use Rattle.fst_cell.specs.Close.{ClosedAs}
@@ -18,8 +19,9 @@ use Rattle.fst_cell.specs.Stamps.{AreStamped}
 use Rattle.fst_safety.specs.declared.tasks.LogEntry.{LogEntry}
 use Rattle.fst_safety.specs.WellTyped.{program_in}
 use Rattle.fst_safety.specs.Logs.{Birth, Exchange, Follows, births, exchanges, openings, parts_in}
-use Rattle.fst_safety.specs.Threads.{Thread}
+use Rattle.fst_safety.specs.Threads.{Thread, count_of}
 use Rattle.fst_safety.specs.Turns.{of_ends, birth}
+use Rattle.fst_worker.specs.Pairs.{IsOnePair}
 use Rattle.fst_worker.specs.Works.{bears, opens, trades}
 
 -- ---- records
@@ -74,6 +76,15 @@ pub record IsShut (p : Pair) : Type 0 where
 abbrev pub Paired : List Thread → List Pair → Type 0
 Paired xs ps = (w : EndView → ℕ) → sum_by (of_ends w) xs ≡ sum_by (λ (p : Pair). w p.left + w p.right) ps
 
+-- the ends of these threads, open and spent, are those of the pairs and others
+abbrev pub Pooled : List Thread → List Pair → List EndView → Type 0
+Pooled xs ps es = (w : EndView → ℕ) → sum_by (of_ends w) xs ≡ sum_by (λ (p : Pair). w p.left + w p.right) ps + sum_by w es
+
+-- each of these ends has the other end of its channel beside it, and any end there of that name is a pair with it
+pub record Closable (es : List EndView) : Type 0 where
+  pub partner : (e : EndView) (rest : List EndView) → IsPermutation es (e ∷ rest) → 0 < count_of (other (end_name e)) rest
+  pub pair : (e f : EndView) (rest : List EndView) → IsPermutation es (e ∷ rest) → Contains rest f → end_name f ≡ other (end_name e) → IsOnePair e f
+
 -- their histories
 abbrev pub histories_of : List Pair → List ChannelHistory
 histories_of [] = []
@@ -99,6 +110,16 @@ pub record IsTrailing (ks : List ChannelHistory) (e : EndView) (o : Offer) (d : 
   pub event : d.event ≡ o.event
   pub sent : d.sent ≡ o.clock
   pub later : o.clock < d.stamp
+
+-- the offer that stands is of this side
+abbrev pub stands_on : Side → Option (Side × Event) → Bool
+stands_on s None = false
+stands_on s (Some q) = same_side s q.0
+
+-- an end whose offer stands lacks nothing; for another that waits, the last entry of its channel's history is its offer
+abbrev pub IsAsClosed : List ChannelHistory → EndView → Offer → Closed → Bool → Type 0
+IsAsClosed ks e o c true = missing ks e ≡ None
+IsAsClosed ks e o c false = (d : Entry) × IsTrailing ks e o d × (last_stamp c.history.entries.items ≡ d.stamp)
 
 -- ---- tasks that are told
 

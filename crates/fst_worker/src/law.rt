@@ -1,4 +1,4 @@
-ghost use Rattle.fst_worker.specs.Laws.{ApartLaw, BeginLaw, PairLaw, RecordLaw, WentLaw};
+ghost use Rattle.fst_worker.specs.Laws.{ApartLaw, BeginLaw, PairLaw, PoolLaw, RecordLaw, WentLaw};
 
 /// The task of `main` fits a module that has derivations at the beginning, and it is all there is of the run.
 pub fn begin_law()
@@ -21,6 +21,12 @@ pub fn apart_law()
 /// declared type; and so are a left and a right end of one channel, whichever they are.
 pub fn pair_law()
     ensures { PairLaw }
+{}
+
+/// While the channels of a run are closed one after the other, each end that is left has the other end of its channel among those
+/// that are left, and any end there with that name is in the same cell and has the same declared type.
+pub fn pool_law()
+    ensures { PoolLaw }
 {}
 
 /// Where the two ends of each channel were closed and each task whose offer was taken is told so, the logs of all tasks and the
