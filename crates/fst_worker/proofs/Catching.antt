@@ -17,7 +17,7 @@ use Rattle.fst_machine.specs.declared.request.Request.TheVariants.{Put}
 use Rattle.fst_machine.specs.declared.request.Answer.TheVariants.{Sent}
 use Rattle.fst_machine.specs.Machine.{State, answered}
 use Rattle.fst_machine.specs.Machine as machine
-use Rattle.fst_runs.specs.Configs.{Path, Task, same_end, main_path}
+use Rattle.fst_runs.specs.Configs.{Path, Task, same_end}
 use Rattle.fst_runs.specs.Wrong.{once}
 use Rattle.fst_cell.specs.declared.content.Offer.{Offer}
 use Rattle.fst_cell.specs.End.{EndView, end_name}
@@ -28,8 +28,8 @@ use Rattle.fst_safety.specs.Threads.{Thread, FitsIn, FitsEnd, count_of}
 use Rattle.fst_safety.specs.Turns.{of_ends, by_type, by_exchanges, birth}
 use Rattle.fst_safety.specs.Going.{with_entry}
 use Rattle.fst_safety.proofs.ThreadLaws.{follows_more}
-use Rattle.fst_worker.specs.Works.{Whole, bears, opens, trades}
-use Rattle.fst_worker.specs.Records.{FitsRecord, IsLogged, IsRecorded, Pair, IsShut, Paired, histories_of, missing, lag_by, lag, shown_of, shows, IsTrailing, Caught, AllCaught}
+use Rattle.fst_worker.specs.Works.{bears, opens, trades}
+use Rattle.fst_worker.specs.Records.{FitsRecord, IsLogged, IsRecorded, Pair, IsShut, IsOver, histories_of, missing, lag_by, lag, shown_of, shows, IsTrailing, Caught, AllCaught}
 use Rattle.fst_worker.specs.Laws.{Finishes, RecordLaw}
 use Rattle.fst_worker.proofs.Shown.{shown_more}
 use Rattle.fst_worker.proofs.Shutting.{IsBehind, EndsPass, settled, shut_type, by_histories, all_histories, all_settled, all_behind, idle_level, lacking_waits}
@@ -40,7 +40,8 @@ use Rattle.fst_worker.proofs.Tests.{end_counts, there_sums}
 -- ---- what is told
 
 -- a task whose ends lack nothing
-stays : (m : Surroundings) (a : Tree) (ks : List ChannelHistory) (x : Thread) → FitsIn m a x → All (λ (e : EndView). missing ks e ≡ None) x.bag → All (λ (e : EndView). missing ks e ≡ None) x.retired →
+stays : (m : Surroundings) (a : Tree) (ks : List ChannelHistory) (x : Thread) → FitsIn m a x → All (λ (e : EndView). missing ks e ≡ None) x.bag →
+    All (λ (e : EndView). missing ks e ≡ None) x.retired →
     (bag retired : List EndView) → Caught m ks x (record x { bag = bag; retired = retired })
 stays m a ks x fits level spent bag retired = record {
   path = refl;
@@ -80,7 +81,8 @@ none_lag ks w n (f ∷ es) z h =
     let d = not_lags ks w n f (omega (arith, a, z)) (All-head (LagsOr ks n) f es h) in
     omega (arith, b, c, d)
 
-one_lags_or : (ks : List ChannelHistory) (w : Exchange → ℕ) (n : EndName) (d : EndView) (es : List EndView) (e : EndView) → end_name e ≡ n → count_of n (d ∷ es) ≤ 1 → All (LagsOr ks n) (d ∷ es) →
+one_lags_or : (ks : List ChannelHistory) (w : Exchange → ℕ) (n : EndName) (d : EndView) (es : List EndView) (e : EndView) → end_name e ≡ n →
+    count_of n (d ∷ es) ≤ 1 → All (LagsOr ks n) (d ∷ es) →
     (Contains es e → sum_by (lag w ks) es ≡ lag w ks e) → (d ≡ e) ⊎ Contains es e → sum_by (lag w ks) (d ∷ es) ≡ lag w ks e
 one_lags_or ks w n d es e is le h more (inl i) =
     let a = sum_by-cons (λ (f : EndView). once (same_end n (end_name f))) d es in
@@ -98,21 +100,24 @@ one_lags_or ks w n d es e is le h more (inr i) =
     omega (arith, c, z, g)
 
 -- the one end of some that lacks something, where no other has its name
-one_lags : (ks : List ChannelHistory) (w : Exchange → ℕ) (n : EndName) (es : List EndView) (e : EndView) → Contains es e → end_name e ≡ n → count_of n es ≤ 1 → All (LagsOr ks n) es →
+one_lags : (ks : List ChannelHistory) (w : Exchange → ℕ) (n : EndName) (es : List EndView) (e : EndView) → Contains es e → end_name e ≡ n →
+    count_of n es ≤ 1 → All (LagsOr ks n) es →
     sum_by (lag w ks) es ≡ lag w ks e
 one_lags ks w n [] e c is le h = absurd (contains_none e c)
 one_lags ks w n (d ∷ es) e c is le h =
     one_lags_or ks w n d es e is le h
-    (λ i. one_lags ks w n es e i is (let a = sum_by-cons (λ (f : EndView). once (same_end n (end_name f))) d es in omega (arith, a, le)) (All-tail (LagsOr ks n) d es h)) (from_contains es e d c)
+    (λ i. one_lags ks w n es e i is (let a = sum_by-cons (λ (f : EndView). once (same_end n (end_name f))) d es in omega (arith, a, le))
+    (All-tail (LagsOr ks n) d es h)) (from_contains es e d c)
 
 put_same : {x y : EndName} {u v : Event} → Some (Put x u) ≡ Some (Put y v) → x ≡ y
 put_same q = cc
 
-module _ (m : Surroundings) (a : Tree) (main : Birth) (xs : List Thread) (ps : List Pair) (root : main.path ≡ main_path) (fit : All (FitsIn m a) xs) (whole : Whole m main xs)
-    (paired : Paired xs ps) (shut : All IsShut ps) where
+module _ (m : Surroundings) (a : Tree) (main : Birth) (xs : List Thread) (ps : List Pair) (over : IsOver m a main xs ps) where
+  -- the histories of the closed channels
   abbrev ks : List ChannelHistory
   ks = histories_of ps
 
+  -- the end lacks nothing, or what it offers
   abbrev settles : EndView → Bool
   settles e = settled (missing ks e) e.knows.offer
 
@@ -121,13 +126,13 @@ module _ (m : Surroundings) (a : Tree) (main : Birth) (xs : List Thread) (ps : L
   IsHere x = FitsIn m a x × EndsPass settles x
 
   all_here : All IsHere xs
-  all_here = λ k d l. (fit k d l, all_settled m a main xs ps root fit whole paired shut k d l)
+  all_here = λ k d l. (over.run.fit k d l, all_settled m a main xs ps over k d l)
 
   level_of : (e : EndView) → settles e ≡ true → e.knows.offer ≡ None → missing ks e ≡ None
-  level_of = idle_level m a main xs ps root fit whole paired shut
+  level_of = idle_level m a main xs ps over
 
   waits_of : (e : EndView) → settles e ≡ true → (d : Entry) → missing ks e ≡ Some d → (o : Offer) × (e.knows.offer ≡ Some o) × IsTrailing ks e o d
-  waits_of = lacking_waits m a main xs ps root fit whole paired shut
+  waits_of = lacking_waits m a main xs ps over
 
   spent_level : (x : Thread) → IsHere x → All (λ (e : EndView). missing ks e ≡ None) x.retired
   spent_level x h = λ k d l. level_of _ (h.1.1 k d l) (h.0.spent k d l).idle
@@ -140,9 +145,11 @@ module _ (m : Surroundings) (a : Tree) (main : Birth) (xs : List Thread) (ps : L
     e_fits : FitsEnd m x.now e
     e_fits = All-contains (FitsEnd m x.now) x.bag e h.0.ends in_bag
 
+    -- what the end offers
     abbrev waits : (o : Offer) × (e.knows.offer ≡ Some o) × IsTrailing ks e o d
     waits = waits_of e e_settles d lacks
 
+    -- its task asks to send that
     pub asks_it : machine.request m.families x.now.state ≡ Some (Put (end_name e) d.event)
     asks_it = (e_fits.waits waits.0 waits.1).asks ∙ ap (λ ev. Some (Put (end_name e) ev)) (sym waits.2.event)
 
@@ -172,6 +179,7 @@ module _ (m : Surroundings) (a : Tree) (main : Birth) (xs : List Thread) (ps : L
         by zero q = omega arith
         by (suc n) q = let o = (h.0.once (end_name e) (omega (arith, q))).0 in omega (arith, o, q)
 
+    -- and is told that it was sent
     pub told : (s : State) → answered (program_in m) x.now.state Sent ≡ Some s → (bag retired : List EndView) →
         Caught m ks x (with_entry m x (Put (end_name e) d.event) Sent d.stamp bag retired)
     told s leads bag retired =
@@ -181,15 +189,15 @@ module _ (m : Surroundings) (a : Tree) (main : Birth) (xs : List Thread) (ps : L
           first = refl;
           gained = g ∷ [];
           log = refl;
-          follows = follows_more (program_in m) x.path x.first x.log x.now g h.0.follows (record { asked = asks_it; is_answered = late; state = s; leads = leads });
+          follows = follows_more (program_in m) x.path x.first x.log x.now g h.0.follows
+              (record { asked = asks_it; is_answered = late; state = s; leads = leads });
           none_born = refl;
           none_opened = refl;
           exchanged = λ w.
               let b = one_lags ks w (end_name e) x.bag e in_bag refl bag_once others in
               let c = sum_none (lag w ks) (λ (e : EndView). missing ks e ≡ None) (λ e q. ap (lag_by w e) q) x.retired (spent_level x h) in
               let q = ap (lag_by w e) lacks in
-              let r : w (record { end = end_name e; sends = true; event = d.event; stamp = d.stamp; clock = d.sent }) ≡ w (record { end = end_name e; sends = true; event = d.event; stamp = d.stamp; clock = x.now.clock }) =
-              λ i. w (record { end = end_name e; sends = true; event = d.event; stamp = d.stamp; clock = sent_at i }) in
+              let r = ap (λ (n : ℕ). w (record { end = end_name e; sends = true; event = d.event; stamp = d.stamp; clock = n })) sent_at in
               omega (arith, b, c, q, r);
         }
 
@@ -221,7 +229,8 @@ module _ (m : Surroundings) (a : Tree) (main : Birth) (xs : List Thread) (ps : L
   same_birth : (w : Birth → ℕ) (x y : Thread) → Caught m ks x y → w (birth y) ≡ w (birth x)
   same_birth w x y c = λ i. w (record { path = c.path i; first = c.first i })
 
-  sums : (f g h : Thread → ℕ) → ((x y : Thread) → FitsIn m a x → Caught m ks x y → f y ≡ g x + h x) → (xs ys : List Thread) → All (FitsIn m a) xs → AllCaught m ks xs ys →
+  sums : (f g h : Thread → ℕ) → ((x y : Thread) → FitsIn m a x → Caught m ks x y → f y ≡ g x + h x) → (xs ys : List Thread) → All (FitsIn m a) xs →
+      AllCaught m ks xs ys →
       sum_by f ys ≡ sum_by g xs + sum_by h xs
   sums f g h e [] [] all k = refl
   sums f g h e [] (y ∷ ys) all k = absurd k
@@ -234,7 +243,8 @@ module _ (m : Surroundings) (a : Tree) (main : Birth) (xs : List Thread) (ps : L
       let ih = sums f g h e xs ys (All-tail (FitsIn m a) x xs all) k.1 in
       omega (arith, p, q, r, one, ih)
 
-  same_sums : (f g : Thread → ℕ) → ((x y : Thread) → FitsIn m a x → Caught m ks x y → f y ≡ g x) → (xs ys : List Thread) → All (FitsIn m a) xs → AllCaught m ks xs ys → sum_by f ys ≡ sum_by g xs
+  same_sums : (f g : Thread → ℕ) → ((x y : Thread) → FitsIn m a x → Caught m ks x y → f y ≡ g x) → (xs ys : List Thread) → All (FitsIn m a) xs →
+      AllCaught m ks xs ys → sum_by f ys ≡ sum_by g xs
   same_sums f g e [] [] all k = refl
   same_sums f g e [] (y ∷ ys) all k = absurd k
   same_sums f g e (x ∷ xs) [] all k = absurd k
@@ -252,30 +262,39 @@ module _ (m : Surroundings) (a : Tree) (main : Birth) (xs : List Thread) (ps : L
   logged (x ∷ xs) (y ∷ ys) all k =
       let f = All-head (FitsIn m a) x xs all in
       All-cons (IsLogged m) y ys
-      (record { none_made = ap (λ (t : Task). t.made) k.0.first ∙ f.none_made; none_forked = ap (λ (t : Task). t.forked) k.0.first ∙ f.none_forked; follows = k.0.follows })
+      (record {
+        none_made = ap (λ (t : Task). t.made) k.0.first ∙ f.none_made;
+        none_forked = ap (λ (t : Task). t.forked) k.0.first ∙ f.none_forked;
+        follows = k.0.follows;
+      })
       (logged xs ys (All-tail (FitsIn m a) x xs all) k.1)
 
   -- what the whole history shows of an end's side is what the end has exchanged, and what it lacks
-  shows_of : (w : Exchange → ℕ) (e : EndView) (h : List Entry) → IsBehind ks e h → sum_by w (shown_of e.channel e.knows.side e.knows.declared h) ≡ by_exchanges w e + lag w ks e
+  shows_of : (w : Exchange → ℕ) (e : EndView) (h : List Entry) → IsBehind ks e h →
+      sum_by w (shown_of e.channel e.knows.side e.knows.declared h) ≡ by_exchanges w e + lag w ks e
   shows_of w e h b = by b.lacks refl
     where
       by : (o : Option Entry) → b.lacks ≡ o → sum_by w (shown_of e.channel e.knows.side e.knows.declared h) ≡ by_exchanges w e + lag w ks e
       by None q =
-          let c = ap (λ (l : List Entry). sum_by w (shown_of e.channel e.knows.side e.knows.declared l)) (b.is ∙ ap (λ o. e.knows.history ++ option_to_list o) q ∙ append-nil e.knows.history) in
+          let c = ap (λ (l : List Entry). sum_by w (shown_of e.channel e.knows.side e.knows.declared l))
+          (b.is ∙ ap (λ o. e.knows.history ++ option_to_list o) q ∙ append-nil e.knows.history) in
           let z = ap (lag_by w e) (b.missing_is ∙ q) in
           omega (arith, c, z)
       by (Some d) q =
-          let c = ap (λ (l : List Entry). sum_by w (shown_of e.channel e.knows.side e.knows.declared l)) (b.is ∙ ap (λ o. e.knows.history ++ option_to_list o) q) in
+          let c = ap (λ (l : List Entry). sum_by w (shown_of e.channel e.knows.side e.knows.declared l))
+          (b.is ∙ ap (λ o. e.knows.history ++ option_to_list o) q) in
           let z = ap (lag_by w e) (b.missing_is ∙ q) in
           let s = shown_more w e d (b.sends_it d q) in
           omega (arith, c, z, s)
 
+  -- a pair that is closed, and what its ends lack
   abbrev Both : Pair → Type 0
   Both p = IsShut p × (IsBehind ks p.left p.closed.history.entries.items × IsBehind ks p.right p.closed.history.entries.items)
 
   all_both : All Both ps
-  all_both = λ k d l. (shut k d l, all_behind m a main xs ps root fit whole paired shut k d l)
+  all_both = λ k d l. (over.shut k d l, all_behind m a main xs ps over k d l)
 
+  -- what an end has exchanged, and what it lacks
   abbrev weighed : (Exchange → ℕ) → EndView → ℕ
   weighed w e = by_exchanges w e + lag w ks e
 
@@ -284,9 +303,11 @@ module _ (m : Surroundings) (a : Tree) (main : Birth) (xs : List Thread) (ps : L
       let h = p.closed.history.entries.items in
       let l = shows_of w p.left h b.0 in
       let r = shows_of w p.right h b.1 in
-      let x : sum_by w (shown_of p.left.channel p.left.knows.side p.left.knows.declared h) ≡ sum_by w (shown_of p.closed.history.name Left p.closed.history.declared h) =
+      let x : sum_by w (shown_of p.left.channel p.left.knows.side p.left.knows.declared h) ≡
+      sum_by w (shown_of p.closed.history.name Left p.closed.history.declared h) =
       λ i. sum_by w (shown_of (sym s.closed.named i) (s.left_side i) (sym s.closed.left_declared i) h) in
-      let y : sum_by w (shown_of p.right.channel p.right.knows.side p.right.knows.declared h) ≡ sum_by w (shown_of p.closed.history.name Right p.closed.history.declared h) =
+      let y : sum_by w (shown_of p.right.channel p.right.knows.side p.right.knows.declared h) ≡
+      sum_by w (shown_of p.closed.history.name Right p.closed.history.declared h) =
       λ i. sum_by w (shown_of ((s.channel ∙ sym s.closed.named) i) (s.right_side i) (sym s.closed.right_declared i) h) in
       omega (arith, l, r, x, y)
 
@@ -297,39 +318,44 @@ module _ (m : Surroundings) (a : Tree) (main : Birth) (xs : List Thread) (ps : L
       let q = sum_both (weighed w) (by_exchanges w) (lag w ks) (λ e. refl) x.retired in
       omega (arith, p, q)) xs
 
+  -- logs and histories are a record
   pub caught_record : (ys : List Thread) → AllCaught m ks xs ys → FitsRecord m main ys ks
   caught_record ys caught = record {
     births = λ w.
-        let p = same_sums (λ (x : Thread). w (birth x)) (λ (x : Thread). w (birth x)) (λ x y f c. same_birth w x y c) xs ys fit caught in
-        let q = same_sums (bears m w) (bears m w) (bears_caught w) xs ys fit caught in
-        omega (arith, p, q, whole.births w);
-    logs = logged xs ys fit caught;
+        let p = same_sums (λ (x : Thread). w (birth x)) (λ (x : Thread). w (birth x)) (λ x y f c. same_birth w x y c) xs ys over.run.fit caught in
+        let q = same_sums (bears m w) (bears m w) (bears_caught w) xs ys over.run.fit caught in
+        omega (arith, p, q, over.run.whole.births w);
+    logs = logged xs ys over.run.fit caught;
     channels = λ w.
-        let p = paired (by_type Left w) in
-        let q = by_histories (λ (p : Pair). by_type Left w p.left + by_type Left w p.right) (λ (k : ChannelHistory). w k.name k.declared) IsShut (shut_type w) ps shut in
-        let r = same_sums (opens m w) (opens m w) (λ x y f c. opens_caught w x y c) xs ys fit caught in
-        omega (arith, p, q, r, whole.typed Left w);
+        let p = over.paired (by_type Left w) in
+        let q = by_histories (λ (p : Pair). by_type Left w p.left + by_type Left w p.right)
+        (λ (k : ChannelHistory). w k.name k.declared) IsShut (shut_type w) ps over.shut in
+        let r = same_sums (opens m w) (opens m w) (λ x y f c. opens_caught w x y c) xs ys over.run.fit caught in
+        omega (arith, p, q, r, over.run.whole.typed Left w);
     exchanged = λ w.
-        let p = paired (weighed w) in
+        let p = over.paired (weighed w) in
         let q = by_histories (λ (p : Pair). weighed w p.left + weighed w p.right) (shows w) Both (pair_shows w) ps all_both in
-        let r = sums (trades w) (trades w) (lags w) (trades_caught w) xs ys fit caught in
+        let r = sums (trades w) (trades w) (lags w) (trades_caught w) xs ys over.run.fit caught in
         let s = ends_weigh w xs in
-        omega (arith, p, q, r, s, whole.exchanged w);
-    histories = all_histories IsShut IsRecorded (λ p s. record { formed = s.closed.formed; trace = s.closed.trace; stamped = s.closed.stamped }) ps shut;
+        omega (arith, p, q, r, s, over.run.whole.exchanged w);
+    histories = all_histories IsShut IsRecorded (λ p s. record { formed = s.closed.formed; trace = s.closed.trace; stamped = s.closed.stamped }) ps over.shut;
   }
 
+  -- all that holds at the end
   pub finishes : Finishes m main xs ps
   finishes = record {
     waiting = λ k c l e o p in_bag q there is.
         let h = all_here k c l in
-        let t = all_as_closed m a main xs ps root fit whole paired shut k c l in
-        waits_so m a main xs ps root fit whole paired shut e (All-contains (λ (e : EndView). settles e ≡ true) _ e h.1.0 in_bag)
-        (All-contains (λ (e : EndView). as_closed m a main xs ps root fit whole paired shut e ≡ true) _ e t.0 in_bag) o p q there is;
-    level = All-weaker IsHere (λ (x : Thread). All (λ (e : EndView). e.knows.offer ≡ None → missing ks e ≡ None) x.bag) (λ x h k c l. level_of _ (h.1.0 k c l)) xs all_here;
+        let t = all_as_closed m a main xs ps over k c l in
+        waits_so m a main xs ps over e (All-contains (λ (e : EndView). settles e ≡ true) _ e h.1.0 in_bag)
+        (All-contains (λ (e : EndView). as_closed m a main xs ps over e ≡ true) _ e t.0 in_bag) o p q there is;
+    level = All-weaker IsHere (λ (x : Thread). All (λ (e : EndView). e.knows.offer ≡ None → missing ks e ≡ None) x.bag)
+        (λ x h k c l. level_of _ (h.1.0 k c l)) xs all_here;
     stays = λ k c l level bag retired. let h = all_here k c l in stays m a ks _ h.0 level (spent_level _ h) bag retired;
     told = λ k c l e d in_bag lacks. let h = all_here k c l in (asks_it _ h e d in_bag lacks, told _ h e d in_bag lacks);
     record_fits = caught_record;
   }
 
+-- of each run
 pub records : RecordLaw
 records = finishes

@@ -59,6 +59,7 @@ module _ (m : Surroundings) (a : Tree) where
 
   -- ---- many turns
 
+  -- threads go on by no turn to themselves
   pub went_none : (xs : List Thread) → Went m a xs xs
   went_none xs = record { count = 0; turns = IsPermutation-refl xs }
 
@@ -93,6 +94,7 @@ module _ (m : Surroundings) (a : Tree) where
   pub went_then : (xs ys zs : List Thread) → Went m a xs ys → Went m a ys zs → Went m a xs zs
   went_then xs ys zs t u = turns_then t.count u.count xs ys zs t.turns u.turns
 
+  -- one turn
   pub went_step : (xs ys : List Thread) → Step m a xs ys → Went m a xs ys
   went_step xs ys s = record { count = 1; turns = (xs, IsPermutation-refl xs, s) }
 

@@ -1,6 +1,6 @@
 -- The two ends of a channel are among those of all threads, with one cell and one declared type.
 use Rattle.std.proofs.Common.{◌≡◌, ◌⊎◌, inl, inr, ◌<◌, ◌≤◌, ℕ, ◌+◌, ◌*◌, List, [], ◌∷◌, ◌++◌, refl, sym, ap, ◌∙◌, subst, arith}
-use Rattle.std.specs.Prelude.{sum_by, All, Contains}
+use Rattle.std.specs.Prelude.{sum_by, Contains}
 use Rattle.std.proofs.lemmas.List.Elements.{Contains-append_left, Contains-append_right}
 use Rattle.std.proofs.lemmas.List.Sums.{sum_by-append, sum_by-cons}
 use Rattle.atomic_table.specs.Seated.{TableId, table_id_coded}
@@ -13,18 +13,19 @@ use Rattle.fst_lts.specs.Histories.{opposite}
 use Rattle.fst_derivations.specs.Rules.{Surroundings}
 use Rattle.fst_value.specs.declared.ends.ChannelName.{ChannelName}
 use Rattle.fst_value.specs.declared.ends.EndName.{EndName}
-use Rattle.fst_runs.specs.Configs.{same_channel, same_end, main_path, other}
+use Rattle.fst_runs.specs.Configs.{same_channel, same_end, other}
 use Rattle.fst_runs.specs.Wrong.{once}
 use Rattle.fst_cell.specs.End.{EndView, end_name}
 use Rattle.fst_safety.specs.Logs.{Birth}
-use Rattle.fst_safety.specs.Threads.{Thread, FitsIn}
+use Rattle.fst_safety.specs.Threads.{Thread}
 use Rattle.fst_safety.specs.Turns.{of_ends, by_type, by_cell}
-use Rattle.fst_worker.specs.Works.{Whole}
+use Rattle.fst_worker.specs.Works.{IsRun}
 use Rattle.fst_worker.specs.Pairs.{HasEnd, IsOnePair, ArePaired}
 use Rattle.fst_worker.proofs.Paths.{ends_once}
 use Rattle.fst_worker.proofs.Sums.{sum_same}
 use Rattle.fst_worker.proofs.Tests.{end_or, end_counts, by_side, by_sides, one_by}
 
+-- an end, by its name
 abbrev pub counted : EndName → EndView → ℕ
 counted z e = once (same_end z (end_name e))
 
@@ -44,7 +45,8 @@ all_ends w (x ∷ xs) =
     let ih = all_ends w xs in
     omega (arith, a, b, c, ih)
 
-bag_or : (y x : Thread) (ys : List Thread) (e : EndView) → Contains x.bag e → (y ≡ x) ⊎ Contains ys x → (Contains ys x → Contains (ends_of ys) e) → Contains (ends_of (y ∷ ys)) e
+bag_or : (y x : Thread) (ys : List Thread) (e : EndView) → Contains x.bag e → (y ≡ x) ⊎ Contains ys x → (Contains ys x → Contains (ends_of ys) e) →
+    Contains (ends_of (y ∷ ys)) e
 bag_or y x ys e b (inl i) more = Contains-append_left y.bag (y.retired ++ ends_of ys) e (subst (λ (t : Thread). Contains t.bag e) (sym i) b)
 bag_or y x ys e b (inr c) more = Contains-append_right y.bag (y.retired ++ ends_of ys) e (Contains-append_right y.retired (ends_of ys) e (more c))
 
@@ -80,7 +82,8 @@ found : (z : EndName) (es : List EndView) → 0 < sum_by (counted z) es → Foun
 found z [] n = absurd (omega (arith, n))
 found z (e ∷ es) n = found_or z e es n (found z es) (end_or z (end_name e))
 
-split_or : (f e : EndView) (es : List EndView) → (e ≡ f) ⊎ Contains es f → (Contains es f → (rest : List EndView) × ((w : EndView → ℕ) → sum_by w es ≡ w f + sum_by w rest)) →
+split_or : (f e : EndView) (es : List EndView) → (e ≡ f) ⊎ Contains es f →
+    (Contains es f → (rest : List EndView) × ((w : EndView → ℕ) → sum_by w es ≡ w f + sum_by w rest)) →
     (rest : List EndView) × ((w : EndView → ℕ) → sum_by w (e ∷ es) ≡ w f + sum_by w rest)
 split_or f e es (inl q) more = (es, λ w. sum_by-cons w e es ∙ ap (λ x. w x + sum_by w es) q)
 split_or f e es (inr c) more =
@@ -133,23 +136,26 @@ same_ends f g h xs = sum_same (of_ends f) (of_ends g) (λ x. let a = sum_same f 
 
 -- ---- pairs
 
-module _ (m : Surroundings) (a : Tree) (main : Birth) (xs : List Thread) (root : main.path ≡ main_path) (fit : All (FitsIn m a) xs) (whole : Whole m main xs) where
+module _ (m : Surroundings) (a : Tree) (main : Birth) (xs : List Thread) (run : IsRun m a main xs) where
+  -- no two ends have one name
   abbrev at_most : (z : EndName) → sum_by (of_ends (counted z)) xs ≤ 1
-  at_most = ends_once m a main xs root fit whole
+  at_most = ends_once m a main xs run
 
   both_typed : (s : Side) (w : ChannelName → Tree → ℕ) → sum_by (of_ends (by_type s w)) xs ≡ sum_by (of_ends (by_type (opposite s) w)) xs
-  both_typed s w = whole.typed s w ∙ sym (whole.typed (opposite s) w)
+  both_typed s w = run.whole.typed s w ∙ sym (run.whole.typed (opposite s) w)
 
   both_cells : (s : Side) (w : ChannelName → TableId → ℕ) → sum_by (of_ends (by_cell s w)) xs ≡ sum_by (of_ends (by_cell (opposite s) w)) xs
-  both_cells Left w = whole.cells w
-  both_cells Right w = sym (whole.cells w)
+  both_cells Left w = run.whole.cells w
+  both_cells Right w = sym (run.whole.cells w)
 
   -- what a side's ends of a channel weigh by their types, and by their cells
-  typed_of : (z : EndName) (g : Tree → ℕ) → sum_by (of_ends (by_type z.side (λ n t. once (same_channel z.channel n) * g t))) xs ≡ sum_by (of_ends (λ (f : EndView). counted z f * g f.knows.declared)) xs
+  typed_of : (z : EndName) (g : Tree → ℕ) → sum_by (of_ends (by_type z.side (λ n t. once (same_channel z.channel n) * g t))) xs ≡
+      sum_by (of_ends (λ (f : EndView). counted z f * g f.knows.declared)) xs
   typed_of z g = same_ends (by_type z.side (λ n t. once (same_channel z.channel n) * g t)) (λ (f : EndView). counted z f * g f.knows.declared)
       (λ f. by_sides (same_channel z.channel f.channel) z.side f.knows.side (g f.knows.declared)) xs
 
-  cells_of : (z : EndName) (g : TableId → ℕ) → sum_by (of_ends (by_cell z.side (λ n k. once (same_channel z.channel n) * g k))) xs ≡ sum_by (of_ends (λ (f : EndView). counted z f * g f.cell)) xs
+  cells_of : (z : EndName) (g : TableId → ℕ) →
+      sum_by (of_ends (by_cell z.side (λ n k. once (same_channel z.channel n) * g k))) xs ≡ sum_by (of_ends (λ (f : EndView). counted z f * g f.cell)) xs
   cells_of z g = same_ends (by_cell z.side (λ n k. once (same_channel z.channel n) * g k)) (λ (f : EndView). counted z f * g f.cell)
       (λ f. by_sides (same_channel z.channel f.channel) z.side f.knows.side (g f.cell)) xs
 
@@ -160,10 +166,12 @@ module _ (m : Surroundings) (a : Tree) (main : Birth) (xs : List Thread) (root :
       record {
         cell = one_by table_id_coded e.cell f.cell
             (λ g. sym (only (other z) xs f is hf (at_most (other z)) (λ (d : EndView). g d.cell)) ∙ sym (cells_of (other z) g)
-            ∙ sym (both_cells z.side (λ n k. once (same_channel z.channel n) * g k)) ∙ cells_of z g ∙ only z xs e refl he (at_most z) (λ (d : EndView). g d.cell));
+            ∙ sym (both_cells z.side (λ n k. once (same_channel z.channel n) * g k)) ∙ cells_of z g
+            ∙ only z xs e refl he (at_most z) (λ (d : EndView). g d.cell));
         declared = one_by tree_code e.knows.declared f.knows.declared
             (λ g. sym (only (other z) xs f is hf (at_most (other z)) (λ (d : EndView). g d.knows.declared)) ∙ sym (typed_of (other z) g)
-            ∙ sym (both_typed z.side (λ n t. once (same_channel z.channel n) * g t)) ∙ typed_of z g ∙ only z xs e refl he (at_most z) (λ (d : EndView). g d.knows.declared));
+            ∙ sym (both_typed z.side (λ n t. once (same_channel z.channel n) * g t)) ∙ typed_of z g
+            ∙ only z xs e refl he (at_most z) (λ (d : EndView). g d.knows.declared));
       }
 
   -- as many ends have a name as have that of the other end
@@ -171,8 +179,10 @@ module _ (m : Surroundings) (a : Tree) (main : Birth) (xs : List Thread) (root :
   others_count z =
       let w = λ (n : ChannelName) (t : Tree). once (same_channel z.channel n) in
       sym (same_ends (by_type z.side w) (counted z) (λ e. by_side (same_channel z.channel e.channel) z.side e.knows.side) xs)
-      ∙ both_typed z.side w ∙ same_ends (by_type (opposite z.side) w) (counted (other z)) (λ e. by_side (same_channel z.channel e.channel) (opposite z.side) e.knows.side) xs
+      ∙ both_typed z.side w ∙ same_ends (by_type (opposite z.side) w) (counted (other z))
+      (λ e. by_side (same_channel z.channel e.channel) (opposite z.side) e.knows.side) xs
 
+  -- the ends of a run are the two ends of channels
   pub paired : ArePaired xs
   paired = record {
     partner = λ e h.

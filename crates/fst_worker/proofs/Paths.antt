@@ -1,6 +1,6 @@
 -- No two threads have one path, and no two channels that the logs make have one name.
 use Rattle.std.proofs.Common.{◌≡◌, ◌⊎◌, inl, inr, ◌<◌, ◌≤◌, ℕ, zero, suc, ◌+◌, List, [], ◌∷◌, ◌++◌, length, Option, Some, None, refl, sym, ap, ◌∙◌, subst, arith, length-append}
-use Rattle.std.specs.Prelude.{sum_by, All, slice_get}
+use Rattle.std.specs.Prelude.{sum_by, slice_get}
 use Rattle.std.proofs.lemmas.List.Sums.{sum_by-append, sum_by-cons, sum_by-le-sum_by}
 use Rattle.fst_base.proofs.Lists.{snoc_view}
 use Rattle.fst_types.specs.Tree.{Tree}
@@ -12,7 +12,7 @@ use Rattle.fst_machine.specs.declared.request.Request.TheVariants.{Step, New, Fo
 use Rattle.fst_machine.specs.declared.request.Answer.{Answer}
 use Rattle.fst_machine.specs.declared.request.Answer.TheVariants.{Go, Made, Forked, Sent, Got}
 use Rattle.fst_machine.specs.Machine.{Program, State, pause, child}
-use Rattle.fst_runs.specs.Configs.{Path, Task, same_path, same_channel, same_end, child_path, channel_name, main_path}
+use Rattle.fst_runs.specs.Configs.{Path, Task, same_path, same_channel, same_end, child_path, channel_name}
 use Rattle.fst_runs.specs.Wrong.{once}
 use Rattle.fst_cell.specs.End.{EndView, end_name}
 use Rattle.fst_safety.specs.declared.tasks.LogEntry.{LogEntry}
@@ -20,13 +20,14 @@ use Rattle.fst_safety.specs.WellTyped.{program_in}
 use Rattle.fst_safety.specs.Logs.{Birth, Opening, Follows, IsAnswered, after_entry, made_after, forks_after, opening_of, opened_by, birth_of, born_by, births, openings}
 use Rattle.fst_safety.specs.Threads.{Thread, FitsIn}
 use Rattle.fst_safety.specs.Turns.{of_ends, by_type}
-use Rattle.fst_worker.specs.Works.{Whole, bears, opens}
+use Rattle.fst_worker.specs.Works.{IsRun, bears, opens}
 use Rattle.fst_worker.specs.Pairs.{AreApart}
 use Rattle.fst_worker.proofs.Sums.{sum_less, sum_same}
 use Rattle.fst_worker.proofs.Tests.{small, path_or, path_counts, channel_or, by_side, snoc_same}
 
 -- ---- births
 
+-- a birth, by its path
 abbrev at_path : Path → Birth → ℕ
 at_path x b = once (same_path x b.path)
 
@@ -43,7 +44,10 @@ few_more : (here j counter next one more n : ℕ) → Few here j next more → n
 few_more here j counter next one more n f a (inl (b, c, d, e)) =
     let z = f.past (omega (arith, c, d)) in
     record { le = omega (arith, a, b, e, z); past = λ l. absurd (omega (arith, l, c)) }
-few_more here j counter next one more n f a (inr (b, c)) = record { le = let l = f.le in omega (arith, a, b, l); past = λ l. let z = f.past (omega (arith, l, c)) in omega (arith, a, b, z) }
+few_more here j counter next one more n f a (inr (b, c)) = record {
+  le = let l = f.le in omega (arith, a, b, l);
+  past = λ l. let z = f.past (omega (arith, l, c)) in omega (arith, a, b, z);
+}
 
 -- an answer makes the task fork, or not
 abbrev IsFork : Program → Path → Task → ℕ → Answer → Type 0
@@ -67,7 +71,8 @@ birth_hits : (p : Program) (q : Path) (j : ℕ) (path : Path) (t : Task) (stamp 
 birth_hits p q j path t stamp a (inr k) = let c = k.1 in inr (ap (sum_by (at_path (child_path q j))) k.0, omega (arith, c))
 birth_hits p q j path t stamp a (inl k) = by (path_or (child_path q j) (child_path path t.forked))
   where
-    by : ((child_path q j ≡ child_path path t.forked) × (once (same_path (child_path q j) (child_path path t.forked)) ≡ 1)) ⊎ (once (same_path (child_path q j) (child_path path t.forked)) ≡ 0) →
+    by : ((child_path q j ≡ child_path path t.forked) × (once (same_path (child_path q j) (child_path path t.forked)) ≡ 1))
+        ⊎ (once (same_path (child_path q j) (child_path path t.forked)) ≡ 0) →
         Hits (once (same_path q path)) j t.forked (forks_after a t.forked) (sum_by (at_path (child_path q j)) (born_by p path t stamp a))
     by (inl y) =
         let z = ap (sum_by (at_path (child_path q j))) k.0 in
@@ -82,7 +87,8 @@ birth_hits p q j path t stamp a (inl k) = by (path_or (child_path q j) (child_pa
         let c = k.1 in
         inr (omega (arith, z, b, n), omega (arith, c))
 
-few_births : (p : Program) (q : Path) (j : ℕ) (path : Path) (t : Task) (log : List LogEntry) → Few (once (same_path q path)) j t.forked (sum_by (at_path (child_path q j)) (births p path t log))
+few_births : (p : Program) (q : Path) (j : ℕ) (path : Path) (t : Task) (log : List LogEntry) →
+    Few (once (same_path q path)) j t.forked (sum_by (at_path (child_path q j)) (births p path t log))
 few_births p q j path t [] = record { le = omega arith; past = λ l. refl }
 few_births p q j path t (e ∷ es) =
     few_more (once (same_path q path)) j t.forked (forks_after e.answer t.forked) (sum_by (at_path (child_path q j)) (born_by p path t e.stamp e.answer))
@@ -92,7 +98,8 @@ few_births p q j path t (e ∷ es) =
     (birth_hits p q j path t e.stamp e.answer (is_fork p path t e.stamp e.answer))
 
 -- no task with a path that isn't a child's is forked
-none_born : (p : Program) (x : Path) → ((q : Path) (k : ℕ) → x ≡ child_path q k → ⊥) → (path : Path) (t : Task) (log : List LogEntry) → sum_by (at_path x) (births p path t log) ≡ 0
+none_born : (p : Program) (x : Path) → ((q : Path) (k : ℕ) → x ≡ child_path q k → ⊥) → (path : Path) (t : Task) (log : List LogEntry) →
+    sum_by (at_path x) (births p path t log) ≡ 0
 none_born p x never path t [] = refl
 none_born p x never path t (e ∷ es) =
     let ih = none_born p x never path (after_entry p t e) es in
@@ -108,7 +115,8 @@ none_born p x never path t (e ∷ es) =
         let n = apart (path_or x (child_path path t.forked)) in
         omega (arith, z, b, n)
       where
-        apart : ((x ≡ child_path path t.forked) × (once (same_path x (child_path path t.forked)) ≡ 1)) ⊎ (once (same_path x (child_path path t.forked)) ≡ 0) → once (same_path x (child_path path t.forked)) ≡ 0
+        apart : ((x ≡ child_path path t.forked) × (once (same_path x (child_path path t.forked)) ≡ 1))
+            ⊎ (once (same_path x (child_path path t.forked)) ≡ 0) → once (same_path x (child_path path t.forked)) ≡ 0
         apart (inl y) = absurd (never path t.forked y.0)
         apart (inr n) = n
 
@@ -120,6 +128,7 @@ not_first p q k e = let r = (snoc_same p q zero (suc k) e).1 in absurd (omega (a
 
 -- ---- channels
 
+-- a channel, by its name
 abbrev of_name : ChannelName → Opening → ℕ
 of_name h o = once (same_channel h o.name)
 
@@ -172,22 +181,25 @@ few_openings p types h path t (e ∷ es) u f =
 
 -- ---- all threads
 
-module _ (m : Surroundings) (a : Tree) (main : Birth) (xs : List Thread) (root : main.path ≡ main_path) (fit : All (FitsIn m a) xs) (whole : Whole m main xs) where
+module _ (m : Surroundings) (a : Tree) (main : Birth) (xs : List Thread) (run : IsRun m a main xs) where
+  -- a thread, by its path
   abbrev has_path : Path → Thread → ℕ
   has_path x t = once (same_path x t.path)
 
   main_not : (q : Path) (k : ℕ) → once (same_path (child_path q k) main.path) ≡ 0
   main_not q k = by (path_or (child_path q k) main.path)
     where
-      by : ((child_path q k ≡ main.path) × (once (same_path (child_path q k) main.path) ≡ 1)) ⊎ (once (same_path (child_path q k) main.path) ≡ 0) → once (same_path (child_path q k) main.path) ≡ 0
-      by (inl y) = absurd (not_first [] q k (sym (y.0 ∙ root)))
+      by : ((child_path q k ≡ main.path) × (once (same_path (child_path q k) main.path) ≡ 1)) ⊎ (once (same_path (child_path q k) main.path) ≡ 0) →
+          once (same_path (child_path q k) main.path) ≡ 0
+      by (inl y) = absurd (not_first [] q k (sym (y.0 ∙ run.root)))
       by (inr n) = n
 
   -- a path that isn't a child's is at most main's
   at_most_main : (x : Path) → ((q : Path) (k : ℕ) → x ≡ child_path q k → ⊥) → sum_by (has_path x) xs ≤ 1
   at_most_main x never =
-      let w = whole.births (at_path x) in
-      let z = sum_less (bears m (at_path x)) (λ (t : Thread). 0) (FitsIn m a) (λ t f. let e = none_born (program_in m) x never t.path t.first t.log in omega (arith, e)) xs fit in
+      let w = run.whole.births (at_path x) in
+      let z = sum_less (bears m (at_path x)) (λ (t : Thread). 0) (FitsIn m a)
+      (λ t f. let e = none_born (program_in m) x never t.path t.first t.log in omega (arith, e)) xs run.fit in
       let n = none_sum xs in
       let b = small (same_path x main.path) in
       omega (arith, w, z, n, b)
@@ -200,7 +212,7 @@ module _ (m : Surroundings) (a : Tree) (main : Birth) (xs : List Thread) (root :
   at_most_child : (q : Path) (k : ℕ) → sum_by (has_path q) xs ≤ 1 → sum_by (has_path (child_path q k)) xs ≤ 1
   at_most_child q k ih =
       let x = child_path q k in
-      let w = whole.births (at_path x) in
+      let w = run.whole.births (at_path x) in
       let l = sum_by-le-sum_by (bears m (at_path x)) (has_path q) xs (λ t. (few_births (program_in m) q k t.path t.first t.log).le) in
       let z = main_not q k in
       omega (arith, w, l, z, ih)
@@ -221,7 +233,8 @@ module _ (m : Surroundings) (a : Tree) (main : Birth) (xs : List Thread) (root :
   -- no two channels have one name
   pub channels_once : (h : ChannelName) → sum_by (opens m (λ n t. once (same_channel h n))) xs ≤ 1
   channels_once h =
-      let l = sum_less (opens m (λ n t. once (same_channel h n))) (has_path h.maker) (FitsIn m a) (λ t f. (few_openings (program_in m) m.types h t.path t.first t.log t.now f.follows).le) xs fit in
+      let l = sum_less (opens m (λ n t. once (same_channel h n))) (has_path h.maker) (FitsIn m a)
+      (λ t f. (few_openings (program_in m) m.types h t.path t.first t.log t.now f.follows).le) xs run.fit in
       let b = paths_once h.maker in
       omega (arith, l, b)
 
@@ -235,9 +248,10 @@ module _ (m : Surroundings) (a : Tree) (main : Birth) (xs : List Thread) (root :
       let b = sum_same (by_type z.side w) (λ e. once (same_end z (end_name e))) same x.bag in
       let c = sum_same (by_type z.side w) (λ e. once (same_end z (end_name e))) same x.retired in
       omega (arith, b, c)) xs in
-      let t = whole.typed z.side w in
+      let t = run.whole.typed z.side w in
       let c = channels_once z.channel in
       omega (arith, s, t, c)
 
+  -- all of this
   pub apart : AreApart m xs
   apart = record { paths = paths_once; channels = channels_once; ends = ends_once }

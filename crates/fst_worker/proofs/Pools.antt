@@ -10,12 +10,12 @@ use Rattle.fst_types.specs.declared.side.Side.TheVariants.{Left, Right}
 use Rattle.fst_lts.specs.Histories.{opposite}
 use Rattle.fst_derivations.specs.Rules.{Surroundings}
 use Rattle.fst_value.specs.declared.ends.EndName.{EndName}
-use Rattle.fst_runs.specs.Configs.{same_channel, same_side, same_end, main_path, other}
+use Rattle.fst_runs.specs.Configs.{same_channel, same_side, same_end, other}
 use Rattle.fst_runs.specs.Wrong.{once}
 use Rattle.fst_cell.specs.End.{EndView, end_name}
 use Rattle.fst_safety.specs.Logs.{Birth}
-use Rattle.fst_safety.specs.Threads.{Thread, FitsIn, count_of}
-use Rattle.fst_worker.specs.Works.{Whole}
+use Rattle.fst_safety.specs.Threads.{Thread, count_of}
+use Rattle.fst_worker.specs.Works.{IsRun}
 use Rattle.fst_worker.specs.Pairs.{HasEnd}
 use Rattle.fst_worker.specs.Records.{Pair, IsShut, Pooled, Closable}
 use Rattle.fst_worker.specs.Laws.{PoolLaw}
@@ -47,6 +47,7 @@ back Right = refl
 there_back : (x : EndName) → other (other x) ≡ x
 there_back x = λ i. record { channel = x.channel; side = back x.side i }
 
+-- how many ends of a pair have a name
 abbrev of_pair : EndName → Pair → ℕ
 of_pair z p = counted z p.left + counted z p.right
 
@@ -84,8 +85,8 @@ in_pairs w (p ∷ ps) =
     let ih = in_pairs w ps in
     omega (arith, a, b, c, ih)
 
-module _ (m : Surroundings) (a : Tree) (main : Birth) (xs : List Thread) (ps : List Pair) (es : List EndView) (root : main.path ≡ main_path) (fit : All (FitsIn m a) xs)
-    (whole : Whole m main xs) (pooled : Pooled xs ps es) (shut : All IsShut ps) where
+module _ (m : Surroundings) (a : Tree) (main : Birth) (xs : List Thread) (ps : List Pair) (es : List EndView) (run : IsRun m a main xs) (pooled : Pooled xs ps es)
+    (shut : All IsShut ps) where
   module _ (e : EndView) (rest : List EndView) (p : IsPermutation es (e ∷ rest)) where
     parts : (w : EndView → ℕ) → sum_by w es ≡ w e + sum_by w rest
     parts w = sym (sum_by-IsPermutation w es (e ∷ rest) p) ∙ sum_by-cons w e rest
@@ -116,11 +117,12 @@ module _ (m : Surroundings) (a : Tree) (main : Birth) (xs : List Thread) (ps : L
               omega (arith, b, c, d, g, h, k);
         }
 
+    -- the other end is among those that are left
     pub partner : 0 < count_of (other (end_name e)) rest
     partner =
         let z = end_name e in
-        let b = ends_once m a main xs root fit whole z in
-        let c = others_count m a main xs root fit whole z in
+        let b = ends_once m a main xs run z in
+        let c = others_count m a main xs run z in
         let d = pooled (counted z) in
         let g = pooled (counted (other z)) in
         let h = pairs_even z ps shut in
@@ -130,11 +132,13 @@ module _ (m : Surroundings) (a : Tree) (main : Birth) (xs : List Thread) (ps : L
         let n = not_other (same_channel z.channel z.channel) z.side in
         omega (arith, b, c, d, g, h, j, k, l, n)
 
+  -- so the channels of those that are left can be closed
   pub closable : Closable es
   closable = record {
     partner = partner;
-    pair = λ e f rest p c is. pair_of m a main xs root fit whole e f (has_first e rest p) (has_other e rest p f c) is;
+    pair = λ e f rest p c is. pair_of m a main xs run e f (has_first e rest p) (has_other e rest p f c) is;
   }
 
+-- for each run
 pub pools : PoolLaw
 pools = closable

@@ -17,7 +17,7 @@ use Rattle.fst_value.specs.declared.event.ChannelHistory.{ChannelHistory}
 use Rattle.fst_value.specs.declared.event.Entry.{Entry}
 use Rattle.fst_value.specs.declared.event.Event.{Event}
 use Rattle.fst_value.specs.declared.event.Event.TheVariants as event
-use Rattle.fst_runs.specs.Configs.{Task, same_channel, main_path}
+use Rattle.fst_runs.specs.Configs.{Task, same_channel}
 use Rattle.fst_runs.specs.Wrong.{once}
 use Rattle.fst_runs.proofs.NameLaws.{same_channel-itself}
 use Rattle.fst_cell.specs.declared.content.Half.{Half}
@@ -29,17 +29,18 @@ use Rattle.fst_cell.specs.Stamps.{AreStamped}
 use Rattle.fst_safety.specs.Logs.{Birth}
 use Rattle.fst_safety.specs.Threads.{Thread, FitsIn, FitsEnd, IsSpent}
 use Rattle.fst_safety.specs.Turns.{of_ends, on_side, by_type}
-use Rattle.fst_worker.specs.Works.{Whole}
-use Rattle.fst_worker.specs.Records.{Pair, IsShut, Paired, histories_of, missing, IsTrailing}
+use Rattle.fst_worker.specs.Records.{Pair, IsShut, IsOver, Paired, histories_of, missing, IsTrailing}
 use Rattle.fst_worker.proofs.Paths.{channels_once}
 use Rattle.fst_worker.proofs.Sums.{sum_none, none_in_sum}
 use Rattle.fst_worker.proofs.Tests.{channel_counts, there_sums, same_by, same_by-itself, same_by-same}
 
 -- ---- events, told apart by their codes
 
+-- what an event says
 abbrev pub Said : Type 0
 Said = ℤ ⊎ (Bool ⊎ (ℕ ⊎ (Bool ⊎ List ℕ)))
 
+-- what this event says
 abbrev pub said : Event → Said
 said (event.Int n) = inl n
 said (event.Bool b) = inr (inl b)
@@ -47,6 +48,7 @@ said (event.Char c) = inr (inr (inl c))
 said event.Unit = inr (inr (inr (inl true)))
 said (event.Label l) = inr (inr (inr (inr l)))
 
+-- the event that says this
 abbrev pub event_of : Said → Event
 event_of (inl n) = event.Int n
 event_of (inr (inl b)) = event.Bool b
@@ -54,6 +56,7 @@ event_of (inr (inr (inl c))) = event.Char c
 event_of (inr (inr (inr (inl b)))) = event.Unit
 event_of (inr (inr (inr (inr l)))) = event.Label l
 
+-- an event comes back from what it says
 pub event_of-said : (ev : Event) → event_of (said ev) ≡ ev
 event_of-said (event.Int n) = refl
 event_of-said (event.Bool b) = refl
@@ -61,6 +64,7 @@ event_of-said (event.Char c) = refl
 event_of-said event.Unit = refl
 event_of-said (event.Label l) = refl
 
+-- the codes of events
 abbrev pub event_code : Coded Event
 event_code = code_by Said (coded⊎ coded_ℤ (coded⊎ coded_bool (coded⊎ coded_ℕ (coded⊎ coded_bool (coded_list coded_ℕ))))) said event_of event_of-said
 
@@ -77,6 +81,7 @@ abbrev pub sends_by : Option Tree → Option Offer → Bool
 sends_by r None = true
 sends_by r (Some o) = sends r o.event
 
+-- what is lacked is what is offered
 record Lacks (d : Entry) (o : Offer) : Type 0 where
   event : d.event ≡ o.event
   sent : d.sent ≡ o.clock
@@ -123,7 +128,12 @@ pub record Reaches (h : List Entry) (v : Half) : Type 0 where
   pub settles : settled lacks v.offer ≡ true
 
 level : (h : List Entry) (v : Half) → v.history ≡ h → Reaches h v
-level h v e = record { lacks = None; is = sym (append-nil v.history ∙ e); next = ap (λ l. slice_get l (length v.history)) (sym e) ∙ get_none v.history; settles = refl }
+level h v e = record {
+  lacks = None;
+  is = sym (append-nil v.history ∙ e);
+  next = ap (λ l. slice_get l (length v.history)) (sym e) ∙ get_none v.history;
+  settles = refl;
+}
 
 reaches : (h : List Entry) (v : Half) → (v.offer ≡ None → v.history ≡ h) → Trails h v → AreStamped 0 h → Reaches h v
 reaches h v idle trails stamped = by v.offer refl
@@ -146,15 +156,19 @@ reaches h v idle trails stamped = by v.offer refl
 
 -- ---- tests of all ends
 
+-- the end passes the test
 abbrev pub Passes : (EndView → Bool) → EndView → Type 0
 Passes t e = t e ≡ true
 
+-- both ends of the pair pass it
 abbrev pub BothPass : (EndView → Bool) → Pair → Type 0
 BothPass t p = Passes t p.left × Passes t p.right
 
+-- all ends of the thread pass it
 abbrev pub EndsPass : (EndView → Bool) → Thread → Type 0
 EndsPass t x = All (Passes t) x.bag × All (Passes t) x.retired
 
+-- 1 for an end that doesn't pass it
 abbrev fails : (EndView → Bool) → EndView → ℕ
 fails t e = once (not (t e))
 
@@ -169,7 +183,8 @@ module _ (xs : List Thread) (ps : List Pair) (paired : Paired xs ps) (t : EndVie
   -- what all ends of closed channels pass, all ends of threads pass
   pub ends_pass : All (BothPass t) ps → All (EndsPass t) xs
   ends_pass h =
-      let z = sum_none (λ (p : Pair). fails t p.left + fails t p.right) (BothPass t) (λ p q. let a = passed t p.left q.0 in let b = passed t p.right q.1 in omega (arith, a, b)) ps h in
+      let z = sum_none (λ (p : Pair). fails t p.left + fails t p.right) (BothPass t)
+      (λ p q. let a = passed t p.left q.0 in let b = passed t p.right q.1 in omega (arith, a, b)) ps h in
       let s = paired (fails t) in
       All-weaker (λ (x : Thread). of_ends (fails t) x ≡ 0) (EndsPass t)
       (λ x q. (of_list x.bag (omega (arith, q)), of_list x.retired (omega (arith, q)))) xs (none_in_sum (of_ends (fails t)) xs (omega (arith, z, s)))
@@ -181,7 +196,10 @@ module _ (xs : List Thread) (ps : List Pair) (paired : Paired xs ps) (t : EndVie
   pub pairs_pass : All (EndsPass t) xs → All (BothPass t) ps
   pairs_pass h =
       let z = sum_none (of_ends (fails t)) (EndsPass t)
-      (λ x q. let a = sum_none (fails t) (Passes t) (passed t) x.bag q.0 in let b = sum_none (fails t) (Passes t) (passed t) x.retired q.1 in omega (arith, a, b)) xs h in
+      (λ x q.
+      let a = sum_none (fails t) (Passes t) (passed t) x.bag q.0 in
+      let b = sum_none (fails t) (Passes t) (passed t) x.retired q.1 in
+      omega (arith, a, b)) xs h in
       let s = paired (fails t) in
       All-weaker (λ (p : Pair). fails t p.left + fails t p.right ≡ 0) (BothPass t)
       (λ p q. (fails_not (t p.left) (omega (arith, q)), fails_not (t p.right) (omega (arith, q)))) ps
@@ -196,6 +214,7 @@ pub record IsBehind (ks : List ChannelHistory) (e : EndView) (h : List Entry) : 
   pub missing_is : missing ks e ≡ lacks
   pub sends_it : (d : Entry) → lacks ≡ Some d → sends (residual_of e.knows) d.event ≡ true
 
+-- a pair, by its channel
 abbrev pub of_channel : ChannelName → Pair → ℕ
 of_channel h p = once (same_channel h p.closed.history.name)
 
@@ -204,10 +223,12 @@ abbrev pub look : {R : Type 0} → (Pair → R) → R → List Pair → ChannelN
 look f none [] h = none
 look f none (p ∷ ps) h = if same_channel h p.closed.history.name then f p else look f none ps h
 
-look_or : {R : Type 0} (f : Pair → R) (none : R) (ps : List Pair) (h : ChannelName) (p q : Pair) → h ≡ p.closed.history.name → sum_by (of_channel h) (q ∷ ps) ≤ 1 →
+look_or : {R : Type 0} (f : Pair → R) (none : R) (ps : List Pair) (h : ChannelName) (p q : Pair) → h ≡ p.closed.history.name →
+    sum_by (of_channel h) (q ∷ ps) ≤ 1 →
     (Contains ps p → look f none ps h ≡ f p) → (q ≡ p) ⊎ Contains ps p → look f none (q ∷ ps) h ≡ f p
 look_or f none ps h p q is le more (inl i) =
-    ap (λ (b : Bool). if b then f q else look f none ps h) (ap (λ n. same_channel n q.closed.history.name) (is ∙ ap (λ (p : Pair). p.closed.history.name) (sym i))
+    ap (λ (b : Bool). if b then f q else look f none ps h)
+    (ap (λ n. same_channel n q.closed.history.name) (is ∙ ap (λ (p : Pair). p.closed.history.name) (sym i))
     ∙ same_channel-itself q.closed.history.name) ∙ ap f i
 look_or f none ps h p q is le more (inr i) = ap (λ (b : Bool). if b then f q else look f none ps h) (apart (same_channel h q.closed.history.name) refl) ∙ more i
   where
@@ -221,12 +242,14 @@ look_or f none ps h p q is le more (inr i) = ap (λ (b : Bool). if b then f q el
         absurd (omega (arith, a, b, c, d, le))
 
 -- where only one pair has a name, it is said of that
-pub look_of : {R : Type 0} (f : Pair → R) (none : R) (ps : List Pair) (h : ChannelName) (p : Pair) → Contains ps p → h ≡ p.closed.history.name → sum_by (of_channel h) ps ≤ 1 →
+pub look_of : {R : Type 0} (f : Pair → R) (none : R) (ps : List Pair) (h : ChannelName) (p : Pair) → Contains ps p → h ≡ p.closed.history.name →
+    sum_by (of_channel h) ps ≤ 1 →
     look f none ps h ≡ f p
 look_of f none [] h p c is le = absurd (contains_none p c)
 look_of f none (q ∷ ps) h p c is le =
     look_or f none ps h p q is le (λ i. look_of f none ps h p i is (let a = sum_by-cons (of_channel h) q ps in omega (arith, a, le))) (from_contains ps p q c)
 
+-- the entry of the pair's history behind those that an end knows
 abbrev behind_in : EndView → Pair → Option Entry
 behind_in e p = slice_get p.closed.history.entries.items (length e.knows.history)
 
@@ -239,9 +262,11 @@ missing_of : (ps : List Pair) (e : EndView) (p : Pair) → Contains ps p → e.c
 missing_of ps e p c is le = missing_is ps e ∙ look_of (behind_in e) None ps e.channel p c is le
 
 -- the left end of a pair, and its right one, weigh as the channel
-pub shut_type : (w : ChannelName → Tree → ℕ) (p : Pair) → IsShut p → by_type Left w p.left + by_type Left w p.right ≡ w p.closed.history.name p.closed.history.declared
+pub shut_type : (w : ChannelName → Tree → ℕ) (p : Pair) → IsShut p →
+    by_type Left w p.left + by_type Left w p.right ≡ w p.closed.history.name p.closed.history.declared
 shut_type w p s =
-    let a : by_type Left w p.left ≡ w p.closed.history.name p.closed.history.declared = λ i. on_side Left (s.left_side i) (w (sym s.closed.named i) (sym s.closed.left_declared i)) in
+    let a : by_type Left w p.left ≡ w p.closed.history.name p.closed.history.declared = λ i. on_side Left (s.left_side i)
+    (w (sym s.closed.named i) (sym s.closed.left_declared i)) in
     let b : by_type Left w p.right ≡ 0 = ap (λ t. on_side Left t (w p.right.channel p.right.knows.declared)) s.right_side in
     omega (arith, a, b)
 
@@ -256,22 +281,25 @@ by_histories f g P e (p ∷ ps) all =
     let ih = by_histories f g P e ps (All-tail P p ps all) in
     omega (arith, a, b, d, ih)
 
-pub all_histories : (P : Pair → Type 0) (Q : ChannelHistory → Type 0) → ((p : Pair) → P p → Q p.closed.history) → (ps : List Pair) → All P ps → All Q (histories_of ps)
+-- what holds of all histories, by what holds of the pairs
+pub all_histories : (P : Pair → Type 0) (Q : ChannelHistory → Type 0) → ((p : Pair) → P p → Q p.closed.history) → (ps : List Pair) → All P ps →
+    All Q (histories_of ps)
 all_histories P Q f [] all = All-nil Q
 all_histories P Q f (p ∷ ps) all = All-cons Q p.closed.history (histories_of ps) (f p (All-head P p ps all)) (all_histories P Q f ps (All-tail P p ps all))
 
-module _ (m : Surroundings) (a : Tree) (main : Birth) (xs : List Thread) (ps : List Pair) (root : main.path ≡ main_path) (fit : All (FitsIn m a) xs) (whole : Whole m main xs)
-    (paired : Paired xs ps) (shut : All IsShut ps) where
+module _ (m : Surroundings) (a : Tree) (main : Birth) (xs : List Thread) (ps : List Pair) (over : IsOver m a main xs ps) where
+  -- the histories of the closed channels
   abbrev ks : List ChannelHistory
   ks = histories_of ps
 
+  -- no two pairs have one name
   pub names_once : (h : ChannelName) → sum_by (of_channel h) ps ≤ 1
   names_once h =
       let w = λ (n : ChannelName) (t : Tree). once (same_channel h n) in
-      let q = by_both w ps shut in
-      let b = paired (by_type Left w) in
-      let c = whole.typed Left w in
-      let d = channels_once m a main xs root fit whole h in
+      let q = by_both w ps over.shut in
+      let b = over.paired (by_type Left w) in
+      let c = over.run.whole.typed Left w in
+      let d = channels_once m a main xs over.run h in
       omega (arith, q, b, c, d)
     where
       by_both : (w : ChannelName → Tree → ℕ) (ps : List Pair) → All IsShut ps →
@@ -286,26 +314,31 @@ module _ (m : Surroundings) (a : Tree) (main : Birth) (xs : List Thread) (ps : L
 
   -- each pair, and that it is there
   pub here : All (λ (p : Pair). Contains ps p × IsShut p) ps
-  here = λ k d l. (All-contains_itself ps k d l, shut k d l)
+  here = λ k d l. (All-contains_itself ps k d l, over.shut k d l)
 
+  -- how much of the history the left end lacks
   pub left_reaches : (p : Pair) → IsShut p → Reaches p.closed.history.entries.items p.left.knows
   left_reaches p s = reaches p.closed.history.entries.items p.left.knows s.closed.left_level s.closed.left s.closed.stamped
 
+  -- and the right one
   pub right_reaches : (p : Pair) → IsShut p → Reaches p.closed.history.entries.items p.right.knows
   right_reaches p s = reaches p.closed.history.entries.items p.right.knows s.closed.right_level s.closed.right s.closed.stamped
 
+  -- so much is missing
   pub left_missing : (p : Pair) → Contains ps p → (s : IsShut p) → missing ks p.left ≡ (left_reaches p s).lacks
   left_missing p c s = missing_of ps p.left p c (sym s.closed.named) (names_once p.left.channel) ∙ (left_reaches p s).next
 
+  -- of both
   pub right_missing : (p : Pair) → Contains ps p → (s : IsShut p) → missing ks p.right ≡ (right_reaches p s).lacks
   right_missing p c s = missing_of ps p.right p c (s.channel ∙ sym s.closed.named) (names_once p.right.channel) ∙ (right_reaches p s).next
 
+  -- the end lacks nothing, or what it offers
   abbrev settles : EndView → Bool
   settles e = settled (missing ks e) e.knows.offer
 
   -- all ends lack nothing, or what they offer
   pub all_settled : All (EndsPass settles) xs
-  all_settled = ends_pass xs ps paired settles (All-weaker (λ (p : Pair). Contains ps p × IsShut p) (BothPass settles)
+  all_settled = ends_pass xs ps over.paired settles (All-weaker (λ (p : Pair). Contains ps p × IsShut p) (BothPass settles)
       (λ p q. (
         ap (λ d. settled d p.left.knows.offer) (left_missing p q.0 q.1) ∙ (left_reaches p q.1).settles,
         ap (λ d. settled d p.right.knows.offer) (right_missing p q.0 q.1) ∙ (right_reaches p q.1).settles,
@@ -322,12 +355,13 @@ module _ (m : Surroundings) (a : Tree) (main : Birth) (xs : List Thread) (ps : L
       by None q = ap (sends_by (residual_of e.knows)) q
       by (Some o) q = ap (sends_by (residual_of e.knows)) q ∙ (f.waits o q).sends
 
+  -- so do the ends of all pairs
   pub all_send : All (BothPass may_send) ps
-  all_send = pairs_pass xs ps paired may_send (All-weaker (FitsIn m a) (EndsPass may_send)
+  all_send = pairs_pass xs ps over.paired may_send (All-weaker (FitsIn m a) (EndsPass may_send)
       (λ x f. (
         All-weaker (FitsEnd m x.now) (Passes may_send) (sends_waiting x.now) x.bag f.ends,
         All-weaker IsSpent (Passes may_send) (λ e s. ap (sends_by (residual_of e.knows)) s.idle) x.retired f.spent,
-      )) xs fit)
+      )) xs over.run.fit)
 
   behind : (e : EndView) (h : List Entry) (r : Reaches h e.knows) → missing ks e ≡ r.lacks → Passes may_send e → IsBehind ks e h
   behind e h r q may = record {

@@ -29,7 +29,8 @@ use Rattle.fst_worker.specs.Works.{Whole, IsKnownIn, bears, opens, trades}
 use Rattle.fst_worker.specs.Laws.{main_thread, BeginLaw}
 
 -- a thread with no log and no ends, in whose state no end stands, is whole by itself
-pub idle_whole : (m : Surroundings) (x : Thread) → x.log ≡ [] → x.bag ≡ [] → x.retired ≡ [] → ((z : EndName) → held_state z x.now.state ≡ 0) → Whole m (birth x) (x ∷ [])
+pub idle_whole : (m : Surroundings) (x : Thread) → x.log ≡ [] → x.bag ≡ [] → x.retired ≡ [] → ((z : EndName) → held_state z x.now.state ≡ 0) →
+    Whole m (birth x) (x ∷ [])
 idle_whole m x log bag retired free = record {
   births = λ w.
       let a = sum_by-cons (λ (x : Thread). w (birth x)) x [] in
@@ -60,7 +61,7 @@ idle_whole m x log bag retired free = record {
     none : (w : EndView → ℕ) → of_ends w x ≡ 0
     none w = let a = ap (sum_by w) bag in let b = ap (sum_by w) retired in omega (arith, a, b)
 
--- the type of main's body at the beginning
+-- main's thread fits a module that has derivations
 pub main_fits : (m : Module) (ds : List Deriv) → HasDerivations m ds → (e : CoreTree) → main_body m.globals.items ≡ Some e →
     (a : Tree) × (main_type m.types.items m.globals.items ≡ Some a) × FitsIn (surroundings m []) a (main_thread e)
 main_fits m ds h e q =
@@ -96,5 +97,6 @@ main_fits m ds h e q =
       },
     )
 
+-- the law of the beginning
 pub begins_so : BeginLaw
 begins_so = record { fits = main_fits; whole = λ m e. idle_whole m (main_thread e) refl refl refl (λ z. refl) }

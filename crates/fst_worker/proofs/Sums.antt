@@ -9,6 +9,7 @@ use Rattle.fst_runs.specs.Configs.{Path, Task}
 use Rattle.fst_safety.specs.declared.tasks.LogEntry.{LogEntry}
 use Rattle.fst_safety.specs.Logs.{Birth, Exchange, Opening, Follows, after_entry, exchanged_by, opened_by, born_by, exchanges, openings, births}
 
+-- what is exchanged by a longer log
 pub exchanges_more : (w : Exchange → ℕ) (p : Program) (path : Path) (t : Task) (xs ys : List LogEntry) (u : Task) → Follows p path t xs u →
     sum_by w (exchanges t.clock (xs ++ ys)) ≡ sum_by w (exchanges t.clock xs) + sum_by w (exchanges u.clock ys)
 exchanges_more w p path t [] ys u f = ap (λ (k : Task). sum_by w (exchanges k.clock ys)) (sym f) ∙ omega arith
@@ -18,6 +19,7 @@ exchanges_more w p path t (e ∷ es) ys u f =
     let b = sum_by-append w (exchanged_by t.clock e.stamp e.asked e.answer) (exchanges e.stamp es) in
     omega (arith, ih, a, b)
 
+-- the tasks that it forks
 pub births_more : (w : Birth → ℕ) (p : Program) (path : Path) (t : Task) (xs ys : List LogEntry) (u : Task) → Follows p path t xs u →
     sum_by w (births p path t (xs ++ ys)) ≡ sum_by w (births p path t xs) + sum_by w (births p path u ys)
 births_more w p path t [] ys u f = ap (λ (k : Task). sum_by w (births p path k ys)) (sym f) ∙ omega arith
@@ -27,6 +29,7 @@ births_more w p path t (e ∷ es) ys u f =
     let b = sum_by-append w (born_by p path t e.stamp e.answer) (births p path (after_entry p t e) es) in
     omega (arith, ih, a, b)
 
+-- the channels that it makes
 pub openings_more : (w : Opening → ℕ) (types : List Tree) (xs ys : List LogEntry) →
     sum_by w (openings types (xs ++ ys)) ≡ sum_by w (openings types xs) + sum_by w (openings types ys)
 openings_more w types [] ys = omega arith
@@ -46,7 +49,7 @@ module _ {X : Type 0} where
       let b = z x (All-head P x xs all) in
       omega (arith, ih, a, b)
 
-  -- sums of what is no more, and of what is the same
+  -- a sum of what is no more
   pub sum_less : (f g : X → ℕ) (P : X → Type 0) → ((x : X) → P x → f x ≤ g x) → (xs : List X) → All P xs → sum_by f xs ≤ sum_by g xs
   sum_less f g P le [] all = omega arith
   sum_less f g P le (x ∷ xs) all =
@@ -56,6 +59,7 @@ module _ {X : Type 0} where
       let ih = sum_less f g P le xs (All-tail P x xs all) in
       omega (arith, a, b, h, ih)
 
+  -- a sum of what is the same
   pub sum_same : (f g : X → ℕ) → ((x : X) → f x ≡ g x) → (xs : List X) → sum_by f xs ≡ sum_by g xs
   sum_same f g e [] = refl
   sum_same f g e (x ∷ xs) =

@@ -19,6 +19,7 @@ use Rattle.fst_safety.specs.Turns.{on_side}
 
 -- ---- a test that counts
 
+-- a test counts at most 1
 pub small : (b : Bool) → once b ≤ 1
 small true = omega arith
 small false = omega arith
@@ -28,21 +29,27 @@ pub counts_or : (P : Type 0) (b : Bool) → (b ≡ true → P) → (P × (once b
 counts_or P true h = inl (h refl, refl)
 counts_or P false h = inr refl
 
+-- two paths are one, or they don't count
 pub path_or : (p q : Path) → ((p ≡ q) × (once (same_path p q) ≡ 1)) ⊎ (once (same_path p q) ≡ 0)
 path_or p q = counts_or (p ≡ q) (same_path p q) (same_path-same p q)
 
+-- a path counts as itself
 pub path_counts : (p q : Path) → p ≡ q → once (same_path p q) ≡ 1
 path_counts p q e = ap (λ x. once (same_path p x)) (sym e) ∙ ap once (same_path-itself p)
 
+-- the same of channels
 pub channel_or : (g h : ChannelName) → ((g ≡ h) × (once (same_channel g h) ≡ 1)) ⊎ (once (same_channel g h) ≡ 0)
 channel_or g h = counts_or (g ≡ h) (same_channel g h) (same_channel-same g h)
 
+-- a channel counts as itself
 pub channel_counts : (g h : ChannelName) → g ≡ h → once (same_channel g h) ≡ 1
 channel_counts g h e = ap (λ x. once (same_channel g x)) (sym e) ∙ ap once (same_channel-itself g)
 
+-- and of ends
 pub end_or : (x y : EndName) → ((x ≡ y) × (once (same_end x y) ≡ 1)) ⊎ (once (same_end x y) ≡ 0)
 end_or x y = counts_or (x ≡ y) (same_end x y) (same_end-same x y)
 
+-- an end counts as itself
 pub end_counts : (x y : EndName) → x ≡ y → once (same_end x y) ≡ 1
 end_counts x y e = ap (λ z. once (same_end x z)) (sym e) ∙ ap once (same_end-itself x)
 
@@ -57,6 +64,7 @@ by_sides false Left Right n = omega arith
 by_sides false Right Left n = omega arith
 by_sides false Right Right n = refl
 
+-- the same of one
 pub by_side : (b : Bool) (s t : Side) → on_side s t (once b) ≡ once (b && same_side s t)
 by_side true Left Left = refl
 by_side true Left Right = refl
@@ -69,6 +77,7 @@ by_side false Right Right = refl
 
 -- ---- lists
 
+-- lists with one more at their ends are one where both parts are
 pub snoc_same : (p q : List ℕ) (k j : ℕ) → p ++ k ∷ [] ≡ q ++ j ∷ [] → (p ≡ q) × (k ≡ j)
 snoc_same p q k j e =
     let a = ap length e in
@@ -114,9 +123,11 @@ module _ {A : Type 0} (c : Coded A) where
   abbrev pub same_by : A → A → Bool
   same_by x y = same_code (c.code x) (c.code y)
 
+  -- a thing passes the test with itself
   pub same_by-itself : (x y : A) → x ≡ y → same_by x y ≡ true
   same_by-itself x y e = ap (λ z. same_code (c.code x) (c.code z)) (sym e) ∙ code_itself (c.code x)
 
+  -- things that pass it are one
   pub same_by-same : (x y : A) → same_by x y ≡ true → x ≡ y
   same_by-same x y e = c.inj x y (code_same (c.code x) (c.code y) e)
 

@@ -33,7 +33,8 @@ module _ (m : Surroundings) (a : Tree) where
   sums : (f : Thread → ℕ) (xs ys : List Thread) (s : Step m a xs ys) → Sums f xs ys s.task s.after s.new s.rest
   sums f xs ys s = record {
     before = sym (sum_by-IsPermutation f xs (s.task ∷ s.rest) s.before_is) ∙ sum_by-cons f s.task s.rest;
-    later = sum_by-IsPermutation f (s.after ∷ (s.new ++ s.rest)) ys s.after_is ∙ (sum_by-cons f s.after (s.new ++ s.rest) ∙ ap (λ n. f s.after + n) (sum_by-append f s.new s.rest));
+    later = sum_by-IsPermutation f (s.after ∷ (s.new ++ s.rest)) ys s.after_is
+        ∙ (sum_by-cons f s.after (s.new ++ s.rest) ∙ ap (λ n. f s.after + n) (sum_by-append f s.new s.rest));
   }
 
   -- what holds of each thread before holds of the one that goes on, and of those that don't
@@ -48,20 +49,24 @@ module _ (m : Surroundings) (a : Tree) where
   all_again P xs ys s one new rest =
       All-permutation P (s.after ∷ (s.new ++ s.rest)) ys s.after_is (All-cons P s.after (s.new ++ s.rest) one (All-append P s.new s.rest new rest))
 
+  -- all fit after a step
   pub step_fits : (xs ys : List Thread) → Step m a xs ys → All (FitsIn m a) xs → All (FitsIn m a) ys
   step_fits xs ys s all = all_again (FitsIn m a) xs ys s s.goes.fits s.goes.new_fit (rest_of_all (FitsIn m a) xs ys s all)
 
   -- ---- what the log of the thread that went on says
 
-  trades_grow : (w : Exchange → ℕ) (x y : Thread) (new : List Thread) (r : Turn m x y new) → FitsIn m a x → trades w y ≡ trades w x + sum_by w (exchanges x.now.clock r.gained)
+  trades_grow : (w : Exchange → ℕ) (x y : Thread) (new : List Thread) (r : Turn m x y new) → FitsIn m a x →
+      trades w y ≡ trades w x + sum_by w (exchanges x.now.clock r.gained)
   trades_grow w x y new r f =
       ap (λ (t : Task). sum_by w (exchanges t.clock y.log)) r.first ∙ ap (λ (l : List LogEntry). sum_by w (exchanges x.first.clock l)) r.log
       ∙ exchanges_more w (program_in m) x.path x.first x.log r.gained x.now f.follows
 
-  bears_grow : (w : Birth → ℕ) (x y : Thread) (new : List Thread) (r : Turn m x y new) → FitsIn m a x → bears m w y ≡ bears m w x + sum_by w (births (program_in m) x.path x.now r.gained)
+  bears_grow : (w : Birth → ℕ) (x y : Thread) (new : List Thread) (r : Turn m x y new) → FitsIn m a x →
+      bears m w y ≡ bears m w x + sum_by w (births (program_in m) x.path x.now r.gained)
   bears_grow w x y new r f =
       ap (λ (p : Path). sum_by w (births (program_in m) p y.first y.log)) r.path ∙ ap (λ (t : Task). sum_by w (births (program_in m) x.path t y.log)) r.first
-      ∙ ap (λ (l : List LogEntry). sum_by w (births (program_in m) x.path x.first l)) r.log ∙ births_more w (program_in m) x.path x.first x.log r.gained x.now f.follows
+      ∙ ap (λ (l : List LogEntry). sum_by w (births (program_in m) x.path x.first l)) r.log
+      ∙ births_more w (program_in m) x.path x.first x.log r.gained x.now f.follows
 
   opens_grow : (w : ChannelName → Tree → ℕ) (x y : Thread) (new : List Thread) (r : Turn m x y new) →
       opens m w y ≡ opens m w x + sum_by (λ (o : Opening). w o.name o.declared) (openings m.types r.gained)
@@ -72,6 +77,7 @@ module _ (m : Surroundings) (a : Tree) where
   same_birth : (w : Birth → ℕ) (x y : Thread) (new : List Thread) (r : Turn m x y new) → w (birth y) ≡ w (birth x)
   same_birth w x y new r = λ i. w (record { path = r.path i; first = r.first i })
 
+  -- the thread has done nothing yet
   abbrev Empty : Thread → Type 0
   Empty k = k.log ≡ []
 
@@ -106,11 +112,13 @@ module _ (m : Surroundings) (a : Tree) where
   step_known : (xs ys : List Thread) → Step m a xs ys → All (IsKnownIn xs) xs → All (IsKnownIn ys) ys
   step_known xs ys s all =
       let one = known_again xs ys s (first_of_all (IsKnownIn xs) xs ys s all) in
-      all_again (IsKnownIn ys) xs ys s (one s.after s.goes.turn.known) (All-weaker (AreKnownSpent s.task s.after) (IsKnownIn ys) one s.new s.goes.turn.known_new)
+      all_again (IsKnownIn ys) xs ys s (one s.after s.goes.turn.known)
+      (All-weaker (AreKnownSpent s.task s.after) (IsKnownIn ys) one s.new s.goes.turn.known_new)
       (All-weaker (IsKnownIn xs) (IsKnownIn ys) (λ k h z n c. spent_grow z xs ys s (h z n c)) s.rest (rest_of_all (IsKnownIn xs) xs ys s all))
 
   -- ---- all threads
 
+  -- nothing is left out by a step
   pub step_whole : (main : Birth) (xs ys : List Thread) → Step m a xs ys → All (FitsIn m a) xs → Whole m main xs → Whole m main ys
   step_whole main xs ys s all whole =
       let f = first_of_all (FitsIn m a) xs ys s all in
@@ -166,14 +174,28 @@ module _ (m : Surroundings) (a : Tree) where
         known = step_known xs ys s whole.known;
       }
 
+  -- nor where threads are dealt out
   pub moved_whole : (main : Birth) (xs ys : List Thread) → IsPermutation xs ys → Whole m main xs → Whole m main ys
   moved_whole main xs ys p whole = record {
-    births = λ w. let b = sum_by-IsPermutation (λ (x : Thread). w (birth x)) xs ys p in let c = sum_by-IsPermutation (bears m w) xs ys p in omega (arith, b, c, whole.births w);
-    typed = λ side w. let b = sum_by-IsPermutation (of_ends (by_type side w)) xs ys p in let c = sum_by-IsPermutation (opens m w) xs ys p in omega (arith, b, c, whole.typed side w);
-    cells = λ w. let b = sum_by-IsPermutation (of_ends (by_cell Left w)) xs ys p in let c = sum_by-IsPermutation (of_ends (by_cell Right w)) xs ys p in omega (arith, b, c, whole.cells w);
-    exchanged = λ w. let b = sum_by-IsPermutation (of_ends (by_exchanges w)) xs ys p in let c = sum_by-IsPermutation (trades w) xs ys p in omega (arith, b, c, whole.exchanged w);
+    births = λ w.
+        let b = sum_by-IsPermutation (λ (x : Thread). w (birth x)) xs ys p in
+        let c = sum_by-IsPermutation (bears m w) xs ys p in
+        omega (arith, b, c, whole.births w);
+    typed = λ side w.
+        let b = sum_by-IsPermutation (of_ends (by_type side w)) xs ys p in
+        let c = sum_by-IsPermutation (opens m w) xs ys p in
+        omega (arith, b, c, whole.typed side w);
+    cells = λ w.
+        let b = sum_by-IsPermutation (of_ends (by_cell Left w)) xs ys p in
+        let c = sum_by-IsPermutation (of_ends (by_cell Right w)) xs ys p in
+        omega (arith, b, c, whole.cells w);
+    exchanged = λ w.
+        let b = sum_by-IsPermutation (of_ends (by_exchanges w)) xs ys p in
+        let c = sum_by-IsPermutation (trades w) xs ys p in
+        omega (arith, b, c, whole.exchanged w);
     known = All-permutation (IsKnownIn ys) xs ys p
-        (All-weaker (IsKnownIn xs) (IsKnownIn ys) (λ k h z n c. let b = sum_by-IsPermutation (spent_in z) xs ys p in let d = h z n c in omega (arith, b, d)) xs whole.known);
+        (All-weaker (IsKnownIn xs) (IsKnownIn ys)
+        (λ k h z n c. let b = sum_by-IsPermutation (spent_in z) xs ys p in let d = h z n c in omega (arith, b, d)) xs whole.known);
   }
 
   turns_fit : (n : ℕ) (xs ys : List Thread) → Turns m a n xs ys → All (FitsIn m a) xs → All (FitsIn m a) ys

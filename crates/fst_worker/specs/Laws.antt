@@ -19,9 +19,9 @@ use Rattle.fst_safety.specs.Safety.{main_type}
 use Rattle.fst_safety.specs.Threads.{Thread, FitsIn}
 use Rattle.fst_safety.specs.Turns.{birth}
 use Rattle.fst_safety.specs.WellTyped.{program_in}
-use Rattle.fst_worker.specs.Works.{Went, GoesOnIn, Whole}
+use Rattle.fst_worker.specs.Works.{Went, GoesOnIn, Whole, IsRun}
 use Rattle.fst_worker.specs.Pairs.{AreApart, ArePaired}
-use Rattle.fst_worker.specs.Records.{Pair, IsShut, Paired, Pooled, Closable, histories_of, missing, stands_on, IsAsClosed, Caught, AllCaught, FitsRecord}
+use Rattle.fst_worker.specs.Records.{Pair, IsShut, Pooled, IsOver, Closable, histories_of, missing, stands_on, IsAsClosed, Caught, AllCaught, FitsRecord}
 
 -- ---- the beginning
 
@@ -56,18 +56,18 @@ WentLaw = (m : Surroundings) (a : Tree) (xs ys : List Thread) → All (FitsIn m 
 
 -- ---- names and ends
 
--- of threads of one run, no two have one path, no two channels and no two ends one name
+-- in a run no two tasks have one path, no two channels and no two ends one name
 abbrev pub ApartLaw : Type 0
-ApartLaw = (m : Surroundings) (a : Tree) (main : Birth) (xs : List Thread) → main.path ≡ main_path → All (FitsIn m a) xs → Whole m main xs → AreApart m xs
+ApartLaw = (m : Surroundings) (a : Tree) (main : Birth) (xs : List Thread) → IsRun m a main xs → AreApart m xs
 
 -- and with each end the other end of its channel is there, with one cell and one declared type
 abbrev pub PairLaw : Type 0
-PairLaw = (m : Surroundings) (a : Tree) (main : Birth) (xs : List Thread) → main.path ≡ main_path → All (FitsIn m a) xs → Whole m main xs → ArePaired xs
+PairLaw = (m : Surroundings) (a : Tree) (main : Birth) (xs : List Thread) → IsRun m a main xs → ArePaired xs
 
 -- so it is among the ends that are left when the channels of some were closed
 abbrev pub PoolLaw : Type 0
-PoolLaw = (m : Surroundings) (a : Tree) (main : Birth) (xs : List Thread) (ps : List Pair) (es : List EndView) → main.path ≡ main_path →
-    All (FitsIn m a) xs → Whole m main xs → Pooled xs ps es → All IsShut ps → Closable es
+PoolLaw = (m : Surroundings) (a : Tree) (main : Birth) (xs : List Thread) (ps : List Pair) (es : List EndView) → IsRun m a main xs → Pooled xs ps es →
+    All IsShut ps → Closable es
 
 -- ---- the end of a run
 
@@ -89,7 +89,6 @@ pub record Finishes (m : Surroundings) (main : Birth) (xs : List Thread) (ps : L
   -- then the logs and the histories are a record that fits
   pub record_fits : (ys : List Thread) → AllCaught m (histories_of ps) xs ys → FitsRecord m main ys (histories_of ps)
 
--- where the channels of all ends were closed, and each task is told that what its end lacks was sent, logs and histories are a record that fits
+-- where all channels were closed, and each task is told that what its end lacks was sent, logs and histories are a record that fits
 abbrev pub RecordLaw : Type 0
-RecordLaw = (m : Surroundings) (a : Tree) (main : Birth) (xs : List Thread) (ps : List Pair) → main.path ≡ main_path → All (FitsIn m a) xs → Whole m main xs →
-    Paired xs ps → All IsShut ps → Finishes m main xs ps
+RecordLaw = (m : Surroundings) (a : Tree) (main : Birth) (xs : List Thread) (ps : List Pair) → IsOver m a main xs ps → Finishes m main xs ps

@@ -22,7 +22,7 @@ use Rattle.fst_safety.specs.Logs.{Birth, Exchange, Follows, births, exchanges, o
 use Rattle.fst_safety.specs.Threads.{Thread, count_of}
 use Rattle.fst_safety.specs.Turns.{of_ends, birth}
 use Rattle.fst_worker.specs.Pairs.{IsOnePair}
-use Rattle.fst_worker.specs.Works.{bears, opens, trades}
+use Rattle.fst_worker.specs.Works.{IsRun, bears, opens, trades}
 
 -- ---- records
 
@@ -85,7 +85,13 @@ pub record Closable (es : List EndView) : Type 0 where
   pub partner : (e : EndView) (rest : List EndView) → IsPermutation es (e ∷ rest) → 0 < count_of (other (end_name e)) rest
   pub pair : (e f : EndView) (rest : List EndView) → IsPermutation es (e ∷ rest) → Contains rest f → end_name f ≡ other (end_name e) → IsOnePair e f
 
--- their histories
+-- a run all of whose channels were closed, with these pairs of ends
+pub record IsOver (m : Surroundings) (a : Tree) (main : Birth) (xs : List Thread) (ps : List Pair) : Type 0 where
+  pub run : IsRun m a main xs
+  pub paired : Paired xs ps
+  pub shut : All IsShut ps
+
+-- the histories of the closed channels
 abbrev pub histories_of : List Pair → List ChannelHistory
 histories_of [] = []
 histories_of (p ∷ ps) = p.closed.history ∷ histories_of ps

@@ -7,12 +7,13 @@ use Rattle.fst_types.specs.declared.side.Side.TheVariants.{Left, Right}
 use Rattle.fst_derivations.specs.Rules.{Surroundings}
 use Rattle.fst_value.specs.declared.ends.ChannelName.{ChannelName}
 use Rattle.fst_value.specs.declared.ends.EndName.{EndName}
+use Rattle.fst_runs.specs.Configs.{main_path}
 use Rattle.fst_runs.specs.Wrong.{held_state}
 use Rattle.fst_cell.specs.End.{EndView}
 use Rattle.fst_safety.specs.declared.tasks.LogEntry.{LogEntry}
 use Rattle.fst_safety.specs.WellTyped.{program_in}
 use Rattle.fst_safety.specs.Logs.{Birth, Exchange, Opening, births, exchanges, openings}
-use Rattle.fst_safety.specs.Threads.{Thread, count_of}
+use Rattle.fst_safety.specs.Threads.{Thread, FitsIn, count_of}
 use Rattle.fst_safety.specs.Turns.{of_ends, by_type, by_cell, by_exchanges, birth}
 use Rattle.fst_safety.specs.Going.{GoesOnTo}
 
@@ -81,3 +82,9 @@ pub record Whole (m : Surroundings) (main : Birth) (xs : List Thread) : Type 0 w
   pub exchanged : (w : Exchange → ℕ) → sum_by (of_ends (by_exchanges w)) xs ≡ sum_by (trades w) xs
   -- each end that stands in a state and isn't open there is among the spent ones
   pub known : All (IsKnownIn xs) xs
+
+-- all threads of a run, in which main has the type a
+pub record IsRun (m : Surroundings) (a : Tree) (main : Birth) (xs : List Thread) : Type 0 where
+  pub root : main.path ≡ main_path
+  pub fit : All (FitsIn m a) xs
+  pub whole : Whole m main xs
