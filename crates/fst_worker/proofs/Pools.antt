@@ -85,7 +85,8 @@ in_pairs w (p ∷ ps) =
     let ih = in_pairs w ps in
     omega (arith, a, b, c, ih)
 
-module _ (m : Surroundings) (a : Tree) (main : Birth) (xs : List Thread) (ps : List Pair) (es : List EndView) (run : IsRun m a main xs) (pooled : Pooled xs ps es)
+module _ (m : Surroundings) (a : Tree) (main : Birth) (xs : List Thread) (ps : List Pair) (es : List EndView) (run : IsRun m a main xs)
+    (pooled : Pooled xs ps es)
     (shut : All IsShut ps) where
   module _ (e : EndView) (rest : List EndView) (p : IsPermutation es (e ∷ rest)) where
     parts : (w : EndView → ℕ) → sum_by w es ≡ w e + sum_by w rest

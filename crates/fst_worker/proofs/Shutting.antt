@@ -1,7 +1,6 @@
 -- Ends whose channels were closed: what an end lacks of its history is its own offer.
 use Rattle.std.proofs.Common.{◌≡◌, ◌∙◌, ◌⊎◌, inl, inr, ◌<◌, ◌≤◌, ℕ, ◌+◌, Bool, true, false, not, ◌&&◌, List, [], ◌∷◌, ◌++◌, length, Option, Some, None, refl, sym, ap, subst, arith}
-use Rattle.std.specs.Prelude.{ℤ, sum_by, All, Contains, slice_get, option_to_list, nat_eq, nat_lt, if◌then◌else◌}
-use Rattle.std.specs.Coded.{Coded, code_by, coded⊎, coded_ℕ, coded_ℤ, coded_bool, coded_list}
+use Rattle.std.specs.Prelude.{sum_by, All, Contains, slice_get, option_to_list, nat_eq, nat_lt, if◌then◌else◌}
 use Rattle.std.proofs.lemmas.Bool.{and_from}
 use Rattle.std.proofs.lemmas.Bool.Decides.{nat_tests}
 use Rattle.std.proofs.lemmas.List.{append-nil}
@@ -15,8 +14,6 @@ use Rattle.fst_derivations.specs.Rules.{Surroundings}
 use Rattle.fst_value.specs.declared.ends.ChannelName.{ChannelName}
 use Rattle.fst_value.specs.declared.event.ChannelHistory.{ChannelHistory}
 use Rattle.fst_value.specs.declared.event.Entry.{Entry}
-use Rattle.fst_value.specs.declared.event.Event.{Event}
-use Rattle.fst_value.specs.declared.event.Event.TheVariants as event
 use Rattle.fst_runs.specs.Configs.{Task, same_channel}
 use Rattle.fst_runs.specs.Wrong.{once}
 use Rattle.fst_runs.proofs.NameLaws.{same_channel-itself}
@@ -30,43 +27,10 @@ use Rattle.fst_safety.specs.Logs.{Birth}
 use Rattle.fst_safety.specs.Threads.{Thread, FitsIn, FitsEnd, IsSpent}
 use Rattle.fst_safety.specs.Turns.{of_ends, on_side, by_type}
 use Rattle.fst_worker.specs.Records.{Pair, IsShut, IsOver, Paired, histories_of, missing, IsTrailing}
+use Rattle.fst_worker.proofs.Events.{event_code}
 use Rattle.fst_worker.proofs.Paths.{channels_once}
 use Rattle.fst_worker.proofs.Sums.{sum_none, none_in_sum}
 use Rattle.fst_worker.proofs.Tests.{channel_counts, there_sums, same_by, same_by-itself, same_by-same}
-
--- ---- events, told apart by their codes
-
--- what an event says
-abbrev pub Said : Type 0
-Said = ℤ ⊎ (Bool ⊎ (ℕ ⊎ (Bool ⊎ List ℕ)))
-
--- what this event says
-abbrev pub said : Event → Said
-said (event.Int n) = inl n
-said (event.Bool b) = inr (inl b)
-said (event.Char c) = inr (inr (inl c))
-said event.Unit = inr (inr (inr (inl true)))
-said (event.Label l) = inr (inr (inr (inr l)))
-
--- the event that says this
-abbrev pub event_of : Said → Event
-event_of (inl n) = event.Int n
-event_of (inr (inl b)) = event.Bool b
-event_of (inr (inr (inl c))) = event.Char c
-event_of (inr (inr (inr (inl b)))) = event.Unit
-event_of (inr (inr (inr (inr l)))) = event.Label l
-
--- an event comes back from what it says
-pub event_of-said : (ev : Event) → event_of (said ev) ≡ ev
-event_of-said (event.Int n) = refl
-event_of-said (event.Bool b) = refl
-event_of-said (event.Char c) = refl
-event_of-said event.Unit = refl
-event_of-said (event.Label l) = refl
-
--- the codes of events
-abbrev pub event_code : Coded Event
-event_code = code_by Said (coded⊎ coded_ℤ (coded⊎ coded_bool (coded⊎ coded_ℕ (coded⊎ coded_bool (coded_list coded_ℕ))))) said event_of event_of-said
 
 -- ---- one end
 

@@ -6,6 +6,7 @@ use Rattle.fst_terms.specs.declared.core_module.Module.{Module}
 use Rattle.fst_derivations.specs.Deriv.{Deriv}
 use Rattle.fst_derivations.specs.Modules.{HasDerivations, surroundings}
 use Rattle.fst_derivations.specs.Rules.{Surroundings}
+use Rattle.fst_value.specs.declared.event.ChannelHistory.{ChannelHistory}
 use Rattle.fst_value.specs.declared.event.Entry.{Entry}
 use Rattle.fst_machine.specs.declared.request.Request.TheVariants.{Put}
 use Rattle.fst_machine.specs.declared.request.Answer.TheVariants.{Sent}
@@ -21,6 +22,7 @@ use Rattle.fst_safety.specs.Turns.{birth}
 use Rattle.fst_safety.specs.WellTyped.{program_in}
 use Rattle.fst_worker.specs.Works.{Went, GoesOnIn, Whole, IsRun}
 use Rattle.fst_worker.specs.Pairs.{AreApart, ArePaired}
+use Rattle.fst_worker.specs.Entries.{Correspond}
 use Rattle.fst_worker.specs.Records.{Pair, IsShut, Pooled, IsOver, Closable, histories_of, missing, stands_on, IsAsClosed, Caught, AllCaught, FitsRecord}
 
 -- ---- the beginning
@@ -92,3 +94,7 @@ pub record Finishes (m : Surroundings) (main : Birth) (xs : List Thread) (ps : L
 -- where all channels were closed, and each task is told that what its end lacks was sent, logs and histories are a record that fits
 abbrev pub RecordLaw : Type 0
 RecordLaw = (m : Surroundings) (a : Tree) (main : Birth) (xs : List Thread) (ps : List Pair) → IsOver m a main xs ps → Finishes m main xs ps
+
+-- in a record that fits, the logs and the histories say the same of what passed over each channel
+abbrev pub EntryLaw : Type 0
+EntryLaw = (m : Surroundings) (main : Birth) (xs : List Thread) (ks : List ChannelHistory) → FitsRecord m main xs ks → Correspond xs ks

@@ -1,4 +1,4 @@
-ghost use Rattle.fst_worker.specs.Laws.{ApartLaw, BeginLaw, PairLaw, PoolLaw, RecordLaw, WentLaw};
+ghost use Rattle.fst_worker.specs.Laws.{ApartLaw, BeginLaw, EntryLaw, PairLaw, PoolLaw, RecordLaw, WentLaw};
 
 /// The task of `main` fits a module that has derivations at the beginning, and it is all there is of the run.
 pub fn begin_law()
@@ -33,4 +33,10 @@ pub fn pool_law()
 /// closed histories are a record that fits the module.
 pub fn record_law()
     ensures { RecordLaw }
+{}
+
+/// In a record that fits, whatever a task sent or received at an end is an entry of that channel's history, with its stamp and the
+/// task's clock; and each entry was sent by a task at the one end and received by a task at the other.
+pub fn entry_law()
+    ensures { EntryLaw }
 {}
