@@ -2,7 +2,7 @@
 use Rattle.std.proofs.Common.{◌≡◌, ◌∙◌, ◌⊎◌, inl, inr, ◌<◌, ◌≤◌, ℕ, zero, suc, ◌+◌, Bool, true, List, [], ◌∷◌, ◌++◌, Option, Some, None, refl, sym, ap, arith}
 use Rattle.std.specs.Prelude.{sum_by, All, Contains, option_to_list}
 use Rattle.std.proofs.lemmas.List.{append-nil}
-use Rattle.std.proofs.lemmas.List.Elements.{All-nil, All-cons, All-head, All-tail, All-weaker, All-contains}
+use Rattle.std.proofs.lemmas.List.Elements.{All-nil, All-cons, All-head, All-tail, All-weaker, All-contains, All-contains_itself}
 use Rattle.std.proofs.lemmas.List.Sums.{sum_by-cons}
 use Rattle.fst_base.proofs.Lists.{from_contains, contains_none}
 use Rattle.fst_types.specs.Tree.{Tree}
@@ -31,11 +31,12 @@ use Rattle.fst_safety.proofs.ThreadLaws.{follows_more}
 use Rattle.fst_worker.specs.Works.{bears, opens, trades}
 use Rattle.fst_worker.specs.Records.{FitsRecord, IsLogged, IsRecorded, Pair, IsShut, IsOver, histories_of, missing, lag_by, lag, shown_of, shows, IsTrailing, Caught, AllCaught}
 use Rattle.fst_worker.specs.Laws.{Finishes, RecordLaw}
+use Rattle.fst_worker.proofs.Partners.{counted, in_bag}
 use Rattle.fst_worker.proofs.Shown.{shown_more}
 use Rattle.fst_worker.proofs.Shutting.{IsBehind, EndsPass, settled, shut_type, by_histories, all_histories, all_settled, all_behind, idle_level, lacking_waits}
 use Rattle.fst_worker.proofs.Standing.{as_closed, all_as_closed, waits_so}
-use Rattle.fst_worker.proofs.Sums.{exchanges_more, births_more, openings_more, sum_none, sum_both}
-use Rattle.fst_worker.proofs.Tests.{end_counts, there_sums}
+use Rattle.fst_worker.proofs.Sums.{exchanges_more, births_more, openings_more, some_in, sum_none, sum_both}
+use Rattle.fst_worker.proofs.Tests.{end_or, end_counts, there_sums}
 
 -- ---- what is told
 
@@ -321,6 +322,7 @@ module _ (m : Surroundings) (a : Tree) (main : Birth) (xs : List Thread) (ps : L
   -- logs and histories are a record
   pub caught_record : (ys : List Thread) → AllCaught m ks xs ys → FitsRecord m main ys ks
   caught_record ys caught = record {
+    root = over.run.root;
     births = λ w.
         let p = same_sums (λ (x : Thread). w (birth x)) (λ (x : Thread). w (birth x)) (λ x y f c. same_birth w x y c) xs ys over.run.fit caught in
         let q = same_sums (bears m w) (bears m w) (bears_caught w) xs ys over.run.fit caught in
@@ -341,9 +343,31 @@ module _ (m : Surroundings) (a : Tree) (main : Birth) (xs : List Thread) (ps : L
     histories = all_histories IsShut IsRecorded (λ p s. record { formed = s.closed.formed; trace = s.closed.trace; stamped = s.closed.stamped }) ps over.shut;
   }
 
+  pair_named : (e : EndView) (p : Pair) → IsShut p → 0 < counted (end_name e) p.left + counted (end_name e) p.right → p.closed.history.name ≡ e.channel
+  pair_named e p s n = by (end_or (end_name e) (end_name p.left)) (end_or (end_name e) (end_name p.right))
+    where
+      by : ((end_name e ≡ end_name p.left) × (counted (end_name e) p.left ≡ 1)) ⊎ (counted (end_name e) p.left ≡ 0) →
+          ((end_name e ≡ end_name p.right) × (counted (end_name e) p.right ≡ 1)) ⊎ (counted (end_name e) p.right ≡ 0) → p.closed.history.name ≡ e.channel
+      by (inl q) r = s.closed.named ∙ sym (ap (λ (z : EndName). z.channel) q.0)
+      by (inr q) (inl r) = s.closed.named ∙ sym s.channel ∙ sym (ap (λ (z : EndName). z.channel) r.0)
+      by (inr q) (inr r) = absurd (omega (arith, n, q, r))
+
+  -- the channel of an end was closed
+  closed_there : (x : Thread) → Contains xs x → (e : EndView) → Contains x.bag e → (p : Pair) × Contains ps p × (p.closed.history.name ≡ e.channel)
+  closed_there x c e b =
+      let z = end_name e in
+      let h = (in_bag xs x e c b).ends (counted z) in
+      let g = end_counts z z refl in
+      let q = over.paired (counted z) in
+      let r = some_in (λ (p : Pair). counted z p.left + counted z p.right) ps (omega (arith, h, g, q)) in
+      (r.0, r.1, pair_named e r.0 (All-contains IsShut ps r.0 over.shut r.1) r.2)
+
   -- all that holds at the end
   pub finishes : Finishes m main xs ps
   finishes = record {
+    there = All-weaker (Contains xs) (λ (x : Thread). All (λ (e : EndView). (p : Pair) × Contains ps p × (p.closed.history.name ≡ e.channel)) x.bag)
+        (λ x c. All-weaker (Contains x.bag) (λ (e : EndView). (p : Pair) × Contains ps p × (p.closed.history.name ≡ e.channel)) (closed_there x c) x.bag
+        (All-contains_itself x.bag)) xs (All-contains_itself xs);
     waiting = λ k c l e o p in_bag q there is.
         let h = all_here k c l in
         let t = all_as_closed m a main xs ps over k c l in

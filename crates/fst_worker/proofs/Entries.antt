@@ -3,7 +3,6 @@ use Rattle.std.proofs.Common.{◌≡◌, ◌∙◌, ◌⊎◌, inl, inr, ◌<◌
 use Rattle.std.specs.Prelude.{sum_by, All, Contains, option_map, option_and_then, is_some}
 use Rattle.std.specs.Coded.{Coded, code_by, coded×, coded_ℕ, coded_bool}
 use Rattle.std.proofs.lemmas.List.Elements.{All-contains, All-contains_itself, All-weaker}
-use Rattle.std.proofs.lemmas.List.Sums.{sum_by-cons}
 use Rattle.fst_base.proofs.Lists.{contains_head, contains_tail, contains_none, from_contains}
 use Rattle.fst_types.specs.Tree.{Tree}
 use Rattle.fst_types.specs.declared.side.Side.{Side}
@@ -18,15 +17,18 @@ use Rattle.fst_value.specs.declared.ends.EndName.{EndName}
 use Rattle.fst_value.specs.declared.event.ChannelHistory.{ChannelHistory}
 use Rattle.fst_value.specs.declared.event.Entry.{Entry}
 use Rattle.fst_value.specs.declared.event.Event.{Event}
+use Rattle.fst_runs.specs.Configs.{same_channel}
 use Rattle.fst_runs.specs.Wrong.{once}
 use Rattle.fst_cell.specs.Residuals.{residual, sends}
 use Rattle.fst_safety.specs.Logs.{Birth, Exchange, exchanges, part_in, parts_in, then_after}
 use Rattle.fst_safety.specs.Threads.{Thread}
 use Rattle.fst_worker.specs.Works.{trades}
-use Rattle.fst_worker.specs.Records.{FitsRecord, IsRecorded, shown_of, shows}
+use Rattle.fst_worker.specs.Records.{FitsRecord, IsLogged, IsRecorded, shown_of, shows}
 use Rattle.fst_worker.specs.Entries.{StandsIn, IsExchanged, Correspond, part_at}
 use Rattle.fst_worker.specs.Laws.{EntryLaw}
 use Rattle.fst_worker.proofs.Events.{event_code}
+use Rattle.fst_worker.proofs.Paths.{IsLed, paths_once, names_once}
+use Rattle.fst_worker.proofs.Sums.{some_in}
 use Rattle.fst_worker.proofs.Tests.{counts_or, same_by, same_by-itself, same_by-same, there_sums}
 
 -- exchanges, told apart by their codes
@@ -50,19 +52,6 @@ just_same g f n = by (counts_or (g ≡ f) (same_by exchange_code g f) (same_by-s
     by (inr z) = absurd (omega (arith, n, z))
 
 -- ---- sums
-
--- where a sum is something, one of its terms is
-some_or : {X : Type 0} (f : X → ℕ) (x : X) (xs : List X) → 0 < sum_by f (x ∷ xs) → (0 < sum_by f xs → (y : X) × Contains xs y × (0 < f y)) → (n : ℕ) → f x ≡ n →
-    (y : X) × Contains (x ∷ xs) y × (0 < f y)
-some_or f x xs h more zero q =
-    let a = sum_by-cons f x xs in
-    let r = more (omega (arith, a, h, q)) in
-    (r.0, contains_tail xs r.0 x r.1, r.2)
-some_or f x xs h more (suc n) q = (x, contains_head xs x x refl, omega (arith, q))
-
-some_in : {X : Type 0} (f : X → ℕ) (xs : List X) → 0 < sum_by f xs → (y : X) × Contains xs y × (0 < f y)
-some_in f [] h = absurd (omega (arith, h))
-some_in f (x ∷ xs) h = some_or f x xs h (some_in f xs) (f x) refl
 
 -- an exchange that counts among some is one of them
 one_of : (g : Exchange) (gs : List Exchange) → 0 < sum_by (just g) gs → Contains gs g
@@ -237,6 +226,11 @@ module _ (m : Surroundings) (main : Birth) (xs : List Thread) (ks : List Channel
   -- logs and histories say the same
   pub corresponds : Correspond xs ks
   corresponds = record {
+    paths = paths_once m main xs fits.root fits.births;
+    names = λ h.
+        let a = fits.channels (λ n t. once (same_channel h n)) in
+        let b = names_once m main xs fits.root fits.births (All-weaker (IsLogged m) (IsLed m) (λ x l. l.follows) xs fits.logs) h in
+        omega (arith, a, b);
     logged = All-weaker (Contains xs) (λ (x : Thread). All (StandsIn ks) (exchanges x.first.clock x.log))
         (λ x c. All-weaker (Contains (exchanges x.first.clock x.log)) (StandsIn ks) (λ g h. logged x c g h) (exchanges x.first.clock x.log)
         (All-contains_itself (exchanges x.first.clock x.log))) xs (All-contains_itself xs);

@@ -1,6 +1,7 @@
 -- No two threads have one path, and no two channels that the logs make have one name.
 use Rattle.std.proofs.Common.{◌≡◌, ◌⊎◌, inl, inr, ◌<◌, ◌≤◌, ℕ, zero, suc, ◌+◌, List, [], ◌∷◌, ◌++◌, length, Option, Some, None, refl, sym, ap, ◌∙◌, subst, arith, length-append}
-use Rattle.std.specs.Prelude.{sum_by, slice_get}
+use Rattle.std.specs.Prelude.{sum_by, All, slice_get}
+use Rattle.std.proofs.lemmas.List.Elements.{All-weaker}
 use Rattle.std.proofs.lemmas.List.Sums.{sum_by-append, sum_by-cons, sum_by-le-sum_by}
 use Rattle.fst_base.proofs.Lists.{snoc_view}
 use Rattle.fst_types.specs.Tree.{Tree}
@@ -12,14 +13,14 @@ use Rattle.fst_machine.specs.declared.request.Request.TheVariants.{Step, New, Fo
 use Rattle.fst_machine.specs.declared.request.Answer.{Answer}
 use Rattle.fst_machine.specs.declared.request.Answer.TheVariants.{Go, Made, Forked, Sent, Got}
 use Rattle.fst_machine.specs.Machine.{Program, State, pause, child}
-use Rattle.fst_runs.specs.Configs.{Path, Task, same_path, same_channel, same_end, child_path, channel_name}
+use Rattle.fst_runs.specs.Configs.{Path, Task, same_path, same_channel, same_end, child_path, main_path, channel_name}
 use Rattle.fst_runs.specs.Wrong.{once}
 use Rattle.fst_cell.specs.End.{EndView, end_name}
 use Rattle.fst_safety.specs.declared.tasks.LogEntry.{LogEntry}
 use Rattle.fst_safety.specs.WellTyped.{program_in}
 use Rattle.fst_safety.specs.Logs.{Birth, Opening, Follows, IsAnswered, after_entry, made_after, forks_after, opening_of, opened_by, birth_of, born_by, births, openings}
 use Rattle.fst_safety.specs.Threads.{Thread, FitsIn}
-use Rattle.fst_safety.specs.Turns.{of_ends, by_type}
+use Rattle.fst_safety.specs.Turns.{of_ends, by_type, birth}
 use Rattle.fst_worker.specs.Works.{IsRun, bears, opens}
 use Rattle.fst_worker.specs.Pairs.{AreApart}
 use Rattle.fst_worker.proofs.Sums.{sum_less, sum_same}
@@ -181,7 +182,13 @@ few_openings p types h path t (e ∷ es) u f =
 
 -- ---- all threads
 
-module _ (m : Surroundings) (a : Tree) (main : Birth) (xs : List Thread) (run : IsRun m a main xs) where
+-- the log of a thread leads from how it began to how it is
+abbrev pub IsLed : Surroundings → Thread → Type 0
+IsLed m x = Follows (program_in m) x.path x.first x.log x.now
+
+-- where the threads are main's and those that the logs fork
+module _ (m : Surroundings) (main : Birth) (xs : List Thread) (root : main.path ≡ main_path)
+    (births_are : (w : Birth → ℕ) → sum_by (λ (x : Thread). w (birth x)) xs ≡ w main + sum_by (bears m w) xs) where
   -- a thread, by its path
   abbrev has_path : Path → Thread → ℕ
   has_path x t = once (same_path x t.path)
@@ -191,15 +198,14 @@ module _ (m : Surroundings) (a : Tree) (main : Birth) (xs : List Thread) (run : 
     where
       by : ((child_path q k ≡ main.path) × (once (same_path (child_path q k) main.path) ≡ 1)) ⊎ (once (same_path (child_path q k) main.path) ≡ 0) →
           once (same_path (child_path q k) main.path) ≡ 0
-      by (inl y) = absurd (not_first [] q k (sym (y.0 ∙ run.root)))
+      by (inl y) = absurd (not_first [] q k (sym (y.0 ∙ root)))
       by (inr n) = n
 
   -- a path that isn't a child's is at most main's
   at_most_main : (x : Path) → ((q : Path) (k : ℕ) → x ≡ child_path q k → ⊥) → sum_by (has_path x) xs ≤ 1
   at_most_main x never =
-      let w = run.whole.births (at_path x) in
-      let z = sum_less (bears m (at_path x)) (λ (t : Thread). 0) (FitsIn m a)
-      (λ t f. let e = none_born (program_in m) x never t.path t.first t.log in omega (arith, e)) xs run.fit in
+      let w = births_are (at_path x) in
+      let z = sum_same (bears m (at_path x)) (λ (t : Thread). 0) (λ t. none_born (program_in m) x never t.path t.first t.log) xs in
       let n = none_sum xs in
       let b = small (same_path x main.path) in
       omega (arith, w, z, n, b)
@@ -212,7 +218,7 @@ module _ (m : Surroundings) (a : Tree) (main : Birth) (xs : List Thread) (run : 
   at_most_child : (q : Path) (k : ℕ) → sum_by (has_path q) xs ≤ 1 → sum_by (has_path (child_path q k)) xs ≤ 1
   at_most_child q k ih =
       let x = child_path q k in
-      let w = run.whole.births (at_path x) in
+      let w = births_are (at_path x) in
       let l = sum_by-le-sum_by (bears m (at_path x)) (has_path q) xs (λ t. (few_births (program_in m) q k t.path t.first t.log).le) in
       let z = main_not q k in
       omega (arith, w, l, z, ih)
@@ -230,13 +236,18 @@ module _ (m : Surroundings) (a : Tree) (main : Birth) (xs : List Thread) (run : 
   pub paths_once : (x : Path) → sum_by (has_path x) xs ≤ 1
   paths_once x = once_by (length x) x (omega arith) (snoc_view x)
 
-  -- no two channels have one name
-  pub channels_once : (h : ChannelName) → sum_by (opens m (λ n t. once (same_channel h n))) xs ≤ 1
-  channels_once h =
-      let l = sum_less (opens m (λ n t. once (same_channel h n))) (has_path h.maker) (FitsIn m a)
-      (λ t f. (few_openings (program_in m) m.types h t.path t.first t.log t.now f.follows).le) xs run.fit in
+  -- no two channels have one name, where the logs lead to how the threads are
+  pub names_once : All (IsLed m) xs → (h : ChannelName) → sum_by (opens m (λ n t. once (same_channel h n))) xs ≤ 1
+  names_once led h =
+      let l = sum_less (opens m (λ n t. once (same_channel h n))) (has_path h.maker) (IsLed m)
+      (λ t f. (few_openings (program_in m) m.types h t.path t.first t.log t.now f).le) xs led in
       let b = paths_once h.maker in
       omega (arith, l, b)
+
+module _ (m : Surroundings) (a : Tree) (main : Birth) (xs : List Thread) (run : IsRun m a main xs) where
+  -- no two channels of a run have one name
+  pub channels_once : (h : ChannelName) → sum_by (opens m (λ n t. once (same_channel h n))) xs ≤ 1
+  channels_once h = names_once m main xs run.root run.whole.births (All-weaker (FitsIn m a) (IsLed m) (λ t f. f.follows) xs run.fit) h
 
   -- no two ends have one name
   pub ends_once : (z : EndName) → sum_by (of_ends (λ e. once (same_end z (end_name e)))) xs ≤ 1
@@ -254,4 +265,4 @@ module _ (m : Surroundings) (a : Tree) (main : Birth) (xs : List Thread) (run : 
 
   -- all of this
   pub apart : AreApart m xs
-  apart = record { paths = paths_once; channels = channels_once; ends = ends_once }
+  apart = record { paths = paths_once m main xs run.root run.whole.births; channels = channels_once; ends = ends_once }

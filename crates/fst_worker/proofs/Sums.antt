@@ -1,8 +1,9 @@
 -- How what a log says adds up as the log grows.
-use Rattle.std.proofs.Common.{◌≡◌, ℕ, ◌+◌, ◌≤◌, List, [], ◌∷◌, ◌++◌, refl, sym, ap, ◌∙◌, arith}
-use Rattle.std.specs.Prelude.{sum_by, All}
+use Rattle.std.proofs.Common.{◌≡◌, ◌<◌, ℕ, zero, suc, ◌+◌, ◌≤◌, List, [], ◌∷◌, ◌++◌, refl, sym, ap, ◌∙◌, arith}
+use Rattle.std.specs.Prelude.{sum_by, All, Contains}
 use Rattle.std.proofs.lemmas.List.Elements.{All-nil, All-cons, All-head, All-tail}
 use Rattle.std.proofs.lemmas.List.Sums.{sum_by-append, sum_by-cons}
+use Rattle.fst_base.proofs.Lists.{contains_head, contains_tail}
 use Rattle.fst_types.specs.Tree.{Tree}
 use Rattle.fst_machine.specs.Machine.{Program}
 use Rattle.fst_runs.specs.Configs.{Path, Task}
@@ -86,3 +87,17 @@ module _ {X : Type 0} where
       let one = e x in
       let ih = sum_both f g h e xs in
       omega (arith, a, b, d, one, ih)
+
+-- where a sum is something, one of its terms is
+some_or : {X : Type 0} (f : X → ℕ) (x : X) (xs : List X) → 0 < sum_by f (x ∷ xs) → (0 < sum_by f xs → (y : X) × Contains xs y × (0 < f y)) → (n : ℕ) → f x ≡ n →
+    (y : X) × Contains (x ∷ xs) y × (0 < f y)
+some_or f x xs h more zero q =
+    let a = sum_by-cons f x xs in
+    let r = more (omega (arith, a, h, q)) in
+    (r.0, contains_tail xs r.0 x r.1, r.2)
+some_or f x xs h more (suc n) q = (x, contains_head xs x x refl, omega (arith, q))
+
+-- so it is with all of them
+pub some_in : {X : Type 0} (f : X → ℕ) (xs : List X) → 0 < sum_by f xs → (y : X) × Contains xs y × (0 < f y)
+some_in f [] h = absurd (omega (arith, h))
+some_in f (x ∷ xs) h = some_or f x xs h (some_in f xs) (f x) refl

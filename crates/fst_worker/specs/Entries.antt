@@ -1,9 +1,12 @@
 -- What tasks have exchanged, and the entries of histories.
-use Rattle.std.specs.Prelude.{◌≡◌, not, List, ◌∷◌, ◌++◌, All, Contains}
+use Rattle.std.specs.Prelude.{◌≡◌, ◌≤◌, sum_by, not, List, ◌∷◌, ◌++◌, All, Contains}
 use Rattle.fst_types.specs.declared.side.Side.{Side}
 use Rattle.fst_types.specs.declared.side.Side.TheVariants.{Left, Right}
+use Rattle.fst_value.specs.declared.ends.ChannelName.{ChannelName}
 use Rattle.fst_value.specs.declared.event.ChannelHistory.{ChannelHistory}
 use Rattle.fst_value.specs.declared.event.Entry.{Entry}
+use Rattle.fst_runs.specs.Configs.{Path, same_path, same_channel}
+use Rattle.fst_runs.specs.Wrong.{once}
 use Rattle.fst_cell.specs.Residuals.{residual, sends}
 use Rattle.fst_safety.specs.Logs.{Exchange, exchanges, part_in}
 use Rattle.fst_safety.specs.Threads.{Thread}
@@ -29,8 +32,11 @@ pub record IsExchanged (xs : List Thread) (g : Exchange) : Type 0 where
   pub there : Contains xs task
   pub logged : Contains (exchanges task.first.clock task.log) g
 
--- the logs and the histories say the same
+-- the logs of these tasks and the histories say the same
 pub record Correspond (xs : List Thread) (ks : List ChannelHistory) : Type 0 where
+  -- no two tasks have one path, and no two channels one name
+  pub paths : (p : Path) → sum_by (λ (x : Thread). once (same_path p x.path)) xs ≤ 1
+  pub names : (h : ChannelName) → sum_by (λ (k : ChannelHistory). once (same_channel h k.name)) ks ≤ 1
   -- what a log says that was sent or received at an end stands in its channel's history, with its stamp and the task's clock
   pub logged : All (λ (x : Thread). All (StandsIn ks) (exchanges x.first.clock x.log)) xs
   -- each entry of a history was exchanged by a task at the left end, and by one at the right end

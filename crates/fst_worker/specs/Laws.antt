@@ -75,6 +75,8 @@ PoolLaw = (m : Surroundings) (a : Tree) (main : Birth) (xs : List Thread) (ps : 
 
 -- the threads of a run, all of whose channels were closed, with these pairs of ends
 pub record Finishes (m : Surroundings) (main : Birth) (xs : List Thread) (ps : List Pair) : Type 0 where
+  -- the channel of each end is one of those that were closed
+  pub there : All (λ (x : Thread). All (λ (e : EndView). (p : Pair) × Contains ps p × (p.closed.history.name ≡ e.channel)) x.bag) xs
   -- an end that waits lacks nothing where closing has said that its offer stands; otherwise the last entry is its offer
   pub waiting : All (λ (x : Thread). (e : EndView) (o : Offer) (p : Pair) → Contains x.bag e → e.knows.offer ≡ Some o → Contains ps p →
       p.closed.history.name ≡ e.channel → IsAsClosed (histories_of ps) e o p.closed (stands_on e.knows.side p.closed.offered)) xs
@@ -95,6 +97,6 @@ pub record Finishes (m : Surroundings) (main : Birth) (xs : List Thread) (ps : L
 abbrev pub RecordLaw : Type 0
 RecordLaw = (m : Surroundings) (a : Tree) (main : Birth) (xs : List Thread) (ps : List Pair) → IsOver m a main xs ps → Finishes m main xs ps
 
--- in a record that fits, the logs and the histories say the same of what passed over each channel
+-- in a record that fits, tasks and channels differ by their paths and names, and logs and histories say the same of what passed over each channel
 abbrev pub EntryLaw : Type 0
 EntryLaw = (m : Surroundings) (main : Birth) (xs : List Thread) (ks : List ChannelHistory) → FitsRecord m main xs ks → Correspond xs ks

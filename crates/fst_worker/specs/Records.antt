@@ -10,7 +10,7 @@ use Rattle.fst_value.specs.declared.ends.ChannelName.{ChannelName}
 use Rattle.fst_value.specs.declared.event.ChannelHistory.{ChannelHistory}
 use Rattle.fst_value.specs.declared.event.Entry.{Entry}
 use Rattle.fst_value.specs.declared.event.Event.{Event}
-use Rattle.fst_runs.specs.Configs.{same_channel, same_side, other}
+use Rattle.fst_runs.specs.Configs.{same_channel, same_side, main_path, other}
 use Rattle.fst_cell.specs.declared.answers.Closed.{Closed}
 use Rattle.fst_cell.specs.declared.content.Offer.{Offer}
 use Rattle.fst_cell.specs.Close.{ClosedAs}
@@ -48,7 +48,8 @@ pub record IsRecorded (k : ChannelHistory) : Type 0 where
 
 -- the logs of these threads and these histories are a record that fits the module
 pub record FitsRecord (m : Surroundings) (main : Birth) (xs : List Thread) (ks : List ChannelHistory) : Type 0 where
-  -- the tasks are main's and those that the logs fork, each as its fork gives it
+  -- the tasks are main's, whose path is 0, and those that the logs fork, each as its fork gives it
+  pub root : main.path ≡ main_path
   pub births : (w : Birth → ℕ) → sum_by (λ (x : Thread). w (birth x)) xs ≡ w main + sum_by (bears m w) xs
   pub logs : All (IsLogged m) xs
   -- the channels are those that the logs make, each with its declared type
