@@ -1,0 +1,14 @@
+pub mod Sums
+pub mod Wholes
+pub mod Chains
+pub mod Starting
+pub mod Tests
+pub mod Paths
+pub mod Partners
+pub mod Events
+pub mod Shown
+pub mod Shutting
+pub mod Standing
+pub mod Catching
+pub mod Pools
+pub mod Entries

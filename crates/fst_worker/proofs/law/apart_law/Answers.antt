@@ -1,0 +1,5 @@
+use Rattle.fst_worker.proofs.Paths.{apart}
+use Rattle.fst_worker.proofs.law.apart_law.Goals as goal
+
+pub returns : goal.returns
+returns c = apart

@@ -1,0 +1,5 @@
+pub mod Works
+pub mod Pairs
+pub mod Records
+pub mod Entries
+pub mod Laws

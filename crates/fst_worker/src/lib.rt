@@ -1,0 +1,7 @@
+//! All tasks of a run on several workers: what their turns keep, how the two ends of a channel find each other, and that logs and
+//! histories are a record of a run at its end.
+#![tactic(auto)]
+
+mod law;
+
+pub use law::{apart_law, begin_law, entry_law, pair_law, pool_law, record_law, went_law};
