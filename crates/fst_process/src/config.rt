@@ -28,27 +28,32 @@ pub struct Config {
     tasks: BTreeMap<Vec<u32>, Slot>,
     channels: BTreeMap<Vec<u32>, Vec<Channel>>,
     ready: BTreeSet<Vec<u32>>,
+    // how many events had happened where it began
+    pub(crate) events: u64,
 }
 
 impl Config {
-    /// No task, and no channel.
-    pub(crate) fn empty(alloc: Global) -> Config
-        ensures { kept_of result ≡ nothing }
+    /// No task, and no channel, where so many events have happened.
+    pub(crate) fn empty(alloc: Global, events: u64) -> Config
+        ensures nothing { kept_of result ≡ nothing }
+        ensures events { result.events ≡ events }
     {
         Config {
             alloc,
             tasks: BTreeMap::new(alloc),
             channels: BTreeMap::new(alloc),
             ready: BTreeSet::new(alloc),
+            events,
         }
     }
 
     /// The task of `main` alone, and no channel.
     pub fn start(alloc: Global, code: &Code) -> Result<Config, AllocError>
         requires { ∥ CanStart code.now ∥₁ }
-        ensures { IfOk result (λ v. IsBegun code.now (kept_of v)) }
+        ensures begun { IfOk result (λ v. IsBegun code.now (kept_of v)) }
+        ensures events { IfOk result (λ v. v.events ≡ 0) }
     {
-        let mut config = Config::empty(alloc);
+        let mut config = Config::empty(alloc, 0);
         let task = Task::start(alloc, code)?;
         config.settle(code, task, 0)?;
         Ok(config)
@@ -165,7 +170,8 @@ impl Config {
         clock: u64,
     ) -> Result<(), AllocError>
         requires { ∥ HasNext code.now task ∥₁ }
-        ensures { OnOk result (Settles code.now task clock (kept_of self.old) (kept_of self.new)) }
+        ensures settles { OnOk result (Settles code.now task clock (kept_of self.old) (kept_of self.new)) }
+        ensures events { self.new.events ≡ self.old.events }
     {
         let request = task.advance(code)?;
         let key = Vec::from_slice(self.alloc, task.path().as_slice())?;
@@ -223,6 +229,7 @@ impl Config {
         ensures count { IfOk result (λ n. n ≡ suc ((kept_of self.old).made maker.now)) }
         ensures added { OnOk result (kept_of self.new ≡
             added (channel_name maker.now ((kept_of self.old).made maker.now)) (channel_of channel) (kept_of self.old)) }
+        ensures events { self.new.events ≡ self.old.events }
     {
         let mut channels = match self.channels.remove(maker.as_slice()) {
             Some(channels) => channels,

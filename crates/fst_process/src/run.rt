@@ -14,24 +14,19 @@ pub fn run_one(alloc: Global, code: &Code, steps: u64) -> Result<Outcome, AllocE
     ensures { IfOk result (IsOutcome code.now steps) }
 {
     let config = Config::start(alloc, code)?;
-    run_from(config, code, 0, steps)
+    run_from(config, code, steps)
 }
 
-/// What the least run from a configuration comes to: always the event of the first task that can move happens. So many events
-/// have happened before, and count among the steps: no clock, number or stamp in the configuration is over their number, and
-/// no run from it goes wrong. The run is out of steps exactly where they and those that it has are more than `steps`. Where
-/// memory is wanting, the configuration is dropped.
-pub fn run_from(
-    mut config: Config,
-    code: &Code,
-    events: u64,
-    steps: u64,
-) -> Result<Outcome, AllocError>
+/// What the least run from a configuration comes to: always the event of the first task that can move happens. The events that
+/// led to the configuration count among the steps: no clock, number or stamp in it is over their number, and no run from it
+/// goes wrong. The run is out of steps exactly where they and those that it has are more than `steps`. Where memory is wanting,
+/// the configuration is dropped.
+pub fn run_from(mut config: Config, code: &Code, steps: u64) -> Result<Outcome, AllocError>
     requires few { steps < 4294967295 }
-    requires right { ∥ CanRunFrom code.now events (kept_of config) ∥₁ }
-    ensures { IfOk result (IsOutcomeFrom code.now events steps (kept_of config)) }
+    requires right { ∥ CanRunFrom code.now config.events (kept_of config) ∥₁ }
+    ensures { IfOk result (IsOutcomeFrom code.now config.events steps (kept_of config)) }
 {
-    let mut count = events;
+    let mut count = config.events;
     while count <= steps {
         match config.next()? {
             Some(event) => config.fire(code, &event)?,

@@ -34,4 +34,4 @@ returns c =
     let it = c.slot-parent in
     on_ok_weaker c.settle.result
     (fork_happens c.args.code.now (kept_of c.args.self.now) c.args.path.now (slot_of it.result.now) it.ensures c.in_ok-child.child (kept_of c.go_on.new.self) (kept_of c.settle.new.self)
-    c.in_ok-go_on.ensures c.in_ok-child.ensures.child) c.settle.ensures
+    c.in_ok-go_on.ensures c.in_ok-child.ensures.child) c.settle.ensures.settles

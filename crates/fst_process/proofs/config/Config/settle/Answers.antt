@@ -5,8 +5,8 @@ use Rattle.fst_process.proofs.KeptLaws.{slots_after, settled_after}
 use Rattle.fst_process.proofs.Noting.{noted_in}
 use Rattle.fst_process.proofs.config.Config.settle.Goals as goal
 
-pub returns : goal.returns
-returns c =
+pub returns-clause-settles : goal.returns-clause-settles
+returns-clause-settles c =
     let old = kept_of c.args.self.now in
     let ss = c.args.self.now.tasks.entries in
     let js = c.note.new.channels.entries in

@@ -1,4 +1,4 @@
-use Rattle.std.proofs.Common.{sym, subst}
+use Rattle.std.proofs.Common.{◌∙◌, sym, subst}
 use Rattle.std.proofs.Math.Logic.{∥∥₁_map}
 use Rattle.fst_process.specs.KeptOf.{kept_of}
 use Rattle.fst_process.specs.Resuming.{Tasks, HaveNext, AreSettled}
@@ -14,7 +14,8 @@ loop-task-preserved c =
     let first = c.in-Some.ensures.steps.0 in
     record {
       next = ∥∥₁_map c.loop-task.invariant.next (λ x. (subst (λ (ts : Tasks). HaveNext c.args.code.now ts) first x).1);
+      events = c.settle.ensures.events ∙ c.loop-task.invariant.events;
       settles = λ e z.
           c.loop-task.invariant.settles e
-          (subst (λ (ts : Tasks). AreSettled c.args.code.now ts (kept_of c.loop-task.self) e) (sym first) (kept_of c.settle.new.self, c.in_ok-settle.ensures, z));
+          (subst (λ (ts : Tasks). AreSettled c.args.code.now ts (kept_of c.loop-task.self) e) (sym first) (kept_of c.settle.new.self, c.in_ok-settle.ensures.settles, z));
     }
