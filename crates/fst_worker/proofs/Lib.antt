@@ -1,3 +1,4 @@
+pub mod Dealt
 pub mod Sums
 pub mod Wholes
 pub mod Chains

@@ -2,4 +2,6 @@ pub mod Works
 pub mod Pairs
 pub mod Records
 pub mod Entries
+pub mod Shares
+pub mod Dealing
 pub mod Laws
