@@ -12,3 +12,6 @@ pub mod Standing
 pub mod Catching
 pub mod Pools
 pub mod Entries
+pub mod Found
+pub mod Counting
+pub mod Soundness

@@ -2,4 +2,5 @@ pub mod Works
 pub mod Pairs
 pub mod Records
 pub mod Entries
+pub mod Configs
 pub mod Laws
