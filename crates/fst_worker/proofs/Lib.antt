@@ -15,3 +15,4 @@ pub mod Entries
 pub mod Found
 pub mod Counting
 pub mod Soundness
+pub mod Telling

@@ -68,6 +68,12 @@ some_is : {X : Type 0} (o : Option X) → IsSome o → (x : X) × (o ≡ Some x)
 some_is None h = absurd (cc h)
 some_is (Some x) h = (x, refl)
 
+-- both sides of a channel fit where its history is a trace
+pub trace_of : (k : ChannelHistory) → IsRecorded k → IsTrace (channel_of k)
+trace_of k q =
+    let u = some_is (after_history k.declared k.entries.items) q.trace in
+    trace_from (channel_of k) Left u.0 q.formed (session_after k.declared u.0 k.entries.items q.formed u.1) (sides_from (channel_of k) Left u.0 u.1)
+
 -- ---- ends that know all of their channels
 
 -- the residual that these channels give an end
@@ -132,11 +138,6 @@ module _ (m : Surroundings) (a : Tree) (main : Birth) (ys : List Thread) (ks : L
   task_is y i = task_there ys y i (once_path y.path)
 
   -- ---- both sides of each channel
-
-  trace_of : (k : ChannelHistory) → IsRecorded k → IsTrace (channel_of k)
-  trace_of k q =
-      let u = some_is (after_history k.declared k.entries.items) q.trace in
-      trace_from (channel_of k) Left u.0 q.formed (session_after k.declared u.0 k.entries.items q.formed u.1) (sides_from (channel_of k) Left u.0 u.1)
 
   -- both sides of each channel fit
   pub traces : (h : ChannelName) (j : Channel) → c.channels h ≡ Some j → IsTrace j

@@ -1,5 +1,9 @@
 -- The configuration that threads and closed channels make, and threads that were told what their ends lack.
-use Rattle.std.specs.Prelude.{◌≡◌, ◌⊎◌, Option, Some, None, Contains, List, [], ◌∷◌, All, ⊤, if◌then◌else◌}
+use Rattle.std.specs.Prelude.{◌≡◌, ◌⊎◌, Option, Some, None, Contains, IsPermutation, List, [], ◌∷◌, All, ⊤, if◌then◌else◌}
+use Rattle.fst_types.specs.Tree.{Tree}
+use Rattle.fst_terms.specs.declared.core_module.Module.{Module}
+use Rattle.fst_derivations.specs.Deriv.{Deriv}
+use Rattle.fst_derivations.specs.Modules.{HasDerivations, surroundings}
 use Rattle.fst_derivations.specs.Rules.{Surroundings}
 use Rattle.fst_value.specs.declared.event.ChannelHistory.{ChannelHistory}
 use Rattle.fst_value.specs.declared.event.Entry.{Entry}
@@ -10,9 +14,12 @@ use Rattle.fst_runs.specs.Configs.{Path, Task, Config, same_path}
 use Rattle.fst_process.specs.Resuming.{channel_in}
 use Rattle.fst_cell.specs.End.{EndView, end_name}
 use Rattle.fst_safety.specs.WellTyped.{program_in}
+use Rattle.fst_safety.specs.Logs.{Birth}
+use Rattle.fst_safety.specs.Sound.{IsSound}
 use Rattle.fst_safety.specs.Threads.{Thread}
 use Rattle.fst_safety.specs.Going.{with_entry}
-use Rattle.fst_worker.specs.Records.{missing}
+use Rattle.fst_worker.specs.Works.{IsRun}
+use Rattle.fst_worker.specs.Records.{Pair, IsOver, FitsRecord, AllCaught, histories_of, missing}
 
 -- ---- configurations
 
@@ -48,3 +55,28 @@ AreTold m ks [] [] = ⊤
 AreTold m ks [] (y ∷ ys) = ⊥
 AreTold m ks (x ∷ xs) [] = ⊥
 AreTold m ks (x ∷ xs) (y ∷ ys) = (Stayed ks x y ⊎ Told m ks x y) × AreTold m ks xs ys
+
+-- each of the threads zs is one of ys, in order, whatever ends it has
+abbrev pub AreSame : List Thread → List Thread → Type 0
+AreSame [] [] = ⊤
+AreSame [] (z ∷ zs) = ⊥
+AreSame (y ∷ ys) [] = ⊥
+AreSame (y ∷ ys) (z ∷ zs) = (z ≡ record y { bag = z.bag; retired = z.retired }) × AreSame ys zs
+
+-- ---- laws
+
+-- what holds of the threads of a run that were told
+pub record Joins (m : Surroundings) (a : Tree) (main : Birth) (xs : List Thread) (ps : List Pair) (ys : List Thread) : Type 0 where
+  -- each of them has gained what it lacked
+  pub caught : AllCaught m (histories_of ps) xs ys
+  -- so their logs and the histories are a record that fits
+  pub record_fits : FitsRecord m main ys (histories_of ps)
+  -- with some ends they are all threads of a run
+  pub fit : (zs : List Thread) × AreSame ys zs × IsRun m a main zs
+  -- the configuration that they make with the closed channels is sound, in whichever order these are
+  pub sound : (ks : List ChannelHistory) → IsPermutation (histories_of ps) ks → IsSound m a (config_of ys ks)
+
+-- where all channels of a run were closed, and each task is told what its end lacks, tasks and channels are a sound configuration
+abbrev pub SoundLaw : Type 0
+SoundLaw = (m : Module) (ds : List Deriv) → HasDerivations m ds → (a : Tree) (main : Birth) (xs : List Thread) (ps : List Pair) →
+    IsOver (surroundings m []) a main xs ps → (ys : List Thread) → AreTold (surroundings m []) (histories_of ps) xs ys → Joins (surroundings m []) a main xs ps ys

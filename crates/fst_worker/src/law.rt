@@ -1,4 +1,5 @@
 ghost use Rattle.fst_worker.specs.Laws.{ApartLaw, BeginLaw, EntryLaw, PairLaw, PoolLaw, RecordLaw, WentLaw};
+ghost use Rattle.fst_worker.specs.Configs.{SoundLaw};
 
 /// The task of `main` fits a module that has derivations at the beginning, and it is all there is of the run.
 pub fn begin_law()
@@ -39,4 +40,10 @@ pub fn record_law()
 /// task's clock; and each entry was sent by a task at the one end and received by a task at the other.
 pub fn entry_law()
     ensures { EntryLaw }
+{}
+
+/// Where the two ends of each channel were closed and each task whose offer was taken is told so, the tasks and the closed channels
+/// are a sound configuration of the module.
+pub fn sound_law()
+    ensures { SoundLaw }
 {}
