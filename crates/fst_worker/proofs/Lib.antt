@@ -16,3 +16,6 @@ pub mod Found
 pub mod Counting
 pub mod Soundness
 pub mod Telling
+pub mod Rights
+pub mod Dated
+pub mod Resuming

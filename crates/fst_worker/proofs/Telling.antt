@@ -337,6 +337,17 @@ module _ (m : Surroundings) (a : Tree) (main : Birth) (xs : List Thread) (ps : L
       by (inl s) = stayed x y (All-head Knows x us all) s
       by (inr t) = told sends x y (All-head Knows x us all) t
 
+  -- a record fits in whichever order its channels are
+  pub record_moved : (zs : List Thread) → FitsRecord m main zs (histories_of ps) → FitsRecord m main zs ks
+  record_moved zs f = record {
+    root = f.root;
+    births = f.births;
+    logs = f.logs;
+    channels = λ w. sum_by-IsPermutation (λ (k : ChannelHistory). w k.name k.declared) (histories_of ps) ks moved ∙ f.channels w;
+    exchanged = λ w. sum_by-IsPermutation (shows w) (histories_of ps) ks moved ∙ f.exchanged w;
+    histories = All-permutation IsRecorded (histories_of ps) ks moved f.histories;
+  }
+
   module _ (sends : SendsOn m a) (ys : List Thread) (are : AreTold m (histories_of ps) xs ys) where
     -- the threads with ends
     pub all : BecomeAll xs ys
@@ -350,23 +361,9 @@ module _ (m : Surroundings) (a : Tree) (main : Birth) (xs : List Thread) (ps : L
       whole = went_whole m a main xs all.threads all.went over.run.fit over.run.whole;
     }
 
-    record_moved : (zs : List Thread) → FitsRecord m main zs (histories_of ps) → FitsRecord m main zs ks
-    record_moved zs f = record {
-      root = f.root;
-      births = f.births;
-      logs = f.logs;
-      channels = λ w. sum_by-IsPermutation (λ (k : ChannelHistory). w k.name k.declared) (histories_of ps) ks moved ∙ f.channels w;
-      exchanged = λ w. sum_by-IsPermutation (shows w) (histories_of ps) ks moved ∙ f.exchanged w;
-      histories = All-permutation IsRecorded (histories_of ps) ks moved f.histories;
-    }
-
     -- with the closed channels they are a record that fits
     pub fits_record : FitsRecord m main all.threads ks
     fits_record = record_moved all.threads ((finishes m a main xs ps over).record_fits all.threads all.caught)
-
-    -- and so are the threads themselves
-    pub fits_itself : FitsRecord m main ys ks
-    fits_itself = record_moved ys ((finishes m a main xs ps over).record_fits ys all.itself)
 
     -- their configuration
     pub same_config : config_of all.threads ks ≡ config_of ys ks
