@@ -119,14 +119,14 @@ module _ (m : Surroundings) (a : Tree) (main : Birth) (xs : List Thread) (ps : L
   ks = histories_of ps
 
   -- the end lacks nothing, or what it offers
-  abbrev settles : EndView → Bool
+  abbrev pub settles : EndView → Bool
   settles e = settled (missing ks e) e.knows.offer
 
   -- a thread of the run, and that its ends lack what they offer or nothing
-  abbrev IsHere : Thread → Type 0
+  abbrev pub IsHere : Thread → Type 0
   IsHere x = FitsIn m a x × EndsPass settles x
 
-  all_here : All IsHere xs
+  pub all_here : All IsHere xs
   all_here = λ k d l. (over.run.fit k d l, all_settled m a main xs ps over k d l)
 
   level_of : (e : EndView) → settles e ≡ true → e.knows.offer ≡ None → missing ks e ≡ None
@@ -135,7 +135,7 @@ module _ (m : Surroundings) (a : Tree) (main : Birth) (xs : List Thread) (ps : L
   waits_of : (e : EndView) → settles e ≡ true → (d : Entry) → missing ks e ≡ Some d → (o : Offer) × (e.knows.offer ≡ Some o) × IsTrailing ks e o d
   waits_of = lacking_waits m a main xs ps over
 
-  spent_level : (x : Thread) → IsHere x → All (λ (e : EndView). missing ks e ≡ None) x.retired
+  pub spent_level : (x : Thread) → IsHere x → All (λ (e : EndView). missing ks e ≡ None) x.retired
   spent_level x h = λ k d l. level_of _ (h.1.1 k d l) (h.0.spent k d l).idle
 
   -- a task one of whose ends lacks an entry
@@ -154,10 +154,10 @@ module _ (m : Surroundings) (a : Tree) (main : Birth) (xs : List Thread) (ps : L
     pub asks_it : machine.request m.families x.now.state ≡ Some (Put (end_name e) d.event)
     asks_it = (e_fits.waits waits.0 waits.1).asks ∙ ap (λ ev. Some (Put (end_name e) ev)) (sym waits.2.event)
 
-    sent_at : d.sent ≡ x.now.clock
+    pub sent_at : d.sent ≡ x.now.clock
     sent_at = waits.2.sent ∙ (e_fits.waits waits.0 waits.1).clock
 
-    late : x.now.clock < d.stamp
+    pub late : x.now.clock < d.stamp
     late = let l = waits.2.later in let c = (e_fits.waits waits.0 waits.1).clock in omega (arith, l, c)
 
     -- another end that lacks something has its name
@@ -170,7 +170,7 @@ module _ (m : Surroundings) (a : Tree) (main : Birth) (xs : List Thread) (ps : L
             let v = waits_of f s b q in
             inl (put_same (sym (g.waits v.0 v.1).asks ∙ asks_it))
 
-    others : All (λ (f : EndView). (end_name f ≡ end_name e) ⊎ (missing ks f ≡ None)) x.bag
+    pub others : All (λ (f : EndView). (end_name f ≡ end_name e) ⊎ (missing ks f ≡ None)) x.bag
     others = λ k c l. one_name _ (h.1.0 k c l) (h.0.ends k c l)
 
     bag_once : count_of (end_name e) x.bag ≤ 1

@@ -13,3 +13,10 @@ pub mod Standing
 pub mod Catching
 pub mod Pools
 pub mod Entries
+pub mod Found
+pub mod Counting
+pub mod Soundness
+pub mod Telling
+pub mod Rights
+pub mod Dated
+pub mod Resuming

@@ -29,7 +29,7 @@ use Rattle.fst_worker.proofs.Tests.{small, path_or, path_counts, channel_or, by_
 -- ---- births
 
 -- a birth, by its path
-abbrev at_path : Path → Birth → ℕ
+abbrev pub at_path : Path → Birth → ℕ
 at_path x b = once (same_path x b.path)
 
 -- of some that a counter numbers, at most this many are the j-th, and none where the counter has passed j
@@ -51,19 +51,19 @@ few_more here j counter next one more n f a (inr (b, c)) = record {
 }
 
 -- an answer makes the task fork, or not
-abbrev IsFork : Program → Path → Task → ℕ → Answer → Type 0
+abbrev pub IsFork : Program → Path → Task → ℕ → Answer → Type 0
 IsFork p path t stamp a =
     ((born_by p path t stamp a ≡ birth_of (child_path path t.forked) stamp (child (pause p.families t.state))) × (forks_after a t.forked ≡ suc t.forked))
     ⊎ ((born_by p path t stamp a ≡ []) × (forks_after a t.forked ≡ t.forked))
 
-is_fork : (p : Program) (path : Path) (t : Task) (stamp : ℕ) (a : Answer) → IsFork p path t stamp a
+pub is_fork : (p : Program) (path : Path) (t : Task) (stamp : ℕ) (a : Answer) → IsFork p path t stamp a
 is_fork p path t stamp Go = inr (refl, refl)
 is_fork p path t stamp (Made h) = inr (refl, refl)
 is_fork p path t stamp Forked = inl (refl, refl)
 is_fork p path t stamp Sent = inr (refl, refl)
 is_fork p path t stamp (Got ev) = inr (refl, refl)
 
-birth_le : (x path : Path) (clock : ℕ) (o : Option State) → sum_by (at_path x) (birth_of path clock o) ≤ once (same_path x path)
+pub birth_le : (x path : Path) (clock : ℕ) (o : Option State) → sum_by (at_path x) (birth_of path clock o) ≤ once (same_path x path)
 birth_le x path clock None = omega arith
 birth_le x path clock (Some s) = omega arith
 
@@ -130,16 +130,16 @@ not_first p q k e = let r = (snoc_same p q zero (suc k) e).1 in absurd (omega (a
 -- ---- channels
 
 -- a channel, by its name
-abbrev of_name : ChannelName → Opening → ℕ
+abbrev pub of_name : ChannelName → Opening → ℕ
 of_name h o = once (same_channel h o.name)
 
 -- an answer gives the task a channel, or not
-abbrev IsNew : List Tree → Path → Task → Request → Answer → Type 0
+abbrev pub IsNew : List Tree → Path → Task → Request → Answer → Type 0
 IsNew types path t q a =
     ((o : Option Tree) × (opened_by types q a ≡ opening_of (channel_name path t.made) o) × (made_after a t.made ≡ suc t.made))
     ⊎ ((opened_by types q a ≡ []) × (made_after a t.made ≡ t.made))
 
-is_new : (types : List Tree) (path : Path) (t : Task) (stamp : ℕ) (q : Request) (a : Answer) → IsAnswered path t stamp q a → IsNew types path t q a
+pub is_new : (types : List Tree) (path : Path) (t : Task) (stamp : ℕ) (q : Request) (a : Answer) → IsAnswered path t stamp q a → IsNew types path t q a
 is_new types path t stamp Step Go h = inr (refl, refl)
 is_new types path t stamp (New k) (Made n) h = inl (slice_get types k, ap (λ n. opening_of n (slice_get types k)) h.1, refl)
 is_new types path t stamp Fork Forked h = inr (refl, refl)
@@ -147,7 +147,7 @@ is_new types path t stamp (Put x ev) Sent h = inr (refl, refl)
 is_new types path t stamp (Get x) (Got ev) h = inr (refl, refl)
 is_new types path t stamp q a h = absurd h
 
-opening_le : (h n : ChannelName) (o : Option Tree) → sum_by (of_name h) (opening_of n o) ≤ once (same_channel h n)
+pub opening_le : (h n : ChannelName) (o : Option Tree) → sum_by (of_name h) (opening_of n o) ≤ once (same_channel h n)
 opening_le h n None = omega arith
 opening_le h n (Some t) = omega arith
 
@@ -190,10 +190,10 @@ IsLed m x = Follows (program_in m) x.path x.first x.log x.now
 module _ (m : Surroundings) (main : Birth) (xs : List Thread) (root : main.path ≡ main_path)
     (births_are : (w : Birth → ℕ) → sum_by (λ (x : Thread). w (birth x)) xs ≡ w main + sum_by (bears m w) xs) where
   -- a thread, by its path
-  abbrev has_path : Path → Thread → ℕ
+  abbrev pub has_path : Path → Thread → ℕ
   has_path x t = once (same_path x t.path)
 
-  main_not : (q : Path) (k : ℕ) → once (same_path (child_path q k) main.path) ≡ 0
+  pub main_not : (q : Path) (k : ℕ) → once (same_path (child_path q k) main.path) ≡ 0
   main_not q k = by (path_or (child_path q k) main.path)
     where
       by : ((child_path q k ≡ main.path) × (once (same_path (child_path q k) main.path) ≡ 1)) ⊎ (once (same_path (child_path q k) main.path) ≡ 0) →

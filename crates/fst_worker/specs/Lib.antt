@@ -4,4 +4,6 @@ pub mod Records
 pub mod Entries
 pub mod Shares
 pub mod Dealing
+pub mod Configs
+pub mod Resumes
 pub mod Laws

@@ -6,5 +6,5 @@ mod dealing;
 mod law;
 mod shares;
 
-pub use law::{apart_law, begin_law, entry_law, pair_law, pool_law, record_law, went_law};
+pub use law::{apart_law, begin_law, entry_law, pair_law, pool_law, record_law, resume_law, right_law, sound_law, went_law};
 pub use shares::Share;

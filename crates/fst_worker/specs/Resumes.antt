@@ -1,0 +1,78 @@
+-- What the machine needs that goes on from the tasks and the closed channels of a run.
+use Rattle.std.specs.Prelude.{◌≡◌, ◌≤◌, ℕ, zero, All, IsPermutation, List, [], ◌∷◌, ⊤}
+use Rattle.fst_types.specs.Tree.{Tree}
+use Rattle.fst_terms.specs.declared.core_module.Module.{Module}
+use Rattle.fst_derivations.specs.Deriv.{Deriv}
+use Rattle.fst_derivations.specs.Modules.{HasDerivations, surroundings}
+use Rattle.fst_derivations.specs.Rules.{Surroundings}
+use Rattle.fst_machine.specs.declared.code.Code.{Code}
+use Rattle.fst_vm.specs.TaskView.{TaskView}
+use Rattle.fst_vm.specs.Tasks.{IsFrom, IsIn}
+use Rattle.fst_runs.specs.Configs.{Config}
+use Rattle.fst_runs.specs.Names.{HasMakers, HasParents}
+use Rattle.fst_process.specs.Kept.{Kept}
+use Rattle.fst_process.specs.Resuming.{Tasks, Histories, AreAll, AreNumbered, TasksWithin, ChannelsWithin, CanResume, IsResumed}
+use Rattle.fst_process.specs.Runs.{RunsRightFrom, CanRunFrom}
+use Rattle.fst_safety.specs.Logs.{Birth}
+use Rattle.fst_safety.specs.Sound.{IsSound}
+use Rattle.fst_safety.specs.Threads.{Thread}
+use Rattle.fst_worker.specs.Works.{opens}
+use Rattle.fst_worker.specs.Records.{Pair, IsOver, histories_of}
+use Rattle.fst_worker.specs.Configs.{config_of, AreTold}
+
+-- no run from the configuration goes wrong, and its names are those that counts have given
+pub record GoesRight (m : Module) (c : Config) : Type 0 where
+  pub right : RunsRightFrom m c
+  pub makers : HasMakers c
+  pub parents : HasParents c
+
+-- so it is with each sound configuration of a module that has derivations
+abbrev pub RightLaw : Type 0
+RightLaw = (m : Module) (ds : List Deriv) → HasDerivations m ds → (a : Tree) (c : Config) → IsSound (surroundings m []) a c → GoesRight m c
+
+-- ---- tasks as the machine keeps them
+
+-- the task with this clock is that of the thread
+pub record IsTaskOf (m : Module) (k : Code) (t : TaskView) (clock : ℕ) (y : Thread) : Type 0 where
+  pub path : t.path ≡ y.path
+  pub is_in : IsIn m k t y.now.state
+  pub forked : t.forked ≡ y.now.forked
+  pub time : clock ≡ y.now.clock
+
+-- these are the tasks of these threads, in order
+abbrev pub AreTasksOf : Module → Code → Tasks → List Thread → Type 0
+AreTasksOf m k [] [] = ⊤
+AreTasksOf m k [] (y ∷ ys) = ⊥
+AreTasksOf m k (t ∷ ts) [] = ⊥
+AreTasksOf m k (t ∷ ts) (y ∷ ys) = IsTaskOf m k t.0 t.1 y × AreTasksOf m k ts ys
+
+-- each channel that the thread has made has a type
+abbrev pub HasOpened : Surroundings → Thread → Type 0
+HasOpened m y = opens m (λ h d. 1) y ≡ y.now.made
+
+-- no clock of these tasks is over n
+abbrev pub ClocksWithin : ℕ → Tasks → Type 0
+ClocksWithin n [] = ⊤
+ClocksWithin n (t ∷ ts) = (t.1 ≤ n) × ClocksWithin n ts
+
+-- ---- laws
+
+-- tasks and channels that the machine can go on from
+pub record Resumes (m : Module) (k : Code) (ts : Tasks) (hs : Histories) (c : Config) : Type 0 where
+  -- they are all of the configuration, from which no run goes wrong
+  pub all : AreAll m k ts hs c
+  pub goes : GoesRight m c
+  pub can_resume : CanResume k ts hs
+  -- no number of theirs is over n where no clock is
+  pub within : (n : ℕ) → ClocksWithin n ts → TasksWithin n ts × ChannelsWithin n hs
+  -- so what is kept of them can run on, after n events
+  pub can_run : (n : ℕ) → ClocksWithin n ts → (d : Kept) → IsResumed k ts hs d → CanRunFrom k n d
+
+-- where all channels of a run were closed, and each task is told what its end lacks, the machine can go on from the tasks and the
+-- closed channels, where these come in the order in which each task has made them
+abbrev pub ResumeLaw : Type 0
+ResumeLaw = (m : Module) (ds : List Deriv) → HasDerivations m ds → (a : Tree) (main : Birth) (xs : List Thread) (ps : List Pair) →
+    IsOver (surroundings m []) a main xs ps → (ys : List Thread) → AreTold (surroundings m []) (histories_of ps) xs ys →
+    All (HasOpened (surroundings m [])) ys →
+    (k : Code) (ts : Tasks) (hs : Histories) → IsFrom m k → AreTasksOf m k ts ys → IsPermutation (histories_of ps) hs → AreNumbered (λ p. zero) hs →
+    Resumes m k ts hs (config_of ys hs)
