@@ -12,3 +12,6 @@ pub mod Standing
 pub mod Catching
 pub mod Pools
 pub mod Entries
+pub mod NameOrder
+pub mod InOrder
+pub mod Ended

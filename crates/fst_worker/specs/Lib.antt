@@ -3,3 +3,4 @@ pub mod Pairs
 pub mod Records
 pub mod Entries
 pub mod Laws
+pub mod Closing

@@ -2,6 +2,7 @@
 //! histories are a record of a run at its end.
 #![tactic(auto)]
 
+mod closing;
 mod law;
 
 pub use law::{apart_law, begin_law, entry_law, pair_law, pool_law, record_law, went_law};
