@@ -34,38 +34,49 @@ use Rattle.fst_worker.proofs.Tests.{end_or, end_counts, there_sums}
 abbrev pub AreInOrder : List EndView → Type 0
 AreInOrder es = AllPairs (λ (d e : EndView). IsUpTo d.channel e.channel) es
 
+-- the end's channel comes behind this name; and so do those of all these ends
+abbrev pub IsAbove : ChannelName → EndView → Type 0
+IsAbove h e = name_cmp h e.channel ≡ Less
+
+abbrev pub AreAbove : List EndView → ChannelName → Type 0
+AreAbove es h = All (IsAbove h) es
+
+-- the end's channel has this name or comes behind it
+abbrev pub IsFrom : ChannelName → EndView → Type 0
+IsFrom h e = IsUpTo h e.channel
+
 -- sorted ends are
 pub in_order : (es : List EndView) → IsSorted channel_cmp es → AreInOrder es
 in_order es sorted i j d l m =
     up_to (get_or es i d).channel (get_or es j d).channel
     (sorted_far (λ x y. is_lt (channel_cmp x y)) (ranks_by name_total (λ (e : EndView). e.channel)) es sorted i j d (omega arith) m)
 
--- the first one's channel is up to those of the others
-first_up : (e : EndView) (es : List EndView) → AreInOrder (e ∷ es) → All (λ (g : EndView). IsUpTo e.channel g.channel) es
+-- no channel of the others comes before that of the first one
+first_up : (e : EndView) (es : List EndView) → AreInOrder (e ∷ es) → All (IsFrom e.channel) es
 first_up e es o k d l = o 0 (suc k) d (omega arith) (omega arith)
 
 -- the others are in order
 others_order : (e : EndView) (es : List EndView) → AreInOrder (e ∷ es) → AreInOrder es
 others_order e es o i j d l m = o (suc i) (suc j) d (omega arith) (omega arith)
 
--- what is below a name is below those that it is up to
+-- a name that comes before another comes before those that don't come before that one
 below_up : (f g h : ChannelName) → name_cmp f g ≡ Less → IsUpTo g h → name_cmp f h ≡ Less
 below_up f g h l (inl m) = name_total.trans f g h l m
 below_up f g h l (inr e) = subst (λ x. name_cmp f x ≡ Less) e l
 
--- no end is there of a channel that is below all
+-- a channel that comes before those of all ends is that of none
 none_more : (z : EndName) (e : EndView) (es : List EndView) → name_cmp z.channel e.channel ≡ Less → count_of z es ≡ 0 →
     ((z ≡ end_name e) × (counted z e ≡ 1)) ⊎ (counted z e ≡ 0) → count_of z (e ∷ es) ≡ 0
 none_more z e es l b (inl q) = absurd (apart_less z.channel e.channel (ap (λ (x : EndName). x.channel) q.0) l)
 none_more z e es l b (inr n) = let a = sum_by-cons (counted z) e es in omega (arith, a, b, n)
 
-none_named : (z : EndName) (es : List EndView) → All (λ (g : EndView). name_cmp z.channel g.channel ≡ Less) es → count_of z es ≡ 0
+none_named : (z : EndName) (es : List EndView) → All (IsAbove z.channel) es → count_of z es ≡ 0
 none_named z [] all = refl
 none_named z (e ∷ es) all =
-    none_more z e es (All-head (λ (g : EndView). name_cmp z.channel g.channel ≡ Less) e es all)
-    (none_named z es (All-tail (λ (g : EndView). name_cmp z.channel g.channel ≡ Less) e es all)) (end_or z (end_name e))
+    none_more z e es (All-head (IsAbove z.channel) e es all)
+    (none_named z es (All-tail (IsAbove z.channel) e es all)) (end_or z (end_name e))
 
--- nor among none
+-- where no end is, none has a name
 none_there : (z : EndName) (es : List EndView) → length es ≡ 0 → count_of z es ≡ 0
 none_there z [] l = refl
 none_there z (e ∷ es) l = absurd (omega (arith, l))
@@ -86,7 +97,7 @@ name_or e f c = by (side_or f.knows.side e.knows.side)
 
 -- ---- as far as channels were closed
 
--- of these ends those are left, in order; the others are the two ends of channels, and closing these gave this, with names that rise and are below those that are left
+-- these ends are left in order; the others are pairs whose channels were closed, with names that rise and come before those that are left
 pub record AreClosedSoFar (es : List EndView) (cs : List Closed) (left : List EndView) : Type 0 where
   pub pairs : List Pair
   pub ends : (w : EndView → ℕ) → sum_by w es ≡ sum_by (λ (p : Pair). w p.left + w p.right) pairs + sum_by w left
@@ -94,7 +105,7 @@ pub record AreClosedSoFar (es : List EndView) (cs : List Closed) (left : List En
   pub closed : map (λ (p : Pair). p.closed) pairs ≡ cs
   pub order : AreInOrder left
   pub rising : IsStrictlySortedBy name_cmp (names_of cs)
-  pub below : All (λ (h : ChannelName). All (λ (e : EndView). name_cmp h e.channel ≡ Less) left) (names_of cs)
+  pub below : All (AreAbove left) (names_of cs)
 
 -- none was closed yet
 pub at_first : (es : List EndView) → IsSorted channel_cmp es → AreClosedSoFar es [] es
@@ -106,7 +117,7 @@ at_first es sorted = record {
   closed = refl;
   order = in_order es sorted;
   rising = tt;
-  below = All-nil (λ (h : ChannelName). All (λ (e : EndView). name_cmp h e.channel ≡ Less) es);
+  below = All-nil (AreAbove es);
 }
 
 module _ (es : List EndView) (cs : List Closed) (e : EndView) (more : List EndView) (all : AreOfRun es) (k : AreClosedSoFar es cs (e ∷ more)) where
@@ -128,7 +139,7 @@ module _ (es : List EndView) (cs : List Closed) (e : EndView) (more : List EndVi
   pub is_pair : (f : EndView) → Contains more f → end_name f ≡ other (end_name e) → IsOnePair e f
   is_pair f c is = closable.pair e f more (IsPermutation-refl (e ∷ more)) c is
 
-  -- none is there twice
+  -- no name stands twice
   pub at_most_once : (z : EndName) → counted z e + count_of z more ≤ 1
   at_most_once z =
       let a = ends_once all.surroundings all.type all.main all.threads all.run z in
@@ -137,24 +148,25 @@ module _ (es : List EndView) (cs : List Closed) (e : EndView) (more : List EndVi
       omega (arith, a, b, c)
 
 module _ (es : List EndView) (cs : List Closed) (e f : EndView) (rest : List EndView) (all : AreOfRun es) (k : AreClosedSoFar es cs (e ∷ (f ∷ rest))) where
+  -- no name stands twice among these
   once_of : (z : EndName) → counted z e + (counted z f + count_of z rest) ≤ 1
   once_of z = let a = at_most_once es cs e (f ∷ rest) all k z in let b = sum_by-cons (counted z) f rest in omega (arith, a, b)
 
-  up_first : All (λ (g : EndView). IsUpTo e.channel g.channel) (f ∷ rest)
+  up_first : All (IsFrom e.channel) (f ∷ rest)
   up_first = first_up e (f ∷ rest) k.order
 
-  up_second : All (λ (g : EndView). IsUpTo f.channel g.channel) rest
+  up_second : All (IsFrom f.channel) rest
   up_second = first_up f rest (others_order e (f ∷ rest) k.order)
 
   -- the next one is of the same channel
-  same_channel : f.channel ≡ e.channel
-  same_channel = by (All-head (λ (g : EndView). IsUpTo e.channel g.channel) f rest up_first)
+  one_channel : f.channel ≡ e.channel
+  one_channel = by (All-head (IsFrom e.channel) f rest up_first)
     where
       by : IsUpTo e.channel f.channel → f.channel ≡ e.channel
       by (inr q) = sym q
       by (inl l) =
-          let below = All-cons (λ (g : EndView). name_cmp e.channel g.channel ≡ Less) f rest l
-          (All-weaker (λ (g : EndView). IsUpTo f.channel g.channel) (λ (g : EndView). name_cmp e.channel g.channel ≡ Less)
+          let below = All-cons (IsAbove e.channel) f rest l
+          (All-weaker (IsFrom f.channel) (IsAbove e.channel)
           (λ g u. below_up e.channel f.channel g.channel l u) rest up_second) in
           let a = none_named (other (end_name e)) (f ∷ rest) below in
           let b = other_there es cs e (f ∷ rest) all k in
@@ -162,7 +174,7 @@ module _ (es : List EndView) (cs : List Closed) (e f : EndView) (rest : List End
 
   -- it is the other end
   pub next_other : end_name f ≡ other (end_name e)
-  next_other = by (name_or e f same_channel)
+  next_other = by (name_or e f one_channel)
     where
       by : (end_name f ≡ end_name e) ⊎ (end_name f ≡ other (end_name e)) → end_name f ≡ other (end_name e)
       by (inr q) = q
@@ -194,9 +206,10 @@ module _ (es : List EndView) (cs : List Closed) (e f : EndView) (rest : List End
           let s = there_sums (counted (end_name f)) rest g c in
           omega (arith, a, b, d, s)
 
-  below_rest : All (λ (g : EndView). name_cmp e.channel g.channel ≡ Less) rest
-  below_rest i d l =
-      by (All-tail (λ (g : EndView). IsUpTo e.channel g.channel) f rest up_first i d l)
+  -- it comes behind this one
+  above_rest : All (IsAbove e.channel) rest
+  above_rest i d l =
+      by (All-tail (IsFrom e.channel) f rest up_first i d l)
     where
       by : IsUpTo e.channel (get_or rest i d).channel → name_cmp e.channel (get_or rest i d).channel ≡ Less
       by (inl m) = m
@@ -218,20 +231,18 @@ module _ (es : List EndView) (cs : List Closed) (e f : EndView) (rest : List End
     shut = All-push IsShut k.pairs s.pair k.shut s.shut;
     closed = map-append (λ (p : Pair). p.closed) k.pairs (s.pair ∷ []) ∙ ap (λ xs. xs ++ s.pair.closed ∷ []) k.closed ∙ ap (λ x. cs ++ x ∷ []) s.closed;
     order = others_order f rest (others_order e (f ∷ rest) k.order);
-    rising = subst (IsStrictlySortedBy name_cmp) (sym names) (rising_more (names_of cs) c.history.name k.rising below_this);
-    below = subst (All (λ (h : ChannelName). All (λ (g : EndView). name_cmp h g.channel ≡ Less) rest)) (sym names)
-        (All-push (λ (h : ChannelName). All (λ (g : EndView). name_cmp h g.channel ≡ Less) rest) (names_of cs) c.history.name below_others
-        (subst (λ h. All (λ (g : EndView). name_cmp h g.channel ≡ Less) rest) (sym s.named) below_rest));
+    rising = subst (IsStrictlySortedBy name_cmp) (sym names) (rising_more (names_of cs) c.history.name k.rising before_this);
+    below = subst (All (AreAbove rest)) (sym names)
+        (All-push (AreAbove rest) (names_of cs) c.history.name before_rest (subst (AreAbove rest) (sym s.named) above_rest));
   }
     where
       names : names_of (cs ++ c ∷ []) ≡ names_of cs ++ c.history.name ∷ []
       names = map-append (λ (c : Closed). c.history.name) cs (c ∷ [])
 
-      below_this : All (λ (h : ChannelName). name_cmp h c.history.name ≡ Less) (names_of cs)
-      below_this = All-weaker (λ (h : ChannelName). All (λ (g : EndView). name_cmp h g.channel ≡ Less) (e ∷ (f ∷ rest))) (λ (h : ChannelName). name_cmp h c.history.name ≡ Less)
-          (λ h b. subst (λ x. name_cmp h x ≡ Less) (sym s.named) (All-head (λ (g : EndView). name_cmp h g.channel ≡ Less) e (f ∷ rest) b)) (names_of cs) k.below
+      before_this : All (λ (h : ChannelName). name_cmp h c.history.name ≡ Less) (names_of cs)
+      before_this = All-weaker (AreAbove (e ∷ (f ∷ rest))) (λ (h : ChannelName). name_cmp h c.history.name ≡ Less)
+          (λ h b. subst (λ x. name_cmp h x ≡ Less) (sym s.named) (All-head (IsAbove h) e (f ∷ rest) b)) (names_of cs) k.below
 
-      below_others : All (λ (h : ChannelName). All (λ (g : EndView). name_cmp h g.channel ≡ Less) rest) (names_of cs)
-      below_others = All-weaker (λ (h : ChannelName). All (λ (g : EndView). name_cmp h g.channel ≡ Less) (e ∷ (f ∷ rest)))
-          (λ (h : ChannelName). All (λ (g : EndView). name_cmp h g.channel ≡ Less) rest)
-          (λ h b. All-tail (λ (g : EndView). name_cmp h g.channel ≡ Less) f rest (All-tail (λ (g : EndView). name_cmp h g.channel ≡ Less) e (f ∷ rest) b)) (names_of cs) k.below
+      before_rest : All (AreAbove rest) (names_of cs)
+      before_rest = All-weaker (AreAbove (e ∷ (f ∷ rest))) (AreAbove rest)
+          (λ h b. All-tail (IsAbove h) f rest (All-tail (IsAbove h) e (f ∷ rest) b)) (names_of cs) k.below

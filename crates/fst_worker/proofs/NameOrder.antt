@@ -1,5 +1,5 @@
 -- Names of channels in order.
-use Rattle.std.proofs.Common.{◌≡◌, ◌⊎◌, inl, inr, ◌+◌, false, List, [], ◌∷◌, ◌++◌, get_or, map, refl, sym, ap, ◌∙◌, subst, arith}
+use Rattle.std.proofs.Common.{◌≡◌, ◌⊎◌, inl, inr, ◌<◌, ◌+◌, false, List, [], ◌∷◌, ◌++◌, get_or, map, refl, sym, ap, ◌∙◌, subst, arith}
 use Rattle.std.specs.Prelude.{All}
 use Rattle.std.specs.Cmp.{IsTotalOrder}
 use Rattle.std.specs.Cmp.Lexicographic.{slice_cmp}
@@ -43,6 +43,12 @@ apart_less g h e l = let a = subst (λ x. name_cmp x h ≡ Less) e l in absurd (
 
 pub apart_greater : (g h : ChannelName) → g ≡ h → name_cmp g h ≡ Greater → ⊥
 apart_greater g h e l = let a = subst (λ x. name_cmp x h ≡ Greater) e l in absurd (cc (sym a ∙ tied_itself name_total h))
+
+-- of two names with one maker, the one that is below the other has the smaller count
+pub counts_rise : (g h : ChannelName) → name_cmp g h ≡ Less → g.maker ≡ h.maker → g.count < h.count
+counts_rise g h l e =
+    let tied : slice_cmp nat_cmp g.maker h.maker ≡ Equal = subst (λ p. slice_cmp nat_cmp g.maker p ≡ Equal) e (tied_itself nat_list_cmp_total g.maker) in
+    ranked g.count h.count Less (sym l ∙ ap (λ o. ordering_then o (nat_cmp g.count h.count)) tied)
 
 -- the one name is below the other, or they are one
 abbrev pub IsUpTo : ChannelName → ChannelName → Type 0
