@@ -20,3 +20,6 @@ pub mod Telling
 pub mod Rights
 pub mod Dated
 pub mod Resuming
+pub mod NameOrder
+pub mod InOrder
+pub mod Ended

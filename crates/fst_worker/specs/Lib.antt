@@ -7,3 +7,4 @@ pub mod Dealing
 pub mod Configs
 pub mod Resumes
 pub mod Laws
+pub mod Closing

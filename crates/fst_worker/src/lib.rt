@@ -3,6 +3,7 @@
 #![tactic(auto)]
 
 mod dealing;
+mod closing;
 mod law;
 mod shares;
 
