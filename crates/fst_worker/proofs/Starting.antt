@@ -1,9 +1,9 @@
 -- The thread of main at the beginning.
-use Rattle.std.proofs.Common.{◌≡◌, ℕ, List, [], ◌∷◌, Some, refl, sym, ap, arith}
+use Rattle.std.proofs.Common.{◌≡◌, ℕ, List, [], ◌∷◌, Some, refl, ap, arith}
 use Rattle.std.specs.Prelude.{sum_by}
 use Rattle.std.proofs.lemmas.List.Elements.{All-nil, All-cons}
 use Rattle.std.proofs.lemmas.List.Sums.{sum_by-cons}
-use Rattle.fst_types.specs.Tree.{Tree, skip}
+use Rattle.fst_types.specs.Tree.{Tree}
 use Rattle.fst_types.specs.declared.side.Side.TheVariants.{Left, Right}
 use Rattle.fst_terms.specs.CoreTree.{CoreTree}
 use Rattle.fst_terms.specs.declared.core_module.Module.{Module}
@@ -13,20 +13,18 @@ use Rattle.fst_derivations.specs.Rules.{Surroundings}
 use Rattle.fst_value.specs.declared.ends.EndName.{EndName}
 use Rattle.fst_runs.specs.Configs.{main_body}
 use Rattle.fst_runs.specs.Wrong.{held_state}
-use Rattle.fst_cell.specs.End.{EndView, end_name, residual_of}
+use Rattle.fst_cell.specs.End.{EndView}
 use Rattle.fst_safety.specs.declared.tasks.LogEntry.{LogEntry}
-use Rattle.fst_safety.specs.Fitting.{Residuals}
 use Rattle.fst_safety.specs.Logs.{Opening, births, exchanges, openings}
 use Rattle.fst_safety.specs.Safety.{main_type}
-use Rattle.fst_safety.specs.Threads.{Thread, FitsIn, FitsEnd, IsOpen, IsSpent}
+use Rattle.fst_safety.specs.Threads.{Thread, FitsIn}
+use Rattle.fst_safety.specs.Tasks.{main_thread}
 use Rattle.fst_safety.specs.Turns.{of_ends, by_type, by_cell, by_exchanges, birth}
 use Rattle.fst_safety.specs.WellTyped.{program_in}
-use Rattle.fst_safety.proofs.Closed.{closed_by}
-use Rattle.fst_safety.proofs.Equals.{equals_itself}
 use Rattle.fst_safety.proofs.Modules.{main_typed}
-use Rattle.fst_safety.proofs.Runs.{printable_formed}
+use Rattle.fst_safety.proofs.TaskStarts.{begun_fits}
 use Rattle.fst_worker.specs.Works.{Whole, IsKnownIn, bears, opens, trades}
-use Rattle.fst_worker.specs.Laws.{main_thread, BeginLaw}
+use Rattle.fst_worker.specs.Laws.{BeginLaw}
 
 -- a thread with no log and no ends, in whose state no end stands, is whole by itself
 pub idle_whole : (m : Surroundings) (x : Thread) → x.log ≡ [] → x.bag ≡ [] → x.retired ≡ [] → ((z : EndName) → held_state z x.now.state ≡ 0) →
@@ -66,36 +64,7 @@ pub main_fits : (m : Module) (ds : List Deriv) → HasDerivations m ds → (e : 
     (a : Tree) × (main_type m.types.items m.globals.items ≡ Some a) × FitsIn (surroundings m []) a (main_thread e)
 main_fits m ds h e q =
     let k = main_typed m ds h e q in
-    let n = surroundings m [] in
-    let r : Residuals = λ x. Some skip in (
-      k.type,
-      k.declared,
-      record {
-        none_made = refl;
-        none_forked = refl;
-        follows = refl;
-        typed = record {
-          residuals = r;
-          are = record { known = All-nil (λ (e : EndView). r (end_name e) ≡ residual_of e.knows); others = λ x c. refl };
-          type = k.type;
-          typed = record {
-            variables = [];
-            type = k.type;
-            environment = (tt, λ j. sym (closed_by n [] e k.type j k.typed refl));
-            term = k.typed;
-            frames = equals_itself k.type (printable_formed k.type k.printable);
-          };
-          main = λ p. refl;
-        };
-        unspent = All-nil IsOpen;
-        once = λ y c. absurd (omega (arith, c));
-        named = λ y c. absurd (omega (arith, c));
-        ends = All-nil (FitsEnd n (main_thread e).now);
-        spent = All-nil IsSpent;
-        made = omega arith;
-        forked = omega arith;
-      },
-    )
+    (k.type, k.declared, begun_fits (surroundings m []) k.type e k.printable k.typed)
 
 -- the law of the beginning
 pub begins_so : BeginLaw

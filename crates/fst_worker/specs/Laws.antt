@@ -1,5 +1,5 @@
 -- What the laws say.
-use Rattle.std.specs.Prelude.{◌≡◌, zero, Some, None, List, [], ◌∷◌, All, Contains}
+use Rattle.std.specs.Prelude.{◌≡◌, Some, None, List, [], ◌∷◌, All, Contains}
 use Rattle.fst_types.specs.Tree.{Tree}
 use Rattle.fst_terms.specs.CoreTree.{CoreTree}
 use Rattle.fst_terms.specs.declared.core_module.Module.{Module}
@@ -10,14 +10,15 @@ use Rattle.fst_value.specs.declared.event.ChannelHistory.{ChannelHistory}
 use Rattle.fst_value.specs.declared.event.Entry.{Entry}
 use Rattle.fst_machine.specs.declared.request.Request.TheVariants.{Put}
 use Rattle.fst_machine.specs.declared.request.Answer.TheVariants.{Sent}
-use Rattle.fst_machine.specs.Machine.{State, begins, request, answered}
-use Rattle.fst_runs.specs.Configs.{main_body, main_path, new_task}
+use Rattle.fst_machine.specs.Machine.{State, request, answered}
+use Rattle.fst_runs.specs.Configs.{main_body}
 use Rattle.fst_cell.specs.declared.content.Offer.{Offer}
 use Rattle.fst_cell.specs.End.{EndView, end_name}
 use Rattle.fst_safety.specs.Going.{with_entry}
 use Rattle.fst_safety.specs.Logs.{Birth}
 use Rattle.fst_safety.specs.Safety.{main_type}
 use Rattle.fst_safety.specs.Threads.{Thread, FitsIn}
+use Rattle.fst_safety.specs.Tasks.{main_thread}
 use Rattle.fst_safety.specs.Turns.{birth}
 use Rattle.fst_safety.specs.WellTyped.{program_in}
 use Rattle.fst_worker.specs.Works.{Went, GoesOnIn, Whole, IsRun}
@@ -26,17 +27,6 @@ use Rattle.fst_worker.specs.Entries.{Correspond}
 use Rattle.fst_worker.specs.Records.{Pair, IsShut, Pooled, IsOver, Closable, histories_of, missing, stands_on, IsAsClosed, Caught, AllCaught, FitsRecord}
 
 -- ---- the beginning
-
--- the thread of main, whose body this is, at clock 0
-abbrev pub main_thread : CoreTree → Thread
-main_thread e = record {
-  path = main_path;
-  first = new_task (begins e []) zero;
-  log = [];
-  now = new_task (begins e []) zero;
-  bag = [];
-  retired = [];
-}
 
 -- main's thread fits a module that has derivations, and it is whole by itself
 pub record BeginLaw : Type 0 where

@@ -1,4 +1,4 @@
-use Rattle.std.proofs.Common.{◌∙◌, ◌<◌, ◌+◌, ◌++◌, List, length, set, refl, subst, arith}
+use Rattle.std.proofs.Common.{◌∙◌, ◌<◌, ◌++◌, List, length, set, refl, subst, arith}
 use Rattle.std.specs.Prelude.{IsPermutation}
 use Rattle.std.proofs.Math.ListN.{length-set}
 use Rattle.std.specs.Vec.Iter.{into_iter_items}

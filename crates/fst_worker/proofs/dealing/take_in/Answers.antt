@@ -1,7 +1,4 @@
-use Rattle.std.proofs.Common.{◌≡◌, ◌∙◌, ◌++◌, ap, sym, subst}
-use Rattle.std.specs.Prelude.{IsPermutation}
-use Rattle.fst_worker.specs.Shares.{all_of}
-use Rattle.fst_worker.proofs.Dealt.{taken_in, as_taken}
+use Rattle.fst_worker.proofs.Dealt.{as_taken}
 use Rattle.fst_worker.proofs.dealing.take_in.Goals as goal
 
 pub returns : goal.returns
