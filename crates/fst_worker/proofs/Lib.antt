@@ -23,3 +23,4 @@ pub mod Resuming
 pub mod NameOrder
 pub mod InOrder
 pub mod Ended
+pub mod Barely

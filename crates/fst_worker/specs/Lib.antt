@@ -8,3 +8,4 @@ pub mod Configs
 pub mod Resumes
 pub mod Laws
 pub mod Closing
+pub mod Ending

@@ -2,10 +2,14 @@
 //! histories are a record of a run at its end.
 #![tactic(auto)]
 
-mod dealing;
 mod closing;
+mod dealing;
+mod ending;
 mod law;
 mod shares;
 
-pub use law::{apart_law, begin_law, entry_law, pair_law, pool_law, record_law, resume_law, right_law, sound_law, went_law};
+pub use law::{
+    apart_law, begin_law, entry_law, pair_law, pool_law, record_law, resume_law, right_law,
+    sound_law, went_law,
+};
 pub use shares::Share;
