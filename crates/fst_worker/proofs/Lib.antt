@@ -19,3 +19,6 @@ pub mod Telling
 pub mod Rights
 pub mod Dated
 pub mod Resuming
+pub mod News
+pub mod Ranged
+pub mod Ordering
