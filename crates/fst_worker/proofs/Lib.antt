@@ -22,3 +22,4 @@ pub mod Resuming
 pub mod News
 pub mod Ranged
 pub mod Ordering
+pub mod Answering

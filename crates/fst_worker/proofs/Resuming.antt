@@ -134,10 +134,10 @@ module _ (m : Module) (k : Code) where
   apart (t ∷ ts) [] a le = absurd a
   apart (t ∷ ts) (y ∷ ys) a le = (
     none_there ts ys t.0.path a.1
-    (let c = sum_by-cons (on_path t.0.path) y ys in
-    let d = path_counts t.0.path y.path a.0.path in
-    let l = le t.0.path in
-    omega (arith, c, d, l)),
+        (let c = sum_by-cons (on_path t.0.path) y ys in
+        let d = path_counts t.0.path y.path a.0.path in
+        let l = le t.0.path in
+        omega (arith, c, d, l)),
     apart ts ys a.1 (λ p. let c = sum_by-cons (on_path p) y ys in let l = le p in omega (arith, c, l)),
   )
 
