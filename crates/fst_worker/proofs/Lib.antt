@@ -24,3 +24,7 @@ pub mod NameOrder
 pub mod InOrder
 pub mod Ended
 pub mod Barely
+pub mod News
+pub mod Ranged
+pub mod Ordering
+pub mod Answering

@@ -23,18 +23,21 @@ use Rattle.fst_process.specs.Resuming.{Tasks, task_in, AreApart, made_by, AreThe
 use Rattle.fst_cell.specs.Residuals.{residual, sends}
 use Rattle.fst_safety.specs.Logs.{Birth, exchanges, openings, part_in}
 use Rattle.fst_safety.specs.Threads.{Thread, FitsIn}
+use Rattle.fst_safety.specs.Turns.{birth}
 use Rattle.fst_safety.specs.WellTyped.{program_in}
 use Rattle.fst_safety.proofs.Checked.{checked}
 use Rattle.fst_safety.proofs.SoundLaws.{sound_right}
 use Rattle.fst_worker.specs.Works.{opens}
 use Rattle.fst_worker.specs.Entries.{part_at}
 use Rattle.fst_worker.specs.Records.{FitsRecord, IsLogged}
+use Rattle.fst_worker.specs.Laws.{main_thread}
 use Rattle.fst_worker.specs.Configs.{task_of, config_of, AreSame}
-use Rattle.fst_worker.specs.Resumes.{GoesRight, AreTasksOf, HasOpened, ClocksWithin, ResumeLaw}
+use Rattle.fst_worker.specs.Resumes.{GoesRight, AreTasksOf, ClocksWithin, ResumeLaw}
 use Rattle.fst_worker.proofs.Dated.{StampedBy, stamped_by, of_maker, others_made, own_made}
 use Rattle.fst_worker.proofs.Entries.{corresponds}
 use Rattle.fst_worker.proofs.Found.{on_path, has_task, task_there, on_name, channel_of, channel_there}
 use Rattle.fst_worker.proofs.Paths.{paths_once}
+use Rattle.fst_worker.proofs.Ranged.{HasOpened, all_opened}
 use Rattle.fst_worker.proofs.Rights.{goes_right}
 use Rattle.fst_worker.proofs.Sums.{none_sum}
 use Rattle.fst_worker.proofs.Telling.{record_moved, joins}
@@ -249,10 +252,12 @@ module _ (m : Surroundings) (main : Birth) (ys : List Thread) (hs : List Channel
 
 -- the machine can go on at the end of each run
 pub resumes : ResumeLaw
-resumes n ds d a main xs ps over ys told opened k ts hs from are moved numbered =
+resumes n ds d e body a xs ps over ys told k ts hs from are moved numbered =
     let m = surroundings n [] in
+    let main = birth (main_thread e) in
     let j = joins n ds d a main xs ps over ys told in
     let fits = record_moved m a main xs ps over hs moved ys j.record_fits in
+    let opened = all_opened n e body ys hs fits in
     let c = config_of ys hs in
     let sound = j.sound hs moved in
     let goes : GoesRight n c = goes_right n ds d a c sound in
@@ -277,7 +282,7 @@ resumes n ds d a main xs ps over ys told opened k ts hs from are moved numbered 
       goes = goes;
       can_resume = record { source = n; config = c; all = all; right = right };
       within = within;
-      can_run = λ b q e r. record {
+      can_run = λ b q x r. record {
         source = n;
         config = c;
         reflects = r n b c all right (within b q).0 (within b q).1;

@@ -160,7 +160,7 @@ module _ (m : Surroundings) (a : Tree) (main : Birth) (xs : List Thread) (ps : L
     pub finish : Finishes m main xs ps
     pub there : Contains xs x
 
-  all_knowing : All Knows xs
+  pub all_knowing : All Knows xs
   all_knowing = λ k d l. record {
     here = all_here m a main xs ps over k d l;
     know = all_know k d l;
@@ -288,7 +288,7 @@ module _ (m : Surroundings) (a : Tree) (main : Birth) (xs : List Thread) (ps : L
     goes = sends x h.here.0 e 0 d t.state put.bag put.retired said.0 t.leads (sent_at m a main xs ps over x h.here e d t.there t.lacks)
         (late m a main xs ps over x h.here e d t.there t.lacks) is_moved
 
-    told : Becomes x y
+    pub told : Becomes x y
     told = record {
       thread = z;
       same = sym (ap (λ (y : Thread). record y { bag = put.bag; retired = put.retired }) t.is);

@@ -1,24 +1,31 @@
 -- What the machine needs that goes on from the tasks and the closed channels of a run.
-use Rattle.std.specs.Prelude.{◌≡◌, ◌≤◌, ℕ, zero, All, IsPermutation, List, [], ◌∷◌, ⊤}
+use Rattle.std.specs.List.Sorted.{IsNonDecreasingBy}
+use Rattle.std.specs.Prelude.{◌≡◌, ◌≤◌, ℕ, zero, Some, All, Contains, IsPermutation, List, [], ◌∷◌, ⊤}
 use Rattle.fst_types.specs.Tree.{Tree}
+use Rattle.fst_terms.specs.CoreTree.{CoreTree}
 use Rattle.fst_terms.specs.declared.core_module.Module.{Module}
 use Rattle.fst_derivations.specs.Deriv.{Deriv}
 use Rattle.fst_derivations.specs.Modules.{HasDerivations, surroundings}
-use Rattle.fst_derivations.specs.Rules.{Surroundings}
+use Rattle.fst_value.specs.declared.event.ChannelHistory.{ChannelHistory}
+use Rattle.fst_value.specs.declared.event.Entry.{Entry}
 use Rattle.fst_machine.specs.declared.code.Code.{Code}
+use Rattle.fst_machine.specs.declared.request.Answer.TheVariants.{Sent}
+use Rattle.fst_machine.specs.Machine.{State, stuck, pause, answered}
 use Rattle.fst_vm.specs.TaskView.{TaskView}
-use Rattle.fst_vm.specs.Tasks.{IsFrom, IsIn}
-use Rattle.fst_runs.specs.Configs.{Config}
+use Rattle.fst_vm.specs.Tasks.{IsFrom, IsIn, GoesOn}
+use Rattle.fst_runs.specs.Configs.{Config, program, main_body}
 use Rattle.fst_runs.specs.Names.{HasMakers, HasParents}
 use Rattle.fst_process.specs.Kept.{Kept}
 use Rattle.fst_process.specs.Resuming.{Tasks, Histories, AreAll, AreNumbered, TasksWithin, ChannelsWithin, CanResume, IsResumed}
 use Rattle.fst_process.specs.Runs.{RunsRightFrom, CanRunFrom}
+use Rattle.fst_cell.specs.End.{EndView}
 use Rattle.fst_safety.specs.Logs.{Birth}
 use Rattle.fst_safety.specs.Sound.{IsSound}
 use Rattle.fst_safety.specs.Threads.{Thread}
-use Rattle.fst_worker.specs.Works.{opens}
-use Rattle.fst_worker.specs.Records.{Pair, IsOver, histories_of}
-use Rattle.fst_worker.specs.Configs.{config_of, AreTold}
+use Rattle.fst_safety.specs.Turns.{birth}
+use Rattle.fst_worker.specs.Records.{Pair, IsOver, FitsRecord, histories_of, missing}
+use Rattle.fst_worker.specs.Laws.{main_thread}
+use Rattle.fst_worker.specs.Configs.{config_of, Stayed, Told, AreTold}
 
 -- no run from the configuration goes wrong, and its names are those that counts have given
 pub record GoesRight (m : Module) (c : Config) : Type 0 where
@@ -46,9 +53,15 @@ AreTasksOf m k [] (y ∷ ys) = ⊥
 AreTasksOf m k (t ∷ ts) [] = ⊥
 AreTasksOf m k (t ∷ ts) (y ∷ ys) = IsTaskOf m k t.0 t.1 y × AreTasksOf m k ts ys
 
--- each channel that the thread has made has a type
-abbrev pub HasOpened : Surroundings → Thread → Type 0
-HasOpened m y = opens m (λ h d. 1) y ≡ y.now.made
+-- the thread can be told that what its end offers was sent
+pub record Tells (m : Module) (ks : Histories) (x : Thread) : Type 0 where
+  -- this leads to a state that has a next request
+  pub state : State
+  pub leads : answered (program m) x.now.state Sent ≡ Some state
+  pub alive : pause m.families.items state ≡ stuck → ⊥
+  -- the task that has gone on after the answer is that of the thread that was told
+  pub goes_on : (k : Code) (t u : TaskView) (clock : ℕ) → IsFrom m k → IsTaskOf m k t clock x → GoesOn k t Sent u → (y : Thread) →
+      Told (surroundings m []) ks x y → IsTaskOf m k u y.now.clock y
 
 -- no clock of these tasks is over n
 abbrev pub ClocksWithin : ℕ → Tasks → Type 0
@@ -56,6 +69,16 @@ ClocksWithin n [] = ⊤
 ClocksWithin n (t ∷ ts) = (t.1 ≤ n) × ClocksWithin n ts
 
 -- ---- laws
+
+-- the threads of a run whose channels were closed can be told what their ends lack, and are as they were where they lack nothing
+pub record CanTell (m : Module) (ks : Histories) (xs : List Thread) : Type 0 where
+  pub told : All (λ (x : Thread). (e : EndView) (d : Entry) → Contains x.bag e → missing ks e ≡ Some d → Tells m ks x) xs
+  pub stays : (k : Code) (t : TaskView) (clock : ℕ) (x y : Thread) → IsTaskOf m k t clock x → Stayed ks x y → IsTaskOf m k t clock y
+
+-- so it is where all channels of a run were closed
+abbrev pub TellLaw : Type 0
+TellLaw = (m : Module) (ds : List Deriv) → HasDerivations m ds → (a : Tree) (main : Birth) (xs : List Thread) (ps : List Pair) →
+    IsOver (surroundings m []) a main xs ps → CanTell m (histories_of ps) xs
 
 -- tasks and channels that the machine can go on from
 pub record Resumes (m : Module) (k : Code) (ts : Tasks) (hs : Histories) (c : Config) : Type 0 where
@@ -68,11 +91,17 @@ pub record Resumes (m : Module) (k : Code) (ts : Tasks) (hs : Histories) (c : Co
   -- so what is kept of them can run on, after n events
   pub can_run : (n : ℕ) → ClocksWithin n ts → (d : Kept) → IsResumed k ts hs d → CanRunFrom k n d
 
--- where all channels of a run were closed, and each task is told what its end lacks, the machine can go on from the tasks and the
--- closed channels, where these come in the order in which each task has made them
+-- where a run of a module has begun with main's body, all its channels were closed, and each task is told what its end lacks, the
+-- machine can go on from the tasks and the closed channels, where these come in the order in which each task has made them
 abbrev pub ResumeLaw : Type 0
-ResumeLaw = (m : Module) (ds : List Deriv) → HasDerivations m ds → (a : Tree) (main : Birth) (xs : List Thread) (ps : List Pair) →
-    IsOver (surroundings m []) a main xs ps → (ys : List Thread) → AreTold (surroundings m []) (histories_of ps) xs ys →
-    All (HasOpened (surroundings m [])) ys →
+ResumeLaw = (m : Module) (ds : List Deriv) → HasDerivations m ds → (e : CoreTree) → main_body m.globals.items ≡ Some e →
+    (a : Tree) (xs : List Thread) (ps : List Pair) → IsOver (surroundings m []) a (birth (main_thread e)) xs ps →
+    (ys : List Thread) → AreTold (surroundings m []) (histories_of ps) xs ys →
     (k : Code) (ts : Tasks) (hs : Histories) → IsFrom m k → AreTasksOf m k ts ys → IsPermutation (histories_of ps) hs → AreNumbered (λ p. zero) hs →
     Resumes m k ts hs (config_of ys hs)
+
+-- so they come where no number of a channel is less than one before it, whatever tasks have made them
+abbrev pub OrderLaw : Type 0
+OrderLaw = (m : Module) (e : CoreTree) → main_body m.globals.items ≡ Some e → (ys : List Thread) (ks : Histories) →
+    FitsRecord (surroundings m []) (birth (main_thread e)) ys ks →
+    (hs : Histories) → IsPermutation ks hs → IsNonDecreasingBy (λ (k : ChannelHistory). k.name.count) hs → AreNumbered (λ p. zero) hs

@@ -1,6 +1,6 @@
 ghost use Rattle.fst_worker.specs.Laws.{ApartLaw, BeginLaw, EntryLaw, PairLaw, PoolLaw, RecordLaw, WentLaw};
 ghost use Rattle.fst_worker.specs.Configs.{SoundLaw};
-ghost use Rattle.fst_worker.specs.Resumes.{ResumeLaw, RightLaw};
+ghost use Rattle.fst_worker.specs.Resumes.{OrderLaw, ResumeLaw, RightLaw, TellLaw};
 
 /// The task of `main` fits a module that has derivations at the beginning, and it is all there is of the run.
 pub fn begin_law()
@@ -54,8 +54,19 @@ pub fn right_law()
     ensures { RightLaw }
 {}
 
-/// Where the two ends of each channel were closed and each task whose offer was taken is told so, the machine that goes on can be
-/// given the tasks and the closed channels, and none of their numbers is over the greatest clock.
+/// Where a module has run from its beginning, the two ends of each channel were closed and each task whose offer was taken is told
+/// so, the machine that goes on can be given the tasks and the closed channels, and none of their numbers is over the greatest clock.
 pub fn resume_law()
     ensures { ResumeLaw }
+{}
+
+/// The closed channels are in the order in which each task has made them where no number of one is less than one before it.
+pub fn order_law()
+    ensures { OrderLaw }
+{}
+
+/// Where all channels of a run were closed, a task whose offer was taken can be told so: the answer leads to a state that has a next
+/// request, and the task that has gone on is that of the thread.
+pub fn tell_law()
+    ensures { TellLaw }
 {}

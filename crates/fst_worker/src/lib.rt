@@ -13,3 +13,5 @@ pub use law::{
     sound_law, went_law,
 };
 pub use shares::Share;
+    apart_law, begin_law, entry_law, order_law, pair_law, pool_law, record_law, resume_law,
+    right_law, sound_law, tell_law, went_law,
