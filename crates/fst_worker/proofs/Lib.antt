@@ -12,3 +12,7 @@ pub mod Standing
 pub mod Catching
 pub mod Pools
 pub mod Entries
+pub mod Placing
+pub mod Extending
+pub mod Meeting
+pub mod Happening
