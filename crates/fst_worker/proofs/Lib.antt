@@ -16,3 +16,4 @@ pub mod Placing
 pub mod Extending
 pub mod Meeting
 pub mod Happening
+pub mod Stamping
