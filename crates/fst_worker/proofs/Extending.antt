@@ -1,10 +1,9 @@
 -- An event of the machine makes a record that fits one with one more event.
-use Rattle.std.proofs.Common.{◌≡◌, ◌∙◌, ℕ, zero, suc, ◌+◌, ◌^◌, ◌<◌, ◌≤◌, Bool, true, false, not, List, [], ◌∷◌, ◌++◌, length, Option, Some, None, IsSome, refl, sym, ap, subst, arith}
-use Rattle.std.specs.Prelude.{sum_by, All, slice_get, is_some, max}
+use Rattle.std.proofs.Common.{◌≡◌, ◌∙◌, ℕ, suc, ◌+◌, List, [], ◌∷◌, ◌++◌, length, Some, refl, ap, arith}
+use Rattle.std.specs.Prelude.{sum_by, All, slice_get}
 use Rattle.std.specs.Global.{Vec}
 use Rattle.std.proofs.lemmas.List.Elements.{All-cons, All-push}
 use Rattle.std.proofs.lemmas.List.Sums.{sum_by-append, sum_by-cons, sum_by_push}
-use Rattle.std.proofs.lemmas.Option.{none-some, same_Some}
 use denote.RawPtr.{null_ptr}
 use Rattle.fst_types.specs.Tree.{Tree}
 use Rattle.fst_kinds.specs.WellFormed.{IsSession}
@@ -13,20 +12,17 @@ use Rattle.fst_value.specs.declared.ends.ChannelName.{ChannelName}
 use Rattle.fst_value.specs.declared.event.ChannelHistory.{ChannelHistory}
 use Rattle.fst_value.specs.declared.event.Entry.{Entry}
 use Rattle.fst_machine.specs.declared.request.Request.{Request}
-use Rattle.fst_machine.specs.declared.request.Request.TheVariants.{Step, New, Fork, Put, Get}
+use Rattle.fst_machine.specs.declared.request.Request.TheVariants.{Step, New, Fork}
 use Rattle.fst_machine.specs.declared.request.Answer.{Answer}
-use Rattle.fst_machine.specs.declared.request.Answer.TheVariants.{Go, Made, Forked, Sent, Got}
+use Rattle.fst_machine.specs.declared.request.Answer.TheVariants.{Go, Made, Forked}
 use Rattle.fst_machine.specs.Machine.{State, pause, request, answered, or_lost, child}
-use Rattle.fst_runs.specs.Configs.{Path, Task, Channel, Config, same_path, same_channel, child_path, channel_name, new_task}
-use Rattle.fst_runs.specs.Events.{Write, written, moved, Does}
-use Rattle.fst_runs.specs.Wrong.{IsRight}
-use Rattle.fst_runs.specs.declared.event.CoreEvent.TheVariants as event
-use Rattle.fst_runs.proofs.NameLaws.{same_channel-itself}
-use Rattle.fst_runs.proofs.Updates.{put, with_task, with_channel, has_made, has_forked, has_met, local_puts, new_puts, fork_puts, meet_puts}
+use Rattle.fst_runs.specs.Configs.{Path, Task, Config, same_path, child_path, channel_name, new_task}
+use Rattle.fst_runs.specs.Events.{moved}
+use Rattle.fst_runs.proofs.Updates.{put, with_task, with_channel, has_made, has_forked}
 use Rattle.fst_process.specs.Resuming.{channel_in}
 use Rattle.fst_safety.specs.declared.tasks.LogEntry.{LogEntry}
 use Rattle.fst_safety.specs.WellTyped.{program_in}
-use Rattle.fst_safety.specs.Logs.{Birth, Exchange, Opening, Enters, IsAnswered, after_entry, exchanges, openings, opening_of, births, birth_of}
+use Rattle.fst_safety.specs.Logs.{Birth, Exchange, Opening, Enters, after_entry, exchanges, openings, opening_of, births, birth_of}
 use Rattle.fst_safety.specs.Threads.{Thread}
 use Rattle.fst_safety.specs.Turns.{birth}
 use Rattle.fst_safety.specs.Going.{with_entry}
@@ -34,8 +30,8 @@ use Rattle.fst_safety.proofs.ThreadLaws.{follows_more}
 use Rattle.fst_worker.specs.Configs.{task_of, config_of}
 use Rattle.fst_worker.specs.Works.{bears, opens, trades}
 use Rattle.fst_worker.specs.Records.{FitsRecord, IsLogged, IsRecorded, shows}
-use Rattle.fst_worker.specs.Events.{alone, events_of, IsFine, IsRecordOf}
-use Rattle.fst_worker.proofs.Placing.{IsSwapped, IsAt, is_at, put_first, channel_of, channel_behind, sum_swapped, one_swapped, all_swapped}
+use Rattle.fst_worker.specs.Events.{alone, events_of, IsRecordOf}
+use Rattle.fst_worker.proofs.Placing.{IsAt, put_first, channel_behind, sum_swapped, one_swapped, all_swapped}
 use Rattle.fst_worker.proofs.Sums.{exchanges_more, births_more, openings_more}
 
 -- ---- one more entry

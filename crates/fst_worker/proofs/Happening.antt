@@ -1,10 +1,8 @@
 -- Whatever happens, a record that fits becomes one with one more event.
-use Rattle.std.proofs.Common.{◌≡◌, ◌∙◌, ℕ, suc, ◌+◌, ◌^◌, ◌<◌, ◌≤◌, Bool, true, false, List, [], ◌∷◌, ◌++◌, length, Option, Some, None, IsSome, refl, sym, ap, subst, arith}
-use Rattle.std.specs.Prelude.{All, is_some, option_and_then}
+use Rattle.std.proofs.Common.{◌≡◌, ◌∙◌, suc, ◌+◌, ◌^◌, ◌<◌, true, false, List, [], ◌∷◌, ◌++◌, length, Option, Some, IsSome, sym, ap, subst, arith}
+use Rattle.std.specs.Prelude.{is_some, option_and_then}
 use Rattle.std.proofs.lemmas.Option.{same_Some}
-use Rattle.fst_types.specs.Tree.{Tree}
-use Rattle.fst_lts.specs.Histories.{after_history, sending}
-use Rattle.fst_lts.specs.Step.{step}
+use Rattle.fst_lts.specs.Histories.{after_history}
 use Rattle.fst_derivations.specs.Rules.{Surroundings}
 use Rattle.fst_value.specs.declared.ends.ChannelName.{ChannelName}
 use Rattle.fst_value.specs.declared.ends.EndName.{EndName}
@@ -12,7 +10,7 @@ use Rattle.fst_value.specs.declared.event.ChannelHistory.{ChannelHistory}
 use Rattle.fst_value.specs.declared.event.Event.{Event}
 use Rattle.fst_machine.specs.declared.request.Request.{Request}
 use Rattle.fst_machine.specs.declared.request.Request.TheVariants.{Put, Get}
-use Rattle.fst_machine.specs.Machine.{State, request}
+use Rattle.fst_machine.specs.Machine.{request}
 use Rattle.fst_runs.specs.declared.event.CoreEvent.{CoreEvent}
 use Rattle.fst_runs.specs.declared.event.CoreEvent.TheVariants.{Local, New, Fork, Meet}
 use Rattle.fst_runs.specs.Configs.{Path, Task, Channel, Config, same_path, other, channel_name, channel_residual, residual_in}
@@ -30,7 +28,7 @@ use Rattle.fst_worker.specs.Records.{FitsRecord}
 use Rattle.fst_worker.specs.Events.{events_of, IsWithin, AreWithin, IsFine, IsRecordOf}
 use Rattle.fst_worker.proofs.Extending.{entries_of, ones_tasks, local_extends, new_extends, fork_extends}
 use Rattle.fst_worker.proofs.Meeting.{side_sends, meet_stamp, put_ones, put_now, meet_extends}
-use Rattle.fst_worker.proofs.Placing.{IsAt, IsChannelAt, is_at, is_channel_at, channel_of, one_swapped, le_swapped}
+use Rattle.fst_worker.proofs.Placing.{IsChannelAt, is_at, is_channel_at, one_swapped, le_swapped}
 
 -- a task that asks to send and one that asks to receive aren't one
 not_both_ask : {a : Option Request} (x y : EndName) (ev : Event) → a ≡ Some (Put x ev) → a ≡ Some (Get y) → ⊥

@@ -17,3 +17,4 @@ pub mod Extending
 pub mod Meeting
 pub mod Happening
 pub mod Stamping
+pub mod AlongRuns

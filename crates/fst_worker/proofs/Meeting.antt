@@ -1,12 +1,11 @@
 -- Where two tasks meet, a record that fits becomes one with one more event.
-use Rattle.std.proofs.Common.{◌≡◌, ◌∙◌, ℕ, zero, suc, ◌+◌, ◌^◌, ◌<◌, ◌≤◌, Bool, true, false, not, List, [], ◌∷◌, ◌++◌, length, Option, Some, None, IsSome, refl, sym, ap, subst, arith}
-use Rattle.std.specs.Prelude.{sum_by, All, max}
+use Rattle.std.proofs.Common.{◌≡◌, ◌∙◌, ℕ, suc, ◌+◌, ◌^◌, ◌<◌, Bool, true, false, not, List, [], ◌∷◌, ◌++◌, length, Some, IsSome, refl, sym, ap, arith}
+use Rattle.std.specs.Prelude.{All}
 use Rattle.std.specs.Global.{Vec}
 use Rattle.fst_base.proofs.Lists.{length-push}
-use Rattle.fst_types.specs.Tree.{Tree}
 use Rattle.fst_types.specs.declared.side.Side.{Side}
 use Rattle.fst_types.specs.declared.side.Side.TheVariants.{Left, Right}
-use Rattle.fst_lts.specs.Histories.{after_history, last_stamp, opposite, side_type}
+use Rattle.fst_lts.specs.Histories.{after_history, opposite, side_type}
 use Rattle.fst_derivations.specs.Rules.{Surroundings}
 use Rattle.fst_value.specs.declared.ends.ChannelName.{ChannelName}
 use Rattle.fst_value.specs.declared.ends.EndName.{EndName}
@@ -16,7 +15,7 @@ use Rattle.fst_value.specs.declared.event.Event.{Event}
 use Rattle.fst_machine.specs.declared.request.Request.TheVariants.{Put, Get}
 use Rattle.fst_machine.specs.declared.request.Answer.TheVariants.{Sent, Got}
 use Rattle.fst_machine.specs.Machine.{State, request, answered, or_lost}
-use Rattle.fst_runs.specs.Configs.{Path, Task, Channel, Config, same_path, same_channel, other, channel_residual}
+use Rattle.fst_runs.specs.Configs.{Path, Task, Channel, same_path, other, channel_residual}
 use Rattle.fst_runs.specs.Events.{meeting_stamp, extended}
 use Rattle.fst_runs.proofs.Updates.{put, with_task, with_channel, has_met, passed}
 use Rattle.fst_cell.specs.Residuals.{residual, sends}
@@ -24,11 +23,11 @@ use Rattle.fst_cell.proofs.StampLaws.{stamped_push}
 use Rattle.fst_safety.specs.WellTyped.{program_in}
 use Rattle.fst_safety.specs.Logs.{Birth, Exchange, part_in}
 use Rattle.fst_safety.specs.Threads.{Thread}
-use Rattle.fst_worker.specs.Configs.{task_of, config_of}
+use Rattle.fst_worker.specs.Configs.{config_of}
 use Rattle.fst_worker.specs.Records.{FitsRecord, IsLogged, IsRecorded, shows}
 use Rattle.fst_worker.specs.Events.{events_of, IsRecordOf}
 use Rattle.fst_worker.proofs.Entries.{sides_send, trace_at}
-use Rattle.fst_worker.proofs.Extending.{Grows, grown, entries_of, entry, one, ones, ones_logged, ones_are, ones_bear, ones_open, ones_trade, ones_happen, ones_tasks}
+use Rattle.fst_worker.proofs.Extending.{Grows, grown, entries_of, one, ones, ones_logged, ones_are, ones_bear, ones_open, ones_trade, ones_happen, ones_tasks}
 use Rattle.fst_worker.proofs.Placing.{IsAt, IsChannelAt, channel_of, sum_swapped, one_swapped, all_swapped}
 use Rattle.fst_worker.proofs.Shown.{parts_push}
 

@@ -17,7 +17,7 @@ use Rattle.fst_machine.specs.declared.request.Request.TheVariants.{Step, New, Fo
 use Rattle.fst_machine.specs.declared.request.Answer.{Answer}
 use Rattle.fst_machine.specs.declared.request.Answer.TheVariants.{Go, Made, Forked, Sent, Got}
 use Rattle.fst_machine.specs.Machine.{Program, State, pause, child}
-use Rattle.fst_runs.specs.Configs.{Path, Task, same_channel, channel_name, child_path}
+use Rattle.fst_runs.specs.Configs.{Path, Task, same_channel, child_path}
 use Rattle.fst_runs.specs.Wrong.{once}
 use Rattle.fst_cell.specs.Residuals.{residual, sends}
 use Rattle.fst_cell.specs.Stamps.{AreStamped}
@@ -25,17 +25,17 @@ use Rattle.fst_process.specs.Reflects.{StampedTo}
 use Rattle.fst_process.specs.Resuming.{ChannelsWithin}
 use Rattle.fst_safety.specs.declared.tasks.LogEntry.{LogEntry}
 use Rattle.fst_safety.specs.WellTyped.{program_in}
-use Rattle.fst_safety.specs.Logs.{Birth, Exchange, Opening, Follows, IsAnswered, after_entry, made_after, forks_after, exchanged_by, exchanges, opened_by, opening_of, openings, birth_of, born_by, births, part_in, parts_in, then_after}
+use Rattle.fst_safety.specs.Logs.{Birth, Exchange, Opening, Follows, IsAnswered, after_entry, made_after, exchanged_by, exchanges, opened_by, opening_of, openings, birth_of, born_by, births, part_in, parts_in, then_after}
 use Rattle.fst_safety.specs.Threads.{Thread}
 use Rattle.fst_safety.specs.Turns.{birth}
 use Rattle.fst_safety.proofs.ThreadLaws.{later, few_made, few_forks}
 use Rattle.fst_worker.specs.Works.{bears, opens, trades}
 use Rattle.fst_worker.specs.Records.{FitsRecord, IsLogged, IsRecorded, shows}
-use Rattle.fst_worker.specs.Entries.{Correspond, IsExchanged, part_at}
+use Rattle.fst_worker.specs.Entries.{IsExchanged, part_at}
 use Rattle.fst_worker.specs.Events.{alone, events_of, IsWithin, AreWithin, StampLaw}
 use Rattle.fst_worker.proofs.Entries.{corresponds}
 use Rattle.fst_worker.proofs.Sums.{sum_both, some_in}
-use Rattle.fst_worker.proofs.Tests.{channel_or, channel_counts, counts_or, small, there_sums}
+use Rattle.fst_worker.proofs.Tests.{channel_or, channel_counts, counts_or, there_sums}
 
 -- ---- numbers
 

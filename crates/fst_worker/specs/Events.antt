@@ -1,5 +1,5 @@
 -- What a record of a run becomes where an event of the machine happens, and how many events it has.
-use Rattle.std.specs.Prelude.{◌≡◌, ℕ, zero, suc, ◌+◌, ◌^◌, ◌<◌, ◌≤◌, List, [], ◌∷◌, Some, All, length, sum_by}
+use Rattle.std.specs.Prelude.{◌≡◌, ℕ, suc, ◌+◌, ◌^◌, ◌<◌, ◌≤◌, List, [], ◌∷◌, Some, All, length, sum_by}
 use Rattle.fst_types.specs.Tree.{Tree}
 use Rattle.fst_kinds.specs.WellFormed.{IsSession}
 use Rattle.fst_terms.specs.declared.core_module.Module.{Module}
@@ -10,7 +10,6 @@ use Rattle.fst_value.specs.declared.ends.ChannelName.{ChannelName}
 use Rattle.fst_value.specs.declared.event.ChannelHistory.{ChannelHistory}
 use Rattle.fst_machine.specs.declared.request.Answer.{Answer}
 use Rattle.fst_machine.specs.declared.request.Answer.TheVariants.{Go, Made, Forked, Sent, Got}
-use Rattle.fst_machine.specs.Machine.{Program}
 use Rattle.fst_runs.specs.declared.event.CoreEvent.{CoreEvent}
 use Rattle.fst_runs.specs.Configs.{Channel, Config, program}
 use Rattle.fst_runs.specs.Events.{Write, written, Does, Runs, IsLast}
@@ -102,11 +101,14 @@ abbrev pub FineLaw : Type 0
 FineLaw = (m : Module) (ds : List Deriv) → HasDerivations m ds → (a : Tree) (c : Config) → IsSound (surroundings m []) a c →
     StaysFine (surroundings m []) c
 
--- the answer is that of a record that fits: the report of its configuration, in which no event is possible, or that it has more events
+-- the answer is that of a record that fits: a report of its configuration, where no event is possible in that and it has at most so
+-- many events, or that it has more
 abbrev pub IsRecordAnswer : Module → Birth → ℕ → Outcome → Type 0
-IsRecordAnswer m main steps (Done r) = (c : Config) × (n : ℕ) × IsRecordOf (surroundings m []) main c n × IsLast (program m) m.types.items c × (n ≤ steps) ×
-    IsReport (program m) c n r
-IsRecordAnswer m main steps OutOfSteps = (c : Config) × (n : ℕ) × IsRecordOf (surroundings m []) main c n × (steps < n)
+IsRecordAnswer m main steps (Done r) =
+    (ys : List Thread) × (ks : List ChannelHistory) × FitsRecord (surroundings m []) main ys ks × IsLast (program m) m.types.items (config_of ys ks) ×
+    (events_of ys ks ≤ steps) × IsReport (program m) (config_of ys ks) (events_of ys ks) r
+IsRecordAnswer m main steps OutOfSteps =
+    (ys : List Thread) × (ks : List ChannelHistory) × FitsRecord (surroundings m []) main ys ks × (steps < events_of ys ks)
 
 -- what the least run from a record's configuration comes to, where its events count among the steps, is such an answer
 abbrev pub AnswerLaw : Type 0

@@ -1,3 +1,4 @@
+ghost use Rattle.fst_worker.specs.Events.{AnswerLaw, ExtendsLaw, FineLaw, RunsLaw, StampLaw};
 ghost use Rattle.fst_worker.specs.Laws.{ApartLaw, BeginLaw, EntryLaw, PairLaw, PoolLaw, RecordLaw, WentLaw};
 
 /// The task of `main` fits a module that has derivations at the beginning, and it is all there is of the run.
@@ -39,4 +40,34 @@ pub fn record_law()
 /// task's clock; and each entry was sent by a task at the one end and received by a task at the other.
 pub fn entry_law()
     ensures { EntryLaw }
+{}
+
+/// In a record that fits no clock of a task, no count of the tasks and channels that a task has made, no number of a channel and
+/// no stamp of an entry is over the number of the record's events: the entries for what a task does alone, and the entries of
+/// the histories.
+pub fn stamp_law()
+    ensures { StampLaw }
+{}
+
+/// Where an event is possible in the configuration of a record that fits, and nothing is wrong before and after it, there is a
+/// record that fits with one event more, whose configuration is the one after the event.
+pub fn extends_law()
+    ensures { ExtendsLaw }
+{}
+
+/// So what a run leads to from the configuration of a record that fits is the configuration of one with as many more events.
+pub fn runs_law()
+    ensures { RunsLaw }
+{}
+
+/// All runs of a module that has derivations lead from a sound configuration to those in which nothing is wrong.
+pub fn fine_law()
+    ensures { FineLaw }
+{}
+
+/// What the least run comes to from the configuration of a record that fits, where the record's events count among the steps,
+/// is the report of a record that fits in whose configuration no event is possible, or that a record that fits has more events
+/// than steps.
+pub fn answer_law()
+    ensures { AnswerLaw }
 {}
