@@ -510,7 +510,12 @@ module _ (m : Surroundings) (main : Birth) (ys : List Thread) (ks : List Channel
       let d = counts_below (program_in m) y.path y.first y.log y.now l.follows (omega (arith, a)) (omega (arith, b)) in
       let e = d.0 in
       let f = d.1 in
-      record { clock = c; forked = omega (arith, c, f); made = omega (arith, c, e) }
+      record {
+        clock = c;
+        forked = omega (arith, c, f);
+        made = omega (arith, c, e);
+        stamps = All-weaker (λ (e : LogEntry). Hit e.stamp) (λ (e : LogEntry). e.stamp ≤ events_of ys ks) (λ e h. few e.stamp h) y.log (log_hits y i);
+      }
 
   channel_within : (k : ChannelHistory) → Contains ks k → ChannelWithin (events_of ys ks) k
   channel_within k i =
@@ -520,9 +525,11 @@ module _ (m : Surroundings) (main : Birth) (ys : List Thread) (ks : List Channel
       let b = fits.channels w in
       let r = some_in (opens m w) ys (omega (arith, a, o, b)) in
       let d = opened_below m.types k.name (program_in m) r.0.path r.0.first r.0.log r.0.now (logged r.0 r.1).follows r.2 in
-      let e = (task_within r.0 r.1).made in
-      (omega (arith, d, e), stamped_to (events_of ys ks) k.entries.items
-      (All-weaker (λ (e : Entry). Hit e.stamp) (λ (e : Entry). e.stamp ≤ events_of ys ks) (λ e h. few e.stamp h) k.entries.items (history_hits k i)))
+      let e = (task_within r.0 r.1).made in (
+        omega (arith, d, e),
+        stamped_to (events_of ys ks) k.entries.items
+            (All-weaker (λ (e : Entry). Hit e.stamp) (λ (e : Entry). e.stamp ≤ events_of ys ks) (λ e h. few e.stamp h) k.entries.items (history_hits k i)),
+      )
 
   -- nothing is
   pub all_within : AreWithin (events_of ys ks) ys ks

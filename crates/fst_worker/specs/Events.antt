@@ -41,13 +41,14 @@ abbrev pub events_of : List Thread → List ChannelHistory → ℕ
 events_of ys ks =
     sum_by (λ (y : Thread). sum_by (λ (e : LogEntry). alone e.answer) y.log) ys + sum_by (λ (k : ChannelHistory). length k.entries.items) ks
 
--- the task's clock, and how many tasks it has forked and channels it has made, are not over n
+-- the task's clock, how many tasks it has forked and channels it has made, and the stamps of its log are not over n
 pub record IsWithin (n : ℕ) (y : Thread) : Type 0 where
   pub clock : y.now.clock ≤ n
   pub forked : y.now.forked ≤ n
   pub made : y.now.made ≤ n
+  pub stamps : All (λ (e : LogEntry). e.stamp ≤ n) y.log
 
--- so it is with each of these, and no number of a channel and no stamp of an entry is over n
+-- so it is with each of these, and no number of these channels and no stamp of what passed over them is over n
 pub record AreWithin (n : ℕ) (ys : List Thread) (ks : List ChannelHistory) : Type 0 where
   pub tasks : All (IsWithin n) ys
   pub channels : ChannelsWithin n ks
