@@ -102,8 +102,7 @@ abbrev pub FineLaw : Type 0
 FineLaw = (m : Module) (ds : List Deriv) → HasDerivations m ds → (a : Tree) (c : Config) → IsSound (surroundings m []) a c →
     StaysFine (surroundings m []) c
 
--- the answer is that of a record that fits: a report of its configuration, where no event is possible in that and it has at most so
--- many events, or that it has more
+-- the report of a record that fits, has at most so many events and allows no other, or that one that fits has more
 abbrev pub IsRecordAnswer : Module → Birth → ℕ → Outcome → Type 0
 IsRecordAnswer m main steps (Done r) =
     (ys : List Thread) × (ks : List ChannelHistory) × FitsRecord (surroundings m []) main ys ks × IsLast (program m) m.types.items (config_of ys ks) ×
