@@ -130,7 +130,7 @@ residual_is s t h = refl
 -- ---- who sends
 
 -- an event by which a type goes on, behind a trace
-trace_at : (t : Tree) (before : List Entry) (e : Entry) (behind : List Entry) → IsSome (after_history t (before ++ e ∷ behind)) →
+pub trace_at : (t : Tree) (before : List Entry) (e : Entry) (behind : List Entry) → IsSome (after_history t (before ++ e ∷ behind)) →
     (s : Tree) × (after_history t before ≡ Some s) × IsSome (after_event s e.event)
 trace_at t [] e behind h = (t, refl, by (after_event t e.event) h)
   where
@@ -156,7 +156,7 @@ either_sends s ev h = by (step s (sending ev)) refl (step s (receiving ev)) refl
     by (Some t) p None q h = refl
     by (Some t) p (Some u) q h = absurd (cc (sym p ∙ not_both s u ev q))
 
-sides_send : (t : Tree) (before : List Entry) (s : Tree) (ev : Event) → after_history t before ≡ Some s → IsSome (after_event s ev) →
+pub sides_send : (t : Tree) (before : List Entry) (s : Tree) (ev : Event) → after_history t before ≡ Some s → IsSome (after_event s ev) →
     sends (residual Left t before) ev ≡ not (sends (residual Right t before) ev)
 unfolding residual sends
 sides_send t before s ev q h =

@@ -28,3 +28,9 @@ pub mod News
 pub mod Ranged
 pub mod Ordering
 pub mod Answering
+pub mod Placing
+pub mod Extending
+pub mod Meeting
+pub mod Happening
+pub mod Stamping
+pub mod AlongRuns

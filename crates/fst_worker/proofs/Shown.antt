@@ -11,7 +11,7 @@ use Rattle.fst_cell.specs.End.{EndView, end_name, residual_of}
 use Rattle.fst_safety.specs.Logs.{Exchange, part_in, parts_in, shown}
 use Rattle.fst_worker.specs.Records.{shown_of, lag_by}
 
-parts_push : (w : Exchange → ℕ) (n : EndName) (o : Option Tree) (h : List Entry) (d : Entry) →
+pub parts_push : (w : Exchange → ℕ) (n : EndName) (o : Option Tree) (h : List Entry) (d : Entry) →
     sum_by w (parts_in n o (h ++ d ∷ [])) ≡ sum_by w (parts_in n o h) + w (part_in n (sends (option_and_then (λ t. after_history t h) o) d.event) d)
 parts_push w n None [] d = omega arith
 parts_push w n (Some t) [] d = omega arith

@@ -9,3 +9,5 @@ pub mod Resumes
 pub mod Laws
 pub mod Closing
 pub mod Ending
+pub mod Configs
+pub mod Events
