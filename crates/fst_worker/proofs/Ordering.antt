@@ -23,7 +23,7 @@ use Rattle.fst_safety.specs.Turns.{birth}
 use Rattle.fst_safety.specs.WellTyped.{program_in}
 use Rattle.fst_worker.specs.Works.{opens}
 use Rattle.fst_worker.specs.Records.{FitsRecord, IsLogged}
-use Rattle.fst_worker.specs.Laws.{main_thread}
+use Rattle.fst_safety.specs.Tasks.{main_thread}
 use Rattle.fst_worker.specs.Resumes.{OrderLaw}
 use Rattle.fst_worker.proofs.Counting.{IsMadeBy, opened_in}
 use Rattle.fst_worker.proofs.Entries.{corresponds}

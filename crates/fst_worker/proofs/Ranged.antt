@@ -29,7 +29,7 @@ use Rattle.fst_safety.specs.Threads.{Thread}
 use Rattle.fst_safety.specs.Turns.{birth}
 use Rattle.fst_worker.specs.Works.{bears, opens}
 use Rattle.fst_worker.specs.Records.{FitsRecord, IsLogged}
-use Rattle.fst_worker.specs.Laws.{main_thread}
+use Rattle.fst_safety.specs.Tasks.{main_thread}
 use Rattle.fst_worker.proofs.News.{absent, lacks, lacks_in, lacks_below, wants_state, wants_pause, HasAll, pause_none, after_none, child_none, type_there}
 use Rattle.fst_worker.proofs.Paths.{at_path, IsFork, is_fork, few_births, none_born, no_child, not_first, of_name, IsNew, is_new}
 use Rattle.fst_worker.proofs.Sums.{sum_none, none_in_sum, some_in}

@@ -30,7 +30,7 @@ use Rattle.fst_safety.proofs.SoundLaws.{sound_right}
 use Rattle.fst_worker.specs.Works.{opens}
 use Rattle.fst_worker.specs.Entries.{part_at}
 use Rattle.fst_worker.specs.Records.{FitsRecord, IsLogged}
-use Rattle.fst_worker.specs.Laws.{main_thread}
+use Rattle.fst_safety.specs.Tasks.{main_thread}
 use Rattle.fst_worker.specs.Configs.{task_of, config_of, AreSame}
 use Rattle.fst_worker.specs.Resumes.{GoesRight, AreTasksOf, ClocksWithin, ResumeLaw}
 use Rattle.fst_worker.proofs.Dated.{StampedBy, stamped_by, of_maker, others_made, own_made}

@@ -9,5 +9,4 @@ pub mod Resumes
 pub mod Laws
 pub mod Closing
 pub mod Ending
-pub mod Configs
 pub mod Events

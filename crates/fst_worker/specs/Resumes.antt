@@ -24,7 +24,7 @@ use Rattle.fst_safety.specs.Sound.{IsSound}
 use Rattle.fst_safety.specs.Threads.{Thread}
 use Rattle.fst_safety.specs.Turns.{birth}
 use Rattle.fst_worker.specs.Records.{Pair, IsOver, FitsRecord, histories_of, missing}
-use Rattle.fst_worker.specs.Laws.{main_thread}
+use Rattle.fst_safety.specs.Tasks.{main_thread}
 use Rattle.fst_worker.specs.Configs.{config_of, Stayed, Told, AreTold}
 
 -- no run from the configuration goes wrong, and its names are those that counts have given

@@ -53,32 +53,48 @@ pub fn sound_law()
 /// No run from a sound configuration of a module that has derivations goes wrong.
 pub fn right_law()
     ensures { RightLaw }
+{}
+
 /// Where a module has run from its beginning, the two ends of each channel were closed and each task whose offer was taken is told
 /// so, the machine that goes on can be given the tasks and the closed channels, and none of their numbers is over the greatest clock.
 pub fn resume_law()
     ensures { ResumeLaw }
+{}
+
 /// The closed channels are in the order in which each task has made them where no number of one is less than one before it.
 pub fn order_law()
     ensures { OrderLaw }
+{}
+
 /// Where all channels of a run were closed, a task whose offer was taken can be told so: the answer leads to a state that has a next
 /// request, and the task that has gone on is that of the thread.
 pub fn tell_law()
     ensures { TellLaw }
+{}
+
 /// In a record that fits no clock of a task, no count of the tasks and channels that a task has made, no number of a channel and
 /// no stamp of an entry is over the number of the record's events: the entries for what a task does alone, and the entries of
 /// the histories.
 pub fn stamp_law()
     ensures { StampLaw }
+{}
+
 /// Where an event is possible in the configuration of a record that fits, and nothing is wrong before and after it, there is a
 /// record that fits with one event more, whose configuration is the one after the event.
 pub fn extends_law()
     ensures { ExtendsLaw }
+{}
+
 /// So what a run leads to from the configuration of a record that fits is the configuration of one with as many more events.
 pub fn runs_law()
     ensures { RunsLaw }
+{}
+
 /// All runs of a module that has derivations lead from a sound configuration to those in which nothing is wrong.
 pub fn fine_law()
     ensures { FineLaw }
+{}
+
 /// What the least run comes to from the configuration of a record that fits, where the record's events count among the steps,
 /// is the report of a record that fits in whose configuration no event is possible, or that a record that fits has more events
 /// than steps.

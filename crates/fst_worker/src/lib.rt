@@ -9,9 +9,8 @@ mod law;
 mod shares;
 
 pub use law::{
-    apart_law, begin_law, entry_law, pair_law, pool_law, record_law, resume_law, right_law,
-    sound_law, went_law,
+    answer_law, apart_law, begin_law, entry_law, extends_law, fine_law, order_law, pair_law,
+    pool_law, record_law, resume_law, right_law, runs_law, sound_law, stamp_law, tell_law,
+    went_law,
 };
 pub use shares::Share;
-    apart_law, begin_law, entry_law, order_law, pair_law, pool_law, record_law, resume_law,
-    right_law, sound_law, tell_law, went_law,
