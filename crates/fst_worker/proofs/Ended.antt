@@ -1,5 +1,5 @@
 -- What the caller has when all channels of a run were closed.
-use Rattle.std.proofs.Common.{◌≡◌, ◌⊎◌, inl, inr, ℕ, List, [], ◌∷◌, map, refl, sym, ap, ◌∙◌, subst, arith}
+use Rattle.std.proofs.Common.{◌≡◌, ◌⊎◌, inl, inr, ℕ, List, [], ◌∷◌, map, refl, ap, ◌∙◌, arith}
 use Rattle.std.specs.Prelude.{sum_by, Contains}
 use Rattle.std.proofs.lemmas.List.{length-map}
 use Rattle.std.proofs.lemmas.List.Elements.{Contains-append_right}
@@ -17,7 +17,7 @@ use Rattle.fst_worker.specs.Records.{Pair, IsOver, histories_of}
 use Rattle.fst_worker.specs.Closing.{AreClosedTo}
 
 -- what closing a pair gave
-abbrev closed_of : Pair → Closed
+abbrev pub closed_of : Pair → Closed
 closed_of p = p.closed
 
 histories_same : (ps : List Pair) → histories_of ps ≡ map (λ (c : Closed). c.history) (map closed_of ps)
@@ -29,9 +29,14 @@ pair_or : (c : Closed) (p : Pair) (ps : List Pair) → (closed_of p ≡ c) ⊎ C
 pair_or c p ps (inl e) more = (p, (0, omega arith, refl), e)
 pair_or c p ps (inr i) more = let r = more i in (r.0, Contains-append_right (p ∷ []) ps r.0 r.1, r.2)
 
-pair_in : (c : Closed) (ps : List Pair) → Contains (map closed_of ps) c → (q : Pair) × Contains ps q × (closed_of q ≡ c)
+-- a closed channel is that of a pair
+pub pair_in : (c : Closed) (ps : List Pair) → Contains (map closed_of ps) c → (q : Pair) × Contains ps q × (closed_of q ≡ c)
 pair_in c [] i = absurd (contains_none c i)
 pair_in c (p ∷ ps) i = pair_or c p ps (from_contains (map closed_of ps) c (closed_of p) i) (pair_in c ps)
+
+-- that of each pair is there
+pub closed_in : (ps : List Pair) (p : Pair) → Contains ps p → Contains (map closed_of ps) p.closed
+closed_in ps p (i, l, is) = let n = length-map ps closed_of in (i, omega (arith, n, l), get_or-map closed_of ps i p ∙ ap closed_of is)
 
 module _ (es : List EndView) (cs : List Closed) (k : AreClosedTo es cs) where
   -- the run whose ends these are is over, with the pairs
@@ -42,13 +47,3 @@ module _ (es : List EndView) (cs : List Closed) (k : AreClosedTo es cs) where
   -- the histories of the pairs are those of the closed channels
   pub histories : histories_of k.pairs ≡ map (λ (c : Closed). c.history) cs
   histories = histories_same k.pairs ∙ ap (map (λ (c : Closed). c.history)) k.closed
-
-  -- a closed channel is that of a pair
-  pub pair_of_closed : (c : Closed) → Contains cs c → (p : Pair) × Contains k.pairs p × (p.closed ≡ c)
-  pair_of_closed c i = pair_in c k.pairs (subst (λ xs. Contains xs c) (sym k.closed) i)
-
-  -- that of each pair is there
-  pub closed_of_pair : (p : Pair) → Contains k.pairs p → Contains cs p.closed
-  closed_of_pair p (i, l, is) =
-      let n = length-map k.pairs closed_of in
-      subst (λ xs. Contains xs p.closed) k.closed (i, omega (arith, n, l), get_or-map closed_of k.pairs i p ∙ ap closed_of is)

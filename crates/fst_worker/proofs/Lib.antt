@@ -17,13 +17,14 @@ pub mod Found
 pub mod Counting
 pub mod Soundness
 pub mod Telling
+pub mod ToldAll
 pub mod Rights
 pub mod Dated
 pub mod Resuming
 pub mod NameOrder
 pub mod InOrder
 pub mod Ended
-pub mod Barely
+pub mod Stripped
 pub mod News
 pub mod Ranged
 pub mod Ordering

@@ -1,0 +1,41 @@
+use Rattle.std.proofs.Common.{sym, subst, arith}
+use Rattle.std.proofs.lemmas.List.{nil_from_length}
+use Rattle.std.specs.Vec.Iter.{into_iter_items}
+use Rattle.fst_worker.proofs.ToldAll.{IsToldAsFar, none_told, all_told, tellable, told_next}
+use Rattle.fst_worker.proofs.ending.tell_all.Goals as goal
+
+pub loop-one-init : goal.loop-one-init
+loop-one-init c = λ d.
+    let k = c.args.code.now in
+    let bs = c.args.bare.items in
+    let cs = c.args.closed.now in
+    subst (λ rs. IsToldAsFar k bs cs d rs c.new-tasks.result.items) (sym c.into_iter-one-iterator.ensures.into_iter_gives.0)
+    (subst (IsToldAsFar k bs cs d bs) (sym c.new-tasks.ensures.items) (none_told k bs cs d))
+
+pub tell-requires-clause-can : goal.tell-requires-clause-can
+tell-requires-clause-can c =
+    let k = c.args.code.now in
+    let bs = c.args.bare.items in
+    let cs = c.args.closed.now in
+    let d = c.requires.can in
+    let ts = c.loop-one.tasks.items in
+    tellable k bs cs d c.in-Some.one (into_iter_items c.next.new.self) ts (subst (λ rs. IsToldAsFar k bs cs d rs ts) c.in-Some.ensures.steps.0 (c.loop-one.invariant d))
+
+pub loop-one-preserved : goal.loop-one-preserved
+loop-one-preserved c = λ d.
+    let k = c.args.code.now in
+    let bs = c.args.bare.items in
+    let cs = c.args.closed.now in
+    let ts = c.loop-one.tasks.items in
+    let b = c.in-Some.one in
+    let rs = into_iter_items c.next.new.self in
+    let so = subst (λ rs. IsToldAsFar k bs cs d rs ts) c.in-Some.ensures.steps.0 (c.loop-one.invariant d) in
+    subst (IsToldAsFar k bs cs d rs) (sym c.in_ok-push.ensures.items) (told_next k bs cs d b rs ts so c.in_ok-tell.field-0.0 c.in_ok-tell.field-0.1 c.in_ok-tell.ensures)
+
+pub returns : goal.returns
+returns c = λ d.
+    let k = c.args.code.now in
+    let bs = c.args.bare.items in
+    let cs = c.args.closed.now in
+    let ts = c.loop-one.tasks.items in
+    all_told k bs cs d ts (subst (λ rs. IsToldAsFar k bs cs d rs ts) (nil_from_length (into_iter_items c.loop-one.one-iterator) (omega (arith, c.in-None.ensures.steps.0, c.loop-one.one-iterator.rest.ok.0))) (c.loop-one.invariant d))
