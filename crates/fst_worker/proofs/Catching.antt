@@ -25,7 +25,7 @@ use Rattle.fst_safety.specs.declared.tasks.LogEntry.{LogEntry}
 use Rattle.fst_safety.specs.WellTyped.{program_in}
 use Rattle.fst_safety.specs.Logs.{Birth, Exchange, Opening, births, exchanges, openings}
 use Rattle.fst_safety.specs.Threads.{Thread, FitsIn, FitsEnd, count_of}
-use Rattle.fst_safety.specs.Turns.{of_ends, by_type, by_exchanges, birth}
+use Rattle.fst_safety.specs.Turns.{of_ends, by_exchanges, birth}
 use Rattle.fst_safety.specs.Going.{with_entry}
 use Rattle.fst_safety.proofs.ThreadLaws.{follows_more}
 use Rattle.fst_worker.specs.Works.{bears, opens, trades}
@@ -33,7 +33,7 @@ use Rattle.fst_worker.specs.Records.{FitsRecord, IsLogged, IsRecorded, Pair, IsS
 use Rattle.fst_worker.specs.Laws.{Finishes, RecordLaw}
 use Rattle.fst_worker.proofs.Partners.{counted, in_bag}
 use Rattle.fst_worker.proofs.Shown.{shown_more}
-use Rattle.fst_worker.proofs.Shutting.{IsBehind, EndsPass, settled, shut_type, by_histories, all_histories, all_settled, all_behind, idle_level, lacking_waits}
+use Rattle.fst_worker.proofs.Shutting.{IsBehind, EndsPass, settled, by_histories, are_opened, all_histories, all_settled, all_behind, idle_level, lacking_waits}
 use Rattle.fst_worker.proofs.Standing.{as_closed, all_as_closed, waits_so}
 use Rattle.fst_worker.proofs.Sums.{exchanges_more, births_more, openings_more, some_in, sum_none, sum_both}
 use Rattle.fst_worker.proofs.Tests.{end_or, end_counts, there_sums}
@@ -329,11 +329,9 @@ module _ (m : Surroundings) (a : Tree) (main : Birth) (xs : List Thread) (ps : L
         omega (arith, p, q, over.run.whole.births w);
     logs = logged xs ys over.run.fit caught;
     channels = λ w.
-        let p = over.paired (by_type Left w) in
-        let q = by_histories (λ (p : Pair). by_type Left w p.left + by_type Left w p.right)
-        (λ (k : ChannelHistory). w k.name k.declared) IsShut (shut_type w) ps over.shut in
+        let q = are_opened m a main xs ps over w in
         let r = same_sums (opens m w) (opens m w) (λ x y f c. opens_caught w x y c) xs ys over.run.fit caught in
-        omega (arith, p, q, r, over.run.whole.typed Left w);
+        omega (arith, q, r);
     exchanged = λ w.
         let p = over.paired (weighed w) in
         let q = by_histories (λ (p : Pair). weighed w p.left + weighed w p.right) (shows w) Both (pair_shows w) ps all_both in

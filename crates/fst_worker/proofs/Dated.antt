@@ -1,7 +1,8 @@
 -- No stamp of what a log exchanges is later than the task's clock, and the channels that it opens are the task's.
-use Rattle.std.proofs.Common.{◌≡◌, ◌∙◌, inl, inr, ◌≤◌, ℕ, List, [], ◌∷◌, Option, Some, None, refl, sym, ap, subst, arith}
+use Rattle.std.proofs.Common.{◌≡◌, ◌∙◌, inl, inr, ◌≤◌, ℕ, List, [], ◌∷◌, length, Option, Some, None, refl, sym, ap, subst, arith}
 use Rattle.std.specs.Prelude.{sum_by, All}
-use Rattle.std.proofs.lemmas.List.Elements.{All-nil, All-cons, All-append, All-weaker}
+use Rattle.std.proofs.lemmas.List.Elements.{All-nil, All-cons, All-head, All-tail, All-append, All-weaker}
+use Rattle.std.proofs.lemmas.List.Sums.{sum_by-cons}
 use Rattle.fst_types.specs.Tree.{Tree}
 use Rattle.fst_value.specs.declared.ends.ChannelName.{ChannelName}
 use Rattle.fst_machine.specs.declared.request.Request.{Request}
@@ -15,7 +16,7 @@ use Rattle.fst_safety.specs.declared.tasks.LogEntry.{LogEntry}
 use Rattle.fst_safety.specs.Logs.{Exchange, Opening, Follows, after_entry, exchanged_by, exchanges, opening_of, opened_by, openings}
 use Rattle.fst_safety.proofs.ThreadLaws.{later}
 use Rattle.fst_worker.proofs.Paths.{IsNew, is_new}
-use Rattle.fst_worker.proofs.Sums.{sum_none, sum_alike}
+use Rattle.fst_worker.proofs.Sums.{sum_none}
 use Rattle.fst_worker.proofs.Tests.{path_counts}
 
 -- clocks go up
@@ -80,5 +81,10 @@ pub others_made : (p q : Path) (os : List Opening) → once (same_path p q) ≡ 
 others_made p q os z all = sum_none (made_at p) (OfMaker q) (λ o e. ap (λ r. once (same_path p r)) e ∙ z) os all
 
 -- and those of this task each count
-pub own_made : (p : Path) (os : List Opening) → All (OfMaker p) os → sum_by (made_at p) os ≡ sum_by (λ (o : Opening). 1) os
-own_made p os all = sum_alike (made_at p) (λ o. 1) (OfMaker p) (λ o e. path_counts p o.name.maker (sym e)) os all
+pub own_made : (p : Path) (os : List Opening) → All (OfMaker p) os → sum_by (made_at p) os ≡ length os
+own_made p [] all = refl
+own_made p (o ∷ os) all =
+    let a = sum_by-cons (made_at p) o os in
+    let b = path_counts p o.name.maker (sym (All-head (OfMaker p) o os all)) in
+    let c = own_made p os (All-tail (OfMaker p) o os all) in
+    omega (arith, a, b, c)

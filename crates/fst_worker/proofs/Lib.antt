@@ -25,8 +25,6 @@ pub mod NameOrder
 pub mod InOrder
 pub mod Ended
 pub mod Stripped
-pub mod News
-pub mod Ranged
 pub mod Ordering
 pub mod Answering
 pub mod Placing

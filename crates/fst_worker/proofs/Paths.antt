@@ -33,9 +33,9 @@ abbrev pub at_path : Path → Birth → ℕ
 at_path x b = once (same_path x b.path)
 
 -- of some that a counter numbers, at most this many are the j-th, and none where the counter has passed j
-pub record Few (here : ℕ) (j : ℕ) (counter : ℕ) (n : ℕ) : Type 0 where
-  pub le : n ≤ here
-  pub past : j < counter → n ≡ 0
+record Few (here : ℕ) (j : ℕ) (counter : ℕ) (n : ℕ) : Type 0 where
+  le : n ≤ here
+  past : j < counter → n ≡ 0
 
 -- the next one is the j-th, or it isn't
 abbrev Hits : ℕ → ℕ → ℕ → ℕ → ℕ → Type 0
@@ -88,7 +88,7 @@ birth_hits p q j path t stamp a (inl k) = by (path_or (child_path q j) (child_pa
         let c = k.1 in
         inr (omega (arith, z, b, n), omega (arith, c))
 
-pub few_births : (p : Program) (q : Path) (j : ℕ) (path : Path) (t : Task) (log : List LogEntry) →
+few_births : (p : Program) (q : Path) (j : ℕ) (path : Path) (t : Task) (log : List LogEntry) →
     Few (once (same_path q path)) j t.forked (sum_by (at_path (child_path q j)) (births p path t log))
 few_births p q j path t [] = record { le = omega arith; past = λ l. refl }
 few_births p q j path t (e ∷ es) =
@@ -99,7 +99,7 @@ few_births p q j path t (e ∷ es) =
     (birth_hits p q j path t e.stamp e.answer (is_fork p path t e.stamp e.answer))
 
 -- no task with a path that isn't a child's is forked
-pub none_born : (p : Program) (x : Path) → ((q : Path) (k : ℕ) → x ≡ child_path q k → ⊥) → (path : Path) (t : Task) (log : List LogEntry) →
+none_born : (p : Program) (x : Path) → ((q : Path) (k : ℕ) → x ≡ child_path q k → ⊥) → (path : Path) (t : Task) (log : List LogEntry) →
     sum_by (at_path x) (births p path t log) ≡ 0
 none_born p x never path t [] = refl
 none_born p x never path t (e ∷ es) =
@@ -121,10 +121,10 @@ none_born p x never path t (e ∷ es) =
         apart (inl y) = absurd (never path t.forked y.0)
         apart (inr n) = n
 
-pub no_child : (q : Path) (k : ℕ) → [] ≡ child_path q k → ⊥
+no_child : (q : Path) (k : ℕ) → [] ≡ child_path q k → ⊥
 no_child q k e = let a = ap length e in let b = length-append q (suc k ∷ []) in absurd (omega (arith, a, b))
 
-pub not_first : (p : Path) (q : Path) (k : ℕ) → p ++ zero ∷ [] ≡ child_path q k → ⊥
+not_first : (p : Path) (q : Path) (k : ℕ) → p ++ zero ∷ [] ≡ child_path q k → ⊥
 not_first p q k e = let r = (snoc_same p q zero (suc k) e).1 in absurd (omega (arith, r))
 
 -- ---- channels

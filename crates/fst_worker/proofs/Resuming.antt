@@ -1,5 +1,5 @@
 -- The tasks and the closed channels of a run are what the machine can go on from.
-use Rattle.std.proofs.Common.{◌≡◌, ◌∙◌, ◌⊎◌, inl, inr, ◌≤◌, ℕ, suc, ◌+◌, Bool, true, false, Some, None, List, [], ◌∷◌, ◌++◌, refl, sym, ap, subst, arith, append_assoc}
+use Rattle.std.proofs.Common.{◌≡◌, ◌∙◌, ◌⊎◌, inl, inr, ◌≤◌, ℕ, suc, ◌+◌, Bool, true, false, Some, None, List, [], ◌∷◌, ◌++◌, length, refl, sym, ap, subst, arith, append_assoc}
 use Rattle.std.specs.Prelude.{sum_by, All, Contains, if◌then◌else◌}
 use Rattle.std.proofs.lemmas.List.Elements.{All-nil, All-cons, All-head, All-tail, All-contains, All-contains_itself, All-weaker}
 use Rattle.std.proofs.lemmas.List.Sums.{sum_by-cons}
@@ -21,23 +21,21 @@ use Rattle.fst_runs.proofs.NameLaws.{same_path-same}
 use Rattle.fst_process.specs.Reflects.{StampedTo}
 use Rattle.fst_process.specs.Resuming.{Tasks, task_in, AreApart, made_by, AreThere, AreAll, TasksWithin, ChannelsWithin}
 use Rattle.fst_cell.specs.Residuals.{residual, sends}
+use Rattle.fst_safety.specs.declared.tasks.LogEntry.{LogEntry}
 use Rattle.fst_safety.specs.Logs.{Birth, exchanges, openings, part_in}
 use Rattle.fst_safety.specs.Threads.{Thread, FitsIn}
-use Rattle.fst_safety.specs.Turns.{birth}
 use Rattle.fst_safety.specs.WellTyped.{program_in}
 use Rattle.fst_safety.proofs.Checked.{checked}
 use Rattle.fst_safety.proofs.SoundLaws.{sound_right}
 use Rattle.fst_worker.specs.Works.{opens}
 use Rattle.fst_worker.specs.Entries.{part_at}
 use Rattle.fst_worker.specs.Records.{FitsRecord, IsLogged}
-use Rattle.fst_safety.specs.Tasks.{main_thread}
 use Rattle.fst_worker.specs.Configs.{task_of, config_of, AreSame}
 use Rattle.fst_worker.specs.Resumes.{GoesRight, AreTasksOf, ClocksWithin, ResumeLaw}
 use Rattle.fst_worker.proofs.Dated.{StampedBy, stamped_by, of_maker, others_made, own_made}
 use Rattle.fst_worker.proofs.Entries.{corresponds}
 use Rattle.fst_worker.proofs.Found.{on_path, has_task, task_there, on_name, channel_of, channel_there}
-use Rattle.fst_worker.proofs.Paths.{paths_once}
-use Rattle.fst_worker.proofs.Ranged.{HasOpened, all_opened}
+use Rattle.fst_worker.proofs.Paths.{IsLed, paths_once}
 use Rattle.fst_worker.proofs.Rights.{goes_right}
 use Rattle.fst_worker.proofs.Sums.{none_sum}
 use Rattle.fst_worker.proofs.Telling.{record_moved, joins}
@@ -161,18 +159,42 @@ module _ (m : Module) (k : Code) where
       let h = All-head (λ (y : Thread). y.now.forked ≤ y.now.clock) y ys f in
       (l, omega (arith, l, e, g, h), tasks_within n ts ys a.1 c.1 (All-tail (λ (y : Thread). y.now.forked ≤ y.now.clock) y ys f))
 
--- what holds of the tasks of threads
-same_all : (P : Task → Type 0) (ys zs : List Thread) → AreSame ys zs → All (λ (z : Thread). P z.now) zs → All (λ (y : Thread). P y.now) ys
-same_all P [] [] s h = All-nil (λ (y : Thread). P y.now)
+-- what holds of the tasks of threads and their logs
+abbrev Of : (List LogEntry → Task → Type 0) → Thread → Type 0
+Of P y = P y.log y.now
+
+same_all : (P : List LogEntry → Task → Type 0) (ys zs : List Thread) → AreSame ys zs → All (Of P) zs → All (Of P) ys
+same_all P [] [] s h = All-nil (Of P)
 same_all P [] (z ∷ zs) s h = absurd s
 same_all P (y ∷ ys) [] s h = absurd s
 same_all P (y ∷ ys) (z ∷ zs) s h =
-    All-cons (λ (y : Thread). P y.now) y ys (subst P (ap (λ (t : Thread). t.now) s.0) (All-head (λ (z : Thread). P z.now) z zs h))
-    (same_all P ys zs s.1 (All-tail (λ (z : Thread). P z.now) z zs h))
+    All-cons (Of P) y ys (subst (Of P) s.0 (All-head (Of P) z zs h)) (same_all P ys zs s.1 (All-tail (Of P) z zs h))
 
 stamp_of : (x : EndName) (b : Bool) (e : Entry) → (part_in x b e).stamp ≡ e.stamp
 stamp_of x true e = refl
 stamp_of x false e = refl
+
+-- ---- channels
+
+-- each channel that the thread has made has a type
+abbrev pub HasOpened : Surroundings → Thread → Type 0
+HasOpened m y = length (openings m.types y.log) ≡ y.now.made
+
+module _ (m : Surroundings) (ys : List Thread) (hs : List ChannelHistory) (once_path : (p : Path) → sum_by (on_path p) ys ≤ 1)
+    (channels : (w : ChannelName → Tree → ℕ) → sum_by (λ (k : ChannelHistory). w k.name k.declared) hs ≡ sum_by (opens m w) ys)
+    (led : All (IsLed m) ys) (opened : All (HasOpened m) ys) where
+  -- the channels of a thread are as many as it has made
+  pub made_is : (y : Thread) → Contains ys y → made_by y.path hs ≡ y.now.made
+  made_is y c =
+      let w = λ (h : ChannelName) (t : Tree). once (same_path y.path h.maker) in
+      let f = channels w in
+      let o = only_path (opens m w) ys y c (once_path y.path)
+      (All-weaker (IsLed m) (λ (z : Thread). on_path y.path z ≡ 0 → opens m w z ≡ 0)
+      (λ z l q. others_made y.path z.path (openings m.types z.log) q (of_maker (program_in m) m.types z.path z.first z.log z.now l)) ys led) in
+      let l = All-contains (IsLed m) ys y led c in
+      let g = own_made y.path (openings m.types y.log) (of_maker (program_in m) m.types y.path y.first y.log y.now l) in
+      let h = All-contains (HasOpened m) ys y opened c in
+      made_sum y.path hs ∙ f ∙ o ∙ g ∙ h
 
 -- ---- a record
 
@@ -186,18 +208,8 @@ module _ (m : Surroundings) (main : Birth) (ys : List Thread) (hs : List Channel
   task_is : (y : Thread) → Contains ys y → task_of ys y.path ≡ Some y.now
   task_is y c = task_there ys y c (once_path y.path)
 
-  -- the channels of a thread are as many as it has made
-  made_is : All (HasOpened m) ys → (y : Thread) → Contains ys y → made_by y.path hs ≡ y.now.made
-  made_is opened y c =
-      let w = λ (h : ChannelName) (t : Tree). once (same_path y.path h.maker) in
-      let f = fits.channels w in
-      let o = only_path (opens m w) ys y c (once_path y.path)
-      (All-weaker (IsLogged m) (λ (z : Thread). on_path y.path z ≡ 0 → opens m w z ≡ 0)
-      (λ z l q. others_made y.path z.path (openings m.types z.log) q (of_maker (program_in m) m.types z.path z.first z.log z.now l.follows)) ys fits.logs) in
-      let l = All-contains (IsLogged m) ys y fits.logs c in
-      let g = own_made y.path (openings m.types y.log) (of_maker (program_in m) m.types y.path y.first y.log y.now l.follows) in
-      let h = All-contains (HasOpened m) ys y opened c in
-      made_sum y.path hs ∙ f ∙ o ∙ g ∙ h
+  led : All (IsLed m) ys
+  led = All-weaker (IsLogged m) (IsLed m) (λ y l. l.follows) ys fits.logs
 
   -- no stamp is later than all clocks
   module _ (n : ℕ) (clocks : All (λ (y : Thread). y.now.clock ≤ n) ys) where
@@ -243,7 +255,7 @@ module _ (m : Surroundings) (main : Birth) (ys : List Thread) (hs : List Channel
           task = y.now;
           there = ap (task_of ys) a.0.path ∙ task_is y i;
           is_in = a.0.is_in;
-          made = ap (λ p. made_by p hs) a.0.path ∙ made_is opened y i;
+          made = ap (λ p. made_by p hs) a.0.path ∙ made_is m ys hs once_path fits.channels led opened y i;
           forked = a.0.forked;
           clock = a.0.time;
         },
@@ -252,12 +264,14 @@ module _ (m : Surroundings) (main : Birth) (ys : List Thread) (hs : List Channel
 
 -- the machine can go on at the end of each run
 pub resumes : ResumeLaw
-resumes n ds d e body a xs ps over ys told k ts hs from are moved numbered =
+resumes n ds d a main xs ps over ys told k ts hs from are moved numbered =
     let m = surroundings n [] in
-    let main = birth (main_thread e) in
     let j = joins n ds d a main xs ps over ys told in
     let fits = record_moved m a main xs ps over hs moved ys j.record_fits in
-    let opened = all_opened n e body ys hs fits in
+    let zs = j.fit.0 in
+    let few = λ (P : List LogEntry → Task → Type 0) (h : (y : Thread) (f : FitsIn m a y) → P y.log y.now).
+        same_all P ys zs j.fit.1 (All-weaker (FitsIn m a) (Of P) h zs j.fit.2.fit) in
+    let opened = few (λ l t. length (openings m.types l) ≡ t.made) (λ y f. f.opened) in
     let c = config_of ys hs in
     let sound = j.sound hs moved in
     let goes : GoesRight n c = goes_right n ds d a c sound in
@@ -270,12 +284,9 @@ resumes n ds d e body a xs ps over ys told k ts hs from are moved numbered =
       numbered = numbered;
     } in
     let right : IsRight (program n) c = sound_right m (checked n ds d) a c sound in
-    let zs = j.fit.0 in
-    let fit = j.fit.2.fit in
-    let few = λ (P : Task → Type 0) (h : (y : Thread) (f : FitsIn m a y) → P y.now). same_all P ys zs j.fit.1 (All-weaker (FitsIn m a) (λ (y : Thread). P y.now) h zs fit) in
     let within : (n : ℕ) → ClocksWithin n ts → TasksWithin n ts × ChannelsWithin n hs = λ b q. (
-      tasks_within n k b ts ys are q (few (λ t. t.forked ≤ t.clock) (λ y f. f.forked)),
-      channels_within m main ys hs fits b (clocks_of n k b ts ys are q) goes.makers (few (λ t. t.made ≤ t.clock) (λ y f. f.made)) hs (All-contains_itself hs),
+      tasks_within n k b ts ys are q (few (λ l t. t.forked ≤ t.clock) (λ y f. f.forked)),
+      channels_within m main ys hs fits b (clocks_of n k b ts ys are q) goes.makers (few (λ l t. t.made ≤ t.clock) (λ y f. f.made)) hs (All-contains_itself hs),
     ) in
     record {
       all = all;

@@ -26,6 +26,7 @@ use Rattle.fst_cell.specs.Stamps.{AreStamped}
 use Rattle.fst_safety.specs.Logs.{Birth}
 use Rattle.fst_safety.specs.Threads.{Thread, FitsIn, FitsEnd, IsSpent}
 use Rattle.fst_safety.specs.Turns.{of_ends, on_side, by_type}
+use Rattle.fst_worker.specs.Works.{opens}
 use Rattle.fst_worker.specs.Records.{Pair, IsShut, IsOver, Paired, histories_of, missing, IsTrailing}
 use Rattle.fst_worker.proofs.Events.{event_code}
 use Rattle.fst_worker.proofs.Paths.{channels_once}
@@ -226,7 +227,7 @@ missing_of : (ps : List Pair) (e : EndView) (p : Pair) → Contains ps p → e.c
 missing_of ps e p c is le = missing_is ps e ∙ look_of (behind_in e) None ps e.channel p c is le
 
 -- the left end of a pair, and its right one, weigh as the channel
-pub shut_type : (w : ChannelName → Tree → ℕ) (p : Pair) → IsShut p →
+shut_type : (w : ChannelName → Tree → ℕ) (p : Pair) → IsShut p →
     by_type Left w p.left + by_type Left w p.right ≡ w p.closed.history.name p.closed.history.declared
 shut_type w p s =
     let a : by_type Left w p.left ≡ w p.closed.history.name p.closed.history.declared = λ i. on_side Left (s.left_side i)
@@ -256,25 +257,22 @@ module _ (m : Surroundings) (a : Tree) (main : Birth) (xs : List Thread) (ps : L
   abbrev ks : List ChannelHistory
   ks = histories_of ps
 
+  -- they are those of the channels that the logs open
+  pub are_opened : (w : ChannelName → Tree → ℕ) → sum_by (λ (k : ChannelHistory). w k.name k.declared) ks ≡ sum_by (opens m w) xs
+  are_opened w =
+      let p = over.paired (by_type Left w) in
+      let q = by_histories (λ (p : Pair). by_type Left w p.left + by_type Left w p.right)
+      (λ (k : ChannelHistory). w k.name k.declared) IsShut (shut_type w) ps over.shut in
+      let c = over.run.whole.typed Left w in
+      omega (arith, p, q, c)
+
   -- no two pairs have one name
   pub names_once : (h : ChannelName) → sum_by (of_channel h) ps ≤ 1
   names_once h =
-      let w = λ (n : ChannelName) (t : Tree). once (same_channel h n) in
-      let q = by_both w ps over.shut in
-      let b = over.paired (by_type Left w) in
-      let c = over.run.whole.typed Left w in
+      let q = by_histories (of_channel h) (λ (k : ChannelHistory). once (same_channel h k.name)) IsShut (λ p s. refl) ps over.shut in
+      let b = are_opened (λ n t. once (same_channel h n)) in
       let d = channels_once m a main xs over.run h in
-      omega (arith, q, b, c, d)
-    where
-      by_both : (w : ChannelName → Tree → ℕ) (ps : List Pair) → All IsShut ps →
-          sum_by (λ (p : Pair). by_type Left w p.left + by_type Left w p.right) ps ≡ sum_by (λ (p : Pair). w p.closed.history.name p.closed.history.declared) ps
-      by_both w [] all = refl
-      by_both w (p ∷ ps) all =
-          let a = sum_by-cons (λ (p : Pair). by_type Left w p.left + by_type Left w p.right) p ps in
-          let b = sum_by-cons (λ (p : Pair). w p.closed.history.name p.closed.history.declared) p ps in
-          let c = shut_type w p (All-head IsShut p ps all) in
-          let d = by_both w ps (All-tail IsShut p ps all) in
-          omega (arith, a, b, c, d)
+      omega (arith, q, b, d)
 
   -- each pair, and that it is there
   pub here : All (λ (p : Pair). Contains ps p × IsShut p) ps

@@ -70,16 +70,6 @@ module _ {X : Type 0} where
       let ih = sum_same f g e xs in
       omega (arith, a, b, h, ih)
 
-  -- where that is said of those that are there
-  pub sum_alike : (f g : X → ℕ) (P : X → Type 0) → ((x : X) → P x → f x ≡ g x) → (xs : List X) → All P xs → sum_by f xs ≡ sum_by g xs
-  sum_alike f g P e [] all = refl
-  sum_alike f g P e (x ∷ xs) all =
-      let a = sum_by-cons f x xs in
-      let b = sum_by-cons g x xs in
-      let h = e x (All-head P x xs all) in
-      let ih = sum_alike f g P e xs (All-tail P x xs all) in
-      omega (arith, a, b, h, ih)
-
   -- a sum is nothing where another is, and each of its terms is where that of the other is
   pub none_sum : (f g : X → ℕ) (xs : List X) → sum_by g xs ≡ 0 → All (λ (x : X). g x ≡ 0 → f x ≡ 0) xs → sum_by f xs ≡ 0
   none_sum f g [] z all = refl

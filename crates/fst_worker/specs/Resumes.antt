@@ -1,30 +1,29 @@
 -- What the machine needs that goes on from the tasks and the closed channels of a run.
-use Rattle.std.specs.List.Sorted.{IsNonDecreasingBy}
-use Rattle.std.specs.Prelude.{◌≡◌, ◌≤◌, ℕ, zero, Some, All, Contains, IsPermutation, List, [], ◌∷◌, ⊤}
+use Rattle.std.specs.List.Sorted.{IsStrictlySortedBy}
+use Rattle.std.specs.Prelude.{◌≡◌, ◌≤◌, ℕ, zero, Some, All, Contains, IsPermutation, List, [], ◌∷◌, map, ⊤}
 use Rattle.fst_types.specs.Tree.{Tree}
-use Rattle.fst_terms.specs.CoreTree.{CoreTree}
 use Rattle.fst_terms.specs.declared.core_module.Module.{Module}
 use Rattle.fst_derivations.specs.Deriv.{Deriv}
 use Rattle.fst_derivations.specs.Modules.{HasDerivations, surroundings}
-use Rattle.fst_value.specs.declared.event.ChannelHistory.{ChannelHistory}
+use Rattle.fst_derivations.specs.Rules.{Surroundings}
 use Rattle.fst_value.specs.declared.event.Entry.{Entry}
 use Rattle.fst_machine.specs.declared.code.Code.{Code}
 use Rattle.fst_machine.specs.declared.request.Answer.TheVariants.{Sent}
 use Rattle.fst_machine.specs.Machine.{State, stuck, pause, answered}
 use Rattle.fst_vm.specs.TaskView.{TaskView}
 use Rattle.fst_vm.specs.Tasks.{IsFrom, IsIn, GoesOn}
-use Rattle.fst_runs.specs.Configs.{Config, program, main_body}
+use Rattle.fst_runs.specs.Configs.{Config, program}
 use Rattle.fst_runs.specs.Names.{HasMakers, HasParents}
 use Rattle.fst_process.specs.Kept.{Kept}
 use Rattle.fst_process.specs.Resuming.{Tasks, Histories, AreAll, AreNumbered, TasksWithin, ChannelsWithin, CanResume, IsResumed}
 use Rattle.fst_process.specs.Runs.{RunsRightFrom, CanRunFrom}
+use Rattle.fst_cell.specs.declared.answers.Closed.{Closed}
 use Rattle.fst_cell.specs.End.{EndView}
 use Rattle.fst_safety.specs.Logs.{Birth}
 use Rattle.fst_safety.specs.Sound.{IsSound}
 use Rattle.fst_safety.specs.Threads.{Thread}
-use Rattle.fst_safety.specs.Turns.{birth}
-use Rattle.fst_worker.specs.Records.{Pair, IsOver, FitsRecord, histories_of, missing}
-use Rattle.fst_safety.specs.Tasks.{main_thread}
+use Rattle.fst_worker.specs.Records.{Pair, IsOver, histories_of, missing}
+use Rattle.fst_worker.specs.Closing.{name_cmp, names_of}
 use Rattle.fst_worker.specs.Configs.{config_of, Stayed, Told, AreTold}
 
 -- no run from the configuration goes wrong, and its names are those that counts have given
@@ -91,17 +90,16 @@ pub record Resumes (m : Module) (k : Code) (ts : Tasks) (hs : Histories) (c : Co
   -- so what is kept of them can run on, after n events
   pub can_run : (n : ℕ) → ClocksWithin n ts → (d : Kept) → IsResumed k ts hs d → CanRunFrom k n d
 
--- where a run of a module has begun with main's body, all its channels were closed, and each task is told what its end lacks, the
--- machine can go on from the tasks and the closed channels, where these come in the order in which each task has made them
+-- where all channels of a run were closed, and each task is told what its end lacks, the machine can go on from the tasks and the
+-- closed channels, where these come in the order in which each task has made them
 abbrev pub ResumeLaw : Type 0
-ResumeLaw = (m : Module) (ds : List Deriv) → HasDerivations m ds → (e : CoreTree) → main_body m.globals.items ≡ Some e →
-    (a : Tree) (xs : List Thread) (ps : List Pair) → IsOver (surroundings m []) a (birth (main_thread e)) xs ps →
-    (ys : List Thread) → AreTold (surroundings m []) (histories_of ps) xs ys →
+ResumeLaw = (m : Module) (ds : List Deriv) → HasDerivations m ds → (a : Tree) (main : Birth) (xs : List Thread) (ps : List Pair) →
+    IsOver (surroundings m []) a main xs ps → (ys : List Thread) → AreTold (surroundings m []) (histories_of ps) xs ys →
     (k : Code) (ts : Tasks) (hs : Histories) → IsFrom m k → AreTasksOf m k ts ys → IsPermutation (histories_of ps) hs → AreNumbered (λ p. zero) hs →
     Resumes m k ts hs (config_of ys hs)
 
--- so they come where no number of a channel is less than one before it, whatever tasks have made them
+-- so the closed channels of a run come where their names rise
 abbrev pub OrderLaw : Type 0
-OrderLaw = (m : Module) (e : CoreTree) → main_body m.globals.items ≡ Some e → (ys : List Thread) (ks : Histories) →
-    FitsRecord (surroundings m []) (birth (main_thread e)) ys ks →
-    (hs : Histories) → IsPermutation ks hs → IsNonDecreasingBy (λ (k : ChannelHistory). k.name.count) hs → AreNumbered (λ p. zero) hs
+OrderLaw = (m : Surroundings) (a : Tree) (main : Birth) (xs : List Thread) (ps : List Pair) → IsOver m a main xs ps →
+    (cs : List Closed) → map (λ (p : Pair). p.closed) ps ≡ cs → IsStrictlySortedBy name_cmp (names_of cs) →
+    AreNumbered (λ p. zero) (map (λ (c : Closed). c.history) cs)

@@ -55,13 +55,13 @@ pub fn right_law()
     ensures { RightLaw }
 {}
 
-/// Where a module has run from its beginning, the two ends of each channel were closed and each task whose offer was taken is told
-/// so, the machine that goes on can be given the tasks and the closed channels, and none of their numbers is over the greatest clock.
+/// Where the two ends of each channel of a run were closed and each task whose offer was taken is told so, the machine that goes on
+/// can be given the tasks and the closed channels, and none of their numbers is over the greatest clock.
 pub fn resume_law()
     ensures { ResumeLaw }
 {}
 
-/// The closed channels are in the order in which each task has made them where no number of one is less than one before it.
+/// The closed channels of a run are in the order in which each task has made them where their names rise.
 pub fn order_law()
     ensures { OrderLaw }
 {}
