@@ -17,6 +17,7 @@ pub mod Found
 pub mod Counting
 pub mod Soundness
 pub mod Telling
+pub mod Counted
 pub mod ToldAll
 pub mod Rights
 pub mod Dated
@@ -33,3 +34,4 @@ pub mod Meeting
 pub mod Happening
 pub mod Stamping
 pub mod AlongRuns
+pub mod Finished

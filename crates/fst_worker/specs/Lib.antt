@@ -10,3 +10,4 @@ pub mod Laws
 pub mod Closing
 pub mod Ending
 pub mod Events
+pub mod Finishing

@@ -56,8 +56,8 @@ fn strip(alloc: Global, task: TypedTask, ends: &mut Vec<End>) -> Result<Bare, Al
     Ok(Bare { task, clock, waits })
 }
 
-// Takes the ends of tasks and puts them behind others.
-fn strip_all(
+/// Takes the ends of tasks and puts them behind others.
+pub(crate) fn strip_all(
     alloc: Global,
     tasks: Vec<TypedTask>,
     ends: &mut Vec<End>,
@@ -133,8 +133,8 @@ fn tell(code: &Code, bare: Bare, closed: &[Closed]) -> Result<(Task, u64), Alloc
     Ok((task, latest(channel.history.entries.as_slice())))
 }
 
-// Tells all tasks whose offers were taken.
-fn tell_all(
+/// Tells all tasks whose offers were taken.
+pub(crate) fn tell_all(
     alloc: Global,
     code: &Code,
     bare: Vec<Bare>,

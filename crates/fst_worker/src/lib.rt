@@ -5,6 +5,7 @@
 mod closing;
 mod dealing;
 mod ending;
+mod finishing;
 mod law;
 mod shares;
 

@@ -1,0 +1,1 @@
+use Rattle.fst_worker.proofs.finishing.histories.Goals as goal
