@@ -30,9 +30,9 @@ use Rattle.fst_safety.specs.Turns.{of_ends}
 use Rattle.fst_worker.specs.declared.ending.Bare.{Bare}
 use Rattle.fst_worker.specs.Records.{Pair, IsOver, FitsRecord, histories_of}
 use Rattle.fst_worker.specs.Configs.{config_of, Stayed, Told, AreTold, Joins}
-use Rattle.fst_worker.specs.Resumes.{IsTaskOf, AreTasksOf, ClocksWithin, Resumes}
+use Rattle.fst_worker.specs.Resumes.{AreTasksOf, ClocksWithin, Resumes}
 use Rattle.fst_worker.specs.Closing.{AreOfRun, AreClosedTo, name_cmp, names_of}
-use Rattle.fst_worker.specs.Ending.{TellsWaiting, AreBare, AreBareOf, AreTellable, AreToldTo, HasEnded, ends_of}
+use Rattle.fst_worker.specs.Ending.{TellsWaiting, AreBare, AreBareOf, AreTellable, AreToldTo, ends_of}
 use Rattle.fst_worker.specs.Events.{alone, events_of, IsWithin, IsRecordAnswer}
 use Rattle.fst_worker.specs.Finishing.{AreRunOf, IsUpTo, alone_in, alone_of, entries_of}
 use Rattle.fst_worker.specs.Shares.{AreKept}

@@ -1,9 +1,8 @@
-use Rattle.std.proofs.Common.{◌≡◌, ◌∙◌, ◌+◌, ◌++◌, ℕ, List, [], map, refl, sym, ap, subst, arith}
+use Rattle.std.proofs.Common.{◌∙◌, ◌++◌, sym, ap, subst, arith}
 use Rattle.std.proofs.lemmas.Result.{IfOk-weaker}
 use Rattle.fst_process.specs.Resuming.{CanResume, IsResumed}
 use Rattle.fst_process.specs.Runs.{CanRunFrom, IsOutcomeFrom}
 use Rattle.fst_process.specs.KeptOf.{kept_of}
-use Rattle.fst_cell.specs.End.{EndView}
 use Rattle.fst_worker.specs.Closing.{AreOfRun, AreClosedTo}
 use Rattle.fst_worker.specs.Ending.{AreTellable, ends_of}
 use Rattle.fst_worker.specs.Finishing.{IsFinished}

@@ -1,1 +1,0 @@
-use Rattle.fst_worker.proofs.finishing.histories.Goals as goal
