@@ -56,6 +56,7 @@ pub mod TaskStarts
 pub mod TaskTurns
 pub mod Told
 pub mod TraceLaws
+pub mod Tries
 pub mod Typed
 pub mod Unknown
 pub mod Uses

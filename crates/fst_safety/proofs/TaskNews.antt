@@ -37,6 +37,7 @@ use Rattle.fst_safety.proofs.Keeping.{its_pause, asks_it, alive_in, takes_it, ke
 use Rattle.fst_safety.proofs.Settles.{pause_goes}
 use Rattle.fst_safety.proofs.SlotEnds.{slots_ends}
 use Rattle.fst_safety.proofs.ThreadOpenings.{left_residual, right_residual}
+use Rattle.fst_safety.proofs.Tries.{made_tries, parted_tries}
 use Rattle.fst_safety.proofs.Told.{told_made, told_forked}
 
 -- ---- a channel
@@ -129,6 +130,7 @@ module _ (k : Code) (t : TypedTask) (j : ℕ) (now : AsksNow k t (request.New j)
         new = [];
         goes = g;
         keeps = keeps_it k a t x f (request.New j) (Made h) stamp v.bag.items v.retired.items [] told.0 u v told.1 g on' task made clock log refl refl;
+        tries = λ z. let b = made_tries z x l r bag1 ret1 v.bag.items v.retired.items ql' qr in omega (arith, b);
         answers = (record { entry = record { asked = request.New j; answer = Made h; stamp = stamp }; is = refl }, refl);
       }
 
@@ -222,6 +224,10 @@ module _ (k : Code) (t : TypedTask) (now : AsksNow k t request.Fork) (few : t.cl
       new = begun stamp ∷ [];
       goes = fork_goes;
       keeps = keeps_it k a t x f request.Fork Told stamp v.bag.items x.retired (begun stamp ∷ []) told_fork.1 u v told_fork.3 fork_goes on task (made ∙ on.made) clock log refl (retired ∙ f.keeps.retired);
+      tries = λ z.
+          let own = subst (λ es. IsPermutation es (v.bag.items ++ theirs)) f.keeps.bag p.all in
+          let b = parted_tries z x v.bag.items theirs own in
+          omega (arith, b);
       answers = (
         begun stamp,
         record { entry = record { asked = request.Fork; answer = Told; stamp = stamp }; is = refl },

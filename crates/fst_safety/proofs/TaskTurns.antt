@@ -1,6 +1,6 @@
 -- What the parts of a turn come to, for each thread that the task was.
-use Rattle.std.proofs.Common.{◌≡◌, ◌∙◌, ◌⊎◌, inl, inr, ◌<◌, ℕ, ◌+◌, suc, List, [], ◌∷◌, ◌++◌, true, Some, None, Ok, Err, refl, sym, ap, subst, arith}
-use Rattle.std.specs.Prelude.{IsPermutation, is_some, slice_index_or}
+use Rattle.std.proofs.Common.{◌≡◌, ◌∙◌, ◌≤◌, ◌⊎◌, inl, inr, ◌<◌, ℕ, ◌+◌, suc, List, [], ◌∷◌, ◌++◌, true, Some, None, Ok, Err, refl, sym, ap, subst, arith}
+use Rattle.std.specs.Prelude.{sum_by, IsPermutation, is_some, slice_index_or}
 use Rattle.std.specs.declared.alloc.AllocError.{AllocError}
 use Rattle.fst_types.specs.Tree.{Tree}
 use Rattle.fst_lts.specs.Step.{step}
@@ -28,19 +28,21 @@ use Rattle.fst_cell.specs.Rule.{tried}
 use Rattle.fst_safety.specs.declared.tasks.TypedTask.{TypedTask}
 use Rattle.fst_safety.specs.declared.tasks.Turned.TheVariants.{Moved, Offered, Left as Off, Ended}
 use Rattle.fst_safety.specs.Threads.{Thread, FitsEnd, Waits, count_of}
+use Rattle.fst_safety.specs.Turns.{of_ends}
 use Rattle.fst_safety.specs.Going.{GoesOnTo, IsMoved, with_entry}
 use Rattle.fst_safety.specs.Bags.{IsPlaced, IsPutBack, IsChanged, IsPassed, MayOffer, MayTake}
-use Rattle.fst_safety.specs.Tasks.{Keeps, Fits, CanTurn, AsksNow, IsSame, HasGoneOn, HasTurned, TakesTurn, FoundNoWay, HasTried, module_of}
+use Rattle.fst_safety.specs.Tasks.{Keeps, Fits, CanTurn, AsksNow, IsSame, HasGoneOn, HasTurned, TakesTurn, FoundNoWay, HasTried, tries_at, module_of}
 use Rattle.fst_safety.proofs.Going.{stay_typed}
 use Rattle.fst_safety.proofs.Keeping.{stays, stands_in, not_stuck, same_keeps, same_fits, asks_alike, asks_it, allowed, fits_there, known_there, alive_in, takes_it, keeps_it, advanced_fits}
 use Rattle.fst_safety.proofs.Told.{told_go, told_sent, told_got}
+use Rattle.fst_safety.proofs.Tries.{tried_more, changed_tries, passed_tries}
 use Rattle.fst_safety.proofs.Typed.{some_same}
 
 -- ---- nothing has happened
 
 -- where memory was wanting the task is as it was
 pub refused : (k : Code) (t u : TypedTask) (e : AllocError) → IsSame t u → TakesTurn k t (Err e) u
-refused k t u e s a x f = record { after = x; new = []; goes = stays (module_of k) a x f.fits; keeps = same_keeps k t u x s f.keeps; answers = (refl, refl, refl) }
+refused k t u e s a x f = record { after = x; new = []; goes = stays (module_of k) a x f.fits; keeps = same_keeps k t u x s f.keeps; tries = λ z. omega arith; answers = (refl, refl, refl) }
 
 -- a turn from a task that is the same but for room
 pub roomed : (k : Code) (t u v : TypedTask) (r : _) → IsSame t u → TakesTurn k u r v → TakesTurn k t r v
@@ -71,6 +73,7 @@ module _ (k : Code) (t : TypedTask) (now : AsksNow k t request.Step) where
       new = [];
       goes = goes;
       keeps = keeps_it k a t x f request.Step Go stamp x.bag x.retired [] told.0 u u told.1 goes on refl on.made refl refl (bag ∙ f.keeps.bag) (retired ∙ f.keeps.retired);
+      tries = λ z. omega arith;
       answers = (record { entry = record { asked = request.Step; answer = Go; stamp = stamp }; is = refl }, refl);
     }
 
@@ -123,6 +126,14 @@ module _ (k : Code) (a : Tree) (t u : TypedTask) (x : Thread) (f : Fits k a t x)
     retired = same.retired ∙ f.keeps.retired;
   }
 
+  tries_up : (v : Half) → c.after ≡ end_with c.before v → v.side ≡ c.before.knows.side → c.before.knows.tries ≤ v.tries → (z : EndName) →
+      of_ends (tries_at z) x ≤ of_ends (tries_at z) moved + 0
+  tries_up v is side more z =
+      let name : end_name c.after ≡ end_name c.before = ap end_name is ∙ ap (λ s. record { channel = c.before.channel; side = s }) side in
+      let count : c.after.knows.tries ≡ v.tries = ap (λ (e : EndView). e.knows.tries) is in
+      let a = changed_tries z x c.before c.after c.rest was (tried_more z c.before c.after name (omega (arith, count, more))) in
+      omega (arith, a)
+
   -- an end that has tried fits as before
   try_fits : (w : ℕ) → FitsEnd (module_of k) x.now (end_with c.before (tried c.before.knows w))
   try_fits w = record {
@@ -140,11 +151,19 @@ module _ (k : Code) (a : Tree) (t u : TypedTask) (x : Thread) (f : Fits k a t x)
     new = [];
     goes = try_goes is;
     keeps = tried_keeps;
+    tries = tries_up (tried c.before.knows c.after.knows.found) is refl (omega arith);
     answers = (record { asked = q; asks = asks; at = at; before = c.before; after = c.after; tried = has_tried; found = found }, refl);
   }
 
   pub want_turned : (e : AllocError) → c.after ≡ end_with c.before (tried c.before.knows c.after.knows.found) → HasTurned k a (Err e) u x
-  want_turned e is = record { after = moved; new = []; goes = try_goes is; keeps = tried_keeps; answers = (refl, refl, refl) }
+  want_turned e is = record {
+    after = moved;
+    new = [];
+    goes = try_goes is;
+    keeps = tried_keeps;
+    tries = tries_up (tried c.before.knows c.after.knows.found) is refl (omega arith);
+    answers = (refl, refl, refl);
+  }
 
   pub offered_turned : (ev : Event) → machine.request (module_of k).families x.now.state ≡ Some (request.Put n ev) → sends (residual_of c.before.knows) ev ≡ true →
       IsOffered c.before ev t.clock c.after → HasTurned k a (Ok Offered) u x
@@ -166,6 +185,7 @@ module _ (k : Code) (a : Tree) (t u : TypedTask) (x : Thread) (f : Fits k a t x)
         new = [];
         goes = tried_goes v by.now refl refl refl fit;
         keeps = tried_keeps;
+        tries = tries_up v by.now refl (omega arith);
         answers = (
           record {
             name = n;
@@ -182,7 +202,14 @@ module _ (k : Code) (a : Tree) (t u : TypedTask) (x : Thread) (f : Fits k a t x)
 
   -- an end that is as it was
   pub same_turned : (e : AllocError) → c.after ≡ c.before → HasTurned k a (Err e) u x
-  same_turned e is = record { after = moved; new = []; goes = tried_goes c.before.knows is refl refl refl fits_before; keeps = tried_keeps; answers = (refl, refl, refl) }
+  same_turned e is = record {
+    after = moved;
+    new = [];
+    goes = tried_goes c.before.knows is refl refl refl fits_before;
+    keeps = tried_keeps;
+    tries = tries_up c.before.knows is refl (omega arith);
+    answers = (refl, refl, refl);
+  }
 
 -- ---- what ends allow
 
@@ -228,6 +255,17 @@ module _ (k : Code) (t : TypedTask) (n : EndName) (i : ℕ) (placed : IsPlaced n
       put = subst (λ (z : EndView). IsPutBack z c.rest x.retired bag retired) is (subst (λ es. IsPutBack c.after c.rest es bag retired) f.keeps.retired c.put);
     }
 
+    exchange_tries : (v : Half) → c.after ≡ end_with c.before v → v.side ≡ c.before.knows.side → c.before.knows.tries ≤ v.tries → (z : EndName) →
+        of_ends (tries_at z) x ≤ (sum_by (tries_at z) bag + sum_by (tries_at z) retired) + 0
+    exchange_tries v is side more z =
+        let name : end_name c.after ≡ end_name c.before = ap end_name is ∙ ap (λ s. record { channel = c.before.channel; side = s }) side in
+        let count : c.after.knows.tries ≡ v.tries = ap (λ (e : EndView). e.knows.tries) is in
+        let p = is_moved v is in
+        let up = tried_more z c.before c.after name (omega (arith, count, more)) in
+        let same : tries_at z c.after ≡ tries_at z (end_with c.before v) = ap (tries_at z) is in
+        let a = passed_tries z x c.before (end_with c.before v) p.rest bag retired p.before p.put (omega (arith, up, same)) in
+        omega (arith, a)
+
     -- the offer was taken
     module _ (ev : Event) (stamp : ℕ) (now : AsksNow k t (request.Put n ev)) (by : IsNoticed c.before stamp c.after) where
       waits : Waits (module_of k) x.now c.before (record { event = by.taken.event; clock = by.taken.sent })
@@ -257,6 +295,7 @@ module _ (k : Code) (t : TypedTask) (n : EndName) (i : ℕ) (placed : IsPlaced n
         new = [];
         goes = sent_goes;
         keeps = keeps_it k a t x f (request.Put n ev) Sent stamp bag retired [] told_it.0 u u told_it.1 sent_goes on refl on.made refl refl bag_is retired_is;
+        tries = exchange_tries (longer c.before.knows c.after.knows.found by.taken) by.now refl (omega arith);
         answers = (record { entry = record { asked = request.Put n ev; answer = Sent; stamp = stamp }; is = refl }, refl);
       }
 
@@ -287,6 +326,7 @@ module _ (k : Code) (t : TypedTask) (n : EndName) (i : ℕ) (placed : IsPlaced n
         new = [];
         goes = got_goes;
         keeps = keeps_it k a t x f (request.Get n) (Got ev) stamp bag retired [] told_event.0 u u told_event.1 got_goes on refl on.made refl refl bag_is retired_is;
+        tries = exchange_tries (longer c.before.knows c.after.knows.found (entry ev stamp by.sent t.clock)) by.now refl (omega arith);
         answers = (record { entry = record { asked = request.Get n; answer = Got ev; stamp = stamp }; is = refl }, refl);
       }
 
@@ -346,6 +386,7 @@ advance_refused k t v e s a x f = record {
   new = [];
   goes = stays (module_of k) a x f.fits;
   keeps = (advanced_fits k a t (record t { task = v }) x s refl refl refl refl refl f).keeps;
+  tries = λ z. omega arith;
   answers = (refl, refl, refl);
 }
 
@@ -361,4 +402,4 @@ asks_still k t v q c s asks rests =
 
 -- and where that is nothing its value is there
 pub ended_turned : (k : Code) (t : TypedTask) → AsksNow k t request.Ended → TakesTurn k t (Ok Ended) t
-ended_turned k t now a x f = record { after = x; new = []; goes = stays (module_of k) a x f.fits; keeps = f.keeps; answers = (asks_it k a t x f request.Ended now, refl, refl) }
+ended_turned k t now a x f = record { after = x; new = []; goes = stays (module_of k) a x f.fits; keeps = f.keeps; tries = λ z. omega arith; answers = (asks_it k a t x f request.Ended now, refl, refl) }

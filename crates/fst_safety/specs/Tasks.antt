@@ -1,5 +1,5 @@
 -- Tasks with their ends as the machine keeps them, and what a turn answers.
-use Rattle.std.specs.Prelude.{◌≡◌, ◌⊎◌, ◌<◌, ℕ, Some, Result, Ok, Err, List, [], ◌∷◌, ◌++◌, IsPermutation, slice_get, true, vec_len, vec_capacity}
+use Rattle.std.specs.Prelude.{◌≡◌, ◌⊎◌, ◌<◌, ◌≤◌, ◌+◌, ℕ, sum_by, if◌then◌else◌, Some, Result, Ok, Err, List, [], ◌∷◌, ◌++◌, IsPermutation, slice_get, true, vec_len, vec_capacity}
 use Rattle.std.specs.declared.alloc.AllocError.{AllocError}
 use Rattle.fst_types.specs.Tree.{Tree}
 use Rattle.fst_types.specs.declared.side.Side.TheVariants.{Left, Right}
@@ -20,7 +20,7 @@ use Rattle.fst_machine.specs.Programs.{main_body}
 use Rattle.fst_machine.specs.Spots.{asked_at}
 use Rattle.fst_vm.specs.Running.{code_of}
 use Rattle.fst_vm.specs.Tasks.{IsFrom, IsIn, IsAtRest, GoesOn}
-use Rattle.fst_runs.specs.Configs.{channel_name, main_path, new_task}
+use Rattle.fst_runs.specs.Configs.{channel_name, main_path, new_task, same_end}
 use Rattle.fst_runs.specs.Wrong.{end_of}
 use Rattle.fst_cell.specs.Answers.{FoundHeld, FoundNothing, FoundStanding, IsOffered}
 use Rattle.fst_cell.specs.End.{EndView, end_name}
@@ -31,6 +31,7 @@ use Rattle.fst_safety.specs.declared.tasks.Turned.{Turned}
 use Rattle.fst_safety.specs.declared.tasks.Turned.TheVariants.{Moved, Forked, Offered, Left as Off, Ended}
 use Rattle.fst_safety.specs.Safety.{main_type}
 use Rattle.fst_safety.specs.Threads.{Thread, FitsIn}
+use Rattle.fst_safety.specs.Turns.{of_ends}
 use Rattle.fst_safety.specs.Going.{GoesOnTo}
 
 -- ---- a task that fits its code
@@ -72,6 +73,10 @@ abbrev pub IsBegun : Code → TypedTask → Type 0
 IsBegun k t = (a : Tree) (e : CoreTree) → IsTypedCode k a → main_body k.module.value.globals.items ≡ Some e → Fits k a t (main_thread e)
 
 -- ---- what a turn answers
+
+-- how often the end has tried, where it has this name
+abbrev pub tries_at : EndName → EndView → ℕ
+tries_at z e = if same_end z (end_name e) then e.knows.tries else 0
 
 -- the log has one entry more
 pub record HasGained (x y : Thread) : Type 0 where
@@ -124,6 +129,8 @@ pub record HasTurned (k : Code) (a : Tree) (r : Result Turned AllocError) (u : T
   pub new : List Thread
   pub goes : GoesOnTo (module_of k) a x after new
   pub keeps : Keeps k u after
+  -- no end has tried less often
+  pub tries : (z : EndName) → of_ends (tries_at z) x ≤ of_ends (tries_at z) after + sum_by (of_ends (tries_at z)) new
   pub answers : Answers k r x after new
 
 -- so it is with each thread that the task was
