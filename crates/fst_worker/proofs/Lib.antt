@@ -12,3 +12,6 @@ pub mod Standing
 pub mod Catching
 pub mod Pools
 pub mod Entries
+pub mod Crews
+pub mod Steps
+pub mod Goes

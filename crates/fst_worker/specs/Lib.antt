@@ -3,3 +3,5 @@ pub mod Pairs
 pub mod Records
 pub mod Entries
 pub mod Laws
+pub mod Shares
+pub mod Passes
