@@ -222,12 +222,12 @@ module _ (k : Code) (a : Tree) (i : ℕ) (r : Result Move AllocError) (s u : Sha
 pub ok_same : (m n : Move) → ◌≡◌ {A = Result Move AllocError} (Ok m) (Ok n) → m ≡ n
 ok_same m n e = cc
 
--- a share with the marks of another
-pub record HasSameMarks (s u : Share) : Type 0 where
+-- a share counts and tells the same
+pub record SameMarks (s u : Share) : Type 0 where
   pub events : u.events ≡ s.events
   pub moved : u.moved ≡ s.moved
 
-module _ (k : Code) (i : ℕ) (s u : Share) (l : i < length s.tasks.items) (same : HasSameMarks s u) where
+module _ (k : Code) (i : ℕ) (s u : Share) (l : i < length s.tasks.items) (same : SameMarks s u) where
   pub steps_noted : (m : Move) → TurnsAt k i (Ok m) s u → StepsAt k i (Ok m) s (noted m u)
   steps_noted (move.Gained c) h a b code is fit =
       let t = h a b code is fit in

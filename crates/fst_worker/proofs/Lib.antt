@@ -15,3 +15,4 @@ pub mod Entries
 pub mod Crews
 pub mod Steps
 pub mod Goes
+pub mod Passing

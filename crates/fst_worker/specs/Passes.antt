@@ -1,5 +1,5 @@
 -- How a share goes on: the turns of one of its tasks, and passes over all of them.
-use Rattle.std.specs.Prelude.{◌≡◌, ◌⊎◌, ℕ, zero, suc, ◌+◌, ◌<◌, ◌≤◌, Bool, true, false, Result, Ok, Err, List, [], ◌∷◌, ◌++◌, length, take, slice_index_or, slice_set, sum_by, All, Some, ⊤}
+use Rattle.std.specs.Prelude.{◌≡◌, ◌⊎◌, ℕ, zero, suc, ◌+◌, ◌<◌, ◌≤◌, Bool, true, false, Result, Ok, Err, List, [], ◌∷◌, ◌++◌, length, take, slice_index_or, slice_set, swap, sum_by, All, Some, ⊤}
 use Rattle.std.specs.declared.alloc.AllocError.{AllocError}
 use Rattle.fst_types.specs.Tree.{Tree}
 use Rattle.fst_value.specs.declared.ends.EndName.{EndName}
@@ -19,7 +19,7 @@ use Rattle.fst_worker.specs.declared.shares.Move.{Move}
 use Rattle.fst_worker.specs.declared.shares.Move.TheVariants.{Gained, Offered, Left, Over}
 use Rattle.fst_worker.specs.declared.shares.Stop.{Stop}
 use Rattle.fst_worker.specs.declared.shares.Stop.TheVariants.{Waits, Ends, Halts}
-use Rattle.fst_worker.specs.Shares.{AreKept, Crew, HasAsked, IsCrew, IsIdle, IsOver, counts, counts_one, threads_of, tries_of}
+use Rattle.fst_worker.specs.Shares.{AreKept, Crew, HasAsked, HasRun, IsCrew, IsIdle, IsOver, counts, counts_one, threads_of, tries_of}
 use Rattle.fst_worker.specs.Works.{Went}
 
 -- ---- a share that goes on
@@ -150,11 +150,19 @@ pub record HasPassed (k : Code) (steps kept i : ℕ) (halted : Bool) (u : Share)
 abbrev pub PassesTo : Code → ℕ → ℕ → ℕ → Bool → Share → Share → Type 0
 PassesTo k steps kept i halted s u = Runs k (HasPassed k steps kept i halted u) s u
 
+-- the task at the place i has changed places with the first one that isn't kept
+pub record IsPutBefore (kept i : ℕ) (s u : Share) : Type 0 where
+  pub tasks : u.tasks.items ≡ swap s.tasks.items kept i
+  pub forked : u.forked.items ≡ s.forked.items
+  pub ended : u.ended.items ≡ s.ended.items
+  pub marks : (u.events ≡ s.events) × (u.moved ≡ s.moved) × (u.refused ≡ s.refused)
+
 -- after a pass each task that is left has asked in vain, or one exceeds the steps
 abbrev pub HasStopped : Code → ℕ → Share → Crew → Crew → Type 0
-HasStopped k steps u b c = All (HasAsked k (threads_of b) (threads_of c)) c.tasks ⊎ ((j : ℕ) × (j < length c.tasks) × ((e : Thread) → Exceeds steps u (slice_index_or c.tasks j e)))
+HasStopped k steps u b c =
+    All (HasAsked k (threads_of b) (threads_of c)) c.tasks ⊎ ((j : ℕ) × (j < length c.tasks) × ((e : Thread) → Exceeds steps u (slice_index_or c.tasks j e)))
 
--- a pass
+-- a pass, or some
 abbrev pub Passes : Code → ℕ → Share → Share → Type 0
 Passes k steps s u = Runs k (HasStopped k steps u) s u
 
@@ -163,6 +171,23 @@ abbrev pub AreOverFrom : Code → ℕ → List Thread → Type 0
 AreOverFrom k kept xs = (j : ℕ) (e : Thread) → kept ≤ j → j < length xs → IsOver k (slice_index_or xs j e)
 
 -- the first n tasks are left, and the others, all of which are over, are among those that have ended
-abbrev pub RetiresTo : Code → ℕ → ℕ → Share → Share → Type 0
-RetiresTo k kept n s u = (a : Tree) (b : Crew) → IsTypedCode k a → IsCrew k s b → All (FitsIn (module_of k) a) (threads_of b) → AreOverFrom k kept b.tasks →
+abbrev pub RetiresTo : ℕ → ℕ → Share → Share → Type 0
+RetiresTo kept n s u = (k : Code) (a : Tree) (b : Crew) → IsTypedCode k a → IsCrew k s b → All (FitsIn (module_of k) a) (threads_of b) → AreOverFrom k kept b.tasks →
     Becomes k a (λ c. c.tasks ≡ take n b.tasks) s u b
+
+-- the events and what the share tells are the same
+abbrev pub HasSameMarks : Share → Share → Type 0
+HasSameMarks s u = (u.events ≡ s.events) × (u.moved ≡ s.moved) × (u.refused ≡ s.refused)
+
+-- ---- the whole share
+
+-- the share has run, and its threads were b
+pub record HasWorked (k : Code) (a : Tree) (steps : ℕ) (s u : Share) (b : Crew) : Type 0 where
+  pub crew : Crew
+  pub is : IsCrew k u crew
+  pub went : Went (module_of k) a (threads_of b) (threads_of crew)
+  pub run : HasRun k steps s u b crew
+
+-- so it is whatever threads its tasks were
+abbrev pub Works : Code → ℕ → Share → Share → Type 0
+Works k steps s u = (a : Tree) (b : Crew) → IsTypedCode k a → IsCrew k s b → All (FitsIn (module_of k) a) (threads_of b) → HasWorked k a steps s u b

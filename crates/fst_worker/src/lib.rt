@@ -3,6 +3,7 @@
 #![tactic(auto)]
 
 mod law;
+mod passes;
 mod shares;
 
 pub use law::{apart_law, begin_law, entry_law, pair_law, pool_law, record_law, went_law};

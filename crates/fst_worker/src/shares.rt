@@ -6,7 +6,7 @@ ghost use Rattle.fst_safety.specs.declared.tasks.LogEntry.{LogEntry as Logged};
 ghost use Rattle.fst_safety.specs.declared.tasks.TypedTask.{TypedTask as Tasked};
 ghost use Rattle.fst_worker.specs.declared.shares.Move.TheVariants.{Gained as Has_gained};
 ghost use Rattle.fst_worker.specs.declared.shares.Stop.TheVariants.{Ends as Has_ended};
-ghost use Rattle.fst_worker.specs.Passes.{CanRun, Passes, PassesTo, RetiresTo, StepsAt, StopsAt, TurnsAt, clock_at, noted};
+ghost use Rattle.fst_worker.specs.Passes.{CanRun, StepsAt, StopsAt, TurnsAt, clock_at, noted};
 ghost use Rattle.fst_worker.specs.Shares.{counts_one};
 
 use fst_io::Gate;
@@ -139,7 +139,7 @@ impl Share {
     }
 
     // Moves the task at this place as far as it can. The second answer is whether it has moved.
-    fn run_at<G: Gate>(
+    pub(crate) fn run_at<G: Gate>(
         &mut self,
         code: &Code,
         i: usize,
@@ -171,47 +171,5 @@ impl Share {
             }
         }
         (Stop::Halts, moved)
-    }
-
-    // Moves each task as far as it can, and puts those that have come to their end behind the others. It answers how many are
-    // left, and whether one has moved and each as far as it could.
-    fn walk<G: Gate>(&mut self, code: &Code, steps: u64, number: u32, gate: &G) -> (usize, bool)
-        requires fit { CanRun code.now self.old }
-        requires steps { steps < 4294967295 }
-        ensures walks { Walks code.now steps result.0 self.old self.new }
-        ensures kept { result.0 ≤ vec_len self.new.tasks }
-        ensures room { vec_len self.new.ended + (vec_len self.new.tasks - result.0) ≤ vec_capacity self.new.ended }
-    {
-        let mut kept = 0;
-        let mut moved = false;
-        let mut halted = false;
-        for i in 0..self.tasks.len() {
-            if !halted {
-                let (stop, more) = self.run_at(code, i, i - kept, steps, number, gate);
-                moved |= more;
-                match stop {
-                    Stop::Waits => {}
-                    Stop::Ends => continue,
-                    Stop::Halts => halted = true,
-                }
-            }
-            self.tasks.swap(kept, i);
-            kept += 1;
-        }
-        (kept, moved && !halted)
-    }
-
-    // Puts the tasks from this place on, which have come to their end, to those that have.
-    fn retire(&mut self, kept: usize)
-        requires kept { kept ≤ vec_len self.old.tasks }
-        requires room { vec_len self.old.ended + (vec_len self.old.tasks - kept) ≤ vec_capacity self.old.ended }
-        ensures { RetiresTo code.now kept self.old self.new }
-    {
-        while kept < self.tasks.len() {
-            let Some(task) = self.tasks.pop() else {
-                unreachable!()
-            };
-            self.ended.push_reserved(task);
-        }
     }
 }
