@@ -16,3 +16,5 @@ pub mod Crews
 pub mod Steps
 pub mod Goes
 pub mod Passing
+pub mod Together
+pub mod Sends
