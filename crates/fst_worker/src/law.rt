@@ -40,3 +40,10 @@ pub fn record_law()
 pub fn entry_law()
     ensures { EntryLaw }
 {}
+
+/// A share may go from one thread to another.
+pub fn send_law() {
+    goes_to_threads::<crate::shares::Share>()
+}
+
+fn goes_to_threads<T: Send>() {}

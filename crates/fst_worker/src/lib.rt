@@ -7,6 +7,6 @@ mod passes;
 mod rounds;
 mod shares;
 
-pub use law::{apart_law, begin_law, entry_law, pair_law, pool_law, record_law, went_law};
+pub use law::{apart_law, begin_law, entry_law, pair_law, pool_law, record_law, send_law, went_law};
 pub use rounds::round;
 pub use shares::Share;
