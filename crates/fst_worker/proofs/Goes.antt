@@ -1,10 +1,10 @@
 -- What a share's turns keep: one turn, and one after the other.
-use Rattle.std.proofs.Common.{◌≡◌, ◌∙◌, ◌⊎◌, inl, inr, ℕ, zero, suc, ◌+◌, ◌<◌, ◌≤◌, Bool, true, false, Some, Result, Ok, Err, List, [], ◌∷◌, ◌++◌, length, get_or, set, take, drop, refl, sym, ap, subst, arith, append_assoc}
+use Rattle.std.proofs.Common.{◌≡◌, ◌∙◌, ℕ, zero, suc, ◌+◌, ◌<◌, ◌≤◌, Bool, true, false, Result, Ok, Err, List, [], ◌∷◌, ◌++◌, length, get_or, set, take, drop, refl, sym, ap, subst, arith, append_assoc}
 use Rattle.std.specs.Prelude.{All, IsPermutation, sum_by}
 use Rattle.std.specs.declared.alloc.AllocError.{AllocError}
-use Rattle.std.proofs.lemmas.List.{append-nil, get_or-set_same, set-set, length-set}
+use Rattle.std.proofs.lemmas.List.{get_or-set_same, length-set}
 use Rattle.std.proofs.lemmas.List.Elements.{All-append, All-get_or}
-use Rattle.std.proofs.lemmas.List.Sorted.{IsPermutation-refl, IsPermutation-sym, IsPermutation-trans, IsPermutation-append_left, IsPermutation-append_right, IsPermutation-middle, IsPermutation-cons, IsPermutation-append_comm, sum_by-IsPermutation}
+use Rattle.std.proofs.lemmas.List.Sorted.{IsPermutation-sym, IsPermutation-trans, IsPermutation-append_left, IsPermutation-append_right, IsPermutation-middle, IsPermutation-cons, IsPermutation-append_comm, sum_by-IsPermutation}
 use Rattle.std.proofs.lemmas.List.Sums.{sum_by-append, sum_by-cons, sum_by_push}
 use Rattle.fst_types.specs.Tree.{Tree}
 use Rattle.fst_value.specs.declared.ends.EndName.{EndName}
@@ -17,18 +17,18 @@ use Rattle.fst_safety.specs.declared.tasks.TypedTask.{TypedTask}
 use Rattle.fst_safety.specs.WellTyped.{program_in}
 use Rattle.fst_safety.specs.Logs.{Enters, Follows, after_entry}
 use Rattle.fst_safety.specs.Going.{GoesOnTo}
-use Rattle.fst_safety.specs.Tasks.{HasGained, IsTypedCode, Keeps, module_of, tries_at}
+use Rattle.fst_safety.specs.Tasks.{HasGained, module_of, tries_at}
 use Rattle.fst_safety.specs.Threads.{Thread, FitsIn}
 use Rattle.fst_safety.specs.Turns.{of_ends}
 use Rattle.fst_safety.proofs.ThreadLaws.{later}
 use Rattle.fst_worker.specs.declared.shares.Move.{Move}
 use Rattle.fst_worker.specs.declared.shares.Move.TheVariants as move
 use Rattle.fst_worker.specs.declared.shares.Share.{Share}
-use Rattle.fst_worker.specs.Works.{Step, Went}
+use Rattle.fst_worker.specs.Works.{Step}
 use Rattle.fst_worker.specs.Shares.{AreKept, Crew, HasAsked, IsCrew, IsIdle, IsOver, counts, counts_one, threads_of, tries_of}
-use Rattle.fst_worker.specs.Passes.{AsksMore, Becomes, CanRun, Comes, IsAt, Leads, Ran, Runs, StepsAt, TurnedAt, TurnsAt, clock_at, noted}
+use Rattle.fst_worker.specs.Passes.{AsksMore, CanRun, IsAt, Ran, Runs, StepsAt, TurnedAt, TurnsAt, clock_at, noted}
 use Rattle.fst_worker.proofs.Chains.{went_none, went_then, went_step}
-use Rattle.fst_worker.proofs.Crews.{All-first, kept_at, kept_length}
+use Rattle.fst_worker.proofs.Crews.{All-first, kept_length}
 use Rattle.fst_worker.proofs.Sums.{sum_none}
 use Rattle.fst_worker.proofs.Wholes.{went_fits}
 
@@ -182,15 +182,15 @@ module _ (k : Code) (a : Tree) (i : ℕ) (r : Result Move AllocError) (s u : Sha
     idle = still_idle;
     over = still_over;
     counted =
-      let p = summed events_of in
-      let e = ap counts same in
-      omega (arith, p.before, p.later, e, events, none_new);
+        let p = summed events_of in
+        let e = ap counts same in
+        omega (arith, p.before, p.later, e, events, none_new);
     moved = moved;
     still = λ m f.
-      let p = summed (λ (x : Thread). f x.path x.log) in
-      let e : f t.after.path t.after.log ≡ f t.before.path t.before.log = ap (λ path. f path t.after.log) t.goes.turn.path ∙ ap (f t.before.path) same in
-      let n = ap (sum_by (λ (x : Thread). f x.path x.log)) none in
-      omega (arith, p.before, p.later, e, n);
+        let p = summed (λ (x : Thread). f x.path x.log) in
+        let e : f t.after.path t.after.log ≡ f t.before.path t.before.log = ap (λ path. f path t.after.log) t.goes.turn.path ∙ ap (f t.before.path) same in
+        let n = ap (sum_by (λ (x : Thread). f x.path x.log)) none in
+        omega (arith, p.before, p.later, e, n);
     tries = tries_more;
   }
 
@@ -201,10 +201,10 @@ module _ (k : Code) (a : Tree) (i : ℕ) (r : Result Move AllocError) (s u : Sha
     idle = still_idle;
     over = still_over;
     counted =
-      let p = summed events_of in
-      let e = ap counts g.is in
-      let m = sum_by_push (λ (e : LogEntry). counts_one e.answer) t.before.log g.entry in
-      omega (arith, p.before, p.later, e, m, counted, events, none_new);
+        let p = summed events_of in
+        let e = ap counts g.is in
+        let m = sum_by_push (λ (e : LogEntry). counts_one e.answer) t.before.log g.entry in
+        omega (arith, p.before, p.later, e, m, counted, events, none_new);
     moved = λ m. let e = sym moved ∙ m in absurd (cc e);
     still = λ m. let e = sym moved ∙ m in absurd (cc e);
     tries = tries_more;

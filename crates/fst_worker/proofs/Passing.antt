@@ -1,27 +1,24 @@
 -- The turns of one task, one after the other, and passes over all tasks of a share.
-use Rattle.std.proofs.Common.{◌≡◌, ◌∙◌, ◌⊎◌, inl, inr, ℕ, zero, suc, ◌+◌, ◌<◌, ◌≤◌, Bool, true, false, Some, Result, Ok, Err, List, [], ◌∷◌, ◌++◌, length, get_or, set, take, drop, refl, sym, ap, subst, arith, append_assoc}
-use Rattle.std.specs.Prelude.{All, IsPermutation, sum_by, swap}
+use Rattle.std.proofs.Common.{◌≡◌, ◌∙◌, ◌⊎◌, inl, inr, ℕ, zero, suc, ◌+◌, ◌<◌, ◌≤◌, Bool, true, false, Ok, Err, List, [], ◌∷◌, ◌++◌, length, get_or, set, take, refl, sym, ap, subst, arith, append_assoc}
+use Rattle.std.specs.Prelude.{All, IsPermutation, swap}
 use Rattle.std.specs.declared.alloc.AllocError.{AllocError}
-use Rattle.std.proofs.lemmas.List.{append-nil, get_or-set_same, get_or-set_other, get_or-take, set-set, length-set, length-append}
-use Rattle.std.proofs.lemmas.List.Edits.{Swapped, swapped_from_swap, length-swap}
+use Rattle.std.proofs.lemmas.List.{append-nil, get_or-set_same, get_or-set_other, get_or-take, set-set, length-set}
+use Rattle.std.proofs.lemmas.List.Edits.{Swapped, swapped_from_swap}
 use Rattle.std.proofs.lemmas.List.Elements.{All-push}
 use Rattle.std.proofs.lemmas.List.Sorted.{IsPermutation-append_left, IsPermutation-swap, IsPermutation-to_front, IsPermutation-sym, IsPermutation-trans, sum_by-IsPermutation}
 use Rattle.fst_types.specs.Tree.{Tree}
-use Rattle.fst_value.specs.declared.ends.EndName.{EndName}
 use Rattle.fst_machine.specs.declared.code.Code.{Code}
-use Rattle.fst_runs.specs.Configs.{Path}
-use Rattle.fst_safety.specs.declared.tasks.LogEntry.{LogEntry}
 use Rattle.fst_safety.specs.declared.tasks.TypedTask.{TypedTask}
-use Rattle.fst_safety.specs.Tasks.{IsTypedCode, module_of, tries_at}
-use Rattle.fst_safety.specs.Threads.{Thread, FitsIn}
+use Rattle.fst_safety.specs.Tasks.{module_of, tries_at}
+use Rattle.fst_safety.specs.Threads.{Thread}
 use Rattle.fst_safety.specs.Turns.{of_ends}
 use Rattle.fst_worker.specs.declared.shares.Move.TheVariants as move
 use Rattle.fst_worker.specs.declared.shares.Share.{Share}
 use Rattle.fst_worker.specs.declared.shares.Stop.TheVariants.{Waits, Ends, Halts}
-use Rattle.fst_worker.specs.Shares.{AreKept, Crew, HasAsked, HasRun, IsCrew, IsIdle, IsOver, counts, threads_of, tries_of}
-use Rattle.fst_worker.specs.Passes.{AreOverFrom, Becomes, CanRun, Exceeds, FirstStop, HasPassed, HasSameMarks, HasStopped, HasWorked, IsAt, IsPutBefore, Passes, PassesTo, Ran, RetiresTo, Runs, StepsAt, StopsAt, Works, clock_at}
+use Rattle.fst_worker.specs.Shares.{AreKept, Crew, HasAsked, IsCrew, IsIdle, IsOver, counts, threads_of}
+use Rattle.fst_worker.specs.Passes.{Exceeds, FirstStop, HasPassed, HasSameMarks, HasStopped, IsAt, IsPutBefore, Passes, PassesTo, Ran, RetiresTo, Runs, StepsAt, StopsAt, clock_at}
 use Rattle.fst_worker.proofs.Chains.{went_moved}
-use Rattle.fst_worker.proofs.Crews.{kept_at, kept_length, kept_split, kept_append, kept_swap, kept_all}
+use Rattle.fst_worker.proofs.Crews.{kept_at, kept_length, kept_split, kept_append, kept_swap}
 use Rattle.fst_worker.proofs.Steps.{set_there}
 use Rattle.fst_worker.proofs.Goes.{asked_later, asked_earlier, kept_clock, ran_fits, ran_none, ran_then}
 
@@ -135,14 +132,14 @@ module _ (k : Code) (i : ℕ) (s u : Share) (before : RunsAt k i s u) where
   pub at_clock : (steps : ℕ) → i < length s.tasks.items → steps < clock_at u.tasks.items i → StopsAt k i steps Halts s u
   at_clock steps within l = runs_so k _ (λ b c. (y : Thread) × IsAt i b c y × Exceeds steps u y) s u
       (λ b c ib ic y.
-        let at = y.1 in
-        let n = kept_length k s.tasks.items b.tasks ib.tasks in
-        let n2 = kept_length k u.tasks.items c.tasks ic.tasks in
-        let n3 = ap length at.tasks ∙ length-set b.tasks i y.0 in
-        let e = kept_clock k u.tasks.items c.tasks i y.0 ic.tasks (omega (arith, within, n, n2, n3))
-        ∙ ap (λ (xs : List Thread). (get_or xs i y.0).now.clock) at.tasks
-        ∙ ap (λ (x : Thread). x.now.clock) (get_or-set_same b.tasks i y.0 y.0 (omega (arith, within, n))) in
-        (y.0, y.1, inr (inr (omega (arith, l, e))))) before
+      let at = y.1 in
+      let n = kept_length k s.tasks.items b.tasks ib.tasks in
+      let n2 = kept_length k u.tasks.items c.tasks ic.tasks in
+      let n3 = ap length at.tasks ∙ length-set b.tasks i y.0 in
+      let e = kept_clock k u.tasks.items c.tasks i y.0 ic.tasks (omega (arith, within, n, n2, n3))
+      ∙ ap (λ (xs : List Thread). (get_or xs i y.0).now.clock) at.tasks
+      ∙ ap (λ (x : Thread). x.now.clock) (get_or-set_same b.tasks i y.0 y.0 (omega (arith, within, n))) in
+      (y.0, y.1, inr (inr (omega (arith, l, e))))) before
 
 -- ---- a pass
 
@@ -176,11 +173,11 @@ module _ (k : Code) (steps kept i : ℕ) (s t u : Share) (within : i < length t.
   passed_at : (a : Tree) (b c d : Crew) (y : Thread) → IsAt i c d y → Ran k a t u c d → HasPassed k steps kept i false t b c → HasPassed k steps kept i false u b d
   passed_at a b c d y at r h = record {
     first = λ j e l.
-      let is = others_at i c d y at j e (λ q. absurd (omega (arith, q, l, le))) in
-      subst (HasAsked k (threads_of b) (threads_of d)) (sym is) (asked_later k a t u (threads_of b) c d (get_or c.tasks j e) r (h.first j e l));
+        let is = others_at i c d y at j e (λ q. absurd (omega (arith, q, l, le))) in
+        subst (HasAsked k (threads_of b) (threads_of d)) (sym is) (asked_later k a t u (threads_of b) c d (get_or c.tasks j e) r (h.first j e l));
     over = λ j e lo hi.
-      let is = others_at i c d y at j e (λ q. absurd (omega (arith, q, hi))) in
-      subst (IsOver k) (sym is) (h.over j e lo hi);
+        let is = others_at i c d y at j e (λ q. absurd (omega (arith, q, hi))) in
+        subst (IsOver k) (sym is) (h.over j e lo hi);
   }
 
   here_of : (c : Crew) → IsCrew k t c → i < length c.tasks
@@ -203,8 +200,8 @@ module _ (k : Code) (steps kept i : ℕ) (s t u : Share) (within : i < length t.
   pub visit_ends : StopsAt k i steps Ends t u → PassesTo k steps kept (i + 1) false s u
   visit_ends h = runs_then k _ _ (HasPassed k steps kept (i + 1) false u) s t u
       (λ a b c d ib ic id r q p z.
-        let m = passed_at a b c d z.0 z.1 q p in
-        record { first = m.first; over = λ j e lo hi. over_at b c d z.0 z.1 ic z.2 m j e lo (lt_or_same j i hi) }) before h
+      let m = passed_at a b c d z.0 z.1 q p in
+      record { first = m.first; over = λ j e lo hi. over_at b c d z.0 z.1 ic z.2 m j e lo (lt_or_same j i hi) }) before h
     where
       over_at : (b c d : Crew) (y : Thread) → IsAt i c d y → IsCrew k t c → IsOver k y → HasPassed k steps kept i false u b d → (j : ℕ) (e : Thread) → kept ≤ j → (j < i) ⊎ (j ≡ i) →
           IsOver k (get_or d.tasks j e)

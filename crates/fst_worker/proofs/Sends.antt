@@ -40,11 +40,20 @@ ruleset known = (sendable, crosses, types_ty.crosses, atomic_table_table.the_sen
 inside_send : IsSend inside.the_row
 inside_send = recorded_send _ _ (inside.the_type).to (inside.the_type).to_one (struct_send (shape inside.the_type) (
   search known depth 30,
-  (search known depth 30,
-  (search known depth 30,
-  (search known depth 30,
-  (search known depth 30,
-  tt))))))
+  (
+    search known depth 30,
+    (
+      search known depth 30,
+      (
+        search known depth 30,
+        (
+          search known depth 30,
+          tt,
+        ),
+      ),
+    ),
+  ),
+))
 
 end_send : IsSend end.the_row
 end_send = view_send _ _ _ _ _ inside_send
@@ -52,20 +61,44 @@ end_send = view_send _ _ _ _ _ inside_send
 typed_task_send : IsSend typed_task.the_row
 typed_task_send = recorded_send _ _ (typed_task.the_type).to (typed_task.the_type).to_one (struct_send (shape typed_task.the_type) (
   search known depth 30,
-  (search known depth 30,
-  (search (known, end_send) depth 30,
-  (search (known, end_send) depth 30,
-  (search known depth 30,
-  (search known depth 30,
-  (search known depth 30,
-  tt))))))))
+  (
+    search known depth 30,
+    (
+      search (known, end_send) depth 30,
+      (
+        search (known, end_send) depth 30,
+        (
+          search known depth 30,
+          (
+            search known depth 30,
+            (
+              search known depth 30,
+              tt,
+            ),
+          ),
+        ),
+      ),
+    ),
+  ),
+))
 
 pub share_send : IsSend share.the_row
 share_send = recorded_send _ _ (share.the_type).to (share.the_type).to_one (struct_send (shape share.the_type) (
   search (sendable, crosses, typed_task_send) depth 30,
-  (search (sendable, crosses, typed_task_send) depth 30,
-  (search (sendable, crosses, typed_task_send) depth 30,
-  (search (sendable, crosses) depth 30,
-  (search (sendable, crosses) depth 30,
-  (search (sendable, crosses) depth 30,
-  tt)))))))
+  (
+    search (sendable, crosses, typed_task_send) depth 30,
+    (
+      search (sendable, crosses, typed_task_send) depth 30,
+      (
+        search (sendable, crosses) depth 30,
+        (
+          search (sendable, crosses) depth 30,
+          (
+            search (sendable, crosses) depth 30,
+            tt,
+          ),
+        ),
+      ),
+    ),
+  ),
+))

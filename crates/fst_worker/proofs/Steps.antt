@@ -1,18 +1,17 @@
 -- One turn of a share's task, among the others.
-use Rattle.std.proofs.Common.{◌≡◌, ◌∙◌, ◌⊎◌, inl, inr, ℕ, zero, suc, ◌+◌, ◌<◌, ◌≤◌, Bool, true, false, Some, Result, Ok, Err, List, [], ◌∷◌, ◌++◌, length, get_or, set, take, drop, refl, sym, ap, subst, arith, append_assoc}
-use Rattle.std.specs.Prelude.{All, IsPermutation, sum_by, vec_len, if◌then◌else◌}
+use Rattle.std.proofs.Common.{◌≡◌, ◌∙◌, inl, inr, ℕ, zero, suc, ◌+◌, ◌<◌, Bool, Result, Ok, Err, List, [], ◌∷◌, ◌++◌, length, get_or, set, refl, sym, ap, subst, arith}
+use Rattle.std.specs.Prelude.{vec_len, if◌then◌else◌}
 use Rattle.std.specs.declared.alloc.AllocError.{AllocError}
 use Rattle.std.proofs.lemmas.List.{append-nil, get_or-set_same}
-use Rattle.std.proofs.lemmas.List.Elements.{All-append, All-get_or, All-weaker}
-use Rattle.std.proofs.lemmas.List.Sorted.{IsPermutation-sym, IsPermutation-trans, IsPermutation-append_left, IsPermutation-append_right, IsPermutation-middle, IsPermutation-cons, IsPermutation-append_comm, sum_by-IsPermutation}
-use Rattle.std.proofs.lemmas.List.Sums.{sum_by-append, sum_by-cons, sum_by_push}
+use Rattle.std.proofs.lemmas.List.Elements.{All-get_or}
+use Rattle.std.proofs.lemmas.List.Sorted.{sum_by-IsPermutation}
+use Rattle.std.proofs.lemmas.List.Sums.{sum_by-cons, sum_by_push}
 use Rattle.fst_types.specs.Tree.{Tree}
-use Rattle.fst_derivations.specs.Rules.{Surroundings}
 use Rattle.fst_value.specs.declared.ends.EndName.{EndName}
 use Rattle.fst_machine.specs.declared.code.Code.{Code}
 use Rattle.fst_machine.specs.declared.request.Request.TheVariants as request
 use Rattle.fst_machine.specs.Machine as machine
-use Rattle.fst_runs.specs.Configs.{Path, same_end}
+use Rattle.fst_runs.specs.Configs.{same_end}
 use Rattle.fst_runs.specs.Wrong.{once}
 use Rattle.fst_runs.proofs.NameLaws.{same_end-itself}
 use Rattle.fst_cell.specs.End.{EndView, end_name}
@@ -20,17 +19,15 @@ use Rattle.fst_safety.specs.declared.tasks.LogEntry.{LogEntry}
 use Rattle.fst_safety.specs.declared.tasks.TypedTask.{TypedTask}
 use Rattle.fst_safety.specs.declared.tasks.Turned.{Turned}
 use Rattle.fst_safety.specs.declared.tasks.Turned.TheVariants as turned
-use Rattle.fst_safety.specs.Going.{GoesOnTo}
-use Rattle.fst_safety.specs.Tasks.{CanTurn, Fits, FoundNoWay, HasGained, HasLeft, HasOffered, HasTried, HasTurned, IsTypedCode, Keeps, TakesTurn, module_of, tries_at}
+use Rattle.fst_safety.specs.Tasks.{CanTurn, FoundNoWay, HasGained, HasLeft, HasOffered, HasTried, HasTurned, Keeps, TakesTurn, module_of, tries_at}
 use Rattle.fst_safety.specs.Threads.{Thread, FitsIn}
 use Rattle.fst_safety.specs.Turns.{of_ends}
 use Rattle.fst_safety.proofs.Keeping.{stays}
 use Rattle.fst_worker.specs.declared.shares.Move.{Move}
 use Rattle.fst_worker.specs.declared.shares.Move.TheVariants as move
 use Rattle.fst_worker.specs.declared.shares.Share.{Share}
-use Rattle.fst_worker.specs.Works.{Step}
-use Rattle.fst_worker.specs.Shares.{AreKept, Crew, IsCrew, IsOver, counts_one, threads_of}
-use Rattle.fst_worker.specs.Passes.{AsksMore, CanRun, Comes, IsAt, TurnedAt, TurnsAt}
+use Rattle.fst_worker.specs.Shares.{AreKept, IsOver, counts_one}
+use Rattle.fst_worker.specs.Passes.{AsksMore, CanRun, Comes, TurnsAt}
 use Rattle.fst_worker.proofs.Crews.{All-first, kept_at, kept_set, kept_append, kept_length}
 
 -- ---- tries

@@ -1,20 +1,18 @@
 -- What a share has done, and what all shares have done together.
-use Rattle.std.proofs.Common.{◌≡◌, ◌∙◌, ◌⊎◌, inl, inr, ℕ, zero, suc, ◌+◌, ◌<◌, ◌≤◌, false, true, List, [], ◌∷◌, ◌++◌, length, get_or, refl, sym, ap, subst, arith}
+use Rattle.std.proofs.Common.{◌≡◌, ◌∙◌, inl, inr, ℕ, zero, suc, ◌<◌, ◌≤◌, false, List, [], ◌∷◌, length, get_or, sym, ap, subst, arith}
 use Rattle.std.specs.Prelude.{All, sum_by}
 use Rattle.std.proofs.lemmas.List.Elements.{All-nil, All-cons}
 use Rattle.fst_types.specs.Tree.{Tree}
 use Rattle.fst_machine.specs.declared.code.Code.{Code}
-use Rattle.fst_runs.specs.Configs.{Path}
-use Rattle.fst_safety.specs.declared.tasks.LogEntry.{LogEntry}
 use Rattle.fst_safety.specs.declared.tasks.TypedTask.{TypedTask}
 use Rattle.fst_safety.specs.Tasks.{IsTypedCode, Keeps, module_of}
 use Rattle.fst_safety.specs.Threads.{Thread, FitsIn}
 use Rattle.fst_worker.specs.declared.shares.Share.{Share}
 use Rattle.fst_worker.specs.Works.{Went}
-use Rattle.fst_worker.specs.Shares.{AreCounted, AreCrews, AreKept, AreLent, AreStill, CanMove, Crew, HasAsked, HasRun, HaveRun, IsCrew, IsIdle, RunsAll, all_of, all_tasks, all_threads, counts, threads_of}
+use Rattle.fst_worker.specs.Shares.{AreCounted, AreCrews, AreKept, AreLent, AreStill, CanMove, Crew, HasAsked, HasRun, HaveRun, IsCrew, IsIdle, RunsAll, all_of, all_threads, counts, threads_of}
 use Rattle.fst_worker.specs.Passes.{CanRun, Exceeds, HasStopped, HasWorked, Passes, Works}
 use Rattle.fst_worker.proofs.Chains.{went_none, went_both}
-use Rattle.fst_worker.proofs.Crews.{All-first, All-behind, AreManned, crew_kept, crews_of, kept_all, kept_length, kept_sum}
+use Rattle.fst_worker.proofs.Crews.{All-first, All-behind, crew_kept, crews_kept, crews_of, kept_all, kept_length, kept_sum}
 use Rattle.fst_worker.proofs.Goes.{clock_there, kept_clock}
 use Rattle.fst_worker.proofs.Passing.{crew_same}
 
@@ -126,6 +124,7 @@ module _ (k : Code) where
         same = r.same;
         after = d.after;
         are = d.are;
+        kept = crews_kept k us d.after d.are;
         went = subst (λ (l : List Thread). Went (module_of k) a l (all_threads d.after)) r.same d.went;
         each = d.each;
       }
@@ -171,9 +170,9 @@ module _ (k : Code) where
     are_lent none = record {
       length_is = len;
       idle = λ i d l.
-        let m : i < length ss = omega (arith, l, len) in
-        kept_all k (λ (t : TypedTask). t.log.items ≡ []) IsIdle (λ t x h e. h.log ∙ e) (get_or us i d).forked.items (get_or run.after i nobody).forked (crew_after i d nobody m).forked
-        ((run.each i d nobody m).idle (no_threads (get_or ss i d).forked.items (get_or run.before i nobody).forked (none i d m) (crew_before i d nobody m).forked));
+          let m : i < length ss = omega (arith, l, len) in
+          kept_all k (λ (t : TypedTask). t.log.items ≡ []) IsIdle (λ t x h e. h.log ∙ e) (get_or us i d).forked.items (get_or run.after i nobody).forked (crew_after i d nobody m).forked
+          ((run.each i d nobody m).idle (no_threads (get_or ss i d).forked.items (get_or run.before i nobody).forked (none i d m) (crew_before i d nobody m).forked));
     }
       where
         no_threads : (ts : List TypedTask) (xs : List Thread) → ts ≡ [] → AreKept k ts xs → All IsIdle xs

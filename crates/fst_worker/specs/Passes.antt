@@ -19,7 +19,7 @@ use Rattle.fst_worker.specs.declared.shares.Move.{Move}
 use Rattle.fst_worker.specs.declared.shares.Move.TheVariants.{Gained, Offered, Left, Over}
 use Rattle.fst_worker.specs.declared.shares.Stop.{Stop}
 use Rattle.fst_worker.specs.declared.shares.Stop.TheVariants.{Waits, Ends, Halts}
-use Rattle.fst_worker.specs.Shares.{AreKept, Crew, HasAsked, HasRun, IsCrew, IsIdle, IsOver, counts, counts_one, threads_of, tries_of}
+use Rattle.fst_worker.specs.Shares.{Crew, HasAsked, HasRun, IsCrew, IsIdle, IsOver, counts, counts_one, threads_of, tries_of}
 use Rattle.fst_worker.specs.Works.{Went}
 
 -- ---- a share that goes on

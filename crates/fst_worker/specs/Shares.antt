@@ -131,6 +131,7 @@ pub record HaveRun (k : Code) (a : Tree) (steps : ℕ) (ss us : List Share) (xs 
   pub same : all_threads before ≡ xs
   pub after : List Crew
   pub are : AreCrews k us after
+  pub kept : AreKept k (all_tasks us) (all_threads after)
   -- their threads have gone on by turns alone
   pub went : Went (module_of k) a xs (all_threads after)
   pub each : (i : ℕ) (d : Share) (e : Crew) → i < length ss →
@@ -161,11 +162,11 @@ AreStill ss us = (i : ℕ) (d : Share) → i < length ss →
     u.moved ≡ false → (w : Path → List LogEntry → ℕ) →
     sum_by (λ (t : TypedTask). w t.task.path t.log.items) (all_of u) ≡ sum_by (λ (t : TypedTask). w t.task.path t.log.items) (all_of s)
 
--- whether a share has moved, and whether one has given up for want of memory
+-- whether a share has moved
 abbrev pub some_moved : List Share → Bool
 some_moved ss = list_any (λ (s : Share). s.moved) ss
 
--- the second
+-- whether a share has given up for want of memory
 abbrev pub some_refused : List Share → Bool
 some_refused ss = list_any (λ (s : Share). s.refused) ss
 

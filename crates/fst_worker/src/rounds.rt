@@ -42,7 +42,12 @@ fn each_works<R: Threads + Sync, G: Gate + Sync>(
     ensures each { (i : ℕ) (d : Shared) → i < length shares.old →
         Works code.now steps (slice_index_or shares.old i d) (slice_index_or shares.new i d) }
 {
-    thread::for_each_mut(rt, shares, WORKERS, &|number, share| work(code, share, steps, number, gate));
+    thread::for_each_mut(
+        rt,
+        shares,
+        WORKERS,
+        &|number, share| work(code, share, steps, number, gate),
+    );
 }
 
 // What the workers do together.

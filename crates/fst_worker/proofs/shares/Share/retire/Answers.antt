@@ -1,4 +1,4 @@
-use Rattle.std.proofs.Common.{◌≡◌, ◌∙◌, ◌+◌, ◌-◌, ◌≤◌, ◌<◌, vec_len, refl, sym, subst, arith}
+use Rattle.std.proofs.Common.{◌≡◌, ◌≤◌, vec_len, refl, sym, subst, arith}
 use Rattle.fst_worker.specs.Passes.{RetiresTo}
 use Rattle.fst_worker.proofs.Passing.{retires_none, retires_one}
 use Rattle.fst_worker.proofs.shares.Share.retire.Goals as goal

@@ -1,4 +1,4 @@
-use Rattle.std.proofs.Common.{◌≡◌, ◌+◌, ◌-◌, ◌≤◌, vec_len, vec_capacity}
+use Rattle.std.proofs.Common.{◌+◌, ◌-◌, ◌≤◌, vec_len, vec_capacity}
 use Rattle.fst_worker.specs.Passes.{HasSameMarks, RetiresTo}
 use Rattle.fst_worker.proofs.shares.Share.retire.Given as goal
 

@@ -1,5 +1,5 @@
-use Rattle.std.proofs.Common.{◌≡◌, ◌∙◌, ◌<◌, ◌≤◌, ◌+◌, ℕ, Ok, ap, sym, subst, refl, arith, rules}
-use Rattle.fst_worker.specs.Passes.{StepsAt, clock_at}
+use Rattle.std.proofs.Common.{◌∙◌, Ok, ap, subst, refl, arith}
+use Rattle.fst_worker.specs.Passes.{StepsAt}
 use Rattle.fst_worker.proofs.Steps.{within}
 use Rattle.fst_worker.proofs.Goes.{clock_there, runs_on}
 use Rattle.fst_worker.proofs.Passing.{at_none, at_gained, at_offered, at_left, at_over, at_wanting, at_events, at_clock}

@@ -1,4 +1,4 @@
-use Rattle.std.proofs.Common.{◌≡◌, ◌+◌, ◌-◌, ◌≤◌, ◌<◌, vec_len, vec_capacity}
+use Rattle.std.proofs.Common.{◌≡◌, ◌+◌, ◌-◌, ◌≤◌, vec_len, vec_capacity}
 use Rattle.fst_safety.specs.Threads.{Thread}
 use Rattle.fst_worker.specs.Passes.{IsAt, Runs, clock_at}
 use Rattle.fst_worker.proofs.shares.Share.run_at.Given as goal

@@ -1,4 +1,4 @@
-use Rattle.std.proofs.Common.{◌≡◌, ◌<◌, Ok, sym, subst}
+use Rattle.std.proofs.Common.{◌<◌, Ok, sym, subst}
 use Rattle.fst_worker.specs.Passes.{StepsAt, clock_at}
 use Rattle.fst_worker.proofs.Steps.{within}
 use Rattle.fst_worker.proofs.Goes.{steps_noted, steps_wanting, clock_steps, ok_same}

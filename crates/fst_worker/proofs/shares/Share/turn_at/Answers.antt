@@ -1,4 +1,4 @@
-use Rattle.std.proofs.Common.{◌≡◌, ◌∙◌, ◌+◌, [], ◌∷◌, ◌++◌, ap, Ok, refl, subst, arith}
+use Rattle.std.proofs.Common.{◌∙◌, [], ◌∷◌, ◌++◌, ap, Ok, refl, subst, arith}
 use Rattle.fst_safety.specs.Tasks.{TakesTurn}
 use Rattle.fst_worker.proofs.Steps.{can_turn, counts_there, within, nothing_turns, moved_turns, forked_turns, offered_turns, left_turns, ended_turns, wanting_turns}
 use Rattle.fst_worker.proofs.shares.Share.turn_at.Goals as goal

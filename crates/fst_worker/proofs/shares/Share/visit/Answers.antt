@@ -1,4 +1,4 @@
-use Rattle.std.proofs.Common.{◌≡◌, ◌∙◌, ◌+◌, true, false, refl, sym, subst, arith}
+use Rattle.std.proofs.Common.{◌∙◌, ◌+◌, true, false, refl, sym, subst, arith}
 use Rattle.fst_worker.specs.Passes.{StopsAt}
 use Rattle.fst_worker.proofs.Steps.{within}
 use Rattle.fst_worker.proofs.Passing.{passes_as, visit_ends, visit_waits, visit_halts, put_halted}
