@@ -159,8 +159,8 @@ pub record IsPutBefore (kept i : ℕ) (s u : Share) : Type 0 where
 
 -- after a pass each task that is left has asked in vain, or one exceeds the steps
 abbrev pub HasStopped : Code → ℕ → Share → Crew → Crew → Type 0
-HasStopped k steps u b c =
-    All (HasAsked k (threads_of b) (threads_of c)) c.tasks ⊎ ((j : ℕ) × (j < length c.tasks) × ((e : Thread) → Exceeds steps u (slice_index_or c.tasks j e)))
+HasStopped k steps u b c = All (HasAsked k (threads_of b) (threads_of c)) c.tasks
+    ⊎ ((j : ℕ) × (j < length c.tasks) × ((e : Thread) → Exceeds steps u (slice_index_or c.tasks j e)))
 
 -- a pass, or some
 abbrev pub Passes : Code → ℕ → Share → Share → Type 0
@@ -172,8 +172,8 @@ AreOverFrom k kept xs = (j : ℕ) (e : Thread) → kept ≤ j → j < length xs 
 
 -- the first n tasks are left, and the others, all of which are over, are among those that have ended
 abbrev pub RetiresTo : ℕ → ℕ → Share → Share → Type 0
-RetiresTo kept n s u = (k : Code) (a : Tree) (b : Crew) → IsTypedCode k a → IsCrew k s b → All (FitsIn (module_of k) a) (threads_of b) → AreOverFrom k kept b.tasks →
-    Becomes k a (λ c. c.tasks ≡ take n b.tasks) s u b
+RetiresTo kept n s u = (k : Code) (a : Tree) (b : Crew) → IsTypedCode k a → IsCrew k s b → All (FitsIn (module_of k) a) (threads_of b) →
+    AreOverFrom k kept b.tasks → Becomes k a (λ c. c.tasks ≡ take n b.tasks) s u b
 
 -- the events and what the share tells are the same
 abbrev pub HasSameMarks : Share → Share → Type 0
