@@ -1,5 +1,5 @@
 -- What a share has done, and what all shares have done together.
-use Rattle.std.proofs.Common.{◌≡◌, ◌∙◌, inl, inr, ℕ, zero, suc, ◌<◌, ◌≤◌, false, List, [], ◌∷◌, length, get_or, sym, ap, subst, arith}
+use Rattle.std.proofs.Common.{◌≡◌, ◌∙◌, inl, inr, ℕ, zero, suc, ◌<◌, ◌≤◌, Bool, ◌||◌, true, false, List, [], ◌∷◌, ◌++◌, length, get_or, take, refl, sym, ap, subst, arith}
 use Rattle.std.specs.Prelude.{All, sum_by}
 use Rattle.std.proofs.lemmas.List.Elements.{All-nil, All-cons}
 use Rattle.fst_types.specs.Tree.{Tree}
@@ -9,10 +9,10 @@ use Rattle.fst_safety.specs.Tasks.{IsTypedCode, Keeps, module_of}
 use Rattle.fst_safety.specs.Threads.{Thread, FitsIn}
 use Rattle.fst_worker.specs.declared.shares.Share.{Share}
 use Rattle.fst_worker.specs.Works.{Went}
-use Rattle.fst_worker.specs.Shares.{AreCounted, AreCrews, AreKept, AreLent, AreStill, CanMove, Crew, HasAsked, HasRun, HaveRun, IsCrew, IsIdle, RunsAll, all_of, all_threads, counts, threads_of}
+use Rattle.fst_worker.specs.Shares.{AreCounted, AreCrews, AreKept, AreLent, AreStill, CanMove, Crew, GoOn, HasAsked, HasRun, HaveRun, IsCrew, IsIdle, RunsAll, all_of, all_threads, counts, some_refused, threads_of}
 use Rattle.fst_worker.specs.Passes.{CanRun, Exceeds, HasStopped, HasWorked, Passes, Works}
 use Rattle.fst_worker.proofs.Chains.{went_none, went_both}
-use Rattle.fst_worker.proofs.Crews.{All-first, All-behind, crew_kept, crews_kept, crews_of, kept_all, kept_length, kept_sum}
+use Rattle.fst_worker.proofs.Crews.{All-first, All-behind, AreManned, crew_kept, crews_kept, crews_of, kept_all, kept_length, kept_sum}
 use Rattle.fst_worker.proofs.Goes.{clock_there, kept_clock}
 use Rattle.fst_worker.proofs.Passing.{crew_same}
 
@@ -83,15 +83,8 @@ module _ (k : Code) where
       let r = crews_of k ss m.threads m.kept in
       can_run m.type ss r.crews m.code r.are (subst (All (FitsIn (module_of k) m.type)) (sym r.same) m.fit)
 
-  -- what the shares have done together
-  pub record Done (a : Tree) (steps : ℕ) (ss us : List Share) (bs : List Crew) : Type 0 where
-    pub after : List Crew
-    pub are : AreCrews k us after
-    pub went : Went (module_of k) a (all_threads bs) (all_threads after)
-    pub each : (i : ℕ) (d : Share) (e : Crew) → i < length ss → HasRun k steps (get_or ss i d) (get_or us i d) (get_or bs i e) (get_or after i e)
-
   module _ (a : Tree) (steps : ℕ) (code : IsTypedCode k a) where
-    both : (s u : Share) (b : Crew) (ss us : List Share) (bs : List Crew) → HasWorked k a steps s u b → Done a steps ss us bs → Done a steps (s ∷ ss) (u ∷ us) (b ∷ bs)
+    both : (s u : Share) (b : Crew) (ss us : List Share) (bs : List Crew) → HasWorked k a steps s u b → HaveRun k a steps ss us bs → HaveRun k a steps (s ∷ ss) (u ∷ us) (b ∷ bs)
     both s u b ss us bs w r = record {
       after = w.crew ∷ r.after;
       are = (w.is, r.are);
@@ -104,7 +97,7 @@ module _ (k : Code) where
         at (suc i) d e l = r.each i d e (omega (arith, l))
 
     done : (ss us : List Share) (bs : List Crew) → AreCrews k ss bs → All (FitsIn (module_of k) a) (all_threads bs) → length us ≡ length ss →
-        ((i : ℕ) (d : Share) → i < length ss → Works k steps (get_or ss i d) (get_or us i d)) → Done a steps ss us bs
+        ((i : ℕ) (d : Share) → i < length ss → Works k steps (get_or ss i d) (get_or us i d)) → HaveRun k a steps ss us bs
     done [] [] [] h fit e each = record { after = []; are = tt; went = went_none (module_of k) a []; each = λ i d e l. absurd (omega (arith, l)) }
     done [] [] (b ∷ bs) h fit e each = absurd h
     done [] (u ∷ us) bs h fit e each = absurd (omega (arith, e))
@@ -114,29 +107,30 @@ module _ (k : Code) where
         both s u b ss us bs (each 0 s (omega arith) a b code h.0 (All-first (FitsIn (module_of k) a) (threads_of b) (all_threads bs) fit))
         (done ss us bs h.1 (All-behind (FitsIn (module_of k) a) (threads_of b) (all_threads bs) fit) (omega (arith, e)) (λ i d l. each (suc i) d (omega (arith, l))))
 
+  -- what each share did by itself is what they did together
   pub all_run : (steps : ℕ) (ss us : List Share) → length us ≡ length ss → ((i : ℕ) (d : Share) → i < length ss → Works k steps (get_or ss i d) (get_or us i d)) → RunsAll k steps ss us
-  all_run steps ss us e each a xs code kept fit =
-      let r = crews_of k ss xs kept in
-      let d = done a steps code ss us r.crews r.are (subst (All (FitsIn (module_of k) a)) (sym r.same) fit) e each in
-      record {
-        before = r.crews;
-        were = r.are;
-        same = r.same;
-        after = d.after;
-        are = d.are;
-        kept = crews_kept k us d.after d.are;
-        went = subst (λ (l : List Thread). Went (module_of k) a l (all_threads d.after)) r.same d.went;
-        each = d.each;
-      }
+  all_run steps ss us e each a bs code are fit = done a steps code ss us bs are fit e each
+
+  pub go_on : (steps : ℕ) (ss us : List Share) → RunsAll k steps ss us → GoOn k ss us
+  go_on steps ss us runs a xs code kept fit =
+      let m = crews_of k ss xs kept in
+      let r = runs a m.crews code m.are (subst (All (FitsIn (module_of k) a)) (sym m.same) fit) in (
+        all_threads r.after,
+        crews_kept k us r.after r.are,
+        subst (λ (l : List Thread). Went (module_of k) a l (all_threads r.after)) m.same r.went,
+      )
 
   -- ---- told by the tasks
 
   module _ (steps : ℕ) (ss us : List Share) (len : length us ≡ length ss) (can : CanMove k ss) (runs : RunsAll k steps ss us) where
-    run : HaveRun k can.type steps ss us can.threads
-    run = runs can.type can.threads can.code can.kept can.fit
+    manned : AreManned k ss can.threads
+    manned = crews_of k ss can.threads can.kept
 
-    crew_before : (i : ℕ) (d : Share) (e : Crew) → i < length ss → IsCrew k (get_or ss i d) (get_or run.before i e)
-    crew_before i d e l = crew_at ss run.before i d e run.were l
+    run : HaveRun k can.type steps ss us manned.crews
+    run = runs can.type manned.crews can.code manned.are (subst (All (FitsIn (module_of k) can.type)) (sym manned.same) can.fit)
+
+    crew_before : (i : ℕ) (d : Share) (e : Crew) → i < length ss → IsCrew k (get_or ss i d) (get_or manned.crews i e)
+    crew_before i d e l = crew_at ss manned.crews i d e manned.are l
 
     crew_after : (i : ℕ) (d : Share) (e : Crew) → i < length ss → IsCrew k (get_or us i d) (get_or run.after i e)
     crew_after i d e l = crew_at us run.after i d e run.are (omega (arith, l, len))
@@ -152,7 +146,7 @@ module _ (k : Code) where
         let e = (run.each i d nobody l).counted in
         let f = λ (t : TypedTask). counts t.log.items in
         let g = λ (x : Thread). counts x.log in
-        let p = summed f g (λ t x h. ap counts h.log) (get_or ss i d) (get_or run.before i nobody) (crew_before i d nobody l) in
+        let p = summed f g (λ t x h. ap counts h.log) (get_or ss i d) (get_or manned.crews i nobody) (crew_before i d nobody l) in
         let q = summed f g (λ t x h. ap counts h.log) (get_or us i d) (get_or run.after i nobody) (crew_after i d nobody l) in
         omega (arith, e, p, q)
 
@@ -162,7 +156,7 @@ module _ (k : Code) where
         let f = λ (t : TypedTask). w t.task.path t.log.items in
         let g = λ (x : Thread). w x.path x.log in
         let same = λ (t : TypedTask) (x : Thread) (h : Keeps k t x). ap (λ p. w p t.log.items) h.path ∙ ap (w x.path) h.log in
-        let p = summed f g same (get_or ss i d) (get_or run.before i nobody) (crew_before i d nobody l) in
+        let p = summed f g same (get_or ss i d) (get_or manned.crews i nobody) (crew_before i d nobody l) in
         let q = summed f g same (get_or us i d) (get_or run.after i nobody) (crew_after i d nobody l) in
         q ∙ e ∙ sym p
 
@@ -172,9 +166,26 @@ module _ (k : Code) where
       idle = λ i d l.
           let m : i < length ss = omega (arith, l, len) in
           kept_all k (λ (t : TypedTask). t.log.items ≡ []) IsIdle (λ t x h e. h.log ∙ e) (get_or us i d).forked.items (get_or run.after i nobody).forked (crew_after i d nobody m).forked
-          ((run.each i d nobody m).idle (no_threads (get_or ss i d).forked.items (get_or run.before i nobody).forked (none i d m) (crew_before i d nobody m).forked));
+          ((run.each i d nobody m).idle (no_threads (get_or ss i d).forked.items (get_or manned.crews i nobody).forked (none i d m) (crew_before i d nobody m).forked));
     }
       where
         no_threads : (ts : List TypedTask) (xs : List Thread) → ts ≡ [] → AreKept k ts xs → All IsIdle xs
         no_threads ts [] e h = All-nil IsIdle
         no_threads ts (x ∷ xs) e h = absurd (subst (λ (l : List TypedTask). AreKept k l (x ∷ xs)) e h)
+
+-- no share has given up where none is told to
+none_here : (u : Share) (us : List Share) (b : Bool) → u.refused ≡ b → (b || some_refused us) ≡ false → (some_refused us ≡ false → All (λ (u : Share). u.refused ≡ false) us) →
+    All (λ (u : Share). u.refused ≡ false) (u ∷ us)
+none_here u us true q e more = absurd (cc e)
+none_here u us false q e more = All-cons (λ (u : Share). u.refused ≡ false) u us q (more e)
+
+pub none_refused : (us : List Share) → some_refused us ≡ false → All (λ (u : Share). u.refused ≡ false) us
+none_refused [] e = All-nil (λ (u : Share). u.refused ≡ false)
+none_refused (u ∷ us) e = none_here u us u.refused refl e (none_refused us)
+
+-- a whole slice that is written back
+pub written_back : (n : ℕ) (xs ys : List Share) → n ≡ length xs → take n (xs ++ ys) ≡ xs
+written_back zero [] ys e = refl
+written_back (suc n) [] ys e = absurd (omega (arith, e))
+written_back zero (x ∷ xs) ys e = absurd (omega (arith, e))
+written_back (suc n) (x ∷ xs) ys e = ap (λ (l : List Share). x ∷ l) (written_back n xs ys (omega (arith, e)))

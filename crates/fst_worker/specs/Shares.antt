@@ -124,23 +124,23 @@ pub record HasRun (k : Code) (steps : ℕ) (s u : Share) (b c : Crew) : Type 0 w
 
 -- ---- what it makes of all shares
 
--- the shares ss, whose tasks were these threads, are us now
-pub record HaveRun (k : Code) (a : Tree) (steps : ℕ) (ss us : List Share) (xs : List Thread) : Type 0 where
-  pub before : List Crew
-  pub were : AreCrews k ss before
-  pub same : all_threads before ≡ xs
+-- whatever threads the tasks were, where these fit the code, they have gone on by turns alone
+abbrev pub GoOn : Code → List Share → List Share → Type 0
+GoOn k ss us = (a : Tree) (xs : List Thread) → IsTypedCode k a → AreKept k (all_tasks ss) xs → All (FitsIn (module_of k) a) xs →
+    (ys : List Thread) × AreKept k (all_tasks us) ys × Went (module_of k) a xs ys
+
+-- the shares ss, whose tasks were the threads of these crews, are us now
+pub record HaveRun (k : Code) (a : Tree) (steps : ℕ) (ss us : List Share) (bs : List Crew) : Type 0 where
   pub after : List Crew
   pub are : AreCrews k us after
-  pub kept : AreKept k (all_tasks us) (all_threads after)
-  -- their threads have gone on by turns alone
-  pub went : Went (module_of k) a xs (all_threads after)
+  pub went : Went (module_of k) a (all_threads bs) (all_threads after)
   pub each : (i : ℕ) (d : Share) (e : Crew) → i < length ss →
-      HasRun k steps (slice_index_or ss i d) (slice_index_or us i d) (slice_index_or before i e) (slice_index_or after i e)
+      HasRun k steps (slice_index_or ss i d) (slice_index_or us i d) (slice_index_or bs i e) (slice_index_or after i e)
 
--- so it is whatever threads the tasks were, where these fit the code
+-- so it is whatever crews they had
 abbrev pub RunsAll : Code → ℕ → List Share → List Share → Type 0
 RunsAll k steps ss us =
-    (a : Tree) (xs : List Thread) → IsTypedCode k a → AreKept k (all_tasks ss) xs → All (FitsIn (module_of k) a) xs → HaveRun k a steps ss us xs
+    (a : Tree) (bs : List Crew) → IsTypedCode k a → AreCrews k ss bs → All (FitsIn (module_of k) a) (all_threads bs) → HaveRun k a steps ss us bs
 
 -- there are as many shares, and no task that was forked has moved
 pub record AreLent (ss us : List Share) : Type 0 where

@@ -3,7 +3,7 @@
 ghost use Rattle.std.specs.Prelude.{◌≡◌, ℕ, ◌<◌, [], All, length, slice_index_or};
 ghost use Rattle.fst_worker.specs.declared.shares.Share.{Share as Shared};
 ghost use Rattle.fst_worker.specs.Passes.{CanRun, Works};
-ghost use Rattle.fst_worker.specs.Shares.{AreCounted, AreLent, AreStill, CanMove, IsAnswer, RunsAll, some_moved, some_refused};
+ghost use Rattle.fst_worker.specs.Shares.{AreCounted, AreLent, AreStill, CanMove, GoOn, IsAnswer, RunsAll, some_moved, some_refused};
 
 use crate::shares::Share;
 use fst_io::Gate;
@@ -61,7 +61,8 @@ fn all_work<R: Threads + Sync, G: Gate + Sync>(
     requires steps { steps < 4294967295 }
     requires fit { CanMove code.now shares.old }
     requires none_forked { All (λ (s : Shared). s.forked.items ≡ []) shares.old }
-    ensures went { RunsAll code.now steps shares.old shares.new }
+    ensures went { GoOn code.now shares.old shares.new }
+    ensures runs { RunsAll code.now steps shares.old shares.new }
     ensures lent { AreLent shares.old shares.new }
     ensures counted { AreCounted shares.old shares.new }
     ensures still { AreStill shares.old shares.new }
@@ -109,7 +110,8 @@ pub fn round<R: Threads + Sync, G: Gate + Sync>(
     requires steps { steps < 4294967295 }
     requires fit { CanMove code.now shares.old.items }
     requires none_forked { All (λ (s : Shared). s.forked.items ≡ []) shares.old.items }
-    ensures went { RunsAll code.now steps shares.old.items shares.new.items }
+    ensures went { GoOn code.now shares.old.items shares.new.items }
+    ensures runs { RunsAll code.now steps shares.old.items shares.new.items }
     ensures lent { AreLent shares.old.items shares.new.items }
     ensures counted { AreCounted shares.old.items shares.new.items }
     ensures still { AreStill shares.old.items shares.new.items }
