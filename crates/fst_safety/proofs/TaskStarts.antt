@@ -52,6 +52,7 @@ begun_fits m a e p h = record {
   named = λ y n. absurd (omega (arith, n));
   ends = All-nil (FitsEnd m (main_thread e).now);
   spent = All-nil IsSpent;
+  opened = refl;
   made = omega arith;
   forked = omega arith;
 }

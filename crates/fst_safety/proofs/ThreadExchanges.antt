@@ -22,7 +22,7 @@ use Rattle.fst_safety.specs.Turns.{Turn, AreKnownSpent, of_ends, on_side, by_typ
 use Rattle.fst_safety.specs.Going.{IsMoved}
 use Rattle.fst_safety.proofs.BagLaws.{counted, count_first, counted_so, or_not, with_at, at_itself, at_other, are_permuted, are_less, unspent_in}
 use Rattle.fst_safety.proofs.PutLaws.{HasPut, WentTo, has_put, rested, rested_typed, rested_unspent}
-use Rattle.fst_safety.proofs.ThreadLaws.{follows_more, later, few_made, few_forks, idle_end, later_ends}
+use Rattle.fst_safety.proofs.ThreadLaws.{follows_more, later, few_made, few_forks, idle_end, later_ends, opened_more, none_opened}
 use Rattle.fst_safety.proofs.Typed.{some_same}
 
 module _ (m : Surroundings) (a : Tree) (x : Thread) (fits : FitsIn m a x) (g : LogEntry) (enters : Enters (program_in m) x.path x.now g) (n : EndName) (e f : EndView)
@@ -210,6 +210,10 @@ module _ (m : Surroundings) (a : Tree) (x : Thread) (fits : FitsIn m a x) (g : L
       named = λ z k. let h = fits.named z (held_before z k) in record { behind = h.behind; leads = h.leads; own = λ q. let c = h.own q in omega (arith, c, same_made) };
       ends = put.ends m now' f_later rest_later;
       spent = put.spent idle fits.spent;
+      opened =
+          let o = fits.opened in
+          let c = none_opened m.types g.asked g.answer x.now.made same_made in
+          opened_more m.types x.log g x.now.made now'.made o (omega (arith, c, same_made));
       made = let c = few_made g.answer x.now.made in let d = fits.made in omega (arith, c, d, clock_later);
       forked = let c = few_forks g.answer x.now.forked in let d = fits.forked in omega (arith, c, d, clock_later);
     }

@@ -30,7 +30,7 @@ use Rattle.fst_safety.proofs.BagLaws.{counted, count_first, counts_itself, stand
 use Rattle.fst_safety.proofs.ForkLaws.{Parts, fork_parts}
 use Rattle.fst_safety.proofs.Settles.{pause_goes}
 use Rattle.fst_safety.proofs.StillLaws.{Still, typed_still}
-use Rattle.fst_safety.proofs.ThreadLaws.{follows_more}
+use Rattle.fst_safety.proofs.ThreadLaws.{follows_more, opened_more}
 use Rattle.fst_safety.proofs.ThreadMaking.{fork_holds}
 use Rattle.fst_safety.proofs.ThreadTurns.{later_all}
 use Rattle.fst_safety.proofs.ThreadTyping.{skip_session, ended_equal}
@@ -233,6 +233,7 @@ module _ (m : Surroundings) (well : IsWellTyped m) (a : Tree) (x : Thread) (fits
     named = λ z k. fits.named z (mine_before z k);
     ends = (parted (FitsEnd m forked_on.now) (ends_later forked_on.now (omega arith))).0;
     spent = fits.spent;
+    opened = opened_more m.types x.log entry x.now.made forked_on.now.made fits.opened (omega arith);
     made = let c = fits.made in omega (arith, c);
     forked = let c = fits.forked in omega (arith, c);
   }
@@ -267,6 +268,7 @@ module _ (m : Surroundings) (well : IsWellTyped m) (a : Tree) (x : Thread) (fits
     named = child_named;
     ends = (parted (FitsEnd m begun.now) (ends_later begun.now (omega arith))).1;
     spent = All-nil IsSpent;
+    opened = refl;
     made = omega arith;
     forked = omega arith;
   }

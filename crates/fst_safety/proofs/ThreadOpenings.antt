@@ -30,7 +30,7 @@ use Rattle.fst_safety.specs.Turns.{Turn, AreKnownSpent, on_side, by_type, by_cel
 use Rattle.fst_safety.specs.Bags.{IsPutBack}
 use Rattle.fst_safety.proofs.BagLaws.{counted, counted_so, or_not, with_at, at_itself, at_other, unspent_in}
 use Rattle.fst_safety.proofs.PutLaws.{HasPut, WentTo, has_put, rested, rested_typed, rested_unspent}
-use Rattle.fst_safety.proofs.ThreadLaws.{follows_more}
+use Rattle.fst_safety.proofs.ThreadLaws.{follows_more, opened_more}
 use Rattle.fst_safety.proofs.ThreadMaking.{HasOpened, end_at, sides_differ, own_ends, other_ends, made_typed, made_holds}
 use Rattle.fst_safety.proofs.ThreadTurns.{later_all}
 
@@ -320,6 +320,8 @@ module _ (m : Surroundings) (well : IsWellTyped m) (a : Tree) (x : Thread) (fits
     ends = p2.ends m made_on.now (fresh_end r Right r_is)
         (p1.ends m made_on.now (fresh_end l Left l_is) (later_all m a x fits made_on.now (omega arith) (request.New k) asks (λ z ev q. absurd (cc q))));
     spent = p2.spent (idle_end r Right r_is) (p1.spent (idle_end l Left l_is) fits.spent);
+    opened = opened_more m.types x.log entry x.now.made made_on.now.made fits.opened
+        (let c = ap (λ o. length (opening_of h o)) is in omega (arith, c));
     made = let c = fits.made in omega (arith, c);
     forked = let c = fits.forked in omega (arith, c);
   }

@@ -14,7 +14,7 @@ use Rattle.fst_cell.specs.End.{EndView, end_name, residual_of}
 use Rattle.fst_safety.specs.declared.tasks.LogEntry.{LogEntry}
 use Rattle.fst_safety.specs.Fitting.{Residuals, IsTyped}
 use Rattle.fst_safety.specs.WellTyped.{program_in}
-use Rattle.fst_safety.specs.Logs.{Follows}
+use Rattle.fst_safety.specs.Logs.{Follows, openings}
 
 -- a task: its path, how it began, its log, how it is now, and its ends, those with something left to do and the spent ones
 pub record Thread : Type 0 where
@@ -76,7 +76,8 @@ pub record IsTypedOver (m : Surroundings) (a : Tree) (path : Path) (s : State) (
   pub typed : IsTyped m residuals s type
   pub main : path ≡ main_path → type ≡ a
 
--- the log leads to the task, which is typed; its open ends are those of its state, each standing there once; others are spent
+-- the log leads to the task, which is typed; its open ends are those of its state, each standing there once; others are spent; and
+-- each channel that it made has a type of the module
 pub record FitsIn (m : Surroundings) (a : Tree) (x : Thread) : Type 0 where
   pub none_made : x.first.made ≡ 0
   pub none_forked : x.first.forked ≡ 0
@@ -87,5 +88,6 @@ pub record FitsIn (m : Surroundings) (a : Tree) (x : Thread) : Type 0 where
   pub named : (y : EndName) → 0 < held_state y x.now.state → IsNamedBelow x.path x.now.made y
   pub ends : All (FitsEnd m x.now) x.bag
   pub spent : All IsSpent x.retired
+  pub opened : length (openings m.types x.log) ≡ x.now.made
   pub made : x.now.made ≤ x.now.clock
   pub forked : x.now.forked ≤ x.now.clock
