@@ -92,6 +92,7 @@ main_fits m ds h e q =
         named = λ y c. absurd (omega (arith, c));
         ends = All-nil (FitsEnd n (main_thread e).now);
         spent = All-nil IsSpent;
+        opened = refl;
         made = omega arith;
         forked = omega arith;
       },
