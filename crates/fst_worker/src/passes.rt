@@ -62,28 +62,18 @@ impl Share {
             return self.keep(i, walk);
         }
         let (stop, moved) = self.run_at(code, i, i - walk.kept, steps, number, gate);
-        let moved = walk.moved || moved;
-        let kept = walk.kept;
+        let walk = Walk {
+            moved: walk.moved || moved,
+            ..walk
+        };
         match stop {
-            Stop::Waits => self.keep(
-                i,
-                Walk {
-                    kept,
-                    moved,
-                    halted: false,
-                },
-            ),
-            Stop::Ends => Walk {
-                kept,
-                moved,
-                halted: false,
-            },
+            Stop::Waits => self.keep(i, walk),
+            Stop::Ends => walk,
             Stop::Halts => self.keep(
                 i,
                 Walk {
-                    kept,
-                    moved,
                     halted: true,
+                    ..walk
                 },
             ),
         }

@@ -1,6 +1,6 @@
 //! A worker's share of the tasks, and how it moves them.
 
-ghost use Rattle.std.specs.Prelude.{◌≡◌, ◌+◌, ◌-◌, ◌≤◌, ◌<◌, List, [], ◌∷◌, ◌++◌, Ok, All, OnOk, slice_index_or, vec_len, vec_capacity};
+ghost use Rattle.std.specs.Prelude.{◌≡◌, ◌+◌, ◌-◌, ◌≤◌, ◌<◌, List, [], ◌∷◌, ◌++◌, Bool, Ok, OnOk, slice_index_or, vec_len, vec_capacity};
 ghost use Rattle.fst_runs.specs.Wrong.{once};
 ghost use Rattle.fst_safety.specs.declared.tasks.LogEntry.{LogEntry as Logged};
 ghost use Rattle.fst_safety.specs.declared.tasks.TypedTask.{TypedTask as Tasked};
@@ -126,7 +126,7 @@ impl Share {
         requires clock { (d : Tasked) → (slice_index_or self.old.tasks.items i d).clock < 4294967295 }
         requires few { self.old.events < 4294967295 }
         ensures steps { StepsAt code.now i result self.old self.new }
-        ensures later { (b : _) → result ≡ Ok (Has_gained b) → clock_at self.old.tasks.items i < clock_at self.new.tasks.items i }
+        ensures later { (b : Bool) → result ≡ Ok (Has_gained b) → clock_at self.old.tasks.items i < clock_at self.new.tasks.items i }
         ensures len { (vec_len self.new.tasks ≡ vec_len self.old.tasks) × (vec_len self.new.ended ≡ vec_len self.old.ended) }
         ensures room { vec_capacity self.old.ended ≤ vec_capacity self.new.ended }
         ensures more { OnOk result (vec_len self.new.ended + over + 1 ≤ vec_capacity self.new.ended) }
