@@ -35,3 +35,9 @@ pub mod Happening
 pub mod Stamping
 pub mod AlongRuns
 pub mod Finished
+pub mod Crews
+pub mod Steps
+pub mod Goes
+pub mod Passing
+pub mod Together
+pub mod Sends

@@ -11,3 +11,4 @@ pub mod Closing
 pub mod Ending
 pub mod Events
 pub mod Finishing
+pub mod Passes

@@ -1,10 +1,24 @@
--- Shares of the tasks.
-use Rattle.std.specs.Prelude.{List, [], ◌∷◌, ◌++◌, ⊤}
+-- Shares of the tasks, and what a round makes of them.
+use Rattle.std.specs.Prelude.{◌≡◌, ℕ, ◌+◌, ◌<◌, ◌≤◌, Bool, true, false, Some, Result, Ok, Err, List, [], ◌∷◌, ◌++◌, length, slice_index_or, sum_by, All, ⊤}
+use Rattle.std.specs.List.{list_any}
+use Rattle.std.specs.declared.alloc.AllocError.{AllocError}
+use Rattle.fst_types.specs.Tree.{Tree}
+use Rattle.fst_value.specs.declared.ends.EndName.{EndName}
 use Rattle.fst_machine.specs.declared.code.Code.{Code}
+use Rattle.fst_machine.specs.declared.request.Request.{Request}
+use Rattle.fst_machine.specs.declared.request.Request.TheVariants.{Ended}
+use Rattle.fst_machine.specs.declared.request.Answer.{Answer}
+use Rattle.fst_machine.specs.declared.request.Answer.TheVariants.{Go, Made, Forked, Sent, Got}
+use Rattle.fst_machine.specs.Machine.{request}
+use Rattle.fst_runs.specs.Configs.{Path}
+use Rattle.fst_runs.specs.Wrong.{end_of}
+use Rattle.fst_safety.specs.declared.tasks.LogEntry.{LogEntry}
 use Rattle.fst_safety.specs.declared.tasks.TypedTask.{TypedTask}
-use Rattle.fst_safety.specs.Tasks.{Keeps}
-use Rattle.fst_safety.specs.Threads.{Thread}
+use Rattle.fst_safety.specs.Tasks.{Keeps, IsTypedCode, module_of, tries_at}
+use Rattle.fst_safety.specs.Threads.{Thread, FitsIn}
+use Rattle.fst_safety.specs.Turns.{of_ends}
 use Rattle.fst_worker.specs.declared.shares.Share.{Share}
+use Rattle.fst_worker.specs.Works.{Went}
 
 -- ---- tasks and their threads
 
@@ -23,3 +37,140 @@ all_of s = s.tasks.items ++ (s.forked.items ++ s.ended.items)
 abbrev pub all_tasks : List Share → List TypedTask
 all_tasks [] = []
 all_tasks (s ∷ ss) = all_of s ++ all_tasks ss
+
+-- the threads of a share's tasks
+pub record Crew : Type 0 where
+  pub tasks : List Thread
+  pub forked : List Thread
+  pub ended : List Thread
+
+-- all threads of a crew
+abbrev pub threads_of : Crew → List Thread
+threads_of c = c.tasks ++ (c.forked ++ c.ended)
+
+-- all threads of crews
+abbrev pub all_threads : List Crew → List Thread
+all_threads [] = []
+all_threads (c ∷ cs) = threads_of c ++ all_threads cs
+
+-- the share's tasks are the threads of the crew
+pub record IsCrew (k : Code) (s : Share) (c : Crew) : Type 0 where
+  pub tasks : AreKept k s.tasks.items c.tasks
+  pub forked : AreKept k s.forked.items c.forked
+  pub ended : AreKept k s.ended.items c.ended
+
+-- the crews are those of the shares, one each, in order
+abbrev pub AreCrews : Code → List Share → List Crew → Type 0
+AreCrews k [] [] = ⊤
+AreCrews k [] (c ∷ cs) = ⊥
+AreCrews k (s ∷ ss) [] = ⊥
+AreCrews k (s ∷ ss) (c ∷ cs) = IsCrew k s c × AreCrews k ss cs
+
+-- the tasks of the shares fit their code
+pub record CanMove (k : Code) (ss : List Share) : Type 0 where
+  pub type : Tree
+  pub code : IsTypedCode k type
+  pub threads : List Thread
+  pub kept : AreKept k (all_tasks ss) threads
+  pub fit : All (FitsIn (module_of k) type) threads
+
+-- ---- what a round makes of a share
+
+-- the thread has come to its end
+abbrev pub IsOver : Code → Thread → Type 0
+IsOver k x = request (module_of k).families x.now.state ≡ Some Ended
+
+-- nothing is in its log
+abbrev pub IsIdle : Thread → Type 0
+IsIdle x = x.log ≡ []
+
+-- 1 for an event that is counted with this task; what was received is counted with the one that received it
+abbrev pub counts_one : Answer → ℕ
+counts_one Go = 1
+counts_one (Made h) = 1
+counts_one Forked = 1
+counts_one Sent = 0
+counts_one (Got ev) = 1
+
+-- how many events of a log are counted
+abbrev pub counts : List LogEntry → ℕ
+counts es = sum_by (λ (e : LogEntry). counts_one e.answer) es
+
+-- how often the ends of this name among those of the threads have tried
+abbrev pub tries_of : EndName → List Thread → ℕ
+tries_of z xs = sum_by (of_ends (tries_at z)) xs
+
+-- the thread asks to send or to receive at an end that was tried since the threads were those before
+pub record HasAsked (k : Code) (before after : List Thread) (x : Thread) : Type 0 where
+  pub asked : Request
+  pub asks : request (module_of k).families x.now.state ≡ Some asked
+  pub end : EndName
+  pub at : end_of asked ≡ Some end
+  pub tried : tries_of end before < tries_of end after
+
+-- what was made of the share s, whose threads were b, in u, whose threads are c
+pub record HasRun (k : Code) (steps : ℕ) (s u : Share) (b c : Crew) : Type 0 where
+  -- what was forked hasn't moved, and what has ended asks for no more
+  pub idle : All IsIdle b.forked → All IsIdle c.forked
+  pub over : All (IsOver k) b.ended → All (IsOver k) c.ended
+  -- the events are counted
+  pub counted : u.events + sum_by (λ (x : Thread). counts x.log) (threads_of b) ≡ s.events + sum_by (λ (x : Thread). counts x.log) (threads_of c)
+  -- where nothing moved, no log has changed
+  pub still : u.moved ≡ false → (w : Path → List LogEntry → ℕ) →
+      sum_by (λ (x : Thread). w x.path x.log) (threads_of c) ≡ sum_by (λ (x : Thread). w x.path x.log) (threads_of b)
+  -- unless memory was wanting, or the events or the clock of a task exceed the steps, each task that is left was tried in vain
+  pub tried : u.refused ≡ false → u.events ≤ steps → All (λ (t : TypedTask). t.clock ≤ steps) u.tasks.items →
+      All (HasAsked k (threads_of b) (threads_of c)) c.tasks
+
+-- ---- what it makes of all shares
+
+-- whatever threads the tasks were, where these fit the code, they have gone on by turns alone
+abbrev pub GoOn : Code → List Share → List Share → Type 0
+GoOn k ss us = (a : Tree) (xs : List Thread) → IsTypedCode k a → AreKept k (all_tasks ss) xs → All (FitsIn (module_of k) a) xs →
+    (ys : List Thread) × AreKept k (all_tasks us) ys × Went (module_of k) a xs ys
+
+-- the shares ss, whose tasks were the threads of these crews, are us now
+pub record HaveRun (k : Code) (a : Tree) (steps : ℕ) (ss us : List Share) (bs : List Crew) : Type 0 where
+  pub after : List Crew
+  pub are : AreCrews k us after
+  pub went : Went (module_of k) a (all_threads bs) (all_threads after)
+  pub each : (i : ℕ) (d : Share) (e : Crew) → i < length ss →
+      HasRun k steps (slice_index_or ss i d) (slice_index_or us i d) (slice_index_or bs i e) (slice_index_or after i e)
+
+-- so it is whatever crews they had
+abbrev pub RunsAll : Code → ℕ → List Share → List Share → Type 0
+RunsAll k steps ss us =
+    (a : Tree) (bs : List Crew) → IsTypedCode k a → AreCrews k ss bs → All (FitsIn (module_of k) a) (all_threads bs) → HaveRun k a steps ss us bs
+
+-- there are as many shares, and no task that was forked has moved
+pub record AreLent (ss us : List Share) : Type 0 where
+  pub length_is : length us ≡ length ss
+  pub idle : All (λ (s : Share). All (λ (t : TypedTask). t.log.items ≡ []) s.forked.items) us
+
+-- in each share the events have grown by those that its logs have gained
+abbrev pub AreCounted : List Share → List Share → Type 0
+AreCounted ss us = (i : ℕ) (d : Share) → i < length ss →
+    let s = slice_index_or ss i d in
+    let u = slice_index_or us i d in
+    u.events + sum_by (λ (t : TypedTask). counts t.log.items) (all_of s) ≡ s.events + sum_by (λ (t : TypedTask). counts t.log.items) (all_of u)
+
+-- where a share hasn't moved, the logs of its tasks are as before
+abbrev pub AreStill : List Share → List Share → Type 0
+AreStill ss us = (i : ℕ) (d : Share) → i < length ss →
+    let s = slice_index_or ss i d in
+    let u = slice_index_or us i d in
+    u.moved ≡ false → (w : Path → List LogEntry → ℕ) →
+    sum_by (λ (t : TypedTask). w t.task.path t.log.items) (all_of u) ≡ sum_by (λ (t : TypedTask). w t.task.path t.log.items) (all_of s)
+
+-- whether a share has moved
+abbrev pub some_moved : List Share → Bool
+some_moved ss = list_any (λ (s : Share). s.moved) ss
+
+-- whether a share has given up for want of memory
+abbrev pub some_refused : List Share → Bool
+some_refused ss = list_any (λ (s : Share). s.refused) ss
+
+-- the answer tells whether a share has moved, and memory was wanting only where a share has given up
+abbrev pub IsAnswer : Result Bool AllocError → List Share → Type 0
+IsAnswer (Ok b) us = (b ≡ some_moved us) × (some_refused us ≡ false)
+IsAnswer (Err e) us = some_refused us ≡ true

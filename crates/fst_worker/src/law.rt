@@ -101,3 +101,10 @@ pub fn fine_law()
 pub fn answer_law()
     ensures { AnswerLaw }
 {}
+
+/// A share may go from one thread to another.
+pub fn send_law() {
+    goes_to_threads::<crate::shares::Share>()
+}
+
+fn goes_to_threads<T: Send>() {}

@@ -1,5 +1,5 @@
-//! All tasks of a run on several workers: what their turns keep, how the two ends of a channel find each other, and that logs and
-//! histories are a record of a run at its end.
+//! All tasks of a run on several workers: shares of them that are moved on threads, what their turns keep, how the two ends of a
+//! channel find each other, and that logs and histories are a record of a run at its end.
 #![tactic(auto)]
 
 mod closing;
@@ -7,11 +7,14 @@ mod dealing;
 mod ending;
 mod finishing;
 mod law;
+mod passes;
+mod rounds;
 mod shares;
 
 pub use law::{
     answer_law, apart_law, begin_law, entry_law, extends_law, fine_law, order_law, pair_law,
-    pool_law, record_law, resume_law, right_law, runs_law, sound_law, stamp_law, tell_law,
-    went_law,
+    pool_law, record_law, resume_law, right_law, runs_law, send_law, sound_law, stamp_law,
+    tell_law, went_law,
 };
+pub use rounds::round;
 pub use shares::Share;
