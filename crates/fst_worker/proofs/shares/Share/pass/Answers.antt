@@ -1,10 +1,18 @@
-use Rattle.std.proofs.Common.{arith}
+use Rattle.std.proofs.Common.{◌∙◌, arith}
 use Rattle.fst_worker.proofs.Goes.{runs_on}
 use Rattle.fst_worker.proofs.Passing.{pass_ends}
 use Rattle.fst_worker.proofs.shares.Share.pass.Goals as goal
 
 pub visit-walk-requires-clause-fit : goal.visit-walk-requires-clause-fit
 visit-walk-requires-clause-fit g c = runs_on c.args.code.now _ c.args.self.now c.loop-i.self c.loop-i.invariant.passes c.requires.fit
+
+pub loop-i-preserved : goal.loop-i-preserved
+loop-i-preserved g c = record {
+  passes = c.visit-walk.ensures.visits c.args.self.now c.loop-i.invariant.passes;
+  kept = c.visit-walk.ensures.kept;
+  len = c.visit-walk.ensures.len ∙ c.loop-i.invariant.len;
+  room = c.visit-walk.ensures.room;
+}
 
 pub returns-then-walk : goal.returns-then-walk
 returns-then-walk g c =
