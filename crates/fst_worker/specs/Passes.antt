@@ -136,7 +136,7 @@ StopsAt k i steps r s u = Runs k (λ b c. (y : Thread) × IsAt i b c y × Stops 
 
 -- ---- all tasks
 
--- the first ones have asked in vain, or one of them exceeds the steps
+-- each of the first ones asks at an end that was tried, or one of them exceeds the steps
 abbrev pub FirstStop : Code → ℕ → ℕ → Bool → Share → List Thread → List Thread → List Thread → Type 0
 FirstStop k steps kept false u xs ys ts = (j : ℕ) (e : Thread) → j < kept → HasAsked k xs ys (slice_index_or ts j e)
 FirstStop k steps kept true u xs ys ts = (j : ℕ) × (j < kept) × ((e : Thread) → Exceeds steps u (slice_index_or ts j e))
@@ -157,7 +157,7 @@ pub record IsPutBefore (kept i : ℕ) (s u : Share) : Type 0 where
   pub ended : u.ended.items ≡ s.ended.items
   pub marks : (u.events ≡ s.events) × (u.moved ≡ s.moved) × (u.refused ≡ s.refused)
 
--- after a pass each task that is left has asked in vain, or one exceeds the steps
+-- after a pass each task that is left asks at an end that was tried, or one exceeds the steps
 abbrev pub HasStopped : Code → ℕ → Share → Crew → Crew → Type 0
 HasStopped k steps u b c = All (HasAsked k (threads_of b) (threads_of c)) c.tasks
     ⊎ ((j : ℕ) × (j < length c.tasks) × ((e : Thread) → Exceeds steps u (slice_index_or c.tasks j e)))

@@ -118,7 +118,7 @@ pub record HasRun (k : Code) (steps : ℕ) (s u : Share) (b c : Crew) : Type 0 w
   -- where nothing moved, no log has changed
   pub still : u.moved ≡ false → (w : Path → List LogEntry → ℕ) →
       sum_by (λ (x : Thread). w x.path x.log) (threads_of c) ≡ sum_by (λ (x : Thread). w x.path x.log) (threads_of b)
-  -- unless memory was wanting, or the events or the clock of a task exceed the steps, each task that is left was tried in vain
+  -- unless memory was wanting, or the events or the clock of a task exceed the steps, each task that is left asks at an end that was tried
   pub tried : u.refused ≡ false → u.events ≤ steps → All (λ (t : TypedTask). t.clock ≤ steps) u.tasks.items →
       All (HasAsked k (threads_of b) (threads_of c)) c.tasks
 

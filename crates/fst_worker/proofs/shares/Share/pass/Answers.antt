@@ -1,4 +1,4 @@
-use Rattle.std.proofs.Common.{arith}
+use Rattle.std.proofs.Common.{◌∙◌, arith}
 use Rattle.fst_worker.proofs.Goes.{runs_on}
 use Rattle.fst_worker.proofs.Passing.{pass_ends}
 use Rattle.fst_worker.proofs.shares.Share.pass.Goals as goal
