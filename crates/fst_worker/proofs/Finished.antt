@@ -67,16 +67,18 @@ module _ (k : Code) where
   bare_kept [] (d ∷ bs) xs h b = absurd b
   bare_kept (t ∷ ts) [] xs h b = absurd b
   bare_kept (t ∷ ts) (d ∷ bs) [] h b = absurd h
-  bare_kept (t ∷ ts) (d ∷ bs) (x ∷ xs) h b =
-      (record {
-        task = record {
-          path = ap (λ (t : TaskView). t.path) b.0.task ∙ h.0.path;
-          is_in = subst (λ (t : TaskView). IsIn k.module.value k t x.now.state) (sym b.0.task) h.0.is_in;
-          forked = ap (λ (t : TaskView). t.forked) b.0.task ∙ h.0.forked;
-          time = b.0.clock ∙ h.0.clock;
-        };
-        waits = subst (λ es. TellsWaiting es d.waits) h.0.bag b.0.waits;
-      }, bare_kept ts bs xs h.1 b.1)
+  bare_kept (t ∷ ts) (d ∷ bs) (x ∷ xs) h b = (
+    record {
+      task = record {
+        path = ap (λ (t : TaskView). t.path) b.0.task ∙ h.0.path;
+        is_in = subst (λ (t : TaskView). IsIn k.module.value k t x.now.state) (sym b.0.task) h.0.is_in;
+        forked = ap (λ (t : TaskView). t.forked) b.0.task ∙ h.0.forked;
+        time = b.0.clock ∙ h.0.clock;
+      };
+      waits = subst (λ es. TellsWaiting es d.waits) h.0.bag b.0.waits;
+    },
+    bare_kept ts bs xs h.1 b.1,
+  )
 
   -- no clock of the tasks is over what no clock of the threads is over
   clocks_in : (n : ℕ) (ts : Tasks) (ys : List Thread) → AreTasksOf k.module.value k ts ys → All (IsWithin n) ys → ClocksWithin n ts

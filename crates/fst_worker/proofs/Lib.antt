@@ -41,3 +41,4 @@ pub mod Goes
 pub mod Passing
 pub mod Together
 pub mod Sends
+pub mod Working

@@ -270,7 +270,7 @@ resumes n ds d a main xs ps over ys told k ts hs from are moved numbered =
     let fits = record_moved m a main xs ps over hs moved ys j.record_fits in
     let zs = j.fit.0 in
     let few = λ (P : List LogEntry → Task → Type 0) (h : (y : Thread) (f : FitsIn m a y) → P y.log y.now).
-        same_all P ys zs j.fit.1 (All-weaker (FitsIn m a) (Of P) h zs j.fit.2.fit) in
+    same_all P ys zs j.fit.1 (All-weaker (FitsIn m a) (Of P) h zs j.fit.2.fit) in
     let opened = few (λ l t. length (openings m.types l) ≡ t.made) (λ y f. f.opened) in
     let c = config_of ys hs in
     let sound = j.sound hs moved in

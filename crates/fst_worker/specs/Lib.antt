@@ -11,4 +11,5 @@ pub mod Closing
 pub mod Ending
 pub mod Events
 pub mod Finishing
+pub mod Working
 pub mod Passes

@@ -10,6 +10,7 @@ mod law;
 mod passes;
 mod rounds;
 mod shares;
+mod workers;
 
 pub use law::{
     answer_law, apart_law, begin_law, entry_law, extends_law, fine_law, order_law, pair_law,
@@ -18,3 +19,4 @@ pub use law::{
 };
 pub use rounds::round;
 pub use shares::Share;
+pub use workers::run_workers;

@@ -40,7 +40,7 @@ resume-requires c =
     let z = c.in-Some-closed_at.channel.now in
     let l = lacks_so c.args.code.now c.args.closed.now d.run d.thread d.there c.in-Some.name w z h.1 h.0 (sym c.stands.ensures ∙ c.if-stands.false) in
     ∣ takes_sent c.args.code.now c.args.closed.now d.run d.thread d.there c.in-Some.name z l c.args.bare.task c.advance.new.self c.args.bare.clock d.bare.task
-      c.advance.ensures.stays c.in-Ok.ensures.rests ∣₁
+    c.advance.ensures.stays c.in-Ok.ensures.rests ∣₁
 
 pub returns : goal.returns
 returns c = λ d.

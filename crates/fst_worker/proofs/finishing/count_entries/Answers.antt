@@ -21,9 +21,9 @@ loop-channel-preserved c = λ m h.
     let f = λ (c : Closed). length c.history.entries.items in
     let is : left ≡ f d + rest = sum_by-drop_more f cs i d c.loop-channel-test.true ∙ ap (λ n. n + rest) (sym (ap f c.channel-item.is)) in
     elim c.if-count-steps.branch [
-      then-count-steps w ↦ counted_more c.args.steps n left rest (f d) c.loop-channel.count c.if-count-steps.count (c.loop-channel.invariant m h) is w.if-count-steps.true
-        (omega (arith, w.count-is, w.len.ensures, d.history.entries.ok.0))
-    | else-count-steps w ↦ counted_no_more c.args.steps n left rest c.loop-channel.count c.if-count-steps.count (c.loop-channel.invariant m h) w.if-count-steps.false w.count-is
+      | then-count-steps w ↦ counted_more c.args.steps n left rest (f d) c.loop-channel.count c.if-count-steps.count (c.loop-channel.invariant m h) is w.if-count-steps.true
+          (omega (arith, w.count-is, w.len.ensures, d.history.entries.ok.0))
+      | else-count-steps w ↦ counted_no_more c.args.steps n left rest c.loop-channel.count c.if-count-steps.count (c.loop-channel.invariant m h) w.if-count-steps.false w.count-is
     ]
 
 pub returns : goal.returns

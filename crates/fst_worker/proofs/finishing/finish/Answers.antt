@@ -31,9 +31,9 @@ returns-then-events-steps c = λ d.
     let cs = c.in_ok-closed.closed.items in
     let us = c.in_ok-told.told.items in
     let f = finished k ts c.new-ends.result.items c.strip_all.new.ends.items cs c.as_slice-2.result.now c.in_ok-bare.bare.items us c.new-ends.ensures.items
-        c.in_ok-bare.ensures.ends c.in_ok-bare.ensures.bare c.in_ok-closed.ensures.closed c.in_ok-closed.ensures.order c.as_slice-2.ensures.value c.in_ok-told.ensures in
+    c.in_ok-bare.ensures.ends c.in_ok-bare.ensures.bare c.in_ok-closed.ensures.closed c.in_ok-closed.ensures.order c.as_slice-2.ensures.value c.in_ok-told.ensures in
     let n = counted_so c.args.steps c.count_alone-alone.result c.count_entries-events.result ts c.as_slice.result.now cs c.as_slice-3.result.now c.as_slice.ensures.value c.count_alone-alone.ensures
-        c.as_slice-3.ensures.value c.count_entries-events.ensures in
+    c.as_slice-3.ensures.value c.count_entries-events.ensures in
     is_out k ts cs us f d c.args.steps c.count_entries-events.result n c.if-events-steps.true
 
 pub resumed-requires : goal.resumed-requires
@@ -43,7 +43,7 @@ resumed-requires c =
     let cs = c.in_ok-closed.closed.items in
     let us = c.in_ok-told.told.items in
     let f = finished k ts c.new-ends.result.items c.strip_all.new.ends.items cs c.as_slice-2.result.now c.in_ok-bare.bare.items us c.new-ends.ensures.items
-        c.in_ok-bare.ensures.ends c.in_ok-bare.ensures.bare c.in_ok-closed.ensures.closed c.in_ok-closed.ensures.order c.as_slice-2.ensures.value c.in_ok-told.ensures in
+    c.in_ok-bare.ensures.ends c.in_ok-bare.ensures.bare c.in_ok-closed.ensures.closed c.in_ok-closed.ensures.order c.as_slice-2.ensures.value c.in_ok-told.ensures in
     ∣ subst (CanResume k us) (sym c.in_ok-channels.ensures) (can_resume k ts cs us f c.requires.run) ∣₁
 
 pub run_from-requires-clause-right : goal.run_from-requires-clause-right
@@ -53,13 +53,13 @@ run_from-requires-clause-right c =
     let cs = c.in_ok-closed.closed.items in
     let us = c.in_ok-told.told.items in
     let f = finished k ts c.new-ends.result.items c.strip_all.new.ends.items cs c.as_slice-2.result.now c.in_ok-bare.bare.items us c.new-ends.ensures.items
-        c.in_ok-bare.ensures.ends c.in_ok-bare.ensures.bare c.in_ok-closed.ensures.closed c.in_ok-closed.ensures.order c.as_slice-2.ensures.value c.in_ok-told.ensures in
+    c.in_ok-bare.ensures.ends c.in_ok-bare.ensures.bare c.in_ok-closed.ensures.closed c.in_ok-closed.ensures.order c.as_slice-2.ensures.value c.in_ok-told.ensures in
     let n = counted_so c.args.steps c.count_alone-alone.result c.count_entries-events.result ts c.as_slice.result.now cs c.as_slice-3.result.now c.as_slice.ensures.value c.count_alone-alone.ensures
-        c.as_slice-3.ensures.value c.count_entries-events.ensures in
+    c.as_slice-3.ensures.value c.count_entries-events.ensures in
     let v = kept_of c.in_ok-config.config in
     let kept = subst (λ hs. IsResumed k us hs v) c.in_ok-channels.ensures c.in_ok-config.ensures.resumed in
     ∣ subst (λ e. CanRunFrom k e v) (sym c.in_ok-config.ensures.events)
-      (can_run k ts cs us f c.requires.run c.args.steps c.count_entries-events.result n c.if-events-steps.false v kept) ∣₁
+    (can_run k ts cs us f c.requires.run c.args.steps c.count_entries-events.result n c.if-events-steps.false v kept) ∣₁
 
 pub returns : goal.returns
 returns c =
@@ -68,12 +68,12 @@ returns c =
     let cs = c.in_ok-closed.closed.items in
     let us = c.in_ok-told.told.items in
     let f = finished k ts c.new-ends.result.items c.strip_all.new.ends.items cs c.as_slice-2.result.now c.in_ok-bare.bare.items us c.new-ends.ensures.items
-        c.in_ok-bare.ensures.ends c.in_ok-bare.ensures.bare c.in_ok-closed.ensures.closed c.in_ok-closed.ensures.order c.as_slice-2.ensures.value c.in_ok-told.ensures in
+    c.in_ok-bare.ensures.ends c.in_ok-bare.ensures.bare c.in_ok-closed.ensures.closed c.in_ok-closed.ensures.order c.as_slice-2.ensures.value c.in_ok-told.ensures in
     let n = counted_so c.args.steps c.count_alone-alone.result c.count_entries-events.result ts c.as_slice.result.now cs c.as_slice-3.result.now c.as_slice.ensures.value c.count_alone-alone.ensures
-        c.as_slice-3.ensures.value c.count_entries-events.ensures in
+    c.as_slice-3.ensures.value c.count_entries-events.ensures in
     let v = kept_of c.in_ok-config.config in
     let kept = subst (λ hs. IsResumed k us hs v) c.in_ok-channels.ensures c.in_ok-config.ensures.resumed in
     IfOk-weaker c.run_from.result (IsOutcomeFrom k c.in_ok-config.config.events c.args.steps v) (IsFinished k ts c.args.steps)
     (λ o out d. is_answer k ts cs us f d c.args.steps c.count_entries-events.result n c.if-events-steps.false v kept (omega (arith, c.requires.few)) o
-      (subst (λ e. IsOutcomeFrom k e c.args.steps v o) c.in_ok-config.ensures.events out))
+    (subst (λ e. IsOutcomeFrom k e c.args.steps v o) c.in_ok-config.ensures.events out))
     c.run_from.ensures
