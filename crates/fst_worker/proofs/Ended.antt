@@ -20,7 +20,8 @@ use Rattle.fst_worker.specs.Closing.{AreClosedTo}
 abbrev pub closed_of : Pair → Closed
 closed_of p = p.closed
 
-histories_same : (ps : List Pair) → histories_of ps ≡ map (λ (c : Closed). c.history) (map closed_of ps)
+-- the histories of pairs are those of what closing them gave
+pub histories_same : (ps : List Pair) → histories_of ps ≡ map (λ (c : Closed). c.history) (map closed_of ps)
 histories_same [] = refl
 histories_same (p ∷ ps) = ap (λ ks. p.closed.history ∷ ks) (histories_same ps)
 

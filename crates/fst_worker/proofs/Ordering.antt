@@ -23,6 +23,7 @@ use Rattle.fst_worker.specs.Records.{Pair, IsOver, histories_of}
 use Rattle.fst_worker.specs.Closing.{name_cmp, names_of}
 use Rattle.fst_worker.specs.Resumes.{OrderLaw}
 use Rattle.fst_worker.proofs.Counting.{opened_in}
+use Rattle.fst_worker.proofs.Ended.{histories_same}
 use Rattle.fst_worker.proofs.Found.{on_name}
 use Rattle.fst_worker.proofs.NameOrder.{counts_rise}
 use Rattle.fst_worker.proofs.Paths.{IsLed, paths_once}
@@ -155,15 +156,10 @@ module _ (m : Surroundings) (a : Tree) (main : Birth) (xs : List Thread) (ps : L
       let l = o.last in
       (o.first, omega (arith, e, g, l))
 
--- the histories of closed channels
-pub closed_are : (ps : List Pair) → histories_of ps ≡ map (λ (c : Closed). c.history) (map (λ (p : Pair). p.closed) ps)
-closed_are [] = refl
-closed_are (p ∷ ps) = ap (λ ks. p.closed.history ∷ ks) (closed_are ps)
-
 -- so it is at the end of each run
 pub in_order : OrderLaw
 in_order m a main xs ps over cs is sorted =
-    let e = closed_are ps ∙ ap (map (λ (c : Closed). c.history)) is in
+    let e = histories_same ps ∙ ap (map (λ (c : Closed). c.history)) is in
     subst (AreNumbered (λ p. zero)) e (numbered (λ p. zero) (λ p. made_by p (histories_of ps)) (histories_of ps) (record {
       rising = subst Rise (sym e) (rise cs sorted);
       within = λ i d lt. within m a main xs ps over _ (All-contains_itself (histories_of ps) i d lt);

@@ -293,15 +293,6 @@ module _ (k : Code) (steps kept i : ℕ) (s t u v : Share) (within : i < length 
   pub visit_halts : StopsAt k i steps Halts t u → PassesTo k steps (kept + 1) (i + 1) true s v
   visit_halts h = put_halts k steps kept i s u v still le put (middle_halts k steps kept i s t u within le before h)
 
--- at the beginning
-pub passes_none : (k : Code) (steps : ℕ) (s : Share) → PassesTo k steps 0 0 false s s
-passes_none k steps s a b code is fit = record {
-  crew = b;
-  is = is;
-  ran = ran_none k a s b;
-  so = record { first = λ j e l. absurd (omega (arith, l)); over = λ j e lo hi. absurd (omega (arith, hi)) };
-}
-
 -- ---- those that have come to their end
 
 take_all : (xs : List Thread) (n : ℕ) → n ≡ length xs → take n xs ≡ xs

@@ -1,5 +1,5 @@
 -- What a share has done, and what all shares have done together.
-use Rattle.std.proofs.Common.{◌≡◌, ◌∙◌, inl, inr, ℕ, zero, suc, ◌<◌, ◌≤◌, Bool, ◌||◌, true, false, List, [], ◌∷◌, ◌++◌, length, get_or, take, refl, sym, ap, subst, arith}
+use Rattle.std.proofs.Common.{◌≡◌, ◌∙◌, inl, inr, ℕ, zero, suc, ◌<◌, ◌≤◌, false, List, [], ◌∷◌, ◌++◌, length, get_or, take, refl, sym, ap, subst, arith}
 use Rattle.std.specs.Prelude.{All, sum_by}
 use Rattle.std.proofs.lemmas.List.Elements.{All-nil, All-cons}
 use Rattle.fst_types.specs.Tree.{Tree}
@@ -9,7 +9,7 @@ use Rattle.fst_safety.specs.Tasks.{IsTypedCode, Keeps, module_of}
 use Rattle.fst_safety.specs.Threads.{Thread, FitsIn}
 use Rattle.fst_worker.specs.declared.shares.Share.{Share}
 use Rattle.fst_worker.specs.Works.{Went}
-use Rattle.fst_worker.specs.Shares.{AreCounted, AreCrews, AreKept, AreLent, AreStill, CanMove, Crew, GoOn, HasAsked, HasRun, HaveRun, IsCrew, IsIdle, RunsAll, all_of, all_threads, counts, some_refused, threads_of}
+use Rattle.fst_worker.specs.Shares.{AreCounted, AreCrews, AreKept, AreLent, AreStill, CanMove, Crew, GoOn, HasAsked, HasRun, HaveRun, IsCrew, IsIdle, RunsAll, all_of, all_threads, counts, threads_of}
 use Rattle.fst_worker.specs.Passes.{CanRun, Exceeds, HasStopped, HasWorked, Passes, Works}
 use Rattle.fst_worker.proofs.Chains.{went_none, went_both}
 use Rattle.fst_worker.proofs.Crews.{All-first, All-behind, AreManned, crew_kept, crews_kept, crews_of, kept_all, kept_length, kept_sum}
@@ -172,16 +172,6 @@ module _ (k : Code) where
         no_threads : (ts : List TypedTask) (xs : List Thread) → ts ≡ [] → AreKept k ts xs → All IsIdle xs
         no_threads ts [] e h = All-nil IsIdle
         no_threads ts (x ∷ xs) e h = absurd (subst (λ (l : List TypedTask). AreKept k l (x ∷ xs)) e h)
-
--- no share has given up where none is told to
-none_here : (u : Share) (us : List Share) (b : Bool) → u.refused ≡ b → (b || some_refused us) ≡ false → (some_refused us ≡ false → All (λ (u : Share). u.refused ≡ false) us) →
-    All (λ (u : Share). u.refused ≡ false) (u ∷ us)
-none_here u us true q e more = absurd (cc e)
-none_here u us false q e more = All-cons (λ (u : Share). u.refused ≡ false) u us q (more e)
-
-pub none_refused : (us : List Share) → some_refused us ≡ false → All (λ (u : Share). u.refused ≡ false) us
-none_refused [] e = All-nil (λ (u : Share). u.refused ≡ false)
-none_refused (u ∷ us) e = none_here u us u.refused refl e (none_refused us)
 
 -- a whole slice that is written back
 pub written_back : (n : ℕ) (xs ys : List Share) → n ≡ length xs → take n (xs ++ ys) ≡ xs
