@@ -3,6 +3,7 @@
 
 mod bodies;
 mod copies;
+mod core_parts;
 mod core_terms;
 mod meanings;
 mod naming;

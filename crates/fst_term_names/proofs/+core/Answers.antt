@@ -14,18 +14,18 @@ use Rattle.fst_term_names.specs.TermTypes.{written_in}
 use Rattle.fst_term_names.proofs.AddedLaws.{are_added, both_added}
 use Rattle.fst_term_names.proofs.MadeLaws.{one_made}
 use Rattle.fst_term_names.proofs.PartLaws.{all_arms, all_arms_added, all_terms, all_terms_added, arm_as, arm_none, arm_types, as_arm, inner_none, itself, no_cases, second_none, term_none, wrap_types}
-use Rattle.fst_term_names.proofs.core_terms.+core.Goals as goal
+use Rattle.fst_term_names.proofs.+core.Goals as goal
 
 -- ---- two terms
 
-pub core_two-core_part-requires : goal.core_two-core_part-requires
-core_two-core_part-requires t c =
+pub core_parts::core_two-core_part-requires : goal.core_parts::core_two-core_part-requires
+core_parts::core_two-core_part-requires t c =
     let s = scope_in c.args.meanings.now in
     let xs = c.args.locals.now in
     (omega (arith, c.decreases), (none_named (term_faults s xs c.args.first.now) (term_faults s xs c.args.second.now) c.requires).0)
 
-pub core_two-core_part-requires-2 : goal.core_two-core_part-requires-2
-core_two-core_part-requires-2 t c =
+pub core_parts::core_two-core_part-requires-2 : goal.core_parts::core_two-core_part-requires-2
+core_parts::core_two-core_part-requires-2 t c =
     let s = scope_in c.args.meanings.now in
     let xs = c.args.locals.now in (
       omega (arith, c.decreases),
@@ -34,8 +34,8 @@ core_two-core_part-requires-2 t c =
 
 -- ---- some terms
 
-pub core_terms-core_term-requires : goal.core_terms-core_term-requires
-core_terms-core_term-requires t c =
+pub core_parts::core_terms-core_term-requires : goal.core_parts::core_terms-core_term-requires
+core_parts::core_terms-core_term-requires t c =
     let s = scope_in c.args.meanings.now in
     let high = terms_height_at c.args.terms.now c.loop-t.t-index c.t-item.result (omega arith) in
     let same = ap term_height c.t-item.is in (
@@ -43,8 +43,8 @@ core_terms-core_term-requires t c =
       subst (λ ys. term_faults s ys c.t-item.result ≡ []) (sym c.loop-t.invariant.kept) (term_none s c.args.locals.now c.args.terms.now c.loop-t.t-index c.t-item.result c.requires (omega arith) c.t-item.is),
     )
 
-pub core_terms-loop-t-preserved : goal.core_terms-loop-t-preserved
-core_terms-loop-t-preserved t c =
+pub core_parts::core_terms-loop-t-preserved : goal.core_parts::core_terms-loop-t-preserved
+core_parts::core_terms-loop-t-preserved t c =
     let s = scope_in c.args.meanings.now in
     let become = core_term (numbers_in c.args.meanings.now) in
     let xs = c.args.locals.now in
@@ -57,18 +57,18 @@ core_terms-loop-t-preserved t c =
       kept = c.in_ok-core_term.ensures.kept ∙ kept;
     }
 
-pub core_terms-returns-clause-terms : goal.core_terms-returns-clause-terms
-core_terms-returns-clause-terms t c =
+pub core_parts::core_terms-returns-clause-terms : goal.core_parts::core_terms-returns-clause-terms
+core_parts::core_terms-returns-clause-terms t c =
     all_terms (numbers_in c.args.meanings.now) (scope_in c.args.meanings.now) c.args.locals.now c.args.terms.now c.loop-t.t-index c.args.types.now c.loop-t.types c.loop-t.made.items c.loop-t.invariant.made (omega arith)
 
-pub core_terms-returns-clause-added : goal.core_terms-returns-clause-added
-core_terms-returns-clause-added t c =
+pub core_parts::core_terms-returns-clause-added : goal.core_parts::core_terms-returns-clause-added
+core_parts::core_terms-returns-clause-added t c =
     all_terms_added (numbers_in c.args.meanings.now) (scope_in c.args.meanings.now) c.args.locals.now c.args.terms.now c.loop-t.t-index c.args.types.now c.loop-t.types c.loop-t.made.items c.loop-t.invariant.made (omega arith)
 
 -- ---- some arms
 
-pub core_arms-core_arm-requires : goal.core_arms-core_arm-requires
-core_arms-core_arm-requires t c =
+pub core_parts::core_arms-core_arm-requires : goal.core_parts::core_arms-core_arm-requires
+core_parts::core_arms-core_arm-requires t c =
     let s = scope_in c.args.meanings.now in
     let b = c.arm-item.result in
     let high = arms_height_at c.args.arms.now c.loop-arm.arm-index b (omega arith) in
@@ -77,8 +77,8 @@ core_arms-core_arm-requires t c =
       subst (λ ys. term_faults s (within b.binders.items ys) b.body ≡ []) (sym c.loop-arm.invariant.kept) (arm_none s c.args.locals.now c.args.arms.now c.loop-arm.arm-index b c.requires (omega arith) c.arm-item.is),
     )
 
-pub core_arms-loop-arm-preserved : goal.core_arms-loop-arm-preserved
-core_arms-loop-arm-preserved t c =
+pub core_parts::core_arms-loop-arm-preserved : goal.core_parts::core_arms-loop-arm-preserved
+core_parts::core_arms-loop-arm-preserved t c =
     let s = scope_in c.args.meanings.now in
     let ns = numbers_in c.args.meanings.now in
     let b = c.arm-item.result in
@@ -91,18 +91,18 @@ core_arms-loop-arm-preserved t c =
       kept = c.in_ok-core_arm.ensures.kept ∙ kept;
     }
 
-pub core_arms-returns-clause-arms : goal.core_arms-returns-clause-arms
-core_arms-returns-clause-arms t c =
+pub core_parts::core_arms-returns-clause-arms : goal.core_parts::core_arms-returns-clause-arms
+core_parts::core_arms-returns-clause-arms t c =
     all_arms (numbers_in c.args.meanings.now) (scope_in c.args.meanings.now) c.args.locals.now c.args.arms.now c.loop-arm.arm-index c.args.types.now c.loop-arm.types c.loop-arm.made.items c.loop-arm.invariant.made (omega arith)
 
-pub core_arms-returns-clause-added : goal.core_arms-returns-clause-added
-core_arms-returns-clause-added t c =
+pub core_parts::core_arms-returns-clause-added : goal.core_parts::core_arms-returns-clause-added
+core_parts::core_arms-returns-clause-added t c =
     all_arms_added (numbers_in c.args.meanings.now) (scope_in c.args.meanings.now) c.args.locals.now c.args.arms.now c.loop-arm.arm-index c.args.types.now c.loop-arm.types c.loop-arm.made.items c.loop-arm.invariant.made (omega arith)
 
 -- ---- a term that is no operation and no application
 
-pub core_head-maker_term-requires : goal.core_head-maker_term-requires
-core_head-maker_term-requires t c =
+pub core_terms::core_head-maker_term-requires : goal.core_terms::core_head-maker_term-requires
+core_terms::core_head-maker_term-requires t c =
     let s = scope_in c.args.meanings.now in
     let x = c.in-Make.name in
     let us = c.in-Make.arguments.items in
@@ -111,15 +111,15 @@ core_head-maker_term-requires t c =
     let long : c.len.result ≡ terms_length (terms_of us) = omega (arith, c.len.ensures, c.in-Make.arguments.ok.0, length_of us) in
     ap (λ n. maker_faults c.head.inside.at x n (s.makers x)) long ∙ none.0
 
-pub core_head-add_open_type-requires : goal.core_head-add_open_type-requires
-core_head-add_open_type-requires t c =
+pub core_terms::core_head-add_open_type-requires : goal.core_terms::core_head-add_open_type-requires
+core_terms::core_head-add_open_type-requires t c =
     let s = scope_in c.args.meanings.now in
     let xs = c.args.locals.now in
     let whole = rw c.in-Lambda.is at c.head.view_is in
     (none_named (type_faults s.types c.in-Lambda.from) (term_faults s (c.in-Lambda.binder.name ∷ xs) c.in-Lambda.body.value) (ap (term_faults s xs) whole ∙ c.requires.faultless)).0
 
-pub core_head-core_under-requires : goal.core_head-core_under-requires
-core_head-core_under-requires t c =
+pub core_terms::core_head-core_under-requires : goal.core_terms::core_head-core_under-requires
+core_terms::core_head-core_under-requires t c =
     let s = scope_in c.args.meanings.now in
     let xs = c.args.locals.now in
     let ys = c.in-Lambda.binder.name ∷ xs in
@@ -127,64 +127,64 @@ core_head-core_under-requires t c =
     let none = none_named (type_faults s.types c.in-Lambda.from) (term_faults s ys c.in-Lambda.body.value) (ap (term_faults s xs) whole ∙ c.requires.faultless) in
     (omega (arith, ap term_height whole, ap term_height c.deref-in-Lambda.ensures, c.decreases), ap (term_faults s ys) c.deref-in-Lambda.ensures ∙ none.1)
 
-pub core_head-core_part-requires : goal.core_head-core_part-requires
-core_head-core_part-requires t c =
+pub core_terms::core_head-core_part-requires : goal.core_terms::core_head-core_part-requires
+core_terms::core_head-core_part-requires t c =
     let s = scope_in c.args.meanings.now in
     let xs = c.args.locals.now in
     let whole = rw c.in-Let.is at c.head.view_is in
     let none = none_named (term_faults s xs c.in-Let.value.value) (term_faults s (c.in-Let.binder.name ∷ xs) c.in-Let.body.value) (ap (term_faults s xs) whole ∙ c.requires.faultless) in
     (omega (arith, ap term_height whole, ap term_height c.deref-in-Let.ensures, c.decreases), ap (term_faults s xs) c.deref-in-Let.ensures ∙ none.0)
 
-pub core_head-core_under-requires-in-Let : goal.core_head-core_under-requires-in-Let
-core_head-core_under-requires-in-Let t c =
+pub core_terms::core_head-core_under-requires-in-Let : goal.core_terms::core_head-core_under-requires-in-Let
+core_terms::core_head-core_under-requires-in-Let t c =
     let s = scope_in c.args.meanings.now in
     let xs = c.args.locals.now in
     let whole = rw c.in-Let.is at c.head.view_is in
     let none = none_named (term_faults s xs c.in-Let.value.value) (term_faults s (c.in-Let.binder.name ∷ xs) c.in-Let.body.value) (ap (term_faults s xs) whole ∙ c.requires.faultless) in
     (omega (arith, ap term_height whole, ap term_height c.deref-in-Let-2.ensures, c.decreases), (λ i. term_faults s (c.in-Let.binder.name ∷ c.in_ok-value-in-Let.ensures.kept i) (c.deref-in-Let-2.ensures i)) ∙ none.1)
 
-pub core_head-core_part-requires-in-Split : goal.core_head-core_part-requires-in-Split
-core_head-core_part-requires-in-Split t c =
+pub core_terms::core_head-core_part-requires-in-Split : goal.core_terms::core_head-core_part-requires-in-Split
+core_terms::core_head-core_part-requires-in-Split t c =
     let s = scope_in c.args.meanings.now in
     let xs = c.args.locals.now in
     let whole = rw c.in-Split.is at c.head.view_is in
     let none = none_named (term_faults s xs c.in-Split.value.value) (term_faults s (c.in-Split.second.name ∷ c.in-Split.first.name ∷ xs) c.in-Split.body.value) (ap (term_faults s xs) whole ∙ c.requires.faultless) in
     (omega (arith, ap term_height whole, ap term_height c.deref-in-Split.ensures, c.decreases), ap (term_faults s xs) c.deref-in-Split.ensures ∙ none.0)
 
-pub core_head-core_under_both-requires : goal.core_head-core_under_both-requires
-core_head-core_under_both-requires t c =
+pub core_terms::core_head-core_under_both-requires : goal.core_terms::core_head-core_under_both-requires
+core_terms::core_head-core_under_both-requires t c =
     let s = scope_in c.args.meanings.now in
     let xs = c.args.locals.now in
     let whole = rw c.in-Split.is at c.head.view_is in
     let none = none_named (term_faults s xs c.in-Split.value.value) (term_faults s (c.in-Split.second.name ∷ c.in-Split.first.name ∷ xs) c.in-Split.body.value) (ap (term_faults s xs) whole ∙ c.requires.faultless) in
     (omega (arith, ap term_height whole, ap term_height c.deref-in-Split-2.ensures, c.decreases), (λ i. term_faults s (c.in-Split.second.name ∷ c.in-Split.first.name ∷ c.in_ok-value-in-Split.ensures.kept i) (c.deref-in-Split-2.ensures i)) ∙ none.1)
 
-pub core_head-core_part-requires-in-If : goal.core_head-core_part-requires-in-If
-core_head-core_part-requires-in-If t c =
+pub core_terms::core_head-core_part-requires-in-If : goal.core_terms::core_head-core_part-requires-in-If
+core_terms::core_head-core_part-requires-in-If t c =
     let s = scope_in c.args.meanings.now in
     let xs = c.args.locals.now in
     let whole = rw c.in-If.is at c.head.view_is in
     let none = none_named (term_faults s xs c.in-If.test.value) (term_faults s xs c.in-If.yes.value ++ term_faults s xs c.in-If.no.value) (ap (term_faults s xs) whole ∙ c.requires.faultless) in
     (omega (arith, ap term_height whole, ap term_height c.deref-in-If.ensures, c.decreases), ap (term_faults s xs) c.deref-in-If.ensures ∙ none.0)
 
-pub core_head-core_two-requires-in-If : goal.core_head-core_two-requires-in-If
-core_head-core_two-requires-in-If t c =
+pub core_terms::core_head-core_two-requires-in-If : goal.core_terms::core_head-core_two-requires-in-If
+core_terms::core_head-core_two-requires-in-If t c =
     let s = scope_in c.args.meanings.now in
     let xs = c.args.locals.now in
     let whole = rw c.in-If.is at c.head.view_is in
     let none = none_named (term_faults s xs c.in-If.test.value) (term_faults s xs c.in-If.yes.value ++ term_faults s xs c.in-If.no.value) (ap (term_faults s xs) whole ∙ c.requires.faultless) in
     (omega (arith, ap term_height whole, ap term_height c.deref-in-If-2.ensures, ap term_height c.deref-in-If-3.ensures, c.decreases), (λ i. term_faults s (c.in_ok-test-in-If.ensures.kept i) (c.deref-in-If-2.ensures i) ++ term_faults s (c.in_ok-test-in-If.ensures.kept i) (c.deref-in-If-3.ensures i)) ∙ none.1)
 
-pub core_head-core_part-requires-in-Case : goal.core_head-core_part-requires-in-Case
-core_head-core_part-requires-in-Case t c =
+pub core_terms::core_head-core_part-requires-in-Case : goal.core_terms::core_head-core_part-requires-in-Case
+core_terms::core_head-core_part-requires-in-Case t c =
     let s = scope_in c.args.meanings.now in
     let xs = c.args.locals.now in
     let whole = rw c.in-Case.is at c.head.view_is in
     let none = none_named (term_faults s xs c.in-Case.value.value) (cases_faults s xs (arms_of c.in-Case.arms.items)) (ap (term_faults s xs) whole ∙ c.requires.faultless) in
     (omega (arith, ap term_height whole, ap term_height c.deref-in-Case.ensures, c.decreases), ap (term_faults s xs) c.deref-in-Case.ensures ∙ none.0)
 
-pub core_head-core_arms-requires : goal.core_head-core_arms-requires
-core_head-core_arms-requires t c =
+pub core_terms::core_head-core_arms-requires : goal.core_terms::core_head-core_arms-requires
+core_terms::core_head-core_arms-requires t c =
     let s = scope_in c.args.meanings.now in
     let xs = c.args.locals.now in
     let whole = rw c.in-Case.is at c.head.view_is in
@@ -193,16 +193,16 @@ core_head-core_arms-requires t c =
       (λ i. matches_faults s (c.in_ok-value-in-Case.ensures.kept i) (arms_of (c.deref-in-Case-2.ensures.value i))) ∙ no_cases s xs (arms_of c.in-Case.arms.items) none.1,
     )
 
-pub core_head-core_part-requires-in-Match : goal.core_head-core_part-requires-in-Match
-core_head-core_part-requires-in-Match t c =
+pub core_terms::core_head-core_part-requires-in-Match : goal.core_terms::core_head-core_part-requires-in-Match
+core_terms::core_head-core_part-requires-in-Match t c =
     let s = scope_in c.args.meanings.now in
     let xs = c.args.locals.now in
     let whole = rw c.in-Match.is at c.head.view_is in
     let none = none_named (term_faults s xs c.in-Match.channel.value) (matches_faults s xs (arms_of c.in-Match.arms.items)) (ap (term_faults s xs) whole ∙ c.requires.faultless) in
     (omega (arith, ap term_height whole, ap term_height c.deref-in-Match.ensures, c.decreases), ap (term_faults s xs) c.deref-in-Match.ensures ∙ none.0)
 
-pub core_head-core_arms-requires-in-Match : goal.core_head-core_arms-requires-in-Match
-core_head-core_arms-requires-in-Match t c =
+pub core_terms::core_head-core_arms-requires-in-Match : goal.core_terms::core_head-core_arms-requires-in-Match
+core_terms::core_head-core_arms-requires-in-Match t c =
     let s = scope_in c.args.meanings.now in
     let xs = c.args.locals.now in
     let whole = rw c.in-Match.is at c.head.view_is in
@@ -213,8 +213,8 @@ core_head-core_arms-requires-in-Match t c =
 
 -- ---- a term
 
-pub core_term-core_head-requires : goal.core_term-core_head-requires
-core_term-core_head-requires t c =
+pub core_terms::core_term-core_head-requires : goal.core_terms::core_term-core_head-requires
+core_terms::core_term-core_head-requires t c =
     let s = scope_in c.args.meanings.now in
     let xs = c.args.locals.now in
     let spine = c.in_ok-spine.spine in (
@@ -222,8 +222,8 @@ core_term-core_head-requires t c =
       (c.in_ok-spine.ensures.head, inner_none s xs spine.steps.items spine.head.now (ap (term_faults s xs) c.in_ok-spine.ensures.whole ∙ c.requires.faultless)),
     )
 
-pub core_term-core_step-requires : goal.core_term-core_step-requires
-core_term-core_step-requires t c =
+pub core_terms::core_term-core_step-requires : goal.core_terms::core_term-core_step-requires
+core_terms::core_term-core_step-requires t c =
     let s = scope_in c.args.meanings.now in
     let xs = c.args.locals.now in
     let x = c.in-Some.step in
@@ -233,8 +233,8 @@ core_term-core_step-requires t c =
       ap (λ ys. term_faults s ys (second x)) c.loop-step.invariant.4 ∙ second_none s xs c.pop_source_step.new.steps.items x inner (ap (term_faults s xs) whole ∙ c.requires.faultless),
     )
 
-pub core_term-loop-step-preserved : goal.core_term-loop-step-preserved
-core_term-loop-step-preserved t c =
+pub core_terms::core_term-loop-step-preserved : goal.core_terms::core_term-loop-step-preserved
+core_terms::core_term-loop-step-preserved t c =
     let s = scope_in c.args.meanings.now in
     let become = core_term (numbers_in c.args.meanings.now) in
     let n = length c.args.types.now.types.items in
