@@ -1,3 +1,4 @@
+pub mod Laws
 pub mod PathLaws
 pub mod Places
 pub mod Taking

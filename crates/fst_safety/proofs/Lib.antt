@@ -19,6 +19,7 @@ pub mod Idle
 pub mod InstanceContexts
 pub mod InstanceTypes
 pub mod Keeping
+pub mod Laws
 pub mod Lists
 pub mod MakerNames
 pub mod Makers

@@ -1,0 +1,49 @@
+-- What other crates cite of typed runs, and of tasks that know of their own ends alone.
+-- a module that has derivations is well typed for runs
+pub use Rattle.fst_safety.proofs.Checked.{checked}
+-- main's body has main's declared type, whose values can be printed; so it is where the module has derivations
+pub use Rattle.fst_safety.proofs.Modules.{IsMainTyped, main_typed}
+-- a sound configuration of a well-typed module is right
+pub use Rattle.fst_safety.proofs.SoundLaws.{sound_right}
+-- what a run of a well-typed module leads to from a sound configuration is sound
+pub use Rattle.fst_safety.proofs.Runs.{runs_sound}
+-- a closed well-formed type equals itself, and equality goes back
+pub use Rattle.fst_safety.proofs.Equals.{equals_itself, equals_back}
+-- a closed session type is well formed, and what a step leaves of it is a closed session type
+pub use Rattle.fst_safety.proofs.Equals.{session_formed, session_step}
+-- the dual of a session type is a session type
+pub use Rattle.fst_safety.proofs.DualSessions.{dual_session}
+-- a closed session type that is terminated equals Skip
+pub use Rattle.fst_safety.proofs.ThreadTyping.{ended_equal}
+-- the residual of a channel's side is this type, and that of the other side its dual; the second follows from the first
+pub use Rattle.fst_safety.proofs.TraceLaws.{Sides, sides_from}
+-- where that is so, and the channel's declared type and this one are closed session types, each side has gone on as the dual of the other
+pub use Rattle.fst_safety.proofs.TraceLaws.{trace_from}
+-- each end that is counted and has a closed session type as its residual has an equal one among other residuals
+pub use Rattle.fst_safety.proofs.StillLaws.{Still}
+-- a typed state is typed with other residuals too, where that holds of the ends in it
+pub use Rattle.fst_safety.proofs.StillLaws.{typed_still}
+-- a typed state of a well-typed module isn't stuck
+pub use Rattle.fst_safety.proofs.ThreadTyping.{not_stuck}
+-- 1 where an end has this name, and 0 where it has another
+pub use Rattle.fst_safety.proofs.BagLaws.{counted}
+-- how often a name stands among ends is what the first of them counts plus how often it stands among the others; an end counts 1 of its own name
+pub use Rattle.fst_safety.proofs.BagLaws.{count_first, counts_itself, counted_so}
+-- where no end of a name stands among some, each of them counts 0 of it
+pub use Rattle.fst_safety.proofs.BagLaws.{others_of}
+-- where an end of a name stands among some that all have a property, one of this name has it
+pub use Rattle.fst_safety.proofs.BagLaws.{there}
+-- a log that leads to a task leads with an entry of this task more to the task after the entry
+pub use Rattle.fst_safety.proofs.ThreadLaws.{follows_more}
+-- the stamp of an answer is later than the task's clock
+pub use Rattle.fst_safety.proofs.ThreadLaws.{later}
+-- with an answer a task has made one channel more at most, and forked one task more at most
+pub use Rattle.fst_safety.proofs.ThreadLaws.{few_made, few_forks}
+-- main's thread fits at the beginning of a body of main's type, whose values can be printed
+pub use Rattle.fst_safety.proofs.TaskStarts.{begun_fits}
+-- a thread that fits a module which has derivations asks for something that the residuals of its ends allow
+pub use Rattle.fst_safety.proofs.Keeping.{asks_for}
+-- a thread that fits has gone on to itself where nothing has happened
+pub use Rattle.fst_safety.proofs.Keeping.{stays}
+-- a thread that fits a module which has derivations fits again in whichever way it goes on, and so does one that it forks
+pub use Rattle.fst_safety.proofs.Going.{stay_typed}
