@@ -18,9 +18,7 @@ use Rattle.fst_process.specs.Reports.{IsReport, IsAnswerFrom}
 use Rattle.fst_safety.specs.WellTyped.{program_in}
 use Rattle.fst_safety.specs.Logs.{Birth}
 use Rattle.fst_safety.specs.Threads.{Thread}
-use Rattle.fst_safety.proofs.Checked.{checked}
-use Rattle.fst_safety.proofs.Runs.{runs_sound}
-use Rattle.fst_safety.proofs.SoundLaws.{sound_right}
+use Rattle.fst_safety.proofs.Laws.{checked, runs_sound, sound_right}
 use Rattle.fst_worker.specs.Configs.{config_of}
 use Rattle.fst_worker.specs.Records.{FitsRecord}
 use Rattle.fst_worker.specs.Events.{events_of, IsFine, IsRecordOf, ExtendsLaw, RunsFine, RunsLaw, StaysFine, FineLaw, IsRecordAnswer, AnswerLaw}

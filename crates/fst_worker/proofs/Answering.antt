@@ -21,9 +21,7 @@ use Rattle.fst_safety.specs.Logs.{Birth}
 use Rattle.fst_safety.specs.Threads.{Thread, FitsIn}
 use Rattle.fst_safety.specs.Going.{with_entry}
 use Rattle.fst_safety.specs.WellTyped.{IsWellTyped, program_in}
-use Rattle.fst_safety.proofs.Checked.{checked}
-use Rattle.fst_safety.proofs.Going.{stay_typed}
-use Rattle.fst_safety.proofs.ThreadTyping.{not_stuck}
+use Rattle.fst_safety.proofs.Laws.{checked, stay_typed, not_stuck}
 use Rattle.fst_worker.specs.Records.{Pair, IsOver, histories_of, missing}
 use Rattle.fst_worker.specs.Resumes.{Tells, TellLaw}
 use Rattle.fst_worker.proofs.Catching.{asks_it}

@@ -27,7 +27,7 @@ use Rattle.fst_safety.specs.Logs.{Birth, Exchange, Opening, births, exchanges, o
 use Rattle.fst_safety.specs.Threads.{Thread, FitsIn, FitsEnd, count_of}
 use Rattle.fst_safety.specs.Turns.{of_ends, by_exchanges, birth}
 use Rattle.fst_safety.specs.Going.{with_entry}
-use Rattle.fst_safety.proofs.ThreadLaws.{follows_more}
+use Rattle.fst_safety.proofs.Laws.{follows_more}
 use Rattle.fst_worker.specs.Works.{bears, opens, trades}
 use Rattle.fst_worker.specs.Records.{FitsRecord, IsLogged, IsRecorded, Pair, IsShut, IsOver, histories_of, missing, lag_by, lag, shown_of, shows, IsTrailing, Caught, AllCaught}
 use Rattle.fst_worker.specs.Laws.{Finishes, RecordLaw}

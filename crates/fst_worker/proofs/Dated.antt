@@ -14,7 +14,7 @@ use Rattle.fst_runs.specs.Configs.{Path, Task, same_path, channel_name}
 use Rattle.fst_runs.specs.Wrong.{once}
 use Rattle.fst_safety.specs.declared.tasks.LogEntry.{LogEntry}
 use Rattle.fst_safety.specs.Logs.{Exchange, Opening, Follows, after_entry, exchanged_by, exchanges, opening_of, opened_by, openings}
-use Rattle.fst_safety.proofs.ThreadLaws.{later}
+use Rattle.fst_safety.proofs.Laws.{later}
 use Rattle.fst_worker.proofs.Paths.{IsNew, is_new}
 use Rattle.fst_worker.proofs.Sums.{sum_none}
 use Rattle.fst_worker.proofs.Tests.{path_counts}

@@ -26,7 +26,7 @@ use Rattle.fst_safety.specs.Logs.{Birth, Exchange, Opening, Enters, after_entry,
 use Rattle.fst_safety.specs.Threads.{Thread}
 use Rattle.fst_safety.specs.Turns.{birth}
 use Rattle.fst_safety.specs.Going.{with_entry}
-use Rattle.fst_safety.proofs.ThreadLaws.{follows_more}
+use Rattle.fst_safety.proofs.Laws.{follows_more}
 use Rattle.fst_worker.specs.Configs.{task_of, config_of}
 use Rattle.fst_worker.specs.Works.{bears, opens, trades}
 use Rattle.fst_worker.specs.Records.{FitsRecord, IsLogged, IsRecorded, shows}

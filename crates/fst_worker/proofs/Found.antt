@@ -2,6 +2,7 @@
 use Rattle.std.proofs.Common.{◌≡◌, ◌∙◌, ◌⊎◌, inl, inr, ◌≤◌, ℕ, Bool, true, false, Option, Some, None, List, [], ◌∷◌, refl, sym, ap, arith}
 use Rattle.std.specs.Prelude.{sum_by, Contains, if◌then◌else◌}
 use Rattle.std.proofs.lemmas.List.Sums.{sum_by-cons}
+use Rattle.std.proofs.lemmas.Option.{none-some, same_Some}
 use Rattle.fst_base.proofs.Lists.{contains_head, contains_tail, from_contains, contains_none}
 use Rattle.fst_lts.specs.Histories.{over}
 use Rattle.fst_value.specs.declared.ends.ChannelName.{ChannelName}
@@ -13,12 +14,6 @@ use Rattle.fst_process.specs.Resuming.{channel_in, named_so}
 use Rattle.fst_safety.specs.Threads.{Thread}
 use Rattle.fst_worker.specs.Configs.{task_of}
 use Rattle.fst_worker.proofs.Tests.{path_counts, channel_counts, there_sums}
-
-some_same : {X : Type 0} {a b : X} → Some a ≡ Some b → a ≡ b
-some_same q = cc
-
-none_some : {X A : Type 0} {x : X} → None ≡ Some x → A
-none_some q = absurd (cc q)
 
 -- ---- threads
 
@@ -35,14 +30,14 @@ pub record HasTask (ys : List Thread) (p : Path) (t : Task) : Type 0 where
 
 task_or : (y : Thread) (ys : List Thread) (p : Path) (t : Task) → (task_of ys p ≡ Some t → HasTask ys p t) → (b : Bool) → same_path y.path p ≡ b →
     (if b then Some y.now else task_of ys p) ≡ Some t → HasTask (y ∷ ys) p t
-task_or y ys p t more true q e = record { thread = y; there = contains_head ys y y refl; path = same_path-same y.path p q; now = some_same e }
+task_or y ys p t more true q e = record { thread = y; there = contains_head ys y y refl; path = same_path-same y.path p q; now = same_Some y.now t e }
 task_or y ys p t more false q e =
     let r = more e in
     record { thread = r.thread; there = contains_tail ys r.thread y r.there; path = r.path; now = r.now }
 
 -- a task that is found is that of a thread
 pub has_task : (ys : List Thread) (p : Path) (t : Task) → task_of ys p ≡ Some t → HasTask ys p t
-has_task [] p t e = none_some e
+has_task [] p t e = absurd (none-some t e)
 has_task (y ∷ ys) p t e = task_or y ys p t (has_task ys p t) (same_path y.path p) refl e
 
 there_or : (z y : Thread) (ys : List Thread) → sum_by (on_path y.path) (z ∷ ys) ≤ 1 → (z ≡ y) ⊎ Contains ys y →
@@ -86,8 +81,8 @@ pub record HasChannel (ks : List ChannelHistory) (h : ChannelName) (j : Channel)
 
 named_is : (k : ChannelHistory) (ks : List ChannelHistory) (h : ChannelName) (j : Channel) (b : Bool) → same_channel k.name h ≡ b →
     (if b then Some (channel_of k) else None) ≡ Some j → HasChannel (k ∷ ks) h j
-named_is k ks h j true q e = record { history = k; there = contains_head ks k k refl; name = same_channel-same k.name h q; is = some_same e }
-named_is k ks h j false q e = none_some e
+named_is k ks h j true q e = record { history = k; there = contains_head ks k k refl; name = same_channel-same k.name h q; is = same_Some (channel_of k) j e }
+named_is k ks h j false q e = absurd (none-some j e)
 
 channel_or : (k : ChannelHistory) (ks : List ChannelHistory) (h : ChannelName) (j : Channel) → (channel_in ks h ≡ Some j → HasChannel ks h j) →
     (o : Option Channel) → channel_in ks h ≡ o → over o (named_so k h) ≡ Some j → HasChannel (k ∷ ks) h j
@@ -98,7 +93,7 @@ channel_or k ks h j more (Some x) q e =
 
 -- a channel that is found is that of a history
 pub has_channel : (ks : List ChannelHistory) (h : ChannelName) (j : Channel) → channel_in ks h ≡ Some j → HasChannel ks h j
-has_channel [] h j e = none_some e
+has_channel [] h j e = absurd (none-some j e)
 has_channel (k ∷ ks) h j e = channel_or k ks h j (has_channel ks h j) (channel_in ks h) refl e
 
 not_named : (k : ChannelHistory) (h : ChannelName) → on_name h k ≡ 0 → named_so k h ≡ None

@@ -20,7 +20,7 @@ use Rattle.fst_safety.specs.Going.{GoesOnTo}
 use Rattle.fst_safety.specs.Tasks.{HasGained, module_of, tries_at}
 use Rattle.fst_safety.specs.Threads.{Thread, FitsIn}
 use Rattle.fst_safety.specs.Turns.{of_ends}
-use Rattle.fst_safety.proofs.ThreadLaws.{later}
+use Rattle.fst_safety.proofs.Laws.{later}
 use Rattle.fst_worker.specs.declared.shares.Move.{Move}
 use Rattle.fst_worker.specs.declared.shares.Move.TheVariants as move
 use Rattle.fst_worker.specs.declared.shares.Share.{Share}

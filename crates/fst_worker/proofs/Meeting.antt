@@ -19,7 +19,7 @@ use Rattle.fst_runs.specs.Configs.{Path, Task, Channel, same_path, other, channe
 use Rattle.fst_runs.specs.Events.{meeting_stamp, extended}
 use Rattle.fst_runs.proofs.Updates.{put, with_task, with_channel, has_met, passed}
 use Rattle.fst_cell.specs.Residuals.{residual, sends}
-use Rattle.fst_cell.proofs.StampLaws.{stamped_push}
+use Rattle.fst_cell.proofs.Laws.{stamped_push}
 use Rattle.fst_safety.specs.WellTyped.{program_in}
 use Rattle.fst_safety.specs.Logs.{Birth, Exchange, part_in}
 use Rattle.fst_safety.specs.Threads.{Thread}

@@ -13,7 +13,7 @@ use Rattle.fst_runs.specs.Wrong.{once}
 use Rattle.fst_runs.proofs.NameLaws.{same_path-itself, same_path-same}
 use Rattle.fst_process.specs.Kept.{put_at}
 use Rattle.fst_process.specs.Resuming.{made_by, AreNumbered}
-use Rattle.fst_process.proofs.Places.{put_cases}
+use Rattle.fst_process.proofs.Laws.{put_cases}
 use Rattle.fst_cell.specs.declared.answers.Closed.{Closed}
 use Rattle.fst_safety.specs.Logs.{Birth}
 use Rattle.fst_safety.specs.Threads.{Thread, FitsIn}

@@ -25,8 +25,7 @@ use Rattle.fst_safety.specs.declared.tasks.LogEntry.{LogEntry}
 use Rattle.fst_safety.specs.Logs.{Birth, exchanges, openings, part_in}
 use Rattle.fst_safety.specs.Threads.{Thread, FitsIn}
 use Rattle.fst_safety.specs.WellTyped.{program_in}
-use Rattle.fst_safety.proofs.Checked.{checked}
-use Rattle.fst_safety.proofs.SoundLaws.{sound_right}
+use Rattle.fst_safety.proofs.Laws.{checked, sound_right}
 use Rattle.fst_worker.specs.Works.{opens}
 use Rattle.fst_worker.specs.Entries.{part_at}
 use Rattle.fst_worker.specs.Records.{FitsRecord, IsLogged}

@@ -1,9 +1,7 @@
 -- No run from a sound configuration goes wrong.
 use Rattle.std.proofs.Common.{[]}
 use Rattle.fst_derivations.specs.Modules.{surroundings}
-use Rattle.fst_safety.proofs.Checked.{checked}
-use Rattle.fst_safety.proofs.Runs.{runs_sound}
-use Rattle.fst_safety.proofs.SoundLaws.{sound_right}
+use Rattle.fst_safety.proofs.Laws.{checked, runs_sound, sound_right}
 use Rattle.fst_worker.specs.Resumes.{RightLaw}
 
 -- of each module that has derivations

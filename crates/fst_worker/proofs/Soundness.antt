@@ -3,6 +3,7 @@ use Rattle.std.proofs.Common.{◌≡◌, ◌∙◌, ◌⊎◌, inl, inr, ◌<◌
 use Rattle.std.specs.Prelude.{sum_by, All, Contains, option_and_then}
 use Rattle.std.proofs.lemmas.List.Elements.{All-contains}
 use Rattle.std.proofs.lemmas.List.Sums.{sum_by-cons}
+use Rattle.std.proofs.lemmas.Option.{none-some, same_Some}
 use Rattle.fst_base.proofs.Lists.{from_contains, contains_none}
 use Rattle.fst_types.specs.Tree.{Tree, skip}
 use Rattle.fst_types.specs.declared.side.Side.{Side}
@@ -29,13 +30,7 @@ use Rattle.fst_safety.specs.Logs.{Birth}
 use Rattle.fst_safety.specs.Sound.{IsSound, IsTrace}
 use Rattle.fst_safety.specs.Threads.{Thread, FitsIn, IsSpent, count_of}
 use Rattle.fst_safety.specs.Turns.{of_ends, by_type}
-use Rattle.fst_safety.proofs.BagLaws.{there}
-use Rattle.fst_safety.proofs.DualSessions.{dual_session}
-use Rattle.fst_safety.proofs.Equals.{equals_back, equals_itself, session_formed, session_step}
-use Rattle.fst_safety.proofs.StillLaws.{Still, typed_still}
-use Rattle.fst_safety.proofs.ThreadTyping.{ended_equal}
-use Rattle.fst_safety.proofs.TraceLaws.{sides_from, trace_from}
-use Rattle.fst_safety.proofs.Typed.{some_same, none_some}
+use Rattle.fst_safety.proofs.Laws.{there, dual_session, equals_back, equals_itself, session_formed, session_step, Still, typed_still, ended_equal, sides_from, trace_from}
 use Rattle.fst_worker.specs.Works.{IsRun, IsKnownIn, bears, opens}
 use Rattle.fst_worker.specs.Records.{FitsRecord, IsRecorded}
 use Rattle.fst_worker.specs.Configs.{config_of}
@@ -56,12 +51,12 @@ session_event s t ev h e = by (step s (sending ev)) refl e
 
 -- what a history leaves of a session type is one
 session_after : (s t : Tree) (es : List Entry) → IsSession [] s → after_history s es ≡ Some t → IsSession [] t
-session_after s t [] h e = subst (IsSession []) (some_same e) h
+session_after s t [] h e = subst (IsSession []) (same_Some s t e) h
 session_after s t (d ∷ es) h e = by (after_event s d.event) refl (λ u. session_after u t es) e
   where
     by : (o : Option Tree) → after_event s d.event ≡ o → ((u : Tree) → IsSession [] u → after_history u es ≡ Some t → IsSession [] t) →
         option_and_then (λ y. after_history y es) o ≡ Some t → IsSession [] t
-    by None q more e = absurd (none_some e)
+    by None q more e = absurd (none-some t e)
     by (Some u) q more e = more u (session_event s u d.event h q) e
 
 some_is : {X : Type 0} (o : Option X) → IsSome o → (x : X) × (o ≡ Some x)
@@ -146,8 +141,8 @@ module _ (m : Surroundings) (a : Tree) (main : Birth) (ys : List Thread) (ks : L
       subst IsTrace g.is (trace_of g.history (All-contains IsRecorded ks g.history fits.histories g.there))
 
   side_session : (s : Side) (j : Channel) (t : Tree) → IsTrace j → channel_residual s j ≡ Some t → IsSession [] t
-  side_session Left j t i e = subst (IsSession []) (some_same (sym i.3 ∙ e)) i.2
-  side_session Right j t i e = subst (IsSession []) (some_same (sym i.4 ∙ e)) (dual_session [] i.0 i.2)
+  side_session Left j t i e = subst (IsSession []) (same_Some i.0 t (sym i.3 ∙ e)) i.2
+  side_session Right j t i e = subst (IsSession []) (same_Some _ t (sym i.4 ∙ e)) (dual_session [] i.0 i.2)
 
   -- the channel of an end that has a residual
   record HasHistory (z : EndName) (t : Tree) : Type 0 where
@@ -159,7 +154,7 @@ module _ (m : Surroundings) (a : Tree) (main : Birth) (ys : List Thread) (ks : L
   history_of z t e = by (c.channels z.channel) refl e
     where
       by : (o : Option Channel) → c.channels z.channel ≡ o → option_and_then (channel_residual z.side) o ≡ Some t → HasHistory z t
-      by None q e = absurd (none_some e)
+      by None q e = absurd (none-some t e)
       by (Some j) q e = record { channel = j; there = q; residual = e }
 
   -- residuals are session types
@@ -187,7 +182,7 @@ module _ (m : Surroundings) (a : Tree) (main : Birth) (ys : List Thread) (ks : L
 
   not_over : (z : EndName) → IsUnspent r z → IsOver z → ⊥
   not_over z u o =
-      let same : u.0 ≡ o.residual = some_same (sym u.1 ∙ o.is) in
+      let same : u.0 ≡ o.residual = same_Some u.0 o.residual (sym u.1 ∙ o.is) in
       let both : false ≡ true = sym u.2 ∙ ap terminated same ∙ o.done in
       absurd (cc both)
 
@@ -208,7 +203,7 @@ module _ (m : Surroundings) (a : Tree) (main : Birth) (ys : List Thread) (ks : L
         ended : IsOver z → count_of z y.bag ≡ 0 → (u : Tree) × (r z ≡ Some u) × IsSession [] u × Equals u s
         ended o q =
             let g = session_of z o.residual o.is in
-            let is : skip ≡ s = some_same (sym (f.typed.are.others z q) ∙ e) in
+            let is : skip ≡ s = same_Some skip s (sym (f.typed.are.others z q) ∙ e) in
             (o.residual, o.is, g, subst (Equals o.residual) is (equals_back (ended_equal o.residual g o.done)))
 
         open_end : (e : EndView) × (end_name e ≡ z) × ((f.typed.residuals (end_name e) ≡ residual_of e.knows) × IsLevel ks e) →

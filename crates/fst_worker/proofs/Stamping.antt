@@ -28,7 +28,7 @@ use Rattle.fst_safety.specs.WellTyped.{program_in}
 use Rattle.fst_safety.specs.Logs.{Birth, Exchange, Opening, Follows, IsAnswered, after_entry, made_after, exchanged_by, exchanges, opened_by, opening_of, openings, birth_of, born_by, births, part_in, parts_in, then_after}
 use Rattle.fst_safety.specs.Threads.{Thread}
 use Rattle.fst_safety.specs.Turns.{birth}
-use Rattle.fst_safety.proofs.ThreadLaws.{later, few_made, few_forks}
+use Rattle.fst_safety.proofs.Laws.{later, few_made, few_forks}
 use Rattle.fst_worker.specs.Works.{bears, opens, trades}
 use Rattle.fst_worker.specs.Records.{FitsRecord, IsLogged, IsRecorded, shows}
 use Rattle.fst_worker.specs.Entries.{IsExchanged, part_at}

@@ -3,6 +3,7 @@ use Rattle.std.proofs.Common.{◌≡◌, ◌∙◌, ◌⊎◌, inl, inr, ℕ, su
 use Rattle.std.specs.Prelude.{All, Contains, option_to_list, nat_eq}
 use Rattle.std.proofs.lemmas.Bool.Decides.{nat_tests}
 use Rattle.std.proofs.lemmas.List.{append-nil}
+use Rattle.std.proofs.lemmas.Option.{same_Some}
 use Rattle.fst_types.specs.Tree.{Tree}
 use Rattle.fst_types.specs.declared.side.Side.{Side}
 use Rattle.fst_types.specs.declared.side.Side.TheVariants.{Left, Right}
@@ -16,8 +17,7 @@ use Rattle.fst_cell.specs.declared.content.Offer.{Offer}
 use Rattle.fst_cell.specs.Close.{stand_if, stands_at, either_of}
 use Rattle.fst_cell.specs.End.{EndView, residual_of}
 use Rattle.fst_cell.specs.Residuals.{residual, sends}
-use Rattle.fst_cell.proofs.ResidualLaws.{exclusive}
-use Rattle.fst_cell.proofs.StampLaws.{last_stamp_push}
+use Rattle.fst_cell.proofs.Laws.{exclusive, last_stamp_push}
 use Rattle.fst_safety.specs.Logs.{Birth}
 use Rattle.fst_safety.specs.Threads.{Thread}
 use Rattle.fst_worker.specs.Records.{Pair, IsShut, IsOver, histories_of, missing, stands_on, IsTrailing, IsAsClosed}
@@ -198,9 +198,6 @@ module _ (m : Surroundings) (a : Tree) (main : Birth) (xs : List Thread) (ps : L
       ((λ i. agrees (missing (histories_of ps) e) (sym q i) (stands_on e.knows.side (sym (offered_is e.channel p c (sym is)) i))
       (sym (last_is_at e.channel p c (sym is)) i)) ∙ agree)
     where
-      same : {u v : Offer} → Some u ≡ Some v → u ≡ v
-      same i = cc
-
       at_false : (b : Bool) (n d : ℕ) → (not b && nat_eq n d) ≡ true → (b ≡ false) × (n ≡ d)
       at_false true n d h = absurd (cc h)
       at_false false n d h = (refl, is_stamp n d h)
@@ -215,4 +212,4 @@ module _ (m : Surroundings) (a : Tree) (main : Birth) (xs : List Thread) (ps : L
           let v = lacking_waits m a main xs ps over e settles d i in
           let t = at_false b (last_stamp p.closed.history.entries.items) d.stamp
           (ap (λ r. agrees r (Some o) b (last_stamp p.closed.history.entries.items)) (sym i) ∙ h) in
-          subst (λ b. IsAsClosed (histories_of ps) e o p.closed b) (sym t.0) (d, subst (λ o. IsTrailing (histories_of ps) e o d) (same (sym v.1 ∙ q)) v.2, t.1)
+          subst (λ b. IsAsClosed (histories_of ps) e o p.closed b) (sym t.0) (d, subst (λ o. IsTrailing (histories_of ps) e o d) (same_Some v.0 o (sym v.1 ∙ q)) v.2, t.1)

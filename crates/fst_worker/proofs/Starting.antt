@@ -21,8 +21,7 @@ use Rattle.fst_safety.specs.Threads.{Thread, FitsIn}
 use Rattle.fst_safety.specs.Tasks.{main_thread}
 use Rattle.fst_safety.specs.Turns.{of_ends, by_type, by_cell, by_exchanges, birth}
 use Rattle.fst_safety.specs.WellTyped.{program_in}
-use Rattle.fst_safety.proofs.Modules.{main_typed}
-use Rattle.fst_safety.proofs.TaskStarts.{begun_fits}
+use Rattle.fst_safety.proofs.Laws.{main_typed, begun_fits}
 use Rattle.fst_worker.specs.Works.{Whole, IsKnownIn, bears, opens, trades}
 use Rattle.fst_worker.specs.Laws.{BeginLaw}
 

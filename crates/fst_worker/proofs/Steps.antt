@@ -22,7 +22,7 @@ use Rattle.fst_safety.specs.declared.tasks.Turned.TheVariants as turned
 use Rattle.fst_safety.specs.Tasks.{CanTurn, FoundNoWay, HasGained, HasLeft, HasOffered, HasTried, HasTurned, Keeps, TakesTurn, module_of, tries_at}
 use Rattle.fst_safety.specs.Threads.{Thread, FitsIn}
 use Rattle.fst_safety.specs.Turns.{of_ends}
-use Rattle.fst_safety.proofs.Keeping.{stays}
+use Rattle.fst_safety.proofs.Laws.{stays}
 use Rattle.fst_worker.specs.declared.shares.Move.{Move}
 use Rattle.fst_worker.specs.declared.shares.Move.TheVariants as move
 use Rattle.fst_worker.specs.declared.shares.Share.{Share}

@@ -17,8 +17,7 @@ use Rattle.fst_cell.specs.End.{EndView, end_name}
 use Rattle.fst_safety.specs.Going.{with_entry}
 use Rattle.fst_safety.specs.Tasks.{module_of}
 use Rattle.fst_safety.specs.Threads.{Thread, FitsIn, FitsEnd, count_of}
-use Rattle.fst_safety.proofs.BagLaws.{count_first, counted_so}
-use Rattle.fst_safety.proofs.Keeping.{asks_for}
+use Rattle.fst_safety.proofs.Laws.{count_first, counted_so, asks_for}
 use Rattle.fst_worker.specs.Records.{Pair, histories_of, missing, stands_on, IsAsClosed}
 use Rattle.fst_worker.specs.Configs.{Told}
 use Rattle.fst_worker.specs.Laws.{Finishes}

@@ -32,8 +32,7 @@ use Rattle.fst_safety.specs.Sound.{IsSound, IsTrace}
 use Rattle.fst_safety.specs.Threads.{Thread, FitsIn, count_of}
 use Rattle.fst_safety.specs.Bags.{put_by}
 use Rattle.fst_safety.specs.Going.{GoesOnTo, IsMoved, with_entry}
-use Rattle.fst_safety.proofs.BagLaws.{counted, count_first, counts_itself, counted_so, others_of}
-use Rattle.fst_safety.proofs.Going.{stay_typed}
+use Rattle.fst_safety.proofs.Laws.{counted, count_first, counts_itself, counted_so, others_of, stay_typed}
 use Rattle.fst_worker.specs.Works.{Went, IsRun}
 use Rattle.fst_worker.specs.Records.{Pair, IsShut, IsOver, FitsRecord, IsRecorded, Caught, AllCaught, histories_of, missing, shows}
 use Rattle.fst_worker.specs.Laws.{Finishes}
