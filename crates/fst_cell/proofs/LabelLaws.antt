@@ -4,7 +4,6 @@ use Rattle.std.specs.Prelude.{All, IfNone, IfSome, is_some, option_map, unwrap_o
 use Rattle.std.proofs.lemmas.List.Elements.{All-head, All-tail}
 use Rattle.fst_types.specs.Tree.{Tree, Branches, none, branch}
 use Rattle.fst_types.specs.ModelView.{branches_of}
-use Rattle.fst_types.specs.declared.label.Label.{Label}
 use Rattle.fst_types.specs.declared.label.Label.TheVariants.{Select, Offer}
 use Rattle.fst_types.specs.declared.ty.Branch.{Branch}
 use Rattle.fst_lts.specs.Step.{step, terminated, choice_labels}

@@ -1,4 +1,4 @@
-use Rattle.std.proofs.Common.{◌≡◌, ◌∙◌, Contains, sym, ap, subst}
+use Rattle.std.proofs.Common.{◌∙◌, Contains, sym, ap, subst}
 use Rattle.fst_types.specs.declared.label.Label.TheVariants.{Offer}
 use Rattle.fst_types.specs.ModelView.{branches_of, tree_of}
 use Rattle.fst_lts.specs.Step.{labels}
