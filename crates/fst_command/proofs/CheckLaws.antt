@@ -1,5 +1,5 @@
 -- What `check` writes of a module, and what that means.
-use Rattle.std.proofs.Common.{◌≡◌, ◌∙◌, inl, inr, ℕ, ◌≤◌, List, [], ◌∷◌, length, Some, Result, Ok, Err, sym, ap, subst, append_assoc}
+use Rattle.std.proofs.Common.{◌≡◌, ◌∙◌, inl, inr, ℕ, ◌≤◌, List, [], ◌∷◌, length, Some, Result, Ok, Err, refl, sym, ap, subst, append_assoc}
 use Rattle.std.specs.Prelude.{◌≢◌, IfOk}
 use Rattle.std.specs.declared.alloc.AllocError.{AllocError}
 use Rattle.fst_base.specs.Limits.{most_bytes}
@@ -39,14 +39,14 @@ use Rattle.fst_process.specs.declared.report.Outcome.{Outcome}
 use Rattle.fst_process.specs.declared.report.Outcome.TheVariants.{Done, OutOfSteps}
 use Rattle.fst_process.specs.declared.report.Report.{Report}
 use Rattle.fst_process.specs.declared.report.Waiting.{Waiting}
-use Rattle.fst_process.specs.Reports.{IsAnswer as IsRunAnswer}
-use Rattle.fst_execution.specs.Execution.{AnswersAreSound}
+use Rattle.fst_execution.specs.Execution.{IsSound, ReportsAreSound}
 use Rattle.fst_make.specs.Made.{made_text}
 use Rattle.fst_report.specs.ReportTexts.{report_text}
 use Rattle.fst_command.specs.declared.status.Status.{Status}
-use Rattle.fst_command.specs.Meanings.{MeansAccepted, CheckMeanings, MeansReport, MeansRun, RunMeanings, MakeMeanings}
+use Rattle.fst_command.specs.Meanings.{MeansAccepted, CheckMeanings, MeansReport, IsSoundOutcome, MeansRun, RunMeanings, MakeMeanings}
 use Rattle.fst_command.specs.Views.{IfFound, cause_of, name_fault}
 use Rattle.fst_command.proofs.FindingLaws.{if_found, said_found}
+use Rattle.fst_command.proofs.OutcomeLaws.{outcome_sound}
 
 -- ---- what is found of the bytes
 
@@ -168,36 +168,38 @@ module _ (law : (m : Module) (budget : ℕ) (ds : List Deriv) → IsAccepted m b
   check_meanings budget bytes text (is_none short f h w e) = absurd (not_done (finding_refuses f status.Done e))
   check_meanings budget bytes text (makes short m) = found_means budget bytes text m.resolved m.is_resolved m.found
 
-  module _ (sound : AnswersAreSound) where
+  module _ (sound : ReportsAreSound) where
     module _ (shown : List Family → Report → List ℕ) where
       -- what the outcome of a run means, with reports written like this
-      outcome_means : (steps budget : ℕ) (bytes text : List ℕ) (s : Status) (m : Module) (ds : List Deriv) → AreResolved bytes m → IsAccepted m budget ds → SaysOutcome shown steps m text s →
-          MeansRun shown s bytes text
-      outcome_means steps budget bytes text s m ds is a o = by o.outcome o.answer o.written o.ended
+      outcome_means : (workers steps budget : ℕ) (bytes text : List ℕ) (s : Status) (m : Module) (ds : List Deriv) → AreResolved bytes m → IsAccepted m budget ds →
+          SaysOutcome shown workers steps m text s → MeansRun shown s bytes text
+      outcome_means workers steps budget bytes text s m ds is a o =
+          by o.outcome (outcome_sound sound m (safety m ds (law m budget ds a)) workers steps o.outcome o.is) o.written o.ended
         where
-          report_means : (r : Report) → IsRunAnswer m o.main steps (Done r) → text ≡ shown m.families.items r → MeansReport shown bytes text
-          report_means r h w = record { accepted = means_accepted budget bytes m ds is a; report = r; written = w; sound = sound m ds (law m budget ds a) o.main o.body steps r h }
+          report_means : (r : Report) → IsSound m r → text ≡ shown m.families.items r → MeansReport shown bytes text
+          report_means r h w = record { accepted = means_accepted budget bytes m ds is a; report = r; written = w; sound = h }
 
           by_tasks : (ws : List Waiting) → MeansReport shown bytes text → MeansRun shown (waiting_status ws) bytes text
           by_tasks [] h = h
           by_tasks (w ∷ ws) h = h
 
-          by : (c : Outcome) → IsRunAnswer m o.main steps c → text ≡ outcome_text shown m.families.items c → s ≡ outcome_status c → MeansRun shown s bytes text
-          by (Done r) h w e = subst (λ z. MeansRun shown z bytes text) (sym e) (by_tasks r.waiting.items (report_means r h w))
+          by : (c : Outcome) → IsSoundOutcome m c → text ≡ outcome_text shown m.families.items c → s ≡ outcome_status c → MeansRun shown s bytes text
+          by (Done r) h w e = subst (λ z. MeansRun shown z bytes text) (sym e) (by_tasks r.waiting.items (report_means r (h r refl) w))
           by OutOfSteps h w e = subst (λ z. MeansRun shown z bytes text) (sym e) (means_accepted budget bytes m ds is a)
 
       -- what is written of the run of a module
-      source_means : (steps budget : ℕ) (bytes text : List ℕ) (s : Status) → WritesOf AreUnresolved (FindsModule (SaysOutcome shown steps) budget) bytes text s → MeansRun shown s bytes text
-      source_means steps budget bytes text s (too_long long w e) = no_run shown s bytes text (limited_so e)
-      source_means steps budget bytes text s (is_none short f h w e) = no_run shown s bytes text (finding_refuses f s e)
-      source_means steps budget bytes text s (makes short m) = by m.found
+      source_means : (workers steps budget : ℕ) (bytes text : List ℕ) (s : Status) → WritesOf AreUnresolved (FindsModule (SaysOutcome shown workers steps) budget) bytes text s →
+          MeansRun shown s bytes text
+      source_means workers steps budget bytes text s (too_long long w e) = no_run shown s bytes text (limited_so e)
+      source_means workers steps budget bytes text s (is_none short f h w e) = no_run shown s bytes text (finding_refuses f s e)
+      source_means workers steps budget bytes text s (makes short m) = by m.found
         where
-          by : IsFoundOf (SaysOutcome shown steps m.resolved) bytes m.resolved budget text s → MeansRun shown s bytes text
-          by (accepted ds a o) = outcome_means steps budget bytes text s m.resolved ds m.is_resolved a o
+          by : IsFoundOf (SaysOutcome shown workers steps m.resolved) bytes m.resolved budget text s → MeansRun shown s bytes text
+          by (accepted ds a o) = outcome_means workers steps budget bytes text s m.resolved ds m.is_resolved a o
           by (unaccepted f h w e) = no_run shown s bytes text (cause_refuses (cause (family_names m.resolved.families.items) f) s e)
 
     pub run_meanings : RunMeanings
-    run_meanings steps budget bytes text s w = source_means report_text steps budget bytes text s w
+    run_meanings steps workers budget bytes text s w = source_means report_text workers steps budget bytes text s w
 
     pub make_meanings : MakeMeanings
-    make_meanings n bytes text s w = source_means (made_summary n) setting.steps.default setting.budget.default (made_text n) text s w
+    make_meanings n bytes text s w = source_means (made_summary n) setting.workers.default setting.steps.default setting.budget.default (made_text n) text s w

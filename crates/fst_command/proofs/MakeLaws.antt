@@ -7,7 +7,7 @@ use Rattle.fst_make.specs.Made.{made_text, most_made}
 use Rattle.fst_make.proofs.Laws.{made_short}
 use Rattle.fst_options.specs.Words as setting
 use Rattle.fst_command.specs.declared.answer.Answer.{Answer as Written}
-use Rattle.fst_command.specs.declared.checks.Form.TheVariants as form
+use Rattle.fst_command.specs.declared.running.Form.TheVariants as form
 use Rattle.fst_command.specs.declared.status.Status.{Status}
 use Rattle.fst_command.specs.Finding.{AreUnresolved}
 use Rattle.fst_command.specs.Output.{FindsModule, SaysOutcome, WritesMade, WritesOf}
@@ -19,7 +19,7 @@ bytes_short n bytes few is = omega (arith, ap length is, made_short n few)
 
 -- what is written of these bytes, with a summary that has their number
 abbrev WritesSummary : List ℕ → List ℕ → Status → Type 0
-WritesSummary bytes text s = WritesOf AreUnresolved (FindsModule (SaysOutcome (shown_as (form.Summary (length bytes))) setting.steps.default) setting.budget.default) bytes text s
+WritesSummary bytes text s = WritesOf AreUnresolved (FindsModule (SaysOutcome (shown_as (form.Summary (length bytes))) setting.workers.default setting.steps.default) setting.budget.default) bytes text s
 
 -- what is written of a made module
 pub made_output : (n : ℕ) (bytes : List ℕ) (r : Result Written AllocError) → bytes ≡ made_text n → IfOk r (λ a. WritesSummary bytes a.text.items a.status) → IfOk r (λ a. WritesMade n [] a.text.items a.status)

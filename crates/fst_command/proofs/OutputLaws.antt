@@ -91,7 +91,7 @@ module _ (answers : OneAnswer) (lexing : OneLexing) (readings : OneReading) (mod
       (p.written ∙ ap module_text same ∙ sym q.written, p.ended ∙ sym q.ended)
 
   -- of one command one thing is written, but for `check`, `run` and `make`
-  one_text : (c : Command) (bytes : List ℕ) → ((n : ℕ) → c ≡ check n → ⊥) → ((k n : ℕ) → c ≡ run k n → ⊥) → ((n : ℕ) → c ≡ make n → ⊥) → IsOne (Writes c bytes)
+  one_text : (c : Command) (bytes : List ℕ) → ((n : ℕ) → c ≡ check n → ⊥) → ((k w n : ℕ) → c ≡ run k w n → ⊥) → ((n : ℕ) → c ≡ make n → ⊥) → IsOne (Writes c bytes)
   one_text (equiv budget) bytes other others made =
       one_written IsNoQuestion (AnswersQuestion budget) bytes (one_no_question lexing readings bytes)
       (λ f t s none m. question_or_not lexing readings bytes m.asked f m.is_asked none) (one_question budget bytes)
@@ -99,7 +99,7 @@ module _ (answers : OneAnswer) (lexing : OneLexing) (readings : OneReading) (mod
       one_written IsNoModule ShowsModule bytes (one_unread ReadsModule lexing modules.one_answer bytes)
       (λ f t s none m. read_once ReadsModule lexing modules.one_answer bytes m.declared f m.read none) (one_module bytes)
   one_text (check budget) bytes other others made = absurd (other budget refl)
-  one_text (run steps budget) bytes other others made = absurd (others steps budget refl)
+  one_text (run steps workers budget) bytes other others made = absurd (others steps workers budget refl)
   one_text (make n) bytes other others made = absurd (made n refl)
 
   pub one_output : OneOutput
@@ -108,7 +108,7 @@ module _ (answers : OneAnswer) (lexing : OneLexing) (readings : OneReading) (mod
   one_output words bytes text other s r not_check not_run not_make (command c is w) (usage n none x d) = absurd (n c is)
   one_output words bytes text other s r not_check not_run not_make (command c is w) (command d it v) =
       let one = one_command words c d is it in
-      one_text d bytes (λ n e. not_check n (subst (IsCommand words) e it)) (λ k n e. not_run k n (subst (IsCommand words) e it)) (λ n e. not_make n (subst (IsCommand words) e it)) text other s r (subst (λ z. Writes z bytes text s) one w) v
+      one_text d bytes (λ n e. not_check n (subst (IsCommand words) e it)) (λ k w n e. not_run k w n (subst (IsCommand words) e it)) (λ n e. not_make n (subst (IsCommand words) e it)) text other s r (subst (λ z. Writes z bytes text s) one w) v
 
 -- ---- shown again
 

@@ -18,7 +18,7 @@ pub reads_for : (c : Command) (old new : Option (List ℕ)) (bytes : List ℕ) �
 reads_for (equiv budget) old new bytes is r = r
 reads_for show old new bytes is r = r
 reads_for (check budget) old new bytes is r = r
-reads_for (run steps budget) old new bytes is r = r
+reads_for (run steps workers budget) old new bytes is r = r
 reads_for (make n) old new bytes is r = absurd (cc is)
 
 -- and so where it was read
@@ -32,7 +32,7 @@ pub reads_none : (c : Command) (old : Option (List ℕ)) (bytes : List ℕ) → 
 reads_none (equiv budget) old bytes not is = absurd (cc not)
 reads_none show old bytes not is = absurd (cc not)
 reads_none (check budget) old bytes not is = absurd (cc not)
-reads_none (run steps budget) old bytes not is = absurd (cc not)
+reads_none (run steps workers budget) old bytes not is = absurd (cc not)
 reads_none (make n) old bytes not is = record { none = is; same = refl }
 
 -- what was read for a command has its output
@@ -48,7 +48,7 @@ too_long_written : (c : Command) (bytes text : List ℕ) (s : Status) → IsTrue
 too_long_written (equiv budget) bytes text s is long w e = too_long long w e
 too_long_written show bytes text s is long w e = too_long long w e
 too_long_written (check budget) bytes text s is long w e = too_long long w e
-too_long_written (run steps budget) bytes text s is long w e = too_long long w e
+too_long_written (run steps workers budget) bytes text s is long w e = too_long long w e
 too_long_written (make n) bytes text s is long w e = absurd (cc is)
 
 pub read_over : (s : Status) (words : List (List ℕ)) (c : Command) (old new : Option (List ℕ)) (text : List ℕ) → IsCommand words c → IsTrue (reads_input c) → Loses (most_bytes + 1) old new → text ≡ too_long_text →
@@ -74,19 +74,19 @@ read_accepted meanings words old new text s a done budget it = by a.output
 
 -- what `run` wrote, with its status, means what it means
 pub has_run : RunMeanings → (words : List (List ℕ)) (old new taken now : Option (List ℕ)) (text : List ℕ) (s : Status) → IsAnswered words old new text s → Appends taken now text →
-    (steps budget : ℕ) → IsCommand words (run steps budget) → HasRun old new taken now s
-has_run meanings words old new taken now text s a whole steps budget it = by a.output
+    (steps workers budget : ℕ) → IsCommand words (run steps workers budget) → HasRun old new taken now s
+has_run meanings words old new taken now text s a whole steps workers budget it = by a.output
   where
     by : IsOutput words a.bytes text s → HasRun old new taken now s
-    by (usage none nothing w e) = absurd (none (run steps budget) it)
+    by (usage none nothing w e) = absurd (none (run steps workers budget) it)
     by (command c is w) =
-        let one = one_command words c (run steps budget) is it in
+        let one = one_command words c (run steps workers budget) is it in
         record {
           bytes = a.bytes;
-          read = a.read (run steps budget) it;
+          read = a.read (run steps workers budget) it;
           text = text;
           whole = whole;
-          means = meanings steps budget a.bytes text s (subst (λ d. Writes d a.bytes text s) one w);
+          means = meanings steps workers budget a.bytes text s (subst (λ d. Writes d a.bytes text s) one w);
         }
 
 -- what `make` wrote, with its status, means what it means

@@ -22,6 +22,8 @@ use Rattle.fst_names.specs.ResolvedModule.{IsResolvedModule}
 use Rattle.fst_derivations.specs.Deriv.{Deriv}
 use Rattle.fst_derivations.specs.Modules.{HasDerivations}
 use Rattle.fst_safety.specs.Safety.{IsSafe}
+use Rattle.fst_process.specs.declared.report.Outcome.{Outcome}
+use Rattle.fst_process.specs.declared.report.Outcome.TheVariants.{Done}
 use Rattle.fst_process.specs.declared.report.Report.{Report}
 use Rattle.fst_execution.specs.Execution.{IsSound}
 use Rattle.fst_report.specs.ReportTexts.{report_text}
@@ -103,6 +105,10 @@ pub record MeansReport (shown : List Family → Report → List ℕ) (bytes text
   pub written : text ≡ shown accepted.resolved.families.items report
   pub sound : IsSound accepted.resolved report
 
+-- the report of an outcome is sound, if there is one
+abbrev pub IsSoundOutcome : Module → Outcome → Type 0
+IsSoundOutcome m o = (r : Report) → o ≡ Done r → IsSound m r
+
 -- what it means that a text was written with this status of the run of a module, with reports written like this
 abbrev pub MeansRun : (List Family → Report → List ℕ) → Status → List ℕ → List ℕ → Type 0
 MeansRun shown status.Done bytes text = MeansReport shown bytes text
@@ -118,7 +124,7 @@ MeansRun shown status.Memory bytes text = ⊤
 
 -- whatever `run` writes means that
 abbrev pub RunMeanings : Type 0
-RunMeanings = (steps budget : ℕ) (bytes text : List ℕ) (s : Status) → Writes (run steps budget) bytes text s → MeansRun report_text s bytes text
+RunMeanings = (steps workers budget : ℕ) (bytes text : List ℕ) (s : Status) → Writes (run steps workers budget) bytes text s → MeansRun report_text s bytes text
 
 -- what was read and what was written, with this status, mean that
 pub record HasRun (old new taken now : Option (List ℕ)) (s : Status) : Type 0 where

@@ -19,8 +19,8 @@ use Rattle.fst_command.specs.declared.finding.Fault.{Fault}
 use Rattle.fst_command.specs.declared.finding.Fault.TheVariants as fault
 use Rattle.fst_command.specs.declared.refusals.Cause.{Cause as Given}
 use Rattle.fst_command.specs.declared.refusals.Cause.TheVariants as given
-use Rattle.fst_command.specs.declared.checks.Form.{Form}
-use Rattle.fst_command.specs.declared.checks.Form.TheVariants as form
+use Rattle.fst_command.specs.declared.running.Form.{Form}
+use Rattle.fst_command.specs.declared.running.Form.TheVariants as form
 use Rattle.fst_command.specs.CheckTexts as check_texts
 use Rattle.fst_command.specs.CheckTexts.{Cause, undecided}
 use Rattle.fst_command.specs.Finding.{Finding, refused, too_deep, too_large}

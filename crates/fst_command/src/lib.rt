@@ -6,6 +6,7 @@ mod checks;
 mod finding;
 mod refusals;
 mod run;
+mod running;
 mod status;
 mod texts;
 

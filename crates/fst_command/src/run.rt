@@ -10,7 +10,8 @@ ghost use Rattle.fst_command.specs.Output.{OneOutput, ShownAgain, Writes};
 ghost use Rattle.fst_command.specs.Top.{IsAnswer, IsAnswered, ReadsFor, WantInput, WasCut, WasWritten, reads_input};
 
 use crate::answer::{Answer, answer_equiv, answer_show, fixed};
-use crate::checks::{answer_check, answer_make, answer_run};
+use crate::checks::answer_check;
+use crate::running::{answer_make, answer_run};
 use crate::status::Status;
 use fst_base::MOST_BYTES;
 use fst_equiv::one_answer;
@@ -24,6 +25,7 @@ use fst_safety::safety_law;
 use fst_type_syntax::one_reading;
 use fst_typing::accepted_law;
 use std::alloc::{AllocError, Global};
+use std::thread::Threads;
 
 const USAGE: &[u8] = b"usage: freest equiv|show|check|run|make\n";
 
@@ -35,7 +37,7 @@ fn reads_input(command: Command) -> bool
         Command::Equiv(_) => true,
         Command::Show => true,
         Command::Check(_) => true,
-        Command::Run(_, _) => true,
+        Command::Run(_) => true,
         Command::Make(_) => false,
     }
 }
@@ -62,7 +64,13 @@ fn read_for<S: Source>(
 }
 
 // What a command makes of the bytes that were read for it.
-fn answer_command(alloc: Global, command: Command, bytes: &[u8]) -> Result<Answer, AllocError>
+fn answer_command<R: Threads + Sync, G: Gate + Sync>(
+    rt: &R,
+    alloc: Global,
+    command: Command,
+    bytes: &[u8],
+    gate: &G,
+) -> Result<Answer, AllocError>
     requires within { IsWithin (command_of command) }
     requires short { length bytes.now ≤ most_bytes }
     ensures text { IfOk result (λ a. Writes (command_of command) bytes.now a.text.items a.status) }
@@ -72,13 +80,19 @@ fn answer_command(alloc: Global, command: Command, bytes: &[u8]) -> Result<Answe
         Command::Equiv(budget) => answer_equiv(alloc, bytes, budget),
         Command::Show => answer_show(alloc, bytes),
         Command::Check(budget) => answer_check(alloc, bytes, budget),
-        Command::Run(steps, budget) => answer_run(alloc, bytes, steps, budget),
-        Command::Make(n) => answer_make(alloc, n),
+        Command::Run(options) => answer_run(rt, alloc, bytes, options, gate),
+        Command::Make(n) => answer_make(rt, alloc, n, gate),
     }
 }
 
 // Reads what the words want, and finds the answer.
-fn answer<S: Source>(alloc: Global, words: &[String], source: &mut S) -> Result<Answer, Status>
+fn answer<R: Threads + Sync, S: Source, G: Gate + Sync>(
+    rt: &R,
+    alloc: Global,
+    words: &[String],
+    source: &mut S,
+    gate: &G,
+) -> Result<Answer, Status>
     ensures answered { IfOk result (λ a. IsAnswered (map string_bytes words.now)
         (S.left source.old) (S.left source.new) a.text.items a.status) }
     ensures whole { IfOk result (λ a. IsAnswer a.status) }
@@ -91,7 +105,7 @@ fn answer<S: Source>(alloc: Global, words: &[String], source: &mut S) -> Result<
         return Ok(fixed(alloc, Status::Words, USAGE)?);
     };
     match read_for(alloc, command, source) {
-        Ok(bytes) => Ok(answer_command(alloc, command, &bytes)?),
+        Ok(bytes) => Ok(answer_command(rt, alloc, command, &bytes, gate)?),
         Err(ReadFault::TooLong) => Ok(fixed(alloc, Status::Limit, b"limit length\n")?),
         Err(ReadFault::Failed) => Err(Status::ReadFault),
         Err(ReadFault::Memory) => Err(Status::Memory),
@@ -100,7 +114,7 @@ fn answer<S: Source>(alloc: Global, words: &[String], source: &mut S) -> Result<
 
 /// Runs the program on its words, its input and its output: it reads the source where the words
 /// want it, writes one text to the sink, and answers how it ended.
-pub fn top<R, S: Source, K: Sink, G: Gate + Sync>(
+pub fn top<R: Threads + Sync, S: Source, K: Sink, G: Gate + Sync>(
     rt: &R,
     alloc: Global,
     words: &[String],
@@ -120,8 +134,8 @@ pub fn top<R, S: Source, K: Sink, G: Gate + Sync>(
 
     // The same holds where `run` wrote a report, or ran out of steps; and in a report each history is a trace of its channel's
     // declared type, and the value of `main` is one of its type.
-    ensures ran { IsAnswer result → (steps budget : ℕ) →
-        IsCommand (map string_bytes words.now) (run steps budget) →
+    ensures ran { IsAnswer result → (steps workers budget : ℕ) →
+        IsCommand (map string_bytes words.now) (run steps workers budget) →
         HasRun (S.left source.old) (S.left source.new) (K.taken sink.old) (K.taken sink.new) result }
 
     // The same holds of the module that `make` made, where it wrote a summary in place of the report.
@@ -154,7 +168,7 @@ pub fn top<R, S: Source, K: Sink, G: Gate + Sync>(
     check_meanings();
     run_meanings();
     make_meanings();
-    match answer(alloc, words, source) {
+    match answer(rt, alloc, words, source, gate) {
         Err(status) => status,
         Ok(answer) => match write_all(sink, &answer.text) {
             Ok(()) => answer.status,

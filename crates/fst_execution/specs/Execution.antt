@@ -10,12 +10,15 @@ use Rattle.fst_derivations.specs.Modules.{HasDerivations}
 use Rattle.fst_value.specs.ValueTree.{ValueTree}
 use Rattle.fst_value.specs.declared.event.ChannelHistory.{ChannelHistory}
 use Rattle.fst_machine.specs.Values.{Value}
-use Rattle.fst_runs.specs.Configs.{main_body}
+use Rattle.fst_machine.specs.declared.code.Code.{Code}
+use Rattle.fst_vm.specs.Tasks.{IsFrom}
+use Rattle.fst_runs.specs.Configs.{Config, main_body, program}
 use Rattle.fst_process.specs.declared.report.Outcome.{Outcome}
 use Rattle.fst_process.specs.declared.report.Outcome.TheVariants.{Done}
 use Rattle.fst_process.specs.declared.report.Report.{Report}
-use Rattle.fst_process.specs.Reports.{IsAlike, IsAnswer}
-use Rattle.fst_safety.specs.Safety.{HasMainType}
+use Rattle.fst_process.specs.Reports.{IsAlike, IsAnswer, IsReport}
+use Rattle.fst_safety.specs.Safety.{HasMainType, IsSafe, IsSafeAt}
+use Rattle.fst_safety.specs.Tasks.{CanBegin}
 
 -- the module has derivations
 pub record IsDerived (m : Module) : Type 0 where
@@ -29,6 +32,12 @@ pub record IsSound (m : Module) (r : Report) : Type 0 where
   pub traces : (j : ChannelHistory) → Contains r.channels.items j → (t : Tree) × (after_history j.declared j.entries.items ≡ Some t)
   pub result : (x : ValueTree) → r.result ≡ Some x → (v : Value) × HasMainType m v × IsAlike x v
 
+-- the code is the module's, and its tasks can begin
+pub record IsPrepared (m : Module) (k : Code) : Type 0 where
+  pub is_of : k.module.value ≡ m
+  pub from : IsFrom m k
+  pub begins : CanBegin k
+
 -- this is what so many steps of the module's least run come to, and its report, if there is one, is sound
 pub record IsExecuted (m : Module) (steps : ℕ) (o : Outcome) : Type 0 where
   pub main : CoreTree
@@ -36,7 +45,15 @@ pub record IsExecuted (m : Module) (steps : ℕ) (o : Outcome) : Type 0 where
   pub answer : IsAnswer m main steps o
   pub sound : (r : Report) → o ≡ Done r → IsSound m r
 
--- the answers of modules that have derivations are sound
+-- the report of a safe configuration is sound
+abbrev pub SafeIsSound : Type 0
+SafeIsSound = (m : Module) (c : Config) → IsSafeAt m c → (n : ℕ) (r : Report) → IsReport (program m) c n r → IsSound m r
+
+-- so is that which is the answer of the least run of a safe module
 abbrev pub AnswersAreSound : Type 0
-AnswersAreSound = (m : Module) (ds : List Deriv) → HasDerivations m ds → (main : CoreTree) → main_body m.globals.items ≡ Some main → (steps : ℕ) (r : Report) →
-    IsAnswer m main steps (Done r) → IsSound m r
+AnswersAreSound = (m : Module) → IsSafe m → (main : CoreTree) → main_body m.globals.items ≡ Some main → (steps : ℕ) (r : Report) → IsAnswer m main steps (Done r) → IsSound m r
+
+-- both
+pub record ReportsAreSound : Type 0 where
+  pub safe : SafeIsSound
+  pub answers : AnswersAreSound

@@ -1,11 +1,9 @@
-ghost use Rattle.fst_execution.specs.Execution.{AnswersAreSound};
+ghost use Rattle.fst_execution.specs.Execution.{ReportsAreSound};
 
-use fst_safety::safety_law;
-
-/// The report of a module that has derivations is sound: each of its channels has a closed well-formed session type, of which
-/// its history is a trace; and main's value, if it is there, is one of main's type, in which no function and no end stands.
+/// The report of a safe configuration is sound: each of its channels has a closed well-formed session type, of which its history
+/// is a trace; and main's value, if it is there, is one of main's type, in which no function and no end stands. So is the report
+/// that the least run of a safe module answers.
+#[tactic(auto, using(crate::proofs::ExecutionLaws::reports_sound))]
 pub fn sound_law()
-    ensures { AnswersAreSound }
-{
-    safety_law();
-}
+    ensures { ReportsAreSound }
+{}

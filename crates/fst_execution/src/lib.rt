@@ -4,5 +4,5 @@
 mod executing;
 mod law;
 
-pub use executing::execute;
+pub use executing::{execute, prepare};
 pub use law::sound_law;

@@ -1,6 +1,6 @@
 -- The words of the command line.
-use Rattle.std.proofs.Common.{◌≡◌, ◌∙◌, inl, inr, ℕ, ◌≤◌, List, [], ◌∷◌, ◌++◌, length, map, Bool, true, false, Result, Ok, refl, sym, ap, subst, append_assoc, arith, rules}
-use Rattle.std.specs.Prelude.{◌==◌, codes}
+use Rattle.std.proofs.Common.{◌≡◌, ◌∙◌, ◌⊎◌, inl, inr, ℕ, zero, suc, ◌≤◌, List, [], ◌∷◌, ◌++◌, length, map, Bool, true, false, Option, Some, None, Result, Ok, refl, sym, ap, subst, append_assoc, arith, rules}
+use Rattle.std.specs.Prelude.{◌==◌, MatchOption, codes}
 use Rattle.std.proofs.lemmas.Bool.Decides.{nat_tests}
 use Rattle.std.specs.List.{list_all}
 use Rattle.std.specs.Char.{is_ascii_digit}
@@ -8,7 +8,10 @@ use Rattle.std.specs.Str.Parse.{ParsesUnsigned, digits_value}
 use Rattle.std.proofs.lemmas.List.{append-nil, append_cancel_left}
 use Rattle.std.proofs.lemmas.Str.Parse.{IsNumeralModel, numerals_by_value, parse_gives, digits_value_short}
 use Rattle.fst_make.specs.Made.{most_made}
-use Rattle.fst_options.specs.Words.{Setting, budget, steps, IsValue, Begins, Sets, IsOption, AreOptions, IsOneNumber, IsNamed, Command, equiv, show, check, run, make, IsCommand, NoCommand, IsWithin}
+use Rattle.fst_options.specs.declared.words.Given.{Given}
+use Rattle.fst_options.specs.declared.words.Setting.{Setting as Set}
+use Rattle.fst_options.specs.declared.words.Setting.TheVariants.{Budget, Steps, Workers}
+use Rattle.fst_options.specs.Words.{Setting, budget, steps, workers, setting_of, IsValue, Begins, Sets, IsOption, value_in, give, none_given, GivesOne, Give, value_or, AreOptions, IsOneNumber, IsNamed, Command, equiv, show, check, run, make, IsCommand, NoCommand, IsWithin}
 
 own : IsNumeralModel (λ ds. list_all is_ascii_digit ds ≡ true) (digits_value 10)
 own = numerals_by_value _ (search rules)
@@ -72,29 +75,58 @@ abbrev third : List ℕ → ℕ
 third (a ∷ b ∷ c ∷ cs) = c
 third cs = 0
 
--- no words begin with both options
-not_both : (ws : List (List ℕ)) (m n : ℕ) (rest others : List (List ℕ)) → Sets steps ws m rest → Sets budget ws n others → ⊥
-not_both [] m n rest others p q = absurd p.begins
-not_both (w ∷ ws) m n rest others p q =
-    let a = begin_name steps.name w ws p.digits rest p.begins in
-    let b = begin_name budget.name w ws q.digits others q.begins in
-    absurd (omega (arith, ap third (sym a.1 ∙ b.1)))
+-- that of an option's name
+abbrev mark_of : Set → ℕ
+mark_of o = third (setting_of o).name
 
--- words set one number of steps and one budget
-one_pair : (ws : List (List ℕ)) (s t b d : ℕ) → AreOptions ws s b → AreOptions ws t d → (s ≡ t) × (b ≡ d)
-one_pair ws s t b d (inl p) (inl q) = (p.1 ∙ sym q.1, p.2 ∙ sym q.2)
-one_pair ws s t b d (inl p) (inr (inl q)) = absurd (none_set steps ws t q.0 p.0 q.1)
-one_pair ws s t b d (inl p) (inr (inr q)) = absurd (none_set budget ws d q.0 p.0 q.1)
-one_pair ws s t b d (inr (inl p)) (inl q) = absurd (none_set steps ws s p.0 q.0 p.1)
-one_pair ws s t b d (inr (inl p)) (inr (inl q)) =
-    let same = one_setting steps ws s t p.0 q.0 p.1 q.1 in
-    (same.0, one_option budget q.0 b d (subst (λ r. IsOption budget r b) same.1 p.2) q.2)
-one_pair ws s t b d (inr (inl p)) (inr (inr q)) = absurd (not_both ws s d p.0 q.0 p.1 q.1)
-one_pair ws s t b d (inr (inr p)) (inl q) = absurd (none_set budget ws b p.0 q.0 p.1)
-one_pair ws s t b d (inr (inr p)) (inr (inl q)) = absurd (not_both ws t b q.0 p.0 q.1 p.1)
-one_pair ws s t b d (inr (inr p)) (inr (inr q)) =
-    let same = one_setting budget ws b d p.0 q.0 p.1 q.1 in
-    (one_option steps q.0 s t (subst (λ r. IsOption steps r s) same.1 p.2) q.2, same.0)
+-- the text in front of words that begin with an option has its mark
+begin_mark : (o : Set) (w : List ℕ) (ws : List (List ℕ)) (n : ℕ) (rest : List (List ℕ)) → Sets (setting_of o) (w ∷ ws) n rest → third w ≡ mark_of o
+begin_mark Budget w ws n rest p = ap third (begin_name budget.name w ws p.digits rest p.begins).1
+begin_mark Steps w ws n rest p = ap third (begin_name steps.name w ws p.digits rest p.begins).1
+begin_mark Workers w ws n rest p = ap third (begin_name workers.name w ws p.digits rest p.begins).1
+
+same_mark_of : (o q : Set) → mark_of o ≡ mark_of q → o ≡ q
+same_mark_of Budget Budget e = refl
+same_mark_of Steps Steps e = refl
+same_mark_of Workers Workers e = refl
+same_mark_of Budget Steps e = absurd (omega (arith, e))
+same_mark_of Budget Workers e = absurd (omega (arith, e))
+same_mark_of Steps Budget e = absurd (omega (arith, e))
+same_mark_of Steps Workers e = absurd (omega (arith, e))
+same_mark_of Workers Budget e = absurd (omega (arith, e))
+same_mark_of Workers Steps e = absurd (omega (arith, e))
+
+-- words begin by setting one option
+one_set : (ws : List (List ℕ)) (o q : Set) (m n : ℕ) (rest others : List (List ℕ)) → Sets (setting_of o) ws m rest → Sets (setting_of q) ws n others → o ≡ q
+one_set [] o q m n rest others p r = absurd p.begins
+one_set (w ∷ ws) o q m n rest others p r = same_mark_of o q (sym (begin_mark o w ws m rest p) ∙ begin_mark q w ws n others r)
+
+-- so they begin by giving one value
+one_given : (ws : List (List ℕ)) (before : Given) (o : Set) (n : ℕ) (rest others : List (List ℕ)) (next : Given) → Sets (setting_of o) ws n rest → GivesOne before ws next others →
+    (value_in before o ≡ None) × (next ≡ give before o n) × (others ≡ rest)
+one_given ws before o n rest others next p g =
+    let same = one_set ws g.option o g.number n others rest g.sets p in
+    let values = one_setting (setting_of o) ws g.number n others rest (subst (λ q. Sets (setting_of q) ws g.number others) same g.sets) p in
+    (subst (λ q. value_in before q ≡ None) same g.first, g.given ∙ ap (λ q. give before q g.number) same ∙ ap (give before o) values.0, values.1)
+
+-- words give values in one way
+one_giving : (j k : ℕ) (before : Given) (ws : List (List ℕ)) (a b : Given) → Give j before ws a → Give k before ws b → a ≡ b
+one_giving zero zero before ws a b p q = p.1 ∙ sym q.1
+one_giving zero (suc k) before ws a b p (next, rest, g, more) = absurd (none_set (setting_of g.option) ws g.number rest p.0 g.sets)
+one_giving (suc j) zero before ws a b (next, rest, g, more) q = absurd (none_set (setting_of g.option) ws g.number rest q.0 g.sets)
+one_giving (suc j) (suc k) before ws a b (next, rest, g, more) (other, others, h, further) =
+    let same = one_given ws before g.option g.number rest others other g.sets h in
+    let is : other ≡ next = same.1 ∙ sym g.given in
+    one_giving j k next rest a b more (subst (λ r. Give k next r b) same.2 (subst (λ v. Give k v others b) is further))
+
+-- so they are one list of options
+one_options : (ws : List (List ℕ)) (s t w v b d : ℕ) → AreOptions ws s w b → AreOptions ws t v d → (s ≡ t) × (w ≡ v) × (b ≡ d)
+one_options ws s t w v b d p q =
+    let same = one_giving p.count q.count none_given ws p.values q.values p.give q.give in (
+      p.steps ∙ ap (λ (g : Given). value_or steps g.steps) same ∙ sym q.steps,
+      p.workers ∙ ap (λ (g : Given). value_or workers g.workers) same ∙ sym q.workers,
+      p.budget ∙ ap (λ (g : Given). value_or budget g.budget) same ∙ sym q.budget,
+    )
 
 -- ---- one number
 
@@ -126,7 +158,7 @@ abbrev mark : Command → ℕ
 mark (equiv n) = initial (codes "equiv")
 mark show = initial (codes "show")
 mark (check n) = initial (codes "check")
-mark (run s b) = initial (codes "run")
+mark (run s w b) = initial (codes "run")
 mark (make n) = initial (codes "make")
 
 -- the words of a command begin with its name
@@ -134,7 +166,7 @@ head_mark : (w : List ℕ) (ws : List (List ℕ)) (c : Command) → IsCommand (w
 head_mark w ws (equiv n) p = ap initial p.0
 head_mark w ws show p = ap initial p.0
 head_mark w ws (check n) p = ap initial p.0
-head_mark w ws (run s b) p = ap initial p.0
+head_mark w ws (run s v b) p = ap initial p.0
 head_mark w ws (make n) p = ap initial p.0
 
 -- so there are some
@@ -142,7 +174,7 @@ no_words : (c : Command) → IsCommand [] c → ⊥
 no_words (equiv n) p = p
 no_words show p = p
 no_words (check n) p = p
-no_words (run s b) p = p
+no_words (run s w b) p = p
 no_words (make n) p = p
 
 -- the names of two commands with the same words begin alike
@@ -159,33 +191,33 @@ one_command ws show show p q = refl
 one_command ws (check m) (check n) p q =
     let both = both_named (codes "check") (λ rest. IsOption budget rest m) (λ rest. IsOption budget rest n) ws p q in
     ap check (one_option budget both.0 m n both.1 both.2)
-one_command ws (run s b) (run t d) p q =
-    let both = both_named (codes "run") (λ rest. AreOptions rest s b) (λ rest. AreOptions rest t d) ws p q in
-    let same = one_pair both.0 s t b d both.1 both.2 in
-    λ i. run (same.0 i) (same.1 i)
+one_command ws (run s w b) (run t v d) p q =
+    let both = both_named (codes "run") (λ rest. AreOptions rest s w b) (λ rest. AreOptions rest t v d) ws p q in
+    let same = one_options both.0 s t w v b d both.1 both.2 in
+    λ i. run (same.0 i) (same.1 i) (same.2 i)
 one_command ws (make m) (make n) p q =
     let both = both_named (codes "make") (λ rest. IsOneNumber 0 most_made rest m) (λ rest. IsOneNumber 0 most_made rest n) ws p q in
     ap make (one_number 0 most_made both.0 m n both.1 both.2)
 one_command ws (equiv m) show p q = absurd (omega (arith, same_mark ws (equiv m) show p q))
 one_command ws (equiv m) (check n) p q = absurd (omega (arith, same_mark ws (equiv m) (check n) p q))
-one_command ws (equiv m) (run s b) p q = absurd (omega (arith, same_mark ws (equiv m) (run s b) p q))
+one_command ws (equiv m) (run s w b) p q = absurd (omega (arith, same_mark ws (equiv m) (run s w b) p q))
 one_command ws show (equiv n) p q = absurd (omega (arith, same_mark ws show (equiv n) p q))
 one_command ws show (check n) p q = absurd (omega (arith, same_mark ws show (check n) p q))
-one_command ws show (run s b) p q = absurd (omega (arith, same_mark ws show (run s b) p q))
+one_command ws show (run s w b) p q = absurd (omega (arith, same_mark ws show (run s w b) p q))
 one_command ws (check m) (equiv n) p q = absurd (omega (arith, same_mark ws (check m) (equiv n) p q))
 one_command ws (check m) show p q = absurd (omega (arith, same_mark ws (check m) show p q))
-one_command ws (check m) (run s b) p q = absurd (omega (arith, same_mark ws (check m) (run s b) p q))
-one_command ws (run s b) (equiv n) p q = absurd (omega (arith, same_mark ws (run s b) (equiv n) p q))
-one_command ws (run s b) show p q = absurd (omega (arith, same_mark ws (run s b) show p q))
-one_command ws (run s b) (check n) p q = absurd (omega (arith, same_mark ws (run s b) (check n) p q))
+one_command ws (check m) (run s w b) p q = absurd (omega (arith, same_mark ws (check m) (run s w b) p q))
+one_command ws (run s w b) (equiv n) p q = absurd (omega (arith, same_mark ws (run s w b) (equiv n) p q))
+one_command ws (run s w b) show p q = absurd (omega (arith, same_mark ws (run s w b) show p q))
+one_command ws (run s w b) (check n) p q = absurd (omega (arith, same_mark ws (run s w b) (check n) p q))
 one_command ws (equiv m) (make n) p q = absurd (omega (arith, same_mark ws (equiv m) (make n) p q))
 one_command ws show (make n) p q = absurd (omega (arith, same_mark ws show (make n) p q))
 one_command ws (check m) (make n) p q = absurd (omega (arith, same_mark ws (check m) (make n) p q))
-one_command ws (run s b) (make n) p q = absurd (omega (arith, same_mark ws (run s b) (make n) p q))
+one_command ws (run s w b) (make n) p q = absurd (omega (arith, same_mark ws (run s w b) (make n) p q))
 one_command ws (make m) (equiv n) p q = absurd (omega (arith, same_mark ws (make m) (equiv n) p q))
 one_command ws (make m) show p q = absurd (omega (arith, same_mark ws (make m) show p q))
 one_command ws (make m) (check n) p q = absurd (omega (arith, same_mark ws (make m) (check n) p q))
-one_command ws (make m) (run s b) p q = absurd (omega (arith, same_mark ws (make m) (run s b) p q))
+one_command ws (make m) (run s w b) p q = absurd (omega (arith, same_mark ws (make m) (run s w b) p q))
 
 -- ---- what the code finds
 
@@ -204,24 +236,39 @@ pub more_option : (o : Setting) (ws : List (List ℕ)) (m : ℕ) (behind : List 
 more_option o ws m behind s more n (inl p) = none_set o ws m behind p.0 s
 more_option o ws m behind s more n (inr p) = more (one_setting o ws m n behind [] s p).1
 
--- words that are there and set neither the steps nor the budget are no options
-pub neither : (ws : List (List ℕ)) → (ws ≡ [] → ⊥) → ((n : ℕ) (rest : List (List ℕ)) → Sets steps ws n rest → ⊥) → ((n : ℕ) (rest : List (List ℕ)) → Sets budget ws n rest → ⊥) →
-    (s b : ℕ) → AreOptions ws s b → ⊥
-neither ws some no_steps no_budget s b (inl p) = some p.0
-neither ws some no_steps no_budget s b (inr (inl p)) = no_steps s p.0 p.1
-neither ws some no_steps no_budget s b (inr (inr p)) = no_budget b p.0 p.1
+-- words that set no budget, no steps and no workers set nothing
+pub sets_none : (ws : List (List ℕ)) → ((n : ℕ) (rest : List (List ℕ)) → Sets budget ws n rest → ⊥) → ((n : ℕ) (rest : List (List ℕ)) → Sets steps ws n rest → ⊥) →
+    ((n : ℕ) (rest : List (List ℕ)) → Sets workers ws n rest → ⊥) → (o : Set) (n : ℕ) (rest : List (List ℕ)) → Sets (setting_of o) ws n rest → ⊥
+sets_none ws no_budget no_steps no_workers Budget n rest p = no_budget n rest p
+sets_none ws no_budget no_steps no_workers Steps n rest p = no_steps n rest p
+sets_none ws no_budget no_steps no_workers Workers n rest p = no_workers n rest p
 
--- nor are those that set the steps, with no budget behind
-pub steps_first : (ws : List (List ℕ)) (m : ℕ) (behind : List (List ℕ)) → Sets steps ws m behind → ((n : ℕ) → IsOption budget behind n → ⊥) → (s b : ℕ) → AreOptions ws s b → ⊥
-steps_first ws m behind set none s b (inl p) = none_set steps ws m behind p.0 set
-steps_first ws m behind set none s b (inr (inl p)) = none b (subst (λ r. IsOption budget r b) (one_setting steps ws s m p.0 behind p.1 set).1 p.2)
-steps_first ws m behind set none s b (inr (inr p)) = not_both ws m b behind p.0 set p.1
+-- no values are given by words that are there and set nothing
+pub gives_none : (ws : List (List ℕ)) (before : Given) → (ws ≡ [] → ⊥) → ((o : Set) (n : ℕ) (rest : List (List ℕ)) → Sets (setting_of o) ws n rest → ⊥) →
+    (k : ℕ) (all : Given) → Give k before ws all → ⊥
+gives_none ws before some none zero all p = some p.0
+gives_none ws before some none (suc k) all (next, rest, g, more) = none g.option g.number rest g.sets
 
--- nor those that set the budget, with no steps behind
-pub budget_first : (ws : List (List ℕ)) (m : ℕ) (behind : List (List ℕ)) → Sets budget ws m behind → ((n : ℕ) → IsOption steps behind n → ⊥) → (s b : ℕ) → AreOptions ws s b → ⊥
-budget_first ws m behind set none s b (inl p) = none_set budget ws m behind p.0 set
-budget_first ws m behind set none s b (inr (inl p)) = not_both ws s m p.0 behind p.1 set
-budget_first ws m behind set none s b (inr (inr p)) = none s (subst (λ r. IsOption steps r s) (one_setting budget ws b m p.0 behind p.1 set).1 p.2)
+-- nor by those that set an option that has a value, or are followed by words that give none
+pub gives_no_more : (ws : List (List ℕ)) (before : Given) (o : Set) (n : ℕ) (rest : List (List ℕ)) → Sets (setting_of o) ws n rest →
+    (value_in before o ≡ None → (k : ℕ) (all : Given) → Give k (give before o n) rest all → ⊥) → (k : ℕ) (all : Given) → Give k before ws all → ⊥
+gives_no_more ws before o n rest p none zero all q = none_set (setting_of o) ws n rest q.0 p
+gives_no_more ws before o n rest p none (suc k) all (next, others, g, more) =
+    let same = one_given ws before o n rest others next p g in
+    none same.0 k all (subst (λ r. Give k (give before o n) r all) same.2 (subst (λ v. Give k v others all) same.1 more))
+
+-- words that give values are those that give one and then the others
+pub gives_more : (ws : List (List ℕ)) (before : Given) (o : Set) (n : ℕ) (rest : List (List ℕ)) (all : Given) → Sets (setting_of o) ws n rest → value_in before o ≡ None →
+    (k : ℕ) × Give k (give before o n) rest all → (k : ℕ) × Give k before ws all
+gives_more ws before o n rest all p first (k, more) =
+    (suc k, (give before o n, rest, record { option = o; number = n; sets = p; first = first; given = refl }, more))
+
+-- what is told of the words behind is so of all
+pub gives_so : (ws : List (List ℕ)) (before : Given) (o : Set) (n : ℕ) (rest : List (List ℕ)) (after : Given) (r : Option Given) → Sets (setting_of o) ws n rest → value_in before o ≡ None →
+    after ≡ give before o n → MatchOption r ((k : ℕ) (all : Given) → Give k after rest all → ⊥) (λ all. (k : ℕ) × Give k after rest all) →
+    MatchOption r ((k : ℕ) (all : Given) → Give k before ws all → ⊥) (λ all. (k : ℕ) × Give k before ws all)
+gives_so ws before o n rest after None p first is h = gives_no_more ws before o n rest p (λ also k all g. h k all (subst (λ v. Give k v rest all) (sym is) g))
+gives_so ws before o n rest after (Some all) p first is (k, g) = gives_more ws before o n rest all p first (k, subst (λ v. Give k v rest all) is g)
 
 -- words are those that a test of their number says
 pub no_words_left : {A : Type 0} (f : A → List ℕ) (ws : List A) (b : Bool) → b ≡ (length ws == 0) → b ≡ true → map f ws ≡ []
@@ -239,7 +286,7 @@ no_equiv ws rest is none c p = by c (subst (λ us. IsCommand us c) is p)
     by : (c : Command) → IsCommand (codes "equiv" ∷ rest) c → ⊥
     by show q = absurd (omega (arith, head_mark (codes "equiv") rest show q))
     by (check n) q = absurd (omega (arith, head_mark (codes "equiv") rest (check n) q))
-    by (run s b) q = absurd (omega (arith, head_mark (codes "equiv") rest (run s b) q))
+    by (run s w b) q = absurd (omega (arith, head_mark (codes "equiv") rest (run s w b) q))
     by (make n) q = absurd (omega (arith, head_mark (codes "equiv") rest (make n) q))
     by (equiv n) q = none n q.1
 
@@ -250,12 +297,12 @@ no_check ws rest is none c p = by c (subst (λ us. IsCommand us c) is p)
     by : (c : Command) → IsCommand (codes "check" ∷ rest) c → ⊥
     by (equiv n) q = absurd (omega (arith, head_mark (codes "check") rest (equiv n) q))
     by show q = absurd (omega (arith, head_mark (codes "check") rest show q))
-    by (run s b) q = absurd (omega (arith, head_mark (codes "check") rest (run s b) q))
+    by (run s w b) q = absurd (omega (arith, head_mark (codes "check") rest (run s w b) q))
     by (make n) q = absurd (omega (arith, head_mark (codes "check") rest (make n) q))
     by (check n) q = none n q.1
 
 -- words behind `run` that set nothing of its are no command's
-pub no_run : (ws rest : List (List ℕ)) → ws ≡ codes "run" ∷ rest → ((s b : ℕ) → AreOptions rest s b → ⊥) → NoCommand ws
+pub no_run : (ws rest : List (List ℕ)) → ws ≡ codes "run" ∷ rest → ((s w b : ℕ) → AreOptions rest s w b → ⊥) → NoCommand ws
 no_run ws rest is none c p = by c (subst (λ us. IsCommand us c) is p)
   where
     by : (c : Command) → IsCommand (codes "run" ∷ rest) c → ⊥
@@ -263,7 +310,7 @@ no_run ws rest is none c p = by c (subst (λ us. IsCommand us c) is p)
     by show q = absurd (omega (arith, head_mark (codes "run") rest show q))
     by (check n) q = absurd (omega (arith, head_mark (codes "run") rest (check n) q))
     by (make n) q = absurd (omega (arith, head_mark (codes "run") rest (make n) q))
-    by (run s b) q = none s b q.1
+    by (run s w b) q = none s w b q.1
 
 -- words behind `make` that aren't just its number are no command's
 pub no_make : (ws rest : List (List ℕ)) → ws ≡ codes "make" ∷ rest → ((n : ℕ) → IsOneNumber 0 most_made rest n → ⊥) → NoCommand ws
@@ -273,7 +320,7 @@ no_make ws rest is none c p = by c (subst (λ us. IsCommand us c) is p)
     by (equiv n) q = absurd (omega (arith, head_mark (codes "make") rest (equiv n) q))
     by show q = absurd (omega (arith, head_mark (codes "make") rest show q))
     by (check n) q = absurd (omega (arith, head_mark (codes "make") rest (check n) q))
-    by (run s b) q = absurd (omega (arith, head_mark (codes "make") rest (run s b) q))
+    by (run s w b) q = absurd (omega (arith, head_mark (codes "make") rest (run s w b) q))
     by (make n) q = none n q.1
 
 -- words that begin with no command's name are no command's
@@ -283,7 +330,7 @@ no_name [] shows equivs checks runs makes c p = no_words c p
 no_name (w ∷ ws) shows equivs checks runs makes (equiv n) p = equivs ws (ap (λ v. v ∷ ws) p.0)
 no_name (w ∷ ws) shows equivs checks runs makes show p = shows ws (ap (λ v. v ∷ ws) p.0)
 no_name (w ∷ ws) shows equivs checks runs makes (check n) p = checks ws (ap (λ v. v ∷ ws) p.0)
-no_name (w ∷ ws) shows equivs checks runs makes (run s b) p = runs ws (ap (λ v. v ∷ ws) p.0)
+no_name (w ∷ ws) shows equivs checks runs makes (run s v b) p = runs ws (ap (λ v. v ∷ ws) p.0)
 no_name (w ∷ ws) shows equivs checks runs makes (make n) p = makes ws (ap (λ v. v ∷ ws) p.0)
 
 -- ---- what commands have
@@ -293,10 +340,55 @@ set_within : (o : Setting) (ws : List (List ℕ)) (n : ℕ) → o.least ≤ o.de
 set_within o ws n low high (inl p) = (subst (λ k. o.least ≤ k) (sym p.1) low, subst (λ k. k ≤ o.most) (sym p.1) high)
 set_within o ws n low high (inr p) = (p.value.at_least, p.value.at_most)
 
-options_within : (ws : List (List ℕ)) (s b : ℕ) → AreOptions ws s b → (s ≤ steps.most) × (1 ≤ b)
-options_within ws s b (inl p) = (omega (arith, p.1), omega (arith, p.2))
-options_within ws s b (inr (inl p)) = (p.1.value.at_most, (set_within budget p.0 b (omega arith) (omega arith) p.2).0)
-options_within ws s b (inr (inr p)) = ((set_within steps p.0 s (omega arith) (omega arith) p.2).1, p.1.value.at_least)
+-- the values that are given are in their ranges
+abbrev AreWithin : Given → Type 0
+AreWithin g = (o : Set) (n : ℕ) → value_in g o ≡ Some n → ((setting_of o).least ≤ n) × (n ≤ (setting_of o).most)
+
+-- a value is the one given last, or it was there
+value_given : (g : Given) (o q : Set) (n m : ℕ) → value_in (give g o n) q ≡ Some m → ((q ≡ o) × (n ≡ m)) ⊎ (value_in g q ≡ Some m)
+value_given g Budget Budget n m e = inl (refl, cc e)
+value_given g Steps Steps n m e = inl (refl, cc e)
+value_given g Workers Workers n m e = inl (refl, cc e)
+value_given g Budget Steps n m e = inr e
+value_given g Budget Workers n m e = inr e
+value_given g Steps Budget n m e = inr e
+value_given g Steps Workers n m e = inr e
+value_given g Workers Budget n m e = inr e
+value_given g Workers Steps n m e = inr e
+
+one_within : (before : Given) (ws : List (List ℕ)) (next : Given) (rest : List (List ℕ)) → AreWithin before → GivesOne before ws next rest → AreWithin next
+one_within before ws next rest all g o m e = by (value_given before g.option o g.number m (sym (ap (λ v. value_in v o) g.given) ∙ e))
+  where
+    by : ((o ≡ g.option) × (g.number ≡ m)) ⊎ (value_in before o ≡ Some m) → ((setting_of o).least ≤ m) × (m ≤ (setting_of o).most)
+    by (inl p) = subst (λ q. ((setting_of q).least ≤ m) × (m ≤ (setting_of q).most)) (sym p.0)
+        (subst (λ k. ((setting_of g.option).least ≤ k) × (k ≤ (setting_of g.option).most)) p.1 (g.sets.value.at_least, g.sets.value.at_most))
+    by (inr p) = all o m p
+
+all_within : (k : ℕ) (before : Given) (ws : List (List ℕ)) (after : Given) → AreWithin before → Give k before ws after → AreWithin after
+all_within zero before ws after all p = subst AreWithin (sym p.1) all
+all_within (suc k) before ws after all (next, rest, g, more) = all_within k next rest after (one_within before ws next rest all g) more
+
+none_within : AreWithin none_given
+none_within Budget n e = absurd (cc e)
+none_within Steps n e = absurd (cc e)
+none_within Workers n e = absurd (cc e)
+
+-- and so is what an option is
+or_within : (o : Setting) (v : Option ℕ) (n : ℕ) → n ≡ value_or o v → ((m : ℕ) → v ≡ Some m → (o.least ≤ m) × (m ≤ o.most)) → o.least ≤ o.default → o.default ≤ o.most → (o.least ≤ n) × (n ≤ o.most)
+or_within o None n is all low high = (subst (λ k. o.least ≤ k) (sym is) low, subst (λ k. k ≤ o.most) (sym is) high)
+or_within o (Some m) n is all low high =
+    let in_range = all m refl in
+    (subst (λ k. o.least ≤ k) (sym is) in_range.0, subst (λ k. k ≤ o.most) (sym is) in_range.1)
+
+options_within : (ws : List (List ℕ)) (s w b : ℕ) → AreOptions ws s w b → (s ≤ steps.most) × (1 ≤ w) × (w ≤ workers.most) × (1 ≤ b)
+options_within ws s w b p =
+    let all = all_within p.count none_given ws p.values none_within p.give in
+    let of_workers = or_within workers p.values.workers w p.workers (all Workers) (omega arith) (omega arith) in (
+      (or_within steps p.values.steps s p.steps (all Steps) (omega arith) (omega arith)).1,
+      of_workers.0,
+      of_workers.1,
+      (or_within budget p.values.budget b p.budget (all Budget) (omega arith) (omega arith)).0,
+    )
 
 -- the values of a command are in their ranges
 pub within : (ws : List (List ℕ)) (c : Command) → IsCommand ws c → IsWithin c
@@ -304,5 +396,5 @@ within [] c p = absurd (no_words c p)
 within (w ∷ ws) (equiv b) p = (set_within budget ws b (omega arith) (omega arith) p.1).0
 within (w ∷ ws) show p = tt
 within (w ∷ ws) (check b) p = (set_within budget ws b (omega arith) (omega arith) p.1).0
-within (w ∷ ws) (run s b) p = options_within ws s b p.1
+within (w ∷ ws) (run s v b) p = options_within ws s v b p.1
 within (w ∷ ws) (make n) p = p.1.number.at_most

@@ -1,9 +1,12 @@
 -- The words of the command line.
-use Rattle.std.specs.Prelude.{◌≡◌, ◌⊎◌, ℕ, ◌≤◌, List, [], ◌∷◌, ◌++◌, length, codes, true, ⊤}
+use Rattle.std.specs.Prelude.{◌≡◌, ◌⊎◌, ℕ, zero, suc, ◌≤◌, List, [], ◌∷◌, ◌++◌, length, codes, true, Option, Some, None, ⊤}
 use Rattle.std.specs.List.{list_all}
 use Rattle.std.specs.Char.{is_ascii_digit}
 use Rattle.std.specs.Str.Parse.{digits_value}
 use Rattle.fst_make.specs.Made.{most_made}
+use Rattle.fst_options.specs.declared.words.Setting.{Setting as Set}
+use Rattle.fst_options.specs.declared.words.Setting.TheVariants.{Budget, Steps, Workers}
+use Rattle.fst_options.specs.declared.words.Given.{Given}
 
 -- a number that words may set: the name of its option, the least and the greatest, and what it is where no word sets it
 pub record Setting : Type 0 where
@@ -19,6 +22,16 @@ budget = record { name = codes "--budget"; least = 1; most = 10000; default = 10
 -- how many events a run may have
 abbrev pub steps : Setting
 steps = record { name = codes "--steps"; least = 0; most = 2000000; default = 1000000 }
+
+-- how many workers move the tasks of a run
+abbrev pub workers : Setting
+workers = record { name = codes "--workers"; least = 1; most = 8; default = 1 }
+
+-- the number that each setting of the code sets
+abbrev pub setting_of : Set → Setting
+setting_of Budget = budget
+setting_of Steps = steps
+setting_of Workers = workers
 
 -- how many digits a number may have, leading zeros included
 abbrev pub most_digits : ℕ
@@ -52,11 +65,48 @@ pub record Sets (o : Setting) (words : List (List ℕ)) (n : ℕ) (rest : List (
 abbrev pub IsOption : Setting → List (List ℕ) → ℕ → Type 0
 IsOption o words n = ((words ≡ []) × (n ≡ o.default)) ⊎ Sets o words n []
 
--- the words set the steps and the budget, each at most once, in any order
-abbrev pub AreOptions : List (List ℕ) → ℕ → ℕ → Type 0
-AreOptions words s b =
-    ((words ≡ []) × (s ≡ steps.default) × (b ≡ budget.default)) ⊎ (((rest : List (List ℕ)) × Sets steps words s rest × IsOption budget rest b) ⊎
-    ((rest : List (List ℕ)) × Sets budget words b rest × IsOption steps rest s))
+-- the value that is given for an option, if there is one
+abbrev pub value_in : Given → Set → Option ℕ
+value_in g Budget = g.budget
+value_in g Steps = g.steps
+value_in g Workers = g.workers
+
+-- with one more
+abbrev pub give : Given → Set → ℕ → Given
+give g Budget n = record g { budget = Some n }
+give g Steps n = record g { steps = Some n }
+give g Workers n = record g { workers = Some n }
+
+-- none is given
+abbrev pub none_given : Given
+none_given = record { steps = None; workers = None; budget = None }
+
+-- the words begin by giving a value for an option that has none; others are behind it
+pub record GivesOne (before : Given) (words : List (List ℕ)) (after : Given) (rest : List (List ℕ)) : Type 0 where
+  pub option : Set
+  pub number : ℕ
+  pub sets : Sets (setting_of option) words number rest
+  pub first : value_in before option ≡ None
+  pub given : after ≡ give before option number
+
+-- the words give so many values one after the other, and nothing else
+abbrev pub Give : ℕ → Given → List (List ℕ) → Given → Type 0
+Give zero before words after = (words ≡ []) × (after ≡ before)
+Give (suc n) before words after = (next : Given) × (rest : List (List ℕ)) × GivesOne before words next rest × Give n next rest after
+
+-- what an option is with this value, or without one
+abbrev pub value_or : Setting → Option ℕ → ℕ
+value_or o None = o.default
+value_or o (Some n) = n
+
+-- the words set the steps, the workers and the budget, each at most once, in any order
+pub record AreOptions (words : List (List ℕ)) (s w b : ℕ) : Type 0 where
+  pub count : ℕ
+  pub values : Given
+  pub give : Give count none_given words values
+  pub steps : s ≡ value_or steps values.steps
+  pub workers : w ≡ value_or workers values.workers
+  pub budget : b ≡ value_or budget values.budget
 
 -- the only word is a number from the least to the most
 pub record IsOneNumber (least most : ℕ) (words : List (List ℕ)) (n : ℕ) : Type 0 where
@@ -70,13 +120,13 @@ IsNamed name P [] = ⊥
 IsNamed name P (w ∷ ws) = (w ≡ name) × P ws
 
 -- a command: whether two types are equivalent, within a budget, or the canonical text of a module, or whether a module is
--- well typed, within a budget, or what so many steps of a module come to that is well typed, within a budget, or in brief what the
--- made module of so many channels comes to
+-- well typed, within a budget, or what so many steps of a module that is well typed come to on so many workers, within a budget, or
+-- in brief what the made module of so many channels comes to
 pub data Command : Type 0 where
   equiv : ℕ → Command
   show : Command
   check : ℕ → Command
-  run : ℕ → ℕ → Command
+  run : ℕ → ℕ → ℕ → Command
   make : ℕ → Command
 
 -- the words of a command
@@ -84,7 +134,7 @@ abbrev pub IsCommand : List (List ℕ) → Command → Type 0
 IsCommand words (equiv n) = IsNamed (codes "equiv") (λ ws. IsOption budget ws n) words
 IsCommand words show = IsNamed (codes "show") (λ ws. ws ≡ []) words
 IsCommand words (check n) = IsNamed (codes "check") (λ ws. IsOption budget ws n) words
-IsCommand words (run s b) = IsNamed (codes "run") (λ ws. AreOptions ws s b) words
+IsCommand words (run s w b) = IsNamed (codes "run") (λ ws. AreOptions ws s w b) words
 IsCommand words (make n) = IsNamed (codes "make") (λ ws. IsOneNumber 0 most_made ws n) words
 
 -- the words aren't those of a command
@@ -96,5 +146,5 @@ abbrev pub IsWithin : Command → Type 0
 IsWithin (equiv b) = 1 ≤ b
 IsWithin show = ⊤
 IsWithin (check b) = 1 ≤ b
-IsWithin (run s b) = (s ≤ steps.most) × (1 ≤ b)
+IsWithin (run s w b) = (s ≤ steps.most) × (1 ≤ w) × (w ≤ workers.most) × (1 ≤ b)
 IsWithin (make n) = n ≤ most_made

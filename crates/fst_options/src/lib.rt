@@ -3,4 +3,4 @@
 
 mod words;
 
-pub use words::{Command, DEFAULT_BUDGET, DEFAULT_STEPS, parse};
+pub use words::{Command, DEFAULT_BUDGET, DEFAULT_STEPS, DEFAULT_WORKERS, RunOptions, parse};

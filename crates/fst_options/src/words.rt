@@ -2,8 +2,10 @@ ghost use Rattle.std.specs.Prelude.{◌≡◌, ◌++◌, ◌∷◌, [], ℕ, Lis
 ghost use Rattle.std.specs.List.{list_all};
 ghost use Rattle.std.specs.Char.{is_ascii_digit};
 ghost use Rattle.fst_make.specs.Made.{most_made};
-ghost use Rattle.fst_options.specs.Words.{AreOptions, Begins, IsCommand, IsNumber, IsOneNumber, IsOption, IsValue, NoCommand, Sets};
-ghost use Rattle.fst_options.specs.Views.{command_of, setting_of};
+ghost use Rattle.fst_options.specs.declared.words.Given.{Given as Gives};
+ghost use Rattle.fst_options.specs.declared.words.Setting.{Setting as Set};
+ghost use Rattle.fst_options.specs.Words.{AreOptions, Begins, Give, IsCommand, IsNumber, IsOneNumber, IsOption, IsValue, NoCommand, Sets, give, setting_of, value_in};
+ghost use Rattle.fst_options.specs.Views.{command_of};
 
 use fst_make::MOST_MADE;
 
@@ -12,6 +14,9 @@ pub const DEFAULT_BUDGET: u32 = 1000;
 
 /// How many events a run may have where no word says it.
 pub const DEFAULT_STEPS: u32 = 1_000_000;
+
+/// How many workers move the tasks of a run where no word says it.
+pub const DEFAULT_WORKERS: u32 = 1;
 
 /// The greatest number of digits of a value.
 const MAX_DIGITS: usize = 9;
@@ -23,6 +28,8 @@ pub(crate) enum Setting {
     Budget,
     /// How many events a run may have.
     Steps,
+    /// How many workers move the tasks of a run.
+    Workers,
 }
 
 impl Setting {
@@ -32,6 +39,7 @@ impl Setting {
         match self {
             Setting::Budget => "--budget",
             Setting::Steps => "--steps",
+            Setting::Workers => "--workers",
         }
     }
 
@@ -42,6 +50,7 @@ impl Setting {
         match self {
             Setting::Budget => (1, 10_000),
             Setting::Steps => (0, 2_000_000),
+            Setting::Workers => (1, 8),
         }
     }
 
@@ -52,6 +61,7 @@ impl Setting {
         match self {
             Setting::Budget => DEFAULT_BUDGET,
             Setting::Steps => DEFAULT_STEPS,
+            Setting::Workers => DEFAULT_WORKERS,
         }
     }
 }
@@ -153,26 +163,111 @@ fn option(setting: Setting, words: &[String]) -> Option<u32>
     }
 }
 
-// The steps and the budget that the words set.
-fn options(words: &[String]) -> Option<(u32, u32)>
-    ensures { MatchOption result
-        ((s b : ℕ) → AreOptions (map string_bytes words.now) s b → ⊥)
-        (λ p. AreOptions (map string_bytes words.now) p.0 p.1) }
-{
-    if words.is_empty() {
-        return Some((Setting::Steps.default(), Setting::Budget.default()));
+/// The values that words give.
+#[derive(Clone, Copy, Debug)]
+pub(crate) struct Given {
+    steps: Option<u32>,
+    workers: Option<u32>,
+    budget: Option<u32>,
+}
+
+impl Given {
+    // The value of an option.
+    fn value(self, setting: Setting) -> Option<u32>
+        ensures { result ≡ value_in self setting }
+    {
+        match setting {
+            Setting::Budget => self.budget,
+            Setting::Steps => self.steps,
+            Setting::Workers => self.workers,
+        }
     }
-    if let Some((steps, rest)) = sets(Setting::Steps, words) {
-        return match option(Setting::Budget, rest) {
-            Some(budget) => Some((steps, budget)),
-            None => None,
-        };
+
+    // With one value more.
+    fn give(self, setting: Setting, n: u32) -> Given
+        ensures { result ≡ give self setting n }
+    {
+        match setting {
+            Setting::Budget => Given {
+                budget: Some(n),
+                ..self
+            },
+            Setting::Steps => Given {
+                steps: Some(n),
+                ..self
+            },
+            Setting::Workers => Given {
+                workers: Some(n),
+                ..self
+            },
+        }
+    }
+}
+
+// The option that the words begin by setting, its value, and the words behind it.
+fn next<'a>(words: &'a [String]) -> Option<(Setting, u32, &'a [String])>
+    ensures { MatchOption result
+        ((o : Set) (n : ℕ) (rest : List (List ℕ)) → Sets (setting_of o) (map string_bytes words.now) n rest → ⊥)
+        (λ p. Sets (setting_of p.0) (map string_bytes words.now) p.1 (map string_bytes p.2.now)) }
+{
+    if let Some((n, rest)) = sets(Setting::Steps, words) {
+        return Some((Setting::Steps, n, rest));
+    }
+    if let Some((n, rest)) = sets(Setting::Workers, words) {
+        return Some((Setting::Workers, n, rest));
     }
     match sets(Setting::Budget, words) {
-        Some((budget, rest)) => match option(Setting::Steps, rest) {
-            Some(steps) => Some((steps, budget)),
-            None => None,
-        },
+        Some((n, rest)) => Some((Setting::Budget, n, rest)),
+        None => None,
+    }
+}
+
+// The values that are given when the words have given theirs too, each at most once.
+fn values(given: Given, words: &[String]) -> Option<Given>
+    ensures { MatchOption result
+        ((k : ℕ) (all : Gives) → Give k given (map string_bytes words.now) all → ⊥)
+        (λ all. (k : ℕ) × Give k given (map string_bytes words.now) all) }
+{
+    if words.is_empty() {
+        return Some(given);
+    }
+    let Some((setting, n, rest)) = next(words) else {
+        return None;
+    };
+    match given.value(setting) {
+        None => values(given.give(setting, n), rest),
+        Some(_) => None,
+    }
+}
+
+/// What a run is asked for.
+#[derive(Clone, Copy, Debug)]
+pub struct RunOptions {
+    /// How many events it may have.
+    pub steps: u32,
+    /// How many workers move its tasks, from 1 to 8.
+    pub workers: u32,
+    /// How many pairs a question may have.
+    pub budget: u32,
+}
+
+// The steps, the workers and the budget that the words set.
+fn options(words: &[String]) -> Option<RunOptions>
+    ensures { MatchOption result
+        ((s w b : ℕ) → AreOptions (map string_bytes words.now) s w b → ⊥)
+        (λ o. AreOptions (map string_bytes words.now) o.steps o.workers o.budget) }
+{
+    let none = Given {
+        steps: None,
+        workers: None,
+        budget: None,
+    };
+    match values(none, words) {
+        Some(given) => Some(RunOptions {
+            steps: given.steps.unwrap_or(DEFAULT_STEPS),
+            workers: given.workers.unwrap_or(DEFAULT_WORKERS),
+            budget: given.budget.unwrap_or(DEFAULT_BUDGET),
+        }),
         None => None,
     }
 }
@@ -199,8 +294,8 @@ pub enum Command {
     Show,
     /// Whether a module is well typed, within a budget of pairs.
     Check(u32),
-    /// What so many steps of a module come to that is well typed, within a budget of pairs.
-    Run(u32, u32),
+    /// What so many steps of a module that is well typed come to on so many workers, within a budget of pairs.
+    Run(RunOptions),
     /// In brief, what the made module of so many channels comes to.
     Make(u32),
 }
@@ -245,7 +340,7 @@ pub fn parse(words: &[String]) -> Option<Command>
     }
     if let Some(rest) = behind("run", words) {
         return match options(rest) {
-            Some((steps, budget)) => Some(Command::Run(steps, budget)),
+            Some(options) => Some(Command::Run(options)),
             None => None,
         };
     }

@@ -17,6 +17,7 @@ use Rattle.fst_process.specs.declared.report.Outcome.{Outcome}
 use Rattle.fst_process.specs.declared.report.Outcome.TheVariants.{Done, OutOfSteps}
 use Rattle.fst_process.specs.Kept.{Kept}
 use Rattle.fst_process.specs.Reflects.{Reflects}
+use Rattle.fst_runs.proofs.LeastRuns.{least_runs}
 use Rattle.fst_process.specs.Firing.{IsPossible, Happens, CanStart, IsBegun}
 use Rattle.fst_process.specs.Nexts.{IsNext}
 use Rattle.fst_process.specs.Reports.{IsReport, IsConfig, IsReported, IsAnswer, IsAnswerFrom}
@@ -25,11 +26,6 @@ use Rattle.fst_process.proofs.PathLaws.{some_same, none_some}
 use Rattle.fst_process.proofs.Moving.{nothing_ready, ready_moves}
 use Rattle.fst_process.proofs.Least.{is_least}
 use Rattle.fst_process.proofs.Rights.{right_fine}
-
--- the least run is a run
-runs_of_least : (m : Program) (types : List Tree) (c : Config) (es : List CoreEvent) (d : Config) → RunsLeast m types c es d → Runs m types c es d
-runs_of_least m types c [] d r = r
-runs_of_least m types c (e ∷ es) d r = (r.0, r.1, runs_of_least m types (written c r.0) es d r.3)
 
 -- a run with one event more
 runs_more : (m : Program) (types : List Tree) (c : Config) (es : List CoreEvent) (d : Config) (e : CoreEvent) (w : Write) → Runs m types c es d → Does m types d e w →
@@ -116,7 +112,7 @@ kept_first k n d = λ m b reflects makers parents right.
 
 module _ (m : Module) (k : Code) (b : Config) (before n : ℕ) (d : Kept) (x : IsReached m k b before n d) (right : RunsRightFrom m b) where
   right_here : IsRight (program m) x.config
-  right_here = right x.events x.config (runs_of_least (program m) m.types.items b x.events x.config x.runs)
+  right_here = right x.events x.config (least_runs (program m) m.types.items b x.events x.config x.runs)
 
   -- the next event is possible, and the least one
   abbrev Goes : CoreEvent → Type 0
@@ -132,7 +128,7 @@ module _ (m : Module) (k : Code) (b : Config) (before n : ℕ) (d : Kept) (x : I
   right_after : (ev : CoreEvent) (w : Write) → Does (program m) m.types.items x.config ev w → IsRight (program m) (written x.config w)
   right_after ev w f =
       right (x.events ++ ev ∷ []) (written x.config w)
-      (runs_more (program m) m.types.items b x.events x.config ev w (runs_of_least (program m) m.types.items b x.events x.config x.runs) f)
+      (runs_more (program m) m.types.items b x.events x.config ev w (least_runs (program m) m.types.items b x.events x.config x.runs) f)
 
   -- the next event is possible
   pub next_possible : (ev : CoreEvent) → IsNext d (Some ev) → n < 4294967295 → IsPossible k d ev

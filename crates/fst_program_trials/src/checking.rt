@@ -1,12 +1,10 @@
 //! Modules that are accepted or refused, and the derivations of those that are accepted.
 
-use crate::program::answer;
 use fst_derivations::Derivation;
 use fst_lexer::lex;
 use fst_names::resolve;
 use fst_rules::holds;
 use fst_syntax::read_module;
-use fst_tables::each_pair;
 use fst_terms::Module;
 use fst_typing::check;
 use std::alloc::Global;
@@ -37,76 +35,6 @@ main =
   fork (sendTree @Skip (Node 1 (Node 2 Leaf Leaf) Leaf) a);
   let (n, d) = sumTree @Skip b in n
 ";
-
-/// What `check` writes of a module.
-fn checked_row(alloc: Global, given: &str) -> Result<String, Fail> {
-    answer(alloc, "check", given.as_bytes())
-}
-
-const CHECKED: [(&str, &str); 14] = [
-    // tree-over-channel, polymorphic-identity
-    (TREE, "accepted\n"),
-    (
-        "f : forall a:1S. a -> a\nf x = x\nmain : Int\nmain = 5\n",
-        "accepted\n",
-    ),
-    // linear-refusals
-    (
-        "main : Int\nmain = let (a, b) = new !Int in 5\n",
-        "refused 2:13 unused a\n",
-    ),
-    (
-        "main : Int\nmain = let (a, b) = new !Int in fork (send 1 a); fork (send 2 a); let (x, d) = receive b in x\n",
-        "refused 2:63 used twice a\n",
-    ),
-    (
-        "main : Int\nmain = let (a, b) = new !Int in let f = \\x:Int -> send x a in 5\n",
-        "refused 2:58 captured a\n",
-    ),
-    // wrong-send, unequal-branches
-    (
-        "f : !Int -> Skip\nf c = send True c\nmain : Int\nmain = 5\n",
-        "refused 2:7 no move !Bool in !Int\n",
-    ),
-    (
-        "main : Int\nmain = let (a, b) = new !Int in fork (if True then send 1 a else 5); let (x, d) = receive b in x\n",
-        "refused 2:66 branches a\n",
-    ),
-    // type-arguments, open-types-differ
-    (
-        "id : forall a:*T. a -> a\nid x = x\nmain : Int\nmain = let (a, b) = new !Int in let c = id @!Int a in 5\n",
-        "refused 4:45 kind 1S wanted *T\n",
-    ),
-    (
-        "id : forall a:*T. a -> a\nid x = x\nmain : Int\nmain = id 5\n",
-        "refused 4:8 type arguments 0 wanted 1\n",
-    ),
-    (
-        "f : forall a:1S. (a;!Int) -> (a;?Int)\nf c = c\nmain : Int\nmain = 5\n",
-        "refused 2:7 type a1;!Int wanted a1;?Int word a1 !Int left\n",
-    ),
-    // empty-and-long, cut-match
-    ("", "refused 1:1 no main\n"),
-    (
-        "main : Int\nmain = match c with {A x",
-        "refused 2:25 syntax\n",
-    ),
-    // the equation that begins first, and not the signature
-    (
-        "main : Int\nf : Int\nf = True\nmain = False\n",
-        "refused 3:5 type Bool wanted Int\n",
-    ),
-    // the last parameter is left first
-    (
-        "f : !Int -> !Int 1-> Int\nf c d = 5\nmain : Int\nmain = 5\n",
-        "refused 2:5 unused d\n",
-    ),
-];
-
-#[test]
-fn modules_are_checked(rt: HostRuntime) -> Result<(), Fail> {
-    each_pair(rt.alloc(), &CHECKED, checked_row)
-}
 
 /// The module that a text stands for.
 fn module_of(alloc: Global, source: &str) -> Result<Module, Fail> {

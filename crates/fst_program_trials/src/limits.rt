@@ -4,6 +4,7 @@ use crate::program::answer;
 use fst_tables::{each_line, fields, no_row};
 use std::alloc::{AllocError, Global};
 use std::test::Fail;
+use std::thread::Threads;
 
 // What stands in front; what is repeated, and how often; what is between; what is repeated behind it as often; the rest of
 // the question. What is written.
@@ -38,7 +39,7 @@ forall x:*S, ¦ a:*S, ¦ 170000 ¦ b:1T. x ¦ ¦ ~ y = refused 1:18 twice a
 +{A ¦ é ¦ 127 ¦ :Skip} ¦ ¦ ~ ?Int;+{B:Skip} = no ?Int right
 +{AB ¦ é ¦ 127 ¦ :Skip} ¦ ¦ ~ ?Int;+{B:Skip} = refused 1:3 name too long";
 
-fn nested_row(alloc: Global, given: &str) -> Result<String, Fail> {
+fn nested_row<R: Threads + Sync>(rt: &R, alloc: Global, given: &str) -> Result<String, Fail> {
     let fields = fields(alloc, given)?;
     let [front, open, times, inner, close, back] = fields.as_slice() else {
         return Err(no_row());
@@ -47,18 +48,22 @@ fn nested_row(alloc: Global, given: &str) -> Result<String, Fail> {
     let open = open.repeat(alloc, times)?;
     let close = close.repeat(alloc, times)?;
     let question = format!(in alloc; "{front}{open}{inner}{close}{back}")?;
-    answer(alloc, "equiv", question.as_str().as_bytes())
+    answer(rt, alloc, "equiv", question.as_str().as_bytes())
 }
 
 #[test]
 fn nesting_and_names_are_limited(rt: HostRuntime) -> Result<(), Fail> {
-    each_line(rt.alloc(), NESTED, nested_row)
+    each_line(
+        rt.alloc(),
+        NESTED,
+        |alloc, given| nested_row(&rt, alloc, given),
+    )
 }
 
-fn spaced_row(alloc: Global, given: &str) -> Result<String, Fail> {
+fn spaced_row<R: Threads + Sync>(rt: &R, alloc: Global, given: &str) -> Result<String, Fail> {
     let spaces = " ".repeat(alloc, given.parse::<usize>()?)?;
     let question = format!(in alloc; "!Int ~ !Int{spaces}")?;
-    answer(alloc, "equiv", question.as_str().as_bytes())
+    answer(rt, alloc, "equiv", question.as_str().as_bytes())
 }
 
 #[test]
@@ -66,12 +71,16 @@ fn lengths_are_limited(rt: HostRuntime) -> Result<(), Fail> {
     let table = "\
 1048565 = yes
 1048566 = limit length";
-    each_line(rt.alloc(), table, spaced_row)
+    each_line(
+        rt.alloc(),
+        table,
+        |alloc, given| spaced_row(&rt, alloc, given),
+    )
 }
 
 /// `Skip` so many times and once more, with `;` between, behind 31 groups of 127 nodes each and their `;`s: with 63 times
 /// these are 4,095 nodes.
-fn groups_row(alloc: Global, given: &str) -> Result<String, Fail> {
+fn groups_row<R: Threads + Sync>(rt: &R, alloc: Global, given: &str) -> Result<String, Fail> {
     let fields = fields(alloc, given)?;
     let [front, times, back] = fields.as_slice() else {
         return Err(no_row());
@@ -80,7 +89,7 @@ fn groups_row(alloc: Global, given: &str) -> Result<String, Fail> {
     let groups = whole.as_str().repeat(alloc, 31)?;
     let last = ";Skip".repeat(alloc, times.parse::<usize>()?)?;
     let question = format!(in alloc; "{front}{groups}(Skip{last}){back}")?;
-    answer(alloc, "equiv", question.as_str().as_bytes())
+    answer(rt, alloc, "equiv", question.as_str().as_bytes())
 }
 
 #[test]
@@ -91,7 +100,11 @@ fn sizes_are_limited(rt: HostRuntime) -> Result<(), Fail> {
 rec x. ¦ 63 ¦ ~ Skip = yes
 rec x.rec y. ¦ 63 ¦ ~ x = limit 1:1 type size
 Int ~ ( ¦ 64 ¦ ) = limit 1:8 type size";
-    each_line(rt.alloc(), table, groups_row)
+    each_line(
+        rt.alloc(),
+        table,
+        |alloc, given| groups_row(&rt, alloc, given),
+    )
 }
 
 /// So many branches with a comma between them, each with this body.
@@ -105,14 +118,14 @@ fn branches(alloc: Global, count: u32, body: &str) -> Result<String, AllocError>
     Ok(text)
 }
 
-fn choice_row(alloc: Global, given: &str) -> Result<String, Fail> {
+fn choice_row<R: Threads + Sync>(rt: &R, alloc: Global, given: &str) -> Result<String, Fail> {
     let fields = fields(alloc, given)?;
     let [front, count, body, back] = fields.as_slice() else {
         return Err(no_row());
     };
     let choice = branches(alloc, count.parse::<u32>()?, body)?;
     let question = format!(in alloc; "{front}{choice}{back}")?;
-    answer(alloc, "equiv", question.as_str().as_bytes())
+    answer(rt, alloc, "equiv", question.as_str().as_bytes())
 }
 
 #[test]
@@ -127,17 +140,21 @@ Int ~ +{ ¦ 2048 ¦ Skip ¦ } = limit 1:7 type size
 forall a:*S. Int ~ +{ ¦ 2048 ¦ a ¦ } = limit 1:20 type size
 forall a:*S, a:*S. +{ ¦ 2048 ¦ a ¦ } ~ a = refused 1:14 twice a
 forall a:*S. +{ ¦ 2047 ¦ a ¦ } ~ Skip = no +L_0 left";
-    each_line(rt.alloc(), table, choice_row)
+    each_line(
+        rt.alloc(),
+        table,
+        |alloc, given| choice_row(&rt, alloc, given),
+    )
 }
 
 /// So many branches under 90 `rec`s, each with a message behind it: the grammar has 4,095 letters a branch on the right
 /// sides.
-fn grammar_row(alloc: Global, given: &str) -> Result<String, Fail> {
+fn grammar_row<R: Threads + Sync>(rt: &R, alloc: Global, given: &str) -> Result<String, Fail> {
     let front = "rec x.(".repeat(alloc, 90)?;
     let back = ");!Int".repeat(alloc, 90)?;
     let choice = branches(alloc, given.parse::<u32>()?, "Skip")?;
     let question = format!(in alloc; "{front}+{{{choice}}}{back} ~ Skip")?;
-    answer(alloc, "equiv", question.as_str().as_bytes())
+    answer(rt, alloc, "equiv", question.as_str().as_bytes())
 }
 
 #[test]
@@ -145,7 +162,11 @@ fn grammars_are_limited(rt: HostRuntime) -> Result<(), Fail> {
     let table = "\
 256 = no +L_0 left
 257 = limit 1:1 type size";
-    each_line(rt.alloc(), table, grammar_row)
+    each_line(
+        rt.alloc(),
+        table,
+        |alloc, given| grammar_row(&rt, alloc, given),
+    )
 }
 
 // What is repeated in front of a term, and how often; the term; what is repeated behind it as often. What is written of the
@@ -156,7 +177,7 @@ const TERMS: &str = "\
 x; ¦ 200 ¦ x ¦ = limit 1:405 depth
 1- ¦ 200 ¦ 1 ¦ = limit 1:404 depth";
 
-fn term_row(alloc: Global, given: &str) -> Result<String, Fail> {
+fn term_row<R: Threads + Sync>(rt: &R, alloc: Global, given: &str) -> Result<String, Fail> {
     let fields = fields(alloc, given)?;
     let [open, times, middle, close] = fields.as_slice() else {
         return Err(no_row());
@@ -164,14 +185,18 @@ fn term_row(alloc: Global, given: &str) -> Result<String, Fail> {
     let times = times.parse::<usize>()?;
     let (open, close) = (open.repeat(alloc, times)?, close.repeat(alloc, times)?);
     let module = format!(in alloc; "f = {open}{middle}{close}")?;
-    let text = answer(alloc, "show", module.as_str().as_bytes())?;
+    let text = answer(rt, alloc, "show", module.as_str().as_bytes())?;
     let term = text.as_str().strip_prefix("f = ").unwrap_or(&text);
     Ok(String::from_str(alloc, term)?)
 }
 
 #[test]
 fn terms_are_limited(rt: HostRuntime) -> Result<(), Fail> {
-    each_line(rt.alloc(), TERMS, term_row)
+    each_line(
+        rt.alloc(),
+        TERMS,
+        |alloc, given| term_row(&rt, alloc, given),
+    )
 }
 
 // Chains of all operators, each of them the first operand of a longer one: 99,500 terms stand inside one another, each the
@@ -191,17 +216,17 @@ fn stairs(alloc: Global) -> Result<String, AllocError> {
 }
 
 /// Whether a module is shown as itself.
-fn is_shown(alloc: Global, module: &str) -> Result<bool, Fail> {
-    let text = answer(alloc, "show", module.as_bytes())?;
+fn is_shown<R: Threads + Sync>(rt: &R, alloc: Global, module: &str) -> Result<bool, Fail> {
+    let text = answer(rt, alloc, "show", module.as_bytes())?;
     Ok(text.as_str() == module)
 }
 
 #[test]
 fn large_modules_fit_the_stack(rt: HostRuntime) -> Result<(), Fail> {
     let alloc = rt.alloc();
-    assert!(rt; is_shown(alloc, &stairs(alloc)?)?);
-    assert!(rt; is_shown(alloc, &"f = x\n".repeat(alloc, 174_762)?)?);
+    assert!(rt; is_shown(&rt, alloc, &stairs(alloc)?)?);
+    assert!(rt; is_shown(&rt, alloc, &"f = x\n".repeat(alloc, 174_762)?)?);
     let parameters = format!(in alloc; "f{} = x\n", " x".repeat(alloc, 524_285)?)?;
-    assert!(rt; is_shown(alloc, &parameters)?);
+    assert!(rt; is_shown(&rt, alloc, &parameters)?);
     Ok(())
 }

@@ -3,6 +3,7 @@ pub mod FirstRun
 pub mod HeldEnds
 pub mod HistoryLaws
 pub mod Laws
+pub mod LeastRuns
 pub mod NameLaws
 pub mod Naming
 pub mod Owners

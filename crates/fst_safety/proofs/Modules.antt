@@ -11,15 +11,15 @@ use Rattle.fst_terms.specs.declared.core_module.Module.{Module}
 use Rattle.fst_terms.specs.declared.global.GlobalEntry.{GlobalEntry}
 use Rattle.fst_derivations.specs.Deriv.{Deriv}
 use Rattle.fst_derivations.specs.Modules.{HasDerivations, HasMain, IsMain, IsPrintable, base_types, data_types, pairs, surroundings}
-use Rattle.fst_machine.specs.Values.{Value}
-use Rattle.fst_runs.specs.Configs.{main_body, residual_in}
+use Rattle.fst_runs.specs.Configs.{Config, main_body, residual_in, started}
 use Rattle.fst_safety.specs.Running.{HasType}
-use Rattle.fst_safety.specs.Fitting.{Residuals, Fits}
 use Rattle.fst_safety.specs.WellTyped.{IsWellTyped}
-use Rattle.fst_safety.specs.Safety.{main_type, HasMainType, DerivedIsSafe}
+use Rattle.fst_safety.specs.Safety.{main_type, IsSafeAt, DerivedIsSafe}
+use Rattle.fst_safety.specs.Sound.{IsSound, SoundStaysSafe}
 use Rattle.fst_safety.proofs.Checked.{checked}
-use Rattle.fst_safety.proofs.Runs.{never_wrong, sessions, result}
+use Rattle.fst_safety.proofs.Runs.{ended_fits, printable_formed, runs_sound, started_sound}
 use Rattle.fst_safety.proofs.Shown.{result_of, of_shown}
+use Rattle.fst_safety.proofs.SoundLaws.{sound_right}
 use Rattle.fst_safety.proofs.Typed.{some_same, none_some}
 
 -- the global named main, which has this body
@@ -83,23 +83,40 @@ main_typed m ds h e q =
       printable = k.main.1.2;
     }
 
--- a value that fits main's declared type is one of it
-main_value : (m : Module) → IsWellTyped (surroundings m []) → (r : Residuals) (v : Value) (e : CoreTree) (k : IsMainTyped m e) →
-    Fits (surroundings m []) r v k.type → HasMainType m v
-main_value m w r v e k f =
-    let o = result_of m w r v k.type k.printable f in
-    record { type = k.type; declared = k.declared; typed = o; shown = of_shown m v k.type o }
+-- where main has a type it has a body
+has_body : (types : List Tree) (gs : List GlobalEntry) (a : Tree) → main_type types gs ≡ Some a → (e : CoreTree) × (main_body gs ≡ Some e)
+has_body types [] a q = absurd (none_some q)
+has_body types (g ∷ gs) a q = pick (has_body types gs a) (bytes_eq g.name (codes "main")) refl q
+  where
+    pick : (main_type types gs ≡ Some a → (e : CoreTree) × (main_body gs ≡ Some e)) → (b : Bool) → bytes_eq g.name (codes "main") ≡ b →
+        (if b then slice_get types g.signature else main_type types gs) ≡ Some a → (e : CoreTree) × (main_body (g ∷ gs) ≡ Some e)
+    pick later true i p = (g.body, ap (λ b. if b then Some g.body else main_body gs) i)
+    pick later false i p =
+        let k = later p in
+        (k.0, ap (λ b. if b then Some g.body else main_body gs) i ∙ k.1)
+
+-- a sound configuration in which main has a type whose values can be printed is safe
+sound_safe : (m : Module) → IsWellTyped (surroundings m []) → (e : CoreTree) (k : IsMainTyped m e) (c : Config) → IsSound (surroundings m []) k.type c → IsSafeAt m c
+sound_safe m w e k c s = record {
+  right = sound_right (surroundings m []) w k.type c s;
+  sessions = λ h j i. (s.traces h j i).1;
+  result = λ t v i p.
+      let o = result_of m w (residual_in c) v k.type k.printable (ended_fits (surroundings m []) w k.type c s t v i p) in
+      record { type = k.type; declared = k.declared; typed = o; shown = of_shown m v k.type o };
+}
+
+-- so it stays
+pub stays_safe : SoundStaysSafe
+stays_safe m ds h a q c s =
+    let n = surroundings m [] in
+    let w = checked m ds h in
+    let (e, body) = has_body m.types.items m.globals.items a q in
+    let k = main_typed m ds h e body in
+    let same : a ≡ k.type = some_same (sym q ∙ k.declared) in
+    λ es d r. sound_safe m w e k d (subst (λ b. IsSound n b d) same (runs_sound n w a es c d s r))
 
 -- a module that has derivations is safe
 pub modules_safe : DerivedIsSafe
-modules_safe m ds h = record {
-  never_wrong = λ e q es c r.
-      let k = main_typed m ds h e q in
-      never_wrong (surroundings m []) (checked m ds h) k.type e k.typed es c r;
-  sessions = λ e q es c r x j i.
-      let k = main_typed m ds h e q in
-      sessions (surroundings m []) (checked m ds h) k.type e k.typed es c r x j i;
-  result = λ e q es c r t v i f.
-      let k = main_typed m ds h e q in
-      main_value m (checked m ds h) (residual_in c) v e k (result (surroundings m []) (checked m ds h) k.type e k.typed k.printable es c r t v i f);
-}
+modules_safe m ds h e q =
+    let k = main_typed m ds h e q in
+    stays_safe m ds h k.type k.declared (started e) (started_sound (surroundings m []) (checked m ds h) k.type e (printable_formed k.type k.printable) k.typed)

@@ -1,22 +1,18 @@
 -- All that a run leads to is sound.
-use Rattle.std.proofs.Common.{◌≡◌, ◌⊎◌, inl, inr, zero, List, [], ◌∷◌, Some, refl, sym, subst}
-use Rattle.fst_types.specs.Tree.{Tree, plain}
-use Rattle.fst_types.specs.declared.base.Base.TheVariants.{Unit as Nothing}
+use Rattle.std.proofs.Common.{◌≡◌, zero, List, [], ◌∷◌, Some, refl, sym, subst}
+use Rattle.fst_types.specs.Tree.{Tree}
 use Rattle.fst_types.specs.declared.kind.Use.TheVariants.{Many}
 use Rattle.fst_kinds.specs.Kinds.{top, join}
-use Rattle.fst_kinds.specs.WellFormed.{IsSession}
 use Rattle.fst_terms.specs.CoreTree.{CoreTree}
 use Rattle.fst_derivations.specs.Modules.{IsPrintable, base_types, data_types, pairs}
 use Rattle.fst_derivations.specs.Parts.{IsFormed}
 use Rattle.fst_derivations.specs.Rules.{Surroundings}
-use Rattle.fst_value.specs.declared.ends.ChannelName.{ChannelName}
 use Rattle.fst_machine.specs.Values.{Value}
 use Rattle.fst_machine.specs.Machine.{pause, ended, begins}
 use Rattle.fst_runs.specs.declared.event.CoreEvent.{CoreEvent}
 use Rattle.fst_runs.specs.declared.event.CoreEvent.TheVariants.{Local, New, Fork, Meet}
-use Rattle.fst_runs.specs.Configs.{Task, Channel, Config, same_path, residual_in, main_path, new_task, started}
+use Rattle.fst_runs.specs.Configs.{Task, Config, same_path, residual_in, main_path, new_task, started}
 use Rattle.fst_runs.specs.Events.{Write, written, Does, Runs}
-use Rattle.fst_runs.specs.Wrong.{IsRight}
 use Rattle.fst_runs.proofs.Naming.{named_start}
 use Rattle.fst_runs.proofs.Updates.{in_test}
 use Rattle.fst_safety.specs.Running.{HasType}
@@ -27,12 +23,11 @@ use Rattle.fst_safety.specs.Sound.{IsSound}
 use Rattle.fst_safety.proofs.Closed.{closed_by}
 use Rattle.fst_safety.proofs.Settles.{pause_goes}
 use Rattle.fst_safety.proofs.Equals.{equals_itself}
-use Rattle.fst_safety.proofs.Formed.{formed_or_any}
 use Rattle.fst_safety.proofs.Shapes.{plain_formed}
 use Rattle.fst_safety.proofs.ForkLaws.{fork_sound}
 use Rattle.fst_safety.proofs.MeetLaws.{meet_sound}
 use Rattle.fst_safety.proofs.NewLaws.{new_sound}
-use Rattle.fst_safety.proofs.SoundLaws.{sound_right, local_sound}
+use Rattle.fst_safety.proofs.SoundLaws.{local_sound}
 use Rattle.fst_safety.proofs.Typed.{none_some}
 
 -- a type whose values can be printed is well formed
@@ -84,34 +79,9 @@ module _ (m : Surroundings) (well : IsWellTyped m) (a : Tree) where
         frames = equals_itself a f;
       }
 
-  -- where main has ended, its value fits its type if values of that can be printed
-  pub result : (e : CoreTree) → HasType m [] e a → IsPrintable a → (es : List CoreEvent) (c : Config) → Runs (program_in m) m.types (started e) es c →
-      (t : Task) (v : Value) → c.tasks main_path ≡ Some t → pause m.families t.state ≡ ended v → Fits m (residual_in c) v a
-  result e h q es c r t v f g =
-      let s = (runs_sound es (started e) c (started_sound e (printable_formed a q) h) r).tasks main_path t f in
+  -- where main has ended, its value fits its type
+  pub ended_fits : (c : Config) → IsSound m a c → (t : Task) (v : Value) → c.tasks main_path ≡ Some t → pause m.families t.state ≡ ended v → Fits m (residual_in c) v a
+  ended_fits c h t v f g =
+      let s = h.tasks main_path t f in
       let k : Allowed m (residual_in c) (ended v) s.0 = subst (λ z. Allowed m (residual_in c) z s.0) g (pause_goes m well (residual_in c) t.state s.0 s.1).0 in
       subst (Fits m (residual_in c) v) (s.2 refl) k
-
--- all that a run of a typed term leads to is sound, for a type that the term has
-pub typed_sound : (m : Surroundings) (well : IsWellTyped m) (a : Tree) (e : CoreTree) → HasType m [] e a → (es : List CoreEvent) (c : Config) →
-    Runs (program_in m) m.types (started e) es c → (b : Tree) × IsSound m b c
-typed_sound m well a e h es c r = pick (formed_or_any m [] e a h)
-  where
-    of_type : (b : Tree) → IsFormed [] b → HasType m [] e b → (t : Tree) × IsSound m t c
-    of_type b f k = (b, runs_sound m well b es (started e) c (started_sound m well b e f k) r)
-
-    pick : IsFormed [] a ⊎ ((t : Tree) → HasType m [] e t) → (b : Tree) × IsSound m b c
-    pick (inl f) = of_type a f h
-    pick (inr k) = of_type (plain Nothing) (plain_formed Nothing) (k (plain Nothing))
-
--- nothing that a run of a typed term leads to is wrong
-pub never_wrong : (m : Surroundings) (well : IsWellTyped m) (a : Tree) (e : CoreTree) → HasType m [] e a → (es : List CoreEvent) (c : Config) →
-    Runs (program_in m) m.types (started e) es c → IsRight (program_in m) c
-never_wrong m well a e h es c r =
-    let s = typed_sound m well a e h es c r in
-    sound_right m well s.0 c s.1
-
--- the declared types of channels that a run of a typed term leads to are closed well-formed session types
-pub sessions : (m : Surroundings) (well : IsWellTyped m) (a : Tree) (e : CoreTree) → HasType m [] e a → (es : List CoreEvent) (c : Config) →
-    Runs (program_in m) m.types (started e) es c → (x : ChannelName) (k : Channel) → c.channels x ≡ Some k → IsSession [] k.declared
-sessions m well a e h es c r x k i = ((typed_sound m well a e h es c r).1.traces x k i).1

@@ -72,17 +72,21 @@ pub record HasMainType (m : Module) (v : Value) : Type 0 where
   pub typed : IsOf m v type
   pub shown : IsShown v
 
--- whatever happens in a run of the module, in any order, nothing goes wrong; each channel's declared type is a closed well-formed
--- session type; and where main has ended, its value is one of main's declared type
-pub record IsSafe (m : Module) : Type 0 where
-  pub never_wrong : (e : CoreTree) → main_body m.globals.items ≡ Some e → (es : List CoreEvent) (c : Config) →
-      Runs (program m) m.types.items (started e) es c → IsRight (program m) c
-  pub sessions : (e : CoreTree) → main_body m.globals.items ≡ Some e → (es : List CoreEvent) (c : Config) →
-      Runs (program m) m.types.items (started e) es c → (h : ChannelName) (k : Channel) → c.channels h ≡ Some k → IsSession [] k.declared
-  pub result : (e : CoreTree) → main_body m.globals.items ≡ Some e → (es : List CoreEvent) (c : Config) →
-      Runs (program m) m.types.items (started e) es c → (t : Task) (v : Value) → c.tasks main_path ≡ Some t →
-      pause m.families.items t.state ≡ ended v → HasMainType m v
+-- nothing is wrong in the configuration; each channel's declared type is a closed well-formed session type; and where main has ended,
+-- its value is one of main's declared type
+pub record IsSafeAt (m : Module) (c : Config) : Type 0 where
+  pub right : IsRight (program m) c
+  pub sessions : (h : ChannelName) (k : Channel) → c.channels h ≡ Some k → IsSession [] k.declared
+  pub result : (t : Task) (v : Value) → c.tasks main_path ≡ Some t → pause m.families.items t.state ≡ ended v → HasMainType m v
 
--- so it is with each module that has derivations
+-- so it is whatever happens from this configuration on, in any order
+abbrev pub StaysSafe : Module → Config → Type 0
+StaysSafe m c = (es : List CoreEvent) (d : Config) → Runs (program m) m.types.items c es d → IsSafeAt m d
+
+-- so it is in every run of the module
+abbrev pub IsSafe : Module → Type 0
+IsSafe m = (e : CoreTree) → main_body m.globals.items ≡ Some e → StaysSafe m (started e)
+
+-- each module that has derivations is safe
 abbrev pub DerivedIsSafe : Type 0
 DerivedIsSafe = (m : Module) (ds : List Deriv) → HasDerivations m ds → IsSafe m

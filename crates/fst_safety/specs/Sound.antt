@@ -1,9 +1,12 @@
 -- What every configuration of a run keeps: its tasks have types, its channels are used as they say, and names are fresh.
-use Rattle.std.specs.Prelude.{◌≡◌, [], Some}
+use Rattle.std.specs.Prelude.{◌≡◌, List, [], Some}
 use Rattle.fst_types.specs.Tree.{Tree}
 use Rattle.fst_types.specs.declared.side.Side.TheVariants.{Left, Right}
 use Rattle.fst_kinds.specs.WellFormed.{IsSession}
 use Rattle.fst_lts.specs.Dual.{dual}
+use Rattle.fst_terms.specs.declared.core_module.Module.{Module}
+use Rattle.fst_derivations.specs.Deriv.{Deriv}
+use Rattle.fst_derivations.specs.Modules.{HasDerivations, surroundings}
 use Rattle.fst_derivations.specs.Rules.{Surroundings}
 use Rattle.fst_value.specs.declared.ends.ChannelName.{ChannelName}
 use Rattle.fst_value.specs.declared.ends.EndName.{EndName}
@@ -11,6 +14,7 @@ use Rattle.fst_runs.specs.Configs.{Path, Task, Channel, Config, residual_in, cha
 use Rattle.fst_runs.specs.Names.{HasMakers, HasParents}
 use Rattle.fst_runs.specs.Wrong.{IsUnspent, IsOwned}
 use Rattle.fst_safety.specs.Fitting.{IsTyped}
+use Rattle.fst_safety.specs.Safety.{StaysSafe, main_type}
 
 -- each side has gone on as the dual of the other
 abbrev pub IsTrace : Channel → Type 0
@@ -28,3 +32,8 @@ pub record IsSound (m : Surroundings) (a : Tree) (c : Config) : Type 0 where
   pub makers : HasMakers c
   -- so is the path of the next task that it forks
   pub parents : HasParents c
+
+-- what happens from a sound configuration of a module that has derivations on is safe
+abbrev pub SoundStaysSafe : Type 0
+SoundStaysSafe = (m : Module) (ds : List Deriv) → HasDerivations m ds → (a : Tree) → main_type m.types.items m.globals.items ≡ Some a →
+    (c : Config) → IsSound (surroundings m []) a c → StaysSafe m c

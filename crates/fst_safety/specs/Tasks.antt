@@ -47,6 +47,13 @@ pub record IsTypedCode (k : Code) (a : Tree) : Type 0 where
   pub derived : HasDerivations k.module.value derivations
   pub main : main_type k.module.value.types.items k.module.value.globals.items ≡ Some a
 
+-- so it is with this code, and main has this body
+pub record CanBegin (k : Code) : Type 0 where
+  pub type : Tree
+  pub code : IsTypedCode k type
+  pub main : CoreTree
+  pub body : main_body k.module.value.globals.items ≡ Some main
+
 -- the task is the thread x, as the machine keeps it: its code stands for the state
 pub record Keeps (k : Code) (t : TypedTask) (x : Thread) : Type 0 where
   pub path : t.task.path ≡ x.path

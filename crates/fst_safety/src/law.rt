@@ -1,6 +1,7 @@
 ghost use Rattle.fst_safety.specs.Diamond.{DiamondLaw, OneEnd};
 ghost use Rattle.fst_safety.specs.Going.{EndsAreHeld, StayTyped};
 ghost use Rattle.fst_safety.specs.Safety.{DerivedIsSafe};
+ghost use Rattle.fst_safety.specs.Sound.{SoundStaysSafe};
 
 use crate::tasks::TypedTask;
 
@@ -8,9 +9,14 @@ use crate::tasks::TypedTask;
 /// the residuals of its ends allow, each history is a trace of its channel's type, which is a closed well-formed session type,
 /// and each end that isn't spent is held by one task, once; and where the task of `main` has ended, its value is one of
 /// `main`'s declared type, and no function and no end stands in it.
-#[tactic(auto, using(crate::proofs::Modules::modules_safe))]
 pub fn safety_law()
     ensures { DerivedIsSafe }
+{}
+
+/// What happens from a sound configuration of such a module on is safe in the same way: one in which each task has a type, `main`
+/// that of its declaration, both sides of each channel fit, and no end is lost or held twice.
+pub fn stays_law()
+    ensures { SoundStaysSafe }
 {}
 
 /// Where two different events are possible after a run of a module that has derivations, each stays possible after the other

@@ -7,5 +7,5 @@ mod law;
 mod tasks;
 mod turning;
 
-pub use law::{diamond_law, ends_law, one_end_law, safety_law, send_law, typed_law};
+pub use law::{diamond_law, ends_law, one_end_law, safety_law, send_law, stays_law, typed_law};
 pub use tasks::{LogEntry, Turned, TypedTask};

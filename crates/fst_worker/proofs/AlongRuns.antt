@@ -9,19 +9,19 @@ use Rattle.fst_machine.specs.Machine.{Program}
 use Rattle.fst_runs.specs.declared.event.CoreEvent.{CoreEvent}
 use Rattle.fst_runs.specs.Configs.{Config, program}
 use Rattle.fst_runs.specs.Events.{Write, written, Does, Runs, IsLast}
-use Rattle.fst_runs.specs.Least.{RunsLeast}
 use Rattle.fst_runs.specs.Wrong.{IsRight}
+use Rattle.fst_runs.proofs.LeastRuns.{least_runs}
 use Rattle.fst_process.specs.declared.report.Outcome.{Outcome}
 use Rattle.fst_process.specs.declared.report.Outcome.TheVariants.{Done, OutOfSteps}
 use Rattle.fst_process.specs.declared.report.Report.{Report}
 use Rattle.fst_process.specs.Reports.{IsReport, IsAnswerFrom}
+use Rattle.fst_safety.specs.Safety.{IsSafeAt, StaysSafe}
 use Rattle.fst_safety.specs.WellTyped.{program_in}
 use Rattle.fst_safety.specs.Logs.{Birth}
 use Rattle.fst_safety.specs.Threads.{Thread}
-use Rattle.fst_safety.proofs.Laws.{checked, runs_sound, sound_right}
 use Rattle.fst_worker.specs.Configs.{config_of}
 use Rattle.fst_worker.specs.Records.{FitsRecord}
-use Rattle.fst_worker.specs.Events.{events_of, IsFine, IsRecordOf, ExtendsLaw, RunsFine, RunsLaw, StaysFine, FineLaw, IsRecordAnswer, AnswerLaw}
+use Rattle.fst_worker.specs.Events.{events_of, IsFine, IsRecordOf, ExtendsLaw, RunsFine, RunsLaw, IsRecordAnswer, AnswerLaw}
 use Rattle.fst_worker.proofs.Happening.{happens}
 use Rattle.fst_worker.proofs.Stamping.{stamps}
 
@@ -63,19 +63,13 @@ runs m main ys ks es d early fits few run = many_more m main early (events_of ys
 
 -- ---- answers
 
--- what a sound configuration leads to is fine
-pub sound_fine : FineLaw
-sound_fine m ds h a c s = λ es d r.
-    let k = runs_sound (surroundings m []) (checked m ds h) a es c d s r in
-    record { right = sound_right (surroundings m []) (checked m ds h) a d k; sessions = λ n j i. (k.traces n j i).1 }
+-- what is safe is fine
+safe_fine : (m : Module) (c : Config) → IsSafeAt m c → IsFine (surroundings m []) c
+safe_fine m c s = record { right = s.right; sessions = s.sessions }
 
-runs_fine : (m : Surroundings) (c : Config) (es : List CoreEvent) (d : Config) → StaysFine m c → Runs (program_in m) m.types c es d → RunsFine m c es d
-runs_fine m c [] d stays r = (stays [] c refl, r)
-runs_fine m c (e ∷ es) d stays r = (stays [] c refl, r.0, r.1, runs_fine m (written c r.0) es d (λ fs b k. stays (e ∷ fs) b (r.0, r.1, k)) r.2)
-
-least_runs : (m : Program) (types : List Tree) (c : Config) (es : List CoreEvent) (d : Config) → RunsLeast m types c es d → Runs m types c es d
-least_runs m types c [] d r = r
-least_runs m types c (e ∷ es) d r = (r.0, r.1, least_runs m types (written c r.0) es d r.3)
+runs_fine : (m : Module) (c : Config) (es : List CoreEvent) (d : Config) → StaysSafe m c → Runs (program m) m.types.items c es d → RunsFine (surroundings m []) c es d
+runs_fine m c [] d stays r = (safe_fine m c (stays [] c refl), r)
+runs_fine m c (e ∷ es) d stays r = (safe_fine m c (stays [] c refl), r.0, r.1, runs_fine m (written c r.0) es d (λ fs b k. stays (e ∷ fs) b (r.0, r.1, k)) r.2)
 
 -- the first events of a run
 first_events : (m : Program) (types : List Tree) (n : ℕ) (c : Config) (es : List CoreEvent) (d : Config) → Runs m types c es d → n ≤ length es →
@@ -88,14 +82,15 @@ first_events m types (suc n) c (e ∷ es) d r l =
     (e ∷ k.0, k.1, (r.0, r.1, k.2), omega (arith, is))
 
 module _ (m : Module) (main : Birth) (ys : List Thread) (ks : List ChannelHistory) (steps : ℕ) (early : main.first.clock ≡ 0)
-    (fits : FitsRecord (surroundings m []) main ys ks) (stays : StaysFine (surroundings m []) (config_of ys ks)) (few : steps < 2 ^ 32) where
+    (fits : FitsRecord (surroundings m []) main ys ks) (stays : StaysSafe m (config_of ys ks)) (few : steps < 2 ^ 32) where
   -- a record's configuration in which no event is possible is reported
-  done : (c : Config) (n : ℕ) (r : Report) → IsRecordOf (surroundings m []) main c n → IsLast (program m) m.types.items c → n ≤ steps → IsReport (program m) c n r →
+  done : (c : Config) (n : ℕ) (r : Report) → IsRecordOf (surroundings m []) main c n → IsSafeAt m c → IsLast (program m) m.types.items c → n ≤ steps → IsReport (program m) c n r →
       IsRecordAnswer m main steps (Done r)
-  done c n r k last le report = (
+  done c n r k safe last le report = (
     k.threads,
     k.channels,
     k.fits,
+    subst (IsSafeAt m) (sym k.config) safe,
     subst (IsLast (program m) m.types.items) (sym k.config) last,
     subst (λ l. l ≤ steps) (sym k.events) le,
     subst (λ d. IsReport (program m) d (events_of k.threads k.channels) r) (sym k.config) (subst (λ l. IsReport (program m) c l r) (sym k.events) report),
@@ -108,13 +103,13 @@ module _ (m : Module) (main : Birth) (ys : List Thread) (ks : List ChannelHistor
   -- what a run leads to
   leads : (es : List CoreEvent) (c : Config) → Runs (program m) m.types.items (config_of ys ks) es c → events_of ys ks + length es ≤ 2 ^ 32 →
       IsRecordOf (surroundings m []) main c (events_of ys ks + length es)
-  leads es c r le = runs (surroundings m []) main ys ks es c early fits le (runs_fine (surroundings m []) (config_of ys ks) es c stays r)
+  leads es c r le = runs (surroundings m []) main ys ks es c early fits le (runs_fine m (config_of ys ks) es c stays r)
 
   answers : (o : Outcome) → IsAnswerFrom m (config_of ys ks) (events_of ys ks) steps o → IsRecordAnswer m main steps o
   answers (Done r) a =
       let le = a.4 in
-      done a.1 (events_of ys ks + length a.0) r
-      (leads a.0 a.1 (least_runs (program m) m.types.items (config_of ys ks) a.0 a.1 a.2) (omega (arith, le, few))) a.3 le a.5
+      let run = least_runs (program m) m.types.items (config_of ys ks) a.0 a.1 a.2 in
+      done a.1 (events_of ys ks + length a.0) r (leads a.0 a.1 run (omega (arith, le, few))) (stays a.0 a.1 run) a.3 le a.5
   answers OutOfSteps a = by (suc steps - events_of ys ks) refl
     where
       by : (n : ℕ) → suc steps - events_of ys ks ≡ n → IsRecordAnswer m main steps OutOfSteps

@@ -24,6 +24,7 @@ use Rattle.fst_cell.specs.declared.answers.Closed.{Closed}
 use Rattle.fst_cell.specs.End.{EndView, end_name}
 use Rattle.fst_safety.specs.declared.tasks.LogEntry.{LogEntry}
 use Rattle.fst_safety.specs.declared.tasks.TypedTask.{TypedTask}
+use Rattle.fst_safety.specs.Sound.{SoundStaysSafe}
 use Rattle.fst_safety.specs.Tasks.{module_of}
 use Rattle.fst_safety.specs.Threads.{Thread}
 use Rattle.fst_safety.specs.Turns.{of_ends}
@@ -36,7 +37,7 @@ use Rattle.fst_worker.specs.Ending.{TellsWaiting, AreBare, AreBareOf, AreTellabl
 use Rattle.fst_worker.specs.Events.{alone, events_of, IsWithin, IsRecordAnswer}
 use Rattle.fst_worker.specs.Finishing.{AreRunOf, IsUpTo, alone_in, alone_of, entries_of}
 use Rattle.fst_worker.specs.Shares.{AreKept}
-use Rattle.fst_worker.proofs.AlongRuns.{sound_fine, record_answers}
+use Rattle.fst_worker.proofs.AlongRuns.{record_answers}
 use Rattle.fst_worker.proofs.Ended as ended
 use Rattle.fst_worker.proofs.Ordering.{in_order}
 use Rattle.fst_worker.proofs.Resuming.{resumes}
@@ -247,12 +248,12 @@ module _ (k : Code) (ts : List TypedTask) (cs : List Closed) (us : Tasks) (f : A
       can_run = goes_on.can_run n clocks v kept
 
       -- and what it comes to is the answer
-      pub is_answer : steps < 2 ^ 32 → (o : Outcome) → IsOutcomeFrom k n steps v o → IsRecordAnswer m d.main steps o
-      is_answer below o out =
+      pub is_answer : SoundStaysSafe → steps < 2 ^ 32 → (o : Outcome) → IsOutcomeFrom k n steps v o → IsRecordAnswer m d.main steps o
+      is_answer stays below o out =
           let so = goes_on.goes in
           let w = goes_on.within n clocks in
           let right = so.right [] config refl in
           let from = out m config (kept m n config goes_on.all right w.0 w.1) so.makers so.parents so.right in
           record_answers m d.main told.after hs steps o d.begins fits
-          (sound_fine m d.code.derivations d.code.derived d.type config (joined.sound hs moved)) below
+          (stays m d.code.derivations d.code.derived d.type d.code.main config (joined.sound hs moved)) below
           (subst (λ n. IsAnswerFrom m config n steps o) all from)

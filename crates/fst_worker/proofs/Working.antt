@@ -7,14 +7,14 @@ use Rattle.std.proofs.lemmas.List.Elements.{All-nil, All-cons}
 use Rattle.std.proofs.lemmas.List.Sorted.{All-permutation}
 use Rattle.fst_machine.specs.declared.code.Code.{Code}
 use Rattle.fst_safety.specs.declared.tasks.TypedTask.{TypedTask}
-use Rattle.fst_safety.specs.Tasks.{IsBegun, main_thread, module_of}
+use Rattle.fst_safety.specs.Tasks.{CanBegin, IsBegun, main_thread, module_of}
 use Rattle.fst_safety.specs.Threads.{Thread, FitsIn}
 use Rattle.fst_safety.specs.Turns.{birth}
 use Rattle.fst_worker.specs.declared.shares.Share.{Share}
 use Rattle.fst_worker.specs.Dealing.{IsDealt}
 use Rattle.fst_worker.specs.Finishing.{AreRunOf}
 use Rattle.fst_worker.specs.Shares.{AreKept, CanMove, GoOn, all_tasks}
-use Rattle.fst_worker.specs.Working.{CanWork, AreAtWork}
+use Rattle.fst_worker.specs.Working.{AreAtWork}
 use Rattle.fst_worker.specs.Works.{Went}
 use Rattle.fst_worker.proofs.Chains.{went_moved, went_then, went_beside}
 use Rattle.fst_worker.proofs.Crews.{All-first, AreBoth, kept_length, kept_append, kept_split, kept_swap}
@@ -49,7 +49,7 @@ module _ (k : Code) where
 
 -- ---- from round to round
 
-module _ (k : Code) (d : CanWork k) where
+module _ (k : Code) (d : CanBegin k) where
   -- the task of main is a run by itself
   pub begins : (t : TypedTask) → IsBegun k t → AreAtWork k d (t ∷ [])
   begins t begun =

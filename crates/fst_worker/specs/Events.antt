@@ -1,10 +1,8 @@
 -- What a record of a run becomes where an event of the machine happens, and how many events it has.
 use Rattle.std.specs.Prelude.{◌≡◌, ℕ, suc, ◌+◌, ◌^◌, ◌<◌, ◌≤◌, List, [], ◌∷◌, Some, All, length, sum_by}
-use Rattle.fst_types.specs.Tree.{Tree}
 use Rattle.fst_kinds.specs.WellFormed.{IsSession}
 use Rattle.fst_terms.specs.declared.core_module.Module.{Module}
-use Rattle.fst_derivations.specs.Deriv.{Deriv}
-use Rattle.fst_derivations.specs.Modules.{HasDerivations, surroundings}
+use Rattle.fst_derivations.specs.Modules.{surroundings}
 use Rattle.fst_derivations.specs.Rules.{Surroundings}
 use Rattle.fst_value.specs.declared.ends.ChannelName.{ChannelName}
 use Rattle.fst_value.specs.declared.event.ChannelHistory.{ChannelHistory}
@@ -12,16 +10,16 @@ use Rattle.fst_machine.specs.declared.request.Answer.{Answer}
 use Rattle.fst_machine.specs.declared.request.Answer.TheVariants.{Go, Made, Forked, Sent, Got}
 use Rattle.fst_runs.specs.declared.event.CoreEvent.{CoreEvent}
 use Rattle.fst_runs.specs.Configs.{Channel, Config, program}
-use Rattle.fst_runs.specs.Events.{Write, written, Does, Runs, IsLast}
+use Rattle.fst_runs.specs.Events.{Write, written, Does, IsLast}
 use Rattle.fst_runs.specs.Wrong.{IsRight}
 use Rattle.fst_process.specs.declared.report.Outcome.{Outcome}
 use Rattle.fst_process.specs.declared.report.Outcome.TheVariants.{Done, OutOfSteps}
 use Rattle.fst_process.specs.Reports.{IsReport, IsAnswerFrom}
 use Rattle.fst_process.specs.Resuming.{ChannelsWithin}
 use Rattle.fst_safety.specs.declared.tasks.LogEntry.{LogEntry}
+use Rattle.fst_safety.specs.Safety.{IsSafeAt, StaysSafe}
 use Rattle.fst_safety.specs.WellTyped.{program_in}
 use Rattle.fst_safety.specs.Logs.{Birth}
-use Rattle.fst_safety.specs.Sound.{IsSound}
 use Rattle.fst_safety.specs.Threads.{Thread}
 use Rattle.fst_worker.specs.Configs.{config_of}
 use Rattle.fst_worker.specs.Records.{FitsRecord}
@@ -93,25 +91,16 @@ RunsLaw = (m : Surroundings) (main : Birth) (ys : List Thread) (ks : List Channe
     main.first.clock ≡ 0 → FitsRecord m main ys ks → events_of ys ks + length es ≤ 2 ^ 32 → RunsFine m (config_of ys ks) es d →
     IsRecordOf m main d (events_of ys ks + length es)
 
--- all runs from this configuration lead to fine ones
-abbrev pub StaysFine : Surroundings → Config → Type 0
-StaysFine m c = (es : List CoreEvent) (d : Config) → Runs (program_in m) m.types c es d → IsFine m d
-
--- so it is with a sound one of a module that has derivations
-abbrev pub FineLaw : Type 0
-FineLaw = (m : Module) (ds : List Deriv) → HasDerivations m ds → (a : Tree) (c : Config) → IsSound (surroundings m []) a c →
-    StaysFine (surroundings m []) c
-
--- the report of a record that fits, has at most so many events and allows no other, or that one that fits has more
+-- the report of a record that fits, is safe, has at most so many events and allows no other, or that one that fits has more
 abbrev pub IsRecordAnswer : Module → Birth → ℕ → Outcome → Type 0
 IsRecordAnswer m main steps (Done r) =
-    (ys : List Thread) × (ks : List ChannelHistory) × FitsRecord (surroundings m []) main ys ks × IsLast (program m) m.types.items (config_of ys ks) ×
-    (events_of ys ks ≤ steps) × IsReport (program m) (config_of ys ks) (events_of ys ks) r
+    (ys : List Thread) × (ks : List ChannelHistory) × FitsRecord (surroundings m []) main ys ks × IsSafeAt m (config_of ys ks) ×
+    IsLast (program m) m.types.items (config_of ys ks) × (events_of ys ks ≤ steps) × IsReport (program m) (config_of ys ks) (events_of ys ks) r
 IsRecordAnswer m main steps OutOfSteps =
     (ys : List Thread) × (ks : List ChannelHistory) × FitsRecord (surroundings m []) main ys ks × (steps < events_of ys ks)
 
 -- what the least run from a record's configuration comes to, where its events count among the steps, is such an answer
 abbrev pub AnswerLaw : Type 0
 AnswerLaw = (m : Module) (main : Birth) (ys : List Thread) (ks : List ChannelHistory) (steps : ℕ) (o : Outcome) →
-    main.first.clock ≡ 0 → FitsRecord (surroundings m []) main ys ks → StaysFine (surroundings m []) (config_of ys ks) → steps < 2 ^ 32 →
+    main.first.clock ≡ 0 → FitsRecord (surroundings m []) main ys ks → StaysSafe m (config_of ys ks) → steps < 2 ^ 32 →
     IsAnswerFrom m (config_of ys ks) (events_of ys ks) steps o → IsRecordAnswer m main steps o

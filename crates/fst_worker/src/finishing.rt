@@ -9,7 +9,7 @@ use crate::ending::{strip_all, tell_all};
 use fst_cell::Closed;
 use fst_machine::{Answer, Code};
 use fst_process::{Config, Outcome, run_from};
-use fst_safety::{LogEntry, TypedTask};
+use fst_safety::{LogEntry, TypedTask, stays_law};
 use fst_value::ChannelHistory;
 use std::alloc::{AllocError, Global};
 
@@ -25,6 +25,7 @@ pub(crate) fn finish(
     requires run { AreRunOf code.now tasks.items }
     ensures { IfOk result (IsFinished code.now tasks.items steps) }
 {
+    stays_law();
     let alone = count_alone(tasks.as_slice(), steps);
     let mut ends = Vec::new(alloc);
     let bare = strip_all(alloc, tasks, &mut ends)?;

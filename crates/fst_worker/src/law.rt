@@ -1,4 +1,4 @@
-ghost use Rattle.fst_worker.specs.Events.{AnswerLaw, ExtendsLaw, FineLaw, RunsLaw, StampLaw};
+ghost use Rattle.fst_worker.specs.Events.{AnswerLaw, ExtendsLaw, RunsLaw, StampLaw};
 ghost use Rattle.fst_worker.specs.Laws.{ApartLaw, BeginLaw, EntryLaw, PairLaw, PoolLaw, RecordLaw, WentLaw};
 ghost use Rattle.fst_worker.specs.Configs.{SoundLaw};
 ghost use Rattle.fst_worker.specs.Resumes.{OrderLaw, ResumeLaw, RightLaw, TellLaw};
@@ -88,11 +88,6 @@ pub fn extends_law()
 /// So what a run leads to from the configuration of a record that fits is the configuration of one with as many more events.
 pub fn runs_law()
     ensures { RunsLaw }
-{}
-
-/// All runs of a module that has derivations lead from a sound configuration to those in which nothing is wrong.
-pub fn fine_law()
-    ensures { FineLaw }
 {}
 
 /// What the least run comes to from the configuration of a record that fits, where the record's events count among the steps,

@@ -13,9 +13,9 @@ mod shares;
 mod workers;
 
 pub use law::{
-    answer_law, apart_law, begin_law, entry_law, extends_law, fine_law, order_law, pair_law,
-    pool_law, record_law, resume_law, right_law, runs_law, send_law, sound_law, stamp_law,
-    tell_law, went_law,
+    answer_law, apart_law, begin_law, entry_law, extends_law, order_law, pair_law, pool_law,
+    record_law, resume_law, right_law, runs_law, send_law, sound_law, stamp_law, tell_law,
+    went_law,
 };
 pub use rounds::round;
 pub use shares::Share;

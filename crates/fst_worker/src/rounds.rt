@@ -9,6 +9,7 @@ use crate::shares::Share;
 use fst_io::Gate;
 use fst_machine::Code;
 use std::alloc::AllocError;
+use std::sync::atomic::AtomicU32;
 use std::thread;
 use std::thread::Threads;
 
@@ -16,7 +17,14 @@ use std::thread::Threads;
 const WORKERS: usize = 8;
 
 // Moves the tasks of one share.
-fn work<G: Gate>(code: &Code, share: &mut Share, steps: u64, number: usize, gate: &G)
+fn work<G: Gate>(
+    code: &Code,
+    share: &mut Share,
+    steps: u64,
+    number: usize,
+    busy: &AtomicU32,
+    gate: &G,
+)
     requires fit { CanRun code.now share.old }
     requires steps { steps < 4294967295 }
     ensures { Works code.now steps share.old share.new }
@@ -25,7 +33,7 @@ fn work<G: Gate>(code: &Code, share: &mut Share, steps: u64, number: usize, gate
     gate.enter(number);
     share.moved = false;
     share.refused = false;
-    share.run(code, steps, number, gate);
+    share.run(code, steps, number, busy, gate);
 }
 
 // Moves each share in a worker.
@@ -42,11 +50,12 @@ fn each_works<R: Threads + Sync, G: Gate + Sync>(
     ensures each { (i : ℕ) (d : Shared) → i < length shares.old →
         Works code.now steps (slice_index_or shares.old i d) (slice_index_or shares.new i d) }
 {
+    let busy = AtomicU32::new(u32::try_from(shares.len()).unwrap_or(u32::MAX));
     thread::for_each_mut(
         rt,
         shares,
         WORKERS,
-        &|number, share| work(code, share, steps, number, gate),
+        &|number, share| work(code, share, steps, number, &busy, gate),
     );
 }
 

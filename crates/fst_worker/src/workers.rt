@@ -1,7 +1,8 @@
 //! A run on several workers, from its beginning to its end.
 
 ghost use Rattle.std.specs.Prelude.{◌<◌, ◌++◌, IfOk};
-ghost use Rattle.fst_worker.specs.Working.{CanWork, IsWholeRun, IsWorkedOut};
+ghost use Rattle.fst_safety.specs.Tasks.{CanBegin};
+ghost use Rattle.fst_worker.specs.Working.{IsWholeRun, IsWorkedOut};
 
 use crate::dealing::{deal, gather};
 use crate::finishing::finish;
@@ -18,9 +19,9 @@ use std::thread::Threads;
 const ROUNDS: u64 = u64::MAX;
 
 /// What becomes of the run of a module that has derivations, on so many workers. Before each round the tasks left are dealt out:
-/// the k-th in the order of their paths, counted from 0, goes to the share k modulo the number of workers. The rounds end where
-/// the events or the clock of a task exceed the steps, and where a round moves no task and one with a single share moves none
-/// either. The run is then finished on the machine.
+/// the k-th in the order of their paths, counted from 0, goes to the share k modulo the number of workers; from the third on a
+/// share that would be empty isn't opened. The rounds end where the events or the clock of a task exceed the steps, and where a
+/// round moves no task and one with a single share moves none either. The run is then finished on the machine.
 ///
 /// The answer is the report of a record that fits the module, has at most so many events and allows no other, or that a record
 /// that fits has more events. Where memory is wanting, the tasks are dropped.
@@ -34,7 +35,7 @@ pub fn run_workers<R: Threads + Sync, G: Gate + Sync>(
 ) -> Result<Outcome, AllocError>
     requires few { steps < 4294967295 }
     requires workers { 0 < workers }
-    requires right { CanWork code.now }
+    requires right { CanBegin code.now }
     ensures { IfOk result (IsWorkedOut code.now steps) }
 {
     let tasks = all_rounds(rt, alloc, code, steps, workers as usize, gate)?;
@@ -52,7 +53,7 @@ fn all_rounds<R: Threads + Sync, G: Gate + Sync>(
 ) -> Result<Vec<TypedTask>, AllocError>
     requires few { steps < 4294967295 }
     requires workers { 0 < workers }
-    requires right { CanWork code.now }
+    requires right { CanBegin code.now }
     ensures { IfOk result (λ ts. IsWholeRun code.now ts.items) }
 {
     let mut tasks = Vec::new(alloc);
@@ -61,7 +62,11 @@ fn all_rounds<R: Threads + Sync, G: Gate + Sync>(
     let mut events: u64 = 0;
     let mut single = false;
     for _ in 0..ROUNDS {
-        let count = if single { 1 } else { workers };
+        let count = if single {
+            1
+        } else {
+            share_count(workers, tasks.len())
+        };
         let made = one_round(rt, alloc, code, tasks, &mut ended, count, steps, gate)?;
         tasks = made.tasks;
         events = events.saturating_add(made.events);
@@ -72,6 +77,17 @@ fn all_rounds<R: Threads + Sync, G: Gate + Sync>(
     }
     tasks.append(&mut ended)?;
     Ok(tasks)
+}
+
+// How many shares so many tasks are dealt out to: as many as there are workers, but from the third on none that would be empty.
+fn share_count(workers: usize, tasks: usize) -> usize
+    requires { 0 < workers }
+    ensures { 0 < result }
+{
+    if workers <= 2 || tasks >= workers {
+        return workers;
+    }
+    if tasks > 2 { tasks } else { 2 }
 }
 
 // What a round comes to: the tasks left, in the order of their paths, how many events there were, whether the clock of a task
@@ -97,7 +113,7 @@ fn one_round<R: Threads + Sync, G: Gate + Sync>(
 ) -> Result<Round, AllocError>
     requires few { steps < 4294967295 }
     requires count { 0 < count }
-    requires right { CanWork code.now }
+    requires right { CanBegin code.now }
     requires run { IsWholeRun code.now (tasks.items ++ ended.old.items) }
     ensures { IfOk result (λ r. IsWholeRun code.now (r.tasks.items ++ ended.new.items)) }
 {

@@ -1,6 +1,12 @@
+use Rattle.std.proofs.Common.{map}
+use Rattle.std.specs.Prelude.{string_bytes}
 use Rattle.fst_options.specs.Views.{command_of}
+use Rattle.fst_options.proofs.Laws.{within}
 use Rattle.fst_command.proofs.Runs.{read_whole, read_over}
 use Rattle.fst_command.proofs.run.answer.Goals as goal
+
+pub answer_command-requires-clause-within : goal.answer_command-requires-clause-within
+answer_command-requires-clause-within g c κs inside = within (map string_bytes c.args.words.now) (command_of c.in-Some.command) c.in-Some.ensures
 
 pub returns-in_ok-answer_command-in-Ok-clause-answered : goal.returns-in_ok-answer_command-in-Ok-clause-answered
 returns-in_ok-answer_command-in-Ok-clause-answered g c =

@@ -1,13 +1,13 @@
 use Rattle.fst_command.proofs.run.answer_command.Goals as goal
 
 pub returns-in-Equiv-clause-text : goal.returns-in-Equiv-clause-text
-returns-in-Equiv-clause-text c = rw c.in-Equiv.is c.answer_equiv.ensures.text
+returns-in-Equiv-clause-text g c = rw c.in-Equiv.is c.answer_equiv.ensures.text
 
 pub returns-in-Show-clause-text : goal.returns-in-Show-clause-text
-returns-in-Show-clause-text c = rw c.in-Show.is c.answer_show.ensures.text
+returns-in-Show-clause-text g c = rw c.in-Show.is c.answer_show.ensures.text
 
 pub returns-in-Check-clause-text : goal.returns-in-Check-clause-text
-returns-in-Check-clause-text c = rw c.in-Check.is c.answer_check.ensures.text
+returns-in-Check-clause-text g c = rw c.in-Check.is c.answer_check.ensures.text
 
 pub returns-in-Run-clause-text : goal.returns-in-Run-clause-text
-returns-in-Run-clause-text c = rw c.in-Run.is c.answer_run.ensures.text
+returns-in-Run-clause-text g c = rw c.in-Run.is c.answer_run.ensures.text

@@ -1,6 +1,6 @@
 use Rattle.std.proofs.Common.{map}
 use Rattle.std.specs.Prelude.{string_bytes}
-use Rattle.fst_options.specs.Views.{setting_of}
+use Rattle.fst_options.specs.Words.{setting_of}
 use Rattle.fst_options.proofs.WordLaws.{no_option, some_words_left}
 use Rattle.fst_options.proofs.words.option.Goals as goal
 

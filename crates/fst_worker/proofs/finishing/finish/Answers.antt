@@ -74,6 +74,6 @@ returns c =
     let v = kept_of c.in_ok-config.config in
     let kept = subst (λ hs. IsResumed k us hs v) c.in_ok-channels.ensures c.in_ok-config.ensures.resumed in
     IfOk-weaker c.run_from.result (IsOutcomeFrom k c.in_ok-config.config.events c.args.steps v) (IsFinished k ts c.args.steps)
-    (λ o out d. is_answer k ts cs us f d c.args.steps c.count_entries-events.result n c.if-events-steps.false v kept (omega (arith, c.requires.few)) o
+    (λ o out d. is_answer k ts cs us f d c.args.steps c.count_entries-events.result n c.if-events-steps.false v kept c.stays_law.ensures (omega (arith, c.requires.few)) o
     (subst (λ e. IsOutcomeFrom k e c.args.steps v o) c.in_ok-config.ensures.events out))
     c.run_from.ensures

@@ -14,18 +14,8 @@ loop-i-preserved g c = record {
   room = c.visit-walk.ensures.room;
 }
 
-pub returns-then-walk : goal.returns-then-walk
-returns-then-walk g c =
-    let e = c.loop-i.self.tasks.ok.0 in
-    let len = c.loop-i.invariant.len in
-    let n = c.len-i-end.ensures in
-    let hi = c.loop-i.auto.i-end in
-    let t = c.loop-i-test.false in
-    pass_ends c.args.code.now c.args.steps c.loop-i.walk.kept c.loop-i.i c.loop-i.walk.halted c.args.self.now c.loop-i.self c.retire.new.self c.loop-i.invariant.kept (omega (arith, e, len, n, hi, t))
-    c.loop-i.invariant.passes c.retire.ensures.retires c.retire.ensures.same
-
-pub returns-else-walk : goal.returns-else-walk
-returns-else-walk g c =
+pub returns : goal.returns
+returns g c =
     let e = c.loop-i.self.tasks.ok.0 in
     let len = c.loop-i.invariant.len in
     let n = c.len-i-end.ensures in

@@ -1,5 +1,0 @@
-use Rattle.fst_cell_trials.specs.Relay.{Same}
-use Rattle.fst_cell_trials.proofs.threads.get.Given as goal
-
-abbrev pub invariant-loop-tried : goal.invariant-loop-tried
-invariant-loop-tried l = Same l.fn.end l.end

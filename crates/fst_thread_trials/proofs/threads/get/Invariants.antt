@@ -1,0 +1,5 @@
+use Rattle.fst_thread_trials.specs.Relay.{Same}
+use Rattle.fst_thread_trials.proofs.threads.get.Given as goal
+
+abbrev pub invariant-loop-tried : goal.invariant-loop-tried
+invariant-loop-tried l = Same l.fn.end l.end
