@@ -28,7 +28,7 @@ pub struct Config {
     tasks: BTreeMap<Vec<u32>, Slot>,
     channels: BTreeMap<Vec<u32>, Vec<Channel>>,
     ready: BTreeSet<Vec<u32>>,
-    // how many events had happened where it began
+    // how many events have happened
     pub(crate) events: u64,
 }
 
@@ -80,15 +80,16 @@ impl Config {
         }
     }
 
-    /// The report after so many events.
-    pub(crate) fn report(self, events: u64) -> Result<Report, AllocError>
+    /// The report of what has happened.
+    pub(crate) fn report(self) -> Result<Report, AllocError>
         requires { ∥ IsConfig (kept_of self) ∥₁ }
-        ensures { IfOk result (IsReported (kept_of self) events) }
+        ensures { IfOk result (IsReported (kept_of self) self.events) }
     {
         let Config {
             alloc,
             mut tasks,
             channels,
+            events,
             ..
         } = self;
         let waiting = waiting_tasks(alloc, &tasks)?;

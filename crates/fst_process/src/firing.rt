@@ -1,4 +1,4 @@
-ghost use Rattle.std.specs.Prelude.{OnOk};
+ghost use Rattle.std.specs.Prelude.{◌≡◌, ◌<◌, suc, OnOk};
 ghost use Rattle.fst_process.specs.KeptOf.{kept_of};
 ghost use Rattle.fst_process.specs.Firing.{IsPossible, Happens};
 
@@ -10,8 +10,21 @@ use fst_value::{ChannelName, Path};
 use std::alloc::AllocError;
 
 impl Config {
-    /// Makes an event happen. Where memory is wanting, the configuration isn't one any more.
+    /// Makes an event happen, which is counted. Where memory is wanting, the configuration isn't one any more.
     pub fn fire(&mut self, code: &Code, event: &CoreEvent) -> Result<(), AllocError>
+        requires possible { ∥ IsPossible code.now (kept_of self.old) event.now ∥₁ }
+        requires few { self.old.events < 4294967295 }
+        ensures happens { OnOk result (Happens code.now (kept_of self.old) event.now (kept_of self.new)) }
+        ensures counted { OnOk result (self.new.events ≡ suc self.old.events) }
+    {
+        let events = self.events + 1;
+        self.go(code, event)?;
+        self.events = events;
+        Ok(())
+    }
+
+    // Makes an event happen, which isn't counted.
+    fn go(&mut self, code: &Code, event: &CoreEvent) -> Result<(), AllocError>
         requires { ∥ IsPossible code.now (kept_of self.old) event.now ∥₁ }
         ensures { OnOk result (Happens code.now (kept_of self.old) event.now (kept_of self.new)) }
     {

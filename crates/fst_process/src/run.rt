@@ -26,16 +26,14 @@ pub fn run_from(mut config: Config, code: &Code, steps: u64) -> Result<Outcome, 
     requires right { ∥ CanRunFrom code.now config.events (kept_of config) ∥₁ }
     ensures { IfOk result (IsOutcomeFrom code.now config.events steps (kept_of config)) }
 {
-    let mut count = config.events;
-    while count <= steps {
+    while config.events <= steps {
         match config.next()? {
             Some(event) => config.fire(code, &event)?,
             None => {
-                let report = config.report(count)?;
+                let report = config.report()?;
                 return Ok(Outcome::Done(report));
             }
         }
-        count += 1;
     }
     Ok(Outcome::OutOfSteps)
 }

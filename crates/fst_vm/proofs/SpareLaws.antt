@@ -1,7 +1,7 @@
 -- How code goes on after what was received, with the spare pair.
-use Rattle.std.proofs.Common.{◌≡◌, ◌∙◌, ◌<◌, ℕ, Option, Some, None, option_map, List, [], ◌∷◌, length, drop, refl, sym, ap, arith}
+use Rattle.std.proofs.Common.{◌≡◌, ◌∙◌, ◌<◌, ℕ, Some, None, option_map, List, [], ◌∷◌, length, drop, refl, sym, ap, arith}
 use Rattle.std.proofs.lemmas.Option.{none-some, same_Some}
-use Rattle.fst_value.specs.ValueTree.{ValueTree, int, bool, char, unit, pair, make, function, end}
+use Rattle.fst_value.specs.ValueTree.{ValueTree, unit, pair, end}
 use Rattle.fst_value.specs.declared.ends.EndName.{EndName}
 use Rattle.fst_value.specs.declared.event.Event.{Event}
 use Rattle.fst_value.specs.declared.event.Event.TheVariants as event

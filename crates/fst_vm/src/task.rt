@@ -88,16 +88,31 @@ impl Task {
         &self.path
     }
 
-    /// What the task asks for next. Where memory is wanting, it is in the state in which it was.
+    // Runs on to where something is asked for. Where it stands there already, it is as ready as it was.
+    fn run_on(&mut self, code: &Code) -> Result<(), AllocError>
+        requires { ∥ HasNext code.now self.old ∥₁ }
+        ensures stays { Stays code.now self.old self.new }
+        ensures rests { OnOk result (IsAtRest code.now self.new) }
+        ensures kept { IsAtRest code.now self.old → self.new.ready ≡ self.old.ready }
+    {
+        let moved = self.running.step(self.alloc, code)?;
+        if moved {
+            self.ready = false;
+            self.running.run_on(self.alloc, code)?;
+        }
+        Ok(())
+    }
+
+    /// What the task asks for next, the same where this was asked before. Where memory is wanting, it is in the state in which
+    /// it was.
     pub fn advance(&mut self, code: &Code) -> Result<Request, AllocError>
         requires { ∥ HasNext code.now self.old ∥₁ }
         ensures stays { Stays code.now self.old self.new }
         ensures asked { IfOk result (AsksFor code.now self.old) }
         ensures rests { OnOk result (IsAtRest code.now self.new) }
-        ensures unready { self.new.ready ≡ false }
+        ensures kept { IsAtRest code.now self.old → self.new.ready ≡ self.old.ready }
     {
-        self.ready = false;
-        self.running.run_on(self.alloc, code)?;
+        self.run_on(code)?;
         let request = request_at(self.alloc, code, &self.running)?;
         Ok(request.unwrap())
     }

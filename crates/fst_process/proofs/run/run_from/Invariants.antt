@@ -3,8 +3,8 @@ use Rattle.fst_process.specs.KeptOf.{kept_of}
 use Rattle.fst_process.proofs.Running.{IsKept}
 use Rattle.fst_process.proofs.run.run_from.Given as goal
 
-abbrev pub invariant-loop-count : goal.invariant-loop-count
-invariant-loop-count l = IsKept l.code l.fn.config.events (kept_of l.fn.config) l.count (kept_of l.config)
+abbrev pub invariant-loop-config : goal.invariant-loop-config
+invariant-loop-config l = IsKept l.code l.fn.config.events (kept_of l.fn.config) l.config.events (kept_of l.config)
 
-abbrev pub decreases-loop-count : goal.decreases-loop-count
-decreases-loop-count l = l.steps + 1 - l.count
+abbrev pub decreases-loop-config : goal.decreases-loop-config
+decreases-loop-config l = l.steps + 1 - l.config.events

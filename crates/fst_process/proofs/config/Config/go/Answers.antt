@@ -1,7 +1,7 @@
 use Rattle.std.proofs.Common.{OnOk, sym, subst}
 use Rattle.fst_process.specs.KeptOf.{kept_of}
 use Rattle.fst_process.specs.Firing.{Happens}
-use Rattle.fst_process.proofs.config.Config.fire.Goals as goal
+use Rattle.fst_process.proofs.config.Config.go.Goals as goal
 
 pub returns-in-Local : goal.returns-in-Local
 returns-in-Local c =
