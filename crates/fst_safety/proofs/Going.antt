@@ -1,7 +1,6 @@
 -- Threads stay typed, whatever they are told.
-use Rattle.std.proofs.Common.{◌≡◌, ◌∙◌, ◌<◌, ◌≤◌, ℕ, ◌+◌, List, [], ◌∷◌, ◌++◌, length, Bool, true, false, Option, Some, None, refl, sym, ap, subst, arith}
+use Rattle.std.proofs.Common.{◌≡◌, ◌∙◌, ◌<◌, ℕ, ◌+◌, List, [], ◌∷◌, ◌++◌, Bool, true, false, Option, Some, None, refl, sym, ap, subst, arith}
 use Rattle.std.specs.Prelude.{sum_by, is_some, option_and_then}
-use Rattle.std.proofs.lemmas.List.{length_push}
 use Rattle.std.proofs.lemmas.List.Elements.{All-nil, All-cons, All-head}
 use Rattle.std.proofs.lemmas.List.Sorted.{All-permutation}
 use Rattle.std.proofs.lemmas.List.Sums.{sum_by_push}
@@ -26,9 +25,10 @@ use Rattle.fst_safety.specs.declared.tasks.LogEntry.{LogEntry}
 use Rattle.fst_safety.specs.Fitting.{Residuals, IsTyped}
 use Rattle.fst_safety.specs.WellTyped.{IsWellTyped, program_in}
 use Rattle.fst_safety.specs.Logs.{Exchange, Enters, after_entry, part_in, parts_in, then_after, shown}
-use Rattle.fst_safety.specs.Threads.{Thread, FitsIn, FitsEnd}
+use Rattle.fst_safety.specs.Threads.{Thread, FitsIn, FitsEnd, IsPast}
 use Rattle.fst_safety.specs.Turns.{by_exchanges}
 use Rattle.fst_safety.specs.Going.{GoesOnTo, IsMoved, with_entry, StayTyped, StepsOn, Opens, ForksOn, Tries, Sends, Receives}
+use Rattle.fst_safety.proofs.Pasts.{rise_more}
 use Rattle.fst_safety.proofs.Checked.{checked}
 use Rattle.fst_safety.proofs.Settles.{pause_goes}
 use Rattle.fst_safety.proofs.SoundLaws.{allowed_right}
@@ -117,8 +117,8 @@ module _ (m : Surroundings) (well : IsWellTyped m) (a : Tree) (x : Thread) (fits
       let P = λ (e : EndView). fits.typed.residuals (end_name e) ≡ residual_of e.knows in
       All-head P e moved.rest (All-permutation P x.bag (e ∷ moved.rest) moved.before fits.typed.are.known)
 
-  short : length f.knows.history ≤ taken.stamp
-  short = let l = length_push e.knows.history taken in let q = e_fits.short in omega (arith, l, q, late)
+  past : IsPast taken.stamp f
+  past = rise_more 0 e.knows.history x.now.clock taken e_fits.past late
 
   module _ (asks : machine.request m.families x.now.state ≡ Some (request.Put n taken.event)) (told : answered (program_in m) x.now.state Sent ≡ Some s) (sent : taken.sent ≡ x.now.clock) where
     abbrev g : LogEntry
@@ -143,18 +143,18 @@ module _ (m : Surroundings) (well : IsWellTyped m) (a : Tree) (x : Thread) (fits
 
     pub sent_on : GoesOnTo m a x (with_entry m x (request.Put n taken.event) Sent taken.stamp bag retired) []
     sent_on =
-        let once = held_once m a x fits g enters n e f bag retired moved refl refl allowed.0 allowed.1 was is refl short refl refl in
-        let goes = λ (t : Tree) (q q' : Residuals) (h : Exchanges m a x fits g enters n e f bag retired moved refl refl allowed.0 allowed.1 was is refl short refl refl q q') (ty : IsTyped m q x.now.state t).
+        let once = held_once m a x fits g enters n e f bag retired moved refl refl allowed.0 allowed.1 was is refl past refl refl in
+        let goes = λ (t : Tree) (q q' : Residuals) (h : Exchanges m a x fits g enters n e f bag retired moved refl refl allowed.0 allowed.1 was is refl past refl refl q q') (ty : IsTyped m q x.now.state t).
         sent_typed m well n taken.event allowed.0 allowed.1 x.now.state (after_entry (program_in m) x.now g).state t once q q'
         (record { before = h.before; later = h.later; others = h.others }) allowed.3 ty asks there in
-        let first = exchanged_residuals m a x fits g enters n e f bag retired moved refl refl allowed.0 allowed.1 was is refl short refl refl in
+        let first = exchanged_residuals m a x fits g enters n e f bag retired moved refl refl allowed.0 allowed.1 was is refl past refl refl in
         let holds = λ (z : EndName) (c : held_state z x.now.state ≡ 0).
         sent_holds m well n taken.event allowed.0 allowed.1 x.now.state (after_entry (program_in m) x.now g).state fits.typed.type once fits.typed.residuals _
         (record { before = first.before; later = first.later; others = first.others }) allowed.3 fits.typed.typed asks there z c in
         record {
-          fits = exchanged_fits m a x fits g enters n e f bag retired moved refl refl allowed.0 allowed.1 was is refl short refl refl goes holds;
+          fits = exchanged_fits m a x fits g enters n e f bag retired moved refl refl allowed.0 allowed.1 was is refl past refl refl goes holds;
           new_fit = All-nil (FitsIn m a);
-          turn = exchanged_turn m a x fits g enters n e f bag retired moved refl refl allowed.0 allowed.1 was is refl short refl refl goes holds refl refl refl refl refl refl
+          turn = exchanged_turn m a x fits g enters n e f bag retired moved refl refl allowed.0 allowed.1 was is refl past refl refl goes holds refl refl refl refl refl refl
               (λ w.
               let p = longer_shown w e k taken true (ap (λ o. sends o taken.event) was ∙ sends_it allowed.0 allowed.1 taken.event allowed.3) in
               let q : w (part_in n true taken) ≡ w (record { end = n; sends = true; event = taken.event; stamp = taken.stamp; clock = x.now.clock }) =
@@ -181,18 +181,18 @@ module _ (m : Surroundings) (well : IsWellTyped m) (a : Tree) (x : Thread) (fits
 
     pub got_on : GoesOnTo m a x (with_entry m x (request.Get n) (Got taken.event) taken.stamp bag retired) []
     got_on =
-        let once = held_once m a x fits taking enters_taking n e f bag retired moved refl refl by.0 by.1 by.2 is_then refl short refl refl in
-        let goes = λ (t : Tree) (q q' : Residuals) (h : Exchanges m a x fits taking enters_taking n e f bag retired moved refl refl by.0 by.1 by.2 is_then refl short refl refl q q') (ty : IsTyped m q x.now.state t).
+        let once = held_once m a x fits taking enters_taking n e f bag retired moved refl refl by.0 by.1 by.2 is_then refl past refl refl in
+        let goes = λ (t : Tree) (q q' : Residuals) (h : Exchanges m a x fits taking enters_taking n e f bag retired moved refl refl by.0 by.1 by.2 is_then refl past refl refl q q') (ty : IsTyped m q x.now.state t).
         got_typed m well n taken.event by.0 by.1 x.now.state (after_entry (program_in m) x.now taking).state t once q q'
         (record { before = h.before; later = h.later; others = h.others }) by.3 ty asks there_taking in
-        let first = exchanged_residuals m a x fits taking enters_taking n e f bag retired moved refl refl by.0 by.1 by.2 is_then refl short refl refl in
+        let first = exchanged_residuals m a x fits taking enters_taking n e f bag retired moved refl refl by.0 by.1 by.2 is_then refl past refl refl in
         let holds = λ (z : EndName) (c : held_state z x.now.state ≡ 0).
         got_holds m well n taken.event by.0 by.1 x.now.state (after_entry (program_in m) x.now taking).state fits.typed.type once fits.typed.residuals _
         (record { before = first.before; later = first.later; others = first.others }) by.3 fits.typed.typed asks there_taking z c in
         record {
-          fits = exchanged_fits m a x fits taking enters_taking n e f bag retired moved refl refl by.0 by.1 by.2 is_then refl short refl refl goes holds;
+          fits = exchanged_fits m a x fits taking enters_taking n e f bag retired moved refl refl by.0 by.1 by.2 is_then refl past refl refl goes holds;
           new_fit = All-nil (FitsIn m a);
-          turn = exchanged_turn m a x fits taking enters_taking n e f bag retired moved refl refl by.0 by.1 by.2 is_then refl short refl refl goes holds refl refl refl refl refl refl
+          turn = exchanged_turn m a x fits taking enters_taking n e f bag retired moved refl refl by.0 by.1 by.2 is_then refl past refl refl goes holds refl refl refl refl refl refl
               (λ w.
               let p = longer_shown w e k taken false (ap (λ o. sends o taken.event) by.2 ∙ sends_not by.0 by.1 taken.event by.3) in
               let q : w (part_in n false taken) ≡ w (record { end = n; sends = false; event = taken.event; stamp = taken.stamp; clock = x.now.clock }) =

@@ -35,6 +35,7 @@ pub mod OneWrite
 pub mod Operators
 pub mod Orders
 pub mod Owners
+pub mod Pasts
 pub mod Places
 pub mod PutLaws
 pub mod Runs

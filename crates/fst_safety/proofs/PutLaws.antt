@@ -14,7 +14,7 @@ use Rattle.fst_runs.specs.Configs.{Task}
 use Rattle.fst_runs.specs.Wrong.{held_state, IsUnspent}
 use Rattle.fst_cell.specs.End.{EndView, end_name, residual_of}
 use Rattle.fst_safety.specs.Fitting.{Residuals, IsTyped}
-use Rattle.fst_safety.specs.Threads.{count_of, FitsEnd, IsOpen, IsSpent, AreResiduals}
+use Rattle.fst_safety.specs.Threads.{count_of, FitsEnd, IsOpen, IsPast, IsSpent, AreResiduals}
 use Rattle.fst_safety.specs.Bags.{IsPutBack, put_by}
 use Rattle.fst_safety.proofs.BagLaws.{counted, with_at, at_itself, at_other, are_more}
 use Rattle.fst_safety.proofs.StillLaws.{unchanged, typed_still}
@@ -41,6 +41,7 @@ pub record HasPut (f : EndView) (t : Tree) (bag0 ret0 bag1 ret1 : List EndView) 
   pub sums : (w : EndView → ℕ) → sum_by w bag1 + sum_by w ret1 ≡ (sum_by w bag0 + sum_by w ret0) + w f
   pub unspent : All IsOpen bag0 → All IsOpen bag1
   pub spent : f.knows.offer ≡ None → All IsSpent ret0 → All IsSpent ret1
+  pub past : (n : ℕ) → IsPast n f → All (IsPast n) ret0 → All (IsPast n) ret1
   pub ends : (m : Surroundings) (u : Task) → FitsEnd m u f → All (FitsEnd m u) bag0 → All (FitsEnd m u) bag1
   pub more : List EndView
   pub kept : ret1 ≡ ret0 ++ more
@@ -75,6 +76,7 @@ has_put f t is bag0 ret0 bag1 ret1 p = pick (terminated p.0) refl p.2
       sums = λ w. let a = ap (sum_by w) h.0 in let b = ap (sum_by w) h.1 ∙ sum_by_push w ret0 f in omega (arith, a, b);
       unspent = λ o. subst (All IsOpen) (sym h.0) o;
       spent = λ i s. subst (All IsSpent) (sym h.1) (All-push IsSpent ret0 f s (record { residual = t; is = is; done = ap terminated (sym same) ∙ e; idle = i }));
+      past = λ n one rest. subst (All (IsPast n)) (sym h.1) (All-push (IsPast n) ret0 f rest one);
       ends = λ m u one rest. subst (All (FitsEnd m u)) (sym h.0) rest;
       more = f ∷ [];
       kept = h.1;
@@ -85,6 +87,7 @@ has_put f t is bag0 ret0 bag1 ret1 p = pick (terminated p.0) refl p.2
       sums = λ w. let a = ap (sum_by w) h.0 ∙ sum_by_push w bag0 f in let b = ap (sum_by w) h.1 in omega (arith, a, b);
       unspent = λ o. subst (All IsOpen) (sym h.0) (All-push IsOpen bag0 f o (record { residual = t; is = is; left = ap terminated (sym same) ∙ e }));
       spent = λ i s. subst (All IsSpent) (sym h.1) s;
+      past = λ n one rest. subst (All (IsPast n)) (sym h.1) rest;
       ends = λ m u one rest. subst (All (FitsEnd m u)) (sym h.0) (All-push (FitsEnd m u) bag0 f rest one);
       more = [];
       kept = h.1 ∙ sym (append-nil ret0);

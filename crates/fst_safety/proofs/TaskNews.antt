@@ -1,6 +1,7 @@
 -- What a channel and a fork come to, for each thread that the task was.
 use Rattle.std.proofs.Common.{◌≡◌, ◌∙◌, ◌<◌, ◌≤◌, ℕ, zero, suc, ◌+◌, List, [], ◌∷◌, ◌++◌, Bool, true, false, Some, Ok, Contains, refl, sym, ap, subst, arith}
 use Rattle.std.specs.Prelude.{IsPermutation, slice_get}
+use Rattle.std.proofs.lemmas.List.{length_push}
 use Rattle.fst_types.specs.Tree.{Tree}
 use Rattle.fst_types.specs.declared.side.Side.TheVariants.{Left, Right}
 use Rattle.fst_kinds.specs.WellFormed.{IsSession}
@@ -29,7 +30,7 @@ use Rattle.fst_safety.specs.Pauses.{Allowed}
 use Rattle.fst_safety.specs.Threads.{Thread, count_of}
 use Rattle.fst_safety.specs.Going.{GoesOnTo, with_entry}
 use Rattle.fst_safety.specs.Bags.{IsPutBack, put_by, AreParted}
-use Rattle.fst_safety.specs.Tasks.{Fits, AsksNow, AreNew, IsDeclarable, HasGoneOn, HasTurned, module_of}
+use Rattle.fst_safety.specs.Tasks.{Fits, AsksNow, AreNew, IsDeclarable, HasGoneOn, HasTurned, module_of, offers, tries_at}
 use Rattle.fst_safety.proofs.Checked.{checked}
 use Rattle.fst_safety.proofs.ForkLaws.{fork_parts}
 use Rattle.fst_safety.proofs.Going.{stay_typed}
@@ -37,7 +38,7 @@ use Rattle.fst_safety.proofs.Keeping.{its_pause, asks_it, alive_in, takes_it, ke
 use Rattle.fst_safety.proofs.Settles.{pause_goes}
 use Rattle.fst_safety.proofs.SlotEnds.{slots_ends}
 use Rattle.fst_safety.proofs.ThreadOpenings.{left_residual, right_residual}
-use Rattle.fst_safety.proofs.Tries.{made_tries, parted_tries}
+use Rattle.fst_safety.proofs.Tries.{made_sum, parted_sum}
 use Rattle.fst_safety.proofs.Told.{told_made, told_forked}
 
 -- ---- a channel
@@ -130,7 +131,11 @@ module _ (k : Code) (t : TypedTask) (j : ℕ) (now : AsksNow k t (request.New j)
         new = [];
         goes = g;
         keeps = keeps_it k a t x f (request.New j) (Made h) stamp v.bag.items v.retired.items [] told.0 u v told.1 g on' task made clock log refl refl;
-        tries = λ z. let b = made_tries z x l r bag1 ret1 v.bag.items v.retired.items ql' qr in omega (arith, b);
+        done =
+            let b = made_sum offers x l r bag1 ret1 v.bag.items v.retired.items ql' qr in
+            let n = length_push x.log (record { asked = request.New j; answer = Made h; stamp = stamp }) in
+            omega (arith, b, n);
+        tries = λ z. let b = made_sum (tries_at z) x l r bag1 ret1 v.bag.items v.retired.items ql' qr in omega (arith, b);
         answers = (record { entry = record { asked = request.New j; answer = Made h; stamp = stamp }; is = refl }, refl);
       }
 
@@ -211,12 +216,15 @@ module _ (k : Code) (t : TypedTask) (now : AsksNow k t request.Fork) (few : t.cl
       retired = [];
     }
 
+    own : IsPermutation x.bag (v.bag.items ++ theirs)
+    own = subst (λ es. IsPermutation es (v.bag.items ++ theirs)) f.keeps.bag p.all
+
     fork_goes : GoesOnTo (module_of k) a x (with_entry (module_of k) x request.Fork Told stamp v.bag.items x.retired) (begun stamp ∷ [])
     fork_goes =
         let late : suc x.now.clock ≡ stamp = let c = f.keeps.clock in omega (arith, c, next) in
         subst (λ n. GoesOnTo (module_of k) a x (with_entry (module_of k) x request.Fork Told n v.bag.items x.retired) (begun n ∷ [])) late
         (stay_typed.forks k.module.value f.code.derivations f.code.derived a x f.fits b told_fork.1 names v.bag.items theirs asks_fork told_fork.2 told_fork.3
-        (subst (λ es. IsPermutation es (v.bag.items ++ theirs)) f.keeps.bag p.all) p.gone p.moved they_are)
+        own p.gone p.moved they_are)
 
     pub fork_turned : (c : TypedTask) → c.task ≡ w → c.made ≡ 0 → c.clock ≡ stamp → c.log.items ≡ [] → c.bag.items ≡ theirs → c.retired.items ≡ [] → HasTurned k a (Ok (Forked c)) v x
     fork_turned c its_task none at_start no_log its_bag none_spent = record {
@@ -224,10 +232,11 @@ module _ (k : Code) (t : TypedTask) (now : AsksNow k t request.Fork) (few : t.cl
       new = begun stamp ∷ [];
       goes = fork_goes;
       keeps = keeps_it k a t x f request.Fork Told stamp v.bag.items x.retired (begun stamp ∷ []) told_fork.1 u v told_fork.3 fork_goes on task (made ∙ on.made) clock log refl (retired ∙ f.keeps.retired);
-      tries = λ z.
-          let own = subst (λ es. IsPermutation es (v.bag.items ++ theirs)) f.keeps.bag p.all in
-          let b = parted_tries z x v.bag.items theirs own in
-          omega (arith, b);
+      done =
+          let b = parted_sum offers x v.bag.items theirs own in
+          let n = length_push x.log (record { asked = request.Fork; answer = Told; stamp = stamp }) in
+          omega (arith, b, n);
+      tries = λ z. let b = parted_sum (tries_at z) x v.bag.items theirs own in omega (arith, b);
       answers = (
         begun stamp,
         record { entry = record { asked = request.Fork; answer = Told; stamp = stamp }; is = refl },

@@ -12,7 +12,7 @@ use Rattle.fst_cell.specs.End.{EndView, end_name, residual_of}
 use Rattle.fst_safety.specs.declared.tasks.TypedTask.{TypedTask}
 use Rattle.fst_safety.specs.Running.{HasType}
 use Rattle.fst_safety.specs.Fitting.{Residuals, IsTyped}
-use Rattle.fst_safety.specs.Threads.{FitsIn, FitsEnd, IsOpen, IsSpent}
+use Rattle.fst_safety.specs.Threads.{FitsIn, FitsEnd, IsOpen, IsSpent, IsPast}
 use Rattle.fst_safety.specs.Tasks.{IsBegun, main_thread, module_of}
 use Rattle.fst_safety.proofs.Closed.{closed_by}
 use Rattle.fst_safety.proofs.Equals.{equals_itself}
@@ -52,6 +52,7 @@ begun_fits m a e p h = record {
   named = λ y n. absurd (omega (arith, n));
   ends = All-nil (FitsEnd m (main_thread e).now);
   spent = All-nil IsSpent;
+  past = All-nil (IsPast 0);
   opened = refl;
   made = omega arith;
   forked = omega arith;

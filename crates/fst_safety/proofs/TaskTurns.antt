@@ -2,6 +2,7 @@
 use Rattle.std.proofs.Common.{◌≡◌, ◌∙◌, ◌≤◌, ◌⊎◌, inl, inr, ◌<◌, ℕ, ◌+◌, suc, List, [], ◌∷◌, ◌++◌, true, Some, None, Ok, Err, refl, sym, ap, subst, arith}
 use Rattle.std.specs.Prelude.{sum_by, IsPermutation, is_some, slice_index_or}
 use Rattle.std.specs.declared.alloc.AllocError.{AllocError}
+use Rattle.std.proofs.lemmas.List.{length_push}
 use Rattle.fst_types.specs.Tree.{Tree}
 use Rattle.fst_lts.specs.Step.{step}
 use Rattle.fst_lts.specs.Histories.{sending}
@@ -10,6 +11,7 @@ use Rattle.fst_value.specs.declared.event.Event.{Event}
 use Rattle.fst_machine.specs.declared.code.Code.{Code}
 use Rattle.fst_machine.specs.declared.request.Request.{Request}
 use Rattle.fst_machine.specs.declared.request.Request.TheVariants as request
+use Rattle.fst_machine.specs.declared.request.Answer.{Answer}
 use Rattle.fst_machine.specs.declared.request.Answer.TheVariants.{Go, Sent, Got}
 use Rattle.fst_machine.specs.Machine.{State, pause}
 use Rattle.fst_machine.specs.Machine as machine
@@ -18,7 +20,7 @@ use Rattle.fst_machine.specs.Spots.{inner, asked_at}
 use Rattle.fst_vm.specs.Running.{code_of}
 use Rattle.fst_vm.specs.TaskView.{TaskView}
 use Rattle.fst_vm.specs.Tasks.{IsIn, IsAtRest, AsksFor, Takes, Stays}
-use Rattle.fst_runs.specs.Wrong.{end_of}
+use Rattle.fst_runs.specs.Wrong.{end_of, once}
 use Rattle.fst_cell.specs.declared.content.Half.{Half}
 use Rattle.fst_cell.specs.declared.content.Offer.{Offer}
 use Rattle.fst_cell.specs.Answers.{FoundHeld, FoundNothing, FoundStanding, IsOffered, IsTaken, IsNoticed, end_with, longer, offered, entry}
@@ -31,18 +33,19 @@ use Rattle.fst_safety.specs.Threads.{Thread, FitsEnd, Waits, count_of}
 use Rattle.fst_safety.specs.Turns.{of_ends}
 use Rattle.fst_safety.specs.Going.{GoesOnTo, IsMoved, with_entry}
 use Rattle.fst_safety.specs.Bags.{IsPlaced, IsPutBack, IsChanged, IsPassed, MayOffer, MayTake}
-use Rattle.fst_safety.specs.Tasks.{Keeps, Fits, CanTurn, AsksNow, IsSame, HasGoneOn, HasTurned, TakesTurn, FoundNoWay, HasTried, tries_at, module_of}
+use Rattle.fst_safety.specs.Tasks.{Keeps, Fits, CanTurn, AsksNow, IsSame, HasGoneOn, HasTurned, TakesTurn, FoundNoWay, HasTried, offers, tries_at, work, module_of}
 use Rattle.fst_safety.proofs.Going.{stay_typed}
 use Rattle.fst_safety.proofs.Keeping.{stays, stands_in, not_stuck, same_keeps, same_fits, asks_alike, asks_it, allowed, fits_there, known_there, alive_in, takes_it, keeps_it, advanced_fits}
+use Rattle.fst_safety.proofs.Pasts.{rise_short}
 use Rattle.fst_safety.proofs.Told.{told_go, told_sent, told_got}
-use Rattle.fst_safety.proofs.Tries.{tried_more, changed_tries, passed_tries}
+use Rattle.fst_safety.proofs.Tries.{tried_more, changed_sum, passed_sum, one_offer}
 use Rattle.fst_safety.proofs.Typed.{some_same}
 
 -- ---- nothing has happened
 
 -- where memory was wanting the task is as it was
 pub refused : (k : Code) (t u : TypedTask) (e : AllocError) → IsSame t u → TakesTurn k t (Err e) u
-refused k t u e s a x f = record { after = x; new = []; goes = stays (module_of k) a x f.fits; keeps = same_keeps k t u x s f.keeps; tries = λ z. omega arith; answers = (refl, refl, refl) }
+refused k t u e s a x f = record { after = x; new = []; goes = stays (module_of k) a x f.fits; keeps = same_keeps k t u x s f.keeps; done = omega arith; tries = λ z. omega arith; answers = (refl, refl, refl) }
 
 -- a turn from a task that is the same but for room
 pub roomed : (k : Code) (t u v : TypedTask) (r : _) → IsSame t u → TakesTurn k u r v → TakesTurn k t r v
@@ -73,6 +76,7 @@ module _ (k : Code) (t : TypedTask) (now : AsksNow k t request.Step) where
       new = [];
       goes = goes;
       keeps = keeps_it k a t x f request.Step Go stamp x.bag x.retired [] told.0 u u told.1 goes on refl on.made refl refl (bag ∙ f.keeps.bag) (retired ∙ f.keeps.retired);
+      done = let n = length_push x.log (record { asked = request.Step; answer = Go; stamp = stamp }) in omega (arith, n);
       tries = λ z. omega arith;
       answers = (record { entry = record { asked = request.Step; answer = Go; stamp = stamp }; is = refl }, refl);
     }
@@ -131,13 +135,22 @@ module _ (k : Code) (a : Tree) (t u : TypedTask) (x : Thread) (f : Fits k a t x)
   tries_up v is side more z =
       let name : end_name c.after ≡ end_name c.before = ap end_name is ∙ ap (λ s. record { channel = c.before.channel; side = s }) side in
       let count : c.after.knows.tries ≡ v.tries = ap (λ (e : EndView). e.knows.tries) is in
-      let a = changed_tries z x c.before c.after c.rest was (tried_more z c.before c.after name (omega (arith, count, more))) in
-      omega (arith, a)
+      let a = changed_sum (tries_at z) x c.before c.after c.rest was in
+      let up = tried_more z c.before c.after name (omega (arith, count, more)) in
+      omega (arith, a, up)
+
+  -- what was offered there before and after
+  work_as : (m n : ℕ) → offers c.before ≡ m → offers c.after ≡ n → work moved + m ≡ work x + n
+  work_as m n p q = let a = changed_sum offers x c.before c.after c.rest was in omega (arith, a, p, q)
+
+  -- what stands offered is the same
+  same_work : offers c.after ≡ offers c.before → work moved + 0 ≡ work x
+  same_work p = let a = work_as (offers c.before) (offers c.before) refl p in omega (arith, a)
 
   -- an end that has tried fits as before
   try_fits : (w : ℕ) → FitsEnd (module_of k) x.now (end_with c.before (tried c.before.knows w))
   try_fits w = record {
-    short = fits_before.short;
+    past = fits_before.past;
     waits = λ o q. let h = fits_before.waits o q in record { asks = h.asks; clock = h.clock; sends = h.sends };
   }
 
@@ -151,6 +164,7 @@ module _ (k : Code) (a : Tree) (t u : TypedTask) (x : Thread) (f : Fits k a t x)
     new = [];
     goes = try_goes is;
     keeps = tried_keeps;
+    done = same_work (ap offers is);
     tries = tries_up (tried c.before.knows c.after.knows.found) is refl (omega arith);
     answers = (record { asked = q; asks = asks; at = at; before = c.before; after = c.after; tried = has_tried; found = found }, refl);
   }
@@ -161,17 +175,18 @@ module _ (k : Code) (a : Tree) (t u : TypedTask) (x : Thread) (f : Fits k a t x)
     new = [];
     goes = try_goes is;
     keeps = tried_keeps;
+    done = same_work (ap offers is);
     tries = tries_up (tried c.before.knows c.after.knows.found) is refl (omega arith);
     answers = (refl, refl, refl);
   }
 
-  pub offered_turned : (ev : Event) → machine.request (module_of k).families x.now.state ≡ Some (request.Put n ev) → sends (residual_of c.before.knows) ev ≡ true →
-      IsOffered c.before ev t.clock c.after → HasTurned k a (Ok Offered) u x
-  offered_turned ev asks may by =
+  pub offered_turned : (ev : Event) → machine.request (module_of k).families x.now.state ≡ Some (request.Put n ev) → c.before.knows.offer ≡ None →
+      sends (residual_of c.before.knows) ev ≡ true → IsOffered c.before ev t.clock c.after → HasTurned k a (Ok Offered) u x
+  offered_turned ev asks idle may by =
       let o : Offer = record { event = ev; clock = t.clock } in
       let v : Half = offered c.before.knows c.after.knows.found o in
       let fit : FitsEnd (module_of k) x.now (end_with c.before v) = record {
-        short = fits_before.short;
+        past = fits_before.past;
         waits = λ p q.
             let is : o ≡ p = some_same q in
             record {
@@ -185,6 +200,7 @@ module _ (k : Code) (a : Tree) (t u : TypedTask) (x : Thread) (f : Fits k a t x)
         new = [];
         goes = tried_goes v by.now refl refl refl fit;
         keeps = tried_keeps;
+        done = let a = work_as 0 1 (ap (λ o. once (is_some o)) idle) (ap offers by.now) in omega (arith, a);
         tries = tries_up v by.now refl (omega arith);
         answers = (
           record {
@@ -207,6 +223,7 @@ module _ (k : Code) (a : Tree) (t u : TypedTask) (x : Thread) (f : Fits k a t x)
     new = [];
     goes = tried_goes c.before.knows is refl refl refl fits_before;
     keeps = tried_keeps;
+    done = same_work (ap offers is);
     tries = tries_up c.before.knows is refl (omega arith);
     answers = (refl, refl, refl);
   }
@@ -219,7 +236,7 @@ pub may_offer : (k : Code) (a : Tree) (t : TypedTask) (x : Thread) (f : Fits k a
 may_offer k a t x f n ev i now placed few d idle =
     let ok = allowed k.module.value f.code.derivations f.code.derived a x f.fits (request.Put n ev) (asks_it k a t x f (request.Put n ev) now) in
     let is = sym (known_there k a t x f n i placed d) ∙ ok.2 in
-    let short = (fits_there k a t x f n i placed d).short in
+    let short = rise_short 0 (slice_index_or t.bag.items i d).knows.history x.now.clock (fits_there k a t x f n i placed d).past in
     let clock = f.keeps.clock in
     record {
       idle = idle;
@@ -234,7 +251,7 @@ unfolding asks
 may_take k a t x f n i now placed few d =
     let ok = allowed k.module.value f.code.derivations f.code.derived a x f.fits (request.Get n) (asks_it k a t x f (request.Get n) now) in
     let is = sym (known_there k a t x f n i placed d) ∙ ok.3 in
-    let short = (fits_there k a t x f n i placed d).short in
+    let short = rise_short 0 (slice_index_or t.bag.items i d).knows.history x.now.clock (fits_there k a t x f n i placed d).past in
     let clock = f.keeps.clock in
     record { asks = (ok.0, ok.1, ok.2, is, ok.4, ok.5); few = omega (arith, short, clock, few) }
 
@@ -263,8 +280,17 @@ module _ (k : Code) (t : TypedTask) (n : EndName) (i : ℕ) (placed : IsPlaced n
         let p = is_moved v is in
         let up = tried_more z c.before c.after name (omega (arith, count, more)) in
         let same : tries_at z c.after ≡ tries_at z (end_with c.before v) = ap (tries_at z) is in
-        let a = passed_tries z x c.before (end_with c.before v) p.rest bag retired p.before p.put (omega (arith, up, same)) in
-        omega (arith, a)
+        let a = passed_sum (tries_at z) x c.before (end_with c.before v) p.rest bag retired p.before p.put in
+        omega (arith, a, up, same)
+
+    -- its offer, where there was one, doesn't stand any more
+    exchange_work : (v : Half) → c.after ≡ end_with c.before v → v.offer ≡ None → (q : Request) (r : Answer) (stamp : ℕ) → work x < work (with_entry (module_of k) x q r stamp bag retired) + 0
+    exchange_work v is none q r stamp =
+        let p = is_moved v is in
+        let a = passed_sum offers x c.before (end_with c.before v) p.rest bag retired p.before p.put in
+        let b = one_offer c.before in
+        let n = length_push x.log (record { asked = q; answer = r; stamp = stamp }) in
+        omega (arith, a, b, n)
 
     -- the offer was taken
     module _ (ev : Event) (stamp : ℕ) (now : AsksNow k t (request.Put n ev)) (by : IsNoticed c.before stamp c.after) where
@@ -295,6 +321,7 @@ module _ (k : Code) (t : TypedTask) (n : EndName) (i : ℕ) (placed : IsPlaced n
         new = [];
         goes = sent_goes;
         keeps = keeps_it k a t x f (request.Put n ev) Sent stamp bag retired [] told_it.0 u u told_it.1 sent_goes on refl on.made refl refl bag_is retired_is;
+        done = exchange_work (longer c.before.knows c.after.knows.found by.taken) by.now refl (request.Put n ev) Sent stamp;
         tries = exchange_tries (longer c.before.knows c.after.knows.found by.taken) by.now refl (omega arith);
         answers = (record { entry = record { asked = request.Put n ev; answer = Sent; stamp = stamp }; is = refl }, refl);
       }
@@ -326,6 +353,7 @@ module _ (k : Code) (t : TypedTask) (n : EndName) (i : ℕ) (placed : IsPlaced n
         new = [];
         goes = got_goes;
         keeps = keeps_it k a t x f (request.Get n) (Got ev) stamp bag retired [] told_event.0 u u told_event.1 got_goes on refl on.made refl refl bag_is retired_is;
+        done = exchange_work (longer c.before.knows c.after.knows.found (entry ev stamp by.sent t.clock)) by.now refl (request.Get n) (Got ev) stamp;
         tries = exchange_tries (longer c.before.knows c.after.knows.found (entry ev stamp by.sent t.clock)) by.now refl (omega arith);
         answers = (record { entry = record { asked = request.Get n; answer = Got ev; stamp = stamp }; is = refl }, refl);
       }
@@ -386,6 +414,7 @@ advance_refused k t v e s a x f = record {
   new = [];
   goes = stays (module_of k) a x f.fits;
   keeps = (advanced_fits k a t (record t { task = v }) x s refl refl refl refl refl f).keeps;
+  done = omega arith;
   tries = λ z. omega arith;
   answers = (refl, refl, refl);
 }
@@ -402,4 +431,4 @@ asks_still k t v q c s asks rests =
 
 -- and where that is nothing its value is there
 pub ended_turned : (k : Code) (t : TypedTask) → AsksNow k t request.Ended → TakesTurn k t (Ok Ended) t
-ended_turned k t now a x f = record { after = x; new = []; goes = stays (module_of k) a x f.fits; keeps = f.keeps; tries = λ z. omega arith; answers = (asks_it k a t x f request.Ended now, refl, refl) }
+ended_turned k t now a x f = record { after = x; new = []; goes = stays (module_of k) a x f.fits; keeps = f.keeps; done = omega arith; tries = λ z. omega arith; answers = (asks_it k a t x f request.Ended now, refl, refl) }

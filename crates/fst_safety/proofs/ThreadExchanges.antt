@@ -1,5 +1,5 @@
 -- A thread that exchanges an event on one of its ends.
-use Rattle.std.proofs.Common.{◌≡◌, ◌∙◌, ◌⊎◌, inl, inr, ◌<◌, ◌≤◌, ℕ, zero, suc, ◌+◌, List, [], ◌∷◌, ◌++◌, length, Some, None, refl, sym, ap, arith}
+use Rattle.std.proofs.Common.{◌≡◌, ◌∙◌, ◌⊎◌, inl, inr, ◌<◌, ℕ, zero, suc, ◌+◌, List, [], ◌∷◌, ◌++◌, Some, None, refl, sym, ap, arith}
 use Rattle.std.specs.Prelude.{sum_by, All}
 use Rattle.std.proofs.lemmas.List.Elements.{All-nil, All-head, All-tail}
 use Rattle.std.proofs.lemmas.List.Sorted.{All-permutation, sum_by-IsPermutation}
@@ -17,17 +17,18 @@ use Rattle.fst_safety.specs.Fitting.{Residuals, IsTyped}
 use Rattle.fst_safety.specs.Pauses.{Goes}
 use Rattle.fst_safety.specs.WellTyped.{program_in}
 use Rattle.fst_safety.specs.Logs.{Exchange, Opening, Enters, after_entry, made_after, births, exchanges, openings}
-use Rattle.fst_safety.specs.Threads.{Thread, FitsIn, FitsEnd, IsOpen, AreResiduals, count_of}
+use Rattle.fst_safety.specs.Threads.{Thread, FitsIn, FitsEnd, IsOpen, IsPast, AreResiduals, count_of}
 use Rattle.fst_safety.specs.Turns.{Turn, AreKnownSpent, of_ends, on_side, by_type, by_cell, by_exchanges}
 use Rattle.fst_safety.specs.Going.{IsMoved}
 use Rattle.fst_safety.proofs.BagLaws.{counted, count_first, counted_so, or_not, with_at, at_itself, at_other, are_permuted, are_less, unspent_in}
+use Rattle.fst_safety.proofs.Pasts.{later_past}
 use Rattle.fst_safety.proofs.PutLaws.{HasPut, WentTo, has_put, rested, rested_typed, rested_unspent}
 use Rattle.fst_safety.proofs.ThreadLaws.{follows_more, later, few_made, few_forks, idle_end, later_ends, opened_more, none_opened}
 use Rattle.fst_safety.proofs.Typed.{some_same}
 
 module _ (m : Surroundings) (a : Tree) (x : Thread) (fits : FitsIn m a x) (g : LogEntry) (enters : Enters (program_in m) x.path x.now g) (n : EndName) (e f : EndView)
     (bag retired : List EndView) (moved : IsMoved x e f bag retired) (ne : end_name e ≡ n) (nf : end_name f ≡ n) (nw nx : Tree) (was : residual_of e.knows ≡ Some nw)
-    (is : residual_of f.knows ≡ Some nx) (idle : f.knows.offer ≡ None) (short : length f.knows.history ≤ g.stamp) (same_made : made_after g.answer x.now.made ≡ x.now.made)
+    (is : residual_of f.knows ≡ Some nx) (idle : f.knows.offer ≡ None) (past : IsPast g.stamp f) (same_made : made_after g.answer x.now.made ≡ x.now.made)
     (at : end_of g.asked ≡ Some n) where
   abbrev now' : Task
   now' = after_entry (program_in m) x.now g
@@ -105,7 +106,7 @@ module _ (m : Surroundings) (a : Tree) (x : Thread) (fits : FitsIn m a x) (g : L
       omega (arith, k, z, rest_none)))
 
   f_later : FitsEnd m now' f
-  f_later = record { short = short; waits = λ o q. absurd (none_offer (sym idle ∙ q)) }
+  f_later = record { past = past; waits = λ o q. absurd (none_offer (sym idle ∙ q)) }
     where
       none_offer : {o : Offer} → None ≡ Some o → ⊥
       none_offer q = absurd (cc q)
@@ -210,6 +211,7 @@ module _ (m : Surroundings) (a : Tree) (x : Thread) (fits : FitsIn m a x) (g : L
       named = λ z k. let h = fits.named z (held_before z k) in record { behind = h.behind; leads = h.leads; own = λ q. let c = h.own q in omega (arith, c, same_made) };
       ends = put.ends m now' f_later rest_later;
       spent = put.spent idle fits.spent;
+      past = put.past g.stamp past (later_past x.now.clock g.stamp (omega (arith, clock_later)) x.retired fits.past);
       opened =
           let o = fits.opened in
           let c = none_opened m.types g.asked g.answer x.now.made same_made in

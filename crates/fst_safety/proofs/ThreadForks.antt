@@ -24,12 +24,13 @@ use Rattle.fst_safety.specs.Running.{Equals}
 use Rattle.fst_safety.specs.Fitting.{Residuals}
 use Rattle.fst_safety.specs.WellTyped.{IsWellTyped, program_in}
 use Rattle.fst_safety.specs.Logs.{Birth, Enters, after_entry, birth_of}
-use Rattle.fst_safety.specs.Threads.{Thread, FitsIn, FitsEnd, IsOpen, IsSpent, AreResiduals, IsNamedBelow, count_of}
+use Rattle.fst_safety.specs.Threads.{Thread, FitsIn, FitsEnd, IsOpen, IsSpent, AreResiduals, IsNamedBelow, count_of, IsPast}
 use Rattle.fst_safety.specs.Turns.{Turn, AreKnownSpent, of_ends, birth, by_type, by_cell, by_exchanges}
 use Rattle.fst_safety.proofs.BagLaws.{counted, count_first, counts_itself, stands_there, there, unspent_in}
 use Rattle.fst_safety.proofs.ForkLaws.{Parts, fork_parts}
 use Rattle.fst_safety.proofs.Settles.{pause_goes}
 use Rattle.fst_safety.proofs.StillLaws.{Still, typed_still}
+use Rattle.fst_safety.proofs.Pasts.{later_past}
 use Rattle.fst_safety.proofs.ThreadLaws.{follows_more, opened_more}
 use Rattle.fst_safety.proofs.ThreadMaking.{fork_holds}
 use Rattle.fst_safety.proofs.ThreadTurns.{later_all}
@@ -233,6 +234,7 @@ module _ (m : Surroundings) (well : IsWellTyped m) (a : Tree) (x : Thread) (fits
     named = λ z k. fits.named z (mine_before z k);
     ends = (parted (FitsEnd m forked_on.now) (ends_later forked_on.now (omega arith))).0;
     spent = fits.spent;
+    past = later_past x.now.clock forked_on.now.clock (omega arith) x.retired fits.past;
     opened = opened_more m.types x.log entry x.now.made forked_on.now.made fits.opened (omega arith);
     made = let c = fits.made in omega (arith, c);
     forked = let c = fits.forked in omega (arith, c);
@@ -268,6 +270,7 @@ module _ (m : Surroundings) (well : IsWellTyped m) (a : Tree) (x : Thread) (fits
     named = child_named;
     ends = (parted (FitsEnd m begun.now) (ends_later begun.now (omega arith))).1;
     spent = All-nil IsSpent;
+    past = All-nil (IsPast begun.now.clock);
     opened = refl;
     made = omega arith;
     forked = omega arith;

@@ -18,6 +18,7 @@ use Rattle.fst_cell.specs.End.{EndView, end_name}
 use Rattle.fst_safety.specs.declared.tasks.LogEntry.{LogEntry}
 use Rattle.fst_safety.specs.Logs.{Enters, Follows, IsAnswered, Opening, after_entry, made_after, forks_after, opened_by, openings}
 use Rattle.fst_safety.specs.Threads.{FitsEnd, count_of}
+use Rattle.fst_safety.proofs.Pasts.{rise_later}
 use Rattle.fst_safety.proofs.BagLaws.{counted, count_first, counted_so}
 
 -- ---- logs
@@ -117,7 +118,7 @@ idle_end m t e f h = go e.knows.offer refl
 
 -- one that doesn't wait fits each later state
 pub later_end : (m : Surroundings) (t u : Task) (e : EndView) → t.clock ≤ u.clock → e.knows.offer ≡ None → FitsEnd m t e → FitsEnd m u e
-later_end m t u e le idle f = record { short = let s = f.short in omega (arith, s, le); waits = λ o q. absurd (none_or_some (sym idle ∙ q)) }
+later_end m t u e le idle f = record { past = rise_later 0 e.knows.history t.clock u.clock le f.past; waits = λ o q. absurd (none_or_some (sym idle ∙ q)) }
 
 -- so it is with all of some ends
 pub later_ends : (m : Surroundings) (t u : Task) → t.clock ≤ u.clock → (es : List EndView) → All (FitsEnd m t) es →

@@ -29,6 +29,7 @@ use Rattle.fst_safety.specs.Threads.{Thread, FitsIn, FitsEnd, AreResiduals, IsNa
 use Rattle.fst_safety.specs.Turns.{Turn, AreKnownSpent, on_side, by_type, by_cell, by_exchanges}
 use Rattle.fst_safety.specs.Bags.{IsPutBack}
 use Rattle.fst_safety.proofs.BagLaws.{counted, counted_so, or_not, with_at, at_itself, at_other, unspent_in}
+use Rattle.fst_safety.proofs.Pasts.{later_past}
 use Rattle.fst_safety.proofs.PutLaws.{HasPut, WentTo, has_put, rested, rested_typed, rested_unspent}
 use Rattle.fst_safety.proofs.ThreadLaws.{follows_more, opened_more}
 use Rattle.fst_safety.proofs.ThreadMaking.{HasOpened, end_at, sides_differ, own_ends, other_ends, made_typed, made_holds}
@@ -303,7 +304,7 @@ module _ (m : Surroundings) (well : IsWellTyped m) (a : Tree) (x : Thread) (fits
       go (inr (inr n)) = let a = (counts_1 z).1 in let b = (counts_2 z).1 in inr (held_before z n.0 n.1 g, omega (arith, a, b, c))
 
   fresh_end : (e : EndView) (b : Side) → e ≡ record { cell = cell; channel = h; knows = fresh b d } → FitsEnd m made_on.now e
-  fresh_end e b i = subst (FitsEnd m made_on.now) (sym i) (record { short = omega arith; waits = λ o q. absurd (cc q) })
+  fresh_end e b i = subst (FitsEnd m made_on.now) (sym i) (record { past = omega arith; waits = λ o q. absurd (cc q) })
 
   idle_end : (e : EndView) (b : Side) → e ≡ record { cell = cell; channel = h; knows = fresh b d } → e.knows.offer ≡ None
   idle_end e b i = ap (λ (e : EndView). e.knows.offer) i
@@ -320,6 +321,8 @@ module _ (m : Surroundings) (well : IsWellTyped m) (a : Tree) (x : Thread) (fits
     ends = p2.ends m made_on.now (fresh_end r Right r_is)
         (p1.ends m made_on.now (fresh_end l Left l_is) (later_all m a x fits made_on.now (omega arith) (request.New k) asks (λ z ev q. absurd (cc q))));
     spent = p2.spent (idle_end r Right r_is) (p1.spent (idle_end l Left l_is) fits.spent);
+    past = p2.past made_on.now.clock (fresh_end r Right r_is).past
+        (p1.past made_on.now.clock (fresh_end l Left l_is).past (later_past x.now.clock made_on.now.clock (omega arith) x.retired fits.past));
     opened = opened_more m.types x.log entry x.now.made made_on.now.made fits.opened
         (let c = ap (λ o. length (opening_of h o)) is in omega (arith, c));
     made = let c = fits.made in omega (arith, c);

@@ -29,6 +29,7 @@ use Rattle.fst_safety.specs.Logs.{Enters, after_entry, parts_in}
 use Rattle.fst_safety.specs.Threads.{Thread, FitsIn, FitsEnd, IsOpen, count_of}
 use Rattle.fst_safety.specs.Turns.{Turn, AreKnownSpent, on_side, by_type, by_cell, by_exchanges}
 use Rattle.fst_safety.proofs.BagLaws.{counted, unspent_in}
+use Rattle.fst_safety.proofs.Pasts.{later_past}
 use Rattle.fst_safety.proofs.ThreadLaws.{follows_more, idle_end, later_ends, opened_more}
 use Rattle.fst_safety.proofs.ThreadTyping.{stepped, step_holds}
 use Rattle.fst_safety.proofs.Typed.{some_same}
@@ -106,6 +107,7 @@ module _ (m : Surroundings) (a : Tree) (x : Thread) (fits : FitsIn m a x) (e : E
     named = fits.named;
     ends = all_so (FitsEnd m x.now) fits.ends (λ k. fit);
     spent = fits.spent;
+    past = fits.past;
     opened = fits.opened;
     made = fits.made;
     forked = fits.forked;
@@ -173,6 +175,7 @@ module _ (m : Surroundings) (well : IsWellTyped m) (a : Tree) (x : Thread) (fits
     named = λ z k. fits.named z (held_before z k);
     ends = later_all m a x fits stepped_on.now (omega arith) request.Step asks (λ z ev q. absurd (cc q));
     spent = fits.spent;
+    past = later_past x.now.clock stepped_on.now.clock (omega arith) x.retired fits.past;
     opened = opened_more m.types x.log entry x.now.made stepped_on.now.made fits.opened (omega arith);
     made = let d = fits.made in omega (arith, d);
     forked = let d = fits.forked in omega (arith, d);

@@ -1,16 +1,17 @@
--- How often the ends of a thread have tried never falls.
+-- What the ends of a thread weigh when one changes, two come in or some go; and that one which has tried hasn't tried less.
 use Rattle.std.proofs.Common.{◌≡◌, ◌∙◌, ◌≤◌, ℕ, ◌+◌, List, [], ◌∷◌, ◌++◌, Bool, true, false, refl, ap, arith}
-use Rattle.std.specs.Prelude.{sum_by, IsPermutation, if◌then◌else◌}
+use Rattle.std.specs.Prelude.{sum_by, IsPermutation, if◌then◌else◌, is_some}
 use Rattle.std.proofs.lemmas.List.Sorted.{sum_by-IsPermutation}
 use Rattle.std.proofs.lemmas.List.Sums.{sum_by-append, sum_by-cons, sum_by_push}
 use Rattle.fst_lts.specs.Step.{terminated}
 use Rattle.fst_value.specs.declared.ends.EndName.{EndName}
 use Rattle.fst_runs.specs.Configs.{same_end}
+use Rattle.fst_runs.specs.Wrong.{once}
 use Rattle.fst_cell.specs.End.{EndView, end_name}
 use Rattle.fst_safety.specs.Threads.{Thread}
 use Rattle.fst_safety.specs.Turns.{of_ends}
 use Rattle.fst_safety.specs.Bags.{put_by, IsPutBack}
-use Rattle.fst_safety.specs.Tasks.{tries_at}
+use Rattle.fst_safety.specs.Tasks.{offers, tries_at}
 
 -- an end that has the same name and has tried more
 pub tried_more : (z : EndName) (e f : EndView) → end_name f ≡ end_name e → e.knows.tries ≤ f.knows.tries → tries_at z e ≤ tries_at z f
@@ -35,36 +36,44 @@ put_sum w e es spent bag retired p = go (terminated p.0) p.2
     go true q = let a = ap (sum_by w) q.0 in let b = ap (sum_by w) q.1 in let c = sum_by_push w spent e in omega (arith, a, b, c)
     go false q = let a = ap (sum_by w) q.0 in let b = ap (sum_by w) q.1 in let c = sum_by_push w es e in omega (arith, a, b, c)
 
--- an end of a thread stands last among the open ones now, and has tried more
-pub changed_tries : (z : EndName) (x : Thread) (e f : EndView) (rest : List EndView) → IsPermutation x.bag (e ∷ rest) → tries_at z e ≤ tries_at z f →
-    of_ends (tries_at z) x ≤ of_ends (tries_at z) (record x { bag = rest ++ f ∷ [] })
-changed_tries z x e f rest was more =
-    let a = sum_by-IsPermutation (tries_at z) x.bag (e ∷ rest) was in
-    let b = sum_by-cons (tries_at z) e rest in
-    let c = sum_by_push (tries_at z) rest f in
-    omega (arith, a, b, c, more)
+-- an end of a thread has changed, and stands last among the open ones now
+pub changed_sum : (w : EndView → ℕ) (x : Thread) (e f : EndView) (rest : List EndView) → IsPermutation x.bag (e ∷ rest) →
+    of_ends w (record x { bag = rest ++ f ∷ [] }) + w e ≡ of_ends w x + w f
+changed_sum w x e f rest was =
+    let a = sum_by-IsPermutation w x.bag (e ∷ rest) was in
+    let b = sum_by-cons w e rest in
+    let c = sum_by_push w rest f in
+    omega (arith, a, b, c)
 
 -- or it is put where it belongs
-pub passed_tries : (z : EndName) (x : Thread) (e f : EndView) (rest bag retired : List EndView) → IsPermutation x.bag (e ∷ rest) → IsPutBack f rest x.retired bag retired →
-    tries_at z e ≤ tries_at z f → of_ends (tries_at z) x ≤ sum_by (tries_at z) bag + sum_by (tries_at z) retired
-passed_tries z x e f rest bag retired was put more =
-    let a = sum_by-IsPermutation (tries_at z) x.bag (e ∷ rest) was in
-    let b = sum_by-cons (tries_at z) e rest in
-    let c = put_sum (tries_at z) f rest x.retired bag retired put in
-    omega (arith, a, b, c, more)
+pub passed_sum : (w : EndView → ℕ) (x : Thread) (e f : EndView) (rest bag retired : List EndView) → IsPermutation x.bag (e ∷ rest) → IsPutBack f rest x.retired bag retired →
+    (sum_by w bag + sum_by w retired) + w e ≡ of_ends w x + w f
+passed_sum w x e f rest bag retired was put =
+    let a = sum_by-IsPermutation w x.bag (e ∷ rest) was in
+    let b = sum_by-cons w e rest in
+    let c = put_sum w f rest x.retired bag retired put in
+    omega (arith, a, b, c)
 
 -- two ends come in
-pub made_tries : (z : EndName) (x : Thread) (l r : EndView) (bag1 ret1 bag retired : List EndView) → IsPutBack l x.bag x.retired bag1 ret1 → IsPutBack r bag1 ret1 bag retired →
-    of_ends (tries_at z) x ≤ sum_by (tries_at z) bag + sum_by (tries_at z) retired
-made_tries z x l r bag1 ret1 bag retired pl pr =
-    let a = put_sum (tries_at z) l x.bag x.retired bag1 ret1 pl in
-    let b = put_sum (tries_at z) r bag1 ret1 bag retired pr in
+pub made_sum : (w : EndView → ℕ) (x : Thread) (l r : EndView) (bag1 ret1 bag retired : List EndView) → IsPutBack l x.bag x.retired bag1 ret1 → IsPutBack r bag1 ret1 bag retired →
+    sum_by w bag + sum_by w retired ≡ (of_ends w x + w l) + w r
+made_sum w x l r bag1 ret1 bag retired pl pr =
+    let a = put_sum w l x.bag x.retired bag1 ret1 pl in
+    let b = put_sum w r bag1 ret1 bag retired pr in
     omega (arith, a, b)
 
 -- some ends go to another thread
-pub parted_tries : (z : EndName) (x : Thread) (mine theirs : List EndView) → IsPermutation x.bag (mine ++ theirs) →
-    of_ends (tries_at z) x ≤ (sum_by (tries_at z) mine + sum_by (tries_at z) x.retired) + sum_by (tries_at z) theirs
-parted_tries z x mine theirs all =
-    let a = sum_by-IsPermutation (tries_at z) x.bag (mine ++ theirs) all in
-    let b = sum_by-append (tries_at z) mine theirs in
+pub parted_sum : (w : EndView → ℕ) (x : Thread) (mine theirs : List EndView) → IsPermutation x.bag (mine ++ theirs) →
+    (sum_by w mine + sum_by w x.retired) + sum_by w theirs ≡ of_ends w x
+parted_sum w x mine theirs all =
+    let a = sum_by-IsPermutation w x.bag (mine ++ theirs) all in
+    let b = sum_by-append w mine theirs in
     omega (arith, a, b)
+
+-- an end offers one event at most
+pub one_offer : (e : EndView) → offers e ≤ 1
+one_offer e = go (is_some e.knows.offer)
+  where
+    go : (b : Bool) → once b ≤ 1
+    go true = omega arith
+    go false = omega arith

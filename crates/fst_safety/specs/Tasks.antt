@@ -1,5 +1,5 @@
 -- Tasks with their ends as the machine keeps them, and what a turn answers.
-use Rattle.std.specs.Prelude.{◌≡◌, ◌⊎◌, ◌<◌, ◌≤◌, ◌+◌, ℕ, sum_by, if◌then◌else◌, Some, Result, Ok, Err, List, [], ◌∷◌, ◌++◌, IsPermutation, slice_get, true, vec_len, vec_capacity}
+use Rattle.std.specs.Prelude.{◌≡◌, ◌⊎◌, ◌<◌, ◌≤◌, ◌+◌, ℕ, sum_by, if◌then◌else◌, is_some, Some, Result, Ok, Err, List, [], ◌∷◌, ◌++◌, length, IsPermutation, slice_get, Bool, true, false, vec_len, vec_capacity}
 use Rattle.std.specs.declared.alloc.AllocError.{AllocError}
 use Rattle.fst_types.specs.Tree.{Tree}
 use Rattle.fst_types.specs.declared.side.Side.TheVariants.{Left, Right}
@@ -21,7 +21,7 @@ use Rattle.fst_machine.specs.Spots.{asked_at}
 use Rattle.fst_vm.specs.Running.{code_of}
 use Rattle.fst_vm.specs.Tasks.{IsFrom, IsIn, IsAtRest, GoesOn}
 use Rattle.fst_runs.specs.Configs.{channel_name, main_path, new_task, same_end}
-use Rattle.fst_runs.specs.Wrong.{end_of}
+use Rattle.fst_runs.specs.Wrong.{end_of, once}
 use Rattle.fst_cell.specs.Answers.{FoundHeld, FoundNothing, FoundStanding, IsOffered}
 use Rattle.fst_cell.specs.End.{EndView, end_name}
 use Rattle.fst_cell.specs.Rule.{fresh}
@@ -47,7 +47,7 @@ pub record IsTypedCode (k : Code) (a : Tree) : Type 0 where
   pub derived : HasDerivations k.module.value derivations
   pub main : main_type k.module.value.types.items k.module.value.globals.items ≡ Some a
 
--- so it is with this code, and main has this body
+-- the code is that of a module that has derivations, and main has a body
 pub record CanBegin (k : Code) : Type 0 where
   pub type : Tree
   pub code : IsTypedCode k type
@@ -84,6 +84,28 @@ IsBegun k t = (a : Tree) (e : CoreTree) → IsTypedCode k a → main_body k.modu
 -- how often the end has tried, where it has this name
 abbrev pub tries_at : EndName → EndView → ℕ
 tries_at z e = if same_end z (end_name e) then e.knows.tries else 0
+
+-- 1 where the offer of the end stands
+abbrev pub offers : EndView → ℕ
+offers e = once (is_some e.knows.offer)
+
+-- how much a thread has done: an offer is one more, its notice another one, and each other event two
+abbrev pub work : Thread → ℕ
+work x = of_ends offers x + (length x.log + length x.log)
+
+-- whether this tells of an event, an offer or a notice
+abbrev pub is_move : Result Turned AllocError → Bool
+is_move (Ok Moved) = true
+is_move (Ok (Forked t)) = true
+is_move (Ok Offered) = true
+is_move (Ok (Off name)) = false
+is_move (Ok Ended) = false
+is_move (Err e) = false
+
+-- n is more than m where something has moved, and else as much
+abbrev pub Grows : Bool → ℕ → ℕ → Type 0
+Grows true m n = m < n
+Grows false m n = n ≡ m
 
 -- the log has one entry more
 pub record HasGained (x y : Thread) : Type 0 where
@@ -136,6 +158,8 @@ pub record HasTurned (k : Code) (a : Tree) (r : Result Turned AllocError) (u : T
   pub new : List Thread
   pub goes : GoesOnTo (module_of k) a x after new
   pub keeps : Keeps k u after
+  -- more was done exactly where the answer says so
+  pub done : Grows (is_move r) (work x) (work after + sum_by work new)
   -- no end has tried less often
   pub tries : (z : EndName) → of_ends (tries_at z) x ≤ of_ends (tries_at z) after + sum_by (of_ends (tries_at z)) new
   pub answers : Answers k r x after new

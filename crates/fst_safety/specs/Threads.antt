@@ -1,9 +1,10 @@
 -- A task with its log and its ends, and when it fits its module.
-use Rattle.std.specs.Prelude.{◌≡◌, ℕ, ◌<◌, ◌≤◌, false, true, Some, None, List, [], ◌++◌, length, sum_by, All}
+use Rattle.std.specs.Prelude.{◌≡◌, ℕ, ◌<◌, ◌≤◌, false, true, Some, None, List, [], ◌∷◌, ◌++◌, length, sum_by, All}
 use Rattle.fst_types.specs.Tree.{Tree, skip}
 use Rattle.fst_lts.specs.Step.{terminated}
 use Rattle.fst_derivations.specs.Rules.{Surroundings}
 use Rattle.fst_value.specs.declared.ends.EndName.{EndName}
+use Rattle.fst_value.specs.declared.event.Entry.{Entry}
 use Rattle.fst_machine.specs.declared.request.Request.TheVariants.{Put}
 use Rattle.fst_machine.specs.Machine.{State, request}
 use Rattle.fst_runs.specs.Configs.{Path, Task, same_end, main_path}
@@ -55,9 +56,18 @@ pub record Waits (m : Surroundings) (t : Task) (e : EndView) (o : Offer) : Type 
   pub clock : o.clock ≡ t.clock
   pub sends : sends (residual_of e.knows) o.event ≡ true
 
--- the end's history is no longer than the task's clock says, and where an offer waits the task asks for it
+-- the stamps of entries rise, the first of them over n, and none is over the clock
+abbrev pub RiseFrom : ℕ → List Entry → ℕ → Type 0
+RiseFrom n [] clock = n ≤ clock
+RiseFrom n (e ∷ es) clock = (n < e.stamp) × RiseFrom e.stamp es clock
+
+-- so it is of what the end knows
+abbrev pub IsPast : ℕ → EndView → Type 0
+IsPast clock e = RiseFrom 0 e.knows.history clock
+
+-- no stamp that the end knows is over the task's clock, and where an offer waits the task asks for it
 pub record FitsEnd (m : Surroundings) (t : Task) (e : EndView) : Type 0 where
-  pub short : length e.knows.history ≤ t.clock
+  pub past : IsPast t.clock e
   pub waits : (o : Offer) → e.knows.offer ≡ Some o → Waits m t e o
 
 -- the channel of an end was made by the task with this path, which has made so many, or by one of those that led to it
@@ -76,8 +86,8 @@ pub record IsTypedOver (m : Surroundings) (a : Tree) (path : Path) (s : State) (
   pub typed : IsTyped m residuals s type
   pub main : path ≡ main_path → type ≡ a
 
--- the log leads to the task, which is typed; its open ends are those of its state, each standing there once; others are spent; and
--- each channel that it made has a type of the module
+-- the log leads to the task, which is typed; its open ends are those of its state, each standing there once; others are spent; no stamp
+-- that an end knows is over its clock; and each channel that it made has a type of the module
 pub record FitsIn (m : Surroundings) (a : Tree) (x : Thread) : Type 0 where
   pub none_made : x.first.made ≡ 0
   pub none_forked : x.first.forked ≡ 0
@@ -88,6 +98,7 @@ pub record FitsIn (m : Surroundings) (a : Tree) (x : Thread) : Type 0 where
   pub named : (y : EndName) → 0 < held_state y x.now.state → IsNamedBelow x.path x.now.made y
   pub ends : All (FitsEnd m x.now) x.bag
   pub spent : All IsSpent x.retired
+  pub past : All (IsPast x.now.clock) x.retired
   pub opened : length (openings m.types x.log) ≡ x.now.made
   pub made : x.now.made ≤ x.now.clock
   pub forked : x.now.forked ≤ x.now.clock

@@ -22,6 +22,7 @@ returns-in-Ok-true c = λ a x f.
     let by = subst (λ b. OffersAt t.bag.items c.args.i ev t.clock (Ok b) c.offer_at.new.bag.items) c.in-Ok-true.field-0-test c.in-Ok-true.ensures in
     let may = may_offer k a t x f c.args.name ev c.args.i c.requires.asks c.requires.placed c.requires.clock by.before (c.requires.idle by.before) in
     offered_turned k a t _ x f c.args.name c.args.i c.requires.placed (record { task = refl; made = refl; clock = refl; log = refl; retired = refl }) (λ e f. IsOffered e ev t.clock f) by ev ask
+    (ap (λ (e : EndView). e.knows.offer) (sym (by.at by.before)) ∙ may.idle)
     (ap (λ (e : EndView). sends (residual_of e.knows) ev) (sym (by.at by.before)) ∙ may.sends) by.by
 
 pub returns-in-Ok-false : goal.returns-in-Ok-false
