@@ -17,7 +17,7 @@ use Rattle.fst_safety.specs.declared.tasks.TypedTask.{TypedTask}
 use Rattle.fst_safety.specs.WellTyped.{program_in}
 use Rattle.fst_safety.specs.Logs.{Enters, Follows, after_entry}
 use Rattle.fst_safety.specs.Going.{GoesOnTo}
-use Rattle.fst_safety.specs.Tasks.{HasGained, module_of, tries_at}
+use Rattle.fst_safety.specs.Tasks.{Grows, HasGained, module_of, tries_at, work}
 use Rattle.fst_safety.specs.Threads.{Thread, FitsIn}
 use Rattle.fst_safety.specs.Turns.{of_ends}
 use Rattle.fst_safety.proofs.Laws.{later}
@@ -25,8 +25,8 @@ use Rattle.fst_worker.specs.declared.shares.Move.{Move}
 use Rattle.fst_worker.specs.declared.shares.Move.TheVariants as move
 use Rattle.fst_worker.specs.declared.shares.Share.{Share}
 use Rattle.fst_worker.specs.Works.{Step}
-use Rattle.fst_worker.specs.Shares.{AreKept, Crew, HasAsked, IsCrew, IsIdle, IsOver, counts, counts_one, threads_of, tries_of}
-use Rattle.fst_worker.specs.Passes.{AsksMore, CanRun, IsAt, Ran, Runs, StepsAt, TurnedAt, TurnsAt, clock_at, noted}
+use Rattle.fst_worker.specs.Shares.{AreKept, Crew, HasAsked, IsCrew, IsIdle, IsOver, counts, counts_one, own_paths, threads_of, tries_of, work_of}
+use Rattle.fst_worker.specs.Passes.{AsksMore, CanRun, IsAt, Ran, Runs, StepsAt, TurnedAt, TurnsAt, clock_at, is_move, noted}
 use Rattle.fst_worker.proofs.Chains.{went_none, went_then, went_step}
 use Rattle.fst_worker.proofs.Crews.{All-first, kept_length}
 use Rattle.fst_worker.proofs.Sums.{sum_none}
@@ -65,6 +65,19 @@ clock_there [] i d l = absurd (omega (arith, l))
 clock_there (t ∷ ts) zero d l = refl
 clock_there (t ∷ ts) (suc i) d l = clock_there ts i d (omega (arith, l))
 
+-- ---- what was done
+
+as_much : (m : Bool) (i j : ℕ) → Grows m i j → i ≤ j
+as_much true i j g = omega (arith, g)
+as_much false i j g = omega (arith, g)
+
+-- where more was done from i to j it isn't less from j to l
+grows_on : (m n : Bool) (i j l : ℕ) → Grows m i j → (n ≡ false → m ≡ false) → j ≤ l → (m ≡ false → Grows n j l) → Grows n i l
+grows_on false true i j l g back less f = let h = f refl in omega (arith, g, h)
+grows_on false false i j l g back less f = let h = f refl in omega (arith, g, h)
+grows_on true true i j l g back less f = omega (arith, g, less)
+grows_on true false i j l g back less f = let e = back refl in absurd (cc e)
+
 -- ---- one turn among the others
 
 split_at : (xs : List Thread) (i : ℕ) (x y : Thread) → i < length xs → ((e : Thread) → get_or xs i e ≡ x) → (xs ≡ take i xs ++ (x ∷ drop (suc i) xs)) × (set xs i y ≡ take i xs ++ (y ∷ drop (suc i) xs))
@@ -73,6 +86,16 @@ split_at (z ∷ zs) zero x y l h = (ap (λ (w : Thread). w ∷ zs) (h z), refl)
 split_at (z ∷ zs) (suc i) x y l h =
     let r = split_at zs i x y (omega (arith, l)) h in
     (ap (λ (l : List Thread). z ∷ l) r.0, ap (λ (l : List Thread). z ∷ l) r.1)
+
+-- a sum to which the one that is put gives as much
+same_sum : (f : Thread → ℕ) (xs : List Thread) (i : ℕ) (x y : Thread) → i < length xs → ((e : Thread) → get_or xs i e ≡ x) → f y ≡ f x → sum_by f (set xs i y) ≡ sum_by f xs
+same_sum f xs i x y l h e =
+    let r = split_at xs i x y l h in
+    let before = ap (sum_by f) r.0 ∙ sum_by-append f (take i xs) (x ∷ drop (suc i) xs) in
+    let now = ap (sum_by f) r.1 ∙ sum_by-append f (take i xs) (y ∷ drop (suc i) xs) in
+    let p = sum_by-cons f x (drop (suc i) xs) in
+    let q = sum_by-cons f y (drop (suc i) xs) in
+    omega (arith, before, now, p, q, e)
 
 module _ (k : Code) (a : Tree) where
   step_in : (xs fs es : List Thread) (i : ℕ) (x y : Thread) (new : List Thread) → i < length xs → ((e : Thread) → get_or xs i e ≡ x) → GoesOnTo (module_of k) a x y new →
@@ -172,13 +195,34 @@ module _ (k : Code) (a : Tree) (i : ℕ) (r : Result Move AllocError) (s u : Sha
       let q = t.tries z in
       omega (arith, p.before, p.later, q)
 
+  grown : Grows (is_move r) (work_of (threads_of b)) (work_of (threads_of t.crew))
+  grown = by (is_move r) t.done
+    where
+      by : (m : Bool) → Grows m (work t.before) (work t.after + work_of t.at.new) → Grows m (work_of (threads_of b)) (work_of (threads_of t.crew))
+      by true d = let p = summed work in omega (arith, p.before, p.later, d)
+      by false d = let p = summed work in omega (arith, p.before, p.later, d)
+
+  -- so much was done in a share that tells of this turn
+  done : (w : Share) → (s.moved ≡ false → w.moved ≡ is_move r) → s.moved ≡ false → Grows w.moved (work_of (threads_of b)) (work_of (threads_of t.crew))
+  done w told z = subst (λ m. Grows m (work_of (threads_of b)) (work_of (threads_of t.crew))) (sym (told z)) grown
+
+  own : (w : Path → ℕ) → own_paths w t.crew ≡ own_paths w b
+  own w =
+      let f = λ (x : Thread). w x.path in
+      let p = same_sum f b.tasks i t.before t.after here t.was (ap w t.goes.turn.path) in
+      let q = ap (sum_by f) t.at.tasks in
+      let r = ap (sum_by f) t.at.ended in
+      omega (arith, p, q, r)
+
   none_new : sum_by events_of t.at.new ≡ 0
   none_new = sum_none events_of IsIdle none_counted t.at.new t.goes.turn.idle
 
   -- after a turn that makes no entry
-  pub quiet_ran : (w : Share) → t.after.log ≡ t.before.log → t.at.new ≡ [] → w.events ≡ s.events → (w.moved ≡ false → s.moved ≡ false) → Ran k a s w b t.crew
-  quiet_ran w same none events moved = record {
+  pub quiet_ran : (w : Share) → t.after.log ≡ t.before.log → t.at.new ≡ [] → w.events ≡ s.events → (w.moved ≡ false → s.moved ≡ false) → (s.moved ≡ false → w.moved ≡ is_move r) →
+      Ran k a s w b t.crew
+  quiet_ran w same none events moved told = record {
     went = went_step (module_of k) a (threads_of b) (threads_of t.crew) step;
+    own = own;
     idle = still_idle;
     over = still_over;
     counted =
@@ -186,6 +230,8 @@ module _ (k : Code) (a : Tree) (i : ℕ) (r : Result Move AllocError) (s u : Sha
         let e = ap counts same in
         omega (arith, p.before, p.later, e, events, none_new);
     moved = moved;
+    work = as_much (is_move r) (work_of (threads_of b)) (work_of (threads_of t.crew)) grown;
+    done = done w told;
     still = λ m f.
         let p = summed (λ (x : Thread). f x.path x.log) in
         let e : f t.after.path t.after.log ≡ f t.before.path t.before.log = ap (λ path. f path t.after.log) t.goes.turn.path ∙ ap (f t.before.path) same in
@@ -195,9 +241,11 @@ module _ (k : Code) (a : Tree) (i : ℕ) (r : Result Move AllocError) (s u : Sha
   }
 
   -- after one that makes an entry
-  pub gained_ran : (w : Share) (c : Bool) (g : HasGained t.before t.after) → once c ≡ counts_one g.entry.answer → w.events ≡ s.events + once c → w.moved ≡ true → Ran k a s w b t.crew
-  gained_ran w c g counted events moved = record {
+  pub gained_ran : (w : Share) (c : Bool) (g : HasGained t.before t.after) → once c ≡ counts_one g.entry.answer → w.events ≡ s.events + once c → w.moved ≡ true → is_move r ≡ true →
+      Ran k a s w b t.crew
+  gained_ran w c g counted events moved told = record {
     went = went_step (module_of k) a (threads_of b) (threads_of t.crew) step;
+    own = own;
     idle = still_idle;
     over = still_over;
     counted =
@@ -206,6 +254,8 @@ module _ (k : Code) (a : Tree) (i : ℕ) (r : Result Move AllocError) (s u : Sha
         let m = sum_by_push (λ (e : LogEntry). counts_one e.answer) t.before.log g.entry in
         omega (arith, p.before, p.later, e, m, counted, events, none_new);
     moved = λ m. let e = sym moved ∙ m in absurd (cc e);
+    work = as_much (is_move r) (work_of (threads_of b)) (work_of (threads_of t.crew)) grown;
+    done = done w (λ z. moved ∙ sym told);
     still = λ m. let e = sym moved ∙ m in absurd (cc e);
     tries = tries_more;
   }
@@ -234,7 +284,7 @@ module _ (k : Code) (i : ℕ) (s u : Share) (l : i < length s.tasks.items) (same
       record {
         crew = t.crew;
         is = record { tasks = t.is.tasks; forked = t.is.forked; ended = t.is.ended };
-        ran = gained_ran k a i (Ok (move.Gained c)) s u b is fit l t (noted (move.Gained c) u) c t.comes.0 t.comes.1 (ap (λ n. n + once c) same.events) refl;
+        ran = gained_ran k a i (Ok (move.Gained c)) s u b is fit l t (noted (move.Gained c) u) c t.comes.0 t.comes.1 (ap (λ n. n + once c) same.events) refl refl;
         so = (t.after, t.at, tt);
       }
   steps_noted move.Offered h a b code is fit =
@@ -242,7 +292,7 @@ module _ (k : Code) (i : ℕ) (s u : Share) (l : i < length s.tasks.items) (same
       record {
         crew = t.crew;
         is = record { tasks = t.is.tasks; forked = t.is.forked; ended = t.is.ended };
-        ran = quiet_ran k a i (Ok move.Offered) s u b is fit l t (noted move.Offered u) t.comes.0 t.comes.1 same.events (λ m. absurd (cc m));
+        ran = quiet_ran k a i (Ok move.Offered) s u b is fit l t (noted move.Offered u) t.comes.0 t.comes.1 same.events (λ m. absurd (cc m)) (λ z. refl);
         so = (t.after, t.at, asks_then k a i (Ok move.Offered) s u b is fit l t t.comes.2);
       }
   steps_noted move.Left h a b code is fit =
@@ -250,7 +300,7 @@ module _ (k : Code) (i : ℕ) (s u : Share) (l : i < length s.tasks.items) (same
       record {
         crew = t.crew;
         is = t.is;
-        ran = quiet_ran k a i (Ok move.Left) s u b is fit l t u t.comes.0 t.comes.1 same.events (λ m. sym same.moved ∙ m);
+        ran = quiet_ran k a i (Ok move.Left) s u b is fit l t u t.comes.0 t.comes.1 same.events (λ m. sym same.moved ∙ m) (λ z. same.moved ∙ z);
         so = (t.after, t.at, asks_then k a i (Ok move.Left) s u b is fit l t t.comes.2);
       }
   steps_noted move.Over h a b code is fit =
@@ -258,7 +308,7 @@ module _ (k : Code) (i : ℕ) (s u : Share) (l : i < length s.tasks.items) (same
       record {
         crew = t.crew;
         is = t.is;
-        ran = quiet_ran k a i (Ok move.Over) s u b is fit l t u t.comes.0 t.comes.1 same.events (λ m. sym same.moved ∙ m);
+        ran = quiet_ran k a i (Ok move.Over) s u b is fit l t u t.comes.0 t.comes.1 same.events (λ m. sym same.moved ∙ m) (λ z. same.moved ∙ z);
         so = (t.after, t.at, t.comes.2);
       }
 
@@ -268,7 +318,7 @@ module _ (k : Code) (i : ℕ) (s u : Share) (l : i < length s.tasks.items) (same
       record {
         crew = t.crew;
         is = t.is;
-        ran = quiet_ran k a i (Err e) s u b is fit l t u t.comes.0 t.comes.1 same.events (λ m. sym same.moved ∙ m);
+        ran = quiet_ran k a i (Err e) s u b is fit l t u t.comes.0 t.comes.1 same.events (λ m. sym same.moved ∙ m) (λ z. same.moved ∙ z);
         so = (t.after, t.at, tt);
       }
 
@@ -294,10 +344,13 @@ module _ (k : Code) (i : ℕ) (s u : Share) (l : i < length s.tasks.items) (same
 pub ran_none : (k : Code) (a : Tree) (s : Share) (b : Crew) → Ran k a s s b b
 ran_none k a s b = record {
   went = went_none (module_of k) a (threads_of b);
+  own = λ w. refl;
   idle = λ all. all;
   over = λ all. all;
   counted = refl;
   moved = λ m. m;
+  work = omega arith;
+  done = λ z. subst (λ m. Grows m (work_of (threads_of b)) (work_of (threads_of b))) (sym z) refl;
   still = λ m w. refl;
   tries = λ z. omega arith;
 }
@@ -305,10 +358,13 @@ ran_none k a s b = record {
 pub ran_then : (k : Code) (a : Tree) (s t u : Share) (b c d : Crew) → Ran k a s t b c → Ran k a t u c d → Ran k a s u b d
 ran_then k a s t u b c d p q = record {
   went = went_then (module_of k) a (threads_of b) (threads_of c) (threads_of d) p.went q.went;
+  own = λ w. q.own w ∙ p.own w;
   idle = λ all. q.idle (p.idle all);
   over = λ all. q.over (p.over all);
   counted = let e = p.counted in let f = q.counted in omega (arith, e, f);
   moved = λ m. p.moved (q.moved m);
+  work = let e = p.work in let f = q.work in omega (arith, e, f);
+  done = λ z. grows_on t.moved u.moved (work_of (threads_of b)) (work_of (threads_of c)) (work_of (threads_of d)) (p.done z) q.moved q.work q.done;
   still = λ m w. q.still m w ∙ p.still (q.moved m) w;
   tries = λ z. let e = p.tries z in let f = q.tries z in omega (arith, e, f);
 }

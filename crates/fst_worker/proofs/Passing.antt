@@ -1,21 +1,22 @@
 -- The turns of one task, one after the other, and passes over all tasks of a share.
 use Rattle.std.proofs.Common.{◌≡◌, ◌∙◌, ◌⊎◌, inl, inr, ℕ, zero, suc, ◌+◌, ◌<◌, ◌≤◌, Bool, true, false, Ok, Err, List, [], ◌∷◌, ◌++◌, length, get_or, set, take, refl, sym, ap, subst, arith, append_assoc}
-use Rattle.std.specs.Prelude.{All, IsPermutation, swap}
+use Rattle.std.specs.Prelude.{All, IsPermutation, sum_by, swap}
 use Rattle.std.specs.declared.alloc.AllocError.{AllocError}
 use Rattle.std.proofs.lemmas.List.{append-nil, get_or-set_same, get_or-set_other, get_or-take, set-set, length-set}
 use Rattle.std.proofs.lemmas.List.Edits.{Swapped, swapped_from_swap}
 use Rattle.std.proofs.lemmas.List.Elements.{All-push}
 use Rattle.std.proofs.lemmas.List.Sorted.{IsPermutation-append_left, IsPermutation-swap, IsPermutation-to_front, IsPermutation-sym, IsPermutation-trans, sum_by-IsPermutation}
+use Rattle.std.proofs.lemmas.List.Sums.{sum_by-append}
 use Rattle.fst_types.specs.Tree.{Tree}
 use Rattle.fst_machine.specs.declared.code.Code.{Code}
 use Rattle.fst_safety.specs.declared.tasks.TypedTask.{TypedTask}
-use Rattle.fst_safety.specs.Tasks.{module_of, tries_at}
+use Rattle.fst_safety.specs.Tasks.{Grows, module_of, tries_at, work}
 use Rattle.fst_safety.specs.Threads.{Thread}
 use Rattle.fst_safety.specs.Turns.{of_ends}
 use Rattle.fst_worker.specs.declared.shares.Move.TheVariants as move
 use Rattle.fst_worker.specs.declared.shares.Share.{Share}
 use Rattle.fst_worker.specs.declared.shares.Stop.TheVariants.{Waits, Ends, Halts}
-use Rattle.fst_worker.specs.Shares.{AreKept, Crew, HasAsked, IsCrew, IsIdle, IsOver, counts, threads_of}
+use Rattle.fst_worker.specs.Shares.{AreKept, Crew, HasAsked, IsCrew, IsIdle, IsOver, counts, threads_of, work_of}
 use Rattle.fst_worker.specs.Passes.{Exceeds, FirstStop, HasPassed, HasSameMarks, HasStopped, IsAt, IsPutBefore, Passes, PassesTo, Ran, RetiresTo, Runs, StepsAt, StopsAt, clock_at}
 use Rattle.fst_worker.proofs.Chains.{went_moved}
 use Rattle.fst_worker.proofs.Crews.{kept_at, kept_length, kept_split, kept_append, kept_swap}
@@ -34,10 +35,13 @@ crew_same k s u c tasks forked ended h = record {
 pub ran_marked : (k : Code) (a : Tree) (s u w : Share) (b c : Crew) → w.events ≡ u.events → w.moved ≡ u.moved → Ran k a s u b c → Ran k a s w b c
 ran_marked k a s u w b c events moved r = record {
   went = r.went;
+  own = r.own;
   idle = r.idle;
   over = r.over;
   counted = let e = r.counted in omega (arith, e, events);
   moved = λ m. r.moved (sym moved ∙ m);
+  work = r.work;
+  done = λ z. subst (λ m. Grows m (work_of (threads_of b)) (work_of (threads_of c))) (sym moved) (r.done z);
   still = λ m f. r.still (sym moved ∙ m) f;
   tries = r.tries;
 }
@@ -47,10 +51,21 @@ pub ran_dealt : (k : Code) (a : Tree) (s u : Share) (b c : Crew) → IsPermutati
     u.events ≡ s.events → u.moved ≡ s.moved → Ran k a s u b c
 ran_dealt k a s u b c p forked over events moved = record {
   went = went_moved (module_of k) a (threads_of b) (threads_of c) p;
+  own = λ w.
+      let f = λ (x : Thread). w x.path in
+      let all = sum_by-IsPermutation f (threads_of b) (threads_of c) p in
+      let b1 = sum_by-append f b.tasks (b.forked ++ b.ended) in
+      let b2 = sum_by-append f b.forked b.ended in
+      let c1 = sum_by-append f c.tasks (c.forked ++ c.ended) in
+      let c2 = sum_by-append f c.forked c.ended in
+      let same = ap (sum_by f) forked in
+      omega (arith, all, b1, b2, c1, c2, same);
   idle = λ all. subst (All IsIdle) (sym forked) all;
   over = over;
   counted = let e = sum_by-IsPermutation (λ (x : Thread). counts x.log) (threads_of b) (threads_of c) p in omega (arith, e, events);
   moved = λ m. sym moved ∙ m;
+  work = let e = sum_by-IsPermutation work (threads_of b) (threads_of c) p in omega (arith, e);
+  done = λ z. subst (λ m. Grows m (work_of (threads_of b)) (work_of (threads_of c))) (sym (moved ∙ z)) (sum_by-IsPermutation work (threads_of b) (threads_of c) p);
   still = λ m f. sum_by-IsPermutation (λ (x : Thread). f x.path x.log) (threads_of b) (threads_of c) p;
   tries = λ z. let e = sum_by-IsPermutation (of_ends (tries_at z)) (threads_of b) (threads_of c) p in omega (arith, e);
 }

@@ -19,15 +19,16 @@ use Rattle.fst_safety.specs.declared.tasks.LogEntry.{LogEntry}
 use Rattle.fst_safety.specs.declared.tasks.TypedTask.{TypedTask}
 use Rattle.fst_safety.specs.declared.tasks.Turned.{Turned}
 use Rattle.fst_safety.specs.declared.tasks.Turned.TheVariants as turned
-use Rattle.fst_safety.specs.Tasks.{CanTurn, FoundNoWay, HasGained, HasLeft, HasOffered, HasTried, HasTurned, Keeps, TakesTurn, module_of, tries_at}
+use Rattle.fst_safety.specs.Tasks as turns
+use Rattle.fst_safety.specs.Tasks.{CanTurn, FoundNoWay, HasGained, HasLeft, HasOffered, HasTried, HasTurned, Grows, Keeps, TakesTurn, module_of, tries_at, work}
 use Rattle.fst_safety.specs.Threads.{Thread, FitsIn}
 use Rattle.fst_safety.specs.Turns.{of_ends}
 use Rattle.fst_safety.proofs.Laws.{stays}
 use Rattle.fst_worker.specs.declared.shares.Move.{Move}
 use Rattle.fst_worker.specs.declared.shares.Move.TheVariants as move
 use Rattle.fst_worker.specs.declared.shares.Share.{Share}
-use Rattle.fst_worker.specs.Shares.{AreKept, IsOver, counts_one}
-use Rattle.fst_worker.specs.Passes.{AsksMore, CanRun, Comes, TurnsAt}
+use Rattle.fst_worker.specs.Shares.{AreKept, IsOver, counts_one, work_of}
+use Rattle.fst_worker.specs.Passes.{AsksMore, CanRun, Comes, TurnsAt, is_move}
 use Rattle.fst_worker.proofs.Crews.{All-first, kept_at, kept_set, kept_append, kept_length}
 
 -- ---- tries
@@ -106,8 +107,8 @@ module _ (k : Code) (i : ℕ) (s u : Share) (t v : TypedTask) (r : Result Turned
   abbrev pub Tells : Result Move AllocError → List TypedTask → Type 0
   Tells q forks = (a : Tree) (x : Thread) (g : HasTurned k a r v x) → AreKept k forks g.new × Comes k q x g.after g.new
 
-  turned_with : (q : Result Move AllocError) (forks : List TypedTask) → u.forked.items ≡ s.forked.items ++ forks → Tells q forks → TurnsAt k i q s u
-  turned_with q forks more tells a b code crew fit =
+  turned_with : (q : Result Move AllocError) (forks : List TypedTask) → is_move q ≡ turns.is_move r → u.forked.items ≡ s.forked.items ++ forks → Tells q forks → TurnsAt k i q s u
+  turned_with q forks same more tells a b code crew fit =
       let p = kept_at k s.tasks.items b.tasks i crew.tasks within in
       let all = All-first (FitsIn (module_of k) a) b.tasks (b.forked ++ b.ended) fit in
       let l = kept_length k s.tasks.items b.tasks crew.tasks in
@@ -127,13 +128,15 @@ module _ (k : Code) (i : ℕ) (s u : Share) (t v : TypedTask) (r : Result Turned
         was = p.is;
         at = record { tasks = refl; new = g.new; forked = refl; ended = refl };
         goes = g.goes;
+        done = subst (λ m. Grows m (work p.thread) (work g.after + work_of g.new)) (sym same) g.done;
         tries = g.tries;
         comes = told.1;
       }
 
   -- where nothing is forked
-  turned_alone : (q : Result Move AllocError) → u.forked.items ≡ s.forked.items → ((a : Tree) (x : Thread) (g : HasTurned k a r v x) → (g.new ≡ []) × Comes k q x g.after g.new) → TurnsAt k i q s u
-  turned_alone q same tells = turned_with q [] (same ∙ sym (append-nil s.forked.items))
+  turned_alone : (q : Result Move AllocError) → is_move q ≡ turns.is_move r → u.forked.items ≡ s.forked.items →
+      ((a : Tree) (x : Thread) (g : HasTurned k a r v x) → (g.new ≡ []) × Comes k q x g.after g.new) → TurnsAt k i q s u
+  turned_alone q move same tells = turned_with q [] move (same ∙ sym (append-nil s.forked.items))
       (λ a x g. let p = tells a x g in (subst (AreKept k []) (sym p.0) tt, p.1))
 
 -- an index within a share's tasks
@@ -155,28 +158,28 @@ gained_comes k a r v x g b counts n = counts x.log n.entry (g.keeps.log ∙ n.is
 module _ (k : Code) (i : ℕ) (s u : Share) (t v : TypedTask) (within : i < length s.tasks.items) (is : t ≡ get_or s.tasks.items i t)
     (tasks : u.tasks.items ≡ set s.tasks.items i v) (ended : u.ended.items ≡ s.ended.items) where
   pub moved_turns : (b : Bool) → u.forked.items ≡ s.forked.items → Counts b v.log.items → TakesTurn k t (Ok turned.Moved) v → TurnsAt k i (Ok (move.Gained b)) s u
-  moved_turns b same counts h = turned_alone k i s u t v (Ok turned.Moved) h within is tasks ended (Ok (move.Gained b)) same
+  moved_turns b same counts h = turned_alone k i s u t v (Ok turned.Moved) h within is tasks ended (Ok (move.Gained b)) refl same
       (λ a x g. (g.answers.1, (g.answers.0, gained_comes k a (Ok turned.Moved) v x g b counts g.answers.0)))
 
   pub forked_turns : (b : Bool) (w : TypedTask) → u.forked.items ≡ s.forked.items ++ w ∷ [] → Counts b v.log.items → TakesTurn k t (Ok (turned.Forked w)) v →
       TurnsAt k i (Ok (move.Gained b)) s u
-  forked_turns b w more counts h = turned_with k i s u t v (Ok (turned.Forked w)) h within is tasks ended (Ok (move.Gained b)) (w ∷ []) more
+  forked_turns b w more counts h = turned_with k i s u t v (Ok (turned.Forked w)) h within is tasks ended (Ok (move.Gained b)) (w ∷ []) refl more
       (λ a x g. (subst (AreKept k (w ∷ [])) (sym g.answers.2) (g.answers.3, tt), (g.answers.1, gained_comes k a (Ok (turned.Forked w)) v x g b counts g.answers.1)))
 
   pub offered_turns : u.forked.items ≡ s.forked.items → TakesTurn k t (Ok turned.Offered) v → TurnsAt k i (Ok move.Offered) s u
-  offered_turns same h = turned_alone k i s u t v (Ok turned.Offered) h within is tasks ended (Ok move.Offered) same
+  offered_turns same h = turned_alone k i s u t v (Ok turned.Offered) h within is tasks ended (Ok move.Offered) refl same
       (λ a x g. let p = offered_asks k x g.after g.answers.0 in (g.answers.1, (p.0, g.answers.1, p.1)))
 
   pub left_turns : (z : EndName) → u.forked.items ≡ s.forked.items → TakesTurn k t (Ok (turned.Left z)) v → TurnsAt k i (Ok move.Left) s u
-  left_turns z same h = turned_alone k i s u t v (Ok (turned.Left z)) h within is tasks ended (Ok move.Left) same
+  left_turns z same h = turned_alone k i s u t v (Ok (turned.Left z)) h within is tasks ended (Ok move.Left) refl same
       (λ a x g. let p = left_asks k x g.after z g.answers.0 in (g.answers.1, (p.0, g.answers.1, p.1)))
 
   pub ended_turns : u.forked.items ≡ s.forked.items → TakesTurn k t (Ok turned.Ended) v → TurnsAt k i (Ok move.Over) s u
-  ended_turns same h = turned_alone k i s u t v (Ok turned.Ended) h within is tasks ended (Ok move.Over) same
+  ended_turns same h = turned_alone k i s u t v (Ok turned.Ended) h within is tasks ended (Ok move.Over) refl same
       (λ a x g. (g.answers.2, (ap (λ (w : Thread). w.log) g.answers.1, g.answers.2, subst (IsOver k) (sym g.answers.1) g.answers.0)))
 
   pub wanting_turns : (e : AllocError) → u.forked.items ≡ s.forked.items → TakesTurn k t (Err e) v → TurnsAt k i (Err e) s u
-  wanting_turns e same h = turned_alone k i s u t v (Err e) h within is tasks ended (Err e) same
+  wanting_turns e same h = turned_alone k i s u t v (Err e) h within is tasks ended (Err e) refl same
       (λ a x g. (g.answers.2, (g.answers.0, g.answers.2)))
 
 -- a task that makes no turn
@@ -199,6 +202,7 @@ nothing_turns k i s u l e tasks forked ended a b code crew fit =
       was = p.is;
       at = record { tasks = sym (set_there b.tasks i p.thread p.is); new = []; forked = sym (append-nil b.forked); ended = refl };
       goes = stays (module_of k) a p.thread one;
+      done = omega arith;
       tries = λ z. omega arith;
       comes = (refl, refl);
     }

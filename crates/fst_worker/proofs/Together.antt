@@ -1,20 +1,25 @@
 -- What a share has done, and what all shares have done together.
-use Rattle.std.proofs.Common.{◌≡◌, ◌∙◌, inl, inr, ℕ, zero, suc, ◌<◌, ◌≤◌, false, List, [], ◌∷◌, ◌++◌, length, get_or, take, refl, sym, ap, subst, arith}
+use Rattle.std.proofs.Common.{◌≡◌, ◌∙◌, ◌⊎◌, inl, inr, ℕ, zero, suc, ◌+◌, ◌<◌, ◌≤◌, true, false, List, [], ◌∷◌, ◌++◌, length, get_or, take, refl, sym, ap, subst, arith}
 use Rattle.std.specs.Prelude.{All, sum_by}
+use Rattle.std.proofs.lemmas.Bool.{cases_lt}
 use Rattle.std.proofs.lemmas.List.Elements.{All-nil, All-cons}
 use Rattle.fst_types.specs.Tree.{Tree}
 use Rattle.fst_machine.specs.declared.code.Code.{Code}
+use Rattle.fst_runs.specs.Configs.{Path}
+use Rattle.fst_safety.specs.declared.tasks.LogEntry.{LogEntry}
 use Rattle.fst_safety.specs.declared.tasks.TypedTask.{TypedTask}
-use Rattle.fst_safety.specs.Tasks.{IsTypedCode, Keeps, module_of}
+use Rattle.fst_safety.specs.Tasks.{Grows, IsTypedCode, Keeps, module_of, offers, work}
 use Rattle.fst_safety.specs.Threads.{Thread, FitsIn}
+use Rattle.fst_safety.specs.Turns.{of_ends}
 use Rattle.fst_worker.specs.declared.shares.Share.{Share}
 use Rattle.fst_worker.specs.Works.{Went}
-use Rattle.fst_worker.specs.Shares.{AreCounted, AreCrews, AreKept, AreLent, AreStill, CanMove, Crew, GoOn, HasAsked, HasRun, HaveRun, IsCrew, IsIdle, RunsAll, all_of, all_threads, counts, threads_of}
+use Rattle.fst_worker.specs.Shares.{AreCounted, AreCrews, AreKept, AreLent, AreTold, CanMove, Crew, GoOn, HasAsked, HasRun, HaveRun, IsCrew, IsIdle, RunsAll, all_of, all_threads, counts, entries_in, offers_in, threads_of, work_of}
 use Rattle.fst_worker.specs.Passes.{CanRun, Exceeds, HasStopped, HasWorked, Passes, Works}
 use Rattle.fst_worker.proofs.Chains.{went_none, went_both}
 use Rattle.fst_worker.proofs.Crews.{All-first, All-behind, AreManned, crew_kept, crews_kept, crews_of, kept_all, kept_length, kept_sum}
 use Rattle.fst_worker.proofs.Goes.{clock_there, kept_clock}
 use Rattle.fst_worker.proofs.Passing.{crew_same}
+use Rattle.fst_worker.proofs.Sums.{sum_both}
 
 -- ---- one share
 
@@ -26,17 +31,19 @@ task_at (t ∷ ts) (suc i) l = task_at ts i (omega (arith, l))
 
 -- a share that begins anew and passes over its tasks has worked
 pub works : (k : Code) (steps : ℕ) (s t u : Share) → t.tasks.items ≡ s.tasks.items → t.forked.items ≡ s.forked.items → t.ended.items ≡ s.ended.items → t.events ≡ s.events →
-    Passes k steps t u → Works k steps s u
-works k steps s t u tasks forked ended events p a b code is fit =
+    t.moved ≡ false → Passes k steps t u → Works k steps s u
+works k steps s t u tasks forked ended events calm p a b code is fit =
     let g = p a b code (crew_same k s t b tasks forked ended is) fit in
     record {
       crew = g.crew;
       is = g.is;
       went = g.ran.went;
       run = record {
+        own = g.ran.own;
         idle = g.ran.idle;
         over = g.ran.over;
         counted = let e = g.ran.counted in omega (arith, e, events);
+        done = g.ran.done calm;
         still = g.ran.still;
         tried = tried g.crew g.is g.so;
       };
@@ -150,19 +157,81 @@ module _ (k : Code) where
         let q = summed f g (λ t x h. ap counts h.log) (get_or us i d) (get_or run.after i nobody) (crew_after i d nobody l) in
         omega (arith, e, p, q)
 
-    pub are_still : AreStill ss us
-    are_still i d l moved w =
-        let e = (run.each i d nobody l).still moved w in
-        let f = λ (t : TypedTask). w t.task.path t.log.items in
-        let g = λ (x : Thread). w x.path x.log in
-        let same = λ (t : TypedTask) (x : Thread) (h : Keeps k t x). ap (λ p. w p t.log.items) h.path ∙ ap (w x.path) h.log in
-        let p = summed f g same (get_or ss i d) (get_or manned.crews i nobody) (crew_before i d nobody l) in
-        let q = summed f g same (get_or us i d) (get_or run.after i nobody) (crew_after i d nobody l) in
-        q ∙ e ∙ sym p
+    pub are_told : AreTold ss us
+    are_told i d l = record { moved = by_more moves.done; still = same_logs; idle = as_many moves.done }
+      where
+        s : Share
+        s = get_or ss i d
+
+        u : Share
+        u = get_or us i d
+
+        b : Crew
+        b = get_or manned.crews i nobody
+
+        c : Crew
+        c = get_or run.after i nobody
+
+        moves : HasRun k steps s u b c
+        moves = run.each i d nobody l
+
+        before : IsCrew k s b
+        before = crew_before i d nobody l
+
+        now : IsCrew k u c
+        now = crew_after i d nobody l
+
+        -- what was done is told by entries and offers
+        parts : (t : Share) (e : Crew) → IsCrew k t e → work_of (threads_of e) ≡ offers_in t + (entries_in t + entries_in t)
+        parts t e is =
+            let o = summed (λ (t : TypedTask). sum_by offers t.bag.items + sum_by offers t.retired.items) (of_ends offers)
+            (λ t x h. let p = ap (sum_by offers) h.bag in let q = ap (sum_by offers) h.retired in omega (arith, p, q)) t e is in
+            let n = summed (λ (t : TypedTask). length t.log.items) (λ (x : Thread). length x.log) (λ t x h. ap length h.log) t e is in
+            let a = sum_both work (of_ends offers) (λ (x : Thread). length x.log + length x.log) (λ x. refl) (threads_of e) in
+            let m = sum_both (λ (x : Thread). length x.log + length x.log) (λ (x : Thread). length x.log) (λ (x : Thread). length x.log) (λ x. refl) (threads_of e) in
+            omega (arith, o, n, a, m)
+
+        by_more : Grows u.moved (work_of (threads_of b)) (work_of (threads_of c)) → u.moved ≡ true → (entries_in s < entries_in u) ⊎ (offers_in s < offers_in u)
+        by_more g m = either (cases_lt (entries_in s) (entries_in u))
+          where
+            more : work_of (threads_of b) < work_of (threads_of c)
+            more = subst (λ m. Grows m (work_of (threads_of b)) (work_of (threads_of c))) m g
+
+            either : (entries_in s < entries_in u) ⊎ (entries_in u ≤ entries_in s) → (entries_in s < entries_in u) ⊎ (offers_in s < offers_in u)
+            either (inl h) = inl h
+            either (inr h) = let p = parts s b before in let q = parts u c now in let w = more in inr (omega (arith, h, p, q, w))
+
+        same_logs : u.moved ≡ false → (w : Path → List LogEntry → ℕ) →
+            sum_by (λ (t : TypedTask). w t.task.path t.log.items) (all_of u) ≡ sum_by (λ (t : TypedTask). w t.task.path t.log.items) (all_of s)
+        same_logs m w =
+            let f = λ (t : TypedTask). w t.task.path t.log.items in
+            let g = λ (x : Thread). w x.path x.log in
+            let same = λ (t : TypedTask) (x : Thread) (h : Keeps k t x). ap (λ p. w p t.log.items) h.path ∙ ap (w x.path) h.log in
+            summed f g same u c now ∙ moves.still m w ∙ sym (summed f g same s b before)
+
+        as_many : Grows u.moved (work_of (threads_of b)) (work_of (threads_of c)) → u.moved ≡ false → offers_in u ≡ offers_in s
+        as_many g m =
+            let e : work_of (threads_of c) ≡ work_of (threads_of b) = subst (λ m. Grows m (work_of (threads_of b)) (work_of (threads_of c))) m g in
+            let n : entries_in u ≡ entries_in s = same_logs m (λ p log. length log) in
+            let p = parts s b before in
+            let q = parts u c now in
+            omega (arith, e, n, p, q)
 
     pub are_lent : All (λ (s : Share). s.forked.items ≡ []) ss → AreLent ss us
     are_lent none = record {
       length_is = len;
+      own = λ i d l w.
+          let f = λ (t : TypedTask). w t.task.path in
+          let g = λ (x : Thread). w x.path in
+          let part = λ (ts : List TypedTask) (xs : List Thread) (h : AreKept k ts xs). kept_sum k f g (λ t x h. ap w h.path) ts xs h in
+          let s = crew_before i d nobody l in
+          let u = crew_after i d nobody l in
+          let e = (run.each i d nobody l).own w in
+          let s1 = part (get_or ss i d).tasks.items (get_or manned.crews i nobody).tasks s.tasks in
+          let s2 = part (get_or ss i d).ended.items (get_or manned.crews i nobody).ended s.ended in
+          let u1 = part (get_or us i d).tasks.items (get_or run.after i nobody).tasks u.tasks in
+          let u2 = part (get_or us i d).ended.items (get_or run.after i nobody).ended u.ended in
+          omega (arith, e, s1, s2, u1, u2);
       idle = λ i d l.
           let m : i < length ss = omega (arith, l, len) in
           kept_all k (λ (t : TypedTask). t.log.items ≡ []) IsIdle (λ t x h e. h.log ∙ e) (get_or us i d).forked.items (get_or run.after i nobody).forked (crew_after i d nobody m).forked

@@ -11,7 +11,7 @@ use Rattle.fst_runs.specs.Wrong.{end_of, once}
 use Rattle.fst_safety.specs.declared.tasks.LogEntry.{LogEntry}
 use Rattle.fst_safety.specs.declared.tasks.TypedTask.{TypedTask}
 use Rattle.fst_safety.specs.Going.{GoesOnTo}
-use Rattle.fst_safety.specs.Tasks.{HasGained, IsTypedCode, module_of, tries_at}
+use Rattle.fst_safety.specs.Tasks.{Grows, HasGained, IsTypedCode, module_of, tries_at, work}
 use Rattle.fst_safety.specs.Threads.{Thread, FitsIn}
 use Rattle.fst_safety.specs.Turns.{of_ends}
 use Rattle.fst_worker.specs.declared.shares.Share.{Share}
@@ -19,7 +19,7 @@ use Rattle.fst_worker.specs.declared.shares.Move.{Move}
 use Rattle.fst_worker.specs.declared.shares.Move.TheVariants.{Gained, Offered, Left, Over}
 use Rattle.fst_worker.specs.declared.shares.Stop.{Stop}
 use Rattle.fst_worker.specs.declared.shares.Stop.TheVariants.{Waits, Ends, Halts}
-use Rattle.fst_worker.specs.Shares.{Crew, HasAsked, HasRun, IsCrew, IsIdle, IsOver, counts, counts_one, threads_of, tries_of}
+use Rattle.fst_worker.specs.Shares.{Crew, HasAsked, HasRun, IsCrew, IsIdle, IsOver, counts, counts_one, own_paths, threads_of, tries_of, work_of}
 use Rattle.fst_worker.specs.Works.{Went}
 
 -- ---- a share that goes on
@@ -35,10 +35,13 @@ pub record CanRun (k : Code) (s : Share) : Type 0 where
 -- what the turns of a share's tasks keep
 pub record Ran (k : Code) (a : Tree) (s u : Share) (b c : Crew) : Type 0 where
   pub went : Went (module_of k) a (threads_of b) (threads_of c)
+  pub own : (w : Path → ℕ) → own_paths w c ≡ own_paths w b
   pub idle : All IsIdle b.forked → All IsIdle c.forked
   pub over : All (IsOver k) b.ended → All (IsOver k) c.ended
   pub counted : u.events + sum_by (λ (x : Thread). counts x.log) (threads_of b) ≡ s.events + sum_by (λ (x : Thread). counts x.log) (threads_of c)
   pub moved : u.moved ≡ false → s.moved ≡ false
+  pub work : work_of (threads_of b) ≤ work_of (threads_of c)
+  pub done : s.moved ≡ false → Grows u.moved (work_of (threads_of b)) (work_of (threads_of c))
   pub still : u.moved ≡ false → (w : Path → List LogEntry → ℕ) →
       sum_by (λ (x : Thread). w x.path x.log) (threads_of c) ≡ sum_by (λ (x : Thread). w x.path x.log) (threads_of b)
   pub tries : (z : EndName) → tries_of z (threads_of b) ≤ tries_of z (threads_of c)
@@ -79,6 +82,14 @@ Comes k (Ok Left) x y new = (y.log ≡ x.log) × (new ≡ []) × AsksMore k x y
 Comes k (Ok Over) x y new = (y.log ≡ x.log) × (new ≡ []) × IsOver k y
 Comes k (Err e) x y new = (y.log ≡ x.log) × (new ≡ [])
 
+-- whether this tells of an event, an offer or a notice
+abbrev pub is_move : Result Move AllocError → Bool
+is_move (Ok (Gained b)) = true
+is_move (Ok Offered) = true
+is_move (Ok Left) = false
+is_move (Ok Over) = false
+is_move (Err e) = false
+
 -- the thread at the place i has made a turn
 pub record TurnedAt (k : Code) (a : Tree) (i : ℕ) (r : Result Move AllocError) (u : Share) (b : Crew) : Type 0 where
   pub crew : Crew
@@ -88,6 +99,7 @@ pub record TurnedAt (k : Code) (a : Tree) (i : ℕ) (r : Result Move AllocError)
   pub was : (e : Thread) → slice_index_or b.tasks i e ≡ before
   pub at : IsAt i b crew after
   pub goes : GoesOnTo (module_of k) a before after at.new
+  pub done : Grows (is_move r) (work before) (work after + work_of at.new)
   pub tries : (z : EndName) → of_ends (tries_at z) before ≤ of_ends (tries_at z) after + tries_of z at.new
   pub comes : Comes k r before after at.new
 

@@ -1,5 +1,5 @@
 -- Shares of the tasks, and what a round makes of them.
-use Rattle.std.specs.Prelude.{◌≡◌, ℕ, ◌+◌, ◌<◌, ◌≤◌, Bool, true, false, Some, Result, Ok, Err, List, [], ◌∷◌, ◌++◌, length, slice_index_or, sum_by, All, ⊤}
+use Rattle.std.specs.Prelude.{◌≡◌, ◌⊎◌, ℕ, ◌+◌, ◌<◌, ◌≤◌, Bool, true, false, Some, Result, Ok, Err, List, [], ◌∷◌, ◌++◌, length, slice_index_or, sum_by, All, ⊤}
 use Rattle.std.specs.List.{list_any}
 use Rattle.std.specs.declared.alloc.AllocError.{AllocError}
 use Rattle.fst_types.specs.Tree.{Tree}
@@ -14,7 +14,7 @@ use Rattle.fst_runs.specs.Configs.{Path}
 use Rattle.fst_runs.specs.Wrong.{end_of}
 use Rattle.fst_safety.specs.declared.tasks.LogEntry.{LogEntry}
 use Rattle.fst_safety.specs.declared.tasks.TypedTask.{TypedTask}
-use Rattle.fst_safety.specs.Tasks.{Keeps, IsTypedCode, module_of, tries_at}
+use Rattle.fst_safety.specs.Tasks.{Grows, Keeps, IsTypedCode, module_of, offers, tries_at, work}
 use Rattle.fst_safety.specs.Threads.{Thread, FitsIn}
 use Rattle.fst_safety.specs.Turns.{of_ends}
 use Rattle.fst_worker.specs.declared.shares.Share.{Share}
@@ -100,6 +100,14 @@ counts es = sum_by (λ (e : LogEntry). counts_one e.answer) es
 abbrev pub tries_of : EndName → List Thread → ℕ
 tries_of z xs = sum_by (of_ends (tries_at z)) xs
 
+-- the paths of all threads but those that were forked, however they are weighed
+abbrev pub own_paths : (Path → ℕ) → Crew → ℕ
+own_paths w c = sum_by (λ (x : Thread). w x.path) c.tasks + sum_by (λ (x : Thread). w x.path) c.ended
+
+-- how much the threads have done
+abbrev pub work_of : List Thread → ℕ
+work_of xs = sum_by work xs
+
 -- the thread asks to send or to receive at an end that was tried since the threads were those before
 pub record HasAsked (k : Code) (before after : List Thread) (x : Thread) : Type 0 where
   pub asked : Request
@@ -110,11 +118,14 @@ pub record HasAsked (k : Code) (before after : List Thread) (x : Thread) : Type 
 
 -- what was made of the share s, whose threads were b, in u, whose threads are c
 pub record HasRun (k : Code) (steps : ℕ) (s u : Share) (b c : Crew) : Type 0 where
-  -- what was forked hasn't moved, and what has ended asks for no more
+  -- what was forked stands apart and hasn't moved, and what has ended asks for no more
+  pub own : (w : Path → ℕ) → own_paths w c ≡ own_paths w b
   pub idle : All IsIdle b.forked → All IsIdle c.forked
   pub over : All (IsOver k) b.ended → All (IsOver k) c.ended
   -- the events are counted
   pub counted : u.events + sum_by (λ (x : Thread). counts x.log) (threads_of b) ≡ s.events + sum_by (λ (x : Thread). counts x.log) (threads_of c)
+  -- more was done where the share has moved, and else as much
+  pub done : Grows u.moved (work_of (threads_of b)) (work_of (threads_of c))
   -- where nothing moved, no log has changed
   pub still : u.moved ≡ false → (w : Path → List LogEntry → ℕ) →
       sum_by (λ (x : Thread). w x.path x.log) (threads_of c) ≡ sum_by (λ (x : Thread). w x.path x.log) (threads_of b)
@@ -142,9 +153,14 @@ abbrev pub RunsAll : Code → ℕ → List Share → List Share → Type 0
 RunsAll k steps ss us =
     (a : Tree) (bs : List Crew) → IsTypedCode k a → AreCrews k ss bs → All (FitsIn (module_of k) a) (all_threads bs) → HaveRun k a steps ss us bs
 
--- there are as many shares, and no task that was forked has moved
+-- the paths of a share's tasks but for those that were forked, however they are weighed
+abbrev pub paths_in : (Path → ℕ) → Share → ℕ
+paths_in w s = sum_by (λ (t : TypedTask). w t.task.path) s.tasks.items + sum_by (λ (t : TypedTask). w t.task.path) s.ended.items
+
+-- there are as many shares, each with the tasks that it had, and no task that was forked has moved
 pub record AreLent (ss us : List Share) : Type 0 where
   pub length_is : length us ≡ length ss
+  pub own : (i : ℕ) (d : Share) → i < length ss → (w : Path → ℕ) → paths_in w (slice_index_or us i d) ≡ paths_in w (slice_index_or ss i d)
   pub idle : All (λ (s : Share). All (λ (t : TypedTask). t.log.items ≡ []) s.forked.items) us
 
 -- in each share the events have grown by those that its logs have gained
@@ -154,13 +170,26 @@ AreCounted ss us = (i : ℕ) (d : Share) → i < length ss →
     let u = slice_index_or us i d in
     u.events + sum_by (λ (t : TypedTask). counts t.log.items) (all_of s) ≡ s.events + sum_by (λ (t : TypedTask). counts t.log.items) (all_of u)
 
--- where a share hasn't moved, the logs of its tasks are as before
-abbrev pub AreStill : List Share → List Share → Type 0
-AreStill ss us = (i : ℕ) (d : Share) → i < length ss →
-    let s = slice_index_or ss i d in
-    let u = slice_index_or us i d in
-    u.moved ≡ false → (w : Path → List LogEntry → ℕ) →
-    sum_by (λ (t : TypedTask). w t.task.path t.log.items) (all_of u) ≡ sum_by (λ (t : TypedTask). w t.task.path t.log.items) (all_of s)
+-- how many entries the logs of a share have
+abbrev pub entries_in : Share → ℕ
+entries_in s = sum_by (λ (t : TypedTask). length t.log.items) (all_of s)
+
+-- how many offers of its tasks stand, for all that these know
+abbrev pub offers_in : Share → ℕ
+offers_in s = sum_by (λ (t : TypedTask). sum_by offers t.bag.items + sum_by offers t.retired.items) (all_of s)
+
+-- what `moved` tells of the share s, which is u now
+pub record IsTold (s u : Share) : Type 0 where
+  -- where it has moved its logs have more entries, or more of its offers stand
+  pub moved : u.moved ≡ true → (entries_in s < entries_in u) ⊎ (offers_in s < offers_in u)
+  -- where it hasn't, the logs of its tasks are as before, and as many offers stand
+  pub still : u.moved ≡ false → (w : Path → List LogEntry → ℕ) →
+      sum_by (λ (t : TypedTask). w t.task.path t.log.items) (all_of u) ≡ sum_by (λ (t : TypedTask). w t.task.path t.log.items) (all_of s)
+  pub idle : u.moved ≡ false → offers_in u ≡ offers_in s
+
+-- so it is of each share
+abbrev pub AreTold : List Share → List Share → Type 0
+AreTold ss us = (i : ℕ) (d : Share) → i < length ss → IsTold (slice_index_or ss i d) (slice_index_or us i d)
 
 -- whether a share has moved
 abbrev pub some_moved : List Share → Bool

@@ -3,7 +3,7 @@
 ghost use Rattle.std.specs.Prelude.{◌≡◌, ℕ, ◌<◌, [], All, length, slice_index_or};
 ghost use Rattle.fst_worker.specs.declared.shares.Share.{Share as Shared};
 ghost use Rattle.fst_worker.specs.Passes.{CanRun, Works};
-ghost use Rattle.fst_worker.specs.Shares.{AreCounted, AreLent, AreStill, CanMove, GoOn, IsAnswer, RunsAll, some_moved, some_refused};
+ghost use Rattle.fst_worker.specs.Shares.{AreCounted, AreLent, AreTold, CanMove, GoOn, IsAnswer, RunsAll, some_moved, some_refused};
 
 use crate::shares::Share;
 use fst_io::Gate;
@@ -74,7 +74,7 @@ fn all_work<R: Threads + Sync, G: Gate + Sync>(
     ensures runs { RunsAll code.now steps shares.old shares.new }
     ensures lent { AreLent shares.old shares.new }
     ensures counted { AreCounted shares.old shares.new }
-    ensures still { AreStill shares.old shares.new }
+    ensures told { AreTold shares.old shares.new }
 {
     each_works(rt, code, shares, steps, gate);
 }
@@ -123,7 +123,7 @@ pub fn round<R: Threads + Sync, G: Gate + Sync>(
     ensures runs { RunsAll code.now steps shares.old.items shares.new.items }
     ensures lent { AreLent shares.old.items shares.new.items }
     ensures counted { AreCounted shares.old.items shares.new.items }
-    ensures still { AreStill shares.old.items shares.new.items }
+    ensures told { AreTold shares.old.items shares.new.items }
     ensures answer { IsAnswer result shares.new.items }
 {
     all_work(rt, code, shares.as_mut_slice(), steps, gate);

@@ -1,4 +1,4 @@
-use Rattle.fst_worker.proofs.Together.{each_can, all_run, go_on, are_counted, are_lent, are_still}
+use Rattle.fst_worker.proofs.Together.{each_can, all_run, go_on, are_counted, are_lent, are_told}
 use Rattle.fst_worker.proofs.rounds.all_work.Goals as goal
 
 pub each_works-requires-clause-fit : goal.each_works-requires-clause-fit
@@ -20,6 +20,6 @@ pub returns-clause-counted : goal.returns-clause-counted
 returns-clause-counted g c =
     are_counted c.args.code.now c.args.steps _ _ c.each_works.ensures.len c.requires.fit (all_run c.args.code.now c.args.steps _ _ c.each_works.ensures.len c.each_works.ensures.each)
 
-pub returns-clause-still : goal.returns-clause-still
-returns-clause-still g c =
-    are_still c.args.code.now c.args.steps _ _ c.each_works.ensures.len c.requires.fit (all_run c.args.code.now c.args.steps _ _ c.each_works.ensures.len c.each_works.ensures.each)
+pub returns-clause-told : goal.returns-clause-told
+returns-clause-told g c =
+    are_told c.args.code.now c.args.steps _ _ c.each_works.ensures.len c.requires.fit (all_run c.args.code.now c.args.steps _ _ c.each_works.ensures.len c.each_works.ensures.each)
