@@ -3,16 +3,12 @@ use Rattle.std.proofs.Common.{◌≡◌, ◌∙◌, inl, inr, ℕ, ◌≤◌, Li
 use Rattle.std.specs.Prelude.{◌≢◌, IfOk}
 use Rattle.std.specs.declared.alloc.AllocError.{AllocError}
 use Rattle.fst_base.specs.Limits.{most_bytes}
-use Rattle.fst_scopes.specs.Aliases.{Known, IsKnown}
-use Rattle.fst_scopes.specs.First.{first_fault}
-use Rattle.fst_scopes.specs.TypeNames.{type_declared}
 use Rattle.fst_scopes.specs.declared.fault.NameFault.{NameFault}
 use Rattle.fst_scopes.specs.declared.fault.NameFault.TheVariants as naming
-use Rattle.fst_declarations.specs.ModuleFaults.{module_faults}
 use Rattle.fst_terms.specs.ModuleTree.{Declared}
 use Rattle.fst_terms.specs.declared.core_module.Module.{Module}
 use Rattle.fst_module_grammar.specs.Derives.{AnswersModule}
-use Rattle.fst_names.specs.ResolvedModule.{IsResolvedModule}
+use Rattle.fst_names.specs.ResolvedModule.{IsFirstFault, IsResolvedModule}
 use Rattle.fst_derivations.specs.Deriv.{Deriv}
 use Rattle.fst_type_print.specs.declared.refusals.Phrase.{Phrase}
 use Rattle.fst_type_print.specs.Texts.{family_names, phrase_text}
@@ -56,7 +52,7 @@ resolved_by bytes ds m is stands = record { declared = ds; read = is; resolved =
 
 -- the first fault of names and sizes of a source that was read
 pub names_found : (bytes : List ℕ) (ds : List Declared) (e : NameFault) → IsRead AnswersModule bytes ds →
-    (e ≢ naming.Memory → (known : Known) → IsKnown (type_declared ds) known → first_fault (module_faults ds known) ≡ Some e) → IfFound (name_fault e) (AreUnresolved bytes)
+    (e ≢ naming.Memory → IsFirstFault ds e) → IfFound (name_fault e) (AreUnresolved bytes)
 names_found bytes ds e is first =
     said_found (AreUnresolved bytes) e
     (λ g says. inr (ds, is, record { fault = e; first = first (λ want. absurd (cc (says, ap name_finding want))); says = says }))

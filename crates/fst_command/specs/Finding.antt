@@ -21,14 +21,11 @@ use Rattle.fst_scopes.specs.declared.fault.NameFault.{NameFault}
 use Rattle.fst_scopes.specs.declared.fault.NameFault.TheVariants as naming
 use Rattle.fst_terms.specs.ModuleTree.{Declared}
 use Rattle.fst_terms.specs.declared.core_module.Module.{Module}
-use Rattle.fst_scopes.specs.Aliases.{Known, IsKnown}
-use Rattle.fst_scopes.specs.TypeNames.{type_declared}
-use Rattle.fst_declarations.specs.ModuleFaults.{module_faults}
 use Rattle.fst_names.specs.declared.question.Question.{Question}
 use Rattle.fst_names.specs.Faults.{question_faults}
 use Rattle.fst_scopes.specs.First.{first_fault}
 use Rattle.fst_names.specs.Resolved.{IsResolved}
-use Rattle.fst_names.specs.ResolvedModule.{IsResolvedModule}
+use Rattle.fst_names.specs.ResolvedModule.{IsFirstFault, IsResolvedModule}
 
 -- an input is refused at a byte, or a token there is nested too deep, or a type there is too large
 pub data Finding : Type 0 where
@@ -128,7 +125,7 @@ IsNoModule bytes f = IsUnread AnswersModule bytes f
 -- a source stands for no module: it has a fault of names and sizes, of which the first is found
 pub record NamesFinding (ds : List Declared) (f : Finding) : Type 0 where
   pub fault : NameFault
-  pub first : (known : Known) → IsKnown (type_declared ds) known → first_fault (module_faults ds known) ≡ Some fault
+  pub first : IsFirstFault ds fault
   pub says : name_finding fault ≡ Some f
 
 -- the bytes are a source that stands for the module

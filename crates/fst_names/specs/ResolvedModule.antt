@@ -23,10 +23,16 @@ pub record IsResolvedModule (ds : List Declared) (m : Module) : Type 0 where
   pub globals : map global_parts m.globals.items ≡ module_globals ds known
   pub small : All (λ t. nodes t ≤ most_nodes) m.types.items
 
+-- a source has this fault first, with what is known of its aliases, which is one thing
+pub record IsFirstFault (ds : List Declared) (f : NameFault) : Type 0 where
+  pub known : Known
+  pub is_known : IsKnown (type_declared ds) known
+  pub first : (other : Known) → IsKnown (type_declared ds) other → first_fault (module_faults ds other) ≡ Some f
+
 -- the module that a source stands for, or the first of its faults
 abbrev pub IsAnswer : List Declared → Option Module → Option NameFault → Type 0
 IsAnswer ds (Some m) kept = IsResolvedModule ds m
-IsAnswer ds None kept = (f : NameFault) × (kept ≡ Some f) × ((known : Known) → IsKnown (type_declared ds) known → first_fault (module_faults ds known) ≡ Some f)
+IsAnswer ds None kept = (f : NameFault) × (kept ≡ Some f) × IsFirstFault ds f
 
 -- the parts of two modules are the same
 pub record AreSame (m n : Module) : Type 0 where

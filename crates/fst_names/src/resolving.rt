@@ -1,15 +1,13 @@
 ghost use Rattle.std.specs.Prelude.{◌≡◌, ◌≢◌, List, Some, None, IfErr, IfOk, OnOk, codes};
 ghost use Rattle.fst_terms.specs.ModuleTree.{Declared};
 ghost use Rattle.fst_terms.specs.ModuleView.{declarations};
-ghost use Rattle.fst_scopes.specs.Aliases.{IsKnown, Known};
 ghost use Rattle.fst_scopes.specs.declared.fault.NameFault.{NameFault};
 ghost use Rattle.fst_scopes.specs.declared.fault.NameFault.TheVariants.{Memory};
 ghost use Rattle.fst_scopes.specs.Faults.{is_among};
 ghost use Rattle.fst_scopes.specs.First.{first_fault};
-ghost use Rattle.fst_scopes.specs.TypeNames.{type_declared};
 ghost use Rattle.fst_declarations.specs.Declarations.{AreDeclarations};
-ghost use Rattle.fst_declarations.specs.ModuleFaults.{globals, module_faults, no_main};
-ghost use Rattle.fst_names.specs.ResolvedModule.{IsAnswer, IsResolvedModule, OneModuleLaw};
+ghost use Rattle.fst_declarations.specs.ModuleFaults.{globals, no_main};
+ghost use Rattle.fst_names.specs.ResolvedModule.{IsAnswer, IsFirstFault, IsResolvedModule, OneModuleLaw};
 
 use crate::module::module_of;
 use fst_declarations::{Declarations, declarations_of, note_decls};
@@ -73,9 +71,7 @@ fn module_or_fault(
 /// may come at any time, and comes where 32 bits have too few numbers.
 pub fn resolve(alloc: Global, m: &SourceModule) -> Result<Module, NameFault>
     ensures resolved { IfOk result (IsResolvedModule (declarations m.now)) }
-    ensures fault { IfErr result (λ f. f ≢ Memory → (known : Known) →
-        IsKnown (type_declared (declarations m.now)) known →
-        first_fault (module_faults (declarations m.now) known) ≡ Some f) }
+    ensures fault { IfErr result (λ f. f ≢ Memory → IsFirstFault (declarations m.now) f) }
 {
     let mut least = None;
     if let Some(module) = module_or_fault(alloc, m, &mut least)? {

@@ -2,6 +2,7 @@
 use Rattle.std.proofs.Common.{◌≡◌, ◌∙◌, ◌+◌, ◌<◌, ℕ, zero, suc, List, [], ◌∷◌, Some, drop, get_or, inl, inr, length, slice_get, refl, sym, ap, subst, arith}
 use Rattle.std.proofs.lemmas.List.{drop_all, drop_more}
 use Rattle.std.proofs.lemmas.Option.{same_Some}
+use Rattle.fst_types.specs.Size.{HasTooManyNodes}
 use Rattle.fst_types.specs.Tree.{Tree}
 use Rattle.fst_types.specs.declared.kind.Kind.{Kind}
 use Rattle.fst_types.specs.declared.kind.Use.{Use}
@@ -51,8 +52,8 @@ module _ (c : Check) where
   front xs ks i t ts a m w = let r = at_number T ks ts i 0 a m in r.2 ∙ ap (λ y. y ∷ drop (i + 1) ts) (same_Some r.0 t (sym r.1 ∙ w))
 
   pub entered_step : (xs : List Binder) (ks : List ℕ) (i : ℕ) (x : Binder) (t p : Tree) (n : Use) (before now next : Scope) → EnteredSoFar xs ks i before now → i < length xs → i < length ks → get_or xs i x ≡ x →
-      slice_get T (get_or ks i 0) ≡ Some t → p ≡ t → HasUse V p n → next ≡ entered x.name (record { type = p; uses = n }) now → EnteredSoFar xs ks (i + 1) before next
-  entered_step xs ks i x t p n before now next h l m at w q u g =
+      slice_get T (get_or ks i 0) ≡ Some t → (HasTooManyNodes t → ⊥) → p ≡ t → HasUse V p n → next ≡ entered x.name (record { type = p; uses = n }) now → EnteredSoFar xs ks (i + 1) before next
+  entered_step xs ks i x t p n before now next h l m at w small q u g =
       let head : drop i xs ≡ x ∷ drop (i + 1) xs = drop_more xs i x l ∙ ap (λ y. y ∷ drop (i + 1) xs) at in
       let v : Variable = record { type = p; uses = n } in
       record {
@@ -64,7 +65,7 @@ module _ (c : Check) where
               long = all.long;
               same = all.same ∙ ap (λ ys. entered_all ys (v ∷ ws) now) head ∙ ap (entered_all (drop (i + 1) xs) ws) (sym g);
             };
-        large = λ ts a f o. h.large ts a f (subst (λ ys. IsLargeBinder ys (drop i ts) f) (sym head) (subst (λ us. IsLargeBinder (x ∷ drop (i + 1) xs) us f) (sym (front xs ks i t ts a m w)) (inr o)));
+        large = λ ts a f o. h.large ts a f (subst (λ ys. IsLargeBinder ys (drop i ts) f) (sym head) (subst (λ us. IsLargeBinder (x ∷ drop (i + 1) xs) us f) (sym (front xs ks i t ts a m w)) (inr (small, o))));
       }
 
   -- the type of the next one is over its size

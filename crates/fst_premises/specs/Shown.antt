@@ -12,7 +12,7 @@ use Rattle.fst_types.specs.declared.kind.Use.TheVariants.{Many, Once}
 use Rattle.fst_types.specs.declared.label.Label.TheVariants as label
 use Rattle.fst_types.specs.declared.moves.Move.TheVariants as move
 use Rattle.fst_kinds.specs.Kinds.{session, subkind}
-use Rattle.fst_kinds.specs.WellFormed.{IsWellFormed, IsSession}
+use Rattle.fst_kinds.specs.WellFormed.{IsInstantiation, IsWellFormed, IsSession}
 use Rattle.fst_kinds.specs.declared.fault.KindFault.TheVariants.{WrongKind}
 use Rattle.fst_lts.specs.Step.{step}
 use Rattle.fst_lts.specs.Dual.{dual}
@@ -78,14 +78,15 @@ ShowsArguments c (k ∷ ks) (v ∷ vs) f =
     (((subkind j v ≡ false) × ((at : ℕ) × (slice_get c.places k ≡ Some at) × (f ≡ KindOfArgument at j v)))
     ⊎ ((subkind j v ≡ true) × ShowsArguments c ks vs f))
 
--- a use of a global has not as many type arguments as its signature has variables, or one of another kind, or its type is over
--- its size
+-- a use of a global has not as many type arguments as its signature has variables, or one of another kind; or they are such, and
+-- its type is over its size
 abbrev pub ShowsUse : Check → ℕ → ℕ → List ℕ → CheckFault → Type 0
 ShowsUse c at k ks f =
     (g : GlobalEntry) × (slice_get c.surroundings.globals k ≡ Some g) ×
     (((length ks ≡ length g.kinds.items → ⊥) × (f ≡ TypeArguments at (length ks) (length g.kinds.items)))
     ⊎ (((length ks ≡ length g.kinds.items) × ShowsArguments c ks g.kinds.items f)
-    ⊎ ((t : Tree) × (args : List Tree) × (slice_get c.surroundings.types g.signature ≡ Some t) × AreAt c.surroundings.types ks args × IsTooLargeAt at (instantiated args t) f)))
+    ⊎ ((t : Tree) × (args : List Tree) × (slice_get c.surroundings.types g.signature ≡ Some t) × AreAt c.surroundings.types ks args ×
+    IsInstantiation c.surroundings.vars g.kinds.items args × IsTooLargeAt at (instantiated args t) f)))
 
 -- the type of a new channel's end isn't a session type, or the type of both its ends is over its size
 abbrev pub ShowsNew : Check → ℕ → ℕ → CheckFault → Type 0
@@ -108,7 +109,7 @@ ShowsUnused z (x ∷ xs) f = IsUnused z (length xs) x f ⊎ ((at_or_not z.there 
 abbrev pub IsLargeBinder : List Binder → List Tree → CheckFault → Type 0
 IsLargeBinder [] ts f = ⊥
 IsLargeBinder (x ∷ xs) [] f = ⊥
-IsLargeBinder (x ∷ xs) (t ∷ ts) f = IsTooLargeAt x.at t f ⊎ IsLargeBinder xs ts f
+IsLargeBinder (x ∷ xs) (t ∷ ts) f = IsTooLargeAt x.at t f ⊎ ((HasTooManyNodes t → ⊥) × IsLargeBinder xs ts f)
 
 -- the outermost variable that is there in one scope and not in the other
 pub record DifferAt (s z : Scope) (k : ℕ) : Type 0 where

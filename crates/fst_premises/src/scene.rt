@@ -1,4 +1,6 @@
-ghost use Rattle.std.specs.Prelude.{◌≡◌, ◌<◌, ℕ, IfErr, slice_get, Some, length};
+ghost use Rattle.std.specs.Prelude.{◌≡◌, ◌<◌, ◌≤◌, ℕ, IfErr, OnOk, slice_get, Some, length};
+ghost use Rattle.fst_base.specs.Limits.{most_nodes};
+ghost use Rattle.fst_types.specs.Size.{nodes};
 ghost use Rattle.fst_types.specs.declared.family.Maker.{Maker};
 ghost use Rattle.fst_terms.specs.InRange.{HasFields, maker_of};
 ghost use Rattle.fst_premises.specs.Shown.{IsTooLargeAt, place};
@@ -35,7 +37,8 @@ pub(crate) fn place_at(scene: Scene<'_>, k: u32) -> u32
 
 /// That a type isn't over its size.
 pub(crate) fn fits(at: u32, t: &Ty) -> Result<(), CheckFault>
-    ensures { IfErr result (λ f. IsTooLargeAt at t.now f) }
+    ensures fits { OnOk result (nodes t.now ≤ most_nodes) }
+    ensures refused { IfErr result (λ f. IsTooLargeAt at t.now f) }
 {
     if size(t) > MOST_NODES {
         return Err(CheckFault::TooLarge(at));

@@ -39,7 +39,7 @@ pub large_binder_text : (n : ℕ) (xs : List Binder) (ts : List Tree) (f : Check
 large_binder_text n [] ts f y = absurd y
 large_binder_text n (x ∷ xs) [] f y = absurd y
 large_binder_text n (x ∷ xs) (t ∷ ts) f (inl y) = large_text n x.at t f y
-large_binder_text n (x ∷ xs) (t ∷ ts) f (inr y) = large_binder_text n xs ts f y
+large_binder_text n (x ∷ xs) (t ∷ ts) f (inr y) = large_binder_text n xs ts f y.1
 
 pub argument_text : (n : ℕ) (c : Check) (ks : List ℕ) (vs : List Kind) (f : CheckFault) → ShowsArguments c ks vs f → HaveTexts n f
 argument_text n c [] vs f y = absurd y

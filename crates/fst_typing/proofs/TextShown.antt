@@ -90,7 +90,7 @@ module _ (c : Check) (types : AllHaveText (length c.surroundings.families) c.sur
     shown_texts (local at k) s f h x = either N f x.2 (λ y. said N f (UsedTwice at x.0) y.1 tt) (λ y. said N f (CapturedLinear at x.0) y.1 tt)
     shown_texts (global at k ks) s f h x =
         either N f x.2 (λ y. said N f (TypeArguments at (length ks) (length x.0.kinds.items)) y.1 tt)
-        (λ y. either N f y (λ z. argument_text N c ks x.0.kinds.items f z.1) (λ z. large_text N at _ f z.4))
+        (λ y. either N f y (λ z. argument_text N c ks x.0.kinds.items f z.1) (λ z. large_text N at _ f z.5))
     shown_texts (int at n) s f h x = absurd x
     shown_texts (bool at b) s f h x = absurd x
     shown_texts (char at n) s f h x = absurd x

@@ -5,7 +5,7 @@ use Rattle.fst_scopes.specs.First.{first_fault, first_from}
 use Rattle.fst_declarations.specs.Declarations.{AreDeclarations, known_in}
 use Rattle.fst_declarations.specs.ModuleFaults.{decls_faults, faults_but_main, module_faults, twice_declared}
 use Rattle.fst_names.specs.Faultless.{IsFaultless}
-use Rattle.fst_names.proofs.ModuleLaws.{all_noted, any_known, none_first}
+use Rattle.fst_names.proofs.ModuleLaws.{all_noted, any_known, none_first, own_known}
 use Rattle.fst_names.proofs.resolving.module_or_fault.Goals as goal
 
 pub returns-in-Some : goal.returns-in-Some
@@ -19,8 +19,11 @@ returns-in-Some c =
     let decls : c.note_decls.new.least ≡ first_from c.declarations_of.new.least (decls_faults ds known ds) = rw c.deref-2.ensures.value at c.in_ok-note_decls.ensures ds are in
     let noted : c.note_main.new.least ≡ first_fault (module_faults ds known) =
     all_noted ds known c.declarations_of.new.least c.note_decls.new.least c.note_main.new.least (twice ∙ ap (λ o. first_from o (twice_declared ds)) c.requires) decls
-    (λ e. c.in_ok-note_main.ensures ds (faults_but_main ds known) are e) in
-    (c.in-Some.field-0, c.in-Some.is, λ other is. any_known ds d c.note_main.new.least are noted other is ∙ c.in-Some.is)
+    (λ e. c.in_ok-note_main.ensures ds (faults_but_main ds known) are e) in (
+      c.in-Some.field-0,
+      c.in-Some.is,
+      record { known = known; is_known = own_known ds d are; first = λ other is. any_known ds d c.note_main.new.least are noted other is ∙ c.in-Some.is },
+    )
 
 pub module_of-requires : goal.module_of-requires
 module_of-requires c =

@@ -41,6 +41,7 @@ returns-then-instance_size-gt-MOST_NODES-clause-refused c =
         c.in_ok-args.args.items,
         c.type_at-signature.ensures,
         c.in_ok-args.ensures.there,
+        subst (λ xs. IsInstantiation c.args.scene.vars.now xs c.in_ok-args.args.items) c.deref.ensures.value c.in_ok-args.ensures.below,
         record { large = subst (λ xs. HasTooManyNodes (instantiated xs c.type_at-signature.result.now)) c.deref-2.ensures.value large; is = refl },
       )),
     )
