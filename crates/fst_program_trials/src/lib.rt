@@ -6,6 +6,8 @@ mod checking;
 #[cfg(test)]
 mod ends;
 #[cfg(test)]
+mod failing;
+#[cfg(test)]
 mod limits;
 #[cfg(test)]
 mod program;

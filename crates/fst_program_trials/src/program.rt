@@ -1,17 +1,15 @@
 //! The program over ends in memory.
 
-use crate::ends::{shown, sink_of, source_of};
+use crate::ends::shown;
 use fst_command::{Status, top};
-use fst_io::{OpenGate, OutputSink, SteadySink, SteadySource};
+use fst_io::{OpenGate, SteadySink, SteadySource};
 use fst_make::make;
 use fst_tables::{each_line, each_pair};
 use std::alloc::{AllocError, Global};
-use std::io;
-use std::io::Write;
 use std::test::Fail;
 use std::thread::Threads;
 
-fn words(alloc: Global, text: &str) -> Result<Vec<String>, AllocError> {
+pub(crate) fn words(alloc: Global, text: &str) -> Result<Vec<String>, AllocError> {
     let mut list = Vec::new(alloc);
     for word in text.split_whitespace() {
         list.push(String::from_str(alloc, word)?)?;
@@ -140,13 +138,18 @@ fn inputs_are_answered(rt: HostRuntime) -> Result<(), Fail> {
 }
 
 // The words of made modules; nothing is read, and the summary of their run is written.
-const MADE: [(&str, &str); 4] = [
+const MADE: [(&str, &str); 5] = [
     // made-modules
     ("make 0", "bytes 48\nevents 2\nchannels 0\nresult 0\n"),
     ("make 2", "bytes 312\nevents 16\nchannels 2\nresult 3\n"),
     (
         "make 1000",
         "bytes 145308\nevents 7002\nchannels 1000\nresult 500500\n",
+    ),
+    // the most channels
+    (
+        "make 5000",
+        "bytes 757308\nevents 35002\nchannels 5000\nresult 12502500\n",
     ),
     // leading zeros
     (
@@ -236,127 +239,6 @@ fn other_words_are_refused_and_nothing_is_read(rt: HostRuntime) -> Result<(), Fa
         rt.alloc(),
         OTHER_WORDS,
         |alloc, given| words_row(&rt, alloc, given),
-    )
-}
-
-/// A question.
-const QUESTION: (&str, &str) = ("equiv", "Skip;!Int ~ !Int;Skip");
-
-/// The status and the text for a word and an input, over ends that fail.
-fn run_between<R: Threads + Sync>(
-    rt: &R,
-    alloc: Global,
-    (word, input): (&str, &str),
-    reads: (usize, u64),
-    writes: (usize, u64),
-) -> Result<(u8, Vec<u8>), Fail> {
-    let mut source = source_of(alloc, input.as_bytes(), reads.0, reads.1)?;
-    let mut sink = sink_of(alloc, writes.0, writes.1)?;
-    let words = words(alloc, word)?;
-    let status = top(rt, alloc, &words, &mut source, &mut sink, &OpenGate);
-    Ok((status.number(), sink.bytes))
-}
-
-/// How many of the first 23 calls on the source fail the run where they fail; then nothing is written.
-fn reads_row<R: Threads + Sync>(rt: &R, alloc: Global, given: &str) -> Result<String, Fail> {
-    let piece = given.parse::<usize>()?;
-    let mut count = 0;
-    for fail in 1..24 {
-        let (number, text) = run_between(rt, alloc, QUESTION, (piece, fail), (99, 0))?;
-        if number == 6 && text.is_empty() {
-            count = fail;
-        } else if number != 0 || text.len() != 4 {
-            return Err(Fail::new("a fault without its status"));
-        }
-    }
-    Ok(format!(in alloc; "{count}")?)
-}
-
-#[test]
-fn failing_reads_write_nothing(rt: HostRuntime) -> Result<(), Fail> {
-    // how many of the 21 bytes a call gives; how many calls read them and their end
-    let table = "\
-1 = 22
-2 = 12
-4 = 7
-7 = 4";
-    each_line(
-        rt.alloc(),
-        table,
-        |alloc, given| reads_row(&rt, alloc, given),
-    )
-}
-
-fn writes_row<R: Threads + Sync>(rt: &R, alloc: Global, given: &str) -> Result<String, Fail> {
-    let (piece, fail) = given.split_once(" ¦ ").ok_or("no call")?;
-    let writes = (piece.parse::<usize>()?, fail.parse::<u64>()?);
-    let (number, text) = run_between(rt, alloc, QUESTION, (99, 0), writes)?;
-    Ok(format!(in alloc; "{number} {}", shown(&text)?)?)
-}
-
-#[test]
-fn a_report_is_cut_where_a_write_fails(rt: HostRuntime) -> Result<(), Fail> {
-    let input =
-        "main : Int\nmain = let (a, b) = new !Int in fork (send 42 a); let (x, c) = receive b in x";
-    let (number, text) = run_between(&rt, rt.alloc(), ("run", input), (99, 0), (7, 2))?;
-    if number == 7 && text.as_slice() == b"result ".as_slice() {
-        Ok(())
-    } else {
-        Err(Fail::new("another status, or more is written"))
-    }
-}
-
-#[test]
-fn failing_writes_leave_a_prefix(rt: HostRuntime) -> Result<(), Fail> {
-    // how many bytes a call takes and which call fails; the status, and what is written
-    let table = "\
-1 ¦ 1 = 7
-1 ¦ 3 = 7 ye
-1 ¦ 4 = 7 yes
-1 ¦ 5 = 0 yes
-2 ¦ 1 = 7
-2 ¦ 2 = 7 ye
-2 ¦ 3 = 0 yes
-7 ¦ 1 = 7
-7 ¦ 2 = 0 yes";
-    each_line(
-        rt.alloc(),
-        table,
-        |alloc, given| writes_row(&rt, alloc, given),
-    )
-}
-
-/// A writer whose every call answers an error.
-#[derive(Drop)]
-struct Broken;
-
-impl Write for Broken {
-    fn write(&mut self, _buf: &[u8]) -> io::Result<usize> {
-        Err(io::ErrorKind::Other.into())
-    }
-
-    fn flush(&mut self) -> io::Result<()> {
-        Ok(())
-    }
-}
-
-fn broken_row<R: Threads + Sync>(rt: &R, alloc: Global, given: &str) -> Result<String, Fail> {
-    let mut source = SteadySource {
-        bytes: b"Skip ~ Skip".to_vec(alloc)?,
-        next: 0,
-    };
-    let mut sink = OutputSink::new(Broken);
-    let words = words(alloc, given)?;
-    let status = top(rt, alloc, &words, &mut source, &mut sink, &OpenGate);
-    Ok(format!(in alloc; "{status:?} {}", sink.faults)?)
-}
-
-#[test]
-fn a_broken_output_is_a_write_fault(rt: HostRuntime) -> Result<(), Fail> {
-    each_line(
-        rt.alloc(),
-        "equiv = WriteFault 1",
-        |alloc, given| broken_row(&rt, alloc, given),
     )
 }
 
