@@ -26,7 +26,7 @@ fn letters(alloc: Global) -> Result<Vec<Label>, AllocError>
     Ok(letters)
 }
 
-fn digits(alloc: Global, text: &str) -> Result<Vec<u32>, AllocError> {
+pub(crate) fn digits(alloc: Global, text: &str) -> Result<Vec<u32>, AllocError> {
     let mut numbers = Vec::new(alloc);
     for byte in text.as_bytes() {
         numbers.push(byte.saturating_sub(b'0') as u32)?;
@@ -34,7 +34,7 @@ fn digits(alloc: Global, text: &str) -> Result<Vec<u32>, AllocError> {
     Ok(numbers)
 }
 
-fn one_digit(text: &str) -> u32 {
+pub(crate) fn one_digit(text: &str) -> u32 {
     match text.as_bytes() {
         [digit] => digit.saturating_sub(b'0') as u32,
         _ => 0,
@@ -69,7 +69,7 @@ fn row(alloc: Global, text: &str) -> Result<Rules, Fail> {
 
 /// The grammar of a text, in which non-terminals and letters are digits: `02 1 / 03` is the grammar whose non-terminal 0
 /// has rules by letter 0 to the word 2 and by letter 1 to the empty word, and whose non-terminal 1 has one by 0 to 3.
-fn grammar(alloc: Global, text: &str) -> Result<Grammar, Fail>
+pub(crate) fn grammar(alloc: Global, text: &str) -> Result<Grammar, Fail>
     ensures { IfOk result (λ g. IsRising label_cmp g.letters.items) }
 {
     let mut rules = Vec::new(alloc);

@@ -1,0 +1,5 @@
+pub mod RewriteParts
+pub mod Joining
+pub mod LetterLaws
+pub mod MarkLaws
+pub mod ChainLaws
