@@ -7,14 +7,14 @@ use Rattle.fst_base.proofs.AgreementLaws.{same_related}
 use Rattle.fst_base.proofs.Bools.{same_number}
 use Rattle.fst_words.specs.declared.rules.Rule.{Rule}
 use Rattle.fst_words.specs.Marks.{is_marked}
-use Rattle.fst_words.specs.Words.{Productions, row_of, rule_of, step}
+use Rattle.fst_words.specs.Words.{Productions, row_of, rule_of, step, first_row}
 use Rattle.fst_norms.specs.Pruned.{has_marked}
 use Rattle.fst_basis.specs.declared.proof.Pair.{Pair}
 use Rattle.fst_basis.specs.declared.proof.Chain.{Chain}
 use Rattle.fst_basis.specs.declared.proof.Rewrite.{Rewrite}
 use Rattle.fst_basis.specs.declared.proof.Rewrite.TheVariants.{Forth, Back, Cut, Grow}
 use Rattle.fst_basis.specs.Rewrites.{chained, rewritten}
-use Rattle.fst_basis.specs.Basis.{AreJoined, AreJoinedByRules, IsBasis, IsPair, IsProof, RewriteLaw, first_row}
+use Rattle.fst_basis.specs.Basis.{AreJoined, AreJoinedByRules, IsBasis, IsPair, IsProof, RewriteLaw}
 use Rattle.fst_basis.proofs.RewriteParts.{AreExchanged, AreMarkedAlike, Makes, rewritten_makes}
 
 -- joined in any number of rewrites, either way

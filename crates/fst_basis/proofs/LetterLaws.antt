@@ -6,8 +6,8 @@ use Rattle.std.proofs.lemmas.Bool.{eq-eqb}
 use Rattle.fst_base.proofs.Bools.{and_parts, same_number}
 use Rattle.fst_words.specs.declared.rules.Rule.{Rule}
 use Rattle.fst_words.specs.Ordered.{AreOrdered, IsAbove}
-use Rattle.fst_words.specs.Words.{Productions, row_of, rule_of, step}
-use Rattle.fst_basis.specs.Basis.{IsPair, first_row, same_letters}
+use Rattle.fst_words.specs.Words.{Productions, row_of, rule_of, step, first_row}
+use Rattle.fst_basis.specs.Basis.{IsPair, same_letters}
 use Rattle.fst_basis.specs.declared.proof.Pair.{Pair}
 
 no_rules : (i : ℕ) → drop {A = Rule} i [] ≡ []

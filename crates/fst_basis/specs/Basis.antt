@@ -3,17 +3,12 @@
 use Rattle.std.specs.Prelude.{◌≡◌, ◌≢◌, ◌↔◌, ℕ, ◌&&◌, ◌==◌, List, [], ◌∷◌, ◌++◌, length, take, drop, Some, IsSome, Bool, true, false, All, ⊤}
 use Rattle.fst_base.specs.Agreement.{HaveSameTraces}
 use Rattle.fst_words.specs.declared.rules.Rule.{Rule}
-use Rattle.fst_words.specs.Words.{Productions, row_of, step, InRange, LettersBelow, WordBelow}
+use Rattle.fst_words.specs.Words.{Productions, step, InRange, LettersBelow, WordBelow, first_row}
 use Rattle.fst_norms.specs.Pruned.{IsUnnormedSet}
 use Rattle.fst_basis.specs.declared.proof.Pair.{Pair}
 use Rattle.fst_basis.specs.declared.proof.Chain.{Chain}
 use Rattle.fst_basis.specs.declared.proof.Rewrite.{Rewrite}
 use Rattle.fst_basis.specs.Rewrites.{chained}
-
--- the rules by which a word moves, those of its first non-terminal
-abbrev pub first_row : Productions → List ℕ → List Rule
-first_row rows [] = []
-first_row rows (n ∷ w) = row_of rows n
 
 -- the rules have the same letters, one after the other
 abbrev pub same_letters : List Rule → List Rule → Bool

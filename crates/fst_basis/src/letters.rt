@@ -2,8 +2,8 @@
 
 ghost use Rattle.std.specs.Prelude.{◌≡◌, ◌↔◌, ◌<◌, ◌++◌, IsTrue, length, option_map};
 ghost use Rattle.fst_words.specs.Ordered.{AreOrdered};
-ghost use Rattle.fst_words.specs.Words.{WordBelow, row_of, step};
-ghost use Rattle.fst_basis.specs.Basis.{IsPair, first_row, same_letters};
+ghost use Rattle.fst_words.specs.Words.{WordBelow, row_of, step, first_row};
+ghost use Rattle.fst_basis.specs.Basis.{IsPair, same_letters};
 
 use crate::proof::Pair;
 use fst_words::{Grammar, Rule};

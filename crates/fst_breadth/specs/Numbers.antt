@@ -3,10 +3,9 @@ use Rattle.std.specs.Prelude.{◌≡◌, ℕ, ◌<◌, ◌≤◌, List, length, 
 use Rattle.std.specs.declared.vec.Vec.{Vec}
 use Rattle.std.specs.declared.alloc.Global.{Global}
 use Rattle.fst_words.specs.declared.rules.Rule.{Rule}
-use Rattle.fst_words.specs.Words.{Productions, row_of, rule_of}
+use Rattle.fst_words.specs.Words.{Productions, row_of, rule_of, first_row}
 use Rattle.fst_shared.specs.Shared.{word_of}
 use Rattle.fst_breadth.specs.Reached.{ReachedPair}
-use Rattle.fst_breadth.specs.Rows.{first_row}
 use Rattle.fst_breadth.specs.Following.{KeepsState}
 
 -- the number is that of the rule's word

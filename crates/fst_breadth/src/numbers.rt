@@ -1,8 +1,7 @@
 // Numbers for the words of rules, by which rules with the same word are told without a look at it.
 ghost use Rattle.std.specs.Prelude.{◌≡◌, ◌<◌, List, ℕ, IfOk, IfSome, length, slice_get};
-ghost use Rattle.fst_words.specs.Words.{Productions};
+ghost use Rattle.fst_words.specs.Words.{Productions, first_row};
 ghost use Rattle.fst_shared.specs.Shared.{Keeps};
-ghost use Rattle.fst_breadth.specs.Rows.{first_row};
 ghost use Rattle.fst_breadth.specs.Numbers.{AreNumbers, AreNumbered};
 
 use fst_shared::SharedWords;

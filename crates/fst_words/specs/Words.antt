@@ -18,6 +18,11 @@ rule_of (r ∷ rules) a = if r.letter == a then Some r.word else rule_of rules a
 abbrev pub row_of : Productions → ℕ → List Rule
 row_of rows n = slice_index_or rows n []
 
+-- the rules by which a word moves, those of its first non-terminal
+abbrev pub first_row : Productions → List ℕ → List Rule
+first_row rows [] = []
+first_row rows (n ∷ w) = row_of rows n
+
 -- the word after a letter: the word of the first non-terminal's rule takes its place, so that nothing moves behind
 -- a non-terminal without rules
 abbrev pub step : Productions → List ℕ → ℕ → Option (List ℕ)

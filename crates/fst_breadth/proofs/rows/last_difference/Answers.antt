@@ -3,8 +3,8 @@ use Rattle.std.specs.Prelude.{IfSome, IfNone, slice_get}
 use Rattle.fst_base.proofs.Lists.{get_there}
 use Rattle.fst_types.specs.declared.side.Side.{Side}
 use Rattle.fst_words.specs.Ordered.{AreOrdered}
-use Rattle.fst_words.specs.Words.{Productions}
-use Rattle.fst_breadth.specs.Rows.{first_row, row_difference}
+use Rattle.fst_words.specs.Words.{Productions, first_row}
+use Rattle.fst_breadth.specs.Rows.{row_difference}
 use Rattle.fst_breadth.specs.Reached.{ReachedPair}
 use Rattle.fst_breadth.specs.Following.{IsLastAlike, IsLastParted}
 use Rattle.fst_breadth.proofs.RowLaws.{same_letters_by_rows, difference_by_rows, head_below}
