@@ -6,9 +6,8 @@ use Rattle.fst_base.specs.Agreement.{BothOrNeither, HaveSameTraces, Performs, re
 use Rattle.fst_base.proofs.AgreementLaws.{same_related}
 use Rattle.fst_base.proofs.Bools.{same_number}
 use Rattle.fst_words.specs.declared.rules.Rule.{Rule}
-use Rattle.fst_words.specs.Marks.{is_marked}
+use Rattle.fst_words.specs.Marks.{is_marked, has_marked}
 use Rattle.fst_words.specs.Words.{Productions, row_of, rule_of, step, first_row}
-use Rattle.fst_norms.specs.Pruned.{has_marked}
 use Rattle.fst_basis.specs.declared.proof.Pair.{Pair}
 use Rattle.fst_basis.specs.declared.proof.Chain.{Chain}
 use Rattle.fst_basis.specs.declared.proof.Rewrite.{Rewrite}

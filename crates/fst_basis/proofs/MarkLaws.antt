@@ -4,9 +4,8 @@ use Rattle.std.specs.Prelude.{All}
 use Rattle.std.proofs.Common.{get_or, length}
 use Rattle.std.proofs.lemmas.List.Elements.{All-head, All-tail}
 use Rattle.fst_words.proofs.Laws.{present}
-use Rattle.fst_words.specs.Marks.{is_marked}
+use Rattle.fst_words.specs.Marks.{is_marked, has_marked, IsUnnormedSet}
 use Rattle.fst_words.specs.Ordered.{AreOrdered}
-use Rattle.fst_norms.specs.Pruned.{has_marked, IsUnnormedSet}
 use Rattle.fst_words.specs.declared.rules.Rule.{Rule}
 use Rattle.fst_words.specs.Words.{Productions, row_of, rule_of}
 

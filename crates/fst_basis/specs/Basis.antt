@@ -4,7 +4,7 @@ use Rattle.std.specs.Prelude.{◌≡◌, ◌≢◌, ◌↔◌, ℕ, ◌&&◌, �
 use Rattle.fst_base.specs.Agreement.{HaveSameTraces}
 use Rattle.fst_words.specs.declared.rules.Rule.{Rule}
 use Rattle.fst_words.specs.Words.{Productions, step, InRange, LettersBelow, WordBelow, first_row}
-use Rattle.fst_norms.specs.Pruned.{IsUnnormedSet}
+use Rattle.fst_words.specs.Marks.{IsUnnormedSet}
 use Rattle.fst_basis.specs.declared.proof.Pair.{Pair}
 use Rattle.fst_basis.specs.declared.proof.Chain.{Chain}
 use Rattle.fst_basis.specs.declared.proof.Rewrite.{Rewrite}

@@ -1,7 +1,7 @@
 //! Whether marks are those of an unnormed set.
 
 ghost use Rattle.std.specs.Prelude.{◌≡◌, ◌↔◌, All, IsTrue, length, true};
-ghost use Rattle.fst_norms.specs.Pruned.{IsUnnormedSet, has_marked};
+ghost use Rattle.fst_words.specs.Marks.{IsUnnormedSet, has_marked};
 
 use crate::letters::row_of;
 use fst_words::{Grammar, Rule};

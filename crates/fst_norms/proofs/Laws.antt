@@ -2,7 +2,8 @@
 use Rattle.std.proofs.Common.{◌≡◌, ℕ, List, Bool}
 use Rattle.std.specs.Prelude.{option_map}
 use Rattle.fst_words.specs.Words.{Productions, after}
-use Rattle.fst_norms.specs.Pruned.{pruned_word, IsUnnormedSet}
+use Rattle.fst_words.specs.Marks.{IsUnnormedSet}
+use Rattle.fst_norms.specs.Pruned.{pruned_word}
 use Rattle.fst_norms.proofs.PruneLaws as prune_laws
 
 -- a pruned word is pruned to itself

@@ -7,8 +7,8 @@ use Rattle.fst_words.specs.Words.{Productions, row_of, rule_of, step, after, Wor
 use Rattle.fst_base.specs.Agreement.{HaveSameTraces}
 use Rattle.fst_norms.specs.Norms.{Empties, HasNoNorm, HasNorm, IsNormOrNone}
 use Rattle.fst_norms.specs.Bounds.{bound_at}
-use Rattle.fst_words.specs.Marks.{is_marked}
-use Rattle.fst_norms.specs.Pruned.{has_marked, IsUnnormedSet, pruned_word}
+use Rattle.fst_words.specs.Marks.{is_marked, has_marked, IsUnnormedSet}
+use Rattle.fst_norms.specs.Pruned.{pruned_word}
 use Rattle.fst_norms.proofs.NormLaws.{Empties-append, after_rule}
 
 has_marked-append_l : (m : List Bool) (v w : List ℕ) → has_marked m v ≡ true → has_marked m (v ++ w) ≡ true

@@ -1,16 +1,7 @@
--- Unnormed non-terminals, and words cut behind the first of them (Almeida, Mordido, Vasconcelos, TACAS 2020).
-use Rattle.std.specs.Prelude.{◌≡◌, ℕ, ◌<◌, ◌||◌, List, [], ◌∷◌, length, Some, Bool, true, false, if◌then◌else◌}
-use Rattle.fst_words.specs.Marks.{is_marked}
-use Rattle.fst_words.specs.Words.{Productions, row_of, rule_of}
-
--- some non-terminal of the word is marked
-abbrev pub has_marked : List Bool → List ℕ → Bool
-has_marked marks [] = false
-has_marked marks (n ∷ w) = is_marked marks n || has_marked marks w
-
--- every rule of every marked non-terminal contains a marked one
-abbrev pub IsUnnormedSet : Productions → List Bool → Type 0
-IsUnnormedSet rows marks = (n a : ℕ) (v : List ℕ) → is_marked marks n ≡ true → rule_of (row_of rows n) a ≡ Some v → has_marked marks v ≡ true
+-- The largest unnormed set, and words cut behind the first of them (Almeida, Mordido, Vasconcelos, TACAS 2020).
+use Rattle.std.specs.Prelude.{◌≡◌, ℕ, ◌<◌, List, [], ◌∷◌, length, Bool, true, if◌then◌else◌}
+use Rattle.fst_words.specs.Marks.{is_marked, IsUnnormedSet}
+use Rattle.fst_words.specs.Words.{Productions}
 
 -- the marks are those of the largest unnormed set, one for each non-terminal
 pub record AreUnnormed (rows : Productions) (marks : List Bool) : Type 0 where

@@ -2,8 +2,8 @@ ghost use Rattle.std.specs.Prelude.{◌≡◌, ◌<◌, ℕ, IfOk, length, take,
 ghost use Rattle.fst_words.specs.Words.{Productions, step, InRange, WordBelow};
 ghost use Rattle.fst_base.specs.Agreement.{HaveSameTraces};
 ghost use Rattle.fst_norms.specs.Norms.{HasNoNorm, HasNorm};
-ghost use Rattle.fst_words.specs.Marks.{is_marked};
-ghost use Rattle.fst_norms.specs.Pruned.{pruned_word, AreUnnormed, IsPruned, IsUnnormedSet};
+ghost use Rattle.fst_words.specs.Marks.{is_marked, IsUnnormedSet};
+ghost use Rattle.fst_norms.specs.Pruned.{pruned_word, AreUnnormed, IsPruned};
 
 use crate::rounds::norms;
 use fst_words::{Grammar, Word};

@@ -1,6 +1,16 @@
--- Non-terminals that are marked.
-use Rattle.std.specs.Prelude.{ℕ, List, Bool, false, slice_index_or}
+-- Non-terminals that are marked, and unnormed sets of them (Almeida, Mordido, Vasconcelos, TACAS 2020).
+use Rattle.std.specs.Prelude.{◌≡◌, ℕ, ◌||◌, List, [], ◌∷◌, Some, Bool, true, false, slice_index_or}
+use Rattle.fst_words.specs.Words.{Productions, row_of, rule_of}
 
 -- the non-terminal is marked
 abbrev pub is_marked : List Bool → ℕ → Bool
 is_marked marks n = slice_index_or marks n false
+
+-- some non-terminal of the word is marked
+abbrev pub has_marked : List Bool → List ℕ → Bool
+has_marked marks [] = false
+has_marked marks (n ∷ w) = is_marked marks n || has_marked marks w
+
+-- every rule of every marked non-terminal contains a marked one
+abbrev pub IsUnnormedSet : Productions → List Bool → Type 0
+IsUnnormedSet rows marks = (n a : ℕ) (v : List ℕ) → is_marked marks n ≡ true → rule_of (row_of rows n) a ≡ Some v → has_marked marks v ≡ true

@@ -1,5 +1,5 @@
 use Rattle.std.proofs.Common.{◌≡◌, drop}
-use Rattle.fst_norms.specs.Pruned.{has_marked}
+use Rattle.fst_words.specs.Marks.{has_marked}
 use Rattle.fst_basis.proofs.marks.has_marked.Given as goal
 
 abbrev pub invariant-loop-n : goal.invariant-loop-n

@@ -1,6 +1,6 @@
 use Rattle.std.proofs.Common.{◌≡◌, arith, refl, true}
-use Rattle.fst_norms.specs.Pruned.{has_marked}
 use Rattle.fst_words.specs.Words.{row_of}
+use Rattle.fst_words.specs.Marks.{has_marked}
 use Rattle.fst_basis.proofs.MarkLaws.{all_have, marked_within, word_has}
 use Rattle.fst_basis.proofs.marks.is_unnormed_set.Goals as goal
 

@@ -1,8 +1,7 @@
 use Rattle.std.proofs.Common.{◌≡◌, ◌<◌, ℕ, true}
 use Rattle.std.specs.Prelude.{All}
-use Rattle.fst_words.specs.Marks.{is_marked}
+use Rattle.fst_words.specs.Marks.{is_marked, has_marked}
 use Rattle.fst_words.specs.Words.{row_of}
-use Rattle.fst_norms.specs.Pruned.{has_marked}
 use Rattle.fst_basis.proofs.marks.is_unnormed_set.Given as goal
 
 -- the words of the rules of each marked non-terminal so far have a marked one
