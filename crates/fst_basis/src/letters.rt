@@ -43,9 +43,9 @@ pub(crate) fn parts_after<'a>(
     Some((next.as_slice(), rest))
 }
 
-// Whether the rules have the same letters, one after the other.
+/// Whether rules have the same letters, one after the other.
 #[tactic(auto, using(crate::proofs::LetterLaws::longer_right))]
-fn same_letters(left: &[Rule], right: &[Rule]) -> bool
+pub fn same_letters(left: &[Rule], right: &[Rule]) -> bool
     ensures { result ≡ same_letters left.now right.now }
 {
     for (i, rule) in left.iter().enumerate() {

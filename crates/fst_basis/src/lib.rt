@@ -10,4 +10,5 @@ mod rewriting;
 
 pub use checking::check;
 pub use law::rewrite_law;
+pub use letters::same_letters;
 pub use proof::{Chain, Pair, Proof, Rewrite};

@@ -1,9 +1,11 @@
 //! Bases as text, and whether they join two words.
 
-use crate::grammars::{digits, grammar, one_digit};
+use crate::grammars::{are_letters_below, digits, grammar, one_digit};
 use fst_basis::{Chain, Pair, Rewrite, check};
-use fst_tables::{each_line, fields, no_row};
-use fst_words::Word;
+use fst_expand::expand;
+use fst_norms::unnormed;
+use fst_tables::{digits_text, each_line, fields, no_row};
+use fst_words::{Word, is_below, is_in_range};
 use std::alloc::{AllocError, Global};
 use std::test::Fail;
 
@@ -125,6 +127,70 @@ fn base_row(alloc: Global, given: &str) -> Result<String, Fail> {
     let chains = chains(alloc, joining)?;
     let joined = check(alloc, &g, &marks, &u, &v, &basis, &chains)?;
     Ok(format!(in alloc; "{joined}")?)
+}
+
+// A grammar, two words, a budget, and whether what is found within it joins the words, with the pairs of the basis, or none. In
+// `0 / 1 / 2 3022 / 2 3033` one pair and four heads are counted; in `0 / 00 / 011` there is one letter, and a word is as good as its
+// norm; in the last grammar a norm is too great for its head to be dropped.
+const FOUND: &str = "\
+0 / 1 / 2 3022 / 2 3033 ¦ 21 ¦ 31 ¦ 5 = true 2-3
+0 / 1 / 2 3022 / 2 3033 ¦ 21 ¦ 31 ¦ 4 = none
+0 / 1 / 2 3022 / 2 3033 ¦ 31 ¦ 21 ¦ 5 = true 3-2
+0 / 1 / 2 3022 / 2 3033 ¦ 21 ¦ 30 ¦ 9 = none
+0 / 1 / 2 3022 / 2 3033 ¦ 21 ¦ 21 ¦ 1 = true
+0 / 1 / 2 3022 / 2 3033 ¦ 2 ¦ 31 ¦ 9 = none
+0 / 1 ¦ 0 ¦ 1 ¦ 9 = none
+0 / 00 ¦ 1 ¦ 00 ¦ 2 = true 1-00
+0 / 00 ¦ 1 ¦ 00 ¦ 1 = none
+0 / 00 ¦ 00 ¦ 1 ¦ 2 = true 00-1
+0 / 00 / 011 ¦ 2 ¦ 110 ¦ 7 = true 2-101 00-1 1-00
+0 / 00 / 011 ¦ 2 ¦ 110 ¦ 6 = none
+0 / 00 / 011 ¦ 2 ¦ 1100 ¦ 9 = none
+00 / 3 ¦ 01 ¦ 011 ¦ 1 = true
+01 / 00 ¦ 0 ¦ 1 ¦ 2 = true 0-1 1-0
+01 / 00 ¦ 0 ¦ 1 ¦ 1 = none
+01 / 00 / 3 ¦ 022 ¦ 1 ¦ 2 = true 0-1 1-0
+0 / 00000 / 01111 / 02222 / 03333 / 03333 ¦ 4 ¦ 5 ¦ 2 = true 4-5
+0 / 00000 / 01111 / 02222 / 03333 / 04444 / 05555 / 05555 ¦ 6 ¦ 7 ¦ 1 = true 6-7";
+
+/// The pairs of a basis as text, such as ` 2-3`.
+fn basis_text(alloc: Global, basis: &[Pair]) -> Result<String, AllocError> {
+    let mut text = String::new(alloc);
+    for b in basis {
+        text.push(' ')?;
+        text.push_str(&digits_text(alloc, b.left.as_slice())?)?;
+        text.push('-')?;
+        text.push_str(&digits_text(alloc, b.right.as_slice())?)?;
+    }
+    Ok(text)
+}
+
+/// The basis that is found, which joins the two words by its chains.
+fn found_row(alloc: Global, given: &str) -> Result<String, Fail> {
+    let fields = fields(alloc, given)?;
+    let [rows, u, v, budget] = fields.as_slice() else {
+        return Err(no_row());
+    };
+    let g = grammar(alloc, rows)?;
+    let (u, v) = (word(alloc, u)?, word(alloc, v)?);
+    let (count, budget) = (g.rules.len(), one_digit(budget));
+    if !is_in_range(&g) || !are_letters_below(g.letters.len(), &g.rules) {
+        return Err(Fail::new("rules out of range"));
+    }
+    if !is_below(u.as_slice(), count) || !is_below(v.as_slice(), count) || budget == 0 {
+        return Err(Fail::new("words out of range, or no budget"));
+    }
+    let marks = unnormed(alloc, &g)?;
+    let Some(found) = expand(alloc, &g, &marks, &u, &v, budget)? else {
+        return Ok(String::from_str(alloc, "none")?);
+    };
+    let joined = check(alloc, &g, &marks, &u, &v, &found.basis, &found.chains)?;
+    Ok(format!(in alloc; "{joined}{}", basis_text(alloc, &found.basis)?)?)
+}
+
+#[test]
+fn heads_are_dropped_until_a_basis_is_found(rt: HostRuntime) -> Result<(), Fail> {
+    each_line(rt.alloc(), FOUND, found_row)
 }
 
 #[test]

@@ -294,7 +294,7 @@ fn is_row_below(count: usize, rules: &Rules) -> bool
     rules.as_slice().iter().all(|r| (r.letter as usize) < count)
 }
 
-fn are_letters_below(count: usize, rules: &[Rules]) -> bool
+pub(crate) fn are_letters_below(count: usize, rules: &[Rules]) -> bool
     ensures { IsTrue result ↔ LettersBelow count rules.now }
 {
     rules.iter().all(|row| is_row_below(count, row))

@@ -1,0 +1,12 @@
+mod BridgeLaws
+mod CutLaws
+mod FinishLaws
+mod FollowLaws
+mod KeyLaws
+mod LoweringLaws
+mod NormLaws
+mod StepLaws
+mod SumLaws
+mod TopLaws
+mod WalkLaws
+mod WayLaws
