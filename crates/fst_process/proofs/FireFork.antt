@@ -1,8 +1,9 @@
 -- A task forks another one.
-use Rattle.std.proofs.Common.{◌≡◌, ◌∙◌, ◌+◌, ◌++◌, ◌<◌, ℕ, zero, suc, max, [], ◌∷◌, Some, None, refl, sym, ap, subst, arith}
-use Rattle.std.specs.Prelude.{length, IsSome}
+use Rattle.std.proofs.Common.{◌≡◌, ◌∙◌, ◌+◌, ◌++◌, ◌<◌, ℕ, zero, suc, max, true, [], ◌∷◌, Some, None, refl, sym, ap, subst, arith}
+use Rattle.std.specs.Prelude.{length}
 use Rattle.fst_terms.specs.declared.core_module.Module.{Module}
 use Rattle.fst_machine.specs.declared.code.Code.{Code}
+use Rattle.fst_machine.specs.declared.request.Request.TheVariants as request
 use Rattle.fst_machine.specs.declared.request.Answer.TheVariants.{Forked}
 use Rattle.fst_machine.specs.Machine.{stuck, pause}
 use Rattle.fst_vm.specs.TaskView.{TaskView}
@@ -14,7 +15,7 @@ use Rattle.fst_runs.specs.Names.{HasParents}
 use Rattle.fst_runs.specs.Wrong.{IsRight}
 use Rattle.fst_runs.proofs.Naming.{fork_free}
 use Rattle.fst_runs.proofs.Updates.{with_task, has_forked, fork_puts, put_there, stays_there, stays_free}
-use Rattle.fst_process.specs.Kept.{Slot, Kept, without, settled}
+use Rattle.fst_process.specs.Kept.{Slot, Kept, is_live, without, settled}
 use Rattle.fst_process.specs.Reflects.{IsTask, Reflects}
 use Rattle.fst_process.specs.Firing.{IsPossible, Happens, Settles, CanGoOn, HasGoneOn}
 use Rattle.fst_process.proofs.Moving.{moves_ready}
@@ -22,7 +23,7 @@ use Rattle.fst_process.proofs.Going.{IsOf}
 use Rattle.fst_process.proofs.GoingForks.{fork_goes}
 use Rattle.fst_process.proofs.Begun.{unmade}
 use Rattle.fst_process.proofs.Rights.{right_fine, right_alive}
-use Rattle.fst_process.proofs.Stepping.{there_kept, its_task, can_go_on, is_of, settles_gone, settled_types, one_more, next_clock, clock_few}
+use Rattle.fst_process.proofs.Stepping.{there_live, its_task, can_go_on, is_of, settles_gone, settled_types, one_more, next_clock, clock_few}
 
 module _ (m : Module) (c : Config) (p : Path) (w : Write) (right : IsRight (program m) (written c w)) (parents : HasParents c) (f : Does (program m) m.types.items c (Fork p) w) where
   abbrev new_path : Path
@@ -55,9 +56,9 @@ module _ (m : Module) (c : Config) (p : Path) (w : Write) (right : IsRight (prog
   parent_alive = right_alive m (written c w) p parent right parent_there
 
 module _ (k : Code) (d : Kept) (p : Path) where
-  -- the task that forks is kept
-  pub fork_there : IsPossible k d (Fork p) → IsSome (d.tasks p)
-  fork_there x = there_kept x.source k x.events d x.before p x.does.0 x.reflects x.does.3.0
+  -- the task that forks is kept as one that has not ended
+  pub fork_there : IsPossible k d (Fork p) → is_live (d.tasks p) ≡ true
+  fork_there x = there_live x.source k x.events d x.before p x.does.0 request.Fork x.reflects x.does.3 refl
 
   module _ (s : Slot) (there : d.tasks p ≡ Some s) where
     its_parent : (m : Module) (n : ℕ) (c : Config) (w : Write) → Reflects m k n d c → (f : Does (program m) m.types.items c (Fork p) w) → IsTask m k d p s f.0

@@ -1,6 +1,6 @@
 -- Two tasks meet.
-use Rattle.std.proofs.Common.{◌≡◌, ◌∙◌, inl, inr, ◌<◌, ℕ, suc, max, Some, refl, sym, ap, subst, arith}
-use Rattle.std.specs.Prelude.{length, IsSome}
+use Rattle.std.proofs.Common.{◌≡◌, ◌∙◌, inl, inr, ◌<◌, ℕ, suc, max, true, Some, refl, sym, ap, subst, arith}
+use Rattle.std.specs.Prelude.{length}
 use Rattle.fst_lts.specs.Histories.{last_stamp}
 use Rattle.fst_terms.specs.declared.core_module.Module.{Module}
 use Rattle.fst_value.specs.declared.ends.ChannelName.{ChannelName}
@@ -17,7 +17,7 @@ use Rattle.fst_runs.specs.Events.{Write, Does, written, meeting_stamp, extended}
 use Rattle.fst_runs.specs.Wrong.{IsRight}
 use Rattle.fst_runs.proofs.Naming.{asks_apart}
 use Rattle.fst_runs.proofs.Updates.{with_task, with_channel, has_met, passed as passed_entry, meet_puts, put_there, stays_apart}
-use Rattle.fst_process.specs.Kept.{Slot, Channel, Kept, end_of, partner, without, changed, passed, settled_at, settled}
+use Rattle.fst_process.specs.Kept.{Slot, Channel, Kept, is_live, end_of, partner, without, changed, passed, settled_at, settled}
 use Rattle.fst_process.specs.Reflects.{IsTask, Reflects}
 use Rattle.fst_process.specs.Firing.{IsPossible, Happens, CanGoOn, HasGoneOn}
 use Rattle.fst_process.proofs.PathLaws.{some_same}
@@ -26,7 +26,7 @@ use Rattle.fst_process.proofs.Ends.{there_bare}
 use Rattle.fst_process.proofs.Moving.{moves_ready}
 use Rattle.fst_process.proofs.GoingMeets.{last_stamped, its_entry, meet_goes}
 use Rattle.fst_process.proofs.Rights.{right_fine, right_alive}
-use Rattle.fst_process.proofs.Stepping.{there_kept, its_task, can_go_on, is_of, settles_gone, settled_types, clock_few}
+use Rattle.fst_process.proofs.Stepping.{there_live, its_task, can_go_on, is_of, settles_gone, settled_types, clock_few}
 
 put_event : (x y : EndName) (ev ew : Event) → request.Put x ev ≡ request.Put y ew → ev ≡ ew
 put_event x y ev ew e = cc e
@@ -76,13 +76,13 @@ stamp_second : (i a b c l : ℕ) → i ≡ b → l ≡ suc (max (max a b) c) →
 stamp_second i a b c l e f = omega (arith, e, f)
 
 module _ (k : Code) (d : Kept) (p q : Path) (h : ChannelName) where
-  -- the task that sends is kept
-  pub sender_kept : IsPossible k d (Meet p q h) → IsSome (d.tasks p)
-  sender_kept x = there_kept x.source k x.events d x.before p x.does.0 x.reflects x.does.7.0
+  -- the task that sends is kept as one that has not ended
+  pub sender_kept : IsPossible k d (Meet p q h) → is_live (d.tasks p) ≡ true
+  sender_kept x = there_live x.source k x.events d x.before p x.does.0 (request.Put x.does.2 x.does.3) x.reflects x.does.7 refl
 
   -- and so is the one that receives
-  pub receiver_kept : IsPossible k d (Meet p q h) → IsSome (d.tasks q)
-  receiver_kept x = there_kept x.source k x.events d x.before q x.does.1 x.reflects x.does.8.0
+  pub receiver_kept : IsPossible k d (Meet p q h) → is_live (d.tasks q) ≡ true
+  receiver_kept x = there_live x.source k x.events d x.before q x.does.1 (request.Get (other x.does.2)) x.reflects x.does.8 refl
 
   -- the last stamp of the channel is in bounds
   pub stamps_few : (j : Channel) → d.channels h ≡ Some j → IsPossible k d (Meet p q h) → last_stamp j.history < 4294967296

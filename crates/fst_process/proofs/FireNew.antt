@@ -1,6 +1,6 @@
 -- A task makes a channel.
-use Rattle.std.proofs.Common.{◌≡◌, ◌∙◌, ◌<◌, ℕ, zero, suc, max, [], List, Some, refl, sym, ap, subst, arith}
-use Rattle.std.specs.Prelude.{length, slice_get, IsSome}
+use Rattle.std.proofs.Common.{◌≡◌, ◌∙◌, ◌<◌, ℕ, zero, suc, max, true, [], List, Some, refl, sym, ap, subst, arith}
+use Rattle.std.specs.Prelude.{length, slice_get}
 use Rattle.std.proofs.lemmas.Option.{slice_get_within}
 use Rattle.fst_types.specs.Tree.{Tree}
 use Rattle.fst_terms.specs.declared.core_module.Module.{Module}
@@ -15,14 +15,14 @@ use Rattle.fst_runs.specs.Events.{Write, Does, written}
 use Rattle.fst_runs.specs.Wrong.{IsRight}
 use Rattle.fst_runs.proofs.Naming.{new_free}
 use Rattle.fst_runs.proofs.Updates.{with_channel, has_made, new_puts, put_there}
-use Rattle.fst_process.specs.Kept.{Slot, Kept, without, opened, settled}
+use Rattle.fst_process.specs.Kept.{Slot, Kept, is_live, without, opened, settled}
 use Rattle.fst_process.specs.Reflects.{IsTask, Reflects}
 use Rattle.fst_process.specs.Firing.{IsPossible, Happens, CanGoOn, HasGoneOn}
 use Rattle.fst_process.proofs.PathLaws.{some_same}
 use Rattle.fst_process.proofs.Moving.{moves_ready}
 use Rattle.fst_process.proofs.GoingNew.{new_goes}
 use Rattle.fst_process.proofs.Rights.{right_fine, right_alive}
-use Rattle.fst_process.proofs.Stepping.{there_kept, its_task, can_go_on, is_of, settles_gone, settled_types, next_clock, clock_few}
+use Rattle.fst_process.proofs.Stepping.{there_live, its_task, can_go_on, is_of, settles_gone, settled_types, next_clock, clock_few}
 
 new_number : (i j : ℕ) → request.New i ≡ request.New j → i ≡ j
 new_number i j e = cc e
@@ -38,9 +38,9 @@ maker_alive : (m : Module) (c : Config) (p : Path) (w : Write) → IsRight (prog
 maker_alive m c p w right f = right_alive m (written c w) p (has_made f.0 f.1 (suc f.0.clock)) right (maker_there m c p w f)
 
 module _ (k : Code) (d : Kept) (p : Path) where
-  -- the task is kept
-  pub new_there : IsPossible k d (New p) → IsSome (d.tasks p)
-  new_there x = there_kept x.source k x.events d x.before p x.does.0 x.reflects x.does.4.0
+  -- the task is kept as one that has not ended
+  pub new_there : IsPossible k d (New p) → is_live (d.tasks p) ≡ true
+  new_there x = there_live x.source k x.events d x.before p x.does.0 (request.New x.does.2) x.reflects x.does.4 refl
 
   -- it has not made too many channels
   pub made_few : IsPossible k d (New p) → d.made p < 4294967295

@@ -13,7 +13,7 @@ use Rattle.fst_runs.specs.Wrong.{IsRight}
 use Rattle.fst_runs.proofs.NameLaws.{same_path-itself}
 use Rattle.fst_process.specs.declared.config.Config.{Config}
 use Rattle.fst_process.specs.Kept.{Kept, nothing, settled}
-use Rattle.fst_process.specs.KeptOf.{at_path, slot_in, made_in, numbered, kept_of}
+use Rattle.fst_process.specs.KeptOf.{at_path, tasks_in, made_in, numbered, kept_of}
 use Rattle.fst_process.specs.Reflects.{Reflects}
 use Rattle.fst_process.specs.Firing.{Settles, CanStart, IsBegun}
 use Rattle.fst_process.proofs.KeptLaws.{none_numbered}
@@ -23,9 +23,9 @@ use Rattle.fst_process.proofs.Rights.{right_fine, right_alive}
 use Rattle.fst_process.proofs.Stepping.{settled_types}
 
 -- nothing is kept in empty maps
-pub kept_nothing : (k : Config) → k.tasks.entries ≡ [] → k.channels.entries ≡ [] → k.ready.keys ≡ [] → kept_of k ≡ nothing
-kept_nothing k ts js rs = λ i. record {
-  tasks = slot_in (ts i);
+pub kept_nothing : (k : Config) → k.tasks.entries ≡ [] → k.ended.items ≡ [] → k.channels.entries ≡ [] → k.ready.keys ≡ [] → kept_of k ≡ nothing
+kept_nothing k ts es js rs = λ i. record {
+  tasks = tasks_in (ts i) (es i);
   channels = λ h. (ap (λ es. numbered (made_in es h.maker) h.count) js ∙ none_numbered h.count) i;
   made = λ p. length (made_in (js i) p);
   ready = λ p. list_any (at_path p) (rs i);

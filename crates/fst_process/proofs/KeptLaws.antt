@@ -105,12 +105,12 @@ pub made_after : (p : Path) (old new : Channels) (w : Option (Vec rust_channel.C
 made_after p old new w here others q =
     ap listed (found_after p old new w here others q) ∙ put_mapped listed p w (λ o. lookup (at_path o) old) q
 
-module _ (ss : Slots) (ks : Keys) (old new : Channels) (h : ChannelName) (f : Channel → Channel) (p : Path) where
+module _ (tasks : Path → Option Slot) (ks : Keys) (old new : Channels) (h : ChannelName) (f : Channel → Channel) (p : Path) where
   -- a channel is changed where it is in the list of its maker
   pub channel_changed : (v w : Vec rust_channel.Channel Global) → p ≡ h.maker → lookup (at_path p) old ≡ Some v → lookup (at_path p) new ≡ Some w →
-      KeepsOthers same_key (at_path p) old new → IsChangedAt h.count f v.items w.items → kept_in ss new ks ≡ changed h f (kept_in ss old ks)
+      KeepsOthers same_key (at_path p) old new → IsChangedAt h.count f v.items w.items → kept_in tasks new ks ≡ changed h f (kept_in tasks old ks)
   channel_changed v w is there here others c = λ i. record {
-    tasks = slot_in ss;
+    tasks = tasks;
     channels = λ g. changed_after h f old new v.items w.items was now c g i;
     made = λ q. lengths_after h f old new v.items w.items was now c.same_length q i;
     ready = λ q. list_any (at_path q) ks;
@@ -123,9 +123,9 @@ module _ (ss : Slots) (ks : Keys) (old new : Channels) (h : ChannelName) (f : Ch
       now q = made_after p old new (Some w) here others q ∙ ap (λ o. put_at o w.items (made_in old) q) is
 
   -- and nothing is where its maker has no list
-  pub channel_unchanged : p ≡ h.maker → lookup (at_path p) old ≡ None → new ≡ old → kept_in ss new ks ≡ changed h f (kept_in ss old ks)
-  channel_unchanged is none same = ap (λ z. kept_in ss z ks) same ∙ (λ i. record {
-    tasks = slot_in ss;
+  pub channel_unchanged : p ≡ h.maker → lookup (at_path p) old ≡ None → new ≡ old → kept_in tasks new ks ≡ changed h f (kept_in tasks old ks)
+  channel_unchanged is none same = ap (λ z. kept_in tasks z ks) same ∙ (λ i. record {
+    tasks = tasks;
     channels = λ g. unchanged_none h f old old (ap (made_in old) (sym is) ∙ ap listed none) g i;
     made = λ q. length (made_in old q);
     ready = λ q. list_any (at_path q) ks;
@@ -255,7 +255,7 @@ module _ (k : Config) (mid new : BTreeMap Key (Vec rust_channel.Channel Global))
 
   pub channel_added : kept_of (record k { channels = new }) ≡ added h (channel_of x) (kept_of k)
   channel_added = λ i. record {
-    tasks = slot_in k.tasks.entries;
+    tasks = (kept_of k).tasks;
     channels = λ g. new_channels g i;
     made = λ q. new_lengths q i;
     ready = λ q. list_any (at_path q) k.ready.keys;

@@ -18,6 +18,7 @@ pub mod Begun
 pub mod Tables
 pub mod KeptLaws
 pub mod Noting
+pub mod EndedLaws
 pub mod Apart
 pub mod Rights
 pub mod Stepping

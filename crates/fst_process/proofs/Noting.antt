@@ -1,5 +1,5 @@
 -- What is kept once what a task asks for is noted anew.
-use Rattle.std.proofs.Common.{◌≡◌, ◌∙◌, ℕ, Bool, true, false, Some, None, refl, sym, ap}
+use Rattle.std.proofs.Common.{◌≡◌, ◌∙◌, ℕ, Bool, true, false, Option, Some, None, refl, sym, ap}
 use Rattle.std.specs.Prelude.{if◌then◌else◌}
 use Rattle.std.proofs.lemmas.Bool.{false≢true}
 use Rattle.fst_machine.specs.declared.request.Request.{Request}
@@ -7,7 +7,7 @@ use Rattle.fst_machine.specs.declared.request.Request.TheVariants.{Step, New, Fo
 use Rattle.fst_runs.specs.Configs.{Path, same_path}
 use Rattle.fst_runs.proofs.NameLaws.{same_path-same}
 use Rattle.fst_process.specs.Kept.{Slot, Kept, put_at, able, unable, without, moves_alone, noted, settled_at}
-use Rattle.fst_process.specs.KeptOf.{Keys, Slots, Channels, slot_in, kept_in, kept_besides}
+use Rattle.fst_process.specs.KeptOf.{Keys, Channels, kept_in, kept_besides}
 use Rattle.fst_process.proofs.KeptLaws.{noted_first}
 
 -- what is put at a path in place of something else
@@ -40,13 +40,13 @@ still_noted types p Ended d e f = absurd (false≢true e)
 
 module _ (types : ℕ) (p : Path) (js js' : Channels) (ks ks' : Keys) where
   -- what is noted besides tasks is noted with them
-  pub noted_in : (ss : Slots) (r : Request) → kept_besides js' ks' ≡ noted types p r (kept_besides js ks) → kept_in ss js' ks' ≡ noted types p r (kept_in ss js ks)
-  noted_in ss r e = ap (λ (z : Kept). record z { tasks = slot_in ss }) e ∙ noted_first types p r (slot_in ss) (kept_besides js ks)
+  pub noted_in : (tasks : Path → Option Slot) (r : Request) → kept_besides js' ks' ≡ noted types p r (kept_besides js ks) → kept_in tasks js' ks' ≡ noted types p r (kept_in tasks js ks)
+  noted_in tasks r e = ap (λ (z : Kept). record z { tasks = tasks }) e ∙ noted_first types p r tasks (kept_besides js ks)
 
   -- where it is noted anew what a task asks for, and the task is changed in its place, it is as if it were taken out and put in again
-  pub noted_again : (ss ss' : Slots) (s : Slot) → slot_in ss' ≡ put_at p (Some s) (slot_in ss) →
-      kept_besides js' ks' ≡ noted types p s.request (unable p (kept_besides js ks)) → kept_in ss' js' ks' ≡ settled_at types p s (without p (kept_in ss js ks))
-  noted_again ss ss' s f e =
+  pub noted_again : (tasks new : Path → Option Slot) (s : Slot) → new ≡ put_at p (Some s) tasks →
+      kept_besides js' ks' ≡ noted types p s.request (unable p (kept_besides js ks)) → kept_in new js' ks' ≡ settled_at types p s (without p (kept_in tasks js ks))
+  noted_again tasks new s f e =
       (λ i. record (e i) { tasks = f i })
-      ∙ noted_first types p s.request (put_at p (Some s) (slot_in ss)) (unable p (kept_besides js ks))
-      ∙ ap (λ z. noted types p s.request (record (unable p (kept_besides js ks)) { tasks = z })) (put_twice p (Some s) None (slot_in ss))
+      ∙ noted_first types p s.request (put_at p (Some s) tasks) (unable p (kept_besides js ks))
+      ∙ ap (λ z. noted types p s.request (record (unable p (kept_besides js ks)) { tasks = z })) (put_twice p (Some s) None tasks)

@@ -1,12 +1,14 @@
 -- The report is that of the configuration.
-use Rattle.std.proofs.Common.{◌≡◌, ◌∙◌, inl, inr, ℕ, ◌<◌, Option, Some, None, refl, sym, ap, subst, arith}
-use Rattle.std.specs.Prelude.{Contains}
+use Rattle.std.proofs.Common.{◌≡◌, ◌∙◌, inl, inr, ℕ, ◌<◌, false, Option, Some, None, refl, sym, ap, subst, arith}
+use Rattle.std.specs.Prelude.{Contains, not}
+use Rattle.std.specs.Option.{option_or}
 use Rattle.fst_terms.specs.declared.core_module.Module.{Module}
 use Rattle.fst_value.specs.ValueTree.{ValueTree}
 use Rattle.fst_value.specs.declared.ends.ChannelName.{ChannelName}
 use Rattle.fst_value.specs.declared.ends.EndName.{EndName}
 use Rattle.fst_value.specs.declared.event.ChannelHistory.{ChannelHistory}
 use Rattle.fst_machine.specs.declared.code.Code.{Code}
+use Rattle.fst_machine.specs.declared.request.Request.{Request}
 use Rattle.fst_machine.specs.declared.request.Request.TheVariants as request
 use Rattle.fst_machine.specs.Values.{Value}
 use Rattle.fst_machine.specs.Machine.{Pause, stuck, calls, uses, makes, forks, puts, gets, matches, ended, asked, pause}
@@ -18,8 +20,8 @@ use Rattle.fst_runs.specs.Least.{IsBefore, WaitsAt}
 use Rattle.fst_process.specs.declared.config.Config as rust_config
 use Rattle.fst_process.specs.declared.report.Report.{Report}
 use Rattle.fst_process.specs.declared.report.Waiting.{Waiting}
-use Rattle.fst_process.specs.Kept.{Slot, Kept, end_of}
-use Rattle.fst_process.specs.KeptOf.{channel_of, slot_in, kept_of}
+use Rattle.fst_process.specs.Kept.{Slot, Kept, has_ended, is_live, end_of}
+use Rattle.fst_process.specs.KeptOf.{channel_of, ended_in, tasks_in, kept_of}
 use Rattle.fst_process.specs.Reflects.{Reflects}
 use Rattle.fst_process.specs.Reports.{AreRising, ComesBefore, IsMainResult, IsConfig, IsReported}
 use Rattle.fst_process.specs.Listed.{AreInOrder, waiting_in, histories_in, IsEnd}
@@ -27,6 +29,7 @@ use Rattle.fst_process.proofs.PathLaws.{some_same, none_some}
 use Rattle.fst_process.proofs.Taking.{is_kept, is_there}
 use Rattle.fst_process.proofs.Nexts.{at_end}
 use Rattle.fst_process.proofs.Ends.{bare_there, there_bare}
+use Rattle.fst_process.proofs.EndedLaws.{live_there}
 use Rattle.fst_process.proofs.Alike.{means_alike}
 use Rattle.fst_process.proofs.ReportLists.{waiting_rises, listed_waits, waits_listed, listed_kept, kept_listed, channels_rise}
 
@@ -43,8 +46,8 @@ asked_ended (matches y bs env fs) e = absurd (cc e)
 asked_ended (ended v) e = (v, refl)
 
 -- a task that is kept and asks for nothing has ended
-pub has_ended : (d : Kept) (p : Path) (s : Slot) → d.tasks p ≡ Some s → s.request ≡ request.Ended → IsConfig d → HasEnded s.task
-has_ended d p s at e x =
+pub ended_there : (d : Kept) (p : Path) (s : Slot) → d.tasks p ≡ Some s → s.request ≡ request.Ended → IsConfig d → HasEnded s.task
+ended_there d p s at e x =
     let f = is_there x.source x.code d p (d.tasks p) (x.config.tasks p) s (x.reflects.tasks p) at in
     let g = asked_ended (pause x.source.families.items f.0.state) (f.2.asks ∙ ap Some e) in
     record {
@@ -96,18 +99,30 @@ module _ (m : Module) (k : Code) (l : ℕ) (d : Kept) (c : Config) (r : Reflects
         ],
       )
 
+-- what asks at an end has not ended
+end_goes : (q : Request) (x : EndName) → end_of q ≡ Some x → has_ended q ≡ false
+end_goes request.Step x e = absurd (none_some e)
+end_goes (request.New n) x e = absurd (none_some e)
+end_goes request.Fork x e = absurd (none_some e)
+end_goes (request.Put y ev) x e = refl
+end_goes (request.Get y) x e = refl
+end_goes request.Ended x e = absurd (none_some e)
+
 -- what lists say of what is kept makes the report of it
-pub reported : (k : rust_config.Config) (n : ℕ) (r : Report) → IsEnd (slot_in k.tasks.entries main_path) r.result →
+pub reported : (k : rust_config.Config) (n : ℕ) (r : Report) → IsEnd (tasks_in k.tasks.entries k.ended.items main_path) r.result →
     r.waiting.items ≡ waiting_in k.tasks.entries → AreInOrder k.tasks.entries →
     r.channels.items ≡ histories_in k.channels.entries → AreInOrder k.channels.entries → r.events ≡ n → IsReported (kept_of k) n r
 reported k n r result waiting order channels channel_order events = λ m code l c h. record {
   result = main_result m code l (kept_of k) c h r.result result;
   waiting = λ p x. (
-    λ a. kept_waits m code l (kept_of k) c h p x
-        (listed_waits k.tasks.entries p x order (subst (λ ws. Contains ws (record { task = p; end = x })) waiting a)),
+    λ a.
+        let s = listed_waits k.tasks.entries p x order (subst (λ ws. Contains ws (record { task = p; end = x })) waiting a) in
+        kept_waits m code l (kept_of k) c h p x (s.0, ap (λ o. option_or o (ended_in k.ended.items p)) s.1, s.2),
     λ a.
         let s = waits_kept m code l (kept_of k) c h p x a in
-        subst (λ ws. Contains ws (record { task = p; end = x })) (sym waiting) (waits_listed k.tasks.entries p x s.0 s.1 s.2),
+        let live = ap (λ o. is_live o) s.1 ∙ ap not (end_goes s.0.request x s.2) in
+        subst (λ ws. Contains ws (record { task = p; end = x })) (sym waiting)
+        (waits_listed k.tasks.entries p x s.0 (sym (live_there k.tasks.entries k.ended.items p live) ∙ s.1) s.2),
   );
   waiting_order = subst (AreRising (λ (v w : Waiting). IsBefore v.task w.task)) (sym waiting) (waiting_rises k.tasks.entries order);
   channels = λ g j. (there m code l c h g j, back m code l c h g j);

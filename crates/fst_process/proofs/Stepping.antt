@@ -1,6 +1,6 @@
 -- A task that is kept goes on after an answer, and is put in again.
-use Rattle.std.proofs.Common.{◌≡◌, ◌∙◌, ◌+◌, ◌<◌, ℕ, zero, suc, max, true, Some, sym, ap, subst, arith}
-use Rattle.std.specs.Prelude.{length, IsSome, is_some}
+use Rattle.std.proofs.Common.{◌≡◌, ◌∙◌, ◌+◌, ◌<◌, ℕ, zero, suc, max, true, false, Some, sym, ap, subst, arith}
+use Rattle.std.specs.Prelude.{length, not}
 use Rattle.std.specs.Coded.{le_prop}
 use Rattle.std.proofs.Math.Logic.{∥∥₁_elim}
 use Rattle.fst_terms.specs.declared.core_module.Module.{Module}
@@ -8,23 +8,38 @@ use Rattle.fst_machine.specs.declared.code.Code.{Code}
 use Rattle.fst_machine.specs.declared.request.Request.{Request}
 use Rattle.fst_machine.specs.declared.request.Answer.{Answer}
 use Rattle.fst_machine.specs.declared.request.Answer.TheVariants.{Forked}
-use Rattle.fst_machine.specs.Machine.{State, stuck, pause, request, answered}
+use Rattle.fst_machine.specs.Machine.{Program, State, Pause, stuck, calls, uses, makes, forks, puts, gets, matches, ended, asked, pause, request, after, answered}
 use Rattle.fst_vm.specs.TaskView.{TaskView}
 use Rattle.fst_vm.specs.Tasks.{IsIn, IsFrom, HasNext, Takes, GoesOn, forked_after}
 use Rattle.fst_runs.specs.declared.event.CoreEvent.{CoreEvent}
 use Rattle.fst_runs.specs.Configs.{Path, Config, Task, program}
-use Rattle.fst_process.specs.Kept.{Slot, Kept, without, settled_at, settled}
+use Rattle.fst_runs.specs.Events.{Asks}
+use Rattle.fst_process.specs.Kept.{Slot, Kept, has_ended, is_live, without, settled_at, settled}
 use Rattle.fst_process.specs.Reflects.{IsTask, Reflects}
 use Rattle.fst_process.specs.Firing.{IsPossible, Settles, CanGoOn, HasGoneOn}
-use Rattle.fst_process.proofs.PathLaws.{some_same}
+use Rattle.fst_process.proofs.PathLaws.{some_same, none_some}
 use Rattle.fst_process.proofs.Taking.{is_kept}
 use Rattle.fst_process.proofs.Going.{IsOf}
 
--- a task that is there is kept
-pub there_kept : (m : Module) (k : Code) (n : ℕ) (d : Kept) (c : Config) (p : Path) (t : Task) → Reflects m k n d c → c.tasks p ≡ Some t → IsSome (d.tasks p)
-there_kept m k n d c p t r e =
-    let f = is_kept m k d p (d.tasks p) (c.tasks p) t (r.tasks p) e in
-    ap (λ o. is_some o) f.1
+-- a task that asks for something is kept as one that has not ended
+pub there_live : (m : Module) (k : Code) (n : ℕ) (d : Kept) (c : Config) (p : Path) (t : Task) (q : Request) → Reflects m k n d c → Asks (program m) c p t q →
+    has_ended q ≡ false → is_live (d.tasks p) ≡ true
+there_live m k n d c p t q r asks e =
+    let f = is_kept m k d p (d.tasks p) (c.tasks p) t (r.tasks p) asks.0 in
+    let same : f.0.request ≡ q = some_same (sym f.2.asks ∙ asks.1) in
+    ap (λ o. is_live o) f.1 ∙ ap (λ z. not (has_ended z)) same ∙ ap not e
+
+-- what takes an answer has not ended
+takes_none : (m : Program) (x : Pause) (a : Answer) (u : State) (q : Request) → after m x a ≡ Some u → asked x ≡ Some q → has_ended q ≡ false
+takes_none m stuck a u q e f = absurd (none_some f)
+takes_none m (calls b env v fs) a u q e f = sym (ap has_ended (some_same f))
+takes_none m (uses g fs) a u q e f = sym (ap has_ended (some_same f))
+takes_none m (makes t fs) a u q e f = sym (ap has_ended (some_same f))
+takes_none m (forks b env fs) a u q e f = sym (ap has_ended (some_same f))
+takes_none m (puts x ev fs) a u q e f = sym (ap has_ended (some_same f))
+takes_none m (gets x fs) a u q e f = sym (ap has_ended (some_same f))
+takes_none m (matches x bs env fs) a u q e f = sym (ap has_ended (some_same f))
+takes_none m (ended v) a u q e f = absurd (none_some e)
 
 -- and it is what is kept
 pub its_task : (m : Module) (k : Code) (n : ℕ) (d : Kept) (c : Config) (p : Path) (s : Slot) (t : Task) → Reflects m k n d c → d.tasks p ≡ Some s → c.tasks p ≡ Some t →
@@ -64,7 +79,9 @@ module _ (m : Module) (k : Code) (d : Kept) (p : Path) (s : Slot) (t : Task) (fr
   can_go_on e there moves clock few q asks = record {
     slot = s;
     there = there;
+    path = is.path;
     moves = moves;
+    goes = takes_none (program m) (pause m.families.items t.state) a u s.request told is.asks;
     takes = takes few;
     next = λ v g. next_after v g q asks;
     few = clock;

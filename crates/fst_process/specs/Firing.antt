@@ -1,5 +1,5 @@
 -- What it takes for an event to happen, and what is kept then.
-use Rattle.std.specs.Prelude.{◌≡◌, ℕ, ◌<◌, true, suc, zero, max, length, Some}
+use Rattle.std.specs.Prelude.{◌≡◌, ℕ, ◌<◌, true, false, suc, zero, max, length, Some}
 use Rattle.fst_terms.specs.CoreTree.{CoreTree}
 use Rattle.fst_terms.specs.declared.core_module.Module.{Module}
 use Rattle.fst_machine.specs.declared.code.Code.{Code}
@@ -11,7 +11,7 @@ use Rattle.fst_runs.specs.Configs.{Path, Config, program, main_body, started}
 use Rattle.fst_runs.specs.Events.{Write, Does, written}
 use Rattle.fst_runs.specs.Names.{HasMakers, HasParents}
 use Rattle.fst_runs.specs.Wrong.{IsRight}
-use Rattle.fst_process.specs.Kept.{Slot, Kept, without, settled_at, settled}
+use Rattle.fst_process.specs.Kept.{Slot, Kept, has_ended, without, settled_at, settled}
 use Rattle.fst_process.specs.Reflects.{Reflects}
 
 -- what is kept is a configuration in which the event is possible, and nothing has gone wrong before it or after it
@@ -47,7 +47,9 @@ pub record Settles (k : Code) (t : TaskView) (n : ℕ) (d e : Kept) : Type 0 whe
 pub record CanGoOn (k : Code) (d : Kept) (p : Path) (a : Answer) : Type 0 where
   pub slot : Slot
   pub there : d.tasks p ≡ Some slot
+  pub path : slot.task.path ≡ p
   pub moves : d.ready p ≡ true
+  pub goes : has_ended slot.request ≡ false
   pub takes : Takes k slot.task a
   pub next : (u : TaskView) → GoesOn k slot.task a u → HasNext k u
   pub few : slot.clock < 4294967295

@@ -1,5 +1,5 @@
 -- What is kept of a configuration, and how single steps change it.
-use Rattle.std.specs.Prelude.{ℕ, zero, suc, Bool, true, false, Option, Some, None, option_map, option_and_then, is_some, List, [], ◌∷◌, ◌++◌, nat_lt, if◌then◌else◌}
+use Rattle.std.specs.Prelude.{ℕ, zero, suc, Bool, true, false, Option, Some, None, option_map, option_and_then, is_some, List, [], ◌∷◌, ◌++◌, not, nat_lt, if◌then◌else◌}
 use Rattle.fst_types.specs.Tree.{Tree}
 use Rattle.fst_types.specs.declared.side.Side.{Side}
 use Rattle.fst_types.specs.declared.side.Side.TheVariants.{Left, Right}
@@ -32,6 +32,20 @@ pub record Kept : Type 0 where
   pub channels : ChannelName → Option Channel
   pub made : Path → ℕ
   pub ready : Path → Bool
+
+-- a task that asks for this has ended
+abbrev pub has_ended : Request → Bool
+has_ended Step = false
+has_ended (New n) = false
+has_ended Fork = false
+has_ended (Put x ev) = false
+has_ended (Get x) = false
+has_ended Ended = true
+
+-- there is a task, and it has not ended
+abbrev pub is_live : Option Slot → Bool
+is_live None = false
+is_live (Some s) = not (has_ended s.request)
 
 -- the task that asks at an end
 abbrev pub asker_at : Side → Channel → Option Path

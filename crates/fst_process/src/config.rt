@@ -1,15 +1,15 @@
-ghost use Rattle.std.specs.Prelude.{◌≡◌, ◌<◌, IsSome, Some, IfOk, OnOk, suc, max};
+ghost use Rattle.std.specs.Prelude.{◌≡◌, ◌<◌, true, Some, IfOk, OnOk, suc, max};
 ghost use Rattle.std.specs.Option.{option_copied};
 ghost use Rattle.fst_lts.specs.Histories.{last_stamp};
 ghost use Rattle.fst_vm.specs.Tasks.{HasNext};
 ghost use Rattle.fst_runs.specs.Configs.{channel_name};
-ghost use Rattle.fst_process.specs.Kept.{nothing, partner, changed, added, opened, passed};
-ghost use Rattle.fst_process.specs.KeptOf.{kept_of, slot_of, channel_of};
+ghost use Rattle.fst_process.specs.Kept.{nothing, is_live, partner, changed, added, opened, passed};
+ghost use Rattle.fst_process.specs.KeptOf.{kept_of, slot_of, slot_in, channel_of};
 ghost use Rattle.fst_process.specs.Firing.{Settles, CanGoOn, HasGoneOn, CanStart, IsBegun};
 ghost use Rattle.fst_process.specs.Nexts.{event_with, event_of, IsNext, TellsMoving};
 ghost use Rattle.fst_process.specs.Reports.{IsConfig, IsReported};
 
-use crate::kept::{Channel, Slot, move_on, partner_among, record_among};
+use crate::kept::{Channel, EndedTask, Slot, has_ended, move_on, partner_among, record_among};
 use crate::notes::{note, note_again};
 use crate::report::{Report, histories, main_result, waiting_tasks};
 use fst_machine::{Answer, Code, Request};
@@ -20,12 +20,13 @@ use fst_vm::Task;
 use std::alloc::{AllocError, Global};
 use std::collections::{BTreeMap, BTreeSet};
 
-/// All tasks and all channels of a run: tasks by their paths, channels by their makers in order, and the paths of the
-/// tasks that can move.
+/// All tasks and all channels of a run: tasks by their paths, those that have ended apart from them, in the order in which they
+/// did, so that no path is looked up among theirs; channels by their makers in order; and the paths of the tasks that can move.
 #[derive(Drop)]
 pub struct Config {
     pub(crate) alloc: Global,
     tasks: BTreeMap<Vec<u32>, Slot>,
+    ended: Vec<EndedTask>,
     channels: BTreeMap<Vec<u32>, Vec<Channel>>,
     ready: BTreeSet<Vec<u32>>,
     // how many events have happened
@@ -41,6 +42,7 @@ impl Config {
         Config {
             alloc,
             tasks: BTreeMap::new(alloc),
+            ended: Vec::new(alloc),
             channels: BTreeMap::new(alloc),
             ready: BTreeSet::new(alloc),
             events,
@@ -88,12 +90,13 @@ impl Config {
         let Config {
             alloc,
             mut tasks,
+            ended,
             channels,
             events,
             ..
         } = self;
         let waiting = waiting_tasks(alloc, &tasks)?;
-        let result = main_result(&mut tasks);
+        let result = main_result(&mut tasks, ended);
         let channels = histories(alloc, channels)?;
         Ok(Report {
             result,
@@ -155,9 +158,9 @@ impl Config {
         }
     }
 
-    /// What is kept of a task.
+    /// What is kept of a task that has not ended.
     pub(crate) fn slot(&self, path: &Path) -> &Slot
-        requires { IsSome ((kept_of self.now).tasks path.now) }
+        requires { is_live ((kept_of self.now).tasks path.now) ≡ true }
         ensures { (kept_of self.now).tasks path.now ≡ Some (slot_of result.now) }
     {
         self.tasks.get(path.as_slice()).unwrap()
@@ -175,7 +178,6 @@ impl Config {
         ensures events { self.new.events ≡ self.old.events }
     {
         let request = task.advance(code)?;
-        let key = Vec::from_slice(self.alloc, task.path().as_slice())?;
         note(
             self.alloc,
             &mut self.channels,
@@ -184,6 +186,12 @@ impl Config {
             task.path(),
             &request,
         )?;
+        if has_ended(&request) {
+            self.tasks.remove(task.path().as_slice());
+            self.ended.push(EndedTask { task, clock })?;
+            return Ok(());
+        }
+        let key = Vec::from_slice(self.alloc, task.path().as_slice())?;
         let slot = Slot {
             task,
             request,
@@ -191,6 +199,22 @@ impl Config {
         };
         self.tasks.insert(key, slot)?;
         Ok(())
+    }
+
+    // Moves a task that has ended to those that have.
+    fn set_aside(&mut self, path: &Path) -> Result<(), AllocError>
+        requires { (s : _) → slot_in self.old.tasks.entries path.now ≡ Some s →
+            (s.task.path ≡ path.now) × (s.request ≡ Request.Ended) }
+        ensures { OnOk result (kept_of self.new ≡ kept_of self.old) }
+    {
+        match self.tasks.remove(path.as_slice()) {
+            Some(slot) => {
+                let Slot { task, clock, .. } = slot;
+                self.ended.push(EndedTask { task, clock })?;
+                Ok(())
+            }
+            None => Ok(()),
+        }
     }
 
     /// Gives a task that can move an answer, after which it goes on to what it asks for then. Its clock counts one more,
@@ -215,7 +239,11 @@ impl Config {
                     code.types.len(),
                     path,
                     &slot.request,
-                )
+                )?;
+                if has_ended(&slot.request) {
+                    return self.set_aside(path);
+                }
+                Ok(())
             }
             None => Ok(()),
         }

@@ -3,7 +3,7 @@ ghost use Rattle.std.specs.Option.{option_copied};
 ghost use Rattle.fst_lts.specs.Histories.{opposite, last_stamp};
 ghost use Rattle.fst_vm.specs.TaskView.{TaskView};
 ghost use Rattle.fst_vm.specs.Tasks.{HasNext, Takes, GoesOn};
-ghost use Rattle.fst_process.specs.Kept.{asker_at, with_asker, passed};
+ghost use Rattle.fst_process.specs.Kept.{has_ended, asker_at, with_asker, passed};
 ghost use Rattle.fst_process.specs.Firing.{MovesOn};
 ghost use Rattle.fst_process.specs.KeptOf.{slot_of, channel_of, numbered, IsChangedAt};
 
@@ -21,6 +21,13 @@ pub(crate) struct Slot {
     pub(crate) clock: u64,
 }
 
+/// What is kept of a task that has ended.
+#[derive(Drop)]
+pub(crate) struct EndedTask {
+    pub(crate) task: Task,
+    pub(crate) clock: u64,
+}
+
 /// What is kept of a channel: the type of its left end when it was made, what passed over it, and which tasks ask at
 /// its ends.
 #[derive(Drop)]
@@ -29,6 +36,20 @@ pub(crate) struct Channel {
     pub(crate) entries: Vec<Entry>,
     pub(crate) left: Option<Path>,
     pub(crate) right: Option<Path>,
+}
+
+/// Whether a task that asks for this has ended.
+pub(crate) fn has_ended(request: &Request) -> bool
+    ensures { result ≡ has_ended request.now }
+{
+    match request {
+        Request::Step => false,
+        Request::New(_) => false,
+        Request::Fork => false,
+        Request::Put(_, _) => false,
+        Request::Get(_) => false,
+        Request::Ended => true,
+    }
 }
 
 // Gives a task an answer.

@@ -3,10 +3,10 @@ ghost use Rattle.std.specs.Option.{option_copied};
 ghost use Rattle.fst_vm.specs.Tasks.{HasEnded};
 ghost use Rattle.fst_runs.specs.Configs.{main_path};
 ghost use Rattle.fst_process.specs.Kept.{end_of};
-ghost use Rattle.fst_process.specs.KeptOf.{slot_in, made_in};
+ghost use Rattle.fst_process.specs.KeptOf.{ended_in, tasks_in, made_in};
 ghost use Rattle.fst_process.specs.Listed.{waiting_in, histories_of, histories_in, AreInOrder, IsEnd};
 
-use crate::kept::{Channel, Slot};
+use crate::kept::{Channel, EndedTask, Slot};
 use fst_machine::Request;
 use fst_value::{ChannelHistory, ChannelName, EndName, Path, Value};
 use std::alloc::{AllocError, Global};
@@ -70,11 +70,28 @@ pub(crate) fn waiting_tasks(
     Ok(all)
 }
 
+// The value of main, if its task is the last with its path that has ended.
+fn ended_result(mut ended: Vec<EndedTask>) -> Option<Value>
+    requires { (s : _) → ended_in ended.items main_path ≡ Some s → ∥ HasEnded s.task ∥₁ }
+    ensures { IsEnd (ended_in ended.items main_path) result }
+{
+    let main: [u32; 1] = [0];
+    while let Some(last) = ended.pop() {
+        if last.task.path().as_slice() == &main[..] {
+            return Some(last.task.result());
+        }
+    }
+    None
+}
+
 /// The value of main, if its task has ended.
-pub(crate) fn main_result(tasks: &mut BTreeMap<Vec<u32>, Slot>) -> Option<Value>
-    requires { (s : _) → slot_in tasks.old.entries main_path ≡ Some s → s.request ≡ Request.Ended →
+pub(crate) fn main_result(
+    tasks: &mut BTreeMap<Vec<u32>, Slot>,
+    ended: Vec<EndedTask>,
+) -> Option<Value>
+    requires { (s : _) → tasks_in tasks.old.entries ended.items main_path ≡ Some s → s.request ≡ Request.Ended →
         ∥ HasEnded s.task ∥₁ }
-    ensures { IsEnd (slot_in tasks.old.entries main_path) result }
+    ensures { IsEnd (tasks_in tasks.old.entries ended.items main_path) result }
 {
     let main: [u32; 1] = [0];
     match tasks.remove(&main[..]) {
@@ -85,7 +102,7 @@ pub(crate) fn main_result(tasks: &mut BTreeMap<Vec<u32>, Slot>) -> Option<Value>
                 _ => None,
             }
         }
-        None => None,
+        None => ended_result(ended),
     }
 }
 

@@ -1,7 +1,7 @@
 use Rattle.std.proofs.Common.{◌∙◌, is_some, sym, ap}
 use Rattle.fst_value.specs.declared.event.Entry.{Entry}
 use Rattle.fst_process.specs.Kept.{passed}
-use Rattle.fst_process.specs.KeptOf.{made_in, listed, numbered}
+use Rattle.fst_process.specs.KeptOf.{made_in, listed, numbered, kept_of}
 use Rattle.fst_process.proofs.PathLaws.{none_some}
 use Rattle.fst_process.proofs.KeptLaws.{channel_changed, none_numbered}
 use Rattle.fst_process.proofs.config.Config.record.Goals as goal
@@ -25,7 +25,7 @@ returns-in_ok-stamp-in-Some-clause-passed c =
     let there = sym c.in-Some.ensures.value in
     let updates = written.3 (ap is_some there) in
     let new = c.get_mut.follows.lender c.record_among.new.channels in
-    channel_changed c.args.self.now.tasks.entries c.args.self.now.ready.keys c.args.self.now.channels.entries new.entries c.args.channel.now (passed entry) c.as_slice.result.now
+    channel_changed (kept_of c.args.self.now).tasks c.args.self.now.ready.keys c.args.self.now.channels.entries new.entries c.args.channel.now (passed entry) c.as_slice.result.now
     c.in-Some.channels.now c.record_among.new.channels c.as_slice.ensures there updates.1 updates.3 c.in_ok-stamp-in-Some.ensures.passed
 
 pub returns-in-None-clause-stamp : goal.returns-in-None-clause-stamp

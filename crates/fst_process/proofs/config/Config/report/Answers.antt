@@ -4,11 +4,11 @@ use Rattle.std.proofs.Math.Logic.{∥∥₁_map, ∥∥₁_elim}
 use Rattle.fst_runs.specs.Configs.{main_path}
 use Rattle.fst_process.specs.declared.report.Report.{Report}
 use Rattle.fst_process.specs.KeptOf.{kept_of}
-use Rattle.fst_process.proofs.Reporting.{has_ended, made_within, reported}
+use Rattle.fst_process.proofs.Reporting.{ended_there, made_within, reported}
 use Rattle.fst_process.proofs.config.Config.report.Goals as goal
 
 pub main_result-result-requires : goal.main_result-result-requires
-main_result-result-requires c = λ s at e. ∥∥₁_map c.requires (has_ended (kept_of c.args.self) main_path s at e)
+main_result-result-requires c = λ s at e. ∥∥₁_map c.requires (ended_there (kept_of c.args.self) main_path s at e)
 
 pub histories-requires : goal.histories-requires
 histories-requires c = λ p. ∥∥₁_elim c.requires le_prop (made_within (kept_of c.args.self) p)
