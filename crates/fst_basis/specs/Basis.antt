@@ -8,6 +8,7 @@ use Rattle.fst_words.specs.Marks.{IsUnnormedSet}
 use Rattle.fst_basis.specs.declared.proof.Pair.{Pair}
 use Rattle.fst_basis.specs.declared.proof.Chain.{Chain}
 use Rattle.fst_basis.specs.declared.proof.Rewrite.{Rewrite}
+use Rattle.fst_basis.specs.declared.proof.Rewrite.TheVariants.{Forth, Back, Cut, Grow}
 use Rattle.fst_basis.specs.Rewrites.{chained}
 
 -- the rules have the same letters, one after the other
@@ -52,15 +53,27 @@ pub record IsPairBelow (n : ℕ) (b : Pair) : Type 0 where
   pub left : WordBelow n b.left
   pub right : WordBelow n b.right
 
--- the rules have the grammar's letters alone, of which there are n, there is a mark for each non-terminal, and all words have the
--- grammar's non-terminals alone
-pub record IsWithin (n : ℕ) (rows : Productions) (marks : List Bool) (u v : List ℕ) (basis : List Pair) : Type 0 where
+-- the numbers of the word that a rewrite cuts or puts there are below n
+abbrev pub IsRewriteBelow : ℕ → Rewrite → Type 0
+IsRewriteBelow n (Forth at pair) = ⊤
+IsRewriteBelow n (Back at pair) = ⊤
+IsRewriteBelow n (Cut at tail) = WordBelow n tail
+IsRewriteBelow n (Grow at tail) = WordBelow n tail
+
+-- so it is for each rewrite of the chain
+abbrev pub IsChainBelow : ℕ → Chain → Type 0
+IsChainBelow n c = All (IsRewriteBelow n) c.steps.items
+
+-- the rules have the grammar's letters alone, of which there are n, there is a mark for each non-terminal, and all words, those of
+-- the rewrites too, have the grammar's non-terminals alone
+pub record IsWithin (n : ℕ) (rows : Productions) (marks : List Bool) (u v : List ℕ) (basis : List Pair) (cs : List Chain) : Type 0 where
   pub letters : LettersBelow n rows
   pub rules : InRange rows
   pub count : length marks ≡ length rows
   pub left : WordBelow (length rows) u
   pub right : WordBelow (length rows) v
   pub pairs : All (IsPairBelow (length rows)) basis
+  pub chains : All (IsChainBelow (length rows)) cs
 
 -- the first chain joins the two words, by a basis for which there are the others
 abbrev pub Joins : Productions → List Bool → List ℕ → List ℕ → List Pair → List Chain → Type 0
@@ -69,7 +82,7 @@ Joins rows marks u v basis (c ∷ cs) = IsBasis rows marks basis cs × (chained 
 
 -- pairs with chains that show that two words perform the same traces
 abbrev pub IsProof : ℕ → Productions → List Bool → List ℕ → List ℕ → List Pair → List Chain → Type 0
-IsProof n rows marks u v basis cs = IsWithin n rows marks u v basis × Joins rows marks u v basis cs
+IsProof n rows marks u v basis cs = IsWithin n rows marks u v basis cs × Joins rows marks u v basis cs
 
 -- words that rewrites of a basis join perform the same traces
 abbrev pub RewriteLaw : Type 0

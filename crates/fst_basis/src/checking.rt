@@ -3,11 +3,11 @@
 ghost use Rattle.std.specs.Prelude.{◌≡◌, ◌↔◌, ◌<◌, All, IfOk, IsTrue, drop, length, take};
 ghost use Rattle.fst_base.specs.Agreement.{HaveSameTraces};
 ghost use Rattle.fst_words.specs.Words.{LettersBelow, WordBelow, step};
-ghost use Rattle.fst_basis.specs.Basis.{AreJoined, AreJoinedByRules, IsBasis, IsJoined, IsPair, IsPairBelow, IsProof, IsWithin};
+ghost use Rattle.fst_basis.specs.Basis.{AreJoined, AreJoinedByRules, IsBasis, IsChainBelow, IsJoined, IsPair, IsPairBelow, IsProof, IsRewriteBelow, IsWithin};
 
 use crate::letters::{first_row, is_pair, parts_after};
 use crate::marks::is_unnormed_set;
-use crate::proof::{Chain, Pair};
+use crate::proof::{Chain, Pair, Rewrite};
 use crate::rewriting::joins;
 use fst_words::{Grammar, Rule, Word, is_below, is_in_range};
 use std::alloc::{AllocError, Global};
@@ -31,6 +31,32 @@ fn are_below(basis: &[Pair], count: usize) -> bool
     true
 }
 
+// Whether the word that a rewrite cuts or puts there has the grammar's non-terminals alone.
+fn is_rewrite_below(rewrite: &Rewrite, count: usize) -> bool
+    ensures { IsTrue result ↔ IsRewriteBelow count rewrite.now }
+{
+    match rewrite {
+        Rewrite::Forth { .. } => true,
+        Rewrite::Back { .. } => true,
+        Rewrite::Cut { tail, .. } => is_below(tail.as_slice(), count),
+        Rewrite::Grow { tail, .. } => is_below(tail.as_slice(), count),
+    }
+}
+
+// Whether the words that the rewrites of a chain cut or put there do.
+fn is_chain_below(chain: &Chain, count: usize) -> bool
+    ensures { IsTrue result ↔ IsChainBelow count chain.now }
+{
+    chain.steps.iter().all(|r| is_rewrite_below(r, count))
+}
+
+// Whether those of each chain do.
+fn are_chains_below(chains: &[Chain], count: usize) -> bool
+    ensures { IsTrue result ↔ All (IsChainBelow count) chains.now }
+{
+    chains.iter().all(|c| is_chain_below(c, count))
+}
+
 // Whether the letters of the rules are below this number.
 fn have_letters_below(rules: &[Rule], count: usize) -> bool
     ensures { IsTrue result ↔ All (λ r. r.letter < count) rules.now }
@@ -49,8 +75,15 @@ fn are_letters_below(g: &Grammar) -> bool
 }
 
 // Whether all numbers are the grammar's, and there is a mark for each non-terminal.
-fn is_within(g: &Grammar, marks: &[bool], u: &[u32], v: &[u32], basis: &[Pair]) -> bool
-    ensures { IsTrue result ↔ IsWithin (length g.now.letters.items) g.now.rules.items marks.now u.now v.now basis.now }
+fn is_within(
+    g: &Grammar,
+    marks: &[bool],
+    u: &[u32],
+    v: &[u32],
+    basis: &[Pair],
+    chains: &[Chain],
+) -> bool
+    ensures { IsTrue result ↔ IsWithin (length g.now.letters.items) g.now.rules.items marks.now u.now v.now basis.now chains.now }
 {
     let count = g.rules.len();
     if !are_letters_below(g) {
@@ -68,7 +101,10 @@ fn is_within(g: &Grammar, marks: &[bool], u: &[u32], v: &[u32], basis: &[Pair]) 
     if !is_below(v, count) {
         return false;
     }
-    are_below(basis, count)
+    if !are_below(basis, count) {
+        return false;
+    }
+    are_chains_below(chains, count)
 }
 
 // Whether the two words of each pair perform the same letters.
@@ -214,7 +250,7 @@ fn is_proof(
     let Some((first, others)) = chains.split_first() else {
         return Ok(false);
     };
-    if !is_within(g, marks, u, v, basis) {
+    if !is_within(g, marks, u, v, basis, chains) {
         return Ok(false);
     }
     let from = Word::of(alloc, u)?;
@@ -226,8 +262,8 @@ fn is_proof(
 }
 
 /// Whether the pairs are a basis by all chains but the first, and this one joins the two words: so they perform the same traces.
-/// The chains come pair by pair and letter by letter. A number that is out of range makes it false, and so does a list of marks
-/// that isn't as long as the grammar has non-terminals.
+/// The chains come pair by pair and letter by letter. A number that is out of range makes it false, in the tail of a rewrite too,
+/// and so does a list of marks that isn't as long as the grammar has non-terminals.
 pub fn check(
     alloc: Global,
     g: &Grammar,
