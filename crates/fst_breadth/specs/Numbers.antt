@@ -1,31 +1,10 @@
--- Numbers for the words of rules, and what is known between two rules of a pair.
-use Rattle.std.specs.Prelude.{◌≡◌, ℕ, ◌<◌, ◌≤◌, List, length, drop, Some, None, slice_get, Bool}
-use Rattle.std.specs.declared.vec.Vec.{Vec}
-use Rattle.std.specs.declared.alloc.Global.{Global}
+-- What is known between two rules of a pair.
+use Rattle.std.specs.Prelude.{◌≡◌, ℕ, ◌<◌, ◌≤◌, List, drop, Some, None, slice_get, Bool}
 use Rattle.fst_words.specs.declared.rules.Rule.{Rule}
-use Rattle.fst_words.specs.Words.{Productions, row_of, rule_of, first_row}
+use Rattle.fst_words.specs.Words.{Productions, rule_of, first_row}
 use Rattle.fst_shared.specs.Shared.{word_of}
 use Rattle.fst_breadth.specs.Reached.{ReachedPair}
 use Rattle.fst_breadth.specs.Following.{KeepsState}
-
--- the number is that of the rule's word
-pub record IsNumber (words : List (List ℕ)) (r : Rule) (n : ℕ) : Type 0 where
-  pub within : n < length words
-  pub word : word_of words n ≡ r.word
-
--- the numbers are those of the words of a row's rules
-abbrev pub AreNumbers : List (List ℕ) → List Rule → List ℕ → Type 0
-AreNumbers words row numbers = (i n : ℕ) (r : Rule) → slice_get row i ≡ Some r → slice_get numbers i ≡ Some n → IsNumber words r n
-
--- a row has as many numbers as rules, those of their words
-pub record IsRow (words : List (List ℕ)) (row : List Rule) (numbers : List ℕ) : Type 0 where
-  pub words_are : AreNumbers words row numbers
-  pub count : length numbers ≡ length row
-
--- each row has its numbers
-pub record AreNumbered (words : List (List ℕ)) (rows : Productions) (numbers : List (Vec ℕ Global)) : Type 0 where
-  pub row : (n : ℕ) (v : Vec ℕ Global) → slice_get numbers n ≡ Some v → IsRow words (row_of rows n) v.items
-  pub count : length numbers ≡ length rows
 
 -- a letter below a leads from the two words of a pair by rules whose words have these numbers
 pub record IsNoted (rows : Productions) (words : List (List ℕ)) (e : ReachedPair) (a : ℕ) (p : ℕ × ℕ) : Type 0 where

@@ -1,8 +1,8 @@
 use Rattle.std.proofs.Common.{◌++◌, ◌∙◌, sym, ap, subst, arith, length, append-nil, get_or}
 use Rattle.fst_base.proofs.Lists.{length-push}
-use Rattle.fst_breadth.specs.Numbers.{AreNumbers}
-use Rattle.fst_breadth.proofs.NotedLaws.{numbers_more}
-use Rattle.fst_breadth.proofs.numbers.row_numbers.Goals as goal
+use Rattle.fst_shared.specs.Numbers.{AreNumbers}
+use Rattle.fst_shared.proofs.NumberLaws.{numbers_more}
+use Rattle.fst_shared.proofs.numbers.row_numbers.Goals as goal
 
 pub loop-rule-preserved : goal.loop-rule-preserved
 loop-rule-preserved c =

@@ -3,8 +3,8 @@ use Rattle.std.specs.Prelude.{slice_get}
 use Rattle.std.specs.declared.vec.Vec.{Vec}
 use Rattle.std.specs.declared.alloc.Global.{Global}
 use Rattle.fst_words.specs.Words.{row_of}
-use Rattle.fst_breadth.specs.Numbers.{IsRow}
-use Rattle.fst_breadth.proofs.numbers.word_numbers.Given as goal
+use Rattle.fst_shared.specs.Numbers.{IsRow}
+use Rattle.fst_shared.proofs.numbers.word_numbers.Given as goal
 
 abbrev pub invariant-loop-rules : goal.invariant-loop-rules
 invariant-loop-rules l = record {

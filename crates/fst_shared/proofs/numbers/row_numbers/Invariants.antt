@@ -1,7 +1,7 @@
 use Rattle.std.proofs.Common.{◌≡◌, length}
 use Rattle.fst_shared.specs.Shared.{Keeps}
-use Rattle.fst_breadth.specs.Numbers.{AreNumbers}
-use Rattle.fst_breadth.proofs.numbers.row_numbers.Given as goal
+use Rattle.fst_shared.specs.Numbers.{AreNumbers}
+use Rattle.fst_shared.proofs.numbers.row_numbers.Given as goal
 
 abbrev pub invariant-loop-rule : goal.invariant-loop-rule
 invariant-loop-rule l = record {

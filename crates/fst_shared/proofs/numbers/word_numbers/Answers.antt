@@ -6,9 +6,9 @@ use Rattle.std.proofs.lemmas.Option.{slice_get_read, get_or_from_slice_get}
 use Rattle.fst_base.proofs.Lists.{get-push, length-push}
 use Rattle.fst_words.specs.declared.rules.Rule.{Rule}
 use Rattle.fst_words.specs.Words.{Productions, row_of}
-use Rattle.fst_breadth.specs.Numbers.{IsRow}
-use Rattle.fst_breadth.proofs.NotedLaws.{row_kept}
-use Rattle.fst_breadth.proofs.numbers.word_numbers.Goals as goal
+use Rattle.fst_shared.specs.Numbers.{IsRow}
+use Rattle.fst_shared.proofs.NumberLaws.{row_kept}
+use Rattle.fst_shared.proofs.numbers.word_numbers.Goals as goal
 
 pub loop-rules-preserved : goal.loop-rules-preserved
 loop-rules-preserved c =
