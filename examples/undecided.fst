@@ -1,8 +1,8 @@
 -- Two types that are equivalent, and that no budget shows to be so: the module is neither accepted nor refused.
-type Tree = rec x. +{Leaf: Skip, Node: !Int; x; x}
-type Same = rec y. +{Leaf: Skip, Node: !Int; y; y; Skip}
+type Count = rec x. +{Down: Skip, Up: x; x}
+type Free = rec y. +{Down: y, Up: y}
 
-same : Tree; !Bool -> Same; !Bool
+same : Count; Free -> Free
 same c = c
 
 main : Int

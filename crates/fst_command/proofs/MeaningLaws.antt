@@ -1,5 +1,5 @@
 -- What the texts of `equiv` say.
-use Rattle.std.proofs.Common.{◌≡◌, ◌∙◌, ℕ, List, [], ◌∷◌, ◌++◌, length, sym, ap, arith}
+use Rattle.std.proofs.Common.{◌≡◌, ◌∙◌, inl, inr, ℕ, List, [], ◌∷◌, ◌++◌, length, sym, ap, arith}
 use Rattle.std.specs.Prelude.{codes}
 use Rattle.std.specs.Str.{byte}
 use Rattle.std.proofs.lemmas.List.{length-map}
@@ -32,7 +32,8 @@ says_yes budget bytes s w = by m.answer.answer m.answer.answers m.answer.written
     m = of_question budget bytes yes_text s w (λ e. absurd (omega (arith, e))) (λ e. absurd (omega (arith, e)))
 
     by : (a : Answer) → Answers m.asked.left m.asked.right budget a → yes_text ≡ answer_text bytes m.asked.left_at budget a → MeansYes bytes
-    by yes h is = record { asked = m.asked; is_asked = m.is_asked; agree = h.shown.agree }
+    by yes (inl h) is = record { asked = m.asked; is_asked = m.is_asked; agree = h.shown.agree }
+    by yes (inr h) is = record { asked = m.asked; is_asked = m.is_asked; agree = h.shown.agree }
     by (no word side) h is = absurd (omega (arith, ap initial is))
     by undecided h is = absurd (omega (arith, ap initial is))
     by too_large h is = absurd (omega (arith, ap initial is))
@@ -81,6 +82,7 @@ says_undecided budget bytes rest s w = by m.answer.answer m.answer.answers m.ans
       first = h.shown.first.first;
       alike = h.shown.first.alike;
       further = h.shown.first.more;
+      no_basis = h.shown.no_basis;
     }
     by too_large h is = absurd (omega (arith, ap initial is))
 

@@ -12,6 +12,7 @@ use Rattle.fst_types.specs.declared.side.Side.{Side}
 use Rattle.fst_lts.specs.Step.{step}
 use Rattle.fst_words.specs.Words.{Productions}
 use Rattle.fst_norms.specs.Pruned.{pruned_word}
+use Rattle.fst_expand.specs.Good.{IsGood}
 use Rattle.fst_breadth.specs.Reached.{AreFirst, IsBeyond, AreAlike, ReachedPair}
 use Rattle.fst_equiv.specs.Problem.{IsProblem}
 use Rattle.fst_terms.specs.ModuleTree.{Declared}
@@ -53,7 +54,7 @@ pub record MeansNo (bytes text : List ℕ) : Type 0 where
   pub least : (v : List Label) → IsBefore label_cmp v trace → (Performs step asked.left v ↔ Performs step asked.right v)
 
 -- the text has the budget: the pruned words of the two types reach more different pairs than that, and of the first pairs, as
--- many as the budget, none performs different letters on its two sides
+-- many as the budget, none performs different letters on its two sides; and the cuts that the words lead to aren't good at the budget
 pub record MeansUndecided (budget : ℕ) (bytes text : List ℕ) : Type 0 where
   pub asked : Question
   pub is_asked : AreAsked bytes asked
@@ -69,6 +70,7 @@ pub record MeansUndecided (budget : ℕ) (bytes text : List ℕ) : Type 0 where
   pub first : AreFirst rows marks (pruned_word marks u) (pruned_word marks v) pairs
   pub alike : AreAlike rows pairs
   pub further : IsBeyond rows marks (pruned_word marks u) (pruned_word marks v) pairs
+  pub no_basis : IsGood rows marks (pruned_word marks u) (pruned_word marks v) budget → ⊥
 
 -- what a text of `equiv` means, by how it begins
 pub record EquivMeanings : Type 0 where

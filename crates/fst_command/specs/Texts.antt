@@ -14,7 +14,7 @@ yes_text = codes "yes\n"
 abbrev pub no_text : List Label → Side → List ℕ
 no_text w side = codes "no " ++ word_text w ++ codes " " ++ side_text side ++ codes "\n"
 
--- this many pairs show no difference, and there are more
+-- this many pairs show no difference, there are more, and there is no basis within so many
 abbrev pub undecided_text : ℕ → List ℕ
 undecided_text n = codes "undecided " ++ decimal n ++ codes "\n"
 

@@ -16,7 +16,7 @@ pub enum Status {
     Waiting = 3,
     /// The run has more events than its steps.
     OutOfSteps = 4,
-    /// The question has more pairs than the budget, and as many as the budget show no difference.
+    /// The question has more pairs than the budget, as many as the budget show no difference, and its cuts are no basis within it.
     Undecided = 5,
     /// A read failed; nothing was written.
     ReadFault = 6,

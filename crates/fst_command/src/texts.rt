@@ -26,7 +26,7 @@ pub(crate) fn push_decimal(text: &mut String, n: u64) -> Result<(), AllocError>
     text.push_str(buffer.format(n))
 }
 
-/// The line that says that so many pairs show no difference, and that there are more.
+/// The line that says that so many pairs show no difference, that there are more, and that there is no basis within so many.
 pub(crate) fn undecided_text(alloc: Global, budget: u32) -> Result<String, AllocError>
     ensures { IfOk result (λ text. string_bytes text ≡ undecided_text budget) }
 {

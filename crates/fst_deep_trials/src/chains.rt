@@ -252,7 +252,7 @@ fn large_row(alloc: Global, given: &str) -> Result<String, Fail> {
 #[test]
 fn larger_types_are_refused(rt: HostRuntime) -> Result<(), Fail> {
     let table = "\
-2047 = 1 1 yes yes
+2047 = 1 1 yes by basis yes by basis
 2048 = large large too large too large";
     each_line(rt.alloc(), table, large_row)
 }

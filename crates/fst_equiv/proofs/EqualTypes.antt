@@ -36,7 +36,8 @@ use_itself Once = refl
 -- parts that are Yes agree
 yes_agree : (budget : ℕ) (s r : Tree) → IsYes budget (asked s r) → Agree step step s r
 yes_agree budget s r (inl e) = subst (λ t. Agree step step s t) e (λ n. agrees_itself step n s)
-yes_agree budget s r (inr h) = h.shown.agree
+yes_agree budget s r (inr (inl h)) = h.shown.agree
+yes_agree budget s r (inr (inr h)) = h.shown.agree
 
 module _ (vars : List Kind) (budget : ℕ) where
   part_equal : (s r : Tree) (j k : Kind) → is_part s ≡ true → IsWellFormed vars s j → IsWellFormed vars r k → AreYes budget (of_part s r) → IsEqual vars s r

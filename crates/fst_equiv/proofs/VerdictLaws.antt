@@ -1,5 +1,5 @@
 -- What the search says of the words of two types holds of the types.
-use Rattle.std.proofs.Common.{◌≡◌, ◌↔◌, ℕ, List, Bool, refl, subst}
+use Rattle.std.proofs.Common.{◌≡◌, ◌↔◌, inl, inr, ℕ, List, length, Bool, refl, sym, subst}
 use Rattle.fst_types.specs.Tree.{Tree}
 use Rattle.fst_types.specs.Order.{label_cmp}
 use Rattle.fst_types.specs.declared.label.Label.{Label}
@@ -16,17 +16,20 @@ use Rattle.fst_norms.specs.Pruned.{pruned_word}
 use Rattle.fst_words.specs.declared.grammar.Grammar.{Grammar}
 use Rattle.fst_grammar.specs.declared.fault.TranslateFault.{TranslateFault}
 use Rattle.fst_grammar.specs.declared.fault.TranslateFault.TheVariants as translate
+use Rattle.fst_basis.specs.declared.proof.Proof.{Proof}
+use Rattle.fst_basis.specs.Basis.{IsProof}
+use Rattle.fst_expand.specs.Good.{AreGoodCuts, IsGood}
 use Rattle.fst_breadth.specs.Answer.{IsAnswer, IsDifferent, IsBudgetSpent, IfEqual, IfDiffer}
 use Rattle.fst_breadth.specs.declared.answers.Found.{Found}
 use Rattle.fst_breadth.specs.declared.answers.Found.TheVariants.{Equal, Differ, Spent}
 use Rattle.fst_equiv.specs.declared.fault.EquivFault.TheVariants.{TooLarge}
-use Rattle.fst_equiv.specs.declared.verdict.Certificate.TheVariants.{Visited}
+use Rattle.fst_equiv.specs.declared.verdict.Certificate.TheVariants.{Visited, Basis}
 use Rattle.fst_equiv.specs.declared.verdict.Verdict.{Verdict}
 use Rattle.fst_equiv.specs.declared.verdict.Verdict.TheVariants.{Yes, No, Undecided}
 use Rattle.fst_equiv.specs.Answers.{Answers}
 use Rattle.fst_equiv.specs.Faults.{fault_of}
 use Rattle.fst_equiv.specs.Problem.{IsProblem}
-use Rattle.fst_equiv.specs.Verdicts.{IsVerdict, answer_of, verdict_of}
+use Rattle.fst_equiv.specs.Verdicts.{Certifies, IsVerdict, answer_of, verdict_of}
 use Rattle.fst_grammar.specs.Standing.{StandsFor}
 
 -- two words that stand for two types
@@ -64,8 +67,8 @@ pub verdict_right : (s r : Tree) (budget : ℕ) (g : Grammar) (u v x y : List �
     IsAnswer g.rules.items marks g.letters.items x y budget found →
     IfEqual found (HaveSameTraces (label_step g.letters.items g.rules.items) (label_step g.letters.items g.rules.items) x y) →
     IfDiffer found (IsLeastDistinguishingTrace (label_step g.letters.items g.rules.items) (label_step g.letters.items g.rules.items) label_cmp x y) →
-    IsVerdict s r budget (verdict_of g x y found)
-verdict_right s r budget g u v x y marks (Equal pairs) problem left right stand exact same differ = record {
+    (IsGood g.rules.items marks x y budget → ⊥) → IsVerdict s r budget (verdict_of g x y found)
+verdict_right s r budget g u v x y marks (Equal pairs) problem left right stand exact same differ none = record {
   agree = types_agree g.letters.items g.rules.items x y s r stand same;
   u = u;
   v = v;
@@ -75,7 +78,7 @@ verdict_right s r budget g u v x y marks (Equal pairs) problem left right stand 
   right = right;
   all = exact;
 }
-verdict_right s r budget g u v x y marks (Differ trace side) problem left right stand exact same differ = record {
+verdict_right s r budget g u v x y marks (Differ trace side) problem left right stand exact same differ none = record {
   least = types_differ g.letters.items g.rules.items x y s r stand trace.items side differ;
   letters = g.letters.items;
   rows = g.rules.items;
@@ -87,7 +90,7 @@ verdict_right s r budget g u v x y marks (Differ trace side) problem left right 
       subst (λ z. IsDifferent g.rules.items marks g.letters.items z (pruned_word marks v) budget trace.items side) left
       (subst (λ z. IsDifferent g.rules.items marks g.letters.items x z budget trace.items side) right exact);
 }
-verdict_right s r budget g u v x y marks (Spent pairs) problem left right stand exact same differ = record {
+verdict_right s r budget g u v x y marks (Spent pairs) problem left right stand exact same differ none = record {
   u = u;
   v = v;
   marks = marks;
@@ -95,18 +98,44 @@ verdict_right s r budget g u v x y marks (Spent pairs) problem left right stand 
   first =
       subst (λ z. IsBudgetSpent g.rules.items marks z (pruned_word marks v) budget pairs.items) left
       (subst (λ z. IsBudgetSpent g.rules.items marks x z budget pairs.items) right exact);
+  no_basis = λ good. none (subst (λ z. IsGood g.rules.items marks z y budget) (sym left) (subst (λ z. IsGood g.rules.items marks (pruned_word marks u) z budget) (sym right) good));
+}
+
+-- and so is the verdict that a basis for them gives
+pub basis_right : (s r : Tree) (budget : ℕ) (g : Grammar) (u v x y : List ℕ) (marks : List Bool) (proof : Proof) →
+    IsProblem s r g.letters.items g.rules.items u v marks → x ≡ pruned_word marks u → y ≡ pruned_word marks v → Stand g.letters.items g.rules.items x y s r →
+    IsProof (length g.letters.items) g.rules.items marks x y proof.basis.items proof.chains.items → HaveSameTraces (step_of g.rules.items) (step_of g.rules.items) x y →
+    AreGoodCuts g.rules.items marks x y budget proof.basis.items → Certifies s r budget (Basis g x y proof)
+basis_right s r budget g u v x y marks proof problem left right stand is same good = record {
+  agree = types_agree g.letters.items g.rules.items x y s r stand (same_by_labels g.letters.items g.rules.items x y same);
+  u = u;
+  v = v;
+  marks = marks;
+  problem = problem;
+  left = left;
+  right = right;
+  proof = is;
+  good = good;
 }
 
 -- a word that performs the traces of one that stands for a type stands for it too
-pub stands_too : (letters : List Label) (rows : Productions) (x u : List ℕ) (t : Tree) → HaveSameTraces (step_of rows) (step_of rows) x u → StandsFor letters rows u t → StandsFor letters rows x t
+stands_too : (letters : List Label) (rows : Productions) (x u : List ℕ) (t : Tree) → HaveSameTraces (step_of rows) (step_of rows) x u → StandsFor letters rows u t → StandsFor letters rows x t
 stands_too letters rows x u t same stands w =
     let by_label = same_by_labels letters rows x u same w in
     (λ h. (stands w).0 (by_label.0 h), λ h. by_label.1 ((stands w).1 h))
 
+-- so do the pruned words of two types
+pub stand_pruned : (letters : List Label) (rows : Productions) (u v x y : List ℕ) (s r : Tree) → StandsFor letters rows u s → StandsFor letters rows v r →
+    HaveSameTraces (step_of rows) (step_of rows) x u → HaveSameTraces (step_of rows) (step_of rows) y v → Stand letters rows x y s r
+stand_pruned letters rows u v x y s r left right same other =
+    record { left = stands_too letters rows x u s same left; right = stands_too letters rows y v r other right }
+
 -- a right verdict answers the question
 pub verdict_answers : (s r : Tree) (budget : ℕ) (v : Verdict) → IsVerdict s r budget v → Answers s r budget (answer_of v)
 verdict_answers s r budget (Yes (Visited g x y pairs)) h =
-    record { letters = g.letters.items; rows = g.rules.items; x = x; y = y; pairs = pairs.items; shown = h }
+    inl (record { letters = g.letters.items; rows = g.rules.items; x = x; y = y; pairs = pairs.items; shown = h })
+verdict_answers s r budget (Yes (Basis g x y proof)) h =
+    inr (record { letters = g.letters.items; rows = g.rules.items; x = x; y = y; basis = proof.basis.items; chains = proof.chains.items; shown = h })
 verdict_answers s r budget (No trace side) h = h
 verdict_answers s r budget (Undecided g pairs) h = record { letters = g.letters.items; rows = g.rules.items; pairs = pairs.items; shown = h }
 

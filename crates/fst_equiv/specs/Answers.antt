@@ -1,5 +1,5 @@
 -- The answer to the question whether two types are equivalent, within a budget of pairs.
-use Rattle.std.specs.Prelude.{◌≡◌, ℕ, List}
+use Rattle.std.specs.Prelude.{◌≡◌, ◌⊎◌, ℕ, List}
 use Rattle.fst_types.specs.Tree.{Tree}
 use Rattle.fst_types.specs.declared.kind.Kind.{Kind}
 use Rattle.fst_types.specs.declared.label.Label.{Label}
@@ -8,7 +8,9 @@ use Rattle.fst_kinds.specs.WellFormed.{IsSession}
 use Rattle.fst_words.specs.Words.{Productions}
 use Rattle.fst_shared.specs.declared.handle.SharedPair.{SharedPair}
 use Rattle.fst_grammar.specs.Translation.{IsTooLarge}
-use Rattle.fst_equiv.specs.Problem.{IsShownEqual, IsShownDifferent, IsShownSpent}
+use Rattle.fst_basis.specs.declared.proof.Pair.{Pair}
+use Rattle.fst_basis.specs.declared.proof.Chain.{Chain}
+use Rattle.fst_equiv.specs.Problem.{IsShownEqual, IsProvedEqual, IsShownDifferent, IsShownSpent}
 
 -- agreement at every depth, the least trace that one side alone performs with this side, that the budget is spent,
 -- or that a type or the grammar is too large
@@ -27,6 +29,20 @@ pub record AreShownEqual (s r : Tree) (budget : ℕ) : Type 0 where
   pub pairs : List SharedPair
   pub shown : IsShownEqual s r budget letters rows x y pairs
 
+-- a grammar, two words and a basis with chains show that two types agree
+pub record AreProvedEqual (s r : Tree) (budget : ℕ) : Type 0 where
+  pub letters : List Label
+  pub rows : Productions
+  pub x : List ℕ
+  pub y : List ℕ
+  pub basis : List Pair
+  pub chains : List Chain
+  pub shown : IsProvedEqual s r budget letters rows x y basis chains
+
+-- all pairs that two types reach show that they agree, or a basis for their words does
+abbrev pub AreFoundEqual : Tree → Tree → ℕ → Type 0
+AreFoundEqual s r budget = AreShownEqual s r budget ⊎ AreProvedEqual s r budget
+
 -- a grammar and a list of pairs show that the budget is spent
 pub record AreShownSpent (s r : Tree) (budget : ℕ) : Type 0 where
   pub letters : List Label
@@ -36,7 +52,7 @@ pub record AreShownSpent (s r : Tree) (budget : ℕ) : Type 0 where
 
 -- the answer to the question of two types
 abbrev pub Answers : Tree → Tree → ℕ → Answer → Type 0
-Answers s r budget yes = AreShownEqual s r budget
+Answers s r budget yes = AreFoundEqual s r budget
 Answers s r budget (no trace side) = IsShownDifferent s r budget trace side
 Answers s r budget undecided = AreShownSpent s r budget
 Answers s r budget too_large = IsTooLarge s r

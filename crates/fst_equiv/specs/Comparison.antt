@@ -6,7 +6,7 @@ use Rattle.fst_kinds.specs.WellFormed.{IsWellFormed}
 use Rattle.fst_lts.specs.Equal.{IsEqual}
 use Rattle.fst_parts.specs.Same.{same_base, same_use}
 use Rattle.fst_grammar.specs.Translation.{IsTooLarge}
-use Rattle.fst_equiv.specs.Answers.{AreShownEqual}
+use Rattle.fst_equiv.specs.Answers.{AreFoundEqual}
 use Rattle.fst_equiv.specs.Problem.{IsShownDifferent, IsShownSpent}
 use Rattle.fst_equiv.specs.declared.comparing.Same.{Same}
 use Rattle.fst_equiv.specs.declared.comparing.Same.TheVariants.{Yes, Shape, Word, Undecided}
@@ -61,9 +61,9 @@ comparisons (pair s r) _ = differing ∷ []
 comparisons (named k) (named l) = unless_same (nat_eq k l)
 comparisons (named k) _ = differing ∷ []
 
--- the answer is Yes: two parts are the same tree, or a question's pairs show that they agree
+-- the answer is Yes: two parts are the same tree, or a question's pairs or a basis show that they agree
 abbrev pub IsYes : ℕ → Compared → Type 0
-IsYes budget (asked s r) = (s ≡ r) ⊎ AreShownEqual s r budget
+IsYes budget (asked s r) = (s ≡ r) ⊎ AreFoundEqual s r budget
 IsYes budget differing = ⊥
 
 -- all are Yes

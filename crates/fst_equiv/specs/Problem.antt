@@ -1,5 +1,5 @@
--- The words of two types, and what the pairs that these words reach show within a budget.
-use Rattle.std.specs.Prelude.{◌≡◌, ℕ, List, Bool}
+-- The words of two types, and what the pairs that these words reach, and their cuts, show within a budget.
+use Rattle.std.specs.Prelude.{◌≡◌, ℕ, List, Bool, length}
 use Rattle.fst_types.specs.Tree.{Tree}
 use Rattle.fst_types.specs.Order.{label_cmp}
 use Rattle.fst_types.specs.declared.label.Label.{Label}
@@ -8,6 +8,10 @@ use Rattle.fst_lts.specs.Step.{step}
 use Rattle.fst_base.specs.Agreement.{Agree}
 use Rattle.fst_types.specs.Differences.{IsLeastDistinguishingTrace}
 use Rattle.fst_words.specs.Words.{Productions, EachHasRule}
+use Rattle.fst_basis.specs.declared.proof.Pair.{Pair}
+use Rattle.fst_basis.specs.declared.proof.Chain.{Chain}
+use Rattle.fst_basis.specs.Basis.{IsProof}
+use Rattle.fst_expand.specs.Good.{AreGoodCuts, IsGood}
 use Rattle.fst_shared.specs.declared.handle.SharedPair.{SharedPair}
 use Rattle.fst_norms.specs.Pruned.{AreUnnormed, pruned_word}
 use Rattle.fst_grammar.specs.Translation.{IsTranslation, IsInRange, IsSmall}
@@ -34,6 +38,19 @@ pub record IsShownEqual (s r : Tree) (budget : ℕ) (letters : List Label) (rows
   pub right : y ≡ pruned_word marks v
   pub all : IsEqual rows marks x y budget pairs
 
+-- x and y are the pruned words of two types, these pairs are the cuts that they lead to, which are good at the budget, and with these
+-- chains they show that the words perform the same traces. The types agree at every depth.
+pub record IsProvedEqual (s r : Tree) (budget : ℕ) (letters : List Label) (rows : Productions) (x y : List ℕ) (basis : List Pair) (chains : List Chain) : Type 0 where
+  pub agree : Agree step step s r
+  pub u : List ℕ
+  pub v : List ℕ
+  pub marks : List Bool
+  pub problem : IsProblem s r letters rows u v marks
+  pub left : x ≡ pruned_word marks u
+  pub right : y ≡ pruned_word marks v
+  pub proof : IsProof (length letters) rows marks x y basis chains
+  pub good : AreGoodCuts rows marks x y budget basis
+
 -- one of the first budget pairs that two types reach shows a difference: the least trace that one side alone performs
 pub record IsShownDifferent (s r : Tree) (budget : ℕ) (trace : List Label) (side : Side) : Type 0 where
   pub least : IsLeastDistinguishingTrace step step label_cmp s r trace side
@@ -45,10 +62,12 @@ pub record IsShownDifferent (s r : Tree) (budget : ℕ) (trace : List Label) (si
   pub problem : IsProblem s r letters rows u v marks
   pub first : IsDifferent rows marks letters (pruned_word marks u) (pruned_word marks v) budget trace side
 
--- these are the first budget pairs that two types reach: there are more, and these show no difference
+-- these are the first budget pairs that two types reach: there are more, these show no difference, and the cuts that the types'
+-- words lead to aren't good at the budget
 pub record IsShownSpent (s r : Tree) (budget : ℕ) (letters : List Label) (rows : Productions) (pairs : List SharedPair) : Type 0 where
   pub u : List ℕ
   pub v : List ℕ
   pub marks : List Bool
   pub problem : IsProblem s r letters rows u v marks
   pub first : IsBudgetSpent rows marks (pruned_word marks u) (pruned_word marks v) budget pairs
+  pub no_basis : IsGood rows marks (pruned_word marks u) (pruned_word marks v) budget → ⊥

@@ -5,15 +5,16 @@ use Rattle.fst_words.specs.declared.grammar.Grammar.{Grammar}
 use Rattle.fst_breadth.specs.declared.answers.Found.{Found}
 use Rattle.fst_breadth.specs.declared.answers.Found.TheVariants.{Equal, Differ, Spent}
 use Rattle.fst_equiv.specs.declared.verdict.Certificate.{Certificate}
-use Rattle.fst_equiv.specs.declared.verdict.Certificate.TheVariants.{Visited}
+use Rattle.fst_equiv.specs.declared.verdict.Certificate.TheVariants.{Visited, Basis}
 use Rattle.fst_equiv.specs.declared.verdict.Verdict.{Verdict}
 use Rattle.fst_equiv.specs.declared.verdict.Verdict.TheVariants.{Yes, No, Undecided}
-use Rattle.fst_equiv.specs.Problem.{IsShownEqual, IsShownDifferent, IsShownSpent}
+use Rattle.fst_equiv.specs.Problem.{IsShownEqual, IsProvedEqual, IsShownDifferent, IsShownSpent}
 use Rattle.fst_equiv.specs.Answers.{Answer, yes, no, undecided}
 
 -- the certificate shows that two types agree at every depth
 abbrev pub Certifies : Tree → Tree → ℕ → Certificate → Type 0
 Certifies s r budget (Visited g x y pairs) = IsShownEqual s r budget g.letters.items g.rules.items x y pairs.items
+Certifies s r budget (Basis g x y proof) = IsProvedEqual s r budget g.letters.items g.rules.items x y proof.basis.items proof.chains.items
 
 -- the verdict is right, and what it holds shows it
 abbrev pub IsVerdict : Tree → Tree → ℕ → Verdict → Type 0

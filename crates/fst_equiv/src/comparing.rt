@@ -22,8 +22,8 @@ pub enum Same {
     Shape,
     /// The least trace that exactly one side performs of the first parts that aren't equal, and that side.
     Word(Vec<Label>, Side),
-    /// The question of the first parts that aren't known to be equal has more pairs than the budget: its grammar, and as
-    /// many pairs as the budget.
+    /// The question of the first parts that aren't known to be equal has more pairs than the budget, and no basis within it: its
+    /// grammar, and as many pairs as the budget.
     Undecided(Grammar, Vec<SharedPair>),
 }
 

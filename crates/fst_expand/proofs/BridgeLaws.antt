@@ -1,23 +1,27 @@
 -- Words that aren't pruned, and what pruning cuts off them.
-use Rattle.std.proofs.Common.{◌≡◌, ℕ, zero, suc, ◌+◌, ◌<◌, List, [], ◌∷◌, ◌++◌, length, take, drop, add-one, append-nil, append_assoc, refl, sym, ◌∙◌, ap, subst, arith, Some, None, Option, Bool, true, false, ◌||◌, ◌==◌, nat_lt}
-use Rattle.std.specs.Prelude.{if◌then◌else◌, slice_index_or}
+use Rattle.std.proofs.Common.{◌≡◌, ℕ, zero, suc, ◌+◌, ◌<◌, List, [], ◌∷◌, ◌++◌, length, take, drop, add-one, append-nil, append_assoc, refl, sym, ◌∙◌, ap, subst, arith, inl, inr, Some, None, Option, Bool, true, false, ◌==◌, nat_lt, All}
+use Rattle.std.specs.Prelude.{IfSome, if◌then◌else◌, slice_get, slice_index_or}
 use Rattle.std.specs.Str.{bytes_eq}
 use Rattle.std.proofs.lemmas.Bool.{eq-eqb, le-leb}
 use Rattle.std.proofs.Math.Seq.{get_or-append_seam}
 use Rattle.std.proofs.lemmas.List.{length-append}
-use Rattle.std.proofs.lemmas.List.Elements.{All-head, All-tail, All-cons, All-nil}
+use Rattle.std.proofs.lemmas.List.Elements.{All-append, All-head, All-tail, All-cons, All-nil}
 use Rattle.std.proofs.lemmas.Slice.Eq.{bytes_eq-Decides}
 use Rattle.fst_words.specs.Marks.{has_marked, is_marked}
 use Rattle.fst_words.specs.Words.{WordBelow}
 use Rattle.fst_norms.specs.Pruned.{IsPruned, pruned_word}
 use Rattle.fst_shared.specs.Cut.{cut}
 use Rattle.fst_basis.specs.declared.proof.Pair.{Pair}
+use Rattle.fst_basis.specs.declared.proof.Chain.{Chain}
 use Rattle.fst_basis.specs.declared.proof.Rewrite.{Rewrite}
 use Rattle.fst_basis.specs.declared.proof.Rewrite.TheVariants.{Cut, Grow}
+use Rattle.fst_basis.specs.Basis.{IsRewriteBelow}
 use Rattle.fst_basis.specs.Rewrites.{chained, is_marked_at}
-use Rattle.fst_expand.specs.Bridge.{AreCutOff, IsBridge, IsCutOff, cutting, growing}
-use Rattle.fst_expand.specs.Trail.{IsJoining}
-use Rattle.fst_expand.proofs.CutLaws.{unmarked_parts}
+use Rattle.fst_expand.specs.Bridge.{AreCutOff, HaveMet, HaveNoRoom, HaveRoom, IsCutOff, IsWay, Meet, cutting, growing}
+use Rattle.fst_expand.specs.Good.{AreDistinct, Each}
+use Rattle.fst_expand.specs.Trail.{AreExchanges, AreUnmarked, IsCrowded, IsJoining, IsPrunedPair}
+use Rattle.fst_expand.proofs.CollectLaws.{same_pairs}
+use Rattle.fst_expand.proofs.CutLaws.{same_cuts, unmarked_parts}
 use Rattle.fst_expand.proofs.WayLaws.{chained-append, chained_first}
 
 -- pruning a word in front of a pruned one is cutting it there
@@ -147,14 +151,67 @@ framed_leads marks Q (Some c) (Some d) steps x0 x y y0 e f h =
     chained_first marks Q (Cut c.0 c.1) (steps ++ Grow d.0 d.1 ∷ []) x0 x (e.cuts Q) ∙ chained-append marks Q steps (Grow d.0 d.1 ∷ []) x y h
     ∙ chained_first marks Q (Grow d.0 d.1) [] y y0 (f.grows Q)
 
+-- what is cut off is of the grammar's non-terminals
+cutting_below : (n : ℕ) (c : Option (ℕ × List ℕ)) → IfSome c (λ p. WordBelow n p.1) → All (IsRewriteBelow n) (cutting c)
+cutting_below n None h = All-nil (IsRewriteBelow n)
+cutting_below n (Some c) h = All-cons (IsRewriteBelow n) (Cut c.0 c.1) [] h (All-nil (IsRewriteBelow n))
+
+growing_below : (n : ℕ) (c : Option (ℕ × List ℕ)) → IfSome c (λ p. WordBelow n p.1) → All (IsRewriteBelow n) (growing c)
+growing_below n None h = All-nil (IsRewriteBelow n)
+growing_below n (Some c) h = All-cons (IsRewriteBelow n) (Grow c.0 c.1) [] h (All-nil (IsRewriteBelow n))
+
 -- the way between the words, once they are pruned, is one between the words themselves
-pub bridged : (marks : List Bool) (norms : List (Option ℕ)) (words : List (List ℕ)) (v t w r : List ℕ) (old new : List Pair) (c d : Option (ℕ × List ℕ)) (steps : List Rewrite) (heads : ℕ) →
-    IsPruned marks t → IsPruned marks r → AreCutOff marks (cut marks v t) (v ++ t) c → AreCutOff marks (cut marks w r) (w ++ r) d →
-    IsJoining norms words (cut marks v t) (cut marks w r) old new steps heads → IsBridge marks norms words (v ++ t) (w ++ r) old new (cutting c ++ (steps ++ growing d)) heads
-bridged marks norms words v t w r old new c d steps heads p q e f j = record {
-  leads = framed_leads marks new c d steps (v ++ t) (cut marks v t) (cut marks w r) (w ++ r) e f (j.leads marks);
-  met = rw (pruned_in_front marks v t p, pruned_in_front marks w r q) j.met;
+pub framed_way : (n : ℕ) (marks : List Bool) (v t w r : List ℕ) (Q : List Pair) (c d : Option (ℕ × List ℕ)) (steps : List Rewrite) (chain : Chain) → AreCutOff marks (cut marks v t) (v ++ t) c →
+    AreCutOff marks (cut marks w r) (w ++ r) d → IfSome c (λ p. WordBelow n p.1) → IfSome d (λ p. WordBelow n p.1) → chained marks Q steps (cut marks v t) ≡ Some (cut marks w r) →
+    AreExchanges steps → chain.steps.items ≡ cutting c ++ (steps ++ growing d) → IsWay n marks Q (v ++ t) (w ++ r) chain
+framed_way n marks v t w r Q c d steps chain e f hc hd leads exchanges is = record {
+  leads = ap (λ (s : List Rewrite). chained marks Q s (v ++ t)) is ∙ framed_leads marks Q c d steps (v ++ t) (cut marks v t) (cut marks w r) (w ++ r) e f leads;
+  below = subst (All (IsRewriteBelow n)) (sym is) (All-append (IsRewriteBelow n) (cutting c) (steps ++ growing d) (cutting_below n c hc)
+      (All-append (IsRewriteBelow n) steps (growing d) (exchanges n) (growing_below n d hd)));
 }
+
+module _ (marks : List Bool) (norms : List (Option ℕ)) (words : List (List ℕ)) (v t w r : List ℕ) (old new : List Pair) (p : IsPruned marks t) (q : IsPruned marks r) where
+  -- what is met between the words, once they are pruned
+  pub meet_pruned : (steps : List Rewrite) (heads : ℕ) → AreUnmarked marks norms words → Each (IsPrunedPair marks) old →
+      IsJoining norms words (cut marks v t) (cut marks w r) old new steps heads → Meet marks norms words (v ++ t) (w ++ r) old new heads
+  meet_pruned steps heads unmarked pruned j = record {
+    met = record {
+      cuts = j.met.cuts;
+      cut = rw (pruned_in_front marks v t p, pruned_in_front marks w r q) j.met.cut;
+      there = j.met.collects.there;
+    };
+    grows = j.met.collects.grows;
+    adds = j.met.collects.adds;
+    fit = record {
+      below = j.met.below;
+      pruned = j.met.pruned marks unmarked (record { left = cut_pruned marks v t p; right = cut_pruned marks w r q; pairs = pruned });
+    };
+  }
+
+  pub crowded_pruned : (room : ℕ) → IsCrowded norms words (cut marks v t) (cut marks w r) old new room → HaveNoRoom marks norms words (v ++ t) (w ++ r) old new room
+  crowded_pruned room full = rw (pruned_in_front marks v t p, pruned_in_front marks w r q) full
+
+-- where all cuts were there before, nothing is added, and there is room
+pub have_met : (marks : List Bool) (norms : List (Option ℕ)) (words : List (List ℕ)) (x y : List ℕ) (P Q : List Pair) (h k : ℕ) → AreDistinct Q → HaveMet marks norms words x y P h →
+    Meet marks norms words x y P Q k → Q ≡ P
+have_met marks norms words x y P Q h k once met m =
+    let same = same_cuts norms words (pruned_word marks x) (pruned_word marks y) met.cuts m.met.cuts h k met.cut m.met.cut in
+    same_pairs P Q m.grows once (λ at b e. elim (m.adds at b e) [
+      | inl i ↦ i
+      | inr i ↦ met.there i.0 b (ap (λ (z : List Pair). slice_get z i.0) same.0 ∙ i.1)
+    ])
+
+pub have_room : (marks : List Bool) (norms : List (Option ℕ)) (words : List (List ℕ)) (x y : List ℕ) (P Q : List Pair) (room : ℕ) → AreDistinct Q → HaveRoom marks norms words x y P room →
+    HaveNoRoom marks norms words x y P Q room → ⊥
+have_room marks norms words x y P Q room once (heads, met, le) full =
+    let f = full.cuts met.cuts heads met.cut in
+    let same : Q ≡ P = same_pairs P Q full.grows once (λ at b e. elim (f.0 at b e) [
+      | inl i ↦ i
+      | inr i ↦ met.there i.0 b i.1
+    ]) in
+    let long = ap length same in
+    let more = f.1 in
+    omega arith
 
 -- places without a marked non-terminal
 pub unmarked_front : (marks : List Bool) (w : List ℕ) (at : ℕ) → ((k : ℕ) → k < at → is_marked marks (slice_index_or w k 0) ≡ false) → has_marked marks (take at w) ≡ false

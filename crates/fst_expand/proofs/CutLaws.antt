@@ -44,6 +44,16 @@ one_cut norms words x y cuts heads HasCuts.same ne e = absurd (ne refl)
 one_cut norms words x y cuts heads (HasCuts.whole other none) ne e = (refl, refl)
 one_cut norms words x y cuts heads (HasCuts.drops {side = s} {k = k} other d cut) ne e = absurd (let f : None ≡ Some (s, k) = sym e ∙ d in cc)
 
+-- two words have one list of cuts, and one number of heads
+pub same_cuts : (norms : List (Option ℕ)) (words : List (List ℕ)) (x y : List ℕ) (cuts others : List Pair) (heads count : ℕ) → HasCuts norms words x y cuts heads →
+    HasCuts norms words x y others count → (cuts ≡ others) × (heads ≡ count)
+same_cuts norms words x y cuts others heads count HasCuts.same h = let n = no_cuts norms words x y others count h refl in (sym n.0, sym n.1)
+same_cuts norms words x y cuts others heads count (HasCuts.whole other none) h = let n = one_cut norms words x y others count h other none in (sym n.0, sym n.1)
+same_cuts norms words x y cuts others heads count (HasCuts.drops {side = s} {k = k} {heads = more} {cuts = rest} other d cut) h =
+    let a = after_drop norms words x y s k others count h other d in
+    let r = same_cuts norms words (left_rest words s k x) (right_rest words s k y) rest a.rest more a.others cut a.cut in
+    (ap (λ (z : List Pair). head_cut words s k x y ++ z) r.0 ∙ sym a.cuts_are, ap suc r.1 ∙ sym a.sum)
+
 -- a head that is dropped, and the other one, have norms
 some_norms : (a b : Option ℕ) (d : Side × ℕ) → dropped a b ≡ Some d → ((j : ℕ) × (a ≡ Some j)) × ((k : ℕ) × (b ≡ Some k))
 some_norms None b d e = cc
@@ -82,6 +92,11 @@ append_below n (k ∷ v) w hv hw = All-cons (λ k. k < n) k (v ++ w) (All-head (
 pub rest_below : (n : ℕ) (w : List ℕ) → WordBelow n w → WordBelow n (drop 1 w)
 rest_below n [] h = h
 rest_below n (k ∷ w) h = All-tail (λ k. k < n) k w h
+
+pub drop_below : (n at : ℕ) (w : List ℕ) → WordBelow n w → WordBelow n (drop at w)
+drop_below n zero w h = h
+drop_below n (suc at) [] h = h
+drop_below n (suc at) (k ∷ w) h = drop_below n at w (All-tail (λ k. k < n) k w h)
 
 pub head_below : (n : ℕ) (w : List ℕ) → WordBelow n w → WordBelow n (take 1 w)
 head_below n [] h = h

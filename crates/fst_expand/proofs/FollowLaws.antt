@@ -1,26 +1,25 @@
 -- Following a pair by its letters.
-use Rattle.std.proofs.Common.{◌≡◌, ◌≢◌, ◌↔◌, ℕ, zero, suc, ◌+◌, ◌<◌, List, [], ◌∷◌, ◌++◌, length, drop, add-one, append-nil, append_assoc, refl, sym, ◌∙◌, ap, subst, arith, inl, inr, ◌⊎◌, Some, Option, Bool, true, ◌==◌, get_or}
+use Rattle.std.proofs.Common.{◌≡◌, ◌≢◌, ◌↔◌, ℕ, zero, suc, ◌+◌, ◌<◌, ◌≤◌, List, [], ◌∷◌, ◌++◌, length, take, drop, refl, sym, ◌∙◌, ap, subst, arith, inl, inr, ◌⊎◌, Some, None, Option, Bool, true, false, ◌==◌, get_or, cond}
 use Rattle.std.specs.Prelude.{option_map, slice_get}
+use Rattle.std.proofs.lemmas.List.{take_all}
 use Rattle.std.proofs.lemmas.Option.{get_or_from_slice_get, slice_get_within}
 use Rattle.fst_base.proofs.Bools.{and_parts, same_number}
-use Rattle.fst_base.proofs.Lists.{get_there}
+use Rattle.fst_base.proofs.Lists.{get-push, get_there, length-push}
 use Rattle.fst_words.specs.declared.rules.Rule.{Rule}
 use Rattle.fst_words.specs.Ordered.{AreOrdered}
 use Rattle.fst_words.specs.Words.{Productions, first_row, row_of, rule_of, step}
 use Rattle.fst_words.proofs.Laws.{present}
-use Rattle.fst_norms.proofs.Laws.{pruned-pruned}
+use Rattle.fst_norms.specs.Pruned.{pruned_word}
 use Rattle.fst_basis.specs.declared.proof.Pair.{Pair}
-use Rattle.fst_basis.specs.declared.proof.Chain.{Chain}
-use Rattle.fst_basis.specs.Basis.{AreJoinedByRules, IsJoined, IsPair, same_letters}
-use Rattle.fst_basis.specs.Rewrites.{chained}
+use Rattle.fst_basis.specs.Basis.{IsPair, same_letters}
 use Rattle.fst_basis.proofs.LetterLaws.{pair_told}
-use Rattle.fst_expand.specs.Bridge.{HaveNoRoom, IsBridge}
-use Rattle.fst_expand.specs.Expansion.{AddsNext, AreAfter, AreFit, AreFollowed, IsFollowed, LackRoom, MoveBy}
-use Rattle.fst_expand.specs.Good.{DropHeads, HaveCutsAfter, HavePrunedCuts}
+use Rattle.fst_expand.specs.Bridge.{AreFit, HaveMet, HaveNoRoom, Meet}
+use Rattle.fst_expand.specs.Expansion.{AddsNext, AreAfter, AreFollowed, IsFollowed, LackRoom}
+use Rattle.fst_expand.specs.Good.{DropHeads, Each, HaveCutsAfter, HavePrunedCuts, IsIn}
 use Rattle.fst_expand.specs.Table.{Adds, Grows}
-use Rattle.fst_expand.specs.Trail.{AreUnmarked}
-use Rattle.fst_expand.proofs.StepLaws.{grows_on}
-use Rattle.fst_expand.proofs.WayLaws.{chained_more}
+use Rattle.fst_expand.proofs.CollectLaws.{each_more, grows_none, grows_on}
+use Rattle.fst_expand.proofs.CutLaws.{same_cuts}
+use Rattle.fst_expand.proofs.PlaceLaws.{one_item, parted, taken}
 
 -- the rule at a place is the one that its letter finds
 rule_there : (rules : List Rule) (i : ℕ) (r : Rule) → AreOrdered rules → slice_get rules i ≡ Some r → rule_of rules r.letter ≡ Some r.word
@@ -43,135 +42,23 @@ as_long [] (q ∷ qs) e = absurd (cc e)
 as_long (r ∷ rs) [] e = absurd (cc e)
 as_long (r ∷ rs) (q ∷ qs) e = ap suc (as_long rs qs (and_parts (r.letter == q.letter) (same_letters rs qs) e).1)
 
-pub move_by : (rows : Productions) (b : Pair) (n m : ℕ) (t s : List ℕ) → b.left ≡ n ∷ t → b.right ≡ m ∷ s → AreOrdered (row_of rows n) → AreOrdered (row_of rows m) →
-    same_letters (row_of rows n) (row_of rows m) ≡ true → MoveBy rows b (row_of rows n) (row_of rows m) t s
-move_by rows b n m t s left right on om same = record {
-  tail = ap (drop 1) left;
-  each = λ i r q ri qi.
-      let letter = letters_at (row_of rows n) (row_of rows m) i r q same ri qi in
-      record {
-        left = ap (λ (z : List ℕ). step rows z r.letter) left ∙ ap (option_map (λ (v : List ℕ). v ++ t)) (rule_there (row_of rows n) i r on ri);
-        right = ap (λ (z : List ℕ). step rows z r.letter) right ∙ ap (λ (a : ℕ). option_map (λ (v : List ℕ). v ++ s) (rule_of (row_of rows m) a)) letter
-            ∙ ap (option_map (λ (v : List ℕ). v ++ s)) (rule_there (row_of rows m) i q om qi);
-      };
-}
+-- a letter that a row has stands at some place
+pub rule_at : (rules : List Rule) (a : ℕ) (w : List ℕ) → rule_of rules a ≡ Some w → (j : ℕ) × (r : Rule) × (slice_get rules j ≡ Some r) × (r.letter ≡ a)
+rule_at [] a w e = absurd (cc e)
+rule_at (r ∷ rules) a w e =
+    (elim (r.letter == a) as (λ b. (r.letter == a) ≡ b → (cond {A = Option (List ℕ)} b (Some r.word) (rule_of rules a)) ≡ Some w → (j : ℕ) × (q : Rule) × (slice_get (r ∷ rules) j ≡ Some q) × (q.letter ≡ a)) [
+      | true ↦ λ t f. (0, r, refl, same_number r.letter a t)
+      | false ↦ λ t f. let p = rule_at rules a w f in (suc p.0, p.1, p.2, p.3)
+    ]) refl e
 
--- the cuts after a letter are those of the words that it leads to
-cuts_after : (rows : Productions) (marks : List Bool) (norms : List (Option ℕ)) (words : List (List ℕ)) (b : Pair) (a : ℕ) (x y : List ℕ) (cuts : List Pair) (heads : ℕ) → AreAfter rows b a x y →
-    HaveCutsAfter rows marks norms words b a cuts heads → HavePrunedCuts marks norms words x y cuts heads
-cuts_after rows marks norms words b a x y cuts heads l h =
-    let left : h.x ≡ x = (let f : Some h.x ≡ Some x = sym h.left ∙ l.left in cc) in
-    let right : h.y ≡ y = (let f : Some h.y ≡ Some y = sym h.right ∙ l.right in cc) in
-    let R : List ℕ → List ℕ → Type 0 = λ v w. HavePrunedCuts marks norms words v w cuts heads in
-    subst (λ (v : List ℕ). R v y) left (subst (R h.x) right h.cut)
-
--- chains join by a basis that has more pairs
-joined_more : (rows : Productions) (marks : List Bool) (P more : List Pair) (t w : List ℕ) (rules : List Rule) (cs : List Chain) → AreJoinedByRules rows marks P t w rules cs →
-    AreJoinedByRules rows marks (P ++ more) t w rules cs
-joined_more rows marks P more t w [] [] h = tt
-joined_more rows marks P more t w [] (c ∷ cs) h = h
-joined_more rows marks P more t w (r ∷ rules) [] h = h
-joined_more rows marks P more t w (r ∷ rules) (c ∷ cs) h =
-    ((h.0.0, h.0.1, chained_more marks P more c.steps.items (r.word ++ t) h.0.0 h.0.2), joined_more rows marks P more t w rules cs h.1)
-
-pub joined_grows : (rows : Productions) (marks : List Bool) (P Q : List Pair) (t w : List ℕ) (rules : List Rule) (cs : List Chain) → Grows P Q → AreJoinedByRules rows marks P t w rules cs →
-    AreJoinedByRules rows marks Q t w rules cs
-joined_grows rows marks P Q t w rules cs g h = subst (λ (z : List Pair). AreJoinedByRules rows marks z t w rules cs) (sym g.grown) (joined_more rows marks P g.more t w rules cs h)
-
--- one rule more has its chain
-joined_push : (rows : Productions) (marks : List Bool) (P : List Pair) (t w : List ℕ) (rules : List Rule) (cs : List Chain) (r : Rule) (c : Chain) → AreJoinedByRules rows marks P t w rules cs →
-    IsJoined rows marks P t w r c → AreJoinedByRules rows marks P t w (rules ++ r ∷ []) (cs ++ c ∷ [])
-joined_push rows marks P t w [] [] r c h j = (j, tt)
-joined_push rows marks P t w [] (d ∷ cs) r c h j = absurd h
-joined_push rows marks P t w (q ∷ rules) [] r c h j = absurd h
-joined_push rows marks P t w (q ∷ rules) (d ∷ cs) r c h j = (h.0, joined_push rows marks P t w rules cs r c h.1 j)
-
-module _ (rows : Productions) (marks : List Bool) (norms : List (Option ℕ)) (words : List (List ℕ)) (b : Pair) (old : List Pair) (rules : List Rule) where
-  pub followed_first : AreFit marks (length rows) old → AreFollowed rows marks norms words b old old rules rules [] 0
-  followed_first fit = record {
-    grows = record { more = []; grown = sym (append-nil old) };
-    front = [];
-    parts = refl;
-    joined = tt;
-    cuts = λ count d. ((λ at c e. inl (at, e)), count, d, omega arith);
-    fit = fit;
-  }
-
-  module _ (P Q : List Pair) (r : Rule) (rest : List Rule) (cs : List Chain) (heads more : ℕ) (x y : List ℕ) (after : AreAfter rows b r.letter x y) where
-    adds_more : (cuts : List Pair) (h : ℕ) → HaveCutsAfter rows marks norms words b r.letter cuts h → AddsNext rows marks norms words b old P → Adds cuts P Q → AddsNext rows marks norms words b old Q
-    adds_more cuts h cut adds new = λ at c e. elim (new at c e) [
-      | inl i ↦ adds i.0 c i.1
-      | inr i ↦ inr (record { letter = r.letter; cuts = cuts; heads = h; cut = cut; there = i })
-    ]
-
-    pub followed_next : (c : Chain) → length words ≡ length rows → AreUnmarked marks norms words → x ≡ r.word ++ drop 1 b.left → AreFollowed rows marks norms words b old P rules (r ∷ rest) cs heads →
-        IsBridge marks norms words x y P Q c.steps.items more → AreFollowed rows marks norms words b old Q rules rest (cs ++ c ∷ []) (heads + more)
-    followed_next c long unmarked is f j =
-        let grows = j.met.grows in
-        record {
-          grows = grows_on old P Q f.grows grows;
-          front = f.front ++ r ∷ [];
-          parts = f.parts ∙ sym (append_assoc f.front (r ∷ []) rest);
-          joined = joined_push rows marks Q (drop 1 b.left) b.right f.front cs r c (joined_grows rows marks P Q (drop 1 b.left) b.right f.front cs grows f.joined)
-              (y, after.right, ap (chained marks Q c.steps.items) (sym is) ∙ j.leads);
-          cuts = λ count d.
-              let p = f.cuts count d in
-              let q = p.2 in
-              let s = p.3 in
-              let h = q.3 in
-              let m = j.met.cuts q.0 q.1 (cuts_after rows marks norms words b r.letter x y q.0 q.1 after h) in
-              let e = m.1 in
-              let k = q.5 in
-              (adds_more q.0 q.1 h p.0 m.0, q.2, q.4, omega arith);
-          fit = record {
-            below = rw (sym long) j.met.below;
-            pruned = j.met.pruned marks unmarked (record { left = pruned-pruned marks x; right = pruned-pruned marks y; pairs = f.fit.pruned });
-          };
-        }
-
-    pub lack_next : (room all : ℕ) → AreFollowed rows marks norms words b old P rules (r ∷ rest) cs heads → HaveNoRoom marks norms words x y P Q room → all ≡ room + heads →
-        LackRoom rows marks norms words b old Q rules all
-    lack_next room all f full sum = record {
-      grows = grows_on old P Q f.grows full.grows;
-      cuts = λ count d.
-          let p = f.cuts count d in
-          let q = p.2 in
-          let s = p.3 in
-          let h = q.3 in
-          let m = full.cuts q.0 q.1 (cuts_after rows marks norms words b r.letter x y q.0 q.1 after h) in
-          let e = m.1 in
-          let k = q.5 in
-          (adds_more q.0 q.1 h p.0 m.0, omega arith);
-    }
-
-  pub followed_last : (P : List Pair) (cs : List Chain) (heads : ℕ) → IsPair rows b → rules ≡ first_row rows b.left → AreFollowed rows marks norms words b old P rules [] cs heads →
-      IsFollowed rows marks norms words b old P cs heads
-  followed_last P cs heads pair is f =
-      let all : f.front ≡ first_row rows b.left = sym (append-nil f.front) ∙ sym f.parts ∙ is in
-      record {
-        pair = pair;
-        grows = f.grows;
-        joined = subst (λ (z : List Rule). AreJoinedByRules rows marks P (drop 1 b.left) b.right z cs) all f.joined;
-        cuts = λ count d.
-            let p = f.cuts count (subst (λ (z : List Rule). DropHeads rows marks norms words b z count) (sym is) d) in
-            let q = p.2 in
-            let s = p.3 in
-            (p.0, omega arith);
-        fit = f.fit;
-      }
-
--- an item at a place
-pub got : {A : Type 0} (xs : List A) (i : ℕ) (r : A) → i < length xs → r ≡ get_or xs i r → slice_get xs i ≡ Some r
-got xs i r lt e = let t = get_there xs i lt in t.1 ∙ ap Some (sym (get_or_from_slice_get xs i t.0 r t.1) ∙ sym e)
-
--- the rules from a place on begin with the one there
-pub rules_from : (rules : List Rule) (i : ℕ) (r : Rule) → slice_get rules i ≡ Some r → drop i rules ≡ r ∷ drop (i + 1) rules
-rules_from rules i r e = rw add-one (next rules i r e)
-  where
-    next : (rules : List Rule) (i : ℕ) (r : Rule) → slice_get rules i ≡ Some r → drop i rules ≡ r ∷ drop (suc i) rules
-    next [] i r e = absurd (cc e)
-    next (q ∷ rules) zero r e = ap (λ (z : Rule). z ∷ rules) (let f : q ≡ r = cc in f)
-    next (q ∷ rules) (suc i) r e = next rules i r e
+-- a word that performs a letter performs that of a rule of its first non-terminal
+letter_at : (rows : Productions) (n a : ℕ) (t x : List ℕ) → step rows (n ∷ t) a ≡ Some x → (j : ℕ) × (r : Rule) × (slice_get (row_of rows n) j ≡ Some r) × (r.letter ≡ a)
+letter_at rows n a t x e =
+    (elim (rule_of (row_of rows n) a) as (λ o. rule_of (row_of rows n) a ≡ o → option_map (λ (v : List ℕ). v ++ t) o ≡ Some x →
+    (j : ℕ) × (r : Rule) × (slice_get (row_of rows n) j ≡ Some r) × (r.letter ≡ a)) [
+      | None ↦ λ is f. absurd (cc f)
+      | Some w ↦ λ is f. rule_at (row_of rows n) a w is
+    ]) refl e
 
 -- a pair with these words moves by the rules of their first non-terminals, which have the same letters exactly where it is one
 pub pair_moves : (rows : Productions) (b : Pair) (n m : ℕ) (t s : List ℕ) → b.left ≡ n ∷ t → b.right ≡ m ∷ s → AreOrdered (row_of rows n) → AreOrdered (row_of rows m) →
@@ -188,6 +75,170 @@ pub not_pair : (rows : Productions) (b : Pair) → (b.left ≡ []) ⊎ (b.right 
 not_pair rows b (inl e) p = absurd (p.left e)
 not_pair rows b (inr e) p = absurd (p.right e)
 
--- there is one pair at a place
-pub same_pair_at : (pairs : List Pair) (at : ℕ) (b c : Pair) → slice_get pairs at ≡ Some b → slice_get pairs at ≡ Some c → b ≡ c
-same_pair_at pairs at b c e f = let g : Some b ≡ Some c = sym e ∙ f in cc
+pub letter_there : (rows : Productions) (w : List ℕ) (a : ℕ) (x : List ℕ) → step rows w a ≡ Some x → (j : ℕ) × (r : Rule) × (slice_get (first_row rows w) j ≡ Some r) × (r.letter ≡ a)
+letter_there rows [] a x e = absurd (cc e)
+letter_there rows (n ∷ t) a x e = letter_at rows n a t x e
+
+-- what two words become by the rules at one place
+pub after_at : (rows : Productions) (b : Pair) (n m : ℕ) (t s : List ℕ) (i : ℕ) (r q : Rule) → b.left ≡ n ∷ t → b.right ≡ m ∷ s → AreOrdered (row_of rows n) → AreOrdered (row_of rows m) →
+    same_letters (row_of rows n) (row_of rows m) ≡ true → slice_get (row_of rows n) i ≡ Some r → slice_get (row_of rows m) i ≡ Some q → AreAfter rows b r.letter (r.word ++ t) (q.word ++ s)
+after_at rows b n m t s i r q left right on om same ri qi =
+    let letter = letters_at (row_of rows n) (row_of rows m) i r q same ri qi in
+    record {
+      left = ap (λ (z : List ℕ). step rows z r.letter) left ∙ ap (option_map (λ (v : List ℕ). v ++ t)) (rule_there (row_of rows n) i r on ri);
+      right = ap (λ (z : List ℕ). step rows z r.letter) right ∙ ap (λ (a : ℕ). option_map (λ (v : List ℕ). v ++ s) (rule_of (row_of rows m) a)) letter
+          ∙ ap (option_map (λ (v : List ℕ). v ++ s)) (rule_there (row_of rows m) i q om qi);
+    }
+
+module _ (rows : Productions) (marks : List Bool) (norms : List (Option ℕ)) (words : List (List ℕ)) (b : Pair) where
+  -- the cuts after a letter are those of the words that it leads to
+  pub cuts_after : (a : ℕ) (x y : List ℕ) (cuts : List Pair) (heads : ℕ) → AreAfter rows b a x y →
+      HaveCutsAfter rows marks norms words b a cuts heads → HavePrunedCuts marks norms words x y cuts heads
+  cuts_after a x y cuts heads l h =
+      let left : h.x ≡ x = (let f : Some h.x ≡ Some x = sym h.left ∙ l.left in cc) in
+      let right : h.y ≡ y = (let f : Some h.y ≡ Some y = sym h.right ∙ l.right in cc) in
+      let R : List ℕ → List ℕ → Type 0 = λ v w. HavePrunedCuts marks norms words v w cuts heads in
+      subst (λ (v : List ℕ). R v y) left (subst (R h.x) right h.cut)
+
+  -- and the other way round
+  pub after_cuts : (a : ℕ) (x y : List ℕ) (cuts : List Pair) (heads : ℕ) → AreAfter rows b a x y → HavePrunedCuts marks norms words x y cuts heads → HaveCutsAfter rows marks norms words b a cuts heads
+  after_cuts a x y cuts heads l h = record { x = x; y = y; left = l.left; right = l.right; cut = h }
+
+  same_after : (a : ℕ) (cuts others : List Pair) (heads count : ℕ) → HaveCutsAfter rows marks norms words b a cuts heads → HaveCutsAfter rows marks norms words b a others count →
+      (cuts ≡ others) × (heads ≡ count)
+  same_after a cuts others heads count h k =
+      same_cuts norms words (pruned_word marks k.x) (pruned_word marks k.y) cuts others heads count (cuts_after a k.x k.y cuts heads (record { left = k.left; right = k.right }) h) k.cut
+
+  -- by the letters of some rules one number of heads is dropped
+  pub same_drops : (rules : List Rule) (n k : ℕ) → DropHeads rows marks norms words b rules n → DropHeads rows marks norms words b rules k → n ≡ k
+  same_drops [] n k d e = d ∙ sym e
+  same_drops (r ∷ rules) n k d e =
+      let c = same_after r.letter d.0 e.0 d.1 e.1 d.3 e.3 in
+      let h = c.1 in
+      let s = same_drops rules d.2 e.2 d.4 e.4 in
+      let x = d.5 in
+      let y = e.5 in
+      omega arith
+
+  pub drops_push : (rules : List Rule) (r : Rule) (n h : ℕ) (cuts : List Pair) → DropHeads rows marks norms words b rules n → HaveCutsAfter rows marks norms words b r.letter cuts h →
+      DropHeads rows marks norms words b (rules ++ r ∷ []) (n + h)
+  drops_push [] r n h cuts d c = (cuts, h, 0, c, refl, (let e = d in omega arith))
+  drops_push (q ∷ rules) r n h cuts d c = (d.0, d.1, d.2 + h, d.3, drops_push rules r d.2 h cuts d.4 c, (let e = d.5 in omega arith))
+
+  drops_parts : (front rest : List Rule) (n : ℕ) → DropHeads rows marks norms words b (front ++ rest) n →
+      (j k : ℕ) × DropHeads rows marks norms words b front j × DropHeads rows marks norms words b rest k × (n ≡ j + k)
+  drops_parts [] rest n d = (0, n, refl, d, (let e : n ≡ 0 + n = omega arith in e))
+  drops_parts (r ∷ front) rest n d =
+      let p = drops_parts front rest d.2 d.4 in
+      let e = d.5 in
+      let f = p.4 in
+      (d.1 + p.0, p.1, (d.0, d.1, p.0, d.3, p.2, refl), p.3, omega arith)
+
+  -- the cuts by the letter of one of the rules, and the heads, which are some of all
+  pub drops_at : (rules : List Rule) (n i : ℕ) (r : Rule) → DropHeads rows marks norms words b rules n → slice_get rules i ≡ Some r →
+      (cuts : List Pair) × (h : ℕ) × HaveCutsAfter rows marks norms words b r.letter cuts h × (h ≤ n)
+  drops_at rules n i r d e =
+      let p = drops_parts (take i rules) (r ∷ drop (suc i) rules) n (subst (λ (z : List Rule). DropHeads rows marks norms words b z n) (parted rules i r e) d) in
+      let q = p.3 in
+      let s = p.4 in
+      let u = q.5 in
+      (q.0, q.1, q.3, omega arith)
+
+  module _ (old : List Pair) (rules others : List Rule) (t s : List ℕ) where
+    pub followed_first : AreFit marks (length words) old → AreFollowed rows marks norms words b old old rules others t s [] 0
+    followed_first fit = record {
+      grows = grows_none old;
+      each = λ j h r q e f g. absurd (cc e);
+      drop = refl;
+      adds = λ at c e. inl (at, e);
+      fit = fit;
+    }
+
+    module _ (P Q : List Pair) (counts : List ℕ) (heads : ℕ) (r q : Rule) (ri : slice_get rules (length counts) ≡ Some r) (qi : slice_get others (length counts) ≡ Some q)
+        (after : AreAfter rows b r.letter (r.word ++ t) (q.word ++ s)) (f : AreFollowed rows marks norms words b old P rules others t s counts heads) where
+      adds_more : (cuts : List Pair) (h : ℕ) → HaveCutsAfter rows marks norms words b r.letter cuts h → Adds cuts P Q → AddsNext rows marks norms words b old Q
+      adds_more cuts h cut new = λ at c e. elim (new at c e) [
+        | inl i ↦ f.adds i.0 c i.1
+        | inr i ↦ inr (record { letter = r.letter; cuts = cuts; heads = h; cut = cut; there = i })
+      ]
+
+      have_more : (x y : List ℕ) (k : ℕ) → Grows P Q → HaveMet marks norms words x y P k → HaveMet marks norms words x y Q k
+      have_more x y k grows h = record { cuts = h.cuts; cut = h.cut; there = each_more h.cuts P Q grows h.there }
+
+      pub followed_next : (h : ℕ) → Meet marks norms words (r.word ++ t) (q.word ++ s) P Q h → AreFollowed rows marks norms words b old Q rules others t s (counts ++ h ∷ []) (heads + h)
+      followed_next h m =
+          let cut = after_cuts r.letter (r.word ++ t) (q.word ++ s) m.met.cuts h after m.met.cut in
+          let longer : length (counts ++ h ∷ []) ≡ length counts + 1 = (let l = length-push counts h in omega arith) in
+          let more : take (length (counts ++ h ∷ [])) rules ≡ take (length counts) rules ++ r ∷ [] = ap (λ (k : ℕ). take k rules) longer ∙ taken rules (length counts) r ri in
+          record {
+            grows = grows_on old P Q f.grows m.grows;
+            each = λ j k r2 q2 e rj qj. elim (get-push counts h k j e) [
+              | inl before ↦ have_more (r2.word ++ t) (q2.word ++ s) k m.grows (f.each j k r2 q2 before rj qj)
+              | inr last ↦
+                  let same_r : r2 ≡ r = one_item rules (length counts) r2 r (subst (λ (z : ℕ). slice_get rules z ≡ Some r2) last.0 rj) ri in
+                  let same_q : q2 ≡ q = one_item others (length counts) q2 q (subst (λ (z : ℕ). slice_get others z ≡ Some q2) last.0 qj) qi in
+                  let R : Rule → Rule → ℕ → Type 0 = λ x y z. HaveMet marks norms words (x.word ++ t) (y.word ++ s) Q z in
+                  subst (λ (x : Rule). R x q2 k) (sym same_r) (subst (λ (y : Rule). R r y k) (sym same_q) (subst (R r q) last.1 m.met))
+            ];
+            drop = subst (λ (z : List Rule). DropHeads rows marks norms words b z (heads + h)) (sym more)
+                (drops_push (take (length counts) rules) r heads h m.met.cuts f.drop cut);
+            adds = adds_more m.met.cuts h cut m.adds;
+            fit = m.fit;
+          }
+
+      pub lack_next : (room all : ℕ) → rules ≡ first_row rows b.left → HaveNoRoom marks norms words (r.word ++ t) (q.word ++ s) P Q room → all ≡ room + heads → LackRoom rows marks norms words b old Q all
+      lack_next room all is full sum = record {
+        grows = grows_on old P Q f.grows full.grows;
+        cuts = λ count d.
+            let whole = subst (λ (z : List Rule). DropHeads rows marks norms words b z count) (sym is ∙ parted rules (length counts) r ri) d in
+            let p = drops_parts (take (length counts) rules) (r ∷ drop (suc (length counts)) rules) count whole in
+            let same = same_drops (take (length counts) rules) p.0 heads p.2 f.drop in
+            let u = p.3 in
+            let m = full.cuts u.0 u.1 (cuts_after r.letter (r.word ++ t) (q.word ++ s) u.0 u.1 after u.3) in
+            let x = p.4 in
+            let y = u.5 in
+            let e = m.1 in
+            (adds_more u.0 u.1 u.3 m.0, omega arith);
+      }
+
+    pub followed_last : (n m : ℕ) (P : List Pair) (counts : List ℕ) (heads : ℕ) → b ≡ record { left = n ∷ t; right = m ∷ s } → rules ≡ row_of rows n → others ≡ row_of rows m →
+        AreOrdered (row_of rows n) → AreOrdered (row_of rows m) → same_letters (row_of rows n) (row_of rows m) ≡ true → length words ≡ length rows → length counts ≡ length rules →
+        AreFollowed rows marks norms words b old P rules others t s counts heads → IsFollowed rows marks norms words b old P heads
+    followed_last n m P counts heads is ri qi on om same long count f =
+        let left : b.left ≡ n ∷ t = ap (λ (z : Pair). z.left) is in
+        let right : b.right ≡ m ∷ s = ap (λ (z : Pair). z.right) is in
+        let all : take (length counts) rules ≡ first_row rows b.left = take_all (length counts) rules (omega (arith, count)) ∙ ri ∙ sym (ap (first_row rows) left) in
+        record {
+          pair = (pair_moves rows b n m t s left right on om).0 same;
+          grows = f.grows;
+          drop = subst (λ (z : List Rule). DropHeads rows marks norms words b z heads) all f.drop;
+          closed = λ a cuts h z.
+              let j = letter_at rows n a t z.x (ap (λ (v : List ℕ). step rows v a) (sym left) ∙ z.left) in
+              let within = slice_get_within (row_of rows n) j.0 j.1 j.2 in
+              let wide = as_long (row_of rows n) (row_of rows m) same in
+              let q = get_there (row_of rows m) j.0 (omega (arith, wide, within)) in
+              let inside : j.0 < length counts = (let l = ap length ri in omega (arith, l, within, count)) in
+              let h2 = get_there counts j.0 inside in
+              let met = f.each j.0 h2.0 j.1 q.0 h2.1 (ap (λ (v : List Rule). slice_get v j.0) ri ∙ j.2) (ap (λ (v : List Rule). slice_get v j.0) qi ∙ q.1) in
+              let after = after_at rows b n m t s j.0 j.1 q.0 left right on om same j.2 q.1 in
+              let cut = cuts_after j.1.letter (j.1.word ++ t) (q.0.word ++ s) cuts h after (subst (λ (k : ℕ). HaveCutsAfter rows marks norms words b k cuts h) (sym j.3) z) in
+              let one = same_cuts norms words (pruned_word marks (j.1.word ++ t)) (pruned_word marks (q.0.word ++ s)) cuts met.cuts h h2.0 cut met.cut in
+              subst (Each (λ c. IsIn c P)) (sym one.0) met.there;
+          adds = f.adds;
+          fit = subst (λ (k : ℕ). AreFit marks k P) long f.fit;
+        }
+
+-- where the cuts of two words are all there, none is added, or there is no room for their heads
+pub met_again : (marks : List Bool) (norms : List (Option ℕ)) (words : List (List ℕ)) (x y : List ℕ) (P : List Pair) (heads : ℕ) → HaveMet marks norms words x y P heads →
+    AreFit marks (length words) P → Meet marks norms words x y P P heads
+met_again marks norms words x y P heads met fit = record { met = met; grows = grows_none P; adds = λ at b e. inl (at, e); fit = fit }
+
+pub crowded_again : (marks : List Bool) (norms : List (Option ℕ)) (words : List (List ℕ)) (x y : List ℕ) (P : List Pair) (heads room : ℕ) → HaveMet marks norms words x y P heads →
+    room < length P + heads → HaveNoRoom marks norms words x y P P room
+crowded_again marks norms words x y P heads room met full = record {
+  grows = grows_none P;
+  cuts = λ cuts count h.
+      let same = same_cuts norms words (pruned_word marks x) (pruned_word marks y) met.cuts cuts heads count met.cut h in
+      let e = same.1 in
+      ((λ at b f. inl (at, f)), omega arith);
+}

@@ -1,5 +1,5 @@
 -- The list of pairs that keys stand for.
-use Rattle.std.proofs.Common.{◌≡◌, ℕ, zero, suc, ◌+◌, ◌<◌, ◌≤◌, List, [], ◌∷◌, ◌++◌, length, take, add-one, append-nil, refl, sym, ◌∙◌, ap, subst, arith, inl, inr, Some, Bool, true, false, true≢false, ◌||◌}
+use Rattle.std.proofs.Common.{◌≡◌, ℕ, zero, suc, ◌<◌, ◌≤◌, List, [], ◌∷◌, ◌++◌, length, append-nil, refl, sym, ◌∙◌, ap, subst, arith, inl, inr, Some, Bool, true, false, true≢false, ◌||◌}
 use Rattle.std.specs.Prelude.{map, slice_get, if◌then◌else◌}
 use Rattle.std.specs.List.{list_any}
 use Rattle.std.proofs.lemmas.List.{map-append}
@@ -119,12 +119,3 @@ inserted W N M k stored at h left right made there equal =
             };
           }
     ]) refl made
-
--- the first pairs, with the next one
-pub taken : (P : List Pair) (at : ℕ) (b : Pair) → slice_get P at ≡ Some b → take (at + 1) P ≡ take at P ++ b ∷ []
-taken P at b e = rw add-one (next P at b e)
-  where
-    next : (P : List Pair) (at : ℕ) (b : Pair) → slice_get P at ≡ Some b → take (suc at) P ≡ take at P ++ b ∷ []
-    next [] at b e = absurd (cc e)
-    next (c ∷ P) zero b e = ap (λ (z : Pair). z ∷ []) (let f : c ≡ b = cc in f)
-    next (c ∷ P) (suc at) b e = ap (λ (z : List Pair). c ∷ z) (next P at b e)

@@ -1,10 +1,17 @@
 mod BridgeLaws
+mod ChainLaws
+mod CollectLaws
 mod CutLaws
 mod FinishLaws
 mod FollowLaws
+mod FrontLaws
 mod KeyLaws
 mod LoweringLaws
+mod MeasureLaws
 mod NormLaws
+mod OptionLaws
+mod PlaceLaws
+mod RepeatLaws
 mod StepLaws
 mod SumLaws
 mod TopLaws

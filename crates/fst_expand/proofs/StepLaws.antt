@@ -1,6 +1,5 @@
--- What one head more, and the last pair, change on the way from one word to another.
-use Rattle.std.proofs.Common.{◌≡◌, ◌≢◌, ℕ, zero, suc, ◌+◌, ◌<◌, List, [], ◌∷◌, ◌++◌, length, take, drop, append-nil, append_assoc, sym, ◌∙◌, ap, subst, arith, inl, inr, Some, None, Option, Bool, true, false, cond, All}
-use Rattle.std.specs.Prelude.{slice_get}
+-- What one head more changes on the way from one word to another.
+use Rattle.std.proofs.Common.{◌≡◌, ◌≢◌, ℕ, zero, suc, ◌+◌, ◌<◌, List, [], ◌∷◌, ◌++◌, length, take, drop, append_assoc, sym, ◌∙◌, ap, subst, arith, Some, Option, Bool, true, false, cond, All}
 use Rattle.std.specs.Str.{bytes_eq}
 use Rattle.fst_types.specs.declared.side.Side.{Side}
 use Rattle.fst_types.specs.declared.side.Side.TheVariants.{Left, Right}
@@ -9,17 +8,14 @@ use Rattle.fst_shared.specs.Shared.{word_of}
 use Rattle.fst_basis.specs.declared.proof.Pair.{Pair}
 use Rattle.fst_basis.specs.Basis.{IsPairBelow}
 use Rattle.fst_expand.specs.declared.joining.Walk.{Walk}
-use Rattle.fst_expand.specs.Cuts.{dropped, head_cut, head_norm, left_rest, lowered_head, right_rest, unless_same}
-use Rattle.fst_expand.specs.Good.{Each, IsIn}
-use Rattle.fst_expand.specs.Table.{Adds, AreNumbered, Grows, Store}
-use Rattle.fst_expand.specs.Trail.{AreBelow, AreNoted, ArePruned, AreUnmarked, IsLeft, IsPrunedPair, IsUnderway}
+use Rattle.fst_expand.specs.Cuts.{HasCuts, dropped, head_cut, head_norm, left_rest, lowered_head, right_rest, unless_same}
+use Rattle.fst_expand.specs.Good.{Each}
+use Rattle.fst_expand.specs.Table.{Adds, AreNumbered, Store}
+use Rattle.fst_expand.specs.Trail.{AreBelow, AreNoted, ArePruned, AreUnmarked, ComeFirst, IsPrunedPair, IsUnderway}
+use Rattle.fst_expand.proofs.CollectLaws.{collects_on, each_added, number_collects}
 use Rattle.fst_expand.proofs.CutLaws.{HasHead, after_drop, append_below, append_unmarked, front_pruned, head_below, head_unmarked, heads_there, lowered_below, lowered_unmarked, rest_below, rest_pruned, unmarked_pruned}
 use Rattle.fst_expand.proofs.WalkLaws.{leads_next}
-use Rattle.fst_expand.proofs.WayLaws.{get_more}
-
-get_behind : (front rest : List Pair) (at : ℕ) (b : Pair) → slice_get rest at ≡ Some b → slice_get (front ++ rest) (length front + at) ≡ Some b
-get_behind [] rest at b e = subst (λ (k : ℕ). slice_get rest k ≡ Some b) (let z : at ≡ 0 + at = omega arith in z) e
-get_behind (c ∷ front) rest at b e = subst (λ (k : ℕ). slice_get (c ∷ (front ++ rest)) k ≡ Some b) (let z : suc (length front + at) ≡ suc (length front) + at = omega arith in z) (get_behind front rest at b e)
+use Rattle.fst_expand.proofs.WayLaws.{both_exchanges}
 
 -- what holds of both words' pair holds of the pair, if there is one
 pub unless_each : (R : Pair → Type 0) (x y : List ℕ) → R (record { left = x; right = y }) → Each R (unless_same x y)
@@ -33,50 +29,23 @@ unless_each R x y h =
     only zero b e = subst R (let f : record { left = x; right = y } ≡ b = cc in f) h
     only (suc at) b e = cc
 
--- a pair that is the only one of a list
-pub only_one : (c b : Pair) (at : ℕ) → slice_get (c ∷ []) at ≡ Some b → c ≡ b
-only_one c b zero e = cc
-only_one c b (suc at) e = cc
-
--- a cut that has a number is all that was added
-pub number_adds : (cuts P Q : List Pair) (cut : Option ℕ) → AreNumbered cuts P Q cut → Adds cuts P Q
-number_adds cuts P Q None (none, same) = λ at b e. inl (at, ap (λ (z : List Pair). slice_get z at) (sym same) ∙ e)
-number_adds cuts P Q (Some p) (c, is, number) = λ at b e. elim (number.adds at b e) [ inl h ↦ inl h | inr h ↦ inr (h.0, ap (λ (z : List Pair). slice_get z h.0) is ∙ h.1) ]
-
-pub number_grows : (cuts P Q : List Pair) (cut : Option ℕ) → AreNumbered cuts P Q cut → Grows P Q
-number_grows cuts P Q None (none, same) = record { more = []; grown = same ∙ sym (append-nil P) }
-number_grows cuts P Q (Some p) (c, is, number) = number.grows
-
-pub grows_on : (P Q R : List Pair) → Grows P Q → Grows Q R → Grows P R
-grows_on P Q R g h = record {
-  more = g.more ++ h.more;
-  grown = h.grown ∙ ap (λ (z : List Pair). z ++ h.more) g.grown ∙ append_assoc P g.more h.more;
+-- what comes first of the cuts once a head is dropped
+first_next : (norms : List (Option ℕ)) (words : List (List ℕ)) (x y l r : List ℕ) (met : List Pair) (heads : ℕ) (side : Side) (norm : ℕ) → l ≢ r →
+    dropped (head_norm norms l) (head_norm norms r) ≡ Some (side, norm) → ComeFirst norms words x y l r met heads →
+    ComeFirst norms words x y (left_rest words side norm l) (right_rest words side norm r) (met ++ head_cut words side norm l r) (heads + 1)
+first_next norms words x y l r met heads side norm other drop f = record {
+  on = λ rest others h.
+      let g = f.on (head_cut words side norm l r ++ rest) (suc others) (HasCuts.drops other drop h) in
+      let sum : heads + suc others ≡ (heads + 1) + others = omega arith in
+      subst (HasCuts norms words x y ((met ++ head_cut words side norm l r) ++ rest)) sum
+      (subst (λ (z : List Pair). HasCuts norms words x y z (heads + suc others)) (sym (append_assoc met (head_cut words side norm l r) rest)) g);
+  back = λ cuts count h.
+      let p = f.back cuts count h in
+      let d = after_drop norms words l r side norm p.0 p.1 p.2 other drop in
+      let s = p.4 in
+      let t = d.sum in
+      (d.rest, d.others, d.cut, p.3 ∙ ap (λ (z : List Pair). met ++ z) d.cuts_are ∙ sym (append_assoc met (head_cut words side norm l r) d.rest), omega arith);
 }
-
--- what holds of the pairs from before, and of those that are added, holds of all
-pub each_added : (R : Pair → Type 0) (cuts P Q : List Pair) → Adds cuts P Q → Each R P → Each R cuts → Each R Q
-each_added R cuts P Q adds old new = λ at b e. elim (adds at b e) [ inl h ↦ old h.0 b h.1 | inr h ↦ new h.0 b h.1 ]
-
--- the cuts that are left once a head is dropped
-pub left_next : (norms : List (Option ℕ)) (words : List (List ℕ)) (old P Q : List Pair) (l r : List ℕ) (met : ℕ) (cuts : List Pair) (heads : ℕ) (side : Side) (norm : ℕ) →
-    IsLeft norms words old P l r met cuts heads → l ≢ r → dropped (head_norm norms l) (head_norm norms r) ≡ Some (side, norm) → Adds (head_cut words side norm l r) P Q →
-    IsLeft norms words old Q (left_rest words side norm l) (right_rest words side norm r) (met + 1) cuts heads
-left_next norms words old P Q l r met cuts heads side norm i other drop adds =
-    let d = after_drop norms words l r side norm i.rest i.others i.cut other drop in
-    let s = i.sum in
-    let t = d.sum in
-    let within : Each (λ b. IsIn b cuts) (head_cut words side norm l r ++ d.rest) = subst (Each (λ b. IsIn b cuts)) d.cuts_are i.within in
-    record {
-      rest = d.rest;
-      others = d.others;
-      cut = d.cut;
-      sum = omega arith;
-      within = λ at b e. within (length (head_cut words side norm l r) + at) b (get_behind (head_cut words side norm l r) d.rest at b e);
-      adds = λ at b e. elim (adds at b e) [
-        | inl h ↦ i.adds h.0 b h.1
-        | inr h ↦ inr (within h.0 b (get_more (head_cut words side norm l r) d.rest h.0 b h.1))
-      ];
-    }
 
 -- all stays below a number
 below_next : (n : ℕ) (words : List (List ℕ)) (P Q : List Pair) (l r : List ℕ) (side : Side) (norm : ℕ) → All (WordBelow n) words → AreBelow n l r P →
@@ -151,14 +120,20 @@ underway_next norms words x y old s t w v side norm cut all d u =
     let l = word_of s.words w.left in
     let r = word_of s.words w.right in
     let there = heads_there norms l r (side, norm) d.drop in
-    let adds = number_adds (head_cut words side norm l r) s.pairs t.pairs cut d.number in
+    let cuts = head_cut words side norm l r in
+    let collects = number_collects cuts s.pairs t.pairs cut d.number in
     let leads = leads_next norms words side norm s.pairs t.pairs w.before.items w.after.items v.before.items v.after.items w.heads x y l r cut there.0 there.1 u.leads d.number d.steps in
+    let steps = both_exchanges side w.before.items w.after.items v.before.items v.after.items w.heads cut d.steps u.before u.after in
     record {
       left = d.left;
       right = d.right;
       leads = rw (d.left_is, d.right_is, d.heads) leads;
-      grows = grows_on old s.pairs t.pairs u.grows (number_grows (head_cut words side norm l r) s.pairs t.pairs cut d.number);
-      cuts = λ cuts heads h. rw (d.left_is, d.right_is, d.heads) (left_next norms words old s.pairs t.pairs l r w.heads cuts heads side norm (u.cuts cuts heads h) d.other d.drop adds);
-      below = rw (d.left_is, d.right_is) (below_next (length words) words s.pairs t.pairs l r side norm all u.below adds);
-      pruned = λ marks unmarked p. rw (d.left_is, d.right_is) (pruned_next marks norms words s.pairs t.pairs l r side norm unmarked there.0 there.1 (u.pruned marks unmarked p) adds);
+      before = steps.0;
+      after = steps.1;
+      met = u.met ++ cuts;
+      first = rw (d.left_is, d.right_is, d.heads) (first_next norms words x y l r u.met w.heads side norm d.other d.drop u.first);
+      collects = collects_on u.met cuts old s.pairs t.pairs u.collects collects;
+      below = rw (d.left_is, d.right_is) (below_next (length words) words s.pairs t.pairs l r side norm all u.below collects.adds);
+      pruned = λ marks unmarked p. rw (d.left_is, d.right_is)
+          (pruned_next marks norms words s.pairs t.pairs l r side norm unmarked there.0 there.1 (u.pruned marks unmarked p) collects.adds);
     }

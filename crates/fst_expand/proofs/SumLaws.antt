@@ -54,3 +54,9 @@ size_within f some all once in_all =
         let b = sum_by-cons f c pairs in
         let d = with_size pairs in
         omega arith
+
+-- what a pair of the list has is at most the sum
+pub sum_at : (f : Pair → ℕ) (bs : List Pair) (at : ℕ) (b : Pair) → slice_get bs at ≡ Some b → f b ≤ sum_by f bs
+sum_at f [] at b e = absurd (cc e)
+sum_at f (c ∷ bs) zero b e = let same : f c ≡ f b = ap f (let g : c ≡ b = cc in g) in let s = sum_by-cons f c bs in omega arith
+sum_at f (c ∷ bs) (suc at) b e = let r = sum_at f bs at b e in let s = sum_by-cons f c bs in omega arith

@@ -1,53 +1,28 @@
--- Pairs that were followed one after the other, as a basis.
-use Rattle.std.proofs.Common.{◌≡◌, ℕ, zero, suc, ◌+◌, ◌-◌, ◌≤◌, List, [], ◌∷◌, ◌++◌, length, take, drop, add-one, refl, sym, ◌∙◌, ap, subst, arith, inl, inr, Some, Option, Bool, All}
-use Rattle.std.specs.Prelude.{slice_get, sum_by}
-use Rattle.std.proofs.lemmas.List.{take_all, drop_all, take-append-le, drop-append-le, length-take}
-use Rattle.std.proofs.lemmas.List.Sums.{sum_by-take-le, sum_by_push}
-use Rattle.std.proofs.lemmas.Option.{get_or_from_slice_get, slice_get_within}
-use Rattle.fst_base.proofs.Lists.{get_there}
-use Rattle.fst_words.specs.Words.{InRange, LettersBelow, Productions, WordBelow, first_row}
-use Rattle.fst_norms.specs.Pruned.{AreUnnormed}
-use Rattle.fst_norms.proofs.Laws.{pruned-pruned}
+-- Pairs that were followed one after the other, as the cuts that two words lead to.
+use Rattle.std.proofs.Common.{◌≡◌, ◌≢◌, ℕ, zero, suc, ◌+◌, ◌-◌, ◌≤◌, List, [], ◌∷◌, ◌++◌, length, take, refl, sym, ◌∙◌, ap, subst, arith, inl, inr, Some, Option, Bool, true, false, ◌&&◌, cond}
+use Rattle.std.specs.Prelude.{slice_get, sum_by, if◌then◌else◌}
+use Rattle.std.specs.Str.{bytes_eq}
+use Rattle.std.proofs.lemmas.List.{take_all, take-append-le}
+use Rattle.std.proofs.lemmas.List.Sums.{sum_by-cons, sum_by-take-le, sum_by_push}
+use Rattle.std.proofs.lemmas.Option.{slice_get_within}
+use Rattle.std.proofs.lemmas.Slice.Eq.{bytes_eq-Decides}
+use Rattle.fst_base.proofs.Bools.{and_parts, same_text}
+use Rattle.fst_words.specs.Words.{Productions, first_row, step}
+use Rattle.fst_norms.specs.Pruned.{pruned_word}
 use Rattle.fst_basis.specs.declared.proof.Pair.{Pair}
-use Rattle.fst_basis.specs.declared.proof.Chain.{Chain}
-use Rattle.fst_basis.specs.declared.proof.Rewrite.{Rewrite}
-use Rattle.fst_basis.specs.Basis.{AreJoined, AreJoinedByRules, IsPair, IsPairBelow, IsProof, Joins}
-use Rattle.fst_basis.proofs.ChainLaws.{as_many}
-use Rattle.fst_expand.specs.Bridge.{HaveNoRoom, IsBridge}
-use Rattle.fst_expand.specs.Expansion.{AddsNext, AreFit, IsExpanded, IsFollowed, IsStuck}
-use Rattle.fst_expand.specs.Good.{AreDistinct, DropHeads, Each, HavePrunedCuts, IsGood, IsIn, IsReachedCut}
+use Rattle.fst_basis.specs.Basis.{IsPair}
+use Rattle.fst_expand.specs.Bridge.{AreFit, HaveNoRoom, HaveRoom, Meet}
+use Rattle.fst_expand.specs.Expansion.{AddsNext, AreSettled, IsClosed, IsExpanded, IsFollowed, IsStuck}
+use Rattle.fst_expand.specs.Good.{AreDistinct, AreGoodCuts, DropHeads, Each, HaveCutsAfter, HavePrunedCuts, IsGood, IsIn, IsReachedCut}
 use Rattle.fst_expand.specs.Lowering.{AreLowering, AreNorms}
 use Rattle.fst_expand.specs.Table.{Adds, Grows}
-use Rattle.fst_expand.specs.Trail.{AreUnmarked}
-use Rattle.fst_expand.proofs.FollowLaws.{joined_grows}
-use Rattle.fst_expand.proofs.KeyLaws.{taken}
+use Rattle.fst_expand.proofs.CollectLaws.{each_more}
+use Rattle.fst_expand.proofs.CutLaws.{same_cuts}
+use Rattle.fst_expand.proofs.FollowLaws.{cuts_after, drops_at, letter_there, same_drops}
 use Rattle.fst_expand.proofs.NormLaws.{same_lowering, same_norms}
-use Rattle.fst_expand.proofs.SumLaws.{size_within}
-use Rattle.fst_expand.proofs.WayLaws.{chained_more, get_more}
-
-all_joined_grow : (rows : Productions) (marks : List Bool) (P Q : List Pair) → Grows P Q → (bs : List Pair) (cs : List Chain) → AreJoined rows marks P bs cs → AreJoined rows marks Q bs cs
-all_joined_grow rows marks P Q g [] cs h = h
-all_joined_grow rows marks P Q g (b ∷ bs) cs h = (
-  joined_grows rows marks P Q (drop 1 b.left) b.right (first_row rows b.left) (take (length (first_row rows b.left)) cs) g h.0,
-  all_joined_grow rows marks P Q g bs (drop (length (first_row rows b.left)) cs) h.1,
-)
-
--- one pair more, with its chains
-all_joined_push : (rows : Productions) (marks : List Bool) (P : List Pair) (b : Pair) (ds : List Chain) → AreJoinedByRules rows marks P (drop 1 b.left) b.right (first_row rows b.left) ds →
-    (bs : List Pair) (cs : List Chain) → AreJoined rows marks P bs cs → AreJoined rows marks P (bs ++ b ∷ []) (cs ++ ds)
-all_joined_push rows marks P b ds j [] cs h =
-    let many = as_many rows marks P (drop 1 b.left) b.right (first_row rows b.left) ds j in
-    let all : take (length (first_row rows b.left)) ds ≡ ds = take_all (length (first_row rows b.left)) ds (omega arith) in
-    let none : drop (length (first_row rows b.left)) ds ≡ [] = drop_all (length (first_row rows b.left)) ds (omega arith) in
-    rw h (rw (all, none) (j, refl))
-all_joined_push rows marks P b ds j (c ∷ bs) cs h =
-    let n = length (first_row rows c.left) in
-    let many = as_many rows marks P (drop 1 c.left) c.right (first_row rows c.left) (take n cs) h.0 in
-    let short = length-take n cs in
-    let within : n ≤ length cs = omega arith in
-    let front : take n (cs ++ ds) ≡ take n cs = take-append-le n cs ds within in
-    let rest : drop n (cs ++ ds) ≡ drop n cs ++ ds = drop-append-le n cs ds within in
-    rw (front, rest) (h.0, all_joined_push rows marks P b ds j bs (drop n cs) h.1)
+use Rattle.fst_expand.proofs.PlaceLaws.{get_taken, taken}
+use Rattle.fst_expand.proofs.SumLaws.{size_within, sum_at}
+use Rattle.fst_expand.proofs.WayLaws.{get_more}
 
 -- the first pairs of a list that grew, with one more
 take_grown : (P Q : List Pair) (at : ℕ) (b : Pair) → Grows P Q → slice_get P at ≡ Some b → take (at + 1) Q ≡ take at P ++ b ∷ []
@@ -63,7 +38,92 @@ each_push R [] b h r (suc at) c e = cc
 each_push R (d ∷ bs) b h r zero c e = h 0 c e
 each_push R (d ∷ bs) b h r (suc at) c e = each_push R bs b (λ k x f. h (suc k) x f) r at c e
 
+-- the sum of two functions that are the same for each pair
+sum_same : (f g : Pair → ℕ) (bs : List Pair) → Each (λ b. f b ≡ g b) bs → sum_by f bs ≡ sum_by g bs
+sum_same f g [] h = refl
+sum_same f g (b ∷ bs) h =
+    let first : f b ≡ g b = h 0 b refl in
+    let rest = sum_same f g bs (λ k c e. h (suc k) c e) in
+    let x = sum_by-cons f b bs in
+    let y = sum_by-cons g b bs in
+    omega arith
+
+-- as this function, but this number for this pair
+abbrev with_count : (Pair → ℕ) → Pair → ℕ → Pair → ℕ
+with_count f b n c = if bytes_eq c.left b.left && bytes_eq c.right b.right then n else f c
+
+its_count : (f : Pair → ℕ) (b : Pair) (n : ℕ) → with_count f b n b ≡ n
+its_count f b n =
+    let left : bytes_eq b.left b.left ≡ true = (bytes_eq-Decides b.left b.left).1 refl in
+    let right : bytes_eq b.right b.right ≡ true = (bytes_eq-Decides b.right b.right).1 refl in
+    rw (left, right) refl
+
+other_count : (f : Pair → ℕ) (b c : Pair) (n : ℕ) → c ≢ b → with_count f b n c ≡ f c
+other_count f b c n other =
+    (elim (bytes_eq c.left b.left && bytes_eq c.right b.right) as (λ z. (bytes_eq c.left b.left && bytes_eq c.right b.right) ≡ z → cond z n (f c) ≡ f c) [
+      | true ↦ λ t.
+          let p = and_parts (bytes_eq c.left b.left) (bytes_eq c.right b.right) t in
+          absurd (other (λ i. record { left = same_text c.left b.left p.0 i; right = same_text c.right b.right p.1 i }))
+      | false ↦ λ t. refl
+    ]) refl
+
 module _ (rows : Productions) (marks : List Bool) (norms : List (Option ℕ)) (words : List (List ℕ)) (n : AreNorms rows norms) (l : AreLowering rows norms words) (u v : List ℕ) (budget : ℕ) where
+  pub expanded_first : (Q : List Pair) (heads : ℕ) → length words ≡ length rows → Meet marks norms words u v [] Q heads → heads ≤ budget →
+      IsExpanded rows marks norms words u v budget Q 0 (budget - heads)
+  expanded_first Q heads long m le = record {
+    cuts = m.met.cuts;
+    heads = heads;
+    first = m.met.cut;
+    there = m.met.there;
+    reached = λ at b e. elim (m.adds at b e) [
+      | inl i ↦ absurd (cc i.1)
+      | inr i ↦ IsReachedCut.first m.met.cut i
+    ];
+    alike = λ at b e. absurd (cc e);
+    heads_of = λ b. 0;
+    next = λ at b e. absurd (cc e);
+    closed = λ at b e. absurd (cc e);
+    spent = omega arith;
+    fit = subst (λ (k : ℕ). AreFit marks k Q) long m.fit;
+  }
+
+  module _ (P Q : List Pair) (at : ℕ) (b : Pair) (room heads : ℕ) (e : slice_get P at ≡ Some b) (x : IsExpanded rows marks norms words u v budget P at room) (once : AreDistinct Q) where
+    -- the pairs before this one are others
+    before_others : Grows P Q → Each (λ c. c ≢ b) (take at P)
+    before_others g k c f =
+        let p = get_taken P at k c f in
+        let in_q : (j : ℕ) (d : Pair) → slice_get P j ≡ Some d → slice_get Q j ≡ Some d = λ j d h. ap (λ (z : List Pair). slice_get z j) g.grown ∙ get_more P g.more j d h in
+        λ same. let twice : k ≡ at = once k at b (in_q k b (p.0 ∙ ap Some same)) (in_q at b e) in let lt = p.1 in absurd (omega arith)
+
+    pub expanded_next : IsFollowed rows marks norms words b P Q heads → heads ≤ room → IsExpanded rows marks norms words u v budget Q (at + 1) (room - heads)
+    expanded_next f le =
+        let taken = take_grown P Q at b f.grows e in
+        let counts = with_count x.heads_of b heads in
+        let as_before : Each (λ c. counts c ≡ x.heads_of c) (take at P) = λ k c g. other_count x.heads_of b c heads (before_others f.grows k c g) in
+        let its : counts b ≡ heads = its_count x.heads_of b heads in
+        let Drops : Pair → ℕ → Type 0 = λ c z. DropHeads rows marks norms words c (first_row rows c.left) z in
+        let Closed : Pair → Type 0 = λ c. IsClosed rows marks norms words c Q in
+        record {
+          cuts = x.cuts;
+          heads = x.heads;
+          first = x.first;
+          there = each_more x.cuts P Q f.grows x.there;
+          reached = λ k c g. elim (f.adds k c g) [
+            | inl i ↦ x.reached i.0 c i.1
+            | inr i ↦ IsReachedCut.next (x.reached at b e) i.cut i.there
+          ];
+          alike = rw taken (each_push (IsPair rows) (take at P) b x.alike f.pair);
+          heads_of = counts;
+          next = rw taken (each_push (λ c. Drops c (counts c)) (take at P) b (λ k c g. subst (Drops c) (sym (as_before k c g)) (x.next k c g)) (subst (Drops b) (sym its) f.drop));
+          closed = rw taken (each_push Closed (take at P) b (λ k c g a cuts h z. each_more cuts P Q f.grows (x.closed k c g a cuts h z)) f.closed);
+          spent =
+              (let sum = ap (sum_by counts) taken ∙ sum_by_push counts (take at P) b in
+              let same = sum_same counts x.heads_of (take at P) as_before in
+              let before = x.spent in
+              omega arith);
+          fit = f.fit;
+        }
+
   -- what a good set says is said of these norms
   module _ (g : IsGood rows marks u v budget) where
     norms_are : norms ≡ g.norms
@@ -78,33 +138,31 @@ module _ (rows : Productions) (marks : List Bool) (norms : List (Option ℕ)) (w
     next_heads : (b : Pair) → IsIn b g.pairs → DropHeads rows marks norms words b (first_row rows b.left) (g.heads_of b)
     next_heads b i = rw (norms_are, words_are) (g.next i.0 b i.1)
 
+    in_good : (b : Pair) → IsReachedCut rows marks norms words u v b → IsIn b g.pairs
+    in_good b r = g.all b (rw (sym norms_are, sym words_are) r)
+
     first_in : (Q : List Pair) → Adds g.cuts [] Q → Each (λ b. IsIn b g.pairs) Q
     first_in Q adds = λ at b e. elim (adds at b e) [
       | inl i ↦ absurd (cc i.1)
-      | inr i ↦ g.all b (IsReachedCut.first g.first i)
+      | inr i ↦ in_good b (IsReachedCut.first first_cuts i)
     ]
 
-    next_in : (b : Pair) (P Q : List Pair) → IsIn b g.pairs → AddsNext rows marks norms words b P Q → Each (λ c. IsIn c g.pairs) P → Each (λ c. IsIn c g.pairs) Q
-    next_in b P Q i adds old = λ at c e. elim (adds at c e) [
-      | inl k ↦ old k.0 c k.1
-      | inr k ↦ g.all c (IsReachedCut.next {a = k.letter} {heads = k.heads} {cuts = k.cuts} (g.only b i) (let h = k.cut in rw (sym norms_are, sym words_are) h) k.there)
+    next_in : (b : Pair) (P Q : List Pair) → IsReachedCut rows marks norms words u v b → AddsNext rows marks norms words b P Q → Each (IsReachedCut rows marks norms words u v) P → Each (λ c. IsIn c g.pairs) Q
+    next_in b P Q r adds old = λ at c e. elim (adds at c e) [
+      | inl k ↦ in_good c (old k.0 c k.1)
+      | inr k ↦ in_good c (IsReachedCut.next r k.cut k.there)
     ]
 
-  pub expanded_first : (Q : List Pair) (c : Chain) (heads : ℕ) → AreFit marks (length rows) Q → IsBridge marks norms words u v [] Q c.steps.items heads → heads ≤ budget →
-      IsExpanded rows marks u v budget Q 0 (c ∷ []) (budget - heads)
-  expanded_first Q c heads fit j room = record {
-    first = c;
-    others = [];
-    chains_are = refl;
-    leads = j.leads;
-    alike = λ at b e. absurd (cc e);
-    joined = refl;
-    fit = fit;
-    good = λ g.
-        let m = j.met.cuts g.cuts g.heads (first_cuts g) in
-        let e = m.1 in
-        (first_in g Q m.0, omega arith);
-  }
+    -- as many heads are dropped as were counted
+    as_counted : (P : List Pair) (at room : ℕ) (x : IsExpanded rows marks norms words u v budget P at room) → budget ≡ room + (g.heads + sum_by g.heads_of (take at P))
+    as_counted P at room x =
+        let first = same_cuts norms words (pruned_word marks u) (pruned_word marks v) x.cuts g.cuts x.heads g.heads x.first first_cuts in
+        let f = first.1 in
+        let s = sum_same x.heads_of g.heads_of (take at P) (λ k c e.
+        let p = get_taken P at k c e in
+        same_drops rows marks norms words c (first_row rows c.left) (x.heads_of c) (g.heads_of c) (x.next k c e) (next_heads c (in_good c (x.reached k c p.0)))) in
+        let b = x.spent in
+        omega arith
 
   pub no_first : (Q : List Pair) → AreDistinct Q → HaveNoRoom marks norms words u v [] Q budget → IsGood rows marks u v budget → ⊥
   no_first Q once full g =
@@ -114,40 +172,18 @@ module _ (rows : Productions) (marks : List Bool) (norms : List (Option ℕ)) (w
       let e = m.1 in
       omega arith
 
-  pub expanded_next : (P Q : List Pair) (at : ℕ) (b : Pair) (chains cs : List Chain) (room heads : ℕ) → slice_get P at ≡ Some b → IsExpanded rows marks u v budget P at chains room →
-      IsFollowed rows marks norms words b P Q cs heads → heads ≤ room → IsExpanded rows marks u v budget Q (at + 1) (chains ++ cs) (room - heads)
-  expanded_next P Q at b chains cs room heads e x f le =
-      let taken = take_grown P Q at b f.grows e in
-      record {
-        first = x.first;
-        others = x.others ++ cs;
-        chains_are = ap (λ (z : List Chain). z ++ cs) x.chains_are;
-        leads = rw f.grows.grown (chained_more marks P f.grows.more x.first.steps.items u v x.leads);
-        alike = rw taken (each_push (IsPair rows) (take at P) b x.alike f.pair);
-        joined = rw taken (all_joined_push rows marks Q b cs f.joined (take at P) x.others (all_joined_grow rows marks P Q f.grows (take at P) x.others x.joined));
-        fit = f.fit;
-        good = λ g.
-            let p = x.good g in
-            let i = p.0 at b e in
-            let m = f.cuts (g.heads_of b) (next_heads g b i) in
-            let sum = ap (sum_by g.heads_of) taken ∙ sum_by_push g.heads_of (take at P) b in
-            let before = p.1 in
-            let same = m.1 in
-            (next_in g b P Q i m.0 p.0, omega arith);
-      }
-
-  pub no_next : (P Q : List Pair) (at : ℕ) (b : Pair) (chains : List Chain) (room : ℕ) → slice_get P at ≡ Some b → IsExpanded rows marks u v budget P at chains room →
+  pub no_next : (P Q : List Pair) (at : ℕ) (b : Pair) (room : ℕ) → slice_get P at ≡ Some b → IsExpanded rows marks norms words u v budget P at room →
       AreDistinct Q → IsStuck rows marks norms words b P Q room → IsGood rows marks u v budget → ⊥
-  no_next P Q at b chains room e x once stuck g =
-      let p = x.good g in
-      let i = p.0 at b e in
+  no_next P Q at b room e x once stuck g =
+      let r = x.reached at b e in
+      let i = in_good g b r in
       let lack = stuck (g.alike i.0 b i.1) in
       let grows = lack.grows in
       let m = lack.cuts (g.heads_of b) (next_heads g b i) in
-      let s = size_within g.heads_of Q g.pairs once (next_in g b P Q i m.0 p.0) in
+      let s = size_within g.heads_of Q g.pairs once (next_in g b P Q r m.0 x.reached) in
       let w = g.within in
       let full = m.1 in
-      let before = p.1 in
+      let before = as_counted g P at room x in
       let some = some_sum grows (g.heads_of) in
       omega arith
     where
@@ -157,33 +193,69 @@ module _ (rows : Productions) (marks : List Bool) (norms : List (Option ℕ)) (w
           let within = sum_by-take-le h Q (at + 1) in
           omega arith
 
-each_all : (R : Pair → Type 0) (bs : List Pair) → Each R bs → All R bs
-each_all R bs h k d lt = let t = get_there bs k lt in subst R (sym (get_or_from_slice_get bs k t.0 d t.1)) (h k t.0 t.1)
+  -- once all pairs are followed they are good, and there is room for all that they become
+  module _ (P : List Pair) (at room : ℕ) (end : length P ≤ at) (left : length P ≤ room) (x : IsExpanded rows marks norms words u v budget P at room) where
+    all_taken : take at P ≡ P
+    all_taken = take_all at P end
 
--- once all pairs are followed they are a basis
-pub expanded_last : (count : ℕ) (rows : Productions) (marks : List Bool) (u v : List ℕ) (budget : ℕ) (P : List Pair) (at : ℕ) (chains : List Chain) (room : ℕ) → length P ≤ at →
-    LettersBelow count rows → InRange rows → AreUnnormed rows marks → WordBelow (length rows) u → WordBelow (length rows) v → IsExpanded rows marks u v budget P at chains room →
-    IsProof count rows marks u v P chains
-expanded_last count rows marks u v budget P at chains room end letters range unnormed left right x =
-    let all : take at P ≡ P = take_all at P end in
-    let alike : Each (IsPair rows) P = subst (Each (IsPair rows)) all x.alike in
-    let joined : AreJoined rows marks P P x.others = subst (λ (z : List Pair). AreJoined rows marks P z x.others) all x.joined in (
+    closed_all : Each (λ b. IsClosed rows marks norms words b P) P
+    closed_all = subst (Each (λ b. IsClosed rows marks norms words b P)) all_taken x.closed
+
+    alike_all : Each (IsPair rows) P
+    alike_all = subst (Each (IsPair rows)) all_taken x.alike
+
+    next_all : Each (λ b. DropHeads rows marks norms words b (first_row rows b.left) (x.heads_of b)) P
+    next_all = subst (Each (λ b. DropHeads rows marks norms words b (first_row rows b.left) (x.heads_of b))) all_taken x.next
+
+    sum_all : length P + (x.heads + sum_by x.heads_of P) ≤ budget
+    sum_all = let s = ap (sum_by x.heads_of) all_taken in let e = x.spent in omega arith
+
+    all_in : (b : Pair) → IsReachedCut rows marks norms words u v b → IsIn b P
+    all_in b (IsReachedCut.first {cuts = cuts} {heads = heads} h i) =
+        let same = same_cuts norms words (pruned_word marks u) (pruned_word marks v) cuts x.cuts heads x.heads h x.first in
+        x.there i.0 b (ap (λ (z : List Pair). slice_get z i.0) (sym same.0) ∙ i.1)
+    all_in b (IsReachedCut.next {c = c} {a = a} {heads = heads} {cuts = cuts} r h i) =
+        let k = all_in c r in
+        closed_all k.0 c k.1 a cuts heads h i.0 b i.1
+
+    pub good_cuts : AreDistinct P → AreGoodCuts rows marks u v budget P
+    good_cuts once = (
       record {
-        letters = letters;
-        rules = range;
-        count = unnormed.count;
-        left = left;
-        right = right;
-        pairs = each_all (IsPairBelow (length rows)) P x.fit.below;
+        norms = norms;
+        words = words;
+        are_norms = n;
+        lowering = l;
+        pairs = P;
+        all = all_in;
+        only = λ b i. x.reached i.0 b i.1;
+        once = once;
+        alike = alike_all;
+        cuts = x.cuts;
+        heads = x.heads;
+        first = x.first;
+        heads_of = x.heads_of;
+        next = next_all;
+        within = (let s = sum_all in omega arith);
       },
-      subst (Joins rows marks u v P) (sym x.chains_are)
-          (record { set = unnormed.set; pairs = each_all (IsPair rows) P alike; joined = joined }, x.leads),
+      refl,
     )
 
--- the first cuts are pruned words of the grammar
-pub first_fit : (rows : Productions) (marks : List Bool) (norms : List (Option ℕ)) (words : List (List ℕ)) (u v : List ℕ) (Q : List Pair) (steps : List Rewrite) (heads : ℕ) → length words ≡ length rows →
-    AreUnmarked marks norms words → IsBridge marks norms words u v [] Q steps heads → AreFit marks (length rows) Q
-first_fit rows marks norms words u v Q steps heads long unmarked j = record {
-  below = rw (sym long) j.met.below;
-  pruned = j.met.pruned marks unmarked (record { left = pruned-pruned marks u; right = pruned-pruned marks v; pairs = λ at b e. cc });
-}
+    pub first_room : HaveRoom marks norms words u v P budget
+    first_room = (x.heads, record { cuts = x.cuts; cut = x.first; there = x.there }, (let s = sum_all in omega arith))
+
+    pub settled : AreSettled rows marks norms words P budget
+    settled = record {
+      alike = alike_all;
+      rooms = λ k b e a y z after. room_after k b e a y z after.left (λ cuts h m. cuts_after rows marks norms words b a y z cuts h after m);
+    }
+      where
+        room_after : (k : ℕ) (b : Pair) → slice_get P k ≡ Some b → (a : ℕ) (y z : List ℕ) → step rows b.left a ≡ Some y →
+            ((cuts : List Pair) (h : ℕ) → HaveCutsAfter rows marks norms words b a cuts h → HavePrunedCuts marks norms words y z cuts h) → HaveRoom marks norms words y z P budget
+        room_after k b e a y z left to =
+            let j = letter_there rows b.left a y left in
+            let d = drops_at rows marks norms words b (first_row rows b.left) (x.heads_of b) j.0 j.1 (next_all k b e) j.2 in
+            let cut = subst (λ (i : ℕ). HaveCutsAfter rows marks norms words b i d.0 d.1) j.3 d.2 in
+            let some = d.3 in
+            let its = sum_at x.heads_of P k b e in
+            let sum = sum_all in
+            (d.1, record { cuts = d.0; cut = to d.0 d.1 cut; there = closed_all k b e a d.0 d.1 cut }, omega arith)

@@ -1,8 +1,9 @@
 -- Chains that lead from word to word, and on bases that grow.
-use Rattle.std.proofs.Common.{◌≡◌, ℕ, List, [], ◌∷◌, ◌++◌, length, reverse, refl, ◌∙◌, ap, subst, arith, Some, None, Bool, true, nat_eq, zero, suc}
+use Rattle.std.proofs.Common.{◌≡◌, ℕ, List, [], ◌∷◌, ◌++◌, length, reverse, refl, sym, ◌∙◌, ap, subst, arith, Some, None, Option, Bool, true, nat_eq, zero, suc, All}
 use Rattle.std.specs.Prelude.{option_and_then, slice_get, nat_le}
 use Rattle.std.specs.List.{starts_with}
 use Rattle.std.proofs.lemmas.List.{length-append, reverse-append}
+use Rattle.std.proofs.lemmas.List.Elements.{All-append, All-cons, All-head, All-nil, All-tail}
 use Rattle.std.proofs.lemmas.Slice.Eq.{starts_is}
 use Rattle.std.proofs.lemmas.Bool.Decides.{Decides-eqb}
 use Rattle.std.proofs.lemmas.Bool.{le-leb}
@@ -10,7 +11,11 @@ use Rattle.std.proofs.Math.Seq.{take-append_seam, drop-append_seam}
 use Rattle.fst_basis.specs.declared.proof.Pair.{Pair}
 use Rattle.fst_basis.specs.declared.proof.Rewrite.{Rewrite}
 use Rattle.fst_basis.specs.declared.proof.Rewrite.TheVariants.{Forth, Back, Cut, Grow}
+use Rattle.fst_types.specs.declared.side.Side.{Side}
+use Rattle.fst_types.specs.declared.side.Side.TheVariants.{Left, Right}
+use Rattle.fst_basis.specs.Basis.{IsRewriteBelow}
 use Rattle.fst_basis.specs.Rewrites.{replaced, rewritten, chained}
+use Rattle.fst_expand.specs.Trail.{AreExchanges, AreNoted, noted}
 
 -- one chain behind another
 pub chained-append : (marks : List Bool) (basis : List Pair) (a b : List Rewrite) (w x : List ℕ) → chained marks basis a w ≡ Some x →
@@ -82,3 +87,24 @@ chained_last marks basis steps r w v x e f = chained-append marks basis steps (r
 -- the last one of a list turned round comes first
 pub reverse-push : (steps : List Rewrite) (r : Rewrite) → reverse (steps ++ r ∷ []) ≡ r ∷ reverse steps
 reverse-push steps r = reverse-append steps (r ∷ [])
+
+-- exchanges stay exchanges with one more, turned round, and one list behind another
+pub noted_exchanges : (steps : List Rewrite) (heads : ℕ) (cut : Option ℕ) → AreExchanges steps → AreExchanges (noted steps heads cut)
+noted_exchanges steps heads None h = h
+noted_exchanges steps heads (Some p) h = λ n. All-append (IsRewriteBelow n) steps (Forth heads p ∷ []) (h n) (All-cons (IsRewriteBelow n) (Forth heads p) [] tt (All-nil (IsRewriteBelow n)))
+
+pub both_exchanges : (side : Side) (before after before2 after2 : List Rewrite) (heads : ℕ) (cut : Option ℕ) → AreNoted side before after before2 after2 heads cut → AreExchanges before → AreExchanges after →
+    AreExchanges before2 × AreExchanges after2
+both_exchanges Left before after before2 after2 heads cut steps hb ha = rw (steps.0, steps.1) (hb, noted_exchanges after heads cut ha)
+both_exchanges Right before after before2 after2 heads cut steps hb ha = rw (steps.0, steps.1) (noted_exchanges before heads cut hb, ha)
+
+pub exchanges_on : (a b : List Rewrite) → AreExchanges a → AreExchanges b → AreExchanges (a ++ b)
+exchanges_on a b h k = λ n. All-append (IsRewriteBelow n) a b (h n) (k n)
+
+pub reversed_exchanges : (steps : List Rewrite) → AreExchanges steps → AreExchanges (reverse steps)
+reversed_exchanges [] h = h
+reversed_exchanges (r ∷ steps) h = λ n.
+    let turned : reverse (r ∷ steps) ≡ reverse steps ++ r ∷ [] = reverse-append (r ∷ []) steps in
+    subst (All (IsRewriteBelow n)) (sym turned) (All-append (IsRewriteBelow n) (reverse steps) (r ∷ [])
+    (reversed_exchanges steps (λ k. All-tail (IsRewriteBelow k) r steps (h k)) n)
+    (All-cons (IsRewriteBelow n) r [] (All-head (IsRewriteBelow n) r steps (h n)) (All-nil (IsRewriteBelow n))))

@@ -63,3 +63,7 @@ pub record IsGood (rows : Productions) (marks : List Bool) (u v : List ℕ) (bud
   pub heads_of : Pair → ℕ
   pub next : Each (λ b. DropHeads rows marks norms words b (first_row rows b.left) (heads_of b)) pairs
   pub within : length pairs + heads + sum_by heads_of pairs ≤ budget
+
+-- these pairs are the cuts that two words lead to, and those are good at the budget
+abbrev pub AreGoodCuts : Productions → List Bool → List ℕ → List ℕ → ℕ → List Pair → Type 0
+AreGoodCuts rows marks u v budget pairs = (g : IsGood rows marks u v budget) × (pairs ≡ g.pairs)

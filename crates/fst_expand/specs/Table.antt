@@ -32,6 +32,12 @@ pub record Grows (old new : List Pair) : Type 0 where
 abbrev pub Adds : List Pair → List Pair → List Pair → Type 0
 Adds cuts old new = Each (λ b. IsIn b old ⊎ IsIn b cuts) new
 
+-- the pairs are those from before with these
+pub record Collects (cuts old new : List Pair) : Type 0 where
+  pub grows : Grows old new
+  pub there : Each (λ b. IsIn b new) cuts
+  pub adds : Adds cuts old new
+
 -- the pair has this number, and no other one is added
 pub record IsNumbered (b : Pair) (old new : List Pair) (at : ℕ) : Type 0 where
   pub there : slice_get new at ≡ Some b

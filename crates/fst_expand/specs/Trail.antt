@@ -1,5 +1,5 @@
 -- The way from one word to another, found from both ends.
-use Rattle.std.specs.Prelude.{◌≡◌, ℕ, ◌+◌, ◌<◌, List, [], ◌∷◌, ◌++◌, length, reverse, Option, Some, None, Bool, false, ◌⊎◌}
+use Rattle.std.specs.Prelude.{◌≡◌, ℕ, ◌+◌, ◌<◌, List, [], ◌∷◌, ◌++◌, length, reverse, Option, Some, None, Bool, false, ◌⊎◌, All}
 use Rattle.fst_types.specs.declared.side.Side.{Side}
 use Rattle.fst_types.specs.declared.side.Side.TheVariants.{Left, Right}
 use Rattle.fst_words.specs.Marks.{has_marked, is_marked}
@@ -11,12 +11,12 @@ use Rattle.fst_basis.specs.declared.proof.Pair.{Pair}
 use Rattle.fst_basis.specs.declared.proof.Rewrite.{Rewrite}
 use Rattle.fst_basis.specs.declared.proof.Rewrite.TheVariants.{Forth}
 use Rattle.fst_basis.specs.Rewrites.{chained}
-use Rattle.fst_basis.specs.Basis.{IsPairBelow}
+use Rattle.fst_basis.specs.Basis.{IsPairBelow, IsRewriteBelow}
 use Rattle.fst_expand.specs.declared.joining.Walk.{Walk}
 use Rattle.fst_expand.specs.Lowering.{lowered_to}
 use Rattle.fst_expand.specs.Cuts.{HasCuts, dropped, head_norm}
-use Rattle.fst_expand.specs.Good.{IsIn, Each}
-use Rattle.fst_expand.specs.Table.{Store, Adds, Grows}
+use Rattle.fst_expand.specs.Good.{Each}
+use Rattle.fst_expand.specs.Table.{Store, Adds, Collects, Grows}
 
 -- both words are pruned
 pub record IsPrunedPair (marks : List Bool) (b : Pair) : Type 0 where
@@ -46,14 +46,15 @@ pub record Leads (basis : List Pair) (before after : List Rewrite) (heads : ℕ)
   pub from : (marks : List Bool) → chained marks basis before x ≡ Some (front ++ left)
   pub to : (marks : List Bool) → chained marks basis (reverse after) (front ++ right) ≡ Some y
 
--- of the cuts and heads of two words these two have what was not met yet
-pub record IsLeft (norms : List (Option ℕ)) (words : List (List ℕ)) (old new : List Pair) (left right : List ℕ) (met : ℕ) (cuts : List Pair) (heads : ℕ) : Type 0 where
-  pub rest : List Pair
-  pub others : ℕ
-  pub cut : HasCuts norms words left right rest others
-  pub sum : heads ≡ met + others
-  pub within : Each (λ b. IsIn b cuts) rest
-  pub adds : Adds cuts old new
+-- the rewrites are exchanges alone, which neither cut anything off nor put anything behind a word
+abbrev pub AreExchanges : List Rewrite → Type 0
+AreExchanges steps = (n : ℕ) → All (IsRewriteBelow n) steps
+
+-- of the cuts of x and y these come first, with so many heads that are dropped, and then those of the two words that are left
+pub record ComeFirst (norms : List (Option ℕ)) (words : List (List ℕ)) (x y left right : List ℕ) (met : List Pair) (heads : ℕ) : Type 0 where
+  pub on : (rest : List Pair) (others : ℕ) → HasCuts norms words left right rest others → HasCuts norms words x y (met ++ rest) (heads + others)
+  pub back : (cuts : List Pair) (count : ℕ) → HasCuts norms words x y cuts count →
+      (rest : List Pair) × (others : ℕ) × HasCuts norms words left right rest others × (cuts ≡ met ++ rest) × (count ≡ heads + others)
 
 -- the numbers of two words and of all pairs are below n
 pub record AreBelow (n : ℕ) (x y : List ℕ) (bs : List Pair) : Type 0 where
@@ -72,9 +73,11 @@ pub record IsUnderway (norms : List (Option ℕ)) (words : List (List ℕ)) (x y
   pub left : w.left < length t.words
   pub right : w.right < length t.words
   pub leads : Leads t.pairs w.before.items w.after.items w.heads x y (word_of t.words w.left) (word_of t.words w.right)
-  pub grows : Grows old t.pairs
-  pub cuts : (cuts : List Pair) (heads : ℕ) → HasCuts norms words x y cuts heads →
-      IsLeft norms words old t.pairs (word_of t.words w.left) (word_of t.words w.right) w.heads cuts heads
+  pub before : AreExchanges w.before.items
+  pub after : AreExchanges w.after.items
+  pub met : List Pair
+  pub first : ComeFirst norms words x y (word_of t.words w.left) (word_of t.words w.right) met w.heads
+  pub collects : Collects met old t.pairs
   pub below : AreBelow (length words) (word_of t.words w.left) (word_of t.words w.right) t.pairs
   pub pruned : (marks : List Bool) → AreUnmarked marks norms words → ArePruned marks x y old →
       ArePruned marks (word_of t.words w.left) (word_of t.words w.right) t.pairs
@@ -83,16 +86,18 @@ pub record IsUnderway (norms : List (Option ℕ)) (words : List (List ℕ)) (x y
 abbrev pub HasNoDrop : List (Option ℕ) → List ℕ → List ℕ → Type 0
 HasNoDrop norms x y = (x ≡ y) ⊎ (dropped (head_norm norms x) (head_norm norms y) ≡ None)
 
--- the pairs are those from before and some of the cuts of two words, of which so many heads are dropped
+-- the pairs are those from before and the cuts of two words, of which so many heads are dropped
 pub record AreMet (norms : List (Option ℕ)) (words : List (List ℕ)) (x y : List ℕ) (old new : List Pair) (heads : ℕ) : Type 0 where
-  pub grows : Grows old new
-  pub cuts : (cuts : List Pair) (count : ℕ) → HasCuts norms words x y cuts count → Adds cuts old new × (count ≡ heads)
+  pub cuts : List Pair
+  pub cut : HasCuts norms words x y cuts heads
+  pub collects : Collects cuts old new
   pub below : Each (IsPairBelow (length words)) new
   pub pruned : (marks : List Bool) → AreUnmarked marks norms words → ArePruned marks x y old → Each (IsPrunedPair marks) new
 
 -- and the rewrites lead from one to the other
 pub record IsJoining (norms : List (Option ℕ)) (words : List (List ℕ)) (x y : List ℕ) (old new : List Pair) (steps : List Rewrite) (heads : ℕ) : Type 0 where
   pub leads : (marks : List Bool) → chained marks new steps x ≡ Some y
+  pub exchanges : AreExchanges steps
   pub met : AreMet norms words x y old new heads
 
 -- The pairs, which are those from before and some of the cuts, and the heads of all cuts are more than there is room for.

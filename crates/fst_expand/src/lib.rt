@@ -2,10 +2,14 @@
 #![tactic(auto)]
 
 mod bridge;
+mod chaining;
 mod dropping;
 mod expansion;
+mod following;
 mod joining;
 mod lowering;
+mod measures;
+mod repeats;
 mod table;
 
 pub use expansion::expand;

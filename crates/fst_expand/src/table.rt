@@ -216,7 +216,7 @@ impl Table {
     }
 
     /// The pairs in order, written out.
-    #[tactic(auto, using(crate::proofs::KeyLaws::taken))]
+    #[tactic(auto, using(crate::proofs::PlaceLaws::taken))]
     pub(crate) fn to_pairs(&self, alloc: Global) -> Result<Vec<Pair>, AllocError>
         ensures { IfOk result (λ pairs. pairs.items ≡ self.now.pairs) }
     {

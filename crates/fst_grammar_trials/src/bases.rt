@@ -4,7 +4,7 @@ use crate::grammars::{are_letters_below, digits, grammar, one_digit};
 use fst_basis::{Chain, Pair, Rewrite, check};
 use fst_expand::expand;
 use fst_norms::unnormed;
-use fst_tables::{digits_text, each_line, fields, no_row};
+use fst_tables::{basis_text, each_line, fields, no_row};
 use fst_words::{Word, is_below, is_in_range};
 use std::alloc::{AllocError, Global};
 use std::test::Fail;
@@ -153,18 +153,6 @@ const FOUND: &str = "\
 01 / 00 / 3 ¦ 022 ¦ 1 ¦ 2 = true 0-1 1-0
 0 / 00000 / 01111 / 02222 / 03333 / 03333 ¦ 4 ¦ 5 ¦ 2 = true 4-5
 0 / 00000 / 01111 / 02222 / 03333 / 04444 / 05555 / 05555 ¦ 6 ¦ 7 ¦ 1 = true 6-7";
-
-/// The pairs of a basis as text, such as ` 2-3`.
-fn basis_text(alloc: Global, basis: &[Pair]) -> Result<String, AllocError> {
-    let mut text = String::new(alloc);
-    for b in basis {
-        text.push(' ')?;
-        text.push_str(&digits_text(alloc, b.left.as_slice())?)?;
-        text.push('-')?;
-        text.push_str(&digits_text(alloc, b.right.as_slice())?)?;
-    }
-    Ok(text)
-}
 
 /// The basis that is found, which joins the two words by its chains.
 fn found_row(alloc: Global, given: &str) -> Result<String, Fail> {

@@ -4,7 +4,7 @@ use crate::building::is_session;
 use fst_equiv::{Certificate, EquivFault, Verdict, ask};
 use fst_grammar::{TranslateFault, translate};
 use fst_print::{side_text, word_text};
-use fst_tables::pairs_text;
+use fst_tables::{basis_text, pairs_text};
 use fst_types::{Kind, Prekind, Ty, Use};
 use fst_words::{Grammar, Word};
 use std::alloc::{AllocError, Global};
@@ -35,7 +35,7 @@ pub fn asked(alloc: Global, s: &Ty, r: &Ty, budget: u32) -> Result<Verdict, Equi
     }
 }
 
-/// As `yes 0-1`, `no +A !Int left`, `undecided 1000` or `too large`; over nine pairs are counted.
+/// As `yes 0-1`, `yes by basis 0-1`, `no +A !Int left`, `undecided 1000` or `too large`, with the last digits of numbers.
 pub fn verdict_text(
     alloc: Global,
     found: &Result<Verdict, EquivFault>,
@@ -43,6 +43,9 @@ pub fn verdict_text(
     match found {
         Ok(Verdict::Yes(Certificate::Visited(_, _, _, pairs))) => {
             format!(in alloc; "yes{}", pairs_text(alloc, pairs)?)
+        }
+        Ok(Verdict::Yes(Certificate::Basis(_, _, _, proof))) => {
+            format!(in alloc; "yes by basis{}", basis_text(alloc, &proof.basis)?)
         }
         Ok(Verdict::No(word, side)) => {
             format!(in alloc; "no {} {}", word_text(alloc, word)?, side_text(*side))

@@ -6,5 +6,5 @@ mod numbers;
 mod tables;
 
 pub use labels::word;
-pub use numbers::{digits_text, pairs_text};
+pub use numbers::{basis_text, digits_text, pairs_text};
 pub use tables::{each_line, each_pair, fields, no_row};

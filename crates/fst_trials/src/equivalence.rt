@@ -83,12 +83,14 @@ fn types_have_grammars(rt: HostRuntime) -> Result<(), Fail> {
 }
 
 // The codes of two types and a budget; the verdict. The third two are `(rec x.+{A:Skip,C:!Int;x;x});!Bool` and the same with
-// one `Skip` more.
+// one `Skip` more: their pairs never end, but they lead to one cut, and four heads are dropped. The fourth two reach one pair, which is
+// their one cut, and one head is dropped.
 const VERDICTS: &str = "\
 ;r;!0? ¦ r;!;!0 ¦ 1 = undecided 1
-;r;!0? ¦ r;!;!0 ¦ 3 = yes 2-3 2-03
-;r;!0? ¦ r;!;!0 ¦ 4 = yes 2-3 2-03
-;r;!0? ¦ r;!;!0 ¦ 1000 = yes 2-3 2-03
+;r;!0? ¦ r;!;!0 ¦ 2 = yes by basis 2-3 2-03
+;r;!0? ¦ r;!;!0 ¦ 3 = yes by basis 2-3 2-03
+;r;!0? ¦ r;!;!0 ¦ 4 = yes by basis 2-3 2-03
+;r;!0? ¦ r;!;!0 ¦ 1000 = yes by basis 2-3 2-03
 r+;0!s ¦ r+;0^s ¦ 1 = undecided 1
 r+;0!s ¦ r+;0^s ¦ 3 = undecided 3
 r+;0!s ¦ r+;0^s ¦ 4 = no +A +B !Int left
@@ -96,8 +98,11 @@ r+;0!s ¦ r+;0^s ¦ 1000 = no +A +B !Int left
 ;r*s;!;00^ ¦ ;r*s;!;0;0s^ ¦ 1 = undecided 1
 ;r*s;!;00^ ¦ ;r*s;!;0;0s^ ¦ 3 = undecided 3
 ;r*s;!;00^ ¦ ;r*s;!;0;0s^ ¦ 4 = undecided 4
-;r*s;!;00^ ¦ ;r*s;!;0;0s^ ¦ 1000 = undecided 1000
-;s! ¦ ;!s ¦ 1 = yes
+;r*s;!;00^ ¦ ;r*s;!;0;0s^ ¦ 5 = yes by basis 2-4
+;r*s;!;00^ ¦ ;r*s;!;0;0s^ ¦ 1000 = yes by basis 2-4
+;-!? ¦ -;!? ¦ 1 = yes 21-3
+;-!? ¦ -;!? ¦ 2 = yes by basis 21-3
+;s! ¦ ;!s ¦ 1 = yes by basis
 ! ¦ @ ¦ 1 = no !Int left
 ^ ¦ @ ¦ 1 = no !Bool left
 i ¦ s ¦ 1 = memory";

@@ -1,34 +1,42 @@
-use Rattle.std.proofs.Common.{◌≡◌, ◌++◌, length}
+use Rattle.std.proofs.Common.{◌≡◌, ◌++◌, length, subst, List, ℕ, Option}
+use Rattle.std.specs.Prelude.{IfSome}
+use Rattle.fst_words.specs.Words.{WordBelow}
 use Rattle.fst_shared.specs.Shared.{word_of}
-use Rattle.fst_expand.specs.Bridge.{cutting, growing}
-use Rattle.fst_expand.proofs.BridgeLaws.{bridged, cut_below, pruned_in_front}
+use Rattle.fst_basis.specs.declared.proof.Pair.{Pair}
+use Rattle.fst_expand.specs.Bridge.{IsWay}
+use Rattle.fst_expand.proofs.BridgeLaws.{framed_way, have_met, have_room}
+use Rattle.fst_expand.proofs.MeasureLaws.{marks_long}
+use Rattle.fst_expand.proofs.OptionLaws.{some_unless}
 use Rattle.fst_expand.proofs.bridge.bridge.Goals as goal
 
-pub join-requires-clause-below : goal.join-requires-clause-below
-join-requires-clause-below c =
-    let e = c.in_ok-from.ensures in
-    let n = length c.args.words.now in
-    rw (e.left, e.right, e.pairs) (record {
-      left = cut_below n c.args.marks.now c.args.left.now (word_of c.args.table.now.words c.args.left_tail) c.requires.left_below c.requires.left_tail_below;
-      right = cut_below n c.args.marks.now c.args.right.now (word_of c.args.table.now.words c.args.right_tail) c.requires.right_below c.requires.right_tail_below;
-      pairs = c.requires.pairs;
-    })
+pub unwrap-joined-requires : goal.unwrap-joined-requires
+unwrap-joined-requires c =
+    some_unless c.in_ok-found.found
+    (have_room c.args.m.now.marks.now c.args.m.now.norms.now c.args.m.now.lowering.now (c.args.left.now.word.now ++ word_of c.args.table.now.words c.args.left.now.tail)
+    (c.args.right.now.word.now ++ word_of c.args.table.now.words c.args.right.now.tail) c.args.table.now.pairs c.meet.new.table.pairs c.args.room c.each_once.ensures.pairs c.requires.room)
+    c.in_ok-found.ensures.crowded
 
-pub returns-in_default-clause-crowded : goal.returns-in_default-clause-crowded
-returns-in_default-clause-crowded c =
-    let e = c.in_ok-from.ensures in
-    let full = rw c.in_default.is at c.in_ok-joined.ensures.crowded in
-    let full2 = rw (e.left, e.right, e.pairs) at full in
-    let p = pruned_in_front c.args.marks.now c.args.left.now (word_of c.args.table.now.words c.args.left_tail) c.requires.left_pruned in
-    let q = pruned_in_front c.args.marks.now c.args.right.now (word_of c.args.table.now.words c.args.right_tail) c.requires.right_pruned in
-    rw (p, q) full2
+-- nothing was added
+same : (c : goal.In_ok-steps) → c.meet.new.table.pairs ≡ c.args.table.now.pairs
+same c =
+    let met = rw c.unwrap-joined.ensures at c.in_ok-found.ensures.met in
+    have_met c.args.m.now.marks.now c.args.m.now.norms.now c.args.m.now.lowering.now (c.args.left.now.word.now ++ word_of c.args.table.now.words c.args.left.now.tail)
+    (c.args.right.now.word.now ++ word_of c.args.table.now.words c.args.right.now.tail) c.args.table.now.pairs c.meet.new.table.pairs c.requires.room.0 c.unwrap-joined.result.heads c.each_once.ensures.pairs
+    c.requires.room.1 met
 
-pub returns-clause-bridge : goal.returns-clause-bridge
-returns-clause-bridge c =
-    let e = c.in_ok-from.ensures in
-    let j = rw c.in-Some.is at c.in_ok-joined.ensures.joined in
-    let j2 = rw (e.left, e.right, e.pairs) at j in
-    let steps : c.in_ok-steps.steps.items ≡ cutting c.in_ok-cut.cut ++ (c.in-Some.joined.steps.items ++ growing c.in_ok-grow.grow) = c.in_ok-steps.ensures in
-    rw steps (bridged c.args.marks.now c.args.norms.now c.args.words.now c.args.left.now (word_of c.args.table.now.words c.args.left_tail) c.args.right.now
-    (word_of c.args.table.now.words c.args.right_tail) c.args.table.now.pairs c.join.new.table.pairs c.in_ok-cut.cut c.in_ok-grow.grow c.in-Some.joined.steps.items c.in-Some.joined.heads
-    c.requires.left_pruned c.requires.right_pruned c.in_ok-cut.ensures c.in_ok-grow.ensures j2)
+pub returns-clause-same : goal.returns-clause-same
+returns-clause-same c = same c
+
+pub returns-clause-way : goal.returns-clause-way
+returns-clause-way c =
+    let leads = rw c.unwrap-joined.ensures at c.in_ok-found.ensures.leads in
+    let exchanges = rw c.unwrap-joined.ensures at c.in_ok-found.ensures.exchanges in
+    let n = length c.args.m.now.lowering.now in
+    let long = marks_long c.args.m.now.grammar.now.rules.items c.args.m.now.marks.now c.args.m.now.norms.now c.args.m.now.lowering.now c.requires.measured in
+    let Below : Option (ℕ × List ℕ) → ℕ → Type 0 = λ o k. IfSome o (λ p. WordBelow k p.1) in
+    subst (λ (P : List Pair). IsWay n c.args.m.now.marks.now P (c.args.left.now.word.now ++ word_of c.args.table.now.words c.args.left.now.tail)
+    (c.args.right.now.word.now ++ word_of c.args.table.now.words c.args.right.now.tail) (record { steps = c.in_ok-steps.steps })) (same c)
+    (framed_way n c.args.m.now.marks.now c.args.left.now.word.now (word_of c.args.table.now.words c.args.left.now.tail) c.args.right.now.word.now
+    (word_of c.args.table.now.words c.args.right.now.tail) c.meet.new.table.pairs c.in_ok-cut.cut c.in_ok-grow.grow c.unwrap-joined.result.steps.items (record { steps = c.in_ok-steps.steps })
+    c.in_ok-cut.ensures.parts c.in_ok-grow.ensures.parts (subst (Below c.in_ok-cut.cut) long c.in_ok-cut.ensures.below) (subst (Below c.in_ok-grow.grow) long c.in_ok-grow.ensures.below)
+    leads exchanges c.in_ok-steps.ensures)

@@ -1,8 +1,18 @@
-use Rattle.std.proofs.Common.{arith}
+use Rattle.std.proofs.Common.{arith, refl}
 use Rattle.fst_shared.specs.Shared.{word_of}
-use Rattle.fst_shared.proofs.TableLaws.{keeps_on}
-use Rattle.fst_expand.proofs.FinishLaws.{crowded_joining, crowded_underway}
+use Rattle.fst_shared.proofs.TableLaws.{keeps_all, keeps_on}
+use Rattle.fst_expand.specs.declared.joining.Walk.{Walk}
+use Rattle.fst_expand.proofs.FinishLaws.{crowded_joining, crowded_underway, underway_first}
 use Rattle.fst_expand.proofs.joining.join.Goals as goal
+
+pub loop-side-init : goal.loop-side-init
+loop-side-init c =
+    let walk : Walk = record { left = c.args.left; right = c.args.right; heads = 0; before = c.new.result; after = c.new-2.result } in
+    record {
+      underway = underway_first c.args.norms.now c.args.words.now c.args.table.now walk c.requires.left c.requires.right c.new.ensures.items c.new-2.ensures.items refl c.requires.below;
+      room = (let room = c.requires.room in omega arith);
+      kept = keeps_all c.args.table.now.words;
+    }
 
 pub returns-then-len-walk-clause-crowded : goal.returns-then-len-walk-clause-crowded
 returns-then-len-walk-clause-crowded c =
