@@ -1,5 +1,5 @@
 -- What `check` writes of a module, and what that means.
-use Rattle.std.proofs.Common.{◌≡◌, ◌∙◌, inl, inr, ℕ, ◌≤◌, List, [], ◌∷◌, length, Some, Result, Ok, Err, refl, sym, ap, subst, append_assoc}
+use Rattle.std.proofs.Common.{◌≡◌, ◌∙◌, ◌⊎◌, inl, inr, ℕ, ◌≤◌, List, [], ◌∷◌, length, Result, Ok, Err, refl, sym, ap, subst, append_assoc}
 use Rattle.std.specs.Prelude.{◌≢◌, IfOk}
 use Rattle.std.specs.declared.alloc.AllocError.{AllocError}
 use Rattle.fst_base.specs.Limits.{most_bytes}
@@ -7,8 +7,9 @@ use Rattle.fst_scopes.specs.declared.fault.NameFault.{NameFault}
 use Rattle.fst_scopes.specs.declared.fault.NameFault.TheVariants as naming
 use Rattle.fst_terms.specs.ModuleTree.{Declared}
 use Rattle.fst_terms.specs.declared.core_module.Module.{Module}
-use Rattle.fst_module_grammar.specs.Derives.{AnswersModule}
-use Rattle.fst_names.specs.ResolvedModule.{IsFirstFault, IsResolvedModule}
+use Rattle.fst_lexer.specs.Lexes.{OneLexing}
+use Rattle.fst_module_grammar.specs.Derives.{AnswersModule, OneModule}
+use Rattle.fst_names.specs.ResolvedModule.{IsFirstFault, IsResolvedModule, OneModuleLaw}
 use Rattle.fst_derivations.specs.Deriv.{Deriv}
 use Rattle.fst_type_print.specs.declared.refusals.Phrase.{Phrase}
 use Rattle.fst_type_print.specs.Texts.{family_names, phrase_text}
@@ -26,7 +27,7 @@ use Rattle.fst_command.specs.Texts.{refused_text}
 use Rattle.fst_command.specs.CheckTexts.{Cause, nothing, refused, undecided, too_large, accepted_text, cause, cause_text, cause_status}
 use Rattle.fst_types.specs.declared.family.Family.{Family}
 use Rattle.fst_options.specs.Words as setting
-use Rattle.fst_options.specs.Words.{check, run}
+use Rattle.fst_options.specs.Words.{run}
 use Rattle.fst_command.specs.Finding as finding
 use Rattle.fst_command.specs.Finding.{Finding, IsRead, IsUnread, AreResolved, AreUnresolved, name_finding}
 use Rattle.fst_command.specs.Output.{IsFoundOf, accepted, unaccepted, FindsModule, SaysAccepted, SaysOutcome, made_summary, waiting_status, outcome_text, outcome_status, WritesOf, too_long, is_none, makes, finding_status}
@@ -39,10 +40,14 @@ use Rattle.fst_execution.specs.Execution.{IsSound, ReportsAreSound}
 use Rattle.fst_make.specs.Made.{made_text}
 use Rattle.fst_report.specs.ReportTexts.{report_text}
 use Rattle.fst_command.specs.declared.status.Status.{Status}
-use Rattle.fst_command.specs.Meanings.{MeansAccepted, CheckMeanings, MeansReport, IsSoundOutcome, MeansRun, RunMeanings, MakeMeanings}
+use Rattle.fst_typing.specs.Laws.{IsCause, RefusedHasNone}
+use Rattle.fst_command.specs.Meanings.{MeansAccepted, MeansRefused, CheckMeanings, MeansReport, IsSoundOutcome, MeansRun, RunMeanings, MakeMeanings}
 use Rattle.fst_command.specs.Views.{IfFound, cause_of, name_fault}
 use Rattle.fst_command.proofs.FindingLaws.{if_found, said_found}
+use Rattle.fst_command.proofs.Causes.{refused_cause}
+use Rattle.fst_command.proofs.OneResolved.{resolved_or_not, same_resolved}
 use Rattle.fst_command.proofs.OutcomeLaws.{outcome_sound}
+use Rattle.fst_command.proofs.SameDerivations.{derivations_same}
 
 -- ---- what is found of the bytes
 
@@ -108,41 +113,74 @@ found_output IsMade bytes budget m (Err e) short is found = tt
 
 -- ---- what it means
 
+-- the bytes stand for a module that is accepted, of which this is made
+record IsMadeOf (IsMade : Module → List ℕ → Status → Type 0) (budget : ℕ) (bytes text : List ℕ) (s : Status) : Type 0 where
+  resolved : Module
+  is_resolved : AreResolved bytes resolved
+  derivations : List Deriv
+  is_accepted : IsAccepted resolved budget derivations
+  made : IsMade resolved text s
+
 -- a status of an input for which nothing is made
-data IsRefused (s : Status) : Type 0 where
-  refused_so : s ≡ status.Refused → IsRefused s
-  undecided_so : s ≡ status.Undecided → IsRefused s
-  limited_so : s ≡ status.Limit → IsRefused s
-  memory_so : s ≡ status.Memory → IsRefused s
+data IsRefused (bytes : List ℕ) (s : Status) : Type 0 where
+  refused_so : s ≡ status.Refused → MeansRefused bytes → IsRefused bytes s
+  undecided_so : s ≡ status.Undecided → IsRefused bytes s
+  limited_so : s ≡ status.Limit → IsRefused bytes s
+  memory_so : s ≡ status.Memory → IsRefused bytes s
 
 -- what is found of bytes that stand for no module has such a one
-finding_refuses : (f : Finding) (s : Status) → s ≡ finding_status f → IsRefused s
-finding_refuses (finding.refused at phrase) s e = refused_so e
-finding_refuses (finding.too_deep at) s e = limited_so e
-finding_refuses (finding.too_large at) s e = limited_so e
+finding_refuses : (bytes : List ℕ) (f : Finding) (s : Status) → MeansRefused bytes → s ≡ finding_status f → IsRefused bytes s
+finding_refuses bytes (finding.refused at phrase) s none e = refused_so e none
+finding_refuses bytes (finding.too_deep at) s none e = limited_so e
+finding_refuses bytes (finding.too_large at) s none e = limited_so e
 
 -- so has a cause
-cause_refuses : (c : Cause) (s : Status) → s ≡ cause_status c → IsRefused s
-cause_refuses (refused at why) s e = refused_so e
-cause_refuses (undecided at got wanted) s e = undecided_so e
-cause_refuses (too_large at) s e = limited_so e
-cause_refuses nothing s e = memory_so e
+cause_refuses : (bytes : List ℕ) (c : Cause) (s : Status) → (status.Refused ≡ cause_status c → MeansRefused bytes) → s ≡ cause_status c → IsRefused bytes s
+cause_refuses bytes (refused at why) s none e = refused_so e (none refl)
+cause_refuses bytes (undecided at got wanted) s none e = undecided_so e
+cause_refuses bytes (too_large at) s none e = limited_so e
+cause_refuses bytes nothing s none e = memory_so e
 
 -- it isn't that of a command that did its work
-not_done : IsRefused status.Done → ⊥
-not_done (refused_so e) = absurd (cc e)
-not_done (undecided_so e) = absurd (cc e)
-not_done (limited_so e) = absurd (cc e)
-not_done (memory_so e) = absurd (cc e)
+not_done : (bytes : List ℕ) → IsRefused bytes status.Done → ⊥
+not_done bytes (refused_so e none) = absurd (cc e)
+not_done bytes (undecided_so e) = absurd (cc e)
+not_done bytes (limited_so e) = absurd (cc e)
+not_done bytes (memory_so e) = absurd (cc e)
 
--- and of a run it means nothing
-no_run : (shown : List Family → Report → List ℕ) (s : Status) (bytes text : List ℕ) → IsRefused s → MeansRun shown s bytes text
-no_run shown s bytes text (refused_so e) = subst (λ r. MeansRun shown r bytes text) (sym e) tt
+-- that of an input that is refused means it
+means_refused : (bytes : List ℕ) → IsRefused bytes status.Refused → MeansRefused bytes
+means_refused bytes (refused_so e none) = none
+means_refused bytes (undecided_so e) = absurd (cc e)
+means_refused bytes (limited_so e) = absurd (cc e)
+means_refused bytes (memory_so e) = absurd (cc e)
+
+-- and of a run the others mean nothing
+no_run : (shown : List Family → Report → List ℕ) (s : Status) (bytes text : List ℕ) → IsRefused bytes s → MeansRun shown s bytes text
+no_run shown s bytes text (refused_so e none) = subst (λ r. MeansRun shown r bytes text) (sym e) none
 no_run shown s bytes text (undecided_so e) = subst (λ r. MeansRun shown r bytes text) (sym e) tt
 no_run shown s bytes text (limited_so e) = subst (λ r. MeansRun shown r bytes text) (sym e) tt
 no_run shown s bytes text (memory_so e) = subst (λ r. MeansRun shown r bytes text) (sym e) tt
 
-module _ (law : (m : Module) (budget : ℕ) (ds : List Deriv) → IsAccepted m budget ds → HasDerivations m ds) (safety : DerivedIsSafe) where
+module _ (law : (m : Module) (budget : ℕ) (ds : List Deriv) → IsAccepted m budget ds → HasDerivations m ds) (refusal : RefusedHasNone) (resolving : OneModuleLaw) (lexing : OneLexing) (modules : OneModule) (safety : DerivedIsSafe) where
+  -- where the module that bytes stand for is refused, each of them is
+  refused_means : (budget : ℕ) (bytes : List ℕ) (m : Module) (f : CheckFault) → AreResolved bytes m → IsRefusal m budget f → IsCause f → MeansRefused bytes
+  refused_means budget bytes m f is h of_module n it ds derived =
+      refusal m budget f of_module h ds (derivations_same n m (same_resolved lexing modules bytes resolving n m it is) ds derived)
+
+  -- of an input something is made, or nothing is
+  made_or_refused : (IsMade : Module → List ℕ → Status → Type 0) (budget : ℕ) (bytes text : List ℕ) (s : Status) → WritesOf AreUnresolved (FindsModule IsMade budget) bytes text s →
+      IsMadeOf IsMade budget bytes text s ⊎ IsRefused bytes s
+  made_or_refused IsMade budget bytes text s (too_long long w e) = inr (limited_so e)
+  made_or_refused IsMade budget bytes text s (is_none short f h w e) = inr (finding_refuses bytes f s (λ m is. absurd (resolved_or_not lexing modules bytes m f is h)) e)
+  made_or_refused IsMade budget bytes text s (makes short m) = by m.found
+    where
+      by : IsFoundOf (IsMade m.resolved) bytes m.resolved budget text s → IsMadeOf IsMade budget bytes text s ⊎ IsRefused bytes s
+      by (accepted ds a made) = inl (record { resolved = m.resolved; is_resolved = m.is_resolved; derivations = ds; is_accepted = a; made = made })
+      by (unaccepted f h w e) =
+          let names = family_names m.resolved.families.items in
+          inr (cause_refuses bytes (cause names f) s (λ r. refused_means budget bytes m.resolved f m.is_resolved h (refused_cause names f r)) e)
+
   -- what it means that a module is accepted
   abbrev means_accepted : (budget : ℕ) (bytes : List ℕ) (m : Module) (ds : List Deriv) → AreResolved bytes m → IsAccepted m budget ds → MeansAccepted bytes
   means_accepted budget bytes m ds is a = record {
@@ -155,14 +193,17 @@ module _ (law : (m : Module) (budget : ℕ) (ds : List Deriv) → IsAccepted m b
     safe = safety m ds (law m budget ds a);
   }
 
-  found_means : (budget : ℕ) (bytes text : List ℕ) (m : Module) → AreResolved bytes m → IsFoundOf (SaysAccepted m) bytes m budget text status.Done → MeansAccepted bytes
-  found_means budget bytes text m is (accepted ds a w) = means_accepted budget bytes m ds is a
-  found_means budget bytes text m is (unaccepted f h w e) = absurd (not_done (cause_refuses (cause (family_names m.families.items) f) status.Done e))
-
   pub check_meanings : CheckMeanings
-  check_meanings budget bytes text (too_long long w e) = absurd (not_done (limited_so e))
-  check_meanings budget bytes text (is_none short f h w e) = absurd (not_done (finding_refuses f status.Done e))
-  check_meanings budget bytes text (makes short m) = found_means budget bytes text m.resolved m.is_resolved m.found
+  check_meanings = record {
+    done = λ budget bytes text w. elim (made_or_refused SaysAccepted budget bytes text status.Done w) [
+      | inl m ↦ means_accepted budget bytes m.resolved m.derivations m.is_resolved m.is_accepted
+      | inr r ↦ absurd (not_done bytes r)
+    ];
+    refused = λ budget bytes text w. elim (made_or_refused SaysAccepted budget bytes text status.Refused w) [
+      | inl m ↦ let e = m.made.1 in absurd (cc e)
+      | inr r ↦ means_refused bytes r
+    ];
+  }
 
   module _ (sound : ReportsAreSound) where
     module _ (shown : List Family → Report → List ℕ) where
@@ -186,13 +227,10 @@ module _ (law : (m : Module) (budget : ℕ) (ds : List Deriv) → IsAccepted m b
       -- what is written of the run of a module
       source_means : (workers steps budget : ℕ) (bytes text : List ℕ) (s : Status) → WritesOf AreUnresolved (FindsModule (SaysOutcome shown workers steps) budget) bytes text s →
           MeansRun shown s bytes text
-      source_means workers steps budget bytes text s (too_long long w e) = no_run shown s bytes text (limited_so e)
-      source_means workers steps budget bytes text s (is_none short f h w e) = no_run shown s bytes text (finding_refuses f s e)
-      source_means workers steps budget bytes text s (makes short m) = by m.found
-        where
-          by : IsFoundOf (SaysOutcome shown workers steps m.resolved) bytes m.resolved budget text s → MeansRun shown s bytes text
-          by (accepted ds a o) = outcome_means workers steps budget bytes text s m.resolved ds m.is_resolved a o
-          by (unaccepted f h w e) = no_run shown s bytes text (cause_refuses (cause (family_names m.resolved.families.items) f) s e)
+      source_means workers steps budget bytes text s w = elim (made_or_refused (SaysOutcome shown workers steps) budget bytes text s w) [
+        | inl m ↦ outcome_means workers steps budget bytes text s m.resolved m.derivations m.is_resolved m.is_accepted m.made
+        | inr r ↦ no_run shown s bytes text r
+      ]
 
     pub run_meanings : RunMeanings
     run_meanings steps workers budget bytes text s w = source_means report_text workers steps budget bytes text s w

@@ -1,11 +1,13 @@
 -- What is written is an output, and there is at most one.
-use Rattle.std.proofs.Common.{◌≡◌, ◌∙◌, ◌⊎◌, inl, inr, ℕ, ◌≤◌, List, [], length, Result, Ok, Err, refl, sym, ap, subst, arith}
+use Rattle.std.proofs.Common.{◌≡◌, ◌∙◌, ◌⊎◌, inl, inr, ℕ, ◌≤◌, ◌<◌, List, [], length, Result, Ok, Err, refl, sym, ap, subst, arith}
 use Rattle.std.specs.Prelude.{IfOk}
 use Rattle.std.specs.declared.alloc.AllocError.{AllocError}
 use Rattle.std.proofs.lemmas.List.{append-nil}
 use Rattle.fst_base.specs.Limits.{most_bytes}
 use Rattle.fst_lexer.specs.Lexes.{OneLexing}
+use Rattle.fst_types.specs.declared.family.Family.{Family}
 use Rattle.fst_terms.specs.ModuleTree.{Declared}
+use Rattle.fst_terms.specs.declared.core_module.Module.{Module}
 use Rattle.fst_reading.specs.Faults.{Begins, is_left}
 use Rattle.fst_type_syntax.specs.Derives.{OneReading}
 use Rattle.fst_module_grammar.specs.Grammar.{IsModule}
@@ -18,15 +20,32 @@ use Rattle.fst_command.specs.declared.answer.Answer.{Answer as Written}
 use Rattle.fst_command.specs.declared.finding.Fault.{Fault}
 use Rattle.fst_command.specs.declared.finding.Fault.TheVariants as fault
 use Rattle.fst_names.specs.declared.question.Question.{Question}
+use Rattle.fst_names.specs.ResolvedModule.{AreSame, OneModuleLaw}
+use Rattle.fst_derivations.specs.Deriv.{Deriv}
+use Rattle.fst_derivations.specs.Modules.{HasDerivations}
+use Rattle.fst_typing.specs.Checked.{IsAccepted}
+use Rattle.fst_safety.specs.Diamond.{OneEnd}
+use Rattle.fst_process.specs.declared.report.Report.{Report}
+use Rattle.fst_make.specs.Made.{made_text}
+use Rattle.fst_type_print.specs.Texts.{family_names}
+use Rattle.fst_report.specs.ReportTexts.{report_text}
 use Rattle.fst_command.specs.declared.status.Status.{Status}
 use Rattle.fst_command.specs.declared.status.Status.TheVariants as status
+use Rattle.fst_options.specs.Words as setting
 use Rattle.fst_options.specs.Words.{Command, equiv, show, check, run, make, IsCommand}
 use Rattle.fst_options.proofs.Laws.{one_command}
-use Rattle.fst_command.specs.Finding.{Finding, refused, too_deep, too_large, IsRead, AreAsked, IsNoQuestion, IsNoModule, no_reading}
+use Rattle.fst_typing.specs.Laws.{AcceptedIsNotRefused, OneRefusal}
+use Rattle.fst_command.specs.CheckTexts.{cause, cause_text, cause_status}
+use Rattle.fst_command.specs.Finding.{Finding, refused, too_deep, too_large, IsRead, AreAsked, IsNoQuestion, IsNoModule, AreUnresolved, no_reading}
 use Rattle.fst_command.specs.Finding as finding
-use Rattle.fst_command.specs.Output.{finding_text, finding_status, answer_text, answer_status, IsAnswerTo, AnswersQuestion, ShowsModule, WritesOf, too_long, is_none, makes, Writes, usage, command, OneOutput, ShownAgain}
+use Rattle.fst_command.specs.Output.{finding_text, finding_status, answer_text, answer_status, IsAnswerTo, AnswersQuestion, ShowsModule, IsFoundOf, accepted, unaccepted, FindsModule, SaysAccepted, SaysOutcome, made_summary, WritesOf, too_long, is_none, makes, Writes, usage, command, OneOutput, ShownAgain}
 use Rattle.fst_command.specs.Views.{IfFound, Found}
 use Rattle.fst_command.proofs.OneFinding.{one_read, read_once, one_unread, one_no_question, question_or_not, asked_once}
+use Rattle.fst_command.proofs.OneOutcome.{one_outcome}
+use Rattle.fst_command.proofs.OneResolved.{one_unresolved, resolved_or_not, same_resolved}
+use Rattle.fst_command.proofs.Causes.{same_cause}
+use Rattle.fst_command.proofs.SameRefusals.{accepted_module, refused_module}
+use Rattle.fst_command.proofs.SameReports.{IsWritten, report_written, same_family_names, summary_written}
 
 -- ---- what is written
 
@@ -90,25 +109,61 @@ module _ (answers : OneAnswer) (lexing : OneLexing) (readings : OneReading) (mod
       let same = one_read ReadsModule lexing modules.one_answer bytes p.declared q.declared p.read q.read in
       (p.written ∙ ap module_text same ∙ sym q.written, p.ended ∙ sym q.ended)
 
-  -- of one command one thing is written, but for `check`, `run` and `make`
-  one_text : (c : Command) (bytes : List ℕ) → ((n : ℕ) → c ≡ check n → ⊥) → ((k w n : ℕ) → c ≡ run k w n → ⊥) → ((n : ℕ) → c ≡ make n → ⊥) → IsOne (Writes c bytes)
-  one_text (equiv budget) bytes other others made =
-      one_written IsNoQuestion (AnswersQuestion budget) bytes (one_no_question lexing readings bytes)
-      (λ f t s none m. question_or_not lexing readings bytes m.asked f m.is_asked none) (one_question budget bytes)
-  one_text show bytes other others made =
-      one_written IsNoModule ShowsModule bytes (one_unread ReadsModule lexing modules.one_answer bytes)
-      (λ f t s none m. read_once ReadsModule lexing modules.one_answer bytes m.declared f m.read none) (one_module bytes)
-  one_text (check budget) bytes other others made = absurd (other budget refl)
-  one_text (run steps workers budget) bytes other others made = absurd (others steps workers budget refl)
-  one_text (make n) bytes other others made = absurd (made n refl)
+  module _ (resolving : OneModuleLaw) (refusals : OneRefusal) (apart : AcceptedIsNotRefused) where
+    -- one thing is found of the modules that bytes stand for, where one thing is made of those that are accepted
+    one_found : (IsMade : Module → List ℕ → Status → Type 0) (budget : ℕ) (bytes : List ℕ) →
+        ((m n : Module) (ds : List Deriv) → AreSame m n → IsAccepted m budget ds → (t u : List ℕ) (s r : Status) → IsMade m t s → IsMade n u r → (t ≡ u) × (s ≡ r)) →
+        IsOne (FindsModule IsMade budget bytes)
+    one_found IsMade budget bytes made t u s r p q = by p.found q.found
+      where
+        parts : AreSame p.resolved q.resolved
+        parts = same_resolved lexing modules bytes resolving p.resolved q.resolved p.is_resolved q.is_resolved
 
-  pub one_output : OneOutput
-  one_output words bytes text other s r not_check not_run not_make (usage n none w e) (usage m none' x d) = (w ∙ sym x, e ∙ sym d)
-  one_output words bytes text other s r not_check not_run not_make (usage n none w e) (command c is w') = absurd (n c is)
-  one_output words bytes text other s r not_check not_run not_make (command c is w) (usage n none x d) = absurd (n c is)
-  one_output words bytes text other s r not_check not_run not_make (command c is w) (command d it v) =
-      let one = one_command words c d is it in
-      one_text d bytes (λ n e. not_check n (subst (IsCommand words) e it)) (λ k w n e. not_run k w n (subst (IsCommand words) e it)) (λ n e. not_make n (subst (IsCommand words) e it)) text other s r (subst (λ z. Writes z bytes text s) one w) v
+        by : IsFoundOf (IsMade p.resolved) bytes p.resolved budget t s → IsFoundOf (IsMade q.resolved) bytes q.resolved budget u r → (t ≡ u) × (s ≡ r)
+        by (accepted ds a h) (accepted es b k) = made p.resolved q.resolved ds parts a t u s r h k
+        by (accepted ds a h) (unaccepted g b x d) = absurd (apart q.resolved budget ds (accepted_module p.resolved q.resolved parts budget ds a) g b)
+        by (unaccepted f a w e) (accepted es b k) = absurd (apart q.resolved budget es b f (refused_module p.resolved q.resolved parts budget f a))
+        by (unaccepted f a w e) (unaccepted g b x d) =
+            let alike = refusals q.resolved budget f g (refused_module p.resolved q.resolved parts budget f a) b in
+            let names = same_family_names p.resolved.families.items q.resolved.families.items parts.families in
+            let cause = ap (λ ns. cause ns f) names ∙ same_cause (family_names q.resolved.families.items) f g alike in
+            (w ∙ ap (cause_text bytes budget) cause ∙ sym x, e ∙ ap cause_status cause ∙ sym d)
+
+    -- one thing is written of them
+    one_source : (IsMade : Module → List ℕ → Status → Type 0) (budget : ℕ) (bytes : List ℕ) →
+        ((m n : Module) (ds : List Deriv) → AreSame m n → IsAccepted m budget ds → (t u : List ℕ) (s r : Status) → IsMade m t s → IsMade n u r → (t ≡ u) × (s ≡ r)) →
+        IsOne (WritesOf AreUnresolved (FindsModule IsMade budget) bytes)
+    one_source IsMade budget bytes made =
+        one_written AreUnresolved (FindsModule IsMade budget) bytes (one_unresolved lexing modules bytes) (λ f t s none m. resolved_or_not lexing modules bytes m.resolved f m.is_resolved none)
+        (one_found IsMade budget bytes made)
+
+    module _ (law : (m : Module) (budget : ℕ) (ds : List Deriv) → IsAccepted m budget ds → HasDerivations m ds) (ends : OneEnd) where
+      one_run : (shown : List Family → Report → List ℕ) → IsWritten shown → (workers steps budget : ℕ) (bytes : List ℕ) → (1 < workers → ⊥) →
+          IsOne (WritesOf AreUnresolved (FindsModule (SaysOutcome shown workers steps) budget) bytes)
+      one_run shown written workers steps budget bytes few =
+          one_source (SaysOutcome shown workers steps) budget bytes
+          (λ m n ds parts a t u s r o q. one_outcome ends shown written workers steps few m n ds parts (law m budget ds a) t u s r o q)
+
+      -- of one command one thing is written, but for a run on several workers
+      one_text : (c : Command) (bytes : List ℕ) → ((k w n : ℕ) → c ≡ run k w n → 1 < w → ⊥) → IsOne (Writes c bytes)
+      one_text (equiv budget) bytes few =
+          one_written IsNoQuestion (AnswersQuestion budget) bytes (one_no_question lexing readings bytes)
+          (λ f t s none m. question_or_not lexing readings bytes m.asked f m.is_asked none) (one_question budget bytes)
+      one_text show bytes few =
+          one_written IsNoModule ShowsModule bytes (one_unread ReadsModule lexing modules.one_answer bytes)
+          (λ f t s none m. read_once ReadsModule lexing modules.one_answer bytes m.declared f m.read none) (one_module bytes)
+      one_text (check budget) bytes few = one_source SaysAccepted budget bytes (λ m n ds parts a t u s r h k. (h.0 ∙ sym k.0, h.1 ∙ sym k.1))
+      one_text (run steps workers budget) bytes few = one_run report_text report_written workers steps budget bytes (few steps workers budget refl)
+      one_text (make n) bytes few =
+          one_run (made_summary n) (summary_written (length (made_text n))) setting.workers.default setting.steps.default setting.budget.default (made_text n) (λ l. absurd (omega (arith, l)))
+
+      pub one_output : OneOutput
+      one_output words bytes text other s r few (usage n none w e) (usage m none' x d) = (w ∙ sym x, e ∙ sym d)
+      one_output words bytes text other s r few (usage n none w e) (command c is w') = absurd (n c is)
+      one_output words bytes text other s r few (command c is w) (usage n none x d) = absurd (n c is)
+      one_output words bytes text other s r few (command c is w) (command d it v) =
+          let one = one_command words c d is it in
+          one_text d bytes (λ k w n e. few k w n (subst (IsCommand words) e it)) text other s r (subst (λ z. Writes z bytes text s) one w) v
 
 -- ---- shown again
 

@@ -11,7 +11,7 @@ use Rattle.fst_options.proofs.Laws.{one_command}
 use Rattle.fst_command.specs.Output.{Writes, too_long, usage, command, IsOutput}
 use Rattle.fst_command.specs.Texts.{too_long_text}
 use Rattle.fst_command.specs.Top.{ReadsInput, ReadsFor, IsAnswered, reads_input}
-use Rattle.fst_command.specs.Meanings.{CheckMeanings, ReadsAccepted, RunMeanings, HasRun, MakeMeanings, HasMade}
+use Rattle.fst_command.specs.Meanings.{CheckMeanings, ReadsAccepted, ReadsRefused, RunMeanings, HasRun, MakeMeanings, HasMade}
 
 -- what is read for a command that reads an input
 pub reads_for : (c : Command) (old new : Option (List ℕ)) (bytes : List ℕ) → IsTrue (reads_input c) → ReadsInput old new bytes → ReadsFor c old new bytes
@@ -57,45 +57,40 @@ read_over s words c old new text is reads lost w e =
     read_whole s words c old new lost.0 text is (reads_for c old new lost.0 reads (record { read = lost.1; end = λ short. absurd (omega (arith, short, lost.2)) }))
     (too_long_written c lost.0 text s reads lost.2 w e)
 
--- where `check` did its work, what was read is a source of a module that has derivations
-pub read_accepted : CheckMeanings → (words : List (List ℕ)) (old new : Option (List ℕ)) (text : List ℕ) (s : Status) → IsAnswered words old new text s → s ≡ status.Done → (budget : ℕ) → IsCommand words (check budget) → ReadsAccepted old new
-read_accepted meanings words old new text s a done budget it = by a.output
-  where
-    by : IsOutput words a.bytes text s → ReadsAccepted old new
-    by (usage none nothing w e) = absurd (none (check budget) it)
-    by (command c is w) =
-        let one = one_command words c (check budget) is it in
-        let written = subst (λ d. Writes d a.bytes text s) one w in
-        record {
-          bytes = a.bytes;
-          read = a.read (check budget) it;
-          accepted = meanings budget a.bytes text (subst (λ r. Writes (check budget) a.bytes text r) done written);
-        }
+-- the output of words that are a command's is what the command writes
+pub written_for : (words : List (List ℕ)) (bytes text : List ℕ) (s : Status) (c : Command) → IsCommand words c → IsOutput words bytes text s → Writes c bytes text s
+written_for words bytes text s c it (usage none nothing w e) = absurd (none c it)
+written_for words bytes text s c it (command d is w) = subst (λ z. Writes z bytes text s) (one_command words d c is it) w
 
--- what `run` wrote, with its status, means what it means
-pub has_run : RunMeanings → (words : List (List ℕ)) (old new taken now : Option (List ℕ)) (text : List ℕ) (s : Status) → IsAnswered words old new text s → Appends taken now text →
-    (steps workers budget : ℕ) → IsCommand words (run steps workers budget) → HasRun old new taken now s
-has_run meanings words old new taken now text s a whole steps workers budget it = by a.output
-  where
-    by : IsOutput words a.bytes text s → HasRun old new taken now s
-    by (usage none nothing w e) = absurd (none (run steps workers budget) it)
-    by (command c is w) =
-        let one = one_command words c (run steps workers budget) is it in
-        record {
-          bytes = a.bytes;
-          read = a.read (run steps workers budget) it;
-          text = text;
-          whole = whole;
-          means = meanings steps workers budget a.bytes text s (subst (λ d. Writes d a.bytes text s) one w);
-        }
+module _ (words : List (List ℕ)) (old new : Option (List ℕ)) (text : List ℕ) (s : Status) (a : IsAnswered words old new text s) where
+  -- where `check` did its work, what was read is a source of a module that has derivations
+  pub read_accepted : CheckMeanings → s ≡ status.Done → (budget : ℕ) → IsCommand words (check budget) → ReadsAccepted old new
+  read_accepted meanings done budget it = record {
+    bytes = a.bytes;
+    read = a.read (check budget) it;
+    accepted = meanings.done budget a.bytes text (subst (λ r. Writes (check budget) a.bytes text r) done (written_for words a.bytes text s (check budget) it a.output));
+  }
 
--- what `make` wrote, with its status, means what it means
-pub has_made : MakeMeanings → (words : List (List ℕ)) (old new taken now : Option (List ℕ)) (text : List ℕ) (s : Status) → IsAnswered words old new text s → Appends taken now text →
-    (n : ℕ) → IsCommand words (make n) → HasMade n taken now s
-has_made meanings words old new taken now text s a whole n it = by a.output
-  where
-    by : IsOutput words a.bytes text s → HasMade n taken now s
-    by (usage none nothing w e) = absurd (none (make n) it)
-    by (command c is w) =
-        let one = one_command words c (make n) is it in
-        record { text = text; whole = whole; means = meanings n a.bytes text s (subst (λ d. Writes d a.bytes text s) one w) }
+  -- where it refused its input, no module that this stands for has derivations
+  pub read_refused : CheckMeanings → s ≡ status.Refused → (budget : ℕ) → IsCommand words (check budget) → ReadsRefused old new
+  read_refused meanings not budget it = record {
+    bytes = a.bytes;
+    read = a.read (check budget) it;
+    refused = meanings.refused budget a.bytes text (subst (λ r. Writes (check budget) a.bytes text r) not (written_for words a.bytes text s (check budget) it a.output));
+  }
+
+  module _ (taken now : Option (List ℕ)) (whole : Appends taken now text) where
+    -- what `run` wrote, with its status, means what it means
+    pub has_run : RunMeanings → (steps workers budget : ℕ) → IsCommand words (run steps workers budget) → HasRun old new taken now s
+    has_run meanings steps workers budget it = record {
+      bytes = a.bytes;
+      read = a.read (run steps workers budget) it;
+      text = text;
+      whole = whole;
+      means = meanings steps workers budget a.bytes text s (written_for words a.bytes text s (run steps workers budget) it a.output);
+    }
+
+    -- what `make` wrote, with its status, means what it means
+    pub has_made : MakeMeanings → (n : ℕ) → IsCommand words (make n) → HasMade n taken now s
+    has_made meanings n it =
+        record { text = text; whole = whole; means = meanings n a.bytes text s (written_for words a.bytes text s (make n) it a.output) }

@@ -6,3 +6,4 @@ pub mod Output
 pub mod Top
 pub mod Views
 pub mod Meanings
+pub mod Complete

@@ -32,7 +32,7 @@ use Rattle.fst_command.specs.declared.status.Status.{Status}
 use Rattle.fst_command.specs.declared.status.Status.TheVariants as status
 use Rattle.fst_make.specs.Made.{made_text}
 use Rattle.fst_options.specs.Words.{equiv, check, run, make}
-use Rattle.fst_command.specs.Finding.{IsRead, AreAsked}
+use Rattle.fst_command.specs.Finding.{IsRead, AreAsked, AreResolved}
 use Rattle.fst_command.specs.Output.{Writes, made_summary}
 use Rattle.fst_command.specs.Top.{ReadsInput}
 use Rattle.fst_command.specs.Texts.{yes_text, no_text, undecided_text}
@@ -89,15 +89,26 @@ pub record MeansAccepted (bytes : List ℕ) : Type 0 where
   pub derived : HasDerivations resolved derivations
   pub safe : IsSafe resolved
 
--- what it means that `check` did its work
-abbrev pub CheckMeanings : Type 0
-CheckMeanings = (budget : ℕ) (bytes text : List ℕ) → Writes (check budget) bytes text status.Done → MeansAccepted bytes
+-- whatever module the bytes stand for, it has no derivations
+abbrev pub MeansRefused : List ℕ → Type 0
+MeansRefused bytes = (m : Module) → AreResolved bytes m → (ds : List Deriv) → HasDerivations m ds → ⊥
+
+-- what it means that `check` did its work, and what it means that it refused its input
+pub record CheckMeanings : Type 0 where
+  pub done : (budget : ℕ) (bytes text : List ℕ) → Writes (check budget) bytes text status.Done → MeansAccepted bytes
+  pub refused : (budget : ℕ) (bytes text : List ℕ) → Writes (check budget) bytes text status.Refused → MeansRefused bytes
 
 -- what was read is a source of a module that has derivations, and no run of which goes wrong
 pub record ReadsAccepted (old new : Option (List ℕ)) : Type 0 where
   pub bytes : List ℕ
   pub read : ReadsInput old new bytes
   pub accepted : MeansAccepted bytes
+
+-- what was read stands for no module that has derivations
+pub record ReadsRefused (old new : Option (List ℕ)) : Type 0 where
+  pub bytes : List ℕ
+  pub read : ReadsInput old new bytes
+  pub refused : MeansRefused bytes
 
 -- so are the bytes, and the text is that of a report, written like this, in which each history is a trace of its channel's declared
 -- type, and the value of main is one of main's type
@@ -114,7 +125,7 @@ IsSoundOutcome m o = (r : Report) → o ≡ Done r → IsSound m r
 -- what it means that a text was written with this status of the run of a module, with reports written like this
 abbrev pub MeansRun : (List Family → Report → List ℕ) → Status → List ℕ → List ℕ → Type 0
 MeansRun shown status.Done bytes text = MeansReport shown bytes text
-MeansRun shown status.Refused bytes text = ⊤
+MeansRun shown status.Refused bytes text = MeansRefused bytes
 MeansRun shown status.Words bytes text = ⊤
 MeansRun shown status.Waiting bytes text = MeansReport shown bytes text
 MeansRun shown status.OutOfSteps bytes text = MeansAccepted bytes

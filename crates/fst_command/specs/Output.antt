@@ -173,13 +173,12 @@ pub data IsOutput (words : List (List ℕ)) (bytes text : List ℕ) (s : Status)
 
 -- ---- laws
 
--- words that aren't those of `check`, `run` or `make`, and bytes have at most one output; of these three it isn't said yet that a
--- module is accepted or refused in one way
+-- words and bytes have at most one output; of words of `run` with several workers this isn't said
 abbrev pub OneOutput : Type 0
 OneOutput =
-    (words : List (List ℕ)) (bytes text other : List ℕ) (s t : Status) → ((budget : ℕ) → IsCommand words (check budget) → ⊥) →
-    ((steps workers budget : ℕ) → IsCommand words (run steps workers budget) → ⊥) → ((n : ℕ) → IsCommand words (make n) → ⊥) → IsOutput words bytes text s → IsOutput words bytes other t →
-    (text ≡ other) × (s ≡ t)
+    (words : List (List ℕ)) (bytes text other : List ℕ) (s t : Status) →
+    ((steps workers budget : ℕ) → IsCommand words (run steps workers budget) → 1 < workers → ⊥) →
+    IsOutput words bytes text s → IsOutput words bytes other t → (text ≡ other) × (s ≡ t)
 
 -- the text of a module that is shown is a module that is shown by the same text, or a token of it is nested too deep
 abbrev pub ShownAgain : Type 0

@@ -11,6 +11,7 @@ mod status;
 mod texts;
 
 pub use run::{
-    check_meanings, equiv_meanings, make_meanings, one_output, run_meanings, shown_again, top,
+    check_meanings, completeness, equiv_meanings, make_meanings, one_output, run_meanings,
+    shown_again, top,
 };
 pub use status::Status;

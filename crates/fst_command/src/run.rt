@@ -5,7 +5,8 @@ ghost use Rattle.fst_io.specs.Faults.{Rose};
 ghost use Rattle.fst_io.specs.GivingUp.{ReadGaveUp};
 ghost use Rattle.fst_options.specs.Views.{command_of};
 ghost use Rattle.fst_options.specs.Words.{IsCommand, IsWithin, check, make, run};
-ghost use Rattle.fst_command.specs.Meanings.{CheckMeanings, EquivMeanings, HasMade, HasRun, MakeMeanings, ReadsAccepted, RunMeanings};
+ghost use Rattle.fst_command.specs.Complete.{HasBegun, IsComplete, IsInputWithin};
+ghost use Rattle.fst_command.specs.Meanings.{CheckMeanings, EquivMeanings, HasMade, HasRun, MakeMeanings, ReadsAccepted, ReadsRefused, RunMeanings};
 ghost use Rattle.fst_command.specs.Output.{OneOutput, ShownAgain, Writes};
 ghost use Rattle.fst_command.specs.Top.{IsAnswer, IsAnswered, ReadsFor, WantInput, WasCut, WasWritten, reads_input};
 
@@ -19,11 +20,12 @@ use fst_execution::sound_law;
 use fst_io::{Gate, ReadFault, Sink, Source, WriteFault, read_all, write_all};
 use fst_lexer::one_lexing;
 use fst_module_grammar::one_module;
+use fst_names::one_module_law;
 use fst_options::{Command, parse};
 use fst_roundtrip::read_again;
-use fst_safety::safety_law;
+use fst_safety::{one_end_law, safety_law};
 use fst_type_syntax::one_reading;
-use fst_typing::accepted_law;
+use fst_typing::{accepted_law, complete_law, one_refusal_law, refusal_law};
 use std::alloc::{AllocError, Global};
 use std::thread::Threads;
 
@@ -132,13 +134,30 @@ pub fn top<R: Threads + Sync, S: Source, K: Sink, G: Gate + Sync>(
         IsCommand (map string_bytes words.now) (check budget) →
         ReadsAccepted (S.left source.old) (S.left source.new) }
 
-    // The same holds where `run` wrote a report, or ran out of steps; and in a report each history is a trace of its channel's
-    // declared type, and the value of `main` is one of its type.
+    // Where it refused its input, what was read stands for no module that has derivations.
+    ensures refused { result ≡ Status.Refused → (budget : ℕ) →
+        IsCommand (map string_bytes words.now) (check budget) →
+        ReadsRefused (S.left source.old) (S.left source.new) }
+
+    // Where what is left of the source is known, and stands for a module that has plain derivations within the limits, an answer
+    // is that the module is accepted.
+    ensures complete { IsAnswer result → (budget : ℕ) →
+        IsCommand (map string_bytes words.now) (check budget) →
+        IsInputWithin budget (S.left source.old) → result ≡ Status.Done }
+
+    // Where `run` wrote a report, or ran out of steps, the same holds as where `check` did its work; and in a report each history
+    // is a trace of its channel's declared type, and the value of `main` is one of its type. Where it refused its input, the same
+    // holds as where `check` did.
     ensures ran { IsAnswer result → (steps workers budget : ℕ) →
         IsCommand (map string_bytes words.now) (run steps workers budget) →
         HasRun (S.left source.old) (S.left source.new) (K.taken sink.old) (K.taken sink.new) result }
 
-    // The same holds of the module that `make` made, where it wrote a summary in place of the report.
+    // An answer to such an input as above is what its steps come to.
+    ensures run_complete { IsAnswer result → (steps workers budget : ℕ) →
+        IsCommand (map string_bytes words.now) (run steps workers budget) →
+        IsInputWithin budget (S.left source.old) → HasBegun result }
+
+    // What holds of `run` holds of the module that `make` made, where it wrote a summary in place of the report.
     ensures made { IsAnswer result → (n : ℕ) →
         IsCommand (map string_bytes words.now) (make n) →
         HasMade n (K.taken sink.old) (K.taken sink.new) result }
@@ -168,6 +187,7 @@ pub fn top<R: Threads + Sync, S: Source, K: Sink, G: Gate + Sync>(
     check_meanings();
     run_meanings();
     make_meanings();
+    completeness();
     match answer(rt, alloc, words, source, gate) {
         Err(status) => status,
         Ok(answer) => match write_all(sink, &answer.text) {
@@ -178,8 +198,8 @@ pub fn top<R: Threads + Sync, S: Source, K: Sink, G: Gate + Sync>(
     }
 }
 
-/// Words and bytes have at most one output: what is written is a function of what was read. Of the words of `check`,
-/// `run` and `make` this isn't said.
+/// Words and bytes have at most one output: what is written is a function of what was read. Of a run on several workers this
+/// isn't said.
 pub fn one_output()
     ensures { OneOutput }
 {
@@ -187,6 +207,10 @@ pub fn one_output()
     one_lexing();
     one_reading();
     one_module();
+    one_module_law();
+    one_refusal_law();
+    accepted_law();
+    one_end_law();
 }
 
 /// What `show` writes of a module it writes again, as far as its limits go.
@@ -203,28 +227,51 @@ pub fn equiv_meanings()
     ensures { EquivMeanings }
 {}
 
-/// What it means that `check` did its work.
+/// What it means that `check` did its work, and that it refused its input.
 pub fn check_meanings()
     ensures { CheckMeanings }
 {
     accepted_law();
+    refusal_law();
+    one_module_law();
+    one_lexing();
+    one_module();
     safety_law();
 }
 
-/// What it means that `run` wrote a report, or ran out of steps.
+/// What it means that `run` wrote a report, ran out of steps, or refused its input.
 pub fn run_meanings()
     ensures { RunMeanings }
 {
     accepted_law();
+    refusal_law();
+    one_module_law();
+    one_lexing();
+    one_module();
     safety_law();
     sound_law();
 }
 
-/// What it means that `make` wrote a summary, or ran out of steps.
+/// What it means that `make` wrote a summary, ran out of steps, or refused the module.
 pub fn make_meanings()
     ensures { MakeMeanings }
 {
     accepted_law();
+    refusal_law();
+    one_module_law();
+    one_lexing();
+    one_module();
     safety_law();
     sound_law();
+}
+
+/// Of bytes that stand for a module which has plain derivations within the limits `check` says that the module is accepted, and
+/// `run` what its steps come to.
+pub fn completeness()
+    ensures { IsComplete }
+{
+    one_lexing();
+    one_module();
+    one_module_law();
+    complete_law();
 }

@@ -11,7 +11,7 @@ use Rattle.fst_context.specs.Scope.{Variable}
 use Rattle.fst_context.specs.Vars.{Vars}
 use Rattle.fst_derivations.specs.Deriv.{Deriv, type_of, row, deriv_of, parts_of}
 use Rattle.fst_derivations.specs.Parts.{AreAt, AreVariables, IsConversion}
-use Rattle.fst_derivations.specs.Rules.{Surroundings, Binding, Binds, PlainRow}
+use Rattle.fst_derivations.specs.Rules.{Surroundings, Mode, converting, Binding, Binds, PlainRow}
 use Rattle.fst_derivations.specs.Modules.{AreDerived, AreGlobalsFormed, ArePlainlyDerived}
 use Rattle.fst_derivations.specs.Texts.{HasText, AllHaveText, VariablesHaveText, BindingHasText}
 use Rattle.fst_derivations.specs.declared.derivation.Derivation.{Derivation}
@@ -20,14 +20,15 @@ use Rattle.fst_derivations.proofs.Rows as rows
 use Rattle.fst_derivations.proofs.ModuleLaws as modules
 use Rattle.fst_derivations.proofs.TextLaws as texts
 use Rattle.fst_derivations.proofs.TextParts as parts
+use Rattle.fst_derivations.proofs.Weaker.{Weaker}
 
 -- the plain form of a row has the parts of the vector that it was made of
 pub is_row : (t : Tree) (v : Vec Derivation Global) → deriv_of (Row t v) ≡ row t (parts_of v.items)
 is_row = rows.is_row
 
--- the plain derivations of equations are derivations, where E relates equal types alone
-pub globals_derived : (m : Module) (E : List Kind → Tree → Tree → Type 0) → ((vars : List Kind) (s t : Tree) → E vars s t → IsConversion vars s t) →
-    (gs : List GlobalEntry) (ds : List Deriv) → AreGlobalsFormed m.types.items gs → ArePlainlyDerived m E gs ds → AreDerived m IsConversion gs ds
+-- the plain derivations of equations are derivations, where types that are compared are equal
+pub globals_derived : (m : Module) (S : List Kind → Mode) → ((vars : List Kind) → Weaker (S vars) (converting (IsConversion vars))) →
+    (gs : List GlobalEntry) (ds : List Deriv) → AreGlobalsFormed m.types.items gs → ArePlainlyDerived m S gs ds → AreDerived m IsConversion gs ds
 globals_derived = modules.globals_derived
 
 -- where the types of a module and of the variables in scope have texts, so has the type of a row of a plain derivation

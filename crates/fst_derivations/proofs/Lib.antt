@@ -1,7 +1,7 @@
 mod Rows
-mod Parts
+pub mod Parts
 mod Unique
-mod Weaker
+pub mod Weaker
 mod Plainly
 mod ModuleLaws
 mod TextParts

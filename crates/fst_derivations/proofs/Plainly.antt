@@ -1,5 +1,7 @@
 -- A term that has a derivation has a plain one.
 use Rattle.std.proofs.Common.{◌≡◌, ◌∙◌, ℕ, zero, suc, List, [], ◌∷◌, Some, length, slice_get, refl, sym, ap, subst}
+use Rattle.std.specs.Prelude.{⊤}
+use Rattle.std.specs.List.{AllByRecursion}
 use Rattle.fst_types.specs.Tree as type
 use Rattle.fst_types.specs.Tree.{Tree, plain, arrow, named}
 use Rattle.fst_types.specs.declared.base.Base.TheVariants.{Bool as Truth, Unit as Nothing}
@@ -10,9 +12,13 @@ use Rattle.fst_context.specs.Scope.{Variable, is_once}
 use Rattle.fst_context.specs.Vars.{Vars, under, single}
 use Rattle.fst_derivations.specs.Deriv.{Deriv, row, convert, type_of, Derivs, none, part, one, two, three}
 use Rattle.fst_derivations.specs.Parts.{IsFormed, HasUse, AreVariables, enter_all, under_all}
-use Rattle.fst_derivations.specs.Rules.{Surroundings, Converted, itself, turned, Bare, Compared, Over, At, Binding, fields, rest, Binds, Row, Fields, Arms, FurtherArms, PlainRow, Derives}
+use Rattle.fst_derivations.specs.Rules.{Surroundings, Converted, converting, itself, turned, Bare, Compared, comparing, Over, At, Binding, fields, rest, Binds, Row, Fields, Arms, FurtherArms, PlainRow, Derives}
 use Rattle.fst_derivations.proofs.Parts.{plain_formed}
 use Rattle.fst_derivations.specs.Laws.{IsTypeEquality, AllEqual, HasPlain}
+
+all_any : (ts : List Tree) → AllByRecursion (λ (t : Tree). ⊤) ts
+all_any [] = tt
+all_any (t ∷ ts) = (tt, all_any ts)
 
 module _ (m : Surroundings) (E : Tree → Tree → Type 0) (L : IsTypeEquality m.vars E) where
   abbrev Plain : CoreTree → List Variable → Vars → Deriv → Type 0
@@ -102,15 +108,15 @@ module _ (m : Surroundings) (E : Tree → Tree → Type 0) (L : IsTypeEquality m
 
   -- the plain derivation of a part from that of its row
   part_of : (a : CoreTree) (g h : List Variable) (u : Vars) (d : Deriv) →
-      ((v : Vars) (c : Deriv) → IsFormed m.vars (type_of c) → Row m (Converted E) (Converted E) a g v c → HasPlain m E a h v (type_of c)) →
-      Over m.vars (Converted E) (Row m (Converted E) (Converted E) a g) u d → HasPlain m E a h u (type_of d)
+      ((v : Vars) (c : Deriv) → IsFormed m.vars (type_of c) → Row m (converting E) a g v c → HasPlain m E a h v (type_of c)) →
+      Over m.vars (Converted E) (Row m (converting E) a g) u d → HasPlain m E a h u (type_of d)
   part_of a g h u d f x =
       let r = f u x.core x.formed x.rule in
       record { derivation = r.derivation; rule = r.rule; equal = L.through (type_of r.derivation) (type_of x.core) (type_of d) r.equal (converted d x.core x.formed x.stands) }
 
   part_at : (t : Tree) (a : CoreTree) (g h : List Variable) (u : Vars) (d : Deriv) →
-      ((v : Vars) (c : Deriv) → IsFormed m.vars (type_of c) → Row m (Converted E) (Converted E) a g v c → HasPlain m E a h v (type_of c)) →
-      At m.vars t (Converted E) (Row m (Converted E) (Converted E) a g) u d → HasPlain m E a h u t
+      ((v : Vars) (c : Deriv) → IsFormed m.vars (type_of c) → Row m (converting E) a g v c → HasPlain m E a h v (type_of c)) →
+      At m.vars t (Converted E) (Row m (converting E) a g) u d → HasPlain m E a h u t
   part_at t a g h u d f x =
       let r = f u x.core x.formed x.rule in
       record { derivation = r.derivation; rule = r.rule; equal = subst (E (type_of r.derivation)) x.wanted (L.through (type_of r.derivation) (type_of x.core) (type_of d) r.equal (converted d x.core x.formed x.stands)) }
@@ -124,7 +130,7 @@ module _ (m : Surroundings) (E : Tree → Tree → Type 0) (L : IsTypeEquality m
   leaf e g u c f p = record { derivation = c; rule = p; equal = L.itself (type_of c) f }
 
   mutual
-    pub plainly : (e : CoreTree) (g h : List Variable) → AllEqual E h g → (u : Vars) (c : Deriv) → IsFormed m.vars (type_of c) → Row m (Converted E) (Converted E) e g u c → HasPlain m E e h u (type_of c)
+    pub plainly : (e : CoreTree) (g h : List Variable) → AllEqual E h g → (u : Vars) (c : Deriv) → IsFormed m.vars (type_of c) → Row m (converting E) e g u c → HasPlain m E e h u (type_of c)
     plainly (local at k) g h q u c f (v, x, p, e) =
         let r = found g h q k v x in
         made (local at k) h u c (row (r.0).type none) v.type none e (r.0, r.1, p ∙ ap (λ n. single (is_once n) k) (sym r.3), refl) r.2
@@ -142,11 +148,11 @@ module _ (m : Surroundings) (E : Tree → Tree → Type 0) (L : IsTypeEquality m
     plainly (make at n k es) g h q u c f (o, ts, ds, x, y, z, e) =
         let r = plainly_fields es ts g h q u ds z in
         made (make at n k es) h u c (row (named n) r.0) _ _ e (o, ts, r.0, x, y, r.1, refl) (subst (λ z. E z z) (ap type_of e) (L.itself (type_of c) f))
-    plainly (lambda at uses k z a) g h q u c f (t, n, da, p, w, o, x, e) =
+    plainly (lambda at uses k z a) g h q u c f (t, n, da, p, w, z0, o, x, e) =
         let eq : E t t = L.itself t (w.kind, w.formed) in
         let ra = part_of a (record { type = t; uses = n } ∷ g) (record { type = t; uses = n } ∷ h) (under (is_once n) u) da (plainly a (record { type = t; uses = n } ∷ g) (record { type = t; uses = n } ∷ h) (eq, refl, q)) x in
         made (lambda at uses k z a) h u c (row (arrow uses t (type_of ra.derivation)) (one ra.derivation)) _ _ e
-        (t, n, ra.derivation, p, w, o, own a (record { type = t; uses = n } ∷ h) (under (is_once n) u) (type_of da) ra, refl)
+        (t, n, ra.derivation, p, w, tt, o, own a (record { type = t; uses = n } ∷ h) (under (is_once n) u) (type_of da) ra, refl)
         (L.arrow_of uses t (type_of ra.derivation) t (type_of da) eq ra.equal)
     plainly (apply at a b) g h q u c f (da, db, uses, s, t, x, p, e) =
         let ra = part_of a g h x.left da (plainly a g h q) x.first in
@@ -307,7 +313,7 @@ module _ (m : Surroundings) (E : Tree → Tree → Type 0) (L : IsTypeEquality m
         )
         rb.equal
 
-    plainly_fields : (es : CoreList) (ts : List Tree) (g h : List Variable) → AllEqual E h g → (u : Vars) (ds : Derivs) → Fields m (Converted E) (Converted E) es ts g u ds → (ds' : Derivs) × Fields m Bare (Compared E) es ts h u ds'
+    plainly_fields : (es : CoreList) (ts : List Tree) (g h : List Variable) → AllEqual E h g → (u : Vars) (ds : Derivs) → Fields m (converting E) es ts g u ds → (ds' : Derivs) × Fields m (comparing E) es ts h u ds'
     plainly_fields no_terms [] g h q u ds x = (none, (x.0, refl))
     plainly_fields no_terms (t ∷ ts) g h q u ds x = absurd x
     plainly_fields (term e es) [] g h q u ds x = absurd x
@@ -318,9 +324,9 @@ module _ (m : Surroundings) (E : Tree → Tree → Type 0) (L : IsTypeEquality m
         (part ca r.0, (ca, r.0, record { left = x.left; right = x.right; split = x.split; first = compared t (Plain e h) x.left ra.derivation ra.equal ra.rule; second = r.1 }, refl))
 
     plainly_arms : (b b' : Binding) → SameBinding b' b → (bs : CoreArms) (g h : List Variable) → AllEqual E h g → (u : Vars) (t : Tree) (ds : Derivs) →
-        Arms m (Converted E) (Converted E) b bs g u t ds → (t' : Tree) × (ds' : Derivs) × Arms m Bare (Compared E) b' bs h u t' ds' × E t' t
+        Arms m (converting E) b bs g u t ds → (t' : Tree) × (ds' : Derivs) × Arms m (comparing E) b' bs h u t' ds' × E t' t
     plainly_arms b b' s no_arms g h q u t ds x = absurd x
-    plainly_arms b b' s (arm l xs e bs) g h q u t ds (ts, vs, d, more, i, j, n, x, p, y, z) =
+    plainly_arms b b' s (arm l xs e bs) g h q u t ds (ts, vs, d, more, i, j, z0, n, x, p, y, z) =
         let w = bound b b' s l ts vs i j in
         let ra = part_of e (enter_all vs g) (enter_all w.variables h) (under_all vs u) d (plainly e (enter_all vs g) (enter_all w.variables h) (all_entered vs w.variables g h w.equal q)) x in
         let T : Tree = type_of ra.derivation in
@@ -335,6 +341,7 @@ module _ (m : Surroundings) (E : Tree → Tree → Type 0) (L : IsTypeEquality m
             r.0,
             w.binds,
             w.are,
+            all_any w.types,
             n ∙ same_length vs w.variables w.equal,
             subst (λ v. Over m.vars Bare (Plain e (enter_all w.variables h)) v ra.derivation) (same_under vs w.variables u w.equal) (own e (enter_all w.variables h) (under_all vs u) (type_of d) ra),
             refl,
@@ -345,9 +352,9 @@ module _ (m : Surroundings) (E : Tree → Tree → Type 0) (L : IsTypeEquality m
         )
 
     plainly_further : (b b' : Binding) → SameBinding b' b → (bs : CoreArms) (g h : List Variable) → AllEqual E h g → (u : Vars) (t t' : Tree) → E t t' → (ds : Derivs) →
-        FurtherArms m (Converted E) (Converted E) b bs g u t ds → (ds' : Derivs) × FurtherArms m Bare (Compared E) b' bs h u t' ds'
+        FurtherArms m (converting E) b bs g u t ds → (ds' : Derivs) × FurtherArms m (comparing E) b' bs h u t' ds'
     plainly_further b b' s no_arms g h q u t t' eq ds x = (none, refl)
-    plainly_further b b' s (arm l xs e bs) g h q u t t' eq ds (ts, vs, d, more, i, j, n, x, y, z) =
+    plainly_further b b' s (arm l xs e bs) g h q u t t' eq ds (ts, vs, d, more, i, j, z0, n, x, y, z) =
         let w = bound b b' s l ts vs i j in
         let ra = part_at t e (enter_all vs g) (enter_all w.variables h) (under_all vs u) d (plainly e (enter_all vs g) (enter_all w.variables h) (all_entered vs w.variables g h w.equal q)) x in
         let ca : Deriv = convert (type_of ra.derivation) t' ra.derivation in
@@ -360,6 +367,7 @@ module _ (m : Surroundings) (E : Tree → Tree → Type 0) (L : IsTypeEquality m
             r.0,
             w.binds,
             w.are,
+            all_any w.types,
             n ∙ same_length vs w.variables w.equal,
             subst (λ v. At m.vars t' (Compared E) (Plain e (enter_all w.variables h)) v ca) (same_under vs w.variables u w.equal) (turned_to e (enter_all w.variables h) (under_all vs u) t t' ra eq),
             r.1,

@@ -16,7 +16,7 @@ use Rattle.fst_context.specs.Scope.{Variable}
 use Rattle.fst_context.specs.Vars.{Vars}
 use Rattle.fst_derivations.specs.Deriv.{Deriv, row, type_of, Derivs}
 use Rattle.fst_derivations.specs.Parts.{enter_all}
-use Rattle.fst_derivations.specs.Rules.{Surroundings, Bare, Compared, Over, Operates, Binding, fields, rest, Arms, PlainRow}
+use Rattle.fst_derivations.specs.Rules.{Surroundings, Bare, comparing, Over, Operates, Binding, fields, rest, Arms, PlainRow}
 use Rattle.fst_derivations.specs.Texts.{HasText, AllHaveText, VariablesHaveText, BindingHasText}
 use Rattle.fst_derivations.proofs.TextParts.{all_at, at_texts, instantiated_text, dual_text, step_text, arrow_text, arrow_texts, pair_text, pair_texts, plain_text, named_text, bound_texts, variables_text, entered_text}
 
@@ -66,7 +66,7 @@ module _ (m : Surroundings) (E : Tree → Tree → Type 0) (types : AllHaveText 
     text (pair at a b) g h u c (d, f, x, e) =
         typed N _ _ c e (pair_text N (type_of d) (type_of f) (over m.vars N _ (text a g h) x.left d x.first) (over m.vars N _ (text b g h) x.right f x.second))
     text (make at n k es) g h u c (o, ts, ds, a, b, x, e) = typed N _ _ c e (made_text m.families n k o a)
-    text (lambda at uses k x a) g h u c (t, n, d, p, w, o, r, e) =
+    text (lambda at uses k x a) g h u c (t, n, d, p, w, z, o, r, e) =
         let from = all_at (HasText N) m.types k t types p in
         typed N _ _ c e (arrow_text N uses t (type_of d) from (over m.vars N _ (text a (record { type = t; uses = n } ∷ g) (from, h)) _ d r))
     text (apply at a b) g h u c (d, f, w, s, t, x, p, e) =
@@ -94,8 +94,8 @@ module _ (m : Surroundings) (E : Tree → Tree → Type 0) (types : AllHaveText 
     text (fork at a) g h u c (d, x, w, e) = typed N _ _ c e (plain_text N Nothing)
     text (seq at a b) g h u c (d, f, x, l, e) = typed N _ _ c e (over m.vars N _ (text b g h) x.right f x.second)
 
-    arms_text : (B : Binding) → BindingHasText N B → (bs : CoreArms) (g : List Variable) → VariablesHaveText N g → (u : Vars) (t : Tree) (ds : Derivs) → Arms m Bare (Compared E) B bs g u t ds → HasText N t
+    arms_text : (B : Binding) → BindingHasText N B → (bs : CoreArms) (g : List Variable) → VariablesHaveText N g → (u : Vars) (t : Tree) (ds : Derivs) → Arms m (comparing E) B bs g u t ds → HasText N t
     arms_text B b no_arms g h u t ds x = absurd x
-    arms_text B b (arm l xs e bs) g h u t ds (ts, vs, d, more, i, w, k, x, p, later, q) =
+    arms_text B b (arm l xs e bs) g h u t ds (ts, vs, d, more, i, w, z, k, x, p, later, q) =
         let all = entered_text N vs g (variables_text N m.vars ts vs (bound_texts m N B l ts types b i) w) h in
         subst (HasText N) p (over m.vars N _ (text e (enter_all vs g) all) _ d x)

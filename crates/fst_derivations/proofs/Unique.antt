@@ -16,7 +16,7 @@ use Rattle.fst_context.specs.Scope.{Variable, is_once}
 use Rattle.fst_context.specs.Vars.{Vars, under, outside, single, union, Both}
 use Rattle.fst_derivations.specs.Deriv.{Deriv, row, type_of, Derivs, none}
 use Rattle.fst_derivations.specs.Parts.{enter_all, under_all}
-use Rattle.fst_derivations.specs.Rules.{Surroundings, Bare, Compared, Over, At, Operates, Binding, fields, rest, Fields, Arms, PlainRow}
+use Rattle.fst_derivations.specs.Rules.{Surroundings, Bare, Compared, comparing, Over, At, Operates, Binding, fields, rest, Fields, Arms, PlainRow}
 use Rattle.fst_derivations.proofs.Parts.{one_use, same_at, same_variables, one_step, outside_all, one_bound}
 
 -- two judgements of a part agree on the type and on the variables
@@ -83,7 +83,7 @@ module _ (m : Surroundings) (E : Tree → Tree → Type 0) where
         )
     unique (make at n k es) g u v c d (o, ts, ds, a, b, x, e) (o', ts', ds', a', b', y, h) =
         (typed (named n) (named n) ds ds' c d e h refl, unique_fields es ts ts' g u v ds ds' x y)
-    unique (lambda at uses k x a) g u v c d (t, n, pa, p, w, o, r, e) (t', n', qa, p', w', o', s, h) =
+    unique (lambda at uses k x a) g u v c d (t, n, pa, p, w, z0, o, r, e) (t', n', qa, p', w', z1, o', s, h) =
         let types : t ≡ t' = same_Some t t' (sym p ∙ p') in
         let use_of : n ≡ n' = one_use m.vars t t' n n' types w w' in
         let r' = subst (λ z. Part a (record { type = z; uses = n } ∷ g) (under (is_once n) u) pa) types r in
@@ -139,7 +139,7 @@ module _ (m : Surroundings) (E : Tree → Tree → Type 0) where
         let en : n ≡ n' = cc in
         let ef : f ≡ f' = same_Some f f' (sym k ∙ ap (slice_get m.families) en ∙ k') in
         let binding = ap (λ z. fields z.makers.items) ef in
-        let arms = λ (r o : Vars) (p : Arms m Bare (Compared E) (fields f.makers.items) bs g r t ds) (q : Arms m Bare (Compared E) (fields f'.makers.items) bs g o t' ds').
+        let arms = λ (r o : Vars) (p : Arms m (comparing E) (fields f.makers.items) bs g r t ds) (q : Arms m (comparing E) (fields f'.makers.items) bs g o t' ds').
         unique_arms (fields f.makers.items) (fields f'.makers.items) binding bs g r o t t' ds ds' p q in (
           typed _ _ _ _ c d e h (arms x.right y.right x.second y.second).0,
           both _ _ _ _ (λ r o p q. (fa r o pa qa p q).1) (λ r o p q. (arms r o p q).1) u v x y,
@@ -176,7 +176,7 @@ module _ (m : Surroundings) (E : Tree → Tree → Type 0) where
     unique (match_with at a bs) g u v c d (pa, ls, t, ds, x, i, l, e) (qa, ls', t', ds', y, i', l', h) =
         let fa = over m.vars _ _ (unique a g) in
         let ta = (fa x.left y.left pa qa x.first y.first).0 in
-        let arms = λ (r o : Vars) (p : Arms m Bare (Compared E) (rest (type_of pa)) bs g r t ds) (q : Arms m Bare (Compared E) (rest (type_of qa)) bs g o t' ds').
+        let arms = λ (r o : Vars) (p : Arms m (comparing E) (rest (type_of pa)) bs g r t ds) (q : Arms m (comparing E) (rest (type_of qa)) bs g o t' ds').
         unique_arms (rest (type_of pa)) (rest (type_of qa)) (ap rest ta) bs g r o t t' ds ds' p q in (
           typed _ _ _ _ c d e h (arms x.right y.right x.second y.second).0,
           both _ _ _ _ (λ r o p q. (fa r o pa qa p q).1) (λ r o p q. (arms r o p q).1) u v x y,
@@ -191,7 +191,7 @@ module _ (m : Surroundings) (E : Tree → Tree → Type 0) where
           both _ _ _ _ (λ n o p q. (fa n o pa qa p q).1) (λ n o p q. (fb n o pb qb p q).1) u v x y,
         )
 
-    unique_fields : (es : CoreList) (ts ts' : List Tree) (g : List Variable) (u v : Vars) (ds ds' : Derivs) → Fields m Bare (Compared E) es ts g u ds → Fields m Bare (Compared E) es ts' g v ds' → u ≡ v
+    unique_fields : (es : CoreList) (ts ts' : List Tree) (g : List Variable) (u v : Vars) (ds ds' : Derivs) → Fields m (comparing E) es ts g u ds → Fields m (comparing E) es ts' g v ds' → u ≡ v
     unique_fields no_terms [] [] g u v ds ds' x y = x.0 ∙ sym y.0
     unique_fields no_terms [] (t ∷ ts) g u v ds ds' x y = absurd y
     unique_fields no_terms (t ∷ ts) ts' g u v ds ds' x y = absurd x
@@ -200,9 +200,9 @@ module _ (m : Surroundings) (E : Tree → Tree → Type 0) where
     unique_fields (term e es) (t ∷ ts) (t' ∷ ts') g u v ds ds' (c, rs, x, p) (d, rs', y, q) =
         both _ _ _ _ (λ n o p q. compared m.vars E t t' _ _ (unique e g) n o c d p q) (λ n o p q. unique_fields es ts ts' g n o rs rs' p q) u v x y
 
-    unique_arms : (B B' : Binding) → B ≡ B' → (bs : CoreArms) (g : List Variable) (u v : Vars) (t t' : Tree) (ds ds' : Derivs) → Arms m Bare (Compared E) B bs g u t ds → Arms m Bare (Compared E) B' bs g v t' ds' → (t ≡ t') × (u ≡ v)
+    unique_arms : (B B' : Binding) → B ≡ B' → (bs : CoreArms) (g : List Variable) (u v : Vars) (t t' : Tree) (ds ds' : Derivs) → Arms m (comparing E) B bs g u t ds → Arms m (comparing E) B' bs g v t' ds' → (t ≡ t') × (u ≡ v)
     unique_arms B B' f no_arms g u v t t' ds ds' x y = absurd x
-    unique_arms B B' f (arm l xs e bs) g u v t t' ds ds' (ts, vs, c, rs, b, w, n, x, p, more, q) (ts', vs', d, rs', b', w', n', y, p', more', q') =
+    unique_arms B B' f (arm l xs e bs) g u v t t' ds ds' (ts, vs, c, rs, b, w, z, n, x, p, more, q) (ts', vs', d, rs', b', w', z', n', y, p', more', q') =
         let types : ts ≡ ts' = one_bound m B B' f l ts ts' b b' in
         let variables : vs ≡ vs' = same_variables m.vars ts ts' vs vs' types w w' in
         let x' = subst (λ z. Part e (enter_all z g) (under_all z u) c) variables x in

@@ -16,7 +16,7 @@ use Rattle.fst_context.specs.Scope.{Variable, is_once}
 use Rattle.fst_context.specs.Vars.{Vars, no_vars, under}
 use Rattle.fst_derivations.specs.Deriv.{Deriv, row, one}
 use Rattle.fst_derivations.specs.Parts.{IsFormed, HasUse, IsConversion}
-use Rattle.fst_derivations.specs.Rules.{Surroundings, Converted, Bare, Compared, At, Row}
+use Rattle.fst_derivations.specs.Rules.{Surroundings, Mode, Converted, converting, At, Row}
 
 -- what the terms of an equation speak of, in a module
 abbrev pub surroundings : Module → List Kind → Surroundings
@@ -165,12 +165,12 @@ pub record IsParameter (types : List Tree) (at : ℕ) (uses : Use) (k : ℕ) (x 
 
 -- the derivation of an equation at the type of its signature: the parameters' functions have just that type's arrows, and
 -- the term under them is compared with the result
-abbrev pub Equation : Surroundings → (A C : Deriv → Deriv → Type 0) → CoreTree → Tree → List Variable → Vars → Deriv → Type 0
-Equation m A C (lambda at uses k x e) t g u d =
-    ((p : IsParameter m.types at uses k x t) × (n : Use) × (b : Deriv) × HasUse m.vars p.from n × (uses ≡ Many → u ≡ no_vars) ×
-    Equation m A C e p.to (record { type = p.from; uses = n } ∷ g) (under (is_once n) u) b × (d ≡ row t (one b)))
-    ⊎ ((IsParameter m.types at uses k x t → ⊥) × At m.vars t C (Row m A C (lambda at uses k x e) g) u d)
-Equation m A C e t g u d = At m.vars t C (Row m A C e g) u d
+abbrev pub Equation : Surroundings → Mode → CoreTree → Tree → List Variable → Vars → Deriv → Type 0
+Equation m S (lambda at uses k x e) t g u d =
+    ((p : IsParameter m.types at uses k x t) × (n : Use) × (b : Deriv) × HasUse m.vars p.from n × S.bound p.from × (uses ≡ Many → u ≡ no_vars) ×
+    Equation m S e p.to (record { type = p.from; uses = n } ∷ g) (under (is_once n) u) b × (d ≡ row t (one b)))
+    ⊎ ((IsParameter m.types at uses k x t → ⊥) × At m.vars t S.compared (Row m S (lambda at uses k x e) g) u d)
+Equation m S e t g u d = At m.vars t S.compared (Row m S e g) u d
 
 -- each equation has its derivation at its signature, with conversions of types that E relates over its variables
 abbrev pub AreDerived : Module → (List Kind → Tree → Tree → Type 0) → List GlobalEntry → List Deriv → Type 0
@@ -179,19 +179,17 @@ AreDerived m E [] (d ∷ ds) = ⊥
 AreDerived m E (g ∷ gs) [] = ⊥
 AreDerived m E (g ∷ gs) (d ∷ ds) =
     ((t : Tree) × (slice_get m.types.items g.signature ≡ Some t) ×
-    At g.kinds.items t (Converted (E g.kinds.items))
-    (Row (surroundings m g.kinds.items) (Converted (E g.kinds.items)) (Converted (E g.kinds.items)) g.body []) no_vars d) ×
+    At g.kinds.items t (Converted (E g.kinds.items)) (Row (surroundings m g.kinds.items) (converting (E g.kinds.items)) g.body []) no_vars d) ×
     AreDerived m E gs ds
 
--- the same by plain derivations
-abbrev pub ArePlainlyDerived : Module → (List Kind → Tree → Tree → Type 0) → List GlobalEntry → List Deriv → Type 0
-ArePlainlyDerived m E [] [] = ⊤
-ArePlainlyDerived m E [] (d ∷ ds) = ⊥
-ArePlainlyDerived m E (g ∷ gs) [] = ⊥
-ArePlainlyDerived m E (g ∷ gs) (d ∷ ds) =
-    ((t : Tree) × (slice_get m.types.items g.signature ≡ Some t) ×
-    Equation (surroundings m g.kinds.items) Bare (Compared (E g.kinds.items)) g.body t [] no_vars d) ×
-    ArePlainlyDerived m E gs ds
+-- the same by plain derivations, over the variables of each equation as S says
+abbrev pub ArePlainlyDerived : Module → (List Kind → Mode) → List GlobalEntry → List Deriv → Type 0
+ArePlainlyDerived m S [] [] = ⊤
+ArePlainlyDerived m S [] (d ∷ ds) = ⊥
+ArePlainlyDerived m S (g ∷ gs) [] = ⊥
+ArePlainlyDerived m S (g ∷ gs) (d ∷ ds) =
+    ((t : Tree) × (slice_get m.types.items g.signature ≡ Some t) × Equation (surroundings m g.kinds.items) (S g.kinds.items) g.body t [] no_vars d) ×
+    ArePlainlyDerived m S gs ds
 
 -- the module has these derivations: its types are well formed, fields and main's type are printable, and each equation has its
 -- derivation
@@ -200,3 +198,11 @@ pub record HasDerivations (m : Module) (ds : List Deriv) : Type 0 where
   pub fields : AreFamiliesPrintable m.types.items m.families.items
   pub main : HasMain m.types.items m.globals.items
   pub equations : AreDerived m IsConversion m.globals.items ds
+
+-- the module has these plain derivations, each over the variables of its equation as S says: its types are well formed, fields
+-- and main's type are printable, and each equation has its plain derivation
+pub record HasPlainDerivations (m : Module) (S : List Kind → Mode) (ds : List Deriv) : Type 0 where
+  pub types : AreTypesFormed m
+  pub fields : AreFamiliesPrintable m.types.items m.families.items
+  pub main : HasMain m.types.items m.globals.items
+  pub equations : ArePlainlyDerived m S m.globals.items ds

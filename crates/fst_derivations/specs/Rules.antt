@@ -1,5 +1,6 @@
 -- Which trees are derivations (after Almeida, Mordido, Thiemann, Vasconcelos, 2022; the linear variables are split as sets).
-use Rattle.std.specs.Prelude.{◌≡◌, ℕ, List, [], ◌∷◌, map, Some, slice_get, length}
+use Rattle.std.specs.Prelude.{◌≡◌, ℕ, List, [], ◌∷◌, map, Some, slice_get, length, ⊤}
+use Rattle.std.specs.List.{AllByRecursion}
 use Rattle.fst_types.specs.Tree as type
 use Rattle.fst_types.specs.Tree.{Tree, plain, arrow, named}
 use Rattle.fst_types.specs.Instance.{instantiated}
@@ -46,6 +47,25 @@ Bare d c = d ≡ c
 abbrev pub Compared : (E : Tree → Tree → Type 0) → Deriv → Deriv → Type 0
 Compared E d c = (t : Tree) × E (type_of c) t × (d ≡ convert (type_of c) t c)
 
+-- how derivations of parts stand for their rows, where a part's type is kept and where it is compared with another; and what is
+-- asked of the types that variables are bound at
+pub record Mode : Type 1 where
+  pub kept : Deriv → Deriv → Type 0
+  pub compared : Deriv → Deriv → Type 0
+  pub bound : Tree → Type 0
+
+-- conversions of types that E relates may stand at each term
+abbrev pub converting : (E : Tree → Tree → Type 0) → Mode
+converting E = record { kept = Converted E; compared = Converted E; bound = λ t. ⊤ }
+
+-- they stand just where types are compared
+abbrev pub comparing : (E : Tree → Tree → Type 0) → Mode
+comparing E = record { kept = Bare; compared = Compared E; bound = λ t. ⊤ }
+
+-- the same, where each type of a term and of a variable that is bound has L
+abbrev pub within : (L : Tree → Type 0) (E : Tree → Tree → Type 0) → Mode
+within L E = record { kept = λ d c. Bare d c × L (type_of c); compared = λ d c. Compared E d c × L (type_of c); bound = L }
+
 -- a derivation of a part: a row by the part's rule with a well-formed type, below conversions
 pub record Over (vars : List Kind) (R : Deriv → Deriv → Type 0) (P : Vars → Deriv → Type 0) (u : Vars) (d : Deriv) : Type 0 where
   pub core : Deriv
@@ -87,110 +107,110 @@ Binds m (rest s) l ts = (t : Tree) × (step s (Offer l) ≡ Some t) × (ts ≡ t
 
 abbrev mutual
   -- the row c follows the rule of the term, with variables of these types in scope, of which it has the linear ones in u;
-  -- and its parts are under A, and under C where types are compared
-  pub Row : Surroundings → (A C : Deriv → Deriv → Type 0) → CoreTree → List Variable → Vars → Deriv → Type 0
-  Row m A C (local at k) g u c = (v : Variable) × (slice_get g k ≡ Some v) × (u ≡ single (is_once v.uses) k) × (c ≡ row v.type none)
-  Row m A C (global at k ks) g u c =
+  -- and its parts and what it binds are as S says
+  pub Row : Surroundings → Mode → CoreTree → List Variable → Vars → Deriv → Type 0
+  Row m S (local at k) g u c = (v : Variable) × (slice_get g k ≡ Some v) × (u ≡ single (is_once v.uses) k) × (c ≡ row v.type none)
+  Row m S (global at k ks) g u c =
       (f : GlobalEntry) × (t : Tree) × (args : List Tree) ×
       (slice_get m.globals k ≡ Some f) × (slice_get m.types f.signature ≡ Some t) × AreAt m.types ks args × IsInstantiation m.vars f.kinds.items args ×
       (u ≡ no_vars) × (c ≡ row (instantiated args t) none)
-  Row m A C (int at n) g u c = (u ≡ no_vars) × (c ≡ row (plain Int) none)
-  Row m A C (bool at b) g u c = (u ≡ no_vars) × (c ≡ row (plain Truth) none)
-  Row m A C (char at n) g u c = (u ≡ no_vars) × (c ≡ row (plain Char) none)
-  Row m A C (unit at) g u c = (u ≡ no_vars) × (c ≡ row (plain Nothing) none)
-  Row m A C (pair at e f) g u c =
+  Row m S (int at n) g u c = (u ≡ no_vars) × (c ≡ row (plain Int) none)
+  Row m S (bool at b) g u c = (u ≡ no_vars) × (c ≡ row (plain Truth) none)
+  Row m S (char at n) g u c = (u ≡ no_vars) × (c ≡ row (plain Char) none)
+  Row m S (unit at) g u c = (u ≡ no_vars) × (c ≡ row (plain Nothing) none)
+  Row m S (pair at e f) g u c =
       (d : Deriv) × (h : Deriv) ×
-      Both (λ v. Over m.vars A (Row m A C e g) v d) (λ w. Over m.vars A (Row m A C f g) w h) u ×
+      Both (λ v. Over m.vars S.kept (Row m S e g) v d) (λ w. Over m.vars S.kept (Row m S f g) w h) u ×
       (c ≡ row (type.pair (type_of d) (type_of h)) (two d h))
-  Row m A C (make at n k es) g u c =
+  Row m S (make at n k es) g u c =
       (o : Maker) × (ts : List Tree) × (ds : Derivs) ×
-      (maker_of (slice_get m.families n) k ≡ Some o) × AreAt m.types o.fields.items ts × Fields m A C es ts g u ds ×
+      (maker_of (slice_get m.families n) k ≡ Some o) × AreAt m.types o.fields.items ts × Fields m S es ts g u ds ×
       (c ≡ row (named n) ds)
-  Row m A C (lambda at uses k x e) g u c =
+  Row m S (lambda at uses k x e) g u c =
       (t : Tree) × (n : Use) × (d : Deriv) ×
-      (slice_get m.types k ≡ Some t) × HasUse m.vars t n × (uses ≡ Many → u ≡ no_vars) ×
-      Over m.vars A (Row m A C e (record { type = t; uses = n } ∷ g)) (under (is_once n) u) d ×
+      (slice_get m.types k ≡ Some t) × HasUse m.vars t n × S.bound t × (uses ≡ Many → u ≡ no_vars) ×
+      Over m.vars S.kept (Row m S e (record { type = t; uses = n } ∷ g)) (under (is_once n) u) d ×
       (c ≡ row (arrow uses t (type_of d)) (one d))
-  Row m A C (apply at e f) g u c =
+  Row m S (apply at e f) g u c =
       (d : Deriv) × (h : Deriv) × (uses : Use) × (s : Tree) × (t : Tree) ×
-      Both (λ v. Over m.vars A (Row m A C e g) v d) (λ w. At m.vars s C (Row m A C f g) w h) u ×
+      Both (λ v. Over m.vars S.kept (Row m S e g) v d) (λ w. At m.vars s S.compared (Row m S f g) w h) u ×
       (type_of d ≡ arrow uses s t) × (c ≡ row t (two d h))
-  Row m A C (let_in at x e f) g u c =
+  Row m S (let_in at x e f) g u c =
       (d : Deriv) × (h : Deriv) × (n : Use) ×
-      Both (λ v. Over m.vars A (Row m A C e g) v d)
-      (λ w. Over m.vars A (Row m A C f (record { type = type_of d; uses = n } ∷ g)) (under (is_once n) w) h) u ×
+      Both (λ v. Over m.vars S.kept (Row m S e g) v d)
+      (λ w. Over m.vars S.kept (Row m S f (record { type = type_of d; uses = n } ∷ g)) (under (is_once n) w) h) u ×
       HasUse m.vars (type_of d) n × (c ≡ row (type_of h) (two d h))
-  Row m A C (split at x y e f) g u c =
+  Row m S (split at x y e f) g u c =
       (d : Deriv) × (h : Deriv) × (s : Tree) × (t : Tree) × (n : Use) × (o : Use) ×
-      Both (λ v. Over m.vars A (Row m A C e g) v d)
-      (λ w. Over m.vars A (Row m A C f (record { type = t; uses = o } ∷ record { type = s; uses = n } ∷ g)) (under (is_once o) (under (is_once n) w)) h) u ×
+      Both (λ v. Over m.vars S.kept (Row m S e g) v d)
+      (λ w. Over m.vars S.kept (Row m S f (record { type = t; uses = o } ∷ record { type = s; uses = n } ∷ g)) (under (is_once o) (under (is_once n) w)) h) u ×
       (type_of d ≡ type.pair s t) × HasUse m.vars s n × HasUse m.vars t o × (c ≡ row (type_of h) (two d h))
-  Row m A C (if_else at e f h) g u c =
+  Row m S (if_else at e f h) g u c =
       (d : Deriv) × (k : Deriv) × (l : Deriv) ×
-      Both (λ v. At m.vars (plain Truth) C (Row m A C e g) v d)
-      (λ w. Over m.vars A (Row m A C f g) w k × At m.vars (type_of k) C (Row m A C h g) w l) u ×
+      Both (λ v. At m.vars (plain Truth) S.compared (Row m S e g) v d)
+      (λ w. Over m.vars S.kept (Row m S f g) w k × At m.vars (type_of k) S.compared (Row m S h g) w l) u ×
       (c ≡ row (type_of k) (three d k l))
-  Row m A C (case_of at e bs) g u c =
+  Row m S (case_of at e bs) g u c =
       (d : Deriv) × (n : ℕ) × (f : Family) × (t : Tree) × (ds : Derivs) ×
-      Both (λ v. Over m.vars A (Row m A C e g) v d) (λ w. Arms m A C (fields f.makers.items) bs g w t ds) u ×
+      Both (λ v. Over m.vars S.kept (Row m S e g) v d) (λ w. Arms m S (fields f.makers.items) bs g w t ds) u ×
       (type_of d ≡ named n) × (slice_get m.families n ≡ Some f) × AreEachOnce (map (λ o. o.name) f.makers.items) (arm_labels bs) ×
       (c ≡ row t (part d ds))
-  Row m A C (operate at o e f) g u c =
+  Row m S (operate at o e f) g u c =
       (d : Deriv) × (h : Deriv) × (s : Tree) × (t : Tree) × Operates o s t ×
-      Both (λ v. At m.vars s C (Row m A C e g) v d) (λ w. At m.vars s C (Row m A C f g) w h) u ×
+      Both (λ v. At m.vars s S.compared (Row m S e g) v d) (λ w. At m.vars s S.compared (Row m S f g) w h) u ×
       (c ≡ row t (two d h))
-  Row m A C (negate at e) g u c = (d : Deriv) × At m.vars (plain Truth) C (Row m A C e g) u d × (c ≡ row (plain Truth) (one d))
-  Row m A C (new at k) g u c = (s : Tree) × (slice_get m.types k ≡ Some s) × IsSession [] s × (u ≡ no_vars) × (c ≡ row (type.pair s (dual s)) none)
-  Row m A C (send at e f) g u c =
+  Row m S (negate at e) g u c = (d : Deriv) × At m.vars (plain Truth) S.compared (Row m S e g) u d × (c ≡ row (plain Truth) (one d))
+  Row m S (new at k) g u c = (s : Tree) × (slice_get m.types k ≡ Some s) × IsSession [] s × (u ≡ no_vars) × (c ≡ row (type.pair s (dual s)) none)
+  Row m S (send at e f) g u c =
       (d : Deriv) × (h : Deriv) × (b : Base) × (t : Tree) ×
-      Both (λ v. Over m.vars A (Row m A C e g) v d) (λ w. Over m.vars A (Row m A C f g) w h) u ×
+      Both (λ v. Over m.vars S.kept (Row m S e g) v d) (λ w. Over m.vars S.kept (Row m S f g) w h) u ×
       (type_of d ≡ plain b) × (step (type_of h) (Send b) ≡ Some t) × (c ≡ row t (two d h))
-  Row m A C (receive at e) g u c =
+  Row m S (receive at e) g u c =
       (d : Deriv) × (b : Base) × (t : Tree) ×
-      Over m.vars A (Row m A C e g) u d × (step (type_of d) (Receive b) ≡ Some t) × (c ≡ row (type.pair (plain b) t) (one d))
-  Row m A C (select at l e) g u c =
-      (d : Deriv) × (t : Tree) × Over m.vars A (Row m A C e g) u d × (step (type_of d) (Select l) ≡ Some t) × (c ≡ row t (one d))
-  Row m A C (match_with at e bs) g u c =
+      Over m.vars S.kept (Row m S e g) u d × (step (type_of d) (Receive b) ≡ Some t) × (c ≡ row (type.pair (plain b) t) (one d))
+  Row m S (select at l e) g u c =
+      (d : Deriv) × (t : Tree) × Over m.vars S.kept (Row m S e g) u d × (step (type_of d) (Select l) ≡ Some t) × (c ≡ row t (one d))
+  Row m S (match_with at e bs) g u c =
       (d : Deriv) × (names : List (List ℕ)) × (t : Tree) × (ds : Derivs) ×
-      Both (λ v. Over m.vars A (Row m A C e g) v d) (λ w. Arms m A C (rest (type_of d)) bs g w t ds) u ×
+      Both (λ v. Over m.vars S.kept (Row m S e g) v d) (λ w. Arms m S (rest (type_of d)) bs g w t ds) u ×
       IsOffering (type_of d) names × AreEachOnce names (arm_labels bs) × (c ≡ row t (part d ds))
-  Row m A C (fork at e) g u c = (d : Deriv) × Over m.vars A (Row m A C e g) u d × HasUse m.vars (type_of d) Many × (c ≡ row (plain Nothing) (one d))
-  Row m A C (seq at e f) g u c =
+  Row m S (fork at e) g u c = (d : Deriv) × Over m.vars S.kept (Row m S e g) u d × HasUse m.vars (type_of d) Many × (c ≡ row (plain Nothing) (one d))
+  Row m S (seq at e f) g u c =
       (d : Deriv) × (h : Deriv) ×
-      Both (λ v. Over m.vars A (Row m A C e g) v d) (λ w. Over m.vars A (Row m A C f g) w h) u ×
+      Both (λ v. Over m.vars S.kept (Row m S e g) v d) (λ w. Over m.vars S.kept (Row m S f g) w h) u ×
       HasUse m.vars (type_of d) Many × (c ≡ row (type_of h) (two d h))
 
   -- derivations of a constructor's arguments, each at its field's type
-  pub Fields : Surroundings → (A C : Deriv → Deriv → Type 0) → CoreList → List Tree → List Variable → Vars → Derivs → Type 0
-  Fields m A C no_terms [] g u ds = (u ≡ no_vars) × (ds ≡ none)
-  Fields m A C no_terms (t ∷ ts) g u ds = ⊥
-  Fields m A C (term e es) [] g u ds = ⊥
-  Fields m A C (term e es) (t ∷ ts) g u ds =
+  pub Fields : Surroundings → Mode → CoreList → List Tree → List Variable → Vars → Derivs → Type 0
+  Fields m S no_terms [] g u ds = (u ≡ no_vars) × (ds ≡ none)
+  Fields m S no_terms (t ∷ ts) g u ds = ⊥
+  Fields m S (term e es) [] g u ds = ⊥
+  Fields m S (term e es) (t ∷ ts) g u ds =
       (d : Deriv) × (more : Derivs) ×
-      Both (λ v. At m.vars t C (Row m A C e g) v d) (λ w. Fields m A C es ts g w more) u ×
+      Both (λ v. At m.vars t S.compared (Row m S e g) v d) (λ w. Fields m S es ts g w more) u ×
       (ds ≡ part d more)
 
   -- derivations of arms, whose variables hold what B says, all with the same linear variables
   -- from outside: the first arm gives its type
-  pub Arms : Surroundings → (A C : Deriv → Deriv → Type 0) → Binding → CoreArms → List Variable → Vars → Tree → Derivs → Type 0
-  Arms m A C B no_arms g u t ds = ⊥
-  Arms m A C B (arm l xs e bs) g u t ds =
+  pub Arms : Surroundings → Mode → Binding → CoreArms → List Variable → Vars → Tree → Derivs → Type 0
+  Arms m S B no_arms g u t ds = ⊥
+  Arms m S B (arm l xs e bs) g u t ds =
       (ts : List Tree) × (vs : List Variable) × (d : Deriv) × (more : Derivs) ×
-      Binds m B l ts × AreVariables m.vars ts vs × (length xs ≡ length vs) × Over m.vars A (Row m A C e (enter_all vs g)) (under_all vs u) d × (type_of d ≡ t) ×
-      FurtherArms m A C B bs g u t more × (ds ≡ part d more)
+      Binds m B l ts × AreVariables m.vars ts vs × AllByRecursion S.bound ts × (length xs ≡ length vs) × Over m.vars S.kept (Row m S e (enter_all vs g)) (under_all vs u) d × (type_of d ≡ t) ×
+      FurtherArms m S B bs g u t more × (ds ≡ part d more)
 
   -- and the type of each further one is compared with it
-  pub FurtherArms : Surroundings → (A C : Deriv → Deriv → Type 0) → Binding → CoreArms → List Variable → Vars → Tree → Derivs → Type 0
-  FurtherArms m A C B no_arms g u t ds = ds ≡ none
-  FurtherArms m A C B (arm l xs e bs) g u t ds =
+  pub FurtherArms : Surroundings → Mode → Binding → CoreArms → List Variable → Vars → Tree → Derivs → Type 0
+  FurtherArms m S B no_arms g u t ds = ds ≡ none
+  FurtherArms m S B (arm l xs e bs) g u t ds =
       (ts : List Tree) × (vs : List Variable) × (d : Deriv) × (more : Derivs) ×
-      Binds m B l ts × AreVariables m.vars ts vs × (length xs ≡ length vs) × At m.vars t C (Row m A C e (enter_all vs g)) (under_all vs u) d ×
-      FurtherArms m A C B bs g u t more × (ds ≡ part d more)
+      Binds m B l ts × AreVariables m.vars ts vs × AllByRecursion S.bound ts × (length xs ≡ length vs) × At m.vars t S.compared (Row m S e (enter_all vs g)) (under_all vs u) d ×
+      FurtherArms m S B bs g u t more × (ds ≡ part d more)
 
 -- a derivation of the term: conversions of types that E relates may stand at each term
 abbrev pub Derives : Surroundings → (E : Tree → Tree → Type 0) → CoreTree → List Variable → Vars → Deriv → Type 0
-Derives m E e g u d = Over m.vars (Converted E) (Row m (Converted E) (Converted E) e g) u d
+Derives m E e g u d = Over m.vars (Converted E) (Row m (converting E) e g) u d
 
 -- a row of a plain derivation: conversions stand just where types are compared
 abbrev pub PlainRow : Surroundings → (E : Tree → Tree → Type 0) → CoreTree → List Variable → Vars → Deriv → Type 0
-PlainRow m E e g u d = Row m Bare (Compared E) e g u d
+PlainRow m E e g u d = Row m (comparing E) e g u d

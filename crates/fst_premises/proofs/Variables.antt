@@ -12,7 +12,7 @@ use Rattle.fst_context.specs.declared.context.Taken.TheVariants.{Here, Gone, Out
 use Rattle.fst_derivations.specs.Deriv.{Deriv, row, none, type_of}
 use Rattle.fst_derivations.specs.Parts.{HasUse, IsFormed}
 use Rattle.fst_premises.specs.Scenes.{AreHeld}
-use Rattle.fst_premises.specs.Checks.{Check, IsTypedAlone}
+use Rattle.fst_premises.specs.Checks.{Check, IsInSize, IsTypedAlone}
 
 single_at : (b : Bool) (k j : ℕ) → single b k j ≡ true → (b ≡ true) × (k ≡ j)
 single_at b zero zero h = (h, refl)
@@ -32,12 +32,12 @@ linear_once [] (suc k) v h = absurd (cc h)
 linear_once (w ∷ vs) zero v h = let same : w ≡ v = cc in ap (λ (z : Variable). is_once z.uses) same
 linear_once (w ∷ vs) (suc k) v h = linear_once vs k v h
 
--- a variable in scope has its use
-pub held_at : (vars : List Kind) (vs : List Variable) (k : ℕ) (v : Variable) → AreHeld vars vs → slice_get vs k ≡ Some v → HasUse vars v.type v.uses
+-- a variable in scope has its use, and a type within its size
+pub held_at : (vars : List Kind) (vs : List Variable) (k : ℕ) (v : Variable) → AreHeld vars vs → slice_get vs k ≡ Some v → HasUse vars v.type v.uses × IsInSize v.type
 held_at vars [] zero v h e = absurd (cc e)
 held_at vars [] (suc k) v h e = absurd (cc e)
-held_at vars (w ∷ vs) zero v h e = let same : w ≡ v = cc in subst (λ (z : Variable). HasUse vars z.type z.uses) same h.0
-held_at vars (w ∷ vs) (suc k) v h e = held_at vars vs k v h.1 e
+held_at vars (w ∷ vs) zero v h e = let same : w ≡ v = cc in subst (λ (z : Variable). HasUse vars z.type z.uses × IsInSize z.type) same (h.0, h.1)
+held_at vars (w ∷ vs) (suc k) v h e = held_at vars vs k v h.2 e
 
 -- a variable that can be taken has its derivation
 pub variable_typed : (c : Check) (at k : ℕ) (r s : Scope) (v : Variable) (w : Deriv) → AreHeld c.surroundings.vars r.variables → slice_get r.variables k ≡ Some v → taken_at r k ≡ Here →
@@ -47,7 +47,7 @@ variable_typed c at k r s v w h e t a is =
     let held = held_at c.surroundings.vars r.variables k v h e in
     record {
       used = single (is_once v.uses) k;
-      fact = record { rule = (v, e, refl, is); formed = subst (λ d. IsFormed c.surroundings.vars (type_of d)) (sym is) (held.kind, held.formed) };
+      fact = record { rule = (v, e, refl, is); formed = subst (λ d. IsFormed c.surroundings.vars (type_of d)) (sym is) (held.0.kind, held.0.formed); small = subst (λ d. IsInSize (type_of d)) (sym is) held.1 };
       within = λ j y. let z = single_at (is_once v.uses) k j y in
           subst (λ i. open_in r i ≡ true) z.1 (here_open (linear_at r.variables k) (at_or_not r.there k) (is_inside r.bodies k) t (linear ∙ z.0));
       rest = a ∙ ap (λ b. without (single b k) r) linear;

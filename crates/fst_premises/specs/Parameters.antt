@@ -7,7 +7,7 @@ use Rattle.fst_terms.specs.declared.binder.Binder.{Binder}
 use Rattle.fst_context.specs.Scope.{Scope, entered}
 use Rattle.fst_derivations.specs.Parts.{HasUse}
 use Rattle.fst_derivations.specs.Modules.{IsParameter}
-use Rattle.fst_premises.specs.Checks.{Check}
+use Rattle.fst_premises.specs.Checks.{Check, IsInSize}
 use Rattle.fst_premises.specs.Scopes.{inside}
 use Rattle.fst_premises.specs.declared.parameters.Parameter.{Parameter}
 
@@ -29,10 +29,11 @@ pub record HasParameter (c : Check) (e : CoreTree) (t : Tree) (p : Parameter) : 
   pub type : t ≡ arrow p.uses p.from.now p.to.now
   pub written : slice_get c.surroundings.types number ≡ Some p.from.now
 
--- the parameter is entered between the scopes
+-- the parameter, whose type is within its size, is entered between the scopes
 pub record IsEntered (c : Check) (p : Parameter) (before after : Scope) : Type 0 where
   pub uses : Use
   pub has : HasUse c.surroundings.vars p.from.now uses
+  pub small : IsInSize p.from.now
   pub is : after ≡ with_parameter p.binder.now p.from.now uses (inside p.uses before)
 
 -- at this type the term has these parameters in front, the first outermost, which are entered between the scopes; under them

@@ -12,7 +12,7 @@ use Rattle.fst_arms.specs.Arms.{arm_labels, AreEachOnce, AreMakerNumbers}
 use Rattle.fst_context.specs.Scope.{Variable}
 use Rattle.fst_derivations.specs.Parts.{HasUse, IsFormed}
 use Rattle.fst_derivations.specs.Modules.{surroundings, types_in, IsFormedAt, AreStandingFormed, AreMakersFormed}
-use Rattle.fst_premises.specs.Checks.{Check}
+use Rattle.fst_premises.specs.Checks.{Check, IsInSize}
 use Rattle.fst_premises.specs.declared.choices.Constructors.{Constructors}
 use Rattle.fst_premises.specs.declared.scene.Scene.{Scene}
 
@@ -30,10 +30,10 @@ pub record IsSetUp (c : Check) : Type 0 where
 abbrev pub bounds : Check → Bounds
 bounds c = record { families = c.surroundings.families; globals = length c.surroundings.globals; types = length c.surroundings.types }
 
--- variables of well-formed types, each with its use
+-- variables of well-formed types within their size, each with its use
 abbrev pub AreHeld : List Kind → List Variable → Type 0
 AreHeld vars [] = ⊤
-AreHeld vars (v ∷ vs) = HasUse vars v.type v.uses × AreHeld vars vs
+AreHeld vars (v ∷ vs) = HasUse vars v.type v.uses × IsInSize v.type × AreHeld vars vs
 
 -- the term's numbers stand for something, its types are well formed, and so are those of the variables in scope
 pub record IsReady (c : Check) (e : CoreTree) (g : List Variable) : Type 0 where

@@ -10,6 +10,7 @@ ghost use Rattle.fst_context.specs.Scope.{Variable};
 ghost use Rattle.fst_derivations.specs.Parts.{AreAt, AreVariables, HasUse, IsFormed};
 ghost use Rattle.fst_premises.specs.Scopes.{AreUsed, entered_all, left_all, after_body, inside, noted};
 ghost use Rattle.fst_premises.specs.Shown.{IsLargeBinder, ShowsUnused, UseDifferent, IsShown};
+ghost use Rattle.fst_premises.specs.Checks.{AreInSize};
 ghost use Rattle.fst_premises.specs.Scenes.{AreFormed};
 
 use crate::fault::CheckFault;
@@ -67,7 +68,7 @@ pub fn enter_fields(
     requires long { length binders.now ≡ length fields.now }
     requires there { (ts : List Tree) × AreAt scene.module.now.types.items fields.now ts × AreFormed scene.vars.now ts }
     ensures entered { OnOk result ((ts : List Tree) → AreAt scene.entry.module.now.types.items fields.now ts →
-        (vs : List Variable) × AreVariables scene.entry.vars.now ts vs × (length binders.now ≡ length vs) × (context.new ≡ entered_all binders.now vs context.old)) }
+        (vs : List Variable) × AreVariables scene.entry.vars.now ts vs × AreInSize ts × (length binders.now ≡ length vs) × (context.new ≡ entered_all binders.now vs context.old)) }
     ensures refused { IfErr result (λ f. (ts : List Tree) → AreAt scene.entry.module.now.types.items fields.now ts → IsShown f (IsLargeBinder binders.now ts f)) }
 {
     for i in 0..binders.len() {

@@ -2,6 +2,7 @@
 
 ghost use Rattle.std.specs.Prelude.{◌≡◌, IfOk, IfErr};
 ghost use Rattle.fst_types.specs.Tree as tree;
+ghost use Rattle.fst_premises.specs.Checks.{IsInSize};
 ghost use Rattle.fst_premises.specs.Shown.{IsTooLargeAt, IsShown};
 
 use crate::fault::CheckFault;
@@ -12,6 +13,7 @@ use std::alloc::Global;
 /// A pair of two types, unless it is over its size.
 pub(crate) fn pair_of(alloc: Global, at: u32, s: &Ty, r: &Ty) -> Result<Ty, CheckFault>
     ensures ok { IfOk result (λ t. t ≡ tree.pair s.now r.now) }
+    ensures small { IfOk result (λ t. IsInSize t) }
     ensures err { IfErr result (λ f. IsShown f (IsTooLargeAt at (tree.pair s.now r.now) f)) }
 {
     if size(s).saturating_add(size(r)).saturating_add(1) > MOST_NODES {
@@ -27,6 +29,7 @@ pub(crate) fn pair_of(alloc: Global, at: u32, s: &Ty, r: &Ty) -> Result<Ty, Chec
 /// A function's type, unless it is over its size.
 pub(crate) fn arrow_of(alloc: Global, at: u32, uses: Use, s: &Ty, r: &Ty) -> Result<Ty, CheckFault>
     ensures ok { IfOk result (λ t. t ≡ tree.arrow uses s.now r.now) }
+    ensures small { IfOk result (λ t. IsInSize t) }
     ensures err { IfErr result (λ f. IsShown f (IsTooLargeAt at (tree.arrow uses s.now r.now) f)) }
 {
     if size(s).saturating_add(size(r)).saturating_add(1) > MOST_NODES {

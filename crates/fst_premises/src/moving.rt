@@ -1,11 +1,12 @@
 // The types after the moves that terms ask of ends.
 
-ghost use Rattle.std.specs.Prelude.{◌≡◌, Contains, IfOk, IfErr, IsSome, MatchOption, Some};
+ghost use Rattle.std.specs.Prelude.{◌≡◌, Contains, IfOk, IfErr, IfSome, IsSome, MatchOption, Some};
 ghost use Rattle.fst_types.specs.Tree as tree;
 ghost use Rattle.fst_types.specs.Tree.{Tree};
 ghost use Rattle.fst_types.specs.declared.base.Base.{Base};
 ghost use Rattle.fst_types.specs.declared.label.Label.TheVariants as label;
 ghost use Rattle.fst_lts.specs.Step.{step};
+ghost use Rattle.fst_premises.specs.Checks.{IsInSize};
 ghost use Rattle.fst_premises.specs.Shown.{IsTooLargeAt, ShowsReceive, ShowsSelect, ShowsSend, IsShown};
 
 use crate::builders::{base, pair_of};
@@ -17,6 +18,7 @@ use std::alloc::Global;
 /// The type after a label; `at` is where it would be too large.
 fn after(alloc: Global, at: u32, t: &Ty, a: &Label) -> Result<Option<Ty>, CheckFault>
     ensures next { IfOk result (λ next. next ≡ step t.now a.now) }
+    ensures small { IfOk result (λ next. IfSome next IsInSize) }
     ensures refused { IfErr result (λ f. IsShown f ((next : Tree) × (step t.now a.now ≡ Some next) × IsTooLargeAt at next f)) }
 {
     match step_within_limit(alloc, t, a) {
@@ -29,6 +31,7 @@ fn after(alloc: Global, at: u32, t: &Ty, a: &Label) -> Result<Option<Ty>, CheckF
 /// The type of an end after a value of the type `value` was sent on it.
 pub(crate) fn sent(alloc: Global, at: u32, value: &Ty, channel: &Ty) -> Result<Ty, CheckFault>
     ensures sent { IfOk result (λ next. (b : Base) × (value.now ≡ tree.plain b) × (step channel.now (label.Send b) ≡ Some next)) }
+    ensures small { IfOk result (λ t. IsInSize t) }
     ensures refused { IfErr result (λ f. IsShown f (ShowsSend at value.now channel.now f)) }
 {
     if let TyForm::Plain(base) = &value.form {
@@ -68,6 +71,7 @@ fn received_payload(labels: &[Label]) -> Option<Base>
 fn received_at(alloc: Global, at: u32, channel: &Ty, payload: Base) -> Result<Ty, CheckFault>
     requires { IsSome (step channel.now (label.Receive payload)) }
     ensures received { IfOk result (λ t. (next : Tree) × (step channel.now (label.Receive payload) ≡ Some next) × (t ≡ tree.pair (tree.plain payload) next)) }
+    ensures small { IfOk result (λ t. IsInSize t) }
     ensures refused { IfErr result (λ f. IsShown f ((next : Tree) × (step channel.now (label.Receive payload) ≡ Some next) × IsTooLargeAt at (tree.pair (tree.plain payload) next) f)) }
 {
     match after(alloc, at, channel, &Label::Receive(payload))? {
@@ -79,6 +83,7 @@ fn received_at(alloc: Global, at: u32, channel: &Ty, payload: Base) -> Result<Ty
 /// What is received on an end, and the type of the end afterwards, as a pair.
 pub(crate) fn received(alloc: Global, at: u32, channel: &Ty) -> Result<Ty, CheckFault>
     ensures received { IfOk result (λ t. (b : Base) × (next : Tree) × (step channel.now (label.Receive b) ≡ Some next) × (t ≡ tree.pair (tree.plain b) next)) }
+    ensures small { IfOk result (λ t. IsInSize t) }
     ensures refused { IfErr result (λ f. IsShown f (ShowsReceive at channel.now f)) }
 {
     let found = labels(alloc, channel)?;
@@ -91,6 +96,7 @@ pub(crate) fn received(alloc: Global, at: u32, channel: &Ty) -> Result<Ty, Check
 /// The type of an end after a branch was selected on it.
 pub(crate) fn selected(alloc: Global, at: u32, name: &Name, channel: &Ty) -> Result<Ty, CheckFault>
     ensures selected { IfOk result (λ next. step channel.now (label.Select name.now) ≡ Some next) }
+    ensures small { IfOk result (λ t. IsInSize t) }
     ensures refused { IfErr result (λ f. IsShown f (ShowsSelect at name.now channel.now f)) }
 {
     match after(alloc, at, channel, &Label::Select(name.copy(alloc)?))? {
@@ -107,6 +113,7 @@ pub(crate) fn selected(alloc: Global, at: u32, name: &Name, channel: &Ty) -> Res
 pub fn offered(alloc: Global, at: u32, name: &Name, channel: &Ty) -> Result<Ty, CheckFault>
     requires { IsSome (step channel.now (label.Offer name.now)) }
     ensures offered { IfOk result (λ next. step channel.now (label.Offer name.now) ≡ Some next) }
+    ensures small { IfOk result (λ t. IsInSize t) }
     ensures refused { IfErr result (λ f. IsShown f ((next : Tree) × (step channel.now (label.Offer name.now) ≡ Some next) × IsTooLargeAt at next f)) }
 {
     match after(alloc, at, channel, &Label::Offer(name.copy(alloc)?))? {

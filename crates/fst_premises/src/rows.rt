@@ -10,6 +10,7 @@ ghost use Rattle.fst_types.specs.declared.label.Label.TheVariants as label;
 ghost use Rattle.fst_lts.specs.Step.{step};
 ghost use Rattle.fst_derivations.specs.Deriv.{deriv_of, type_of, row, one, two, three};
 ghost use Rattle.fst_derivations.specs.Parts.{HasUse, IsFormed};
+ghost use Rattle.fst_premises.specs.Checks.{IsInSize};
 ghost use Rattle.fst_premises.specs.Scopes.{inside};
 ghost use Rattle.fst_premises.specs.Shown.{IsShown, IsTooLargeAt, ShowsDropped, ShowsReceive, ShowsSelect, ShowsSend};
 
@@ -54,6 +55,7 @@ pub fn pair_row(
     h: Derivation,
 ) -> Result<Derivation, CheckFault>
     ensures made { IfOk result (λ w. deriv_of w ≡ row (tree.pair (type_of (deriv_of d)) (type_of (deriv_of h))) (two (deriv_of d) (deriv_of h))) }
+    ensures small { IfOk result (λ w. IsInSize (type_of (deriv_of w))) }
     ensures refused { IfErr result (λ f. IsShown f (IsTooLargeAt at (tree.pair (type_of (deriv_of d)) (type_of (deriv_of h))) f)) }
 {
     let t = pair_of(alloc, at, d.type_of(), h.type_of())?;
@@ -69,6 +71,7 @@ pub fn function_row(
     d: Derivation,
 ) -> Result<Derivation, CheckFault>
     ensures made { IfOk result (λ w. deriv_of w ≡ row (tree.arrow uses from.now (type_of (deriv_of d))) (one (deriv_of d))) }
+    ensures small { IfOk result (λ w. IsInSize (type_of (deriv_of w))) }
     ensures refused { IfErr result (λ f. IsShown f (IsTooLargeAt at (tree.arrow uses from.now (type_of (deriv_of d))) f)) }
 {
     let t = arrow_of(alloc, at, uses, from, d.type_of())?;
@@ -86,6 +89,7 @@ pub fn begin_function(
 ) -> Result<Ty, CheckFault>
     requires { k < length scene.module.now.types.items }
     ensures from { IfOk result (λ t. slice_get scene.entry.module.now.types.items k ≡ Some t) }
+    ensures small { IfOk result (λ t. IsInSize t) }
     ensures begun { OnOk result (context.new ≡ inside uses context.old) }
     ensures refused { IfErr result (λ f. IsShown f ((t : Tree) × (slice_get scene.entry.module.now.types.items k ≡ Some t) × IsTooLargeAt binder.now.at t f)) }
 {
@@ -104,6 +108,7 @@ pub fn sent_row(
 ) -> Result<Derivation, CheckFault>
     ensures made { IfOk result (λ w. (b : Base) × (next : Tree) × (type_of (deriv_of d) ≡ tree.plain b) × (step (type_of (deriv_of h)) (label.Send b) ≡ Some next) ×
         (deriv_of w ≡ row next (two (deriv_of d) (deriv_of h)))) }
+    ensures small { IfOk result (λ w. IsInSize (type_of (deriv_of w))) }
     ensures refused { IfErr result (λ f. IsShown f (ShowsSend at (type_of (deriv_of d)) (type_of (deriv_of h)) f)) }
 {
     let t = sent(alloc, at, d.type_of(), h.type_of())?;
@@ -114,6 +119,7 @@ pub fn sent_row(
 pub fn received_row(alloc: Global, at: u32, d: Derivation) -> Result<Derivation, CheckFault>
     ensures made { IfOk result (λ w. (b : Base) × (next : Tree) × (step (type_of (deriv_of d)) (label.Receive b) ≡ Some next) ×
         (deriv_of w ≡ row (tree.pair (tree.plain b) next) (one (deriv_of d)))) }
+    ensures small { IfOk result (λ w. IsInSize (type_of (deriv_of w))) }
     ensures refused { IfErr result (λ f. IsShown f (ShowsReceive at (type_of (deriv_of d)) f)) }
 {
     let t = received(alloc, at, d.type_of())?;
@@ -128,6 +134,7 @@ pub fn selected_row(
     d: Derivation,
 ) -> Result<Derivation, CheckFault>
     ensures made { IfOk result (λ w. (next : Tree) × (step (type_of (deriv_of d)) (label.Select name.now) ≡ Some next) × (deriv_of w ≡ row next (one (deriv_of d)))) }
+    ensures small { IfOk result (λ w. IsInSize (type_of (deriv_of w))) }
     ensures refused { IfErr result (λ f. IsShown f (ShowsSelect at name.now (type_of (deriv_of d)) f)) }
 {
     let t = selected(alloc, at, name, d.type_of())?;

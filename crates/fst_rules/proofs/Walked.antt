@@ -16,7 +16,7 @@ use Rattle.fst_context.specs.Vars.{Vars, no_vars, single, Both}
 use Rattle.fst_context.specs.Scope.{Variable, is_once}
 use Rattle.fst_derivations.specs.Deriv.{Deriv, row, type_of, Derivs, none, part, one, two, three}
 use Rattle.fst_derivations.specs.Parts.{IsAnyConversion}
-use Rattle.fst_derivations.specs.Rules.{Surroundings, Converted, Over, At, Row, Operates}
+use Rattle.fst_derivations.specs.Rules.{Surroundings, Mode, Converted, converting, Over, At, Row, Operates}
 use Rattle.fst_fits.specs.Tests.{same_tree, use_in, is_many, is_global_type, is_channel, operates}
 use Rattle.fst_rules.specs.Walks.{only, given, taking, has_none, local_row, leaf_row, whole, row_walk}
 use Rattle.fst_fits.specs.Fits.{pair_fits, apply_fits, operate_fits, send_fits, seq_fits, negate_fits, receive_fits, select_fits, fork_fits}
@@ -54,9 +54,12 @@ module _ (m : Surroundings) where
   abbrev pub Conversions : Deriv → Deriv → Type 0
   Conversions = Converted (IsAnyConversion m.vars)
 
+  abbrev pub mode : Mode
+  mode = converting (IsAnyConversion m.vars)
+
   -- a row of the term
   abbrev pub Rule : CoreTree → List Variable → Vars → Deriv → Type 0
-  Rule e g = Row m Conversions Conversions e g
+  Rule e g = Row m mode e g
 
   -- a derivation of the term
   abbrev pub Part : CoreTree → List Variable → Deriv → Vars → Type 0
@@ -83,7 +86,7 @@ module _ (m : Surroundings) where
   is_row (unit at) g u c (p, e) = (plain Nothing, none, e)
   is_row (pair at a b) g u c (d, h, x, e) = (type.pair (type_of d) (type_of h), two d h, e)
   is_row (make at n k es) g u c (o, ts, ds, p, q, x, e) = (named n, ds, e)
-  is_row (lambda at uses k x a) g u c (t, n, d, p, w, o, y, e) = (arrow uses t (type_of d), one d, e)
+  is_row (lambda at uses k x a) g u c (t, n, d, p, w, z, o, y, e) = (arrow uses t (type_of d), one d, e)
   is_row (apply at a b) g u c (d, h, uses, s, t, x, p, e) = (t, two d h, e)
   is_row (let_in at x a b) g u c (d, h, n, y, w, e) = (type_of h, two d h, e)
   is_row (split at x y a b) g u c (d, h, s, t, n, o, z, p, i, j, e) = (type_of h, two d h, e)

@@ -1,6 +1,8 @@
 -- The same of arms.
 use Rattle.std.proofs.Common.{◌≡◌, ◌∙◌, ℕ, suc, Bool, true, false, List, [], ◌∷◌, length, map, Option, Some, None, slice_get, refl, sym, ap, subst}
 use Rattle.std.proofs.lemmas.Option.{same_Some}
+use Rattle.std.specs.Prelude.{⊤}
+use Rattle.std.specs.List.{AllByRecursion}
 use Rattle.fst_types.specs.Tree.{Tree, named}
 use Rattle.fst_types.specs.declared.family.Family.{Family}
 use Rattle.fst_types.specs.declared.family.Maker.{Maker}
@@ -25,7 +27,7 @@ use Rattle.fst_rules.proofs.DecidingInside.{decides_inside, Agrees, decides_agre
 use Rattle.fst_fits.proofs.Laws.{tree_same, tree_itself, has_use, of_use, types_are, are_types}
 use Rattle.fst_fits.proofs.Laws.{family_is}
 use Rattle.fst_fits.proofs.Laws.{once, of_once, offering, of_offering}
-use Rattle.fst_rules.proofs.Walked.{Conversions, Rule, Part, Parts, Rows, rows, as_row, at_over, over_at, none_there, none_is}
+use Rattle.fst_rules.proofs.Walked.{Conversions, mode, Rule, Part, Parts, Rows, rows, as_row, at_over, over_at, none_there, none_is}
 
 same_part : (d h : Deriv) (ds es : Derivs) → part d ds ≡ part h es → (d ≡ h) × (ds ≡ es)
 same_part d h ds es e = (cc, cc)
@@ -33,6 +35,10 @@ same_part d h ds es e = (cc, cc)
 next_twice : (o : Option Scope) (F G : Walk) → next (next o F) G ≡ next o (λ s. next (F s) G)
 next_twice None F G = refl
 next_twice (Some s) F G = refl
+
+all_any : (ts : List Tree) → AllByRecursion (λ (t : Tree). ⊤) ts
+all_any [] = tt
+all_any (t ∷ ts) = (tt, all_any ts)
 
 -- ---- variables of arms
 
@@ -150,7 +156,7 @@ module _ (m : Surroundings) where
   -- ---- further arms
 
   abbrev pub Further : Binding → CoreArms → List Variable → Tree → Derivs → Vars → Type 0
-  Further B bs g t ds u = FurtherArms m (Conversions m) (Conversions m) B bs g u t ds
+  Further B bs g t ds u = FurtherArms m (mode m) B bs g u t ds
 
   -- the walk over further arms from a scope decides whether a set that was taken is theirs
   abbrev pub Furthers : CoreArms → Type 0
@@ -169,7 +175,7 @@ module _ (m : Surroundings) where
   pub one_further : (l : List ℕ) (xs : List Binder) (e : CoreTree) (bs : CoreArms) → Parts m e → Furthers bs → Furthers (arm l xs e bs)
   one_further l xs e bs A next_ones B g t none = record {
     sound = λ s r u p w h. absurd (cc h);
-    complete = λ s u p w (ts, vs, d, more, i, v, n, y, z, f). absurd (cc f);
+    complete = λ s u p w (ts, vs, d, more, i, v, b, n, y, z, f). absurd (cc f);
   }
   one_further l xs e bs A next_ones B g t (part d ds) =
       let rest_agrees = agrees_further g (Arm B l xs e g d) (Further B bs g t ds) (arm_walk m.vars (bound_types m B l) xs (whole m.vars (row_walk m e) d)) (further_walk m B bs t ds)
@@ -189,14 +195,14 @@ module _ (m : Surroundings) where
       passed false F s r h = absurd (cc h)
 
       fits : (u : Vars) → Further B (arm l xs e bs) g t (part d ds) u → same_tree (type_of d) t ≡ true
-      fits u (ts, vs, d', more, i, v, n, y, z, f) = tree_itself (type_of d) t (ap type_of (same_part d d' ds more f).0 ∙ y.wanted)
+      fits u (ts, vs, d', more, i, v, b, n, y, z, f) = tree_itself (type_of d) t (ap type_of (same_part d d' ds more f).0 ∙ y.wanted)
 
       to : same_tree (type_of d) t ≡ true → (u : Vars) → Arm B l xs e g d u × Further B bs g t ds u → Further B (arm l xs e bs) g t (part d ds) u
       to h u ((ts, i, (vs, v, n, y)), z) =
-          (ts, vs, d, ds, i, v, n, over_at m.vars t (Conversions m) (Rule m e (enter_all vs g)) (under_all vs u) d y (tree_same (type_of d) t h), z, refl)
+          (ts, vs, d, ds, i, v, all_any ts, n, over_at m.vars t (Conversions m) (Rule m e (enter_all vs g)) (under_all vs u) d y (tree_same (type_of d) t h), z, refl)
 
       from : (u : Vars) → Further B (arm l xs e bs) g t (part d ds) u → Arm B l xs e g d u × Further B bs g t ds u
-      from u (ts, vs, d', more, i, v, n, y, z, f) =
+      from u (ts, vs, d', more, i, v, b, n, y, z, f) =
           let same = same_part d d' ds more f in
           let y' = at_over m.vars t (Conversions m) (Rule m e (enter_all vs g)) (under_all vs u) d' y in
           ((ts, i, (vs, v, n, subst (λ k. Part m e (enter_all vs g) k (under_all vs u)) (sym same.0) y')), subst (λ k. Further B bs g t k u) (sym same.1) z)
@@ -204,7 +210,7 @@ module _ (m : Surroundings) where
   -- ---- all arms
 
   abbrev pub ArmsOf : Binding → CoreArms → List Variable → Tree → Derivs → Vars → Type 0
-  ArmsOf B bs g t ds u = Arms m (Conversions m) (Conversions m) B bs g u t ds
+  ArmsOf B bs g t ds u = Arms m (mode m) B bs g u t ds
 
   abbrev pub All : CoreArms → Type 0
   All bs = (B : Binding) (g : List Variable) (t : Tree) (ds : Derivs) → Decides g (ArmsOf B bs g t ds) (arms_walk m B bs t ds)
@@ -214,13 +220,13 @@ module _ (m : Surroundings) where
 
   pub arm_all : (l : List ℕ) (xs : List Binder) (e : CoreTree) (bs : CoreArms) → Parts m e → Furthers bs → All (arm l xs e bs)
   arm_all l xs e bs A next_ones B g t none =
-      decides_never g (ArmsOf B (arm l xs e bs) g t none) (λ u (ts, vs, d, more, i, v, n, y, z, k, f). absurd (cc f))
+      decides_never g (ArmsOf B (arm l xs e bs) g t none) (λ u (ts, vs, d, more, i, v, b, n, y, z, k, f). absurd (cc f))
   arm_all l xs e bs A next_ones B g t (part d ds) =
       decides_only g P (same_tree (type_of d) t) (λ s. next (G s) (further_walk m B bs t ds s))
-      (λ u (ts, vs, d', more, i, v, n, y, z, k, f). tree_itself (type_of d) t (ap type_of (same_part d d' ds more f).0 ∙ z))
+      (λ u (ts, vs, d', more, i, v, b, n, y, z, k, f). tree_itself (type_of d) t (ap type_of (same_part d d' ds more f).0 ∙ z))
       (λ h. decides_as g (λ u. Arm B l xs e g d u × Further B bs g t ds u) P (λ s. next (G s) (further_walk m B bs t ds s))
-      (λ u ((ts, i, (vs, v, n, y)), k). (ts, vs, d, ds, i, v, n, y, tree_same (type_of d) t h, k, refl))
-      (λ u (ts, vs, d', more, i, v, n, y, z, k, f).
+      (λ u ((ts, i, (vs, v, n, y)), k). (ts, vs, d, ds, i, v, all_any ts, n, y, tree_same (type_of d) t h, k, refl))
+      (λ u (ts, vs, d', more, i, v, b, n, y, z, k, f).
       let same = same_part d d' ds more f in
       ((ts, i, (vs, v, n, subst (λ j. Part m e (enter_all vs g) j (under_all vs u)) (sym same.0) y)), subst (λ j. Further B bs g t j u) (sym same.1) k))
       (decides_agreed g (Arm B l xs e g d) (Further B bs g t ds) G (further_walk m B bs t ds) (decides_arm B l xs e A g d) (next_ones B g t ds)))

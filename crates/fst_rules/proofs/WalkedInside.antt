@@ -43,9 +43,9 @@ no_use vars s t n e w h = let x = sym h ∙ ap (use_in vars) (sym e) ∙ of_use 
 module _ (m : Surroundings) where
   pub lambda_rows : (at : ℕ) (uses : Use) (k : ℕ) (x : Binder) (a : CoreTree) → Parts m a → Rows m (lambda at uses k x a)
   lambda_rows at uses k x a A g t ds =
-      decides_given g P (slice_get m.types k) F (λ u (s, n, d, p, w, o, y, e) h. let z = sym h ∙ p in absurd (cc z))
-      (λ s is. decides_given g P (use_in m.vars s) (F' s) (λ u (s', n, d, p, w, o, y, e) h. no_use m.vars s' s n (type_is s is s' p) w h)
-      (λ n w. decides_given g P (parts_1 ds) (F'' s n) (λ u (s', n', d, p, w', o, y, e) h. let z = sym h ∙ ap parts_1 (rows t (arrow uses s' (type_of d)) ds (one d) e).1 in absurd (cc z))
+      decides_given g P (slice_get m.types k) F (λ u (s, n, d, p, w, b, o, y, e) h. let z = sym h ∙ p in absurd (cc z))
+      (λ s is. decides_given g P (use_in m.vars s) (F' s) (λ u (s', n, d, p, w, b, o, y, e) h. no_use m.vars s' s n (type_is s is s' p) w h)
+      (λ n w. decides_given g P (parts_1 ds) (F'' s n) (λ u (s', n', d, p, w', b, o, y, e) h. let z = sym h ∙ ap parts_1 (rows t (arrow uses s' (type_of d)) ds (one d) e).1 in absurd (cc z))
       (λ d part. inner s n d is w (one_of ds d part))))
     where
       P : Vars → Type 0
@@ -70,14 +70,14 @@ module _ (m : Surroundings) where
       inner s n d is w same =
           let Z = λ (s' : Tree) (n' : Use) (d' : Deriv) (u : Vars). Part m a (record { type = s'; uses = n' } ∷ g) d' (under (is_once n') u) in
           decides_only g P (is_arrow (arrow_of t) uses s (type_of d)) (in_body uses (inside x.name (record { type = s; uses = n }) (whole m.vars (row_walk m a) d)))
-          (λ u (s', n', d', p, w', o, y, e).
+          (λ u (s', n', d', p, w', z, o, y, e).
           let r = rows t (arrow uses s' (type_of d')) ds (one d') e in
           let ps = type_is s is s' p in
           let pd = same_one d' d (sym r.1 ∙ same) in
           of_function t s (type_of d) uses (r.0 ∙ (λ i. arrow uses (ps i) (type_of (pd i)))))
           (λ b. decides_as g (λ u. (uses ≡ Many → u ≡ no_vars) × Z s n d u) P (in_body uses (inside x.name (record { type = s; uses = n }) (whole m.vars (row_walk m a) d)))
-          (λ u (o, y). (s, n, d, is, has_use m.vars s n w, o, y, as_row t (arrow uses s (type_of d)) ds (one d) (function t s (type_of d) uses b) same))
-          (λ u (s', n', d', p, w', o, y, e).
+          (λ u (o, y). (s, n, d, is, has_use m.vars s n w, tt, o, y, as_row t (arrow uses s (type_of d)) ds (one d) (function t s (type_of d) uses b) same))
+          (λ u (s', n', d', p, w', z, o, y, e).
           let r = rows t (arrow uses s' (type_of d')) ds (one d') e in
           let ps = type_is s is s' p in
           let pn = use_same m.vars s' s n' n ps w' w in

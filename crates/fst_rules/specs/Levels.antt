@@ -9,7 +9,7 @@ use Rattle.fst_context.specs.Vars.{no_vars}
 use Rattle.fst_terms.specs.declared.core_module.Module.{Module}
 use Rattle.fst_terms.specs.declared.global.GlobalEntry.{GlobalEntry}
 use Rattle.fst_derivations.specs.Modules.{surroundings}
-use Rattle.fst_derivations.specs.Rules.{Surroundings, Binding, fields, rest, Converted, At, Row}
+use Rattle.fst_derivations.specs.Rules.{Surroundings, Binding, fields, rest, Converted, converting, At, Row}
 use Rattle.fst_rules.specs.Walks.{Walk, nowhere, after, row_walk, walk_of}
 use Rattle.fst_rules.specs.declared.binding.Binds.{Binds}
 use Rattle.fst_rules.specs.declared.binding.Binds.TheVariants.{Fields, Rest}
@@ -49,5 +49,4 @@ binding_of (Rest s) = rest s.now
 abbrev pub IsDerived : Module → GlobalEntry → Deriv → Type 0
 IsDerived m g d =
     (t : Tree) × (slice_get m.types.items g.signature ≡ Some t) ×
-    At g.kinds.items t (Converted (IsAnyConversion g.kinds.items))
-    (Row (surroundings m g.kinds.items) (Converted (IsAnyConversion g.kinds.items)) (Converted (IsAnyConversion g.kinds.items)) g.body []) no_vars d
+    At g.kinds.items t (Converted (IsAnyConversion g.kinds.items)) (Row (surroundings m g.kinds.items) (converting (IsAnyConversion g.kinds.items)) g.body []) no_vars d

@@ -18,7 +18,7 @@ use Rattle.fst_context.specs.Vars.{Vars, under}
 use Rattle.fst_derivations.specs.Deriv.{Deriv, row, type_of, Derivs, none, part, one, two, three}
 use Rattle.fst_derivations.specs.Modules.{AreFamiliesFormed}
 use Rattle.fst_derivations.specs.Parts.{IsFormed, IsConversion, AreAt, enter_all, under_all}
-use Rattle.fst_derivations.specs.Rules.{Surroundings, Converted, Over, At, Binding, fields, rest, Binds, Row, Fields, Arms, FurtherArms}
+use Rattle.fst_derivations.specs.Rules.{Surroundings, Mode, Converted, converting, Over, At, Binding, fields, rest, Binds, Row, Fields, Arms, FurtherArms}
 use Rattle.fst_machine.specs.Free.{free, free_in, free_below, outside}
 use Rattle.fst_machine.specs.Machine.{in_either}
 use Rattle.fst_safety.specs.Running.{Equals, Alike, AreAlike, HasType, HaveTypes, ArmsHaveType}
@@ -47,8 +47,11 @@ module _ (m : Surroundings) (F : HasFormedParts m) (args : List Tree) (i : IsIns
   abbrev Cv : Deriv → Deriv → Type 0
   Cv = Converted (IsConversion m.vars)
 
+  abbrev S : Mode
+  S = converting (IsConversion m.vars)
+
   abbrev Rows : CoreTree → List Variable → Vars → Deriv → Type 0
-  Rows e g = Row m Cv Cv e g
+  Rows e g = Row m S e g
 
   abbrev In : Tree → Tree
   In t = instantiated args t
@@ -68,10 +71,10 @@ module _ (m : Surroundings) (F : HasFormedParts m) (args : List Tree) (i : IsIns
       subst (λ z. Runs h e z) x.wanted (type_equal (closed m) h e (In (type_of x.core)) (In (type_of d)) (f u x.core x.formed x.rule) (converted_in m.vars args i d x.core x.formed x.stands))
 
   set_of : (e : CoreTree) (g h : List Variable) (u : Vars) (d : Deriv) → IsInstanceOf args g h → Over m.vars Cv (Rows e g) u d → Alike h u (free e)
-  set_of e g h u d q x = alike_in args g h u (free e) q (set_is_free m Cv Cv e g u x.core x.rule)
+  set_of e g h u d q x = alike_in args g h u (free e) q (set_is_free m S e g u x.core x.rule)
 
   set_at : (t : Tree) (e : CoreTree) (g h : List Variable) (u : Vars) (d : Deriv) → IsInstanceOf args g h → At m.vars t Cv (Rows e g) u d → Alike h u (free e)
-  set_at t e g h u d q x = alike_in args g h u (free e) q (set_is_free m Cv Cv e g u x.core x.rule)
+  set_at t e g h u d q x = alike_in args g h u (free e) q (set_is_free m S e g u x.core x.rule)
 
   -- a term of a row's type
   made : (e : CoreTree) (h : List Variable) (c : Deriv) (t : Tree) (ds : Derivs) → c ≡ row t ds → Runs h e t → Runs h e (type_of c)
@@ -96,7 +99,7 @@ module _ (m : Surroundings) (F : HasFormedParts m) (args : List Tree) (i : IsIns
 
   mutual
     -- a row gives its term the instance of its type
-    pub typed : (e : CoreTree) (g h : List Variable) → IsInstanceOf args g h → (u : Vars) (c : Deriv) → IsFormed m.vars (type_of c) → Row m Cv Cv e g u c → HasType (closed m) h e (instantiated args (type_of c))
+    pub typed : (e : CoreTree) (g h : List Variable) → IsInstanceOf args g h → (u : Vars) (c : Deriv) → IsFormed m.vars (type_of c) → Row m S e g u c → HasType (closed m) h e (instantiated args (type_of c))
     typed (local at k) g h q u c f (v, x, p, e) =
         let r = found_in args g h q k v x in
         made (local at k) h c v.type none e (r.0, r.1, subst (λ z. Equals z (In v.type)) (sym r.2.type) (same c v.type none e f))
@@ -131,7 +134,7 @@ module _ (m : Surroundings) (F : HasFormedParts m) (args : List Tree) (i : IsIns
     typed (make at n k es) g h q u c f (o, ts, ds, p, z, x, e) =
         let all = fields_formed m.types o.fields.items ts (numbered_formed m.types m.families n k o F.families p) z in
         made (make at n k es) h c (named n) ds e (o, ts, p, z, typed_fields es ts g h q u ds all x, same c (named n) ds e f)
-    typed (lambda at uses k z a) g h q u c f (t, n, d, p, w, o, x, e) =
+    typed (lambda at uses k z a) g h q u c f (t, n, d, p, w, b, o, x, e) =
         let r = has_instance m.vars args t n i w in
         let V : Variable = record { type = t; uses = n } in
         let W : Variable = record { type = In t; uses = r.uses } in
@@ -194,7 +197,7 @@ module _ (m : Surroundings) (F : HasFormedParts m) (args : List Tree) (i : IsIns
     typed (if_else at a b o) g h q u c f (d, k, l, x, e) =
         let s = set_of b g h x.right k q x.second.0 in
         let s' = set_at (type_of k) o g h x.right l q x.second.1 in
-        let both = same_set g x.right (free b) (free o) (set_is_free m Cv Cv b g x.right x.second.0.core x.second.0.rule) (set_is_free m Cv Cv o g x.right x.second.1.core x.second.1.rule) in
+        let both = same_set g x.right (free b) (free o) (set_is_free m S b g x.right x.second.0.core x.second.0.rule) (set_is_free m S o g x.right x.second.1.core x.second.1.rule) in
         made (if_else at a b o) h c (type_of k) (three d k l) e (
           part_at (plain Truth) a g h x.left d (typed a g h q) x.first,
           part_of b g h x.right k (typed b g h q) x.second.0,
@@ -203,7 +206,7 @@ module _ (m : Surroundings) (F : HasFormedParts m) (args : List Tree) (i : IsIns
           apart_in h u x.left x.right (free a) (in_either b o) x.split (set_at (plain Truth) a g h x.left d q x.first) (alike_in args g h x.right (in_either b o) q both),
         )
     typed (case_of at a bs) g h q u c f (d, n, fam, t, ds, x, p, y, l, e) =
-        let s = alike_in args g h x.right (free_below bs) q (arms_set m Cv Cv (fields fam.makers.items) bs g x.right t ds x.second) in
+        let s = alike_in args g h x.right (free_below bs) q (arms_set m S (fields fam.makers.items) bs g x.right t ds x.second) in
         made (case_of at a bs) h c t (part d ds) e (
           n,
           fam,
@@ -211,7 +214,7 @@ module _ (m : Surroundings) (F : HasFormedParts m) (args : List Tree) (i : IsIns
           y,
           l,
           typed_arms (fields fam.makers.items) (fields fam.makers.items) (bound_fields n fam y) bs g h q x.right t ds x.second,
-          are_alike args g h x.right (free_below bs) q s bs (arms_sets m Cv Cv (fields fam.makers.items) bs g x.right t ds x.second),
+          are_alike args g h x.right (free_below bs) q s bs (arms_sets m S (fields fam.makers.items) bs g x.right t ds x.second),
           apart_in h u x.left x.right (free a) (free_below bs) x.split (set_of a g h x.left d q x.first) s,
         )
     typed (operate at o a b) g h q u c f (d, l, s, t, j, x, e) =
@@ -258,7 +261,7 @@ module _ (m : Surroundings) (F : HasFormedParts m) (args : List Tree) (i : IsIns
           same c t (one d) e f,
         )
     typed (match_with at a bs) g h q u c f (d, ls, t, ds, x, o, l, e) =
-        let s = alike_in args g h x.right (free_below bs) q (arms_set m Cv Cv (rest (type_of d)) bs g x.right t ds x.second) in
+        let s = alike_in args g h x.right (free_below bs) q (arms_set m S (rest (type_of d)) bs g x.right t ds x.second) in
         made (match_with at a bs) h c t (part d ds) e (
           In (type_of d),
           ls,
@@ -266,7 +269,7 @@ module _ (m : Surroundings) (F : HasFormedParts m) (args : List Tree) (i : IsIns
           offering_in args (type_of d) ls o,
           l,
           typed_arms (rest (type_of d)) (rest (In (type_of d))) (bound_rest (type_of d)) bs g h q x.right t ds x.second,
-          are_alike args g h x.right (free_below bs) q s bs (arms_sets m Cv Cv (rest (type_of d)) bs g x.right t ds x.second),
+          are_alike args g h x.right (free_below bs) q s bs (arms_sets m S (rest (type_of d)) bs g x.right t ds x.second),
           apart_in h u x.left x.right (free a) (free_below bs) x.split (set_of a g h x.left d q x.first) s,
         )
     typed (fork at a) g h q u c f (d, x, w, e) =
@@ -281,20 +284,20 @@ module _ (m : Surroundings) (F : HasFormedParts m) (args : List Tree) (i : IsIns
         )
 
     -- a constructor's arguments have the types of its fields
-    typed_fields : (es : CoreList) (ts : List Tree) (g h : List Variable) → IsInstanceOf args g h → (u : Vars) (ds : Derivs) → AllByRecursion (IsFormed []) ts → Fields m Cv Cv es ts g u ds → HaveTypes (closed m) h es ts
+    typed_fields : (es : CoreList) (ts : List Tree) (g h : List Variable) → IsInstanceOf args g h → (u : Vars) (ds : Derivs) → AllByRecursion (IsFormed []) ts → Fields m S es ts g u ds → HaveTypes (closed m) h es ts
     typed_fields no_terms [] g h q u ds f x = tt
     typed_fields no_terms (t ∷ ts) g h q u ds f x = absurd x
     typed_fields (term e es) [] g h q u ds f x = absurd x
     typed_fields (term e es) (t ∷ ts) g h q u ds f (d, more, x, p) = (
       subst (λ z. HasType (closed m) h e z) (closed_in args t f.0) (part_at t e g h x.left d (typed e g h q) x.first),
       typed_fields es ts g h q x.right more f.1 x.second,
-      apart_in h u x.left x.right (free e) (free_in es) x.split (set_at t e g h x.left d q x.first) (alike_in args g h x.right (free_in es) q (fields_set m Cv Cv es ts g x.right more x.second)),
+      apart_in h u x.left x.right (free e) (free_in es) x.split (set_at t e g h x.left d q x.first) (alike_in args g h x.right (free_in es) q (fields_set m S es ts g x.right more x.second)),
     )
 
     -- arms have the instance of their type, where their variables stand for instances
-    typed_arms : (B D : Binding) → Bound B D → (bs : CoreArms) (g h : List Variable) → IsInstanceOf args g h → (u : Vars) (t : Tree) (ds : Derivs) → Arms m Cv Cv B bs g u t ds → ArmsHaveType (closed m) D h bs (In t)
+    typed_arms : (B D : Binding) → Bound B D → (bs : CoreArms) (g h : List Variable) → IsInstanceOf args g h → (u : Vars) (t : Tree) (ds : Derivs) → Arms m S B bs g u t ds → ArmsHaveType (closed m) D h bs (In t)
     typed_arms B D b no_arms g h q u t ds x = absurd x
-    typed_arms B D b (arm l xs e bs) g h q u t ds (ts, vs, d, more, j, k, n, x, p, y, z) =
+    typed_arms B D b (arm l xs e bs) g h q u t ds (ts, vs, d, more, j, k, v, n, x, p, y, z) =
         let r = variables_in m.vars args i ts vs k in
         let q' = entered_in args vs r.0 g h r.2 q in (
           map (instantiated args) ts,
@@ -307,9 +310,9 @@ module _ (m : Surroundings) (F : HasFormedParts m) (args : List Tree) (i : IsIns
           typed_further B D b bs g h q u t more y,
         )
 
-    typed_further : (B D : Binding) → Bound B D → (bs : CoreArms) (g h : List Variable) → IsInstanceOf args g h → (u : Vars) (t : Tree) (ds : Derivs) → FurtherArms m Cv Cv B bs g u t ds → ArmsHaveType (closed m) D h bs (In t)
+    typed_further : (B D : Binding) → Bound B D → (bs : CoreArms) (g h : List Variable) → IsInstanceOf args g h → (u : Vars) (t : Tree) (ds : Derivs) → FurtherArms m S B bs g u t ds → ArmsHaveType (closed m) D h bs (In t)
     typed_further B D b no_arms g h q u t ds x = tt
-    typed_further B D b (arm l xs e bs) g h q u t ds (ts, vs, d, more, j, k, n, x, y, z) =
+    typed_further B D b (arm l xs e bs) g h q u t ds (ts, vs, d, more, j, k, v, n, x, y, z) =
         let r = variables_in m.vars args i ts vs k in
         let q' = entered_in args vs r.0 g h r.2 q in (
           map (instantiated args) ts,
@@ -323,11 +326,11 @@ module _ (m : Surroundings) (F : HasFormedParts m) (args : List Tree) (i : IsIns
         )
 
   -- a derivation gives its term the instance of its type
-  pub derived_typed : (e : CoreTree) (g h : List Variable) → IsInstanceOf args g h → (u : Vars) (d : Deriv) → Over m.vars (Converted (IsConversion m.vars)) (Row m (Converted (IsConversion m.vars)) (Converted (IsConversion m.vars)) e g) u d →
+  pub derived_typed : (e : CoreTree) (g h : List Variable) → IsInstanceOf args g h → (u : Vars) (d : Deriv) → Over m.vars (Converted (IsConversion m.vars)) (Row m (converting (IsConversion m.vars)) e g) u d →
       HasType (closed m) h e (instantiated args (type_of d))
   derived_typed e g h q u d x = part_of e g h u d (typed e g h q) x
 
   -- and so does one at the type that is wanted
-  pub wanted_typed : (t : Tree) (e : CoreTree) (g h : List Variable) → IsInstanceOf args g h → (u : Vars) (d : Deriv) → At m.vars t (Converted (IsConversion m.vars)) (Row m (Converted (IsConversion m.vars)) (Converted (IsConversion m.vars)) e g) u d →
+  pub wanted_typed : (t : Tree) (e : CoreTree) (g h : List Variable) → IsInstanceOf args g h → (u : Vars) (d : Deriv) → At m.vars t (Converted (IsConversion m.vars)) (Row m (converting (IsConversion m.vars)) e g) u d →
       HasType (closed m) h e (instantiated args t)
   wanted_typed t e g h q u d x = part_at t e g h u d (typed e g h q) x

@@ -15,7 +15,7 @@ use Rattle.fst_context.specs.Vars.{no_vars}
 use Rattle.fst_derivations.specs.Deriv.{Deriv}
 use Rattle.fst_derivations.specs.Modules.{HasDerivations, surroundings, AreDerived, IsFormedAt, AreGlobalsFormed, ArePrintable, HavePrintableFields, AreFamiliesPrintable, IsPrintable}
 use Rattle.fst_derivations.specs.Parts.{IsFormed, IsConversion, AreAt}
-use Rattle.fst_derivations.specs.Rules.{Converted, At, Row}
+use Rattle.fst_derivations.specs.Rules.{Converted, converting, At, Row}
 use Rattle.fst_safety.specs.Running.{HasType}
 use Rattle.fst_safety.specs.WellTyped.{IsFieldType, IsWellTyped}
 use Rattle.fst_safety.proofs.AtOnce.{HasFormedParts, wanted_typed}
@@ -66,8 +66,7 @@ signature_formed types (p ∷ gs) (suc k) g t h e s = signature_formed types gs 
 abbrev HasDerivation : Module → GlobalEntry → Type 0
 HasDerivation m g =
     (d : Deriv) × (t : Tree) × (slice_get m.types.items g.signature ≡ Some t) ×
-    At g.kinds.items t (Converted (IsConversion g.kinds.items))
-    (Row (surroundings m g.kinds.items) (Converted (IsConversion g.kinds.items)) (Converted (IsConversion g.kinds.items)) g.body []) no_vars d
+    At g.kinds.items t (Converted (IsConversion g.kinds.items)) (Row (surroundings m g.kinds.items) (converting (IsConversion g.kinds.items)) g.body []) no_vars d
 
 derived_at : (m : Module) (gs : List GlobalEntry) (ds : List Deriv) (k : ℕ) (g : GlobalEntry) → AreDerived m IsConversion gs ds → slice_get gs k ≡ Some g → HasDerivation m g
 derived_at m [] ds k g h e = absurd (cc e)

@@ -8,7 +8,7 @@ use Rattle.fst_context.specs.Scope.{Variable, is_once}
 use Rattle.fst_context.specs.Vars.{Vars, no_vars, under, single, IsSplit}
 use Rattle.fst_derivations.specs.Deriv.{Deriv, Derivs}
 use Rattle.fst_derivations.specs.Parts.{enter_all, under_all}
-use Rattle.fst_derivations.specs.Rules.{Surroundings, Binding, Row, Fields, Arms, FurtherArms}
+use Rattle.fst_derivations.specs.Rules.{Surroundings, Mode, Binding, Row, Fields, Arms, FurtherArms}
 use Rattle.fst_machine.specs.Free.{free, free_in, free_below, is, outside, outside_all}
 
 -- of these variables the set has just the linear ones that p has
@@ -72,10 +72,10 @@ below_set g u p no_arms f h = λ k v x. sym (or_itself (u k)) ∙ (λ i. f k v x
     and_none false c = refl
 below_set g u p (arm l xs e bs) f h = same_set g u p (free_below (arm l xs e bs)) f (below_set g u (outside_all xs (free e)) bs h.0 h.1)
 
-module _ (m : Surroundings) (A C : Deriv → Deriv → Type 0) where
+module _ (m : Surroundings) (S : Mode) where
   mutual
     -- the set of a row has the linear variables that its term has free
-    pub set_is_free : (e : CoreTree) (g : List Variable) (u : Vars) (c : Deriv) → Row m A C e g u c → IsSetOf g u (free e)
+    pub set_is_free : (e : CoreTree) (g : List Variable) (u : Vars) (c : Deriv) → Row m S e g u c → IsSetOf g u (free e)
     set_is_free (local at j) g u c (w, x, s, e) = λ k v y. ap (λ z. z k) s ∙ single_set g j k w v x y
     set_is_free (global at k ks) g u c (f, t, ts, x, y, z, i, s, e) = no_set g u s
     set_is_free (int at n) g u c (s, e) = no_set g u s
@@ -85,7 +85,7 @@ module _ (m : Surroundings) (A C : Deriv → Deriv → Type 0) where
     set_is_free (pair at a b) g u c (d, h, x, e) =
         split_set g u x.left x.right (free a) (free b) x.split (set_is_free a g x.left x.first.core x.first.rule) (set_is_free b g x.right x.second.core x.second.rule)
     set_is_free (make at n k es) g u c (o, ts, ds, p, q, x, e) = fields_set es ts g u ds x
-    set_is_free (lambda at uses k z a) g u c (t, n, d, p, w, o, x, e) =
+    set_is_free (lambda at uses k z a) g u c (t, n, d, p, w, b, o, x, e) =
         outside_set g (record { type = t; uses = n }) (is_once n) u (free a) (set_is_free a (record { type = t; uses = n } ∷ g) (under (is_once n) u) x.core x.rule)
     set_is_free (apply at a b) g u c (d, h, uses, s, t, x, p, e) =
         split_set g u x.left x.right (free a) (free b) x.split (set_is_free a g x.left x.first.core x.first.rule) (set_is_free b g x.right x.second.core x.second.rule)
@@ -116,7 +116,7 @@ module _ (m : Surroundings) (A C : Deriv → Deriv → Type 0) where
         split_set g u x.left x.right (free a) (free b) x.split (set_is_free a g x.left x.first.core x.first.rule) (set_is_free b g x.right x.second.core x.second.rule)
 
     -- so has that of a constructor's arguments
-    pub fields_set : (es : CoreList) (ts : List Tree) (g : List Variable) (u : Vars) (ds : Derivs) → Fields m A C es ts g u ds → IsSetOf g u (free_in es)
+    pub fields_set : (es : CoreList) (ts : List Tree) (g : List Variable) (u : Vars) (ds : Derivs) → Fields m S es ts g u ds → IsSetOf g u (free_in es)
     fields_set no_terms [] g u ds (s, e) = no_set g u s
     fields_set no_terms (t ∷ ts) g u ds x = absurd x
     fields_set (term e es) [] g u ds x = absurd x
@@ -124,18 +124,18 @@ module _ (m : Surroundings) (A C : Deriv → Deriv → Type 0) where
         split_set g u x.left x.right (free e) (free_in es) x.split (set_is_free e g x.left x.first.core x.first.rule) (fields_set es ts g x.right more x.second)
 
     -- and that of arms, below what these bind
-    pub arms_set : (B : Binding) (bs : CoreArms) (g : List Variable) (u : Vars) (t : Tree) (ds : Derivs) → Arms m A C B bs g u t ds → IsSetOf g u (free_below bs)
+    pub arms_set : (B : Binding) (bs : CoreArms) (g : List Variable) (u : Vars) (t : Tree) (ds : Derivs) → Arms m S B bs g u t ds → IsSetOf g u (free_below bs)
     arms_set B no_arms g u t ds x = absurd x
-    arms_set B (arm l xs e bs) g u t ds (ts, vs, d, more, i, j, n, x, p, y, q) =
+    arms_set B (arm l xs e bs) g u t ds (ts, vs, d, more, i, j, r, n, x, p, y, q) =
         below_set g u (outside_all xs (free e)) bs (inside_set vs xs g u (free e) n (set_is_free e (enter_all vs g) (under_all vs u) x.core x.rule)) (further_sets B bs g u t more y)
 
-    further_sets : (B : Binding) (bs : CoreArms) (g : List Variable) (u : Vars) (t : Tree) (ds : Derivs) → FurtherArms m A C B bs g u t ds → AreSetsOf g u bs
+    further_sets : (B : Binding) (bs : CoreArms) (g : List Variable) (u : Vars) (t : Tree) (ds : Derivs) → FurtherArms m S B bs g u t ds → AreSetsOf g u bs
     further_sets B no_arms g u t ds x = tt
-    further_sets B (arm l xs e bs) g u t ds (ts, vs, d, more, i, j, n, x, y, q) =
+    further_sets B (arm l xs e bs) g u t ds (ts, vs, d, more, i, j, r, n, x, y, q) =
         (inside_set vs xs g u (free e) n (set_is_free e (enter_all vs g) (under_all vs u) x.core x.rule), further_sets B bs g u t more y)
 
   -- each arm has the set of all
-  pub arms_sets : (B : Binding) (bs : CoreArms) (g : List Variable) (u : Vars) (t : Tree) (ds : Derivs) → Arms m A C B bs g u t ds → AreSetsOf g u bs
+  pub arms_sets : (B : Binding) (bs : CoreArms) (g : List Variable) (u : Vars) (t : Tree) (ds : Derivs) → Arms m S B bs g u t ds → AreSetsOf g u bs
   arms_sets B no_arms g u t ds x = absurd x
-  arms_sets B (arm l xs e bs) g u t ds (ts, vs, d, more, i, j, n, x, p, y, q) =
+  arms_sets B (arm l xs e bs) g u t ds (ts, vs, d, more, i, j, r, n, x, p, y, q) =
       (inside_set vs xs g u (free e) n (set_is_free e (enter_all vs g) (under_all vs u) x.core x.rule), further_sets B bs g u t more y)

@@ -9,14 +9,15 @@ use Rattle.fst_context.specs.Scope.{Scope, Takes}
 use Rattle.fst_derivations.specs.Deriv.{Deriv, convert, deriv_of, none, part, parts_of, row, type_of}
 use Rattle.fst_derivations.specs.declared.derivation.Derivation.{Derivation}
 use Rattle.fst_derivations.specs.Parts.{IsFormed, enter_all, under_all}
-use Rattle.fst_derivations.specs.Rules.{Bare, Binding, Compared, FurtherArms}
+use Rattle.fst_derivations.specs.Rules.{Binding, FurtherArms}
 use Rattle.fst_typing.specs.Scenes.{AreArmsReady, AreArmsTyped, IsArmReady, IsArmTyped, IsFirstTyped, ShowsArm}
 use Rattle.fst_premises.specs.Shown.{UseDifferent, place}
 use Rattle.fst_typing.specs.Shown.{IsUnequal, ShowsArms, ShowsFurther}
-use Rattle.fst_premises.specs.Checks.{Check}
-use Rattle.fst_typing.specs.Typed.{IsKnown, IsPlain}
+use Rattle.fst_premises.specs.Checks.{Check, IsInSize}
+use Rattle.fst_typing.specs.Typed.{IsKnown, IsPlain, checking}
 use Rattle.fst_premises.specs.declared.fault.CheckFault.{CheckFault}
 use Rattle.fst_typing.proofs.Arms.{ArmsSoFar, arms_end, arms_start, arms_step}
+use Rattle.fst_typing.proofs.Refusals.{behind_under, under_more}
 use Rattle.fst_typing.proofs.Under.{takes_under}
 
 module _ (c : Check) (B : Binding) where
@@ -27,6 +28,7 @@ module _ (c : Check) (B : Binding) where
     pub is : parts ≡ first ∷ others
     pub value : deriv_of first ≡ d
     pub formed : IsFormed c.surroundings.vars t
+    pub small : IsInSize t
     pub ready : AreArmsReady c B (core_arms_of (drop i arms)) before.variables
     pub arms_so_far : ArmsSoFar c B arms i before after t others
 
@@ -57,6 +59,7 @@ module _ (c : Check) (B : Binding) where
         is = q;
         value = refl;
         formed = subst (IsFormed c.surroundings.vars) (sym n) y.typed.typed.fact.formed;
+        small = subst IsInSize (sym n) y.typed.typed.fact.small;
         ready = later_arms arms 0 a before h l e;
         arms_so_far = subst (λ o. ArmsSoFar c B arms 1 before after o (p ∷ [])) (sym n)
             (subst (λ xs. ArmsSoFar c B xs 1 before after (type_of (deriv_of p)) (p ∷ [])) (sym front) (arms_start c B a (drop 1 arms) y.types (deriv_of p) p before after y.binds y.typed refl));
@@ -82,6 +85,7 @@ module _ (c : Check) (B : Binding) where
     is = g ∙ ap (λ xs. xs ++ p ∷ []) h.is;
     value = h.value;
     formed = h.formed;
+    small = h.small;
     ready = later_arms arms i a before h.ready l e;
     arms_so_far = arms_step c B arms i a y.types d p t before now after h.others (h.others ++ p ∷ []) h.arms_so_far l (sym e) y.binds y.typed n k q refl;
   }
@@ -93,6 +97,7 @@ module _ (c : Check) (B : Binding) where
     parts = parts_of h.others;
     is = q ∙ ap (λ xs. row t (parts_of xs)) h.is ∙ ap (λ o. row t (part o (parts_of h.others))) h.value;
     formed = h.formed;
+    small = h.small;
     takes = arms_end c B arms before after t h.others h.arms_so_far;
   }
 
@@ -105,17 +110,17 @@ module _ (c : Check) (B : Binding) where
   pub further_refused : (arms : List Arm) (i : ℕ) (a : Arm) (before after : Scope) (t : Tree) (v : Deriv) (parts : List Derivation) (f : CheckFault) → RowSoFar arms i before after v t parts → i < length arms → a ≡ get_or arms i a →
       ShowsArm c B a.label a.binders.items a.body before f → ShowsArms c B (core_arms_of arms) before f
   further_refused arms i a before after t v parts f h l e (ts, b, inl y) = shown_at arms i a before after t v parts f h l e (ts, b, inl y)
-  further_refused arms i a before after t v parts f h l e (ts, b, inr y) = shown_at arms i a before after t v parts f h l e (ts, b, inr (inl y))
+  further_refused arms i a before after t v parts f h l e (ts, b, inr y) = shown_at arms i a before after t v parts f h l e (ts, b, inr (under_more y))
 
   pub further_different : (arms : List Arm) (i : ℕ) (a : Arm) (before now after : Scope) (t : Tree) (v d : Deriv) (parts : List Derivation) (f : CheckFault) → RowSoFar arms i before after v t parts → i < length arms → a ≡ get_or arms i a →
       IsArmTyped c B a.label a.binders.items before now a.body d → UseDifferent (place a.body) after now f → ShowsArms c B (core_arms_of arms) before f
   further_different arms i a before now after t v d parts f h l e y u =
-      shown_at arms i a before after t v parts f h l e (y.types, y.binds, inr (inr (record { scope = now; derivation = d; typed = y.typed; then = inl u })))
+      shown_at arms i a before after t v parts f h l e (y.types, y.binds, inr (behind_under y.typed (inl u)))
 
   pub further_unequal : (arms : List Arm) (i : ℕ) (a : Arm) (before now after : Scope) (t : Tree) (v d : Deriv) (parts : List Derivation) (f : CheckFault) → RowSoFar arms i before after v t parts → i < length arms → a ≡ get_or arms i a →
       IsArmTyped c B a.label a.binders.items before now a.body d → now ≡ after → IsUnequal c (place a.body) (type_of d) t f → ShowsArms c B (core_arms_of arms) before f
   further_unequal arms i a before now after t v d parts f h l e y n u =
-      shown_at arms i a before after t v parts f h l e (y.types, y.binds, inr (inr (record { scope = now; derivation = d; typed = y.typed; then = inr (n, inl u) })))
+      shown_at arms i a before after t v parts f h l e (y.types, y.binds, inr (behind_under y.typed (inr (n, inl u))))
 
   -- the first arm is
   pub first_refused : (arms : List Arm) (a : Arm) (before : Scope) (f : CheckFault) → 0 < length arms → a ≡ get_or arms 0 a → ShowsArm c B a.label a.binders.items a.body before f → ShowsArms c B (core_arms_of arms) before f
@@ -123,7 +128,7 @@ module _ (c : Check) (B : Binding) where
     where
       turn : ShowsArm c B a.label a.binders.items a.body before f → ShowsArms c B (core_arms_of (a ∷ drop 1 arms)) before f
       turn (ts, b, inl z) = (ts, b, inl z)
-      turn (ts, b, inr z) = (ts, b, inr (inl z))
+      turn (ts, b, inr z) = (ts, b, inr (under_more z))
 
   first_some : (arms : List Arm) (before after : Scope) (d : Deriv) → IsFirstTyped c B (core_arms_of arms) before after d → 0 < length arms
   first_some [] before after d y = absurd y
@@ -139,5 +144,5 @@ module _ (c : Check) (B : Binding) where
   arm_takes a before after d y = takes_under c a.binders.items y.types before after a.body d y.typed
 
   -- what all arms take
-  pub row_takes : (arms : List Arm) (i : ℕ) (before after : Scope) (v : Deriv) (t : Tree) (parts : List Derivation) → RowSoFar arms i before after v t parts → Takes (λ u. FurtherArms c.surroundings Bare (Compared (IsKnown c)) B no_arms before.variables u t none) before after
+  pub row_takes : (arms : List Arm) (i : ℕ) (before after : Scope) (v : Deriv) (t : Tree) (parts : List Derivation) → RowSoFar arms i before after v t parts → Takes (λ u. FurtherArms c.surroundings (checking c) B no_arms before.variables u t none) before after
   row_takes arms i before after v t parts h = h.arms_so_far.reached

@@ -12,12 +12,13 @@ use Rattle.fst_context.proofs.Laws.{takes_as, takes_same}
 use Rattle.fst_derivations.specs.Deriv.{Deriv, Derivs, convert, deriv_of, none, part, parts_of, type_of}
 use Rattle.fst_derivations.specs.declared.derivation.Derivation.{Derivation}
 use Rattle.fst_derivations.specs.Parts.{enter_all, under_all}
-use Rattle.fst_derivations.specs.Rules.{Bare, Binding, Binds, Compared, Arms, FurtherArms}
+use Rattle.fst_derivations.specs.Rules.{Binding, Binds, Arms, FurtherArms}
 use Rattle.fst_typing.specs.Shown.{ShowsArms, ShowsFurther}
 use Rattle.fst_premises.specs.Checks.{Check}
-use Rattle.fst_typing.specs.Typed.{IsKnown, IsPlain, IsTypedUnder}
+use Rattle.fst_typing.specs.Typed.{IsKnown, IsPlain, IsTypedUnder, checking}
 use Rattle.fst_premises.specs.declared.fault.CheckFault.{CheckFault}
 use Rattle.fst_typing.proofs.Forms.{over, at_type}
+use Rattle.fst_typing.proofs.Refusals.{behind_under}
 use Rattle.fst_typing.proofs.Under.{takes_under}
 
 module _ (c : Check) (B : Binding) where
@@ -27,24 +28,24 @@ module _ (c : Check) (B : Binding) where
 
   -- arms behind the first, of its type
   abbrev Further : List Variable → CoreArms → Tree → Derivs → Vars → Type 0
-  Further g bs t ds u = FurtherArms c.surroundings Bare (Compared (IsKnown c)) B bs g u t ds
+  Further g bs t ds u = FurtherArms c.surroundings (checking c) B bs g u t ds
 
   -- all arms
   abbrev All : List Variable → CoreArms → Tree → Derivs → Vars → Type 0
-  All g bs t ds u = Arms c.surroundings Bare (Compared (IsKnown c)) B bs g u t ds
+  All g bs t ds u = Arms c.surroundings (checking c) B bs g u t ds
 
   pub first_typed : (l : List ℕ) (xs : List Binder) (e : CoreTree) (bs : CoreArms) (ts : List Tree) (d : Deriv) (more : Derivs) (r s : Scope) → Binds c.surroundings B l ts →
       IsTypedUnder c xs ts r s e d → Takes (Further r.variables bs (type_of d) more) r s → Takes (All r.variables (arm l xs e bs) (type_of d) (part d more)) r s
   first_typed l xs e bs ts d more r s b y z =
       takes_as (λ u. Taken r y.variables e d u × Further r.variables bs (type_of d) more u) (All r.variables (arm l xs e bs) (type_of d) (part d more)) r s
-      (λ u p. (ts, y.variables, d, more, b, y.types, y.long, over c e (enter_all y.variables r.variables) d (under_all y.variables u) p.0, refl, p.1, refl))
+      (λ u p. (ts, y.variables, d, more, b, y.types, y.small, y.long, over c e (enter_all y.variables r.variables) d (under_all y.variables u) p.0, refl, p.1, refl))
       (takes_same (Taken r y.variables e d) (Further r.variables bs (type_of d) more) r s (takes_under c xs ts r s e d y) z)
 
   pub further_typed : (l : List ℕ) (xs : List Binder) (e : CoreTree) (bs : CoreArms) (ts : List Tree) (d : Deriv) (t : Tree) (more : Derivs) (r s : Scope) → Binds c.surroundings B l ts →
       IsTypedUnder c xs ts r s e d → IsKnown c (type_of d) t → Takes (Further r.variables bs t more) r s → Takes (Further r.variables (arm l xs e bs) t (part (convert (type_of d) t d) more)) r s
   further_typed l xs e bs ts d t more r s b y k z =
       takes_as (λ u. Taken r y.variables e d u × Further r.variables bs t more u) (Further r.variables (arm l xs e bs) t (part (convert (type_of d) t d) more)) r s
-      (λ u p. (ts, y.variables, convert (type_of d) t d, more, b, y.types, y.long, at_type c e (enter_all y.variables r.variables) t d (under_all y.variables u) k p.0, p.1, refl))
+      (λ u p. (ts, y.variables, convert (type_of d) t d, more, b, y.types, y.small, y.long, at_type c e (enter_all y.variables r.variables) t d (under_all y.variables u) k p.0, p.1, refl))
       (takes_same (Taken r y.variables e d) (Further r.variables bs t more) r s (takes_under c xs ts r s e d y) z)
 
   pub none_typed : (t : Tree) (r s : Scope) (l : List ℕ) (xs : List Binder) (e : CoreTree) (ts : List Tree) (d : Deriv) → IsTypedUnder c xs ts r s e d → Takes (Further r.variables no_arms t none) r s
@@ -64,7 +65,7 @@ module _ (c : Check) (B : Binding) where
     reached = none_typed (type_of d) before after a.label a.binders.items a.body ts d y;
     typed = λ more z. subst (λ o. Takes (All before.variables (core_arms_of (a ∷ arms)) (type_of d) (part o (parts_of more))) before after) (sym e)
         (first_typed a.label a.binders.items a.body (core_arms_of arms) ts d (parts_of more) before after b y z);
-    shown = λ f z. (ts, b, inr (inr (record { scope = after; derivation = d; typed = y; then = z })));
+    shown = λ f z. (ts, b, inr (behind_under y z));
   }
 
   -- a further one
@@ -83,7 +84,7 @@ module _ (c : Check) (B : Binding) where
             (subst (λ o. Takes (Further before.variables (core_arms_of (a ∷ drop (i + 1) arms)) t (part o (parts_of more))) before after) (sym q)
             (further_typed a.label a.binders.items a.body (core_arms_of (drop (i + 1) arms)) ts d t (parts_of more) before after b y' k z))));
         shown = λ f z. h.shown f (subst (λ xs. ShowsFurther c B (core_arms_of xs) before after t f) (sym front)
-            (ts, b, inr (inr (record { scope = now; derivation = d; typed = y; then = inr (n, inr (k, z)) }))));
+            (ts, b, inr (behind_under y (inr (n, inr (k, z))))));
       }
 
   -- all of them

@@ -21,7 +21,7 @@ use Rattle.fst_derivations.specs.Rules.{fields, rest}
 use Rattle.fst_premises.specs.Scenes.{AreFormed, AreHeld, IsReady, IsSetUp, bounds}
 use Rattle.fst_premises.proofs.Laws.{closed_formed, numbers_long}
 use Rattle.fst_typing.specs.Scenes.{AreArmsReady, IsArmReady}
-use Rattle.fst_premises.specs.Checks.{Check}
+use Rattle.fst_premises.specs.Checks.{Check, IsInSize, AreInSize}
 use Rattle.fst_typing.specs.Typed.{IsTyped}
 use Rattle.fst_typing.proofs.Containing.{contains_first, contains_later, mapped_contains}
 use Rattle.fst_typing.proofs.Formed.{moved_formed, moving_session}
@@ -30,7 +30,7 @@ use Rattle.fst_typing.proofs.Named.{contained_named, family_named}
 use Rattle.fst_typing.proofs.Ready.{standing_parts}
 
 -- types of formed fields are formed over any variables
-types_formed : (vars : List Kind) (types : List Tree) (ks : List ℕ) (ts : List Tree) → AreFieldsFormed types ks → AreAt types ks ts → AreFormed vars ts
+pub types_formed : (vars : List Kind) (types : List Tree) (ks : List ℕ) (ts : List Tree) → AreFieldsFormed types ks → AreAt types ks ts → AreFormed vars ts
 types_formed vars types [] [] h a = tt
 types_formed vars types [] (t ∷ ts) h a = absurd a
 types_formed vars types (k ∷ ks) [] h a = absurd a
@@ -48,11 +48,11 @@ pub enter_length : (vs g : List Variable) → length (enter_all vs g) ≡ length
 enter_length [] g = omega arith
 enter_length (v ∷ vs) g = omega (arith, enter_length vs (v ∷ g))
 
-enter_held : (vars : List Kind) (ts : List Tree) (vs g : List Variable) → AreVariables vars ts vs → AreHeld vars g → AreHeld vars (enter_all vs g)
-enter_held vars [] [] g a h = h
-enter_held vars [] (v ∷ vs) g a h = absurd a
-enter_held vars (t ∷ ts) [] g a h = absurd a
-enter_held vars (t ∷ ts) (v ∷ vs) g a h = enter_held vars ts vs (v ∷ g) a.2 (subst (λ o. HasUse vars o v.uses) (sym a.0) a.1, h)
+enter_held : (vars : List Kind) (ts : List Tree) (vs g : List Variable) → AreVariables vars ts vs → AreInSize ts → AreHeld vars g → AreHeld vars (enter_all vs g)
+enter_held vars [] [] g a m h = h
+enter_held vars [] (v ∷ vs) g a m h = absurd a
+enter_held vars (t ∷ ts) [] g a m h = absurd a
+enter_held vars (t ∷ ts) (v ∷ vs) g a m h = enter_held vars ts vs (v ∷ g) a.2 m.1 (subst (λ o. HasUse vars o v.uses) (sym a.0) a.1, subst IsInSize (sym a.0) m.0, h)
 
 module _ (c : Check) where
   abbrev V : List Kind
@@ -78,9 +78,9 @@ module _ (c : Check) where
           binds = (named.0, named.1, types.1);
           formed = types_formed V T named.0.fields.items types.0 formed types.1;
           long = sym (long ∙ many);
-          body = λ vs a.
+          body = λ m vs a.
               let same : length xs + length v ≡ length (enter_all vs v) = omega (arith, enter_length vs v, variables_long V types.0 vs a, long, many) in
-              record { range = subst (λ m. IsInRange (bounds c) m t) same r.1; formed = parts.0; held = enter_held V types.0 vs v a u };
+              record { range = subst (λ m. IsInRange (bounds c) m t) same r.1; formed = parts.0; held = enter_held V types.0 vs v a m u };
         },
         case_arms_ready n g bs v s d e (λ x y. h x (contains_later l x (arm_labels bs) y)) r.2 parts.1 u,
       )
@@ -107,9 +107,9 @@ module _ (c : Check) where
         binds = (next, j, refl);
         formed = (moved_formed V t next (Offer l) (moving_session V t i.0 (Offer l) next i.1 (λ m z. cc z) j) j, tt);
         long = r.0;
-        body = λ vs a.
+        body = λ m vs a.
             let same : suc (length v) ≡ length (enter_all vs v) = omega (arith, enter_length vs v, variables_long V (next ∷ []) vs a) in
-            record { range = subst (λ m. IsInRange (bounds c) m e) same r.1; formed = p; held = enter_held V (next ∷ []) vs v a u };
+            record { range = subst (λ m. IsInRange (bounds c) m e) same r.1; formed = p; held = enter_held V (next ∷ []) vs v a m u };
       }
 
   pub match_ready : (at : ℕ) (a : CoreTree) (bs : CoreArms) (d : Deriv) (r s : Scope) (t : Tree) (ls : List (List ℕ)) → IsFormed V t → IsOffering t ls → AreEachOnce ls (arm_labels bs) → IsReady c (match_with at a bs) r.variables → IsTyped c r s a d →

@@ -17,13 +17,13 @@ use Rattle.fst_context.specs.Vars.{Vars, Both}
 use Rattle.fst_context.proofs.Laws.{takes_as, takes_both}
 use Rattle.fst_derivations.specs.Deriv.{Deriv, type_of}
 use Rattle.fst_derivations.specs.Parts.{AreAt, AreVariables, IsFormed, IsOffering, enter_all}
-use Rattle.fst_derivations.specs.Rules.{Arms, Bare, Binds, Compared, fields, rest}
+use Rattle.fst_derivations.specs.Rules.{Arms, Binds, fields, rest}
 use Rattle.fst_premises.specs.declared.choices.Constructors.{Constructors}
 use Rattle.fst_premises.specs.Scenes.{AreFormed, IsCase, IsReady}
 use Rattle.fst_premises.proofs.Laws.{numbers_long}
 use Rattle.fst_typing.specs.Scenes.{AreArmsTyped, IsArmReady}
-use Rattle.fst_premises.specs.Checks.{Check}
-use Rattle.fst_typing.specs.Typed.{IsKnown, IsPlain, IsTyped}
+use Rattle.fst_premises.specs.Checks.{Check, IsInSize, AreInSize}
+use Rattle.fst_typing.specs.Typed.{IsPlain, IsTyped, checking}
 use Rattle.fst_typing.proofs.Forms.{over, same_variables}
 
 pub some_arms : (arms : List Arm) → HasCoreArm (core_arms_of arms) → 0 < length arms
@@ -57,7 +57,7 @@ module _ (c : Check) where
     pub binds : Binds c.surroundings (fields ms) l types
     pub formed : AreFormed V types
     pub long : length xs ≡ length ks
-    pub body : (vs : List Variable) → AreVariables V types vs → IsReady c e (enter_all vs g)
+    pub body : AreInSize types → (vs : List Variable) → AreVariables V types vs → IsReady c e (enter_all vs g)
 
   pub fields_arm : (ms : List Maker) (k : ℕ) (o : Maker) (ks : List ℕ) (l : List ℕ) (xs : List Binder) (e : CoreTree) (g : List Variable) → IsArmReady c (fields ms) l xs e g → k < length ms →
       maker_named l ms ≡ slice_get ms k → o ≡ get_or ms k o → ks ≡ o.fields.items → FieldsArm ms ks l xs e g
@@ -70,23 +70,25 @@ module _ (c : Check) where
   pub case_typed : (at : ℕ) (a : CoreTree) (bs : CoreArms) (d w : Deriv) (r s z : Scope) (n : ℕ) (g : Family) → IsTyped c r s a d → type_of d ≡ named n → slice_get c.surroundings.families n ≡ Some g →
       AreEachOnce (map (λ (o : Maker). o.name) g.makers.items) (arm_labels bs) → AreArmsTyped c (fields g.makers.items) bs s z d w → IsTyped c r z (case_of at a bs) w
   case_typed at a bs d w r s z n g x t i o y =
-      let A : List Variable → Vars → Type 0 = λ v u. Arms c.surroundings Bare (Compared (IsKnown c)) (fields g.makers.items) bs v u y.type y.parts in
+      let A : List Variable → Vars → Type 0 = λ v u. Arms c.surroundings (checking c) (fields g.makers.items) bs v u y.type y.parts in
       let arms : Takes (A r.variables) s z = subst (λ v. Takes (A v) s z) (same_variables c (IsPlain c a r.variables d) r s x) y.takes in
       takes_as (Both (IsPlain c a r.variables d) (A r.variables)) (IsPlain c (case_of at a bs) r.variables w) r z
       (λ u j. record {
         rule = (d, n, g, y.type, y.parts, record { left = j.left; right = j.right; split = j.split; first = over c a r.variables d j.left j.first; second = j.second }, t, i, o, y.is);
         formed = subst (λ v. IsFormed V (type_of v)) (sym y.is) y.formed;
+        small = subst (λ v. IsInSize (type_of v)) (sym y.is) y.small;
       })
       (takes_both (IsPlain c a r.variables d) (A r.variables) r s z x arms)
 
   pub match_typed : (at : ℕ) (a : CoreTree) (bs : CoreArms) (d w : Deriv) (r s z : Scope) (ls : List (List ℕ)) → IsTyped c r s a d → IsOffering (type_of d) ls → AreEachOnce ls (arm_labels bs) →
       AreArmsTyped c (rest (type_of d)) bs s z d w → IsTyped c r z (match_with at a bs) w
   match_typed at a bs d w r s z ls x i o y =
-      let A : List Variable → Vars → Type 0 = λ v u. Arms c.surroundings Bare (Compared (IsKnown c)) (rest (type_of d)) bs v u y.type y.parts in
+      let A : List Variable → Vars → Type 0 = λ v u. Arms c.surroundings (checking c) (rest (type_of d)) bs v u y.type y.parts in
       let arms : Takes (A r.variables) s z = subst (λ v. Takes (A v) s z) (same_variables c (IsPlain c a r.variables d) r s x) y.takes in
       takes_as (Both (IsPlain c a r.variables d) (A r.variables)) (IsPlain c (match_with at a bs) r.variables w) r z
       (λ u j. record {
         rule = (d, ls, y.type, y.parts, record { left = j.left; right = j.right; split = j.split; first = over c a r.variables d j.left j.first; second = j.second }, i, o, y.is);
         formed = subst (λ v. IsFormed V (type_of v)) (sym y.is) y.formed;
+        small = subst (λ v. IsInSize (type_of v)) (sym y.is) y.small;
       })
       (takes_both (IsPlain c a r.variables d) (A r.variables) r s z x arms)

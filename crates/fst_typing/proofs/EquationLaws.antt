@@ -11,12 +11,12 @@ use Rattle.fst_context.specs.Vars.{Vars, no_vars, under}
 use Rattle.fst_context.proofs.Laws.{takes_as, takes_body, takes_inside}
 use Rattle.fst_derivations.specs.Deriv.{Deriv, row, convert, type_of, one}
 use Rattle.fst_derivations.specs.Parts.{IsFormed, enter_all}
-use Rattle.fst_derivations.specs.Rules.{Surroundings, Bare, Compared, At, PlainRow}
+use Rattle.fst_derivations.specs.Rules.{Surroundings, Mode, At, Row}
 use Rattle.fst_derivations.specs.Modules.{Equation, IsParameter}
 use Rattle.fst_premises.specs.Scenes.{IsReady}
 use Rattle.fst_premises.specs.Scopes.{AreUsed, after_body, inside}
-use Rattle.fst_premises.specs.Checks.{Check}
-use Rattle.fst_typing.specs.Typed.{IsKnown, IsPlain, IsTyped}
+use Rattle.fst_premises.specs.Checks.{Check, IsInSize}
+use Rattle.fst_typing.specs.Typed.{IsKnown, IsPlain, IsTyped, checking}
 use Rattle.fst_premises.specs.Shown.{IsTooLargeAt, IsUnused, ShowsUnused}
 use Rattle.fst_premises.specs.Parameters.{AreEntered, HasNoParameter, HasParameter, IsEntered}
 use Rattle.fst_typing.specs.Equations.{IsEquationTyped, IsParameterTyped, ShowsEquation, ShowsResult, UnderParameter}
@@ -34,8 +34,11 @@ module _ (c : Check) where
   abbrev E : Tree → Tree → Type 0
   E = IsKnown c
 
+  abbrev S : Mode
+  S = checking c
+
   -- without a parameter in front an equation is derived as its term is, with a comparison
-  pub result_derived : (e : CoreTree) (t : Tree) (g : List Variable) (u : Vars) (d : Deriv) → HasNoParameter c e t → At M.vars t (Compared E) (PlainRow M E e g) u d → Equation M Bare (Compared E) e t g u d
+  pub result_derived : (e : CoreTree) (t : Tree) (g : List Variable) (u : Vars) (d : Deriv) → HasNoParameter c e t → At M.vars t S.compared (Row M S e g) u d → Equation M S e t g u d
   result_derived (local at k) t g u d n h = h
   result_derived (global at k ks) t g u d n h = h
   result_derived (int at i) t g u d n h = h
@@ -89,8 +92,8 @@ module _ (c : Check) where
   -- the term that was found, compared with the type
   pub result_typed : (e : CoreTree) (t : Tree) (r s : Scope) (d h : Deriv) → HasNoParameter c e t → IsTyped c r s e d → E (type_of d) t → h ≡ convert (type_of d) t d → IsEquationTyped c t r s e h
   result_typed e t r s d h n y k is =
-      takes_as (IsPlain c e r.variables d) (λ u. Equation M Bare (Compared E) e t r.variables u h) r s
-      (λ u p. subst (λ w. Equation M Bare (Compared E) e t r.variables u w) (sym is) (result_derived e t r.variables u (convert (type_of d) t d) n (at_type c e r.variables t d u k p)))
+      takes_as (IsPlain c e r.variables d) (λ u. Equation M S e t r.variables u h) r s
+      (λ u p. subst (λ w. Equation M S e t r.variables u w) (sym is) (result_derived e t r.variables u (convert (type_of d) t d) n (at_type c e r.variables t d u k p)))
       y
 
   -- a parameter as the definition of derivations has it
@@ -99,30 +102,30 @@ module _ (c : Check) where
 
   -- what is taken under a parameter
   under_taken : (x : Binder) (from to : Tree) (r z : Scope) (a : CoreTree) (b : Deriv) (y : IsParameterTyped c x from to r z a b) →
-      Takes (λ u. Equation M Bare (Compared E) a to (record { type = from; uses = y.uses } ∷ r.variables) (under (is_once y.uses) u) b) r z
+      Takes (λ u. Equation M S a to (record { type = from; uses = y.uses } ∷ r.variables) (under (is_once y.uses) u) b) r z
   under_taken x from to r z a b y =
-      subst (λ o. Takes (λ u. Equation M Bare (Compared E) a to (record { type = from; uses = y.uses } ∷ r.variables) (under (is_once y.uses) u) b) r o) (sym y.left)
-      (takes_inside (λ u. Equation M Bare (Compared E) a to (record { type = from; uses = y.uses } ∷ r.variables) u b) x.name (record { type = from; uses = y.uses }) r y.inner y.typed y.used)
+      subst (λ o. Takes (λ u. Equation M S a to (record { type = from; uses = y.uses } ∷ r.variables) (under (is_once y.uses) u) b) r o) (sym y.left)
+      (takes_inside (λ u. Equation M S a to (record { type = from; uses = y.uses } ∷ r.variables) u b) x.name (record { type = from; uses = y.uses }) r y.inner y.typed y.used)
 
   -- under the parameter of a function that is used once
   pub once_derived : (e : CoreTree) (t : Tree) (p : Parameter) (r z : Scope) (b d : Deriv) → HasParameter c e t p → p.uses ≡ Once → IsParameterTyped c p.binder.now p.from.now p.to.now r z p.body.now b → d ≡ row t (one b) →
       IsEquationTyped c t r z e d
   once_derived e t p r z b d h i y is =
       subst (λ o. IsEquationTyped c t r z o d) (sym h.term)
-      (takes_as (λ u. Equation M Bare (Compared E) p.body.now p.to.now (record { type = p.from.now; uses = y.uses } ∷ r.variables) (under (is_once y.uses) u) b)
-      (λ u. Equation M Bare (Compared E) (lambda h.at p.uses h.number p.binder.now p.body.now) t r.variables u d) r z
-      (λ u q. inl (is_parameter e t p h, y.uses, b, y.has, (λ l. absurd (cc (i, l))), q, is))
+      (takes_as (λ u. Equation M S p.body.now p.to.now (record { type = p.from.now; uses = y.uses } ∷ r.variables) (under (is_once y.uses) u) b)
+      (λ u. Equation M S (lambda h.at p.uses h.number p.binder.now p.body.now) t r.variables u d) r z
+      (λ u q. inl (is_parameter e t p h, y.uses, b, y.has, y.small, (λ l. absurd (cc (i, l))), q, is))
       (under_taken p.binder.now p.from.now p.to.now r z p.body.now b y))
 
   -- and of one that is used at will
   pub many_derived : (e : CoreTree) (t : Tree) (p : Parameter) (r z s : Scope) (b d : Deriv) → HasParameter c e t p → IsParameterTyped c p.binder.now p.from.now p.to.now (begun r) z p.body.now b → s ≡ ended z →
       d ≡ row t (one b) → IsEquationTyped c t r s e d
   many_derived e t p r z s b d h y j is =
-      let P : Vars → Type 0 = λ u. Equation M Bare (Compared E) p.body.now p.to.now (record { type = p.from.now; uses = y.uses } ∷ r.variables) (under (is_once y.uses) u) b in
+      let P : Vars → Type 0 = λ u. Equation M S p.body.now p.to.now (record { type = p.from.now; uses = y.uses } ∷ r.variables) (under (is_once y.uses) u) b in
       subst (λ o. IsEquationTyped c t r o e d) (sym j)
       (subst (λ o. IsEquationTyped c t r (ended z) o d) (sym h.term)
-      (takes_as (λ u. (u ≡ no_vars) × P u) (λ u. Equation M Bare (Compared E) (lambda h.at p.uses h.number p.binder.now p.body.now) t r.variables u d) r (ended z)
-      (λ u q. inl (is_parameter e t p h, y.uses, b, y.has, (λ l. q.0), q.1, is))
+      (takes_as (λ u. (u ≡ no_vars) × P u) (λ u. Equation M S (lambda h.at p.uses h.number p.binder.now p.body.now) t r.variables u d) r (ended z)
+      (λ u q. inl (is_parameter e t p h, y.uses, b, y.has, y.small, (λ l. q.0), q.1, is))
       (takes_body P r z (under_taken p.binder.now p.from.now p.to.now (begun r) z p.body.now b y))))
 
   -- a parameter's type is over its size
@@ -130,18 +133,18 @@ module _ (c : Check) where
   large_shown e t p s f h l = subst (λ o. ShowsEquation c o t s f) (sym h.term) (inl (is_parameter e t p h, inl l))
 
   -- what is under a parameter refuses the equation
-  pub under_shown : (e : CoreTree) (t : Tree) (p : Parameter) (s z : Scope) (f : CheckFault) → HasParameter c e t p → z ≡ inside p.uses s →
+  pub under_shown : (e : CoreTree) (t : Tree) (p : Parameter) (s z : Scope) (f : CheckFault) → HasParameter c e t p → z ≡ inside p.uses s → IsInSize p.from.now →
       UnderParameter c p.binder.now p.from.now p.to.now p.body.now (λ o. ShowsEquation c p.body.now p.to.now o f) z f → ShowsEquation c e t s f
-  under_shown e t p s z f h i l =
+  under_shown e t p s z f h i m l =
       subst (λ o. ShowsEquation c o t s f) (sym h.term)
-      (inl (is_parameter e t p h, inr (subst (λ o. UnderParameter c p.binder.now p.from.now p.to.now p.body.now (λ w. ShowsEquation c p.body.now p.to.now w f) o f) i l)))
+      (inl (is_parameter e t p h, inr (m, subst (λ o. UnderParameter c p.binder.now p.from.now p.to.now p.body.now (λ w. ShowsEquation c p.body.now p.to.now w f) o f) i l)))
 
   -- under a parameter the term is ready
   pub entered_ready : (e : CoreTree) (t : Tree) (p : Parameter) (s z : Scope) → HasParameter c e t p → IsEntered c p s z → IsReady c e s.variables → IsReady c p.body.now z.variables
   entered_ready e t p s z h n r =
       let v : Variable = record { type = p.from.now; uses = n.uses } in
       let ready : IsReady c p.body.now (enter_all (v ∷ []) s.variables) =
-      lambda_ready c h.at h.number p.uses p.binder.now p.body.now p.from.now s.variables (subst (λ o. IsReady c o s.variables) h.term r) (v ∷ []) (refl, n.has, tt) in
+      lambda_ready c h.at h.number p.uses p.binder.now p.body.now p.from.now s.variables (subst (λ o. IsReady c o s.variables) h.term r) n.small (v ∷ []) (refl, n.has, tt) in
       subst (IsReady c p.body.now) (sym (ap (λ (o : Scope). o.variables) n.is ∙ ap (λ (g : List Variable). v ∷ g) (inside_variables p.uses s))) ready
 
   -- the types in front of its arrow and behind it are well formed
@@ -197,7 +200,7 @@ module _ (c : Check) where
 
   -- what refuses the equation under a parameter refuses it
   pub inner_shown : (e : CoreTree) (t : Tree) (p : Parameter) (s z : Scope) (f : CheckFault) → HasParameter c e t p → IsEntered c p s z → ShowsEquation c p.body.now p.to.now z f → ShowsEquation c e t s f
-  inner_shown e t p s z f h n l = under_shown e t p s (inside p.uses s) f h refl (n.uses, n.has, inl (subst (λ o. ShowsEquation c p.body.now p.to.now o f) n.is l))
+  inner_shown e t p s z f h n l = under_shown e t p s (inside p.uses s) f h refl n.small (n.uses, n.has, inl (subst (λ o. ShowsEquation c p.body.now p.to.now o f) n.is l))
 
   only_unused : (z : Scope) (x : Binder) (f : CheckFault) → ShowsUnused z (x ∷ []) f → IsUnused z 0 x f
   only_unused z x f (inl u) = u
@@ -207,7 +210,7 @@ module _ (c : Check) where
   pub unused_shown : (e : CoreTree) (t : Tree) (p : Parameter) (s z w : Scope) (b : Deriv) (f : CheckFault) → HasParameter c e t p → IsEntered c p s z → IsEquationTyped c p.to.now z w p.body.now b →
       ShowsUnused w (p.binder.now ∷ []) f → ShowsEquation c e t s f
   unused_shown e t p s z w b f h n y u =
-      under_shown e t p s (inside p.uses s) f h refl
+      under_shown e t p s (inside p.uses s) f h refl n.small
       (n.uses, n.has, inr (record { scope = w; derivation = b; typed = subst (λ o. IsEquationTyped c p.to.now o w p.body.now b) n.is y; unused = only_unused w p.binder.now f u }))
 
   -- what refuses the equation under all parameters refuses it
@@ -232,7 +235,7 @@ module _ (c : Check) where
       d ≡ row p.wanted.now (one b) → IsEquationTyped c t s (after_body p.uses (left w)) e d
   left_derived e t p s z w b d h n y u is =
       let under : IsParameterTyped c p.binder.now p.from.now p.to.now (inside p.uses s) (left w) p.body.now b =
-      record { uses = n.uses; has = n.has; inner = w; typed = subst (λ o. IsEquationTyped c p.to.now o w p.body.now b) n.is y; used = u 0 (omega arith); left = refl } in
+      record { uses = n.uses; has = n.has; small = n.small; inner = w; typed = subst (λ o. IsEquationTyped c p.to.now o w p.body.now b) n.is y; used = u 0 (omega arith); left = refl } in
       by_use p.uses e t p s (left w) b d refl h under (is ∙ ap (λ o. row o (one b)) (sym h.wanted))
 
   -- there is a variable to be left

@@ -13,14 +13,14 @@ use Rattle.fst_derivations.specs.Deriv.{Deriv, Derivs, convert, deriv_of, none, 
 use Rattle.fst_derivations.specs.declared.derivation.Derivation.{Derivation}
 use Rattle.fst_derivations.specs.Modules.{IsFormedAt, types_in, types_in_all}
 use Rattle.fst_derivations.specs.Parts.{AreAt}
-use Rattle.fst_derivations.specs.Rules.{Compared, Bare, Fields}
+use Rattle.fst_derivations.specs.Rules.{Fields}
 use Rattle.fst_premises.specs.Scenes.{IsReady}
 use Rattle.fst_premises.proofs.Laws.{at_number, numbers_long}
 use Rattle.fst_typing.specs.Scenes.{AreFieldsReady}
 use Rattle.fst_premises.specs.Shown.{place}
 use Rattle.fst_typing.specs.Shown.{IsUnequal, ShowsFields}
 use Rattle.fst_premises.specs.Checks.{Check}
-use Rattle.fst_typing.specs.Typed.{AreFieldsTyped, IsKnown, IsPlain, IsTyped}
+use Rattle.fst_typing.specs.Typed.{AreFieldsTyped, IsKnown, IsPlain, IsTyped, checking}
 use Rattle.fst_premises.specs.declared.fault.CheckFault.{CheckFault}
 use Rattle.fst_typing.proofs.Forms.{at_type, same_variables}
 use Rattle.fst_typing.proofs.Ready.{standing_parts}
@@ -63,8 +63,8 @@ module _ (c : Check) where
       AreFieldsTyped c (term e es) (t ∷ ts) r z (part (convert (type_of d) t d) ds)
   typed_more e es t ts d ds r s z x k y =
       let P : Vars → Type 0 = IsPlain c e r.variables d in
-      let Q : List Variable → Vars → Type 0 = λ g u. Fields c.surroundings Bare (Compared (IsKnown c)) es ts g u ds in
-      takes_as (Both P (Q r.variables)) (λ u. Fields c.surroundings Bare (Compared (IsKnown c)) (term e es) (t ∷ ts) r.variables u (part (convert (type_of d) t d) ds)) r z
+      let Q : List Variable → Vars → Type 0 = λ g u. Fields c.surroundings (checking c) es ts g u ds in
+      takes_as (Both P (Q r.variables)) (λ u. Fields c.surroundings (checking c) (term e es) (t ∷ ts) r.variables u (part (convert (type_of d) t d) ds)) r z
       (λ u p. (convert (type_of d) t d, ds, record { left = p.left; right = p.right; split = p.split; first = at_type c e r.variables t d p.left k p.first; second = p.second }, refl))
       (takes_both P (Q r.variables) r s z x (subst (λ g. Takes (Q g) s z) (same_variables c P r s x) y))
 
@@ -122,7 +122,7 @@ module _ (c : Check) where
   fields_end args ks before now parts h ts a n =
       let none_left : drop (length args) args ≡ [] = drop_all (length args) args (omega arith) in
       let no_types : drop (length args) ts ≡ [] = ap (λ m. drop m ts) (sym (numbers_long T ks ts a ∙ n)) ∙ drop_all (length ts) ts (omega arith) in
-      let empty : AreFieldsTyped c no_terms [] now now none = takes_none (λ u. Fields c.surroundings Bare (Compared (IsKnown c)) no_terms [] now.variables u none) now (refl, refl) in
+      let empty : AreFieldsTyped c no_terms [] now now none = takes_none (λ u. Fields c.surroundings (checking c) no_terms [] now.variables u none) now (refl, refl) in
       subst (λ ds. AreFieldsTyped c (cores_of args) ts before now (parts_of ds)) (append-nil parts)
       (h.typed ts a [] now
       (subst (λ us. AreFieldsTyped c (cores_of (drop (length args) args)) us now now none) (sym no_types)

@@ -1,8 +1,9 @@
 -- Parts of well-formed types, what is made of well-formed types, and what they move to.
-use Rattle.std.proofs.Common.{◌≡◌, ℕ, Bool, true, false, Some, None, List, refl, subst}
+use Rattle.std.proofs.Common.{◌≡◌, ℕ, Bool, true, false, Some, None, List, refl, subst, arith}
 use Rattle.std.specs.Prelude.{IfSome, if◌then◌else◌}
 use Rattle.fst_types.specs.Tree.{Tree, skip, send, receive, select, offer, seq, rec, back, var, plain, arrow, pair, named}
 use Rattle.fst_types.specs.Order.{same_label}
+use Rattle.fst_types.specs.declared.base.Base.{Base}
 use Rattle.fst_types.specs.declared.kind.Kind.{Kind}
 use Rattle.fst_types.specs.declared.kind.Use.{Use}
 use Rattle.fst_types.specs.declared.kind.Use.TheVariants.{Many, Once}
@@ -15,6 +16,7 @@ use Rattle.fst_kinds.proofs.Laws.{session_of}
 use Rattle.fst_lts.specs.Step.{step}
 use Rattle.fst_lts.proofs.Laws.{step_session}
 use Rattle.fst_derivations.specs.Parts.{IsFormed}
+use Rattle.fst_premises.specs.Checks.{IsInSize}
 
 -- ---- parts of well-formed types are well formed
 
@@ -35,6 +37,20 @@ pair_formed vars s r (k, w) =
 pub arrow_of_formed : (vars : List Kind) (n : Use) (s r : Tree) → IsFormed vars s → IsFormed vars r → IsFormed vars (arrow n s r)
 arrow_of_formed vars n s r (i, v) (j, w) =
     (_, record { kinded = ((i, v.kinded), (j, w.kinded), refl); contractive = (v.contractive, w.contractive); scoped = (v.scoped, w.scoped); ordered = (v.ordered, w.ordered) })
+
+-- ---- so it is with types within their size
+
+pub arrow_small : (n : Use) (s r : Tree) → IsInSize (arrow n s r) → IsInSize s × IsInSize r
+arrow_small n s r h = (omega (arith, h), omega (arith, h))
+
+pub pair_small : (s r : Tree) → IsInSize (pair s r) → IsInSize s × IsInSize r
+pair_small s r h = (omega (arith, h), omega (arith, h))
+
+pub base_small : (b : Base) → IsInSize (plain b)
+base_small b = omega arith
+
+pub named_small : (n : ℕ) → IsInSize (named n)
+named_small n = omega arith
 
 -- ---- a well-formed type that moves by no variable is a session type
 

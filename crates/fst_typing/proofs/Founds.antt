@@ -13,16 +13,15 @@ use Rattle.fst_terms.specs.declared.global.GlobalEntry.{GlobalEntry}
 use Rattle.fst_context.specs.Scope.{Scope, empty}
 use Rattle.fst_context.specs.Vars.{Vars, no_vars}
 use Rattle.fst_derivations.specs.Deriv.{Deriv}
-use Rattle.fst_derivations.specs.Rules.{Bare, Compared}
 use Rattle.fst_derivations.specs.Modules.{ArePlainlyDerived, AreTypesFormed, Equation, HasMain, IsMain}
 use Rattle.fst_written.specs.First.{IsFirst}
 use Rattle.fst_written.proofs.Laws.{equation_formed, first_kept, first_less, first_new, makers_formed, signature_formed}
 use Rattle.fst_premises.specs.Checks.{Check}
-use Rattle.fst_typing.specs.Typed.{IsKnown}
+use Rattle.fst_typing.specs.Typed.{checking}
 use Rattle.fst_premises.specs.Scenes.{IsReady, IsSetUp}
 use Rattle.fst_premises.specs.Shown.{IsShown}
 use Rattle.fst_typing.specs.Equations.{IsEquationTyped}
-use Rattle.fst_typing.specs.Checked.{check_over, IsEarlier, IsEquationDerived, IsFoundOf, IsGlobalAccepted, IsKnownOver, IsNamedMain, ShowsGlobal}
+use Rattle.fst_typing.specs.Checked.{check_over, IsEarlier, IsEquationDerived, IsFoundOf, IsGlobalAccepted, checking_over, IsNamedMain, ShowsGlobal}
 use Rattle.fst_typing.specs.declared.globals.Refused.{Refused}
 
 all_more : {A : Type 0} (P : A → Type 0) (xs : List A) (x : A) → AllByRecursion P xs → P x → AllByRecursion P (xs ++ x ∷ [])
@@ -38,8 +37,8 @@ none_taken u h = λ i k. pick (u k) (h k) i
     pick false g = refl
 
 -- an equation takes no variable from no scope
-pub equation_closed : (c : Check) (t : Tree) (s : Scope) (e : CoreTree) (d : Deriv) → IsEquationTyped c t empty s e d → Equation c.surroundings Bare (Compared (IsKnown c)) e t [] no_vars d
-equation_closed c t s e d y = subst (λ u. Equation c.surroundings Bare (Compared (IsKnown c)) e t [] u d) (none_taken y.used y.within) y.fact
+pub equation_closed : (c : Check) (t : Tree) (s : Scope) (e : CoreTree) (d : Deriv) → IsEquationTyped c t empty s e d → Equation c.surroundings (checking c) e t [] no_vars d
+equation_closed c t s e d y = subst (λ u. Equation c.surroundings (checking c) e t [] u d) (none_taken y.used y.within) y.fact
 
 global_ranged : (b : Bounds) (gs : List GlobalEntry) (k : ℕ) (g : GlobalEntry) → AreGlobals b gs → slice_get gs k ≡ Some g → (g.signature < b.types) × IsInRange b 0 g.body
 global_ranged b [] k g h is = absurd (cc is)
@@ -72,8 +71,8 @@ module _ (m : Module) (budget : ℕ) where
   abbrev at_of : GlobalEntry → ℕ
   at_of h = h.at
 
-  derived_more : (gs : List GlobalEntry) (ds : List Deriv) (g : GlobalEntry) (d : Deriv) → ArePlainlyDerived m (IsKnownOver m budget) gs ds → IsEquationDerived m budget g d →
-      ArePlainlyDerived m (IsKnownOver m budget) (gs ++ g ∷ []) (ds ++ d ∷ [])
+  derived_more : (gs : List GlobalEntry) (ds : List Deriv) (g : GlobalEntry) (d : Deriv) → ArePlainlyDerived m (checking_over m budget) gs ds → IsEquationDerived m budget g d →
+      ArePlainlyDerived m (checking_over m budget) (gs ++ g ∷ []) (ds ++ d ∷ [])
   derived_more [] [] g d h x = (x, tt)
   derived_more [] (e ∷ ds) g d h x = absurd h
   derived_more (f ∷ gs) [] g d h x = absurd h
@@ -89,7 +88,7 @@ module _ (m : Module) (budget : ℕ) where
   found_none = (tt, tt, tt)
 
   -- all of them are accepted, where none is refused
-  pub found_all : (gs : List GlobalEntry) (ds : List Deriv) → IsFoundOf m budget gs ds None → ArePlainlyDerived m (IsKnownOver m budget) gs ds × HasMain m.types.items gs
+  pub found_all : (gs : List GlobalEntry) (ds : List Deriv) → IsFoundOf m budget gs ds None → ArePlainlyDerived m (checking_over m budget) gs ds × HasMain m.types.items gs
   unfolding IsFoundOf
   found_all gs ds h = (h.0, h.1)
 

@@ -26,3 +26,11 @@ mod Accepting
 mod TextLaws
 mod TextParts
 mod TextShown
+mod PlainEquations
+mod Parameters
+mod Groundless
+mod PrintableFields
+mod GroundlessModules
+mod Whole
+mod OneShown
+mod OneModule

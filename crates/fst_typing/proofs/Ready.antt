@@ -12,7 +12,7 @@ use Rattle.fst_context.specs.Scope.{Scope, Variable}
 use Rattle.fst_derivations.specs.Deriv.{Deriv}
 use Rattle.fst_derivations.specs.Parts.{HasUse, AreVariables, enter_all}
 use Rattle.fst_derivations.specs.Modules.{Standing, AreStandingFormed, types_in}
-use Rattle.fst_premises.specs.Checks.{Check}
+use Rattle.fst_premises.specs.Checks.{Check, IsInSize}
 use Rattle.fst_typing.specs.Typed.{IsTyped}
 use Rattle.fst_premises.specs.Scenes.{IsReady}
 
@@ -49,34 +49,35 @@ module _ (c : Check) where
   second_ready e (Apply at t) g h = (pair_ready at e t.now g (record { range = h.range; formed = h.formed; held = h.held })).1
 
   -- what is ready with a variable more is so with a list of one more
-  one_under : (e : CoreTree) (g : List Variable) (t : Tree) → ((v : Variable) → HasUse V v.type v.uses → IsReady c e (v ∷ g)) →
-      (vs : List Variable) → AreVariables V (t ∷ []) vs → IsReady c e (enter_all vs g)
-  one_under e g t f [] h = absurd h
-  one_under e g t f (v ∷ []) h = f v (subst (λ s. HasUse V s v.uses) (sym h.0) h.1)
-  one_under e g t f (v ∷ w ∷ vs) h = absurd h.2
+  one_under : (e : CoreTree) (g : List Variable) (t : Tree) → ((v : Variable) → HasUse V v.type v.uses → IsInSize v.type → IsReady c e (v ∷ g)) →
+      IsInSize t → (vs : List Variable) → AreVariables V (t ∷ []) vs → IsReady c e (enter_all vs g)
+  one_under e g t f m [] h = absurd h
+  one_under e g t f m (v ∷ []) h = f v (subst (λ s. HasUse V s v.uses) (sym h.0) h.1) (subst IsInSize (sym h.0) m)
+  one_under e g t f m (v ∷ w ∷ vs) h = absurd h.2
 
-  two_under : (e : CoreTree) (g : List Variable) (s t : Tree) → ((v w : Variable) → HasUse V v.type v.uses → HasUse V w.type w.uses → IsReady c e (w ∷ v ∷ g)) →
-      (vs : List Variable) → AreVariables V (s ∷ t ∷ []) vs → IsReady c e (enter_all vs g)
-  two_under e g s t f [] h = absurd h
-  two_under e g s t f (v ∷ []) h = absurd h.2
-  two_under e g s t f (v ∷ w ∷ []) h = f v w (subst (λ r. HasUse V r v.uses) (sym h.0) h.1) (subst (λ r. HasUse V r w.uses) (sym h.2.0) h.2.1)
-  two_under e g s t f (v ∷ w ∷ x ∷ vs) h = absurd h.2.2
+  two_under : (e : CoreTree) (g : List Variable) (s t : Tree) → ((v w : Variable) → HasUse V v.type v.uses → IsInSize v.type → HasUse V w.type w.uses → IsInSize w.type → IsReady c e (w ∷ v ∷ g)) →
+      IsInSize s → IsInSize t → (vs : List Variable) → AreVariables V (s ∷ t ∷ []) vs → IsReady c e (enter_all vs g)
+  two_under e g s t f m n [] h = absurd h
+  two_under e g s t f m n (v ∷ []) h = absurd h.2
+  two_under e g s t f m n (v ∷ w ∷ []) h =
+      f v w (subst (λ r. HasUse V r v.uses) (sym h.0) h.1) (subst IsInSize (sym h.0) m) (subst (λ r. HasUse V r w.uses) (sym h.2.0) h.2.1) (subst IsInSize (sym h.2.0) n)
+  two_under e g s t f m n (v ∷ w ∷ x ∷ vs) h = absurd h.2.2
 
   -- under the variable of a `let`
   pub let_ready : (at : ℕ) (x : Binder) (a b : CoreTree) (d : Deriv) (r s : Scope) (t : Tree) → IsReady c (let_in at x a b) r.variables → IsTyped c r s a d →
-      (vs : List Variable) → AreVariables V (t ∷ []) vs → IsReady c b (enter_all vs s.variables)
+      IsInSize t → (vs : List Variable) → AreVariables V (t ∷ []) vs → IsReady c b (enter_all vs s.variables)
   let_ready at x a b d r s t h y =
       let parts = standing_parts c.surroundings.types V (types_in a) (types_in b) h.formed in
-      subst (λ g. (vs : List Variable) → AreVariables V (t ∷ []) vs → IsReady c b (enter_all vs g)) (sym (ap (λ z. z.variables) y.rest))
-      (one_under b r.variables t (λ v u. record { range = h.range.1; formed = parts.1; held = (u, h.held) }))
+      subst (λ g. IsInSize t → (vs : List Variable) → AreVariables V (t ∷ []) vs → IsReady c b (enter_all vs g)) (sym (ap (λ z. z.variables) y.rest))
+      (one_under b r.variables t (λ v u m. record { range = h.range.1; formed = parts.1; held = (u, m, h.held) }))
 
   -- under the variables of a `let` of a pair
   pub split_ready : (at : ℕ) (x y : Binder) (a b : CoreTree) (d : Deriv) (r s : Scope) (t u : Tree) → IsReady c (split at x y a b) r.variables → IsTyped c r s a d →
-      (vs : List Variable) → AreVariables V (t ∷ u ∷ []) vs → IsReady c b (enter_all vs s.variables)
+      IsInSize t → IsInSize u → (vs : List Variable) → AreVariables V (t ∷ u ∷ []) vs → IsReady c b (enter_all vs s.variables)
   split_ready at x y a b d r s t u h z =
       let parts = standing_parts c.surroundings.types V (types_in a) (types_in b) h.formed in
-      subst (λ g. (vs : List Variable) → AreVariables V (t ∷ u ∷ []) vs → IsReady c b (enter_all vs g)) (sym (ap (λ o. o.variables) z.rest))
-      (two_under b r.variables t u (λ v w m n. record { range = h.range.1; formed = parts.1; held = (n, (m, h.held)) }))
+      subst (λ g. IsInSize t → IsInSize u → (vs : List Variable) → AreVariables V (t ∷ u ∷ []) vs → IsReady c b (enter_all vs g)) (sym (ap (λ o. o.variables) z.rest))
+      (two_under b r.variables t u (λ v w m p n q. record { range = h.range.1; formed = parts.1; held = (n, q, (m, p, h.held)) }))
 
   -- the first parts of these
   pub let_first_ready : (at : ℕ) (x : Binder) (a b : CoreTree) (g : List Variable) → IsReady c (let_in at x a b) g → IsReady c a g
@@ -87,8 +88,8 @@ module _ (c : Check) where
 
   -- under the variable of a function
   pub lambda_ready : (at k : ℕ) (uses : Use) (x : Binder) (a : CoreTree) (t : Tree) (g : List Variable) → IsReady c (lambda at uses k x a) g →
-      (vs : List Variable) → AreVariables V (t ∷ []) vs → IsReady c a (enter_all vs g)
-  lambda_ready at k uses x a t g h = one_under a g t (λ v u. record { range = h.range.1; formed = h.formed.1; held = (u, h.held) })
+      IsInSize t → (vs : List Variable) → AreVariables V (t ∷ []) vs → IsReady c a (enter_all vs g)
+  lambda_ready at k uses x a t g h = one_under a g t (λ v u m. record { range = h.range.1; formed = h.formed.1; held = (u, m, h.held) })
 
   -- the parts of a term with a condition
   pub if_ready : (at : ℕ) (a b o : CoreTree) (g : List Variable) → IsReady c (if_else at a b o) g → IsReady c a g × IsReady c b g × IsReady c o g

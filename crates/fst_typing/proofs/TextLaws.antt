@@ -32,10 +32,10 @@ module _ (c : Check) (types : AllHaveText (length c.surroundings.families) c.sur
   -- where the equation's type and those of the variables in scope have texts, so have the types that its refusal names
   pub equation_texts : (e : CoreTree) (t : Tree) (s : Scope) (f : CheckFault) → HasText N t → ScopeHasText N s → ShowsEquation c e t s f → HaveTexts N f
   equation_texts (lambda at uses k x e) t s f i h (inl (p, inl y)) = large_text N x.at p.from f y
-  equation_texts (lambda at uses k x e) t s f i h (inl (p, inr (n, w, inl y))) =
+  equation_texts (lambda at uses k x e) t s f i h (inl (p, inr (m, (n, w, inl y)))) =
       let parts = arrow_texts N uses p.from p.to (subst (HasText N) p.type i) in
       equation_texts e p.to (entered x.name (record { type = p.from; uses = n }) (inside uses s)) f parts.1 (parts.0, inside_text N uses s h) y
-  equation_texts (lambda at uses k x e) t s f i h (inl (p, inr (n, w, inr y))) = unused_text N y.scope 0 x f y.unused
+  equation_texts (lambda at uses k x e) t s f i h (inl (p, inr (m, (n, w, inr y)))) = unused_text N y.scope 0 x f y.unused
   equation_texts (lambda at uses k x e) t s f i h (inr y) = result_texts (lambda at uses k x e) t s f i h y.1
   equation_texts e t s f i h x = result_texts e t s f i h x
 

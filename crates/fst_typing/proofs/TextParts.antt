@@ -10,12 +10,14 @@ use Rattle.fst_context.specs.Scope.{Scope, Variable, entered, Takes}
 use Rattle.fst_context.specs.Vars.{Vars}
 use Rattle.fst_derivations.specs.Deriv.{Deriv, type_of}
 use Rattle.fst_derivations.specs.Texts.{HasText, AllHaveText, VariablesHaveText}
+use Rattle.fst_derivations.specs.Rules.{comparing}
 use Rattle.fst_derivations.proofs.Laws.{row_text, variables_text}
+use Rattle.fst_derivations.proofs.Weaker.{weaker, within_compares}
 use Rattle.fst_premises.specs.Scopes.{entered_all, inside}
-use Rattle.fst_premises.specs.Checks.{Check}
-use Rattle.fst_typing.specs.Typed.{IsKnown, IsTyped}
+use Rattle.fst_premises.specs.Checks.{Check, IsInSize}
+use Rattle.fst_typing.specs.Typed.{IsKnown, IsTyped, checking}
 use Rattle.fst_premises.specs.Shown.{IsTooLargeAt, IsLargeBinder, IsUnused, ShowsUnused, ShowsArguments, UseDifferent}
-use Rattle.fst_typing.specs.Shown.{After, AfterUnder, IsUnequal, Under}
+use Rattle.fst_typing.specs.Shown.{After, IsUnequal, Under, Unless}
 use Rattle.fst_typing.specs.Shown.IsUnequal.{shape, word, undecided, too_large}
 use Rattle.fst_typing.specs.Texts.{HaveTexts}
 use Rattle.fst_premises.specs.declared.fault.CheckFault.{CheckFault}
@@ -94,24 +96,27 @@ module _ (c : Check) (types : AllHaveText (length c.surroundings.families) c.sur
 
   -- the type of a part that is typed has a text
   pub typed_text : (e : CoreTree) (s r : Scope) (d : Deriv) → ScopeHasText N s → IsTyped c s r e d → HasText N (type_of d)
-  typed_text e s r d h t = row_text c.surroundings (IsKnown c) types e s.variables h t.used d t.fact.rule
+  typed_text e s r d h t =
+      row_text c.surroundings (IsKnown c) types e s.variables h t.used d
+      (weaker c.surroundings (checking c) (comparing (IsKnown c)) (within_compares IsInSize (IsKnown c) (IsKnown c) (λ p q k. k)) e s.variables t.used d t.fact.rule)
 
   -- so has that of a first part
-  pub after_text : {P : Scope → Deriv → Type 0} (e : CoreTree) (s : Scope) → ScopeHasText N s → (x : After c s e P) → HasText N (type_of x.derivation)
+  pub after_text : {P : Scope → Tree → Type 0} (e : CoreTree) (s : Scope) → ScopeHasText N s → (x : After c s e P) → HasText N (type_of x.derivation)
   after_text e s h x = typed_text e s x.scope x.derivation h x.typed
 
   -- and the variables behind it
-  pub behind_text : {P : Scope → Deriv → Type 0} (e : CoreTree) (s : Scope) → ScopeHasText N s → (x : After c s e P) → ScopeHasText N x.scope
+  pub behind_text : {P : Scope → Tree → Type 0} (e : CoreTree) (s : Scope) → ScopeHasText N s → (x : After c s e P) → ScopeHasText N x.scope
   behind_text e s h x = taken_text N _ s x.scope h x.typed
 
-  -- the term under names is refused, or leaves one of them unused
-  pub under_text : (Refused : Scope → Type 0) (xs : List Binder) (ts : List Tree) (e : CoreTree) (s : Scope) (f : CheckFault) → AllHaveText N ts → ScopeHasText N s →
-      ((z : Scope) → ScopeHasText N z → Refused z → HaveTexts N f) → Under c xs ts e Refused s f → HaveTexts N f
-  under_text Refused xs ts e s f a h g (vs, w, l, y) =
-      either N f y (g (entered_all xs vs s) (entered_text N xs vs s (variables_text N c.surroundings.vars ts vs a w) h)) (λ z. one_unused_text N z.scope xs f z.then)
+  -- the term under names is refused, or leaves one of them unused, or something is asked behind it
+  pub under_text : (Refused : Scope → Type 0) (P : Scope → Tree → Type 0) (xs : List Binder) (ts : List Tree) (e : CoreTree) (s : Scope) (f : CheckFault) → AllHaveText N ts → ScopeHasText N s →
+      ((z : Scope) → ScopeHasText N z → Refused z → HaveTexts N f) → ((z : Scope) (t : Tree) → HasText N t → P z t → HaveTexts N f) → Under c xs ts e s Refused P f → HaveTexts N f
+  under_text Refused P xs ts e s f a h g k x =
+      let vs = x.variables in
+      let there = entered_text N xs vs s (variables_text N c.surroundings.vars ts vs a x.types) h in
+      either N f x.inside (g (entered_all xs vs s) there)
+      (λ z. either N f z.then (one_unused_text N z.scope xs f) (λ q. k _ (type_of z.derivation) (after_text e (entered_all xs vs s) there z) q.1))
 
-  -- the type of a term under names has a text
-  pub after_under_text : {P : Scope → Deriv → Type 0} (xs : List Binder) (ts : List Tree) (e : CoreTree) (s : Scope) → AllHaveText N ts → ScopeHasText N s → (x : AfterUnder c xs ts s e P) → HasText N (type_of x.derivation)
-  after_under_text xs ts e s a h x =
-      let y = x.typed in
-      typed_text e (entered_all xs y.variables s) y.inner x.derivation (entered_text N xs y.variables s (variables_text N c.surroundings.vars ts y.variables a y.types) h) y.typed
+  -- two types aren't known to be equal, or something is asked behind them
+  pub unless_text : (P : Type 0) (at : ℕ) (found wanted : Tree) (f : CheckFault) → HasText N found → HasText N wanted → (P → HaveTexts N f) → Unless c at found wanted f P → HaveTexts N f
+  unless_text P at found wanted f h i g x = either N f x (unequal_text N c at found wanted f h i) (λ y. g y.1)

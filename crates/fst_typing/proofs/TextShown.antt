@@ -1,5 +1,5 @@
 -- The types that a term's refusal names have texts.
-use Rattle.std.proofs.Common.{inl, inr, ℕ, List, [], ◌∷◌, Option, Some, None, length, sym, subst}
+use Rattle.std.proofs.Common.{◌≡◌, ◌⊎◌, inl, inr, ℕ, List, [], ◌∷◌, Option, Some, None, length, sym, subst}
 use Rattle.std.specs.Prelude.{IfSome}
 use Rattle.fst_types.specs.Tree.{Tree, plain}
 use Rattle.fst_types.specs.declared.base.Base.TheVariants.{Int, Bool as Truth}
@@ -19,13 +19,13 @@ use Rattle.fst_derivations.specs.Texts.{HasText, AllHaveText, BindingHasText}
 use Rattle.fst_derivations.proofs.Laws.{arrow_texts, bound_texts, pair_texts, plain_text, text_at, texts_at}
 use Rattle.fst_premises.specs.Checks.{Check}
 use Rattle.fst_premises.specs.Scopes.{inside}
-use Rattle.fst_premises.specs.Shown.{place, ShowsDropped, ShowsNoCase, ShowsNoFunction, ShowsNoMatch, ShowsNoPair, ShowsReceive, ShowsSelect, ShowsSend}
+use Rattle.fst_premises.specs.Shown.{place, UseDifferent, ShowsDropped, ShowsNoCase, ShowsNoFunction, ShowsNoMatch, ShowsNoPair, ShowsReceive, ShowsSelect, ShowsSend}
 use Rattle.fst_premises.specs.Signs.{operand}
-use Rattle.fst_typing.specs.Shown.{IsOperand, Shows, ShowsArms, ShowsFields, ShowsFurther, ShowsOperand}
+use Rattle.fst_typing.specs.Shown.{IsOperand, NoMore, Unless, Shows, ShowsArms, ShowsFields, ShowsFurther, ShowsOperand}
 use Rattle.fst_typing.specs.Texts.{HaveTexts}
 use Rattle.fst_premises.specs.declared.fault.CheckFault.{CheckFault}
 use Rattle.fst_premises.specs.declared.fault.CheckFault.TheVariants.{UsedTwice, CapturedLinear, NotFunction, TypeArguments, NoSuchMove, Arms, Dropped, NotPair, Kinds}
-use Rattle.fst_typing.proofs.TextParts.{ScopeHasText, either, said, large_text, large_binder_text, argument_text, branches_text, unequal_text, inside_text, after_text, behind_text, under_text, after_under_text}
+use Rattle.fst_typing.proofs.TextParts.{ScopeHasText, either, said, large_text, large_binder_text, argument_text, branches_text, unequal_text, unless_text, inside_text, after_text, behind_text, under_text}
 
 -- the type of a sign's operands has a text
 sign_text : (n : ℕ) (o : Op) → IfSome (operand o) (HasText n)
@@ -102,7 +102,7 @@ module _ (c : Check) (types : AllHaveText (length c.surroundings.families) c.sur
     shown_texts (lambda at uses k x a) s f h y =
         let from : HasText N y.0 = text_at N c.surroundings.types k y.0 types y.1 in
         either N f y.2 (large_text N x.at y.0 f)
-        (λ z. either N f z (under_text c types (λ r. Shows c a r f) (x ∷ []) (y.0 ∷ []) a (inside uses s) f (from, tt) (inside_text N uses s h) (λ r. shown_texts a r f)) (λ w. large_text N at _ f w.then))
+        (under_text c types (λ r. Shows c a r f) _ (x ∷ []) (y.0 ∷ []) a (inside uses s) f (from, tt) (inside_text N uses s h) (λ r. shown_texts a r f) (λ z t g. large_text N at _ f))
     shown_texts (apply at a b) s f h x =
         either N f x (shown_texts a s f h)
         (λ y. let first = after_text c types a s h y in
@@ -112,21 +112,21 @@ module _ (c : Check) (types : AllHaveText (length c.surroundings.families) c.sur
         (λ w. unequal_text N c (place b) (type_of w.derivation) z.1 f (after_text c types b y.scope behind w) (arrow_texts N z.0 z.1 z.2 (subst (HasText N) z.3 first)).0 w.then)))
     shown_texts (let_in at x a b) s f h y =
         either N f y (shown_texts a s f h)
-        (λ z. under_text c types (λ r. Shows c b r f) (x ∷ []) (type_of z.derivation ∷ []) b z.scope f (after_text c types a s h z, tt) (behind_text c types a s h z) (λ r. shown_texts b r f) z.then)
+        (λ z. under_text c types (λ r. Shows c b r f) NoMore (x ∷ []) (type_of z.derivation ∷ []) b z.scope f (after_text c types a s h z, tt) (behind_text c types a s h z) (λ r. shown_texts b r f) (λ q t g. absurd) z.then)
     shown_texts (split at x y a b) s f h w =
         either N f w (shown_texts a s f h)
         (λ z. let first = after_text c types a s h z in
         either N f z.then (no_pair_text N (place a) (type_of z.derivation) f first)
         (λ p. let parts = pair_texts N p.0 p.1 (subst (HasText N) p.2 first) in
-        under_text c types (λ r. Shows c b r f) (x ∷ y ∷ []) (p.0 ∷ p.1 ∷ []) b z.scope f (parts.0, (parts.1, tt)) (behind_text c types a s h z) (λ r. shown_texts b r f) p.3))
+        under_text c types (λ r. Shows c b r f) NoMore (x ∷ y ∷ []) (p.0 ∷ p.1 ∷ []) b z.scope f (parts.0, (parts.1, tt)) (behind_text c types a s h z) (λ r. shown_texts b r f) (λ q t g. absurd) p.3))
     shown_texts (if_else at a b o) s f h x =
         either N f x (shown_texts a s f h)
         (λ y. let behind = behind_text c types a s h y in
-        either N f y.then (unequal_text N c (place a) (type_of y.derivation) (plain Truth) f (after_text c types a s h y) (plain_text N Truth))
-        (λ z. either N f z.1 (shown_texts b y.scope f behind)
+        unless_text c types _ (place a) (type_of y.derivation) (plain Truth) f (after_text c types a s h y) (plain_text N Truth)
+        (λ z. either N f z (shown_texts b y.scope f behind)
         (λ w. either N f w.then (shown_texts o y.scope f behind)
         (λ v. either N f v.then (branches_text N (place o) w.scope v.scope f)
-        (λ p. unequal_text N c (place o) (type_of v.derivation) (type_of w.derivation) f (after_text c types o y.scope behind v) (after_text c types b y.scope behind w) p.1)))))
+        (λ p. unequal_text N c (place o) (type_of v.derivation) (type_of w.derivation) f (after_text c types o y.scope behind v) (after_text c types b y.scope behind w) p.1)))) y.then)
     shown_texts (case_of at a bs) s f h x =
         either N f x (shown_texts a s f h)
         (λ y. either N f y.then (no_case_text N c.surroundings.families at (type_of y.derivation) _ f (after_text c types a s h y))
@@ -167,8 +167,8 @@ module _ (c : Check) (types : AllHaveText (length c.surroundings.families) c.sur
     fields_texts (term e es) [] s f a h x = absurd x
     fields_texts (term e es) (t ∷ ts) s f a h x =
         either N f x (shown_texts e s f h)
-        (λ y. either N f y.then (unequal_text N c (place e) (type_of y.derivation) t f (after_text c types e s h y) a.0)
-        (λ z. fields_texts es ts y.scope f a.1 (behind_text c types e s h y) z.1))
+        (λ y. unless_text c types _ (place e) (type_of y.derivation) t f (after_text c types e s h y) a.0
+        (fields_texts es ts y.scope f a.1 (behind_text c types e s h y)) y.then)
 
     -- and that of arms
     arms_texts : (B : Binding) → BindingHasText N B → (bs : CoreArms) (s : Scope) (f : CheckFault) → ScopeHasText N s → ShowsArms c B bs s f → HaveTexts N f
@@ -176,15 +176,12 @@ module _ (c : Check) (types : AllHaveText (length c.surroundings.families) c.sur
     arms_texts B b (arm l xs e bs) s f h x =
         let bound = bound_texts c.surroundings N B l x.0 types b x.1 in
         either N f x.2 (large_binder_text N xs x.0 f)
-        (λ y. either N f y (under_text c types (λ r. Shows c e r f) xs x.0 e s f bound h (λ r. shown_texts e r f))
-        (λ z. further_texts B b bs s z.scope (type_of z.derivation) f h (after_under_text c types xs x.0 e s bound h z) z.then))
+        (under_text c types (λ r. Shows c e r f) _ xs x.0 e s f bound h (λ r. shown_texts e r f) (λ z t g. further_texts B b bs s z t f h g))
 
     further_texts : (B : Binding) → BindingHasText N B → (bs : CoreArms) (s r : Scope) (t : Tree) (f : CheckFault) → ScopeHasText N s → HasText N t → ShowsFurther c B bs s r t f → HaveTexts N f
     further_texts B b no_arms s r t f h i x = absurd x
     further_texts B b (arm l xs e bs) s r t f h i x =
         let bound = bound_texts c.surroundings N B l x.0 types b x.1 in
         either N f x.2 (large_binder_text N xs x.0 f)
-        (λ y. either N f y (under_text c types (λ q. Shows c e q f) xs x.0 e s f bound h (λ q. shown_texts e q f))
-        (λ z. either N f z.then (branches_text N (place e) r z.scope f)
-        (λ w. either N f w.1 (λ v. unequal_text N c (place e) (type_of z.derivation) t f (after_under_text c types xs x.0 e s bound h z) i v)
-        (λ v. further_texts B b bs s r t f h i v.1))))
+        (under_text c types (λ q. Shows c e q f) (λ z u. UseDifferent (place e) r z f ⊎ ((z ≡ r) × Unless c (place e) u t f (ShowsFurther c B bs s r t f))) xs x.0 e s f bound h (λ q. shown_texts e q f)
+        (λ z u g w. either N f w (branches_text N (place e) r z f) (λ v. unless_text c types (ShowsFurther c B bs s r t f) (place e) u t f g i (further_texts B b bs s r t f h i) v.1)))

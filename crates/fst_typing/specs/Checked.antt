@@ -9,15 +9,18 @@ use Rattle.fst_terms.specs.declared.core_module.Module.{Module}
 use Rattle.fst_terms.specs.declared.global.GlobalEntry.{GlobalEntry}
 use Rattle.fst_context.specs.Scope.{empty}
 use Rattle.fst_context.specs.Vars.{no_vars}
+use Rattle.fst_equiv.specs.Comparison.{IsComparison, IsTooLargeComparison}
+use Rattle.fst_equiv.specs.declared.comparing.Same.TheVariants.{Undecided}
 use Rattle.fst_derivations.specs.Deriv.{Deriv}
-use Rattle.fst_derivations.specs.Rules.{Bare, Compared}
-use Rattle.fst_derivations.specs.Modules.{surroundings, family_types, AreFamiliesPrintable, ArePlainlyDerived, AreTypesFormed, Equation, HasMain, IsMain, IsPrintable}
+use Rattle.fst_derivations.specs.Parts.{IsConversion}
+use Rattle.fst_derivations.specs.Rules.{Mode, within}
+use Rattle.fst_derivations.specs.Modules.{surroundings, family_types, AreFamiliesPrintable, ArePlainlyDerived, AreTypesFormed, Equation, HasMain, HasPlainDerivations, IsMain, IsPrintable}
 use Rattle.fst_written.specs.Faults.{IsFirstKindFault, IsWrittenKindFault}
 use Rattle.fst_written.specs.First.{IsFirst}
 use Rattle.fst_written.specs.Printable.{IsFirstUnprintable}
 use Rattle.fst_written.specs.Readings.{readings}
-use Rattle.fst_premises.specs.Checks.{Check}
-use Rattle.fst_typing.specs.Typed.{IsKnown}
+use Rattle.fst_premises.specs.Checks.{Check, IsInSize}
+use Rattle.fst_typing.specs.Typed.{checking}
 use Rattle.fst_premises.specs.Shown.{IsShown}
 use Rattle.fst_typing.specs.Equations.{ShowsEquation}
 use Rattle.fst_premises.specs.declared.fault.CheckFault.{CheckFault}
@@ -28,9 +31,9 @@ use Rattle.fst_premises.specs.declared.fault.CheckFault.TheVariants.{Kinds, NotP
 abbrev pub check_over : Module → ℕ → List Kind → Check
 check_over m budget vars = record { surroundings = surroundings m vars; places = m.places.items; budget = budget }
 
--- two types that are known to be equal within the budget, over variables of these kinds
-abbrev pub IsKnownOver : Module → ℕ → List Kind → Tree → Tree → Type 0
-IsKnownOver m budget vars = IsKnown (check_over m budget vars)
+-- how the check of a module makes plain derivations over such variables
+abbrev pub checking_over : Module → ℕ → List Kind → Mode
+checking_over m budget vars = checking (check_over m budget vars)
 
 -- the global is named main
 abbrev pub IsNamedMain : GlobalEntry → Type 0
@@ -40,7 +43,7 @@ IsNamedMain g = bytes_eq g.name (codes "main") ≡ true
 abbrev pub IsEquationDerived : Module → ℕ → GlobalEntry → Deriv → Type 0
 IsEquationDerived m budget g d =
     (t : Tree) × (slice_get m.types.items g.signature ≡ Some t) ×
-    Equation (surroundings m g.kinds.items) Bare (Compared (IsKnownOver m budget g.kinds.items)) g.body t [] no_vars d
+    Equation (surroundings m g.kinds.items) (checking_over m budget g.kinds.items) g.body t [] no_vars d
 
 -- the equation has a plain derivation, and main has no variables and a printable type
 pub record IsGlobalAccepted (m : Module) (budget : ℕ) (g : GlobalEntry) : Type 0 where
@@ -48,12 +51,20 @@ pub record IsGlobalAccepted (m : Module) (budget : ℕ) (g : GlobalEntry) : Type
   pub derivation : Deriv
   pub derived : IsEquationDerived m budget g derivation
 
--- the module is accepted with these plain derivations of its equations, in which all questions are answered within the budget
-pub record IsAccepted (m : Module) (budget : ℕ) (ds : List Deriv) : Type 0 where
-  pub types : AreTypesFormed m
-  pub fields : AreFamiliesPrintable m.types.items m.families.items
-  pub main : HasMain m.types.items m.globals.items
-  pub equations : ArePlainlyDerived m (IsKnownOver m budget) m.globals.items ds
+-- the module is accepted with these plain derivations, in which each type is within its size and all questions are answered within
+-- the budget
+abbrev pub IsAccepted : Module → ℕ → List Deriv → Type 0
+IsAccepted m budget ds = HasPlainDerivations m (checking_over m budget) ds
+
+-- two equal types whose question is neither left undecided within the budget nor too large
+pub record IsAnswered (vars : List Kind) (budget : ℕ) (found wanted : Tree) : Type 0 where
+  pub conversion : IsConversion vars found wanted
+  pub decided : (g : _) (pairs : _) → IsComparison found wanted budget (Undecided g pairs) → ⊥
+  pub fits : IsTooLargeComparison found wanted budget → ⊥
+
+-- the module has these plain derivations, and their types and questions are within the limits
+abbrev pub HasDerivationsWithin : Module → ℕ → List Deriv → Type 0
+HasDerivationsWithin m budget ds = HasPlainDerivations m (λ vars. within IsInSize (IsAnswered vars budget)) ds
 
 -- main has variables, or a type whose values can't be printed
 abbrev pub ShowsMain : Module → GlobalEntry → CheckFault → Type 0
@@ -84,7 +95,7 @@ pub data IsRefusal (m : Module) (budget : ℕ) (f : CheckFault) : Type 0 where
 -- equation begins before this one's, or begins where it does and stands before it
 unfoldable pub IsFoundOf : Module → ℕ → List GlobalEntry → List Deriv → Option Refused → Type 0
 IsFoundOf m budget gs ds None =
-    ArePlainlyDerived m (IsKnownOver m budget) gs ds × HasMain m.types.items gs × AllByRecursion (IsGlobalAccepted m budget) gs
+    ArePlainlyDerived m (checking_over m budget) gs ds × HasMain m.types.items gs × AllByRecursion (IsGlobalAccepted m budget) gs
 IsFoundOf m budget gs ds (Some r) =
     (g : GlobalEntry) × IsFirst (λ (h : GlobalEntry). h.at) (IsGlobalAccepted m budget) gs g × (r.at ≡ g.at) × IsShown r.fault (ShowsGlobal m budget g r.fault)
 

@@ -5,3 +5,4 @@ pub mod Equations
 pub mod Checked
 pub mod Texts
 pub mod Views
+pub mod Laws

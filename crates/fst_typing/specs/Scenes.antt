@@ -9,12 +9,12 @@ use Rattle.fst_context.specs.Scope.{Scope, Takes, Variable}
 use Rattle.fst_derivations.specs.Deriv.{Deriv, Derivs, part, row}
 use Rattle.fst_derivations.specs.Parts.{AreVariables, IsFormed, enter_all}
 use Rattle.fst_derivations.specs.Rules as rules
-use Rattle.fst_derivations.specs.Rules.{Arms, Bare, Binds, Compared}
+use Rattle.fst_derivations.specs.Rules.{Arms, Binds}
 use Rattle.fst_derivations.specs.Modules.{types_in_all, AreStandingFormed, AreFieldsFormed}
-use Rattle.fst_premises.specs.Checks.{Check}
-use Rattle.fst_typing.specs.Typed.{IsKnown, IsTypedUnder}
+use Rattle.fst_premises.specs.Checks.{Check, IsInSize, AreInSize}
+use Rattle.fst_typing.specs.Typed.{checking, IsTypedUnder}
 use Rattle.fst_premises.specs.Shown.{IsLargeBinder}
-use Rattle.fst_typing.specs.Shown.{Shows, Under}
+use Rattle.fst_typing.specs.Shown.{NoMore, Shows, Under}
 use Rattle.fst_typing.specs.declared.infer_arms.Binding.{Binding}
 use Rattle.fst_typing.specs.declared.infer_arms.Binding.TheVariants.{Fields, Rest}
 use Rattle.fst_premises.specs.declared.fault.CheckFault.{CheckFault}
@@ -43,13 +43,13 @@ IsNumbered (Rest t) i l = ⊤
 abbrev pub AreNumbered : Binding → List Arm → Type 0
 AreNumbered B arms = (k : ℕ) (b : Arm) → k < length arms → b ≡ get_or arms k b → IsNumbered B k b.label
 
--- an arm's variables have well-formed types, under which its term is ready
+-- an arm's variables have well-formed types, under which its term is ready if they are within their size
 pub record IsArmReady (c : Check) (B : rules.Binding) (l : List ℕ) (xs : List Binder) (e : CoreTree) (g : List Variable) : Type 0 where
   pub types : List Tree
   pub binds : Binds c.surroundings B l types
   pub formed : AreFormed c.surroundings.vars types
   pub long : length xs ≡ length types
-  pub body : (vs : List Variable) → AreVariables c.surroundings.vars types vs → IsReady c e (enter_all vs g)
+  pub body : AreInSize types → (vs : List Variable) → AreVariables c.surroundings.vars types vs → IsReady c e (enter_all vs g)
 
 -- so it is with each of some arms
 abbrev pub AreArmsReady : Check → rules.Binding → CoreArms → List Variable → Type 0
@@ -70,7 +70,7 @@ IsFirstTyped c B (arm l xs e bs) before after d = IsArmTyped c B l xs before aft
 -- an arm is refused: a variable's type is over its size, or the term under them is refused
 abbrev pub ShowsArm : Check → rules.Binding → List ℕ → List Binder → CoreTree → Scope → CheckFault → Type 0
 ShowsArm c B l xs e s f =
-    (ts : List Tree) × Binds c.surroundings B l ts × (IsLargeBinder xs ts f ⊎ Under c xs ts e (λ z. Shows c e z f) s f)
+    (ts : List Tree) × Binds c.surroundings B l ts × (IsLargeBinder xs ts f ⊎ Under c xs ts e s (λ z. Shows c e z f) NoMore f)
 
 -- a row of arms behind what they look at
 pub record AreArmsTyped (c : Check) (B : rules.Binding) (bs : CoreArms) (before after : Scope) (d w : Deriv) : Type 0 where
@@ -78,4 +78,5 @@ pub record AreArmsTyped (c : Check) (B : rules.Binding) (bs : CoreArms) (before 
   pub parts : Derivs
   pub is : w ≡ row type (part d parts)
   pub formed : IsFormed c.surroundings.vars type
-  pub takes : Takes (λ u. Arms c.surroundings Bare (Compared (IsKnown c)) B bs before.variables u type parts) before after
+  pub small : IsInSize type
+  pub takes : Takes (λ u. Arms c.surroundings (checking c) B bs before.variables u type parts) before after

@@ -9,8 +9,8 @@ use Rattle.fst_equiv.specs.Comparison.{IsComparison}
 use Rattle.fst_equiv.specs.declared.comparing.Same.TheVariants as same
 use Rattle.fst_derivations.specs.Deriv.{Deriv, Derivs}
 use Rattle.fst_derivations.specs.Parts.{IsConversion, AreVariables}
-use Rattle.fst_derivations.specs.Rules.{Bare, Compared, Fields}
-use Rattle.fst_premises.specs.Checks.{Check, IsPlainBy, IsTypedBy}
+use Rattle.fst_derivations.specs.Rules.{Mode, within, Fields}
+use Rattle.fst_premises.specs.Checks.{Check, IsInSize, AreInSize, IsPlainBy, IsTypedBy}
 use Rattle.fst_premises.specs.Scopes.{entered_all, left_all, AreUsed}
 
 -- two well-formed types that are equal, which is found within the budget
@@ -18,7 +18,11 @@ pub record IsKnown (c : Check) (found wanted : Tree) : Type 0 where
   pub conversion : IsConversion c.surroundings.vars found wanted
   pub yes : IsComparison found wanted c.budget same.Yes
 
--- a row of a plain derivation, of a well-formed type, where types that are compared are known to be equal
+-- how a check makes plain derivations: each type is within its size, and those that are compared are known to be equal
+abbrev pub checking : Check → Mode
+checking c = within IsInSize (IsKnown c)
+
+-- a row of such a derivation, of a well-formed type
 abbrev pub IsPlain : Check → CoreTree → List Variable → Deriv → Vars → Type 0
 IsPlain c = IsPlainBy (IsKnown c) c
 
@@ -28,12 +32,13 @@ IsTyped c = IsTypedBy (IsKnown c) c
 
 -- ds are the plain derivations of a constructor's arguments at the types of its fields
 abbrev pub AreFieldsTyped : Check → CoreList → List Tree → Scope → Scope → Derivs → Type 0
-AreFieldsTyped c es ts before after ds = Takes (λ u. Fields c.surroundings Bare (Compared (IsKnown c)) es ts before.variables u ds) before after
+AreFieldsTyped c es ts before after ds = Takes (λ u. Fields c.surroundings (checking c) es ts before.variables u ds) before after
 
--- d is the plain derivation of the term under these names, whose variables have these types and are used
+-- d is the plain derivation of the term under these names, whose variables have these types, within their size, and are used
 pub record IsTypedUnder (c : Check) (xs : List Binder) (ts : List Tree) (before after : Scope) (e : CoreTree) (d : Deriv) : Type 0 where
   pub variables : List Variable
   pub types : AreVariables c.surroundings.vars ts variables
+  pub small : AreInSize ts
   pub long : length xs ≡ length variables
   pub inner : Scope
   pub typed : IsTyped c (entered_all xs variables before) inner e d

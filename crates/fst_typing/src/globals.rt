@@ -5,7 +5,7 @@ ghost use Rattle.std.specs.Str.{bytes_eq};
 ghost use Rattle.fst_terms.specs.declared.global.GlobalEntry.{GlobalEntry as GlobalParts};
 ghost use Rattle.fst_derivations.specs.Deriv.{deriv_of};
 ghost use Rattle.fst_derivations.specs.Modules.{ArePlainlyDerived, AreTypesFormed, HasMain, IsMain};
-ghost use Rattle.fst_typing.specs.Checked.{IsEquationDerived, IsFoundOf, IsGlobalAccepted, IsKnownOver, IsNamedMain, ShowsGlobal, ShowsMain};
+ghost use Rattle.fst_typing.specs.Checked.{checking_over, IsEquationDerived, IsFoundOf, IsGlobalAccepted, IsNamedMain, ShowsGlobal, ShowsMain};
 ghost use Rattle.fst_premises.specs.Shown.{IsShown};
 ghost use Rattle.fst_written.specs.First.{IsFirst};
 
@@ -165,7 +165,7 @@ pub(crate) fn check_globals(
     requires budget { 1 ≤ budget }
     requires types { AreTypesFormed m.now }
     ensures main { OnOk result (HasMain m.now.types.items m.now.globals.items) }
-    ensures derived { IfOk result (λ ds. ArePlainlyDerived m.now (IsKnownOver m.now budget) m.now.globals.items (map deriv_of ds.items)) }
+    ensures derived { IfOk result (λ ds. ArePlainlyDerived m.now (checking_over m.now budget) m.now.globals.items (map deriv_of ds.items)) }
     ensures refused { IfErr result (λ f. IsShown f (
         (g : GlobalParts) × IsFirst (λ (h : GlobalParts). h.at) (IsGlobalAccepted m.now budget) m.now.globals.items g × ShowsGlobal m.now budget g f)) }
 {

@@ -10,8 +10,9 @@ ghost use Rattle.fst_derivations.specs.Deriv.{deriv_of, parts_of, row, type_of};
 ghost use Rattle.fst_derivations.specs.Parts.{AreAt, AreVariables, enter_all};
 ghost use Rattle.fst_derivations.specs.Rules.{rest};
 ghost use Rattle.fst_typing.specs.Typed.{IsTyped, IsTypedUnder};
+ghost use Rattle.fst_premises.specs.Checks.{AreInSize};
 ghost use Rattle.fst_premises.specs.Shown.{IsLargeBinder, IsShown};
-ghost use Rattle.fst_typing.specs.Shown.{Shows, ShowsArms, Under, IsRefused};
+ghost use Rattle.fst_typing.specs.Shown.{NoMore, Shows, ShowsArms, Under, IsRefused};
 ghost use Rattle.fst_premises.specs.Scenes.{check_in, AreFormed, IsReady, IsSetUp};
 ghost use Rattle.fst_typing.specs.Scenes.{binding_of, AreArmsReady, AreArmsTyped, AreNumbered, IsArmReady, IsArmTyped, IsFirstTyped, IsNumbered, ShowsArm};
 
@@ -47,12 +48,12 @@ fn infer_fields_arm(
     requires set_up { IsSetUp (check_in scene) }
     requires long { length arm.now.binders.items ≡ length fields.now }
     requires ready { (ts : List Tree) × AreAt scene.module.now.types.items fields.now ts × AreFormed scene.vars.now ts ×
-        ((vs : List Variable) → AreVariables scene.vars.now ts vs → IsReady (check_in scene) arm.now.body (enter_all vs context.old.variables)) }
+        (AreInSize ts → (vs : List Variable) → AreVariables scene.vars.now ts vs → IsReady (check_in scene) arm.now.body (enter_all vs context.old.variables)) }
     ensures typed { IfOk result (λ d. (ts : List Tree) → AreAt scene.entry.module.now.types.items fields.now ts →
         IsTypedUnder (check_in scene.entry) arm.now.binders.items ts context.old context.new arm.now.body (deriv_of d)) }
     ensures refused { IfErr result (λ f. (ts : List Tree) → AreAt scene.entry.module.now.types.items fields.now ts → IsShown f (
         IsLargeBinder arm.now.binders.items ts f ⊎
-        Under (check_in scene.entry) arm.now.binders.items ts arm.now.body (λ z. Shows (check_in scene.entry) arm.now.body z f) context.old f)) }
+        Under (check_in scene.entry) arm.now.binders.items ts arm.now.body context.old (λ z. Shows (check_in scene.entry) arm.now.body z f) NoMore f)) }
 {
     enter_fields(alloc, scene, context, &arm.binders, fields)?;
     let d = infer(alloc, scene, context, &arm.body)?;

@@ -6,8 +6,9 @@ ghost use Rattle.fst_context.specs.Scope.{Variable};
 ghost use Rattle.fst_derivations.specs.Deriv.{deriv_of};
 ghost use Rattle.fst_derivations.specs.Parts.{AreVariables, IsFormed, enter_all};
 ghost use Rattle.fst_typing.specs.Typed.{IsTyped, IsTypedUnder};
+ghost use Rattle.fst_premises.specs.Checks.{IsInSize};
 ghost use Rattle.fst_premises.specs.Shown.{IsShown};
-ghost use Rattle.fst_typing.specs.Shown.{Shows, Under, IsRefused};
+ghost use Rattle.fst_typing.specs.Shown.{NoMore, Shows, Under, IsRefused};
 ghost use Rattle.fst_premises.specs.Scenes.{check_in, IsReady, IsSetUp};
 
 use crate::infer::infer;
@@ -33,9 +34,10 @@ pub(crate) fn infer_under(
 ) -> Result<Derivation, CheckFault>
     requires set_up { IsSetUp (check_in scene) }
     requires formed { IsFormed scene.vars.now t }
+    requires small { IsInSize t }
     requires ready { (vs : List Variable) → AreVariables scene.vars.now (t ∷ []) vs → IsReady (check_in scene) body.now (enter_all vs context.old.variables) }
     ensures typed { IfOk result (λ d. IsTypedUnder (check_in scene.entry) (binder.now ∷ []) (t ∷ []) context.old context.new body.now (deriv_of d)) }
-    ensures refused { IfErr result (λ f. IsShown f (Under (check_in scene.entry) (binder.now ∷ []) (t ∷ []) body.now (λ z. Shows (check_in scene.entry) body.now z f) context.old f)) }
+    ensures refused { IfErr result (λ f. IsShown f (Under (check_in scene.entry) (binder.now ∷ []) (t ∷ []) body.now context.old (λ z. Shows (check_in scene.entry) body.now z f) NoMore f)) }
 {
     enter(alloc, scene, context, binder, t)?;
     let d = infer(alloc, scene, context, body)?;
@@ -58,9 +60,11 @@ fn infer_under_two(
     requires set_up { IsSetUp (check_in scene) }
     requires left_formed { IsFormed scene.vars.now s }
     requires right_formed { IsFormed scene.vars.now t }
+    requires left_small { IsInSize s }
+    requires right_small { IsInSize t }
     requires ready { (vs : List Variable) → AreVariables scene.vars.now (s ∷ t ∷ []) vs → IsReady (check_in scene) body.now (enter_all vs context.old.variables) }
     ensures typed { IfOk result (λ d. IsTypedUnder (check_in scene.entry) (left.now ∷ right.now ∷ []) (s ∷ t ∷ []) context.old context.new body.now (deriv_of d)) }
-    ensures refused { IfErr result (λ f. IsShown f (Under (check_in scene.entry) (left.now ∷ right.now ∷ []) (s ∷ t ∷ []) body.now (λ z. Shows (check_in scene.entry) body.now z f) context.old f)) }
+    ensures refused { IfErr result (λ f. IsShown f (Under (check_in scene.entry) (left.now ∷ right.now ∷ []) (s ∷ t ∷ []) body.now context.old (λ z. Shows (check_in scene.entry) body.now z f) NoMore f)) }
 {
     enter(alloc, scene, context, left, s)?;
     enter(alloc, scene, context, right, t)?;

@@ -14,4 +14,4 @@ mod operands;
 
 pub use checking::{Accepted, check};
 pub use fst_premises::{CheckFault, Difference};
-pub use law::{accepted_law, equality_law};
+pub use law::{accepted_law, complete_law, equality_law, one_refusal_law, refusal_law};

@@ -22,27 +22,29 @@ use Rattle.fst_arms.specs.Arms.{arm_labels}
 use Rattle.fst_derivations.specs.Deriv.{convert, deriv_of, one, parts_of, row, two, type_of}
 use Rattle.fst_derivations.specs.Parts.{AreAt, AreVariables, HasUse, IsFormed, IsOffering, enter_all}
 use Rattle.fst_derivations.specs.Rules.{fields, rest}
+use Rattle.fst_premises.specs.Checks.{IsInSize, AreInSize}
 use Rattle.fst_premises.specs.Scenes.{check_in, IsReady, AreFormed}
 use Rattle.fst_premises.proofs.Laws.{closed_formed}
 use Rattle.fst_typing.specs.Scenes.{binding_of, AreArmsReady, AreArmsTyped, AreFieldsReady, IsArmReady, IsArmTyped, IsFirstTyped, IsNumbered, ShowsArm}
 use Rattle.fst_premises.specs.Scopes.{inside, AreUsed, entered_all, left_all}
 use Rattle.fst_premises.specs.Shown.{place, IsLargeBinder, IsTooLargeAt, ShowsNoCase, ShowsNoMatch, ShowsUnused, ShowsDropped, ShowsNoFunction, ShowsNoPair, ShowsReceive, ShowsSelect, ShowsSend, UseDifferent, IsShown}
 use Rattle.fst_premises.specs.Signs.{result_type}
-use Rattle.fst_typing.specs.Shown.{Shows, IsUnequal, ShowsArms, Under, IsRefused}
+use Rattle.fst_typing.specs.Shown.{NoMore, Shows, IsUnequal, ShowsArms, Under, IsRefused}
 use Rattle.fst_typing.specs.Typed.{IsKnown, IsPlain, IsTyped, IsTypedUnder}
 use Rattle.fst_typing.proofs.ArmRows.{RowSoFar, all_seen, arm_ready, arm_takes, first_is, first_refused, further_different, further_refused, further_unequal, row_begin, row_end, row_step, row_takes}
 use Rattle.fst_typing.proofs.ArmsReady.{case_first_ready, case_ready, enter_length, match_first_ready, match_ready}
 use Rattle.fst_typing.proofs.Bound.{function_typed, if_typed, let_typed, split_typed}
 use Rattle.fst_typing.proofs.Cases.{case_numbered, case_typed, fields_arm, match_typed, one_binder, some_arms}
 use Rattle.fst_typing.proofs.Fields.{FieldsSoFar, fields_end, fields_refused, fields_start, fields_step, fields_unequal, next_ready}
-use Rattle.fst_typing.proofs.Formed.{arrow_formed, pair_formed}
+use Rattle.fst_typing.proofs.EquationLaws.{both_ok}
+use Rattle.fst_typing.proofs.Formed.{arrow_formed, pair_formed, pair_small}
 use Rattle.fst_typing.proofs.Forms.{apply_typed, fork_typed, negate_typed, operate_typed, pair_typed, receive_typed, select_typed, send_typed, seq_typed}
 use Rattle.fst_typing.proofs.Heights.{core_arms_height_at, cores_height_at}
 use Rattle.fst_typing.proofs.Constants.{alone_typed, bool_typed, char_typed, int_typed, unit_typed}
 use Rattle.fst_typing.proofs.Makers.{field_types, formed_fields, make_ready, make_typed, terms_of_length}
 use Rattle.fst_typing.proofs.Marks.{marks_back, marks_decide, marks_length, marks_on, with_marks_same}
 use Rattle.fst_typing.proofs.Ready.{fork_ready, if_ready, inner_ready, lambda_ready, later_ready, let_first_ready, let_ready, one_ready, pair_ready, receive_ready, second_ready, select_ready, send_ready, seq_ready, split_first_ready, split_ready}
-use Rattle.fst_typing.proofs.Refusals.{behind, behind_under, joined_refused, shows_argument, shows_around, shows_no_function, shows_operand, shows_second_operand, shows_unequal_argument, shows_unequal_operand}
+use Rattle.fst_typing.proofs.Refusals.{behind, behind_under, under_more, joined_refused, shows_argument, shows_around, shows_no_function, shows_operand, shows_second_operand, shows_unequal_argument, shows_unequal_operand}
 use Rattle.fst_typing.proofs.Under.{bodies_entered, bodies_left, entered_variables, inside_variables}
 use Rattle.fst_typing.proofs.Wholes.{refused_as, typed_as, whole_none, whole_one, whole_three, whole_two}
 use Rattle.fst_typing.proofs.+infer.Goals as goal
@@ -460,6 +462,7 @@ infer_under::infer_under-returns-clause-typed t c =
     record {
       variables = record { type = c.args.t; uses = e.0 } ∷ [];
       types = (refl, e.1, tt);
+      small = (c.requires.small, tt);
       long = refl;
       inner = c.infer.new.context;
       typed = subst (λ s. IsTyped (check_in c.args.scene) s c.infer.new.context c.args.body.now (deriv_of c.in_ok-d.d)) e.2 c.in_ok-d.ensures.typed;
@@ -471,13 +474,13 @@ pub infer_under::infer_under-returns-in_err-d-clause-refused : goal.infer_under:
 infer_under::infer_under-returns-in_err-d-clause-refused t c =
     let e = c.in_ok-enter.ensures in
     let p = err_from_is_err_and c.from_residual-in_err-d.result c.from_residual-in_err-d.ensures.1 in
-    rw (p.1, p.2) (λ m. (record { type = c.args.t; uses = e.0 } ∷ [], (refl, e.1, tt), refl, inl (subst (λ s. Shows (check_in c.args.scene) c.args.body.now s c.in_err-d.field-0.0) e.2 (c.in_err-d.ensures.refused m))))
+    rw (p.1, p.2) (λ m. record { variables = record { type = c.args.t; uses = e.0 } ∷ []; small = (c.requires.small, tt); types = (refl, e.1, tt); long = refl; inside = inl (subst (λ s. Shows (check_in c.args.scene) c.args.body.now s c.in_err-d.field-0.0) e.2 (c.in_err-d.ensures.refused m)) })
 
 pub infer_under::infer_under-returns-in_err-leave-clause-refused : goal.infer_under::infer_under-returns-in_err-leave-clause-refused
 infer_under::infer_under-returns-in_err-leave-clause-refused t c =
     let e = c.in_ok-enter.ensures in
     let p = err_from_is_err_and c.from_residual-in_err-leave.result c.from_residual-in_err-leave.ensures.1 in
-    rw (p.1, p.2) (λ m. (record { type = c.args.t; uses = e.0 } ∷ [], (refl, e.1, tt), refl, inr (behind (subst (λ s. IsTyped (check_in c.args.scene) s c.infer.new.context c.args.body.now (deriv_of c.in_ok-d.d)) e.2 c.in_ok-d.ensures.typed) (c.in_err-leave.ensures.refused m))))
+    rw (p.1, p.2) (λ m. record { variables = record { type = c.args.t; uses = e.0 } ∷ []; small = (c.requires.small, tt); types = (refl, e.1, tt); long = refl; inside = inr (behind (subst (λ s. IsTyped (check_in c.args.scene) s c.infer.new.context c.args.body.now (deriv_of c.in_ok-d.d)) e.2 c.in_ok-d.ensures.typed) (inl (c.in_err-leave.ensures.refused m))) })
 
 pub infer_under::infer_under_two-infer-requires : goal.infer_under::infer_under_two-infer-requires
 infer_under::infer_under_two-infer-requires t c =
@@ -502,6 +505,7 @@ infer_under::infer_under_two-returns-clause-typed t c =
     record {
       variables = (record { type = c.args.s; uses = e.0 } ∷ record { type = c.args.t; uses = o.0 } ∷ []);
       types = (refl, e.1, (refl, o.1, tt));
+      small = (c.requires.left_small, (c.requires.right_small, tt));
       long = refl;
       inner = c.infer.new.context;
       typed = subst (λ s. IsTyped (check_in c.args.scene) s c.infer.new.context c.args.body.now (deriv_of c.in_ok-d.d)) both c.in_ok-d.ensures.typed;
@@ -515,7 +519,7 @@ infer_under::infer_under_two-returns-in_err-d-clause-refused t c =
     let o = c.in_ok-enter-2.ensures in
     let both = o.2 ∙ ap (λ z. entered c.args.right.now.name (record { type = c.args.t; uses = o.0 }) z) e.2 in
     let p = err_from_is_err_and c.from_residual-in_err-d.result c.from_residual-in_err-d.ensures.1 in
-    rw (p.1, p.2) (λ m. ((record { type = c.args.s; uses = e.0 } ∷ record { type = c.args.t; uses = o.0 } ∷ []), (refl, e.1, (refl, o.1, tt)), refl, inl (subst (λ s. Shows (check_in c.args.scene) c.args.body.now s c.in_err-d.field-0.0) both (c.in_err-d.ensures.refused m))))
+    rw (p.1, p.2) (λ m. record { variables = record { type = c.args.s; uses = e.0 } ∷ record { type = c.args.t; uses = o.0 } ∷ []; small = (c.requires.left_small, (c.requires.right_small, tt)); types = (refl, e.1, (refl, o.1, tt)); long = refl; inside = inl (subst (λ s. Shows (check_in c.args.scene) c.args.body.now s c.in_err-d.field-0.0) both (c.in_err-d.ensures.refused m)) })
 
 pub infer_under::infer_under_two-returns-in_err-leave_two-clause-refused : goal.infer_under::infer_under_two-returns-in_err-leave_two-clause-refused
 infer_under::infer_under_two-returns-in_err-leave_two-clause-refused t c =
@@ -523,7 +527,7 @@ infer_under::infer_under_two-returns-in_err-leave_two-clause-refused t c =
     let o = c.in_ok-enter-2.ensures in
     let both = o.2 ∙ ap (λ z. entered c.args.right.now.name (record { type = c.args.t; uses = o.0 }) z) e.2 in
     let p = err_from_is_err_and c.from_residual-in_err-leave_two.result c.from_residual-in_err-leave_two.ensures.1 in
-    rw (p.1, p.2) (λ m. ((record { type = c.args.s; uses = e.0 } ∷ record { type = c.args.t; uses = o.0 } ∷ []), (refl, e.1, (refl, o.1, tt)), refl, inr (behind (subst (λ s. IsTyped (check_in c.args.scene) s c.infer.new.context c.args.body.now (deriv_of c.in_ok-d.d)) both c.in_ok-d.ensures.typed) (c.in_err-leave_two.ensures.refused m))))
+    rw (p.1, p.2) (λ m. record { variables = record { type = c.args.s; uses = e.0 } ∷ record { type = c.args.t; uses = o.0 } ∷ []; small = (c.requires.left_small, (c.requires.right_small, tt)); types = (refl, e.1, (refl, o.1, tt)); long = refl; inside = inr (behind (subst (λ s. IsTyped (check_in c.args.scene) s c.infer.new.context c.args.body.now (deriv_of c.in_ok-d.d)) both c.in_ok-d.ensures.typed) (inl (c.in_err-leave_two.ensures.refused m))) })
 
 pub infer_under::infer_function-begin_function-requires : goal.infer_under::infer_function-begin_function-requires
 infer_under::infer_function-begin_function-requires t c =
@@ -538,14 +542,17 @@ infer_under::infer_function-infer_under-requires t c =
     let known = same_Some c.requires.ready.formed.0.0 c.in_ok-from.from (sym c.requires.ready.formed.0.1 ∙ c.in_ok-from.ensures.from) in
     let formed = subst (IsFormed c.args.scene.vars.now) known c.requires.ready.formed.0.2 in
     let inner = ap (λ (s : Scope). s.variables) c.in_ok-from.ensures.begun ∙ inside_variables c.args.uses c.args.context.now in
-    let ready = lambda_ready (check_in c.args.scene) c.args.at c.args.k c.args.uses c.args.binder.now c.args.body.now c.in_ok-from.from c.args.context.now.variables c.requires.ready in (
+    let ready = lambda_ready (check_in c.args.scene) c.args.at c.args.k c.args.uses c.args.binder.now c.args.body.now c.in_ok-from.from c.args.context.now.variables c.requires.ready c.in_ok-from.ensures.small in (
       omega (arith, c.decreases),
       (
         c.requires.set_up,
         (
           formed,
-          subst (λ (g : List Variable). (vs : List Variable) → AreVariables c.args.scene.vars.now (c.in_ok-from.from ∷ []) vs →
-              IsReady (check_in c.args.scene) c.args.body.now (enter_all vs g)) (sym inner) ready,
+          (
+            c.in_ok-from.ensures.small,
+            subst (λ (g : List Variable). (vs : List Variable) → AreVariables c.args.scene.vars.now (c.in_ok-from.from ∷ []) vs →
+                IsReady (check_in c.args.scene) c.args.body.now (enter_all vs g)) (sym inner) ready,
+          ),
         ),
       ),
     )
@@ -569,7 +576,7 @@ infer_under::infer_function-returns-in_err-d-clause-refused t c =
     rw (p.1, p.2) (λ m. (
       c.in_ok-from.from,
       c.in_ok-from.ensures.from,
-      inr (inl (subst (λ s. Under (check_in c.args.scene) (c.args.binder.now ∷ []) (c.in_ok-from.from ∷ []) c.args.body.now (λ z. Shows (check_in c.args.scene) c.args.body.now z f) s f) c.in_ok-from.ensures.begun (c.in_err-d.ensures.refused m))),
+      inr (under_more (subst (λ s. Under (check_in c.args.scene) (c.args.binder.now ∷ []) (c.in_ok-from.from ∷ []) c.args.body.now s (λ z. Shows (check_in c.args.scene) c.args.body.now z f) NoMore f) c.in_ok-from.ensures.begun (c.in_err-d.ensures.refused m))),
     ))
 
 pub infer_under::infer_function-returns-clause-refused : goal.infer_under::infer_function-returns-clause-refused
@@ -580,7 +587,7 @@ infer_under::infer_function-returns-clause-refused t c =
     let found = subst (λ o. IsTypedUnder (check_in c.args.scene) x (o ∷ []) c.begin_function.new.context c.infer_under.new.context c.args.body.now (deriv_of c.in_ok-d.d)) same c.in_ok-d.ensures.typed in
     let typed = subst (λ s. IsTypedUnder (check_in c.args.scene) x (from ∷ []) s c.infer_under.new.context c.args.body.now (deriv_of c.in_ok-d.d)) c.in_ok-from.ensures.begun found in
     IfErr-weaker c.function_row.result (λ f. IsShown f (IsTooLargeAt c.args.at (arrow c.args.uses from (type_of (deriv_of c.in_ok-d.d))) f)) (λ f. IsRefused (check_in c.args.scene) (lambda c.args.at c.args.uses c.args.k c.args.binder.now c.args.body.now) c.args.context.now f)
-    (λ f y m. (from, c.type_at.ensures, inr (inr (behind_under typed (y m))))) c.function_row.ensures.refused
+    (λ f y m. (from, c.type_at.ensures, inr (behind_under typed (y m)))) c.function_row.ensures.refused
 
 pub infer_under::infer_function-returns-clause-typed : goal.infer_under::infer_function-returns-clause-typed
 infer_under::infer_function-returns-clause-typed t c =
@@ -589,8 +596,8 @@ infer_under::infer_function-returns-clause-typed t c =
     let same = same_Some c.in_ok-from.from from (sym c.in_ok-from.ensures.from ∙ c.type_at.ensures) in
     let found = subst (λ o. IsTypedUnder (check_in c.args.scene) x (o ∷ []) c.begin_function.new.context c.infer_under.new.context c.args.body.now (deriv_of c.in_ok-d.d)) same c.in_ok-d.ensures.typed in
     let typed = subst (λ s. IsTypedUnder (check_in c.args.scene) x (from ∷ []) s c.infer_under.new.context c.args.body.now (deriv_of c.in_ok-d.d)) c.in_ok-from.ensures.begun found in
-    IfOk-weaker c.function_row.result (λ w. deriv_of w ≡ row (arrow c.args.uses from (type_of (deriv_of c.in_ok-d.d))) (one (deriv_of c.in_ok-d.d))) _
-    (λ w e. function_typed (check_in c.args.scene) _ _ _ _ _ _ _ from _ _ _ _ typed c.end_body.ensures c.type_at.ensures refl e) c.function_row.ensures.made
+    both_ok c.function_row.result (λ w. deriv_of w ≡ row (arrow c.args.uses from (type_of (deriv_of c.in_ok-d.d))) (one (deriv_of c.in_ok-d.d))) (λ w. IsInSize (type_of (deriv_of w))) _
+    (λ w e n. function_typed (check_in c.args.scene) _ _ _ _ _ _ _ from _ _ _ _ typed c.end_body.ensures c.type_at.ensures refl e n) c.function_row.ensures.made c.function_row.ensures.small
 
 pub infer_under::infer_let-infer-requires : goal.infer_under::infer_let-infer-requires
 infer_under::infer_let-infer-requires t c =
@@ -598,7 +605,8 @@ infer_under::infer_let-infer-requires t c =
 
 pub infer_under::infer_let-infer_under-requires : goal.infer_under::infer_let-infer_under-requires
 infer_under::infer_let-infer_under-requires t c =
-    (omega (arith, c.decreases), (c.requires.set_up, (subst (IsFormed c.args.scene.vars.now) (sym (c.in_ok-t.ensures ∙ c.type_of.ensures)) c.in_ok-d.ensures.typed.fact.formed, let_ready (check_in c.args.scene) _ _ _ _ _ _ _ _ c.requires.ready c.in_ok-d.ensures.typed)))
+    let small = subst IsInSize (sym (c.in_ok-t.ensures ∙ c.type_of.ensures)) c.in_ok-d.ensures.typed.fact.small in
+    (omega (arith, c.decreases), (c.requires.set_up, (subst (IsFormed c.args.scene.vars.now) (sym (c.in_ok-t.ensures ∙ c.type_of.ensures)) c.in_ok-d.ensures.typed.fact.formed, (small, let_ready (check_in c.args.scene) _ _ _ _ _ _ _ _ c.requires.ready c.in_ok-d.ensures.typed small))))
 
 pub infer_under::infer_let-returns-in_err-d-clause-refused : goal.infer_under::infer_let-returns-in_err-d-clause-refused
 infer_under::infer_let-returns-in_err-d-clause-refused t c =
@@ -608,7 +616,7 @@ infer_under::infer_let-returns-in_err-d-clause-refused t c =
 pub infer_under::infer_let-returns-in_err-h-clause-refused : goal.infer_under::infer_let-returns-in_err-h-clause-refused
 infer_under::infer_let-returns-in_err-h-clause-refused t c =
     let p = err_from_is_err_and c.from_residual-in_err-h.result c.from_residual-in_err-h.ensures.1 in
-    rw (p.1, p.2) (λ m. inr (behind c.in_ok-d.ensures.typed (subst (λ o. Under (check_in c.args.scene) (c.args.binder.now ∷ []) (o ∷ []) c.args.second.now (λ z. Shows (check_in c.args.scene) c.args.second.now z c.in_err-h.field-0.0) c.infer.new.context c.in_err-h.field-0.0) (c.in_ok-t.ensures ∙ c.type_of.ensures) (c.in_err-h.ensures.refused m))))
+    rw (p.1, p.2) (λ m. inr (behind c.in_ok-d.ensures.typed (subst (λ o. Under (check_in c.args.scene) (c.args.binder.now ∷ []) (o ∷ []) c.args.second.now c.infer.new.context (λ z. Shows (check_in c.args.scene) c.args.second.now z c.in_err-h.field-0.0) NoMore c.in_err-h.field-0.0) (c.in_ok-t.ensures ∙ c.type_of.ensures) (c.in_err-h.ensures.refused m))))
 
 pub infer_under::infer_let-returns-clause-typed : goal.infer_under::infer_let-returns-clause-typed
 infer_under::infer_let-returns-clause-typed t c =
@@ -621,7 +629,8 @@ infer_under::infer_split-infer-requires t c =
 pub infer_under::infer_split-infer_under_two-requires : goal.infer_under::infer_split-infer_under_two-requires
 infer_under::infer_split-infer_under_two-requires t c =
     let both = pair_formed c.args.scene.vars.now c.in_ok-parts.parts.0 c.in_ok-parts.parts.1 (subst (IsFormed c.args.scene.vars.now) (sym c.type_of.ensures ∙ c.in_ok-parts.ensures.ok) c.in_ok-d.ensures.typed.fact.formed) in
-    (omega (arith, c.decreases), (c.requires.set_up, (both.0, (both.1, split_ready (check_in c.args.scene) _ _ _ _ _ _ _ _ _ _ c.requires.ready c.in_ok-d.ensures.typed))))
+    let small = pair_small c.in_ok-parts.parts.0 c.in_ok-parts.parts.1 (subst IsInSize (sym c.type_of.ensures ∙ c.in_ok-parts.ensures.ok) c.in_ok-d.ensures.typed.fact.small) in
+    (omega (arith, c.decreases), (c.requires.set_up, (both.0, (both.1, (small.0, (small.1, split_ready (check_in c.args.scene) _ _ _ _ _ _ _ _ _ _ c.requires.ready c.in_ok-d.ensures.typed small.0 small.1))))))
 
 pub infer_under::infer_split-returns-in_err-d-clause-refused : goal.infer_under::infer_split-returns-in_err-d-clause-refused
 infer_under::infer_split-returns-in_err-d-clause-refused t c =
@@ -653,16 +662,16 @@ infer_arms::infer_fields_arm-enter_fields-requires-clause-there t c =
 pub infer_arms::infer_fields_arm-infer-requires : goal.infer_arms::infer_fields_arm-infer-requires
 infer_arms::infer_fields_arm-infer-requires t c =
     let e = c.in_ok-enter_fields.ensures.entered c.requires.ready.0 c.requires.ready.1 in
-    let entered = e.3 ∙ ap (λ xs. entered_all xs e.0 c.args.context.now) c.deref.ensures.value in
-    let long = ap (λ (xs : List Binder). length xs) (sym c.deref.ensures.value) ∙ e.2 in
+    let entered = e.4 ∙ ap (λ xs. entered_all xs e.0 c.args.context.now) c.deref.ensures.value in
+    let long = ap (λ (xs : List Binder). length xs) (sym c.deref.ensures.value) ∙ e.3 in
     let variables = ap (λ (z : Scope). z.variables) entered ∙ entered_variables c.args.arm.now.binders.items e.0 c.args.context.now long in
-    (omega (arith, c.decreases), (c.requires.set_up, subst (IsReady (check_in c.args.scene) c.args.arm.now.body) (sym variables) (c.requires.ready.3 e.0 e.1)))
+    (omega (arith, c.decreases), (c.requires.set_up, subst (IsReady (check_in c.args.scene) c.args.arm.now.body) (sym variables) (c.requires.ready.3 e.2 e.0 e.1)))
 
 pub infer_arms::infer_fields_arm-leave_all-requires : goal.infer_arms::infer_fields_arm-leave_all-requires
 infer_arms::infer_fields_arm-leave_all-requires t c =
     let e = c.in_ok-enter_fields.ensures.entered c.requires.ready.0 c.requires.ready.1 in
-    let entered = e.3 ∙ ap (λ xs. entered_all xs e.0 c.args.context.now) c.deref.ensures.value in
-    let long = ap (λ (xs : List Binder). length xs) (sym c.deref.ensures.value) ∙ e.2 in
+    let entered = e.4 ∙ ap (λ xs. entered_all xs e.0 c.args.context.now) c.deref.ensures.value in
+    let long = ap (λ (xs : List Binder). length xs) (sym c.deref.ensures.value) ∙ e.3 in
     let variables = ap (λ (z : Scope). z.variables) entered ∙ entered_variables c.args.arm.now.binders.items e.0 c.args.context.now long in
     let same = ap (λ (z : Scope). length z.variables) c.in_ok-d.ensures.typed.rest in
     let many = ap (λ (vs : List Variable). length vs) variables in
@@ -678,32 +687,33 @@ pub infer_arms::infer_fields_arm-returns-in_err-d-clause-refused : goal.infer_ar
 infer_arms::infer_fields_arm-returns-in_err-d-clause-refused t c =
     let p = err_from_is_err_and c.from_residual-in_err-d.result c.from_residual-in_err-d.ensures.1 in
     rw (p.1, p.2) (λ ts at m. let e = c.in_ok-enter_fields.ensures.entered ts at in
-    let entered = e.3 ∙ ap (λ xs. entered_all xs e.0 c.args.context.now) c.deref.ensures.value in
-    let long = ap (λ (xs : List Binder). length xs) (sym c.deref.ensures.value) ∙ e.2 in
+    let entered = e.4 ∙ ap (λ xs. entered_all xs e.0 c.args.context.now) c.deref.ensures.value in
+    let long = ap (λ (xs : List Binder). length xs) (sym c.deref.ensures.value) ∙ e.3 in
     let variables = ap (λ (z : Scope). z.variables) entered ∙ entered_variables c.args.arm.now.binders.items e.0 c.args.context.now long in
-    inr (e.0, e.1, long, inl (subst (λ s. Shows (check_in c.args.scene) c.args.arm.now.body s c.in_err-d.field-0.0) entered (c.in_err-d.ensures.refused m))))
+    inr (record { variables = e.0; small = e.2; types = e.1; long = long; inside = inl (subst (λ s. Shows (check_in c.args.scene) c.args.arm.now.body s c.in_err-d.field-0.0) entered (c.in_err-d.ensures.refused m)) }))
 
 pub infer_arms::infer_fields_arm-returns-in_err-leave_all-clause-refused : goal.infer_arms::infer_fields_arm-returns-in_err-leave_all-clause-refused
 infer_arms::infer_fields_arm-returns-in_err-leave_all-clause-refused t c =
     let p = err_from_is_err_and c.from_residual-in_err-leave_all.result c.from_residual-in_err-leave_all.ensures.1 in
     rw (p.1, p.2) (λ ts at m. let e = c.in_ok-enter_fields.ensures.entered ts at in
-    let entered = e.3 ∙ ap (λ xs. entered_all xs e.0 c.args.context.now) c.deref.ensures.value in
-    let long = ap (λ (xs : List Binder). length xs) (sym c.deref.ensures.value) ∙ e.2 in
+    let entered = e.4 ∙ ap (λ xs. entered_all xs e.0 c.args.context.now) c.deref.ensures.value in
+    let long = ap (λ (xs : List Binder). length xs) (sym c.deref.ensures.value) ∙ e.3 in
     let variables = ap (λ (z : Scope). z.variables) entered ∙ entered_variables c.args.arm.now.binders.items e.0 c.args.context.now long in
     let inner = subst (λ s. IsTyped (check_in c.args.scene) s c.infer.new.context c.args.arm.now.body (deriv_of c.in_ok-d.d)) entered c.in_ok-d.ensures.typed in
-    inr (e.0, e.1, long, inr (behind inner (subst (λ xs. ShowsUnused c.infer.new.context xs c.in_err-leave_all.field-0.0) c.deref-2.ensures.value (c.in_err-leave_all.ensures.refused m)))))
+    inr (record { variables = e.0; small = e.2; types = e.1; long = long; inside = inr (behind inner (inl (subst (λ xs. ShowsUnused c.infer.new.context xs c.in_err-leave_all.field-0.0) c.deref-2.ensures.value (c.in_err-leave_all.ensures.refused m)))) }))
 
 pub infer_arms::infer_fields_arm-returns-clause-typed : goal.infer_arms::infer_fields_arm-returns-clause-typed
 infer_arms::infer_fields_arm-returns-clause-typed t c =
     λ ts at. let e = c.in_ok-enter_fields.ensures.entered ts at in
-    let entered = e.3 ∙ ap (λ xs. entered_all xs e.0 c.args.context.now) c.deref.ensures.value in
-    let long = ap (λ (xs : List Binder). length xs) (sym c.deref.ensures.value) ∙ e.2 in
+    let entered = e.4 ∙ ap (λ xs. entered_all xs e.0 c.args.context.now) c.deref.ensures.value in
+    let long = ap (λ (xs : List Binder). length xs) (sym c.deref.ensures.value) ∙ e.3 in
     let variables = ap (λ (z : Scope). z.variables) entered ∙ entered_variables c.args.arm.now.binders.items e.0 c.args.context.now long in
     let inner = subst (λ s. IsTyped (check_in c.args.scene) s c.infer.new.context c.args.arm.now.body (deriv_of c.in_ok-d.d)) entered c.in_ok-d.ensures.typed in
     let names = ap (λ (xs : List Binder). length xs) c.deref-2.ensures.value in
     record {
       variables = e.0;
       types = e.1;
+      small = e.2;
       long = long;
       inner = c.infer.new.context;
       typed = inner;
@@ -723,7 +733,7 @@ infer_arms::infer_rest_arm-index-binder-requires t c =
 pub infer_arms::infer_rest_arm-infer_under-requires : goal.infer_arms::infer_rest_arm-infer_under-requires
 infer_arms::infer_rest_arm-infer_under-requires t c =
     let types = c.requires.ready.binds.2 ∙ ap (λ x. x ∷ []) (same_Some c.requires.ready.binds.0 c.in_ok-next.next (sym c.requires.ready.binds.1 ∙ c.in_ok-next.ensures.offered)) in
-    (omega (arith, c.decreases), (c.requires.set_up, ((subst (AreFormed c.args.scene.vars.now) types c.requires.ready.formed).0, λ vs a. c.requires.ready.body vs (subst (λ ts. AreVariables c.args.scene.vars.now ts vs) (sym types) a))))
+    (omega (arith, c.decreases), (c.requires.set_up, ((subst (AreFormed c.args.scene.vars.now) types c.requires.ready.formed).0, (c.in_ok-next.ensures.small, λ vs a. c.requires.ready.body (subst AreInSize (sym types) (c.in_ok-next.ensures.small, tt)) vs (subst (λ ts. AreVariables c.args.scene.vars.now ts vs) (sym types) a)))))
 
 pub infer_arms::infer_rest_arm-returns-in_err-next-clause-refused : goal.infer_arms::infer_rest_arm-returns-in_err-next-clause-refused
 infer_arms::infer_rest_arm-returns-in_err-next-clause-refused t c =
@@ -739,7 +749,7 @@ infer_arms::infer_rest_arm-returns-clause-typed t c =
 pub infer_arms::infer_rest_arm-returns-clause-refused : goal.infer_arms::infer_rest_arm-returns-clause-refused
 infer_arms::infer_rest_arm-returns-clause-refused t c =
     let one = one_binder c.args.arm.now.binders.items c.index-binder.result.now (c.requires.ready.long ∙ ap (λ (ts : List Tree). length ts) c.requires.ready.binds.2) c.index-binder.ensures in
-    IfErr-weaker c.infer_under.result (λ f. IsShown f (Under (check_in c.args.scene) (c.index-binder.result.now ∷ []) (c.in_ok-next.next ∷ []) c.args.arm.now.body (λ z. Shows (check_in c.args.scene) c.args.arm.now.body z f) c.args.context.now f)) (λ f. IsShown f (ShowsArm (check_in c.args.scene) (rest c.args.t.now) c.args.arm.now.label c.args.arm.now.binders.items c.args.arm.now.body c.args.context.now f)) (λ f y m. (c.in_ok-next.next ∷ [], (c.in_ok-next.next, c.in_ok-next.ensures.offered, refl), inr (subst (λ xs. Under (check_in c.args.scene) xs (c.in_ok-next.next ∷ []) c.args.arm.now.body (λ z. Shows (check_in c.args.scene) c.args.arm.now.body z f) c.args.context.now f) (sym one) (y m)))) c.infer_under.ensures.refused
+    IfErr-weaker c.infer_under.result (λ f. IsShown f (Under (check_in c.args.scene) (c.index-binder.result.now ∷ []) (c.in_ok-next.next ∷ []) c.args.arm.now.body c.args.context.now (λ z. Shows (check_in c.args.scene) c.args.arm.now.body z f) NoMore f)) (λ f. IsShown f (ShowsArm (check_in c.args.scene) (rest c.args.t.now) c.args.arm.now.label c.args.arm.now.binders.items c.args.arm.now.body c.args.context.now f)) (λ f y m. (c.in_ok-next.next ∷ [], (c.in_ok-next.next, c.in_ok-next.ensures.offered, refl), inr (subst (λ xs. Under (check_in c.args.scene) xs (c.in_ok-next.next ∷ []) c.args.arm.now.body c.args.context.now (λ z. Shows (check_in c.args.scene) c.args.arm.now.body z f) NoMore f) (sym one) (y m)))) c.infer_under.ensures.refused
 
 pub infer_arms::infer_arm-bounds-numbers-number : goal.infer_arms::infer_arm-bounds-numbers-number
 infer_arms::infer_arm-bounds-numbers-number t c =
@@ -766,7 +776,7 @@ infer_arms::infer_arm-returns-in-Fields-clause-typed t c =
 pub infer_arms::infer_arm-returns-in-Fields-clause-refused : goal.infer_arms::infer_arm-returns-in-Fields-clause-refused
 infer_arms::infer_arm-returns-in-Fields-clause-refused t c =
     let arm = fields_arm (check_in c.args.scene) c.in-Fields.makers.now (get_or c.in-Fields.numbers.now c.args.number 0) c.index-makers-numbers.result c.deref.result.now c.args.arm.now.label c.args.arm.now.binders.items c.args.arm.now.body c.args.context.now.variables (subst (λ b. IsArmReady (check_in c.args.scene) (binding_of b) c.args.arm.now.label c.args.arm.now.binders.items c.args.arm.now.body c.args.context.now.variables) c.in-Fields.is c.requires.ready) (subst (λ b. IsNumbered b c.args.number c.args.arm.now.label) c.in-Fields.is c.requires.numbered).1 (subst (λ b. IsNumbered b c.args.number c.args.arm.now.label) c.in-Fields.is c.requires.numbered).2 c.index-makers-numbers.is (c.deref.ensures.value ∙ ap (λ (p : Maker). p.fields.items) (sym c.index-makers-numbers.is)) in
-    rw c.in-Fields.is (IfErr-weaker c.infer_fields_arm.result (λ f. (ts : List Tree) → AreAt c.args.scene.module.now.types.items c.deref.result.now ts → IsShown f (IsLargeBinder c.args.arm.now.binders.items ts f ⊎ Under (check_in c.args.scene) c.args.arm.now.binders.items ts c.args.arm.now.body (λ z. Shows (check_in c.args.scene) c.args.arm.now.body z f) c.args.context.now f)) (λ f. IsShown f (ShowsArm (check_in c.args.scene) (fields c.in-Fields.makers.now) c.args.arm.now.label c.args.arm.now.binders.items c.args.arm.now.body c.args.context.now f)) (λ f y m. (arm.types, arm.binds, y arm.types arm.at m)) c.infer_fields_arm.ensures.refused)
+    rw c.in-Fields.is (IfErr-weaker c.infer_fields_arm.result (λ f. (ts : List Tree) → AreAt c.args.scene.module.now.types.items c.deref.result.now ts → IsShown f (IsLargeBinder c.args.arm.now.binders.items ts f ⊎ Under (check_in c.args.scene) c.args.arm.now.binders.items ts c.args.arm.now.body c.args.context.now (λ z. Shows (check_in c.args.scene) c.args.arm.now.body z f) NoMore f)) (λ f. IsShown f (ShowsArm (check_in c.args.scene) (fields c.in-Fields.makers.now) c.args.arm.now.label c.args.arm.now.binders.items c.args.arm.now.body c.args.context.now f)) (λ f y m. (arm.types, arm.binds, y arm.types arm.at m)) c.infer_fields_arm.ensures.refused)
 
 pub infer_arms::infer_arm-returns-in-Rest-clause-typed : goal.infer_arms::infer_arm-returns-in-Rest-clause-typed
 infer_arms::infer_arm-returns-in-Rest-clause-typed t c =
@@ -1027,8 +1037,8 @@ infer_parts::infer_pair-returns-clause-refused t c =
 
 pub infer_parts::infer_pair-returns-clause-typed : goal.infer_parts::infer_pair-returns-clause-typed
 infer_parts::infer_pair-returns-clause-typed t c =
-    IfOk-weaker c.pair_row.result (λ w. deriv_of w ≡ row (type.pair (type_of (deriv_of c.in_ok-d.d)) (type_of (deriv_of c.in_ok-h.h))) (two (deriv_of c.in_ok-d.d) (deriv_of c.in_ok-h.h))) _
-    (λ w e. pair_typed (check_in c.args.scene) _ _ _ _ _ _ _ _ _ _ c.in_ok-d.ensures.typed c.in_ok-h.ensures.typed refl e) c.pair_row.ensures.made
+    both_ok c.pair_row.result (λ w. deriv_of w ≡ row (type.pair (type_of (deriv_of c.in_ok-d.d)) (type_of (deriv_of c.in_ok-h.h))) (two (deriv_of c.in_ok-d.d) (deriv_of c.in_ok-h.h))) (λ w. IsInSize (type_of (deriv_of w))) _
+    (λ w e n. pair_typed (check_in c.args.scene) _ _ _ _ _ _ _ _ _ _ c.in_ok-d.ensures.typed c.in_ok-h.ensures.typed refl e n) c.pair_row.ensures.made c.pair_row.ensures.small
 
 pub infer_parts::infer_fields-infer-requires : goal.infer_parts::infer_fields-infer-requires
 infer_parts::infer_fields-infer-requires t c =
@@ -1108,14 +1118,14 @@ infer_parts::infer_make-infer_fields-requires t c =
 
 pub infer_parts::infer_make-returns-in_err-parts-clause-refused : goal.infer_parts::infer_make-returns-in_err-parts-clause-refused
 infer_parts::infer_make-returns-in_err-parts-clause-refused t c =
-    let types = field_types c.args.scene.module.now.types.items c.fields_of-fields.ensures.0.fields.items (formed_fields (check_in c.args.scene) c.args.family c.args.maker c.fields_of-fields.ensures.0 c.requires.set_up c.fields_of-fields.ensures.1) in
+    let types = field_types c.args.scene.module.now.types.items c.fields_of-fields.ensures.0.fields.items (formed_fields (check_in c.args.scene) c.args.family c.args.maker c.fields_of-fields.ensures.0 c.requires.set_up.fields c.fields_of-fields.ensures.1) in
     let there = subst (λ ks. AreAt c.args.scene.module.now.types.items ks types.0) (sym c.fields_of-fields.ensures.2) types.1 in
     let p = err_from_is_err_and c.from_residual.result c.from_residual.ensures.1 in
     rw (p.1, p.2) (λ m. (c.fields_of-fields.ensures.0, types.0, c.fields_of-fields.ensures.1, types.1, c.in_err-parts.ensures.refused types.0 there m))
 
 pub infer_parts::infer_make-returns-clause-typed : goal.infer_parts::infer_make-returns-clause-typed
 infer_parts::infer_make-returns-clause-typed t c =
-    let types = field_types c.args.scene.module.now.types.items c.fields_of-fields.ensures.0.fields.items (formed_fields (check_in c.args.scene) c.args.family c.args.maker c.fields_of-fields.ensures.0 c.requires.set_up c.fields_of-fields.ensures.1) in
+    let types = field_types c.args.scene.module.now.types.items c.fields_of-fields.ensures.0.fields.items (formed_fields (check_in c.args.scene) c.args.family c.args.maker c.fields_of-fields.ensures.0 c.requires.set_up.fields c.fields_of-fields.ensures.1) in
     let there = subst (λ ks. AreAt c.args.scene.module.now.types.items ks types.0) (sym c.fields_of-fields.ensures.2) types.1 in
     make_typed (check_in c.args.scene) _ _ _ _ _ c.fields_of-fields.ensures.0 types.0 _ _ _ _ c.fields_of-fields.ensures.1 types.1 (c.in_ok-parts.ensures.typed types.0 there) c.named.ensures c.row.ensures
 
@@ -1274,8 +1284,8 @@ infer_parts::infer_send-returns-clause-refused t c =
 
 pub infer_parts::infer_send-returns-clause-typed : goal.infer_parts::infer_send-returns-clause-typed
 infer_parts::infer_send-returns-clause-typed t c =
-    IfOk-weaker c.sent_row.result (λ w. (b : Base) × (next : Tree) × (type_of (deriv_of c.in_ok-d.d) ≡ plain b) × (step (type_of (deriv_of c.in_ok-h.h)) (Send b) ≡ Some next) × (deriv_of w ≡ row next (two (deriv_of c.in_ok-d.d) (deriv_of c.in_ok-h.h)))) _
-    (λ w s. send_typed (check_in c.args.scene) _ _ _ _ _ _ s.0 _ _ _ _ c.in_ok-d.ensures.typed c.in_ok-h.ensures.typed s.2 s.3 s.4) c.sent_row.ensures.made
+    both_ok c.sent_row.result (λ w. (b : Base) × (next : Tree) × (type_of (deriv_of c.in_ok-d.d) ≡ plain b) × (step (type_of (deriv_of c.in_ok-h.h)) (Send b) ≡ Some next) × (deriv_of w ≡ row next (two (deriv_of c.in_ok-d.d) (deriv_of c.in_ok-h.h)))) (λ w. IsInSize (type_of (deriv_of w))) _
+    (λ w s n. send_typed (check_in c.args.scene) _ _ _ _ _ _ s.0 _ _ _ _ c.in_ok-d.ensures.typed c.in_ok-h.ensures.typed s.2 s.3 s.4 n) c.sent_row.ensures.made c.sent_row.ensures.small
 
 pub infer_parts::infer_receive-infer-requires : goal.infer_parts::infer_receive-infer-requires
 infer_parts::infer_receive-infer-requires t c =
@@ -1293,8 +1303,8 @@ infer_parts::infer_receive-returns-clause-refused t c =
 
 pub infer_parts::infer_receive-returns-clause-typed : goal.infer_parts::infer_receive-returns-clause-typed
 infer_parts::infer_receive-returns-clause-typed t c =
-    IfOk-weaker c.received_row.result (λ w. (b : Base) × (next : Tree) × (step (type_of (deriv_of c.in_ok-d.d)) (Receive b) ≡ Some next) × (deriv_of w ≡ row (type.pair (plain b) next) (one (deriv_of c.in_ok-d.d)))) _
-    (λ w s. receive_typed (check_in c.args.scene) _ _ _ _ s.0 s.1 _ _ _ c.in_ok-d.ensures.typed s.2 refl s.3) c.received_row.ensures.made
+    both_ok c.received_row.result (λ w. (b : Base) × (next : Tree) × (step (type_of (deriv_of c.in_ok-d.d)) (Receive b) ≡ Some next) × (deriv_of w ≡ row (type.pair (plain b) next) (one (deriv_of c.in_ok-d.d)))) (λ w. IsInSize (type_of (deriv_of w))) _
+    (λ w s n. receive_typed (check_in c.args.scene) _ _ _ _ s.0 s.1 _ _ _ c.in_ok-d.ensures.typed s.2 refl s.3 n) c.received_row.ensures.made c.received_row.ensures.small
 
 pub infer_parts::infer_select-infer-requires : goal.infer_parts::infer_select-infer-requires
 infer_parts::infer_select-infer-requires t c =
@@ -1312,8 +1322,8 @@ infer_parts::infer_select-returns-clause-refused t c =
 
 pub infer_parts::infer_select-returns-clause-typed : goal.infer_parts::infer_select-returns-clause-typed
 infer_parts::infer_select-returns-clause-typed t c =
-    IfOk-weaker c.selected_row.result (λ w. (next : Tree) × (step (type_of (deriv_of c.in_ok-d.d)) (Select c.args.label.now) ≡ Some next) × (deriv_of w ≡ row next (one (deriv_of c.in_ok-d.d)))) _
-    (λ w s. select_typed (check_in c.args.scene) _ _ _ _ _ s.0 _ _ c.in_ok-d.ensures.typed s.1 s.2) c.selected_row.ensures.made
+    both_ok c.selected_row.result (λ w. (next : Tree) × (step (type_of (deriv_of c.in_ok-d.d)) (Select c.args.label.now) ≡ Some next) × (deriv_of w ≡ row next (one (deriv_of c.in_ok-d.d)))) (λ w. IsInSize (type_of (deriv_of w))) _
+    (λ w s n. select_typed (check_in c.args.scene) _ _ _ _ _ s.0 _ _ c.in_ok-d.ensures.typed s.1 s.2 n) c.selected_row.ensures.made c.selected_row.ensures.small
 
 pub infer_parts::infer_fork-infer-requires : goal.infer_parts::infer_fork-infer-requires
 infer_parts::infer_fork-infer-requires t c =

@@ -27,7 +27,7 @@ loop-i-preserved c =
     let few : c.loop-i.i < length c.args.fields.now = omega (arith, c.requires.long, c.loop-i-test.true) in
     let e = c.in_ok-enter.ensures in
     entered_step (check_in c.args.scene) c.args.binders.now c.args.fields.now c.loop-i.i c.index-binders-i.result c.type_at-t.result.now c.in_ok-copied.copied e.0 c.args.context.now c.loop-i.context c.enter.new.context
-    c.loop-i.invariant c.loop-i-test.true few (sym c.index-binders-i.is) c.type_at-t.ensures (λ h. let le = c.in_ok-fits.ensures.fits in omega (arith, h, le)) c.in_ok-copied.ensures e.1 e.2
+    c.loop-i.invariant c.loop-i-test.true few (sym c.index-binders-i.is) c.type_at-t.ensures c.in_ok-fits.ensures.fits c.in_ok-copied.ensures e.1 e.2
 
 pub returns-in_err-fits-clause-refused : goal.returns-in_err-fits-clause-refused
 returns-in_err-fits-clause-refused c =

@@ -4,6 +4,7 @@ use Rattle.std.proofs.lemmas.Result.{err_from_is_err_and}
 use Rattle.fst_types.specs.Instance.{instantiated}
 use Rattle.fst_types.specs.Size.{HasTooManyNodes}
 use Rattle.fst_kinds.specs.WellFormed.{IsInstantiation}
+use Rattle.fst_premises.specs.Checks.{IsInSize}
 use Rattle.fst_premises.specs.Scenes.{check_in}
 use Rattle.fst_premises.specs.Shown.{ShowsArguments}
 use Rattle.fst_premises.specs.declared.fault.CheckFault.TheVariants.{TypeArguments}
@@ -48,7 +49,10 @@ returns-then-instance_size-gt-MOST_NODES-clause-refused c =
 
 pub returns-clause-typed : goal.returns-clause-typed
 returns-clause-typed c =
+    let within : IsInSize (instantiated c.deref-2.result.now c.type_at-signature.result.now) = omega (arith, c.if-instance_size-gt-MOST_NODES.false, c.instance_size.ensures) in
+    let same : c.deref-2.result.now ≡ c.deref-3.result.now = c.deref-2.ensures.value ∙ sym c.deref-3.ensures.value in
+    let small : IsInSize c.in_ok-instantiate.field-0 = subst IsInSize (ap (λ xs. instantiated xs c.type_at-signature.result.now) same ∙ sym c.in_ok-instantiate.ensures) within in
     let there = slice_get_read c.args.scene.module.now.globals.items (length c.args.scene.module.now.globals.items) c.args.k c.index-entry.result.now refl c.requires.ready.range.0 c.index-entry.ensures in
     global_typed (check_in c.args.scene) c.args.at c.args.k c.args.ks.now c.args.context.now _ c.index-entry.result.now c.type_at-signature.result.now c.in_ok-instantiate.field-0 c.in_ok-args.args.items c.instances_keep_kinds.ensures
     there (c.requires.set_up.signatures c.args.k c.index-entry.result.now there) c.type_at-signature.ensures c.in_ok-args.ensures.there (subst (λ xs. IsInstantiation c.args.scene.vars.now xs c.in_ok-args.args.items) c.deref.ensures.value c.in_ok-args.ensures.below)
-    (c.in_ok-instantiate.ensures ∙ ap (λ xs. instantiated xs c.type_at-signature.result.now) c.deref-3.ensures.value) c.leaf.ensures
+    (c.in_ok-instantiate.ensures ∙ ap (λ xs. instantiated xs c.type_at-signature.result.now) c.deref-3.ensures.value) small c.leaf.ensures

@@ -29,4 +29,4 @@ returns-clause-typed c =
     let same = same_Some k.0 c.type_at-left.result.now (sym k.1 ∙ c.type_at-left.ensures) in
     let below = sym c.subkind.ensures ∙ c.if-not-subkind.false in
     channel_typed (check_in c.args.scene) c.args.at c.args.k c.args.context.now _ c.in_ok-pair_of.field-0 c.type_at-left.result.now c.type_at-left.ensures (subst (λ t. IsSession [] t) same (session_below k.0 c.in_ok-kind.kind k.2 below))
-    (c.in_ok-pair_of.ensures.ok ∙ ap (λ o. type.pair c.type_at-left.result.now o) c.in_ok-right.ensures) c.leaf.ensures
+    (c.in_ok-pair_of.ensures.ok ∙ ap (λ o. type.pair c.type_at-left.result.now o) c.in_ok-right.ensures) c.in_ok-pair_of.ensures.small c.leaf.ensures

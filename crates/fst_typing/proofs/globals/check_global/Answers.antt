@@ -7,9 +7,8 @@ use Rattle.fst_context.specs.Vars.{no_vars}
 use Rattle.fst_derivations.specs.Deriv.{deriv_of}
 use Rattle.fst_derivations.specs.Modules.{Equation, surroundings}
 use Rattle.fst_derivations.specs.Parts.{IsFormed}
-use Rattle.fst_derivations.specs.Rules.{Bare, Compared}
 use Rattle.fst_written.proofs.Laws.{signature_formed}
-use Rattle.fst_typing.specs.Checked.{check_over, IsEquationDerived, IsKnownOver, ShowsGlobal}
+use Rattle.fst_typing.specs.Checked.{check_over, IsEquationDerived, checking_over, ShowsGlobal}
 use Rattle.fst_typing.specs.Equations.{IsEquationTyped, ShowsEquation}
 use Rattle.fst_premises.specs.Scenes.{IsReady}
 use Rattle.fst_premises.specs.Shown.{IsShown}
@@ -50,7 +49,7 @@ returns-clause-derived c =
     (λ d y. (
       t,
       c.type_at-signature.ensures,
-      subst (λ (vars : List Kind). Equation (surroundings m vars) Bare (Compared (IsKnownOver m c.args.budget vars)) g.body t [] no_vars (deriv_of d)) c.deref.ensures.value
+      subst (λ (vars : List Kind). Equation (surroundings m vars) (checking_over m c.args.budget vars) g.body t [] no_vars (deriv_of d)) c.deref.ensures.value
           (equation_closed k t c.infer_equation.new.context g.body (deriv_of d) (subst (λ (s : Scope). IsEquationTyped k t s c.infer_equation.new.context g.body (deriv_of d)) c.new-context.ensures y)),
     ))
     c.infer_equation.ensures.typed

@@ -1,0 +1,52 @@
+-- When a module is accepted: the limits of a check.
+use Rattle.std.specs.Prelude.{◌≡◌, ◌≤◌, ℕ, List, length, Option, Some, None, ⊤}
+use Rattle.fst_base.specs.Limits.{most_bytes}
+use Rattle.fst_terms.specs.declared.core_module.Module.{Module}
+use Rattle.fst_derivations.specs.Deriv.{Deriv}
+use Rattle.fst_report.specs.ReportTexts.{report_text}
+use Rattle.fst_options.specs.Words.{check, run}
+use Rattle.fst_command.specs.declared.status.Status.{Status}
+use Rattle.fst_command.specs.declared.status.Status.TheVariants as status
+use Rattle.fst_typing.specs.Checked.{HasDerivationsWithin}
+use Rattle.fst_command.specs.CheckTexts.{accepted_text}
+use Rattle.fst_command.specs.Finding.{AreResolved}
+use Rattle.fst_command.specs.Output.{SaysOutcome, Writes}
+
+-- the bytes aren't too many, and stand for a module that has plain derivations within the limits, at this budget
+pub record IsWithinLimits (budget : ℕ) (bytes : List ℕ) : Type 0 where
+  pub short : length bytes ≤ most_bytes
+  pub resolved : Module
+  pub is_resolved : AreResolved bytes resolved
+  pub derivations : List Deriv
+  pub within : HasDerivationsWithin resolved budget derivations
+
+-- what is left of an input is known, and such bytes
+abbrev pub IsInputWithin : ℕ → Option (List ℕ) → Type 0
+IsInputWithin budget None = ⊥
+IsInputWithin budget (Some bytes) = IsWithinLimits budget bytes
+
+-- the status of a run that was begun: tasks wait at its end or none does, or it has more events than its steps
+abbrev pub HasBegun : Status → Type 0
+HasBegun status.Done = ⊤
+HasBegun status.Refused = ⊥
+HasBegun status.Words = ⊥
+HasBegun status.Waiting = ⊤
+HasBegun status.OutOfSteps = ⊤
+HasBegun status.Undecided = ⊥
+HasBegun status.ReadFault = ⊥
+HasBegun status.WriteFault = ⊥
+HasBegun status.Limit = ⊥
+HasBegun status.Memory = ⊥
+
+-- the text and the status are what so many steps of the module come to on so many workers, and say that they were begun
+pub record HasRunModule (workers steps : ℕ) (bytes text : List ℕ) (s : Status) : Type 0 where
+  pub resolved : Module
+  pub is_resolved : AreResolved bytes resolved
+  pub says : SaysOutcome report_text workers steps resolved text s
+  pub begun : HasBegun s
+
+-- of bytes that are within the limits `check` says that the module is accepted, and `run` what its steps come to
+pub record IsComplete : Type 0 where
+  pub check : (budget : ℕ) (bytes text : List ℕ) (s : Status) → Writes (check budget) bytes text s → IsWithinLimits budget bytes → (text ≡ accepted_text) × (s ≡ status.Done)
+  pub run : (steps workers budget : ℕ) (bytes text : List ℕ) (s : Status) → Writes (run steps workers budget) bytes text s → IsWithinLimits budget bytes →
+      HasRunModule workers steps bytes text s
