@@ -1,5 +1,5 @@
 -- Derivations of a module are those of each that has the same parts.
-use Rattle.std.proofs.Common.{◌≡◌, inl, inr, ℕ, ◌<◌, true, List, [], ◌∷◌, ◌++◌, map, length, slice_get, Some, refl, sym, ap, subst}
+use Rattle.std.proofs.Common.{◌≡◌, ℕ, ◌<◌, true, List, [], ◌∷◌, ◌++◌, map, length, slice_get, Some, refl, sym, ap, subst}
 use Rattle.std.specs.Prelude.{Contains, codes}
 use Rattle.std.specs.List.{AllByRecursion}
 use Rattle.std.specs.Str.{bytes_eq}
@@ -18,6 +18,8 @@ use Rattle.fst_context.specs.Vars.{Vars, Both, no_vars, under}
 use Rattle.fst_derivations.specs.Deriv.{Deriv, Derivs, type_of}
 use Rattle.fst_derivations.specs.Parts.{AreAt, IsConversion, enter_all, under_all}
 use Rattle.fst_derivations.specs.Rules.{Surroundings, Mode, Converted, converting, Over, At, Binding, fields, rest, Binds, Row, Fields, Arms, FurtherArms}
+use Rattle.fst_derivations.specs.Laws.{Weaker}
+use Rattle.fst_derivations.specs.Modules.Equation.{parameter, result}
 use Rattle.fst_derivations.specs.Modules.{types_in, global_types, maker_types, family_types, IsPrintable, IsFormedAt, AreStandingFormed, AreFieldsFormed, AreMakersFormed, AreFamiliesFormed, AreGlobalsFormed, AreTypesFormed, ArePrintable, HavePrintableFields, AreFamiliesPrintable, HasMain, Equation, AreDerived, ArePlainlyDerived, HasDerivations, HasPlainDerivations}
 use Rattle.fst_names.specs.Modules.{Global, family_parts, global_parts}
 use Rattle.fst_names.specs.ResolvedModule.{AreSame}
@@ -98,12 +100,6 @@ module _ (m n : Module) (s : AreSame m n) where
 pub data SameBinding : Binding → Binding → Type 0 where
   same_fields : {os ps : List Maker} → map maker_parts os ≡ map maker_parts ps → SameBinding (fields os) (fields ps)
   same_rest : {t : Tree} → SameBinding (rest t) (rest t)
-
--- what is as S says is as T says
-pub record Weaker (S T : Mode) : Type 0 where
-  pub kept : (d c : Deriv) → S.kept d c → T.kept d c
-  pub compared : (d c : Deriv) → S.compared d c → T.compared d c
-  pub bound : (t : Tree) → S.bound t → T.bound t
 
 all_bound : (P Q : Tree → Type 0) → ((t : Tree) → P t → Q t) → (ts : List Tree) → AllByRecursion P ts → AllByRecursion Q ts
 all_bound P Q f [] h = tt
@@ -243,31 +239,9 @@ module _ (fs gs : List Family) (xs ys : List GlobalEntry) (families : map family
     at_same e t g u d x = at_type t (Row M S e g) (Row N T e g) (row_same e g) u d x
 
     -- the derivation of an equation
-    pub equation_same : (e : CoreTree) (t : Tree) (g : List Variable) (u : Vars) (d : Deriv) → Equation M S e t g u d → Equation N T e t g u d
-    equation_same (lambda at uses k x e) t g u d (inl (p, n, b, h, r, o, y, q)) = inl (p, n, b, h, w.bound p.from r, o, equation_same e p.to (record { type = p.from; uses = n } ∷ g) (under (is_once n) u) b y, q)
-    equation_same (lambda at uses k x e) t g u d (inr (none, y)) = inr (none, at_same (lambda at uses k x e) t g u d y)
-    equation_same (local at k) t g u d y = at_same (local at k) t g u d y
-    equation_same (global at k ks) t g u d y = at_same (global at k ks) t g u d y
-    equation_same (int at k) t g u d y = at_same (int at k) t g u d y
-    equation_same (bool at b) t g u d y = at_same (bool at b) t g u d y
-    equation_same (char at k) t g u d y = at_same (char at k) t g u d y
-    equation_same (unit at) t g u d y = at_same (unit at) t g u d y
-    equation_same (pair at a b) t g u d y = at_same (pair at a b) t g u d y
-    equation_same (make at k o es) t g u d y = at_same (make at k o es) t g u d y
-    equation_same (apply at a b) t g u d y = at_same (apply at a b) t g u d y
-    equation_same (let_in at x a b) t g u d y = at_same (let_in at x a b) t g u d y
-    equation_same (split at x z a b) t g u d y = at_same (split at x z a b) t g u d y
-    equation_same (if_else at a b o) t g u d y = at_same (if_else at a b o) t g u d y
-    equation_same (case_of at a bs) t g u d y = at_same (case_of at a bs) t g u d y
-    equation_same (operate at o a b) t g u d y = at_same (operate at o a b) t g u d y
-    equation_same (negate at a) t g u d y = at_same (negate at a) t g u d y
-    equation_same (new at k) t g u d y = at_same (new at k) t g u d y
-    equation_same (send at a b) t g u d y = at_same (send at a b) t g u d y
-    equation_same (receive at a) t g u d y = at_same (receive at a) t g u d y
-    equation_same (select at l a) t g u d y = at_same (select at l a) t g u d y
-    equation_same (match_with at a bs) t g u d y = at_same (match_with at a bs) t g u d y
-    equation_same (fork at a) t g u d y = at_same (fork at a) t g u d y
-    equation_same (seq at a b) t g u d y = at_same (seq at a b) t g u d y
+    pub equation_same : {e : CoreTree} {t : Tree} {g : List Variable} {u : Vars} {d : Deriv} → Equation M S e t g u d → Equation N T e t g u d
+    equation_same (parameter p has bound none x) = parameter p has (w.bound p.from bound) none (equation_same x)
+    equation_same {e} {t} {g} {u} {d} (result apart x) = result apart (at_same e t g u d x)
 
 -- ---- modules
 
@@ -305,7 +279,7 @@ module _ (m n : Module) (s : AreSame m n) where
       PartsPlainlyDerived m.families.items m.globals.items m.types.items S d (global_parts g) → PartsPlainlyDerived n.families.items n.globals.items n.types.items T d (global_parts h)
   plain_one S T w g h first d x =
       let mine = subst (λ types. PartsPlainlyDerived m.families.items m.globals.items types S d (global_parts g)) s.types x in
-      let moved = equation_same m.families.items n.families.items m.globals.items n.globals.items s.families s.globals n.types.items g.kinds.items (S g.kinds.items) (T g.kinds.items) (w g.kinds.items) g.body mine.0 [] no_vars d mine.2 in
+      let moved = equation_same m.families.items n.families.items m.globals.items n.globals.items s.families s.globals n.types.items g.kinds.items (S g.kinds.items) (T g.kinds.items) (w g.kinds.items) mine.2 in
       subst (PartsPlainlyDerived n.families.items n.globals.items n.types.items T d) first (mine.0, mine.1, moved)
 
   plainly_same : (S T : List Kind → Mode) → ((vars : List Kind) → Weaker (S vars) (T vars)) → (gs hs : List GlobalEntry) (ds : List Deriv) → map global_parts gs ≡ map global_parts hs →

@@ -17,6 +17,7 @@ use Rattle.fst_context.specs.Scope.{Scope, empty}
 use Rattle.fst_derivations.specs.Deriv.{Deriv}
 use Rattle.fst_derivations.specs.Parts.{AreAt}
 use Rattle.fst_derivations.specs.Rules.{Binding}
+use Rattle.fst_derivations.specs.Laws.{Weaker}
 use Rattle.fst_derivations.specs.Modules.{types_in, family_types, IsFormedAt, IsPrintable, IsMain}
 use Rattle.fst_written.specs.Faults.{IsFirstKindFault}
 use Rattle.fst_written.specs.First.{AreBefore, IsFirst}
@@ -34,7 +35,7 @@ use Rattle.fst_typing.specs.Checked.{checking_over, IsGlobalAccepted, IsNamedMai
 use Rattle.fst_names.specs.Modules.{Global, family_parts, global_parts}
 use Rattle.fst_names.specs.ResolvedModule.{AreSame}
 use Rattle.fst_command.proofs.SameParts.{all_along, maker_parts, same_cut, same_fold, same_maker, same_map, same_there}
-use Rattle.fst_command.proofs.SameDerivations.{MainParts, SameBinding, same_fields, same_rest, Weaker, around, binds_same, row_same, equation_same, same_global_types, same_family_types, types_formed, fields_printable, plain_one, plain_derivations_same}
+use Rattle.fst_command.proofs.SameDerivations.{MainParts, SameBinding, same_fields, same_rest, around, binds_same, row_same, equation_same, same_global_types, same_family_types, types_formed, fields_printable, plain_one, plain_derivations_same}
 
 -- ---- terms
 
@@ -214,7 +215,7 @@ module _ (fs gs : List Family) (xs ys : List GlobalEntry) (families : map family
     derivation = h.derivation;
     typed = record {
       used = h.typed.used;
-      fact = equation_same fs gs xs ys families globals types vars (checking C) (checking D) weaker e t s.variables h.typed.used h.derivation h.typed.fact;
+      fact = equation_same fs gs xs ys families globals types vars (checking C) (checking D) weaker h.typed.fact;
       within = h.typed.within;
       rest = h.typed.rest;
     };
@@ -222,33 +223,11 @@ module _ (fs gs : List Family) (xs ys : List GlobalEntry) (families : map family
   }
 
   -- why an equation is refused
-  pub refused_same : (e : CoreTree) (t : Tree) (s : Scope) (f : CheckFault) → ShowsEquation C e t s f → ShowsEquation D e t s f
-  refused_same (lambda at uses k x e) t s f (inl (p, inl h)) = inl (p, inl h)
-  refused_same (lambda at uses k x e) t s f (inl (p, inr (small, (n, has, inl h)))) = inl (p, inr (small, (n, has, inl (refused_same e p.to _ f h))))
-  refused_same (lambda at uses k x e) t s f (inl (p, inr (small, (n, has, inr h)))) = inl (p, inr (small, (n, has, inr (unused_same x p.to _ e f h))))
-  refused_same (lambda at uses k x e) t s f (inr (none, h)) = inr (none, result_same (lambda at uses k x e) t s f h)
-  refused_same (local at k) t s f h = result_same (local at k) t s f h
-  refused_same (global at k ks) t s f h = result_same (global at k ks) t s f h
-  refused_same (int at k) t s f h = result_same (int at k) t s f h
-  refused_same (bool at b) t s f h = result_same (bool at b) t s f h
-  refused_same (char at k) t s f h = result_same (char at k) t s f h
-  refused_same (unit at) t s f h = result_same (unit at) t s f h
-  refused_same (pair at a b) t s f h = result_same (pair at a b) t s f h
-  refused_same (make at k o es) t s f h = result_same (make at k o es) t s f h
-  refused_same (apply at a b) t s f h = result_same (apply at a b) t s f h
-  refused_same (let_in at x a b) t s f h = result_same (let_in at x a b) t s f h
-  refused_same (split at x z a b) t s f h = result_same (split at x z a b) t s f h
-  refused_same (if_else at a b o) t s f h = result_same (if_else at a b o) t s f h
-  refused_same (case_of at a bs) t s f h = result_same (case_of at a bs) t s f h
-  refused_same (operate at o a b) t s f h = result_same (operate at o a b) t s f h
-  refused_same (negate at a) t s f h = result_same (negate at a) t s f h
-  refused_same (new at k) t s f h = result_same (new at k) t s f h
-  refused_same (send at a b) t s f h = result_same (send at a b) t s f h
-  refused_same (receive at a) t s f h = result_same (receive at a) t s f h
-  refused_same (select at l a) t s f h = result_same (select at l a) t s f h
-  refused_same (match_with at a bs) t s f h = result_same (match_with at a bs) t s f h
-  refused_same (fork at a) t s f h = result_same (fork at a) t s f h
-  refused_same (seq at a b) t s f h = result_same (seq at a b) t s f h
+  pub refused_same : {e : CoreTree} {t : Tree} {s : Scope} {f : CheckFault} → ShowsEquation C e t s f → ShowsEquation D e t s f
+  refused_same (ShowsEquation.large p l) = ShowsEquation.large p l
+  refused_same (ShowsEquation.inner p small has h) = ShowsEquation.inner p small has (refused_same h)
+  refused_same {f = f} (ShowsEquation.unused {x = x} {e = e} p small has h) = ShowsEquation.unused p small has (unused_same x p.to _ e f h)
+  refused_same {e} {t} {s} {f} (ShowsEquation.result none h) = ShowsEquation.result none (result_same e t s f h)
 
 -- ---- types in order of text
 
@@ -336,7 +315,7 @@ module _ (m n : Module) (s : AreSame m n) where
   global_shows budget g h f e (inl x) =
       inl (subst (λ (z : Global). (bytes_eq z.name (codes "main") ≡ true) × MainShows n.types.items f z) e (x.0, subst (λ types. MainShows types f (global_parts g)) s.types x.1))
   global_shows budget g h f e (inr (main, (t, i, x))) =
-      let moved = refused_same m.families.items n.families.items m.globals.items n.globals.items s.families s.globals m.types.items g.kinds.items m.places.items budget g.body t empty f x in
+      let moved = refused_same m.families.items n.families.items m.globals.items n.globals.items s.families s.globals m.types.items g.kinds.items m.places.items budget x in
       let typed = subst (λ types. PartsShow types m.places.items budget f (global_parts g)) s.types (t, i, moved) in
       let placed = subst (λ places. PartsShow n.types.items places budget f (global_parts g)) s.places typed in
       inr (main_one g h e main, subst (PartsShow n.types.items n.places.items budget f) e placed)

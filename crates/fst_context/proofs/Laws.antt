@@ -1,7 +1,7 @@
--- What other crates cite of contexts: one taking after another is a split of the set that was taken.
-use Rattle.std.proofs.Common.{◌≡◌, ℕ, List, false}
-use Rattle.fst_context.specs.Scope.{Scope, Variable, is_once, at_or_not, entered, left, begun, ended, Takes}
-use Rattle.fst_context.specs.Vars.{Vars, no_vars, under, Both}
+-- What other crates cite of contexts: one taking after another is a split of the set that was taken; and which sets can be taken.
+use Rattle.std.proofs.Common.{◌≡◌, ◌&&◌, ℕ, Bool, List, false, not}
+use Rattle.fst_context.specs.Scope.{Scope, Variable, is_once, at_or_not, mark, entered, left, begun, ended, without, IsWithin, Takes}
+use Rattle.fst_context.specs.Vars.{Vars, no_vars, under, union, IsSplit, Both}
 use Rattle.fst_context.proofs.Taking as taking
 
 -- two takings after one another are one, in which the set is split
@@ -28,3 +28,37 @@ takes_body = taking.takes_body
 -- two takings between the same scopes are of the same set
 pub takes_same : (P Q : Vars → Type 0) (r s : Scope) → Takes P r s → Takes Q r s → Takes (λ u. P u × Q u) r s
 takes_same = taking.takes_same
+
+-- ---- sets that can be taken
+
+-- which marks stay
+pub at-mark : (u : Vars) (bs : List Bool) (k : ℕ) → at_or_not (mark u bs) k ≡ (at_or_not bs k && not (u k))
+at-mark = taking.at-mark
+
+-- one set after another is both together
+pub without_twice : (u v : Vars) (s : Scope) → without v (without u s) ≡ without (union u v) s
+without_twice = taking.without_twice
+
+-- where a set that is split can be taken, its first part can
+pub within_left : (s : Scope) (u v w : Vars) → IsSplit u v w → IsWithin u s → IsWithin v s
+within_left = taking.within_left
+
+-- and then the second one
+pub within_right : (s : Scope) (u v w : Vars) → IsSplit u v w → IsWithin u s → IsWithin w (without v s)
+within_right = taking.within_right
+
+-- inside a variable, that one can be taken too, where it is linear
+pub within_entered : (x : List ℕ) (v : Variable) (s : Scope) (u : Vars) → IsWithin u s → IsWithin (under (is_once v.uses) u) (entered x v s)
+within_entered = taking.within_entered
+
+-- then the scope is left as one from which the set was taken outside
+pub left_entered : (x : List ℕ) (v : Variable) (s : Scope) (u : Vars) → left (without (under (is_once v.uses) u) (entered x v s)) ≡ without u s
+left_entered = taking.left_entered
+
+-- so a body is ended
+pub ended_begun : (s : Scope) (u : Vars) → ended (without u (begun s)) ≡ without u s
+ended_begun = taking.ended_begun
+
+-- two sets that leave the same scope are the same
+pub same_used : (u v : Vars) (s : Scope) → IsWithin u s → IsWithin v s → without u s ≡ without v s → u ≡ v
+same_used = taking.same_used

@@ -1,7 +1,7 @@
--- Taking sets of variables out of a scope, one after the other.
-use Rattle.std.proofs.Common.{◌≡◌, ◌∙◌, ℕ, zero, suc, ◌+◌, ◌-◌, ◌<◌, ◌≤◌, Bool, true, false, ◌&&◌, ◌||◌, subst, not, List, [], ◌∷◌, ◌++◌, length, refl, sym, ap, arith, nat_lt}
-use Rattle.fst_context.specs.Vars.{Vars, no_vars, under, outside, single, union, IsSplit, Both}
-use Rattle.fst_context.specs.Scope.{Scope, Variable, is_once, at_or_not, linear_at, is_inside, mark, more, fewer, joined, entered, left, begun, ended, open_in, without, Takes}
+-- Taking sets of variables out of a scope, one after the other, and which sets can be taken.
+use Rattle.std.proofs.Common.{◌≡◌, ◌∙◌, ℕ, zero, suc, ◌-◌, Bool, true, false, ◌&&◌, ◌||◌, subst, not, List, [], ◌∷◌, refl, sym, ap, arith, nat_lt}
+use Rattle.fst_context.specs.Vars.{Vars, no_vars, under, outside, union, IsSplit, Both}
+use Rattle.fst_context.specs.Scope.{Scope, Variable, is_once, at_or_not, is_inside, mark, more, fewer, joined, entered, left, begun, ended, open_in, without, IsWithin, Takes}
 use Rattle.fst_context.proofs.Backward.{mark_none}
 
 mark_bit : (b u v : Bool) → ((b && not u) && not v) ≡ (b && not (u || v))
@@ -17,6 +17,34 @@ pub at-mark : (u : Vars) (bs : List Bool) (k : ℕ) → at_or_not (mark u bs) k 
 at-mark u [] k = refl
 at-mark u (b ∷ bs) zero = refl
 at-mark u (b ∷ bs) (suc k) = at-mark (outside u) bs k
+
+-- one set after another is both together
+pub without_twice : (u v : Vars) (s : Scope) → without v (without u s) ≡ without (union u v) s
+without_twice u v s = λ i. record { names = s.names; variables = s.variables; there = mark_twice u v s.there i; bodies = s.bodies }
+
+in_left : (a b : Bool) → a ≡ true → (a || b) ≡ true
+in_left true b h = refl
+in_left false b h = absurd (cc h)
+
+in_right : (a b : Bool) → b ≡ true → (a || b) ≡ true
+in_right true b h = refl
+in_right false b h = h
+
+apart_open : (a i u v : Bool) → (u && v) ≡ false → v ≡ true → (a && i) ≡ true → ((a && not u) && i) ≡ true
+apart_open a i true true s h o = absurd (cc s)
+apart_open a i true false s h o = absurd (cc h)
+apart_open false i false v s h o = absurd (cc o)
+apart_open true i false v s h o = o
+
+-- where a set that is split can be taken, its first part can
+pub within_left : (s : Scope) (u v w : Vars) → IsSplit u v w → IsWithin u s → IsWithin v s
+within_left s u v w p i k h = i k (ap (λ z. z k) p.together ∙ in_left (v k) (w k) h)
+
+-- and then the second one
+pub within_right : (s : Scope) (u v w : Vars) → IsSplit u v w → IsWithin u s → IsWithin w (without v s)
+within_right s u v w p i k h =
+    ap (λ b. b && is_inside s.bodies k) (at-mark v s.there k)
+    ∙ apart_open (at_or_not s.there k) (is_inside s.bodies k) (v k) (w k) (p.apart k) h (i k (ap (λ z. z k) p.together ∙ in_right (v k) (w k) h))
 
 -- what is open after a set was taken was open before, and isn't in the set
 still_open : (a n i : Bool) → ((a && not n) && i) ≡ true → ((a && i) ≡ true) × (n ≡ false)
@@ -41,7 +69,7 @@ apart_bit true true f = f refl
 -- two takings after one another are one, in which the set is split
 pub takes_both : (P Q : Vars → Type 0) (r s t : Scope) → Takes P r s → Takes Q s t → Takes (Both P Q) r t
 takes_both P Q r s t x y =
-    let within' : (k : ℕ) → y.used k ≡ true → open_in (without x.used r) k ≡ true = λ k h. ap (λ z. open_in z k) (sym x.rest) ∙ y.within k h in
+    let within' : IsWithin y.used (without x.used r) = λ k h. ap (λ z. open_in z k) (sym x.rest) ∙ y.within k h in
     record {
       used = union x.used y.used;
       fact = record {
@@ -52,7 +80,7 @@ takes_both P Q r s t x y =
         second = y.fact;
       };
       within = λ k h. either (x.used k) (y.used k) (open_in r k ≡ true) h (x.within k) (λ g. (open_after x.used r k (within' k g)).0);
-      rest = y.rest ∙ ap (without y.used) x.rest ∙ (λ i. record { names = r.names; variables = r.variables; there = mark_twice x.used y.used r.there i; bodies = r.bodies });
+      rest = y.rest ∙ ap (without y.used) x.rest ∙ without_twice x.used y.used r;
     }
 
 -- nothing was taken
@@ -81,13 +109,30 @@ lt_suc k n = grind arith
 lt_zero : (k : ℕ) → nat_lt k 0 ≡ false
 lt_zero k = grind arith
 
-pub more_inside : (ns : List ℕ) (k : ℕ) → is_inside (more ns) (suc k) ≡ is_inside ns k
+more_inside : (ns : List ℕ) (k : ℕ) → is_inside (more ns) (suc k) ≡ is_inside ns k
 more_inside [] k = refl
 more_inside (n ∷ ns) k = lt_suc k n
 
 fewer_more : (ns : List ℕ) → fewer (more ns) ≡ ns
 fewer_more [] = refl
 fewer_more (n ∷ ns) = refl
+
+first_inside : (ns : List ℕ) → is_inside (more ns) 0 ≡ true
+first_inside [] = refl
+first_inside (n ∷ ns) = grind arith
+
+both_true : (a b : Bool) → a ≡ true → b ≡ true → (a && b) ≡ true
+both_true true b h g = g
+both_true false b h g = absurd (cc h)
+
+-- inside a variable, that one can be taken too, where it is linear
+pub within_entered : (x : List ℕ) (v : Variable) (s : Scope) (u : Vars) → IsWithin u s → IsWithin (under (is_once v.uses) u) (entered x v s)
+within_entered x v s u w zero h = both_true (is_once v.uses) (is_inside (more s.bodies) 0) h (first_inside s.bodies)
+within_entered x v s u w (suc k) h = ap (λ b. at_or_not s.there k && b) (more_inside s.bodies k) ∙ w k h
+
+-- then the scope is left as one from which the set was taken outside
+pub left_entered : (x : List ℕ) (v : Variable) (s : Scope) (u : Vars) → left (without (under (is_once v.uses) u) (entered x v s)) ≡ without u s
+left_entered x v s u = λ i. record { names = s.names; variables = s.variables; there = mark u s.there; bodies = fewer_more s.bodies i }
 
 -- a linear variable that isn't there at the end was taken, and no other variable is
 innermost : (a u : Bool) (t : Bool) → (u ≡ true → (a && t) ≡ true) → (a && not u) ≡ false → u ≡ a
@@ -113,6 +158,10 @@ takes_inside P n v r s x h =
 joined_zero : (ns : List ℕ) → joined (zero ∷ ns) ≡ ns
 joined_zero [] = refl
 joined_zero (n ∷ ns) = ap (λ m. m ∷ ns) (omega arith)
+
+-- a body is ended as a scope from which the set was taken outside
+pub ended_begun : (s : Scope) (u : Vars) → ended (without u (begun s)) ≡ without u s
+ended_begun s u = λ i. record { names = s.names; variables = s.variables; there = mark u s.there; bodies = joined_zero s.bodies i }
 
 none_open : (b : Bool) → (b && false) ≡ true → ⊥
 none_open false h = cc h
@@ -141,7 +190,7 @@ same_bit true i false true f g e = absurd (cc e)
 same_bit false i true false f g e = absurd (cc (f refl))
 same_bit false i false true f g e = absurd (cc (g refl))
 
-pub same_used : (u v : Vars) (r : Scope) → ((k : ℕ) → u k ≡ true → open_in r k ≡ true) → ((k : ℕ) → v k ≡ true → open_in r k ≡ true) → without u r ≡ without v r → u ≡ v
+pub same_used : (u v : Vars) (r : Scope) → IsWithin u r → IsWithin v r → without u r ≡ without v r → u ≡ v
 same_used u v r f g e = λ i k. same_bit (at_or_not r.there k) (is_inside r.bodies k) (u k) (v k) (f k) (g k)
     (sym (at-mark u r.there k) ∙ ap (λ (z : Scope). at_or_not z.there k) e ∙ at-mark v r.there k) i
 

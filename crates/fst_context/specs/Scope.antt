@@ -99,9 +99,13 @@ without u s = record { names = s.names; variables = s.variables; there = mark u 
 abbrev pub with_marks : List Bool → Scope → Scope
 with_marks bs s = record { names = s.names; variables = s.variables; there = bs; bodies = s.bodies }
 
+-- each variable of the set can be taken
+abbrev pub IsWithin : Vars → Scope → Type 0
+IsWithin u s = (k : ℕ) → u k ≡ true → open_in s k ≡ true
+
 -- from one scope to another a set of variables that has a property was taken
 pub record Takes (P : Vars → Type 0) (before after : Scope) : Type 0 where
   pub used : Vars
   pub fact : P used
-  pub within : (k : ℕ) → used k ≡ true → open_in before k ≡ true
+  pub within : IsWithin used before
   pub rest : after ≡ without used before

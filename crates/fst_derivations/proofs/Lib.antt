@@ -1,7 +1,7 @@
 mod Rows
-pub mod Parts
+mod Parts
 mod Unique
-pub mod Weaker
+mod Weaker
 mod Plainly
 mod ModuleLaws
 mod TextParts

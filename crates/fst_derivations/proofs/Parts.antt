@@ -16,16 +16,22 @@ use Rattle.fst_kinds.proofs.Laws.{one_kind}
 use Rattle.fst_types.proofs.Laws.{same_label-same}
 use Rattle.fst_lts.specs.Step.{terminated, branch_at, step_in, step}
 use Rattle.fst_base.proofs.Options.{mapped_some}
+use Rattle.fst_terms.specs.declared.binder.Binder.{Binder}
 use Rattle.fst_context.specs.Scope.{Variable, is_once}
 use Rattle.fst_context.specs.Vars.{Vars, under, outside}
 use Rattle.fst_derivations.specs.Parts.{IsFormed, HasUse, AreAt, AreVariables, under_all}
 use Rattle.fst_derivations.specs.Rules.{Surroundings, Binding, fields, rest, Binds}
+use Rattle.fst_derivations.specs.Modules.{IsParameter}
 
 -- a type has one use
 pub one_use : (vars : List Kind) (t t' : Tree) (n n' : Use) → t ≡ t' → HasUse vars t n → HasUse vars t' n' → n ≡ n'
 one_use vars t t' n n' e w w' =
     let kinds : w.kind ≡ w'.kind = one_kind vars t' w.kind w'.kind (subst (λ z. HasKind vars z w.kind) e w.formed.kinded) w'.formed.kinded in
     sym w.is ∙ ap (λ k. k.uses) kinds ∙ w'.is
+
+-- the types of an equation's parameter are determined
+pub one_parameter : {types : List Tree} {at k : ℕ} {uses : Use} {x : Binder} {t : Tree} (p q : IsParameter types at uses k x t) → (q.from ≡ p.from) × (q.to ≡ p.to)
+one_parameter {uses = uses} p q = let arrows : arrow uses q.from q.to ≡ arrow uses p.from p.to = sym q.type ∙ p.type in (cc, cc)
 
 -- the types with some numbers are determined
 pub same_at : (types : List Tree) (ks : List ℕ) (ts ts' : List Tree) → AreAt types ks ts → AreAt types ks ts' → ts ≡ ts'

@@ -7,11 +7,10 @@ use Rattle.fst_types.specs.Tree.{Tree, plain, arrow, named}
 use Rattle.fst_types.specs.declared.base.Base.TheVariants.{Bool as Truth, Unit as Nothing}
 use Rattle.fst_types.specs.declared.label.Label.TheVariants.{Send, Receive, Select, Offer}
 use Rattle.fst_terms.specs.CoreTree.{CoreTree, local, global, int, bool, char, unit, pair, make, lambda, apply, let_in, split, if_else, case_of, operate, negate, new, send, receive, select, match_with, fork, seq, CoreList, no_terms, term, CoreArms, no_arms, arm}
-use Rattle.fst_arms.specs.Arms.{AreEachOnce}
 use Rattle.fst_context.specs.Scope.{Variable, is_once}
 use Rattle.fst_context.specs.Vars.{Vars, under, single}
 use Rattle.fst_derivations.specs.Deriv.{Deriv, row, convert, type_of, Derivs, none, part, one, two, three}
-use Rattle.fst_derivations.specs.Parts.{IsFormed, HasUse, AreVariables, enter_all, under_all}
+use Rattle.fst_derivations.specs.Parts.{IsFormed, AreVariables, enter_all, under_all}
 use Rattle.fst_derivations.specs.Rules.{Surroundings, Converted, converting, itself, turned, Bare, Compared, comparing, Over, At, Binding, fields, rest, Binds, Row, Fields, Arms, FurtherArms, PlainRow, Derives}
 use Rattle.fst_derivations.proofs.Parts.{plain_formed}
 use Rattle.fst_derivations.specs.Laws.{IsTypeEquality, AllEqual, HasPlain}

@@ -1,5 +1,5 @@
 -- The parts of a row as a list.
-use Rattle.std.proofs.Common.{◌≡◌, ◌∙◌, refl, ap, List, Vec, Global}
+use Rattle.std.proofs.Common.{◌≡◌, ◌∙◌, refl, ap, Vec, Global}
 use Rattle.fst_types.specs.Tree.{Tree}
 use Rattle.fst_derivations.specs.Deriv.{row, part, deriv_of, derivs_of, parts_of}
 use Rattle.fst_derivations.specs.declared.derivation.Derivation.{Derivation, Row_of-Derivation, end_of-Derivation, more_of-Derivation, items-the_row-Derivation, items_hidden-the_row-Derivation-0}

@@ -12,7 +12,7 @@ use Rattle.fst_context.specs.Scope.{Variable}
 use Rattle.fst_context.specs.Vars.{Vars}
 use Rattle.fst_derivations.specs.Deriv.{Deriv, type_of}
 use Rattle.fst_derivations.specs.Parts.{IsFormed, HasUse, IsOffering, IsConversion, IsAnyConversion}
-use Rattle.fst_derivations.specs.Rules.{Surroundings, Over, Bare, PlainRow, Derives}
+use Rattle.fst_derivations.specs.Rules.{Surroundings, Mode, Over, Bare, PlainRow, Derives}
 use Rattle.fst_derivations.specs.Texts.{HasText, AllHaveText, VariablesHaveText}
 
 -- a term has at most one plain type in a context, and has the same linear variables in all plain derivations
@@ -26,6 +26,16 @@ abbrev pub PlainTypesHaveTexts : Type 0
 PlainTypesHaveTexts =
     (m : Surroundings) → AllHaveText (length m.families) m.types → (e : CoreTree) (g : List Variable) → VariablesHaveText (length m.families) g →
     (u : Vars) (d : Deriv) → PlainRow m (IsConversion m.vars) e g u d → HasText (length m.families) (type_of d)
+
+-- what stands for a row by A stands for it by B
+abbrev pub Less : (A B : Deriv → Deriv → Type 0) → Type 0
+Less A B = (d c : Deriv) → A d c → B d c
+
+-- what is as S says is as T says
+pub record Weaker (S T : Mode) : Type 0 where
+  pub kept : Less S.kept T.kept
+  pub compared : Less S.compared T.compared
+  pub bound : (t : Tree) → S.bound t → T.bound t
 
 -- a plain derivation is a derivation
 abbrev pub PlainIsDerived : Type 0

@@ -1,5 +1,5 @@
 -- Which derivations are those of a module.
-use Rattle.std.specs.Prelude.{◌≡◌, ◌⊎◌, ◌<◌, ℕ, Bool, true, false, List, [], ◌∷◌, ◌++◌, length, map, Contains, Some, slice_get, ⊤, codes}
+use Rattle.std.specs.Prelude.{◌≡◌, ◌<◌, ℕ, Bool, true, false, List, [], ◌∷◌, ◌++◌, length, map, Contains, Some, slice_get, ⊤, codes}
 use Rattle.std.specs.Str.{bytes_eq}
 use Rattle.fst_types.specs.Tree.{Tree, plain, arrow, pair, named}
 use Rattle.fst_types.specs.declared.base.Base.{Base}
@@ -163,14 +163,19 @@ pub record IsParameter (types : List Tree) (at : ℕ) (uses : Use) (k : ℕ) (x 
   pub type : t ≡ arrow uses from to
   pub written : slice_get types k ≡ Some from
 
--- the derivation of an equation at the type of its signature: the parameters' functions have just that type's arrows, and
--- the term under them is compared with the result
-abbrev pub Equation : Surroundings → Mode → CoreTree → Tree → List Variable → Vars → Deriv → Type 0
-Equation m S (lambda at uses k x e) t g u d =
-    ((p : IsParameter m.types at uses k x t) × (n : Use) × (b : Deriv) × HasUse m.vars p.from n × S.bound p.from × (uses ≡ Many → u ≡ no_vars) ×
-    Equation m S e p.to (record { type = p.from; uses = n } ∷ g) (under (is_once n) u) b × (d ≡ row t (one b)))
-    ⊎ ((IsParameter m.types at uses k x t → ⊥) × At m.vars t S.compared (Row m S (lambda at uses k x e) g) u d)
-Equation m S e t g u d = At m.vars t S.compared (Row m S e g) u d
+-- at this type the term has no parameter of an equation in front
+abbrev pub HasNoParameter : List Tree → CoreTree → Tree → Type 0
+HasNoParameter types e t = (at k : ℕ) (uses : Use) (x : Binder) (b : CoreTree) → e ≡ lambda at uses k x b → IsParameter types at uses k x t → ⊥
+
+-- the derivation of an equation at the type of its signature
+pub data Equation (m : Surroundings) (S : Mode) : CoreTree → Tree → List Variable → Vars → Deriv → Type 0 where
+  -- a parameter's function has just that type's arrow, and under it the equation goes on
+  parameter : {at k : ℕ} {uses n : Use} {x : Binder} {e : CoreTree} {t : Tree} {g : List Variable} {u : Vars} {d : Deriv} →
+      (p : IsParameter m.types at uses k x t) → HasUse m.vars p.from n → S.bound p.from → (uses ≡ Many → u ≡ no_vars) →
+      Equation m S e p.to (record { type = p.from; uses = n } ∷ g) (under (is_once n) u) d → Equation m S (lambda at uses k x e) t g u (row t (one d))
+  -- the term under all parameters is compared with the result
+  result : {e : CoreTree} {t : Tree} {g : List Variable} {u : Vars} {d : Deriv} →
+      HasNoParameter m.types e t → At m.vars t S.compared (Row m S e g) u d → Equation m S e t g u d
 
 -- each equation has its derivation at its signature, with conversions of types that E relates over its variables
 abbrev pub AreDerived : Module → (List Kind → Tree → Tree → Type 0) → List GlobalEntry → List Deriv → Type 0

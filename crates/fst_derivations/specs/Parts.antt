@@ -1,5 +1,5 @@
 -- What the rules ask of types, of variables and of arms.
-use Rattle.std.specs.Prelude.{◌≡◌, ◌⊎◌, ℕ, Bool, List, [], ◌∷◌, map, slice_get, Option, Some, ⊤}
+use Rattle.std.specs.Prelude.{◌≡◌, ◌⊎◌, ℕ, List, [], ◌∷◌, map, slice_get, Some, ⊤}
 use Rattle.fst_types.specs.Tree.{Tree, plain}
 use Rattle.fst_types.specs.declared.base.Base.TheVariants.{Int, Char}
 use Rattle.fst_types.specs.declared.kind.Kind.{Kind}

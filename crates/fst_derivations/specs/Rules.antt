@@ -24,7 +24,7 @@ use Rattle.fst_arms.specs.Arms.{arm_labels, AreEachOnce}
 use Rattle.fst_context.specs.Scope.{Variable, is_once}
 use Rattle.fst_context.specs.Vars.{Vars, no_vars, under, single, Both}
 use Rattle.fst_derivations.specs.Deriv.{Deriv, row, convert, type_of, Derivs, none, part, one, two, three}
-use Rattle.fst_derivations.specs.Parts.{IsFormed, HasUse, IsConversion, AreAt, AreVariables, enter_all, under_all, IsOffering, IsComparable}
+use Rattle.fst_derivations.specs.Parts.{IsFormed, HasUse, AreAt, AreVariables, enter_all, under_all, IsOffering, IsComparable}
 
 -- what the terms of an equation speak of: the data types, globals and types of its module, and the kinds of the variables of
 -- its signature

@@ -6,7 +6,6 @@ use Rattle.fst_terms.specs.CoreTree.{CoreTree, lambda}
 use Rattle.fst_terms.specs.declared.binder.Binder.{Binder}
 use Rattle.fst_context.specs.Scope.{Scope, entered}
 use Rattle.fst_derivations.specs.Parts.{HasUse}
-use Rattle.fst_derivations.specs.Modules.{IsParameter}
 use Rattle.fst_premises.specs.Checks.{Check, IsInSize}
 use Rattle.fst_premises.specs.Scopes.{inside}
 use Rattle.fst_premises.specs.declared.parameters.Parameter.{Parameter}
@@ -14,10 +13,6 @@ use Rattle.fst_premises.specs.declared.parameters.Parameter.{Parameter}
 -- a scope with a parameter of this type and use
 abbrev pub with_parameter : Binder → Tree → Use → Scope → Scope
 with_parameter x t n s = entered x.name (record { type = t; uses = n }) s
-
--- at this type the term has no parameter in front
-abbrev pub HasNoParameter : Check → CoreTree → Tree → Type 0
-HasNoParameter c e t = (at k : ℕ) (uses : Use) (x : Binder) (b : CoreTree) → e ≡ lambda at uses k x b → IsParameter c.surroundings.types at uses k x t → ⊥
 
 -- at this type the term has this parameter in front
 pub record HasParameter (c : Check) (e : CoreTree) (t : Tree) (p : Parameter) : Type 0 where

@@ -3,9 +3,10 @@
 ghost use Rattle.std.specs.Prelude.{◌≡◌, ◌∷◌, ◌++◌, [], ◌<◌, ℕ, IfErr, IfSome, MatchOption, OnOk, length};
 ghost use Rattle.fst_terms.specs.InRange.{IsInRange};
 ghost use Rattle.fst_derivations.specs.Parts.{IsFormed};
+ghost use Rattle.fst_derivations.specs.Modules.{HasNoParameter};
 ghost use Rattle.fst_premises.specs.Scenes.{bounds, check_in};
 ghost use Rattle.fst_premises.specs.Shown.{IsShown, IsTooLargeAt};
-ghost use Rattle.fst_premises.specs.Parameters.{HasNoParameter, HasParameter, IsEntered};
+ghost use Rattle.fst_premises.specs.Parameters.{HasParameter, IsEntered};
 
 use crate::binding::{begin_body, enter};
 use crate::fault::CheckFault;
@@ -30,7 +31,7 @@ pub struct Parameter<'a> {
 /// The parameter in front of a term at this type: a function at the place of its variable, of just the arrow's type.
 pub fn parameter_of<'a>(scene: Scene<'a>, wanted: &'a Ty, term: &'a Term) -> Option<Parameter<'a>>
     requires { (n : ℕ) × IsInRange (bounds (check_in scene)) n term.now }
-    ensures { MatchOption result (HasNoParameter (check_in scene.entry) term.now wanted.now) (HasParameter (check_in scene.entry) term.now wanted.now) }
+    ensures { MatchOption result (HasNoParameter (check_in scene.entry).surroundings.types term.now wanted.now) (HasParameter (check_in scene.entry) term.now wanted.now) }
 {
     let Form::Lambda(uses, k, binder, body) = &term.form else {
         return None;

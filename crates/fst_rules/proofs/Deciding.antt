@@ -1,14 +1,10 @@
 -- Walks that decide a property of sets of variables: they come to the scope after such a set was taken, exactly where there is one.
-use Rattle.std.proofs.Common.{◌≡◌, ◌∙◌, ℕ, zero, suc, Bool, true, false, ◌&&◌, ◌||◌, not, List, [], ◌∷◌, Option, Some, None, refl, sym, ap, subst}
+use Rattle.std.proofs.Common.{◌≡◌, ◌∙◌, Bool, true, false, List, Option, Some, None, refl, sym, ap, subst}
 use Rattle.std.proofs.lemmas.Option.{same_Some}
-use Rattle.fst_context.specs.Vars.{Vars, no_vars, outside, union, Both}
-use Rattle.fst_context.specs.Scope.{Scope, Variable, at_or_not, is_inside, mark, open_in, without, Takes}
-use Rattle.fst_context.proofs.Laws.{takes_both, takes_none, takes_as}
+use Rattle.fst_context.specs.Vars.{Vars, no_vars, Both}
+use Rattle.fst_context.specs.Scope.{Scope, Variable, without, IsWithin, Takes}
+use Rattle.fst_context.proofs.Laws.{takes_both, takes_none, takes_as, within_left, within_right, without_twice}
 use Rattle.fst_rules.specs.Walks.{Walk, nowhere, next, only, given, after}
-
--- what is in the set can be taken
-abbrev pub IsWithin : Vars → Scope → Type 0
-IsWithin u s = (k : ℕ) → u k ≡ true → open_in s k ≡ true
 
 pub record Decides (g : List Variable) (P : Vars → Type 0) (F : Walk) : Type 0 where
   pub sound : (s r : Scope) → s.variables ≡ g → F s ≡ Some r → Takes P s r
@@ -48,34 +44,6 @@ decides_given g P (Some x) F f h = let d = h x refl in record { sound = d.sound;
 
 -- ---- one walk after the other
 
-in_left : (a b : Bool) → a ≡ true → (a || b) ≡ true
-in_left true b h = refl
-in_left false b h = absurd (cc h)
-
-in_right : (a b : Bool) → b ≡ true → (a || b) ≡ true
-in_right true b h = refl
-in_right false b h = h
-
-apart_open : (a i u v : Bool) → (u && v) ≡ false → v ≡ true → (a && i) ≡ true → ((a && not u) && i) ≡ true
-apart_open a i true true s h o = absurd (cc s)
-apart_open a i true false s h o = absurd (cc h)
-apart_open false i false v s h o = absurd (cc o)
-apart_open true i false v s h o = o
-
-pub at-mark : (u : Vars) (bs : List Bool) (k : ℕ) → at_or_not (mark u bs) k ≡ (at_or_not bs k && not (u k))
-at-mark u [] k = refl
-at-mark u (b ∷ bs) zero = refl
-at-mark u (b ∷ bs) (suc k) = at-mark (outside u) bs k
-
-mark_bit : (b u v : Bool) → ((b && not u) && not v) ≡ (b && not (u || v))
-mark_bit false u v = refl
-mark_bit true false v = refl
-mark_bit true true v = refl
-
-mark_twice : (u v : Vars) (bs : List Bool) → mark v (mark u bs) ≡ mark (union u v) bs
-mark_twice u v [] = refl
-mark_twice u v (b ∷ bs) = λ i. mark_bit b (u 0) (v 0) i ∷ mark_twice (outside u) (outside v) bs i
-
 pub decides_both : (g : List Variable) (P Q : Vars → Type 0) (F G : Walk) → Decides g P F → Decides g Q G → Decides g (Both P Q) (after F G)
 decides_both g P Q F G x y = record {
   sound = λ s r v e.
@@ -83,13 +51,9 @@ decides_both g P Q F G x y = record {
       let a = x.sound s n.0 v n.1 in
       takes_both P Q s n.0 r a (y.sound n.0 r (ap (λ z. z.variables) a.rest ∙ v) n.2);
   complete = λ s u v q w.
-      let first = x.complete s q.left v q.first (λ k h. w k (ap (λ z. z k) q.split.together ∙ in_left (q.left k) (q.right k) h)) in
-      let inner : IsWithin q.right (without q.left s) = λ k h.
-      ap (λ b. b && is_inside s.bodies k) (at-mark q.left s.there k)
-      ∙ apart_open (at_or_not s.there k) (is_inside s.bodies k) (q.left k) (q.right k) (q.split.apart k) h (w k (ap (λ z. z k) q.split.together ∙ in_right (q.left k) (q.right k) h)) in
-      let second = y.complete (without q.left s) q.right v q.second inner in
-      ap (λ o. next o G) first ∙ second
-      ∙ ap Some ((λ i. record { names = s.names; variables = s.variables; there = mark_twice q.left q.right s.there i; bodies = s.bodies }) ∙ ap (λ z. without z s) (sym q.split.together));
+      let first = x.complete s q.left v q.first (within_left s u q.left q.right q.split w) in
+      let second = y.complete (without q.left s) q.right v q.second (within_right s u q.left q.right q.split w) in
+      ap (λ o. next o G) first ∙ second ∙ ap Some (without_twice q.left q.right s ∙ ap (λ z. without z s) (sym q.split.together));
 }
 
 -- a walk that is the same from each scope of these variables

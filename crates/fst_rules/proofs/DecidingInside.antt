@@ -1,41 +1,22 @@
 -- Walks inside a variable, in the body of a function, along two branches, and of a variable itself.
-use Rattle.std.proofs.Common.{◌≡◌, ◌∙◌, ℕ, zero, suc, Bool, true, false, ◌&&◌, not, List, [], ◌∷◌, Some, None, slice_get, refl, sym, ap, subst, nat_lt, arith}
+use Rattle.std.proofs.Common.{◌≡◌, ◌∙◌, ℕ, zero, suc, Bool, true, false, ◌&&◌, not, List, [], ◌∷◌, Some, None, slice_get, refl, sym, ap, subst}
 use Rattle.std.specs.Prelude.{if◌then◌else◌, cond}
 use Rattle.std.proofs.lemmas.Option.{same_Some}
 use Rattle.fst_types.specs.declared.kind.Use.{Use}
 use Rattle.fst_types.specs.declared.kind.Use.TheVariants.{Many, Once}
 use Rattle.fst_context.specs.Vars.{Vars, no_vars, under, single}
-use Rattle.fst_context.specs.Scope.{Scope, Variable, is_once, at_or_not, linear_at, is_inside, mark, more, fewer, joined, entered, left, begun, ended, open_in, without, Takes}
+use Rattle.fst_context.specs.Scope.{Scope, Variable, is_once, at_or_not, linear_at, is_inside, mark, entered, left, begun, ended, open_in, without, IsWithin, Takes}
 use Rattle.fst_context.specs.View.{after_take}
 use Rattle.fst_context.specs.declared.context.Taken.TheVariants.{Here, Gone, Outside}
-use Rattle.fst_context.proofs.Laws.{takes_as, takes_inside, takes_body}
+use Rattle.fst_context.proofs.Laws.{takes_as, takes_inside, takes_body, same_used, within_entered, left_entered, ended_begun}
 use Rattle.fst_rules.specs.Walks.{Walk, next, closed, inside, in_body, same_marks, agreed, branches, further, taken_as, taking}
-use Rattle.fst_rules.proofs.Deciding.{Decides, IsWithin, next_some, at-mark}
+use Rattle.fst_rules.proofs.Deciding.{Decides, next_some}
 
 -- ---- inside a variable
 
 closed_some : (b : Bool) (s r : Scope) → (if b then None else Some s) ≡ Some r → (b ≡ false) × (s ≡ r)
 closed_some true s r e = absurd (cc e)
 closed_some false s r e = (refl, same_Some s r e)
-
-lt_suc : (k n : ℕ) → nat_lt (suc k) (suc n) ≡ nat_lt k n
-lt_suc k n = grind arith
-
-more_inside : (ns : List ℕ) (k : ℕ) → is_inside (more ns) (suc k) ≡ is_inside ns k
-more_inside [] k = refl
-more_inside (n ∷ ns) k = lt_suc k n
-
-first_inside : (ns : List ℕ) → is_inside (more ns) 0 ≡ true
-first_inside [] = refl
-first_inside (n ∷ ns) = grind arith
-
-fewer_more : (ns : List ℕ) → fewer (more ns) ≡ ns
-fewer_more [] = refl
-fewer_more (n ∷ ns) = refl
-
-both_true : (a b : Bool) → a ≡ true → b ≡ true → (a && b) ≡ true
-both_true true b h e = e
-both_true false b h e = absurd (cc h)
 
 not_there : (b : Bool) → (b && not b) ≡ false
 not_there true = refl
@@ -50,22 +31,13 @@ decides_inside g x v P F d = record {
       subst (λ z. Takes (λ u. P (under (is_once v.uses) u)) s z) c.1 (takes_inside P x v s n.0 t c.0);
   complete = λ s u e q w.
       let o = is_once v.uses in
-      let inner : IsWithin (under o u) (entered x v s) = within o s u w in
-      let f = d.complete (entered x v s) (under o u) (ap (λ z. v ∷ z) e) q inner in
+      let f = d.complete (entered x v s) (under o u) (ap (λ z. v ∷ z) e) q (within_entered x v s u w) in
       ap (λ z. next z closed) f
       ∙ ap (λ b. if b then None else Some (left (without (under o u) (entered x v s)))) (not_there o)
-      ∙ ap Some (λ i. record { names = s.names; variables = s.variables; there = mark u s.there; bodies = fewer_more s.bodies i });
+      ∙ ap Some (left_entered x v s u);
 }
-  where
-    within : (o : Bool) (s : Scope) (u : Vars) → IsWithin u s → (k : ℕ) → under o u k ≡ true → (at_or_not (o ∷ s.there) k && is_inside (more s.bodies) k) ≡ true
-    within o s u w zero h = both_true o (is_inside (more s.bodies) 0) h (first_inside s.bodies)
-    within o s u w (suc k) h = ap (λ b. at_or_not s.there k && b) (more_inside s.bodies k) ∙ w k h
 
 -- ---- in the body of a function
-
-joined_zero : (ns : List ℕ) → joined (zero ∷ ns) ≡ ns
-joined_zero [] = refl
-joined_zero (n ∷ ns) = ap (λ m. m ∷ ns) (omega arith)
 
 pub decides_body : (g : List Variable) (uses : Use) (P : Vars → Type 0) (F : Walk) → Decides g P F → Decides g (λ u. (uses ≡ Many → u ≡ no_vars) × P u) (in_body uses F)
 decides_body g Many P F d = record {
@@ -78,7 +50,7 @@ decides_body g Many P F d = record {
       let none : u ≡ no_vars = q.0 refl in
       let f = d.complete (begun s) u e q.1 (λ k h. absurd (cc (h, ap (λ z. z k) none))) in
       ap (λ z. next z (λ r. Some (ended r))) f
-      ∙ ap Some (λ i. record { names = s.names; variables = s.variables; there = mark u s.there; bodies = joined_zero s.bodies i });
+      ∙ ap Some (ended_begun s u);
 }
 decides_body g Once P F d = record {
   sound = λ s r e h. takes_as P (λ u. (Once ≡ Many → u ≡ no_vars) × P u) s r (λ u z. ((λ f. absurd (cc f)), z)) (d.sound s r e h);
@@ -105,20 +77,9 @@ pub agreed_some : (b : Bool) (s r : Scope) → (if b then Some s else None) ≡ 
 agreed_some true s r e = (refl, same_Some s r e)
 agreed_some false s r e = absurd (cc e)
 
-same_bit : (a i u v : Bool) → (u ≡ true → (a && i) ≡ true) → (v ≡ true → (a && i) ≡ true) → (a && not u) ≡ (a && not v) → u ≡ v
-same_bit a i true true f h e = refl
-same_bit a i false false f h e = refl
-same_bit true i true false f h e = absurd (cc e)
-same_bit false i true false f h e = absurd (cc (f refl))
-same_bit true i false true f h e = absurd (cc e)
-same_bit false i false true f h e = absurd (cc (h refl))
-
 -- sets within a scope that leave the same marks are the same
-pub same_used : (s : Scope) (u v : Vars) → IsWithin u s → IsWithin v s → mark u s.there ≡ mark v s.there → u ≡ v
-same_used s u v f h e = λ i k. at k i
-  where
-    at : (k : ℕ) → u k ≡ v k
-    at k = same_bit (at_or_not s.there k) (is_inside s.bodies k) (u k) (v k) (f k) (h k) (sym (at-mark u s.there k) ∙ ap (λ z. at_or_not z k) e ∙ at-mark v s.there k)
+pub same_marked : (s : Scope) (u v : Vars) → IsWithin u s → IsWithin v s → mark u s.there ≡ mark v s.there → u ≡ v
+same_marked s u v f h e = same_used u v s f h (λ i. record { names = s.names; variables = s.variables; there = e i; bodies = s.bodies })
 
 pub decides_branches : (g : List Variable) (P Q : Vars → Type 0) (F G : Walk) → Decides g P F → Decides g Q G → Decides g (λ u. P u × Q u) (branches F G)
 decides_branches g P Q F G x y = record {
@@ -129,7 +90,7 @@ decides_branches g P Q F G x y = record {
       let a = x.sound s n.0 e n.1 in
       let b = y.sound s o.0 e o.1 in
       let there : mark b.used s.there ≡ mark a.used s.there = sym (ap (λ z. z.there) b.rest) ∙ marks_same o.0.there n.0.there c.0 ∙ ap (λ z. z.there) a.rest in
-      let same : a.used ≡ b.used = same_used s a.used b.used a.within b.within (sym there) in
+      let same : a.used ≡ b.used = same_marked s a.used b.used a.within b.within (sym there) in
       record { used = b.used; fact = (subst P same a.fact, b.fact); within = b.within; rest = sym c.1 ∙ b.rest };
   complete = λ s u e q w.
       ap (λ z. next z (λ r. next (G s) (agreed r.there))) (x.complete s u e q.0 w)
@@ -160,7 +121,7 @@ agrees_further g P T F G x y = record {
       let c = agreed_some (same_marks o.0.there (mark u s.there)) o.0 n.0 o.2 in
       let t = x.sound s o.0 e o.1 in
       let there : mark t.used s.there ≡ mark u s.there = sym (ap (λ z. z.there) t.rest) ∙ marks_same o.0.there (mark u s.there) c.0 in
-      let same : t.used ≡ u = same_used s t.used u t.within w there in
+      let same : t.used ≡ u = same_marked s t.used u t.within w there in
       let back : n.0 ≡ without u s = sym c.1 ∙ t.rest ∙ ap (λ v. without v s) same in
       let z = y.sound s r u e w (ap (G s) (sym back) ∙ n.2) in
       ((subst P same t.fact, z.0), z.1);

@@ -4,8 +4,7 @@ use Rattle.fst_terms.specs.declared.core_module.Module.{Module}
 use Rattle.fst_derivations.specs.Deriv.{Deriv}
 use Rattle.fst_derivations.specs.Modules.{HasDerivations}
 use Rattle.fst_derivations.specs.Parts.{IsConversion}
-use Rattle.fst_derivations.proofs.Laws.{globals_derived}
-use Rattle.fst_derivations.proofs.Weaker.{within_converts}
+use Rattle.fst_derivations.proofs.Laws.{globals_derived, within_converts}
 use Rattle.fst_premises.specs.Checks.{IsInSize}
 use Rattle.fst_typing.specs.Checked.{IsAccepted, check_over, checking_over}
 use Rattle.fst_typing.specs.Typed.{IsKnown}

@@ -4,22 +4,22 @@ use Rattle.std.specs.Prelude.{Result, Ok, Err, IfOk}
 use Rattle.fst_types.specs.Tree.{Tree}
 use Rattle.fst_types.specs.declared.kind.Use.{Use}
 use Rattle.fst_types.specs.declared.kind.Use.TheVariants.{Many, Once}
-use Rattle.fst_terms.specs.CoreTree.{CoreTree, local, global, int, bool, char, unit, pair, make, lambda, apply, let_in, split, if_else, case_of, operate, negate, new, send, receive, select, match_with, fork, seq}
+use Rattle.fst_terms.specs.CoreTree.{CoreTree, lambda}
 use Rattle.fst_terms.specs.declared.binder.Binder.{Binder}
 use Rattle.fst_context.specs.Scope.{Scope, Variable, begun, ended, is_once, left, more, Takes}
 use Rattle.fst_context.specs.Vars.{Vars, no_vars, under}
 use Rattle.fst_context.proofs.Laws.{takes_as, takes_body, takes_inside}
 use Rattle.fst_derivations.specs.Deriv.{Deriv, row, convert, type_of, one}
 use Rattle.fst_derivations.specs.Parts.{IsFormed, enter_all}
-use Rattle.fst_derivations.specs.Rules.{Surroundings, Mode, At, Row}
-use Rattle.fst_derivations.specs.Modules.{Equation, IsParameter}
+use Rattle.fst_derivations.specs.Rules.{Surroundings, Mode}
+use Rattle.fst_derivations.specs.Modules.{Equation, HasNoParameter, IsParameter}
 use Rattle.fst_premises.specs.Scenes.{IsReady}
 use Rattle.fst_premises.specs.Scopes.{AreUsed, after_body, inside}
-use Rattle.fst_premises.specs.Checks.{Check, IsInSize}
+use Rattle.fst_premises.specs.Checks.{Check}
 use Rattle.fst_typing.specs.Typed.{IsKnown, IsPlain, IsTyped, checking}
 use Rattle.fst_premises.specs.Shown.{IsTooLargeAt, IsUnused, ShowsUnused}
-use Rattle.fst_premises.specs.Parameters.{AreEntered, HasNoParameter, HasParameter, IsEntered}
-use Rattle.fst_typing.specs.Equations.{IsEquationTyped, IsParameterTyped, ShowsEquation, ShowsResult, UnderParameter}
+use Rattle.fst_premises.specs.Parameters.{AreEntered, HasParameter, IsEntered}
+use Rattle.fst_typing.specs.Equations.{IsEquationTyped, IsParameterTyped, ShowsEquation}
 use Rattle.fst_premises.specs.declared.parameters.Parameter.{Parameter}
 use Rattle.fst_premises.specs.declared.fault.CheckFault.{CheckFault}
 use Rattle.fst_typing.proofs.Formed.{arrow_formed}
@@ -37,63 +37,11 @@ module _ (c : Check) where
   abbrev S : Mode
   S = checking c
 
-  -- without a parameter in front an equation is derived as its term is, with a comparison
-  pub result_derived : (e : CoreTree) (t : Tree) (g : List Variable) (u : Vars) (d : Deriv) → HasNoParameter c e t → At M.vars t S.compared (Row M S e g) u d → Equation M S e t g u d
-  result_derived (local at k) t g u d n h = h
-  result_derived (global at k ks) t g u d n h = h
-  result_derived (int at i) t g u d n h = h
-  result_derived (bool at b) t g u d n h = h
-  result_derived (char at i) t g u d n h = h
-  result_derived (unit at) t g u d n h = h
-  result_derived (pair at a b) t g u d n h = h
-  result_derived (make at f k es) t g u d n h = h
-  result_derived (lambda at uses k x a) t g u d n h = inr (n at k uses x a refl, h)
-  result_derived (apply at a b) t g u d n h = h
-  result_derived (let_in at x a b) t g u d n h = h
-  result_derived (split at x y a b) t g u d n h = h
-  result_derived (if_else at a b o) t g u d n h = h
-  result_derived (case_of at a bs) t g u d n h = h
-  result_derived (operate at o a b) t g u d n h = h
-  result_derived (negate at a) t g u d n h = h
-  result_derived (new at k) t g u d n h = h
-  result_derived (send at a b) t g u d n h = h
-  result_derived (receive at a) t g u d n h = h
-  result_derived (select at l a) t g u d n h = h
-  result_derived (match_with at a bs) t g u d n h = h
-  result_derived (fork at a) t g u d n h = h
-  result_derived (seq at a b) t g u d n h = h
-
-  -- and refused as its term is, or for the comparison
-  pub result_shown : (e : CoreTree) (t : Tree) (s : Scope) (f : CheckFault) → HasNoParameter c e t → ShowsResult c e t s f → ShowsEquation c e t s f
-  result_shown (local at k) t s f n h = h
-  result_shown (global at k ks) t s f n h = h
-  result_shown (int at i) t s f n h = h
-  result_shown (bool at b) t s f n h = h
-  result_shown (char at i) t s f n h = h
-  result_shown (unit at) t s f n h = h
-  result_shown (pair at a b) t s f n h = h
-  result_shown (make at g k es) t s f n h = h
-  result_shown (lambda at uses k x a) t s f n h = inr (n at k uses x a refl, h)
-  result_shown (apply at a b) t s f n h = h
-  result_shown (let_in at x a b) t s f n h = h
-  result_shown (split at x y a b) t s f n h = h
-  result_shown (if_else at a b o) t s f n h = h
-  result_shown (case_of at a bs) t s f n h = h
-  result_shown (operate at o a b) t s f n h = h
-  result_shown (negate at a) t s f n h = h
-  result_shown (new at k) t s f n h = h
-  result_shown (send at a b) t s f n h = h
-  result_shown (receive at a) t s f n h = h
-  result_shown (select at l a) t s f n h = h
-  result_shown (match_with at a bs) t s f n h = h
-  result_shown (fork at a) t s f n h = h
-  result_shown (seq at a b) t s f n h = h
-
   -- the term that was found, compared with the type
-  pub result_typed : (e : CoreTree) (t : Tree) (r s : Scope) (d h : Deriv) → HasNoParameter c e t → IsTyped c r s e d → E (type_of d) t → h ≡ convert (type_of d) t d → IsEquationTyped c t r s e h
+  pub result_typed : (e : CoreTree) (t : Tree) (r s : Scope) (d h : Deriv) → HasNoParameter M.types e t → IsTyped c r s e d → E (type_of d) t → h ≡ convert (type_of d) t d → IsEquationTyped c t r s e h
   result_typed e t r s d h n y k is =
       takes_as (IsPlain c e r.variables d) (λ u. Equation M S e t r.variables u h) r s
-      (λ u p. subst (λ w. Equation M S e t r.variables u w) (sym is) (result_derived e t r.variables u (convert (type_of d) t d) n (at_type c e r.variables t d u k p)))
+      (λ u p. subst (λ w. Equation M S e t r.variables u w) (sym is) (Equation.result n (at_type c e r.variables t d u k p)))
       y
 
   -- a parameter as the definition of derivations has it
@@ -114,7 +62,7 @@ module _ (c : Check) where
       subst (λ o. IsEquationTyped c t r z o d) (sym h.term)
       (takes_as (λ u. Equation M S p.body.now p.to.now (record { type = p.from.now; uses = y.uses } ∷ r.variables) (under (is_once y.uses) u) b)
       (λ u. Equation M S (lambda h.at p.uses h.number p.binder.now p.body.now) t r.variables u d) r z
-      (λ u q. inl (is_parameter e t p h, y.uses, b, y.has, y.small, (λ l. absurd (cc (i, l))), q, is))
+      (λ u q. subst (λ o. Equation M S (lambda h.at p.uses h.number p.binder.now p.body.now) t r.variables u o) (sym is) (Equation.parameter (is_parameter e t p h) y.has y.small (λ l. absurd (cc (i, l))) q))
       (under_taken p.binder.now p.from.now p.to.now r z p.body.now b y))
 
   -- and of one that is used at will
@@ -125,19 +73,12 @@ module _ (c : Check) where
       subst (λ o. IsEquationTyped c t r o e d) (sym j)
       (subst (λ o. IsEquationTyped c t r (ended z) o d) (sym h.term)
       (takes_as (λ u. (u ≡ no_vars) × P u) (λ u. Equation M S (lambda h.at p.uses h.number p.binder.now p.body.now) t r.variables u d) r (ended z)
-      (λ u q. inl (is_parameter e t p h, y.uses, b, y.has, y.small, (λ l. q.0), q.1, is))
+      (λ u q. subst (λ o. Equation M S (lambda h.at p.uses h.number p.binder.now p.body.now) t r.variables u o) (sym is) (Equation.parameter (is_parameter e t p h) y.has y.small (λ l. q.0) q.1))
       (takes_body P r z (under_taken p.binder.now p.from.now p.to.now (begun r) z p.body.now b y))))
 
   -- a parameter's type is over its size
   pub large_shown : (e : CoreTree) (t : Tree) (p : Parameter) (s : Scope) (f : CheckFault) → HasParameter c e t p → IsTooLargeAt p.binder.now.at p.from.now f → ShowsEquation c e t s f
-  large_shown e t p s f h l = subst (λ o. ShowsEquation c o t s f) (sym h.term) (inl (is_parameter e t p h, inl l))
-
-  -- what is under a parameter refuses the equation
-  pub under_shown : (e : CoreTree) (t : Tree) (p : Parameter) (s z : Scope) (f : CheckFault) → HasParameter c e t p → z ≡ inside p.uses s → IsInSize p.from.now →
-      UnderParameter c p.binder.now p.from.now p.to.now p.body.now (λ o. ShowsEquation c p.body.now p.to.now o f) z f → ShowsEquation c e t s f
-  under_shown e t p s z f h i m l =
-      subst (λ o. ShowsEquation c o t s f) (sym h.term)
-      (inl (is_parameter e t p h, inr (m, subst (λ o. UnderParameter c p.binder.now p.from.now p.to.now p.body.now (λ w. ShowsEquation c p.body.now p.to.now w f) o f) i l)))
+  large_shown e t p s f h l = subst (λ o. ShowsEquation c o t s f) (sym h.term) (ShowsEquation.large (is_parameter e t p h) l)
 
   -- under a parameter the term is ready
   pub entered_ready : (e : CoreTree) (t : Tree) (p : Parameter) (s z : Scope) → HasParameter c e t p → IsEntered c p s z → IsReady c e s.variables → IsReady c p.body.now z.variables
@@ -200,7 +141,8 @@ module _ (c : Check) where
 
   -- what refuses the equation under a parameter refuses it
   pub inner_shown : (e : CoreTree) (t : Tree) (p : Parameter) (s z : Scope) (f : CheckFault) → HasParameter c e t p → IsEntered c p s z → ShowsEquation c p.body.now p.to.now z f → ShowsEquation c e t s f
-  inner_shown e t p s z f h n l = under_shown e t p s (inside p.uses s) f h refl n.small (n.uses, n.has, inl (subst (λ o. ShowsEquation c p.body.now p.to.now o f) n.is l))
+  inner_shown e t p s z f h n l =
+      subst (λ o. ShowsEquation c o t s f) (sym h.term) (ShowsEquation.inner (is_parameter e t p h) n.small n.has (subst (λ o. ShowsEquation c p.body.now p.to.now o f) n.is l))
 
   only_unused : (z : Scope) (x : Binder) (f : CheckFault) → ShowsUnused z (x ∷ []) f → IsUnused z 0 x f
   only_unused z x f (inl u) = u
@@ -210,8 +152,9 @@ module _ (c : Check) where
   pub unused_shown : (e : CoreTree) (t : Tree) (p : Parameter) (s z w : Scope) (b : Deriv) (f : CheckFault) → HasParameter c e t p → IsEntered c p s z → IsEquationTyped c p.to.now z w p.body.now b →
       ShowsUnused w (p.binder.now ∷ []) f → ShowsEquation c e t s f
   unused_shown e t p s z w b f h n y u =
-      under_shown e t p s (inside p.uses s) f h refl n.small
-      (n.uses, n.has, inr (record { scope = w; derivation = b; typed = subst (λ o. IsEquationTyped c p.to.now o w p.body.now b) n.is y; unused = only_unused w p.binder.now f u }))
+      subst (λ o. ShowsEquation c o t s f) (sym h.term)
+      (ShowsEquation.unused (is_parameter e t p h) n.small n.has
+      (record { scope = w; derivation = b; typed = subst (λ o. IsEquationTyped c p.to.now o w p.body.now b) n.is y; unused = only_unused w p.binder.now f u }))
 
   -- what refuses the equation under all parameters refuses it
   pub all_shown : (e : CoreTree) (t : Tree) (s : Scope) (ps : List Parameter) (b : CoreTree) (r : Tree) (z : Scope) (f : CheckFault) → AreEntered c e t s ps b r z → ShowsEquation c b r z f → ShowsEquation c e t s f

@@ -1,5 +1,5 @@
 -- Where a refusal is shown of a term, the term has no plain derivation.
-use Rattle.std.proofs.Common.{◌≡◌, ◌∙◌, ◌⊎◌, ◌<◌, ◌+◌, ◌&&◌, ◌||◌, inl, inr, ℕ, zero, suc, Bool, true, false, not, List, [], ◌∷◌, Some, length, map, slice_get, refl, sym, ap, subst, arith, nat_lt}
+use Rattle.std.proofs.Common.{◌≡◌, ◌∙◌, ◌⊎◌, ◌<◌, ◌+◌, ◌&&◌, inl, inr, ℕ, zero, suc, Bool, true, false, not, List, [], ◌∷◌, Some, length, map, slice_get, refl, sym, ap, subst, arith}
 use Rattle.std.specs.Prelude.{cond}
 use Rattle.std.specs.List.{AllByRecursion}
 use Rattle.std.proofs.lemmas.Option.{same_Some}
@@ -23,8 +23,9 @@ use Rattle.fst_terms.specs.CoreTree.{CoreTree, local, global, int, bool, char, u
 use Rattle.fst_terms.specs.declared.binder.Binder.{Binder}
 use Rattle.fst_terms.specs.declared.term.Op.{Op}
 use Rattle.fst_terms.specs.declared.term.Op.TheVariants.{Add, Subtract, Multiply, Equal, Unequal, Less, AtMost, Greater, AtLeast, And, Or}
-use Rattle.fst_context.specs.Scope.{Scope, Variable, is_once, at_or_not, linear_at, is_inside, mark, more, entered, open_in, without}
-use Rattle.fst_context.specs.Vars.{Vars, no_vars, under, outside, single, IsSplit}
+use Rattle.fst_context.specs.Scope.{Scope, Variable, is_once, at_or_not, linear_at, is_inside, more, entered, open_in, without, IsWithin}
+use Rattle.fst_context.specs.Vars.{Vars, no_vars, under, single}
+use Rattle.fst_context.proofs.Laws.{at-mark, within_left, within_right, within_entered}
 use Rattle.fst_context.specs.View.{taken_at}
 use Rattle.fst_context.specs.declared.context.Taken.TheVariants.{Here, Gone, Outside}
 use Rattle.fst_arms.specs.Arms.{AreEachOnce, arm_labels}
@@ -32,8 +33,7 @@ use Rattle.fst_derivations.specs.Deriv.{Deriv, type_of, Derivs}
 use Rattle.fst_derivations.specs.Parts.{HasUse, IsConversion, AreAt, AreVariables, enter_all, under_all, IsOffering, IsComparable}
 use Rattle.fst_derivations.specs.Rules.{Surroundings, Mode, Row, comparing, within, Over, At, Operates, Binding, fields, rest, Fields, Arms, FurtherArms, PlainRow}
 use Rattle.fst_derivations.specs.Laws.{PlainTypesAreUnique}
-use Rattle.fst_derivations.proofs.Parts.{same_at, same_variables, one_bound, one_step, outside_all}
-use Rattle.fst_derivations.proofs.Weaker.{weaker, within_compares}
+use Rattle.fst_derivations.proofs.Laws.{same_at, same_variables, one_bound, one_step, outside_all, weaker, within_compares}
 use Rattle.fst_premises.specs.Checks.{Check, IsInSize}
 use Rattle.fst_premises.specs.Scopes.{entered_all, inside, left_all, AreUsed}
 use Rattle.fst_premises.specs.Shown.{IsTooLargeAt, IsLargeBinder, ShowsArguments, ShowsUnused, ShowsNoFunction, ShowsNoPair, ShowsNoCase, ShowsNoMatch, ShowsDropped, ShowsSend, ShowsReceive, ShowsSelect, UseDifferent, place}
@@ -46,55 +46,6 @@ use Rattle.fst_typing.proofs.Under.{entered_variables, takes_under}
 use Rattle.fst_instances.proofs.Laws.{equal_back, equal_base_type}
 
 -- ---- sets of variables that can be taken
-
-abbrev pub IsWithin : Vars → Scope → Type 0
-IsWithin u s = (k : ℕ) → u k ≡ true → open_in s k ≡ true
-
-in_left : (a b : Bool) → a ≡ true → (a || b) ≡ true
-in_left true b h = refl
-in_left false b h = absurd (cc h)
-
-in_right : (a b : Bool) → b ≡ true → (a || b) ≡ true
-in_right true b h = refl
-in_right false b h = h
-
-apart_open : (a i u v : Bool) → (u && v) ≡ false → v ≡ true → (a && i) ≡ true → ((a && not u) && i) ≡ true
-apart_open a i true true s h o = absurd (cc s)
-apart_open a i true false s h o = absurd (cc h)
-apart_open false i false v s h o = absurd (cc o)
-apart_open true i false v s h o = o
-
-pub at-mark : (u : Vars) (bs : List Bool) (k : ℕ) → at_or_not (mark u bs) k ≡ (at_or_not bs k && not (u k))
-at-mark u [] k = refl
-at-mark u (b ∷ bs) zero = refl
-at-mark u (b ∷ bs) (suc k) = at-mark (outside u) bs k
-
-within_left : (s : Scope) (u v w : Vars) → IsSplit u v w → IsWithin u s → IsWithin v s
-within_left s u v w p i k h = i k (ap (λ z. z k) p.together ∙ in_left (v k) (w k) h)
-
-within_right : (s : Scope) (u v w : Vars) → IsSplit u v w → IsWithin u s → IsWithin w (without v s)
-within_right s u v w p i k h =
-    ap (λ b. b && is_inside s.bodies k) (at-mark v s.there k)
-    ∙ apart_open (at_or_not s.there k) (is_inside s.bodies k) (v k) (w k) (p.apart k) h (i k (ap (λ z. z k) p.together ∙ in_right (v k) (w k) h))
-
-lt_suc : (k n : ℕ) → nat_lt (suc k) (suc n) ≡ nat_lt k n
-lt_suc k n = grind arith
-
-more_inside : (ns : List ℕ) (k : ℕ) → is_inside (more ns) (suc k) ≡ is_inside ns k
-more_inside [] k = refl
-more_inside (n ∷ ns) k = lt_suc k n
-
-first_inside : (ns : List ℕ) → is_inside (more ns) 0 ≡ true
-first_inside [] = refl
-first_inside (n ∷ ns) = grind arith
-
-both_true : (a b : Bool) → a ≡ true → b ≡ true → (a && b) ≡ true
-both_true true b h g = g
-both_true false b h g = absurd (cc h)
-
-pub within_entered : (x : List ℕ) (v : Variable) (s : Scope) (u : Vars) → IsWithin u s → IsWithin (under (is_once v.uses) u) (entered x v s)
-within_entered x v s u w zero h = both_true (is_once v.uses) (is_inside (more s.bodies) 0) h (first_inside s.bodies)
-within_entered x v s u w (suc k) h = ap (λ b. at_or_not s.there k && b) (more_inside s.bodies k) ∙ w k h
 
 within_all : (xs : List Binder) (vs : List Variable) (s : Scope) (u : Vars) → length xs ≡ length vs → IsWithin u s → IsWithin (under_all vs u) (entered_all xs vs s)
 within_all [] [] s u e w = w

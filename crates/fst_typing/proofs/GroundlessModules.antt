@@ -1,35 +1,35 @@
 -- Where a refusal is shown of a module, the module has no plain derivations.
-use Rattle.std.proofs.Common.{◌≡◌, ◌∙◌, ◌⊎◌, ◌++◌, inl, inr, ℕ, false, List, [], ◌∷◌, Some, slice_get, refl, sym, ap, subst}
-use Rattle.fst_types.specs.Tree.{Tree, arrow}
+use Rattle.std.proofs.Common.{◌≡◌, ◌∙◌, ◌++◌, inl, inr, ℕ, false, List, [], ◌∷◌, Some, slice_get, refl, sym, ap, subst}
+use Rattle.fst_types.specs.Tree.{Tree}
 use Rattle.fst_types.specs.declared.kind.Kind.{Kind}
 use Rattle.fst_types.specs.declared.kind.Use.{Use}
 use Rattle.fst_types.specs.declared.kind.Use.TheVariants.{Many, Once}
-use Rattle.fst_terms.specs.CoreTree.{CoreTree, local, global, int, bool, char, unit, pair, make, lambda, apply, let_in, split, if_else, case_of, operate, negate, new, send, receive, select, match_with, fork, seq}
+use Rattle.fst_terms.specs.CoreTree.{CoreTree}
 use Rattle.fst_terms.specs.declared.binder.Binder.{Binder}
 use Rattle.fst_terms.specs.declared.core_module.Module.{Module}
 use Rattle.fst_terms.specs.declared.global.GlobalEntry.{GlobalEntry}
-use Rattle.fst_context.specs.Scope.{Scope, is_once, at_or_not, empty, without}
+use Rattle.fst_context.specs.Scope.{Scope, is_once, at_or_not, without, IsWithin}
+use Rattle.fst_context.proofs.Laws.{within_entered}
 use Rattle.fst_context.specs.Vars.{Vars, no_vars, under}
 use Rattle.fst_derivations.specs.Deriv.{Deriv}
 use Rattle.fst_derivations.specs.Parts.{HasUse, IsConversion}
 use Rattle.fst_derivations.specs.Rules.{Mode, Row, comparing, within, At}
-use Rattle.fst_derivations.specs.Modules.{ArePlainlyDerived, Equation, HasMain, HasPlainDerivations, IsMain, IsPrintable, surroundings}
+use Rattle.fst_derivations.specs.Modules.{ArePlainlyDerived, Equation, IsParameter, HasMain, HasPlainDerivations, IsMain, IsPrintable, surroundings}
 use Rattle.fst_derivations.specs.Laws.{PlainTypesAreUnique}
 use Rattle.fst_typing.proofs.PrintableFields.{fields_refused}
-use Rattle.fst_derivations.proofs.Parts.{one_use}
-use Rattle.fst_derivations.proofs.Weaker.{within_compares}
+use Rattle.fst_derivations.proofs.Laws.{one_parameter, one_use, within_compares}
 use Rattle.fst_typing.proofs.PlainEquations.{one_set, equation_more}
 use Rattle.fst_written.proofs.Laws.{refused}
 use Rattle.fst_premises.specs.Checks.{Check, IsInSize}
 use Rattle.fst_premises.specs.Parameters.{with_parameter}
 use Rattle.fst_premises.specs.Scopes.{inside}
-use Rattle.fst_premises.specs.Shown.{IsTooLargeAt, place}
+use Rattle.fst_premises.specs.Shown.{place}
 use Rattle.fst_premises.specs.declared.fault.CheckFault.{CheckFault}
 use Rattle.fst_typing.specs.Typed.{IsKnown, checking}
-use Rattle.fst_typing.specs.Equations.{ShowsEquation, ShowsResult, LeavesUnused, UnderParameter}
+use Rattle.fst_typing.specs.Equations.{ShowsEquation, ShowsResult}
 use Rattle.fst_typing.specs.Checked.{IsRefusal, IsNamedMain, ShowsGlobal, check_over}
 use Rattle.fst_typing.specs.Checked.IsRefusal.{kinds, field, equation}
-use Rattle.fst_typing.proofs.Groundless.{Excludes, IsWithin, at_none, no_plain, not_there, within_entered, within_inside}
+use Rattle.fst_typing.proofs.Groundless.{Excludes, at_none, no_plain, not_there, within_inside}
 
 module _ (c : Check) (unique : PlainTypesAreUnique) (I : CheckFault → Type 0) (L : Tree → Type 0) (E : Tree → Tree → Type 0) (excludes : Excludes c unique I L E) where
   abbrev S : Mode
@@ -45,79 +45,39 @@ module _ (c : Check) (unique : PlainTypesAreUnique) (I : CheckFault → Type 0) 
   same_variables_inside Many s = refl
   same_variables_inside Once s = refl
 
-  abbrev RefutesEquation : CoreTree → Tree → CheckFault → Type 0
-  RefutesEquation e t f = (s : Scope) → ShowsEquation c e t s f → (u : Vars) (d : Deriv) → Equation c.surroundings S e t s.variables u d → IsWithin u s → ⊥
+  -- the derivation under a parameter, as it is where the refusal is shown
+  abbrev Behind : Binder → CoreTree → Tree → Tree → Use → Use → Scope → Vars → Deriv → Type 0
+  Behind z a from to uses n s u b = Equation c.surroundings S a to (with_parameter z from n (inside uses s)).variables (under (is_once n) u) b
 
-  parameter_none : (at : ℕ) (uses : Use) (k : ℕ) (z : Binder) (a : CoreTree) (t : Tree) (f : CheckFault) → I f → ((r : Tree) → RefutesEquation a r f) → RefutesEquation (lambda at uses k z a) t f
-  parameter_none at uses k z a t f i refutes s (inl x) u d (inr y) w = y.0 x.0
-  parameter_none at uses k z a t f i refutes s (inl (p, x)) u d (inl (q, o, b, has', bound, none, y, is)) w = go x
-    where
-      arrows : arrow uses q.from q.to ≡ arrow uses p.from p.to
-      arrows = sym q.type ∙ p.type
-
-      from : q.from ≡ p.from
-      from = cc (arrows)
-
-      to : q.to ≡ p.to
-      to = cc (arrows)
-
-      under_it : (n : Use) → HasUse c.surroundings.vars p.from n → ShowsEquation c a p.to (with_parameter z p.from n (inside uses s)) f ⊎ LeavesUnused c z p.to (with_parameter z p.from n (inside uses s)) a f → ⊥
-      under_it n has v = behind v
-        where
-          there : Scope
-          there = with_parameter z p.from n (inside uses s)
-
-          use_of : o ≡ n
-          use_of = one_use c.surroundings.vars q.from p.from o n from has' has
-
-          inner : Equation c.surroundings S a p.to there.variables (under (is_once n) u) b
-          inner =
-              let y1 = subst (λ r. Equation c.surroundings S a r (record { type = q.from; uses = o } ∷ s.variables) (under (is_once o) u) b) to y in
-              let y2 = subst (λ r. Equation c.surroundings S a p.to (record { type = r; uses = o } ∷ s.variables) (under (is_once o) u) b) from y1 in
-              let y3 = subst (λ r. Equation c.surroundings S a p.to (record { type = p.from; uses = r } ∷ s.variables) (under (is_once r) u) b) use_of y2 in
-              subst (λ r. Equation c.surroundings S a p.to (record { type = p.from; uses = n } ∷ r) (under (is_once n) u) b) (sym (same_variables_inside uses s)) y3
-
-          behind : ShowsEquation c a p.to there f ⊎ LeavesUnused c z p.to there a f → ⊥
-          behind (inl v) = refutes p.to there v (under (is_once n) u) b inner (within_entered z.name (record { type = p.from; uses = n }) (inside uses s) u (within_inside uses u s none w))
-          behind (inr v) =
-              let taken = v.typed in
-              let found = equation_more c.surroundings (checking c) (comparing F) (within_compares IsInSize (IsKnown c) F (λ p q k. k.conversion)) a p.to there.variables taken.used v.derivation taken.fact in
-              let given = equation_more c.surroundings S (comparing F) (within_compares L E F excludes.equal) a p.to there.variables (under (is_once n) u) b inner in
-              let set = one_set c.surroundings unique a p.to there.variables taken.used (under (is_once n) u) v.derivation b found given in
-              let mark : at_or_not v.scope.there 0 ≡ false = ap (λ (r : Scope). at_or_not r.there 0) (taken.rest ∙ ap (λ r. without r there) set) ∙ not_there (is_once n) in
-              cc (v.unused.there, mark)
-
-      go : IsTooLargeAt z.at p.from f ⊎ (IsInSize p.from × UnderParameter c z p.from p.to a (λ o. ShowsEquation c a p.to o f) (inside uses s) f) → ⊥
-      go (inl l) = excludes.large z.at p.from f i (subst L from bound) l
-      go (inr (m, (n, has, v))) = under_it n has v
-  parameter_none at uses k z a t f i refutes s (inr x) u d (inl y) w = x.0 y.0
-  parameter_none at uses k z a t f i refutes s (inr x) u d (inr y) w = no_result (lambda at uses k z a) t f i s x.1 u d y.1 w
+  behind : (s : Scope) {at k : ℕ} {uses n o : Use} {z : Binder} {a : CoreTree} {t : Tree} {u : Vars} {b : Deriv} (p q : IsParameter c.surroundings.types at uses k z t) →
+      HasUse c.surroundings.vars p.from n → HasUse c.surroundings.vars q.from o →
+      Equation c.surroundings S a q.to (record { type = q.from; uses = o } ∷ s.variables) (under (is_once o) u) b → Behind z a p.from p.to uses n s u b
+  behind s {uses = uses} {n = n} {o = o} {a = a} {u = u} {b = b} p q has has' y =
+      let front = one_parameter p q in
+      let use_of : o ≡ n = one_use c.surroundings.vars q.from p.from o n front.0 has' has in
+      let y1 = subst (λ r. Equation c.surroundings S a r (record { type = q.from; uses = o } ∷ s.variables) (under (is_once o) u) b) front.1 y in
+      let y2 = subst (λ r. Equation c.surroundings S a p.to (record { type = r; uses = o } ∷ s.variables) (under (is_once o) u) b) front.0 y1 in
+      let y3 = subst (λ r. Equation c.surroundings S a p.to (record { type = p.from; uses = r } ∷ s.variables) (under (is_once r) u) b) use_of y2 in
+      subst (λ r. Equation c.surroundings S a p.to (record { type = p.from; uses = n } ∷ r) (under (is_once n) u) b) (sym (same_variables_inside uses s)) y3
 
   -- where a refusal is shown of an equation, it has no plain derivation
-  pub no_equation : (e : CoreTree) (t : Tree) (f : CheckFault) → I f → RefutesEquation e t f
-  no_equation (local at k) t f i = no_result (local at k) t f i
-  no_equation (global at k ks) t f i = no_result (global at k ks) t f i
-  no_equation (int at n) t f i = no_result (int at n) t f i
-  no_equation (bool at b) t f i = no_result (bool at b) t f i
-  no_equation (char at n) t f i = no_result (char at n) t f i
-  no_equation (unit at) t f i = no_result (unit at) t f i
-  no_equation (pair at a b) t f i = no_result (pair at a b) t f i
-  no_equation (make at n k es) t f i = no_result (make at n k es) t f i
-  no_equation (apply at a b) t f i = no_result (apply at a b) t f i
-  no_equation (let_in at o a b) t f i = no_result (let_in at o a b) t f i
-  no_equation (split at o z a b) t f i = no_result (split at o z a b) t f i
-  no_equation (if_else at a b o) t f i = no_result (if_else at a b o) t f i
-  no_equation (case_of at a bs) t f i = no_result (case_of at a bs) t f i
-  no_equation (operate at o a b) t f i = no_result (operate at o a b) t f i
-  no_equation (negate at a) t f i = no_result (negate at a) t f i
-  no_equation (new at k) t f i = no_result (new at k) t f i
-  no_equation (send at a b) t f i = no_result (send at a b) t f i
-  no_equation (receive at a) t f i = no_result (receive at a) t f i
-  no_equation (select at l a) t f i = no_result (select at l a) t f i
-  no_equation (match_with at a bs) t f i = no_result (match_with at a bs) t f i
-  no_equation (fork at a) t f i = no_result (fork at a) t f i
-  no_equation (seq at a b) t f i = no_result (seq at a b) t f i
-  no_equation (lambda at uses k z a) t f i = parameter_none at uses k z a t f i (λ r. no_equation a r f i)
+  pub no_equation : {e : CoreTree} {t : Tree} {s : Scope} {f : CheckFault} {u : Vars} {d : Deriv} → I f → ShowsEquation c e t s f → Equation c.surroundings S e t s.variables u d → IsWithin u s → ⊥
+  no_equation {f = f} i (ShowsEquation.large {x = z} p l) (Equation.parameter q has bound none y) w = excludes.large z.at p.from f i (subst L (one_parameter p q).0 bound) l
+  no_equation {s = s} {u = u} i (ShowsEquation.inner {uses = uses} {n = n} {x = z} p m has x) (Equation.parameter q has' bound none y) w =
+      no_equation i x (behind s p q has has' y) (within_entered z.name (record { type = p.from; uses = n }) (inside uses s) u (within_inside uses u s none w))
+  no_equation {s = s} {u = u} i (ShowsEquation.unused {uses = uses} {n = n} {x = z} p m has v) (Equation.parameter q has' bound none y) w =
+      let there : Scope = with_parameter z p.from n (inside uses s) in
+      let taken = v.typed in
+      let found = equation_more c.surroundings (checking c) (comparing F) (within_compares IsInSize (IsKnown c) F (λ p q k. k.conversion)) taken.fact in
+      let given = equation_more c.surroundings S (comparing F) (within_compares L E F excludes.equal) (behind s p q has has' y) in
+      let set = one_set c.surroundings unique found given in
+      let mark : at_or_not v.scope.there 0 ≡ false = ap (λ (r : Scope). at_or_not r.there 0) (taken.rest ∙ ap (λ r. without r there) set) ∙ not_there (is_once n) in
+      cc (v.unused.there, mark)
+  no_equation i (ShowsEquation.large {at = at} {k = k} {uses = uses} {x = z} {e = a} p l) (Equation.result apart y) w = apart at k uses z a refl p
+  no_equation i (ShowsEquation.inner {at = at} {k = k} {uses = uses} {x = z} {e = a} p m has x) (Equation.result apart y) w = apart at k uses z a refl p
+  no_equation i (ShowsEquation.unused {at = at} {k = k} {uses = uses} {x = z} {e = a} p m has x) (Equation.result apart y) w = apart at k uses z a refl p
+  no_equation i (ShowsEquation.result apart x) (Equation.parameter {at = at} {k = k} {uses = uses} {x = z} {e = a} q has bound none y) w = apart at k uses z a refl q
+  no_equation {e = e} {t = t} {s = s} {f = f} {u = u} {d = d} i (ShowsEquation.result apart x) (Equation.result apart' y) w = no_result e t f i s x u d y w
 
 -- what is found of a module with plain derivations
 module _ (m : Module) (budget : ℕ) (unique : PlainTypesAreUnique) (I : CheckFault → Type 0) (L : Tree → Type 0) (E : List Kind → Tree → Tree → Type 0)
@@ -146,7 +106,7 @@ module _ (m : Module) (budget : ℕ) (unique : PlainTypesAreUnique) (I : CheckFa
       apart (subst IsPrintable types p.2)
   no_global g f i (inr (named, (t', there', x))) main d t there y =
       let same : t ≡ t' = cc (sym there ∙ there') in
-      no_equation (check_over m budget g.kinds.items) unique I L (E g.kinds.items) (excludes g.kinds.items) g.body t' f i empty x no_vars d
+      no_equation (check_over m budget g.kinds.items) unique I L (E g.kinds.items) (excludes g.kinds.items) i x
       (subst (λ r. Equation (surroundings m g.kinds.items) (T g.kinds.items) g.body r [] no_vars d) same y) (λ j h. absurd (cc h))
 
   -- where a refusal is shown of a module, it has no plain derivations

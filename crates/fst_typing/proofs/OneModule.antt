@@ -1,25 +1,24 @@
 -- A module is refused in one way at most; and one that is accepted isn't refused, and is within the limits.
-use Rattle.std.proofs.Common.{◌≡◌, ◌∙◌, ◌⊎◌, ◌<◌, inl, inr, ℕ, suc, List, [], ◌∷◌, ◌++◌, Some, slice_get, refl, sym, ap, subst, arith}
+use Rattle.std.proofs.Common.{◌≡◌, ◌∙◌, ◌<◌, inl, inr, ℕ, suc, List, [], ◌∷◌, ◌++◌, Some, slice_get, refl, sym, ap, subst, arith}
 use Rattle.std.specs.Prelude.{⊤, ◌↔◌, Err}
 use Rattle.std.proofs.lemmas.Bool.{cases_lt}
 use Rattle.std.proofs.lemmas.Option.{same_Some}
-use Rattle.fst_types.specs.Tree.{Tree, arrow}
+use Rattle.fst_types.specs.Tree.{Tree}
 use Rattle.fst_types.specs.declared.kind.Kind.{Kind}
 use Rattle.fst_types.specs.declared.kind.Use.{Use}
 use Rattle.fst_kinds.specs.Faults.{IsFirstFault}
 use Rattle.fst_kinds.specs.Walk.{walk}
 use Rattle.fst_kinds.specs.declared.fault.KindFault.{KindFault}
-use Rattle.fst_terms.specs.CoreTree.{CoreTree, local, global, int, bool, char, unit, pair, make, lambda, apply, let_in, split, if_else, case_of, operate, negate, new, send, receive, select, match_with, fork, seq}
+use Rattle.fst_terms.specs.CoreTree.{CoreTree}
 use Rattle.fst_terms.specs.declared.binder.Binder.{Binder}
 use Rattle.fst_terms.specs.declared.core_module.Module.{Module}
 use Rattle.fst_terms.specs.declared.global.GlobalEntry.{GlobalEntry}
 use Rattle.fst_context.specs.Scope.{Scope, empty}
-use Rattle.fst_derivations.specs.Modules.{IsMain, IsPrintable, AreTypesFormed}
-use Rattle.fst_derivations.specs.Parts.{IsFormed}
+use Rattle.fst_derivations.specs.Modules.{IsMain, IsParameter, IsPrintable, AreTypesFormed}
+use Rattle.fst_derivations.specs.Parts.{HasUse, IsFormed}
 use Rattle.fst_derivations.specs.Rules.{within}
 use Rattle.fst_derivations.specs.Laws.{PlainTypesAreUnique}
-use Rattle.fst_derivations.proofs.Parts.{one_use}
-use Rattle.fst_derivations.proofs.Weaker.{within_more}
+use Rattle.fst_derivations.proofs.Laws.{one_parameter, one_use, within_more}
 use Rattle.fst_equiv.specs.Comparison.{IsComparison}
 use Rattle.fst_equiv.specs.Outcomes.{HasOutcome, outcome_of, OneOutcome}
 use Rattle.fst_equiv.specs.declared.comparing.Same.{Same}
@@ -37,7 +36,8 @@ use Rattle.fst_premises.specs.declared.fault.CheckFault.TheVariants.{Kinds, NotP
 use Rattle.fst_typing.specs.Typed.{IsKnown}
 use Rattle.fst_typing.specs.Shown.{IsUnequal}
 use Rattle.fst_typing.specs.Shown.IsUnequal.{undecided, too_large}
-use Rattle.fst_typing.specs.Equations.{ShowsEquation, ShowsResult, LeavesUnused, UnderParameter}
+use Rattle.fst_typing.specs.Equations.{ShowsEquation, ShowsResult, LeavesUnused}
+use Rattle.fst_typing.specs.Equations.ShowsEquation.{large, inner, unused, result}
 use Rattle.fst_typing.specs.Checked.{IsAnswered, IsGlobalAccepted, ShowsGlobal, ShowsMain, check_over, checking_over}
 use Rattle.fst_typing.specs.Checked.IsRefusal.{kinds, field, equation}
 use Rattle.fst_typing.specs.Laws.{SaySame, itself, AcceptedIsWithin, OneRefusal, AcceptedIsNotRefused}
@@ -92,80 +92,42 @@ module _ (outcomes : OneOutcome) (found : (t u : Tree) (budget : ℕ) (a : Same)
     one_result : (e : CoreTree) (t : Tree) (s : Scope) → IsFormed c.surroundings.vars t → IsOne (ShowsResult c e t s)
     one_result e t s h = one_first c outcomes found unique e s (λ f z u. IsUnequal c (place e) u t f) (one e s) (λ z u k. one_unequal c outcomes found (place e) u t k h)
 
-    abbrev OneEquation : CoreTree → Type 0
-    OneEquation e = (t : Tree) (s : Scope) → IsFormed c.surroundings.vars t → IsOne (ShowsEquation c e t s)
+    -- what is said of the term under a parameter
+    module _ {at k : ℕ} {uses n o : Use} {x : Binder} {t : Tree} (p q : IsParameter c.surroundings.types at uses k x t) (has : HasUse c.surroundings.vars p.from n) (has' : HasUse c.surroundings.vars q.from o)
+        (P : Tree → Scope → Type 0) (s : Scope) where
+      -- by two descriptions of the parameter it is the same
+      one_front : P q.to (with_parameter x q.from o (inside uses s)) → P p.to (with_parameter x p.from n (inside uses s))
+      one_front y =
+          let front = one_parameter p q in
+          let use_of : o ≡ n = one_use c.surroundings.vars q.from p.from o n front.0 has' has in
+          subst (λ r. P p.to (with_parameter x p.from r (inside uses s))) use_of (subst (λ r. P p.to (with_parameter x r o (inside uses s))) front.0 (subst (λ r. P r (with_parameter x q.from o (inside uses s))) front.1 y))
 
-    -- what is said of a parameter of this type, and of what is under it
-    abbrev Parameter : Binder → Use → CoreTree → Scope → Tree → Tree → CheckFault → Type 0
-    Parameter x uses e s from to f = IsTooLargeAt x.at from f ⊎ (IsInSize from × UnderParameter c x from to e (λ z. ShowsEquation c e to z f) (inside uses s) f)
+    result_formed : {at k : ℕ} {uses : Use} {x : Binder} {t : Tree} (p : IsParameter c.surroundings.types at uses k x t) → IsFormed c.surroundings.vars t → IsFormed c.surroundings.vars p.to
+    result_formed {uses = uses} p h = (arrow_formed c.surroundings.vars uses p.from p.to (subst (IsFormed c.surroundings.vars) p.type h)).1
 
-    abbrev Behind : Binder → CoreTree → Tree → Scope → CheckFault → Type 0
-    Behind x e to s f = ShowsEquation c e to s f ⊎ LeavesUnused c x to s e f
-
-    one_parameter : (at : ℕ) (uses : Use) (k : ℕ) (x : Binder) (e : CoreTree) → OneEquation e → OneEquation (lambda at uses k x e)
-    one_parameter at uses k x e inner t s h f g (inl (p, y)) (inr z) = absurd (z.0 p)
-    one_parameter at uses k x e inner t s h f g (inr y) (inl (p, z)) = absurd (y.0 p)
-    one_parameter at uses k x e inner t s h f g (inr y) (inr z) = one_result (lambda at uses k x e) t s h f g y.1 z.1
-    one_parameter at uses k x e inner t s h f g (inl (p, y)) (inl (q, z)) = go y z'
-      where
-        arrows : arrow uses q.from q.to ≡ arrow uses p.from p.to
-        arrows = sym q.type ∙ p.type
-
-        from : q.from ≡ p.from
-        from = cc (arrows)
-
-        to : q.to ≡ p.to
-        to = cc (arrows)
-
-        z' : Parameter x uses e s p.from p.to g
-        z' = subst (λ r. Parameter x uses e s r p.to g) from (subst (λ r. Parameter x uses e s q.from r g) to z)
-
-        formed : IsFormed c.surroundings.vars p.to
-        formed = (arrow_formed c.surroundings.vars uses p.from p.to (subst (IsFormed c.surroundings.vars) p.type h)).1
-
-        typed : (n : Use) (f f' : CheckFault) → ShowsEquation c e p.to (with_parameter x p.from n (inside uses s)) f → LeavesUnused c x p.to (with_parameter x p.from n (inside uses s)) e f' → ⊥
-        typed n f f' v w =
-            no_equation c unique Each IsInSize (IsKnown c) (excludes c outcomes found unique) e p.to f tt (with_parameter x p.from n (inside uses s)) v w.typed.used w.derivation w.typed.fact w.typed.within
-
-        behind : (n : Use) → IsOne (Behind x e p.to (with_parameter x p.from n (inside uses s)))
-        behind n f g (inl v) (inl w) = inner p.to (with_parameter x p.from n (inside uses s)) formed f g v w
-        behind n f g (inl v) (inr w) = absurd (typed n f g v w)
-        behind n f g (inr v) (inl w) = absurd (typed n g f w v)
-        behind n f g (inr v) (inr w) = exact v.unused.is w.unused.is
-
-        go : Parameter x uses e s p.from p.to f → Parameter x uses e s p.from p.to g → SaySame f g
-        go (inl l) (inl m) = one_large x.at p.from f g l m
-        go (inl l) (inr m) = absurd (not_large x.at p.from f l m.0)
-        go (inr m) (inl l) = absurd (not_large x.at p.from g l m.0)
-        go (inr (m, (n, has, v))) (inr (m', (o, has', w))) =
-            let uses_of : n ≡ o = one_use c.surroundings.vars p.from p.from n o refl has has' in
-            behind o f g (subst (λ r. Behind x e p.to (with_parameter x p.from r (inside uses s)) f) uses_of v) w
+    typed : (x : Binder) (t : Tree) (s : Scope) (e : CoreTree) (f f' : CheckFault) → ShowsEquation c e t s f → LeavesUnused c x t s e f' → ⊥
+    typed x t s e f f' v w = no_equation c unique Each IsInSize (IsKnown c) (excludes c outcomes found unique) tt v w.typed.fact w.typed.within
 
     -- an equation is refused in one way at most
-    one_equation : (e : CoreTree) → OneEquation e
-    one_equation (local at k) = one_result (local at k)
-    one_equation (global at k ks) = one_result (global at k ks)
-    one_equation (int at n) = one_result (int at n)
-    one_equation (bool at b) = one_result (bool at b)
-    one_equation (char at n) = one_result (char at n)
-    one_equation (unit at) = one_result (unit at)
-    one_equation (pair at a b) = one_result (pair at a b)
-    one_equation (make at n k es) = one_result (make at n k es)
-    one_equation (lambda at uses k x e) = one_parameter at uses k x e (one_equation e)
-    one_equation (apply at a b) = one_result (apply at a b)
-    one_equation (let_in at x a b) = one_result (let_in at x a b)
-    one_equation (split at x y a b) = one_result (split at x y a b)
-    one_equation (if_else at a b o) = one_result (if_else at a b o)
-    one_equation (case_of at a bs) = one_result (case_of at a bs)
-    one_equation (operate at o a b) = one_result (operate at o a b)
-    one_equation (negate at a) = one_result (negate at a)
-    one_equation (new at k) = one_result (new at k)
-    one_equation (send at a b) = one_result (send at a b)
-    one_equation (receive at a) = one_result (receive at a)
-    one_equation (select at l a) = one_result (select at l a)
-    one_equation (match_with at a bs) = one_result (match_with at a bs)
-    one_equation (fork at a) = one_result (fork at a)
-    one_equation (seq at a b) = one_result (seq at a b)
+    one_equation : {e : CoreTree} {t : Tree} {s : Scope} {f g : CheckFault} → IsFormed c.surroundings.vars t → ShowsEquation c e t s f → ShowsEquation c e t s g → SaySame f g
+    one_equation {f = f} {g = g} h (large {x = x} p l) (large q m) = one_large x.at p.from f g l (subst (λ r. IsTooLargeAt x.at r g) (one_parameter p q).0 m)
+    one_equation {f = f} h (large {x = x} p l) (inner q m has w) = absurd (not_large x.at p.from f l (subst IsInSize (one_parameter p q).0 m))
+    one_equation {f = f} h (large {x = x} p l) (unused q m has w) = absurd (not_large x.at p.from f l (subst IsInSize (one_parameter p q).0 m))
+    one_equation {g = g} h (inner {x = x} p m has w) (large q l) = absurd (not_large x.at q.from g l (subst IsInSize (one_parameter q p).0 m))
+    one_equation {g = g} h (unused {x = x} p m has w) (large q l) = absurd (not_large x.at q.from g l (subst IsInSize (one_parameter q p).0 m))
+    one_equation {s = s} {g = g} h (inner {e = e} p m has v) (inner q m' has' w) = one_equation (result_formed p h) v (one_front p q has has' (λ r z. ShowsEquation c e r z g) s w)
+    one_equation {s = s} {f = f} {g = g} h (inner {uses = uses} {n = n} {x = x} {e = e} p m has v) (unused q m' has' w) =
+        absurd (typed x p.to (with_parameter x p.from n (inside uses s)) e f g v (one_front p q has has' (λ r z. LeavesUnused c x r z e g) s w))
+    one_equation {s = s} {f = f} {g = g} h (unused {x = x} {e = e} p m has v) (inner {uses = uses} {n = o} q m' has' w) =
+        absurd (typed x q.to (with_parameter x q.from o (inside uses s)) e g f w (one_front q p has' has (λ r z. LeavesUnused c x r z e f) s v))
+    one_equation h (unused p m has v) (unused q m' has' w) = exact v.unused.is w.unused.is
+    one_equation h (result apart x) (large {at = at} {k = k} {uses = uses} {x = z} {e = e} q l) = absurd (apart at k uses z e refl q)
+    one_equation h (result apart x) (inner {at = at} {k = k} {uses = uses} {x = z} {e = e} q m has w) = absurd (apart at k uses z e refl q)
+    one_equation h (result apart x) (unused {at = at} {k = k} {uses = uses} {x = z} {e = e} q m has w) = absurd (apart at k uses z e refl q)
+    one_equation h (large {at = at} {k = k} {uses = uses} {x = z} {e = e} q l) (result apart x) = absurd (apart at k uses z e refl q)
+    one_equation h (inner {at = at} {k = k} {uses = uses} {x = z} {e = e} q m has w) (result apart x) = absurd (apart at k uses z e refl q)
+    one_equation h (unused {at = at} {k = k} {uses = uses} {x = z} {e = e} q m has w) (result apart x) = absurd (apart at k uses z e refl q)
+    one_equation {e = e} {t = t} {s = s} {f = f} {g = g} h (result apart x) (result apart' y) = one_result e t s h f g x y
 
   -- ---- modules
 
@@ -196,7 +158,7 @@ module _ (outcomes : OneOutcome) (found : (t u : Tree) (budget : ℕ) (a : Same)
         let formed : IsFormed g.kinds.items t' = subst (IsFormed g.kinds.items) (same_Some signature.0 t' (sym signature.1 ∙ there')) signature.2 in
         let c : Check = C g.kinds.items in
         let one = one_shown c outcomes found unique (λ n j o e. formed_fields c n j o (makers_formed m h) e) in
-        one_equation c one g.body t' empty formed f f' (subst (λ r. ShowsEquation c g.body r empty f) types x) y
+        one_equation c one formed (subst (λ r. ShowsEquation c g.body r empty f) types x) y
 
     -- a global that is accepted isn't refused
     accepted_apart : (g : GlobalEntry) (f : CheckFault) → ShowsGlobal m budget g f → IsGlobalAccepted m budget g → ⊥

@@ -33,7 +33,7 @@ use Rattle.fst_derivations.specs.Modules.{AreFieldsFormed}
 use Rattle.fst_derivations.specs.Parts.{AreAt, HasUse, IsFormed, IsOffering}
 use Rattle.fst_derivations.specs.Rules.{Binding, fields, rest}
 use Rattle.fst_derivations.specs.Laws.{PlainTypesAreUnique}
-use Rattle.fst_derivations.proofs.Parts.{same_at, same_variables, one_bound}
+use Rattle.fst_derivations.proofs.Laws.{same_at, same_variables, one_bound}
 use Rattle.fst_equiv.specs.Comparison.{AreFormed as AreBothFormed, IsComparison}
 use Rattle.fst_equiv.specs.Outcomes.{Outcome, equal, shape, word, undecided, too_large, HasOutcome, outcome_of, OneOutcome}
 use Rattle.fst_equiv.specs.declared.comparing.Same.{Same}

@@ -1,18 +1,18 @@
 -- The types that the refusal of a module names have texts.
 use Rattle.std.proofs.Common.{inl, inr, ℕ, List, [], ◌∷◌, length, subst}
 use Rattle.fst_types.specs.Tree.{Tree}
-use Rattle.fst_terms.specs.CoreTree.{CoreTree, lambda}
+use Rattle.fst_terms.specs.CoreTree.{CoreTree}
 use Rattle.fst_terms.specs.InRange.{AreTypes}
 use Rattle.fst_terms.specs.declared.core_module.Module.{Module}
 use Rattle.fst_terms.specs.declared.global.GlobalEntry.{GlobalEntry}
-use Rattle.fst_context.specs.Scope.{Scope, entered, empty}
+use Rattle.fst_context.specs.Scope.{Scope}
 use Rattle.fst_derivations.specs.Deriv.{type_of}
 use Rattle.fst_derivations.specs.Texts.{HasText, AllHaveText}
 use Rattle.fst_derivations.proofs.Laws.{arrow_texts, text_at}
 use Rattle.fst_premises.specs.Checks.{Check}
-use Rattle.fst_premises.specs.Scopes.{inside}
 use Rattle.fst_premises.specs.Shown.{place, IsShown}
 use Rattle.fst_typing.specs.Equations.{ShowsEquation, ShowsResult}
+use Rattle.fst_typing.specs.Equations.ShowsEquation.{large, inner, unused, result}
 use Rattle.fst_typing.specs.Checked.{check_over, IsRefusal, kinds, field, equation, ShowsGlobal, ShowsMain}
 use Rattle.fst_typing.specs.Texts.{HaveTexts}
 use Rattle.fst_premises.specs.declared.fault.CheckFault.{CheckFault}
@@ -30,14 +30,13 @@ module _ (c : Check) (types : AllHaveText (length c.surroundings.families) c.sur
       either N f x (shown_texts c types e s f h) (λ y. unequal_text N c (place e) (type_of y.derivation) t f (after_text c types e s h y) i y.then)
 
   -- where the equation's type and those of the variables in scope have texts, so have the types that its refusal names
-  pub equation_texts : (e : CoreTree) (t : Tree) (s : Scope) (f : CheckFault) → HasText N t → ScopeHasText N s → ShowsEquation c e t s f → HaveTexts N f
-  equation_texts (lambda at uses k x e) t s f i h (inl (p, inl y)) = large_text N x.at p.from f y
-  equation_texts (lambda at uses k x e) t s f i h (inl (p, inr (m, (n, w, inl y)))) =
+  pub equation_texts : {e : CoreTree} {t : Tree} {s : Scope} {f : CheckFault} → HasText N t → ScopeHasText N s → ShowsEquation c e t s f → HaveTexts N f
+  equation_texts {f = f} i h (large {x = x} p y) = large_text N x.at p.from f y
+  equation_texts {s = s} i h (inner {uses = uses} p m has y) =
       let parts = arrow_texts N uses p.from p.to (subst (HasText N) p.type i) in
-      equation_texts e p.to (entered x.name (record { type = p.from; uses = n }) (inside uses s)) f parts.1 (parts.0, inside_text N uses s h) y
-  equation_texts (lambda at uses k x e) t s f i h (inl (p, inr (m, (n, w, inr y)))) = unused_text N y.scope 0 x f y.unused
-  equation_texts (lambda at uses k x e) t s f i h (inr y) = result_texts (lambda at uses k x e) t s f i h y.1
-  equation_texts e t s f i h x = result_texts e t s f i h x
+      equation_texts parts.1 (parts.0, inside_text N uses s h) y
+  equation_texts {f = f} i h (unused {x = x} p m has y) = unused_text N y.scope 0 x f y.unused
+  equation_texts {e = e} {t = t} {s = s} {f = f} i h (result apart x) = result_texts e t s f i h x
 
 -- ---- modules
 
@@ -57,7 +56,7 @@ main_texts m g f (inr x) =
 global_texts : (m : Module) (budget : ℕ) (g : GlobalEntry) (f : CheckFault) → ShowsGlobal m budget g f → HaveTexts (length m.families.items) f
 global_texts m budget g f (inl x) = main_texts m g f x.1
 global_texts m budget g f (inr x) =
-    let y = x.1 in equation_texts (check_over m budget g.kinds.items) (module_text m) g.body y.0 empty f (text_at _ m.types.items g.signature y.0 (module_text m) y.1) tt y.2
+    let y = x.1 in equation_texts (check_over m budget g.kinds.items) (module_text m) (text_at _ m.types.items g.signature y.0 (module_text m) y.1) tt y.2
 
 -- the types that the refusal of a module names have texts
 pub refusal_texts : (m : Module) (budget : ℕ) (f : CheckFault) → IsRefusal m budget f → HaveTexts (length m.families.items) f

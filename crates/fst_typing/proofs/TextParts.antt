@@ -11,8 +11,7 @@ use Rattle.fst_context.specs.Vars.{Vars}
 use Rattle.fst_derivations.specs.Deriv.{Deriv, type_of}
 use Rattle.fst_derivations.specs.Texts.{HasText, AllHaveText, VariablesHaveText}
 use Rattle.fst_derivations.specs.Rules.{comparing}
-use Rattle.fst_derivations.proofs.Laws.{row_text, variables_text}
-use Rattle.fst_derivations.proofs.Weaker.{weaker, within_compares}
+use Rattle.fst_derivations.proofs.Laws.{row_text, variables_text, weaker, within_compares}
 use Rattle.fst_premises.specs.Scopes.{entered_all, inside}
 use Rattle.fst_premises.specs.Checks.{Check, IsInSize}
 use Rattle.fst_typing.specs.Typed.{IsKnown, IsTyped, checking}

@@ -8,8 +8,8 @@ use Rattle.fst_terms.specs.declared.core_module.Module.{Module}
 use Rattle.fst_derivations.specs.Deriv.{Deriv}
 use Rattle.fst_derivations.specs.Parts.{IsConversion}
 use Rattle.fst_derivations.specs.Rules.{comparing, within}
-use Rattle.fst_derivations.specs.Modules.{HasDerivations, surroundings}
-use Rattle.fst_derivations.specs.Laws.{IsTypeEquality, PlainTypesAreUnique, DerivedIsPlain}
+use Rattle.fst_derivations.specs.Modules.{HasDerivations}
+use Rattle.fst_derivations.specs.Laws.{IsTypeEquality, PlainTypesAreUnique, DerivedIsPlain, Weaker}
 use Rattle.fst_equiv.specs.Comparison.{IsComparison, IsDifference}
 use Rattle.fst_equiv.specs.declared.comparing.Same.{Same}
 use Rattle.fst_equiv.specs.declared.comparing.Same.TheVariants as same
@@ -21,7 +21,6 @@ use Rattle.fst_typing.specs.Shown.{IsUnequal}
 use Rattle.fst_typing.specs.Shown.IsUnequal.{shape, word, undecided, too_large}
 use Rattle.fst_typing.specs.Checked.{HasDerivationsWithin, IsAnswered, IsRefusal, check_over}
 use Rattle.fst_typing.specs.Laws.{DerivedHasPlain, IsCause, RefusedHasNone, WithinIsNotRefused}
-use Rattle.fst_derivations.proofs.Weaker.{Weaker}
 use Rattle.fst_typing.proofs.PlainEquations.{globals_plain, module_more}
 use Rattle.fst_typing.proofs.Groundless.{Excludes}
 use Rattle.fst_typing.proofs.GroundlessModules.{no_module}

@@ -1,5 +1,5 @@
 -- The plain derivation of an equation, and why an equation is refused.
-use Rattle.std.specs.Prelude.{◌≡◌, ◌⊎◌, false}
+use Rattle.std.specs.Prelude.{◌≡◌, ℕ, false}
 use Rattle.fst_types.specs.Tree.{Tree}
 use Rattle.fst_types.specs.declared.kind.Use.{Use}
 use Rattle.fst_terms.specs.CoreTree.{CoreTree, lambda}
@@ -7,7 +7,7 @@ use Rattle.fst_terms.specs.declared.binder.Binder.{Binder}
 use Rattle.fst_context.specs.Scope.{Scope, at_or_not, left, Takes}
 use Rattle.fst_derivations.specs.Deriv.{Deriv}
 use Rattle.fst_derivations.specs.Parts.{HasUse}
-use Rattle.fst_derivations.specs.Modules.{Equation, IsParameter}
+use Rattle.fst_derivations.specs.Modules.{Equation, HasNoParameter, IsParameter}
 use Rattle.fst_premises.specs.Checks.{Check, IsInSize}
 use Rattle.fst_typing.specs.Typed.{checking}
 use Rattle.fst_premises.specs.Scopes.{inside}
@@ -20,7 +20,7 @@ use Rattle.fst_premises.specs.declared.fault.CheckFault.{CheckFault}
 abbrev pub IsEquationTyped : Check → Tree → Scope → Scope → CoreTree → Deriv → Type 0
 IsEquationTyped c t before after e d = Takes (λ u. Equation c.surroundings (checking c) e t before.variables u d) before after
 
--- what is under an equation's parameters is refused, or its type isn't the result's
+-- the term is refused, or its type isn't this one
 abbrev pub ShowsResult : Check → CoreTree → Tree → Scope → CheckFault → Type 0
 ShowsResult c e t s f = First c e s (Shows c e s f) (λ z u. IsUnequal c (place e) u t f)
 
@@ -31,19 +31,22 @@ pub record LeavesUnused (c : Check) (x : Binder) (t : Tree) (s : Scope) (e : Cor
   pub typed : IsEquationTyped c t s scope e derivation
   pub unused : IsUnused scope 0 x f
 
--- what is under a parameter of the first type is refused, or doesn't use the parameter
-abbrev pub UnderParameter : Check → Binder → Tree → Tree → CoreTree → (Scope → Type 0) → Scope → CheckFault → Type 0
-UnderParameter c x from to e Refused s f =
-    (n : Use) × HasUse c.surroundings.vars from n × (Refused (with_parameter x from n s) ⊎ LeavesUnused c x to (with_parameter x from n s) e f)
-
--- an equation is refused at this type: its first parameter's type is over its size, or what is under the parameter is
--- refused or doesn't use it, or it has no parameter and is refused
-abbrev pub ShowsEquation : Check → CoreTree → Tree → Scope → CheckFault → Type 0
-ShowsEquation c (lambda at uses k x e) t s f =
-    ((p : IsParameter c.surroundings.types at uses k x t) ×
-    (IsTooLargeAt x.at p.from f ⊎ (IsInSize p.from × UnderParameter c x p.from p.to e (λ z. ShowsEquation c e p.to z f) (inside uses s) f)))
-    ⊎ ((IsParameter c.surroundings.types at uses k x t → ⊥) × ShowsResult c (lambda at uses k x e) t s f)
-ShowsEquation c e t s f = ShowsResult c e t s f
+-- an equation is refused at this type
+pub data ShowsEquation (c : Check) : CoreTree → Tree → Scope → CheckFault → Type 0 where
+  -- its first parameter's type is over its size
+  large : {at k : ℕ} {uses : Use} {x : Binder} {e : CoreTree} {t : Tree} {s : Scope} {f : CheckFault} →
+      (p : IsParameter c.surroundings.types at uses k x t) → IsTooLargeAt x.at p.from f → ShowsEquation c (lambda at uses k x e) t s f
+  -- what is under the parameter is refused
+  inner : {at k : ℕ} {uses n : Use} {x : Binder} {e : CoreTree} {t : Tree} {s : Scope} {f : CheckFault} →
+      (p : IsParameter c.surroundings.types at uses k x t) → IsInSize p.from → HasUse c.surroundings.vars p.from n →
+      ShowsEquation c e p.to (with_parameter x p.from n (inside uses s)) f → ShowsEquation c (lambda at uses k x e) t s f
+  -- it doesn't use the parameter
+  unused : {at k : ℕ} {uses n : Use} {x : Binder} {e : CoreTree} {t : Tree} {s : Scope} {f : CheckFault} →
+      (p : IsParameter c.surroundings.types at uses k x t) → IsInSize p.from → HasUse c.surroundings.vars p.from n →
+      LeavesUnused c x p.to (with_parameter x p.from n (inside uses s)) e f → ShowsEquation c (lambda at uses k x e) t s f
+  -- the term under all parameters is refused, or its type isn't the result's
+  result : {e : CoreTree} {t : Tree} {s : Scope} {f : CheckFault} →
+      HasNoParameter c.surroundings.types e t → ShowsResult c e t s f → ShowsEquation c e t s f
 
 -- d is the derivation of what is under a parameter of the first type, within its size, which is used
 pub record IsParameterTyped (c : Check) (x : Binder) (from to : Tree) (before after : Scope) (e : CoreTree) (d : Deriv) : Type 0 where

@@ -8,10 +8,11 @@ ghost use Rattle.fst_terms.specs.CoreTree.{CoreTree};
 ghost use Rattle.fst_context.specs.Scope.{Scope};
 ghost use Rattle.fst_derivations.specs.Deriv.{deriv_of};
 ghost use Rattle.fst_derivations.specs.Parts.{IsFormed};
+ghost use Rattle.fst_derivations.specs.Modules.{HasNoParameter};
 ghost use Rattle.fst_premises.specs.Scenes.{check_in, IsReady, IsSetUp};
 ghost use Rattle.fst_premises.specs.Shown.{IsShown};
 ghost use Rattle.fst_premises.specs.Checks.{Check};
-ghost use Rattle.fst_premises.specs.Parameters.{AreEntered, HasNoParameter, HasParameter, IsEntered};
+ghost use Rattle.fst_premises.specs.Parameters.{AreEntered, HasParameter, IsEntered};
 ghost use Rattle.fst_typing.specs.Equations.{IsEquationTyped, ShowsEquation, ShowsResult};
 
 use crate::comparing::compared;
@@ -45,7 +46,7 @@ fn enter_parameters<'a>(
     requires ready { IsReady (check_in scene) term.now context.old.variables }
     requires formed { IsFormed scene.vars.now wanted.now }
     ensures entered { IfOk result (λ o. AreEntered (check_in scene.entry) term.now wanted.now context.old o.parameters.items o.body.now o.to.now context.new) }
-    ensures last { IfOk result (λ o. HasNoParameter (check_in scene.entry) o.body.now o.to.now) }
+    ensures last { IfOk result (λ o. HasNoParameter (check_in scene.entry).surroundings.types o.body.now o.to.now) }
     ensures ready { IfOk result (λ o. IsReady (check_in scene.entry) o.body.now context.new.variables) }
     ensures formed { IfOk result (λ o. IsFormed scene.entry.vars.now o.to.now) }
     ensures refused { IfErr result (λ f. IsShown f (ShowsEquation (check_in scene.entry) term.now wanted.now context.old f)) }
@@ -101,7 +102,7 @@ fn infer_result(
     requires set_up { IsSetUp (check_in scene) }
     requires ready { IsReady (check_in scene) term.now context.old.variables }
     requires formed { IsFormed scene.vars.now wanted.now }
-    ensures typed { IfOk result (λ d. HasNoParameter (check_in scene.entry) term.now wanted.now →
+    ensures typed { IfOk result (λ d. HasNoParameter (check_in scene.entry).surroundings.types term.now wanted.now →
         IsEquationTyped (check_in scene.entry) wanted.now context.old context.new term.now (deriv_of d)) }
     ensures refused { IfErr result (λ f. IsShown f (ShowsResult (check_in scene.entry) term.now wanted.now context.old f)) }
 {

@@ -30,7 +30,7 @@ use Rattle.fst_premises.specs.Scopes.{inside, AreUsed, entered_all, left_all}
 use Rattle.fst_premises.specs.Shown.{place, IsLargeBinder, IsTooLargeAt, ShowsNoCase, ShowsNoMatch, ShowsUnused, ShowsDropped, ShowsNoFunction, ShowsNoPair, ShowsReceive, ShowsSelect, ShowsSend, UseDifferent, IsShown}
 use Rattle.fst_premises.specs.Signs.{result_type}
 use Rattle.fst_typing.specs.Shown.{NoMore, Shows, IsUnequal, ShowsArms, Under, IsRefused}
-use Rattle.fst_typing.specs.Typed.{IsKnown, IsPlain, IsTyped, IsTypedUnder}
+use Rattle.fst_typing.specs.Typed.{IsKnown, IsTyped, IsTypedUnder}
 use Rattle.fst_typing.proofs.ArmRows.{RowSoFar, all_seen, arm_ready, arm_takes, first_is, first_refused, further_different, further_refused, further_unequal, row_begin, row_end, row_step, row_takes}
 use Rattle.fst_typing.proofs.ArmsReady.{case_first_ready, case_ready, enter_length, match_first_ready, match_ready}
 use Rattle.fst_typing.proofs.Bound.{function_typed, if_typed, let_typed, split_typed}
@@ -810,10 +810,10 @@ infer_arms::infer_further-loop-i-preserved t c =
     let typed = subst (λ s. IsArmTyped (check_in c.args.scene) (binding_of c.args.binding) c.index-arms-i.result.label c.index-arms-i.result.binders.items s c.infer_arm.new.context c.index-arms-i.result.body (deriv_of c.in_ok-d.d)) c.loop-i.invariant.1 c.in_ok-d.ensures.typed in
     let takes = arm_takes (check_in c.args.scene) (binding_of c.args.binding) c.index-arms-i.result c.args.context.now c.infer_arm.new.context (deriv_of c.in_ok-d.d) typed in
     let all = row_takes (check_in c.args.scene) (binding_of c.args.binding) c.args.arms.now c.loop-i.i c.args.context.now (with_marks (reverse c.args.after.now) c.args.context.now) (deriv_of c.args.value) c.args.t.now c.loop-i.parts.items c.loop-i.invariant.0 in
-    let same = marks_decide _ _ c.args.context.now c.infer_arm.new.context (with_marks (reverse c.args.after.now) c.args.context.now) takes all c.in_ok-joined.ensures.same in
+    let same = marks_decide takes.used all.used c.args.context.now c.infer_arm.new.context (with_marks (reverse c.args.after.now) c.args.context.now) takes.rest all.rest c.in_ok-joined.ensures.same in
     let again = ap (λ (bs : List Bool). reverse bs) (c.in_ok-again.ensures.items ∙ c.deref.ensures.value) ∙ c.loop-i.invariant.2 in (
       row_step (check_in c.args.scene) (binding_of c.args.binding) c.args.arms.now c.loop-i.i c.index-arms-i.result (deriv_of c.in_ok-d.d) c.in_ok-joined.field-0 c.args.t.now c.args.context.now c.infer_arm.new.context (with_marks (reverse c.args.after.now) c.args.context.now) (deriv_of c.args.value) c.loop-i.parts.items c.push-in-loop-i.new.self.items c.loop-i.invariant.0 c.loop-i-test.true c.index-arms-i.is typed same c.in_ok-joined.ensures.known c.in_ok-joined.ensures.turned c.in_ok-push-3.ensures.items,
-      c.exchange.ensures.after ∙ ap (λ b. with_marks b c.infer_arm.new.context) again ∙ marks_back _ c.args.context.now c.infer_arm.new.context takes,
+      c.exchange.ensures.after ∙ ap (λ b. with_marks b c.infer_arm.new.context) again ∙ marks_back takes.used c.args.context.now c.infer_arm.new.context takes.rest,
       c.loop-i.invariant.2,
     )
 
@@ -839,8 +839,8 @@ infer_arms::infer_further-returns-in_err-joined-clause-refused t c =
     let p = err_from_is_err_and c.from_residual-in_err-joined.result c.from_residual-in_err-joined.ensures.1 in
     rw (p.1, p.2) (λ m. joined_refused
     (λ u. further_different (check_in c.args.scene) (binding_of c.args.binding) c.args.arms.now c.loop-i.i c.index-arms-i.result c.args.context.now c.infer_arm.new.context (with_marks (reverse c.args.after.now) c.args.context.now) c.args.t.now (deriv_of c.args.value) (deriv_of c.in_ok-d.d) c.loop-i.parts.items c.in_err-joined.field-0.0 c.loop-i.invariant.0 c.loop-i-test.true c.index-arms-i.is typed
-    (subst (λ n. UseDifferent n (with_marks (reverse c.args.after.now) c.args.context.now) c.infer_arm.new.context c.in_err-joined.field-0.0) c.place_of-at.ensures (subst (λ s. UseDifferent c.place_of-at.result s c.infer_arm.new.context c.in_err-joined.field-0.0) (with_marks_same c.args.context.now (with_marks (reverse c.args.after.now) c.args.context.now) c.infer_arm.new.context _ _ all takes) u)))
-    (λ e u. further_unequal (check_in c.args.scene) (binding_of c.args.binding) c.args.arms.now c.loop-i.i c.index-arms-i.result c.args.context.now c.infer_arm.new.context (with_marks (reverse c.args.after.now) c.args.context.now) c.args.t.now (deriv_of c.args.value) (deriv_of c.in_ok-d.d) c.loop-i.parts.items c.in_err-joined.field-0.0 c.loop-i.invariant.0 c.loop-i-test.true c.index-arms-i.is typed (marks_decide _ _ c.args.context.now c.infer_arm.new.context (with_marks (reverse c.args.after.now) c.args.context.now) takes all e)
+    (subst (λ n. UseDifferent n (with_marks (reverse c.args.after.now) c.args.context.now) c.infer_arm.new.context c.in_err-joined.field-0.0) c.place_of-at.ensures (subst (λ s. UseDifferent c.place_of-at.result s c.infer_arm.new.context c.in_err-joined.field-0.0) (with_marks_same all.used takes.used c.args.context.now (with_marks (reverse c.args.after.now) c.args.context.now) c.infer_arm.new.context all.rest takes.rest) u)))
+    (λ e u. further_unequal (check_in c.args.scene) (binding_of c.args.binding) c.args.arms.now c.loop-i.i c.index-arms-i.result c.args.context.now c.infer_arm.new.context (with_marks (reverse c.args.after.now) c.args.context.now) c.args.t.now (deriv_of c.args.value) (deriv_of c.in_ok-d.d) c.loop-i.parts.items c.in_err-joined.field-0.0 c.loop-i.invariant.0 c.loop-i-test.true c.index-arms-i.is typed (marks_decide takes.used all.used c.args.context.now c.infer_arm.new.context (with_marks (reverse c.args.after.now) c.args.context.now) takes.rest all.rest e)
     (subst (λ n. IsUnequal (check_in c.args.scene) n (type_of (deriv_of c.in_ok-d.d)) c.args.t.now c.in_err-joined.field-0.0) c.place_of-at.ensures u))
     (c.in_err-joined.ensures.refused m))
 
@@ -850,7 +850,7 @@ infer_arms::infer_further-joined-requires-clause-long t c =
     let takes = arm_takes (check_in c.args.scene) (binding_of c.args.binding) c.index-arms-i.result c.args.context.now c.infer_arm.new.context (deriv_of c.in_ok-d.d) typed in
     let all = row_takes (check_in c.args.scene) (binding_of c.args.binding) c.args.arms.now c.loop-i.i c.args.context.now (with_marks (reverse c.args.after.now) c.args.context.now) (deriv_of c.args.value) c.args.t.now c.loop-i.parts.items c.loop-i.invariant.0 in
     let long = length-reverse c.args.after.now in
-    sym long ∙ marks_length _ c.args.context.now (with_marks (reverse c.args.after.now) c.args.context.now) all ∙ sym (marks_length _ c.args.context.now c.infer_arm.new.context takes)
+    sym long ∙ marks_length all.used c.args.context.now (with_marks (reverse c.args.after.now) c.args.context.now) all.rest ∙ sym (marks_length takes.used c.args.context.now c.infer_arm.new.context takes.rest)
 
 pub infer_arms::infer_further-joined-requires-clause-wanted : goal.infer_arms::infer_further-joined-requires-clause-wanted
 infer_arms::infer_further-joined-requires-clause-wanted t c =
@@ -872,7 +872,7 @@ infer_arms::infer_further-exchange-requires t c =
     let long = length-reverse c.in_ok-before.before.items in
     let items = ap (λ (bs : List Bool). length bs) (c.in_ok-again.ensures.items ∙ c.deref.ensures.value) in
     let marks = ap (λ (bs : List Bool). length bs) c.loop-i.invariant.2 in
-    items ∙ sym long ∙ marks ∙ sym (marks_length _ c.args.context.now c.infer_arm.new.context takes)
+    items ∙ sym long ∙ marks ∙ sym (marks_length takes.used c.args.context.now c.infer_arm.new.context takes.rest)
 
 pub infer_arms::infer_arms-infer_arm-requires : goal.infer_arms::infer_arms-infer_arm-requires
 infer_arms::infer_arms-infer_arm-requires t c =
@@ -883,9 +883,9 @@ infer_arms::infer_arms-infer_arm-requires t c =
 pub infer_arms::infer_arms-infer_further-requires : goal.infer_arms::infer_arms-infer_further-requires
 infer_arms::infer_arms-infer_further-requires t c =
     let takes = arm_takes (check_in c.args.scene) (binding_of c.args.binding) c.index-arms-0.result c.args.context.now c.infer_arm.new.context (deriv_of c.in_ok-first.first) c.in_ok-first.ensures.typed in
-    let back = c.exchange-after.ensures.after ∙ ap (λ b. with_marks b c.infer_arm.new.context) c.in_ok-before.ensures ∙ marks_back _ c.args.context.now c.infer_arm.new.context takes in
+    let back = c.exchange-after.ensures.after ∙ ap (λ b. with_marks b c.infer_arm.new.context) c.in_ok-before.ensures ∙ marks_back takes.used c.args.context.now c.infer_arm.new.context takes.rest in
     let given = ap (λ (bs : List Bool). reverse bs) c.deref.ensures.value ∙ c.exchange-after.ensures.given in
-    let after = (λ i. with_marks (given i) (back i)) ∙ marks_on _ c.args.context.now c.infer_arm.new.context takes in
+    let after = (λ i. with_marks (given i) (back i)) ∙ marks_on takes.used c.args.context.now c.infer_arm.new.context takes.rest in
     let first = first_is (check_in c.args.scene) (binding_of c.args.binding) c.args.arms.now c.index-arms-0.result c.args.context.now c.infer_arm.new.context (deriv_of c.in_ok-first.first) c.requires.some c.index-arms-0.is c.in_ok-first.ensures.typed in (
       omega (arith, c.decreases),
       (
@@ -908,20 +908,20 @@ infer_arms::infer_arms-exchange-after-requires t c =
     let takes = arm_takes (check_in c.args.scene) (binding_of c.args.binding) c.index-arms-0.result c.args.context.now c.infer_arm.new.context (deriv_of c.in_ok-first.first) c.in_ok-first.ensures.typed in
     let long = length-reverse c.in_ok-before.before.items in
     let marks = ap (λ (bs : List Bool). length bs) c.in_ok-before.ensures in
-    sym long ∙ marks ∙ sym (marks_length _ c.args.context.now c.infer_arm.new.context takes)
+    sym long ∙ marks ∙ sym (marks_length takes.used c.args.context.now c.infer_arm.new.context takes.rest)
 
 pub infer_arms::infer_arms-exchange-requires : goal.infer_arms::infer_arms-exchange-requires
 infer_arms::infer_arms-exchange-requires t c =
     let takes = arm_takes (check_in c.args.scene) (binding_of c.args.binding) c.index-arms-0.result c.args.context.now c.infer_arm.new.context (deriv_of c.in_ok-first.first) c.in_ok-first.ensures.typed in
-    let back = c.exchange-after.ensures.after ∙ ap (λ b. with_marks b c.infer_arm.new.context) c.in_ok-before.ensures ∙ marks_back _ c.args.context.now c.infer_arm.new.context takes in
+    let back = c.exchange-after.ensures.after ∙ ap (λ b. with_marks b c.infer_arm.new.context) c.in_ok-before.ensures ∙ marks_back takes.used c.args.context.now c.infer_arm.new.context takes.rest in
     let long = length-reverse c.exchange-after.result.items in
     let given = ap (λ (bs : List Bool). length bs) c.exchange-after.ensures.given in
-    sym long ∙ given ∙ marks_length _ c.args.context.now c.infer_arm.new.context takes ∙ sym (ap (λ (s : Scope). length s.there) (c.in_ok-parts.ensures.here ∙ back))
+    sym long ∙ given ∙ marks_length takes.used c.args.context.now c.infer_arm.new.context takes.rest ∙ sym (ap (λ (s : Scope). length s.there) (c.in_ok-parts.ensures.here ∙ back))
 
 pub infer_arms::infer_arms-returns-clause-typed : goal.infer_arms::infer_arms-returns-clause-typed
 infer_arms::infer_arms-returns-clause-typed t c =
     let takes = arm_takes (check_in c.args.scene) (binding_of c.args.binding) c.index-arms-0.result c.args.context.now c.infer_arm.new.context (deriv_of c.in_ok-first.first) c.in_ok-first.ensures.typed in
-    let back = c.exchange-after.ensures.after ∙ ap (λ b. with_marks b c.infer_arm.new.context) c.in_ok-before.ensures ∙ marks_back _ c.args.context.now c.infer_arm.new.context takes in
+    let back = c.exchange-after.ensures.after ∙ ap (λ b. with_marks b c.infer_arm.new.context) c.in_ok-before.ensures ∙ marks_back takes.used c.args.context.now c.infer_arm.new.context takes.rest in
     let ended = c.exchange.ensures.after ∙ (λ i. with_marks (reverse (sym c.deref.ensures.value i)) (c.in_ok-parts.ensures.here i)) in
     let typed = subst (λ s. AreArmsTyped (check_in c.args.scene) (binding_of c.args.binding) (core_arms_of c.args.arms.now) s (with_marks (reverse c.deref.result.now) c.exchange-after.new.self) (deriv_of c.args.value) (row c.in_ok-t.t (parts_of c.in_ok-parts.parts.items))) back c.in_ok-parts.ensures.typed in
     let found = subst (λ w. AreArmsTyped (check_in c.args.scene) (binding_of c.args.binding) (core_arms_of c.args.arms.now) c.args.context.now (with_marks (reverse c.deref.result.now) c.exchange-after.new.self) (deriv_of c.args.value) w) (sym c.row.ensures) typed in
@@ -935,7 +935,7 @@ infer_arms::infer_arms-returns-in_err-first-clause-refused t c =
 pub infer_arms::infer_arms-returns-in_err-parts-clause-refused : goal.infer_arms::infer_arms-returns-in_err-parts-clause-refused
 infer_arms::infer_arms-returns-in_err-parts-clause-refused t c =
     let takes = arm_takes (check_in c.args.scene) (binding_of c.args.binding) c.index-arms-0.result c.args.context.now c.infer_arm.new.context (deriv_of c.in_ok-first.first) c.in_ok-first.ensures.typed in
-    let back = c.exchange-after.ensures.after ∙ ap (λ b. with_marks b c.infer_arm.new.context) c.in_ok-before.ensures ∙ marks_back _ c.args.context.now c.infer_arm.new.context takes in
+    let back = c.exchange-after.ensures.after ∙ ap (λ b. with_marks b c.infer_arm.new.context) c.in_ok-before.ensures ∙ marks_back takes.used c.args.context.now c.infer_arm.new.context takes.rest in
     let p = err_from_is_err_and c.from_residual-in_err-parts.result c.from_residual-in_err-parts.ensures.1 in
     rw (p.1, p.2) (λ m. subst (λ s. ShowsArms (check_in c.args.scene) (binding_of c.args.binding) (core_arms_of c.args.arms.now) s c.in_err-parts.field-0.0) back (c.in_err-parts.ensures.refused m))
 
@@ -1142,7 +1142,7 @@ infer_parts::infer_if-infer-requires-2 t c =
 pub infer_parts::infer_if-infer-requires-3 : goal.infer_parts::infer_if-infer-requires-3
 infer_parts::infer_if-infer-requires-3 t c =
     let parts = if_ready (check_in c.args.scene) c.args.at c.args.condition.now c.args.yes.now c.args.no.now c.args.context.now.variables c.requires.ready in
-    let back = c.exchange-after.ensures.after ∙ ap (λ b. with_marks b c.infer-2.new.context) c.in_ok-before.ensures ∙ marks_back (IsPlain (check_in c.args.scene) c.args.yes.now c.infer.new.context.variables (deriv_of c.in_ok-d.d)) c.infer.new.context c.infer-2.new.context c.in_ok-d.ensures.typed in
+    let back = c.exchange-after.ensures.after ∙ ap (λ b. with_marks b c.infer-2.new.context) c.in_ok-before.ensures ∙ marks_back c.in_ok-d.ensures.typed.used c.infer.new.context c.infer-2.new.context c.in_ok-d.ensures.typed.rest in
     (omega (arith, c.decreases), (c.requires.set_up, subst (λ s. IsReady (check_in c.args.scene) c.args.no.now s.variables) (sym back) (later_ready (check_in c.args.scene) c.args.condition.now c.args.no.now (deriv_of c.in_ok-found.found) c.args.context.now c.infer.new.context c.in_ok-found.ensures.typed parts.2)))
 
 pub infer_parts::infer_if-truth-requires-clause-budget : goal.infer_parts::infer_if-truth-requires-clause-budget
@@ -1155,17 +1155,17 @@ infer_parts::infer_if-truth-requires-clause-found t c =
 
 pub infer_parts::infer_if-exchange-after-requires : goal.infer_parts::infer_if-exchange-after-requires
 infer_parts::infer_if-exchange-after-requires t c =
-    let same = marks_length (IsPlain (check_in c.args.scene) c.args.yes.now c.infer.new.context.variables (deriv_of c.in_ok-d.d)) c.infer.new.context c.infer-2.new.context c.in_ok-d.ensures.typed in
+    let same = marks_length c.in_ok-d.ensures.typed.used c.infer.new.context c.infer-2.new.context c.in_ok-d.ensures.typed.rest in
     let long = length-reverse c.in_ok-before.before.items in
     let marks = ap (λ (bs : List Bool). length bs) c.in_ok-before.ensures in
     sym long ∙ marks ∙ sym same
 
 pub infer_parts::infer_if-joined-requires-clause-long : goal.infer_parts::infer_if-joined-requires-clause-long
 infer_parts::infer_if-joined-requires-clause-long t c =
-    let back = c.exchange-after.ensures.after ∙ ap (λ b. with_marks b c.infer-2.new.context) c.in_ok-before.ensures ∙ marks_back (IsPlain (check_in c.args.scene) c.args.yes.now c.infer.new.context.variables (deriv_of c.in_ok-d.d)) c.infer.new.context c.infer-2.new.context c.in_ok-d.ensures.typed in
+    let back = c.exchange-after.ensures.after ∙ ap (λ b. with_marks b c.infer-2.new.context) c.in_ok-before.ensures ∙ marks_back c.in_ok-d.ensures.typed.used c.infer.new.context c.infer-2.new.context c.in_ok-d.ensures.typed.rest in
     let no = subst (λ s. IsTyped (check_in c.args.scene) s c.infer-3.new.context c.args.no.now (deriv_of c.in_ok-h.h)) back c.in_ok-h.ensures.typed in
-    let one = marks_length (IsPlain (check_in c.args.scene) c.args.yes.now c.infer.new.context.variables (deriv_of c.in_ok-d.d)) c.infer.new.context c.infer-2.new.context c.in_ok-d.ensures.typed in
-    let two = marks_length (IsPlain (check_in c.args.scene) c.args.no.now c.infer.new.context.variables (deriv_of c.in_ok-h.h)) c.infer.new.context c.infer-3.new.context no in
+    let one = marks_length c.in_ok-d.ensures.typed.used c.infer.new.context c.infer-2.new.context c.in_ok-d.ensures.typed.rest in
+    let two = marks_length no.used c.infer.new.context c.infer-3.new.context no.rest in
     let long = length-reverse c.exchange-after.result.items in
     let given = ap (λ (bs : List Bool). length bs) c.exchange-after.ensures.given in
     let items = ap (λ (bs : List Bool). length bs) c.deref.ensures.value in
@@ -1200,22 +1200,22 @@ infer_parts::infer_if-returns-in_err-d-clause-refused t c =
 
 pub infer_parts::infer_if-returns-in_err-h-clause-refused : goal.infer_parts::infer_if-returns-in_err-h-clause-refused
 infer_parts::infer_if-returns-in_err-h-clause-refused t c =
-    let back = c.exchange-after.ensures.after ∙ ap (λ b. with_marks b c.infer-2.new.context) c.in_ok-before.ensures ∙ marks_back (IsPlain (check_in c.args.scene) c.args.yes.now c.infer.new.context.variables (deriv_of c.in_ok-d.d)) c.infer.new.context c.infer-2.new.context c.in_ok-d.ensures.typed in
+    let back = c.exchange-after.ensures.after ∙ ap (λ b. with_marks b c.infer-2.new.context) c.in_ok-before.ensures ∙ marks_back c.in_ok-d.ensures.typed.used c.infer.new.context c.infer-2.new.context c.in_ok-d.ensures.typed.rest in
     let p = err_from_is_err_and c.from_residual-in_err-h.result c.from_residual-in_err-h.ensures.1 in
     rw (p.1, p.2) (λ m. inr (behind c.in_ok-found.ensures.typed (inr (c.in_ok-tested.ensures.known, inr (behind c.in_ok-d.ensures.typed (inl (subst (λ s. Shows (check_in c.args.scene) c.args.no.now s c.in_err-h.field-0.0) back (c.in_err-h.ensures.refused m))))))))
 
 pub infer_parts::infer_if-returns-in_err-other-clause-refused : goal.infer_parts::infer_if-returns-in_err-other-clause-refused
 infer_parts::infer_if-returns-in_err-other-clause-refused t c =
-    let back = c.exchange-after.ensures.after ∙ ap (λ b. with_marks b c.infer-2.new.context) c.in_ok-before.ensures ∙ marks_back (IsPlain (check_in c.args.scene) c.args.yes.now c.infer.new.context.variables (deriv_of c.in_ok-d.d)) c.infer.new.context c.infer-2.new.context c.in_ok-d.ensures.typed in
+    let back = c.exchange-after.ensures.after ∙ ap (λ b. with_marks b c.infer-2.new.context) c.in_ok-before.ensures ∙ marks_back c.in_ok-d.ensures.typed.used c.infer.new.context c.infer-2.new.context c.in_ok-d.ensures.typed.rest in
     let no = subst (λ s. IsTyped (check_in c.args.scene) s c.infer-3.new.context c.args.no.now (deriv_of c.in_ok-h.h)) back c.in_ok-h.ensures.typed in
-    let marked = ap (λ b. with_marks b c.infer-3.new.context) (ap (λ (bs : List Bool). reverse bs) c.deref.ensures.value ∙ c.exchange-after.ensures.given) ∙ with_marks_same c.infer.new.context c.infer-2.new.context c.infer-3.new.context _ _ c.in_ok-d.ensures.typed no in
+    let marked = ap (λ b. with_marks b c.infer-3.new.context) (ap (λ (bs : List Bool). reverse bs) c.deref.ensures.value ∙ c.exchange-after.ensures.given) ∙ with_marks_same c.in_ok-d.ensures.typed.used no.used c.infer.new.context c.infer-2.new.context c.infer-3.new.context c.in_ok-d.ensures.typed.rest no.rest in
     let p = err_from_is_err_and c.from_residual-in_err-other.result c.from_residual-in_err-other.ensures.1 in
     rw (p.1, p.2) (λ m. inr (behind c.in_ok-found.ensures.typed (inr (
       c.in_ok-tested.ensures.known,
       inr (behind c.in_ok-d.ensures.typed (inr (behind no (joined_refused
           (λ u. inl (subst (λ n. UseDifferent n c.infer-2.new.context c.infer-3.new.context c.in_err-other.field-0.0) c.place_of-2.ensures (subst (λ s. UseDifferent c.place_of-2.result s c.infer-3.new.context c.in_err-other.field-0.0) marked u)))
           (λ e u. inr (
-            marks_decide _ _ c.infer.new.context c.infer-3.new.context c.infer-2.new.context no c.in_ok-d.ensures.typed (e ∙ (ap (λ (bs : List Bool). reverse bs) c.deref.ensures.value ∙ c.exchange-after.ensures.given)),
+            marks_decide no.used c.in_ok-d.ensures.typed.used c.infer.new.context c.infer-3.new.context c.infer-2.new.context no.rest c.in_ok-d.ensures.typed.rest (e ∙ (ap (λ (bs : List Bool). reverse bs) c.deref.ensures.value ∙ c.exchange-after.ensures.given)),
             subst (λ n. IsUnequal (check_in c.args.scene) n (type_of (deriv_of c.in_ok-h.h)) (type_of (deriv_of c.in_ok-d.d)) c.in_err-other.field-0.0) c.place_of-2.ensures (subst (λ o. IsUnequal (check_in c.args.scene) c.place_of-2.result (type_of (deriv_of c.in_ok-h.h)) o c.in_err-other.field-0.0) c.type_of.ensures u),
           ))
           (c.in_err-other.ensures.refused m))))),
@@ -1224,9 +1224,9 @@ infer_parts::infer_if-returns-in_err-other-clause-refused t c =
 
 pub infer_parts::infer_if-returns-clause-typed : goal.infer_parts::infer_if-returns-clause-typed
 infer_parts::infer_if-returns-clause-typed t c =
-    let back = c.exchange-after.ensures.after ∙ ap (λ b. with_marks b c.infer-2.new.context) c.in_ok-before.ensures ∙ marks_back (IsPlain (check_in c.args.scene) c.args.yes.now c.infer.new.context.variables (deriv_of c.in_ok-d.d)) c.infer.new.context c.infer-2.new.context c.in_ok-d.ensures.typed in
+    let back = c.exchange-after.ensures.after ∙ ap (λ b. with_marks b c.infer-2.new.context) c.in_ok-before.ensures ∙ marks_back c.in_ok-d.ensures.typed.used c.infer.new.context c.infer-2.new.context c.in_ok-d.ensures.typed.rest in
     let no = subst (λ s. IsTyped (check_in c.args.scene) s c.infer-3.new.context c.args.no.now (deriv_of c.in_ok-h.h)) back c.in_ok-h.ensures.typed in
-    let same = marks_decide _ _ c.infer.new.context c.infer-3.new.context c.infer-2.new.context no c.in_ok-d.ensures.typed (c.in_ok-other.ensures.same ∙ (ap (λ (bs : List Bool). reverse bs) c.deref.ensures.value ∙ c.exchange-after.ensures.given)) in
+    let same = marks_decide no.used c.in_ok-d.ensures.typed.used c.infer.new.context c.infer-3.new.context c.infer-2.new.context no.rest c.in_ok-d.ensures.typed.rest (c.in_ok-other.ensures.same ∙ (ap (λ (bs : List Bool). reverse bs) c.deref.ensures.value ∙ c.exchange-after.ensures.given)) in
     if_typed (check_in c.args.scene) _ _ _ _ _ _ _ _ _ _ (plain Truth) (plain Truth) _ _ _ c.in_ok-found.ensures.typed refl c.in_ok-tested.ensures.turned c.in_ok-tested.ensures.known
     (subst (λ z. IsTyped (check_in c.args.scene) c.infer.new.context z c.args.yes.now (deriv_of c.in_ok-d.d)) (sym same) c.in_ok-d.ensures.typed) no
     (c.in_ok-other.ensures.turned ∙ ap (λ o. convert (type_of (deriv_of c.in_ok-h.h)) o (deriv_of c.in_ok-h.h)) c.type_of.ensures)

@@ -4,7 +4,8 @@ use Rattle.fst_derivations.specs.Deriv.{deriv_of}
 use Rattle.fst_premises.specs.Parameters.{AreEntered}
 use Rattle.fst_premises.specs.Scenes.{check_in}
 use Rattle.fst_premises.specs.declared.parameters.Parameter.{Parameter}
-use Rattle.fst_typing.proofs.EquationLaws.{all_shown, innermost, innermost_typed, none_typed, result_shown, some_body, some_entered}
+use Rattle.fst_typing.specs.Equations.{ShowsEquation}
+use Rattle.fst_typing.proofs.EquationLaws.{all_shown, innermost, innermost_typed, none_typed, some_body, some_entered}
 use Rattle.fst_typing.proofs.equations.infer_equation.Goals as goal
 
 pub loop-parameter-init : goal.loop-parameter-init
@@ -48,7 +49,7 @@ returns-in_err-found-clause-refused c =
     let p = err_from_is_err_and c.from_residual-in_err-found.result c.from_residual-in_err-found.ensures.1 in
     rw (p.1, p.2) (λ m. all_shown (check_in c.args.scene) c.args.term.now c.args.wanted.now c.args.context.now o.entered.parameters.items o.entered.body.now o.entered.to.now c.enter_parameters.new.context f
     o.ensures.entered
-    (result_shown (check_in c.args.scene) o.entered.body.now o.entered.to.now c.enter_parameters.new.context f o.ensures.last (c.in_err-found.ensures.refused m)))
+    (ShowsEquation.result o.ensures.last (c.in_err-found.ensures.refused m)))
 
 pub returns-in_err-found-2-clause-refused : goal.returns-in_err-found-2-clause-refused
 returns-in_err-found-2-clause-refused c =
