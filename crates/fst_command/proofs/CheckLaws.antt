@@ -1,4 +1,4 @@
--- What `check` writes of a module, and what that means.
+-- What `check` writes of a module, and what each command's text means.
 use Rattle.std.proofs.Common.{◌≡◌, ◌∙◌, ◌⊎◌, inl, inr, ℕ, ◌≤◌, List, [], ◌∷◌, length, Result, Ok, Err, refl, sym, ap, subst, append_assoc}
 use Rattle.std.specs.Prelude.{◌≢◌, IfOk}
 use Rattle.std.specs.declared.alloc.AllocError.{AllocError}
@@ -27,10 +27,10 @@ use Rattle.fst_command.specs.Texts.{refused_text}
 use Rattle.fst_command.specs.CheckTexts.{Cause, nothing, refused, undecided, too_large, accepted_text, cause, cause_text, cause_status}
 use Rattle.fst_types.specs.declared.family.Family.{Family}
 use Rattle.fst_options.specs.Words as setting
-use Rattle.fst_options.specs.Words.{run}
+use Rattle.fst_options.specs.Words.{equiv, show, check, run, make}
 use Rattle.fst_command.specs.Finding as finding
 use Rattle.fst_command.specs.Finding.{Finding, IsRead, IsUnread, AreResolved, AreUnresolved, name_finding}
-use Rattle.fst_command.specs.Output.{IsFoundOf, accepted, unaccepted, FindsModule, SaysAccepted, SaysOutcome, made_summary, waiting_status, outcome_text, outcome_status, WritesOf, too_long, is_none, makes, finding_status}
+use Rattle.fst_command.specs.Output.{IsFoundOf, accepted, unaccepted, FindsModule, SaysAccepted, SaysOutcome, made_summary, waiting_status, outcome_text, outcome_status, WritesOf, too_long, is_none, makes, finding_status, Writes}
 use Rattle.fst_safety.specs.Safety.{DerivedIsSafe}
 use Rattle.fst_process.specs.declared.report.Outcome.{Outcome}
 use Rattle.fst_process.specs.declared.report.Outcome.TheVariants.{Done, OutOfSteps}
@@ -41,10 +41,11 @@ use Rattle.fst_make.specs.Made.{made_text}
 use Rattle.fst_report.specs.ReportTexts.{report_text}
 use Rattle.fst_command.specs.declared.status.Status.{Status}
 use Rattle.fst_typing.specs.Laws.{IsCause, RefusedHasNone}
-use Rattle.fst_command.specs.Meanings.{MeansAccepted, MeansRefused, CheckMeanings, MeansReport, IsSoundOutcome, MeansRun, RunMeanings, MakeMeanings}
+use Rattle.fst_command.specs.Meanings.{MeansAccepted, MeansRefused, MeansCheck, MeansReport, IsSoundOutcome, MeansRun, Meanings}
 use Rattle.fst_command.specs.Views.{IfFound, cause_of, name_fault}
 use Rattle.fst_command.proofs.FindingLaws.{if_found, said_found}
 use Rattle.fst_command.proofs.Causes.{refused_cause}
+use Rattle.fst_command.proofs.MeaningLaws.{equiv_means}
 use Rattle.fst_command.proofs.OneResolved.{resolved_or_not, same_resolved}
 use Rattle.fst_command.proofs.OutcomeLaws.{outcome_sound}
 use Rattle.fst_command.proofs.SameDerivations.{derivations_same}
@@ -193,17 +194,17 @@ module _ (law : (m : Module) (budget : ℕ) (ds : List Deriv) → IsAccepted m b
     safe = safety m ds (law m budget ds a);
   }
 
-  pub check_meanings : CheckMeanings
-  check_meanings = record {
-    done = λ budget bytes text w. elim (made_or_refused SaysAccepted budget bytes text status.Done w) [
-      | inl m ↦ means_accepted budget bytes m.resolved m.derivations m.is_resolved m.is_accepted
-      | inr r ↦ absurd (not_done bytes r)
-    ];
-    refused = λ budget bytes text w. elim (made_or_refused SaysAccepted budget bytes text status.Refused w) [
-      | inl m ↦ let e = m.made.1 in absurd (cc e)
-      | inr r ↦ means_refused bytes r
-    ];
-  }
+  check_means : (budget : ℕ) (bytes text : List ℕ) (s : Status) → Writes (check budget) bytes text s → MeansCheck bytes s
+  check_means budget bytes text s w = elim (made_or_refused SaysAccepted budget bytes text s w) [
+    | inl m ↦ record {
+      done = λ e. means_accepted budget bytes m.resolved m.derivations m.is_resolved m.is_accepted;
+      refused = λ e. let done = m.made.1 in absurd (cc (done, e));
+    }
+    | inr r ↦ record {
+      done = λ e. absurd (not_done bytes (subst (IsRefused bytes) e r));
+      refused = λ e. means_refused bytes (subst (IsRefused bytes) e r);
+    }
+  ]
 
   module _ (sound : ReportsAreSound) where
     module _ (shown : List Family → Report → List ℕ) where
@@ -232,8 +233,9 @@ module _ (law : (m : Module) (budget : ℕ) (ds : List Deriv) → IsAccepted m b
         | inr r ↦ no_run shown s bytes text r
       ]
 
-    pub run_meanings : RunMeanings
-    run_meanings steps workers budget bytes text s w = source_means report_text workers steps budget bytes text s w
-
-    pub make_meanings : MakeMeanings
-    make_meanings n bytes text s w = source_means (made_summary n) setting.workers.default setting.steps.default setting.budget.default (made_text n) text s w
+    pub meanings : Meanings
+    meanings (equiv budget) bytes text s w = equiv_means budget bytes text s w
+    meanings show bytes text s w = tt
+    meanings (check budget) bytes text s w = check_means budget bytes text s w
+    meanings (run steps workers budget) bytes text s w = source_means report_text workers steps budget bytes text s w
+    meanings (make n) bytes text s w = source_means (made_summary n) setting.workers.default setting.steps.default setting.budget.default (made_text n) text s w

@@ -9,11 +9,10 @@ use Rattle.fst_process.specs.declared.report.Outcome.{Outcome}
 use Rattle.fst_process.specs.declared.report.Outcome.TheVariants.{Done, OutOfSteps}
 use Rattle.fst_process.specs.declared.report.Waiting.{Waiting}
 use Rattle.fst_report.specs.ReportTexts.{report_text}
-use Rattle.fst_options.specs.Words.{check, run, IsCommand}
+use Rattle.fst_options.specs.Words.{check, run}
 use Rattle.fst_command.specs.declared.status.Status.{Status}
-use Rattle.fst_command.specs.declared.status.Status.TheVariants as status
 use Rattle.fst_typing.specs.Laws.{WithinIsNotRefused}
-use Rattle.fst_command.specs.Complete.{HasBegun, IsComplete, IsInputWithin, IsWithinLimits}
+use Rattle.fst_command.specs.Complete.{AreComplete, HasBegun, IsComplete, IsInputWithin, IsWithinLimits}
 use Rattle.fst_command.specs.Finding.{AreUnresolved}
 use Rattle.fst_command.specs.Output.{FindsModule, IsFoundOf, accepted, unaccepted, SaysAccepted, SaysOutcome, WritesOf, too_long, is_none, makes, outcome_status, waiting_status}
 use Rattle.fst_command.specs.Top.{IsAnswered, ReadsInput}
@@ -64,8 +63,8 @@ module _ (lexing : OneLexing) (modules : OneModule) (one : OneModuleLaw) (comple
           let parts = same_resolved lexing modules bytes one m.resolved l.resolved m.is_resolved l.is_resolved in
           absurd (complete l.resolved budget l.derivations l.within f (refused_module m.resolved l.resolved parts budget f h))
 
-  pub is_complete : IsComplete
-  is_complete = record {
+  pub are_complete : AreComplete
+  are_complete = record {
     check = λ budget bytes text s w l. (makes_within SaysAccepted budget bytes text s w l).1;
     run = λ steps workers budget bytes text s w l.
         let m = makes_within (SaysOutcome report_text workers steps) budget bytes text s w l in
@@ -74,11 +73,9 @@ module _ (lexing : OneLexing) (modules : OneModule) (one : OneModuleLaw) (comple
 
 -- ---- how a run of the program ends
 
-module _ (law : IsComplete) (words : List (List ℕ)) (old new : Option (List ℕ)) (text : List ℕ) (s : Status) (a : IsAnswered words old new text s) where
-  pub check_complete : (budget : ℕ) → IsCommand words (check budget) → IsInputWithin budget old → s ≡ status.Done
-  check_complete budget it w =
-      (law.check budget a.bytes text s (written_for words a.bytes text s (check budget) it a.output) (read_within budget old new a.bytes w (a.read (check budget) it))).1
-
-  pub run_complete : (steps workers budget : ℕ) → IsCommand words (run steps workers budget) → IsInputWithin budget old → HasBegun s
-  run_complete steps workers budget it w =
-      (law.run steps workers budget a.bytes text s (written_for words a.bytes text s (run steps workers budget) it a.output) (read_within budget old new a.bytes w (a.read (run steps workers budget) it))).begun
+pub is_complete : AreComplete → (words : List (List ℕ)) (old new : Option (List ℕ)) (text : List ℕ) (s : Status) → IsAnswered words old new text s → IsComplete words old s
+is_complete law words old new text s a = record {
+  check = λ budget it w. (law.check budget a.bytes text s (written_for words a.bytes text s (check budget) it a.output) (read_within budget old new a.bytes w (a.read (check budget) it))).1;
+  run = λ steps workers budget it w.
+      (law.run steps workers budget a.bytes text s (written_for words a.bytes text s (run steps workers budget) it a.output) (read_within budget old new a.bytes w (a.read (run steps workers budget) it))).begun;
+}

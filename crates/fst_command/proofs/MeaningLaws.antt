@@ -1,16 +1,16 @@
 -- What the texts of `equiv` say.
-use Rattle.std.proofs.Common.{◌≡◌, ◌∙◌, inl, inr, ℕ, List, [], ◌∷◌, ◌++◌, length, sym, ap, arith}
+use Rattle.std.proofs.Common.{◌≡◌, ◌∙◌, inl, inr, ℕ, List, [], ◌∷◌, ◌++◌, length, sym, ap, arith, subst}
 use Rattle.std.specs.Prelude.{codes}
 use Rattle.std.specs.Str.{byte}
 use Rattle.std.proofs.lemmas.List.{length-map}
 use Rattle.fst_equiv.specs.Answers.{Answer, yes, no, undecided, too_large, Answers}
 use Rattle.fst_command.specs.declared.status.Status.{Status}
 use Rattle.fst_options.specs.Words.{equiv}
-use Rattle.fst_command.specs.Finding.{Finding, refused, too_deep}
+use Rattle.fst_command.specs.Finding.{refused, too_deep}
 use Rattle.fst_command.specs.Finding as finding
 use Rattle.fst_command.specs.Output.{answer_text, AnswersQuestion, Writes, too_long, is_none, makes}
 use Rattle.fst_command.specs.Texts.{yes_text}
-use Rattle.fst_command.specs.Meanings.{MeansYes, MeansNo, MeansUndecided, EquivMeanings}
+use Rattle.fst_command.specs.Meanings.{MeansAnswer, MeansYes, MeansNo, MeansUndecided}
 
 -- the first byte of a text
 abbrev initial : List ℕ → ℕ
@@ -87,5 +87,9 @@ says_undecided budget bytes rest s w = by m.answer.answer m.answer.answers m.ans
     by too_large h is = absurd (omega (arith, ap initial is))
 
 -- what each text means
-pub equiv_meanings : EquivMeanings
-equiv_meanings = record { yes = says_yes; no = says_no; undecided = says_undecided }
+pub equiv_means : (budget : ℕ) (bytes text : List ℕ) (s : Status) → Writes (equiv budget) bytes text s → MeansAnswer budget bytes text
+equiv_means budget bytes text s w = record {
+  yes = λ e. says_yes budget bytes s (subst (λ t. Writes (equiv budget) bytes t s) e w);
+  no = λ rest e. subst (MeansNo bytes) (sym e) (says_no budget bytes rest s (subst (λ t. Writes (equiv budget) bytes t s) e w));
+  undecided = λ rest e. subst (MeansUndecided budget bytes) (sym e) (says_undecided budget bytes rest s (subst (λ t. Writes (equiv budget) bytes t s) e w));
+}

@@ -1,7 +1,7 @@
 -- How a run ends.
 use Rattle.std.proofs.Common.{◌≡◌, ℕ, ◌+◌, List, [], false, length, Option, Result, Ok, Err, refl, subst, arith}
 use Rattle.std.specs.Prelude.{IsTrue, IfOk, OnOk}
-use Rattle.std.specs.Io.KnownBytes.{Consumes, IsAtEnd, Appends}
+use Rattle.std.specs.Io.KnownBytes.{Consumes, IsAtEnd}
 use Rattle.fst_io.specs.GivingUp.{Loses}
 use Rattle.fst_base.specs.Limits.{most_bytes}
 use Rattle.fst_command.specs.declared.status.Status.{Status}
@@ -11,7 +11,7 @@ use Rattle.fst_options.proofs.Laws.{one_command}
 use Rattle.fst_command.specs.Output.{Writes, too_long, usage, command, IsOutput}
 use Rattle.fst_command.specs.Texts.{too_long_text}
 use Rattle.fst_command.specs.Top.{ReadsInput, ReadsFor, IsAnswered, reads_input}
-use Rattle.fst_command.specs.Meanings.{CheckMeanings, ReadsAccepted, ReadsRefused, RunMeanings, HasRun, MakeMeanings, HasMade}
+use Rattle.fst_command.specs.Meanings.{Means, Meanings}
 
 -- what is read for a command that reads an input
 pub reads_for : (c : Command) (old new : Option (List ℕ)) (bytes : List ℕ) → IsTrue (reads_input c) → ReadsInput old new bytes → ReadsFor c old new bytes
@@ -35,12 +35,13 @@ reads_none (check budget) old bytes not is = absurd (cc not)
 reads_none (run steps workers budget) old bytes not is = absurd (cc not)
 reads_none (make n) old bytes not is = record { none = is; same = refl }
 
--- what was read for a command has its output
-pub read_whole : (s : Status) (words : List (List ℕ)) (c : Command) (old new : Option (List ℕ)) (bytes text : List ℕ) → IsCommand words c → ReadsFor c old new bytes → Writes c bytes text s → IsAnswered words old new text s
-read_whole s words c old new bytes text is read w = record {
+-- what was read for a command has its output, which means what it says
+pub read_whole : Meanings → (s : Status) (words : List (List ℕ)) (c : Command) (old new : Option (List ℕ)) (bytes text : List ℕ) → IsCommand words c → ReadsFor c old new bytes → Writes c bytes text s → IsAnswered words old new text s
+read_whole meanings s words c old new bytes text is read w = record {
   bytes = bytes;
   read = λ d it. subst (λ z. ReadsFor z old new bytes) (one_command words c d is it) read;
   output = command c is w;
+  means = λ d it. subst (λ z. Means z bytes text s) (one_command words c d is it) (meanings c bytes text s w);
 }
 
 -- an input that was read up to one byte over the limit is too long
@@ -51,46 +52,13 @@ too_long_written (check budget) bytes text s is long w e = too_long long w e
 too_long_written (run steps workers budget) bytes text s is long w e = too_long long w e
 too_long_written (make n) bytes text s is long w e = absurd (cc is)
 
-pub read_over : (s : Status) (words : List (List ℕ)) (c : Command) (old new : Option (List ℕ)) (text : List ℕ) → IsCommand words c → IsTrue (reads_input c) → Loses (most_bytes + 1) old new → text ≡ too_long_text →
+pub read_over : Meanings → (s : Status) (words : List (List ℕ)) (c : Command) (old new : Option (List ℕ)) (text : List ℕ) → IsCommand words c → IsTrue (reads_input c) → Loses (most_bytes + 1) old new → text ≡ too_long_text →
     s ≡ status.Limit → IsAnswered words old new text s
-read_over s words c old new text is reads lost w e =
-    read_whole s words c old new lost.0 text is (reads_for c old new lost.0 reads (record { read = lost.1; end = λ short. absurd (omega (arith, short, lost.2)) }))
+read_over meanings s words c old new text is reads lost w e =
+    read_whole meanings s words c old new lost.0 text is (reads_for c old new lost.0 reads (record { read = lost.1; end = λ short. absurd (omega (arith, short, lost.2)) }))
     (too_long_written c lost.0 text s reads lost.2 w e)
 
 -- the output of words that are a command's is what the command writes
 pub written_for : (words : List (List ℕ)) (bytes text : List ℕ) (s : Status) (c : Command) → IsCommand words c → IsOutput words bytes text s → Writes c bytes text s
 written_for words bytes text s c it (usage none nothing w e) = absurd (none c it)
 written_for words bytes text s c it (command d is w) = subst (λ z. Writes z bytes text s) (one_command words d c is it) w
-
-module _ (words : List (List ℕ)) (old new : Option (List ℕ)) (text : List ℕ) (s : Status) (a : IsAnswered words old new text s) where
-  -- where `check` did its work, what was read is a source of a module that has derivations
-  pub read_accepted : CheckMeanings → s ≡ status.Done → (budget : ℕ) → IsCommand words (check budget) → ReadsAccepted old new
-  read_accepted meanings done budget it = record {
-    bytes = a.bytes;
-    read = a.read (check budget) it;
-    accepted = meanings.done budget a.bytes text (subst (λ r. Writes (check budget) a.bytes text r) done (written_for words a.bytes text s (check budget) it a.output));
-  }
-
-  -- where it refused its input, no module that this stands for has derivations
-  pub read_refused : CheckMeanings → s ≡ status.Refused → (budget : ℕ) → IsCommand words (check budget) → ReadsRefused old new
-  read_refused meanings not budget it = record {
-    bytes = a.bytes;
-    read = a.read (check budget) it;
-    refused = meanings.refused budget a.bytes text (subst (λ r. Writes (check budget) a.bytes text r) not (written_for words a.bytes text s (check budget) it a.output));
-  }
-
-  module _ (taken now : Option (List ℕ)) (whole : Appends taken now text) where
-    -- what `run` wrote, with its status, means what it means
-    pub has_run : RunMeanings → (steps workers budget : ℕ) → IsCommand words (run steps workers budget) → HasRun old new taken now s
-    has_run meanings steps workers budget it = record {
-      bytes = a.bytes;
-      read = a.read (run steps workers budget) it;
-      text = text;
-      whole = whole;
-      means = meanings steps workers budget a.bytes text s (written_for words a.bytes text s (run steps workers budget) it a.output);
-    }
-
-    -- what `make` wrote, with its status, means what it means
-    pub has_made : MakeMeanings → (n : ℕ) → IsCommand words (make n) → HasMade n taken now s
-    has_made meanings n it =
-        record { text = text; whole = whole; means = meanings n a.bytes text s (written_for words a.bytes text s (make n) it a.output) }

@@ -1,7 +1,6 @@
 -- What the texts of `equiv` say of the two types that an input asks about, over the variables of the question, and what those
 -- of `check`, `run` and `make` say of a module.
-use Rattle.std.specs.Prelude.{◌≡◌, ◌↔◌, ℕ, List, ◌++◌, length, codes, Bool, Option, ⊤}
-use Rattle.std.specs.Io.KnownBytes.{Appends}
+use Rattle.std.specs.Prelude.{◌≡◌, ◌↔◌, ℕ, List, ◌++◌, length, codes, Bool, ⊤}
 use Rattle.fst_base.specs.Agreement.{Performs, Agree}
 use Rattle.fst_base.specs.Order.{IsBefore}
 use Rattle.fst_types.specs.Order.{label_cmp}
@@ -31,10 +30,9 @@ use Rattle.fst_report.specs.ReportTexts.{report_text}
 use Rattle.fst_command.specs.declared.status.Status.{Status}
 use Rattle.fst_command.specs.declared.status.Status.TheVariants as status
 use Rattle.fst_make.specs.Made.{made_text}
-use Rattle.fst_options.specs.Words.{equiv, check, run, make}
+use Rattle.fst_options.specs.Words.{Command, equiv, show, check, run, make}
 use Rattle.fst_command.specs.Finding.{IsRead, AreAsked, AreResolved}
 use Rattle.fst_command.specs.Output.{Writes, made_summary}
-use Rattle.fst_command.specs.Top.{ReadsInput}
 use Rattle.fst_command.specs.Texts.{yes_text, no_text, undecided_text}
 
 -- the two types agree at every depth
@@ -72,11 +70,11 @@ pub record MeansUndecided (budget : ℕ) (bytes text : List ℕ) : Type 0 where
   pub further : IsBeyond rows marks (pruned_word marks u) (pruned_word marks v) pairs
   pub no_basis : IsGood rows marks (pruned_word marks u) (pruned_word marks v) budget → ⊥
 
--- what a text of `equiv` means, by how it begins
-pub record EquivMeanings : Type 0 where
-  pub yes : (budget : ℕ) (bytes : List ℕ) (s : Status) → Writes (equiv budget) bytes yes_text s → MeansYes bytes
-  pub no : (budget : ℕ) (bytes rest : List ℕ) (s : Status) → Writes (equiv budget) bytes (codes "no " ++ rest) s → MeansNo bytes (codes "no " ++ rest)
-  pub undecided : (budget : ℕ) (bytes rest : List ℕ) (s : Status) → Writes (equiv budget) bytes (codes "undecided " ++ rest) s → MeansUndecided budget bytes (codes "undecided " ++ rest)
+-- what it means that `equiv` wrote the text, by how this begins
+pub record MeansAnswer (budget : ℕ) (bytes text : List ℕ) : Type 0 where
+  pub yes : text ≡ yes_text → MeansYes bytes
+  pub no : (rest : List ℕ) → text ≡ codes "no " ++ rest → MeansNo bytes text
+  pub undecided : (rest : List ℕ) → text ≡ codes "undecided " ++ rest → MeansUndecided budget bytes text
 
 -- the bytes are a source that stands for a module, which has derivations; and whatever happens in a run of it, nothing goes
 -- wrong
@@ -93,22 +91,10 @@ pub record MeansAccepted (bytes : List ℕ) : Type 0 where
 abbrev pub MeansRefused : List ℕ → Type 0
 MeansRefused bytes = (m : Module) → AreResolved bytes m → (ds : List Deriv) → HasDerivations m ds → ⊥
 
--- what it means that `check` did its work, and what it means that it refused its input
-pub record CheckMeanings : Type 0 where
-  pub done : (budget : ℕ) (bytes text : List ℕ) → Writes (check budget) bytes text status.Done → MeansAccepted bytes
-  pub refused : (budget : ℕ) (bytes text : List ℕ) → Writes (check budget) bytes text status.Refused → MeansRefused bytes
-
--- what was read is a source of a module that has derivations, and no run of which goes wrong
-pub record ReadsAccepted (old new : Option (List ℕ)) : Type 0 where
-  pub bytes : List ℕ
-  pub read : ReadsInput old new bytes
-  pub accepted : MeansAccepted bytes
-
--- what was read stands for no module that has derivations
-pub record ReadsRefused (old new : Option (List ℕ)) : Type 0 where
-  pub bytes : List ℕ
-  pub read : ReadsInput old new bytes
-  pub refused : MeansRefused bytes
+-- what it means that `check` ended with this status
+pub record MeansCheck (bytes : List ℕ) (s : Status) : Type 0 where
+  pub done : s ≡ status.Done → MeansAccepted bytes
+  pub refused : s ≡ status.Refused → MeansRefused bytes
 
 -- so are the bytes, and the text is that of a report, written like this, in which each history is a trace of its channel's declared
 -- type, and the value of main is one of main's type
@@ -135,24 +121,15 @@ MeansRun shown status.WriteFault bytes text = ⊤
 MeansRun shown status.Limit bytes text = ⊤
 MeansRun shown status.Memory bytes text = ⊤
 
--- whatever `run` writes means that
-abbrev pub RunMeanings : Type 0
-RunMeanings = (steps workers budget : ℕ) (bytes text : List ℕ) (s : Status) → Writes (run steps workers budget) bytes text s → MeansRun report_text s bytes text
+-- what it means that this text was written for a command, with this status, where these bytes were read: `make` reads none, and what
+-- it writes is about the module that it makes
+abbrev pub Means : Command → List ℕ → List ℕ → Status → Type 0
+Means (equiv budget) bytes text s = MeansAnswer budget bytes text
+Means show bytes text s = ⊤
+Means (check budget) bytes text s = MeansCheck bytes s
+Means (run steps workers budget) bytes text s = MeansRun report_text s bytes text
+Means (make n) bytes text s = MeansRun (made_summary n) s (made_text n) text
 
--- what was read and what was written, with this status, mean that
-pub record HasRun (old new taken now : Option (List ℕ)) (s : Status) : Type 0 where
-  pub bytes : List ℕ
-  pub read : ReadsInput old new bytes
-  pub text : List ℕ
-  pub whole : Appends taken now text
-  pub means : MeansRun report_text s bytes text
-
--- whatever `make` writes means that of the made module
-abbrev pub MakeMeanings : Type 0
-MakeMeanings = (n : ℕ) (bytes text : List ℕ) (s : Status) → Writes (make n) bytes text s → MeansRun (made_summary n) s (made_text n) text
-
--- what was written, with this status, means that of the made module of n channels
-pub record HasMade (n : ℕ) (taken now : Option (List ℕ)) (s : Status) : Type 0 where
-  pub text : List ℕ
-  pub whole : Appends taken now text
-  pub means : MeansRun (made_summary n) s (made_text n) text
+-- whatever a command writes means that
+abbrev pub Meanings : Type 0
+Meanings = (c : Command) (bytes text : List ℕ) (s : Status) → Writes c bytes text s → Means c bytes text s

@@ -5,6 +5,7 @@ use Rattle.fst_base.specs.Limits.{most_bytes}
 use Rattle.fst_command.specs.declared.status.Status.{Status}
 use Rattle.fst_command.specs.declared.status.Status.TheVariants as status
 use Rattle.fst_options.specs.Words.{Command, equiv, show, check, run, make, IsCommand}
+use Rattle.fst_command.specs.Meanings.{Means}
 use Rattle.fst_command.specs.Output.{IsOutput}
 
 -- whether the command reads an input
@@ -37,11 +38,12 @@ ReadsFor (check budget) = ReadsInput
 ReadsFor (run steps workers budget) = ReadsInput
 ReadsFor (make n) = ReadsNothing
 
--- a text that with this status is an output of the words and of what was read
+-- a text that with this status is an output of the words and of what was read, and means what it says
 pub record IsAnswered (words : List (List ℕ)) (old new : Option (List ℕ)) (text : List ℕ) (s : Status) : Type 0 where
   pub bytes : List ℕ
   pub read : (c : Command) → IsCommand words c → ReadsFor c old new bytes
   pub output : IsOutput words bytes text s
+  pub means : (c : Command) → IsCommand words c → Means c bytes text s
 
 -- such a text was written
 pub record WasWritten (words : List (List ℕ)) (old new taken now : Option (List ℕ)) (s : Status) : Type 0 where

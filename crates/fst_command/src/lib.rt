@@ -10,8 +10,5 @@ mod running;
 mod status;
 mod texts;
 
-pub use run::{
-    check_meanings, completeness, equiv_meanings, make_meanings, one_output, run_meanings,
-    shown_again, top,
-};
+pub use run::{completeness, meanings, one_output, shown_again, top};
 pub use status::Status;

@@ -4,9 +4,9 @@ ghost use Rattle.fst_base.specs.Limits.{most_bytes};
 ghost use Rattle.fst_io.specs.Faults.{Rose};
 ghost use Rattle.fst_io.specs.GivingUp.{ReadGaveUp};
 ghost use Rattle.fst_options.specs.Views.{command_of};
-ghost use Rattle.fst_options.specs.Words.{IsCommand, IsWithin, check, make, run};
-ghost use Rattle.fst_command.specs.Complete.{HasBegun, IsComplete, IsInputWithin};
-ghost use Rattle.fst_command.specs.Meanings.{CheckMeanings, EquivMeanings, HasMade, HasRun, MakeMeanings, ReadsAccepted, ReadsRefused, RunMeanings};
+ghost use Rattle.fst_options.specs.Words.{IsWithin};
+ghost use Rattle.fst_command.specs.Complete.{AreComplete, IsComplete};
+ghost use Rattle.fst_command.specs.Meanings.{Meanings};
 ghost use Rattle.fst_command.specs.Output.{OneOutput, ShownAgain, Writes};
 ghost use Rattle.fst_command.specs.Top.{IsAnswer, IsAnswered, ReadsFor, WantInput, WasCut, WasWritten, reads_input};
 
@@ -103,6 +103,7 @@ fn answer<R: Threads + Sync, S: Source, G: Gate + Sync>(
         WantInput (map string_bytes words.now) × Rose (S.faults source.old) (S.faults source.new)) }
     ensures unread { ¬ WantInput (map string_bytes words.now) → source.new ≡ source.old }
 {
+    meanings();
     let Some(command) = parse(words) else {
         return Ok(fixed(alloc, Status::Words, USAGE)?);
     };
@@ -124,43 +125,18 @@ pub fn top<R: Threads + Sync, S: Source, K: Sink, G: Gate + Sync>(
     sink: &mut K,
     gate: &G,
 ) -> Status
-    // With the status of an answer, an output of the words and of what was read is written whole.
+    // With the status of an answer, an output of the words and of what was read is written whole, and means what it says. A yes of
+    // `equiv` is agreement at every depth, and a no the least trace that just one side performs. Where `check` accepts, what was
+    // read is a module that has derivations; and whatever happens in a run of it, in any order, no task meets a wrong message, a
+    // wrong label or a spent end. So it is where `run` or `make` wrote a report or ran out of steps; and in a report each history
+    // is a trace of its channel's declared type, and the value of `main` is one of its type. Where one of these refuses its input,
+    // this stands for no module that has derivations.
     ensures answered { IsAnswer result → WasWritten (map string_bytes words.now)
         (S.left source.old) (S.left source.new) (K.taken sink.old) (K.taken sink.new) result }
 
-    // Where `check` did its work, what was read is a module that has derivations; and whatever happens in a run of it, in any
-    // order, no task meets a wrong message, a wrong label or a spent end.
-    ensures accepted { result ≡ Status.Done → (budget : ℕ) →
-        IsCommand (map string_bytes words.now) (check budget) →
-        ReadsAccepted (S.left source.old) (S.left source.new) }
-
-    // Where it refused its input, what was read stands for no module that has derivations.
-    ensures refused { result ≡ Status.Refused → (budget : ℕ) →
-        IsCommand (map string_bytes words.now) (check budget) →
-        ReadsRefused (S.left source.old) (S.left source.new) }
-
-    // Where what is left of the source is known, and stands for a module that has plain derivations within the limits, an answer
-    // is that the module is accepted.
-    ensures complete { IsAnswer result → (budget : ℕ) →
-        IsCommand (map string_bytes words.now) (check budget) →
-        IsInputWithin budget (S.left source.old) → result ≡ Status.Done }
-
-    // Where `run` wrote a report, or ran out of steps, the same holds as where `check` did its work; and in a report each history
-    // is a trace of its channel's declared type, and the value of `main` is one of its type. Where it refused its input, the same
-    // holds as where `check` did.
-    ensures ran { IsAnswer result → (steps workers budget : ℕ) →
-        IsCommand (map string_bytes words.now) (run steps workers budget) →
-        HasRun (S.left source.old) (S.left source.new) (K.taken sink.old) (K.taken sink.new) result }
-
-    // An answer to such an input as above is what its steps come to.
-    ensures run_complete { IsAnswer result → (steps workers budget : ℕ) →
-        IsCommand (map string_bytes words.now) (run steps workers budget) →
-        IsInputWithin budget (S.left source.old) → HasBegun result }
-
-    // What holds of `run` holds of the module that `make` made, where it wrote a summary in place of the report.
-    ensures made { IsAnswer result → (n : ℕ) →
-        IsCommand (map string_bytes words.now) (make n) →
-        HasMade n (K.taken sink.old) (K.taken sink.new) result }
+    // Where what is left of the source is known, and stands for a module that has plain derivations within the limits, an answer of
+    // `check` is that the module is accepted, and one of `run` is what its steps come to.
+    ensures complete { IsAnswer result → IsComplete (map string_bytes words.now) (S.left source.old) result }
 
     // A read fault comes only where the source's count rose, for words that want the source, and
     // nothing is written.
@@ -184,9 +160,6 @@ pub fn top<R: Threads + Sync, S: Source, K: Sink, G: Gate + Sync>(
     // Words that aren't those of `equiv`, `show`, `check` or `run` leave the source as it is.
     ensures unread { ¬ WantInput (map string_bytes words.now) → source.new ≡ source.old }
 {
-    check_meanings();
-    run_meanings();
-    make_meanings();
     completeness();
     match answer(rt, alloc, words, source, gate) {
         Err(status) => status,
@@ -221,40 +194,9 @@ pub fn shown_again()
     one_module();
 }
 
-/// What the texts of `equiv` say of the two types that are asked about.
-#[tactic(auto, using(crate::proofs::MeaningLaws::equiv_meanings))]
-pub fn equiv_meanings()
-    ensures { EquivMeanings }
-{}
-
-/// What it means that `check` did its work, and that it refused its input.
-pub fn check_meanings()
-    ensures { CheckMeanings }
-{
-    accepted_law();
-    refusal_law();
-    one_module_law();
-    one_lexing();
-    one_module();
-    safety_law();
-}
-
-/// What it means that `run` wrote a report, ran out of steps, or refused its input.
-pub fn run_meanings()
-    ensures { RunMeanings }
-{
-    accepted_law();
-    refusal_law();
-    one_module_law();
-    one_lexing();
-    one_module();
-    safety_law();
-    sound_law();
-}
-
-/// What it means that `make` wrote a summary, ran out of steps, or refused the module.
-pub fn make_meanings()
-    ensures { MakeMeanings }
+/// Whatever a command writes means what it says (`Means`).
+pub fn meanings()
+    ensures { Meanings }
 {
     accepted_law();
     refusal_law();
@@ -268,7 +210,7 @@ pub fn make_meanings()
 /// Of bytes that stand for a module which has plain derivations within the limits `check` says that the module is accepted, and
 /// `run` what its steps come to.
 pub fn completeness()
-    ensures { IsComplete }
+    ensures { AreComplete }
 {
     one_lexing();
     one_module();

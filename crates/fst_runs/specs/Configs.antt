@@ -28,6 +28,7 @@ pub record Channel : Type 0 where
   pub declared : Tree
   pub history : List Entry
 
+-- a configuration: all tasks and channels of a run
 pub record Config : Type 0 where
   pub tasks : Path → Option Task
   pub channels : ChannelName → Option Channel

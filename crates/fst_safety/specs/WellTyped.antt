@@ -20,6 +20,7 @@ pub record IsFieldType (t : Tree) : Type 0 where
   pub formed : IsFormed [] t
   pub printable : IsPrintable t
 
+-- what a module with derivations gives to the terms that run
 pub record IsWellTyped (m : Surroundings) : Type 0 where
   -- the body of a global has each closing instance of its signature as its type
   pub bodies_typed : (k : ℕ) (g : GlobalEntry) (t : Tree) (args : List Tree) → slice_get m.globals k ≡ Some g → slice_get m.types g.signature ≡ Some t →

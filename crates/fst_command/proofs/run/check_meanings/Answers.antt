@@ -1,7 +1,0 @@
-use Rattle.fst_command.proofs.CheckLaws.{check_meanings}
-use Rattle.fst_command.proofs.run.check_meanings.Goals as goal
-
-pub returns : goal.returns
-returns c =
-    check_meanings c.accepted_law.ensures c.refusal_law.ensures.refused c.one_module_law.ensures c.one_lexing.ensures c.one_module.ensures
-    c.safety_law.ensures
