@@ -32,5 +32,5 @@ fn main(rt: HostRuntime) -> ExitCode {
         }
         Err(AllocError) => Status::Memory,
     };
-    ExitCode::from(status.number())
+    status.exit_code()
 }
