@@ -2,7 +2,7 @@ ghost use Rattle.fst_terms.specs.ModelView.{terms_of};
 ghost use Rattle.fst_reading.specs.Gives.{Gives};
 ghost use Rattle.fst_module_grammar.specs.TermReading.{inside, expr_at, arguments_with, applications_with, head_with, atom_with, begun_with, paren_with};
 
-use crate::terms::expr;
+use crate::terms::{boxed, expr};
 use fst_module_grammar::applied::applied;
 use fst_module_grammar::building::apply;
 use fst_module_grammar::shut::{Wanted, begins_atom, shut};
@@ -100,6 +100,19 @@ pub(crate) fn atom<'a>(
     }
 }
 
+/// The same in memory of its own.
+#[cycle(reader)]
+pub(crate) fn boxed_atom<'a>(
+    alloc: Global,
+    left: u32,
+    tokens: &'a [Lexeme<'a>],
+) -> Result<(Box<SourceTerm>, &'a [Lexeme<'a>]), Stop<'a>>
+    ensures { Gives (λ x. (x.0.value, x.1.now)) result (atom_with (inside left) tokens.now) }
+{
+    let (term, rest) = atom(alloc, left, tokens)?;
+    Ok((Box::new(alloc, term)?, rest))
+}
+
 /// An atom that begins so with this token.
 #[cycle(reader)]
 #[tactic(auto, unfolding(fst_reading::specs::Steps::all))]
@@ -164,8 +177,7 @@ fn paren<'a>(
         }
         Some(behind) => {
             let first = Box::new(alloc, first)?;
-            let (second, rest) = expr(alloc, left, behind)?;
-            let second = Box::new(alloc, second)?;
+            let (second, rest) = boxed(alloc, left, behind)?;
             let rest = expect(")", rest)?;
             let form = SourceForm::Pair(first, second);
             Ok((SourceTerm { at, form }, rest))

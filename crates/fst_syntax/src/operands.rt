@@ -2,7 +2,7 @@ ghost use Rattle.fst_reading.specs.Gives.{Gives};
 ghost use Rattle.fst_module_grammar.specs.TermReading.{inside, chain_with, cmp_with, unary_with, app_begun_with};
 ghost use Rattle.fst_module_grammar.specs.Levels.{operator_of, operand_with, level_with};
 
-use crate::atoms::{arguments, atom, head};
+use crate::atoms::{arguments, boxed_atom, head};
 use fst_module_grammar::applied::type_atom;
 use fst_module_grammar::building::operate;
 use fst_module_grammar::heads::label;
@@ -93,12 +93,24 @@ fn compared<'a>(
         None => Ok((first, rest)),
         Some((op, behind)) => {
             let first = Box::new(alloc, first)?;
-            let (second, rest) = chain(alloc, Level::Sum, left, behind)?;
-            let second = Box::new(alloc, second)?;
+            let (second, rest) = boxed_sum(alloc, left, behind)?;
             let form = SourceForm::Operate(op, first, second);
             Ok((SourceTerm { at, form }, rest))
         }
     }
+}
+
+/// A sum in memory of its own.
+#[cycle(reader)]
+fn boxed_sum<'a>(
+    alloc: Global,
+    left: u32,
+    tokens: &'a [Lexeme<'a>],
+) -> Result<(Box<SourceTerm>, &'a [Lexeme<'a>]), Stop<'a>>
+    ensures { Gives (λ x. (x.0.value, x.1.now)) result (level_with Level.Sum (inside left) tokens.now) }
+{
+    let (term, rest) = chain(alloc, Level::Sum, left, tokens)?;
+    Ok((Box::new(alloc, term)?, rest))
 }
 
 /// An application behind any number of `not`s.
@@ -145,23 +157,21 @@ fn app<'a>(
     let at = first.at;
     match start {
         AppStart::Send => {
-            let (value, rest) = atom(alloc, left, tokens)?;
-            let value = Box::new(alloc, value)?;
-            let (channel, rest) = atom(alloc, left.saturating_sub(1), rest)?;
-            let channel = Box::new(alloc, channel)?;
+            let (value, rest) = boxed_atom(alloc, left, tokens)?;
+            let (channel, rest) = boxed_atom(alloc, left.saturating_sub(1), rest)?;
             let form = SourceForm::Send(value, channel);
             Ok((SourceTerm { at, form }, rest))
         }
         AppStart::Receive => {
-            let (channel, rest) = atom(alloc, left, tokens)?;
-            let form = SourceForm::Receive(Box::new(alloc, channel)?);
+            let (channel, rest) = boxed_atom(alloc, left, tokens)?;
+            let form = SourceForm::Receive(channel);
             Ok((SourceTerm { at, form }, rest))
         }
         AppStart::Select => {
             let (label, rest) = label(left, tokens)?;
             let label = Name::of(alloc, label.text.as_bytes())?;
-            let (channel, rest) = atom(alloc, left.saturating_sub(1), rest)?;
-            let form = SourceForm::Select(label, Box::new(alloc, channel)?);
+            let (channel, rest) = boxed_atom(alloc, left.saturating_sub(1), rest)?;
+            let form = SourceForm::Select(label, channel);
             Ok((SourceTerm { at, form }, rest))
         }
         AppStart::New => {
@@ -170,8 +180,8 @@ fn app<'a>(
             Ok((SourceTerm { at, form }, rest))
         }
         AppStart::Fork => {
-            let (task, rest) = atom(alloc, left, tokens)?;
-            let form = SourceForm::Fork(Box::new(alloc, task)?);
+            let (task, rest) = boxed_atom(alloc, left, tokens)?;
+            let form = SourceForm::Fork(task);
             Ok((SourceTerm { at, form }, rest))
         }
         AppStart::Make => {

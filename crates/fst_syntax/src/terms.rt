@@ -40,6 +40,19 @@ pub(crate) fn expr<'a>(
     }
 }
 
+/// The same in memory of its own.
+#[cycle(reader)]
+pub(crate) fn boxed<'a>(
+    alloc: Global,
+    left: u32,
+    tokens: &'a [Lexeme<'a>],
+) -> Result<(Box<SourceTerm>, &'a [Lexeme<'a>]), Stop<'a>>
+    ensures { Gives (λ x. (x.0.value, x.1.now)) result (expr_at left tokens.now) }
+{
+    let (term, rest) = expr(alloc, left, tokens)?;
+    Ok((Box::new(alloc, term)?, rest))
+}
+
 /// A term that begins with an operand, where at least one may be opened.
 #[cycle(reader)]
 #[tactic(auto, using(crate::proofs::Inside::inside_next), unfolding(crate::specs::Steps::then_))]
@@ -57,8 +70,7 @@ fn then<'a>(
         None => Ok((term, rest)),
         Some(behind) => {
             let term = Box::new(alloc, term)?;
-            let (next, rest) = expr(alloc, left - 1, behind)?;
-            let next = Box::new(alloc, next)?;
+            let (next, rest) = boxed(alloc, left - 1, behind)?;
             let form = SourceForm::Then(term, next);
             Ok((SourceTerm { at, form }, rest))
         }
@@ -77,11 +89,9 @@ fn let_in<'a>(
     ensures { Gives (λ x. (x.0, x.1.now)) result (let_with (expr_at left) at tokens.now) }
 {
     let (binding, rest) = let_head(alloc, tokens)?;
-    let (value, rest) = expr(alloc, left, rest)?;
-    let value = Box::new(alloc, value)?;
+    let (value, rest) = boxed(alloc, left, rest)?;
     let rest = expect("in", rest)?;
-    let (body, rest) = expr(alloc, left, rest)?;
-    let body = Box::new(alloc, body)?;
+    let (body, rest) = boxed(alloc, left, rest)?;
     match binding {
         Binding::One(name) => {
             let form = SourceForm::Let(name, value, body);
@@ -105,14 +115,11 @@ fn if_else<'a>(
 ) -> Result<(SourceTerm, &'a [Lexeme<'a>]), Stop<'a>>
     ensures { Gives (λ x. (x.0, x.1.now)) result (if_with (expr_at left) at tokens.now) }
 {
-    let (condition, rest) = expr(alloc, left, tokens)?;
-    let condition = Box::new(alloc, condition)?;
+    let (condition, rest) = boxed(alloc, left, tokens)?;
     let rest = expect("then", rest)?;
-    let (yes, rest) = expr(alloc, left, rest)?;
-    let yes = Box::new(alloc, yes)?;
+    let (yes, rest) = boxed(alloc, left, rest)?;
     let rest = expect("else", rest)?;
-    let (no, rest) = expr(alloc, left, rest)?;
-    let no = Box::new(alloc, no)?;
+    let (no, rest) = boxed(alloc, left, rest)?;
     let form = SourceForm::If(condition, yes, no);
     Ok((SourceTerm { at, form }, rest))
 }
@@ -129,8 +136,7 @@ fn lambda<'a>(
     ensures { Gives (λ x. (x.0, x.1.now)) result (lambda_with (expr_at left) (length (inside left)) at tokens.now) }
 {
     let ((name, domain, uses), rest) = parameter(alloc, left, tokens)?;
-    let (body, rest) = expr(alloc, left, rest)?;
-    let body = Box::new(alloc, body)?;
+    let (body, rest) = boxed(alloc, left, rest)?;
     let form = SourceForm::Lambda(uses, domain, name, body);
     Ok((SourceTerm { at, form }, rest))
 }
@@ -147,8 +153,7 @@ fn with_arms<'a>(
 ) -> Result<(SourceTerm, &'a [Lexeme<'a>]), Stop<'a>>
     ensures { Gives (λ x. (x.0, x.1.now)) result (choice_with (expr_at left) kind at tokens.now) }
 {
-    let (subject, rest) = expr(alloc, left, tokens)?;
-    let subject = Box::new(alloc, subject)?;
+    let (subject, rest) = boxed(alloc, left, tokens)?;
     let rest = expect(word_of(kind), rest)?;
     let rest = expect("{", rest)?;
     let (arms, rest) = arms(alloc, left, kind, rest)?;

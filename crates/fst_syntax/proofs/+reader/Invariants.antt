@@ -4,6 +4,7 @@ use Rattle.fst_reading.specs.Reading.{sep_by_within}
 use Rattle.fst_reading.proofs.Loops.{with_front}
 use Rattle.fst_module_grammar.specs.TermReading.{expr_at, arm_by}
 use Rattle.fst_module_grammar.specs.Levels.{arm_parts}
+use Rattle.fst_module_grammar.specs.declared.operators.Level.TheVariants.{Sum}
 use Rattle.fst_syntax.proofs.Inside.{rank}
 use Rattle.fst_syntax.proofs.+reader.Given as goal
 
@@ -40,20 +41,29 @@ decreases-operands::chain l = 128 * l.left + rank l.level + 2
 abbrev pub decreases-terms::expr : goal.decreases-terms::expr
 decreases-terms::expr l = 128 * l.left + 60
 
+abbrev pub decreases-terms::boxed : goal.decreases-terms::boxed
+decreases-terms::boxed l = 128 * l.left + 61
+
+abbrev pub decreases-atoms::boxed_atom : goal.decreases-atoms::boxed_atom
+decreases-atoms::boxed_atom l = 128 * l.left + 1
+
+abbrev pub decreases-operands::boxed_sum : goal.decreases-operands::boxed_sum
+decreases-operands::boxed_sum l = 128 * l.left + rank Sum + 3
+
 abbrev pub decreases-atoms::paren : goal.decreases-atoms::paren
-decreases-atoms::paren l = 128 * l.left + 61
+decreases-atoms::paren l = 128 * l.left + 62
 
 abbrev pub decreases-atoms::begun : goal.decreases-atoms::begun
-decreases-atoms::begun l = 128 * l.left + 62
+decreases-atoms::begun l = 128 * l.left + 63
 
 abbrev pub decreases-terms::lambda : goal.decreases-terms::lambda
-decreases-terms::lambda l = 128 * l.left + 61
+decreases-terms::lambda l = 128 * l.left + 62
 
 abbrev pub decreases-terms::let_in : goal.decreases-terms::let_in
-decreases-terms::let_in l = 128 * l.left + 61
+decreases-terms::let_in l = 128 * l.left + 62
 
 abbrev pub decreases-terms::if_else : goal.decreases-terms::if_else
-decreases-terms::if_else l = 128 * l.left + 61
+decreases-terms::if_else l = 128 * l.left + 62
 
 abbrev pub decreases-terms::arm : goal.decreases-terms::arm
 decreases-terms::arm l = 128 * l.left + 61
