@@ -7,4 +7,4 @@ complete -c freest -n __fish_use_subcommand -a run -d 'run a module that is well
 complete -c freest -n __fish_use_subcommand -a make -d 'make, check and run a module with N channels'
 complete -c freest -n '__fish_seen_subcommand_from equiv check run' -l budget -x -d 'how far one question is looked into, 1 to 10,000'
 complete -c freest -n '__fish_seen_subcommand_from run' -l steps -x -d 'how many events the run may have, 0 to 2,000,000'
-complete -c freest -n '__fish_seen_subcommand_from run' -l workers -x -d 'on how many threads its tasks are moved, 1 to 8'
+complete -c freest -n '__fish_seen_subcommand_from run' -l workers -x -d 'on how many threads at most its tasks are moved, 1 to 8'
