@@ -2,6 +2,8 @@ pub mod Bools
 pub mod Options
 pub mod Choices
 pub mod Lists
+pub mod Alls
+pub mod Codes
 pub mod Orders
 pub mod AgreementLaws
 pub mod TraceLaws

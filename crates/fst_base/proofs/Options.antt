@@ -26,3 +26,11 @@ there_if x false e = absurd (cc e)
 pub if_there : {X : Type 0} (x : X) (c : Bool) → IsSome (if c then Some x else None) → c ≡ true
 if_there x true e = refl
 if_there x false e = absurd (cc e)
+
+-- values that are there are one where what holds them is
+pub some_same : {A : Type 0} {a b : A} → Some a ≡ Some b → a ≡ b
+some_same e = cc e
+
+-- no value is none
+pub none_some : {A : Type 0} {a : A} → None ≡ Some a → ⊥
+none_some e = cc e

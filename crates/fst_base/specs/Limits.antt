@@ -28,3 +28,7 @@ most_letters = 1048576
 -- what a norm that is greater is given as
 abbrev pub greatest_norm : ℕ
 greatest_norm = 2 ^ 63
+
+-- how many channels a made module may have
+abbrev pub most_made : ℕ
+most_made = 5000

@@ -1,8 +1,11 @@
-//! What every crate stands on: the limits of the language, and what is said of whatever moves by labels.
+//! What every crate stands on: the limits of the language, digits, and what is said of whatever moves by labels.
 #![tactic(auto)]
 
 mod limits;
+mod text;
 
 pub use limits::{
-    GREATEST_NORM, GREATEST_NUMBER, LONGEST_NAME, MOST_BYTES, MOST_LETTERS, MOST_NESTED, MOST_NODES,
+    GREATEST_NORM, GREATEST_NUMBER, LONGEST_NAME, MOST_BYTES, MOST_LETTERS, MOST_MADE, MOST_NESTED,
+    MOST_NODES,
 };
+pub use text::push_number;

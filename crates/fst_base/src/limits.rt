@@ -18,3 +18,6 @@ pub const MOST_LETTERS: u64 = 1_048_576;
 
 /// What a norm that is greater is given as.
 pub const GREATEST_NORM: u64 = 1 << 63;
+
+/// How many channels a made module may have.
+pub const MOST_MADE: u32 = 5000;

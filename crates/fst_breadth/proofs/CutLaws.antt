@@ -5,7 +5,7 @@ use Rattle.std.proofs.lemmas.List.Elements.{All-head, All-tail, All-cons, All-ni
 use Rattle.fst_words.specs.Marks.{is_marked}
 use Rattle.fst_words.specs.Words.{Productions, rule_of, WordBelow, first_row}
 use Rattle.fst_norms.specs.Pruned.{pruned_word}
-use Rattle.fst_shared.specs.Cut.{cut}
+use Rattle.fst_words.specs.Marks.{cut}
 use Rattle.fst_breadth.specs.State.{pruned_step}
 
 -- pruning a word in front of another is cutting it in front of the pruned other

@@ -6,11 +6,11 @@ use Rattle.std.proofs.lemmas.List.{map-append}
 use Rattle.std.proofs.lemmas.Option.{get_or_from_slice_get, slice_get_within}
 use Rattle.fst_base.proofs.Bools.{pair_eq, same_pair, pair_itself}
 use Rattle.fst_base.proofs.Lists.{get_there, get-front, get-last, length-push}
-use Rattle.fst_shared.specs.Shared.{word_of, Keeps, IsEachOnce}
+use Rattle.fst_shared.specs.Shared.{word_of, Keeps, IsEachOnce, AreKeys}
 use Rattle.fst_shared.specs.declared.handle.SharedPair.{SharedPair}
 use Rattle.fst_breadth.specs.Reached.{ReachedPair}
 use Rattle.fst_breadth.specs.Answer.{pair_of}
-use Rattle.fst_breadth.specs.Tables.{HasPair, Origin, Entry, trace_at, trace_from, reached_of, found_from, IsEntry, AreEntries, AreKeys, key_pair}
+use Rattle.fst_breadth.specs.Tables.{HasPair, Origin, Entry, trace_at, trace_from, reached_of, found_from, IsEntry, AreEntries, key_pair}
 use Rattle.fst_breadth.specs.Following.{Follows}
 use Rattle.fst_breadth.specs.declared.pairs.Followed.{Followed}
 

@@ -1,6 +1,6 @@
 ghost use Rattle.std.specs.Prelude.{◌≡◌, ◌<◌, ◌≤◌, ◌↔◌, ◌++◌, ◌∷◌, [], ◌⊎◌, IfOk, IfSome, IfNone, OnOk, OnErr, IsTrue, Any, length, drop, Some, slice_get, map};
 ghost use Rattle.fst_words.specs.Words.{WordBelow};
-ghost use Rattle.fst_shared.specs.Cut.{cut};
+ghost use Rattle.fst_words.specs.Marks.{cut};
 ghost use Rattle.fst_shared.specs.Shared.{word_of, Keeps};
 ghost use Rattle.fst_breadth.specs.Reached.{ReachedPair};
 ghost use Rattle.fst_breadth.specs.Answer.{pair_of};

@@ -1,12 +1,13 @@
 -- A type moves as the part that moves first.
 use Rattle.std.proofs.Common.{◌≡◌, ◌∙◌, Bool, true, false, Option, Some, None, IsSome, refl, sym, ap, true≢false}
 use Rattle.std.specs.Prelude.{◌&&◌, not, is_some, option_map, if◌then◌else◌}
+use Rattle.fst_base.proofs.Bools.{not_true}
 use Rattle.fst_types.specs.declared.label.Label.{Label}
 use Rattle.fst_types.specs.Tree.{Tree, skip, send, receive, select, offer, seq, rec, back, var, plain, arrow, pair, named}
 use Rattle.fst_lts.specs.Step.{step, terminated}
 use Rattle.fst_lts.specs.Histories.{sending, receiving}
 use Rattle.fst_lts.proofs.Laws.{seq_step, moving, after_sent, after_received}
-use Rattle.fst_value.specs.declared.event.Event.{Event}
+use Rattle.fst_types.specs.declared.event.Event.{Event}
 use Rattle.fst_cell.specs.Heads.{head, with_head, MovesOn, GoesOn}
 
 there_in : (a b : Bool) (x y : Option Tree) → is_some x ≡ not b → is_some y ≡ not a → is_some (if a then x else y) ≡ not (a && b)
@@ -32,10 +33,6 @@ head_there (plain b) = refl
 head_there (arrow u s r) = refl
 head_there (pair s r) = refl
 head_there (named k) = refl
-
-not_true : (b : Bool) → true ≡ not b → b ≡ false
-not_true true e = absurd (true≢false e)
-not_true false e = refl
 
 not_false : (b : Bool) → false ≡ not b → b ≡ true
 not_false true e = refl

@@ -3,7 +3,7 @@ use Rattle.std.proofs.Common.{◌≡◌, ℕ, ◌+◌, ◌*◌, List, [], ◌∷
 use Rattle.atomic_table.specs.Table.{Me}
 use Rattle.fst_types.specs.declared.side.Side.{Side}
 use Rattle.fst_lts.specs.Histories.{last_stamp}
-use Rattle.fst_value.specs.declared.event.Entry.{Entry}
+use Rattle.fst_types.specs.declared.event.Entry.{Entry}
 use Rattle.fst_cell.specs.declared.content.Offer.{Offer}
 use Rattle.fst_cell.specs.declared.content.Standing.{Standing}
 use Rattle.fst_cell.specs.declared.content.Content.{Content}

@@ -11,20 +11,16 @@ use Rattle.fst_types.specs.Tree.{Tree}
 use Rattle.fst_lts.specs.Step.{step}
 use Rattle.fst_lts.specs.Dual.{dual}
 use Rattle.fst_lts.specs.Histories.{sending, receiving, IsInput, after_event, after_history, side_type, opposite}
-use Rattle.fst_lts.proofs.Laws.{dual-dual, is_output, one_direction, sending_output, receiving_output, after_sent, after_received, dual_sends, dual_receives, after_history-dual}
-use Rattle.fst_value.specs.declared.event.Entry.{Entry}
-use Rattle.fst_value.specs.declared.event.Event.{Event}
+use Rattle.fst_lts.proofs.Laws.{is_output, one_direction, sending_output, receiving_output, after_sent, after_received, dual_sends, dual_receives, after_history-dual, dual-dual_option}
+use Rattle.fst_types.specs.declared.event.Entry.{Entry}
+use Rattle.fst_types.specs.declared.event.Event.{Event}
 use Rattle.fst_cell.specs.Residuals.{residual, sends, receives, asks}
-
-twice : (o : Option Tree) → option_map dual (option_map dual o) ≡ o
-twice None = refl
-twice (Some s) = ap Some (dual-dual s)
 
 -- the residual of one end is the dual of that of the other
 residual_opposite : (s : Side) (t : Tree) (h : List Entry) → residual (opposite s) t h ≡ option_map dual (residual s t h)
 unfolding residual
 residual_opposite Left t h = after_history-dual t h
-residual_opposite Right t h = sym (twice (after_history t h)) ∙ ap (option_map dual) (sym (after_history-dual t h))
+residual_opposite Right t h = sym (dual-dual_option (after_history t h)) ∙ ap (option_map dual) (sym (after_history-dual t h))
 
 there : (o : Option Tree) → is_some o ≡ true → (u : Tree) × (o ≡ Some u)
 there None e = absurd (true≢false (sym e))

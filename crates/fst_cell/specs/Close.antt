@@ -3,9 +3,9 @@ use Rattle.std.specs.Prelude.{◌≡◌, ◌==◌, ◌⊎◌, List, [], ◌∷�
 use Rattle.fst_types.specs.declared.side.Side.{Side}
 use Rattle.fst_kinds.specs.WellFormed.{IsSession}
 use Rattle.fst_lts.specs.Histories.{after_history}
-use Rattle.fst_value.specs.declared.event.Event.{Event}
-use Rattle.fst_value.specs.declared.event.Entry.{Entry}
-use Rattle.fst_value.specs.declared.ends.ChannelName.{ChannelName}
+use Rattle.fst_types.specs.declared.event.Event.{Event}
+use Rattle.fst_types.specs.declared.event.Entry.{Entry}
+use Rattle.fst_types.specs.declared.ends.ChannelName.{ChannelName}
 use Rattle.fst_cell.specs.declared.content.Offer.{Offer}
 use Rattle.fst_cell.specs.declared.content.Half.{Half}
 use Rattle.fst_cell.specs.declared.answers.Closed.{Closed}

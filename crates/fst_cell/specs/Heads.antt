@@ -4,7 +4,7 @@ use Rattle.fst_types.specs.declared.label.Label.{Label}
 use Rattle.fst_types.specs.Tree.{Tree, skip, send, receive, select, offer, seq, rec, back, var, plain, arrow, pair, named}
 use Rattle.fst_lts.specs.Step.{step, terminated}
 use Rattle.fst_lts.specs.Histories.{after_event}
-use Rattle.fst_value.specs.declared.event.Event.{Event}
+use Rattle.fst_types.specs.declared.event.Event.{Event}
 
 -- the part that moves first, where the type isn't terminated
 abbrev pub head : Tree → Option Tree

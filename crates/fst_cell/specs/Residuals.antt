@@ -6,8 +6,8 @@ use Rattle.fst_types.specs.declared.side.Side.{Side}
 use Rattle.fst_types.specs.Tree.{Tree}
 use Rattle.fst_lts.specs.Step.{step, labels}
 use Rattle.fst_lts.specs.Histories.{sending, receiving, IsInput, after_history, side_type}
-use Rattle.fst_value.specs.declared.event.Entry.{Entry}
-use Rattle.fst_value.specs.declared.event.Event.{Event}
+use Rattle.fst_types.specs.declared.event.Entry.{Entry}
+use Rattle.fst_types.specs.declared.event.Event.{Event}
 
 -- the residual of an end: the type of its side after the history, where the left end has this one
 unfoldable pub residual : Side → Tree → List Entry → Option Tree

@@ -7,7 +7,7 @@ use Rattle.fst_types.specs.declared.side.Side.TheVariants.{Left, Right}
 use Rattle.fst_types.specs.Tree.{Tree}
 use Rattle.fst_kinds.specs.WellFormed.{IsSession}
 use Rattle.fst_lts.specs.Histories.{after_history, opposite}
-use Rattle.fst_value.specs.declared.event.Entry.{Entry}
+use Rattle.fst_types.specs.declared.event.Entry.{Entry}
 use Rattle.fst_cell.specs.declared.content.Offer.{Offer}
 use Rattle.fst_cell.specs.declared.content.Standing.{Standing}
 use Rattle.fst_cell.specs.declared.content.Content.{Content}

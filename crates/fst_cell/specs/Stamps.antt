@@ -1,7 +1,7 @@
 -- The stamps of a history.
 use Rattle.std.specs.Prelude.{◌≡◌, ℕ, ◌+◌, ◌^◌, ◌<◌, List, [], ◌∷◌, max}
 use Rattle.fst_lts.specs.Histories.{last_stamp}
-use Rattle.fst_value.specs.declared.event.Entry.{Entry}
+use Rattle.fst_types.specs.declared.event.Entry.{Entry}
 
 -- each stamp is 1 more than the greatest of its entry's clocks and of the stamp before it, the first of these is this one; the clocks are below 2^63
 abbrev pub AreStamped : ℕ → List Entry → Type 0

@@ -1,6 +1,5 @@
 use crate::end::End;
-use fst_types::Side;
-use fst_value::{ChannelHistory, Event};
+use fst_types::{ChannelHistory, Event, Side};
 
 /// What an offer leads to: it stands, or another call had the turn, or there was no room.
 #[derive(Drop)]

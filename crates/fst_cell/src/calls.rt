@@ -1,5 +1,5 @@
 ghost use Rattle.std.specs.Prelude.{◌≡◌, ◌^◌, ◌<◌, ◌≤◌, ◌↔◌, ℕ, true, List, Some, None, IfOk, IsSome, IsTrue, length};
-ghost use Rattle.fst_value.specs.declared.event.Event.TheVariants.{Label};
+ghost use Rattle.fst_types.specs.declared.event.Event.TheVariants.{Label};
 ghost use Rattle.fst_cell.specs.Answers.{OfferedAs, TakenAs, NoticedAs};
 ghost use Rattle.fst_cell.specs.End.{end_name, residual_of};
 ghost use Rattle.fst_cell.specs.Residuals.{sends, receives, asks};
@@ -10,8 +10,7 @@ use crate::end::End;
 use crate::events::{next_sent, room};
 use crate::heads::{go_on, head};
 use crate::labels::longest_offered;
-use fst_types::{MOST_OPEN, Ty};
-use fst_value::{EndName, Entry, Event};
+use fst_types::{EndName, Entry, Event, MOST_OPEN, Ty};
 use std::alloc::AllocError;
 
 impl End {

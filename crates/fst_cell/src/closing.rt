@@ -7,7 +7,7 @@ use crate::content::Content;
 use crate::end::End;
 use crate::rule::{Parting, Try};
 use crate::turns::Grip;
-use fst_value::{ChannelHistory, EndName};
+use fst_types::{ChannelHistory, EndName};
 
 /// Gives up the two ends of a channel, for its history and the offer that still stands.
 pub fn close(left: End, right: End) -> Closed

@@ -2,8 +2,7 @@ ghost use Rattle.std.specs.Prelude.{◌≡◌, IsTrue, IsFalse, IsSome, None};
 ghost use Rattle.fst_cell.specs.Rule.{stands_for};
 
 use crate::entries::Entries;
-use fst_types::{Side, Ty};
-use fst_value::Event;
+use fst_types::{Event, Side, Ty};
 
 // An event that is offered, and the clock of the task that offers it.
 #[derive(Drop)]

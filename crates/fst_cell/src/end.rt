@@ -1,6 +1,5 @@
 use crate::turns::Grip;
-use fst_types::Ty;
-use fst_value::EndName;
+use fst_types::{EndName, Ty};
 use std::alloc::Global;
 use std::marker::Model;
 

@@ -1,7 +1,7 @@
 ghost use Rattle.std.specs.Prelude.{◌≡◌, ◌++◌, ◌∷◌, [], OnErr, OnOk};
 ghost use Rattle.fst_lts.specs.Histories.{last_stamp};
 
-use fst_value::Entry;
+use fst_types::Entry;
 use std::alloc::{AllocError, Global};
 use std::marker::Model;
 
@@ -13,7 +13,7 @@ pub(crate) struct Entries {
 
 impl Model for Entries {
     ghost use Rattle.std.specs.Prelude.{List};
-    ghost use Rattle.fst_value.specs.declared.event.Entry.{Entry};
+    ghost use Rattle.fst_types.specs.declared.event.Entry.{Entry};
 
     ghost Value = { List Entry };
 

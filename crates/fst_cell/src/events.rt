@@ -1,40 +1,12 @@
 ghost use Rattle.std.specs.Prelude.{◌≡◌, IfOk, IsSome, Some, true};
 ghost use Rattle.fst_lts.specs.Step.{step};
-ghost use Rattle.fst_lts.specs.Histories.{sending, receiving};
 ghost use Rattle.fst_cell.specs.Heads.{GoesOn, MovesOn};
 ghost use Rattle.fst_cell.specs.Residuals.{sends, receives};
 
 use crate::heads::head;
-use fst_lts::step;
-use fst_types::{Base, Label, MOST_OPEN, Ty};
-use fst_value::Event;
+use fst_lts::{receiving_label, sending_label, step};
+use fst_types::{Event, Label, MOST_OPEN, Ty};
 use std::alloc::{AllocError, Global};
-
-// The label by which an event is sent.
-fn sending_label(alloc: Global, event: &Event) -> Result<Label, AllocError>
-    ensures { IfOk result (λ a. a ≡ sending event.now) }
-{
-    match event {
-        Event::Int(_) => Ok(Label::Send(Base::Int)),
-        Event::Bool(_) => Ok(Label::Send(Base::Bool)),
-        Event::Char(_) => Ok(Label::Send(Base::Char)),
-        Event::Unit => Ok(Label::Send(Base::Unit)),
-        Event::Label(name) => Ok(Label::Select(name.copy(alloc)?)),
-    }
-}
-
-// The label by which it is received.
-fn receiving_label(alloc: Global, event: &Event) -> Result<Label, AllocError>
-    ensures { IfOk result (λ a. a ≡ receiving event.now) }
-{
-    match event {
-        Event::Int(_) => Ok(Label::Receive(Base::Int)),
-        Event::Bool(_) => Ok(Label::Receive(Base::Bool)),
-        Event::Char(_) => Ok(Label::Receive(Base::Char)),
-        Event::Unit => Ok(Label::Receive(Base::Unit)),
-        Event::Label(name) => Ok(Label::Offer(name.copy(alloc)?)),
-    }
-}
 
 // What the part of a residual that moves first leads to by a label by which the residual moves.
 #[tactic(auto, using(crate::proofs::HeadLaws::head_moves, crate::proofs::HeadLaws::head_stays))]

@@ -10,8 +10,7 @@ use crate::rule::Parting;
 use crate::turns::Grip;
 use atomic_table::{Refused, Table};
 use fst_lts::dual;
-use fst_types::{Side, Ty, copy};
-use fst_value::{ChannelName, EndName};
+use fst_types::{ChannelName, EndName, Side, Ty, copy};
 use std::alloc::{AllocError, Global};
 use std::sync::Arc;
 

@@ -1,23 +1,10 @@
--- How high the parts of a term are, and how many.
-use Rattle.std.proofs.Common.{◌≡◌, ℕ, zero, suc, ◌<◌, ◌≤◌, List, [], ◌∷◌, length, get_or, refl, ap, arith}
-use Rattle.fst_terms.specs.CoreTree.{CoreTree, core_height, core_arms_height, cores_height}
+-- How many terms there are in a list.
+use Rattle.std.proofs.Common.{◌≡◌, List, [], ◌∷◌, length, refl, ap, suc}
+use Rattle.fst_terms.specs.CoreTree.{CoreTree}
 use Rattle.fst_terms.specs.InRange.{terms_length}
-use Rattle.fst_terms.specs.ModelCoreView.{core_arms_of, cores_of}
-use Rattle.fst_terms.specs.declared.core_term.Arm.{Arm}
-
--- an argument is no higher than the highest
-pub cores_height_at : (ts : List CoreTree) (i : ℕ) (d : CoreTree) → i < length ts → core_height (get_or ts i d) ≤ cores_height (cores_of ts)
-cores_height_at [] i d h = absurd (omega arith)
-cores_height_at (t ∷ ts) zero d h = omega arith
-cores_height_at (t ∷ ts) (suc i) d h = let h' : i < length ts = omega arith in omega (arith, cores_height_at ts i d h')
+use Rattle.fst_terms.specs.ModelCoreView.{cores_of}
 
 -- as many as in their list
 pub terms_length-cores : (ts : List CoreTree) → terms_length (cores_of ts) ≡ length ts
 terms_length-cores [] = refl
 terms_length-cores (t ∷ ts) = ap suc (terms_length-cores ts)
-
--- an arm is no higher than the highest
-pub arms_height_at : (bs : List Arm) (i : ℕ) (d : Arm) → i < length bs → core_height (get_or bs i d).body ≤ core_arms_height (core_arms_of bs)
-arms_height_at [] i d h = absurd (omega arith)
-arms_height_at (b ∷ bs) zero d h = omega arith
-arms_height_at (b ∷ bs) (suc i) d h = let h' : i < length bs = omega arith in omega (arith, arms_height_at bs i d h')

@@ -2,8 +2,8 @@
 use Rattle.std.proofs.Common.{◌≡◌, ℕ, ◌≤◌, List, [], length, Result, Ok, Err, ap, subst, arith}
 use Rattle.std.specs.Prelude.{IfOk}
 use Rattle.std.specs.declared.alloc.AllocError.{AllocError}
-use Rattle.fst_base.specs.Limits.{most_bytes}
-use Rattle.fst_make.specs.Made.{made_text, most_made}
+use Rattle.fst_base.specs.Limits.{most_bytes, most_made}
+use Rattle.fst_make.specs.Made.{made_text}
 use Rattle.fst_make.proofs.Laws.{made_short}
 use Rattle.fst_options.specs.Words as setting
 use Rattle.fst_command.specs.declared.answer.Answer.{Answer as Written}

@@ -1,17 +1,14 @@
 -- What so many steps of a module come to on one worker is one thing.
-use Rattle.std.proofs.Common.{◌≡◌, ◌∙◌, inl, inr, ℕ, ◌<◌, List, [], ◌∷◌, map, length, Some, refl, sym, ap, subst, arith}
+use Rattle.std.proofs.Common.{◌≡◌, ◌∙◌, inl, inr, ℕ, ◌<◌, List, map, length, Some, refl, sym, ap, subst, arith}
 use Rattle.std.proofs.lemmas.Option.{same_Some}
-use Rattle.fst_types.specs.Tree.{Tree}
+use Rattle.fst_runs.proofs.LeastRuns.{least_runs}
 use Rattle.fst_types.specs.declared.family.Family.{Family}
 use Rattle.fst_terms.specs.CoreTree.{CoreTree}
 use Rattle.fst_terms.specs.declared.core_module.Module.{Module}
 use Rattle.fst_derivations.specs.Deriv.{Deriv}
 use Rattle.fst_derivations.specs.Modules.{HasDerivations}
-use Rattle.fst_machine.specs.Machine.{Program}
-use Rattle.fst_runs.specs.declared.event.CoreEvent.{CoreEvent}
-use Rattle.fst_runs.specs.Configs.{Config, main_body, program, started}
-use Rattle.fst_runs.specs.Events.{Runs, written}
-use Rattle.fst_runs.specs.Least.{RunsLeast}
+use Rattle.fst_runs.specs.Configs.{main_body, program, started}
+use Rattle.fst_runs.specs.Events.{written}
 use Rattle.fst_process.specs.declared.report.Outcome.{Outcome}
 use Rattle.fst_process.specs.declared.report.Outcome.TheVariants.{Done, OutOfSteps}
 use Rattle.fst_process.specs.declared.report.Report.{Report}
@@ -24,11 +21,6 @@ use Rattle.fst_command.specs.Output.{ComesTo, SaysOutcome, outcome_status, outco
 use Rattle.fst_command.proofs.SameParts.{same_back, same_main}
 use Rattle.fst_command.proofs.SameReports.{IsWritten, one_report}
 use Rattle.fst_command.proofs.SameRuns.{answer_same}
-
--- the least run is a run
-least_runs : (m : Program) (types : List Tree) (c : Config) (es : List CoreEvent) (d : Config) → RunsLeast m types c es d → Runs m types c es d
-least_runs m types c [] d r = r
-least_runs m types c (e ∷ es) d r = (r.0, r.1, least_runs m types (written c r.0) es d r.3)
 
 module _ (ends : OneEnd) (shown : List Family → Report → List ℕ) (is_written : IsWritten shown) where
   -- two outcomes are written in one way, for data types with the same parts

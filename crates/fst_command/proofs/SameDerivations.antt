@@ -1,8 +1,8 @@
 -- Derivations of a module are those of each that has the same parts.
 use Rattle.std.proofs.Common.{◌≡◌, ℕ, ◌<◌, true, List, [], ◌∷◌, ◌++◌, map, length, slice_get, Some, refl, sym, ap, subst}
 use Rattle.std.specs.Prelude.{Contains, codes}
-use Rattle.std.specs.List.{AllByRecursion}
 use Rattle.std.specs.Str.{bytes_eq}
+use Rattle.fst_base.proofs.Alls.{all_weaker}
 use Rattle.fst_types.specs.Tree.{Tree, plain}
 use Rattle.fst_types.specs.declared.base.Base.TheVariants.{Bool as Truth}
 use Rattle.fst_types.specs.declared.family.Family.{Family}
@@ -100,10 +100,6 @@ module _ (m n : Module) (s : AreSame m n) where
 pub data SameBinding : Binding → Binding → Type 0 where
   same_fields : {os ps : List Maker} → map maker_parts os ≡ map maker_parts ps → SameBinding (fields os) (fields ps)
   same_rest : {t : Tree} → SameBinding (rest t) (rest t)
-
-all_bound : (P Q : Tree → Type 0) → ((t : Tree) → P t → Q t) → (ts : List Tree) → AllByRecursion P ts → AllByRecursion Q ts
-all_bound P Q f [] h = tt
-all_bound P Q f (t ∷ ts) h = (f t h.0, all_bound P Q f ts h.1)
 
 -- two surroundings with the same parts
 abbrev pub around : List Family → List GlobalEntry → List Tree → List Kind → Surroundings
@@ -211,7 +207,7 @@ module _ (fs gs : List Family) (xs ys : List GlobalEntry) (families : map family
         more,
         binds_same B C b l ts i,
         j,
-        all_bound S.bound T.bound w.bound ts r,
+        all_weaker S.bound T.bound w.bound ts r,
         n,
         over _ _ (row_same e (enter_all vs g)) (under_all vs u) d x,
         p,
@@ -228,7 +224,7 @@ module _ (fs gs : List Family) (xs ys : List GlobalEntry) (families : map family
         more,
         binds_same B C b l ts i,
         j,
-        all_bound S.bound T.bound w.bound ts r,
+        all_weaker S.bound T.bound w.bound ts r,
         n,
         at_type t _ _ (row_same e (enter_all vs g)) (under_all vs u) d x,
         further_same B C b bs g u t more y,

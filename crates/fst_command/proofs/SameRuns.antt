@@ -40,26 +40,48 @@ alike_back m n x = record { pauses = λ s. sym (x.pauses s); answers = λ s a. s
 
 -- the same events are possible, and write the same
 does_same : (m n : Program) → RunAlike m n → (types : List Tree) (c : Config) (e : CoreEvent) (w : Write) → Does m types c e w → Does n types c e w
-does_same m n x types c (Local p) w (t, s, a, g, h) = (t, s, (a.0, ap asked (sym (x.pauses t.state)) ∙ a.1), sym (x.answers t.state _) ∙ g, h)
-does_same m n x types c (New p) w (t, s, k, d, a, i, g, h) = (t, s, k, d, (a.0, ap asked (sym (x.pauses t.state)) ∙ a.1), i, sym (x.answers t.state _) ∙ g, h)
-does_same m n x types c (Fork p) w (t, s, b, a, i, g, h) =
-    (t, s, b, (a.0, ap asked (sym (x.pauses t.state)) ∙ a.1), ap child (sym (x.pauses t.state)) ∙ i, sym (x.answers t.state _) ∙ g, h)
-does_same m n x types c (Meet p q k) w (t, u, y, ev, s, v, l, a, b, i, j, g, h, o) = (
-  t,
-  u,
-  y,
-  ev,
-  s,
-  v,
-  l,
-  (a.0, ap asked (sym (x.pauses t.state)) ∙ a.1),
-  (b.0, ap asked (sym (x.pauses u.state)) ∙ b.1),
-  i,
-  j,
-  sym (x.answers t.state _) ∙ g,
-  sym (x.answers u.state _) ∙ h,
-  o,
-)
+does_same m n x types c (Local p) w d = record {
+  task = d.task;
+  state = d.state;
+  asks = (d.asks.0, ap asked (sym (x.pauses d.task.state)) ∙ d.asks.1);
+  leads = sym (x.answers d.task.state _) ∙ d.leads;
+  writes = d.writes;
+}
+does_same m n x types c (New p) w d = record {
+  task = d.task;
+  state = d.state;
+  number = d.number;
+  declared = d.declared;
+  asks = (d.asks.0, ap asked (sym (x.pauses d.task.state)) ∙ d.asks.1);
+  typed = d.typed;
+  leads = sym (x.answers d.task.state _) ∙ d.leads;
+  writes = d.writes;
+}
+does_same m n x types c (Fork p) w d = record {
+  task = d.task;
+  state = d.state;
+  begun = d.begun;
+  asks = (d.asks.0, ap asked (sym (x.pauses d.task.state)) ∙ d.asks.1);
+  begins = ap child (sym (x.pauses d.task.state)) ∙ d.begins;
+  leads = sym (x.answers d.task.state _) ∙ d.leads;
+  writes = d.writes;
+}
+does_same m n x types c (Meet p q k) w d = record {
+  sender = d.sender;
+  receiver = d.receiver;
+  end = d.end;
+  event = d.event;
+  sent = d.sent;
+  got = d.got;
+  channel = d.channel;
+  puts = (d.puts.0, ap asked (sym (x.pauses d.sender.state)) ∙ d.puts.1);
+  gets = (d.gets.0, ap asked (sym (x.pauses d.receiver.state)) ∙ d.gets.1);
+  named = d.named;
+  there = d.there;
+  sender_leads = sym (x.answers d.sender.state _) ∙ d.sender_leads;
+  receiver_leads = sym (x.answers d.receiver.state _) ∙ d.receiver_leads;
+  writes = d.writes;
+}
 
 module _ (m n : Program) (x : RunAlike m n) (types : List Tree) where
   last_same : (c : Config) → IsLast m types c → IsLast n types c

@@ -1,8 +1,10 @@
 -- What is written of a module that is refused.
-use Rattle.std.specs.Prelude.{ℕ, List, [], ◌++◌, codes, decimal}
+use Rattle.std.specs.Prelude.{ℕ, List, [], ◌++◌, Option, Some, None, codes, decimal}
 use Rattle.fst_kinds.specs.declared.fault.KindFault.{KindFault}
 use Rattle.fst_kinds.specs.declared.fault.KindFault.TheVariants as kind
-use Rattle.fst_type_print.specs.Texts.{counts_text, kinds_text, side_text, type_text, variable_text, word_text}
+use Rattle.fst_type_print.specs.Texts.{counts_text, kinds_text, phrase_text, side_text, type_text, word_text}
+use Rattle.fst_type_print.specs.declared.refusals.Phrase.{Phrase}
+use Rattle.fst_type_print.specs.declared.refusals.Phrase.TheVariants as phrase
 use Rattle.fst_type_print.specs.MoveTexts.{move_text}
 use Rattle.fst_premises.specs.declared.fault.CheckFault.{CheckFault}
 use Rattle.fst_premises.specs.declared.fault.CheckFault.TheVariants.{Mismatch, Unused, UsedTwice, CapturedLinear, NotFunction, TypeArguments, KindOfArgument, NoSuchMove, Branches, NotPrintable, Undecided, Memory, Arms, Dropped, NotPair, Kinds, TooLarge}
@@ -25,13 +27,22 @@ abbrev pub word_behind : Difference → List ℕ
 word_behind Shape = []
 word_behind (Word w side) = codes " word " ++ word_text w.items ++ codes " " ++ side_text side
 
+-- what a fault of kinds is called; want of memory is none
+abbrev pub kind_phrase : KindFault → Option Phrase
+kind_phrase kind.NotContractive = Some phrase.NotContractive
+kind_phrase (kind.WrongKind got wanted) = Some (phrase.WrongKind got wanted)
+kind_phrase (kind.UnboundType k) = Some (phrase.UnboundType k)
+kind_phrase (kind.DoubleLabel l) = Some (phrase.DoubleLabel l)
+kind_phrase kind.Memory = None
+
+-- a refusal at a byte for this, if there is anything
+abbrev pub refused_so : ℕ → Option Phrase → Cause
+refused_so at None = nothing
+refused_so at (Some p) = refused at (phrase_text p)
+
 -- a type that is written at a byte has no kind, or not the one that is wanted
 abbrev pub kind_cause : ℕ → KindFault → Cause
-kind_cause at kind.NotContractive = refused at (codes "not contractive")
-kind_cause at (kind.WrongKind got wanted) = refused at (kinds_text got wanted)
-kind_cause at (kind.UnboundType k) = refused at (codes "unbound type " ++ variable_text k)
-kind_cause at (kind.DoubleLabel l) = refused at (codes "double label " ++ l)
-kind_cause at kind.Memory = nothing
+kind_cause at fault = refused_so at (kind_phrase fault)
 
 -- the cause that a fault is; the names are those of the data types
 abbrev pub cause : List (List ℕ) → CheckFault → Cause

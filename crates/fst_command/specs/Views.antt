@@ -1,13 +1,13 @@
 -- What the code finds, as the definitions see it.
-use Rattle.std.specs.Prelude.{ℕ, List, ⊤}
+use Rattle.std.specs.Prelude.{ℕ, Option, Some, None, List, ⊤}
 use Rattle.std.specs.String.{string_bytes}
 use Rattle.fst_types.specs.declared.family.Family.{Family}
 use Rattle.fst_kinds.specs.declared.fault.KindFault.{KindFault}
-use Rattle.fst_kinds.specs.declared.fault.KindFault.TheVariants as kind
 use Rattle.fst_lexer.specs.declared.token.LexFault.{LexFault}
 use Rattle.fst_lexer.specs.declared.token.LexFault.TheVariants as lexical
 use Rattle.fst_reading.specs.declared.fault.SyntaxFault.{SyntaxFault}
 use Rattle.fst_reading.specs.declared.fault.SyntaxFault.TheVariants as syntax
+use Rattle.fst_type_print.specs.declared.refusals.Phrase.{Phrase}
 use Rattle.fst_type_print.specs.declared.refusals.Phrase.TheVariants as phrase
 use Rattle.fst_type_print.specs.Texts.{phrase_text}
 use Rattle.fst_scopes.specs.declared.fault.NameFault.{NameFault}
@@ -22,7 +22,7 @@ use Rattle.fst_command.specs.declared.refusals.Cause.TheVariants as given
 use Rattle.fst_command.specs.declared.running.Form.{Form}
 use Rattle.fst_command.specs.declared.running.Form.TheVariants as form
 use Rattle.fst_command.specs.CheckTexts as check_texts
-use Rattle.fst_command.specs.CheckTexts.{Cause, undecided}
+use Rattle.fst_command.specs.CheckTexts.{Cause, kind_phrase, undecided}
 use Rattle.fst_command.specs.Finding.{Finding, refused, too_deep, too_large}
 
 -- this holds of what a fault says; want of memory says nothing
@@ -63,13 +63,14 @@ name_fault (naming.TooLarge at) = fault.TooLarge at
 name_fault naming.NoMain = fault.Refused 0 phrase.NoMain
 name_fault naming.Memory = fault.Memory
 
+-- the refusal at a byte for this; where there is nothing, memory is wanting
+abbrev pub refused_at : ℕ → Option Phrase → Fault
+refused_at at None = fault.Memory
+refused_at at (Some p) = fault.Refused at p
+
 -- the fault of a type that is written at a byte and is no session type
 abbrev pub kind_fault : ℕ → KindFault → Fault
-kind_fault at kind.NotContractive = fault.Refused at phrase.NotContractive
-kind_fault at (kind.WrongKind got wanted) = fault.Refused at (phrase.WrongKind got wanted)
-kind_fault at (kind.UnboundType k) = fault.Refused at (phrase.UnboundType k)
-kind_fault at (kind.DoubleLabel l) = fault.Refused at (phrase.DoubleLabel l)
-kind_fault at kind.Memory = fault.Memory
+kind_fault at f = refused_at at (kind_phrase f)
 
 -- a cause as the definitions have it
 abbrev pub cause_of : Given → Cause

@@ -8,6 +8,7 @@ ghost use Rattle.fst_module_grammar.specs.Derives.{AnswersModule};
 ghost use Rattle.fst_command.specs.Finding.{AreAsked, Asks, IsFaultless, IsNoModule, IsNoQuestion, IsRead, KindFinding, QuestionFinding};
 ghost use Rattle.fst_command.specs.Views.{IfFound, kind_fault};
 
+use crate::refusals::kind_phrase;
 use fst_kinds::{KindFault, kind_of, subkind};
 use fst_lexer::{LexFault, lex};
 use fst_names::{NameFault, Question, resolve_question};
@@ -93,12 +94,9 @@ impl From<NameFault> for Fault {
 fn kind_fault(at: u32, fault: KindFault) -> Fault
     ensures { result ≡ kind_fault at fault }
 {
-    match fault {
-        KindFault::NotContractive => Fault::Refused(at, Phrase::NotContractive),
-        KindFault::WrongKind(got, wanted) => Fault::Refused(at, Phrase::WrongKind(got, wanted)),
-        KindFault::UnboundType(k) => Fault::Refused(at, Phrase::UnboundType(k as u64)),
-        KindFault::DoubleLabel(label) => Fault::Refused(at, Phrase::DoubleLabel(label)),
-        KindFault::Memory => Fault::Memory,
+    match kind_phrase(fault) {
+        Some(phrase) => Fault::Refused(at, phrase),
+        None => Fault::Memory,
     }
 }
 

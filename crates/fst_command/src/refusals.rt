@@ -5,13 +5,14 @@ ghost use Rattle.fst_type_print.specs.Texts.{difference_text, family_names};
 ghost use Rattle.fst_typing.specs.Texts.{HaveTexts};
 ghost use Rattle.fst_premises.specs.declared.fault.CheckFault.TheVariants.{Memory};
 ghost use Rattle.fst_command.specs.declared.refusals.Cause.TheVariants.{Refused};
-ghost use Rattle.fst_command.specs.CheckTexts.{cause, cause_status, cause_text, kind_cause, undecided, word_behind};
+ghost use Rattle.fst_command.specs.CheckTexts.{cause, cause_status, cause_text, kind_cause, kind_phrase, undecided, word_behind};
 ghost use Rattle.fst_command.specs.Top.{IsAnswer};
 ghost use Rattle.fst_command.specs.Views.{cause_of};
 
 use crate::answer::Answer;
 use crate::status::Status;
-use crate::texts::{push_decimal, push_place, refused_text, too_large_text};
+use crate::texts::{push_place, refused_text, too_large_text};
+use fst_base::push_number;
 use fst_kinds::KindFault;
 use fst_print::{Phrase, move_text, type_text, word_text};
 use fst_types::{Family, Side};
@@ -39,16 +40,26 @@ fn word_behind(alloc: Global, difference: Difference) -> Result<Option<(String, 
     }
 }
 
+// What a fault of kinds is called, unless it is want of memory.
+pub(crate) fn kind_phrase(fault: KindFault) -> Option<Phrase>
+    ensures { result ≡ kind_phrase fault }
+{
+    match fault {
+        KindFault::NotContractive => Some(Phrase::NotContractive),
+        KindFault::WrongKind(got, wanted) => Some(Phrase::WrongKind(got, wanted)),
+        KindFault::UnboundType(k) => Some(Phrase::UnboundType(k as u64)),
+        KindFault::DoubleLabel(label) => Some(Phrase::DoubleLabel(label)),
+        KindFault::Memory => None,
+    }
+}
+
 // The cause that a fault of kinds is, of a type that begins at this byte.
 fn kind_cause(at: u32, fault: KindFault) -> Result<Cause, AllocError>
     ensures { IfOk result (λ c. cause_of c ≡ kind_cause at fault) }
 {
-    match fault {
-        KindFault::NotContractive => Ok(Cause::Refused(at, Phrase::NotContractive)),
-        KindFault::WrongKind(got, wanted) => Ok(Cause::Refused(at, Phrase::WrongKind(got, wanted))),
-        KindFault::UnboundType(k) => Ok(Cause::Refused(at, Phrase::UnboundType(k as u64))),
-        KindFault::DoubleLabel(label) => Ok(Cause::Refused(at, Phrase::DoubleLabel(label))),
-        KindFault::Memory => Err(AllocError),
+    match kind_phrase(fault) {
+        Some(phrase) => Ok(Cause::Refused(at, phrase)),
+        None => Err(AllocError),
     }
 }
 
@@ -128,7 +139,7 @@ fn undecided_text(
     let mut text = String::from_str(alloc, "undecided ")?;
     push_place(&mut text, bytes, at)?;
     text.push_str(" ")?;
-    push_decimal(&mut text, u64::from(budget))?;
+    push_number(&mut text, u64::from(budget))?;
     text.push_str(" ")?;
     text.push_str(got)?;
     text.push_str(" ~ ")?;

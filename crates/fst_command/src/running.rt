@@ -1,8 +1,7 @@
 ghost use Rattle.std.specs.Prelude.{◌≡◌, ◌≤◌, ◌<◌, [], IfOk, length};
 ghost use Rattle.std.specs.String.{string_bytes};
-ghost use Rattle.fst_base.specs.Limits.{most_bytes};
+ghost use Rattle.fst_base.specs.Limits.{most_bytes, most_made};
 ghost use Rattle.fst_execution.specs.Execution.{IsDerived};
-ghost use Rattle.fst_make.specs.Made.{most_made};
 ghost use Rattle.fst_options.specs.Words.{run};
 ghost use Rattle.fst_report.specs.DeclaredTypes.{AreNamedWithin, AreScoped};
 ghost use Rattle.fst_command.specs.Finding.{AreUnresolved};

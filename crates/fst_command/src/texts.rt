@@ -2,9 +2,9 @@ ghost use Rattle.std.specs.Prelude.{◌≡◌, ◌≤◌, ◌++◌, IfOk, OnOk, 
 ghost use Rattle.fst_base.specs.Limits.{most_bytes};
 ghost use Rattle.fst_command.specs.Texts.{column_of, is_line_feed, line_of, no_text, place_text, refused_text, too_deep_text, too_large_text, undecided_text};
 
+use fst_base::push_number;
 use fst_print::{Phrase, Refusal, refusal_text, side_text, word_text};
 use fst_types::{Label, Side};
-use itoa::Buffer;
 use std::alloc::{AllocError, Global};
 
 /// The line that says that this side alone performs this word.
@@ -19,19 +19,12 @@ pub(crate) fn no_text(alloc: Global, word: &[Label], side: Side) -> Result<Strin
     Ok(text)
 }
 
-pub(crate) fn push_decimal(text: &mut String, n: u64) -> Result<(), AllocError>
-    ensures { OnOk result (string_bytes text.new ≡ string_bytes text.old ++ decimal n) }
-{
-    let mut buffer = Buffer::new();
-    text.push_str(buffer.format(n))
-}
-
 /// The line that says that so many pairs show no difference, that there are more, and that there is no basis within so many.
 pub(crate) fn undecided_text(alloc: Global, budget: u32) -> Result<String, AllocError>
     ensures { IfOk result (λ text. string_bytes text ≡ undecided_text budget) }
 {
     let mut text = String::from_str(alloc, "undecided ")?;
-    push_decimal(&mut text, u64::from(budget))?;
+    push_number(&mut text, u64::from(budget))?;
     text.push_str("\n")?;
     Ok(text)
 }
@@ -104,9 +97,9 @@ pub(crate) fn push_place(out: &mut String, text: &[u8], at: u32) -> Result<(), A
     requires { length text.now ≤ most_bytes }
     ensures { OnOk result (string_bytes out.new ≡ string_bytes out.old ++ place_text text.now at) }
 {
-    push_decimal(out, u64::from(line_of(text, at)))?;
+    push_number(out, u64::from(line_of(text, at)))?;
     out.push_str(":")?;
-    push_decimal(out, u64::from(column_of(text, at)))
+    push_number(out, u64::from(column_of(text, at)))
 }
 
 /// The line that says that the token at this byte is nested too deep.

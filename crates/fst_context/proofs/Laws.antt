@@ -1,7 +1,7 @@
 -- What other crates cite of contexts: one taking after another is a split of the set that was taken; and which sets can be taken.
-use Rattle.std.proofs.Common.{◌≡◌, ◌&&◌, ℕ, Bool, List, false, not}
-use Rattle.fst_context.specs.Scope.{Scope, Variable, is_once, at_or_not, mark, entered, left, begun, ended, without, IsWithin, Takes}
-use Rattle.fst_context.specs.Vars.{Vars, no_vars, under, union, IsSplit, Both}
+use Rattle.std.proofs.Common.{◌≡◌, ◌&&◌, ℕ, zero, suc, Bool, List, [], ◌∷◌, Some, true, false, not, slice_get, refl, ap}
+use Rattle.fst_context.specs.Scope.{Scope, Variable, is_once, at_or_not, linear_at, mark, entered, left, begun, ended, without, IsWithin, Takes}
+use Rattle.fst_context.specs.Vars.{Vars, no_vars, single, under, union, IsSplit, Both}
 use Rattle.fst_context.proofs.Taking as taking
 
 -- two takings after one another are one, in which the set is split
@@ -62,3 +62,14 @@ ended_begun = taking.ended_begun
 -- two sets that leave the same scope are the same
 pub same_used : (u v : Vars) (s : Scope) → IsWithin u s → IsWithin v s → without u s ≡ without v s → u ≡ v
 same_used = taking.same_used
+
+-- whether a variable is linear is told by its use
+pub linear_of : (vs : List Variable) (k : ℕ) (v : Variable) → slice_get vs k ≡ Some v → linear_at vs k ≡ is_once v.uses
+linear_of [] k v h = absurd (cc h)
+linear_of (x ∷ vs) zero v h = let same : x ≡ v = cc in ap (λ (z : Variable). is_once z.uses) same
+linear_of (x ∷ vs) (suc k) v h = linear_of vs k v h
+
+-- the set of one variable has it
+pub single_at : (k : ℕ) → single true k k ≡ true
+single_at zero = refl
+single_at (suc k) = single_at k

@@ -1,7 +1,6 @@
 -- A term that has a derivation has a plain one.
 use Rattle.std.proofs.Common.{◌≡◌, ◌∙◌, ℕ, zero, suc, List, [], ◌∷◌, Some, length, slice_get, refl, sym, ap, subst}
-use Rattle.std.specs.Prelude.{⊤}
-use Rattle.std.specs.List.{AllByRecursion}
+use Rattle.fst_base.proofs.Alls.{all_any}
 use Rattle.fst_types.specs.Tree as type
 use Rattle.fst_types.specs.Tree.{Tree, plain, arrow, named}
 use Rattle.fst_types.specs.declared.base.Base.TheVariants.{Bool as Truth, Unit as Nothing}
@@ -14,10 +13,6 @@ use Rattle.fst_derivations.specs.Parts.{IsFormed, AreVariables, enter_all, under
 use Rattle.fst_derivations.specs.Rules.{Surroundings, Converted, converting, itself, turned, Bare, Compared, comparing, Over, At, Binding, fields, rest, Binds, Row, Fields, Arms, FurtherArms, PlainRow, Derives}
 use Rattle.fst_derivations.proofs.Parts.{plain_formed}
 use Rattle.fst_derivations.specs.Laws.{IsTypeEquality, AllEqual, HasPlain}
-
-all_any : (ts : List Tree) → AllByRecursion (λ (t : Tree). ⊤) ts
-all_any [] = tt
-all_any (t ∷ ts) = (tt, all_any ts)
 
 module _ (m : Surroundings) (E : Tree → Tree → Type 0) (L : IsTypeEquality m.vars E) where
   abbrev Plain : CoreTree → List Variable → Vars → Deriv → Type 0

@@ -18,6 +18,7 @@ use Rattle.fst_types.specs.declared.label.Label.{Label}
 use Rattle.fst_types.specs.declared.label.Label.TheVariants.{Send, Receive, Select, Offer, Var}
 use Rattle.fst_types.proofs.Laws.{variable_has, substitute_scoped, instantiated_scoped}
 use Rattle.fst_lts.specs.Dual.{dual, dual_all}
+use Rattle.fst_lts.proofs.DualKinds.{dual_scoped}
 use Rattle.fst_lts.specs.Step.{terminated, branch_at, step_in, step}
 use Rattle.fst_context.specs.Scope.{Variable}
 use Rattle.fst_derivations.specs.Parts.{AreAt, AreVariables, enter_all}
@@ -77,26 +78,6 @@ instantiated_text n args s a h =
     }
 
 -- ---- the other side
-
-mutual
-  dual_scoped : (n : ℕ) (s : Tree) → IsScoped n s → IsScoped n (dual s)
-  dual_scoped n skip h = tt
-  dual_scoped n (send b) h = tt
-  dual_scoped n (receive b) h = tt
-  dual_scoped n (select bs) h = dual_all_scoped n bs h
-  dual_scoped n (offer bs) h = dual_all_scoped n bs h
-  dual_scoped n (seq s r) h = (dual_scoped n s h.0, dual_scoped n r h.1)
-  dual_scoped n (rec s) h = dual_scoped (suc n) s h
-  dual_scoped n (back k) h = h
-  dual_scoped n (var k) h = tt
-  dual_scoped n (plain b) h = tt
-  dual_scoped n (arrow u s r) h = (dual_scoped n s h.0, dual_scoped n r h.1)
-  dual_scoped n (pair s r) h = (dual_scoped n s h.0, dual_scoped n r h.1)
-  dual_scoped n (named k) h = tt
-
-  dual_all_scoped : (n : ℕ) (bs : Branches) → AllScoped n bs → AllScoped n (dual_all bs)
-  dual_all_scoped n none h = tt
-  dual_all_scoped n (branch l s bs) h = (dual_scoped n s h.0, dual_all_scoped n bs h.1)
 
 mutual
   dual_named : (n : ℕ) (s : Tree) → IsNamedWithin n s → IsNamedWithin n (dual s)

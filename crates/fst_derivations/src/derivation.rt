@@ -1,4 +1,4 @@
-ghost use Rattle.std.specs.Prelude.{◌≡◌, IfOk};
+ghost use Rattle.std.specs.Prelude.{◌≡◌, ◌∷◌, [], IfOk};
 ghost use Rattle.fst_derivations.specs.Deriv.{deriv_of, parts_of, type_of, row, convert, none, one, two, three};
 
 use fst_types::Ty;
@@ -26,6 +26,20 @@ impl Drop for Derivation {
             }
         }
     }
+}
+
+/// The derivations of two parts.
+pub fn two_parts(
+    alloc: Global,
+    first: Derivation,
+    second: Derivation,
+) -> Result<Vec<Derivation>, AllocError>
+    ensures { IfOk result (λ parts. parts.items ≡ first ∷ second ∷ []) }
+{
+    let mut parts = Vec::new(alloc);
+    parts.push(first)?;
+    parts.push(second)?;
+    Ok(parts)
 }
 
 impl Derivation {
@@ -72,10 +86,7 @@ impl Derivation {
     ) -> Result<Derivation, AllocError>
         ensures { IfOk result (λ d. deriv_of d ≡ row ty (two (deriv_of first) (deriv_of second))) }
     {
-        let mut parts = Vec::new(alloc);
-        parts.push(first)?;
-        parts.push(second)?;
-        Ok(Derivation::row(ty, parts))
+        Ok(Derivation::row(ty, two_parts(alloc, first, second)?))
     }
 
     /// A row with three parts.

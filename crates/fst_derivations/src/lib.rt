@@ -4,7 +4,7 @@
 mod derivation;
 mod law;
 
-pub use derivation::Derivation;
+pub use derivation::{Derivation, two_parts};
 pub use law::{
     derivations_law, plain_derivation_law, plain_types_are_unique, plain_types_have_texts,
 };

@@ -8,7 +8,7 @@ use Rattle.fst_terms.specs.declared.core_module.Module.{Module}
 use Rattle.fst_derivations.specs.Deriv.{Deriv}
 use Rattle.fst_derivations.specs.Modules.{HasDerivations}
 use Rattle.fst_value.specs.ValueTree.{ValueTree}
-use Rattle.fst_value.specs.declared.event.ChannelHistory.{ChannelHistory}
+use Rattle.fst_types.specs.declared.event.ChannelHistory.{ChannelHistory}
 use Rattle.fst_machine.specs.Values.{Value}
 use Rattle.fst_machine.specs.declared.code.Code.{Code}
 use Rattle.fst_vm.specs.Tasks.{IsFrom}

@@ -10,7 +10,7 @@ use Rattle.std.proofs.lemmas.Slice.Eq.{bytes_eq-Decides}
 use Rattle.fst_words.specs.Marks.{has_marked, is_marked}
 use Rattle.fst_words.specs.Words.{WordBelow}
 use Rattle.fst_norms.specs.Pruned.{IsPruned, pruned_word}
-use Rattle.fst_shared.specs.Cut.{cut}
+use Rattle.fst_words.specs.Marks.{cut}
 use Rattle.fst_basis.specs.declared.proof.Pair.{Pair}
 use Rattle.fst_basis.specs.declared.proof.Chain.{Chain}
 use Rattle.fst_basis.specs.declared.proof.Rewrite.{Rewrite}

@@ -6,10 +6,10 @@ use Rattle.std.proofs.lemmas.List.{map-append}
 use Rattle.indexmap.specs.IndexSet.{insert_key}
 use Rattle.fst_base.proofs.Bools.{pair_eq, pair_itself, same_pair}
 use Rattle.fst_base.proofs.Lists.{get-push}
-use Rattle.fst_shared.specs.Shared.{IsEachOnce, Keeps}
+use Rattle.fst_shared.specs.Shared.{IsEachOnce, Keeps, AreKeys}
 use Rattle.fst_basis.specs.declared.proof.Pair.{Pair}
 use Rattle.fst_expand.specs.Good.{AreDistinct}
-use Rattle.fst_expand.specs.Table.{Adds, AreKeys, AreKeysOnce, IsNumbered, key_pair}
+use Rattle.fst_expand.specs.Table.{Adds, AreKeysOnce, IsNumbered, key_pair}
 
 keys_keep : (n m : ℕ) → n ≤ m → (keys : List (ℕ × ℕ)) → AreKeys n keys → AreKeys m keys
 keys_keep n m le [] h = tt

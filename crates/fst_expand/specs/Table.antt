@@ -1,6 +1,6 @@
 -- The list of pairs that a table of numbers stands for.
-use Rattle.std.specs.Prelude.{◌≡◌, ℕ, ◌<◌, List, [], ◌∷◌, ◌++◌, Option, Some, None, slice_get, ⊤, ◌⊎◌}
-use Rattle.fst_shared.specs.Shared.{word_of}
+use Rattle.std.specs.Prelude.{◌≡◌, ℕ, List, [], ◌∷◌, ◌++◌, Option, Some, None, slice_get, ◌⊎◌}
+use Rattle.fst_shared.specs.Shared.{word_of, AreKeys}
 use Rattle.fst_basis.specs.declared.proof.Pair.{Pair}
 use Rattle.fst_expand.specs.Good.{IsIn, Each}
 
@@ -12,11 +12,6 @@ pub record Store : Type 0 where
 -- the pair of the words with these numbers
 abbrev pub key_pair : List (List ℕ) → ℕ × ℕ → Pair
 key_pair words k = record { left = word_of words k.0; right = word_of words k.1 }
-
--- the numbers are below n
-abbrev pub AreKeys : ℕ → List (ℕ × ℕ) → Type 0
-AreKeys n [] = ⊤
-AreKeys n (k ∷ keys) = (k.0 < n) × (k.1 < n) × AreKeys n keys
 
 -- the numbers are below n, and no key is twice in the list
 pub record AreKeysOnce (n : ℕ) (keys : List (ℕ × ℕ)) : Type 0 where

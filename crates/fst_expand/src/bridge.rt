@@ -3,7 +3,7 @@
 ghost use Rattle.std.specs.Prelude.{◌≡◌, ◌<◌, ◌≤◌, ◌+◌, ◌++◌, ◌^◌, ◌↔◌, [], IfNone, IfOk, IfSome, IsTrue, OnOk, Some, ℕ, drop, length, slice_index_or, take, true, false};
 ghost use Rattle.fst_words.specs.Marks.{has_marked, is_marked};
 ghost use Rattle.fst_words.specs.Words.{WordBelow};
-ghost use Rattle.fst_shared.specs.Cut.{cut};
+ghost use Rattle.fst_words.specs.Marks.{cut};
 ghost use Rattle.fst_shared.specs.Shared.{Keeps, word_of};
 ghost use Rattle.fst_basis.specs.Rewrites.{chained};
 ghost use Rattle.fst_expand.specs.Bridge.{AreCutOff, AreFit, HaveNoRoom, HaveRoom, IsFront, IsWay, Meet, cutting, growing};

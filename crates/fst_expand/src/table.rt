@@ -3,7 +3,7 @@
 ghost use Rattle.std.specs.Prelude.{◌≡◌, ◌≢◌, ◌<◌, ◌^◌, ◌++◌, [], ◌∷◌, IfNone, IfOk, IfSome, Some, length, slice_get};
 ghost use Rattle.std.specs.Bool.{OnFalse, OnTrue};
 ghost use Rattle.fst_words.specs.Words.{WordBelow};
-ghost use Rattle.fst_shared.specs.Cut.{cut};
+ghost use Rattle.fst_words.specs.Marks.{cut};
 ghost use Rattle.fst_shared.specs.Shared.{Keeps, word_of};
 ghost use Rattle.fst_expand.specs.Cuts.{unless_same};
 ghost use Rattle.fst_expand.specs.Good.{AreDistinct};

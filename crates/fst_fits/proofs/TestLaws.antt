@@ -1,12 +1,13 @@
 -- What the tests of types say.
-use Rattle.std.proofs.Common.{◌≡◌, ◌∙◌, ℕ, suc, ◌<◌, Bool, true, false, ◌&&◌, List, [], ◌∷◌, Option, Some, None, slice_get, refl, sym, ap, subst, nat_lt, nat_eq, arith, ◌++◌, append_assoc, length}
+use Rattle.std.proofs.Common.{◌≡◌, ◌∙◌, ℕ, suc, ◌<◌, Bool, true, false, ◌&&◌, List, [], ◌∷◌, Option, Some, None, slice_get, refl, sym, ap, subst, nat_lt, arith, ◌++◌, append_assoc, length}
 use Rattle.std.specs.Prelude.{if◌then◌else◌, ◌↔◌, ◌≢◌, Result, Ok, Err, option_map, IsTrue}
 use Rattle.std.specs.declared.cmp.Ordering.{Ordering}
 use Rattle.std.specs.declared.cmp.Ordering.TheVariants.{Less, Equal, Greater}
 use Rattle.std.specs.Ordering.{nat_cmp}
 use Rattle.std.specs.Cmp.Lexicographic.{slice_cmp}
 use Rattle.std.proofs.lemmas.Option.{same_Some}
-use base.Stored.{Gv, gnil, gnum, gcons}
+use Rattle.fst_base.proofs.Codes.{code_itself, code_same}
+use Rattle.fst_base.specs.Codes.{same_code}
 use Rattle.fst_types.specs.Tree.{Tree, skip, send, receive, select, offer, seq, rec, back, var, plain, arrow, pair, named, Branches, none, branch}
 use Rattle.fst_types.specs.ModelCode.{code_of, tree_code}
 use Rattle.fst_types.specs.Order.{AreRising, AreSorted, EachChoiceBelow, IsOrdered, IsSorted}
@@ -22,7 +23,7 @@ use Rattle.fst_kinds.specs.WellFormed.{IsWellFormed, IsSession, IsInstance, IsIn
 use Rattle.fst_kinds.specs.declared.fault.KindFault.{KindFault}
 use Rattle.fst_kinds.proofs.Laws.{walk_kinds}
 use Rattle.fst_derivations.specs.Parts.{IsFormed, HasUse, AreAt}
-use Rattle.fst_fits.specs.Tests.{same_code, same_tree, rises, rising, is_ready, are_ready, found_kind, kind_in, has_some, use_in, is_many, is_session, is_of_sessions, is_type, with_first, types_at, is_below, instantiates}
+use Rattle.fst_fits.specs.Tests.{same_tree, rises, rising, is_ready, are_ready, found_kind, kind_in, has_some, use_in, is_many, is_session, is_of_sessions, is_type, with_first, types_at, is_below, instantiates}
 
 -- ---- tests in general
 
@@ -39,28 +40,6 @@ and_both true b h e = e
 and_both false b h e = absurd (cc h)
 
 -- ---- the same type
-
-code_itself : (a : Gv) → same_code a a ≡ true
-code_itself gnil = refl
-code_itself (gnum n) = grind arith
-code_itself (gcons a b) = and_both (same_code a a) (same_code b b) (code_itself a) (code_itself b)
-
-number_same : (m n : ℕ) → nat_eq m n ≡ true → m ≡ n
-number_same m n h = grind arith
-
-code_same : (a b : Gv) → same_code a b ≡ true → a ≡ b
-code_same gnil gnil h = refl
-code_same gnil (gnum n) h = absurd (cc h)
-code_same gnil (gcons a b) h = absurd (cc h)
-code_same (gnum m) gnil h = absurd (cc h)
-code_same (gnum m) (gnum n) h = ap gnum (number_same m n h)
-code_same (gnum m) (gcons a b) h = absurd (cc h)
-code_same (gcons a b) gnil h = absurd (cc h)
-code_same (gcons a b) (gnum n) h = absurd (cc h)
-code_same (gcons a b) (gcons c d) h =
-    let p = code_same a c (and_left (same_code a c) (same_code b d) h) in
-    let q = code_same b d (and_right (same_code a c) (same_code b d) h) in
-    λ i. gcons (p i) (q i)
 
 pub tree_same : (s t : Tree) → same_tree s t ≡ true → s ≡ t
 unfolding same_tree

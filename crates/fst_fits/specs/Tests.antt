@@ -1,10 +1,10 @@
 -- Tests of types: which are the same, which are well formed, and how often their values may be used.
-use Rattle.std.specs.Prelude.{ℕ, suc, Bool, true, false, ◌&&◌, nat_eq, nat_lt, Option, Some, None, Result, Ok, Err, option_map, List, [], ◌∷◌, slice_get, if◌then◌else◌}
+use Rattle.std.specs.Prelude.{ℕ, suc, Bool, true, false, ◌&&◌, nat_lt, Option, Some, None, Result, Ok, Err, option_map, List, [], ◌∷◌, slice_get, if◌then◌else◌}
 use Rattle.std.specs.declared.cmp.Ordering.{Ordering}
 use Rattle.std.specs.declared.cmp.Ordering.TheVariants.{Less, Equal, Greater}
 use Rattle.std.specs.Ordering.{nat_cmp}
 use Rattle.std.specs.Cmp.Lexicographic.{slice_cmp}
-use base.Stored.{Gv, gnil, gnum, gcons}
+use Rattle.fst_base.specs.Codes.{same_code}
 use Rattle.fst_types.specs.Tree.{Tree, skip, send, receive, select, offer, seq, rec, back, var, plain, arrow, pair, named, Branches, none, branch}
 use Rattle.fst_types.specs.ModelCode.{code_of}
 use Rattle.fst_types.specs.Instance.{instantiated}
@@ -24,18 +24,6 @@ use Rattle.fst_lts.specs.Dual.{dual}
 use Rattle.fst_terms.specs.declared.global.GlobalEntry.{GlobalEntry}
 use Rattle.fst_terms.specs.declared.term.Op.{Op}
 use Rattle.fst_terms.specs.declared.term.Op.TheVariants.{Add, Subtract, Multiply, Equal as Same, Unequal, Less as Below, AtMost, Greater as Above, AtLeast, And, Or}
-
--- whether two codes are one
-abbrev pub same_code : Gv → Gv → Bool
-same_code gnil gnil = true
-same_code gnil (gnum n) = false
-same_code gnil (gcons a b) = false
-same_code (gnum m) gnil = false
-same_code (gnum m) (gnum n) = nat_eq m n
-same_code (gnum m) (gcons a b) = false
-same_code (gcons a b) gnil = false
-same_code (gcons a b) (gnum n) = false
-same_code (gcons a b) (gcons c d) = same_code a c && same_code b d
 
 -- whether two types are one tree
 unfoldable pub same_tree : Tree → Tree → Bool

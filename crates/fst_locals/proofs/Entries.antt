@@ -10,7 +10,7 @@ use Rattle.std.specs.declared.vec.Vec.{Vec}
 use Rattle.std.specs.declared.alloc.Global.{Global}
 use Rattle.indexmap.specs.IndexMap.{insert_entry}
 use Rattle.indexmap.specs.Layout.{set_value_at}
-use Rattle.fst_base.proofs.Bools.{same_text}
+use Rattle.fst_base.proofs.Bools.{same_text, text_itself}
 use Rattle.fst_terms.specs.Naming.{place_of}
 use Rattle.fst_locals.specs.Levels.{Entries, names, found}
 
@@ -40,9 +40,6 @@ in_turn false d x y r apart = refl
 in_front : {A : Type 0} (c : Bool) (w v r : A) → (if c then w else r) ≡ (if c then w else if c then v else r)
 in_front true w v r = refl
 in_front false w v r = refl
-
-pub itself : (x : List ℕ) → bytes_eq x x ≡ true
-itself x = (bytes_eq-Decides x x).1 refl
 
 -- texts that differ aren't both one text
 apart : (x y z : List ℕ) → bytes_eq x y ≡ false → bytes_eq z y ≡ true → bytes_eq z x ≡ true → ⊥
@@ -85,7 +82,7 @@ module _ (eq : Vec ℕ Global → Vec ℕ Global → Bool) (says : (a b : Vec �
       by false rest = next_kept (bytes_eq x e.0.items) (place_of (names es) x) (place_of (names (insert_entry eq es key w)) x) rest k h
 
   pub place_new : (es : Entries) → place_of (names (insert_entry eq es key w)) key.items ≡ Some (position_or_len (eq key) (keys_of es))
-  place_new [] = ap (λ c. if c then Some 0 else None) (itself key.items)
+  place_new [] = ap (λ c. if c then Some 0 else None) (text_itself key.items)
   place_new (e ∷ es) = by (eq key e.0) (sym (says key e.0)) (place_new es)
     where
       by : (b : Bool) → bytes_eq key.items e.0.items ≡ b → place_of (names (insert_entry eq es key w)) key.items ≡ Some (position_or_len (eq key) (keys_of es)) →

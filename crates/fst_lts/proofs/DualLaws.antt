@@ -161,6 +161,11 @@ after_dual : (w : List Label) (o p : Option Tree) →
 after_dual w o None h e = ap (option_and_then (λ s. residual step s (map dual_label w))) e
 after_dual w o (Some s) h e = ap (option_and_then (λ s. residual step s (map dual_label w))) e ∙ h s
 
+-- the same where there may be no type
+pub dual-dual_option : (o : Option Tree) → option_map dual (option_map dual o) ≡ o
+dual-dual_option None = refl
+dual-dual_option (Some s) = ap Some (dual-dual s)
+
 -- what is left of the dual after the dual trace
 pub residual-dual : (w : List Label) (s : Tree) → residual step (dual s) (map dual_label w) ≡ option_map dual (residual step s w)
 residual-dual [] s = refl

@@ -15,9 +15,9 @@ use Rattle.fst_lts.proofs.LabelLaws.{labels_are_moves}
 use Rattle.fst_lts.proofs.ResidualLaws.{terminated_unlabelled}
 use Rattle.fst_base.proofs.Lists.{from_contains, contains_none}
 use Rattle.std.proofs.lemmas.Option.{none-some}
-use Rattle.fst_value.specs.declared.event.Entry.{Entry}
-use Rattle.fst_value.specs.declared.event.Event.{Event}
-use Rattle.fst_value.specs.declared.event.Event.TheVariants.{Int, Bool as Truth, Char, Unit as Nothing, Label as Branch}
+use Rattle.fst_types.specs.declared.event.Entry.{Entry}
+use Rattle.fst_types.specs.declared.event.Event.{Event}
+use Rattle.fst_types.specs.declared.event.Event.TheVariants.{Int, Bool as Truth, Char, Unit as Nothing, Label as Branch}
 
 -- the moves of a type: none, one message, the branches of one choice, or one variable
 data Front : Type 0 where

@@ -17,7 +17,7 @@ use Rattle.fst_lts.proofs.MoveLaws as moved
 use Rattle.fst_lts.proofs.ResidualLaws as left
 use Rattle.fst_lts.proofs.AgreementLaws as agreement
 -- the dual of the dual is the type itself, and so it is for labels
-pub use Rattle.fst_lts.proofs.DualLaws.{dual-dual, dual_label-dual_label}
+pub use Rattle.fst_lts.proofs.DualLaws.{dual-dual, dual-dual_option, dual_label-dual_label}
 -- what the dual leaves after the dual trace is the dual of what the type leaves after the trace
 pub use Rattle.fst_lts.proofs.DualLaws.{residual-dual}
 -- outputs, and that a type moves by outputs alone or by none; what is sent is an output, what is received is none

@@ -3,6 +3,7 @@ pub mod LabelLaws
 pub mod OrderLaws
 pub mod DepthLaws
 pub mod DualLaws
+pub mod DualKinds
 pub mod GuardLaws
 pub mod MoveLaws
 pub mod ResidualLaws

@@ -9,9 +9,9 @@ use Rattle.fst_types.specs.declared.side.Side.TheVariants.{Left, Right}
 use Rattle.fst_base.specs.Agreement.{residual}
 use Rattle.fst_lts.specs.Step.{step}
 use Rattle.fst_lts.specs.Dual.{dual}
-use Rattle.fst_value.specs.declared.event.Event.{Event}
-use Rattle.fst_value.specs.declared.event.Event.TheVariants.{Int, Bool, Char, Unit, Label as Branch}
-use Rattle.fst_value.specs.declared.event.Entry.{Entry}
+use Rattle.fst_types.specs.declared.event.Event.{Event}
+use Rattle.fst_types.specs.declared.event.Event.TheVariants.{Int, Bool, Char, Unit, Label as Branch}
+use Rattle.fst_types.specs.declared.event.Entry.{Entry}
 
 -- the label by which a type moves where the event is sent
 abbrev pub sending : Event → Label

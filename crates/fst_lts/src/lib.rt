@@ -3,6 +3,7 @@
 
 mod depth;
 mod duality;
+mod events;
 mod fault;
 mod law;
 mod limited;
@@ -10,6 +11,7 @@ mod moves;
 
 pub use depth::agree_to;
 pub use duality::{dual, dual_label};
+pub use events::{receiving_label, sending_label};
 pub use fault::StepFault;
 pub use law::{agreement_law, depth_law, dual_law, moves_law, unfolding_law};
 pub use limited::step_within_limit;

@@ -4,9 +4,9 @@ use Rattle.std.proofs.lemmas.Bool.{or_left, or_right}
 use Rattle.fst_terms.specs.CoreTree.{CoreTree, CoreArms, global, apply, new, send, receive, select, match_with, fork}
 use Rattle.fst_value.specs.ValueTree as tree
 use Rattle.fst_value.specs.ValueTree.{ValueTree}
-use Rattle.fst_value.specs.declared.ends.EndName.{EndName}
-use Rattle.fst_value.specs.declared.event.Event.{Event}
-use Rattle.fst_value.specs.declared.event.Event.TheVariants.{Label}
+use Rattle.fst_types.specs.declared.ends.EndName.{EndName}
+use Rattle.fst_types.specs.declared.event.Event.{Event}
+use Rattle.fst_types.specs.declared.event.Event.TheVariants.{Label}
 use Rattle.fst_machine.specs.declared.request.Request.TheVariants.{Put}
 use Rattle.fst_machine.specs.declared.request.Answer.TheVariants.{Sent}
 use Rattle.fst_machine.specs.declared.code.Instr.TheVariants as instr

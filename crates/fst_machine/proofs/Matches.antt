@@ -10,8 +10,8 @@ use Rattle.fst_terms.specs.declared.binder.Binder.{Binder}
 use Rattle.fst_terms.specs.CoreTree.{CoreTree, CoreArms, no_arms, arm}
 use Rattle.fst_value.specs.ValueTree as tree
 use Rattle.fst_value.specs.ValueTree.{ValueTree}
-use Rattle.fst_value.specs.declared.ends.EndName.{EndName}
-use Rattle.fst_value.specs.declared.event.Event.TheVariants as event
+use Rattle.fst_types.specs.declared.ends.EndName.{EndName}
+use Rattle.fst_types.specs.declared.event.Event.TheVariants as event
 use Rattle.fst_machine.specs.declared.request.Answer.TheVariants.{Got}
 use Rattle.fst_machine.specs.declared.code.Instr.TheVariants as instr
 use Rattle.fst_machine.specs.Free.{free, free_below, outside, outside_all}

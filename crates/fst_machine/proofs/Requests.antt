@@ -4,9 +4,9 @@ use Rattle.std.proofs.lemmas.Option.{none-some, same_Some}
 use Rattle.fst_terms.specs.CoreTree.{CoreTree}
 use Rattle.fst_value.specs.ValueTree as tree
 use Rattle.fst_value.specs.ValueTree.{ValueTree, ValueTrees}
-use Rattle.fst_value.specs.declared.ends.EndName.{EndName}
-use Rattle.fst_value.specs.declared.event.Event.{Event}
-use Rattle.fst_value.specs.declared.event.Event.TheVariants as event
+use Rattle.fst_types.specs.declared.ends.EndName.{EndName}
+use Rattle.fst_types.specs.declared.event.Event.{Event}
+use Rattle.fst_types.specs.declared.event.Event.TheVariants as event
 use Rattle.fst_machine.specs.declared.request.Request.TheVariants.{Put}
 use Rattle.fst_machine.specs.declared.request.Answer.{Answer}
 use Rattle.fst_machine.specs.declared.request.Answer.TheVariants.{Go, Made, Forked, Sent, Got}

@@ -5,7 +5,7 @@ use Rattle.fst_terms.specs.InRange.{maker_of, HasFields}
 use Rattle.fst_machine.specs.Free.{free, outside}
 use Rattle.fst_value.specs.ValueTree as tree
 use Rattle.fst_value.specs.ValueTree.{ValueTree, ValueTrees}
-use Rattle.fst_value.specs.declared.ends.EndName.{EndName}
+use Rattle.fst_types.specs.declared.ends.EndName.{EndName}
 use Rattle.fst_machine.specs.Values.{Value, Values, Environment, bool_in, count}
 use Rattle.fst_machine.specs.Machine.{Pause, on, on_function, on_pair, on_made, on_end}
 use Rattle.fst_machine.specs.Code.{Compiled}

@@ -1,4 +1,4 @@
-use fst_value::{ChannelName, EndName, Event};
+use fst_types::{ChannelName, EndName, Event};
 
 /// What a task asks for next.
 #[derive(Drop)]

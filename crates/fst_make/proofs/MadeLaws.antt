@@ -3,8 +3,8 @@ use Rattle.std.proofs.Common.{◌≡◌, ◌∙◌, ℕ, ◌+◌, ◌-◌, ◌*�
 use Rattle.std.specs.Prelude.{OnOk, zero, codes, decimal}
 use Rattle.std.specs.List.{flat_map, range_with_len}
 use Rattle.std.proofs.lemmas.Fmt.{length-decimal-le}
-use Rattle.fst_base.specs.Limits.{most_bytes}
-use Rattle.fst_make.specs.Made.{call_text, channel_lines, fork_text, last_lines, main_lines, made_text, most_made, receiver, receiver_equation, receiver_lines, receiver_type, sender, sender_lines}
+use Rattle.fst_base.specs.Limits.{most_bytes, most_made}
+use Rattle.fst_make.specs.Made.{call_text, channel_lines, fork_text, last_lines, main_lines, made_text, receiver, receiver_equation, receiver_lines, receiver_type, sender, sender_lines}
 
 -- ---- what is written
 

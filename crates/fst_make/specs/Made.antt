@@ -2,10 +2,6 @@
 use Rattle.std.specs.Prelude.{ℕ, ◌+◌, List, ◌++◌, codes, decimal}
 use Rattle.std.specs.List.{flat_map, range_with_len}
 
--- how many channels a made module may have
-abbrev pub most_made : ℕ
-most_made = 5000
-
 -- the name of the function that sends i
 abbrev pub sender : ℕ → List ℕ
 sender i = codes "p" ++ decimal i

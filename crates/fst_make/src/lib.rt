@@ -3,4 +3,4 @@
 
 mod making;
 
-pub use making::{MOST_MADE, make};
+pub use making::make;

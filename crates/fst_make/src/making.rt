@@ -1,19 +1,10 @@
 ghost use Rattle.std.specs.Prelude.{◌≡◌, ◌≤◌, ◌++◌, IfOk, OnOk, codes, decimal};
 ghost use Rattle.std.specs.String.{string_bytes};
-ghost use Rattle.fst_make.specs.Made.{call_text, channel_lines, fork_text, last_lines, made_text, most_made, receiver, receiver_equation, receiver_lines, receiver_type, sender, sender_lines};
+ghost use Rattle.fst_base.specs.Limits.{most_made};
+ghost use Rattle.fst_make.specs.Made.{call_text, channel_lines, fork_text, last_lines, made_text, receiver, receiver_equation, receiver_lines, receiver_type, sender, sender_lines};
 
-use itoa::Buffer;
+use fst_base::push_number;
 use std::alloc::{AllocError, Global};
-
-/// The most channels that a made module has.
-pub const MOST_MADE: u32 = 5000;
-
-fn push_number(text: &mut String, n: u32) -> Result<(), AllocError>
-    ensures { OnOk result (string_bytes text.new ≡ string_bytes text.old ++ decimal n) }
-{
-    let mut buffer = Buffer::new();
-    text.push_str(buffer.format(n))
-}
 
 fn push_sender(text: &mut String, i: u32) -> Result<(), AllocError>
     ensures { OnOk result (string_bytes text.new ≡ string_bytes text.old ++ sender i) }

@@ -4,9 +4,9 @@ use Rattle.std.specs.Prelude.{option_map, option_and_then, slice_get, if◌then�
 use Rattle.std.specs.List.{AllByRecursion, IsDistinct}
 use Rattle.std.specs.Str.{bytes_eq}
 use Rattle.std.proofs.lemmas.Map.Keys.{IsDistinct-head, IsDistinct-tail}
-use Rattle.std.proofs.lemmas.Slice.Eq.{bytes_eq-Decides}
 use Rattle.std.proofs.lemmas.List.Sums.{sum_by-cons}
-use Rattle.fst_base.proofs.Bools.{same_text, same_bool}
+use Rattle.fst_scopes.proofs.TwiceLaws.{is_new}
+use Rattle.fst_base.proofs.Bools.{same_text, same_bool, text_itself}
 use Rattle.fst_terms.specs.declared.binder.Binder.{Binder}
 use Rattle.fst_terms.specs.Naming.{place_of, is_there}
 use Rattle.fst_scopes.specs.Faults.{is_among}
@@ -16,15 +16,11 @@ use Rattle.fst_scopes.proofs.Laws.{none_named}
 
 -- ---- names among others
 
--- a text passes the test with itself
-itself : (x : List ℕ) → bytes_eq x x ≡ true
-itself x = (bytes_eq-Decides x x).1 refl
-
 -- and the test goes both ways
 turned : (x y : List ℕ) → bytes_eq x y ≡ bytes_eq y x
 turned x y = same_bool (bytes_eq x y) (bytes_eq y x)
-    (λ e. subst (λ z. bytes_eq z x ≡ true) (same_text x y e) (itself x))
-    (λ e. subst (λ z. bytes_eq z y ≡ true) (same_text y x e) (itself y))
+    (λ e. subst (λ z. bytes_eq z x ≡ true) (same_text x y e) (text_itself x))
+    (λ e. subst (λ z. bytes_eq z y ≡ true) (same_text y x e) (text_itself y))
 
 -- a name is among some others and one in front where it is that one
 pub among_here : (y : List ℕ) (ys : List (List ℕ)) (x : List ℕ) → bytes_eq x y ≡ true → is_among (y ∷ ys) x ≡ true
@@ -83,11 +79,6 @@ own_next y ys v vs x e = ap (λ c. option_and_then (λ k. slice_get (v ∷ vs) k
 
 -- ---- names that stand once
 
--- a name that isn't told to stand twice is new
-is_new : (c : Bool) (b : Binder) → twice_if c b ≡ [] → c ≡ false
-is_new true b e = absurd (cc e)
-is_new false b e = refl
-
 -- a name in front isn't any of those behind, where these don't stand twice
 apart : (front : List (List ℕ)) (bs : List Binder) (x : List ℕ) → twice_after front bs ≡ [] → is_among front x ≡ true → AllByRecursion (λ y. bytes_eq x y ≡ false) (names bs)
 apart front [] x e h = tt
@@ -104,7 +95,7 @@ unfolding IsDistinct
 once_after front [] e = tt
 once_after front (b ∷ bs) e =
     let rest = (none_named (twice_if (is_among front b.name) b) (twice_after (front ++ b.name ∷ []) bs) e).1 in
-    (apart (front ++ b.name ∷ []) bs b.name rest (among_right front (b.name ∷ []) b.name (among_here b.name [] b.name (itself b.name))), once_after (front ++ b.name ∷ []) bs rest)
+    (apart (front ++ b.name ∷ []) bs b.name rest (among_right front (b.name ∷ []) b.name (among_here b.name [] b.name (text_itself b.name))), once_after (front ++ b.name ∷ []) bs rest)
 
 -- names of which none stands twice
 pub once : (bs : List Binder) → twice bs ≡ [] → IsDistinct bytes_eq (names bs)

@@ -1,15 +1,16 @@
 -- What aliases that lie on no loop stand for, as they are looked at one after another.
 use Rattle.std.proofs.Common.{◌≡◌, ◌∙◌, ◌⊎◌, inl, inr, ℕ, zero, suc, ◌<◌, ◌≤◌, Bool, true, false, List, [], ◌∷◌, ◌++◌, length, get_or, set, take, replicate, Option, Some, None, Bor, refl, sym, ap, subst, arith}
-use Rattle.std.specs.Prelude.{◌==◌, ◌≢◌, Contains, IsSome, option_map, option_and_then, option_to_list, unwrap_or, slice_get, if◌then◌else◌}
+use Rattle.std.specs.Prelude.{◌==◌, ◌≢◌, Contains, IsSome, option_map, option_and_then, unwrap_or, slice_get, if◌then◌else◌}
 use Rattle.std.specs.List.{IsDistinct}
 use Rattle.std.specs.Str.{bytes_eq}
 use Rattle.std.proofs.Math.Seq.{take-suc}
 use Rattle.std.proofs.lemmas.Bool.Decides.{Decides-eqb}
 use Rattle.std.proofs.lemmas.List.{get_or-set_same, get_or-set_other, length-map, length-replicate, length-set, take_all}
-use Rattle.std.proofs.lemmas.List.Elements.{All-from_recursion, Contains-append_left, Contains-append_right, Contains-append_cases}
+use Rattle.std.proofs.lemmas.List.Elements.{All-from_recursion, Contains-append_cases}
 use Rattle.std.proofs.lemmas.Map.Keys.{IsDistinct-head, IsDistinct-tail}
-use Rattle.std.proofs.lemmas.Option.{get_or_from_slice_get, slice_get-map, unwrap_or-slice_get}
+use Rattle.std.proofs.lemmas.Option.{get_or_from_slice_get, slice_get-map}
 use Rattle.std.proofs.lemmas.Slice.Eq.{bytes_eq-Decides}
+use Rattle.fst_scopes.proofs.OrderLaws.{place_among, stands_at}
 use Rattle.fst_base.proofs.Bools.{same_text}
 use Rattle.fst_base.proofs.Lists.{contains_none, from_contains}
 use Rattle.fst_loops.specs.Graphs.{edges, IsOrder}
@@ -19,7 +20,7 @@ use Rattle.fst_types.specs.WrittenTree.{WrittenTree}
 use Rattle.fst_types.specs.declared.written.Written.{Written}
 use Rattle.fst_terms.specs.Naming.{place_of, type_of}
 use Rattle.fst_scopes.specs.Aliases.{names_in}
-use Rattle.fst_scopes.specs.Graph.{alias_scope, entry_edges, entry_tree, final_trees, graph_of, places_in, tree_after, trees_after}
+use Rattle.fst_scopes.specs.Graph.{alias_scope, entry_edges, entry_tree, final_trees, graph_of, tree_after, trees_after}
 use Rattle.fst_scopes.specs.Scopes.{declared_in, entry_decl, standing_in}
 use Rattle.fst_scopes.specs.TypeNames.{TypeDecl, data_type, other_name, scope_with, standing_for}
 use Rattle.fst_scopes.specs.declared.types.TypeEntry.{TypeEntry}
@@ -44,16 +45,6 @@ place_once (x ∷ xs) once (suc k) low =
     other : (c : Bool) → bytes_eq (get_or xs k []) x ≡ c → c ≡ false
     other true is = absurd (cc (sym apart ∙ (bytes_eq-Decides x (get_or xs k [])).1 (sym (same_text (get_or xs k []) x is))))
     other false is = refl
-
--- the place of a name in a list is among its places
-place_among : (names xs : List (List ℕ)) (y : List ℕ) (k : ℕ) → Contains xs y → place_of names y ≡ Some k → Contains (places_in names xs) k
-place_among names [] y k c is = absurd (contains_none y c)
-place_among names (x ∷ xs) y k c is = pick (from_contains xs y x c) (λ d. place_among names xs y k d is)
-  where
-    pick : (x ≡ y) ⊎ Contains xs y → (Contains xs y → Contains (places_in names xs) k) → Contains (places_in names (x ∷ xs)) k
-    pick (inl same) rest =
-        Contains-append_left (option_to_list (place_of names x)) (places_in names xs) k (subst (λ o. Contains (option_to_list o) k) (sym (ap (place_of names) same ∙ is)) (0, omega arith, refl))
-    pick (inr d) rest = Contains-append_right (option_to_list (place_of names x)) (places_in names xs) k (rest d)
 
 -- what is in a list with one more is in the list, or is that one
 by_last : (xs : List ℕ) (x y : ℕ) → Contains (xs ++ x ∷ []) y → Contains xs y ⊎ (x ≡ y)
@@ -94,10 +85,6 @@ module _ (declared : List ℕ → Option TypeDecl) (aliases : List ℕ → Optio
 module _ (types : TypeNames) where
   abbrev entry_at : ℕ → Option TypeEntry
   entry_at k = slice_get types.entries.items k
-
-  -- what stands at the place of a name
-  stands_at : (trees : List (Option Tree)) (y : List ℕ) (k : ℕ) → place_of types.names y ≡ Some k → standing_in types trees y ≡ get_or trees k None
-  stands_at trees y k is = ap (λ o. unwrap_or (option_and_then (λ k. slice_get trees k) o) None) is ∙ unwrap_or-slice_get trees k None
 
   -- an alias has a place and an entry there
   pub record HasEntry (y : List ℕ) : Type 0 where

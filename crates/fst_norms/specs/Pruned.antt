@@ -1,6 +1,6 @@
 -- The largest unnormed set, and words cut behind the first of them (Almeida, Mordido, Vasconcelos, TACAS 2020).
-use Rattle.std.specs.Prelude.{◌≡◌, ℕ, ◌<◌, List, [], ◌∷◌, length, Bool, true, if◌then◌else◌}
-use Rattle.fst_words.specs.Marks.{is_marked, IsUnnormedSet}
+use Rattle.std.specs.Prelude.{◌≡◌, ℕ, ◌<◌, List, [], length, Bool, true}
+use Rattle.fst_words.specs.Marks.{cut, is_marked, IsUnnormedSet}
 use Rattle.fst_words.specs.Words.{Productions}
 
 -- the marks are those of the largest unnormed set, one for each non-terminal
@@ -11,8 +11,7 @@ pub record AreUnnormed (rows : Productions) (marks : List Bool) : Type 0 where
 
 -- the word up to its first marked non-terminal
 abbrev pub pruned_word : List Bool → List ℕ → List ℕ
-pruned_word marks [] = []
-pruned_word marks (n ∷ w) = n ∷ (if is_marked marks n then [] else pruned_word marks w)
+pruned_word marks w = cut marks w []
 
 -- nothing stands behind the word's first marked non-terminal
 abbrev pub IsPruned : List Bool → List ℕ → Type 0

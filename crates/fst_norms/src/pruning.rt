@@ -6,19 +6,17 @@ ghost use Rattle.fst_words.specs.Marks.{is_marked, IsUnnormedSet};
 ghost use Rattle.fst_norms.specs.Pruned.{pruned_word, AreUnnormed, IsPruned};
 
 use crate::rounds::norms;
-use fst_words::{Grammar, Word};
+use fst_words::{Grammar, Word, first_marked};
 use std::alloc::{AllocError, Global};
 
 fn pruned_len(word: &[u32], unnormed: &[bool]) -> usize
     requires { WordBelow (length unnormed.now) word.now }
     ensures { take result word.now ≡ pruned_word unnormed.now word.now }
 {
-    for (i, n) in word.iter().enumerate() {
-        if unnormed[*n as usize] {
-            return i + 1;
-        }
+    match first_marked(unnormed, word) {
+        Some(at) => at + 1,
+        None => word.len(),
     }
-    word.len()
 }
 
 /// Cuts all that stands behind the word's first unnormed non-terminal, since no letter leads there.

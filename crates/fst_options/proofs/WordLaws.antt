@@ -7,7 +7,7 @@ use Rattle.std.specs.Char.{is_ascii_digit}
 use Rattle.std.specs.Str.Parse.{ParsesUnsigned, digits_value}
 use Rattle.std.proofs.lemmas.List.{append-nil, append_cancel_left}
 use Rattle.std.proofs.lemmas.Str.Parse.{IsNumeralModel, numerals_by_value, parse_gives, digits_value_short}
-use Rattle.fst_make.specs.Made.{most_made}
+use Rattle.fst_base.specs.Limits.{most_made}
 use Rattle.fst_options.specs.declared.words.Given.{Given}
 use Rattle.fst_options.specs.declared.words.Setting.{Setting as Set}
 use Rattle.fst_options.specs.declared.words.Setting.TheVariants.{Budget, Steps, Workers}

@@ -3,7 +3,7 @@ use Rattle.std.specs.Prelude.{◌≡◌, ◌⊎◌, ℕ, zero, suc, ◌≤◌, L
 use Rattle.std.specs.List.{list_all}
 use Rattle.std.specs.Char.{is_ascii_digit}
 use Rattle.std.specs.Str.Parse.{digits_value}
-use Rattle.fst_make.specs.Made.{most_made}
+use Rattle.fst_base.specs.Limits.{most_made}
 use Rattle.fst_options.specs.declared.words.Setting.{Setting as Set}
 use Rattle.fst_options.specs.declared.words.Setting.TheVariants.{Budget, Steps, Workers}
 use Rattle.fst_options.specs.declared.words.Given.{Given}

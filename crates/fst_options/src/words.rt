@@ -1,13 +1,13 @@
 ghost use Rattle.std.specs.Prelude.{◌≡◌, ◌++◌, ◌∷◌, [], ℕ, List, MatchOption, codes, map, string_bytes};
 ghost use Rattle.std.specs.List.{list_all};
 ghost use Rattle.std.specs.Char.{is_ascii_digit};
-ghost use Rattle.fst_make.specs.Made.{most_made};
+ghost use Rattle.fst_base.specs.Limits.{most_made};
 ghost use Rattle.fst_options.specs.declared.words.Given.{Given as Gives};
 ghost use Rattle.fst_options.specs.declared.words.Setting.{Setting as Set};
 ghost use Rattle.fst_options.specs.Words.{AreOptions, Begins, Give, IsCommand, IsNumber, IsOneNumber, IsOption, IsValue, NoCommand, Sets, give, setting_of, value_in};
 ghost use Rattle.fst_options.specs.Views.{command_of};
 
-use fst_make::MOST_MADE;
+use fst_base::MOST_MADE;
 
 /// How many pairs a question may have where no word says it.
 pub const DEFAULT_BUDGET: u32 = 1000;

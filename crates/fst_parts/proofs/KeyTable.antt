@@ -1,27 +1,19 @@
 -- What a table over indexmap finds, in the list of keys that it stands for.
-use Rattle.std.proofs.Common.{◌≡◌, ◌∙◌, ◌+◌, ◌<◌, ◌≤◌, refl, sym, ap, subst, arith, ℕ, suc, List, [], ◌∷◌, ◌++◌, length, map, get_or, Bool, true, false, cond, not, ◌||◌, Some, None}
+use Rattle.std.proofs.Common.{◌≡◌, ◌∙◌, ◌+◌, ◌≤◌, refl, sym, ap, subst, arith, ℕ, suc, List, [], ◌∷◌, ◌++◌, length, map, get_or, Bool, true, false, cond, not, ◌||◌, Some, None}
 use Rattle.std.specs.Prelude.{if◌then◌else◌, nat_lt, slice_get, option_map}
 use Rattle.std.proofs.lemmas.Option.{slice_get-map, get_or_from_slice_get}
 use Rattle.std.specs.List.{position, position_or_len, list_any}
 use Rattle.std.specs.Str.{bytes_eq}
-use Rattle.std.proofs.lemmas.Bool.{ltb-true, ltb-false, lt-ltb}
+use Rattle.std.proofs.lemmas.Bool.{ltb-false, lt-ltb}
 use Rattle.std.proofs.lemmas.List.{map-append, length-map}
 use Rattle.std.specs.Map.{keys_of}
 use Rattle.std.specs.declared.vec.Vec.{Vec}
 use Rattle.std.specs.declared.alloc.Global.{Global}
 use Rattle.indexmap.specs.IndexMap.{insert_entry}
+use Rattle.fst_base.proofs.Bools.{next_less}
 use Rattle.fst_parts.specs.Keys.{place, with_key}
 use Rattle.fst_parts.specs.Kept.{items_of}
 use Rattle.fst_parts.proofs.KeyLaws.{place_within}
-
-next_less : (m n : ℕ) → nat_lt (1 + m) (suc n) ≡ nat_lt m n
-next_less m n = pick (nat_lt (1 + m) (suc n)) refl (nat_lt m n) refl
-  where
-    pick : (b : Bool) → nat_lt (1 + m) (suc n) ≡ b → (c : Bool) → nat_lt m n ≡ c → b ≡ c
-    pick true e true f = refl
-    pick true e false f = let lt : 1 + m < suc n = ltb-true (1 + m) (suc n) e in sym (lt-ltb m n (omega arith)) ∙ f
-    pick false e true f = let lt : m < n = ltb-true m n f in sym e ∙ lt-ltb (1 + m) (suc n) (omega arith)
-    pick false e false f = refl
 
 module _ (test : Vec ℕ Global → Bool) (key : List ℕ) (says : (k : Vec ℕ Global) → test k ≡ bytes_eq key k.items) where
   -- the place that the table finds

@@ -16,7 +16,7 @@ use Rattle.fst_context.specs.Scope.{Scope}
 use Rattle.fst_derivations.specs.Deriv.{Deriv, none, row, type_of}
 use Rattle.fst_derivations.specs.Parts.{IsFormed}
 use Rattle.fst_premises.specs.Checks.{Check, IsInSize, IsPlainBy, IsTypedAlone}
-use Rattle.fst_premises.proofs.Duals.{dual_formed}
+use Rattle.fst_lts.proofs.DualKinds.{dual_formed}
 use Rattle.fst_premises.proofs.Formed.{closed_formed, pair_of_formed}
 use Rattle.fst_context.proofs.Laws.{takes_none}
 

@@ -1,7 +1,6 @@
 pub mod Laws
 mod Arguments
 mod Channels
-mod Duals
 mod Entering
 mod Formed
 mod GlobalUses

@@ -11,7 +11,7 @@ ghost use Rattle.fst_type_print.specs.Texts.{in_parens_if, joined_text};
 use crate::ranks::{is_no_atom, is_no_chain, is_no_head, is_no_left, is_no_right, op_text};
 use crate::stack::{Piece, Stack, push, push_enclosed, push_term, push_text};
 use fst_terms::{Binder, Op, SourceArm, SourceTerm};
-use fst_type_print::{arrow_text, name_text, push_seq};
+use fst_type_print::{arrow_text, push_seq};
 use fst_types::{Name, Use, Written};
 use std::alloc::AllocError;
 
@@ -40,7 +40,7 @@ pub(crate) fn unfold_make<'a>(
     ensures same { Unfolds result text.old text.new stack.old stack.new (term_text (tree.make 0 name.now (terms_of arguments.now))) }
     ensures less { Lightens result stack.old stack.new (term_weight (tree.make 0 name.now (terms_of arguments.now))) }
 {
-    text.push_str(name_text(name))?;
+    text.push_str(name.as_str())?;
     push(stack, Piece::Arguments(arguments))
 }
 
@@ -56,7 +56,7 @@ pub(crate) fn unfold_lambda<'a>(
     ensures less { Lightens result stack.old stack.new (term_weight (tree.lambda 0 uses from.now binder.now body.now)) }
 {
     text.push_str("\\")?;
-    text.push_str(name_text(&binder.name))?;
+    text.push_str(binder.name.as_str())?;
     text.push_str(":")?;
     push_seq(text, from)?;
     text.push_str(arrow_text(uses))?;
@@ -74,7 +74,7 @@ pub(crate) fn unfold_let<'a>(
     ensures less { Lightens result stack.old stack.new (term_weight (tree.let_in 0 binder.now first.now second.now)) }
 {
     text.push_str("let ")?;
-    text.push_str(name_text(&binder.name))?;
+    text.push_str(binder.name.as_str())?;
     text.push_str(" = ")?;
     push_term(stack, second)?;
     push_text(stack, " in ")?;
@@ -93,9 +93,9 @@ pub(crate) fn unfold_split<'a>(
     ensures less { Lightens result stack.old stack.new (term_weight (tree.split 0 left.now right.now first.now second.now)) }
 {
     text.push_str("let (")?;
-    text.push_str(name_text(&left.name))?;
+    text.push_str(left.name.as_str())?;
     text.push_str(", ")?;
-    text.push_str(name_text(&right.name))?;
+    text.push_str(right.name.as_str())?;
     text.push_str(") = ")?;
     push_term(stack, second)?;
     push_text(stack, " in ")?;
@@ -165,7 +165,7 @@ pub(crate) fn unfold_select<'a>(
     ensures less { Lightens result stack.old stack.new (term_weight (tree.select 0 label.now channel.now)) }
 {
     text.push_str("select ")?;
-    text.push_str(name_text(label))?;
+    text.push_str(label.as_str())?;
     text.push_str(" ")?;
     push_enclosed(stack, channel, is_no_atom(channel))
 }

@@ -1,6 +1,6 @@
 ghost use Rattle.std.specs.Prelude.{◌∷◌, codes};
 ghost use Rattle.fst_terms.specs.ModelView.{arms_of, terms_of};
-ghost use Rattle.fst_type_print.specs.Adds.{Adds};
+ghost use Rattle.fst_base.specs.Gains.{Gains};
 ghost use Rattle.fst_print.specs.Unfolds.{Lightens, Unfolds};
 ghost use Rattle.fst_print.specs.ModuleTexts.{arguments_text, arm_texts, term_text};
 ghost use Rattle.fst_print.specs.Stack.{arms_weight, piece_text, piece_weight, term_weight, terms_weight};
@@ -13,8 +13,8 @@ use crate::forms::{
 };
 use crate::ranks::{is_no_atom, is_no_negation};
 use crate::stack::{Piece, Stack, pop, push, push_enclosed, push_term};
+use fst_base::push_number;
 use fst_terms::{SourceArm, SourceForm, SourceTerm};
-use fst_type_print::{name_text, push_number};
 use fst_value::{push_quoted, truth_text};
 use std::alloc::{AllocError, Global};
 
@@ -77,7 +77,7 @@ fn unfold_arm<'a>(
     ensures same { Unfolds result text.old text.new stack.old stack.new (joined_text (codes ", ") (arm_texts (arms_of (arm.now ∷ others.now)))) }
     ensures less { Lightens result stack.old stack.new (arms_weight (arms_of (arm.now ∷ others.now))) }
 {
-    text.push_str(name_text(&arm.label.name))?;
+    text.push_str(arm.label.name.as_str())?;
     push_names(text, &arm.binders)?;
     text.push_str(" -> ")?;
     push(stack, Piece::LaterArms(others))?;
@@ -130,13 +130,13 @@ fn unfold_piece<'a>(
     }
 }
 
-/// Adds the text of a term. What is still to be written stands on a stack in memory, so a term may be very deep.
+/// Gains the text of a term. What is still to be written stands on a stack in memory, so a term may be very deep.
 pub(crate) fn push_term_text(
     alloc: Global,
     text: &mut String,
     t: &SourceTerm,
 ) -> Result<(), AllocError>
-    ensures { Adds result text.old text.new (term_text t.now) }
+    ensures { Gains result text.old text.new (term_text t.now) }
 {
     let mut stack = Vec::new(alloc);
     push_term(&mut stack, t)?;

@@ -1,17 +1,18 @@
 -- A task is taken out after another one was put in, or before it.
 use Rattle.std.proofs.Common.{◌≡◌, ◌∙◌, ℕ, Bool, true, false, Option, Some, None, refl, sym, ap}
 use Rattle.std.specs.Prelude.{option_map, option_and_then, nat_lt, if◌then◌else◌}
+use Rattle.fst_base.proofs.Options.{none_some}
 use Rattle.fst_types.specs.declared.side.Side.{Side}
 use Rattle.fst_types.specs.declared.side.Side.TheVariants.{Left, Right}
-use Rattle.fst_value.specs.declared.ends.ChannelName.{ChannelName}
-use Rattle.fst_value.specs.declared.ends.EndName.{EndName}
-use Rattle.fst_value.specs.declared.event.Entry.{Entry}
+use Rattle.fst_types.specs.declared.ends.ChannelName.{ChannelName}
+use Rattle.fst_types.specs.declared.ends.EndName.{EndName}
+use Rattle.fst_types.specs.declared.event.Entry.{Entry}
 use Rattle.fst_machine.specs.declared.request.Request.{Request}
 use Rattle.fst_machine.specs.declared.request.Request.TheVariants.{Step, New, Fork, Put, Get, Ended}
 use Rattle.fst_runs.specs.Configs.{Path, same_path}
 use Rattle.fst_runs.proofs.NameLaws.{same_path-same}
 use Rattle.fst_process.specs.Kept.{Slot, Channel, Kept, asker_at, asker, partner, end_of, put_at, without, changed, marked, marked_both, able, asking, noted, settled_at, passed}
-use Rattle.fst_process.proofs.PathLaws.{none_some, apart_channels}
+use Rattle.fst_process.proofs.PathLaws.{apart_channels}
 use Rattle.fst_process.proofs.Places.{put_cases, channel_cases}
 use Rattle.fst_process.proofs.KeptLaws.{noted_tasks}
 

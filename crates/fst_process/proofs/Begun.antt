@@ -1,9 +1,10 @@
 -- What is kept at first; and that a task that isn't there has made no channel.
 use Rattle.std.proofs.Common.{◌≡◌, ◌∙◌, ℕ, zero, suc, Some, None, [], refl, sym, ap, arith}
 use Rattle.std.specs.Prelude.{length, option_map}
+use Rattle.fst_base.proofs.Options.{none_some}
 use Rattle.fst_terms.specs.CoreTree.{CoreTree}
 use Rattle.fst_terms.specs.declared.core_module.Module.{Module}
-use Rattle.fst_value.specs.declared.ends.ChannelName.{ChannelName}
+use Rattle.fst_types.specs.declared.ends.ChannelName.{ChannelName}
 use Rattle.fst_machine.specs.declared.code.Code.{Code}
 use Rattle.fst_machine.specs.Machine.{begins}
 use Rattle.fst_vm.specs.Tasks.{IsFrom}
@@ -11,7 +12,6 @@ use Rattle.fst_runs.specs.Configs as runs
 use Rattle.fst_runs.specs.Configs.{Path, Config, Task, main_path, new_task, started, channel_name}
 use Rattle.fst_process.specs.Kept.{Slot, Kept, nothing, settled}
 use Rattle.fst_process.specs.Reflects.{Reflects, bare}
-use Rattle.fst_process.proofs.PathLaws.{none_some}
 use Rattle.fst_process.proofs.Fewer.{Fine}
 use Rattle.fst_process.proofs.Going.{IsOf, comes_in}
 

@@ -4,6 +4,7 @@ use Rattle.std.specs.Prelude.{option_map, option_and_then, is_some, length, not,
 use Rattle.std.specs.Option.{option_or}
 use Rattle.std.specs.Map.{lookup}
 use Rattle.std.proofs.lemmas.Bool.{false≢true}
+use Rattle.fst_base.proofs.Options.{some_same, none_some}
 use Rattle.fst_machine.specs.declared.code.Code.{Code}
 use Rattle.fst_machine.specs.declared.request.Request.{Request}
 use Rattle.fst_machine.specs.declared.request.Answer.{Answer}
@@ -17,7 +18,6 @@ use Rattle.fst_process.specs.Kept.{Slot, Kept, has_ended, is_live, put_at, unabl
 use Rattle.fst_process.specs.KeptOf.{at_path, Slots, slot_of, slot_in, slot_of_ended, ended_in, tasks_in, kept_in, kept_besides, kept_of}
 use Rattle.fst_process.specs.Firing.{MovesOn, HasGoneOn}
 use Rattle.fst_process.specs.Nexts.{event_with, event_of}
-use Rattle.fst_process.proofs.PathLaws.{some_same, none_some}
 use Rattle.fst_process.proofs.KeptLaws.{settled_after}
 use Rattle.fst_process.proofs.Noting.{put_twice, put_back, noted_in, noted_again}
 

@@ -1,18 +1,19 @@
 -- Which tasks ask at the ends of channels after one is changed.
 use Rattle.std.proofs.Common.{◌≡◌, ◌∙◌, ◌⊎◌, inl, inr, ℕ, Bool, true, false, Option, Some, None, refl, sym, ap}
 use Rattle.std.specs.Prelude.{option_map, option_and_then, is_some}
+use Rattle.fst_base.proofs.Options.{some_same, none_some}
 use Rattle.fst_types.specs.declared.side.Side.{Side}
 use Rattle.fst_types.specs.declared.side.Side.TheVariants.{Left, Right}
 use Rattle.fst_lts.specs.Histories.{opposite}
-use Rattle.fst_value.specs.declared.ends.ChannelName.{ChannelName}
-use Rattle.fst_value.specs.declared.ends.EndName.{EndName}
+use Rattle.fst_types.specs.declared.ends.ChannelName.{ChannelName}
+use Rattle.fst_types.specs.declared.ends.EndName.{EndName}
 use Rattle.fst_machine.specs.declared.request.Request.{Request}
 use Rattle.fst_machine.specs.declared.request.Request.TheVariants.{Step, New, Fork, Put, Get, Ended}
 use Rattle.fst_runs.specs.Configs as runs
-use Rattle.fst_runs.specs.Configs.{Path, same_channel, other}
+use Rattle.fst_runs.specs.Configs.{Path, other}
 use Rattle.fst_process.specs.Kept.{Channel, Kept, asker_at, with_asker, asker, end_of, partner, moves_with, changed}
 use Rattle.fst_process.specs.Reflects.{bare}
-use Rattle.fst_process.proofs.PathLaws.{some_same, none_some, one_of_both, apart_channels}
+use Rattle.fst_process.proofs.PathLaws.{one_of_both, apart_channels}
 use Rattle.fst_process.proofs.Places.{channel_cases, channel_here}
 
 -- what asks at an end moves where its partner is there

@@ -1,9 +1,10 @@
 -- When tasks that ask at ends fit; and that they do where some of them are taken away.
 use Rattle.std.proofs.Common.{◌≡◌, ◌∙◌, Some, None, refl, sym, ap}
+use Rattle.fst_base.proofs.Options.{none_some}
 use Rattle.fst_terms.specs.declared.core_module.Module.{Module}
-use Rattle.fst_value.specs.declared.ends.ChannelName.{ChannelName}
-use Rattle.fst_value.specs.declared.ends.EndName.{EndName}
-use Rattle.fst_value.specs.declared.event.Event.{Event}
+use Rattle.fst_types.specs.declared.ends.ChannelName.{ChannelName}
+use Rattle.fst_types.specs.declared.ends.EndName.{EndName}
+use Rattle.fst_types.specs.declared.event.Event.{Event}
 use Rattle.fst_machine.specs.declared.request.Request.{Request}
 use Rattle.fst_machine.specs.declared.request.Request.TheVariants.{Put, Get}
 use Rattle.fst_machine.specs.declared.request.Answer.TheVariants.{Sent, Got}
@@ -11,7 +12,6 @@ use Rattle.fst_machine.specs.Machine.{State, answered}
 use Rattle.fst_runs.specs.Configs.{Path, Config, Task, Channel, other, program}
 use Rattle.fst_runs.specs.Events.{Asks}
 use Rattle.fst_runs.specs.Wrong.{end_of}
-use Rattle.fst_process.proofs.PathLaws.{none_some}
 use Rattle.fst_process.proofs.Places.{put_cases}
 use Rattle.fst_process.proofs.Taking.{show}
 

@@ -19,20 +19,20 @@ use Rattle.fst_process.proofs.Rights.{right_fine, right_alive}
 use Rattle.fst_process.proofs.Stepping.{its_task, can_go_on, is_of, settles_gone, settled_types, next_clock, clock_few}
 
 -- the task is there after the step
-step_there : (m : Module) (c : Config) (p : Path) (w : Write) → (f : Does (program m) m.types.items c (Local p) w) → (written c w).tasks p ≡ Some (moved f.0 f.1)
-step_there m c p w f = ap (λ z. z.tasks p) (local_puts (program m) m.types.items c p w f) ∙ put_there c p (moved f.0 f.1)
+step_there : (m : Module) (c : Config) (p : Path) (w : Write) → (f : Does (program m) m.types.items c (Local p) w) → (written c w).tasks p ≡ Some (moved f.task f.state)
+step_there m c p w f = ap (λ z. z.tasks p) (local_puts (program m) m.types.items c p w f) ∙ put_there c p (moved f.task f.state)
 
 step_alive : (m : Module) (c : Config) (p : Path) (w : Write) → IsRight (program m) (written c w) → (f : Does (program m) m.types.items c (Local p) w) →
-    pause m.families.items f.1 ≡ stuck → ⊥
-step_alive m c p w right f = right_alive m (written c w) p (moved f.0 f.1) right (step_there m c p w f)
+    pause m.families.items f.state ≡ stuck → ⊥
+step_alive m c p w right f = right_alive m (written c w) p (moved f.task f.state) right (step_there m c p w f)
 
 module _ (k : Code) (d : Kept) (p : Path) where
   -- the task can go on
   pub local_can : IsPossible k d (Local p) → CanGoOn k d p Go
   local_can x =
-      let f = is_kept x.source k d p (d.tasks p) (x.before.tasks p) x.does.0 (x.reflects.tasks p) x.does.2.0 in
-      let a = x.right_after.asks p (moved x.does.0 x.does.1) (step_there x.source x.before p x.write x.does) in
-      can_go_on x.source k d p f.0 x.does.0 x.reflects.from f.2 Go x.does.1 x.does.3 (step_alive x.source x.before p x.write x.right_after x.does) d f.1
+      let f = is_kept x.source k d p (d.tasks p) (x.before.tasks p) x.does.task (x.reflects.tasks p) x.does.asks.0 in
+      let a = x.right_after.asks p (moved x.does.task x.does.state) (step_there x.source x.before p x.write x.does) in
+      can_go_on x.source k d p f.0 x.does.task x.reflects.from f.2 Go x.does.state x.does.leads (step_alive x.source x.before p x.write x.right_after x.does) d f.1
       (moves_ready x.source k x.events d x.before x.reflects p (Local p) x.write refl x.does) (clock_few k d p f.0 (Local p) f.1 x) (λ z. absurd (cc z)) a.0 a.1
 
   -- what is kept after a step is the configuration after it
@@ -41,9 +41,9 @@ module _ (k : Code) (d : Kept) (p : Path) where
       let s = g.slot in
       let v = g.moves_on.task in
       let l = max (suc s.clock) zero in
-      let i = its_task m k n d c p s f.0 r g.there f.2.0 in
+      let i = its_task m k n d c p s f.task r g.there f.asks.0 in
       let z = settles_gone k p Go zero d e g i.path in
-      let o = is_of m k d p s f.0 r.from i Go f.1 f.3 (step_alive m c p w right f) v l (without p d) e f.0.made (suc f.0.clock) f.0.forked g.moves_on.goes_on z
-      (next_clock s.clock f.0.clock i.clock) refl in
+      let o = is_of m k d p s f.task r.from i Go f.state f.leads (step_alive m c p w right f) v l (without p d) e f.task.made (suc f.task.clock) f.task.forked g.moves_on.goes_on z
+      (next_clock s.clock f.task.clock i.clock) refl in
       subst (λ y. Reflects m k (suc n) y (written c w)) (sym (settled_types m k v l (without p d) e r.from z))
       (local_goes m k n d c p w z.slot r f o (right_fine m (written c w) right))

@@ -1,26 +1,26 @@
 -- Two tasks meet.
 use Rattle.std.proofs.Common.{◌≡◌, ◌∙◌, inl, inr, ◌<◌, ℕ, suc, max, true, Some, refl, sym, ap, subst, arith}
 use Rattle.std.specs.Prelude.{length}
+use Rattle.fst_base.proofs.Options.{some_same}
 use Rattle.fst_lts.specs.Histories.{last_stamp}
 use Rattle.fst_terms.specs.declared.core_module.Module.{Module}
-use Rattle.fst_value.specs.declared.ends.ChannelName.{ChannelName}
-use Rattle.fst_value.specs.declared.ends.EndName.{EndName}
-use Rattle.fst_value.specs.declared.event.Event.{Event}
-use Rattle.fst_value.specs.declared.event.Entry.{Entry}
+use Rattle.fst_types.specs.declared.ends.ChannelName.{ChannelName}
+use Rattle.fst_types.specs.declared.ends.EndName.{EndName}
+use Rattle.fst_types.specs.declared.event.Event.{Event}
+use Rattle.fst_types.specs.declared.event.Entry.{Entry}
 use Rattle.fst_machine.specs.declared.code.Code.{Code}
 use Rattle.fst_machine.specs.declared.request.Request.TheVariants as request
 use Rattle.fst_machine.specs.declared.request.Answer.TheVariants.{Sent, Got}
 use Rattle.fst_machine.specs.Machine.{stuck, pause, answered}
 use Rattle.fst_runs.specs.declared.event.CoreEvent.TheVariants.{Meet}
 use Rattle.fst_runs.specs.Configs.{Path, Config, Task, other, program}
-use Rattle.fst_runs.specs.Events.{Write, Does, written, meeting_stamp, extended}
+use Rattle.fst_runs.specs.Events.{Write, Does, written, meeting_stamp, extended, has_met, passed as passed_entry}
 use Rattle.fst_runs.specs.Wrong.{IsRight}
 use Rattle.fst_runs.proofs.Naming.{asks_apart}
-use Rattle.fst_runs.proofs.Updates.{with_task, with_channel, has_met, passed as passed_entry, meet_puts, put_there, stays_apart}
+use Rattle.fst_runs.proofs.Updates.{with_task, with_channel, meet_puts, put_there, stays_apart}
 use Rattle.fst_process.specs.Kept.{Slot, Channel, Kept, is_live, end_of, partner, without, changed, passed, settled_at, settled}
 use Rattle.fst_process.specs.Reflects.{IsTask, Reflects}
 use Rattle.fst_process.specs.Firing.{IsPossible, Happens, CanGoOn, HasGoneOn}
-use Rattle.fst_process.proofs.PathLaws.{some_same}
 use Rattle.fst_process.proofs.Apart.{settled_apart, asks_elsewhere, rest_there, rest_ready}
 use Rattle.fst_process.proofs.Ends.{there_bare}
 use Rattle.fst_process.proofs.Moving.{moves_ready}
@@ -33,21 +33,21 @@ put_event x y ev ew e = cc e
 
 module _ (m : Module) (c : Config) (p q : Path) (h : ChannelName) (w : Write) (f : Does (program m) m.types.items c (Meet p q h) w) where
   abbrev stamp : ℕ
-  stamp = meeting_stamp f.0 f.1 f.6
+  stamp = meeting_stamp f.sender f.receiver f.channel
 
   -- the two tasks are different ones
   differ : p ≡ q → ⊥
-  differ = asks_apart (program m) c p q f.0 f.1 f.2 (other f.2) f.3 f.7 f.8
+  differ = asks_apart (program m) c p q f.sender f.receiver f.end (other f.end) f.event f.puts f.gets
 
   -- the task that sends, and the one that receives, after it
   abbrev sender : Task
-  sender = has_met f.0 f.4 stamp
+  sender = has_met f.sender f.sent stamp
 
   abbrev receiver : Task
-  receiver = has_met f.1 f.5 stamp
+  receiver = has_met f.receiver f.got stamp
 
   abbrev half : Config
-  half = with_task (with_channel c h (extended f.6 (passed_entry f.3 f.0 f.1 f.6))) p sender
+  half = with_task (with_channel c h (extended f.channel (passed_entry f.event f.sender f.receiver f.channel))) p sender
 
   puts : written c w ≡ with_task half q receiver
   puts = meet_puts (program m) m.types.items c p q h w f
@@ -56,16 +56,16 @@ module _ (m : Module) (c : Config) (p q : Path) (h : ChannelName) (w : Write) (f
   sender_there =
       ap (λ z. z.tasks p) puts
       ∙ stays_apart half q p receiver (λ z. differ (sym z))
-      ∙ put_there (with_channel c h (extended f.6 (passed_entry f.3 f.0 f.1 f.6))) p sender
+      ∙ put_there (with_channel c h (extended f.channel (passed_entry f.event f.sender f.receiver f.channel))) p sender
 
   receiver_there : (written c w).tasks q ≡ Some receiver
   receiver_there = ap (λ z. z.tasks q) puts ∙ put_there half q receiver
 
   module _ (right : IsRight (program m) (written c w)) where
-    sender_alive : pause m.families.items f.4 ≡ stuck → ⊥
+    sender_alive : pause m.families.items f.sent ≡ stuck → ⊥
     sender_alive = right_alive m (written c w) p sender right sender_there
 
-    receiver_alive : pause m.families.items f.5 ≡ stuck → ⊥
+    receiver_alive : pause m.families.items f.got ≡ stuck → ⊥
     receiver_alive = right_alive m (written c w) q receiver right receiver_there
 
 -- a stamp is over the clocks of both tasks
@@ -78,11 +78,11 @@ stamp_second i a b c l e f = omega (arith, e, f)
 module _ (k : Code) (d : Kept) (p q : Path) (h : ChannelName) where
   -- the task that sends is kept as one that has not ended
   pub sender_kept : IsPossible k d (Meet p q h) → is_live (d.tasks p) ≡ true
-  sender_kept x = there_live x.source k x.events d x.before p x.does.0 (request.Put x.does.2 x.does.3) x.reflects x.does.7 refl
+  sender_kept x = there_live x.source k x.events d x.before p x.does.sender (request.Put x.does.end x.does.event) x.reflects x.does.puts refl
 
   -- and so is the one that receives
   pub receiver_kept : IsPossible k d (Meet p q h) → is_live (d.tasks q) ≡ true
-  receiver_kept x = there_live x.source k x.events d x.before q x.does.1 (request.Get (other x.does.2)) x.reflects x.does.8 refl
+  receiver_kept x = there_live x.source k x.events d x.before q x.does.receiver (request.Get (other x.does.end)) x.reflects x.does.gets refl
 
   -- the last stamp of the channel is in bounds
   pub stamps_few : (j : Channel) → d.channels h ≡ Some j → IsPossible k d (Meet p q h) → last_stamp j.history < 4294967296
@@ -92,25 +92,25 @@ module _ (k : Code) (d : Kept) (p q : Path) (h : ChannelName) where
       omega (arith, l, f)
 
   module _ (s o : Slot) (there : d.tasks p ≡ Some s) (there' : d.tasks q ≡ Some o) where
-    sender_is : (m : Module) (n : ℕ) (c : Config) (w : Write) → Reflects m k n d c → (f : Does (program m) m.types.items c (Meet p q h) w) → IsTask m k d p s f.0
-    sender_is m n c w r f = its_task m k n d c p s f.0 r there f.7.0
+    sender_is : (m : Module) (n : ℕ) (c : Config) (w : Write) → Reflects m k n d c → (f : Does (program m) m.types.items c (Meet p q h) w) → IsTask m k d p s f.sender
+    sender_is m n c w r f = its_task m k n d c p s f.sender r there f.puts.0
 
-    receiver_is : (m : Module) (n : ℕ) (c : Config) (w : Write) → Reflects m k n d c → (f : Does (program m) m.types.items c (Meet p q h) w) → IsTask m k d q o f.1
-    receiver_is m n c w r f = its_task m k n d c q o f.1 r there' f.8.0
+    receiver_is : (m : Module) (n : ℕ) (c : Config) (w : Write) → Reflects m k n d c → (f : Does (program m) m.types.items c (Meet p q h) w) → IsTask m k d q o f.receiver
+    receiver_is m n c w r f = its_task m k n d c q o f.receiver r there' f.gets.0
 
-    asks_put : (m : Module) (n : ℕ) (c : Config) (w : Write) → Reflects m k n d c → (f : Does (program m) m.types.items c (Meet p q h) w) → s.request ≡ request.Put f.2 f.3
-    asks_put m n c w r f = some_same (sym (sender_is m n c w r f).asks ∙ f.7.1)
+    asks_put : (m : Module) (n : ℕ) (c : Config) (w : Write) → Reflects m k n d c → (f : Does (program m) m.types.items c (Meet p q h) w) → s.request ≡ request.Put f.end f.event
+    asks_put m n c w r f = some_same (sym (sender_is m n c w r f).asks ∙ f.puts.1)
 
     -- where the first asks for something else, they don't meet
     pub meet_never : (e : Kept) → ((x : EndName) (ev : Event) → s.request ≡ request.Put x ev → ⊥) → Happens k d (Meet p q h) e
-    meet_never e g = λ m n c w r f right makers parents. absurd (g f.2 f.3 (asks_put m n c w r f))
+    meet_never e g = λ m n c w r f right makers parents. absurd (g f.end f.event (asks_put m n c w r f))
 
     -- the task that sends can go on, once it is kept what passes
     pub put_can : (b : Kept) (en : Entry) → b ≡ changed h (passed en) d → IsPossible k d (Meet p q h) → CanGoOn k b p Sent
     put_can b en after x =
         let i = sender_is x.source x.events x.before x.write x.reflects x.does in
         let a = x.right_after.asks p _ (sender_there x.source x.before p q h x.write x.does) in
-        can_go_on x.source k d p s x.does.0 x.reflects.from i Sent x.does.4 x.does.11 (sender_alive x.source x.before p q h x.write x.does x.right_after) b
+        can_go_on x.source k d p s x.does.sender x.reflects.from i Sent x.does.sent x.does.sender_leads (sender_alive x.source x.before p q h x.write x.does x.right_after) b
         (ap (λ (z : Kept). z.tasks p) after ∙ there)
         (ap (λ (z : Kept). z.ready p) after ∙ moves_ready x.source k x.events d x.before x.reflects p (Meet p q h) x.write (inl refl) x.does)
         (clock_few k d p s (Meet p q h) there x) (λ z. absurd (cc z)) a.0 a.1
@@ -121,18 +121,18 @@ module _ (k : Code) (d : Kept) (p q : Path) (h : ChannelName) where
     never_partner m n c w r f en x e =
         let a = asks_elsewhere d h en (other x) q e in
         let b = (r.askers (other x) q).0 a.1 in
-        let get : o.request ≡ request.Get (other f.2) = some_same (sym (receiver_is m n c w r f).asks ∙ f.8.1) in
+        let get : o.request ≡ request.Get (other f.end) = some_same (sym (receiver_is m n c w r f).asks ∙ f.gets.1) in
         let one : b.0 ≡ o = some_same (sym b.1 ∙ there') in
-        let same : other x ≡ other f.2 = some_same (sym b.2 ∙ ap (λ (z : Slot). end_of z.request) one ∙ ap end_of get) in
-        a.0 (sym (ap (λ (z : EndName). z.channel) same ∙ f.9))
+        let same : other x ≡ other f.end = some_same (sym b.2 ∙ ap (λ (z : Slot). end_of z.request) one ∙ ap end_of get) in
+        a.0 (sym (ap (λ (z : EndName). z.channel) same ∙ f.named))
 
     module _ (y : EndName) (ev : Event) (asks : s.request ≡ request.Put y ev) where
-      event_is : (m : Module) (n : ℕ) (c : Config) (w : Write) → Reflects m k n d c → (f : Does (program m) m.types.items c (Meet p q h) w) → ev ≡ f.3
-      event_is m n c w r f = put_event y f.2 ev f.3 (sym asks ∙ asks_put m n c w r f)
+      event_is : (m : Module) (n : ℕ) (c : Config) (w : Write) → Reflects m k n d c → (f : Does (program m) m.types.items c (Meet p q h) w) → ev ≡ f.event
+      event_is m n c w r f = put_event y f.end ev f.event (sym asks ∙ asks_put m n c w r f)
 
       told : (m : Module) (n : ℕ) (c : Config) (w : Write) → Reflects m k n d c → (f : Does (program m) m.types.items c (Meet p q h) w) →
-          answered (program m) f.1.state (Got ev) ≡ Some f.5
-      told m n c w r f = ap (λ z. answered (program m) f.1.state (Got z)) (event_is m n c w r f) ∙ f.12
+          answered (program m) f.receiver.state (Got ev) ≡ Some f.got
+      told m n c w r f = ap (λ z. answered (program m) f.receiver.state (Got z)) (event_is m n c w r f) ∙ f.receiver_leads
 
       -- the task that receives can go on with what is sent, once the other one has gone on
       pub get_can : (l : ℕ) (b e : Kept) (en : Entry) → b ≡ changed h (passed en) d → HasGoneOn k p Sent l b e → IsPossible k d (Meet p q h) → CanGoOn k e q (Got ev)
@@ -142,7 +142,7 @@ module _ (k : Code) (d : Kept) (p q : Path) (h : ChannelName) where
           let types = length k.types.items in
           let n = differ x.source x.before p q h x.write x.does in
           let is = g.after ∙ ap (λ z. settled_at types p g.now (without p z)) after in
-          can_go_on x.source k d q o x.does.1 x.reflects.from i (Got ev) x.does.5 (told x.source x.events x.before x.write x.reflects x.does)
+          can_go_on x.source k d q o x.does.receiver x.reflects.from i (Got ev) x.does.got (told x.source x.events x.before x.write x.reflects x.does)
           (receiver_alive x.source x.before p q h x.write x.does x.right_after) e
           (ap (λ (z : Kept). z.tasks q) is ∙ rest_there types p q g.now (changed h (passed en) d) n ∙ there')
           (ap (λ (z : Kept). z.ready q) is ∙ rest_ready types p q g.now (changed h (passed en) d) n
@@ -158,7 +158,7 @@ module _ (k : Code) (d : Kept) (p q : Path) (h : ChannelName) where
           let types = length m.types.items in
           let i = sender_is m n c w r f in
           let i' = receiver_is m n c w r f in
-          let j = there_bare (d.channels h) (c.channels h) f.6 (r.channels h) f.10 in
+          let j = there_bare (d.channels h) (c.channels h) f.channel (r.channels h) f.there in
           let over = stamped j.0 j.1 in
           let stamp_is : l ≡ stamp m c p q h w f = over ∙ (λ a. suc (max (max (i.clock a) (i'.clock a)) (last_stamp (j.2 a).history))) in
           let en : Entry = record { event = ev; stamp = l; sent = s.clock; got = o.clock } in
@@ -168,18 +168,18 @@ module _ (k : Code) (d : Kept) (p q : Path) (h : ChannelName) where
           let first : d.tasks p ≡ Some on.slot = sym (ap (λ (z : Kept). z.tasks p) after) ∙ on.there in
           let second : d.tasks q ≡ Some on'.slot =
           sym (rest_there (length k.types.items) p q on.now (changed h (passed en) d) (differ m c p q h w f)) ∙ sym (ap (λ (z : Kept). z.tasks q) is) ∙ on'.there in
-          let t = its_task m k n d c p on.slot f.0 r first f.7.0 in
-          let t' = its_task m k n d c q on'.slot f.1 r second f.8.0 in
+          let t = its_task m k n d c p on.slot f.sender r first f.puts.0 in
+          let t' = its_task m k n d c q on'.slot f.receiver r second f.gets.0 in
           let z = settles_gone k p Sent l b e on t.path in
           let z' = settles_gone k q (Got ev) l e g on' t'.path in
           let at = stamp_first on.slot.clock s.clock o.clock (last_stamp j.0.history) l (t.clock ∙ sym i.clock) over ∙ stamp_is in
           let at' = stamp_second on'.slot.clock s.clock o.clock (last_stamp j.0.history) l (t'.clock ∙ sym i'.clock) over ∙ stamp_is in
           let it =
-          is_of m k d p on.slot f.0 r.from t Sent f.4 f.11 (sender_alive m c p q h w f right) on.moves_on.task (max (suc on.slot.clock) l) (without p b) e
-          f.0.made (stamp m c p q h w f) f.0.forked on.moves_on.goes_on z at refl in
+          is_of m k d p on.slot f.sender r.from t Sent f.sent f.sender_leads (sender_alive m c p q h w f right) on.moves_on.task (max (suc on.slot.clock) l) (without p b) e
+          f.sender.made (stamp m c p q h w f) f.sender.forked on.moves_on.goes_on z at refl in
           let it' =
-          is_of m k d q on'.slot f.1 r.from t' (Got ev) f.5 (told m n c w r f) (receiver_alive m c p q h w f right) on'.moves_on.task (max (suc on'.slot.clock) l) (without q e) g
-          f.1.made (stamp m c p q h w f) f.1.forked on'.moves_on.goes_on z' at' refl in
+          is_of m k d q on'.slot f.receiver r.from t' (Got ev) f.got (told m n c w r f) (receiver_alive m c p q h w f right) on'.moves_on.task (max (suc on'.slot.clock) l) (without q e) g
+          f.receiver.made (stamp m c p q h w f) f.receiver.forked on'.moves_on.goes_on z' at' refl in
           let changed_is = after ∙ ap (λ y. changed h (passed y) d) entry in
           let half =
           ap (without q) (settled_types m k on.moves_on.task (max (suc on.slot.clock) l) (without p b) e r.from z)

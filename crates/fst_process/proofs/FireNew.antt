@@ -2,23 +2,23 @@
 use Rattle.std.proofs.Common.{◌≡◌, ◌∙◌, ◌<◌, ℕ, zero, suc, max, true, [], List, Some, refl, sym, ap, subst, arith}
 use Rattle.std.specs.Prelude.{length, slice_get}
 use Rattle.std.proofs.lemmas.Option.{slice_get_within}
+use Rattle.fst_base.proofs.Options.{some_same}
 use Rattle.fst_types.specs.Tree.{Tree}
 use Rattle.fst_terms.specs.declared.core_module.Module.{Module}
-use Rattle.fst_value.specs.declared.ends.ChannelName.{ChannelName}
+use Rattle.fst_types.specs.declared.ends.ChannelName.{ChannelName}
 use Rattle.fst_machine.specs.declared.code.Code.{Code}
 use Rattle.fst_machine.specs.declared.request.Request.TheVariants as request
 use Rattle.fst_machine.specs.declared.request.Answer.TheVariants.{Made}
 use Rattle.fst_machine.specs.Machine.{stuck, pause, answered}
 use Rattle.fst_runs.specs.declared.event.CoreEvent.TheVariants.{New}
 use Rattle.fst_runs.specs.Configs.{Path, Config, channel_name, program}
-use Rattle.fst_runs.specs.Events.{Write, Does, written}
+use Rattle.fst_runs.specs.Events.{Write, Does, written, has_made}
 use Rattle.fst_runs.specs.Wrong.{IsRight}
 use Rattle.fst_runs.proofs.Naming.{new_free}
-use Rattle.fst_runs.proofs.Updates.{with_channel, has_made, new_puts, put_there}
+use Rattle.fst_runs.proofs.Updates.{with_channel, new_puts, put_there}
 use Rattle.fst_process.specs.Kept.{Slot, Kept, is_live, without, opened, settled}
 use Rattle.fst_process.specs.Reflects.{IsTask, Reflects}
 use Rattle.fst_process.specs.Firing.{IsPossible, Happens, CanGoOn, HasGoneOn}
-use Rattle.fst_process.proofs.PathLaws.{some_same}
 use Rattle.fst_process.proofs.Moving.{moves_ready}
 use Rattle.fst_process.proofs.GoingNew.{new_goes}
 use Rattle.fst_process.proofs.Rights.{right_fine, right_alive}
@@ -28,57 +28,57 @@ new_number : (i j : ℕ) → request.New i ≡ request.New j → i ≡ j
 new_number i j e = cc e
 
 -- the task is there after it has made the channel
-maker_there : (m : Module) (c : Config) (p : Path) (w : Write) → (f : Does (program m) m.types.items c (New p) w) → (written c w).tasks p ≡ Some (has_made f.0 f.1 (suc f.0.clock))
+maker_there : (m : Module) (c : Config) (p : Path) (w : Write) → (f : Does (program m) m.types.items c (New p) w) → (written c w).tasks p ≡ Some (has_made f.task f.state (suc f.task.clock))
 maker_there m c p w f =
     ap (λ z. z.tasks p) (new_puts (program m) m.types.items c p w f)
-    ∙ put_there (with_channel c (channel_name p f.0.made) (record { declared = f.3; history = [] })) p (has_made f.0 f.1 (suc f.0.clock))
+    ∙ put_there (with_channel c (channel_name p f.task.made) (record { declared = f.declared; history = [] })) p (has_made f.task f.state (suc f.task.clock))
 
 maker_alive : (m : Module) (c : Config) (p : Path) (w : Write) → IsRight (program m) (written c w) → (f : Does (program m) m.types.items c (New p) w) →
-    pause m.families.items f.1 ≡ stuck → ⊥
-maker_alive m c p w right f = right_alive m (written c w) p (has_made f.0 f.1 (suc f.0.clock)) right (maker_there m c p w f)
+    pause m.families.items f.state ≡ stuck → ⊥
+maker_alive m c p w right f = right_alive m (written c w) p (has_made f.task f.state (suc f.task.clock)) right (maker_there m c p w f)
 
 module _ (k : Code) (d : Kept) (p : Path) where
   -- the task is kept as one that has not ended
   pub new_there : IsPossible k d (New p) → is_live (d.tasks p) ≡ true
-  new_there x = there_live x.source k x.events d x.before p x.does.0 (request.New x.does.2) x.reflects x.does.4 refl
+  new_there x = there_live x.source k x.events d x.before p x.does.task (request.New x.does.number) x.reflects x.does.asks refl
 
   -- it has not made too many channels
   pub made_few : IsPossible k d (New p) → d.made p < 4294967295
   made_few x = let a = x.reflects.makes p in let f = x.few in omega (arith, a, f)
 
   module _ (s : Slot) (there : d.tasks p ≡ Some s) where
-    its_maker : (m : Module) (n : ℕ) (c : Config) (w : Write) → Reflects m k n d c → (f : Does (program m) m.types.items c (New p) w) → IsTask m k d p s f.0
-    its_maker m n c w r f = its_task m k n d c p s f.0 r there f.4.0
+    its_maker : (m : Module) (n : ℕ) (c : Config) (w : Write) → Reflects m k n d c → (f : Does (program m) m.types.items c (New p) w) → IsTask m k d p s f.task
+    its_maker m n c w r f = its_task m k n d c p s f.task r there f.asks.0
 
-    asks_new : (m : Module) (n : ℕ) (c : Config) (w : Write) → Reflects m k n d c → (f : Does (program m) m.types.items c (New p) w) → s.request ≡ request.New f.2
-    asks_new m n c w r f = some_same (sym (its_maker m n c w r f).asks ∙ f.4.1)
+    asks_new : (m : Module) (n : ℕ) (c : Config) (w : Write) → Reflects m k n d c → (f : Does (program m) m.types.items c (New p) w) → s.request ≡ request.New f.number
+    asks_new m n c w r f = some_same (sym (its_maker m n c w r f).asks ∙ f.asks.1)
 
     -- the type of the channel that it asks for is there
     pub type_there : (number : ℕ) → s.request ≡ request.New number → IsPossible k d (New p) → number < length k.types.items
     type_there number e x =
-        let same = new_number number x.does.2 (sym e ∙ asks_new x.source x.events x.before x.write x.reflects x.does) in
-        let within = slice_get_within x.source.types.items x.does.2 x.does.3 x.does.5 in
+        let same = new_number number x.does.number (sym e ∙ asks_new x.source x.events x.before x.write x.reflects x.does) in
+        let within = slice_get_within x.source.types.items x.does.number x.does.declared x.does.typed in
         let types = ap (λ (ts : List Tree). length ts) x.reflects.from.same_types in
         omega (arith, same, within, types)
 
     -- where it asks for something else, it makes none
     pub new_never : (e : Kept) → ((number : ℕ) → s.request ≡ request.New number → ⊥) → Happens k d (New p) e
-    new_never e h = λ m n c w r f right makers parents. absurd (h f.2 (asks_new m n c w r f))
+    new_never e h = λ m n c w r f right makers parents. absurd (h f.number (asks_new m n c w r f))
 
     module _ (h : ChannelName) (its : h ≡ channel_name p (d.made p)) where
-      name_is : (m : Module) (n : ℕ) (c : Config) (w : Write) → Reflects m k n d c → (f : Does (program m) m.types.items c (New p) w) → h ≡ channel_name p f.0.made
+      name_is : (m : Module) (n : ℕ) (c : Config) (w : Write) → Reflects m k n d c → (f : Does (program m) m.types.items c (New p) w) → h ≡ channel_name p f.task.made
       name_is m n c w r f = its ∙ ap (channel_name p) (its_maker m n c w r f).made
 
       told : (m : Module) (n : ℕ) (c : Config) (w : Write) → Reflects m k n d c → (f : Does (program m) m.types.items c (New p) w) →
-          answered (program m) f.0.state (Made h) ≡ Some f.1
-      told m n c w r f = ap (λ z. answered (program m) f.0.state (Made z)) (name_is m n c w r f) ∙ f.6
+          answered (program m) f.task.state (Made h) ≡ Some f.state
+      told m n c w r f = ap (λ z. answered (program m) f.task.state (Made z)) (name_is m n c w r f) ∙ f.leads
 
       -- it can go on with the channel's name, once the channel is there
       pub new_can : (a : Tree) (mid : Kept) → mid ≡ opened h a d → IsPossible k d (New p) → CanGoOn k mid p (Made h)
       new_can a mid after x =
           let i = its_maker x.source x.events x.before x.write x.reflects x.does in
-          let a = x.right_after.asks p (has_made x.does.0 x.does.1 (suc x.does.0.clock)) (maker_there x.source x.before p x.write x.does) in
-          can_go_on x.source k d p s x.does.0 x.reflects.from i (Made h) x.does.1 (told x.source x.events x.before x.write x.reflects x.does)
+          let a = x.right_after.asks p (has_made x.does.task x.does.state (suc x.does.task.clock)) (maker_there x.source x.before p x.write x.does) in
+          can_go_on x.source k d p s x.does.task x.reflects.from i (Made h) x.does.state (told x.source x.events x.before x.write x.reflects x.does)
           (maker_alive x.source x.before p x.write x.right_after x.does) mid (ap (λ (z : Kept). z.tasks p) after ∙ there)
           (ap (λ (z : Kept). z.ready p) after ∙ moves_ready x.source k x.events d x.before x.reflects p (New p) x.write refl x.does)
           (clock_few k d p s (New p) there x) (λ z. absurd (cc z)) a.0 a.1
@@ -90,13 +90,13 @@ module _ (k : Code) (d : Kept) (p : Path) where
           let u = g.slot in
           let v = g.moves_on.task in
           let l = max (suc u.clock) zero in
-          let i = its_task m k n d c p u f.0 r (sym (ap (λ (z : Kept). z.tasks p) after) ∙ g.there) f.4.0 in
+          let i = its_task m k n d c p u f.task r (sym (ap (λ (z : Kept). z.tasks p) after) ∙ g.there) f.asks.0 in
           let z = settles_gone k p (Made h) zero mid e g i.path in
-          let o = is_of m k d p u f.0 r.from i (Made h) f.1 (told m n c w r f) (maker_alive m c p w right f) v l (without p mid) e (suc f.0.made) (suc f.0.clock) f.0.forked
-          g.moves_on.goes_on z (next_clock u.clock f.0.clock i.clock) refl in
-          let number_is = new_number number f.2 (sym asks ∙ asks_new m n c w r f) in
-          let type_is : a ≡ f.3 = some_same (sym type ∙ (λ j. slice_get (r.from.same_types j) (number_is j)) ∙ f.5) in
+          let o = is_of m k d p u f.task r.from i (Made h) f.state (told m n c w r f) (maker_alive m c p w right f) v l (without p mid) e (suc f.task.made) (suc f.task.clock) f.task.forked
+          g.moves_on.goes_on z (next_clock u.clock f.task.clock i.clock) refl in
+          let number_is = new_number number f.number (sym asks ∙ asks_new m n c w r f) in
+          let type_is : a ≡ f.declared = some_same (sym type ∙ (λ j. slice_get (r.from.same_types j) (number_is j)) ∙ f.typed) in
           let kept = settled_types m k v l (without p mid) e r.from z ∙ ap (settled (length m.types.items) z.slot)
           (ap (without p) after ∙ (λ j. opened (name_is m n c w r f j) (type_is j) (without p d))) in
           subst (λ y. Reflects m k (suc n) y (written c w)) (sym kept)
-          (new_goes m k n d c p w z.slot r f o (new_free c p f.0 makers f.4.0) (right_fine m (written c w) right))
+          (new_goes m k n d c p w z.slot r f o (new_free c p f.task makers f.asks.0) (right_fine m (written c w) right))

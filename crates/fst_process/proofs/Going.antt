@@ -82,13 +82,13 @@ one_written false t o = refl
 
 -- after a step of a task alone
 pub local_goes : (m : Module) (k : Code) (n : ℕ) (d : Kept) (c : Config) (p : Path) (w : Write) (s : Slot) → Reflects m k n d c →
-    (f : Does (program m) m.types.items c (Local p) w) → IsOf m k p s (moved f.0 f.1) → Fine m (written c w) →
+    (f : Does (program m) m.types.items c (Local p) w) → IsOf m k p s (moved f.task f.state) → Fine m (written c w) →
     Reflects m k (suc n) (settled (length m.types.items) s (without p d)) (written c w)
 local_goes m k n d c p w s r f is fine =
-    let b = bound m k n d c p f.0 r f.2.0 in
+    let b = bound m k n d c p f.task r f.asks.0 in
     subst (Reflects m k (suc n) (settled (length m.types.items) s (without p d))) same
-    (comes_in m k (suc n) (without p d) (hide p c) p s (moved f.0 f.1) (taken m k n d c p f.0 request.Step r f.2 refl) (put_here p None c.tasks) is b.made
+    (comes_in m k (suc n) (without p d) (hide p c) p s (moved f.task f.state) (taken m k n d c p f.task request.Step r f.asks refl) (put_here p None c.tasks) is b.made
     (let g = b.clock in omega (arith, g)) (let g = b.forked in omega (arith, g)) (subst (Fine m) (sym same) fine))
   where
-    same : show p (moved f.0 f.1) (hide p c) ≡ written c w
-    same = (λ i. record { tasks = λ q. one_written (same_path p q) (moved f.0 f.1) (c.tasks q) i; channels = c.channels }) ∙ sym (ap (written c) f.4)
+    same : show p (moved f.task f.state) (hide p c) ≡ written c w
+    same = (λ i. record { tasks = λ q. one_written (same_path p q) (moved f.task f.state) (c.tasks q) i; channels = c.channels }) ∙ sym (ap (written c) f.writes)

@@ -1,17 +1,16 @@
 -- What is kept is the configuration after a task has forked another one.
 use Rattle.std.proofs.Common.{◌≡◌, ◌∙◌, ℕ, zero, suc, Bool, true, false, Option, Some, None, refl, sym, ap, subst, arith}
 use Rattle.std.specs.Prelude.{length, if◌then◌else◌}
+use Rattle.fst_base.proofs.Options.{none_some}
 use Rattle.fst_lts.specs.Histories.{over}
 use Rattle.fst_terms.specs.declared.core_module.Module.{Module}
 use Rattle.fst_machine.specs.declared.code.Code.{Code}
 use Rattle.fst_machine.specs.declared.request.Request.TheVariants as request
 use Rattle.fst_runs.specs.declared.event.CoreEvent.TheVariants.{Fork}
 use Rattle.fst_runs.specs.Configs.{Path, Config, Task, same_path, child_path, new_task, program}
-use Rattle.fst_runs.specs.Events.{Write, written, Does}
-use Rattle.fst_runs.proofs.Updates.{has_forked}
+use Rattle.fst_runs.specs.Events.{Write, written, Does, has_forked}
 use Rattle.fst_process.specs.Kept.{Slot, Kept, put_at, without, settled}
 use Rattle.fst_process.specs.Reflects.{Reflects}
-use Rattle.fst_process.proofs.PathLaws.{none_some}
 use Rattle.fst_process.proofs.Places.{put_here, put_cases}
 use Rattle.fst_process.proofs.Taking.{hide, show}
 use Rattle.fst_process.proofs.Fewer.{Fine, fine_before}
@@ -27,15 +26,15 @@ two_written false false u t o = refl
 module _ (m : Module) (k : Code) (n : ℕ) (d : Kept) (c : Config) (p : Path) (w : Write) (s o : Slot) (r : Reflects m k n d c) (f : Does (program m) m.types.items c (Fork p) w) where
   -- the task after it has forked
   abbrev pub parent : Task
-  parent = has_forked f.0 f.1 (suc f.0.clock)
+  parent = has_forked f.task f.state (suc f.task.clock)
 
   -- the path of the task that is forked
   abbrev pub its_path : Path
-  its_path = child_path p f.0.forked
+  its_path = child_path p f.task.forked
 
   -- the task that is forked
   abbrev pub forked_task : Task
-  forked_task = new_task f.2 (suc f.0.clock)
+  forked_task = new_task f.begun (suc f.task.clock)
 
   abbrev half : Config
   half = show p parent (hide p c)
@@ -45,7 +44,7 @@ module _ (m : Module) (k : Code) (n : ℕ) (d : Kept) (c : Config) (p : Path) (w
       (λ i. record {
         tasks = λ q. two_written (same_path its_path q) (same_path p q) forked_task parent (c.tasks q) i;
         channels = c.channels;
-      }) ∙ sym (ap (written c) f.6)
+      }) ∙ sym (ap (written c) f.writes)
 
   abbrev first : Kept
   first = settled (length m.types.items) s (without p d)
@@ -54,12 +53,12 @@ module _ (m : Module) (k : Code) (n : ℕ) (d : Kept) (c : Config) (p : Path) (w
   pub fork_goes : IsOf m k p s parent → IsOf m k its_path o forked_task → c.tasks its_path ≡ None → d.made its_path ≡ zero → Fine m (written c w) →
       Reflects m k (suc n) (settled (length m.types.items) o first) (written c w)
   fork_goes is child fresh unmade fine =
-      let b = bound m k n d c p f.0 r f.3.0 in
+      let b = bound m k n d c p f.task r f.asks.0 in
       let clock = b.clock in
       let forked = b.forked in
       subst (Reflects m k (suc n) (settled (length m.types.items) o first)) same
       (comes_in m k (suc n) first half its_path o forked_task
-      (comes_in m k (suc n) (without p d) (hide p c) p s parent (taken m k n d c p f.0 request.Fork r f.3 refl) (put_here p None c.tasks) is b.made
+      (comes_in m k (suc n) (without p d) (hide p c) p s parent (taken m k n d c p f.task request.Fork r f.asks refl) (put_here p None c.tasks) is b.made
       (omega (arith, clock)) (omega (arith, forked)) (fine_before m half its_path forked_task free whole))
       free child (settled_made (length m.types.items) s (without p d) its_path ∙ unmade) (omega (arith, clock)) (omega arith) whole)
     where
@@ -69,5 +68,5 @@ module _ (m : Module) (k : Code) (n : ℕ) (d : Kept) (c : Config) (p : Path) (w
       free : half.tasks its_path ≡ None
       free =
           put_cases (λ z. z ≡ None) p its_path (Some parent) (put_at p None c.tasks)
-          (λ z. absurd (none_some (sym fresh ∙ ap c.tasks (sym z) ∙ f.3.0)))
+          (λ z. absurd (none_some (sym fresh ∙ ap c.tasks (sym z) ∙ f.asks.0)))
           (λ y. put_cases (λ z. z ≡ None) p its_path None c.tasks (λ z. refl) (λ z. fresh))

@@ -3,16 +3,15 @@ use Rattle.std.proofs.Common.{◌≡◌, ◌∙◌, ◌≤◌, ℕ, suc, List, [
 use Rattle.std.specs.Prelude.{length, if◌then◌else◌}
 use Rattle.fst_lts.specs.Histories.{over, last_stamp}
 use Rattle.fst_terms.specs.declared.core_module.Module.{Module}
-use Rattle.fst_value.specs.declared.ends.ChannelName.{ChannelName}
-use Rattle.fst_value.specs.declared.event.Entry.{Entry}
+use Rattle.fst_types.specs.declared.ends.ChannelName.{ChannelName}
+use Rattle.fst_types.specs.declared.event.Entry.{Entry}
 use Rattle.fst_machine.specs.declared.code.Code.{Code}
 use Rattle.fst_machine.specs.declared.request.Request.TheVariants as request
 use Rattle.fst_runs.specs.declared.event.CoreEvent.TheVariants.{Meet}
 use Rattle.fst_runs.specs.Configs as runs
 use Rattle.fst_runs.specs.Configs.{Path, Config, Task, same_path, same_channel, other, program}
-use Rattle.fst_runs.specs.Events.{Write, written, meeting_stamp, extended, Does}
+use Rattle.fst_runs.specs.Events.{Write, written, meeting_stamp, extended, Does, has_met, passed as passed_entry}
 use Rattle.fst_runs.proofs.Naming.{asks_apart}
-use Rattle.fst_runs.proofs.Updates.{has_met, passed as passed_entry}
 use Rattle.fst_process.specs.Kept.{Slot, Kept, end_of, put_at, without, changed, passed, settled}
 use Rattle.fst_process.specs.Reflects.{StampedTo, Reflects}
 use Rattle.fst_process.proofs.Places.{put_here, put_cases}
@@ -48,26 +47,26 @@ module _ (m : Module) (k : Code) (n : ℕ) (d : Kept) (c : Config) (p q : Path) 
     (f : Does (program m) m.types.items c (Meet p q h) w) where
   -- the stamp of what has passed
   abbrev pub stamp : ℕ
-  stamp = meeting_stamp f.0 f.1 f.6
+  stamp = meeting_stamp f.sender f.receiver f.channel
 
   -- what has passed
   abbrev pub its_entry : Entry
-  its_entry = passed_entry f.3 f.0 f.1 f.6
+  its_entry = passed_entry f.event f.sender f.receiver f.channel
 
   -- the task that has sent it
   abbrev pub sender : Task
-  sender = has_met f.0 f.4 stamp
+  sender = has_met f.sender f.sent stamp
 
   -- and the one that has received it
   abbrev pub receiver : Task
-  receiver = has_met f.1 f.5 stamp
+  receiver = has_met f.receiver f.got stamp
 
   -- what is kept without both
   abbrev pub before : Kept
   before = changed h (passed its_entry) (without q (without p d))
 
   abbrev empty : Config
-  empty = hide q (hide p (with_channel h (extended f.6 its_entry) c))
+  empty = hide q (hide p (with_channel h (extended f.channel its_entry) c))
 
   abbrev half : Config
   half = show p sender empty
@@ -76,32 +75,32 @@ module _ (m : Module) (k : Code) (n : ℕ) (d : Kept) (c : Config) (p q : Path) 
   same =
       (λ i. record {
         tasks = λ v. both_written (same_path q v) (same_path p v) receiver sender (c.tasks v) i;
-        channels = λ g. channel_written (same_channel h g) (extended f.6 its_entry) (c.channels g) i;
-      }) ∙ sym (ap (written c) f.13)
+        channels = λ g. channel_written (same_channel h g) (extended f.channel its_entry) (c.channels g) i;
+      }) ∙ sym (ap (written c) f.writes)
 
   differ : p ≡ q → ⊥
-  differ = asks_apart (program m) c p q f.0 f.1 f.2 (other f.2) f.3 f.7 f.8
+  differ = asks_apart (program m) c p q f.sender f.receiver f.end (other f.end) f.event f.puts f.gets
 
   stamp_few : stamp ≤ suc n
   stamp_few =
-      let a = (bound m k n d c p f.0 r f.7.0).clock in
-      let b = (bound m k n d c q f.1 r f.8.0).clock in
-      let l = channel_stamped m k n d c h f.6 r f.10 in
+      let a = (bound m k n d c p f.sender r f.puts.0).clock in
+      let b = (bound m k n d c q f.receiver r f.gets.0).clock in
+      let l = channel_stamped m k n d c h f.channel r f.there in
       omega (arith, a, b, l)
 
   emptied : Reflects m k (suc n) before empty
   emptied =
-      let a = kept_asks m k n d c r p f.0 (request.Put f.2 f.3) f.7 in
-      let b = kept_asks m k n d c r q f.1 (request.Get (other f.2)) f.8 in
-      subst (λ g. Reflects m k (suc n) (changed g (passed its_entry) (without q (without p d))) (hide q (hide p (with_channel g (extended f.6 its_entry) c)))) f.9
-      (meeting m k n (suc n) d c p q a.0 b.0 f.2 its_entry f.6 r a.1 b.1 (ap end_of a.2) (ap end_of b.2) (ap c.channels f.9 ∙ f.10) (omega arith) stamp_few)
+      let a = kept_asks m k n d c r p f.sender (request.Put f.end f.event) f.puts in
+      let b = kept_asks m k n d c r q f.receiver (request.Get (other f.end)) f.gets in
+      subst (λ g. Reflects m k (suc n) (changed g (passed its_entry) (without q (without p d))) (hide q (hide p (with_channel g (extended f.channel its_entry) c)))) f.named
+      (meeting m k n (suc n) d c p q a.0 b.0 f.end its_entry f.channel r a.1 b.1 (ap end_of a.2) (ap end_of b.2) (ap c.channels f.named ∙ f.there) (omega arith) stamp_few)
 
   -- after two tasks have met
   pub meet_goes : IsOf m k p s sender → IsOf m k q o receiver → Fine m (written c w) →
       Reflects m k (suc n) (settled (length m.types.items) o (settled (length m.types.items) s before)) (written c w)
   meet_goes is it fine =
-      let a = bound m k n d c p f.0 r f.7.0 in
-      let b = bound m k n d c q f.1 r f.8.0 in
+      let a = bound m k n d c p f.sender r f.puts.0 in
+      let b = bound m k n d c q f.receiver r f.gets.0 in
       let first = a.forked in
       let second = b.forked in
       subst (Reflects m k (suc n) (settled (length m.types.items) o (settled (length m.types.items) s before))) same

@@ -10,9 +10,10 @@ use Rattle.std.specs.BTreeMap.{BTreeMap}
 use Rattle.std.proofs.Math.ListN.{length-set}
 use Rattle.std.proofs.lemmas.Option.{slice_get-get_or}
 use Rattle.std.proofs.lemmas.Bool.Decides.{nat_tests}
+use Rattle.fst_base.proofs.Options.{some_same, none_some}
 use Rattle.fst_lts.specs.Histories.{last_stamp}
-use Rattle.fst_value.specs.declared.ends.ChannelName.{ChannelName}
-use Rattle.fst_value.specs.declared.event.Entry.{Entry}
+use Rattle.fst_types.specs.declared.ends.ChannelName.{ChannelName}
+use Rattle.fst_types.specs.declared.event.Entry.{Entry}
 use Rattle.fst_machine.specs.declared.request.Request.{Request}
 use Rattle.fst_machine.specs.declared.request.Request.TheVariants.{Step, New, Fork, Put, Get, Ended}
 use Rattle.fst_runs.specs.Configs.{Path, same_path, same_channel, channel_name}
@@ -22,7 +23,6 @@ use Rattle.fst_process.specs.declared.kept.Channel as rust_channel
 use Rattle.fst_process.specs.declared.config.Config.{Config}
 use Rattle.fst_process.specs.Kept.{Slot, Channel, Kept, put_at, changed, added, noted, settled}
 use Rattle.fst_process.specs.KeptOf.{at_path, slot_of, channel_of, Keys, Slots, Channels, slot_in, listed, made_in, numbered, kept_in, kept_of, IsChangedAt}
-use Rattle.fst_process.proofs.PathLaws.{some_same, none_some}
 use Rattle.fst_process.proofs.Tables.{Key, same_key, found_after, has_after, put_mapped}
 
 -- a map of tasks in which a path has this task, or none

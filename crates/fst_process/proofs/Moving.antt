@@ -4,11 +4,12 @@ use Rattle.std.specs.Prelude.{option_map, option_and_then, is_some, length, nat_
 use Rattle.std.proofs.lemmas.Option.{slice_get_within, slice_get_cases}
 use Rattle.std.proofs.lemmas.Bool.Decides.{nat_tests}
 use Rattle.std.proofs.lemmas.Bool.{false≢true}
+use Rattle.fst_base.proofs.Options.{some_same}
 use Rattle.fst_base.proofs.Bools.{is_less}
 use Rattle.fst_types.specs.Tree.{Tree}
 use Rattle.fst_terms.specs.declared.core_module.Module.{Module}
-use Rattle.fst_value.specs.declared.ends.EndName.{EndName}
-use Rattle.fst_value.specs.declared.event.Event.{Event}
+use Rattle.fst_types.specs.declared.ends.EndName.{EndName}
+use Rattle.fst_types.specs.declared.event.Event.{Event}
 use Rattle.fst_machine.specs.declared.code.Code.{Code}
 use Rattle.fst_machine.specs.declared.request.Request.{Request}
 use Rattle.fst_machine.specs.declared.request.Request.TheVariants as request
@@ -21,7 +22,7 @@ use Rattle.fst_runs.specs.Least.{TakesPart, CanMove}
 use Rattle.fst_process.specs.Kept.{Slot, Kept, asker, partner, end_of, moves_with, moves_so}
 use Rattle.fst_process.specs.Reflects.{IsTask, Reflects}
 use Rattle.fst_process.specs.Nexts.{event_with, event_of}
-use Rattle.fst_process.proofs.PathLaws.{some_same, other-twice}
+use Rattle.fst_process.proofs.PathLaws.{other-twice}
 use Rattle.fst_process.proofs.Taking.{is_kept, is_there}
 use Rattle.fst_process.proofs.Fewer.{Fine}
 use Rattle.fst_process.proofs.Nexts.{step_next, new_next, fork_next, at_end}
@@ -68,14 +69,14 @@ module _ (m : Module) (k : Code) (n : ℕ) (d : Kept) (c : Config) (r : Reflects
 
   -- a task that takes part in an event that is possible is marked
   pub moves_ready : (p : Path) (e : CoreEvent) (w : Write) → TakesPart p e → Does (program m) types c e w → d.ready p ≡ true
-  moves_ready p (Local q) w h f = ap d.ready h ∙ ready_with q f.0 request.Step f.2 refl
-  moves_ready p (New q) w h f = ap d.ready h ∙ ready_with q f.0 (request.New f.2) f.4 (below f.2 (length types) (slice_get_within types f.2 f.3 f.5))
-  moves_ready p (Fork q) w h f = ap d.ready h ∙ ready_with q f.0 request.Fork f.3 refl
+  moves_ready p (Local q) w h f = ap d.ready h ∙ ready_with q f.task request.Step f.asks refl
+  moves_ready p (New q) w h f = ap d.ready h ∙ ready_with q f.task (request.New f.number) f.asks (below f.number (length types) (slice_get_within types f.number f.declared f.typed))
+  moves_ready p (Fork q) w h f = ap d.ready h ∙ ready_with q f.task request.Fork f.asks refl
   moves_ready p (Meet q o g) w (inl h) f =
-      ap d.ready h ∙ ready_with q f.0 (request.Put f.2 f.3) f.7 (ap (λ (z : Option Path). is_some z) (at_it o f.1 (request.Get (other f.2)) (other f.2) f.8 refl))
+      ap d.ready h ∙ ready_with q f.sender (request.Put f.end f.event) f.puts (ap (λ (z : Option Path). is_some z) (at_it o f.receiver (request.Get (other f.end)) (other f.end) f.gets refl))
   moves_ready p (Meet q o g) w (inr h) f =
-      ap d.ready h ∙ ready_with o f.1 (request.Get (other f.2)) f.8
-      (ap (λ (z : Option Path). is_some z) (ap (asker d) (other-twice f.2) ∙ at_it q f.0 (request.Put f.2 f.3) f.2 f.7 refl))
+      ap d.ready h ∙ ready_with o f.receiver (request.Get (other f.end)) f.gets
+      (ap (λ (z : Option Path). is_some z) (ap (asker d) (other-twice f.end) ∙ at_it q f.sender (request.Put f.end f.event) f.end f.puts refl))
 
   -- where no task is marked, no event is possible
   pub nothing_ready : ((p : Path) → d.ready p ≡ false) → IsLast (program m) types c
@@ -94,8 +95,25 @@ module _ (m : Module) (k : Code) (n : ℕ) (d : Kept) (c : Config) (r : Reflects
         (w : Write) × Does (program m) types c (Meet p q x.channel) w
     meeting p q t u x ev i j =
         let f = fine.meets p q t u x ev i j in
-        let g = fine.there p t (request.Put x ev) x i refl in
-        (_, (t, u, x, ev, f.0, f.1, g.0, i, j, refl, g.1, f.2, f.3, refl))
+        let g = fine.there p t (request.Put x ev) x i refl in (
+          _,
+          record {
+            sender = t;
+            receiver = u;
+            end = x;
+            event = ev;
+            sent = f.0;
+            got = f.1;
+            channel = g.0;
+            puts = i;
+            gets = j;
+            named = refl;
+            there = g.1;
+            sender_leads = f.2;
+            receiver_leads = f.3;
+            writes = refl;
+          },
+        )
 
     -- who asks at an end, with what it asks for
     asks_there : (p : Path) (x : EndName) → asker d x ≡ Some p →
@@ -135,14 +153,14 @@ module _ (m : Module) (k : Code) (n : ℕ) (d : Kept) (c : Config) (r : Reflects
     with_request : (p : Path) (t : Task) (a : Request) → Asks (program m) c p t a → moves_with (length types) d a ≡ true → Moves p (event_with d p a)
     with_request p t request.Step i h =
         let f = step_next (program m) (pause m.families.items t.state) i.1 in
-        (Local p, refl, refl, _, (t, f.0, i, f.1, refl))
+        (Local p, refl, refl, _, record { task = t; state = f.0; asks = i; leads = f.1; writes = refl })
     with_request p t (request.New l) i h =
         let f = new_next (program m) (pause m.families.items t.state) l (channel_name p t.made) i.1 in
         let g = element types l h in
-        (New p, refl, refl, _, (t, f.0, l, g.0, i, g.1, f.1, refl))
+        (New p, refl, refl, _, record { task = t; state = f.0; number = l; declared = g.0; asks = i; typed = g.1; leads = f.1; writes = refl })
     with_request p t request.Fork i h =
         let f = fork_next (program m) (pause m.families.items t.state) i.1 in
-        (Fork p, refl, refl, _, (t, f.0, f.1, i, f.3, f.2, refl))
+        (Fork p, refl, refl, _, record { task = t; state = f.0; begun = f.1; asks = i; begins = f.3; leads = f.2; writes = refl })
     with_request p t (request.Put x ev) i h = put_moves p t x ev i (partner d x) refl h
     with_request p t (request.Get x) i h = get_moves p t x i (partner d x) refl h
     with_request p t request.Ended i h = absurd (false≢true h)

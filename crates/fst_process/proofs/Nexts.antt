@@ -1,15 +1,15 @@
 -- What asks for something has a next state after an answer to it.
 use Rattle.std.proofs.Common.{◌≡◌, ◌⊎◌, inl, inr, ℕ, Some, refl, ap}
-use Rattle.fst_value.specs.declared.ends.ChannelName.{ChannelName}
-use Rattle.fst_value.specs.declared.ends.EndName.{EndName}
-use Rattle.fst_value.specs.declared.event.Event.{Event}
+use Rattle.fst_base.proofs.Options.{some_same, none_some}
+use Rattle.fst_types.specs.declared.ends.ChannelName.{ChannelName}
+use Rattle.fst_types.specs.declared.ends.EndName.{EndName}
+use Rattle.fst_types.specs.declared.event.Event.{Event}
 use Rattle.fst_machine.specs.declared.request.Request.{Request}
 use Rattle.fst_machine.specs.declared.request.Request.TheVariants as request
 use Rattle.fst_machine.specs.declared.request.Answer.TheVariants.{Go, Made, Forked}
 use Rattle.fst_machine.specs.Machine.{Program, State, Pause, stuck, calls, uses, makes, forks, puts, gets, matches, ended, asked, after, child}
 use Rattle.fst_runs.proofs.Asked.{new_pause}
 use Rattle.fst_process.specs.Kept.{end_of}
-use Rattle.fst_process.proofs.PathLaws.{some_same, none_some}
 
 -- what asks for a step goes on
 pub step_next : (m : Program) (p : Pause) → asked p ≡ Some request.Step → (s : State) × (after m p Go ≡ Some s)

@@ -1,21 +1,13 @@
 -- Paths, names of channels and ends that aren't the same, and the other ends.
-use Rattle.std.proofs.Common.{◌≡◌, ◌∙◌, ◌⊎◌, inl, inr, false, Some, None, refl, sym, ap}
+use Rattle.std.proofs.Common.{◌≡◌, ◌∙◌, ◌⊎◌, inl, inr, false, refl, sym, ap}
 use Rattle.std.proofs.lemmas.Bool.{true≢false}
 use Rattle.fst_types.specs.declared.side.Side.{Side}
 use Rattle.fst_types.specs.declared.side.Side.TheVariants.{Left, Right}
 use Rattle.fst_lts.specs.Histories.{opposite}
-use Rattle.fst_value.specs.declared.ends.ChannelName.{ChannelName}
-use Rattle.fst_value.specs.declared.ends.EndName.{EndName}
+use Rattle.fst_types.specs.declared.ends.ChannelName.{ChannelName}
+use Rattle.fst_types.specs.declared.ends.EndName.{EndName}
 use Rattle.fst_runs.specs.Configs.{Path, same_path, same_channel, other}
 use Rattle.fst_runs.proofs.NameLaws.{same_path-itself, same_channel-itself}
-
--- values that are the same where they are there
-pub some_same : {A : Type 0} {a b : A} → Some a ≡ Some b → a ≡ b
-some_same e = cc e
-
--- what isn't there is none that is
-pub none_some : {A : Type 0} {a : A} → None ≡ Some a → ⊥
-none_some e = cc e
 
 -- paths that fail the test aren't one
 pub apart_paths : (p q : Path) → same_path p q ≡ false → p ≡ q → ⊥

@@ -11,9 +11,10 @@ use Rattle.std.specs.declared.alloc.Global.{Global}
 use Rattle.std.specs.declared.vec.Vec.{Vec}
 use Rattle.std.proofs.lemmas.Bool.{false≢true}
 use Rattle.std.proofs.lemmas.List.Elements.{Contains-append_left, Contains-append_right, Contains-append_cases}
-use Rattle.fst_value.specs.declared.ends.ChannelName.{ChannelName}
-use Rattle.fst_value.specs.declared.ends.EndName.{EndName}
-use Rattle.fst_value.specs.declared.event.ChannelHistory.{ChannelHistory}
+use Rattle.fst_base.proofs.Options.{some_same, none_some}
+use Rattle.fst_types.specs.declared.ends.ChannelName.{ChannelName}
+use Rattle.fst_types.specs.declared.ends.EndName.{EndName}
+use Rattle.fst_types.specs.declared.event.ChannelHistory.{ChannelHistory}
 use Rattle.fst_runs.specs.Configs.{Path}
 use Rattle.fst_runs.specs.Least.{IsBefore}
 use Rattle.fst_runs.proofs.NameLaws.{same_path-same, same_path-itself}
@@ -24,7 +25,6 @@ use Rattle.fst_process.specs.Kept.{Slot, Channel, end_of}
 use Rattle.fst_process.specs.KeptOf.{at_path, slot_of, channel_of, Slots, Channels, slot_in, listed, made_in, numbered}
 use Rattle.fst_process.specs.Reports.{AreRising, ComesBefore}
 use Rattle.fst_process.specs.Listed.{AreInOrder, one_waiting, waiting_in, history_of, histories_of, histories_in}
-use Rattle.fst_process.proofs.PathLaws.{some_same, none_some}
 use Rattle.fst_process.proofs.Tables.{Key, at_same}
 use Rattle.fst_process.proofs.Rising.{first_or_rest, first_in, rest_in, none_in, rising_both}
 

@@ -2,11 +2,12 @@
 use Rattle.std.proofs.Common.{◌≡◌, ◌∙◌, inl, inr, ℕ, ◌<◌, false, Option, Some, None, refl, sym, ap, subst, arith}
 use Rattle.std.specs.Prelude.{Contains, not}
 use Rattle.std.specs.Option.{option_or}
+use Rattle.fst_base.proofs.Options.{some_same, none_some}
 use Rattle.fst_terms.specs.declared.core_module.Module.{Module}
 use Rattle.fst_value.specs.ValueTree.{ValueTree}
-use Rattle.fst_value.specs.declared.ends.ChannelName.{ChannelName}
-use Rattle.fst_value.specs.declared.ends.EndName.{EndName}
-use Rattle.fst_value.specs.declared.event.ChannelHistory.{ChannelHistory}
+use Rattle.fst_types.specs.declared.ends.ChannelName.{ChannelName}
+use Rattle.fst_types.specs.declared.ends.EndName.{EndName}
+use Rattle.fst_types.specs.declared.event.ChannelHistory.{ChannelHistory}
 use Rattle.fst_machine.specs.declared.code.Code.{Code}
 use Rattle.fst_machine.specs.declared.request.Request.{Request}
 use Rattle.fst_machine.specs.declared.request.Request.TheVariants as request
@@ -15,7 +16,7 @@ use Rattle.fst_machine.specs.Machine.{Pause, stuck, calls, uses, makes, forks, p
 use Rattle.fst_vm.specs.Running.{code_of}
 use Rattle.fst_vm.specs.Tasks.{HasEnded}
 use Rattle.fst_runs.specs.Configs as runs
-use Rattle.fst_runs.specs.Configs.{Path, Config, Task, main_path, program}
+use Rattle.fst_runs.specs.Configs.{Path, Config, main_path, program}
 use Rattle.fst_runs.specs.Least.{IsBefore, WaitsAt}
 use Rattle.fst_process.specs.declared.config.Config as rust_config
 use Rattle.fst_process.specs.declared.report.Report.{Report}
@@ -25,7 +26,6 @@ use Rattle.fst_process.specs.KeptOf.{channel_of, ended_in, tasks_in, kept_of}
 use Rattle.fst_process.specs.Reflects.{Reflects}
 use Rattle.fst_process.specs.Reports.{AreRising, ComesBefore, IsMainResult, IsConfig, IsReported}
 use Rattle.fst_process.specs.Listed.{AreInOrder, waiting_in, histories_in, IsEnd}
-use Rattle.fst_process.proofs.PathLaws.{some_same, none_some}
 use Rattle.fst_process.proofs.Taking.{is_kept, is_there}
 use Rattle.fst_process.proofs.Nexts.{at_end}
 use Rattle.fst_process.proofs.Ends.{bare_there, there_bare}

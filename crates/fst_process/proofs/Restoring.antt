@@ -1,9 +1,10 @@
 -- Tasks and channels that are handed in, as what is kept of a configuration.
 use Rattle.std.proofs.Common.{◌≡◌, ◌∙◌, ◌+◌, ◌<◌, ◌≤◌, ℕ, zero, suc, Bool, true, false, Option, Some, None, [], ◌∷◌, refl, sym, ap, subst, arith}
 use Rattle.std.specs.Prelude.{length, if◌then◌else◌}
+use Rattle.fst_base.proofs.Options.{none_some}
 use Rattle.fst_lts.specs.Histories.{over}
 use Rattle.fst_terms.specs.declared.core_module.Module.{Module}
-use Rattle.fst_value.specs.declared.ends.ChannelName.{ChannelName}
+use Rattle.fst_types.specs.declared.ends.ChannelName.{ChannelName}
 use Rattle.fst_machine.specs.declared.code.Code.{Code}
 use Rattle.fst_vm.specs.Tasks.{IsFrom}
 use Rattle.fst_runs.specs.Configs as runs
@@ -13,7 +14,6 @@ use Rattle.fst_runs.proofs.NameLaws.{same_path-same}
 use Rattle.fst_process.specs.Kept.{Kept, nothing, added, put_at, settled}
 use Rattle.fst_process.specs.Reflects.{Reflects}
 use Rattle.fst_process.specs.Resuming.{Tasks, Histories, task_in, AreApart, channel_in, made_by, AreNumbered, AreThere, TasksWithin, ChannelsWithin, CanResume, IsResumed, unasked, restored, HaveNext, AreSettled}
-use Rattle.fst_process.proofs.PathLaws.{none_some}
 use Rattle.fst_process.proofs.Places.{put_here, put_cases, channel_cases}
 use Rattle.fst_process.proofs.Taking.{hide, show, later}
 use Rattle.fst_process.proofs.Fewer.{Fine, fewer}

@@ -1,11 +1,11 @@
 -- What follows for tasks from nothing having gone wrong.
 use Rattle.std.proofs.Common.{◌≡◌, ◌∙◌, Some, sym, ap}
+use Rattle.fst_base.proofs.Options.{none_some}
 use Rattle.fst_terms.specs.declared.core_module.Module.{Module}
 use Rattle.fst_machine.specs.Machine.{stuck, pause, asked}
 use Rattle.fst_runs.specs.Configs.{Path, Config, Task, program}
 use Rattle.fst_runs.specs.Wrong.{IsRight}
 use Rattle.fst_runs.proofs.Laws.{right_one, right_there, right_opposed, right_received, right_meets}
-use Rattle.fst_process.proofs.PathLaws.{none_some}
 use Rattle.fst_process.proofs.Fewer.{Fine}
 
 -- tasks that ask at ends fit where nothing has gone wrong

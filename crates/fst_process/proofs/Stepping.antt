@@ -3,6 +3,7 @@ use Rattle.std.proofs.Common.{◌≡◌, ◌∙◌, ◌+◌, ◌<◌, ℕ, zero,
 use Rattle.std.specs.Prelude.{length, not}
 use Rattle.std.specs.Coded.{le_prop}
 use Rattle.std.proofs.Math.Logic.{∥∥₁_elim}
+use Rattle.fst_base.proofs.Options.{some_same, none_some}
 use Rattle.fst_terms.specs.declared.core_module.Module.{Module}
 use Rattle.fst_machine.specs.declared.code.Code.{Code}
 use Rattle.fst_machine.specs.declared.request.Request.{Request}
@@ -17,7 +18,6 @@ use Rattle.fst_runs.specs.Events.{Asks}
 use Rattle.fst_process.specs.Kept.{Slot, Kept, has_ended, is_live, without, settled_at, settled}
 use Rattle.fst_process.specs.Reflects.{IsTask, Reflects}
 use Rattle.fst_process.specs.Firing.{IsPossible, Settles, CanGoOn, HasGoneOn}
-use Rattle.fst_process.proofs.PathLaws.{some_same, none_some}
 use Rattle.fst_process.proofs.Taking.{is_kept}
 use Rattle.fst_process.proofs.Going.{IsOf}
 

@@ -1,9 +1,9 @@
 -- When what is kept is a configuration.
 use Rattle.std.specs.Prelude.{◌≡◌, ◌≤◌, ◌↔◌, ℕ, suc, Option, Some, None, option_map, List, [], ◌∷◌, ⊤, length}
 use Rattle.fst_terms.specs.declared.core_module.Module.{Module}
-use Rattle.fst_value.specs.declared.ends.ChannelName.{ChannelName}
-use Rattle.fst_value.specs.declared.ends.EndName.{EndName}
-use Rattle.fst_value.specs.declared.event.Entry.{Entry}
+use Rattle.fst_types.specs.declared.ends.ChannelName.{ChannelName}
+use Rattle.fst_types.specs.declared.ends.EndName.{EndName}
+use Rattle.fst_types.specs.declared.event.Entry.{Entry}
 use Rattle.fst_machine.specs.declared.code.Code.{Code}
 use Rattle.fst_machine.specs.Machine.{request}
 use Rattle.fst_vm.specs.Tasks.{IsFrom, IsIn, IsAtRest}

@@ -5,8 +5,7 @@ ghost use Rattle.fst_process.specs.Firing.{IsPossible, Happens};
 use crate::config::Config;
 use fst_machine::{Answer, Code, Request};
 use fst_runs::CoreEvent;
-use fst_types::copy as copy_type;
-use fst_value::{ChannelName, Path};
+use fst_types::{ChannelName, Path, copy as copy_type};
 use std::alloc::AllocError;
 
 impl Config {

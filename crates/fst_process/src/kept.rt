@@ -8,8 +8,7 @@ ghost use Rattle.fst_process.specs.Firing.{MovesOn};
 ghost use Rattle.fst_process.specs.KeptOf.{slot_of, channel_of, numbered, IsChangedAt};
 
 use fst_machine::{Answer, Code, Request};
-use fst_types::{Side, Ty};
-use fst_value::{EndName, Entry, Event, Path};
+use fst_types::{EndName, Entry, Event, Path, Side, Ty};
 use fst_vm::Task;
 use std::alloc::{AllocError, Global};
 

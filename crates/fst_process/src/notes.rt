@@ -4,7 +4,7 @@ ghost use Rattle.fst_process.specs.KeptOf.{Channels, Keys, kept_besides};
 
 use crate::kept::{Channel, ask_among};
 use fst_machine::Request;
-use fst_value::{EndName, Path};
+use fst_types::{EndName, Path};
 use std::alloc::{AllocError, Global};
 use std::collections::{BTreeMap, BTreeSet};
 

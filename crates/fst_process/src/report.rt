@@ -8,7 +8,8 @@ ghost use Rattle.fst_process.specs.Listed.{waiting_in, histories_of, histories_i
 
 use crate::kept::{Channel, EndedTask, Slot};
 use fst_machine::Request;
-use fst_value::{ChannelHistory, ChannelName, EndName, Path, Value};
+use fst_types::{ChannelHistory, ChannelName, EndName, Path};
+use fst_value::Value;
 use std::alloc::{AllocError, Global};
 use std::collections::BTreeMap;
 

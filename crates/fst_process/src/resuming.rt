@@ -5,7 +5,7 @@ ghost use Rattle.fst_process.specs.Resuming.{HaveNext, AreSettled, restored, Can
 use crate::config::Config;
 use crate::kept::Channel;
 use fst_machine::Code;
-use fst_value::ChannelHistory;
+use fst_types::ChannelHistory;
 use fst_vm::Task;
 use std::alloc::{AllocError, Global};
 

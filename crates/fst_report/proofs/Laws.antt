@@ -8,7 +8,7 @@ use Rattle.fst_types.specs.declared.kind.Use.TheVariants.{Many}
 use Rattle.fst_kinds.specs.Kinds.{session, HasKind, AllSessions}
 use Rattle.fst_kinds.specs.WellFormed.{IsSession}
 use Rattle.fst_kinds.proofs.Laws.{not_top}
-use Rattle.fst_value.specs.declared.event.ChannelHistory.{ChannelHistory}
+use Rattle.fst_types.specs.declared.event.ChannelHistory.{ChannelHistory}
 use Rattle.fst_report.specs.DeclaredTypes.{AreScoped, AreNamedWithin}
 
 mutual

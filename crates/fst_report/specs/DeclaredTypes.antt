@@ -2,7 +2,7 @@
 use Rattle.std.specs.Prelude.{ℕ, List, All}
 use Rattle.fst_types.specs.Named.{IsNamedWithin}
 use Rattle.fst_types.specs.Scoped.{IsScoped}
-use Rattle.fst_value.specs.declared.event.ChannelHistory.{ChannelHistory}
+use Rattle.fst_types.specs.declared.event.ChannelHistory.{ChannelHistory}
 
 -- no recursion variable is free in the declared type of any of these channels
 abbrev pub AreScoped : List ChannelHistory → Type 0

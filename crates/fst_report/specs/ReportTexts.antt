@@ -7,11 +7,11 @@ use Rattle.fst_lts.specs.Step.{step}
 use Rattle.fst_lts.specs.Histories.{sending, after_event}
 use Rattle.fst_value.specs.ValueTree.{ValueTree, int, bool, char, unit}
 use Rattle.fst_value.specs.Texts.{value_text}
-use Rattle.fst_value.specs.declared.ends.ChannelName.{ChannelName}
-use Rattle.fst_value.specs.declared.event.Event.{Event}
-use Rattle.fst_value.specs.declared.event.Event.TheVariants as event
-use Rattle.fst_value.specs.declared.event.Entry.{Entry}
-use Rattle.fst_value.specs.declared.event.ChannelHistory.{ChannelHistory}
+use Rattle.fst_types.specs.declared.ends.ChannelName.{ChannelName}
+use Rattle.fst_types.specs.declared.event.Event.{Event}
+use Rattle.fst_types.specs.declared.event.Event.TheVariants as event
+use Rattle.fst_types.specs.declared.event.Entry.{Entry}
+use Rattle.fst_types.specs.declared.event.ChannelHistory.{ChannelHistory}
 use Rattle.fst_type_print.specs.Texts.{joined_text, type_text, family_names, side_text}
 use Rattle.fst_process.specs.declared.report.Report.{Report}
 use Rattle.fst_process.specs.declared.report.Waiting.{Waiting}

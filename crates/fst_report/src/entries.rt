@@ -1,13 +1,13 @@
 //! What passed over a channel as text, seen from its left end.
 
 ghost use Rattle.std.specs.Prelude.{◌≡◌, ◌++◌, OnOk, codes};
-ghost use Rattle.fst_type_print.specs.Adds.{Adds};
+ghost use Rattle.fst_base.specs.Gains.{Gains};
 ghost use Rattle.fst_report.specs.ReportTexts.{behind_event, entries_text, event_text, label_sign, sends, value_sign};
 
 use crate::residual::Residual;
-use fst_type_print::{name_text, push_number};
-use fst_types::Ty;
-use fst_value::{Entry, Event, push_quoted, truth_text};
+use fst_base::push_number;
+use fst_types::{Entry, Event, Ty};
+use fst_value::{push_quoted, truth_text};
 use std::alloc::{AllocError, Global};
 
 fn value_sign(out: bool) -> &'static str
@@ -23,7 +23,7 @@ fn label_sign(out: bool) -> &'static str
 }
 
 fn push_event(text: &mut String, out: bool, event: &Event) -> Result<(), AllocError>
-    ensures { Adds result text.old text.new (event_text out event.now) }
+    ensures { Gains result text.old text.new (event_text out event.now) }
 {
     match event {
         Event::Int(number) => {
@@ -44,7 +44,7 @@ fn push_event(text: &mut String, out: bool, event: &Event) -> Result<(), AllocEr
         }
         Event::Label(label) => {
             text.push_str(label_sign(out))?;
-            text.push_str(name_text(label))
+            text.push_str(label.as_str())
         }
     }
 }
@@ -56,7 +56,7 @@ fn push_entry(
     residual: &mut Residual,
     entry: &Entry,
 ) -> Result<(), AllocError>
-    ensures text { Adds result text.old text.new (codes " " ++ event_text (sends residual.old entry.now.event) entry.now.event) }
+    ensures text { Gains result text.old text.new (codes " " ++ event_text (sends residual.old entry.now.event) entry.now.event) }
     ensures left { OnOk result (residual.new ≡ behind_event residual.old entry.now.event) }
 {
     let out = residual.advance(alloc, &entry.event)?;
@@ -70,7 +70,7 @@ pub(crate) fn push_entries(
     declared: &Ty,
     entries: &[Entry],
 ) -> Result<(), AllocError>
-    ensures { Adds result text.old text.new (entries_text declared.now entries.now) }
+    ensures { Gains result text.old text.new (entries_text declared.now entries.now) }
 {
     let mut residual = Residual::of(alloc, declared)?;
     for entry in entries {

@@ -1,15 +1,15 @@
 //! Paths and channels as text.
 
 ghost use Rattle.std.specs.Prelude.{◌≡◌};
-ghost use Rattle.fst_type_print.specs.Adds.{Adds};
+ghost use Rattle.fst_base.specs.Gains.{Gains};
 ghost use Rattle.fst_report.specs.ReportTexts.{channel_text, path_text};
 
-use fst_type_print::push_number;
-use fst_value::{ChannelName, Path};
+use fst_base::push_number;
+use fst_types::{ChannelName, Path};
 use std::alloc::AllocError;
 
 fn push_numbers(text: &mut String, numbers: &[u32]) -> Result<(), AllocError>
-    ensures { Adds result text.old text.new (path_text numbers.now) }
+    ensures { Gains result text.old text.new (path_text numbers.now) }
 {
     let [first, others @ ..] = numbers else {
         return Ok(());
@@ -23,13 +23,13 @@ fn push_numbers(text: &mut String, numbers: &[u32]) -> Result<(), AllocError>
 }
 
 pub(crate) fn push_path(text: &mut String, path: &Path) -> Result<(), AllocError>
-    ensures { Adds result text.old text.new (path_text path.now) }
+    ensures { Gains result text.old text.new (path_text path.now) }
 {
     push_numbers(text, path.as_slice())
 }
 
 pub(crate) fn push_channel(text: &mut String, name: &ChannelName) -> Result<(), AllocError>
-    ensures { Adds result text.old text.new (channel_text name.now) }
+    ensures { Gains result text.old text.new (channel_text name.now) }
 {
     push_path(text, &name.maker)?;
     text.push_str("#")?;

@@ -3,7 +3,7 @@ ghost use Rattle.std.specs.List.{flat_map};
 ghost use Rattle.std.specs.String.{string_bytes};
 ghost use Rattle.fst_types.specs.Named.{IsNamedWithin};
 ghost use Rattle.fst_types.specs.Scoped.{IsScoped};
-ghost use Rattle.fst_type_print.specs.Adds.{Adds};
+ghost use Rattle.fst_base.specs.Gains.{Gains};
 ghost use Rattle.fst_report.specs.DeclaredTypes.{AreNamedWithin, AreScoped};
 ghost use Rattle.fst_report.specs.ReportTexts.{history_line, history_text, report_text, result_line, type_line, waiting_text};
 
@@ -11,8 +11,8 @@ use crate::entries::push_entries;
 use crate::names::{push_channel, push_path};
 use fst_process::{Report, Waiting};
 use fst_type_print::{side_text, type_text};
-use fst_types::Family;
-use fst_value::{ChannelHistory, Value, print};
+use fst_types::{ChannelHistory, Family};
+use fst_value::{Value, print};
 use std::alloc::{AllocError, Global};
 
 pub(crate) fn push_result(
@@ -21,7 +21,7 @@ pub(crate) fn push_result(
     value: &Option<Value>,
     families: &[Family],
 ) -> Result<(), AllocError>
-    ensures { Adds result text.old text.new (result_line families.now value.now) }
+    ensures { Gains result text.old text.new (result_line families.now value.now) }
 {
     text.push_str("result ")?;
     match value {
@@ -32,7 +32,7 @@ pub(crate) fn push_result(
 }
 
 fn push_waiting(text: &mut String, waiting: &Waiting) -> Result<(), AllocError>
-    ensures { Adds result text.old text.new (waiting_text waiting.now) }
+    ensures { Gains result text.old text.new (waiting_text waiting.now) }
 {
     text.push_str("waiting ")?;
     push_path(text, &waiting.task)?;
@@ -44,7 +44,7 @@ fn push_waiting(text: &mut String, waiting: &Waiting) -> Result<(), AllocError>
 }
 
 fn push_tasks(text: &mut String, tasks: &[Waiting]) -> Result<(), AllocError>
-    ensures { Adds result text.old text.new (flat_map waiting_text tasks.now) }
+    ensures { Gains result text.old text.new (flat_map waiting_text tasks.now) }
 {
     for task in tasks {
         push_waiting(text, task)?;
@@ -60,7 +60,7 @@ fn push_type_line(
 ) -> Result<(), AllocError>
     requires scoped { IsScoped 0 channel.now.declared }
     requires named { IsNamedWithin (length families.now) channel.now.declared }
-    ensures { Adds result text.old text.new (type_line families.now channel.now) }
+    ensures { Gains result text.old text.new (type_line families.now channel.now) }
 {
     text.push_str("channel ")?;
     push_channel(text, &channel.name)?;
@@ -74,7 +74,7 @@ fn push_history_line(
     text: &mut String,
     channel: &ChannelHistory,
 ) -> Result<(), AllocError>
-    ensures { Adds result text.old text.new (history_line channel.now) }
+    ensures { Gains result text.old text.new (history_line channel.now) }
 {
     text.push_str("history ")?;
     push_channel(text, &channel.name)?;
@@ -91,7 +91,7 @@ fn push_history(
 ) -> Result<(), AllocError>
     requires scoped { IsScoped 0 channel.now.declared }
     requires named { IsNamedWithin (length families.now) channel.now.declared }
-    ensures { Adds result text.old text.new (history_text families.now channel.now) }
+    ensures { Gains result text.old text.new (history_text families.now channel.now) }
 {
     push_type_line(alloc, text, channel, families)?;
     push_history_line(alloc, text, channel)
@@ -105,7 +105,7 @@ fn push_channels(
 ) -> Result<(), AllocError>
     requires scoped { AreScoped channels.now }
     requires named { AreNamedWithin (length families.now) channels.now }
-    ensures { Adds result text.old text.new (flat_map (history_text families.now) channels.now) }
+    ensures { Gains result text.old text.new (flat_map (history_text families.now) channels.now) }
 {
     for channel in channels {
         push_history(alloc, text, channel, families)?;

@@ -2,14 +2,12 @@
 
 ghost use Rattle.std.specs.Prelude.{◌≡◌, ◌<◌, ◌+◌, ◌∷◌, [], IfOk, OnOk, MatchOption, reverse};
 ghost use Rattle.fst_types.specs.Size.{nodes};
-ghost use Rattle.fst_lts.specs.Dual.{dual_label};
-ghost use Rattle.fst_lts.specs.Histories.{after_event, sending};
+ghost use Rattle.fst_lts.specs.Histories.{after_event};
 ghost use Rattle.fst_report.specs.Parts.{MoveAlike, MovesFirst, left_in, nodes_in};
 ghost use Rattle.fst_report.specs.ReportTexts.{behind_event, sends};
 
-use fst_lts::{step, terminated};
-use fst_types::{Base, Label, Ty, TyForm, copy};
-use fst_value::Event;
+use fst_lts::{receiving_label, sending_label, step, terminated};
+use fst_types::{Event, Ty, TyForm, copy};
 use std::alloc::{AllocError, Global};
 use std::marker::Model;
 
@@ -102,42 +100,17 @@ fn next_part(parts: &mut Vec<Ty>) -> Result<Ty, AllocError>
     Ok(Ty { form: TyForm::Skip })
 }
 
-// The label by which a type moves where the event is sent.
-fn sending(alloc: Global, event: &Event) -> Result<Label, AllocError>
-    ensures { IfOk result (λ label. label ≡ sending event.now) }
-{
-    match event {
-        Event::Int(_) => Ok(Label::Send(Base::Int)),
-        Event::Bool(_) => Ok(Label::Send(Base::Bool)),
-        Event::Char(_) => Ok(Label::Send(Base::Char)),
-        Event::Unit => Ok(Label::Send(Base::Unit)),
-        Event::Label(name) => Ok(Label::Select(name.copy(alloc)?)),
-    }
-}
-
-// The label of the other side, with the same name.
-fn dual_label(label: Label) -> Label
-    ensures { result ≡ dual_label label }
-{
-    match label {
-        Label::Send(base) => Label::Receive(base),
-        Label::Receive(base) => Label::Send(base),
-        Label::Select(name) => Label::Offer(name),
-        Label::Offer(name) => Label::Select(name),
-        Label::Var(k) => Label::Var(k),
-    }
-}
-
 // Whether an end of this type sends the event, and its type behind it.
 fn after_event(alloc: Global, ty: &Ty, event: &Event) -> Result<(bool, Option<Ty>), AllocError>
     ensures sends { IfOk result (λ found. found.0 ≡ sends ty.now event.now) }
     ensures behind { IfOk result (λ found. found.1 ≡ after_event ty.now event.now) }
 {
-    let label = sending(alloc, event)?;
-    match step(alloc, ty, &label)? {
-        Some(behind) => Ok((true, Some(behind))),
-        None => Ok((false, step(alloc, ty, &dual_label(label))?)),
+    let sent = sending_label(alloc, event)?;
+    if let Some(behind) = step(alloc, ty, &sent)? {
+        return Ok((true, Some(behind)));
     }
+    let received = receiving_label(alloc, event)?;
+    Ok((false, step(alloc, ty, &received)?))
 }
 
 // Goes on to what is left behind the event: the parts behind the first one stay as they are.

@@ -2,16 +2,16 @@
 
 ghost use Rattle.std.specs.Prelude.{◌≡◌, IfOk};
 ghost use Rattle.std.specs.String.{string_bytes};
-ghost use Rattle.fst_type_print.specs.Adds.{Adds};
+ghost use Rattle.fst_base.specs.Gains.{Gains};
 ghost use Rattle.fst_report.specs.SummaryTexts.{count_line, summary_text};
 
 use crate::report::push_result;
+use fst_base::push_number;
 use fst_process::Report;
-use fst_type_print::push_number;
 use std::alloc::{AllocError, Global};
 
 fn push_count(text: &mut String, name: &str, count: u64) -> Result<(), AllocError>
-    ensures { Adds result text.old text.new (count_line name.now count) }
+    ensures { Gains result text.old text.new (count_line name.now count) }
 {
     text.push_str(name)?;
     text.push_str(" ")?;

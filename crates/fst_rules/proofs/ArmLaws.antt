@@ -2,6 +2,7 @@
 use Rattle.std.proofs.Common.{◌≡◌, ◌∙◌, ◌+◌, ◌≤◌, ◌<◌, ℕ, zero, suc, Bool, true, false, List, [], ◌∷◌, length, slice_get, Option, Some, None, refl, ap, subst, arith, nat_eq, add-one}
 use Rattle.std.specs.Prelude.{if◌then◌else◌}
 use Rattle.std.proofs.lemmas.Option.{same_Some}
+use Rattle.fst_base.proofs.Bools.{same_nat}
 use Rattle.fst_types.specs.Tree.{Tree}
 use Rattle.fst_types.specs.declared.kind.Kind.{Kind}
 use Rattle.fst_terms.specs.CoreTree.{CoreTree}
@@ -47,9 +48,6 @@ entered_long vars (x ∷ xs) (t ∷ ts) s r h =
 pub closed_next : (i : ℕ) (s r q : Scope) → closed_all i s ≡ Some r → closed r ≡ Some q → closed_all (i + 1) s ≡ Some q
 closed_next i s r q h e = rw add-one (ap (λ o. next o closed) h ∙ e)
 
-number_same : (m n : ℕ) → nat_eq m n ≡ true → m ≡ n
-number_same m n h = grind arith
-
 number_less : (m n : ℕ) → nat_eq m (suc n) ≡ false → m ≤ suc n → m ≤ n
 number_less m n h e = grind arith
 
@@ -58,7 +56,7 @@ closed_stops zero i s h e = let z : i ≡ 0 = omega arith in subst (λ k. closed
 closed_stops (suc n) i s h e = pick (nat_eq i (suc n)) refl (closed_stops n i s)
   where
     pick : (b : Bool) → nat_eq i (suc n) ≡ b → (i ≤ n → closed_all i s ≡ None → closed_all n s ≡ None) → closed_all (suc n) s ≡ None
-    pick true f go = subst (λ k. closed_all k s ≡ None) (number_same i (suc n) f) e
+    pick true f go = subst (λ k. closed_all k s ≡ None) (same_nat i (suc n) f) e
     pick false f go = ap (λ o. next o closed) (go (number_less i n f h) e)
 
 pub closed_none : (n i : ℕ) (s r : Scope) → closed_all i s ≡ Some r → closed r ≡ None → i < n → closed_all n s ≡ None

@@ -1,14 +1,15 @@
 -- Walks inside a variable, in the body of a function, along two branches, and of a variable itself.
-use Rattle.std.proofs.Common.{◌≡◌, ◌∙◌, ℕ, zero, suc, Bool, true, false, ◌&&◌, not, List, [], ◌∷◌, Some, None, slice_get, refl, sym, ap, subst}
+use Rattle.std.proofs.Common.{◌≡◌, ◌∙◌, ℕ, zero, suc, Bool, true, false, ◌&&◌, List, [], ◌∷◌, Some, None, slice_get, refl, sym, ap, subst}
 use Rattle.std.specs.Prelude.{if◌then◌else◌, cond}
 use Rattle.std.proofs.lemmas.Option.{same_Some}
+use Rattle.fst_base.proofs.Bools.{never_both}
 use Rattle.fst_types.specs.declared.kind.Use.{Use}
 use Rattle.fst_types.specs.declared.kind.Use.TheVariants.{Many, Once}
 use Rattle.fst_context.specs.Vars.{Vars, no_vars, under, single}
 use Rattle.fst_context.specs.Scope.{Scope, Variable, is_once, at_or_not, linear_at, is_inside, mark, entered, left, begun, ended, open_in, without, IsWithin, Takes}
 use Rattle.fst_context.specs.View.{after_take}
 use Rattle.fst_context.specs.declared.context.Taken.TheVariants.{Here, Gone, Outside}
-use Rattle.fst_context.proofs.Laws.{takes_as, takes_inside, takes_body, same_used, within_entered, left_entered, ended_begun}
+use Rattle.fst_context.proofs.Laws.{takes_as, takes_inside, takes_body, same_used, within_entered, left_entered, ended_begun, linear_of, single_at}
 use Rattle.fst_rules.specs.Walks.{Walk, next, closed, inside, in_body, same_marks, agreed, branches, further, taken_as, taking}
 use Rattle.fst_rules.proofs.Deciding.{Decides, next_some}
 
@@ -17,10 +18,6 @@ use Rattle.fst_rules.proofs.Deciding.{Decides, next_some}
 closed_some : (b : Bool) (s r : Scope) → (if b then None else Some s) ≡ Some r → (b ≡ false) × (s ≡ r)
 closed_some true s r e = absurd (cc e)
 closed_some false s r e = (refl, same_Some s r e)
-
-not_there : (b : Bool) → (b && not b) ≡ false
-not_there true = refl
-not_there false = refl
 
 pub decides_inside : (g : List Variable) (x : List ℕ) (v : Variable) (P : Vars → Type 0) (F : Walk) → Decides (v ∷ g) P F → Decides g (λ u. P (under (is_once v.uses) u)) (inside x v F)
 decides_inside g x v P F d = record {
@@ -33,7 +30,7 @@ decides_inside g x v P F d = record {
       let o = is_once v.uses in
       let f = d.complete (entered x v s) (under o u) (ap (λ z. v ∷ z) e) q (within_entered x v s u w) in
       ap (λ z. next z closed) f
-      ∙ ap (λ b. if b then None else Some (left (without (under o u) (entered x v s)))) (not_there o)
+      ∙ ap (λ b. if b then None else Some (left (without (under o u) (entered x v s)))) (never_both o)
       ∙ ap Some (left_entered x v s u);
 }
 
@@ -133,20 +130,11 @@ agrees_further g P T F G x y = record {
 
 -- ---- a variable
 
-linear_of : (vs : List Variable) (k : ℕ) (v : Variable) → slice_get vs k ≡ Some v → linear_at vs k ≡ is_once v.uses
-linear_of [] k v h = absurd (cc h)
-linear_of (x ∷ vs) zero v h = let e : x ≡ v = cc in ap (λ z. is_once z.uses) e
-linear_of (x ∷ vs) (suc k) v h = linear_of vs k v h
-
 in_single : (b : Bool) (k j : ℕ) → single b k j ≡ true → (b ≡ true) × (k ≡ j)
 in_single b zero zero h = (h, refl)
 in_single b zero (suc j) h = absurd (cc h)
 in_single b (suc k) zero h = absurd (cc h)
 in_single b (suc k) (suc j) h = let r = in_single b k j h in (r.0, ap suc r.1)
-
-single_at : (k : ℕ) → single true k k ≡ true
-single_at zero = refl
-single_at (suc k) = single_at k
 
 taken_some : (l t i : Bool) (k : ℕ) (s r : Scope) → taken_as (cond l (cond t (cond i Here Outside) Gone) Here) k s ≡ Some r → (l ≡ true → (t && i) ≡ true) × (after_take Here k s ≡ r)
 taken_some false t i k s r h = ((λ e. absurd (cc e)), same_Some (after_take Here k s) r h)

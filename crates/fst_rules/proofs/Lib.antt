@@ -9,6 +9,5 @@ mod WalkedTerms
 mod FollowLaws
 mod WalkedFields
 mod WalkedArms
-mod ListHeights
 mod ArmLaws
 mod HoldLaws

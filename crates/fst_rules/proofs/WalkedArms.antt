@@ -1,8 +1,7 @@
 -- The same of arms.
 use Rattle.std.proofs.Common.{◌≡◌, ◌∙◌, ℕ, suc, Bool, true, false, List, [], ◌∷◌, length, map, Option, Some, None, slice_get, refl, sym, ap, subst}
 use Rattle.std.proofs.lemmas.Option.{same_Some}
-use Rattle.std.specs.Prelude.{⊤}
-use Rattle.std.specs.List.{AllByRecursion}
+use Rattle.fst_base.proofs.Alls.{all_any}
 use Rattle.fst_types.specs.Tree.{Tree, named}
 use Rattle.fst_types.specs.declared.family.Family.{Family}
 use Rattle.fst_types.specs.declared.family.Maker.{Maker}
@@ -35,10 +34,6 @@ same_part d h ds es e = (cc, cc)
 next_twice : (o : Option Scope) (F G : Walk) → next (next o F) G ≡ next o (λ s. next (F s) G)
 next_twice None F G = refl
 next_twice (Some s) F G = refl
-
-all_any : (ts : List Tree) → AllByRecursion (λ (t : Tree). ⊤) ts
-all_any [] = tt
-all_any (t ∷ ts) = (tt, all_any ts)
 
 -- ---- variables of arms
 

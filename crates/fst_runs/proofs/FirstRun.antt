@@ -27,7 +27,37 @@ types = type.send base.Int ∷ []
 -- a channel is made, a task forked, and both meet
 run : (d : Config) × Runs program types (started main) (New (0 ∷ []) ∷ Fork (0 ∷ []) ∷ Meet (0 ∷ 1 ∷ []) (0 ∷ []) (record { maker = 0 ∷ []; count = 1 }) ∷ []) d
 unfolding main program types x
-run = (_, (_, (_, _, _, _, (refl, refl), refl, refl, refl), (_, (_, _, _, (refl, refl), refl, refl, refl), (_, (_, _, _, _, _, _, _, (refl, refl), (refl, refl), refl, refl, refl, refl, refl), refl))))
+run = (
+  _,
+  (
+    _,
+    record { task = _; state = _; number = _; declared = _; asks = (refl, refl); typed = refl; leads = refl; writes = refl },
+    (
+      _,
+      record { task = _; state = _; begun = _; asks = (refl, refl); begins = refl; leads = refl; writes = refl },
+      (
+        _,
+        record {
+          sender = _;
+          receiver = _;
+          end = _;
+          event = _;
+          sent = _;
+          got = _;
+          channel = _;
+          puts = (refl, refl);
+          gets = (refl, refl);
+          named = refl;
+          there = refl;
+          sender_leads = refl;
+          receiver_leads = refl;
+          writes = refl;
+        },
+        refl,
+      ),
+    ),
+  ),
+)
 
 -- main's task then has ended with 5
 ends_with_five : (t : Task) × (run.0.tasks (0 ∷ []) ≡ Some t) × (pause [] t.state ≡ ended (value.int (pos 5)))

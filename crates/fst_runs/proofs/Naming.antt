@@ -4,19 +4,19 @@ use Rattle.std.proofs.Common.{Bool, true, false, Option, Some, None, refl, sym, 
 use Rattle.std.proofs.lemmas.Option.{none-some, same_Some}
 use Rattle.fst_types.specs.Tree.{Tree}
 use Rattle.fst_terms.specs.CoreTree.{CoreTree}
-use Rattle.fst_value.specs.declared.ends.ChannelName.{ChannelName}
-use Rattle.fst_value.specs.declared.ends.EndName.{EndName}
-use Rattle.fst_value.specs.declared.event.Event.{Event}
+use Rattle.fst_types.specs.declared.ends.ChannelName.{ChannelName}
+use Rattle.fst_types.specs.declared.ends.EndName.{EndName}
+use Rattle.fst_types.specs.declared.event.Event.{Event}
 use Rattle.fst_machine.specs.declared.request.Request.TheVariants as request
 use Rattle.fst_machine.specs.Machine as machine
 use Rattle.fst_machine.specs.Machine.{Program, State, begins}
 use Rattle.fst_runs.specs.declared.event.CoreEvent.{CoreEvent}
 use Rattle.fst_runs.specs.declared.event.CoreEvent.TheVariants.{Local, New, Fork, Meet}
 use Rattle.fst_runs.specs.Configs.{Path, Task, Channel, Config, same_path, same_channel, other, child_path, channel_name, new_task, main_path, started}
-use Rattle.fst_runs.specs.Events.{Write, written, moved, meeting_stamp, extended, Asks, Does, Runs}
+use Rattle.fst_runs.specs.Events.{Write, written, moved, meeting_stamp, extended, Asks, Does, Runs, has_made, has_forked, has_met, passed}
 use Rattle.fst_runs.specs.Names.{HasMakers, HasParents}
 use Rattle.fst_runs.proofs.NameLaws.{same_path-same, same_channel-same}
-use Rattle.fst_runs.proofs.Updates.{put, with_task, with_channel, in_test, in_put, has_made, has_forked, has_met, passed}
+use Rattle.fst_runs.proofs.Updates.{put, with_task, with_channel, in_test, in_put}
 use Rattle.fst_runs.proofs.Updates.{local_puts, new_puts, fork_puts, meet_puts, put_there, stays_apart, stays_there, stays_free}
 
 last_same : (p q : List ℕ) (j k : ℕ) → p ++ j ∷ [] ≡ q ++ k ∷ [] → (p ≡ q) × (j ≡ k)
@@ -215,16 +215,16 @@ pub named_after : (m : Program) (types : List Tree) (c : Config) (e : CoreEvent)
     HasMakers (written c w) × HasParents (written c w)
 named_after m types c (Local p) w d hm hp =
     subst (λ z. HasMakers z × HasParents z) (sym (local_puts m types c p w d))
-    (makers_with c p d.0 (moved d.0 d.1) hm d.2.0 (omega arith, omega arith), parents_with c p d.0 (moved d.0 d.1) hp d.2.0 (omega arith, omega arith))
+    (makers_with c p d.task (moved d.task d.state) hm d.asks.0 (omega arith, omega arith), parents_with c p d.task (moved d.task d.state) hp d.asks.0 (omega arith, omega arith))
 named_after m types c (New p) w d hm hp =
     subst (λ z. HasMakers z × HasParents z) (sym (new_puts m types c p w d))
-    (named_new c p d.0 d.1 (suc d.0.clock) (record { declared = d.3; history = [] }) hm hp d.4.0)
+    (named_new c p d.task d.state (suc d.task.clock) (record { declared = d.declared; history = [] }) hm hp d.asks.0)
 named_after m types c (Fork p) w d hm hp =
-    subst (λ z. HasMakers z × HasParents z) (sym (fork_puts m types c p w d)) (named_fork c p d.0 d.1 (suc d.0.clock) (new_task d.2 (suc d.0.clock)) hm hp d.3.0)
+    subst (λ z. HasMakers z × HasParents z) (sym (fork_puts m types c p w d)) (named_fork c p d.task d.state (suc d.task.clock) (new_task d.begun (suc d.task.clock)) hm hp d.asks.0)
 named_after m types c (Meet p q h) w d hm hp =
     subst (λ z. HasMakers z × HasParents z) (sym (meet_puts m types c p q h w d))
-    (named_meet c p q d.0 d.1 d.4 d.5 (meeting_stamp d.0 d.1 d.6) h d.6 (extended d.6 (passed d.3 d.0 d.1 d.6)) hm hp d.7.0 d.8.0
-    (asks_apart m c p q d.0 d.1 d.2 (other d.2) d.3 d.7 d.8) d.10)
+    (named_meet c p q d.sender d.receiver d.sent d.got (meeting_stamp d.sender d.receiver d.channel) h d.channel (extended d.channel (passed d.event d.sender d.receiver d.channel)) hm hp d.puts.0 d.gets.0
+    (asks_apart m c p q d.sender d.receiver d.end (other d.end) d.event d.puts d.gets) d.there)
 
 -- and along a run
 pub named_on : (m : Program) (types : List Tree) (es : List CoreEvent) (c d : Config) → HasMakers c → HasParents c → Runs m types c es d → HasMakers d × HasParents d

@@ -1,17 +1,15 @@
 -- Configurations in which tasks and channels are put, and that what an event writes puts some.
-use Rattle.std.proofs.Common.{◌≡◌, ◌∙◌, ℕ, suc, List, [], Bool, true, false, Option, Some, None, refl, sym, ap}
+use Rattle.std.proofs.Common.{◌≡◌, ◌∙◌, suc, List, [], Bool, true, false, Option, Some, None, refl, sym, ap}
 use Rattle.std.specs.Prelude.{if◌then◌else◌}
 use Rattle.std.proofs.lemmas.Option.{none-some, same_Some}
 use Rattle.fst_types.specs.Tree.{Tree}
 use Rattle.fst_lts.specs.Histories.{over}
-use Rattle.fst_value.specs.declared.ends.ChannelName.{ChannelName}
-use Rattle.fst_value.specs.declared.ends.EndName.{EndName}
-use Rattle.fst_value.specs.declared.event.Event.{Event}
-use Rattle.fst_value.specs.declared.event.Entry.{Entry}
-use Rattle.fst_machine.specs.Machine.{Program, State}
+use Rattle.fst_types.specs.declared.ends.ChannelName.{ChannelName}
+use Rattle.fst_types.specs.declared.ends.EndName.{EndName}
+use Rattle.fst_machine.specs.Machine.{Program}
 use Rattle.fst_runs.specs.declared.event.CoreEvent.TheVariants.{Local, New, Fork, Meet}
 use Rattle.fst_runs.specs.Configs.{Path, Task, Channel, Config, same_path, same_channel, child_path, channel_name, new_task}
-use Rattle.fst_runs.specs.Events.{Write, written, moved, meeting_stamp, extended, Does}
+use Rattle.fst_runs.specs.Events.{Write, written, moved, meeting_stamp, extended, has_made, has_forked, has_met, passed, Does}
 use Rattle.fst_runs.specs.Wrong.{amount, held_state}
 use Rattle.fst_runs.proofs.NameLaws.{same_path-itself, same_path-same, same_path-apart}
 
@@ -48,52 +46,36 @@ pub in_put : {X P : Type 0} (b : Bool) (x y : X) (o : Option X) → (b ≡ true 
 in_put true x y o f g e = f refl (same_Some x y e)
 in_put false x y o f g e = g refl e
 
--- the task once it has made a channel
-abbrev pub has_made : Task → State → ℕ → Task
-has_made t s clock = record { state = s; made = suc t.made; forked = t.forked; clock = clock }
-
--- once it has made a task
-abbrev pub has_forked : Task → State → ℕ → Task
-has_forked t s clock = record { state = s; made = t.made; forked = suc t.forked; clock = clock }
-
--- and once it has met another
-abbrev pub has_met : Task → State → ℕ → Task
-has_met t s clock = record t { state = s; clock = clock }
-
--- what passes where two tasks meet
-abbrev pub passed : Event → Task → Task → Channel → Entry
-passed ev t u k = record { event = ev; stamp = meeting_stamp t u k; sent = t.clock; got = u.clock }
-
 module _ (m : Program) (types : List Tree) (c : Config) where
   -- a task that goes on by itself is put
-  pub local_puts : (p : Path) (w : Write) (d : Does m types c (Local p) w) → written c w ≡ with_task c p (moved d.0 d.1)
-  local_puts p w d = ap (written c) d.4 ∙ (λ i. record { tasks = λ o. put_one (same_path p o) (moved d.0 d.1) (c.tasks o) i; channels = c.channels })
+  pub local_puts : (p : Path) (w : Write) (d : Does m types c (Local p) w) → written c w ≡ with_task c p (moved d.task d.state)
+  local_puts p w d = ap (written c) d.writes ∙ (λ i. record { tasks = λ o. put_one (same_path p o) (moved d.task d.state) (c.tasks o) i; channels = c.channels })
 
   -- one that makes a channel is, and the channel
   pub new_puts : (p : Path) (w : Write) (d : Does m types c (New p) w) →
-      written c w ≡ with_task (with_channel c (channel_name p d.0.made) (record { declared = d.3; history = [] })) p (has_made d.0 d.1 (suc d.0.clock))
-  new_puts p w d = ap (written c) d.7 ∙ (λ i. record {
-    tasks = λ o. put_one (same_path p o) (has_made d.0 d.1 (suc d.0.clock)) (c.tasks o) i;
-    channels = λ g. put_one (same_channel (channel_name p d.0.made) g) (record { declared = d.3; history = [] }) (c.channels g) i;
+      written c w ≡ with_task (with_channel c (channel_name p d.task.made) (record { declared = d.declared; history = [] })) p (has_made d.task d.state (suc d.task.clock))
+  new_puts p w d = ap (written c) d.writes ∙ (λ i. record {
+    tasks = λ o. put_one (same_path p o) (has_made d.task d.state (suc d.task.clock)) (c.tasks o) i;
+    channels = λ g. put_one (same_channel (channel_name p d.task.made) g) (record { declared = d.declared; history = [] }) (c.channels g) i;
   })
 
   -- one that makes a task is, and the task
   pub fork_puts : (p : Path) (w : Write) (d : Does m types c (Fork p) w) →
-      written c w ≡ with_task (with_task c p (has_forked d.0 d.1 (suc d.0.clock))) (child_path p d.0.forked) (new_task d.2 (suc d.0.clock))
-  fork_puts p w d = ap (written c) d.6 ∙ (λ i. record {
-    tasks = λ o. put_two (same_path (child_path p d.0.forked) o) (same_path p o) (new_task d.2 (suc d.0.clock)) (has_forked d.0 d.1 (suc d.0.clock)) (c.tasks o) i;
+      written c w ≡ with_task (with_task c p (has_forked d.task d.state (suc d.task.clock))) (child_path p d.task.forked) (new_task d.begun (suc d.task.clock))
+  fork_puts p w d = ap (written c) d.writes ∙ (λ i. record {
+    tasks = λ o. put_two (same_path (child_path p d.task.forked) o) (same_path p o) (new_task d.begun (suc d.task.clock)) (has_forked d.task d.state (suc d.task.clock)) (c.tasks o) i;
     channels = c.channels;
   })
 
   -- two that meet are, and the channel over which something passes
   pub meet_puts : (p q : Path) (h : ChannelName) (w : Write) (d : Does m types c (Meet p q h) w) →
-      written c w ≡ with_task (with_task (with_channel c h (extended d.6 (passed d.3 d.0 d.1 d.6))) p (has_met d.0 d.4 (meeting_stamp d.0 d.1 d.6)))
-      q (has_met d.1 d.5 (meeting_stamp d.0 d.1 d.6))
+      written c w ≡ with_task (with_task (with_channel c h (extended d.channel (passed d.event d.sender d.receiver d.channel))) p (has_met d.sender d.sent (meeting_stamp d.sender d.receiver d.channel)))
+      q (has_met d.receiver d.got (meeting_stamp d.sender d.receiver d.channel))
   meet_puts p q h w d =
-      let n = meeting_stamp d.0 d.1 d.6 in
-      ap (written c) d.13 ∙ (λ i. record {
-        tasks = λ o. put_two (same_path q o) (same_path p o) (has_met d.1 d.5 n) (has_met d.0 d.4 n) (c.tasks o) i;
-        channels = λ g. put_one (same_channel h g) (extended d.6 (passed d.3 d.0 d.1 d.6)) (c.channels g) i;
+      let n = meeting_stamp d.sender d.receiver d.channel in
+      ap (written c) d.writes ∙ (λ i. record {
+        tasks = λ o. put_two (same_path q o) (same_path p o) (has_met d.receiver d.got n) (has_met d.sender d.sent n) (c.tasks o) i;
+        channels = λ g. put_one (same_channel h g) (extended d.channel (passed d.event d.sender d.receiver d.channel)) (c.channels g) i;
       })
 
 -- a task that holds an end as often as the one before changes no amount

@@ -6,9 +6,9 @@ use Rattle.fst_types.specs.declared.side.Side.{Side}
 use Rattle.fst_types.specs.declared.side.Side.TheVariants.{Left, Right}
 use Rattle.fst_lts.specs.Histories.{after_history, side_type, opposite}
 use Rattle.fst_terms.specs.CoreTree.{CoreTree}
-use Rattle.fst_value.specs.declared.ends.ChannelName.{ChannelName}
-use Rattle.fst_value.specs.declared.ends.EndName.{EndName}
-use Rattle.fst_value.specs.declared.event.Entry.{Entry}
+use Rattle.fst_types.specs.declared.ends.ChannelName.{ChannelName}
+use Rattle.fst_types.specs.declared.ends.EndName.{EndName}
+use Rattle.fst_types.specs.declared.event.Entry.{Entry}
 use Rattle.fst_machine.specs.Machine.{State, begins}
 pub use Rattle.fst_machine.specs.Programs.{bodies, program, main_body}
 

@@ -2,10 +2,10 @@
 use Rattle.std.specs.Prelude.{◌≡◌, ℕ, suc, max, Option, Some, None, List, [], ◌∷◌, ◌++◌, slice_get, if◌then◌else◌}
 use Rattle.fst_types.specs.Tree.{Tree}
 use Rattle.fst_lts.specs.Histories.{over, last_stamp}
-use Rattle.fst_value.specs.declared.ends.ChannelName.{ChannelName}
-use Rattle.fst_value.specs.declared.ends.EndName.{EndName}
-use Rattle.fst_value.specs.declared.event.Event.{Event}
-use Rattle.fst_value.specs.declared.event.Entry.{Entry}
+use Rattle.fst_types.specs.declared.ends.ChannelName.{ChannelName}
+use Rattle.fst_types.specs.declared.ends.EndName.{EndName}
+use Rattle.fst_types.specs.declared.event.Event.{Event}
+use Rattle.fst_types.specs.declared.event.Entry.{Entry}
 use Rattle.fst_machine.specs.Machine.{Program, State, pause, request, answered, child}
 use Rattle.fst_machine.specs.declared.request.Request.{Request}
 use Rattle.fst_machine.specs.declared.request.Request.TheVariants as request
@@ -47,41 +47,89 @@ meeting_stamp t u k = suc (max (max t.clock u.clock) (last_stamp k.history))
 abbrev pub extended : Channel → Entry → Channel
 extended k e = record { declared = k.declared; history = k.history ++ e ∷ [] }
 
+-- the task once it has made a channel
+abbrev pub has_made : Task → State → ℕ → Task
+has_made t s clock = record { state = s; made = suc t.made; forked = t.forked; clock = clock }
+
+-- once it has made a task
+abbrev pub has_forked : Task → State → ℕ → Task
+has_forked t s clock = record { state = s; made = t.made; forked = suc t.forked; clock = clock }
+
+-- and once it has met another
+abbrev pub has_met : Task → State → ℕ → Task
+has_met t s clock = record t { state = s; clock = clock }
+
+-- what passes where two tasks meet
+abbrev pub passed : Event → Task → Task → Channel → Entry
+passed ev t u k = record { event = ev; stamp = meeting_stamp t u k; sent = t.clock; got = u.clock }
+
 -- the task with this path is t, and asks for this
 abbrev pub Asks : Program → Config → Path → Task → Request → Type 0
 Asks m c p t q = (c.tasks p ≡ Some t) × (request m.families t.state ≡ Some q)
 
+-- the task with this path takes a step of its own, and this is written
+pub record DoesStep (m : Program) (c : Config) (p : Path) (w : Write) : Type 0 where
+  pub task : Task
+  pub state : State
+  pub asks : Asks m c p task request.Step
+  pub leads : answered m task.state Go ≡ Some state
+  pub writes : w ≡ record { tasks = task_at p (moved task state); channels = no_channel }
+
+-- it makes a channel, whose type is the one with the number that it asks for
+pub record DoesNew (m : Program) (types : List Tree) (c : Config) (p : Path) (w : Write) : Type 0 where
+  pub task : Task
+  pub state : State
+  pub number : ℕ
+  pub declared : Tree
+  pub asks : Asks m c p task (request.New number)
+  pub typed : slice_get types number ≡ Some declared
+  pub leads : answered m task.state (Made (channel_name p task.made)) ≡ Some state
+  pub writes : w ≡ record {
+    tasks = task_at p (has_made task state (suc task.clock));
+    channels = channel_at (channel_name p task.made) (record { declared = declared; history = [] });
+  }
+
+-- it forks a task, which begins in its first state a clock later
+pub record DoesFork (m : Program) (c : Config) (p : Path) (w : Write) : Type 0 where
+  pub task : Task
+  pub state : State
+  pub begun : State
+  pub asks : Asks m c p task request.Fork
+  pub begins : child (pause m.families task.state) ≡ Some begun
+  pub leads : answered m task.state Forked ≡ Some state
+  pub writes : w ≡ record {
+    tasks = λ q. over (task_at (child_path p task.forked) (new_task begun (suc task.clock)) q) (task_at p (has_forked task state (suc task.clock)) q);
+    channels = no_channel;
+  }
+
+-- the event passes from the task with the first path to the one with the second, over this channel
+pub record DoesMeet (m : Program) (c : Config) (p q : Path) (h : ChannelName) (w : Write) : Type 0 where
+  pub sender : Task
+  pub receiver : Task
+  pub end : EndName
+  pub event : Event
+  pub sent : State
+  pub got : State
+  pub channel : Channel
+  pub puts : Asks m c p sender (request.Put end event)
+  pub gets : Asks m c q receiver (request.Get (other end))
+  pub named : end.channel ≡ h
+  pub there : c.channels h ≡ Some channel
+  pub sender_leads : answered m sender.state Sent ≡ Some sent
+  pub receiver_leads : answered m receiver.state (Got event) ≡ Some got
+  pub writes : w ≡ record {
+    tasks = λ o. over
+        (task_at q (has_met receiver got (meeting_stamp sender receiver channel)) o)
+        (task_at p (has_met sender sent (meeting_stamp sender receiver channel)) o);
+    channels = channel_at h (extended channel (passed event sender receiver channel));
+  }
+
 -- the event is possible, and writes this
 abbrev pub Does : Program → List Tree → Config → CoreEvent → Write → Type 0
-Does m types c (Local p) w =
-    (t : Task) × (s : State) × Asks m c p t request.Step × (answered m t.state Go ≡ Some s) ×
-    (w ≡ record { tasks = task_at p (moved t s); channels = no_channel })
-Does m types c (New p) w =
-    (t : Task) × (s : State) × (n : ℕ) × (d : Tree) × Asks m c p t (request.New n) × (slice_get types n ≡ Some d) ×
-    (answered m t.state (Made (channel_name p t.made)) ≡ Some s) ×
-    (w ≡ record {
-      tasks = task_at p (record { state = s; made = suc t.made; forked = t.forked; clock = suc t.clock });
-      channels = channel_at (channel_name p t.made) (record { declared = d; history = [] });
-    })
-Does m types c (Fork p) w =
-    (t : Task) × (s : State) × (b : State) × Asks m c p t request.Fork × (child (pause m.families t.state) ≡ Some b) ×
-    (answered m t.state Forked ≡ Some s) ×
-    (w ≡ record {
-      tasks = λ q. over
-          (task_at (child_path p t.forked) (new_task b (suc t.clock)) q)
-          (task_at p (record { state = s; made = t.made; forked = suc t.forked; clock = suc t.clock }) q);
-      channels = no_channel;
-    })
-Does m types c (Meet p q h) w =
-    (t : Task) × (u : Task) × (x : EndName) × (ev : Event) × (s : State) × (v : State) × (k : Channel) ×
-    Asks m c p t (request.Put x ev) × Asks m c q u (request.Get (other x)) × (x.channel ≡ h) × (c.channels h ≡ Some k) ×
-    (answered m t.state Sent ≡ Some s) × (answered m u.state (Got ev) ≡ Some v) ×
-    (w ≡ record {
-      tasks = λ o. over
-          (task_at q (record u { state = v; clock = meeting_stamp t u k }) o)
-          (task_at p (record t { state = s; clock = meeting_stamp t u k }) o);
-      channels = channel_at h (extended k (record { event = ev; stamp = meeting_stamp t u k; sent = t.clock; got = u.clock }));
-    })
+Does m types c (Local p) w = DoesStep m c p w
+Does m types c (New p) w = DoesNew m types c p w
+Does m types c (Fork p) w = DoesFork m c p w
+Does m types c (Meet p q h) w = DoesMeet m c p q h w
 
 -- the events are possible one after the other, and lead to the second configuration
 abbrev pub Runs : Program → List Tree → Config → List CoreEvent → Config → Type 0

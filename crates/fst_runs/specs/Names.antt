@@ -1,6 +1,6 @@
 -- The names of channels and the paths of tasks are those that counts have given.
 use Rattle.std.specs.Prelude.{◌≡◌, ℕ, ◌<◌, ◌≤◌, Some}
-use Rattle.fst_value.specs.declared.ends.ChannelName.{ChannelName}
+use Rattle.fst_types.specs.declared.ends.ChannelName.{ChannelName}
 use Rattle.fst_runs.specs.Configs.{Path, Task, Channel, Config, child_path}
 
 -- the task that made a channel is there, and has made as many

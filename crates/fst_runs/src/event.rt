@@ -1,4 +1,4 @@
-use fst_value::{ChannelName, Path};
+use fst_types::{ChannelName, Path};
 
 /// What happens in a run.
 #[derive(Drop)]

@@ -2,6 +2,7 @@
 use Rattle.std.proofs.Common.{◌≡◌, ◌<◌, ℕ, zero, suc, ◌+◌, List, [], ◌∷◌, length, map, Bool, true, false, if◌then◌else◌, Some, Contains, slice_index_or, IsSome, le_of_suc-le-suc, refl, sym, ap, ◌∙◌, subst, arith}
 use Rattle.std.specs.Prelude.{slice_get, bytes_eq}
 use Rattle.std.proofs.lemmas.Bool.{or_left, or_right}
+use Rattle.fst_base.proofs.Options.{some_same}
 use Rattle.fst_types.specs.Tree.{Tree, arrow}
 use Rattle.fst_types.specs.declared.label.Label.TheVariants.{Offer}
 use Rattle.fst_base.proofs.Bools.{same_text}
@@ -15,7 +16,7 @@ use Rattle.fst_context.specs.Scope.{Variable}
 use Rattle.fst_derivations.specs.Parts as context
 use Rattle.fst_derivations.specs.Parts.{HasUse, AreVariables, IsOffering}
 use Rattle.fst_derivations.specs.Rules.{Surroundings, rest}
-use Rattle.fst_value.specs.declared.ends.EndName.{EndName}
+use Rattle.fst_types.specs.declared.ends.EndName.{EndName}
 use Rattle.fst_machine.specs.Free.{is, free, free_below, outside, outside_all}
 use Rattle.fst_machine.specs.Values as value
 use Rattle.fst_machine.specs.Values.{Value, Environment, none, slot, enter, keep}
@@ -28,7 +29,7 @@ use Rattle.fst_safety.specs.WellTyped.{IsWellTyped}
 use Rattle.fst_safety.specs.Pauses.{Allowed, Goes}
 use Rattle.fst_safety.proofs.Equals.{equals_itself, equals_back, equals_through, use_formed, formed_use, arrows_equal}
 use Rattle.fst_safety.proofs.Exact.{exactly_enter, exactly_keep}
-use Rattle.fst_safety.proofs.Typed.{type_equal, fits_equal, fits_formed, fits_enter, fits_keep, some_same}
+use Rattle.fst_safety.proofs.Typed.{type_equal, fits_equal, fits_formed, fits_enter, fits_keep}
 use Rattle.fst_safety.proofs.Held.{held_enter, held_kept}
 use Rattle.fst_safety.proofs.Lists.{contains_later}
 use Rattle.fst_safety.proofs.Closed.{closed_by}

@@ -1,12 +1,13 @@
 -- Which event a task takes part in: a request belongs to one event alone.
 use Rattle.std.proofs.Common.{◌≡◌, ◌∙◌, ◌⊎◌, inl, inr, ℕ, Some, refl, sym, ap, subst}
 use Rattle.std.specs.Prelude.{⊤}
+use Rattle.fst_base.proofs.Options.{some_same}
 use Rattle.fst_types.specs.declared.side.Side.{Side}
 use Rattle.fst_types.specs.declared.side.Side.TheVariants.{Left, Right}
 use Rattle.fst_lts.specs.Histories.{opposite}
-use Rattle.fst_value.specs.declared.ends.ChannelName.{ChannelName}
-use Rattle.fst_value.specs.declared.ends.EndName.{EndName}
-use Rattle.fst_value.specs.declared.event.Event.{Event}
+use Rattle.fst_types.specs.declared.ends.ChannelName.{ChannelName}
+use Rattle.fst_types.specs.declared.ends.EndName.{EndName}
+use Rattle.fst_types.specs.declared.event.Event.{Event}
 use Rattle.fst_machine.specs.declared.request.Request.{Request}
 use Rattle.fst_machine.specs.declared.request.Request.TheVariants as request
 use Rattle.fst_machine.specs.Machine as machine
@@ -18,7 +19,6 @@ use Rattle.fst_runs.specs.Events.{Asks}
 use Rattle.fst_runs.specs.Names.{HasMakers, HasParents}
 use Rattle.fst_runs.specs.Wrong.{IsRight}
 use Rattle.fst_runs.proofs.Laws.{right_one}
-use Rattle.fst_safety.proofs.Typed.{some_same}
 
 -- nothing has gone wrong, and names are fresh
 pub record IsRegular (m : Program) (c : Config) : Type 0 where

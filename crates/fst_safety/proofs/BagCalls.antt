@@ -6,7 +6,7 @@ use Rattle.std.proofs.lemmas.List.{append_assoc, take_more}
 use Rattle.std.proofs.lemmas.List.Elements.{All-push, All-weaker, Contains-append_left, Contains-push, Contains-push_cases}
 use Rattle.std.proofs.lemmas.List.Sorted.{IsPermutation-swap_remove, IsPermutation-trans, IsPermutation-append_left, IsPermutation-append_comm, sum_by-IsPermutation}
 use Rattle.std.proofs.lemmas.List.Sums.{sum_by-append}
-use Rattle.fst_value.specs.declared.ends.EndName.{EndName}
+use Rattle.fst_types.specs.declared.ends.EndName.{EndName}
 use Rattle.fst_cell.specs.End.{EndView, end_name}
 use Rattle.fst_safety.specs.Threads.{count_of}
 use Rattle.fst_safety.specs.Bags.{IsPlaced, IsPutBack, IsChanged, IsPassed, AreParted}

@@ -2,6 +2,9 @@
 use Rattle.std.proofs.Common.{◌≡◌, ℕ, suc, ◌+◌, List, [], ◌∷◌, length, Bool, true, false, ◌||◌, Some, None, refl, sym, ap, ◌∙◌, arith}
 use Rattle.std.specs.Prelude.{slice_get}
 use Rattle.std.proofs.lemmas.Bool.{or_from}
+use Rattle.fst_machine.proofs.Moves.{outside_all_at}
+use Rattle.fst_machine.proofs.Slots.{is_same}
+use Rattle.fst_base.proofs.Options.{none_some}
 use Rattle.fst_types.specs.Tree as type
 use Rattle.fst_types.specs.Tree.{Tree, plain, arrow, named}
 use Rattle.fst_types.specs.declared.base.Base.TheVariants.{Bool as Truth}
@@ -11,8 +14,6 @@ use Rattle.fst_derivations.specs.Parts as context
 use Rattle.fst_derivations.specs.Rules.{Surroundings, Binding, fields, rest}
 use Rattle.fst_machine.specs.Free.{is, free, free_in, free_below, outside_all}
 use Rattle.fst_safety.specs.Running.{HasType, HaveTypes, ArmsHaveType}
-use Rattle.fst_safety.proofs.Exact.{is_same, outside_all_at}
-use Rattle.fst_safety.proofs.Typed.{none_some}
 
 elsewhere : (g : List Variable) (j k : ℕ) (v : Variable) (b : Bool) → is j k ≡ b → slice_get g j ≡ Some v → slice_get g k ≡ None → b ≡ false
 elsewhere g j k v true e p q = absurd (none_some (sym q ∙ ap (slice_get g) (sym (is_same j k e)) ∙ p))

@@ -13,10 +13,10 @@ use Rattle.fst_arms.specs.Arms.{arm_labels}
 use Rattle.fst_context.specs.Scope.{Variable}
 use Rattle.fst_derivations.specs.Parts.{AreAt}
 use Rattle.fst_derivations.specs.Rules.{Surroundings, Binding, Binds}
-use Rattle.fst_value.specs.declared.ends.EndName.{EndName}
+use Rattle.fst_types.specs.declared.ends.EndName.{EndName}
 use Rattle.fst_machine.specs.Free.{free, free_in, free_below}
 use Rattle.fst_machine.specs.Values as value
-use Rattle.fst_machine.specs.Values.{Value, Values, no_values, Environment, keep, bool_in}
+use Rattle.fst_machine.specs.Values.{Value, Values, Environment, keep, bool_in}
 use Rattle.fst_machine.specs.Machine.{Frame, Pause, eval, eval_all, eval_arm, on, on_function, on_pair, on_made, on_end}
 use Rattle.fst_runs.specs.Wrong.{IsUnspent, held, held_all, held_env, held_frames}
 use Rattle.fst_safety.specs.Running.{Equals, Apart, AreAlike, HasType, HaveTypes, ArmsHaveType}

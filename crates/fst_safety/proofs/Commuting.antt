@@ -3,7 +3,7 @@ use Rattle.std.proofs.Common.{◌≡◌, ◌∙◌, ◌⊎◌, inl, inr, List, O
 use Rattle.std.specs.Prelude.{if◌then◌else◌}
 use Rattle.fst_types.specs.Tree.{Tree}
 use Rattle.fst_lts.specs.Histories.{over}
-use Rattle.fst_value.specs.declared.ends.ChannelName.{ChannelName}
+use Rattle.fst_types.specs.declared.ends.ChannelName.{ChannelName}
 use Rattle.fst_machine.specs.Machine.{Program}
 use Rattle.fst_runs.specs.declared.event.CoreEvent.{CoreEvent}
 use Rattle.fst_runs.specs.declared.event.CoreEvent.TheVariants.{Local, New, Fork, Meet}
@@ -46,28 +46,57 @@ over_second (Some x) b n e = some_none e
 -- an event stays possible, and writes the same, after a write of nothing that it writes
 pub stays : (m : Program) (types : List Tree) (c : Config) (e : CoreEvent) (v w : Write) → Does m types c e w →
     ((o : Path) → (v.tasks o ≡ None) ⊎ (w.tasks o ≡ None)) → ((h : ChannelName) → (v.channels h ≡ None) ⊎ (w.channels h ≡ None)) → Does m types (written c v) e w
-stays m types c (Local p) v w d f g =
-    (d.0, d.1, (over_none (v.tasks p) (w.tasks p) (c.tasks p) (f p) (λ e. at_self p _ (sym (ap (λ z. z.tasks p) d.4) ∙ e)) ∙ d.2.0, d.2.1), d.3, d.4)
-stays m types c (New p) v w d f g =
-    (d.0, d.1, d.2, d.3, (over_none (v.tasks p) (w.tasks p) (c.tasks p) (f p) (λ e. at_self p _ (sym (ap (λ z. z.tasks p) d.7) ∙ e)) ∙ d.4.0, d.4.1), d.5, d.6, d.7)
-stays m types c (Fork p) v w d f g =
-    (d.0, d.1, d.2, (over_none (v.tasks p) (w.tasks p) (c.tasks p) (f p) (λ e. over_second _ _ (at_self p _) (sym (ap (λ z. z.tasks p) d.6) ∙ e)) ∙ d.3.0, d.3.1), d.4, d.5, d.6)
-stays m types c (Meet p q h) v w d f g = (
-  d.0,
-  d.1,
-  d.2,
-  d.3,
-  d.4,
-  d.5,
-  d.6,
-  (over_none (v.tasks p) (w.tasks p) (c.tasks p) (f p) (λ e. over_second _ _ (at_self p _) (sym (ap (λ z. z.tasks p) d.13) ∙ e)) ∙ d.7.0, d.7.1),
-  (over_none (v.tasks q) (w.tasks q) (c.tasks q) (f q) (λ e. over_first _ _ (at_self q _) (sym (ap (λ z. z.tasks q) d.13) ∙ e)) ∙ d.8.0, d.8.1),
-  d.9,
-  over_none (v.channels h) (w.channels h) (c.channels h) (g h) (λ e. at_own h _ (sym (ap (λ z. z.channels h) d.13) ∙ e)) ∙ d.10,
-  d.11,
-  d.12,
-  d.13,
-)
+stays m types c (Local p) v w d f g = record {
+  task = d.task;
+  state = d.state;
+  asks = (over_none (v.tasks p) (w.tasks p) (c.tasks p) (f p) (λ e. at_self p _ (sym (ap (λ z. z.tasks p) d.writes) ∙ e)) ∙ d.asks.0, d.asks.1);
+  leads = d.leads;
+  writes = d.writes;
+}
+stays m types c (New p) v w d f g = record {
+  task = d.task;
+  state = d.state;
+  number = d.number;
+  declared = d.declared;
+  asks = (over_none (v.tasks p) (w.tasks p) (c.tasks p) (f p) (λ e. at_self p _ (sym (ap (λ z. z.tasks p) d.writes) ∙ e)) ∙ d.asks.0, d.asks.1);
+  typed = d.typed;
+  leads = d.leads;
+  writes = d.writes;
+}
+stays m types c (Fork p) v w d f g = record {
+  task = d.task;
+  state = d.state;
+  begun = d.begun;
+  asks = (
+    over_none (v.tasks p) (w.tasks p) (c.tasks p) (f p) (λ e. over_second _ _ (at_self p _) (sym (ap (λ z. z.tasks p) d.writes) ∙ e)) ∙ d.asks.0,
+    d.asks.1,
+  );
+  begins = d.begins;
+  leads = d.leads;
+  writes = d.writes;
+}
+stays m types c (Meet p q h) v w d f g = record {
+  sender = d.sender;
+  receiver = d.receiver;
+  end = d.end;
+  event = d.event;
+  sent = d.sent;
+  got = d.got;
+  channel = d.channel;
+  puts = (
+    over_none (v.tasks p) (w.tasks p) (c.tasks p) (f p) (λ e. over_second _ _ (at_self p _) (sym (ap (λ z. z.tasks p) d.writes) ∙ e)) ∙ d.puts.0,
+    d.puts.1,
+  );
+  gets = (
+    over_none (v.tasks q) (w.tasks q) (c.tasks q) (f q) (λ e. over_first _ _ (at_self q _) (sym (ap (λ z. z.tasks q) d.writes) ∙ e)) ∙ d.gets.0,
+    d.gets.1,
+  );
+  named = d.named;
+  there = over_none (v.channels h) (w.channels h) (c.channels h) (g h) (λ e. at_own h _ (sym (ap (λ z. z.channels h) d.writes) ∙ e)) ∙ d.there;
+  sender_leads = d.sender_leads;
+  receiver_leads = d.receiver_leads;
+  writes = d.writes;
+}
 
 turned_round : {A B : Type 0} → A ⊎ B → B ⊎ A
 turned_round (inl a) = inr a

@@ -1,8 +1,8 @@
 -- Environments that hold just the variables of a set.
-use Rattle.std.proofs.Common.{◌≡◌, ℕ, zero, suc, ◌+◌, List, [], ◌∷◌, length, Bool, true, false, refl, sym, ap, ◌∙◌, arith}
-use Rattle.std.proofs.lemmas.Bool.{false≢true}
+use Rattle.std.proofs.Common.{◌≡◌, ℕ, zero, suc, List, [], ◌∷◌, length, Bool, true, false, refl, sym, ap, ◌∙◌, arith}
+use Rattle.fst_machine.proofs.Moves.{outside_all_at}
 use Rattle.fst_terms.specs.declared.binder.Binder.{Binder}
-use Rattle.fst_machine.specs.Free.{is, outside, outside_all}
+use Rattle.fst_machine.specs.Free.{outside, outside_all}
 use Rattle.fst_machine.specs.Values as value
 use Rattle.fst_machine.specs.Values.{Value, Values, no_values, Environment, none, hole, slot, enter, keep, count, enter_all}
 use Rattle.fst_safety.specs.Fitting.{Exactly}
@@ -10,18 +10,6 @@ use Rattle.fst_safety.specs.Fitting.{Exactly}
 off : (p w : Bool) → false ≡ w → (p ≡ true → w ≡ true) → false ≡ p
 off true w e h = e ∙ h refl
 off false w e h = refl
-
--- a variable is itself
-pub is_itself : (j : ℕ) → is j j ≡ true
-is_itself zero = refl
-is_itself (suc j) = is_itself j
-
--- and nothing else
-pub is_same : (j k : ℕ) → is j k ≡ true → j ≡ k
-is_same zero zero h = refl
-is_same zero (suc k) h = absurd (false≢true h)
-is_same (suc j) zero h = absurd (false≢true h)
-is_same (suc j) (suc k) h = ap suc (is_same j k h)
 
 -- a variable that is entered stands there where it is used
 pub exactly_enter : (b : Bool) (v : Value) (env : Environment) (p : ℕ → Bool) → p zero ≡ b → Exactly (outside p) env → Exactly p (enter b v env)
@@ -36,11 +24,6 @@ exactly_keep none w p h s k = off (p k) (w k) (h k) (s k)
 exactly_keep (hole env) w p h s zero = off (p zero) (w zero) (h zero) (s zero)
 exactly_keep (hole env) w p h s (suc k) = exactly_keep env (outside w) (outside p) (λ k. h (suc k)) (λ k. s (suc k)) k
 exactly_keep (slot v env) w p h s k = exactly_enter (p zero) v (keep (outside p) env) p refl (exactly_keep env (outside w) (outside p) (λ k. h (suc k)) (λ k. s (suc k))) k
-
--- outside some binders a variable has a number less by theirs
-pub outside_all_at : (xs : List Binder) (p : ℕ → Bool) (k : ℕ) → outside_all xs p k ≡ p (length xs + k)
-outside_all_at [] p k = ap p (omega arith)
-outside_all_at (x ∷ xs) p k = outside_all_at xs p (suc k) ∙ ap p (omega arith)
 
 -- the values of an arm's variables stand there where they are used
 pub exactly_enter_all : (xs : List Binder) (p : ℕ → Bool) (vs : Values) (env : Environment) → length xs ≡ count vs → Exactly (outside_all xs p) env → Exactly p (enter_all p vs env)

@@ -1,6 +1,7 @@
 -- What a task becomes that exchanges an event on one of its ends.
 use Rattle.std.proofs.Common.{◌≡◌, ◌∙◌, ℕ, ◌+◌, List, [], Some, refl, sym, ap, subst, arith}
 use Rattle.std.specs.Prelude.{option_map}
+use Rattle.fst_base.proofs.Options.{some_same}
 use Rattle.fst_types.specs.Tree.{Tree, plain}
 use Rattle.fst_types.specs.declared.base.Base.{Base}
 use Rattle.fst_types.specs.declared.base.Base.TheVariants as base
@@ -11,9 +12,9 @@ use Rattle.fst_lts.specs.Step.{step}
 use Rattle.fst_lts.specs.Histories.{sending, receiving}
 use Rattle.fst_terms.specs.CoreTree.{CoreArms}
 use Rattle.fst_derivations.specs.Rules.{Surroundings}
-use Rattle.fst_value.specs.declared.ends.EndName.{EndName}
-use Rattle.fst_value.specs.declared.event.Event.{Event}
-use Rattle.fst_value.specs.declared.event.Event.TheVariants as event
+use Rattle.fst_types.specs.declared.ends.EndName.{EndName}
+use Rattle.fst_types.specs.declared.event.Event.{Event}
+use Rattle.fst_types.specs.declared.event.Event.TheVariants as event
 use Rattle.fst_machine.specs.declared.request.Answer.TheVariants.{Got}
 use Rattle.fst_machine.specs.Values as value
 use Rattle.fst_machine.specs.Values.{Value, Environment, received}
@@ -29,7 +30,6 @@ use Rattle.fst_safety.proofs.Answers.{giving_goes, match_goes}
 use Rattle.fst_safety.proofs.Shapes.{plain_formed}
 use Rattle.fst_safety.proofs.SoundLaws.{end_moves}
 use Rattle.fst_safety.proofs.StillLaws.{Still, less, takes_still, env_still}
-use Rattle.fst_safety.proofs.Typed.{some_same}
 use Rattle.fst_safety.proofs.Offers.{offering_moves}
 
 of_base : (b c : Base) → Receive c ≡ Receive b → Equals (plain c) (plain b)

@@ -1,27 +1,27 @@
 -- A configuration stays sound where a task makes a task.
 use Rattle.std.proofs.Common.{◌≡◌, ◌∙◌, ◌⊎◌, inl, inr, ℕ, zero, suc, ◌+◌, List, [], Bool, true, false, Some, None, refl, sym, ap, subst, arith}
+use Rattle.fst_base.proofs.Options.{some_same}
 use Rattle.fst_types.specs.Tree.{Tree}
 use Rattle.fst_terms.specs.CoreTree.{CoreTree}
 use Rattle.fst_derivations.specs.Rules.{Surroundings}
-use Rattle.fst_value.specs.declared.ends.EndName.{EndName}
+use Rattle.fst_types.specs.declared.ends.EndName.{EndName}
 use Rattle.fst_machine.specs.declared.request.Answer.TheVariants.{Forked}
 use Rattle.fst_machine.specs.Values.{Environment}
 use Rattle.fst_machine.specs.Machine.{Program, State, Frame, Pause, forks, pause, after, answered, child}
 use Rattle.fst_runs.specs.declared.event.CoreEvent.TheVariants.{Fork}
 use Rattle.fst_runs.specs.Configs.{Path, Task, Config, same_path, residual_in, child_path, new_task}
-use Rattle.fst_runs.specs.Events.{Write, written, Does}
+use Rattle.fst_runs.specs.Events.{Write, written, Does, has_forked}
 use Rattle.fst_runs.specs.Wrong.{held_state, amount, IsUnspent, IsOwned}
 use Rattle.fst_runs.proofs.Asked.{fork_pause}
 use Rattle.fst_runs.proofs.NameLaws.{same_path-itself, same_path-same}
 use Rattle.fst_runs.proofs.Naming.{no_parent, fork_free, named_fork}
-use Rattle.fst_runs.proofs.Updates.{put, with_task, in_put, has_forked, put_there, stays_there, stays_free, fork_puts}
+use Rattle.fst_runs.proofs.Updates.{put, with_task, in_put, put_there, stays_there, stays_free, fork_puts}
 use Rattle.fst_safety.specs.Fitting.{Residuals, IsTyped}
 use Rattle.fst_safety.specs.WellTyped.{IsWellTyped, program_in}
 use Rattle.fst_safety.specs.Pauses.{Reached}
 use Rattle.fst_safety.specs.Sound.{IsSound}
 use Rattle.fst_safety.proofs.Answers.{child_goes, parent_goes}
 use Rattle.fst_safety.proofs.Settles.{pause_goes}
-use Rattle.fst_safety.proofs.Typed.{some_same}
 
 -- what a fork makes of a state: two typed ones that share its unspent ends
 abbrev pub Parts : Surroundings → Residuals → Tree → (EndName → ℕ) → State → State → Type 0
@@ -159,4 +159,4 @@ pub fork_sound : (m : Surroundings) (well : IsWellTyped m) (a : Tree) (c : Confi
     IsSound m a c → Does (program_in m) m.types c (Fork p) w → IsSound m a (written c w)
 fork_sound m well a c p w h d =
     subst (IsSound m a) (sym (fork_puts (program_in m) m.types c p w d))
-    (forked m well a c p d.0 d.1 d.2 (suc d.0.clock) (suc d.0.clock) h d.3.0 d.4 d.5)
+    (forked m well a c p d.task d.state d.begun (suc d.task.clock) (suc d.task.clock) h d.asks.0 d.begins d.leads)

@@ -4,15 +4,16 @@ use Rattle.std.specs.Prelude.{sum_by, is_some, option_and_then}
 use Rattle.std.proofs.lemmas.List.Elements.{All-nil, All-cons, All-head}
 use Rattle.std.proofs.lemmas.List.Sorted.{All-permutation}
 use Rattle.std.proofs.lemmas.List.Sums.{sum_by_push}
+use Rattle.fst_base.proofs.Options.{some_same}
 use Rattle.fst_types.specs.Tree.{Tree}
 use Rattle.fst_lts.specs.Step.{step}
 use Rattle.fst_lts.specs.Histories.{sending, receiving, after_event, after_history, side_type}
 use Rattle.fst_lts.proofs.Laws.{after_sent, after_received, not_both}
 use Rattle.fst_derivations.specs.Modules.{surroundings}
 use Rattle.fst_derivations.specs.Rules.{Surroundings}
-use Rattle.fst_value.specs.declared.ends.EndName.{EndName}
-use Rattle.fst_value.specs.declared.event.Event.{Event}
-use Rattle.fst_value.specs.declared.event.Entry.{Entry}
+use Rattle.fst_types.specs.declared.ends.EndName.{EndName}
+use Rattle.fst_types.specs.declared.event.Event.{Event}
+use Rattle.fst_types.specs.declared.event.Entry.{Entry}
 use Rattle.fst_machine.specs.declared.request.Request.TheVariants as request
 use Rattle.fst_machine.specs.declared.request.Answer.TheVariants.{Sent, Got}
 use Rattle.fst_machine.specs.Machine.{State, pause, answered, or_lost}
@@ -37,7 +38,6 @@ use Rattle.fst_safety.proofs.ThreadForks.{forked_fits, begun_fits, forked_turn}
 use Rattle.fst_safety.proofs.ThreadOpenings.{made_fits, made_turn}
 use Rattle.fst_safety.proofs.ThreadTurns.{tried_fits, tried_turn, stepped_fits, stepped_turn}
 use Rattle.fst_safety.proofs.ThreadTyping.{sent_typed, sent_holds, got_typed, got_holds}
-use Rattle.fst_safety.proofs.Typed.{some_same}
 
 -- ---- one entry more
 

@@ -2,11 +2,13 @@
 use Rattle.std.proofs.Common.{◌≡◌, ℕ, zero, suc, ◌+◌, List, [], ◌∷◌, length, Bool, true, false, ◌&&◌, ◌||◌, Some, refl, sym, ap, ◌∙◌, subst, arith}
 use Rattle.std.specs.Prelude.{slice_get}
 use Rattle.std.proofs.lemmas.Bool.{true≢false, false≢true}
+use Rattle.fst_machine.proofs.Slots.{is_itself}
+use Rattle.fst_base.proofs.Options.{some_same}
 use Rattle.fst_types.specs.Tree.{Tree}
 use Rattle.fst_context.specs.Scope.{Variable, is_once}
 use Rattle.fst_derivations.specs.Parts.{HasUse, AreVariables}
 use Rattle.fst_derivations.specs.Rules.{Surroundings}
-use Rattle.fst_value.specs.declared.ends.EndName.{EndName}
+use Rattle.fst_types.specs.declared.ends.EndName.{EndName}
 use Rattle.fst_machine.specs.Free.{is, outside}
 use Rattle.fst_machine.specs.Values as value
 use Rattle.fst_machine.specs.Values.{Value, Values, no_values, Environment, none, hole, slot, lookup, enter, keep, count, enter_all}
@@ -15,9 +17,7 @@ use Rattle.fst_safety.specs.Running.{Apart, Spends, SpendAll, IsVariable}
 use Rattle.fst_safety.specs.Fitting.{Residuals, present, Exactly, Fits, FitAll, FitsEnv}
 use Rattle.fst_safety.specs.WellTyped.{IsWellTyped}
 use Rattle.fst_safety.proofs.Uses.{often}
-use Rattle.fst_safety.proofs.Exact.{is_itself}
 use Rattle.fst_safety.proofs.Idle.{idle}
-use Rattle.fst_safety.proofs.Typed.{some_same}
 
 -- an environment for no variable holds nothing
 pub held_nothing : (x : EndName) (env : Environment) → ((k : ℕ) → present env k ≡ false) → held_env x env ≡ 0

@@ -3,6 +3,7 @@ use Rattle.std.proofs.Common.{◌≡◌, ℕ, zero, suc, List, [], ◌∷◌, Bo
 use Rattle.std.specs.Prelude.{bytes_eq}
 use Rattle.std.specs.List.{AllByRecursion}
 use Rattle.std.proofs.lemmas.Bool.{true≢false, false≢true, and_parts, eqb-true}
+use Rattle.fst_base.proofs.Options.{some_same}
 use Rattle.fst_types.specs.Tree.{Tree}
 use Rattle.fst_types.specs.declared.kind.Use.TheVariants.{Many}
 use Rattle.fst_types.specs.declared.side.Side.{Side}
@@ -12,7 +13,7 @@ use Rattle.fst_lts.specs.Step.{terminated}
 use Rattle.fst_context.specs.Scope.{Variable}
 use Rattle.fst_derivations.specs.Parts.{HasUse}
 use Rattle.fst_derivations.specs.Rules.{Surroundings}
-use Rattle.fst_value.specs.declared.ends.EndName.{EndName}
+use Rattle.fst_types.specs.declared.ends.EndName.{EndName}
 use Rattle.fst_machine.specs.Free.{free, outside}
 use Rattle.fst_machine.specs.Values as value
 use Rattle.fst_machine.specs.Values.{Value, Values, no_values, Environment, none, hole, slot}
@@ -23,7 +24,6 @@ use Rattle.fst_safety.specs.Fitting.{Residuals, Exactly, Fits, FitAll, FitsEnv}
 use Rattle.fst_safety.specs.WellTyped.{IsFieldType, IsWellTyped}
 use Rattle.fst_safety.proofs.Equals.{equals_back, equals_use, copied_ended}
 use Rattle.fst_safety.proofs.Uses.{often, arrow_use, pair_many, printable_many}
-use Rattle.fst_safety.proofs.Typed.{some_same}
 
 side_same : (a b : Side) → same_side a b ≡ true → a ≡ b
 side_same Left Left h = refl

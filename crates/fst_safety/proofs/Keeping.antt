@@ -3,6 +3,7 @@ use Rattle.std.proofs.Common.{◌≡◌, ◌∙◌, ◌⊎◌, inl, inr, ◌<◌
 use Rattle.std.specs.Prelude.{slice_index_or}
 use Rattle.std.proofs.lemmas.List.{append-nil}
 use Rattle.std.proofs.lemmas.List.Elements.{All-nil}
+use Rattle.fst_base.proofs.Options.{some_same}
 use Rattle.fst_types.specs.Tree.{Tree, skip}
 use Rattle.fst_types.specs.declared.label.Label.{Label}
 use Rattle.fst_lts.specs.Step.{step}
@@ -10,7 +11,7 @@ use Rattle.fst_terms.specs.declared.core_module.Module.{Module}
 use Rattle.fst_derivations.specs.Deriv.{Deriv}
 use Rattle.fst_derivations.specs.Modules.{HasDerivations, surroundings}
 use Rattle.fst_derivations.specs.Rules.{Surroundings}
-use Rattle.fst_value.specs.declared.ends.EndName.{EndName}
+use Rattle.fst_types.specs.declared.ends.EndName.{EndName}
 use Rattle.fst_machine.specs.declared.code.Code.{Code}
 use Rattle.fst_machine.specs.declared.request.Request.{Request}
 use Rattle.fst_machine.specs.declared.request.Answer.{Answer}
@@ -37,7 +38,6 @@ use Rattle.fst_safety.specs.Tasks.{Keeps, Fits, AsksNow, IsSame, HasGoneOn, modu
 use Rattle.fst_safety.proofs.Checked.{checked}
 use Rattle.fst_safety.proofs.Settles.{pause_goes}
 use Rattle.fst_safety.proofs.SoundLaws.{allowed_right}
-use Rattle.fst_safety.proofs.Typed.{some_same}
 
 -- ---- threads
 

@@ -11,8 +11,6 @@ pub use Rattle.fst_safety.proofs.Runs.{runs_sound}
 pub use Rattle.fst_safety.proofs.Equals.{equals_itself, equals_back}
 -- a closed session type is well formed, and what a step leaves of it is a closed session type
 pub use Rattle.fst_safety.proofs.Equals.{session_formed, session_step}
--- the dual of a session type is a session type
-pub use Rattle.fst_safety.proofs.DualSessions.{dual_session}
 -- a closed session type that is terminated equals Skip
 pub use Rattle.fst_safety.proofs.ThreadTyping.{ended_equal}
 -- the residual of a channel's side is this type, and that of the other side its dual; the second follows from the first
@@ -47,3 +45,5 @@ pub use Rattle.fst_safety.proofs.Keeping.{asks_for}
 pub use Rattle.fst_safety.proofs.Keeping.{stays}
 -- a thread that fits a module which has derivations fits again in whichever way it goes on, and so does one that it forks
 pub use Rattle.fst_safety.proofs.Going.{stay_typed}
+-- a task may cross threads
+pub use Rattle.fst_safety.proofs.Sends.{typed_task_send}

@@ -7,7 +7,6 @@ pub mod Checked
 pub mod Closed
 pub mod Comes
 pub mod Commuting
-pub mod DualSessions
 pub mod Equals
 pub mod Exact
 pub mod Exchanging
@@ -62,3 +61,4 @@ pub mod Tries
 pub mod Typed
 pub mod Unknown
 pub mod Uses
+pub mod Sends

@@ -4,13 +4,13 @@ use Rattle.std.specs.Prelude.{slice_get, bytes_eq, option_map}
 use Rattle.std.proofs.lemmas.Bool.{true≢false}
 use Rattle.std.proofs.lemmas.Option.{slice_get_within, get_or_from_slice_get, slice_get-map}
 use Rattle.std.proofs.lemmas.Slice.Eq.{bytes_eq-Decides}
+use Rattle.fst_base.proofs.Options.{some_same}
 use Rattle.fst_types.specs.Tree.{Tree}
 use Rattle.fst_derivations.specs.Parts.{AreAt}
 use Rattle.fst_derivations.specs.Rules.{Surroundings}
 use Rattle.fst_machine.specs.Values as value
 use Rattle.fst_machine.specs.Values.{Values, no_values, turned_onto}
 use Rattle.fst_safety.specs.Fitting.{Residuals, FitAll, FitBefore}
-use Rattle.fst_safety.proofs.Typed.{some_same}
 
 -- what stands at a place of a list is in it
 pub contains_at : {A : Type 0} (xs : List A) (k : ℕ) (x : A) → slice_get xs k ≡ Some x → Contains xs x

@@ -3,8 +3,7 @@ use Rattle.std.proofs.Common.{◌≡◌, ◌∙◌, ◌++◌, ℕ, zero, suc, Bo
 use Rattle.std.specs.Prelude.{if◌then◌else◌}
 use Rattle.std.specs.List.{AllByRecursion, IsDistinct}
 use Rattle.std.specs.Str.{bytes_eq}
-use Rattle.std.proofs.lemmas.Slice.Eq.{bytes_eq-Decides}
-use Rattle.fst_base.proofs.Bools.{same_text}
+use Rattle.fst_base.proofs.Bools.{same_text, text_itself}
 use Rattle.fst_types.specs.declared.family.Family.{Family}
 use Rattle.fst_types.specs.declared.family.Maker.{Maker}
 use Rattle.fst_terms.specs.InRange.{maker_named, makers}
@@ -37,16 +36,13 @@ all_at P [] k o h e = absurd (cc e)
 all_at P (p ∷ os) zero o h e = let same : p ≡ o = cc in subst (λ (q : Maker). P q.name) same h.0
 all_at P (p ∷ os) (suc k) o h e = all_at P os k o h.1 e
 
-eq_itself : (x : List ℕ) → bytes_eq x x ≡ true
-eq_itself x = (bytes_eq-Decides x x).1 refl
-
 -- what stands behind a constructor of another name
 later_named : (p o : Maker) (os : List Maker) → bytes_eq p.name o.name ≡ false → maker_named o.name os ≡ Some o → maker_named o.name (p ∷ os) ≡ Some o
 later_named p o os differs h = pick (bytes_eq o.name p.name) refl
   where
     pick : (b : Bool) → bytes_eq o.name p.name ≡ b → (if bytes_eq o.name p.name then Some p else maker_named o.name os) ≡ Some o
     pick true e =
-        let wrong : true ≡ false = sym (eq_itself p.name) ∙ ap (bytes_eq p.name) (sym (same_text o.name p.name e)) ∙ differs in
+        let wrong : true ≡ false = sym (text_itself p.name) ∙ ap (bytes_eq p.name) (sym (same_text o.name p.name e)) ∙ differs in
         absurd (cc wrong)
     pick false e = ap (λ b. if b then Some p else maker_named o.name os) e ∙ h
 
@@ -56,5 +52,5 @@ unfolding IsDistinct
 named_itself [] k o d e = absurd (cc e)
 named_itself (p ∷ os) zero o d e =
     let same : p ≡ o = cc in
-    subst (λ (q : Maker). maker_named q.name (p ∷ os) ≡ Some q) same (ap (λ b. if b then Some p else maker_named p.name os) (eq_itself p.name))
+    subst (λ (q : Maker). maker_named q.name (p ∷ os) ≡ Some q) same (ap (λ b. if b then Some p else maker_named p.name os) (text_itself p.name))
 named_itself (p ∷ os) (suc k) o d e = later_named p o os (all_at (λ y. bytes_eq p.name y ≡ false) os k o d.0 e) (named_itself os k o d.1 e)

@@ -1,6 +1,7 @@
 -- A configuration stays sound where two tasks meet.
 use Rattle.std.proofs.Common.{◌≡◌, ◌∙◌, ◌⊎◌, inl, inr, ℕ, List, [], Bool, true, false, Some, refl, sym, ap, subst, arith}
 use Rattle.std.specs.Prelude.{option_map, option_and_then}
+use Rattle.fst_base.proofs.Options.{some_same}
 use Rattle.fst_types.specs.Tree.{Tree}
 use Rattle.fst_types.specs.declared.side.Side.{Side}
 use Rattle.fst_kinds.specs.WellFormed.{IsSession}
@@ -8,9 +9,9 @@ use Rattle.fst_lts.specs.Step.{step}
 use Rattle.fst_lts.specs.Dual.{dual}
 use Rattle.fst_lts.specs.Histories.{sending, receiving, opposite}
 use Rattle.fst_derivations.specs.Rules.{Surroundings}
-use Rattle.fst_value.specs.declared.ends.ChannelName.{ChannelName}
-use Rattle.fst_value.specs.declared.ends.EndName.{EndName}
-use Rattle.fst_value.specs.declared.event.Entry.{Entry}
+use Rattle.fst_types.specs.declared.ends.ChannelName.{ChannelName}
+use Rattle.fst_types.specs.declared.ends.EndName.{EndName}
+use Rattle.fst_types.specs.declared.event.Entry.{Entry}
 use Rattle.fst_machine.specs.declared.request.Request.TheVariants as request
 use Rattle.fst_machine.specs.declared.request.Answer.TheVariants.{Sent, Got}
 use Rattle.fst_machine.specs.Values as value
@@ -19,14 +20,14 @@ use Rattle.fst_machine.specs.Machine as machine
 use Rattle.fst_lts.proofs.Laws.{moving, dual_receives}
 use Rattle.fst_runs.specs.Configs.{Path, Task, Channel, Config, same_path, same_channel, other, residual_in, channel_residual, main_path}
 use Rattle.fst_runs.specs.declared.event.CoreEvent.TheVariants.{Meet}
-use Rattle.fst_runs.specs.Events.{Write, written, extended, meeting_stamp, Does}
+use Rattle.fst_runs.specs.Events.{Write, written, extended, meeting_stamp, Does, has_met, passed}
 use Rattle.fst_runs.specs.Names.{HasMakers, HasParents}
 use Rattle.fst_runs.specs.Wrong.{held_state, held_pause, amount, IsUnspent}
 use Rattle.fst_runs.proofs.Asked.{put_pause, get_pause}
 use Rattle.fst_runs.proofs.NameLaws.{same_path-same, same_path-apart, same_channel-itself, same_channel-same}
 use Rattle.fst_runs.proofs.Naming.{asks_apart, named_meet}
 use Rattle.fst_runs.proofs.Owners.{owner, own_once}
-use Rattle.fst_runs.proofs.Updates.{put, with_task, with_channel, in_put, has_met, passed, stays_apart, same_amount, meet_puts}
+use Rattle.fst_runs.proofs.Updates.{put, with_task, with_channel, in_put, stays_apart, same_amount, meet_puts}
 use Rattle.fst_safety.specs.Fitting.{Residuals, IsTyped}
 use Rattle.fst_safety.specs.WellTyped.{IsWellTyped, program_in}
 use Rattle.fst_safety.specs.Pauses.{Allowed, Reached, Goes}
@@ -38,7 +39,6 @@ use Rattle.fst_safety.proofs.Settles.{pause_goes}
 use Rattle.fst_safety.proofs.SoundLaws.{end_moves}
 use Rattle.fst_safety.proofs.StillLaws.{typed_still}
 use Rattle.fst_safety.proofs.TraceLaws.{Sides, sides_from, trace_from, sides_grow}
-use Rattle.fst_safety.proofs.Typed.{some_same}
 
 -- all that a meeting is about; n is the clock of both tasks after it
 module _ (m : Surroundings) (well : IsWellTyped m) (a : Tree) (c : Config) (p q : Path) (t u : Task) (x : EndName) (e : Entry) (s v : State) (k : Channel) (n : ℕ)
@@ -227,10 +227,10 @@ module _ (m : Surroundings) (well : IsWellTyped m) (a : Tree) (c : Config) (p q 
 pub meet_sound : (m : Surroundings) (well : IsWellTyped m) (a : Tree) (c : Config) (p q : Path) (h : ChannelName) (w : Write) →
     IsSound m a c → Does (program_in m) m.types c (Meet p q h) w → IsSound m a (written c w)
 meet_sound m well a c p q h w sound d =
-    let n = meeting_stamp d.0 d.1 d.6 in
-    let entry = passed d.3 d.0 d.1 d.6 in
-    let is : with_task (with_task (with_channel c d.2.channel (extended d.6 entry)) p (has_met d.0 d.4 n)) q (has_met d.1 d.5 n) ≡ written c w =
-    ap (λ g. with_task (with_task (with_channel c g (extended d.6 entry)) p (has_met d.0 d.4 n)) q (has_met d.1 d.5 n)) d.9
+    let n = meeting_stamp d.sender d.receiver d.channel in
+    let entry = passed d.event d.sender d.receiver d.channel in
+    let is : with_task (with_task (with_channel c d.end.channel (extended d.channel entry)) p (has_met d.sender d.sent n)) q (has_met d.receiver d.got n) ≡ written c w =
+    ap (λ g. with_task (with_task (with_channel c g (extended d.channel entry)) p (has_met d.sender d.sent n)) q (has_met d.receiver d.got n)) d.named
     ∙ sym (meet_puts (program_in m) m.types c p q h w d) in
     subst (IsSound m a) is
-    (met m well a c p q d.0 d.1 d.2 entry d.4 d.5 d.6 n sound d.7.0 d.8.0 d.7.1 d.8.1 d.11 d.12 (ap c.channels d.9 ∙ d.10))
+    (met m well a c p q d.sender d.receiver d.end entry d.sent d.got d.channel n sound d.puts.0 d.gets.0 d.puts.1 d.gets.1 d.sender_leads d.receiver_leads (ap c.channels d.named ∙ d.there))

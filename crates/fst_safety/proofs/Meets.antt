@@ -7,11 +7,11 @@ use Rattle.fst_lts.specs.Dual.{dual}
 use Rattle.fst_lts.specs.Histories.{sending, receiving}
 use Rattle.fst_terms.specs.CoreTree.{CoreArms}
 use Rattle.fst_derivations.specs.Rules.{Surroundings}
-use Rattle.fst_value.specs.declared.ends.EndName.{EndName}
-use Rattle.fst_value.specs.declared.event.Event.{Event}
+use Rattle.fst_types.specs.declared.ends.EndName.{EndName}
+use Rattle.fst_types.specs.declared.event.Event.{Event}
 use Rattle.fst_machine.specs.declared.request.Answer.TheVariants.{Got}
 use Rattle.fst_machine.specs.Values as value
-use Rattle.fst_machine.specs.Values.{Value, Environment, received}
+use Rattle.fst_machine.specs.Values.{Environment}
 use Rattle.fst_machine.specs.Machine.{Program, State, Frame, puts, gets, matches, giving, after}
 use Rattle.fst_lts.proofs.Laws.{dual_receives}
 use Rattle.fst_runs.specs.Configs.{other}

@@ -2,6 +2,7 @@
 use Rattle.std.proofs.Common.{◌≡◌, ℕ, zero, suc, List, [], ◌∷◌, Bool, true, false, Some, refl, sym, ap, ◌∙◌, subst, codes}
 use Rattle.std.specs.Prelude.{slice_get, if◌then◌else◌}
 use Rattle.std.specs.Str.{bytes_eq}
+use Rattle.fst_base.proofs.Options.{some_same, none_some}
 use Rattle.fst_types.specs.Tree as type
 use Rattle.fst_types.specs.Tree.{Tree}
 use Rattle.fst_types.specs.Instance.{instantiated}
@@ -20,7 +21,6 @@ use Rattle.fst_safety.proofs.Checked.{checked}
 use Rattle.fst_safety.proofs.Runs.{ended_fits, printable_formed, runs_sound, started_sound}
 use Rattle.fst_safety.proofs.Shown.{result_of, of_shown}
 use Rattle.fst_safety.proofs.SoundLaws.{sound_right}
-use Rattle.fst_safety.proofs.Typed.{some_same, none_some}
 
 -- the global named main, which has this body
 record HasMainAt (types : List Tree) (gs : List GlobalEntry) (e : CoreTree) : Type 0 where

@@ -1,6 +1,7 @@
 -- A configuration stays sound where a task makes a channel.
 use Rattle.std.proofs.Common.{◌≡◌, ◌∙◌, ℕ, suc, ◌+◌, List, [], Bool, true, false, Option, Some, None, refl, sym, ap, subst, arith}
 use Rattle.std.specs.Prelude.{option_and_then, slice_get}
+use Rattle.fst_base.proofs.Options.{some_same, none_some}
 use Rattle.fst_types.specs.Tree as type
 use Rattle.fst_types.specs.Tree.{Tree}
 use Rattle.fst_types.specs.declared.side.Side.{Side}
@@ -9,21 +10,21 @@ use Rattle.fst_kinds.specs.WellFormed.{IsSession}
 use Rattle.fst_lts.specs.Dual.{dual}
 use Rattle.fst_lts.specs.Histories.{side_type}
 use Rattle.fst_derivations.specs.Rules.{Surroundings}
-use Rattle.fst_value.specs.declared.ends.ChannelName.{ChannelName}
-use Rattle.fst_value.specs.declared.ends.EndName.{EndName}
+use Rattle.fst_types.specs.declared.ends.ChannelName.{ChannelName}
+use Rattle.fst_types.specs.declared.ends.EndName.{EndName}
 use Rattle.fst_machine.specs.declared.request.Request.TheVariants as request
 use Rattle.fst_machine.specs.declared.request.Answer.TheVariants.{Made}
 use Rattle.fst_machine.specs.Machine.{State, Frame, makes, giving, ends, pause, after, answered}
 use Rattle.fst_machine.specs.Machine as machine
 use Rattle.fst_runs.specs.declared.event.CoreEvent.TheVariants.{New}
 use Rattle.fst_runs.specs.Configs.{Path, Task, Channel, Config, same_path, same_channel, residual_in, channel_residual, channel_name}
-use Rattle.fst_runs.specs.Events.{Write, written, Does}
+use Rattle.fst_runs.specs.Events.{Write, written, Does, has_made}
 use Rattle.fst_runs.specs.Wrong.{held, held_frames, held_state, amount, IsUnspent, IsOwned}
 use Rattle.fst_runs.proofs.Asked.{new_pause}
 use Rattle.fst_runs.proofs.NameLaws.{same_path-itself, same_path-same, same_channel-itself, same_channel-same}
 use Rattle.fst_runs.proofs.Naming.{new_free, named_new}
 use Rattle.fst_runs.proofs.Owners.{own_once}
-use Rattle.fst_runs.proofs.Updates.{put, with_task, with_channel, in_put, has_made, same_amount, new_puts}
+use Rattle.fst_runs.proofs.Updates.{put, with_task, with_channel, in_put, same_amount, new_puts}
 use Rattle.fst_safety.specs.Running.{Equals}
 use Rattle.fst_safety.specs.Fitting.{Residuals, Fits, IsTyped}
 use Rattle.fst_safety.specs.WellTyped.{IsWellTyped, program_in}
@@ -31,11 +32,10 @@ use Rattle.fst_safety.specs.Pauses.{Reached, Goes}
 use Rattle.fst_safety.specs.Sound.{IsSound, IsTrace}
 use Rattle.fst_safety.proofs.Answers.{giving_goes}
 use Rattle.fst_safety.proofs.Settles.{pause_goes}
-use Rattle.fst_safety.proofs.DualSessions.{dual_session}
+use Rattle.fst_lts.proofs.DualKinds.{dual_session}
 use Rattle.fst_safety.proofs.Equals.{equals_itself, session_formed}
 use Rattle.fst_safety.proofs.Owners.{held_apart}
 use Rattle.fst_safety.proofs.StillLaws.{Still, unchanged, takes_still, typed_still}
-use Rattle.fst_safety.proofs.Typed.{some_same, none_some}
 use Rattle.fst_safety.proofs.Unknown.{unknown_frames, unknown_state}
 
 -- all that is about a new channel; n is the task's clock after it
@@ -191,4 +191,4 @@ pub new_sound : (m : Surroundings) (well : IsWellTyped m) (a : Tree) (c : Config
     IsSound m a c → Does (program_in m) m.types c (New p) w → IsSound m a (written c w)
 new_sound m well a c p w h d =
     subst (IsSound m a) (sym (new_puts (program_in m) m.types c p w d))
-    (made_new m well a c p d.0 d.1 d.2 d.3 (suc d.0.clock) h d.4.0 d.4.1 d.5 d.6)
+    (made_new m well a c p d.task d.state d.number d.declared (suc d.task.clock) h d.asks.0 d.asks.1 d.typed d.leads)

@@ -6,7 +6,7 @@ use Rattle.fst_lts.specs.Step.{step}
 use Rattle.fst_terms.specs.CoreTree.{CoreTree, CoreList, CoreArms}
 use Rattle.fst_terms.specs.declared.term.Op.{Op}
 use Rattle.fst_derivations.specs.Rules.{Surroundings}
-use Rattle.fst_value.specs.declared.event.Event.TheVariants.{Label}
+use Rattle.fst_types.specs.declared.event.Event.TheVariants.{Label}
 use Rattle.fst_machine.specs.Free.{free, outside}
 use Rattle.fst_machine.specs.Values as value
 use Rattle.fst_machine.specs.Values.{Value, Values, Environment, enter, bool_in, operated, sent}

@@ -2,6 +2,7 @@
 use Rattle.std.proofs.Common.{◌≡◌, ◌<◌, ℕ, ◌+◌, List, ◌∷◌, length, Bool, true, false, ◌||◌, Some, refl, sym, ap, ◌∙◌, subst, arith}
 use Rattle.std.specs.Prelude.{slice_get, bytes_eq, option_map}
 use Rattle.std.proofs.lemmas.Bool.{or_left, or_right}
+use Rattle.fst_base.proofs.Options.{some_same}
 use Rattle.fst_types.specs.Tree.{Tree, named}
 use Rattle.fst_types.specs.declared.family.Maker.{Maker}
 use Rattle.fst_base.proofs.Bools.{same_text}
@@ -11,11 +12,10 @@ use Rattle.fst_terms.specs.InRange.{maker_of, maker_named}
 use Rattle.fst_arms.specs.Arms.{arm_labels}
 use Rattle.fst_context.specs.Scope.{Variable, is_once}
 use Rattle.fst_derivations.specs.Parts as context
-use Rattle.fst_derivations.specs.Parts.{AreVariables}
 use Rattle.fst_derivations.specs.Rules.{Surroundings, fields, Binds}
 use Rattle.fst_machine.specs.Free.{free, free_below, outside_all}
 use Rattle.fst_machine.specs.Values as value
-use Rattle.fst_machine.specs.Values.{Value, Values, no_values, Environment, keep, count, enter_all, bool_in}
+use Rattle.fst_machine.specs.Values.{Value, Values, Environment, keep, count, enter_all, bool_in}
 use Rattle.fst_machine.specs.Machine.{Frame, at_if, at_case, Pause, eval, eval_arm, on, on_made, chosen, name_of, in_either}
 use Rattle.fst_runs.specs.Wrong.{held_all, held_env, held_frames}
 use Rattle.fst_safety.specs.Running.{HasType}
@@ -23,7 +23,7 @@ use Rattle.fst_safety.specs.Fitting.{Residuals, Fits, FitAll, IsEnv, Takes}
 use Rattle.fst_safety.specs.WellTyped.{IsWellTyped}
 use Rattle.fst_safety.specs.Pauses.{Reached}
 use Rattle.fst_safety.proofs.Exact.{exactly_enter_all}
-use Rattle.fst_safety.proofs.Typed.{fits_enter_all, some_same}
+use Rattle.fst_safety.proofs.Typed.{fits_enter_all}
 use Rattle.fst_safety.proofs.Held.{counted_values, held_enter_all, held_kept}
 use Rattle.fst_safety.proofs.Shapes.{nameds_equal}
 use Rattle.fst_safety.proofs.Lists.{contains_map, contains_later, are_at_one}

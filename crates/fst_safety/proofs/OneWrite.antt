@@ -2,6 +2,7 @@
 use Rattle.std.proofs.Common.{◌≡◌, ◌∙◌, List, [], Bool, true, false, ◌&&◌, sym, ap, suc}
 use Rattle.std.proofs.lemmas.Bool.{and_from}
 use Rattle.std.specs.Prelude.{slice_get}
+use Rattle.fst_base.proofs.Options.{some_same}
 use Rattle.fst_base.proofs.Bools.{and_parts}
 use Rattle.fst_types.specs.Tree.{Tree}
 use Rattle.fst_lts.specs.Histories.{over}
@@ -14,50 +15,49 @@ use Rattle.fst_runs.specs.Configs.{Config, same_path, same_channel, other, child
 use Rattle.fst_runs.specs.Events.{Write, task_at, channel_at, no_channel, moved, meeting_stamp, extended, Does}
 use Rattle.fst_runs.proofs.NameLaws.{same_path-itself, same_path-same, same_channel-itself, same_channel-same}
 use Rattle.fst_safety.proofs.Askers.{same_asks}
-use Rattle.fst_safety.proofs.Typed.{some_same}
 
 -- an event has one write
 pub one_write : (m : Program) (types : List Tree) (c : Config) (e : CoreEvent) (w v : Write) → Does m types c e w → Does m types c e v → w ≡ v
 one_write m types c (Local p) w v d f =
-    let t : d.0 ≡ f.0 = (same_asks m c p d.0 f.0 request.Step request.Step d.2 f.2).0 in
-    let s : d.1 ≡ f.1 = some_same (sym d.3 ∙ ap (λ z. answered m z.state Go) t ∙ f.3) in
-    d.4 ∙ (λ i. record { tasks = task_at p (moved (t i) (s i)); channels = no_channel }) ∙ sym f.4
+    let t : d.task ≡ f.task = (same_asks m c p d.task f.task request.Step request.Step d.asks f.asks).0 in
+    let s : d.state ≡ f.state = some_same (sym d.leads ∙ ap (λ z. answered m z.state Go) t ∙ f.leads) in
+    d.writes ∙ (λ i. record { tasks = task_at p (moved (t i) (s i)); channels = no_channel }) ∙ sym f.writes
 one_write m types c (New p) w v d f =
-    let a = same_asks m c p d.0 f.0 (request.New d.2) (request.New f.2) d.4 f.4 in
-    let t : d.0 ≡ f.0 = a.0 in
-    let q : request.New d.2 ≡ request.New f.2 = a.1 in
-    let n : d.2 ≡ f.2 = cc q in
-    let k : d.3 ≡ f.3 = some_same (sym d.5 ∙ ap (slice_get types) n ∙ f.5) in
-    let s : d.1 ≡ f.1 = some_same (sym d.6 ∙ ap (λ z. answered m z.state (Made (channel_name p z.made))) t ∙ f.6) in
-    d.7 ∙ (λ i. record {
+    let a = same_asks m c p d.task f.task (request.New d.number) (request.New f.number) d.asks f.asks in
+    let t : d.task ≡ f.task = a.0 in
+    let q : request.New d.number ≡ request.New f.number = a.1 in
+    let n : d.number ≡ f.number = cc q in
+    let k : d.declared ≡ f.declared = some_same (sym d.typed ∙ ap (slice_get types) n ∙ f.typed) in
+    let s : d.state ≡ f.state = some_same (sym d.leads ∙ ap (λ z. answered m z.state (Made (channel_name p z.made))) t ∙ f.leads) in
+    d.writes ∙ (λ i. record {
       tasks = task_at p (record { state = s i; made = suc (t i).made; forked = (t i).forked; clock = suc (t i).clock });
       channels = channel_at (channel_name p (t i).made) (record { declared = k i; history = [] });
-    }) ∙ sym f.7
+    }) ∙ sym f.writes
 one_write m types c (Fork p) w v d f =
-    let t : d.0 ≡ f.0 = (same_asks m c p d.0 f.0 request.Fork request.Fork d.3 f.3).0 in
-    let s : d.1 ≡ f.1 = some_same (sym d.5 ∙ ap (λ z. answered m z.state Forked) t ∙ f.5) in
-    let b : d.2 ≡ f.2 = some_same (sym d.4 ∙ ap (λ z. child (pause m.families z.state)) t ∙ f.4) in
-    d.6 ∙ (λ i. record {
+    let t : d.task ≡ f.task = (same_asks m c p d.task f.task request.Fork request.Fork d.asks f.asks).0 in
+    let s : d.state ≡ f.state = some_same (sym d.leads ∙ ap (λ z. answered m z.state Forked) t ∙ f.leads) in
+    let b : d.begun ≡ f.begun = some_same (sym d.begins ∙ ap (λ z. child (pause m.families z.state)) t ∙ f.begins) in
+    d.writes ∙ (λ i. record {
       tasks = λ q. over
           (task_at (child_path p (t i).forked) (new_task (b i) (suc (t i).clock)) q)
           (task_at p (record { state = s i; made = (t i).made; forked = suc (t i).forked; clock = suc (t i).clock }) q);
       channels = no_channel;
-    }) ∙ sym f.6
+    }) ∙ sym f.writes
 one_write m types c (Meet p q h) w v d f =
-    let a = same_asks m c p d.0 f.0 (request.Put d.2 d.3) (request.Put f.2 f.3) d.7 f.7 in
-    let t : d.0 ≡ f.0 = a.0 in
-    let u : d.1 ≡ f.1 = (same_asks m c q d.1 f.1 (request.Get (other d.2)) (request.Get (other f.2)) d.8 f.8).0 in
-    let r : request.Put d.2 d.3 ≡ request.Put f.2 f.3 = a.1 in
-    let ev : d.3 ≡ f.3 = cc r in
-    let k : d.6 ≡ f.6 = some_same (sym d.10 ∙ f.10) in
-    let s : d.4 ≡ f.4 = some_same (sym d.11 ∙ ap (λ z. answered m z.state Sent) t ∙ f.11) in
-    let g : d.5 ≡ f.5 = some_same (sym d.12 ∙ (λ i. answered m (u i).state (Got (ev i))) ∙ f.12) in
-    d.13 ∙ (λ i. record {
+    let a = same_asks m c p d.sender f.sender (request.Put d.end d.event) (request.Put f.end f.event) d.puts f.puts in
+    let t : d.sender ≡ f.sender = a.0 in
+    let u : d.receiver ≡ f.receiver = (same_asks m c q d.receiver f.receiver (request.Get (other d.end)) (request.Get (other f.end)) d.gets f.gets).0 in
+    let r : request.Put d.end d.event ≡ request.Put f.end f.event = a.1 in
+    let ev : d.event ≡ f.event = cc r in
+    let k : d.channel ≡ f.channel = some_same (sym d.there ∙ f.there) in
+    let s : d.sent ≡ f.sent = some_same (sym d.sender_leads ∙ ap (λ z. answered m z.state Sent) t ∙ f.sender_leads) in
+    let g : d.got ≡ f.got = some_same (sym d.receiver_leads ∙ (λ i. answered m (u i).state (Got (ev i))) ∙ f.receiver_leads) in
+    d.writes ∙ (λ i. record {
       tasks = λ o. over
           (task_at q (record (u i) { state = g i; clock = meeting_stamp (t i) (u i) (k i) }) o)
           (task_at p (record (t i) { state = s i; clock = meeting_stamp (t i) (u i) (k i) }) o);
       channels = channel_at h (extended (k i) (record { event = ev i; stamp = meeting_stamp (t i) (u i) (k i); sent = (t i).clock; got = (u i).clock }));
-    }) ∙ sym f.13
+    }) ∙ sym f.writes
 
 -- the events are the same
 abbrev pub same_event : CoreEvent → CoreEvent → Bool

@@ -9,7 +9,7 @@ use Rattle.fst_terms.specs.declared.term.Op.{Op}
 use Rattle.fst_terms.specs.declared.term.Op.TheVariants.{Add, Subtract, Multiply, Equal, Unequal, Less, AtMost, Greater, AtLeast, And, Or}
 use Rattle.fst_derivations.specs.Parts.{IsComparable}
 use Rattle.fst_derivations.specs.Rules.{Surroundings, Operates}
-use Rattle.fst_value.specs.declared.ends.EndName.{EndName}
+use Rattle.fst_types.specs.declared.ends.EndName.{EndName}
 use Rattle.fst_machine.specs.Values as value
 use Rattle.fst_machine.specs.Values.{Value, both, either, computed, decided, tested, operated}
 use Rattle.fst_runs.specs.Wrong.{held}

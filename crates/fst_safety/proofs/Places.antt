@@ -1,11 +1,12 @@
 -- Where events write: two different ones never write one task or one channel.
 use Rattle.std.proofs.Common.{◌≡◌, ◌∙◌, ◌⊎◌, inl, inr, List, Bool, true, false, Option, Some, None, refl, sym, ap, subst}
 use Rattle.std.specs.Prelude.{if◌then◌else◌}
+use Rattle.fst_base.proofs.Options.{none_some}
 use Rattle.fst_types.specs.Tree.{Tree}
 use Rattle.fst_lts.specs.Histories.{over}
-use Rattle.fst_value.specs.declared.ends.ChannelName.{ChannelName}
-use Rattle.fst_value.specs.declared.ends.EndName.{EndName}
-use Rattle.fst_value.specs.declared.event.Event.{Event}
+use Rattle.fst_types.specs.declared.ends.ChannelName.{ChannelName}
+use Rattle.fst_types.specs.declared.ends.EndName.{EndName}
+use Rattle.fst_types.specs.declared.event.Event.{Event}
 use Rattle.fst_machine.specs.declared.request.Request.TheVariants as request
 use Rattle.fst_machine.specs.Machine.{Program}
 use Rattle.fst_runs.specs.declared.event.CoreEvent.{CoreEvent}
@@ -17,7 +18,6 @@ use Rattle.fst_runs.proofs.NameLaws.{same_path-same, same_channel-same}
 use Rattle.fst_runs.proofs.Naming.{one_parent, new_free, fork_free}
 use Rattle.fst_safety.proofs.Askers.{IsRegular, same_asks, Asker, same_asker}
 use Rattle.fst_safety.proofs.Owners.{or_other}
-use Rattle.fst_safety.proofs.Typed.{none_some}
 
 -- what a test writes is nothing where it fails
 test_none : {X : Type 0} (b : Bool) (x : X) (P : Type 0) → (b ≡ true → P) → ((if b then Some x else None) ≡ None) ⊎ P
@@ -53,32 +53,32 @@ module _ (m : Program) (types : List Tree) (c : Config) (hs : IsRegular m c) whe
   -- an event writes the tasks that take part in it, and the one that it makes
   tasks_at : (e : CoreEvent) (w : Write) → Does m types c e w → (o : Path) → (w.tasks o ≡ None) ⊎ (Asker m c hs e o ⊎ Child e o)
   tasks_at (Local p) w d o =
-      subst (λ z. (z.tasks o ≡ None) ⊎ (Asker m c hs (Local p) o ⊎ Child (Local p) o)) (sym d.4)
-      (task_written p o _ _ (λ e. inl (subst (Asker m c hs (Local p)) e (d.0, request.Step, d.2, (refl, refl)))))
+      subst (λ z. (z.tasks o ≡ None) ⊎ (Asker m c hs (Local p) o ⊎ Child (Local p) o)) (sym d.writes)
+      (task_written p o _ _ (λ e. inl (subst (Asker m c hs (Local p)) e (d.task, request.Step, d.asks, (refl, refl)))))
   tasks_at (New p) w d o =
-      subst (λ z. (z.tasks o ≡ None) ⊎ (Asker m c hs (New p) o ⊎ Child (New p) o)) (sym d.7)
-      (task_written p o _ _ (λ e. inl (subst (Asker m c hs (New p)) e (d.0, request.New d.2, d.4, (d.2, refl, refl)))))
+      subst (λ z. (z.tasks o ≡ None) ⊎ (Asker m c hs (New p) o ⊎ Child (New p) o)) (sym d.writes)
+      (task_written p o _ _ (λ e. inl (subst (Asker m c hs (New p)) e (d.task, request.New d.number, d.asks, (d.number, refl, refl)))))
   tasks_at (Fork p) w d o =
-      subst (λ z. (z.tasks o ≡ None) ⊎ (Asker m c hs (Fork p) o ⊎ Child (Fork p) o)) (sym d.6)
+      subst (λ z. (z.tasks o ≡ None) ⊎ (Asker m c hs (Fork p) o ⊎ Child (Fork p) o)) (sym d.writes)
       (either_written _ _ _
-      (task_written (child_path p d.0.forked) o _ _ (λ e. inr (p, d.0, refl, d.3.0, e)))
-      (task_written p o _ _ (λ e. inl (subst (Asker m c hs (Fork p)) e (d.0, request.Fork, d.3, (refl, refl))))))
+      (task_written (child_path p d.task.forked) o _ _ (λ e. inr (p, d.task, refl, d.asks.0, e)))
+      (task_written p o _ _ (λ e. inl (subst (Asker m c hs (Fork p)) e (d.task, request.Fork, d.asks, (refl, refl))))))
   tasks_at (Meet p q h) w d o =
-      subst (λ z. (z.tasks o ≡ None) ⊎ (Asker m c hs (Meet p q h) o ⊎ Child (Meet p q h) o)) (sym d.13)
+      subst (λ z. (z.tasks o ≡ None) ⊎ (Asker m c hs (Meet p q h) o ⊎ Child (Meet p q h) o)) (sym d.writes)
       (either_written _ _ _
-      (task_written q o _ _ (λ e. inl (subst (Asker m c hs (Meet p q h)) e (d.1, request.Get (other d.2), d.8, inr (d.0, d.2, d.3, refl, refl, d.7, d.9)))))
-      (task_written p o _ _ (λ e. inl (subst (Asker m c hs (Meet p q h)) e (d.0, request.Put d.2 d.3, d.7, inl (d.1, d.2, d.3, refl, refl, d.8, d.9))))))
+      (task_written q o _ _ (λ e. inl (subst (Asker m c hs (Meet p q h)) e (d.receiver, request.Get (other d.end), d.gets, inr (d.sender, d.end, d.event, refl, refl, d.puts, d.named)))))
+      (task_written p o _ _ (λ e. inl (subst (Asker m c hs (Meet p q h)) e (d.sender, request.Put d.end d.event, d.puts, inl (d.receiver, d.end, d.event, refl, refl, d.gets, d.named))))))
 
   -- an event writes the channel that it makes, and the one over which it passes something
   channels_at : (e : CoreEvent) (w : Write) → Does m types c e w → (h : ChannelName) → (w.channels h ≡ None) ⊎ (Named e h ⊎ Spoken e h)
-  channels_at (Local p) w d h = inl (ap (λ z. z.channels h) d.4)
+  channels_at (Local p) w d h = inl (ap (λ z. z.channels h) d.writes)
   channels_at (New p) w d h =
-      subst (λ z. (z.channels h ≡ None) ⊎ (Named (New p) h ⊎ Spoken (New p) h)) (sym d.7)
-      (channel_written (channel_name p d.0.made) h _ _ (λ e. inl (p, d.0, refl, d.4.0, e)))
-  channels_at (Fork p) w d h = inl (ap (λ z. z.channels h) d.6)
+      subst (λ z. (z.channels h ≡ None) ⊎ (Named (New p) h ⊎ Spoken (New p) h)) (sym d.writes)
+      (channel_written (channel_name p d.task.made) h _ _ (λ e. inl (p, d.task, refl, d.asks.0, e)))
+  channels_at (Fork p) w d h = inl (ap (λ z. z.channels h) d.writes)
   channels_at (Meet p q g) w d h =
-      subst (λ z. (z.channels h ≡ None) ⊎ (Named (Meet p q g) h ⊎ Spoken (Meet p q g) h)) (sym d.13)
-      (channel_written g h _ _ (λ e. inr (p, q, d.0, d.1, d.2, d.3, d.6, ap (Meet p q) e, d.7, d.8, d.9 ∙ e, ap c.channels (sym e) ∙ d.10)))
+      subst (λ z. (z.channels h ≡ None) ⊎ (Named (Meet p q g) h ⊎ Spoken (Meet p q g) h)) (sym d.writes)
+      (channel_written g h _ _ (λ e. inr (p, q, d.sender, d.receiver, d.end, d.event, d.channel, ap (Meet p q) e, d.puts, d.gets, d.named ∙ e, ap c.channels (sym e) ∙ d.there)))
 
   -- no task is there before it is made
   no_child : (e : CoreEvent) (o : Path) (t : Task) → Child e o → c.tasks o ≡ Some t → ⊥

@@ -5,10 +5,11 @@ use Rattle.std.proofs.lemmas.List.{append-nil}
 use Rattle.std.proofs.lemmas.List.Elements.{All-head, All-tail, All-push, All-weaker}
 use Rattle.std.proofs.lemmas.List.Sums.{sum_by-cons, sum_by_push}
 use Rattle.std.proofs.lemmas.Bool.{false≢true}
+use Rattle.fst_base.proofs.Options.{some_same}
 use Rattle.fst_types.specs.Tree.{Tree, skip}
 use Rattle.fst_lts.specs.Step.{terminated}
 use Rattle.fst_derivations.specs.Rules.{Surroundings}
-use Rattle.fst_value.specs.declared.ends.EndName.{EndName}
+use Rattle.fst_types.specs.declared.ends.EndName.{EndName}
 use Rattle.fst_machine.specs.Machine.{State}
 use Rattle.fst_runs.specs.Configs.{Task}
 use Rattle.fst_runs.specs.Wrong.{held_state, IsUnspent}
@@ -19,7 +20,6 @@ use Rattle.fst_safety.specs.Bags.{IsPutBack, put_by}
 use Rattle.fst_safety.proofs.BagLaws.{counted, with_at, at_itself, at_other, are_more}
 use Rattle.fst_safety.proofs.StillLaws.{unchanged, typed_still}
 use Rattle.fst_safety.proofs.ThreadTyping.{spent_typed}
-use Rattle.fst_safety.proofs.Typed.{some_same}
 
 -- what is left of a type, or nothing where nothing is left to do
 abbrev pub rested_by : Bool → Tree → Tree

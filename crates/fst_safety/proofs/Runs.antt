@@ -1,5 +1,6 @@
 -- All that a run leads to is sound.
 use Rattle.std.proofs.Common.{◌≡◌, zero, List, [], ◌∷◌, Some, refl, sym, subst}
+use Rattle.fst_base.proofs.Options.{none_some}
 use Rattle.fst_types.specs.Tree.{Tree}
 use Rattle.fst_types.specs.declared.kind.Use.TheVariants.{Many}
 use Rattle.fst_kinds.specs.Kinds.{top, join}
@@ -28,7 +29,6 @@ use Rattle.fst_safety.proofs.ForkLaws.{fork_sound}
 use Rattle.fst_safety.proofs.MeetLaws.{meet_sound}
 use Rattle.fst_safety.proofs.NewLaws.{new_sound}
 use Rattle.fst_safety.proofs.SoundLaws.{local_sound}
-use Rattle.fst_safety.proofs.Typed.{none_some}
 
 -- a type whose values can be printed is well formed
 pub printable_formed : (t : Tree) → IsPrintable t → IsFormed [] t

@@ -1,22 +1,22 @@
 -- A typed state comes to an allowed request, and holds the same unspent ends there.
 use Rattle.std.proofs.Common.{◌≡◌, ℕ, zero, suc, ◌+◌, List, [], ◌∷◌, false, not, Some, refl, sym, ◌∙◌, subst, arith}
+use Rattle.fst_machine.proofs.Slots.{is_itself}
 use Rattle.fst_types.specs.Tree as type
 use Rattle.fst_types.specs.Tree.{Tree, plain, arrow, named}
 use Rattle.fst_types.specs.declared.base.Base.TheVariants.{Bool as Truth}
 use Rattle.fst_terms.specs.CoreTree.{CoreTree, local, global, int, bool, char, unit, pair, make, lambda, apply, let_in, split, if_else, case_of, operate, negate, new, send, receive, select, match_with, fork, seq, CoreList, no_terms, term, CoreArms, no_arms, arm}
 use Rattle.fst_derivations.specs.Rules.{Surroundings}
-use Rattle.fst_value.specs.declared.ends.EndName.{EndName}
-use Rattle.fst_value.specs.declared.event.Event.TheVariants.{Label}
+use Rattle.fst_types.specs.declared.ends.EndName.{EndName}
+use Rattle.fst_types.specs.declared.event.Event.TheVariants.{Label}
 use Rattle.fst_machine.specs.Free.{is, free, free_in, free_below, outside}
 use Rattle.fst_machine.specs.Values as value
-use Rattle.fst_machine.specs.Values.{Value, Values, no_values, Environment, lookup, enter, keep, turned_onto, bool_in, operated, sent}
+use Rattle.fst_machine.specs.Values.{Value, no_values, Environment, lookup, enter, keep, turned_onto, bool_in, operated, sent}
 use Rattle.fst_machine.specs.Machine.{State, Frame, at_function, at_argument, at_first, at_second, at_field, at_let, at_split, at_if, at_case, at_left, at_right, at_not, at_value, at_target, at_receive, at_select, at_match, at_seq, Pause, calls, puts, gets, matches, eval, eval_all, eval_arm, resume, pause, on, on_function, on_pair, on_made, on_end, chosen, name_of, in_either}
 use Rattle.fst_runs.specs.Wrong.{held, held_all, held_env, held_frames, held_state}
 use Rattle.fst_runs.proofs.HeldEnds.{held_turned}
 use Rattle.fst_safety.specs.Fitting.{Residuals, Fits, Exactly, Takes, IsTyped}
 use Rattle.fst_safety.specs.WellTyped.{IsWellTyped}
 use Rattle.fst_safety.specs.Pauses.{Reached}
-use Rattle.fst_safety.proofs.Exact.{is_itself}
 use Rattle.fst_safety.proofs.Typed.{fits_equal, fits_lookup}
 use Rattle.fst_safety.proofs.Held.{held_nothing, held_one}
 use Rattle.fst_safety.proofs.Lists.{fit_turned}

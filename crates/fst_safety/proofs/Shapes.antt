@@ -1,6 +1,7 @@
 -- A value has the form that its type says.
 use Rattle.std.proofs.Common.{◌≡◌, ℕ, ℤ, List, [], ◌∷◌, map, Bool, Some, refl, sym, ap}
 use Rattle.std.specs.Prelude.{⊤}
+use Rattle.fst_base.proofs.Options.{none_some}
 use Rattle.fst_types.specs.Tree.{Tree, skip, send, receive, select, offer, seq, rec, back, var, plain, arrow, pair, named}
 use Rattle.fst_types.specs.declared.base.Base.{Base}
 use Rattle.fst_types.specs.declared.base.Base.TheVariants.{Int, Bool as Truth, Char}
@@ -14,16 +15,15 @@ use Rattle.fst_lts.specs.Step.{step}
 use Rattle.fst_lts.specs.Histories.{sending}
 use Rattle.fst_derivations.specs.Parts.{IsFormed, IsOffering}
 use Rattle.fst_derivations.specs.Rules.{Surroundings}
-use Rattle.fst_value.specs.declared.ends.EndName.{EndName}
-use Rattle.fst_value.specs.declared.event.Event.{Event}
-use Rattle.fst_value.specs.declared.event.Event.TheVariants as event
+use Rattle.fst_types.specs.declared.ends.EndName.{EndName}
+use Rattle.fst_types.specs.declared.event.Event.{Event}
+use Rattle.fst_types.specs.declared.event.Event.TheVariants as event
 use Rattle.fst_machine.specs.Values as value
 use Rattle.fst_machine.specs.Values.{Value, sent}
 use Rattle.fst_runs.specs.Wrong.{held}
 use Rattle.fst_safety.specs.Running.{Equals}
 use Rattle.fst_safety.specs.Fitting.{Residuals, Fits}
 use Rattle.fst_safety.proofs.Equals.{equals_session, equals_arrow, equals_pair, equals_plain, equals_named, plain_no_session, named_no_session, arrow_no_session, pair_no_session}
-use Rattle.fst_safety.proofs.Typed.{none_some}
 
 -- a base type is well formed
 pub plain_formed : (b : Base) → IsFormed [] (plain b)

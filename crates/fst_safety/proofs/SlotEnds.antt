@@ -2,10 +2,11 @@
 use Rattle.std.proofs.Common.{◌≡◌, ◌∙◌, ◌⊎◌, inl, inr, ◌<◌, ℕ, zero, suc, ◌+◌, List, [], ◌∷◌, ◌++◌, length, Bool, true, false, Option, Some, None, Contains, refl, sym, ap, subst, arith}
 use Rattle.std.specs.Prelude.{◌||◌}
 use Rattle.std.proofs.lemmas.List.Elements.{Contains-append_left, Contains-append_right, Contains-append_cases}
+use Rattle.fst_base.proofs.Options.{some_same, none_some}
 use Rattle.fst_value.specs.ValueTree as tree
 use Rattle.fst_value.specs.ValueTree.{ValueTree, ValueTrees}
 use Rattle.fst_value.specs.Cells.{ends_in, ends_in_all}
-use Rattle.fst_value.specs.declared.ends.EndName.{EndName}
+use Rattle.fst_types.specs.declared.ends.EndName.{EndName}
 use Rattle.fst_terms.specs.CoreTree.{CoreTree}
 use Rattle.fst_machine.specs.Code.{Compiled, Lists, among}
 use Rattle.fst_machine.specs.Free.{is, free, outside}
@@ -17,7 +18,6 @@ use Rattle.fst_vm.specs.Moves.{ends_in_slot, ends_in_slots}
 use Rattle.fst_runs.specs.Configs.{same_end}
 use Rattle.fst_runs.specs.Wrong.{once, held, held_all, held_env}
 use Rattle.fst_runs.proofs.NameLaws.{same_end-itself, same_end-same}
-use Rattle.fst_safety.proofs.Typed.{some_same, none_some}
 
 either : {A B C : Type 0} → A ⊎ B → (A → C) → (B → C) → C
 either (inl a) f g = f a

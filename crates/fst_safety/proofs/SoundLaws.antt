@@ -1,6 +1,7 @@
 -- A sound configuration isn't wrong, and stays sound where one task goes on by itself.
 use Rattle.std.proofs.Common.{◌≡◌, ◌∙◌, [], Some, refl, sym, ap, subst, arith}
 use Rattle.std.specs.Prelude.{option_map}
+use Rattle.fst_base.proofs.Options.{some_same, none_some}
 use Rattle.fst_types.specs.Tree.{Tree}
 use Rattle.fst_types.specs.declared.label.Label.{Label}
 use Rattle.fst_types.specs.declared.label.Label.TheVariants.{Receive, Offer}
@@ -8,7 +9,7 @@ use Rattle.fst_kinds.specs.WellFormed.{IsSession}
 use Rattle.fst_lts.specs.Step.{step}
 use Rattle.fst_lts.specs.Histories.{sending}
 use Rattle.fst_derivations.specs.Rules.{Surroundings}
-use Rattle.fst_value.specs.declared.ends.EndName.{EndName}
+use Rattle.fst_types.specs.declared.ends.EndName.{EndName}
 use Rattle.fst_machine.specs.declared.request.Request.{Request}
 use Rattle.fst_machine.specs.declared.request.Request.TheVariants as request
 use Rattle.fst_machine.specs.declared.request.Answer.TheVariants.{Go}
@@ -28,7 +29,6 @@ use Rattle.fst_safety.specs.Sound.{IsSound}
 use Rattle.fst_safety.proofs.Answers.{call_goes, use_there, use_goes}
 use Rattle.fst_safety.proofs.Settles.{pause_goes}
 use Rattle.fst_safety.proofs.Equals.{equals_back, equals_session, equals_steps}
-use Rattle.fst_safety.proofs.Typed.{some_same, none_some}
 use Rattle.fst_safety.specs.Running.{Equals}
 use Rattle.fst_safety.proofs.Offers.{offering_moves}
 
@@ -102,8 +102,8 @@ steps_on m well r (ended v) s t a e = absurd (none_some e)
 pub local_sound : (m : Surroundings) (well : IsWellTyped m) (a : Tree) (c : Config) (p : Path) (w : Write) →
     IsSound m a c → Does (program_in m) m.types c (Local p) w → IsSound m a (written c w)
 local_sound m well a c p w h d =
-    let g = h.tasks p d.0 d.2.0 in
-    let k = pause_goes m well (residual_in c) d.0.state g.0 g.1 in
-    let n = steps_on m well (residual_in c) (pause m.families d.0.state) d.1 g.0 k.0 d.3 in
+    let g = h.tasks p d.task d.asks.0 in
+    let k = pause_goes m well (residual_in c) d.task.state g.0 g.1 in
+    let n = steps_on m well (residual_in c) (pause m.families d.task.state) d.state g.0 k.0 d.leads in
     subst (IsSound m a) (sym (local_puts (program_in m) m.types c p w d))
-    (goes_on m a c p d.0 (moved d.0 d.1) g.0 h d.2.0 (omega arith, omega arith) n.0 g.2 (λ x u. n.1 x u ∙ k.1 x u))
+    (goes_on m a c p d.task (moved d.task d.state) g.0 h d.asks.0 (omega arith, omega arith) n.0 g.2 (λ x u. n.1 x u ∙ k.1 x u))

@@ -1,6 +1,7 @@
 -- The task of main fits at the beginning.
 use Rattle.std.proofs.Common.{◌≡◌, ◌∙◌, [], Some, refl, sym, subst, arith}
 use Rattle.std.proofs.lemmas.List.Elements.{All-nil}
+use Rattle.fst_base.proofs.Options.{some_same}
 use Rattle.fst_types.specs.Tree.{Tree, skip}
 use Rattle.fst_terms.specs.CoreTree.{CoreTree}
 use Rattle.fst_derivations.specs.Modules.{IsPrintable}
@@ -18,7 +19,6 @@ use Rattle.fst_safety.proofs.Closed.{closed_by}
 use Rattle.fst_safety.proofs.Equals.{equals_itself}
 use Rattle.fst_safety.proofs.Modules.{main_typed}
 use Rattle.fst_safety.proofs.Runs.{printable_formed}
-use Rattle.fst_safety.proofs.Typed.{some_same}
 
 -- where no end is known
 abbrev none_known : Residuals

@@ -3,11 +3,12 @@ use Rattle.std.proofs.Common.{◌≡◌, ◌∙◌, ◌≤◌, ◌⊎◌, inl, i
 use Rattle.std.specs.Prelude.{sum_by, IsPermutation, is_some, slice_index_or}
 use Rattle.std.specs.declared.alloc.AllocError.{AllocError}
 use Rattle.std.proofs.lemmas.List.{length_push}
+use Rattle.fst_base.proofs.Options.{some_same}
 use Rattle.fst_types.specs.Tree.{Tree}
 use Rattle.fst_lts.specs.Step.{step}
 use Rattle.fst_lts.specs.Histories.{sending}
-use Rattle.fst_value.specs.declared.ends.EndName.{EndName}
-use Rattle.fst_value.specs.declared.event.Event.{Event}
+use Rattle.fst_types.specs.declared.ends.EndName.{EndName}
+use Rattle.fst_types.specs.declared.event.Event.{Event}
 use Rattle.fst_machine.specs.declared.code.Code.{Code}
 use Rattle.fst_machine.specs.declared.request.Request.{Request}
 use Rattle.fst_machine.specs.declared.request.Request.TheVariants as request
@@ -39,7 +40,6 @@ use Rattle.fst_safety.proofs.Keeping.{stays, stands_in, not_stuck, same_keeps, s
 use Rattle.fst_safety.proofs.Pasts.{rise_short}
 use Rattle.fst_safety.proofs.Told.{told_go, told_sent, told_got}
 use Rattle.fst_safety.proofs.Tries.{tried_more, changed_sum, passed_sum, one_offer}
-use Rattle.fst_safety.proofs.Typed.{some_same}
 
 -- ---- nothing has happened
 

@@ -4,10 +4,11 @@ use Rattle.std.specs.Prelude.{sum_by, All}
 use Rattle.std.proofs.lemmas.List.Elements.{All-nil, All-head, All-tail}
 use Rattle.std.proofs.lemmas.List.Sorted.{All-permutation, sum_by-IsPermutation}
 use Rattle.std.proofs.lemmas.List.Sums.{sum_by-cons}
+use Rattle.fst_base.proofs.Options.{some_same}
 use Rattle.fst_types.specs.Tree.{Tree, skip}
 use Rattle.fst_types.specs.declared.side.Side.TheVariants.{Left, Right}
 use Rattle.fst_derivations.specs.Rules.{Surroundings}
-use Rattle.fst_value.specs.declared.ends.EndName.{EndName}
+use Rattle.fst_types.specs.declared.ends.EndName.{EndName}
 use Rattle.fst_runs.specs.Configs.{Task, same_end}
 use Rattle.fst_runs.specs.Wrong.{once, held_state, end_of}
 use Rattle.fst_cell.specs.declared.content.Offer.{Offer}
@@ -24,7 +25,6 @@ use Rattle.fst_safety.proofs.BagLaws.{counted, count_first, counted_so, or_not, 
 use Rattle.fst_safety.proofs.Pasts.{later_past}
 use Rattle.fst_safety.proofs.PutLaws.{HasPut, WentTo, has_put, rested, rested_typed, rested_unspent}
 use Rattle.fst_safety.proofs.ThreadLaws.{follows_more, later, few_made, few_forks, idle_end, later_ends, opened_more, none_opened}
-use Rattle.fst_safety.proofs.Typed.{some_same}
 
 module _ (m : Surroundings) (a : Tree) (x : Thread) (fits : FitsIn m a x) (g : LogEntry) (enters : Enters (program_in m) x.path x.now g) (n : EndName) (e f : EndView)
     (bag retired : List EndView) (moved : IsMoved x e f bag retired) (ne : end_name e ≡ n) (nf : end_name f ≡ n) (nw nx : Tree) (was : residual_of e.knows ≡ Some nw)

@@ -5,12 +5,12 @@ use Rattle.std.proofs.lemmas.List.{append-nil, append_assoc, length-append}
 use Rattle.std.proofs.lemmas.List.Elements.{All-nil, All-cons, All-head, All-tail}
 use Rattle.fst_types.specs.Tree.{Tree}
 use Rattle.fst_derivations.specs.Rules.{Surroundings}
-use Rattle.fst_value.specs.declared.event.Event.{Event}
+use Rattle.fst_types.specs.declared.event.Event.{Event}
 use Rattle.fst_machine.specs.declared.request.Request.{Request}
 use Rattle.fst_machine.specs.declared.request.Request.TheVariants as request
 use Rattle.fst_machine.specs.declared.request.Answer.{Answer}
 use Rattle.fst_machine.specs.declared.request.Answer.TheVariants.{Go, Made, Forked, Sent, Got}
-use Rattle.fst_machine.specs.Machine.{Program, or_lost, answered}
+use Rattle.fst_machine.specs.Machine.{Program}
 use Rattle.fst_machine.specs.Machine as machine
 use Rattle.fst_runs.specs.Configs.{Path, Task}
 use Rattle.fst_cell.specs.declared.content.Offer.{Offer}

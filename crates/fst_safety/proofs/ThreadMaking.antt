@@ -1,6 +1,7 @@
 -- What a typed task becomes that makes a channel or a task, where its residuals are those that it knows itself.
 use Rattle.std.proofs.Common.{◌≡◌, ◌∙◌, ◌⊎◌, inl, inr, ℕ, ◌+◌, List, [], Bool, true, false, Some, None, refl, sym, ap, subst, arith}
 use Rattle.std.specs.Prelude.{if◌then◌else◌, slice_get}
+use Rattle.fst_base.proofs.Options.{some_same, none_some}
 use Rattle.fst_types.specs.Tree as type
 use Rattle.fst_types.specs.Tree.{Tree}
 use Rattle.fst_types.specs.declared.side.Side.{Side}
@@ -8,11 +9,11 @@ use Rattle.fst_types.specs.declared.side.Side.TheVariants.{Left, Right}
 use Rattle.fst_kinds.specs.WellFormed.{IsSession}
 use Rattle.fst_lts.specs.Dual.{dual}
 use Rattle.fst_derivations.specs.Rules.{Surroundings}
-use Rattle.fst_value.specs.declared.ends.ChannelName.{ChannelName}
-use Rattle.fst_value.specs.declared.ends.EndName.{EndName}
+use Rattle.fst_types.specs.declared.ends.ChannelName.{ChannelName}
+use Rattle.fst_types.specs.declared.ends.EndName.{EndName}
 use Rattle.fst_machine.specs.declared.request.Request.TheVariants as request
 use Rattle.fst_machine.specs.declared.request.Answer.TheVariants.{Made, Forked}
-use Rattle.fst_machine.specs.Machine.{State, Frame, Pause, makes, giving, ends, pause, after, answered, child}
+use Rattle.fst_machine.specs.Machine.{State, Frame, makes, giving, ends, pause, after, answered, child}
 use Rattle.fst_machine.specs.Machine as machine
 use Rattle.fst_runs.specs.Configs.{same_end}
 use Rattle.fst_runs.specs.Wrong.{held, held_frames, held_state, IsUnspent}
@@ -24,14 +25,13 @@ use Rattle.fst_safety.specs.Fitting.{Residuals, Fits, IsTyped}
 use Rattle.fst_safety.specs.WellTyped.{IsWellTyped, program_in}
 use Rattle.fst_safety.specs.Pauses.{Reached, Goes}
 use Rattle.fst_safety.proofs.Answers.{giving_goes}
-use Rattle.fst_safety.proofs.DualSessions.{dual_session}
+use Rattle.fst_lts.proofs.DualKinds.{dual_session}
 use Rattle.fst_safety.proofs.Equals.{equals_itself, session_formed}
 use Rattle.fst_safety.proofs.ForkLaws.{fork_parts}
 use Rattle.fst_safety.proofs.Owners.{held_apart}
 use Rattle.fst_safety.proofs.Settles.{pause_goes}
 use Rattle.fst_safety.proofs.StillLaws.{unchanged, takes_still}
 use Rattle.fst_safety.proofs.ThreadTyping.{without, without_itself, without_other, typed_without}
-use Rattle.fst_safety.proofs.Typed.{some_same, none_some}
 use Rattle.fst_safety.proofs.Unknown.{unknown_frames, unknown_state}
 
 -- one of the ends of a channel

@@ -5,12 +5,13 @@ use Rattle.std.proofs.lemmas.List.{append-nil}
 use Rattle.std.proofs.lemmas.List.Elements.{All-nil, All-head, All-tail, All-push}
 use Rattle.std.proofs.lemmas.List.Sorted.{All-permutation, sum_by-IsPermutation}
 use Rattle.std.proofs.lemmas.List.Sums.{sum_by-cons, sum_by_push}
+use Rattle.fst_base.proofs.Options.{some_same}
 use Rattle.fst_types.specs.Tree.{Tree}
 use Rattle.fst_types.specs.declared.side.Side.TheVariants.{Left, Right}
 use Rattle.fst_lts.specs.Histories.{side_type}
 use Rattle.fst_derivations.specs.Rules.{Surroundings}
-use Rattle.fst_value.specs.declared.ends.EndName.{EndName}
-use Rattle.fst_value.specs.declared.event.Event.{Event}
+use Rattle.fst_types.specs.declared.ends.EndName.{EndName}
+use Rattle.fst_types.specs.declared.event.Event.{Event}
 use Rattle.fst_machine.specs.declared.request.Request.{Request}
 use Rattle.fst_machine.specs.declared.request.Request.TheVariants as request
 use Rattle.fst_machine.specs.declared.request.Answer.TheVariants.{Go}
@@ -32,7 +33,6 @@ use Rattle.fst_safety.proofs.BagLaws.{counted, unspent_in}
 use Rattle.fst_safety.proofs.Pasts.{later_past}
 use Rattle.fst_safety.proofs.ThreadLaws.{follows_more, idle_end, later_ends, opened_more}
 use Rattle.fst_safety.proofs.ThreadTyping.{stepped, step_holds}
-use Rattle.fst_safety.proofs.Typed.{some_same}
 
 -- ---- nothing happens
 

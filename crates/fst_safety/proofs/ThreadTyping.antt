@@ -1,6 +1,7 @@
 -- What a typed task becomes after an answer, where its residuals are those that it knows itself.
 use Rattle.std.proofs.Common.{◌≡◌, ◌∙◌, ◌⊎◌, inl, inr, ℕ, zero, suc, ◌+◌, [], Bool, true, false, Option, Some, None, refl, sym, ap, subst, arith}
 use Rattle.std.specs.Prelude.{if◌then◌else◌, IsSome}
+use Rattle.fst_base.proofs.Options.{some_same}
 use Rattle.fst_types.specs.Tree.{Tree, skip}
 use Rattle.fst_types.specs.declared.kind.Use.TheVariants.{Many}
 use Rattle.fst_kinds.specs.WellFormed.{IsSession}
@@ -11,12 +12,12 @@ use Rattle.fst_lts.specs.Step.{step, terminated}
 use Rattle.fst_lts.specs.Histories.{sending, receiving}
 use Rattle.fst_lts.proofs.Laws.{moving, no_step}
 use Rattle.fst_derivations.specs.Rules.{Surroundings}
-use Rattle.fst_value.specs.declared.ends.EndName.{EndName}
-use Rattle.fst_value.specs.declared.event.Event.{Event}
+use Rattle.fst_types.specs.declared.ends.EndName.{EndName}
+use Rattle.fst_types.specs.declared.event.Event.{Event}
 use Rattle.fst_machine.specs.declared.request.Request.TheVariants as request
 use Rattle.fst_machine.specs.declared.request.Answer.TheVariants.{Go, Sent, Got}
 use Rattle.fst_machine.specs.Values as value
-use Rattle.fst_machine.specs.Machine.{Program, State, Frame, Pause, stuck, calls, uses, makes, forks, puts, gets, matches, ended, pause, asked, after, answered, giving}
+use Rattle.fst_machine.specs.Machine.{Program, State, Pause, stuck, calls, uses, makes, forks, puts, gets, matches, ended, pause, asked, after, answered, giving}
 use Rattle.fst_machine.specs.Machine as machine
 use Rattle.fst_runs.specs.Configs.{same_end}
 use Rattle.fst_runs.specs.Wrong.{held_env, held_frames, held_state, held_pause, IsUnspent}
@@ -32,7 +33,6 @@ use Rattle.fst_safety.proofs.Exchanging.{sent_goes, received_goes, chosen_goes}
 use Rattle.fst_safety.proofs.Settles.{pause_goes}
 use Rattle.fst_safety.proofs.SoundLaws.{steps_on}
 use Rattle.fst_safety.proofs.StillLaws.{Still, unchanged, typed_still}
-use Rattle.fst_safety.proofs.Typed.{some_same}
 use Rattle.fst_safety.proofs.Unknown.{unknown_state}
 
 -- ---- answers that are there

@@ -10,12 +10,12 @@ use Rattle.fst_lts.specs.Dual.{dual}
 use Rattle.fst_lts.specs.Histories.{sending, after_event, after_history, side_type, opposite}
 use Rattle.fst_lts.proofs.Laws.{dual-dual, after_sent}
 use Rattle.fst_base.specs.Agreement.{residual}
-use Rattle.fst_value.specs.declared.event.Entry.{Entry}
+use Rattle.fst_types.specs.declared.event.Entry.{Entry}
 use Rattle.fst_runs.specs.Configs.{Channel, channel_residual}
 use Rattle.fst_runs.specs.Events.{extended}
 use Rattle.fst_runs.proofs.HistoryLaws.{residual-opposite}
 use Rattle.fst_safety.specs.Sound.{IsTrace}
-use Rattle.fst_safety.proofs.DualSessions.{dual_session}
+use Rattle.fst_lts.proofs.DualKinds.{dual_session}
 
 then_itself : (o : Option Tree) → option_and_then (λ y. residual after_event y []) o ≡ o
 then_itself None = refl

@@ -4,7 +4,7 @@ use Rattle.std.specs.Prelude.{sum_by, IsPermutation, if◌then◌else◌, is_som
 use Rattle.std.proofs.lemmas.List.Sorted.{sum_by-IsPermutation}
 use Rattle.std.proofs.lemmas.List.Sums.{sum_by-append, sum_by-cons, sum_by_push}
 use Rattle.fst_lts.specs.Step.{terminated}
-use Rattle.fst_value.specs.declared.ends.EndName.{EndName}
+use Rattle.fst_types.specs.declared.ends.EndName.{EndName}
 use Rattle.fst_runs.specs.Configs.{same_end}
 use Rattle.fst_runs.specs.Wrong.{once}
 use Rattle.fst_cell.specs.End.{EndView, end_name}

@@ -1,7 +1,8 @@
 -- The types of terms and of values up to equality, and the values of variables.
-use Rattle.std.proofs.Common.{◌≡◌, ℕ, zero, suc, List, [], ◌∷◌, Bool, true, false, Some, None, refl, sym, subst}
+use Rattle.std.proofs.Common.{◌≡◌, ℕ, zero, suc, List, [], ◌∷◌, Bool, true, false, Some, refl, sym, subst}
 use Rattle.std.specs.Prelude.{slice_get}
 use Rattle.std.proofs.lemmas.Bool.{false≢true}
+use Rattle.fst_base.proofs.Options.{some_same}
 use Rattle.fst_types.specs.Tree.{Tree}
 use Rattle.fst_terms.specs.CoreTree.{CoreTree, local, global, int, bool, char, unit, pair, make, lambda, apply, let_in, split, if_else, case_of, operate, negate, new, send, receive, select, match_with, fork, seq, CoreArms, no_arms, arm}
 use Rattle.fst_context.specs.Scope.{Variable}
@@ -47,14 +48,6 @@ mutual
   arms_equal m B g no_arms a b d q = tt
   arms_equal m B g (arm l xs e bs) a b d q =
       (d.0, d.1, d.2, d.3, d.4, type_equal m (context.enter_all d.1 g) e a b d.5 q, d.6, arms_equal m B g bs a b d.7 q)
-
--- the first of two that are the same
-pub some_same : {A : Type 0} {a b : A} → Some a ≡ Some b → a ≡ b
-some_same q = cc
-
--- nothing isn't something
-pub none_some : {A : Type 0} {a : A} → None ≡ Some a → ⊥
-none_some q = cc
 
 module _ (m : Surroundings) (r : Residuals) where
   -- a value of a type is one of each equal type

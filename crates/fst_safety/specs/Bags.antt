@@ -3,8 +3,8 @@ use Rattle.std.specs.Prelude.{◌≡◌, ◌⊎◌, ◌<◌, ℕ, Bool, true, fa
 use Rattle.std.specs.declared.alloc.AllocError.{AllocError}
 use Rattle.fst_types.specs.Tree.{Tree}
 use Rattle.fst_lts.specs.Step.{terminated}
-use Rattle.fst_value.specs.declared.ends.EndName.{EndName}
-use Rattle.fst_value.specs.declared.event.Event.{Event}
+use Rattle.fst_types.specs.declared.ends.EndName.{EndName}
+use Rattle.fst_types.specs.declared.event.Event.{Event}
 use Rattle.fst_cell.specs.Answers.{end_with, FoundHeld, FoundNothing, FoundStanding, IsOffered, IsTaken, IsNoticed}
 use Rattle.fst_cell.specs.Residuals.{sends, asks}
 use Rattle.fst_cell.specs.Rule.{tried}

@@ -16,7 +16,7 @@ use Rattle.fst_arms.specs.Arms.{arm_labels, AreEachOnce}
 use Rattle.fst_context.specs.Scope.{Variable}
 use Rattle.fst_derivations.specs.Parts.{HasUse, AreAt, IsOffering}
 use Rattle.fst_derivations.specs.Rules.{Surroundings, Operates, fields, rest}
-use Rattle.fst_value.specs.declared.ends.EndName.{EndName}
+use Rattle.fst_types.specs.declared.ends.EndName.{EndName}
 use Rattle.fst_machine.specs.Free.{free, free_in, free_below, outside}
 use Rattle.fst_machine.specs.Values as value
 use Rattle.fst_machine.specs.Values.{Value, Values, no_values, Environment, none, hole, slot}

@@ -15,7 +15,7 @@ use Rattle.fst_arms.specs.Arms.{arm_labels, AreEachOnce}
 use Rattle.fst_context.specs.Scope.{Variable}
 use Rattle.fst_derivations.specs.Parts.{HasUse, IsOffering}
 use Rattle.fst_derivations.specs.Rules.{Surroundings, rest}
-use Rattle.fst_value.specs.declared.ends.EndName.{EndName}
+use Rattle.fst_types.specs.declared.ends.EndName.{EndName}
 use Rattle.fst_machine.specs.Free.{free, free_below}
 use Rattle.fst_machine.specs.Values as value
 use Rattle.fst_machine.specs.Machine.{State, Pause, stuck, calls, uses, makes, forks, puts, gets, matches, ended}

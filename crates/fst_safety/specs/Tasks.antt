@@ -8,9 +8,9 @@ use Rattle.fst_terms.specs.CoreTree.{CoreTree}
 use Rattle.fst_derivations.specs.Deriv.{Deriv}
 use Rattle.fst_derivations.specs.Modules.{HasDerivations, surroundings}
 use Rattle.fst_derivations.specs.Rules.{Surroundings}
-use Rattle.fst_value.specs.declared.ends.ChannelName.{ChannelName}
-use Rattle.fst_value.specs.declared.ends.EndName.{EndName}
-use Rattle.fst_value.specs.declared.event.Event.{Event}
+use Rattle.fst_types.specs.declared.ends.ChannelName.{ChannelName}
+use Rattle.fst_types.specs.declared.ends.EndName.{EndName}
+use Rattle.fst_types.specs.declared.event.Event.{Event}
 use Rattle.fst_machine.specs.declared.code.Code.{Code}
 use Rattle.fst_machine.specs.declared.request.Request.{Request}
 use Rattle.fst_machine.specs.declared.request.Request.TheVariants.{Put, Ended as Over}

@@ -5,8 +5,8 @@ use Rattle.fst_types.specs.Tree.{Tree}
 use Rattle.fst_types.specs.declared.side.Side.{Side}
 use Rattle.fst_types.specs.declared.side.Side.TheVariants.{Left, Right}
 use Rattle.fst_derivations.specs.Rules.{Surroundings}
-use Rattle.fst_value.specs.declared.ends.ChannelName.{ChannelName}
-use Rattle.fst_value.specs.declared.ends.EndName.{EndName}
+use Rattle.fst_types.specs.declared.ends.ChannelName.{ChannelName}
+use Rattle.fst_types.specs.declared.ends.EndName.{EndName}
 use Rattle.fst_runs.specs.Wrong.{held_state}
 use Rattle.fst_cell.specs.End.{EndView}
 use Rattle.fst_safety.specs.declared.tasks.LogEntry.{LogEntry}

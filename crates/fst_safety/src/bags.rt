@@ -1,7 +1,7 @@
 //! Ends among others.
 
 ghost use Rattle.std.specs.Prelude.{◌≡◌, ◌+◌, ◌≤◌, ◌<◌, IfSome, IfNone, IsSome, length, slice_index_or, vec_len, vec_capacity};
-ghost use Rattle.fst_value.specs.declared.ends.EndName.{EndName as Named};
+ghost use Rattle.fst_types.specs.declared.ends.EndName.{EndName as Named};
 ghost use Rattle.fst_runs.specs.Configs.{same_end, same_side};
 ghost use Rattle.fst_cell.specs.End.{EndView};
 ghost use Rattle.fst_safety.specs.Bags.{AreParted, IsPlaced, IsPutBack, MayOffer, MayTake, NoticesAt, OffersAt, TakesAt};
@@ -9,8 +9,7 @@ ghost use Rattle.fst_safety.specs.Threads.{count_of};
 
 use fst_cell::{End, Noticed, Offered, TakenEvent};
 use fst_lts::terminated;
-use fst_types::Side;
-use fst_value::{EndName, Event};
+use fst_types::{EndName, Event, Side};
 use std::alloc::AllocError;
 
 // Whether the sides are the same.

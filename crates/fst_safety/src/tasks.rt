@@ -3,7 +3,7 @@ ghost use Rattle.fst_safety.specs.Tasks.{IsBegun};
 
 use fst_cell::End;
 use fst_machine::{Answer, Code, Request};
-use fst_value::EndName;
+use fst_types::EndName;
 use fst_vm::Task;
 use std::alloc::{AllocError, Global};
 

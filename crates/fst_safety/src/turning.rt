@@ -1,7 +1,7 @@
 //! What a turn of a task does.
 
 ghost use Rattle.std.specs.Prelude.{◌≡◌, ◌+◌, ◌≤◌, ◌<◌, ℕ, true, List, Some, None, IfOk, OnOk, OnErr, IsOk, IsSome, [], length, vec_len, vec_capacity, slice_index_or};
-ghost use Rattle.fst_value.specs.declared.event.Event.TheVariants.{Label};
+ghost use Rattle.fst_types.specs.declared.event.Event.TheVariants.{Label};
 ghost use Rattle.fst_machine.specs.declared.request.Request.TheVariants.{Step, New, Fork, Put, Get};
 ghost use Rattle.fst_vm.specs.Tasks.{Takes, is_exchange};
 ghost use Rattle.fst_cell.specs.End.{EndView, residual_of};
@@ -13,8 +13,7 @@ use crate::bags::{notice_at, offer_at, part, place, put_back, take_at};
 use crate::tasks::{LogEntry, Turned, TypedTask};
 use fst_cell::{End, new_cell};
 use fst_machine::{Answer, Code, Request};
-use fst_types::copy;
-use fst_value::{ChannelName, EndName, Event};
+use fst_types::{ChannelName, EndName, Event, copy};
 use std::alloc::AllocError;
 
 // The same event, whose letters stand in memory that was taken before.

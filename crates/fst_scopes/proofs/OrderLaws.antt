@@ -59,7 +59,7 @@ place_from names (x ∷ xs) k c = elim (Contains-append_cases (option_to_list (p
     own (Some j) (suc n, lt, is) = absurd (omega arith)
 
 -- the place of a name in a list is among its places
-place_among : (names xs : List (List ℕ)) (y : List ℕ) (k : ℕ) → Contains xs y → place_of names y ≡ Some k → Contains (places_in names xs) k
+pub place_among : (names xs : List (List ℕ)) (y : List ℕ) (k : ℕ) → Contains xs y → place_of names y ≡ Some k → Contains (places_in names xs) k
 place_among names [] y k c is = absurd (contains_none y c)
 place_among names (x ∷ xs) y k c is = elim (Contains-append_cases (x ∷ []) xs y c) [
   | inl c ↦ Contains-append_left (option_to_list (place_of names x)) (places_in names xs) k (subst (λ o. Contains (option_to_list o) k) (sym (ap (place_of names) (head c) ∙ is)) (0, omega arith, refl))
@@ -79,7 +79,7 @@ same_alias w v e = ap type_in (same_Some (other_name w) (other_name v) e)
 
 module _ (types : TypeNames) where
   -- what stands at the place of a name
-  stands_at : (trees : List (Option Tree)) (y : List ℕ) (k : ℕ) → place_of types.names y ≡ Some k → standing_in types trees y ≡ get_or trees k None
+  pub stands_at : (trees : List (Option Tree)) (y : List ℕ) (k : ℕ) → place_of types.names y ≡ Some k → standing_in types trees y ≡ get_or trees k None
   stands_at trees y k is = ap (λ o. unwrap_or (option_and_then (λ k. slice_get trees k) o) None) is ∙ unwrap_or-slice_get trees k None
 
   stands_not : (trees : List (Option Tree)) (y : List ℕ) → place_of types.names y ≡ None → standing_in types trees y ≡ None

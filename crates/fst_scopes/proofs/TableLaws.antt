@@ -1,25 +1,17 @@
 -- What the table of variables finds, in the list of names that it stands for.
-use Rattle.std.proofs.Common.{◌≡◌, ◌∙◌, ◌+◌, ◌<◌, refl, sym, ap, arith, ℕ, suc, List, [], ◌∷◌, ◌++◌, length, map, Bool, true, false, cond, not, ◌||◌, Option, Some, None}
+use Rattle.std.proofs.Common.{◌≡◌, ◌∙◌, ◌+◌, refl, sym, ap, arith, ℕ, suc, List, [], ◌∷◌, ◌++◌, length, map, Bool, true, false, cond, not, ◌||◌, Option, Some, None}
 use Rattle.std.specs.Prelude.{if◌then◌else◌, nat_lt, option_map}
 use Rattle.std.specs.List.{position, position_or_len, list_any}
 use Rattle.std.specs.Str.{bytes_eq}
-use Rattle.std.proofs.lemmas.Bool.{ltb-true, lt-ltb}
+use Rattle.std.proofs.lemmas.Bool.{lt-ltb}
 use Rattle.std.proofs.lemmas.List.{map-append}
 use Rattle.std.specs.declared.vec.Vec.{Vec}
 use Rattle.std.specs.declared.alloc.Global.{Global}
+use Rattle.fst_base.proofs.Bools.{next_less}
 use Rattle.fst_terms.specs.Naming.{place_of, is_there}
 use Rattle.fst_scopes.specs.Bytes.{bytes_of}
 use Rattle.fst_scopes.specs.Faults.{is_among}
 use Rattle.fst_scopes.specs.Kept.{with_name}
-
-next_less : (m n : ℕ) → nat_lt (1 + m) (suc n) ≡ nat_lt m n
-next_less m n = pick (nat_lt (1 + m) (suc n)) refl (nat_lt m n) refl
-  where
-    pick : (b : Bool) → nat_lt (1 + m) (suc n) ≡ b → (c : Bool) → nat_lt m n ≡ c → b ≡ c
-    pick true e true f = refl
-    pick true e false f = let lt : 1 + m < suc n = ltb-true (1 + m) (suc n) e in sym (lt-ltb m n (omega arith)) ∙ f
-    pick false e true f = let lt : m < n = ltb-true m n f in sym e ∙ lt-ltb (1 + m) (suc n) (omega arith)
-    pick false e false f = refl
 
 -- a number, if it is below another one
 abbrev below : ℕ → ℕ → Option ℕ

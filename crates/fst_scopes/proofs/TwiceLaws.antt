@@ -62,7 +62,8 @@ pub twice_push : (bs : List Binder) (b : Binder) → twice (bs ++ b ∷ []) ≡ 
 twice_push bs b = twice_after_push [] bs b
 
 -- a name that isn't told to stand twice is new
-is_new : (c : Bool) (b : Binder) → twice_if c b ≡ [] → c ≡ false
+-- a binder of which no fault is told is new
+pub is_new : (c : Bool) (b : Binder) → twice_if c b ≡ [] → c ≡ false
 is_new true b e = absurd cc
 is_new false b e = refl
 

@@ -1,5 +1,5 @@
 -- The words that a table of nodes stands for.
-use Rattle.std.specs.Prelude.{◌≡◌, ℕ, suc, ◌<◌, ◌≤◌, List, [], ◌∷◌, ◌++◌, length, Some, slice_get, slice_index_or}
+use Rattle.std.specs.Prelude.{◌≡◌, ℕ, suc, ◌<◌, ◌≤◌, List, [], ◌∷◌, ◌++◌, length, Some, slice_get, slice_index_or, ⊤}
 
 -- the word with a number: none where there is no such number
 abbrev pub word_of : List (List ℕ) → ℕ → List ℕ
@@ -30,3 +30,8 @@ pub record IsTable (nodes : List (ℕ × ℕ)) (words : List (List ℕ)) : Type 
   pub before : (k : ℕ) (p : ℕ × ℕ) → slice_get nodes k ≡ Some p → p.1 ≤ k
   pub linked : (k : ℕ) (p : ℕ × ℕ) → slice_get nodes k ≡ Some p → word_of words (suc k) ≡ p.0 ∷ word_of words p.1
   pub once : IsEachOnce words
+
+-- these pairs of numbers are below n
+abbrev pub AreKeys : ℕ → List (ℕ × ℕ) → Type 0
+AreKeys n [] = ⊤
+AreKeys n (k ∷ keys) = (k.0 < n) × (k.1 < n) × AreKeys n keys

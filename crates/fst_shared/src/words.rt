@@ -1,9 +1,9 @@
 ghost use Rattle.std.specs.Prelude.{◌≡◌, ◌<◌, ◌↔◌, ◌++◌, ◌∷◌, [], ℕ, List, IfOk, IfSome, IfNone, OnErr, IsTrue, length, take, ◌+◌};
 ghost use Rattle.fst_words.specs.Words.{WordBelow};
 ghost use Rattle.fst_shared.specs.Shared.{word_of, Keeps, IsEachOnce};
-ghost use Rattle.fst_shared.specs.Cut.{cut};
+ghost use Rattle.fst_words.specs.Marks.{cut};
 
-use fst_words::Word;
+use fst_words::{Word, first_marked};
 use indexmap::IndexSet;
 use std::alloc::{AllocError, Global};
 use std::marker::Model;
@@ -24,21 +24,6 @@ impl Model for SharedWords {
     ghost view = { λ s. words_of s.nodes.keys };
 
     ghost invariant = { λ s. IsTable s.nodes.keys (words_of s.nodes.keys) };
-}
-
-// The place of the first marked non-terminal.
-fn first_marked(marks: &[bool], front: &[u32]) -> Option<usize>
-    requires { WordBelow (length marks.now) front.now }
-    ensures none { IfNone result ((w : List ℕ) → cut marks.now front.now w ≡ front.now ++ w) }
-    ensures some { IfSome result (λ at. (w : List ℕ) → cut marks.now front.now w ≡ take (at + 1) front.now ++ []) }
-    ensures within { IfSome result (λ at. at < length front.now) }
-{
-    for (i, n) in front.iter().enumerate() {
-        if marks[*n as usize] {
-            return Some(i);
-        }
-    }
-    None
 }
 
 // What is left of a word in front of another, and the number of the word behind that.

@@ -1,15 +1,14 @@
 //! A cell, call by call.
 
 ghost use Rattle.std.specs.Prelude.{◌≡◌, ◌+◌, ◌^◌, ◌<◌, [], IfOk, IfSome, IsTrue, Some, true, length};
-ghost use Rattle.fst_value.specs.declared.event.Event.TheVariants.{Int};
+ghost use Rattle.fst_types.specs.declared.event.Event.TheVariants.{Int};
 ghost use Rattle.fst_kinds.specs.WellFormed.{IsSession};
 ghost use Rattle.fst_cell.specs.Residuals.{sends, asks};
 ghost use Rattle.fst_thread_trials.specs.Relay.{Stays};
 
 use fst_cell::{End, Noticed, Offered, TakenEvent, close, new_cell};
 use fst_lts::{step, terminated};
-use fst_types::{Base, Label, Ty, TyForm};
-use fst_value::{ChannelHistory, ChannelName, Event, Path};
+use fst_types::{Base, ChannelHistory, ChannelName, Event, Label, Path, Ty, TyForm};
 use std::alloc::{AllocError, Global};
 use std::test::Fail;
 

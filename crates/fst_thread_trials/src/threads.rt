@@ -1,15 +1,14 @@
 //! Two threads at the ends of one channel.
 
 ghost use Rattle.std.specs.Prelude.{◌≡◌, ◌+◌, ◌^◌, ◌<◌, [], IfOk, IfSome, IsSome, IsTrue, None, true, length};
-ghost use Rattle.fst_value.specs.declared.event.Event.TheVariants.{Int};
+ghost use Rattle.fst_types.specs.declared.event.Event.TheVariants.{Int};
 ghost use Rattle.fst_kinds.specs.WellFormed.{IsSession};
 ghost use Rattle.fst_cell.specs.End.{residual_of};
 ghost use Rattle.fst_cell.specs.Residuals.{sends, asks};
 
 use crate::calls::{asks_number, first_channel, sends_number};
 use fst_cell::{Closed, End, Noticed, Offered, TakenEvent, close, new_cell};
-use fst_types::{Base, Ty, TyForm};
-use fst_value::{Entry, Event};
+use fst_types::{Base, Entry, Event, Ty, TyForm};
 use std::alloc::{AllocError, Global};
 use std::test::Fail;
 use std::thread;

@@ -1,4 +1,3 @@
 pub mod Texts
 pub mod WrittenTexts
 pub mod MoveTexts
-pub mod Adds

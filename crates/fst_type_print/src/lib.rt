@@ -9,7 +9,6 @@ mod words;
 mod written;
 
 pub use moves::move_text;
-pub use pieces::{name_text, push_number};
 pub use refusals::{Phrase, Refusal, push_kind, refusal_text};
 pub use types::{arrow_text, type_text};
 pub use words::{side_text, word_text};

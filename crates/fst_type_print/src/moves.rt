@@ -3,11 +3,10 @@ ghost use Rattle.std.specs.String.{string_bytes};
 ghost use Rattle.fst_types.specs.Named.{IsNamedWithin};
 ghost use Rattle.fst_types.specs.Scoped.{IsScoped};
 ghost use Rattle.fst_types.specs.Sent.{sent_type};
-ghost use Rattle.fst_type_print.specs.Adds.{Adds};
+ghost use Rattle.fst_base.specs.Gains.{Gains};
 ghost use Rattle.fst_type_print.specs.MoveTexts.{in_parens_behind_sign, move_text};
 ghost use Rattle.fst_type_print.specs.Texts.{family_names};
 
-use crate::pieces::name_text;
 use crate::types::push_enclosed;
 use fst_types::{Family, Move, Ty, TyForm};
 use std::alloc::{AllocError, Global};
@@ -26,7 +25,7 @@ fn in_parens_behind_sign(t: &Ty) -> bool
 fn push_move(text: &mut String, m: &Move, families: &[Family]) -> Result<(), AllocError>
     requires scoped { IfSome (sent_type m.now) (IsScoped 0) }
     requires named { IfSome (sent_type m.now) (IsNamedWithin (length families.now)) }
-    ensures { Adds result text.old text.new (move_text (family_names families.now) m.now) }
+    ensures { Gains result text.old text.new (move_text (family_names families.now) m.now) }
 {
     match m {
         Move::Send(t) => {
@@ -36,7 +35,7 @@ fn push_move(text: &mut String, m: &Move, families: &[Family]) -> Result<(), All
         Move::Receive => text.push_str("?"),
         Move::Select(label) => {
             text.push_str("+")?;
-            text.push_str(name_text(label))
+            text.push_str(label.as_str())
         }
         Move::Offer => text.push_str("&"),
     }

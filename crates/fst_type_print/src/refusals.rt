@@ -1,10 +1,11 @@
 ghost use Rattle.std.specs.Prelude.{◌≡◌, ◌++◌, IfOk, codes};
 ghost use Rattle.std.specs.String.{string_bytes};
-ghost use Rattle.fst_type_print.specs.Adds.{Adds};
+ghost use Rattle.fst_base.specs.Gains.{Gains};
 ghost use Rattle.fst_type_print.specs.Texts.{counts_text, difference_text, kind_text, kinds_text, mismatch_text, phrase_text, prekind_text, refusal_text, use_text, variable_text};
 
-use crate::pieces::{name_text, push_number, push_variable};
+use crate::pieces::push_variable;
 use crate::words::side_text;
+use fst_base::push_number;
 use fst_types::{Kind, Name, Prekind, Side, Use};
 use std::alloc::{AllocError, Global};
 
@@ -95,21 +96,21 @@ fn prekind_text(prekind: Prekind) -> &'static str
 }
 
 pub fn push_kind(text: &mut String, kind: Kind) -> Result<(), AllocError>
-    ensures { Adds result text.old text.new (kind_text kind) }
+    ensures { Gains result text.old text.new (kind_text kind) }
 {
     text.push_str(use_text(kind.uses))?;
     text.push_str(prekind_text(kind.prekind))
 }
 
 fn push_cause(text: &mut String, cause: &str, cited: &str) -> Result<(), AllocError>
-    ensures { Adds result text.old text.new (cause.now ++ cited.now) }
+    ensures { Gains result text.old text.new (cause.now ++ cited.now) }
 {
     text.push_str(cause)?;
     text.push_str(cited)
 }
 
 fn push_counts(text: &mut String, cause: &str, got: u64, wanted: u64) -> Result<(), AllocError>
-    ensures { Adds result text.old text.new (counts_text cause.now got wanted) }
+    ensures { Gains result text.old text.new (counts_text cause.now got wanted) }
 {
     text.push_str(cause)?;
     push_number(text, got)?;
@@ -118,7 +119,7 @@ fn push_counts(text: &mut String, cause: &str, got: u64, wanted: u64) -> Result<
 }
 
 fn push_kinds(text: &mut String, got: Kind, wanted: Kind) -> Result<(), AllocError>
-    ensures { Adds result text.old text.new (kinds_text got wanted) }
+    ensures { Gains result text.old text.new (kinds_text got wanted) }
 {
     text.push_str("kind ")?;
     push_kind(text, got)?;
@@ -127,14 +128,14 @@ fn push_kinds(text: &mut String, got: Kind, wanted: Kind) -> Result<(), AllocErr
 }
 
 fn push_unbound_type(text: &mut String, k: u64) -> Result<(), AllocError>
-    ensures { Adds result text.old text.new (codes "unbound type " ++ variable_text k) }
+    ensures { Gains result text.old text.new (codes "unbound type " ++ variable_text k) }
 {
     text.push_str("unbound type ")?;
     push_variable(text, k)
 }
 
 fn push_difference(text: &mut String, difference: &Option<(String, Side)>) -> Result<(), AllocError>
-    ensures { Adds result text.old text.new (difference_text difference.now) }
+    ensures { Gains result text.old text.new (difference_text difference.now) }
 {
     let Some((word, side)) = difference else {
         return Ok(());
@@ -151,7 +152,7 @@ fn push_mismatch(
     wanted: &str,
     difference: &Option<(String, Side)>,
 ) -> Result<(), AllocError>
-    ensures { Adds result text.old text.new (mismatch_text got.now wanted.now difference.now) }
+    ensures { Gains result text.old text.new (mismatch_text got.now wanted.now difference.now) }
 {
     text.push_str("type ")?;
     text.push_str(got)?;
@@ -161,7 +162,7 @@ fn push_mismatch(
 }
 
 fn push_no_move(text: &mut String, asked: &str, t: &str) -> Result<(), AllocError>
-    ensures { Adds result text.old text.new (codes "no move " ++ asked.now ++ codes " in " ++ t.now) }
+    ensures { Gains result text.old text.new (codes "no move " ++ asked.now ++ codes " in " ++ t.now) }
 {
     text.push_str("no move ")?;
     text.push_str(asked)?;
@@ -170,7 +171,7 @@ fn push_no_move(text: &mut String, asked: &str, t: &str) -> Result<(), AllocErro
 }
 
 fn push_phrase(text: &mut String, phrase: &Phrase) -> Result<(), AllocError>
-    ensures { Adds result text.old text.new (phrase_text phrase.now) }
+    ensures { Gains result text.old text.new (phrase_text phrase.now) }
 {
     match phrase {
         Phrase::NotUtf8 => text.push_str("not utf-8"),
@@ -178,22 +179,22 @@ fn push_phrase(text: &mut String, phrase: &Phrase) -> Result<(), AllocError>
         Phrase::WideNumber => text.push_str("number too wide"),
         Phrase::LongName => text.push_str("name too long"),
         Phrase::Syntax => text.push_str("syntax"),
-        Phrase::Unbound(name) => push_cause(text, "unbound ", name_text(name)),
-        Phrase::Twice(name) => push_cause(text, "twice ", name_text(name)),
-        Phrase::AliasLoop(name) => push_cause(text, "alias loop ", name_text(name)),
+        Phrase::Unbound(name) => push_cause(text, "unbound ", name.as_str()),
+        Phrase::Twice(name) => push_cause(text, "twice ", name.as_str()),
+        Phrase::AliasLoop(name) => push_cause(text, "alias loop ", name.as_str()),
         Phrase::Arity(got, wanted) => push_counts(text, "arity ", *got, *wanted),
         Phrase::NoMain => text.push_str("no main"),
         Phrase::NotContractive => text.push_str("not contractive"),
         Phrase::WrongKind(got, wanted) => push_kinds(text, *got, *wanted),
         Phrase::UnboundType(k) => push_unbound_type(text, *k),
-        Phrase::DoubleLabel(label) => push_cause(text, "double label ", name_text(label)),
+        Phrase::DoubleLabel(label) => push_cause(text, "double label ", label.as_str()),
         Phrase::Mismatch(got, wanted, difference) => {
             push_mismatch(text, got.as_str(), wanted.as_str(), difference)
         }
-        Phrase::Unused(name) => push_cause(text, "unused ", name_text(name)),
-        Phrase::UsedTwice(name) => push_cause(text, "used twice ", name_text(name)),
-        Phrase::CapturedLinear(name) => push_cause(text, "captured ", name_text(name)),
-        Phrase::Branches(name) => push_cause(text, "branches ", name_text(name)),
+        Phrase::Unused(name) => push_cause(text, "unused ", name.as_str()),
+        Phrase::UsedTwice(name) => push_cause(text, "used twice ", name.as_str()),
+        Phrase::CapturedLinear(name) => push_cause(text, "captured ", name.as_str()),
+        Phrase::Branches(name) => push_cause(text, "branches ", name.as_str()),
         Phrase::NotFunction(t) => push_cause(text, "not a function ", t.as_str()),
         Phrase::NotPair(t) => push_cause(text, "not a pair ", t.as_str()),
         Phrase::NotPrintable(t) => push_cause(text, "not printable ", t.as_str()),

@@ -3,11 +3,12 @@ ghost use Rattle.std.specs.String.{string_bytes};
 ghost use Rattle.fst_types.specs.Scoped.{AllScoped, IsScoped};
 ghost use Rattle.fst_types.specs.Tree as tree;
 ghost use Rattle.fst_types.specs.ModelView.{branches_of};
-ghost use Rattle.fst_type_print.specs.Adds.{Adds};
+ghost use Rattle.fst_base.specs.Gains.{Gains};
 ghost use Rattle.fst_types.specs.Named.{AllNamedWithin, IsNamedWithin};
 ghost use Rattle.fst_type_print.specs.Texts.{arrow_text, binder_text, branch_texts, family_names, in_braces, in_parens_before_arrow, in_parens_before_semicolon, in_parens_if, joined_text, separated_text, text_under, type_text};
 
-use crate::pieces::{base_text, name_text, push_number, push_receive, push_send, push_variable};
+use crate::pieces::{base_text, push_receive, push_send, push_variable};
+use fst_base::push_number;
 use fst_types::{Branch, Family, Ty, TyForm, Use};
 use std::alloc::{AllocError, Global};
 
@@ -59,7 +60,7 @@ pub fn arrow_text(uses: Use) -> &'static str
 // The variable of a binder under so many others, of which each has been written.
 fn push_binder(text: &mut String, outer: usize) -> Result<(), AllocError>
     requires { outer ≤ length (string_bytes text.old) }
-    ensures { Adds result text.old text.new (binder_text outer) }
+    ensures { Gains result text.old text.new (binder_text outer) }
 {
     text.push_str("x")?;
     push_number(text, outer + 1)
@@ -71,7 +72,7 @@ fn push_type(text: &mut String, t: &Ty, depth: usize, families: &[Family]) -> Re
     requires scoped { IsScoped depth t.now }
     requires named { IsNamedWithin (length families.now) t.now }
     requires written { depth ≤ length (string_bytes text.old) }
-    ensures { Adds result text.old text.new (text_under (family_names families.now) depth t.now) }
+    ensures { Gains result text.old text.new (text_under (family_names families.now) depth t.now) }
 {
     match &t.form {
         TyForm::Skip => text.push_str("Skip"),
@@ -96,7 +97,7 @@ fn push_type(text: &mut String, t: &Ty, depth: usize, families: &[Family]) -> Re
             push_type(text, to, depth, families)
         }
         TyForm::Pair(first, second) => push_pair(text, first, second, depth, families),
-        TyForm::Named(k) => text.push_str(name_text(&families[*k as usize].name)),
+        TyForm::Named(k) => text.push_str(families[*k as usize].name.as_str()),
     }
 }
 
@@ -112,7 +113,7 @@ pub(crate) fn push_enclosed(
     requires scoped { IsScoped depth t.now }
     requires named { IsNamedWithin (length families.now) t.now }
     requires written { depth ≤ length (string_bytes text.old) }
-    ensures { Adds result text.old text.new (in_parens_if in_parens (text_under (family_names families.now) depth t.now)) }
+    ensures { Gains result text.old text.new (in_parens_if in_parens (text_under (family_names families.now) depth t.now)) }
 {
     if !in_parens {
         return push_type(text, t, depth, families);
@@ -132,7 +133,7 @@ fn push_rec(
     requires scoped { IsScoped (suc depth) body.now }
     requires named { IsNamedWithin (length families.now) body.now }
     requires written { depth ≤ length (string_bytes text.old) }
-    ensures { Adds result text.old text.new (text_under (family_names families.now) depth (tree.rec body.now)) }
+    ensures { Gains result text.old text.new (text_under (family_names families.now) depth (tree.rec body.now)) }
 {
     text.push_str("rec ")?;
     push_binder(text, depth)?;
@@ -152,7 +153,7 @@ fn push_pair(
     requires scoped { IsScoped depth first.now × IsScoped depth second.now }
     requires named { IsNamedWithin (length families.now) first.now × IsNamedWithin (length families.now) second.now }
     requires written { depth ≤ length (string_bytes text.old) }
-    ensures { Adds result text.old text.new (text_under (family_names families.now) depth (tree.pair first.now second.now)) }
+    ensures { Gains result text.old text.new (text_under (family_names families.now) depth (tree.pair first.now second.now)) }
 {
     text.push_str("(")?;
     push_type(text, first, depth, families)?;
@@ -173,7 +174,7 @@ fn push_choice(
     requires scoped { AllScoped depth (branches_of branches.now) }
     requires named { AllNamedWithin (length families.now) (branches_of branches.now) }
     requires written { depth ≤ length (string_bytes text.old) }
-    ensures { Adds result text.old text.new (sign.now ++ in_braces (joined_text (codes ", ") (branch_texts (family_names families.now) depth (branches_of branches.now)))) }
+    ensures { Gains result text.old text.new (sign.now ++ in_braces (joined_text (codes ", ") (branch_texts (family_names families.now) depth (branches_of branches.now)))) }
 {
     text.push_str(sign)?;
     text.push_str("{")?;
@@ -191,9 +192,9 @@ fn push_branch(
     requires scoped { IsScoped depth branch.now.body }
     requires named { IsNamedWithin (length families.now) branch.now.body }
     requires written { depth ≤ length (string_bytes text.old) }
-    ensures { Adds result text.old text.new (branch.now.label ++ codes ": " ++ text_under (family_names families.now) depth branch.now.body) }
+    ensures { Gains result text.old text.new (branch.now.label ++ codes ": " ++ text_under (family_names families.now) depth branch.now.body) }
 {
-    text.push_str(name_text(&branch.label))?;
+    text.push_str(branch.label.as_str())?;
     text.push_str(": ")?;
     push_type(text, &branch.body, depth, families)
 }
@@ -208,7 +209,7 @@ fn push_branches(
     requires scoped { AllScoped depth (branches_of branches.now) }
     requires named { AllNamedWithin (length families.now) (branches_of branches.now) }
     requires written { depth ≤ length (string_bytes text.old) }
-    ensures { Adds result text.old text.new (joined_text (codes ", ") (branch_texts (family_names families.now) depth (branches_of branches.now))) }
+    ensures { Gains result text.old text.new (joined_text (codes ", ") (branch_texts (family_names families.now) depth (branches_of branches.now))) }
 {
     let [first, others @ ..] = branches else {
         return Ok(());
@@ -228,7 +229,7 @@ fn push_others(
     requires scoped { AllScoped depth (branches_of others.now) }
     requires named { AllNamedWithin (length families.now) (branches_of others.now) }
     requires written { depth ≤ length (string_bytes text.old) }
-    ensures { Adds result text.old text.new (separated_text (codes ", ") (branch_texts (family_names families.now) depth (branches_of others.now))) }
+    ensures { Gains result text.old text.new (separated_text (codes ", ") (branch_texts (family_names families.now) depth (branches_of others.now))) }
 {
     for branch in others {
         text.push_str(", ")?;

@@ -1,9 +1,9 @@
 ghost use Rattle.std.specs.Prelude.{◌≡◌, IfOk};
 ghost use Rattle.std.specs.String.{string_bytes};
-ghost use Rattle.fst_type_print.specs.Adds.{Adds};
+ghost use Rattle.fst_base.specs.Gains.{Gains};
 ghost use Rattle.fst_type_print.specs.Texts.{label_text, side_text, word_text};
 
-use crate::pieces::{name_text, push_receive, push_send, push_variable};
+use crate::pieces::{push_receive, push_send, push_variable};
 use fst_types::{Label, Side};
 use std::alloc::{AllocError, Global};
 
@@ -18,25 +18,25 @@ pub fn side_text(side: Side) -> &'static str
 }
 
 fn push_label(text: &mut String, label: &Label) -> Result<(), AllocError>
-    ensures { Adds result text.old text.new (label_text label.now) }
+    ensures { Gains result text.old text.new (label_text label.now) }
 {
     match label {
         Label::Send(base) => push_send(text, *base),
         Label::Receive(base) => push_receive(text, *base),
         Label::Select(name) => {
             text.push_str("+")?;
-            text.push_str(name_text(name))
+            text.push_str(name.as_str())
         }
         Label::Offer(name) => {
             text.push_str("&")?;
-            text.push_str(name_text(name))
+            text.push_str(name.as_str())
         }
         Label::Var(k) => push_variable(text, u64::from(*k)),
     }
 }
 
 fn push_word(text: &mut String, word: &[Label]) -> Result<(), AllocError>
-    ensures { Adds result text.old text.new (word_text word.now) }
+    ensures { Gains result text.old text.new (word_text word.now) }
 {
     let [first, others @ ..] = word else {
         return Ok(());

@@ -1,11 +1,11 @@
 ghost use Rattle.std.specs.Prelude.{◌≡◌, ◌++◌, codes};
 ghost use Rattle.fst_types.specs.WrittenTree as written;
 ghost use Rattle.fst_types.specs.ModelWrittenView.{written_branches};
-ghost use Rattle.fst_type_print.specs.Adds.{Adds};
+ghost use Rattle.fst_base.specs.Gains.{Gains};
 ghost use Rattle.fst_type_print.specs.WrittenTexts.{atom_text, is_arrow, is_compound, seq_text, written_branch_texts, written_text};
 ghost use Rattle.fst_type_print.specs.Texts.{in_braces, in_parens_if, joined_text, separated_text};
 
-use crate::pieces::{base_text, name_text, push_receive, push_send};
+use crate::pieces::{base_text, push_receive, push_send};
 use crate::types::arrow_text;
 use fst_types::{Written, WrittenBranch, WrittenForm};
 use std::alloc::AllocError;
@@ -35,7 +35,7 @@ fn is_arrow(t: &Written) -> bool
 
 #[cycle(written)]
 pub fn push_written(text: &mut String, t: &Written) -> Result<(), AllocError>
-    ensures { Adds result text.old text.new (written_text t.now) }
+    ensures { Gains result text.old text.new (written_text t.now) }
 {
     match &t.form {
         WrittenForm::Skip => text.push_str("Skip"),
@@ -50,11 +50,11 @@ pub fn push_written(text: &mut String, t: &Written) -> Result<(), AllocError>
         }
         WrittenForm::Rec(name, body) => {
             text.push_str("rec ")?;
-            text.push_str(name_text(name))?;
+            text.push_str(name.as_str())?;
             text.push_str(". ")?;
             push_seq(text, body)
         }
-        WrittenForm::Named(name) => text.push_str(name_text(name)),
+        WrittenForm::Named(name) => text.push_str(name.as_str()),
         WrittenForm::Plain(base) => text.push_str(base_text(*base)),
         WrittenForm::Arrow(uses, from, to) => {
             push_seq(text, from)?;
@@ -68,7 +68,7 @@ pub fn push_written(text: &mut String, t: &Written) -> Result<(), AllocError>
 /// A type where an atomic one stands without parentheses.
 #[cycle(written)]
 pub fn push_atom(text: &mut String, t: &Written) -> Result<(), AllocError>
-    ensures { Adds result text.old text.new (atom_text t.now) }
+    ensures { Gains result text.old text.new (atom_text t.now) }
 {
     push_enclosed(text, t, is_compound(t))
 }
@@ -76,14 +76,14 @@ pub fn push_atom(text: &mut String, t: &Written) -> Result<(), AllocError>
 /// A type where no function stands without parentheses.
 #[cycle(written)]
 pub fn push_seq(text: &mut String, t: &Written) -> Result<(), AllocError>
-    ensures { Adds result text.old text.new (seq_text t.now) }
+    ensures { Gains result text.old text.new (seq_text t.now) }
 {
     push_enclosed(text, t, is_arrow(t))
 }
 
 #[cycle(written)]
 fn push_enclosed(text: &mut String, t: &Written, in_parens: bool) -> Result<(), AllocError>
-    ensures { Adds result text.old text.new (in_parens_if in_parens (written_text t.now)) }
+    ensures { Gains result text.old text.new (in_parens_if in_parens (written_text t.now)) }
 {
     if !in_parens {
         return push_written(text, t);
@@ -95,7 +95,7 @@ fn push_enclosed(text: &mut String, t: &Written, in_parens: bool) -> Result<(), 
 
 #[cycle(written)]
 fn push_pair(text: &mut String, first: &Written, second: &Written) -> Result<(), AllocError>
-    ensures { Adds result text.old text.new (written_text (written.pair 0 first.now second.now)) }
+    ensures { Gains result text.old text.new (written_text (written.pair 0 first.now second.now)) }
 {
     text.push_str("(")?;
     push_written(text, first)?;
@@ -107,7 +107,7 @@ fn push_pair(text: &mut String, first: &Written, second: &Written) -> Result<(),
 // A choice, whose sign says which side makes it.
 #[cycle(written)]
 fn push_choice(text: &mut String, sign: &str, branches: &[WrittenBranch]) -> Result<(), AllocError>
-    ensures { Adds result text.old text.new (sign.now ++ in_braces (joined_text (codes ", ") (written_branch_texts (written_branches branches.now)))) }
+    ensures { Gains result text.old text.new (sign.now ++ in_braces (joined_text (codes ", ") (written_branch_texts (written_branches branches.now)))) }
 {
     text.push_str(sign)?;
     text.push_str("{")?;
@@ -117,16 +117,16 @@ fn push_choice(text: &mut String, sign: &str, branches: &[WrittenBranch]) -> Res
 
 #[cycle(written)]
 fn push_branch(text: &mut String, branch: &WrittenBranch) -> Result<(), AllocError>
-    ensures { Adds result text.old text.new (branch.now.label ++ codes ": " ++ seq_text branch.now.body) }
+    ensures { Gains result text.old text.new (branch.now.label ++ codes ": " ++ seq_text branch.now.body) }
 {
-    text.push_str(name_text(&branch.label))?;
+    text.push_str(branch.label.as_str())?;
     text.push_str(": ")?;
     push_seq(text, &branch.body)
 }
 
 #[cycle(written)]
 fn push_branches(text: &mut String, branches: &[WrittenBranch]) -> Result<(), AllocError>
-    ensures { Adds result text.old text.new (joined_text (codes ", ") (written_branch_texts (written_branches branches.now))) }
+    ensures { Gains result text.old text.new (joined_text (codes ", ") (written_branch_texts (written_branches branches.now))) }
 {
     let [first, others @ ..] = branches else {
         return Ok(());
@@ -138,7 +138,7 @@ fn push_branches(text: &mut String, branches: &[WrittenBranch]) -> Result<(), Al
 #[cycle(written)]
 #[tactic(auto, using(fst_types::proofs::Laws::written_height_at))]
 fn push_others(text: &mut String, others: &[WrittenBranch]) -> Result<(), AllocError>
-    ensures { Adds result text.old text.new (separated_text (codes ", ") (written_branch_texts (written_branches others.now))) }
+    ensures { Gains result text.old text.new (separated_text (codes ", ") (written_branch_texts (written_branches others.now))) }
 {
     for branch in others {
         text.push_str(", ")?;

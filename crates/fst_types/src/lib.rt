@@ -1,9 +1,12 @@
 //! Types as trees, their labels, and what every later crate asks of them: size, equality, a copy,
-//! substitution, unfolding and instances; and types as they were written.
+//! substitution, unfolding and instances; types as they were written; and what passes over channels, with the names of tasks,
+//! channels and ends.
 #![tactic(auto)]
 
 mod base;
 mod counting;
+mod ends;
+mod event;
 mod family;
 mod fault;
 mod instance;
@@ -12,6 +15,7 @@ mod label;
 mod law;
 mod moves;
 mod name;
+mod path;
 mod scope;
 mod side;
 mod ty;
@@ -21,6 +25,8 @@ mod written;
 
 pub use base::Base;
 pub use counting::substituted_size;
+pub use ends::{ChannelName, EndName};
+pub use event::{ChannelHistory, Entry, Event};
 pub use family::{Family, Maker};
 pub use fault::UnfoldFault;
 pub use instance::{instance_size, instantiate};
@@ -29,6 +35,7 @@ pub use label::Label;
 pub use law::{label_order_law, substitution_law};
 pub use moves::Move;
 pub use name::Name;
+pub use path::Path;
 pub use scope::{MOST_OPEN, Scope, substitute, substitute_within};
 pub use side::Side;
 pub use ty::{Branch, Ty, TyForm};

@@ -3,6 +3,7 @@ use Rattle.std.proofs.Common.{◌≡◌, ◌∙◌, ◌⊎◌, ◌<◌, ◌+◌,
 use Rattle.std.specs.Prelude.{cond}
 use Rattle.std.specs.List.{AllByRecursion}
 use Rattle.std.proofs.lemmas.Option.{same_Some}
+use Rattle.fst_base.proofs.Bools.{never_both}
 use Rattle.fst_types.specs.Tree as type
 use Rattle.fst_types.specs.Tree.{Tree, plain, arrow, named}
 use Rattle.fst_types.specs.declared.base.Base.TheVariants.{Int, Bool as Truth, Char}
@@ -25,7 +26,7 @@ use Rattle.fst_terms.specs.declared.term.Op.{Op}
 use Rattle.fst_terms.specs.declared.term.Op.TheVariants.{Add, Subtract, Multiply, Equal, Unequal, Less, AtMost, Greater, AtLeast, And, Or}
 use Rattle.fst_context.specs.Scope.{Scope, Variable, is_once, at_or_not, linear_at, is_inside, more, entered, open_in, without, IsWithin}
 use Rattle.fst_context.specs.Vars.{Vars, no_vars, under, single}
-use Rattle.fst_context.proofs.Laws.{at-mark, within_left, within_right, within_entered}
+use Rattle.fst_context.proofs.Laws.{at-mark, within_left, within_right, within_entered, linear_of, single_at}
 use Rattle.fst_context.specs.View.{taken_at}
 use Rattle.fst_context.specs.declared.context.Taken.TheVariants.{Here, Gone, Outside}
 use Rattle.fst_arms.specs.Arms.{AreEachOnce, arm_labels}
@@ -67,27 +68,14 @@ fits_all n [] (v ∷ vs) s u e f = absurd (omega (arith, e))
 fits_all n (x ∷ xs) [] s u e f = absurd (omega (arith, e))
 fits_all n (x ∷ xs) (v ∷ vs) s u e f = λ k l. fits_all (suc n) xs vs (entered x.name v s) (under (is_once v.uses) u) (omega (arith, e)) (fits_entered n x.name v s u f) k (omega (arith, l))
 
-pub not_there : (b : Bool) → (b && not b) ≡ false
-not_there true = refl
-not_there false = refl
-
 -- what is in the set isn't there after it was taken
 gone : (n : ℕ) (u : Vars) (s : Scope) → Fits n u s → (k : ℕ) → k < n → at_or_not (without u s).there k ≡ false
-gone n u s f k l = at-mark u s.there k ∙ ap (λ b. b && not (u k)) (f k l) ∙ not_there (u k)
+gone n u s f k l = at-mark u s.there k ∙ ap (λ b. b && not (u k)) (f k l) ∙ never_both (u k)
 
 no_unused : (n : ℕ) (xs : List Binder) (z : Scope) (f : CheckFault) → ((k : ℕ) → k < n → at_or_not z.there k ≡ false) → length xs < n + 1 → ShowsUnused z xs f → ⊥
 no_unused n [] z f g l x = x
 no_unused n (x ∷ xs) z f g l (inl y) = cc (y.there, g (length xs) (omega (arith, l)))
 no_unused n (x ∷ xs) z f g l (inr y) = no_unused n xs z f g (omega (arith, l)) y.1
-
-linear_of : (vs : List Variable) (k : ℕ) (v : Variable) → slice_get vs k ≡ Some v → linear_at vs k ≡ is_once v.uses
-linear_of [] k v e = absurd (cc e)
-linear_of (w ∷ vs) zero v e = let same : w ≡ v = cc in ap (λ (z : Variable). is_once z.uses) same
-linear_of (w ∷ vs) (suc k) v e = linear_of vs k v e
-
-single_at : (k : ℕ) → single true k k ≡ true
-single_at zero = refl
-single_at (suc k) = single_at k
 
 never_gone : (l t i : Bool) → cond l (cond t (cond i Here Outside) Gone) Here ≡ Gone → (l ≡ true → (t && i) ≡ true) → ⊥
 never_gone true true true e h = cc e

@@ -1,5 +1,6 @@
 -- Where a refusal is shown of a module, the module has no plain derivations.
 use Rattle.std.proofs.Common.{◌≡◌, ◌∙◌, ◌++◌, inl, inr, ℕ, false, List, [], ◌∷◌, Some, slice_get, refl, sym, ap, subst}
+use Rattle.fst_base.proofs.Bools.{never_both}
 use Rattle.fst_types.specs.Tree.{Tree}
 use Rattle.fst_types.specs.declared.kind.Kind.{Kind}
 use Rattle.fst_types.specs.declared.kind.Use.{Use}
@@ -16,10 +17,9 @@ use Rattle.fst_derivations.specs.Parts.{HasUse, IsConversion}
 use Rattle.fst_derivations.specs.Rules.{Mode, Row, comparing, within, At}
 use Rattle.fst_derivations.specs.Modules.{ArePlainlyDerived, Equation, IsParameter, HasMain, HasPlainDerivations, IsMain, IsPrintable, surroundings}
 use Rattle.fst_derivations.specs.Laws.{PlainTypesAreUnique}
-use Rattle.fst_typing.proofs.PrintableFields.{fields_refused}
 use Rattle.fst_derivations.proofs.Laws.{one_parameter, one_use, within_compares}
 use Rattle.fst_typing.proofs.PlainEquations.{one_set, equation_more}
-use Rattle.fst_written.proofs.Laws.{refused}
+use Rattle.fst_written.proofs.Laws.{refused, fields_refused}
 use Rattle.fst_premises.specs.Checks.{Check, IsInSize}
 use Rattle.fst_premises.specs.Parameters.{with_parameter}
 use Rattle.fst_premises.specs.Scopes.{inside}
@@ -29,7 +29,7 @@ use Rattle.fst_typing.specs.Typed.{IsKnown, checking}
 use Rattle.fst_typing.specs.Equations.{ShowsEquation, ShowsResult}
 use Rattle.fst_typing.specs.Checked.{IsRefusal, IsNamedMain, ShowsGlobal, check_over}
 use Rattle.fst_typing.specs.Checked.IsRefusal.{kinds, field, equation}
-use Rattle.fst_typing.proofs.Groundless.{Excludes, at_none, no_plain, not_there, within_inside}
+use Rattle.fst_typing.proofs.Groundless.{Excludes, at_none, no_plain, within_inside}
 
 module _ (c : Check) (unique : PlainTypesAreUnique) (I : CheckFault → Type 0) (L : Tree → Type 0) (E : Tree → Tree → Type 0) (excludes : Excludes c unique I L E) where
   abbrev S : Mode
@@ -71,7 +71,7 @@ module _ (c : Check) (unique : PlainTypesAreUnique) (I : CheckFault → Type 0) 
       let found = equation_more c.surroundings (checking c) (comparing F) (within_compares IsInSize (IsKnown c) F (λ p q k. k.conversion)) taken.fact in
       let given = equation_more c.surroundings S (comparing F) (within_compares L E F excludes.equal) (behind s p q has has' y) in
       let set = one_set c.surroundings unique found given in
-      let mark : at_or_not v.scope.there 0 ≡ false = ap (λ (r : Scope). at_or_not r.there 0) (taken.rest ∙ ap (λ r. without r there) set) ∙ not_there (is_once n) in
+      let mark : at_or_not v.scope.there 0 ≡ false = ap (λ (r : Scope). at_or_not r.there 0) (taken.rest ∙ ap (λ r. without r there) set) ∙ never_both (is_once n) in
       cc (v.unused.there, mark)
   no_equation i (ShowsEquation.large {at = at} {k = k} {uses = uses} {x = z} {e = a} p l) (Equation.result apart y) w = apart at k uses z a refl p
   no_equation i (ShowsEquation.inner {at = at} {k = k} {uses = uses} {x = z} {e = a} p m has x) (Equation.result apart y) w = apart at k uses z a refl p

@@ -10,7 +10,6 @@ mod Equality
 mod Fields
 mod Formed
 mod Forms
-mod Heights
 mod Makers
 mod Marks
 mod Named
@@ -29,7 +28,6 @@ mod TextShown
 mod PlainEquations
 mod Parameters
 mod Groundless
-mod PrintableFields
 mod GroundlessModules
 mod Whole
 mod OneShown

@@ -3,8 +3,7 @@ use Rattle.std.proofs.Common.{◌≡◌, ◌∙◌, ◌++◌, ℕ, zero, suc, Bo
 use Rattle.std.specs.Prelude.{Contains, if◌then◌else◌}
 use Rattle.std.specs.List.{AllByRecursion, IsDistinct}
 use Rattle.std.specs.Str.{bytes_eq}
-use Rattle.std.proofs.lemmas.Slice.Eq.{bytes_eq-Decides}
-use Rattle.fst_base.proofs.Bools.{same_text}
+use Rattle.fst_base.proofs.Bools.{same_text, text_itself}
 use Rattle.fst_types.specs.declared.family.Family.{Family}
 use Rattle.fst_types.specs.declared.family.Maker.{Maker}
 use Rattle.fst_terms.specs.InRange.{maker_named, makers}
@@ -65,9 +64,6 @@ family_named [] (suc n) g l o d h e = absurd (cc h)
 family_named (f ∷ fs) zero g l o d h e = let same : f ≡ g = cc in named_left l f.makers.items (makers fs) o (subst (λ (q : Family). maker_named l q.makers.items ≡ Some o) (sym same) e)
 family_named (f ∷ fs) (suc n) g l o d h e = named_right l f.makers.items (makers fs) o d (family_named fs n g l o (distinct_later f.makers.items (makers fs) d) h e)
 
-eq_itself : (x : List ℕ) → bytes_eq x x ≡ true
-eq_itself x = (bytes_eq-Decides x x).1 refl
-
 -- a name among those of constructors stands for one
 pub contained_named : (os : List Maker) (x : List ℕ) → Contains (names os) x → (o : Maker) × (maker_named x os ≡ Some o)
 contained_named [] x h = absurd (no_first x h)
@@ -77,5 +73,5 @@ contained_named (p ∷ os) x h = pick (contained_named os x) (bytes_eq x p.name)
     pick f true e = (p, ap (λ b. if b then Some p else maker_named x os) e)
     pick f false e =
         let later : Contains (names os) x = contains_cases (Contains (names os) x) p.name x (names os) h
-        (λ s. let wrong : true ≡ false = sym (eq_itself x) ∙ ap (bytes_eq x) (sym s) ∙ e in absurd (cc wrong)) (λ y. y) in
+        (λ s. let wrong : true ≡ false = sym (text_itself x) ∙ ap (bytes_eq x) (sym s) ∙ e in absurd (cc wrong)) (λ y. y) in
         let r = f later in (r.0, ap (λ b. if b then Some p else maker_named x os) e ∙ r.1)

@@ -26,7 +26,7 @@ use Rattle.fst_written.specs.Faults.{IsFirstKindFault}
 use Rattle.fst_written.specs.First.{AreBefore, IsFirst}
 use Rattle.fst_written.specs.Printable.{IsFirstUnprintable, IsPrintableAt}
 use Rattle.fst_written.specs.Readings.{Reading, begins, begins_at, readings, IsFormedReading}
-use Rattle.fst_written.proofs.Laws.{makers_formed, refused, signature_formed}
+use Rattle.fst_written.proofs.Laws.{makers_formed, refused, signature_formed, fields_refused}
 use Rattle.fst_premises.specs.Checks.{Check, IsInSize}
 use Rattle.fst_premises.specs.Parameters.{with_parameter}
 use Rattle.fst_premises.specs.Scopes.{inside}
@@ -46,7 +46,6 @@ use Rattle.fst_typing.proofs.GroundlessModules.{no_equation, no_global, no_modul
 use Rattle.fst_typing.proofs.Makers.{formed_fields}
 use Rattle.fst_typing.proofs.OneShown.{IsOne, exact, excludes, not_both, not_large, one_first, one_large, one_shown, one_unequal}
 use Rattle.fst_typing.proofs.PlainEquations.{module_more}
-use Rattle.fst_typing.proofs.PrintableFields.{fields_refused}
 
 -- ---- the first of a list
 

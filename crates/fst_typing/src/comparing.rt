@@ -17,7 +17,15 @@ use fst_derivations::Derivation;
 use fst_equiv::{EquivFault, Same, same_type};
 use fst_premises::{CheckFault, Difference, Scene, base, same_marks};
 use fst_types::{Base, Ty, copy};
-use std::alloc::Global;
+use std::alloc::{AllocError, Global};
+
+/// Two types in memory of their own.
+pub(crate) fn copies(alloc: Global, first: &Ty, second: &Ty) -> Result<(Ty, Ty), AllocError>
+    ensures first { IfOk result (λ p. p.0 ≡ first.now) }
+    ensures second { IfOk result (λ p. p.1 ≡ second.now) }
+{
+    Ok((copy(alloc, first)?, copy(alloc, second)?))
+}
 
 /// The derivation turned to the type that is wanted of it, where its type is known to be equal.
 pub(crate) fn compared(
@@ -36,29 +44,22 @@ pub(crate) fn compared(
 {
     match same_type(alloc, d.type_of(), wanted, scene.budget) {
         Ok(Same::Yes) => {
-            let found = copy(alloc, d.type_of())?;
-            let wanted = copy(alloc, wanted)?;
-            Ok(d.turned(alloc, found, wanted)?)
+            let parts = copies(alloc, d.type_of(), wanted)?;
+            Ok(d.turned(alloc, parts.0, parts.1)?)
         }
-        Ok(Same::Shape) => Err(CheckFault::Mismatch(
-            at,
-            copy(alloc, d.type_of())?,
-            copy(alloc, wanted)?,
-            Difference::Shape,
-        )),
-        Ok(Same::Word(trace, side)) => Err(CheckFault::Mismatch(
-            at,
-            copy(alloc, d.type_of())?,
-            copy(alloc, wanted)?,
-            Difference::Word(trace, side),
-        )),
-        Ok(Same::Undecided(grammar, pairs)) => Err(CheckFault::Undecided(
-            at,
-            copy(alloc, d.type_of())?,
-            copy(alloc, wanted)?,
-            grammar,
-            pairs,
-        )),
+        Ok(Same::Shape) => {
+            let parts = copies(alloc, d.type_of(), wanted)?;
+            Err(CheckFault::Mismatch(at, parts.0, parts.1, Difference::Shape))
+        }
+        Ok(Same::Word(trace, side)) => {
+            let parts = copies(alloc, d.type_of(), wanted)?;
+            let difference = Difference::Word(trace, side);
+            Err(CheckFault::Mismatch(at, parts.0, parts.1, difference))
+        }
+        Ok(Same::Undecided(grammar, pairs)) => {
+            let parts = copies(alloc, d.type_of(), wanted)?;
+            Err(CheckFault::Undecided(at, parts.0, parts.1, grammar, pairs))
+        }
         Err(EquivFault::TooLarge) => Err(CheckFault::TooLarge(at)),
         Err(EquivFault::Memory) => Err(CheckFault::Memory),
     }

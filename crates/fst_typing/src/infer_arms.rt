@@ -20,7 +20,7 @@ use crate::comparing::joined;
 use crate::infer::infer;
 use crate::infer_under::infer_under;
 use fst_context::Context;
-use fst_derivations::Derivation;
+use fst_derivations::{Derivation, two_parts};
 use fst_premises::{
     CheckFault, Scene, case_constructors, enter_fields, leave_all, match_labels, offered, place_of,
 };
@@ -129,9 +129,7 @@ fn infer_further(
     ensures refused { IfErr result (λ f. IsShown f (ShowsArms (check_in scene.entry) (binding_of binding.entry) (core_arms_of arms.now) context.old f)) }
 {
     let before = context.marks()?;
-    let mut parts = Vec::new(alloc);
-    parts.push(value)?;
-    parts.push(first)?;
+    let mut parts = two_parts(alloc, value, first)?;
     for i in 1..arms.len() {
         let again = Vec::from_slice(alloc, &before)?;
         let arm = &arms[i];

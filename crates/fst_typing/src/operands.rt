@@ -10,11 +10,11 @@ ghost use Rattle.fst_premises.specs.Signs.{operand, result_type};
 ghost use Rattle.fst_typing.specs.Shown.{IsOperand, IsUnequal, ShowsOperand};
 ghost use Rattle.fst_premises.specs.Scenes.{check_in};
 
-use crate::comparing::compared;
+use crate::comparing::{compared, copies};
 use fst_derivations::Derivation;
 use fst_premises::{CheckFault, Scene, base, fixed_operand, is_comparable, result_of};
 use fst_terms::Op;
-use fst_types::{Base, copy};
+use fst_types::Base;
 use std::alloc::Global;
 
 /// The derivation of the first operand of a comparison, turned to the type that both operands are to have.
@@ -32,9 +32,8 @@ fn first_compared(
     ensures refused { IfErr result (λ f. IsShown f (ShowsOperand (check_in scene.entry) None at (type_of (deriv_of d)) f)) }
 {
     if is_comparable(d.type_of()) {
-        let found = copy(alloc, d.type_of())?;
-        let wanted = copy(alloc, d.type_of())?;
-        return Ok(d.turned(alloc, found, wanted)?);
+        let parts = copies(alloc, d.type_of(), d.type_of())?;
+        return Ok(d.turned(alloc, parts.0, parts.1)?);
     }
     let wanted = base(Base::Int);
     compared(alloc, scene, at, &wanted, d)

@@ -6,7 +6,7 @@ use Rattle.std.specs.List.{flat_map}
 use Rattle.std.proofs.lemmas.List.{drop_more, drop-take, take-take, append_cancel_right, reverse-append, take-append-drop}
 use Rattle.std.proofs.lemmas.Grind.{flat_map-append}
 use Rattle.fst_value.specs.ValueTree.{ValueTree, int, bool, char, unit, pair, make, function, end, ValueTrees, none, value}
-use Rattle.fst_value.specs.declared.ends.EndName.{EndName}
+use Rattle.fst_types.specs.declared.ends.EndName.{EndName}
 use Rattle.fst_value.specs.declared.cells.Cell.{Cell}
 use Rattle.fst_value.specs.Nodes.{behind, ends_at}
 use Rattle.fst_value.specs.Cells.{count, cells_of, cells_of_all, ends_in, ends_in_all}

@@ -5,7 +5,7 @@ use Rattle.std.proofs.Common.{inl, inr}
 use Rattle.fst_types.specs.declared.side.Side.{Side}
 use Rattle.fst_types.specs.declared.side.Side.TheVariants.{Left, Right}
 use Rattle.fst_value.specs.ValueTree.{ValueTree}
-use Rattle.fst_value.specs.declared.ends.EndName.{EndName}
+use Rattle.fst_types.specs.declared.ends.EndName.{EndName}
 use Rattle.fst_value.specs.declared.cells.Cell.{Cell}
 use Rattle.fst_value.specs.declared.cells.Cell.TheVariants as cell
 use Rattle.fst_value.specs.Cells.{cells_of, spelled, first_or_unit}

@@ -6,5 +6,4 @@ pub mod CellFacts
 pub mod CellCode
 pub mod Parts
 pub mod Texts
-pub mod Gains
 pub mod Pieces

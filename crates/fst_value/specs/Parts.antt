@@ -1,7 +1,7 @@
 -- A value's root and its parts.
 use Rattle.std.specs.Prelude.{ℕ, zero, suc, ◌+◌, Bool, true, false, Option, Some, None, List, [], ◌∷◌, ◌++◌, length}
 use Rattle.fst_value.specs.ValueTree.{ValueTree, int, bool, char, unit, pair, make, function, end, ValueTrees, none, value}
-use Rattle.fst_value.specs.declared.ends.EndName.{EndName}
+use Rattle.fst_types.specs.declared.ends.EndName.{EndName}
 use Rattle.fst_value.specs.declared.cells.Cell.{Cell}
 use Rattle.fst_value.specs.declared.cells.Cell.TheVariants as cell
 use Rattle.fst_value.specs.declared.value.Form.{Form}

@@ -1,6 +1,6 @@
 -- A value as a tree, without where it lies in memory.
 use Rattle.std.specs.Prelude.{ℕ, ℤ, Bool}
-use Rattle.fst_value.specs.declared.ends.EndName.{EndName}
+use Rattle.fst_types.specs.declared.ends.EndName.{EndName}
 
 mutual
   -- a value: make has the number of its data type, that of its constructor in it, and its fields; a function its number in

@@ -3,7 +3,7 @@ ghost use Rattle.std.specs.List.{flat_map};
 ghost use Rattle.std.specs.Option.{option_copied, option_to_list};
 ghost use Rattle.fst_value.specs.Nodes.{ends_at, arity};
 
-use crate::ends::EndName;
+use fst_types::EndName;
 use std::alloc::{AllocError, Global};
 
 /// One node of a value. Contracts see a value's nodes in preorder.

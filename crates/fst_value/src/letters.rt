@@ -1,12 +1,9 @@
 //! The texts of values that have no value in them.
 
 ghost use Rattle.std.specs.Prelude.{◌≡◌, ◌++◌, codes};
-ghost use Rattle.std.specs.Fmt.{signed_decimal};
 ghost use Rattle.fst_value.specs.Texts.{truth_text, character_text};
-ghost use Rattle.fst_value.specs.Gains.{Gains};
+ghost use Rattle.fst_base.specs.Gains.{Gains};
 
-use fst_types::Name;
-use itoa::Buffer;
 use std::alloc::AllocError;
 
 /// A truth value.
@@ -35,17 +32,4 @@ pub fn push_quoted(text: &mut String, c: char) -> Result<(), AllocError>
     text.push_str("'")?;
     push_character(text, c)?;
     text.push_str("'")
-}
-
-pub(crate) fn push_integer(text: &mut String, n: i64) -> Result<(), AllocError>
-    ensures { Gains result text.old text.new (signed_decimal n) }
-{
-    let mut buffer = Buffer::new();
-    text.push_str(buffer.format(n))
-}
-
-pub(crate) fn push_name(text: &mut String, name: &Name) -> Result<(), AllocError>
-    ensures { Gains result text.old text.new name.now }
-{
-    text.push_str(str::from_utf8(name.as_slice()).unwrap())
 }

@@ -1,12 +1,9 @@
-//! Values that tasks compute with, what passes over channels, and the names of tasks, channels and ends.
+//! Values that tasks compute with.
 #![tactic(auto)]
 
 mod cells;
-mod ends;
-mod event;
 mod join;
 mod letters;
-mod path;
 mod printing;
 mod split;
 mod stack;
@@ -14,10 +11,7 @@ mod value;
 mod walk;
 
 pub use cells::Cell;
-pub use ends::{ChannelName, EndName};
-pub use event::{ChannelHistory, Entry, Event};
 pub use letters::{push_quoted, truth_text};
-pub use path::Path;
 pub use printing::print;
 pub use stack::Stack;
 pub use value::{Form, Value, copy, ends_of};

@@ -6,13 +6,14 @@ ghost use Rattle.std.specs.String.{string_bytes};
 ghost use Rattle.fst_value.specs.declared.printing.Piece.TheVariants as piece_is;
 ghost use Rattle.fst_value.specs.Nodes.{behind};
 ghost use Rattle.fst_value.specs.Texts.{maker_in, value_text};
-ghost use Rattle.fst_value.specs.Gains.{Gains};
+ghost use Rattle.fst_base.specs.Gains.{Gains};
 ghost use Rattle.fst_value.specs.Pieces.{AreCells, Unfolds, is_shown, made_pieces, maker_name, root_enclosed, root_pieces, root_text, weight};
 
 use crate::cells::Cell;
-use crate::letters::{push_integer, push_name, push_quoted, truth_text};
+use crate::letters::{push_quoted, truth_text};
 use crate::value::Value;
 use crate::walk::start_of;
+use fst_base::push_number;
 use fst_types::{Family, Maker};
 use std::alloc::{AllocError, Global};
 
@@ -78,7 +79,7 @@ fn push_maker(
 {
     match maker {
         Some(made) => {
-            push_name(text, &made.name)?;
+            text.push_str(made.name.as_str())?;
             push(stack, Piece::Fields(count))?;
             Ok(true)
         }
@@ -101,7 +102,7 @@ fn push_root(
     ensures shown { IfOk result (λ shown. shown ≡ is_shown families.now root.now) }
 {
     match root {
-        Cell::Int(number) => push_integer(text, *number)?,
+        Cell::Int(number) => push_number(text, *number)?,
         Cell::Bool(truth) => text.push_str(truth_text(*truth))?,
         Cell::Char(character) => push_quoted(text, *character)?,
         Cell::Unit => text.push_str("()")?,

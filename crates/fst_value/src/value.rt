@@ -5,9 +5,9 @@ ghost use Rattle.std.specs.Option.{option_copied};
 ghost use Rattle.fst_value.specs.Parts.{cell_with, end_in, form_of, form_at, parts_of, listed, unit_first, unit_form, with_first};
 
 use crate::cells::{Cell, copies_of, ends_among, one, parts_at};
-use crate::ends::EndName;
 use crate::split::is_pair;
 use crate::walk::first_parts;
+use fst_types::EndName;
 use std::alloc::{AllocError, Global};
 use std::marker::Model;
 

@@ -7,7 +7,7 @@ use Rattle.fst_value.specs.ValueTree.{ValueTree, none}
 use Rattle.fst_machine.specs.Spots.{Slots, slot_at, emptied, filled, spread}
 use Rattle.std.specs.declared.result.Result.TheVariants.{Ok}
 use Rattle.fst_value.specs.Stacks.{Makes, moved_on}
-use Rattle.fst_value.specs.declared.ends.EndName.{EndName}
+use Rattle.fst_types.specs.declared.ends.EndName.{EndName}
 use Rattle.fst_vm.specs.Moves.{ends_in_slot, ends_in_slots, taken_out, trees_of}
 
 -- a list that is turned round, at one place

@@ -1,7 +1,7 @@
 -- Values of base types by their forms.
 use Rattle.std.specs.Prelude.{Option, Some, None}
-use Rattle.fst_value.specs.declared.event.Event.{Event}
-use Rattle.fst_value.specs.declared.event.Event.TheVariants as event
+use Rattle.fst_types.specs.declared.event.Event.{Event}
+use Rattle.fst_types.specs.declared.event.Event.TheVariants as event
 use Rattle.fst_value.specs.declared.value.Form.{Form}
 use Rattle.fst_value.specs.declared.value.Form.TheVariants as form
 use Rattle.fst_machine.specs.Values.{Value, int, bool, char, unit, pair}

@@ -18,8 +18,8 @@ use crate::running::{Caller, Running};
 use crate::slots::{Slots, spread};
 use crate::values::{brought, ends_of, last_end, pair, received};
 use fst_machine::{Answer, Code, Instr, LambdaEntry};
-use fst_types::Name;
-use fst_value::{ChannelName, Event, Form, Stack, Value, copy};
+use fst_types::{ChannelName, Event, Name};
+use fst_value::{Form, Stack, Value, copy};
 use std::alloc::{AllocError, Global};
 use std::mem;
 

@@ -11,8 +11,8 @@ ghost use Rattle.fst_vm.specs.Scalars.{scalar_at};
 use crate::places::instr_at;
 use crate::running::Running;
 use fst_machine::{Code, Instr, Request};
-use fst_types::Name;
-use fst_value::{EndName, Event, Form, Stack};
+use fst_types::{EndName, Event, Name};
+use fst_value::{Form, Stack};
 use std::alloc::{AllocError, Global};
 
 // What is sent where the value is one of a base type.

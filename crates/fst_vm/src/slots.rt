@@ -3,7 +3,8 @@ ghost use Rattle.fst_machine.specs.Spots.{filled, spread};
 ghost use Rattle.fst_value.specs.Stacks.{Makes};
 ghost use Rattle.fst_vm.specs.Moves.{bound, ends_in_slot, ends_in_slots, loaded, taken_out, trees_of};
 
-use fst_value::{EndName, Stack, Value, copy, ends_of};
+use fst_types::EndName;
+use fst_value::{Stack, Value, copy, ends_of};
 use std::alloc::{AllocError, Global};
 use std::marker::Model;
 

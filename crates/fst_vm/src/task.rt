@@ -9,7 +9,8 @@ use crate::running::Running;
 use crate::slots::Slots;
 use crate::values::spare_for;
 use fst_machine::{Answer, Code, Request};
-use fst_value::{EndName, Path, Value};
+use fst_types::{EndName, Path};
+use fst_value::Value;
 use std::alloc::{AllocError, Global};
 use std::marker::Model;
 

@@ -7,8 +7,8 @@ ghost use Rattle.fst_vm.specs.Scalars.{brought};
 ghost use Rattle.fst_machine.specs.Spots.{ends_of, of_scalar};
 ghost use Rattle.fst_machine.specs.Values.{received};
 
-use fst_types::Side;
-use fst_value::{ChannelName, EndName, Event, Form, Stack, Value, copy};
+use fst_types::{ChannelName, EndName, Event, Side};
+use fst_value::{Form, Stack, Value, copy};
 use std::alloc::{AllocError, Global};
 
 // A pair of two values.

@@ -1,4 +1,5 @@
 pub mod RuleLaws
 pub mod RangeLaws
 pub mod LabelLaws
+pub mod CutLaws
 pub mod Laws

@@ -8,11 +8,11 @@ use Rattle.fst_base.proofs.Lists.{from_contains, contains_none}
 use Rattle.fst_types.specs.Tree.{Tree}
 use Rattle.fst_types.specs.declared.side.Side.TheVariants.{Left, Right}
 use Rattle.fst_derivations.specs.Rules.{Surroundings}
-use Rattle.fst_value.specs.declared.ends.ChannelName.{ChannelName}
-use Rattle.fst_value.specs.declared.ends.EndName.{EndName}
-use Rattle.fst_value.specs.declared.event.ChannelHistory.{ChannelHistory}
-use Rattle.fst_value.specs.declared.event.Entry.{Entry}
-use Rattle.fst_value.specs.declared.event.Event.{Event}
+use Rattle.fst_types.specs.declared.ends.ChannelName.{ChannelName}
+use Rattle.fst_types.specs.declared.ends.EndName.{EndName}
+use Rattle.fst_types.specs.declared.event.ChannelHistory.{ChannelHistory}
+use Rattle.fst_types.specs.declared.event.Entry.{Entry}
+use Rattle.fst_types.specs.declared.event.Event.{Event}
 use Rattle.fst_machine.specs.declared.request.Request.TheVariants.{Put}
 use Rattle.fst_machine.specs.declared.request.Answer.TheVariants.{Sent}
 use Rattle.fst_machine.specs.Machine.{State, answered}

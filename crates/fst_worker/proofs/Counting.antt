@@ -3,7 +3,7 @@ use Rattle.std.proofs.Common.{◌≡◌, ◌⊎◌, inl, inr, ◌<◌, ◌≤◌
 use Rattle.std.specs.Prelude.{sum_by}
 use Rattle.std.proofs.lemmas.List.Sums.{sum_by-append}
 use Rattle.fst_types.specs.Tree.{Tree}
-use Rattle.fst_value.specs.declared.ends.ChannelName.{ChannelName}
+use Rattle.fst_types.specs.declared.ends.ChannelName.{ChannelName}
 use Rattle.fst_machine.specs.Machine.{Program, pause, child}
 use Rattle.fst_runs.specs.Configs.{Path, Task, same_path, same_channel, child_path, channel_name}
 use Rattle.fst_runs.specs.Wrong.{once}

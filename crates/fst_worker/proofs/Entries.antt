@@ -13,10 +13,10 @@ use Rattle.fst_lts.specs.Step.{step}
 use Rattle.fst_lts.proofs.Laws.{not_both, dual_sends, after_history-dual}
 use Rattle.fst_derivations.specs.Rules.{Surroundings}
 use Rattle.fst_value.specs.CellCode.{end_code}
-use Rattle.fst_value.specs.declared.ends.EndName.{EndName}
-use Rattle.fst_value.specs.declared.event.ChannelHistory.{ChannelHistory}
-use Rattle.fst_value.specs.declared.event.Entry.{Entry}
-use Rattle.fst_value.specs.declared.event.Event.{Event}
+use Rattle.fst_types.specs.declared.ends.EndName.{EndName}
+use Rattle.fst_types.specs.declared.event.ChannelHistory.{ChannelHistory}
+use Rattle.fst_types.specs.declared.event.Entry.{Entry}
+use Rattle.fst_types.specs.declared.event.Event.{Event}
 use Rattle.fst_runs.specs.Configs.{same_channel}
 use Rattle.fst_runs.specs.Wrong.{once}
 use Rattle.fst_cell.specs.Residuals.{residual, sends}

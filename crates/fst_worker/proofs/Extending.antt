@@ -8,17 +8,17 @@ use denote.RawPtr.{null_ptr}
 use Rattle.fst_types.specs.Tree.{Tree}
 use Rattle.fst_kinds.specs.WellFormed.{IsSession}
 use Rattle.fst_derivations.specs.Rules.{Surroundings}
-use Rattle.fst_value.specs.declared.ends.ChannelName.{ChannelName}
-use Rattle.fst_value.specs.declared.event.ChannelHistory.{ChannelHistory}
-use Rattle.fst_value.specs.declared.event.Entry.{Entry}
+use Rattle.fst_types.specs.declared.ends.ChannelName.{ChannelName}
+use Rattle.fst_types.specs.declared.event.ChannelHistory.{ChannelHistory}
+use Rattle.fst_types.specs.declared.event.Entry.{Entry}
 use Rattle.fst_machine.specs.declared.request.Request.{Request}
 use Rattle.fst_machine.specs.declared.request.Request.TheVariants.{Step, New, Fork}
 use Rattle.fst_machine.specs.declared.request.Answer.{Answer}
 use Rattle.fst_machine.specs.declared.request.Answer.TheVariants.{Go, Made, Forked}
 use Rattle.fst_machine.specs.Machine.{State, pause, request, answered, or_lost, child}
 use Rattle.fst_runs.specs.Configs.{Path, Task, Config, same_path, child_path, channel_name, new_task}
-use Rattle.fst_runs.specs.Events.{moved}
-use Rattle.fst_runs.proofs.Updates.{put, with_task, with_channel, has_made, has_forked}
+use Rattle.fst_runs.specs.Events.{moved, has_made, has_forked}
+use Rattle.fst_runs.proofs.Updates.{put, with_task, with_channel}
 use Rattle.fst_process.specs.Resuming.{channel_in}
 use Rattle.fst_safety.specs.declared.tasks.LogEntry.{LogEntry}
 use Rattle.fst_safety.specs.WellTyped.{program_in}

@@ -4,20 +4,20 @@ use Rattle.std.specs.Prelude.{is_some, option_and_then}
 use Rattle.std.proofs.lemmas.Option.{same_Some}
 use Rattle.fst_lts.specs.Histories.{after_history}
 use Rattle.fst_derivations.specs.Rules.{Surroundings}
-use Rattle.fst_value.specs.declared.ends.ChannelName.{ChannelName}
-use Rattle.fst_value.specs.declared.ends.EndName.{EndName}
-use Rattle.fst_value.specs.declared.event.ChannelHistory.{ChannelHistory}
-use Rattle.fst_value.specs.declared.event.Event.{Event}
+use Rattle.fst_types.specs.declared.ends.ChannelName.{ChannelName}
+use Rattle.fst_types.specs.declared.ends.EndName.{EndName}
+use Rattle.fst_types.specs.declared.event.ChannelHistory.{ChannelHistory}
+use Rattle.fst_types.specs.declared.event.Event.{Event}
 use Rattle.fst_machine.specs.declared.request.Request.{Request}
 use Rattle.fst_machine.specs.declared.request.Request.TheVariants.{Put, Get}
 use Rattle.fst_machine.specs.Machine.{request}
 use Rattle.fst_runs.specs.declared.event.CoreEvent.{CoreEvent}
 use Rattle.fst_runs.specs.declared.event.CoreEvent.TheVariants.{Local, New, Fork, Meet}
 use Rattle.fst_runs.specs.Configs.{Path, Task, Channel, Config, same_path, other, channel_name, channel_residual, residual_in}
-use Rattle.fst_runs.specs.Events.{Write, written, Does, meeting_stamp, extended}
+use Rattle.fst_runs.specs.Events.{Write, written, Does, meeting_stamp, extended, has_met, passed}
 use Rattle.fst_runs.specs.Wrong.{IsRight, IsAllowed}
 use Rattle.fst_runs.proofs.NameLaws.{same_path-apart, same_channel-itself}
-use Rattle.fst_runs.proofs.Updates.{put, with_task, with_channel, has_met, passed, local_puts, new_puts, fork_puts, meet_puts}
+use Rattle.fst_runs.proofs.Updates.{put, with_task, with_channel, local_puts, new_puts, fork_puts, meet_puts}
 use Rattle.fst_cell.specs.Residuals.{sends}
 use Rattle.fst_process.specs.Resuming.{channel_in}
 use Rattle.fst_safety.specs.WellTyped.{program_in}
@@ -54,22 +54,22 @@ module _ (m : Surroundings) (main : Birth) (ys : List Thread) (ks : List Channel
   happens_local : (p : Path) (w : Write) → Does (program_in m) m.types here (Local p) w → Next (written here w)
   happens_local p w d =
       subst Next (sym (local_puts (program_in m) m.types here p w d))
-      (local_extends m main ys ks fits p d.0 d.1 (is_at p ys d.0 d.2.0) d.2.1 d.3)
+      (local_extends m main ys ks fits p d.task d.state (is_at p ys d.task d.asks.0) d.asks.1 d.leads)
 
   happens_new : (p : Path) (w : Write) → Does (program_in m) m.types here (New p) w → IsFine m (written here w) → Next (written here w)
   happens_new p w d fine =
       let is = new_puts (program_in m) m.types here p w d in
-      let h = channel_name p d.0.made in
-      let k : Channel = record { declared = d.3; history = [] } in
+      let h = channel_name p d.task.made in
+      let k : Channel = record { declared = d.declared; history = [] } in
       let f = subst (IsFine m) is fine in
       subst Next (sym is)
-      (new_extends m main ys ks fits p d.0 d.1 d.2 d.3 (is_at p ys d.0 d.4.0) d.4.1 d.5 d.6
+      (new_extends m main ys ks fits p d.task d.state d.number d.declared (is_at p ys d.task d.asks.0) d.asks.1 d.typed d.leads
       (f.sessions h k (ap (λ b. put b k (channel_in ks h)) (same_channel-itself h))))
 
   happens_fork : (p : Path) (w : Write) → Does (program_in m) m.types here (Fork p) w → Next (written here w)
   happens_fork p w d =
       subst Next (sym (fork_puts (program_in m) m.types here p w d))
-      (fork_extends m main ys ks fits p d.0 d.1 d.2 (is_at p ys d.0 d.3.0) d.3.1 d.4 d.5)
+      (fork_extends m main ys ks fits p d.task d.state d.begun (is_at p ys d.task d.asks.0) d.asks.1 d.begins d.leads)
 
   -- clocks are early
   clock_within : (p : Path) (t : Task) → task_of ys p ≡ Some t → t.clock < 2 ^ 63
@@ -85,37 +85,37 @@ module _ (m : Surroundings) (main : Birth) (ys : List Thread) (ks : List Channel
   happens_meet : (p q : Path) (h : ChannelName) (w : Write) → Does (program_in m) m.types here (Meet p q h) w → IsRight (program_in m) here →
       IsFine m (written here w) → Next (written here w)
   happens_meet p q h w d right fine =
-      let t = d.0 in
-      let u = d.1 in
-      let x = d.2 in
-      let ev = d.3 in
-      let k = d.6 in
-      let there : channel_in ks x.channel ≡ Some k = ap (channel_in ks) d.9 ∙ d.10 in
+      let t = d.sender in
+      let u = d.receiver in
+      let x = d.end in
+      let ev = d.event in
+      let k = d.channel in
+      let there : channel_in ks x.channel ≡ Some k = ap (channel_in ks) d.named ∙ d.there in
       let c = is_channel_at x.channel ks k there in
-      let a = is_at p ys t d.7.0 in
+      let a = is_at p ys t d.puts.0 in
       let is = meet_puts (program_in m) m.types here p q h w d in
       let apart : same_path p q ≡ false =
       same_path-apart p q
-      (λ e. not_both_ask x (other x) ev d.7.1
-      (ap (λ (o : Task). request m.families o.state) (same_Some t u (sym d.7.0 ∙ ap (task_of ys) e ∙ d.8.0)) ∙ d.8.1)) in
-      let now = put_now m main ys ks fits p q t u x ev d.4 d.5 k c a d.7.1 d.11 in
-      let n = meet_stamp m main ys ks fits p q t u x ev d.4 d.5 k c in
-      let second : task_of (put_ones m main ys ks fits p q t u x ev d.4 d.5 k c a d.7.1 d.11) q ≡ Some u =
-      ones_tasks m ys fits.logs p t a (Put x ev) _ n (has_met t d.4 n) now q ∙ ap (λ b. put b (has_met t d.4 n) (task_of ys q)) apart ∙ d.8.0 in
-      let asks = right.asks p t d.7.0 in
-      let allowed = subst (IsAllowed (residual_in here)) (same_Some asks.0 (Put x ev) (sym asks.1 ∙ d.7.1)) asks.2 in
+      (λ e. not_both_ask x (other x) ev d.puts.1
+      (ap (λ (o : Task). request m.families o.state) (same_Some t u (sym d.puts.0 ∙ ap (task_of ys) e ∙ d.gets.0)) ∙ d.gets.1)) in
+      let now = put_now m main ys ks fits p q t u x ev d.sent d.got k c a d.puts.1 d.sender_leads in
+      let n = meet_stamp m main ys ks fits p q t u x ev d.sent d.got k c in
+      let second : task_of (put_ones m main ys ks fits p q t u x ev d.sent d.got k c a d.puts.1 d.sender_leads) q ≡ Some u =
+      ones_tasks m ys fits.logs p t a (Put x ev) _ n (has_met t d.sent n) now q ∙ ap (λ b. put b (has_met t d.sent n) (task_of ys q)) apart ∙ d.gets.0 in
+      let asks = right.asks p t d.puts.0 in
+      let allowed = subst (IsAllowed (residual_in here)) (same_Some asks.0 (Put x ev) (sym asks.1 ∙ d.puts.1)) asks.2 in
       let sends_it = allowed_sends here x ev k there allowed in
       let after = (subst (IsFine m) is fine).right.traces h (extended k (passed ev t u k))
       (ap (λ b. put b (extended k (passed ev t u k)) (channel_in ks h)) (same_channel-itself h)) in
       let config = λ (g : ChannelName) (j : Channel). with_task
-      (with_task (with_channel here g (extended j (passed ev t u j))) p (has_met t d.4 (meeting_stamp t u j))) q (has_met u d.5 (meeting_stamp t u j)) in
+      (with_task (with_channel here g (extended j (passed ev t u j))) p (has_met t d.sent (meeting_stamp t u j))) q (has_met u d.got (meeting_stamp t u j)) in
       subst Next (sym is)
-      (subst Next (λ i. config (d.9 i) (c.is i))
-      (meet_extends m main ys ks fits p q t u x ev d.4 d.5 k c a d.7.1 d.11
-      (is_at q (put_ones m main ys ks fits p q t u x ev d.4 d.5 k c a d.7.1 d.11) u second) d.8.1 d.12
+      (subst Next (λ i. config (d.named i) (c.is i))
+      (meet_extends m main ys ks fits p q t u x ev d.sent d.got k c a d.puts.1 d.sender_leads
+      (is_at q (put_ones m main ys ks fits p q t u x ev d.sent d.got k c a d.puts.1 d.sender_leads) u second) d.gets.1 d.receiver_leads
       (ap (λ (j : Channel). side_sends j ev x.side) c.is ∙ sends_it)
       (subst (λ (j : Channel). IsSome (after_history j.declared (j.history ++ passed ev t u j ∷ []))) (sym c.is) (ap is_some after.1))
-      (clock_within p t d.7.0) (clock_within q u d.8.0) (entries_within x.channel k c)))
+      (clock_within p t d.puts.0) (clock_within q u d.gets.0) (entries_within x.channel k c)))
 
   -- whatever happens
   pub happens : (e : CoreEvent) (w : Write) → IsRight (program_in m) here → Does (program_in m) m.types here e w → IsFine m (written here w) → Next (written here w)

@@ -2,22 +2,23 @@
 use Rattle.std.proofs.Common.{◌≡◌, ◌∙◌, ℕ, suc, ◌+◌, ◌^◌, ◌<◌, Bool, true, false, not, List, [], ◌∷◌, ◌++◌, length, Some, IsSome, refl, sym, ap, arith}
 use Rattle.std.specs.Prelude.{All}
 use Rattle.std.specs.Global.{Vec}
+use Rattle.fst_base.proofs.Bools.{not_true}
 use Rattle.fst_base.proofs.Lists.{length-push}
 use Rattle.fst_types.specs.declared.side.Side.{Side}
 use Rattle.fst_types.specs.declared.side.Side.TheVariants.{Left, Right}
 use Rattle.fst_lts.specs.Histories.{after_history, opposite, side_type}
 use Rattle.fst_derivations.specs.Rules.{Surroundings}
-use Rattle.fst_value.specs.declared.ends.ChannelName.{ChannelName}
-use Rattle.fst_value.specs.declared.ends.EndName.{EndName}
-use Rattle.fst_value.specs.declared.event.ChannelHistory.{ChannelHistory}
-use Rattle.fst_value.specs.declared.event.Entry.{Entry}
-use Rattle.fst_value.specs.declared.event.Event.{Event}
+use Rattle.fst_types.specs.declared.ends.ChannelName.{ChannelName}
+use Rattle.fst_types.specs.declared.ends.EndName.{EndName}
+use Rattle.fst_types.specs.declared.event.ChannelHistory.{ChannelHistory}
+use Rattle.fst_types.specs.declared.event.Entry.{Entry}
+use Rattle.fst_types.specs.declared.event.Event.{Event}
 use Rattle.fst_machine.specs.declared.request.Request.TheVariants.{Put, Get}
 use Rattle.fst_machine.specs.declared.request.Answer.TheVariants.{Sent, Got}
 use Rattle.fst_machine.specs.Machine.{State, request, answered, or_lost}
 use Rattle.fst_runs.specs.Configs.{Path, Task, Channel, same_path, other, channel_residual}
-use Rattle.fst_runs.specs.Events.{meeting_stamp, extended}
-use Rattle.fst_runs.proofs.Updates.{put, with_task, with_channel, has_met, passed}
+use Rattle.fst_runs.specs.Events.{meeting_stamp, extended, has_met, passed}
+use Rattle.fst_runs.proofs.Updates.{put, with_task, with_channel}
 use Rattle.fst_cell.specs.Residuals.{residual, sends}
 use Rattle.fst_cell.proofs.Laws.{stamped_push}
 use Rattle.fst_safety.specs.WellTyped.{program_in}
@@ -79,10 +80,6 @@ both_parts w h Right f d y n =
     let a = ap (λ b. w (part_in (record { channel = h; side = Right }) b d)) y in
     let c = ap (λ b. w (part_in (record { channel = h; side = Left }) b d)) n in
     omega (arith, a, c)
-
-not_true : (b : Bool) → true ≡ not b → b ≡ false
-not_true true e = e
-not_true false e = refl
 
 other_side : (f : Side → Bool) → f Left ≡ not (f Right) → (s : Side) → f s ≡ true → f (opposite s) ≡ false
 other_side f e Left y = not_true (f Right) (sym y ∙ e)

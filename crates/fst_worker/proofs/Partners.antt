@@ -11,8 +11,8 @@ use Rattle.fst_types.specs.declared.side.Side.{Side}
 use Rattle.fst_types.specs.declared.side.Side.TheVariants.{Left, Right}
 use Rattle.fst_lts.specs.Histories.{opposite}
 use Rattle.fst_derivations.specs.Rules.{Surroundings}
-use Rattle.fst_value.specs.declared.ends.ChannelName.{ChannelName}
-use Rattle.fst_value.specs.declared.ends.EndName.{EndName}
+use Rattle.fst_types.specs.declared.ends.ChannelName.{ChannelName}
+use Rattle.fst_types.specs.declared.ends.EndName.{EndName}
 use Rattle.fst_runs.specs.Configs.{same_channel, same_end, other}
 use Rattle.fst_runs.specs.Wrong.{once}
 use Rattle.fst_cell.specs.End.{EndView, end_name}

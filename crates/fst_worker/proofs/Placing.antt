@@ -5,8 +5,8 @@ use Rattle.std.proofs.lemmas.List.Elements.{All-cons, All-head, All-tail, All-ap
 use Rattle.std.proofs.lemmas.List.Sums.{sum_by-append, sum_by-cons}
 use Rattle.std.proofs.lemmas.Option.{none-some, same_Some}
 use Rattle.fst_lts.specs.Histories.{over}
-use Rattle.fst_value.specs.declared.ends.ChannelName.{ChannelName}
-use Rattle.fst_value.specs.declared.event.ChannelHistory.{ChannelHistory}
+use Rattle.fst_types.specs.declared.ends.ChannelName.{ChannelName}
+use Rattle.fst_types.specs.declared.event.ChannelHistory.{ChannelHistory}
 use Rattle.fst_runs.specs.Configs.{Path, Task, Channel, same_path, same_channel}
 use Rattle.fst_runs.proofs.NameLaws.{same_path-same, same_channel-same}
 use Rattle.fst_runs.proofs.Updates.{put}

@@ -11,9 +11,9 @@ use Rattle.fst_base.proofs.Lists.{get-last, from_contains, contains_none}
 use Rattle.fst_types.specs.Tree.{Tree}
 use Rattle.fst_types.specs.declared.side.Side.TheVariants.{Left}
 use Rattle.fst_derivations.specs.Rules.{Surroundings}
-use Rattle.fst_value.specs.declared.ends.ChannelName.{ChannelName}
-use Rattle.fst_value.specs.declared.event.ChannelHistory.{ChannelHistory}
-use Rattle.fst_value.specs.declared.event.Entry.{Entry}
+use Rattle.fst_types.specs.declared.ends.ChannelName.{ChannelName}
+use Rattle.fst_types.specs.declared.event.ChannelHistory.{ChannelHistory}
+use Rattle.fst_types.specs.declared.event.Entry.{Entry}
 use Rattle.fst_runs.specs.Configs.{Task, same_channel}
 use Rattle.fst_runs.specs.Wrong.{once}
 use Rattle.fst_runs.proofs.NameLaws.{same_channel-itself}

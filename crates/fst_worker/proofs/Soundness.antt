@@ -12,11 +12,11 @@ use Rattle.fst_kinds.specs.WellFormed.{IsSession}
 use Rattle.fst_lts.specs.Step.{step, terminated}
 use Rattle.fst_lts.specs.Histories.{sending, receiving, over, after_event, after_history}
 use Rattle.fst_derivations.specs.Rules.{Surroundings}
-use Rattle.fst_value.specs.declared.ends.ChannelName.{ChannelName}
-use Rattle.fst_value.specs.declared.ends.EndName.{EndName}
-use Rattle.fst_value.specs.declared.event.ChannelHistory.{ChannelHistory}
-use Rattle.fst_value.specs.declared.event.Entry.{Entry}
-use Rattle.fst_value.specs.declared.event.Event.{Event}
+use Rattle.fst_types.specs.declared.ends.ChannelName.{ChannelName}
+use Rattle.fst_types.specs.declared.ends.EndName.{EndName}
+use Rattle.fst_types.specs.declared.event.ChannelHistory.{ChannelHistory}
+use Rattle.fst_types.specs.declared.event.Entry.{Entry}
+use Rattle.fst_types.specs.declared.event.Event.{Event}
 use Rattle.fst_runs.specs.Configs.{Path, Task, Channel, Config, same_path, same_channel, same_end, channel_residual, residual_in, child_path, main_path}
 use Rattle.fst_runs.specs.Names.{HasMakers, HasParents}
 use Rattle.fst_runs.specs.Wrong.{once, held_state, amount, IsUnspent, IsOwned}
@@ -30,7 +30,8 @@ use Rattle.fst_safety.specs.Logs.{Birth}
 use Rattle.fst_safety.specs.Sound.{IsSound, IsTrace}
 use Rattle.fst_safety.specs.Threads.{Thread, FitsIn, IsSpent, count_of}
 use Rattle.fst_safety.specs.Turns.{of_ends, by_type}
-use Rattle.fst_safety.proofs.Laws.{there, dual_session, equals_back, equals_itself, session_formed, session_step, Still, typed_still, ended_equal, sides_from, trace_from}
+use Rattle.fst_lts.proofs.DualKinds.{dual_session}
+use Rattle.fst_safety.proofs.Laws.{there, equals_back, equals_itself, session_formed, session_step, Still, typed_still, ended_equal, sides_from, trace_from}
 use Rattle.fst_worker.specs.Works.{IsRun, IsKnownIn, bears, opens}
 use Rattle.fst_worker.specs.Records.{FitsRecord, IsRecorded}
 use Rattle.fst_worker.specs.Configs.{config_of}

@@ -7,7 +7,7 @@ use Rattle.std.proofs.lemmas.List.Elements.{All-get_or}
 use Rattle.std.proofs.lemmas.List.Sorted.{sum_by-IsPermutation}
 use Rattle.std.proofs.lemmas.List.Sums.{sum_by-cons, sum_by_push}
 use Rattle.fst_types.specs.Tree.{Tree}
-use Rattle.fst_value.specs.declared.ends.EndName.{EndName}
+use Rattle.fst_types.specs.declared.ends.EndName.{EndName}
 use Rattle.fst_machine.specs.declared.code.Code.{Code}
 use Rattle.fst_machine.specs.declared.request.Request.TheVariants as request
 use Rattle.fst_machine.specs.Machine as machine

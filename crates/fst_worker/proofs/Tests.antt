@@ -1,17 +1,16 @@
 -- Tests that count: 1 where two things are the same, and 0 where they aren't.
 use Rattle.std.proofs.Common.{◌≡◌, ◌⊎◌, inl, inr, ◌≤◌, ℕ, ◌*◌, Bool, true, false, ◌&&◌, List, [], ◌∷◌, ◌++◌, length, refl, sym, ap, ◌∙◌, arith, length-append}
-use Rattle.std.specs.Prelude.{nat_eq, sum_by, Contains}
+use Rattle.std.specs.Prelude.{sum_by, Contains}
 use Rattle.std.specs.Coded.{Coded}
 use Rattle.std.proofs.lemmas.List.Sums.{get_or-le-sum_by}
 use Rattle.std.proofs.lemmas.Bool.Decides.{nat_tests}
-use Rattle.std.proofs.lemmas.Bool.{and_from}
-use base.Stored.{Gv, gnil, gnum, gcons}
-use Rattle.fst_base.proofs.Bools.{and_parts}
+use Rattle.fst_base.proofs.Codes.{code_itself, code_same}
+use Rattle.fst_base.specs.Codes.{same_code}
 use Rattle.fst_base.proofs.Lists.{one_cut}
 use Rattle.fst_types.specs.declared.side.Side.{Side}
 use Rattle.fst_types.specs.declared.side.Side.TheVariants.{Left, Right}
-use Rattle.fst_value.specs.declared.ends.ChannelName.{ChannelName}
-use Rattle.fst_value.specs.declared.ends.EndName.{EndName}
+use Rattle.fst_types.specs.declared.ends.ChannelName.{ChannelName}
+use Rattle.fst_types.specs.declared.ends.EndName.{EndName}
 use Rattle.fst_runs.specs.Configs.{Path, same_path, same_channel, same_side, same_end}
 use Rattle.fst_runs.specs.Wrong.{once}
 use Rattle.fst_runs.proofs.NameLaws.{same_path-itself, same_path-same, same_channel-itself, same_channel-same, same_end-itself, same_end-same}
@@ -91,32 +90,6 @@ pub there_sums : {X : Type 0} (f : X → ℕ) (xs : List X) (x : X) → Contains
 there_sums f xs x (k, lt, is) = let a = get_or-le-sum_by f xs k x lt in let b = ap f is in omega (arith, a, b)
 
 -- ---- codes
-
--- whether two codes are one
-abbrev pub same_code : Gv → Gv → Bool
-same_code gnil gnil = true
-same_code (gnum m) (gnum n) = nat_eq m n
-same_code (gcons a b) (gcons c d) = same_code a c && same_code b d
-same_code a b = false
-
-number_same : (m n : ℕ) → nat_eq m n ≡ true → m ≡ n
-number_same m n h = grind (arith, nat_tests)
-
-number_itself : (n : ℕ) → nat_eq n n ≡ true
-number_itself n = grind (arith, nat_tests)
-
-code_itself : (a : Gv) → same_code a a ≡ true
-code_itself gnil = refl
-code_itself (gnum n) = number_itself n
-code_itself (gcons a b) = and_from (same_code a a) (same_code b b) (code_itself a) (code_itself b)
-
-code_same : (a b : Gv) → same_code a b ≡ true → a ≡ b
-code_same gnil gnil h = refl
-code_same (gnum m) (gnum n) h = ap gnum (number_same m n h)
-code_same (gcons a b) (gcons c d) h =
-    let q = and_parts (same_code a c) (same_code b d) h in
-    λ i. gcons (code_same a c q.0 i) (code_same b d q.1 i)
-code_same a b h = absurd (cc h)
 
 module _ {A : Type 0} (c : Coded A) where
   -- whether two things with codes are one

@@ -5,7 +5,7 @@ use Rattle.std.proofs.lemmas.List.{append-nil, append_assoc}
 use Rattle.std.proofs.lemmas.List.Elements.{Contains-append_right}
 use Rattle.fst_terms.specs.declared.core_module.Module.{Module}
 use Rattle.fst_derivations.specs.Rules.{Surroundings}
-use Rattle.fst_value.specs.declared.event.ChannelHistory.{ChannelHistory}
+use Rattle.fst_types.specs.declared.event.ChannelHistory.{ChannelHistory}
 use Rattle.fst_machine.specs.declared.code.Code.{Code}
 use Rattle.fst_vm.specs.TaskView.{TaskView}
 use Rattle.fst_process.specs.Resuming.{Tasks}

@@ -5,7 +5,7 @@ use Rattle.std.specs.Ordering.{nat_cmp, ordering_then}
 use Rattle.std.specs.declared.cmp.Ordering.{Ordering}
 use Rattle.fst_types.specs.Tree.{Tree}
 use Rattle.fst_derivations.specs.Rules.{Surroundings}
-use Rattle.fst_value.specs.declared.ends.ChannelName.{ChannelName}
+use Rattle.fst_types.specs.declared.ends.ChannelName.{ChannelName}
 use Rattle.fst_cell.specs.declared.answers.Closed.{Closed}
 use Rattle.fst_cell.specs.End.{EndView}
 use Rattle.fst_safety.specs.Logs.{Birth}

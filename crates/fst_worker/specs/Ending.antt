@@ -1,8 +1,8 @@
 -- Tasks whose ends were taken from them at the end of a run, and tasks that are told what became of their offers.
 use Rattle.std.specs.Prelude.{◌≡◌, ◌⊎◌, ℕ, Option, Some, None, IsSome, List, [], ◌∷◌, ◌++◌, map, All, Contains, ⊤}
 use Rattle.fst_types.specs.Tree.{Tree}
-use Rattle.fst_value.specs.declared.ends.EndName.{EndName}
-use Rattle.fst_value.specs.declared.event.ChannelHistory.{ChannelHistory}
+use Rattle.fst_types.specs.declared.ends.EndName.{EndName}
+use Rattle.fst_types.specs.declared.event.ChannelHistory.{ChannelHistory}
 use Rattle.fst_machine.specs.declared.code.Code.{Code}
 use Rattle.fst_vm.specs.TaskView.{TaskView}
 use Rattle.fst_cell.specs.declared.answers.Closed.{Closed}

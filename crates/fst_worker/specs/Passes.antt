@@ -2,7 +2,7 @@
 use Rattle.std.specs.Prelude.{◌≡◌, ◌⊎◌, ℕ, zero, suc, ◌+◌, ◌<◌, ◌≤◌, Bool, true, false, Result, Ok, Err, List, [], ◌∷◌, ◌++◌, length, take, slice_index_or, slice_set, swap, sum_by, All, Some, ⊤}
 use Rattle.std.specs.declared.alloc.AllocError.{AllocError}
 use Rattle.fst_types.specs.Tree.{Tree}
-use Rattle.fst_value.specs.declared.ends.EndName.{EndName}
+use Rattle.fst_types.specs.declared.ends.EndName.{EndName}
 use Rattle.fst_machine.specs.declared.code.Code.{Code}
 use Rattle.fst_machine.specs.declared.request.Request.{Request}
 use Rattle.fst_machine.specs.Machine.{request}
@@ -19,7 +19,7 @@ use Rattle.fst_worker.specs.declared.shares.Move.{Move}
 use Rattle.fst_worker.specs.declared.shares.Move.TheVariants.{Gained, Offered, Left, Over}
 use Rattle.fst_worker.specs.declared.shares.Stop.{Stop}
 use Rattle.fst_worker.specs.declared.shares.Stop.TheVariants.{Waits, Ends, Halts}
-use Rattle.fst_worker.specs.Shares.{Crew, HasAsked, HasRun, IsCrew, IsIdle, IsOver, counts, counts_one, own_paths, threads_of, tries_of, work_of}
+use Rattle.fst_worker.specs.Shares.{Crew, WhateverCrew, HasAsked, HasRun, IsCrew, IsIdle, IsOver, counts, counts_one, own_paths, threads_of, tries_of, work_of}
 use Rattle.fst_worker.specs.Works.{Went}
 
 -- ---- a share that goes on
@@ -55,7 +55,7 @@ pub record Becomes (k : Code) (a : Tree) (P : Crew → Type 0) (s u : Share) (b 
 
 -- so it is whatever threads the share's tasks were
 abbrev pub Runs : Code → (Crew → Crew → Type 0) → Share → Share → Type 0
-Runs k P s u = (a : Tree) (b : Crew) → IsTypedCode k a → IsCrew k s b → All (FitsIn (module_of k) a) (threads_of b) → Becomes k a (P b) s u b
+Runs k P s u = WhateverCrew k s (λ a b. Becomes k a (P b) s u b)
 
 -- ---- one task
 
@@ -105,7 +105,7 @@ pub record TurnedAt (k : Code) (a : Tree) (i : ℕ) (r : Result Move AllocError)
 
 -- so it is whatever threads the share's tasks were
 abbrev pub TurnsAt : Code → ℕ → Result Move AllocError → Share → Share → Type 0
-TurnsAt k i r s u = (a : Tree) (b : Crew) → IsTypedCode k a → IsCrew k s b → All (FitsIn (module_of k) a) (threads_of b) → TurnedAt k a i r u b
+TurnsAt k i r s u = WhateverCrew k s (λ a b. TurnedAt k a i r u b)
 
 -- the share after it has noted what a turn came to
 abbrev pub noted : Move → Share → Share
@@ -184,8 +184,7 @@ AreOverFrom k kept xs = (j : ℕ) (e : Thread) → kept ≤ j → j < length xs 
 
 -- the first n tasks are left, and the others, all of which are over, are among those that have ended
 abbrev pub RetiresTo : ℕ → ℕ → Share → Share → Type 0
-RetiresTo kept n s u = (k : Code) (a : Tree) (b : Crew) → IsTypedCode k a → IsCrew k s b → All (FitsIn (module_of k) a) (threads_of b) →
-    AreOverFrom k kept b.tasks → Becomes k a (λ c. c.tasks ≡ take n b.tasks) s u b
+RetiresTo kept n s u = (k : Code) → WhateverCrew k s (λ a b. AreOverFrom k kept b.tasks → Becomes k a (λ c. c.tasks ≡ take n b.tasks) s u b)
 
 -- the events and what the share tells are the same
 abbrev pub HasSameMarks : Share → Share → Type 0
@@ -202,4 +201,4 @@ pub record HasWorked (k : Code) (a : Tree) (steps : ℕ) (s u : Share) (b : Crew
 
 -- so it is whatever threads its tasks were
 abbrev pub Works : Code → ℕ → Share → Share → Type 0
-Works k steps s u = (a : Tree) (b : Crew) → IsTypedCode k a → IsCrew k s b → All (FitsIn (module_of k) a) (threads_of b) → HasWorked k a steps s u b
+Works k steps s u = WhateverCrew k s (λ a b. HasWorked k a steps s u b)

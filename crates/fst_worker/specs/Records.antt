@@ -6,10 +6,10 @@ use Rattle.fst_types.specs.declared.side.Side.TheVariants.{Left, Right}
 use Rattle.fst_kinds.specs.WellFormed.{IsSession}
 use Rattle.fst_lts.specs.Histories.{after_history, last_stamp, side_type}
 use Rattle.fst_derivations.specs.Rules.{Surroundings}
-use Rattle.fst_value.specs.declared.ends.ChannelName.{ChannelName}
-use Rattle.fst_value.specs.declared.event.ChannelHistory.{ChannelHistory}
-use Rattle.fst_value.specs.declared.event.Entry.{Entry}
-use Rattle.fst_value.specs.declared.event.Event.{Event}
+use Rattle.fst_types.specs.declared.ends.ChannelName.{ChannelName}
+use Rattle.fst_types.specs.declared.event.ChannelHistory.{ChannelHistory}
+use Rattle.fst_types.specs.declared.event.Entry.{Entry}
+use Rattle.fst_types.specs.declared.event.Event.{Event}
 use Rattle.fst_runs.specs.Configs.{same_channel, same_side, main_path, other}
 use Rattle.fst_cell.specs.declared.answers.Closed.{Closed}
 use Rattle.fst_cell.specs.declared.content.Offer.{Offer}

@@ -3,7 +3,7 @@ use Rattle.std.specs.Prelude.{◌≡◌, ◌⊎◌, ℕ, ◌+◌, ◌<◌, ◌�
 use Rattle.std.specs.List.{list_any}
 use Rattle.std.specs.declared.alloc.AllocError.{AllocError}
 use Rattle.fst_types.specs.Tree.{Tree}
-use Rattle.fst_value.specs.declared.ends.EndName.{EndName}
+use Rattle.fst_types.specs.declared.ends.EndName.{EndName}
 use Rattle.fst_machine.specs.declared.code.Code.{Code}
 use Rattle.fst_machine.specs.declared.request.Request.{Request}
 use Rattle.fst_machine.specs.declared.request.Request.TheVariants.{Ended}
@@ -133,12 +133,21 @@ pub record HasRun (k : Code) (steps : ℕ) (s u : Share) (b c : Crew) : Type 0 w
   pub tried : u.refused ≡ false → u.events ≤ steps → All (λ (t : TypedTask). t.clock ≤ steps) u.tasks.items →
       All (HasAsked k (threads_of b) (threads_of c)) c.tasks
 
--- ---- what it makes of all shares
+-- ---- whatever threads the tasks were
 
--- whatever threads the tasks were, where these fit the code, they have gone on by turns alone
+-- P holds of whatever threads tasks were, as Is tells them from the tasks, where they fit the code, whose main has the type that P is told
+abbrev pub Whatever : {V : Type 0} → Code → (V → Type 0) → (V → List Thread) → (Tree → V → Type 0) → Type 0
+Whatever {V} k Is threads P = (a : Tree) (v : V) → IsTypedCode k a → Is v → All (FitsIn (module_of k) a) (threads v) → P a v
+
+-- the same of the crew of one share
+abbrev pub WhateverCrew : Code → Share → (Tree → Crew → Type 0) → Type 0
+WhateverCrew k s P = Whatever k (IsCrew k s) threads_of P
+
+-- ---- what a round makes of all shares
+
+-- whatever threads the tasks were, they have gone on by turns alone
 abbrev pub GoOn : Code → List Share → List Share → Type 0
-GoOn k ss us = (a : Tree) (xs : List Thread) → IsTypedCode k a → AreKept k (all_tasks ss) xs → All (FitsIn (module_of k) a) xs →
-    (ys : List Thread) × AreKept k (all_tasks us) ys × Went (module_of k) a xs ys
+GoOn k ss us = Whatever k (AreKept k (all_tasks ss)) (λ xs. xs) (λ a xs. (ys : List Thread) × AreKept k (all_tasks us) ys × Went (module_of k) a xs ys)
 
 -- the shares ss, whose tasks were the threads of these crews, are us now
 pub record HaveRun (k : Code) (a : Tree) (steps : ℕ) (ss us : List Share) (bs : List Crew) : Type 0 where
@@ -150,8 +159,7 @@ pub record HaveRun (k : Code) (a : Tree) (steps : ℕ) (ss us : List Share) (bs 
 
 -- so it is whatever crews they had
 abbrev pub RunsAll : Code → ℕ → List Share → List Share → Type 0
-RunsAll k steps ss us =
-    (a : Tree) (bs : List Crew) → IsTypedCode k a → AreCrews k ss bs → All (FitsIn (module_of k) a) (all_threads bs) → HaveRun k a steps ss us bs
+RunsAll k steps ss us = Whatever k (AreCrews k ss) all_threads (λ a bs. HaveRun k a steps ss us bs)
 
 -- the paths of a share's tasks but for those that were forked, however they are weighed
 abbrev pub paths_in : (Path → ℕ) → Share → ℕ

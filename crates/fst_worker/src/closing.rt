@@ -5,8 +5,7 @@ ghost use Rattle.fst_cell.specs.End.{end_name};
 ghost use Rattle.fst_worker.specs.Closing.{AreClosedTo, AreOfRun, IsClosedTo, channel_cmp, name_cmp, names_of};
 
 use fst_cell::{Closed, End, close};
-use fst_types::Side;
-use fst_value::ChannelName;
+use fst_types::{ChannelName, Side};
 use std::alloc::{AllocError, Global};
 use std::cmp::Ordering;
 

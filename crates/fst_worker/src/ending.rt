@@ -12,8 +12,7 @@ use crate::closing::closed_at;
 use fst_cell::{Closed, End};
 use fst_machine::{Answer, Code};
 use fst_safety::TypedTask;
-use fst_types::Side;
-use fst_value::{EndName, Entry, Event};
+use fst_types::{EndName, Entry, Event, Side};
 use fst_vm::Task;
 use std::alloc::{AllocError, Global};
 

@@ -10,7 +10,7 @@ use fst_cell::Closed;
 use fst_machine::{Answer, Code};
 use fst_process::{Config, Outcome, run_from};
 use fst_safety::{LogEntry, TypedTask, stays_law};
-use fst_value::ChannelHistory;
+use fst_types::ChannelHistory;
 use std::alloc::{AllocError, Global};
 
 /// What becomes of a run: all its channels are closed, each task whose offer was taken is told so, and the machine goes on from

@@ -3,12 +3,12 @@ use Rattle.std.proofs.Common.{subst, ℕ, ◌<◌, List, ◌∷◌, length, Opti
 use Rattle.std.specs.Prelude.{MatchOption, IfSome}
 use Rattle.std.specs.List.{AllByRecursion}
 use Rattle.std.proofs.lemmas.Option.{slice_get_within}
+use Rattle.fst_base.proofs.Alls.{all_right}
 use Rattle.fst_terms.specs.declared.core_module.Module.{Module}
 use Rattle.fst_derivations.specs.Modules.{AreFamiliesPrintable, family_types}
 use Rattle.fst_written.specs.Printable.{IsFirstUnprintable, IsPrintableAt, IsLeastField}
 use Rattle.fst_written.proofs.OneLaws.{unprintable}
 use Rattle.fst_written.proofs.PrintableLaws.{families_printable, printable_families}
-use Rattle.fst_written.proofs.ReadingLaws.{all_right}
 
 module _ (m : Module) where
   -- what was found is a type that is there
@@ -22,7 +22,8 @@ module _ (m : Module) where
   least_fields None h = families_printable m.types.items m.families.items h
   least_fields (Some k) h = h
 
-  one_refused : (k : ℕ) → IsFirstUnprintable m (family_types m.families.items) k → AreFamiliesPrintable m.types.items m.families.items → ⊥
+  -- a field that isn't printable excludes that all are
+  pub one_refused : (k : ℕ) → IsFirstUnprintable m (family_types m.families.items) k → AreFamiliesPrintable m.types.items m.families.items → ⊥
   one_refused k f h =
       let all = subst (AllByRecursion (IsPrintableAt m.types.items)) f.first.stands (printable_families m.types.items m.families.items h) in
       let here = (all_right (IsPrintableAt m.types.items) f.first.before (k ∷ f.first.after) all).0 in

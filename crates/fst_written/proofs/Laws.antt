@@ -8,11 +8,13 @@ use Rattle.fst_types.specs.declared.family.Family.{Family}
 use Rattle.fst_kinds.specs.declared.fault.KindFault.{KindFault}
 use Rattle.fst_terms.specs.declared.core_module.Module.{Module}
 use Rattle.fst_terms.specs.declared.global.GlobalEntry.{GlobalEntry}
-use Rattle.fst_derivations.specs.Modules.{types_in, IsFormedAt, AreStandingFormed, AreMakersFormed, AreFamiliesFormed, AreGlobalsFormed, AreTypesFormed}
+use Rattle.fst_derivations.specs.Modules.{types_in, family_types, IsFormedAt, AreStandingFormed, AreMakersFormed, AreFamiliesFormed, AreFamiliesPrintable, AreGlobalsFormed, AreTypesFormed}
 use Rattle.fst_written.specs.Faults.{IsFirstKindFault}
 use Rattle.fst_written.specs.First.{IsFirst}
+use Rattle.fst_written.specs.Printable.{IsFirstUnprintable}
 use Rattle.fst_written.specs.Readings.{Reading, readings, begins, IsFormedReading}
 use Rattle.fst_written.proofs.FirstLaws as firsts
+use Rattle.fst_written.proofs.FieldLaws as fields
 use Rattle.fst_written.proofs.ModuleLaws as modules
 
 -- behind what is as P says the next one is the first
@@ -71,3 +73,7 @@ module _ (m : Module) where
   formed_before rs at f found r there lt =
       let place = get_or_from_slice_get m.places.items found.reading.number at 0 found.fails.begins in
       firsts.first_before (begins m) (IsFormedReading m) rs found.reading found.first r there (omega (arith, place))
+
+-- a field that isn't printable excludes that all are
+pub fields_refused : (m : Module) (k : ℕ) → IsFirstUnprintable m (family_types m.families.items) k → AreFamiliesPrintable m.types.items m.families.items → ⊥
+fields_refused = fields.one_refused

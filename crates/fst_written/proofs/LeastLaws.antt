@@ -3,6 +3,7 @@ use Rattle.std.proofs.Common.{◌≡◌, inl, inr, subst, sym, ℕ, ◌<◌, ◌
 use Rattle.std.specs.Prelude.{MatchOption, slice_get}
 use Rattle.std.proofs.lemmas.Bool.{cases_lt}
 use Rattle.std.proofs.lemmas.Option.{get_or_from_slice_get}
+use Rattle.fst_base.proofs.Alls.{all_append}
 use Rattle.fst_types.specs.Tree.{Tree}
 use Rattle.fst_terms.specs.declared.core_module.Module.{Module}
 use Rattle.fst_derivations.specs.Modules.{IsPrintable}
@@ -11,7 +12,6 @@ use Rattle.fst_written.specs.Printable.{IsFirstUnprintable, IsPrintableAt, IsLea
 use Rattle.fst_written.specs.Readings.{Reading, IsFormedReading, begins, begins_at}
 use Rattle.fst_written.specs.declared.kinds.Placed.{Placed}
 use Rattle.fst_written.proofs.FirstLaws.{first_new, first_kept, first_less}
-use Rattle.fst_written.proofs.ReadingLaws.{all_append}
 
 module _ (m : Module) where
   -- a type that is well formed changes nothing

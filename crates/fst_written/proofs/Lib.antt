@@ -1,5 +1,4 @@
 pub mod Laws
-mod Heights
 mod FirstLaws
 mod ReadingLaws
 mod OtherLaws

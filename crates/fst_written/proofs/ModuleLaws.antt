@@ -2,6 +2,7 @@
 use Rattle.std.proofs.Common.{◌≡◌, ◌∙◌, refl, ap, subst, sym, ℕ, List, [], ◌∷◌, ◌++◌, length, map}
 use Rattle.std.specs.List.{AllByRecursion}
 use Rattle.std.proofs.lemmas.List.{map-append}
+use Rattle.fst_base.proofs.Alls.{all_append, all_left, all_right}
 use Rattle.fst_kinds.specs.declared.fault.KindFault.{KindFault}
 use Rattle.fst_terms.specs.InRange.{AreNumbersBelow}
 use Rattle.fst_terms.specs.declared.core_module.Module.{Module}
@@ -12,7 +13,7 @@ use Rattle.fst_written.specs.Readings.{Reading, global_readings, closed_readings
 use Rattle.fst_written.specs.declared.readings.Occurrence.{Occurrence}
 use Rattle.fst_written.proofs.OtherLaws.{others_have, have_others}
 use Rattle.fst_written.proofs.RangeLaws.{below_append, globals_in_range, families_in_range, others_in_range}
-use Rattle.fst_written.proofs.ReadingLaws.{all_append, all_left, all_right, global_numbers, closed_numbers, globals_formed, formed_globals, closed_formed, formed_closed, families_formed, formed_families}
+use Rattle.fst_written.proofs.ReadingLaws.{global_numbers, closed_numbers, globals_formed, formed_globals, closed_formed, formed_closed, families_formed, formed_families}
 
 occurrence_numbers : (os : List Occurrence) → map (λ o. o.number) os ≡ map (λ r. r.number) (map reading_of os)
 occurrence_numbers [] = refl

@@ -4,8 +4,8 @@ use Rattle.std.specs.Prelude.{if◌then◌else◌, ◌||◌, Contains}
 use Rattle.std.specs.List.{list_any, AllByRecursion}
 use Rattle.std.proofs.lemmas.Bool.{eqb-true}
 use Rattle.std.proofs.Math.Nat.{eq-or-lt_of_le}
+use Rattle.fst_base.proofs.Alls.{all_append, all_left, all_right}
 use Rattle.fst_written.specs.Readings.{others}
-use Rattle.fst_written.proofs.ReadingLaws.{all_append, all_left, all_right}
 
 -- a test of numbers of things is one of the numbers
 pub any_number : {A : Type 0} (f : A → ℕ) (k : ℕ) (xs : List A) → list_any (λ x. nat_eq k (f x)) xs ≡ list_any (nat_eq k) (map f xs)

@@ -2,12 +2,12 @@
 use Rattle.std.proofs.Common.{◌≡◌, ◌↔◌, refl, ℕ, List, [], ◌∷◌, true, false, Bool}
 use Rattle.std.specs.Prelude.{◌&&◌}
 use Rattle.std.specs.List.{AllByRecursion}
+use Rattle.fst_base.proofs.Alls.{all_append, all_left, all_right}
 use Rattle.fst_types.specs.Tree.{Tree, skip, send, receive, select, offer, seq, rec, back, var, plain, arrow, pair, named}
 use Rattle.fst_types.specs.declared.family.Family.{Family}
 use Rattle.fst_types.specs.declared.family.Maker.{Maker}
 use Rattle.fst_derivations.specs.Modules.{IsPrintable, base_types, data_types, pairs, ArePrintable, HavePrintableFields, AreFamiliesPrintable, maker_types, family_types}
 use Rattle.fst_written.specs.Printable.{printable, IsPrintableAt}
-use Rattle.fst_written.proofs.ReadingLaws.{all_append, all_left, all_right}
 
 both_true : (a b : Bool) → (a && b) ≡ true → (a ≡ true) × (b ≡ true)
 both_true true b e = (refl, e)

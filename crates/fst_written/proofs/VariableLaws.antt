@@ -3,6 +3,7 @@ use Rattle.std.proofs.Common.{◌≡◌, refl, inl, inr, subst, sym, ℕ, zero, 
 use Rattle.std.specs.Prelude.{slice_get, Contains}
 use Rattle.std.specs.List.{AllByRecursion}
 use Rattle.std.proofs.lemmas.List.Elements.{Contains-append_left, Contains-append_right, Contains-append_cases}
+use Rattle.fst_base.proofs.Alls.{all_append, all_right}
 use Rattle.fst_types.specs.Tree.{Tree}
 use Rattle.fst_types.specs.Variables.{HasVariablesBelow}
 use Rattle.fst_types.specs.declared.kind.Kind.{Kind}
@@ -14,7 +15,6 @@ use Rattle.fst_derivations.specs.Modules.{Standing, all_open, types_in, types_in
 use Rattle.fst_written.specs.Readings.{Reading, standing_readings, global_readings, closed_readings, others, readings}
 use Rattle.fst_written.proofs.NumberLaws.{global_types_are, family_types_are}
 use Rattle.fst_written.proofs.OtherLaws.{have_others}
-use Rattle.fst_written.proofs.ReadingLaws.{all_append, all_right}
 
 module _ (types : List Tree) where
   -- the type is there, and has only the variables in scope

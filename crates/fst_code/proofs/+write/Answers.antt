@@ -1,6 +1,7 @@
 use Rattle.std.proofs.Common.{◌≡◌, ◌∙◌, ◌<◌, ◌≤◌, ◌+◌, ◌-◌, ◌++◌, ◌∷◌, true, false, [], length, drop, take, refl, sym, ap, subst, arith, rules, w64}
 use mir.Val.{of_z, to_z}
 use Rattle.std.proofs.lemmas.List.{drop_all, take_all}
+use Rattle.fst_terms.proofs.Heights.{core_arms_height_at, cores_height_at}
 use Rattle.fst_terms.specs.CoreTree.{core_height, pair, make, lambda, apply, let_in, int, split, if_else, case_of, match_with, operate, negate, send, receive, select, fork, seq}
 use Rattle.fst_terms.specs.declared.binder.Binder.{Binder}
 use Rattle.fst_terms.specs.InRange.{terms_length}
@@ -20,7 +21,7 @@ use Rattle.fst_code.specs.Marks.{marked}
 use Rattle.fst_code.proofs.ListsLaws.{also_none}
 use Rattle.fst_code.specs.Written.{Closes, ComesTo, Forgot, Pushes, Writes, WritesAll, WritesUnder, compiled, top}
 use Rattle.fst_code.proofs.FormLaws.{all_more, all_none, behind_from, fork_written, if_left, lambda_written, leaves_more, leaves_none, let_left, make_written, seq_left, split_left, apply_left, bool_written, char_written, global_written, int_written, negate_left, new_written, operate_left, pair_left, receive_left, select_left, send_left, unit_written}
-use Rattle.fst_code.proofs.HeightLaws.{arms_height_at, cores_height_at, terms_length-cores}
+use Rattle.fst_code.proofs.HeightLaws.{terms_length-cores}
 use Rattle.fst_code.proofs.MarkLaws.{within_none}
 use Rattle.fst_code.proofs.PieceLaws.{drop_before}
 use Rattle.fst_code.proofs.UnderLaws.{under_written}
@@ -236,7 +237,7 @@ pub branches::write_arms-write_arm-requires : goal.branches::write_arms-write_ar
 branches::write_arms-write_arm-requires t c =
     let bs = c.args.arms.now in let n = c.loop-arm.arm-index in
     let lt : n < length bs = omega arith in
-    let high = arms_height_at bs n c.arm-item.result lt in
+    let high = core_arms_height_at bs n c.arm-item.result lt in
     (omega (arith, high, ap (λ (z : Arm). core_height z.body) c.arm-item.is, c.decreases), omega (arith, c.requires, c.loop-arm.invariant.more.longer))
 
 pub branches::write_arms-loop-arm-init : goal.branches::write_arms-loop-arm-init

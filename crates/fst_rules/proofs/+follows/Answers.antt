@@ -2,6 +2,7 @@ use Rattle.std.proofs.Common.{◌<◌, ◌+◌, drop, ◌≡◌, ◌∙◌, ◌�
 use Rattle.std.specs.Prelude.{is_some}
 use Rattle.std.proofs.lemmas.List.{length-reverse, drop_more}
 use mathlib.Core.List.{reverse}
+use Rattle.fst_terms.proofs.Heights.{core_arms_height_at}
 use Rattle.fst_terms.specs.CoreTree.{core_height, core_arms_height}
 use Rattle.fst_terms.specs.ModelCoreView.{core_arms_of}
 use Rattle.std.proofs.lemmas.Result.{IfOk-weaker}
@@ -11,7 +12,6 @@ use Rattle.fst_rules.specs.Levels.{surroundings_at, rest_walk, binding_of}
 use Rattle.fst_rules.specs.Walks.{next, came, walk_of, arm_walk, bound_types, further, further_walk}
 use Rattle.fst_fits.specs.Tests.{same_tree}
 use Rattle.fst_rules.proofs.ArmLaws.{entered_long}
-use Rattle.fst_rules.proofs.ListHeights.{core_arms_height_at}
 use Rattle.fst_rules.proofs.FollowLaws.{arm_keeps, further_done, further_keeps, marked_again, marked_back, further_step, arms_step, came_keeps, inside_keeps, entered_there, begun_there, marks_long, restored, branches_none, branches_done, not_back}
 use Rattle.fst_rules.proofs.+follows.Goals as goal
 

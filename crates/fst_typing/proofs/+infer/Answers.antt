@@ -3,6 +3,7 @@ use Rattle.std.specs.Prelude.{◌⊎◌, IsSome}
 use Rattle.std.proofs.lemmas.List.{length-reverse}
 use Rattle.std.proofs.lemmas.Result.{IfErr-weaker, IfOk-weaker, err_from_is_err_and}
 use Rattle.std.proofs.lemmas.Option.{same_Some, slice_get_within}
+use Rattle.fst_terms.proofs.Heights.{core_arms_height_at, cores_height_at}
 use Rattle.fst_types.specs.Tree as type
 use Rattle.fst_types.specs.Tree.{Tree, plain, arrow}
 use Rattle.fst_types.specs.declared.base.Base.{Base}
@@ -39,7 +40,6 @@ use Rattle.fst_typing.proofs.Fields.{FieldsSoFar, fields_end, fields_refused, fi
 use Rattle.fst_typing.proofs.EquationLaws.{both_ok}
 use Rattle.fst_typing.proofs.Formed.{arrow_formed, pair_formed, pair_small}
 use Rattle.fst_typing.proofs.Forms.{apply_typed, fork_typed, negate_typed, operate_typed, pair_typed, receive_typed, select_typed, send_typed, seq_typed}
-use Rattle.fst_typing.proofs.Heights.{core_arms_height_at, cores_height_at}
 use Rattle.fst_typing.proofs.Constants.{alone_typed, bool_typed, char_typed, int_typed, unit_typed}
 use Rattle.fst_typing.proofs.Makers.{field_types, formed_fields, make_ready, make_typed, terms_of_length}
 use Rattle.fst_typing.proofs.Marks.{marks_back, marks_decide, marks_length, marks_on, with_marks_same}
@@ -802,8 +802,7 @@ infer_arms::infer_further-infer_arm-requires t c =
 
 pub infer_arms::infer_further-loop-i-init : goal.infer_arms::infer_further-loop-i-init
 infer_arms::infer_further-loop-i-init t c =
-    let begun = c.in_ok-push.ensures.items ∙ ap (λ xs. xs ++ c.args.value ∷ []) c.new-parts.ensures.items in
-    (row_begin (check_in c.args.scene) (binding_of c.args.binding) c.args.arms.now c.args.value c.args.first c.args.context.now (with_marks (reverse c.args.after.now) c.args.context.now) c.push-2.new.self.items c.args.t.now c.requires.ready c.requires.first c.requires.wanted (c.in_ok-push-2.ensures.items ∙ ap (λ xs. xs ++ c.args.first ∷ []) begun), refl, c.in_ok-before.ensures)
+    (row_begin (check_in c.args.scene) (binding_of c.args.binding) c.args.arms.now c.args.value c.args.first c.args.context.now (with_marks (reverse c.args.after.now) c.args.context.now) c.in_ok-parts.parts.items c.args.t.now c.requires.ready c.requires.first c.requires.wanted c.in_ok-parts.ensures, refl, c.in_ok-before.ensures)
 
 pub infer_arms::infer_further-loop-i-preserved : goal.infer_arms::infer_further-loop-i-preserved
 infer_arms::infer_further-loop-i-preserved t c =
@@ -812,7 +811,7 @@ infer_arms::infer_further-loop-i-preserved t c =
     let all = row_takes (check_in c.args.scene) (binding_of c.args.binding) c.args.arms.now c.loop-i.i c.args.context.now (with_marks (reverse c.args.after.now) c.args.context.now) (deriv_of c.args.value) c.args.t.now c.loop-i.parts.items c.loop-i.invariant.0 in
     let same = marks_decide takes.used all.used c.args.context.now c.infer_arm.new.context (with_marks (reverse c.args.after.now) c.args.context.now) takes.rest all.rest c.in_ok-joined.ensures.same in
     let again = ap (λ (bs : List Bool). reverse bs) (c.in_ok-again.ensures.items ∙ c.deref.ensures.value) ∙ c.loop-i.invariant.2 in (
-      row_step (check_in c.args.scene) (binding_of c.args.binding) c.args.arms.now c.loop-i.i c.index-arms-i.result (deriv_of c.in_ok-d.d) c.in_ok-joined.field-0 c.args.t.now c.args.context.now c.infer_arm.new.context (with_marks (reverse c.args.after.now) c.args.context.now) (deriv_of c.args.value) c.loop-i.parts.items c.push-in-loop-i.new.self.items c.loop-i.invariant.0 c.loop-i-test.true c.index-arms-i.is typed same c.in_ok-joined.ensures.known c.in_ok-joined.ensures.turned c.in_ok-push-3.ensures.items,
+      row_step (check_in c.args.scene) (binding_of c.args.binding) c.args.arms.now c.loop-i.i c.index-arms-i.result (deriv_of c.in_ok-d.d) c.in_ok-joined.field-0 c.args.t.now c.args.context.now c.infer_arm.new.context (with_marks (reverse c.args.after.now) c.args.context.now) (deriv_of c.args.value) c.loop-i.parts.items c.push.new.self.items c.loop-i.invariant.0 c.loop-i-test.true c.index-arms-i.is typed same c.in_ok-joined.ensures.known c.in_ok-joined.ensures.turned c.in_ok-push.ensures.items,
       c.exchange.ensures.after ∙ ap (λ b. with_marks b c.infer_arm.new.context) again ∙ marks_back takes.used c.args.context.now c.infer_arm.new.context takes.rest,
       c.loop-i.invariant.2,
     )

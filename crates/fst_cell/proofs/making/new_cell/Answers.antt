@@ -1,5 +1,5 @@
 use Rattle.std.proofs.Common.{ap, ◌∙◌, ◌∷◌, ◌++◌, [], Option, Some, None, List}
-use Rattle.fst_value.specs.declared.event.Entry.{Entry}
+use Rattle.fst_types.specs.declared.event.Entry.{Entry}
 use Rattle.fst_cell.specs.declared.content.Content.{Content}
 use Rattle.fst_cell.proofs.Calling.{opens_as}
 use Rattle.fst_cell.proofs.making.new_cell.Goals as goal

@@ -1,10 +1,10 @@
 use Rattle.std.proofs.Common.{◌≡◌, ◌∙◌, ◌+◌, ◌-◌, ◌<◌, suc, max, Some, sym, ap, subst, arith}
 use Rattle.std.specs.Prelude.{slice_set}
+use Rattle.fst_base.proofs.Options.{some_same}
 use Rattle.fst_lts.specs.Histories.{last_stamp}
-use Rattle.fst_value.specs.declared.event.Entry.{Entry}
+use Rattle.fst_types.specs.declared.event.Entry.{Entry}
 use Rattle.fst_process.specs.Kept.{Channel, passed}
 use Rattle.fst_process.specs.KeptOf.{IsChangedAt, channel_of, numbered}
-use Rattle.fst_process.proofs.PathLaws.{some_same}
 use Rattle.fst_process.proofs.KeptLaws.{numbered_there, set_changed}
 use Rattle.fst_process.proofs.Stepping.{one_more}
 use Rattle.fst_process.proofs.kept.record_among.Goals as goal

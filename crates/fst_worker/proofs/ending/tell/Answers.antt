@@ -1,7 +1,7 @@
 use Rattle.std.proofs.Common.{◌≡◌, ◌∙◌, sym, ap, subst}
 use Rattle.std.proofs.lemmas.List.Elements.{All-contains}
 use Rattle.fst_lts.specs.Histories.{last_stamp}
-use Rattle.fst_value.specs.declared.ends.EndName.{EndName}
+use Rattle.fst_types.specs.declared.ends.EndName.{EndName}
 use Rattle.fst_cell.specs.declared.answers.Closed.{Closed}
 use Rattle.fst_worker.specs.Ending.{TellsWaiting}
 use Rattle.fst_worker.proofs.Stripped.{has_next, none_waits, channel_there, stays_so, stands_so, lacks_so, takes_sent, told_so}

@@ -1,8 +1,9 @@
 use Rattle.std.proofs.Common.{◌∙◌, ap, sym, subst, length, List, ℕ}
 use Rattle.std.specs.Prelude.{map}
 use Rattle.std.specs.Map.{keys_of}
+use Rattle.fst_shared.specs.Shared.{AreKeys}
 use Rattle.fst_breadth.specs.Answer.{pair_of}
-use Rattle.fst_breadth.specs.Tables.{Store, key_pair, AreKeys}
+use Rattle.fst_breadth.specs.Tables.{Store, key_pair}
 use Rattle.fst_breadth.proofs.PairLaws.{pairs_of_keys, keys_within}
 use Rattle.fst_breadth.proofs.pairs.Pairs.into_pairs.Goals as goal
 

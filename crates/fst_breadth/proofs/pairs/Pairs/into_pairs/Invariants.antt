@@ -1,7 +1,8 @@
 use Rattle.std.proofs.Common.{◌≡◌, ◌++◌, length}
 use Rattle.std.specs.Prelude.{map}
+use Rattle.fst_shared.specs.Shared.{AreKeys}
 use Rattle.fst_breadth.specs.Answer.{pair_of}
-use Rattle.fst_breadth.specs.Tables.{key_pair, AreKeys}
+use Rattle.fst_breadth.specs.Tables.{key_pair}
 use Rattle.fst_breadth.proofs.pairs.Pairs.into_pairs.Given as goal
 
 abbrev pub invariant-loop-left : goal.invariant-loop-left

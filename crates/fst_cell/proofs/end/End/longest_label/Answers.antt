@@ -1,7 +1,7 @@
 use Rattle.std.proofs.Common.{◌≡◌, ◌∙◌, ◌≤◌, true, length, Option, Some, sym, ap, subst}
 use Rattle.std.specs.Prelude.{option_map, unwrap_or}
 use Rattle.fst_types.specs.Tree.{Tree}
-use Rattle.fst_value.specs.declared.event.Event.TheVariants.{Label}
+use Rattle.fst_types.specs.declared.event.Event.TheVariants.{Label}
 use Rattle.fst_cell.specs.declared.content.Half.{Half}
 use Rattle.fst_cell.specs.End.{EndView, half_of, residual_of}
 use Rattle.fst_cell.specs.Heads.{head}

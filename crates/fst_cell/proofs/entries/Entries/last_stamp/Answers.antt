@@ -1,6 +1,6 @@
 use Rattle.std.proofs.Common.{◌∙◌, ap, List, ◌-◌, length}
 use Rattle.std.specs.Prelude.{slice_get}
-use Rattle.fst_value.specs.declared.event.Entry.{Entry}
+use Rattle.fst_types.specs.declared.event.Entry.{Entry}
 use Rattle.fst_cell.proofs.StampLaws.{last_at}
 use Rattle.fst_cell.proofs.entries.Entries.last_stamp.Goals as goal
 

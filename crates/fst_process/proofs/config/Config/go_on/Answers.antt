@@ -5,11 +5,11 @@ use mathlib.Core.Bool.{Bool-set}
 use mathlib.Core.HLevel.{⊥_prop}
 use Rattle.std.proofs.Math.Logic.{∥∥₁_map, ∥∥₁_elim}
 use Rattle.std.proofs.lemmas.Result.{on_ok_weaker}
+use Rattle.fst_base.proofs.Options.{some_same, none_some}
 use Rattle.fst_vm.specs.Tasks.{Takes, GoesOn}
 use Rattle.fst_process.specs.Kept.{Slot, is_live, put_at}
 use Rattle.fst_process.specs.Firing.{HasGoneOn}
 use Rattle.fst_process.specs.KeptOf.{slot_of, slot_in, kept_of}
-use Rattle.fst_process.proofs.PathLaws.{some_same, none_some}
 use Rattle.fst_process.proofs.KeptLaws.{slots_after}
 use Rattle.fst_process.proofs.EndedLaws.{asks_nothing, its_slot, live_there, gone_on}
 use Rattle.fst_process.proofs.config.Config.go_on.Goals as goal

@@ -3,8 +3,8 @@ use Rattle.std.specs.Coded.{le_prop}
 use mathlib.Core.Bool.{Bool-set}
 use Rattle.std.proofs.Math.Logic.{∥∥₁_map, ∥∥₁_elim}
 use Rattle.std.proofs.lemmas.Result.{on_ok_weaker}
-use Rattle.fst_value.specs.declared.event.Event.{Event}
-use Rattle.fst_value.specs.declared.event.Entry.{Entry}
+use Rattle.fst_types.specs.declared.event.Event.{Event}
+use Rattle.fst_types.specs.declared.event.Entry.{Entry}
 use Rattle.fst_machine.specs.declared.request.Request.TheVariants.{Put}
 use Rattle.fst_runs.specs.declared.event.CoreEvent.TheVariants.{Meet}
 use Rattle.fst_process.specs.Kept.{changed, passed}

@@ -1,8 +1,8 @@
 use Rattle.std.proofs.Common.{◌∙◌, is_some, sym, ap}
-use Rattle.fst_value.specs.declared.event.Entry.{Entry}
+use Rattle.fst_base.proofs.Options.{none_some}
+use Rattle.fst_types.specs.declared.event.Entry.{Entry}
 use Rattle.fst_process.specs.Kept.{passed}
 use Rattle.fst_process.specs.KeptOf.{made_in, listed, numbered, kept_of}
-use Rattle.fst_process.proofs.PathLaws.{none_some}
 use Rattle.fst_process.proofs.KeptLaws.{channel_changed, none_numbered}
 use Rattle.fst_process.proofs.config.Config.record.Goals as goal
 

@@ -1,6 +1,6 @@
 use Rattle.std.proofs.Common.{◌≡◌, ◌∙◌, ◌⊎◌, Ok, sym, ap, subst, refl}
 use Rattle.fst_machine.specs.declared.request.Request.TheVariants.{Get}
-use Rattle.fst_value.specs.declared.event.Event.TheVariants.{Label}
+use Rattle.fst_types.specs.declared.event.Event.TheVariants.{Label}
 use Rattle.fst_cell.specs.Answers.{FoundHeld, FoundNothing, IsTaken, end_with}
 use Rattle.fst_cell.specs.End.{EndView, residual_of}
 use Rattle.fst_cell.specs.Residuals.{receives}

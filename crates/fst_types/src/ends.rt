@@ -1,7 +1,7 @@
 ghost use Rattle.std.specs.Prelude.{◌≡◌, IfOk};
 
 use crate::path::Path;
-use fst_types::Side;
+use crate::side::Side;
 use std::alloc::{AllocError, Global};
 
 /// The name of a channel: the path of the task that made it, and which of this task's channels it is, counted from 1.

@@ -2,7 +2,7 @@
 use Rattle.std.proofs.Common.{◌≡◌, ℕ, ◌<◌, List, [], ◌∷◌, ◌++◌, length, refl, ◌∙◌, ap, arith, Bool, true, false, zero, suc, take}
 use Rattle.std.specs.Prelude.{if◌then◌else◌, slice_index_or}
 use Rattle.fst_words.specs.Marks.{is_marked}
-use Rattle.fst_shared.specs.Cut.{cut}
+use Rattle.fst_words.specs.Marks.{cut}
 
 -- where nothing is marked, nothing is cut
 pub cut_none : (m : List Bool) (v w : List ℕ) → ((k : ℕ) → k < length v → is_marked m (slice_index_or v k 0) ≡ false) → cut m v w ≡ v ++ w

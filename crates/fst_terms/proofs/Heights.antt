@@ -1,7 +1,7 @@
--- Terms in lists are no higher than the highest.
-use Rattle.std.proofs.Common.{◌<◌, ◌≤◌, ℕ, zero, suc, List, [], ◌∷◌, length, get_or, arith}
-use Rattle.fst_terms.specs.CoreTree.{CoreTree, core_arms_height, core_height, cores_height}
-use Rattle.fst_terms.specs.ModelCoreView.{core_arms_of, cores_of}
+-- The parts of a term are no higher than the highest.
+use Rattle.std.proofs.Common.{ℕ, zero, suc, ◌<◌, ◌≤◌, List, [], ◌∷◌, length, get_or, arith}
+use Rattle.fst_terms.specs.CoreTree.{CoreTree, core_height, cores_height, core_arms_height}
+use Rattle.fst_terms.specs.ModelCoreView.{cores_of, core_arms_of}
 use Rattle.fst_terms.specs.declared.core_term.Arm.{Arm}
 
 -- an argument is no higher than the highest

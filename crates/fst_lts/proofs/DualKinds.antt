@@ -1,12 +1,12 @@
--- The dual of a session type is one.
+-- The dual of a type is well formed, of the same kind.
 use Rattle.std.proofs.Common.{◌≡◌, ◌∙◌, ℕ, suc, ◌&&◌, ◌||◌, not, refl, List}
 use Rattle.fst_types.specs.Tree.{Tree, skip, send, receive, select, offer, seq, rec, back, var, plain, arrow, pair, named, Branches, none, branch}
-use Rattle.fst_types.specs.Order.{AreRising, EachChoice, EachChoiceBelow}
+use Rattle.fst_types.specs.Order.{AreRising, IsOrdered, AllOrdered}
 use Rattle.fst_types.specs.Scoped.{IsScoped, AllScoped}
 use Rattle.fst_types.specs.declared.kind.Kind.{Kind}
 use Rattle.fst_kinds.specs.Contractive.{guards, reaches, IsContractive, AllContractive}
 use Rattle.fst_kinds.specs.Kinds.{HasKind, AllSessions}
-use Rattle.fst_kinds.specs.WellFormed.{IsWellFormed}
+use Rattle.fst_kinds.specs.WellFormed.{IsSession, IsWellFormed}
 use Rattle.fst_lts.specs.Dual.{dual, dual_all}
 
 dual_guards : (s : Tree) → guards (dual s) ≡ guards s
@@ -80,7 +80,8 @@ mutual
   dual_all_contractive (branch l s bs) h = (dual_contractive s h.0, dual_all_contractive bs h.1)
 
 mutual
-  dual_scoped : (n : ℕ) (s : Tree) → IsScoped n s → IsScoped n (dual s)
+  -- no recursion variable is free in the dual either
+  pub dual_scoped : (n : ℕ) (s : Tree) → IsScoped n s → IsScoped n (dual s)
   dual_scoped n skip h = h
   dual_scoped n (send b) h = h
   dual_scoped n (receive b) h = h
@@ -105,7 +106,7 @@ dual_rising (branch l s none) h = h
 dual_rising (branch l s (branch m r bs)) h = (h.0, dual_rising (branch m r bs) h.1)
 
 mutual
-  dual_ordered : (s : Tree) → EachChoice AreRising s → EachChoice AreRising (dual s)
+  dual_ordered : (s : Tree) → IsOrdered s → IsOrdered (dual s)
   dual_ordered skip h = h
   dual_ordered (send b) h = h
   dual_ordered (receive b) h = h
@@ -120,10 +121,19 @@ mutual
   dual_ordered (pair s r) h = (dual_ordered s h.0, dual_ordered r h.1)
   dual_ordered (named n) h = h
 
-  dual_all_ordered : (bs : Branches) → EachChoiceBelow AreRising bs → EachChoiceBelow AreRising (dual_all bs)
+  dual_all_ordered : (bs : Branches) → AllOrdered bs → AllOrdered (dual_all bs)
   dual_all_ordered none h = h
   dual_all_ordered (branch l s bs) h = (dual_ordered s h.0, dual_all_ordered bs h.1)
 
 -- the dual of a well-formed type is well formed, of the same kind
 pub dual_formed : (vars : List Kind) (s : Tree) (k : Kind) → IsWellFormed vars s k → IsWellFormed vars (dual s) k
-dual_formed vars s k w = record { kinded = dual_kind vars s k w.kinded; contractive = dual_contractive s w.contractive; scoped = dual_scoped 0 s w.scoped; ordered = dual_ordered s w.ordered }
+dual_formed vars s k w = record {
+  kinded = dual_kind vars s k w.kinded;
+  contractive = dual_contractive s w.contractive;
+  scoped = dual_scoped 0 s w.scoped;
+  ordered = dual_ordered s w.ordered;
+}
+
+-- the dual of a session type is a session type
+pub dual_session : (vars : List Kind) (s : Tree) → IsSession vars s → IsSession vars (dual s)
+dual_session vars s h = (h.0, dual_formed vars s _ h.1)

@@ -1,7 +1,8 @@
 ghost use Rattle.std.specs.Prelude.{◌≡◌, IfOk};
 
 use crate::ends::ChannelName;
-use fst_types::{Name, Ty};
+use crate::name::Name;
+use crate::ty::Ty;
 use std::alloc::{AllocError, Global};
 
 /// What passes over a channel: a value of a base type, or the label of a branch.
