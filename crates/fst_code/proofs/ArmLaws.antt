@@ -26,7 +26,7 @@ arm_written c c1 c2 d ms j b a to p w e = record {
     binds = subst (λ i. BindsAll d i b.binders.items (free b.body) w.behind) (sym e) w.binds;
     computes = λ g k s r. w.computes g k (s ∙ sym w.extends.families) r;
     unbinds = kept_at w.extends (top c2) (instr.Unbind (length b.binders.items)) (top c1) p.there;
-    comes = kept_comes (extends_both p.extends w.extends) (top c1) j to.comes;
+    comes = kept_comes (extends_both p.extends w.extends) (top c1) j to.there;
   };
   within = omega (arith, e);
   marks = w.marks;

@@ -289,7 +289,7 @@ if_left c c1 c2 c3 c4 c5 d ms gs fs ns1 ns at place e f g wg to wf mg mf l fg ff
       kept_at y (top d) (instr.Branch place) (top c5) p.there,
       kept_forgets y5 (top c5) (in_either f g) (free f) (marked ms) (top c3) (ff union).forgets,
       kept y3 (top c3) f (marked ms) (top c2) (wf.computes q k (s ∙ wg.extends.families ∙ to.extends.families) (record { range = r.range.1; whole = r.whole.1 })),
-      kept_comes (extends_both wf.extends y3) (top c2) (top c) to.comes,
+      kept_comes (extends_both wf.extends y3) (top c2) (top c) to.there,
       kept_forgets y4 place (in_either f g) (free g) (marked ms) (top c1) (fg union).forgets,
       kept (extends_both to.extends (extends_both wf.extends y3)) (top c1) g (marked ms) (top c) (wg.computes q k s (record { range = r.range.2; whole = r.whole.2 })),
       inl refl,

@@ -1,8 +1,9 @@
 -- The variables of a set as a list.
-use Rattle.std.proofs.Common.{◌≡◌, ◌∙◌, ◌<◌, ◌≤◌, ◌+◌, ℕ, Bool, true, false, List, [], ◌∷◌, ◌++◌, inl, inr, refl, sym, ap, arith}
+use Rattle.std.proofs.Common.{◌≡◌, ◌∙◌, ◌<◌, ◌≤◌, ◌+◌, ℕ, Bool, true, false, List, [], ◌∷◌, ◌++◌, length, inl, inr, refl, sym, ap, arith}
 use Rattle.std.specs.Prelude.{not, ◌||◌, ◌&&◌}
 use Rattle.std.proofs.Math.Path.{fun_ext}
 use Rattle.std.proofs.lemmas.Bool.{cases_lt, cases_eq, or_parts}
+use Rattle.std.proofs.lemmas.List.{length_push}
 use Rattle.fst_machine.specs.Free.{is}
 use Rattle.fst_machine.specs.Code.{also, among, AreApart, Lists, dropped, no_variables}
 use Rattle.fst_code.proofs.MarkLaws.{is_same, is_other, is_symmetric}
@@ -33,9 +34,10 @@ pub record SoFar (ns : List ℕ) (p : ℕ → Bool) (i : ℕ) : Type 0 where
   pub members : (k : ℕ) → k < i → among ns k ≡ p k
   pub others : (k : ℕ) → i ≤ k → among ns k ≡ false
   pub apart : AreApart ns
+  pub few : length ns ≤ i
 
 pub so_far_none : (p : ℕ → Bool) → SoFar [] p 0
-so_far_none p = record { members = λ k h. absurd (omega arith); others = λ k h. refl; apart = tt }
+so_far_none p = record { members = λ k h. absurd (omega arith); others = λ k h. refl; apart = tt; few = omega arith }
 
 pub so_far_push : (ns : List ℕ) (p : ℕ → Bool) (i : ℕ) → p i ≡ true → SoFar ns p i → SoFar (ns ++ i ∷ []) p (i + 1)
 so_far_push ns p i t s = record {
@@ -46,6 +48,7 @@ so_far_push ns p i t s = record {
   others = λ k h. let ne : i ≡ k → ⊥ = λ e. omega arith in let high : i ≤ k = omega arith in
       among_push ns i k ∙ ap (λ z. among ns k || z) (is_other i k ne) ∙ or_none (among ns k) ∙ s.others k high;
   apart = let here : i ≤ i = omega arith in apart_push ns i s.apart (s.others i here);
+  few = omega (arith, s.few, length_push ns i);
 }
   where
     or_true : (a : Bool) → (a || true) ≡ true
@@ -60,6 +63,7 @@ so_far_skip ns p i f s = record {
   ];
   others = λ k h. let high : i ≤ k = omega arith in s.others k high;
   apart = s.apart;
+  few = omega (arith, s.few);
 }
 
 pub so_far_lists : (ns : List ℕ) (p : ℕ → Bool) (i : ℕ) → ((k : ℕ) → i ≤ k → p k ≡ false) → SoFar ns p i → Lists ns p

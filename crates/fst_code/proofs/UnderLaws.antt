@@ -62,7 +62,7 @@ left_more c m d p ls ns used i h e b = record { extends = extends_both h.extends
         let less : length xs ≡ i = omega arith in
         let end : length xs + 0 ≡ length xs = omega arith in
         let same : used ≡ p (length xs) = sym (ap (λ z. z 0) e) ∙ ap (λ z. z 0) (h.marks xs less) ∙ outside_at xs p 0 ∙ ap p end in
-        (top m, subst (λ z. Binds d (top d) z (top m)) same b.binds, kept_binds_all b.extends (top m) xs p (top c) (h.binds xs less))
+        (top m, subst (λ z. Binds d (top d) z (top m)) same b.there, kept_binds_all b.extends (top m) xs p (top c) (h.binds xs less))
 
     fewer : (xs : List Binder) → length xs ≡ i + 1 → marked ns ≡ outside_all xs p
     fewer [] l = absurd (omega arith)
@@ -80,7 +80,7 @@ pub under_written : (c d b : Compiled) (ms m1 m2 ns : List Bool) (xs : List Bind
 under_written c d b ms m1 m2 ns xs e im lm w x on ln = record {
   extends = extends_both w.extends x.extends;
   behind = top d;
-  binds = binds_same b (top b) xs (marked m2) (free e) (top d) (λ k l. ap (λ z. z k) used ∙ ap (λ z. free e k || z) (within_below xs (marked ms) k l) ∙ or_none (free e k)) x.binds;
+  binds = binds_same b (top b) xs (marked m2) (free e) (top d) (λ k l. ap (λ z. z k) used ∙ ap (λ z. free e k || z) (within_below xs (marked ms) k l) ∙ or_none (free e k)) x.there;
   computes = λ b' n s r. kept x.extends (top d) e (within_all xs (marked ms)) (top c) (subst (λ z. Computes d (top d) e z (top c)) im (w.computes b' n s r));
   marks = on ∙ ap (outside_all xs) used ∙ outside_also xs (free e) (marked ms);
   deep = omega (arith, w.deep);

@@ -6,7 +6,7 @@ use Rattle.fst_terms.specs.InRange.{Bounds}
 use Rattle.fst_terms.specs.declared.binder.Binder.{Binder}
 use Rattle.fst_machine.specs.declared.code.Instr.{Instr}
 use Rattle.fst_machine.specs.declared.code.Instr.TheVariants as instr
-use Rattle.fst_machine.specs.declared.code.LambdaEntry.{LambdaEntry}
+use Rattle.fst_machine.specs.declared.entry.LambdaEntry.{LambdaEntry}
 use Rattle.fst_machine.specs.Free.{free, free_in, outside_all}
 use Rattle.fst_machine.specs.Code.{Compiled, At, Leads, Comes, Captures, Clears, Forgets, Lists, Binds, BindsAll, Computes, ComputesAll, also, within_all}
 use Rattle.fst_code.specs.declared.built.Built.{Built}
@@ -30,30 +30,34 @@ pub record Extends (c d : Compiled) : Type 0 where
   pub longer : top c ≤ top d
   pub down : GoesDown c → GoesDown d
 
--- an instruction was written
-pub record Pushes (c d : Compiled) (a : Instr) : Type 0 where
+-- code was written for which P holds, with the place where it begins and the place that comes behind it
+pub record Adds (P : Compiled → ℕ → ℕ → Type 0) (c d : Compiled) : Type 0 where
   pub extends : Extends c d
-  pub there : At d (top d) a (top c)
+  pub there : P d (top d) (top c)
+
+-- an instruction was written
+abbrev pub Pushes : Compiled → Compiled → Instr → Type 0
+Pushes c d a = Adds (λ e i j. At e i a j) c d
 
 -- what comes to a place was written
-pub record ComesTo (c d : Compiled) (j : ℕ) : Type 0 where
-  pub extends : Extends c d
-  pub comes : Comes d (top d) j
+abbrev pub ComesTo : Compiled → Compiled → ℕ → Type 0
+ComesTo c d j = Adds (λ e i h. Comes e i j) c d
 
 -- what makes a variable of the last value was written
-pub record Enters (c d : Compiled) (used : Bool) : Type 0 where
-  pub extends : Extends c d
-  pub binds : Binds d (top d) used (top c)
+abbrev pub Enters : Compiled → Compiled → Bool → Type 0
+Enters c d used = Adds (λ e i j. Binds e i used j) c d
+
+-- what makes variables of the last values was written
+abbrev pub EntersAll : Compiled → Compiled → List Binder → (ℕ → Bool) → Type 0
+EntersAll c d xs p = Adds (λ e i j. BindsAll e i xs p j) c d
 
 -- what puts variables on the stack was written
-pub record Loads (c d : Compiled) (ks : List ℕ) (p : ℕ → Bool) : Type 0 where
-  pub extends : Extends c d
-  pub captures : Captures d (top d) ks p (top c)
+abbrev pub Loads : Compiled → Compiled → List ℕ → (ℕ → Bool) → Type 0
+Loads c d ks p = Adds (λ e i j. Captures e i ks p j) c d
 
 -- what drops variables was written
-pub record Drops (c d : Compiled) (ks : List ℕ) : Type 0 where
-  pub extends : Extends c d
-  pub clears : Clears d (top d) ks (top c)
+abbrev pub Drops : Compiled → Compiled → List ℕ → Type 0
+Drops c d ks = Adds (λ e i j. Clears e i ks j) c d
 
 -- what forgets variables in front of place j was written, and begins at place i
 pub record Forgot (c d : Compiled) (i : ℕ) (q f p : ℕ → Bool) (j : ℕ) : Type 0 where
@@ -100,11 +104,6 @@ pub record Closes (c : Compiled) (ms : List Bool) (d : Compiled) (ns : List Bool
   pub leads : Leads d behind j
   pub marks : marked ns ≡ also used (marked ms)
   pub deep : length ns ≡ length ms
-
--- what makes variables of the last values was written
-pub record EntersAll (c d : Compiled) (xs : List Binder) (p : ℕ → Bool) : Type 0 where
-  pub extends : Extends c d
-  pub binds : BindsAll d (top d) xs p (top c)
 
 -- the code of a term under these binders was written, and what makes variables of the last values
 pub record WritesUnder (c : Compiled) (ms : List Bool) (d : Compiled) (ns : List Bool) (xs : List Binder) (e : CoreTree) : Type 0 where

@@ -1,6 +1,6 @@
-ghost use Rattle.std.specs.Prelude.{◌≡◌, ◌≤◌, ◌<◌, ℕ, List, OnOk, IfOk, Some, length, slice_get};
+ghost use Rattle.std.specs.Prelude.{◌≡◌, ◌≤◌, ◌<◌, ◌^◌, ℕ, List, OnOk, IfOk, Some, length, slice_get};
 ghost use Rattle.fst_types.specs.declared.family.Family.{Family};
-ghost use Rattle.fst_machine.specs.declared.code.LambdaEntry.{LambdaEntry};
+ghost use Rattle.fst_machine.specs.declared.entry.LambdaEntry.{LambdaEntry};
 ghost use Rattle.fst_code.specs.Marks.{marked};
 ghost use Rattle.fst_code.specs.Written.{Closes, Extends, Pushes, closing, compiled};
 
@@ -30,6 +30,7 @@ fn push_closing(out: &mut Built, is_task: bool, number: u32) -> Result<(), Alloc
 
 // An entry for the code that begins at the last place, and its number.
 fn add_entry(alloc: Global, out: &mut Built, captured: &[u32]) -> Result<u32, AllocError>
+    requires { length captured.now < 2 ^ 32 }
     ensures more { OnOk result ((fs : List Family) →
         Extends (compiled fs out.old) (compiled fs out.new)) }
     ensures same { OnOk result (out.new.code.items ≡ out.old.code.items) }

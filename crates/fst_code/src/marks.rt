@@ -1,4 +1,4 @@
-ghost use Rattle.std.specs.Prelude.{◌≡◌, ◌<◌, ◌+◌, ◌&&◌, ℕ, Bool, List, suc, not, IfOk, OnOk, length};
+ghost use Rattle.std.specs.Prelude.{◌≡◌, ◌<◌, ◌+◌, ◌^◌, ◌&&◌, ℕ, Bool, List, suc, not, IfOk, OnOk, length};
 ghost use Rattle.fst_terms.specs.declared.binder.Binder.{Binder};
 ghost use Rattle.fst_machine.specs.Free.{is};
 ghost use Rattle.fst_machine.specs.Code.{Lists, also, dropped, no_variables, within, within_all};
@@ -74,7 +74,8 @@ pub(crate) fn mark_all(later: &mut Vec<bool>, others: &[bool])
 
 /// The variables that are marked, in rising order.
 pub(crate) fn variables_in(alloc: Global, marks: &[bool]) -> Result<Vec<u32>, AllocError>
-    ensures { IfOk result (λ ks. Lists ks.items (marked marks.now)) }
+    ensures lists { IfOk result (λ ks. Lists ks.items (marked marks.now)) }
+    ensures few { IfOk result (λ ks. length ks.items < 2 ^ 32) }
 {
     if u32::MAX as usize <= marks.len() {
         return Err(AllocError);

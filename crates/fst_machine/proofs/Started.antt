@@ -8,7 +8,7 @@ use Rattle.fst_terms.specs.CoreTree.{CoreTree}
 use Rattle.fst_terms.specs.declared.core_module.Module.{Module}
 use Rattle.fst_terms.specs.declared.global.GlobalEntry.{GlobalEntry}
 use Rattle.fst_machine.specs.declared.code.Instr.{Instr}
-use Rattle.fst_machine.specs.declared.code.LambdaEntry.{LambdaEntry}
+use Rattle.fst_machine.specs.declared.entry.LambdaEntry.{LambdaEntry}
 use Rattle.fst_machine.specs.declared.request.Answer.{Answer}
 use Rattle.fst_machine.specs.Machine.{State, Pause, stuck, pause, after, begins}
 use Rattle.fst_machine.specs.Code.{Compiled}

@@ -9,7 +9,7 @@ use Rattle.fst_terms.specs.CoreTree.{CoreTree, local, global, int, bool, char, u
 use Rattle.fst_terms.specs.InRange.{maker_of, HasFields, terms_length}
 use Rattle.fst_machine.specs.declared.code.Instr.{Instr}
 use Rattle.fst_machine.specs.declared.code.Instr.TheVariants as instr
-use Rattle.fst_machine.specs.declared.code.LambdaEntry.{LambdaEntry}
+use Rattle.fst_machine.specs.declared.entry.LambdaEntry.{LambdaEntry}
 use Rattle.fst_machine.specs.Free.{is, free, free_in, free_below, outside, outside_all}
 use Rattle.fst_machine.specs.Machine.{in_either}
 

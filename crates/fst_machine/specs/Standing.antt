@@ -8,7 +8,7 @@ use Rattle.fst_value.specs.ValueTree.{ValueTree, ValueTrees}
 use Rattle.fst_machine.specs.declared.request.Answer.{Answer}
 use Rattle.fst_machine.specs.declared.code.Instr.{Instr}
 use Rattle.fst_machine.specs.declared.code.Instr.TheVariants as instr
-use Rattle.fst_machine.specs.declared.code.LambdaEntry.{LambdaEntry}
+use Rattle.fst_machine.specs.declared.entry.LambdaEntry.{LambdaEntry}
 use Rattle.fst_machine.specs.Free.{free, outside}
 use Rattle.fst_machine.specs.Values as value
 use Rattle.fst_machine.specs.Values.{Value, Values, Environment, lookup, count}

@@ -1,5 +1,6 @@
 ghost use Rattle.fst_machine.specs.Programs.{IsCodeOf};
 
+use crate::entry::LambdaEntry;
 use fst_terms::{Module, Op};
 use fst_types::{Name, Ty};
 use std::snapshot::Snapshot;
@@ -59,13 +60,6 @@ pub enum Instr {
     Drop,
     /// Go back with the last value to where the function was applied or the global used.
     Return,
-}
-
-/// The code of a function or of a task: where it starts, and the variables that it captures, in rising order.
-#[derive(Drop)]
-pub struct LambdaEntry {
-    pub start: u64,
-    pub captured: Vec<u32>,
 }
 
 /// The code of a module. Its greatest place is where the body of `main` begins.

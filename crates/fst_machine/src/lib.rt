@@ -2,9 +2,11 @@
 #![tactic(auto)]
 
 mod code;
+mod entry;
 mod law;
 mod request;
 
-pub use code::{Code, Instr, LambdaEntry};
+pub use code::{Code, Instr};
+pub use entry::LambdaEntry;
 pub use law::code_law;
 pub use request::{Answer, Request};

@@ -7,7 +7,7 @@ use Rattle.fst_value.specs.ValueTree.{ValueTree, int, bool, char, unit, pair, ma
 use Rattle.fst_value.specs.Parts.{listed, parts_of}
 use Rattle.fst_machine.specs.declared.code.Instr.{Instr}
 use Rattle.fst_machine.specs.declared.code.Instr.TheVariants as instr
-use Rattle.fst_machine.specs.declared.code.LambdaEntry.{LambdaEntry}
+use Rattle.fst_machine.specs.declared.entry.LambdaEntry.{LambdaEntry}
 use Rattle.fst_machine.specs.declared.request.Answer.TheVariants.{Go, Forked}
 use Rattle.fst_machine.specs.Code.{Compiled}
 use Rattle.fst_machine.specs.Spots.{begins_at, Slots, Call, Spot, called, captured_by, start_of, captured_count, collected, child_at, forked_spot, forks_at, moved_to, on_instr, spread, told, without_captured}

@@ -126,24 +126,12 @@ fn enter_arm(alloc: Global, places: &[u64], stack: &mut Stack) -> Result<Option<
 }
 
 /// How many values a function or a task captures.
-pub(crate) fn captured_count(code: &Code, lambda: u32) -> usize
+pub(crate) fn captured_count(code: &Code, lambda: u32) -> u32
     ensures { result ≡ captured_count (slice_get code.now.lambdas.items lambda) }
 {
     match entry_at(code, lambda) {
-        Some(entry) => entry.captured.len(),
+        Some(entry) => entry.captured.len() as u32,
         None => 0,
-    }
-}
-
-// The same in 32 bits, in which a function keeps it; for a greater number there is no room.
-fn kept_count(code: &Code, lambda: u32) -> Result<u32, AllocError>
-    ensures { IfOk result (λ n. n ≡ captured_count (slice_get code.now.lambdas.items lambda)) }
-{
-    let count = captured_count(code, lambda);
-    if count <= u32::MAX as usize {
-        Ok(count as u32)
-    } else {
-        Err(AllocError)
     }
 }
 
@@ -186,8 +174,10 @@ pub(crate) fn act(
         Instr::Split => to(behind, stack.split_pair(alloc)),
         Instr::Make(n, maker, count) => to(behind, stack.join_make(alloc, *n, *maker, *count)),
         Instr::Function(lambda) => {
-            let count = kept_count(code, *lambda)?;
-            to(behind, stack.join_function(alloc, *lambda, count))
+            to(
+                behind,
+                stack.join_function(alloc, *lambda, captured_count(code, *lambda)),
+            )
         }
         Instr::Operate(op) => to(behind, operate(alloc, *op, stack)),
         Instr::Not => to(behind, negate(alloc, stack)),

@@ -219,7 +219,7 @@ fn tell_instr(
             go_on_with(
                 running,
                 behind,
-                captured_count(code, *lambda),
+                captured_count(code, *lambda) as usize,
                 Value::unit(alloc)?,
             )
         }

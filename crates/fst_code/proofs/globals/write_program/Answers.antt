@@ -31,5 +31,5 @@ returns c =
     record {
       more = extends_both c.in_ok-starts.ensures.more to.extends;
       starts = kept_all to.extends gs c.in_ok-starts.starts.items c.in_ok-starts.ensures.starts;
-      main = (c.unwrap-start.result, ap (main_place gs) (sym c.deref.ensures.value) ∙ sym c.main_start.ensures ∙ c.unwrap-start.ensures, to.comes);
+      main = (c.unwrap-start.result, ap (main_place gs) (sym c.deref.ensures.value) ∙ sym c.main_start.ensures ∙ c.unwrap-start.ensures, to.there);
     }

@@ -5,8 +5,11 @@ use Rattle.fst_code.proofs.ListsLaws.{SoFar, so_far_lists, so_far_push, so_far_s
 use Rattle.fst_code.proofs.marks.variables_in.Goals as goal
 use Rattle.fst_code.proofs.marks.variables_in.Goals.{then-is_marked+in_ok-push, else-is_marked}
 
-pub returns : goal.returns
-returns c = so_far_lists c.loop-k.found.items (marked c.args.marks.now) c.loop-k.k (λ k h. let l : length c.args.marks.now ≤ k = omega arith in marked_beyond c.args.marks.now k l) c.loop-k.invariant
+pub returns-clause-lists : goal.returns-clause-lists
+returns-clause-lists c = so_far_lists c.loop-k.found.items (marked c.args.marks.now) c.loop-k.k (λ k h. let l : length c.args.marks.now ≤ k = omega arith in marked_beyond c.args.marks.now k l) c.loop-k.invariant
+
+pub returns-clause-few : goal.returns-clause-few
+returns-clause-few c = let n : length c.loop-k.found.items ≤ c.loop-k.k = c.loop-k.invariant.few in omega arith
 
 pub loop-k-preserved : goal.loop-k-preserved
 loop-k-preserved c =
