@@ -1,7 +1,7 @@
 -- What so many steps of a module come to on one worker is one thing.
 use Rattle.std.proofs.Common.{◌≡◌, ◌∙◌, inl, inr, ℕ, ◌<◌, List, map, length, Some, refl, sym, ap, subst, arith}
 use Rattle.std.proofs.lemmas.Option.{same_Some}
-use Rattle.fst_runs.proofs.LeastRuns.{least_runs}
+use Rattle.fst_runs.proofs.Laws.{least_runs}
 use Rattle.fst_types.specs.declared.family.Family.{Family}
 use Rattle.fst_terms.specs.CoreTree.{CoreTree}
 use Rattle.fst_terms.specs.declared.core_module.Module.{Module}

@@ -23,3 +23,7 @@ pub use Rattle.fst_machine.proofs.Started.{makers_apart}
 pub use Rattle.fst_machine.proofs.Conditions.{closed_in_range}
 -- Constructors whose names differ have no name twice.
 pub use Rattle.fst_machine.proofs.Conditions.{distinct_makers}
+-- A variable is itself, and nothing else.
+pub use Rattle.fst_machine.proofs.Slots.{is_itself, is_same}
+-- Outside some binders a variable has a number less by theirs.
+pub use Rattle.fst_machine.proofs.Moves.{outside_all_at}

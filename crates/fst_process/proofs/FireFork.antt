@@ -13,8 +13,7 @@ use Rattle.fst_runs.specs.Configs.{Path, Config, Task, child_path, new_task, pro
 use Rattle.fst_runs.specs.Events.{Write, Does, written, has_forked}
 use Rattle.fst_runs.specs.Names.{HasParents}
 use Rattle.fst_runs.specs.Wrong.{IsRight}
-use Rattle.fst_runs.proofs.Naming.{fork_free}
-use Rattle.fst_runs.proofs.Updates.{with_task, fork_puts, put_there, stays_there, stays_free}
+use Rattle.fst_runs.proofs.Laws.{fork_free, with_task, fork_puts, put_there, stays_there, stays_free}
 use Rattle.fst_process.specs.Kept.{Slot, Kept, is_live, without, settled}
 use Rattle.fst_process.specs.Reflects.{IsTask, Reflects}
 use Rattle.fst_process.specs.Firing.{IsPossible, Happens, Settles, CanGoOn, HasGoneOn}

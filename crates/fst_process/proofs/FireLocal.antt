@@ -8,7 +8,7 @@ use Rattle.fst_runs.specs.declared.event.CoreEvent.TheVariants.{Local}
 use Rattle.fst_runs.specs.Configs.{Path, Config, program}
 use Rattle.fst_runs.specs.Events.{Write, Does, written, moved}
 use Rattle.fst_runs.specs.Wrong.{IsRight}
-use Rattle.fst_runs.proofs.Updates.{local_puts, put_there}
+use Rattle.fst_runs.proofs.Laws.{local_puts, put_there}
 use Rattle.fst_process.specs.Kept.{Kept, without}
 use Rattle.fst_process.specs.Reflects.{Reflects}
 use Rattle.fst_process.specs.Firing.{IsPossible, Happens, CanGoOn, HasGoneOn}

@@ -14,8 +14,7 @@ use Rattle.fst_runs.specs.declared.event.CoreEvent.TheVariants.{New}
 use Rattle.fst_runs.specs.Configs.{Path, Config, channel_name, program}
 use Rattle.fst_runs.specs.Events.{Write, Does, written, has_made}
 use Rattle.fst_runs.specs.Wrong.{IsRight}
-use Rattle.fst_runs.proofs.Naming.{new_free}
-use Rattle.fst_runs.proofs.Updates.{with_channel, new_puts, put_there}
+use Rattle.fst_runs.proofs.Laws.{new_free, with_channel, new_puts, put_there}
 use Rattle.fst_process.specs.Kept.{Slot, Kept, is_live, without, opened, settled}
 use Rattle.fst_process.specs.Reflects.{IsTask, Reflects}
 use Rattle.fst_process.specs.Firing.{IsPossible, Happens, CanGoOn, HasGoneOn}

@@ -10,7 +10,7 @@ use Rattle.fst_vm.specs.TaskView.{TaskView}
 use Rattle.fst_vm.specs.Tasks.{HasNext, IsStart}
 use Rattle.fst_runs.specs.Configs.{main_path, new_task, started, program}
 use Rattle.fst_runs.specs.Wrong.{IsRight}
-use Rattle.fst_runs.proofs.NameLaws.{same_path-itself}
+use Rattle.fst_runs.proofs.Laws.{same_path-itself}
 use Rattle.fst_process.specs.declared.config.Config.{Config}
 use Rattle.fst_process.specs.Kept.{Kept, nothing, settled}
 use Rattle.fst_process.specs.KeptOf.{at_path, tasks_in, made_in, numbered, kept_of}

@@ -8,7 +8,7 @@ use Rattle.std.proofs.lemmas.Cmp.{nat_list_cmp_total}
 use Rattle.std.proofs.lemmas.List.Elements.{All-head, All-tail}
 use Rattle.fst_runs.specs.Configs.{Path}
 use Rattle.fst_runs.specs.Least.{IsBefore}
-use Rattle.fst_runs.proofs.NameLaws.{same_path-same}
+use Rattle.fst_runs.proofs.Laws.{same_path-same}
 use Rattle.fst_process.specs.KeptOf.{at_path}
 use Rattle.fst_process.proofs.Tables.{Key, at_same}
 

@@ -11,7 +11,7 @@ use Rattle.fst_runs.specs.declared.event.CoreEvent.TheVariants.{Meet}
 use Rattle.fst_runs.specs.Configs as runs
 use Rattle.fst_runs.specs.Configs.{Path, Config, Task, same_path, same_channel, other, program}
 use Rattle.fst_runs.specs.Events.{Write, written, meeting_stamp, extended, Does, has_met, passed as passed_entry}
-use Rattle.fst_runs.proofs.Naming.{asks_apart}
+use Rattle.fst_runs.proofs.Laws.{asks_apart}
 use Rattle.fst_process.specs.Kept.{Slot, Kept, end_of, put_at, without, changed, passed, settled}
 use Rattle.fst_process.specs.Reflects.{StampedTo, Reflects}
 use Rattle.fst_process.proofs.Places.{put_here, put_cases}

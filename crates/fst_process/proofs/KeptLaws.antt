@@ -17,7 +17,7 @@ use Rattle.fst_types.specs.declared.event.Entry.{Entry}
 use Rattle.fst_machine.specs.declared.request.Request.{Request}
 use Rattle.fst_machine.specs.declared.request.Request.TheVariants.{Step, New, Fork, Put, Get, Ended}
 use Rattle.fst_runs.specs.Configs.{Path, same_path, same_channel, channel_name}
-use Rattle.fst_runs.proofs.NameLaws.{same_path-same}
+use Rattle.fst_runs.proofs.Laws.{same_path-same}
 use Rattle.fst_process.specs.declared.kept.Slot as rust_slot
 use Rattle.fst_process.specs.declared.kept.Channel as rust_channel
 use Rattle.fst_process.specs.declared.config.Config.{Config}

@@ -11,7 +11,7 @@ use Rattle.fst_machine.specs.declared.code.Code.{Code}
 use Rattle.fst_runs.specs.Configs as runs
 use Rattle.fst_runs.specs.Configs.{Path, Config, same_channel, other, channel_name}
 use Rattle.fst_runs.specs.Events.{extended}
-use Rattle.fst_runs.proofs.NameLaws.{same_channel-same}
+use Rattle.fst_runs.proofs.Laws.{same_channel-same}
 use Rattle.fst_process.specs.Kept.{Slot, Channel, Kept, asker_at, asker, partner, end_of, moves_so, put_at, without, changed, passed}
 use Rattle.fst_process.specs.Reflects.{AreTask, AsksAt, StampedTo, Reflects, bare}
 use Rattle.fst_process.proofs.PathLaws.{one_of_both, apart_paths, apart_channels}

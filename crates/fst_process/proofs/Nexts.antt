@@ -8,7 +8,7 @@ use Rattle.fst_machine.specs.declared.request.Request.{Request}
 use Rattle.fst_machine.specs.declared.request.Request.TheVariants as request
 use Rattle.fst_machine.specs.declared.request.Answer.TheVariants.{Go, Made, Forked}
 use Rattle.fst_machine.specs.Machine.{Program, State, Pause, stuck, calls, uses, makes, forks, puts, gets, matches, ended, asked, after, child}
-use Rattle.fst_runs.proofs.Asked.{new_pause}
+use Rattle.fst_runs.proofs.Laws.{new_pause}
 use Rattle.fst_process.specs.Kept.{end_of}
 
 -- what asks for a step goes on

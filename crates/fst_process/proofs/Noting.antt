@@ -5,7 +5,7 @@ use Rattle.std.proofs.lemmas.Bool.{false≢true}
 use Rattle.fst_machine.specs.declared.request.Request.{Request}
 use Rattle.fst_machine.specs.declared.request.Request.TheVariants.{Step, New, Fork, Put, Get, Ended}
 use Rattle.fst_runs.specs.Configs.{Path, same_path}
-use Rattle.fst_runs.proofs.NameLaws.{same_path-same}
+use Rattle.fst_runs.proofs.Laws.{same_path-same}
 use Rattle.fst_process.specs.Kept.{Slot, Kept, put_at, able, unable, without, moves_alone, noted, settled_at}
 use Rattle.fst_process.specs.KeptOf.{Keys, Channels, kept_in, kept_besides}
 use Rattle.fst_process.proofs.KeptLaws.{noted_first}

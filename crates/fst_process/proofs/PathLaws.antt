@@ -7,7 +7,7 @@ use Rattle.fst_lts.specs.Histories.{opposite}
 use Rattle.fst_types.specs.declared.ends.ChannelName.{ChannelName}
 use Rattle.fst_types.specs.declared.ends.EndName.{EndName}
 use Rattle.fst_runs.specs.Configs.{Path, same_path, same_channel, other}
-use Rattle.fst_runs.proofs.NameLaws.{same_path-itself, same_channel-itself}
+use Rattle.fst_runs.proofs.Laws.{same_path-itself, same_channel-itself}
 
 -- paths that fail the test aren't one
 pub apart_paths : (p q : Path) → same_path p q ≡ false → p ≡ q → ⊥

@@ -3,7 +3,7 @@ use Rattle.std.proofs.Common.{◌≡◌, Bool, true, false, refl, ap}
 use Rattle.std.specs.Prelude.{if◌then◌else◌}
 use Rattle.fst_types.specs.declared.ends.ChannelName.{ChannelName}
 use Rattle.fst_runs.specs.Configs.{Path, same_path, same_channel}
-use Rattle.fst_runs.proofs.NameLaws.{same_path-itself, same_path-same, same_channel-itself, same_channel-same}
+use Rattle.fst_runs.proofs.Laws.{same_path-itself, same_path-same, same_channel-itself, same_channel-same}
 use Rattle.fst_process.specs.Kept.{put_at}
 
 -- what is put at a path is there

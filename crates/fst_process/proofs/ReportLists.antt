@@ -17,7 +17,7 @@ use Rattle.fst_types.specs.declared.ends.EndName.{EndName}
 use Rattle.fst_types.specs.declared.event.ChannelHistory.{ChannelHistory}
 use Rattle.fst_runs.specs.Configs.{Path}
 use Rattle.fst_runs.specs.Least.{IsBefore}
-use Rattle.fst_runs.proofs.NameLaws.{same_path-same, same_path-itself}
+use Rattle.fst_runs.proofs.Laws.{same_path-same, same_path-itself}
 use Rattle.fst_process.specs.declared.kept.Channel as rust_channel
 use Rattle.fst_process.specs.declared.kept.Slot as rust_slot
 use Rattle.fst_process.specs.declared.report.Waiting.{Waiting}

@@ -12,13 +12,12 @@ use Rattle.fst_runs.specs.Events.{Write, Does, Runs, IsLast, written}
 use Rattle.fst_runs.specs.Least.{TakesPart, IsLeast, RunsLeast}
 use Rattle.fst_runs.specs.Names.{HasMakers, HasParents}
 use Rattle.fst_runs.specs.Wrong.{IsRight}
-use Rattle.fst_runs.proofs.Naming.{named_start, named_after}
+use Rattle.fst_runs.proofs.Laws.{named_start, named_after, least_runs}
 use Rattle.fst_process.specs.declared.report.Report.{Report}
 use Rattle.fst_process.specs.declared.report.Outcome.{Outcome}
 use Rattle.fst_process.specs.declared.report.Outcome.TheVariants.{Done, OutOfSteps}
 use Rattle.fst_process.specs.Kept.{Kept}
 use Rattle.fst_process.specs.Reflects.{Reflects}
-use Rattle.fst_runs.proofs.LeastRuns.{least_runs}
 use Rattle.fst_process.specs.Firing.{IsPossible, Happens, CanStart, IsBegun}
 use Rattle.fst_process.specs.Nexts.{IsNext}
 use Rattle.fst_process.specs.Reports.{IsReport, IsConfig, IsReported, IsAnswer, IsAnswerFrom}

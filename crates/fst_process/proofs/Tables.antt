@@ -11,7 +11,7 @@ use Rattle.std.proofs.lemmas.Bool.Decides.{nat_tests}
 use Rattle.std.specs.declared.alloc.Global.{Global}
 use Rattle.std.specs.declared.vec.Vec.{Vec}
 use Rattle.fst_runs.specs.Configs.{Path, same_path}
-use Rattle.fst_runs.proofs.NameLaws.{same_path-same}
+use Rattle.fst_runs.proofs.Laws.{same_path-same}
 use Rattle.fst_process.specs.Kept.{put_at}
 use Rattle.fst_process.specs.KeptOf.{at_path}
 

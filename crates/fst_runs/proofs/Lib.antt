@@ -7,4 +7,5 @@ pub mod LeastRuns
 pub mod NameLaws
 pub mod Naming
 pub mod Owners
+pub mod RightLaws
 pub mod Updates

@@ -9,7 +9,7 @@ use Rattle.fst_lts.specs.Step.{terminated}
 use Rattle.fst_types.specs.declared.ends.EndName.{EndName}
 use Rattle.fst_runs.specs.Configs.{same_end}
 use Rattle.fst_runs.specs.Wrong.{once, IsUnspent}
-use Rattle.fst_runs.proofs.NameLaws.{same_end-itself, same_end-same}
+use Rattle.fst_runs.proofs.Laws.{same_end-itself, same_end-same}
 use Rattle.fst_cell.specs.End.{EndView, end_name, residual_of}
 use Rattle.fst_safety.specs.Fitting.{Residuals}
 use Rattle.fst_safety.specs.Threads.{count_of, IsOpen, AreResiduals}

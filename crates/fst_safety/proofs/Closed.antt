@@ -2,8 +2,7 @@
 use Rattle.std.proofs.Common.{◌≡◌, ℕ, suc, ◌+◌, List, [], ◌∷◌, length, Bool, true, false, ◌||◌, Some, None, refl, sym, ap, ◌∙◌, arith}
 use Rattle.std.specs.Prelude.{slice_get}
 use Rattle.std.proofs.lemmas.Bool.{or_from}
-use Rattle.fst_machine.proofs.Moves.{outside_all_at}
-use Rattle.fst_machine.proofs.Slots.{is_same}
+use Rattle.fst_machine.proofs.Laws.{outside_all_at, is_same}
 use Rattle.fst_base.proofs.Options.{none_some}
 use Rattle.fst_types.specs.Tree as type
 use Rattle.fst_types.specs.Tree.{Tree, plain, arrow, named}

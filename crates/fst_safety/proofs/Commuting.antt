@@ -9,7 +9,7 @@ use Rattle.fst_runs.specs.declared.event.CoreEvent.{CoreEvent}
 use Rattle.fst_runs.specs.declared.event.CoreEvent.TheVariants.{Local, New, Fork, Meet}
 use Rattle.fst_runs.specs.Configs.{Path, Task, Channel, Config}
 use Rattle.fst_runs.specs.Events.{Write, written, task_at, channel_at, Does}
-use Rattle.fst_runs.proofs.NameLaws.{same_path-itself, same_channel-itself}
+use Rattle.fst_runs.proofs.Laws.{same_path-itself, same_channel-itself}
 use Rattle.fst_safety.specs.Diamond.{Commutes}
 use Rattle.fst_safety.proofs.Askers.{IsRegular}
 use Rattle.fst_safety.proofs.Places.{apart_tasks, apart_channels}

@@ -1,6 +1,6 @@
 -- Environments that hold just the variables of a set.
 use Rattle.std.proofs.Common.{◌≡◌, ℕ, zero, suc, List, [], ◌∷◌, length, Bool, true, false, refl, sym, ap, ◌∙◌, arith}
-use Rattle.fst_machine.proofs.Moves.{outside_all_at}
+use Rattle.fst_machine.proofs.Laws.{outside_all_at}
 use Rattle.fst_terms.specs.declared.binder.Binder.{Binder}
 use Rattle.fst_machine.specs.Free.{outside, outside_all}
 use Rattle.fst_machine.specs.Values as value

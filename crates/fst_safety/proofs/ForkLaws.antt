@@ -12,10 +12,7 @@ use Rattle.fst_runs.specs.declared.event.CoreEvent.TheVariants.{Fork}
 use Rattle.fst_runs.specs.Configs.{Path, Task, Config, same_path, residual_in, child_path, new_task}
 use Rattle.fst_runs.specs.Events.{Write, written, Does, has_forked}
 use Rattle.fst_runs.specs.Wrong.{held_state, amount, IsUnspent, IsOwned}
-use Rattle.fst_runs.proofs.Asked.{fork_pause}
-use Rattle.fst_runs.proofs.NameLaws.{same_path-itself, same_path-same}
-use Rattle.fst_runs.proofs.Naming.{no_parent, fork_free, named_fork}
-use Rattle.fst_runs.proofs.Updates.{put, with_task, in_put, put_there, stays_there, stays_free, fork_puts}
+use Rattle.fst_runs.proofs.Laws.{fork_pause, same_path-itself, same_path-same, no_parent, fork_free, named_fork, put, with_task, in_put, put_there, stays_there, stays_free, fork_puts}
 use Rattle.fst_safety.specs.Fitting.{Residuals, IsTyped}
 use Rattle.fst_safety.specs.WellTyped.{IsWellTyped, program_in}
 use Rattle.fst_safety.specs.Pauses.{Reached}

@@ -23,11 +23,7 @@ use Rattle.fst_runs.specs.declared.event.CoreEvent.TheVariants.{Meet}
 use Rattle.fst_runs.specs.Events.{Write, written, extended, meeting_stamp, Does, has_met, passed}
 use Rattle.fst_runs.specs.Names.{HasMakers, HasParents}
 use Rattle.fst_runs.specs.Wrong.{held_state, held_pause, amount, IsUnspent}
-use Rattle.fst_runs.proofs.Asked.{put_pause, get_pause}
-use Rattle.fst_runs.proofs.NameLaws.{same_path-same, same_path-apart, same_channel-itself, same_channel-same}
-use Rattle.fst_runs.proofs.Naming.{asks_apart, named_meet}
-use Rattle.fst_runs.proofs.Owners.{owner, own_once}
-use Rattle.fst_runs.proofs.Updates.{put, with_task, with_channel, in_put, stays_apart, same_amount, meet_puts}
+use Rattle.fst_runs.proofs.Laws.{put_pause, get_pause, same_path-same, same_path-apart, same_channel-itself, same_channel-same, asks_apart, named_meet, owner, own_once, put, with_task, with_channel, in_put, stays_apart, same_amount, meet_puts}
 use Rattle.fst_safety.specs.Fitting.{Residuals, IsTyped}
 use Rattle.fst_safety.specs.WellTyped.{IsWellTyped, program_in}
 use Rattle.fst_safety.specs.Pauses.{Allowed, Reached, Goes}

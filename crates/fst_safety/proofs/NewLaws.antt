@@ -20,11 +20,7 @@ use Rattle.fst_runs.specs.declared.event.CoreEvent.TheVariants.{New}
 use Rattle.fst_runs.specs.Configs.{Path, Task, Channel, Config, same_path, same_channel, residual_in, channel_residual, channel_name}
 use Rattle.fst_runs.specs.Events.{Write, written, Does, has_made}
 use Rattle.fst_runs.specs.Wrong.{held, held_frames, held_state, amount, IsUnspent, IsOwned}
-use Rattle.fst_runs.proofs.Asked.{new_pause}
-use Rattle.fst_runs.proofs.NameLaws.{same_path-itself, same_path-same, same_channel-itself, same_channel-same}
-use Rattle.fst_runs.proofs.Naming.{new_free, named_new}
-use Rattle.fst_runs.proofs.Owners.{own_once}
-use Rattle.fst_runs.proofs.Updates.{put, with_task, with_channel, in_put, same_amount, new_puts}
+use Rattle.fst_runs.proofs.Laws.{new_pause, same_path-itself, same_path-same, same_channel-itself, same_channel-same, new_free, named_new, own_once, put, with_task, with_channel, in_put, same_amount, new_puts}
 use Rattle.fst_safety.specs.Running.{Equals}
 use Rattle.fst_safety.specs.Fitting.{Residuals, Fits, IsTyped}
 use Rattle.fst_safety.specs.WellTyped.{IsWellTyped, program_in}

@@ -13,7 +13,7 @@ use Rattle.fst_runs.specs.declared.event.CoreEvent.{CoreEvent}
 use Rattle.fst_runs.specs.declared.event.CoreEvent.TheVariants.{Local, New, Fork, Meet}
 use Rattle.fst_runs.specs.Configs.{Config, same_path, same_channel, other, child_path, channel_name, new_task}
 use Rattle.fst_runs.specs.Events.{Write, task_at, channel_at, no_channel, moved, meeting_stamp, extended, Does}
-use Rattle.fst_runs.proofs.NameLaws.{same_path-itself, same_path-same, same_channel-itself, same_channel-same}
+use Rattle.fst_runs.proofs.Laws.{same_path-itself, same_path-same, same_channel-itself, same_channel-same}
 use Rattle.fst_safety.proofs.Askers.{same_asks}
 
 -- an event has one write

@@ -7,7 +7,7 @@ use Rattle.fst_types.specs.declared.ends.EndName.{EndName}
 use Rattle.fst_machine.specs.Values as value
 use Rattle.fst_runs.specs.Configs.{same_side, same_end, other}
 use Rattle.fst_runs.specs.Wrong.{once, held}
-use Rattle.fst_runs.proofs.NameLaws.{same_side-same, same_end-same}
+use Rattle.fst_runs.proofs.Laws.{same_side-same, same_end-same}
 
 -- an end of the channel is the end or the other one
 pub or_other : (z x : EndName) → z.channel ≡ x.channel → (z ≡ x) ⊎ (z ≡ other x)

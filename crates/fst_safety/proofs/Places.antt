@@ -13,9 +13,7 @@ use Rattle.fst_runs.specs.declared.event.CoreEvent.{CoreEvent}
 use Rattle.fst_runs.specs.declared.event.CoreEvent.TheVariants.{Local, New, Fork, Meet}
 use Rattle.fst_runs.specs.Configs.{Path, Task, Channel, Config, same_path, same_channel, other, child_path, channel_name}
 use Rattle.fst_runs.specs.Events.{Write, task_at, channel_at, Asks, Does}
-use Rattle.fst_runs.proofs.Laws.{right_one}
-use Rattle.fst_runs.proofs.NameLaws.{same_path-same, same_channel-same}
-use Rattle.fst_runs.proofs.Naming.{one_parent, new_free, fork_free}
+use Rattle.fst_runs.proofs.Laws.{right_one, same_path-same, same_channel-same, one_parent, new_free, fork_free}
 use Rattle.fst_safety.proofs.Askers.{IsRegular, same_asks, Asker, same_asker}
 use Rattle.fst_safety.proofs.Owners.{or_other}
 

@@ -14,8 +14,7 @@ use Rattle.fst_runs.specs.declared.event.CoreEvent.{CoreEvent}
 use Rattle.fst_runs.specs.declared.event.CoreEvent.TheVariants.{Local, New, Fork, Meet}
 use Rattle.fst_runs.specs.Configs.{Task, Config, same_path, residual_in, main_path, new_task, started}
 use Rattle.fst_runs.specs.Events.{Write, written, Does, Runs}
-use Rattle.fst_runs.proofs.Naming.{named_start}
-use Rattle.fst_runs.proofs.Updates.{in_test}
+use Rattle.fst_runs.proofs.Laws.{named_start, in_test}
 use Rattle.fst_safety.specs.Running.{HasType}
 use Rattle.fst_safety.specs.Fitting.{Fits, IsTyped}
 use Rattle.fst_safety.specs.WellTyped.{IsWellTyped, program_in}

@@ -1,6 +1,6 @@
 -- A typed state comes to an allowed request, and holds the same unspent ends there.
 use Rattle.std.proofs.Common.{◌≡◌, ℕ, zero, suc, ◌+◌, List, [], ◌∷◌, false, not, Some, refl, sym, ◌∙◌, subst, arith}
-use Rattle.fst_machine.proofs.Slots.{is_itself}
+use Rattle.fst_machine.proofs.Laws.{is_itself}
 use Rattle.fst_types.specs.Tree as type
 use Rattle.fst_types.specs.Tree.{Tree, plain, arrow, named}
 use Rattle.fst_types.specs.declared.base.Base.TheVariants.{Bool as Truth}
@@ -13,7 +13,7 @@ use Rattle.fst_machine.specs.Values as value
 use Rattle.fst_machine.specs.Values.{Value, no_values, Environment, lookup, enter, keep, turned_onto, bool_in, operated, sent}
 use Rattle.fst_machine.specs.Machine.{State, Frame, at_function, at_argument, at_first, at_second, at_field, at_let, at_split, at_if, at_case, at_left, at_right, at_not, at_value, at_target, at_receive, at_select, at_match, at_seq, Pause, calls, puts, gets, matches, eval, eval_all, eval_arm, resume, pause, on, on_function, on_pair, on_made, on_end, chosen, name_of, in_either}
 use Rattle.fst_runs.specs.Wrong.{held, held_all, held_env, held_frames, held_state}
-use Rattle.fst_runs.proofs.HeldEnds.{held_turned}
+use Rattle.fst_runs.proofs.Laws.{held_turned}
 use Rattle.fst_safety.specs.Fitting.{Residuals, Fits, Exactly, Takes, IsTyped}
 use Rattle.fst_safety.specs.WellTyped.{IsWellTyped}
 use Rattle.fst_safety.specs.Pauses.{Reached}

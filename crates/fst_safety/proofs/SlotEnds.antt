@@ -17,7 +17,7 @@ use Rattle.fst_machine.specs.Values.{Value, Values, Environment, none, hole, slo
 use Rattle.fst_vm.specs.Moves.{ends_in_slot, ends_in_slots}
 use Rattle.fst_runs.specs.Configs.{same_end}
 use Rattle.fst_runs.specs.Wrong.{once, held, held_all, held_env}
-use Rattle.fst_runs.proofs.NameLaws.{same_end-itself, same_end-same}
+use Rattle.fst_runs.proofs.Laws.{same_end-itself, same_end-same}
 
 either : {A B C : Type 0} → A ⊎ B → (A → C) → (B → C) → C
 either (inl a) f g = f a

@@ -19,9 +19,7 @@ use Rattle.fst_runs.specs.declared.event.CoreEvent.TheVariants.{Local}
 use Rattle.fst_runs.specs.Configs.{Path, Task, Config, same_path, residual_in, main_path}
 use Rattle.fst_runs.specs.Events.{Write, written, moved, Does}
 use Rattle.fst_runs.specs.Wrong.{held_state, held_pause, IsUnspent, IsAllowed, IsRight}
-use Rattle.fst_runs.proofs.NameLaws.{same_path-same}
-use Rattle.fst_runs.proofs.Naming.{Grows, makers_with, parents_with}
-use Rattle.fst_runs.proofs.Updates.{with_task, in_put, same_amount, local_puts}
+use Rattle.fst_runs.proofs.Laws.{same_path-same, Grows, makers_with, parents_with, with_task, in_put, same_amount, local_puts}
 use Rattle.fst_safety.specs.Fitting.{Residuals, Fits, IsTyped}
 use Rattle.fst_safety.specs.WellTyped.{IsWellTyped, program_in}
 use Rattle.fst_safety.specs.Pauses.{Allowed, Goes}

@@ -10,7 +10,7 @@ use Rattle.fst_machine.specs.Values as value
 use Rattle.fst_machine.specs.Values.{Value, Values, no_values, Environment, none, hole, slot}
 use Rattle.fst_machine.specs.Machine.{State, Frame, at_function, at_argument, at_first, at_second, at_field, at_let, at_split, at_if, at_case, at_left, at_right, at_not, at_value, at_target, at_receive, at_select, at_match, at_seq}
 use Rattle.fst_runs.specs.Wrong.{held, held_all, held_env, held_frame, held_frames, held_state}
-use Rattle.fst_runs.proofs.Owners.{own_once}
+use Rattle.fst_runs.proofs.Laws.{own_once}
 use Rattle.fst_safety.specs.Running.{Equals}
 use Rattle.fst_safety.specs.Fitting.{Residuals, Fits, FitAll, FitsEnv, IsEnv, FitBefore, Takes, IsTyped}
 use Rattle.fst_safety.proofs.Equals.{equals_itself, equals_through, session_formed}

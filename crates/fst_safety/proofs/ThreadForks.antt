@@ -17,7 +17,7 @@ use Rattle.fst_machine.specs.Machine.{State, pause, child, or_lost, answered}
 use Rattle.fst_machine.specs.Machine as machine
 use Rattle.fst_runs.specs.Configs.{Path, Task, child_path, new_task}
 use Rattle.fst_runs.specs.Wrong.{held_state, IsUnspent}
-use Rattle.fst_runs.proofs.Naming.{no_parent}
+use Rattle.fst_runs.proofs.Laws.{no_parent}
 use Rattle.fst_cell.specs.End.{EndView, end_name, residual_of}
 use Rattle.fst_safety.specs.declared.tasks.LogEntry.{LogEntry}
 use Rattle.fst_safety.specs.Running.{Equals}

@@ -17,9 +17,7 @@ use Rattle.fst_machine.specs.Machine.{State, Frame, makes, giving, ends, pause, 
 use Rattle.fst_machine.specs.Machine as machine
 use Rattle.fst_runs.specs.Configs.{same_end}
 use Rattle.fst_runs.specs.Wrong.{held, held_frames, held_state, IsUnspent}
-use Rattle.fst_runs.proofs.Asked.{new_pause}
-use Rattle.fst_runs.proofs.NameLaws.{same_end-same}
-use Rattle.fst_runs.proofs.Owners.{own_once}
+use Rattle.fst_runs.proofs.Laws.{new_pause, same_end-same, own_once}
 use Rattle.fst_safety.specs.Running.{Equals}
 use Rattle.fst_safety.specs.Fitting.{Residuals, Fits, IsTyped}
 use Rattle.fst_safety.specs.WellTyped.{IsWellTyped, program_in}

@@ -17,7 +17,7 @@ use Rattle.fst_machine.specs.Machine.{State, ends, or_lost, answered}
 use Rattle.fst_machine.specs.Machine as machine
 use Rattle.fst_runs.specs.Configs.{same_end, channel_name}
 use Rattle.fst_runs.specs.Wrong.{held, held_state, IsUnspent}
-use Rattle.fst_runs.proofs.NameLaws.{same_end-itself, same_end-same}
+use Rattle.fst_runs.proofs.Laws.{same_end-itself, same_end-same}
 use Rattle.fst_cell.specs.End.{EndView, end_name, residual_of}
 use Rattle.fst_cell.specs.Residuals.{residual}
 use Rattle.fst_cell.specs.Rule.{fresh}

@@ -21,9 +21,7 @@ use Rattle.fst_machine.specs.Machine.{Program, State, Pause, stuck, calls, uses,
 use Rattle.fst_machine.specs.Machine as machine
 use Rattle.fst_runs.specs.Configs.{same_end}
 use Rattle.fst_runs.specs.Wrong.{held_env, held_frames, held_state, held_pause, IsUnspent}
-use Rattle.fst_runs.proofs.Asked.{put_pause, get_pause}
-use Rattle.fst_runs.proofs.NameLaws.{same_end-itself, same_end-same}
-use Rattle.fst_runs.proofs.Owners.{own_once}
+use Rattle.fst_runs.proofs.Laws.{put_pause, get_pause, same_end-itself, same_end-same, own_once}
 use Rattle.fst_safety.specs.Running.{Equals}
 use Rattle.fst_safety.specs.Fitting.{Residuals, IsTyped}
 use Rattle.fst_safety.specs.WellTyped.{IsWellTyped, program_in}

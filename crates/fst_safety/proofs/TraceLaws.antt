@@ -13,7 +13,7 @@ use Rattle.fst_base.specs.Agreement.{residual}
 use Rattle.fst_types.specs.declared.event.Entry.{Entry}
 use Rattle.fst_runs.specs.Configs.{Channel, channel_residual}
 use Rattle.fst_runs.specs.Events.{extended}
-use Rattle.fst_runs.proofs.HistoryLaws.{residual-opposite}
+use Rattle.fst_runs.proofs.Laws.{residual-opposite}
 use Rattle.fst_safety.specs.Sound.{IsTrace}
 use Rattle.fst_lts.proofs.DualKinds.{dual_session}
 

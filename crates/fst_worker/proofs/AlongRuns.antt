@@ -10,7 +10,7 @@ use Rattle.fst_runs.specs.declared.event.CoreEvent.{CoreEvent}
 use Rattle.fst_runs.specs.Configs.{Config, program}
 use Rattle.fst_runs.specs.Events.{Write, written, Does, Runs, IsLast}
 use Rattle.fst_runs.specs.Wrong.{IsRight}
-use Rattle.fst_runs.proofs.LeastRuns.{least_runs}
+use Rattle.fst_runs.proofs.Laws.{least_runs}
 use Rattle.fst_process.specs.declared.report.Outcome.{Outcome}
 use Rattle.fst_process.specs.declared.report.Outcome.TheVariants.{Done, OutOfSteps}
 use Rattle.fst_process.specs.declared.report.Report.{Report}

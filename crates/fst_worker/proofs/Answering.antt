@@ -15,7 +15,7 @@ use Rattle.fst_machine.specs.declared.request.Answer.TheVariants.{Sent}
 use Rattle.fst_machine.specs.Machine.{State, stuck, pause, after, answered, or_lost}
 use Rattle.fst_vm.specs.Tasks.{IsIn}
 use Rattle.fst_runs.specs.Configs.{Task}
-use Rattle.fst_runs.proofs.Asked.{put_pause}
+use Rattle.fst_runs.proofs.Laws.{put_pause}
 use Rattle.fst_cell.specs.End.{EndView, end_name}
 use Rattle.fst_safety.specs.Logs.{Birth}
 use Rattle.fst_safety.specs.Threads.{Thread, FitsIn}

@@ -18,7 +18,7 @@ use Rattle.fst_machine.specs.declared.request.Answer.TheVariants.{Go, Made, Fork
 use Rattle.fst_machine.specs.Machine.{State, pause, request, answered, or_lost, child}
 use Rattle.fst_runs.specs.Configs.{Path, Task, Config, same_path, child_path, channel_name, new_task}
 use Rattle.fst_runs.specs.Events.{moved, has_made, has_forked}
-use Rattle.fst_runs.proofs.Updates.{put, with_task, with_channel}
+use Rattle.fst_runs.proofs.Laws.{put, with_task, with_channel}
 use Rattle.fst_process.specs.Resuming.{channel_in}
 use Rattle.fst_safety.specs.declared.tasks.LogEntry.{LogEntry}
 use Rattle.fst_safety.specs.WellTyped.{program_in}

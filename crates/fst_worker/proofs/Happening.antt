@@ -16,8 +16,7 @@ use Rattle.fst_runs.specs.declared.event.CoreEvent.TheVariants.{Local, New, Fork
 use Rattle.fst_runs.specs.Configs.{Path, Task, Channel, Config, same_path, other, channel_name, channel_residual, residual_in}
 use Rattle.fst_runs.specs.Events.{Write, written, Does, meeting_stamp, extended, has_met, passed}
 use Rattle.fst_runs.specs.Wrong.{IsRight, IsAllowed}
-use Rattle.fst_runs.proofs.NameLaws.{same_path-apart, same_channel-itself}
-use Rattle.fst_runs.proofs.Updates.{put, with_task, with_channel, local_puts, new_puts, fork_puts, meet_puts}
+use Rattle.fst_runs.proofs.Laws.{same_path-apart, same_channel-itself, put, with_task, with_channel, local_puts, new_puts, fork_puts, meet_puts}
 use Rattle.fst_cell.specs.Residuals.{sends}
 use Rattle.fst_process.specs.Resuming.{channel_in}
 use Rattle.fst_safety.specs.WellTyped.{program_in}

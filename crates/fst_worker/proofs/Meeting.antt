@@ -18,7 +18,7 @@ use Rattle.fst_machine.specs.declared.request.Answer.TheVariants.{Sent, Got}
 use Rattle.fst_machine.specs.Machine.{State, request, answered, or_lost}
 use Rattle.fst_runs.specs.Configs.{Path, Task, Channel, same_path, other, channel_residual}
 use Rattle.fst_runs.specs.Events.{meeting_stamp, extended, has_met, passed}
-use Rattle.fst_runs.proofs.Updates.{put, with_task, with_channel}
+use Rattle.fst_runs.proofs.Laws.{put, with_task, with_channel}
 use Rattle.fst_cell.specs.Residuals.{residual, sends}
 use Rattle.fst_cell.proofs.Laws.{stamped_push}
 use Rattle.fst_safety.specs.WellTyped.{program_in}

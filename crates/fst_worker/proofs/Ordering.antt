@@ -10,7 +10,7 @@ use Rattle.fst_derivations.specs.Rules.{Surroundings}
 use Rattle.fst_types.specs.declared.event.ChannelHistory.{ChannelHistory}
 use Rattle.fst_runs.specs.Configs.{Path, same_path, same_channel}
 use Rattle.fst_runs.specs.Wrong.{once}
-use Rattle.fst_runs.proofs.NameLaws.{same_path-itself, same_path-same}
+use Rattle.fst_runs.proofs.Laws.{same_path-itself, same_path-same}
 use Rattle.fst_process.specs.Kept.{put_at}
 use Rattle.fst_process.specs.Resuming.{made_by, AreNumbered}
 use Rattle.fst_process.proofs.Laws.{put_cases}

@@ -8,8 +8,7 @@ use Rattle.fst_lts.specs.Histories.{over}
 use Rattle.fst_types.specs.declared.ends.ChannelName.{ChannelName}
 use Rattle.fst_types.specs.declared.event.ChannelHistory.{ChannelHistory}
 use Rattle.fst_runs.specs.Configs.{Path, Task, Channel, same_path, same_channel}
-use Rattle.fst_runs.proofs.NameLaws.{same_path-same, same_channel-same}
-use Rattle.fst_runs.proofs.Updates.{put}
+use Rattle.fst_runs.proofs.Laws.{same_path-same, same_channel-same, put}
 use Rattle.fst_process.specs.Resuming.{channel_in, named_so}
 use Rattle.fst_safety.specs.Threads.{Thread}
 use Rattle.fst_worker.specs.Configs.{task_of}

@@ -17,7 +17,7 @@ use Rattle.fst_machine.specs.declared.code.Code.{Code}
 use Rattle.fst_runs.specs.Configs.{Path, Task, same_path, program}
 use Rattle.fst_runs.specs.Names.{HasMakers}
 use Rattle.fst_runs.specs.Wrong.{once, IsRight}
-use Rattle.fst_runs.proofs.NameLaws.{same_path-same}
+use Rattle.fst_runs.proofs.Laws.{same_path-same}
 use Rattle.fst_process.specs.Reflects.{StampedTo}
 use Rattle.fst_process.specs.Resuming.{Tasks, task_in, AreApart, made_by, AreThere, AreAll, TasksWithin, ChannelsWithin}
 use Rattle.fst_cell.specs.Residuals.{residual, sends}

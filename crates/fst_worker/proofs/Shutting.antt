@@ -16,7 +16,7 @@ use Rattle.fst_types.specs.declared.event.ChannelHistory.{ChannelHistory}
 use Rattle.fst_types.specs.declared.event.Entry.{Entry}
 use Rattle.fst_runs.specs.Configs.{Task, same_channel}
 use Rattle.fst_runs.specs.Wrong.{once}
-use Rattle.fst_runs.proofs.NameLaws.{same_channel-itself}
+use Rattle.fst_runs.proofs.Laws.{same_channel-itself}
 use Rattle.fst_cell.specs.declared.content.Half.{Half}
 use Rattle.fst_cell.specs.declared.content.Offer.{Offer}
 use Rattle.fst_cell.specs.Close.{Trails}

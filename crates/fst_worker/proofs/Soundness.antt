@@ -20,7 +20,7 @@ use Rattle.fst_types.specs.declared.event.Event.{Event}
 use Rattle.fst_runs.specs.Configs.{Path, Task, Channel, Config, same_path, same_channel, same_end, channel_residual, residual_in, child_path, main_path}
 use Rattle.fst_runs.specs.Names.{HasMakers, HasParents}
 use Rattle.fst_runs.specs.Wrong.{once, held_state, amount, IsUnspent, IsOwned}
-use Rattle.fst_runs.proofs.NameLaws.{same_path-itself}
+use Rattle.fst_runs.proofs.Laws.{same_path-itself}
 use Rattle.fst_process.specs.Resuming.{channel_in}
 use Rattle.fst_cell.specs.End.{EndView, end_name, residual_of}
 use Rattle.fst_safety.specs.Running.{Equals}

@@ -13,7 +13,7 @@ use Rattle.fst_types.specs.declared.ends.ChannelName.{ChannelName}
 use Rattle.fst_types.specs.declared.ends.EndName.{EndName}
 use Rattle.fst_runs.specs.Configs.{Path, same_path, same_channel, same_side, same_end}
 use Rattle.fst_runs.specs.Wrong.{once}
-use Rattle.fst_runs.proofs.NameLaws.{same_path-itself, same_path-same, same_channel-itself, same_channel-same, same_end-itself, same_end-same}
+use Rattle.fst_runs.proofs.Laws.{same_path-itself, same_path-same, same_channel-itself, same_channel-same, same_end-itself, same_end-same}
 use Rattle.fst_safety.specs.Turns.{on_side}
 
 -- ---- a test that counts
