@@ -66,7 +66,8 @@ taken false b false o e = e
 -- ---- one name after the other
 
 -- before the first
-pub none_met : (wanted : List (List ℕ)) (entries : Entries) → ArePlaces wanted entries → IsLeft wanted [] (λ x. is_some (found entries x))
+pub none_met : (wanted : List (List ℕ)) (entries : Entries) → ArePlaces wanted entries → IsLeft wanted []
+    (λ x. is_some (found entries x))
 none_met wanted entries places = record {
   distinct = IsDistinct-from_apart bytes_eq [] (λ i j d lt at. absurd (omega (arith, at)));
   among = λ x h. absurd (cc h);
@@ -88,7 +89,8 @@ one_met wanted met l left next t at after =
     }
 
 -- one that isn't left
-not_left : (wanted labels : List (List ℕ)) (i : ℕ) (l : List ℕ) (left : List ℕ → Bool) → IsLeft wanted (take i labels) left → i < length labels → get_or labels i l ≡ l →
+not_left : (wanted labels : List (List ℕ)) (i : ℕ) (l : List ℕ) (left : List ℕ → Bool) → IsLeft wanted (take i labels) left →
+    i < length labels → get_or labels i l ≡ l →
     left l ≡ false → AreEachOnce wanted labels → ⊥
 not_left wanted labels i l left t lt at none each =
     let met : List (List ℕ) = take i labels in
@@ -115,28 +117,35 @@ taken_out true o = refl
 taken_out false o = refl
 
 -- an arm more, whose label is taken out of the table
-pub arm_met : (wanted : List (List ℕ)) (bs : List Arm) (i : ℕ) (b : Arm) (old new : Entries) → IsLeft wanted (take i (map (λ a. a.label) bs)) (λ x. is_some (found old x)) →
-    i < length bs → b ≡ get_or bs i b → is_some (found old b.label) ≡ true → ((x : List ℕ) → found new x ≡ (if bytes_eq x b.label then None else found old x)) →
+pub arm_met : (wanted : List (List ℕ)) (bs : List Arm) (i : ℕ) (b : Arm) (old new : Entries) →
+    IsLeft wanted (take i (map (λ a. a.label) bs)) (λ x. is_some (found old x)) →
+    i < length bs → b ≡ get_or bs i b → is_some (found old b.label) ≡ true →
+    ((x : List ℕ) → found new x ≡ (if bytes_eq x b.label then None else found old x)) →
     IsLeft wanted (take (i + 1) (map (λ a. a.label) bs)) (λ x. is_some (found new x))
 arm_met wanted bs i b old new t lt at there after =
     let labels : List (List ℕ) = map (λ a. a.label) bs in
     let place = label_at bs i b lt at in
-    let whole : take (i + 1) labels ≡ take i labels ++ b.label ∷ [] = take_more labels i b.label place.0 ∙ ap (λ y. take i labels ++ y ∷ []) place.1 in
+    let whole : take (i + 1) labels ≡ take i labels ++ b.label ∷ [] = take_more labels i b.label place.0 ∙ ap
+    (λ y. take i labels ++ y ∷ []) place.1 in
     subst (λ met. IsLeft wanted met (λ x. is_some (found new x))) (sym whole)
     (one_met wanted (take i labels) b.label (λ x. is_some (found old x)) (λ x. is_some (found new x)) t there
     (λ x. ap is_some (after x) ∙ taken_out (bytes_eq x b.label) (found old x)))
 
 -- an arm whose label isn't in the table
-pub arm_refused : (wanted : List (List ℕ)) (bs : List Arm) (i : ℕ) (b : Arm) (old : Entries) → IsLeft wanted (take i (map (λ a. a.label) bs)) (λ x. is_some (found old x)) →
-    i < length bs → b ≡ get_or bs i b → is_some (found old b.label) ≡ false → AreEachOnce wanted (arm_labels (core_arms_of bs)) → ⊥
+pub arm_refused : (wanted : List (List ℕ)) (bs : List Arm) (i : ℕ) (b : Arm) (old : Entries) →
+    IsLeft wanted (take i (map (λ a. a.label) bs)) (λ x. is_some (found old x)) →
+    i < length bs → b ≡ get_or bs i b → is_some (found old b.label) ≡ false → AreEachOnce wanted (arm_labels (core_arms_of bs)) →
+    ⊥
 arm_refused wanted bs i b old t lt at none each =
     let place = label_at bs i b lt at in
-    not_left wanted (map (λ a. a.label) bs) i b.label (λ x. is_some (found old x)) t place.0 place.1 none (subst (AreEachOnce wanted) (labels_are bs) each)
+    not_left wanted (map (λ a. a.label) bs) i b.label
+    (λ x. is_some (found old x)) t place.0 place.1 none (subst (AreEachOnce wanted) (labels_are bs) each)
 
 -- ---- after the last
 
 -- none is left
-all_met : (wanted labels : List (List ℕ)) (entries : Entries) → IsLeft wanted labels (λ x. is_some (found entries x)) → length entries ≡ 0 → AreEachOnce wanted labels
+all_met : (wanted labels : List (List ℕ)) (entries : Entries) → IsLeft wanted labels (λ x. is_some (found entries x)) →
+    length entries ≡ 0 → AreEachOnce wanted labels
 all_met wanted labels [] t e = record {
   distinct = t.distinct;
   same = λ x. (
@@ -147,17 +156,20 @@ all_met wanted labels [] t e = record {
 all_met wanted labels (e ∷ entries) t none = absurd (omega (arith, none))
 
 -- one is left
-some_left : (wanted labels : List (List ℕ)) (entries : Entries) → IsLeft wanted labels (λ x. is_some (found entries x)) → AreEachOnce wanted labels → length entries ≡ 0
+some_left : (wanted labels : List (List ℕ)) (entries : Entries) → IsLeft wanted labels (λ x. is_some (found entries x)) →
+    AreEachOnce wanted labels → length entries ≡ 0
 some_left wanted labels [] t each = refl
 some_left wanted labels (e ∷ entries) t each =
     let x : List ℕ = e.0.items in
-    let there : is_some (found (e ∷ entries) x) ≡ true = ap (λ c. is_some (cond c (Some e.1) (found entries x))) ((bytes_eq-Decides x x).1 refl) in
+    let there : is_some (found (e ∷ entries) x) ≡ true = ap
+    (λ c. is_some (cond c (Some e.1) (found entries x))) ((bytes_eq-Decides x x).1 refl) in
     let here = both (has wanted x) (has labels x) (sym (t.unmet x) ∙ there) in
     let met = contained labels x ((each.same x).0 (contains wanted x here.0)) in
     absurd (cc (sym met ∙ here.1))
 
 -- the arms are each met once exactly where none is left
-pub arms_met : (wanted : List (List ℕ)) (bs : List Arm) (i : ℕ) (entries : Entries) → IsLeft wanted (take i (map (λ a. a.label) bs)) (λ x. is_some (found entries x)) →
+pub arms_met : (wanted : List (List ℕ)) (bs : List Arm) (i : ℕ) (entries : Entries) →
+    IsLeft wanted (take i (map (λ a. a.label) bs)) (λ x. is_some (found entries x)) →
     length bs ≤ i → (length entries ≡ 0) ↔ AreEachOnce wanted (arm_labels (core_arms_of bs))
 arms_met wanted bs i entries t past =
     let labels : List (List ℕ) = map (λ a. a.label) bs in
@@ -170,9 +182,11 @@ arms_met wanted bs i entries t past =
 -- ---- numbers
 
 -- a label that isn't in the table of the wanted names
-pub arm_unknown : (wanted : List (List ℕ)) (bs : List Arm) (i : ℕ) (b : Arm) (entries : Entries) → ArePlaces wanted entries → i < length bs → b ≡ get_or bs i b →
+pub arm_unknown : (wanted : List (List ℕ)) (bs : List Arm) (i : ℕ) (b : Arm) (entries : Entries) → ArePlaces wanted entries →
+    i < length bs → b ≡ get_or bs i b →
     found entries b.label ≡ None → AreEachOnce wanted (arm_labels (core_arms_of bs)) → ⊥
 arm_unknown wanted bs i b entries places lt at none each =
     let place = label_at bs i b lt at in
-    let among = contained wanted b.label (((subst (AreEachOnce wanted) (labels_are bs) each).same b.label).1 (i, place.0, place.1)) in
+    let among = contained wanted b.label (((subst (AreEachOnce wanted) (labels_are bs) each).same b.label).1
+    (i, place.0, place.1)) in
     absurd (cc (sym among ∙ sym (is_placed wanted b.label) ∙ ap is_some (sym (places b.label) ∙ none)))

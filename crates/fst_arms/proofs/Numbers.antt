@@ -14,20 +14,25 @@ use Rattle.fst_arms.specs.Arms.{AreMakerNumbers}
 pub record AreNumbered (makers : List Maker) (bs : List Arm) (i : ℕ) (numbers : List ℕ) : Type 0 where
   pub as_many : length numbers ≡ i
   pub within : (k : ℕ) → k < i → get_or numbers k 0 < length makers
-  pub named : (k : ℕ) → k < i → (b : Arm) → slice_get bs k ≡ Some b → maker_named b.label makers ≡ slice_get makers (get_or numbers k 0)
+  pub named : (k : ℕ) → k < i → (b : Arm) → slice_get bs k ≡ Some b →
+      maker_named b.label makers ≡ slice_get makers (get_or numbers k 0)
 
 -- one more
-pub one_numbered : (makers : List Maker) (bs : List Arm) (i : ℕ) (numbers : List ℕ) (b : Arm) (n : ℕ) → AreNumbered makers bs i numbers → b ≡ get_or bs i b →
+pub one_numbered : (makers : List Maker) (bs : List Arm) (i : ℕ) (numbers : List ℕ) (b : Arm) (n : ℕ) →
+    AreNumbered makers bs i numbers → b ≡ get_or bs i b →
     n < length makers → maker_named b.label makers ≡ slice_get makers n → AreNumbered makers bs (i + 1) (numbers ++ n ∷ [])
 one_numbered makers bs i numbers b n t at lt is =
-    let last : get_or (numbers ++ n ∷ []) i 0 ≡ n = ap (λ k. get_or (numbers ++ n ∷ []) k 0) (sym t.as_many) ∙ get_or-append_seam numbers n [] 0 in
-    let front : (k : ℕ) → k < i → get_or numbers k 0 ≡ get_or (numbers ++ n ∷ []) k 0 = λ k less. sym (get_or_append_left numbers (n ∷ []) 0 k (omega (arith, less, t.as_many))) in
+    let last : get_or (numbers ++ n ∷ []) i 0 ≡ n = ap (λ k. get_or (numbers ++ n ∷ []) k 0) (sym t.as_many)
+    ∙ get_or-append_seam numbers n [] 0 in
+    let front : (k : ℕ) → k < i → get_or numbers k 0 ≡ get_or (numbers ++ n ∷ []) k 0 =
+    λ k less. sym (get_or_append_left numbers (n ∷ []) 0 k (omega (arith, less, t.as_many))) in
     record {
       as_many = omega (arith, length-append numbers (n ∷ []), t.as_many);
       within = below_more (λ k. get_or (numbers ++ n ∷ []) k 0 < length makers) i
           (λ k less. subst (λ m. m < length makers) (front k less) (t.within k less))
           (subst (λ m. m < length makers) (sym last) lt);
-      named = below_more (λ k. (a : Arm) → slice_get bs k ≡ Some a → maker_named a.label makers ≡ slice_get makers (get_or (numbers ++ n ∷ []) k 0)) i
+      named = below_more (λ k. (a : Arm) → slice_get bs k ≡ Some a →
+          maker_named a.label makers ≡ slice_get makers (get_or (numbers ++ n ∷ []) k 0)) i
           (λ k less a there. t.named k less a there ∙ ap (slice_get makers) (front k less))
           (λ a there.
           let same : a ≡ b = sym (at ∙ get_or_from_slice_get bs i a b there) in
@@ -35,7 +40,8 @@ one_numbered makers bs i numbers b n t at lt is =
     }
 
 -- all of them
-pub all_numbered : (makers : List Maker) (bs : List Arm) (i : ℕ) (numbers : List ℕ) → AreNumbered makers bs i numbers → i ≡ length bs → AreMakerNumbers makers bs numbers
+pub all_numbered : (makers : List Maker) (bs : List Arm) (i : ℕ) (numbers : List ℕ) → AreNumbered makers bs i numbers →
+    i ≡ length bs → AreMakerNumbers makers bs numbers
 all_numbered makers bs i numbers t e = record {
   as_many = t.as_many ∙ e;
   within = λ k lt. t.within k (omega (arith, lt, e));

@@ -17,7 +17,8 @@ use Rattle.fst_arms.specs.Places.{Entries, is, found, ArePlaces}
 -- what is found of a name once one has w for its place, which a test for that one finds
 module _ (eq : Vec ℕ Global → Vec ℕ Global → Bool) (eq_says : (a b : Vec ℕ Global) → eq a b ≡ bytes_eq a.items b.items)
     (test : Vec ℕ Global → Bool) (l : List ℕ) (says : (k : Vec ℕ Global) → test k ≡ bytes_eq l k.items) where
-  pub found_after : (old new : Entries) (w : Option ℕ) → lookup test new ≡ w → KeepsOthers eq test old new → (x : List ℕ) → found new x ≡ (if bytes_eq x l then w else found old x)
+  pub found_after : (old new : Entries) (w : Option ℕ) → lookup test new ≡ w → KeepsOthers eq test old new →
+      (x : List ℕ) → found new x ≡ (if bytes_eq x l then w else found old x)
   unfolding KeepsOthers
   found_after old new w at_test others x = by (bytes_eq x l) refl
     where
@@ -64,11 +65,13 @@ is_placed [] x = refl
 is_placed (y ∷ names) x = placed_next (bytes_eq x y) (place_of names x) ∙ ap (λ b. bytes_eq x y || b) (is_placed names x)
 
 -- the constructor at the place of a name is the first with that name
-named_at : (ms : List Maker) (x : List ℕ) (n : ℕ) → place_of (map (λ o. o.name) ms) x ≡ Some n → (n < length ms) × (maker_named x ms ≡ slice_get ms n)
+named_at : (ms : List Maker) (x : List ℕ) (n : ℕ) → place_of (map (λ o. o.name) ms) x ≡ Some n → (n < length ms) ×
+    (maker_named x ms ≡ slice_get ms n)
 named_at [] x n h = absurd (cc h)
 named_at (m ∷ ms) x n h = by (bytes_eq x m.name) (place_of (map (λ o. o.name) ms) x) n h (named_at ms x)
   where
-    by : (c : Bool) (o : Option ℕ) (j : ℕ) → (if c then Some 0 else option_map suc o) ≡ Some j → ((i : ℕ) → o ≡ Some i → (i < length ms) × (maker_named x ms ≡ slice_get ms i)) →
+    by : (c : Bool) (o : Option ℕ) (j : ℕ) → (if c then Some 0 else option_map suc o) ≡ Some j →
+        ((i : ℕ) → o ≡ Some i → (i < length ms) × (maker_named x ms ≡ slice_get ms i)) →
         (j < suc (length ms)) × ((if c then Some m else maker_named x ms) ≡ slice_get (m ∷ ms) j)
     by true o zero e rest = (omega arith, refl)
     by true o (suc j) e rest = absurd (cc e)
@@ -77,15 +80,18 @@ named_at (m ∷ ms) x n h = by (bytes_eq x m.name) (place_of (map (λ o. o.name)
     by false (Some i) (suc j) e rest = let same : i ≡ j = cc e in let r = rest j (ap Some same) in (omega (arith, r.0), r.1)
 
 -- so it is at the place that the table of their names has
-pub maker_found : (ms : List Maker) (entries : Entries) (x : List ℕ) (n : ℕ) → ArePlaces (map (λ o. o.name) ms) entries → found entries x ≡ Some n → (n < length ms) × (maker_named x ms ≡ slice_get ms n)
+pub maker_found : (ms : List Maker) (entries : Entries) (x : List ℕ) (n : ℕ) → ArePlaces (map (λ o. o.name) ms) entries →
+    found entries x ≡ Some n → (n < length ms) × (maker_named x ms ≡ slice_get ms n)
 maker_found ms entries x n places at = named_at ms x n (sym (places x) ∙ at)
 
 -- each label of an offered choice is an offer
-pub offered_at : (labels : List Label) (names : List (List ℕ)) (n : ℕ) (d : Label) → labels ≡ map Offer names → n < length labels → (l : List ℕ) × (get_or labels n d ≡ Offer l)
+pub offered_at : (labels : List Label) (names : List (List ℕ)) (n : ℕ) (d : Label) → labels ≡ map Offer names →
+    n < length labels → (l : List ℕ) × (get_or labels n d ≡ Offer l)
 offered_at [] names n d e lt = absurd (omega (arith, lt))
 offered_at (b ∷ labels) [] n d e lt = absurd (cc e)
 offered_at (b ∷ labels) (l ∷ names) zero d e lt = (l, cc)
-offered_at (b ∷ labels) (l ∷ names) (suc n) d e lt = let rest : labels ≡ map Offer names = cc e in offered_at labels names n d rest (omega (arith, lt))
+offered_at (b ∷ labels) (l ∷ names) (suc n) d e lt = let rest : labels ≡ map Offer names = cc e in
+    offered_at labels names n d rest (omega (arith, lt))
 
 -- whose names they determine
 pub same_names : (xs ys : List (List ℕ)) → map Offer xs ≡ map Offer ys → xs ≡ ys

@@ -21,4 +21,5 @@ pub record AreEachOnce (wanted found : List (List ℕ)) : Type 0 where
 pub record AreMakerNumbers (makers : List Maker) (arms : List Arm) (numbers : List ℕ) : Type 0 where
   pub as_many : length numbers ≡ length arms
   pub within : (k : ℕ) → k < length arms → slice_index numbers k < length makers
-  pub named : (k : ℕ) (b : Arm) → slice_get arms k ≡ Some b → maker_named b.label makers ≡ slice_get makers (slice_index numbers k)
+  pub named : (k : ℕ) (b : Arm) → slice_get arms k ≡ Some b →
+      maker_named b.label makers ≡ slice_get makers (slice_index numbers k)

@@ -37,7 +37,8 @@ pub fn maker_numbers(
 
 /// Whether these are the labels of an offered choice, and the labels of the arms are theirs, each once.
 pub fn are_labels(alloc: Global, labels: &[Label], arms: &[Arm]) -> Result<bool, AllocError>
-    ensures each_once { IfOk result (λ are. (names : List (List ℕ)) → labels.now ≡ map Label.Offer names →
+    ensures each_once { IfOk result (λ are. (names : List (List ℕ)) →
+        labels.now ≡ map Label.Offer names →
         (IsTrue are ↔ AreEachOnce names (arm_labels (core_arms_of arms.now)))) }
     ensures offered { IfOk result (λ are. IsTrue are →
         (names : List (List ℕ)) × (labels.now ≡ map Label.Offer names)) }

@@ -15,7 +15,8 @@ pub(crate) type Places = IndexMap<Vec<u8>, usize>;
 // Gives a name this place, whether it had another one or none.
 fn put(alloc: Global, places: &mut Places, name: &Name, n: usize) -> Result<(), AllocError>
     ensures { OnOk result ((x : List ℕ) →
-        found places.new.entries x ≡ (if bytes_eq x name.now then Some n else found places.old.entries x)) }
+        found places.new.entries x ≡ (if bytes_eq x name.now then Some n else found
+        places.old.entries x)) }
 {
     let key = Vec::from_slice(alloc, name.as_slice())?;
     places.insert(key, n)?;

@@ -3,7 +3,8 @@ use Rattle.std.proofs.Common.{◌≡◌, ℕ, zero, suc, ◌<◌, List, [], ◌�
 use Rattle.std.specs.Prelude.{Contains, slice_get}
 
 -- what stands in a list with one more at its end
-pub get-push : {A : Type 0} (E : List A) (n e : A) (j : ℕ) → slice_get (E ++ n ∷ []) j ≡ Some e → (slice_get E j ≡ Some e) ⊎ ((j ≡ length E) × (n ≡ e))
+pub get-push : {A : Type 0} (E : List A) (n e : A) (j : ℕ) → slice_get (E ++ n ∷ []) j ≡ Some e → (slice_get E j ≡ Some e) ⊎
+    ((j ≡ length E) × (n ≡ e))
 get-push [] n e zero h = inr (refl, (let f : n ≡ e = cc in f))
 get-push [] n e (suc j) h = cc
 get-push (x ∷ E) n e zero h = inl h

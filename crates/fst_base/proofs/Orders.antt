@@ -34,7 +34,8 @@ less-append [] [] x y len l = cc
 less-append [] (b ∷ t) x y len l = absurd (omega arith)
 less-append (a ∷ s) [] x y len l = absurd (omega arith)
 less-append (a ∷ s) (b ∷ t) x y len l =
-    (elim (nat_cmp a b) as (λ o. ordering_then o (slice_cmp nat_cmp s t) ≡ Less → ordering_then o (slice_cmp nat_cmp (s ++ x) (t ++ y)) ≡ Less) [
+    (elim (nat_cmp a b) as (λ o. ordering_then o (slice_cmp nat_cmp s t) ≡ Less →
+    ordering_then o (slice_cmp nat_cmp (s ++ x) (t ++ y)) ≡ Less) [
       | Less ↦ λ l. refl
       | Equal ↦ λ l. less-append s t x y (omega arith) l
       | Greater ↦ λ l. cc
@@ -51,7 +52,8 @@ before-snoc s t a b (inr p) =
 
 less-last : (s : List ℕ) (a b : ℕ) → nat_cmp a b ≡ Less → slice_cmp nat_cmp (s ++ a ∷ []) (s ++ b ∷ []) ≡ Less
 less-last [] a b l = rw l refl
-less-last (x ∷ s) a b l = ap (λ o. ordering_then o (slice_cmp nat_cmp (s ++ a ∷ []) (s ++ b ∷ []))) (tied_itself nat_cmp_total x) ∙ less-last s a b l
+less-last (x ∷ s) a b l = ap (λ o. ordering_then o (slice_cmp nat_cmp (s ++ a ∷ []) (s ++ b ∷ []))) (tied_itself nat_cmp_total x)
+    ∙ less-last s a b l
 
 -- a lesser number
 pub less_number : (a b : ℕ) → a < b → nat_cmp a b ≡ Less

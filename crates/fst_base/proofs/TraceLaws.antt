@@ -14,7 +14,8 @@ module _ {T U A : Type 0} (f : T → A → Option T) (g : U → A → Option U) 
   traces_after n w (Some x) (Some y) h b = h x y b
 
   -- what agrees to a depth performs the same traces up to it
-  traces-from_agree : (n : ℕ) (w : List A) → length w ≤ n → (x : T) (y : U) → AgreeTo f g n x y → (Performs f x w ↔ Performs g y w)
+  traces-from_agree : (n : ℕ) (w : List A) → length w ≤ n → (x : T) (y : U) → AgreeTo f g n x y →
+      (Performs f x w ↔ Performs g y w)
   traces-from_agree n [] le x y h = (λ i. i, λ i. i)
   traces-from_agree zero (a ∷ w) le x y h = absurd (omega arith)
   traces-from_agree (suc n) (a ∷ w) le x y h =
@@ -23,7 +24,8 @@ module _ {T U A : Type 0} (f : T → A → Option T) (g : U → A → Option U) 
 
   -- the same after one label, from the traces
   agree_after : (n : ℕ) (o : Option T) (p : Option U) → ((x : T) (y : U) → HaveSameTracesTo f g n x y → AgreeTo f g n x y) →
-      ((w : List A) → length w ≤ n → (IsSome (option_and_then (λ y. residual f y w) o) ↔ IsSome (option_and_then (λ y. residual g y w) p))) → BothOrNeither (AgreeTo f g n) o p
+      ((w : List A) → length w ≤ n → (IsSome (option_and_then (λ y. residual f y w) o) ↔ IsSome
+      (option_and_then (λ y. residual g y w) p))) → BothOrNeither (AgreeTo f g n) o p
   agree_after n None None h b = tt
   agree_after n None (Some y) h b = absurd (cc ((b [] (omega arith)).1 refl))
   agree_after n (Some x) None h b = absurd (cc ((b [] (omega arith)).0 refl))

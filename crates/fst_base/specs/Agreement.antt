@@ -27,9 +27,11 @@ abbrev pub Agree : {T U A : Type 0} → (T → A → Option T) → (U → A → 
 Agree f g x y = (n : ℕ) → AgreeTo f g n x y
 
 -- the two perform the same traces of at most n labels
-abbrev pub HaveSameTracesTo : {T U A : Type 0} → (T → A → Option T) → (U → A → Option U) → ℕ → T → U → Type 0
+abbrev pub HaveSameTracesTo : {T U A : Type 0} → (T → A → Option T) →
+    (U → A → Option U) → ℕ → T → U → Type 0
 HaveSameTracesTo {A = A} f g n x y = (w : List A) → length w ≤ n → (Performs f x w ↔ Performs g y w)
 
 -- the two perform the same traces
-abbrev pub HaveSameTraces : {T U A : Type 0} → (T → A → Option T) → (U → A → Option U) → T → U → Type 0
+abbrev pub HaveSameTraces : {T U A : Type 0} → (T → A → Option T) →
+    (U → A → Option U) → T → U → Type 0
 HaveSameTraces {A = A} f g x y = (w : List A) → Performs f x w ↔ Performs g y w

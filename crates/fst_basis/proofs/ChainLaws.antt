@@ -16,6 +16,10 @@ as_many rows marks basis t w (r ∷ rules) [] h = absurd h
 as_many rows marks basis t w (r ∷ rules) (c ∷ cs) h = let e = as_many rows marks basis t w rules cs h.1 in omega arith
 
 -- a chain joins the rule's word to what w becomes, where this is x, exactly where it leads to x
-pub joined_told : (rows : Productions) (marks : List Bool) (basis : List Pair) (t w : List ℕ) (r : Rule) (c : Chain) (x : List ℕ) → step rows w r.letter ≡ Some x →
+pub joined_told : (rows : Productions) (marks : List Bool) (basis : List Pair) (t w : List ℕ) (r : Rule) (c : Chain)
+    (x : List ℕ) → step rows w r.letter ≡ Some x →
     (chained marks basis c.steps.items (r.word ++ t) ≡ Some x) ↔ IsJoined rows marks basis t w r c
-joined_told rows marks basis t w r c x e = ((λ h. (x, e, h)), (λ h. let same : h.0 ≡ x = (let f = sym h.1 ∙ e in cc) in rw same at h.2))
+joined_told rows marks basis t w r c x e = (
+  (λ h. (x, e, h)),
+  (λ h. let same : h.0 ≡ x = (let f = sym h.1 ∙ e in cc) in rw same at h.2),
+)

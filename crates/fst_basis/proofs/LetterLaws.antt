@@ -64,7 +64,8 @@ first_has l ls =
 later_have : (l r : Rule) (ls rs : List Rule) → AreOrdered (l ∷ ls) → AreOrdered (r ∷ rs) → l.letter ≡ r.letter → (a : ℕ) →
     IsSome (rule_of (l ∷ ls) a) ↔ IsSome (rule_of (r ∷ rs) a) → IsSome (rule_of ls a) ↔ IsSome (rule_of rs a)
 later_have l r ls rs o q letter a =
-    (elim (l.letter == a) as (λ b. (l.letter == a) ≡ b → IsSome (cond b (Some l.word) (rule_of ls a)) ↔ IsSome (rule_of (r ∷ rs) a) →
+    (elim (l.letter == a) as (λ b. (l.letter == a) ≡ b →
+    IsSome (cond b (Some l.word) (rule_of ls a)) ↔ IsSome (rule_of (r ∷ rs) a) →
     IsSome (rule_of ls a) ↔ IsSome (rule_of rs a)) [
       | true ↦ λ e h.
           let is = same_number l.letter a e in
@@ -76,7 +77,8 @@ later_have l r ls rs o q letter a =
           rw other at h
     ]) refl
 
-pub have_same : (ls rs : List Rule) → AreOrdered ls → AreOrdered rs → ((a : ℕ) → IsSome (rule_of ls a) ↔ IsSome (rule_of rs a)) → same_letters ls rs ≡ true
+pub have_same : (ls rs : List Rule) → AreOrdered ls → AreOrdered rs →
+    ((a : ℕ) → IsSome (rule_of ls a) ↔ IsSome (rule_of rs a)) → same_letters ls rs ≡ true
 have_same [] [] o q h = refl
 have_same [] (r ∷ rs) o q h = absurd (let f : false ≡ true = (h r.letter).1 (first_has r rs) in cc)
 have_same (l ∷ ls) [] o q h = absurd (let f : false ≡ true = (h l.letter).0 (first_has l ls) in cc)
@@ -91,10 +93,15 @@ have_same (l ∷ ls) (r ∷ rs) o q h =
 -- a word moves by a letter exactly where its first row has a rule for it
 moves : (rows : Productions) (w : List ℕ) (a : ℕ) → IsSome (step rows w a) ↔ IsSome (rule_of (first_row rows w) a)
 moves rows [] a = (λ x. x, λ x. x)
-moves rows (n ∷ w) a = (unmapped_there (λ v. v ++ w) (rule_of (row_of rows n) a), mapped_there (λ v. v ++ w) (rule_of (row_of rows n) a))
+moves rows (n ∷ w) a = (
+  unmapped_there (λ v. v ++ w) (rule_of (row_of rows n) a),
+  mapped_there
+      (λ v. v ++ w) (rule_of (row_of rows n) a),
+)
 
 -- two words are a pair exactly where their first rows have the same letters
-pub pair_told : (rows : Productions) (b : Pair) → b.left ≢ [] → b.right ≢ [] → AreOrdered (first_row rows b.left) → AreOrdered (first_row rows b.right) →
+pub pair_told : (rows : Productions) (b : Pair) → b.left ≢ [] → b.right ≢ [] → AreOrdered (first_row rows b.left) →
+    AreOrdered (first_row rows b.right) →
     (same_letters (first_row rows b.left) (first_row rows b.right) ≡ true) ↔ IsPair rows b
 pair_told rows b left right o q = (
   (λ e. record {

@@ -3,3 +3,4 @@ pub mod Joining
 pub mod LetterLaws
 pub mod MarkLaws
 pub mod ChainLaws
+pub mod Laws

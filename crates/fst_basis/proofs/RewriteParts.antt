@@ -43,7 +43,8 @@ some_chosen false x y h = cc
 
 exchanged : (at : ℕ) (x y u v : List ℕ) → replaced at x y u ≡ Some v → AreExchanged x y u v
 exchanged at x y u v h =
-    let c = some_chosen (nat_le at (length u) && starts_with nat_eq (drop at u) x) (take at u ++ (y ++ drop (length x) (drop at u))) v h in
+    let c = some_chosen (nat_le at (length u) && starts_with nat_eq (drop at u) x)
+    (take at u ++ (y ++ drop (length x) (drop at u))) v h in
     let b = and_parts (nat_le at (length u)) (starts_with nat_eq (drop at u) x) c.0 in
     let s = (starts_is Decides-eqb (drop at u) x (starts_with nat_eq (drop at u) x) refl).0 b.1 in
     record {
@@ -58,16 +59,20 @@ parted_at : (u : List ℕ) (at : ℕ) → at < length u →
     (u ≡ take at u ++ (slice_index_or u at 0 ∷ drop (suc at) u)) × (take (suc at) u ≡ take at u ++ (slice_index_or u at 0 ∷ []))
 parted_at [] at l = absurd (omega arith)
 parted_at (x ∷ u) zero l = (refl, refl)
-parted_at (x ∷ u) (suc n) l = let h = parted_at u n (omega arith) in (ap (λ (z : List ℕ). x ∷ z) h.0, ap (λ (z : List ℕ). x ∷ z) h.1)
+parted_at (x ∷ u) (suc n) l = let h = parted_at u n (omega arith) in
+    (ap (λ (z : List ℕ). x ∷ z) h.0, ap (λ (z : List ℕ). x ∷ z) h.1)
 
-pub rewritten_makes : (marks : List Bool) (basis : List Pair) (r : Rewrite) (u v : List ℕ) → rewritten marks basis r u ≡ Some v → Makes marks basis r u v
+pub rewritten_makes : (marks : List Bool) (basis : List Pair) (r : Rewrite) (u v : List ℕ) → rewritten marks basis r u ≡ Some v →
+    Makes marks basis r u v
 rewritten_makes marks basis (Forth at j) u v h =
-    (elim (slice_get basis j) as (λ o. slice_get basis j ≡ o → option_and_then (λ b. replaced at b.left b.right u) o ≡ Some v → Makes marks basis (Forth at j) u v) [
+    (elim (slice_get basis j) as (λ o. slice_get basis j ≡ o → option_and_then (λ b. replaced at b.left b.right u) o ≡ Some v →
+    Makes marks basis (Forth at j) u v) [
       | None ↦ λ e h. cc
       | Some b ↦ λ e h. (b, e, exchanged at b.left b.right u v h)
     ]) refl h
 rewritten_makes marks basis (Back at j) u v h =
-    (elim (slice_get basis j) as (λ o. slice_get basis j ≡ o → option_and_then (λ b. replaced at b.right b.left u) o ≡ Some v → Makes marks basis (Back at j) u v) [
+    (elim (slice_get basis j) as (λ o. slice_get basis j ≡ o → option_and_then (λ b. replaced at b.right b.left u) o ≡ Some v →
+    Makes marks basis (Back at j) u v) [
       | None ↦ λ e h. cc
       | Some b ↦ λ e h. (b, e, exchanged at b.right b.left u v h)
     ]) refl h

@@ -20,12 +20,18 @@ is_marked_at marks w at = nat_lt at (length w) && is_marked marks (slice_index_o
 
 -- the word after a rewrite, if it can be made
 abbrev pub rewritten : List Bool → List Pair → Rewrite → List ℕ → Option (List ℕ)
-rewritten marks basis (Forth at pair) w = option_and_then (λ b. replaced at b.left b.right w) (slice_get basis pair)
-rewritten marks basis (Back at pair) w = option_and_then (λ b. replaced at b.right b.left w) (slice_get basis pair)
-rewritten marks basis (Cut at tail) w = if is_marked_at marks w at && bytes_eq (drop (at + 1) w) tail then Some (take (at + 1) w) else None
-rewritten marks basis (Grow at tail) w = if is_marked_at marks w at && length w == at + 1 then Some (w ++ tail) else None
+rewritten marks basis (Forth at pair) w = option_and_then
+    (λ b. replaced at b.left b.right w) (slice_get basis pair)
+rewritten marks basis (Back at pair) w = option_and_then
+    (λ b. replaced at b.right b.left w) (slice_get basis pair)
+rewritten marks basis (Cut at tail) w =
+    if is_marked_at marks w at && bytes_eq (drop (at + 1) w) tail then Some
+    (take (at + 1) w) else None
+rewritten marks basis (Grow at tail) w =
+    if is_marked_at marks w at && length w == at + 1 then Some (w ++ tail) else None
 
 -- the word after a chain of rewrites, if they can be made
 abbrev pub chained : List Bool → List Pair → List Rewrite → List ℕ → Option (List ℕ)
 chained marks basis [] w = Some w
-chained marks basis (r ∷ rs) w = option_and_then (chained marks basis rs) (rewritten marks basis r w)
+chained marks basis (r ∷ rs) w = option_and_then (chained marks basis rs)
+    (rewritten marks basis r w)

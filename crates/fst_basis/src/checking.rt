@@ -83,7 +83,8 @@ fn is_within(
     basis: &[Pair],
     chains: &[Chain],
 ) -> bool
-    ensures { IsTrue result ↔ IsWithin (length g.now.letters.items) g.now.rules.items marks.now u.now v.now basis.now chains.now }
+    ensures { IsTrue result ↔ IsWithin
+        (length g.now.letters.items) g.now.rules.items marks.now u.now v.now basis.now chains.now }
 {
     let count = g.rules.len();
     if !are_letters_below(g) {
@@ -133,7 +134,8 @@ fn is_joined(
     chain: &Chain,
 ) -> Result<bool, AllocError>
     requires { WordBelow (length g.now.rules.items) w.now }
-    ensures { IfOk result (λ b. IsTrue b ↔ IsJoined g.now.rules.items marks.now basis.now t.now w.now rule.now chain.now) }
+    ensures { IfOk result (λ b. IsTrue b ↔ IsJoined g.now.rules.items marks.now basis.now t.now
+        w.now rule.now chain.now) }
 {
     let Some((word, rest)) = parts_after(g, w, rule.letter) else {
         return Ok(false);
@@ -155,7 +157,8 @@ fn are_joined_by_rules(
     chains: &[Chain],
 ) -> Result<bool, AllocError>
     requires { WordBelow (length g.now.rules.items) w.now }
-    ensures { IfOk result (λ b. IsTrue b ↔ AreJoinedByRules g.now.rules.items marks.now basis.now t.now w.now rules.now chains.now) }
+    ensures { IfOk result (λ b. IsTrue b ↔ AreJoinedByRules g.now.rules.items marks.now basis.now
+        t.now w.now rules.now chains.now) }
 {
     if rules.len() != chains.len() {
         return Ok(false);
@@ -197,7 +200,8 @@ fn are_joined(
     chains: &[Chain],
 ) -> Result<bool, AllocError>
     requires { All (IsPairBelow (length g.now.rules.items)) basis.now }
-    ensures { IfOk result (λ b. IsTrue b ↔ AreJoined g.now.rules.items marks.now basis.now basis.now chains.now) }
+    ensures { IfOk result (λ b. IsTrue b ↔ AreJoined g.now.rules.items marks.now basis.now basis.now
+        chains.now) }
 {
     let mut rest = chains;
     for b in basis {
@@ -223,7 +227,8 @@ fn is_basis(
 ) -> Result<bool, AllocError>
     requires count { length marks.now ≡ length g.now.rules.items }
     requires pairs { All (IsPairBelow (length g.now.rules.items)) basis.now }
-    ensures { IfOk result (λ b. IsTrue b ↔ IsBasis g.now.rules.items marks.now basis.now chains.now) }
+    ensures { IfOk result (λ b. IsTrue b ↔ IsBasis g.now.rules.items marks.now basis.now
+        chains.now) }
 {
     if !is_unnormed_set(g, marks) {
         return Ok(false);
@@ -245,7 +250,8 @@ fn is_proof(
     basis: &[Pair],
     chains: &[Chain],
 ) -> Result<bool, AllocError>
-    ensures { IfOk result (λ b. IsTrue b ↔ IsProof (length g.now.letters.items) g.now.rules.items marks.now u.now v.now basis.now chains.now) }
+    ensures { IfOk result (λ b. IsTrue b ↔ IsProof
+        (length g.now.letters.items) g.now.rules.items marks.now u.now v.now basis.now chains.now) }
 {
     let Some((first, others)) = chains.split_first() else {
         return Ok(false);
@@ -273,8 +279,11 @@ pub fn check(
     basis: &[Pair],
     chains: &[Chain],
 ) -> Result<bool, AllocError>
-    ensures proof { IfOk result (λ b. IsTrue b ↔ IsProof (length g.now.letters.items) g.now.rules.items unnormed.now u.now v.now basis.now chains.now) }
-    ensures same { IfOk result (λ b. IsTrue b → HaveSameTraces (step g.now.rules.items) (step g.now.rules.items) u.now v.now) }
+    ensures proof { IfOk result (λ b. IsTrue b ↔ IsProof
+        (length g.now.letters.items) g.now.rules.items unnormed.now u.now v.now basis.now
+        chains.now) }
+    ensures same { IfOk result (λ b. IsTrue b →
+        HaveSameTraces (step g.now.rules.items) (step g.now.rules.items) u.now v.now) }
 {
     let is_proof = is_proof(
         alloc,

@@ -80,7 +80,8 @@ pub(crate) fn joins(
     to: &[u32],
     rest: &[u32],
 ) -> Result<bool, AllocError>
-    ensures { IfOk result (λ b. IsTrue b ↔ (chained marks.now basis.now chain.now from ≡ Some (to.now ++ rest.now))) }
+    ensures { IfOk result (λ b. IsTrue b ↔
+        (chained marks.now basis.now chain.now from ≡ Some (to.now ++ rest.now))) }
 {
     let mut word = from;
     for rewrite in chain {

@@ -26,7 +26,8 @@ tail_pruned m n w e =
     ]) e
 
 -- a pruned word moves by a letter as its rule's word is cut in front of what is behind
-pub step_cut : (g : Productions) (m : List Bool) (x v : List ℕ) (a : ℕ) → pruned_word m x ≡ x → rule_of (first_row g x) a ≡ Some v → pruned_step g m x a ≡ Some (cut m v (drop 1 x))
+pub step_cut : (g : Productions) (m : List Bool) (x v : List ℕ) (a : ℕ) → pruned_word m x ≡ x →
+    rule_of (first_row g x) a ≡ Some v → pruned_step g m x a ≡ Some (cut m v (drop 1 x))
 step_cut g m [] v a e rule = cc
 step_cut g m (n ∷ w) v a e rule =
     ap (λ (o : Option (List ℕ)). option_map (pruned_word m) (option_map (λ (z : List ℕ). z ++ w) o)) rule
@@ -38,7 +39,8 @@ cut_in_range n m [] w hv hw = hw
 cut_in_range n m (k ∷ v) w hv hw =
     elim (is_marked m k) as (λ b. WordBelow n (k ∷ (if b then [] else cut m v w))) [
       | true ↦ All-cons (λ k. k < n) k [] (All-head (λ k. k < n) k v hv) (All-nil (λ k. k < n))
-      | false ↦ All-cons (λ k. k < n) k (cut m v w) (All-head (λ k. k < n) k v hv) (cut_in_range n m v w (All-tail (λ k. k < n) k v hv) hw)
+      | false ↦ All-cons (λ k. k < n) k (cut m v w) (All-head (λ k. k < n) k v hv)
+          (cut_in_range n m v w (All-tail (λ k. k < n) k v hv) hw)
     ]
 
 -- and so does what is behind the first non-terminal

@@ -39,10 +39,12 @@ same_there (a ∷ v) (b ∷ w) e =
     λ i. first i ∷ rest i
 
 -- a trace of letters stands for one trace of labels
-one_trace : (letters : List Label) (numbers : List ℕ) (v w : List Label) → IsLabelTrace letters numbers v → IsLabelTrace letters numbers w → v ≡ w
+one_trace : (letters : List Label) (numbers : List ℕ) (v w : List Label) → IsLabelTrace letters numbers v →
+    IsLabelTrace letters numbers w → v ≡ w
 one_trace letters numbers v w h k = same_there v w (sym h ∙ k)
 
-module _ (rows : Productions) (x y : List ℕ) (a b : ℕ) (s t : Side) (d : IsFirstDifference rows x y a s) (e : IsFirstDifference rows x y b t) where
+module _ (rows : Productions) (x y : List ℕ) (a b : ℕ) (s t : Side) (d : IsFirstDifference rows x y a s)
+    (e : IsFirstDifference rows x y b t) where
   not_less : a < b → ⊥
   not_less lt = not_alone s (is_some (step rows x a)) (is_some (step rows y a)) d.here (e.less a lt)
 
@@ -63,7 +65,8 @@ module _ (rows : Productions) (x y : List ℕ) (a b : ℕ) (s t : Side) (d : IsF
 
 module _ (rows : Productions) (marks : List Bool) (u v : List ℕ) where
   -- no list of first pairs is longer than one of all pairs
-  not_longer : (E F : List ReachedPair) → AreFirst rows marks u v E → AreAll rows marks u v E → AreFirst rows marks u v F → length F ≤ length E
+  not_longer : (E F : List ReachedPair) → AreFirst rows marks u v E → AreAll rows marks u v E → AreFirst rows marks u v F →
+      length F ≤ length E
   not_longer E F a all b = elim (leb_tells (length F) (length E)) [
     | inl le ↦ le.1
     | inr lt ↦
@@ -73,22 +76,27 @@ module _ (rows : Productions) (marks : List Bool) (u v : List ℕ) where
         let within = slice_get_within E l.at l.entry l.there in
         let c = get_there F l.at (omega arith) in
         let same : l.entry ≡ c.0 = same_entries rows marks u v E F a b l.at l.entry c.0 l.there c.1 in
-        absurd (b.once l.at (length E) c.0 f.0 within c.1 f.1 (ap (λ (z : ReachedPair). z.left) (sym same) ∙ l.left) (ap (λ (z : ReachedPair). z.right) (sym same) ∙ l.right))
+        absurd (b.once l.at (length E) c.0 f.0 within c.1 f.1 (ap (λ (z : ReachedPair). z.left) (sym same) ∙ l.left)
+        (ap (λ (z : ReachedPair). z.right) (sym same) ∙ l.right))
   ]
 
   -- lists of first pairs as long as one another have the same pairs
-  same_pairs : (E F : List ReachedPair) (pairs others : List SharedPair) → AreFirst rows marks u v E → AreFirst rows marks u v F → length E ≡ length F →
+  same_pairs : (E F : List ReachedPair) (pairs others : List SharedPair) → AreFirst rows marks u v E → AreFirst rows marks u v F →
+      length E ≡ length F →
       map pair_of E ≡ pairs → map pair_of F ≡ others → pairs ≡ others
-  same_pairs E F pairs others a b len e f = sym e ∙ ap (map pair_of) (same_items E F len (same_entries rows marks u v E F a b)) ∙ f
+  same_pairs E F pairs others a b len e f = sym e ∙ ap (map pair_of) (same_items E F len (same_entries rows marks u v E F a b))
+      ∙ f
 
   module _ (budget : ℕ) where
-    two_equal : (pairs others : List SharedPair) → IsEqual rows marks u v budget pairs → IsEqual rows marks u v budget others → pairs ≡ others
+    two_equal : (pairs others : List SharedPair) → IsEqual rows marks u v budget pairs → IsEqual rows marks u v budget others →
+        pairs ≡ others
     two_equal pairs others p q =
         let le = not_longer p.found q.found p.first p.all q.first in
         let ge = not_longer q.found p.found q.first q.all p.first in
         same_pairs p.found q.found pairs others p.first q.first (omega arith) p.pairs_are q.pairs_are
 
-    two_spent : (pairs others : List SharedPair) → IsBudgetSpent rows marks u v budget pairs → IsBudgetSpent rows marks u v budget others → pairs ≡ others
+    two_spent : (pairs others : List SharedPair) → IsBudgetSpent rows marks u v budget pairs →
+        IsBudgetSpent rows marks u v budget others → pairs ≡ others
     two_spent pairs others p q =
         let m = length-pairs p.found pairs p.pairs_are in
         let n = length-pairs q.found others q.pairs_are in
@@ -97,16 +105,19 @@ module _ (rows : Productions) (marks : List Bool) (u v : List ℕ) where
         same_pairs p.found q.found pairs others p.first q.first (omega arith) p.pairs_are q.pairs_are
 
     -- a first difference isn't at a pair before the other
-    not_before : (letters v1 v2 : List Label) (s t : Side) (p : IsDifferent rows marks letters u v budget v1 s) (q : IsDifferent rows marks letters u v budget v2 t) → p.at < q.at → ⊥
+    not_before : (letters v1 v2 : List Label) (s t : Side) (p : IsDifferent rows marks letters u v budget v1 s)
+        (q : IsDifferent rows marks letters u v budget v2 t) → p.at < q.at → ⊥
     not_before letters v1 v2 s t p q lt =
         let d = p.difference in
         let within = slice_get_within q.found q.at q.difference.entry q.difference.there in
         let c = get_there q.found p.at (omega arith) in
         let same : d.entry ≡ c.0 = same_entries rows marks u v p.found q.found p.first q.first p.at d.entry c.0 d.there c.1 in
         not_alone s (is_some (step rows d.entry.left d.letter)) (is_some (step rows d.entry.right d.letter)) d.differs.here
-        (subst (λ (z : ReachedPair). is_some (step rows z.left d.letter) ≡ is_some (step rows z.right d.letter)) (sym same) (q.before p.at c.0 lt c.1 d.letter))
+        (subst (λ (z : ReachedPair). is_some (step rows z.left d.letter) ≡ is_some (step rows z.right d.letter)) (sym same)
+        (q.before p.at c.0 lt c.1 d.letter))
 
-    two_different : (letters v1 v2 : List Label) (s t : Side) → IsDifferent rows marks letters u v budget v1 s → IsDifferent rows marks letters u v budget v2 t → (v1 ≡ v2) × (s ≡ t)
+    two_different : (letters v1 v2 : List Label) (s t : Side) → IsDifferent rows marks letters u v budget v1 s →
+        IsDifferent rows marks letters u v budget v2 t → (v1 ≡ v2) × (s ≡ t)
     two_different letters v1 v2 s t p q =
         let place : p.at ≡ q.at = elim (cases_lt p.at q.at) [
           | inl lt ↦ absurd (not_before letters v1 v2 s t p q lt)
@@ -114,23 +125,31 @@ module _ (rows : Productions) (marks : List Bool) (u v : List ℕ) where
         ] in
         let d = p.difference in
         let e = q.difference in
-        let entry : d.entry ≡ e.entry = same_entries rows marks u v p.found q.found p.first q.first p.at d.entry e.entry d.there (ap (slice_get q.found) place ∙ e.there) in
-        let other : IsFirstDifference rows d.entry.left d.entry.right e.letter t = subst (λ (z : ReachedPair). IsFirstDifference rows z.left z.right e.letter t) (sym entry) e.differs in
+        let entry : d.entry ≡ e.entry = same_entries rows marks u v p.found q.found p.first q.first p.at d.entry e.entry d.there
+        (ap (slice_get q.found) place ∙ e.there) in
+        let other : IsFirstDifference rows d.entry.left d.entry.right e.letter t = subst
+        (λ (z : ReachedPair). IsFirstDifference rows z.left z.right e.letter t) (sym entry) e.differs in
         let letter : d.letter ≡ e.letter = one_letter rows d.entry.left d.entry.right d.letter e.letter s t d.differs other in
-        let labels : IsLabelTrace letters (d.entry.trace ++ d.letter ∷ []) v2 = subst (λ n. IsLabelTrace letters n v2) (λ i. (sym entry i).trace ++ sym letter i ∷ []) e.labels in
-        (one_trace letters (d.entry.trace ++ d.letter ∷ []) v1 v2 d.labels labels, one_owner rows d.entry.left d.entry.right d.letter e.letter s t d.differs other)
+        let labels : IsLabelTrace letters (d.entry.trace ++ d.letter ∷ []) v2 = subst (λ n. IsLabelTrace letters n v2)
+        (λ i. (sym entry i).trace ++ sym letter i ∷ []) e.labels in (
+          one_trace letters (d.entry.trace ++ d.letter ∷ []) v1 v2 d.labels labels,
+          one_owner rows d.entry.left d.entry.right d.letter e.letter s t d.differs other,
+        )
 
     -- all pairs show no difference, or one does
-    not_equal_and_different : (letters : List Label) (pairs : List SharedPair) (trace : List Label) (side : Side) → IsEqual rows marks u v budget pairs → IsDifferent rows marks letters u v budget trace side → ⊥
+    not_equal_and_different : (letters : List Label) (pairs : List SharedPair) (trace : List Label) (side : Side) →
+        IsEqual rows marks u v budget pairs → IsDifferent rows marks letters u v budget trace side → ⊥
     not_equal_and_different letters pairs trace side p q =
         let d = q.difference in
         let l = p.all d.entry.trace d.entry.left d.entry.right (q.first.reached q.at d.entry d.there) in
         not_alone side (is_some (step rows d.entry.left d.letter)) (is_some (step rows d.entry.right d.letter)) d.differs.here
-        (ap (λ (z : List ℕ). is_some (step rows z d.letter)) (sym l.left) ∙ p.alike l.at l.entry l.there d.letter ∙ ap (λ (z : List ℕ). is_some (step rows z d.letter)) l.right)
+        (ap (λ (z : List ℕ). is_some (step rows z d.letter)) (sym l.left) ∙ p.alike l.at l.entry l.there d.letter ∙ ap
+        (λ (z : List ℕ). is_some (step rows z d.letter)) l.right)
 
     module _ (pairs : List SharedPair) (p : IsBudgetSpent rows marks u v budget pairs) where
       -- an entry of a list of at most as many first pairs as the budget is in the spent one
-      in_spent : (found : List ReachedPair) (at : ℕ) (e : ReachedPair) → AreFirst rows marks u v found → length found ≤ budget → slice_get found at ≡ Some e → slice_get p.found at ≡ Some e
+      in_spent : (found : List ReachedPair) (at : ℕ) (e : ReachedPair) → AreFirst rows marks u v found → length found ≤ budget →
+          slice_get found at ≡ Some e → slice_get p.found at ≡ Some e
       in_spent found at e first within there =
           let below = slice_get_within found at e there in
           let full = p.full in
@@ -150,7 +169,8 @@ module _ (rows : Productions) (marks : List Bool) (u v : List ℕ) where
           more.other listed.at listed.entry there listed.left listed.right
 
       -- one of the first pairs shows a difference, or none does
-      not_different_and_spent : (letters trace : List Label) (side : Side) → IsDifferent rows marks letters u v budget trace side → ⊥
+      not_different_and_spent : (letters trace : List Label) (side : Side) →
+          IsDifferent rows marks letters u v budget trace side → ⊥
       not_different_and_spent letters trace side q =
           let d = q.difference in
           let there = in_spent q.found q.at d.entry q.first q.within d.there in
@@ -159,13 +179,17 @@ module _ (rows : Productions) (marks : List Bool) (u v : List ℕ) where
 
 pub one_answer : OneAnswer
 one_answer rows marks letters u v budget (equal p) (equal q) a b = ap equal (two_equal rows marks u v budget p q a b)
-one_answer rows marks letters u v budget (equal p) (differ w t) a b = absurd (not_equal_and_different rows marks u v budget letters p w t a b)
+one_answer rows marks letters u v budget (equal p) (differ w t) a b =
+    absurd (not_equal_and_different rows marks u v budget letters p w t a b)
 one_answer rows marks letters u v budget (equal p) (spent q) a b = absurd (not_equal_and_spent rows marks u v budget q b p a)
-one_answer rows marks letters u v budget (differ w t) (equal q) a b = absurd (not_equal_and_different rows marks u v budget letters q w t b a)
+one_answer rows marks letters u v budget (differ w t) (equal q) a b =
+    absurd (not_equal_and_different rows marks u v budget letters q w t b a)
 one_answer rows marks letters u v budget (differ w s) (differ x t) a b =
     let same = two_different rows marks u v budget letters w x s t a b in
     λ i. differ (same.0 i) (same.1 i)
-one_answer rows marks letters u v budget (differ w t) (spent q) a b = absurd (not_different_and_spent rows marks u v budget q b letters w t a)
+one_answer rows marks letters u v budget (differ w t) (spent q) a b =
+    absurd (not_different_and_spent rows marks u v budget q b letters w t a)
 one_answer rows marks letters u v budget (spent p) (equal q) a b = absurd (not_equal_and_spent rows marks u v budget p a q b)
-one_answer rows marks letters u v budget (spent p) (differ w t) a b = absurd (not_different_and_spent rows marks u v budget p a letters w t b)
+one_answer rows marks letters u v budget (spent p) (differ w t) a b =
+    absurd (not_different_and_spent rows marks u v budget p a letters w t b)
 one_answer rows marks letters u v budget (spent p) (spent q) a b = ap spent (two_spent rows marks u v budget p q a b)

@@ -15,7 +15,8 @@ use Rattle.fst_breadth.specs.Following.{Follows}
 use Rattle.fst_breadth.specs.declared.pairs.Followed.{Followed}
 
 -- one entry more is one pair more
-pub found-push : (W : List (List ℕ)) (E : List Entry) (F : List ReachedPair) (e : Entry) → found_from W F (E ++ e ∷ []) ≡ found_from W F E ++ reached_of W (found_from W F E) e ∷ []
+pub found-push : (W : List (List ℕ)) (E : List Entry) (F : List ReachedPair) (e : Entry) →
+    found_from W F (E ++ e ∷ []) ≡ found_from W F E ++ reached_of W (found_from W F E) e ∷ []
 found-push W [] F e = refl
 found-push W (d ∷ E) F e = found-push W E (F ++ reached_of W F d ∷ []) e
 
@@ -27,23 +28,35 @@ found-length W (d ∷ E) F =
     omega arith
 
 -- more words change nothing
-pub found-keeps : (W V : List (List ℕ)) → Keeps W V → (E : List Entry) (F : List ReachedPair) (k : ℕ) → AreEntries (length W) k E → found_from V F E ≡ found_from W F E
+pub found-keeps : (W V : List (List ℕ)) → Keeps W V →
+    (E : List Entry) (F : List ReachedPair) (k : ℕ) → AreEntries (length W) k E → found_from V F E ≡ found_from W F E
 found-keeps W V keeps [] F k ok = refl
 found-keeps W V keeps (e ∷ E) F k ok =
     let same : reached_of V F e ≡ reached_of W F e =
     λ i. record { left = keeps.kept e.0.0 ok.0.left i; right = keeps.kept e.0.1 ok.0.right i; trace = trace_from F e.1 } in
-    found-keeps W V keeps E (F ++ reached_of V F e ∷ []) (suc k) ok.1 ∙ ap (λ (z : ReachedPair). found_from W (F ++ z ∷ []) E) same
+    found-keeps W V keeps E (F ++ reached_of V F e ∷ []) (suc k) ok.1 ∙ ap
+    (λ (z : ReachedPair). found_from W (F ++ z ∷ []) E) same
 
 entry-keep : (n m k : ℕ) (e : Entry) → n ≤ m → IsEntry n k e → IsEntry m k e
-entry-keep n m k e le h = record { left = (let l = h.left in omega arith); right = (let r = h.right in omega arith); origin = h.origin }
+entry-keep n m k e le h = record {
+  left = (let l = h.left in omega arith);
+  right =
+      (let r = h.right in omega arith);
+  origin = h.origin;
+}
 
 pub entries-keep : (n m : ℕ) → n ≤ m → (E : List Entry) (k : ℕ) → AreEntries n k E → AreEntries m k E
 entries-keep n m le [] k ok = tt
 entries-keep n m le (e ∷ E) k ok = (entry-keep n m k e le ok.0, entries-keep n m le E (suc k) ok.1)
 
-pub entries-push : (n : ℕ) (E : List Entry) (k : ℕ) (e : Entry) → AreEntries n k E → IsEntry n (k + length E) e → AreEntries n k (E ++ e ∷ [])
+pub entries-push : (n : ℕ) (E : List Entry) (k : ℕ) (e : Entry) → AreEntries n k E → IsEntry n (k + length E) e →
+    AreEntries n k (E ++ e ∷ [])
 entries-push n [] k e ok h = (subst (λ (z : ℕ). IsEntry n z e) (let z : k + 0 ≡ k = omega arith in z) h, tt)
-entries-push n (d ∷ E) k e ok h = (ok.0, entries-push n E (suc k) e ok.1 (subst (λ (z : ℕ). IsEntry n z e) (let z : k + suc (length E) ≡ suc k + length E = omega arith in z) h))
+entries-push n (d ∷ E) k e ok h = (
+  ok.0,
+  entries-push n E (suc k) e ok.1
+      (subst (λ (z : ℕ). IsEntry n z e) (let z : k + suc (length E) ≡ suc k + length E = omega arith in z) h),
+)
 
 pub entry_at : (n : ℕ) (E : List Entry) (k j : ℕ) (e : Entry) → AreEntries n k E → slice_get E j ≡ Some e → IsEntry n (k + j) e
 entry_at n [] k j e ok is = cc
@@ -82,11 +95,13 @@ trace-last : (F : List ReachedPair) (n : ReachedPair) → trace_at (F ++ n ∷ [
 trace-last [] n = refl
 trace-last (x ∷ F) n = trace-last F n
 
-from-front : (F G : List ReachedPair) (o : Origin) → IfSome o (λ p. p.0 < length F) → ((j : ℕ) → j < length F → trace_at G j ≡ trace_at F j) → trace_from G o ≡ trace_from F o
+from-front : (F G : List ReachedPair) (o : Origin) → IfSome o (λ p. p.0 < length F) →
+    ((j : ℕ) → j < length F → trace_at G j ≡ trace_at F j) → trace_from G o ≡ trace_from F o
 from-front F G None l h = refl
 from-front F G (Some p) l h = ap (λ (z : List ℕ). z ++ p.1 ∷ []) (h p.0 l)
 
-found-at : (W : List (List ℕ)) (n : ℕ) (E : List Entry) (F : List ReachedPair) (j : ℕ) (e : Entry) → AreEntries n (length F) E → slice_get E j ≡ Some e → IsAt W (found_from W F E) (length F + j) e
+found-at : (W : List (List ℕ)) (n : ℕ) (E : List Entry) (F : List ReachedPair) (j : ℕ) (e : Entry) → AreEntries n (length F) E →
+    slice_get E j ≡ Some e → IsAt W (found_from W F E) (length F + j) e
 found-at W n [] F j e ok is = cc
 found-at W n (d ∷ E) F zero e ok is =
     let same : d ≡ e = cc in
@@ -110,8 +125,10 @@ found-at W n (d ∷ E) F (suc j) e ok is =
     subst (λ (z : ℕ). IsAt W (found_from W (F ++ reached_of W F d ∷ []) E) z e) place
     (found-at W n E (F ++ reached_of W F d ∷ []) j e (subst (λ (z : ℕ). AreEntries n z E) (sym longer) ok.1) is)
 
-pub at_entry : (W : List (List ℕ)) (E : List Entry) (j : ℕ) (e : Entry) → AreEntries (length W) 0 E → slice_get E j ≡ Some e → IsAt W (found_from W [] E) j e
-at_entry W E j e ok is = subst (λ (z : ℕ). IsAt W (found_from W [] E) z e) (let place : 0 + j ≡ j = omega arith in place) (found-at W (length W) E [] j e ok is)
+pub at_entry : (W : List (List ℕ)) (E : List Entry) (j : ℕ) (e : Entry) → AreEntries (length W) 0 E → slice_get E j ≡ Some e →
+    IsAt W (found_from W [] E) j e
+at_entry W E j e ok is = subst (λ (z : ℕ). IsAt W (found_from W [] E) z e) (let place : 0 + j ≡ j = omega arith in place)
+    (found-at W (length W) E [] j e ok is)
 
 -- what a look-up finds
 record IsFound (p : ℕ × ℕ) (E : List Entry) : Type 0 where
@@ -123,12 +140,15 @@ record IsFound (p : ℕ × ℕ) (E : List Entry) : Type 0 where
 lookup_there : (p : ℕ × ℕ) (E : List Entry) → is_some (lookup (pair_eq p) E) ≡ true → IsFound p E
 lookup_there p [] h = cc
 lookup_there p (e ∷ E) h =
-    (elim (pair_eq p e.0) as (λ b. pair_eq p e.0 ≡ b → is_some (cond b (Some e.1) (lookup (pair_eq p) E)) ≡ true → IsFound p (e ∷ E)) [
+    (elim (pair_eq p e.0) as (λ b. pair_eq p e.0 ≡ b → is_some (cond b (Some e.1) (lookup (pair_eq p) E)) ≡ true →
+    IsFound p (e ∷ E)) [
       | true ↦ λ b r. record { at = 0; entry = e; there = refl; key = sym (same_pair p e.0 b) }
-      | false ↦ λ b r. let rest = lookup_there p E r in record { at = suc rest.at; entry = rest.entry; there = rest.there; key = rest.key }
+      | false ↦ λ b r. let rest = lookup_there p E r in
+          record { at = suc rest.at; entry = rest.entry; there = rest.there; key = rest.key }
     ]) refl h
 
-there_lookup : (p : ℕ × ℕ) (E : List Entry) (j : ℕ) (e : Entry) → slice_get E j ≡ Some e → e.0 ≡ p → is_some (lookup (pair_eq p) E) ≡ true
+there_lookup : (p : ℕ × ℕ) (E : List Entry) (j : ℕ) (e : Entry) → slice_get E j ≡ Some e → e.0 ≡ p →
+    is_some (lookup (pair_eq p) E) ≡ true
 there_lookup p [] j e is same = cc
 there_lookup p (d ∷ E) zero e is same =
     let first : d ≡ e = cc in
@@ -154,7 +174,8 @@ module _ (W : List (List ℕ)) (E : List Entry) (ok : AreEntries (length W) 0 E)
       )
 
   -- and a pair of the list is looked up, since each word has one number
-  pub found : IsEachOnce W → x < length W → y < length W → Any (HasPair (word_of W x) (word_of W y)) (found_from W [] E) → is_some (lookup (pair_eq (x, y)) E) ≡ true
+  pub found : IsEachOnce W → x < length W → y < length W → Any (HasPair (word_of W x) (word_of W y)) (found_from W [] E) →
+      is_some (lookup (pair_eq (x, y)) E) ≡ true
   found once lx ly (k, d, lt, is, p) =
       let long = found-length W E [] in
       let t = get_there E k (omega arith) in
@@ -176,17 +197,21 @@ trace_there (d ∷ F) zero e is = ap (λ (z : ReachedPair). z.trace) (let f : d 
 trace_there (d ∷ F) (suc k) e is = trace_there F k e is
 
 -- what became of a pair, where the list and the pair are the same
-pub follows_same : (F G H : List ReachedPair) (n m : ReachedPair) (b : ℕ) (f : Followed) → F ≡ G → n ≡ m → Follows F H n b f → Follows G H m b f
-follows_same F G H n m b f same is h = subst (λ (z : ReachedPair). Follows G H z b f) is (subst (λ (z : List ReachedPair). Follows z H n b f) same h)
+pub follows_same : (F G H : List ReachedPair) (n m : ReachedPair) (b : ℕ) (f : Followed) → F ≡ G → n ≡ m → Follows F H n b f →
+    Follows G H m b f
+follows_same F G H n m b f same is h = subst (λ (z : ReachedPair). Follows G H z b f) is
+    (subst (λ (z : List ReachedPair). Follows z H n b f) same h)
 
 pub keys_within : (n : ℕ) (E : List Entry) (k : ℕ) → AreEntries n k E → AreKeys n (keys_of E)
 keys_within n [] k ok = tt
 keys_within n (e ∷ E) k ok = (ok.0.left, ok.0.right, keys_within n E (suc k) ok.1)
 
-pairs-append : (W : List (List ℕ)) (E : List Entry) (F : List ReachedPair) → map pair_of (found_from W F E) ≡ map pair_of F ++ map (key_pair W) (keys_of E)
+pairs-append : (W : List (List ℕ)) (E : List Entry) (F : List ReachedPair) →
+    map pair_of (found_from W F E) ≡ map pair_of F ++ map (key_pair W) (keys_of E)
 pairs-append W [] F = sym (append-nil (map pair_of F))
 pairs-append W (e ∷ E) F =
-    pairs-append W E (F ++ reached_of W F e ∷ []) ∙ ap (λ (z : List SharedPair). z ++ map (key_pair W) (keys_of E)) (map-append pair_of F (reached_of W F e ∷ []))
+    pairs-append W E (F ++ reached_of W F e ∷ []) ∙ ap
+    (λ (z : List SharedPair). z ++ map (key_pair W) (keys_of E)) (map-append pair_of F (reached_of W F e ∷ []))
     ∙ append_assoc (map pair_of F) (key_pair W e.0 ∷ []) (map (key_pair W) (keys_of E))
 
 -- the pairs of keys are those of the list

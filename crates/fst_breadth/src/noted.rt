@@ -30,7 +30,8 @@ impl Noted {
 
     /// Notes a pair, and says whether it is new.
     pub(crate) fn note(&mut self, left: u32, right: u32) -> Result<bool, AllocError>
-        ensures old { IfOk result (λ new. new ≡ false → (j : ℕ) × (slice_get self.old j ≡ Some (left, right))) }
+        ensures old { IfOk result (λ new. new ≡ false → (j : ℕ) ×
+            (slice_get self.old j ≡ Some (left, right))) }
         ensures same { IfOk result (λ new. new ≡ false → self.new ≡ self.old) }
         ensures new { IfOk result (λ new. new ≡ true → self.new ≡ self.old ++ (left, right) ∷ []) }
     {

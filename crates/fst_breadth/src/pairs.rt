@@ -99,7 +99,8 @@ impl Pairs {
     fn prepend(&mut self, marks: &[bool], front: &[u32], tail: u32) -> Result<u32, AllocError>
         requires tail { tail < length self.old.words }
         requires front { WordBelow (length marks.now) front.now }
-        ensures word { IfOk result (λ r. word_of self.new.words r ≡ cut marks.now front.now (word_of self.old.words tail)) }
+        ensures word { IfOk result (λ r. word_of self.new.words r ≡ cut marks.now front.now
+            (word_of self.old.words tail)) }
         ensures within { IfOk result (λ r. r < length self.new.words) }
         ensures kept { Keeps self.old.words self.new.words }
         ensures found { self.new.found ≡ self.old.found }
@@ -130,8 +131,10 @@ impl Pairs {
         requires at { at < length self.old.found }
         requires left { WordBelow (length marks.now) left.now }
         requires right { WordBelow (length marks.now) right.now }
-        ensures left { IfOk result (λ r. (e : ReachedPair) → slice_get self.old.found at ≡ Some e → word_of self.new.words r.0 ≡ cut marks.now left.now (drop 1 e.left)) }
-        ensures right { IfOk result (λ r. (e : ReachedPair) → slice_get self.old.found at ≡ Some e → word_of self.new.words r.1 ≡ cut marks.now right.now (drop 1 e.right)) }
+        ensures left { IfOk result (λ r. (e : ReachedPair) → slice_get self.old.found at ≡ Some e →
+            word_of self.new.words r.0 ≡ cut marks.now left.now (drop 1 e.left)) }
+        ensures right { IfOk result (λ r. (e : ReachedPair) → slice_get self.old.found at ≡ Some e →
+            word_of self.new.words r.1 ≡ cut marks.now right.now (drop 1 e.right)) }
         ensures left_within { IfOk result (λ r. r.0 < length self.new.words) }
         ensures right_within { IfOk result (λ r. r.1 < length self.new.words) }
         ensures found { self.new.found ≡ self.old.found }
@@ -157,7 +160,8 @@ impl Pairs {
     fn contains(&self, left: u32, right: u32) -> bool
         requires left { left < length self.now.words }
         requires right { right < length self.now.words }
-        ensures { IsTrue result ↔ Any (HasPair (word_of self.now.words left) (word_of self.now.words right)) self.now.found }
+        ensures { IsTrue result ↔ Any (HasPair (word_of self.now.words left)
+            (word_of self.now.words right)) self.now.found }
     {
         self.words.each_once();
         self.map.contains_key(&(left, right))
@@ -173,9 +177,15 @@ impl Pairs {
         requires left { left < length self.old.words }
         requires right { right < length self.old.words }
         requires origin { IfSome origin (λ p. p.0 < length self.old.found) }
-        requires other { Any (HasPair (word_of self.old.words left) (word_of self.old.words right)) self.old.found → ⊥ }
+        requires other { Any (HasPair (word_of self.old.words left) (word_of self.old.words right))
+            self.old.found → ⊥ }
         ensures words { self.new.words ≡ self.old.words }
-        ensures found { OnOk result (self.new.found ≡ self.old.found ++ record { left = word_of self.old.words left; right = word_of self.old.words right; trace = trace_from self.old.found origin } ∷ []) }
+        ensures found { OnOk result (self.new.found ≡ self.old.found
+            ++ record {
+              left = word_of self.old.words left;
+              right = word_of self.old.words right;
+              trace = trace_from self.old.found origin;
+            } ∷ []) }
         ensures err { OnErr result (self.new.found ≡ self.old.found) }
     {
         self.map.insert((left, right), origin)?;
@@ -195,7 +205,12 @@ impl Pairs {
         requires at { at < length self.old.found }
         requires left { left < length self.old.words }
         requires right { right < length self.old.words }
-        ensures { IfOk result (λ f. Follows self.old.found self.new.found (record { left = word_of self.old.words left; right = word_of self.old.words right; trace = trace_at self.old.found at ++ letter ∷ [] }) budget f) }
+        ensures { IfOk result (λ f. Follows self.old.found self.new.found
+            (record {
+              left = word_of self.old.words left;
+              right = word_of self.old.words right;
+              trace = trace_at self.old.found at ++ letter ∷ [];
+            }) budget f) }
     {
         if self.same(left, right) || self.contains(left, right) {
             return Ok(Followed::Known);
@@ -211,7 +226,8 @@ impl Pairs {
     fn origin(&self, at: usize) -> Option<(u32, u32)>
         requires { at < length self.now.found }
         ensures none { IfNone result (trace_at self.now.found at ≡ []) }
-        ensures some { IfSome result (λ p. trace_at self.now.found at ≡ trace_at self.now.found p.0 ++ p.1 ∷ []) }
+        ensures some { IfSome result (λ p.
+            trace_at self.now.found at ≡ trace_at self.now.found p.0 ++ p.1 ∷ []) }
         ensures less { IfSome result (λ p. p.0 < at) }
     {
         *self.map.get_index(at).unwrap().1

@@ -15,7 +15,8 @@ other_twice : (s : Side) → opposite (opposite s) ≡ s
 other_twice Left = refl
 other_twice Right = refl
 
-turn_swap : (c : Content) (ws : List ℕ) (hs : List (Maybe (Option Content))) (a b : Option Content) → Turn c ws hs a b → Turn c ws hs b a
+turn_swap : (c : Content) (ws : List ℕ) (hs : List (Maybe (Option Content))) (a b : Option Content) → Turn c ws hs a b →
+    Turn c ws hs b a
 turn_swap c ws hs None None t = t
 turn_swap c ws hs None (Some d) t = t
 turn_swap c ws hs (Some d) None t = t
@@ -31,12 +32,15 @@ swap c ws hs l r e = record {
 }
 
 -- an end, with the other one beside it
-pub record Focus (c : Content) (ws : List ℕ) (hs : List (Maybe (Option Content))) (views : List View) (id : ℕ) (v : Half) : Type 0 where
+pub record Focus (c : Content) (ws : List ℕ) (hs : List (Maybe (Option Content))) (views : List View) (id : ℕ)
+    (v : Half) : Type 0 where
   pub beside : Half
   pub ends : Ends c ws hs v beside
-  pub back : (d : Content) (xs : List ℕ) (ys : List (Maybe (Option Content))) (w : Half) → w.side ≡ v.side → Ends d xs ys w beside → Arranged d xs ys (set views id (Only w))
+  pub back : (d : Content) (xs : List ℕ) (ys : List (Maybe (Option Content))) (w : Half) → w.side ≡ v.side →
+      Ends d xs ys w beside → Arranged d xs ys (set views id (Only w))
 
-pub focus : (c : Content) (ws : List ℕ) (hs : List (Maybe (Option Content))) (views : List View) (id : ℕ) (v : Half) → Arranged c ws hs views → get_elem? views id ≡ some (Only v) → Focus c ws hs views id v
+pub focus : (c : Content) (ws : List ℕ) (hs : List (Maybe (Option Content))) (views : List View) (id : ℕ) (v : Half) →
+    Arranged c ws hs views → get_elem? views id ≡ some (Only v) → Focus c ws hs views id v
 focus c ws hs (Only l ∷ Only r ∷ []) zero v a e =
     let same : l ≡ v = cc in
     subst (λ (x : Half). Focus c ws hs (Only l ∷ Only r ∷ []) 0 x) same

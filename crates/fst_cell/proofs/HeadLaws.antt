@@ -71,8 +71,11 @@ head_step (select bs) h a e = itself (select bs) h a e
 head_step (offer bs) h a e = itself (offer bs) h a e
 head_step (seq s r) h a e = seq_step s r a ∙ pick (terminated s) e (λ f. head_step s h a f) (λ f. head_step r h a f)
   where
-    pick : (b : Bool) → (if b then head r else head s) ≡ Some h → (head s ≡ Some h → step s a ≡ option_map (with_head s) (step h a)) → (head r ≡ Some h → step r a ≡ option_map (with_head r) (step h a)) →
-        (if b then step r a else option_map (λ t. seq t r) (step s a)) ≡ option_map (λ x. if b then with_head r x else seq (with_head s x) r) (step h a)
+    pick : (b : Bool) → (if b then head r else head s) ≡ Some h →
+        (head s ≡ Some h → step s a ≡ option_map (with_head s) (step h a)) →
+        (head r ≡ Some h → step r a ≡ option_map (with_head r) (step h a)) →
+        (if b then step r a else option_map (λ t. seq t r) (step s a)) ≡ option_map
+        (λ x. if b then with_head r x else seq (with_head s x) r) (step h a)
     pick true f first second = second f
     pick false f first second = ap (option_map (λ t. seq t r)) (first f) ∙ mapped_twice (with_head s) (λ t. seq t r) (step h a)
 head_step (rec s) h a e = pick (terminated s) e
@@ -111,4 +114,5 @@ pub head_moves : (t : Tree) (a : Label) → IsSome (step t a) → head t ≡ Non
 head_moves t a m f = let z = there (step t a) m in true≢false (sym (head_none t f) ∙ moving t z.0 a z.1)
 
 pub head_stays : (t h : Tree) (a : Label) → IsSome (step t a) → head t ≡ Some h → step h a ≡ None → ⊥
-head_stays t h a m f g = let z = there (step t a) m in lost (step t a) z.0 (option_map (with_head t) (step h a)) z.1 (head_step t h a f) (ap (option_map (with_head t)) g)
+head_stays t h a m f g = let z = there (step t a) m in
+    lost (step t a) z.0 (option_map (with_head t) (step h a)) z.1 (head_step t h a f) (ap (option_map (with_head t)) g)

@@ -21,7 +21,8 @@ abbrev P : ℕ → Branch → Type 0
 P n b = length b.label ≤ n
 
 -- so are the labels by which they are offered
-pub offered_within : (n : ℕ) (bs : List Branch) → AreWithin n bs → (l : List ℕ) → Contains (choice_labels Offer (branches_of bs)) (Offer l) → length l ≤ n
+pub offered_within : (n : ℕ) (bs : List Branch) → AreWithin n bs →
+    (l : List ℕ) → Contains (choice_labels Offer (branches_of bs)) (Offer l) → length l ≤ n
 offered_within n [] h l (k, lt, e) = absurd (omega (arith, lt))
 offered_within n (b ∷ bs) h l (zero, lt, e) = first e
   where
@@ -29,7 +30,8 @@ offered_within n (b ∷ bs) h l (zero, lt, e) = first e
     first e = let same : b.label ≡ l = cc in subst (λ w. length w ≤ n) same (All-head (P n) b bs h)
 offered_within n (b ∷ bs) h l (suc k, lt, e) = offered_within n bs (All-tail (P n) b bs h) l (k, less k lt, e)
   where
-    less : (k : ℕ) → suc k < length (choice_labels Offer (branches_of (b ∷ bs))) → k < length (choice_labels Offer (branches_of bs))
+    less : (k : ℕ) → suc k < length (choice_labels Offer (branches_of (b ∷ bs))) →
+        k < length (choice_labels Offer (branches_of bs))
     less k q = omega (arith, q)
 
 -- a choice that is selected offers none
@@ -49,14 +51,17 @@ ended_within : (n : ℕ) (t : Tree) → terminated t ≡ true → AreOfferedWith
 ended_within n t e l c = absurd (no_step t e (Offer l) ((labels_are_moves t (Offer l)).0 c))
 
 -- what is found of a type, or nothing
-pub within_or : (o : Option ℕ) (t : Tree) → IfSome o (λ n. AreOfferedWithin n t) → IfNone o (terminated t ≡ true) → AreOfferedWithin (unwrap_or o 0) t
+pub within_or : (o : Option ℕ) (t : Tree) → IfSome o (λ n. AreOfferedWithin n t) → IfNone o (terminated t ≡ true) →
+    AreOfferedWithin (unwrap_or o 0) t
 within_or None t s e = ended_within 0 t e
 within_or (Some n) t s e = s
 
 -- what a type receives, the part of it that moves first offers
-pub received_within : (t h : Tree) (n : ℕ) → head t ≡ Some h → AreOfferedWithin n h → (l : List ℕ) → receives (Some t) (event.Label l) ≡ true → length l ≤ n
+pub received_within : (t h : Tree) (n : ℕ) → head t ≡ Some h → AreOfferedWithin n h →
+    (l : List ℕ) → receives (Some t) (event.Label l) ≡ true → length l ≤ n
 unfolding receives
-received_within t h n e w l r = w l ((labels_are_moves h (Offer l)).1 (moves (step h (Offer l)) (sym (ap is_some (head_step t h (Offer l) e)) ∙ r)))
+received_within t h n e w l r = w l ((labels_are_moves h (Offer l)).1
+    (moves (step h (Offer l)) (sym (ap is_some (head_step t h (Offer l) e)) ∙ r)))
   where
     moves : (o : Option Tree) → is_some (option_map (with_head t) o) ≡ true → IsSome o
     moves None q = absurd (cc q)

@@ -5,3 +5,6 @@ pub use Rattle.fst_cell.proofs.StampLaws.{stamped_push}
 pub use Rattle.fst_cell.proofs.StampLaws.{last_stamp_push, last_at}
 -- the two ends of a channel never both send
 pub use Rattle.fst_cell.proofs.ResidualLaws.{exclusive}
+-- what a cell holds may cross threads, and so may entries
+pub use Rattle.fst_cell.proofs.content.Standing.TheSendSync.{the_field_send}
+pub use Rattle.fst_cell.proofs.entries.Entries.TheSendSync.{the_send}

@@ -49,12 +49,14 @@ clash o x y a b =
     let m = sends_moves o x a in
     let n = sends_moves (option_map dual o) y b in
     let is : n.from ≡ dual m.from = same_Some n.from (dual m.from) (sym n.is ∙ ap (option_map dual) m.is) in
-    let z = mapped_some dual (step m.from (receiving y)) n.to (sym (dual_sends m.from y) ∙ ap (λ t. step t (sending y)) (sym is) ∙ n.moves) in
+    let z = mapped_some dual (step m.from (receiving y)) n.to
+    (sym (dual_sends m.from y) ∙ ap (λ t. step t (sending y)) (sym is) ∙ n.moves) in
     let d = one_direction m.from m.to z.0 (sending x) (receiving y) m.moves z.1 in
     true≢false (sym (sending_output x) ∙ d ∙ receiving_output y)
 
 -- the two ends of a channel never both send
-pub exclusive : (s : Side) (t : Tree) (h : List Entry) (x y : Event) → sends (residual s t h) x ≡ true → sends (residual (opposite s) t h) y ≡ true → ⊥
+pub exclusive : (s : Side) (t : Tree) (h : List Entry) (x y : Event) → sends (residual s t h) x ≡ true →
+    sends (residual (opposite s) t h) y ≡ true → ⊥
 exclusive s t h x y a b = clash (residual s t h) x y a (subst (λ (o : Option Tree). sends o y ≡ true) (residual_opposite s t h) b)
 
 input_label : (a : Label) → IsInput a → is_output a ≡ false
@@ -81,15 +83,18 @@ unfolding receives
 received t x u e = moved (step t (receiving x)) u e
 
 -- what one end sends the other receives
-pub meets : (s : Side) (t : Tree) (h : List Entry) (x : Event) → sends (residual s t h) x ≡ true → receives (residual (opposite s) t h) x ≡ true
+pub meets : (s : Side) (t : Tree) (h : List Entry) (x : Event) → sends (residual s t h) x ≡ true →
+    receives (residual (opposite s) t h) x ≡ true
 meets s t h x a =
     let m = sends_moves (residual s t h) x a in
     let dual_of : residual (opposite s) t h ≡ Some (dual m.from) = residual_opposite s t h ∙ ap (option_map dual) m.is in
     subst (λ (o : Option Tree). receives o x ≡ true) (sym dual_of)
     (received (dual m.from) x (dual m.to) (dual_receives m.from x ∙ ap (option_map dual) m.moves))
 
-pushed : (o : Option Tree) (h : List Entry) (e : Entry) → ((t : Tree) → after_history t (h ++ e ∷ []) ≡ option_and_then (λ u. after_event u e.event) (after_history t h)) →
-    option_and_then (λ y. after_history y (h ++ e ∷ [])) o ≡ option_and_then (λ u. after_event u e.event) (option_and_then (λ y. after_history y h) o)
+pushed : (o : Option Tree) (h : List Entry) (e : Entry) →
+    ((t : Tree) → after_history t (h ++ e ∷ []) ≡ option_and_then (λ u. after_event u e.event) (after_history t h)) →
+    option_and_then (λ y. after_history y (h ++ e ∷ [])) o ≡ option_and_then
+    (λ u. after_event u e.event) (option_and_then (λ y. after_history y h) o)
 pushed None h e rest = refl
 pushed (Some y) h e rest = rest y
 
@@ -97,26 +102,32 @@ then_none : (o : Option Tree) → option_and_then (λ y. after_history y []) o �
 then_none None = refl
 then_none (Some u) = refl
 
-push_all : (t : Tree) (h : List Entry) (e : Entry) → after_history t (h ++ e ∷ []) ≡ option_and_then (λ u. after_event u e.event) (after_history t h)
+push_all : (t : Tree) (h : List Entry) (e : Entry) → after_history t (h ++ e ∷ []) ≡ option_and_then
+    (λ u. after_event u e.event) (after_history t h)
 push_all t [] e = then_none (after_event t e.event)
 push_all t (x ∷ h) e = pushed (after_event t x.event) h e (λ u. push_all u h e)
 
 -- after one event more
-pub residual_push : (s : Side) (t r : Tree) (h : List Entry) (e : Entry) → residual s t h ≡ Some r → residual s t (h ++ e ∷ []) ≡ after_event r e.event
+pub residual_push : (s : Side) (t r : Tree) (h : List Entry) (e : Entry) → residual s t h ≡ Some r →
+    residual s t (h ++ e ∷ []) ≡ after_event r e.event
 unfolding residual
 residual_push s t r h e a = push_all (side_type s t) h e ∙ ap (option_and_then (λ u. after_event u e.event)) a
 
 sent_goes : (o : Option Tree) (x : Event) → Moves o (sending x) → IsSome (option_and_then (λ u. after_event u x) o)
-sent_goes o x m = moved (option_and_then (λ u. after_event u x) o) m.to (ap (option_and_then (λ u. after_event u x)) m.is ∙ after_sent m.from m.to x m.moves)
+sent_goes o x m = moved (option_and_then (λ u. after_event u x) o) m.to
+    (ap (option_and_then (λ u. after_event u x)) m.is ∙ after_sent m.from m.to x m.moves)
 
 received_goes : (o : Option Tree) (x : Event) → Moves o (receiving x) → IsSome (option_and_then (λ u. after_event u x) o)
-received_goes o x m = moved (option_and_then (λ u. after_event u x) o) m.to (ap (option_and_then (λ u. after_event u x)) m.is ∙ after_received m.from m.to x m.moves)
+received_goes o x m = moved (option_and_then (λ u. after_event u x) o) m.to
+    (ap (option_and_then (λ u. after_event u x)) m.is ∙ after_received m.from m.to x m.moves)
 
 -- a trace goes on by what one end sends
-pub trace_push : (s : Side) (t : Tree) (h : List Entry) (x : Event) (e : Entry) → e.event ≡ x → sends (residual s t h) x ≡ true → IsSome (after_history t (h ++ e ∷ []))
+pub trace_push : (s : Side) (t : Tree) (h : List Entry) (x : Event) (e : Entry) → e.event ≡ x → sends (residual s t h) x ≡ true →
+    IsSome (after_history t (h ++ e ∷ []))
 unfolding residual
 trace_push s t h x e same a =
-    subst (λ (o : Option Tree). IsSome o) (sym (push_all t h e ∙ ap (λ (y : Event). option_and_then (λ u. after_event u y) (after_history t h)) same)) (goes s a)
+    subst (λ (o : Option Tree). IsSome o) (sym (push_all t h e ∙ ap
+    (λ (y : Event). option_and_then (λ u. after_event u y) (after_history t h)) same)) (goes s a)
   where
     goes : (s : Side) → sends (residual s t h) x ≡ true → IsSome (option_and_then (λ u. after_event u x) (after_history t h))
     goes Left b = sent_goes (after_history t h) x (sends_moves (after_history t h) x b)

@@ -21,11 +21,28 @@ end_with e v = record { cell = e.cell; channel = e.channel; knows = v }
 
 -- the end after a try that found the word n, with an offer
 abbrev pub offered : Half → ℕ → Offer → Half
-offered v n o = record { side = v.side; declared = v.declared; history = v.history; offer = Some o; tries = v.tries + 1; found = n; held = None }
+offered v n o = record {
+  side = v.side;
+  declared = v.declared;
+  history = v.history;
+  offer = Some o;
+  tries = v.tries + 1;
+  found = n;
+  held = None;
+}
 
 -- the end after a try that found the word n, with one entry more
 abbrev pub longer : Half → ℕ → Entry → Half
-longer v n x = record { side = v.side; declared = v.declared; history = v.history ++ x ∷ []; offer = None; tries = v.tries + 1; found = n; held = None }
+longer v n x = record {
+  side = v.side;
+  declared = v.declared;
+  history = v.history ++ x ∷ [];
+  offer =
+      None;
+  tries = v.tries + 1;
+  found = n;
+  held = None;
+}
 
 -- an entry of a history
 abbrev pub entry : Event → ℕ → ℕ → ℕ → Entry

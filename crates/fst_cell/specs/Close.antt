@@ -31,7 +31,8 @@ either_of None y = y
 
 -- an end that waits, and whose offer doesn't stand, has its offer as the last entry
 abbrev pub Trails : List Entry → Half → Type 0
-Trails h v = (o : Offer) → v.offer ≡ Some o → (v.history ≡ h) ⊎ ((e : Entry) × (h ≡ v.history ++ e ∷ []) × (e.event ≡ o.event) × (e.sent ≡ o.clock))
+Trails h v = (o : Offer) → v.offer ≡ Some o → (v.history ≡ h) ⊎
+    ((e : Entry) × (h ≡ v.history ++ e ∷ []) × (e.event ≡ o.event) × (e.sent ≡ o.clock))
 
 -- what closing gives: the history is the longer one that the ends know, and the offer that still stands; an end that doesn't wait lacks no entry
 pub record ClosedAs (channel : ChannelName) (l r : Half) (c : Closed) : Type 0 where
@@ -40,7 +41,8 @@ pub record ClosedAs (channel : ChannelName) (l r : Half) (c : Closed) : Type 0 w
   pub right_declared : c.history.declared ≡ r.declared
   pub formed : IsSession [] c.history.declared
   pub entries : c.history.entries.items ≡ longer_of l.history r.history
-  pub offered : c.offered ≡ either_of (stands_at c.history.entries.items l) (stands_at c.history.entries.items r)
+  pub offered : c.offered ≡ either_of (stands_at c.history.entries.items l)
+      (stands_at c.history.entries.items r)
   pub left : Trails c.history.entries.items l
   pub right : Trails c.history.entries.items r
   pub left_level : l.offer ≡ None → l.history ≡ c.history.entries.items

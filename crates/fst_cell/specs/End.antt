@@ -44,7 +44,8 @@ abbrev pub end_name : EndView → EndName
 end_name e = record { channel = e.channel; side = e.knows.side }
 
 -- the fields of an end fit what it knows
-pub record IsEnd (m : Me (Option Content) View) (side : Side) (t : Tree) (next : Option Tree) : Type 0 where
+pub record IsEnd (m : Me (Option Content) View) (side : Side) (t : Tree)
+    (next : Option Tree) : Type 0 where
   pub idle : Idle m
   pub side_is : (half_of m.0).side ≡ side
   pub type_is : residual side (half_of m.0).declared (half_of m.0).history ≡ Some t
@@ -57,7 +58,8 @@ residual_of v = residual v.side v.declared v.history
 -- after a try the seat holds no turn, and the word found was odd, or it holds the turn and the content is in hand
 abbrev pub Seized : Half → Option Content → Me (Option Content) View → Type 0
 Seized v None m = (n : ℕ) × (n % 2 ≡ 1) × (m ≡ (Only (tried v n), []))
-Seized v (Some c) m = (n : ℕ) × (n ≡ turn_word c 0) × (m ≡ (Only (took v n c), (0, None) ∷ [])) × Sound c × Fits c v
+Seized v (Some c) m = (n : ℕ) × (n ≡ turn_word c 0) ×
+    (m ≡ (Only (took v n c), (0, None) ∷ [])) × Sound c × Fits c v
 
 -- a seat that holds the turn, and whose slot was moved out
 abbrev pub IsOut : Me (Option Content) View → Type 0

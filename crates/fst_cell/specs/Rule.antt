@@ -60,7 +60,8 @@ pub record Lags (c : Content) (side : Side) (h : List Entry) (o : Offer) : Type 
 -- what a side knows of the history, and of its own offer while it waits
 abbrev pub Place : Content → Side → List Entry → Option Offer → Type 0
 Place c side h None = (h ≡ c.history) × (stands_for side c.offer ≡ None)
-Place c side h (Some o) = Waits c.declared side h o × (((h ≡ c.history) × (stands_for side c.offer ≡ Some o)) ⊎ Lags c side h o)
+Place c side h (Some o) = Waits c.declared side h o ×
+    (((h ≡ c.history) × (stands_for side c.offer ≡ Some o)) ⊎ Lags c side h o)
 
 -- what an end knows fits the content
 pub record Fits (c : Content) (v : Half) : Type 0 where
@@ -68,14 +69,16 @@ pub record Fits (c : Content) (v : Half) : Type 0 where
   pub place : Place c v.side v.history v.offer
 
 -- who holds the turn: the word, and where the content is
-abbrev pub Turn : Content → List ℕ → List (Maybe (Option Content)) → Option Content → Option Content → Type 0
+abbrev pub Turn : Content → List ℕ → List (Maybe (Option Content)) → Option Content →
+    Option Content → Type 0
 Turn c ws hs None None = (ws ≡ turn_word c 0 ∷ []) × (hs ≡ some (Some c) ∷ [])
 Turn c ws hs None (Some d) = (d ≡ c) × (ws ≡ turn_word c 1 ∷ []) × (hs ≡ none ∷ [])
 Turn c ws hs (Some d) None = (d ≡ c) × (ws ≡ turn_word c 1 ∷ []) × (hs ≡ none ∷ [])
 Turn c ws hs (Some d) (Some e) = ⊥
 
 -- the two ends of one cell
-pub record Ends (c : Content) (ws : List ℕ) (hs : List (Maybe (Option Content))) (l r : Half) : Type 0 where
+pub record Ends (c : Content) (ws : List ℕ) (hs : List (Maybe (Option Content)))
+    (l r : Half) : Type 0 where
   pub sides : r.side ≡ opposite l.side
   pub sound : Sound c
   pub left : Fits c l
@@ -95,7 +98,15 @@ Holds s = (c : Content) × Arranged c s.words s.homes s.views
 
 -- an end that has done nothing
 abbrev pub fresh : Side → Tree → Half
-fresh side t = record { side = side; declared = t; history = []; offer = None; tries = 0; found = 0; held = None }
+fresh side t = record {
+  side = side;
+  declared = t;
+  history = [];
+  offer = None;
+  tries = 0;
+  found = 0;
+  held = None;
+}
 
 -- and the seat of both ends at the start
 abbrev pub both_fresh : Tree → View
@@ -118,15 +129,40 @@ joined v w = v
 
 -- a try that found the word n
 abbrev pub tried : Half → ℕ → Half
-tried v n = record { side = v.side; declared = v.declared; history = v.history; offer = v.offer; tries = v.tries + 1; found = n; held = None }
+tried v n = record {
+  side = v.side;
+  declared = v.declared;
+  history = v.history;
+  offer = v.offer;
+  tries = v.tries + 1;
+  found = n;
+  held = None;
+}
 
 -- a try that found the turn free, and this content
 abbrev pub took : Half → ℕ → Content → Half
-took v n c = record { side = v.side; declared = v.declared; history = v.history; offer = v.offer; tries = v.tries + 1; found = n; held = Some c }
+took v n c = record {
+  side = v.side;
+  declared = v.declared;
+  history = v.history;
+  offer = v.offer;
+  tries = v.tries + 1;
+  found = n;
+  held = Some c;
+}
 
 -- the end knows the content that it gives back
 abbrev pub synced : Half → Content → Half
-synced v c = record { side = v.side; declared = v.declared; history = c.history; offer = stands_for v.side c.offer; tries = v.tries; found = v.found; held = None }
+synced v c = record {
+  side = v.side;
+  declared = v.declared;
+  history = c.history;
+  offer =
+      stands_for v.side c.offer;
+  tries = v.tries;
+  found = v.found;
+  held = None;
+}
 
 -- what is out with a seat that took the turn
 abbrev pub out : Content → List (ℕ × Option Content)
@@ -141,7 +177,8 @@ Tried v n m =
 -- the same of a seat; the joined seat finds the turn free
 abbrev pub TriedAs : View → ℕ → Me (Option Content) View → Type 0
 TriedAs (Only v) n m = Tried v n m
-TriedAs (Whole l r) n m = (c : Content) × (n ≡ turn_word c 0) × (m ≡ (Whole (took l n c) r, out c)) × Sound c × Fits c l × Fits c r
+TriedAs (Whole l r) n m = (c : Content) × (n ≡ turn_word c 0) ×
+    (m ≡ (Whole (took l n c) r, out c)) × Sound c × Fits c l × Fits c r
 TriedAs v n m = Unit {0}
 
 -- giving the turn back

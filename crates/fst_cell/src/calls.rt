@@ -37,7 +37,8 @@ impl End {
 
     /// How many bytes no label is over that this end may receive next.
     pub fn longest_label(&self) -> Result<usize, AllocError>
-        ensures { IfOk result (λ n. (l : List ℕ) → receives (residual_of self.now.knows) (Label l) ≡ true → length l ≤ n) }
+        ensures { IfOk result (λ n. (l : List ℕ) →
+            receives (residual_of self.now.knows) (Label l) ≡ true → length l ≤ n) }
     {
         match head(&self.residual, MOST_OPEN)? {
             Some(first) => Ok(longest_offered(first).unwrap_or(0)),

@@ -24,7 +24,12 @@ impl Model for End {
 
     ghost coded = { Prim.hlevel (codes, ty.the_row.coded) };
 
-    ghost view = { λ e. record { cell = e.grip.seat.table_id; channel = e.name.channel; knows = half_of e.grip.seat.me.0 } };
+    ghost view = { λ e. record {
+      cell = e.grip.seat.table_id;
+      channel = e.name.channel;
+      knows =
+          half_of e.grip.seat.me.0;
+    } };
 
     ghost invariant = { λ e. IsEnd e.grip.seat.me e.name.side e.residual e.next };
 }

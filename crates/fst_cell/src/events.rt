@@ -50,7 +50,8 @@ pub(crate) fn room(
     event: &Event,
 ) -> Result<(Ty, Event, Event), AllocError>
     requires { receives (Some residual.now) event.now ≡ true }
-    ensures { IfOk result (λ r. GoesOn residual.now event.now r.0 × (r.1 ≡ event.now) × (r.2 ≡ event.now)) }
+    ensures { IfOk result (λ r. GoesOn residual.now event.now r.0 × (r.1 ≡ event.now) ×
+        (r.2 ≡ event.now)) }
 {
     let next = next_received(alloc, residual, event)?;
     Ok((next, event.copy(alloc)?, event.copy(alloc)?))

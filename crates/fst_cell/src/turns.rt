@@ -14,7 +14,8 @@ use std::sync::Arc;
 pub(crate) struct Grip {
     pub(crate) table: Arc<CellTable, Global>,
     pub(crate) seat: CellSeat,
-    pub(crate) ghost fits: { ((arc_value table).shared.table_id ≡ seat.table_id) × (seat.table_id.words ≡ 1) },
+    pub(crate) ghost fits: { ((arc_value table).shared.table_id ≡ seat.table_id) ×
+        (seat.table_id.words ≡ 1) },
 }
 
 impl Grip {

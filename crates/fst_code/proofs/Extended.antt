@@ -32,7 +32,8 @@ extends_both x y = record {
 }
 
 -- an instruction that was put last
-pub pushed : (c d : Compiled) (a : Instr) → LeadsBelow (suc (top c)) a → d.families ≡ c.families → d.code ≡ c.code ++ a ∷ [] → d.lambdas ≡ c.lambdas → Pushes c d a
+pub pushed : (c d : Compiled) (a : Instr) → LeadsBelow (suc (top c)) a → d.families ≡ c.families → d.code ≡ c.code ++ a ∷ [] →
+    d.lambdas ≡ c.lambdas → Pushes c d a
 pushed c d a below f e l = record {
   extends = record {
     families = sym f;
@@ -60,7 +61,8 @@ pub kept_comes : {c d : Compiled} → Extends c d → (i j : ℕ) → Comes c i 
 kept_comes x i j (inl e) = inl e
 kept_comes x i j (inr h) = inr (kept_leads x i j h)
 
-pub kept_captures : {c d : Compiled} → Extends c d → (i : ℕ) (ks : List ℕ) (p : ℕ → Bool) (j : ℕ) → Captures c i ks p j → Captures d i ks p j
+pub kept_captures : {c d : Compiled} → Extends c d →
+    (i : ℕ) (ks : List ℕ) (p : ℕ → Bool) (j : ℕ) → Captures c i ks p j → Captures d i ks p j
 kept_captures x i [] p j h = h
 kept_captures x i (k ∷ ks) p j h = (h.0, kept_at x _ _ _ h.1, kept_captures x h.0 ks p j h.2)
 
@@ -81,12 +83,14 @@ pub kept_binds : {c d : Compiled} → Extends c d → (i : ℕ) (b : Bool) (j : 
 kept_binds x i true j h = kept_at x _ _ _ h
 kept_binds x i false j h = (h.0, h.1, kept_at x _ _ _ h.2, kept_at x _ _ _ h.3, kept_at x _ _ _ h.4)
 
-pub kept_binds_all : {c d : Compiled} → Extends c d → (i : ℕ) (xs : List Binder) (p : ℕ → Bool) (j : ℕ) → BindsAll c i xs p j → BindsAll d i xs p j
+pub kept_binds_all : {c d : Compiled} → Extends c d →
+    (i : ℕ) (xs : List Binder) (p : ℕ → Bool) (j : ℕ) → BindsAll c i xs p j → BindsAll d i xs p j
 kept_binds_all x i [] p j h = h
 kept_binds_all x i (y ∷ ys) p j h = (h.0, kept_binds x i (p (length ys)) h.0 h.1, kept_binds_all x h.0 ys p j h.2)
 
 mutual
-  pub kept : {c d : Compiled} → Extends c d → (i : ℕ) (e : CoreTree) (p : ℕ → Bool) (j : ℕ) → Computes c i e p j → Computes d i e p j
+  pub kept : {c d : Compiled} → Extends c d → (i : ℕ) (e : CoreTree) (p : ℕ → Bool) (j : ℕ) → Computes c i e p j →
+      Computes d i e p j
   kept x i (local at k) p j h = kept_at x _ _ _ h
   kept x i (global at g ts) p j h = kept_at x _ _ _ h
   kept x i (int at n) p j h = kept_at x _ _ _ h
@@ -94,8 +98,12 @@ mutual
   kept x i (char at n) p j h = kept_at x _ _ _ h
   kept x i (unit at) p j h = kept_at x _ _ _ h
   kept x i (pair at e f) p j h = (h.0, h.1, kept x i e _ h.0 h.2, kept x h.0 f p h.1 h.3, kept_at x _ _ _ h.4)
-  kept {c} {d} x i (make at n o es) p j h =
-      (h.0, subst (λ z. HasFields (maker_of (slice_get z n) o) (terms_length es)) x.families h.1, kept_terms x i es p h.0 h.2, kept_at x _ _ _ h.3)
+  kept {c} {d} x i (make at n o es) p j h = (
+    h.0,
+    subst (λ z. HasFields (maker_of (slice_get z n) o) (terms_length es)) x.families h.1,
+    kept_terms x i es p h.0 h.2,
+    kept_at x _ _ _ h.3,
+  )
   kept x i (lambda at u t y e) p j h = (
     h.0,
     h.1,
@@ -113,9 +121,28 @@ mutual
     (h.13.0, kept_at x _ _ _ h.13.1),
   )
   kept x i (apply at e f) p j h = (h.0, h.1, kept x i e _ h.0 h.2, kept x h.0 f p h.1 h.3, kept_at x _ _ _ h.4)
-  kept x i (let_in at y e f) p j h = (h.0, h.1, h.2, kept x i e _ h.0 h.3, kept_binds x h.0 _ h.1 h.4, kept x h.1 f _ h.2 h.5, kept_at x _ _ _ h.6)
-  kept x i (split at y z e f) p j h =
-      (h.0, h.1, h.2, h.3, h.4, kept x i e _ h.0 h.5, kept_at x _ _ _ h.6, kept_binds x h.1 _ h.2 h.7, kept_binds x h.2 _ h.3 h.8, kept x h.3 f _ h.4 h.9, kept_at x _ _ _ h.10)
+  kept x i (let_in at y e f) p j h = (
+    h.0,
+    h.1,
+    h.2,
+    kept x i e _ h.0 h.3,
+    kept_binds x h.0 _ h.1 h.4,
+    kept x h.1 f _ h.2 h.5,
+    kept_at x _ _ _ h.6,
+  )
+  kept x i (split at y z e f) p j h = (
+    h.0,
+    h.1,
+    h.2,
+    h.3,
+    h.4,
+    kept x i e _ h.0 h.5,
+    kept_at x _ _ _ h.6,
+    kept_binds x h.1 _ h.2 h.7,
+    kept_binds x h.2 _ h.3 h.8,
+    kept x h.3 f _ h.4 h.9,
+    kept_at x _ _ _ h.10,
+  )
   kept x i (if_else at e f g) p j h = (
     h.0,
     h.1,
@@ -133,8 +160,17 @@ mutual
     kept x h.5 g p h.6 h.13,
     kept_comes x h.6 j h.14,
   )
-  kept x i (case_of at e bs) p j h =
-      (h.0, h.1, h.2, h.3, h.4, kept x i e _ h.0 h.5, kept_at x _ _ _ h.6, ap (λ z. slice_get z h.3) (sym x.families) ∙ h.7, kept_cases x h.4 _ bs _ p j h.8)
+  kept x i (case_of at e bs) p j h = (
+    h.0,
+    h.1,
+    h.2,
+    h.3,
+    h.4,
+    kept x i e _ h.0 h.5,
+    kept_at x _ _ _ h.6,
+    ap (λ z. slice_get z h.3) (sym x.families) ∙ h.7,
+    kept_cases x h.4 _ bs _ p j h.8,
+  )
   kept x i (operate at o e f) p j h = (h.0, h.1, kept x i e _ h.0 h.2, kept x h.0 f p h.1 h.3, kept_at x _ _ _ h.4)
   kept x i (negate at e) p j h = (h.0, kept x i e p h.0 h.1, kept_at x _ _ _ h.2)
   kept x i (new at t) p j h = kept_at x _ _ _ h
@@ -158,11 +194,14 @@ mutual
   )
   kept x i (seq at e f) p j h = (h.0, h.1, kept x i e _ h.0 h.2, kept_at x _ _ _ h.3, kept x h.1 f p j h.4)
 
-  pub kept_terms : {c d : Compiled} → Extends c d → (i : ℕ) (es : CoreList) (p : ℕ → Bool) (j : ℕ) → ComputesAll c i es p j → ComputesAll d i es p j
+  pub kept_terms : {c d : Compiled} → Extends c d →
+      (i : ℕ) (es : CoreList) (p : ℕ → Bool) (j : ℕ) → ComputesAll c i es p j → ComputesAll d i es p j
   kept_terms x i no_terms p j h = h
   kept_terms x i (term e es) p j h = (h.0, kept x i e _ h.0 h.1, kept_terms x h.0 es p j h.2)
 
-  pub kept_cases : {c d : Compiled} → Extends c d → (f : Family) (places : List ℕ) (bs : CoreArms) (q p : ℕ → Bool) (j : ℕ) → ComputesCases c f places bs q p j → ComputesCases d f places bs q p j
+  pub kept_cases : {c d : Compiled} → Extends c d →
+      (f : Family) (places : List ℕ) (bs : CoreArms) (q p : ℕ → Bool) (j : ℕ) → ComputesCases c f places bs q p j →
+      ComputesCases d f places bs q p j
   kept_cases x f places no_arms q p j h = h
   kept_cases x f places (arm l xs e bs) q p j h = (
     h.0,
@@ -181,7 +220,9 @@ mutual
     kept_cases x f places bs q p j h.13,
   )
 
-  pub kept_matches : {c d : Compiled} → Extends c d → (places : List (List ℕ × ℕ)) (bs : CoreArms) (q p : ℕ → Bool) (j : ℕ) → ComputesMatches c places bs q p j → ComputesMatches d places bs q p j
+  pub kept_matches : {c d : Compiled} → Extends c d →
+      (places : List (List ℕ × ℕ)) (bs : CoreArms) (q p : ℕ → Bool) (j : ℕ) → ComputesMatches c places bs q p j →
+      ComputesMatches d places bs q p j
   kept_matches x [] no_arms q p j h = h
   kept_matches x (o ∷ os) no_arms q p j h = h
   kept_matches x [] (arm l xs e bs) q p j h = h

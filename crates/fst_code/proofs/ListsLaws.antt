@@ -42,8 +42,10 @@ so_far_none p = record { members = λ k h. absurd (omega arith); others = λ k h
 pub so_far_push : (ns : List ℕ) (p : ℕ → Bool) (i : ℕ) → p i ≡ true → SoFar ns p i → SoFar (ns ++ i ∷ []) p (i + 1)
 so_far_push ns p i t s = record {
   members = λ k h. elim (cases_eq i k) [
-    | inl e ↦ among_push ns i k ∙ ap (λ z. among ns k || z) (ap (is i) (sym e) ∙ is_same i) ∙ or_true (among ns k) ∙ sym t ∙ ap p e
-    | inr ne ↦ let low : k < i = omega arith in among_push ns i k ∙ ap (λ z. among ns k || z) (is_other i k ne) ∙ or_none (among ns k) ∙ s.members k low
+    | inl e ↦ among_push ns i k ∙ ap (λ z. among ns k || z) (ap (is i) (sym e) ∙ is_same i) ∙ or_true (among ns k) ∙ sym t
+        ∙ ap p e
+    | inr ne ↦ let low : k < i = omega arith in among_push ns i k ∙ ap (λ z. among ns k || z) (is_other i k ne)
+        ∙ or_none (among ns k) ∙ s.members k low
   ];
   others = λ k h. let ne : i ≡ k → ⊥ = λ e. omega arith in let high : i ≤ k = omega arith in
       among_push ns i k ∙ ap (λ z. among ns k || z) (is_other i k ne) ∙ or_none (among ns k) ∙ s.others k high;
@@ -83,5 +85,7 @@ only_dropped false true false = refl
 only_dropped false false false = refl
 
 -- what is marked in all and not in a branch is what the branch has to drop
-pub lists_dropped : (ns : List ℕ) (a b r q f p : ℕ → Bool) → a ≡ also q p → b ≡ also f p → ((k : ℕ) → r k ≡ (a k && not (b k))) → Lists ns r → Lists ns (dropped q f p)
-lists_dropped ns a b r q f p ea eb er h = lists_same ns r (dropped q f p) (λ k. er k ∙ ap (λ z. z k && not (b k)) ea ∙ ap (λ z. also q p k && not (z k)) eb ∙ only_dropped (q k) (f k) (p k)) h
+pub lists_dropped : (ns : List ℕ) (a b r q f p : ℕ → Bool) → a ≡ also q p → b ≡ also f p →
+    ((k : ℕ) → r k ≡ (a k && not (b k))) → Lists ns r → Lists ns (dropped q f p)
+lists_dropped ns a b r q f p ea eb er h = lists_same ns r (dropped q f p)
+    (λ k. er k ∙ ap (λ z. z k && not (b k)) ea ∙ ap (λ z. also q p k && not (z k)) eb ∙ only_dropped (q k) (f k) (p k)) h

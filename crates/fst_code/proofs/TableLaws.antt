@@ -20,20 +20,25 @@ use Rattle.fst_code.specs.Makers.{ArePlaced, Entries, found, place_in}
 -- ---- labels with places
 
 -- one more is put in the table, of those that are to come
-pub table_more : (ps : List (List ℕ × ℕ)) (bs : List Arm) (is : List ℕ) (k : ℕ) (b : Arm) (i : ℕ) (all : List (List ℕ × ℕ)) → k < length bs → k < length is → b ≡ get_or bs k b → i ≡ get_or is k i →
+pub table_more : (ps : List (List ℕ × ℕ)) (bs : List Arm) (is : List ℕ) (k : ℕ) (b : Arm) (i : ℕ) (all : List (List ℕ × ℕ)) →
+    k < length bs → k < length is → b ≡ get_or bs k b → i ≡ get_or is k i →
     ps ++ table_of (drop k bs) (drop k is) ≡ all → (ps ++ (b.label, i) ∷ []) ++ table_of (drop (k + 1) bs) (drop (k + 1) is) ≡ all
-table_more ps bs is k b i all lb li eb ei h = append_assoc ps ((b.label, i) ∷ []) (table_of (drop (k + 1) bs) (drop (k + 1) is)) ∙ ap (λ z. ps ++ z) (sym next) ∙ h
+table_more ps bs is k b i all lb li eb ei h = append_assoc ps ((b.label, i) ∷ []) (table_of (drop (k + 1) bs) (drop (k + 1) is))
+    ∙ ap (λ z. ps ++ z) (sym next) ∙ h
   where
     next : table_of (drop k bs) (drop k is) ≡ (b.label, i) ∷ table_of (drop (k + 1) bs) (drop (k + 1) is)
-    next = (λ j. table_of ((drop_more bs k b lb ∙ ap (λ z. z ∷ drop (k + 1) bs) (sym eb)) j) ((drop_more is k i li ∙ ap (λ z. z ∷ drop (k + 1) is) (sym ei)) j))
+    next = (λ j. table_of ((drop_more bs k b lb ∙ ap (λ z. z ∷ drop (k + 1) bs) (sym eb)) j)
+        ((drop_more is k i li ∙ ap (λ z. z ∷ drop (k + 1) is) (sym ei)) j))
 
 -- the place of a label is one of the places
-pub table_at_most : (n : ℕ) (bs : List Arm) (is : List ℕ) → AreAtMost n is → (l : List ℕ) (j : ℕ) → place_of (table_of bs is) l ≡ Some j → j ≤ n
+pub table_at_most : (n : ℕ) (bs : List Arm) (is : List ℕ) → AreAtMost n is →
+    (l : List ℕ) (j : ℕ) → place_of (table_of bs is) l ≡ Some j → j ≤ n
 table_at_most n [] is h l j at = absurd (cc at)
 table_at_most n (b ∷ bs) [] h l j at = absurd (cc at)
 table_at_most n (b ∷ bs) (i ∷ is) h l j at = go (bytes_eq b.label l) at (table_at_most n bs is (λ k. h (suc k)) l j)
   where
-    go : (z : Bool) → (if z then Some i else place_of (table_of bs is) l) ≡ Some j → (place_of (table_of bs is) l ≡ Some j → j ≤ n) → j ≤ n
+    go : (z : Bool) → (if z then Some i else place_of (table_of bs is) l) ≡ Some j →
+        (place_of (table_of bs is) l ≡ Some j → j ≤ n) → j ≤ n
     go true e rest = let same : i ≡ j = same_Some i j e in let low = h zero i refl in omega (arith, same, low)
     go false e rest = rest e
 
@@ -57,7 +62,8 @@ set_beyond (x ∷ xs) zero v h = absurd (omega (arith, h))
 set_beyond (x ∷ xs) (suc k) v h = ap (λ z. x ∷ z) (set_beyond xs k v (omega (arith, h)))
 
 -- a place of no constructor of the table isn't put
-pub put_beyond : (o : Option MakerPlace) (p : MakerPlace) (i : ℕ) (ps : List ℕ) → o ≡ Some p → length ps ≤ p.maker → ps ≡ put_at o i ps
+pub put_beyond : (o : Option MakerPlace) (p : MakerPlace) (i : ℕ) (ps : List ℕ) → o ≡ Some p → length ps ≤ p.maker →
+    ps ≡ put_at o i ps
 put_beyond o p i ps e h = sym (ap (λ z. put_at z i ps) e ∙ set_beyond ps p.maker i h)
 
 pub put_at_most : (o : Option MakerPlace) (n i : ℕ) (ps : List ℕ) → AreAtMost n ps → i ≤ n → AreAtMost n (put_at o i ps)
@@ -83,14 +89,16 @@ put_length (Some p) i ps = length-set ps p.maker i
 -- ---- constructors and arms
 
 -- a name among those of constructors is that of one
-maker_at : (ms : List Maker) (x : List ℕ) (o : ℕ) → o < length (map (λ (m : Maker). m.name) ms) → get_or (map (λ (m : Maker). m.name) ms) o x ≡ x →
+maker_at : (ms : List Maker) (x : List ℕ) (o : ℕ) → o < length (map (λ (m : Maker). m.name) ms) →
+    get_or (map (λ (m : Maker). m.name) ms) o x ≡ x →
     (m : Maker) × (slice_get ms o ≡ Some m) × (m.name ≡ x)
 maker_at [] x o h e = absurd (omega (arith, h))
 maker_at (m ∷ ms) x zero h e = (m, refl, e)
 maker_at (m ∷ ms) x (suc o) h e = maker_at ms x o (omega (arith, h)) e
 
 -- the label of an arm is among the labels, at the arm's place
-label_at : (bs : List Arm) (k : ℕ) (b : Arm) → slice_get bs k ≡ Some b → (k < length (arm_labels (core_arms_of bs))) × (get_or (arm_labels (core_arms_of bs)) k b.label ≡ b.label)
+label_at : (bs : List Arm) (k : ℕ) (b : Arm) → slice_get bs k ≡ Some b → (k < length (arm_labels (core_arms_of bs))) ×
+    (get_or (arm_labels (core_arms_of bs)) k b.label ≡ b.label)
 label_at [] k b h = absurd (cc h)
 label_at (a ∷ bs) zero b h = let same : a ≡ b = same_Some a b h in (omega arith, ap (λ (z : Arm). z.label) same)
 label_at (a ∷ bs) (suc k) b h = let rest = label_at bs k b h in (omega (arith, rest.0), rest.1)
@@ -106,13 +114,21 @@ pub record Stands (f : Family) (entries : Entries) (b : Arm) : Type 0 where
   pub named : maker.name ≡ b.label
   pub found_at : found entries b.label ≡ Some (place_in f.makers.items number)
 
-pub stands : (fs : List Family) (entries : Entries) (n : ℕ) (f : Family) (bs : List Arm) (k : ℕ) (b : Arm) → ArePlaced fs entries → slice_get fs n ≡ Some f →
+pub stands : (fs : List Family) (entries : Entries) (n : ℕ) (f : Family) (bs : List Arm) (k : ℕ) (b : Arm) →
+    ArePlaced fs entries → slice_get fs n ≡ Some f →
     AreEachOnce (names f.makers.items) (arm_labels (core_arms_of bs)) → slice_get bs k ≡ Some b → Stands f entries b
 stands fs entries n f bs k b placed here each at =
     let label = label_at bs k b at in
     let named = (each.same b.label).1 (k, label.0, label.1) in
     let m = maker_at f.makers.items b.label named.0 named.1 named.2 in
-    record { number = named.0; maker = m.0; there = m.1; named = m.2; found_at = ap (found entries) (sym m.2) ∙ placed.placed n named.0 f m.0 here m.1 }
+    record {
+      number = named.0;
+      maker = m.0;
+      there = m.1;
+      named = m.2;
+      found_at = ap (found entries) (sym m.2)
+          ∙ placed.placed n named.0 f m.0 here m.1;
+    }
 
 -- no arms stand for no constructors
 pub no_makers : (ms : List Maker) → AreEachOnce (names ms) [] → 0 ≡ length ms
@@ -127,30 +143,40 @@ no_makers (m ∷ ms) each =
 abbrev pub PlacedSoFar : Family → List Arm → List ℕ → List ℕ → ℕ → Type 0
 PlacedSoFar f bs is ps i = (k j : ℕ) (b : Arm) → k < i → slice_get bs k ≡ Some b → slice_get is k ≡ Some j → HasPlace f ps b j
 
-pub placed_more : (fs : List Family) (entries : Entries) (n : ℕ) (f : Family) (bs : List Arm) (is ps : List ℕ) (i : ℕ) (b : Arm) (start : ℕ) → ArePlaced fs entries → slice_get fs n ≡ Some f →
-    AreEachOnce (names f.makers.items) (arm_labels (core_arms_of bs)) → slice_get bs i ≡ Some b → slice_get is i ≡ Some start → length ps ≡ length f.makers.items →
+pub placed_more : (fs : List Family) (entries : Entries) (n : ℕ) (f : Family) (bs : List Arm) (is ps : List ℕ) (i : ℕ) (b : Arm)
+    (start : ℕ) → ArePlaced fs entries → slice_get fs n ≡ Some f →
+    AreEachOnce (names f.makers.items) (arm_labels (core_arms_of bs)) → slice_get bs i ≡ Some b → slice_get is i ≡ Some start →
+    length ps ≡ length f.makers.items →
     PlacedSoFar f bs is ps i → PlacedSoFar f bs is (put_at (found entries b.label) start ps) (i + 1)
-placed_more fs entries n f bs is ps i b start placed here each at to long before k j a lt at_a to_j = subst (λ z. HasPlace f z a j) (sym put) (elim (cases_eq k i) [
-  | inl same ↦
-      let one : a ≡ b = same_Some a b (sym at_a ∙ ap (slice_get bs) same ∙ at) in
-      let its : j ≡ start = same_Some j start (sym to_j ∙ ap (slice_get is) same ∙ to) in
-      let inside : s.number < length ps = omega (arith, slice_get_within f.makers.items s.number s.maker s.there, long) in
-      record {
-        number = s.number;
-        maker = s.maker;
-        there = s.there;
-        named = s.named ∙ ap (λ (z : Arm). z.label) (sym one);
-        placed = get_set_same ps s.number start inside ∙ ap Some (sym its);
-      }
-  | inr other ↦
-      let low : k < i = omega arith in
-      let h = before k j a low at_a to_j in
-      let differ : s.number ≡ h.number → ⊥ = λ e.
-      let one : s.maker ≡ h.maker = same_Some s.maker h.maker (sym s.there ∙ ap (slice_get f.makers.items) e ∙ h.there) in
-      let labels : b.label ≡ a.label = sym s.named ∙ ap (λ (z : Maker). z.name) one ∙ h.named in
-      apart_labels low labels in
-      record { number = h.number; maker = h.maker; there = h.there; named = h.named; placed = get_set_other ps s.number h.number start differ ∙ h.placed }
-])
+placed_more fs entries n f bs is ps i b start placed here each at to long before k j a lt at_a to_j = subst
+    (λ z. HasPlace f z a j) (sym put) (elim (cases_eq k i) [
+      | inl same ↦
+          let one : a ≡ b = same_Some a b (sym at_a ∙ ap (slice_get bs) same ∙ at) in
+          let its : j ≡ start = same_Some j start (sym to_j ∙ ap (slice_get is) same ∙ to) in
+          let inside : s.number < length ps = omega (arith, slice_get_within f.makers.items s.number s.maker s.there, long) in
+          record {
+            number = s.number;
+            maker = s.maker;
+            there = s.there;
+            named = s.named ∙ ap (λ (z : Arm). z.label) (sym one);
+            placed = get_set_same ps s.number start inside ∙ ap Some (sym its);
+          }
+      | inr other ↦
+          let low : k < i = omega arith in
+          let h = before k j a low at_a to_j in
+          let differ : s.number ≡ h.number → ⊥ = λ e.
+          let one : s.maker ≡ h.maker = same_Some s.maker h.maker (sym s.there ∙ ap (slice_get f.makers.items) e ∙ h.there) in
+          let labels : b.label ≡ a.label = sym s.named ∙ ap (λ (z : Maker). z.name) one ∙ h.named in
+          apart_labels low labels in
+          record {
+            number = h.number;
+            maker = h.maker;
+            there = h.there;
+            named = h.named;
+            placed =
+                get_set_other ps s.number h.number start differ ∙ h.placed;
+          }
+    ])
   where
     s : Stands f entries b
     s = stands fs entries n f bs i b placed here each at
@@ -168,5 +194,7 @@ placed_more fs entries n f bs is ps i b start placed here each at to long before
         let itself = (bytes_eq-Decides b.label b.label).1 refl in
         absurd (false≢true (sym apart ∙ (λ z. bytes_eq (first z) (mine.1 z)) ∙ itself))
 
-pub placed_all : (f : Family) (bs : List Arm) (is ps : List ℕ) (i : ℕ) → PlacedSoFar f bs is ps i → length bs ≤ i → ArePlacesOf f bs is ps
-placed_all f bs is ps i s past k j b at to = let low : k < i = omega (arith, slice_get_within bs k b at, past) in s k j b low at to
+pub placed_all : (f : Family) (bs : List Arm) (is ps : List ℕ) (i : ℕ) → PlacedSoFar f bs is ps i → length bs ≤ i →
+    ArePlacesOf f bs is ps
+placed_all f bs is ps i s past k j b at to = let low : k < i = omega (arith, slice_get_within bs k b at, past) in
+    s k j b low at to

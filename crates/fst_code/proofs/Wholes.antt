@@ -10,7 +10,8 @@ whole_one f w x = (λ i. f (x i)) ∙ w
 pub whole_two : (f : CoreTree → CoreTree → CoreTree) → {t a b A B : CoreTree} → f a b ≡ t → A ≡ a → B ≡ b → f A B ≡ t
 whole_two f w x y = (λ i. f (x i) (y i)) ∙ w
 
-pub whole_three : (f : CoreTree → CoreTree → CoreTree → CoreTree) → {t a b o A B O : CoreTree} → f a b o ≡ t → A ≡ a → B ≡ b → O ≡ o → f A B O ≡ t
+pub whole_three : (f : CoreTree → CoreTree → CoreTree → CoreTree) → {t a b o A B O : CoreTree} → f a b o ≡ t → A ≡ a → B ≡ b →
+    O ≡ o → f A B O ≡ t
 whole_three f w x y z = (λ i. f (x i) (y i) (z i)) ∙ w
 
 pub written_as : {c d : Compiled} {ms ns : List Bool} {s t : CoreTree} → s ≡ t → Writes c ms d ns s → Writes c ms d ns t

@@ -21,7 +21,8 @@ pub record RunsArm (d : Compiled) (i : ℕ) (b : Arm) (p : ℕ → Bool) (j : �
   pub last : ℕ
   pub next : ℕ
   pub binds : BindsAll d i b.binders.items (free b.body) behind
-  pub computes : (g : Bounds) (k : ℕ) → g.families ≡ d.families → IsReady g k b.body → Computes d behind b.body (within_all b.binders.items p) last
+  pub computes : (g : Bounds) (k : ℕ) → g.families ≡ d.families → IsReady g k b.body →
+      Computes d behind b.body (within_all b.binders.items p) last
   pub unbinds : At d last (instr.Unbind (length b.binders.items)) next
   pub comes : Comes d next j
 
@@ -61,7 +62,9 @@ abbrev pub AllForget : Compiled → (ℕ → Bool) → (ℕ → Bool) → List A
 AllForget d q p [] [] = ⊤
 AllForget d q p [] (i ∷ is) = ⊥
 AllForget d q p (a ∷ cs) [] = ⊥
-AllForget d q p (a ∷ cs) (i ∷ is) = ((f : ℕ → Bool) → marked a.marks.items ≡ also f p → Forgets d i q f p a.start) × AllForget d q p cs is
+AllForget d q p (a ∷ cs) (i ∷ is) =
+    ((f : ℕ → Bool) → marked a.marks.items ≡ also f p → Forgets d i q f p a.start) ×
+    AllForget d q p cs is
 
 -- from place i what the arms use and this one doesn't is dropped, and then the arm runs
 pub record RunsFrom (d : Compiled) (i : ℕ) (q p : ℕ → Bool) (b : Arm) (j : ℕ) : Type 0 where
@@ -77,7 +80,8 @@ AllRun d q p (b ∷ bs) [] j = ⊥
 AllRun d q p (b ∷ bs) (i ∷ is) j = RunsFrom d i q p b j × AllRun d q p bs is j
 
 -- the code of arms was written, which start at these places
-pub record WritesArms (c : Compiled) (ms : List Bool) (d : Compiled) (ns : List Bool) (bs : List Arm) (is : List ℕ) : Type 0 where
+pub record WritesArms (c : Compiled) (ms : List Bool) (d : Compiled) (ns : List Bool)
+    (bs : List Arm) (is : List ℕ) : Type 0 where
   pub extends : Extends c d
   pub run : AllRun d (free_below (core_arms_of bs)) (marked ms) bs is (top c)
   pub within : AreAtMost (top d) is
@@ -105,4 +109,5 @@ pub record HasPlace (f : Family) (ps : List ℕ) (b : Arm) (i : ℕ) : Type 0 wh
 
 -- so it is of each arm, with its place
 abbrev pub ArePlacesOf : Family → List Arm → List ℕ → List ℕ → Type 0
-ArePlacesOf f bs is ps = (k i : ℕ) (b : Arm) → slice_get bs k ≡ Some b → slice_get is k ≡ Some i → HasPlace f ps b i
+ArePlacesOf f bs is ps = (k i : ℕ) (b : Arm) → slice_get bs k ≡ Some b → slice_get is k ≡ Some i →
+    HasPlace f ps b i

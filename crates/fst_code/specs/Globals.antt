@@ -12,7 +12,8 @@ use Rattle.fst_code.specs.Written.{top}
 pub record Starts (d : Compiled) (i : ℕ) (e : CoreTree) : Type 0 where
   pub last : ℕ
   pub behind : ℕ
-  pub computes : (b : Bounds) (k : ℕ) → b.families ≡ d.families → IsReady b k e → Computes d i e no_variables last
+  pub computes : (b : Bounds) (k : ℕ) → b.families ≡ d.families → IsReady b k e →
+      Computes d i e no_variables last
   pub returns : At d last instr.Return behind
   pub within : i ≤ top d
 

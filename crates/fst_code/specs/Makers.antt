@@ -26,15 +26,19 @@ place_in makers o = record { maker = o; count = length makers }
 
 -- no two of these constructors have the same name
 abbrev pub AreApart : List Maker → Type 0
-AreApart makers = (o p : ℕ) (m q : Maker) → slice_get makers o ≡ Some m → slice_get makers p ≡ Some q → m.name ≡ q.name → o ≡ p
+AreApart makers = (o p : ℕ) (m q : Maker) → slice_get makers o ≡ Some m →
+    slice_get makers p ≡ Some q → m.name ≡ q.name → o ≡ p
 
 -- these constructors have got their places, and other names have theirs as before
 pub record ArePut (makers : List Maker) (old new : Entries) : Type 0 where
-  pub own : AreApart makers → (o : ℕ) (m : Maker) → slice_get makers o ≡ Some m → found new m.name ≡ Some (place_in makers o)
-  pub others : (x : List ℕ) → ((o : ℕ) (m : Maker) → slice_get makers o ≡ Some m → m.name ≡ x → ⊥) → found new x ≡ found old x
+  pub own : AreApart makers → (o : ℕ) (m : Maker) → slice_get makers o ≡ Some m →
+      found new m.name ≡ Some (place_in makers o)
+  pub others : (x : List ℕ) → ((o : ℕ) (m : Maker) → slice_get makers o ≡ Some m → m.name ≡ x → ⊥) →
+      found new x ≡ found old x
 
 -- no two constructors have the same name, and each is found by its own
 pub record ArePlaced (families : List Family) (entries : Entries) : Type 0 where
   pub distinct : DistinctMakers families
-  pub placed : (n o : ℕ) (f : Family) (m : Maker) → slice_get families n ≡ Some f → slice_get f.makers.items o ≡ Some m →
+  pub placed : (n o : ℕ) (f : Family) (m : Maker) → slice_get families n ≡ Some f →
+      slice_get f.makers.items o ≡ Some m →
       found entries m.name ≡ Some (place_in f.makers.items o)

@@ -16,7 +16,13 @@ use Rattle.fst_code.specs.Whole.{AreReady, IsReady}
 
 -- the code that is written so far, with the data types of the module
 abbrev pub compiled : List Family → Built → Compiled
-compiled fs b = record { families = fs; code = b.code.items; lambdas = b.lambdas.items; globals = [] }
+compiled fs b = record {
+  families = fs;
+  code = b.code.items;
+  lambdas = b.lambdas.items;
+  globals =
+      [];
+}
 
 -- the place of the instruction that was written last
 abbrev pub top : Compiled → ℕ
@@ -26,7 +32,8 @@ top c = length c.code
 pub record Extends (c d : Compiled) : Type 0 where
   pub families : c.families ≡ d.families
   pub code : (k : ℕ) (a : Instr) → slice_get c.code k ≡ Some a → slice_get d.code k ≡ Some a
-  pub lambdas : (k : ℕ) (e : LambdaEntry) → slice_get c.lambdas k ≡ Some e → slice_get d.lambdas k ≡ Some e
+  pub lambdas : (k : ℕ) (e : LambdaEntry) → slice_get c.lambdas k ≡ Some e →
+      slice_get d.lambdas k ≡ Some e
   pub longer : top c ≤ top d
   pub down : GoesDown c → GoesDown d
 
@@ -67,21 +74,26 @@ pub record Forgot (c d : Compiled) (i : ℕ) (q f p : ℕ → Bool) (j : ℕ) : 
 
 -- the code of a term was written, if it is ready; in the marks before it, what is used behind, and afterwards what is used in
 -- it too
-pub record Writes (c : Compiled) (ms : List Bool) (d : Compiled) (ns : List Bool) (e : CoreTree) : Type 0 where
+pub record Writes (c : Compiled) (ms : List Bool) (d : Compiled) (ns : List Bool)
+    (e : CoreTree) : Type 0 where
   pub extends : Extends c d
-  pub computes : (b : Bounds) (k : ℕ) → b.families ≡ c.families → IsReady b k e → Computes d (top d) e (marked ms) (top c)
+  pub computes : (b : Bounds) (k : ℕ) → b.families ≡ c.families → IsReady b k e →
+      Computes d (top d) e (marked ms) (top c)
   pub marks : marked ns ≡ also (free e) (marked ms)
   pub deep : length ns ≡ length ms
 
 -- the code of terms one after the other was written
-pub record WritesAll (c : Compiled) (ms : List Bool) (d : Compiled) (ns : List Bool) (es : CoreList) : Type 0 where
+pub record WritesAll (c : Compiled) (ms : List Bool) (d : Compiled) (ns : List Bool)
+    (es : CoreList) : Type 0 where
   pub extends : Extends c d
-  pub computes : (b : Bounds) (k : ℕ) → b.families ≡ c.families → AreReady b k es → ComputesAll d (top d) es (marked ms) (top c)
+  pub computes : (b : Bounds) (k : ℕ) → b.families ≡ c.families → AreReady b k es →
+      ComputesAll d (top d) es (marked ms) (top c)
   pub marks : marked ns ≡ also (free_in es) (marked ms)
   pub deep : length ns ≡ length ms
 
 -- of the code of a term all was written but that of its part e, which comes first
-pub record Leaves (c : Compiled) (ms : List Bool) (d : Compiled) (ns : List Bool) (t e : CoreTree) : Type 0 where
+pub record Leaves (c : Compiled) (ms : List Bool) (d : Compiled) (ns : List Bool)
+    (t e : CoreTree) : Type 0 where
   pub rest : (b : Compiled) (ls : List Bool) → Writes d ns b ls e → Writes c ms b ls t
 
 -- the instruction for a task, or for a function
@@ -90,7 +102,8 @@ closing is_task l = if is_task then instr.Fork l else instr.Function l
 
 -- what makes a function or a task of a body was written: the body begins at place i and uses these variables, and place j
 -- comes next
-pub record Closes (c : Compiled) (ms : List Bool) (d : Compiled) (ns : List Bool) (is_task : Bool) (i : ℕ) (used : ℕ → Bool) (j : ℕ) : Type 0 where
+pub record Closes (c : Compiled) (ms : List Bool) (d : Compiled) (ns : List Bool) (is_task : Bool)
+    (i : ℕ) (used : ℕ → Bool) (j : ℕ) : Type 0 where
   pub extends : Extends c d
   pub number : ℕ
   pub entry : LambdaEntry
@@ -106,19 +119,23 @@ pub record Closes (c : Compiled) (ms : List Bool) (d : Compiled) (ns : List Bool
   pub deep : length ns ≡ length ms
 
 -- the code of a term under these binders was written, and what makes variables of the last values
-pub record WritesUnder (c : Compiled) (ms : List Bool) (d : Compiled) (ns : List Bool) (xs : List Binder) (e : CoreTree) : Type 0 where
+pub record WritesUnder (c : Compiled) (ms : List Bool) (d : Compiled) (ns : List Bool)
+    (xs : List Binder) (e : CoreTree) : Type 0 where
   pub extends : Extends c d
   pub behind : ℕ
   pub binds : BindsAll d (top d) xs (free e) behind
-  pub computes : (b : Bounds) (k : ℕ) → b.families ≡ c.families → IsReady b k e → Computes d behind e (within_all xs (marked ms)) (top c)
+  pub computes : (b : Bounds) (k : ℕ) → b.families ≡ c.families → IsReady b k e →
+      Computes d behind e (within_all xs (marked ms)) (top c)
   pub marks : marked ns ≡ also (outside_all xs (free e)) (marked ms)
   pub deep : length ns ≡ length ms
 
 -- an instruction was written, and the code of a term in front of it
-pub record WritesBehind (c : Compiled) (ms : List Bool) (d : Compiled) (ns : List Bool) (a : Instr) (e : CoreTree) : Type 0 where
+pub record WritesBehind (c : Compiled) (ms : List Bool) (d : Compiled) (ns : List Bool) (a : Instr)
+    (e : CoreTree) : Type 0 where
   pub extends : Extends c d
   pub behind : ℕ
-  pub computes : (b : Bounds) (k : ℕ) → b.families ≡ c.families → IsReady b k e → Computes d (top d) e (marked ms) behind
+  pub computes : (b : Bounds) (k : ℕ) → b.families ≡ c.families → IsReady b k e →
+      Computes d (top d) e (marked ms) behind
   pub there : At d behind a (top c)
   pub marks : marked ns ≡ also (free e) (marked ms)
   pub deep : length ns ≡ length ms

@@ -43,7 +43,8 @@ pub(crate) fn write_starts(
     requires within { AllWithin (length out.old.code.items) codes.now }
     ensures more { OnOk result ((fs : List Family) →
         Extends (compiled fs out.old) (compiled fs out.new)) }
-    ensures starts { IfOk result (λ is. (fs : List Family) (q p : ℕ → Bool) → marked all.now ≡ also q p →
+    ensures starts { IfOk result (λ is. (fs : List Family) (q p : ℕ → Bool) →
+        marked all.now ≡ also q p →
         AllForget (compiled fs out.new) q p codes.now is.items) }
     ensures within { IfOk result (λ is. AreAtMost (length out.new.code.items) is.items) }
 {
@@ -126,7 +127,8 @@ pub(crate) fn case_places(
     starts: &[u64],
 ) -> Result<Vec<u64>, AllocError>
     requires { length starts.now ≡ length arms.now }
-    ensures places { IfOk result (λ ps. (n : ℕ) (f : Family) → slice_get given.now.families.now n ≡ Some f →
+    ensures places { IfOk result (λ ps. (n : ℕ) (f : Family) →
+        slice_get given.now.families.now n ≡ Some f →
         AreEachOnce (map (λ o. o.name) f.makers.items) (arm_labels (core_arms_of arms.now)) →
         ArePlacesOf f arms.now starts.now ps.items) }
     ensures within { IfOk result (λ ps. (j : ℕ) → AreAtMost j starts.now → AreAtMost j ps.items) }

@@ -87,7 +87,8 @@ pub(crate) fn write_arms(
     requires { next ≤ length out.old.code.items }
     ensures more { OnOk result (Extends (compiled given.now.families.now out.old)
         (compiled given.now.families.now out.new)) }
-    ensures arms { IfOk result (λ codes. AreWritten (compiled given.now.families.now out.new) later.now next
+    ensures arms { IfOk result (λ codes. AreWritten
+        (compiled given.now.families.now out.new) later.now next
         arms.now codes.items) }
 {
     let mut codes = Vec::new(given.alloc);
@@ -105,7 +106,8 @@ pub(crate) fn write_branches(
     later: &mut Vec<bool>,
     arms: &[Arm],
 ) -> Result<Vec<u64>, AllocError>
-    ensures { IfOk result (λ starts. WritesArms (compiled given.now.families.now out.old) later.old.items
+    ensures { IfOk result (λ starts. WritesArms
+        (compiled given.now.families.now out.old) later.old.items
         (compiled given.now.families.now out.new) later.new.items arms.now starts.items) }
 {
     let next = top_of(out);

@@ -34,7 +34,8 @@ fn add_entry(alloc: Global, out: &mut Built, captured: &[u32]) -> Result<u32, Al
     ensures more { OnOk result ((fs : List Family) →
         Extends (compiled fs out.old) (compiled fs out.new)) }
     ensures same { OnOk result (out.new.code.items ≡ out.old.code.items) }
-    ensures there { IfOk result (λ l. (e : LambdaEntry) × (slice_get out.new.lambdas.items l ≡ Some e) ×
+    ensures there { IfOk result (λ l. (e : LambdaEntry) ×
+        (slice_get out.new.lambdas.items l ≡ Some e) ×
         (e.start ≡ length out.old.code.items) × (e.captured.items ≡ captured.now)) }
 {
     let number = out.lambdas.len();

@@ -17,7 +17,8 @@ use std::alloc::AllocError;
 fn write_global(given: &Given<'_>, out: &mut Built, body: &Term) -> Result<u64, AllocError>
     ensures more { OnOk result (Extends (compiled given.now.families.now out.old)
         (compiled given.now.families.now out.new)) }
-    ensures starts { IfOk result (λ i. Starts (compiled given.now.families.now out.new) i body.now) }
+    ensures starts { IfOk result (λ i. Starts
+        (compiled given.now.families.now out.new) i body.now) }
 {
     let mut later = Vec::new(given.alloc);
     push(out, Instr::Return)?;

@@ -92,7 +92,8 @@ pub(crate) fn variables_in(alloc: Global, marks: &[bool]) -> Result<Vec<u32>, Al
 // The marks of the first list that the second one hasn't.
 fn only_in(alloc: Global, all: &[bool], some: &[bool]) -> Result<Vec<bool>, AllocError>
     requires { length some.now ≡ length all.now }
-    ensures { IfOk result (λ v. (k : ℕ) → marked v.items k ≡ (marked all.now k && not (marked some.now k))) }
+    ensures { IfOk result (λ v. (k : ℕ) →
+        marked v.items k ≡ (marked all.now k && not (marked some.now k))) }
 {
     let mut marks = Vec::new(alloc);
     for (i, used) in all.iter().enumerate() {

@@ -65,7 +65,8 @@ fn drop_before(out: &mut Built, variables: &[u32], start: u64) -> Result<(), All
     requires { start ≤ length out.old.code.items }
     ensures { OnOk result ((fs : List Family) (q f p : ℕ → Bool) →
         Lists variables.now (dropped q f p) →
-        Forgot (compiled fs out.old) (compiled fs out.new) (length out.new.code.items) q f p start) }
+        Forgot (compiled fs out.old) (compiled fs out.new)
+        (length out.new.code.items) q f p start) }
 {
     come_to(out, start)?;
     drop_all(out, variables)?;
@@ -84,7 +85,8 @@ pub(crate) fn forget_here(
     requires deep { length branch.now ≡ length all.now }
     ensures { OnOk result ((fs : List Family) (q f p : ℕ → Bool) → marked all.now ≡ also q p →
         marked branch.now ≡ also f p →
-        Forgot (compiled fs out.old) (compiled fs out.new) (length out.new.code.items) q f p start) }
+        Forgot (compiled fs out.old) (compiled fs out.new)
+        (length out.new.code.items) q f p start) }
 {
     let variables = forgotten(alloc, all, branch)?;
     drop_before(out, &variables, start)?;

@@ -20,7 +20,8 @@ use std::alloc::AllocError;
 
 fn write_local(out: &mut Built, later: &mut Vec<bool>, k: u32) -> Result<(), AllocError>
     ensures { OnOk result ((fs : List Family) (at : ℕ) →
-        Writes (compiled fs out.old) later.old.items (compiled fs out.new) later.new.items (local at k)) }
+        Writes (compiled fs out.old) later.old.items (compiled fs out.new) later.new.items
+        (local at k)) }
 {
     if later.len() <= k as usize {
         return Err(AllocError);

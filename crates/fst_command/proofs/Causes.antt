@@ -12,7 +12,8 @@ use Rattle.fst_command.specs.CheckTexts.{refused, cause, cause_status}
 pub same_cause : (names : List (List ℕ)) (f g : CheckFault) → SaySame f g → cause names f ≡ cause names g
 same_cause names f g (itself e) = ap (cause names) e
 same_cause names _ _ (traces {at} {found} {wanted} {v} {w} {side} e) =
-    λ i. refused at (codes "type " ++ type_text names found ++ codes " wanted " ++ type_text names wanted ++ (codes " word " ++ word_text (e i) ++ codes " " ++ side_text side))
+    λ i. refused at (codes "type " ++ type_text names found ++ codes " wanted " ++ type_text names wanted
+    ++ (codes " word " ++ word_text (e i) ++ codes " " ++ side_text side))
 same_cause names _ _ questions = refl
 
 -- a refusal with the status of an input that is refused is of the module itself

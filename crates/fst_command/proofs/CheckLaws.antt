@@ -53,7 +53,8 @@ use Rattle.fst_command.proofs.SameDerivations.{derivations_same}
 -- ---- what is found of the bytes
 
 -- a source that was read and stands for a module
-pub resolved_by : (bytes : List ℕ) (ds : List Declared) (m : Module) → IsRead AnswersModule bytes ds → IsResolvedModule ds m → AreResolved bytes m
+pub resolved_by : (bytes : List ℕ) (ds : List Declared) (m : Module) → IsRead AnswersModule bytes ds → IsResolvedModule ds m →
+    AreResolved bytes m
 resolved_by bytes ds m is stands = record { declared = ds; read = is; resolved = stands }
 
 -- the first fault of names and sizes of a source that was read
@@ -80,35 +81,43 @@ pub some_fault : (c : Given) (names : List (List ℕ)) (f : CheckFault) → caus
 some_fault c names f is e = some_cause c (is ∙ ap (cause names) e)
 
 -- what holds at all holds of an answer
-pub some_answer : (c : Given) (names : List (List ℕ)) (f : CheckFault) (r : Result Written AllocError) → cause_of c ≡ cause names f → IfOk r (λ a. f ≢ checking.Memory)
+pub some_answer : (c : Given) (names : List (List ℕ)) (f : CheckFault) (r : Result Written AllocError) →
+    cause_of c ≡ cause names f → IfOk r (λ a. f ≢ checking.Memory)
 some_answer c names f (Ok a) is = some_fault c names f is
 some_answer c names f (Err e) is = tt
 
 -- a refusal is written as its cause
-pub refused_line : (bytes : List ℕ) (budget at : ℕ) (p : Phrase) → refused_text bytes at p ≡ cause_text bytes budget (refused at (phrase_text p))
+pub refused_line : (bytes : List ℕ) (budget at : ℕ) (p : Phrase) →
+    refused_text bytes at p ≡ cause_text bytes budget (refused at (phrase_text p))
 refused_line bytes budget at p = simp append_assoc
 
 -- a module that is accepted
-pub accepted_found : (IsMade : List ℕ → Status → Type 0) (bytes : List ℕ) (m : Module) (budget : ℕ) (ds : List Deriv) (r : Result Written AllocError) → IsAccepted m budget ds →
+pub accepted_found : (IsMade : List ℕ → Status → Type 0) (bytes : List ℕ) (m : Module) (budget : ℕ) (ds : List Deriv)
+    (r : Result Written AllocError) → IsAccepted m budget ds →
     IfOk r (λ a. IsMade a.text.items a.status) → IfOk r (λ a. IsFoundOf IsMade bytes m budget a.text.items a.status)
 accepted_found IsMade bytes m budget ds (Ok a) is made = accepted ds is made
 accepted_found IsMade bytes m budget ds (Err e) is made = tt
 
 -- what `check` says of it
-pub says_accepted : (m : Module) (r : Result Written AllocError) → IfOk r (λ a. a.text.items ≡ accepted_text) → IfOk r (λ a. a.status ≡ status.Done) → IfOk r (λ a. SaysAccepted m a.text.items a.status)
+pub says_accepted : (m : Module) (r : Result Written AllocError) → IfOk r (λ a. a.text.items ≡ accepted_text) → IfOk r
+    (λ a. a.status ≡ status.Done) → IfOk r (λ a. SaysAccepted m a.text.items a.status)
 says_accepted m (Ok a) written ended = (written, ended)
 says_accepted m (Err e) written ended = tt
 
 -- a module that is refused
-pub refused_found : (IsMade : List ℕ → Status → Type 0) (bytes : List ℕ) (m : Module) (budget : ℕ) (f : CheckFault) (r : Result Written AllocError) → IsShown f (IsRefusal m budget f) → IfOk r (λ a. f ≢ checking.Memory) →
-    IfOk r (λ a. a.text.items ≡ cause_text bytes budget (cause (family_names m.families.items) f)) → IfOk r (λ a. a.status ≡ cause_status (cause (family_names m.families.items) f)) →
+pub refused_found : (IsMade : List ℕ → Status → Type 0) (bytes : List ℕ) (m : Module) (budget : ℕ) (f : CheckFault)
+    (r : Result Written AllocError) → IsShown f (IsRefusal m budget f) → IfOk r (λ a. f ≢ checking.Memory) →
+    IfOk r (λ a. a.text.items ≡ cause_text bytes budget (cause (family_names m.families.items) f)) → IfOk r
+    (λ a. a.status ≡ cause_status (cause (family_names m.families.items) f)) →
     IfOk r (λ a. IsFoundOf IsMade bytes m budget a.text.items a.status)
 refused_found IsMade bytes m budget f (Ok a) is some written ended = unaccepted f (is some) written ended
 refused_found IsMade bytes m budget f (Err e) is some written ended = tt
 
 -- a module that the bytes stand for
-pub found_output : (IsMade : Module → List ℕ → Status → Type 0) (bytes : List ℕ) (budget : ℕ) (m : Module) (r : Result Written AllocError) → length bytes ≤ most_bytes → AreResolved bytes m →
-    IfOk r (λ a. IsFoundOf (IsMade m) bytes m budget a.text.items a.status) → IfOk r (λ a. WritesOf AreUnresolved (FindsModule IsMade budget) bytes a.text.items a.status)
+pub found_output : (IsMade : Module → List ℕ → Status → Type 0) (bytes : List ℕ) (budget : ℕ) (m : Module)
+    (r : Result Written AllocError) → length bytes ≤ most_bytes → AreResolved bytes m →
+    IfOk r (λ a. IsFoundOf (IsMade m) bytes m budget a.text.items a.status) → IfOk r
+    (λ a. WritesOf AreUnresolved (FindsModule IsMade budget) bytes a.text.items a.status)
 found_output IsMade bytes budget m (Ok a) short is found = makes short (record { resolved = m; is_resolved = is; found = found })
 found_output IsMade bytes budget m (Err e) short is found = tt
 
@@ -136,7 +145,8 @@ finding_refuses bytes (finding.too_deep at) s none e = limited_so e
 finding_refuses bytes (finding.too_large at) s none e = limited_so e
 
 -- so has a cause
-cause_refuses : (bytes : List ℕ) (c : Cause) (s : Status) → (status.Refused ≡ cause_status c → MeansRefused bytes) → s ≡ cause_status c → IsRefused bytes s
+cause_refuses : (bytes : List ℕ) (c : Cause) (s : Status) →
+    (status.Refused ≡ cause_status c → MeansRefused bytes) → s ≡ cause_status c → IsRefused bytes s
 cause_refuses bytes (refused at why) s none e = refused_so e (none refl)
 cause_refuses bytes (undecided at got wanted) s none e = undecided_so e
 cause_refuses bytes (too_large at) s none e = limited_so e
@@ -157,33 +167,48 @@ means_refused bytes (limited_so e) = absurd (cc e)
 means_refused bytes (memory_so e) = absurd (cc e)
 
 -- and of a run the others mean nothing
-no_run : (shown : List Family → Report → List ℕ) (s : Status) (bytes text : List ℕ) → IsRefused bytes s → MeansRun shown s bytes text
+no_run : (shown : List Family → Report → List ℕ) (s : Status) (bytes text : List ℕ) → IsRefused bytes s →
+    MeansRun shown s bytes text
 no_run shown s bytes text (refused_so e none) = subst (λ r. MeansRun shown r bytes text) (sym e) none
 no_run shown s bytes text (undecided_so e) = subst (λ r. MeansRun shown r bytes text) (sym e) tt
 no_run shown s bytes text (limited_so e) = subst (λ r. MeansRun shown r bytes text) (sym e) tt
 no_run shown s bytes text (memory_so e) = subst (λ r. MeansRun shown r bytes text) (sym e) tt
 
-module _ (law : (m : Module) (budget : ℕ) (ds : List Deriv) → IsAccepted m budget ds → HasDerivations m ds) (refusal : RefusedHasNone) (resolving : OneModuleLaw) (lexing : OneLexing) (modules : OneModule) (safety : DerivedIsSafe) where
+module _ (law : (m : Module) (budget : ℕ) (ds : List Deriv) → IsAccepted m budget ds → HasDerivations m ds)
+    (refusal : RefusedHasNone) (resolving : OneModuleLaw) (lexing : OneLexing) (modules : OneModule)
+    (safety : DerivedIsSafe) where
   -- where the module that bytes stand for is refused, each of them is
-  refused_means : (budget : ℕ) (bytes : List ℕ) (m : Module) (f : CheckFault) → AreResolved bytes m → IsRefusal m budget f → IsCause f → MeansRefused bytes
+  refused_means : (budget : ℕ) (bytes : List ℕ) (m : Module) (f : CheckFault) → AreResolved bytes m → IsRefusal m budget f →
+      IsCause f → MeansRefused bytes
   refused_means budget bytes m f is h of_module n it ds derived =
       refusal m budget f of_module h ds (derivations_same n m (same_resolved lexing modules bytes resolving n m it is) ds derived)
 
   -- of an input something is made, or nothing is
-  made_or_refused : (IsMade : Module → List ℕ → Status → Type 0) (budget : ℕ) (bytes text : List ℕ) (s : Status) → WritesOf AreUnresolved (FindsModule IsMade budget) bytes text s →
+  made_or_refused : (IsMade : Module → List ℕ → Status → Type 0) (budget : ℕ) (bytes text : List ℕ) (s : Status) →
+      WritesOf AreUnresolved (FindsModule IsMade budget) bytes text s →
       IsMadeOf IsMade budget bytes text s ⊎ IsRefused bytes s
   made_or_refused IsMade budget bytes text s (too_long long w e) = inr (limited_so e)
-  made_or_refused IsMade budget bytes text s (is_none short f h w e) = inr (finding_refuses bytes f s (λ m is. absurd (resolved_or_not lexing modules bytes m f is h)) e)
+  made_or_refused IsMade budget bytes text s (is_none short f h w e) =
+      inr (finding_refuses bytes f s (λ m is. absurd (resolved_or_not lexing modules bytes m f is h)) e)
   made_or_refused IsMade budget bytes text s (makes short m) = by m.found
     where
       by : IsFoundOf (IsMade m.resolved) bytes m.resolved budget text s → IsMadeOf IsMade budget bytes text s ⊎ IsRefused bytes s
-      by (accepted ds a made) = inl (record { resolved = m.resolved; is_resolved = m.is_resolved; derivations = ds; is_accepted = a; made = made })
+      by (accepted ds a made) = inl (record {
+        resolved = m.resolved;
+        is_resolved = m.is_resolved;
+        derivations = ds;
+        is_accepted =
+            a;
+        made = made;
+      })
       by (unaccepted f h w e) =
           let names = family_names m.resolved.families.items in
-          inr (cause_refuses bytes (cause names f) s (λ r. refused_means budget bytes m.resolved f m.is_resolved h (refused_cause names f r)) e)
+          inr (cause_refuses bytes (cause names f) s
+          (λ r. refused_means budget bytes m.resolved f m.is_resolved h (refused_cause names f r)) e)
 
   -- what it means that a module is accepted
-  abbrev means_accepted : (budget : ℕ) (bytes : List ℕ) (m : Module) (ds : List Deriv) → AreResolved bytes m → IsAccepted m budget ds → MeansAccepted bytes
+  abbrev means_accepted : (budget : ℕ) (bytes : List ℕ) (m : Module) (ds : List Deriv) → AreResolved bytes m →
+      IsAccepted m budget ds → MeansAccepted bytes
   means_accepted budget bytes m ds is a = record {
     declared = is.declared;
     read = is.read;
@@ -209,7 +234,8 @@ module _ (law : (m : Module) (budget : ℕ) (ds : List Deriv) → IsAccepted m b
   module _ (sound : ReportsAreSound) where
     module _ (shown : List Family → Report → List ℕ) where
       -- what the outcome of a run means, with reports written like this
-      outcome_means : (workers steps budget : ℕ) (bytes text : List ℕ) (s : Status) (m : Module) (ds : List Deriv) → AreResolved bytes m → IsAccepted m budget ds →
+      outcome_means : (workers steps budget : ℕ) (bytes text : List ℕ) (s : Status) (m : Module) (ds : List Deriv) →
+          AreResolved bytes m → IsAccepted m budget ds →
           SaysOutcome shown workers steps m text s → MeansRun shown s bytes text
       outcome_means workers steps budget bytes text s m ds is a o =
           by o.outcome (outcome_sound sound m (safety m ds (law m budget ds a)) workers steps o.outcome o.is) o.written o.ended
@@ -221,21 +247,26 @@ module _ (law : (m : Module) (budget : ℕ) (ds : List Deriv) → IsAccepted m b
           by_tasks [] h = h
           by_tasks (w ∷ ws) h = h
 
-          by : (c : Outcome) → IsSoundOutcome m c → text ≡ outcome_text shown m.families.items c → s ≡ outcome_status c → MeansRun shown s bytes text
-          by (Done r) h w e = subst (λ z. MeansRun shown z bytes text) (sym e) (by_tasks r.waiting.items (report_means r (h r refl) w))
+          by : (c : Outcome) → IsSoundOutcome m c → text ≡ outcome_text shown m.families.items c → s ≡ outcome_status c →
+              MeansRun shown s bytes text
+          by (Done r) h w e = subst (λ z. MeansRun shown z bytes text) (sym e)
+              (by_tasks r.waiting.items (report_means r (h r refl) w))
           by OutOfSteps h w e = subst (λ z. MeansRun shown z bytes text) (sym e) (means_accepted budget bytes m ds is a)
 
       -- what is written of the run of a module
-      source_means : (workers steps budget : ℕ) (bytes text : List ℕ) (s : Status) → WritesOf AreUnresolved (FindsModule (SaysOutcome shown workers steps) budget) bytes text s →
+      source_means : (workers steps budget : ℕ) (bytes text : List ℕ) (s : Status) →
+          WritesOf AreUnresolved (FindsModule (SaysOutcome shown workers steps) budget) bytes text s →
           MeansRun shown s bytes text
-      source_means workers steps budget bytes text s w = elim (made_or_refused (SaysOutcome shown workers steps) budget bytes text s w) [
-        | inl m ↦ outcome_means workers steps budget bytes text s m.resolved m.derivations m.is_resolved m.is_accepted m.made
-        | inr r ↦ no_run shown s bytes text r
-      ]
+      source_means workers steps budget bytes text s w =
+          elim (made_or_refused (SaysOutcome shown workers steps) budget bytes text s w) [
+            | inl m ↦ outcome_means workers steps budget bytes text s m.resolved m.derivations m.is_resolved m.is_accepted m.made
+            | inr r ↦ no_run shown s bytes text r
+          ]
 
     pub meanings : Meanings
     meanings (equiv budget) bytes text s w = equiv_means budget bytes text s w
     meanings show bytes text s w = tt
     meanings (check budget) bytes text s w = check_means budget bytes text s w
     meanings (run steps workers budget) bytes text s w = source_means report_text workers steps budget bytes text s w
-    meanings (make n) bytes text s w = source_means (made_summary n) setting.workers.default setting.steps.default setting.budget.default (made_text n) text s w
+    meanings (make n) bytes text s w = source_means
+        (made_summary n) setting.workers.default setting.steps.default setting.budget.default (made_text n) text s w

@@ -23,7 +23,8 @@ use Rattle.fst_command.proofs.SameRefusals.{refused_module}
 -- ---- what was read
 
 -- of an input that is known, and isn't too long, all was read
-all_read : (old new : Option (List ℕ)) (bytes all : List ℕ) → old ≡ Some all → length all ≤ most_bytes → ReadsInput old new bytes → bytes ≡ all
+all_read : (old new : Option (List ℕ)) (bytes all : List ℕ) → old ≡ Some all → length all ≤ most_bytes →
+    ReadsInput old new bytes → bytes ≡ all
 all_read None new bytes all is short r = absurd (cc is)
 all_read (Some xs) None bytes all is short r = absurd r.read
 all_read (Some xs) (Some ys) bytes all is short r =
@@ -34,9 +35,11 @@ all_read (Some xs) (Some ys) bytes all is short r =
     sym (append-nil bytes) ∙ ap (λ l. bytes ++ l) (sym end) ∙ sym parts
 
 -- so what was read is within the limits
-read_within : (budget : ℕ) (old new : Option (List ℕ)) (bytes : List ℕ) → IsInputWithin budget old → ReadsInput old new bytes → IsWithinLimits budget bytes
+read_within : (budget : ℕ) (old new : Option (List ℕ)) (bytes : List ℕ) → IsInputWithin budget old → ReadsInput old new bytes →
+    IsWithinLimits budget bytes
 read_within budget None new bytes w r = absurd w
-read_within budget (Some all) new bytes w r = subst (IsWithinLimits budget) (sym (all_read (Some all) new bytes all refl w.short r)) w
+read_within budget (Some all) new bytes w r = subst (IsWithinLimits budget)
+    (sym (all_read (Some all) new bytes all refl w.short r)) w
 
 -- ---- what is written
 
@@ -51,13 +54,16 @@ outcome_begun OutOfSteps = tt
 
 module _ (lexing : OneLexing) (modules : OneModule) (one : OneModuleLaw) (complete : WithinIsNotRefused) where
   -- what is made of the module
-  makes_within : (IsMade : Module → List ℕ → Status → Type 0) (budget : ℕ) (bytes text : List ℕ) (s : Status) → WritesOf AreUnresolved (FindsModule IsMade budget) bytes text s → IsWithinLimits budget bytes →
+  makes_within : (IsMade : Module → List ℕ → Status → Type 0) (budget : ℕ) (bytes text : List ℕ) (s : Status) →
+      WritesOf AreUnresolved (FindsModule IsMade budget) bytes text s → IsWithinLimits budget bytes →
       (m : FindsModule IsMade budget bytes text s) × IsMade m.resolved text s
   makes_within IsMade budget bytes text s (too_long long w e) l = let short = l.short in absurd (omega (arith, long, short))
-  makes_within IsMade budget bytes text s (is_none short f h w e) l = absurd (resolved_or_not lexing modules bytes l.resolved f l.is_resolved h)
+  makes_within IsMade budget bytes text s (is_none short f h w e) l =
+      absurd (resolved_or_not lexing modules bytes l.resolved f l.is_resolved h)
   makes_within IsMade budget bytes text s (makes short m) l = by m.found
     where
-      by : IsFoundOf (IsMade m.resolved) bytes m.resolved budget text s → (m : FindsModule IsMade budget bytes text s) × IsMade m.resolved text s
+      by : IsFoundOf (IsMade m.resolved) bytes m.resolved budget text s →
+          (m : FindsModule IsMade budget bytes text s) × IsMade m.resolved text s
       by (accepted ds a made) = (m, made)
       by (unaccepted f h w e) =
           let parts = same_resolved lexing modules bytes one m.resolved l.resolved m.is_resolved l.is_resolved in
@@ -68,14 +74,23 @@ module _ (lexing : OneLexing) (modules : OneModule) (one : OneModuleLaw) (comple
     check = λ budget bytes text s w l. (makes_within SaysAccepted budget bytes text s w l).1;
     run = λ steps workers budget bytes text s w l.
         let m = makes_within (SaysOutcome report_text workers steps) budget bytes text s w l in
-        record { resolved = m.0.resolved; is_resolved = m.0.is_resolved; says = m.1; begun = subst HasBegun (sym m.1.ended) (outcome_begun m.1.outcome) };
+        record {
+          resolved = m.0.resolved;
+          is_resolved = m.0.is_resolved;
+          says = m.1;
+          begun =
+              subst HasBegun (sym m.1.ended) (outcome_begun m.1.outcome);
+        };
   }
 
 -- ---- how a run of the program ends
 
-pub is_complete : AreComplete → (words : List (List ℕ)) (old new : Option (List ℕ)) (text : List ℕ) (s : Status) → IsAnswered words old new text s → IsComplete words old s
+pub is_complete : AreComplete → (words : List (List ℕ)) (old new : Option (List ℕ)) (text : List ℕ) (s : Status) →
+    IsAnswered words old new text s → IsComplete words old s
 is_complete law words old new text s a = record {
-  check = λ budget it w. (law.check budget a.bytes text s (written_for words a.bytes text s (check budget) it a.output) (read_within budget old new a.bytes w (a.read (check budget) it))).1;
+  check = λ budget it w. (law.check budget a.bytes text s (written_for words a.bytes text s (check budget) it a.output)
+      (read_within budget old new a.bytes w (a.read (check budget) it))).1;
   run = λ steps workers budget it w.
-      (law.run steps workers budget a.bytes text s (written_for words a.bytes text s (run steps workers budget) it a.output) (read_within budget old new a.bytes w (a.read (run steps workers budget) it))).begun;
+      (law.run steps workers budget a.bytes text s (written_for words a.bytes text s (run steps workers budget) it a.output)
+      (read_within budget old new a.bytes w (a.read (run steps workers budget) it))).begun;
 }

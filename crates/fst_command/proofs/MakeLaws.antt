@@ -19,9 +19,12 @@ bytes_short n bytes few is = omega (arith, ap length is, made_short n few)
 
 -- what is written of these bytes, with a summary that has their number
 abbrev WritesSummary : List ℕ → List ℕ → Status → Type 0
-WritesSummary bytes text s = WritesOf AreUnresolved (FindsModule (SaysOutcome (shown_as (form.Summary (length bytes))) setting.workers.default setting.steps.default) setting.budget.default) bytes text s
+WritesSummary bytes text s = WritesOf AreUnresolved
+    (FindsModule (SaysOutcome (shown_as (form.Summary (length bytes))) setting.workers.default setting.steps.default)
+    setting.budget.default) bytes text s
 
 -- what is written of a made module
-pub made_output : (n : ℕ) (bytes : List ℕ) (r : Result Written AllocError) → bytes ≡ made_text n → IfOk r (λ a. WritesSummary bytes a.text.items a.status) → IfOk r (λ a. WritesMade n [] a.text.items a.status)
+pub made_output : (n : ℕ) (bytes : List ℕ) (r : Result Written AllocError) → bytes ≡ made_text n → IfOk r
+    (λ a. WritesSummary bytes a.text.items a.status) → IfOk r (λ a. WritesMade n [] a.text.items a.status)
 made_output n bytes (Ok a) is w = subst (λ b. WritesSummary b a.text.items a.status) is w
 made_output n bytes (Err e) is w = tt

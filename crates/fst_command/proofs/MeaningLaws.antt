@@ -18,7 +18,8 @@ initial [] = 0
 initial (c ∷ cs) = c
 
 -- a text that begins with neither of two bytes answers a question
-of_question : (budget : ℕ) (bytes text : List ℕ) (s : Status) → Writes (equiv budget) bytes text s → (initial text ≡ byte "r" → ⊥) → (initial text ≡ byte "l" → ⊥) → AnswersQuestion budget bytes text s
+of_question : (budget : ℕ) (bytes text : List ℕ) (s : Status) → Writes (equiv budget) bytes text s →
+    (initial text ≡ byte "r" → ⊥) → (initial text ≡ byte "l" → ⊥) → AnswersQuestion budget bytes text s
 of_question budget bytes text s (too_long long w e) r l = absurd (l (ap initial w))
 of_question budget bytes text s (is_none short (refused at phrase) h w e) r l = absurd (r (ap initial w))
 of_question budget bytes text s (is_none short (too_deep at) h w e) r l = absurd (l (ap initial w))
@@ -31,20 +32,23 @@ says_yes budget bytes s w = by m.answer.answer m.answer.answers m.answer.written
     m : AnswersQuestion budget bytes yes_text s
     m = of_question budget bytes yes_text s w (λ e. absurd (omega (arith, e))) (λ e. absurd (omega (arith, e)))
 
-    by : (a : Answer) → Answers m.asked.left m.asked.right budget a → yes_text ≡ answer_text bytes m.asked.left_at budget a → MeansYes bytes
+    by : (a : Answer) → Answers m.asked.left m.asked.right budget a → yes_text ≡ answer_text bytes m.asked.left_at budget a →
+        MeansYes bytes
     by yes (inl h) is = record { asked = m.asked; is_asked = m.is_asked; agree = h.shown.agree }
     by yes (inr h) is = record { asked = m.asked; is_asked = m.is_asked; agree = h.shown.agree }
     by (no word side) h is = absurd (omega (arith, ap initial is))
     by undecided h is = absurd (omega (arith, ap initial is))
     by too_large h is = absurd (omega (arith, ap initial is))
 
-says_no : (budget : ℕ) (bytes rest : List ℕ) (s : Status) → Writes (equiv budget) bytes (codes "no " ++ rest) s → MeansNo bytes (codes "no " ++ rest)
+says_no : (budget : ℕ) (bytes rest : List ℕ) (s : Status) → Writes (equiv budget) bytes (codes "no " ++ rest) s →
+    MeansNo bytes (codes "no " ++ rest)
 says_no budget bytes rest s w = by m.answer.answer m.answer.answers m.answer.written
   where
     m : AnswersQuestion budget bytes (codes "no " ++ rest) s
     m = of_question budget bytes (codes "no " ++ rest) s w (λ e. absurd (omega (arith, e))) (λ e. absurd (omega (arith, e)))
 
-    by : (a : Answer) → Answers m.asked.left m.asked.right budget a → codes "no " ++ rest ≡ answer_text bytes m.asked.left_at budget a → MeansNo bytes (codes "no " ++ rest)
+    by : (a : Answer) → Answers m.asked.left m.asked.right budget a →
+        codes "no " ++ rest ≡ answer_text bytes m.asked.left_at budget a → MeansNo bytes (codes "no " ++ rest)
     by yes h is = absurd (omega (arith, ap initial is))
     by (no word side) h is = record {
       asked = m.asked;
@@ -58,13 +62,17 @@ says_no budget bytes rest s w = by m.answer.answer m.answer.answers m.answer.wri
     by undecided h is = absurd (omega (arith, ap initial is))
     by too_large h is = absurd (omega (arith, ap initial is))
 
-says_undecided : (budget : ℕ) (bytes rest : List ℕ) (s : Status) → Writes (equiv budget) bytes (codes "undecided " ++ rest) s → MeansUndecided budget bytes (codes "undecided " ++ rest)
+says_undecided : (budget : ℕ) (bytes rest : List ℕ) (s : Status) → Writes (equiv budget) bytes (codes "undecided " ++ rest) s →
+    MeansUndecided budget bytes (codes "undecided " ++ rest)
 says_undecided budget bytes rest s w = by m.answer.answer m.answer.answers m.answer.written
   where
     m : AnswersQuestion budget bytes (codes "undecided " ++ rest) s
-    m = of_question budget bytes (codes "undecided " ++ rest) s w (λ e. absurd (omega (arith, e))) (λ e. absurd (omega (arith, e)))
+    m = of_question budget bytes (codes "undecided " ++ rest) s w (λ e. absurd (omega (arith, e)))
+        (λ e. absurd (omega (arith, e)))
 
-    by : (a : Answer) → Answers m.asked.left m.asked.right budget a → codes "undecided " ++ rest ≡ answer_text bytes m.asked.left_at budget a → MeansUndecided budget bytes (codes "undecided " ++ rest)
+    by : (a : Answer) → Answers m.asked.left m.asked.right budget a →
+        codes "undecided " ++ rest ≡ answer_text bytes m.asked.left_at budget a →
+        MeansUndecided budget bytes (codes "undecided " ++ rest)
     by yes h is = absurd (omega (arith, ap initial is))
     by (no word side) h is = absurd (omega (arith, ap initial is))
     by undecided h is = record {
@@ -87,9 +95,11 @@ says_undecided budget bytes rest s w = by m.answer.answer m.answer.answers m.ans
     by too_large h is = absurd (omega (arith, ap initial is))
 
 -- what each text means
-pub equiv_means : (budget : ℕ) (bytes text : List ℕ) (s : Status) → Writes (equiv budget) bytes text s → MeansAnswer budget bytes text
+pub equiv_means : (budget : ℕ) (bytes text : List ℕ) (s : Status) → Writes (equiv budget) bytes text s →
+    MeansAnswer budget bytes text
 equiv_means budget bytes text s w = record {
   yes = λ e. says_yes budget bytes s (subst (λ t. Writes (equiv budget) bytes t s) e w);
   no = λ rest e. subst (MeansNo bytes) (sym e) (says_no budget bytes rest s (subst (λ t. Writes (equiv budget) bytes t s) e w));
-  undecided = λ rest e. subst (MeansUndecided budget bytes) (sym e) (says_undecided budget bytes rest s (subst (λ t. Writes (equiv budget) bytes t s) e w));
+  undecided = λ rest e. subst (MeansUndecided budget bytes) (sym e)
+      (says_undecided budget bytes rest s (subst (λ t. Writes (equiv budget) bytes t s) e w));
 }

@@ -40,10 +40,34 @@ record IsLexical (bytes : List ℕ) (f : Finding) : Type 0 where
 
 lexical_is : (bytes : List ℕ) (f : Finding) → LexicalFinding bytes f → IsLexical bytes f
 unfolding lexical_of
-lexical_is bytes f (not_utf8 at h is) = record { fault = lexical.NotUtf8 at; refuses = h; other = λ e. absurd (cc e); says = ap Some (sym is) }
-lexical_is bytes f (bad_char at h is) = record { fault = lexical.BadChar at; refuses = h; other = λ e. absurd (cc e); says = ap Some (sym is) }
-lexical_is bytes f (wide_number at h is) = record { fault = lexical.WideNumber at; refuses = h; other = λ e. absurd (cc e); says = ap Some (sym is) }
-lexical_is bytes f (long_name at h is) = record { fault = lexical.LongName at; refuses = h; other = λ e. absurd (cc e); says = ap Some (sym is) }
+lexical_is bytes f (not_utf8 at h is) = record {
+  fault = lexical.NotUtf8 at;
+  refuses = h;
+  other =
+      λ e. absurd (cc e);
+  says = ap Some (sym is);
+}
+lexical_is bytes f (bad_char at h is) = record {
+  fault = lexical.BadChar at;
+  refuses = h;
+  other =
+      λ e. absurd (cc e);
+  says = ap Some (sym is);
+}
+lexical_is bytes f (wide_number at h is) = record {
+  fault = lexical.WideNumber at;
+  refuses = h;
+  other =
+      λ e. absurd (cc e);
+  says = ap Some (sym is);
+}
+lexical_is bytes f (long_name at h is) = record {
+  fault = lexical.LongName at;
+  refuses = h;
+  other =
+      λ e. absurd (cc e);
+  says = ap Some (sym is);
+}
 
 syntax_of : SyntaxFault → Option Finding
 syntax_of (syntax.Syntax at) = Some (refused at phrase.Syntax)
@@ -58,8 +82,20 @@ record IsSyntax (Stops : SyntaxFault → Type 0) (f : Finding) : Type 0 where
 
 syntax_is : (Stops : SyntaxFault → Type 0) (f : Finding) → SyntaxFinding Stops f → IsSyntax Stops f
 unfolding syntax_of
-syntax_is Stops f (finding.stopped at h is) = record { fault = syntax.Syntax at; stops = h; other = λ e. absurd (cc e); says = ap Some (sym is) }
-syntax_is Stops f (finding.deep at h is) = record { fault = syntax.TooDeep at; stops = h; other = λ e. absurd (cc e); says = ap Some (sym is) }
+syntax_is Stops f (finding.stopped at h is) = record {
+  fault = syntax.Syntax at;
+  stops = h;
+  other =
+      λ e. absurd (cc e);
+  says = ap Some (sym is);
+}
+syntax_is Stops f (finding.deep at h is) = record {
+  fault = syntax.TooDeep at;
+  stops = h;
+  other =
+      λ e. absurd (cc e);
+  says = ap Some (sym is);
+}
 
 kind_of : ℕ → KindFault → Option Finding
 kind_of at kind.NotContractive = Some (refused at phrase.NotContractive)
@@ -90,18 +126,22 @@ unread_some {A = A} d n e = n (unread_is {A = A} d syntax.Memory e)
 
 -- a text and its tokens have at most one answer
 abbrev pub OneAnswer : {A : Type 0} → (List ℕ → List Token → Result A SyntaxFault → Type 0) → Type 0
-OneAnswer {A} Reads = (text : List ℕ) (tokens : List Token) (a b : Result A SyntaxFault) → a ≢ Err syntax.Memory → b ≢ Err syntax.Memory → Reads text tokens a → Reads text tokens b → a ≡ b
+OneAnswer {A} Reads = (text : List ℕ) (tokens : List Token) (a b : Result A SyntaxFault) → a ≢ Err syntax.Memory →
+    b ≢ Err syntax.Memory → Reads text tokens a → Reads text tokens b → a ≡ b
 
-module _ {A : Type 0} (Reads : List ℕ → List Token → Result A SyntaxFault → Type 0) (lexing : OneLexing) (one_answer : OneAnswer Reads) (bytes : List ℕ) where
+module _ {A : Type 0} (Reads : List ℕ → List Token → Result A SyntaxFault → Type 0) (lexing : OneLexing)
+    (one_answer : OneAnswer Reads) (bytes : List ℕ) where
   -- bytes with two lists of tokens have two answers for one of them
-  answered_by : (tokens others : List Token) (a b : Result A SyntaxFault) → Lexes bytes tokens → Lexes bytes others → Reads bytes tokens a → Reads bytes others b → a ≢ unread syntax.Memory → b ≢ unread syntax.Memory → a ≡ b
+  answered_by : (tokens others : List Token) (a b : Result A SyntaxFault) → Lexes bytes tokens → Lexes bytes others →
+      Reads bytes tokens a → Reads bytes others b → a ≢ unread syntax.Memory → b ≢ unread syntax.Memory → a ≡ b
   answered_by tokens others a b x y p q m n =
       let same = lexing.one_list bytes tokens others x y in
       one_answer bytes others a b m n (subst (λ ts. Reads bytes ts a) same p) q
 
   -- bytes are read as one thing
   pub one_read : (x y : A) → IsRead Reads bytes x → IsRead Reads bytes y → x ≡ y
-  one_read x y p q = read_is x y (answered_by p.tokens q.tokens (read x) (read y) p.lexes q.lexes p.reads q.reads (read_some x) (read_some y))
+  one_read x y p q = read_is x y (answered_by p.tokens q.tokens (read x) (read y) p.lexes q.lexes p.reads q.reads (read_some x)
+      (read_some y))
 
   -- bytes with a list of tokens have no fault
   no_lexical : (tokens : List Token) (f : Finding) → Lexes bytes tokens → LexicalFinding bytes f → ⊥
@@ -112,20 +152,23 @@ module _ {A : Type 0} (Reads : List ℕ → List Token → Result A SyntaxFault 
   read_once x f p (no_tokens l) = no_lexical p.tokens f p.lexes l
   read_once x f p (no_reading tokens y s) =
       let i = syntax_is (λ e. Reads bytes tokens (Err e)) f s in
-      let both = answered_by p.tokens tokens (read x) (unread i.fault) p.lexes y p.reads i.stops (read_some x) (unread_some {A = A} i.fault i.other) in
+      let both = answered_by p.tokens tokens (read x) (unread i.fault) p.lexes y p.reads i.stops (read_some x)
+      (unread_some {A = A} i.fault i.other) in
       absurd cc
 
   pub one_unread : (f g : Finding) → IsUnread Reads bytes f → IsUnread Reads bytes g → f ≡ g
   one_unread f g (no_tokens p) (no_tokens q) =
       let i = lexical_is bytes f p in
       let j = lexical_is bytes g q in
-      same_Some f g (sym i.says ∙ ap lexical_of (lexing.one_fault bytes i.fault j.fault i.other j.other i.refuses j.refuses) ∙ j.says)
+      same_Some f g (sym i.says ∙ ap lexical_of (lexing.one_fault bytes i.fault j.fault i.other j.other i.refuses j.refuses)
+      ∙ j.says)
   one_unread f g (no_tokens p) (no_reading tokens y s) = absurd (no_lexical tokens f y p)
   one_unread f g (no_reading tokens x r) (no_tokens q) = absurd (no_lexical tokens g x q)
   one_unread f g (no_reading tokens x r) (no_reading others y s) =
       let i = syntax_is (λ e. Reads bytes tokens (Err e)) f r in
       let j = syntax_is (λ e. Reads bytes others (Err e)) g s in
-      let same = answered_by tokens others (unread i.fault) (unread j.fault) x y i.stops j.stops (unread_some {A = A} i.fault i.other) (unread_some {A = A} j.fault j.other) in
+      let same = answered_by tokens others (unread i.fault) (unread j.fault) x y i.stops j.stops
+      (unread_some {A = A} i.fault i.other) (unread_some {A = A} j.fault j.other) in
       same_Some f g (sym i.says ∙ ap syntax_of (unread_is {A = A} i.fault j.fault same) ∙ j.says)
 
 -- ---- questions
@@ -158,7 +201,8 @@ record IsWalked (vars : List Kind) (t : Tree) (at : ℕ) (f : Finding) : Type 0 
 kind_is : (vars : List Kind) (t : Tree) (at : ℕ) (f : Finding) → KindFinding vars t at f → IsWalked vars t at f
 unfolding kind_of
 kind_is vars t at f (not_contractive h is) = record { fault = kind.NotContractive; walks = h; says = ap Some (sym is) }
-kind_is vars t at f (wrong_kind got wanted h is) = record { fault = kind.WrongKind got wanted; walks = h; says = ap Some (sym is) }
+kind_is vars t at f (wrong_kind got wanted h is) =
+    record { fault = kind.WrongKind got wanted; walks = h; says = ap Some (sym is) }
 kind_is vars t at f (unbound_type k h is) = record { fault = kind.UnboundType k; walks = h; says = ap Some (sym is) }
 kind_is vars t at f (double_label l h is) = record { fault = kind.DoubleLabel l; walks = h; says = ap Some (sym is) }
 
@@ -177,7 +221,8 @@ no_kind vars t at f none k =
     absurd (cc (none.walked, i.walks))
 
 -- equal types over equal variables at equal places have the same faults
-same_finding : (vars others : List Kind) (t u : Tree) (at from : ℕ) (f : Finding) → vars ≡ others → t ≡ u → at ≡ from → KindFinding vars t at f → KindFinding others u from f
+same_finding : (vars others : List Kind) (t u : Tree) (at from : ℕ) (f : Finding) → vars ≡ others → t ≡ u → at ≡ from →
+    KindFinding vars t at f → KindFinding others u from f
 same_finding vars others t u at from f e g h k =
     subst (λ z. KindFinding z u from f) e (subst (λ z. KindFinding vars z from f) g (subst (λ z. KindFinding vars t z f) h k))
 
@@ -186,7 +231,8 @@ same_faultless vars others t u e g k = subst (λ z. IsFaultless z u) e (subst (�
 
 same_kinds : (asked other : Question) (f : Finding) → IsSameAsked asked other → KindsFinding asked f → KindsFinding other f
 same_kinds asked other f s (finding.left k) = finding.left (same_finding _ _ _ _ _ _ f s.kinds s.left s.left_at k)
-same_kinds asked other f s (finding.right none k) = finding.right (same_faultless _ _ _ _ s.kinds s.left none) (same_finding _ _ _ _ _ _ f s.kinds s.right s.right_at k)
+same_kinds asked other f s (finding.right none k) =
+    finding.right (same_faultless _ _ _ _ s.kinds s.left none) (same_finding _ _ _ _ _ _ f s.kinds s.right s.right_at k)
 
 one_kinds : (asked : Question) (f g : Finding) → KindsFinding asked f → KindsFinding asked g → f ≡ g
 one_kinds asked f g (finding.left k) (finding.left j) = one_kind asked.kinds.items asked.left asked.left_at f g k j
@@ -225,8 +271,10 @@ module _ (lexing : OneLexing) (readings : OneReading) (bytes : List ℕ) where
   -- one thing is found of bytes that are no question of two session types
   pub one_no_question : (f g : Finding) → IsNoQuestion bytes f → IsNoQuestion bytes g → f ≡ g
   one_no_question f g (inl a) (inl b) = one_unread AnswersQuestion lexing readings.one_question_answer bytes f g a b
-  one_no_question f g (inl a) (inr (q, r, b)) = absurd (read_once AnswersQuestion lexing readings.one_question_answer bytes q f r a)
-  one_no_question f g (inr (q, r, a)) (inl b) = absurd (read_once AnswersQuestion lexing readings.one_question_answer bytes q g r b)
+  one_no_question f g (inl a) (inr (q, r, b)) =
+      absurd (read_once AnswersQuestion lexing readings.one_question_answer bytes q f r a)
+  one_no_question f g (inr (q, r, a)) (inl b) =
+      absurd (read_once AnswersQuestion lexing readings.one_question_answer bytes q g r b)
   one_no_question f g (inr (q, r, a)) (inr (p, s, b)) =
       let same = one_read AnswersQuestion lexing readings.one_question_answer bytes q p r s in
       one_question_finding p f g (subst (λ z. QuestionFinding z f) same a) b

@@ -30,13 +30,16 @@ module _ (lexing : OneLexing) (modules : OneModule) (bytes : List ℕ) where
   one_unresolved f g (inl a) (inl b) = one_unread AnswersModule lexing modules.one_answer bytes f g a b
   one_unresolved f g (inl a) (inr (es, q, b)) = absurd (read_once AnswersModule lexing modules.one_answer bytes es f q a)
   one_unresolved f g (inr (ds, r, a)) (inl b) = absurd (read_once AnswersModule lexing modules.one_answer bytes ds g r b)
-  one_unresolved f g (inr (ds, r, a)) (inr (es, q, b)) = one_names es f g (subst (λ z. NamesFinding z f) (one_source ds es r q) a) b
+  one_unresolved f g (inr (ds, r, a)) (inr (es, q, b)) =
+      one_names es f g (subst (λ z. NamesFinding z f) (one_source ds es r q) a) b
 
   -- of bytes that stand for a module nothing is found
   pub resolved_or_not : (m : Module) (f : Finding) → AreResolved bytes m → AreUnresolved bytes f → ⊥
   resolved_or_not m f a (inl b) = read_once AnswersModule lexing modules.one_answer bytes a.declared f a.read b
-  resolved_or_not m f a (inr (es, q, b)) = no_names a.declared m f a.resolved (subst (λ z. NamesFinding z f) (one_source es a.declared q a.read) b)
+  resolved_or_not m f a (inr (es, q, b)) = no_names a.declared m f a.resolved
+      (subst (λ z. NamesFinding z f) (one_source es a.declared q a.read) b)
 
   -- the modules that they stand for have the same parts
   pub same_resolved : OneModuleLaw → (m n : Module) → AreResolved bytes m → AreResolved bytes n → AreSame m n
-  same_resolved law m n a b = law.one b.declared m n (subst (λ z. IsResolvedModule z m) (one_source a.declared b.declared a.read b.read) a.resolved) b.resolved
+  same_resolved law m n a b = law.one b.declared m n
+      (subst (λ z. IsResolvedModule z m) (one_source a.declared b.declared a.read b.read) a.resolved) b.resolved

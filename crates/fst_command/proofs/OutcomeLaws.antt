@@ -38,7 +38,8 @@ some_wait [] b test is = absurd (grind (arith, nat_tests))
 some_wait (w ∷ ws) b test is = refl
 
 -- the channels of a sound report can be written
-pub can_be_written : (m : Module) (n : ℕ) (r : Report) → IsSound m r → AreScoped r.channels.items × AreNamedWithin n r.channels.items
+pub can_be_written : (m : Module) (n : ℕ) (r : Report) → IsSound m r → AreScoped r.channels.items ×
+    AreNamedWithin n r.channels.items
 can_be_written m n r sound =
     let hs = r.channels.items in
     of_sessions n hs (λ k d i. sound.sessions (get_or hs k d) (All-contains_itself hs k d i))
@@ -46,7 +47,8 @@ can_be_written m n r sound =
 -- ---- what a run comes to
 
 -- on one worker
-pub least_outcome : (workers steps : ℕ) (m : Module) (o : Outcome) → workers ≡ 1 → IsExecuted m steps o → IsOutcomeOf workers steps m o
+pub least_outcome : (workers steps : ℕ) (m : Module) (o : Outcome) → workers ≡ 1 → IsExecuted m steps o →
+    IsOutcomeOf workers steps m o
 least_outcome workers steps m o one x = record { main = x.main; body = x.body; comes = inl (one, x.answer) }
 
 module _ (workers steps : ℕ) (m : Module) (k : Code) (ready : IsPrepared m k) (more : 1 < workers) where
@@ -55,18 +57,24 @@ module _ (workers steps : ℕ) (m : Module) (k : Code) (ready : IsPrepared m k) 
   worked o w = record {
     main = ready.begins.main;
     body = subst (λ (n : Module). main_body n.globals.items ≡ Some ready.begins.main) ready.is_of ready.begins.body;
-    comes = inr (more, subst (λ n. IsRecordAnswer n (birth (main_thread ready.begins.main)) steps o) ready.is_of (w ready.begins));
+    comes = inr (
+      more,
+      subst (λ n. IsRecordAnswer n (birth (main_thread ready.begins.main)) steps o) ready.is_of
+          (w ready.begins),
+    );
   }
 
   pub record_outcome : (r : Result Outcome AllocError) → IfOk r (IsWorkedOut k steps) → IfOk r (IsOutcomeOf workers steps m)
   record_outcome r h = IfOk-weaker r (IsWorkedOut k steps) (IsOutcomeOf workers steps m) worked h
 
 -- the report of a record is sound
-pub record_sound : SafeIsSound → (m : Module) (main : CoreTree) (steps : ℕ) (r : Report) → IsRecordAnswer m (birth (main_thread main)) steps (Done r) → IsSound m r
+pub record_sound : SafeIsSound → (m : Module) (main : CoreTree) (steps : ℕ) (r : Report) →
+    IsRecordAnswer m (birth (main_thread main)) steps (Done r) → IsSound m r
 record_sound law m main steps r (ys, ks, fits, safe, last, few, is) = law m (config_of ys ks) safe (events_of ys ks) r is
 
 -- so is that of each outcome of a safe module
-pub outcome_sound : ReportsAreSound → (m : Module) → IsSafe m → (workers steps : ℕ) (o : Outcome) → IsOutcomeOf workers steps m o → IsSoundOutcome m o
+pub outcome_sound : ReportsAreSound → (m : Module) → IsSafe m →
+    (workers steps : ℕ) (o : Outcome) → IsOutcomeOf workers steps m o → IsSoundOutcome m o
 outcome_sound law m safe workers steps o h r is = by h.comes
   where
     by : ComesTo workers steps m h.main o → IsSound m r

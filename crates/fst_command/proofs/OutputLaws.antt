@@ -50,7 +50,8 @@ use Rattle.fst_command.proofs.SameReports.{IsWritten, report_written, same_famil
 -- ---- what is written
 
 -- an input that isn't what its command is for
-pub fault_written : (IsNone : List ℕ → Finding → Type 0) (Makes : List ℕ → List ℕ → Status → Type 0) (bytes text : List ℕ) (s : Status) (f : Fault) → length bytes ≤ most_bytes → IfFound f (IsNone bytes) →
+pub fault_written : (IsNone : List ℕ → Finding → Type 0) (Makes : List ℕ → List ℕ → Status → Type 0) (bytes text : List ℕ)
+    (s : Status) (f : Fault) → length bytes ≤ most_bytes → IfFound f (IsNone bytes) →
     Found f (λ g. (text ≡ finding_text bytes g) × (s ≡ finding_status g)) → WritesOf IsNone Makes bytes text s
 fault_written IsNone Makes bytes text s (fault.Refused at p) short h w = is_none short (refused at p) h w.0 w.1
 fault_written IsNone Makes bytes text s (fault.TooDeep at) short h w = is_none short (too_deep at) h w.0 w.1
@@ -58,19 +59,24 @@ fault_written IsNone Makes bytes text s (fault.TooLarge at) short h w = is_none 
 fault_written IsNone Makes bytes text s fault.Memory short h w = absurd w
 
 -- the same of the answer that a call gives
-pub fault_output : (IsNone : List ℕ → Finding → Type 0) (Makes : List ℕ → List ℕ → Status → Type 0) (bytes : List ℕ) (f : Fault) (r : Result Written AllocError) → length bytes ≤ most_bytes → IfFound f (IsNone bytes) →
-    IfOk r (λ a. Found f (λ g. (a.text.items ≡ finding_text bytes g) × (a.status ≡ finding_status g))) → IfOk r (λ a. WritesOf IsNone Makes bytes a.text.items a.status)
+pub fault_output : (IsNone : List ℕ → Finding → Type 0) (Makes : List ℕ → List ℕ → Status → Type 0) (bytes : List ℕ) (f : Fault)
+    (r : Result Written AllocError) → length bytes ≤ most_bytes → IfFound f (IsNone bytes) →
+    IfOk r (λ a. Found f (λ g. (a.text.items ≡ finding_text bytes g) × (a.status ≡ finding_status g))) → IfOk r
+    (λ a. WritesOf IsNone Makes bytes a.text.items a.status)
 fault_output IsNone Makes bytes f (Ok a) short h w = fault_written IsNone Makes bytes a.text.items a.status f short h w
 fault_output IsNone Makes bytes f (Err e) short h w = tt
 
 -- a question of two session types
-pub asked_output : (bytes : List ℕ) (budget : ℕ) (q : Question) (r : Result Written AllocError) → length bytes ≤ most_bytes → AreAsked bytes q →
-    IfOk r (λ a. IsAnswerTo bytes q budget a.text.items a.status) → IfOk r (λ a. Writes (equiv budget) bytes a.text.items a.status)
+pub asked_output : (bytes : List ℕ) (budget : ℕ) (q : Question) (r : Result Written AllocError) → length bytes ≤ most_bytes →
+    AreAsked bytes q →
+    IfOk r (λ a. IsAnswerTo bytes q budget a.text.items a.status) → IfOk r
+    (λ a. Writes (equiv budget) bytes a.text.items a.status)
 asked_output bytes budget q (Ok a) short is answer = makes short (record { asked = q; is_asked = is; answer = answer })
 asked_output bytes budget q (Err e) short is answer = tt
 
 -- a module
-pub shown_output : (bytes text : List ℕ) (ds : List Declared) → length bytes ≤ most_bytes → IsRead ReadsModule bytes ds → text ≡ module_text ds → Writes show bytes text status.Done
+pub shown_output : (bytes text : List ℕ) (ds : List Declared) → length bytes ≤ most_bytes → IsRead ReadsModule bytes ds →
+    text ≡ module_text ds → Writes show bytes text status.Done
 shown_output bytes text ds short is written = makes short (record { declared = ds; read = is; written = written; ended = refl })
 
 -- ---- one output
@@ -80,11 +86,15 @@ abbrev IsOne : (List ℕ → Status → Type 0) → Type 0
 IsOne P = (t u : List ℕ) (s r : Status) → P t s → P u r → (t ≡ u) × (s ≡ r)
 
 one_written : (IsNone : List ℕ → Finding → Type 0) (Makes : List ℕ → List ℕ → Status → Type 0) (bytes : List ℕ) →
-    ((f g : Finding) → IsNone bytes f → IsNone bytes g → f ≡ g) → ((f : Finding) (t : List ℕ) (s : Status) → IsNone bytes f → Makes bytes t s → ⊥) → IsOne (Makes bytes) → IsOne (WritesOf IsNone Makes bytes)
+    ((f g : Finding) → IsNone bytes f → IsNone bytes g → f ≡ g) →
+    ((f : Finding) (t : List ℕ) (s : Status) → IsNone bytes f → Makes bytes t s → ⊥) → IsOne (Makes bytes) →
+    IsOne (WritesOf IsNone Makes bytes)
 one_written IsNone Makes bytes one none made t u s r (too_long long w e) (too_long more x d) = (w ∙ sym x, e ∙ sym d)
-one_written IsNone Makes bytes one none made t u s r (too_long long w e) (is_none short f h x d) = absurd (omega (arith, long, short))
+one_written IsNone Makes bytes one none made t u s r (too_long long w e) (is_none short f h x d) =
+    absurd (omega (arith, long, short))
 one_written IsNone Makes bytes one none made t u s r (too_long long w e) (makes short m) = absurd (omega (arith, long, short))
-one_written IsNone Makes bytes one none made t u s r (is_none short f h w e) (too_long long x d) = absurd (omega (arith, long, short))
+one_written IsNone Makes bytes one none made t u s r (is_none short f h w e) (too_long long x d) =
+    absurd (omega (arith, long, short))
 one_written IsNone Makes bytes one none made t u s r (is_none short f h w e) (is_none low g k x d) =
     let same = one f g h k in
     (w ∙ ap (finding_text bytes) same ∙ sym x, e ∙ ap finding_status same ∙ sym d)
@@ -100,9 +110,14 @@ module _ (answers : OneAnswer) (lexing : OneLexing) (readings : OneReading) (mod
       let a = p.answer in
       let b = q.answer in
       let same = asked_once lexing readings bytes p.asked q.asked p.is_asked q.is_asked in
-      let mine = subst (λ z. Answers z q.asked.right budget a.answer) same.left (subst (λ z. Answers p.asked.left z budget a.answer) same.right a.answers) in
-      let one = answers q.asked.kinds.items q.asked.kinds.items q.asked.left q.asked.right budget q.is_asked.asks.left.session q.is_asked.asks.right.session a.answer b.answer mine b.answers in
-      (a.written ∙ ap (λ at. answer_text bytes at budget a.answer) same.left_at ∙ ap (answer_text bytes q.asked.left_at budget) one ∙ sym b.written, a.ended ∙ ap answer_status one ∙ sym b.ended)
+      let mine = subst (λ z. Answers z q.asked.right budget a.answer) same.left
+      (subst (λ z. Answers p.asked.left z budget a.answer) same.right a.answers) in
+      let one = answers q.asked.kinds.items q.asked.kinds.items q.asked.left q.asked.right budget q.is_asked.asks.left.session
+      q.is_asked.asks.right.session a.answer b.answer mine b.answers in (
+        a.written ∙ ap (λ at. answer_text bytes at budget a.answer) same.left_at
+            ∙ ap (answer_text bytes q.asked.left_at budget) one ∙ sym b.written,
+        a.ended ∙ ap answer_status one ∙ sym b.ended,
+      )
 
   one_module : (bytes : List ℕ) → IsOne (ShowsModule bytes)
   one_module bytes t u s r p q =
@@ -112,17 +127,21 @@ module _ (answers : OneAnswer) (lexing : OneLexing) (readings : OneReading) (mod
   module _ (resolving : OneModuleLaw) (refusals : OneRefusal) (apart : AcceptedIsNotRefused) where
     -- one thing is found of the modules that bytes stand for, where one thing is made of those that are accepted
     one_found : (IsMade : Module → List ℕ → Status → Type 0) (budget : ℕ) (bytes : List ℕ) →
-        ((m n : Module) (ds : List Deriv) → AreSame m n → IsAccepted m budget ds → (t u : List ℕ) (s r : Status) → IsMade m t s → IsMade n u r → (t ≡ u) × (s ≡ r)) →
+        ((m n : Module) (ds : List Deriv) → AreSame m n → IsAccepted m budget ds →
+        (t u : List ℕ) (s r : Status) → IsMade m t s → IsMade n u r → (t ≡ u) × (s ≡ r)) →
         IsOne (FindsModule IsMade budget bytes)
     one_found IsMade budget bytes made t u s r p q = by p.found q.found
       where
         parts : AreSame p.resolved q.resolved
         parts = same_resolved lexing modules bytes resolving p.resolved q.resolved p.is_resolved q.is_resolved
 
-        by : IsFoundOf (IsMade p.resolved) bytes p.resolved budget t s → IsFoundOf (IsMade q.resolved) bytes q.resolved budget u r → (t ≡ u) × (s ≡ r)
+        by : IsFoundOf (IsMade p.resolved) bytes p.resolved budget t s →
+            IsFoundOf (IsMade q.resolved) bytes q.resolved budget u r → (t ≡ u) × (s ≡ r)
         by (accepted ds a h) (accepted es b k) = made p.resolved q.resolved ds parts a t u s r h k
-        by (accepted ds a h) (unaccepted g b x d) = absurd (apart q.resolved budget ds (accepted_module p.resolved q.resolved parts budget ds a) g b)
-        by (unaccepted f a w e) (accepted es b k) = absurd (apart q.resolved budget es b f (refused_module p.resolved q.resolved parts budget f a))
+        by (accepted ds a h) (unaccepted g b x d) =
+            absurd (apart q.resolved budget ds (accepted_module p.resolved q.resolved parts budget ds a) g b)
+        by (unaccepted f a w e) (accepted es b k) =
+            absurd (apart q.resolved budget es b f (refused_module p.resolved q.resolved parts budget f a))
         by (unaccepted f a w e) (unaccepted g b x d) =
             let alike = refusals q.resolved budget f g (refused_module p.resolved q.resolved parts budget f a) b in
             let names = same_family_names p.resolved.families.items q.resolved.families.items parts.families in
@@ -131,18 +150,23 @@ module _ (answers : OneAnswer) (lexing : OneLexing) (readings : OneReading) (mod
 
     -- one thing is written of them
     one_source : (IsMade : Module → List ℕ → Status → Type 0) (budget : ℕ) (bytes : List ℕ) →
-        ((m n : Module) (ds : List Deriv) → AreSame m n → IsAccepted m budget ds → (t u : List ℕ) (s r : Status) → IsMade m t s → IsMade n u r → (t ≡ u) × (s ≡ r)) →
+        ((m n : Module) (ds : List Deriv) → AreSame m n → IsAccepted m budget ds →
+        (t u : List ℕ) (s r : Status) → IsMade m t s → IsMade n u r → (t ≡ u) × (s ≡ r)) →
         IsOne (WritesOf AreUnresolved (FindsModule IsMade budget) bytes)
     one_source IsMade budget bytes made =
-        one_written AreUnresolved (FindsModule IsMade budget) bytes (one_unresolved lexing modules bytes) (λ f t s none m. resolved_or_not lexing modules bytes m.resolved f m.is_resolved none)
+        one_written AreUnresolved (FindsModule IsMade budget) bytes (one_unresolved lexing modules bytes)
+        (λ f t s none m. resolved_or_not lexing modules bytes m.resolved f m.is_resolved none)
         (one_found IsMade budget bytes made)
 
-    module _ (law : (m : Module) (budget : ℕ) (ds : List Deriv) → IsAccepted m budget ds → HasDerivations m ds) (ends : OneEnd) where
-      one_run : (shown : List Family → Report → List ℕ) → IsWritten shown → (workers steps budget : ℕ) (bytes : List ℕ) → (1 < workers → ⊥) →
+    module _ (law : (m : Module) (budget : ℕ) (ds : List Deriv) → IsAccepted m budget ds → HasDerivations m ds)
+        (ends : OneEnd) where
+      one_run : (shown : List Family → Report → List ℕ) → IsWritten shown → (workers steps budget : ℕ) (bytes : List ℕ) →
+          (1 < workers → ⊥) →
           IsOne (WritesOf AreUnresolved (FindsModule (SaysOutcome shown workers steps) budget) bytes)
       one_run shown written workers steps budget bytes few =
           one_source (SaysOutcome shown workers steps) budget bytes
-          (λ m n ds parts a t u s r o q. one_outcome ends shown written workers steps few m n ds parts (law m budget ds a) t u s r o q)
+          (λ m n ds parts a t u s r o q. one_outcome ends shown written workers steps few m n ds parts
+          (law m budget ds a) t u s r o q)
 
       -- of one command one thing is written, but for a run on several workers
       one_text : (c : Command) (bytes : List ℕ) → ((k w n : ℕ) → c ≡ run k w n → 1 < w → ⊥) → IsOne (Writes c bytes)
@@ -152,10 +176,13 @@ module _ (answers : OneAnswer) (lexing : OneLexing) (readings : OneReading) (mod
       one_text show bytes few =
           one_written IsNoModule ShowsModule bytes (one_unread ReadsModule lexing modules.one_answer bytes)
           (λ f t s none m. read_once ReadsModule lexing modules.one_answer bytes m.declared f m.read none) (one_module bytes)
-      one_text (check budget) bytes few = one_source SaysAccepted budget bytes (λ m n ds parts a t u s r h k. (h.0 ∙ sym k.0, h.1 ∙ sym k.1))
-      one_text (run steps workers budget) bytes few = one_run report_text report_written workers steps budget bytes (few steps workers budget refl)
+      one_text (check budget) bytes few = one_source SaysAccepted budget bytes
+          (λ m n ds parts a t u s r h k. (h.0 ∙ sym k.0, h.1 ∙ sym k.1))
+      one_text (run steps workers budget) bytes few =
+          one_run report_text report_written workers steps budget bytes (few steps workers budget refl)
       one_text (make n) bytes few =
-          one_run (made_summary n) (summary_written (length (made_text n))) setting.workers.default setting.steps.default setting.budget.default (made_text n) (λ l. absurd (omega (arith, l)))
+          one_run (made_summary n) (summary_written (length (made_text n))) setting.workers.default setting.steps.default
+          setting.budget.default (made_text n) (λ l. absurd (omega (arith, l)))
 
       pub one_output : OneOutput
       one_output words bytes text other s r few (usage n none w e) (usage m none' x d) = (w ∙ sym x, e ∙ sym d)
@@ -163,7 +190,8 @@ module _ (answers : OneAnswer) (lexing : OneLexing) (readings : OneReading) (mod
       one_output words bytes text other s r few (command c is w) (usage n none x d) = absurd (n c is)
       one_output words bytes text other s r few (command c is w) (command d it v) =
           let one = one_command words c d is it in
-          one_text d bytes (λ k w n e. few k w n (subst (IsCommand words) e it)) text other s r (subst (λ z. Writes z bytes text s) one w) v
+          one_text d bytes (λ k w n e. few k w n (subst (IsCommand words) e it)) text other s r
+          (subst (λ z. Writes z bytes text s) one w) v
 
 -- ---- shown again
 
@@ -178,8 +206,16 @@ read_again again bytes ds r = again bytes r.tokens ds r.lexes (stands r.reads.0)
 pub shown_twice : ReadAgain → OneModule → ShownAgain
 shown_twice again modules bytes text s = by_text text s.written (read_again again bytes s.declared s.read)
   where
-    by_text : (text : List ℕ) → text ≡ module_text s.declared → IsReadAgain s.declared → ShowsModule text text status.Done ⊎ ((at : ℕ) × IsNoModule text (too_deep at))
-    by_text text is a = subst (λ z. ShowsModule z z status.Done ⊎ ((at : ℕ) × IsNoModule z (too_deep at))) (sym is) (elim (modules.answered (module_text s.declared) a.tokens a.read a.derives) [
-      | inl ok ↦ inl (record { declared = a.read; read = record { tokens = a.tokens; lexes = a.lexes; reads = ok }; written = sym a.same_text; ended = refl })
-      | inr deep ↦ inr (deep.0, no_reading a.tokens a.lexes (finding.deep deep.0 deep.1 refl))
-    ])
+    by_text : (text : List ℕ) → text ≡ module_text s.declared → IsReadAgain s.declared → ShowsModule text text status.Done ⊎
+        ((at : ℕ) × IsNoModule text (too_deep at))
+    by_text text is a = subst (λ z. ShowsModule z z status.Done ⊎ ((at : ℕ) × IsNoModule z (too_deep at))) (sym is)
+        (elim (modules.answered (module_text s.declared) a.tokens a.read a.derives) [
+          | inl ok ↦ inl (record {
+            declared = a.read;
+            read = record { tokens = a.tokens; lexes = a.lexes; reads = ok };
+            written =
+                sym a.same_text;
+            ended = refl;
+          })
+          | inr deep ↦ inr (deep.0, no_reading a.tokens a.lexes (finding.deep deep.0 deep.1 refl))
+        ])

@@ -13,7 +13,8 @@ use Rattle.fst_machine.specs.Machine.{Frame, at_function, at_argument, at_first,
 
 module _ (m n : List Family) (names : (f o : ℕ) → name_of m f o ≡ name_of n f o) where
   mutual
-    eval_same : {b c : Value → Pause} (e : CoreTree) (env : Environment) (fs : List Frame) → b ≡ c → eval m e env fs b ≡ eval n e env fs c
+    eval_same : {b c : Value → Pause} (e : CoreTree) (env : Environment) (fs : List Frame) → b ≡ c →
+        eval m e env fs b ≡ eval n e env fs c
     eval_same (local at k) env fs h = ap (on (lookup env k)) h
     eval_same (global at g ts) env fs h = refl
     eval_same (int at k) env fs h = λ i. h i (value.int k)
@@ -33,7 +34,8 @@ module _ (m n : List Family) (names : (f o : ℕ) → name_of m f o ≡ name_of 
         (λ i v. eval_same f (enter (free f zero) v (keep (outside (free f)) env)) fs h i)
     eval_same (split at x y e f) env fs h =
         eval_same e (keep (free e) env) (at_split f (keep (outside (outside (free f))) env) ∷ fs)
-        (λ i v. on_pair v (λ a b. eval_same f (enter (free f zero) b (enter (free f (suc zero)) a (keep (outside (outside (free f))) env))) fs h i))
+        (λ i v. on_pair v (λ a b. eval_same f (enter (free f zero) b
+        (enter (free f (suc zero)) a (keep (outside (outside (free f))) env))) fs h i))
     eval_same (if_else at e f g) env fs h =
         eval_same e (keep (free e) env) (at_if f g (keep (in_either f g) env) ∷ fs)
         (λ i v. on (value.bool_in v) (λ b. chosen b
@@ -60,13 +62,15 @@ module _ (m n : List Family) (names : (f o : ℕ) → name_of m f o ≡ name_of 
         eval_same e (keep (free e) env) (at_seq f (keep (free f) env) ∷ fs)
         (λ i v. eval_same f (keep (free f) env) fs h i)
 
-    all_same : {b c : Value → Pause} (es : CoreList) (k o : ℕ) (done : Values) (env : Environment) (fs : List Frame) → b ≡ c → eval_all m es k o done env fs b ≡ eval_all n es k o done env fs c
+    all_same : {b c : Value → Pause} (es : CoreList) (k o : ℕ) (done : Values) (env : Environment) (fs : List Frame) → b ≡ c →
+        eval_all m es k o done env fs b ≡ eval_all n es k o done env fs c
     all_same no_terms k o done env fs h = λ i. h i (value.made k o (turned_onto done no_values))
     all_same (term e es) k o done env fs h =
         eval_same e (keep (free e) env) (at_field k o done es (keep (free_in es) env) ∷ fs)
         (λ i v. all_same es k o (value.value v done) (keep (free_in es) env) fs h i)
 
-    arm_same : {b c : Value → Pause} (bs : CoreArms) (l : List ℕ) (vs : Values) (env : Environment) (fs : List Frame) → b ≡ c → eval_arm m bs l vs env fs b ≡ eval_arm n bs l vs env fs c
+    arm_same : {b c : Value → Pause} (bs : CoreArms) (l : List ℕ) (vs : Values) (env : Environment) (fs : List Frame) → b ≡ c →
+        eval_arm m bs l vs env fs b ≡ eval_arm n bs l vs env fs c
     arm_same no_arms l vs env fs h = refl
     arm_same (arm k xs e bs) l vs env fs h = λ i. chosen (bytes_eq l k)
         (eval_same e (enter_all (free e) vs (keep (outside_all xs (free e)) env)) fs h i)
@@ -80,14 +84,19 @@ module _ (m n : List Family) (names : (f o : ℕ) → name_of m f o ≡ name_of 
   resume_same (at_second v ∷ fs) w = resume_same fs (value.pair v w)
   resume_same (at_field k o done es env ∷ fs) v = all_same es k o (value.value v done) env fs (λ i w. resume_same fs w i)
   resume_same (at_let f env ∷ fs) v = eval_same f (enter (free f zero) v env) fs (λ i w. resume_same fs w i)
-  resume_same (at_split f env ∷ fs) v = λ i. on_pair v (λ a b. eval_same f (enter (free f zero) b (enter (free f (suc zero)) a env)) fs (λ j w. resume_same fs w j) i)
+  resume_same (at_split f env ∷ fs) v = λ i. on_pair v
+      (λ a b. eval_same f (enter (free f zero) b (enter (free f (suc zero)) a env)) fs (λ j w. resume_same fs w j) i)
   resume_same (at_if f g env ∷ fs) v = λ i. on (value.bool_in v) (λ b. chosen b
-      (eval_same f (keep (free f) env) fs (λ j w. resume_same fs w j) i) (eval_same g (keep (free g) env) fs (λ j w. resume_same fs w j) i))
-  resume_same (at_case bs env ∷ fs) v = λ i. on_made v (λ k o vs. on (names k o i) (λ l. arm_same bs l vs env fs (λ j w. resume_same fs w j) i))
-  resume_same (at_left o f env ∷ fs) v = eval_same f env (at_right o v ∷ fs) (λ i w. on (operated o v w) (λ x. resume_same fs x i))
+      (eval_same f (keep (free f) env) fs (λ j w. resume_same fs w j) i)
+      (eval_same g (keep (free g) env) fs (λ j w. resume_same fs w j) i))
+  resume_same (at_case bs env ∷ fs) v = λ i. on_made v
+      (λ k o vs. on (names k o i) (λ l. arm_same bs l vs env fs (λ j w. resume_same fs w j) i))
+  resume_same (at_left o f env ∷ fs) v = eval_same f env (at_right o v ∷ fs)
+      (λ i w. on (operated o v w) (λ x. resume_same fs x i))
   resume_same (at_right o v ∷ fs) w = λ i. on (operated o v w) (λ x. resume_same fs x i)
   resume_same (at_not ∷ fs) v = λ i. on (value.bool_in v) (λ b. resume_same fs (value.bool (not b)) i)
-  resume_same (at_value f env ∷ fs) v = eval_same f env (at_target v ∷ fs) (λ i w. on_end w (λ x. on (sent v) (λ ev. puts x ev fs)))
+  resume_same (at_value f env ∷ fs) v = eval_same f env (at_target v ∷ fs)
+      (λ i w. on_end w (λ x. on (sent v) (λ ev. puts x ev fs)))
   resume_same (at_target v ∷ fs) w = refl
   resume_same (at_receive ∷ fs) v = refl
   resume_same (at_select l ∷ fs) v = refl
@@ -99,7 +108,9 @@ module _ (m n : List Family) (names : (f o : ℕ) → name_of m f o ≡ name_of 
   pause_same s = eval_same s.term s.environment s.frames (λ i v. resume_same s.frames v i)
 
 -- after an answer tasks are in the same state
-pub after_same : (fs gs : List Family) (bs cs : List CoreTree) → bs ≡ cs → (q : Pause) (a : Answer) → after (record { families = fs; bodies = bs }) q a ≡ after (record { families = gs; bodies = cs }) q a
+pub after_same : (fs gs : List Family) (bs cs : List CoreTree) → bs ≡ cs →
+    (q : Pause) (a : Answer) → after (record { families = fs; bodies = bs }) q a ≡ after
+    (record { families = gs; bodies = cs }) q a
 after_same fs gs bs cs h stuck a = refl
 after_same fs gs bs cs h (calls e env v ks) Go = refl
 after_same fs gs bs cs h (calls e env v ks) (Made c) = refl

@@ -25,11 +25,14 @@ same_back m n s = record { types = sym s.types; places = sym s.places; families 
 -- ---- lists whose items have the same parts
 
 -- the items at one place
-pub same_there : {A B : Type 0} (v : A → B) (xs ys : List A) → map v xs ≡ map v ys → (k : ℕ) (x : A) → slice_get xs k ≡ Some x → (y : A) × (slice_get ys k ≡ Some y) × (v y ≡ v x)
-same_there v xs ys e k x h = mapped_some v (slice_get ys k) (v x) (sym (slice_get-map v ys k) ∙ ap (λ zs. slice_get zs k) (sym e) ∙ slice_get-map v xs k ∙ ap (option_map v) h)
+pub same_there : {A B : Type 0} (v : A → B) (xs ys : List A) → map v xs ≡ map v ys → (k : ℕ) (x : A) → slice_get xs k ≡ Some x →
+    (y : A) × (slice_get ys k ≡ Some y) × (v y ≡ v x)
+same_there v xs ys e k x h = mapped_some v (slice_get ys k) (v x)
+    (sym (slice_get-map v ys k) ∙ ap (λ zs. slice_get zs k) (sym e) ∙ slice_get-map v xs k ∙ ap (option_map v) h)
 
 -- what is determined by the parts of the items, one after the other
-pub same_fold : {A B C : Type 0} (v : A → B) (f : List A → C) (g : A → C → C) → ((x : A) (xs : List A) → f (x ∷ xs) ≡ g x (f xs)) → ((x y : A) → v x ≡ v y → (c : C) → g x c ≡ g y c) →
+pub same_fold : {A B C : Type 0} (v : A → B) (f : List A → C) (g : A → C → C) →
+    ((x : A) (xs : List A) → f (x ∷ xs) ≡ g x (f xs)) → ((x y : A) → v x ≡ v y → (c : C) → g x c ≡ g y c) →
     (xs ys : List A) → map v xs ≡ map v ys → f xs ≡ f ys
 same_fold v f g step same [] [] e = refl
 same_fold v f g step same [] (y ∷ ys) e = absurd (cc e)
@@ -40,11 +43,13 @@ same_fold v f g step same (x ∷ xs) (y ∷ ys) e =
     step x xs ∙ same x y first (f xs) ∙ ap (g y) (same_fold v f g step same xs ys tail) ∙ sym (step y ys)
 
 -- so are their values, one for each item
-pub same_map : {A B C : Type 0} (v : A → B) (f : B → C) (xs ys : List A) → map v xs ≡ map v ys → map (λ x. f (v x)) xs ≡ map (λ x. f (v x)) ys
+pub same_map : {A B C : Type 0} (v : A → B) (f : B → C) (xs ys : List A) → map v xs ≡ map v ys → map (λ x. f (v x)) xs ≡ map
+    (λ x. f (v x)) ys
 same_map v f = same_fold v (map (λ x. f (v x))) (λ x l. f (v x) ∷ l) (λ x xs. refl) (λ x y e l. λ i. f (e i) ∷ l)
 
 -- what holds of all items, one after the other, and so of those that have the same parts
-pub all_along : {A B : Type 0} (v : A → B) (P R : List A → Type 0) (Q S : A → Type 0) → R [] → ((x : A) (xs : List A) → P (x ∷ xs) → Q x × P xs) → ((x : A) (xs : List A) → S x → R xs → R (x ∷ xs)) →
+pub all_along : {A B : Type 0} (v : A → B) (P R : List A → Type 0) (Q S : A → Type 0) → R [] →
+    ((x : A) (xs : List A) → P (x ∷ xs) → Q x × P xs) → ((x : A) (xs : List A) → S x → R xs → R (x ∷ xs)) →
     ((x y : A) → v x ≡ v y → Q x → S y) → (xs ys : List A) → map v xs ≡ map v ys → P xs → R ys
 all_along v P R Q S none parts whole same [] [] e h = none
 all_along v P R Q S none parts whole same [] (y ∷ ys) e h = absurd (cc e)
@@ -56,7 +61,8 @@ all_along v P R Q S none parts whole same (x ∷ xs) (y ∷ ys) e h =
     whole y ys (same x y first here.0) (all_along v P R Q S none parts whole same xs ys tail here.1)
 
 -- the same of one property
-pub same_all : {A B : Type 0} (v : A → B) (P : List A → Type 0) (Q : A → Type 0) → P [] → ((x : A) (xs : List A) → P (x ∷ xs) → Q x × P xs) → ((x : A) (xs : List A) → Q x → P xs → P (x ∷ xs)) →
+pub same_all : {A B : Type 0} (v : A → B) (P : List A → Type 0) (Q : A → Type 0) → P [] →
+    ((x : A) (xs : List A) → P (x ∷ xs) → Q x × P xs) → ((x : A) (xs : List A) → Q x → P xs → P (x ∷ xs)) →
     ((x y : A) → v x ≡ v y → Q x → Q y) → (xs ys : List A) → map v xs ≡ map v ys → P xs → P ys
 same_all v P Q = all_along v P P Q Q
 
@@ -71,20 +77,40 @@ pub record Cut {A B : Type 0} (v : A → B) (before : List A) (x : A) (after ys 
   pub rests : map v after ≡ map v rest
 
 -- so is one with the same parts
-pub same_cut : {A B : Type 0} (v : A → B) (before : List A) (x : A) (after ys : List A) → map v (before ++ x ∷ after) ≡ map v ys → Cut v before x after ys
+pub same_cut : {A B : Type 0} (v : A → B) (before : List A) (x : A) (after ys : List A) → map v (before ++ x ∷ after) ≡ map v ys →
+    Cut v before x after ys
 same_cut v [] x after [] e = absurd (cc e)
-same_cut v [] x after (y ∷ ys) e = record { front = []; item = y; rest = ys; stands = refl; fronts = refl; items = cc; rests = cc }
+same_cut v [] x after (y ∷ ys) e = record {
+  front = [];
+  item = y;
+  rest = ys;
+  stands = refl;
+  fronts = refl;
+  items = cc;
+  rests =
+      cc;
+}
 same_cut v (z ∷ zs) x after [] e = absurd (cc e)
 same_cut v (z ∷ zs) x after (y ∷ ys) e =
     let first : v z ≡ v y = cc in
     let tail : map v (zs ++ x ∷ after) ≡ map v ys = cc in
     let c = same_cut v zs x after ys tail in
-    record { front = y ∷ c.front; item = c.item; rest = c.rest; stands = λ i. y ∷ c.stands i; fronts = λ i. first i ∷ c.fronts i; items = c.items; rests = c.rests }
+    record {
+      front = y ∷ c.front;
+      item = c.item;
+      rest = c.rest;
+      stands = λ i. y ∷ c.stands i;
+      fronts =
+          λ i. first i ∷ c.fronts i;
+      items = c.items;
+      rests = c.rests;
+    }
 
 -- ---- constructors
 
 -- the constructor with this name
-pub same_named : (l : List ℕ) (os ps : List Maker) → map maker_parts os ≡ map maker_parts ps → (o : Maker) → maker_named l os ≡ Some o → (p : Maker) × (maker_named l ps ≡ Some p) × (maker_parts p ≡ maker_parts o)
+pub same_named : (l : List ℕ) (os ps : List Maker) → map maker_parts os ≡ map maker_parts ps →
+    (o : Maker) → maker_named l os ≡ Some o → (p : Maker) × (maker_named l ps ≡ Some p) × (maker_parts p ≡ maker_parts o)
 same_named l [] ps e o h = absurd (cc h)
 same_named l (x ∷ os) [] e o h = absurd (cc e)
 same_named l (x ∷ os) (y ∷ ps) e o h =
@@ -92,7 +118,8 @@ same_named l (x ∷ os) (y ∷ ps) e o h =
     let tail : map maker_parts os ≡ map maker_parts ps = cc in
     by first (same_named l os ps tail o) (bytes_eq l x.name) refl
   where
-    by : maker_parts x ≡ maker_parts y → (maker_named l os ≡ Some o → (p : Maker) × (maker_named l ps ≡ Some p) × (maker_parts p ≡ maker_parts o)) →
+    by : maker_parts x ≡ maker_parts y → (maker_named l os ≡ Some o → (p : Maker) × (maker_named l ps ≡ Some p) ×
+        (maker_parts p ≡ maker_parts o)) →
         (b : Bool) → bytes_eq l x.name ≡ b → (p : Maker) × (maker_named l (y ∷ ps) ≡ Some p) × (maker_parts p ≡ maker_parts o)
     by first later true f =
         let is : x ≡ o = cc (f, h) in
@@ -105,10 +132,12 @@ same_named l (x ∷ os) (y ∷ ps) e o h =
 
 module _ (fs gs : List Family) (alike : map family_parts fs ≡ map family_parts gs) where
   -- the constructor of these numbers
-  pub same_maker : (n k : ℕ) (o : Maker) → maker_of (slice_get fs n) k ≡ Some o → (p : Maker) × (maker_of (slice_get gs n) k ≡ Some p) × (maker_parts p ≡ maker_parts o)
+  pub same_maker : (n k : ℕ) (o : Maker) → maker_of (slice_get fs n) k ≡ Some o → (p : Maker) ×
+      (maker_of (slice_get gs n) k ≡ Some p) × (maker_parts p ≡ maker_parts o)
   same_maker n k o h = by (slice_get fs n) refl h
     where
-      by : (f : Option Family) → slice_get fs n ≡ f → maker_of f k ≡ Some o → (p : Maker) × (maker_of (slice_get gs n) k ≡ Some p) × (maker_parts p ≡ maker_parts o)
+      by : (f : Option Family) → slice_get fs n ≡ f → maker_of f k ≡ Some o → (p : Maker) ×
+          (maker_of (slice_get gs n) k ≡ Some p) × (maker_parts p ≡ maker_parts o)
       by None e h = absurd (cc h)
       by (Some f) e h =
           let g = same_there family_parts fs gs alike n f e in
@@ -119,10 +148,13 @@ module _ (fs gs : List Family) (alike : map family_parts fs ≡ map family_parts
 pub same_names : (fs gs : List Family) → map family_parts fs ≡ map family_parts gs → (n k : ℕ) → name_of fs n k ≡ name_of gs n k
 same_names fs gs alike n k = by (maker_of (slice_get fs n) k) refl (maker_of (slice_get gs n) k) refl
   where
-    by : (o : Option Maker) → maker_of (slice_get fs n) k ≡ o → (p : Option Maker) → maker_of (slice_get gs n) k ≡ p → option_map (λ m. m.name) o ≡ option_map (λ m. m.name) p
+    by : (o : Option Maker) → maker_of (slice_get fs n) k ≡ o →
+        (p : Option Maker) → maker_of (slice_get gs n) k ≡ p → option_map (λ m. m.name) o ≡ option_map (λ m. m.name) p
     by None e None f = refl
-    by (Some o) e p f = let q = same_maker fs gs alike n k o e in ap Some (sym (ap (λ z. z.0) q.2)) ∙ ap (option_map (λ m. m.name)) (sym q.1 ∙ f)
-    by None e (Some p) f = let q = same_maker gs fs (sym alike) n k p f in ap (option_map (λ m. m.name)) (sym e ∙ q.1) ∙ ap Some (ap (λ z. z.0) q.2)
+    by (Some o) e p f = let q = same_maker fs gs alike n k o e in ap Some (sym (ap (λ z. z.0) q.2))
+        ∙ ap (option_map (λ m. m.name)) (sym q.1 ∙ f)
+    by None e (Some p) f = let q = same_maker gs fs (sym alike) n k p f in ap (option_map (λ m. m.name)) (sym e ∙ q.1)
+        ∙ ap Some (ap (λ z. z.0) q.2)
 
 -- ---- globals
 

@@ -34,7 +34,8 @@ use Rattle.fst_command.proofs.SameParts.{same_map, same_names}
 -- ---- lists in order
 
 -- two lists in one order that have the same items are one
-one_rising : {X : Type 0} (R : X → X → Type 0) → ((x y : X) → R x y → R y x → ⊥) → (xs ys : List X) → AreRising R xs → AreRising R ys →
+one_rising : {X : Type 0} (R : X → X → Type 0) → ((x y : X) → R x y → R y x → ⊥) →
+    (xs ys : List X) → AreRising R xs → AreRising R ys →
     ((z : X) → Contains xs z → Contains ys z) → ((z : X) → Contains ys z → Contains xs z) → xs ≡ ys
 one_rising R apart [] [] r s f g = refl
 one_rising R apart [] (y ∷ ys) r s f g = absurd (contains_none y (g y (contains_head ys y y refl)))
@@ -76,7 +77,8 @@ to_map f (z ∷ xs) x h = elim (from_contains xs x z h) [
   | inr c ↦ contains_tail (map f xs) (f x) (f z) (to_map f xs x c)
 ]
 
-map_rises : {X Y : Type 0} (f : X → Y) (R : Y → Y → Type 0) (xs : List X) → AreRising (λ x y. R (f x) (f y)) xs → AreRising R (map f xs)
+map_rises : {X Y : Type 0} (f : X → Y) (R : Y → Y → Type 0) (xs : List X) → AreRising (λ x y. R (f x) (f y)) xs →
+    AreRising R (map f xs)
 map_rises f R [] r = tt
 map_rises f R (x ∷ xs) r = (λ y c. let z = from_map f xs y c in subst (R (f x)) z.2 (r.0 z.0 z.1), map_rises f R xs r.1)
 
@@ -122,10 +124,14 @@ module _ (families : List Family) where
   mutual
     -- a value is written by what it stands for
     alike_text : (x : ValueTree) (v : Value) → IsAlike x v → AreWritten families x (shown v)
-    alike_text (tree.int n) v h = subst (λ z. AreWritten families (tree.int n) (shown z)) (sym h) (record { text = refl; enclosed = refl })
-    alike_text (tree.bool b) v h = subst (λ z. AreWritten families (tree.bool b) (shown z)) (sym h) (record { text = refl; enclosed = refl })
-    alike_text (tree.char c) v h = subst (λ z. AreWritten families (tree.char c) (shown z)) (sym h) (record { text = refl; enclosed = refl })
-    alike_text tree.unit v h = subst (λ z. AreWritten families tree.unit (shown z)) (sym h) (record { text = refl; enclosed = refl })
+    alike_text (tree.int n) v h = subst (λ z. AreWritten families (tree.int n) (shown z)) (sym h)
+        (record { text = refl; enclosed = refl })
+    alike_text (tree.bool b) v h = subst (λ z. AreWritten families (tree.bool b) (shown z)) (sym h)
+        (record { text = refl; enclosed = refl })
+    alike_text (tree.char c) v h = subst (λ z. AreWritten families (tree.char c) (shown z)) (sym h)
+        (record { text = refl; enclosed = refl })
+    alike_text tree.unit v h = subst (λ z. AreWritten families tree.unit (shown z)) (sym h)
+        (record { text = refl; enclosed = refl })
     alike_text (tree.pair x y) v (a, b, e, i, j) =
         let p = alike_text x a i in
         let q = alike_text y b j in
@@ -133,11 +139,18 @@ module _ (families : List Family) where
         (record { text = λ k. codes "(" ++ p.text k ++ codes ", " ++ q.text k ++ codes ")"; enclosed = refl })
     alike_text (tree.make n o xs) v (vs, e, h) =
         subst (λ z. AreWritten families (tree.make n o xs) (shown z)) (sym e)
-        (record { text = ap (made_text (maker_in (slice_get families n) o)) (alike_fields xs vs h); enclosed = enclosed_same n o xs vs h })
-    alike_text (tree.function l xs) v (e, env, h) = subst (λ z. AreWritten families (tree.function l xs) (shown z)) (sym h) (record { text = refl; enclosed = refl })
-    alike_text (tree.end x) v h = subst (λ z. AreWritten families (tree.end x) (shown z)) (sym h) (record { text = refl; enclosed = refl })
+        (record {
+          text = ap (made_text (maker_in (slice_get families n) o)) (alike_fields xs vs h);
+          enclosed =
+              enclosed_same n o xs vs h;
+        })
+    alike_text (tree.function l xs) v (e, env, h) = subst
+        (λ z. AreWritten families (tree.function l xs) (shown z)) (sym h) (record { text = refl; enclosed = refl })
+    alike_text (tree.end x) v h = subst (λ z. AreWritten families (tree.end x) (shown z)) (sym h)
+        (record { text = refl; enclosed = refl })
 
-    alike_fields : (xs : ValueTrees) (vs : Values) → AreAlike xs vs → fields_text families xs ≡ fields_text families (all_shown vs)
+    alike_fields : (xs : ValueTrees) (vs : Values) → AreAlike xs vs →
+        fields_text families xs ≡ fields_text families (all_shown vs)
     alike_fields tree.none value.no_values h = refl
     alike_fields tree.none (value.value v vs) h = absurd h
     alike_fields (tree.value x xs) value.no_values h = absurd h
@@ -146,7 +159,8 @@ module _ (families : List Family) where
         let more = alike_fields xs vs h.1 in
         λ i. codes " " ++ field_text (p.enclosed i) (p.text i) ++ more i
 
-    enclosed_same : (n o : ℕ) (xs : ValueTrees) (vs : Values) → AreAlike xs vs → is_enclosed families (tree.make n o xs) ≡ is_enclosed families (tree.make n o (all_shown vs))
+    enclosed_same : (n o : ℕ) (xs : ValueTrees) (vs : Values) → AreAlike xs vs →
+        is_enclosed families (tree.make n o xs) ≡ is_enclosed families (tree.make n o (all_shown vs))
     enclosed_same n o tree.none value.no_values h = refl
     enclosed_same n o tree.none (value.value v vs) h = absurd h
     enclosed_same n o (tree.value x xs) value.no_values h = absurd h
@@ -172,7 +186,8 @@ unfolding made_by
 made_is None fields = refl
 made_is (Some m) fields = refl
 
-named_in : (families : List Family) (n o : ℕ) → option_map (λ m. m.name) (maker_in (slice_get families n) o) ≡ name_of families n o
+named_in : (families : List Family) (n o : ℕ) → option_map
+    (λ m. m.name) (maker_in (slice_get families n) o) ≡ name_of families n o
 named_in families n o = by (slice_get families n)
   where
     by : (f : Option Family) → option_map (λ m. m.name) (maker_in f o) ≡ option_map (λ m. m.name) (maker_of f o)
@@ -180,7 +195,8 @@ named_in families n o = by (slice_get families n)
     by (Some f) = refl
 
 module _ (fs gs : List Family) (alike : map family_parts fs ≡ map family_parts gs) where
-  name_in : (n o : ℕ) → option_map (λ m. m.name) (maker_in (slice_get fs n) o) ≡ option_map (λ m. m.name) (maker_in (slice_get gs n) o)
+  name_in : (n o : ℕ) → option_map (λ m. m.name) (maker_in (slice_get fs n) o) ≡ option_map
+      (λ m. m.name) (maker_in (slice_get gs n) o)
   name_in n o = named_in fs n o ∙ same_names fs gs alike n o ∙ sym (named_in gs n o)
 
   enclosed_in : (x : ValueTree) → is_enclosed fs x ≡ is_enclosed gs x
@@ -190,7 +206,8 @@ module _ (fs gs : List Family) (alike : map family_parts fs ≡ map family_parts
   enclosed_in tree.unit = refl
   enclosed_in (tree.pair x y) = refl
   enclosed_in (tree.make n o tree.none) = refl
-  enclosed_in (tree.make n o (tree.value x xs)) = there_by (maker_in (slice_get fs n) o) ∙ ap is_some (name_in n o) ∙ sym (there_by (maker_in (slice_get gs n) o))
+  enclosed_in (tree.make n o (tree.value x xs)) = there_by (maker_in (slice_get fs n) o) ∙ ap is_some (name_in n o)
+      ∙ sym (there_by (maker_in (slice_get gs n) o))
   enclosed_in (tree.function l xs) = refl
   enclosed_in (tree.end x) = refl
 
@@ -202,7 +219,8 @@ module _ (fs gs : List Family) (alike : map family_parts fs ≡ map family_parts
     value_in tree.unit = refl
     value_in (tree.pair x y) = λ i. codes "(" ++ value_in x i ++ codes ", " ++ value_in y i ++ codes ")"
     value_in (tree.make n o xs) =
-        made_is (maker_in (slice_get fs n) o) (fields_text fs xs) ∙ (λ i. made_by (name_in n o i) (fields_in xs i)) ∙ sym (made_is (maker_in (slice_get gs n) o) (fields_text gs xs))
+        made_is (maker_in (slice_get fs n) o) (fields_text fs xs) ∙ (λ i. made_by (name_in n o i) (fields_in xs i))
+        ∙ sym (made_is (maker_in (slice_get gs n) o) (fields_text gs xs))
     value_in (tree.function l xs) = refl
     value_in (tree.end x) = refl
 
@@ -230,7 +248,8 @@ parts_text names h =
     (codes "channel " ++ channel_text h.name ++ codes " : " ++ type_text names h.declared ++ codes "\n")
     ++ (codes "history " ++ channel_text h.name ++ codes " :" ++ entries_text h.declared h.entries ++ codes "\n")
 
-histories_text : (families : List Family) (js : List ChannelHistory) → flat_map (history_text families) js ≡ flat_map (parts_text (family_names families)) (map history_parts js)
+histories_text : (families : List Family) (js : List ChannelHistory) →
+    flat_map (history_text families) js ≡ flat_map (parts_text (family_names families)) (map history_parts js)
 histories_text families [] = refl
 histories_text families (j ∷ js) =
     flat_map-cons (history_text families) j js ∙ ap (λ l. history_text families j ++ l) (histories_text families js) ∙
@@ -244,7 +263,8 @@ pub record AreOneReport (r q : Report) : Type 0 where
   pub events : r.events ≡ q.events
 
 module _ (m : Program) (c : Config) where
-  one_result : (families : List Family) (o u : Option ValueTree) → IsMainResult m c o → IsMainResult m c u → result_text families o ≡ result_text families u
+  one_result : (families : List Family) (o u : Option ValueTree) → IsMainResult m c o → IsMainResult m c u →
+      result_text families o ≡ result_text families u
   one_result families None None a b = refl
   one_result families None (Some y) a b = absurd (a b.0 b.1 b.2 b.3)
   one_result families (Some x) None a b = absurd (b a.0 a.1 a.2 a.3)
@@ -254,7 +274,8 @@ module _ (m : Program) (c : Config) where
       let value : a.1 ≡ b.1 = cc in
       value_once families x y b.1 (subst (IsAlike x) value a.4) b.4
 
-  history_there : (n : ℕ) (r q : Report) → IsReport m c n r → IsReport m c n q → (h : History) → Contains (map history_parts r.channels.items) h → Contains (map history_parts q.channels.items) h
+  history_there : (n : ℕ) (r q : Report) → IsReport m c n r → IsReport m c n q →
+      (h : History) → Contains (map history_parts r.channels.items) h → Contains (map history_parts q.channels.items) h
   history_there n r q a b h i =
       let j = from_map history_parts r.channels.items h i in
       let k : Channel = record { declared = j.0.declared; history = j.0.entries.items } in
@@ -267,9 +288,12 @@ module _ (m : Program) (c : Config) where
   pub one_report : (n : ℕ) (r q : Report) → IsReport m c n r → IsReport m c n q → AreOneReport r q
   one_report n r q a b = record {
     result = λ families. one_result families r.result q.result a.result b.result;
-    waiting = one_rising (λ (v w : Waiting). IsBefore v.task w.task) (λ v w. paths_apart v.task w.task) r.waiting.items q.waiting.items a.waiting_order b.waiting_order
-        (λ w i. (b.waiting w.task w.end).1 ((a.waiting w.task w.end).0 i)) (λ w i. (a.waiting w.task w.end).1 ((b.waiting w.task w.end).0 i));
-    channels = one_rising (λ (h k : History). ComesBefore h.name k.name) (λ h k. channels_apart h.name k.name) (map history_parts r.channels.items) (map history_parts q.channels.items)
+    waiting = one_rising (λ (v w : Waiting). IsBefore v.task w.task)
+        (λ v w. paths_apart v.task w.task) r.waiting.items q.waiting.items a.waiting_order b.waiting_order
+        (λ w i. (b.waiting w.task w.end).1 ((a.waiting w.task w.end).0 i))
+        (λ w i. (a.waiting w.task w.end).1 ((b.waiting w.task w.end).0 i));
+    channels = one_rising (λ (h k : History). ComesBefore h.name k.name)
+        (λ h k. channels_apart h.name k.name) (map history_parts r.channels.items) (map history_parts q.channels.items)
         (map_rises history_parts (λ (h k : History). ComesBefore h.name k.name) r.channels.items a.channels_order)
         (map_rises history_parts (λ (h k : History). ComesBefore h.name k.name) q.channels.items b.channels_order)
         (history_there n r q a b) (history_there n q r b a);
@@ -278,19 +302,25 @@ module _ (m : Program) (c : Config) where
 
 -- how reports are written: those that say the same in the same way, by the parts of data types
 abbrev pub IsWritten : (List Family → Report → List ℕ) → Type 0
-IsWritten text = (fs gs : List Family) → map family_parts fs ≡ map family_parts gs → (r q : Report) → AreOneReport r q → text fs r ≡ text gs q
+IsWritten text = (fs gs : List Family) → map family_parts fs ≡ map family_parts gs →
+    (r q : Report) → AreOneReport r q → text fs r ≡ text gs q
 
-result_in : (fs gs : List Family) → map family_parts fs ≡ map family_parts gs → (o : Option ValueTree) → result_text fs o ≡ result_text gs o
+result_in : (fs gs : List Family) → map family_parts fs ≡ map family_parts gs →
+    (o : Option ValueTree) → result_text fs o ≡ result_text gs o
 result_in fs gs alike None = refl
 result_in fs gs alike (Some x) = value_in fs gs alike x
 
 pub report_written : IsWritten report_text
 report_written fs gs alike r q s =
     let result = result_in fs gs alike r.result ∙ s.result gs in
-    let channels = histories_text fs r.channels.items ∙ (λ i. flat_map (parts_text (same_family_names fs gs alike i)) (s.channels i)) ∙ sym (histories_text gs q.channels.items) in
+    let channels = histories_text fs r.channels.items
+    ∙ (λ i. flat_map (parts_text (same_family_names fs gs alike i)) (s.channels i))
+    ∙ sym (histories_text gs q.channels.items) in
     λ i. (codes "result " ++ result i ++ codes "\n") ++ flat_map waiting_text (s.waiting i) ++ channels i
 
 pub summary_written : (n : ℕ) → IsWritten (λ families r. summary_text n r)
 summary_written n fs gs alike r q s =
-    let count : length r.channels.items ≡ length q.channels.items = sym (length-map r.channels.items history_parts) ∙ ap length s.channels ∙ length-map q.channels.items history_parts in
-    λ i. count_line (codes "bytes") n ++ count_line (codes "events") (s.events i) ++ count_line (codes "channels") (count i) ++ (codes "result " ++ s.result [] i ++ codes "\n")
+    let count : length r.channels.items ≡ length q.channels.items = sym (length-map r.channels.items history_parts)
+    ∙ ap length s.channels ∙ length-map q.channels.items history_parts in
+    λ i. count_line (codes "bytes") n ++ count_line (codes "events") (s.events i) ++ count_line (codes "channels")
+    (count i) ++ (codes "result " ++ s.result [] i ++ codes "\n")

@@ -29,7 +29,8 @@ pub run_alike : (m n : Module) → AreSame m n → RunAlike (program m) (program
 run_alike m n s = record {
   pauses = stops;
   answers = λ t a. after_same m.families.items n.families.items (bodies m.globals.items) (bodies n.globals.items)
-      (same_bodies m.globals.items n.globals.items s.globals) (pause m.families.items t) a ∙ ap (λ q. after (program n) q a) (stops t);
+      (same_bodies m.globals.items n.globals.items s.globals) (pause m.families.items t) a ∙ ap
+      (λ q. after (program n) q a) (stops t);
 }
   where
     stops : (t : State) → pause m.families.items t ≡ pause n.families.items t
@@ -39,7 +40,8 @@ alike_back : (m n : Program) → RunAlike m n → RunAlike n m
 alike_back m n x = record { pauses = λ s. sym (x.pauses s); answers = λ s a. sym (x.answers s a) }
 
 -- the same events are possible, and write the same
-does_same : (m n : Program) → RunAlike m n → (types : List Tree) (c : Config) (e : CoreEvent) (w : Write) → Does m types c e w → Does n types c e w
+does_same : (m n : Program) → RunAlike m n → (types : List Tree) (c : Config) (e : CoreEvent) (w : Write) → Does m types c e w →
+    Does n types c e w
 does_same m n x types c (Local p) w d = record {
   task = d.task;
   state = d.state;
@@ -114,7 +116,10 @@ waits_same m n x c p y (t, i, inr h) = (t, i, inr (ap asked (sym (x.pauses t.sta
 report_same : (m n : Program) → RunAlike m n → (c : Config) (k : ℕ) (r : Report) → IsReport m c k r → IsReport n c k r
 report_same m n x c k r h = record {
   result = result_same m n x c r h.result;
-  waiting = λ p y. (λ i. waits_same m n x c p y ((h.waiting p y).0 i), λ i. (h.waiting p y).1 (waits_same n m (alike_back m n x) c p y i));
+  waiting = λ p y. (
+    λ i. waits_same m n x c p y ((h.waiting p y).0 i),
+    λ i. (h.waiting p y).1 (waits_same n m (alike_back m n x) c p y i),
+  );
   waiting_order = h.waiting_order;
   channels = h.channels;
   channels_order = h.channels_order;
@@ -122,12 +127,19 @@ report_same m n x c k r h = record {
 }
 
 -- what the least run of a module comes to, that of each comes to that has the same parts
-pub answer_same : (m n : Module) → AreSame m n → (e : CoreTree) (steps : ℕ) (o : Outcome) → IsAnswer m e steps o → IsAnswer n e steps o
+pub answer_same : (m n : Module) → AreSame m n →
+    (e : CoreTree) (steps : ℕ) (o : Outcome) → IsAnswer m e steps o → IsAnswer n e steps o
 answer_same m n s e steps (Done r) (es, c, h, l, few, is) =
     let x = run_alike m n s in
-    let runs = subst (λ z. RunsLeast (program n) z (started e) es c) s.types (runs_same (program m) (program n) x m.types.items (started e) es c h) in
+    let runs = subst (λ z. RunsLeast (program n) z (started e) es c) s.types
+    (runs_same (program m) (program n) x m.types.items (started e) es c h) in
     let last = subst (λ z. IsLast (program n) z c) s.types (last_same (program m) (program n) x m.types.items c l) in
     (es, c, runs, last, few, report_same (program m) (program n) x c (length es) r is)
 answer_same m n s e steps OutOfSteps (es, c, h, many) =
-    let x = run_alike m n s in
-    (es, c, subst (λ z. RunsLeast (program n) z (started e) es c) s.types (runs_same (program m) (program n) x m.types.items (started e) es c h), many)
+    let x = run_alike m n s in (
+      es,
+      c,
+      subst (λ z. RunsLeast (program n) z (started e) es c) s.types
+          (runs_same (program m) (program n) x m.types.items (started e) es c h),
+      many,
+    )

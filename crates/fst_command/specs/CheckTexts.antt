@@ -46,17 +46,22 @@ kind_cause at fault = refused_so at (kind_phrase fault)
 
 -- the cause that a fault is; the names are those of the data types
 abbrev pub cause : List (List ℕ) → CheckFault → Cause
-cause names (Mismatch at got wanted difference) = refused at (codes "type " ++ type_text names got ++ codes " wanted " ++ type_text names wanted ++ word_behind difference)
+cause names (Mismatch at got wanted difference) =
+    refused at (codes "type " ++ type_text names got ++ codes " wanted " ++ type_text names wanted
+    ++ word_behind difference)
 cause names (Unused at x) = refused at (codes "unused " ++ x)
 cause names (UsedTwice at x) = refused at (codes "used twice " ++ x)
 cause names (CapturedLinear at x) = refused at (codes "captured " ++ x)
 cause names (NotFunction at got) = refused at (codes "not a function " ++ type_text names got)
-cause names (TypeArguments at got wanted) = refused at (counts_text (codes "type arguments ") got wanted)
+cause names (TypeArguments at got wanted) =
+    refused at (counts_text (codes "type arguments ") got wanted)
 cause names (KindOfArgument at got wanted) = refused at (kinds_text got wanted)
-cause names (NoSuchMove at got asked) = refused at (codes "no move " ++ move_text names asked ++ codes " in " ++ type_text names got)
+cause names (NoSuchMove at got asked) =
+    refused at (codes "no move " ++ move_text names asked ++ codes " in " ++ type_text names got)
 cause names (Branches at x) = refused at (codes "branches " ++ x)
 cause names (NotPrintable at got) = refused at (codes "not printable " ++ type_text names got)
-cause names (Undecided at got wanted grammar pairs) = undecided at (type_text names got) (type_text names wanted)
+cause names (Undecided at got wanted grammar pairs) =
+    undecided at (type_text names got) (type_text names wanted)
 cause names Memory = nothing
 cause names (Arms at got) = refused at (codes "arms " ++ type_text names got)
 cause names (Dropped at got) = refused at (codes "dropped " ++ type_text names got)
@@ -66,8 +71,11 @@ cause names (TooLarge at) = too_large at
 
 -- the line that says where and why, of the bytes that are the module, within a budget
 abbrev pub cause_text : List ℕ → ℕ → Cause → List ℕ
-cause_text bytes budget (refused at why) = codes "refused " ++ place_text bytes at ++ codes " " ++ why ++ codes "\n"
-cause_text bytes budget (undecided at got wanted) = codes "undecided " ++ place_text bytes at ++ codes " " ++ decimal budget ++ codes " " ++ got ++ codes " ~ " ++ wanted ++ codes "\n"
+cause_text bytes budget (refused at why) =
+    codes "refused " ++ place_text bytes at ++ codes " " ++ why ++ codes "\n"
+cause_text bytes budget (undecided at got wanted) =
+    codes "undecided " ++ place_text bytes at ++ codes " " ++ decimal budget ++ codes " " ++ got
+    ++ codes " ~ " ++ wanted ++ codes "\n"
 cause_text bytes budget (too_large at) = too_large_text bytes at
 cause_text bytes budget nothing = []
 

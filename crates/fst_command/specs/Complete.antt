@@ -40,8 +40,10 @@ HasBegun status.Memory = ⊥
 
 -- of an input that is known and within the limits `check` ends as where a module is accepted, and `run` as a run that was begun
 pub record IsComplete (words : List (List ℕ)) (old : Option (List ℕ)) (s : Status) : Type 0 where
-  pub check : (budget : ℕ) → IsCommand words (check budget) → IsInputWithin budget old → s ≡ status.Done
-  pub run : (steps workers budget : ℕ) → IsCommand words (run steps workers budget) → IsInputWithin budget old → HasBegun s
+  pub check : (budget : ℕ) → IsCommand words (check budget) → IsInputWithin budget old →
+      s ≡ status.Done
+  pub run : (steps workers budget : ℕ) → IsCommand words (run steps workers budget) →
+      IsInputWithin budget old → HasBegun s
 
 -- the text and the status are what so many steps of the module come to on so many workers, and say that they were begun
 pub record HasRunModule (workers steps : ℕ) (bytes text : List ℕ) (s : Status) : Type 0 where
@@ -52,6 +54,8 @@ pub record HasRunModule (workers steps : ℕ) (bytes text : List ℕ) (s : Statu
 
 -- of bytes that are within the limits `check` says that the module is accepted, and `run` what its steps come to
 pub record AreComplete : Type 0 where
-  pub check : (budget : ℕ) (bytes text : List ℕ) (s : Status) → Writes (check budget) bytes text s → IsWithinLimits budget bytes → (text ≡ accepted_text) × (s ≡ status.Done)
-  pub run : (steps workers budget : ℕ) (bytes text : List ℕ) (s : Status) → Writes (run steps workers budget) bytes text s → IsWithinLimits budget bytes →
+  pub check : (budget : ℕ) (bytes text : List ℕ) (s : Status) → Writes (check budget) bytes text s →
+      IsWithinLimits budget bytes → (text ≡ accepted_text) × (s ≡ status.Done)
+  pub run : (steps workers budget : ℕ) (bytes text : List ℕ) (s : Status) →
+      Writes (run steps workers budget) bytes text s → IsWithinLimits budget bytes →
       HasRunModule workers steps bytes text s

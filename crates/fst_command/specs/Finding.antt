@@ -37,26 +37,34 @@ pub data Finding : Type 0 where
 
 -- the bytes have no tokens
 pub data LexicalFinding (bytes : List ℕ) (f : Finding) : Type 0 where
-  not_utf8 : (at : ℕ) → Refuses bytes (lexical.NotUtf8 at) → f ≡ refused at phrase.NotUtf8 → LexicalFinding bytes f
-  bad_char : (at : ℕ) → Refuses bytes (lexical.BadChar at) → f ≡ refused at phrase.BadChar → LexicalFinding bytes f
-  wide_number : (at : ℕ) → Refuses bytes (lexical.WideNumber at) → f ≡ refused at phrase.WideNumber → LexicalFinding bytes f
-  long_name : (at : ℕ) → Refuses bytes (lexical.LongName at) → f ≡ refused at phrase.LongName → LexicalFinding bytes f
+  not_utf8 : (at : ℕ) → Refuses bytes (lexical.NotUtf8 at) → f ≡ refused at phrase.NotUtf8 →
+      LexicalFinding bytes f
+  bad_char : (at : ℕ) → Refuses bytes (lexical.BadChar at) → f ≡ refused at phrase.BadChar →
+      LexicalFinding bytes f
+  wide_number : (at : ℕ) → Refuses bytes (lexical.WideNumber at) →
+      f ≡ refused at phrase.WideNumber → LexicalFinding bytes f
+  long_name : (at : ℕ) → Refuses bytes (lexical.LongName at) → f ≡ refused at phrase.LongName →
+      LexicalFinding bytes f
 
 -- the tokens are read as nothing, for a fault that the reader has
 pub data SyntaxFinding (Stops : SyntaxFault → Type 0) (f : Finding) : Type 0 where
-  stopped : (at : ℕ) → Stops (syntax.Syntax at) → f ≡ refused at phrase.Syntax → SyntaxFinding Stops f
+  stopped : (at : ℕ) → Stops (syntax.Syntax at) → f ≡ refused at phrase.Syntax →
+      SyntaxFinding Stops f
   deep : (at : ℕ) → Stops (syntax.TooDeep at) → f ≡ too_deep at → SyntaxFinding Stops f
 
 -- the bytes are read as this
-pub record IsRead {A : Type 0} (Reads : List ℕ → List Token → Result A SyntaxFault → Type 0) (bytes : List ℕ) (x : A) : Type 0 where
+pub record IsRead {A : Type 0} (Reads : List ℕ → List Token → Result A SyntaxFault → Type 0)
+    (bytes : List ℕ) (x : A) : Type 0 where
   pub tokens : List Token
   pub lexes : Lexes bytes tokens
   pub reads : Reads bytes tokens (Ok x)
 
 -- the bytes have no tokens, or such as are read as nothing
-pub data IsUnread {A : Type 0} (Reads : List ℕ → List Token → Result A SyntaxFault → Type 0) (bytes : List ℕ) (f : Finding) : Type 0 where
+pub data IsUnread {A : Type 0} (Reads : List ℕ → List Token → Result A SyntaxFault → Type 0)
+    (bytes : List ℕ) (f : Finding) : Type 0 where
   no_tokens : LexicalFinding bytes f → IsUnread Reads bytes f
-  no_reading : (tokens : List Token) → Lexes bytes tokens → SyntaxFinding (λ e. Reads bytes tokens (Err e)) f → IsUnread Reads bytes f
+  no_reading : (tokens : List Token) → Lexes bytes tokens → SyntaxFinding
+      (λ e. Reads bytes tokens (Err e)) f → IsUnread Reads bytes f
 
 -- ---- names and sizes
 
@@ -78,10 +86,14 @@ session_kind vars t = and_next (walk vars t) (λ k. needs_session k (Ok k))
 
 -- a type over variables of these kinds that is written at a byte is no session type
 pub data KindFinding (vars : List Kind) (t : Tree) (at : ℕ) (f : Finding) : Type 0 where
-  not_contractive : session_kind vars t ≡ Err kind.NotContractive → f ≡ refused at phrase.NotContractive → KindFinding vars t at f
-  wrong_kind : (got wanted : Kind) → session_kind vars t ≡ Err (kind.WrongKind got wanted) → f ≡ refused at (phrase.WrongKind got wanted) → KindFinding vars t at f
-  unbound_type : (k : ℕ) → session_kind vars t ≡ Err (kind.UnboundType k) → f ≡ refused at (phrase.UnboundType k) → KindFinding vars t at f
-  double_label : (l : List ℕ) → session_kind vars t ≡ Err (kind.DoubleLabel l) → f ≡ refused at (phrase.DoubleLabel l) → KindFinding vars t at f
+  not_contractive : session_kind vars t ≡ Err kind.NotContractive →
+      f ≡ refused at phrase.NotContractive → KindFinding vars t at f
+  wrong_kind : (got wanted : Kind) → session_kind vars t ≡ Err (kind.WrongKind got wanted) →
+      f ≡ refused at (phrase.WrongKind got wanted) → KindFinding vars t at f
+  unbound_type : (k : ℕ) → session_kind vars t ≡ Err (kind.UnboundType k) →
+      f ≡ refused at (phrase.UnboundType k) → KindFinding vars t at f
+  double_label : (l : List ℕ) → session_kind vars t ≡ Err (kind.DoubleLabel l) →
+      f ≡ refused at (phrase.DoubleLabel l) → KindFinding vars t at f
 
 -- a type over variables of these kinds is a session type, and the walk of kinds finds no fault in it
 pub record IsFaultless (vars : List Kind) (t : Tree) : Type 0 where
@@ -92,7 +104,8 @@ pub record IsFaultless (vars : List Kind) (t : Tree) : Type 0 where
 -- of the two types that a question asks about one is no session type: the left one, or only the right one
 pub data KindsFinding (asked : Question) (f : Finding) : Type 0 where
   left : KindFinding asked.kinds.items asked.left asked.left_at f → KindsFinding asked f
-  right : IsFaultless asked.kinds.items asked.left → KindFinding asked.kinds.items asked.right asked.right_at f → KindsFinding asked f
+  right : IsFaultless asked.kinds.items asked.left →
+      KindFinding asked.kinds.items asked.right asked.right_at f → KindsFinding asked f
 
 -- ---- questions and modules
 
@@ -105,7 +118,8 @@ pub record Asks (q : Asked) (asked : Question) : Type 0 where
 -- a question asks about no two session types: it has a fault of names and sizes, of which the first is found, or else one
 -- of kinds
 pub data QuestionFinding (q : Asked) (f : Finding) : Type 0 where
-  names : (fault : NameFault) → first_fault (question_faults q) ≡ Some fault → name_finding fault ≡ Some f → QuestionFinding q f
+  names : (fault : NameFault) → first_fault (question_faults q) ≡ Some fault →
+      name_finding fault ≡ Some f → QuestionFinding q f
   kinds : (asked : Question) → IsResolved q asked → KindsFinding asked f → QuestionFinding q f
 
 -- the bytes are a question of two session types
@@ -116,7 +130,8 @@ pub record AreAsked (bytes : List ℕ) (asked : Question) : Type 0 where
 
 -- the bytes are no question of two session types
 abbrev pub IsNoQuestion : List ℕ → Finding → Type 0
-IsNoQuestion bytes f = IsUnread AnswersQuestion bytes f ⊎ ((q : Asked) × IsRead AnswersQuestion bytes q × QuestionFinding q f)
+IsNoQuestion bytes f = IsUnread AnswersQuestion bytes f ⊎
+    ((q : Asked) × IsRead AnswersQuestion bytes q × QuestionFinding q f)
 
 -- the bytes are no module
 abbrev pub IsNoModule : List ℕ → Finding → Type 0
@@ -136,4 +151,5 @@ pub record AreResolved (bytes : List ℕ) (m : Module) : Type 0 where
 
 -- the bytes are no such source
 abbrev pub AreUnresolved : List ℕ → Finding → Type 0
-AreUnresolved bytes f = IsUnread AnswersModule bytes f ⊎ ((ds : List Declared) × IsRead AnswersModule bytes ds × NamesFinding ds f)
+AreUnresolved bytes f = IsUnread AnswersModule bytes f ⊎
+    ((ds : List Declared) × IsRead AnswersModule bytes ds × NamesFinding ds f)

@@ -49,7 +49,8 @@ pub record MeansNo (bytes text : List ℕ) : Type 0 where
   pub side : Side
   pub written : text ≡ no_text trace side
   pub alone : PerformsAlone step step asked.left asked.right trace side
-  pub least : (v : List Label) → IsBefore label_cmp v trace → (Performs step asked.left v ↔ Performs step asked.right v)
+  pub least : (v : List Label) → IsBefore label_cmp v trace →
+      (Performs step asked.left v ↔ Performs step asked.right v)
 
 -- the text has the budget: the pruned words of the two types reach more different pairs than that, and of the first pairs, as
 -- many as the budget, none performs different letters on its two sides; and the cuts that the words lead to aren't good at the budget
@@ -74,7 +75,8 @@ pub record MeansUndecided (budget : ℕ) (bytes text : List ℕ) : Type 0 where
 pub record MeansAnswer (budget : ℕ) (bytes text : List ℕ) : Type 0 where
   pub yes : text ≡ yes_text → MeansYes bytes
   pub no : (rest : List ℕ) → text ≡ codes "no " ++ rest → MeansNo bytes text
-  pub undecided : (rest : List ℕ) → text ≡ codes "undecided " ++ rest → MeansUndecided budget bytes text
+  pub undecided : (rest : List ℕ) → text ≡ codes "undecided " ++ rest →
+      MeansUndecided budget bytes text
 
 -- the bytes are a source that stands for a module, which has derivations; and whatever happens in a run of it, nothing goes
 -- wrong
@@ -89,7 +91,8 @@ pub record MeansAccepted (bytes : List ℕ) : Type 0 where
 
 -- whatever module the bytes stand for, it has no derivations
 abbrev pub MeansRefused : List ℕ → Type 0
-MeansRefused bytes = (m : Module) → AreResolved bytes m → (ds : List Deriv) → HasDerivations m ds → ⊥
+MeansRefused bytes = (m : Module) → AreResolved bytes m →
+    (ds : List Deriv) → HasDerivations m ds → ⊥
 
 -- what it means that `check` ended with this status
 pub record MeansCheck (bytes : List ℕ) (s : Status) : Type 0 where
@@ -132,4 +135,5 @@ Means (make n) bytes text s = MeansRun (made_summary n) s (made_text n) text
 
 -- whatever a command writes means that
 abbrev pub Meanings : Type 0
-Meanings = (c : Command) (bytes text : List ℕ) (s : Status) → Writes c bytes text s → Means c bytes text s
+Meanings = (c : Command) (bytes text : List ℕ) (s : Status) → Writes c bytes text s →
+    Means c bytes text s

@@ -65,7 +65,8 @@ answer_status undecided = status.Undecided
 answer_status too_large = status.Limit
 
 -- this text and status are the answer to a question of two types
-pub record IsAnswerTo (bytes : List ℕ) (asked : Question) (budget : ℕ) (text : List ℕ) (s : Status) : Type 0 where
+pub record IsAnswerTo (bytes : List ℕ) (asked : Question) (budget : ℕ) (text : List ℕ)
+    (s : Status) : Type 0 where
   pub answer : Answer
   pub answers : Answers asked.left asked.right budget answer
   pub written : text ≡ answer_text bytes asked.left_at budget answer
@@ -90,14 +91,19 @@ pub record ShowsModule (bytes text : List ℕ) (s : Status) : Type 0 where
 
 -- this text and status are what is found of a module within a budget: it is accepted with some derivations, and then this holds of
 -- them, or it is refused with a fault
-pub data IsFoundOf (IsMade : List ℕ → Status → Type 0) (bytes : List ℕ) (m : Module) (budget : ℕ) (text : List ℕ) (s : Status) : Type 0 where
-  accepted : (ds : List Deriv) → IsAccepted m budget ds → IsMade text s → IsFoundOf IsMade bytes m budget text s
-  unaccepted : (f : CheckFault) → IsRefusal m budget f → text ≡ cause_text bytes budget (cause (family_names m.families.items) f) →
-      s ≡ cause_status (cause (family_names m.families.items) f) → IsFoundOf IsMade bytes m budget text s
+pub data IsFoundOf (IsMade : List ℕ → Status → Type 0) (bytes : List ℕ) (m : Module) (budget : ℕ)
+    (text : List ℕ) (s : Status) : Type 0 where
+  accepted : (ds : List Deriv) → IsAccepted m budget ds → IsMade text s →
+      IsFoundOf IsMade bytes m budget text s
+  unaccepted : (f : CheckFault) → IsRefusal m budget f →
+      text ≡ cause_text bytes budget (cause (family_names m.families.items) f) →
+      s ≡ cause_status (cause (family_names m.families.items) f) →
+      IsFoundOf IsMade bytes m budget text s
 
 -- the bytes stand for a module, and this text and status are what is found of it within a budget, where for one that is accepted
 -- this is made
-pub record FindsModule (IsMade : Module → List ℕ → Status → Type 0) (budget : ℕ) (bytes text : List ℕ) (s : Status) : Type 0 where
+pub record FindsModule (IsMade : Module → List ℕ → Status → Type 0) (budget : ℕ)
+    (bytes text : List ℕ) (s : Status) : Type 0 where
   pub resolved : Module
   pub is_resolved : AreResolved bytes resolved
   pub found : IsFoundOf (IsMade resolved) bytes resolved budget text s
@@ -124,7 +130,8 @@ outcome_status OutOfSteps = status.OutOfSteps
 -- what so many steps of a module come to on so many workers, where this is the body of its main: on one it is what its least run comes
 -- to, and on several what a record that fits does
 abbrev pub ComesTo : ℕ → ℕ → Module → CoreTree → Outcome → Type 0
-ComesTo workers steps m main o = ((workers ≡ 1) × IsAnswer m main steps o) ⊎ ((1 < workers) × IsRecordAnswer m (birth (main_thread main)) steps o)
+ComesTo workers steps m main o = ((workers ≡ 1) × IsAnswer m main steps o) ⊎
+    ((1 < workers) × IsRecordAnswer m (birth (main_thread main)) steps o)
 
 -- this is what so many steps of the module come to on so many workers
 pub record IsOutcomeOf (workers steps : ℕ) (m : Module) (o : Outcome) : Type 0 where
@@ -133,7 +140,8 @@ pub record IsOutcomeOf (workers steps : ℕ) (m : Module) (o : Outcome) : Type 0
   pub comes : ComesTo workers steps m main o
 
 -- this text and status are what they come to, where this is how its report is written
-pub record SaysOutcome (shown : List Family → Report → List ℕ) (workers steps : ℕ) (m : Module) (text : List ℕ) (s : Status) : Type 0 where
+pub record SaysOutcome (shown : List Family → Report → List ℕ) (workers steps : ℕ) (m : Module)
+    (text : List ℕ) (s : Status) : Type 0 where
   pub outcome : Outcome
   pub is : IsOutcomeOf workers steps m outcome
   pub written : text ≡ outcome_text shown m.families.items outcome
@@ -142,9 +150,13 @@ pub record SaysOutcome (shown : List Family → Report → List ℕ) (workers st
 -- ---- all commands
 
 -- what is written of an input: that it is too long, or why it isn't what the command is for, or what the command makes of it
-pub data WritesOf (IsNone : List ℕ → Finding → Type 0) (Makes : List ℕ → List ℕ → Status → Type 0) (bytes text : List ℕ) (s : Status) : Type 0 where
-  too_long : length bytes ≡ most_bytes + 1 → text ≡ too_long_text → s ≡ status.Limit → WritesOf IsNone Makes bytes text s
-  is_none : length bytes ≤ most_bytes → (f : Finding) → IsNone bytes f → text ≡ finding_text bytes f → s ≡ finding_status f → WritesOf IsNone Makes bytes text s
+pub data WritesOf (IsNone : List ℕ → Finding → Type 0) (Makes : List ℕ → List ℕ → Status → Type 0)
+    (bytes text : List ℕ) (s : Status) : Type 0 where
+  too_long : length bytes ≡ most_bytes + 1 → text ≡ too_long_text → s ≡ status.Limit →
+      WritesOf IsNone Makes bytes text s
+  is_none : length bytes ≤ most_bytes →
+      (f : Finding) → IsNone bytes f → text ≡ finding_text bytes f → s ≡ finding_status f →
+      WritesOf IsNone Makes bytes text s
   makes : length bytes ≤ most_bytes → Makes bytes text s → WritesOf IsNone Makes bytes text s
 
 -- in place of the report `make` writes its summary, with the number of bytes of the made module, which has no data types
@@ -155,20 +167,24 @@ made_summary n families r = summary_text (length (made_text n)) r
 -- where no word sets them, but for the report
 abbrev pub WritesMade : ℕ → List ℕ → List ℕ → Status → Type 0
 WritesMade n bytes text s =
-    WritesOf AreUnresolved (FindsModule (SaysOutcome (made_summary n) setting.workers.default setting.steps.default) setting.budget.default) (made_text n) text s
+    WritesOf AreUnresolved (FindsModule
+    (SaysOutcome (made_summary n) setting.workers.default setting.steps.default)
+    setting.budget.default) (made_text n) text s
 
 -- what a command writes of an input
 abbrev pub Writes : Command → List ℕ → List ℕ → Status → Type 0
 Writes (equiv budget) = WritesOf IsNoQuestion (AnswersQuestion budget)
 Writes show = WritesOf IsNoModule ShowsModule
 Writes (check budget) = WritesOf AreUnresolved (FindsModule SaysAccepted budget)
-Writes (run steps workers budget) = WritesOf AreUnresolved (FindsModule (SaysOutcome report_text workers steps) budget)
+Writes (run steps workers budget) =
+    WritesOf AreUnresolved (FindsModule (SaysOutcome report_text workers steps) budget)
 Writes (make n) = WritesMade n
 
 -- what is written of words and bytes: the usage line where the words are no command's, with nothing read, and else what
 -- the command writes
 pub data IsOutput (words : List (List ℕ)) (bytes text : List ℕ) (s : Status) : Type 0 where
-  usage : NoCommand words → bytes ≡ [] → text ≡ usage_text → s ≡ status.Words → IsOutput words bytes text s
+  usage : NoCommand words → bytes ≡ [] → text ≡ usage_text → s ≡ status.Words →
+      IsOutput words bytes text s
   command : (c : Command) → IsCommand words c → Writes c bytes text s → IsOutput words bytes text s
 
 -- ---- laws
@@ -182,4 +198,5 @@ OneOutput =
 
 -- the text of a module that is shown is a module that is shown by the same text, or a token of it is nested too deep
 abbrev pub ShownAgain : Type 0
-ShownAgain = (bytes text : List ℕ) → ShowsModule bytes text status.Done → ShowsModule text text status.Done ⊎ ((at : ℕ) × IsNoModule text (too_deep at))
+ShownAgain = (bytes text : List ℕ) → ShowsModule bytes text status.Done →
+    ShowsModule text text status.Done ⊎ ((at : ℕ) × IsNoModule text (too_deep at))

@@ -36,7 +36,8 @@ place_text text at = decimal (line_of text at) ++ codes ":" ++ decimal (column_o
 
 -- the text is refused at this byte, for this
 abbrev pub refused_text : List ℕ → ℕ → Phrase → List ℕ
-refused_text text at phrase = refusal_text (record { line = line_of text at; column = column_of text at; phrase = phrase }) ++ codes "\n"
+refused_text text at phrase = refusal_text
+    (record { line = line_of text at; column = column_of text at; phrase = phrase }) ++ codes "\n"
 
 -- the token at this byte is nested too deep
 abbrev pub too_deep_text : List ℕ → ℕ → List ℕ

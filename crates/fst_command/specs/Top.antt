@@ -39,14 +39,16 @@ ReadsFor (run steps workers budget) = ReadsInput
 ReadsFor (make n) = ReadsNothing
 
 -- a text that with this status is an output of the words and of what was read, and means what it says
-pub record IsAnswered (words : List (List ℕ)) (old new : Option (List ℕ)) (text : List ℕ) (s : Status) : Type 0 where
+pub record IsAnswered (words : List (List ℕ)) (old new : Option (List ℕ)) (text : List ℕ)
+    (s : Status) : Type 0 where
   pub bytes : List ℕ
   pub read : (c : Command) → IsCommand words c → ReadsFor c old new bytes
   pub output : IsOutput words bytes text s
   pub means : (c : Command) → IsCommand words c → Means c bytes text s
 
 -- such a text was written
-pub record WasWritten (words : List (List ℕ)) (old new taken now : Option (List ℕ)) (s : Status) : Type 0 where
+pub record WasWritten (words : List (List ℕ)) (old new taken now : Option (List ℕ))
+    (s : Status) : Type 0 where
   pub text : List ℕ
   pub answered : IsAnswered words old new text s
   pub whole : Appends taken now text

@@ -32,7 +32,8 @@ fn answer_session(
     requires short { length bytes.now ≤ most_bytes }
     requires left { IsSession question.now.kinds.items question.now.left }
     requires right { IsSession question.now.kinds.items question.now.right }
-    ensures says { IfOk result (λ a. IsAnswerTo bytes.now question.now budget a.text.items a.status) }
+    ensures says { IfOk result (λ a. IsAnswerTo bytes.now question.now budget a.text.items
+        a.status) }
     ensures whole { IfOk result (λ a. IsAnswer a.status) }
 {
     match ask(alloc, &question.left, &question.right, budget) {

@@ -29,7 +29,8 @@ pub(crate) fn find_resolved(alloc: Global, bytes: &[u8]) -> Result<Module, Fault
 fn answer_module(alloc: Global, bytes: &[u8], m: &Module, budget: u32) -> Result<Answer, AllocError>
     requires budget { 1 ≤ budget }
     requires short { length bytes.now ≤ most_bytes }
-    ensures found { IfOk result (λ a. IsFoundOf (SaysAccepted m.now) bytes.now m.now budget a.text.items a.status) }
+    ensures found { IfOk result (λ a. IsFoundOf
+        (SaysAccepted m.now) bytes.now m.now budget a.text.items a.status) }
     ensures whole { IfOk result (λ a. IsAnswer a.status) }
 {
     match check(alloc, m, budget) {

@@ -136,7 +136,8 @@ pub fn top<R: Threads + Sync, S: Source, K: Sink, G: Gate + Sync>(
 
     // Where what is left of the source is known, and stands for a module that has plain derivations within the limits, an answer of
     // `check` is that the module is accepted, and one of `run` is what its steps come to.
-    ensures complete { IsAnswer result → IsComplete (map string_bytes words.now) (S.left source.old) result }
+    ensures complete { IsAnswer result →
+        IsComplete (map string_bytes words.now) (S.left source.old) result }
 
     // A read fault comes only where the source's count rose, for words that want the source, and
     // nothing is written.

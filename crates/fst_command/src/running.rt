@@ -140,7 +140,8 @@ fn answer_outcome<R: Threads + Sync, G: Gate + Sync>(
     requires derived { IsDerived m.now }
     requires few { options.steps < 4294967295 }
     requires some { 1 ≤ options.workers }
-    ensures outcome { IfOk result (λ a. SaysOutcome (shown_as form) options.workers options.steps m.now a.text.items a.status) }
+    ensures outcome { IfOk result (λ a. SaysOutcome
+        (shown_as form) options.workers options.steps m.now a.text.items a.status) }
     ensures whole { IfOk result (λ a. IsAnswer a.status) }
 {
     match sound_outcome(rt, alloc, m, options, gate)? {
@@ -169,7 +170,9 @@ fn answer_steps<R: Threads + Sync, G: Gate + Sync>(
     requires some { 1 ≤ options.workers }
     requires budget { 1 ≤ options.budget }
     requires short { length bytes.now ≤ most_bytes }
-    ensures found { IfOk result (λ a. IsFoundOf (SaysOutcome (shown_as form) options.workers options.steps m.now) bytes.now m.now options.budget a.text.items a.status) }
+    ensures found { IfOk result (λ a. IsFoundOf
+        (SaysOutcome (shown_as form) options.workers options.steps m.now) bytes.now m.now
+        options.budget a.text.items a.status) }
     ensures whole { IfOk result (λ a. IsAnswer a.status) }
 {
     accepted_law();
@@ -192,7 +195,9 @@ fn answer_source<R: Threads + Sync, G: Gate + Sync>(
     requires some { 1 ≤ options.workers }
     requires budget { 1 ≤ options.budget }
     requires short { length bytes.now ≤ most_bytes }
-    ensures text { IfOk result (λ a. WritesOf AreUnresolved (FindsModule (SaysOutcome (shown_as form) options.workers options.steps) options.budget) bytes.now a.text.items a.status) }
+    ensures text { IfOk result (λ a. WritesOf AreUnresolved
+        (FindsModule (SaysOutcome (shown_as form) options.workers options.steps) options.budget)
+        bytes.now a.text.items a.status) }
     ensures whole { IfOk result (λ a. IsAnswer a.status) }
 {
     match find_resolved(alloc, bytes) {
@@ -213,7 +218,8 @@ pub(crate) fn answer_run<R: Threads + Sync, G: Gate + Sync>(
     requires some { 1 ≤ options.workers }
     requires budget { 1 ≤ options.budget }
     requires short { length bytes.now ≤ most_bytes }
-    ensures text { IfOk result (λ a. Writes (run options.steps options.workers options.budget) bytes.now a.text.items a.status) }
+    ensures text { IfOk result (λ a. Writes
+        (run options.steps options.workers options.budget) bytes.now a.text.items a.status) }
     ensures whole { IfOk result (λ a. IsAnswer a.status) }
 {
     answer_source(rt, alloc, Form::Report, bytes, options, gate)

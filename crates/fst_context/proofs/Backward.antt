@@ -14,25 +14,30 @@ around xs i d h =
     let n : i + 1 ≡ suc i = omega arith in
     sym (take-append-drop i xs) ∙ ap (λ r. take i xs ++ r) (e ∙ ap (λ m. get_or xs i d ∷ drop m xs) n)
 
-flip : {X Y : Type 0} (f : X → Y) (a b : List X) (x : X) → reverse (map f (a ++ x ∷ b)) ≡ reverse (map f b) ++ f x ∷ reverse (map f a)
+flip : {X Y : Type 0} (f : X → Y) (a b : List X) (x : X) →
+    reverse (map f (a ++ x ∷ b)) ≡ reverse (map f b) ++ f x ∷ reverse (map f a)
 flip f a b x =
     ap reverse (map-append f a (x ∷ b))
     ∙ reverse-append (map f a) (f x ∷ map f b)
     ∙ ap (λ r. r ++ reverse (map f a)) (reverse-append (f x ∷ []) (map f b))
     ∙ append_assoc (reverse (map f b)) (f x ∷ []) (reverse (map f a))
 
-pub turned : {X Y : Type 0} (f : X → Y) (xs : List X) (i : ℕ) (d : X) → i < length xs → reverse (map f xs) ≡ reverse (map f (drop (suc i) xs)) ++ f (get_or xs i d) ∷ reverse (map f (take i xs))
+pub turned : {X Y : Type 0} (f : X → Y) (xs : List X) (i : ℕ) (d : X) → i < length xs →
+    reverse (map f xs) ≡ reverse (map f (drop (suc i) xs)) ++ f (get_or xs i d) ∷ reverse (map f (take i xs))
 turned f xs i d h = ap (λ r. reverse (map f r)) (around xs i d h) ∙ flip f (take i xs) (drop (suc i) xs) (get_or xs i d)
 
-pub turned_set : {X Y : Type 0} (f : X → Y) (xs : List X) (i : ℕ) (x : X) → i < length xs → reverse (map f (set xs i x)) ≡ reverse (map f (drop (suc i) xs)) ++ f x ∷ reverse (map f (take i xs))
+pub turned_set : {X Y : Type 0} (f : X → Y) (xs : List X) (i : ℕ) (x : X) → i < length xs →
+    reverse (map f (set xs i x)) ≡ reverse (map f (drop (suc i) xs)) ++ f x ∷ reverse (map f (take i xs))
 turned_set f xs i x h = ap (λ r. reverse (map f r)) (set_split xs i x h) ∙ flip f (take i xs) (drop (suc i) xs) x
 
-pub backward : {X : Type 0} (xs : List X) (i : ℕ) (d : X) → i < length xs → reverse xs ≡ reverse (drop (suc i) xs) ++ get_or xs i d ∷ reverse (take i xs)
+pub backward : {X : Type 0} (xs : List X) (i : ℕ) (d : X) → i < length xs →
+    reverse xs ≡ reverse (drop (suc i) xs) ++ get_or xs i d ∷ reverse (take i xs)
 backward {X} xs i d h =
     sym (ap reverse (map-id xs)) ∙ turned (λ (x : X). x) xs i d h
     ∙ (λ j. reverse (map-id (drop (suc i) xs) j) ++ get_or xs i d ∷ reverse (map-id (take i xs) j))
 
-pub backward_set : {X : Type 0} (xs : List X) (i : ℕ) (x : X) → i < length xs → reverse (set xs i x) ≡ reverse (drop (suc i) xs) ++ x ∷ reverse (take i xs)
+pub backward_set : {X : Type 0} (xs : List X) (i : ℕ) (x : X) → i < length xs →
+    reverse (set xs i x) ≡ reverse (drop (suc i) xs) ++ x ∷ reverse (take i xs)
 backward_set {X} xs i x h =
     sym (ap reverse (map-id (set xs i x))) ∙ turned_set (λ (x : X). x) xs i x h
     ∙ (λ j. reverse (map-id (drop (suc i) xs) j) ++ x ∷ reverse (map-id (take i xs) j))
@@ -40,7 +45,8 @@ backward_set {X} xs i x h =
 pub behind_length : {X : Type 0} (xs : List X) (i k : ℕ) → i + k + 1 ≡ length xs → length (reverse (drop (suc i) xs)) ≡ k
 behind_length xs i k h = length-reverse (drop (suc i) xs) ∙ length-drop (suc i) xs ∙ omega arith
 
-pub front_length : {X Y : Type 0} (f : X → Y) (xs : List X) (i k : ℕ) → i + k + 1 ≡ length xs → length (reverse (map f (drop (suc i) xs))) ≡ k
+pub front_length : {X Y : Type 0} (f : X → Y) (xs : List X) (i k : ℕ) → i + k + 1 ≡ length xs →
+    length (reverse (map f (drop (suc i) xs))) ≡ k
 front_length f xs i k h =
     length-reverse (map f (drop (suc i) xs)) ∙ length-map (drop (suc i) xs) f ∙ length-drop (suc i) xs ∙ omega arith
 
@@ -93,7 +99,8 @@ last_first {X} xs n d h =
     sym (ap reverse (map-id xs)) ∙ turned (λ (x : X). x) xs n d lt
     ∙ (λ i. reverse (map-id (rest i) i) ++ get_or xs n d ∷ reverse (map-id (take n xs) i))
 
-pub set_last_first : {X : Type 0} (xs : List X) (n : ℕ) (x : X) → n + 1 ≡ length xs → reverse (set xs n x) ≡ x ∷ reverse (take n xs)
+pub set_last_first : {X : Type 0} (xs : List X) (n : ℕ) (x : X) → n + 1 ≡ length xs →
+    reverse (set xs n x) ≡ x ∷ reverse (take n xs)
 set_last_first {X} xs n x h =
     let lt : n < length xs = omega arith in
     let rest : drop (suc n) xs ≡ [] = drop_all (suc n) xs (omega arith) in
@@ -105,11 +112,13 @@ more_last ns n d h =
     let e : get_or ns n d + 1 ≡ suc (get_or ns n d) = omega arith in
     set_last_first ns n (get_or ns n d + 1) h ∙ ap (λ m. m ∷ reverse (take n ns)) e ∙ sym (ap more (last_first ns n d h))
 
-pub joined_last : (ns ms : List ℕ) (n d e : ℕ) → n + 2 ≡ length ns → ms ≡ take (n + 1) ns → reverse (set ms n (get_or ms n d + get_or ns (n + 1) e)) ≡ joined (reverse ns)
+pub joined_last : (ns ms : List ℕ) (n d e : ℕ) → n + 2 ≡ length ns → ms ≡ take (n + 1) ns →
+    reverse (set ms n (get_or ms n d + get_or ns (n + 1) e)) ≡ joined (reverse ns)
 joined_last ns ms n d e h p =
     let long : n + 1 ≡ length ms = sym (ap length p ∙ length-take (n + 1) ns ∙ omega arith) in
     set_last_first ms n (get_or ms n d + get_or ns (n + 1) e) long
-    ∙ sym (ap joined (last_first ns (n + 1) e (omega arith) ∙ ap (λ r. get_or ns (n + 1) e ∷ reverse r) (sym p) ∙ ap (λ r. get_or ns (n + 1) e ∷ r) (last_first ms n d long)))
+    ∙ sym (ap joined (last_first ns (n + 1) e (omega arith) ∙ ap (λ r. get_or ns (n + 1) e ∷ reverse r) (sym p) ∙ ap
+    (λ r. get_or ns (n + 1) e ∷ r) (last_first ms n d long)))
 
 pub joined_only : (ns : List ℕ) → length ns ≡ 1 → joined (reverse ns) ≡ []
 joined_only [] h = refl
@@ -127,7 +136,8 @@ zeros_append (n ∷ a) b p q = (p.0, zeros_append a b p.1 q)
 
 zeros_reverse : (ns : List ℕ) → Zeros ns → Zeros (reverse ns)
 zeros_reverse [] p = tt
-zeros_reverse (n ∷ ns) p = subst Zeros (sym (reverse-append (n ∷ []) ns)) (zeros_append (reverse ns) (n ∷ []) (zeros_reverse ns p.1) (p.0, tt))
+zeros_reverse (n ∷ ns) p = subst Zeros (sym (reverse-append (n ∷ []) ns))
+    (zeros_append (reverse ns) (n ∷ []) (zeros_reverse ns p.1) (p.0, tt))
 
 fewer_zeros : (ns : List ℕ) → Zeros ns → fewer ns ≡ ns
 fewer_zeros [] p = refl
@@ -140,12 +150,14 @@ fewer_first (zero ∷ zs) r n p = ap (λ q. zero ∷ q) (fewer_first zs r n p.1)
 fewer_first (suc m ∷ zs) r n p = absurd (cc (p.0))
 
 -- where all counts behind a place are zero, the one at the place is lowered
-pub fewer_at : (ns : List ℕ) (i d : ℕ) → i < length ns → Zeros (drop (suc i) ns) → 0 < get_or ns i d → reverse (set ns i (get_or ns i d - 1)) ≡ fewer (reverse ns)
+pub fewer_at : (ns : List ℕ) (i d : ℕ) → i < length ns → Zeros (drop (suc i) ns) → 0 < get_or ns i d →
+    reverse (set ns i (get_or ns i d - 1)) ≡ fewer (reverse ns)
 fewer_at ns i d h z lt =
     let behind = reverse (drop (suc i) ns) in
     let before = reverse (take i ns) in
     let n : suc (get_or ns i d - 1) ≡ get_or ns i d = omega (arith, lt) in
-    backward_set ns i (get_or ns i d - 1) h ∙ sym (fewer_first behind before (get_or ns i d - 1) (zeros_reverse (drop (suc i) ns) z))
+    backward_set ns i (get_or ns i d - 1) h ∙ sym
+    (fewer_first behind before (get_or ns i d - 1) (zeros_reverse (drop (suc i) ns) z))
     ∙ ap (λ m. fewer (behind ++ m ∷ before)) n ∙ ap fewer (sym (backward ns i d h))
 
 -- and where all are zero, none is

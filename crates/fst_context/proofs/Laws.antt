@@ -17,7 +17,8 @@ pub takes_as : (P Q : Vars → Type 0) (r s : Scope) → ((u : Vars) → P u →
 takes_as = taking.takes_as
 
 -- what was taken inside a variable that is used at its end
-pub takes_inside : (P : Vars → Type 0) (n : List ℕ) (v : Variable) (r s : Scope) → Takes P (entered n v r) s → at_or_not s.there 0 ≡ false →
+pub takes_inside : (P : Vars → Type 0) (n : List ℕ) (v : Variable) (r s : Scope) → Takes P (entered n v r) s →
+    at_or_not s.there 0 ≡ false →
     Takes (λ u. P (under (is_once v.uses) u)) r (left s)
 takes_inside = taking.takes_inside
 
@@ -48,11 +49,13 @@ pub within_right : (s : Scope) (u v w : Vars) → IsSplit u v w → IsWithin u s
 within_right = taking.within_right
 
 -- inside a variable, that one can be taken too, where it is linear
-pub within_entered : (x : List ℕ) (v : Variable) (s : Scope) (u : Vars) → IsWithin u s → IsWithin (under (is_once v.uses) u) (entered x v s)
+pub within_entered : (x : List ℕ) (v : Variable) (s : Scope) (u : Vars) → IsWithin u s →
+    IsWithin (under (is_once v.uses) u) (entered x v s)
 within_entered = taking.within_entered
 
 -- then the scope is left as one from which the set was taken outside
-pub left_entered : (x : List ℕ) (v : Variable) (s : Scope) (u : Vars) → left (without (under (is_once v.uses) u) (entered x v s)) ≡ without u s
+pub left_entered : (x : List ℕ) (v : Variable) (s : Scope) (u : Vars) →
+    left (without (under (is_once v.uses) u) (entered x v s)) ≡ without u s
 left_entered = taking.left_entered
 
 -- so a body is ended

@@ -20,7 +20,8 @@ lt-or-le zero (suc n) = inl (omega arith)
 lt-or-le (suc j) (suc n) = step j n (lt-or-le j n)
 
 -- the marks further out than the place up to which the lists were compared
-pub outer_marks : (bs cs : List Bool) (i : ℕ) → length bs ≡ length cs → i < length bs → ((k : ℕ) (b c : Bool) → k < i → get_or bs k b ≡ get_or cs k c) →
+pub outer_marks : (bs cs : List Bool) (i : ℕ) → length bs ≡ length cs → i < length bs →
+    ((k : ℕ) (b c : Bool) → k < i → get_or bs k b ≡ get_or cs k c) →
     (j : ℕ) → length bs - 1 - i < j → at_or_not (reverse bs) j ≡ at_or_not (reverse cs) j
 outer_marks bs cs i m lt same j h =
     elim (lt-or-le j (length bs)) as (λ z. at_or_not (reverse bs) j ≡ at_or_not (reverse cs) j) [
@@ -30,10 +31,12 @@ outer_marks bs cs i m lt same j h =
           ∙ same (length bs - 1 - j) true true (omega (arith, a, h, lt))
           ∙ sym (mark_place cs (length bs - 1 - j) j true (n ∙ m))
       | inr b ↦
-          at_past (reverse bs) j (omega (arith, b, length-reverse bs)) ∙ sym (at_past (reverse cs) j (omega (arith, b, m, length-reverse cs)))
+          at_past (reverse bs) j (omega (arith, b, length-reverse bs))
+          ∙ sym (at_past (reverse cs) j (omega (arith, b, m, length-reverse cs)))
     ]
 
-pub all_marks : (bs cs : List Bool) → length bs ≡ length cs → ((k : ℕ) (b c : Bool) → k < length bs → get_or bs k b ≡ get_or cs k c) → bs ≡ cs
+pub all_marks : (bs cs : List Bool) → length bs ≡ length cs →
+    ((k : ℕ) (b c : Bool) → k < length bs → get_or bs k b ≡ get_or cs k c) → bs ≡ cs
 all_marks [] [] h f = refl
 all_marks [] (y ∷ cs) h f = absurd (omega (arith, h))
 all_marks (x ∷ bs) [] h f = absurd (omega (arith, h))

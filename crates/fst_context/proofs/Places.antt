@@ -11,14 +11,17 @@ use Rattle.fst_context.specs.Scope.{Scope, Variable, is_once, at_or_not, linear_
 use Rattle.fst_context.specs.View.{scope_of, variable_of, taken_at}
 use Rattle.fst_context.proofs.Backward.{turned, backward, backward_set, front_length, behind_length, linear_at-append, at_or_not-append, mark_none, single_none, mark-append}
 
-pub lengths : (es : List Entry) (bs : List Bool) (ns : List ℕ) (s : Scope) → scope_of es bs ns ≡ s → length s.variables ≡ length es
+pub lengths : (es : List Entry) (bs : List Bool) (ns : List ℕ) (s : Scope) → scope_of es bs ns ≡ s →
+    length s.variables ≡ length es
 lengths es bs ns s v = ap (λ z. length z.variables) (sym v) ∙ length-reverse (map variable_of es) ∙ length-map es variable_of
 
 -- the place of the k-th variable from the end
-pub at_place : (es : List Entry) (bs : List Bool) (ns : List ℕ) (s : Scope) (r k : ℕ) → scope_of es bs ns ≡ s → k < length s.variables → r ≡ length es → (r - 1 - k) + k + 1 ≡ length es
+pub at_place : (es : List Entry) (bs : List Bool) (ns : List ℕ) (s : Scope) (r k : ℕ) → scope_of es bs ns ≡ s →
+    k < length s.variables → r ≡ length es → (r - 1 - k) + k + 1 ≡ length es
 at_place es bs ns s r k v h p = omega (arith, lengths es bs ns s v, h, p)
 
-pub linear_place : (es : List Entry) (bs : List Bool) (ns : List ℕ) (s : Scope) (r k : ℕ) (e : Entry) → scope_of es bs ns ≡ s → k < length s.variables → r ≡ length es →
+pub linear_place : (es : List Entry) (bs : List Bool) (ns : List ℕ) (s : Scope) (r k : ℕ) (e : Entry) → scope_of es bs ns ≡ s →
+    k < length s.variables → r ≡ length es →
     e ≡ get_or es (r - 1 - k) e → linear_at s.variables k ≡ is_once e.uses
 linear_place es bs ns s r k e v h p q =
     let i : (r - 1 - k) + k + 1 ≡ length es = at_place es bs ns s r k v h p in
@@ -34,7 +37,8 @@ mark_place bs i k b h =
     let lt : i < length bs = omega (arith, h) in
     ap (λ z. at_or_not z k) (backward bs i b lt) ∙ at_or_not-append _ _ _ k (behind_length bs i k h)
 
-pub there_place : (es : List Entry) (bs : List Bool) (ns : List ℕ) (s : Scope) (r k : ℕ) (b : Bool) → scope_of es bs ns ≡ s → length bs ≡ length es → k < length s.variables → r ≡ length es →
+pub there_place : (es : List Entry) (bs : List Bool) (ns : List ℕ) (s : Scope) (r k : ℕ) (b : Bool) → scope_of es bs ns ≡ s →
+    length bs ≡ length es → k < length s.variables → r ≡ length es →
     b ≡ get_or bs (r - 1 - k) b → at_or_not s.there k ≡ b
 there_place es bs ns s r k b v m h p q =
     ap (λ z. at_or_not z.there k) (sym v) ∙ mark_place bs (r - 1 - k) k b (at_place es bs ns s r k v h p ∙ sym m) ∙ sym q
@@ -51,25 +55,37 @@ taken_free_after s k l =
 pub taken_gone : (s : Scope) (k : ℕ) → linear_at s.variables k ≡ true → at_or_not s.there k ≡ false → Gone ≡ taken_at s k
 taken_gone s k l t = sym (λ i. cond (l i) (cond (t i) (cond (is_inside s.bodies k) Here Outside) Gone) Here)
 
-pub taken_outside : (s : Scope) (k : ℕ) → linear_at s.variables k ≡ true → at_or_not s.there k ≡ true → is_inside s.bodies k ≡ false → Outside ≡ taken_at s k
+pub taken_outside : (s : Scope) (k : ℕ) → linear_at s.variables k ≡ true → at_or_not s.there k ≡ true →
+    is_inside s.bodies k ≡ false → Outside ≡ taken_at s k
 taken_outside s k l t n = sym (λ i. cond (l i) (cond (t i) (cond (n i) Here Outside) Gone) Here)
 
-pub taken_here : (s : Scope) (k : ℕ) → linear_at s.variables k ≡ true → at_or_not s.there k ≡ true → is_inside s.bodies k ≡ true → Here ≡ taken_at s k
+pub taken_here : (s : Scope) (k : ℕ) → linear_at s.variables k ≡ true → at_or_not s.there k ≡ true → is_inside s.bodies k ≡ true →
+    Here ≡ taken_at s k
 taken_here s k l t n = sym (λ i. cond (l i) (cond (t i) (cond (n i) Here Outside) Gone) Here)
 
 -- the scope after the mark at the place was taken off
-pub unmarked : (es : List Entry) (bs : List Bool) (ns : List ℕ) (s : Scope) (r k : ℕ) (b : Bool) → scope_of es bs ns ≡ s → length bs ≡ length es → k < length s.variables → r ≡ length es →
-    b ≡ get_or bs (r - 1 - k) b → linear_at s.variables k ≡ true → scope_of es (set bs (r - 1 - k) false) ns ≡ without (single (linear_at s.variables k) k) s
+pub unmarked : (es : List Entry) (bs : List Bool) (ns : List ℕ) (s : Scope) (r k : ℕ) (b : Bool) → scope_of es bs ns ≡ s →
+    length bs ≡ length es → k < length s.variables → r ≡ length es →
+    b ≡ get_or bs (r - 1 - k) b → linear_at s.variables k ≡ true →
+    scope_of es (set bs (r - 1 - k) false) ns ≡ without (single (linear_at s.variables k) k) s
 unmarked es bs ns s r k b v m h p q l =
     let i : (r - 1 - k) + k + 1 ≡ length bs = at_place es bs ns s r k v h p ∙ sym m in
     let lt : r - 1 - k < length bs = omega (arith, i) in
     let there : reverse (set bs (r - 1 - k) false) ≡ mark (single true k) (reverse bs) =
-    backward_set bs (r - 1 - k) false lt ∙ sym (mark-append _ _ (get_or bs (r - 1 - k) b) k (behind_length bs (r - 1 - k) k i)) ∙ ap (mark (single true k)) (sym (backward bs (r - 1 - k) b lt)) in
-    (λ j. record { names = reverse (map (λ e. e.name) es); variables = reverse (map variable_of es); there = there j; bodies = reverse ns })
+    backward_set bs (r - 1 - k) false lt ∙ sym (mark-append _ _ (get_or bs (r - 1 - k) b) k (behind_length bs (r - 1 - k) k i))
+    ∙ ap (mark (single true k)) (sym (backward bs (r - 1 - k) b lt)) in
+    (λ j. record {
+      names = reverse (map (λ e. e.name) es);
+      variables = reverse (map variable_of es);
+      there = there j;
+      bodies =
+          reverse ns;
+    })
     ∙ ap (without (single true k)) v
     ∙ ap (λ c. without (single c k) s) (sym l)
 
-last_of : {X Y : Type 0} (f : X → Y) (xs : List X) (n : ℕ) (d : X) → n + 1 ≡ length xs → reverse (map f xs) ≡ f (get_or xs n d) ∷ reverse (map f (take n xs))
+last_of : {X Y : Type 0} (f : X → Y) (xs : List X) (n : ℕ) (d : X) → n + 1 ≡ length xs →
+    reverse (map f xs) ≡ f (get_or xs n d) ∷ reverse (map f (take n xs))
 last_of f xs n d h =
     let lt : n < length xs = omega arith in
     let rest : drop (suc n) xs ≡ [] = drop_all (suc n) xs (omega arith) in
@@ -80,7 +96,8 @@ last_mark bs n b h =
     let rest : drop (suc n) bs ≡ [] = drop_all (suc n) bs (omega arith) in
     backward bs n b (omega arith) ∙ (λ i. reverse (rest i) ++ get_or bs n b ∷ reverse (take n bs))
 
-pub one_left : (es : List Entry) (bs : List Bool) (ns ms : List ℕ) (s : Scope) (n : ℕ) → scope_of es bs ns ≡ s → n + 1 ≡ length es → length bs ≡ length es →
+pub one_left : (es : List Entry) (bs : List Bool) (ns ms : List ℕ) (s : Scope) (n : ℕ) → scope_of es bs ns ≡ s →
+    n + 1 ≡ length es → length bs ≡ length es →
     reverse ms ≡ fewer (reverse ns) → scope_of (take n es) (take n bs) ms ≡ left s
 one_left [] bs ns ms s n v h m q = absurd (omega (arith, h))
 one_left (e ∷ es) bs ns ms s n v h m q =
@@ -89,5 +106,6 @@ one_left (e ∷ es) bs ns ms s n v h m q =
     let there = sym (last_mark bs n false (h ∙ sym m)) in
     (λ i. record { names = tail (names i); variables = tail (variables i); there = tail (there i); bodies = q i }) ∙ ap left v
 
-pub left_found : (es : List Entry) (bs : List Bool) (ns : List ℕ) (s : Scope) (n : ℕ) (b : Bool) → scope_of es bs ns ≡ s → n + 1 ≡ length bs → b ≡ get_or bs n b → at_or_not s.there 0 ≡ b
+pub left_found : (es : List Entry) (bs : List Bool) (ns : List ℕ) (s : Scope) (n : ℕ) (b : Bool) → scope_of es bs ns ≡ s →
+    n + 1 ≡ length bs → b ≡ get_or bs n b → at_or_not s.there 0 ≡ b
 left_found es bs ns s n b v h q = ap (λ z. at_or_not z.there 0) (sym v) ∙ ap (λ z. at_or_not z 0) (last_mark bs n b h) ∙ sym q

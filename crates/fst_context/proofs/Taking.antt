@@ -20,7 +20,13 @@ at-mark u (b ∷ bs) (suc k) = at-mark (outside u) bs k
 
 -- one set after another is both together
 pub without_twice : (u v : Vars) (s : Scope) → without v (without u s) ≡ without (union u v) s
-without_twice u v s = λ i. record { names = s.names; variables = s.variables; there = mark_twice u v s.there i; bodies = s.bodies }
+without_twice u v s = λ i. record {
+  names = s.names;
+  variables = s.variables;
+  there = mark_twice u v s.there i;
+  bodies =
+      s.bodies;
+}
 
 in_left : (a b : Bool) → a ≡ true → (a || b) ≡ true
 in_left true b h = refl
@@ -44,7 +50,8 @@ within_left s u v w p i k h = i k (ap (λ z. z k) p.together ∙ in_left (v k) (
 pub within_right : (s : Scope) (u v w : Vars) → IsSplit u v w → IsWithin u s → IsWithin w (without v s)
 within_right s u v w p i k h =
     ap (λ b. b && is_inside s.bodies k) (at-mark v s.there k)
-    ∙ apart_open (at_or_not s.there k) (is_inside s.bodies k) (v k) (w k) (p.apart k) h (i k (ap (λ z. z k) p.together ∙ in_right (v k) (w k) h))
+    ∙ apart_open (at_or_not s.there k) (is_inside s.bodies k) (v k) (w k) (p.apart k) h
+    (i k (ap (λ z. z k) p.together ∙ in_right (v k) (w k) h))
 
 -- what is open after a set was taken was open before, and isn't in the set
 still_open : (a n i : Bool) → ((a && not n) && i) ≡ true → ((a && i) ≡ true) × (n ≡ false)
@@ -75,11 +82,16 @@ takes_both P Q r s t x y =
       fact = record {
         left = x.used;
         right = y.used;
-        split = record { together = refl; apart = λ k. apart_bit (x.used k) (y.used k) (λ h. (open_after x.used r k (within' k h)).1) };
+        split = record {
+          together = refl;
+          apart = λ k. apart_bit (x.used k) (y.used k)
+              (λ h. (open_after x.used r k (within' k h)).1);
+        };
         first = x.fact;
         second = y.fact;
       };
-      within = λ k h. either (x.used k) (y.used k) (open_in r k ≡ true) h (x.within k) (λ g. (open_after x.used r k (within' k g)).0);
+      within = λ k h. either (x.used k) (y.used k) (open_in r k ≡ true) h (x.within k)
+          (λ g. (open_after x.used r k (within' k g)).0);
       rest = y.rest ∙ ap (without y.used) x.rest ∙ without_twice x.used y.used r;
     }
 
@@ -126,13 +138,21 @@ both_true true b h g = g
 both_true false b h g = absurd (cc h)
 
 -- inside a variable, that one can be taken too, where it is linear
-pub within_entered : (x : List ℕ) (v : Variable) (s : Scope) (u : Vars) → IsWithin u s → IsWithin (under (is_once v.uses) u) (entered x v s)
+pub within_entered : (x : List ℕ) (v : Variable) (s : Scope) (u : Vars) → IsWithin u s →
+    IsWithin (under (is_once v.uses) u) (entered x v s)
 within_entered x v s u w zero h = both_true (is_once v.uses) (is_inside (more s.bodies) 0) h (first_inside s.bodies)
 within_entered x v s u w (suc k) h = ap (λ b. at_or_not s.there k && b) (more_inside s.bodies k) ∙ w k h
 
 -- then the scope is left as one from which the set was taken outside
-pub left_entered : (x : List ℕ) (v : Variable) (s : Scope) (u : Vars) → left (without (under (is_once v.uses) u) (entered x v s)) ≡ without u s
-left_entered x v s u = λ i. record { names = s.names; variables = s.variables; there = mark u s.there; bodies = fewer_more s.bodies i }
+pub left_entered : (x : List ℕ) (v : Variable) (s : Scope) (u : Vars) →
+    left (without (under (is_once v.uses) u) (entered x v s)) ≡ without u s
+left_entered x v s u = λ i. record {
+  names = s.names;
+  variables = s.variables;
+  there = mark u s.there;
+  bodies =
+      fewer_more s.bodies i;
+}
 
 -- a linear variable that isn't there at the end was taken, and no other variable is
 innermost : (a u : Bool) (t : Bool) → (u ≡ true → (a && t) ≡ true) → (a && not u) ≡ false → u ≡ a
@@ -142,16 +162,23 @@ innermost true false t f h = sym h
 innermost true true t f h = refl
 
 -- what was taken inside a binder that is used at its end
-pub takes_inside : (P : Vars → Type 0) (n : List ℕ) (v : Variable) (r s : Scope) → Takes P (entered n v r) s → at_or_not s.there 0 ≡ false →
+pub takes_inside : (P : Vars → Type 0) (n : List ℕ) (v : Variable) (r s : Scope) → Takes P (entered n v r) s →
+    at_or_not s.there 0 ≡ false →
     Takes (λ u. P (under (is_once v.uses) u)) r (left s)
 takes_inside P n v r s x h =
     let gone : (is_once v.uses && not (x.used 0)) ≡ false = ap (λ z. at_or_not z.there 0) (sym x.rest) ∙ h in
-    let is : x.used zero ≡ is_once v.uses = innermost (is_once v.uses) (x.used 0) (is_inside (more r.bodies) 0) (x.within 0) gone in
+    let is : x.used zero ≡ is_once v.uses = innermost (is_once v.uses) (x.used 0) (is_inside (more r.bodies) 0)
+    (x.within 0) gone in
     record {
       used = outside x.used;
       fact = subst P (by_parts x.used ∙ ap (λ b. under b (outside x.used)) is) x.fact;
       within = λ k g. ap (λ b. at_or_not r.there k && b) (sym (more_inside r.bodies k)) ∙ x.within (suc k) g;
-      rest = ap left x.rest ∙ (λ i. record { names = r.names; variables = r.variables; there = mark (outside x.used) r.there; bodies = fewer_more r.bodies i });
+      rest = ap left x.rest ∙ (λ i. record {
+        names = r.names;
+        variables = r.variables;
+        there = mark (outside x.used) r.there;
+        bodies = fewer_more r.bodies i;
+      });
     }
 
 -- what was taken in the body of an unrestricted function, whose binder is the one thing that it holds
@@ -161,7 +188,13 @@ joined_zero (n ∷ ns) = ap (λ m. m ∷ ns) (omega arith)
 
 -- a body is ended as a scope from which the set was taken outside
 pub ended_begun : (s : Scope) (u : Vars) → ended (without u (begun s)) ≡ without u s
-ended_begun s u = λ i. record { names = s.names; variables = s.variables; there = mark u s.there; bodies = joined_zero s.bodies i }
+ended_begun s u = λ i. record {
+  names = s.names;
+  variables = s.variables;
+  there = mark u s.there;
+  bodies =
+      joined_zero s.bodies i;
+}
 
 none_open : (b : Bool) → (b && false) ≡ true → ⊥
 none_open false h = cc h
@@ -173,12 +206,19 @@ nothing_used true f = absurd (f refl)
 
 pub takes_body : (P : Vars → Type 0) (r s : Scope) → Takes P (begun r) s → Takes (λ u. (u ≡ no_vars) × P u) r (ended s)
 takes_body P r s x =
-    let none : x.used ≡ no_vars = λ i k. nothing_used (x.used k) (λ h. none_open (at_or_not r.there k) (ap (λ b. at_or_not r.there k && b) (sym (lt_zero k)) ∙ x.within k h)) i in
+    let none : x.used ≡ no_vars = λ i k. nothing_used (x.used k)
+    (λ h. none_open (at_or_not r.there k) (ap (λ b. at_or_not r.there k && b) (sym (lt_zero k)) ∙ x.within k h)) i in
     record {
       used = no_vars;
       fact = (refl, subst P none x.fact);
       within = λ k h. absurd (cc h);
-      rest = ap ended x.rest ∙ (λ i. record { names = r.names; variables = r.variables; there = mark (none i) r.there; bodies = joined_zero r.bodies i });
+      rest = ap ended x.rest ∙ (λ i. record {
+        names = r.names;
+        variables = r.variables;
+        there = mark (none i) r.there;
+        bodies =
+            joined_zero r.bodies i;
+      });
     }
 
 -- two sets of open variables that leave the same marks are the same

@@ -19,12 +19,16 @@ use_at-is_once Once = refl
 -- variables, told apart by their codes
 abbrev pub variable_code : Coded Variable
 variable_code =
-    code_by (Tree × Bool) (coded× tree_code coded_bool) (λ v. (v.type, is_once v.uses)) (λ p. record { type = p.0; uses = use_at p.1 })
+    code_by (Tree × Bool) (coded× tree_code coded_bool) (λ v. (v.type, is_once v.uses))
+    (λ p. record { type = p.0; uses = use_at p.1 })
     (λ v i. record { type = v.type; uses = use_at-is_once v.uses i })
 
 -- scopes, told apart by their codes
 abbrev pub scope_code : Coded Scope
 scope_code =
     code_by (List (List ℕ) × (List Variable × (List Bool × List ℕ)))
-    (coded× (coded_list (coded_list coded_ℕ)) (coded× (coded_list variable_code) (coded× (coded_list coded_bool) (coded_list coded_ℕ))))
-    (λ s. (s.names, (s.variables, (s.there, s.bodies)))) (λ p. record { names = p.0; variables = p.1.0; there = p.1.1.0; bodies = p.1.1.1 }) (λ _. refl)
+    (coded× (coded_list (coded_list coded_ℕ))
+    (coded× (coded_list variable_code) (coded× (coded_list coded_bool) (coded_list coded_ℕ))))
+    (λ s. (s.names, (s.variables, (s.there, s.bodies))))
+    (λ p. record { names = p.0; variables = p.1.0; there = p.1.1.0; bodies = p.1.1.1 })
+    (λ _. refl)

@@ -51,19 +51,43 @@ tail (x ∷ xs) = xs
 
 -- with one more variable
 abbrev pub entered : List ℕ → Variable → Scope → Scope
-entered x v s = record { names = x ∷ s.names; variables = v ∷ s.variables; there = is_once v.uses ∷ s.there; bodies = more s.bodies }
+entered x v s = record {
+  names = x ∷ s.names;
+  variables = v ∷ s.variables;
+  there =
+      is_once v.uses ∷ s.there;
+  bodies = more s.bodies;
+}
 
 -- without the innermost variable
 abbrev pub left : Scope → Scope
-left s = record { names = tail s.names; variables = tail s.variables; there = tail s.there; bodies = fewer s.bodies }
+left s = record {
+  names = tail s.names;
+  variables = tail s.variables;
+  there = tail s.there;
+  bodies =
+      fewer s.bodies;
+}
 
 -- at the beginning of the body of an unrestricted function
 abbrev pub begun : Scope → Scope
-begun s = record { names = s.names; variables = s.variables; there = s.there; bodies = zero ∷ s.bodies }
+begun s = record {
+  names = s.names;
+  variables = s.variables;
+  there = s.there;
+  bodies =
+      zero ∷ s.bodies;
+}
 
 -- at the end of the innermost body
 abbrev pub ended : Scope → Scope
-ended s = record { names = s.names; variables = s.variables; there = s.there; bodies = joined s.bodies }
+ended s = record {
+  names = s.names;
+  variables = s.variables;
+  there = s.there;
+  bodies =
+      joined s.bodies;
+}
 
 -- the k-th mark, and false where there is none
 abbrev pub at_or_not : List Bool → ℕ → Bool
@@ -93,7 +117,13 @@ mark u (b ∷ bs) = (b && not (u zero)) ∷ mark (outside u) bs
 
 -- the scope after these variables were taken
 abbrev pub without : Vars → Scope → Scope
-without u s = record { names = s.names; variables = s.variables; there = mark u s.there; bodies = s.bodies }
+without u s = record {
+  names = s.names;
+  variables = s.variables;
+  there = mark u s.there;
+  bodies =
+      s.bodies;
+}
 
 -- the scope with other marks
 abbrev pub with_marks : List Bool → Scope → Scope

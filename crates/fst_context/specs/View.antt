@@ -15,7 +15,13 @@ variable_of e = record { type = e.ty; uses = e.uses }
 
 -- the scope of what is entered, the innermost last, with a mark for each linear variable that is there
 abbrev pub scope_of : List Entry → List Bool → List ℕ → Scope
-scope_of es bs ns = record { names = reverse (map (λ e. e.name) es); variables = reverse (map variable_of es); there = reverse bs; bodies = reverse ns }
+scope_of es bs ns = record {
+  names = reverse (map (λ e. e.name) es);
+  variables =
+      reverse (map variable_of es);
+  there = reverse bs;
+  bodies = reverse ns;
+}
 
 -- there is a mark for each entry, no more variables in bodies than entries, and fewer than 2^32 of these
 pub record IsSound (es : List Entry) (bs : List Bool) (ns : List ℕ) : Type 0 where
@@ -25,7 +31,8 @@ pub record IsSound (es : List Entry) (bs : List Bool) (ns : List ℕ) : Type 0 w
 
 -- what taking the k-th variable finds
 abbrev pub taken_at : Scope → ℕ → Taken
-taken_at s k = cond (linear_at s.variables k) (cond (at_or_not s.there k) (cond (is_inside s.bodies k) Here Outside) Gone) Here
+taken_at s k = cond (linear_at s.variables k)
+    (cond (at_or_not s.there k) (cond (is_inside s.bodies k) Here Outside) Gone) Here
 
 -- the scope after the k-th variable was taken
 abbrev pub after_take : Taken → ℕ → Scope → Scope

@@ -78,7 +78,8 @@ impl Context {
 
     /// Enters a variable with its type; `uses` is the multiplicity of the type's kind. Where there is no room, nothing changes.
     pub fn enter(&mut self, binder: &Binder, ty: Ty, uses: Use) -> Result<(), AllocError>
-        ensures entered { OnOk result (self.new ≡ entered binder.now.name (record { type = ty; uses = uses }) self.old) }
+        ensures entered { OnOk result (self.new ≡ entered binder.now.name
+            (record { type = ty; uses = uses }) self.old) }
         ensures unchanged { OnErr result (self.new ≡ self.old) }
     {
         if u32::MAX as usize <= self.entries.len() {
@@ -188,8 +189,10 @@ impl Context {
         requires { self.now.variables ≡ other.now.variables }
         ensures none { IfNone result (self.now.there ≡ other.now.there) }
         ensures some { IfSome result (λ k. k < length self.now.variables) }
-        ensures differs { IfSome result (λ k. at_or_not self.now.there k ≡ at_or_not other.now.there k → ⊥) }
-        ensures outermost { IfSome result (λ k. (j : ℕ) → k < j → at_or_not self.now.there j ≡ at_or_not other.now.there j) }
+        ensures differs { IfSome result (λ k.
+            at_or_not self.now.there k ≡ at_or_not other.now.there k → ⊥) }
+        ensures outermost { IfSome result
+            (λ k. (j : ℕ) → k < j → at_or_not self.now.there j ≡ at_or_not other.now.there j) }
     {
         first_difference(&self.there, &other.there)
     }
@@ -215,8 +218,10 @@ impl Context {
         requires { length marks.now ≡ length self.now.there }
         ensures none { IfNone result (self.now.there ≡ reverse marks.now) }
         ensures some { IfSome result (λ k. k < length self.now.variables) }
-        ensures differs { IfSome result (λ k. at_or_not self.now.there k ≡ at_or_not (reverse marks.now) k → ⊥) }
-        ensures outermost { IfSome result (λ k. (j : ℕ) → k < j → at_or_not self.now.there j ≡ at_or_not (reverse marks.now) j) }
+        ensures differs { IfSome result (λ k. at_or_not self.now.there k ≡ at_or_not
+            (reverse marks.now) k → ⊥) }
+        ensures outermost { IfSome result
+            (λ k. (j : ℕ) → k < j → at_or_not self.now.there j ≡ at_or_not (reverse marks.now) j) }
     {
         first_difference(&self.there, marks)
     }

@@ -10,8 +10,10 @@ pub(crate) fn first_difference(marks: &[bool], others: &[bool]) -> Option<u32>
     requires few { length marks.now < 2 ^ 32 }
     ensures none { IfNone result (marks.now ≡ others.now) }
     ensures some { IfSome result (λ k. k < length marks.now) }
-    ensures differs { IfSome result (λ k. at_or_not (reverse marks.now) k ≡ at_or_not (reverse others.now) k → ⊥) }
-    ensures outermost { IfSome result (λ k. (j : ℕ) → k < j → at_or_not (reverse marks.now) j ≡ at_or_not (reverse others.now) j) }
+    ensures differs { IfSome result (λ k. at_or_not (reverse marks.now) k ≡ at_or_not
+        (reverse others.now) k → ⊥) }
+    ensures outermost { IfSome result (λ k. (j : ℕ) → k < j →
+        at_or_not (reverse marks.now) j ≡ at_or_not (reverse others.now) j) }
 {
     for i in 0..marks.len() {
         if marks[i] != others[i] {

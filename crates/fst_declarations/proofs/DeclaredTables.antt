@@ -29,16 +29,20 @@ use Rattle.fst_declarations.proofs.FirstTables.{named_first, under_named}
 -- ---- declarations
 
 -- the declarations that a loop has looked at, with one more
-pub more_decls : (xs : List Decl) (i : ℕ) (d : Decl) → i < length xs → d ≡ get_or xs i d → map decl_tree (take (i + 1) xs) ≡ map decl_tree (take i xs) ++ decl_tree d ∷ []
-more_decls xs i d low is = ap (map decl_tree) (take_more xs i d low ∙ ap (λ z. take i xs ++ z ∷ []) (sym is)) ∙ map-append decl_tree (take i xs) (d ∷ [])
+pub more_decls : (xs : List Decl) (i : ℕ) (d : Decl) → i < length xs → d ≡ get_or xs i d →
+    map decl_tree (take (i + 1) xs) ≡ map decl_tree (take i xs) ++ decl_tree d ∷ []
+more_decls xs i d low is = ap (map decl_tree) (take_more xs i d low ∙ ap (λ z. take i xs ++ z ∷ []) (sym is))
+    ∙ map-append decl_tree (take i xs) (d ∷ [])
 
 -- and all of them
 pub all_decls : (xs : List Decl) (i : ℕ) → length xs ≤ i → map decl_tree (take i xs) ≡ map decl_tree xs
 all_decls xs i h = ap (map decl_tree) (take_all i xs h)
 
 -- the constructors that a loop has looked at, with one more
-pub more_makers : (xs : List SourceMaker) (i : ℕ) (m : SourceMaker) → i < length xs → m ≡ get_or xs i m → map maker (take (i + 1) xs) ≡ map maker (take i xs) ++ maker m ∷ []
-more_makers xs i m low is = ap (map maker) (take_more xs i m low ∙ ap (λ z. take i xs ++ z ∷ []) (sym is)) ∙ map-append maker (take i xs) (m ∷ [])
+pub more_makers : (xs : List SourceMaker) (i : ℕ) (m : SourceMaker) → i < length xs → m ≡ get_or xs i m →
+    map maker (take (i + 1) xs) ≡ map maker (take i xs) ++ maker m ∷ []
+more_makers xs i m low is = ap (map maker) (take_more xs i m low ∙ ap (λ z. take i xs ++ z ∷ []) (sym is))
+    ∙ map-append maker (take i xs) (m ∷ [])
 
 -- how many data types are declared
 abbrev pub families_in : List Declared → ℕ
@@ -59,9 +63,11 @@ families_push (equation x ps t ∷ ds) d = families_push ds d
 -- ---- types
 
 -- the types, with one more declaration
-pub types_push : (k : ℕ) (ds : List Declared) (d : Declared) → types_from k (ds ++ d ∷ []) ≡ types_from k ds ++ types_from (k + families_in ds) (d ∷ [])
+pub types_push : (k : ℕ) (ds : List Declared) (d : Declared) →
+    types_from k (ds ++ d ∷ []) ≡ types_from k ds ++ types_from (k + families_in ds) (d ∷ [])
 types_push k [] d = ap (λ n. types_from n (d ∷ [])) (omega arith)
-types_push k (family x ms ∷ ds) d = ap (λ z. (x, data_type k) ∷ z) (types_push (suc k) ds d ∙ ap (λ n. types_from (suc k) ds ++ types_from n (d ∷ [])) (omega arith))
+types_push k (family x ms ∷ ds) d = ap (λ z. (x, data_type k) ∷ z)
+    (types_push (suc k) ds d ∙ ap (λ n. types_from (suc k) ds ++ types_from n (d ∷ [])) (omega arith))
 types_push k (alias x w ∷ ds) d = ap (λ z. (x, other_name w) ∷ z) (types_push k ds d)
 types_push k (signature x bs w ∷ ds) d = types_push k ds d
 types_push k (equation x ps t ∷ ds) d = types_push k ds d
@@ -85,43 +91,54 @@ types_under k (equation y ps t ∷ ds) x = types_under k ds x
 -- ---- constructors
 
 -- the constructors of a data type, with one more
-pub entries_push : (k n : ℕ) (ms : List Maker) (m : Maker) → entries_from k n (ms ++ m ∷ []) ≡ entries_from k n ms ++ (m.name, record { family = k; number = n + length ms; fields = length m.fields }) ∷ []
+pub entries_push : (k n : ℕ) (ms : List Maker) (m : Maker) →
+    entries_from k n (ms ++ m ∷ []) ≡ entries_from k n ms
+    ++ (m.name, record { family = k; number = n + length ms; fields = length m.fields }) ∷ []
 entries_push k n [] m = ap (λ i. (m.name, record { family = k; number = i; fields = length m.fields }) ∷ []) (omega arith)
 entries_push k n (l ∷ ms) m =
     ap (λ z. (l.name, record { family = k; number = n; fields = length l.fields }) ∷ z) (entries_push k (suc n) ms m ∙
-    ap (λ i. entries_from k (suc n) ms ++ (m.name, record { family = k; number = i; fields = length m.fields }) ∷ []) (omega arith))
+    ap (λ i. entries_from k (suc n) ms ++ (m.name, record { family = k; number = i; fields = length m.fields }) ∷ [])
+    (omega arith))
 
 -- those that a loop has kept behind others, with one more
-pub entries_more : (k : ℕ) (before : List (Binder × MakerEntry)) (xs : List SourceMaker) (i : ℕ) (m : SourceMaker) (number fields : ℕ) → i < length xs → m ≡ get_or xs i m → number ≡ i → fields ≡ length m.fields.items →
-    before ++ entries_from k 0 (map maker (take (i + 1) xs)) ≡ (before ++ entries_from k 0 (map maker (take i xs))) ++ (m.name, record { family = k; number = number; fields = fields }) ∷ []
+pub entries_more : (k : ℕ) (before : List (Binder × MakerEntry)) (xs : List SourceMaker) (i : ℕ) (m : SourceMaker)
+    (number fields : ℕ) → i < length xs → m ≡ get_or xs i m → number ≡ i → fields ≡ length m.fields.items →
+    before ++ entries_from k 0 (map maker (take (i + 1) xs)) ≡ (before ++ entries_from k 0 (map maker (take i xs)))
+    ++ (m.name, record { family = k; number = number; fields = fields }) ∷ []
 entries_more k before xs i m number fields low is own count =
     let ms = map maker (take i xs) in
     let length_is = length-map (take i xs) maker in
     let taken = length-take-le i xs (omega arith) in
     let place : 0 + length ms ≡ number = omega (arith, length_is, taken, own) in
     ap (λ z. before ++ entries_from k 0 z) (more_makers xs i m low is) ∙ ap (λ z. before ++ z) (entries_push k 0 ms (maker m)) ∙
-    sym (append_assoc before (entries_from k 0 ms) ((m.name, record { family = k; number = 0 + length ms; fields = length m.fields.items }) ∷ [])) ∙
-    ap (λ n. (before ++ entries_from k 0 ms) ++ (m.name, record { family = k; number = n; fields = length m.fields.items }) ∷ []) place ∙
+    sym (append_assoc before (entries_from k 0 ms)
+    ((m.name, record { family = k; number = 0 + length ms; fields = length m.fields.items }) ∷ [])) ∙
+    ap (λ n. (before ++ entries_from k 0 ms) ++ (m.name, record { family = k; number = n; fields = length m.fields.items }) ∷ [])
+    place ∙
     ap (λ n. (before ++ entries_from k 0 ms) ++ (m.name, record { family = k; number = number; fields = n }) ∷ []) (sym count)
 
 -- the constructors, with one more declaration
-pub makers_push : (k : ℕ) (ds : List Declared) (d : Declared) → maker_entries k (ds ++ d ∷ []) ≡ maker_entries k ds ++ maker_entries (k + families_in ds) (d ∷ [])
+pub makers_push : (k : ℕ) (ds : List Declared) (d : Declared) →
+    maker_entries k (ds ++ d ∷ []) ≡ maker_entries k ds ++ maker_entries (k + families_in ds) (d ∷ [])
 makers_push k [] d = ap (λ n. maker_entries n (d ∷ [])) (omega arith)
 makers_push k (family x ms ∷ ds) d =
-    ap (λ z. entries_from k 0 ms ++ z) (makers_push (suc k) ds d ∙ ap (λ n. maker_entries (suc k) ds ++ maker_entries n (d ∷ [])) (omega arith)) ∙
+    ap (λ z. entries_from k 0 ms ++ z) (makers_push (suc k) ds d ∙ ap
+    (λ n. maker_entries (suc k) ds ++ maker_entries n (d ∷ [])) (omega arith)) ∙
     sym (append_assoc (entries_from k 0 ms) (maker_entries (suc k) ds) (maker_entries (k + suc (families_in ds)) (d ∷ [])))
 makers_push k (alias x w ∷ ds) d = makers_push k ds d
 makers_push k (signature x bs w ∷ ds) d = makers_push k ds d
 makers_push k (equation x ps t ∷ ds) d = makers_push k ds d
 
 -- with one more data type
-pub makers_family : (ds : List Declared) (x : Binder) (ms : List Maker) (k : ℕ) → k ≡ families_in ds → maker_entries 0 (ds ++ family x ms ∷ []) ≡ maker_entries 0 ds ++ entries_from k 0 ms
+pub makers_family : (ds : List Declared) (x : Binder) (ms : List Maker) (k : ℕ) → k ≡ families_in ds →
+    maker_entries 0 (ds ++ family x ms ∷ []) ≡ maker_entries 0 ds ++ entries_from k 0 ms
 makers_family ds x ms k is =
     makers_push 0 ds (family x ms) ∙ ap (λ z. maker_entries 0 ds ++ z) (append-nil (entries_from (0 + families_in ds) 0 ms)) ∙
     ap (λ n. maker_entries 0 ds ++ entries_from n 0 ms) (let e : 0 + families_in ds ≡ k = omega (arith, is) in e)
 
 -- a declaration of another kind has none
-pub no_makers : (d : Decl) → ((x : Binder) (ms : Vec SourceMaker Global) → d ≡ decl.Family x ms → ⊥) → (k : ℕ) → (maker_entries k (decl_tree d ∷ []) ≡ []) × (families_in (decl_tree d ∷ []) ≡ 0)
+pub no_makers : (d : Decl) → ((x : Binder) (ms : Vec SourceMaker Global) → d ≡ decl.Family x ms → ⊥) → (k : ℕ) →
+    (maker_entries k (decl_tree d ∷ []) ≡ []) × (families_in (decl_tree d ∷ []) ≡ 0)
 no_makers (decl.Family x ms) other k = absurd (other x ms refl)
 no_makers (decl.Alias x w) other k = (refl, refl)
 no_makers (decl.Signature x bs w) other k = (refl, refl)
@@ -136,7 +153,8 @@ entries_named k n (m ∷ ms) = ap (λ z. m.name ∷ z) (entries_named k (suc n) 
 pub makers_named : (k : ℕ) (ds : List Declared) → binders_of (maker_entries k ds) ≡ map (λ m. m.name) (makers ds)
 makers_named k [] = refl
 makers_named k (family x ms ∷ ds) =
-    map-append (λ (t : Binder × MakerEntry). t.0) (entries_from k 0 ms) (maker_entries (suc k) ds) ∙ ap (λ z. z ++ binders_of (maker_entries (suc k) ds)) (entries_named k 0 ms) ∙
+    map-append (λ (t : Binder × MakerEntry). t.0) (entries_from k 0 ms) (maker_entries (suc k) ds) ∙ ap
+    (λ z. z ++ binders_of (maker_entries (suc k) ds)) (entries_named k 0 ms) ∙
     ap (λ z. map (λ m. m.name) ms ++ z) (makers_named (suc k) ds) ∙ sym (map-append (λ (m : Maker). m.name) ms (makers ds))
 makers_named k (alias x w ∷ ds) = makers_named k ds
 makers_named k (signature x bs w ∷ ds) = makers_named k ds
@@ -153,21 +171,27 @@ entries_fields k n (m ∷ ms) = ap (λ z. length m.fields ∷ z) (entries_fields
 makers_fields : (k : ℕ) (ds : List Declared) → map entry_fields (maker_entries k ds) ≡ map (λ m. length m.fields) (makers ds)
 makers_fields k [] = refl
 makers_fields k (family x ms ∷ ds) =
-    map-append entry_fields (entries_from k 0 ms) (maker_entries (suc k) ds) ∙ ap (λ z. z ++ map entry_fields (maker_entries (suc k) ds)) (entries_fields k 0 ms) ∙
-    ap (λ z. map (λ m. length m.fields) ms ++ z) (makers_fields (suc k) ds) ∙ sym (map-append (λ (m : Maker). length m.fields) ms (makers ds))
+    map-append entry_fields (entries_from k 0 ms) (maker_entries (suc k) ds) ∙ ap
+    (λ z. z ++ map entry_fields (maker_entries (suc k) ds)) (entries_fields k 0 ms) ∙
+    ap (λ z. map (λ m. length m.fields) ms ++ z) (makers_fields (suc k) ds)
+    ∙ sym (map-append (λ (m : Maker). length m.fields) ms (makers ds))
 makers_fields k (alias x w ∷ ds) = makers_fields k ds
 makers_fields k (signature x bs w ∷ ds) = makers_fields k ds
 makers_fields k (equation x ps t ∷ ds) = makers_fields k ds
 
-fields_named : (ms : List Maker) (x : List ℕ) → of_name (names (map (λ m. m.name) ms)) (map (λ m. length m.fields) ms) x ≡ fields_of ms x
+fields_named : (ms : List Maker) (x : List ℕ) →
+    of_name (names (map (λ m. m.name) ms)) (map (λ m. length m.fields) ms) x ≡ fields_of ms x
 fields_named [] x = refl
 fields_named (m ∷ ms) x =
-    named_first (names (map (λ m. m.name) ms)) (map (λ m. length m.fields) ms) m.name.name (length m.fields) x ∙ ap (λ o. if bytes_eq x m.name.name then Some (length m.fields) else o) (fields_named ms x)
+    named_first (names (map (λ m. m.name) ms)) (map (λ m. length m.fields) ms) m.name.name (length m.fields) x ∙ ap
+    (λ o. if bytes_eq x m.name.name then Some (length m.fields) else o) (fields_named ms x)
 
 -- how many fields the first constructor of a name has
-pub makers_fields_of : (k : ℕ) (ds : List Declared) (x : List ℕ) → option_map (λ (e : MakerEntry). e.fields) (first_under (maker_entries k ds) x) ≡ fields_of (makers ds) x
+pub makers_fields_of : (k : ℕ) (ds : List Declared) (x : List ℕ) → option_map
+    (λ (e : MakerEntry). e.fields) (first_under (maker_entries k ds) x) ≡ fields_of (makers ds) x
 makers_fields_of k ds x =
-    under_named (λ (e : MakerEntry). e.fields) (maker_entries k ds) x ∙ ap (λ bs. of_name (names bs) (map entry_fields (maker_entries k ds)) x) (makers_named k ds) ∙
+    under_named (λ (e : MakerEntry). e.fields) (maker_entries k ds) x ∙ ap
+    (λ bs. of_name (names bs) (map entry_fields (maker_entries k ds)) x) (makers_named k ds) ∙
     ap (λ fs. of_name (names (map (λ m. m.name) (makers ds))) fs x) (makers_fields k ds) ∙ fields_named (makers ds) x
 
 -- their numbers
@@ -181,7 +205,8 @@ entries_numbers k n (m ∷ ms) = ap (λ z. (k, n) ∷ z) (entries_numbers k (suc
 makers_numbers : (k : ℕ) (ds : List Declared) → map entry_numbers (maker_entries k ds) ≡ maker_numbers k ds
 makers_numbers k [] = refl
 makers_numbers k (family x ms ∷ ds) =
-    map-append entry_numbers (entries_from k 0 ms) (maker_entries (suc k) ds) ∙ ap (λ z. z ++ map entry_numbers (maker_entries (suc k) ds)) (entries_numbers k 0 ms) ∙
+    map-append entry_numbers (entries_from k 0 ms) (maker_entries (suc k) ds) ∙ ap
+    (λ z. z ++ map entry_numbers (maker_entries (suc k) ds)) (entries_numbers k 0 ms) ∙
     ap (λ z. numbers_from k 0 ms ++ z) (makers_numbers (suc k) ds)
 makers_numbers k (alias x w ∷ ds) = makers_numbers k ds
 makers_numbers k (signature x bs w ∷ ds) = makers_numbers k ds
@@ -189,13 +214,16 @@ makers_numbers k (equation x ps t ∷ ds) = makers_numbers k ds
 
 -- the numbers of the first constructor of a name
 pub makers_numbers_of : (k : ℕ) (ds : List Declared) (x : List ℕ) →
-    option_map (λ (e : MakerEntry). (e.family, e.number)) (first_under (maker_entries k ds) x) ≡ of_name (names (map (λ m. m.name) (makers ds))) (maker_numbers k ds) x
+    option_map (λ (e : MakerEntry). (e.family, e.number)) (first_under (maker_entries k ds) x) ≡ of_name
+    (names (map (λ m. m.name) (makers ds))) (maker_numbers k ds) x
 makers_numbers_of k ds x =
-    under_named (λ (e : MakerEntry). (e.family, e.number)) (maker_entries k ds) x ∙ ap (λ bs. of_name (names bs) (map entry_numbers (maker_entries k ds)) x) (makers_named k ds) ∙
+    under_named (λ (e : MakerEntry). (e.family, e.number)) (maker_entries k ds) x ∙ ap
+    (λ bs. of_name (names bs) (map entry_numbers (maker_entries k ds)) x) (makers_named k ds) ∙
     ap (λ ns. of_name (names (map (λ m. m.name) (makers ds))) ns x) (makers_numbers k ds)
 
 -- a table of the constructors has what is said of them
-pub makers_are : (ds : List Declared) (ms : Makers) → IsTable itself (maker_entries 0 ds) ms.names ms.entries.items → AreMakers ds ms
+pub makers_are : (ds : List Declared) (ms : Makers) → IsTable itself (maker_entries 0 ds) ms.names ms.entries.items →
+    AreMakers ds ms
 makers_are ds ms t = record {
   fields = λ x. ap (option_map (λ (e : MakerEntry). e.fields)) (first x) ∙ makers_fields_of 0 ds x;
   numbers = λ x. ap (option_map (λ (e : MakerEntry). (e.family, e.number))) (first x) ∙ makers_numbers_of 0 ds x;
@@ -211,7 +239,8 @@ makers_are ds ms t = record {
 -- ---- signatures
 
 -- the signatures, with one more declaration
-pub signatures_push : (ds : List Declared) (d : Declared) → named_signatures (ds ++ d ∷ []) ≡ named_signatures ds ++ named_signatures (d ∷ [])
+pub signatures_push : (ds : List Declared) (d : Declared) →
+    named_signatures (ds ++ d ∷ []) ≡ named_signatures ds ++ named_signatures (d ∷ [])
 signatures_push [] d = refl
 signatures_push (family x ms ∷ ds) d = signatures_push ds d
 signatures_push (alias x w ∷ ds) d = signatures_push ds d
@@ -231,7 +260,8 @@ pub signatures_under : (ds : List Declared) (x : List ℕ) → first_under (name
 signatures_under [] x = refl
 signatures_under (family y ms ∷ ds) x = signatures_under ds x
 signatures_under (alias y w ∷ ds) x = signatures_under ds x
-signatures_under (signature y bs w ∷ ds) x = ap (λ o. if bytes_eq x y.name then Some (record { vars = bs; its_type = w }) else o) (signatures_under ds x)
+signatures_under (signature y bs w ∷ ds) x = ap
+    (λ o. if bytes_eq x y.name then Some (record { vars = bs; its_type = w }) else o) (signatures_under ds x)
 signatures_under (equation y ps t ∷ ds) x = signatures_under ds x
 
 -- the signatures without their names
@@ -243,7 +273,8 @@ signatures_valued (signature x bs w ∷ ds) = ap (λ z. record { vars = bs; its_
 signatures_valued (equation x ps t ∷ ds) = signatures_valued ds
 
 -- a table of the signatures has what is said of them
-pub signatures_are : (ds : List Declared) (s : Signatures) (old kept : Option NameFault) → IsKept signed_of old (named_signatures ds) s.names s.entries.items kept → AreSignatures ds s
+pub signatures_are : (ds : List Declared) (s : Signatures) (old kept : Option NameFault) →
+    IsKept signed_of old (named_signatures ds) s.names s.entries.items kept → AreSignatures ds s
 signatures_are ds s old kept k = record {
   found = λ x. k.table.found x ∙ signatures_under ds x;
   names_are = subst (λ bs. AreNames bs s.names) (signatures_named ds) k.names_are;
@@ -251,7 +282,8 @@ signatures_are ds s old kept k = record {
 }
 
 -- a declaration of another kind has none
-pub no_signature : (d : Decl) → ((x : Binder) (bs : Vec (Binder × Kind) Global) (w : WrittenTree) → d ≡ decl.Signature x bs w → ⊥) → named_signatures (decl_tree d ∷ []) ≡ []
+pub no_signature : (d : Decl) → ((x : Binder) (bs : Vec (Binder × Kind) Global) (w : WrittenTree) → d ≡ decl.Signature x bs w → ⊥)
+    → named_signatures (decl_tree d ∷ []) ≡ []
 no_signature (decl.Family x ms) other = refl
 no_signature (decl.Alias x w) other = refl
 no_signature (decl.Signature x bs w) other = absurd (other x bs w refl)
@@ -260,7 +292,8 @@ no_signature (decl.Equation x ps t) other = refl
 -- ---- equations
 
 -- the names that have an equation, with one more declaration
-pub equations_push : (ds : List Declared) (d : Declared) → equation_names (ds ++ d ∷ []) ≡ equation_names ds ++ equation_names (d ∷ [])
+pub equations_push : (ds : List Declared) (d : Declared) →
+    equation_names (ds ++ d ∷ []) ≡ equation_names ds ++ equation_names (d ∷ [])
 equations_push [] d = refl
 equations_push (family x ms ∷ ds) d = equations_push ds d
 equations_push (alias x w ∷ ds) d = equations_push ds d
@@ -268,7 +301,8 @@ equations_push (signature x bs w ∷ ds) d = equations_push ds d
 equations_push (equation x ps t ∷ ds) d = ap (λ z. x ∷ z) (equations_push ds d)
 
 -- a declaration of another kind has none
-pub no_equation : (d : Decl) → ((x : Binder) (ps : Vec Binder Global) (t : TermTree) → d ≡ decl.Equation x ps t → ⊥) → equation_names (decl_tree d ∷ []) ≡ []
+pub no_equation : (d : Decl) → ((x : Binder) (ps : Vec Binder Global) (t : TermTree) → d ≡ decl.Equation x ps t → ⊥) →
+    equation_names (decl_tree d ∷ []) ≡ []
 no_equation (decl.Family x ms) other = refl
 no_equation (decl.Alias x w) other = refl
 no_equation (decl.Signature x bs w) other = refl
@@ -301,13 +335,16 @@ among_first known y x = pick (bytes_eq x y) (place_of known x)
     pick false None = refl
 
 -- one name behind some and in front of others
-among_middle : (known : List (List ℕ)) (y : List ℕ) (others : List (List ℕ)) (x : List ℕ) → is_among (known ++ y ∷ others) x ≡ (bytes_eq x y || is_among (known ++ others) x)
+among_middle : (known : List (List ℕ)) (y : List ℕ) (others : List (List ℕ)) (x : List ℕ) →
+    is_among (known ++ y ∷ others) x ≡ (bytes_eq x y || is_among (known ++ others) x)
 among_middle [] y others x = among_first others y x
 among_middle (z ∷ known) y others x =
-    among_first (known ++ y ∷ others) z x ∙ pick (bytes_eq x z) (bytes_eq x y) (is_among (known ++ others) x) (among_middle known y others x) ∙
+    among_first (known ++ y ∷ others) z x ∙ pick (bytes_eq x z) (bytes_eq x y) (is_among (known ++ others) x)
+    (among_middle known y others x) ∙
     sym (ap (λ c. bytes_eq x y || c) (among_first (known ++ others) z x))
   where
-    pick : (b c d : Bool) → is_among (known ++ y ∷ others) x ≡ (c || d) → (b || is_among (known ++ y ∷ others) x) ≡ (c || (b || d))
+    pick : (b c d : Bool) → is_among (known ++ y ∷ others) x ≡ (c || d) →
+        (b || is_among (known ++ y ∷ others) x) ≡ (c || (b || d))
     pick true true d e = refl
     pick true false d e = refl
     pick false c d e = e
@@ -317,7 +354,8 @@ pub globals_named : (ds : List Declared) (x : List ℕ) → is_among (names (glo
 globals_named [] x = refl
 globals_named (family y ms ∷ ds) x = globals_named ds x
 globals_named (alias y w ∷ ds) x = globals_named ds x
-globals_named (signature y bs w ∷ ds) x = among_first (names (global_names ds)) y.name x ∙ ap (λ c. bytes_eq x y.name || c) (globals_named ds x) ∙ sym (among_first (globals ds) y.name x)
+globals_named (signature y bs w ∷ ds) x = among_first (names (global_names ds)) y.name x ∙ ap
+    (λ c. bytes_eq x y.name || c) (globals_named ds x) ∙ sym (among_first (globals ds) y.name x)
 globals_named (equation y ps t ∷ ds) x =
     among_first (names (global_names ds)) y.name x ∙ ap (λ c. bytes_eq x y.name || c) (globals_named ds x) ∙
     sym (among_middle (names (signature_names ds)) y.name (names (equation_names ds)) x)

@@ -21,7 +21,8 @@ pub record AreTypeTables (ds : List Declared) (types : TypeNames) (a : Aliases) 
   pub types_are : AreTypeNames ds types
   pub names_are : AreNames (type_names ds) types.names
   pub measured : AreMeasures (final_trees types a.looped.items a.order.items) a.measures.items
-  pub known : IsKnown (declared_in types) (known_by types (final_trees types a.looped.items a.order.items) a.looped.items)
+  pub known : IsKnown (declared_in types)
+      (known_by types (final_trees types a.looped.items a.order.items) a.looped.items)
   pub order : IsOrder (graph_of types) a.order.items a.looped.items
 
 -- what a module declares for terms
@@ -33,4 +34,5 @@ pub record AreTermTables (ds : List Declared) (t : TermTables) : Type 0 where
 
 -- the constructors, signatures and equations that are declared a second time
 abbrev pub twice_for_terms : List Declared → List NameFault
-twice_for_terms ds = twice (map (λ m. m.name) (makers ds)) ++ (twice (signature_names ds) ++ twice (equation_names ds))
+twice_for_terms ds = twice (map (λ m. m.name) (makers ds))
+    ++ (twice (signature_names ds) ++ twice (equation_names ds))

@@ -41,4 +41,5 @@ abbrev pub IsScopeFor : Declarations → Option Signed → Option SignatureScope
 IsScopeFor d None None = ⊤
 IsScopeFor d None (Some s) = ⊥
 IsScopeFor d (Some g) None = ⊥
-IsScopeFor d (Some g) (Some s) = (e : SignatureEntry) × (signed_of e ≡ g) × IsScopeOf d.types (trees_in d) e s
+IsScopeFor d (Some g) (Some s) = (e : SignatureEntry) ×
+    (signed_of e ≡ g) × IsScopeOf d.types (trees_in d) e s

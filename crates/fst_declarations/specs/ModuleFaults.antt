@@ -31,7 +31,8 @@ abbrev pub signed : List Declared → List ℕ → Option Signed
 signed [] x = None
 signed (family y ms ∷ ds) x = signed ds x
 signed (alias y w ∷ ds) x = signed ds x
-signed (signature y bs w ∷ ds) x = if bytes_eq x y.name then Some (record { vars = bs; its_type = w }) else signed ds x
+signed (signature y bs w ∷ ds) x = if bytes_eq x y.name then Some
+    (record { vars = bs; its_type = w }) else signed ds x
 signed (equation y ps t ∷ ds) x = signed ds x
 
 -- the names of a signature's variables
@@ -79,9 +80,13 @@ fields_faults s (m ∷ ms) = types_faults s m.fields ++ fields_faults s ms
 abbrev pub decl_faults : List Declared → Known → Declared → List NameFault
 decl_faults ds known (family x ms) = fields_faults (module_scope ds known []) ms
 decl_faults ds known (alias x w) = looped known x ++ type_faults (module_scope ds known []) w
-decl_faults ds known (signature x bs w) = alone (equation_names ds) x ++ (twice (variables bs) ++ type_faults (module_scope ds known (names (variables bs))) w)
+decl_faults ds known (signature x bs w) =
+    alone (equation_names ds) x ++ (twice (variables bs) ++ type_faults
+    (module_scope ds known (names (variables bs))) w)
 decl_faults ds known (equation x ps t) =
-    alone (signature_names ds) x ++ (more_parameters x.at (length ps) (signed_type ds known (signed ds x.name)) ++ term_faults (surroundings ds known x.name) (within ps []) t)
+    alone (signature_names ds) x ++ (more_parameters x.at (length ps)
+    (signed_type ds known (signed ds x.name)) ++ term_faults (surroundings ds known x.name)
+    (within ps []) t)
 
 -- the faults of some declarations of a module
 abbrev pub decls_faults : List Declared → Known → List Declared → List NameFault
@@ -90,7 +95,9 @@ decls_faults ds known (e ∷ es) = decl_faults ds known e ++ decls_faults ds kno
 
 -- the names that are declared a second time
 abbrev pub twice_declared : List Declared → List NameFault
-twice_declared ds = twice (type_names ds) ++ (twice (map (λ m. m.name) (makers ds)) ++ (twice (signature_names ds) ++ twice (equation_names ds)))
+twice_declared ds = twice (type_names ds)
+    ++ (twice (map (λ m. m.name) (makers ds))
+    ++ (twice (signature_names ds) ++ twice (equation_names ds)))
 
 -- all faults of a module but that it has no main
 abbrev pub faults_but_main : List Declared → Known → List NameFault

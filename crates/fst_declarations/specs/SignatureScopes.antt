@@ -11,12 +11,16 @@ use Rattle.fst_declarations.specs.declared.entries.SignatureEntry.{SignatureEntr
 use Rattle.fst_declarations.specs.declared.scopes.SignatureScope.{SignatureScope}
 
 -- what is kept of a signature, where names of types stand for these trees
-pub record IsScopeOf (types : TypeNames) (trees : List (Option Tree)) (e : SignatureEntry) (s : SignatureScope) : Type 0 where
+pub record IsScopeOf (types : TypeNames) (trees : List (Option Tree)) (e : SignatureEntry)
+    (s : SignatureScope) : Type 0 where
   pub vars : AreNames (variables e.binders.now) s.vars
-  pub arrows_are : s.arrows ≡ option_map (λ t. min (arrows t) ceiling) (type_of (scope_with s.vars (declared_in types) (standing_in types trees)) e.its_type.now)
+  pub arrows_are : s.arrows ≡ option_map
+      (λ t. min (arrows t) ceiling) (type_of
+      (scope_with s.vars (declared_in types) (standing_in types trees)) e.its_type.now)
 
 -- what is kept of each
-abbrev pub AreScopes : TypeNames → List (Option Tree) → List SignatureEntry → List SignatureScope → Type 0
+abbrev pub AreScopes : TypeNames → List (Option Tree) → List SignatureEntry → List SignatureScope →
+    Type 0
 AreScopes types trees [] [] = ⊤
 AreScopes types trees [] (s ∷ ss) = ⊥
 AreScopes types trees (e ∷ es) [] = ⊥

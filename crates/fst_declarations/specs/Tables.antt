@@ -38,13 +38,15 @@ abbrev pub with_entry : {E : Type 0} → List (List ℕ) → List ℕ → List E
 with_entry known x entries e = if is_among known x then entries else entries ++ e ∷ []
 
 -- these names and entries have the first thing under each name, and where no name stands twice all things in order
-pub record IsTable {E A : Type 0} (f : E → A) (things : List (Binder × A)) (known : List (List ℕ)) (entries : List E) : Type 0 where
+pub record IsTable {E A : Type 0} (f : E → A) (things : List (Binder × A)) (known : List (List ℕ))
+    (entries : List E) : Type 0 where
   pub paired : length entries ≡ length known
   pub found : (x : List ℕ) → option_map f (of_name known entries x) ≡ first_under things x
   pub own : twice (binders_of things) ≡ [] → map f entries ≡ values_of things
 
 -- a table of some things, and the first fault once it is noted which of their names stand twice
-pub record IsKept {E A : Type 0} (f : E → A) (old : Option NameFault) (things : List (Binder × A)) (known : List (List ℕ)) (entries : List E) (kept : Option NameFault) : Type 0 where
+pub record IsKept {E A : Type 0} (f : E → A) (old : Option NameFault) (things : List (Binder × A))
+    (known : List (List ℕ)) (entries : List E) (kept : Option NameFault) : Type 0 where
   pub names_are : AreNames (binders_of things) known
   pub noted : kept ≡ first_from old (twice (binders_of things))
   pub table : IsTable f things known entries
@@ -62,7 +64,8 @@ types_from k (equation x ps t ∷ ds) = types_from k ds
 -- the constructors of a data type, from one on
 abbrev pub entries_from : ℕ → ℕ → List Maker → List (Binder × MakerEntry)
 entries_from k n [] = []
-entries_from k n (m ∷ ms) = (m.name, record { family = k; number = n; fields = length m.fields }) ∷ entries_from k (suc n) ms
+entries_from k n (m ∷ ms) = (m.name, record { family = k; number = n; fields = length m.fields })
+    ∷ entries_from k (suc n) ms
 
 -- the constructors, where so many data types stand before
 abbrev pub maker_entries : ℕ → List Declared → List (Binder × MakerEntry)
@@ -77,7 +80,8 @@ abbrev pub named_signatures : List Declared → List (Binder × Signed)
 named_signatures [] = []
 named_signatures (family x ms ∷ ds) = named_signatures ds
 named_signatures (alias x w ∷ ds) = named_signatures ds
-named_signatures (signature x bs w ∷ ds) = (x, record { vars = bs; its_type = w }) ∷ named_signatures ds
+named_signatures (signature x bs w ∷ ds) =
+    (x, record { vars = bs; its_type = w }) ∷ named_signatures ds
 named_signatures (equation x ps t ∷ ds) = named_signatures ds
 
 -- the signatures
@@ -96,8 +100,11 @@ itself e = e
 
 -- the table has the first constructor of each name: how many fields it has, and its numbers
 pub record AreMakers (ds : List Declared) (ms : Makers) : Type 0 where
-  pub fields : (x : List ℕ) → option_map (λ (e : MakerEntry). e.fields) (entry_of ms x) ≡ fields_of (makers ds) x
-  pub numbers : (x : List ℕ) → option_map (λ (e : MakerEntry). (e.family, e.number)) (entry_of ms x) ≡ of_name (names (map (λ m. m.name) (makers ds))) (maker_numbers 0 ds) x
+  pub fields : (x : List ℕ) → option_map
+      (λ (e : MakerEntry). e.fields) (entry_of ms x) ≡ fields_of (makers ds) x
+  pub numbers : (x : List ℕ) → option_map
+      (λ (e : MakerEntry). (e.family, e.number)) (entry_of ms x) ≡ of_name
+      (names (map (λ m. m.name) (makers ds))) (maker_numbers 0 ds) x
 
 -- the signature of an entry
 abbrev pub signed_of : SignatureEntry → Signed

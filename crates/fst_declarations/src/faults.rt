@@ -151,7 +151,8 @@ fn note_equation(
 ) -> Result<(), AllocError>
     ensures { (ds : List Declared) → AreDeclarations ds declarations.now → OnOk result
         (least.new ≡ first_from least.old
-        (decl_faults ds (known_in declarations.now) (equation binder.now parameters.now body.now))) }
+        (decl_faults ds (known_in declarations.now)
+        (equation binder.now parameters.now body.now))) }
 {
     note_alone(alloc, binder, &declarations.signatures.names, least)?;
     let mut vars = &declarations.no_vars;

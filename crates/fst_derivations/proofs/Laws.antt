@@ -33,12 +33,15 @@ pub is_row : (t : Tree) (v : Vec Derivation Global) → deriv_of (Row t v) ≡ r
 is_row = rows.is_row
 
 -- the plain derivations of equations are derivations, where types that are compared are equal
-pub globals_derived : (m : Module) (S : List Kind → Mode) → ((vars : List Kind) → Weaker (S vars) (converting (IsConversion vars))) →
-    (gs : List GlobalEntry) (ds : List Deriv) → AreGlobalsFormed m.types.items gs → ArePlainlyDerived m S gs ds → AreDerived m IsConversion gs ds
+pub globals_derived : (m : Module) (S : List Kind → Mode) →
+    ((vars : List Kind) → Weaker (S vars) (converting (IsConversion vars))) →
+    (gs : List GlobalEntry) (ds : List Deriv) → AreGlobalsFormed m.types.items gs → ArePlainlyDerived m S gs ds →
+    AreDerived m IsConversion gs ds
 globals_derived = modules.globals_derived
 
 -- where the types of a module and of the variables in scope have texts, so has the type of a row of a plain derivation
-pub row_text : (m : Surroundings) (E : Tree → Tree → Type 0) → AllHaveText (length m.families) m.types → (e : CoreTree) (g : List Variable) → VariablesHaveText (length m.families) g →
+pub row_text : (m : Surroundings) (E : Tree → Tree → Type 0) → AllHaveText (length m.families) m.types →
+    (e : CoreTree) (g : List Variable) → VariablesHaveText (length m.families) g →
     (u : Vars) (d : Deriv) → PlainRow m E e g u d → HasText (length m.families) (type_of d)
 row_text = texts.text
 
@@ -47,15 +50,18 @@ pub text_at : (n : ℕ) (types : List Tree) (k : ℕ) (t : Tree) → AllHaveText
 text_at n types k t = parts.all_at (HasText n) types k t
 
 -- so have the types with some numbers
-pub texts_at : (n : ℕ) (types : List Tree) (ks : List ℕ) (ts : List Tree) → AllHaveText n types → AreAt types ks ts → AllHaveText n ts
+pub texts_at : (n : ℕ) (types : List Tree) (ks : List ℕ) (ts : List Tree) → AllHaveText n types → AreAt types ks ts →
+    AllHaveText n ts
 texts_at = parts.at_texts
 
 -- and those of what arms bind
-pub bound_texts : (m : Surroundings) (n : ℕ) (B : Binding) (l : List ℕ) (ts : List Tree) → AllHaveText n m.types → BindingHasText n B → Binds m B l ts → AllHaveText n ts
+pub bound_texts : (m : Surroundings) (n : ℕ) (B : Binding) (l : List ℕ) (ts : List Tree) → AllHaveText n m.types →
+    BindingHasText n B → Binds m B l ts → AllHaveText n ts
 bound_texts = parts.bound_texts
 
 -- variables of types with texts
-pub variables_text : (n : ℕ) (vars : List Kind) (ts : List Tree) (vs : List Variable) → AllHaveText n ts → AreVariables vars ts vs → VariablesHaveText n vs
+pub variables_text : (n : ℕ) (vars : List Kind) (ts : List Tree) (vs : List Variable) → AllHaveText n ts →
+    AreVariables vars ts vs → VariablesHaveText n vs
 variables_text = parts.variables_text
 
 -- the parts of an arrow with a text have texts
@@ -77,7 +83,8 @@ pub one_use : (vars : List Kind) (t t' : Tree) (n n' : Use) → t ≡ t' → Has
 one_use = determined.one_use
 
 -- the types of an equation's parameter are determined
-pub one_parameter : {types : List Tree} {at k : ℕ} {uses : Use} {x : Binder} {t : Tree} (p q : IsParameter types at uses k x t) → (q.from ≡ p.from) × (q.to ≡ p.to)
+pub one_parameter : {types : List Tree} {at k : ℕ} {uses : Use} {x : Binder} {t : Tree} (p q : IsParameter types at uses k x t) →
+    (q.from ≡ p.from) × (q.to ≡ p.to)
 one_parameter = determined.one_parameter
 
 -- so are those with some numbers
@@ -85,7 +92,8 @@ pub same_at : (types : List Tree) (ks : List ℕ) (ts ts' : List Tree) → AreAt
 same_at = determined.same_at
 
 -- variables of the same types are the same
-pub same_variables : (vars : List Kind) (ts ts' : List Tree) (vs vs' : List Variable) → ts ≡ ts' → AreVariables vars ts vs → AreVariables vars ts' vs' → vs ≡ vs'
+pub same_variables : (vars : List Kind) (ts ts' : List Tree) (vs vs' : List Variable) → ts ≡ ts' → AreVariables vars ts vs →
+    AreVariables vars ts' vs' → vs ≡ vs'
 same_variables = determined.same_variables
 
 -- sets that are the same inside binders are the same outside
@@ -93,31 +101,38 @@ pub outside_all : (vs : List Variable) (u v : Vars) → under_all vs u ≡ under
 outside_all = determined.outside_all
 
 -- what an arm binds is determined
-pub one_bound : (m : Surroundings) (b b' : Binding) → b ≡ b' → (l : List ℕ) (ts ts' : List Tree) → Binds m b l ts → Binds m b' l ts' → ts ≡ ts'
+pub one_bound : (m : Surroundings) (b b' : Binding) → b ≡ b' →
+    (l : List ℕ) (ts ts' : List Tree) → Binds m b l ts → Binds m b' l ts' → ts ≡ ts'
 one_bound = determined.one_bound
 
 -- a type receives values of one base type at most
-pub one_step : (s s' : Tree) (b b' : Base) (t t' : Tree) → s ≡ s' → step s (Receive b) ≡ Some t → step s' (Receive b') ≡ Some t' → b ≡ b'
+pub one_step : (s s' : Tree) (b b' : Base) (t t' : Tree) → s ≡ s' → step s (Receive b) ≡ Some t → step s' (Receive b') ≡ Some t' →
+    b ≡ b'
 one_step = determined.one_step
 
 -- ---- what is derived where more is asked is derived where less is
 
-pub weaker : (m : Surroundings) (S T : Mode) → Weaker S T → (e : CoreTree) (g : List Variable) (u : Vars) (c : Deriv) → rules.Row m S e g u c → rules.Row m T e g u c
+pub weaker : (m : Surroundings) (S T : Mode) → Weaker S T →
+    (e : CoreTree) (g : List Variable) (u : Vars) (c : Deriv) → rules.Row m S e g u c → rules.Row m T e g u c
 weaker = weakening.weaker
 
 -- also where a type is wanted
-pub weaker_at : (m : Surroundings) (S T : Mode) → Weaker S T → (e : CoreTree) (t : Tree) (g : List Variable) (u : Vars) (d : Deriv) → At m.vars t S.compared (rules.Row m S e g) u d →
+pub weaker_at : (m : Surroundings) (S T : Mode) → Weaker S T →
+    (e : CoreTree) (t : Tree) (g : List Variable) (u : Vars) (d : Deriv) → At m.vars t S.compared (rules.Row m S e g) u d →
     At m.vars t T.compared (rules.Row m T e g) u d
 weaker_at = weakening.weaker_at
 
 -- a plain derivation within limits is one without them
-pub within_compares : (L : Tree → Type 0) (E F : Tree → Tree → Type 0) → ((s t : Tree) → E s t → F s t) → Weaker (within L E) (comparing F)
+pub within_compares : (L : Tree → Type 0) (E F : Tree → Tree → Type 0) →
+    ((s t : Tree) → E s t → F s t) → Weaker (within L E) (comparing F)
 within_compares = weakening.within_compares
 
 -- and a derivation
-pub within_converts : (L : Tree → Type 0) (E F : Tree → Tree → Type 0) → ((s t : Tree) → E s t → F s t) → Weaker (within L E) (converting F)
+pub within_converts : (L : Tree → Type 0) (E F : Tree → Tree → Type 0) →
+    ((s t : Tree) → E s t → F s t) → Weaker (within L E) (converting F)
 within_converts = weakening.within_converts
 
 -- so it is with more types and comparisons
-pub within_more : (K L : Tree → Type 0) (E F : Tree → Tree → Type 0) → ((t : Tree) → K t → L t) → ((s t : Tree) → E s t → F s t) → Weaker (within K E) (within L F)
+pub within_more : (K L : Tree → Type 0) (E F : Tree → Tree → Type 0) → ((t : Tree) → K t → L t) →
+    ((s t : Tree) → E s t → F s t) → Weaker (within K E) (within L F)
 within_more = weakening.within_more

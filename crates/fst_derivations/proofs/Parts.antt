@@ -26,11 +26,13 @@ use Rattle.fst_derivations.specs.Modules.{IsParameter}
 -- a type has one use
 pub one_use : (vars : List Kind) (t t' : Tree) (n n' : Use) → t ≡ t' → HasUse vars t n → HasUse vars t' n' → n ≡ n'
 one_use vars t t' n n' e w w' =
-    let kinds : w.kind ≡ w'.kind = one_kind vars t' w.kind w'.kind (subst (λ z. HasKind vars z w.kind) e w.formed.kinded) w'.formed.kinded in
+    let kinds : w.kind ≡ w'.kind = one_kind vars t' w.kind w'.kind
+    (subst (λ z. HasKind vars z w.kind) e w.formed.kinded) w'.formed.kinded in
     sym w.is ∙ ap (λ k. k.uses) kinds ∙ w'.is
 
 -- the types of an equation's parameter are determined
-pub one_parameter : {types : List Tree} {at k : ℕ} {uses : Use} {x : Binder} {t : Tree} (p q : IsParameter types at uses k x t) → (q.from ≡ p.from) × (q.to ≡ p.to)
+pub one_parameter : {types : List Tree} {at k : ℕ} {uses : Use} {x : Binder} {t : Tree} (p q : IsParameter types at uses k x t) →
+    (q.from ≡ p.from) × (q.to ≡ p.to)
 one_parameter {uses = uses} p q = let arrows : arrow uses q.from q.to ≡ arrow uses p.from p.to = sym q.type ∙ p.type in (cc, cc)
 
 -- the types with some numbers are determined
@@ -46,7 +48,8 @@ same_at types (k ∷ ks) (t ∷ ts) (t' ∷ ts') x y =
     λ i. first i ∷ rest i
 
 -- variables of the same types are the same
-pub same_variables : (vars : List Kind) (ts ts' : List Tree) (vs vs' : List Variable) → ts ≡ ts' → AreVariables vars ts vs → AreVariables vars ts' vs' → vs ≡ vs'
+pub same_variables : (vars : List Kind) (ts ts' : List Tree) (vs vs' : List Variable) → ts ≡ ts' → AreVariables vars ts vs →
+    AreVariables vars ts' vs' → vs ≡ vs'
 same_variables vars ts ts' vs vs' e x y = go ts' vs vs' (subst (λ z. AreVariables vars z vs) e x) y
   where
     go : (ts : List Tree) (vs vs' : List Variable) → AreVariables vars ts vs → AreVariables vars ts vs' → vs ≡ vs'
@@ -67,7 +70,8 @@ outside_all [] u v e = e
 outside_all (x ∷ vs) u v e = ap outside (outside_all vs (under (is_once x.uses) u) (under (is_once x.uses) v) e)
 
 -- what an arm binds is determined
-pub one_bound : (m : Surroundings) (b b' : Binding) → b ≡ b' → (l : List ℕ) (ts ts' : List Tree) → Binds m b l ts → Binds m b' l ts' → ts ≡ ts'
+pub one_bound : (m : Surroundings) (b b' : Binding) → b ≡ b' →
+    (l : List ℕ) (ts ts' : List Tree) → Binds m b l ts → Binds m b' l ts' → ts ≡ ts'
 one_bound m b b' e l ts ts' x y = go b' (subst (λ z. Binds m z l ts) e x) y
   where
     go : (b : Binding) → Binds m b l ts → Binds m b l ts' → ts ≡ ts'
@@ -81,11 +85,13 @@ one_bound m b b' e l ts ts' x y = go b' (subst (λ z. Binds m z l ts) e x) y
 -- ---- a type receives values of one type at most
 
 -- a choice has no label of a message
-no_branch : (make : List ℕ → Label) → ((l : List ℕ) (b : Base) → Receive b ≡ make l → ⊥) → (bs : Branches) (b : Base) (t : Tree) → branch_at make bs (Receive b) ≡ Some t → ⊥
+no_branch : (make : List ℕ → Label) → ((l : List ℕ) (b : Base) → Receive b ≡ make l → ⊥) →
+    (bs : Branches) (b : Base) (t : Tree) → branch_at make bs (Receive b) ≡ Some t → ⊥
 no_branch make apart none b t e = cc e
 no_branch make apart (branch l s bs) b t e = pick (no_branch make apart bs b t) (same_label (Receive b) (make l)) refl e
   where
-    pick : (branch_at make bs (Receive b) ≡ Some t → ⊥) → (c : Bool) → same_label (Receive b) (make l) ≡ c → (if c then Some s else branch_at make bs (Receive b)) ≡ Some t → ⊥
+    pick : (branch_at make bs (Receive b) ≡ Some t → ⊥) → (c : Bool) → same_label (Receive b) (make l) ≡ c →
+        (if c then Some s else branch_at make bs (Receive b)) ≡ Some t → ⊥
     pick later true same e = apart l b (same_label-same (Receive b) (make l) same)
     pick later false same e = later e
 
@@ -97,7 +103,8 @@ own_label a l x t e = pick (same_label a l) refl e
     pick true same e = same_label-same a l same
     pick false same e = absurd (cc e)
 
-one_received : (env : List (Option Tree)) (s : Tree) (b b' : Base) (t t' : Tree) → step_in env s (Receive b) ≡ Some t → step_in env s (Receive b') ≡ Some t' → b ≡ b'
+one_received : (env : List (Option Tree)) (s : Tree) (b b' : Base) (t t' : Tree) → step_in env s (Receive b) ≡ Some t →
+    step_in env s (Receive b') ≡ Some t' → b ≡ b'
 one_received env skip b b' t t' e f = absurd (cc e)
 one_received env (send x) b b' t t' e f = absurd (cc (own_label (Receive b) (Send x) skip t e))
 one_received env (receive x) b b' t t' e f =
@@ -114,8 +121,11 @@ one_received env (offer bs) b b' t t' e f =
 one_received env (seq s r) b b' t t' e f = pick (one_received env s) (one_received env r b b' t t') (terminated s) e f
   where
     pick : ((c c' : Base) (z z' : Tree) → step_in env s (Receive c) ≡ Some z → step_in env s (Receive c') ≡ Some z' → c ≡ c') →
-        (step_in env r (Receive b) ≡ Some t → step_in env r (Receive b') ≡ Some t' → b ≡ b') → (c : Bool) → (if c then step_in env r (Receive b) else option_map (λ z. seq z (substitute env r)) (step_in env s (Receive b))) ≡ Some t →
-        (if c then step_in env r (Receive b') else option_map (λ z. seq z (substitute env r)) (step_in env s (Receive b'))) ≡ Some t' → b ≡ b'
+        (step_in env r (Receive b) ≡ Some t → step_in env r (Receive b') ≡ Some t' → b ≡ b') → (c : Bool) →
+        (if c then step_in env r (Receive b) else option_map (λ z. seq z (substitute env r)) (step_in env s (Receive b)))
+        ≡ Some t →
+        (if c then step_in env r (Receive b') else option_map (λ z. seq z (substitute env r)) (step_in env s (Receive b'))) ≡ Some
+        t' → b ≡ b'
     pick front next true e f = next e f
     pick front next false e f =
         let m = mapped_some (λ z. seq z (substitute env r)) (step_in env s (Receive b)) t e in
@@ -130,7 +140,8 @@ one_received env (pair s r) b b' t t' e f = absurd (cc e)
 one_received env (named k) b b' t t' e f = absurd (cc e)
 
 -- a type receives values of one base type at most
-pub one_step : (s s' : Tree) (b b' : Base) (t t' : Tree) → s ≡ s' → step s (Receive b) ≡ Some t → step s' (Receive b') ≡ Some t' → b ≡ b'
+pub one_step : (s s' : Tree) (b b' : Base) (t t' : Tree) → s ≡ s' → step s (Receive b) ≡ Some t → step s' (Receive b') ≡ Some t' →
+    b ≡ b'
 one_step s s' b b' t t' same e f = one_received [] s b b' t t' e (ap (λ z. step z (Receive b')) same ∙ f)
 
 -- a base type is well formed

@@ -21,7 +21,8 @@ use Rattle.fst_derivations.specs.Texts.{HasText, AllHaveText, VariablesHaveText,
 use Rattle.fst_derivations.proofs.TextParts.{all_at, at_texts, instantiated_text, dual_text, step_text, arrow_text, arrow_texts, pair_text, pair_texts, plain_text, named_text, bound_texts, variables_text, entered_text}
 
 -- a part's type has a text where the types of its rows do
-over : (vars : List Kind) (n : ℕ) (P : Vars → Deriv → Type 0) → ((u : Vars) (d : Deriv) → P u d → HasText n (type_of d)) → (u : Vars) (d : Deriv) → Over vars Bare P u d → HasText n (type_of d)
+over : (vars : List Kind) (n : ℕ) (P : Vars → Deriv → Type 0) → ((u : Vars) (d : Deriv) → P u d → HasText n (type_of d)) →
+    (u : Vars) (d : Deriv) → Over vars Bare P u d → HasText n (type_of d)
 over vars n P f u d x = subst (HasText n) (sym (ap type_of x.stands)) (f u x.core x.rule)
 
 -- the type of a row
@@ -55,20 +56,24 @@ module _ (m : Surroundings) (E : Tree → Tree → Type 0) (types : AllHaveText 
   N = length m.families
 
   mutual
-    pub text : (e : CoreTree) (g : List Variable) → VariablesHaveText N g → (u : Vars) (c : Deriv) → PlainRow m E e g u c → HasText N (type_of c)
+    pub text : (e : CoreTree) (g : List Variable) → VariablesHaveText N g →
+        (u : Vars) (c : Deriv) → PlainRow m E e g u c → HasText N (type_of c)
     text (local at k) g h u c (v, i, p, e) = typed N _ _ c e (all_at (λ (x : Variable). HasText N x.type) g k v h i)
     text (global at k ks) g h u c (f, t, ts, a, b, x, i, p, e) =
-        typed N _ _ c e (instantiated_text N ts t (at_texts N m.types ks ts types x) (all_at (HasText N) m.types f.signature t types b))
+        typed N _ _ c e (instantiated_text N ts t (at_texts N m.types ks ts types x)
+        (all_at (HasText N) m.types f.signature t types b))
     text (int at n) g h u c (p, e) = typed N _ _ c e (plain_text N Int)
     text (bool at b) g h u c (p, e) = typed N _ _ c e (plain_text N Truth)
     text (char at n) g h u c (p, e) = typed N _ _ c e (plain_text N Char)
     text (unit at) g h u c (p, e) = typed N _ _ c e (plain_text N Nothing)
     text (pair at a b) g h u c (d, f, x, e) =
-        typed N _ _ c e (pair_text N (type_of d) (type_of f) (over m.vars N _ (text a g h) x.left d x.first) (over m.vars N _ (text b g h) x.right f x.second))
+        typed N _ _ c e (pair_text N (type_of d) (type_of f) (over m.vars N _ (text a g h) x.left d x.first)
+        (over m.vars N _ (text b g h) x.right f x.second))
     text (make at n k es) g h u c (o, ts, ds, a, b, x, e) = typed N _ _ c e (made_text m.families n k o a)
     text (lambda at uses k x a) g h u c (t, n, d, p, w, z, o, r, e) =
         let from = all_at (HasText N) m.types k t types p in
-        typed N _ _ c e (arrow_text N uses t (type_of d) from (over m.vars N _ (text a (record { type = t; uses = n } ∷ g) (from, h)) _ d r))
+        typed N _ _ c e (arrow_text N uses t (type_of d) from
+        (over m.vars N _ (text a (record { type = t; uses = n } ∷ g) (from, h)) _ d r))
     text (apply at a b) g h u c (d, f, w, s, t, x, p, e) =
         typed N _ _ c e (arrow_texts N w s t (subst (HasText N) p (over m.vars N _ (text a g h) x.left d x.first))).1
     text (let_in at z a b) g h u c (d, f, n, x, w, e) =
@@ -76,9 +81,11 @@ module _ (m : Surroundings) (E : Tree → Tree → Type 0) (types : AllHaveText 
         typed N _ _ c e (over m.vars N _ (text b (record { type = type_of d; uses = n } ∷ g) (first, h)) _ f x.second)
     text (split at z w a b) g h u c (d, f, s, t, n, o, x, p, j, k, e) =
         let parts = pair_texts N s t (subst (HasText N) p (over m.vars N _ (text a g h) x.left d x.first)) in
-        typed N _ _ c e (over m.vars N _ (text b (record { type = t; uses = o } ∷ record { type = s; uses = n } ∷ g) (parts.1, (parts.0, h))) _ f x.second)
+        typed N _ _ c e (over m.vars N _ (text b (record { type = t; uses = o } ∷ record { type = s; uses = n } ∷ g)
+        (parts.1, (parts.0, h))) _ f x.second)
     text (if_else at a b o) g h u c (d, k, l, x, e) = typed N _ _ c e (over m.vars N _ (text b g h) x.right k x.second.0)
-    text (case_of at a bs) g h u c (d, n, f, t, ds, x, p, k, l, e) = typed N _ _ c e (arms_text (fields f.makers.items) tt bs g h x.right t ds x.second)
+    text (case_of at a bs) g h u c (d, n, f, t, ds, x, p, k, l, e) =
+        typed N _ _ c e (arms_text (fields f.makers.items) tt bs g h x.right t ds x.second)
     text (operate at o a b) g h u c (d, f, s, t, i, x, e) = typed N _ _ c e (results N o s t i)
     text (negate at a) g h u c (d, x, e) = typed N _ _ c e (plain_text N Truth)
     text (new at k) g h u c (s, p, i, x, e) =
@@ -87,14 +94,18 @@ module _ (m : Surroundings) (E : Tree → Tree → Type 0) (types : AllHaveText 
     text (send at a b) g h u c (d, f, k, t, x, p, w, e) =
         typed N _ _ c e (step_text N (type_of f) (Send k) t (over m.vars N _ (text b g h) x.right f x.second) w)
     text (receive at a) g h u c (d, k, t, x, w, e) =
-        typed N _ _ c e (pair_text N (plain k) t (plain_text N k) (step_text N (type_of d) (Receive k) t (over m.vars N _ (text a g h) u d x) w))
-    text (select at l a) g h u c (d, t, x, w, e) = typed N _ _ c e (step_text N (type_of d) (Select l) t (over m.vars N _ (text a g h) u d x) w)
+        typed N _ _ c e (pair_text N (plain k) t (plain_text N k)
+        (step_text N (type_of d) (Receive k) t (over m.vars N _ (text a g h) u d x) w))
+    text (select at l a) g h u c (d, t, x, w, e) =
+        typed N _ _ c e (step_text N (type_of d) (Select l) t (over m.vars N _ (text a g h) u d x) w)
     text (match_with at a bs) g h u c (d, ls, t, ds, x, i, l, e) =
-        typed N _ _ c e (arms_text (rest (type_of d)) (over m.vars N _ (text a g h) x.left d x.first) bs g h x.right t ds x.second)
+        typed N _ _ c e (arms_text (rest (type_of d))
+        (over m.vars N _ (text a g h) x.left d x.first) bs g h x.right t ds x.second)
     text (fork at a) g h u c (d, x, w, e) = typed N _ _ c e (plain_text N Nothing)
     text (seq at a b) g h u c (d, f, x, l, e) = typed N _ _ c e (over m.vars N _ (text b g h) x.right f x.second)
 
-    arms_text : (B : Binding) → BindingHasText N B → (bs : CoreArms) (g : List Variable) → VariablesHaveText N g → (u : Vars) (t : Tree) (ds : Derivs) → Arms m (comparing E) B bs g u t ds → HasText N t
+    arms_text : (B : Binding) → BindingHasText N B → (bs : CoreArms) (g : List Variable) → VariablesHaveText N g →
+        (u : Vars) (t : Tree) (ds : Derivs) → Arms m (comparing E) B bs g u t ds → HasText N t
     arms_text B b no_arms g h u t ds x = absurd x
     arms_text B b (arm l xs e bs) g h u t ds (ts, vs, d, more, i, w, z, k, x, p, later, q) =
         let all = entered_text N vs g (variables_text N m.vars ts vs (bound_texts m N B l ts types b i) w) h in

@@ -18,7 +18,7 @@ use Rattle.fst_types.specs.declared.label.Label.{Label}
 use Rattle.fst_types.specs.declared.label.Label.TheVariants.{Send, Receive, Select, Offer, Var}
 use Rattle.fst_types.proofs.Laws.{variable_has, substitute_scoped, instantiated_scoped}
 use Rattle.fst_lts.specs.Dual.{dual, dual_all}
-use Rattle.fst_lts.proofs.DualKinds.{dual_scoped}
+use Rattle.fst_lts.proofs.Laws.{dual_scoped}
 use Rattle.fst_lts.specs.Step.{terminated, branch_at, step_in, step}
 use Rattle.fst_context.specs.Scope.{Variable}
 use Rattle.fst_derivations.specs.Parts.{AreAt, AreVariables, enter_all}
@@ -33,7 +33,8 @@ all_at P (y ∷ xs) zero x h e = let same : y ≡ x = cc in subst P same h.0
 all_at P (y ∷ xs) (suc k) x h e = all_at P xs k x h.1 e
 
 -- the types with some numbers have texts
-pub at_texts : (n : ℕ) (types : List Tree) (ks : List ℕ) (ts : List Tree) → AllHaveText n types → AreAt types ks ts → AllHaveText n ts
+pub at_texts : (n : ℕ) (types : List Tree) (ks : List ℕ) (ts : List Tree) → AllHaveText n types → AreAt types ks ts →
+    AllHaveText n ts
 at_texts n types [] [] h a = tt
 at_texts n types [] (t ∷ ts) h a = absurd a
 at_texts n types (k ∷ ks) [] h a = absurd a
@@ -42,7 +43,8 @@ at_texts n types (k ∷ ks) (t ∷ ts) h a = (all_at (HasText n) types k t h a.0
 -- ---- instances
 
 mutual
-  instantiated_named : (n : ℕ) (args : List Tree) (s : Tree) → ArgumentsHave (IsNamedWithin n) args → IsNamedWithin n s → IsNamedWithin n (instantiated args s)
+  instantiated_named : (n : ℕ) (args : List Tree) (s : Tree) → ArgumentsHave (IsNamedWithin n) args → IsNamedWithin n s →
+      IsNamedWithin n (instantiated args s)
   instantiated_named n args skip p h = tt
   instantiated_named n args (send b) p h = tt
   instantiated_named n args (receive b) p h = tt
@@ -57,12 +59,14 @@ mutual
   instantiated_named n args (pair s r) p h = (instantiated_named n args s p h.0, instantiated_named n args r p h.1)
   instantiated_named n args (named k) p h = h
 
-  instantiated_all_named : (n : ℕ) (args : List Tree) (bs : Branches) → ArgumentsHave (IsNamedWithin n) args → AllNamedWithin n bs → AllNamedWithin n (instantiated_all args bs)
+  instantiated_all_named : (n : ℕ) (args : List Tree) (bs : Branches) → ArgumentsHave (IsNamedWithin n) args →
+      AllNamedWithin n bs → AllNamedWithin n (instantiated_all args bs)
   instantiated_all_named n args none p h = tt
   instantiated_all_named n args (branch l s bs) p h = (instantiated_named n args s p h.0, instantiated_all_named n args bs p h.1)
 
 -- a type that is given for a variable has a text
-given_text : (n : ℕ) (args : List Tree) (t : Tree) (k : ℕ) → HasText n t → AllHaveText n args → HasText n (unwrap_or (slice_get args k) t)
+given_text : (n : ℕ) (args : List Tree) (t : Tree) (k : ℕ) → HasText n t → AllHaveText n args →
+    HasText n (unwrap_or (slice_get args k) t)
 given_text n [] t zero h a = h
 given_text n [] t (suc k) h a = h
 given_text n (r ∷ args) t zero h a = a.0
@@ -106,7 +110,8 @@ dual_text n s h = record { scoped = dual_scoped 0 s h.scoped; named = dual_named
 -- ---- moves
 
 mutual
-  substitute_named : (n : ℕ) (env : List (Option Tree)) (s : Tree) → EnvHas (IsNamedWithin n) env → IsNamedWithin n s → IsNamedWithin n (substitute env s)
+  substitute_named : (n : ℕ) (env : List (Option Tree)) (s : Tree) → EnvHas (IsNamedWithin n) env → IsNamedWithin n s →
+      IsNamedWithin n (substitute env s)
   substitute_named n env skip p h = tt
   substitute_named n env (send b) p h = tt
   substitute_named n env (receive b) p h = tt
@@ -121,7 +126,8 @@ mutual
   substitute_named n env (pair s r) p h = (substitute_named n env s p h.0, substitute_named n env r p h.1)
   substitute_named n env (named k) p h = h
 
-  substitute_all_named : (n : ℕ) (env : List (Option Tree)) (bs : Branches) → EnvHas (IsNamedWithin n) env → AllNamedWithin n bs → AllNamedWithin n (substitute_all env bs)
+  substitute_all_named : (n : ℕ) (env : List (Option Tree)) (bs : Branches) → EnvHas (IsNamedWithin n) env → AllNamedWithin n bs →
+      AllNamedWithin n (substitute_all env bs)
   substitute_all_named n env none p h = tt
   substitute_all_named n env (branch l s bs) p h = (substitute_named n env s p h.0, substitute_all_named n env bs p h.1)
 
@@ -130,15 +136,18 @@ record AreClosedTexts (n : ℕ) (env : List (Option Tree)) : Type 0 where
   closed : AllClosed env
   named : EnvHas (IsNamedWithin n) env
 
-substitute_text : (n : ℕ) (env : List (Option Tree)) (s : Tree) → AreClosedTexts n env → IsScoped (length env) s → IsNamedWithin n s → HasText n (substitute env s)
+substitute_text : (n : ℕ) (env : List (Option Tree)) (s : Tree) → AreClosedTexts n env → IsScoped (length env) s →
+    IsNamedWithin n s → HasText n (substitute env s)
 substitute_text n env s p h i = record { scoped = substitute_scoped env s p.closed h; named = substitute_named n env s p.named i }
 
-branch_text : (n : ℕ) (env : List (Option Tree)) (make : List ℕ → Label) (bs : Branches) (a : Label) (t : Tree) → AreClosedTexts n env → AllScoped (length env) bs → AllNamedWithin n bs →
+branch_text : (n : ℕ) (env : List (Option Tree)) (make : List ℕ → Label) (bs : Branches) (a : Label) (t : Tree) →
+    AreClosedTexts n env → AllScoped (length env) bs → AllNamedWithin n bs →
     option_map (substitute env) (branch_at make bs a) ≡ Some t → HasText n t
 branch_text n env make none a t p h i e = absurd (cc e)
 branch_text n env make (branch l s bs) a t p h i e = pick (branch_text n env make bs a t p h.1 i.1) (same_label a (make l)) e
   where
-    pick : (option_map (substitute env) (branch_at make bs a) ≡ Some t → HasText n t) → (c : Bool) → option_map (substitute env) (if c then Some s else branch_at make bs a) ≡ Some t → HasText n t
+    pick : (option_map (substitute env) (branch_at make bs a) ≡ Some t → HasText n t) →
+        (c : Bool) → option_map (substitute env) (if c then Some s else branch_at make bs a) ≡ Some t → HasText n t
     pick f true e = let same : substitute env s ≡ t = cc in subst (HasText n) same (substitute_text n env s p h.0 i.0)
     pick f false e = f e
 
@@ -147,13 +156,15 @@ skip_text : (n : ℕ) (c : Bool) (t : Tree) → (if c then Some skip else None) 
 skip_text n true t e = let same : skip ≡ t = cc in subst (HasText n) same (record { scoped = tt; named = tt })
 skip_text n false t e = absurd (cc e)
 
-step_in_text : (n : ℕ) (env : List (Option Tree)) (s : Tree) (a : Label) (t : Tree) → AreClosedTexts n env → IsScoped (length env) s → IsNamedWithin n s → step_in env s a ≡ Some t → HasText n t
+step_in_text : (n : ℕ) (env : List (Option Tree)) (s : Tree) (a : Label) (t : Tree) → AreClosedTexts n env →
+    IsScoped (length env) s → IsNamedWithin n s → step_in env s a ≡ Some t → HasText n t
 step_in_text n env skip a t p h i e = absurd (cc e)
 step_in_text n env (send b) a t p h i e = skip_text n (same_label a (Send b)) t e
 step_in_text n env (receive b) a t p h i e = skip_text n (same_label a (Receive b)) t e
 step_in_text n env (select bs) a t p h i e = branch_text n env Select bs a t p h i e
 step_in_text n env (offer bs) a t p h i e = branch_text n env Offer bs a t p h i e
-step_in_text n env (seq s r) a t p h i e = pick (λ x. step_in_text n env s a x p h.0 i.0) (step_in_text n env r a t p h.1 i.1) (terminated s) e
+step_in_text n env (seq s r) a t p h i e = pick
+    (λ x. step_in_text n env s a x p h.0 i.0) (step_in_text n env r a t p h.1 i.1) (terminated s) e
   where
     pick : ((x : Tree) → step_in env s a ≡ Some x → HasText n x) → (step_in env r a ≡ Some t → HasText n t) → (c : Bool) →
         (if c then step_in env r a else option_map (λ x. seq x (substitute env r)) (step_in env s a)) ≡ Some t → HasText n t
@@ -165,7 +176,8 @@ step_in_text n env (seq s r) a t p h i e = pick (λ x. step_in_text n env s a x 
         subst (HasText n) m.2 (record { scoped = (first.scoped, later.scoped); named = (first.named, later.named) })
 step_in_text n env (rec s) a t p h i e =
     let whole = substitute_text n env (rec s) p h i in
-    step_in_text n (Some (substitute env (rec s)) ∷ env) s a t (record { closed = (whole.scoped, p.closed); named = (whole.named, p.named) }) h i e
+    step_in_text n (Some (substitute env (rec s)) ∷ env) s a t
+    (record { closed = (whole.scoped, p.closed); named = (whole.named, p.named) }) h i e
 step_in_text n env (back k) a t p h i e = absurd (cc e)
 step_in_text n env (var k) a t p h i e = skip_text n (same_label a (Var k)) t e
 step_in_text n env (plain b) a t p h i e = absurd (cc e)
@@ -203,18 +215,21 @@ named_text fs k f e = record { scoped = tt; named = slice_get_within fs k f e }
 
 -- ---- what arms bind
 
-pub bound_texts : (m : Surroundings) (n : ℕ) (B : Binding) (l : List ℕ) (ts : List Tree) → AllHaveText n m.types → BindingHasText n B → Binds m B l ts → AllHaveText n ts
+pub bound_texts : (m : Surroundings) (n : ℕ) (B : Binding) (l : List ℕ) (ts : List Tree) → AllHaveText n m.types →
+    BindingHasText n B → Binds m B l ts → AllHaveText n ts
 bound_texts m n (fields makers) l ts h b (o, p, x) = at_texts n m.types o.fields.items ts h x
 bound_texts m n (rest s) l ts h b (t, p, x) = subst (AllHaveText n) (sym x) (step_text n s (Offer l) t b p, tt)
 
 -- variables of types with texts
-pub variables_text : (n : ℕ) (vars : List Kind) (ts : List Tree) (vs : List Variable) → AllHaveText n ts → AreVariables vars ts vs → VariablesHaveText n vs
+pub variables_text : (n : ℕ) (vars : List Kind) (ts : List Tree) (vs : List Variable) → AllHaveText n ts →
+    AreVariables vars ts vs → VariablesHaveText n vs
 variables_text n vars [] [] h x = tt
 variables_text n vars [] (v ∷ vs) h x = absurd x
 variables_text n vars (t ∷ ts) [] h x = absurd x
 variables_text n vars (t ∷ ts) (v ∷ vs) h x = (subst (HasText n) (sym x.0) h.0, variables_text n vars ts vs h.1 x.2)
 
 -- entered into a context of such variables
-pub entered_text : (n : ℕ) (vs g : List Variable) → VariablesHaveText n vs → VariablesHaveText n g → VariablesHaveText n (enter_all vs g)
+pub entered_text : (n : ℕ) (vs g : List Variable) → VariablesHaveText n vs → VariablesHaveText n g →
+    VariablesHaveText n (enter_all vs g)
 entered_text n [] g h i = i
 entered_text n (v ∷ vs) g h i = entered_text n vs (v ∷ g) h.1 (h.0, i)

@@ -28,10 +28,12 @@ over vars P Q f u v c d x y =
     let r = f u v x.core y.core x.rule y.rule in
     (ap type_of x.stands ∙ r.0 ∙ sym (ap type_of y.stands), r.1)
 
-compared : (vars : List Kind) (E : Tree → Tree → Type 0) (t s : Tree) (P Q : Vars → Deriv → Type 0) → Alike P Q → (u v : Vars) (c d : Deriv) → At vars t (Compared E) P u c → At vars s (Compared E) Q v d → u ≡ v
+compared : (vars : List Kind) (E : Tree → Tree → Type 0) (t s : Tree) (P Q : Vars → Deriv → Type 0) → Alike P Q →
+    (u v : Vars) (c d : Deriv) → At vars t (Compared E) P u c → At vars s (Compared E) Q v d → u ≡ v
 compared vars E t s P Q f u v c d x y = (f u v x.core y.core x.rule y.rule).1
 
-both : (P Q R S : Vars → Type 0) → ((u v : Vars) → P u → R v → u ≡ v) → ((u v : Vars) → Q u → S v → u ≡ v) → (u v : Vars) → Both P Q u → Both R S v → u ≡ v
+both : (P Q R S : Vars → Type 0) → ((u v : Vars) → P u → R v → u ≡ v) → ((u v : Vars) → Q u → S v → u ≡ v) →
+    (u v : Vars) → Both P Q u → Both R S v → u ≡ v
 both P Q R S f g u v x y =
     let a = f x.left y.left x.first y.first in
     let b = g x.right y.right x.second y.second in
@@ -60,7 +62,8 @@ module _ (m : Surroundings) (E : Tree → Tree → Type 0) where
   Part e g = Over m.vars Bare (PlainRow m E e g)
 
   mutual
-    pub unique : (e : CoreTree) (g : List Variable) (u v : Vars) (c d : Deriv) → PlainRow m E e g u c → PlainRow m E e g v d → (type_of c ≡ type_of d) × (u ≡ v)
+    pub unique : (e : CoreTree) (g : List Variable) (u v : Vars) (c d : Deriv) → PlainRow m E e g u c → PlainRow m E e g v d →
+        (type_of c ≡ type_of d) × (u ≡ v)
     unique (local at k) g u v c d (x, h, p, e) (y, k', q, f) =
         let same : x ≡ y = same_Some x y (sym h ∙ k') in
         (typed x.type y.type none none c d e f (ap (λ z. z.type) same), p ∙ ap (λ z. single (is_once z.uses) k) same ∙ sym q)
@@ -96,13 +99,15 @@ module _ (m : Surroundings) (E : Tree → Tree → Type 0) where
         let arrows : arrow w from to ≡ arrow w' from' to' = sym p ∙ ta ∙ q in
         let same : to ≡ to' = cc in (
           typed _ _ _ _ c d e h same,
-          both _ _ _ _ (λ n o p q. (fa n o pa qa p q).1) (λ n o p q. compared m.vars E from from' _ _ (unique b g) n o pb qb p q) u v x y,
+          both _ _ _ _ (λ n o p q. (fa n o pa qa p q).1)
+              (λ n o p q. compared m.vars E from from' _ _ (unique b g) n o pb qb p q) u v x y,
         )
     unique (let_in at z a b) g u v c d (pa, pb, n, x, w, e) (qa, qb, n', y, w', h) =
         let fa = over m.vars _ _ (unique a g) in
         let ta = (fa x.left y.left pa qa x.first y.first).0 in
         let use_of : n ≡ n' = one_use m.vars (type_of pa) (type_of qa) n n' ta w w' in
-        let fb = λ (r o : Vars) (p : Part b (record { type = type_of pa; uses = n } ∷ g) (under (is_once n) r) pb) (q : Part b (record { type = type_of qa; uses = n' } ∷ g) (under (is_once n') o) qb).
+        let fb = λ (r o : Vars) (p : Part b (record { type = type_of pa; uses = n } ∷ g) (under (is_once n) r) pb)
+        (q : Part b (record { type = type_of qa; uses = n' } ∷ g) (under (is_once n') o) qb).
         let p' = subst (λ t. Part b (record { type = t; uses = n } ∷ g) (under (is_once n) r) pb) ta p in
         let p'' = subst (λ t. Part b (record { type = type_of qa; uses = t } ∷ g) (under (is_once t) r) pb) use_of p' in
         over m.vars _ _ (unique b (record { type = type_of qa; uses = n' } ∷ g)) _ _ pb qb p'' q in (
@@ -117,12 +122,18 @@ module _ (m : Surroundings) (E : Tree → Tree → Type 0) where
         let es : s ≡ s' = cc in
         let en : n ≡ n' = one_use m.vars r r' n n' er j j' in
         let eo : o ≡ o' = one_use m.vars s s' o o' es k k' in
-        let fb = λ (i l : Vars) (p : Part b (record { type = s; uses = o } ∷ record { type = r; uses = n } ∷ g) (under (is_once o) (under (is_once n) i)) pb)
-        (q : Part b (record { type = s'; uses = o' } ∷ record { type = r'; uses = n' } ∷ g) (under (is_once o') (under (is_once n') l)) qb).
-        let p1 = subst (λ t. Part b (record { type = t; uses = o } ∷ record { type = r; uses = n } ∷ g) (under (is_once o) (under (is_once n) i)) pb) es p in
-        let p2 = subst (λ t. Part b (record { type = s'; uses = o } ∷ record { type = t; uses = n } ∷ g) (under (is_once o) (under (is_once n) i)) pb) er p1 in
-        let p3 = subst (λ t. Part b (record { type = s'; uses = t } ∷ record { type = r'; uses = n } ∷ g) (under (is_once t) (under (is_once n) i)) pb) eo p2 in
-        let p4 = subst (λ t. Part b (record { type = s'; uses = o' } ∷ record { type = r'; uses = t } ∷ g) (under (is_once o') (under (is_once t) i)) pb) en p3 in
+        let fb = λ (i l : Vars) (p : Part b (record { type = s; uses = o } ∷ record { type = r; uses = n } ∷ g)
+        (under (is_once o) (under (is_once n) i)) pb)
+        (q : Part b (record { type = s'; uses = o' } ∷ record { type = r'; uses = n' } ∷ g)
+        (under (is_once o') (under (is_once n') l)) qb).
+        let p1 = subst (λ t. Part b (record { type = t; uses = o } ∷ record { type = r; uses = n } ∷ g)
+        (under (is_once o) (under (is_once n) i)) pb) es p in
+        let p2 = subst (λ t. Part b (record { type = s'; uses = o } ∷ record { type = t; uses = n } ∷ g)
+        (under (is_once o) (under (is_once n) i)) pb) er p1 in
+        let p3 = subst (λ t. Part b (record { type = s'; uses = t } ∷ record { type = r'; uses = n } ∷ g)
+        (under (is_once t) (under (is_once n) i)) pb) eo p2 in
+        let p4 = subst (λ t. Part b (record { type = s'; uses = o' } ∷ record { type = r'; uses = t } ∷ g)
+        (under (is_once o') (under (is_once t) i)) pb) en p3 in
         over m.vars _ _ (unique b (record { type = s'; uses = o' } ∷ record { type = r'; uses = n' } ∷ g)) _ _ pb qb p4 q in (
           typed _ _ _ _ c d e h (fb x.right y.right x.second y.second).0,
           both _ _ _ _ (λ i l p q. (fa i l pa qa p q).1) (λ i l p q. ap outside (ap outside (fb i l p q).1)) u v x y,
@@ -130,7 +141,8 @@ module _ (m : Surroundings) (E : Tree → Tree → Type 0) where
     unique (if_else at a b o) g u v c d (pa, pb, pc, x, e) (qa, qb, qc, y, h) =
         let fb = over m.vars _ _ (unique b g) in (
           typed _ _ _ _ c d e h (fb x.right y.right pb qb x.second.0 y.second.0).0,
-          both _ _ _ _ (λ n o p q. compared m.vars E (plain Truth) (plain Truth) _ _ (unique a g) n o pa qa p q) (λ n o p q. (fb n o pb qb p.0 q.0).1) u v x y,
+          both _ _ _ _ (λ n o p q. compared m.vars E (plain Truth) (plain Truth) _ _ (unique a g) n o pa qa p q)
+              (λ n o p q. (fb n o pb qb p.0 q.0).1) u v x y,
         )
     unique (case_of at a bs) g u v c d (pa, n, f, t, ds, x, p, k, l, e) (qa, n', f', t', ds', y, p', k', l', h) =
         let fa = over m.vars _ _ (unique a g) in
@@ -139,17 +151,21 @@ module _ (m : Surroundings) (E : Tree → Tree → Type 0) where
         let en : n ≡ n' = cc in
         let ef : f ≡ f' = same_Some f f' (sym k ∙ ap (slice_get m.families) en ∙ k') in
         let binding = ap (λ z. fields z.makers.items) ef in
-        let arms = λ (r o : Vars) (p : Arms m (comparing E) (fields f.makers.items) bs g r t ds) (q : Arms m (comparing E) (fields f'.makers.items) bs g o t' ds').
+        let arms = λ (r o : Vars) (p : Arms m (comparing E) (fields f.makers.items) bs g r t ds)
+        (q : Arms m (comparing E) (fields f'.makers.items) bs g o t' ds').
         unique_arms (fields f.makers.items) (fields f'.makers.items) binding bs g r o t t' ds ds' p q in (
           typed _ _ _ _ c d e h (arms x.right y.right x.second y.second).0,
           both _ _ _ _ (λ r o p q. (fa r o pa qa p q).1) (λ r o p q. (arms r o p q).1) u v x y,
         )
     unique (operate at o a b) g u v c d (pa, pb, s, t, i, x, e) (qa, qb, s', t', j, y, h) = (
       typed _ _ _ _ c d e h (results o s t s' t' i j),
-      both _ _ _ _ (λ n l p q. compared m.vars E s s' _ _ (unique a g) n l pa qa p q) (λ n l p q. compared m.vars E s s' _ _ (unique b g) n l pb qb p q) u v x y,
+      both _ _ _ _ (λ n l p q. compared m.vars E s s' _ _ (unique a g) n l pa qa p q)
+          (λ n l p q. compared m.vars E s s' _ _ (unique b g) n l pb qb p q) u v x y,
     )
-    unique (negate at a) g u v c d (pa, x, e) (qa, y, h) =
-        (typed (plain Truth) (plain Truth) _ _ c d e h refl, compared m.vars E (plain Truth) (plain Truth) _ _ (unique a g) u v pa qa x y)
+    unique (negate at a) g u v c d (pa, x, e) (qa, y, h) = (
+      typed (plain Truth) (plain Truth) _ _ c d e h refl,
+      compared m.vars E (plain Truth) (plain Truth) _ _ (unique a g) u v pa qa x y,
+    )
     unique (new at k) g u v c d (s, p, i, x, e) (s', q, j, y, h) =
         let same : s ≡ s' = same_Some s s' (sym p ∙ q) in
         (typed _ _ none none c d e h (λ i. type.pair (same i) (dual (same i))), x ∙ sym y)
@@ -176,7 +192,8 @@ module _ (m : Surroundings) (E : Tree → Tree → Type 0) where
     unique (match_with at a bs) g u v c d (pa, ls, t, ds, x, i, l, e) (qa, ls', t', ds', y, i', l', h) =
         let fa = over m.vars _ _ (unique a g) in
         let ta = (fa x.left y.left pa qa x.first y.first).0 in
-        let arms = λ (r o : Vars) (p : Arms m (comparing E) (rest (type_of pa)) bs g r t ds) (q : Arms m (comparing E) (rest (type_of qa)) bs g o t' ds').
+        let arms = λ (r o : Vars) (p : Arms m (comparing E) (rest (type_of pa)) bs g r t ds)
+        (q : Arms m (comparing E) (rest (type_of qa)) bs g o t' ds').
         unique_arms (rest (type_of pa)) (rest (type_of qa)) (ap rest ta) bs g r o t t' ds ds' p q in (
           typed _ _ _ _ c d e h (arms x.right y.right x.second y.second).0,
           both _ _ _ _ (λ r o p q. (fa r o pa qa p q).1) (λ r o p q. (arms r o p q).1) u v x y,
@@ -191,18 +208,22 @@ module _ (m : Surroundings) (E : Tree → Tree → Type 0) where
           both _ _ _ _ (λ n o p q. (fa n o pa qa p q).1) (λ n o p q. (fb n o pb qb p q).1) u v x y,
         )
 
-    unique_fields : (es : CoreList) (ts ts' : List Tree) (g : List Variable) (u v : Vars) (ds ds' : Derivs) → Fields m (comparing E) es ts g u ds → Fields m (comparing E) es ts' g v ds' → u ≡ v
+    unique_fields : (es : CoreList) (ts ts' : List Tree) (g : List Variable) (u v : Vars) (ds ds' : Derivs) →
+        Fields m (comparing E) es ts g u ds → Fields m (comparing E) es ts' g v ds' → u ≡ v
     unique_fields no_terms [] [] g u v ds ds' x y = x.0 ∙ sym y.0
     unique_fields no_terms [] (t ∷ ts) g u v ds ds' x y = absurd y
     unique_fields no_terms (t ∷ ts) ts' g u v ds ds' x y = absurd x
     unique_fields (term e es) [] ts' g u v ds ds' x y = absurd x
     unique_fields (term e es) (t ∷ ts) [] g u v ds ds' x y = absurd y
     unique_fields (term e es) (t ∷ ts) (t' ∷ ts') g u v ds ds' (c, rs, x, p) (d, rs', y, q) =
-        both _ _ _ _ (λ n o p q. compared m.vars E t t' _ _ (unique e g) n o c d p q) (λ n o p q. unique_fields es ts ts' g n o rs rs' p q) u v x y
+        both _ _ _ _ (λ n o p q. compared m.vars E t t' _ _ (unique e g) n o c d p q)
+        (λ n o p q. unique_fields es ts ts' g n o rs rs' p q) u v x y
 
-    unique_arms : (B B' : Binding) → B ≡ B' → (bs : CoreArms) (g : List Variable) (u v : Vars) (t t' : Tree) (ds ds' : Derivs) → Arms m (comparing E) B bs g u t ds → Arms m (comparing E) B' bs g v t' ds' → (t ≡ t') × (u ≡ v)
+    unique_arms : (B B' : Binding) → B ≡ B' → (bs : CoreArms) (g : List Variable) (u v : Vars) (t t' : Tree) (ds ds' : Derivs) →
+        Arms m (comparing E) B bs g u t ds → Arms m (comparing E) B' bs g v t' ds' → (t ≡ t') × (u ≡ v)
     unique_arms B B' f no_arms g u v t t' ds ds' x y = absurd x
-    unique_arms B B' f (arm l xs e bs) g u v t t' ds ds' (ts, vs, c, rs, b, w, z, n, x, p, more, q) (ts', vs', d, rs', b', w', z', n', y, p', more', q') =
+    unique_arms B B' f (arm l xs e bs) g u v t t' ds ds' (ts, vs, c, rs, b, w, z, n, x, p, more, q)
+        (ts', vs', d, rs', b', w', z', n', y, p', more', q') =
         let types : ts ≡ ts' = one_bound m B B' f l ts ts' b b' in
         let variables : vs ≡ vs' = same_variables m.vars ts ts' vs vs' types w w' in
         let x' = subst (λ z. Part e (enter_all z g) (under_all z u) c) variables x in

@@ -20,7 +20,13 @@ use Rattle.fst_derivations.specs.Rules.{Surroundings, Mode, Converted, convertin
 
 -- what the terms of an equation speak of, in a module
 abbrev pub surroundings : Module → List Kind → Surroundings
-surroundings m vars = record { families = m.families.items; globals = m.globals.items; types = m.types.items; vars = vars }
+surroundings m vars = record {
+  families = m.families.items;
+  globals = m.globals.items;
+  types =
+      m.types.items;
+  vars = vars;
+}
 
 -- a value of the type can be printed: a base type, a data type, or a pair of such types
 pub data IsPrintable : Tree → Type 0 where
@@ -86,7 +92,8 @@ scope_at vars false = []
 -- types that stand in an equation are well formed over the variables in scope
 abbrev pub AreStandingFormed : List Tree → List Kind → List Standing → Type 0
 AreStandingFormed types vars [] = ⊤
-AreStandingFormed types vars (p ∷ ps) = IsFormedAt types (scope_at vars p.1) p.0 × AreStandingFormed types vars ps
+AreStandingFormed types vars (p ∷ ps) = IsFormedAt types (scope_at vars p.1) p.0 ×
+    AreStandingFormed types vars ps
 
 -- fields have well-formed types, over no variables
 abbrev pub AreFieldsFormed : List Tree → List ℕ → Type 0
@@ -107,7 +114,8 @@ AreFamiliesFormed types (f ∷ fs) = AreMakersFormed types f.makers.items × Are
 abbrev pub AreGlobalsFormed : List Tree → List GlobalEntry → Type 0
 AreGlobalsFormed types [] = ⊤
 AreGlobalsFormed types (g ∷ gs) =
-    IsFormedAt types g.kinds.items g.signature × AreStandingFormed types g.kinds.items (types_in g.body) × AreGlobalsFormed types gs
+    IsFormedAt types g.kinds.items g.signature ×
+    AreStandingFormed types g.kinds.items (types_in g.body) × AreGlobalsFormed types gs
 
 -- the numbers of the types that stand in globals
 abbrev pub global_types : List GlobalEntry → List ℕ
@@ -128,26 +136,32 @@ family_types (f ∷ fs) = maker_types f.makers.items ++ family_types fs
 pub record AreTypesFormed (m : Module) : Type 0 where
   pub families : AreFamiliesFormed m.types.items m.families.items
   pub globals : AreGlobalsFormed m.types.items m.globals.items
-  pub others : (k : ℕ) → k < length m.types.items → (Contains (global_types m.globals.items ++ family_types m.families.items) k → ⊥) → IsFormedAt m.types.items [] k
+  pub others : (k : ℕ) → k < length m.types.items →
+      (Contains (global_types m.globals.items ++ family_types m.families.items) k → ⊥) →
+      IsFormedAt m.types.items [] k
 
 -- each field's type is printable
 abbrev pub ArePrintable : List Tree → List ℕ → Type 0
 ArePrintable types [] = ⊤
-ArePrintable types (k ∷ ks) = ((t : Tree) × (slice_get types k ≡ Some t) × IsPrintable t) × ArePrintable types ks
+ArePrintable types (k ∷ ks) = ((t : Tree) × (slice_get types k ≡ Some t) × IsPrintable t) ×
+    ArePrintable types ks
 
 -- each constructor's fields are printable
 abbrev pub HavePrintableFields : List Tree → List Maker → Type 0
 HavePrintableFields types [] = ⊤
-HavePrintableFields types (o ∷ os) = ArePrintable types o.fields.items × HavePrintableFields types os
+HavePrintableFields types (o ∷ os) = ArePrintable types o.fields.items ×
+    HavePrintableFields types os
 
 -- each data type's fields are printable
 abbrev pub AreFamiliesPrintable : List Tree → List Family → Type 0
 AreFamiliesPrintable types [] = ⊤
-AreFamiliesPrintable types (f ∷ fs) = HavePrintableFields types f.makers.items × AreFamiliesPrintable types fs
+AreFamiliesPrintable types (f ∷ fs) = HavePrintableFields types f.makers.items ×
+    AreFamiliesPrintable types fs
 
 -- a global has no type variables and a printable type
 abbrev pub IsMain : List Tree → GlobalEntry → Type 0
-IsMain types g = (g.kinds.items ≡ []) × ((t : Tree) × (slice_get types g.signature ≡ Some t) × IsPrintable t)
+IsMain types g = (g.kinds.items ≡ []) ×
+    ((t : Tree) × (slice_get types g.signature ≡ Some t) × IsPrintable t)
 
 -- the global named main has no type variables and a printable type
 abbrev pub HasMain : List Tree → List GlobalEntry → Type 0
@@ -156,7 +170,8 @@ HasMain types (g ∷ gs) = (bytes_eq g.name (codes "main") ≡ true → IsMain t
 
 -- a function at the place of its variable, where the wanted type is that of functions of its use and its type: it stands for a
 -- parameter of an equation
-pub record IsParameter (types : List Tree) (at : ℕ) (uses : Use) (k : ℕ) (x : Binder) (t : Tree) : Type 0 where
+pub record IsParameter (types : List Tree) (at : ℕ) (uses : Use) (k : ℕ) (x : Binder)
+    (t : Tree) : Type 0 where
   pub from : Tree
   pub to : Tree
   pub place : at ≡ x.at
@@ -165,26 +180,33 @@ pub record IsParameter (types : List Tree) (at : ℕ) (uses : Use) (k : ℕ) (x 
 
 -- at this type the term has no parameter of an equation in front
 abbrev pub HasNoParameter : List Tree → CoreTree → Tree → Type 0
-HasNoParameter types e t = (at k : ℕ) (uses : Use) (x : Binder) (b : CoreTree) → e ≡ lambda at uses k x b → IsParameter types at uses k x t → ⊥
+HasNoParameter types e t = (at k : ℕ) (uses : Use) (x : Binder) (b : CoreTree) →
+    e ≡ lambda at uses k x b → IsParameter types at uses k x t → ⊥
 
 -- the derivation of an equation at the type of its signature
-pub data Equation (m : Surroundings) (S : Mode) : CoreTree → Tree → List Variable → Vars → Deriv → Type 0 where
+pub data Equation (m : Surroundings) (S : Mode) : CoreTree → Tree → List Variable → Vars → Deriv →
+    Type 0 where
   -- a parameter's function has just that type's arrow, and under it the equation goes on
-  parameter : {at k : ℕ} {uses n : Use} {x : Binder} {e : CoreTree} {t : Tree} {g : List Variable} {u : Vars} {d : Deriv} →
-      (p : IsParameter m.types at uses k x t) → HasUse m.vars p.from n → S.bound p.from → (uses ≡ Many → u ≡ no_vars) →
-      Equation m S e p.to (record { type = p.from; uses = n } ∷ g) (under (is_once n) u) d → Equation m S (lambda at uses k x e) t g u (row t (one d))
+  parameter : {at k : ℕ} {uses n : Use} {x : Binder} {e : CoreTree} {t : Tree} {g : List Variable}
+      {u : Vars} {d : Deriv} →
+      (p : IsParameter m.types at uses k x t) → HasUse m.vars p.from n → S.bound p.from →
+      (uses ≡ Many → u ≡ no_vars) →
+      Equation m S e p.to (record { type = p.from; uses = n } ∷ g) (under (is_once n) u) d →
+      Equation m S (lambda at uses k x e) t g u (row t (one d))
   -- the term under all parameters is compared with the result
   result : {e : CoreTree} {t : Tree} {g : List Variable} {u : Vars} {d : Deriv} →
       HasNoParameter m.types e t → At m.vars t S.compared (Row m S e g) u d → Equation m S e t g u d
 
 -- each equation has its derivation at its signature, with conversions of types that E relates over its variables
-abbrev pub AreDerived : Module → (List Kind → Tree → Tree → Type 0) → List GlobalEntry → List Deriv → Type 0
+abbrev pub AreDerived : Module → (List Kind → Tree → Tree → Type 0) → List GlobalEntry →
+    List Deriv → Type 0
 AreDerived m E [] [] = ⊤
 AreDerived m E [] (d ∷ ds) = ⊥
 AreDerived m E (g ∷ gs) [] = ⊥
 AreDerived m E (g ∷ gs) (d ∷ ds) =
     ((t : Tree) × (slice_get m.types.items g.signature ≡ Some t) ×
-    At g.kinds.items t (Converted (E g.kinds.items)) (Row (surroundings m g.kinds.items) (converting (E g.kinds.items)) g.body []) no_vars d) ×
+    At g.kinds.items t (Converted (E g.kinds.items))
+    (Row (surroundings m g.kinds.items) (converting (E g.kinds.items)) g.body []) no_vars d) ×
     AreDerived m E gs ds
 
 -- the same by plain derivations, over the variables of each equation as S says
@@ -193,7 +215,8 @@ ArePlainlyDerived m S [] [] = ⊤
 ArePlainlyDerived m S [] (d ∷ ds) = ⊥
 ArePlainlyDerived m S (g ∷ gs) [] = ⊥
 ArePlainlyDerived m S (g ∷ gs) (d ∷ ds) =
-    ((t : Tree) × (slice_get m.types.items g.signature ≡ Some t) × Equation (surroundings m g.kinds.items) (S g.kinds.items) g.body t [] no_vars d) ×
+    ((t : Tree) × (slice_get m.types.items g.signature ≡ Some t) ×
+    Equation (surroundings m g.kinds.items) (S g.kinds.items) g.body t [] no_vars d) ×
     ArePlainlyDerived m S gs ds
 
 -- the module has these derivations: its types are well formed, fields and main's type are printable, and each equation has its

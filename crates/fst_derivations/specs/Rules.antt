@@ -37,7 +37,8 @@ pub record Surroundings : Type 0 where
 -- d stands for the same term as the row c, with conversions on top
 pub data Converted (E : Tree → Tree → Type 0) : Deriv → Deriv → Type 0 where
   itself : {d c : Deriv} → d ≡ c → Converted E d c
-  turned : {s t : Tree} {d c : Deriv} → E s t → type_of d ≡ s → Converted E d c → Converted E (convert s t d) c
+  turned : {s t : Tree} {d c : Deriv} → E s t → type_of d ≡ s → Converted E d c →
+      Converted E (convert s t d) c
 
 -- the same with no conversion
 abbrev pub Bare : Deriv → Deriv → Type 0
@@ -64,17 +65,24 @@ comparing E = record { kept = Bare; compared = Compared E; bound = λ t. ⊤ }
 
 -- the same, where each type of a term and of a variable that is bound has L
 abbrev pub within : (L : Tree → Type 0) (E : Tree → Tree → Type 0) → Mode
-within L E = record { kept = λ d c. Bare d c × L (type_of c); compared = λ d c. Compared E d c × L (type_of c); bound = L }
+within L E = record {
+  kept = λ d c. Bare d c × L (type_of c);
+  compared =
+      λ d c. Compared E d c × L (type_of c);
+  bound = L;
+}
 
 -- a derivation of a part: a row by the part's rule with a well-formed type, below conversions
-pub record Over (vars : List Kind) (R : Deriv → Deriv → Type 0) (P : Vars → Deriv → Type 0) (u : Vars) (d : Deriv) : Type 0 where
+pub record Over (vars : List Kind) (R : Deriv → Deriv → Type 0) (P : Vars → Deriv → Type 0)
+    (u : Vars) (d : Deriv) : Type 0 where
   pub core : Deriv
   pub stands : R d core
   pub rule : P u core
   pub formed : IsFormed vars (type_of core)
 
 -- a derivation of a part at the type that is wanted of it
-pub record At (vars : List Kind) (t : Tree) (R : Deriv → Deriv → Type 0) (P : Vars → Deriv → Type 0) (u : Vars) (d : Deriv) : Type 0 where
+pub record At (vars : List Kind) (t : Tree) (R : Deriv → Deriv → Type 0) (P : Vars → Deriv → Type 0)
+    (u : Vars) (d : Deriv) : Type 0 where
   pub core : Deriv
   pub stands : R d core
   pub rule : P u core
@@ -102,17 +110,21 @@ pub data Binding : Type 0 where
 
 -- the types of the variables that the arm of a constructor or of a label binds
 abbrev pub Binds : Surroundings → Binding → List ℕ → List Tree → Type 0
-Binds m (fields makers) l ts = (c : Maker) × (maker_named l makers ≡ Some c) × AreAt m.types c.fields.items ts
+Binds m (fields makers) l ts = (c : Maker) ×
+    (maker_named l makers ≡ Some c) × AreAt m.types c.fields.items ts
 Binds m (rest s) l ts = (t : Tree) × (step s (Offer l) ≡ Some t) × (ts ≡ t ∷ [])
 
 abbrev mutual
   -- the row c follows the rule of the term, with variables of these types in scope, of which it has the linear ones in u;
   -- and its parts and what it binds are as S says
   pub Row : Surroundings → Mode → CoreTree → List Variable → Vars → Deriv → Type 0
-  Row m S (local at k) g u c = (v : Variable) × (slice_get g k ≡ Some v) × (u ≡ single (is_once v.uses) k) × (c ≡ row v.type none)
+  Row m S (local at k) g u c = (v : Variable) × (slice_get g k ≡ Some v) ×
+      (u ≡ single (is_once v.uses) k) × (c ≡ row v.type none)
   Row m S (global at k ks) g u c =
       (f : GlobalEntry) × (t : Tree) × (args : List Tree) ×
-      (slice_get m.globals k ≡ Some f) × (slice_get m.types f.signature ≡ Some t) × AreAt m.types ks args × IsInstantiation m.vars f.kinds.items args ×
+      (slice_get m.globals k ≡ Some f) ×
+      (slice_get m.types f.signature ≡ Some t) × AreAt m.types ks args ×
+      IsInstantiation m.vars f.kinds.items args ×
       (u ≡ no_vars) × (c ≡ row (instantiated args t) none)
   Row m S (int at n) g u c = (u ≡ no_vars) × (c ≡ row (plain Int) none)
   Row m S (bool at b) g u c = (u ≡ no_vars) × (c ≡ row (plain Truth) none)
@@ -120,11 +132,13 @@ abbrev mutual
   Row m S (unit at) g u c = (u ≡ no_vars) × (c ≡ row (plain Nothing) none)
   Row m S (pair at e f) g u c =
       (d : Deriv) × (h : Deriv) ×
-      Both (λ v. Over m.vars S.kept (Row m S e g) v d) (λ w. Over m.vars S.kept (Row m S f g) w h) u ×
+      Both (λ v. Over m.vars S.kept (Row m S e g) v d)
+      (λ w. Over m.vars S.kept (Row m S f g) w h) u ×
       (c ≡ row (type.pair (type_of d) (type_of h)) (two d h))
   Row m S (make at n k es) g u c =
       (o : Maker) × (ts : List Tree) × (ds : Derivs) ×
-      (maker_of (slice_get m.families n) k ≡ Some o) × AreAt m.types o.fields.items ts × Fields m S es ts g u ds ×
+      (maker_of (slice_get m.families n) k ≡ Some o) × AreAt m.types o.fields.items ts ×
+      Fields m S es ts g u ds ×
       (c ≡ row (named n) ds)
   Row m S (lambda at uses k x e) g u c =
       (t : Tree) × (n : Use) × (d : Deriv) ×
@@ -133,51 +147,68 @@ abbrev mutual
       (c ≡ row (arrow uses t (type_of d)) (one d))
   Row m S (apply at e f) g u c =
       (d : Deriv) × (h : Deriv) × (uses : Use) × (s : Tree) × (t : Tree) ×
-      Both (λ v. Over m.vars S.kept (Row m S e g) v d) (λ w. At m.vars s S.compared (Row m S f g) w h) u ×
+      Both (λ v. Over m.vars S.kept (Row m S e g) v d)
+      (λ w. At m.vars s S.compared (Row m S f g) w h) u ×
       (type_of d ≡ arrow uses s t) × (c ≡ row t (two d h))
   Row m S (let_in at x e f) g u c =
       (d : Deriv) × (h : Deriv) × (n : Use) ×
       Both (λ v. Over m.vars S.kept (Row m S e g) v d)
-      (λ w. Over m.vars S.kept (Row m S f (record { type = type_of d; uses = n } ∷ g)) (under (is_once n) w) h) u ×
+      (λ w. Over m.vars S.kept (Row m S f (record { type = type_of d; uses = n } ∷ g))
+      (under (is_once n) w) h) u ×
       HasUse m.vars (type_of d) n × (c ≡ row (type_of h) (two d h))
   Row m S (split at x y e f) g u c =
       (d : Deriv) × (h : Deriv) × (s : Tree) × (t : Tree) × (n : Use) × (o : Use) ×
       Both (λ v. Over m.vars S.kept (Row m S e g) v d)
-      (λ w. Over m.vars S.kept (Row m S f (record { type = t; uses = o } ∷ record { type = s; uses = n } ∷ g)) (under (is_once o) (under (is_once n) w)) h) u ×
-      (type_of d ≡ type.pair s t) × HasUse m.vars s n × HasUse m.vars t o × (c ≡ row (type_of h) (two d h))
+      (λ w. Over m.vars S.kept (Row m S f
+      (record { type = t; uses = o } ∷ record { type = s; uses = n } ∷ g))
+      (under (is_once o) (under (is_once n) w)) h) u ×
+      (type_of d ≡ type.pair s t) × HasUse m.vars s n × HasUse m.vars t o ×
+      (c ≡ row (type_of h) (two d h))
   Row m S (if_else at e f h) g u c =
       (d : Deriv) × (k : Deriv) × (l : Deriv) ×
       Both (λ v. At m.vars (plain Truth) S.compared (Row m S e g) v d)
-      (λ w. Over m.vars S.kept (Row m S f g) w k × At m.vars (type_of k) S.compared (Row m S h g) w l) u ×
+      (λ w. Over m.vars S.kept (Row m S f g) w k ×
+      At m.vars (type_of k) S.compared (Row m S h g) w l) u ×
       (c ≡ row (type_of k) (three d k l))
   Row m S (case_of at e bs) g u c =
       (d : Deriv) × (n : ℕ) × (f : Family) × (t : Tree) × (ds : Derivs) ×
-      Both (λ v. Over m.vars S.kept (Row m S e g) v d) (λ w. Arms m S (fields f.makers.items) bs g w t ds) u ×
-      (type_of d ≡ named n) × (slice_get m.families n ≡ Some f) × AreEachOnce (map (λ o. o.name) f.makers.items) (arm_labels bs) ×
+      Both (λ v. Over m.vars S.kept (Row m S e g) v d)
+      (λ w. Arms m S (fields f.makers.items) bs g w t ds) u ×
+      (type_of d ≡ named n) × (slice_get m.families n ≡ Some f) ×
+      AreEachOnce (map (λ o. o.name) f.makers.items) (arm_labels bs) ×
       (c ≡ row t (part d ds))
   Row m S (operate at o e f) g u c =
       (d : Deriv) × (h : Deriv) × (s : Tree) × (t : Tree) × Operates o s t ×
-      Both (λ v. At m.vars s S.compared (Row m S e g) v d) (λ w. At m.vars s S.compared (Row m S f g) w h) u ×
+      Both (λ v. At m.vars s S.compared (Row m S e g) v d)
+      (λ w. At m.vars s S.compared (Row m S f g) w h) u ×
       (c ≡ row t (two d h))
-  Row m S (negate at e) g u c = (d : Deriv) × At m.vars (plain Truth) S.compared (Row m S e g) u d × (c ≡ row (plain Truth) (one d))
-  Row m S (new at k) g u c = (s : Tree) × (slice_get m.types k ≡ Some s) × IsSession [] s × (u ≡ no_vars) × (c ≡ row (type.pair s (dual s)) none)
+  Row m S (negate at e) g u c = (d : Deriv) × At m.vars (plain Truth) S.compared (Row m S e g) u d ×
+      (c ≡ row (plain Truth) (one d))
+  Row m S (new at k) g u c = (s : Tree) × (slice_get m.types k ≡ Some s) × IsSession [] s ×
+      (u ≡ no_vars) × (c ≡ row (type.pair s (dual s)) none)
   Row m S (send at e f) g u c =
       (d : Deriv) × (h : Deriv) × (b : Base) × (t : Tree) ×
-      Both (λ v. Over m.vars S.kept (Row m S e g) v d) (λ w. Over m.vars S.kept (Row m S f g) w h) u ×
+      Both (λ v. Over m.vars S.kept (Row m S e g) v d)
+      (λ w. Over m.vars S.kept (Row m S f g) w h) u ×
       (type_of d ≡ plain b) × (step (type_of h) (Send b) ≡ Some t) × (c ≡ row t (two d h))
   Row m S (receive at e) g u c =
       (d : Deriv) × (b : Base) × (t : Tree) ×
-      Over m.vars S.kept (Row m S e g) u d × (step (type_of d) (Receive b) ≡ Some t) × (c ≡ row (type.pair (plain b) t) (one d))
+      Over m.vars S.kept (Row m S e g) u d × (step (type_of d) (Receive b) ≡ Some t) ×
+      (c ≡ row (type.pair (plain b) t) (one d))
   Row m S (select at l e) g u c =
-      (d : Deriv) × (t : Tree) × Over m.vars S.kept (Row m S e g) u d × (step (type_of d) (Select l) ≡ Some t) × (c ≡ row t (one d))
+      (d : Deriv) × (t : Tree) × Over m.vars S.kept (Row m S e g) u d ×
+      (step (type_of d) (Select l) ≡ Some t) × (c ≡ row t (one d))
   Row m S (match_with at e bs) g u c =
       (d : Deriv) × (names : List (List ℕ)) × (t : Tree) × (ds : Derivs) ×
-      Both (λ v. Over m.vars S.kept (Row m S e g) v d) (λ w. Arms m S (rest (type_of d)) bs g w t ds) u ×
+      Both (λ v. Over m.vars S.kept (Row m S e g) v d)
+      (λ w. Arms m S (rest (type_of d)) bs g w t ds) u ×
       IsOffering (type_of d) names × AreEachOnce names (arm_labels bs) × (c ≡ row t (part d ds))
-  Row m S (fork at e) g u c = (d : Deriv) × Over m.vars S.kept (Row m S e g) u d × HasUse m.vars (type_of d) Many × (c ≡ row (plain Nothing) (one d))
+  Row m S (fork at e) g u c = (d : Deriv) × Over m.vars S.kept (Row m S e g) u d ×
+      HasUse m.vars (type_of d) Many × (c ≡ row (plain Nothing) (one d))
   Row m S (seq at e f) g u c =
       (d : Deriv) × (h : Deriv) ×
-      Both (λ v. Over m.vars S.kept (Row m S e g) v d) (λ w. Over m.vars S.kept (Row m S f g) w h) u ×
+      Both (λ v. Over m.vars S.kept (Row m S e g) v d)
+      (λ w. Over m.vars S.kept (Row m S f g) w h) u ×
       HasUse m.vars (type_of d) Many × (c ≡ row (type_of h) (two d h))
 
   -- derivations of a constructor's arguments, each at its field's type
@@ -192,25 +223,33 @@ abbrev mutual
 
   -- derivations of arms, whose variables hold what B says, all with the same linear variables
   -- from outside: the first arm gives its type
-  pub Arms : Surroundings → Mode → Binding → CoreArms → List Variable → Vars → Tree → Derivs → Type 0
+  pub Arms : Surroundings → Mode → Binding → CoreArms → List Variable → Vars → Tree → Derivs →
+      Type 0
   Arms m S B no_arms g u t ds = ⊥
   Arms m S B (arm l xs e bs) g u t ds =
       (ts : List Tree) × (vs : List Variable) × (d : Deriv) × (more : Derivs) ×
-      Binds m B l ts × AreVariables m.vars ts vs × AllByRecursion S.bound ts × (length xs ≡ length vs) × Over m.vars S.kept (Row m S e (enter_all vs g)) (under_all vs u) d × (type_of d ≡ t) ×
+      Binds m B l ts × AreVariables m.vars ts vs × AllByRecursion S.bound ts ×
+      (length xs ≡ length vs) × Over m.vars S.kept (Row m S e (enter_all vs g))
+      (under_all vs u) d × (type_of d ≡ t) ×
       FurtherArms m S B bs g u t more × (ds ≡ part d more)
 
   -- and the type of each further one is compared with it
-  pub FurtherArms : Surroundings → Mode → Binding → CoreArms → List Variable → Vars → Tree → Derivs → Type 0
+  pub FurtherArms : Surroundings → Mode → Binding → CoreArms → List Variable → Vars → Tree →
+      Derivs → Type 0
   FurtherArms m S B no_arms g u t ds = ds ≡ none
   FurtherArms m S B (arm l xs e bs) g u t ds =
       (ts : List Tree) × (vs : List Variable) × (d : Deriv) × (more : Derivs) ×
-      Binds m B l ts × AreVariables m.vars ts vs × AllByRecursion S.bound ts × (length xs ≡ length vs) × At m.vars t S.compared (Row m S e (enter_all vs g)) (under_all vs u) d ×
+      Binds m B l ts × AreVariables m.vars ts vs × AllByRecursion S.bound ts ×
+      (length xs ≡ length vs) × At m.vars t S.compared (Row m S e (enter_all vs g))
+      (under_all vs u) d ×
       FurtherArms m S B bs g u t more × (ds ≡ part d more)
 
 -- a derivation of the term: conversions of types that E relates may stand at each term
-abbrev pub Derives : Surroundings → (E : Tree → Tree → Type 0) → CoreTree → List Variable → Vars → Deriv → Type 0
+abbrev pub Derives : Surroundings →
+    (E : Tree → Tree → Type 0) → CoreTree → List Variable → Vars → Deriv → Type 0
 Derives m E e g u d = Over m.vars (Converted E) (Row m (converting E) e g) u d
 
 -- a row of a plain derivation: conversions stand just where types are compared
-abbrev pub PlainRow : Surroundings → (E : Tree → Tree → Type 0) → CoreTree → List Variable → Vars → Deriv → Type 0
+abbrev pub PlainRow : Surroundings →
+    (E : Tree → Tree → Type 0) → CoreTree → List Variable → Vars → Deriv → Type 0
 PlainRow m E e g u d = Row m (comparing E) e g u d

@@ -22,39 +22,55 @@ use Rattle.fst_equiv.proofs.LeastLaws.{one_no, not_yes_and_no}
 use Rattle.fst_equiv.proofs.ProblemLaws.{AreSame, one_problem, problem_small}
 
 -- what holds of one problem's pruned words holds of the same problem's
-moved : (P : Productions → List Bool → List ℕ → List ℕ → Type 0) (letters more : List Label) (rows rules : Productions) (u v x y : List ℕ) (marks set : List Bool) →
-    AreSame letters more rows rules u v x y marks set → P rows marks (pruned_word marks u) (pruned_word marks v) → P rules set (pruned_word set x) (pruned_word set y)
+moved : (P : Productions → List Bool → List ℕ → List ℕ → Type 0) (letters more : List Label) (rows rules : Productions)
+    (u v x y : List ℕ) (marks set : List Bool) →
+    AreSame letters more rows rules u v x y marks set → P rows marks (pruned_word marks u) (pruned_word marks v) →
+    P rules set (pruned_word set x) (pruned_word set y)
 moved P letters more rows rules u v x y marks set same h =
     subst (λ z. P rules set (pruned_word set x) (pruned_word set z)) same.right
     (subst (λ z. P rules set (pruned_word set z) (pruned_word set v)) same.left
     (subst (λ z. P rules z (pruned_word z u) (pruned_word z v)) same.unnormed
     (subst (λ z. P z marks (pruned_word marks u) (pruned_word marks v)) same.grammar h)))
 
-module _ (one : OneGrammar) (by_search : breadth.OneAnswer) (vars others : List Kind) (s r : Tree) (budget : ℕ) (left : IsSession vars s) (right : IsSession others r) where
+module _ (one : OneGrammar) (by_search : breadth.OneAnswer) (vars others : List Kind) (s r : Tree) (budget : ℕ)
+    (left : IsSession vars s) (right : IsSession others r) where
   -- all pairs of two types are within the budget, or there are more
-  not_yes_and_undecided : (letters more : List Label) (rows rules : Productions) (x y : List ℕ) (pairs visited : List SharedPair) →
+  not_yes_and_undecided : (letters more : List Label) (rows rules : Productions) (x y : List ℕ)
+      (pairs visited : List SharedPair) →
       IsShownEqual s r budget letters rows x y pairs → IsShownSpent s r budget more rules visited → ⊥
   not_yes_and_undecided letters more rows rules x y pairs visited e p =
-      let same = one_problem one vars others s r left right more letters rules rows p.u p.v e.u e.v p.marks e.marks p.problem e.problem in
-      let all = subst (λ z. IsEqual rows e.marks z (pruned_word e.marks e.v) budget pairs) e.left (subst (λ z. IsEqual rows e.marks x z budget pairs) e.right e.all) in
-      let more_pairs = moved (λ rows marks x y. IsBudgetSpent rows marks x y budget visited) more letters rules rows p.u p.v e.u e.v p.marks e.marks same p.first in
-      cc (by_search rows e.marks more (pruned_word e.marks e.u) (pruned_word e.marks e.v) budget (equal pairs) (spent visited) all more_pairs)
+      let same = one_problem one vars others s r left right more letters rules rows p.u p.v e.u e.v p.marks e.marks p.problem
+      e.problem in
+      let all = subst (λ z. IsEqual rows e.marks z (pruned_word e.marks e.v) budget pairs) e.left
+      (subst (λ z. IsEqual rows e.marks x z budget pairs) e.right e.all) in
+      let more_pairs = moved (λ rows marks x y. IsBudgetSpent rows marks x y budget visited) more letters rules rows p.u p.v e.u
+      e.v p.marks e.marks same p.first in
+      cc (by_search rows e.marks more (pruned_word e.marks e.u) (pruned_word e.marks e.v) budget (equal pairs)
+      (spent visited) all more_pairs)
 
   -- the cuts that two types' words lead to are good at the budget, or they aren't
-  not_proved_and_undecided : (letters more : List Label) (rows rules : Productions) (x y : List ℕ) (basis : List Pair) (chains : List Chain) (visited : List SharedPair) →
+  not_proved_and_undecided : (letters more : List Label) (rows rules : Productions) (x y : List ℕ) (basis : List Pair)
+      (chains : List Chain) (visited : List SharedPair) →
       IsProvedEqual s r budget letters rows x y basis chains → IsShownSpent s r budget more rules visited → ⊥
   not_proved_and_undecided letters more rows rules x y basis chains visited e p =
-      let same = one_problem one vars others s r left right letters more rows rules e.u e.v p.u p.v e.marks p.marks e.problem p.problem in
-      let good = subst (λ z. IsGood rows e.marks z (pruned_word e.marks e.v) budget) e.left (subst (λ z. IsGood rows e.marks x z budget) e.right e.good.0) in
-      p.no_basis (moved (λ rows marks x y. IsGood rows marks x y budget) letters more rows rules e.u e.v p.u p.v e.marks p.marks same good)
+      let same = one_problem one vars others s r left right letters more rows rules e.u e.v p.u p.v e.marks p.marks e.problem
+      p.problem in
+      let good = subst (λ z. IsGood rows e.marks z (pruned_word e.marks e.v) budget) e.left
+      (subst (λ z. IsGood rows e.marks x z budget) e.right e.good.0) in
+      p.no_basis (moved (λ rows marks x y. IsGood rows marks x y budget) letters more rows rules e.u e.v p.u p.v e.marks p.marks
+      same good)
 
   -- one of the first pairs of two types shows a difference, or none does
-  not_no_and_undecided : (trace : List Label) (side : Side) (more : List Label) (rules : Productions) (visited : List SharedPair) →
+  not_no_and_undecided : (trace : List Label) (side : Side) (more : List Label) (rules : Productions)
+      (visited : List SharedPair) →
       IsShownDifferent s r budget trace side → IsShownSpent s r budget more rules visited → ⊥
   not_no_and_undecided trace side more rules visited d p =
-      let same = one_problem one vars others s r left right more d.letters rules d.rows p.u p.v d.u d.v p.marks d.marks p.problem d.problem in
-      let more_pairs = moved (λ rows marks x y. IsBudgetSpent rows marks x y budget visited) more d.letters rules d.rows p.u p.v d.u d.v p.marks d.marks same p.first in
-      cc (by_search d.rows d.marks d.letters (pruned_word d.marks d.u) (pruned_word d.marks d.v) budget (differ trace side) (spent visited) d.first more_pairs)
+      let same = one_problem one vars others s r left right more d.letters rules d.rows p.u p.v d.u d.v p.marks d.marks p.problem
+      d.problem in
+      let more_pairs = moved (λ rows marks x y. IsBudgetSpent rows marks x y budget visited) more d.letters rules d.rows p.u p.v
+      d.u d.v p.marks d.marks same p.first in
+      cc (by_search d.rows d.marks d.letters (pruned_word d.marks d.u) (pruned_word d.marks d.v) budget (differ trace side)
+      (spent visited) d.first more_pairs)
 
   -- types with an answer that rests on a grammar aren't too large
   yes_small : (p : Answers s r budget yes) → IsTooLarge s r → ⊥
@@ -81,7 +97,8 @@ module _ (one : OneGrammar) (by_search : breadth.OneAnswer) (vars others : List 
   -- what shows that they agree contradicts that the budget is spent
   yes_or_undecided : Answers s r budget yes → Answers s r budget undecided → ⊥
   yes_or_undecided (inl p) q = not_yes_and_undecided p.letters q.letters p.rows q.rows p.x p.y p.pairs q.pairs p.shown q.shown
-  yes_or_undecided (inr p) q = not_proved_and_undecided p.letters q.letters p.rows q.rows p.x p.y p.basis p.chains q.pairs p.shown q.shown
+  yes_or_undecided (inr p) q = not_proved_and_undecided p.letters q.letters p.rows q.rows p.x p.y p.basis p.chains q.pairs p.shown
+      q.shown
 
   -- any two answers to the question are one
   one_of : (a b : Answer) → Answers s r budget a → Answers s r budget b → a ≡ b
@@ -104,4 +121,5 @@ module _ (one : OneGrammar) (by_search : breadth.OneAnswer) (vars others : List 
 
 -- where two types have one grammar, and their words one answer within a budget, a question has one answer
 pub one_answer_by : OneGrammar → breadth.OneAnswer → OneAnswer
-one_answer_by one by_search vars others s r budget left right a b p q = one_of one by_search vars others s r budget left right a b p q
+one_answer_by one by_search vars others s r budget left right a b p q =
+    one_of one by_search vars others s r budget left right a b p q

@@ -24,14 +24,16 @@ use Rattle.fst_lts.proofs.Laws.{steps_are_moves}
 use Rattle.fst_equiv.specs.Comparison.{is_part}
 
 -- the parts of a well-formed function are well formed
-pub function_parts : (vars : List Kind) (u : Use) (s r : Tree) (k : Kind) → IsWellFormed vars (arrow u s r) k → ((i : Kind) × IsWellFormed vars s i) × ((j : Kind) × IsWellFormed vars r j)
+pub function_parts : (vars : List Kind) (u : Use) (s r : Tree) (k : Kind) → IsWellFormed vars (arrow u s r) k →
+    ((i : Kind) × IsWellFormed vars s i) × ((j : Kind) × IsWellFormed vars r j)
 function_parts vars u s r k w = (
   (w.kinded.0.0, record { kinded = w.kinded.0.1; contractive = w.contractive.0; scoped = w.scoped.0; ordered = w.ordered.0 }),
   (w.kinded.1.0, record { kinded = w.kinded.1.1; contractive = w.contractive.1; scoped = w.scoped.1; ordered = w.ordered.1 }),
 )
 
 -- so are those of a pair
-pub pair_parts : (vars : List Kind) (s r : Tree) (k : Kind) → IsWellFormed vars (pair s r) k → ((i : Kind) × IsWellFormed vars s i) × ((j : Kind) × IsWellFormed vars r j)
+pub pair_parts : (vars : List Kind) (s r : Tree) (k : Kind) → IsWellFormed vars (pair s r) k →
+    ((i : Kind) × IsWellFormed vars s i) × ((j : Kind) × IsWellFormed vars r j)
 pair_parts vars s r k w = (
   (w.kinded.0, record { kinded = w.kinded.2; contractive = w.contractive.0; scoped = w.scoped.0; ordered = w.ordered.0 }),
   (w.kinded.1, record { kinded = w.kinded.3; contractive = w.contractive.1; scoped = w.scoped.1; ordered = w.ordered.1 }),
@@ -53,7 +55,8 @@ session_by : (vars : List Kind) (s : Tree) (k : Kind) (u : Use) → k ≡ sessio
 session_by vars s k u e w = (u, subst (λ j. IsWellFormed vars s j) e w)
 
 -- a well-formed part is a session type, or a variable whose values need not be channels
-part_sorts : (vars : List Kind) (s : Tree) (k : Kind) → is_part s ≡ true → IsWellFormed vars s k → IsSession vars s ⊎ IsTopVariable vars s
+part_sorts : (vars : List Kind) (s : Tree) (k : Kind) → is_part s ≡ true → IsWellFormed vars s k → IsSession vars s ⊎
+    IsTopVariable vars s
 part_sorts vars skip k p w = inl (session_by vars skip k Many w.kinded w)
 part_sorts vars (send b) k p w = inl (session_by vars (send b) k Once w.kinded w)
 part_sorts vars (receive b) k p w = inl (session_by vars (receive b) k Once w.kinded w)
@@ -82,16 +85,24 @@ last_of zero = refl
 last_of (suc n) = last_of n
 
 -- a well-formed part is a session type over some list of kinds
-pub part_session : (vars : List Kind) (s : Tree) (k : Kind) → is_part s ≡ true → IsWellFormed vars s k → (others : List Kind) × IsSession others s
+pub part_session : (vars : List Kind) (s : Tree) (k : Kind) → is_part s ≡ true → IsWellFormed vars s k →
+    (others : List Kind) × IsSession others s
 part_session vars s k p w = elim (part_sorts vars s k p w) [
   | inl h ↦ (vars, h)
   | inr v ↦
-      let vars = once_each (suc v.number) in
-      (vars, (Once, subst (λ t. IsWellFormed vars t (session Once)) (sym v.is) (record { kinded = last_of v.number; contractive = tt; scoped = tt; ordered = tt })))
+      let vars = once_each (suc v.number) in (
+        vars,
+        (
+          Once,
+          subst (λ t. IsWellFormed vars t (session Once)) (sym v.is)
+              (record { kinded = last_of v.number; contractive = tt; scoped = tt; ordered = tt }),
+        ),
+      )
 ]
 
 -- a session type moves only by variables that have session kinds
-moved_variable : (vars : List Kind) {s t : Tree} {a : Label} → Moves s a t → (k : ℕ) → a ≡ Var k → (u : Use) → HasKind vars s (session u) → (v : Use) × (slice_get vars k ≡ Some (session v))
+moved_variable : (vars : List Kind) {s t : Tree} {a : Label} → Moves s a t → (k : ℕ) → a ≡ Var k →
+    (u : Use) → HasKind vars s (session u) → (v : Use) × (slice_get vars k ≡ Some (session v))
 moved_variable vars sends k e u h = absurd (cc e)
 moved_variable vars receives k e u h = absurd (cc e)
 moved_variable vars (selects b) k e u h = absurd (cc e)
@@ -128,12 +139,14 @@ one_variable n m h =
     let moved = moves_too n (var m) h in
     by_test (same_label (Var n) (Var m)) refl moved.1
   where
-    by_test : (c : Bool) → same_label (Var n) (Var m) ≡ c → (if c then Some skip else None) ≡ Some (moves_too n (var m) h).0 → n ≡ m
+    by_test : (c : Bool) → same_label (Var n) (Var m) ≡ c →
+        (if c then Some skip else None) ≡ Some (moves_too n (var m) h).0 → n ≡ m
     by_test true e is = let labels = same_label-same (Var n) (Var m) e in cc
     by_test false e is = absurd (cc is)
 
 -- well-formed parts that agree are equal
-pub parts_equal : (vars : List Kind) (s r : Tree) (j k : Kind) → is_part s ≡ true → is_part r ≡ true → IsWellFormed vars s j → IsWellFormed vars r k → Agree step step s r → IsEqual vars s r
+pub parts_equal : (vars : List Kind) (s r : Tree) (j k : Kind) → is_part s ≡ true → is_part r ≡ true → IsWellFormed vars s j →
+    IsWellFormed vars r k → Agree step step s r → IsEqual vars s r
 parts_equal vars s r j k p q ws wr h = pick (part_sorts vars s j p ws) (part_sorts vars r k q wr)
   where
     pick : IsSession vars s ⊎ IsTopVariable vars s → IsSession vars r ⊎ IsTopVariable vars r → IsEqual vars s r
@@ -141,5 +154,7 @@ parts_equal vars s r j k p q ws wr h = pick (part_sorts vars s j p ws) (part_sor
     pick (inl a) (inr v) = absurd (no_session vars r s v a (λ n. agrees_back step step n s r (h n)))
     pick (inr v) (inl b) = absurd (no_session vars s r v b h)
     pick (inr v) (inr w) =
-        let one = one_variable v.number w.number (subst (λ t. Agree step step (var v.number) t) w.is (subst (λ t. Agree step step t r) v.is h)) in
-        subst (λ t. IsEqual vars s t) (ap var one ∙ sym w.is) (subst (λ t. IsEqual vars t (var v.number)) (sym v.is) equal.variables)
+        let one = one_variable v.number w.number (subst
+        (λ t. Agree step step (var v.number) t) w.is (subst (λ t. Agree step step t r) v.is h)) in
+        subst (λ t. IsEqual vars s t) (ap var one ∙ sym w.is)
+        (subst (λ t. IsEqual vars t (var v.number)) (sym v.is) equal.variables)

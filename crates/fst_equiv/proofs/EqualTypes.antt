@@ -13,7 +13,7 @@ use Rattle.fst_lts.specs.Step.{step}
 use Rattle.fst_lts.specs.Equal as equal
 use Rattle.fst_lts.specs.Equal.{IsEqual}
 use Rattle.fst_parts.specs.Same.{same_base, same_use}
-use Rattle.fst_parts.proofs.Laws.{same_tree-same, same_tree-itself}
+use Rattle.fst_parts.proofs.Laws.{same_tree_is}
 use Rattle.fst_equiv.specs.Comparison.{is_part, Compared, asked, differing, unless_same, of_part, comparisons, IsYes, AreYes, AreEqual, IsComparison, IsDifference}
 use Rattle.fst_equiv.specs.declared.comparing.Same.{Same}
 use Rattle.fst_equiv.specs.declared.comparing.Same.TheVariants.{Yes, Shape, Word, Undecided}
@@ -40,7 +40,8 @@ yes_agree budget s r (inr (inl h)) = h.shown.agree
 yes_agree budget s r (inr (inr h)) = h.shown.agree
 
 module _ (vars : List Kind) (budget : ℕ) where
-  part_equal : (s r : Tree) (j k : Kind) → is_part s ≡ true → IsWellFormed vars s j → IsWellFormed vars r k → AreYes budget (of_part s r) → IsEqual vars s r
+  part_equal : (s r : Tree) (j k : Kind) → is_part s ≡ true → IsWellFormed vars s j → IsWellFormed vars r k →
+      AreYes budget (of_part s r) → IsEqual vars s r
   part_equal s r j k p ws wr a = by_form (is_part r) refl a
     where
       by_form : (c : Bool) → is_part r ≡ c → AreYes budget (if c then asked s r ∷ [] else differing ∷ []) → IsEqual vars s r
@@ -60,7 +61,8 @@ module _ (vars : List Kind) (budget : ℕ) where
   by_use s r x y u v false e f g h = absurd h.0
 
   -- well-formed types of which all comparisons are Yes are equal
-  types_equal : (t u : Tree) (j k : Kind) → IsWellFormed vars t j → IsWellFormed vars u k → AreYes budget (comparisons t u) → IsEqual vars t u
+  types_equal : (t u : Tree) (j k : Kind) → IsWellFormed vars t j → IsWellFormed vars u k → AreYes budget (comparisons t u) →
+      IsEqual vars t u
   types_equal skip u j k wt wu h = part_equal skip u j k refl wt wu h
   types_equal (send b) u j k wt wu h = part_equal (send b) u j k refl wt wu h
   types_equal (receive b) u j k wt wu h = part_equal (receive b) u j k refl wt wu h
@@ -71,7 +73,8 @@ module _ (vars : List Kind) (budget : ℕ) where
   types_equal (back n) u j k wt wu h = part_equal (back n) u j k refl wt wu h
   types_equal (var n) u j k wt wu h = part_equal (var n) u j k refl wt wu h
   types_equal (plain b) (plain c) j k wt wu h =
-      by_test (same_base b c) (λ e. subst (λ t. IsEqual vars (plain b) t) (same_tree-same (plain b) (plain c) e) equal.base_types) h
+      by_test (same_base b c) (λ e. subst (λ t. IsEqual vars (plain b) t) ((same_tree_is (plain b) (plain c)).0 e) equal.base_types)
+      h
   types_equal (plain b) u j k wt wu h = absurd h.0
   types_equal (arrow a s r) (arrow b x y) j k wt wu h =
       let p = function_parts vars a s r j wt in
@@ -85,7 +88,7 @@ module _ (vars : List Kind) (budget : ℕ) where
       equal.pairs (types_equal s x p.0.0 q.0.0 p.0.1 q.0.1 both.0) (types_equal r y p.1.0 q.1.0 p.1.1 q.1.1 both.1)
   types_equal (pair s r) u j k wt wu h = absurd h.0
   types_equal (named n) (named m) j k wt wu h =
-      by_test (nat_eq n m) (λ e. subst (λ t. IsEqual vars (named n) t) (same_tree-same (named n) (named m) e) equal.data_types) h
+      by_test (nat_eq n m) (λ e. subst (λ t. IsEqual vars (named n) t) ((same_tree_is (named n) (named m)).0 e) equal.data_types) h
   types_equal (named n) u j k wt wu h = absurd h.0
 
 -- types of which all comparisons are Yes are equal
@@ -93,7 +96,8 @@ pub comparison_equal : (t u : Tree) (budget : ℕ) → AreYes budget (comparison
 comparison_equal t u budget h = λ vars j k wt wu. types_equal vars budget t u j k wt wu h
 
 -- so are those that are found to be Yes
-pub found_equal : (t u : Tree) (budget : ℕ) (r : Result Same EquivFault) → IfOk r (λ a. IsComparison t u budget a) → IfOk r (λ a. a ≡ Yes → AreEqual t u)
+pub found_equal : (t u : Tree) (budget : ℕ) (r : Result Same EquivFault) → IfOk r (λ a. IsComparison t u budget a) → IfOk r
+    (λ a. a ≡ Yes → AreEqual t u)
 found_equal t u budget (Ok a) h = λ e. comparison_equal t u budget (subst (λ b. IsComparison t u budget b) e h)
 found_equal t u budget (Err f) h = tt
 
@@ -138,14 +142,17 @@ equal_agree : (vars : List Kind) {t u : Tree} → IsEqual vars t u → AllAgree 
 equal_agree vars (equal.sessions {s} {r} ws wr h) =
     subst AllAgree (sym (two_parts s r (session_part vars s ws) (session_part vars r wr))) (h, tt)
 equal_agree vars (equal.variables {k}) = (λ n. agrees_itself step n (var k), tt)
-equal_agree vars (equal.base_types {b}) = subst (λ c. AllAgree (unless_same c)) (sym (same_tree-itself (plain b))) tt
-equal_agree vars (equal.data_types {k}) = subst (λ c. AllAgree (unless_same c)) (sym (same_tree-itself (named k))) tt
+equal_agree vars (equal.base_types {b}) = subst (λ c. AllAgree (unless_same c)) (sym ((same_tree_is (plain b) (plain b)).1 refl)) tt
+equal_agree vars (equal.data_types {k}) = subst (λ c. AllAgree (unless_same c)) (sym ((same_tree_is (named k) (named k)).1 refl)) tt
 equal_agree vars (equal.functions {u} {s} {r} {t} {v} a b) =
-    subst (λ c. AllAgree (if c then comparisons s t ++ comparisons r v else differing ∷ [])) (sym (use_itself u)) (agree_all (comparisons s t) (comparisons r v) (equal_agree vars a) (equal_agree vars b))
-equal_agree vars (equal.pairs {s} {r} {t} {v} a b) = agree_all (comparisons s t) (comparisons r v) (equal_agree vars a) (equal_agree vars b)
+    subst (λ c. AllAgree (if c then comparisons s t ++ comparisons r v else differing ∷ [])) (sym (use_itself u))
+    (agree_all (comparisons s t) (comparisons r v) (equal_agree vars a) (equal_agree vars b))
+equal_agree vars (equal.pairs {s} {r} {t} {v} a b) =
+    agree_all (comparisons s t) (comparisons r v) (equal_agree vars a) (equal_agree vars b)
 
 -- what decides two equal types is no difference
-pub no_difference : (vars : List Kind) (t u : Tree) (budget : ℕ) (a : Same) → IsComparison t u budget a → IsDifference a → IsEqual vars t u → ⊥
+pub no_difference : (vars : List Kind) (t u : Tree) (budget : ℕ) (a : Same) → IsComparison t u budget a → IsDifference a →
+    IsEqual vars t u → ⊥
 no_difference vars t u budget Yes h d e = absurd d
 no_difference vars t u budget Shape h d e = agree_from h.front (differing ∷ h.rest) (subst AllAgree h.parts (equal_agree vars e))
 no_difference vars t u budget (Word trace side) h d e =

@@ -38,9 +38,12 @@ equal_words (a ∷ v) (b ∷ w) e =
 
 -- of two words one is before the other, or they are one
 one_before : (v w : List Label) → IsBefore label_cmp v w ⊎ ((v ≡ w) ⊎ IsBefore label_cmp w v)
-one_before v w = ⊎_elim (λ lt. inl (inl lt)) (λ le. ⊎_elim (λ gt. inr (inr (inl gt))) (λ ge. by_labels (omega arith) (slice_cmp label_cmp v w) refl) (cases_lt (length w) (length v))) (cases_lt (length v) (length w))
+one_before v w = ⊎_elim (λ lt. inl (inl lt)) (λ le. ⊎_elim (λ gt. inr (inr (inl gt)))
+    (λ ge. by_labels (omega arith) (slice_cmp label_cmp v w) refl) (cases_lt (length w) (length v)))
+    (cases_lt (length v) (length w))
   where
-    by_labels : length v ≡ length w → (o : Ordering) → slice_cmp label_cmp v w ≡ o → IsBefore label_cmp v w ⊎ ((v ≡ w) ⊎ IsBefore label_cmp w v)
+    by_labels : length v ≡ length w → (o : Ordering) → slice_cmp label_cmp v w ≡ o → IsBefore label_cmp v w ⊎
+        ((v ≡ w) ⊎ IsBefore label_cmp w v)
     by_labels same Less e = inl (inr (same, e))
     by_labels same Equal e = inr (inl (equal_words v w e))
     by_labels same Greater e = inr (inr (inr (sym same, (lists_total label_cmp_total).antisymm w v ∙ ap ordering_reverse e)))
@@ -48,7 +51,8 @@ one_before v w = ⊎_elim (λ lt. inl (inl lt)) (λ le. ⊎_elim (λ gt. inr (in
 -- ---- one difference
 
 -- one side alone doesn't perform a word that both perform or neither
-not_both : (s r : Tree) (w : List Label) (side : Side) → PerformsAlone step step s r w side → (Performs step s w ↔ Performs step r w) → ⊥
+not_both : (s r : Tree) (w : List Label) (side : Side) → PerformsAlone step step s r w side →
+    (Performs step s w ↔ Performs step r w) → ⊥
 not_both s r w Left only same = only.1 (same.0 only.0)
 not_both s r w Right only same = only.1 (same.1 only.0)
 
@@ -60,20 +64,23 @@ one_side s r w Right Left p q = absurd (p.1 q.0)
 one_side s r w Right Right p q = refl
 
 -- at most one word is the least difference
-one_word : (s r : Tree) (v w : List Label) (x y : Side) → IsLeastDistinguishingTrace step step label_cmp s r v x → IsLeastDistinguishingTrace step step label_cmp s r w y → v ≡ w
+one_word : (s r : Tree) (v w : List Label) (x y : Side) → IsLeastDistinguishingTrace step step label_cmp s r v x →
+    IsLeastDistinguishingTrace step step label_cmp s r w y → v ≡ w
 one_word s r v w x y p q = ⊎_elim
     (λ before. absurd (not_both s r v x p.alone (q.least v before)))
     (λ other. ⊎_elim (λ same. same) (λ after. absurd (not_both s r w y q.alone (p.least w after))) other)
     (one_before v w)
 
 -- two answers by a least difference are one
-pub one_no : (s r : Tree) (v w : List Label) (x y : Side) → IsLeastDistinguishingTrace step step label_cmp s r v x → IsLeastDistinguishingTrace step step label_cmp s r w y → no v x ≡ no w y
+pub one_no : (s r : Tree) (v w : List Label) (x y : Side) → IsLeastDistinguishingTrace step step label_cmp s r v x →
+    IsLeastDistinguishingTrace step step label_cmp s r w y → no v x ≡ no w y
 one_no s r v w x y p q =
     let word = one_word s r v w x y p q in
     let side = one_side s r w x y (subst (λ z. PerformsAlone step step s r z x) word p.alone) q.alone in
     λ i. no (word i) (side i)
 
 -- types that agree have no difference
-pub not_yes_and_no : (s r : Tree) (w : List Label) (side : Side) → Agree step step s r → IsLeastDistinguishingTrace step step label_cmp s r w side → ⊥
+pub not_yes_and_no : (s r : Tree) (w : List Label) (side : Side) → Agree step step s r →
+    IsLeastDistinguishingTrace step step label_cmp s r w side → ⊥
 not_yes_and_no s r w side agree d =
     not_both s r w side d.alone ((agree_is_traces step step (length w) s r).0 (agree (length w)) w (omega arith))

@@ -37,7 +37,8 @@ test_sessions true = tt
 test_sessions false = (tt, tt)
 
 module _ (vars : List Kind) where
-  part_sessions : (s r : Tree) (j k : Kind) → is_part s ≡ true → IsWellFormed vars s j → IsWellFormed vars r k → AllOfSessions (of_part s r)
+  part_sessions : (s r : Tree) (j k : Kind) → is_part s ≡ true → IsWellFormed vars s j → IsWellFormed vars r k →
+      AllOfSessions (of_part s r)
   part_sessions s r j k p ws wr = by_form (is_part r) refl
     where
       by_form : (c : Bool) → is_part r ≡ c → AllOfSessions (if c then asked s r ∷ [] else differing ∷ [])
@@ -65,18 +66,21 @@ module _ (vars : List Kind) where
       let p = function_parts vars a s r j wt in
       let q = function_parts vars b x y k wu in
       use_sessions (same_use a b) (comparisons s x ++ comparisons r y)
-      (all_sessions (comparisons s x) (comparisons r y) (types_sessions s x p.0.0 q.0.0 p.0.1 q.0.1) (types_sessions r y p.1.0 q.1.0 p.1.1 q.1.1))
+      (all_sessions (comparisons s x) (comparisons r y) (types_sessions s x p.0.0 q.0.0 p.0.1 q.0.1)
+      (types_sessions r y p.1.0 q.1.0 p.1.1 q.1.1))
   types_sessions (arrow a s r) u j k wt wu = (tt, tt)
   types_sessions (pair s r) (pair x y) j k wt wu =
       let p = pair_parts vars s r j wt in
       let q = pair_parts vars x y k wu in
-      all_sessions (comparisons s x) (comparisons r y) (types_sessions s x p.0.0 q.0.0 p.0.1 q.0.1) (types_sessions r y p.1.0 q.1.0 p.1.1 q.1.1)
+      all_sessions (comparisons s x) (comparisons r y) (types_sessions s x p.0.0 q.0.0 p.0.1 q.0.1)
+      (types_sessions r y p.1.0 q.1.0 p.1.1 q.1.1)
   types_sessions (pair s r) u j k wt wu = (tt, tt)
   types_sessions (named n) (named m) j k wt wu = test_sessions (nat_eq n m)
   types_sessions (named n) u j k wt wu = (tt, tt)
 
 -- the first comparison of a list that isn't Yes is one
-one_decisive : (budget : ℕ) (xs ys p q : List Compared) (c d : Compared) → AreYes budget xs → AreYes budget ys → (IsYes budget c → ⊥) → (IsYes budget d → ⊥) → xs ++ c ∷ p ≡ ys ++ d ∷ q → c ≡ d
+one_decisive : (budget : ℕ) (xs ys p q : List Compared) (c d : Compared) → AreYes budget xs → AreYes budget ys →
+    (IsYes budget c → ⊥) → (IsYes budget d → ⊥) → xs ++ c ∷ p ≡ ys ++ d ∷ q → c ≡ d
 one_decisive budget [] [] p q c d a b m n e = cc
 one_decisive budget [] (y ∷ ys) p q c d a b m n e =
     let is : y ≡ c = cc in
@@ -107,19 +111,28 @@ record Decision (budget : ℕ) (cs : List Compared) (o : Outcome) : Type 0 where
 
 module _ (one : OneAnswer) (budget : ℕ) where
   -- a question with an answer other than Yes isn't Yes
-  refuted_by : (s r : Tree) → IsOfSessions (asked s r) → (s ≡ r → ⊥) → (a : Answer) → (yes ≡ a → ⊥) → Answers s r budget a → IsYes budget (asked s r) → ⊥
+  refuted_by : (s r : Tree) → IsOfSessions (asked s r) → (s ≡ r → ⊥) → (a : Answer) →
+      (yes ≡ a → ⊥) → Answers s r budget a → IsYes budget (asked s r) → ⊥
   refuted_by s r w n a other h (inl e) = n e
   refuted_by s r w n a other h (inr e) = other (one w.0.0 w.1.0 s r budget w.0.1 w.1.1 yes a e h)
 
   -- what answers the deciding question decides
-  decision_by : (t u : Tree) → AllOfSessions (comparisons t u) → (a : Answer) → (yes ≡ a → ⊥) → IsDecidedBy t u budget a → Decision budget (comparisons t u) (outcome_by a)
+  decision_by : (t u : Tree) → AllOfSessions (comparisons t u) → (a : Answer) →
+      (yes ≡ a → ⊥) → IsDecidedBy t u budget a → Decision budget (comparisons t u) (outcome_by a)
   decision_by t u all a other h =
       let first = h.2.first in
       let w = sessions_from first.front (asked h.0 h.1 ∷ first.rest) (subst AllOfSessions first.parts all) in
-      record { by = asked h.0 h.1; first = first; refuted = refuted_by h.0 h.1 w.0 h.2.differ a other h.3; gives = (a, h.3, refl) }
+      record {
+        by = asked h.0 h.1;
+        first = first;
+        refuted = refuted_by h.0 h.1 w.0 h.2.differ a other h.3;
+        gives =
+            (a, h.3, refl);
+      }
 
   -- all comparisons are Yes, or one decides
-  decision : (t u : Tree) → AllOfSessions (comparisons t u) → (o : Outcome) → HasOutcome t u budget o → ((o ≡ equal) × AreYes budget (comparisons t u)) ⊎ Decision budget (comparisons t u) o
+  decision : (t u : Tree) → AllOfSessions (comparisons t u) → (o : Outcome) → HasOutcome t u budget o →
+      ((o ≡ equal) × AreYes budget (comparisons t u)) ⊎ Decision budget (comparisons t u) o
   decision t u all equal h = inl (refl, h)
   decision t u all shape h = inr (record { by = differing; first = h; refuted = λ d. d; gives = refl })
   decision t u all (word trace side) h = inr (decision_by t u all (answer.no trace side) (λ e. cc) h)
@@ -140,17 +153,20 @@ module _ (one : OneAnswer) (budget : ℕ) where
   one_given differing w a b g h = g ∙ sym h
 
   -- two outcomes are one
-  one_outcome_of : (t u : Tree) → AllOfSessions (comparisons t u) → (a b : Outcome) → HasOutcome t u budget a → HasOutcome t u budget b → a ≡ b
+  one_outcome_of : (t u : Tree) → AllOfSessions (comparisons t u) →
+      (a b : Outcome) → HasOutcome t u budget a → HasOutcome t u budget b → a ≡ b
   one_outcome_of t u all a b p q = pick (decision t u all a p) (decision t u all b q)
     where
-      pick : ((a ≡ equal) × AreYes budget (comparisons t u)) ⊎ Decision budget (comparisons t u) a → ((b ≡ equal) × AreYes budget (comparisons t u)) ⊎ Decision budget (comparisons t u) b → a ≡ b
+      pick : ((a ≡ equal) × AreYes budget (comparisons t u)) ⊎ Decision budget (comparisons t u) a →
+          ((b ≡ equal) × AreYes budget (comparisons t u)) ⊎ Decision budget (comparisons t u) b → a ≡ b
       pick (inl x) (inl y) = x.0 ∙ sym y.0
       pick (inl x) (inr e) = absurd (not_all (comparisons t u) b e x.1)
       pick (inr d) (inl y) = absurd (not_all (comparisons t u) a d y.1)
       pick (inr d) (inr e) =
           let first = d.first in
           let second = e.first in
-          let is = one_decisive budget first.front second.front first.rest second.rest d.by e.by first.before second.before d.refuted e.refuted (sym first.parts ∙ second.parts) in
+          let is = one_decisive budget first.front second.front first.rest second.rest d.by e.by first.before second.before
+          d.refuted e.refuted (sym first.parts ∙ second.parts) in
           let w = sessions_from second.front (e.by ∷ second.rest) (subst AllOfSessions second.parts all) in
           one_given e.by w.0 a b (subst (Gives budget a) is d.gives) e.gives
 
@@ -163,4 +179,5 @@ pub has_outcome : (t u : Tree) (budget : ℕ) (a : Same) → IsComparison t u bu
 has_outcome t u budget Yes h = h
 has_outcome t u budget Shape h = h
 has_outcome t u budget (Word trace side) h = h
-has_outcome t u budget (Undecided g pairs) h = (h.0, h.1, h.2, record { letters = g.letters.items; rows = g.rules.items; pairs = pairs.items; shown = h.3 })
+has_outcome t u budget (Undecided g pairs) h =
+    (h.0, h.1, h.2, record { letters = g.letters.items; rows = g.rules.items; pairs = pairs.items; shown = h.3 })

@@ -29,7 +29,8 @@ same_marks rows marks others a b =
     (λ h. b.largest marks n a.set h (omega arith)) (λ h. a.largest others n b.set h (omega arith)))
 
 -- the grammars, words and marks of two problems are the same
-pub record AreSame (letters more : List Label) (rows rules : Productions) (u v x y : List ℕ) (marks others : List Bool) : Type 0 where
+pub record AreSame (letters more : List Label) (rows rules : Productions) (u v x y : List ℕ)
+    (marks others : List Bool) : Type 0 where
   pub labels : letters ≡ more
   pub grammar : rows ≡ rules
   pub left : u ≡ x
@@ -38,7 +39,8 @@ pub record AreSame (letters more : List Label) (rows rules : Productions) (u v x
 
 -- the problem of two types is determined
 pub one_problem : OneGrammar → (vars others : List Kind) (s r : Tree) → IsSession vars s → IsSession others r →
-    (letters more : List Label) (rows rules : Productions) (u v x y : List ℕ) (marks set : List Bool) → IsProblem s r letters rows u v marks → IsProblem s r more rules x y set →
+    (letters more : List Label) (rows rules : Productions) (u v x y : List ℕ) (marks set : List Bool) →
+    IsProblem s r letters rows u v marks → IsProblem s r more rules x y set →
     AreSame letters more rows rules u v x y marks set
 one_problem one vars others s r left right letters more rows rules u v x y marks set p q =
     let t = p.translation in
@@ -54,11 +56,13 @@ one_problem one vars others s r left right letters more rows rules u v x y marks
 
 -- types with a problem aren't too large
 pub problem_small : OneGrammar → (vars others : List Kind) (s r : Tree) → IsSession vars s → IsSession others r →
-    (letters : List Label) (rows : Productions) (u v : List ℕ) (marks : List Bool) → IsProblem s r letters rows u v marks → IsTooLarge s r → ⊥
+    (letters : List Label) (rows : Productions) (u v : List ℕ) (marks : List Bool) → IsProblem s r letters rows u v marks →
+    IsTooLarge s r → ⊥
 problem_small one vars others s r left right letters rows u v marks p (inl (inl over)) = let few = p.small.left in omega arith
 problem_small one vars others s r left right letters rows u v marks p (inl (inr over)) = let few = p.small.right in omega arith
 problem_small one vars others s r left right letters rows u v marks p (inr large) =
-    let same = one vars others s r left right p.small.left p.small.right letters large.letters rows large.rows p.translation.grammar large.grammar in
+    let same = one vars others s r left right p.small.left p.small.right letters large.letters rows large.rows
+    p.translation.grammar large.grammar in
     let few = p.small.letters in
     let over = large.over in
     let sides = ap right_sides same.1 in

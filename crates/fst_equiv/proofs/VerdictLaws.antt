@@ -39,7 +39,8 @@ pub record Stand (letters : List Label) (rows : Productions) (u v : List ℕ) (s
 
 module _ (letters : List Label) (rows : Productions) (u v : List ℕ) (s r : Tree) (stand : Stand letters rows u v s r) where
   -- what both words perform or neither, both types perform or neither
-  same_of_types : (w : List Label) → (Performs (label_step letters rows) u w ↔ Performs (label_step letters rows) v w) → (Performs step s w ↔ Performs step r w)
+  same_of_types : (w : List Label) → (Performs (label_step letters rows) u w ↔ Performs (label_step letters rows) v w) →
+      (Performs step s w ↔ Performs step r w)
   same_of_types w same =
       let left = stand.left w in
       let right = stand.right w in
@@ -50,12 +51,15 @@ module _ (letters : List Label) (rows : Productions) (u v : List ℕ) (s r : Tre
   types_agree same = λ n. (agree_is_traces step step n s r).1 (λ w le. same_of_types w (same w))
 
   -- what one word alone performs, its type alone performs
-  alone_of_types : (w : List Label) (side : Side) → PerformsAlone (label_step letters rows) (label_step letters rows) u v w side → PerformsAlone step step s r w side
+  alone_of_types : (w : List Label) (side : Side) → PerformsAlone (label_step letters rows) (label_step letters rows) u v w side →
+      PerformsAlone step step s r w side
   alone_of_types w Left only = ((stand.left w).0 only.0, λ h. only.1 ((stand.right w).1 h))
   alone_of_types w Right only = ((stand.right w).0 only.0, λ h. only.1 ((stand.left w).1 h))
 
   -- the least difference of two words is that of their types
-  types_differ : (w : List Label) (side : Side) → IsLeastDistinguishingTrace (label_step letters rows) (label_step letters rows) label_cmp u v w side → IsLeastDistinguishingTrace step step label_cmp s r w side
+  types_differ : (w : List Label) (side : Side) →
+      IsLeastDistinguishingTrace (label_step letters rows) (label_step letters rows) label_cmp u v w side →
+      IsLeastDistinguishingTrace step step label_cmp s r w side
   types_differ w side d = record {
     alone = alone_of_types w side d.alone;
     least = λ x before. same_of_types x (d.least x before);
@@ -63,10 +67,12 @@ module _ (letters : List Label) (rows : Productions) (u v : List ℕ) (s r : Tre
 
 -- the verdict that an answer of the search on the pruned words gives is right
 pub verdict_right : (s r : Tree) (budget : ℕ) (g : Grammar) (u v x y : List ℕ) (marks : List Bool) (found : Found) →
-    IsProblem s r g.letters.items g.rules.items u v marks → x ≡ pruned_word marks u → y ≡ pruned_word marks v → Stand g.letters.items g.rules.items x y s r →
+    IsProblem s r g.letters.items g.rules.items u v marks → x ≡ pruned_word marks u → y ≡ pruned_word marks v →
+    Stand g.letters.items g.rules.items x y s r →
     IsAnswer g.rules.items marks g.letters.items x y budget found →
     IfEqual found (HaveSameTraces (label_step g.letters.items g.rules.items) (label_step g.letters.items g.rules.items) x y) →
-    IfDiffer found (IsLeastDistinguishingTrace (label_step g.letters.items g.rules.items) (label_step g.letters.items g.rules.items) label_cmp x y) →
+    IfDiffer found (IsLeastDistinguishingTrace (label_step g.letters.items g.rules.items)
+    (label_step g.letters.items g.rules.items) label_cmp x y) →
     (IsGood g.rules.items marks x y budget → ⊥) → IsVerdict s r budget (verdict_of g x y found)
 verdict_right s r budget g u v x y marks (Equal pairs) problem left right stand exact same differ none = record {
   agree = types_agree g.letters.items g.rules.items x y s r stand same;
@@ -98,13 +104,16 @@ verdict_right s r budget g u v x y marks (Spent pairs) problem left right stand 
   first =
       subst (λ z. IsBudgetSpent g.rules.items marks z (pruned_word marks v) budget pairs.items) left
       (subst (λ z. IsBudgetSpent g.rules.items marks x z budget pairs.items) right exact);
-  no_basis = λ good. none (subst (λ z. IsGood g.rules.items marks z y budget) (sym left) (subst (λ z. IsGood g.rules.items marks (pruned_word marks u) z budget) (sym right) good));
+  no_basis = λ good. none (subst (λ z. IsGood g.rules.items marks z y budget) (sym left)
+      (subst (λ z. IsGood g.rules.items marks (pruned_word marks u) z budget) (sym right) good));
 }
 
 -- and so is the verdict that a basis for them gives
 pub basis_right : (s r : Tree) (budget : ℕ) (g : Grammar) (u v x y : List ℕ) (marks : List Bool) (proof : Proof) →
-    IsProblem s r g.letters.items g.rules.items u v marks → x ≡ pruned_word marks u → y ≡ pruned_word marks v → Stand g.letters.items g.rules.items x y s r →
-    IsProof (length g.letters.items) g.rules.items marks x y proof.basis.items proof.chains.items → HaveSameTraces (step_of g.rules.items) (step_of g.rules.items) x y →
+    IsProblem s r g.letters.items g.rules.items u v marks → x ≡ pruned_word marks u → y ≡ pruned_word marks v →
+    Stand g.letters.items g.rules.items x y s r →
+    IsProof (length g.letters.items) g.rules.items marks x y proof.basis.items proof.chains.items →
+    HaveSameTraces (step_of g.rules.items) (step_of g.rules.items) x y →
     AreGoodCuts g.rules.items marks x y budget proof.basis.items → Certifies s r budget (Basis g x y proof)
 basis_right s r budget g u v x y marks proof problem left right stand is same good = record {
   agree = types_agree g.letters.items g.rules.items x y s r stand (same_by_labels g.letters.items g.rules.items x y same);
@@ -119,14 +128,17 @@ basis_right s r budget g u v x y marks proof problem left right stand is same go
 }
 
 -- a word that performs the traces of one that stands for a type stands for it too
-stands_too : (letters : List Label) (rows : Productions) (x u : List ℕ) (t : Tree) → HaveSameTraces (step_of rows) (step_of rows) x u → StandsFor letters rows u t → StandsFor letters rows x t
+stands_too : (letters : List Label) (rows : Productions) (x u : List ℕ) (t : Tree) →
+    HaveSameTraces (step_of rows) (step_of rows) x u → StandsFor letters rows u t → StandsFor letters rows x t
 stands_too letters rows x u t same stands w =
     let by_label = same_by_labels letters rows x u same w in
     (λ h. (stands w).0 (by_label.0 h), λ h. by_label.1 ((stands w).1 h))
 
 -- so do the pruned words of two types
-pub stand_pruned : (letters : List Label) (rows : Productions) (u v x y : List ℕ) (s r : Tree) → StandsFor letters rows u s → StandsFor letters rows v r →
-    HaveSameTraces (step_of rows) (step_of rows) x u → HaveSameTraces (step_of rows) (step_of rows) y v → Stand letters rows x y s r
+pub stand_pruned : (letters : List Label) (rows : Productions) (u v x y : List ℕ) (s r : Tree) → StandsFor letters rows u s →
+    StandsFor letters rows v r →
+    HaveSameTraces (step_of rows) (step_of rows) x u → HaveSameTraces (step_of rows) (step_of rows) y v →
+    Stand letters rows x y s r
 stand_pruned letters rows u v x y s r left right same other =
     record { left = stands_too letters rows x u s same left; right = stands_too letters rows y v r other right }
 
@@ -135,9 +147,19 @@ pub verdict_answers : (s r : Tree) (budget : ℕ) (v : Verdict) → IsVerdict s 
 verdict_answers s r budget (Yes (Visited g x y pairs)) h =
     inl (record { letters = g.letters.items; rows = g.rules.items; x = x; y = y; pairs = pairs.items; shown = h })
 verdict_answers s r budget (Yes (Basis g x y proof)) h =
-    inr (record { letters = g.letters.items; rows = g.rules.items; x = x; y = y; basis = proof.basis.items; chains = proof.chains.items; shown = h })
+    inr (record {
+      letters = g.letters.items;
+      rows = g.rules.items;
+      x = x;
+      y = y;
+      basis = proof.basis.items;
+      chains =
+          proof.chains.items;
+      shown = h;
+    })
 verdict_answers s r budget (No trace side) h = h
-verdict_answers s r budget (Undecided g pairs) h = record { letters = g.letters.items; rows = g.rules.items; pairs = pairs.items; shown = h }
+verdict_answers s r budget (Undecided g pairs) h =
+    record { letters = g.letters.items; rows = g.rules.items; pairs = pairs.items; shown = h }
 
 -- only types too large for the translation are too large for the question
 pub too_large_alone : (f : TranslateFault) → fault_of f ≡ TooLarge → f ≡ translate.TooLarge

@@ -60,4 +60,5 @@ Answers s r budget too_large = IsTooLarge s r
 -- a question of two session types has at most one answer
 abbrev pub OneAnswer : Type 0
 OneAnswer =
-    (vars others : List Kind) (s r : Tree) (budget : ℕ) → IsSession vars s → IsSession others r → (a b : Answer) → Answers s r budget a → Answers s r budget b → a ≡ b
+    (vars others : List Kind) (s r : Tree) (budget : ℕ) → IsSession vars s → IsSession others r →
+    (a b : Answer) → Answers s r budget a → Answers s r budget b → a ≡ b

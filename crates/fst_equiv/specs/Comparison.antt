@@ -54,7 +54,8 @@ comparisons (back k) t = of_part (back k) t
 comparisons (var k) t = of_part (var k) t
 comparisons (plain b) (plain c) = unless_same (same_base b c)
 comparisons (plain b) _ = differing ∷ []
-comparisons (arrow u s r) (arrow v s' r') = if same_use u v then comparisons s s' ++ comparisons r r' else differing ∷ []
+comparisons (arrow u s r) (arrow v s' r') =
+    if same_use u v then comparisons s s' ++ comparisons r r' else differing ∷ []
 comparisons (arrow u s r) _ = differing ∷ []
 comparisons (pair s r) (pair s' r') = comparisons s s' ++ comparisons r r'
 comparisons (pair s r) _ = differing ∷ []
@@ -87,12 +88,16 @@ pub record IsDecisiveQuestion (budget : ℕ) (cs : List Compared) (s r : Tree) :
 abbrev pub ComesTo : List Compared → ℕ → Same → Type 0
 ComesTo cs budget Yes = AreYes budget cs
 ComesTo cs budget Shape = IsDecisive budget cs differing
-ComesTo cs budget (Word trace side) = (s : Tree) × (r : Tree) × IsDecisiveQuestion budget cs s r × IsShownDifferent s r budget trace.items side
-ComesTo cs budget (Undecided g pairs) = (s : Tree) × (r : Tree) × IsDecisiveQuestion budget cs s r × IsShownSpent s r budget g.letters.items g.rules.items pairs.items
+ComesTo cs budget (Word trace side) = (s : Tree) ×
+    (r : Tree) × IsDecisiveQuestion budget cs s r × IsShownDifferent s r budget trace.items side
+ComesTo cs budget (Undecided g pairs) = (s : Tree) ×
+    (r : Tree) × IsDecisiveQuestion budget cs s r ×
+    IsShownSpent s r budget g.letters.items g.rules.items pairs.items
 
 -- the first that isn't Yes is a question that is too large
 abbrev pub ComesToTooLarge : List Compared → ℕ → Type 0
-ComesToTooLarge cs budget = (s : Tree) × (r : Tree) × IsDecisiveQuestion budget cs s r × IsTooLarge s r
+ComesToTooLarge cs budget = (s : Tree) ×
+    (r : Tree) × IsDecisiveQuestion budget cs s r × IsTooLarge s r
 
 -- how two types compare within a budget of pairs for each question
 abbrev pub IsComparison : Tree → Tree → ℕ → Same → Type 0
@@ -104,11 +109,13 @@ IsTooLargeComparison t u budget = ComesToTooLarge (comparisons t u) budget
 
 -- both types are well formed, over one list of kinds
 abbrev pub AreFormed : Tree → Tree → Type 0
-AreFormed t u = (vars : List Kind) × (j : Kind) × (k : Kind) × IsWellFormed vars t j × IsWellFormed vars u k
+AreFormed t u = (vars : List Kind) × (j : Kind) ×
+    (k : Kind) × IsWellFormed vars t j × IsWellFormed vars u k
 
 -- the types are equal over each list of kinds over which both are well formed
 abbrev pub AreEqual : Tree → Tree → Type 0
-AreEqual t u = (vars : List Kind) (j k : Kind) → IsWellFormed vars t j → IsWellFormed vars u k → IsEqual vars t u
+AreEqual t u = (vars : List Kind) (j k : Kind) → IsWellFormed vars t j → IsWellFormed vars u k →
+    IsEqual vars t u
 
 -- the answer is that the types differ
 abbrev pub IsDifference : Same → Type 0

@@ -19,7 +19,8 @@ pub data Outcome : Type 0 where
 
 -- the first that isn't Yes is a question, and this is its answer
 abbrev pub IsDecidedBy : Tree → Tree → ℕ → Answer → Type 0
-IsDecidedBy t u budget a = (s : Tree) × (r : Tree) × IsDecisiveQuestion budget (comparisons t u) s r × Answers s r budget a
+IsDecidedBy t u budget a = (s : Tree) ×
+    (r : Tree) × IsDecisiveQuestion budget (comparisons t u) s r × Answers s r budget a
 
 -- how two types compare, within a budget of pairs for each question
 abbrev pub HasOutcome : Tree → Tree → ℕ → Outcome → Type 0
@@ -38,4 +39,5 @@ outcome_of (Undecided g pairs) = undecided
 
 -- two well-formed types compare in one way at most
 abbrev pub OneOutcome : Type 0
-OneOutcome = (t u : Tree) (budget : ℕ) → AreFormed t u → (a b : Outcome) → HasOutcome t u budget a → HasOutcome t u budget b → a ≡ b
+OneOutcome = (t u : Tree) (budget : ℕ) → AreFormed t u →
+    (a b : Outcome) → HasOutcome t u budget a → HasOutcome t u budget b → a ≡ b

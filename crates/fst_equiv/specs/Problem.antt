@@ -19,7 +19,8 @@ use Rattle.fst_breadth.specs.Answer.{IsEqual, IsDifferent, IsBudgetSpent}
 
 -- the grammar of two types within the limits, with its numbers in range, its letters in label order and a rule for each
 -- non-terminal; their words, and its unnormed non-terminals
-pub record IsProblem (s r : Tree) (letters : List Label) (rows : Productions) (u v : List ℕ) (marks : List Bool) : Type 0 where
+pub record IsProblem (s r : Tree) (letters : List Label) (rows : Productions) (u v : List ℕ)
+    (marks : List Bool) : Type 0 where
   pub translation : IsTranslation s r letters rows u v
   pub small : IsSmall s r rows
   pub range : IsInRange letters rows u v
@@ -28,7 +29,8 @@ pub record IsProblem (s r : Tree) (letters : List Label) (rows : Productions) (u
 
 -- x and y are the pruned words of two types, and these are all the pairs that they reach: at most budget many, of
 -- which none shows a difference. The types agree at every depth.
-pub record IsShownEqual (s r : Tree) (budget : ℕ) (letters : List Label) (rows : Productions) (x y : List ℕ) (pairs : List SharedPair) : Type 0 where
+pub record IsShownEqual (s r : Tree) (budget : ℕ) (letters : List Label) (rows : Productions)
+    (x y : List ℕ) (pairs : List SharedPair) : Type 0 where
   pub agree : Agree step step s r
   pub u : List ℕ
   pub v : List ℕ
@@ -40,7 +42,8 @@ pub record IsShownEqual (s r : Tree) (budget : ℕ) (letters : List Label) (rows
 
 -- x and y are the pruned words of two types, these pairs are the cuts that they lead to, which are good at the budget, and with these
 -- chains they show that the words perform the same traces. The types agree at every depth.
-pub record IsProvedEqual (s r : Tree) (budget : ℕ) (letters : List Label) (rows : Productions) (x y : List ℕ) (basis : List Pair) (chains : List Chain) : Type 0 where
+pub record IsProvedEqual (s r : Tree) (budget : ℕ) (letters : List Label) (rows : Productions)
+    (x y : List ℕ) (basis : List Pair) (chains : List Chain) : Type 0 where
   pub agree : Agree step step s r
   pub u : List ℕ
   pub v : List ℕ
@@ -52,7 +55,8 @@ pub record IsProvedEqual (s r : Tree) (budget : ℕ) (letters : List Label) (row
   pub good : AreGoodCuts rows marks x y budget basis
 
 -- one of the first budget pairs that two types reach shows a difference: the least trace that one side alone performs
-pub record IsShownDifferent (s r : Tree) (budget : ℕ) (trace : List Label) (side : Side) : Type 0 where
+pub record IsShownDifferent (s r : Tree) (budget : ℕ) (trace : List Label)
+    (side : Side) : Type 0 where
   pub least : IsLeastDistinguishingTrace step step label_cmp s r trace side
   pub letters : List Label
   pub rows : Productions
@@ -60,11 +64,13 @@ pub record IsShownDifferent (s r : Tree) (budget : ℕ) (trace : List Label) (si
   pub v : List ℕ
   pub marks : List Bool
   pub problem : IsProblem s r letters rows u v marks
-  pub first : IsDifferent rows marks letters (pruned_word marks u) (pruned_word marks v) budget trace side
+  pub first : IsDifferent rows marks letters (pruned_word marks u)
+      (pruned_word marks v) budget trace side
 
 -- these are the first budget pairs that two types reach: there are more, these show no difference, and the cuts that the types'
 -- words lead to aren't good at the budget
-pub record IsShownSpent (s r : Tree) (budget : ℕ) (letters : List Label) (rows : Productions) (pairs : List SharedPair) : Type 0 where
+pub record IsShownSpent (s r : Tree) (budget : ℕ) (letters : List Label) (rows : Productions)
+    (pairs : List SharedPair) : Type 0 where
   pub u : List ℕ
   pub v : List ℕ
   pub marks : List Bool

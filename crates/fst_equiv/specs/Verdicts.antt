@@ -13,14 +13,17 @@ use Rattle.fst_equiv.specs.Answers.{Answer, yes, no, undecided}
 
 -- the certificate shows that two types agree at every depth
 abbrev pub Certifies : Tree → Tree → ℕ → Certificate → Type 0
-Certifies s r budget (Visited g x y pairs) = IsShownEqual s r budget g.letters.items g.rules.items x y pairs.items
-Certifies s r budget (Basis g x y proof) = IsProvedEqual s r budget g.letters.items g.rules.items x y proof.basis.items proof.chains.items
+Certifies s r budget (Visited g x y pairs) =
+    IsShownEqual s r budget g.letters.items g.rules.items x y pairs.items
+Certifies s r budget (Basis g x y proof) =
+    IsProvedEqual s r budget g.letters.items g.rules.items x y proof.basis.items proof.chains.items
 
 -- the verdict is right, and what it holds shows it
 abbrev pub IsVerdict : Tree → Tree → ℕ → Verdict → Type 0
 IsVerdict s r budget (Yes c) = Certifies s r budget c
 IsVerdict s r budget (No trace side) = IsShownDifferent s r budget trace.items side
-IsVerdict s r budget (Undecided g pairs) = IsShownSpent s r budget g.letters.items g.rules.items pairs.items
+IsVerdict s r budget (Undecided g pairs) =
+    IsShownSpent s r budget g.letters.items g.rules.items pairs.items
 
 -- the answer that a verdict gives
 abbrev pub answer_of : Verdict → Answer

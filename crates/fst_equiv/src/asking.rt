@@ -61,13 +61,17 @@ fn proof_of(
     requires right { WordBelow (length g.now.rules.items) v.now }
     requires unnormed { AreUnnormed g.now.rules.items unnormed.now }
     requires budget { 1 ≤ budget }
-    ensures proof { IfOk result (λ o. IfSome o (λ p. IsProof (length g.now.letters.items) g.now.rules.items
+    ensures proof { IfOk result (λ o. IfSome o
+        (λ p. IsProof (length g.now.letters.items) g.now.rules.items
         unnormed.now u.now v.now p.basis.items p.chains.items)) }
-    ensures same { IfOk result (λ o. IfSome o (λ p. HaveSameTraces (step g.now.rules.items) (step g.now.rules.items)
+    ensures same { IfOk result (λ o. IfSome o
+        (λ p. HaveSameTraces (step g.now.rules.items) (step g.now.rules.items)
         u.now v.now)) }
-    ensures good { IfOk result (λ o. IfSome o (λ p. AreGoodCuts g.now.rules.items unnormed.now u.now v.now budget
+    ensures good { IfOk result (λ o. IfSome o
+        (λ p. AreGoodCuts g.now.rules.items unnormed.now u.now v.now budget
         p.basis.items)) }
-    ensures none { IfOk result (λ o. IfNone o (IsGood g.now.rules.items unnormed.now u.now v.now budget → ⊥)) }
+    ensures none { IfOk result (λ o. IfNone o
+        (IsGood g.now.rules.items unnormed.now u.now v.now budget → ⊥)) }
 {
     match expand(alloc, g, unnormed, u, v, budget)? {
         Some(proof) => {

@@ -71,8 +71,12 @@ fn same_parts(
     requires budget { 1 ≤ budget }
     requires first_formed { AreFormed left_first.now right_first.now }
     requires second_formed { AreFormed left_second.now right_second.now }
-    ensures answer { IfOk result (λ same. ComesTo (comparisons left_first.now right_first.now ++ comparisons left_second.now right_second.now) budget same) }
-    ensures too_large { IfErr result (λ f. f ≡ TooLarge → ComesToTooLarge (comparisons left_first.now right_first.now ++ comparisons left_second.now right_second.now) budget) }
+    ensures answer { IfOk result (λ same. ComesTo
+        (comparisons left_first.now right_first.now ++ comparisons left_second.now right_second.now)
+        budget same) }
+    ensures too_large { IfErr result (λ f. f ≡ TooLarge →
+        ComesToTooLarge (comparisons left_first.now right_first.now ++ comparisons left_second.now
+        right_second.now) budget) }
 {
     match same_type(alloc, left_first, right_first, budget)? {
         Same::Yes => same_type(alloc, left_second, right_second, budget),
@@ -86,7 +90,8 @@ fn same_part(alloc: Global, t: &Ty, u: &Ty, budget: u32) -> Result<Same, EquivFa
     requires session_right { (vars : List Kind) × IsSession vars u.now }
     requires budget { 1 ≤ budget }
     ensures answer { IfOk result (λ same. ComesTo (asked t.now u.now ∷ []) budget same) }
-    ensures too_large { IfErr result (λ f. f ≡ TooLarge → ComesToTooLarge (asked t.now u.now ∷ []) budget) }
+    ensures too_large { IfErr result (λ f. f ≡ TooLarge →
+        ComesToTooLarge (asked t.now u.now ∷ []) budget) }
 {
     if same(t, u) {
         return Ok(Same::Yes);

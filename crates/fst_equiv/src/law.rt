@@ -22,7 +22,8 @@ pub fn one_answer()
 /// Law: two well-formed types compare in one way at most, and what is found is that way.
 pub fn one_outcome()
     ensures one { OneOutcome }
-    ensures found { (t u : Tree) (budget : ℕ) (a : Same) → IsComparison t u budget a → HasOutcome t u budget (outcome_of a) }
+    ensures found { (t u : Tree) (budget : ℕ) (a : Same) → IsComparison t u budget a →
+        HasOutcome t u budget (outcome_of a) }
 {
     one_answer();
 }
@@ -31,5 +32,6 @@ pub fn one_outcome()
 /// types that differ in their shape or by a word aren't equal, over any list of kinds.
 pub fn comparison_law()
     ensures equal { (t u : Tree) (budget : ℕ) → IsComparison t u budget Yes → AreEqual t u }
-    ensures differ { (vars : List Kind) (t u : Tree) (budget : ℕ) (a : Same) → IsComparison t u budget a → IsDifference a → IsEqual vars t u → ⊥ }
+    ensures differ { (vars : List Kind) (t u : Tree) (budget : ℕ) (a : Same) →
+        IsComparison t u budget a → IsDifference a → IsEqual vars t u → ⊥ }
 {}

@@ -23,12 +23,14 @@ use Rattle.fst_safety.proofs.Laws.{main_typed}
 use Rattle.fst_execution.specs.Execution.{IsDerived, IsSound, ReportsAreSound, IsPrepared, IsExecuted}
 
 -- where there is a place of main's code, there is a body of main
-pub main_there : (gs : List GlobalEntry) (is : List ℕ) (i : ℕ) → main_place gs is ≡ Some i → (e : CoreTree) × (main_body gs ≡ Some e)
+pub main_there : (gs : List GlobalEntry) (is : List ℕ) (i : ℕ) → main_place gs is ≡ Some i → (e : CoreTree) ×
+    (main_body gs ≡ Some e)
 main_there [] is i q = absurd (cc q)
 main_there (g ∷ gs) [] i q = absurd (cc q)
 main_there (g ∷ gs) (j ∷ is) i q = pick (bytes_eq g.name (codes "main")) refl (main_there gs is i) q
   where
-    pick : (b : Bool) → bytes_eq g.name (codes "main") ≡ b → (main_place gs is ≡ Some i → (e : CoreTree) × (main_body gs ≡ Some e)) →
+    pick : (b : Bool) → bytes_eq g.name (codes "main") ≡ b →
+        (main_place gs is ≡ Some i → (e : CoreTree) × (main_body gs ≡ Some e)) →
         (if b then Some j else main_place gs is) ≡ Some i → (e : CoreTree) × (main_body (g ∷ gs) ≡ Some e)
     pick true w later p = (g.body, ap (λ b. if b then Some g.body else main_body gs) w)
     pick false w later p =
@@ -56,7 +58,8 @@ module _ (m : Module) (c : Config) (safe : IsSafeAt m c) (n : ℕ) (r : Report) 
 pub reports_sound : ReportsAreSound
 reports_sound = record {
   safe = safe_sound;
-  answers = λ m safe e body steps r. λ (es, c, runs, last, few, is). safe_sound m c (safe e body es c (least_runs (program m) m.types.items (started e) es c runs)) (length es) r is;
+  answers = λ m safe e body steps r. λ (es, c, runs, last, few, is). safe_sound m c
+      (safe e body es c (least_runs (program m) m.types.items (started e) es c runs)) (length es) r is;
 }
 
 -- the tasks of the code of a module that has derivations can begin
@@ -81,7 +84,8 @@ is_prepared m k ds derived is from =
     }
 
 -- so is what is generated
-pub prepared : (m : Module) → IsDerived m → (r : Result Code AllocError) → IfOk r (λ k. k.module.value ≡ m) → IfOk r (IsFrom m) → IfOk r (IsPrepared m)
+pub prepared : (m : Module) → IsDerived m → (r : Result Code AllocError) → IfOk r (λ k. k.module.value ≡ m) → IfOk r (IsFrom m) →
+    IfOk r (IsPrepared m)
 prepared m d (Ok k) is from = is_prepared m k d.derivations d.derived is from
 prepared m d (Err e) is from = tt
 
@@ -92,8 +96,15 @@ can_run m k from safe =
     record { source = m; main = e; from = from; body = body; right = λ es c r. (safe e body es c r).right }
 
 -- what its run comes to is what the module's least run does
-pub is_executed : (m : Module) (k : Code) (steps : ℕ) (o : Outcome) → IsFrom m k → IsSafe m → IsOutcome k steps o → IsExecuted m steps o
+pub is_executed : (m : Module) (k : Code) (steps : ℕ) (o : Outcome) → IsFrom m k → IsSafe m → IsOutcome k steps o →
+    IsExecuted m steps o
 is_executed m k steps o from safe h =
     let (e, body) = main_there m.globals.items k.globals.items from.start from.starts in
     let answer = h m e from body (λ es c r. (safe e body es c r).right) in
-    record { main = e; body = body; answer = answer; sound = λ r q. reports_sound.answers m safe e body steps r (subst (IsAnswer m e steps) q answer) }
+    record {
+      main = e;
+      body = body;
+      answer = answer;
+      sound =
+          λ r q. reports_sound.answers m safe e body steps r (subst (IsAnswer m e steps) q answer);
+    }

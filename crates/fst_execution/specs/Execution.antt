@@ -29,7 +29,8 @@ pub record IsDerived (m : Module) : Type 0 where
 -- there, is one of main's type, in which no function and no end stands
 pub record IsSound (m : Module) (r : Report) : Type 0 where
   pub sessions : (j : ChannelHistory) → Contains r.channels.items j → IsSession [] j.declared
-  pub traces : (j : ChannelHistory) → Contains r.channels.items j → (t : Tree) × (after_history j.declared j.entries.items ≡ Some t)
+  pub traces : (j : ChannelHistory) → Contains r.channels.items j → (t : Tree) ×
+      (after_history j.declared j.entries.items ≡ Some t)
   pub result : (x : ValueTree) → r.result ≡ Some x → (v : Value) × HasMainType m v × IsAlike x v
 
 -- the code is the module's, and its tasks can begin
@@ -47,11 +48,14 @@ pub record IsExecuted (m : Module) (steps : ℕ) (o : Outcome) : Type 0 where
 
 -- the report of a safe configuration is sound
 abbrev pub SafeIsSound : Type 0
-SafeIsSound = (m : Module) (c : Config) → IsSafeAt m c → (n : ℕ) (r : Report) → IsReport (program m) c n r → IsSound m r
+SafeIsSound = (m : Module) (c : Config) → IsSafeAt m c →
+    (n : ℕ) (r : Report) → IsReport (program m) c n r → IsSound m r
 
 -- so is that which is the answer of the least run of a safe module
 abbrev pub AnswersAreSound : Type 0
-AnswersAreSound = (m : Module) → IsSafe m → (main : CoreTree) → main_body m.globals.items ≡ Some main → (steps : ℕ) (r : Report) → IsAnswer m main steps (Done r) → IsSound m r
+AnswersAreSound = (m : Module) → IsSafe m →
+    (main : CoreTree) → main_body m.globals.items ≡ Some main →
+    (steps : ℕ) (r : Report) → IsAnswer m main steps (Done r) → IsSound m r
 
 -- both
 pub record ReportsAreSound : Type 0 where

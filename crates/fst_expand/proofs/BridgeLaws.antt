@@ -35,14 +35,16 @@ cut_below n marks [] w hv hw = hw
 cut_below n marks (k ∷ v) w hv hw =
     elim (is_marked marks k) as (λ b. WordBelow n (k ∷ (if b then [] else cut marks v w))) [
       | true ↦ All-cons (λ k. k < n) k [] (All-head (λ k. k < n) k v hv) (All-nil (λ k. k < n))
-      | false ↦ All-cons (λ k. k < n) k (cut marks v w) (All-head (λ k. k < n) k v hv) (cut_below n marks v w (All-tail (λ k. k < n) k v hv) hw)
+      | false ↦ All-cons (λ k. k < n) k (cut marks v w) (All-head (λ k. k < n) k v hv)
+          (cut_below n marks v w (All-tail (λ k. k < n) k v hv) hw)
     ]
 
 -- and it is pruned
 pub cut_pruned : (marks : List Bool) (v w : List ℕ) → IsPruned marks w → IsPruned marks (cut marks v w)
 cut_pruned marks [] w p = p
 cut_pruned marks (n ∷ v) w p =
-    elim (is_marked marks n) as (λ b. n ∷ (if b then [] else pruned_word marks (if b then [] else cut marks v w)) ≡ n ∷ (if b then [] else cut marks v w)) [
+    elim (is_marked marks n) as (λ b. n ∷ (if b then [] else pruned_word marks (if b then [] else cut marks v w)) ≡ n
+    ∷ (if b then [] else cut marks v w)) [
       | true ↦ refl
       | false ↦ ap (λ (z : List ℕ). n ∷ z) (cut_pruned marks v w p)
     ]
@@ -64,7 +66,8 @@ record AreParts (marks : List Bool) (v w : List ℕ) (at : ℕ) : Type 0 where
   front : take (suc at) v ≡ take at v ++ (number ∷ [])
   count : length (take at v) ≡ at
 
-cut_parts : (marks : List Bool) (v w : List ℕ) (at : ℕ) → at < length v → ((d : ℕ) → is_marked marks (slice_index_or v at d) ≡ true) → has_marked marks (take at v) ≡ false → AreParts marks v w at
+cut_parts : (marks : List Bool) (v w : List ℕ) (at : ℕ) → at < length v →
+    ((d : ℕ) → is_marked marks (slice_index_or v at d) ≡ true) → has_marked marks (take at v) ≡ false → AreParts marks v w at
 cut_parts marks [] w at l m u = absurd (omega arith)
 cut_parts marks (n ∷ v) w zero l m u =
     let first : is_marked marks n ≡ true = m 0 in
@@ -83,9 +86,11 @@ cut_parts marks (n ∷ v) w (suc at) l m u =
     }
 
 -- a marked non-terminal stands behind a front
-marked_behind : (marks : List Bool) (front : List ℕ) (n : ℕ) (w : List ℕ) → is_marked marks n ≡ true → is_marked_at marks (front ++ (n ∷ w)) (length front) ≡ true
+marked_behind : (marks : List Bool) (front : List ℕ) (n : ℕ) (w : List ℕ) → is_marked marks n ≡ true →
+    is_marked_at marks (front ++ (n ∷ w)) (length front) ≡ true
 marked_behind marks front n w m =
-    let lt : nat_lt (length front) (length (front ++ (n ∷ w))) ≡ true = le-leb (suc (length front)) (length (front ++ (n ∷ w))) (let l = length-append front (n ∷ w) in omega arith) in
+    let lt : nat_lt (length front) (length (front ++ (n ∷ w))) ≡ true =
+    le-leb (suc (length front)) (length (front ++ (n ∷ w))) (let l = length-append front (n ∷ w) in omega arith) in
     let there : slice_index_or (front ++ (n ∷ w)) (length front) 0 ≡ n = get_or-append_seam front n w 0 in
     rw (lt, there, m) refl
 
@@ -109,46 +114,57 @@ module _ (marks : List Bool) (front : List ℕ) (n : ℕ) (w : List ℕ) (m : is
       let d : drop (length front + 1) (front ++ (n ∷ w)) ≡ w = rw add-one (drop_behind front n w) in
       let t : take (length front + 1) (front ++ (n ∷ w)) ≡ front ++ (n ∷ []) = rw add-one (take_behind front n w) in
       let same : bytes_eq w w ≡ true = (bytes_eq-Decides w w).1 refl in
-      let len : (length (front ++ (n ∷ [])) == length front + 1) ≡ true = eq-eqb (length (front ++ (n ∷ []))) (length front + 1) (let l = length_one_more front n in omega arith) in
+      let len : (length (front ++ (n ∷ [])) == length front + 1) ≡ true =
+      eq-eqb (length (front ++ (n ∷ []))) (length front + 1) (let l = length_one_more front n in omega arith) in
       record {
         cuts = λ basis. rw (here, d, same, t) refl;
         grows = λ basis. rw (last, len) (ap Some (append_assoc front (n ∷ []) w));
       }
 
 -- what a word and one behind it are cut off behind the first marked non-terminal
-pub cut_off : (marks : List Bool) (v w : List ℕ) (at : ℕ) → at < length v → ((d : ℕ) → is_marked marks (slice_index_or v at d) ≡ true) → has_marked marks (take at v) ≡ false →
+pub cut_off : (marks : List Bool) (v w : List ℕ) (at : ℕ) → at < length v →
+    ((d : ℕ) → is_marked marks (slice_index_or v at d) ≡ true) → has_marked marks (take at v) ≡ false →
     IsCutOff marks (cut marks v w) (v ++ w) at (drop (at + 1) v ++ w)
 cut_off marks v w at l m u =
     let p = cut_parts marks v w at l m u in
     let b = both_ways marks (take at v) p.number (drop (suc at) v ++ w) p.marked in
-    let long : v ++ w ≡ take at v ++ (p.number ∷ (drop (suc at) v ++ w)) = ap (λ (z : List ℕ). z ++ w) p.parts ∙ append_assoc (take at v) (p.number ∷ drop (suc at) v) w in
+    let long : v ++ w ≡ take at v ++ (p.number ∷ (drop (suc at) v ++ w)) = ap (λ (z : List ℕ). z ++ w) p.parts
+    ∙ append_assoc (take at v) (p.number ∷ drop (suc at) v) w in
     let short : cut marks v w ≡ take at v ++ (p.number ∷ []) = p.short ∙ p.front in
     let R : List ℕ → List ℕ → Type 0 = λ s g. IsCutOff marks s g at (drop (suc at) v ++ w) in
     let done : R (take at v ++ (p.number ∷ [])) (take at v ++ (p.number ∷ (drop (suc at) v ++ w))) =
-    subst (λ (k : ℕ). IsCutOff marks (take at v ++ (p.number ∷ [])) (take at v ++ (p.number ∷ (drop (suc at) v ++ w))) k (drop (suc at) v ++ w)) p.count b in
-    let all : R (cut marks v w) (v ++ w) = subst (λ (s : List ℕ). R s (v ++ w)) (sym short) (subst (R (take at v ++ (p.number ∷ []))) (sym long) done) in
+    subst (λ (k : ℕ). IsCutOff marks (take at v ++ (p.number ∷ [])) (take at v ++ (p.number ∷ (drop (suc at) v ++ w))) k
+    (drop (suc at) v ++ w)) p.count b in
+    let all : R (cut marks v w) (v ++ w) = subst (λ (s : List ℕ). R s (v ++ w)) (sym short)
+    (subst (R (take at v ++ (p.number ∷ []))) (sym long) done) in
     rw add-one all
 
 -- nothing is cut off where nothing would be left behind
-pub nothing_off : (marks : List Bool) (v w : List ℕ) (at : ℕ) → at < length v → ((d : ℕ) → is_marked marks (slice_index_or v at d) ≡ true) → has_marked marks (take at v) ≡ false →
+pub nothing_off : (marks : List Bool) (v w : List ℕ) (at : ℕ) → at < length v →
+    ((d : ℕ) → is_marked marks (slice_index_or v at d) ≡ true) → has_marked marks (take at v) ≡ false →
     drop (at + 1) v ++ w ≡ [] → cut marks v w ≡ v ++ w
 nothing_off marks v w at l m u e =
     let p = cut_parts marks v w at l m u in
     let none : drop (suc at) v ++ w ≡ [] = (let f : drop (at + 1) v ++ w ≡ [] = e in rw add-one at f) in
-    let long : v ++ w ≡ take at v ++ (p.number ∷ (drop (suc at) v ++ w)) = ap (λ (z : List ℕ). z ++ w) p.parts ∙ append_assoc (take at v) (p.number ∷ drop (suc at) v) w in
+    let long : v ++ w ≡ take at v ++ (p.number ∷ (drop (suc at) v ++ w)) = ap (λ (z : List ℕ). z ++ w) p.parts
+    ∙ append_assoc (take at v) (p.number ∷ drop (suc at) v) w in
     p.short ∙ p.front ∙ ap (λ (z : List ℕ). take at v ++ (p.number ∷ z)) (sym none) ∙ sym long
 
 -- a chain between pruned words is framed by what is cut off and grows again
-pub framed_leads : (marks : List Bool) (Q : List Pair) (c d : Option (ℕ × List ℕ)) (steps : List Rewrite) (x0 x y y0 : List ℕ) → AreCutOff marks x x0 c → AreCutOff marks y y0 d →
+pub framed_leads : (marks : List Bool) (Q : List Pair) (c d : Option (ℕ × List ℕ)) (steps : List Rewrite) (x0 x y y0 : List ℕ) →
+    AreCutOff marks x x0 c → AreCutOff marks y y0 d →
     chained marks Q steps x ≡ Some y → chained marks Q (cutting c ++ (steps ++ growing d)) x0 ≡ Some y0
 framed_leads marks Q None None steps x0 x y y0 e f h =
     ap (λ (s : List Rewrite). chained marks Q s x0) (append-nil steps) ∙ ap (chained marks Q steps) (sym e) ∙ h ∙ ap Some f
 framed_leads marks Q None (Some d) steps x0 x y y0 e f h =
-    ap (chained marks Q (steps ++ Grow d.0 d.1 ∷ [])) (sym e) ∙ chained-append marks Q steps (Grow d.0 d.1 ∷ []) x y h ∙ chained_first marks Q (Grow d.0 d.1) [] y y0 (f.grows Q)
+    ap (chained marks Q (steps ++ Grow d.0 d.1 ∷ [])) (sym e) ∙ chained-append marks Q steps (Grow d.0 d.1 ∷ []) x y h
+    ∙ chained_first marks Q (Grow d.0 d.1) [] y y0 (f.grows Q)
 framed_leads marks Q (Some c) None steps x0 x y y0 e f h =
-    chained_first marks Q (Cut c.0 c.1) (steps ++ []) x0 x (e.cuts Q) ∙ ap (λ (s : List Rewrite). chained marks Q s x) (append-nil steps) ∙ h ∙ ap Some f
+    chained_first marks Q (Cut c.0 c.1) (steps ++ []) x0 x (e.cuts Q) ∙ ap
+    (λ (s : List Rewrite). chained marks Q s x) (append-nil steps) ∙ h ∙ ap Some f
 framed_leads marks Q (Some c) (Some d) steps x0 x y y0 e f h =
-    chained_first marks Q (Cut c.0 c.1) (steps ++ Grow d.0 d.1 ∷ []) x0 x (e.cuts Q) ∙ chained-append marks Q steps (Grow d.0 d.1 ∷ []) x y h
+    chained_first marks Q (Cut c.0 c.1) (steps ++ Grow d.0 d.1 ∷ []) x0 x (e.cuts Q)
+    ∙ chained-append marks Q steps (Grow d.0 d.1 ∷ []) x y h
     ∙ chained_first marks Q (Grow d.0 d.1) [] y y0 (f.grows Q)
 
 -- what is cut off is of the grammar's non-terminals
@@ -161,19 +177,25 @@ growing_below n None h = All-nil (IsRewriteBelow n)
 growing_below n (Some c) h = All-cons (IsRewriteBelow n) (Grow c.0 c.1) [] h (All-nil (IsRewriteBelow n))
 
 -- the way between the words, once they are pruned, is one between the words themselves
-pub framed_way : (n : ℕ) (marks : List Bool) (v t w r : List ℕ) (Q : List Pair) (c d : Option (ℕ × List ℕ)) (steps : List Rewrite) (chain : Chain) → AreCutOff marks (cut marks v t) (v ++ t) c →
-    AreCutOff marks (cut marks w r) (w ++ r) d → IfSome c (λ p. WordBelow n p.1) → IfSome d (λ p. WordBelow n p.1) → chained marks Q steps (cut marks v t) ≡ Some (cut marks w r) →
+pub framed_way : (n : ℕ) (marks : List Bool) (v t w r : List ℕ) (Q : List Pair) (c d : Option (ℕ × List ℕ)) (steps : List Rewrite)
+    (chain : Chain) → AreCutOff marks (cut marks v t) (v ++ t) c →
+    AreCutOff marks (cut marks w r) (w ++ r) d → IfSome c (λ p. WordBelow n p.1) → IfSome d (λ p. WordBelow n p.1) →
+    chained marks Q steps (cut marks v t) ≡ Some (cut marks w r) →
     AreExchanges steps → chain.steps.items ≡ cutting c ++ (steps ++ growing d) → IsWay n marks Q (v ++ t) (w ++ r) chain
 framed_way n marks v t w r Q c d steps chain e f hc hd leads exchanges is = record {
-  leads = ap (λ (s : List Rewrite). chained marks Q s (v ++ t)) is ∙ framed_leads marks Q c d steps (v ++ t) (cut marks v t) (cut marks w r) (w ++ r) e f leads;
-  below = subst (All (IsRewriteBelow n)) (sym is) (All-append (IsRewriteBelow n) (cutting c) (steps ++ growing d) (cutting_below n c hc)
+  leads = ap (λ (s : List Rewrite). chained marks Q s (v ++ t)) is
+      ∙ framed_leads marks Q c d steps (v ++ t) (cut marks v t) (cut marks w r) (w ++ r) e f leads;
+  below = subst (All (IsRewriteBelow n)) (sym is)
+      (All-append (IsRewriteBelow n) (cutting c) (steps ++ growing d) (cutting_below n c hc)
       (All-append (IsRewriteBelow n) steps (growing d) (exchanges n) (growing_below n d hd)));
 }
 
-module _ (marks : List Bool) (norms : List (Option ℕ)) (words : List (List ℕ)) (v t w r : List ℕ) (old new : List Pair) (p : IsPruned marks t) (q : IsPruned marks r) where
+module _ (marks : List Bool) (norms : List (Option ℕ)) (words : List (List ℕ)) (v t w r : List ℕ) (old new : List Pair)
+    (p : IsPruned marks t) (q : IsPruned marks r) where
   -- what is met between the words, once they are pruned
   pub meet_pruned : (steps : List Rewrite) (heads : ℕ) → AreUnmarked marks norms words → Each (IsPrunedPair marks) old →
-      IsJoining norms words (cut marks v t) (cut marks w r) old new steps heads → Meet marks norms words (v ++ t) (w ++ r) old new heads
+      IsJoining norms words (cut marks v t) (cut marks w r) old new steps heads →
+      Meet marks norms words (v ++ t) (w ++ r) old new heads
   meet_pruned steps heads unmarked pruned j = record {
     met = record {
       cuts = j.met.cuts;
@@ -184,15 +206,18 @@ module _ (marks : List Bool) (norms : List (Option ℕ)) (words : List (List ℕ
     adds = j.met.collects.adds;
     fit = record {
       below = j.met.below;
-      pruned = j.met.pruned marks unmarked (record { left = cut_pruned marks v t p; right = cut_pruned marks w r q; pairs = pruned });
+      pruned = j.met.pruned marks unmarked (record
+          { left = cut_pruned marks v t p; right = cut_pruned marks w r q; pairs = pruned });
     };
   }
 
-  pub crowded_pruned : (room : ℕ) → IsCrowded norms words (cut marks v t) (cut marks w r) old new room → HaveNoRoom marks norms words (v ++ t) (w ++ r) old new room
+  pub crowded_pruned : (room : ℕ) → IsCrowded norms words (cut marks v t) (cut marks w r) old new room →
+      HaveNoRoom marks norms words (v ++ t) (w ++ r) old new room
   crowded_pruned room full = rw (pruned_in_front marks v t p, pruned_in_front marks w r q) full
 
 -- where all cuts were there before, nothing is added, and there is room
-pub have_met : (marks : List Bool) (norms : List (Option ℕ)) (words : List (List ℕ)) (x y : List ℕ) (P Q : List Pair) (h k : ℕ) → AreDistinct Q → HaveMet marks norms words x y P h →
+pub have_met : (marks : List Bool) (norms : List (Option ℕ)) (words : List (List ℕ)) (x y : List ℕ) (P Q : List Pair) (h k : ℕ) →
+    AreDistinct Q → HaveMet marks norms words x y P h →
     Meet marks norms words x y P Q k → Q ≡ P
 have_met marks norms words x y P Q h k once met m =
     let same = same_cuts norms words (pruned_word marks x) (pruned_word marks y) met.cuts m.met.cuts h k met.cut m.met.cut in
@@ -201,7 +226,8 @@ have_met marks norms words x y P Q h k once met m =
       | inr i ↦ met.there i.0 b (ap (λ (z : List Pair). slice_get z i.0) same.0 ∙ i.1)
     ])
 
-pub have_room : (marks : List Bool) (norms : List (Option ℕ)) (words : List (List ℕ)) (x y : List ℕ) (P Q : List Pair) (room : ℕ) → AreDistinct Q → HaveRoom marks norms words x y P room →
+pub have_room : (marks : List Bool) (norms : List (Option ℕ)) (words : List (List ℕ)) (x y : List ℕ) (P Q : List Pair)
+    (room : ℕ) → AreDistinct Q → HaveRoom marks norms words x y P room →
     HaveNoRoom marks norms words x y P Q room → ⊥
 have_room marks norms words x y P Q room once (heads, met, le) full =
     let f = full.cuts met.cuts heads met.cut in
@@ -214,7 +240,8 @@ have_room marks norms words x y P Q room once (heads, met, le) full =
     omega arith
 
 -- places without a marked non-terminal
-pub unmarked_front : (marks : List Bool) (w : List ℕ) (at : ℕ) → ((k : ℕ) → k < at → is_marked marks (slice_index_or w k 0) ≡ false) → has_marked marks (take at w) ≡ false
+pub unmarked_front : (marks : List Bool) (w : List ℕ) (at : ℕ) →
+    ((k : ℕ) → k < at → is_marked marks (slice_index_or w k 0) ≡ false) → has_marked marks (take at w) ≡ false
 unmarked_front marks [] zero h = refl
 unmarked_front marks [] (suc at) h = refl
 unmarked_front marks (n ∷ w) zero h = refl
@@ -223,7 +250,8 @@ unmarked_front marks (n ∷ w) (suc at) h =
     let rest = unmarked_front marks w at (λ k l. h (suc k) (omega arith)) in
     rw (first, rest) refl
 
-pub unmarked_all : (marks : List Bool) (w : List ℕ) → ((k : ℕ) → k < length w → is_marked marks (slice_index_or w k 0) ≡ false) → has_marked marks w ≡ false
+pub unmarked_all : (marks : List Bool) (w : List ℕ) →
+    ((k : ℕ) → k < length w → is_marked marks (slice_index_or w k 0) ≡ false) → has_marked marks w ≡ false
 unmarked_all marks [] h = refl
 unmarked_all marks (n ∷ w) h =
     let first : is_marked marks n ≡ false = h 0 (omega arith) in

@@ -7,9 +7,11 @@ use Rattle.fst_expand.specs.Good.{AreDistinct, Each, IsIn}
 use Rattle.fst_expand.specs.Table.{Adds, AreNumbered, Collects, Grows}
 use Rattle.fst_expand.proofs.WayLaws.{get_more}
 
-get_behind : (front rest : List Pair) (at : ℕ) (b : Pair) → slice_get rest at ≡ Some b → slice_get (front ++ rest) (length front + at) ≡ Some b
+get_behind : (front rest : List Pair) (at : ℕ) (b : Pair) → slice_get rest at ≡ Some b →
+    slice_get (front ++ rest) (length front + at) ≡ Some b
 get_behind [] rest at b e = subst (λ (k : ℕ). slice_get rest k ≡ Some b) (let z : at ≡ 0 + at = omega arith in z) e
-get_behind (c ∷ front) rest at b e = subst (λ (k : ℕ). slice_get (c ∷ (front ++ rest)) k ≡ Some b) (let z : suc (length front + at) ≡ suc (length front) + at = omega arith in z) (get_behind front rest at b e)
+get_behind (c ∷ front) rest at b e = subst (λ (k : ℕ). slice_get (c ∷ (front ++ rest)) k ≡ Some b)
+    (let z : suc (length front + at) ≡ suc (length front) + at = omega arith in z) (get_behind front rest at b e)
 
 -- a pair of one of two lists is in both together
 pub in_front : (front rest : List Pair) (b : Pair) → IsIn b front → IsIn b (front ++ rest)
@@ -71,7 +73,8 @@ collects_on cuts more P Q R x y = record {
 -- a cut that has a number is all that was added
 pub number_adds : (cuts P Q : List Pair) (cut : Option ℕ) → AreNumbered cuts P Q cut → Adds cuts P Q
 number_adds cuts P Q None (none, same) = λ at b e. inl (at, ap (λ (z : List Pair). slice_get z at) (sym same) ∙ e)
-number_adds cuts P Q (Some p) (c, is, number) = λ at b e. elim (number.adds at b e) [ inl h ↦ inl h | inr h ↦ inr (h.0, ap (λ (z : List Pair). slice_get z h.0) is ∙ h.1) ]
+number_adds cuts P Q (Some p) (c, is, number) =
+    λ at b e. elim (number.adds at b e) [ inl h ↦ inl h | inr h ↦ inr (h.0, ap (λ (z : List Pair). slice_get z h.0) is ∙ h.1) ]
 
 pub number_collects : (cuts P Q : List Pair) (cut : Option ℕ) → AreNumbered cuts P Q cut → Collects cuts P Q
 number_collects cuts P Q None (none, same) = record {
@@ -96,7 +99,8 @@ same_pairs P Q g once there = g.grown ∙ ap (λ (z : List Pair). P ++ z) (none 
     none : (more : List Pair) → Q ≡ P ++ more → more ≡ []
     none [] e = refl
     none (b ∷ more) e =
-        let at : slice_get Q (length P + 0) ≡ Some b = ap (λ (z : List Pair). slice_get z (length P + 0)) e ∙ get_behind P (b ∷ more) 0 b refl in
+        let at : slice_get Q (length P + 0) ≡ Some b = ap (λ (z : List Pair). slice_get z (length P + 0)) e
+        ∙ get_behind P (b ∷ more) 0 b refl in
         let i = there (length P + 0) b at in
         let before = ap (λ (z : List Pair). slice_get z i.0) e ∙ get_more P (b ∷ more) i.0 b i.1 in
         let same : i.0 ≡ length P + 0 = once i.0 (length P + 0) b before at in

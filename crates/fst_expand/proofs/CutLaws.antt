@@ -14,41 +14,52 @@ use Rattle.fst_expand.specs.Cuts.{HasCuts, dropped, exact, head_cut, head_norm, 
 use Rattle.fst_expand.specs.Trail.{AreUnmarked}
 
 -- what the cuts of two words are where a head is dropped
-pub record AreDropped (norms : List (Option ℕ)) (words : List (List ℕ)) (x y : List ℕ) (side : Side) (norm : ℕ) (cuts : List Pair) (heads : ℕ) : Type 0 where
+pub record AreDropped (norms : List (Option ℕ)) (words : List (List ℕ)) (x y : List ℕ) (side : Side) (norm : ℕ) (cuts : List Pair)
+    (heads : ℕ) : Type 0 where
   pub rest : List Pair
   pub others : ℕ
   pub cut : HasCuts norms words (left_rest words side norm x) (right_rest words side norm y) rest others
   pub cuts_are : cuts ≡ head_cut words side norm x y ++ rest
   pub sum : heads ≡ suc others
 
-pub after_drop : (norms : List (Option ℕ)) (words : List (List ℕ)) (x y : List ℕ) (side : Side) (norm : ℕ) (cuts : List Pair) (heads : ℕ) →
-    HasCuts norms words x y cuts heads → x ≢ y → dropped (head_norm norms x) (head_norm norms y) ≡ Some (side, norm) → AreDropped norms words x y side norm cuts heads
+pub after_drop : (norms : List (Option ℕ)) (words : List (List ℕ)) (x y : List ℕ) (side : Side) (norm : ℕ) (cuts : List Pair)
+    (heads : ℕ) →
+    HasCuts norms words x y cuts heads → x ≢ y → dropped (head_norm norms x) (head_norm norms y) ≡ Some (side, norm) →
+    AreDropped norms words x y side norm cuts heads
 after_drop norms words x y side norm cuts heads HasCuts.same ne e = absurd (ne refl)
-after_drop norms words x y side norm cuts heads (HasCuts.whole other none) ne e = absurd (let f : None ≡ Some (side, norm) = sym none ∙ e in cc)
-after_drop norms words x y side norm cuts heads (HasCuts.drops {side = s} {k = k} {heads = others} {cuts = rest} other d cut) ne e =
+after_drop norms words x y side norm cuts heads (HasCuts.whole other none) ne e =
+    absurd (let f : None ≡ Some (side, norm) = sym none ∙ e in cc)
+after_drop norms words x y side norm cuts heads
+    (HasCuts.drops {side = s} {k = k} {heads = others} {cuts = rest} other d cut) ne e =
     let same : (s, k) ≡ (side, norm) = (let f : Some (s, k) ≡ Some (side, norm) = sym d ∙ e in cc) in
     let R : Side × ℕ → Type 0 = λ z. AreDropped norms words x y z.0 z.1 cuts heads in
     subst R same (record { rest = rest; others = others; cut = cut; cuts_are = refl; sum = refl })
 
 -- the cuts of the same words
-pub no_cuts : (norms : List (Option ℕ)) (words : List (List ℕ)) (x y : List ℕ) (cuts : List Pair) (heads : ℕ) → HasCuts norms words x y cuts heads → x ≡ y →
+pub no_cuts : (norms : List (Option ℕ)) (words : List (List ℕ)) (x y : List ℕ) (cuts : List Pair) (heads : ℕ) →
+    HasCuts norms words x y cuts heads → x ≡ y →
     (cuts ≡ []) × (heads ≡ 0)
 no_cuts norms words x y cuts heads HasCuts.same e = (refl, refl)
 no_cuts norms words x y cuts heads (HasCuts.whole other none) e = absurd (other e)
 no_cuts norms words x y cuts heads (HasCuts.drops other d cut) e = absurd (other e)
 
 -- those of other ones of which no head is dropped
-pub one_cut : (norms : List (Option ℕ)) (words : List (List ℕ)) (x y : List ℕ) (cuts : List Pair) (heads : ℕ) → HasCuts norms words x y cuts heads → x ≢ y →
+pub one_cut : (norms : List (Option ℕ)) (words : List (List ℕ)) (x y : List ℕ) (cuts : List Pair) (heads : ℕ) →
+    HasCuts norms words x y cuts heads → x ≢ y →
     dropped (head_norm norms x) (head_norm norms y) ≡ None → (cuts ≡ record { left = x; right = y } ∷ []) × (heads ≡ 0)
 one_cut norms words x y cuts heads HasCuts.same ne e = absurd (ne refl)
 one_cut norms words x y cuts heads (HasCuts.whole other none) ne e = (refl, refl)
-one_cut norms words x y cuts heads (HasCuts.drops {side = s} {k = k} other d cut) ne e = absurd (let f : None ≡ Some (s, k) = sym e ∙ d in cc)
+one_cut norms words x y cuts heads (HasCuts.drops {side = s} {k = k} other d cut) ne e =
+    absurd (let f : None ≡ Some (s, k) = sym e ∙ d in cc)
 
 -- two words have one list of cuts, and one number of heads
-pub same_cuts : (norms : List (Option ℕ)) (words : List (List ℕ)) (x y : List ℕ) (cuts others : List Pair) (heads count : ℕ) → HasCuts norms words x y cuts heads →
+pub same_cuts : (norms : List (Option ℕ)) (words : List (List ℕ)) (x y : List ℕ) (cuts others : List Pair) (heads count : ℕ) →
+    HasCuts norms words x y cuts heads →
     HasCuts norms words x y others count → (cuts ≡ others) × (heads ≡ count)
-same_cuts norms words x y cuts others heads count HasCuts.same h = let n = no_cuts norms words x y others count h refl in (sym n.0, sym n.1)
-same_cuts norms words x y cuts others heads count (HasCuts.whole other none) h = let n = one_cut norms words x y others count h other none in (sym n.0, sym n.1)
+same_cuts norms words x y cuts others heads count HasCuts.same h = let n = no_cuts norms words x y others count h refl in
+    (sym n.0, sym n.1)
+same_cuts norms words x y cuts others heads count (HasCuts.whole other none) h = let n =
+    one_cut norms words x y others count h other none in (sym n.0, sym n.1)
 same_cuts norms words x y cuts others heads count (HasCuts.drops {side = s} {k = k} {heads = more} {cuts = rest} other d cut) h =
     let a = after_drop norms words x y s k others count h other d in
     let r = same_cuts norms words (left_rest words s k x) (right_rest words s k y) rest a.rest more a.others cut a.cut in
@@ -62,7 +73,8 @@ some_norms (Some j) (Some k) d e = ((j, refl), (k, refl))
 
 exact_some : (o : Option ℕ) (k : ℕ) → exact o ≡ Some k → o ≡ Some k
 exact_some None k e = e
-exact_some (Some j) k e = elim (nat_lt j greatest_norm) as (λ b. cond b (Some j) None ≡ Some k → Some j ≡ Some k) [ true ↦ λ h. h | false ↦ λ h. cc ] e
+exact_some (Some j) k e = elim (nat_lt j greatest_norm) as (λ b. cond b (Some j) None ≡ Some k → Some j ≡ Some k)
+    [ true ↦ λ h. h | false ↦ λ h. cc ] e
 
 -- a word with a norm at its head
 pub record HasHead (norms : List (Option ℕ)) (w : List ℕ) : Type 0 where
@@ -76,7 +88,8 @@ head_there : (norms : List (Option ℕ)) (w : List ℕ) (k : ℕ) → head_norm 
 head_there norms [] k e = absurd (cc e)
 head_there norms (n ∷ w) k e = record { head = n; rest = w; word = refl; norm = k; bound = exact_some (bound_at norms n) k e }
 
-pub heads_there : (norms : List (Option ℕ)) (x y : List ℕ) (d : Side × ℕ) → dropped (head_norm norms x) (head_norm norms y) ≡ Some d → HasHead norms x × HasHead norms y
+pub heads_there : (norms : List (Option ℕ)) (x y : List ℕ) (d : Side × ℕ) →
+    dropped (head_norm norms x) (head_norm norms y) ≡ Some d → HasHead norms x × HasHead norms y
 heads_there norms x y d e =
     let s = some_norms (head_norm norms x) (head_norm norms y) d e in
     (head_there norms x s.0.0 s.0.1, head_there norms y s.1.0 s.1.1)
@@ -87,7 +100,8 @@ not_empty norms w h e = absurd (let f : h.head ∷ h.rest ≡ [] = sym h.word �
 -- words below a number
 pub append_below : (n : ℕ) (v w : List ℕ) → WordBelow n v → WordBelow n w → WordBelow n (v ++ w)
 append_below n [] w hv hw = hw
-append_below n (k ∷ v) w hv hw = All-cons (λ k. k < n) k (v ++ w) (All-head (λ k. k < n) k v hv) (append_below n v w (All-tail (λ k. k < n) k v hv) hw)
+append_below n (k ∷ v) w hv hw = All-cons (λ k. k < n) k (v ++ w) (All-head (λ k. k < n) k v hv)
+    (append_below n v w (All-tail (λ k. k < n) k v hv) hw)
 
 pub rest_below : (n : ℕ) (w : List ℕ) → WordBelow n w → WordBelow n (drop 1 w)
 rest_below n [] h = h
@@ -108,11 +122,13 @@ word_below n [] k h = All-nil (λ k. k < n)
 word_below n (w ∷ words) zero h = All-head (WordBelow n) w words h
 word_below n (w ∷ words) (suc k) h = word_below n words k (All-tail (WordBelow n) w words h)
 
-pub lower_below : (n : ℕ) (words : List (List ℕ)) (w : List ℕ) → All (WordBelow n) words → WordBelow n w → WordBelow n (lower words w)
+pub lower_below : (n : ℕ) (words : List (List ℕ)) (w : List ℕ) → All (WordBelow n) words → WordBelow n w →
+    WordBelow n (lower words w)
 lower_below n words [] h hw = hw
 lower_below n words (k ∷ w) h hw = append_below n (lowered_to words k) w (word_below n words k h) (All-tail (λ k. k < n) k w hw)
 
-pub lowered_below : (n : ℕ) (words : List (List ℕ)) (steps : ℕ) (w : List ℕ) → All (WordBelow n) words → WordBelow n w → WordBelow n (lowered words steps w)
+pub lowered_below : (n : ℕ) (words : List (List ℕ)) (steps : ℕ) (w : List ℕ) → All (WordBelow n) words → WordBelow n w →
+    WordBelow n (lowered words steps w)
 lowered_below n words zero w h hw = hw
 lowered_below n words (suc steps) w h hw = lowered_below n words steps (lower words w) h (lower_below n words w h hw)
 
@@ -121,7 +137,8 @@ pub unmarked_parts : (a b : Bool) → (a || b) ≡ false → (a ≡ false) × (b
 unmarked_parts true b e = cc
 unmarked_parts false b e = (refl, e)
 
-pub append_unmarked : (marks : List Bool) (v w : List ℕ) → has_marked marks v ≡ false → has_marked marks w ≡ false → has_marked marks (v ++ w) ≡ false
+pub append_unmarked : (marks : List Bool) (v w : List ℕ) → has_marked marks v ≡ false → has_marked marks w ≡ false →
+    has_marked marks (v ++ w) ≡ false
 append_unmarked marks [] w hv hw = hw
 append_unmarked marks (n ∷ v) w hv hw =
     let p = unmarked_parts (is_marked marks n) (has_marked marks v) hv in
@@ -129,15 +146,18 @@ append_unmarked marks (n ∷ v) w hv hw =
     let rest = append_unmarked marks v w p.1 hw in
     rw (first, rest) refl
 
-pub lowered_unmarked : (marks : List Bool) (norms : List (Option ℕ)) (words : List (List ℕ)) (steps : ℕ) (w : List ℕ) → AreUnmarked marks norms words → has_marked marks w ≡ false →
+pub lowered_unmarked : (marks : List Bool) (norms : List (Option ℕ)) (words : List (List ℕ)) (steps : ℕ) (w : List ℕ) →
+    AreUnmarked marks norms words → has_marked marks w ≡ false →
     has_marked marks (lowered words steps w) ≡ false
 lowered_unmarked marks norms words zero w h u = u
 lowered_unmarked marks norms words (suc steps) [] h u = lowered_unmarked marks norms words steps [] h u
 lowered_unmarked marks norms words (suc steps) (n ∷ w) h u =
-    lowered_unmarked marks norms words steps (lowered_to words n ++ w) h (append_unmarked marks (lowered_to words n) w (h.lowered n) (unmarked_parts (is_marked marks n) (has_marked marks w) u).1)
+    lowered_unmarked marks norms words steps (lowered_to words n ++ w) h
+    (append_unmarked marks (lowered_to words n) w (h.lowered n) (unmarked_parts (is_marked marks n) (has_marked marks w) u).1)
 
 -- a head with a norm isn't marked
-pub head_unmarked : (marks : List Bool) (norms : List (Option ℕ)) (words : List (List ℕ)) (w : List ℕ) → AreUnmarked marks norms words → HasHead norms w → has_marked marks (take 1 w) ≡ false
+pub head_unmarked : (marks : List Bool) (norms : List (Option ℕ)) (words : List (List ℕ)) (w : List ℕ) →
+    AreUnmarked marks norms words → HasHead norms w → has_marked marks (take 1 w) ≡ false
 head_unmarked marks norms words w h t =
     let u = h.normed t.head t.norm t.bound in
     let R : List ℕ → Type 0 = λ z. has_marked marks (take 1 z) ≡ false in

@@ -23,8 +23,10 @@ use Rattle.fst_expand.proofs.WalkLaws.{one_pair, same_words}
 use Rattle.fst_expand.proofs.WayLaws.{chained-append, chained_last, chained_more, exchanges_on, forth, noted_exchanges, reversed_exchanges}
 
 -- the pair of the two words that are left leads from one to the other
-leads_last : (P Q : List Pair) (before after : List Rewrite) (heads : ℕ) (x y l r : List ℕ) (cut : Option ℕ) → Leads P before after heads x y l r →
-    AreNumbered (unless_same l r) P Q cut → (marks : List Bool) → chained marks Q (noted before heads cut ++ reverse after) x ≡ Some y
+leads_last : (P Q : List Pair) (before after : List Rewrite) (heads : ℕ) (x y l r : List ℕ) (cut : Option ℕ) →
+    Leads P before after heads x y l r →
+    AreNumbered (unless_same l r) P Q cut → (marks : List Bool) →
+    chained marks Q (noted before heads cut ++ reverse after) x ≡ Some y
 leads_last P Q before after heads x y l r None w (none, same) marks =
     let is = same_words l r none in
     rw same (
@@ -44,16 +46,19 @@ leads_last P Q before after heads x y l r (Some p) w (c, cut, number) marks =
     ∙ on (reverse after) (w.front ++ r) y (w.to marks)
 
 -- the cuts of the two words that are left are their pair alone, if there is one, and no head
-cuts_last : (norms : List (Option ℕ)) (words : List (List ℕ)) (l r : List ℕ) → HasNoDrop norms l r → HasCuts norms words l r (unless_same l r) 0
+cuts_last : (norms : List (Option ℕ)) (words : List (List ℕ)) (l r : List ℕ) → HasNoDrop norms l r →
+    HasCuts norms words l r (unless_same l r) 0
 cuts_last norms words l r none =
-    (elim (bytes_eq l r) as (λ b. bytes_eq l r ≡ b → HasCuts norms words l r (cond {A = List Pair} b [] (record { left = l; right = r } ∷ [])) 0) [
+    (elim (bytes_eq l r) as (λ b. bytes_eq l r ≡ b →
+    HasCuts norms words l r (cond {A = List Pair} b [] (record { left = l; right = r } ∷ [])) 0) [
       | true ↦ λ t. subst (λ (z : List ℕ). HasCuts norms words l z [] 0) (same_text l r t) HasCuts.same
       | false ↦ λ t.
           let other : l ≢ r = λ same. absurd (true≢false (sym ((bytes_eq-Decides l r).1 same) ∙ t)) in
           HasCuts.whole other (elim none [ inl same ↦ absurd (other same) | inr e ↦ e ])
     ]) refl
 
-pub joining_last : (norms : List (Option ℕ)) (words : List (List ℕ)) (x y : List ℕ) (old Q : List Pair) (s : Store) (w : Walk) (cut : Option ℕ) →
+pub joining_last : (norms : List (Option ℕ)) (words : List (List ℕ)) (x y : List ℕ) (old Q : List Pair) (s : Store) (w : Walk)
+    (cut : Option ℕ) →
     IsUnderway norms words x y old s w → HasNoDrop norms (word_of s.words w.left) (word_of s.words w.right) →
     AreNumbered (unless_same (word_of s.words w.left) (word_of s.words w.right)) s.pairs Q cut →
     IsJoining norms words x y old Q (noted w.before.items w.heads cut ++ reverse w.after.items) w.heads
@@ -65,7 +70,8 @@ joining_last norms words x y old Q s w cut u none number =
     let end : w.heads + 0 ≡ w.heads = omega arith in
     record {
       leads = leads_last s.pairs Q w.before.items w.after.items w.heads x y l r cut u.leads number;
-      exchanges = exchanges_on (noted w.before.items w.heads cut) (reverse w.after.items) (noted_exchanges w.before.items w.heads cut u.before) (reversed_exchanges w.after.items u.after);
+      exchanges = exchanges_on (noted w.before.items w.heads cut) (reverse w.after.items)
+          (noted_exchanges w.before.items w.heads cut u.before) (reversed_exchanges w.after.items u.after);
       met = record {
         cuts = u.met ++ cuts;
         cut = subst (HasCuts norms words x y (u.met ++ cuts)) end (u.first.on cuts 0 (cuts_last norms words l r none));
@@ -73,12 +79,14 @@ joining_last norms words x y old Q s w cut u none number =
         below = each_added (IsPairBelow (length words)) cuts s.pairs Q collects.adds u.below.pairs
             (unless_each (IsPairBelow (length words)) l r (record { left = u.below.left; right = u.below.right }));
         pruned = λ marks unmarked p. let q = u.pruned marks unmarked p in
-            each_added (IsPrunedPair marks) cuts s.pairs Q collects.adds q.pairs (unless_each (IsPrunedPair marks) l r (record { left = q.left; right = q.right }));
+            each_added (IsPrunedPair marks) cuts s.pairs Q collects.adds q.pairs
+            (unless_each (IsPrunedPair marks) l r (record { left = q.left; right = q.right }));
       };
     }
 
 -- at first nothing is met
-pub underway_first : (norms : List (Option ℕ)) (words : List (List ℕ)) (s : Store) (w : Walk) → w.left < length s.words → w.right < length s.words → w.before.items ≡ [] →
+pub underway_first : (norms : List (Option ℕ)) (words : List (List ℕ)) (s : Store) (w : Walk) → w.left < length s.words →
+    w.right < length s.words → w.before.items ≡ [] →
     w.after.items ≡ [] → w.heads ≡ 0 → AreBelow (length words) (word_of s.words w.left) (word_of s.words w.right) s.pairs →
     IsUnderway norms words (word_of s.words w.left) (word_of s.words w.right) s.pairs s w
 underway_first norms words s w left right before after heads below =
@@ -92,7 +100,8 @@ underway_first norms words s w left right before after heads below =
       after = rw after (λ n. All-nil (IsRewriteBelow n));
       met = [];
       first = record {
-        on = λ rest others h. subst (HasCuts norms words l r rest) (let z : others ≡ w.heads + others = omega (arith, heads) in z) h;
+        on = λ rest others h. subst (HasCuts norms words l r rest)
+            (let z : others ≡ w.heads + others = omega (arith, heads) in z) h;
         back = λ cuts count h. (cuts, count, h, refl, omega (arith, heads));
       };
       collects = collects_nothing s.pairs;
@@ -101,7 +110,8 @@ underway_first norms words s w left right before after heads below =
     }
 
 -- what is met on the way is too much, or at its end
-pub crowded_underway : (norms : List (Option ℕ)) (words : List (List ℕ)) (x y : List ℕ) (old : List Pair) (s : Store) (w : Walk) (room : ℕ) → IsUnderway norms words x y old s w →
+pub crowded_underway : (norms : List (Option ℕ)) (words : List (List ℕ)) (x y : List ℕ) (old : List Pair) (s : Store) (w : Walk)
+    (room : ℕ) → IsUnderway norms words x y old s w →
     room < length s.pairs + w.heads → IsCrowded norms words x y old s.pairs room
 crowded_underway norms words x y old s w room u full = record {
   grows = u.collects.grows;
@@ -116,7 +126,8 @@ crowded_underway norms words x y old s w room u full = record {
       );
 }
 
-pub crowded_joining : (norms : List (Option ℕ)) (words : List (List ℕ)) (x y : List ℕ) (old new : List Pair) (steps : List Rewrite) (heads room : ℕ) →
+pub crowded_joining : (norms : List (Option ℕ)) (words : List (List ℕ)) (x y : List ℕ) (old new : List Pair)
+    (steps : List Rewrite) (heads room : ℕ) →
     IsJoining norms words x y old new steps heads → room < length new + heads → IsCrowded norms words x y old new room
 crowded_joining norms words x y old new steps heads room j full = record {
   grows = j.met.collects.grows;

@@ -12,7 +12,7 @@ use Rattle.fst_words.proofs.Laws.{present}
 use Rattle.fst_norms.specs.Pruned.{pruned_word}
 use Rattle.fst_basis.specs.declared.proof.Pair.{Pair}
 use Rattle.fst_basis.specs.Basis.{IsPair, same_letters}
-use Rattle.fst_basis.proofs.LetterLaws.{pair_told}
+use Rattle.fst_basis.proofs.Laws.{pair_told}
 use Rattle.fst_expand.specs.Bridge.{AreFit, HaveMet, HaveNoRoom, Meet}
 use Rattle.fst_expand.specs.Expansion.{AddsNext, AreAfter, AreFollowed, IsFollowed, LackRoom}
 use Rattle.fst_expand.specs.Good.{DropHeads, Each, HaveCutsAfter, HavePrunedCuts, IsIn}
@@ -22,19 +22,24 @@ use Rattle.fst_expand.proofs.CutLaws.{same_cuts}
 use Rattle.fst_expand.proofs.PlaceLaws.{one_item, parted, taken}
 
 -- the rule at a place is the one that its letter finds
-rule_there : (rules : List Rule) (i : ℕ) (r : Rule) → AreOrdered rules → slice_get rules i ≡ Some r → rule_of rules r.letter ≡ Some r.word
+rule_there : (rules : List Rule) (i : ℕ) (r : Rule) → AreOrdered rules → slice_get rules i ≡ Some r →
+    rule_of rules r.letter ≡ Some r.word
 rule_there rules i r o e =
     let is : get_or rules i r ≡ r = get_or_from_slice_get rules i r r e in
-    present rules r.letter i r o (slice_get_within rules i r e) (ap (λ (z : Rule). z.letter) is) ∙ ap (λ (z : Rule). Some z.word) is
+    present rules r.letter i r o (slice_get_within rules i r e) (ap (λ (z : Rule). z.letter) is) ∙ ap
+    (λ (z : Rule). Some z.word) is
 
 -- rules with the same letters have them at the same places
-letters_at : (rs qs : List Rule) (i : ℕ) (r q : Rule) → same_letters rs qs ≡ true → slice_get rs i ≡ Some r → slice_get qs i ≡ Some q → r.letter ≡ q.letter
+letters_at : (rs qs : List Rule) (i : ℕ) (r q : Rule) → same_letters rs qs ≡ true → slice_get rs i ≡ Some r →
+    slice_get qs i ≡ Some q → r.letter ≡ q.letter
 letters_at [] qs i r q e ri qi = absurd (cc ri)
 letters_at (x ∷ rs) [] i r q e ri qi = absurd (cc e)
 letters_at (x ∷ rs) (y ∷ qs) zero r q e ri qi =
     let p = and_parts (x.letter == y.letter) (same_letters rs qs) e in
-    ap (λ (z : Rule). z.letter) (let f : r ≡ x = cc in f) ∙ same_number x.letter y.letter p.0 ∙ ap (λ (z : Rule). z.letter) (let f : y ≡ q = cc in f)
-letters_at (x ∷ rs) (y ∷ qs) (suc i) r q e ri qi = letters_at rs qs i r q (and_parts (x.letter == y.letter) (same_letters rs qs) e).1 ri qi
+    ap (λ (z : Rule). z.letter) (let f : r ≡ x = cc in f) ∙ same_number x.letter y.letter p.0 ∙ ap
+    (λ (z : Rule). z.letter) (let f : y ≡ q = cc in f)
+letters_at (x ∷ rs) (y ∷ qs) (suc i) r q e ri qi =
+    letters_at rs qs i r q (and_parts (x.letter == y.letter) (same_letters rs qs) e).1 ri qi
 
 pub as_long : (rs qs : List Rule) → same_letters rs qs ≡ true → length rs ≡ length qs
 as_long [] [] e = refl
@@ -43,16 +48,19 @@ as_long (r ∷ rs) [] e = absurd (cc e)
 as_long (r ∷ rs) (q ∷ qs) e = ap suc (as_long rs qs (and_parts (r.letter == q.letter) (same_letters rs qs) e).1)
 
 -- a letter that a row has stands at some place
-pub rule_at : (rules : List Rule) (a : ℕ) (w : List ℕ) → rule_of rules a ≡ Some w → (j : ℕ) × (r : Rule) × (slice_get rules j ≡ Some r) × (r.letter ≡ a)
+pub rule_at : (rules : List Rule) (a : ℕ) (w : List ℕ) → rule_of rules a ≡ Some w → (j : ℕ) × (r : Rule) ×
+    (slice_get rules j ≡ Some r) × (r.letter ≡ a)
 rule_at [] a w e = absurd (cc e)
 rule_at (r ∷ rules) a w e =
-    (elim (r.letter == a) as (λ b. (r.letter == a) ≡ b → (cond {A = Option (List ℕ)} b (Some r.word) (rule_of rules a)) ≡ Some w → (j : ℕ) × (q : Rule) × (slice_get (r ∷ rules) j ≡ Some q) × (q.letter ≡ a)) [
+    (elim (r.letter == a) as (λ b. (r.letter == a) ≡ b → (cond {A = Option (List ℕ)} b (Some r.word) (rule_of rules a)) ≡ Some w →
+    (j : ℕ) × (q : Rule) × (slice_get (r ∷ rules) j ≡ Some q) × (q.letter ≡ a)) [
       | true ↦ λ t f. (0, r, refl, same_number r.letter a t)
       | false ↦ λ t f. let p = rule_at rules a w f in (suc p.0, p.1, p.2, p.3)
     ]) refl e
 
 -- a word that performs a letter performs that of a rule of its first non-terminal
-letter_at : (rows : Productions) (n a : ℕ) (t x : List ℕ) → step rows (n ∷ t) a ≡ Some x → (j : ℕ) × (r : Rule) × (slice_get (row_of rows n) j ≡ Some r) × (r.letter ≡ a)
+letter_at : (rows : Productions) (n a : ℕ) (t x : List ℕ) → step rows (n ∷ t) a ≡ Some x → (j : ℕ) × (r : Rule) ×
+    (slice_get (row_of rows n) j ≡ Some r) × (r.letter ≡ a)
 letter_at rows n a t x e =
     (elim (rule_of (row_of rows n) a) as (λ o. rule_of (row_of rows n) a ≡ o → option_map (λ (v : List ℕ). v ++ t) o ≡ Some x →
     (j : ℕ) × (r : Rule) × (slice_get (row_of rows n) j ≡ Some r) × (r.letter ≡ a)) [
@@ -61,7 +69,8 @@ letter_at rows n a t x e =
     ]) refl e
 
 -- a pair with these words moves by the rules of their first non-terminals, which have the same letters exactly where it is one
-pub pair_moves : (rows : Productions) (b : Pair) (n m : ℕ) (t s : List ℕ) → b.left ≡ n ∷ t → b.right ≡ m ∷ s → AreOrdered (row_of rows n) → AreOrdered (row_of rows m) →
+pub pair_moves : (rows : Productions) (b : Pair) (n m : ℕ) (t s : List ℕ) → b.left ≡ n ∷ t → b.right ≡ m ∷ s →
+    AreOrdered (row_of rows n) → AreOrdered (row_of rows m) →
     (same_letters (row_of rows n) (row_of rows m) ≡ true) ↔ IsPair rows b
 pair_moves rows b n m t s left right on om =
     let l : first_row rows b.left ≡ row_of rows n = ap (first_row rows) left in
@@ -75,18 +84,23 @@ pub not_pair : (rows : Productions) (b : Pair) → (b.left ≡ []) ⊎ (b.right 
 not_pair rows b (inl e) p = absurd (p.left e)
 not_pair rows b (inr e) p = absurd (p.right e)
 
-pub letter_there : (rows : Productions) (w : List ℕ) (a : ℕ) (x : List ℕ) → step rows w a ≡ Some x → (j : ℕ) × (r : Rule) × (slice_get (first_row rows w) j ≡ Some r) × (r.letter ≡ a)
+pub letter_there : (rows : Productions) (w : List ℕ) (a : ℕ) (x : List ℕ) → step rows w a ≡ Some x → (j : ℕ) × (r : Rule) ×
+    (slice_get (first_row rows w) j ≡ Some r) × (r.letter ≡ a)
 letter_there rows [] a x e = absurd (cc e)
 letter_there rows (n ∷ t) a x e = letter_at rows n a t x e
 
 -- what two words become by the rules at one place
-pub after_at : (rows : Productions) (b : Pair) (n m : ℕ) (t s : List ℕ) (i : ℕ) (r q : Rule) → b.left ≡ n ∷ t → b.right ≡ m ∷ s → AreOrdered (row_of rows n) → AreOrdered (row_of rows m) →
-    same_letters (row_of rows n) (row_of rows m) ≡ true → slice_get (row_of rows n) i ≡ Some r → slice_get (row_of rows m) i ≡ Some q → AreAfter rows b r.letter (r.word ++ t) (q.word ++ s)
+pub after_at : (rows : Productions) (b : Pair) (n m : ℕ) (t s : List ℕ) (i : ℕ) (r q : Rule) → b.left ≡ n ∷ t → b.right ≡ m ∷ s →
+    AreOrdered (row_of rows n) → AreOrdered (row_of rows m) →
+    same_letters (row_of rows n) (row_of rows m) ≡ true → slice_get (row_of rows n) i ≡ Some r →
+    slice_get (row_of rows m) i ≡ Some q → AreAfter rows b r.letter (r.word ++ t) (q.word ++ s)
 after_at rows b n m t s i r q left right on om same ri qi =
     let letter = letters_at (row_of rows n) (row_of rows m) i r q same ri qi in
     record {
-      left = ap (λ (z : List ℕ). step rows z r.letter) left ∙ ap (option_map (λ (v : List ℕ). v ++ t)) (rule_there (row_of rows n) i r on ri);
-      right = ap (λ (z : List ℕ). step rows z r.letter) right ∙ ap (λ (a : ℕ). option_map (λ (v : List ℕ). v ++ s) (rule_of (row_of rows m) a)) letter
+      left = ap (λ (z : List ℕ). step rows z r.letter) left
+          ∙ ap (option_map (λ (v : List ℕ). v ++ t)) (rule_there (row_of rows n) i r on ri);
+      right = ap (λ (z : List ℕ). step rows z r.letter) right ∙ ap
+          (λ (a : ℕ). option_map (λ (v : List ℕ). v ++ s) (rule_of (row_of rows m) a)) letter
           ∙ ap (option_map (λ (v : List ℕ). v ++ s)) (rule_there (row_of rows m) i q om qi);
     }
 
@@ -101,16 +115,20 @@ module _ (rows : Productions) (marks : List Bool) (norms : List (Option ℕ)) (w
       subst (λ (v : List ℕ). R v y) left (subst (R h.x) right h.cut)
 
   -- and the other way round
-  pub after_cuts : (a : ℕ) (x y : List ℕ) (cuts : List Pair) (heads : ℕ) → AreAfter rows b a x y → HavePrunedCuts marks norms words x y cuts heads → HaveCutsAfter rows marks norms words b a cuts heads
+  pub after_cuts : (a : ℕ) (x y : List ℕ) (cuts : List Pair) (heads : ℕ) → AreAfter rows b a x y →
+      HavePrunedCuts marks norms words x y cuts heads → HaveCutsAfter rows marks norms words b a cuts heads
   after_cuts a x y cuts heads l h = record { x = x; y = y; left = l.left; right = l.right; cut = h }
 
-  same_after : (a : ℕ) (cuts others : List Pair) (heads count : ℕ) → HaveCutsAfter rows marks norms words b a cuts heads → HaveCutsAfter rows marks norms words b a others count →
+  same_after : (a : ℕ) (cuts others : List Pair) (heads count : ℕ) → HaveCutsAfter rows marks norms words b a cuts heads →
+      HaveCutsAfter rows marks norms words b a others count →
       (cuts ≡ others) × (heads ≡ count)
   same_after a cuts others heads count h k =
-      same_cuts norms words (pruned_word marks k.x) (pruned_word marks k.y) cuts others heads count (cuts_after a k.x k.y cuts heads (record { left = k.left; right = k.right }) h) k.cut
+      same_cuts norms words (pruned_word marks k.x) (pruned_word marks k.y) cuts others heads count
+      (cuts_after a k.x k.y cuts heads (record { left = k.left; right = k.right }) h) k.cut
 
   -- by the letters of some rules one number of heads is dropped
-  pub same_drops : (rules : List Rule) (n k : ℕ) → DropHeads rows marks norms words b rules n → DropHeads rows marks norms words b rules k → n ≡ k
+  pub same_drops : (rules : List Rule) (n k : ℕ) → DropHeads rows marks norms words b rules n →
+      DropHeads rows marks norms words b rules k → n ≡ k
   same_drops [] n k d e = d ∙ sym e
   same_drops (r ∷ rules) n k d e =
       let c = same_after r.letter d.0 e.0 d.1 e.1 d.3 e.3 in
@@ -120,10 +138,18 @@ module _ (rows : Productions) (marks : List Bool) (norms : List (Option ℕ)) (w
       let y = e.5 in
       omega arith
 
-  pub drops_push : (rules : List Rule) (r : Rule) (n h : ℕ) (cuts : List Pair) → DropHeads rows marks norms words b rules n → HaveCutsAfter rows marks norms words b r.letter cuts h →
+  pub drops_push : (rules : List Rule) (r : Rule) (n h : ℕ) (cuts : List Pair) → DropHeads rows marks norms words b rules n →
+      HaveCutsAfter rows marks norms words b r.letter cuts h →
       DropHeads rows marks norms words b (rules ++ r ∷ []) (n + h)
   drops_push [] r n h cuts d c = (cuts, h, 0, c, refl, (let e = d in omega arith))
-  drops_push (q ∷ rules) r n h cuts d c = (d.0, d.1, d.2 + h, d.3, drops_push rules r d.2 h cuts d.4 c, (let e = d.5 in omega arith))
+  drops_push (q ∷ rules) r n h cuts d c = (
+    d.0,
+    d.1,
+    d.2 + h,
+    d.3,
+    drops_push rules r d.2 h cuts d.4 c,
+    (let e = d.5 in omega arith),
+  )
 
   drops_parts : (front rest : List Rule) (n : ℕ) → DropHeads rows marks norms words b (front ++ rest) n →
       (j k : ℕ) × DropHeads rows marks norms words b front j × DropHeads rows marks norms words b rest k × (n ≡ j + k)
@@ -135,10 +161,12 @@ module _ (rows : Productions) (marks : List Bool) (norms : List (Option ℕ)) (w
       (d.1 + p.0, p.1, (d.0, d.1, p.0, d.3, p.2, refl), p.3, omega arith)
 
   -- the cuts by the letter of one of the rules, and the heads, which are some of all
-  pub drops_at : (rules : List Rule) (n i : ℕ) (r : Rule) → DropHeads rows marks norms words b rules n → slice_get rules i ≡ Some r →
+  pub drops_at : (rules : List Rule) (n i : ℕ) (r : Rule) → DropHeads rows marks norms words b rules n →
+      slice_get rules i ≡ Some r →
       (cuts : List Pair) × (h : ℕ) × HaveCutsAfter rows marks norms words b r.letter cuts h × (h ≤ n)
   drops_at rules n i r d e =
-      let p = drops_parts (take i rules) (r ∷ drop (suc i) rules) n (subst (λ (z : List Rule). DropHeads rows marks norms words b z n) (parted rules i r e) d) in
+      let p = drops_parts (take i rules) (r ∷ drop (suc i) rules) n
+      (subst (λ (z : List Rule). DropHeads rows marks norms words b z n) (parted rules i r e) d) in
       let q = p.3 in
       let s = p.4 in
       let u = q.5 in
@@ -154,9 +182,12 @@ module _ (rows : Productions) (marks : List Bool) (norms : List (Option ℕ)) (w
       fit = fit;
     }
 
-    module _ (P Q : List Pair) (counts : List ℕ) (heads : ℕ) (r q : Rule) (ri : slice_get rules (length counts) ≡ Some r) (qi : slice_get others (length counts) ≡ Some q)
-        (after : AreAfter rows b r.letter (r.word ++ t) (q.word ++ s)) (f : AreFollowed rows marks norms words b old P rules others t s counts heads) where
-      adds_more : (cuts : List Pair) (h : ℕ) → HaveCutsAfter rows marks norms words b r.letter cuts h → Adds cuts P Q → AddsNext rows marks norms words b old Q
+    module _ (P Q : List Pair) (counts : List ℕ) (heads : ℕ) (r q : Rule) (ri : slice_get rules (length counts) ≡ Some r)
+        (qi : slice_get others (length counts) ≡ Some q)
+        (after : AreAfter rows b r.letter (r.word ++ t) (q.word ++ s))
+        (f : AreFollowed rows marks norms words b old P rules others t s counts heads) where
+      adds_more : (cuts : List Pair) (h : ℕ) → HaveCutsAfter rows marks norms words b r.letter cuts h → Adds cuts P Q →
+          AddsNext rows marks norms words b old Q
       adds_more cuts h cut new = λ at c e. elim (new at c e) [
         | inl i ↦ f.adds i.0 c i.1
         | inr i ↦ inr (record { letter = r.letter; cuts = cuts; heads = h; cut = cut; there = i })
@@ -165,20 +196,25 @@ module _ (rows : Productions) (marks : List Bool) (norms : List (Option ℕ)) (w
       have_more : (x y : List ℕ) (k : ℕ) → Grows P Q → HaveMet marks norms words x y P k → HaveMet marks norms words x y Q k
       have_more x y k grows h = record { cuts = h.cuts; cut = h.cut; there = each_more h.cuts P Q grows h.there }
 
-      pub followed_next : (h : ℕ) → Meet marks norms words (r.word ++ t) (q.word ++ s) P Q h → AreFollowed rows marks norms words b old Q rules others t s (counts ++ h ∷ []) (heads + h)
+      pub followed_next : (h : ℕ) → Meet marks norms words (r.word ++ t) (q.word ++ s) P Q h →
+          AreFollowed rows marks norms words b old Q rules others t s (counts ++ h ∷ []) (heads + h)
       followed_next h m =
           let cut = after_cuts r.letter (r.word ++ t) (q.word ++ s) m.met.cuts h after m.met.cut in
           let longer : length (counts ++ h ∷ []) ≡ length counts + 1 = (let l = length-push counts h in omega arith) in
-          let more : take (length (counts ++ h ∷ [])) rules ≡ take (length counts) rules ++ r ∷ [] = ap (λ (k : ℕ). take k rules) longer ∙ taken rules (length counts) r ri in
+          let more : take (length (counts ++ h ∷ [])) rules ≡ take (length counts) rules ++ r ∷ [] = ap
+          (λ (k : ℕ). take k rules) longer ∙ taken rules (length counts) r ri in
           record {
             grows = grows_on old P Q f.grows m.grows;
             each = λ j k r2 q2 e rj qj. elim (get-push counts h k j e) [
               | inl before ↦ have_more (r2.word ++ t) (q2.word ++ s) k m.grows (f.each j k r2 q2 before rj qj)
               | inr last ↦
-                  let same_r : r2 ≡ r = one_item rules (length counts) r2 r (subst (λ (z : ℕ). slice_get rules z ≡ Some r2) last.0 rj) ri in
-                  let same_q : q2 ≡ q = one_item others (length counts) q2 q (subst (λ (z : ℕ). slice_get others z ≡ Some q2) last.0 qj) qi in
+                  let same_r : r2 ≡ r = one_item rules (length counts) r2 r
+                  (subst (λ (z : ℕ). slice_get rules z ≡ Some r2) last.0 rj) ri in
+                  let same_q : q2 ≡ q = one_item others (length counts) q2 q
+                  (subst (λ (z : ℕ). slice_get others z ≡ Some q2) last.0 qj) qi in
                   let R : Rule → Rule → ℕ → Type 0 = λ x y z. HaveMet marks norms words (x.word ++ t) (y.word ++ s) Q z in
-                  subst (λ (x : Rule). R x q2 k) (sym same_r) (subst (λ (y : Rule). R r y k) (sym same_q) (subst (R r q) last.1 m.met))
+                  subst (λ (x : Rule). R x q2 k) (sym same_r)
+                  (subst (λ (y : Rule). R r y k) (sym same_q) (subst (R r q) last.1 m.met))
             ];
             drop = subst (λ (z : List Rule). DropHeads rows marks norms words b z (heads + h)) (sym more)
                 (drops_push (take (length counts) rules) r heads h m.met.cuts f.drop cut);
@@ -186,11 +222,14 @@ module _ (rows : Productions) (marks : List Bool) (norms : List (Option ℕ)) (w
             fit = m.fit;
           }
 
-      pub lack_next : (room all : ℕ) → rules ≡ first_row rows b.left → HaveNoRoom marks norms words (r.word ++ t) (q.word ++ s) P Q room → all ≡ room + heads → LackRoom rows marks norms words b old Q all
+      pub lack_next : (room all : ℕ) → rules ≡ first_row rows b.left →
+          HaveNoRoom marks norms words (r.word ++ t) (q.word ++ s) P Q room → all ≡ room + heads →
+          LackRoom rows marks norms words b old Q all
       lack_next room all is full sum = record {
         grows = grows_on old P Q f.grows full.grows;
         cuts = λ count d.
-            let whole = subst (λ (z : List Rule). DropHeads rows marks norms words b z count) (sym is ∙ parted rules (length counts) r ri) d in
+            let whole = subst (λ (z : List Rule). DropHeads rows marks norms words b z count)
+            (sym is ∙ parted rules (length counts) r ri) d in
             let p = drops_parts (take (length counts) rules) (r ∷ drop (suc (length counts)) rules) count whole in
             let same = same_drops (take (length counts) rules) p.0 heads p.2 f.drop in
             let u = p.3 in
@@ -201,13 +240,16 @@ module _ (rows : Productions) (marks : List Bool) (norms : List (Option ℕ)) (w
             (adds_more u.0 u.1 u.3 m.0, omega arith);
       }
 
-    pub followed_last : (n m : ℕ) (P : List Pair) (counts : List ℕ) (heads : ℕ) → b ≡ record { left = n ∷ t; right = m ∷ s } → rules ≡ row_of rows n → others ≡ row_of rows m →
-        AreOrdered (row_of rows n) → AreOrdered (row_of rows m) → same_letters (row_of rows n) (row_of rows m) ≡ true → length words ≡ length rows → length counts ≡ length rules →
+    pub followed_last : (n m : ℕ) (P : List Pair) (counts : List ℕ) (heads : ℕ) → b ≡ record { left = n ∷ t; right = m ∷ s } →
+        rules ≡ row_of rows n → others ≡ row_of rows m →
+        AreOrdered (row_of rows n) → AreOrdered (row_of rows m) → same_letters (row_of rows n) (row_of rows m) ≡ true →
+        length words ≡ length rows → length counts ≡ length rules →
         AreFollowed rows marks norms words b old P rules others t s counts heads → IsFollowed rows marks norms words b old P heads
     followed_last n m P counts heads is ri qi on om same long count f =
         let left : b.left ≡ n ∷ t = ap (λ (z : Pair). z.left) is in
         let right : b.right ≡ m ∷ s = ap (λ (z : Pair). z.right) is in
-        let all : take (length counts) rules ≡ first_row rows b.left = take_all (length counts) rules (omega (arith, count)) ∙ ri ∙ sym (ap (first_row rows) left) in
+        let all : take (length counts) rules ≡ first_row rows b.left = take_all (length counts) rules (omega (arith, count)) ∙ ri
+        ∙ sym (ap (first_row rows) left) in
         record {
           pair = (pair_moves rows b n m t s left right on om).0 same;
           grows = f.grows;
@@ -219,21 +261,27 @@ module _ (rows : Productions) (marks : List Bool) (norms : List (Option ℕ)) (w
               let q = get_there (row_of rows m) j.0 (omega (arith, wide, within)) in
               let inside : j.0 < length counts = (let l = ap length ri in omega (arith, l, within, count)) in
               let h2 = get_there counts j.0 inside in
-              let met = f.each j.0 h2.0 j.1 q.0 h2.1 (ap (λ (v : List Rule). slice_get v j.0) ri ∙ j.2) (ap (λ (v : List Rule). slice_get v j.0) qi ∙ q.1) in
+              let met = f.each j.0 h2.0 j.1 q.0 h2.1 (ap (λ (v : List Rule). slice_get v j.0) ri ∙ j.2)
+              (ap (λ (v : List Rule). slice_get v j.0) qi ∙ q.1) in
               let after = after_at rows b n m t s j.0 j.1 q.0 left right on om same j.2 q.1 in
-              let cut = cuts_after j.1.letter (j.1.word ++ t) (q.0.word ++ s) cuts h after (subst (λ (k : ℕ). HaveCutsAfter rows marks norms words b k cuts h) (sym j.3) z) in
-              let one = same_cuts norms words (pruned_word marks (j.1.word ++ t)) (pruned_word marks (q.0.word ++ s)) cuts met.cuts h h2.0 cut met.cut in
+              let cut = cuts_after j.1.letter (j.1.word ++ t) (q.0.word ++ s) cuts h after
+              (subst (λ (k : ℕ). HaveCutsAfter rows marks norms words b k cuts h) (sym j.3) z) in
+              let one = same_cuts norms words (pruned_word marks (j.1.word ++ t))
+              (pruned_word marks (q.0.word ++ s)) cuts met.cuts h h2.0 cut met.cut in
               subst (Each (λ c. IsIn c P)) (sym one.0) met.there;
           adds = f.adds;
           fit = subst (λ (k : ℕ). AreFit marks k P) long f.fit;
         }
 
 -- where the cuts of two words are all there, none is added, or there is no room for their heads
-pub met_again : (marks : List Bool) (norms : List (Option ℕ)) (words : List (List ℕ)) (x y : List ℕ) (P : List Pair) (heads : ℕ) → HaveMet marks norms words x y P heads →
+pub met_again : (marks : List Bool) (norms : List (Option ℕ)) (words : List (List ℕ)) (x y : List ℕ) (P : List Pair) (heads : ℕ) →
+    HaveMet marks norms words x y P heads →
     AreFit marks (length words) P → Meet marks norms words x y P P heads
-met_again marks norms words x y P heads met fit = record { met = met; grows = grows_none P; adds = λ at b e. inl (at, e); fit = fit }
+met_again marks norms words x y P heads met fit =
+    record { met = met; grows = grows_none P; adds = λ at b e. inl (at, e); fit = fit }
 
-pub crowded_again : (marks : List Bool) (norms : List (Option ℕ)) (words : List (List ℕ)) (x y : List ℕ) (P : List Pair) (heads room : ℕ) → HaveMet marks norms words x y P heads →
+pub crowded_again : (marks : List Bool) (norms : List (Option ℕ)) (words : List (List ℕ)) (x y : List ℕ) (P : List Pair)
+    (heads room : ℕ) → HaveMet marks norms words x y P heads →
     room < length P + heads → HaveNoRoom marks norms words x y P P room
 crowded_again marks norms words x y P heads room met full = record {
   grows = grows_none P;

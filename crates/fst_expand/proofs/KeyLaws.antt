@@ -19,16 +19,20 @@ pub once_keep : (n m : ℕ) → n ≤ m → (keys : List (ℕ × ℕ)) → AreKe
 once_keep n m le keys h = record { within = keys_keep n m le keys h.within; once = h.once }
 
 -- more words change no pair
-pub pairs_keep : (W V : List (List ℕ)) → Keeps W V → (keys : List (ℕ × ℕ)) → AreKeys (length W) keys → map (key_pair V) keys ≡ map (key_pair W) keys
+pub pairs_keep : (W V : List (List ℕ)) → Keeps W V →
+    (keys : List (ℕ × ℕ)) → AreKeys (length W) keys → map (key_pair V) keys ≡ map (key_pair W) keys
 pairs_keep W V keeps [] h = refl
-pairs_keep W V keeps (k ∷ keys) h = λ i. record { left = keeps.kept k.0 h.0 i; right = keeps.kept k.1 h.1 i } ∷ pairs_keep W V keeps keys h.2 i
+pairs_keep W V keeps (k ∷ keys) h = λ i. record { left = keeps.kept k.0 h.0 i; right = keeps.kept k.1 h.1 i } ∷ pairs_keep W V
+    keeps keys h.2 i
 
-pub key_at : (n : ℕ) (keys : List (ℕ × ℕ)) (at : ℕ) (k : ℕ × ℕ) → AreKeys n keys → slice_get keys at ≡ Some k → (k.0 < n) × (k.1 < n)
+pub key_at : (n : ℕ) (keys : List (ℕ × ℕ)) (at : ℕ) (k : ℕ × ℕ) → AreKeys n keys → slice_get keys at ≡ Some k → (k.0 < n) ×
+    (k.1 < n)
 key_at n [] at k h e = absurd (cc e)
 key_at n (j ∷ keys) zero k h e = subst (λ (z : ℕ × ℕ). (z.0 < n) × (z.1 < n)) (let f : j ≡ k = cc in f) (h.0, h.1)
 key_at n (j ∷ keys) (suc at) k h e = key_at n keys at k h.2 e
 
-pub pair_at : (W : List (List ℕ)) (keys : List (ℕ × ℕ)) (at : ℕ) (k : ℕ × ℕ) → slice_get keys at ≡ Some k → slice_get (map (key_pair W) keys) at ≡ Some (key_pair W k)
+pub pair_at : (W : List (List ℕ)) (keys : List (ℕ × ℕ)) (at : ℕ) (k : ℕ × ℕ) → slice_get keys at ≡ Some k →
+    slice_get (map (key_pair W) keys) at ≡ Some (key_pair W k)
 pair_at W [] at k e = absurd (cc e)
 pair_at W (j ∷ keys) zero k e = ap (λ (z : ℕ × ℕ). Some (key_pair W z)) (let f : j ≡ k = cc in f)
 pair_at W (j ∷ keys) (suc at) k e = pair_at W keys at k e
@@ -38,13 +42,15 @@ map_length W [] = refl
 map_length W (k ∷ keys) = ap suc (map_length W keys)
 
 -- each pair is that of a key
-from_key : (W : List (List ℕ)) (keys : List (ℕ × ℕ)) (at : ℕ) (b : Pair) → slice_get (map (key_pair W) keys) at ≡ Some b → (k : ℕ × ℕ) × (slice_get keys at ≡ Some k) × (key_pair W k ≡ b)
+from_key : (W : List (List ℕ)) (keys : List (ℕ × ℕ)) (at : ℕ) (b : Pair) → slice_get (map (key_pair W) keys) at ≡ Some b →
+    (k : ℕ × ℕ) × (slice_get keys at ≡ Some k) × (key_pair W k ≡ b)
 from_key W [] at b e = absurd (cc e)
 from_key W (j ∷ keys) zero b e = (j, refl, (let f : key_pair W j ≡ b = cc in f))
 from_key W (j ∷ keys) (suc at) b e = from_key W keys at b e
 
 -- no pair is twice in the list, since no key is, and no word has two numbers
-pub pairs_once : (W : List (List ℕ)) (keys : List (ℕ × ℕ)) → IsEachOnce W → AreKeysOnce (length W) keys → AreDistinct (map (key_pair W) keys)
+pub pairs_once : (W : List (List ℕ)) (keys : List (ℕ × ℕ)) → IsEachOnce W → AreKeysOnce (length W) keys →
+    AreDistinct (map (key_pair W) keys)
 pairs_once W keys words h i j b e f =
     let p = from_key W keys i b e in
     let q = from_key W keys j b f in
@@ -76,18 +82,21 @@ pub record IsInserted (W : List (List ℕ)) (old new : List (ℕ × ℕ)) (k : �
   pub keys : AreKeysOnce (length W) new
   pub number : IsNumbered (key_pair W k) (map (key_pair W) old) (map (key_pair W) new) at
 
-added : (W : List (List ℕ)) (N : List (ℕ × ℕ)) (k : ℕ × ℕ) → Adds (key_pair W k ∷ []) (map (key_pair W) N) (map (key_pair W) N ++ key_pair W k ∷ [])
+added : (W : List (List ℕ)) (N : List (ℕ × ℕ)) (k : ℕ × ℕ) →
+    Adds (key_pair W k ∷ []) (map (key_pair W) N) (map (key_pair W) N ++ key_pair W k ∷ [])
 added W N k = λ at c e. elim (get-push (map (key_pair W) N) (key_pair W k) c at e) [
   | inl h ↦ inl (at, h)
   | inr h ↦ inr (0, ap Some h.1)
 ]
 
-pub inserted : (W : List (List ℕ)) (N M : List (ℕ × ℕ)) (k stored : ℕ × ℕ) (at : ℕ) → AreKeysOnce (length W) N → k.0 < length W → k.1 < length W → M ≡ insert_key pair_eq N k →
+pub inserted : (W : List (List ℕ)) (N M : List (ℕ × ℕ)) (k stored : ℕ × ℕ) (at : ℕ) → AreKeysOnce (length W) N → k.0 < length W →
+    k.1 < length W → M ≡ insert_key pair_eq N k →
     slice_get M at ≡ Some stored → pair_eq k stored ≡ true → IsInserted W N M k at
 inserted W N M k stored at h left right made there equal =
     let same : stored ≡ k = sym (same_pair k stored equal) in
     let here : slice_get M at ≡ Some k = there ∙ ap Some same in
-    (elim (list_any (pair_eq k) N) as (λ b. list_any (pair_eq k) N ≡ b → M ≡ (if b then N else N ++ k ∷ []) → IsInserted W N M k at) [
+    (elim (list_any (pair_eq k) N) as (λ b. list_any (pair_eq k) N ≡ b → M ≡ (if b then N else N ++ k ∷ []) →
+    IsInserted W N M k at) [
       | true ↦ λ t is. record {
         keys = subst (AreKeysOnce (length W)) (sym is) h;
         number = record {
@@ -97,7 +106,8 @@ inserted W N M k stored at h left right made there equal =
         };
       }
       | false ↦ λ t is.
-          let pushed : map (key_pair W) M ≡ map (key_pair W) N ++ key_pair W k ∷ [] = ap (map (key_pair W)) is ∙ map-append (key_pair W) N (k ∷ []) in
+          let pushed : map (key_pair W) M ≡ map (key_pair W) N ++ key_pair W k ∷ [] = ap (map (key_pair W)) is
+          ∙ map-append (key_pair W) N (k ∷ []) in
           record {
             keys = subst (AreKeysOnce (length W)) (sym is) (record {
               within = keys_push (length W) N k h.within left right;

@@ -5,7 +5,8 @@ use Rattle.fst_expand.specs.Measures.{AreMeasures}
 use Rattle.fst_expand.specs.Trail.{AreUnmarked}
 use Rattle.fst_expand.proofs.NormLaws.{are_unmarked}
 
-module _ (rows : Productions) (marks : List Bool) (norms : List (Option ℕ)) (words : List (List ℕ)) (m : AreMeasures rows marks norms words) where
+module _ (rows : Productions) (marks : List Bool) (norms : List (Option ℕ)) (words : List (List ℕ))
+    (m : AreMeasures rows marks norms words) where
   pub marks_long : length marks ≡ length words
   marks_long = m.unnormed.count ∙ sym m.lowering.count
 

@@ -25,7 +25,8 @@ taken xs at b e = rw add-one (next xs at b e)
     next (c ∷ xs) (suc at) b e = ap (λ z. c ∷ z) (next xs at b e)
 
 -- an item of the first ones
-pub get_taken : {A : Type 0} (xs : List A) (n at : ℕ) (b : A) → slice_get (take n xs) at ≡ Some b → (slice_get xs at ≡ Some b) × (at < n)
+pub get_taken : {A : Type 0} (xs : List A) (n at : ℕ) (b : A) → slice_get (take n xs) at ≡ Some b → (slice_get xs at ≡ Some b) ×
+    (at < n)
 get_taken [] zero at b e = absurd (cc e)
 get_taken [] (suc n) at b e = absurd (cc e)
 get_taken (c ∷ xs) zero at b e = absurd (cc e)

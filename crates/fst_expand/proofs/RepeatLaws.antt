@@ -11,20 +11,27 @@ use Rattle.fst_shared.specs.Numbers.{IsRow}
 use Rattle.fst_expand.specs.Repeats.{AreOrigins, ArePlaces, AreRepeats, HaveOneWord, IsRepeat}
 
 -- rules with the same number have the same word
-pub one_word : (words : List (List ℕ)) (rules : List Rule) (numbers : List ℕ) (i j : ℕ) → IsRow words rules numbers → slice_get numbers i ≡ slice_get numbers j → HaveOneWord rules i j
+pub one_word : (words : List (List ℕ)) (rules : List Rule) (numbers : List ℕ) (i j : ℕ) → IsRow words rules numbers →
+    slice_get numbers i ≡ slice_get numbers j → HaveOneWord rules i j
 one_word words rules numbers i j row same r q ri qj =
     let m = get_there numbers i (let e = row.count in let l = slice_get_within rules i r ri in omega arith) in
     let a = row.words_are i m.0 r ri m.1 in
     let b = row.words_are j m.0 q qj (sym same ∙ m.1) in
     sym a.word ∙ b.word
 
-module _ (left right : List ℕ) (keys : List (ℕ × ℕ)) (origins : List ℕ) (here : ℕ) (h : AreOrigins left right keys origins here) where
+module _ (left right : List ℕ) (keys : List (ℕ × ℕ)) (origins : List ℕ) (here : ℕ)
+    (h : AreOrigins left right keys origins here) where
   -- one place on
   pub origins_old : AreOrigins left right keys origins (here + 1)
-  origins_old = record { count = h.count; each = λ k o p e f. let g = h.each k o p e f in let lt = g.0 in (omega arith, g.1, g.2) }
+  origins_old = record {
+    count = h.count;
+    each = λ k o p e f. let g = h.each k o p e f in let lt = g.0 in
+        (omega arith, g.1, g.2);
+  }
 
   -- with the numbers at the place
-  pub origins_new : (a b : ℕ) → slice_get left here ≡ Some a → slice_get right here ≡ Some b → AreOrigins left right (keys ++ (a, b) ∷ []) (origins ++ here ∷ []) (here + 1)
+  pub origins_new : (a b : ℕ) → slice_get left here ≡ Some a → slice_get right here ≡ Some b →
+      AreOrigins left right (keys ++ (a, b) ∷ []) (origins ++ here ∷ []) (here + 1)
   origins_new a b ea eb = record {
     count = (let x = length-push origins here in let y = length-push keys (a, b) in let e = h.count in omega arith);
     each = λ k o p e f. elim (get-push origins here o k e) [
@@ -44,7 +51,8 @@ module _ (left right : List ℕ) (keys : List (ℕ × ℕ)) (origins : List ℕ)
   }
 
 -- a key that is new goes last, and one that isn't changes nothing
-pub inserted_new : (k : ℕ × ℕ) (keys : List (ℕ × ℕ)) → true ≡ not (list_any (pair_eq k) keys) → insert_key pair_eq keys k ≡ keys ++ k ∷ []
+pub inserted_new : (k : ℕ × ℕ) (keys : List (ℕ × ℕ)) → true ≡ not (list_any (pair_eq k) keys) →
+    insert_key pair_eq keys k ≡ keys ++ k ∷ []
 inserted_new k keys e =
     elim (list_any (pair_eq k) keys) as (λ b. true ≡ not b → (if b then keys else keys ++ k ∷ []) ≡ keys ++ k ∷ []) [
       | true ↦ λ f. cc
@@ -59,11 +67,13 @@ inserted_old k keys e =
     ] e
 
 -- a place with an origin repeats it
-pub repeats : (left right : List ℕ) (i j a b : ℕ) → slice_get left i ≡ Some a → slice_get right i ≡ Some b → slice_get left j ≡ Some a → slice_get right j ≡ Some b → IsRepeat left right j i
+pub repeats : (left right : List ℕ) (i j a b : ℕ) → slice_get left i ≡ Some a → slice_get right i ≡ Some b →
+    slice_get left j ≡ Some a → slice_get right j ≡ Some b → IsRepeat left right j i
 repeats left right i j a b li ri lj rj = record { left = lj ∙ sym li; right = rj ∙ sym ri }
 
 -- one place more
-pub each_push : (R : ℕ → ℕ → Type 0) (places : List ℕ) (n here : ℕ) → length places ≡ here → ((i j : ℕ) → slice_get places i ≡ Some j → R i j) → R here n →
+pub each_push : (R : ℕ → ℕ → Type 0) (places : List ℕ) (n here : ℕ) → length places ≡ here →
+    ((i j : ℕ) → slice_get places i ≡ Some j → R i j) → R here n →
     (i j : ℕ) → slice_get (places ++ n ∷ []) i ≡ Some j → R i j
 each_push R places n here count h r i j e = elim (get-push places n j i e) [
   | inl before ↦ h i j before
@@ -71,7 +81,8 @@ each_push R places n here count h r i j e = elim (get-push places n j i e) [
 ]
 
 -- places at which the numbers of rules repeat are places at which their words do
-pub places_by_rows : (words : List (List ℕ)) (rules others : List Rule) (left right places : List ℕ) → IsRow words rules left → IsRow words others right → AreRepeats left right places →
+pub places_by_rows : (words : List (List ℕ)) (rules others : List Rule) (left right places : List ℕ) → IsRow words rules left →
+    IsRow words others right → AreRepeats left right places →
     ArePlaces rules others places
 places_by_rows words rules others left right places l r h = record {
   count = h.count ∙ l.count;

@@ -60,15 +60,18 @@ its_count f b n =
 
 other_count : (f : Pair → ℕ) (b c : Pair) (n : ℕ) → c ≢ b → with_count f b n c ≡ f c
 other_count f b c n other =
-    (elim (bytes_eq c.left b.left && bytes_eq c.right b.right) as (λ z. (bytes_eq c.left b.left && bytes_eq c.right b.right) ≡ z → cond z n (f c) ≡ f c) [
+    (elim (bytes_eq c.left b.left && bytes_eq c.right b.right)
+    as (λ z. (bytes_eq c.left b.left && bytes_eq c.right b.right) ≡ z → cond z n (f c) ≡ f c) [
       | true ↦ λ t.
           let p = and_parts (bytes_eq c.left b.left) (bytes_eq c.right b.right) t in
           absurd (other (λ i. record { left = same_text c.left b.left p.0 i; right = same_text c.right b.right p.1 i }))
       | false ↦ λ t. refl
     ]) refl
 
-module _ (rows : Productions) (marks : List Bool) (norms : List (Option ℕ)) (words : List (List ℕ)) (n : AreNorms rows norms) (l : AreLowering rows norms words) (u v : List ℕ) (budget : ℕ) where
-  pub expanded_first : (Q : List Pair) (heads : ℕ) → length words ≡ length rows → Meet marks norms words u v [] Q heads → heads ≤ budget →
+module _ (rows : Productions) (marks : List Bool) (norms : List (Option ℕ)) (words : List (List ℕ)) (n : AreNorms rows norms)
+    (l : AreLowering rows norms words) (u v : List ℕ) (budget : ℕ) where
+  pub expanded_first : (Q : List Pair) (heads : ℕ) → length words ≡ length rows → Meet marks norms words u v [] Q heads →
+      heads ≤ budget →
       IsExpanded rows marks norms words u v budget Q 0 (budget - heads)
   expanded_first Q heads long m le = record {
     cuts = m.met.cuts;
@@ -87,19 +90,24 @@ module _ (rows : Productions) (marks : List Bool) (norms : List (Option ℕ)) (w
     fit = subst (λ (k : ℕ). AreFit marks k Q) long m.fit;
   }
 
-  module _ (P Q : List Pair) (at : ℕ) (b : Pair) (room heads : ℕ) (e : slice_get P at ≡ Some b) (x : IsExpanded rows marks norms words u v budget P at room) (once : AreDistinct Q) where
+  module _ (P Q : List Pair) (at : ℕ) (b : Pair) (room heads : ℕ) (e : slice_get P at ≡ Some b)
+      (x : IsExpanded rows marks norms words u v budget P at room) (once : AreDistinct Q) where
     -- the pairs before this one are others
     before_others : Grows P Q → Each (λ c. c ≢ b) (take at P)
     before_others g k c f =
         let p = get_taken P at k c f in
-        let in_q : (j : ℕ) (d : Pair) → slice_get P j ≡ Some d → slice_get Q j ≡ Some d = λ j d h. ap (λ (z : List Pair). slice_get z j) g.grown ∙ get_more P g.more j d h in
-        λ same. let twice : k ≡ at = once k at b (in_q k b (p.0 ∙ ap Some same)) (in_q at b e) in let lt = p.1 in absurd (omega arith)
+        let in_q : (j : ℕ) (d : Pair) → slice_get P j ≡ Some d → slice_get Q j ≡ Some d =
+        λ j d h. ap (λ (z : List Pair). slice_get z j) g.grown ∙ get_more P g.more j d h in
+        λ same. let twice : k ≡ at = once k at b (in_q k b (p.0 ∙ ap Some same)) (in_q at b e) in let lt = p.1 in
+        absurd (omega arith)
 
-    pub expanded_next : IsFollowed rows marks norms words b P Q heads → heads ≤ room → IsExpanded rows marks norms words u v budget Q (at + 1) (room - heads)
+    pub expanded_next : IsFollowed rows marks norms words b P Q heads → heads ≤ room →
+        IsExpanded rows marks norms words u v budget Q (at + 1) (room - heads)
     expanded_next f le =
         let taken = take_grown P Q at b f.grows e in
         let counts = with_count x.heads_of b heads in
-        let as_before : Each (λ c. counts c ≡ x.heads_of c) (take at P) = λ k c g. other_count x.heads_of b c heads (before_others f.grows k c g) in
+        let as_before : Each (λ c. counts c ≡ x.heads_of c) (take at P) =
+        λ k c g. other_count x.heads_of b c heads (before_others f.grows k c g) in
         let its : counts b ≡ heads = its_count x.heads_of b heads in
         let Drops : Pair → ℕ → Type 0 = λ c z. DropHeads rows marks norms words c (first_row rows c.left) z in
         let Closed : Pair → Type 0 = λ c. IsClosed rows marks norms words c Q in
@@ -114,8 +122,10 @@ module _ (rows : Productions) (marks : List Bool) (norms : List (Option ℕ)) (w
           ];
           alike = rw taken (each_push (IsPair rows) (take at P) b x.alike f.pair);
           heads_of = counts;
-          next = rw taken (each_push (λ c. Drops c (counts c)) (take at P) b (λ k c g. subst (Drops c) (sym (as_before k c g)) (x.next k c g)) (subst (Drops b) (sym its) f.drop));
-          closed = rw taken (each_push Closed (take at P) b (λ k c g a cuts h z. each_more cuts P Q f.grows (x.closed k c g a cuts h z)) f.closed);
+          next = rw taken (each_push (λ c. Drops c (counts c)) (take at P) b
+              (λ k c g. subst (Drops c) (sym (as_before k c g)) (x.next k c g)) (subst (Drops b) (sym its) f.drop));
+          closed = rw taken (each_push Closed (take at P) b
+              (λ k c g a cuts h z. each_more cuts P Q f.grows (x.closed k c g a cuts h z)) f.closed);
           spent =
               (let sum = ap (sum_by counts) taken ∙ sum_by_push counts (take at P) b in
               let same = sum_same counts x.heads_of (take at P) as_before in
@@ -130,7 +140,8 @@ module _ (rows : Productions) (marks : List Bool) (norms : List (Option ℕ)) (w
     norms_are = same_norms rows norms g.norms n g.are_norms
 
     words_are : words ≡ g.words
-    words_are = same_lowering rows g.norms words g.words (subst (λ (z : List (Option ℕ)). AreLowering rows z words) norms_are l) g.lowering
+    words_are = same_lowering rows g.norms words g.words
+        (subst (λ (z : List (Option ℕ)). AreLowering rows z words) norms_are l) g.lowering
 
     first_cuts : HavePrunedCuts marks norms words u v g.cuts g.heads
     first_cuts = rw (norms_are, words_are) g.first
@@ -147,20 +158,24 @@ module _ (rows : Productions) (marks : List Bool) (norms : List (Option ℕ)) (w
       | inr i ↦ in_good b (IsReachedCut.first first_cuts i)
     ]
 
-    next_in : (b : Pair) (P Q : List Pair) → IsReachedCut rows marks norms words u v b → AddsNext rows marks norms words b P Q → Each (IsReachedCut rows marks norms words u v) P → Each (λ c. IsIn c g.pairs) Q
+    next_in : (b : Pair) (P Q : List Pair) → IsReachedCut rows marks norms words u v b → AddsNext rows marks norms words b P Q →
+        Each (IsReachedCut rows marks norms words u v) P → Each (λ c. IsIn c g.pairs) Q
     next_in b P Q r adds old = λ at c e. elim (adds at c e) [
       | inl k ↦ in_good c (old k.0 c k.1)
       | inr k ↦ in_good c (IsReachedCut.next r k.cut k.there)
     ]
 
     -- as many heads are dropped as were counted
-    as_counted : (P : List Pair) (at room : ℕ) (x : IsExpanded rows marks norms words u v budget P at room) → budget ≡ room + (g.heads + sum_by g.heads_of (take at P))
+    as_counted : (P : List Pair) (at room : ℕ) (x : IsExpanded rows marks norms words u v budget P at room) →
+        budget ≡ room + (g.heads + sum_by g.heads_of (take at P))
     as_counted P at room x =
-        let first = same_cuts norms words (pruned_word marks u) (pruned_word marks v) x.cuts g.cuts x.heads g.heads x.first first_cuts in
+        let first = same_cuts norms words (pruned_word marks u)
+        (pruned_word marks v) x.cuts g.cuts x.heads g.heads x.first first_cuts in
         let f = first.1 in
         let s = sum_same x.heads_of g.heads_of (take at P) (λ k c e.
         let p = get_taken P at k c e in
-        same_drops rows marks norms words c (first_row rows c.left) (x.heads_of c) (g.heads_of c) (x.next k c e) (next_heads c (in_good c (x.reached k c p.0)))) in
+        same_drops rows marks norms words c (first_row rows c.left) (x.heads_of c) (g.heads_of c) (x.next k c e)
+        (next_heads c (in_good c (x.reached k c p.0)))) in
         let b = x.spent in
         omega arith
 
@@ -172,7 +187,8 @@ module _ (rows : Productions) (marks : List Bool) (norms : List (Option ℕ)) (w
       let e = m.1 in
       omega arith
 
-  pub no_next : (P Q : List Pair) (at : ℕ) (b : Pair) (room : ℕ) → slice_get P at ≡ Some b → IsExpanded rows marks norms words u v budget P at room →
+  pub no_next : (P Q : List Pair) (at : ℕ) (b : Pair) (room : ℕ) → slice_get P at ≡ Some b →
+      IsExpanded rows marks norms words u v budget P at room →
       AreDistinct Q → IsStuck rows marks norms words b P Q room → IsGood rows marks u v budget → ⊥
   no_next P Q at b room e x once stuck g =
       let r = x.reached at b e in
@@ -194,7 +210,8 @@ module _ (rows : Productions) (marks : List Bool) (norms : List (Option ℕ)) (w
           omega arith
 
   -- once all pairs are followed they are good, and there is room for all that they become
-  module _ (P : List Pair) (at room : ℕ) (end : length P ≤ at) (left : length P ≤ room) (x : IsExpanded rows marks norms words u v budget P at room) where
+  module _ (P : List Pair) (at room : ℕ) (end : length P ≤ at) (left : length P ≤ room)
+      (x : IsExpanded rows marks norms words u v budget P at room) where
     all_taken : take at P ≡ P
     all_taken = take_all at P end
 
@@ -246,11 +263,13 @@ module _ (rows : Productions) (marks : List Bool) (norms : List (Option ℕ)) (w
     pub settled : AreSettled rows marks norms words P budget
     settled = record {
       alike = alike_all;
-      rooms = λ k b e a y z after. room_after k b e a y z after.left (λ cuts h m. cuts_after rows marks norms words b a y z cuts h after m);
+      rooms = λ k b e a y z after. room_after k b e a y z after.left
+          (λ cuts h m. cuts_after rows marks norms words b a y z cuts h after m);
     }
       where
         room_after : (k : ℕ) (b : Pair) → slice_get P k ≡ Some b → (a : ℕ) (y z : List ℕ) → step rows b.left a ≡ Some y →
-            ((cuts : List Pair) (h : ℕ) → HaveCutsAfter rows marks norms words b a cuts h → HavePrunedCuts marks norms words y z cuts h) → HaveRoom marks norms words y z P budget
+            ((cuts : List Pair) (h : ℕ) → HaveCutsAfter rows marks norms words b a cuts h →
+            HavePrunedCuts marks norms words y z cuts h) → HaveRoom marks norms words y z P budget
         room_after k b e a y z left to =
             let j = letter_there rows b.left a y left in
             let d = drops_at rows marks norms words b (first_row rows b.left) (x.heads_of b) j.0 j.1 (next_all k b e) j.2 in

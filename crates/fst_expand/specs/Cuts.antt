@@ -58,9 +58,12 @@ right_rest words Right k y = drop 1 y
 
 -- Two words have these cuts, and so many heads are dropped. The norms, and what each non-terminal becomes by a step that lowers its
 -- norm, are those of a grammar.
-pub data HasCuts (norms : List (Option ℕ)) (words : List (List ℕ)) : List ℕ → List ℕ → List Pair → ℕ → Type 0 where
+pub data HasCuts (norms : List (Option ℕ)) (words : List (List ℕ)) : List ℕ → List ℕ → List Pair →
+    ℕ → Type 0 where
   same : {x : List ℕ} → HasCuts norms words x x [] 0
-  whole : {x y : List ℕ} → x ≢ y → dropped (head_norm norms x) (head_norm norms y) ≡ None → HasCuts norms words x y (record { left = x; right = y } ∷ []) 0
-  drops : {x y : List ℕ} {side : Side} {k heads : ℕ} {cuts : List Pair} → x ≢ y → dropped (head_norm norms x) (head_norm norms y) ≡ Some (side, k) →
+  whole : {x y : List ℕ} → x ≢ y → dropped (head_norm norms x) (head_norm norms y) ≡ None →
+      HasCuts norms words x y (record { left = x; right = y } ∷ []) 0
+  drops : {x y : List ℕ} {side : Side} {k heads : ℕ} {cuts : List Pair} → x ≢ y →
+      dropped (head_norm norms x) (head_norm norms y) ≡ Some (side, k) →
       HasCuts norms words (left_rest words side k x) (right_rest words side k y) cuts heads →
       HasCuts norms words x y (head_cut words side k x y ++ cuts) (suc heads)

@@ -17,7 +17,8 @@ has_norm norms k w = all_bounded norms w && (total norms w == k)
 -- the word of the first rule whose word has this norm
 abbrev pub word_of_norm : List (Option ℕ) → ℕ → List Rule → List ℕ
 word_of_norm norms k [] = []
-word_of_norm norms k (r ∷ rules) = if has_norm norms k r.word then r.word else word_of_norm norms k rules
+word_of_norm norms k (r ∷ rules) = if has_norm norms k r.word then r.word else word_of_norm norms k
+    rules
 
 -- what a non-terminal with this norm becomes by the least letter that lowers it
 abbrev pub lowering : List (Option ℕ) → List Rule → Option ℕ → List ℕ
@@ -29,7 +30,8 @@ abbrev pub lowered_to : List (List ℕ) → ℕ → List ℕ
 lowered_to words n = slice_index_or words n []
 
 -- the words are what the non-terminals become by the least letter that lowers their norms
-pub record AreLowering (rows : Productions) (norms : List (Option ℕ)) (words : List (List ℕ)) : Type 0 where
+pub record AreLowering (rows : Productions) (norms : List (Option ℕ))
+    (words : List (List ℕ)) : Type 0 where
   pub count : length words ≡ length rows
   pub each : (n : ℕ) → lowered_to words n ≡ lowering norms (row_of rows n) (bound_at norms n)
 

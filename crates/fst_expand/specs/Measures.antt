@@ -6,7 +6,8 @@ use Rattle.fst_expand.specs.Lowering.{AreLowering, AreNorms}
 
 -- the marks are those of the unnormed non-terminals, these are the norms of all, and the words are what they become by the least letter
 -- that lowers their norms
-pub record AreMeasures (rows : Productions) (marks : List Bool) (norms : List (Option ℕ)) (words : List (List ℕ)) : Type 0 where
+pub record AreMeasures (rows : Productions) (marks : List Bool) (norms : List (Option ℕ))
+    (words : List (List ℕ)) : Type 0 where
   pub range : InRange rows
   pub unnormed : AreUnnormed rows marks
   pub are_norms : AreNorms rows norms

@@ -14,7 +14,8 @@ pub record AreRepeats (left right places : List ℕ) : Type 0 where
 
 -- where both are places of the list, the rules there have the same word
 abbrev pub HaveOneWord : List Rule → ℕ → ℕ → Type 0
-HaveOneWord rules i j = (r q : Rule) → slice_get rules i ≡ Some r → slice_get rules j ≡ Some q → r.word ≡ q.word
+HaveOneWord rules i j = (r q : Rule) → slice_get rules i ≡ Some r → slice_get rules j ≡ Some q →
+    r.word ≡ q.word
 
 -- for each place of two lists of rules an earlier one with the same words, or itself
 pub record ArePlaces (rules others : List Rule) (places : List ℕ) : Type 0 where
@@ -24,6 +25,8 @@ pub record ArePlaces (rules others : List Rule) (places : List ℕ) : Type 0 whe
   pub right : (i j : ℕ) → slice_get places i ≡ Some j → HaveOneWord others j i
 
 -- the keys are pairs of numbers that stand below a place, each at the place in the other list
-pub record AreOrigins (left right : List ℕ) (keys : List (ℕ × ℕ)) (origins : List ℕ) (here : ℕ) : Type 0 where
+pub record AreOrigins (left right : List ℕ) (keys : List (ℕ × ℕ)) (origins : List ℕ)
+    (here : ℕ) : Type 0 where
   pub count : length origins ≡ length keys
-  pub each : (k o : ℕ) (p : ℕ × ℕ) → slice_get origins k ≡ Some o → slice_get keys k ≡ Some p → (o < here) × (slice_get left o ≡ Some p.0) × (slice_get right o ≡ Some p.1)
+  pub each : (k o : ℕ) (p : ℕ × ℕ) → slice_get origins k ≡ Some o → slice_get keys k ≡ Some p →
+      (o < here) × (slice_get left o ≡ Some p.0) × (slice_get right o ≡ Some p.1)

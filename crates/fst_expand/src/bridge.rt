@@ -22,7 +22,8 @@ fn first_marked(marks: &[bool], word: &[u32]) -> Option<usize>
     requires { WordBelow (length marks.now) word.now }
     ensures none { IfNone result (has_marked marks.now word.now ≡ false) }
     ensures within { IfSome result (λ at. at < length word.now) }
-    ensures marked { IfSome result (λ at. (d : ℕ) → is_marked marks.now (slice_index_or word.now at d) ≡ true) }
+    ensures marked { IfSome result (λ at. (d : ℕ) →
+        is_marked marks.now (slice_index_or word.now at d) ≡ true) }
     ensures before { IfSome result (λ at. has_marked marks.now (take at word.now) ≡ false) }
 {
     for (i, n) in word.iter().enumerate() {
@@ -44,7 +45,8 @@ pub(crate) struct Front<'a> {
 fn behind(alloc: Global, table: &Table, front: &Front<'_>, count: usize) -> Result<Word, AllocError>
     requires count { count ≤ length front.now.word.now }
     requires tail { front.now.tail < length table.now.words }
-    ensures { IfOk result (λ w. w ≡ drop count front.now.word.now ++ word_of table.now.words front.now.tail) }
+    ensures { IfOk result (λ w. w ≡ drop count front.now.word.now ++ word_of table.now.words
+        front.now.tail) }
 {
     let rest = table.to_word(alloc, front.tail)?;
     let word = Word::concat(alloc, &front.word[count..], rest.as_slice())?;
@@ -65,8 +67,11 @@ fn cut_off(
     table: &Table,
     front: &Front<'_>,
 ) -> Result<Option<(u64, Word)>, AllocError>
-    requires { IsFront (length marks.now) marks.now table.now.words front.now.word.now front.now.tail }
-    ensures parts { IfOk result (AreCutOff marks.now (cut marks.now front.now.word.now (word_of table.now.words front.now.tail)) (front.now.word.now ++ word_of table.now.words front.now.tail)) }
+    requires { IsFront (length marks.now) marks.now table.now.words front.now.word.now
+        front.now.tail }
+    ensures parts { IfOk result (AreCutOff marks.now
+        (cut marks.now front.now.word.now (word_of table.now.words front.now.tail))
+        (front.now.word.now ++ word_of table.now.words front.now.tail)) }
     ensures below { IfOk result (λ o. IfSome o (λ c. WordBelow (length marks.now) c.1)) }
 {
     let Some(at) = first_marked(marks, front.word) else {
@@ -127,8 +132,10 @@ fn pruned_words(
     requires right { right.now.tail < length table.old.words }
     requires left_below { WordBelow (length marks.now) left.now.word.now }
     requires right_below { WordBelow (length marks.now) right.now.word.now }
-    ensures left { IfOk result (λ r. word_of table.new.words r.0 ≡ cut marks.now left.now.word.now (word_of table.old.words left.now.tail)) }
-    ensures right { IfOk result (λ r. word_of table.new.words r.1 ≡ cut marks.now right.now.word.now (word_of table.old.words right.now.tail)) }
+    ensures left { IfOk result (λ r. word_of table.new.words r.0 ≡ cut marks.now left.now.word.now
+        (word_of table.old.words left.now.tail)) }
+    ensures right { IfOk result (λ r. word_of table.new.words r.1 ≡ cut marks.now right.now.word.now
+        (word_of table.old.words right.now.tail)) }
     ensures left_within { IfOk result (λ r. r.0 < length table.new.words) }
     ensures right_within { IfOk result (λ r. r.1 < length table.new.words) }
     ensures kept { IfOk result (λ r. Keeps table.old.words table.new.words) }
@@ -149,16 +156,30 @@ pub(crate) fn meet(
     right: &Front<'_>,
     room: usize,
 ) -> Result<Option<Joined>, AllocError>
-    requires measured { AreMeasures m.now.grammar.now.rules.items m.now.marks.now m.now.norms.now m.now.lowering.now }
-    requires left { IsFront (length m.now.lowering.now) m.now.marks.now table.old.words left.now.word.now left.now.tail }
-    requires right { IsFront (length m.now.lowering.now) m.now.marks.now table.old.words right.now.word.now right.now.tail }
+    requires measured { AreMeasures m.now.grammar.now.rules.items m.now.marks.now m.now.norms.now
+        m.now.lowering.now }
+    requires left { IsFront (length m.now.lowering.now) m.now.marks.now table.old.words
+        left.now.word.now left.now.tail }
+    requires right { IsFront (length m.now.lowering.now) m.now.marks.now table.old.words
+        right.now.word.now right.now.tail }
     requires fit { AreFit m.now.marks.now (length m.now.lowering.now) table.old.pairs }
     requires room { length table.old.pairs ≤ room }
     requires most { room < 2 ^ 32 }
-    ensures leads { IfOk result (λ o. IfSome o (λ j. chained m.now.marks.now table.new.pairs j.steps.items (cut m.now.marks.now left.now.word.now (word_of table.old.words left.now.tail)) ≡ Some (cut m.now.marks.now right.now.word.now (word_of table.old.words right.now.tail)))) }
+    ensures leads { IfOk result (λ o. IfSome o
+        (λ j. chained m.now.marks.now table.new.pairs j.steps.items
+        (cut m.now.marks.now left.now.word.now (word_of table.old.words left.now.tail)) ≡ Some
+        (cut m.now.marks.now right.now.word.now (word_of table.old.words right.now.tail)))) }
     ensures exchanges { IfOk result (λ o. IfSome o (λ j. AreExchanges j.steps.items)) }
-    ensures met { IfOk result (λ o. IfSome o (λ j. Meet m.now.marks.now m.now.norms.now m.now.lowering.now (left.now.word.now ++ word_of table.old.words left.now.tail) (right.now.word.now ++ word_of table.old.words right.now.tail) table.old.pairs table.new.pairs j.heads)) }
-    ensures crowded { IfOk result (λ o. IfNone o (HaveNoRoom m.now.marks.now m.now.norms.now m.now.lowering.now (left.now.word.now ++ word_of table.old.words left.now.tail) (right.now.word.now ++ word_of table.old.words right.now.tail) table.old.pairs table.new.pairs room)) }
+    ensures met { IfOk result (λ o. IfSome o
+        (λ j. Meet m.now.marks.now m.now.norms.now m.now.lowering.now
+        (left.now.word.now ++ word_of table.old.words left.now.tail)
+        (right.now.word.now ++ word_of table.old.words right.now.tail) table.old.pairs
+        table.new.pairs j.heads)) }
+    ensures crowded { IfOk result (λ o. IfNone o
+        (HaveNoRoom m.now.marks.now m.now.norms.now m.now.lowering.now
+        (left.now.word.now ++ word_of table.old.words left.now.tail)
+        (right.now.word.now ++ word_of table.old.words right.now.tail) table.old.pairs
+        table.new.pairs room)) }
     ensures room { IfOk result (λ o. IfSome o (λ j. length table.new.pairs + j.heads ≤ room)) }
     ensures kept { IfOk result (λ o. Keeps table.old.words table.new.words) }
 {
@@ -176,13 +197,20 @@ pub(crate) fn bridge(
     right: &Front<'_>,
     room: usize,
 ) -> Result<Chain, AllocError>
-    requires measured { AreMeasures m.now.grammar.now.rules.items m.now.marks.now m.now.norms.now m.now.lowering.now }
-    requires left { IsFront (length m.now.lowering.now) m.now.marks.now table.old.words left.now.word.now left.now.tail }
-    requires right { IsFront (length m.now.lowering.now) m.now.marks.now table.old.words right.now.word.now right.now.tail }
+    requires measured { AreMeasures m.now.grammar.now.rules.items m.now.marks.now m.now.norms.now
+        m.now.lowering.now }
+    requires left { IsFront (length m.now.lowering.now) m.now.marks.now table.old.words
+        left.now.word.now left.now.tail }
+    requires right { IsFront (length m.now.lowering.now) m.now.marks.now table.old.words
+        right.now.word.now right.now.tail }
     requires fit { AreFit m.now.marks.now (length m.now.lowering.now) table.old.pairs }
-    requires room { HaveRoom m.now.marks.now m.now.norms.now m.now.lowering.now (left.now.word.now ++ word_of table.old.words left.now.tail) (right.now.word.now ++ word_of table.old.words right.now.tail) table.old.pairs room }
+    requires room { HaveRoom m.now.marks.now m.now.norms.now m.now.lowering.now
+        (left.now.word.now ++ word_of table.old.words left.now.tail)
+        (right.now.word.now ++ word_of table.old.words right.now.tail) table.old.pairs room }
     requires most { room < 2 ^ 32 }
-    ensures way { IfOk result (IsWay (length m.now.lowering.now) m.now.marks.now table.old.pairs (left.now.word.now ++ word_of table.old.words left.now.tail) (right.now.word.now ++ word_of table.old.words right.now.tail)) }
+    ensures way { IfOk result (IsWay (length m.now.lowering.now) m.now.marks.now table.old.pairs
+        (left.now.word.now ++ word_of table.old.words left.now.tail)
+        (right.now.word.now ++ word_of table.old.words right.now.tail)) }
     ensures same { IfOk result (λ c. table.new.pairs ≡ table.old.pairs) }
     ensures kept { IfOk result (λ c. Keeps table.old.words table.new.words) }
 {

@@ -65,14 +65,24 @@ fn chain_letter(
     place: usize,
     room: usize,
 ) -> Result<Chain, AllocError>
-    requires measured { AreMeasures m.now.grammar.now.rules.items m.now.marks.now m.now.norms.now m.now.lowering.now }
-    requires left { IsFront (length m.now.lowering.now) m.now.marks.now table.old.words left.now.word.now left.now.tail }
-    requires right { IsFront (length m.now.lowering.now) m.now.marks.now table.old.words right.now.word.now right.now.tail }
+    requires measured { AreMeasures m.now.grammar.now.rules.items m.now.marks.now m.now.norms.now
+        m.now.lowering.now }
+    requires left { IsFront (length m.now.lowering.now) m.now.marks.now table.old.words
+        left.now.word.now left.now.tail }
+    requires right { IsFront (length m.now.lowering.now) m.now.marks.now table.old.words
+        right.now.word.now right.now.tail }
     requires fit { AreFit m.now.marks.now (length m.now.lowering.now) table.old.pairs }
-    requires before { (c : Chain) → slice_get chains.now place ≡ Some c → IsWay (length m.now.lowering.now) m.now.marks.now table.old.pairs (left.now.word.now ++ word_of table.old.words left.now.tail) (right.now.word.now ++ word_of table.old.words right.now.tail) c }
-    requires room { HaveRoom m.now.marks.now m.now.norms.now m.now.lowering.now (left.now.word.now ++ word_of table.old.words left.now.tail) (right.now.word.now ++ word_of table.old.words right.now.tail) table.old.pairs room }
+    requires before { (c : Chain) → slice_get chains.now place ≡ Some c →
+        IsWay (length m.now.lowering.now) m.now.marks.now table.old.pairs
+        (left.now.word.now ++ word_of table.old.words left.now.tail)
+        (right.now.word.now ++ word_of table.old.words right.now.tail) c }
+    requires room { HaveRoom m.now.marks.now m.now.norms.now m.now.lowering.now
+        (left.now.word.now ++ word_of table.old.words left.now.tail)
+        (right.now.word.now ++ word_of table.old.words right.now.tail) table.old.pairs room }
     requires most { room < 2 ^ 32 }
-    ensures way { IfOk result (IsWay (length m.now.lowering.now) m.now.marks.now table.old.pairs (left.now.word.now ++ word_of table.old.words left.now.tail) (right.now.word.now ++ word_of table.old.words right.now.tail)) }
+    ensures way { IfOk result (IsWay (length m.now.lowering.now) m.now.marks.now table.old.pairs
+        (left.now.word.now ++ word_of table.old.words left.now.tail)
+        (right.now.word.now ++ word_of table.old.words right.now.tail)) }
     ensures same { IfOk result (λ c. table.new.pairs ≡ table.old.pairs) }
     ensures kept { IfOk result (λ c. Keeps table.old.words table.new.words) }
 {
@@ -93,16 +103,21 @@ fn chain_rules(
     right: (u32, u32),
     room: usize,
 ) -> Result<Vec<Chain>, AllocError>
-    requires measured { AreMeasures m.now.grammar.now.rules.items m.now.marks.now m.now.norms.now m.now.lowering.now }
-    requires numbered { (words : List (List ℕ)) × AreNumbered words m.now.grammar.now.rules.items m.now.numbers.now }
+    requires measured { AreMeasures m.now.grammar.now.rules.items m.now.marks.now m.now.norms.now
+        m.now.lowering.now }
+    requires numbered { (words : List (List ℕ)) ×
+        AreNumbered words m.now.grammar.now.rules.items m.now.numbers.now }
     requires left { IsParts (length m.now.lowering.now) m.now.marks.now table.old.words left }
     requires right { IsParts (length m.now.lowering.now) m.now.marks.now table.old.words right }
     requires pair { IsPair m.now.grammar.now.rules.items (parts_pair table.old.words left right) }
-    requires rooms { HaveRooms m.now.grammar.now.rules.items m.now.marks.now m.now.norms.now m.now.lowering.now table.old.pairs room (parts_pair table.old.words left right) }
+    requires rooms { HaveRooms m.now.grammar.now.rules.items m.now.marks.now m.now.norms.now
+        m.now.lowering.now table.old.pairs room (parts_pair table.old.words left right) }
     requires fit { AreFit m.now.marks.now (length m.now.lowering.now) table.old.pairs }
     requires most { room < 2 ^ 32 }
-    ensures joined { IfOk result (AreFollowedBy m.now.grammar.now.rules.items m.now.marks.now table.old.pairs (parts_pair table.old.words left right)) }
-    ensures below { IfOk result (λ chains. All (IsChainBelow (length m.now.lowering.now)) chains.items) }
+    ensures joined { IfOk result (AreFollowedBy m.now.grammar.now.rules.items m.now.marks.now
+        table.old.pairs (parts_pair table.old.words left right)) }
+    ensures below { IfOk result (λ chains. All
+        (IsChainBelow (length m.now.lowering.now)) chains.items) }
     ensures same { IfOk result (λ chains. table.new.pairs ≡ table.old.pairs) }
 {
     let rules = rules_of(m.grammar, left.0);
@@ -132,14 +147,19 @@ fn chain_pair(
     at: usize,
     room: usize,
 ) -> Result<Vec<Chain>, AllocError>
-    requires measured { AreMeasures m.now.grammar.now.rules.items m.now.marks.now m.now.norms.now m.now.lowering.now }
-    requires numbered { (words : List (List ℕ)) × AreNumbered words m.now.grammar.now.rules.items m.now.numbers.now }
+    requires measured { AreMeasures m.now.grammar.now.rules.items m.now.marks.now m.now.norms.now
+        m.now.lowering.now }
+    requires numbered { (words : List (List ℕ)) ×
+        AreNumbered words m.now.grammar.now.rules.items m.now.numbers.now }
     requires at { at < length table.old.pairs }
-    requires settled { AreSettled m.now.grammar.now.rules.items m.now.marks.now m.now.norms.now m.now.lowering.now table.old.pairs room }
+    requires settled { AreSettled m.now.grammar.now.rules.items m.now.marks.now m.now.norms.now
+        m.now.lowering.now table.old.pairs room }
     requires fit { AreFit m.now.marks.now (length m.now.lowering.now) table.old.pairs }
     requires most { room < 2 ^ 32 }
-    ensures joined { IfOk result (λ chains. (b : Pair) → slice_get table.old.pairs at ≡ Some b → AreFollowedBy m.now.grammar.now.rules.items m.now.marks.now table.old.pairs b chains) }
-    ensures below { IfOk result (λ chains. All (IsChainBelow (length m.now.lowering.now)) chains.items) }
+    ensures joined { IfOk result (λ chains. (b : Pair) → slice_get table.old.pairs at ≡ Some b →
+        AreFollowedBy m.now.grammar.now.rules.items m.now.marks.now table.old.pairs b chains) }
+    ensures below { IfOk result (λ chains. All
+        (IsChainBelow (length m.now.lowering.now)) chains.items) }
     ensures same { IfOk result (λ chains. table.new.pairs ≡ table.old.pairs) }
 {
     let (left, right) = table.key(at);
@@ -158,16 +178,23 @@ pub(crate) fn chains_of(
     v: &[u32],
     room: usize,
 ) -> Result<Vec<Chain>, AllocError>
-    requires measured { AreMeasures m.now.grammar.now.rules.items m.now.marks.now m.now.norms.now m.now.lowering.now }
-    requires numbered { (words : List (List ℕ)) × AreNumbered words m.now.grammar.now.rules.items m.now.numbers.now }
-    requires letters { LettersBelow (length m.now.grammar.now.letters.items) m.now.grammar.now.rules.items }
+    requires measured { AreMeasures m.now.grammar.now.rules.items m.now.marks.now m.now.norms.now
+        m.now.lowering.now }
+    requires numbered { (words : List (List ℕ)) ×
+        AreNumbered words m.now.grammar.now.rules.items m.now.numbers.now }
+    requires letters { LettersBelow (length m.now.grammar.now.letters.items)
+        m.now.grammar.now.rules.items }
     requires left { WordBelow (length m.now.grammar.now.rules.items) u.now }
     requires right { WordBelow (length m.now.grammar.now.rules.items) v.now }
-    requires first { HaveRoom m.now.marks.now m.now.norms.now m.now.lowering.now u.now v.now table.old.pairs room }
-    requires settled { AreSettled m.now.grammar.now.rules.items m.now.marks.now m.now.norms.now m.now.lowering.now table.old.pairs room }
+    requires first { HaveRoom m.now.marks.now m.now.norms.now m.now.lowering.now u.now v.now
+        table.old.pairs room }
+    requires settled { AreSettled m.now.grammar.now.rules.items m.now.marks.now m.now.norms.now
+        m.now.lowering.now table.old.pairs room }
     requires fit { AreFit m.now.marks.now (length m.now.lowering.now) table.old.pairs }
     requires most { room < 2 ^ 32 }
-    ensures proof { IfOk result (λ chains. IsProof (length m.now.grammar.now.letters.items) m.now.grammar.now.rules.items m.now.marks.now u.now v.now table.old.pairs chains.items) }
+    ensures proof { IfOk result (λ chains. IsProof
+        (length m.now.grammar.now.letters.items) m.now.grammar.now.rules.items m.now.marks.now u.now
+        v.now table.old.pairs chains.items) }
     ensures same { IfOk result (λ chains. table.new.pairs ≡ table.old.pairs) }
 {
     table.each_once();

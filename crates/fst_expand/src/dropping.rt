@@ -71,9 +71,12 @@ pub(crate) fn next_drop(
     requires right { right < length table.now.words }
     requires left_range { WordBelow (length norms.now) (word_of table.now.words left) }
     requires right_range { WordBelow (length norms.now) (word_of table.now.words right) }
-    ensures none { IfNone result (HasNoDrop norms.now (word_of table.now.words left) (word_of table.now.words right)) }
-    ensures some { IfSome result (λ d. dropped (head_norm norms.now (word_of table.now.words left)) (head_norm norms.now (word_of table.now.words right)) ≡ Some d) }
-    ensures other { IfSome result (λ d. word_of table.now.words left ≢ word_of table.now.words right) }
+    ensures none { IfNone result (HasNoDrop norms.now (word_of table.now.words left)
+        (word_of table.now.words right)) }
+    ensures some { IfSome result (λ d. dropped (head_norm norms.now (word_of table.now.words left))
+        (head_norm norms.now (word_of table.now.words right)) ≡ Some d) }
+    ensures other { IfSome result (λ d.
+        word_of table.now.words left ≢ word_of table.now.words right) }
 {
     if table.same(left, right) {
         return None;
@@ -107,11 +110,15 @@ pub(crate) fn drop_left(
     requires right_some { word_of table.old.words right ≢ [] }
     requires range { WordBelow (length words.now) (word_of table.old.words right) }
     requires words { All (WordBelow (length words.now)) words.now }
-    ensures left { IfOk result (λ r. word_of table.new.words r.left ≡ left_rest words.now Left norm (word_of table.old.words left)) }
-    ensures right { IfOk result (λ r. word_of table.new.words r.right ≡ right_rest words.now Left norm (word_of table.old.words right)) }
+    ensures left { IfOk result (λ r. word_of table.new.words r.left ≡ left_rest words.now Left norm
+        (word_of table.old.words left)) }
+    ensures right { IfOk result (λ r. word_of table.new.words r.right ≡ right_rest words.now Left
+        norm (word_of table.old.words right)) }
     ensures left_within { IfOk result (λ r. r.left < length table.new.words) }
     ensures right_within { IfOk result (λ r. r.right < length table.new.words) }
-    ensures cut { IfOk result (λ r. AreNumbered (head_cut words.now Left norm (word_of table.old.words left) (word_of table.old.words right)) table.old.pairs table.new.pairs r.cut) }
+    ensures cut { IfOk result (λ r. AreNumbered
+        (head_cut words.now Left norm (word_of table.old.words left)
+        (word_of table.old.words right)) table.old.pairs table.new.pairs r.cut) }
     ensures kept { IfOk result (λ r. Keeps table.old.words table.new.words) }
 {
     let (head, left_rest) = table.parts(left);
@@ -143,11 +150,15 @@ pub(crate) fn drop_right(
     requires right_some { word_of table.old.words right ≢ [] }
     requires range { WordBelow (length words.now) (word_of table.old.words left) }
     requires words { All (WordBelow (length words.now)) words.now }
-    ensures left { IfOk result (λ r. word_of table.new.words r.left ≡ left_rest words.now Right norm (word_of table.old.words left)) }
-    ensures right { IfOk result (λ r. word_of table.new.words r.right ≡ right_rest words.now Right norm (word_of table.old.words right)) }
+    ensures left { IfOk result (λ r. word_of table.new.words r.left ≡ left_rest words.now Right norm
+        (word_of table.old.words left)) }
+    ensures right { IfOk result (λ r. word_of table.new.words r.right ≡ right_rest words.now Right
+        norm (word_of table.old.words right)) }
     ensures left_within { IfOk result (λ r. r.left < length table.new.words) }
     ensures right_within { IfOk result (λ r. r.right < length table.new.words) }
-    ensures cut { IfOk result (λ r. AreNumbered (head_cut words.now Right norm (word_of table.old.words left) (word_of table.old.words right)) table.old.pairs table.new.pairs r.cut) }
+    ensures cut { IfOk result (λ r. AreNumbered
+        (head_cut words.now Right norm (word_of table.old.words left)
+        (word_of table.old.words right)) table.old.pairs table.new.pairs r.cut) }
     ensures kept { IfOk result (λ r. Keeps table.old.words table.new.words) }
 {
     let (other, left_tail) = table.parts(left);

@@ -31,17 +31,27 @@ fn spread(
     v: &[u32],
     budget: usize,
 ) -> Result<bool, AllocError>
-    requires measured { AreMeasures m.now.grammar.now.rules.items m.now.marks.now m.now.norms.now m.now.lowering.now }
-    requires numbered { (words : List (List ℕ)) × AreNumbered words m.now.grammar.now.rules.items m.now.numbers.now }
+    requires measured { AreMeasures m.now.grammar.now.rules.items m.now.marks.now m.now.norms.now
+        m.now.lowering.now }
+    requires numbered { (words : List (List ℕ)) ×
+        AreNumbered words m.now.grammar.now.rules.items m.now.numbers.now }
     requires empty { table.old.pairs ≡ [] }
     requires left { WordBelow (length m.now.grammar.now.rules.items) u.now }
     requires right { WordBelow (length m.now.grammar.now.rules.items) v.now }
     requires most { budget < 2 ^ 32 }
-    ensures good { IfOk result (λ b. b ≡ true → AreGoodCuts m.now.grammar.now.rules.items m.now.marks.now u.now v.now budget table.new.pairs) }
-    ensures first { IfOk result (λ b. b ≡ true → HaveRoom m.now.marks.now m.now.norms.now m.now.lowering.now u.now v.now table.new.pairs budget) }
-    ensures settled { IfOk result (λ b. b ≡ true → AreSettled m.now.grammar.now.rules.items m.now.marks.now m.now.norms.now m.now.lowering.now table.new.pairs budget) }
-    ensures fit { IfOk result (λ b. b ≡ true → AreFit m.now.marks.now (length m.now.lowering.now) table.new.pairs) }
-    ensures none { IfOk result (λ b. b ≡ false → IsGood m.now.grammar.now.rules.items m.now.marks.now u.now v.now budget → ⊥) }
+    ensures good { IfOk result (λ b. b ≡ true →
+        AreGoodCuts m.now.grammar.now.rules.items m.now.marks.now u.now v.now budget
+        table.new.pairs) }
+    ensures first { IfOk result (λ b. b ≡ true →
+        HaveRoom m.now.marks.now m.now.norms.now m.now.lowering.now u.now v.now table.new.pairs
+        budget) }
+    ensures settled { IfOk result (λ b. b ≡ true →
+        AreSettled m.now.grammar.now.rules.items m.now.marks.now m.now.norms.now m.now.lowering.now
+        table.new.pairs budget) }
+    ensures fit { IfOk result (λ b. b ≡ true →
+        AreFit m.now.marks.now (length m.now.lowering.now) table.new.pairs) }
+    ensures none { IfOk result (λ b. b ≡ false →
+        IsGood m.now.grammar.now.rules.items m.now.marks.now u.now v.now budget → ⊥) }
 {
     table.each_once();
     let from = Front { word: u, tail: 0 };
@@ -81,9 +91,13 @@ pub fn expand(
     requires right { WordBelow (length g.now.rules.items) v.now }
     requires unnormed { AreUnnormed g.now.rules.items unnormed.now }
     requires budget { 1 ≤ budget }
-    ensures proof { IfOk result (λ o. IfSome o (λ p. IsProof (length g.now.letters.items) g.now.rules.items unnormed.now u.now v.now p.basis.items p.chains.items)) }
-    ensures good { IfOk result (λ o. IfSome o (λ p. AreGoodCuts g.now.rules.items unnormed.now u.now v.now budget p.basis.items)) }
-    ensures none { IfOk result (λ o. IfNone o (IsGood g.now.rules.items unnormed.now u.now v.now budget → ⊥)) }
+    ensures proof { IfOk result (λ o. IfSome o
+        (λ p. IsProof (length g.now.letters.items) g.now.rules.items unnormed.now u.now v.now
+        p.basis.items p.chains.items)) }
+    ensures good { IfOk result (λ o. IfSome o
+        (λ p. AreGoodCuts g.now.rules.items unnormed.now u.now v.now budget p.basis.items)) }
+    ensures none { IfOk result (λ o. IfNone o
+        (IsGood g.now.rules.items unnormed.now u.now v.now budget → ⊥)) }
 {
     let norms = norms(alloc, g)?;
     let lowering = lowering_words(alloc, g, &norms)?;

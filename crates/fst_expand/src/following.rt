@@ -43,15 +43,29 @@ fn follow_letter(
     place: usize,
     room: usize,
 ) -> Result<Option<usize>, AllocError>
-    requires measured { AreMeasures m.now.grammar.now.rules.items m.now.marks.now m.now.norms.now m.now.lowering.now }
-    requires left { IsFront (length m.now.lowering.now) m.now.marks.now table.old.words left.now.word.now left.now.tail }
-    requires right { IsFront (length m.now.lowering.now) m.now.marks.now table.old.words right.now.word.now right.now.tail }
+    requires measured { AreMeasures m.now.grammar.now.rules.items m.now.marks.now m.now.norms.now
+        m.now.lowering.now }
+    requires left { IsFront (length m.now.lowering.now) m.now.marks.now table.old.words
+        left.now.word.now left.now.tail }
+    requires right { IsFront (length m.now.lowering.now) m.now.marks.now table.old.words
+        right.now.word.now right.now.tail }
     requires fit { AreFit m.now.marks.now (length m.now.lowering.now) table.old.pairs }
-    requires before { (h : ℕ) → slice_get counts.now place ≡ Some h → HaveMet m.now.marks.now m.now.norms.now m.now.lowering.now (left.now.word.now ++ word_of table.old.words left.now.tail) (right.now.word.now ++ word_of table.old.words right.now.tail) table.old.pairs h }
+    requires before { (h : ℕ) → slice_get counts.now place ≡ Some h →
+        HaveMet m.now.marks.now m.now.norms.now m.now.lowering.now
+        (left.now.word.now ++ word_of table.old.words left.now.tail)
+        (right.now.word.now ++ word_of table.old.words right.now.tail) table.old.pairs h }
     requires room { length table.old.pairs ≤ room }
     requires most { room < 2 ^ 32 }
-    ensures met { IfOk result (λ o. IfSome o (Meet m.now.marks.now m.now.norms.now m.now.lowering.now (left.now.word.now ++ word_of table.old.words left.now.tail) (right.now.word.now ++ word_of table.old.words right.now.tail) table.old.pairs table.new.pairs)) }
-    ensures crowded { IfOk result (λ o. IfNone o (HaveNoRoom m.now.marks.now m.now.norms.now m.now.lowering.now (left.now.word.now ++ word_of table.old.words left.now.tail) (right.now.word.now ++ word_of table.old.words right.now.tail) table.old.pairs table.new.pairs room)) }
+    ensures met { IfOk result (λ o. IfSome o
+        (Meet m.now.marks.now m.now.norms.now m.now.lowering.now
+        (left.now.word.now ++ word_of table.old.words left.now.tail)
+        (right.now.word.now ++ word_of table.old.words right.now.tail) table.old.pairs
+        table.new.pairs)) }
+    ensures crowded { IfOk result (λ o. IfNone o
+        (HaveNoRoom m.now.marks.now m.now.norms.now m.now.lowering.now
+        (left.now.word.now ++ word_of table.old.words left.now.tail)
+        (right.now.word.now ++ word_of table.old.words right.now.tail) table.old.pairs
+        table.new.pairs room)) }
     ensures room { IfOk result (λ o. IfSome o (λ heads. length table.new.pairs + heads ≤ room)) }
     ensures kept { IfOk result (λ o. Keeps table.old.words table.new.words) }
 {
@@ -79,16 +93,23 @@ fn follow_rules(
     places: &[usize],
     room: usize,
 ) -> Result<Option<usize>, AllocError>
-    requires measured { AreMeasures m.now.grammar.now.rules.items m.now.marks.now m.now.norms.now m.now.lowering.now }
+    requires measured { AreMeasures m.now.grammar.now.rules.items m.now.marks.now m.now.norms.now
+        m.now.lowering.now }
     requires left { IsParts (length m.now.lowering.now) m.now.marks.now table.old.words left }
     requires right { IsParts (length m.now.lowering.now) m.now.marks.now table.old.words right }
-    requires letters { same_letters (row_of m.now.grammar.now.rules.items left.0) (row_of m.now.grammar.now.rules.items right.0) ≡ true }
-    requires places { ArePlaces (row_of m.now.grammar.now.rules.items left.0) (row_of m.now.grammar.now.rules.items right.0) places.now }
+    requires letters { same_letters (row_of m.now.grammar.now.rules.items left.0)
+        (row_of m.now.grammar.now.rules.items right.0) ≡ true }
+    requires places { ArePlaces (row_of m.now.grammar.now.rules.items left.0)
+        (row_of m.now.grammar.now.rules.items right.0) places.now }
     requires fit { AreFit m.now.marks.now (length m.now.lowering.now) table.old.pairs }
     requires room { length table.old.pairs ≤ room }
     requires most { room < 2 ^ 32 }
-    ensures followed { IfOk result (λ o. IfSome o (IsFollowed m.now.grammar.now.rules.items m.now.marks.now m.now.norms.now m.now.lowering.now (parts_pair table.old.words left right) table.old.pairs table.new.pairs)) }
-    ensures lack { IfOk result (λ o. IfNone o (LackRoom m.now.grammar.now.rules.items m.now.marks.now m.now.norms.now m.now.lowering.now (parts_pair table.old.words left right) table.old.pairs table.new.pairs room)) }
+    ensures followed { IfOk result (λ o. IfSome o
+        (IsFollowed m.now.grammar.now.rules.items m.now.marks.now m.now.norms.now m.now.lowering.now
+        (parts_pair table.old.words left right) table.old.pairs table.new.pairs)) }
+    ensures lack { IfOk result (λ o. IfNone o
+        (LackRoom m.now.grammar.now.rules.items m.now.marks.now m.now.norms.now m.now.lowering.now
+        (parts_pair table.old.words left right) table.old.pairs table.new.pairs room)) }
     ensures room { IfOk result (λ o. IfSome o (λ heads. length table.new.pairs + heads ≤ room)) }
 {
     let rules = rules_of(m.grammar, left.0);
@@ -123,12 +144,16 @@ pub(crate) fn places_of(
     left: u32,
     right: u32,
 ) -> Result<Vec<usize>, AllocError>
-    requires measured { AreMeasures m.now.grammar.now.rules.items m.now.marks.now m.now.norms.now m.now.lowering.now }
-    requires numbered { (words : List (List ℕ)) × AreNumbered words m.now.grammar.now.rules.items m.now.numbers.now }
+    requires measured { AreMeasures m.now.grammar.now.rules.items m.now.marks.now m.now.norms.now
+        m.now.lowering.now }
+    requires numbered { (words : List (List ℕ)) ×
+        AreNumbered words m.now.grammar.now.rules.items m.now.numbers.now }
     requires left { left < length m.now.grammar.now.rules.items }
     requires right { right < length m.now.grammar.now.rules.items }
-    requires count { length (row_of m.now.grammar.now.rules.items right) ≡ length (row_of m.now.grammar.now.rules.items left) }
-    ensures { IfOk result (λ places. ArePlaces (row_of m.now.grammar.now.rules.items left) (row_of m.now.grammar.now.rules.items right) places.items) }
+    requires count { length (row_of m.now.grammar.now.rules.items right) ≡ length
+        (row_of m.now.grammar.now.rules.items left) }
+    ensures { IfOk result (λ places. ArePlaces (row_of m.now.grammar.now.rules.items left)
+        (row_of m.now.grammar.now.rules.items right) places.items) }
 {
     let left_numbers = m.numbers[left as usize].as_slice();
     let right_numbers = m.numbers[right as usize].as_slice();
@@ -145,14 +170,22 @@ pub(crate) fn follow(
     at: usize,
     room: usize,
 ) -> Result<Option<usize>, AllocError>
-    requires measured { AreMeasures m.now.grammar.now.rules.items m.now.marks.now m.now.norms.now m.now.lowering.now }
-    requires numbered { (words : List (List ℕ)) × AreNumbered words m.now.grammar.now.rules.items m.now.numbers.now }
+    requires measured { AreMeasures m.now.grammar.now.rules.items m.now.marks.now m.now.norms.now
+        m.now.lowering.now }
+    requires numbered { (words : List (List ℕ)) ×
+        AreNumbered words m.now.grammar.now.rules.items m.now.numbers.now }
     requires fit { AreFit m.now.marks.now (length m.now.lowering.now) table.old.pairs }
     requires at { at < length table.old.pairs }
     requires room { length table.old.pairs ≤ room }
     requires most { room < 2 ^ 32 }
-    ensures followed { IfOk result (λ o. IfSome o (λ heads. (b : Pair) → slice_get table.old.pairs at ≡ Some b → IsFollowed m.now.grammar.now.rules.items m.now.marks.now m.now.norms.now m.now.lowering.now b table.old.pairs table.new.pairs heads)) }
-    ensures stuck { IfOk result (λ o. IfNone o ((b : Pair) → slice_get table.old.pairs at ≡ Some b → IsStuck m.now.grammar.now.rules.items m.now.marks.now m.now.norms.now m.now.lowering.now b table.old.pairs table.new.pairs room)) }
+    ensures followed { IfOk result (λ o. IfSome o
+        (λ heads. (b : Pair) → slice_get table.old.pairs at ≡ Some b →
+        IsFollowed m.now.grammar.now.rules.items m.now.marks.now m.now.norms.now m.now.lowering.now
+        b table.old.pairs table.new.pairs heads)) }
+    ensures stuck { IfOk result (λ o. IfNone o
+        ((b : Pair) → slice_get table.old.pairs at ≡ Some b →
+        IsStuck m.now.grammar.now.rules.items m.now.marks.now m.now.norms.now m.now.lowering.now b
+        table.old.pairs table.new.pairs room)) }
     ensures room { IfOk result (λ o. IfSome o (λ heads. length table.new.pairs + heads ≤ room)) }
 {
     let (left, right) = table.key(at);

@@ -52,11 +52,15 @@ fn drop_next(
     requires right { walk.old.right < length table.old.words }
     requires left_range { WordBelow (length words.now) (word_of table.old.words walk.old.left) }
     requires right_range { WordBelow (length words.now) (word_of table.old.words walk.old.right) }
-    requires other { word_of table.old.words walk.old.left ≢ word_of table.old.words walk.old.right }
-    requires drop { dropped (head_norm norms.now (word_of table.old.words walk.old.left)) (head_norm norms.now (word_of table.old.words walk.old.right)) ≡ Some (side, norm) }
+    requires other { word_of table.old.words walk.old.left ≢ word_of table.old.words
+        walk.old.right }
+    requires drop { dropped (head_norm norms.now (word_of table.old.words walk.old.left))
+        (head_norm norms.now (word_of table.old.words walk.old.right)) ≡ Some (side, norm) }
     requires words { All (WordBelow (length words.now)) words.now }
     requires room { walk.old.heads < 2 ^ 32 }
-    ensures underway { OnOk result ((x y : List ℕ) (old : List Pair) → IsUnderway norms.now words.now x y old table.old walk.old → IsUnderway norms.now words.now x y old table.new walk.new) }
+    ensures underway { OnOk result ((x y : List ℕ) (old : List Pair) →
+        IsUnderway norms.now words.now x y old table.old walk.old →
+        IsUnderway norms.now words.now x y old table.new walk.new) }
     ensures heads { OnOk result (walk.new.heads ≡ walk.old.heads + 1) }
     ensures kept { OnOk result (Keeps table.old.words table.new.words) }
 {
@@ -89,8 +93,11 @@ pub(crate) struct Joined {
 fn finish(table: &mut Table, walk: Walk) -> Result<Joined, AllocError>
     requires left { walk.left < length table.old.words }
     requires right { walk.right < length table.old.words }
-    ensures joining { IfOk result (λ j. (norms : List (Option ℕ)) (words : List (List ℕ)) (x y : List ℕ) (old : List Pair) → IsUnderway norms words x y old table.old walk →
-        HasNoDrop norms (word_of table.old.words walk.left) (word_of table.old.words walk.right) → IsJoining norms words x y old table.new.pairs j.steps.items j.heads) }
+    ensures joining { IfOk result (λ j.
+        (norms : List (Option ℕ)) (words : List (List ℕ)) (x y : List ℕ) (old : List Pair) →
+        IsUnderway norms words x y old table.old walk →
+        HasNoDrop norms (word_of table.old.words walk.left) (word_of table.old.words walk.right) →
+        IsJoining norms words x y old table.new.pairs j.steps.items j.heads) }
     ensures heads { IfOk result (λ j. j.heads ≡ walk.heads) }
     ensures kept { IfOk result (λ j. Keeps table.old.words table.new.words) }
 {
@@ -119,13 +126,18 @@ pub(crate) fn join(
 ) -> Result<Option<Joined>, AllocError>
     requires left { left < length table.old.words }
     requires right { right < length table.old.words }
-    requires below { AreBelow (length words.now) (word_of table.old.words left) (word_of table.old.words right) table.old.pairs }
+    requires below { AreBelow (length words.now) (word_of table.old.words left)
+        (word_of table.old.words right) table.old.pairs }
     requires words { All (WordBelow (length words.now)) words.now }
     requires count { length norms.now ≡ length words.now }
     requires room { length table.old.pairs ≤ room }
     requires most { room < 2 ^ 32 }
-    ensures joined { IfOk result (λ o. IfSome o (λ j. IsJoining norms.now words.now (word_of table.old.words left) (word_of table.old.words right) table.old.pairs table.new.pairs j.steps.items j.heads)) }
-    ensures crowded { IfOk result (λ o. IfNone o (IsCrowded norms.now words.now (word_of table.old.words left) (word_of table.old.words right) table.old.pairs table.new.pairs room)) }
+    ensures joined { IfOk result (λ o. IfSome o
+        (λ j. IsJoining norms.now words.now (word_of table.old.words left)
+        (word_of table.old.words right) table.old.pairs table.new.pairs j.steps.items j.heads)) }
+    ensures crowded { IfOk result (λ o. IfNone o
+        (IsCrowded norms.now words.now (word_of table.old.words left)
+        (word_of table.old.words right) table.old.pairs table.new.pairs room)) }
     ensures room { IfOk result (λ o. IfSome o (λ j. length table.new.pairs + j.heads ≤ room)) }
     ensures kept { IfOk result (λ o. Keeps table.old.words table.new.words) }
 {

@@ -60,7 +60,8 @@ fn lowering_word(
     requires range { InRange g.now.rules.items }
     requires count { length norms.now ≡ length g.now.rules.items }
     requires within { n < length g.now.rules.items }
-    ensures { IfOk result (λ w. w ≡ lowering norms.now (row_of g.now.rules.items n) (bound_at norms.now n)) }
+    ensures { IfOk result (λ w. w ≡ lowering norms.now (row_of g.now.rules.items n)
+        (bound_at norms.now n)) }
 {
     let word = Word::of(alloc, lowering(norms, g.rules[n].as_slice(), norms[n]))?;
     Ok(word)
@@ -108,7 +109,8 @@ fn lowered_to(words: &[Word], n: u32) -> &[u32]
 fn lower(words: &[Word], stack: &mut Vec<u32>) -> Result<(), AllocError>
     requires range { WordBelow (length words.now) (reverse stack.old.items) }
     requires words { All (WordBelow (length words.now)) words.now }
-    ensures lower { OnOk result (reverse stack.new.items ≡ lower words.now (reverse stack.old.items)) }
+    ensures lower { OnOk result (reverse stack.new.items ≡ lower words.now
+        (reverse stack.old.items)) }
     ensures range { OnOk result (WordBelow (length words.now) (reverse stack.new.items)) }
 {
     let Some(head) = stack.pop() else {

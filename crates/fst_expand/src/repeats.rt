@@ -14,8 +14,11 @@ fn first_place(
     here: usize,
 ) -> Result<usize, AllocError>
     requires { length origins.old.items ≡ length seen.old.keys }
-    ensures { IfOk result (λ place. (left right : List ℕ) → AreOrigins left right seen.old.keys origins.old.items here → slice_get left here ≡ Some numbers.0 → slice_get right here ≡ Some numbers.1 →
-        AreOrigins left right seen.new.keys origins.new.items (here + 1) × (place ≤ here) × IsRepeat left right place here) }
+    ensures { IfOk result (λ place. (left right : List ℕ) →
+        AreOrigins left right seen.old.keys origins.old.items here →
+        slice_get left here ≡ Some numbers.0 → slice_get right here ≡ Some numbers.1 →
+        AreOrigins left right seen.new.keys origins.new.items (here + 1) ×
+        (place ≤ here) × IsRepeat left right place here) }
 {
     let (at, is_new) = seen.insert_full(numbers)?;
     if is_new {

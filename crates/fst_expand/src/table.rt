@@ -79,7 +79,8 @@ impl Table {
         requires left { left < length self.now.words }
         requires right { right < length self.now.words }
         ensures same { OnTrue result (word_of self.now.words left ≡ word_of self.now.words right) }
-        ensures other { OnFalse result (word_of self.now.words left ≢ word_of self.now.words right) }
+        ensures other { OnFalse result (word_of self.now.words left ≢ word_of self.now.words
+            right) }
     {
         self.words.same(left, right)
     }
@@ -99,7 +100,8 @@ impl Table {
     pub(crate) fn split_first(&self, word: u32) -> Option<(u32, u32)>
         requires { word < length self.now.words }
         ensures none { IfNone result (word_of self.now.words word ≡ []) }
-        ensures some { IfSome result (λ p. word_of self.now.words word ≡ p.0 ∷ word_of self.now.words p.1) }
+        ensures some { IfSome result (λ p.
+            word_of self.now.words word ≡ p.0 ∷ word_of self.now.words p.1) }
         ensures within { IfSome result (λ p. p.1 < length self.now.words) }
     {
         self.words.split_first(word)
@@ -124,7 +126,8 @@ impl Table {
     ) -> Result<u32, AllocError>
         requires tail { tail < length self.old.words }
         requires front { WordBelow (length marks.now) front.now }
-        ensures word { IfOk result (λ r. word_of self.new.words r ≡ cut marks.now front.now (word_of self.old.words tail)) }
+        ensures word { IfOk result (λ r. word_of self.new.words r ≡ cut marks.now front.now
+            (word_of self.old.words tail)) }
         ensures within { IfOk result (λ r. r < length self.new.words) }
         ensures kept { Keeps self.old.words self.new.words }
         ensures pairs { self.new.pairs ≡ self.old.pairs }
@@ -135,7 +138,8 @@ impl Table {
     /// The number of one word in front of another.
     pub(crate) fn concat(&mut self, front: &[u32], tail: u32) -> Result<u32, AllocError>
         requires { tail < length self.old.words }
-        ensures word { IfOk result (λ r. word_of self.new.words r ≡ front.now ++ word_of self.old.words tail) }
+        ensures word { IfOk result (λ r. word_of self.new.words r ≡ front.now ++ word_of
+            self.old.words tail) }
         ensures within { IfOk result (λ r. r < length self.new.words) }
         ensures kept { Keeps self.old.words self.new.words }
         ensures pairs { self.new.pairs ≡ self.old.pairs }
@@ -146,7 +150,8 @@ impl Table {
     // The number of a non-terminal in front of a word.
     fn push(&mut self, head: u32, tail: u32) -> Result<u32, AllocError>
         requires { tail < length self.old.words }
-        ensures word { IfOk result (λ r. word_of self.new.words r ≡ head ∷ word_of self.old.words tail) }
+        ensures word { IfOk result (λ r. word_of self.new.words r ≡ head ∷ word_of self.old.words
+            tail) }
         ensures within { IfOk result (λ r. r < length self.new.words) }
         ensures kept { Keeps self.old.words self.new.words }
         ensures pairs { self.new.pairs ≡ self.old.pairs }
@@ -172,7 +177,8 @@ impl Table {
         requires left { left < length self.old.words }
         requires right { right < length self.old.words }
         ensures words { self.new.words ≡ self.old.words }
-        ensures number { IfOk result (λ at. IsNumbered (key_pair self.old.words (left, right)) self.old.pairs self.new.pairs at) }
+        ensures number { IfOk result (λ at. IsNumbered
+            (key_pair self.old.words (left, right)) self.old.pairs self.new.pairs at) }
     {
         if self.keys.len() >= u32::MAX as usize {
             return Err(AllocError);
@@ -186,7 +192,9 @@ impl Table {
         requires left { left < length self.old.words }
         requires right { right < length self.old.words }
         ensures words { self.new.words ≡ self.old.words }
-        ensures number { IfOk result (AreNumbered (unless_same (word_of self.old.words left) (word_of self.old.words right)) self.old.pairs self.new.pairs) }
+        ensures number { IfOk result (AreNumbered
+            (unless_same (word_of self.old.words left) (word_of self.old.words right))
+            self.old.pairs self.new.pairs) }
     {
         if self.same(left, right) {
             return Ok(None);

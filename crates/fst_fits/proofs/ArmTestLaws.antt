@@ -41,7 +41,8 @@ all_has : (xs ys : List (List ℕ)) → all_in xs ys ≡ true → (z : List ℕ)
 all_has [] ys h z e = absurd (cc e)
 all_has (x ∷ xs) ys h z e =
     or_case (bytes_eq z x) (has xs z) (has ys z ≡ true) e
-    (λ f. subst (λ w. has ys w ≡ true) (sym (same_text z x f)) (and_left (has ys x) (all_in xs ys) h)) (all_has xs ys (and_right (has ys x) (all_in xs ys) h) z)
+    (λ f. subst (λ w. has ys w ≡ true) (sym (same_text z x f)) (and_left (has ys x) (all_in xs ys) h))
+    (all_has xs ys (and_right (has ys x) (all_in xs ys) h) z)
 
 has_all : (xs ys : List (List ℕ)) → ((z : List ℕ) → has xs z ≡ true → has ys z ≡ true) → all_in xs ys ≡ true
 has_all [] ys f = refl
@@ -78,12 +79,14 @@ like_none x (y ∷ ys) h = either_none (bytes_eq x y) (has ys x) h.0 (like_none 
 distinct : (xs : List (List ℕ)) → apart xs ≡ true → IsDistinct bytes_eq xs
 distinct [] h = IsDistinct-from_apart bytes_eq [] (λ i j d a b. absurd (omega arith))
 distinct (x ∷ xs) h =
-    IsDistinct-cons bytes_eq x xs (none_like x xs (not_true (has xs x) (and_left (not (has xs x)) (apart xs) h))) (distinct xs (and_right (not (has xs x)) (apart xs) h))
+    IsDistinct-cons bytes_eq x xs (none_like x xs (not_true (has xs x) (and_left (not (has xs x)) (apart xs) h)))
+    (distinct xs (and_right (not (has xs x)) (apart xs) h))
 
 of_distinct : (xs : List (List ℕ)) → IsDistinct bytes_eq xs → apart xs ≡ true
 of_distinct [] h = refl
 of_distinct (x ∷ xs) h =
-    and_both (not (has xs x)) (apart xs) (of_false (has xs x) (like_none x xs (IsDistinct-head bytes_eq x xs h))) (of_distinct xs (IsDistinct-tail bytes_eq x xs h))
+    and_both (not (has xs x)) (apart xs) (of_false (has xs x) (like_none x xs (IsDistinct-head bytes_eq x xs h)))
+    (of_distinct xs (IsDistinct-tail bytes_eq x xs h))
 
 pub once : (wanted found : List (List ℕ)) → each_once wanted found ≡ true → AreEachOnce wanted found
 unfolding each_once
@@ -106,11 +109,13 @@ of_once wanted found e =
     let b = all_in wanted found in
     let c = all_in found wanted in
     and_both (apart found) (b && c) (of_distinct found e.distinct)
-    (and_both b c (has_all wanted found (λ z h. contained found z ((e.same z).0 (contains wanted z h)))) (has_all found wanted (λ z h. contained wanted z ((e.same z).1 (contains found z h)))))
+    (and_both b c (has_all wanted found (λ z h. contained found z ((e.same z).0 (contains wanted z h))))
+    (has_all found wanted (λ z h. contained wanted z ((e.same z).1 (contains found z h)))))
 
 -- ---- labels of an offered choice
 
-named : (l : List ℕ) (o : Option (List (List ℕ))) (ls : List (List ℕ)) → with_name l o ≡ Some ls → (rest : List (List ℕ)) × (o ≡ Some rest) × ((l ∷ rest) ≡ ls)
+named : (l : List ℕ) (o : Option (List (List ℕ))) (ls : List (List ℕ)) → with_name l o ≡ Some ls → (rest : List (List ℕ)) ×
+    (o ≡ Some rest) × ((l ∷ rest) ≡ ls)
 named l None ls h = absurd (cc h)
 named l (Some rest) ls h = (rest, refl, same_Some (l ∷ rest) ls h)
 
@@ -128,23 +133,28 @@ are_offered : (names : List (List ℕ)) → offered (map Offer names) ≡ Some n
 are_offered [] = refl
 are_offered (l ∷ ls) = ap (with_name l) (are_offered ls)
 
-wanted : (moves : List Label) (o : Option (List (List ℕ))) (found : List (List ℕ)) → offered moves ≡ o → wanted_once o found ≡ true →
+wanted : (moves : List Label) (o : Option (List (List ℕ))) (found : List (List ℕ)) → offered moves ≡ o →
+    wanted_once o found ≡ true →
     (names : List (List ℕ)) × (moves ≡ map Offer names) × (names ≡ [] → ⊥) × AreEachOnce names found
 wanted moves None found e h = absurd (cc h)
 wanted moves (Some []) found e h = absurd (cc h)
 wanted moves (Some (x ∷ xs)) found e h = (x ∷ xs, offered_are moves (x ∷ xs) e, (λ z. absurd (cc z)), once (x ∷ xs) found h)
 
-pub offering : (t : Tree) (found : List (List ℕ)) → offers (labels t) found ≡ true → (names : List (List ℕ)) × IsOffering t names × AreEachOnce names found
+pub offering : (t : Tree) (found : List (List ℕ)) → offers (labels t) found ≡ true →
+    (names : List (List ℕ)) × IsOffering t names × AreEachOnce names found
 unfolding offers
-offering t found h = let w = wanted (labels t) (offered (labels t)) found refl h in (w.0, record { labels = w.1; some = w.2 }, w.3)
+offering t found h = let w = wanted (labels t) (offered (labels t)) found refl h in
+    (w.0, record { labels = w.1; some = w.2 }, w.3)
 
 some_once : (names found : List (List ℕ)) → (names ≡ [] → ⊥) → AreEachOnce names found → wanted_once (Some names) found ≡ true
 some_once [] found f e = absurd (f refl)
 some_once (x ∷ xs) found f e = of_once (x ∷ xs) found e
 
-pub of_offering : (t : Tree) (names found : List (List ℕ)) → IsOffering t names → AreEachOnce names found → offers (labels t) found ≡ true
+pub of_offering : (t : Tree) (names found : List (List ℕ)) → IsOffering t names → AreEachOnce names found →
+    offers (labels t) found ≡ true
 unfolding offers
-of_offering t names found o e = ap (λ z. wanted_once z found) (ap offered o.labels ∙ are_offered names) ∙ some_once names found o.some e
+of_offering t names found o e = ap (λ z. wanted_once z found) (ap offered o.labels ∙ are_offered names)
+    ∙ some_once names found o.some e
 
 -- ---- answers of calls
 
@@ -154,14 +164,16 @@ answer false true f h = h refl
 answer false false f h = refl
 
 pub once_answer : (b : Bool) (wanted found : List (List ℕ)) → (b ≡ true ↔ AreEachOnce wanted found) → b ≡ each_once wanted found
-once_answer b wanted found h = answer b (each_once wanted found) (λ e. of_once wanted found (h.0 e)) (λ e. h.1 (once wanted found e))
+once_answer b wanted found h = answer b (each_once wanted found) (λ e. of_once wanted found (h.0 e))
+    (λ e. h.1 (once wanted found e))
 
 pub offers_answer : (b : Bool) (t : Tree) (found : List (List ℕ)) → (labels t ≡ [] → ⊥) →
     ((names : List (List ℕ)) → labels t ≡ map Offer names → (b ≡ true ↔ AreEachOnce names found)) →
     (b ≡ true → (names : List (List ℕ)) × (labels t ≡ map Offer names)) → b ≡ offers (labels t) found
 offers_answer b t found some f h =
     answer b (offers (labels t) found)
-    (λ e. let n = h e in of_offering t n.0 found (record { labels = n.1; some = λ z. some (n.1 ∙ ap (map Offer) z) }) ((f n.0 n.1).0 e))
+    (λ e. let n = h e in of_offering t n.0 found (record { labels = n.1; some = λ z. some (n.1 ∙ ap (map Offer) z) })
+    ((f n.0 n.1).0 e))
     (λ e. let o = offering t found e in (f o.0 o.1.labels).1 o.2)
 
 pub offers_none : (moves : List Label) (found : List (List ℕ)) → moves ≡ [] → false ≡ offers moves found

@@ -75,7 +75,8 @@ are_rising (branch l t (branch m u bs)) h =
 rising_are : (bs : Branches) → AreRising bs → rising bs ≡ true
 rising_are none h = absurd h
 rising_are (branch l t none) h = refl
-rising_are (branch l t (branch m u bs)) h = and_both (rises (slice_cmp nat_cmp l m)) (rising (branch m u bs)) (ap rises h.0) (rising_are (branch m u bs) h.1)
+rising_are (branch l t (branch m u bs)) h = and_both (rises (slice_cmp nat_cmp l m)) (rising (branch m u bs)) (ap rises h.0)
+    (rising_are (branch m u bs) h.1)
 
 below_of : (k n : ℕ) → nat_lt k n ≡ true → k < n
 below_of k n h = grind arith
@@ -181,7 +182,8 @@ is_formed vars t h = some_formed vars t (kind_in vars t) refl h
 pub of_formed : (vars : List Kind) (t : Tree) → IsFormed vars t → has_some (kind_in vars t) ≡ true
 of_formed vars t f = ap has_some (formed_kind vars t f.0 f.1)
 
-used : (vars : List Kind) (t : Tree) (n : Use) (o : Option Kind) → kind_in vars t ≡ o → option_map (λ k. k.uses) o ≡ Some n → HasUse vars t n
+used : (vars : List Kind) (t : Tree) (n : Use) (o : Option Kind) → kind_in vars t ≡ o → option_map (λ k. k.uses) o ≡ Some n →
+    HasUse vars t n
 used vars t n None e h = absurd (cc h)
 used vars t n (Some k) e h = record { kind = k; formed = kind_formed vars t k e; is = same_Some k.uses n h }
 
@@ -209,8 +211,11 @@ session_prekind Top h = absurd (cc h)
 
 some_session : (t : Tree) (o : Option Kind) → kind_in [] t ≡ o → is_session o ≡ true → IsSession [] t
 some_session t None e h = absurd (cc h)
-some_session t (Some k) e h =
-    (k.uses, subst (λ z. IsWellFormed [] t z) (λ i. record { prekind = session_prekind k.prekind h i; uses = k.uses }) (kind_formed [] t k e))
+some_session t (Some k) e h = (
+  k.uses,
+  subst (λ z. IsWellFormed [] t z) (λ i. record { prekind = session_prekind k.prekind h i; uses = k.uses })
+      (kind_formed [] t k e),
+)
 
 pub has_session : (t : Tree) → is_session (kind_in [] t) ≡ true → IsSession [] t
 has_session t h = some_session t (kind_in [] t) refl h
@@ -230,7 +235,8 @@ of_type (Some s) t h = tree_itself s t (same_Some s t h)
 
 -- ---- types by their numbers
 
-first_some : (o : Option Tree) (p : Option (List Tree)) (ts : List Tree) → with_first o p ≡ Some ts → (x : Tree) × (xs : List Tree) × (o ≡ Some x) × (p ≡ Some xs) × ((x ∷ xs) ≡ ts)
+first_some : (o : Option Tree) (p : Option (List Tree)) (ts : List Tree) → with_first o p ≡ Some ts → (x : Tree) ×
+    (xs : List Tree) × (o ≡ Some x) × (p ≡ Some xs) × ((x ∷ xs) ≡ ts)
 first_some None p ts h = absurd (cc h)
 first_some (Some x) None ts h = absurd (cc h)
 first_some (Some x) (Some xs) ts h = (x, xs, refl, refl, same_Some (x ∷ xs) ts h)
@@ -246,11 +252,13 @@ pub are_types : (types : List Tree) (ks : List ℕ) (ts : List Tree) → AreAt t
 are_types types [] [] h = refl
 are_types types [] (t ∷ ts) h = absurd h
 are_types types (k ∷ ks) [] h = absurd h
-are_types types (k ∷ ks) (t ∷ ts) h = ap (λ o. with_first o (types_at types ks)) h.0 ∙ ap (with_first (Some t)) (are_types types ks ts h.1)
+are_types types (k ∷ ks) (t ∷ ts) h = ap (λ o. with_first o (types_at types ks)) h.0
+    ∙ ap (with_first (Some t)) (are_types types ks ts h.1)
 
 -- ---- instantiations
 
-below : (outer : List Kind) (t : Tree) (k : Kind) (o : Option Kind) → kind_in outer t ≡ o → is_below o k ≡ true → IsInstance outer k t
+below : (outer : List Kind) (t : Tree) (k : Kind) (o : Option Kind) → kind_in outer t ≡ o → is_below o k ≡ true →
+    IsInstance outer k t
 below outer t k None e h = absurd (cc h)
 below outer t k (Some i) e h = record { kind = i; well_formed = kind_formed outer t i e; below = h }
 
@@ -258,21 +266,25 @@ pub instantiation : (outer ks : List Kind) (ts : List Tree) → instantiates out
 instantiation outer [] [] h = tt
 instantiation outer [] (t ∷ ts) h = absurd (cc h)
 instantiation outer (k ∷ ks) [] h = absurd (cc h)
-instantiation outer (k ∷ ks) (t ∷ ts) h =
-    (below outer t k (kind_in outer t) refl (and_left (is_below (kind_in outer t) k) (instantiates outer ks ts) h), instantiation outer ks ts (and_right (is_below (kind_in outer t) k) (instantiates outer ks ts) h))
+instantiation outer (k ∷ ks) (t ∷ ts) h = (
+  below outer t k (kind_in outer t) refl (and_left (is_below (kind_in outer t) k) (instantiates outer ks ts) h),
+  instantiation outer ks ts (and_right (is_below (kind_in outer t) k) (instantiates outer ks ts) h),
+)
 
 pub of_instantiation : (outer ks : List Kind) (ts : List Tree) → IsInstantiation outer ks ts → instantiates outer ks ts ≡ true
 of_instantiation outer [] [] h = refl
 of_instantiation outer [] (t ∷ ts) h = absurd h
 of_instantiation outer (k ∷ ks) [] h = absurd h
 of_instantiation outer (k ∷ ks) (t ∷ ts) h =
-    and_both (is_below (kind_in outer t) k) (instantiates outer ks ts) (ap (λ o. is_below o k) (formed_kind outer t h.0.kind h.0.well_formed) ∙ h.0.below) (of_instantiation outer ks ts h.1)
+    and_both (is_below (kind_in outer t) k) (instantiates outer ks ts)
+    (ap (λ o. is_below o k) (formed_kind outer t h.0.kind h.0.well_formed) ∙ h.0.below) (of_instantiation outer ks ts h.1)
 
 other_length : (outer ks : List Kind) (ts : List Tree) → instantiates outer ks ts ≡ true → length ks ≡ length ts
 other_length outer [] [] h = refl
 other_length outer [] (t ∷ ts) h = absurd (cc h)
 other_length outer (k ∷ ks) [] h = absurd (cc h)
-other_length outer (k ∷ ks) (t ∷ ts) h = ap suc (other_length outer ks ts (and_right (is_below (kind_in outer t) k) (instantiates outer ks ts) h))
+other_length outer (k ∷ ks) (t ∷ ts) h = ap suc
+    (other_length outer ks ts (and_right (is_below (kind_in outer t) k) (instantiates outer ks ts) h))
 
 -- types are none for as many kinds unless there are as many
 pub wrong_length : (outer ks : List Kind) (ts : List Tree) → (length ks ≡ length ts → ⊥) → false ≡ instantiates outer ks ts
@@ -288,10 +300,12 @@ abbrev pub found_before : List Tree → Option (List Tree) → Option (List Tree
 found_before xs None = None
 found_before xs (Some ys) = Some (xs ++ ys)
 
-one_more : (xs : List Tree) (t : Tree) (o : Option (List Tree)) → found_before xs (with_first (Some t) o) ≡ found_before (xs ++ t ∷ []) o
+one_more : (xs : List Tree) (t : Tree) (o : Option (List Tree)) →
+    found_before xs (with_first (Some t) o) ≡ found_before (xs ++ t ∷ []) o
 one_more xs t None = refl
 one_more xs t (Some ys) = ap Some (sym (append_assoc xs (t ∷ []) ys))
 
 pub found_more : (types xs : List Tree) (k : ℕ) (ks : List ℕ) (t : Tree) → slice_get types k ≡ Some t →
     found_before xs (types_at types (k ∷ ks)) ≡ found_before (xs ++ t ∷ []) (types_at types ks)
-found_more types xs k ks t is = ap (λ o. found_before xs (with_first o (types_at types ks))) is ∙ one_more xs t (types_at types ks)
+found_more types xs k ks t is = ap (λ o. found_before xs (with_first o (types_at types ks))) is
+    ∙ one_more xs t (types_at types ks)

@@ -214,9 +214,11 @@ instantiates outer (k ∷ ks) (t ∷ ts) = is_below (kind_in outer t) k && insta
 abbrev pub is_instance : List Kind → List Kind → Option Tree → Option (List Tree) → Tree → Bool
 is_instance vars kinds None args t = false
 is_instance vars kinds (Some s) None t = false
-is_instance vars kinds (Some s) (Some args) t = instantiates vars kinds args && same_tree t (instantiated args s)
+is_instance vars kinds (Some s) (Some args) t =
+    instantiates vars kinds args && same_tree t (instantiated args s)
 
 -- the same of a global that may be there
 abbrev pub is_global_type : List Kind → List Tree → Option GlobalEntry → List ℕ → Tree → Bool
 is_global_type vars types None ks t = false
-is_global_type vars types (Some f) ks t = is_instance vars f.kinds.items (slice_get types f.signature) (types_at types ks) t
+is_global_type vars types (Some f) ks t =
+    is_instance vars f.kinds.items (slice_get types f.signature) (types_at types ks) t

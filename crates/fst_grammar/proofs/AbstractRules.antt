@@ -43,8 +43,10 @@ abbrev mutual
   HasRules n rule p skip = ⊤
   HasRules n rule p (send b) = IsName n rule (Send b)
   HasRules n rule p (receive b) = IsName n rule (Receive b)
-  HasRules n rule p (select cs) = IsChoice n rule Select (own_place p (select cs)) cs × HaveRules n rule (place_past (own_place p (select cs)) 1) cs
-  HasRules n rule p (offer cs) = IsChoice n rule Offer (own_place p (offer cs)) cs × HaveRules n rule (place_past (own_place p (offer cs)) 1) cs
+  HasRules n rule p (select cs) = IsChoice n rule Select (own_place p (select cs)) cs ×
+      HaveRules n rule (place_past (own_place p (select cs)) 1) cs
+  HasRules n rule p (offer cs) = IsChoice n rule Offer (own_place p (offer cs)) cs ×
+      HaveRules n rule (place_past (own_place p (offer cs)) 1) cs
   HasRules n rule p (seq s r) = HasRules n rule (place_past p 1) s × HasRules n rule (place_past p (1 + nodes s)) r
   HasRules n rule p (rec s) =
       terminated s ≡ false → (IsRec n rule (own_place p (rec s)) s × HasRules n rule (body_place (own_place p (rec s))) s)

@@ -41,23 +41,31 @@ AllClosed (None ∷ env) = ⊥
 AllClosed (Some t ∷ env) = IsClosed t × AllClosed env
 
 -- E after D is G: D closes what stands outside, and E the n binders within
-pub data Lays (outer : List (Option Tree)) (names : List ℕ) : ℕ → List (Option Tree) → List (Option Tree) → List (Option Tree) → List ℕ → Type 0 where
+pub data Lays (outer : List (Option Tree)) (names : List ℕ) : ℕ → List (Option Tree) → List (Option Tree) → List (Option Tree) →
+    List ℕ → Type 0 where
   top : (E : List (Option Tree)) → Lays outer names 0 E outer outer names
-  over : {n : ℕ} {E D G : List (Option Tree)} {bs : List ℕ} → (o : Option Tree) (b : ℕ) → Lays outer names n E D G bs → Lays outer names (suc n) (o ∷ E) (None ∷ D) (o ∷ G) (b ∷ bs)
+  over : {n : ℕ} {E D G : List (Option Tree)} {bs : List ℕ} →
+      (o : Option Tree) (b : ℕ) → Lays outer names n E D G bs → Lays outer names (suc n) (o ∷ E) (None ∷ D) (o ∷ G) (b ∷ bs)
 
-outside : (F env : List (Option Tree)) → AllClosed env → (k j : ℕ) → k < length env → substitute F (variable env k (back j)) ≡ variable env k (back j)
+outside : (F env : List (Option Tree)) → AllClosed env →
+    (k j : ℕ) → k < length env → substitute F (variable env k (back j)) ≡ variable env k (back j)
 outside F [] ok k j h = absurd (omega arith)
 outside F (None ∷ env) ok k j h = absurd ok
 outside F (Some t ∷ env) ok zero j h = ok.0 F
 outside F (Some t ∷ env) ok (suc k) j h = outside F env ok.1 k j (omega arith)
 
-at_variable : {outer : List (Option Tree)} {names : List ℕ} {n : ℕ} {E D G : List (Option Tree)} {bs : List ℕ} → Lays outer names n E D G bs → AllClosed outer → (F : List (Option Tree)) (k j : ℕ) → k < length G → variable F j (back j) ≡ variable E k (back j) → substitute F (variable D k (back j)) ≡ variable G k (back j)
+at_variable : {outer : List (Option Tree)} {names : List ℕ} {n : ℕ} {E D G : List (Option Tree)} {bs : List ℕ} →
+    Lays outer names n E D G bs → AllClosed outer →
+    (F : List (Option Tree)) (k j : ℕ) → k < length G → variable F j (back j) ≡ variable E k (back j) →
+    substitute F (variable D k (back j)) ≡ variable G k (back j)
 at_variable {outer} (top E) ok F k j lt h = outside F outer ok k j lt
 at_variable (over o b l) ok F zero j lt h = h
 at_variable (over o b l) ok F (suc k) j lt h = at_variable l ok F k j (omega arith) h
 
 mutual
-  pub composed : {outer : List (Option Tree)} {names : List ℕ} {n : ℕ} {E D G : List (Option Tree)} {bs : List ℕ} → Lays outer names n E D G bs → AllClosed outer → (s : Tree) → IsScoped (length G) s → substitute E (substitute D s) ≡ substitute G s
+  pub composed : {outer : List (Option Tree)} {names : List ℕ} {n : ℕ} {E D G : List (Option Tree)} {bs : List ℕ} →
+      Lays outer names n E D G bs → AllClosed outer →
+      (s : Tree) → IsScoped (length G) s → substitute E (substitute D s) ≡ substitute G s
   composed l ok skip h = refl
   composed l ok (send b) h = refl
   composed l ok (receive b) h = refl
@@ -72,7 +80,9 @@ mutual
   composed l ok (pair s r) h = λ i. pair (composed l ok s h.0 i) (composed l ok r h.1 i)
   composed l ok (named k) h = refl
 
-  all_composed : {outer : List (Option Tree)} {names : List ℕ} {n : ℕ} {E D G : List (Option Tree)} {bs : List ℕ} → Lays outer names n E D G bs → AllClosed outer → (cs : Branches) → AllScoped (length G) cs → substitute_all E (substitute_all D cs) ≡ substitute_all G cs
+  all_composed : {outer : List (Option Tree)} {names : List ℕ} {n : ℕ} {E D G : List (Option Tree)} {bs : List ℕ} →
+      Lays outer names n E D G bs → AllClosed outer →
+      (cs : Branches) → AllScoped (length G) cs → substitute_all E (substitute_all D cs) ≡ substitute_all G cs
   all_composed l ok none h = refl
   all_composed l ok (branch t s cs) h = λ i. branch t (composed l ok s h.0 i) (all_composed l ok cs h.1 i)
 
@@ -109,7 +119,8 @@ no_step env (select cs) a e = absurd (cc e)
 no_step env (offer cs) a e = absurd (cc e)
 no_step env (seq s r) a e =
     let h = and_parts (terminated s) (terminated r) e in
-    ap (λ c. if c then step_in env r a else option_map (λ t. seq t (substitute env r)) (step_in env s a)) h.0 ∙ no_step env r a h.1
+    ap (λ c. if c then step_in env r a else option_map (λ t. seq t (substitute env r)) (step_in env s a)) h.0
+    ∙ no_step env r a h.1
 no_step env (rec s) a e = no_step (Some (substitute env (rec s)) ∷ env) s a e
 no_step env (back k) a e = absurd (cc e)
 no_step env (var k) a e = absurd (cc e)

@@ -43,7 +43,8 @@ abbrev mutual
 abbrev pub AreBinders : List Part → Tree → List ℕ → Type 0
 AreBinders found w [] = ⊤
 AreBinders found w (b ∷ bs) =
-    ((s : Tree) × (found_in w b ≡ Some (record { place = record { whole = w; at = b; binders = bs }; type = rec s })) × Has found w b × (length bs + nodes (rec s) ≤ nodes w))
+    ((s : Tree) × (found_in w b ≡ Some (record { place = record { whole = w; at = b; binders = bs }; type = rec s })) ×
+    Has found w b × (length bs + nodes (rec s) ≤ nodes w))
     × AreBinders found w bs
 
 -- what is known of a part at its place
@@ -98,23 +99,28 @@ module _ (letters : List Label) (found : List Part) where
   }
 
   -- a closed type is a whole of its own
-  pub bound_in : (c : Bool) (p : Place) (t : Tree) → AreBinders found p.whole p.binders → AreBinders found (own_place_if c p t).whole (own_place_if c p t).binders
+  pub bound_in : (c : Bool) (p : Place) (t : Tree) → AreBinders found p.whole p.binders →
+      AreBinders found (own_place_if c p t).whole (own_place_if c p t).binders
   bound_in true p t h = tt
   bound_in false p t h = h
 
-  scoped_in : (c : Bool) (p : Place) (t : Tree) → is_closed t ≡ c → IsScoped (length p.binders) t → IsScoped (length (own_place_if c p t).binders) t
+  scoped_in : (c : Bool) (p : Place) (t : Tree) → is_closed t ≡ c → IsScoped (length p.binders) t →
+      IsScoped (length (own_place_if c p t).binders) t
   scoped_in true p t is h = scoped_if_closed t is
   scoped_in false p t is h = h
 
-  pub small_in : (c : Bool) (p : Place) (t : Tree) → length p.binders + nodes t ≤ nodes p.whole → length (own_place_if c p t).binders + nodes t ≤ nodes (own_place_if c p t).whole
+  pub small_in : (c : Bool) (p : Place) (t : Tree) → length p.binders + nodes t ≤ nodes p.whole →
+      length (own_place_if c p t).binders + nodes t ≤ nodes (own_place_if c p t).whole
   small_in true p t h = omega arith
   small_in false p t h = h
 
-  pub few_in : (c : Bool) (p : Place) (t : Tree) → length p.binders + nodes t ≤ nodes p.whole → nodes p.whole ≤ most_nodes → nodes (own_place_if c p t).whole ≤ most_nodes
+  pub few_in : (c : Bool) (p : Place) (t : Tree) → length p.binders + nodes t ≤ nodes p.whole → nodes p.whole ≤ most_nodes →
+      nodes (own_place_if c p t).whole ≤ most_nodes
   few_in true p t h k = omega arith
   few_in false p t h k = k
 
-  pub fit_select : (p : Place) (cs : Branches) → IsFit letters found p (select cs) → AreFit letters found Select (place_past (own_place p (select cs)) 1) cs
+  pub fit_select : (p : Place) (cs : Branches) → IsFit letters found p (select cs) →
+      AreFit letters found Select (place_past (own_place p (select cs)) 1) cs
   fit_select p cs h = record {
     sees = sees_select (own_place p (select cs)) cs (sees_entered p (select cs) h.sees);
     known = h.known;
@@ -127,7 +133,8 @@ module _ (letters : List Label) (found : List Part) where
     few = few_in (is_closed (select cs)) p (select cs) h.small h.few;
   }
 
-  pub fit_offer : (p : Place) (cs : Branches) → IsFit letters found p (offer cs) → AreFit letters found Offer (place_past (own_place p (offer cs)) 1) cs
+  pub fit_offer : (p : Place) (cs : Branches) → IsFit letters found p (offer cs) →
+      AreFit letters found Offer (place_past (own_place p (offer cs)) 1) cs
   fit_offer p cs h = record {
     sees = sees_offer (own_place p (offer cs)) cs (sees_entered p (offer cs) h.sees);
     known = h.known;
@@ -140,7 +147,8 @@ module _ (letters : List Label) (found : List Part) where
     few = few_in (is_closed (offer cs)) p (offer cs) h.small h.few;
   }
 
-  pub fit_branch : (make : List ℕ → Label) (p : Place) (l : List ℕ) (s : Tree) (cs : Branches) → AreFit letters found make p (branch l s cs) → IsFit letters found (place_past p 1) s
+  pub fit_branch : (make : List ℕ → Label) (p : Place) (l : List ℕ) (s : Tree) (cs : Branches) →
+      AreFit letters found make p (branch l s cs) → IsFit letters found (place_past p 1) s
   fit_branch make p l s cs h = record {
     sees = sees_branch p l s cs h.sees;
     known = h.known.1;
@@ -153,7 +161,8 @@ module _ (letters : List Label) (found : List Part) where
     few = h.few;
   }
 
-  pub fit_others : (make : List ℕ → Label) (p : Place) (l : List ℕ) (s : Tree) (cs : Branches) → AreFit letters found make p (branch l s cs) → AreFit letters found make (place_past p (1 + nodes s)) cs
+  pub fit_others : (make : List ℕ → Label) (p : Place) (l : List ℕ) (s : Tree) (cs : Branches) →
+      AreFit letters found make p (branch l s cs) → AreFit letters found make (place_past p (1 + nodes s)) cs
   fit_others make p l s cs h = record {
     sees = sees_others p l s cs h.sees;
     known = h.known.2;
@@ -167,11 +176,15 @@ module _ (letters : List Label) (found : List Part) where
   }
 
   -- a `rec` that isn't terminated is in the list, and so are the parts of its body
-  held_rec : (p : Place) (s : Tree) → terminated s ≡ false → Every (Holds found) (parts p (rec s)) → Holds found (record { place = own_place p (rec s); type = rec s }) × Every (Holds found) (parts (body_place (own_place p (rec s))) s)
+  held_rec : (p : Place) (s : Tree) → terminated s ≡ false → Every (Holds found) (parts p (rec s)) →
+      Holds found (record { place = own_place p (rec s); type = rec s }) ×
+      Every (Holds found) (parts (body_place (own_place p (rec s))) s)
   held_rec p s e h =
-      subst (λ b. Every (Holds found) (if b then [] else record { place = own_place p (rec s); type = rec s } ∷ parts (body_place (own_place p (rec s))) s)) e h
+      subst (λ b. Every (Holds found) (if b then [] else record { place = own_place p (rec s); type = rec s } ∷ parts
+      (body_place (own_place p (rec s))) s)) e h
 
-  pub fit_body : (p : Place) (s : Tree) → terminated s ≡ false → IsFit letters found p (rec s) → IsFit letters found (body_place (own_place p (rec s))) s
+  pub fit_body : (p : Place) (s : Tree) → terminated s ≡ false → IsFit letters found p (rec s) →
+      IsFit letters found (body_place (own_place p (rec s))) s
   fit_body p s e h =
       let q = own_place p (rec s) in
       let g = sees_entered p (rec s) h.sees in
@@ -191,13 +204,18 @@ module _ (letters : List Label) (found : List Part) where
 
   -- a choice or `rec` stands at its place, and is in the list
   pub own_select : (p : Place) (cs : Branches) → IsFit letters found p (select cs) →
-      (found_in (own_place p (select cs)).whole (own_place p (select cs)).at ≡ Some (record { place = own_place p (select cs); type = select cs })) × Has found (own_place p (select cs)).whole (own_place p (select cs)).at
+      (found_in (own_place p (select cs)).whole (own_place p (select cs)).at ≡ Some
+      (record { place = own_place p (select cs); type = select cs })) ×
+      Has found (own_place p (select cs)).whole (own_place p (select cs)).at
   own_select p cs h = (seated_select (own_place p (select cs)) cs (sees_entered p (select cs) h.sees), h.held.0)
 
   pub own_offer : (p : Place) (cs : Branches) → IsFit letters found p (offer cs) →
-      (found_in (own_place p (offer cs)).whole (own_place p (offer cs)).at ≡ Some (record { place = own_place p (offer cs); type = offer cs })) × Has found (own_place p (offer cs)).whole (own_place p (offer cs)).at
+      (found_in (own_place p (offer cs)).whole (own_place p (offer cs)).at ≡ Some
+      (record { place = own_place p (offer cs); type = offer cs })) ×
+      Has found (own_place p (offer cs)).whole (own_place p (offer cs)).at
   own_offer p cs h = (seated_offer (own_place p (offer cs)) cs (sees_entered p (offer cs) h.sees), h.held.0)
 
   pub own_rec : (p : Place) (s : Tree) → terminated s ≡ false → IsFit letters found p (rec s) →
-      (found_in (own_place p (rec s)).whole (own_place p (rec s)).at ≡ Some (record { place = own_place p (rec s); type = rec s })) × Has found (own_place p (rec s)).whole (own_place p (rec s)).at
+      (found_in (own_place p (rec s)).whole (own_place p (rec s)).at ≡ Some
+      (record { place = own_place p (rec s); type = rec s })) × Has found (own_place p (rec s)).whole (own_place p (rec s)).at
   own_rec p s e h = (seated_rec (own_place p (rec s)) s (sees_entered p (rec s) h.sees), (held_rec p s e h.held).0)

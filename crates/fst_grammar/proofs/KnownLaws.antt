@@ -21,14 +21,16 @@ pub contains_known : (letters : List Label) (a : Label) → Contains letters a �
 contains_known [] a h = absurd (omega (arith, h.1))
 contains_known (l ∷ letters) a h = pick (contains_known letters a) (same_label a l) refl (from_contains letters a l h)
   where
-    pick : (Contains letters a → Known letters a) → (c : Bool) → same_label a l ≡ c → (l ≡ a) ⊎ Contains letters a → (if c then 0 else suc (label_position letters a)) < suc (length letters)
+    pick : (Contains letters a → Known letters a) → (c : Bool) → same_label a l ≡ c → (l ≡ a) ⊎ Contains letters a →
+        (if c then 0 else suc (label_position letters a)) < suc (length letters)
     pick next true is h = omega arith
     pick next false is (inl e) = absurd (cc (sym is ∙ (same_label_is a l).1 (sym e)))
     pick next false is (inr k) = let lt = next k in omega arith
 
 mutual
   -- a session type's labels are known where all labels in it are
-  pub session_known : (vars : List Kind) (letters : List Label) (t : Tree) (u : Use) → HasKind vars t (session u) → ((a : Label) → Contains (labels_in t) a → Known letters a) → AreKnown letters t
+  pub session_known : (vars : List Kind) (letters : List Label) (t : Tree) (u : Use) → HasKind vars t (session u) →
+      ((a : Label) → Contains (labels_in t) a → Known letters a) → AreKnown letters t
   session_known vars letters skip u h k = tt
   session_known vars letters (send b) u h k = k (Send b) (contains_head [] (Send b) (Send b) refl)
   session_known vars letters (receive b) u h k = k (Receive b) (contains_head [] (Receive b) (Receive b) refl)
@@ -46,10 +48,15 @@ mutual
   session_known vars letters (pair s r) u h k = not_top u _ h.4
   session_known vars letters (named j) u h k = not_top u _ h
 
-  sessions_known : (vars : List Kind) (letters : List Label) (make : List ℕ → Label) (cs : Branches) → AllSessions vars cs → ((a : Label) → Contains (branch_labels make cs) a → Known letters a) → AllKnown letters make cs
+  sessions_known : (vars : List Kind) (letters : List Label) (make : List ℕ → Label) (cs : Branches) → AllSessions vars cs →
+      ((a : Label) → Contains (branch_labels make cs) a → Known letters a) → AllKnown letters make cs
   sessions_known vars letters make none h k = tt
   sessions_known vars letters make (branch l s cs) h k = (
     k (make l) (contains_head (labels_in s ++ branch_labels make cs) (make l) (make l) refl),
-    session_known vars letters s h.0.0 h.0.1 (λ a m. k a (contains_tail (labels_in s ++ branch_labels make cs) a (make l) (Contains-append_left (labels_in s) (branch_labels make cs) a m))),
-    sessions_known vars letters make cs h.1 (λ a m. k a (contains_tail (labels_in s ++ branch_labels make cs) a (make l) (Contains-append_right (labels_in s) (branch_labels make cs) a m))),
+    session_known vars letters s h.0.0 h.0.1 (λ a m. k a
+        (contains_tail (labels_in s ++ branch_labels make cs) a (make l)
+        (Contains-append_left (labels_in s) (branch_labels make cs) a m))),
+    sessions_known vars letters make cs h.1 (λ a m. k a
+        (contains_tail (labels_in s ++ branch_labels make cs) a (make l)
+        (Contains-append_right (labels_in s) (branch_labels make cs) a m))),
   )

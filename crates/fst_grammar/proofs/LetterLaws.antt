@@ -17,7 +17,8 @@ pub located : (letters : List Label) (a : Label) → Known letters a → slice_g
 located [] a h = absurd (omega arith)
 located (l ∷ letters) a h = pick (located letters a) (same_label a l) refl h
   where
-    pick : (Known letters a → slice_get letters (label_position letters a) ≡ Some a) → (c : Bool) → same_label a l ≡ c → (if c then 0 else suc (label_position letters a)) < suc (length letters) →
+    pick : (Known letters a → slice_get letters (label_position letters a) ≡ Some a) → (c : Bool) → same_label a l ≡ c →
+        (if c then 0 else suc (label_position letters a)) < suc (length letters) →
         slice_get (l ∷ letters) (if c then 0 else suc (label_position letters a)) ≡ Some a
     pick next true is lt = ap Some (sym (same_label-same a l is))
     pick next false is lt = next (omega arith)
@@ -27,13 +28,16 @@ letter_place : (letters : List Label) (a : Label) (i : ℕ) → letter_of letter
 letter_place [] a i e = absurd (cc e)
 letter_place (l ∷ letters) a i e = pick (letter_place letters a) (same_label a l) e
   where
-    behind : ((j : ℕ) → letter_of letters a ≡ Some j → label_position letters a ≡ j) → (o : Option ℕ) → letter_of letters a ≡ o → option_map suc o ≡ Some i → suc (label_position letters a) ≡ i
+    behind : ((j : ℕ) → letter_of letters a ≡ Some j → label_position letters a ≡ j) →
+        (o : Option ℕ) → letter_of letters a ≡ o → option_map suc o ≡ Some i → suc (label_position letters a) ≡ i
     behind next None is e = absurd (cc e)
     behind next (Some j) is e =
         let at : suc j ≡ i = cc in
         ap suc (next j is) ∙ at
 
-    pick : ((j : ℕ) → letter_of letters a ≡ Some j → label_position letters a ≡ j) → (c : Bool) → (if c then Some 0 else option_map suc (letter_of letters a)) ≡ Some i → (if c then 0 else suc (label_position letters a)) ≡ i
+    pick : ((j : ℕ) → letter_of letters a ≡ Some j → label_position letters a ≡ j) → (c : Bool) →
+        (if c then Some 0 else option_map suc (letter_of letters a)) ≡ Some i →
+        (if c then 0 else suc (label_position letters a)) ≡ i
     pick next true e = cc
     pick next false e = behind next (letter_of letters a) refl e
 
@@ -42,11 +46,14 @@ no_place : (letters : List Label) (a : Label) → letter_of letters a ≡ None �
 no_place [] a e = refl
 no_place (l ∷ letters) a e = pick (no_place letters a) (same_label a l) e
   where
-    behind : (letter_of letters a ≡ None → label_position letters a ≡ length letters) → (o : Option ℕ) → letter_of letters a ≡ o → option_map suc o ≡ None → suc (label_position letters a) ≡ suc (length letters)
+    behind : (letter_of letters a ≡ None → label_position letters a ≡ length letters) →
+        (o : Option ℕ) → letter_of letters a ≡ o → option_map suc o ≡ None → suc (label_position letters a) ≡ suc (length letters)
     behind next None is e = ap suc (next is)
     behind next (Some j) is e = absurd (cc e)
 
-    pick : (letter_of letters a ≡ None → label_position letters a ≡ length letters) → (c : Bool) → (if c then Some 0 else option_map suc (letter_of letters a)) ≡ None → (if c then 0 else suc (label_position letters a)) ≡ suc (length letters)
+    pick : (letter_of letters a ≡ None → label_position letters a ≡ length letters) → (c : Bool) →
+        (if c then Some 0 else option_map suc (letter_of letters a)) ≡ None →
+        (if c then 0 else suc (label_position letters a)) ≡ suc (length letters)
     pick next true e = absurd (cc e)
     pick next false e = behind next (letter_of letters a) refl e
 
@@ -60,7 +67,8 @@ one_place letters l a k e =
     same_some l a (sym (located letters l k) ∙ ap (slice_get letters) e ∙ located letters a other)
 
 -- a letter is that of a known label exactly where the labels are the same
-pub tells : (letters : List Label) (l a : Label) (i : ℕ) → Known letters l → letter_of letters a ≡ Some i → (label_position letters l == i) ≡ same_label a l
+pub tells : (letters : List Label) (l a : Label) (i : ℕ) → Known letters l → letter_of letters a ≡ Some i →
+    (label_position letters l == i) ≡ same_label a l
 tells letters l a i k e = test (label_position letters l == i) refl (same_label a l) refl
   where
     at : label_position letters a ≡ i
@@ -92,12 +100,15 @@ pub name_known : (letters : List Label) (a : Label) → is_name a ≡ true → K
 name_known [] a is h = absurd (omega arith)
 name_known (l ∷ letters) a is h = pick (name_known letters a is) (same_label a l) refl (is_name l) refl h
   where
-    pick : (Known letters a → Known (names letters) a) → (c : Bool) → same_label a l ≡ c → (d : Bool) → is_name l ≡ d → (if c then 0 else suc (label_position letters a)) < suc (length letters) →
+    pick : (Known letters a → Known (names letters) a) → (c : Bool) → same_label a l ≡ c → (d : Bool) → is_name l ≡ d →
+        (if c then 0 else suc (label_position letters a)) < suc (length letters) →
         Known (if d then l ∷ names letters else names letters) a
     pick next true e true f lt =
-        subst (λ b. (if b then 0 else suc (label_position (names letters) a)) < suc (length (names letters))) (sym e) (let z : 0 < suc (length (names letters)) = omega arith in z)
+        subst (λ b. (if b then 0 else suc (label_position (names letters) a)) < suc (length (names letters))) (sym e)
+        (let z : 0 < suc (length (names letters)) = omega arith in z)
     pick next true e false f lt = absurd (cc (sym f ∙ ap is_name (sym (same_label-same a l e)) ∙ is))
     pick next false e true f lt =
         let n = next (omega arith) in
-        subst (λ b. (if b then 0 else suc (label_position (names letters) a)) < suc (length (names letters))) (sym e) (let z : suc (label_position (names letters) a) < suc (length (names letters)) = omega arith in z)
+        subst (λ b. (if b then 0 else suc (label_position (names letters) a)) < suc (length (names letters))) (sym e)
+        (let z : suc (label_position (names letters) a) < suc (length (names letters)) = omega arith in z)
     pick next false e false f lt = next (omega arith)

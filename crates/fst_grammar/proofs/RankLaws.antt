@@ -56,7 +56,8 @@ rank_same (seq s r) e f h =
     pick front behind false is = front
 rank_same (rec s) e f h = ap suc (rank_same s (0 ∷ e) (0 ∷ f) (within s e f h))
   where
-    within : (s : Tree) (e f : List ℕ) → ((k : ℕ) → reaches s (suc k) ≡ true → binder e k ≡ binder f k) → (k : ℕ) → reaches s k ≡ true → binder (0 ∷ e) k ≡ binder (0 ∷ f) k
+    within : (s : Tree) (e f : List ℕ) → ((k : ℕ) → reaches s (suc k) ≡ true → binder e k ≡ binder f k) →
+        (k : ℕ) → reaches s k ≡ true → binder (0 ∷ e) k ≡ binder (0 ∷ f) k
     within s e f h zero is = refl
     within s e f h (suc k) is = h k is
 rank_same (back j) e f h = h j (eq-eqb j j refl)
@@ -72,7 +73,8 @@ rank_free t e f h = rank_same t e f (λ k is. absurd (cc (sym (unreached t 0 k h
 rank_body : (s : Tree) (x : ℕ) (env : List ℕ) → reaches s 0 ≡ false → rank_in (x ∷ env) s ≡ rank_in (0 ∷ env) s
 rank_body s x env h = rank_same s (x ∷ env) (0 ∷ env) (same s x env h)
   where
-    same : (s : Tree) (x : ℕ) (env : List ℕ) → reaches s 0 ≡ false → (k : ℕ) → reaches s k ≡ true → binder (x ∷ env) k ≡ binder (0 ∷ env) k
+    same : (s : Tree) (x : ℕ) (env : List ℕ) → reaches s 0 ≡ false →
+        (k : ℕ) → reaches s k ≡ true → binder (x ∷ env) k ≡ binder (0 ∷ env) k
     same s x env h zero is = absurd (cc (sym h ∙ is))
     same s x env h (suc k) is = refl
 
@@ -84,7 +86,8 @@ rank_most (select cs) env b h = omega arith
 rank_most (offer cs) env b h = omega arith
 rank_most (seq s r) env b h = pick (rank_most s env b h) (rank_most r env b h) (terminated s)
   where
-    pick : rank_in env s ≤ nodes s + b → rank_in env r ≤ nodes r + b → (c : Bool) → (if c then rank_in env r else rank_in env s) ≤ nodes s + nodes r + 1 + b
+    pick : rank_in env s ≤ nodes s + b → rank_in env r ≤ nodes r + b → (c : Bool) →
+        (if c then rank_in env r else rank_in env s) ≤ nodes s + nodes r + 1 + b
     pick front behind true = omega arith
     pick front behind false = omega arith
 rank_most (rec s) env b h = let le = rank_most s (0 ∷ env) b (within env b h) in omega arith
@@ -126,7 +129,8 @@ rank_few few found m h = ap (λ c. if c then 0 else entry_rank (slice_get found 
 pub rank_entry : (few : ℕ) (found : List Part) (k : ℕ) → number_rank few found (few + k) ≡ entry_rank (slice_get found k)
 rank_entry few found k = pick (nat_lt (few + k) few) refl
   where
-    pick : (c : Bool) → nat_lt (few + k) few ≡ c → (if c then 0 else entry_rank (slice_get found (few + k - few))) ≡ entry_rank (slice_get found k)
+    pick : (c : Bool) → nat_lt (few + k) few ≡ c →
+        (if c then 0 else entry_rank (slice_get found (few + k - few))) ≡ entry_rank (slice_get found k)
     pick true is = let lt : few + k < few = ltb-true (few + k) few is in absurd (omega arith)
     pick false is = let same : few + k - few ≡ k = omega arith in ap (λ x. entry_rank (slice_get found x)) same
 
@@ -138,9 +142,11 @@ module _ (letters : List Label) (found : List Part) (seated : Every IsSeated fou
   rank = number_rank (length (names letters)) found
 
   node_rank : (w : Tree) (a : ℕ) (x : Part) → (found_in w a ≡ Some x) × Has found w a → rank (n.node w a) ≡ part_rank x
-  node_rank w a x h = rank_entry (length (names letters)) found (position found w a) ∙ ap entry_rank (numbered found seated w a x h.1 h.0)
+  node_rank w a x h = rank_entry (length (names letters)) found (position found w a)
+      ∙ ap entry_rank (numbered found seated w a x h.1 h.0)
 
-  binder_rank : (w : Tree) (bs : List ℕ) → AreBinders found w bs → (k : ℕ) → k < length bs → rank (n.node w (binder bs k)) ≡ binder (ranks w bs) k
+  binder_rank : (w : Tree) (bs : List ℕ) → AreBinders found w bs →
+      (k : ℕ) → k < length bs → rank (n.node w (binder bs k)) ≡ binder (ranks w bs) k
   binder_rank w [] h k lt = absurd (omega arith)
   binder_rank w (b ∷ bs) h zero lt = node_rank w b _ (h.0.1, h.0.2) ∙ sym (ap (spot_rank (ranks w bs)) h.0.1)
   binder_rank w (b ∷ bs) h (suc k) lt = binder_rank w bs h.1 k (omega arith)
@@ -151,7 +157,8 @@ module _ (letters : List Label) (found : List Part) (seated : Every IsSeated fou
   name_head : (a : Label) → is_name a ≡ true → Known letters a → Headed (n.name a ∷ []) 0
   name_head a is k = (n.name a, [], refl, rank_few (length (names letters)) found (n.name a) (name_known letters a is k))
 
-  entered_rank : (c : Bool) (p : Place) (t : Tree) → is_closed t ≡ c → rank_in (ranks (own_place_if c p t).whole (own_place_if c p t).binders) t ≡ rank_in (ranks p.whole p.binders) t
+  entered_rank : (c : Bool) (p : Place) (t : Tree) → is_closed t ≡ c →
+      rank_in (ranks (own_place_if c p t).whole (own_place_if c p t).binders) t ≡ rank_in (ranks p.whole p.binders) t
   entered_rank true p t is = rank_free t [] (ranks p.whole p.binders) (scoped_if_closed t is)
   entered_rank false p t is = refl
 
@@ -159,22 +166,27 @@ module _ (letters : List Label) (found : List Part) (seated : Every IsSeated fou
   headed_behind u v m h = (h.0, h.1 ++ v, ap (λ x. x ++ v) h.2, h.3)
 
   -- the rank of a part that isn't terminated is that of its word's first non-terminal
-  head_rank : (p : Place) (t : Tree) → IsFit letters found p t → terminated t ≡ false → Headed (word n p t) (rank_in (ranks p.whole p.binders) t)
+  head_rank : (p : Place) (t : Tree) → IsFit letters found p t → terminated t ≡ false →
+      Headed (word n p t) (rank_in (ranks p.whole p.binders) t)
   head_rank p skip h e = absurd (cc e)
   head_rank p (send b) h e = name_head (Send b) refl h.known
   head_rank p (receive b) h e = name_head (Receive b) refl h.known
   head_rank p (select cs) h e = (node_at n (own_place p (select cs)), [], refl, node_rank _ _ _ (own_select letters found p cs h))
   head_rank p (offer cs) h e = (node_at n (own_place p (offer cs)), [], refl, node_rank _ _ _ (own_offer letters found p cs h))
   head_rank p (seq s r) h e =
-      pick (head_rank (place_past p 1) s (fit_first letters found p s r h)) (head_rank (place_past p (1 + nodes s)) r (fit_second letters found p s r h)) (terminated s) refl e
+      pick (head_rank (place_past p 1) s (fit_first letters found p s r h))
+      (head_rank (place_past p (1 + nodes s)) r (fit_second letters found p s r h)) (terminated s) refl e
     where
       pick : (terminated s ≡ false → Headed (word n (place_past p 1) s) (rank_in (ranks p.whole p.binders) s)) →
           (terminated r ≡ false → Headed (word n (place_past p (1 + nodes s)) r) (rank_in (ranks p.whole p.binders) r)) →
           (c : Bool) → terminated s ≡ c → c && terminated r ≡ false →
-          Headed (word n (place_past p 1) s ++ word n (place_past p (1 + nodes s)) r) (if c then rank_in (ranks p.whole p.binders) r else rank_in (ranks p.whole p.binders) s)
+          Headed (word n (place_past p 1) s ++ word n (place_past p (1 + nodes s)) r)
+          (if c then rank_in (ranks p.whole p.binders) r else rank_in (ranks p.whole p.binders) s)
       pick front behind true is e =
-          subst (λ u. Headed (u ++ word n (place_past p (1 + nodes s)) r) (rank_in (ranks p.whole p.binders) r)) (sym (ended_word n (place_past p 1) s is)) (behind e)
-      pick front behind false is e = headed_behind (word n (place_past p 1) s) (word n (place_past p (1 + nodes s)) r) (rank_in (ranks p.whole p.binders) s) (front is)
+          subst (λ u. Headed (u ++ word n (place_past p (1 + nodes s)) r) (rank_in (ranks p.whole p.binders) r))
+          (sym (ended_word n (place_past p 1) s is)) (behind e)
+      pick front behind false is e = headed_behind (word n (place_past p 1) s) (word n (place_past p (1 + nodes s)) r)
+          (rank_in (ranks p.whole p.binders) s) (front is)
   head_rank p (rec s) h e = (
     node_at n (own_place p (rec s)),
     [],
@@ -190,13 +202,15 @@ module _ (letters : List Label) (found : List Part) (seated : Every IsSeated fou
 
   -- a `rec` has a higher rank than the first non-terminal of its body's word
   abbrev pub Falls : Place → Tree → Type 0
-  Falls q s = (z : ℕ) × (d : List ℕ) × (word n (body_place q) s ≡ z ∷ d) × (rank z < part_rank (record { place = q; type = rec s }))
+  Falls q s = (z : ℕ) × (d : List ℕ) × (word n (body_place q) s ≡ z ∷ d) ×
+      (rank z < part_rank (record { place = q; type = rec s }))
 
   pub body_falls : (p : Place) (s : Tree) → terminated s ≡ false → IsFit letters found p (rec s) → Falls (own_place p (rec s)) s
   body_falls p s e h =
       let q = own_place p (rec s) in
       let r = head_rank (body_place q) s (fit_body letters found p s e h) e in
-      let same : rank r.0 ≡ rank_in (0 ∷ ranks q.whole q.binders) s = r.3 ∙ rank_body s (spot_rank (ranks q.whole q.binders) (found_in q.whole q.at)) (ranks q.whole q.binders) h.contractive.1 in
+      let same : rank r.0 ≡ rank_in (0 ∷ ranks q.whole q.binders) s = r.3
+      ∙ rank_body s (spot_rank (ranks q.whole q.binders) (found_in q.whole q.at)) (ranks q.whole q.binders) h.contractive.1 in
       (r.0, r.1, r.2, omega arith)
 
   -- how far ranks go
@@ -214,11 +228,13 @@ module _ (letters : List Label) (found : List Part) (seated : Every IsSeated fou
       omega arith
 
   -- no part goes through more `rec`s than this
-  pub part_most : (p : Place) (t : Tree) → IsFit letters found p t → part_rank (record { place = own_place p t; type = t }) ≤ most_rank
+  pub part_most : (p : Place) (t : Tree) → IsFit letters found p t →
+      part_rank (record { place = own_place p t; type = t }) ≤ most_rank
   part_most p t h =
       let c = is_closed t in
       let q = own_place p t in
-      let le = rank_most t (ranks q.whole q.binders) (length q.binders * nodes q.whole) (ranks_most q.whole q.binders (bound_in letters found c p t h.bound)) in
+      let le = rank_most t (ranks q.whole q.binders) (length q.binders * nodes q.whole)
+      (ranks_most q.whole q.binders (bound_in letters found c p t h.bound)) in
       let small : length q.binders + nodes t ≤ nodes q.whole = small_in letters found c p t h.small in
       let few : nodes q.whole ≤ most_nodes = few_in letters found c p t h.small h.few in
       let length_few : length q.binders ≤ 4096 = omega arith in
@@ -229,7 +245,8 @@ module _ (letters : List Label) (found : List Part) (seated : Every IsSeated fou
   pub number_most : Every (λ e. part_rank e ≤ most_rank) found → (m : ℕ) → rank m ≤ most_rank
   number_most h m = pick (nat_lt m (length (names letters))) (slice_get found (m - length (names letters))) refl
     where
-      pick : (c : Bool) (o : Option Part) → slice_get found (m - length (names letters)) ≡ o → (if c then 0 else entry_rank o) ≤ most_rank
+      pick : (c : Bool) (o : Option Part) → slice_get found (m - length (names letters)) ≡ o →
+          (if c then 0 else entry_rank o) ≤ most_rank
       pick true o is = omega arith
       pick false None is = omega arith
       pick false (Some e) is = every_get (λ e. part_rank e ≤ most_rank) found h (m - length (names letters)) e is

@@ -22,9 +22,11 @@ HasRule (like w) = ⊤
 pub names_ruled : (letters xs : List Label) → All HasRule (map (λ a. own (name_rules letters a)) xs)
 names_ruled letters [] = λ i e lt. absurd (omega arith)
 names_ruled letters (x ∷ xs) =
-    All-cons HasRule (own (name_rules letters x)) (map (λ a. own (name_rules letters a)) xs) (λ e. absurd (cc e)) (names_ruled letters xs)
+    All-cons HasRule (own (name_rules letters x)) (map (λ a. own (name_rules letters a)) xs)
+    (λ e. absurd (cc e)) (names_ruled letters xs)
 
-pub branches_ruled : (n : Numbers) (letters : List Label) (make : List ℕ → Label) (p : Place) (cs : Branches) → AreRising cs → branch_rules n letters make p cs ≢ []
+pub branches_ruled : (n : Numbers) (letters : List Label) (make : List ℕ → Label) (p : Place) (cs : Branches) → AreRising cs →
+    branch_rules n letters make p cs ≢ []
 branches_ruled n letters make p none r = absurd r
 branches_ruled n letters make p (branch l s cs) r = λ e. absurd (cc e)
 
@@ -33,7 +35,8 @@ carried_some : (d : List ℕ) (rules : List Rule) → rules ≢ [] → rules_bef
 carried_some d [] h = absurd (h refl)
 carried_some d (r ∷ rules) h = λ e. absurd (cc e)
 
-module _ (equations : List Equation) (rank : ℕ → ℕ) (bound : ℕ) (grounded : IsGrounded rank bound equations) (ruled : All HasRule equations) (rows : Productions) (solved : Solves rows equations) where
+module _ (equations : List Equation) (rank : ℕ → ℕ) (bound : ℕ) (grounded : IsGrounded rank bound equations)
+    (ruled : All HasRule equations) (rows : Productions) (solved : Solves rows equations) where
   row_ruled : (fuel m : ℕ) → rank m < fuel → m < length equations → row_of rows m ≢ []
   row_ruled zero m lt there = absurd (omega arith)
   row_ruled (suc fuel) m lt there =
@@ -41,7 +44,8 @@ module _ (equations : List Equation) (rank : ℕ → ℕ) (bound : ℕ) (grounde
       let here = pick (λ z. row_ruled fuel z) e.0 e.1 in
       λ none. here (sym (solved.each m e.0 e.1) ∙ none)
     where
-      pick : ((z : ℕ) → rank z < fuel → z < length equations → row_of rows z ≢ []) → (e : Equation) → slice_get equations m ≡ Some e → rules_by rows e ≢ []
+      pick : ((z : ℕ) → rank z < fuel → z < length equations → row_of rows z ≢ []) →
+          (e : Equation) → slice_get equations m ≡ Some e → rules_by rows e ≢ []
       pick next (own rules) is = all_get HasRule equations m (own rules) ruled is
       pick next (like []) is = let g = grounded.begins m [] is in absurd (cc g.is)
       pick next (like (z ∷ d)) is =

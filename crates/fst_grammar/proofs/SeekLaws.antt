@@ -14,7 +14,8 @@ abbrev mutual
   pub seek : Place → Tree → ℕ → Option Part
   seek p (select cs) k = if k == p.at then Some (record { place = p; type = select cs }) else seek_all (place_past p 1) cs k
   seek p (offer cs) k = if k == p.at then Some (record { place = p; type = offer cs }) else seek_all (place_past p 1) cs k
-  seek p (seq s r) k = if nat_lt k (p.at + (1 + nodes s)) then seek (place_past p 1) s k else seek (place_past p (1 + nodes s)) r k
+  seek p (seq s r) k = if nat_lt k (p.at + (1 + nodes s)) then seek (place_past p 1) s k else seek
+      (place_past p (1 + nodes s)) r k
   seek p (rec s) k = if k == p.at then Some (record { place = p; type = rec s }) else seek (body_place p) s k
   seek p _ k = None
 
@@ -37,37 +38,45 @@ SeesAll p cs = (k : ℕ) → p.at ≤ k → k < p.at + nodes_all cs → found_in
 pub sees_first : (p : Place) (s r : Tree) → Sees p (seq s r) → Sees (place_past p 1) s
 sees_first p s r h k lo hi =
     h k (omega arith) (omega arith)
-    ∙ ap (λ c. if c then seek (place_past p 1) s k else seek (place_past p (1 + nodes s)) r k) (lt-ltb k (p.at + (1 + nodes s)) (omega arith))
+    ∙ ap (λ c. if c then seek (place_past p 1) s k else seek (place_past p (1 + nodes s)) r k)
+    (lt-ltb k (p.at + (1 + nodes s)) (omega arith))
 
 pub sees_second : (p : Place) (s r : Tree) → Sees p (seq s r) → Sees (place_past p (1 + nodes s)) r
 sees_second p s r h k lo hi =
     h k (omega arith) (omega arith)
-    ∙ ap (λ c. if c then seek (place_past p 1) s k else seek (place_past p (1 + nodes s)) r k) (le-ltb k (p.at + (1 + nodes s)) lo)
+    ∙ ap (λ c. if c then seek (place_past p 1) s k else seek (place_past p (1 + nodes s)) r k)
+    (le-ltb k (p.at + (1 + nodes s)) lo)
 
 pub sees_body : (p : Place) (s : Tree) → Sees p (rec s) → Sees (body_place p) s
 sees_body p s h k lo hi =
     h k (omega arith) (omega arith)
-    ∙ ap (λ c. if c then Some (record { place = p; type = rec s }) else seek (body_place p) s k) (ne_eqb k p.at (λ e. absurd (omega arith)))
+    ∙ ap (λ c. if c then Some (record { place = p; type = rec s }) else seek (body_place p) s k)
+    (ne_eqb k p.at (λ e. absurd (omega arith)))
 
 pub sees_select : (p : Place) (cs : Branches) → Sees p (select cs) → SeesAll (place_past p 1) cs
 sees_select p cs h k lo hi =
     h k (omega arith) (omega arith)
-    ∙ ap (λ c. if c then Some (record { place = p; type = select cs }) else seek_all (place_past p 1) cs k) (ne_eqb k p.at (λ e. absurd (omega arith)))
+    ∙ ap (λ c. if c then Some (record { place = p; type = select cs }) else seek_all (place_past p 1) cs k)
+    (ne_eqb k p.at (λ e. absurd (omega arith)))
 
 pub sees_offer : (p : Place) (cs : Branches) → Sees p (offer cs) → SeesAll (place_past p 1) cs
 sees_offer p cs h k lo hi =
     h k (omega arith) (omega arith)
-    ∙ ap (λ c. if c then Some (record { place = p; type = offer cs }) else seek_all (place_past p 1) cs k) (ne_eqb k p.at (λ e. absurd (omega arith)))
+    ∙ ap (λ c. if c then Some (record { place = p; type = offer cs }) else seek_all (place_past p 1) cs k)
+    (ne_eqb k p.at (λ e. absurd (omega arith)))
 
 pub sees_branch : (p : Place) (l : List ℕ) (s : Tree) (cs : Branches) → SeesAll p (branch l s cs) → Sees (place_past p 1) s
 sees_branch p l s cs h k lo hi =
     h k (omega arith) (omega arith)
-    ∙ ap (λ c. if c then seek (place_past p 1) s k else seek_all (place_past p (1 + nodes s)) cs k) (lt-ltb k (p.at + (1 + nodes s)) (omega arith))
+    ∙ ap (λ c. if c then seek (place_past p 1) s k else seek_all (place_past p (1 + nodes s)) cs k)
+    (lt-ltb k (p.at + (1 + nodes s)) (omega arith))
 
-pub sees_others : (p : Place) (l : List ℕ) (s : Tree) (cs : Branches) → SeesAll p (branch l s cs) → SeesAll (place_past p (1 + nodes s)) cs
+pub sees_others : (p : Place) (l : List ℕ) (s : Tree) (cs : Branches) → SeesAll p (branch l s cs) →
+    SeesAll (place_past p (1 + nodes s)) cs
 sees_others p l s cs h k lo hi =
     h k (omega arith) (omega arith)
-    ∙ ap (λ c. if c then seek (place_past p 1) s k else seek_all (place_past p (1 + nodes s)) cs k) (le-ltb k (p.at + (1 + nodes s)) lo)
+    ∙ ap (λ c. if c then seek (place_past p 1) s k else seek_all (place_past p (1 + nodes s)) cs k)
+    (le-ltb k (p.at + (1 + nodes s)) lo)
 
 sees_entered_if : (c : Bool) (p : Place) (t : Tree) → Sees p t → Sees (own_place_if c p t) t
 sees_entered_if true p t h = λ k lo hi. refl
@@ -97,15 +106,19 @@ every_both P (e ∷ a) b h k = (h.0, every_both P a b h.1 k)
 abbrev pub IsSeated : Part → Type 0
 IsSeated e = found_in e.place.whole e.place.at ≡ Some e
 
-pub seated_select : (p : Place) (cs : Branches) → Sees p (select cs) → found_in p.whole p.at ≡ Some (record { place = p; type = select cs })
+pub seated_select : (p : Place) (cs : Branches) → Sees p (select cs) →
+    found_in p.whole p.at ≡ Some (record { place = p; type = select cs })
 seated_select p cs h =
     h p.at (omega arith) (omega arith)
-    ∙ ap (λ b. if b then Some (record { place = p; type = select cs }) else seek_all (place_past p 1) cs p.at) (eq-eqb p.at p.at refl)
+    ∙ ap (λ b. if b then Some (record { place = p; type = select cs }) else seek_all (place_past p 1) cs p.at)
+    (eq-eqb p.at p.at refl)
 
-pub seated_offer : (p : Place) (cs : Branches) → Sees p (offer cs) → found_in p.whole p.at ≡ Some (record { place = p; type = offer cs })
+pub seated_offer : (p : Place) (cs : Branches) → Sees p (offer cs) →
+    found_in p.whole p.at ≡ Some (record { place = p; type = offer cs })
 seated_offer p cs h =
     h p.at (omega arith) (omega arith)
-    ∙ ap (λ b. if b then Some (record { place = p; type = offer cs }) else seek_all (place_past p 1) cs p.at) (eq-eqb p.at p.at refl)
+    ∙ ap (λ b. if b then Some (record { place = p; type = offer cs }) else seek_all (place_past p 1) cs p.at)
+    (eq-eqb p.at p.at refl)
 
 pub seated_rec : (p : Place) (s : Tree) → Sees p (rec s) → found_in p.whole p.at ≡ Some (record { place = p; type = rec s })
 seated_rec p s h =
@@ -134,8 +147,10 @@ mutual
       let g = sees_entered p (rec s) h in
       pick (seated_rec q s g) (all_seated (body_place q) s (sees_body q s g)) (terminated s)
     where
-      pick : IsSeated (record { place = own_place p (rec s); type = rec s }) → Every IsSeated (parts (body_place (own_place p (rec s))) s) →
-          (b : Bool) → Every IsSeated (if b then [] else record { place = own_place p (rec s); type = rec s } ∷ parts (body_place (own_place p (rec s))) s)
+      pick : IsSeated (record { place = own_place p (rec s); type = rec s }) →
+          Every IsSeated (parts (body_place (own_place p (rec s))) s) →
+          (b : Bool) → Every IsSeated (if b then [] else record { place = own_place p (rec s); type = rec s } ∷ parts
+          (body_place (own_place p (rec s))) s)
       pick here body true = tt
       pick here body false = (here, body)
   all_seated p (back k) h = tt
@@ -149,4 +164,5 @@ mutual
   every_seated p none h = tt
   every_seated p (branch l s cs) h =
       every_both IsSeated (parts (place_past p 1) s) (parts_all (place_past p (1 + nodes s)) cs)
-      (all_seated (place_past p 1) s (sees_branch p l s cs h)) (every_seated (place_past p (1 + nodes s)) cs (sees_others p l s cs h))
+      (all_seated (place_past p 1) s (sees_branch p l s cs h))
+      (every_seated (place_past p (1 + nodes s)) cs (sees_others p l s cs h))

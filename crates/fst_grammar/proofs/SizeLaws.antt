@@ -43,13 +43,19 @@ mutual
 
   branches_few : (make : List ℕ → Label) (cs : Branches) → length (branch_labels make cs) ≤ nodes_all cs
   branches_few make none = omega arith
-  branches_few make (branch l s cs) = omega (arith, length-append (labels_in s) (branch_labels make cs), labels_few s, branches_few make cs)
+  branches_few make (branch l s cs) = omega (
+    arith,
+    length-append (labels_in s) (branch_labels make cs),
+    labels_few s,
+    branches_few make cs,
+  )
 
 inserted_few : (letters : List Label) (a : Label) → length (with_label letters a) ≤ suc (length letters)
 inserted_few [] a = omega arith
 inserted_few (b ∷ letters) a = pick (inserted_few letters a) (label_cmp a b)
   where
-    pick : length (with_label letters a) ≤ suc (length letters) → (o : Ordering) → length (with_label_by o a b letters (with_label letters a)) ≤ suc (suc (length letters))
+    pick : length (with_label letters a) ≤ suc (length letters) →
+        (o : Ordering) → length (with_label_by o a b letters (with_label letters a)) ≤ suc (suc (length letters))
     pick h Less = omega arith
     pick h Equal = omega arith
     pick h Greater = omega arith
@@ -63,7 +69,8 @@ pub names_few : (letters : List Label) → length (names letters) ≤ length let
 names_few [] = omega arith
 names_few (l ∷ letters) = pick (names_few letters) (is_name l)
   where
-    pick : length (names letters) ≤ length letters → (c : Bool) → length (if c then l ∷ names letters else names letters) ≤ suc (length letters)
+    pick : length (names letters) ≤ length letters →
+        (c : Bool) → length (if c then l ∷ names letters else names letters) ≤ suc (length letters)
     pick h true = omega arith
     pick h false = omega arith
 
@@ -74,10 +81,17 @@ mutual
   parts_few p (receive b) = omega arith
   parts_few p (select cs) = omega (arith, parts_all_few (place_past (own_place p (select cs)) 1) cs)
   parts_few p (offer cs) = omega (arith, parts_all_few (place_past (own_place p (offer cs)) 1) cs)
-  parts_few p (seq s r) = omega (arith, length-append (parts (place_past p 1) s) (parts (place_past p (1 + nodes s)) r), parts_few (place_past p 1) s, parts_few (place_past p (1 + nodes s)) r)
+  parts_few p (seq s r) = omega (
+    arith,
+    length-append (parts (place_past p 1) s) (parts (place_past p (1 + nodes s)) r),
+    parts_few (place_past p 1) s,
+    parts_few (place_past p (1 + nodes s)) r,
+  )
   parts_few p (rec s) = pick (parts_few (body_place (own_place p (rec s))) s) (terminated s)
     where
-      pick : length (parts (body_place (own_place p (rec s))) s) ≤ nodes s → (c : Bool) → length (if c then [] else record { place = own_place p (rec s); type = rec s } ∷ parts (body_place (own_place p (rec s))) s) ≤ nodes s + 1
+      pick : length (parts (body_place (own_place p (rec s))) s) ≤ nodes s →
+          (c : Bool) → length (if c then [] else record { place = own_place p (rec s); type = rec s } ∷ parts
+          (body_place (own_place p (rec s))) s) ≤ nodes s + 1
       pick h true = omega arith
       pick h false = omega arith
   parts_few p (back k) = omega arith
@@ -89,7 +103,12 @@ mutual
 
   parts_all_few : (p : Place) (cs : Branches) → length (parts_all p cs) ≤ nodes_all cs
   parts_all_few p none = omega arith
-  parts_all_few p (branch l s cs) = omega (arith, length-append (parts (place_past p 1) s) (parts_all (place_past p (1 + nodes s)) cs), parts_few (place_past p 1) s, parts_all_few (place_past p (1 + nodes s)) cs)
+  parts_all_few p (branch l s cs) = omega (
+    arith,
+    length-append (parts (place_past p 1) s) (parts_all (place_past p (1 + nodes s)) cs),
+    parts_few (place_past p 1) s,
+    parts_all_few (place_past p (1 + nodes s)) cs,
+  )
 
 with_part_few : (found : List Part) (e : Part) → length (with_part found e) ≤ suc (length found)
 with_part_few found e = pick (nat_lt (position found e.place.whole e.place.at) (length found))
@@ -116,16 +135,21 @@ mutual
   parts_within p skip b h = tt
   parts_within p (send x) b h = tt
   parts_within p (receive x) b h = tt
-  parts_within p (select cs) b h = let le = entered_within (is_closed (select cs)) p (select cs) b h in (le, parts_all_within (place_past (own_place p (select cs)) 1) cs b (omega arith))
-  parts_within p (offer cs) b h = let le = entered_within (is_closed (offer cs)) p (offer cs) b h in (le, parts_all_within (place_past (own_place p (offer cs)) 1) cs b (omega arith))
+  parts_within p (select cs) b h = let le = entered_within (is_closed (select cs)) p (select cs) b h in
+      (le, parts_all_within (place_past (own_place p (select cs)) 1) cs b (omega arith))
+  parts_within p (offer cs) b h = let le = entered_within (is_closed (offer cs)) p (offer cs) b h in
+      (le, parts_all_within (place_past (own_place p (offer cs)) 1) cs b (omega arith))
   parts_within p (seq s r) b h =
-      every_both (EndsWithin b) (parts (place_past p 1) s) (parts (place_past p (1 + nodes s)) r) (parts_within (place_past p 1) s b (omega arith)) (parts_within (place_past p (1 + nodes s)) r b (omega arith))
+      every_both (EndsWithin b) (parts (place_past p 1) s) (parts (place_past p (1 + nodes s)) r)
+      (parts_within (place_past p 1) s b (omega arith)) (parts_within (place_past p (1 + nodes s)) r b (omega arith))
   parts_within p (rec s) b h =
       let le = entered_within (is_closed (rec s)) p (rec s) b h in
       pick le (parts_within (body_place (own_place p (rec s))) s b (omega arith)) (terminated s)
     where
-      pick : EndsWithin b (record { place = own_place p (rec s); type = rec s }) → Every (EndsWithin b) (parts (body_place (own_place p (rec s))) s) → (c : Bool) →
-          Every (EndsWithin b) (if c then [] else record { place = own_place p (rec s); type = rec s } ∷ parts (body_place (own_place p (rec s))) s)
+      pick : EndsWithin b (record { place = own_place p (rec s); type = rec s }) →
+          Every (EndsWithin b) (parts (body_place (own_place p (rec s))) s) → (c : Bool) →
+          Every (EndsWithin b) (if c then [] else record { place = own_place p (rec s); type = rec s } ∷ parts
+          (body_place (own_place p (rec s))) s)
       pick here body true = tt
       pick here body false = (here, body)
   parts_within p (back k) b h = tt
@@ -138,36 +162,54 @@ mutual
   parts_all_within : (p : Place) (cs : Branches) (b : ℕ) → p.at + nodes_all cs ≤ b → Every (EndsWithin b) (parts_all p cs)
   parts_all_within p none b h = tt
   parts_all_within p (branch l s cs) b h =
-      every_both (EndsWithin b) (parts (place_past p 1) s) (parts_all (place_past p (1 + nodes s)) cs) (parts_within (place_past p 1) s b (omega arith)) (parts_all_within (place_past p (1 + nodes s)) cs b (omega arith))
+      every_both (EndsWithin b) (parts (place_past p 1) s) (parts_all (place_past p (1 + nodes s)) cs)
+      (parts_within (place_past p 1) s b (omega arith)) (parts_all_within (place_past p (1 + nodes s)) cs b (omega arith))
 
-pub found_within : (b : ℕ) (ps : List Found) → Every (EndsWithin b) (map part_of ps) → All (λ p. p.at + nodes p.part.ty.now ≤ b) ps
+pub found_within : (b : ℕ) (ps : List Found) → Every (EndsWithin b) (map part_of ps) → All
+    (λ p. p.at + nodes p.part.ty.now ≤ b) ps
 found_within b [] h = λ i d lt. absurd (omega arith)
 found_within b (p ∷ ps) h = All-cons (λ (q : Found). q.at + nodes q.part.ty.now ≤ b) p ps h.0 (found_within b ps h.1)
 
 -- letters on right sides
 
 -- all numbers of two types within the limit fit
-pub table_small : (s r : Tree) (letters : List Label) (found : List Part) → nodes s ≤ 4096 → nodes r ≤ 4096 → letters ≡ with_labels [] (labels_in s ++ labels_in r) → found ≡ parts_of s r →
+pub table_small : (s r : Tree) (letters : List Label) (found : List Part) → nodes s ≤ 4096 → nodes r ≤ 4096 →
+    letters ≡ with_labels [] (labels_in s ++ labels_in r) → found ≡ parts_of s r →
     (length letters < 2 ^ 31) × (length (names letters) + length found < 2 ^ 31)
 table_small s r letters found few_s few_r is at =
     let labels = inserted_all_few (labels_in s ++ labels_in r) [] in
     let both = length-append (labels_in s) (labels_in r) in
     let long : length letters ≡ length (with_labels [] (labels_in s ++ labels_in r)) = ap length is in
     let parts_long : length found ≡ length (parts_of s r) = ap length at in
-    let parts_both = length-append (parts (top_of s) s) (parts (top_of r) r) in
-    (omega (arith, labels_few s, labels_few r), omega (arith, labels_few s, labels_few r, names_few letters, with_parts_few [] (parts (top_of s) s ++ parts (top_of r) r), parts_few (top_of s) s, parts_few (top_of r) r))
+    let parts_both = length-append (parts (top_of s) s) (parts (top_of r) r) in (
+      omega (arith, labels_few s, labels_few r),
+      omega (
+        arith,
+        labels_few s,
+        labels_few r,
+        names_few letters,
+        with_parts_few [] (parts (top_of s) s ++ parts (top_of r) r),
+        parts_few (top_of s) s,
+        parts_few (top_of r) r,
+      ),
+    )
 
 -- no part of two types within the limit ends behind its whole
-pub table_within : (s r : Tree) (ps : List Found) → nodes s ≤ 4096 → nodes r ≤ 4096 → map part_of ps ≡ parts_of s r → All (λ p. p.at + nodes p.part.ty.now < 2 ^ 31) ps
+pub table_within : (s r : Tree) (ps : List Found) → nodes s ≤ 4096 → nodes r ≤ 4096 → map part_of ps ≡ parts_of s r → All
+    (λ p. p.at + nodes p.part.ty.now < 2 ^ 31) ps
 table_within s r ps few_s few_r is i d lt =
     let all = every_with (EndsWithin 4096) [] (parts (top_of s) s ++ parts (top_of r) r) tt
-    (every_both (EndsWithin 4096) (parts (top_of s) s) (parts (top_of r) r) (parts_within (top_of s) s 4096 (omega arith)) (parts_within (top_of r) r 4096 (omega arith))) in
+    (every_both (EndsWithin 4096) (parts (top_of s) s) (parts (top_of r) r) (parts_within (top_of s) s 4096 (omega arith))
+    (parts_within (top_of r) r 4096 (omega arith))) in
     let h = found_within 4096 ps (subst (Every (EndsWithin 4096)) (sym is) all) i d lt in
     omega arith
 
 -- there is an equation for each name and each part
-pub equations_count : (es : List Kept) (letters : List Label) (found : List Part) → map equation_of es ≡ equations_by letters found → length es ≡ length (names letters) + length found
+pub equations_count : (es : List Kept) (letters : List Label) (found : List Part) →
+    map equation_of es ≡ equations_by letters found → length es ≡ length (names letters) + length found
 equations_count es letters found is =
     sym (length-map es equation_of) ∙ ap length is
-    ∙ length-append (map (λ a. own (name_rules letters a)) (names letters)) (map (part_equation (numbers_by letters found) letters) found)
-    ∙ (λ i. length-map (names letters) (λ a. own (name_rules letters a)) i + length-map found (part_equation (numbers_by letters found) letters) i)
+    ∙ length-append (map (λ a. own (name_rules letters a)) (names letters))
+    (map (part_equation (numbers_by letters found) letters) found)
+    ∙ (λ i. length-map (names letters) (λ a. own (name_rules letters a)) i + length-map found
+    (part_equation (numbers_by letters found) letters) i)

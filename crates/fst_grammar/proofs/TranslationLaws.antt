@@ -44,12 +44,14 @@ every_all P f [] h = λ i e lt. absurd (omega arith)
 every_all P f (e ∷ es) h = All-cons P (f e) (map f es) h.0 (every_all P f es h.1)
 
 -- an equation by a word is that of a part
-like_part : (f : Part → Equation) (es : List Part) (m : ℕ) (w : List ℕ) → slice_get (map f es) m ≡ Some (like w) → (e : Part) × (slice_get es m ≡ Some e) × (f e ≡ like w)
+like_part : (f : Part → Equation) (es : List Part) (m : ℕ) (w : List ℕ) → slice_get (map f es) m ≡ Some (like w) → (e : Part) ×
+    (slice_get es m ≡ Some e) × (f e ≡ like w)
 like_part f [] m w g = absurd (cc g)
 like_part f (e ∷ es) zero w g = (e, refl, cc)
 like_part f (e ∷ es) (suc m) w g = like_part f es m w g
 
-like_behind : (h : Label → List Rule) (xs : List Label) (f : Part → Equation) (es : List Part) (m : ℕ) (w : List ℕ) → slice_get (map (λ a. own (h a)) xs ++ map f es) m ≡ Some (like w) →
+like_behind : (h : Label → List Rule) (xs : List Label) (f : Part → Equation) (es : List Part) (m : ℕ) (w : List ℕ) →
+    slice_get (map (λ a. own (h a)) xs ++ map f es) m ≡ Some (like w) →
     (k : ℕ) × (e : Part) × (m ≡ length xs + k) × (slice_get es k ≡ Some e) × (f e ≡ like w)
 like_behind h [] f es m w g =
     let r = like_part f es m w g in
@@ -60,9 +62,12 @@ like_behind h (x ∷ xs) f es (suc m) w g =
     (r.0, r.1, omega (arith, r.2), r.3, r.4)
 
 -- each name is a letter
-names_fine : (total : ℕ) (letters xs : List Label) → ((a : Label) → Contains xs a → Known letters a) → All (IsFine total (length letters)) (map (λ a. own (name_rules letters a)) (names xs))
+names_fine : (total : ℕ) (letters xs : List Label) →
+    ((a : Label) → Contains xs a → Known letters a) →
+    All (IsFine total (length letters)) (map (λ a. own (name_rules letters a)) (names xs))
 names_fine total letters [] h = λ i e lt. absurd (omega arith)
-names_fine total letters (x ∷ xs) h = pick (names_fine total letters xs (λ a m. h a (suc m.0, omega (arith, m.1), m.2))) (is_name x)
+names_fine total letters (x ∷ xs) h = pick (names_fine total letters xs (λ a m. h a (suc m.0, omega (arith, m.1), m.2)))
+    (is_name x)
   where
     none : (P : ℕ → Type 0) → All P []
     none P i e lt = absurd (omega arith)
@@ -70,15 +75,20 @@ names_fine total letters (x ∷ xs) h = pick (names_fine total letters xs (λ a 
     here : IsFine total (length letters) (own (name_rules letters x))
     here = record {
       words = All-cons (λ (r : Rule). WordBelow total r.word) _ [] (none (λ k. k < total)) (λ i e lt. absurd (omega arith));
-      below = All-cons (λ (r : Rule). r.letter < length letters) _ [] (h x (0, omega arith, refl)) (λ i e lt. absurd (omega arith));
+      below = All-cons (λ (r : Rule). r.letter < length letters) _ [] (h x (0, omega arith, refl))
+          (λ i e lt. absurd (omega arith));
       ordered = (tt, tt);
     }
 
-    pick : All (IsFine total (length letters)) (map (λ a. own (name_rules letters a)) (names xs)) → (c : Bool) → All (IsFine total (length letters)) (map (λ a. own (name_rules letters a)) (if c then x ∷ names xs else names xs))
-    pick next true = All-cons (IsFine total (length letters)) (own (name_rules letters x)) (map (λ a. own (name_rules letters a)) (names xs)) here next
+    pick : All (IsFine total (length letters)) (map (λ a. own (name_rules letters a)) (names xs)) →
+        (c : Bool) → All (IsFine total (length letters))
+        (map (λ a. own (name_rules letters a)) (if c then x ∷ names xs else names xs))
+    pick next true = All-cons (IsFine total (length letters)) (own (name_rules letters x))
+        (map (λ a. own (name_rules letters a)) (names xs)) here next
     pick next false = next
 
-module _ (vars : List Kind) (s r : Tree) (ws : IsSession vars s) (wr : (other : List Kind) × IsSession other r) (few_s : nodes s ≤ most_nodes) (few_r : nodes r ≤ most_nodes) (letters : List Label) (are : AreLetters s r letters) where
+module _ (vars : List Kind) (s r : Tree) (ws : IsSession vars s) (wr : (other : List Kind) × IsSession other r)
+    (few_s : nodes s ≤ most_nodes) (few_r : nodes r ≤ most_nodes) (letters : List Label) (are : AreLetters s r letters) where
   abbrev found : List Part
   found = parts_of s r
 
@@ -91,19 +101,23 @@ module _ (vars : List Kind) (s r : Tree) (ws : IsSession vars s) (wr : (other : 
   pub seated : Every IsSeated found
   seated =
       every_with IsSeated [] (parts (top_of s) s ++ parts (top_of r) r) tt
-      (every_both IsSeated (parts (top_of s) s) (parts (top_of r) r) (all_seated (top_of s) s (λ k lo hi. refl)) (all_seated (top_of r) r (λ k lo hi. refl)))
+      (every_both IsSeated (parts (top_of s) s) (parts (top_of r) r) (all_seated (top_of s) s (λ k lo hi. refl))
+      (all_seated (top_of r) r (λ k lo hi. refl)))
 
   pub known_left : AreKnown letters s
-  known_left = session_known vars letters s ws.0 ws.1.kinded (λ a m. contains_known letters a ((are.1 a).1 (Contains-append_left (labels_in s) (labels_in r) a m)))
+  known_left = session_known vars letters s ws.0 ws.1.kinded
+      (λ a m. contains_known letters a ((are.1 a).1 (Contains-append_left (labels_in s) (labels_in r) a m)))
 
   pub known_right : AreKnown letters r
-  known_right = session_known wr.0 letters r wr.1.0 wr.1.1.kinded (λ a m. contains_known letters a ((are.1 a).1 (Contains-append_right (labels_in s) (labels_in r) a m)))
+  known_right = session_known wr.0 letters r wr.1.0 wr.1.1.kinded
+      (λ a m. contains_known letters a ((are.1 a).1 (Contains-append_right (labels_in s) (labels_in r) a m)))
 
   pub fit_left : IsFit letters found (top_of s) s
   fit_left = record {
     sees = λ k lo hi. refl;
     known = known_left;
-    held = every_front (Holds found) (parts (top_of s) s) (parts (top_of r) r) (all_held [] (parts (top_of s) s ++ parts (top_of r) r));
+    held = every_front (Holds found) (parts (top_of s) s) (parts (top_of r) r)
+        (all_held [] (parts (top_of s) s ++ parts (top_of r) r));
     bound = tt;
     scoped = ws.1.scoped;
     contractive = ws.1.contractive;
@@ -116,7 +130,8 @@ module _ (vars : List Kind) (s r : Tree) (ws : IsSession vars s) (wr : (other : 
   fit_right = record {
     sees = λ k lo hi. refl;
     known = known_right;
-    held = every_behind (Holds found) (parts (top_of s) s) (parts (top_of r) r) (all_held [] (parts (top_of s) s ++ parts (top_of r) r));
+    held = every_behind (Holds found) (parts (top_of s) s) (parts (top_of r) r)
+        (all_held [] (parts (top_of s) s ++ parts (top_of r) r));
     bound = tt;
     scoped = wr.1.1.scoped;
     contractive = wr.1.1.contractive;
@@ -133,22 +148,36 @@ module _ (vars : List Kind) (s r : Tree) (ws : IsSession vars s) (wr : (other : 
       Every (λ e. P e.place e.type) found
   every_found P f g h =
       every_with (λ e. P e.place e.type) [] (parts (top_of s) s ++ parts (top_of r) r) tt
-      (every_both (λ e. P e.place e.type) (parts (top_of s) s) (parts (top_of r) r) (every_part letters found P f g h (top_of s) s fit_left) (every_part letters found P f g h (top_of r) r fit_right))
+      (every_both (λ e. P e.place e.type) (parts (top_of s) s) (parts (top_of r) r)
+      (every_part letters found P f g h (top_of s) s fit_left) (every_part letters found P f g h (top_of r) r fit_right))
 
   parts_fine : All (IsFine total (length letters)) (map (part_equation n letters) found)
   parts_fine =
       every_all (IsFine total (length letters)) (part_equation n letters) found
       (every_found (λ q t. IsFine total (length letters) (equation_at n letters q t))
       (λ p cs h. let f = fit_select letters found p cs h in
-      record { words = branches_below letters found Select (place_past (own_place p (select cs)) 1) cs f; below = rules_below n letters Select (place_past (own_place p (select cs)) 1) cs f.known; ordered = rules_rise n letters Select (place_past (own_place p (select cs)) 1) cs selects_rise are.0 f.known h.ordered.0 })
+      record {
+        words = branches_below letters found Select (place_past (own_place p (select cs)) 1) cs f;
+        below =
+            rules_below n letters Select (place_past (own_place p (select cs)) 1) cs f.known;
+        ordered =
+            rules_rise n letters Select (place_past (own_place p (select cs)) 1) cs selects_rise are.0 f.known h.ordered.0;
+      })
       (λ p cs h. let f = fit_offer letters found p cs h in
-      record { words = branches_below letters found Offer (place_past (own_place p (offer cs)) 1) cs f; below = rules_below n letters Offer (place_past (own_place p (offer cs)) 1) cs f.known; ordered = rules_rise n letters Offer (place_past (own_place p (offer cs)) 1) cs offers_rise are.0 f.known h.ordered.0 })
+      record {
+        words = branches_below letters found Offer (place_past (own_place p (offer cs)) 1) cs f;
+        below =
+            rules_below n letters Offer (place_past (own_place p (offer cs)) 1) cs f.known;
+        ordered =
+            rules_rise n letters Offer (place_past (own_place p (offer cs)) 1) cs offers_rise are.0 f.known h.ordered.0;
+      })
       (λ p b e h. word_below letters found (body_place (own_place p (rec b))) b (fit_body letters found p b e h)))
 
   -- the equations are in order, with words and letters of the grammar
   pub equations_fine : All (IsFine total (length letters)) (equations_by letters found)
   equations_fine =
-      All-append (IsFine total (length letters)) (map (λ a. own (name_rules letters a)) (names letters)) (map (part_equation n letters) found) (names_fine total letters letters (contains_known letters)) parts_fine
+      All-append (IsFine total (length letters)) (map (λ a. own (name_rules letters a)) (names letters))
+      (map (part_equation n letters) found) (names_fine total letters letters (contains_known letters)) parts_fine
 
   -- each equation by rules has a rule
   parts_ruled : All HasRule (map (part_equation n letters) found)
@@ -161,7 +190,8 @@ module _ (vars : List Kind) (s r : Tree) (ws : IsSession vars s) (wr : (other : 
 
   pub equations_ruled : All HasRule (equations_by letters found)
   equations_ruled =
-      All-append HasRule (map (λ a. own (name_rules letters a)) (names letters)) (map (part_equation n letters) found) (names_ruled letters (names letters)) parts_ruled
+      All-append HasRule (map (λ a. own (name_rules letters a)) (names letters)) (map (part_equation n letters) found)
+      (names_ruled letters (names letters)) parts_ruled
 
   pub equations_length : length (equations_by letters found) ≡ total
   equations_length =
@@ -169,13 +199,15 @@ module _ (vars : List Kind) (s r : Tree) (ws : IsSession vars s) (wr : (other : 
       ∙ (λ i. length-map (names letters) (λ a. own (name_rules letters a)) i + length-map found (part_equation n letters) i)
 
   abbrev Sinks : Place → Tree → Type 0
-  Sinks q (rec b) = (z : ℕ) × (d : List ℕ) × (word n (body_place q) b ≡ z ∷ d) × (z < total) × (rank letters found seated z < part_rank (record { place = q; type = rec b }))
+  Sinks q (rec b) = (z : ℕ) × (d : List ℕ) × (word n (body_place q) b ≡ z ∷ d) × (z < total) ×
+      (rank letters found seated z < part_rank (record { place = q; type = rec b }))
   Sinks q t = ⊤
 
   body_sinks : (p : Place) (b : Tree) → terminated b ≡ false → IsFit letters found p (rec b) → Sinks (own_place p (rec b)) (rec b)
   body_sinks p b e h =
       let f = body_falls letters found seated p b e h in
-      let below = subst (WordBelow total) f.2 (word_below letters found (body_place (own_place p (rec b))) b (fit_body letters found p b e h)) in
+      let below = subst (WordBelow total) f.2 (word_below letters found (body_place (own_place p (rec b))) b
+      (fit_body letters found p b e h)) in
       (f.0, f.1, f.2, All-head (λ k. k < total) f.0 f.1 below, f.3)
 
   all_sink : Every (λ e. Sinks e.place e.type) found
@@ -184,11 +216,13 @@ module _ (vars : List Kind) (s r : Tree) (ws : IsSession vars s) (wr : (other : 
   all_most : Every (λ e. part_rank e ≤ most_rank) found
   all_most =
       every_found (λ q t. part_rank (record { place = q; type = t }) ≤ most_rank)
-      (λ p cs h. part_most letters found seated p (select cs) h) (λ p cs h. part_most letters found seated p (offer cs) h) (λ p b e h. part_most letters found seated p (rec b) h)
+      (λ p cs h. part_most letters found seated p (select cs) h) (λ p cs h. part_most letters found seated p (offer cs) h)
+      (λ p b e h. part_most letters found seated p (rec b) h)
 
   -- the word of a `rec`'s equation
   sunk : (q : Place) (t : Tree) (w : List ℕ) → equation_at n letters q t ≡ like w → Sinks q t →
-      (z : ℕ) × (d : List ℕ) × (w ≡ z ∷ d) × (z < total) × (rank letters found seated z < part_rank (record { place = q; type = t }))
+      (z : ℕ) × (d : List ℕ) × (w ≡ z ∷ d) × (z < total) ×
+      (rank letters found seated z < part_rank (record { place = q; type = t }))
   sunk q (rec b) w e h =
       let same : word n (body_place q) b ≡ w = cc in
       (h.0, h.1, sym same ∙ h.2, h.3, h.4)
@@ -209,13 +243,22 @@ module _ (vars : List Kind) (s r : Tree) (ws : IsSession vars s) (wr : (other : 
   pub equations_grounded : IsGrounded (rank letters found seated) most_rank (equations_by letters found)
   equations_grounded = record { begins = at; most = number_most letters found seated all_most }
     where
-      at : (m : ℕ) (w : List ℕ) → slice_get (equations_by letters found) m ≡ Some (like w) → BeginsLower (rank letters found seated) (equations_by letters found) m w
+      at : (m : ℕ) (w : List ℕ) → slice_get (equations_by letters found) m ≡ Some (like w) →
+          BeginsLower (rank letters found seated) (equations_by letters found) m w
       at m w g =
           let l = like_behind (name_rules letters) (names letters) (part_equation n letters) found m w g in
           let sinks = sunk l.1.place l.1.type w l.4 (every_get (λ e. Sinks e.place e.type) found all_sink l.0 l.1 l.3) in
-          let is : rank letters found seated m ≡ part_rank l.1 = ap (rank letters found seated) l.2 ∙ rank_entry (length (names letters)) found l.0 ∙ ap entry_rank l.3 in
+          let is : rank letters found seated m ≡ part_rank l.1 = ap (rank letters found seated) l.2
+          ∙ rank_entry (length (names letters)) found l.0 ∙ ap entry_rank l.3 in
           let long = equations_length in
-          record { first = sinks.0; rest = sinks.1; is = sinks.2; within = omega (arith, sinks.3); lower = omega (arith, sinks.4) }
+          record {
+            first = sinks.0;
+            rest = sinks.1;
+            is = sinks.2;
+            within = omega (arith, sinks.3);
+            lower =
+                omega (arith, sinks.4);
+          }
 
   -- rows that solve the equations are the grammar
   pub grammar_is : (rows : Productions) → Solves rows (equations_by letters found) → IsGrammar s r letters rows
@@ -227,9 +270,12 @@ module _ (vars : List Kind) (s r : Tree) (ws : IsSession vars s) (wr : (other : 
   }
 
 -- the word of a type stands for it
-pub stands : (vars : List Kind) (n : Numbers) (letters : List Label) (rows : Productions) (s : Tree) → IsSession vars s → AreKnown letters s → HasRows n letters rows (top_of s) s → StandsFor letters rows (word n (top_of s) s) s
+pub stands : (vars : List Kind) (n : Numbers) (letters : List Label) (rows : Productions) (s : Tree) → IsSession vars s →
+    AreKnown letters s → HasRows n letters rows (top_of s) s → StandsFor letters rows (word n (top_of s) s) s
 stands vars n letters rows s w known h a =
     let f = rule_in n letters rows in
     let same = performs_same n f s w.1.scoped w.1.contractive (has_rules n letters rows (top_of s) s known h) a in
-    let steps : move f ≡ label_step letters rows = λ i u b. moves_by_label n letters rows u b i in
-    (λ p. same.1 (subst (λ g. Performs g (word n (top_of s) s) a) (sym steps) p), λ p. subst (λ g. Performs g (word n (top_of s) s) a) steps (same.0 p))
+    let steps : move f ≡ label_step letters rows = λ i u b. moves_by_label n letters rows u b i in (
+      λ p. same.1 (subst (λ g. Performs g (word n (top_of s) s) a) (sym steps) p),
+      λ p. subst (λ g. Performs g (word n (top_of s) s) a) steps (same.0 p),
+    )

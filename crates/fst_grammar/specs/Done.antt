@@ -8,7 +8,8 @@ use Rattle.fst_grammar.specs.Standing.{StandsFor}
 
 -- the grammar and words are the translation, the words stand for the types, all numbers are in range, and each
 -- non-terminal has a rule
-pub record IsDone (s r : Tree) (letters : List Label) (rows : Productions) (u v : List ℕ) : Type 0 where
+pub record IsDone (s r : Tree) (letters : List Label) (rows : Productions)
+    (u v : List ℕ) : Type 0 where
   pub translation : IsTranslation s r letters rows u v
   pub left : StandsFor letters rows u s
   pub right : StandsFor letters rows v r

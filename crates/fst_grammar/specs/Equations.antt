@@ -26,7 +26,8 @@ rules_by rows (like w) = word_rules rows w
 -- each non-terminal has the rules of its equation
 pub record Solves (rows : Productions) (equations : List Equation) : Type 0 where
   pub count : length rows ≡ length equations
-  pub each : (m : ℕ) (e : Equation) → slice_get equations m ≡ Some e → row_of rows m ≡ rules_by rows e
+  pub each : (m : ℕ) (e : Equation) → slice_get equations m ≡ Some e →
+      row_of rows m ≡ rules_by rows e
 
 -- the equation of a choice or `rec` at its own place
 abbrev pub equation_at : Numbers → List Label → Place → Tree → Equation
@@ -51,10 +52,12 @@ part_equation n letters e = equation_at n letters e.place e.type
 -- the equations of all non-terminals
 abbrev pub equations_by : List Label → List Part → List Equation
 equations_by letters found =
-    map (λ a. own (name_rules letters a)) (names letters) ++ map (part_equation (numbers_by letters found) letters) found
+    map (λ a. own (name_rules letters a)) (names letters) ++ map
+    (part_equation (numbers_by letters found) letters) found
 
 -- a word begins with a non-terminal of a smaller rank
-pub record BeginsLower (rank : ℕ → ℕ) (equations : List Equation) (m : ℕ) (w : List ℕ) : Type 0 where
+pub record BeginsLower (rank : ℕ → ℕ) (equations : List Equation) (m : ℕ)
+    (w : List ℕ) : Type 0 where
   pub first : ℕ
   pub rest : List ℕ
   pub is : w ≡ first ∷ rest
@@ -63,7 +66,8 @@ pub record BeginsLower (rank : ℕ → ℕ) (equations : List Equation) (m : ℕ
 
 -- each word of an equation begins with a non-terminal of a smaller rank, and no rank is over the bound
 pub record IsGrounded (rank : ℕ → ℕ) (bound : ℕ) (equations : List Equation) : Type 0 where
-  pub begins : (m : ℕ) (w : List ℕ) → slice_get equations m ≡ Some (like w) → BeginsLower rank equations m w
+  pub begins : (m : ℕ) (w : List ℕ) → slice_get equations m ≡ Some (like w) →
+      BeginsLower rank equations m w
   pub most : (m : ℕ) → rank m ≤ bound
 
 -- the rules are in letter order, with words and letters of the grammar

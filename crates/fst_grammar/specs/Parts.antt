@@ -15,11 +15,14 @@ abbrev mutual
   parts p skip = []
   parts p (send b) = []
   parts p (receive b) = []
-  parts p (select cs) = record { place = own_place p (select cs); type = select cs } ∷ parts_all (place_past (own_place p (select cs)) 1) cs
-  parts p (offer cs) = record { place = own_place p (offer cs); type = offer cs } ∷ parts_all (place_past (own_place p (offer cs)) 1) cs
+  parts p (select cs) = record { place = own_place p (select cs); type = select cs } ∷ parts_all
+      (place_past (own_place p (select cs)) 1) cs
+  parts p (offer cs) = record { place = own_place p (offer cs); type = offer cs } ∷ parts_all
+      (place_past (own_place p (offer cs)) 1) cs
   parts p (seq s r) = parts (place_past p 1) s ++ parts (place_past p (1 + nodes s)) r
   parts p (rec s) =
-      if terminated s then [] else record { place = own_place p (rec s); type = rec s } ∷ parts (body_place (own_place p (rec s))) s
+      if terminated s then [] else record { place = own_place p (rec s); type = rec s } ∷ parts
+      (body_place (own_place p (rec s))) s
   parts p (back k) = []
   parts p (var k) = []
   parts p (plain b) = []
@@ -30,7 +33,8 @@ abbrev mutual
   -- those in each branch
   pub parts_all : Place → Branches → List Part
   parts_all p none = []
-  parts_all p (branch l s cs) = parts (place_past p 1) s ++ parts_all (place_past p (1 + nodes s)) cs
+  parts_all p (branch l s cs) = parts (place_past p 1) s ++ parts_all
+      (place_past p (1 + nodes s)) cs
 
 -- the parts of two types, the left before the right, each once, by its first place
 abbrev pub parts_of : Tree → Tree → List Part
@@ -39,4 +43,8 @@ parts_of s r = with_parts [] (parts (top_of s) s ++ parts (top_of r) r)
 -- first the messages and variables in label order, then the choices and `rec`s
 abbrev pub numbers_by : List Label → List Part → Numbers
 numbers_by letters found =
-    record { name = label_position (names letters); node = λ whole at. length (names letters) + position found whole at }
+    record {
+      name = label_position (names letters);
+      node =
+          λ whole at. length (names letters) + position found whole at;
+    }

@@ -14,7 +14,8 @@ own_parts p (receive b) = []
 own_parts p (select cs) = record { place = p; type = select cs } ∷ parts_all (place_past p 1) cs
 own_parts p (offer cs) = record { place = p; type = offer cs } ∷ parts_all (place_past p 1) cs
 own_parts p (seq s r) = []
-own_parts p (rec s) = if terminated s then [] else record { place = p; type = rec s } ∷ parts (body_place p) s
+own_parts p (rec s) = if terminated s then [] else record { place = p; type = rec s } ∷ parts
+    (body_place p) s
 own_parts p (back k) = []
 own_parts p (var k) = []
 own_parts p (plain b) = []

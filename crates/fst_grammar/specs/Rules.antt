@@ -29,24 +29,30 @@ name_rules letters a = record { letter = label_position letters a; word = [] } �
 abbrev pub branch_rules : Numbers → List Label → (List ℕ → Label) → Place → Branches → List Rule
 branch_rules n letters make p none = []
 branch_rules n letters make p (branch l s cs) =
-    record { letter = label_position letters (make l); word = word n (place_past p 1) s } ∷ branch_rules n letters make (place_past p (1 + nodes s)) cs
+    record { letter = label_position letters (make l); word = word n (place_past p 1) s }
+    ∷ branch_rules n letters make (place_past p (1 + nodes s)) cs
 
 -- the non-terminals of all that stands in a type have these rules: a `rec` those of its body's word; a type of values has none
 abbrev mutual
   pub HasRows : Numbers → List Label → Productions → Place → Tree → Type 0
   HasRows n letters rows p skip = ⊤
   HasRows n letters rows p (send b) = row_of rows (n.name (Send b)) ≡ name_rules letters (Send b)
-  HasRows n letters rows p (receive b) = row_of rows (n.name (Receive b)) ≡ name_rules letters (Receive b)
+  HasRows n letters rows p (receive b) =
+      row_of rows (n.name (Receive b)) ≡ name_rules letters (Receive b)
   HasRows n letters rows p (select cs) =
-      (row_of rows (node_at n (own_place p (select cs))) ≡ branch_rules n letters Select (place_past (own_place p (select cs)) 1) cs)
+      (row_of rows (node_at n (own_place p (select cs))) ≡ branch_rules n letters Select
+      (place_past (own_place p (select cs)) 1) cs)
       × HaveRows n letters rows (place_past (own_place p (select cs)) 1) cs
   HasRows n letters rows p (offer cs) =
-      (row_of rows (node_at n (own_place p (offer cs))) ≡ branch_rules n letters Offer (place_past (own_place p (offer cs)) 1) cs)
+      (row_of rows (node_at n (own_place p (offer cs))) ≡ branch_rules n letters Offer
+      (place_past (own_place p (offer cs)) 1) cs)
       × HaveRows n letters rows (place_past (own_place p (offer cs)) 1) cs
-  HasRows n letters rows p (seq s r) = HasRows n letters rows (place_past p 1) s × HasRows n letters rows (place_past p (1 + nodes s)) r
+  HasRows n letters rows p (seq s r) = HasRows n letters rows (place_past p 1) s ×
+      HasRows n letters rows (place_past p (1 + nodes s)) r
   HasRows n letters rows p (rec s) =
       terminated s ≡ false →
-      ((row_of rows (node_at n (own_place p (rec s))) ≡ word_rules rows (word n (body_place (own_place p (rec s))) s))
+      ((row_of rows (node_at n (own_place p (rec s))) ≡ word_rules rows
+      (word n (body_place (own_place p (rec s))) s))
       × HasRows n letters rows (body_place (own_place p (rec s))) s)
   HasRows n letters rows p (back k) = ⊤
   HasRows n letters rows p (var k) = row_of rows (n.name (Var k)) ≡ name_rules letters (Var k)
@@ -58,4 +64,5 @@ abbrev mutual
   -- those in each branch
   pub HaveRows : Numbers → List Label → Productions → Place → Branches → Type 0
   HaveRows n letters rows p none = ⊤
-  HaveRows n letters rows p (branch l s cs) = HasRows n letters rows (place_past p 1) s × HaveRows n letters rows (place_past p (1 + nodes s)) cs
+  HaveRows n letters rows p (branch l s cs) = HasRows n letters rows (place_past p 1) s ×
+      HaveRows n letters rows (place_past p (1 + nodes s)) cs

@@ -13,4 +13,5 @@ StandsFor letters rows w t = HaveSameTraces (label_step letters rows) type.step 
 -- a word stands for a type exactly where the two agree at every depth
 abbrev pub StandingIsAgreement : Type 0
 StandingIsAgreement =
-    (letters : List Label) (rows : Productions) (w : List ℕ) (t : Tree) → StandsFor letters rows w t ↔ Agree (label_step letters rows) type.step w t
+    (letters : List Label) (rows : Productions) (w : List ℕ) (t : Tree) →
+    StandsFor letters rows w t ↔ Agree (label_step letters rows) type.step w t

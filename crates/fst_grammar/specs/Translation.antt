@@ -29,7 +29,8 @@ pub record IsGrammar (s r : Tree) (letters : List Label) (rows : Productions) : 
   pub right : HasRows (numbers_of letters s r) letters rows (top_of r) r
 
 -- the grammar of two types, and the word of each
-pub record IsTranslation (s r : Tree) (letters : List Label) (rows : Productions) (u v : List ℕ) : Type 0 where
+pub record IsTranslation (s r : Tree) (letters : List Label) (rows : Productions)
+    (u v : List ℕ) : Type 0 where
   pub grammar : IsGrammar s r letters rows
   pub left : u ≡ word (numbers_of letters s r) (top_of s) s
   pub right : v ≡ word (numbers_of letters s r) (top_of r) r
@@ -70,5 +71,7 @@ IsTooLarge s r = ((most_nodes < nodes s) ⊎ (most_nodes < nodes r)) ⊎ HasTooM
 -- two session types within the limit on nodes have at most one grammar
 abbrev pub OneGrammar : Type 0
 OneGrammar =
-    (vars others : List Kind) (s r : Tree) → IsSession vars s → IsSession others r → nodes s ≤ most_nodes → nodes r ≤ most_nodes →
-    (letters more : List Label) (rows rules : Productions) → IsGrammar s r letters rows → IsGrammar s r more rules → (letters ≡ more) × (rows ≡ rules)
+    (vars others : List Kind) (s r : Tree) → IsSession vars s → IsSession others r →
+    nodes s ≤ most_nodes → nodes r ≤ most_nodes →
+    (letters more : List Label) (rows rules : Productions) → IsGrammar s r letters rows →
+    IsGrammar s r more rules → (letters ≡ more) × (rows ≡ rules)

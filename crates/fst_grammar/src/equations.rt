@@ -41,8 +41,10 @@ fn branch_rule(
     requires whole { HasNumber table.now.trees whole }
     requires part { HasNumber table.now.trees body }
     requires fits { at + nodes body.ty.now < 2 ^ 31 }
-    ensures letter { IfOk result (λ r. r.letter ≡ label_position table.now.letters.items (branch_label offers name.now)) }
-    ensures word { IfOk result (λ r. r.word ≡ word (numbers_in table.now) (place_in whole.entry.ty.now at binders.now) body.entry.ty.now) }
+    ensures letter { IfOk result (λ r. r.letter ≡ label_position table.now.letters.items
+        (branch_label offers name.now)) }
+    ensures word { IfOk result (λ r. r.word ≡ word (numbers_in table.now)
+        (place_in whole.entry.ty.now at binders.now) body.entry.ty.now) }
 {
     let label = choice_label(alloc, name, offers)?;
     let letter = place_among(&table.letters, &label) as u32;
@@ -66,7 +68,9 @@ fn choice_rules(
     requires whole { HasNumber table.now.trees whole }
     requires part { Stands table.now.trees list (shape_of_all (branches_of branches.now)) }
     requires fits { at + nodes_all (branches_of branches.now) < 2 ^ 31 }
-    ensures { IfOk result (λ r. r.items ≡ branch_rules (numbers_in table.now) table.now.letters.items (branch_label offers) (place_in whole.entry.ty.now at binders.now) (branches_of branches.now)) }
+    ensures { IfOk result (λ r. r.items ≡ branch_rules
+        (numbers_in table.now) table.now.letters.items (branch_label offers)
+        (place_in whole.entry.ty.now at binders.now) (branches_of branches.now)) }
 {
     let mut rules = Vec::new(alloc);
     let mut place = at;
@@ -114,7 +118,8 @@ fn found_equation(
     requires table { IsTable table.now }
     requires fits { found.now.at + nodes found.now.part.ty.now < 2 ^ 31 }
     requires numbered { AreNumbered table.now.trees found.now }
-    ensures { IfOk result (λ e. equation_of e ≡ part_equation (numbers_in table.now) table.now.letters.items (part_of found.now)) }
+    ensures { IfOk result (λ e. equation_of e ≡ part_equation
+        (numbers_in table.now) table.now.letters.items (part_of found.now)) }
 {
     let (whole, at, binders) = (found.whole, found.at, &found.binders);
     let part = found.part;
@@ -146,7 +151,8 @@ fn add_names(
     table: &Table<'_>,
 ) -> Result<(), AllocError>
     requires { IsTable table.now }
-    ensures { OnOk result (map equation_of equations.new.items ≡ map equation_of equations.old.items ++ map (λ a. own (name_rules table.now.letters.items a)) table.now.names.items) }
+    ensures { OnOk result (map equation_of equations.new.items ≡ map equation_of equations.old.items
+        ++ map (λ a. own (name_rules table.now.letters.items a)) table.now.names.items) }
 {
     for name in &table.names {
         equations.push(name_equation(alloc, table, name)?)?;
@@ -161,7 +167,9 @@ fn add_parts(
 ) -> Result<(), AllocError>
     requires table { IsTable table.now }
     requires fit { All (λ p. p.at + nodes p.part.ty.now < 2 ^ 31) table.now.parts.found.items }
-    ensures { OnOk result (map equation_of equations.new.items ≡ map equation_of equations.old.items ++ map (part_equation (numbers_in table.now) table.now.letters.items) (map part_of table.now.parts.found.items)) }
+    ensures { OnOk result (map equation_of equations.new.items ≡ map equation_of equations.old.items
+        ++ map (part_equation (numbers_in table.now) table.now.letters.items)
+        (map part_of table.now.parts.found.items)) }
 {
     for part in &table.parts.found {
         equations.push(found_equation(alloc, table, part)?)?;
@@ -174,7 +182,9 @@ fn add_parts(
 pub(crate) fn equations_of(alloc: Global, table: &Table<'_>) -> Result<Vec<Equation>, AllocError>
     requires table { IsTable table.now }
     requires fit { All (λ p. p.at + nodes p.part.ty.now < 2 ^ 31) table.now.parts.found.items }
-    ensures equations { IfOk result (λ es. map equation_of es.items ≡ equations_by table.now.letters.items (map part_of table.now.parts.found.items)) }
+    ensures equations { IfOk result (λ es.
+        map equation_of es.items ≡ equations_by table.now.letters.items
+        (map part_of table.now.parts.found.items)) }
     ensures few { IfOk result (λ es. length es.items < 2 ^ 32) }
 {
     let mut equations = Vec::new(alloc);

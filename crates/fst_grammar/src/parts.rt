@@ -31,7 +31,9 @@ pub(crate) fn note_all<'a>(
     requires part { HasNumber trees.now t }
     requires kept { IsKept trees.now parts.old }
     ensures kept { OnOk result (IsKept trees.now parts.new) }
-    ensures parts { OnOk result (map part_of parts.new.found.items ≡ with_parts (map part_of parts.old.found.items) (parts_in (place_in whole.entry.ty.now at (places_of binders.now)) t.entry.ty.now)) }
+    ensures parts { OnOk result (map part_of parts.new.found.items ≡ with_parts
+        (map part_of parts.old.found.items)
+        (parts_in (place_in whole.entry.ty.now at (places_of binders.now)) t.entry.ty.now)) }
 {
     let ty = t.ty;
     match &ty.form {
@@ -65,7 +67,10 @@ fn note_entered<'a>(
     requires part { HasNumber trees.now t }
     requires kept { IsKept trees.now parts.old }
     ensures kept { OnOk result (IsKept trees.now parts.new) }
-    ensures parts { OnOk result (map part_of parts.new.found.items ≡ with_parts (map part_of parts.old.found.items) (own_parts (own_place (place_in whole.entry.ty.now at (places_of binders.now)) t.entry.ty.now) t.entry.ty.now)) }
+    ensures parts { OnOk result (map part_of parts.new.found.items ≡ with_parts
+        (map part_of parts.old.found.items)
+        (own_parts (own_place (place_in whole.entry.ty.now at (places_of binders.now))
+        t.entry.ty.now) t.entry.ty.now)) }
 {
     if counts(trees, t).is_closed() {
         note_own(alloc, trees, parts, t, 0, &Binders::Top, t)
@@ -90,7 +95,9 @@ fn note_own<'a>(
     requires part { HasNumber trees.now t }
     requires kept { IsKept trees.now parts.old }
     ensures kept { OnOk result (IsKept trees.now parts.new) }
-    ensures parts { OnOk result (map part_of parts.new.found.items ≡ with_parts (map part_of parts.old.found.items) (own_parts (place_in whole.entry.ty.now at (places_of binders.now)) t.entry.ty.now)) }
+    ensures parts { OnOk result (map part_of parts.new.found.items ≡ with_parts
+        (map part_of parts.old.found.items)
+        (own_parts (place_in whole.entry.ty.now at (places_of binders.now)) t.entry.ty.now)) }
 {
     let (ty, list) = (t.ty, trees.first(t.number));
     match &ty.form {
@@ -132,7 +139,10 @@ fn note_branches<'a>(
     requires part { Stands trees.now list (shape_of_all (branches_of branches.now)) }
     requires kept { IsKept trees.now parts.old }
     ensures kept { OnOk result (IsKept trees.now parts.new) }
-    ensures parts { OnOk result (map part_of parts.new.found.items ≡ with_parts (map part_of parts.old.found.items) (parts_all (place_in whole.entry.ty.now at (places_of binders.now)) (branches_of branches.now))) }
+    ensures parts { OnOk result (map part_of parts.new.found.items ≡ with_parts
+        (map part_of parts.old.found.items)
+        (parts_all (place_in whole.entry.ty.now at (places_of binders.now))
+        (branches_of branches.now))) }
 {
     let mut place = at;
     let mut list = list;

@@ -34,9 +34,11 @@ fn head_of<'a>(
     left: u32,
 ) -> Result<Head<'a>, AllocError>
     requires within { z < length equations.now }
-    requires known { (rows : Productions) → Solves rows (map equation_of equations.now) → AreLast rows known.now }
+    requires known { (rows : Productions) → Solves rows (map equation_of equations.now) →
+        AreLast rows known.now }
     requires leads { Leads (map equation_of equations.now) z left }
-    ensures rules { (rows : Productions) → Solves rows (map equation_of equations.now) → IfOk result (λ h. row_of rows z ≡ rules_before h.rest.items h.rules.now) }
+    ensures rules { (rows : Productions) → Solves rows (map equation_of equations.now) → IfOk result
+        (λ h. row_of rows z ≡ rules_before h.rest.items h.rules.now) }
 {
     let behind = equations.len() - 1 - z as usize;
     if behind < known.len() {
@@ -67,8 +69,10 @@ fn carry(
     room: &mut u64,
 ) -> Result<Vec<Rule>, TranslateFault>
     ensures rules { IfOk result (λ r. r.items ≡ rules_before rest.now rules.now) }
-    ensures room { OnOk result (room.new + right_side (rules_before rest.now rules.now) ≡ room.old) }
-    ensures too_large { IfErr result (λ f. f ≡ TooLarge → room.old < right_side (rules_before rest.now rules.now)) }
+    ensures room { OnOk result (room.new + right_side
+        (rules_before rest.now rules.now) ≡ room.old) }
+    ensures too_large { IfErr result (λ f. f ≡ TooLarge →
+        room.old < right_side (rules_before rest.now rules.now)) }
 {
     let mut longer = Vec::new(alloc);
     for rule in rules {
@@ -88,7 +92,8 @@ fn add_rule(
     rule: &Rule,
     rest: &[u32],
 ) -> Result<(), AllocError>
-    ensures { OnOk result (rules.new.items ≡ rules.old.items ++ (record { letter = rule.now.letter; word = rule.now.word ++ rest.now }) ∷ []) }
+    ensures { OnOk result (rules.new.items ≡ rules.old.items
+        ++ (record { letter = rule.now.letter; word = rule.now.word ++ rest.now }) ∷ []) }
 {
     rules.push(Rule {
         letter: rule.letter,
@@ -107,12 +112,16 @@ fn row(
     room: &mut u64,
 ) -> Result<Rules, TranslateFault>
     requires within { z < length equations.now }
-    requires known { (rows : Productions) → Solves rows (map equation_of equations.now) → AreLast rows known.now }
+    requires known { (rows : Productions) → Solves rows (map equation_of equations.now) →
+        AreLast rows known.now }
     requires grounded { HasRanks (map equation_of equations.now) }
     requires ordered { HasOrderedRows (map equation_of equations.now) }
-    ensures rules { (rows : Productions) → Solves rows (map equation_of equations.now) → IfOk result (λ r. r ≡ row_of rows z) }
-    ensures room { (rows : Productions) → Solves rows (map equation_of equations.now) → OnOk result (room.new + right_side (row_of rows z) ≡ room.old) }
-    ensures too_large { (rows : Productions) → Solves rows (map equation_of equations.now) → IfErr result (λ f. f ≡ TooLarge → room.old < right_side (row_of rows z)) }
+    ensures rules { (rows : Productions) → Solves rows (map equation_of equations.now) → IfOk result
+        (λ r. r ≡ row_of rows z) }
+    ensures room { (rows : Productions) → Solves rows (map equation_of equations.now) →
+        OnOk result (room.new + right_side (row_of rows z) ≡ room.old) }
+    ensures too_large { (rows : Productions) → Solves rows (map equation_of equations.now) →
+        IfErr result (λ f. f ≡ TooLarge → room.old < right_side (row_of rows z)) }
 {
     let head = head_of(alloc, equations, known, z, MOST_STEPS)?;
     let rules = carry(alloc, head.rules, &head.rest, room)?;
@@ -124,9 +133,11 @@ pub(crate) fn rows_of(alloc: Global, equations: &[Equation]) -> Result<Vec<Rules
     requires few { length equations.now < 2 ^ 32 }
     requires grounded { HasRanks (map equation_of equations.now) }
     requires ordered { HasOrderedRows (map equation_of equations.now) }
-    ensures rules { (rows : Productions) → Solves rows (map equation_of equations.now) → IfOk result (λ r. r.items ≡ rows) }
+    ensures rules { (rows : Productions) → Solves rows (map equation_of equations.now) → IfOk result
+        (λ r. r.items ≡ rows) }
     ensures small { IfOk result (λ r. right_sides r.items ≤ most_letters) }
-    ensures too_large { (rows : Productions) → Solves rows (map equation_of equations.now) → IfErr result (λ f. f ≡ TooLarge → most_letters < right_sides rows) }
+    ensures too_large { (rows : Productions) → Solves rows (map equation_of equations.now) →
+        IfErr result (λ f. f ≡ TooLarge → most_letters < right_sides rows) }
 {
     let mut rows = Vec::new(alloc);
     let mut room = MOST_LETTERS;

@@ -49,7 +49,8 @@ impl Table<'_> {
         requires table { IsTable self.now }
         requires whole { HasNumber self.now.trees whole }
         requires part { HasNumber self.now.trees t }
-        ensures { result ≡ node_at (numbers_in self.now) (own_place (place_in whole.entry.ty.now at []) t.entry.ty.now) }
+        ensures { result ≡ node_at (numbers_in self.now)
+            (own_place (place_in whole.entry.ty.now at []) t.entry.ty.now) }
     {
         if counts(&self.trees, t).is_closed() {
             self.node(t, 0)

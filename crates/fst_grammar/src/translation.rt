@@ -33,7 +33,8 @@ use std::alloc::{AllocError, Global};
 pub fn translate(alloc: Global, s: &Ty, r: &Ty) -> Result<(Grammar, Word, Word), TranslateFault>
     requires session_left { (vars : List Kind) × IsSession vars s.now }
     requires session_right { (vars : List Kind) × IsSession vars r.now }
-    ensures translation { IfOk result (λ t. IsTranslation s.now r.now t.0.letters.items t.0.rules.items t.1 t.2) }
+    ensures translation { IfOk result (λ t.
+        IsTranslation s.now r.now t.0.letters.items t.0.rules.items t.1 t.2) }
     ensures left { IfOk result (λ t. StandsFor t.0.letters.items t.0.rules.items t.1 s.now) }
     ensures right { IfOk result (λ t. StandsFor t.0.letters.items t.0.rules.items t.2 r.now) }
     ensures range { IfOk result (λ t. IsInRange t.0.letters.items t.0.rules.items t.1 t.2) }
@@ -71,11 +72,15 @@ fn rules_and_words(
     requires table { IsWhole table.now }
     requires grounded { HasRanks (equations_in table.now) }
     requires ordered { HasOrderedRows (equations_in table.now) }
-    ensures rules { (rows : Productions) → Solves rows (equations_in table.now) → IfOk result (λ t. t.0.items ≡ rows) }
+    ensures rules { (rows : Productions) → Solves rows (equations_in table.now) → IfOk result
+        (λ t. t.0.items ≡ rows) }
     ensures small { IfOk result (λ t. right_sides t.0.items ≤ most_letters) }
-    ensures too_large { (rows : Productions) → Solves rows (equations_in table.now) → IfErr result (λ f. f ≡ TooLarge → most_letters < right_sides rows) }
-    ensures left { IfOk result (λ t. t.1 ≡ word (numbers_in table.now) (top_of table.now.left.ty.now) table.now.left.ty.now) }
-    ensures right { IfOk result (λ t. t.2 ≡ word (numbers_in table.now) (top_of table.now.right.ty.now) table.now.right.ty.now) }
+    ensures too_large { (rows : Productions) → Solves rows (equations_in table.now) → IfErr result
+        (λ f. f ≡ TooLarge → most_letters < right_sides rows) }
+    ensures left { IfOk result (λ t. t.1 ≡ word (numbers_in table.now)
+        (top_of table.now.left.ty.now) table.now.left.ty.now) }
+    ensures right { IfOk result (λ t. t.2 ≡ word (numbers_in table.now)
+        (top_of table.now.right.ty.now) table.now.right.ty.now) }
 {
     let rules = rules_of(alloc, table)?;
     let left = whole_word(alloc, table, table.left)?;
@@ -88,9 +93,11 @@ fn rules_of(alloc: Global, table: &Table<'_>) -> Result<Vec<Rules>, TranslateFau
     requires table { IsWhole table.now }
     requires grounded { HasRanks (equations_in table.now) }
     requires ordered { HasOrderedRows (equations_in table.now) }
-    ensures rules { (rows : Productions) → Solves rows (equations_in table.now) → IfOk result (λ r. r.items ≡ rows) }
+    ensures rules { (rows : Productions) → Solves rows (equations_in table.now) → IfOk result
+        (λ r. r.items ≡ rows) }
     ensures small { IfOk result (λ r. right_sides r.items ≤ most_letters) }
-    ensures too_large { (rows : Productions) → Solves rows (equations_in table.now) → IfErr result (λ f. f ≡ TooLarge → most_letters < right_sides rows) }
+    ensures too_large { (rows : Productions) → Solves rows (equations_in table.now) → IfErr result
+        (λ f. f ≡ TooLarge → most_letters < right_sides rows) }
 {
     let equations = equations_of(alloc, table)?;
     rows_of(alloc, &equations)
@@ -108,7 +115,8 @@ fn parts_of_both<'a>(
     requires right { nodes right.ty.now ≤ most_nodes }
     requires number_left { HasNumber trees.now left }
     requires number_right { HasNumber trees.now right }
-    ensures parts { IfOk result (λ p. map part_of p.found.items ≡ parts_of left.entry.ty.now right.entry.ty.now) }
+    ensures parts { IfOk result (λ p. map part_of p.found.items ≡ parts_of left.entry.ty.now
+        right.entry.ty.now) }
     ensures kept { IfOk result (IsKept trees.now) }
 {
     let mut parts = Parts::new(alloc);
@@ -121,7 +129,8 @@ fn parts_of_both<'a>(
 fn table_of<'a>(alloc: Global, s: &'a Ty, r: &'a Ty) -> Result<Table<'a>, AllocError>
     requires left { nodes s.now ≤ most_nodes }
     requires right { nodes r.now ≤ most_nodes }
-    ensures letters { IfOk result (λ t. t.letters.items ≡ with_labels [] (labels_in s.now ++ labels_in r.now)) }
+    ensures letters { IfOk result (λ t. t.letters.items ≡ with_labels []
+        (labels_in s.now ++ labels_in r.now)) }
     ensures parts { IfOk result (λ t. map part_of t.parts.found.items ≡ parts_of s.now r.now) }
     ensures table { IfOk result IsWhole }
     ensures left { IfOk result (λ t. t.left.ty.now ≡ s.now) }

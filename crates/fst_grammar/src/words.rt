@@ -50,7 +50,8 @@ fn push_word(
     requires fits { at + nodes t.ty.now < 2 ^ 31 }
     requires whole { HasNumber table.now.trees whole }
     requires part { HasNumber table.now.trees t }
-    ensures { OnOk result (out.new.items ≡ out.old.items ++ word (numbers_in table.now) (place_in whole.entry.ty.now at binders.now) t.entry.ty.now) }
+    ensures { OnOk result (out.new.items ≡ out.old.items ++ word (numbers_in table.now)
+        (place_in whole.entry.ty.now at binders.now) t.entry.ty.now) }
 {
     let ty = t.ty;
     match &ty.form {
@@ -96,7 +97,8 @@ pub(crate) fn word_of(
     requires fits { at + nodes t.ty.now < 2 ^ 31 }
     requires whole { HasNumber table.now.trees whole }
     requires part { HasNumber table.now.trees t }
-    ensures { IfOk result (λ w. w ≡ word (numbers_in table.now) (place_in whole.entry.ty.now at binders.now) t.entry.ty.now) }
+    ensures { IfOk result (λ w. w ≡ word (numbers_in table.now)
+        (place_in whole.entry.ty.now at binders.now) t.entry.ty.now) }
 {
     let mut out = Vec::new(alloc);
     push_word(&mut out, table, binders, whole, at, t)?;
@@ -112,7 +114,8 @@ pub(crate) fn whole_word(
     requires table { IsTable table.now }
     requires fits { nodes t.ty.now < 2 ^ 31 }
     requires whole { HasNumber table.now.trees t }
-    ensures { IfOk result (λ w. w ≡ word (numbers_in table.now) (top_of t.entry.ty.now) t.entry.ty.now) }
+    ensures { IfOk result (λ w. w ≡ word (numbers_in table.now)
+        (top_of t.entry.ty.now) t.entry.ty.now) }
 {
     word_of(alloc, table, &[], t, 0, t)
 }

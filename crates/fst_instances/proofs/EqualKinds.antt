@@ -44,22 +44,26 @@ ended_many vars (pair s r) u h e = absurd (cc e)
 ended_many vars (named k) u h e = absurd (cc e)
 
 -- a session type that isn't terminated and that no variable leads has the kind 1S
-unled_once : (vars : List Kind) (s : Tree) (u : Use) → HasKind vars s (session u) → IsGuarded s → (own : IsContractive s) → leading s ≡ None → terminated s ≡ false → u ≡ Once
+unled_once : (vars : List Kind) (s : Tree) (u : Use) → HasKind vars s (session u) → IsGuarded s →
+    (own : IsContractive s) → leading s ≡ None → terminated s ≡ false → u ≡ Once
 unled_once vars skip u h g o l e = absurd (cc e)
 unled_once vars (send b) u h g o l e = ap (λ (k : Kind). k.uses) h
 unled_once vars (receive b) u h g o l e = ap (λ (k : Kind). k.uses) h
 unled_once vars (select bs) u h g o l e = ap (λ (k : Kind). k.uses) h.1
 unled_once vars (offer bs) u h g o l e = ap (λ (k : Kind). k.uses) h.1
 unled_once vars (seq s r) u h g o l e =
-    pick (unled_once vars s h.0 h.2 (guarded_first s r g) o.0) (λ d. unled_once vars r h.1 h.3 d o.1) (terminated s) refl l (ap (λ c. c) e)
+    pick (unled_once vars s h.0 h.2 (guarded_first s r g) o.0)
+    (λ d. unled_once vars r h.1 h.3 d o.1) (terminated s) refl l (ap (λ c. c) e)
   where
     whole : u ≡ join h.0 h.1
     whole = ap (λ (k : Kind). k.uses) h.4
 
-    pick : (leading s ≡ None → terminated s ≡ false → h.0 ≡ Once) → (IsGuarded r → leading r ≡ None → terminated r ≡ false → h.1 ≡ Once) → (c : Bool) → terminated s ≡ c →
+    pick : (leading s ≡ None → terminated s ≡ false → h.0 ≡ Once) →
+        (IsGuarded r → leading r ≡ None → terminated r ≡ false → h.1 ≡ Once) → (c : Bool) → terminated s ≡ c →
         (if c then leading r else leading s) ≡ None → terminated s && terminated r ≡ false → u ≡ Once
     pick front next true is l e =
-        whole ∙ ap (λ x. join x h.1) (ended_many vars s h.0 h.2 is) ∙ next (guarded_second s r g is) l (sym (ap (λ c. c && terminated r) is) ∙ e)
+        whole ∙ ap (λ x. join x h.1) (ended_many vars s h.0 h.2 is)
+        ∙ next (guarded_second s r g is) l (sym (ap (λ c. c && terminated r) is) ∙ e)
     pick front next false is l e = whole ∙ ap (λ x. join x h.1) (front l is)
 unled_once vars (rec s) u h g o l e = unled_once vars s u h.0 (guarded_body s o.1 g) o.0 l e
 unled_once vars (back k) u h g o l e = absurd (no_variable k g)
@@ -81,7 +85,8 @@ same_uses : (u v : Use) → session u ≡ session v → u ≡ v
 same_uses u v e = ap (λ (k : Kind). k.uses) e
 
 -- a move by a variable takes the variable's part from the kind
-led_kind : (vars : List Kind) {s t : Tree} {a : Label} → Moves s a t → (k : ℕ) → a ≡ Var k → (v u w : Use) → slice_get vars k ≡ Some (session v) → HasKind vars s (session u) → HasKind vars t (session w) → u ≡ join v w
+led_kind : (vars : List Kind) {s t : Tree} {a : Label} → Moves s a t → (k : ℕ) → a ≡ Var k →
+    (v u w : Use) → slice_get vars k ≡ Some (session v) → HasKind vars s (session u) → HasKind vars t (session w) → u ≡ join v w
 led_kind vars sends k e v u w i h g = absurd (cc e)
 led_kind vars receives k e v u w i h g = absurd (cc e)
 led_kind vars (selects b) k e v u w i h g = absurd (cc e)
@@ -89,7 +94,8 @@ led_kind vars (offers b) k e v u w i h g = absurd (cc e)
 led_kind vars (first b m) k e v u w i h g =
     let front = led_kind vars m k e v h.0 g.0 i h.2 g.2 in
     let second_kind = one_kind vars _ (session h.1) (session g.1) h.3 g.3 in
-    same_uses u (join h.0 h.1) h.4 ∙ (λ x. join (front x) (same_uses h.1 g.1 second_kind x)) ∙ join_again v g.0 g.1 ∙ ap (join v) (sym (same_uses w (join g.0 g.1) g.4))
+    same_uses u (join h.0 h.1) h.4 ∙ (λ x. join (front x) (same_uses h.1 g.1 second_kind x)) ∙ join_again v g.0 g.1
+    ∙ ap (join v) (sym (same_uses w (join g.0 g.1) g.4))
 led_kind vars (second {s} b m) k e v u w i h g =
     same_uses u (join h.0 h.1) h.4 ∙ ap (λ x. join x h.1) (ended_many vars s h.0 h.2 b) ∙ led_kind vars m k e v h.1 w i h.3 g
 led_kind vars (unfolds {s} m) k e v u w i h g = led_kind vars m k e v u w i (unfolding_of_kind vars s (session u) h) g
@@ -99,7 +105,8 @@ led_kind vars (variables {k = j}) k e v u w i h g =
     same_uses u v kind ∙ join_many v ∙ ap (join v) (sym (same_uses w Many g))
 
 -- the kind of a variable by which a session type moves
-led_variable : (vars : List Kind) {s t : Tree} {a : Label} → Moves s a t → (k : ℕ) → a ≡ Var k → (u : Use) → HasKind vars s (session u) → (v : Use) × (slice_get vars k ≡ Some (session v))
+led_variable : (vars : List Kind) {s t : Tree} {a : Label} → Moves s a t → (k : ℕ) → a ≡ Var k →
+    (u : Use) → HasKind vars s (session u) → (v : Use) × (slice_get vars k ≡ Some (session v))
 led_variable vars sends k e u h = absurd (cc e)
 led_variable vars receives k e u h = absurd (cc e)
 led_variable vars (selects b) k e u h = absurd (cc e)
@@ -111,7 +118,8 @@ led_variable vars (variables {k = j}) k e u h =
     let is : j ≡ k = cc in
     (u, subst (λ n. slice_get vars n ≡ Some (session u)) is h)
 
-one_use : (vars : List Kind) {s : Tree} (r : Tree) → Fades s → (ws : IsSession vars s) (wr : IsSession vars r) → Agree step step s r → ws.0 ≡ wr.0
+one_use : (vars : List Kind) {s : Tree} (r : Tree) → Fades s →
+    (ws : IsSession vars s) (wr : IsSession vars r) → Agree step step s r → ws.0 ≡ wr.0
 one_use vars {s} r (fades f) ws wr h = pick (λ k t u e wt wu g. one_use vars u (f k t e) wt wu g) (leading s) refl
   where
     alike : terminated s ≡ terminated r
@@ -121,9 +129,12 @@ one_use vars {s} r (fades f) ws wr h = pick (λ k t u e wt wu g. one_use vars u 
     settled is true over = ended_many vars s ws.0 ws.1.kinded over ∙ sym (ended_many vars r wr.0 wr.1.kinded (sym alike ∙ over))
     settled is false on =
         unled_once vars s ws.0 ws.1.kinded (λ k. unreached s 0 k ws.1.scoped (omega arith)) ws.1.contractive is on
-        ∙ sym (unled_once vars r wr.0 wr.1.kinded (λ k. unreached r 0 k wr.1.scoped (omega arith)) wr.1.contractive (unled_too s r h is) (sym alike ∙ on))
+        ∙ sym (unled_once vars r wr.0 wr.1.kinded (λ k. unreached r 0 k wr.1.scoped (omega arith)) wr.1.contractive
+        (unled_too s r h is) (sym alike ∙ on))
 
-    pick : ((k : ℕ) (t u : Tree) → step s (Var k) ≡ Some t → (wt : IsSession vars t) (wu : IsSession vars u) → Agree step step t u → wt.0 ≡ wu.0) → (o : Option ℕ) → leading s ≡ o → ws.0 ≡ wr.0
+    pick : ((k : ℕ) (t u : Tree) → step s (Var k) ≡ Some t →
+        (wt : IsSession vars t) (wu : IsSession vars u) → Agree step step t u → wt.0 ≡ wu.0) →
+        (o : Option ℕ) → leading s ≡ o → ws.0 ≡ wr.0
     pick next None is = settled is (terminated s) refl
     pick next (Some k) is =
         let moved = leading_moves [] s k is in
@@ -142,7 +153,8 @@ one_use vars {s} r (fades f) ws wr h = pick (λ k t u e wt wu g. one_use vars u 
 -- equal types have one kind
 pub equal_kind : (vars : List Kind) {s r : Tree} → IsEqual vars s r → (i j : Kind) → HasKind vars s i → HasKind vars r j → i ≡ j
 equal_kind vars (equal.sessions {s} {r} ws wr h) i j a b =
-    one_kind vars s i (session ws.0) a ws.1.kinded ∙ ap session (one_use vars r (session_fades vars s ws) ws wr h) ∙ one_kind vars r (session wr.0) j wr.1.kinded b
+    one_kind vars s i (session ws.0) a ws.1.kinded ∙ ap session (one_use vars r (session_fades vars s ws) ws wr h)
+    ∙ one_kind vars r (session wr.0) j wr.1.kinded b
 equal_kind vars (equal.variables {k}) i j a b = one_kind vars (var k) i j a b
 equal_kind vars (equal.base_types {b = x}) i j a b = one_kind vars (plain x) i j a b
 equal_kind vars (equal.data_types {k}) i j a b = one_kind vars (named k) i j a b
@@ -153,7 +165,8 @@ equal_kind vars (equal.pairs p q) i j a b =
     a.4 ∙ (λ x. top (join (front x).uses (next x).uses)) ∙ sym b.4
 
 -- what equals a well-formed type is well formed, of the same kind
-pub equal_well_formed : (vars : List Kind) {s r : Tree} → IsEqual vars s r → (k : Kind) → IsWellFormed vars s k → IsWellFormed vars r k
+pub equal_well_formed : (vars : List Kind) {s r : Tree} → IsEqual vars s r →
+    (k : Kind) → IsWellFormed vars s k → IsWellFormed vars r k
 equal_well_formed vars (equal.sessions {s} {r} ws wr h) k w =
     let is : k ≡ session wr.0 = equal_kind vars (equal.sessions ws wr h) k (session wr.0) w.kinded wr.1.kinded in
     subst (λ j. IsWellFormed vars r j) (sym is) wr.1
@@ -161,8 +174,10 @@ equal_well_formed vars equal.variables k w = w
 equal_well_formed vars equal.base_types k w = w
 equal_well_formed vars equal.data_types k w = w
 equal_well_formed vars (equal.functions p q) k w =
-    let front = equal_well_formed vars p w.kinded.0.0 (record { kinded = w.kinded.0.1; contractive = w.contractive.0; scoped = w.scoped.0; ordered = w.ordered.0 }) in
-    let next = equal_well_formed vars q w.kinded.1.0 (record { kinded = w.kinded.1.1; contractive = w.contractive.1; scoped = w.scoped.1; ordered = w.ordered.1 }) in
+    let front = equal_well_formed vars p w.kinded.0.0
+    (record { kinded = w.kinded.0.1; contractive = w.contractive.0; scoped = w.scoped.0; ordered = w.ordered.0 }) in
+    let next = equal_well_formed vars q w.kinded.1.0
+    (record { kinded = w.kinded.1.1; contractive = w.contractive.1; scoped = w.scoped.1; ordered = w.ordered.1 }) in
     record {
       kinded = ((w.kinded.0.0, front.kinded), (w.kinded.1.0, next.kinded), w.kinded.2);
       contractive = (front.contractive, next.contractive);
@@ -170,8 +185,10 @@ equal_well_formed vars (equal.functions p q) k w =
       ordered = (front.ordered, next.ordered);
     }
 equal_well_formed vars (equal.pairs p q) k w =
-    let front = equal_well_formed vars p w.kinded.0 (record { kinded = w.kinded.2; contractive = w.contractive.0; scoped = w.scoped.0; ordered = w.ordered.0 }) in
-    let next = equal_well_formed vars q w.kinded.1 (record { kinded = w.kinded.3; contractive = w.contractive.1; scoped = w.scoped.1; ordered = w.ordered.1 }) in
+    let front = equal_well_formed vars p w.kinded.0
+    (record { kinded = w.kinded.2; contractive = w.contractive.0; scoped = w.scoped.0; ordered = w.ordered.0 }) in
+    let next = equal_well_formed vars q w.kinded.1
+    (record { kinded = w.kinded.3; contractive = w.contractive.1; scoped = w.scoped.1; ordered = w.ordered.1 }) in
     record {
       kinded = (w.kinded.0, w.kinded.1, front.kinded, next.kinded, w.kinded.4);
       contractive = (front.contractive, next.contractive);

@@ -38,12 +38,34 @@ equal_itself vars (var n) k w = variables
 equal_itself vars (plain b) k w = base_types
 equal_itself vars (arrow u s r) k w =
     functions
-    (equal_itself vars s w.kinded.0.0 (record { kinded = w.kinded.0.1; contractive = w.contractive.0; scoped = w.scoped.0; ordered = w.ordered.0 }))
-    (equal_itself vars r w.kinded.1.0 (record { kinded = w.kinded.1.1; contractive = w.contractive.1; scoped = w.scoped.1; ordered = w.ordered.1 }))
+    (equal_itself vars s w.kinded.0.0 (record {
+      kinded = w.kinded.0.1;
+      contractive = w.contractive.0;
+      scoped = w.scoped.0;
+      ordered = w.ordered.0;
+    }))
+    (equal_itself vars r w.kinded.1.0 (record {
+      kinded = w.kinded.1.1;
+      contractive = w.contractive.1;
+      scoped = w.scoped.1;
+      ordered = w.ordered.1;
+    }))
 equal_itself vars (pair s r) k w =
     pairs
-    (equal_itself vars s w.kinded.0 (record { kinded = w.kinded.2; contractive = w.contractive.0; scoped = w.scoped.0; ordered = w.ordered.0 }))
-    (equal_itself vars r w.kinded.1 (record { kinded = w.kinded.3; contractive = w.contractive.1; scoped = w.scoped.1; ordered = w.ordered.1 }))
+    (equal_itself vars s w.kinded.0 (record {
+      kinded = w.kinded.2;
+      contractive = w.contractive.0;
+      scoped = w.scoped.0;
+      ordered =
+          w.ordered.0;
+    }))
+    (equal_itself vars r w.kinded.1 (record {
+      kinded = w.kinded.3;
+      contractive = w.contractive.1;
+      scoped = w.scoped.1;
+      ordered =
+          w.ordered.1;
+    }))
 equal_itself vars (named n) k w = data_types
 
 -- equal types are equal the other way round
@@ -76,7 +98,8 @@ equal_data_type vars (sessions ws wr h) = not_top ws.0 Many ws.1.kinded
 equal_data_type vars data_types = refl
 
 -- what equals a variable that stands for types of any values is the variable
-pub equal_variable : (vars : List Kind) (u : Use) {k : ℕ} {t : Tree} → HasKind vars (var k) (top u) → IsEqual vars (var k) t → t ≡ var k
+pub equal_variable : (vars : List Kind) (u : Use) {k : ℕ} {t : Tree} → HasKind vars (var k) (top u) → IsEqual vars (var k) t →
+    t ≡ var k
 equal_variable vars u {k} i (sessions ws wr h) = not_top ws.0 u (one_kind vars (var k) (session ws.0) (top u) ws.1.kinded i)
 equal_variable vars u i variables = refl
 
@@ -90,7 +113,8 @@ equal_session vars (functions {u} a b) w = not_top w.0 u w.1.kinded.2
 equal_session vars (pairs a b) w = not_top w.0 _ w.1.kinded.4
 
 -- what equals a session type moves by its labels, to equal types
-pub equal_steps : (vars : List Kind) {s r : Tree} → IsEqual vars s r → IsSession vars s → (a : Label) (t : Tree) → step s a ≡ Some t → StepsToEqual vars r a t
+pub equal_steps : (vars : List Kind) {s r : Tree} → IsEqual vars s r → IsSession vars s →
+    (a : Label) (t : Tree) → step s a ≡ Some t → StepsToEqual vars r a t
 equal_steps vars {s} {r} f ws a t e =
     let found = equal_session vars f ws in
     let moved = both_move (step s a) (step r a) (λ n. found.1 (suc n) a) t e in
@@ -110,16 +134,19 @@ equal_through vars base_types f = f
 equal_through vars data_types f = f
 equal_through vars (functions {u} {s} {r} a b) f =
     let found = equal_function vars f in
-    subst (λ t. IsEqual vars (arrow u s r) t) (sym found.is) (functions (equal_through vars a found.domains) (equal_through vars b found.codomains))
+    subst (λ t. IsEqual vars (arrow u s r) t) (sym found.is)
+    (functions (equal_through vars a found.domains) (equal_through vars b found.codomains))
 equal_through vars (pairs {s} {r} a b) f =
     let found = equal_pair vars f in
-    subst (λ t. IsEqual vars (pair s r) t) (sym found.is) (pairs (equal_through vars a found.firsts) (equal_through vars b found.seconds))
+    subst (λ t. IsEqual vars (pair s r) t) (sym found.is)
+    (pairs (equal_through vars a found.firsts) (equal_through vars b found.seconds))
 
 module _ (outer vars : List Kind) (args : List Tree) (i : IsInstantiation outer vars args) where
   -- instances of equal types are equal
   pub instances_equal : {s r : Tree} → IsEqual vars s r → IsEqual outer (instantiated args s) (instantiated args r)
   instances_equal (sessions {s} {r} ws wr h) =
-      sessions (instantiated_session outer vars args s i ws) (instantiated_session outer vars args r i wr) (λ n. instances_agree outer vars args i n s r ws wr h)
+      sessions (instantiated_session outer vars args s i ws) (instantiated_session outer vars args r i wr)
+      (λ n. instances_agree outer vars args i n s r ws wr h)
   instances_equal (variables {k = n}) =
       put_have (λ t. IsEqual outer t t) outer vars args (λ m. variables) (λ t j w. equal_itself outer t j w) i n
   instances_equal base_types = base_types

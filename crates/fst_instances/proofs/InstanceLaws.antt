@@ -17,7 +17,8 @@ use Rattle.fst_instances.proofs.InstanceMoves.{leading, leading_moves, unled, st
 use Rattle.fst_instances.proofs.VariableRuns.{Fades, fades, session_fades}
 
 -- of two types that agree, both move by a label or neither does, and what they leave agrees
-pub both_move : (o p : Option Tree) → ((n : ℕ) → BothOrNeither (AgreeTo step step n) o p) → (t : Tree) → o ≡ Some t → (u : Tree) × (p ≡ Some u) × Agree step step t u
+pub both_move : (o p : Option Tree) → ((n : ℕ) → BothOrNeither (AgreeTo step step n) o p) → (t : Tree) → o ≡ Some t → (u : Tree) ×
+    (p ≡ Some u) × Agree step step t u
 both_move None p h t e = absurd (cc e)
 both_move (Some x) None h t e = absurd (h zero)
 both_move (Some x) (Some y) h t e =
@@ -32,34 +33,42 @@ unled_too s r h is = pick (leading r) refl
     pick None e = e
     pick (Some k) e =
         let moved = leading_moves [] r k e in
-        let found = both_move (step r (Var k)) (step s (Var k)) (λ n. agrees_back step step (suc n) s r (h (suc n)) (Var k)) moved.0 moved.1 in
+        let found = both_move (step r (Var k)) (step s (Var k))
+        (λ n. agrees_back step step (suc n) s r (h (suc n)) (Var k)) moved.0 moved.1 in
         absurd (cc (sym (unled [] s k is) ∙ found.1))
 
 module _ (outer vars : List Kind) (args : List Tree) (c : IsInstantiation outer vars args) where
   -- the instances agree one deeper, if instances of what agrees do to the depth
-  one_deeper : (n : ℕ) → ((s r : Tree) → IsSession vars s → IsSession vars r → Agree step step s r → AgreeTo step step n (instantiated args s) (instantiated args r)) →
-      {s : Tree} (r : Tree) → Fades s → IsSession vars s → IsSession vars r → Agree step step s r → AgreeTo step step (suc n) (instantiated args s) (instantiated args r)
+  one_deeper : (n : ℕ) → ((s r : Tree) → IsSession vars s → IsSession vars r → Agree step step s r →
+      AgreeTo step step n (instantiated args s) (instantiated args r)) →
+      {s : Tree} (r : Tree) → Fades s → IsSession vars s → IsSession vars r → Agree step step s r →
+      AgreeTo step step (suc n) (instantiated args s) (instantiated args r)
   one_deeper n below {s} r (fades f) ws wr h = pick (λ k t u e wt wu g. one_deeper n below u (f k t e) wt wu g) (leading s) refl
     where
-      related : (o p : Option Tree) → IfSome o (IsSession vars) → IfSome p (IsSession vars) → ((m : ℕ) → BothOrNeither (AgreeTo step step m) o p) →
+      related : (o p : Option Tree) → IfSome o (IsSession vars) → IfSome p (IsSession vars) →
+          ((m : ℕ) → BothOrNeither (AgreeTo step step m) o p) →
           BothOrNeither (AgreeTo step step n) (option_map (instantiated args) o) (option_map (instantiated args) p)
       related None None i j b = tt
       related None (Some y) i j b = absurd (b zero)
       related (Some x) None i j b = absurd (b zero)
       related (Some x) (Some y) i j b = below x y i j b
 
-      pick : ((k : ℕ) (t u : Tree) → step s (Var k) ≡ Some t → IsSession vars t → IsSession vars u → Agree step step t u → AgreeTo step step (suc n) (instantiated args t) (instantiated args u)) →
+      pick : ((k : ℕ) (t u : Tree) → step s (Var k) ≡ Some t → IsSession vars t → IsSession vars u → Agree step step t u →
+          AgreeTo step step (suc n) (instantiated args t) (instantiated args u)) →
           (o : Option ℕ) → leading s ≡ o → AgreeTo step step (suc n) (instantiated args s) (instantiated args r)
       pick next (Some k) is =
           let moved = leading_moves [] s k is in
           let t = moved.0 in
           let found = both_move (step s (Var k)) (step r (Var k)) (λ m. h (suc m) (Var k)) t moved.1 in
           let u = found.0 in
-          let inner = next k t u moved.1 (session_after vars s t (Var k) ws moved.1) (session_after vars r u (Var k) wr found.1) found.2 in
+          let inner = next k t u moved.1 (session_after vars s t (Var k) ws moved.1)
+          (session_after vars r u (Var k) wr found.1) found.2 in
           let left = seq (argument args k) (instantiated args t) in
           let right = seq (argument args k) (instantiated args u) in
-          agrees_through step step step (suc n) (instantiated args s) left (instantiated args r) (step_led outer vars args c s t k ws moved.1 (suc n))
-          (agrees_through step step step (suc n) left right (instantiated args r) (agree_in_front (suc n) (argument args k) (instantiated args t) (instantiated args u) inner)
+          agrees_through step step step (suc n) (instantiated args s) left (instantiated args r)
+          (step_led outer vars args c s t k ws moved.1 (suc n))
+          (agrees_through step step step (suc n) left right (instantiated args r)
+          (agree_in_front (suc n) (argument args k) (instantiated args t) (instantiated args u) inner)
           (agrees_back step step (suc n) (instantiated args r) right (step_led outer vars args c r u k wr found.1 (suc n))))
       pick next None is = λ a.
           let ok = put_scoped outer vars args c in
@@ -70,7 +79,8 @@ module _ (outer vars : List Kind) (args : List Tree) (c : IsInstantiation outer 
           (related (step s a) (step r a) (step_session vars s a ws) (step_session vars r a wr) (λ m. h (suc m) a)))
 
   -- instances of session types that agree at every depth do
-  pub instances_agree : (n : ℕ) (s r : Tree) → IsSession vars s → IsSession vars r → Agree step step s r → AgreeTo step step n (instantiated args s) (instantiated args r)
+  pub instances_agree : (n : ℕ) (s r : Tree) → IsSession vars s → IsSession vars r → Agree step step s r →
+      AgreeTo step step n (instantiated args s) (instantiated args r)
   instances_agree zero s r ws wr h = tt
   instances_agree (suc n) s r ws wr h = one_deeper n (instances_agree n) r (session_fades vars s ws) ws wr h
 
@@ -78,5 +88,6 @@ module _ (outer vars : List Kind) (args : List Tree) (c : IsInstantiation outer 
 pub instance_law : (outer : List Kind) → InstanceLawOver outer
 instance_law outer vars args s r i ws wr h = record {
   alone = λ n. instances_agree outer vars args i n s r ws wr h;
-  behind = λ t n. agree_in_front n t (instantiated args s) (instantiated args r) (instances_agree outer vars args i n s r ws wr h);
+  behind = λ t n. agree_in_front n t (instantiated args s) (instantiated args r)
+      (instances_agree outer vars args i n s r ws wr h);
 }

@@ -57,5 +57,6 @@ pub equal_session : (vars : List Kind) {s r : Tree} → IsEqual vars s r → IsS
 equal_session vars e = equal.equal_session vars e
 
 -- equal session types move to equal types
-pub equal_steps : (vars : List Kind) {s r : Tree} → IsEqual vars s r → IsSession vars s → (a : Label) (t : Tree) → step s a ≡ Some t → StepsToEqual vars r a t
+pub equal_steps : (vars : List Kind) {s r : Tree} → IsEqual vars s r → IsSession vars s →
+    (a : Label) (t : Tree) → step s a ≡ Some t → StepsToEqual vars r a t
 equal_steps vars e = equal.equal_steps vars e

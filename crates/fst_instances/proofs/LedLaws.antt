@@ -30,7 +30,8 @@ led_alone env (select bs) k a e h = absurd (cc e)
 led_alone env (offer bs) k a e h = absurd (cc e)
 led_alone env (seq s r) k a e h = pick (led_alone env s k a) (led_alone env r k a) (terminated s) e h
   where
-    pick : (leading s ≡ Some k → IsSome (step_in env s a) → a ≡ Var k) → (leading r ≡ Some k → IsSome (step_in env r a) → a ≡ Var k) → (c : Bool) → (if c then leading r else leading s) ≡ Some k →
+    pick : (leading s ≡ Some k → IsSome (step_in env s a) → a ≡ Var k) →
+        (leading r ≡ Some k → IsSome (step_in env r a) → a ≡ Var k) → (c : Bool) → (if c then leading r else leading s) ≡ Some k →
         IsSome (if c then step_in env r a else option_map (λ t. seq t (substitute env r)) (step_in env s a)) → a ≡ Var k
     pick front behind true e h = behind e h
     pick front behind false e h = front e (unmapped_there (λ t. seq t (substitute env r)) (step_in env s a) h)
@@ -73,7 +74,8 @@ unled_leading s h = pick (leading s) refl
         absurd (cc (sym (h k) ∙ moved.1))
 
 -- where a type moves by no variable, its instance moves as it does
-pub unled_steps : (outer vars : List Kind) (args : List Tree) → IsInstantiation outer vars args → (s : Tree) → IsUnled s → (a : Label) → step (instantiated args s) a ≡ option_map (instantiated args) (step s a)
+pub unled_steps : (outer vars : List Kind) (args : List Tree) → IsInstantiation outer vars args → (s : Tree) → IsUnled s →
+    (a : Label) → step (instantiated args s) a ≡ option_map (instantiated args) (step s a)
 unled_steps outer vars args i s h a = step_in_instance args (put_scoped outer vars args i) [] s a (unled_leading s h)
 
 -- a type that moves by another label moves by no variable
@@ -85,9 +87,11 @@ other_label s t a h e k = pick (step s (Var k)) refl
     pick (Some u) is = absurd (h k (one_variable s u k is a (there (step s a) t e)))
 
 -- a move by another label than a variable is one of the instance
-pub instance_moves : (outer vars : List Kind) (args : List Tree) → IsInstantiation outer vars args → (s t : Tree) (a : Label) → ((k : ℕ) → a ≡ Var k → ⊥) → step s a ≡ Some t →
+pub instance_moves : (outer vars : List Kind) (args : List Tree) → IsInstantiation outer vars args → (s t : Tree) (a : Label) →
+    ((k : ℕ) → a ≡ Var k → ⊥) → step s a ≡ Some t →
     step (instantiated args s) a ≡ Some (instantiated args t)
-instance_moves outer vars args i s t a h e = unled_steps outer vars args i s (other_label s t a h e) a ∙ ap (option_map (instantiated args)) e
+instance_moves outer vars args i s t a h e = unled_steps outer vars args i s (other_label s t a h e) a
+    ∙ ap (option_map (instantiated args)) e
 
 -- where a type moves by no variable, its instance is terminated exactly where it is
 pub unled_ends : (args : List Tree) (s : Tree) → IsUnled s → terminated (instantiated args s) ≡ terminated s
@@ -99,13 +103,17 @@ few {s} (fades f) = pick (λ k t e. few (f k t e)) (leading s) refl
   where
     none_left : leading s ≡ None → (ks : List ℕ) → Performs step s (map Var ks) → length ks ≤ 0
     none_left is [] h = omega arith
-    none_left is (k ∷ ks) h = absurd (cc (sym h ∙ ap (λ o. is_some (option_and_then (λ y. residual step y (map Var ks)) o)) (unled [] s k is)))
+    none_left is (k ∷ ks) h = absurd (cc (sym h ∙ ap
+        (λ o. is_some (option_and_then (λ y. residual step y (map Var ks)) o)) (unled [] s k is)))
 
-    one_more : (k : ℕ) (t : Tree) (m : ℕ) → step s (Var k) ≡ Some t → ((ks : List ℕ) → Performs step t (map Var ks) → length ks ≤ m) → (ks : List ℕ) → Performs step s (map Var ks) → length ks ≤ suc m
+    one_more : (k : ℕ) (t : Tree) (m : ℕ) → step s (Var k) ≡ Some t →
+        ((ks : List ℕ) → Performs step t (map Var ks) → length ks ≤ m) →
+        (ks : List ℕ) → Performs step s (map Var ks) → length ks ≤ suc m
     one_more k t m e rest [] h = omega arith
     one_more k t m e rest (j ∷ ks) h = after (step s (Var j)) refl h
       where
-        after : (o : Option Tree) → step s (Var j) ≡ o → IsSome (option_and_then (λ y. residual step y (map Var ks)) o) → suc (length ks) ≤ suc m
+        after : (o : Option Tree) → step s (Var j) ≡ o → IsSome (option_and_then (λ y. residual step y (map Var ks)) o) →
+            suc (length ks) ≤ suc m
         after None is h = absurd (cc h)
         after (Some u) is h =
             let same : Var j ≡ Var k = one_variable s t k e (Var j) (there (step s (Var j)) u is) in
@@ -126,21 +134,29 @@ session_few vars s h = few (session_fades vars s h)
 
 module _ (outer vars : List Kind) (args : List Tree) (i : IsInstantiation outer vars args) where
   -- where the argument is terminated, the instance goes on as that of what is left
-  pub led_over : (s t : Tree) (k : ℕ) → IsSession vars s → step s (Var k) ≡ Some t → terminated (argument args k) ≡ true → Agree step step (instantiated args s) (instantiated args t)
+  pub led_over : (s t : Tree) (k : ℕ) → IsSession vars s → step s (Var k) ≡ Some t → terminated (argument args k) ≡ true →
+      Agree step step (instantiated args s) (instantiated args t)
   led_over s t k w e over n =
-      agrees_through step step step n (instantiated args s) (seq (argument args k) (instantiated args t)) (instantiated args t) (step_led outer vars args i s t k w e n)
-      (same_steps (seq (argument args k) (instantiated args t)) (instantiated args t) (λ a. over_step (argument args k) (instantiated args t) a over) n)
+      agrees_through step step step n (instantiated args s) (seq (argument args k) (instantiated args t)) (instantiated args t)
+      (step_led outer vars args i s t k w e n)
+      (same_steps (seq (argument args k) (instantiated args t)) (instantiated args t)
+      (λ a. over_step (argument args k) (instantiated args t) a over) n)
 
   -- and otherwise it moves as the argument, with the instance of what is left behind
-  pub led_ahead : (s t : Tree) (k : ℕ) → IsSession vars s → step s (Var k) ≡ Some t → terminated (argument args k) ≡ false → (a : Label) →
-      BothOrNeither (λ x y. Agree step step x (seq y (instantiated args t))) (step (instantiated args s) a) (step (argument args k) a)
+  pub led_ahead : (s t : Tree) (k : ℕ) → IsSession vars s → step s (Var k) ≡ Some t → terminated (argument args k) ≡ false →
+      (a : Label) →
+      BothOrNeither (λ x y. Agree step step x (seq y (instantiated args t))) (step (instantiated args s) a)
+      (step (argument args k) a)
   led_ahead s t k w e on a =
       pick (step (instantiated args s) a) (step (argument args k) a)
       (λ n. subst (λ o. BothOrNeither (AgreeTo step step n) (step (instantiated args s) a) o)
-      (seq_step (argument args k) (instantiated args t) a ∙ ap (λ c. after_first (instantiated args t) c (step (argument args k) a) (step (instantiated args t) a)) on)
+      (seq_step (argument args k) (instantiated args t) a ∙ ap
+      (λ c. after_first (instantiated args t) c (step (argument args k) a) (step (instantiated args t) a)) on)
       (step_led outer vars args i s t k w e (suc n) a))
     where
-      pick : (o p : Option Tree) → ((n : ℕ) → BothOrNeither (AgreeTo step step n) o (option_map (λ y. seq y (instantiated args t)) p)) → BothOrNeither (λ x y. Agree step step x (seq y (instantiated args t))) o p
+      pick : (o p : Option Tree) → ((n : ℕ) → BothOrNeither (AgreeTo step step n) o
+          (option_map (λ y. seq y (instantiated args t)) p)) → BothOrNeither
+          (λ x y. Agree step step x (seq y (instantiated args t))) o p
       pick None None h = tt
       pick None (Some y) h = h zero
       pick (Some x) None h = h zero

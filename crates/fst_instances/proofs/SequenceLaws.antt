@@ -16,13 +16,15 @@ after_first r over first second = if over then second else option_map (λ t. seq
 pub same_steps : (x y : Tree) → ((a : Label) → step x a ≡ step y a) → Agree step step x y
 same_steps x y h zero = tt
 same_steps x y h (suc n) = λ a.
-    subst (λ o. BothOrNeither (AgreeTo step step n) (step x a) o) (h a) (same_related (AgreeTo step step n) (agrees_itself step n) (step x a))
+    subst (λ o. BothOrNeither (AgreeTo step step n) (step x a) o) (h a)
+    (same_related (AgreeTo step step n) (agrees_itself step n) (step x a))
 
 -- what stands behind a terminated type moves
 pub over_step : (s r : Tree) (a : Label) → terminated s ≡ true → step (seq s r) a ≡ step r a
 over_step s r a e = seq_step s r a ∙ ap (λ c. after_first r c (step s a) (step r a)) e
 
-related_at : {T U : Type 0} (R : T → U → Type 0) (o o' : Option T) (p p' : Option U) → o' ≡ o → p' ≡ p → BothOrNeither R o' p' → BothOrNeither R o p
+related_at : {T U : Type 0} (R : T → U → Type 0) (o o' : Option T) (p p' : Option U) → o' ≡ o → p' ≡ p → BothOrNeither R o' p' →
+    BothOrNeither R o p
 related_at R o o' p p' e f b = subst (λ q. BothOrNeither R o q) f (subst (λ q. BothOrNeither R q p') e b)
 
 -- `;` associates
@@ -35,7 +37,8 @@ seq_associates (suc n) x y z = λ a.
     (pick (λ u. seq_associates n u y z) (terminated x) (terminated y) (step x a) (step y a) (step z a))
   where
     pick : ((u : Tree) → AgreeTo step step n (seq (seq u y) z) (seq u (seq y z))) → (c d : Bool) (o p q : Option Tree) →
-        BothOrNeither (AgreeTo step step n) (after_first z (c && d) (after_first y c o p) q) (after_first (seq y z) c o (after_first z d p q))
+        BothOrNeither (AgreeTo step step n) (after_first z (c && d) (after_first y c o p) q)
+        (after_first (seq y z) c o (after_first z d p q))
     pick next true d o p q = same_related (AgreeTo step step n) (agrees_itself step n) (after_first z d p q)
     pick next false d None p q = tt
     pick next false d (Some u) p q = next u
@@ -44,9 +47,11 @@ seq_associates (suc n) x y z = λ a.
 pub seq_skip : (n : ℕ) (x : Tree) → AgreeTo step step n x (seq x skip)
 seq_skip zero x = tt
 seq_skip (suc n) x = λ a.
-    related_at (AgreeTo step step n) _ _ _ _ refl (sym (seq_step x skip a)) (pick (seq_skip n) a (terminated x) refl (step x a) refl)
+    related_at (AgreeTo step step n) _ _ _ _ refl (sym (seq_step x skip a))
+    (pick (seq_skip n) a (terminated x) refl (step x a) refl)
   where
-    pick : ((u : Tree) → AgreeTo step step n u (seq u skip)) → (a : Label) (c : Bool) → terminated x ≡ c → (o : Option Tree) → step x a ≡ o → BothOrNeither (AgreeTo step step n) o (after_first skip c o None)
+    pick : ((u : Tree) → AgreeTo step step n u (seq u skip)) → (a : Label) (c : Bool) → terminated x ≡ c →
+        (o : Option Tree) → step x a ≡ o → BothOrNeither (AgreeTo step step n) o (after_first skip c o None)
     pick next a true is None e = tt
     pick next a true is (Some u) e = absurd (no_step x is a (subst (λ o. IsSome o) (sym e) refl))
     pick next a false is None e = tt

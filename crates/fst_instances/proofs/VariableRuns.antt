@@ -49,19 +49,23 @@ guards_kept (first {s} {r} {t} b m) k e o g = pick (guards_kept m k e o.0) (guar
     pick front true is g = ap (λ b. b || guards r) (front is)
     pick front false is g = ap (λ b. guards t || b) g ∙ or-true (guards t)
 guards_kept (second {s} {r} b m) k e o g = guards_kept m k e o.1 (sym (ap (λ c. c || guards r) (unguarded s b)) ∙ g)
-guards_kept (unfolds {s} m) k e o g = guards_kept m k e (unfolding_of_scoped s o) (substitute_guards 1 (Some (rec s) ∷ []) s (g, tt) o g)
+guards_kept (unfolds {s} m) k e o g = guards_kept m k e (unfolding_of_scoped s o)
+    (substitute_guards 1 (Some (rec s) ∷ []) s (g, tt) o g)
 guards_kept variables k e o g = absurd (cc g)
 
 -- two types in turn, where the second counts only if the first guards nothing
 fades_seq : (vars : List Kind) {s : Tree} (r : Tree) → Fades s → IsSession vars s → (guards s ≡ false → Fades r) → Fades (seq s r)
 fades_seq vars {s} r (fades f) ws h =
-    fades (λ k t e. pick k t (λ u is. fades_seq vars r (f k u is) (session_after vars s u (Var k) ws is)) (terminated s) refl (sym (seq_step s r (Var k)) ∙ e))
+    fades (λ k t e. pick k t (λ u is. fades_seq vars r (f k u is) (session_after vars s u (Var k) ws is)) (terminated s) refl
+    (sym (seq_step s r (Var k)) ∙ e))
   where
     still : (k : ℕ) (u : Tree) → step s (Var k) ≡ Some u → guards u ≡ false → (c : Bool) → guards s ≡ c → guards s ≡ false
-    still k u is g true i = absurd (cc (sym g ∙ guards_kept ((steps_are_moves s ws.1.scoped ws.1.contractive (Var k) u).0 is) k refl ws.1.scoped i))
+    still k u is g true i = absurd (cc (sym g ∙ guards_kept
+        ((steps_are_moves s ws.1.scoped ws.1.contractive (Var k) u).0 is) k refl ws.1.scoped i))
     still k u is g false i = i
 
-    pick : (k : ℕ) (t : Tree) → ((u : Tree) → step s (Var k) ≡ Some u → (guards u ≡ false → Fades r) → Fades (seq u r)) → (c : Bool) → terminated s ≡ c →
+    pick : (k : ℕ) (t : Tree) → ((u : Tree) → step s (Var k) ≡ Some u → (guards u ≡ false → Fades r) → Fades (seq u r)) →
+        (c : Bool) → terminated s ≡ c →
         after_first r c (step s (Var k)) (step r (Var k)) ≡ Some t → Fades t
     pick k t next true is e = fading (h (unguarded s is)) k t e
     pick k t next false is e =
@@ -91,24 +95,29 @@ guarded_behind s r h e k =
     subst (λ g. not g && reaches r k ≡ false) e both.1
 
 -- a session type comes to an end of its moves by variables, with session types for its recursion variables
-fades_in : (vars : List Kind) (n : ℕ) (env : List (Option Tree)) (s : Tree) → IsPut vars n env → IsOpenSession vars n s → IsGuarded s → Fades (substitute env s)
+fades_in : (vars : List Kind) (n : ℕ) (env : List (Option Tree)) (s : Tree) → IsPut vars n env → IsOpenSession vars n s →
+    IsGuarded s → Fades (substitute env s)
 fades_in vars n env skip p h g = fades_skip
 fades_in vars n env (send b) p h g = unled_fades (send b) refl
 fades_in vars n env (receive b) p h g = unled_fades (receive b) refl
 fades_in vars n env (select bs) p h g = unled_fades (substitute env (select bs)) refl
 fades_in vars n env (offer bs) p h g = unled_fades (substitute env (offer bs)) refl
 fades_in vars n env (seq s r) p h g =
-    fades_seq vars (substitute env r) (fades_in vars n env s p (open_first vars n s r h) (guarded_first s r g)) (substitute_session vars n env s p (open_first vars n s r h))
+    fades_seq vars (substitute env r) (fades_in vars n env s p (open_first vars n s r h) (guarded_first s r g))
+    (substitute_session vars n env s p (open_first vars n s r h))
     (pick (fades_in vars n env r p (open_second vars n s r h)) (guards s) refl)
   where
-    pick : (IsGuarded r → Fades (substitute env r)) → (c : Bool) → guards s ≡ c → guards (substitute env s) ≡ false → Fades (substitute env r)
+    pick : (IsGuarded r → Fades (substitute env r)) →
+        (c : Bool) → guards s ≡ c → guards (substitute env s) ≡ false → Fades (substitute env r)
     pick next true is e = absurd (cc (sym e ∙ substitute_guards n env s p.guarded h.scoped.0 is))
     pick next false is e = next (guarded_behind s r g is)
 fades_in vars n env (rec s) p h g =
     alike (unfolding_of body) (rec body) (unfolding_of_step body session_whole.1.scoped session_whole.1.contractive
-    (unfolding_of_contractive vars body (session session_whole.0) session_whole.1.kinded session_whole.1.scoped session_whole.1.contractive))
+    (unfolding_of_contractive vars body (session session_whole.0) session_whole.1.kinded session_whole.1.scoped
+    session_whole.1.contractive))
     (subst Fades (sym (substitute_after (rec body) env p.closed s))
-    (pick (λ m q o. fades_in vars m (Some (substitute env (rec s)) ∷ env) s q o (guarded_body s h.contractive.1 g)) (guards s) refl))
+    (pick (λ m q o. fades_in vars m (Some (substitute env (rec s)) ∷ env) s q o (guarded_body s h.contractive.1 g))
+    (guards s) refl))
   where
     body : Tree
     body = substitute (None ∷ env) s
@@ -116,12 +125,21 @@ fades_in vars n env (rec s) p h g =
     session_whole : IsSession vars (substitute env (rec s))
     session_whole = substitute_session vars n env (rec s) p h
 
-    put : (m : ℕ) → m ≤ suc (length env) → GuardsTo m (Some (substitute env (rec s)) ∷ env) → IsPut vars m (Some (substitute env (rec s)) ∷ env)
-    put m le g = record { closed = (session_whole.1.scoped, p.closed); sessions = (session_whole, p.sessions); enough = le; guarded = g }
+    put : (m : ℕ) → m ≤ suc (length env) → GuardsTo m (Some (substitute env (rec s)) ∷ env) →
+        IsPut vars m (Some (substitute env (rec s)) ∷ env)
+    put m le g = record {
+      closed = (session_whole.1.scoped, p.closed);
+      sessions =
+          (session_whole, p.sessions);
+      enough = le;
+      guarded = g;
+    }
 
-    pick : ((m : ℕ) → IsPut vars m (Some (substitute env (rec s)) ∷ env) → IsOpenSession vars m s → Fades (substitute (Some (substitute env (rec s)) ∷ env) s)) →
+    pick : ((m : ℕ) → IsPut vars m (Some (substitute env (rec s)) ∷ env) → IsOpenSession vars m s →
+        Fades (substitute (Some (substitute env (rec s)) ∷ env) s)) →
         (b : Bool) → guards s ≡ b → Fades (substitute (Some (substitute env (rec s)) ∷ env) s)
-    pick next true is = next (suc n) (put (suc n) (omega (arith, p.enough)) (substitute_guards n env (rec s) p.guarded h.scoped is, p.guarded)) (open_body vars n s h)
+    pick next true is = next (suc n) (put (suc n) (omega (arith, p.enough))
+        (substitute_guards n env (rec s) p.guarded h.scoped is, p.guarded)) (open_body vars n s h)
     pick next false is = next 0 (put 0 (omega arith) tt) (unguarded_body vars n s h is)
 fades_in vars n env (back k) p h g = absurd (no_variable k g)
 fades_in vars n env (var k) p h g = variable_fades k
@@ -134,4 +152,5 @@ fades_in vars n env (named k) p h g = unled_fades (named k) refl
 pub session_fades : (vars : List Kind) (s : Tree) → IsSession vars s → Fades s
 session_fades vars s h =
     subst Fades (substitute_nothing s)
-    (fades_in vars 0 [] s (record { closed = tt; sessions = tt; enough = omega arith; guarded = tt }) (opened vars s h) (λ k. unreached s 0 k h.1.scoped (omega arith)))
+    (fades_in vars 0 [] s (record { closed = tt; sessions = tt; enough = omega arith; guarded = tt }) (opened vars s h)
+    (λ k. unreached s 0 k h.1.scoped (omega arith)))

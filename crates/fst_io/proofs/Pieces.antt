@@ -6,7 +6,8 @@ use Rattle.std.proofs.lemmas.List.{take_at, take-append-drop, drop-drop, length-
 use Rattle.fst_io.specs.GivingUp.{LosesAtMost}
 
 -- the bytes left begin with those that were copied out, and go on behind them
-pub piece_taken : (bytes copied tail : List ℕ) (next n k : ℕ) → copied ≡ take k (drop next bytes) → k ≡ n → next + n ≤ length bytes →
+pub piece_taken : (bytes copied tail : List ℕ) (next n k : ℕ) → copied ≡ take k (drop next bytes) → k ≡ n →
+    next + n ≤ length bytes →
     drop next bytes ≡ take n (copied ++ tail) ++ drop (next + n) bytes
 piece_taken bytes copied tail next n k copy same room =
     let all : copied ≡ take n (drop next bytes) = rw (← same) copy in
@@ -30,5 +31,7 @@ lost_piece old mid new lost buffer n most before piece count = (
 pub Appends-piece : (old mid new : Option (List ℕ)) (bytes : List ℕ) (i n : ℕ) → Appends old mid (take i bytes) →
     Appends mid new (take n (take (length bytes - i) (drop i bytes))) → Appends old new (take (i + n) bytes)
 Appends-piece old mid new bytes i n before added =
-    let here : Appends mid new (take n (drop i bytes)) = subst (λ (w : List ℕ). Appends mid new (take n w)) (take_rest bytes i) added in
-    subst (Appends old new) (sym (take-add i n bytes)) (Appends-trans old mid new (take i bytes) (take n (drop i bytes)) before here)
+    let here : Appends mid new (take n (drop i bytes)) = subst
+    (λ (w : List ℕ). Appends mid new (take n w)) (take_rest bytes i) added in
+    subst (Appends old new) (sym (take-add i n bytes))
+    (Appends-trans old mid new (take i bytes) (take n (drop i bytes)) before here)

@@ -14,7 +14,8 @@ use Rattle.fst_kinds.specs.Faults.{Need, single, node, needs, needs_all, Fails, 
 use Rattle.fst_kinds.proofs.FaultLaws.{walk_fault}
 
 -- what is asked of a node doesn't fail by a variable that is there
-node_bound : {vars : List Kind} {t : Tree} {f : KindFault} → Fails vars (node t) f → (k : ℕ) → HasVariablesBelow (length vars) t → f ≡ UnboundType k → ⊥
+node_bound : {vars : List Kind} {t : Tree} {f : KindFault} → Fails vars (node t) f →
+    (k : ℕ) → HasVariablesBelow (length vars) t → f ≡ UnboundType k → ⊥
 node_bound (wrong w) k h is = absurd (cc is)
 node_bound (unguarded g r) k h is = absurd (cc is)
 node_bound {vars} (unbound {n} e) k h is = absurd (cc (sym (slice_get-get_or vars n (session Once) h) ∙ e))
@@ -28,11 +29,13 @@ abbrev NoneUnbound : List Kind → ℕ → List Need → Type 0
 NoneUnbound vars k [] = ⊤
 NoneUnbound vars k (n ∷ ns) = ((f : KindFault) → Fails vars n f → f ≢ UnboundType k) × NoneUnbound vars k ns
 
-bound_together : (vars : List Kind) (k : ℕ) (ns ms : List Need) → NoneUnbound vars k ns → NoneUnbound vars k ms → NoneUnbound vars k (ns ++ ms)
+bound_together : (vars : List Kind) (k : ℕ) (ns ms : List Need) → NoneUnbound vars k ns → NoneUnbound vars k ms →
+    NoneUnbound vars k (ns ++ ms)
 bound_together vars k [] ms a b = b
 bound_together vars k (n ∷ ns) ms a b = (a.0, bound_together vars k ns ms a.1 b)
 
-first_bound : (vars : List Kind) (k : ℕ) (ns : List Need) (f : KindFault) → NoneUnbound vars k ns → IsFirstFailure vars ns f → f ≢ UnboundType k
+first_bound : (vars : List Kind) (k : ℕ) (ns : List Need) (f : KindFault) → NoneUnbound vars k ns → IsFirstFailure vars ns f →
+    f ≢ UnboundType k
 first_bound vars k [] f a h = absurd h
 first_bound vars k (n ∷ ns) f a (inl h) = a.0 f h
 first_bound vars k (n ∷ ns) f a (inr h) = first_bound vars k ns f a.1 h.1
@@ -41,11 +44,14 @@ module _ (vars : List Kind) (k : ℕ) where
   own : (t : Tree) → HasVariablesBelow (length vars) t → NoneUnbound vars k (node t ∷ [])
   own t h = (λ f x. node_bound x k h, tt)
 
-  choice : (bs : Branches) (t : Tree) → HasVariablesBelow (length vars) t → NoneUnbound vars k (needs_all bs) → NoneUnbound vars k (single bs ∷ (needs_all bs ++ node t ∷ []))
+  choice : (bs : Branches) (t : Tree) → HasVariablesBelow (length vars) t → NoneUnbound vars k (needs_all bs) →
+      NoneUnbound vars k (single bs ∷ (needs_all bs ++ node t ∷ []))
   choice bs t h all = (λ f x. single_bound x k, bound_together vars k (needs_all bs) (node t ∷ []) all (own t h))
 
-  two : (s r t : Tree) → HasVariablesBelow (length vars) t → NoneUnbound vars k (needs s) → NoneUnbound vars k (needs r) → NoneUnbound vars k (needs s ++ (needs r ++ node t ∷ []))
-  two s r t h a b = bound_together vars k (needs s) (needs r ++ node t ∷ []) a (bound_together vars k (needs r) (node t ∷ []) b (own t h))
+  two : (s r t : Tree) → HasVariablesBelow (length vars) t → NoneUnbound vars k (needs s) → NoneUnbound vars k (needs r) →
+      NoneUnbound vars k (needs s ++ (needs r ++ node t ∷ []))
+  two s r t h a b = bound_together vars k (needs s) (needs r ++ node t ∷ []) a
+      (bound_together vars k (needs r) (node t ∷ []) b (own t h))
 
   mutual
     -- nothing that is asked of a type whose variables are there fails by one
@@ -69,7 +75,8 @@ module _ (vars : List Kind) (k : ℕ) where
     all_bound (branch l s bs) h = bound_together vars k (needs s) (needs_all bs) (type_bound s h.0) (all_bound bs h.1)
 
 -- the first fault of a type whose variables are there is no unbound variable
-pub never_unbound : (vars : List Kind) (t : Tree) (f : KindFault) (k : ℕ) → HasVariablesBelow (length vars) t → IsFirstFault vars t f → f ≢ UnboundType k
+pub never_unbound : (vars : List Kind) (t : Tree) (f : KindFault) (k : ℕ) → HasVariablesBelow (length vars) t →
+    IsFirstFault vars t f → f ≢ UnboundType k
 never_unbound vars t f k h first = first_bound vars k (needs t) f (type_bound vars k t h) first
 
 -- nor does the walk find one

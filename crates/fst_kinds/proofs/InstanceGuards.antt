@@ -31,7 +31,8 @@ instantiated_guards args (pair s r) e = e
 instantiated_guards args (named k) e = e
 
 -- no further recursion variable is reached
-pub instantiated_unreached : (args : List Tree) (s : Tree) (j : ℕ) → ArgumentsHave (IsScoped 0) args → reaches s j ≡ false → reaches (instantiated args s) j ≡ false
+pub instantiated_unreached : (args : List Tree) (s : Tree) (j : ℕ) → ArgumentsHave (IsScoped 0) args → reaches s j ≡ false →
+    reaches (instantiated args s) j ≡ false
 instantiated_unreached args skip j ok e = refl
 instantiated_unreached args (send b) j ok e = refl
 instantiated_unreached args (receive b) j ok e = refl
@@ -41,10 +42,12 @@ instantiated_unreached args (seq s r) j ok e =
     let both = or_parts (reaches s j) (not (guards s) && reaches r j) e in
     pick (instantiated_unreached args s j ok both.0) (instantiated_unreached args r j ok) (guards s) refl both.1
   where
-    pick : reaches (instantiated args s) j ≡ false → (reaches r j ≡ false → reaches (instantiated args r) j ≡ false) → (b : Bool) → guards s ≡ b → not b && reaches r j ≡ false →
+    pick : reaches (instantiated args s) j ≡ false → (reaches r j ≡ false → reaches (instantiated args r) j ≡ false) →
+        (b : Bool) → guards s ≡ b → not b && reaches r j ≡ false →
         reaches (instantiated args s) j || (not (guards (instantiated args s)) && reaches (instantiated args r) j) ≡ false
     pick first second true is e = λ i. first i || (not (instantiated_guards args s is i) && reaches (instantiated args r) j)
-    pick first second false is e = (λ i. first i || (not (guards (instantiated args s)) && second e i)) ∙ and-false (not (guards (instantiated args s)))
+    pick first second false is e = (λ i. first i || (not (guards (instantiated args s)) && second e i))
+        ∙ and-false (not (guards (instantiated args s)))
 instantiated_unreached args (rec s) j ok e = instantiated_unreached args s (suc j) ok e
 instantiated_unreached args (back k) j ok e = e
 instantiated_unreached args (var k) j ok e = unreached (argument args k) 0 j (ok k) (omega arith)
@@ -55,21 +58,28 @@ instantiated_unreached args (named k) j ok e = refl
 
 mutual
   -- an instance of a contractive type by contractive types without free recursion variables is contractive
-  pub instantiated_contractive : (args : List Tree) (s : Tree) → ArgumentsHave (IsScoped 0) args → ArgumentsHave IsContractive args → IsContractive s → IsContractive (instantiated args s)
+  pub instantiated_contractive : (args : List Tree) (s : Tree) → ArgumentsHave (IsScoped 0) args →
+      ArgumentsHave IsContractive args → IsContractive s → IsContractive (instantiated args s)
   instantiated_contractive args skip ok d e = tt
   instantiated_contractive args (send b) ok d e = tt
   instantiated_contractive args (receive b) ok d e = tt
   instantiated_contractive args (select bs) ok d e = instantiated_all_contractive args bs ok d e
   instantiated_contractive args (offer bs) ok d e = instantiated_all_contractive args bs ok d e
-  instantiated_contractive args (seq s r) ok d e = (instantiated_contractive args s ok d e.0, instantiated_contractive args r ok d e.1)
-  instantiated_contractive args (rec s) ok d e = (instantiated_contractive args s ok d e.0, instantiated_unreached args s 0 ok e.1)
+  instantiated_contractive args (seq s r) ok d e =
+      (instantiated_contractive args s ok d e.0, instantiated_contractive args r ok d e.1)
+  instantiated_contractive args (rec s) ok d e =
+      (instantiated_contractive args s ok d e.0, instantiated_unreached args s 0 ok e.1)
   instantiated_contractive args (back k) ok d e = tt
   instantiated_contractive args (var k) ok d e = d k
   instantiated_contractive args (plain b) ok d e = tt
-  instantiated_contractive args (arrow u s r) ok d e = (instantiated_contractive args s ok d e.0, instantiated_contractive args r ok d e.1)
-  instantiated_contractive args (pair s r) ok d e = (instantiated_contractive args s ok d e.0, instantiated_contractive args r ok d e.1)
+  instantiated_contractive args (arrow u s r) ok d e =
+      (instantiated_contractive args s ok d e.0, instantiated_contractive args r ok d e.1)
+  instantiated_contractive args (pair s r) ok d e =
+      (instantiated_contractive args s ok d e.0, instantiated_contractive args r ok d e.1)
   instantiated_contractive args (named k) ok d e = tt
 
-  instantiated_all_contractive : (args : List Tree) (bs : Branches) → ArgumentsHave (IsScoped 0) args → ArgumentsHave IsContractive args → AllContractive bs → AllContractive (instantiated_all args bs)
+  instantiated_all_contractive : (args : List Tree) (bs : Branches) → ArgumentsHave (IsScoped 0) args →
+      ArgumentsHave IsContractive args → AllContractive bs → AllContractive (instantiated_all args bs)
   instantiated_all_contractive args none ok d e = tt
-  instantiated_all_contractive args (branch l s bs) ok d e = (instantiated_contractive args s ok d e.0, instantiated_all_contractive args bs ok d e.1)
+  instantiated_all_contractive args (branch l s bs) ok d e =
+      (instantiated_contractive args s ok d e.0, instantiated_all_contractive args bs ok d e.1)

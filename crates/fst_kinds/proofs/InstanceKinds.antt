@@ -34,10 +34,12 @@ session_within j u e =
 
 -- the prekind of a kind below that of a session type
 session_prekind : (j k : Kind) → subkind j k ≡ true → k.prekind ≡ Session → j.prekind ≡ Session
-session_prekind j k e is = below_prekind j.prekind k.prekind (and_parts (prekind_below j.prekind k.prekind) (use_below j.uses k.uses) e).0 is
+session_prekind j k e is = below_prekind j.prekind k.prekind
+    (and_parts (prekind_below j.prekind k.prekind) (use_below j.uses k.uses) e).0 is
 
 -- what a variable of a kind gets
-pub put_at : (outer vars : List Kind) (args : List Tree) (n : ℕ) (k : Kind) → IsInstantiation outer vars args → slice_get vars n ≡ Some k →
+pub put_at : (outer vars : List Kind) (args : List Tree) (n : ℕ) (k : Kind) → IsInstantiation outer vars args →
+    slice_get vars n ≡ Some k →
     (t : Tree) × (slice_get args n ≡ Some t) × IsInstance outer k t
 put_at outer [] [] n k c e = absurd (cc e)
 put_at outer [] (t ∷ args) n k c e = absurd c
@@ -47,13 +49,16 @@ put_at outer (i ∷ vars) (t ∷ args) zero k c e =
     (t, refl, subst (λ j. IsInstance outer j t) is c.0)
 put_at outer (i ∷ vars) (t ∷ args) (suc n) k c e = put_at outer vars args n k c.1 e
 
-put_argument : (outer vars : List Kind) (args : List Tree) (n : ℕ) (k : Kind) → IsInstantiation outer vars args → slice_get vars n ≡ Some k → IsInstance outer k (argument args n)
+put_argument : (outer vars : List Kind) (args : List Tree) (n : ℕ) (k : Kind) → IsInstantiation outer vars args →
+    slice_get vars n ≡ Some k → IsInstance outer k (argument args n)
 put_argument outer vars args n k c e =
     let found = put_at outer vars args n k c e in
     let is : found.0 ≡ argument args n = ap (λ o. unwrap_or o (var n)) (sym found.1) in
     subst (λ t. IsInstance outer k t) is found.2
 
-got : (P : Tree → Type 0) (outer vars : List Kind) (args : List Tree) → ((t : Tree) (i : Kind) → IsWellFormed outer t i → P t) → IsInstantiation outer vars args → (t : Tree) → P t → (k : ℕ) → P (unwrap_or (slice_get args k) t)
+got : (P : Tree → Type 0) (outer vars : List Kind) (args : List Tree) →
+    ((t : Tree) (i : Kind) → IsWellFormed outer t i → P t) → IsInstantiation outer vars args → (t : Tree) → P t →
+    (k : ℕ) → P (unwrap_or (slice_get args k) t)
 got P outer [] [] f c t h k = h
 got P outer [] (x ∷ args) f c t h k = absurd c
 got P outer (i ∷ vars) [] f c t h k = absurd c
@@ -61,7 +66,8 @@ got P outer (i ∷ vars) (x ∷ args) f c t h zero = f x c.0.kind c.0.well_forme
 got P outer (i ∷ vars) (x ∷ args) f c t h (suc k) = got P outer vars args f c.1 t h k
 
 -- what holds of variables and of well-formed types holds of all that an instantiation puts for variables
-pub put_have : (P : Tree → Type 0) (outer vars : List Kind) (args : List Tree) → ((k : ℕ) → P (var k)) → ((t : Tree) (i : Kind) → IsWellFormed outer t i → P t) →
+pub put_have : (P : Tree → Type 0) (outer vars : List Kind) (args : List Tree) → ((k : ℕ) → P (var k)) →
+    ((t : Tree) (i : Kind) → IsWellFormed outer t i → P t) →
     IsInstantiation outer vars args → ArgumentsHave P args
 put_have P outer vars args v f c k = got P outer vars args f c (var k) (v k) k
 
@@ -71,12 +77,15 @@ KindBelow outer k t = (j : Kind) × HasKind outer t j × (subkind j k ≡ true)
 
 mutual
   -- an instance has a kind below that of the type
-  pub instantiated_kind : (outer vars : List Kind) (args : List Tree) (s : Tree) (k : Kind) → IsInstantiation outer vars args → HasKind vars s k → KindBelow outer k (instantiated args s)
+  pub instantiated_kind : (outer vars : List Kind) (args : List Tree) (s : Tree) (k : Kind) → IsInstantiation outer vars args →
+      HasKind vars s k → KindBelow outer k (instantiated args s)
   instantiated_kind outer vars args skip k c h = (k, h, subkind_itself k)
   instantiated_kind outer vars args (send b) k c h = (k, h, subkind_itself k)
   instantiated_kind outer vars args (receive b) k c h = (k, h, subkind_itself k)
-  instantiated_kind outer vars args (select bs) k c h = (k, (instantiated_sessions outer vars args bs c h.0, h.1), subkind_itself k)
-  instantiated_kind outer vars args (offer bs) k c h = (k, (instantiated_sessions outer vars args bs c h.0, h.1), subkind_itself k)
+  instantiated_kind outer vars args (select bs) k c h =
+      (k, (instantiated_sessions outer vars args bs c h.0, h.1), subkind_itself k)
+  instantiated_kind outer vars args (offer bs) k c h =
+      (k, (instantiated_sessions outer vars args bs c h.0, h.1), subkind_itself k)
   instantiated_kind outer vars args (seq s r) k c h =
       let first = instantiated_kind outer vars args s (session h.0) c h.2 in
       let second = instantiated_kind outer vars args r (session h.1) c h.3 in
@@ -84,7 +93,14 @@ mutual
       let j = session_within second.0 h.1 second.2 in
       let u = join first.0.uses second.0.uses in (
         session u,
-        (first.0.uses, second.0.uses, subst (λ x. HasKind outer (instantiated args s) x) i.0 first.1, subst (λ x. HasKind outer (instantiated args r) x) j.0 second.1, refl),
+        (
+          first.0.uses,
+          second.0.uses,
+          subst (λ x. HasKind outer (instantiated args s) x) i.0 first.1,
+          subst
+              (λ x. HasKind outer (instantiated args r) x) j.0 second.1,
+          refl,
+        ),
         subst (λ x. subkind (session u) x ≡ true) (sym h.4) (join_below first.0.uses second.0.uses h.0 h.1 i.1 j.1),
       )
   instantiated_kind outer vars args (rec s) k c h =
@@ -111,9 +127,12 @@ mutual
       )
   instantiated_kind outer vars args (named n) k c h = (k, h, subkind_itself k)
 
-  instantiated_sessions : (outer vars : List Kind) (args : List Tree) (bs : Branches) → IsInstantiation outer vars args → AllSessions vars bs → AllSessions outer (instantiated_all args bs)
+  instantiated_sessions : (outer vars : List Kind) (args : List Tree) (bs : Branches) → IsInstantiation outer vars args →
+      AllSessions vars bs → AllSessions outer (instantiated_all args bs)
   instantiated_sessions outer vars args none c h = tt
   instantiated_sessions outer vars args (branch l s bs) c h =
       let first = instantiated_kind outer vars args s (session h.0.0) c h.0.1 in
-      let i = session_within first.0 h.0.0 first.2 in
-      ((first.0.uses, subst (λ x. HasKind outer (instantiated args s) x) i.0 first.1), instantiated_sessions outer vars args bs c h.1)
+      let i = session_within first.0 h.0.0 first.2 in (
+        (first.0.uses, subst (λ x. HasKind outer (instantiated args s) x) i.0 first.1),
+        instantiated_sessions outer vars args bs c h.1,
+      )

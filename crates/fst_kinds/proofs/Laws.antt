@@ -48,7 +48,8 @@ pub unreached : (s : Tree) (n k : ℕ) → IsScoped n s → n ≤ k → reaches 
 unreached = guard.unreached
 
 -- a type that guards still does, where all that is put in guards
-pub substitute_guards : (n : ℕ) (env : List (Option Tree)) (s : Tree) → GuardsTo n env → IsScoped n s → guards s ≡ true → guards (substitute env s) ≡ true
+pub substitute_guards : (n : ℕ) (env : List (Option Tree)) (s : Tree) → GuardsTo n env → IsScoped n s → guards s ≡ true →
+    guards (substitute env s) ≡ true
 substitute_guards = guard.substitute_guards
 
 -- a session type is an open one in which no variable may be free
@@ -68,15 +69,18 @@ pub open_body : (vars : List Kind) (n : ℕ) (s : Tree) → IsOpenSession vars n
 open_body = session_part.open_body
 
 -- in a body that guards nothing no variable is free
-pub unguarded_body : (vars : List Kind) (n : ℕ) (s : Tree) → IsOpenSession vars n (rec s) → guards s ≡ false → IsOpenSession vars 0 s
+pub unguarded_body : (vars : List Kind) (n : ℕ) (s : Tree) → IsOpenSession vars n (rec s) → guards s ≡ false →
+    IsOpenSession vars 0 s
 unguarded_body = session_part.unguarded_body
 
 -- an open session type with session types for its variables is a session type
-pub substitute_session : (vars : List Kind) (n : ℕ) (env : List (Option Tree)) (s : Tree) → IsPut vars n env → IsOpenSession vars n s → IsSession vars (substitute env s)
+pub substitute_session : (vars : List Kind) (n : ℕ) (env : List (Option Tree)) (s : Tree) → IsPut vars n env →
+    IsOpenSession vars n s → IsSession vars (substitute env s)
 substitute_session = session_part.substitute_session
 
 -- the unfolding of a contractive type without free variables is contractive
-pub unfolding_of_contractive : (vars : List Kind) (s : Tree) (k : Kind) → HasKind vars (rec s) k → IsScoped 0 (rec s) → IsContractive (rec s) → IsContractive (unfolding_of s)
+pub unfolding_of_contractive : (vars : List Kind) (s : Tree) (k : Kind) → HasKind vars (rec s) k → IsScoped 0 (rec s) →
+    IsContractive (rec s) → IsContractive (unfolding_of s)
 unfolding_of_contractive = unfoldings.unfolding_of_contractive
 
 -- an unfolding has exactly the kind of the type
@@ -84,11 +88,13 @@ pub unfolding_of_kind : (vars : List Kind) (s : Tree) (k : Kind) → HasKind var
 unfolding_of_kind = unfoldings.unfolding_of_kind
 
 -- the unfolding of a well-formed type is well formed, of the same kind
-pub unfolding_of_well_formed : (vars : List Kind) (s : Tree) (k : Kind) → IsWellFormed vars (rec s) k → IsWellFormed vars (unfolding_of s) k
+pub unfolding_of_well_formed : (vars : List Kind) (s : Tree) (k : Kind) → IsWellFormed vars (rec s) k →
+    IsWellFormed vars (unfolding_of s) k
 unfolding_of_well_formed = unfoldings.unfolding_of_well_formed
 
 -- what holds of variables and of well-formed types holds of all that an instantiation puts for variables
-pub put_have : (P : Tree → Type 0) (outer vars : List Kind) (args : List Tree) → ((k : ℕ) → P (var k)) → ((t : Tree) (i : Kind) → IsWellFormed outer t i → P t) →
+pub put_have : (P : Tree → Type 0) (outer vars : List Kind) (args : List Tree) → ((k : ℕ) → P (var k)) →
+    ((t : Tree) (i : Kind) → IsWellFormed outer t i → P t) →
     IsInstantiation outer vars args → ArgumentsHave P args
 put_have = instance_kinds.put_have
 
@@ -97,11 +103,13 @@ pub put_scoped : (outer vars : List Kind) (args : List Tree) → IsInstantiation
 put_scoped = instance_part.put_scoped
 
 -- an instance of a session type is a session type
-pub instantiated_session : (outer vars : List Kind) (args : List Tree) (s : Tree) → IsInstantiation outer vars args → IsSession vars s → IsSession outer (instantiated args s)
+pub instantiated_session : (outer vars : List Kind) (args : List Tree) (s : Tree) → IsInstantiation outer vars args →
+    IsSession vars s → IsSession outer (instantiated args s)
 instantiated_session = instance_part.instantiated_session
 
 -- where each variable of a type is one of those that vars has the kinds of, the first fault of the type is no unbound variable
-pub never_unbound : (vars : List Kind) (t : Tree) (f : KindFault) (k : ℕ) → HasVariablesBelow (length vars) t → IsFirstFault vars t f → f ≢ UnboundType k
+pub never_unbound : (vars : List Kind) (t : Tree) (f : KindFault) (k : ℕ) → HasVariablesBelow (length vars) t →
+    IsFirstFault vars t f → f ≢ UnboundType k
 never_unbound = bound.never_unbound
 
 -- nor does the walk find one

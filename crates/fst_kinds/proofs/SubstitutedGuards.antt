@@ -21,7 +21,8 @@ not_top u v e =
     absurd (cc is)
 
 -- a session type that guards nothing has no free variables
-pub unguarded_scoped : (vars : List Kind) (n : ℕ) (s : Tree) (u : Use) → HasKind vars s (session u) → guards s ≡ false → IsScoped n s
+pub unguarded_scoped : (vars : List Kind) (n : ℕ) (s : Tree) (u : Use) → HasKind vars s (session u) → guards s ≡ false →
+    IsScoped n s
 unguarded_scoped vars n skip u h e = tt
 unguarded_scoped vars n (send b) u h e = tt
 unguarded_scoped vars n (receive b) u h e = tt
@@ -56,7 +57,8 @@ unreached (arrow u s r) n k h le = refl
 unreached (pair s r) n k h le = refl
 unreached (named j) n k h le = refl
 
-variable_guards : (n : ℕ) (env : List (Option Tree)) (k : ℕ) (t : Tree) → GuardsTo n env → k < n → guards t ≡ true → guards (variable env k t) ≡ true
+variable_guards : (n : ℕ) (env : List (Option Tree)) (k : ℕ) (t : Tree) → GuardsTo n env → k < n → guards t ≡ true →
+    guards (variable env k t) ≡ true
 variable_guards zero env k t g lt h = absurd (omega arith)
 variable_guards (suc n) [] k t g lt h = h
 variable_guards (suc n) (None ∷ env) zero t g lt h = h
@@ -64,13 +66,15 @@ variable_guards (suc n) (Some s ∷ env) zero t g lt h = g.0
 variable_guards (suc n) (o ∷ env) (suc k) t g lt h = variable_guards n env k t g.1 (omega arith) h
 
 -- a type that guards still does, where all that is put in guards
-pub substitute_guards : (n : ℕ) (env : List (Option Tree)) (s : Tree) → GuardsTo n env → IsScoped n s → guards s ≡ true → guards (substitute env s) ≡ true
+pub substitute_guards : (n : ℕ) (env : List (Option Tree)) (s : Tree) → GuardsTo n env → IsScoped n s → guards s ≡ true →
+    guards (substitute env s) ≡ true
 substitute_guards n env skip g h e = e
 substitute_guards n env (send b) g h e = refl
 substitute_guards n env (receive b) g h e = refl
 substitute_guards n env (select bs) g h e = refl
 substitute_guards n env (offer bs) g h e = refl
-substitute_guards n env (seq s r) g h e = pick (substitute_guards n env s g h.0) (substitute_guards n env r g h.1) (guards s) refl e
+substitute_guards n env (seq s r) g h e = pick (substitute_guards n env s g h.0) (substitute_guards n env r g h.1)
+    (guards s) refl e
   where
     pick : (guards s ≡ true → guards (substitute env s) ≡ true) → (guards r ≡ true → guards (substitute env r) ≡ true) →
         (c : Bool) → guards s ≡ c → c || guards r ≡ true → guards (substitute env s) || guards (substitute env r) ≡ true
@@ -84,7 +88,8 @@ substitute_guards n env (arrow u s r) g h e = e
 substitute_guards n env (pair s r) g h e = e
 substitute_guards n env (named k) g h e = e
 
-variable_unreached : (env : List (Option Tree)) (k j : ℕ) (t : Tree) → EnvHas (IsScoped 0) env → reaches t j ≡ false → reaches (variable env k t) j ≡ false
+variable_unreached : (env : List (Option Tree)) (k j : ℕ) (t : Tree) → EnvHas (IsScoped 0) env → reaches t j ≡ false →
+    reaches (variable env k t) j ≡ false
 variable_unreached [] k j t c h = h
 variable_unreached (None ∷ env) zero j t c h = h
 variable_unreached (Some s ∷ env) zero j t c h = unreached s 0 j c.0 (omega arith)
@@ -102,10 +107,12 @@ substitute_unreached n env (seq s r) j g c h e =
     let both = or_parts (reaches s j) (not (guards s) && reaches r j) e in
     pick (substitute_unreached n env s j g c h.0 both.0) (substitute_unreached n env r j g c h.1) (guards s) refl both.1
   where
-    pick : reaches (substitute env s) j ≡ false → (reaches r j ≡ false → reaches (substitute env r) j ≡ false) → (b : Bool) → guards s ≡ b → not b && reaches r j ≡ false →
+    pick : reaches (substitute env s) j ≡ false → (reaches r j ≡ false → reaches (substitute env r) j ≡ false) →
+        (b : Bool) → guards s ≡ b → not b && reaches r j ≡ false →
         reaches (substitute env s) j || (not (guards (substitute env s)) && reaches (substitute env r) j) ≡ false
     pick first second true is e = λ i. first i || (not (substitute_guards n env s g h.0 is i) && reaches (substitute env r) j)
-    pick first second false is e = (λ i. first i || (not (guards (substitute env s)) && second e i)) ∙ and-false (not (guards (substitute env s)))
+    pick first second false is e = (λ i. first i || (not (guards (substitute env s)) && second e i))
+        ∙ and-false (not (guards (substitute env s)))
 substitute_unreached n env (rec s) j g c h e = substitute_unreached (suc n) (None ∷ env) s (suc j) (tt, g) (tt, c) h e
 substitute_unreached n env (back k) j g c h e = variable_unreached env k j (back k) c e
 substitute_unreached n env (var k) j g c h e = refl
@@ -117,13 +124,15 @@ substitute_unreached n env (named k) j g c h e = refl
 mutual
   -- a contractive type stays so where all that is put in is contractive, guards and has no free variables
   pub substitute_contractive : (n : ℕ) (env : List (Option Tree)) (s : Tree) →
-      GuardsTo n env → EnvHas (IsScoped 0) env → EnvHas IsContractive env → IsScoped n s → IsContractive s → IsContractive (substitute env s)
+      GuardsTo n env → EnvHas (IsScoped 0) env → EnvHas IsContractive env → IsScoped n s → IsContractive s →
+      IsContractive (substitute env s)
   substitute_contractive n env skip g c d h e = tt
   substitute_contractive n env (send b) g c d h e = tt
   substitute_contractive n env (receive b) g c d h e = tt
   substitute_contractive n env (select bs) g c d h e = substitute_all_contractive n env bs g c d h e
   substitute_contractive n env (offer bs) g c d h e = substitute_all_contractive n env bs g c d h e
-  substitute_contractive n env (seq s r) g c d h e = (substitute_contractive n env s g c d h.0 e.0, substitute_contractive n env r g c d h.1 e.1)
+  substitute_contractive n env (seq s r) g c d h e =
+      (substitute_contractive n env s g c d h.0 e.0, substitute_contractive n env r g c d h.1 e.1)
   substitute_contractive n env (rec s) g c d h e = (
     substitute_contractive (suc n) (None ∷ env) s (tt, g) (tt, c) (tt, d) h e.0,
     substitute_unreached (suc n) (None ∷ env) s 0 (tt, g) (tt, c) h e.1,
@@ -131,11 +140,15 @@ mutual
   substitute_contractive n env (back k) g c d h e = variable_has IsContractive env k (back k) d tt
   substitute_contractive n env (var k) g c d h e = tt
   substitute_contractive n env (plain b) g c d h e = tt
-  substitute_contractive n env (arrow u s r) g c d h e = (substitute_contractive n env s g c d h.0 e.0, substitute_contractive n env r g c d h.1 e.1)
-  substitute_contractive n env (pair s r) g c d h e = (substitute_contractive n env s g c d h.0 e.0, substitute_contractive n env r g c d h.1 e.1)
+  substitute_contractive n env (arrow u s r) g c d h e =
+      (substitute_contractive n env s g c d h.0 e.0, substitute_contractive n env r g c d h.1 e.1)
+  substitute_contractive n env (pair s r) g c d h e =
+      (substitute_contractive n env s g c d h.0 e.0, substitute_contractive n env r g c d h.1 e.1)
   substitute_contractive n env (named k) g c d h e = tt
 
   substitute_all_contractive : (n : ℕ) (env : List (Option Tree)) (bs : Branches) →
-      GuardsTo n env → EnvHas (IsScoped 0) env → EnvHas IsContractive env → AllScoped n bs → AllContractive bs → AllContractive (substitute_all env bs)
+      GuardsTo n env → EnvHas (IsScoped 0) env → EnvHas IsContractive env → AllScoped n bs → AllContractive bs →
+      AllContractive (substitute_all env bs)
   substitute_all_contractive n env none g c d h e = tt
-  substitute_all_contractive n env (branch l s bs) g c d h e = (substitute_contractive n env s g c d h.0 e.0, substitute_all_contractive n env bs g c d h.1 e.1)
+  substitute_all_contractive n env (branch l s bs) g c d h e =
+      (substitute_contractive n env s g c d h.0 e.0, substitute_all_contractive n env bs g c d h.1 e.1)

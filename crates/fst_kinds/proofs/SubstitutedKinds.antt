@@ -36,7 +36,8 @@ join_below Many Once Once b e f = refl
 join_below Once v Many b e f = absurd (cc e)
 join_below Once v Once b e f = refl
 
-join_within : (u v w a b : Use) → use_below a (join u w) ≡ true → use_below b (join v w) ≡ true → use_below (join a b) (join (join u v) w) ≡ true
+join_within : (u v w a b : Use) → use_below a (join u w) ≡ true → use_below b (join v w) ≡ true →
+    use_below (join a b) (join (join u v) w) ≡ true
 join_within Many Many w Many b e f = f
 join_within Many Many w Once b e f = e
 join_within Many Once w Many Many e f = refl
@@ -66,8 +67,13 @@ variable_kind : (vars : List Kind) (w : Use) (env : List (Option Tree)) (n : ℕ
 variable_kind vars w [] n t k e h is = same_kind vars w k t h
 variable_kind vars w (None ∷ env) zero t k e h is = same_kind vars w k t h
 variable_kind vars w (Some s ∷ env) zero t k e h is =
-    let u = e.0.0 in
-    (u, subst (λ i. HasKind vars s (used i u)) (sym is) e.0.1, subst (λ i. use_below i.uses u ≡ true) (sym is) refl, subst (λ i. use_below u (join i.uses w) ≡ true) (sym is) e.0.2)
+    let u = e.0.0 in (
+      u,
+      subst (λ i. HasKind vars s (used i u)) (sym is) e.0.1,
+      subst (λ i. use_below i.uses u ≡ true) (sym is) refl,
+      subst
+          (λ i. use_below u (join i.uses w) ≡ true) (sym is) e.0.2,
+    )
 variable_kind vars w (o ∷ env) (suc n) t k e h is = variable_kind vars w env n t k e.1 h is
 
 mutual
@@ -77,8 +83,10 @@ mutual
   substitute_kind vars w env skip k e h = same_kind vars w k skip h
   substitute_kind vars w env (send b) k e h = same_kind vars w k (send b) h
   substitute_kind vars w env (receive b) k e h = same_kind vars w k (receive b) h
-  substitute_kind vars w env (select bs) k e h = same_kind vars w k (select (substitute_all env bs)) (substitute_sessions vars w env bs e h.0, h.1)
-  substitute_kind vars w env (offer bs) k e h = same_kind vars w k (offer (substitute_all env bs)) (substitute_sessions vars w env bs e h.0, h.1)
+  substitute_kind vars w env (select bs) k e h =
+      same_kind vars w k (select (substitute_all env bs)) (substitute_sessions vars w env bs e h.0, h.1)
+  substitute_kind vars w env (offer bs) k e h =
+      same_kind vars w k (offer (substitute_all env bs)) (substitute_sessions vars w env bs e h.0, h.1)
   substitute_kind vars w env (seq s r) k e h =
       let u = h.0 in
       let v = h.1 in
@@ -100,7 +108,8 @@ mutual
   substitute_kind vars w env (arrow u s r) k e h =
       let first = substitute_kind vars w env s h.0.0 e h.0.1 in
       let second = substitute_kind vars w env r h.1.0 e h.1.1 in
-      same_kind vars w k (arrow u (substitute env s) (substitute env r)) ((used h.0.0 first.0, first.1), (used h.1.0 second.0, second.1), h.2)
+      same_kind vars w k (arrow u (substitute env s) (substitute env r))
+      ((used h.0.0 first.0, first.1), (used h.1.0 second.0, second.1), h.2)
   substitute_kind vars w env (pair s r) k e h =
       let i = h.0 in
       let j = h.1 in
@@ -135,7 +144,10 @@ below_once Once = refl
 
 -- a type in which session types are put for recursion variables has a kind, with the same prekind
 pub substitute_prekind : (vars : List Kind) (env : List (Option Tree)) (s : Tree) (k : Kind) →
-    EnvHas (λ t. (u : Use) × HasKind vars t (session u)) env → HasKind vars s k → (j : Kind) × HasKind vars (substitute env s) j × (j.prekind ≡ k.prekind)
+    EnvHas (λ t. (u : Use) × HasKind vars t (session u)) env → HasKind vars s k → (j : Kind) × HasKind vars (substitute env s) j ×
+    (j.prekind ≡ k.prekind)
 substitute_prekind vars env s k e h =
-    let found = substitute_kind vars Once env s k (env_has (λ t. (u : Use) × HasKind vars t (session u)) (SessionUpTo vars Once) (λ t i. (i.0, i.1, below_once i.0)) env e) h in
+    let found = substitute_kind vars Once env s k
+    (env_has (λ t. (u : Use) × HasKind vars t (session u)) (SessionUpTo vars Once) (λ t i. (i.0, i.1, below_once i.0)) env e)
+    h in
     (used k found.0, found.1, refl)

@@ -26,7 +26,8 @@ unfolding_of_kind vars s k h =
     subst (λ u. HasKind vars (unfolding_of s) (used k u)) (use_antisymmetric found.0 k.uses within found.2) found.1
 
 -- an unfolding of a contractive session type is contractive
-pub unfolding_of_contractive : (vars : List Kind) (s : Tree) (k : Kind) → HasKind vars (rec s) k → IsScoped 0 (rec s) → IsContractive (rec s) → IsContractive (unfolding_of s)
+pub unfolding_of_contractive : (vars : List Kind) (s : Tree) (k : Kind) → HasKind vars (rec s) k → IsScoped 0 (rec s) →
+    IsContractive (rec s) → IsContractive (unfolding_of s)
 unfolding_of_contractive vars s k h o c = pick (guards s) refl
   where
     put : (n : ℕ) → GuardsTo n (Some (rec s) ∷ []) → IsScoped n s → IsContractive (unfolding_of s)
@@ -37,7 +38,8 @@ unfolding_of_contractive vars s k h o c = pick (guards s) refl
     pick false is = put 0 tt (unguarded_scoped vars 0 s k.uses (subst (λ j. HasKind vars s j) (session_of k h.1) h.0) is)
 
 -- an unfolding of a well-formed type is well formed, of the same kind
-pub unfolding_of_well_formed : (vars : List Kind) (s : Tree) (k : Kind) → IsWellFormed vars (rec s) k → IsWellFormed vars (unfolding_of s) k
+pub unfolding_of_well_formed : (vars : List Kind) (s : Tree) (k : Kind) → IsWellFormed vars (rec s) k →
+    IsWellFormed vars (unfolding_of s) k
 unfolding_of_well_formed vars s k w = record {
   kinded = unfolding_of_kind vars s k w.kinded;
   contractive = unfolding_of_contractive vars s k w.kinded w.scoped w.contractive;

@@ -61,16 +61,20 @@ session_parts (named n) = []
 abbrev pub IsFirstWrong : List Kind → List Tree → Kind → Type 0
 IsFirstWrong vars [] k = ⊥
 IsFirstWrong vars (s ∷ ss) k =
-    (HasKind vars s k × (subkind k (session Once) ≡ false)) ⊎ (HasSessionKind vars s × IsFirstWrong vars ss k)
+    (HasKind vars s k × (subkind k (session Once) ≡ false)) ⊎
+    (HasSessionKind vars s × IsFirstWrong vars ss k)
 
 -- what is asked fails, with this fault
 pub data Fails (vars : List Kind) : Need → KindFault → Type 0 where
   -- a label of the choice stands twice
-  double : {bs : Branches} {l : List ℕ} → double_label bs ≡ Some l → Fails vars (single bs) (DoubleLabel l)
+  double : {bs : Branches} {l : List ℕ} → double_label bs ≡ Some l →
+      Fails vars (single bs) (DoubleLabel l)
   -- a part has to be below 1S and isn't
-  wrong : {t : Tree} {k : Kind} → IsFirstWrong vars (session_parts t) k → Fails vars (node t) (WrongKind k (session Once))
+  wrong : {t : Tree} {k : Kind} → IsFirstWrong vars (session_parts t) k →
+      Fails vars (node t) (WrongKind k (session Once))
   -- the body of a recursive type is below 1S, but comes to its own variable before any move
-  unguarded : {s : Tree} → HasSessionKind vars s → reaches s 0 ≡ true → Fails vars (node (rec s)) NotContractive
+  unguarded : {s : Tree} → HasSessionKind vars s → reaches s 0 ≡ true →
+      Fails vars (node (rec s)) NotContractive
   -- a variable is none of the signature's
   unbound : {n : ℕ} → slice_get vars n ≡ None → Fails vars (node (var n)) (UnboundType n)
 

@@ -44,13 +44,16 @@ abbrev mutual
   HasKind vars (receive b) k = k ≡ session Once
   HasKind vars (select bs) k = AllSessions vars bs × (k ≡ session Once)
   HasKind vars (offer bs) k = AllSessions vars bs × (k ≡ session Once)
-  HasKind vars (seq s r) k = (u : Use) × (v : Use) × HasKind vars s (session u) × HasKind vars r (session v) × (k ≡ session (join u v))
+  HasKind vars (seq s r) k = (u : Use) ×
+      (v : Use) × HasKind vars s (session u) × HasKind vars r (session v) × (k ≡ session (join u v))
   HasKind vars (rec s) k = HasKind vars s k × (k.prekind ≡ Session)
   HasKind vars (back n) k = k ≡ session Many
   HasKind vars (var n) k = slice_get vars n ≡ Some k
   HasKind vars (plain b) k = k ≡ top Many
-  HasKind vars (arrow u s r) k = ((i : Kind) × HasKind vars s i) × ((j : Kind) × HasKind vars r j) × (k ≡ top u)
-  HasKind vars (pair s r) k = (i : Kind) × (j : Kind) × HasKind vars s i × HasKind vars r j × (k ≡ top (join i.uses j.uses))
+  HasKind vars (arrow u s r) k = ((i : Kind) × HasKind vars s i) × ((j : Kind) × HasKind vars r j) ×
+      (k ≡ top u)
+  HasKind vars (pair s r) k = (i : Kind) × (j : Kind) × HasKind vars s i × HasKind vars r j ×
+      (k ≡ top (join i.uses j.uses))
   HasKind vars (named n) k = k ≡ top Many
 
   -- the type of each branch is a session type

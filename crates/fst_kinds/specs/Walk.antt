@@ -26,7 +26,8 @@ abbrev pub needs_session : Kind → Result Kind KindFault → Result Kind KindFa
 needs_session k next = if subkind k (session Once) then next else Err (WrongKind k (session Once))
 
 -- what was found goes on, and a fault stays
-abbrev pub and_next : {T U : Type 0} → Result T KindFault → (T → Result U KindFault) → Result U KindFault
+abbrev pub and_next : {T U : Type 0} → Result T KindFault →
+    (T → Result U KindFault) → Result U KindFault
 and_next (Ok k) next = next k
 and_next (Err f) next = Err f
 
@@ -51,12 +52,14 @@ abbrev mutual
   walk vars (seq s r) =
       and_next (walk vars s) (λ i. and_next (walk vars r) (λ j.
       needs_session i (needs_session j (Ok (session (join i.uses j.uses))))))
-  walk vars (rec s) = and_next (walk vars s) (λ k. needs_session k (if reaches s 0 then Err NotContractive else Ok k))
+  walk vars (rec s) = and_next (walk vars s)
+      (λ k. needs_session k (if reaches s 0 then Err NotContractive else Ok k))
   walk vars (back n) = Ok (session Many)
   walk vars (var n) = ok_or (slice_get vars n) (UnboundType n)
   walk vars (plain b) = Ok (top Many)
   walk vars (arrow u s r) = and_next (walk vars s) (λ i. and_next (walk vars r) (λ j. Ok (top u)))
-  walk vars (pair s r) = and_next (walk vars s) (λ i. and_next (walk vars r) (λ j. Ok (top (join i.uses j.uses))))
+  walk vars (pair s r) = and_next (walk vars s)
+      (λ i. and_next (walk vars r) (λ j. Ok (top (join i.uses j.uses))))
   walk vars (named n) = Ok (top Many)
 
   -- of the branches, one after the other, the first kind not below 1S

@@ -25,7 +25,8 @@ use Rattle.fst_lexer.proofs.LetterLaws.{number_from, fails_at, first_of}
 abbrev is_low : ℕ → Bool
 is_low c = nat_lt c 128
 
-all_low : (test : ℕ → Bool) → ((c : ℕ) → test c ≡ true → c < 128) → (cs : List ℕ) → list_all test cs ≡ true → All (λ b. b < 128) cs
+all_low : (test : ℕ → Bool) → ((c : ℕ) → test c ≡ true → c < 128) →
+    (cs : List ℕ) → list_all test cs ≡ true → All (λ b. b < 128) cs
 all_low test low [] e = All-nil (λ b. b < 128)
 all_low test low (c ∷ cs) e =
     let h = and_parts (test c) (list_all test cs) e in
@@ -101,7 +102,8 @@ own : IsNumeralModel (λ ds. list_all is_digit ds ≡ true) (number_from 0)
 own = numerals_by_fold _ (search rules) number_from (search rules)
 
 pub figures : (n : ℕ) → n < 2 ^ 64 → Figures n
-figures n small = by_digits (decimal n) refl (digits_decimal own n small) (digits_value-decimal own n small) (decimal_nonempty n small)
+figures n small = by_digits (decimal n) refl (digits_decimal own n small) (digits_value-decimal own n small)
+    (decimal_nonempty n small)
   where
     by_digits : (ds : List ℕ) → decimal n ≡ ds → list_all is_digit ds ≡ true → number_from 0 ds ≡ n → 0 < length ds → Figures n
     by_digits [] is all value some = absurd (omega arith)

@@ -97,7 +97,8 @@ pub backslash_not_plain : (c : ℕ) → is_backslash c ≡ true → is_plain c �
 backslash_not_plain c e = rw (same_number c (byte "\\") e) refl
 
 -- what holds of each of these texts holds of one that is among them
-pub each_text : (test : List ℕ → Bool) (texts : List (List ℕ)) (t : List ℕ) → list_all test texts ≡ true → list_any (bytes_eq t) texts ≡ true → test t ≡ true
+pub each_text : (test : List ℕ → Bool) (texts : List (List ℕ)) (t : List ℕ) → list_all test texts ≡ true →
+    list_any (bytes_eq t) texts ≡ true → test t ≡ true
 each_text test [] t all e = absurd (cc e)
 each_text test (d ∷ ds) t all e =
     let h = and_parts (test d) (list_all test ds) all in

@@ -19,7 +19,8 @@ placed_bytes : (at : ℕ) (cs : List ℕ) → byte_count (place_all at cs) ≡ l
 placed_bytes at [] = refl
 placed_bytes at (c ∷ cs) =
     let first : Placed = record { at = at; ch = c } in
-    let more : byte_count (first ∷ place_all (at + len_utf8 c) cs) ≡ len_utf8 c + byte_count (place_all (at + len_utf8 c) cs) = sum_by-cons (λ (p : Placed). len_utf8 p.ch) first (place_all (at + len_utf8 c) cs) in
+    let more : byte_count (first ∷ place_all (at + len_utf8 c) cs) ≡ len_utf8 c + byte_count (place_all (at + len_utf8 c) cs) =
+    sum_by-cons (λ (p : Placed). len_utf8 p.ch) first (place_all (at + len_utf8 c) cs) in
     omega (arith, more, placed_bytes (at + len_utf8 c) cs, length-encode c, length-append (encode c) (encodes cs))
 
 -- a piece has a byte
@@ -34,16 +35,27 @@ at_most_one None = omega arith
 at_most_one (Some t) = omega arith
 
 -- the tokens so far and what is left are no more than the bytes
-few_lexed : (text : List Placed) (ts : List Token) (first : Bool) (here : List Placed) → LexesTo text ts first here → length ts + byte_count here ≤ byte_count text
+few_lexed : (text : List Placed) (ts : List Token) (first : Bool) (here : List Placed) → LexesTo text ts first here →
+    length ts + byte_count here ≤ byte_count text
 few_lexed text _ _ _ start = omega arith
 few_lexed text us last rest (piece ts _ first _ here word _ p o so_far next token more ends) =
-    let parts : byte_count here ≡ byte_count word + byte_count rest = ap byte_count next.parts ∙ sum_by-append (λ (p : Placed). len_utf8 p.ch) word rest in
-    omega (arith, few_lexed text ts first here so_far, parts, some_byte p word next.is, at_most_one o, ap length more, length-append ts (list_of o))
+    let parts : byte_count here ≡ byte_count word + byte_count rest = ap byte_count next.parts ∙ sum_by-append
+    (λ (p : Placed). len_utf8 p.ch) word rest in
+    omega (
+      arith,
+      few_lexed text ts first here so_far,
+      parts,
+      some_byte p word next.is,
+      at_most_one o,
+      ap length more,
+      length-append ts (list_of o),
+    )
 
 -- a text has no more tokens than bytes, and one
 pub few_tokens : (bytes : List ℕ) (tokens : List Token) → Lexes bytes tokens → length tokens ≤ length bytes + 1
 few_tokens bytes tokens l =
     let a = l.tokens_are in
     let few = few_lexed (place_all 0 (chars bytes)) a.before a.first [] a.lexed in
-    let size : byte_count (place_all 0 (chars bytes)) ≡ length bytes = placed_bytes 0 (chars bytes) ∙ ap length (encodes-chars bytes l.text) in
+    let size : byte_count (place_all 0 (chars bytes)) ≡ length bytes = placed_bytes 0 (chars bytes)
+    ∙ ap length (encodes-chars bytes l.text) in
     omega (arith, few, size, ap length a.whole, length-append a.before (finish (length bytes) a.first ∷ []))

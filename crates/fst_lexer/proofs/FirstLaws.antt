@@ -39,12 +39,21 @@ byte_feed c rest e =
     rw (is ∙ e) refl
 
 -- behind a character a line begins just where it is a line feed
-behind_character : (bytes front rest : List ℕ) (c at : ℕ) → bytes ≡ front ++ (encode c ++ rest) → at ≡ length front + len_utf8 c → IsTrue (is_feed c) ↔ BeginsLine bytes at
+behind_character : (bytes front rest : List ℕ) (c at : ℕ) → bytes ≡ front ++ (encode c ++ rest) → at ≡ length front + len_utf8 c →
+    IsTrue (is_feed c) ↔ BeginsLine bytes at
 behind_character bytes front rest c at whole size =
     let some = len_utf8_bounds c in
     let place : at - 1 ≡ length front + (len_utf8 c - 1) = omega (arith, some.0) in
-    let same : get_or bytes (at - 1) 0 ≡ get_or (encode c ++ rest) (len_utf8 c - 1) 0 = rw (whole, place) (get_or-append-add front (encode c ++ rest) (len_utf8 c - 1) 0) in
-    let within : at - 1 < length bytes = omega (arith, some.0, length-encode c, ap length whole, length-append front (encode c ++ rest), length-append (encode c) rest) in (
+    let same : get_or bytes (at - 1) 0 ≡ get_or (encode c ++ rest) (len_utf8 c - 1) 0 =
+    rw (whole, place) (get_or-append-add front (encode c ++ rest) (len_utf8 c - 1) 0) in
+    let within : at - 1 < length bytes = omega (
+      arith,
+      some.0,
+      length-encode c,
+      ap length whole,
+      length-append front (encode c ++ rest),
+      length-append (encode c) rest,
+    ) in (
       λ e. inr (slice_get-get_or bytes (at - 1) 0 within ∙ ap Some (same ∙ feed_byte c rest e)),
       λ b. elim b [
         | inl none ↦ absurd (omega (arith, some.0))
@@ -53,23 +62,29 @@ behind_character bytes front rest c at whole size =
     )
 
 -- behind a word a line begins just where the word ends with a line feed
-behind_word : (bytes : List ℕ) (word rest : List Placed) (at : ℕ) → IsUtf8 bytes → 0 < length word → Stands (chars bytes) (word ++ rest) at →
+behind_word : (bytes : List ℕ) (word rest : List Placed) (at : ℕ) → IsUtf8 bytes → 0 < length word →
+    Stands (chars bytes) (word ++ rest) at →
     IsTrue (ends_line word) ↔ BeginsLine bytes (at + byte_count word)
 behind_word bytes [] rest at text some s = absurd (omega arith)
 behind_word bytes (p ∷ []) rest at text some s = by_characters s.characters s.placed s.ends
   where
-    by_characters : (ds : List ℕ) → p ∷ rest ≡ place_all at ds → EndsWith (chars bytes) ds at → IsTrue (is_feed p.ch) ↔ BeginsLine bytes (at + byte_count (p ∷ []))
+    by_characters : (ds : List ℕ) → p ∷ rest ≡ place_all at ds → EndsWith (chars bytes) ds at →
+        IsTrue (is_feed p.ch) ↔ BeginsLine bytes (at + byte_count (p ∷ []))
     by_characters [] e h = absurd (cc e)
     by_characters (d ∷ ds) e h =
         let first : p ≡ record { at = at; ch = d } = cc in
         let is : p.ch ≡ d = ap (λ (q : Placed). q.ch) first in
-        let whole : bytes ≡ encodes h.before ++ (encode d ++ encodes ds) = sym (encodes-chars bytes text) ∙ (ap encodes h.parts ∙ encodes-append h.before (d ∷ ds)) in
-        let size : at + byte_count (p ∷ []) ≡ length (encodes h.before) + len_utf8 d = omega (arith, h.size, sum_by-cons (λ (q : Placed). len_utf8 q.ch) p [], ap len_utf8 is) in
+        let whole : bytes ≡ encodes h.before ++ (encode d ++ encodes ds) = sym (encodes-chars bytes text)
+        ∙ (ap encodes h.parts ∙ encodes-append h.before (d ∷ ds)) in
+        let size : at + byte_count (p ∷ []) ≡ length (encodes h.before) + len_utf8 d =
+        omega (arith, h.size, sum_by-cons (λ (q : Placed). len_utf8 q.ch) p [], ap len_utf8 is) in
         let end = at + byte_count (p ∷ []) in
-        subst (λ c. IsTrue (is_feed c) ↔ BeginsLine bytes end) (sym is) (behind_character bytes (encodes h.before) (encodes ds) d end whole size)
+        subst (λ c. IsTrue (is_feed c) ↔ BeginsLine bytes end) (sym is)
+        (behind_character bytes (encodes h.before) (encodes ds) d end whole size)
 behind_word bytes (p ∷ q ∷ word) rest at text some s =
     let middle = at + byte_count (p ∷ []) in
-    let next = behind_word bytes (q ∷ word) rest middle text (omega arith) (behind (chars bytes) (p ∷ []) ((q ∷ word) ++ rest) at s) in
+    let next = behind_word bytes (q ∷ word) rest middle text (omega arith)
+    (behind (chars bytes) (p ∷ []) ((q ∷ word) ++ rest) at s) in
     let one = sum_by-cons (λ (r : Placed). len_utf8 r.ch) p [] in
     let more = sum_by-cons (λ (r : Placed). len_utf8 r.ch) p (q ∷ word) in
     let size : middle + byte_count (q ∷ word) ≡ at + byte_count (p ∷ q ∷ word) = omega (arith, one, more) in
@@ -86,13 +101,15 @@ record Told (bytes : List ℕ) (ts : List Token) (first : Bool) (here : List Pla
   begins : IsTrue first ↔ BeginsLine bytes at
   lines : TellLines bytes ts
 
-one_token : (bytes : List ℕ) (ts : List Token) (word : List Placed) (first : Bool) (at : ℕ) (o : Option Token) → TellLines bytes ts → (IsTrue first ↔ BeginsLine bytes at) →
+one_token : (bytes : List ℕ) (ts : List Token) (word : List Placed) (first : Bool) (at : ℕ) (o : Option Token) →
+    TellLines bytes ts → (IsTrue first ↔ BeginsLine bytes at) →
     place word ≡ at → Spans o word first → TellLines bytes (ts ++ list_of o)
 one_token bytes ts word first at None lines begins p spans = rw (append-nil ts) lines
 one_token bytes ts word first at (Some t) lines begins p spans =
     with_one (λ u. IsTrue u.first_column ↔ BeginsLine bytes u.at) ts t lines (rw (spans.column, spans.at ∙ p) begins)
 
-told : (bytes : List ℕ) → IsUtf8 bytes → (ts : List Token) (first : Bool) (here : List Placed) → LexesTo (place_all 0 (chars bytes)) ts first here → Told bytes ts first here
+told : (bytes : List ℕ) → IsUtf8 bytes → (ts : List Token) (first : Bool) (here : List Placed) →
+    LexesTo (place_all 0 (chars bytes)) ts first here → Told bytes ts first here
 told bytes text _ _ _ start = record {
   at = 0;
   stands = record { characters = chars bytes; placed = refl; ends = record { before = []; parts = refl; size = refl } };
@@ -106,7 +123,8 @@ told bytes text us last rest (piece ts _ first _ here word _ p o so_far next tok
       at = r.at + byte_count word;
       stands = behind (chars bytes) word rest r.at stands;
       begins = rw ends (behind_word bytes word rest r.at text (some_letters p word next.is) stands);
-      lines = rw more (one_token bytes ts word first r.at o r.lines r.begins (stands_at (chars bytes) word rest p r.at next.is stands) (token_spans p word first o token));
+      lines = rw more (one_token bytes ts word first r.at o r.lines r.begins
+          (stands_at (chars bytes) word rest p r.at next.is stands) (token_spans p word first o token));
     }
 
 -- where nothing is left, the bytes end
@@ -129,6 +147,7 @@ tell_lines bytes tokens l =
     let begins : IsTrue a.first ↔ BeginsLine bytes (length bytes) = rw (at_end bytes r.at l.text r.stands) at r.begins in
     rw whole (with_one (λ u. IsTrue u.first_column ↔ BeginsLine bytes u.at) a.before last r.lines begins)
 
-pub ok_lines : (bytes : List ℕ) (result : Result (Vec Token Global) LexFault) → IfOk result (λ v. Lexes bytes v.items) → IfOk result (λ v. TellLines bytes v.items)
+pub ok_lines : (bytes : List ℕ) (result : Result (Vec Token Global) LexFault) → IfOk result (λ v. Lexes bytes v.items) →
+    IfOk result (λ v. TellLines bytes v.items)
 ok_lines bytes (Ok v) l = tell_lines bytes v.items l
 ok_lines bytes (Err e) l = l

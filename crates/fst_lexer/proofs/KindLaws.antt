@@ -23,7 +23,8 @@ pub record IsRead (k : TokenKind) (text rest : List ℕ) : Type 0 where
   pub reads : Reads piece (chars text) (chars rest)
   pub makes : Makes piece (chars text) k
 
-free_name : (k : TokenKind) (text rest : List ℕ) (b : Bool) → IsFreeName text → is_capital (chars text) ≡ b → choose b kind.Upper kind.Lower ≡ k → IsUtf8 rest → ends_before kind.Lower text rest ≡ true → IsRead k text rest
+free_name : (k : TokenKind) (text rest : List ℕ) (b : Bool) → IsFreeName text → is_capital (chars text) ≡ b →
+    choose b kind.Upper kind.Lower ≡ k → IsUtf8 rest → ends_before kind.Lower text rest ≡ true → IsRead k text rest
 unfolding choose
 free_name k text rest b n capital is good apart =
     let size : length (encodes (chars text)) ≤ longest_name = rw (encodes-chars text n.utf8) n.short in
@@ -34,7 +35,8 @@ free_name k text rest b n capital is good apart =
       makes = name_makes (chars text) k size (rw (n.free, capital) is);
     }
 
-reserved_word : (text rest : List ℕ) → is_reserved text ≡ true → IsUtf8 rest → ends_before kind.Reserved text rest ≡ true → IsRead kind.Reserved text rest
+reserved_word : (text rest : List ℕ) → is_reserved text ≡ true → IsUtf8 rest → ends_before kind.Reserved text rest ≡ true →
+    IsRead kind.Reserved text rest
 unfolding choose
 reserved_word text rest is good apart =
     let l = reserved_letters text is in
@@ -48,7 +50,8 @@ reserved_word text rest is good apart =
       makes = name_makes (chars text) kind.Reserved size (rw (same, is) refl);
     }
 
-pub word_read : (k : TokenKind) (text rest : List ℕ) → IsWordOf k text → IsUtf8 rest → ends_before k text rest ≡ true → IsRead k text rest
+pub word_read : (k : TokenKind) (text rest : List ℕ) → IsWordOf k text → IsUtf8 rest → ends_before k text rest ≡ true →
+    IsRead k text rest
 unfolding choose
 word_read kind.Lower text rest w good apart = free_name kind.Lower text rest false w.0 w.1 refl good apart
 word_read kind.Upper text rest w good apart = free_name kind.Upper text rest true w.0 w.1 refl good apart

@@ -11,11 +11,14 @@ use Rattle.fst_lexer.specs.declared.pieces.Placed.{Placed}
 use Rattle.fst_lexer.specs.Places.{place_all}
 use Rattle.fst_lexer.specs.Tokens.{byte_count, letters, value_from}
 
-pub place_all-append : (at : ℕ) (xs ys : List ℕ) → place_all at (xs ++ ys) ≡ place_all at xs ++ place_all (at + length (encodes xs)) ys
+pub place_all-append : (at : ℕ) (xs ys : List ℕ) →
+    place_all at (xs ++ ys) ≡ place_all at xs ++ place_all (at + length (encodes xs)) ys
 place_all-append at [] ys = ap (λ n. place_all n ys) (omega arith)
 place_all-append at (c ∷ cs) ys =
-    let size : at + len_utf8 c + length (encodes cs) ≡ at + length (encodes (c ∷ cs)) = omega (arith, length-encode c, length-append (encode c) (encodes cs)) in
-    ap (λ (r : List Placed). record { at = at; ch = c } ∷ r) (place_all-append (at + len_utf8 c) cs ys ∙ ap (λ n. place_all (at + len_utf8 c) cs ++ place_all n ys) size)
+    let size : at + len_utf8 c + length (encodes cs) ≡ at + length (encodes (c ∷ cs)) =
+    omega (arith, length-encode c, length-append (encode c) (encodes cs)) in
+    ap (λ (r : List Placed). record { at = at; ch = c } ∷ r)
+    (place_all-append (at + len_utf8 c) cs ys ∙ ap (λ n. place_all (at + len_utf8 c) cs ++ place_all n ys) size)
 
 pub letters-place_all : (at : ℕ) (cs : List ℕ) → letters (place_all at cs) ≡ cs
 letters-place_all at [] = refl
@@ -25,9 +28,16 @@ pub byte_count-place_all : (at : ℕ) (cs : List ℕ) → byte_count (place_all 
 byte_count-place_all at [] = refl
 byte_count-place_all at (c ∷ cs) =
     let one : Placed = record { at = at; ch = c } in
-    omega (arith, sum_by-cons (λ (p : Placed). len_utf8 p.ch) one (place_all (at + len_utf8 c) cs), byte_count-place_all (at + len_utf8 c) cs, length-encode c, length-append (encode c) (encodes cs))
+    omega (
+      arith,
+      sum_by-cons (λ (p : Placed). len_utf8 p.ch) one (place_all (at + len_utf8 c) cs),
+      byte_count-place_all (at + len_utf8 c) cs,
+      length-encode c,
+      length-append (encode c) (encodes cs),
+    )
 
-pub list_all-place_all : (test : ℕ → Bool) (at : ℕ) (cs : List ℕ) → list_all (λ (p : Placed). test p.ch) (place_all at cs) ≡ list_all test cs
+pub list_all-place_all : (test : ℕ → Bool) (at : ℕ) (cs : List ℕ) → list_all
+    (λ (p : Placed). test p.ch) (place_all at cs) ≡ list_all test cs
 list_all-place_all test at [] = refl
 list_all-place_all test at (c ∷ cs) = ap (λ b. test c && b) (list_all-place_all test (at + len_utf8 c) cs)
 
@@ -68,7 +78,11 @@ first_of b bs text = by_characters (chars (b ∷ bs)) refl (encodes-chars (b ∷
     same_first c rest e =
         elim (cases_lt b 128) [
           | inl low ↦ inl (char_from_byte (b ∷ bs) rest c e low (omega arith))
-          | inr high ↦ elim (cases_lt c 128) [ inl below ↦ inl (sym (byte_from_char (b ∷ bs) rest c e below)) | inr above ↦ inr (above, high) ]
+          | inr high ↦ elim (cases_lt c 128) [
+            | inl below ↦ inl (sym (byte_from_char (b ∷ bs) rest c e below))
+            | inr above ↦ inr
+                (above, high)
+          ]
         ]
 
     by_characters : (cs : List ℕ) → chars (b ∷ bs) ≡ cs → encodes cs ≡ b ∷ bs → First b bs

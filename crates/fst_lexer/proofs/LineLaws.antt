@@ -28,20 +28,23 @@ no_feed c e = by_test (is_feed c) refl
     by_test false h = refl
 
 -- no line begins behind characters none of which is a line feed
-none_feeds : (test : ℕ → Bool) → ((c : ℕ) → test c ≡ true → is_feed c ≡ false) → (c : Placed) (cs : List Placed) → is_feed c.ch ≡ false → list_all (λ p. test p.ch) cs ≡ true → ends_line (c ∷ cs) ≡ false
+none_feeds : (test : ℕ → Bool) → ((c : ℕ) → test c ≡ true → is_feed c ≡ false) →
+    (c : Placed) (cs : List Placed) → is_feed c.ch ≡ false → list_all (λ p. test p.ch) cs ≡ true → ends_line (c ∷ cs) ≡ false
 none_feeds test none c [] first all = first
 none_feeds test none c (d ∷ cs) first all =
     let h = and_parts (test d.ch) (list_all (λ p. test p.ch) cs) all in
     none_feeds test none d cs (none d.ch h.0) h.1
 
 -- no line begins behind a piece that is a token
-pub ends_inside : (p : Piece) (word : List Placed) (first : Bool) (t : Token) → is_piece p word ≡ true → token_of p word first ≡ Ok (Some t) → ends_line word ≡ false
+pub ends_inside : (p : Piece) (word : List Placed) (first : Bool) (t : Token) → is_piece p word ≡ true →
+    token_of p word first ≡ Ok (Some t) → ends_line word ≡ false
 unfolding token_of
 ends_inside Blank word first t is e = absurd (cc e)
 ends_inside Comment word first t is e = absurd (cc e)
 ends_inside Name (c ∷ cs) first t is e =
     let h = and_parts (starts_name c.ch) (list_all (λ p. continues_name p.ch) cs) is in
-    none_feeds continues_name (λ d k. excluded (is_feed d) (continues_name d) (feed_ends_name d) k) c cs (no_feed c.ch (name_class c.ch h.0).blank) h.1
+    none_feeds continues_name (λ d k. excluded (is_feed d) (continues_name d) (feed_ends_name d) k) c cs
+    (no_feed c.ch (name_class c.ch h.0).blank) h.1
 ends_inside Digits (c ∷ cs) first t is e =
     let h = and_parts (is_digit c.ch) (list_all (λ p. is_digit p.ch) cs) is in
     none_feeds is_digit (λ d k. no_feed d (digit_class d k).blank) c cs (no_feed c.ch (digit_class c.ch h.0).blank) h.1

@@ -27,7 +27,8 @@ module _ (p : Placed → Bool) where
   prefix_all [] = refl
   prefix_all (c ∷ cs) = by_head (p c) refl (prefix_all cs)
     where
-      by_head : (b : Bool) → p c ≡ b → list_all p (take (prefix_len p cs) cs) ≡ true → list_all p (take (prefix_len p (c ∷ cs)) (c ∷ cs)) ≡ true
+      by_head : (b : Bool) → p c ≡ b → list_all p (take (prefix_len p cs) cs) ≡ true →
+          list_all p (take (prefix_len p (c ∷ cs)) (c ∷ cs)) ≡ true
       by_head true e h = rw (e, one-add) (rw e h)
       by_head false e h = rw e refl
 
@@ -45,10 +46,29 @@ single_reads a [] h =
     record { piece = Sign; size = 1; is = rw (k.blank, k.name, k.digit, k.quote, h) refl; long = omega arith }
 single_reads a (b ∷ r) h = by_next (is_dash a.ch && is_dash b.ch) (is_long a.ch b.ch) refl refl (short_class a.ch h)
   where
-    by_next : (comment pair : Bool) → (is_dash a.ch && is_dash b.ch) ≡ comment → is_long a.ch b.ch ≡ pair → Class a.ch false false false false → Reads (a ∷ b ∷ r) 1
-    by_next true pair e f k = record { piece = Comment; size = 1 + prefix_len (λ p. not (is_feed p.ch)) (b ∷ r); is = rw (k.blank, k.name, k.digit, k.quote, e) refl; long = omega arith }
-    by_next false true e f k = record { piece = Sign; size = 2; is = rw (k.blank, k.name, k.digit, k.quote, e, f) refl; long = omega arith }
-    by_next false false e f k = record { piece = Sign; size = 1; is = rw (k.blank, k.name, k.digit, k.quote, e, f, h) refl; long = omega arith }
+    by_next : (comment pair : Bool) → (is_dash a.ch && is_dash b.ch) ≡ comment → is_long a.ch b.ch ≡ pair →
+        Class a.ch false false false false → Reads (a ∷ b ∷ r) 1
+    by_next true pair e f k = record {
+      piece = Comment;
+      size = 1 + prefix_len (λ p. not (is_feed p.ch)) (b ∷ r);
+      is =
+          rw (k.blank, k.name, k.digit, k.quote, e) refl;
+      long = omega arith;
+    }
+    by_next false true e f k = record {
+      piece = Sign;
+      size = 2;
+      is = rw (k.blank, k.name, k.digit, k.quote, e, f) refl;
+      long =
+          omega arith;
+    }
+    by_next false false e f k = record {
+      piece = Sign;
+      size = 1;
+      is = rw (k.blank, k.name, k.digit, k.quote, e, f, h) refl;
+      long =
+          omega arith;
+    }
 
 reads : (q : Piece) (v r : List Placed) → is_piece q v ≡ true → Reads (v ++ r) (length v)
 unfolding piece_at choose
@@ -56,11 +76,23 @@ reads Blank (c ∷ []) r e = record { piece = Blank; size = 1; is = rw e refl; l
 reads Name (c ∷ cs) r e =
     let h = and_parts (starts_name c.ch) (list_all (λ p. continues_name p.ch) cs) e in
     let k = name_class c.ch h.0 in
-    record { piece = Name; size = 1 + prefix_len (λ p. continues_name p.ch) (cs ++ r); is = rw (k.blank, h.0) refl; long = omega (arith, prefix_long (λ p. continues_name p.ch) cs r h.1) }
+    record {
+      piece = Name;
+      size = 1 + prefix_len (λ p. continues_name p.ch) (cs ++ r);
+      is = rw (k.blank, h.0) refl;
+      long =
+          omega (arith, prefix_long (λ p. continues_name p.ch) cs r h.1);
+    }
 reads Digits (c ∷ cs) r e =
     let h = and_parts (is_digit c.ch) (list_all (λ p. is_digit p.ch) cs) e in
     let k = digit_class c.ch h.0 in
-    record { piece = Digits; size = 1 + prefix_len (λ p. is_digit p.ch) (cs ++ r); is = rw (k.blank, k.name, h.0) refl; long = omega (arith, prefix_long (λ p. is_digit p.ch) cs r h.1) }
+    record {
+      piece = Digits;
+      size = 1 + prefix_len (λ p. is_digit p.ch) (cs ++ r);
+      is = rw (k.blank, k.name, h.0) refl;
+      long =
+          omega (arith, prefix_long (λ p. is_digit p.ch) cs r h.1);
+    }
 reads Comment (a ∷ b ∷ body) r e =
     let h = and_parts (is_dash a.ch && is_dash b.ch) (list_all (λ p. not (is_feed p.ch)) body) e in
     let d = and_parts (is_dash a.ch) (is_dash b.ch) h.0 in
@@ -79,7 +111,13 @@ reads Quoted (a ∷ c ∷ x ∷ b ∷ []) r e =
     let h = and_parts (is_quote a.ch) (is_backslash c.ch && (is_escape x.ch && is_quote b.ch)) e in
     let k = quote_class a.ch h.0 in
     let m = and_parts (is_backslash c.ch) (is_escape x.ch && is_quote b.ch) h.1 in
-    record { piece = Quoted; size = 4; is = rw (k.blank, k.name, k.digit, h.0, backslash_not_plain c.ch m.0, h.1) refl; long = omega arith }
+    record {
+      piece = Quoted;
+      size = 4;
+      is = rw (k.blank, k.name, k.digit, h.0, backslash_not_plain c.ch m.0, h.1) refl;
+      long =
+          omega arith;
+    }
 reads Sign (a ∷ []) r e = single_reads a r e
 reads Sign (a ∷ b ∷ []) r e =
     let k = long_class a.ch b.ch e in
@@ -97,7 +135,8 @@ found_is x y e = cc
 carry : (text : List Placed) (x y : Piece × ℕ) → Some x ≡ Some y → Fits text x.0 x.1 → Fits text y.0 y.1
 carry text x y e f = subst (λ (z : Piece × ℕ). Fits text z.0 z.1) (found_is x y e) f
 
-many : (p : Piece) (test : Placed → Bool) (c : Placed) (cs : List Placed) → ((w : List Placed) → list_all test w ≡ true → is_piece p (c ∷ w) ≡ true) → Fits (c ∷ cs) p (1 + prefix_len test cs)
+many : (p : Piece) (test : Placed → Bool) (c : Placed) (cs : List Placed) →
+    ((w : List Placed) → list_all test w ≡ true → is_piece p (c ∷ w) ≡ true) → Fits (c ∷ cs) p (1 + prefix_len test cs)
 many p test c cs h = record {
   is = rw one-add (h (take (prefix_len test cs) cs) (prefix_all test cs));
   within = omega (arith, prefix_len-le-length test cs);
@@ -139,11 +178,13 @@ module _ (a : Placed) (quote : is_quote a.ch ≡ true) where
         | inr h ↦ escaped_fits (c ∷ b ∷ cs) x h.1
       ]
 
-comment_fits : (c : Placed) (cs : List Placed) → begins_comment (c ∷ cs) ≡ true → Fits (c ∷ cs) Comment (1 + prefix_len (λ p. not (is_feed p.ch)) cs)
+comment_fits : (c : Placed) (cs : List Placed) → begins_comment (c ∷ cs) ≡ true →
+    Fits (c ∷ cs) Comment (1 + prefix_len (λ p. not (is_feed p.ch)) cs)
 comment_fits c [] e = absurd (cc e)
 comment_fits c (d ∷ cs) e =
     let h = and_parts (is_dash c.ch) (is_dash d.ch) e in
-    let size : prefix_len (λ p. not (is_feed p.ch)) (d ∷ cs) ≡ 1 + prefix_len (λ p. not (is_feed p.ch)) cs = rw (dash_goes_on d.ch h.1) refl in
+    let size : prefix_len (λ p. not (is_feed p.ch)) (d ∷ cs) ≡ 1 + prefix_len (λ p. not (is_feed p.ch)) cs =
+    rw (dash_goes_on d.ch h.1) refl in
     record {
       is = rw (size, one-add, one-add) (rw e (prefix_all (λ p. not (is_feed p.ch)) cs));
       within = omega (arith, size, prefix_len-le-length (λ p. not (is_feed p.ch)) cs);
@@ -171,7 +212,8 @@ fits (c ∷ cs) x e =
     ]
 
 -- the longest piece
-pub piece_is_next : (text : List Placed) (p : Piece) (n : ℕ) → piece_at text ≡ Some (p, n) → IsNext text p (take n text) (drop n text)
+pub piece_is_next : (text : List Placed) (p : Piece) (n : ℕ) → piece_at text ≡ Some (p, n) →
+    IsNext text p (take n text) (drop n text)
 piece_is_next text p n e =
     let f = fits text (p, n) e in
     record {

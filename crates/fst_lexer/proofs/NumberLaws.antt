@@ -26,7 +26,8 @@ too_wide word v i d lt so_far wide =
     let no : nat_le (value_from 0 word) greatest_number ≡ false = grind (arith, nat_tests) in
     rw no refl
 
-pub all_read : (word : List Placed) (v i : ℕ) → length word ≤ i → value_from v (drop i word) ≡ value_from 0 word → v ≤ greatest_number → Some v ≡ number_of word
+pub all_read : (word : List Placed) (v i : ℕ) → length word ≤ i → value_from v (drop i word) ≡ value_from 0 word →
+    v ≤ greatest_number → Some v ≡ number_of word
 unfolding number_of choose
 all_read word v i le so_far small =
     let end : drop i word ≡ [] = nil_from_length (drop i word) (omega (arith, length-drop i word)) in

@@ -25,7 +25,8 @@ abbrev kind_of : List Placed → Piece
 kind_of [] = Sign
 kind_of (c ∷ cs) =
     choose (is_blank c.ch) Blank
-    (choose (starts_name c.ch) Name (choose (is_digit c.ch) Digits (choose (is_quote c.ch) Quoted (choose (begins_comment (c ∷ cs)) Comment Sign))))
+    (choose (starts_name c.ch) Name (choose (is_digit c.ch) Digits
+    (choose (is_quote c.ch) Quoted (choose (begins_comment (c ∷ cs)) Comment Sign))))
 
 kind_is : (p : Piece) (w : List Placed) → is_piece p w ≡ true → kind_of w ≡ p
 unfolding choose
@@ -74,7 +75,8 @@ pair : {A B : Type 0} {a b : A} {c d : B} → a ≡ b → c ≡ d → ◌≡◌ 
 pair {A} {B} {a} {b} {c} {d} p q = subst (λ (y : A). ◌≡◌ {A = A × B} (a, c) (y, d)) p (ap (λ (z : B). (a, z)) q)
 
 -- the token of the next piece is one
-same_token : (text : List Placed) (p q : Piece) (w v r s : List Placed) (f : Bool) → IsNext text p w r → IsNext text q v s → token_of p w f ≡ token_of q v f
+same_token : (text : List Placed) (p q : Piece) (w v r s : List Placed) (f : Bool) → IsNext text p w r → IsNext text q v s →
+    token_of p w f ≡ token_of q v f
 same_token text p q w v r s f a b =
     let same = same_next text p q w v r s a b in
     ap (λ (y : Piece × List Placed). token_of y.0 y.1 f) (pair same.kind same.word)
@@ -95,19 +97,26 @@ nothing_next p (c ∷ w) r a = let e = a.parts in cc
 -- the same from the front
 data Onward : Bool → List Placed → List Token → Bool → List Placed → Type 0 where
   stop : (f : Bool) (t : List Placed) → Onward f t [] f t
-  step : (f : Bool) (t : List Placed) (ts us : List Token) (g : Bool) (u : List Placed) (p : Piece) (w r : List Placed) (o : Option Token) →
+  step : (f : Bool) (t : List Placed) (ts us : List Token) (g : Bool) (u : List Placed) (p : Piece) (w r : List Placed)
+      (o : Option Token) →
       IsNext t p w r → token_of p w f ≡ Ok o → Onward (ends_line w) r us g u → ts ≡ list_of o ++ us → Onward f t ts g u
 
-one_more : (f : Bool) (t : List Placed) (ts : List Token) (g : Bool) (u : List Placed) → Onward f t ts g u → (p : Piece) (w r : List Placed) (o : Option Token) → IsNext u p w r → token_of p w g ≡ Ok o → Onward f t (ts ++ list_of o) (ends_line w) r
-one_more f t _ g u (stop _ _) p w r o n e = step f t (list_of o) [] (ends_line w) r p w r o n e (stop (ends_line w) r) (sym (append-nil (list_of o)))
+one_more : (f : Bool) (t : List Placed) (ts : List Token) (g : Bool) (u : List Placed) → Onward f t ts g u →
+    (p : Piece) (w r : List Placed) (o : Option Token) → IsNext u p w r → token_of p w g ≡ Ok o →
+    Onward f t (ts ++ list_of o) (ends_line w) r
+one_more f t _ g u (stop _ _) p w r o n e = step f t (list_of o) [] (ends_line w) r p w r o n e (stop (ends_line w) r)
+    (sym (append-nil (list_of o)))
 one_more f t ts g u (step _ _ _ us _ _ q v s x n e more is) p w r o m k =
-    step f t (ts ++ list_of o) (us ++ list_of o) (ends_line w) r q v s x n e (one_more (ends_line v) s us g u more p w r o m k) (rw is (append_assoc (list_of x) us (list_of o)))
+    step f t (ts ++ list_of o) (us ++ list_of o) (ends_line w) r q v s x n e (one_more (ends_line v) s us g u more p w r o m k)
+    (rw is (append_assoc (list_of x) us (list_of o)))
 
-onward : (text : List Placed) (ts : List Token) (f : Bool) (here : List Placed) → LexesTo text ts f here → Onward true text ts f here
+onward : (text : List Placed) (ts : List Token) (f : Bool) (here : List Placed) → LexesTo text ts f here →
+    Onward true text ts f here
 onward text _ _ _ start = stop true text
 onward text us last rest (piece ts _ first _ here w _ p o before n e is ends) =
     subst (λ (x : List Token). Onward true text x last rest) (sym is)
-    (subst (λ (x : Bool). Onward true text (ts ++ list_of o) x rest) (sym ends) (one_more true text ts first here (onward text ts first here before) p w rest o n e))
+    (subst (λ (x : Bool). Onward true text (ts ++ list_of o) x rest) (sym ends)
+    (one_more true text ts first here (onward text ts first here before) p w rest o n e))
 
 abbrev pub done : Option Token → Result (Option Token) LexFault
 done c = Ok c
@@ -131,16 +140,22 @@ record Agree (ts us : List Token) (g h : Bool) (u v : List Placed) : Type 0 wher
 abbrev IsStuck : Bool → List Placed → Type 0
 IsStuck f u = (p : Piece) (w r : List Placed) (o : Option Token) → IsNext u p w r → token_of p w f ≡ Ok o → ⊥
 
-one_reading : (f : Bool) (t : List Placed) (ts us : List Token) (g h : Bool) (u v : List Placed) → Onward f t ts g u → Onward f t us h v → IsStuck g u → IsStuck h v → Agree ts us g h u v
+one_reading : (f : Bool) (t : List Placed) (ts us : List Token) (g h : Bool) (u v : List Placed) → Onward f t ts g u →
+    Onward f t us h v → IsStuck g u → IsStuck h v → Agree ts us g h u v
 one_reading f t _ _ _ _ _ _ (stop _ _) (stop _ _) a b = record { tokens = refl; first = refl; rest = refl }
 one_reading f t _ _ _ _ _ _ (stop _ _) (step _ _ _ _ _ _ p w r o n e more is) a b = absurd (a p w r o n e)
 one_reading f t _ _ _ _ _ _ (step _ _ _ _ _ _ p w r o n e more is) (stop _ _) a b = absurd (b p w r o n e)
 one_reading f t ts us g h u v (step _ _ _ xs _ _ p w r o n e more is) (step _ _ _ ys _ _ q z s x m k others at) a b =
     let same = same_next t p q w z r s n m in
     let option : o ≡ x = ok_is o x (sym e ∙ (same_token t p q w z r s f n m ∙ k)) in
-    let moved : Onward (ends_line z) s xs g u = subst (λ (y : List Placed × List Placed). Onward (ends_line y.0) y.1 xs g u) (pair same.word same.rest) more in
+    let moved : Onward (ends_line z) s xs g u = subst
+    (λ (y : List Placed × List Placed). Onward (ends_line y.0) y.1 xs g u) (pair same.word same.rest) more in
     let rest = one_reading (ends_line z) s xs ys g h u v moved others a b in
-    record { tokens = is ∙ (ap (λ (y : Option Token × List Token). list_of y.0 ++ y.1) (pair option rest.tokens) ∙ sym at); first = rest.first; rest = rest.rest }
+    record {
+      tokens = is ∙ (ap (λ (y : Option Token × List Token). list_of y.0 ++ y.1) (pair option rest.tokens) ∙ sym at);
+      first = rest.first;
+      rest = rest.rest;
+    }
 
 end_stuck : (f : Bool) → IsStuck f []
 end_stuck f p w r o n e = nothing_next p w r n
@@ -157,38 +172,47 @@ same_fault : (f : Bool) (u : List Placed) (e d : LexFault) → IsFaultAt u f e �
 same_fault f u e d (inl a) (inl b) = a.is ∙ sym b.is
 same_fault f u e d (inl a) (inr b) = absurd (a.none b.piece b.word b.rest b.next.parts b.next.is)
 same_fault f u e d (inr a) (inl b) = absurd (b.none a.piece a.word a.rest a.next.parts a.next.is)
-same_fault f u e d (inr a) (inr b) = err_is e d (sym a.bad ∙ (same_token u a.piece b.piece a.word b.word a.rest b.rest f a.next b.next ∙ b.bad))
+same_fault f u e d (inr a) (inr b) = err_is e d
+    (sym a.bad ∙ (same_token u a.piece b.piece a.word b.word a.rest b.rest f a.next b.next ∙ b.bad))
 
 -- a text has one list of tokens
-one_list : (text : List Placed) (end : ℕ) (tokens others : List Token) → AreTokens text end tokens → AreTokens text end others → tokens ≡ others
+one_list : (text : List Placed) (end : ℕ) (tokens others : List Token) → AreTokens text end tokens → AreTokens text end others →
+    tokens ≡ others
 one_list text end tokens others a b =
-    let one = one_reading true text a.before b.before a.first b.first [] [] (onward text a.before a.first [] a.lexed) (onward text b.before b.first [] b.lexed)
+    let one = one_reading true text a.before b.before a.first b.first [] [] (onward text a.before a.first [] a.lexed)
+    (onward text b.before b.first [] b.lexed)
     (end_stuck a.first) (end_stuck b.first) in
     a.whole ∙ (ap (λ (y : List Token × Bool). y.0 ++ finish end y.1 ∷ []) (pair one.tokens one.first) ∙ sym b.whole)
 
 -- a text with tokens has no fault
-no_fault : (text : List Placed) (end : ℕ) (tokens : List Token) (e : LexFault) → AreTokens text end tokens → FaultBehind text e → ⊥
+no_fault : (text : List Placed) (end : ℕ) (tokens : List Token) (e : LexFault) → AreTokens text end tokens → FaultBehind text e →
+    ⊥
 no_fault text end tokens e a b =
-    let one = one_reading true text a.before b.before a.first b.first [] b.here (onward text a.before a.first [] a.lexed) (onward text b.before b.first b.here b.lexed)
+    let one = one_reading true text a.before b.before a.first b.first [] b.here (onward text a.before a.first [] a.lexed)
+    (onward text b.before b.first b.here b.lexed)
     (end_stuck a.first) (fault_stuck b.first b.here e b.fault) in
     elim b.fault [
       | inl x ↦ omega (arith, x.some, ap length one.rest)
-      | inr x ↦ nothing_next x.piece x.word x.rest (subst (λ (y : List Placed). IsNext y x.piece x.word x.rest) (sym one.rest) x.next)
+      | inr x ↦ nothing_next x.piece x.word x.rest
+          (subst (λ (y : List Placed). IsNext y x.piece x.word x.rest) (sym one.rest) x.next)
     ]
 
 -- a text has one fault
 one_fault : (text : List Placed) (e f : LexFault) → FaultBehind text e → FaultBehind text f → e ≡ f
 one_fault text e f a b =
-    let one = one_reading true text a.before b.before a.first b.first a.here b.here (onward text a.before a.first a.here a.lexed) (onward text b.before b.first b.here b.lexed)
+    let one = one_reading true text a.before b.before a.first b.first a.here b.here (onward text a.before a.first a.here a.lexed)
+    (onward text b.before b.first b.here b.lexed)
     (fault_stuck a.first a.here e a.fault) (fault_stuck b.first b.here f b.fault) in
-    same_fault b.first b.here e f (subst (λ (y : Bool × List Placed). IsFaultAt y.1 y.0 e) (pair one.first one.rest) a.fault) b.fault
+    same_fault b.first b.here e f (subst (λ (y : Bool × List Placed). IsFaultAt y.1 y.0 e) (pair one.first one.rest) a.fault)
+    b.fault
 
 -- bytes that are no text from here on, and why
 abbrev IsNoText : List ℕ → LexFault → Type 0
 IsNoText bytes e = (at : ℕ) × (e ≡ fault.NotUtf8 at) × ¬ (IsUtf8 bytes) × IsValidUpTo bytes at
 
 -- what a fault other than Memory says of the bytes
-told : (bytes : List ℕ) (e : LexFault) → e ≢ fault.Memory → Refuses bytes e → IsNoText bytes e ⊎ (IsUtf8 bytes × FaultBehind (place_all 0 (chars bytes)) e)
+told : (bytes : List ℕ) (e : LexFault) → e ≢ fault.Memory → Refuses bytes e → IsNoText bytes e ⊎
+    (IsUtf8 bytes × FaultBehind (place_all 0 (chars bytes)) e)
 told bytes (fault.NotUtf8 at) ne r = inl (at, refl, r.0, r.1)
 told bytes (fault.BadChar at) ne r = inr r
 told bytes (fault.WideNumber at) ne r = inr r
@@ -202,8 +226,11 @@ only_memory bytes tokens (fault.WideNumber at) l r = absurd (no_fault _ _ tokens
 only_memory bytes tokens (fault.LongName at) l r = absurd (no_fault _ _ tokens (fault.LongName at) l.tokens_are r.1)
 only_memory bytes tokens fault.Memory l r = refl
 
-one_refusal : (bytes : List ℕ) (e f : LexFault) → IsNoText bytes e ⊎ (IsUtf8 bytes × FaultBehind (place_all 0 (chars bytes)) e) → IsNoText bytes f ⊎ (IsUtf8 bytes × FaultBehind (place_all 0 (chars bytes)) f) → e ≡ f
-one_refusal bytes e f (inl a) (inl b) = a.1 ∙ (ap (λ n. fault.NotUtf8 n) (sym (utf8_valid_len-IsValidUpTo bytes a.0 a.3) ∙ utf8_valid_len-IsValidUpTo bytes b.0 b.3) ∙ sym b.1)
+one_refusal : (bytes : List ℕ) (e f : LexFault) → IsNoText bytes e ⊎
+    (IsUtf8 bytes × FaultBehind (place_all 0 (chars bytes)) e) → IsNoText bytes f ⊎
+    (IsUtf8 bytes × FaultBehind (place_all 0 (chars bytes)) f) → e ≡ f
+one_refusal bytes e f (inl a) (inl b) = a.1 ∙ (ap
+    (λ n. fault.NotUtf8 n) (sym (utf8_valid_len-IsValidUpTo bytes a.0 a.3) ∙ utf8_valid_len-IsValidUpTo bytes b.0 b.3) ∙ sym b.1)
 one_refusal bytes e f (inl a) (inr b) = absurd (a.2 b.0)
 one_refusal bytes e f (inr a) (inl b) = absurd (b.2 a.0)
 one_refusal bytes e f (inr a) (inr b) = one_fault _ e f a.1 b.1

@@ -40,7 +40,13 @@ one_on cs ds c at e =
     record {
       before = e.before ++ c ∷ [];
       parts = e.parts ∙ sym (append_assoc e.before (c ∷ []) ds);
-      size = omega (arith, e.size, ap length (encodes-append e.before (c ∷ [])), length-append (encodes e.before) (encodes (c ∷ [])), one_size c);
+      size = omega (
+        arith,
+        e.size,
+        ap length (encodes-append e.before (c ∷ [])),
+        length-append (encodes e.before) (encodes (c ∷ [])),
+        one_size c,
+      );
     }
   where
     one_size : (d : ℕ) → length (encodes (d ∷ [])) ≡ len_utf8 d
@@ -52,7 +58,8 @@ scalars-behind (x ∷ xs) ys h = scalars-behind xs ys (and_parts (scalar x) (sca
 
 boundary : (bytes ds : List ℕ) (at : ℕ) → IsUtf8 bytes → EndsWith (chars bytes) ds at → IsCharBoundary bytes at
 boundary bytes ds at text e =
-    let whole : bytes ≡ encodes e.before ++ encodes ds = sym (encodes-chars bytes text) ∙ (ap encodes e.parts ∙ encodes-append e.before ds) in
+    let whole : bytes ≡ encodes e.before ++ encodes ds = sym (encodes-chars bytes text)
+    ∙ (ap encodes e.parts ∙ encodes-append e.before ds) in
     let good : scalars ds ≡ true = scalars-behind e.before ds (ap scalars (sym e.parts) ∙ scalars-chars bytes text) in
     rw e.size (IsCharBoundary-at_seam bytes (encodes e.before) (encodes ds) whole (ds, (good, refl)))
 
@@ -66,11 +73,13 @@ along : (at d w n m : ℕ) → w ≡ d → m ≡ w + n → at + d + n ≡ at + m
 along at d w n m width more = omega arith
 
 -- a rest stands behind a word by the word's bytes
-pub behind : (cs : List ℕ) (word rest : List Placed) (at : ℕ) → Stands cs (word ++ rest) at → Stands cs rest (at + byte_count word)
+pub behind : (cs : List ℕ) (word rest : List Placed) (at : ℕ) → Stands cs (word ++ rest) at →
+    Stands cs rest (at + byte_count word)
 behind cs [] rest at s = subst (λ n. Stands cs rest n) (omega arith) s
 behind cs (p ∷ word) rest at s = by_characters s.characters s.placed s.ends (λ n t. behind cs word rest n t)
   where
-    by_characters : (ds : List ℕ) → (p ∷ word) ++ rest ≡ place_all at ds → EndsWith cs ds at → ((n : ℕ) → Stands cs (word ++ rest) n → Stands cs rest (n + byte_count word)) →
+    by_characters : (ds : List ℕ) → (p ∷ word) ++ rest ≡ place_all at ds → EndsWith cs ds at →
+        ((n : ℕ) → Stands cs (word ++ rest) n → Stands cs rest (n + byte_count word)) →
         Stands cs rest (at + byte_count (p ∷ word))
     by_characters [] e h others = absurd (cc e)
     by_characters (d ∷ ds) e h others =
@@ -79,10 +88,12 @@ behind cs (p ∷ word) rest at s = by_characters s.characters s.placed s.ends (�
         let width : len_utf8 p.ch ≡ len_utf8 d = ap (λ (q : Placed). len_utf8 q.ch) first in
         let more : byte_count (p ∷ word) ≡ len_utf8 p.ch + byte_count word = sum_by-cons (λ (q : Placed). len_utf8 q.ch) p word in
         let next = others (at + len_utf8 d) (record { characters = ds; placed = placed; ends = one_on cs ds d at h }) in
-        subst (λ n. Stands cs rest n) (along at (len_utf8 d) (len_utf8 p.ch) (byte_count word) (byte_count (p ∷ word)) width more) next
+        subst (λ n. Stands cs rest n) (along at (len_utf8 d) (len_utf8 p.ch) (byte_count word) (byte_count (p ∷ word)) width more)
+        next
 
 -- where a word stands is the place of its first character
-pub stands_at : (cs : List ℕ) (word rest : List Placed) (p : Piece) (at : ℕ) → is_piece p word ≡ true → Stands cs (word ++ rest) at → place word ≡ at
+pub stands_at : (cs : List ℕ) (word rest : List Placed) (p : Piece) (at : ℕ) → is_piece p word ≡ true →
+    Stands cs (word ++ rest) at → place word ≡ at
 stands_at cs [] rest p at is s = absurd (no_piece p is)
 stands_at cs (q ∷ word) rest p at is s = by_characters s.characters s.placed
   where
@@ -106,7 +117,8 @@ abbrev SpansOk : Result (Option Token) LexFault → List Placed → Bool → Typ
 SpansOk (Ok o) word first = Spans o word first
 SpansOk (Err e) word first = Unit {0}
 
-pub token_spans : (p : Piece) (word : List Placed) (first : Bool) (o : Option Token) → token_of p word first ≡ Ok o → Spans o word first
+pub token_spans : (p : Piece) (word : List Placed) (first : Bool) (o : Option Token) → token_of p word first ≡ Ok o →
+    Spans o word first
 unfolding token_of choose
 token_spans p word first o e = subst (λ r. SpansOk r word first) e (by_piece p)
   where
@@ -114,7 +126,8 @@ token_spans p word first o e = subst (λ r. SpansOk r word first) e (by_piece p)
     by_number (Some n) = record { at = refl; len = refl; column = refl }
     by_number None = tt
 
-    by_length : (b : Bool) → SpansOk (choose b (Ok (token_with (name_kind word) word first)) (Err (fault.LongName (place word)))) word first
+    by_length : (b : Bool) → SpansOk (choose b (Ok (token_with (name_kind word) word first)) (Err (fault.LongName (place word))))
+        word first
     by_length true = record { at = refl; len = refl; column = refl }
     by_length false = tt
 
@@ -139,8 +152,10 @@ record Reached (bytes : List ℕ) (ts : List Token) (here : List Placed) : Type 
 pub with_one : (P : Token → Type 0) (ts : List Token) (t : Token) → All P ts → P t → All P (ts ++ t ∷ [])
 with_one P ts t all one = All-append P ts (t ∷ []) all (All-cons P t [] one (All-nil P))
 
-one_token : (bytes : List ℕ) (ts : List Token) (here rest word : List Placed) (first : Bool) (o : Option Token) → IsUtf8 bytes → (r : Reached bytes ts here) →
-    Stands (chars bytes) rest (r.at + byte_count word) → place word ≡ r.at → Spans o word first → Reached bytes (ts ++ list_of o) rest
+one_token : (bytes : List ℕ) (ts : List Token) (here rest word : List Placed) (first : Bool) (o : Option Token) → IsUtf8 bytes →
+    (r : Reached bytes ts here) →
+    Stands (chars bytes) rest (r.at + byte_count word) → place word ≡ r.at → Spans o word first →
+    Reached bytes (ts ++ list_of o) rest
 one_token bytes ts here rest word first None text r s p spans = record {
   at = r.at + byte_count word;
   stands = s;
@@ -155,13 +170,17 @@ one_token bytes ts here rest word first (Some t) text r s p spans =
     record {
       at = r.at + byte_count word;
       stands = s;
-      start = with_one (λ u. IsCharBoundary bytes u.at) ts t r.start (rw begin (boundary bytes r.stands.characters r.at text r.stands.ends));
-      stop = with_one (λ u. IsCharBoundary bytes (u.at + u.len)) ts t r.stop (rw end (boundary bytes s.characters (r.at + byte_count word) text s.ends));
-      within = with_one (λ u. u.at + u.len ≤ r.at + byte_count word) ts t (λ k d lt. omega (arith, r.within k d lt)) (omega arith);
+      start = with_one (λ u. IsCharBoundary bytes u.at) ts t r.start
+          (rw begin (boundary bytes r.stands.characters r.at text r.stands.ends));
+      stop = with_one (λ u. IsCharBoundary bytes (u.at + u.len)) ts t r.stop
+          (rw end (boundary bytes s.characters (r.at + byte_count word) text s.ends));
+      within = with_one (λ u. u.at + u.len ≤ r.at + byte_count word) ts t
+          (λ k d lt. omega (arith, r.within k d lt)) (omega arith);
       in_order = all_pairs_push (λ u v. u.at + u.len ≤ v.at) ts t r.in_order (λ k d lt. omega (arith, r.within k d lt));
     }
 
-reached : (bytes : List ℕ) → IsUtf8 bytes → (ts : List Token) (first : Bool) (here : List Placed) → LexesTo (place_all 0 (chars bytes)) ts first here → Reached bytes ts here
+reached : (bytes : List ℕ) → IsUtf8 bytes → (ts : List Token) (first : Bool) (here : List Placed) →
+    LexesTo (place_all 0 (chars bytes)) ts first here → Reached bytes ts here
 reached bytes text _ _ _ start = record {
   at = 0;
   stands = record { characters = chars bytes; placed = refl; ends = record { before = []; parts = refl; size = refl } };
@@ -174,7 +193,8 @@ reached bytes text us last rest (piece ts _ first _ here word _ p o so_far next 
     let r = reached bytes text ts first here so_far in
     let stands : Stands (chars bytes) (word ++ rest) r.at = subst (λ x. Stands (chars bytes) x r.at) next.parts r.stands in
     subst (λ x. Reached bytes x rest) (sym more)
-    (one_token bytes ts here rest word first o text r (behind (chars bytes) word rest r.at stands) (stands_at (chars bytes) word rest p r.at next.is stands) (token_spans p word first o token))
+    (one_token bytes ts here rest word first o text r (behind (chars bytes) word rest r.at stands)
+    (stands_at (chars bytes) word rest p r.at next.is stands) (token_spans p word first o token))
 
 -- the tokens of bytes stand in order in them
 pub have_spans : (bytes : List ℕ) (tokens : List Token) → Lexes bytes tokens → HaveSpans bytes tokens
@@ -186,11 +206,13 @@ have_spans bytes tokens l =
     let low : r.at ≤ length bytes = (boundary bytes r.stands.characters r.at l.text r.stands.ends).0 in
     subst (λ x. HaveSpans bytes x) (sym whole) (record {
       start = with_one (λ u. IsCharBoundary bytes u.at) a.before last r.start (IsCharBoundary-end bytes);
-      stop = with_one (λ u. IsCharBoundary bytes (u.at + u.len)) a.before last r.stop (subst (λ n. IsCharBoundary bytes n) (omega arith) (IsCharBoundary-end bytes));
+      stop = with_one (λ u. IsCharBoundary bytes (u.at + u.len)) a.before last r.stop
+          (subst (λ n. IsCharBoundary bytes n) (omega arith) (IsCharBoundary-end bytes));
       in_order = all_pairs_push (λ u v. u.at + u.len ≤ v.at) a.before last r.in_order (λ k d lt. omega (arith, r.within k d lt));
       few = subst (λ x. length x ≤ length bytes + 1) whole (few_tokens bytes tokens l);
     })
 
-pub ok_spans : (bytes : List ℕ) (result : Result (Vec Token Global) LexFault) → IfOk result (λ v. Lexes bytes v.items) → IfOk result (λ v. HaveSpans bytes v.items)
+pub ok_spans : (bytes : List ℕ) (result : Result (Vec Token Global) LexFault) → IfOk result (λ v. Lexes bytes v.items) →
+    IfOk result (λ v. HaveSpans bytes v.items)
 ok_spans bytes (Ok v) l = have_spans bytes v.items l
 ok_spans bytes (Err e) l = l

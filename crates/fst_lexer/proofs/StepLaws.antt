@@ -26,18 +26,34 @@ is_text Quoted word first at e = cc
 is_text Sign word first at e = cc
 
 module _ (text : List Placed) (ts : List Token) (first : Bool) (here : List Placed) (so_far : LexesTo text ts first here) where
-  pub goes_on : (p : Piece) (n : ℕ) (word rest : List Placed) (o : Option Token) (us : List Token) (last : Bool) → piece_at here ≡ Some (p, n) → word ≡ take n here → rest ≡ drop n here →
+  pub goes_on : (p : Piece) (n : ℕ) (word rest : List Placed) (o : Option Token) (us : List Token) (last : Bool) →
+      piece_at here ≡ Some (p, n) → word ≡ take n here → rest ≡ drop n here →
       token_of p word first ≡ Ok o → us ≡ ts ++ list_of o → last ≡ ends_line word → LexesTo text us last rest
   goes_on p n word rest o us last is front back token more ends =
       let next = piece_is_next here p n is in
       piece ts us first last here word rest p o so_far (rw (front, back) next) token more ends
 
   pub bad_char : 0 < length here → piece_at here ≡ None → IsFault text (fault.BadChar (place here))
-  bad_char some is = record { before = ts; first = first; here = here; lexed = so_far; fault = inl (record { some = some; none = none_is_next here is; is = refl }) }
+  bad_char some is = record {
+    before = ts;
+    first = first;
+    here = here;
+    lexed = so_far;
+    fault =
+        inl (record { some = some; none = none_is_next here is; is = refl });
+  }
 
-  pub bad_piece : (p : Piece) (n : ℕ) (word : List Placed) (e : LexFault) → piece_at here ≡ Some (p, n) → word ≡ take n here → token_of p word first ≡ Err e → IsFault text e
+  pub bad_piece : (p : Piece) (n : ℕ) (word : List Placed) (e : LexFault) → piece_at here ≡ Some (p, n) → word ≡ take n here →
+      token_of p word first ≡ Err e → IsFault text e
   bad_piece p n word fault.Memory is front bad = tt
   bad_piece p n word (fault.NotUtf8 at) is front bad = absurd (is_text p word first at bad)
   bad_piece p n word e is front bad =
       let next = piece_is_next here p n is in
-      record { before = ts; first = first; here = here; lexed = so_far; fault = inr (record { piece = p; word = word; rest = drop n here; next = rw front next; bad = bad }) }
+      record {
+        before = ts;
+        first = first;
+        here = here;
+        lexed = so_far;
+        fault =
+            inr (record { piece = p; word = word; rest = drop n here; next = rw front next; bad = bad });
+      }

@@ -68,8 +68,10 @@ quoted_letters (a ∷ c ∷ x ∷ b ∷ []) e =
 quoted_letters _ e = absurd (cc e)
 
 -- a name of this kind
-name_word : (word : List Placed) → is_piece Name word ≡ true → scalars (letters word) ≡ true → length (encodes (letters word)) ≤ longest_name → (reserved upper : Bool) →
-    is_reserved (letters word) ≡ reserved → begins_upper word ≡ upper → IsTokenOf (choose reserved kind.Reserved (choose upper kind.Upper kind.Lower)) (encodes (letters word))
+name_word : (word : List Placed) → is_piece Name word ≡ true → scalars (letters word) ≡ true →
+    length (encodes (letters word)) ≤ longest_name → (reserved upper : Bool) →
+    is_reserved (letters word) ≡ reserved → begins_upper word ≡ upper →
+    IsTokenOf (choose reserved kind.Reserved (choose upper kind.Upper kind.Lower)) (encodes (letters word))
 unfolding choose
 name_word word is good short true upper r u = rw (ascii_bytes (letters word) (reserved_letters (letters word) r).ascii) r
 name_word word is good short false upper r u = by_case upper u
@@ -83,7 +85,8 @@ name_word word is good short false upper r u = by_case upper u
     capital : is_capital (chars (encodes (letters word))) ≡ begins_upper word
     capital = ap is_capital same ∙ sym (capital_letters word)
 
-    by_case : (b : Bool) → begins_upper word ≡ b → IsTokenOf (choose false kind.Reserved (choose b kind.Upper kind.Lower)) (encodes (letters word))
+    by_case : (b : Bool) → begins_upper word ≡ b →
+        IsTokenOf (choose false kind.Reserved (choose b kind.Upper kind.Lower)) (encodes (letters word))
     by_case true e = (free, capital ∙ e)
     by_case false e = (free, capital ∙ e)
 
@@ -99,14 +102,16 @@ number_fits word n e =
     ]
 
 -- a number
-number_word : (word : List Placed) (first : Bool) (t : Token) (text : List ℕ) (o : Option ℕ) → number_of word ≡ o → number_token o word first ≡ Ok (Some t) → IsTokenOf t.kind text
+number_word : (word : List Placed) (first : Bool) (t : Token) (text : List ℕ) (o : Option ℕ) → number_of word ≡ o →
+    number_token o word first ≡ Ok (Some t) → IsTokenOf t.kind text
 number_word word first t text None is e = absurd (cc e)
 number_word word first t text (Some n) is e =
     let kind-is : kind.Number (pos n) ≡ t.kind = ap (λ (k : Token). k.kind) (made_is _ t (ok_is _ _ e)) in
     subst (λ k. IsTokenOf k text) kind-is (number_fits word n is)
 
 -- the bytes of a token's word are those of such a token
-made_word : (p : Piece) (word : List Placed) (first : Bool) (t : Token) → is_piece p word ≡ true → scalars (letters word) ≡ true → length (encodes (letters word)) ≡ byte_count word →
+made_word : (p : Piece) (word : List Placed) (first : Bool) (t : Token) → is_piece p word ≡ true → scalars (letters word) ≡ true →
+    length (encodes (letters word)) ≡ byte_count word →
     token_of p word first ≡ Ok (Some t) → IsTokenOf t.kind (encodes (letters word))
 unfolding token_of
 made_word Blank word first t is good size e = absurd (cc e)
@@ -116,7 +121,8 @@ made_word Name word first t is good size e =
       | inl h ↦
           let kind-is : name_kind word ≡ t.kind = ap (λ (k : Token). k.kind) (made_is _ t (ok_is _ _ h.1)) in
           let short : length (encodes (letters word)) ≤ longest_name = let fits = h.0 in grind (arith, nat_tests) in
-          subst (λ k. IsTokenOf k (encodes (letters word))) kind-is (name_word word is good short (is_reserved (letters word)) (begins_upper word) refl refl)
+          subst (λ k. IsTokenOf k (encodes (letters word))) kind-is
+          (name_word word is good short (is_reserved (letters word)) (begins_upper word) refl refl)
       | inr h ↦ absurd (let bad = h.1 in cc)
     ]
 made_word Digits word first t is good size e = number_word word first t (encodes (letters word)) (number_of word) refl e
@@ -127,7 +133,8 @@ made_word Quoted word first t is good size e =
 made_word Sign word first t is good size e =
     let kind-is : kind.Sign ≡ t.kind = ap (λ (k : Token). k.kind) (made_is _ t (ok_is _ _ e)) in
     let sign = sign_letters word is in
-    subst (λ k. IsTokenOf k (encodes (letters word))) kind-is (rw (ascii_bytes (letters word) (sign_ascii (letters word) sign)) sign)
+    subst (λ k. IsTokenOf k (encodes (letters word))) kind-is
+    (rw (ascii_bytes (letters word) (sign_ascii (letters word) sign)) sign)
 
 scalars-front : (xs ys : List ℕ) → scalars (xs ++ ys) ≡ true → scalars xs ≡ true
 scalars-front [] ys h = refl
@@ -137,23 +144,38 @@ scalars-front (x ∷ xs) ys h =
 
 size_of : (word : List Placed) → length (encodes (letters word)) ≡ byte_count word
 size_of [] = refl
-size_of (p ∷ ps) = omega (arith, sum_by-cons (λ (q : Placed). len_utf8 q.ch) p ps, size_of ps, length-encode p.ch, length-append (encode p.ch) (encodes (letters ps)))
+size_of (p ∷ ps) = omega (
+  arith,
+  sum_by-cons (λ (q : Placed). len_utf8 q.ch) p ps,
+  size_of ps,
+  length-encode p.ch,
+  length-append (encode p.ch) (encodes (letters ps)),
+)
 
 -- the bytes where a word stands
 record Bytes (bytes : List ℕ) (word : List Placed) (at : ℕ) : Type 0 where
   good : scalars (letters word) ≡ true
   are : take (byte_count word) (drop at bytes) ≡ encodes (letters word)
 
-bytes_at : (bytes : List ℕ) (word rest : List Placed) (at : ℕ) → IsUtf8 bytes → Stands (chars bytes) (word ++ rest) at → Bytes bytes word at
+bytes_at : (bytes : List ℕ) (word rest : List Placed) (at : ℕ) → IsUtf8 bytes → Stands (chars bytes) (word ++ rest) at →
+    Bytes bytes word at
 bytes_at bytes word rest at text s =
     let front = s.ends.before in
-    let parted : s.characters ≡ letters word ++ letters rest = sym (letters-place_all at s.characters) ∙ (ap letters (sym s.placed) ∙ map-append (λ (p : Placed). p.ch) word rest) in
+    let parted : s.characters ≡ letters word ++ letters rest = sym (letters-place_all at s.characters)
+    ∙ (ap letters (sym s.placed) ∙ map-append (λ (p : Placed). p.ch) word rest) in
     let all : chars bytes ≡ front ++ (letters word ++ letters rest) = s.ends.parts ∙ ap (λ x. front ++ x) parted in
     let whole : bytes ≡ encodes front ++ (encodes (letters word) ++ encodes (letters rest)) =
-    sym (encodes-chars bytes text) ∙ (ap encodes all ∙ (encodes-append front (letters word ++ letters rest) ∙ ap (λ x. encodes front ++ x) (encodes-append (letters word) (letters rest)))) in
+    sym (encodes-chars bytes text) ∙ (ap encodes all
+    ∙ (encodes-append front (letters word ++ letters rest) ∙ ap
+    (λ x. encodes front ++ x) (encodes-append (letters word) (letters rest)))) in
     record {
-      good = scalars-front (letters word) (letters rest) (scalars-behind front (letters word ++ letters rest) (ap scalars (sym all) ∙ scalars-chars bytes text));
-      are = rw (whole, drop_at (encodes front) (encodes (letters word) ++ encodes (letters rest)) at (sym s.ends.size), take_at (encodes (letters word)) (encodes (letters rest)) (byte_count word) (size_of word)) refl;
+      good = scalars-front (letters word) (letters rest)
+          (scalars-behind front (letters word ++ letters rest) (ap scalars (sym all) ∙ scalars-chars bytes text));
+      are = rw (
+        whole,
+        drop_at (encodes front) (encodes (letters word) ++ encodes (letters rest)) at (sym s.ends.size),
+        take_at (encodes (letters word)) (encodes (letters rest)) (byte_count word) (size_of word),
+      ) refl;
     }
 
 -- what is known of the tokens so far where this rest is left
@@ -162,14 +184,17 @@ record Reached (bytes : List ℕ) (ts : List Token) (here : List Placed) : Type 
   stands : Stands (chars bytes) here at
   words : All (λ t. IsTokenWord (word_at bytes t)) ts
 
-one_token : (bytes : List ℕ) (ts : List Token) (p : Piece) (word : List Placed) (first : Bool) (at : ℕ) (o : Option Token) → All (λ t. IsTokenWord (word_at bytes t)) ts → Bytes bytes word at →
-    is_piece p word ≡ true → place word ≡ at → Spans o word first → token_of p word first ≡ Ok o → All (λ t. IsTokenWord (word_at bytes t)) (ts ++ list_of o)
+one_token : (bytes : List ℕ) (ts : List Token) (p : Piece) (word : List Placed) (first : Bool) (at : ℕ) (o : Option Token) → All
+    (λ t. IsTokenWord (word_at bytes t)) ts → Bytes bytes word at →
+    is_piece p word ≡ true → place word ≡ at → Spans o word first → token_of p word first ≡ Ok o → All
+    (λ t. IsTokenWord (word_at bytes t)) (ts ++ list_of o)
 one_token bytes ts p word first at None all b is begin spans e = rw (append-nil ts) all
 one_token bytes ts p word first at (Some t) all b is begin spans e =
     let text : take t.len (drop t.at bytes) ≡ encodes (letters word) = rw (spans.at, spans.len, begin) b.are in
     with_one (λ u. IsTokenWord (word_at bytes u)) ts t all (rw text (made_word p word first t is b.good (size_of word) e))
 
-reached : (bytes : List ℕ) → IsUtf8 bytes → (ts : List Token) (first : Bool) (here : List Placed) → LexesTo (place_all 0 (chars bytes)) ts first here → Reached bytes ts here
+reached : (bytes : List ℕ) → IsUtf8 bytes → (ts : List Token) (first : Bool) (here : List Placed) →
+    LexesTo (place_all 0 (chars bytes)) ts first here → Reached bytes ts here
 reached bytes text _ _ _ start = record {
   at = 0;
   stands = record { characters = chars bytes; placed = refl; ends = record { before = []; parts = refl; size = refl } };
@@ -182,7 +207,8 @@ reached bytes text us last rest (piece ts _ first _ here word _ p o so_far next 
     subst (λ x. Reached bytes x rest) (sym more) (record {
       at = r.at + byte_count word;
       stands = behind (chars bytes) word rest r.at stands;
-      words = one_token bytes ts p word first r.at o r.words (bytes_at bytes word rest r.at text stands) next.is begin (token_spans p word first o token) token;
+      words = one_token bytes ts p word first r.at o r.words (bytes_at bytes word rest r.at text stands) next.is begin
+          (token_spans p word first o token) token;
     })
 
 pub token_words : TokenWords
@@ -192,4 +218,5 @@ token_words text tokens l =
     let r = reached text l.text a.before a.first [] a.lexed in
     let count : length a.before ≡ length (a.before ++ last ∷ []) - 1 = omega (arith, length-append a.before (last ∷ [])) in
     let whole : tokens ≡ a.before ++ last ∷ [] = a.whole in
-    subst (λ x. All (λ t. IsTokenWord (word_at text t)) (take (length x - 1) x)) (sym whole) (rw (take_at a.before (last ∷ []) (length (a.before ++ last ∷ []) - 1) count) r.words)
+    subst (λ x. All (λ t. IsTokenWord (word_at text t)) (take (length x - 1) x)) (sym whole)
+    (rw (take_at a.before (last ∷ []) (length (a.before ++ last ∷ []) - 1) count) r.words)

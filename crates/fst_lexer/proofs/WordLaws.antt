@@ -43,7 +43,8 @@ name_reads (c ∷ cs) ds is end at to =
     let k = name_class c h.0 in
     rw (k.blank, h.0, prefix_is continues_name (at + len_utf8 c) to cs ds h.1 end, one-add) refl
 
-pub digits_read : (c : ℕ) (cs ds : List ℕ) → list_all is_digit (c ∷ cs) ≡ true → fails_at is_digit ds ≡ true → Reads Digits (c ∷ cs) ds
+pub digits_read : (c : ℕ) (cs ds : List ℕ) → list_all is_digit (c ∷ cs) ≡ true → fails_at is_digit ds ≡ true →
+    Reads Digits (c ∷ cs) ds
 unfolding piece_at choose
 digits_read c cs ds is end at to =
     let h = and_parts (is_digit c) (list_all is_digit cs) is in
@@ -75,14 +76,22 @@ quoted_reads (a ∷ c ∷ e ∷ b ∷ []) ds x is at to =
     let test = (some_chosen (is_quote a && (is_backslash c && (is_escape e && is_quote b))) (escaped_character e) x is).0 in
     let q = and_parts (is_quote a) (is_backslash c && (is_escape e && is_quote b)) test in
     let k = quote_class a q.0 in
-    rw (k.blank, k.name, k.digit, k.quote, backslash_not_plain c (and_parts (is_backslash c) (is_escape e && is_quote b) q.1).0, q.1) refl
+    rw (
+      k.blank,
+      k.name,
+      k.digit,
+      k.quote,
+      backslash_not_plain c (and_parts (is_backslash c) (is_escape e && is_quote b) q.1).0,
+      q.1,
+    ) refl
 quoted_reads _ ds x is at to = absurd (cc is)
 
 capital-place_all : (at : ℕ) (cs : List ℕ) → begins_upper (place_all at cs) ≡ is_capital cs
 capital-place_all at [] = refl
 capital-place_all at (c ∷ cs) = refl
 
-pub name_makes : (cs : List ℕ) (k : TokenKind) → length (encodes cs) ≤ longest_name → choose (is_reserved cs) kind.Reserved (choose (is_capital cs) kind.Upper kind.Lower) ≡ k → Makes Name cs k
+pub name_makes : (cs : List ℕ) (k : TokenKind) → length (encodes cs) ≤ longest_name →
+    choose (is_reserved cs) kind.Reserved (choose (is_capital cs) kind.Upper kind.Lower) ≡ k → Makes Name cs k
 unfolding token_of choose
 name_makes cs k short is at first =
     let size = byte_count-place_all at cs in
@@ -107,6 +116,7 @@ quoted_makes (a ∷ c ∷ b ∷ []) x is at first =
     rw (excluded (is_backslash c) (is_plain c) (backslash_not_plain c) plain, h.1) refl
 quoted_makes (a ∷ c ∷ e ∷ b ∷ []) x is at first =
     let h = some_chosen (is_quote a && (is_backslash c && (is_escape e && is_quote b))) (escaped_character e) x is in
-    let slash = (and_parts (is_backslash c) (is_escape e && is_quote b) (and_parts (is_quote a) (is_backslash c && (is_escape e && is_quote b)) h.0).1).0 in
+    let slash = (and_parts (is_backslash c) (is_escape e && is_quote b)
+    (and_parts (is_quote a) (is_backslash c && (is_escape e && is_quote b)) h.0).1).0 in
     rw (slash, h.1) refl
 quoted_makes _ x is at first = absurd (cc is)

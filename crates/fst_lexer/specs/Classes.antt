@@ -63,7 +63,8 @@ short_signs = codes "!?+-*&{}():,;.=@~\\<>|"
 
 -- the signs of two characters
 abbrev pub long_signs : List (List ℕ)
-long_signs = codes "->" ∷ codes "==" ∷ codes "/=" ∷ codes "<=" ∷ codes ">=" ∷ codes "&&" ∷ codes "||" ∷ []
+long_signs = codes "->" ∷ codes "==" ∷ codes "/=" ∷ codes "<=" ∷ codes ">=" ∷ codes "&&" ∷ codes
+    "||" ∷ []
 
 -- the character is a sign
 abbrev pub is_short : ℕ → Bool
@@ -76,12 +77,15 @@ is_long a b = list_any (bytes_eq (a ∷ b ∷ [])) long_signs
 -- the reserved words that begin with a small letter
 abbrev pub lower_words : List (List ℕ)
 lower_words =
-    codes "data" ∷ codes "type" ∷ codes "forall" ∷ codes "rec" ∷ codes "new" ∷ codes "send" ∷ codes "receive" ∷ codes "select" ∷ codes "match" ∷ codes "with" ∷ codes "case"
-    ∷ codes "of" ∷ codes "let" ∷ codes "in" ∷ codes "if" ∷ codes "then" ∷ codes "else" ∷ codes "fork" ∷ codes "not" ∷ codes "close" ∷ codes "wait" ∷ []
+    codes "data" ∷ codes "type" ∷ codes "forall" ∷ codes "rec" ∷ codes "new" ∷ codes "send" ∷ codes
+    "receive" ∷ codes "select" ∷ codes "match" ∷ codes "with" ∷ codes "case"
+    ∷ codes "of" ∷ codes "let" ∷ codes "in" ∷ codes "if" ∷ codes "then" ∷ codes "else" ∷ codes
+    "fork" ∷ codes "not" ∷ codes "close" ∷ codes "wait" ∷ []
 
 -- the reserved words that begin with `A` to `Z`
 abbrev pub upper_words : List (List ℕ)
-upper_words = codes "True" ∷ codes "False" ∷ codes "Int" ∷ codes "Bool" ∷ codes "Char" ∷ codes "Skip" ∷ codes "Close" ∷ codes "Wait" ∷ []
+upper_words = codes "True" ∷ codes "False" ∷ codes "Int" ∷ codes "Bool" ∷ codes "Char" ∷ codes
+    "Skip" ∷ codes "Close" ∷ codes "Wait" ∷ []
 
 -- the text is a reserved word
 abbrev pub is_reserved : List ℕ → Bool

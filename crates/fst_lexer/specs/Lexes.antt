@@ -20,6 +20,9 @@ Refuses bytes e = IsUtf8 bytes × IsFault (place_all 0 (chars bytes)) e
 
 -- bytes have one list of tokens, or one fault other than Memory, and not both
 pub record OneLexing : Type 0 where
-  pub one_list : (bytes : List ℕ) (tokens others : List Token) → Lexes bytes tokens → Lexes bytes others → tokens ≡ others
-  pub no_fault : (bytes : List ℕ) (tokens : List Token) (e : LexFault) → Lexes bytes tokens → Refuses bytes e → e ≡ fault.Memory
-  pub one_fault : (bytes : List ℕ) (e f : LexFault) → e ≢ fault.Memory → f ≢ fault.Memory → Refuses bytes e → Refuses bytes f → e ≡ f
+  pub one_list : (bytes : List ℕ) (tokens others : List Token) → Lexes bytes tokens →
+      Lexes bytes others → tokens ≡ others
+  pub no_fault : (bytes : List ℕ) (tokens : List Token) (e : LexFault) → Lexes bytes tokens →
+      Refuses bytes e → e ≡ fault.Memory
+  pub one_fault : (bytes : List ℕ) (e f : LexFault) → e ≢ fault.Memory → f ≢ fault.Memory →
+      Refuses bytes e → Refuses bytes f → e ≡ f

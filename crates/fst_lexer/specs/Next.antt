@@ -8,7 +8,8 @@ use Rattle.fst_lexer.specs.Piece.{is_piece}
 pub record IsNext (text : List Placed) (p : Piece) (word rest : List Placed) : Type 0 where
   pub parts : text ≡ word ++ rest
   pub is : is_piece p word ≡ true
-  pub longest : (q : Piece) (v r : List Placed) → text ≡ v ++ r → is_piece q v ≡ true → length v ≤ length word
+  pub longest : (q : Piece) (v r : List Placed) → text ≡ v ++ r → is_piece q v ≡ true →
+      length v ≤ length word
 
 -- the text begins with no piece
 abbrev pub NoPiece : List Placed → Type 0

@@ -11,16 +11,19 @@ use Rattle.fst_lexer.specs.Classes.{is_blank, is_dash, is_feed, is_quote, is_bac
 abbrev pub sign_at : List Placed → Option (Piece × ℕ)
 sign_at [] = None
 sign_at (a ∷ []) = choose (is_short a.ch) (Some (Sign, 1)) None
-sign_at (a ∷ b ∷ cs) = choose (is_long a.ch b.ch) (Some (Sign, 2)) (choose (is_short a.ch) (Some (Sign, 1)) None)
+sign_at (a ∷ b ∷ cs) = choose (is_long a.ch b.ch) (Some (Sign, 2))
+    (choose (is_short a.ch) (Some (Sign, 1)) None)
 
 -- the text goes on behind a quote as a character with a backslash does
 abbrev pub escaped_at : List Placed → Option (Piece × ℕ)
-escaped_at (c ∷ e ∷ b ∷ cs) = choose (is_backslash c.ch && (is_escape e.ch && is_quote b.ch)) (Some (Quoted, 4)) None
+escaped_at (c ∷ e ∷ b ∷ cs) = choose (is_backslash c.ch && (is_escape e.ch && is_quote b.ch))
+    (Some (Quoted, 4)) None
 escaped_at _ = None
 
 -- the text goes on behind a quote as a character token does
 abbrev pub quoted_at : List Placed → Option (Piece × ℕ)
-quoted_at (c ∷ b ∷ cs) = choose (is_plain c.ch && is_quote b.ch) (Some (Quoted, 3)) (escaped_at (c ∷ b ∷ cs))
+quoted_at (c ∷ b ∷ cs) = choose (is_plain c.ch && is_quote b.ch) (Some (Quoted, 3))
+    (escaped_at (c ∷ b ∷ cs))
 quoted_at _ = None
 
 -- the text begins as a comment does

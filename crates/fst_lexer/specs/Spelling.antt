@@ -36,7 +36,9 @@ is_sign _ = false
 -- what the characters stand for, where they are one in quotes
 abbrev pub quoted_character : List ℕ → Option ℕ
 quoted_character (a ∷ c ∷ b ∷ []) = choose (is_quote a && (is_plain c && is_quote b)) (Some c) None
-quoted_character (a ∷ c ∷ e ∷ b ∷ []) = choose (is_quote a && (is_backslash c && (is_escape e && is_quote b))) (Some (escaped_character e)) None
+quoted_character (a ∷ c ∷ e ∷ b ∷ []) =
+    choose (is_quote a && (is_backslash c && (is_escape e && is_quote b)))
+    (Some (escaped_character e)) None
 quoted_character _ = None
 
 -- the bytes are a name that isn't reserved
@@ -64,7 +66,8 @@ IsWord w = IsWordOf w.kind w.text
 -- the bytes are none, or begin with an ASCII one that no name goes on with
 abbrev pub ends_name : List ℕ → Bool
 ends_name [] = true
-ends_name (b ∷ bs) = nat_lt b 128 && not (is_quote b || (is_ascii_alphanumeric b || (b == byte "_")))
+ends_name (b ∷ bs) = nat_lt b 128 && not (is_quote b
+    || (is_ascii_alphanumeric b || (b == byte "_")))
 
 -- the bytes are none, or begin with one that is no digit
 abbrev pub ends_number : List ℕ → Bool
@@ -98,8 +101,10 @@ pub record LinedWord : Type 0 where
 -- the bytes are these words in order, each apart from what is behind it, with blanks between them; they begin a line or not
 pub data IsSpelled : Bool → List ℕ → List LinedWord → Type 0 where
   nothing : (first : Bool) → IsSpelled first [] []
-  blank : (first : Bool) (c : ℕ) (rest : List ℕ) (ws : List LinedWord) → is_blank c ≡ true → IsSpelled (is_feed c) rest ws → IsSpelled first (c ∷ rest) ws
-  word : (first : Bool) (w : Word) (all rest : List ℕ) (ws : List LinedWord) → IsWord w → StandsApart w rest → all ≡ w.text ++ rest → IsSpelled false rest ws →
+  blank : (first : Bool) (c : ℕ) (rest : List ℕ) (ws : List LinedWord) → is_blank c ≡ true →
+      IsSpelled (is_feed c) rest ws → IsSpelled first (c ∷ rest) ws
+  word : (first : Bool) (w : Word) (all rest : List ℕ) (ws : List LinedWord) → IsWord w →
+      StandsApart w rest → all ≡ w.text ++ rest → IsSpelled false rest ws →
       IsSpelled first all (record { first = first; word = w } ∷ ws)
 
 -- a token of a text as a word: its kind, and the bytes at its place
@@ -140,4 +145,5 @@ IsTokenWord w = IsTokenOf w.kind w.text
 
 -- each token of a text but the last one is a word, or a number that isn't too wide
 abbrev pub TokenWords : Type 0
-TokenWords = (text : List ℕ) (tokens : List Token) → Lexes text tokens → All (λ t. IsTokenWord (word_at text t)) (take (length tokens - 1) tokens)
+TokenWords = (text : List ℕ) (tokens : List Token) → Lexes text tokens → All
+    (λ t. IsTokenWord (word_at text t)) (take (length tokens - 1) tokens)

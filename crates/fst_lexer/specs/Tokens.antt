@@ -49,7 +49,8 @@ begins_upper (c ∷ cs) = is_upper c.ch
 
 -- which kind of token a name is
 abbrev pub name_kind : List Placed → TokenKind
-name_kind word = choose (is_reserved (letters word)) kind.Reserved (choose (begins_upper word) kind.Upper kind.Lower)
+name_kind word = choose (is_reserved (letters word)) kind.Reserved
+    (choose (begins_upper word) kind.Upper kind.Lower)
 
 -- the last character is a line feed, so that a line begins behind these
 abbrev pub ends_line : List Placed → Bool
@@ -59,7 +60,8 @@ ends_line (c ∷ d ∷ cs) = ends_line (d ∷ cs)
 
 -- a token of this kind with this text, which begins a line or not
 abbrev pub token_with : TokenKind → List Placed → Bool → Option Token
-token_with k word first = Some (record { kind = k; at = place word; len = byte_count word; first_column = first })
+token_with k word first = Some (record
+    { kind = k; at = place word; len = byte_count word; first_column = first })
 
 -- the token of digits, or that they spell too wide a number
 abbrev pub number_token : Option ℕ → List Placed → Bool → Result (Option Token) LexFault
@@ -70,7 +72,8 @@ number_token None word first = Err (fault.WideNumber (place word))
 unfoldable pub token_of : Piece → List Placed → Bool → Result (Option Token) LexFault
 token_of Blank word first = Ok None
 token_of Comment word first = Ok None
-token_of Name word first = choose (nat_le (byte_count word) longest_name) (Ok (token_with (name_kind word) word first)) (Err (fault.LongName (place word)))
+token_of Name word first = choose (nat_le (byte_count word) longest_name)
+    (Ok (token_with (name_kind word) word first)) (Err (fault.LongName (place word)))
 token_of Digits word first = number_token (number_of word) word first
 token_of Quoted word first = Ok (token_with (kind.Character (character_of word)) word first)
 token_of Sign word first = Ok (token_with kind.Sign word first)
@@ -83,8 +86,10 @@ list_of (Some t) = t ∷ []
 -- these are the tokens of a text up to a rest, and whether the rest begins a line
 pub data LexesTo (text : List Placed) : List Token → Bool → List Placed → Type 0 where
   start : LexesTo text [] true text
-  piece : (ts us : List Token) (first last : Bool) (here word rest : List Placed) (p : Piece) (o : Option Token) →
-      LexesTo text ts first here → IsNext here p word rest → token_of p word first ≡ Ok o → us ≡ ts ++ list_of o → last ≡ ends_line word →
+  piece : (ts us : List Token) (first last : Bool) (here word rest : List Placed) (p : Piece)
+      (o : Option Token) →
+      LexesTo text ts first here → IsNext here p word rest → token_of p word first ≡ Ok o →
+      us ≡ ts ++ list_of o → last ≡ ends_line word →
       LexesTo text us last rest
 
 -- the last token

@@ -15,7 +15,8 @@ use Rattle.fst_terms.specs.Naming.{place_of}
 use Rattle.fst_locals.specs.Levels.{Entries, names, found}
 
 -- a place behind the first one, if there is one, goes by the place in the rest
-next_kept : (c : Bool) (p q : Option ℕ) → ((k : ℕ) → p ≡ Some k → q ≡ Some k) → (k : ℕ) → (if c then Some 0 else option_map suc p) ≡ Some k → (if c then Some 0 else option_map suc q) ≡ Some k
+next_kept : (c : Bool) (p q : Option ℕ) → ((k : ℕ) → p ≡ Some k → q ≡ Some k) → (k : ℕ) →
+    (if c then Some 0 else option_map suc p) ≡ Some k → (if c then Some 0 else option_map suc q) ≡ Some k
 next_kept true p q f k h = h
 next_kept false None q f k h = absurd (cc h)
 next_kept false (Some n) q f k h = ap (option_map suc) (f n refl) ∙ h
@@ -25,13 +26,15 @@ is_first true p h = refl
 is_first false None h = absurd (cc h)
 is_first false (Some n) h = absurd (cc h)
 
-is_later : (c : Bool) (p : Option ℕ) (k : ℕ) → (if c then Some 0 else option_map suc p) ≡ Some (suc k) → (c ≡ false) × (p ≡ Some k)
+is_later : (c : Bool) (p : Option ℕ) (k : ℕ) → (if c then Some 0 else option_map suc p) ≡ Some (suc k) → (c ≡ false) ×
+    (p ≡ Some k)
 is_later true p k h = absurd (cc h)
 is_later false None k h = absurd (cc h)
 is_later false (Some n) k h = (refl, cc h)
 
 -- of two choices that exclude each other either may come first
-in_turn : {A : Type 0} (c d : Bool) (x y r : A) → (c ≡ true → d ≡ true → ⊥) → (if c then x else if d then y else r) ≡ (if d then y else if c then x else r)
+in_turn : {A : Type 0} (c d : Bool) (x y r : A) → (c ≡ true → d ≡ true → ⊥) →
+    (if c then x else if d then y else r) ≡ (if d then y else if c then x else r)
 in_turn true true x y r apart = absurd (apart refl refl)
 in_turn true false x y r apart = refl
 in_turn false d x y r apart = refl
@@ -71,34 +74,45 @@ module _ (test : Vec ℕ Global → Bool) (x : List ℕ) (says : (k : Vec ℕ Gl
       by false = refl
 
 -- a name gets a level, and is put behind the others where it isn't among them
-module _ (eq : Vec ℕ Global → Vec ℕ Global → Bool) (says : (a b : Vec ℕ Global) → eq a b ≡ bytes_eq a.items b.items) (key : Vec ℕ Global) (w : Option ℕ) where
-  pub place_kept : (es : Entries) (x : List ℕ) (k : ℕ) → place_of (names es) x ≡ Some k → place_of (names (insert_entry eq es key w)) x ≡ Some k
+module _ (eq : Vec ℕ Global → Vec ℕ Global → Bool) (says : (a b : Vec ℕ Global) → eq a b ≡ bytes_eq a.items b.items)
+    (key : Vec ℕ Global) (w : Option ℕ) where
+  pub place_kept : (es : Entries) (x : List ℕ) (k : ℕ) → place_of (names es) x ≡ Some k →
+      place_of (names (insert_entry eq es key w)) x ≡ Some k
   place_kept [] x k h = absurd (cc h)
   place_kept (e ∷ es) x k h = by (eq key e.0) (place_kept es x)
     where
       by : (b : Bool) → ((j : ℕ) → place_of (names es) x ≡ Some j → place_of (names (insert_entry eq es key w)) x ≡ Some j) →
           place_of (names (if b then (e.0, w) ∷ es else e ∷ insert_entry eq es key w)) x ≡ Some k
       by true rest = h
-      by false rest = next_kept (bytes_eq x e.0.items) (place_of (names es) x) (place_of (names (insert_entry eq es key w)) x) rest k h
+      by false rest = next_kept (bytes_eq x e.0.items) (place_of (names es) x)
+          (place_of (names (insert_entry eq es key w)) x) rest k h
 
-  pub place_new : (es : Entries) → place_of (names (insert_entry eq es key w)) key.items ≡ Some (position_or_len (eq key) (keys_of es))
+  pub place_new : (es : Entries) → place_of (names (insert_entry eq es key w)) key.items ≡ Some
+      (position_or_len (eq key) (keys_of es))
   place_new [] = ap (λ c. if c then Some 0 else None) (text_itself key.items)
   place_new (e ∷ es) = by (eq key e.0) (sym (says key e.0)) (place_new es)
     where
-      by : (b : Bool) → bytes_eq key.items e.0.items ≡ b → place_of (names (insert_entry eq es key w)) key.items ≡ Some (position_or_len (eq key) (keys_of es)) →
-          place_of (names (if b then (e.0, w) ∷ es else e ∷ insert_entry eq es key w)) key.items ≡ Some (cond (not b) (1 + position_or_len (eq key) (keys_of es)) 0)
+      by : (b : Bool) → bytes_eq key.items e.0.items ≡ b →
+          place_of (names (insert_entry eq es key w)) key.items ≡ Some (position_or_len (eq key) (keys_of es)) →
+          place_of (names (if b then (e.0, w) ∷ es else e ∷ insert_entry eq es key w)) key.items ≡ Some
+          (cond (not b) (1 + position_or_len (eq key) (keys_of es)) 0)
       by true s rest = ap (λ c. if c then Some 0 else option_map suc (place_of (names es) key.items)) s
       by false s rest =
-          ap (λ c. if c then Some 0 else option_map suc (place_of (names (insert_entry eq es key w)) key.items)) s ∙ ap (option_map suc) rest ∙ ap Some (omega arith)
+          ap (λ c. if c then Some 0 else option_map suc (place_of (names (insert_entry eq es key w)) key.items)) s
+          ∙ ap (option_map suc) rest ∙ ap Some (omega arith)
 
-  pub found_new : (es : Entries) (x : List ℕ) → found (insert_entry eq es key w) x ≡ (if bytes_eq x key.items then w else found es x)
+  pub found_new : (es : Entries) (x : List ℕ) →
+      found (insert_entry eq es key w) x ≡ (if bytes_eq x key.items then w else found es x)
   found_new [] x = refl
   found_new (e ∷ es) x = by (eq key e.0) (sym (says key e.0)) (found_new es x)
     where
-      by : (b : Bool) → bytes_eq key.items e.0.items ≡ b → found (insert_entry eq es key w) x ≡ (if bytes_eq x key.items then w else found es x) →
-          found (if b then (e.0, w) ∷ es else e ∷ insert_entry eq es key w) x ≡ (if bytes_eq x key.items then w else found (e ∷ es) x)
+      by : (b : Bool) → bytes_eq key.items e.0.items ≡ b →
+          found (insert_entry eq es key w) x ≡ (if bytes_eq x key.items then w else found es x) →
+          found (if b then (e.0, w) ∷ es else e ∷ insert_entry eq es key w)
+          x ≡ (if bytes_eq x key.items then w else found (e ∷ es) x)
       by true s rest =
-          subst (λ y. found ((e.0, w) ∷ es) x ≡ (if bytes_eq x y then w else found (e ∷ es) x)) (sym (same_text key.items e.0.items s))
+          subst (λ y. found ((e.0, w) ∷ es) x ≡ (if bytes_eq x y then w else found (e ∷ es) x))
+          (sym (same_text key.items e.0.items s))
           (in_front (bytes_eq x e.0.items) w e.1 (found es x))
       by false s rest =
           ap (λ r. if bytes_eq x e.0.items then e.1 else r) rest
@@ -110,11 +124,13 @@ names_kept [] k w = refl
 names_kept (e ∷ es) zero w = refl
 names_kept (e ∷ es) (suc k) w = ap (λ r. e.0.items ∷ r) (names_kept es k w)
 
-pub found_set : (es : Entries) (k : ℕ) (w : Option ℕ) (y : List ℕ) → place_of (names es) y ≡ Some k → (x : List ℕ) → found (set_value_at es k w) x ≡ (if bytes_eq x y then w else found es x)
+pub found_set : (es : Entries) (k : ℕ) (w : Option ℕ) (y : List ℕ) → place_of (names es) y ≡ Some k →
+    (x : List ℕ) → found (set_value_at es k w) x ≡ (if bytes_eq x y then w else found es x)
 found_set [] k w y h x = absurd (cc h)
 found_set (e ∷ es) zero w y h x =
     let same = same_text y e.0.items (is_first (bytes_eq y e.0.items) (place_of (names es) y) h) in
-    subst (λ z. found ((e.0, w) ∷ es) x ≡ (if bytes_eq x z then w else found (e ∷ es) x)) (sym same) (in_front (bytes_eq x e.0.items) w e.1 (found es x))
+    subst (λ z. found ((e.0, w) ∷ es) x ≡ (if bytes_eq x z then w else found (e ∷ es) x)) (sym same)
+    (in_front (bytes_eq x e.0.items) w e.1 (found es x))
 found_set (e ∷ es) (suc k) w y h x =
     let later = is_later (bytes_eq y e.0.items) (place_of (names es) y) k h in
     ap (λ r. if bytes_eq x e.0.items then e.1 else r) (found_set es k w y later.1 x)

@@ -36,7 +36,8 @@ names_of table opens = map (name_of table) opens
 abbrev pub AreOpen : List (List ℕ) → List Open → Type 0
 AreOpen table [] = Unit {0}
 AreOpen table (o ∷ opens) =
-    (place_of table (name_of table o) ≡ Some o.index) × (o.hidden ≡ level_of (names_of table opens) (name_of table o)) × AreOpen table opens
+    (place_of table (name_of table o) ≡ Some o.index) ×
+    (o.hidden ≡ level_of (names_of table opens) (name_of table o)) × AreOpen table opens
 
 -- the names of the variables that were entered one after the other
 abbrev pub names_in : Entries → List Open → List (List ℕ)

@@ -12,8 +12,10 @@ use Rattle.fst_loops.specs.declared.search.Part.{Part}
 use Rattle.fst_loops.proofs.Loops.{leads_trans}
 use Rattle.fst_loops.proofs.Parts.{last_most, in_order_front, cover_front, place_of, at_place, among, marked_within, looped_within, length-set_all, set_all-kept, set_all-same, set_all-other}
 
-module _ (g : List (List ℕ)) (marks : List Mark) (path : List ℕ) (ps : List Part) (b : Part) (pending order : List ℕ) (looped after : List Bool)
-    (h : Holds g marks path (ps ++ b ∷ []) pending order looped) (over : length pending ≤ b.before) (noted : IsNoted looped (drop b.first path) after) where
+module _ (g : List (List ℕ)) (marks : List Mark) (path : List ℕ) (ps : List Part) (b : Part) (pending order : List ℕ)
+    (looped after : List Bool)
+    (h : Holds g marks path (ps ++ b ∷ []) pending order looped) (over : length pending ≤ b.before)
+    (noted : IsNoted looped (drop b.first path) after) where
   begins : b.first ≤ length path
   begins = (h.divided.within b (Contains-push ps b)).0
 
@@ -25,14 +27,16 @@ module _ (g : List (List ℕ)) (marks : List Mark) (path : List ℕ) (ps : List 
   inside p ge lt =
       let i : ℕ = p - b.first in
       let same : b.first + (p - b.first) ≡ p = omega arith in
-      at_place (drop b.first path) (p - b.first) (get_or path p 0) (let e = ends in omega arith) (get_or-drop b.first path (p - b.first) 0 ∙ ap (λ (k : ℕ). get_or path k 0) same)
+      at_place (drop b.first path) (p - b.first) (get_or path p 0) (let e = ends in omega arith)
+      (get_or-drop b.first path (p - b.first) 0 ∙ ap (λ (k : ℕ). get_or path k 0) same)
 
   place_in : (x : ℕ) → Contains (drop b.first path) x → (p : ℕ) × (b.first ≤ p) × (p < length path) × (get_or path p 0 ≡ x)
   place_in x m =
       let k = place_of (drop b.first path) x m in
       (b.first + k.0, omega arith, (let e = ends in let lt = k.1 in omega arith), sym (get_or-drop b.first path k.0 0) ∙ k.2)
 
-  was_open : (x : ℕ) → Contains (drop b.first path) x → (p : ℕ) × (b.first ≤ p) × (p < length path) × (mark_at marks x ≡ Open p) × (get_or path p 0 ≡ x)
+  was_open : (x : ℕ) → Contains (drop b.first path) x → (p : ℕ) × (b.first ≤ p) × (p < length path) × (mark_at marks x ≡ Open p) ×
+      (get_or path p 0 ≡ x)
   was_open x m = let p = place_in x m in (p.0, p.1, p.2, ap (mark_at marks) (sym p.3) ∙ h.placed.marked p.0 p.2, p.3)
 
   marked_nodes : (x : ℕ) → Contains (drop b.first path) x → x < length marks
@@ -41,23 +45,28 @@ module _ (g : List (List ℕ)) (marks : List Mark) (path : List ℕ) (ps : List 
   done_now : (x : ℕ) → Contains (drop b.first path) x → mark_at (set_all marks (drop b.first path) Done) x ≡ Done
   done_now x m = set_all-same marks (drop b.first path) Done Unseen x (marked_nodes x m) m
 
-  else_same : (x : ℕ) → (Contains (drop b.first path) x → ⊥) → mark_at (set_all marks (drop b.first path) Done) x ≡ mark_at marks x
+  else_same : (x : ℕ) → (Contains (drop b.first path) x → ⊥) →
+      mark_at (set_all marks (drop b.first path) Done) x ≡ mark_at marks x
   else_same x none = set_all-other marks (drop b.first path) Done Unseen x none
 
   done_still : (x : ℕ) → mark_at marks x ≡ Done → mark_at (set_all marks (drop b.first path) Done) x ≡ Done
   done_still x d = elim (among (drop b.first path) x) [ inl m ↦ done_now x m | inr none ↦ else_same x none ∙ d ]
 
-  done_or_inside : (x : ℕ) → mark_at (set_all marks (drop b.first path) Done) x ≡ Done → (mark_at marks x ≡ Done) ⊎ Contains (drop b.first path) x
+  done_or_inside : (x : ℕ) → mark_at (set_all marks (drop b.first path) Done) x ≡ Done →
+      (mark_at marks x ≡ Done) ⊎ Contains (drop b.first path) x
   done_or_inside x d = elim (among (drop b.first path) x) [ inl m ↦ inr m | inr none ↦ inl (sym (else_same x none) ∙ d) ]
 
   -- a node that was open is done, or open in front of the part
   still_open : (x q : ℕ) → mark_at marks x ≡ Open q → q < b.first → mark_at (set_all marks (drop b.first path) Done) x ≡ Open q
-  still_open x q at lt = else_same x (λ m. let p = was_open x m in let e = p.3 in let same : p.0 ≡ q = cc in let ge = p.1 in absurd (omega arith)) ∙ at
+  still_open x q at lt = else_same x (λ m. let p = was_open x m in let e = p.3 in let same : p.0 ≡ q = cc in let ge = p.1 in
+      absurd (omega arith)) ∙ at
 
   done_open : (x q : ℕ) → mark_at marks x ≡ Open q → b.first ≤ q → mark_at (set_all marks (drop b.first path) Done) x ≡ Done
-  done_open x q at ge = let p = h.placed.placed x q at in done_now x (subst (λ (v : ℕ). Contains (drop b.first path) v) p.1 (inside q ge p.0))
+  done_open x q at ge = let p = h.placed.placed x q at in
+      done_now x (subst (λ (v : ℕ). Contains (drop b.first path) v) p.1 (inside q ge p.0))
 
-  was_open_too : (x q : ℕ) → mark_at (set_all marks (drop b.first path) Done) x ≡ Open q → (mark_at marks x ≡ Open q) × (q < b.first)
+  was_open_too : (x q : ℕ) → mark_at (set_all marks (drop b.first path) Done) x ≡ Open q → (mark_at marks x ≡ Open q) ×
+      (q < b.first)
   was_open_too x q at = elim (among (drop b.first path) x) [
     | inl m ↦ absurd (let d = done_now x m in cc)
     | inr none ↦
@@ -66,7 +75,8 @@ module _ (g : List (List ℕ)) (marks : List Mark) (path : List ℕ) (ps : List 
   ]
 
   -- what a node of the part leads to was done, or is a node of the part
-  leads_to : (p y : ℕ) → b.first ≤ p → p < length path → Contains (edges g (get_or path p 0)) y → (mark_at marks y ≡ Done) ⊎ ((q : ℕ) × (mark_at marks y ≡ Open q) × (b.first ≤ q))
+  leads_to : (p y : ℕ) → b.first ≤ p → p < length path → Contains (edges g (get_or path p 0)) y → (mark_at marks y ≡ Done) ⊎
+      ((q : ℕ) × (mark_at marks y ≡ Open q) × (b.first ≤ q))
   leads_to p y ge lt m = elim (h.followed p y lt m) [
     | inl w ↦ absurd (let le = w.3 b (Contains-push ps b) ge in let l = w.1 in omega arith)
     | inr known ↦ elim known [
@@ -89,7 +99,8 @@ module _ (g : List (List ℕ)) (marks : List Mark) (path : List ℕ) (ps : List 
 
   all_looped : 1 < length (drop b.first path) → (x : ℕ) → Contains (drop b.first path) x → is_looped after x ≡ true
   all_looped several x m = elim noted [
-    | inl n ↦ ap (λ l. is_looped l x) n.1 ∙ set_all-same looped (drop b.first path) true false x (let a = h.found.told in let c = h.found.marked in let lt = marked_nodes x m in omega arith) m
+    | inl n ↦ ap (λ l. is_looped l x) n.1 ∙ set_all-same looped (drop b.first path) true false x
+        (let a = h.found.told in let c = h.found.marked in let lt = marked_nodes x m in omega arith) m
     | inr n ↦ absurd (let le = n.0 in omega arith)
   ]
 
@@ -99,38 +110,44 @@ module _ (g : List (List ℕ)) (marks : List Mark) (path : List ℕ) (ps : List 
     | false ↦ λ l. refl
   ]) refl
 
-  within_part : (p q : ℕ) → b.first ≤ p → p < length path → b.first ≤ q → q < length path → (p ≡ q → ⊥) → Leads g (get_or path p 0) (get_or path q 0)
-  within_part p q gp lp gq lq ne = elim (h.connected p q lp lq (λ c m start. let most = (last_most ps b c h.divided.rising m).0 in omega arith)) [
-    | inl e ↦ absurd (ne (
-        let one = h.placed.marked p lp in
-        let two = h.placed.marked q lq in
-        let both : Open p ≡ Open q = sym one ∙ ap (mark_at marks) e ∙ two in
-        let same : p ≡ q = cc in
-        same))
-    | inr r ↦ r
-  ]
+  within_part : (p q : ℕ) → b.first ≤ p → p < length path → b.first ≤ q → q < length path →
+      (p ≡ q → ⊥) → Leads g (get_or path p 0) (get_or path q 0)
+  within_part p q gp lp gq lq ne = elim (h.connected p q lp lq
+      (λ c m start. let most = (last_most ps b c h.divided.rising m).0 in omega arith)) [
+        | inl e ↦ absurd (ne (
+            let one = h.placed.marked p lp in
+            let two = h.placed.marked q lq in
+            let both : Open p ≡ Open q = sym one ∙ ap (mark_at marks) e ∙ two in
+            let same : p ≡ q = cc in
+            same))
+        | inr r ↦ r
+      ]
 
   on_loop : 1 < length (drop b.first path) → (p : ℕ) → b.first ≤ p → p < length path → Leads g (get_or path p 0) (get_or path p 0)
   on_loop several p ge lt = elim (cases_eq p b.first) [
     | inl e ↦
         let far : suc b.first < length path = (let l = ends in omega arith) in
-        leads_trans (within_part p (suc b.first) ge lt (omega arith) far (λ s. absurd (omega arith))) (within_part (suc b.first) p (omega arith) far ge lt (λ s. absurd (omega arith)))
+        leads_trans (within_part p (suc b.first) ge lt (omega arith) far (λ s. absurd (omega arith)))
+        (within_part (suc b.first) p (omega arith) far ge lt (λ s. absurd (omega arith)))
     | inr ne ↦
         let near : b.first < length path = omega arith in
-        leads_trans (within_part p b.first ge lt (omega arith) near ne) (within_part b.first p (omega arith) near ge lt (λ s. ne (sym s)))
+        leads_trans (within_part p b.first ge lt (omega arith) near ne)
+        (within_part b.first p (omega arith) near ge lt (λ s. ne (sym s)))
   ]
 
   sound : (x : ℕ) → is_looped after x ≡ true → Leads g x x
   sound x e = elim noted [
     | inl n ↦ elim (among (drop b.first path) x) [
       | inl m ↦ let p = place_in x m in subst (λ (v : ℕ). Leads g v v) p.3 (on_loop n.0 p.0 p.1 p.2)
-      | inr none ↦ h.found.sound x (sym (set_all-other looped (drop b.first path) true false x none) ∙ ap (λ l. is_looped l x) (sym n.1) ∙ e)
+      | inr none ↦ h.found.sound x (sym (set_all-other looped (drop b.first path) true false x none) ∙ ap
+          (λ l. is_looped l x) (sym n.1) ∙ e)
     ]
     | inr n ↦ h.found.sound x (ap (λ l. is_looped l x) (sym n.1) ∙ e)
   ]
 
   -- a part of one node that isn't noted has edges only to what was done
-  only_done : (x y : ℕ) → Contains (drop b.first path) x → is_looped after x ≡ false → Contains (edges g x) y → mark_at marks y ≡ Done
+  only_done : (x y : ℕ) → Contains (drop b.first path) x → is_looped after x ≡ false → Contains (edges g x) y →
+      mark_at marks y ≡ Done
   only_done x y m free e = elim (cases_lt 1 (length (drop b.first path))) [
     | inl several ↦ absurd (let l = all_looped several x m in cc)
     | inr one ↦
@@ -158,7 +175,8 @@ module _ (g : List (List ℕ)) (marks : List Mark) (path : List ℕ) (ps : List 
   complete : (x : ℕ) → mark_at (set_all marks (drop b.first path) Done) x ≡ Done → is_looped after x ≡ false → Leads g x x → ⊥
   complete x d free r = elim (done_or_inside x d) [
     | inl old ↦ h.found.complete x old (not_looped_before x free) r
-    | inr m ↦ (let p = was_open x m in let at = p.3 in let back = first_edge x r (λ y e. only_done x y m free e) in let c = back in cc)
+    | inr m ↦ (let p = was_open x m in let at = p.3 in let back = first_edge x r (λ y e. only_done x y m free e) in let c =
+        back in cc)
   ]
     where
       first_edge : (x : ℕ) → Leads g x x → ((y : ℕ) → Contains (edges g x) y → mark_at marks y ≡ Done) → mark_at marks x ≡ Done
@@ -180,7 +198,8 @@ module _ (g : List (List ℕ)) (marks : List Mark) (path : List ℕ) (ps : List 
         let x : ℕ = get_or (order ++ drop b.first path) i 0 in
         let len = length-append order (drop b.first path) in
         let m : Contains (drop b.first path) (get_or (order ++ drop b.first path) i 0) =
-        at_place (drop b.first path) (i - length order) (get_or (order ++ drop b.first path) i 0) (omega arith) (sym (get_or-append_right order (drop b.first path) (length order) i 0 refl ge)) in
+        at_place (drop b.first path) (i - length order) (get_or (order ++ drop b.first path) i 0) (omega arith)
+        (sym (get_or-append_right order (drop b.first path) (length order) i 0 refl ge)) in
         let old = (h.found.ordered y).0 (only_done (get_or (order ++ drop b.first path) i 0) y m free e) in
         elim (cases_lt 1 (length (drop b.first path))) [
           | inl several ↦ absurd (let l = all_looped several (get_or (order ++ drop b.first path) i 0) m in cc)
@@ -204,12 +223,14 @@ module _ (g : List (List ℕ)) (marks : List Mark) (path : List ℕ) (ps : List 
     | inr e ↦ absurd (let s : b.first ≤ p = subst (λ (k : Part). k.first ≤ p) (sym e) start in omega arith)
   ]
 
-  pub finished : Holds g (set_all marks (drop b.first path) Done) (take b.first path) ps pending (order ++ drop b.first path) after
+  pub finished : Holds g (set_all marks (drop b.first path) Done) (take b.first path) ps pending
+      (order ++ drop b.first path) after
   finished = record {
     placed = record {
       marked = λ p l.
           let lt : p < b.first = (let n = shorter in omega arith) in
-          ap (mark_at (set_all marks (drop b.first path) Done)) (same_place p lt) ∙ still_open (get_or path p 0) p (h.placed.marked p (let n = begins in omega arith)) lt;
+          ap (mark_at (set_all marks (drop b.first path) Done)) (same_place p lt)
+          ∙ still_open (get_or path p 0) p (h.placed.marked p (let n = begins in omega arith)) lt;
       placed = λ x q at.
           let old = was_open_too x q at in
           ((let n = shorter in let lt = old.1 in omega arith), same_place q old.1 ∙ (h.placed.placed x q old.0).1);

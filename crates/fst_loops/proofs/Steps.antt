@@ -14,10 +14,13 @@ use Rattle.fst_loops.proofs.Loops.{same_or_leads, leads_or_same}
 use Rattle.fst_loops.proofs.Parts.{last_most, in_order_front, in_order_push, cover_joined, cover_push, up_to_or_behind, place_of, at_place, marked_within, edge_from, looped_within}
 
 -- what holds of some lists holds of the same lists
-pub moved : {g : List (List ℕ)} {marks marks' : List Mark} {path path' : List ℕ} {parts parts' : List Part} {pending pending' order order' : List ℕ} {looped looped' : List Bool} →
-    Holds g marks path parts pending order looped → marks' ≡ marks → path' ≡ path → parts' ≡ parts → pending' ≡ pending → order' ≡ order → looped' ≡ looped →
+pub moved : {g : List (List ℕ)} {marks marks' : List Mark} {path path' : List ℕ} {parts parts' : List Part}
+    {pending pending' order order' : List ℕ} {looped looped' : List Bool} →
+    Holds g marks path parts pending order looped → marks' ≡ marks → path' ≡ path → parts' ≡ parts → pending' ≡ pending →
+    order' ≡ order → looped' ≡ looped →
     Holds g marks' path' parts' pending' order' looped'
-moved {g} {marks} {marks'} {path} {path'} {parts} {parts'} {pending} {pending'} {order} {order'} {looped} {looped'} h m p ps pd o l =
+moved {g} {marks} {marks'} {path} {path'} {parts} {parts'} {pending} {pending'} {order} {order'} {looped} {looped'} h m p ps pd o
+    l =
     subst (λ (x : List Mark). Holds g x path' parts' pending' order' looped') (sym m) (
     subst (λ (x : List ℕ). Holds g marks x parts' pending' order' looped') (sym p) (
     subst (λ (x : List Part). Holds g marks path x pending' order' looped') (sym ps) (
@@ -25,13 +28,15 @@ moved {g} {marks} {marks'} {path} {path'} {parts} {parts'} {pending} {pending'} 
     subst (λ (x : List ℕ). Holds g marks path parts pending x looped') (sym o) (
     subst (λ (x : List Bool). Holds g marks path parts pending order x) (sym l) h)))))
 
-module _ (g : List (List ℕ)) (marks : List Mark) (path : List ℕ) (ps : List Part) (b : Part) (pend : List ℕ) (y : ℕ) (order : List ℕ) (looped : List Bool)
+module _ (g : List (List ℕ)) (marks : List Mark) (path : List ℕ) (ps : List Part) (b : Part) (pend : List ℕ) (y : ℕ)
+    (order : List ℕ) (looped : List Bool)
     (h : Holds g marks path (ps ++ b ∷ []) (pend ++ y ∷ []) order looped) (le : b.before ≤ length pend) where
   all_up_to : (c : Part) → Contains (ps ++ b ∷ []) c → (c.first ≤ b.first) × (c.before ≤ length pend)
   all_up_to c m = let most = last_most ps b c h.divided.rising m in (most.0, (let x = most.1 in omega arith))
 
   -- what was met is no longer pending
-  pub skipped : ((mark_at marks y ≡ Done) ⊎ ((q : ℕ) × (mark_at marks y ≡ Open q) × (b.first ≤ q))) → Holds g marks path (ps ++ b ∷ []) pend order looped
+  pub skipped : ((mark_at marks y ≡ Done) ⊎ ((q : ℕ) × (mark_at marks y ≡ Open q) × (b.first ≤ q))) →
+      Holds g marks path (ps ++ b ∷ []) pend order looped
   skipped known = record {
     placed = h.placed;
     divided = record {
@@ -83,7 +88,10 @@ module _ (g : List (List ℕ)) (marks : List Mark) (path : List ℕ) (ps : List 
             omega arith)
       ])
     ];
-    sources = λ i l. let s = h.sources i l in (s.0, record { within = s.1.within; leads = s.1.leads; part = λ c m. s.1.part c (front c m) });
+    sources = λ i l. let s = h.sources i l in (
+      s.0,
+      record { within = s.1.within; leads = s.1.leads; part = λ c m. s.1.part c (front c m) },
+    );
     followed = λ p z l m. elim (h.followed p z l m) [
       | inl w ↦ inl (w.0, w.1, w.2, λ c n. w.3 c (front c n))
       | inr known ↦ elim known [
@@ -102,14 +110,19 @@ module _ (g : List (List ℕ)) (marks : List Mark) (path : List ℕ) (ps : List 
 
       source : (p : ℕ) × IsSource g path (ps ++ b ∷ []) p (length pend) y
       source =
-          let s = h.sources (length pend) (let n = length_push pend y in omega arith) in
-          (s.0, subst (λ (z : ℕ). IsSource g path (ps ++ b ∷ []) s.0 (length pend) z) (get_or_push pend y 0 (length pend) refl) s.1)
+          let s = h.sources (length pend) (let n = length_push pend y in omega arith) in (
+            s.0,
+            subst (λ (z : ℕ). IsSource g path (ps ++ b ∷ []) s.0 (length pend) z)
+                (get_or_push pend y 0 (length pend) refl) s.1,
+          )
 
-      around : (p z : ℕ) → p < length path → z < length path → ((c : Part) → Contains ps c → c.first ≤ z) → Leads g (get_or path p 0) (get_or path z 0)
+      around : (p z : ℕ) → p < length path → z < length path →
+          ((c : Part) → Contains ps c → c.first ≤ z) → Leads g (get_or path p 0) (get_or path z 0)
       around p z lp lz all =
           let s = source in
           let to = h.connected p s.0 lp s.1.within (λ c m start. (s.1.part c m).0 (all_up_to c m).1) in
-          let back : Leads g (get_or path s.0 0) (get_or path q 0) = subst (λ (v : ℕ). Leads g (get_or path s.0 0) v) (sym placed.1) (edge (get_or path s.0 0) y s.1.leads) in
+          let back : Leads g (get_or path s.0 0) (get_or path q 0) = subst
+          (λ (v : ℕ). Leads g (get_or path s.0 0) v) (sym placed.1) (edge (get_or path s.0 0) y s.1.leads) in
           let there = h.connected q z placed.0 lz (λ c m start. elim (Contains-push_cases ps b c m) [
             | inl n ↦ all c n
             | inr e ↦ absurd (let from : b.first ≤ q = subst (λ (k : Part). k.first ≤ q) (sym e) start in omega arith)
@@ -117,9 +130,11 @@ module _ (g : List (List ℕ)) (marks : List Mark) (path : List ℕ) (ps : List 
           same_or_leads to (leads_or_same back there)
 
 -- a node that was not met before is opened
-module _ (g : List (List ℕ)) (marks : List Mark) (path : List ℕ) (parts : List Part) (pending order : List ℕ) (looped : List Bool) (y : ℕ)
+module _ (g : List (List ℕ)) (marks : List Mark) (path : List ℕ) (parts : List Part) (pending order : List ℕ) (looped : List Bool)
+    (y : ℕ)
     (h : Holds g marks path parts pending order looped) (node : y < length g) (unseen : mark_at marks y ≡ Unseen)
-    (led : (p : ℕ) → p < length path → Leads g (get_or path p 0) y) (new : Part) (first : new.first ≡ length path) (before : new.before ≡ length pending) where
+    (led : (p : ℕ) → p < length path → Leads g (get_or path p 0) y) (new : Part) (first : new.first ≡ length path)
+    (before : new.before ≡ length pending) where
   within : y < length marks
   within = let e = h.found.marked in omega arith
 
@@ -137,7 +152,8 @@ module _ (g : List (List ℕ)) (marks : List Mark) (path : List ℕ) (parts : Li
   done_still x d = other x (another x (λ e. cc)) ∙ d
 
   done_before : (x : ℕ) → mark_at (set marks y (Open (length path))) x ≡ Done → mark_at marks x ≡ Done
-  done_before x d = sym (other x (λ e. let at : mark_at (set marks y (Open (length path))) x ≡ Open (length path) = ap (mark_at (set marks y (Open (length path)))) e ∙ here in cc)) ∙ d
+  done_before x d = sym (other x (λ e. let at : mark_at (set marks y (Open (length path))) x ≡ Open (length path) =
+      ap (mark_at (set marks y (Open (length path)))) e ∙ here in cc)) ∙ d
 
   place_before : (p : ℕ) → p < length path → get_or (path ++ y ∷ []) p 0 ≡ get_or path p 0
   place_before p l = get_or_append_left path (y ∷ []) 0 p l
@@ -154,7 +170,8 @@ module _ (g : List (List ℕ)) (marks : List Mark) (path : List ℕ) (parts : Li
     marked = λ p l. elim (places p l) [
       | inl lt ↦
           let old = h.placed.marked p lt in
-          subst (λ (x : ℕ). mark_at (set marks y (Open (length path))) x ≡ Open p) (sym (place_before p lt)) (other (get_or path p 0) (another (get_or path p 0) (λ e. cc)) ∙ old)
+          subst (λ (x : ℕ). mark_at (set marks y (Open (length path))) x ≡ Open p) (sym (place_before p lt))
+          (other (get_or path p 0) (another (get_or path p 0) (λ e. cc)) ∙ old)
       | inr e ↦ ap (mark_at (set marks y (Open (length path)))) (place_here p e) ∙ here ∙ ap Open (sym e)
     ];
     placed = λ x p at. elim (cases_eq x y) [
@@ -173,10 +190,12 @@ module _ (g : List (List ℕ)) (marks : List Mark) (path : List ℕ) (parts : Li
       let n = length_push path y in
       let k = length-append pending (edges g y) in
       record {
-        rising = in_order_push parts new h.divided.rising (λ c m. let w = h.divided.within c m in ((let a = w.0 in omega arith), (let a = w.1 in omega arith)));
+        rising = in_order_push parts new h.divided.rising
+            (λ c m. let w = h.divided.within c m in ((let a = w.0 in omega arith), (let a = w.1 in omega arith)));
         within = λ c m. elim (Contains-push_cases parts new c m) [
           | inl old ↦ let w = h.divided.within c old in ((let a = w.0 in omega arith), (let a = w.1 in omega arith))
-          | inr e ↦ subst (λ (d : Part). (d.first ≤ length (path ++ y ∷ [])) × (d.before ≤ length (pending ++ edges g y))) e (omega arith, omega arith)
+          | inr e ↦ subst (λ (d : Part). (d.first ≤ length (path ++ y ∷ [])) × (d.before ≤ length (pending ++ edges g y))) e
+              (omega arith, omega arith)
         ];
         cover = cover_push parts new (length (path ++ y ∷ [])) (subst (λ (k : ℕ). CoverFrom parts k) (sym first) h.divided.cover);
       }
@@ -214,11 +233,13 @@ module _ (g : List (List ℕ)) (marks : List Mark) (path : List ℕ) (parts : Li
           record {
             within = (let n = length_push path y in let w = s.1.within in omega arith);
             leads =
-                subst (λ (z : ℕ). Contains (edges g (get_or (path ++ y ∷ []) s.0 0)) z) (sym (get_or_append_left pending (edges g y) 0 i lt)) (
+                subst (λ (z : ℕ). Contains (edges g (get_or (path ++ y ∷ []) s.0 0)) z)
+                (sym (get_or_append_left pending (edges g y) 0 i lt)) (
                 subst (λ (x : ℕ). Contains (edges g x) (get_or pending i 0)) (sym (place_before s.0 s.1.within)) s.1.leads);
             part = λ c m. elim (Contains-push_cases parts new c m) [
               | inl old ↦ s.1.part c old
-              | inr e ↦ subst (λ (d : Part). (d.before ≤ i) ↔ (d.first ≤ s.0)) e ((λ u. absurd (omega arith)), (λ u. absurd (let w = s.1.within in omega arith)))
+              | inr e ↦ subst (λ (d : Part). (d.before ≤ i) ↔ (d.first ≤ s.0)) e
+                  ((λ u. absurd (omega arith)), (λ u. absurd (let w = s.1.within in omega arith)))
             ];
           },
         )
@@ -226,8 +247,11 @@ module _ (g : List (List ℕ)) (marks : List Mark) (path : List ℕ) (parts : Li
       length path,
       record {
         within = (let n = length_push path y in omega arith);
-        leads = subst (λ (x : ℕ). Contains (edges g x) (get_or (pending ++ edges g y) i 0)) (sym (place_here (length path) refl)) (
-            at_place (edges g y) (i - length pending) (get_or (pending ++ edges g y) i 0) (let n = length-append pending (edges g y) in omega arith) (sym (get_or-append_right pending (edges g y) (length pending) i 0 refl ge)));
+        leads = subst (λ (x : ℕ). Contains (edges g x) (get_or (pending ++ edges g y) i 0)) (sym (place_here (length path) refl))
+            (
+            at_place (edges g y) (i - length pending) (get_or (pending ++ edges g y) i 0)
+            (let n = length-append pending (edges g y) in omega arith)
+            (sym (get_or-append_right pending (edges g y) (length pending) i 0 refl ge)));
         part = λ c m. elim (Contains-push_cases parts new c m) [
           | inl old ↦ let w = h.divided.within c old in ((λ u. w.0), (λ u. let a = w.1 in omega arith))
           | inr e ↦ subst (λ (d : Part). (d.before ≤ i) ↔ (d.first ≤ length path)) e ((λ u. omega arith), (λ u. omega arith))
@@ -295,7 +319,8 @@ module _ (g : List (List ℕ)) (marks : List Mark) (path : List ℕ) (parts : Li
   opened_begun e = let at = here in cc
 
 -- before a search nothing is met
-pub begun : (g : List (List ℕ)) (looped : List Bool) → AreOwnLoops g looped → Holds g (replicate (length g) Unseen) [] [] [] [] looped
+pub begun : (g : List (List ℕ)) (looped : List Bool) → AreOwnLoops g looped →
+    Holds g (replicate (length g) Unseen) [] [] [] [] looped
 begun g looped own = record {
   placed = record { marked = λ p l. absurd (omega arith); placed = λ x p at. absurd (let e = unseen x in cc) };
   divided = record { rising = tt; within = λ c m. absurd (contains_none c m); cover = refl };
@@ -321,15 +346,19 @@ begun g looped own = record {
     ]
 
 -- a path without parts is empty
-pub empty_path : (g : List (List ℕ)) (marks : List Mark) (path : List ℕ) (parts : List Part) (pending order : List ℕ) (looped : List Bool) → Holds g marks path parts pending order looped → parts ≡ [] → length path ≡ 0
-empty_path g marks path parts pending order looped h none = subst (λ (ps : List Part). CoverFrom ps (length path)) none h.divided.cover
+pub empty_path : (g : List (List ℕ)) (marks : List Mark) (path : List ℕ) (parts : List Part) (pending order : List ℕ)
+    (looped : List Bool) → Holds g marks path parts pending order looped → parts ≡ [] → length path ≡ 0
+empty_path g marks path parts pending order looped h none = subst
+    (λ (ps : List Part). CoverFrom ps (length path)) none h.divided.cover
 
 -- where every node is met and none is open, the order is found
-pub ended : (g : List (List ℕ)) (marks : List Mark) (path : List ℕ) (parts : List Part) (pending order : List ℕ) (looped : List Bool) → Holds g marks path parts pending order looped → parts ≡ [] →
+pub ended : (g : List (List ℕ)) (marks : List Mark) (path : List ℕ) (parts : List Part) (pending order : List ℕ)
+    (looped : List Bool) → Holds g marks path parts pending order looped → parts ≡ [] →
     ((x : ℕ) → x < length g → mark_at marks x ≡ Unseen → ⊥) → IsOrder g order looped
 ended g marks path parts pending order looped h none met = record {
   told = h.found.told;
-  nodes = λ i l. let d = (h.found.ordered (get_or order i 0)).1 (at_place order i (get_or order i 0) l refl) in let lt = marked_within marks (get_or order i 0) (λ e. cc) in let n = h.found.marked in omega arith;
+  nodes = λ i l. let d = (h.found.ordered (get_or order i 0)).1 (at_place order i (get_or order i 0) l refl) in let lt =
+      marked_within marks (get_or order i 0) (λ e. cc) in let n = h.found.marked in omega arith;
   all = λ x lt. (h.found.ordered x).0 (done x lt);
   loops = λ x lt. (
     h.found.sound x,
@@ -345,15 +374,18 @@ ended g marks path parts pending order looped h none met = record {
     done : (x : ℕ) → x < length g → mark_at marks x ≡ Done
     done x lt = (elim (mark_at marks x) as (λ m. mark_at marks x ≡ m → m ≡ Done) [
       | Unseen ↦ λ e. absurd (met x lt e)
-      | Open q ↦ λ e. absurd (let p = (h.placed.placed x q e).0 in let n = empty_path g marks path parts pending order looped h none in omega arith)
+      | Open q ↦ λ e. absurd (let p = (h.placed.placed x q e).0 in let n =
+          empty_path g marks path parts pending order looped h none in omega arith)
       | Done ↦ λ e. refl
     ]) refl
 
 -- a last part can be taken off the path
-pub can_close : (g : List (List ℕ)) (marks : List Mark) (path : List ℕ) (parts : List Part) (pending order : List ℕ) (looped : List Bool) → Holds g marks path parts pending order looped →
+pub can_close : (g : List (List ℕ)) (marks : List Mark) (path : List ℕ) (parts : List Part) (pending order : List ℕ)
+    (looped : List Bool) → Holds g marks path parts pending order looped →
     (b : Part) → IsLast parts b → (b.first ≤ length path) × All (λ x. x < length marks) path × (length looped ≡ length marks)
 can_close g marks path parts pending order looped h b last = (
   (h.divided.within b (subst (λ (ps : List Part). Contains ps b) (sym last.1) (Contains-push last.0 b))).0,
-  All-from_get_or (λ x. x < length marks) path 0 (λ i l. marked_within marks (get_or path i 0) (λ e. let at = h.placed.marked i l in cc)),
+  All-from_get_or (λ x. x < length marks) path 0
+      (λ i l. marked_within marks (get_or path i 0) (λ e. let at = h.placed.marked i l in cc)),
   h.found.told ∙ sym h.found.marked,
 )

@@ -17,7 +17,8 @@ set_all xs (n ∷ places) v = set_all (slice_set xs n v) places v
 
 -- what is noted of a part's nodes: several are all on loops, of one nothing new is known
 abbrev pub IsNoted : List Bool → List ℕ → List Bool → Type 0
-IsNoted old nodes new = ((1 < length nodes) × (new ≡ set_all old nodes true)) ⊎ ((length nodes ≤ 1) × (new ≡ old))
+IsNoted old nodes new = ((1 < length nodes) × (new ≡ set_all old nodes true)) ⊎
+    ((length nodes ≤ 1) × (new ≡ old))
 
 -- the open nodes are those on the path, each marked with its place
 pub record IsPath (marks : List Mark) (path : List ℕ) : Type 0 where
@@ -27,7 +28,8 @@ pub record IsPath (marks : List Mark) (path : List ℕ) : Type 0 where
 -- parts begin one behind the other
 abbrev pub AreInOrder : List Part → Type 0
 AreInOrder [] = ⊤
-AreInOrder (a ∷ parts) = ((b : Part) → Contains parts b → (a.first ≤ b.first) × (a.before ≤ b.before)) × AreInOrder parts
+AreInOrder (a ∷ parts) = ((b : Part) → Contains parts b → (a.first ≤ b.first) ×
+    (a.before ≤ b.before)) × AreInOrder parts
 
 -- the first part begins at the path's begin; a path without parts is empty
 abbrev pub CoverFrom : List Part → ℕ → Type 0
@@ -50,30 +52,36 @@ IsConnected g path parts = (p q : ℕ) → p < length path → q < length path �
     (slice_index path p ≡ slice_index path q) ⊎ Leads g (slice_index path p) (slice_index path q)
 
 -- an edge of the open node at a place leads to this one, and what is pending there belongs to that place's part
-pub record IsSource (g : List (List ℕ)) (path : List ℕ) (parts : List Part) (p i y : ℕ) : Type 0 where
+pub record IsSource (g : List (List ℕ)) (path : List ℕ) (parts : List Part)
+    (p i y : ℕ) : Type 0 where
   pub within : p < length path
   pub leads : Contains (edges g (slice_index path p)) y
   pub part : (b : Part) → Contains parts b → (b.before ≤ i) ↔ (b.first ≤ p)
 
 -- all that is pending has a source
 abbrev pub HaveSources : List (List ℕ) → List ℕ → List Part → List ℕ → Type 0
-HaveSources g path parts pending = (i : ℕ) → i < length pending → (p : ℕ) × IsSource g path parts p i (slice_index pending i)
+HaveSources g path parts pending = (i : ℕ) → i < length pending →
+    (p : ℕ) × IsSource g path parts p i (slice_index pending i)
 
 -- the node is done, or open in the part of this place or in a later one
 abbrev pub IsMet : List Mark → List Part → ℕ → ℕ → Type 0
-IsMet marks parts p y = (mark_at marks y ≡ Done) ⊎ ((q : ℕ) × (mark_at marks y ≡ Open q) × IsAhead parts p q)
+IsMet marks parts p y = (mark_at marks y ≡ Done) ⊎
+    ((q : ℕ) × (mark_at marks y ≡ Open q) × IsAhead parts p q)
 
 -- the node is pending in the part of this place or in a later one
 abbrev pub IsPending : List Part → List ℕ → ℕ → ℕ → Type 0
-IsPending parts pending p y = (i : ℕ) × (i < length pending) × (slice_index pending i ≡ y) × ((b : Part) → Contains parts b → b.first ≤ p → b.before ≤ i)
+IsPending parts pending p y = (i : ℕ) × (i < length pending) × (slice_index pending i ≡ y) ×
+    ((b : Part) → Contains parts b → b.first ≤ p → b.before ≤ i)
 
 -- each edge of an open node is pending, or leads to a node that is done or was met again
 abbrev pub AreFollowed : List (List ℕ) → List Mark → List ℕ → List Part → List ℕ → Type 0
-AreFollowed g marks path parts pending = (p y : ℕ) → p < length path → Contains (edges g (slice_index path p)) y →
+AreFollowed g marks path parts pending =
+    (p y : ℕ) → p < length path → Contains (edges g (slice_index path p)) y →
     IsPending parts pending p y ⊎ IsMet marks parts p y
 
 -- what is found so far: of the nodes that are done all is known
-pub record IsFound (g : List (List ℕ)) (marks : List Mark) (order : List ℕ) (looped : List Bool) : Type 0 where
+pub record IsFound (g : List (List ℕ)) (marks : List Mark) (order : List ℕ)
+    (looped : List Bool) : Type 0 where
   pub marked : length marks ≡ length g
   pub told : length looped ≡ length g
   pub closed : (x y : ℕ) → mark_at marks x ≡ Done → Contains (edges g x) y → mark_at marks y ≡ Done
@@ -85,7 +93,8 @@ pub record IsFound (g : List (List ℕ)) (marks : List Mark) (order : List ℕ) 
       (y : ℕ) → Contains (edges g (slice_index order i)) y → Contains (take i order) y
 
 -- all that a search keeps true
-pub record Holds (g : List (List ℕ)) (marks : List Mark) (path : List ℕ) (parts : List Part) (pending order : List ℕ) (looped : List Bool) : Type 0 where
+pub record Holds (g : List (List ℕ)) (marks : List Mark) (path : List ℕ) (parts : List Part)
+    (pending order : List ℕ) (looped : List Bool) : Type 0 where
   pub placed : IsPath marks path
   pub divided : AreParts path parts pending
   pub connected : IsConnected g path parts
@@ -99,7 +108,8 @@ AllLeadTo g path y = (p : ℕ) → p < length path → Leads g (slice_index path
 
 -- a search of this graph
 abbrev pub IsSearch : List (List ℕ) → Search → Type 0
-IsSearch g s = Holds g s.marks.items s.path.items s.parts.items s.pending.items s.order.items s.looped.items
+IsSearch g s = Holds g s.marks.items s.path.items s.parts.items s.pending.items s.order.items
+    s.looped.items
 
 -- it is the last of the parts
 abbrev pub IsLast : List Part → Part → Type 0

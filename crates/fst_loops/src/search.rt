@@ -103,7 +103,8 @@ impl Search {
     // Takes the last part off the path: each of its nodes is done, and if there are several, each lies on a loop.
     fn finish(&mut self, part: Part) -> Result<(), AllocError>
         requires { IsClosable self.old part }
-        ensures { (g : List (List ℕ)) → IsEnded g self.old part → OnOk result (Advances g self.old self.new) }
+        ensures { (g : List (List ℕ)) → IsEnded g self.old part →
+            OnOk result (Advances g self.old self.new) }
     {
         let nodes = &self.path[part.first..];
         set_all(&mut self.marks, nodes, Mark::Done);

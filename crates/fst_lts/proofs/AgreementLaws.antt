@@ -22,7 +22,9 @@ pub first_then : (s r : Tree) (a : Label) → step (seq s r) a ≡ after_first r
 first_then s r a = ap (λ z. if terminated s then step r a else option_map (λ t. seq t z) (step s a)) (substitute_nothing r)
 
 -- both sides of a step of two sequences
-sequences_agree : (n : ℕ) (x y : Tree) (over : Bool) (o p q u : Option Tree) → (over ≡ false → BothOrNeither (λ s r. AgreeTo step step n (seq s x) (seq r y)) o p) → (over ≡ true → BothOrNeither (AgreeTo step step n) q u) →
+sequences_agree : (n : ℕ) (x y : Tree) (over : Bool) (o p q u : Option Tree) →
+    (over ≡ false → BothOrNeither (λ s r. AgreeTo step step n (seq s x) (seq r y)) o p) →
+    (over ≡ true → BothOrNeither (AgreeTo step step n) q u) →
     BothOrNeither (AgreeTo step step n) (after_first x over o q) (after_first y over p u)
 sequences_agree n x y true o p q u first second = second refl
 sequences_agree n x y false None None q u first second = tt
@@ -48,7 +50,8 @@ pub agree_in_front : (n : ℕ) (t s r : Tree) → AgreeTo step step n s r → Ag
 agree_in_front zero t s r h = tt
 agree_in_front (suc n) t s r h = λ a.
     step_sequences n t t s r a refl
-    (λ over. same_related (λ x y. AgreeTo step step n (seq x s) (seq y r)) (λ x. agree_in_front n x s r (agrees_less step step n s r h)) (step t a))
+    (λ over. same_related (λ x y. AgreeTo step step n (seq x s) (seq y r))
+    (λ x. agree_in_front n x s r (agrees_less step step n s r h)) (step t a))
     (λ over. h a)
 
 -- the type is terminated exactly where it has no labels
@@ -81,10 +84,12 @@ over_alike n s r ms mr h =
     same_bool (terminated s) (terminated r) (over_too n s r ms mr h) (over_too n r s mr ms (agrees_back step step (suc n) s r h))
 
 -- a type behind both sides
-pub agree_behind : (n : ℕ) (vars : List Kind) (s r t : Tree) → IsSession vars s → IsSession vars r → AgreeTo step step n s r → AgreeTo step step n (seq s t) (seq r t)
+pub agree_behind : (n : ℕ) (vars : List Kind) (s r t : Tree) → IsSession vars s → IsSession vars r → AgreeTo step step n s r →
+    AgreeTo step step n (seq s t) (seq r t)
 agree_behind zero vars s r t ws wr h = tt
 agree_behind (suc n) vars s r t ws wr h = λ a.
     step_sequences n s r t t a (over_alike n s r (terminated_exactly vars s ws) (terminated_exactly vars r wr) h)
     (λ on. related_some (AgreeTo step step n) (λ x y. AgreeTo step step n (seq x t) (seq y t)) (IsSession vars) (IsSession vars)
-    (λ x y wx wy. agree_behind n vars x y t wx wy) (step s a) (step r a) (step_session vars s a ws) (step_session vars r a wr) (h a))
+    (λ x y wx wy. agree_behind n vars x y t wx wy) (step s a) (step r a) (step_session vars s a ws) (step_session vars r a wr)
+    (h a))
     (λ over. same_related (AgreeTo step step n) (agrees_itself step n) (step t a))

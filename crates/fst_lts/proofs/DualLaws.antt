@@ -89,7 +89,8 @@ mutual
   substitute-dual env (pair s r) = λ i. pair (substitute-dual env s i) (substitute-dual env r i)
   substitute-dual env (named k) = refl
 
-  substitute_all-dual_all : (env : List (Option Tree)) (bs : Branches) → substitute_all (dual_env env) (dual_all bs) ≡ dual_all (substitute_all env bs)
+  substitute_all-dual_all : (env : List (Option Tree)) (bs : Branches) →
+      substitute_all (dual_env env) (dual_all bs) ≡ dual_all (substitute_all env bs)
   substitute_all-dual_all env none = refl
   substitute_all-dual_all env (branch l s bs) = λ i. branch l (substitute-dual env s i) (substitute_all-dual_all env bs i)
 
@@ -111,11 +112,14 @@ branch_dual : (make : List ℕ → Label) (bs : Branches) (a : Label) →
 branch_dual make none a = refl
 branch_dual make (branch l s bs) a =
     let next = branch_dual make bs a in
-    ap (λ c. if c then Some (dual s) else branch_at (λ m. dual_label (make m)) (dual_all bs) (dual_label a)) (same_label-dual_label a (make l))
+    ap (λ c. if c then Some (dual s) else branch_at (λ m. dual_label (make m)) (dual_all bs) (dual_label a))
+    (same_label-dual_label a (make l))
     ∙ pick (same_label a (make l)) next
   where
-    pick : (c : Bool) → branch_at (λ m. dual_label (make m)) (dual_all bs) (dual_label a) ≡ option_map dual (branch_at make bs a) →
-        (if c then Some (dual s) else branch_at (λ m. dual_label (make m)) (dual_all bs) (dual_label a)) ≡ option_map dual (if c then Some s else branch_at make bs a)
+    pick : (c : Bool) → branch_at (λ m. dual_label (make m)) (dual_all bs) (dual_label a) ≡ option_map dual
+        (branch_at make bs a) →
+        (if c then Some (dual s) else branch_at (λ m. dual_label (make m)) (dual_all bs) (dual_label a)) ≡ option_map dual
+        (if c then Some s else branch_at make bs a)
     pick true e = refl
     pick false e = e
 
@@ -125,9 +129,11 @@ substitute_branch_dual env None = refl
 substitute_branch_dual env (Some s) = ap Some (substitute-dual env s)
 
 behind_dual : (env : List (Option Tree)) (r : Tree) (o p : Option Tree) → o ≡ option_map dual p →
-    option_map (λ t. seq t (substitute (dual_env env) (dual r))) o ≡ option_map dual (option_map (λ t. seq t (substitute env r)) p)
+    option_map (λ t. seq t (substitute (dual_env env) (dual r))) o ≡ option_map dual
+    (option_map (λ t. seq t (substitute env r)) p)
 behind_dual env r o None e = ap (option_map (λ t. seq t (substitute (dual_env env) (dual r)))) e
-behind_dual env r o (Some t) e = ap (option_map (λ t. seq t (substitute (dual_env env) (dual r)))) e ∙ ap (λ q. Some (seq (dual t) q)) (substitute-dual env r)
+behind_dual env r o (Some t) e = ap (option_map (λ t. seq t (substitute (dual_env env) (dual r)))) e ∙ ap
+    (λ q. Some (seq (dual t) q)) (substitute-dual env r)
 
 chosen_dual : (c d : Bool) (x y : Option Tree) (x' y' : Option Tree) → c ≡ d → x ≡ option_map dual x' → y ≡ option_map dual y' →
     (if c then x else y) ≡ option_map dual (if d then x' else y')
@@ -136,12 +142,17 @@ chosen_dual false false x y x' y' e h k = k
 chosen_dual true false x y x' y' e h k = cc
 chosen_dual false true x y x' y' e h k = cc
 
-step_in-dual : (env : List (Option Tree)) (s : Tree) (a : Label) → step_in (dual_env env) (dual s) (dual_label a) ≡ option_map dual (step_in env s a)
+step_in-dual : (env : List (Option Tree)) (s : Tree) (a : Label) →
+    step_in (dual_env env) (dual s) (dual_label a) ≡ option_map dual (step_in env s a)
 step_in-dual env skip a = refl
-step_in-dual env (send b) a = ap (λ c. if c then Some skip else None) (same_label-dual_label a (Send b)) ∙ ended (same_label a (Send b))
-step_in-dual env (receive b) a = ap (λ c. if c then Some skip else None) (same_label-dual_label a (Receive b)) ∙ ended (same_label a (Receive b))
-step_in-dual env (select bs) a = ap (option_map (substitute (dual_env env))) (branch_dual Select bs a) ∙ substitute_branch_dual env (branch_at Select bs a)
-step_in-dual env (offer bs) a = ap (option_map (substitute (dual_env env))) (branch_dual Offer bs a) ∙ substitute_branch_dual env (branch_at Offer bs a)
+step_in-dual env (send b) a = ap (λ c. if c then Some skip else None) (same_label-dual_label a (Send b))
+    ∙ ended (same_label a (Send b))
+step_in-dual env (receive b) a = ap (λ c. if c then Some skip else None) (same_label-dual_label a (Receive b))
+    ∙ ended (same_label a (Receive b))
+step_in-dual env (select bs) a = ap (option_map (substitute (dual_env env))) (branch_dual Select bs a)
+    ∙ substitute_branch_dual env (branch_at Select bs a)
+step_in-dual env (offer bs) a = ap (option_map (substitute (dual_env env))) (branch_dual Offer bs a)
+    ∙ substitute_branch_dual env (branch_at Offer bs a)
 step_in-dual env (seq s r) a =
     chosen_dual (terminated (dual s)) (terminated s) _ _ _ _ (terminated-dual s) (step_in-dual env r a)
     (behind_dual env r _ (step_in env s a) (step_in-dual env s a))
@@ -149,7 +160,8 @@ step_in-dual env (rec s) a =
     ap (λ t. step_in (Some t ∷ dual_env env) (dual s) (dual_label a)) (substitute-dual env (rec s))
     ∙ step_in-dual (Some (substitute env (rec s)) ∷ env) s a
 step_in-dual env (back k) a = refl
-step_in-dual env (var k) a = ap (λ c. if c then Some skip else None) (same_label-dual_label a (Var k)) ∙ ended (same_label a (Var k))
+step_in-dual env (var k) a = ap (λ c. if c then Some skip else None) (same_label-dual_label a (Var k))
+    ∙ ended (same_label a (Var k))
 step_in-dual env (plain b) a = refl
 step_in-dual env (arrow u s r) a = refl
 step_in-dual env (pair s r) a = refl
@@ -157,7 +169,8 @@ step_in-dual env (named k) a = refl
 
 after_dual : (w : List Label) (o p : Option Tree) →
     ((s : Tree) → residual step (dual s) (map dual_label w) ≡ option_map dual (residual step s w)) →
-    o ≡ option_map dual p → option_and_then (λ s. residual step s (map dual_label w)) o ≡ option_map dual (option_and_then (λ s. residual step s w) p)
+    o ≡ option_map dual p → option_and_then (λ s. residual step s (map dual_label w)) o ≡ option_map dual
+    (option_and_then (λ s. residual step s w) p)
 after_dual w o None h e = ap (option_and_then (λ s. residual step s (map dual_label w))) e
 after_dual w o (Some s) h e = ap (option_and_then (λ s. residual step s (map dual_label w))) e ∙ h s
 

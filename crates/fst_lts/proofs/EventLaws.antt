@@ -45,7 +45,8 @@ front (select bs) = (selects bs, refl)
 front (offer bs) = (offers bs, refl)
 front (seq s r) = pick (terminated s) (front s) (front r)
   where
-    pick : (c : Bool) → (f : Front) × (labels s ≡ front_labels f) → (f : Front) × (labels r ≡ front_labels f) → (f : Front) × ((if c then labels r else labels s) ≡ front_labels f)
+    pick : (c : Bool) → (f : Front) × (labels s ≡ front_labels f) → (f : Front) × (labels r ≡ front_labels f) → (f : Front) ×
+        ((if c then labels r else labels s) ≡ front_labels f)
     pick true h g = g
     pick false h g = h
 front (rec s) = front s
@@ -72,11 +73,13 @@ is_output (Select l) = true
 is_output (Offer l) = false
 is_output (Var k) = false
 
-choice_label : (make : List ℕ → Label) (bs : Branches) (a : Label) → Contains (choice_labels make bs) a → (l : List ℕ) × (make l ≡ a)
+choice_label : (make : List ℕ → Label) (bs : Branches) (a : Label) → Contains (choice_labels make bs) a → (l : List ℕ) ×
+    (make l ≡ a)
 choice_label make none a h = absurd (contains_none a h)
 choice_label make (branch l s bs) a h = pick (choice_label make bs a) (from_contains (choice_labels make bs) a (make l) h)
   where
-    pick : (Contains (choice_labels make bs) a → (k : List ℕ) × (make k ≡ a)) → (make l ≡ a) ⊎ Contains (choice_labels make bs) a → (k : List ℕ) × (make k ≡ a)
+    pick : (Contains (choice_labels make bs) a → (k : List ℕ) × (make k ≡ a)) →
+        (make l ≡ a) ⊎ Contains (choice_labels make bs) a → (k : List ℕ) × (make k ≡ a)
     pick next (inl e) = (l, e)
     pick next (inr n) = next n
 
@@ -105,7 +108,8 @@ front_direction (variable k) a h = sym (ap is_output (one_of a (Var k) h))
 
 -- a type moves by labels of one direction
 pub one_direction : (s t u : Tree) (a b : Label) → step s a ≡ Some t → step s b ≡ Some u → is_output a ≡ is_output b
-one_direction s t u a b e f = front_direction (front s).0 a (in_front s a t e) ∙ sym (front_direction (front s).0 b (in_front s b u f))
+one_direction s t u a b e f = front_direction (front s).0 a (in_front s a t e)
+    ∙ sym (front_direction (front s).0 b (in_front s b u f))
 
 -- what is sent is an output
 pub sending_output : (ev : Event) → is_output (sending ev) ≡ true
@@ -129,7 +133,8 @@ not_both s t ev e = pick (step s (sending ev)) refl
   where
     pick : (o : Option Tree) → step s (sending ev) ≡ o → o ≡ None
     pick None f = refl
-    pick (Some u) f = absurd (cc (sym (sending_output ev) ∙ one_direction s u t (sending ev) (receiving ev) f e ∙ receiving_output ev))
+    pick (Some u) f = absurd (cc (sym (sending_output ev) ∙ one_direction s u t (sending ev) (receiving ev) f e
+        ∙ receiving_output ev))
 
 -- a type that sends an event moves so by it
 pub after_sent : (s t : Tree) (ev : Event) → step s (sending ev) ≡ Some t → after_event s ev ≡ Some t
@@ -153,7 +158,8 @@ then_itself (Some t) = refl
 
 -- the dual moves by the dual label to the dual
 pub dual_step : (s : Tree) (a : Label) → step (dual s) (dual_label a) ≡ option_map dual (step s a)
-dual_step s a = sym (then_itself (step (dual s) (dual_label a))) ∙ residual-dual (a ∷ []) s ∙ ap (option_map dual) (then_itself (step s a))
+dual_step s a = sym (then_itself (step (dual s) (dual_label a))) ∙ residual-dual (a ∷ []) s
+    ∙ ap (option_map dual) (then_itself (step s a))
 
 -- the label of what is received is the dual of the label of what is sent
 pub dual_sending : (ev : Event) → dual_label (sending ev) ≡ receiving ev
@@ -179,7 +185,8 @@ dual_receives s ev = ap (step (dual s)) (sym (dual_sending ev)) ∙ dual_step s 
 pub dual_sends : (s : Tree) (ev : Event) → step (dual s) (sending ev) ≡ option_map dual (step s (receiving ev))
 dual_sends s ev = ap (step (dual s)) (sym (dual_receiving ev)) ∙ dual_step s (receiving ev)
 
-only_message : (f : Front) (b : Base) (a : Label) → Contains (front_labels f) (Receive b) → Contains (front_labels f) a → a ≡ Receive b
+only_message : (f : Front) (b : Base) (a : Label) → Contains (front_labels f) (Receive b) → Contains (front_labels f) a →
+    a ≡ Receive b
 only_message nothing b a h g = absurd (contains_none a g)
 only_message (sends c) b a h g = absurd (cc (one_of (Receive b) (Send c) h))
 only_message (receives c) b a h g = sym (one_of a (Receive c) g) ∙ one_of (Receive b) (Receive c) h
@@ -191,7 +198,8 @@ only_message (variable k) b a h g = absurd (cc (one_of (Receive b) (Var k) h))
 pub one_message : (s t u : Tree) (b : Base) (a : Label) → step s (Receive b) ≡ Some t → step s a ≡ Some u → a ≡ Receive b
 one_message s t u b a e f = only_message (front s).0 b a (in_front s (Receive b) t e) (in_front s a u f)
 
-only_offers : (f : Front) (l : List ℕ) (a : Label) → Contains (front_labels f) (Offer l) → Contains (front_labels f) a → (k : List ℕ) × (Offer k ≡ a)
+only_offers : (f : Front) (l : List ℕ) (a : Label) → Contains (front_labels f) (Offer l) → Contains (front_labels f) a →
+    (k : List ℕ) × (Offer k ≡ a)
 only_offers nothing l a h g = absurd (contains_none a g)
 only_offers (sends c) l a h g = absurd (cc (one_of (Offer l) (Send c) h))
 only_offers (receives c) l a h g = absurd (cc (one_of (Offer l) (Receive c) h))
@@ -200,14 +208,17 @@ only_offers (offers bs) l a h g = choice_label Offer bs a g
 only_offers (variable k) l a h g = absurd (cc (one_of (Offer l) (Var k) h))
 
 -- a type that offers a branch moves by branches that it offers alone
-pub one_offer : (s t u : Tree) (l : List ℕ) (a : Label) → step s (Offer l) ≡ Some t → step s a ≡ Some u → (k : List ℕ) × (Offer k ≡ a)
+pub one_offer : (s t u : Tree) (l : List ℕ) (a : Label) → step s (Offer l) ≡ Some t → step s a ≡ Some u → (k : List ℕ) ×
+    (Offer k ≡ a)
 one_offer s t u l a e f = only_offers (front s).0 l a (in_front s (Offer l) t e) (in_front s a u f)
 
 -- the dual goes on with each event as the dual of what the type goes on as
 pub after_event-dual : (s : Tree) (ev : Event) → after_event (dual s) ev ≡ option_map dual (after_event s ev)
-after_event-dual s ev = (λ i. over (dual_sends s ev i) (dual_receives s ev i)) ∙ turned (step s (sending ev)) (step s (receiving ev)) refl refl
+after_event-dual s ev = (λ i. over (dual_sends s ev i) (dual_receives s ev i))
+    ∙ turned (step s (sending ev)) (step s (receiving ev)) refl refl
   where
-    turned : (o p : Option Tree) → step s (sending ev) ≡ o → step s (receiving ev) ≡ p → over (option_map dual p) (option_map dual o) ≡ option_map dual (over o p)
+    turned : (o p : Option Tree) → step s (sending ev) ≡ o → step s (receiving ev) ≡ p →
+        over (option_map dual p) (option_map dual o) ≡ option_map dual (over o p)
     turned None None e f = refl
     turned None (Some t) e f = refl
     turned (Some t) None e f = refl
@@ -216,9 +227,11 @@ after_event-dual s ev = (λ i. over (dual_sends s ev i) (dual_receives s ev i)) 
 -- so it is after a history
 pub after_history-dual : (s : Tree) (h : List Entry) → after_history (dual s) h ≡ option_map dual (after_history s h)
 after_history-dual s [] = refl
-after_history-dual s (e ∷ h) = ap (option_and_then (λ y. after_history y h)) (after_event-dual s e.event) ∙ rest (after_event s e.event) (λ y. after_history-dual y h)
+after_history-dual s (e ∷ h) = ap (option_and_then (λ y. after_history y h)) (after_event-dual s e.event)
+    ∙ rest (after_event s e.event) (λ y. after_history-dual y h)
   where
     rest : (o : Option Tree) → ((y : Tree) → after_history (dual y) h ≡ option_map dual (after_history y h)) →
-        option_and_then (λ y. after_history y h) (option_map dual o) ≡ option_map dual (option_and_then (λ y. after_history y h) o)
+        option_and_then (λ y. after_history y h) (option_map dual o) ≡ option_map dual
+        (option_and_then (λ y. after_history y h) o)
     rest None f = refl
     rest (Some y) f = f y

@@ -13,26 +13,32 @@ use Rattle.fst_base.proofs.Options.{there_if, if_there, mapped_there, unmapped_t
 
 -- one label
 one_moves : (a b : Label) → Contains (b ∷ []) a → IsSome (if same_label a b then Some skip else None)
-one_moves a b h = ⊎_elim (λ e. there_if skip (same_label a b) ((same_label_is a b).1 (sym e))) (λ n. absurd (contains_none a n)) (from_contains [] a b h)
+one_moves a b h = ⊎_elim (λ e. there_if skip (same_label a b) ((same_label_is a b).1 (sym e)))
+    (λ n. absurd (contains_none a n)) (from_contains [] a b h)
 
 moves_one : (a b : Label) → IsSome (if same_label a b then Some skip else None) → Contains (b ∷ []) a
 moves_one a b h = contains_head [] a b (sym (same_label-same a b (if_there skip (same_label a b) h)))
 
-choice_moves : (make : List ℕ → Label) (bs : Branches) (a : Label) → Contains (choice_labels make bs) a → IsSome (branch_at make bs a)
+choice_moves : (make : List ℕ → Label) (bs : Branches) (a : Label) → Contains (choice_labels make bs) a →
+    IsSome (branch_at make bs a)
 choice_moves make none a h = absurd (contains_none a h)
 choice_moves make (branch l s bs) a h =
     pick (choice_moves make bs a) (same_label a (make l)) refl (from_contains (choice_labels make bs) a (make l) h)
   where
-    pick : (Contains (choice_labels make bs) a → IsSome (branch_at make bs a)) → (c : Bool) → same_label a (make l) ≡ c → (make l ≡ a) ⊎ Contains (choice_labels make bs) a → IsSome (if c then Some s else branch_at make bs a)
+    pick : (Contains (choice_labels make bs) a → IsSome (branch_at make bs a)) → (c : Bool) → same_label a (make l) ≡ c →
+        (make l ≡ a) ⊎ Contains (choice_labels make bs) a → IsSome (if c then Some s else branch_at make bs a)
     pick next true e h = refl
     pick next false e (inl m) = absurd (cc (sym e ∙ (same_label_is a (make l)).1 (sym m)))
     pick next false e (inr n) = next n
 
-moves_choice : (make : List ℕ → Label) (bs : Branches) (a : Label) → IsSome (branch_at make bs a) → Contains (choice_labels make bs) a
+moves_choice : (make : List ℕ → Label) (bs : Branches) (a : Label) → IsSome (branch_at make bs a) →
+    Contains (choice_labels make bs) a
 moves_choice make none a h = absurd (cc h)
 moves_choice make (branch l s bs) a h = pick (moves_choice make bs a) (same_label a (make l)) refl h
   where
-    pick : (IsSome (branch_at make bs a) → Contains (choice_labels make bs) a) → (c : Bool) → same_label a (make l) ≡ c → IsSome (if c then Some s else branch_at make bs a) → Contains (make l ∷ choice_labels make bs) a
+    pick : (IsSome (branch_at make bs a) → Contains (choice_labels make bs) a) →
+        (c : Bool) → same_label a (make l) ≡ c → IsSome (if c then Some s else branch_at make bs a) →
+        Contains (make l ∷ choice_labels make bs) a
     pick next true e h = contains_head (choice_labels make bs) a (make l) (sym (same_label-same a (make l) e))
     pick next false e h = contains_tail (choice_labels make bs) a (make l) (next h)
 
@@ -44,7 +50,9 @@ labels_move env (select bs) a h = mapped_there (substitute env) (branch_at Selec
 labels_move env (offer bs) a h = mapped_there (substitute env) (branch_at Offer bs a) (choice_moves Offer bs a h)
 labels_move env (seq s r) a h = pick (labels_move env r a) (labels_move env s a) (terminated s) h
   where
-    pick : (Contains (labels r) a → IsSome (step_in env r a)) → (Contains (labels s) a → IsSome (step_in env s a)) → (c : Bool) → Contains (if c then labels r else labels s) a → IsSome (if c then step_in env r a else option_map (λ t. seq t (substitute env r)) (step_in env s a))
+    pick : (Contains (labels r) a → IsSome (step_in env r a)) → (Contains (labels s) a → IsSome (step_in env s a)) →
+        (c : Bool) → Contains (if c then labels r else labels s) a →
+        IsSome (if c then step_in env r a else option_map (λ t. seq t (substitute env r)) (step_in env s a))
     pick second first true h = second h
     pick second first false h = mapped_there (λ t. seq t (substitute env r)) (step_in env s a) (first h)
 labels_move env (rec s) a h = labels_move (Some (substitute env (rec s)) ∷ env) s a h
@@ -63,7 +71,9 @@ moves_labelled env (select bs) a h = moves_choice Select bs a (unmapped_there (s
 moves_labelled env (offer bs) a h = moves_choice Offer bs a (unmapped_there (substitute env) (branch_at Offer bs a) h)
 moves_labelled env (seq s r) a h = pick (moves_labelled env r a) (moves_labelled env s a) (terminated s) h
   where
-    pick : (IsSome (step_in env r a) → Contains (labels r) a) → (IsSome (step_in env s a) → Contains (labels s) a) → (c : Bool) → IsSome (if c then step_in env r a else option_map (λ t. seq t (substitute env r)) (step_in env s a)) → Contains (if c then labels r else labels s) a
+    pick : (IsSome (step_in env r a) → Contains (labels r) a) → (IsSome (step_in env s a) → Contains (labels s) a) →
+        (c : Bool) → IsSome (if c then step_in env r a else option_map (λ t. seq t (substitute env r)) (step_in env s a)) →
+        Contains (if c then labels r else labels s) a
     pick second first true h = second h
     pick second first false h = first (unmapped_there (λ t. seq t (substitute env r)) (step_in env s a) h)
 moves_labelled env (rec s) a h = moves_labelled (Some (substitute env (rec s)) ∷ env) s a h
@@ -75,5 +85,6 @@ moves_labelled env (pair s r) a h = absurd (cc h)
 moves_labelled env (named k) a h = absurd (cc h)
 
 -- a label is among the labels of a type exactly where the type moves by it
-pub labels_are_moves : (s : Tree) (a : Label) → (Contains (labels s) a → IsSome (step s a)) × (IsSome (step s a) → Contains (labels s) a)
+pub labels_are_moves : (s : Tree) (a : Label) → (Contains (labels s) a → IsSome (step s a)) ×
+    (IsSome (step s a) → Contains (labels s) a)
 labels_are_moves s a = (labels_move [] s a, moves_labelled [] s a)

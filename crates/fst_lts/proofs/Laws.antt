@@ -30,6 +30,8 @@ pub use Rattle.fst_lts.proofs.EventLaws.{moving, after_sent, after_received}
 pub use Rattle.fst_lts.proofs.EventLaws.{dual_step, dual_receives, dual_sends}
 -- after an event, and after a history, the dual is the dual of the type
 pub use Rattle.fst_lts.proofs.EventLaws.{after_event-dual, after_history-dual}
+-- the dual has the kind of the type, and no free recursion variable where the type has none
+pub use Rattle.fst_lts.proofs.DualKinds.{dual_scoped, dual_formed, dual_session}
 
 -- a terminated type guards nothing
 pub unguarded : (s : Tree) → terminated s ≡ true → guards s ≡ false
@@ -52,11 +54,13 @@ pub no_variable : (k : ℕ) → IsGuarded (back k) → ⊥
 no_variable = guard.no_variable
 
 -- the steps of a contractive type without free variables are its moves
-pub steps_are_moves : (s : Tree) → IsScoped 0 s → IsContractive s → (a : Label) (t : Tree) → (step s a ≡ Some t → Moves s a t) × (Moves s a t → step s a ≡ Some t)
+pub steps_are_moves : (s : Tree) → IsScoped 0 s → IsContractive s → (a : Label) (t : Tree) → (step s a ≡ Some t → Moves s a t) ×
+    (Moves s a t → step s a ≡ Some t)
 steps_are_moves = moved.steps_are_moves
 
 -- an unfolding moves as its type does
-pub unfolding_of_step : (s : Tree) → IsScoped 0 (rec s) → IsContractive (rec s) → IsContractive (unfolding_of s) → (a : Label) → step (unfolding_of s) a ≡ step (rec s) a
+pub unfolding_of_step : (s : Tree) → IsScoped 0 (rec s) → IsContractive (rec s) → IsContractive (unfolding_of s) →
+    (a : Label) → step (unfolding_of s) a ≡ step (rec s) a
 unfolding_of_step = moved.unfolding_of_step
 
 -- two session types, one behind the other, are a session type
@@ -72,21 +76,26 @@ pub no_step : (s : Tree) → terminated s ≡ true → (a : Label) → IsSome (s
 no_step s over a = agreement.no_step s a (left.terminated_unlabelled s over)
 
 -- a sequence moves as its second part where the first one is terminated, and otherwise as the first, with the second behind
-pub seq_step : (s r : Tree) (a : Label) → step (seq s r) a ≡ (if terminated s then step r a else option_map (λ t. seq t r) (step s a))
+pub seq_step : (s r : Tree) (a : Label) → step
+    (seq s r) a ≡ (if terminated s then step r a else option_map (λ t. seq t r) (step s a))
 seq_step = agreement.first_then
 
 -- session types that agree to a depth over 0 are terminated alike
-pub agree_terminated : (n : ℕ) (vars : List Kind) (s r : Tree) → IsSession vars s → IsSession vars r → AgreeTo step step (suc n) s r → terminated s ≡ terminated r
-agree_terminated n vars s r ws wr = agreement.over_alike n s r (left.terminated_exactly vars s ws) (left.terminated_exactly vars r wr)
+pub agree_terminated : (n : ℕ) (vars : List Kind) (s r : Tree) → IsSession vars s → IsSession vars r →
+    AgreeTo step step (suc n) s r → terminated s ≡ terminated r
+agree_terminated n vars s r ws wr = agreement.over_alike n s r (left.terminated_exactly vars s ws)
+    (left.terminated_exactly vars r wr)
 
 -- a type in front of both sides keeps agreement
 pub agree_in_front : (n : ℕ) (t s r : Tree) → AgreeTo step step n s r → AgreeTo step step n (seq t s) (seq t r)
 agree_in_front = agreement.agree_in_front
 
 -- and so does a type behind two session types
-pub agree_behind : (n : ℕ) (vars : List Kind) (s r t : Tree) → IsSession vars s → IsSession vars r → AgreeTo step step n s r → AgreeTo step step n (seq s t) (seq r t)
+pub agree_behind : (n : ℕ) (vars : List Kind) (s r t : Tree) → IsSession vars s → IsSession vars r → AgreeTo step step n s r →
+    AgreeTo step step n (seq s t) (seq r t)
 agree_behind = agreement.agree_behind
 
 -- the labels of a type are those by which it moves
-pub labels_are_moves : (s : Tree) (a : Label) → (Contains (labels s) a → IsSome (step s a)) × (IsSome (step s a) → Contains (labels s) a)
+pub labels_are_moves : (s : Tree) (a : Label) → (Contains (labels s) a → IsSome (step s a)) ×
+    (IsSome (step s a) → Contains (labels s) a)
 labels_are_moves = label.labels_are_moves

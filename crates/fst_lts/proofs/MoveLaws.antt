@@ -51,11 +51,13 @@ branch_substituted make env none a = refl
 branch_substituted make env (branch l s bs) a = pick (branch_substituted make env bs a) (same_label a (make l))
   where
     pick : branch_at make (substitute_all env bs) a ≡ option_map (substitute env) (branch_at make bs a) → (c : Bool) →
-        (if c then Some (substitute env s) else branch_at make (substitute_all env bs) a) ≡ option_map (substitute env) (if c then Some s else branch_at make bs a)
+        (if c then Some (substitute env s) else branch_at make (substitute_all env bs) a) ≡ option_map (substitute env)
+        (if c then Some s else branch_at make bs a)
     pick next true = refl
     pick next false = next
 
-branch_label : (make : List ℕ → Label) (bs : Branches) (a : Label) (s : Tree) → branch_at make bs a ≡ Some s → (l : List ℕ) × (a ≡ make l)
+branch_label : (make : List ℕ → Label) (bs : Branches) (a : Label) (s : Tree) → branch_at make bs a ≡ Some s → (l : List ℕ) ×
+    (a ≡ make l)
 branch_label make none a s e = absurd (cc e)
 branch_label make (branch l t bs) a s e = pick (branch_label make bs a s) (same_label a (make l)) refl e
   where
@@ -64,7 +66,8 @@ branch_label make (branch l t bs) a s e = pick (branch_label make bs a s) (same_
     pick next true h e = (l, same_label-same a (make l) h)
     pick next false h e = next e
 
-one_move : (x : Tree) (a b : Label) (t : Tree) → Moves x b skip → (if same_label a b then Some skip else None) ≡ Some t → Moves x a t
+one_move : (x : Tree) (a b : Label) (t : Tree) → Moves x b skip →
+    (if same_label a b then Some skip else None) ≡ Some t → Moves x a t
 one_move x a b t m e = pick (same_label a b) refl e
   where
     pick : (c : Bool) → same_label a b ≡ c → (if c then Some skip else None) ≡ Some t → Moves x a t
@@ -84,11 +87,13 @@ offer_moves bs a t e =
     subst (λ b. Moves (offer bs) b t) (sym l.1) (offers (subst (λ b. branch_at Offer bs b ≡ Some t) l.1 e))
 
 -- what a `rec` stands for has no free variables
-whole_closed : (env : List (Option Tree)) → AllClosed env → (s : Tree) → IsScoped (suc (length env)) s → AllClosed (Some (substitute env (rec s)) ∷ env)
+whole_closed : (env : List (Option Tree)) → AllClosed env →
+    (s : Tree) → IsScoped (suc (length env)) s → AllClosed (Some (substitute env (rec s)) ∷ env)
 whole_closed env ok s h = (substitute_scoped env (rec s) ok h, ok)
 
 -- a step is a move
-steps_move : (env : List (Option Tree)) → AllClosed env → (s : Tree) → IsScoped (length env) s → (a : Label) (t : Tree) → step_in env s a ≡ Some t → Moves (substitute env s) a t
+steps_move : (env : List (Option Tree)) → AllClosed env → (s : Tree) → IsScoped (length env) s →
+    (a : Label) (t : Tree) → step_in env s a ≡ Some t → Moves (substitute env s) a t
 steps_move env ok skip h a t e = absurd (cc e)
 steps_move env ok (send b) h a t e = one_move (send b) a (Send b) t sends e
 steps_move env ok (receive b) h a t e = one_move (receive b) a (Receive b) t receives e
@@ -97,8 +102,10 @@ steps_move env ok (offer bs) h a t e = offer_moves (substitute_all env bs) a t (
 steps_move env ok (seq s r) h a t e =
     pick (steps_move env ok s h.0 a) (steps_move env ok r h.1 a t) (terminated s) refl e
   where
-    pick : ((u : Tree) → step_in env s a ≡ Some u → Moves (substitute env s) a u) → (step_in env r a ≡ Some t → Moves (substitute env r) a t) →
-        (c : Bool) → terminated s ≡ c → (if c then step_in env r a else option_map (λ u. seq u (substitute env r)) (step_in env s a)) ≡ Some t →
+    pick : ((u : Tree) → step_in env s a ≡ Some u → Moves (substitute env s) a u) →
+        (step_in env r a ≡ Some t → Moves (substitute env r) a t) →
+        (c : Bool) → terminated s ≡ c → (if c then step_in env r a else option_map
+        (λ u. seq u (substitute env r)) (step_in env s a)) ≡ Some t →
         Moves (seq (substitute env s) (substitute env r)) a t
     pick front behind true is e = second (substitute-terminated env s is) (behind e)
     pick front behind false is e =
@@ -107,7 +114,8 @@ steps_move env ok (seq s r) h a t e =
         subst (λ y. Moves (seq (substitute env s) (substitute env r)) a y) found.2 (first (false_from_ne_true _ (moving m)) m)
 steps_move env ok (rec s) h a t e =
     let whole = substitute env (rec s) in
-    unfolds (subst (λ y. Moves y a t) (sym (substitute_after whole env ok s)) (steps_move (Some whole ∷ env) (whole_closed env ok s h) s h a t e))
+    unfolds (subst (λ y. Moves y a t) (sym (substitute_after whole env ok s))
+    (steps_move (Some whole ∷ env) (whole_closed env ok s h) s h a t e))
 steps_move env ok (back k) h a t e = absurd (cc e)
 steps_move env ok (var k) h a t e = one_move (var k) a (Var k) t variables e
 steps_move env ok (plain b) h a t e = absurd (cc e)
@@ -155,7 +163,8 @@ rec_part : {s t : Tree} {a : Label} → Moves (rec s) a t → Moves (unfolding_o
 rec_part (unfolds m) = m
 
 -- putting types into a guarded type doesn't change whether it is terminated
-still_terminated : (env : List (Option Tree)) (s : Tree) → IsContractive s → IsGuarded s → terminated (substitute env s) ≡ terminated s
+still_terminated : (env : List (Option Tree)) (s : Tree) → IsContractive s → IsGuarded s →
+    terminated (substitute env s) ≡ terminated s
 still_terminated env skip c g = refl
 still_terminated env (send b) c g = refl
 still_terminated env (receive b) c g = refl
@@ -164,7 +173,8 @@ still_terminated env (offer bs) c g = refl
 still_terminated env (seq s r) c g =
     pick (still_terminated env s c.0 (guarded_first s r g)) (still_terminated env r c.1) (terminated s) refl
   where
-    pick : terminated (substitute env s) ≡ terminated s → (IsGuarded r → terminated (substitute env r) ≡ terminated r) → (b : Bool) → terminated s ≡ b →
+    pick : terminated (substitute env s) ≡ terminated s → (IsGuarded r → terminated (substitute env r) ≡ terminated r) →
+        (b : Bool) → terminated s ≡ b →
         terminated (substitute env s) && terminated (substitute env r) ≡ terminated s && terminated r
     pick front behind true is = λ i. front i && behind (guarded_second s r g is) i
     pick front behind false is = ap (λ b. b && terminated (substitute env r)) (front ∙ is) ∙ sym (ap (λ b. b && terminated r) is)
@@ -190,14 +200,17 @@ moves_step env ok (receive b) h c g a t m = one_step a (Receive b) t (receive_la
 moves_step env ok (select bs) h c g a t m = sym (branch_substituted Select env bs a) ∙ select_branch m
 moves_step env ok (offer bs) h c g a t m = sym (branch_substituted Offer env bs a) ∙ offer_branch m
 moves_step env ok (seq s r) h c g a t m =
-    pick (moves_step env ok s h.0 c.0 (guarded_first s r g) a) (λ k. moves_step env ok r h.1 c.1 k a t) (terminated s) refl (seq_part m)
+    pick (moves_step env ok s h.0 c.0 (guarded_first s r g) a)
+    (λ k. moves_step env ok r h.1 c.1 k a t) (terminated s) refl (seq_part m)
   where
     same : terminated (substitute env s) ≡ terminated s
     same = still_terminated env s c.0 (guarded_first s r g)
 
-    pick : ((u : Tree) → Moves (substitute env s) a u → step_in env s a ≡ Some u) → (IsGuarded r → Moves (substitute env r) a t → step_in env r a ≡ Some t) →
+    pick : ((u : Tree) → Moves (substitute env s) a u → step_in env s a ≡ Some u) →
+        (IsGuarded r → Moves (substitute env r) a t → step_in env r a ≡ Some t) →
         (b : Bool) → terminated s ≡ b →
-        ((terminated (substitute env s) ≡ false) × ((u : Tree) × Moves (substitute env s) a u × (seq u (substitute env r) ≡ t))) ⊎ ((terminated (substitute env s) ≡ true) × Moves (substitute env r) a t) →
+        ((terminated (substitute env s) ≡ false) × ((u : Tree) × Moves (substitute env s) a u × (seq u (substitute env r) ≡ t))) ⊎
+        ((terminated (substitute env s) ≡ true) × Moves (substitute env r) a t) →
         (if b then step_in env r a else option_map (λ u. seq u (substitute env r)) (step_in env s a)) ≡ Some t
     pick front behind true is (inl (n, u)) = absurd (cc (sym n ∙ same ∙ is))
     pick front behind true is (inr (y, m)) = behind (guarded_second s r g is) m
@@ -218,7 +231,8 @@ closed_guarded : (s : Tree) → IsScoped 0 s → IsGuarded s
 closed_guarded s h k = unreached s 0 k h (omega arith)
 
 -- the steps of a contractive type without free variables are its moves
-pub steps_are_moves : (s : Tree) → IsScoped 0 s → IsContractive s → (a : Label) (t : Tree) → (step s a ≡ Some t → Moves s a t) × (Moves s a t → step s a ≡ Some t)
+pub steps_are_moves : (s : Tree) → IsScoped 0 s → IsContractive s → (a : Label) (t : Tree) → (step s a ≡ Some t → Moves s a t) ×
+    (Moves s a t → step s a ≡ Some t)
 steps_are_moves s h c a t = (
   λ e. subst (λ x. Moves x a t) (substitute_nothing s) (steps_move [] tt s h a t e),
   λ m. moves_step [] tt s h c (closed_guarded s h) a t (subst (λ x. Moves x a t) (sym (substitute_nothing s)) m),
@@ -235,12 +249,14 @@ moves_once {t} {u} (selects h) n = same_some t u (sym h ∙ select_branch n)
 moves_once {t} {u} (offers h) n = same_some t u (sym h ∙ offer_branch n)
 moves_once {u} {a} (first {s} {r} {t} h m) n = pick (λ v k. moves_once m k) (seq_part n)
   where
-    pick : ((v : Tree) → Moves s a v → t ≡ v) → ((terminated s ≡ false) × ((v : Tree) × Moves s a v × (seq v r ≡ u))) ⊎ ((terminated s ≡ true) × Moves r a u) → seq t r ≡ u
+    pick : ((v : Tree) → Moves s a v → t ≡ v) → ((terminated s ≡ false) × ((v : Tree) × Moves s a v × (seq v r ≡ u))) ⊎
+        ((terminated s ≡ true) × Moves r a u) → seq t r ≡ u
     pick once (inl (is, (v, k, e))) = ap (λ x. seq x r) (once v k) ∙ e
     pick once (inr (is, k)) = absurd (cc (sym h ∙ is))
 moves_once {t} {u} {a} (second {s} {r} h m) n = pick (λ k. moves_once m k) (seq_part n)
   where
-    pick : (Moves r a u → t ≡ u) → ((terminated s ≡ false) × ((v : Tree) × Moves s a v × (seq v r ≡ u))) ⊎ ((terminated s ≡ true) × Moves r a u) → t ≡ u
+    pick : (Moves r a u → t ≡ u) → ((terminated s ≡ false) × ((v : Tree) × Moves s a v × (seq v r ≡ u))) ⊎
+        ((terminated s ≡ true) × Moves r a u) → t ≡ u
     pick once (inl (is, k)) = absurd (cc (sym h ∙ is))
     pick once (inr (is, k)) = once k
 moves_once (unfolds m) n = moves_once m (rec_part n)
@@ -252,12 +268,15 @@ same_option None (Some y) f g = g y refl
 same_option (Some x) p f g = sym (f x refl)
 
 -- an unfolding moves as its type does
-pub unfolding_of_step : (s : Tree) → IsScoped 0 (rec s) → IsContractive (rec s) → IsContractive (unfolding_of s) → (a : Label) → step (unfolding_of s) a ≡ step (rec s) a
+pub unfolding_of_step : (s : Tree) → IsScoped 0 (rec s) → IsContractive (rec s) → IsContractive (unfolding_of s) →
+    (a : Label) → step (unfolding_of s) a ≡ step (rec s) a
 unfolding_of_step s h c d a =
     let inner = steps_are_moves (unfolding_of s) (unfolding_of_scoped s h) d a in
     let outer = steps_are_moves (rec s) h c a in
-    same_option (step (unfolding_of s) a) (step (rec s) a) (λ x e. (outer x).1 (unfolds ((inner x).0 e))) (λ x e. (inner x).1 (rec_part ((outer x).0 e)))
+    same_option (step (unfolding_of s) a) (step (rec s) a) (λ x e. (outer x).1 (unfolds ((inner x).0 e)))
+    (λ x e. (inner x).1 (rec_part ((outer x).0 e)))
 
 -- an unfolding is terminated exactly where its type is
-pub unfolding_of_terminated : (s : Tree) → IsScoped 0 (rec s) → IsContractive (rec s) → terminated (unfolding_of s) ≡ terminated (rec s)
+pub unfolding_of_terminated : (s : Tree) → IsScoped 0 (rec s) → IsContractive (rec s) →
+    terminated (unfolding_of s) ≡ terminated (rec s)
 unfolding_of_terminated s h c = still_terminated (Some (rec s) ∷ []) s c.0 (guarded_body s c.1 (closed_guarded (rec s) h))

@@ -29,7 +29,8 @@ labels_rise (select bs) o = choice_rises Select (λ l m e. e) bs o.0
 labels_rise (offer bs) o = choice_rises Offer (λ l m e. e) bs o.0
 labels_rise (seq s r) o = pick (labels_rise s o.0) (labels_rise r o.1) (terminated s)
   where
-    pick : IsRising label_cmp (labels s) → IsRising label_cmp (labels r) → (c : Bool) → IsRising label_cmp (if c then labels r else labels s)
+    pick : IsRising label_cmp (labels s) → IsRising label_cmp (labels r) →
+        (c : Bool) → IsRising label_cmp (if c then labels r else labels s)
     pick first second true = second
     pick first second false = first
 labels_rise (rec s) o = labels_rise s o
@@ -40,11 +41,13 @@ labels_rise (arrow u s r) o = tt
 labels_rise (pair s r) o = tt
 labels_rise (named k) o = tt
 
-branch_ordered : (make : List ℕ → Label) (env : List (Option Tree)) (bs : Branches) (a : Label) → EnvHas IsOrdered env → AllOrdered bs → IfSome (option_map (substitute env) (branch_at make bs a)) IsOrdered
+branch_ordered : (make : List ℕ → Label) (env : List (Option Tree)) (bs : Branches) (a : Label) → EnvHas IsOrdered env →
+    AllOrdered bs → IfSome (option_map (substitute env) (branch_at make bs a)) IsOrdered
 branch_ordered make env none a e o = tt
 branch_ordered make env (branch l s bs) a e o = pick (same_label a (make l)) (branch_ordered make env bs a e o.1)
   where
-    pick : (c : Bool) → IfSome (option_map (substitute env) (branch_at make bs a)) IsOrdered → IfSome (option_map (substitute env) (if c then Some s else branch_at make bs a)) IsOrdered
+    pick : (c : Bool) → IfSome (option_map (substitute env) (branch_at make bs a)) IsOrdered →
+        IfSome (option_map (substitute env) (if c then Some s else branch_at make bs a)) IsOrdered
     pick true next = substitute_ordered env s e o.0
     pick false next = next
 
@@ -52,19 +55,23 @@ skip_ordered : (c : Bool) → IfSome (if c then Some skip else None) IsOrdered
 skip_ordered true = tt
 skip_ordered false = tt
 
-step_in_ordered : (env : List (Option Tree)) (s : Tree) (a : Label) → EnvHas IsOrdered env → IsOrdered s → IfSome (step_in env s a) IsOrdered
+step_in_ordered : (env : List (Option Tree)) (s : Tree) (a : Label) → EnvHas IsOrdered env → IsOrdered s →
+    IfSome (step_in env s a) IsOrdered
 step_in_ordered env skip a e o = tt
 step_in_ordered env (send b) a e o = skip_ordered (same_label a (Send b))
 step_in_ordered env (receive b) a e o = skip_ordered (same_label a (Receive b))
 step_in_ordered env (select bs) a e o = branch_ordered Select env bs a e o.1
 step_in_ordered env (offer bs) a e o = branch_ordered Offer env bs a e o.1
-step_in_ordered env (seq s r) a e o = pick (step_in_ordered env r a e o.1) (step_in env s a) (step_in_ordered env s a e o.0) (terminated s)
+step_in_ordered env (seq s r) a e o = pick (step_in_ordered env r a e o.1) (step_in env s a) (step_in_ordered env s a e o.0)
+    (terminated s)
   where
-    pick : IfSome (step_in env r a) IsOrdered → (p : Option Tree) → IfSome p IsOrdered → (c : Bool) → IfSome (if c then step_in env r a else option_map (λ t. seq t (substitute env r)) p) IsOrdered
+    pick : IfSome (step_in env r a) IsOrdered → (p : Option Tree) → IfSome p IsOrdered →
+        (c : Bool) → IfSome (if c then step_in env r a else option_map (λ t. seq t (substitute env r)) p) IsOrdered
     pick second p first true = second
     pick second None first false = tt
     pick second (Some t) first false = (first, substitute_ordered env r e o.1)
-step_in_ordered env (rec s) a e o = step_in_ordered (Some (substitute env (rec s)) ∷ env) s a (substitute_ordered env (rec s) e o, e) o
+step_in_ordered env (rec s) a e o = step_in_ordered (Some (substitute env (rec s)) ∷ env) s a
+    (substitute_ordered env (rec s) e o, e) o
 step_in_ordered env (back k) a e o = tt
 step_in_ordered env (var k) a e o = skip_ordered (same_label a (Var k))
 step_in_ordered env (plain b) a e o = tt
@@ -81,6 +88,7 @@ pub residual_ordered : (w : List Label) (s : Tree) → IsOrdered s → IfSome (r
 residual_ordered [] s o = o
 residual_ordered (a ∷ w) s o = pick (residual_ordered w) (step s a) (step_ordered s a o)
   where
-    pick : ((t : Tree) → IsOrdered t → IfSome (residual step t w) IsOrdered) → (p : Option Tree) → IfSome p IsOrdered → IfSome (option_and_then (λ t. residual step t w) p) IsOrdered
+    pick : ((t : Tree) → IsOrdered t → IfSome (residual step t w) IsOrdered) →
+        (p : Option Tree) → IfSome p IsOrdered → IfSome (option_and_then (λ t. residual step t w) p) IsOrdered
     pick rest None h = tt
     pick rest (Some t) h = rest t h

@@ -40,40 +40,52 @@ seq_session vars s r h g = (
 )
 
 branch_session : (vars : List Kind) (n : ℕ) (env : List (Option Tree)) (make : List ℕ → Label) (bs : Branches) (a : Label) →
-    IsPut vars n env → AllSessions vars bs → AllContractive bs → AllScoped n bs → AllOrdered bs → IfSome (option_map (substitute env) (branch_at make bs a)) (IsSession vars)
+    IsPut vars n env → AllSessions vars bs → AllContractive bs → AllScoped n bs → AllOrdered bs →
+    IfSome (option_map (substitute env) (branch_at make bs a)) (IsSession vars)
 branch_session vars n env make none a p k c h o = tt
-branch_session vars n env make (branch l s bs) a p k c h o = pick (branch_session vars n env make bs a p k.1 c.1 h.1 o.1) (same_label a (make l))
+branch_session vars n env make (branch l s bs) a p k c h o =
+    pick (branch_session vars n env make bs a p k.1 c.1 h.1 o.1) (same_label a (make l))
   where
-    pick : IfSome (option_map (substitute env) (branch_at make bs a)) (IsSession vars) → (b : Bool) → IfSome (option_map (substitute env) (if b then Some s else branch_at make bs a)) (IsSession vars)
+    pick : IfSome (option_map (substitute env) (branch_at make bs a)) (IsSession vars) →
+        (b : Bool) → IfSome (option_map (substitute env) (if b then Some s else branch_at make bs a)) (IsSession vars)
     pick next true = substitute_session vars n env s p (record { kinded = k.0; contractive = c.0; scoped = h.0; ordered = o.0 })
     pick next false = next
 
 -- a step of an open session type, with session types for its variables, leaves a session type
-pub step_in_session : (vars : List Kind) (n : ℕ) (env : List (Option Tree)) (s : Tree) (a : Label) → IsPut vars n env → IsOpenSession vars n s → IfSome (step_in env s a) (IsSession vars)
+pub step_in_session : (vars : List Kind) (n : ℕ) (env : List (Option Tree)) (s : Tree) (a : Label) → IsPut vars n env →
+    IsOpenSession vars n s → IfSome (step_in env s a) (IsSession vars)
 step_in_session vars n env skip a p h = tt
 step_in_session vars n env (send b) a p h = skip_if_session vars (same_label a (Send b))
 step_in_session vars n env (receive b) a p h = skip_if_session vars (same_label a (Receive b))
-step_in_session vars n env (select bs) a p h = branch_session vars n env Select bs a p h.kinded.1.0 h.contractive h.scoped h.ordered.1
-step_in_session vars n env (offer bs) a p h = branch_session vars n env Offer bs a p h.kinded.1.0 h.contractive h.scoped h.ordered.1
+step_in_session vars n env (select bs) a p h =
+    branch_session vars n env Select bs a p h.kinded.1.0 h.contractive h.scoped h.ordered.1
+step_in_session vars n env (offer bs) a p h = branch_session vars n env Offer bs a p h.kinded.1.0 h.contractive h.scoped
+    h.ordered.1
 step_in_session vars n env (seq s r) a p h =
-    pick (step_in_session vars n env r a p (open_second vars n s r h)) (step_in env s a) (step_in_session vars n env s a p (open_first vars n s r h)) (terminated s)
+    pick (step_in_session vars n env r a p (open_second vars n s r h)) (step_in env s a)
+    (step_in_session vars n env s a p (open_first vars n s r h)) (terminated s)
   where
     pick : IfSome (step_in env r a) (IsSession vars) → (o : Option Tree) → IfSome o (IsSession vars) → (c : Bool) →
         IfSome (if c then step_in env r a else option_map (λ t. seq t (substitute env r)) o) (IsSession vars)
     pick second o first true = second
     pick second None first false = tt
-    pick second (Some t) first false = seq_session vars t (substitute env r) first (substitute_session vars n env r p (open_second vars n s r h))
+    pick second (Some t) first false = seq_session vars t (substitute env r) first
+        (substitute_session vars n env r p (open_second vars n s r h))
 step_in_session vars n env (rec s) a p h =
     pick (λ m. step_in_session vars m (Some (substitute env (rec s)) ∷ env) s a) (guards s) refl
   where
     whole : IsSession vars (substitute env (rec s))
     whole = substitute_session vars n env (rec s) p h
 
-    put : (m : ℕ) → m ≤ suc (length env) → GuardsTo m (Some (substitute env (rec s)) ∷ env) → IsPut vars m (Some (substitute env (rec s)) ∷ env)
+    put : (m : ℕ) → m ≤ suc (length env) → GuardsTo m (Some (substitute env (rec s)) ∷ env) →
+        IsPut vars m (Some (substitute env (rec s)) ∷ env)
     put m le g = record { closed = (whole.1.scoped, p.closed); sessions = (whole, p.sessions); enough = le; guarded = g }
 
-    pick : ((m : ℕ) → IsPut vars m (Some (substitute env (rec s)) ∷ env) → IsOpenSession vars m s → IfSome (step_in env (rec s) a) (IsSession vars)) → (b : Bool) → guards s ≡ b → IfSome (step_in env (rec s) a) (IsSession vars)
-    pick next true is = next (suc n) (put (suc n) (omega (arith, p.enough)) (substitute_guards n env (rec s) p.guarded h.scoped is, p.guarded)) (open_body vars n s h)
+    pick : ((m : ℕ) → IsPut vars m (Some (substitute env (rec s)) ∷ env) → IsOpenSession vars m s →
+        IfSome (step_in env (rec s) a) (IsSession vars)) →
+        (b : Bool) → guards s ≡ b → IfSome (step_in env (rec s) a) (IsSession vars)
+    pick next true is = next (suc n) (put (suc n) (omega (arith, p.enough))
+        (substitute_guards n env (rec s) p.guarded h.scoped is, p.guarded)) (open_body vars n s h)
     pick next false is = next 0 (put 0 (omega arith) tt) (unguarded_body vars n s h is)
 step_in_session vars n env (back k) a p h = tt
 step_in_session vars n env (var k) a p h = skip_if_session vars (same_label a (Var k))
@@ -84,14 +96,17 @@ step_in_session vars n env (named k) a p h = tt
 
 -- the type after a label is a session type if the type is one
 pub step_session : (vars : List Kind) (s : Tree) (a : Label) → IsSession vars s → IfSome (step s a) (IsSession vars)
-step_session vars s a h = step_in_session vars 0 [] s a (record { closed = tt; sessions = tt; enough = omega arith; guarded = tt }) (opened vars s h)
+step_session vars s a h = step_in_session vars 0 [] s a
+    (record { closed = tt; sessions = tt; enough = omega arith; guarded = tt }) (opened vars s h)
 
 -- what a trace leaves is a session type if the type is one
-pub residual_session : (vars : List Kind) (w : List Label) (s : Tree) → IsSession vars s → IfSome (residual step s w) (IsSession vars)
+pub residual_session : (vars : List Kind) (w : List Label) (s : Tree) → IsSession vars s →
+    IfSome (residual step s w) (IsSession vars)
 residual_session vars [] s h = h
 residual_session vars (a ∷ w) s h = pick (residual_session vars w) (step s a) (step_session vars s a h)
   where
-    pick : ((t : Tree) → IsSession vars t → IfSome (residual step t w) (IsSession vars)) → (o : Option Tree) → IfSome o (IsSession vars) → IfSome (option_and_then (λ t. residual step t w) o) (IsSession vars)
+    pick : ((t : Tree) → IsSession vars t → IfSome (residual step t w) (IsSession vars)) →
+        (o : Option Tree) → IfSome o (IsSession vars) → IfSome (option_and_then (λ t. residual step t w) o) (IsSession vars)
     pick rest None g = tt
     pick rest (Some t) g = rest t g
 
@@ -99,16 +114,19 @@ choice_labelled : (make : List ℕ → Label) (bs : Branches) → AreRising bs �
 choice_labelled make none o e = absurd o
 choice_labelled make (branch l s bs) o e = absurd (cc e)
 
-unlabelled_ends : (vars : List Kind) (n : ℕ) (s : Tree) → IsOpenSession vars n s → IsGuarded s → labels s ≡ [] → terminated s ≡ true
+unlabelled_ends : (vars : List Kind) (n : ℕ) (s : Tree) → IsOpenSession vars n s → IsGuarded s → labels s ≡ [] →
+    terminated s ≡ true
 unlabelled_ends vars n skip h g e = refl
 unlabelled_ends vars n (send b) h g e = absurd (cc e)
 unlabelled_ends vars n (receive b) h g e = absurd (cc e)
 unlabelled_ends vars n (select bs) h g e = absurd (choice_labelled Select bs h.ordered.0 e)
 unlabelled_ends vars n (offer bs) h g e = absurd (choice_labelled Offer bs h.ordered.0 e)
 unlabelled_ends vars n (seq s r) h g e =
-    pick (unlabelled_ends vars n s (open_first vars n s r h) (guarded_first s r g)) (unlabelled_ends vars n r (open_second vars n s r h)) (terminated s) refl e
+    pick (unlabelled_ends vars n s (open_first vars n s r h) (guarded_first s r g))
+    (unlabelled_ends vars n r (open_second vars n s r h)) (terminated s) refl e
   where
-    pick : (labels s ≡ [] → terminated s ≡ true) → (IsGuarded r → labels r ≡ [] → terminated r ≡ true) → (c : Bool) → terminated s ≡ c → (if c then labels r else labels s) ≡ [] → terminated s && terminated r ≡ true
+    pick : (labels s ≡ [] → terminated s ≡ true) → (IsGuarded r → labels r ≡ [] → terminated r ≡ true) →
+        (c : Bool) → terminated s ≡ c → (if c then labels r else labels s) ≡ [] → terminated s && terminated r ≡ true
     pick first second true is e = λ i. is i && second (guarded_second s r g is) e i
     pick first second false is e = absurd (cc (sym is ∙ first e))
 unlabelled_ends vars n (rec s) h g e = unlabelled_ends vars (suc n) s (open_body vars n s h) (guarded_body s h.contractive.1 g) e

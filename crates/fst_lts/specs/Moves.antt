@@ -14,11 +14,14 @@ pub data Moves : Tree → Label → Tree → Type 0 where
   -- `?B` by `?B` to Skip
   receives : {b : Base} → Moves (receive b) (Receive b) skip
   -- `+{..}` by `+l` to the branch of l
-  selects : {bs : Branches} {l : List ℕ} {s : Tree} → branch_at Select bs (Select l) ≡ Some s → Moves (select bs) (Select l) s
+  selects : {bs : Branches} {l : List ℕ} {s : Tree} → branch_at Select bs (Select l) ≡ Some s →
+      Moves (select bs) (Select l) s
   -- `&{..}` by `&l` to the branch of l
-  offers : {bs : Branches} {l : List ℕ} {s : Tree} → branch_at Offer bs (Offer l) ≡ Some s → Moves (offer bs) (Offer l) s
+  offers : {bs : Branches} {l : List ℕ} {s : Tree} → branch_at Offer bs (Offer l) ≡ Some s →
+      Moves (offer bs) (Offer l) s
   -- `S;R` as S moves, where a move of S is left, with R behind
-  first : {s r t : Tree} {a : Label} → terminated s ≡ false → Moves s a t → Moves (seq s r) a (seq t r)
+  first : {s r t : Tree} {a : Label} → terminated s ≡ false → Moves s a t →
+      Moves (seq s r) a (seq t r)
   -- `S;R` as R moves, where no move of S is left
   second : {s r t : Tree} {a : Label} → terminated s ≡ true → Moves r a t → Moves (seq s r) a t
   -- `rec x. S` as its unfolding moves

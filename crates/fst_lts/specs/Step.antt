@@ -36,7 +36,8 @@ step_in env (receive b) a = if same_label a (Receive b) then Some skip else None
 step_in env (select bs) a = option_map (substitute env) (branch_at Select bs a)
 step_in env (offer bs) a = option_map (substitute env) (branch_at Offer bs a)
 step_in env (seq s r) a =
-    if terminated s then step_in env r a else option_map (λ t. seq t (substitute env r)) (step_in env s a)
+    if terminated s then step_in env r a else option_map
+    (λ t. seq t (substitute env r)) (step_in env s a)
 step_in env (rec s) a = step_in (Some (substitute env (rec s)) ∷ env) s a
 step_in env (back k) a = None
 step_in env (var k) a = if same_label a (Var k) then Some skip else None

@@ -52,7 +52,8 @@ fn agree_after_all(
     depth: u32,
     left: u32,
 ) -> Result<bool, AllocError>
-    ensures { IfOk result (λ agrees. IsTrue agrees ↔ All (λ a. BothOrNeither (AgreeTo step step depth) (step s.now a) (step r.now a)) labels.now) }
+    ensures { IfOk result (λ agrees. IsTrue agrees ↔ All
+        (λ a. BothOrNeither (AgreeTo step step depth) (step s.now a) (step r.now a)) labels.now) }
 {
     for label in labels {
         if !agree_after(alloc, s, r, label, depth, left)? {
@@ -71,7 +72,8 @@ fn agree_after(
     depth: u32,
     left: u32,
 ) -> Result<bool, AllocError>
-    ensures { IfOk result (λ agrees. IsTrue agrees ↔ BothOrNeither (AgreeTo step step depth) (step s.now label.now) (step r.now label.now)) }
+    ensures { IfOk result (λ agrees. IsTrue agrees ↔ BothOrNeither (AgreeTo step step depth)
+        (step s.now label.now) (step r.now label.now)) }
 {
     match (
         step_opening(alloc, s, label, left)?,

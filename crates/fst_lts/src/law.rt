@@ -22,20 +22,24 @@ pub fn depth_law()
 pub fn dual_law()
     ensures involution { (s : Tree) → dual (dual s) ≡ s }
     ensures labels { (a : Label) → dual_label (dual_label a) ≡ a }
-    ensures residuals { (trace : List Label) (s : Tree) → residual step (dual s) (map dual_label trace) ≡ option_map dual (residual step s trace) }
+    ensures residuals { (trace : List Label) (s : Tree) →
+        residual step (dual s) (map dual_label trace) ≡ option_map dual (residual step s trace) }
 {}
 
 /// The steps of a contractive type without free recursion variables are its moves by the rules, where a recursive
 /// type moves as its unfolding; and by each label a type moves to at most one type.
 pub fn moves_law()
-    ensures steps { (s : Tree) → IsScoped 0 s → IsContractive s → (a : Label) (t : Tree) → step s a ≡ Some t ↔ Moves s a t }
+    ensures steps { (s : Tree) → IsScoped 0 s → IsContractive s →
+        (a : Label) (t : Tree) → step s a ≡ Some t ↔ Moves s a t }
     ensures unique { (s t u : Tree) (a : Label) → Moves s a t → Moves s a u → t ≡ u }
 {}
 
 /// The unfolding of a recursive session type moves as the type does, and is terminated where the type is.
 pub fn unfolding_law()
-    ensures steps { (vars : List Kind) (s : Tree) → IsSession vars (tree.rec s) → (a : Label) → step (unfolding_of s) a ≡ step (tree.rec s) a }
-    ensures ends { (vars : List Kind) (s : Tree) → IsSession vars (tree.rec s) → terminated (unfolding_of s) ≡ terminated (tree.rec s) }
+    ensures steps { (vars : List Kind) (s : Tree) → IsSession vars (tree.rec s) →
+        (a : Label) → step (unfolding_of s) a ≡ step (tree.rec s) a }
+    ensures ends { (vars : List Kind) (s : Tree) → IsSession vars (tree.rec s) →
+        terminated (unfolding_of s) ≡ terminated (tree.rec s) }
 {}
 
 /// Agreement at every depth is an equivalence, and is kept with any type in front of both sides, and with any type
@@ -43,7 +47,10 @@ pub fn unfolding_law()
 pub fn agreement_law()
     ensures itself { (s : Tree) → Agree step step s s }
     ensures back { (s r : Tree) → Agree step step s r → Agree step step r s }
-    ensures through { (s r t : Tree) → Agree step step s r → Agree step step r t → Agree step step s t }
-    ensures front { (s r t : Tree) → Agree step step s r → Agree step step (tree.seq t s) (tree.seq t r) }
-    ensures behind { (vars : List Kind) (s r t : Tree) → IsSession vars s → IsSession vars r → Agree step step s r → Agree step step (tree.seq s t) (tree.seq r t) }
+    ensures through { (s r t : Tree) → Agree step step s r → Agree step step r t →
+        Agree step step s t }
+    ensures front { (s r t : Tree) → Agree step step s r →
+        Agree step step (tree.seq t s) (tree.seq t r) }
+    ensures behind { (vars : List Kind) (s r t : Tree) → IsSession vars s → IsSession vars r →
+        Agree step step s r → Agree step step (tree.seq s t) (tree.seq r t) }
 {}

@@ -19,8 +19,10 @@ use std::alloc::Global;
 pub fn step_within_limit(alloc: Global, t: &Ty, a: &Label) -> Result<Option<Ty>, StepFault>
     ensures next { IfOk result (λ next. next ≡ step t.now a.now) }
     ensures ordered { IsOrdered t.now → IfOk result (λ next. IfSome next IsOrdered) }
-    ensures well_formed { (vars : List Kind) → IsSession vars t.now → IfOk result (λ next. IfSome next (IsSession vars)) }
-    ensures too_large { IsErrAnd result (λ f. f ≡ TooLarge) ↔ IsSomeAnd (step t.now a.now) HasTooManyNodes }
+    ensures well_formed { (vars : List Kind) → IsSession vars t.now → IfOk result
+        (λ next. IfSome next (IsSession vars)) }
+    ensures too_large { IsErrAnd result
+        (λ f. f ≡ TooLarge) ↔ IsSomeAnd (step t.now a.now) HasTooManyNodes }
 {
     if step_is_too_large(t, a) {
         return Err(StepFault::TooLarge);
@@ -39,7 +41,8 @@ fn step_is_too_large(t: &Ty, a: &Label) -> bool
 
 // How many nodes the type after a label has, counted to one over the limit.
 fn step_size(scope: &Scope<'_>, t: &Ty, a: &Label) -> Option<u64>
-    ensures { result ≡ option_map (λ s. min (nodes s) (most_nodes + 1)) (step_in (env_of scope.now) t.now a.now) }
+    ensures { result ≡ option_map (λ s. min (nodes s) (most_nodes + 1))
+        (step_in (env_of scope.now) t.now a.now) }
 {
     match &t.form {
         TyForm::Skip => None,

@@ -17,7 +17,8 @@ use std::alloc::{AllocError, Global};
 /// Whether no move is left.
 pub fn terminated(t: &Ty) -> bool
     ensures ends { result ≡ terminated t.now }
-    ensures unlabelled { (vars : List Kind) → IsSession vars t.now → (IsTrue result ↔ (labels t.now ≡ [])) }
+    ensures unlabelled { (vars : List Kind) → IsSession vars t.now →
+        (IsTrue result ↔ (labels t.now ≡ [])) }
 {
     is_terminated(t)
 }
@@ -46,7 +47,8 @@ pub(crate) fn is_terminated(t: &Ty) -> bool
 #[tactic(auto, using(crate::proofs::MoveRules::of_labels))]
 pub fn labels(alloc: Global, t: &Ty) -> Result<Vec<Label>, AllocError>
     ensures items { IfOk result (λ found. found.items ≡ labels t.now) }
-    ensures moves { IfOk result (λ found. (a : Label) → Contains found.items a ↔ IsSome (step t.now a)) }
+    ensures moves { IfOk result (λ found. (a : Label) →
+        Contains found.items a ↔ IsSome (step t.now a)) }
     ensures rising { IsOrdered t.now → IfOk result (λ found. IsRising label_cmp found.items) }
 {
     labels_within(alloc, t)
@@ -87,7 +89,8 @@ fn one_label(alloc: Global, label: Label) -> Result<Vec<Label>, AllocError>
 }
 
 fn select_labels(alloc: Global, branches: &[Branch]) -> Result<Vec<Label>, AllocError>
-    ensures { IfOk result (λ found. found.items ≡ choice_labels Label.Select (branches_of branches.now)) }
+    ensures { IfOk result (λ found. found.items ≡ choice_labels Label.Select
+        (branches_of branches.now)) }
 {
     let mut found = Vec::new(alloc);
     for branch in branches {
@@ -97,7 +100,8 @@ fn select_labels(alloc: Global, branches: &[Branch]) -> Result<Vec<Label>, Alloc
 }
 
 fn offer_labels(alloc: Global, branches: &[Branch]) -> Result<Vec<Label>, AllocError>
-    ensures { IfOk result (λ found. found.items ≡ choice_labels Label.Offer (branches_of branches.now)) }
+    ensures { IfOk result (λ found. found.items ≡ choice_labels Label.Offer
+        (branches_of branches.now)) }
 {
     let mut found = Vec::new(alloc);
     for branch in branches {
@@ -111,7 +115,8 @@ fn offer_labels(alloc: Global, branches: &[Branch]) -> Result<Vec<Label>, AllocE
 pub fn step(alloc: Global, t: &Ty, a: &Label) -> Result<Option<Ty>, AllocError>
     ensures next { IfOk result (λ next. next ≡ step t.now a.now) }
     ensures ordered { IsOrdered t.now → IfOk result (λ next. IfSome next IsOrdered) }
-    ensures well_formed { (vars : List Kind) → IsSession vars t.now → IfOk result (λ next. IfSome next (IsSession vars)) }
+    ensures well_formed { (vars : List Kind) → IsSession vars t.now → IfOk result
+        (λ next. IfSome next (IsSession vars)) }
 {
     step_opening(alloc, t, a, MOST_OPEN)
 }
@@ -212,7 +217,8 @@ fn skip_if(moves: bool) -> Option<Ty>
 
 /// The branch of a selection that a label leads to.
 pub(crate) fn selected<'a>(branches: &'a [Branch], a: &Label) -> Option<&'a Ty>
-    ensures { option_map (λ t. t.now) result ≡ branch_at Label.Select (branches_of branches.now) a.now }
+    ensures { option_map (λ t. t.now) result ≡ branch_at Label.Select
+        (branches_of branches.now) a.now }
 {
     for branch in branches {
         if a.is_select(&branch.label) {
@@ -224,7 +230,8 @@ pub(crate) fn selected<'a>(branches: &'a [Branch], a: &Label) -> Option<&'a Ty>
 
 /// The branch of an offer that a label leads to.
 pub(crate) fn offered<'a>(branches: &'a [Branch], a: &Label) -> Option<&'a Ty>
-    ensures { option_map (λ t. t.now) result ≡ branch_at Label.Offer (branches_of branches.now) a.now }
+    ensures { option_map (λ t. t.now) result ≡ branch_at Label.Offer
+        (branches_of branches.now) a.now }
 {
     for branch in branches {
         if a.is_offer(&branch.label) {
@@ -239,7 +246,8 @@ pub(crate) fn offered<'a>(branches: &'a [Branch], a: &Label) -> Option<&'a Ty>
 pub fn residual(alloc: Global, t: &Ty, trace: &[Label]) -> Result<Option<Ty>, AllocError>
     ensures residual { IfOk result (λ left. left ≡ residual step t.now trace.now) }
     ensures ordered { IsOrdered t.now → IfOk result (λ left. IfSome left IsOrdered) }
-    ensures well_formed { (vars : List Kind) → IsSession vars t.now → IfOk result (λ left. IfSome left (IsSession vars)) }
+    ensures well_formed { (vars : List Kind) → IsSession vars t.now → IfOk result
+        (λ left. IfSome left (IsSession vars)) }
 {
     residual_within(alloc, t, trace)
 }

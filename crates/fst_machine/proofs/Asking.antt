@@ -29,15 +29,19 @@ use Rattle.fst_machine.proofs.Forms.{first_part}
 
 module _ (n : ℕ) (c : Compiled) where
   -- what is awaited, for a request less
-  pub sooner : (j : ℕ) (p : ℕ → Bool) (slots os : Slots) (ops : List ValueTree) (calls : List Call) (fs : List Frame) → Awaits (suc n) c j p slots ops calls fs → Agree p slots os →
+  pub sooner : (j : ℕ) (p : ℕ → Bool) (slots os : Slots) (ops : List ValueTree) (calls : List Call) (fs : List Frame) →
+      Awaits (suc n) c j p slots ops calls fs → Agree p slots os →
       Takes n c j os ops calls fs
   sooner j p slots os ops calls fs k a x v m = fewer n c (spot j os (x ∷ ops) calls) (resume c.families fs v) (k x v os m a)
 
-  send_stands : (i j : ℕ) (os : Slots) (ops : List ValueTree) (calls : List Call) (fs : List Frame) (x : ValueTree) (v : Value) (y : EndName) → At c i instr.Send j → Means c x v →
-      Takes n c j os ops calls fs → StandsFor (suc n) c (spot i os (tree.end y ∷ x ∷ ops) calls) (on (sent v) (λ ev. puts y ev fs))
+  send_stands : (i j : ℕ) (os : Slots) (ops : List ValueTree) (calls : List Call) (fs : List Frame) (x : ValueTree) (v : Value)
+      (y : EndName) → At c i instr.Send j → Means c x v →
+      Takes n c j os ops calls fs → StandsFor (suc n) c (spot i os (tree.end y ∷ x ∷ ops) calls)
+      (on (sent v) (λ ev. puts y ev fs))
   send_stands i j os ops calls fs x v y h mx k = go (sent v) refl
     where
-      go : (r : Option Event) → sent v ≡ r → StandsFor (suc n) c (spot i os (tree.end y ∷ x ∷ ops) calls) (on r (λ ev. puts y ev fs))
+      go : (r : Option Event) → sent v ≡ r → StandsFor (suc n) c (spot i os (tree.end y ∷ x ∷ ops) calls)
+          (on r (λ ev. puts y ev fs))
       go None e = nothing (suc n) c (spot i os (tree.end y ∷ x ∷ ops) calls)
       go (Some ev) e =
           puts_stand n c (spot i os (tree.end y ∷ x ∷ ops) calls) (spot j os (tree.end y ∷ ops) calls) y ev fs
@@ -49,9 +53,11 @@ module _ (n : ℕ) (c : Compiled) where
   -- a value is sent
   pub send_good : (at : ℕ) (e f : CoreTree) → Good (suc n) c e → Good (suc n) c f → Good (suc n) c (send at e f)
   send_good at e f ge gf i j p env slots ops calls fs h m k =
-      first_part (suc n) c e i h.0 (also (free f) p) (free (send at e f)) env slots ops calls (at_value f (keep (free f) env) ∷ fs) ge h.2 m (λ l g. or_left (free e l) (free f l) g)
+      first_part (suc n) c e i h.0 (also (free f) p) (free (send at e f)) env slots ops calls
+      (at_value f (keep (free f) env) ∷ fs) ge h.2 m (λ l g. or_left (free e l) (free f l) g)
       (λ x v os mx a.
-      then_part (suc n) c f h.0 h.1 p (free (send at e f)) env slots os (x ∷ ops) calls (at_target v ∷ fs) gf h.3 m (λ l g. or_right (free e l) (free f l) g) a
+      then_part (suc n) c f h.0 h.1 p (free (send at e f)) env slots os (x ∷ ops) calls (at_target v ∷ fs) gf h.3 m
+      (λ l g. or_right (free e l) (free f l) g) a
       (λ y w ot my b.
       end_stands (suc n) c (λ t. spot h.1 ot (t ∷ x ∷ ops) calls) (λ z. on (sent v) (λ ev. puts z ev fs)) y w my
       (λ z. send_stands h.1 j ot ops calls fs x v z h.4 mx (sooner j p slots ot ops calls fs k b))))
@@ -79,39 +85,48 @@ module _ (n : ℕ) (c : Compiled) where
 
   -- a channel is made
   pub new_good : (at t : ℕ) → Good (suc n) c (new at t)
-  new_good at t i j p env slots ops calls fs h m k = makes_stand n c i j t slots ops calls fs h (sooner j p slots slots ops calls fs k (λ l g. refl))
+  new_good at t i j p env slots ops calls fs h m k =
+      makes_stand n c i j t slots ops calls fs h (sooner j p slots slots ops calls fs k (λ l g. refl))
 
   module _ (before : (e : CoreTree) → Good n c e) where
     -- a global is used
     pub global_good : (at g : ℕ) (ts : List ℕ) → Good (suc n) c (global at g ts)
-    global_good at g ts i j p env slots ops calls fs h m k = uses_stand n c before i j g slots ops calls fs h (sooner j p slots slots ops calls fs k (λ l a. refl))
+    global_good at g ts i j p env slots ops calls fs h m k =
+        uses_stand n c before i j g slots ops calls fs h (sooner j p slots slots ops calls fs k (λ l a. refl))
 
     -- a function is applied
     pub apply_good : (at : ℕ) (e f : CoreTree) → Good (suc n) c e → Good (suc n) c f → Good (suc n) c (apply at e f)
     apply_good at e f ge gf i j p env slots ops calls fs h m k =
-        first_part (suc n) c e i h.0 (also (free f) p) (free (apply at e f)) env slots ops calls (at_function f (keep (free f) env) ∷ fs) ge h.2 m (λ l g. or_left (free e l) (free f l) g)
+        first_part (suc n) c e i h.0 (also (free f) p) (free (apply at e f)) env slots ops calls
+        (at_function f (keep (free f) env) ∷ fs) ge h.2 m (λ l g. or_left (free e l) (free f l) g)
         (λ x v os mx a.
-        then_part (suc n) c f h.0 h.1 p (free (apply at e f)) env slots os (x ∷ ops) calls (at_argument v ∷ fs) gf h.3 m (λ l g. or_right (free e l) (free f l) g) a
+        then_part (suc n) c f h.0 h.1 p (free (apply at e f)) env slots os (x ∷ ops) calls (at_argument v ∷ fs) gf h.3 m
+        (λ l g. or_right (free e l) (free f l) g) a
         (λ y w ot my b.
         function_stands (suc n) c (λ t. spot h.1 ot (y ∷ t ∷ ops) calls) (λ d own. applies d own w fs) x v mx
-        (λ l xs d own fd mc hj. calls_stand n c before h.1 j l xs y d own w ot ops calls fs h.4 fd mc hj my (sooner j p slots ot ops calls fs k b))))
+        (λ l xs d own fd mc hj. calls_stand n c before h.1 j l xs y d own w ot ops calls fs h.4 fd mc hj my
+        (sooner j p slots ot ops calls fs k b))))
 
     -- a label is waited for
     pub match_good : (at : ℕ) (e : CoreTree) (bs : CoreArms) → Good (suc n) c e → Good (suc n) c (match_with at e bs)
     match_good at e bs ge i j p env slots ops calls fs h m k =
-        first_part (suc n) c e i h.0 (also (free_below bs) p) (free (match_with at e bs)) env slots ops calls (at_match bs (keep (free_below bs) env) ∷ fs) ge h.3 m
+        first_part (suc n) c e i h.0 (also (free_below bs) p) (free (match_with at e bs)) env slots ops calls
+        (at_match bs (keep (free_below bs) env) ∷ fs) ge h.3 m
         (λ l g. or_left (free e l) (free_below bs l) g)
         (λ x v os mx a.
         end_stands (suc n) c (λ t. spot h.0 os (t ∷ ops) calls) (λ y. matches y bs (keep (free_below bs) env) fs) x v mx
         (λ y.
         matches_stand n c before bs h.0 h.1 h.2 j p (free_below bs) y (keep (free_below bs) env) os ops calls fs h.4 h.5
-        (part c (free (match_with at e bs)) (free_below bs) slots os env m (λ l g. or_right (free e l) (free_below bs l) g) (λ l g. a l (in_also (free_below bs) p l g))) (λ l g. g)
+        (part c (free (match_with at e bs)) (free_below bs) slots os env m (λ l g. or_right (free e l) (free_below bs l) g)
+        (λ l g. a l (in_also (free_below bs) p l g))) (λ l g. g)
         (λ z w ot mz b. sooner j p slots ot ops calls fs k (λ l g. b l g ∙ a l (in_behind (free_below bs) p l g)) z w mz)))
 
     -- a task is made
     pub fork_good : (at : ℕ) (e : CoreTree) → Good (suc n) c (fork at e)
     fork_good at e i j p env slots ops calls fs h m k =
-        captures (suc n) c h.1.captured.items i h.2 p slots ops calls env _ h.7 h.6.apart (λ l g. m.meant l (sym (h.6.members l) ∙ g))
+        captures (suc n) c h.1.captured.items i h.2 p slots ops calls env _ h.7 h.6.apart
+        (λ l g. m.meant l (sym (h.6.members l) ∙ g))
         (λ os xs a mc.
         forks_stand n c before h.2 h.3 h.0 h.4 h.11.0 xs e env os ops calls fs h.1 h.8 h.5 h.6 h.10 h.11.1 mc m.just
-        (led n c h.3 j os (tree.unit ∷ ops) calls (resume c.families fs value.unit) h.9 (sooner j p slots os ops calls fs k a tree.unit value.unit refl)))
+        (led n c h.3 j os (tree.unit ∷ ops) calls (resume c.families fs value.unit) h.9
+        (sooner j p slots os ops calls fs k a tree.unit value.unit refl)))

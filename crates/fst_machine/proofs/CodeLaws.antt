@@ -16,16 +16,19 @@ use Rattle.fst_machine.proofs.Requests.{of_globals, ended_awaited}
 use Rattle.fst_machine.proofs.Lowers.{step_lowers}
 use Rattle.fst_machine.proofs.Going.{all_go}
 
-still_here : (n : ℕ) (c : Compiled) (s : Spot) (q : Pause) → inner c s ≡ None → Reaches c (λ t. Rests c (StandsFor n c) t q) s → Rests c (StandsFor n c) s q
+still_here : (n : ℕ) (c : Compiled) (s : Spot) (q : Pause) → inner c s ≡ None → Reaches c (λ t. Rests c (StandsFor n c) t q) s →
+    Rests c (StandsFor n c) s q
 still_here n c s q h (here r) = r
 still_here n c s q h (further e r) = absurd (none-some _ (sym h ∙ e))
 
 -- what stands for a task and makes no step is stuck or rests
-rests_or_stuck : (n : ℕ) (c : Compiled) (s : Spot) (q : Pause) → inner c s ≡ None → StandsFor (suc n) c s q → (q ≡ stuck) ⊎ Rests c (StandsFor n c) s q
+rests_or_stuck : (n : ℕ) (c : Compiled) (s : Spot) (q : Pause) → inner c s ≡ None → StandsFor (suc n) c s q →
+    (q ≡ stuck) ⊎ Rests c (StandsFor n c) s q
 rests_or_stuck n c s q h (inl e) = inl e
 rests_or_stuck n c s q h (inr r) = inr (still_here n c s q h r)
 
-one_on : (n : ℕ) (c : Compiled) (s t : Spot) (q : Pause) → inner c s ≡ Some t → Reaches c (λ u. Rests c (StandsFor n c) u q) s → Reaches c (λ u. Rests c (StandsFor n c) u q) t
+one_on : (n : ℕ) (c : Compiled) (s t : Spot) (q : Pause) → inner c s ≡ Some t → Reaches c (λ u. Rests c (StandsFor n c) u q) s →
+    Reaches c (λ u. Rests c (StandsFor n c) u q) t
 one_on n c s t q h (here r) = absurd (none-some t (sym r.still ∙ h))
 one_on n c s t q h (further e r) = subst (λ u. Reaches c (λ z. Rests c (StandsFor n c) z q) u) (same_Some _ t (sym e ∙ h)) r
 
@@ -39,7 +42,8 @@ pub inner_stands : (c : Compiled) (s t : Spot) (q : Pause) → Stands c s q → 
 inner_stands c s t q h e n = one_step n c s t q e (h n)
 
 -- where no step is left, the code asks for what the terms ask for
-pub asks_alike : (c : Compiled) (s : Spot) (q : Pause) → Stands c s q → inner c s ≡ None → (q ≡ stuck → ⊥) → asked_at c s ≡ asked q
+pub asks_alike : (c : Compiled) (s : Spot) (q : Pause) → Stands c s q → inner c s ≡ None →
+    (q ≡ stuck → ⊥) → asked_at c s ≡ asked q
 asks_alike c s q h e g = go (rests_or_stuck 0 c s q e (h 1))
   where
     go : (q ≡ stuck) ⊎ Rests c (StandsFor 0 c) s q → asked_at c s ≡ asked q
@@ -47,7 +51,8 @@ asks_alike c s q h e g = go (rests_or_stuck 0 c s q e (h 1))
     go (inr r) = r.alike
 
 -- where the task has ended, the only value on the stack means its value
-pub ended_means : (c : Compiled) (s : Spot) (v : Value) → Stands c s (ended v) → inner c s ≡ None → (x : ValueTree) × (s.operands ≡ x ∷ []) × Means c x v
+pub ended_means : (c : Compiled) (s : Spot) (v : Value) → Stands c s (ended v) → inner c s ≡ None → (x : ValueTree) ×
+    (s.operands ≡ x ∷ []) × Means c x v
 ended_means c s v h e = go (rests_or_stuck 0 c s (ended v) e (h 1))
   where
     go : (ended v ≡ stuck) ⊎ Rests c (StandsFor 0 c) s (ended v) → (x : ValueTree) × (s.operands ≡ x ∷ []) × Means c x v
@@ -59,18 +64,27 @@ module _ (c : Compiled) (bodies : List CoreTree) (ic : IsCode c bodies) (dm : Di
   pub start_stands : (g : ℕ) (e : CoreTree) → slice_get bodies g ≡ Some e →
       (i : ℕ) × (slice_get c.globals g ≡ Some i) × Stands c (begins_at i []) (pause c.families (begins e []))
   start_stands g e h =
-      let w = of_globals c bodies c.globals g e ic h in
-      (w.0, w.3, λ n. all_go n c dm e w.0 w.1 no_variables value.none [] [] [] [] w.5 (without c (free e) w.4) (ended_awaited n c w.1 w.2 [] w.6))
+      let w = of_globals c bodies c.globals g e ic h in (
+        w.0,
+        w.3,
+        λ n. all_go n c dm e w.0 w.1 no_variables value.none [] [] [] [] w.5 (without c (free e) w.4)
+            (ended_awaited n c w.1 w.2 [] w.6),
+      )
 
   -- after an answer it stands for what the terms go on with
   pub told_stands : (s : Spot) (q : Pause) (a : Answer) (st : State) → Stands c s q → inner c s ≡ None →
       after (record { families = c.families; bodies = bodies }) q a ≡ Some st → (pause c.families st ≡ stuck → ⊥) →
       (t : Spot) × (told_at c s a ≡ Some t) × Stands c t (pause c.families st)
   told_stands s q a st h e u g =
-      let first = told 0 in
-      (first.0, first.1, λ n. let r = told n in subst (λ t. StandsFor n c t (pause c.families st)) (same_Some r.0 first.0 (sym r.1 ∙ first.1)) r.2)
+      let first = told 0 in (
+        first.0,
+        first.1,
+        λ n. let r = told n in subst
+            (λ t. StandsFor n c t (pause c.families st)) (same_Some r.0 first.0 (sym r.1 ∙ first.1)) r.2,
+      )
     where
-      go : (n : ℕ) → (q ≡ stuck) ⊎ Rests c (StandsFor n c) s q → (t : Spot) × (told_at c s a ≡ Some t) × StandsFor n c t (pause c.families st)
+      go : (n : ℕ) → (q ≡ stuck) ⊎ Rests c (StandsFor n c) s q → (t : Spot) ×
+          (told_at c s a ≡ Some t) × StandsFor n c t (pause c.families st)
       go n (inl b) = absurd (none-some st (ap (λ z. after (record { families = c.families; bodies = bodies }) z a) (sym b) ∙ u))
       go n (inr r) = r.told bodies ic a st u g
 
@@ -81,15 +95,21 @@ module _ (c : Compiled) (bodies : List CoreTree) (ic : IsCode c bodies) (dm : Di
   pub child_stands : (s : Spot) (q : Pause) (st : State) → Stands c s q → inner c s ≡ None → child q ≡ Some st →
       (t : Spot) × (child_at c s ≡ Some t) × AreAlike c t.slots st.environment × Stands c t (pause c.families st)
   child_stands s q st h e u =
-      let first = made 0 in
-      (first.0, first.1, first.2, λ n. let r = made n in subst (λ t. StandsFor n c t (pause c.families st)) (same_Some r.0 first.0 (sym r.1 ∙ first.1)) r.3)
+      let first = made 0 in (
+        first.0,
+        first.1,
+        first.2,
+        λ n. let r = made n in subst
+            (λ t. StandsFor n c t (pause c.families st)) (same_Some r.0 first.0 (sym r.1 ∙ first.1)) r.3,
+      )
     where
       go : (n : ℕ) → (q ≡ stuck) ⊎ Rests c (StandsFor n c) s q →
           (t : Spot) × (child_at c s ≡ Some t) × AreAlike c t.slots st.environment × StandsFor n c t (pause c.families st)
       go n (inl b) = absurd (none-some st (ap child (sym b) ∙ u))
       go n (inr r) = r.made st u
 
-      made : (n : ℕ) → (t : Spot) × (child_at c s ≡ Some t) × AreAlike c t.slots st.environment × StandsFor n c t (pause c.families st)
+      made : (n : ℕ) → (t : Spot) × (child_at c s ≡ Some t) × AreAlike c t.slots st.environment ×
+          StandsFor n c t (pause c.families st)
       made n = go n (rests_or_stuck n c s q e (h (suc n)))
 
 -- each inner step lowers the measure, where the code goes down

@@ -26,7 +26,8 @@ mapped_some : (o : Option Maker) (l : List ℕ) → option_map named o ≡ Some 
 mapped_some None l e = absurd (none-some l e)
 mapped_some (Some m) l e = (m, refl, same_Some m.name l e)
 
-all_at : (l : List ℕ) (ms : List Maker) → AllByRecursion (λ y. bytes_eq l y ≡ false) (map named ms) → (j : ℕ) (b : Maker) → slice_get ms j ≡ Some b → bytes_eq l b.name ≡ false
+all_at : (l : List ℕ) (ms : List Maker) → AllByRecursion (λ y. bytes_eq l y ≡ false) (map named ms) →
+    (j : ℕ) (b : Maker) → slice_get ms j ≡ Some b → bytes_eq l b.name ≡ false
 all_at l [] h j b e = absurd (none-some b e)
 all_at l (m ∷ ms) h zero b e = subst (λ z. bytes_eq l (named z) ≡ false) (same_Some m b e) h.0
 all_at l (m ∷ ms) h (suc j) b e = all_at l ms h.1 j b e
@@ -45,7 +46,8 @@ unfolding IsDistinct
 right_part [] ys h = h
 right_part (x ∷ xs) ys h = right_part xs ys h.1
 
-same_place : (xs ys : List Maker) → IsDistinct bytes_eq (map named (xs ++ ys)) → (i j : ℕ) (a b : Maker) → slice_get xs i ≡ Some a → slice_get xs j ≡ Some b → a.name ≡ b.name → i ≡ j
+same_place : (xs ys : List Maker) → IsDistinct bytes_eq (map named (xs ++ ys)) →
+    (i j : ℕ) (a b : Maker) → slice_get xs i ≡ Some a → slice_get xs j ≡ Some b → a.name ≡ b.name → i ≡ j
 unfolding IsDistinct
 same_place [] ys h i j a b e g q = absurd (none-some a e)
 same_place (x ∷ xs) ys h zero zero a b e g q = refl
@@ -55,7 +57,8 @@ same_place (x ∷ xs) ys h (suc i) zero a b e g q =
     absurd (differ x.name a.name (all_at x.name (xs ++ ys) h.0 i a (in_left xs ys i a e)) (ap named (same_Some x b g) ∙ sym q))
 same_place (x ∷ xs) ys h (suc i) (suc j) a b e g q = ap suc (same_place xs ys h.1 i j a b e g q)
 
-apart : (xs ys : List Maker) → IsDistinct bytes_eq (map named (xs ++ ys)) → (i j : ℕ) (a b : Maker) → slice_get xs i ≡ Some a → slice_get ys j ≡ Some b → a.name ≡ b.name → ⊥
+apart : (xs ys : List Maker) → IsDistinct bytes_eq (map named (xs ++ ys)) →
+    (i j : ℕ) (a b : Maker) → slice_get xs i ≡ Some a → slice_get ys j ≡ Some b → a.name ≡ b.name → ⊥
 unfolding IsDistinct
 apart [] ys h i j a b e g q = none-some a e
 apart (x ∷ xs) ys h zero j a b e g q =
@@ -63,10 +66,13 @@ apart (x ∷ xs) ys h zero j a b e g q =
     differ x.name b.name (all_at x.name (xs ++ ys) h.0 r.0 b r.1) (ap named (same_Some x a e) ∙ q)
 apart (x ∷ xs) ys h (suc i) j a b e g q = apart xs ys h.1 i j a b e g q
 
-name_in : (fs : List Family) (n o : ℕ) (l : List ℕ) → name_of fs n o ≡ Some l → (j : ℕ) × (b : Maker) × (slice_get (makers fs) j ≡ Some b) × (b.name ≡ l)
+name_in : (fs : List Family) (n o : ℕ) (l : List ℕ) → name_of fs n o ≡ Some l → (j : ℕ) × (b : Maker) ×
+    (slice_get (makers fs) j ≡ Some b) × (b.name ≡ l)
 name_in [] n o l e = absurd (none-some l e)
-name_in (f ∷ fs) zero o l e = let m = mapped_some (slice_get f.makers.items o) l e in (o, m.0, in_left f.makers.items (makers fs) o m.0 m.1, m.2)
-name_in (f ∷ fs) (suc n) o l e = let r = name_in fs n o l e in let k = in_right f.makers.items (makers fs) r.0 r.1 r.2 in (k.0, r.1, k.1, r.3)
+name_in (f ∷ fs) zero o l e = let m = mapped_some (slice_get f.makers.items o) l e in
+    (o, m.0, in_left f.makers.items (makers fs) o m.0 m.1, m.2)
+name_in (f ∷ fs) (suc n) o l e = let r = name_in fs n o l e in let k = in_right f.makers.items (makers fs) r.0 r.1 r.2 in
+    (k.0, r.1, k.1, r.3)
 
 -- constructors whose names differ have no name twice
 pub distinct_makers : (fs : List Family) → IsDistinct bytes_eq (map (λ (m : Maker). m.name) (makers fs)) → DistinctMakers fs
@@ -102,23 +108,29 @@ mutual
   free_in_range (unit at) b n h k g = absurd (false≢true g)
   free_in_range (pair at e f) b n h k g = one_of (free e k) (free f k) g (free_in_range e b n h.0 k) (free_in_range f b n h.1 k)
   free_in_range (make at m o es) b n h k g = all_in_range es b n h.1 k g
-  free_in_range (lambda at u t x e) b n h k g = let r : suc k < suc n = free_in_range e b (suc n) h.1 (suc k) g in omega (arith, r)
+  free_in_range (lambda at u t x e) b n h k g = let r : suc k < suc n = free_in_range e b (suc n) h.1 (suc k) g in
+      omega (arith, r)
   free_in_range (apply at e f) b n h k g = one_of (free e k) (free f k) g (free_in_range e b n h.0 k) (free_in_range f b n h.1 k)
   free_in_range (let_in at x e f) b n h k g =
-      one_of (free e k) (free f (suc k)) g (free_in_range e b n h.0 k) (λ w. let r : suc k < suc n = free_in_range f b (suc n) h.1 (suc k) w in omega (arith, r))
+      one_of (free e k) (free f (suc k)) g (free_in_range e b n h.0 k)
+      (λ w. let r : suc k < suc n = free_in_range f b (suc n) h.1 (suc k) w in omega (arith, r))
   free_in_range (split at x y e f) b n h k g =
       one_of (free e k) (free f (suc (suc k))) g (free_in_range e b n h.0 k)
       (λ w. let r : suc (suc k) < suc (suc n) = free_in_range f b (suc (suc n)) h.1 (suc (suc k)) w in omega (arith, r))
   free_in_range (if_else at e f i) b n h k g =
-      one_of (free e k) (free f k || free i k) g (free_in_range e b n h.0 k) (λ w. one_of (free f k) (free i k) w (free_in_range f b n h.1 k) (free_in_range i b n h.2 k))
-  free_in_range (case_of at e bs) b n h k g = one_of (free e k) (free_below bs k) g (free_in_range e b n h.1 k) (cases_in_range bs b n h.2 k)
-  free_in_range (operate at o e f) b n h k g = one_of (free e k) (free f k) g (free_in_range e b n h.0 k) (free_in_range f b n h.1 k)
+      one_of (free e k) (free f k || free i k) g (free_in_range e b n h.0 k)
+      (λ w. one_of (free f k) (free i k) w (free_in_range f b n h.1 k) (free_in_range i b n h.2 k))
+  free_in_range (case_of at e bs) b n h k g = one_of (free e k) (free_below bs k) g (free_in_range e b n h.1 k)
+      (cases_in_range bs b n h.2 k)
+  free_in_range (operate at o e f) b n h k g = one_of (free e k) (free f k) g (free_in_range e b n h.0 k)
+      (free_in_range f b n h.1 k)
   free_in_range (negate at e) b n h k g = free_in_range e b n h k g
   free_in_range (new at t) b n h k g = absurd (false≢true g)
   free_in_range (send at e f) b n h k g = one_of (free e k) (free f k) g (free_in_range e b n h.0 k) (free_in_range f b n h.1 k)
   free_in_range (receive at e) b n h k g = free_in_range e b n h k g
   free_in_range (select at l e) b n h k g = free_in_range e b n h k g
-  free_in_range (match_with at e bs) b n h k g = one_of (free e k) (free_below bs k) g (free_in_range e b n h.1 k) (matches_in_range bs b n h.2 k)
+  free_in_range (match_with at e bs) b n h k g =
+      one_of (free e k) (free_below bs k) g (free_in_range e b n h.1 k) (matches_in_range bs b n h.2 k)
   free_in_range (fork at e) b n h k g = free_in_range e b n h k g
   free_in_range (seq at e f) b n h k g = one_of (free e k) (free f k) g (free_in_range e b n h.0 k) (free_in_range f b n h.1 k)
 
@@ -132,11 +144,13 @@ mutual
   cases_in_range no_arms b n h k g = absurd (false≢true g)
   cases_in_range (arm l xs e bs) b n h k g =
       one_of (outside_all xs (free e) k) (free_below bs k) g
-      (λ w. let r : length xs + k < length xs + n = free_in_range e b (length xs + n) h.1 (length xs + k) (sym (outside_all_at xs (free e) k) ∙ w) in omega (arith, r))
+      (λ w. let r : length xs + k < length xs + n =
+      free_in_range e b (length xs + n) h.1 (length xs + k) (sym (outside_all_at xs (free e) k) ∙ w) in omega (arith, r))
       (cases_in_range bs b n h.2 k)
 
   -- nor those of a match
-  pub matches_in_range : (bs : CoreArms) (b : Bounds) (n : ℕ) → AreMatchesInRange b n bs → (k : ℕ) → free_below bs k ≡ true → k < n
+  pub matches_in_range : (bs : CoreArms) (b : Bounds) (n : ℕ) → AreMatchesInRange b n bs →
+      (k : ℕ) → free_below bs k ≡ true → k < n
   matches_in_range no_arms b n h k g = absurd (false≢true g)
   matches_in_range (arm l xs e bs) b n h k g =
       one_of (outside_all xs (free e) k) (free_below bs k) g

@@ -14,7 +14,8 @@ use Rattle.fst_machine.proofs.Slots.{Agree, part, in_also, in_behind}
 -- a value that comes to a place leads where it leads the frames; p: the variables that are used there
 abbrev pub Awaits : ℕ → Compiled → ℕ → (ℕ → Bool) → Slots → List ValueTree → List Call → List Frame → Type 0
 Awaits n c j p slots ops calls fs =
-    (x : ValueTree) (v : Value) (os : Slots) → Means c x v → Agree p slots os → StandsFor n c (spot j os (x ∷ ops) calls) (resume c.families fs v)
+    (x : ValueTree) (v : Value) (os : Slots) → Means c x v → Agree p slots os →
+    StandsFor n c (spot j os (x ∷ ops) calls) (resume c.families fs v)
 
 -- code that computes the term stands for it wherever its value is awaited
 abbrev pub Good : ℕ → Compiled → CoreTree → Type 0
@@ -24,13 +25,16 @@ Good n c e =
     StandsFor n c (spot i slots ops calls) (eval c.families e env fs (resume c.families fs))
 
 -- what is awaited doesn't look at variables that aren't used
-pub later : (n : ℕ) (c : Compiled) (j : ℕ) (p r : ℕ → Bool) (slots os : Slots) (ops : List ValueTree) (calls : List Call) (fs : List Frame) →
+pub later : (n : ℕ) (c : Compiled) (j : ℕ) (p r : ℕ → Bool) (slots os : Slots) (ops : List ValueTree) (calls : List Call)
+    (fs : List Frame) →
     Agree r slots os → ((k : ℕ) → p k ≡ true → r k ≡ true) → Awaits n c j p slots ops calls fs → Awaits n c j p os ops calls fs
 later n c j p r slots os ops calls fs a i k x v ot m b = k x v ot m (λ l g. b l g ∙ a l (i l g))
 
 -- a part whose variables are kept, behind others
-pub then_part : (n : ℕ) (c : Compiled) (f : CoreTree) (i j : ℕ) (p q : ℕ → Bool) (env : Environment) (slots os : Slots) (ops : List ValueTree) (calls : List Call) (fs : List Frame) →
-    Good n c f → Computes c i f p j → MeansSlots c q slots env → ((k : ℕ) → free f k ≡ true → q k ≡ true) → Agree (also (free f) p) slots os → Awaits n c j p slots ops calls fs →
+pub then_part : (n : ℕ) (c : Compiled) (f : CoreTree) (i j : ℕ) (p q : ℕ → Bool) (env : Environment) (slots os : Slots)
+    (ops : List ValueTree) (calls : List Call) (fs : List Frame) →
+    Good n c f → Computes c i f p j → MeansSlots c q slots env →
+    ((k : ℕ) → free f k ≡ true → q k ≡ true) → Agree (also (free f) p) slots os → Awaits n c j p slots ops calls fs →
     StandsFor n c (spot i os ops calls) (eval c.families f (keep (free f) env) fs (resume c.families fs))
 then_part n c f i j p q env slots os ops calls fs g h m u a k =
     g i j p (keep (free f) env) os ops calls fs h (part c q (free f) slots os env m u (λ l e. a l (in_also (free f) p l e)))

@@ -44,10 +44,13 @@ label_either t key l e = ap (λ z. bytes_eq z l) e ∙ same_either key l (bytes_
 
 module _ (n : ℕ) (c : Compiled) (before : (e : CoreTree) → Good n c e) where
   -- a label that has an arm has a place, where the code stands for the arm
-  pub arm_stands : (bs : CoreArms) (ps : List (List ℕ × ℕ)) (j : ℕ) (p q : ℕ → Bool) (l : List ℕ) (y : EndName) (env : Environment) (slots : Slots) (ops : List ValueTree) (calls : List Call) (fs : List Frame) →
-      ComputesMatches c ps bs q p j → MeansSlots c q slots env → ((k : ℕ) → free_below bs k ≡ true → q k ≡ true) → Awaits n c j p slots ops calls fs →
+  pub arm_stands : (bs : CoreArms) (ps : List (List ℕ × ℕ)) (j : ℕ) (p q : ℕ → Bool) (l : List ℕ) (y : EndName)
+      (env : Environment) (slots : Slots) (ops : List ValueTree) (calls : List Call) (fs : List Frame) →
+      ComputesMatches c ps bs q p j → MeansSlots c q slots env →
+      ((k : ℕ) → free_below bs k ≡ true → q k ≡ true) → Awaits n c j p slots ops calls fs →
       (pause c.families (arm_state bs l y env fs) ≡ stuck → ⊥) →
-      (i : ℕ) × (place_of ps l ≡ Some i) × StandsFor n c (spot i slots (tree.end y ∷ ops) calls) (pause c.families (arm_state bs l y env fs))
+      (i : ℕ) × (place_of ps l ≡ Some i) × StandsFor n c (spot i slots (tree.end y ∷ ops) calls)
+      (pause c.families (arm_state bs l y env fs))
   arm_stands no_arms ps j p q l y env slots ops calls fs hc m u k g = absurd (g refl)
   arm_stands (arm key xs e bs) [] j p q l y env slots ops calls fs hc m u k g = absurd hc
   arm_stands (arm key xs e bs) (o ∷ os) j p q l y env slots ops calls fs hc m u k nope =
@@ -58,7 +61,8 @@ module _ (n : ℕ) (c : Compiled) (before : (e : CoreTree) → Good n c e) where
 
       pick : (z : Bool) → bytes_eq l key ≡ z →
           (((r : ℕ) → free_below bs r ≡ true → q r ≡ true) → (pause c.families (arm_state bs l y env fs) ≡ stuck → ⊥) →
-          (i : ℕ) × (place_of os l ≡ Some i) × StandsFor n c (spot i slots (tree.end y ∷ ops) calls) (pause c.families (arm_state bs l y env fs))) →
+          (i : ℕ) × (place_of os l ≡ Some i) × StandsFor n c (spot i slots (tree.end y ∷ ops) calls)
+          (pause c.families (arm_state bs l y env fs))) →
           (pause c.families (if z then own else arm_state bs l y env fs) ≡ stuck → ⊥) →
           (i : ℕ) × (place_of (o ∷ os) l ≡ Some i) ×
           StandsFor n c (spot i slots (tree.end y ∷ ops) calls) (pause c.families (if z then own else arm_state bs l y env fs))
@@ -67,7 +71,8 @@ module _ (n : ℕ) (c : Compiled) (before : (e : CoreTree) → Good n c e) where
         ap (λ b. if b then Some o.1 else place_of os l) (label_either o.0 key l hc.5 ∙ w),
         forgotten n c o.1 hc.0 q (outside (free e)) p slots (tree.end y ∷ ops) calls env _ hc.6 m
             (λ ot a.
-            below_one n c e hc.0 hc.1 hc.2 hc.3 p q env slots ot ops calls fs (tree.end y) (value.end y) (before e) hc.7 hc.8 hc.9 m
+            below_one n c e hc.0 hc.1 hc.2 hc.3 p q env slots ot ops calls fs (tree.end y) (value.end y)
+            (before e) hc.7 hc.8 hc.9 m
             (λ r s. u r (or_left (outside_all xs (free e) r) (free_below bs r) (outside_one xs (free e) r hc.4 s))) a refl
             (comes_awaited n c hc.3 j p slots ops calls fs hc.10 k)),
       )
@@ -76,8 +81,10 @@ module _ (n : ℕ) (c : Compiled) (before : (e : CoreTree) → Good n c e) where
           (r.0, ap (λ b. if b then Some o.1 else place_of os l) (label_either o.0 key l hc.5 ∙ w) ∙ r.1, r.2)
 
   -- a label is waited for
-  pub matches_stand : (bs : CoreArms) (i b : ℕ) (places : Vec (List ℕ × ℕ) Global) (j : ℕ) (p q : ℕ → Bool) (y : EndName) (env : Environment) (slots : Slots) (ops : List ValueTree) (calls : List Call) (fs : List Frame) →
-      At c i (instr.Match places) b → ComputesMatches c places.items bs q p j → MeansSlots c q slots env → ((k : ℕ) → free_below bs k ≡ true → q k ≡ true) → Awaits n c j p slots ops calls fs →
+  pub matches_stand : (bs : CoreArms) (i b : ℕ) (places : Vec (List ℕ × ℕ) Global) (j : ℕ) (p q : ℕ → Bool) (y : EndName)
+      (env : Environment) (slots : Slots) (ops : List ValueTree) (calls : List Call) (fs : List Frame) →
+      At c i (instr.Match places) b → ComputesMatches c places.items bs q p j → MeansSlots c q slots env →
+      ((k : ℕ) → free_below bs k ≡ true → q k ≡ true) → Awaits n c j p slots ops calls fs →
       StandsFor (suc n) c (spot i slots (tree.end y ∷ ops) calls) (matches y bs env fs)
   matches_stand bs i b places j p q y env slots ops calls fs h hc m u k =
       rests_here n c (spot i slots (tree.end y ∷ ops) calls) (matches y bs env fs) (record {
@@ -91,9 +98,12 @@ module _ (n : ℕ) (c : Compiled) (before : (e : CoreTree) → Good n c e) where
       go : Tells n c (spot i slots (tree.end y ∷ ops) calls) (matches y bs env fs)
       go bodies ic (Got (event.Label l)) st e g =
           let same : arm_state bs l y env fs ≡ st = same_Some (arm_state bs l y env fs) st e in
-          let r = arm_stands bs places.items j p q l y env slots ops calls fs hc m u k (λ w. g (subst (λ z. pause c.families z ≡ stuck) same w)) in
-          settled n c (spot i slots (tree.end y ∷ ops) calls) (spot r.0 slots (tree.end y ∷ ops) calls) (Got (event.Label l)) (arm_state bs l y env fs) st e
-          (told_at_instr c i (instr.Match places) b slots (tree.end y ∷ ops) calls (Got (event.Label l)) h ∙ ap (λ o. option_map (λ (z : ℕ). moved_to z (tree.end y ∷ ops) (spot i slots (tree.end y ∷ ops) calls)) o) r.1)
+          let r = arm_stands bs places.items j p q l y env slots ops calls fs hc m u k
+          (λ w. g (subst (λ z. pause c.families z ≡ stuck) same w)) in
+          settled n c (spot i slots (tree.end y ∷ ops) calls) (spot r.0 slots (tree.end y ∷ ops) calls) (Got (event.Label l))
+          (arm_state bs l y env fs) st e
+          (told_at_instr c i (instr.Match places) b slots (tree.end y ∷ ops) calls (Got (event.Label l)) h ∙ ap
+          (λ o. option_map (λ (z : ℕ). moved_to z (tree.end y ∷ ops) (spot i slots (tree.end y ∷ ops) calls)) o) r.1)
           r.2
       go bodies ic (Got ev) st e g = never_lost n c st e g
       go bodies ic a st e g = absurd (none-some st e)

@@ -69,10 +69,12 @@ opaque_right : (o : Op) (v w : Value) → IsOpaque w → operated o v w ≡ None
 opaque_right o v w h = go o
   where
     no_number : (f : ℤ → ℤ → ℤ) → computed f v w ≡ None
-    no_number f = ap (λ z. option_and_then (λ m. option_map (λ n. value.int (f m n)) z) (int_in v)) h.no_int ∙ none_then (int_in v)
+    no_number f = ap (λ z. option_and_then (λ m. option_map (λ n. value.int (f m n)) z) (int_in v)) h.no_int
+        ∙ none_then (int_in v)
 
     no_truth : (f : Bool → Bool → Bool) → decided f v w ≡ None
-    no_truth f = ap (λ z. option_and_then (λ a. option_map (λ b. value.bool (f a b)) z) (bool_in v)) h.no_bool ∙ none_then (bool_in v)
+    no_truth f = ap (λ z. option_and_then (λ a. option_map (λ b. value.bool (f a b)) z) (bool_in v)) h.no_bool
+        ∙ none_then (bool_in v)
 
     no_test : (f : Ordering → Bool) → tested f v w ≡ None
     no_test f = ap (λ z. option_map (λ o. value.bool (f o)) z) (no_order_right v w h)
@@ -103,13 +105,28 @@ module _ (c : Compiled) where
   scalar_kind (tree.bool b) v m = inl (sym m)
   scalar_kind (tree.char n) v m = inl (sym m)
   scalar_kind tree.unit v m = inl (sym m)
-  scalar_kind (tree.pair x y) v m = inr (opaque_pair value.unit value.unit, opaque_as (value.pair m.0 m.1) v m.2 (opaque_pair m.0 m.1))
+  scalar_kind (tree.pair x y) v m = inr (
+    opaque_pair value.unit value.unit,
+    opaque_as (value.pair m.0 m.1) v m.2 (opaque_pair m.0 m.1),
+  )
   scalar_kind (tree.make n o xs) v m =
-      inr (opaque_pair value.unit value.unit, opaque_as (value.made n o m.0) v m.1 (record { no_int = refl; no_bool = refl; no_char = refl; no_order = λ u. refl; not_sent = refl }))
+      inr (
+        opaque_pair value.unit value.unit,
+        opaque_as (value.made n o m.0) v m.1
+            (record { no_int = refl; no_bool = refl; no_char = refl; no_order = λ u. refl; not_sent = refl }),
+      )
   scalar_kind (tree.function l xs) v m =
-      inr (opaque_pair value.unit value.unit, opaque_as (value.function m.0 m.1) v m.3 (record { no_int = refl; no_bool = refl; no_char = refl; no_order = λ u. refl; not_sent = refl }))
+      inr (
+        opaque_pair value.unit value.unit,
+        opaque_as (value.function m.0 m.1) v m.3
+            (record { no_int = refl; no_bool = refl; no_char = refl; no_order = λ u. refl; not_sent = refl }),
+      )
   scalar_kind (tree.end x) v m =
-      inr (opaque_pair value.unit value.unit, opaque_as (value.end x) v m (record { no_int = refl; no_bool = refl; no_char = refl; no_order = λ u. refl; not_sent = refl }))
+      inr (
+        opaque_pair value.unit value.unit,
+        opaque_as (value.end x) v m
+            (record { no_int = refl; no_bool = refl; no_char = refl; no_order = λ u. refl; not_sent = refl }),
+      )
 
   -- the same is sent
   pub sent_alike : (x : ValueTree) (v : Value) → Means c x v → sent (scalar x) ≡ sent v
@@ -120,19 +137,23 @@ module _ (c : Compiled) where
       go (inr h) = h.0.not_sent ∙ sym h.1.not_sent
 
   -- a sign gives the same
-  pub operated_alike : (o : Op) (x y : ValueTree) (v w : Value) → Means c x v → Means c y w → operated o (scalar x) (scalar y) ≡ operated o v w
+  pub operated_alike : (o : Op) (x y : ValueTree) (v w : Value) → Means c x v → Means c y w →
+      operated o (scalar x) (scalar y) ≡ operated o v w
   operated_alike o x y v w mx my = go (scalar_kind x v mx) (scalar_kind y w my)
     where
-      go : (scalar x ≡ v) ⊎ (IsOpaque (scalar x) × IsOpaque v) → (scalar y ≡ w) ⊎ (IsOpaque (scalar y) × IsOpaque w) → operated o (scalar x) (scalar y) ≡ operated o v w
+      go : (scalar x ≡ v) ⊎ (IsOpaque (scalar x) × IsOpaque v) → (scalar y ≡ w) ⊎
+          (IsOpaque (scalar y) × IsOpaque w) → operated o (scalar x) (scalar y) ≡ operated o v w
       go (inl e) (inl g) = ap₂ (λ a b. operated o a b) e g
       go (inl e) (inr g) = opaque_right o (scalar x) (scalar y) g.0 ∙ sym (opaque_right o v w g.1)
       go (inr h) g = opaque_left o (scalar x) (scalar y) h.0 ∙ sym (opaque_left o v w h.1)
 
-  mapped : {A : Type 0} (g : A → Value) (o : Option A) (z : Value) → ((a : A) → Means c (of_scalar (g a)) (g a)) → option_map g o ≡ Some z → Means c (of_scalar z) z
+  mapped : {A : Type 0} (g : A → Value) (o : Option A) (z : Value) →
+      ((a : A) → Means c (of_scalar (g a)) (g a)) → option_map g o ≡ Some z → Means c (of_scalar z) z
   mapped g None z h e = absurd (none-some z e)
   mapped g (Some a) z h e = subst (λ y. Means c (of_scalar y) y) (same_Some (g a) z e) (h a)
 
-  mapped_then : {A : Type 0} (g : A → A → Value) (o p : Option A) (z : Value) → ((a b : A) → Means c (of_scalar (g a b)) (g a b)) →
+  mapped_then : {A : Type 0} (g : A → A → Value) (o p : Option A) (z : Value) →
+      ((a b : A) → Means c (of_scalar (g a b)) (g a b)) →
       option_and_then (λ a. option_map (g a) p) o ≡ Some z → Means c (of_scalar z) z
   mapped_then g None p z h e = absurd (none-some z e)
   mapped_then g (Some a) p z h e = mapped (g a) p z (h a) e
@@ -169,7 +190,8 @@ nothing zero c s = tt
 nothing (suc n) c s = inl refl
 
 -- a sign with both operands
-pub operate_stands : (n : ℕ) (c : Compiled) (o : Op) (i j : ℕ) (slots : Slots) (ops : List ValueTree) (calls : List Call) (fs : List Frame) (x y : ValueTree) (v w : Value) →
+pub operate_stands : (n : ℕ) (c : Compiled) (o : Op) (i j : ℕ) (slots : Slots) (ops : List ValueTree) (calls : List Call)
+    (fs : List Frame) (x y : ValueTree) (v w : Value) →
     At c i (instr.Operate o) j → Means c x v → Means c y w → Takes n c j slots ops calls fs →
     StandsFor n c (spot i slots (y ∷ x ∷ ops) calls) (on (operated o v w) (resume c.families fs))
 operate_stands n c o i j slots ops calls fs x y v w h mx my k = go (operated o v w) refl
@@ -177,6 +199,8 @@ operate_stands n c o i j slots ops calls fs x y v w h mx my k = go (operated o v
     go : (r : Option Value) → operated o v w ≡ r → StandsFor n c (spot i slots (y ∷ x ∷ ops) calls) (on r (resume c.families fs))
     go None e = nothing n c (spot i slots (y ∷ x ∷ ops) calls)
     go (Some z) e =
-        stepped n c i (instr.Operate o) j slots (y ∷ x ∷ ops) calls (spot j slots (of_scalar z ∷ ops) calls) (resume c.families fs z) h
-        (ap (λ r. with_value j (option_map of_scalar r) ops (spot i slots (y ∷ x ∷ ops) calls)) (operated_alike c o x y v w mx my ∙ e))
+        stepped n c i (instr.Operate o) j slots (y ∷ x ∷ ops) calls (spot j slots (of_scalar z ∷ ops) calls)
+        (resume c.families fs z) h
+        (ap (λ r. with_value j (option_map of_scalar r) ops (spot i slots (y ∷ x ∷ ops) calls))
+        (operated_alike c o x y v w mx my ∙ e))
         (k (of_scalar z) z (operated_means c o v w z e))

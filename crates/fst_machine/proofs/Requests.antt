@@ -26,7 +26,8 @@ use Rattle.fst_machine.proofs.Goods.{Awaits, Good}
 
 -- a value that comes to a place, with just these variables, leads where it leads the frames
 abbrev pub Takes : ℕ → Compiled → ℕ → Slots → List ValueTree → List Call → List Frame → Type 0
-Takes n c j slots ops calls fs = (x : ValueTree) (v : Value) → Means c x v → StandsFor n c (spot j slots (x ∷ ops) calls) (resume c.families fs v)
+Takes n c j slots ops calls fs = (x : ValueTree) (v : Value) → Means c x v →
+    StandsFor n c (spot j slots (x ∷ ops) calls) (resume c.families fs v)
 
 -- after an answer that leads to a state, the spot stands for it
 abbrev pub Stays : ℕ → Compiled → Spot → Answer → State → Type 0
@@ -39,23 +40,37 @@ Tells n c s q =
     after (record { families = c.families; bodies = bodies }) q a ≡ Some st → (pause c.families st ≡ stuck → ⊥) → Stays n c s a st
 
 -- where a global's body starts
-pub of_globals : (c : Compiled) (es : List CoreTree) (is : List ℕ) (g : ℕ) (e : CoreTree) → ComputesGlobals c es is → slice_get es g ≡ Some e →
-    (i : ℕ) × (r : ℕ) × (q : ℕ) × (slice_get is g ≡ Some i) × ((k : ℕ) → free e k ≡ false) × Computes c i e no_variables r × At c r instr.Return q
+pub of_globals : (c : Compiled) (es : List CoreTree) (is : List ℕ) (g : ℕ) (e : CoreTree) → ComputesGlobals c es is →
+    slice_get es g ≡ Some e →
+    (i : ℕ) × (r : ℕ) × (q : ℕ) × (slice_get is g ≡ Some i) ×
+    ((k : ℕ) → free e k ≡ false) × Computes c i e no_variables r × At c r instr.Return q
 of_globals c [] is g e h u = absurd (none-some e u)
 of_globals c (b ∷ es) [] g e h u = absurd h
 of_globals c (b ∷ es) (i ∷ is) zero e h u =
-    let s : b ≡ e = same_Some b e u in
-    (i, h.0.0, h.0.1, refl, subst (λ z. (k : ℕ) → free z k ≡ false) s h.0.2, subst (λ z. Computes c i z no_variables h.0.0) s h.0.3, h.0.4)
+    let s : b ≡ e = same_Some b e u in (
+      i,
+      h.0.0,
+      h.0.1,
+      refl,
+      subst (λ z. (k : ℕ) → free z k ≡ false) s h.0.2,
+      subst
+          (λ z. Computes c i z no_variables h.0.0) s h.0.3,
+      h.0.4,
+    )
 of_globals c (b ∷ es) (i ∷ is) (suc g) e h u = of_globals c es is g e h.1 u
 
 -- a body's value goes back to where it was asked for
-pub returned_awaited : (n : ℕ) (c : Compiled) (r q j : ℕ) (inside slots : Slots) (ops : List ValueTree) (calls : List Call) (fs : List Frame) →
-    At c r instr.Return q → Takes n c j slots ops calls fs → Awaits n c r no_variables inside ops (record { place = j; slots = slots } ∷ calls) fs
+pub returned_awaited : (n : ℕ) (c : Compiled) (r q j : ℕ) (inside slots : Slots) (ops : List ValueTree) (calls : List Call)
+    (fs : List Frame) →
+    At c r instr.Return q → Takes n c j slots ops calls fs →
+    Awaits n c r no_variables inside ops (record { place = j; slots = slots } ∷ calls) fs
 returned_awaited n c r q j inside slots ops calls fs h k x v os m a =
-    stepped n c r instr.Return q os (x ∷ ops) (record { place = j; slots = slots } ∷ calls) (spot j slots (x ∷ ops) calls) (resume c.families fs v) h refl (k x v m)
+    stepped n c r instr.Return q os (x ∷ ops) (record { place = j; slots = slots } ∷ calls) (spot j slots (x ∷ ops) calls)
+    (resume c.families fs v) h refl (k x v m)
 
 -- a task's value is its end
-pub ended_awaited : (n : ℕ) (c : Compiled) (r q : ℕ) (inside : Slots) → At c r instr.Return q → Awaits n c r no_variables inside [] [] []
+pub ended_awaited : (n : ℕ) (c : Compiled) (r q : ℕ) (inside : Slots) → At c r instr.Return q →
+    Awaits n c r no_variables inside [] [] []
 ended_awaited zero c r q inside h x v os m a = tt
 ended_awaited (suc n) c r q inside h x v os m a =
     rests_here n c (spot r os (x ∷ []) []) (ended v)
@@ -69,7 +84,8 @@ ended_awaited (suc n) c r q inside h x v os m a =
 
 module _ (n : ℕ) (c : Compiled) where
   -- the state that an answer leads to, by its equation
-  pub settled : (s t : Spot) (a : Answer) (st0 st : State) → Some st0 ≡ Some st → told_at c s a ≡ Some t → StandsFor n c t (pause c.families st0) → Stays n c s a st
+  pub settled : (s t : Spot) (a : Answer) (st0 st : State) → Some st0 ≡ Some st → told_at c s a ≡ Some t →
+      StandsFor n c t (pause c.families st0) → Stays n c s a st
   settled s t a st0 st e h k = (t, h, subst (λ z. StandsFor n c t (pause c.families z)) (same_Some st0 st e) k)
 
   -- a lost state is stuck
@@ -77,10 +93,18 @@ module _ (n : ℕ) (c : Compiled) where
   never_lost st e g = absurd (g (ap (λ z. pause c.families z) (sym (same_Some lost st e))))
 
   -- something is sent
-  pub puts_stand : (s t : Spot) (y : EndName) (ev : Event) (fs : List Frame) → inner c s ≡ None → asked_at c s ≡ Some (Put y ev) → told_at c s Sent ≡ Some t →
+  pub puts_stand : (s t : Spot) (y : EndName) (ev : Event) (fs : List Frame) → inner c s ≡ None → asked_at c s ≡ Some (Put y ev) →
+      told_at c s Sent ≡ Some t →
       StandsFor n c t (resume c.families fs (value.end y)) → StandsFor (suc n) c s (puts y ev fs)
   puts_stand s t y ev fs i a h k =
-      rests_here n c s (puts y ev fs) (record { still = i; alike = a; value = tt; told = go; made = λ st e. absurd (none-some st e) })
+      rests_here n c s (puts y ev fs) (record {
+        still = i;
+        alike = a;
+        value = tt;
+        told = go;
+        made =
+            λ st e. absurd (none-some st e);
+      })
     where
       go : Tells n c s (puts y ev fs)
       go bodies ic Sent st e g = settled s t Sent (giving (value.end y) fs) st e h k
@@ -88,7 +112,8 @@ module _ (n : ℕ) (c : Compiled) where
 
   -- something is received
   pub gets_stand : (i j : ℕ) (y : EndName) (slots : Slots) (ops : List ValueTree) (calls : List Call) (fs : List Frame) →
-      At c i instr.Receive j → Takes n c j slots ops calls fs → StandsFor (suc n) c (spot i slots (tree.end y ∷ ops) calls) (gets y fs)
+      At c i instr.Receive j → Takes n c j slots ops calls fs →
+      StandsFor (suc n) c (spot i slots (tree.end y ∷ ops) calls) (gets y fs)
   gets_stand i j y slots ops calls fs h k =
       rests_here n c (spot i slots (tree.end y ∷ ops) calls) (gets y fs) (record {
         still = step_at c i instr.Receive j slots (tree.end y ∷ ops) calls h;
@@ -98,17 +123,23 @@ module _ (n : ℕ) (c : Compiled) where
         made = λ st e. absurd (none-some st e);
       })
     where
-      got : (x : ValueTree) (v : Value) (a : Answer) (st : State) → Means c x v → told_at c (spot i slots (tree.end y ∷ ops) calls) a ≡ Some (spot j slots (tree.pair x (tree.end y) ∷ ops) calls) →
+      got : (x : ValueTree) (v : Value) (a : Answer) (st : State) → Means c x v →
+          told_at c (spot i slots (tree.end y ∷ ops) calls) a ≡ Some (spot j slots (tree.pair x (tree.end y) ∷ ops) calls) →
           Some (giving (value.pair v (value.end y)) fs) ≡ Some st → Stays n c (spot i slots (tree.end y ∷ ops) calls) a st
       got x v a st m u e =
-          settled (spot i slots (tree.end y ∷ ops) calls) (spot j slots (tree.pair x (tree.end y) ∷ ops) calls) a (giving (value.pair v (value.end y)) fs) st e u
+          settled (spot i slots (tree.end y ∷ ops) calls) (spot j slots (tree.pair x (tree.end y) ∷ ops) calls) a
+          (giving (value.pair v (value.end y)) fs) st e u
           (k (tree.pair x (tree.end y)) (value.pair v (value.end y)) (v, value.end y, refl, m, refl))
 
       go : Tells n c (spot i slots (tree.end y ∷ ops) calls) (gets y fs)
-      go bodies ic (Got (event.Int m)) st e g = got (tree.int m) (value.int m) (Got (event.Int m)) st refl (told_at_instr c i instr.Receive j slots (tree.end y ∷ ops) calls (Got (event.Int m)) h) e
-      go bodies ic (Got (event.Bool b)) st e g = got (tree.bool b) (value.bool b) (Got (event.Bool b)) st refl (told_at_instr c i instr.Receive j slots (tree.end y ∷ ops) calls (Got (event.Bool b)) h) e
-      go bodies ic (Got (event.Char m)) st e g = got (tree.char m) (value.char m) (Got (event.Char m)) st refl (told_at_instr c i instr.Receive j slots (tree.end y ∷ ops) calls (Got (event.Char m)) h) e
-      go bodies ic (Got event.Unit) st e g = got tree.unit value.unit (Got event.Unit) st refl (told_at_instr c i instr.Receive j slots (tree.end y ∷ ops) calls (Got event.Unit) h) e
+      go bodies ic (Got (event.Int m)) st e g = got (tree.int m) (value.int m) (Got (event.Int m)) st refl
+          (told_at_instr c i instr.Receive j slots (tree.end y ∷ ops) calls (Got (event.Int m)) h) e
+      go bodies ic (Got (event.Bool b)) st e g = got (tree.bool b) (value.bool b) (Got (event.Bool b)) st refl
+          (told_at_instr c i instr.Receive j slots (tree.end y ∷ ops) calls (Got (event.Bool b)) h) e
+      go bodies ic (Got (event.Char m)) st e g = got (tree.char m) (value.char m) (Got (event.Char m)) st refl
+          (told_at_instr c i instr.Receive j slots (tree.end y ∷ ops) calls (Got (event.Char m)) h) e
+      go bodies ic (Got event.Unit) st e g = got tree.unit value.unit (Got event.Unit) st refl
+          (told_at_instr c i instr.Receive j slots (tree.end y ∷ ops) calls (Got event.Unit) h) e
       go bodies ic (Got (event.Label l)) st e g = never_lost st e g
       go bodies ic b st e g = absurd (none-some st e)
 
@@ -133,8 +164,10 @@ module _ (n : ℕ) (c : Compiled) where
 
   module _ (before : (e : CoreTree) → Good n c e) where
     -- a function is called
-    pub calls_stand : (i j l : ℕ) (xs : ValueTrees) (y : ValueTree) (e : CoreTree) (env : Environment) (w : Value) (slots : Slots) (ops : List ValueTree) (calls : List Call) (fs : List Frame) →
-        At c i instr.Call j → (f : IsFunction c l e) → MeanCaptured c xs f.entry.captured.items env → HasJust (outside (free e)) env → Means c y w → Takes n c j slots ops calls fs →
+    pub calls_stand : (i j l : ℕ) (xs : ValueTrees) (y : ValueTree) (e : CoreTree) (env : Environment) (w : Value) (slots : Slots)
+        (ops : List ValueTree) (calls : List Call) (fs : List Frame) →
+        At c i instr.Call j → (f : IsFunction c l e) → MeanCaptured c xs f.entry.captured.items env →
+        HasJust (outside (free e)) env → Means c y w → Takes n c j slots ops calls fs →
         StandsFor (suc n) c (spot i slots (y ∷ tree.function l xs ∷ ops) calls) (applies e env w fs)
     calls_stand i j l xs y e env w slots ops calls fs h f mc hj my k =
         rests_here n c (spot i slots (y ∷ tree.function l xs ∷ ops) calls) (applies e env w fs) (record {
@@ -147,12 +180,21 @@ module _ (n : ℕ) (c : Compiled) where
       where
         go : Tells n c (spot i slots (y ∷ tree.function l xs ∷ ops) calls) (applies e env w fs)
         go bodies ic Go st z g =
-            settled (spot i slots (y ∷ tree.function l xs ∷ ops) calls) (spot f.entry.start (spread f.entry.captured.items xs) (y ∷ ops) (record { place = j; slots = slots } ∷ calls)) Go (record { term = e; environment = enter (free e zero) w env; frames = fs }) st z
-            (told_at_instr c i instr.Call j slots (y ∷ tree.function l xs ∷ ops) calls Go h ∙ ap (λ o. called (start_of o) (spread (captured_by o) xs) j (y ∷ ops) (spot i slots (y ∷ tree.function l xs ∷ ops) calls)) f.there)
-            (bound n c (free e zero) f.entry.start f.body (spread f.entry.captured.items xs) ops (record { place = j; slots = slots } ∷ calls) y _ f.binds
-            (before e f.body f.back no_variables (enter (free e zero) w env) (kept (free e zero) y ∷ (spread f.entry.captured.items xs)) ops (record { place = j; slots = slots } ∷ calls) fs f.computes
-            (entered c (free e zero) (free e) (spread f.entry.captured.items xs) env y w refl (captured_means c xs f.entry.captured.items (outside (free e)) env mc f.listed.members hj) my)
-            (returned_awaited n c f.back f.last j (kept (free e zero) y ∷ (spread f.entry.captured.items xs)) slots ops calls fs f.returns k)))
+            settled (spot i slots (y ∷ tree.function l xs ∷ ops) calls)
+            (spot f.entry.start (spread f.entry.captured.items xs) (y ∷ ops) (record { place = j; slots = slots } ∷ calls)) Go
+            (record { term = e; environment = enter (free e zero) w env; frames = fs }) st z
+            (told_at_instr c i instr.Call j slots (y ∷ tree.function l xs ∷ ops) calls Go h ∙ ap
+            (λ o. called (start_of o) (spread (captured_by o) xs) j (y ∷ ops)
+            (spot i slots (y ∷ tree.function l xs ∷ ops) calls)) f.there)
+            (bound n c (free e zero) f.entry.start f.body (spread f.entry.captured.items xs) ops
+            (record { place = j; slots = slots } ∷ calls) y _ f.binds
+            (before e f.body f.back no_variables (enter (free e zero) w env)
+            (kept (free e zero) y ∷ (spread f.entry.captured.items xs)) ops
+            (record { place = j; slots = slots } ∷ calls) fs f.computes
+            (entered c (free e zero) (free e) (spread f.entry.captured.items xs) env y w refl
+            (captured_means c xs f.entry.captured.items (outside (free e)) env mc f.listed.members hj) my)
+            (returned_awaited n c f.back f.last j (kept (free e zero) y ∷ (spread f.entry.captured.items xs)) slots ops calls fs
+            f.returns k)))
         go bodies ic b st z g = absurd (none-some st z)
 
     -- a global is used
@@ -167,23 +209,28 @@ module _ (n : ℕ) (c : Compiled) where
           made = λ st z. absurd (none-some st z);
         })
       where
-        found : (bodies : List CoreTree) → IsCode c bodies → (st : State) → (pause c.families st ≡ stuck → ⊥) → (o : Option CoreTree) → slice_get bodies g ≡ o →
+        found : (bodies : List CoreTree) → IsCode c bodies → (st : State) → (pause c.families st ≡ stuck → ⊥) →
+            (o : Option CoreTree) → slice_get bodies g ≡ o →
             Some (or_lost (option_map (λ e. begins e fs) o)) ≡ Some st → Stays n c (spot i slots ops calls) Go st
         found bodies ic st z None u e = never_lost st e z
         found bodies ic st z (Some b) u e =
             let w = of_globals c bodies c.globals g b ic u in
             settled (spot i slots ops calls) (spot w.0 [] ops (record { place = j; slots = slots } ∷ calls)) Go (begins b fs) st e
             (told_at_instr c i (instr.Global g) j slots ops calls Go h ∙ ap (λ o. called o [] j ops (spot i slots ops calls)) w.3)
-            (before b w.0 w.1 no_variables value.none [] ops (record { place = j; slots = slots } ∷ calls) fs w.5 (without c (free b) w.4) (returned_awaited n c w.1 w.2 j [] slots ops calls fs w.6 k))
+            (before b w.0 w.1 no_variables value.none [] ops (record { place = j; slots = slots } ∷ calls) fs w.5
+            (without c (free b) w.4) (returned_awaited n c w.1 w.2 j [] slots ops calls fs w.6 k))
 
         go : Tells n c (spot i slots ops calls) (uses g fs)
         go bodies ic Go st e z = found bodies ic st z (slice_get bodies g) refl e
         go bodies ic b st e z = absurd (none-some st e)
 
     -- a task is made
-    pub forks_stand : (i j l r q : ℕ) (xs : ValueTrees) (e : CoreTree) (env : Environment) (slots : Slots) (ops : List ValueTree) (calls : List Call) (fs : List Frame) (entry : LambdaEntry) →
-        At c i (instr.Fork l) j → slice_get c.lambdas l ≡ Some entry → Lists entry.captured.items (free e) → Computes c entry.start e no_variables r → At c r instr.Return q →
-        MeanCaptured c xs entry.captured.items env → HasJust (free e) env → StandsFor n c (spot j slots (tree.unit ∷ ops) calls) (resume c.families fs value.unit) →
+    pub forks_stand : (i j l r q : ℕ) (xs : ValueTrees) (e : CoreTree) (env : Environment) (slots : Slots) (ops : List ValueTree)
+        (calls : List Call) (fs : List Frame) (entry : LambdaEntry) →
+        At c i (instr.Fork l) j → slice_get c.lambdas l ≡ Some entry → Lists entry.captured.items (free e) →
+        Computes c entry.start e no_variables r → At c r instr.Return q →
+        MeanCaptured c xs entry.captured.items env → HasJust (free e) env →
+        StandsFor n c (spot j slots (tree.unit ∷ ops) calls) (resume c.families fs value.unit) →
         StandsFor (suc n) c (spot i slots (pushed xs ops) calls) (forks e env fs)
     forks_stand i j l r q xs e env slots ops calls fs entry h u ls hc hr mc hj k =
         rests_here n c (spot i slots (pushed xs ops) calls) (forks e env fs) (record {
@@ -195,21 +242,29 @@ module _ (n : ℕ) (c : Compiled) where
         })
       where
         taken : collected (captured_count (slice_get c.lambdas l)) (pushed xs ops) tree.none ≡ Some (xs, ops)
-        taken = ap (λ o. collected (captured_count o) (pushed xs ops) tree.none) u ∙ captured_collected c xs entry.captured.items env ops mc
+        taken = ap (λ o. collected (captured_count o) (pushed xs ops) tree.none) u
+            ∙ captured_collected c xs entry.captured.items env ops mc
 
         go : Tells n c (spot i slots (pushed xs ops) calls) (forks e env fs)
         go bodies ic Forked st z g =
             settled (spot i slots (pushed xs ops) calls) (spot j slots (tree.unit ∷ ops) calls) Forked (giving value.unit fs) st z
-            (told_at_instr c i (instr.Fork l) j slots (pushed xs ops) calls Forked h ∙ ap (λ o. without_captured j o (spot i slots (pushed xs ops) calls)) taken) k
+            (told_at_instr c i (instr.Fork l) j slots (pushed xs ops) calls Forked h ∙ ap
+            (λ o. without_captured j o (spot i slots (pushed xs ops) calls)) taken) k
         go bodies ic b st z g = absurd (none-some st z)
 
         make : (st : State) → Some (record { term = e; environment = env; frames = [] }) ≡ Some st →
-            (t : Spot) × (child_at c (spot i slots (pushed xs ops) calls) ≡ Some t) × AreAlike c t.slots st.environment × StandsFor n c t (pause c.families st)
+            (t : Spot) × (child_at c (spot i slots (pushed xs ops) calls) ≡ Some t) × AreAlike c t.slots st.environment ×
+            StandsFor n c t (pause c.families st)
         make st z = (
           begins_at entry.start (spread entry.captured.items xs),
-          child_at_instr c i (instr.Fork l) j slots (pushed xs ops) calls h ∙ ap (λ o. forked_spot o (collected (captured_count (slice_get c.lambdas l)) (pushed xs ops) tree.none)) u ∙ ap (λ o. forked_spot (Some entry) o) taken,
-          subst (λ (y : State). AreAlike c (spread entry.captured.items xs) y.environment) (same_Some _ st z) (captured_alike c xs entry.captured.items (free e) env mc ls.members hj),
-          subst (λ y. StandsFor n c (begins_at entry.start (spread entry.captured.items xs)) (pause c.families y)) (same_Some _ st z)
-              (before e entry.start r no_variables env (spread entry.captured.items xs) [] [] [] hc (captured_means c xs entry.captured.items (free e) env mc ls.members hj)
+          child_at_instr c i (instr.Fork l) j slots (pushed xs ops) calls h ∙ ap
+              (λ o. forked_spot o (collected (captured_count (slice_get c.lambdas l)) (pushed xs ops) tree.none)) u ∙ ap
+              (λ o. forked_spot (Some entry) o) taken,
+          subst (λ (y : State). AreAlike c (spread entry.captured.items xs) y.environment) (same_Some _ st z)
+              (captured_alike c xs entry.captured.items (free e) env mc ls.members hj),
+          subst (λ y. StandsFor n c (begins_at entry.start (spread entry.captured.items xs)) (pause c.families y))
+              (same_Some _ st z)
+              (before e entry.start r no_variables env (spread entry.captured.items xs) [] [] [] hc
+              (captured_means c xs entry.captured.items (free e) env mc ls.members hj)
               (ended_awaited n c r q (spread entry.captured.items xs) hr)),
         )

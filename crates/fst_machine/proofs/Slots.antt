@@ -73,7 +73,8 @@ dropped_at zero s k = let e : k ≡ 0 + k = omega arith in ap (slot_at s) e
 dropped_at (suc n) [] k = refl
 dropped_at (suc n) (o ∷ os) k = let e : suc (n + k) ≡ suc n + k = omega arith in dropped_at n os k ∙ ap (slot_at (o ∷ os)) e
 
-kept_in : (b : Bool) (v : Value) (p : ℕ → Bool) (env : Environment) → ((j : ℕ) → p (suc j) ≡ true → lookup (keep (outside p) env) j ≡ lookup env j) →
+kept_in : (b : Bool) (v : Value) (p : ℕ → Bool) (env : Environment) →
+    ((j : ℕ) → p (suc j) ≡ true → lookup (keep (outside p) env) j ≡ lookup env j) →
     p zero ≡ b → (k : ℕ) → p k ≡ true → lookup (enter b v (keep (outside p) env)) k ≡ lookup (slot v env) k
 kept_in true v p env r e zero h = refl
 kept_in true v p env r e (suc k) h = r k h
@@ -87,7 +88,8 @@ keep_in p (hole env) zero h = refl
 keep_in p (hole env) (suc k) h = keep_in (outside p) env k h
 keep_in p (slot v env) k h = kept_in (p zero) v p env (keep_in (outside p) env) refl k h
 
-kept_out : (b : Bool) (v : Value) (p : ℕ → Bool) (env : Environment) → HasJust (outside p) (keep (outside p) env) → p zero ≡ b → HasJust p (enter b v (keep (outside p) env))
+kept_out : (b : Bool) (v : Value) (p : ℕ → Bool) (env : Environment) → HasJust (outside p) (keep (outside p) env) → p zero ≡ b →
+    HasJust p (enter b v (keep (outside p) env))
 kept_out true v p env r e zero h = absurd (false≢true (sym h ∙ e))
 kept_out true v p env r e (suc k) h = r k h
 kept_out false v p env r e zero h = refl
@@ -119,7 +121,8 @@ kept false x = None
 
 module _ (c : Compiled) where
   -- what is kept for a part of the variables means what these variables have in code
-  pub part : (q p : ℕ → Bool) (s t : Slots) (env : Environment) → MeansSlots c q s env → ((k : ℕ) → p k ≡ true → q k ≡ true) → Agree p s t → MeansSlots c p t (keep p env)
+  pub part : (q p : ℕ → Bool) (s t : Slots) (env : Environment) → MeansSlots c q s env →
+      ((k : ℕ) → p k ≡ true → q k ≡ true) → Agree p s t → MeansSlots c p t (keep p env)
   part q p s t env m i a =
       record {
         meant = λ k h. let v = m.meant k (i k h) in (v.0, v.1, a k h ∙ v.2, keep_in p env k h ∙ v.3, v.4);
@@ -131,7 +134,8 @@ module _ (c : Compiled) where
   still q s t env m a = record { meant = λ k h. let v = m.meant k h in (v.0, v.1, a k h ∙ v.2, v.3, v.4); just = m.just }
 
   -- a variable is entered in both
-  pub entered : (b : Bool) (q : ℕ → Bool) (s : Slots) (env : Environment) (x : ValueTree) (v : Value) → q zero ≡ b → MeansSlots c (outside q) s env → Means c x v →
+  pub entered : (b : Bool) (q : ℕ → Bool) (s : Slots) (env : Environment) (x : ValueTree) (v : Value) → q zero ≡ b →
+      MeansSlots c (outside q) s env → Means c x v →
       MeansSlots c q (kept b x ∷ s) (enter b v env)
   entered true q s env x v e m h = record { meant = at; just = not_at }
     where
@@ -156,12 +160,14 @@ module _ (c : Compiled) where
   pub without : (q : ℕ → Bool) → ((k : ℕ) → q k ≡ false) → MeansSlots c q [] none
   without q h = record { meant = λ k g. absurd (false≢true (sym (h k) ∙ g)); just = λ k g. refl }
 
-  one_captured : (b : Bool) (j : ℕ) (y : ValueTree) (s : Slots) (w : Value) (env : Environment) (k : ℕ) → is j k ≡ b → lookup env j ≡ Some w → Means c y w →
+  one_captured : (b : Bool) (j : ℕ) (y : ValueTree) (s : Slots) (w : Value) (env : Environment) (k : ℕ) → is j k ≡ b →
+      lookup env j ≡ Some w → Means c y w →
       (b ≡ false → MeansAt c k s env) → MeansAt c k (filled j y s) env
   one_captured true j y s w env k e l m r = (y, w, filled_itself j y s k e, ap (lookup env) (sym (is_same j k e)) ∙ l, m)
   one_captured false j y s w env k e l m r = let z = r refl in (z.0, z.1, filled_other j y s k e ∙ z.2, z.3, z.4)
 
-  all_captured : (ys : ValueTrees) (js : List ℕ) (env : Environment) → MeanCaptured c ys js env → (k : ℕ) → among js k ≡ true → MeansAt c k (spread js ys) env
+  all_captured : (ys : ValueTrees) (js : List ℕ) (env : Environment) → MeanCaptured c ys js env →
+      (k : ℕ) → among js k ≡ true → MeansAt c k (spread js ys) env
   all_captured tree.none [] env h k g = absurd (false≢true g)
   all_captured tree.none (j ∷ js) env h k g = absurd h
   all_captured (tree.value y ys) [] env h k g = absurd h
@@ -170,15 +176,18 @@ module _ (c : Compiled) where
       (λ e. all_captured ys js env h.3 k (sym (ap (λ b. b || among js k) e) ∙ g))
 
   -- what is captured means what the variables have
-  pub captured_means : (xs : ValueTrees) (ks : List ℕ) (q : ℕ → Bool) (env : Environment) → MeanCaptured c xs ks env → ((k : ℕ) → among ks k ≡ q k) → HasJust q env →
+  pub captured_means : (xs : ValueTrees) (ks : List ℕ) (q : ℕ → Bool) (env : Environment) → MeanCaptured c xs ks env →
+      ((k : ℕ) → among ks k ≡ q k) → HasJust q env →
       MeansSlots c q (spread ks xs) env
   captured_means xs ks q env m i j = record { meant = λ k g. all_captured xs ks env m k (i k ∙ g); just = j }
 
   -- and no other variable has a value in either
-  pub captured_alike : (xs : ValueTrees) (ks : List ℕ) (q : ℕ → Bool) (env : Environment) → MeanCaptured c xs ks env → ((k : ℕ) → among ks k ≡ q k) → HasJust q env →
+  pub captured_alike : (xs : ValueTrees) (ks : List ℕ) (q : ℕ → Bool) (env : Environment) → MeanCaptured c xs ks env →
+      ((k : ℕ) → among ks k ≡ q k) → HasJust q env →
       AreAlike c (spread ks xs) env
   captured_alike xs ks q env m i j k = pick (among ks k) refl
     where
-      pick : (b : Bool) → among ks k ≡ b → ((slot_at (spread ks xs) k ≡ None) × (lookup env k ≡ None)) ⊎ MeansAt c k (spread ks xs) env
+      pick : (b : Bool) → among ks k ≡ b → ((slot_at (spread ks xs) k ≡ None) × (lookup env k ≡ None)) ⊎
+          MeansAt c k (spread ks xs) env
       pick true e = inr (all_captured xs ks env m k e)
       pick false e = inl (spread_other ks xs k e, j k (sym (i k) ∙ e))

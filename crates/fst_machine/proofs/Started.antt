@@ -32,11 +32,13 @@ main_is (b ∷ gs) e h = pick (bytes_eq b.name (codes "main")) refl (main_is gs 
     first w [] = refl
     first w (i ∷ is) = ap (λ z. if z then Some i else main_place gs is) w
 
-    behind : (g : ℕ) → bytes_eq b.name (codes "main") ≡ false → ((is : List ℕ) → main_place gs is ≡ slice_get is g) → (is : List ℕ) → main_place (b ∷ gs) is ≡ slice_get is (suc g)
+    behind : (g : ℕ) → bytes_eq b.name (codes "main") ≡ false → ((is : List ℕ) → main_place gs is ≡ slice_get is g) →
+        (is : List ℕ) → main_place (b ∷ gs) is ≡ slice_get is (suc g)
     behind g w h [] = refl
     behind g w h (i ∷ is) = ap (λ z. if z then Some i else main_place gs is) w ∙ h is
 
-    pick : (z : Bool) → bytes_eq b.name (codes "main") ≡ z → (main_body gs ≡ Some e → IsMain gs e) → (if z then Some b.body else main_body gs) ≡ Some e → IsMain (b ∷ gs) e
+    pick : (z : Bool) → bytes_eq b.name (codes "main") ≡ z → (main_body gs ≡ Some e → IsMain gs e) →
+        (if z then Some b.body else main_body gs) ≡ Some e → IsMain (b ∷ gs) e
     pick true w again u = (zero, u, first w)
     pick false w again u = let r = again u in (suc r.0, r.1, behind r.0 w r.2)
 
@@ -44,7 +46,8 @@ main_is (b ∷ gs) e h = pick (bytes_eq b.name (codes "main")) refl (main_is gs 
 pub makers_apart : (m : Module) → DistinctMakers m.families.items
 makers_apart m = distinct_makers m.families.items m.whole.makers_differ
 
-module _ (m : Module) (code : List Instr) (lambdas : List LambdaEntry) (globals : List ℕ) (types : List Tree) (ok : IsCodeOf m code lambdas globals types) where
+module _ (m : Module) (code : List Instr) (lambdas : List LambdaEntry) (globals : List ℕ) (types : List Tree)
+    (ok : IsCodeOf m code lambdas globals types) where
   abbrev c : Compiled
   c = compiled m.families.items code lambdas globals
 
@@ -61,7 +64,9 @@ module _ (m : Module) (code : List Instr) (lambdas : List LambdaEntry) (globals 
 
   -- after an answer it stands for what the terms go on with
   pub told_on : (s : Spot) (q : Pause) (a : Answer) (st : State) →
-      Stands (compiled m.families.items code lambdas globals) s q → inner (compiled m.families.items code lambdas globals) s ≡ None →
+      Stands (compiled m.families.items code lambdas globals) s q →
+      inner (compiled m.families.items code lambdas globals) s ≡ None →
       after (program m) q a ≡ Some st → (pause m.families.items st ≡ stuck → ⊥) →
-      (t : Spot) × (told_at (compiled m.families.items code lambdas globals) s a ≡ Some t) × Stands (compiled m.families.items code lambdas globals) t (pause m.families.items st)
+      (t : Spot) × (told_at (compiled m.families.items code lambdas globals) s a ≡ Some t) ×
+      Stands (compiled m.families.items code lambdas globals) t (pause m.families.items st)
   told_on s q a st h e u g = told_stands c (bodies m.globals.items) ok.stands (makers_apart m) s q a st h e u g

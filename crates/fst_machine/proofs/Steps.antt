@@ -13,8 +13,10 @@ abbrev pub spot : ℕ → Slots → List ValueTree → List Call → Spot
 spot i slots ops calls = record { place = i; slots = slots; operands = ops; calls = calls }
 
 -- what is read at a place that has an instruction
-pub at_instr : {X : Type 0} (c : Compiled) (i : ℕ) (a : Instr) (j : ℕ) (f : Instr → ℕ → Option X) → At c i a j → on_instr c i f ≡ f a j
-at_instr {X} c i a j f h = subst (λ z. on_instr c z f ≡ f a j) (sym h.place) (ap (λ (o : Option Instr). option_and_then {T = Instr} {U = X} (λ k. f k j) o) h.there)
+pub at_instr : {X : Type 0} (c : Compiled) (i : ℕ) (a : Instr) (j : ℕ) (f : Instr → ℕ → Option X) → At c i a j →
+    on_instr c i f ≡ f a j
+at_instr {X} c i a j f h = subst (λ z. on_instr c z f ≡ f a j) (sym h.place)
+    (ap (λ (o : Option Instr). option_and_then {T = Instr} {U = X} (λ k. f k j) o) h.there)
 
 -- the step at an instruction
 pub step_at : (c : Compiled) (i : ℕ) (a : Instr) (j : ℕ) (slots : Slots) (ops : List ValueTree) (calls : List Call) → At c i a j →
@@ -22,17 +24,20 @@ pub step_at : (c : Compiled) (i : ℕ) (a : Instr) (j : ℕ) (slots : Slots) (op
 step_at c i a j slots ops calls h = at_instr c i a j (λ k l. ran c k l (spot i slots ops calls) ops) h
 
 -- what is asked for at an instruction
-pub asked_at_instr : (c : Compiled) (i : ℕ) (a : Instr) (j : ℕ) (slots : Slots) (ops : List ValueTree) (calls : List Call) → At c i a j →
+pub asked_at_instr : (c : Compiled) (i : ℕ) (a : Instr) (j : ℕ) (slots : Slots) (ops : List ValueTree) (calls : List Call) →
+    At c i a j →
     asked_at c (spot i slots ops calls) ≡ asks a calls ops
 asked_at_instr c i a j slots ops calls h = at_instr c i a j (λ k l. asks k calls ops) h
 
 -- where an answer leads at an instruction
-pub told_at_instr : (c : Compiled) (i : ℕ) (a : Instr) (j : ℕ) (slots : Slots) (ops : List ValueTree) (calls : List Call) (b : Answer) → At c i a j →
+pub told_at_instr : (c : Compiled) (i : ℕ) (a : Instr) (j : ℕ) (slots : Slots) (ops : List ValueTree) (calls : List Call)
+    (b : Answer) → At c i a j →
     told_at c (spot i slots ops calls) b ≡ told c a j (spot i slots ops calls) ops b
 told_at_instr c i a j slots ops calls b h = at_instr c i a j (λ k l. told c k l (spot i slots ops calls) ops b) h
 
 -- the task that an instruction makes
-pub child_at_instr : (c : Compiled) (i : ℕ) (a : Instr) (j : ℕ) (slots : Slots) (ops : List ValueTree) (calls : List Call) → At c i a j →
+pub child_at_instr : (c : Compiled) (i : ℕ) (a : Instr) (j : ℕ) (slots : Slots) (ops : List ValueTree) (calls : List Call) →
+    At c i a j →
     child_at c (spot i slots ops calls) ≡ forks_at c a ops
 child_at_instr c i a j slots ops calls h = at_instr c i a j (λ k l. forks_at c k ops) h
 
@@ -43,9 +48,11 @@ before_step (suc n) c s t q e (inl h) = inl h
 before_step (suc n) c s t q e (inr r) = inr (further e r)
 
 -- so it does before an instruction that leads there
-pub stepped : (n : ℕ) (c : Compiled) (i : ℕ) (a : Instr) (j : ℕ) (slots : Slots) (ops : List ValueTree) (calls : List Call) (t : Spot) (q : Pause) →
+pub stepped : (n : ℕ) (c : Compiled) (i : ℕ) (a : Instr) (j : ℕ) (slots : Slots) (ops : List ValueTree) (calls : List Call)
+    (t : Spot) (q : Pause) →
     At c i a j → ran c a j (spot i slots ops calls) ops ≡ Some t → StandsFor n c t q → StandsFor n c (spot i slots ops calls) q
-stepped n c i a j slots ops calls t q h r k = before_step n c (spot i slots ops calls) t q (step_at c i a j slots ops calls h ∙ r) k
+stepped n c i a j slots ops calls t q h r k = before_step n c (spot i slots ops calls) t q
+    (step_at c i a j slots ops calls h ∙ r) k
 
 -- what rests is what stands
 abbrev pub rests_here : (n : ℕ) (c : Compiled) (s : Spot) (q : Pause) → Rests c (StandsFor n c) s q → StandsFor (suc n) c s q
@@ -55,7 +62,8 @@ reaches_map : (c : Compiled) (P Q : Spot → Type 0) (s : Spot) → ((t : Spot) 
 reaches_map c P Q s f (here p) = here (f _ p)
 reaches_map c P Q s f (further e r) = further e (reaches_map c P Q _ f r)
 
-rests_map : (c : Compiled) (S T : Spot → Pause → Type 0) (s : Spot) (q : Pause) → ((t : Spot) (p : Pause) → S t p → T t p) → Rests c S s q → Rests c T s q
+rests_map : (c : Compiled) (S T : Spot → Pause → Type 0) (s : Spot) (q : Pause) →
+    ((t : Spot) (p : Pause) → S t p → T t p) → Rests c S s q → Rests c T s q
 rests_map c S T s q f r =
     record {
       still = r.still;

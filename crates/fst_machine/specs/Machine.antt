@@ -147,13 +147,15 @@ abbrev mutual
   eval m (lambda at u t x e) env fs back = back (value.function e env)
   eval m (apply at e f) env fs back =
       eval m e (keep (free e) env) (at_function f (keep (free f) env) ∷ fs)
-      (λ v. eval m f (keep (free f) env) (at_argument v ∷ fs) (λ w. on_function v (λ b own. calls b own w fs)))
+      (λ v. eval m f (keep (free f) env) (at_argument v ∷ fs)
+      (λ w. on_function v (λ b own. calls b own w fs)))
   eval m (let_in at x e f) env fs back =
       eval m e (keep (free e) env) (at_let f (keep (outside (free f)) env) ∷ fs)
       (λ v. eval m f (enter (free f zero) v (keep (outside (free f)) env)) fs back)
   eval m (split at x y e f) env fs back =
       eval m e (keep (free e) env) (at_split f (keep (outside (outside (free f))) env) ∷ fs)
-      (λ v. on_pair v (λ a b. eval m f (enter (free f zero) b (enter (free f (suc zero)) a (keep (outside (outside (free f))) env))) fs back))
+      (λ v. on_pair v (λ a b. eval m f (enter (free f zero) b
+      (enter (free f (suc zero)) a (keep (outside (outside (free f))) env))) fs back))
   eval m (if_else at e f g) env fs back =
       eval m e (keep (free e) env) (at_if f g (keep (in_either f g) env) ∷ fs)
       (λ v. on (value.bool_in v) (λ b. chosen b
@@ -161,17 +163,22 @@ abbrev mutual
       (eval m g (keep (free g) (keep (in_either f g) env)) fs back)))
   eval m (case_of at e bs) env fs back =
       eval m e (keep (free e) env) (at_case bs (keep (free_below bs) env) ∷ fs)
-      (λ v. on_made v (λ n o vs. on (name_of m n o) (λ l. eval_arm m bs l vs (keep (free_below bs) env) fs back)))
+      (λ v. on_made v (λ n o vs. on (name_of m n o)
+      (λ l. eval_arm m bs l vs (keep (free_below bs) env) fs back)))
   eval m (operate at o e f) env fs back =
       eval m e (keep (free e) env) (at_left o f (keep (free f) env) ∷ fs)
       (λ v. eval m f (keep (free f) env) (at_right o v ∷ fs) (λ w. on (operated o v w) back))
-  eval m (negate at e) env fs back = eval m e env (at_not ∷ fs) (λ v. on (value.bool_in v) (λ b. back (value.bool (not b))))
+  eval m (negate at e) env fs back = eval m e env (at_not ∷ fs)
+      (λ v. on (value.bool_in v) (λ b. back (value.bool (not b))))
   eval m (new at t) env fs back = makes t fs
   eval m (send at e f) env fs back =
       eval m e (keep (free e) env) (at_value f (keep (free f) env) ∷ fs)
-      (λ v. eval m f (keep (free f) env) (at_target v ∷ fs) (λ w. on_end w (λ x. on (sent v) (λ ev. puts x ev fs))))
-  eval m (receive at e) env fs back = eval m e env (at_receive ∷ fs) (λ v. on_end v (λ x. gets x fs))
-  eval m (select at l e) env fs back = eval m e env (at_select l ∷ fs) (λ v. on_end v (λ x. puts x (Label l) fs))
+      (λ v. eval m f (keep (free f) env) (at_target v ∷ fs)
+      (λ w. on_end w (λ x. on (sent v) (λ ev. puts x ev fs))))
+  eval m (receive at e) env fs back = eval m e env (at_receive ∷ fs)
+      (λ v. on_end v (λ x. gets x fs))
+  eval m (select at l e) env fs back = eval m e env (at_select l ∷ fs)
+      (λ v. on_end v (λ x. puts x (Label l) fs))
   eval m (match_with at e bs) env fs back =
       eval m e (keep (free e) env) (at_match bs (keep (free_below bs) env) ∷ fs)
       (λ v. on_end v (λ x. matches x bs (keep (free_below bs) env) fs))
@@ -181,14 +188,16 @@ abbrev mutual
       (λ v. eval m f (keep (free f) env) fs back)
 
   -- the arguments of a constructor that are to come; those before them have these values, the latest first
-  pub eval_all : List Family → CoreList → ℕ → ℕ → Values → Environment → List Frame → (Value → Pause) → Pause
+  pub eval_all : List Family → CoreList → ℕ → ℕ → Values → Environment → List Frame →
+      (Value → Pause) → Pause
   eval_all m no_terms n o done env fs back = back (value.made n o (turned_onto done no_values))
   eval_all m (term e es) n o done env fs back =
       eval m e (keep (free e) env) (at_field n o done es (keep (free_in es) env) ∷ fs)
       (λ v. eval_all m es n o (value.value v done) (keep (free_in es) env) fs back)
 
   -- the arm with this label, whose variables stand for these values
-  pub eval_arm : List Family → CoreArms → List ℕ → Values → Environment → List Frame → (Value → Pause) → Pause
+  pub eval_arm : List Family → CoreArms → List ℕ → Values → Environment → List Frame →
+      (Value → Pause) → Pause
   eval_arm m no_arms l vs env fs back = stuck
   eval_arm m (arm k xs e bs) l vs env fs back =
       chosen (bytes_eq l k)
@@ -198,19 +207,28 @@ abbrev mutual
 -- where a value leads that comes to these frames
 abbrev pub resume : List Family → List Frame → Value → Pause
 resume m [] v = ended v
-resume m (at_function f env ∷ fs) v = eval m f env (at_argument v ∷ fs) (λ w. on_function v (λ b own. calls b own w fs))
+resume m (at_function f env ∷ fs) v = eval m f env (at_argument v ∷ fs)
+    (λ w. on_function v (λ b own. calls b own w fs))
 resume m (at_argument v ∷ fs) w = on_function v (λ b own. calls b own w fs)
-resume m (at_first f env ∷ fs) v = eval m f env (at_second v ∷ fs) (λ w. resume m fs (value.pair v w))
+resume m (at_first f env ∷ fs) v = eval m f env (at_second v ∷ fs)
+    (λ w. resume m fs (value.pair v w))
 resume m (at_second v ∷ fs) w = resume m fs (value.pair v w)
-resume m (at_field n o done es env ∷ fs) v = eval_all m es n o (value.value v done) env fs (resume m fs)
+resume m (at_field n o done es env ∷ fs) v =
+    eval_all m es n o (value.value v done) env fs (resume m fs)
 resume m (at_let f env ∷ fs) v = eval m f (enter (free f zero) v env) fs (resume m fs)
-resume m (at_split f env ∷ fs) v = on_pair v (λ a b. eval m f (enter (free f zero) b (enter (free f (suc zero)) a env)) fs (resume m fs))
-resume m (at_if f g env ∷ fs) v = on (value.bool_in v) (λ b. chosen b (eval m f (keep (free f) env) fs (resume m fs)) (eval m g (keep (free g) env) fs (resume m fs)))
-resume m (at_case bs env ∷ fs) v = on_made v (λ n o vs. on (name_of m n o) (λ l. eval_arm m bs l vs env fs (resume m fs)))
-resume m (at_left o f env ∷ fs) v = eval m f env (at_right o v ∷ fs) (λ w. on (operated o v w) (resume m fs))
+resume m (at_split f env ∷ fs) v = on_pair v
+    (λ a b. eval m f (enter (free f zero) b (enter (free f (suc zero)) a env)) fs (resume m fs))
+resume m (at_if f g env ∷ fs) v = on (value.bool_in v)
+    (λ b. chosen b (eval m f (keep (free f) env) fs (resume m fs))
+    (eval m g (keep (free g) env) fs (resume m fs)))
+resume m (at_case bs env ∷ fs) v = on_made v
+    (λ n o vs. on (name_of m n o) (λ l. eval_arm m bs l vs env fs (resume m fs)))
+resume m (at_left o f env ∷ fs) v = eval m f env (at_right o v ∷ fs)
+    (λ w. on (operated o v w) (resume m fs))
 resume m (at_right o v ∷ fs) w = on (operated o v w) (resume m fs)
 resume m (at_not ∷ fs) v = on (value.bool_in v) (λ b. resume m fs (value.bool (not b)))
-resume m (at_value f env ∷ fs) v = eval m f env (at_target v ∷ fs) (λ w. on_end w (λ x. on (sent v) (λ ev. puts x ev fs)))
+resume m (at_value f env ∷ fs) v = eval m f env (at_target v ∷ fs)
+    (λ w. on_end w (λ x. on (sent v) (λ ev. puts x ev fs)))
 resume m (at_target v ∷ fs) w = on_end w (λ x. on (sent v) (λ ev. puts x ev fs))
 resume m (at_receive ∷ fs) v = on_end v (λ x. gets x fs)
 resume m (at_select l ∷ fs) v = on_end v (λ x. puts x (Label l) fs)
@@ -251,7 +269,8 @@ begins e fs = record { term = e; environment = none; frames = fs }
 
 -- the two ends of a channel as a pair
 abbrev pub ends : ChannelName → Value
-ends c = value.pair (value.end (record { channel = c; side = Left })) (value.end (record { channel = c; side = Right }))
+ends c = value.pair (value.end (record { channel = c; side = Left }))
+    (value.end (record { channel = c; side = Right }))
 
 -- what is there, or a state without a next request
 abbrev pub or_lost : Option State → State
@@ -263,18 +282,25 @@ abbrev pub arm_state : CoreArms → List ℕ → EndName → Environment → Lis
 arm_state no_arms l x env fs = lost
 arm_state (arm k xs e bs) l x env fs =
     if bytes_eq l k then
-    record { term = e; environment = enter (free e zero) (value.end x) (keep (outside (free e)) env); frames = fs }
+    record {
+      term = e;
+      environment = enter (free e zero) (value.end x)
+          (keep (outside (free e)) env);
+      frames = fs;
+    }
     else
     arm_state bs l x env fs
 
 -- the state after an answer to what is asked
 abbrev pub after : Program → Pause → Answer → Option State
-after p (calls e env v fs) Go = Some (record { term = e; environment = enter (free e zero) v env; frames = fs })
+after p (calls e env v fs) Go = Some
+    (record { term = e; environment = enter (free e zero) v env; frames = fs })
 after p (uses g fs) Go = Some (or_lost (option_map (λ e. begins e fs) (slice_get p.bodies g)))
 after p (makes t fs) (Made c) = Some (giving (ends c) fs)
 after p (forks e env fs) Forked = Some (giving value.unit fs)
 after p (puts x ev fs) Sent = Some (giving (value.end x) fs)
-after p (gets x fs) (Got ev) = Some (or_lost (option_map (λ v. giving (value.pair v (value.end x)) fs) (received ev)))
+after p (gets x fs) (Got ev) = Some
+    (or_lost (option_map (λ v. giving (value.pair v (value.end x)) fs) (received ev)))
 after p (matches x bs env fs) (Got (Label l)) = Some (arm_state bs l x env fs)
 after p (matches x bs env fs) (Got ev) = Some lost
 after p here a = None

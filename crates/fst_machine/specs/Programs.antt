@@ -34,11 +34,13 @@ main_place (g ∷ gs) (i ∷ is) = if bytes_eq g.name (codes "main") then Some i
 
 -- code with its entries and the places of its globals
 abbrev pub compiled : List Family → List Instr → List LambdaEntry → List ℕ → Compiled
-compiled families code lambdas globals = record { families = families; code = code; lambdas = lambdas; globals = globals }
+compiled families code lambdas globals =
+    record { families = families; code = code; lambdas = lambdas; globals = globals }
 
 -- the code is the module's: it computes the bodies of the globals, begins with that of main at its greatest place, and goes
 -- down; and its types are the module's
-pub record IsCodeOf (m : Module) (code : List Instr) (lambdas : List LambdaEntry) (globals : List ℕ) (types : List Tree) : Type 0 where
+pub record IsCodeOf (m : Module) (code : List Instr) (lambdas : List LambdaEntry) (globals : List ℕ)
+    (types : List Tree) : Type 0 where
   pub stands : IsCode (compiled m.families.items code lambdas globals) (bodies m.globals.items)
   pub start : ℕ
   pub starts : main_place m.globals.items globals ≡ Some start

@@ -93,7 +93,8 @@ with_value j None ops s = None
 with_value j (Some v) ops s = Some (moved_to j (v ∷ ops) s)
 
 -- the last n values made one
-abbrev pub joined : ℕ → Option (ValueTrees × List ValueTree) → (ValueTrees → ValueTree) → Spot → Option Spot
+abbrev pub joined : ℕ → Option (ValueTrees × List ValueTree) →
+    (ValueTrees → ValueTree) → Spot → Option Spot
 joined j None f s = None
 joined j (Some p) f s = Some (moved_to j (f p.0 ∷ p.1) s)
 
@@ -114,14 +115,18 @@ ran c (instr.Bool b) j s ops = Some (moved_to j (bool b ∷ ops) s)
 ran c (instr.Char n) j s ops = Some (moved_to j (char n ∷ ops) s)
 ran c instr.Unit j s ops = Some (moved_to j (unit ∷ ops) s)
 ran c (instr.Load k) j s ops = with_value j (slot_at s.slots k) ops s
-ran c (instr.Take k) j s ops = with_value j (slot_at s.slots k) ops (record s { slots = emptied k s.slots })
-ran c instr.Bind j s (v ∷ ops) = Some (record s { place = j; slots = Some v ∷ s.slots; operands = ops })
+ran c (instr.Take k) j s ops = with_value j (slot_at s.slots k) ops
+    (record s { slots = emptied k s.slots })
+ran c instr.Bind j s (v ∷ ops) = Some
+    (record s { place = j; slots = Some v ∷ s.slots; operands = ops })
 ran c (instr.Unbind n) j s ops = Some (record s { place = j; slots = drop n s.slots })
 ran c instr.Pair j s (w ∷ v ∷ ops) = Some (moved_to j (pair v w ∷ ops) s)
 ran c instr.Split j s (pair v w ∷ ops) = Some (moved_to j (v ∷ w ∷ ops) s)
 ran c (instr.Make n o k) j s ops = joined j (collected k ops none) (make n o) s
-ran c (instr.Function l) j s ops = joined j (collected (captured_count (slice_get c.lambdas l)) ops none) (function l) s
-ran c (instr.Operate o) j s (w ∷ v ∷ ops) = with_value j (option_map of_scalar (operated o (scalar v) (scalar w))) ops s
+ran c (instr.Function l) j s ops = joined j
+    (collected (captured_count (slice_get c.lambdas l)) ops none) (function l) s
+ran c (instr.Operate o) j s (w ∷ v ∷ ops) =
+    with_value j (option_map of_scalar (operated o (scalar v) (scalar w))) ops s
 ran c instr.Not j s (bool b ∷ ops) = Some (moved_to j (bool (not b) ∷ ops) s)
 ran c (instr.Branch place) j s (bool true ∷ ops) = Some (moved_to j ops s)
 ran c (instr.Branch place) j s (bool false ∷ ops) = Some (moved_to place ops s)
@@ -132,7 +137,8 @@ ran c instr.Return j s ops = returned s.calls ops
   where
     returned : List Call → List ValueTree → Option Spot
     returned [] ops = None
-    returned (k ∷ ks) ops = Some (record { place = k.place; slots = k.slots; operands = ops; calls = ks })
+    returned (k ∷ ks) ops = Some (record
+        { place = k.place; slots = k.slots; operands = ops; calls = ks })
 ran c i j s ops = None
 
 -- the instruction at a place, and the place behind it
@@ -164,7 +170,14 @@ asked_at c s = on_instr c s.place (λ i j. asks i s.calls s.operands)
 -- in the code of a function or a global
 abbrev pub called : Option ℕ → Slots → ℕ → List ValueTree → Spot → Option Spot
 called None slots j ops s = None
-called (Some place) slots j ops s = Some (record { place = place; slots = slots; operands = ops; calls = record { place = j; slots = s.slots } ∷ s.calls })
+called (Some place) slots j ops s =
+    Some (record {
+      place = place;
+      slots = slots;
+      operands = ops;
+      calls =
+          record { place = j; slots = s.slots } ∷ s.calls;
+    })
 
 -- the place where a function or a task starts
 abbrev pub start_of : Option LambdaEntry → Option ℕ
@@ -177,7 +190,8 @@ captured_by (Some e) = e.captured.items
 
 -- the two ends of a channel as a pair
 abbrev pub ends_of : ChannelName → ValueTree
-ends_of c = pair (end (record { channel = c; side = Left })) (end (record { channel = c; side = Right }))
+ends_of c = pair (end (record { channel = c; side = Left }))
+    (end (record { channel = c; side = Right }))
 
 -- without the values that a task captures, and with what the forking task goes on with
 abbrev pub without_captured : ℕ → Option (ValueTrees × List ValueTree) → Spot → Option Spot
@@ -187,14 +201,18 @@ without_captured j (Some p) s = Some (moved_to j (unit ∷ p.1) s)
 -- after an answer, at an instruction that is followed by place j
 abbrev pub told : Compiled → Instr → ℕ → Spot → List ValueTree → Answer → Option Spot
 told c instr.Call j s (w ∷ function l vs ∷ ops) Go =
-    called (start_of (slice_get c.lambdas l)) (spread (captured_by (slice_get c.lambdas l)) vs) j (w ∷ ops) s
+    called (start_of (slice_get c.lambdas l)) (spread (captured_by (slice_get c.lambdas l)) vs) j
+    (w ∷ ops) s
 told c (instr.Global g) j s ops Go = called (slice_get c.globals g) [] j ops s
 told c (instr.New t) j s ops (Made h) = Some (moved_to j (ends_of h ∷ ops) s)
-told c (instr.Fork l) j s ops Forked = without_captured j (collected (captured_count (slice_get c.lambdas l)) ops none) s
+told c (instr.Fork l) j s ops Forked =
+    without_captured j (collected (captured_count (slice_get c.lambdas l)) ops none) s
 told c instr.Send j s (end x ∷ v ∷ ops) Sent = Some (moved_to j (end x ∷ ops) s)
 told c (instr.Select l) j s (end x ∷ ops) Sent = Some (moved_to j (end x ∷ ops) s)
-told c instr.Receive j s (end x ∷ ops) (Got ev) = option_map (λ v. moved_to j (pair (of_scalar v) (end x) ∷ ops) s) (received ev)
-told c (instr.Match places) j s (end x ∷ ops) (Got (Label l)) = option_map (λ place. moved_to place (end x ∷ ops) s) (place_of places.items l)
+told c instr.Receive j s (end x ∷ ops) (Got ev) = option_map
+    (λ v. moved_to j (pair (of_scalar v) (end x) ∷ ops) s) (received ev)
+told c (instr.Match places) j s (end x ∷ ops) (Got (Label l)) = option_map
+    (λ place. moved_to place (end x ∷ ops) s) (place_of places.items l)
 told c i j s ops a = None
 
 -- the spot after an answer
@@ -209,7 +227,8 @@ forked_spot (Some e) (Some p) = Some (begins_at e.start (spread e.captured.items
 
 -- the task that a fork makes
 abbrev pub forks_at : Compiled → Instr → List ValueTree → Option Spot
-forks_at c (instr.Fork l) ops = forked_spot (slice_get c.lambdas l) (collected (captured_count (slice_get c.lambdas l)) ops none)
+forks_at c (instr.Fork l) ops = forked_spot (slice_get c.lambdas l)
+    (collected (captured_count (slice_get c.lambdas l)) ops none)
 forks_at c i ops = None
 
 -- the task that is made where a fork is asked for

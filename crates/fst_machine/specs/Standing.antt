@@ -39,11 +39,14 @@ abbrev mutual
   Means c (tree.bool b) v = v ≡ value.bool b
   Means c (tree.char n) v = v ≡ value.char n
   Means c tree.unit v = v ≡ value.unit
-  Means c (tree.pair x y) v = (a : Value) × (b : Value) × (v ≡ value.pair a b) × Means c x a × Means c y b
+  Means c (tree.pair x y) v = (a : Value) × (b : Value) ×
+      (v ≡ value.pair a b) × Means c x a × Means c y b
   Means c (tree.make n o xs) v =
-      (vs : Values) × (v ≡ value.made n o vs) × HasFields (maker_of (slice_get c.families n) o) (count vs) × MeanAll c xs vs
+      (vs : Values) × (v ≡ value.made n o vs) ×
+      HasFields (maker_of (slice_get c.families n) o) (count vs) × MeanAll c xs vs
   Means c (tree.function l xs) v =
-      (e : CoreTree) × (env : Environment) × (f : IsFunction c l e) × (v ≡ value.function e env) × MeanCaptured c xs f.entry.captured.items env ×
+      (e : CoreTree) × (env : Environment) × (f : IsFunction c l e) ×
+      (v ≡ value.function e env) × MeanCaptured c xs f.entry.captured.items env ×
       HasJust (outside (free e)) env
   Means c (tree.end x) v = v ≡ value.end x
 
@@ -59,20 +62,24 @@ abbrev mutual
   MeanCaptured c tree.none [] env = ⊤
   MeanCaptured c tree.none (k ∷ ks) env = ⊥
   MeanCaptured c (tree.value x xs) [] env = ⊥
-  MeanCaptured c (tree.value x xs) (k ∷ ks) env = (v : Value) × (lookup env k ≡ Some v) × Means c x v × MeanCaptured c xs ks env
+  MeanCaptured c (tree.value x xs) (k ∷ ks) env = (v : Value) ×
+      (lookup env k ≡ Some v) × Means c x v × MeanCaptured c xs ks env
 
 -- a variable has a value in both, and they mean each other
 abbrev pub MeansAt : Compiled → ℕ → Slots → Environment → Type 0
-MeansAt c k slots env = (x : ValueTree) × (v : Value) × (slot_at slots k ≡ Some x) × (lookup env k ≡ Some v) × Means c x v
+MeansAt c k slots env = (x : ValueTree) × (v : Value) × (slot_at slots k ≡ Some x) ×
+    (lookup env k ≡ Some v) × Means c x v
 
 -- the variables of a set have values in both, which mean each other, and the environment has no other
-pub record MeansSlots (c : Compiled) (q : ℕ → Bool) (slots : Slots) (env : Environment) : Type 0 where
+pub record MeansSlots (c : Compiled) (q : ℕ → Bool) (slots : Slots)
+    (env : Environment) : Type 0 where
   pub meant : (k : ℕ) → q k ≡ true → MeansAt c k slots env
   pub just : HasJust q env
 
 -- the variables that have values are the same in both, and these mean each other
 abbrev pub AreAlike : Compiled → Slots → Environment → Type 0
-AreAlike c slots env = (k : ℕ) → ((slot_at slots k ≡ None) × (lookup env k ≡ None)) ⊎ MeansAt c k slots env
+AreAlike c slots env = (k : ℕ) → ((slot_at slots k ≡ None) × (lookup env k ≡ None)) ⊎
+    MeansAt c k slots env
 
 -- inner steps lead from a spot to one of these
 pub data Reaches (c : Compiled) (P : Spot → Type 0) : Spot → Type 0 where
@@ -98,10 +105,12 @@ pub record Rests (c : Compiled) (S : Spot → Pause → Type 0) (s : Spot) (q : 
   pub alike : asked_at c s ≡ asked q
   pub value : HasEnded c s.operands q
   pub told : (bodies : List CoreTree) → IsCode c bodies → (a : Answer) (st : State) →
-      after (record { families = c.families; bodies = bodies }) q a ≡ Some st → (pause c.families st ≡ stuck → ⊥) →
+      after (record { families = c.families; bodies = bodies }) q a ≡ Some st →
+      (pause c.families st ≡ stuck → ⊥) →
       (t : Spot) × (told_at c s a ≡ Some t) × S t (pause c.families st)
   pub made : (st : State) → child q ≡ Some st →
-      (t : Spot) × (child_at c s ≡ Some t) × AreAlike c t.slots st.environment × S t (pause c.families st)
+      (t : Spot) × (child_at c s ≡ Some t) × AreAlike c t.slots st.environment ×
+      S t (pause c.families st)
 
 -- for so many requests the spot stands for the task, or this is stuck
 abbrev pub StandsFor : ℕ → Compiled → Spot → Pause → Type 0
@@ -115,7 +124,8 @@ Stands c s q = (n : ℕ) → StandsFor n c s q
 -- no two constructors have the same name
 abbrev pub DistinctMakers : List Family → Type 0
 DistinctMakers families =
-    (n o n2 o2 : ℕ) (l : List ℕ) → name_of families n o ≡ Some l → name_of families n2 o2 ≡ Some l → (n ≡ n2) × (o ≡ o2)
+    (n o n2 o2 : ℕ) (l : List ℕ) → name_of families n o ≡ Some l → name_of families n2 o2 ≡ Some l →
+    (n ≡ n2) × (o ≡ o2)
 
 -- where an instruction may go on but behind it, it goes on below place i
 abbrev pub LeadsBelow : ℕ → Instr → Type 0
@@ -142,8 +152,10 @@ measure s = s.place + places_of_calls s.calls
 -- so after each answer
 abbrev pub CodeStands : Type 0
 CodeStands =
-    (c : Compiled) (bodies : List CoreTree) → IsCode c bodies → DistinctMakers c.families → (g : ℕ) (e : CoreTree) → slice_get bodies g ≡ Some e →
-    (i : ℕ) × (slice_get c.globals g ≡ Some i) × Stands c (begins_at i []) (pause c.families (begins e []))
+    (c : Compiled) (bodies : List CoreTree) → IsCode c bodies → DistinctMakers c.families →
+    (g : ℕ) (e : CoreTree) → slice_get bodies g ≡ Some e →
+    (i : ℕ) × (slice_get c.globals g ≡ Some i) ×
+    Stands c (begins_at i []) (pause c.families (begins e []))
 
 -- each step of code that goes down lowers the measure, so there are finitely many between two requests
 abbrev pub StepsEnd : Type 0

@@ -12,7 +12,8 @@ receiver i = codes "r" ++ decimal i
 
 -- the function that sends i over an end that it is given
 abbrev pub sender_lines : ℕ → List ℕ
-sender_lines i = sender i ++ codes " : !Int -> Skip\n" ++ sender i ++ codes " c = send " ++ decimal i ++ codes " c\n"
+sender_lines i = sender i ++ codes " : !Int -> Skip\n" ++ sender i ++ codes " c = send " ++ decimal
+    i ++ codes " c\n"
 
 -- the type of a function that receives, or of the one behind them
 abbrev pub receiver_type : ℕ → List ℕ
@@ -28,7 +29,8 @@ call_text j = codes "let (x, d) = receive b in " ++ receiver j ++ codes " (s + x
 
 -- what a function that receives does: it makes a channel, over which i is sent and received, and goes on with the next one
 abbrev pub receiver_equation : ℕ → List ℕ
-receiver_equation i = receiver i ++ codes " s = let (a, b) = new !Int in " ++ fork_text i ++ call_text (i + 1)
+receiver_equation i = receiver i ++ codes " s = let (a, b) = new !Int in " ++ fork_text i
+    ++ call_text (i + 1)
 
 -- the function that receives i
 abbrev pub receiver_lines : ℕ → List ℕ

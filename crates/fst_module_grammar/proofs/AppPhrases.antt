@@ -36,7 +36,8 @@ append_terms_none : (ts : TermList) → append_terms ts no_terms ≡ ts
 append_terms_none no_terms = refl
 append_terms_none (term.term t ts) = ap (term.term t) (append_terms_none ts)
 
-append_terms_behind : (ts : TermList) (t : TermTree) (us : TermList) → append_terms (append_term ts t) us ≡ append_terms ts (term.term t us)
+append_terms_behind : (ts : TermList) (t : TermTree) (us : TermList) →
+    append_terms (append_term ts t) us ≡ append_terms ts (term.term t us)
 append_terms_behind no_terms t us = refl
 append_terms_behind (term.term s ts) t us = ap (term.term s) (append_terms_behind ts t us)
 
@@ -44,17 +45,24 @@ append_terms_behind (term.term s ts) t us = ap (term.term s) (append_terms_behin
 abbrev pub ArgumentsP : ℕ → TermList → Phrase TermList
 ArgumentsP e args ts all ns = (more : TermList) × (s : AreAtoms ts more) × (all ≡ append_terms args more) × (atoms_nests e s ≡ ns)
 
-pub arguments_to : (e : ℕ) (args : TermList) (ts : List Lexeme) (all : TermList) (ns : List ℕ) → Repeat ArgumentS e args ts all ns → ArgumentsP e args ts all ns
+pub arguments_to : (e : ℕ) (args : TermList) (ts : List Lexeme) (all : TermList) (ns : List ℕ) →
+    Repeat ArgumentS e args ts all ns → ArgumentsP e args ts all ns
 arguments_to _ _ _ _ _ (enough e args) = (no_terms, no_atoms, sym (append_terms_none args), refl)
 arguments_to _ _ _ _ _ (again ts us vs e args y all ns ms ks (made _ t _ a) r parts nests) =
-    let o = arguments_to (suc e) (append_term args t) vs all ks r in
-    (term.term t o.0, atom us vs ts t o.0 a.0 o.1 parts, o.2 ∙ append_terms_behind args t o.0, (let e2 : atom_nests e a.0 ++ atoms_nests (suc e) o.1 ≡ ns = rw (a.1, o.3) (sym nests) in e2))
+    let o = arguments_to (suc e) (append_term args t) vs all ks r in (
+      term.term t o.0,
+      atom us vs ts t o.0 a.0 o.1 parts,
+      o.2 ∙ append_terms_behind args t o.0,
+      (let e2 : atom_nests e a.0 ++ atoms_nests (suc e) o.1 ≡ ns = rw (a.1, o.3) (sym nests) in e2),
+    )
 
-of_arguments : (e : ℕ) (args : TermList) (ts : List Lexeme) (more : TermList) (s : AreAtoms ts more) → Repeat ArgumentS e args ts (append_terms args more) (atoms_nests e s)
+of_arguments : (e : ℕ) (args : TermList) (ts : List Lexeme) (more : TermList) (s : AreAtoms ts more) →
+    Repeat ArgumentS e args ts (append_terms args more) (atoms_nests e s)
 of_arguments e args _ _ no_atoms = subst (λ z. Repeat ArgumentS e args [] z []) (sym (append_terms_none args)) (enough e args)
 of_arguments e args _ _ (atom ts us all t more a s parts) =
     again all ts us e args (append_term args t) _ _ (atom_nests e a) (atoms_nests (suc e) s) (made ts t _ (a, refl))
-    (subst (λ z. Repeat ArgumentS (suc e) (append_term args t) us z (atoms_nests (suc e) s)) (append_terms_behind args t more) (of_arguments (suc e) (append_term args t) us more s)) parts refl
+    (subst (λ z. Repeat ArgumentS (suc e) (append_term args t) us z (atoms_nests (suc e) s)) (append_terms_behind args t more)
+    (of_arguments (suc e) (append_term args t) us more s)) parts refl
 
 pub plain_filled : (d : ℕ) (us : List Lexeme) (t : TermTree) (ns : List ℕ) → PlainP d us t ns → 0 < length us
 plain_filled d us t ns p = let b = plain_begins d p.0 in omega (arith, ap length b.3)
@@ -89,19 +97,26 @@ pub app_to : (d : ℕ) (ts : List Lexeme) (t : TermTree) (ns : List ℕ) → App
 app_to d _ _ _ (other ts t ns q) = head_read d ts t ns q
 app_to d _ _ _ (one _ _ _ (first k s ts t ns e p)) = by_start s (app_means k s e) ts t ns p
   where
-    by_start : (s : AppStart) → MeansApp s k → (ts : List Lexeme) (t : TermTree) (ns : List ℕ) → AppBegunR d s k ts t ns → AppP d (k ∷ ts) t (d ∷ ns)
-    by_start Send is _ _ _ (phrase.pair ts us vs t _ ns ms _ a (made _ u ks b) parts nests) =
-        (send k us vs (k ∷ ts) t u is a.0 b.0 (ap (λ (w : List Lexeme). k ∷ w) parts), (let e2 : d ∷ atom_nests (suc d) a.0 ++ atom_nests (suc (suc d)) b.0 ≡ d ∷ ns = rw (a.1, b.1) (ap (λ (w : List ℕ). d ∷ w) (sym nests)) in e2))
+    by_start : (s : AppStart) → MeansApp s k → (ts : List Lexeme) (t : TermTree) (ns : List ℕ) → AppBegunR d s k ts t ns →
+        AppP d (k ∷ ts) t (d ∷ ns)
+    by_start Send is _ _ _ (phrase.pair ts us vs t _ ns ms _ a (made _ u ks b) parts nests) = (
+      send k us vs (k ∷ ts) t u is a.0 b.0 (ap (λ (w : List Lexeme). k ∷ w) parts),
+      (let e2 : d ∷ atom_nests (suc d) a.0 ++ atom_nests (suc (suc d)) b.0 ≡ d ∷ ns =
+          rw (a.1, b.1) (ap (λ (w : List ℕ). d ∷ w) (sym nests)) in e2),
+    )
     by_start Receive is _ _ _ (made ts t ns a) = (receive k ts t is a.0, ap (λ (w : List ℕ). d ∷ w) a.1)
     by_start Select is _ _ _ (phrase.pair ts _ vs _ _ ns _ _ (first l m _ _ _ g nothing) (made _ u ks b) parts nests) =
         let name = upper_is l m g in
-        moved (AppP d) (k ∷ ts) (k ∷ l ∷ vs) _ (term.select k.at l.text u) (d ∷ ns) (d ∷ suc d ∷ ks) (ap (λ (w : List Lexeme). k ∷ w) parts) (ap (λ (z : Lexeme). term.select k.at z.text u) (sym name.1)) (ap (λ (w : List ℕ). d ∷ w) nests)
+        moved (AppP d) (k ∷ ts) (k ∷ l ∷ vs) _ (term.select k.at l.text u) (d ∷ ns) (d ∷ suc d ∷ ks)
+        (ap (λ (w : List Lexeme). k ∷ w) parts) (ap (λ (z : Lexeme). term.select k.at z.text u) (sym name.1))
+        (ap (λ (w : List ℕ). d ∷ w) nests)
         (select k l vs u is name.0 b.0, ap (λ (w : List ℕ). d ∷ suc d ∷ w) b.1)
     by_start New is _ _ _ (made ts t ns a) = (new k ts t is a.0, ap (λ (w : List ℕ). d ∷ w) a.1)
     by_start Fork is _ _ _ (made ts t ns a) = (fork k ts t is a.0, ap (λ (w : List ℕ). d ∷ w) a.1)
     by_start Make is _ _ _ (made ts args ns r) =
         let o = arguments_to (suc d) no_terms ts args ns r in
-        subst (λ z. AppP d (k ∷ ts) (term.make k.at k.text z) (d ∷ ns)) (sym o.2) (make k ts o.0 is o.1, ap (λ (w : List ℕ). d ∷ w) o.3)
+        subst (λ z. AppP d (k ∷ ts) (term.make k.at k.text z) (d ∷ ns)) (sym o.2)
+        (make k ts o.0 is o.1, ap (λ (w : List ℕ). d ∷ w) o.3)
 
 pub of_app : (d : ℕ) (ts : List Lexeme) (t : TermTree) (s : IsApp ts t) → AppR d ts t (app_nests d s)
 of_app d _ _ (send k ts us all t u is a b parts) =
@@ -110,14 +125,17 @@ of_app d _ _ (send k ts us all t u is a b parts) =
 of_app d _ _ (receive k ts t is a) = one _ _ _ (first k Receive ts _ _ (means_app Receive k is) (made ts t _ (a, refl)))
 of_app d _ _ (select k l ts t is label a) =
     one _ _ _ (first k Select (l ∷ ts) _ _ (means_app Select k is)
-    (phrase.pair _ (l ∷ []) ts l _ _ (suc d ∷ []) (atom_nests (suc (suc d)) a) (first l l [] l [] (is_upper l label) nothing) (made ts t _ (a, refl)) refl refl))
+    (phrase.pair _ (l ∷ []) ts l _ _ (suc d ∷ []) (atom_nests (suc (suc d)) a) (first l l [] l [] (is_upper l label) nothing)
+    (made ts t _ (a, refl)) refl refl))
 of_app d _ _ (new k ts t is a) = one _ _ _ (first k New ts _ _ (means_app New k is) (made ts t _ (a, refl)))
 of_app d _ _ (fork k ts t is a) = one _ _ _ (first k Fork ts _ _ (means_app Fork k is) (made ts t _ (a, refl)))
-of_app d _ _ (make k ts args is s) = one _ _ _ (first k Make ts _ _ (means_app Make k is) (made ts args _ (of_arguments (suc d) no_terms ts args s)))
+of_app d _ _ (make k ts args is s) = one _ _ _
+    (first k Make ts _ _ (means_app Make k is) (made ts args _ (of_arguments (suc d) no_terms ts args s)))
 of_app d _ _ (head ts t s) =
     let l = head_from d ts t s in
     other ts t _ (locate (λ at. Right (PlainP d) Argument d (plain_filled d) at) (start ts) ts t (head_nests d s)
-    (left_filled (PlainP d) Argument d (plain_filled d) (head_operands s) ts t (head_nests d s) l) refl (of_left (PlainP d) Argument d (plain_filled d) (head_operands s) ts t (head_nests d s) l))
+    (left_filled (PlainP d) Argument d (plain_filled d) (head_operands s) ts t (head_nests d s) l) refl
+    (of_left (PlainP d) Argument d (plain_filled d) (head_operands s) ts t (head_nests d s) l))
 
 pub app_from : (d : ℕ) (ts : List Lexeme) (t : TermTree) (ns : List ℕ) → AppP d ts t ns → AppR d ts t ns
 app_from d ts t ns p = subst (AppR d ts t) p.1 (of_app d ts t p.0)

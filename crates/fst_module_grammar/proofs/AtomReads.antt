@@ -35,7 +35,16 @@ use Rattle.fst_type_syntax.proofs.Laws.{atom_begins as type_atom_begins, atom_op
 
 -- an atomic type is read where it isn't too deep
 sample_type_atom : (d n : ℕ) → (s : SomePhrase (TypeAtomP d)) × (start s.tokens ≡ n)
-sample_type_atom d n = (record { tokens = fixed (codes "Skip") n ∷ []; value = written.skip n; nests = d ∷ []; phrase = (skip (fixed (codes "Skip") n) (fixed_is (codes "Skip") n), refl) }, refl)
+sample_type_atom d n = (
+  record {
+    tokens = fixed (codes "Skip") n ∷ [];
+    value = written.skip n;
+    nests = d ∷ [];
+    phrase =
+        (skip (fixed (codes "Skip") n) (fixed_is (codes "Skip") n), refl);
+  },
+  refl,
+)
 
 pub reads_type_atom : (limit : ℕ) (es : Inside) (d : ℕ) → Fits limit es d → Reads limit (type_atom_with es) (TypeAtomP d) never
 unfolding type_atom_with
@@ -46,42 +55,70 @@ reads_type_atom limit [] d over =
     (λ us x ns p. ap length (sym p.1) ∙ type_atom_count d p.0)
 reads_type_atom limit (e ∷ es) d is =
     let n = length es in
-    reads_type_atom_with limit d (omega (arith, is)) (seq_at n) (type_at n) (reads_seq limit n (suc d) (omega (arith, is))) (reads_type limit n d (omega (arith, is)))
+    reads_type_atom_with limit d (omega (arith, is)) (seq_at n) (type_at n) (reads_seq limit n (suc d) (omega (arith, is)))
+    (reads_type limit n d (omega (arith, is)))
 
-pub reads_applied : (limit : ℕ) (e : Reader TermTree) (es : Inside) (d : ℕ) → Fits limit (e ∷ es) d → Reads limit (applied_with (e ∷ es)) (AppliedP d) at
+pub reads_applied : (limit : ℕ) (e : Reader TermTree) (es : Inside) (d : ℕ) → Fits limit (e ∷ es) d →
+    Reads limit (applied_with (e ∷ es)) (AppliedP d) at
 unfolding applied_with
 reads_applied limit e es d is =
     reads_as limit _ (Many (ArgumentR d)) (AppliedP d) at
     (reads_many limit (spells (codes "@")) _ (ArgumentR d) never at
-    (reads_first limit d (omega (arith, is)) (only (spells (codes "@"))) (words (codes "@")) (λ k. type_atom_with (e ∷ es)) (λ k. TypeAtomP d) never
+    (reads_first limit d (omega (arith, is)) (only (spells (codes "@"))) (words (codes "@")) (λ k. type_atom_with (e ∷ es))
+    (λ k. TypeAtomP d) never
     (λ k. reads_type_atom limit (e ∷ es) d is) (λ k. (sample_type_atom d 0).0))
     (λ us x ns p. begun us x ns p) (λ k ts is. refl) (λ rest stop. (refl, stop)))
     (applied_to d) (applied_from d)
   where
-    begun : (us : List Lexeme) (x : WrittenTree) (ns : List ℕ) → ArgumentR d us x ns → (k : Lexeme) × (v : List Lexeme) × (us ≡ k ∷ v) × (spells (codes "@") k ≡ true)
-    begun _ _ _ (phrase.pair _ _ ws _ _ _ _ ls (first k x _ _ _ e nothing) a parts nests) = (k, ws, parts, only_is (spells (codes "@")) k x e)
+    begun : (us : List Lexeme) (x : WrittenTree) (ns : List ℕ) → ArgumentR d us x ns → (k : Lexeme) × (v : List Lexeme) ×
+        (us ≡ k ∷ v) × (spells (codes "@") k ≡ true)
+    begun _ _ _ (phrase.pair _ _ ws _ _ _ _ ls (first k x _ _ _ e nothing) a parts nests) =
+        (k, ws, parts, only_is (spells (codes "@")) k x e)
 
 -- a term made up
 pub sample_atom : (d n : ℕ) → (s : SomePhrase (AtomP d)) × (start s.tokens ≡ n)
-sample_atom d n = (record { tokens = a_lower n ∷ []; value = term.named n [] []; nests = d ∷ []; phrase = (plain _ _ (named (a_lower n) [] [] refl none), refl) }, refl)
+sample_atom d n = (
+  record {
+    tokens = a_lower n ∷ [];
+    value = term.named n [] [];
+    nests = d ∷ [];
+    phrase =
+        (plain _ _ (named (a_lower n) [] [] refl none), refl);
+  },
+  refl,
+)
 
 pub sample_expr : (d n : ℕ) → (s : SomePhrase (ExprP d)) × (start s.tokens ≡ n)
 sample_expr d n =
-    let a = one_plain _ _ (named (a_lower n) [] [] refl none) in
-    (record { tokens = a_lower n ∷ []; value = term.named n [] []; nests = d ∷ []; phrase = (one_or _ _ (one_and _ _ (one_cmp _ _ (one_sum _ _ (one_prod _ _ (one_unary _ _ (one_app _ _ (head _ _ a))))))), refl) }, refl)
+    let a = one_plain _ _ (named (a_lower n) [] [] refl none) in (
+      record {
+        tokens = a_lower n ∷ [];
+        value = term.named n [] [];
+        nests = d ∷ [];
+        phrase = (
+          one_or _ _ (one_and _ _ (one_cmp _ _ (one_sum _ _ (one_prod _ _ (one_unary _ _ (one_app _ _ (head _ _ a))))))),
+          refl,
+        );
+      },
+      refl,
+    )
 
 pub expr_filled : (d : ℕ) (us : List Lexeme) (t : TermTree) (ns : List ℕ) → ExprP d us t ns → 0 < length us
 expr_filled d us t ns p = let b = expr_begins d p.0 in omega (arith, ap length b.3)
 
 -- what reads the terms inside, and what is known of it
-module _ (limit d : ℕ) (e : Reader TermTree) (es : Inside) (fits : Fits limit (e ∷ es) d) (r : Reads limit e (ExprP (suc d)) after_expr) where
+module _ (limit d : ℕ) (e : Reader TermTree) (es : Inside) (fits : Fits limit (e ∷ es) d)
+    (r : Reads limit e (ExprP (suc d)) after_expr) where
   low : d ≤ limit
   low = omega (arith, fits)
 
-  after_closed : (h : Unit {0} → TermTree) (us : List Lexeme) (y : TermTree) (ns : List ℕ) (rest : List Lexeme) → Mapped h (Word d (codes ")")) us y ns → after_expr (us ++ rest) ≡ false
-  after_closed h _ _ _ rest (made _ _ _ (first c x _ _ _ g nothing)) = ends_expr (codes ")") closes c rest (only_is (spells (codes ")")) c x g)
+  after_closed : (h : Unit {0} → TermTree) (us : List Lexeme) (y : TermTree) (ns : List ℕ) (rest : List Lexeme) →
+      Mapped h (Word d (codes ")")) us y ns → after_expr (us ++ rest) ≡ false
+  after_closed h _ _ _ rest (made _ _ _ (first c x _ _ _ g nothing)) =
+      ends_expr (codes ")") closes c rest (only_is (spells (codes ")")) c x g)
 
-  closing : (t : TermTree) → Reads limit (map_reader (λ c. t) (word (codes ")"))) (Mapped (λ (c : Unit {0}). t) (Word d (codes ")"))) never
+  closing : (t : TermTree) → Reads limit (map_reader (λ c. t) (word (codes ")")))
+      (Mapped (λ (c : Unit {0}). t) (Word d (codes ")"))) never
   closing t = reads_mapped limit (λ c. t) (word (codes ")")) (Word d (codes ")")) never (reads_word limit d low (codes ")"))
 
   some_closing : (t : TermTree) → SomePhrase (Mapped (λ (c : Unit {0}). t) (Word d (codes ")")))
@@ -90,24 +127,31 @@ module _ (limit d : ℕ) (e : Reader TermTree) (es : Inside) (fits : Fits limit 
   reads_pair : (k : Lexeme) (t : TermTree) → Reads limit (pair_with e k.at t) (PairR d k t) never
   unfolding pair_with
   reads_pair k t =
-      reads_then limit e _ (ExprP (suc d)) _ after_expr never r (λ u. closing (term.pair k.at t u)) (λ u. some_closing (term.pair k.at t u)) (expr_filled (suc d))
+      reads_then limit e _ (ExprP (suc d)) _ after_expr never r (λ u. closing (term.pair k.at t u))
+      (λ u. some_closing (term.pair k.at t u)) (expr_filled (suc d))
       (λ us x ns vs y ms rest q st. after_closed _ vs y ms rest q)
 
-  closed_free : (t : TermTree) (us : List Lexeme) (y : TermTree) (ns : List ℕ) (rest : List Lexeme) → Mapped (λ (c : Unit {0}). t) (Word d (codes ")")) us y ns → never rest ≡ false → begins (spells (codes ",")) (us ++ rest) ≡ false
-  closed_free t _ _ _ rest (made _ _ _ (first c x _ _ _ g nothing)) st = no_other (codes ")") (codes ",") c refl (only_is (spells (codes ")")) c x g)
+  closed_free : (t : TermTree) (us : List Lexeme) (y : TermTree) (ns : List ℕ) (rest : List Lexeme) → Mapped
+      (λ (c : Unit {0}). t) (Word d (codes ")")) us y ns → never rest ≡ false → begins (spells (codes ",")) (us ++ rest) ≡ false
+  closed_free t _ _ _ rest (made _ _ _ (first c x _ _ _ g nothing)) st =
+      no_other (codes ")") (codes ",") c refl (only_is (spells (codes ")")) c x g)
 
-  reads_closed : (k : Lexeme) (t : TermTree) → Reads limit (on (spells (codes ",")) (pair_with e k.at t) (map_reader (λ c. t) (word (codes ")")))) (ClosedR d k t) never
+  reads_closed : (k : Lexeme) (t : TermTree) → Reads limit
+      (on (spells (codes ",")) (pair_with e k.at t) (map_reader (λ c. t) (word (codes ")")))) (ClosedR d k t) never
   reads_closed k t = reads_on limit d low (spells (codes ",")) _ _ _ _ never (reads_pair k t) (closing t) (closed_free t)
 
-  after_behind : (k : Lexeme) (t : TermTree) (us : List Lexeme) (y : TermTree) (ns : List ℕ) (rest : List Lexeme) → ClosedR d k t us y ns → after_expr (us ++ rest) ≡ false
+  after_behind : (k : Lexeme) (t : TermTree) (us : List Lexeme) (y : TermTree) (ns : List ℕ) (rest : List Lexeme) →
+      ClosedR d k t us y ns → after_expr (us ++ rest) ≡ false
   after_behind k t _ _ _ rest (taken c ts _ _ is q) = ends_expr (codes ",") comma c (ts ++ rest) is
   after_behind k t _ _ _ rest (other us y ns q) = after_closed _ us y ns rest q
 
-  no_close : (k : Lexeme) (us : List Lexeme) (y : TermTree) (ns : List ℕ) (rest : List Lexeme) → Then (ExprP (suc d)) (ClosedR d k) us y ns → never rest ≡ false → begins (spells (codes ")")) (us ++ rest) ≡ false
+  no_close : (k : Lexeme) (us : List Lexeme) (y : TermTree) (ns : List ℕ) (rest : List Lexeme) →
+      Then (ExprP (suc d)) (ClosedR d k) us y ns → never rest ≡ false → begins (spells (codes ")")) (us ++ rest) ≡ false
   unfolding app_named atom_named expr_named choose
   no_close k _ _ _ rest (phrase.pair ts us vs t y ns ms ks q c parts nests) st =
       let b = expr_begins (suc d) q.0 in
-      let is : ts ++ rest ≡ b.0 ∷ (b.1 ++ vs ++ rest) = ap (λ (w : List Lexeme). w ++ rest) (parts ∙ ap (λ (w : List Lexeme). w ++ vs) b.3) in
+      let is : ts ++ rest ≡ b.0 ∷ (b.1 ++ vs ++ rest) = ap
+      (λ (w : List Lexeme). w ++ rest) (parts ∙ ap (λ (w : List Lexeme). w ++ vs) b.3) in
       ap (begins (spells (codes ")"))) is ∙ no_expr (codes ")") b.0 refl b.5
 
   reads_paren : (k : Lexeme) → Reads limit (paren_with e k.at) (ParenR d k) never
@@ -115,7 +159,13 @@ module _ (limit d : ℕ) (e : Reader TermTree) (es : Inside) (fits : Fits limit 
   reads_paren k =
       reads_on limit d low (spells (codes ")")) _ _ _ _ never (reads_give limit (term.unit k.at))
       (reads_then limit e _ (ExprP (suc d)) (ClosedR d k) after_expr never r (reads_closed k)
-      (λ t. let s = some_closing t in record { tokens = s.tokens; value = s.value; nests = s.nests; phrase = other _ _ _ s.phrase })
+      (λ t. let s = some_closing t in record {
+        tokens = s.tokens;
+        value = s.value;
+        nests = s.nests;
+        phrase =
+            other _ _ _ s.phrase;
+      })
       (expr_filled (suc d)) (λ us x ns vs y ms rest q st. after_behind k x vs y ms rest q))
       (no_close k)
 
@@ -124,7 +174,8 @@ module _ (limit d : ℕ) (e : Reader TermTree) (es : Inside) (fits : Fits limit 
   quiet f P q = reads_until limit f P never at q (λ ts st. refl)
 
   pub reads_begun : (s : AtomStart) (k : Lexeme) → Reads limit (begun_with e es s k) (BegunR d s k) at
-  reads_begun Name k = reads_mapped limit (term.named k.at k.text) (applied_with (e ∷ es)) (AppliedP d) at (reads_applied limit e es d fits)
+  reads_begun Name k = reads_mapped limit (term.named k.at k.text) (applied_with (e ∷ es))
+      (AppliedP d) at (reads_applied limit e es d fits)
   reads_begun Constructor k = quiet _ _ (reads_give limit (term.make k.at k.text no_terms))
   reads_begun (Number n) k = quiet _ _ (reads_give limit (term.int k.at n))
   reads_begun (Character c) k = quiet _ _ (reads_give limit (term.char k.at c))
@@ -142,4 +193,5 @@ module _ (limit d : ℕ) (e : Reader TermTree) (es : Inside) (fits : Fits limit 
 
   pub reads_one_atom : Reads limit (atom_with (e ∷ es)) (AtomP d) at
   unfolding atom_with
-  reads_one_atom = reads_as limit _ (AtomR d) (AtomP d) at (reads_switch limit d low atom_start (begun_with e es) (BegunR d) at reads_begun some_begun) (atom_to d) (atom_from d)
+  reads_one_atom = reads_as limit _ (AtomR d) (AtomP d)
+      at (reads_switch limit d low atom_start (begun_with e es) (BegunR d) at reads_begun some_begun) (atom_to d) (atom_from d)

@@ -14,15 +14,19 @@ abbrev pub StartsAtom : Lexeme → Type 0
 StartsAtom k = starts_atom k ≡ true
 
 -- the whole begins as its front does
-pub in_front : (Q : Lexeme → Type 0) (d : ℕ) (us vs all : List Lexeme) (ms ks ns : List ℕ) → BeginsWith Q d us ms → all ≡ us ++ vs → ns ≡ ms ++ ks → BeginsWith Q d all ns
-in_front Q d us vs all ms ks ns b parts numbers = (b.0, b.1 ++ vs, b.2 ++ ks, parts ∙ ap (λ (w : List Lexeme). w ++ vs) b.3, numbers ∙ ap (λ (w : List ℕ). w ++ ks) b.4, b.5)
+pub in_front : (Q : Lexeme → Type 0) (d : ℕ) (us vs all : List Lexeme) (ms ks ns : List ℕ) → BeginsWith Q d us ms →
+    all ≡ us ++ vs → ns ≡ ms ++ ks → BeginsWith Q d all ns
+in_front Q d us vs all ms ks ns b parts numbers =
+    (b.0, b.1 ++ vs, b.2 ++ ks, parts ∙ ap (λ (w : List Lexeme). w ++ vs) b.3, numbers ∙ ap (λ (w : List ℕ). w ++ ks) b.4, b.5)
 
 -- and so it does by what follows from it
-pub weaker : (Q R : Lexeme → Type 0) (d : ℕ) (ts : List Lexeme) (ns : List ℕ) → ((k : Lexeme) → Q k → R k) → BeginsWith Q d ts ns → BeginsWith R d ts ns
+pub weaker : (Q R : Lexeme → Type 0) (d : ℕ) (ts : List Lexeme) (ns : List ℕ) →
+    ((k : Lexeme) → Q k → R k) → BeginsWith Q d ts ns → BeginsWith R d ts ns
 weaker Q R d ts ns so b = (b.0, b.1, b.2, b.3, b.4, so b.0 b.5)
 
 pub plain_begins : (d : ℕ) {ts : List Lexeme} {t : TermTree} (s : IsPlain ts t) → BeginsWith StartsAtom d ts (plain_nests d s)
-plain_begins d s = let q = of_plain d _ _ s in (q.token, q.others, q.nests, q.parts, q.numbers, ap is_start (plain_atom q.begin q.token q.means))
+plain_begins d s = let q = of_plain d _ _ s in
+    (q.token, q.others, q.nests, q.parts, q.numbers, ap is_start (plain_atom q.begin q.token q.means))
 
 pub atom_begins : (d : ℕ) {ts : List Lexeme} {t : TermTree} (s : IsAtom ts t) → BeginsWith StartsAtom d ts (atom_nests d s)
 atom_begins d (constructor k is) = (k, [], [], refl, refl, ap is_start (means_atom Constructor k is))

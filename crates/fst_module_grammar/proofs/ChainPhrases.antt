@@ -66,13 +66,18 @@ HeadP d ts t ns = (s : IsHead ts t) × (head_nests d s ≡ ns)
 abbrev pub ProdLeft : ℕ → ℕ → Phrase TermTree
 ProdLeft d = Left (UnaryP d) (Step (operator (codes "*") op.Multiply) UnaryP) d
 
-pub prod_to : (d c : ℕ) (ts : List Lexeme) (t : TermTree) (ns : List ℕ) → ProdLeft d c ts t ns → (s : IsProd ts t) × (prod_nests d s ≡ ns) × (prod_operands s ≡ c)
+pub prod_to : (d c : ℕ) (ts : List Lexeme) (t : TermTree) (ns : List ℕ) → ProdLeft d c ts t ns → (s : IsProd ts t) ×
+    (prod_nests d s ≡ ns) × (prod_operands s ≡ c)
 prod_to d _ _ _ _ (head ts t ns p) = (one_unary ts t p.0, p.1, refl)
 prod_to d _ _ _ _ (more c ts us all t y ns ms all_nests l (first k o vs _ ks e (made _ u _ q)) parts nests) =
     let s = prod_to d c ts t ns l in
     let is = operator_is (codes "*") op.Multiply k o e in
-    subst (λ z. (s : IsProd all (term.operate (start ts) z t u)) × (prod_nests d s ≡ all_nests) × (prod_operands s ≡ suc c)) is.1
-    (more_prod ts vs all k t u s.0 is.0 q.0 parts, (let e2 : prod_nests d s.0 ++ (d + prod_operands s.0) ∷ unary_nests (d + prod_operands s.0) q.0 ≡ all_nests = rw (s.2, s.1, q.1) (sym nests) in e2), ap suc s.2)
+    subst (λ z. (s : IsProd all (term.operate (start ts) z t u)) × (prod_nests d s ≡ all_nests) × (prod_operands s ≡ suc c)) is.1 (
+      more_prod ts vs all k t u s.0 is.0 q.0 parts,
+      (let e2 : prod_nests d s.0 ++ (d + prod_operands s.0) ∷ unary_nests (d + prod_operands s.0) q.0 ≡ all_nests =
+          rw (s.2, s.1, q.1) (sym nests) in e2),
+      ap suc s.2,
+    )
 
 pub prod_from : (d : ℕ) (ts : List Lexeme) (t : TermTree) (s : IsProd ts t) → ProdLeft d (prod_operands s) ts t (prod_nests d s)
 prod_from d _ _ (one_unary ts t a) = head ts t (unary_nests d a) (a, refl)
@@ -85,13 +90,18 @@ prod_from d _ _ (more_prod ts us all k t u s is a parts) =
 abbrev pub AndLeft : ℕ → ℕ → Phrase TermTree
 AndLeft d = Left (CmpP d) (Step (operator (codes "&&") op.And) CmpP) d
 
-pub and_to : (d c : ℕ) (ts : List Lexeme) (t : TermTree) (ns : List ℕ) → AndLeft d c ts t ns → (s : IsAnd ts t) × (and_nests d s ≡ ns) × (and_operands s ≡ c)
+pub and_to : (d c : ℕ) (ts : List Lexeme) (t : TermTree) (ns : List ℕ) → AndLeft d c ts t ns → (s : IsAnd ts t) ×
+    (and_nests d s ≡ ns) × (and_operands s ≡ c)
 and_to d _ _ _ _ (head ts t ns p) = (one_cmp ts t p.0, p.1, refl)
 and_to d _ _ _ _ (more c ts us all t y ns ms all_nests l (first k o vs _ ks e (made _ u _ q)) parts nests) =
     let s = and_to d c ts t ns l in
     let is = operator_is (codes "&&") op.And k o e in
-    subst (λ z. (s : IsAnd all (term.operate (start ts) z t u)) × (and_nests d s ≡ all_nests) × (and_operands s ≡ suc c)) is.1
-    (more_and ts vs all k t u s.0 is.0 q.0 parts, (let e2 : and_nests d s.0 ++ (d + and_operands s.0) ∷ cmp_nests (d + and_operands s.0) q.0 ≡ all_nests = rw (s.2, s.1, q.1) (sym nests) in e2), ap suc s.2)
+    subst (λ z. (s : IsAnd all (term.operate (start ts) z t u)) × (and_nests d s ≡ all_nests) × (and_operands s ≡ suc c)) is.1 (
+      more_and ts vs all k t u s.0 is.0 q.0 parts,
+      (let e2 : and_nests d s.0 ++ (d + and_operands s.0) ∷ cmp_nests (d + and_operands s.0) q.0 ≡ all_nests =
+          rw (s.2, s.1, q.1) (sym nests) in e2),
+      ap suc s.2,
+    )
 
 pub and_from : (d : ℕ) (ts : List Lexeme) (t : TermTree) (s : IsAnd ts t) → AndLeft d (and_operands s) ts t (and_nests d s)
 and_from d _ _ (one_cmp ts t a) = head ts t (cmp_nests d a) (a, refl)
@@ -104,13 +114,18 @@ and_from d _ _ (more_and ts us all k t u s is a parts) =
 abbrev pub OrLeft : ℕ → ℕ → Phrase TermTree
 OrLeft d = Left (AndP d) (Step (operator (codes "||") op.Or) AndP) d
 
-pub or_to : (d c : ℕ) (ts : List Lexeme) (t : TermTree) (ns : List ℕ) → OrLeft d c ts t ns → (s : IsOr ts t) × (or_nests d s ≡ ns) × (or_operands s ≡ c)
+pub or_to : (d c : ℕ) (ts : List Lexeme) (t : TermTree) (ns : List ℕ) → OrLeft d c ts t ns → (s : IsOr ts t) ×
+    (or_nests d s ≡ ns) × (or_operands s ≡ c)
 or_to d _ _ _ _ (head ts t ns p) = (one_and ts t p.0, p.1, refl)
 or_to d _ _ _ _ (more c ts us all t y ns ms all_nests l (first k o vs _ ks e (made _ u _ q)) parts nests) =
     let s = or_to d c ts t ns l in
     let is = operator_is (codes "||") op.Or k o e in
-    subst (λ z. (s : IsOr all (term.operate (start ts) z t u)) × (or_nests d s ≡ all_nests) × (or_operands s ≡ suc c)) is.1
-    (more_or ts vs all k t u s.0 is.0 q.0 parts, (let e2 : or_nests d s.0 ++ (d + or_operands s.0) ∷ and_nests (d + or_operands s.0) q.0 ≡ all_nests = rw (s.2, s.1, q.1) (sym nests) in e2), ap suc s.2)
+    subst (λ z. (s : IsOr all (term.operate (start ts) z t u)) × (or_nests d s ≡ all_nests) × (or_operands s ≡ suc c)) is.1 (
+      more_or ts vs all k t u s.0 is.0 q.0 parts,
+      (let e2 : or_nests d s.0 ++ (d + or_operands s.0) ∷ and_nests
+          (d + or_operands s.0) q.0 ≡ all_nests = rw (s.2, s.1, q.1) (sym nests) in e2),
+      ap suc s.2,
+    )
 
 pub or_from : (d : ℕ) (ts : List Lexeme) (t : TermTree) (s : IsOr ts t) → OrLeft d (or_operands s) ts t (or_nests d s)
 or_from d _ _ (one_and ts t a) = head ts t (and_nests d a) (a, refl)
@@ -127,7 +142,8 @@ addition_is k o e = by_plus (spells (codes "+") k) refl e
     by_minus true is g = let same : op.Subtract ≡ o = cc in subst (λ z. IsAddition k z) same (subtract k is)
     by_minus false is g = absurd cc
 
-    by_plus : (b : Bool) → spells (codes "+") k ≡ b → choose b (some_op op.Add) (choose (spells (codes "-") k) (some_op op.Subtract) None) ≡ Some o → IsAddition k o
+    by_plus : (b : Bool) → spells (codes "+") k ≡ b →
+        choose b (some_op op.Add) (choose (spells (codes "-") k) (some_op op.Subtract) None) ≡ Some o → IsAddition k o
     by_plus true is g = let same : op.Add ≡ o = cc in subst (λ z. IsAddition k z) same (add k is)
     by_plus false is g = by_minus (spells (codes "-") k) refl g
 
@@ -140,11 +156,16 @@ is_addition _ _ (subtract k is) = rw (no_other (codes "-") (codes "+") k refl is
 abbrev pub SumLeft : ℕ → ℕ → Phrase TermTree
 SumLeft d = Left (ProdP d) (Step addition ProdP) d
 
-pub sum_to : (d c : ℕ) (ts : List Lexeme) (t : TermTree) (ns : List ℕ) → SumLeft d c ts t ns → (s : IsSum ts t) × (sum_nests d s ≡ ns) × (sum_operands s ≡ c)
+pub sum_to : (d c : ℕ) (ts : List Lexeme) (t : TermTree) (ns : List ℕ) → SumLeft d c ts t ns → (s : IsSum ts t) ×
+    (sum_nests d s ≡ ns) × (sum_operands s ≡ c)
 sum_to d _ _ _ _ (head ts t ns p) = (one_prod ts t p.0, p.1, refl)
 sum_to d _ _ _ _ (more c ts us all t y ns ms all_nests l (first k o vs _ ks e (made _ u _ q)) parts nests) =
-    let s = sum_to d c ts t ns l in
-    (more_sum ts vs all k o t u s.0 (addition_is k o e) q.0 parts, (let e2 : sum_nests d s.0 ++ (d + sum_operands s.0) ∷ prod_nests (d + sum_operands s.0) q.0 ≡ all_nests = rw (s.2, s.1, q.1) (sym nests) in e2), ap suc s.2)
+    let s = sum_to d c ts t ns l in (
+      more_sum ts vs all k o t u s.0 (addition_is k o e) q.0 parts,
+      (let e2 : sum_nests d s.0 ++ (d + sum_operands s.0) ∷ prod_nests (d + sum_operands s.0) q.0 ≡ all_nests =
+          rw (s.2, s.1, q.1) (sym nests) in e2),
+      ap suc s.2,
+    )
 
 pub sum_from : (d : ℕ) (ts : List Lexeme) (t : TermTree) (s : IsSum ts t) → SumLeft d (sum_operands s) ts t (sum_nests d s)
 sum_from d _ _ (one_prod ts t a) = head ts t (prod_nests d a) (a, refl)
@@ -161,14 +182,20 @@ Argument at e t = Mapped (term.apply at t) (AtomP e)
 abbrev pub HeadLeft : ℕ → ℕ → Phrase TermTree
 HeadLeft d = Left (PlainP d) Argument d
 
-pub head_to : (d c : ℕ) (ts : List Lexeme) (t : TermTree) (ns : List ℕ) → HeadLeft d c ts t ns → (s : IsHead ts t) × (head_nests d s ≡ ns) × (head_operands s ≡ c)
+pub head_to : (d c : ℕ) (ts : List Lexeme) (t : TermTree) (ns : List ℕ) → HeadLeft d c ts t ns → (s : IsHead ts t) ×
+    (head_nests d s ≡ ns) × (head_operands s ≡ c)
 head_to d _ _ _ _ (head ts t ns p) = (one_plain ts t p.0, p.1, refl)
 head_to d _ _ _ _ (more c ts us all t y ns ms all_nests l (made _ u _ q) parts nests) =
-    let s = head_to d c ts t ns l in
-    (apply ts us all t u s.0 q.0 parts, (let e2 : head_nests d s.0 ++ atom_nests (d + head_operands s.0) q.0 ≡ all_nests = rw (s.2, s.1, q.1) (sym nests) in e2), ap suc s.2)
+    let s = head_to d c ts t ns l in (
+      apply ts us all t u s.0 q.0 parts,
+      (let e2 : head_nests d s.0 ++ atom_nests (d + head_operands s.0) q.0 ≡ all_nests =
+          rw (s.2, s.1, q.1) (sym nests) in e2),
+      ap suc s.2,
+    )
 
 pub head_from : (d : ℕ) (ts : List Lexeme) (t : TermTree) (s : IsHead ts t) → HeadLeft d (head_operands s) ts t (head_nests d s)
 head_from d _ _ (one_plain ts t a) = head ts t (plain_nests d a) (a, refl)
 head_from d _ _ (apply ts us all t u s a parts) =
     let e = d + head_operands s in
-    more (head_operands s) ts us all t _ (head_nests d s) (atom_nests e a) _ (head_from d ts t s) (made us u _ (a, refl)) parts refl
+    more (head_operands s) ts us all t _ (head_nests d s) (atom_nests e a) _ (head_from d ts t s)
+    (made us u _ (a, refl)) parts refl

@@ -19,7 +19,8 @@ MeansExpr Lambda k = Is (codes "\\") k
 MeansExpr Case k = Is (codes "case") k
 MeansExpr Match k = Is (codes "match") k
 
-expr_named_is : (k : Lexeme) (s : ExprStart) → (k.kind ≡ kind.Reserved) ⊎ (k.kind ≡ kind.Sign) → expr_named k.text ≡ Some s → MeansExpr s k
+expr_named_is : (k : Lexeme) (s : ExprStart) → (k.kind ≡ kind.Reserved) ⊎
+    (k.kind ≡ kind.Sign) → expr_named k.text ≡ Some s → MeansExpr s k
 unfolding expr_named
 expr_named_is k s f e = elim (chosen _ _ _ _ e) [
   | inl h ↦ subst (λ z. MeansExpr z k) (some_is Let s h.1) (spelled_so k.kind (codes "let") k.text h.0 f)

@@ -29,11 +29,13 @@ bind_one (further_match l x a m ts us all t arms is name arrow d comma f parts) 
 mutual
   pub expr_filled : {ts : List Lexeme} {t : TermTree} → IsExpr ts t → IsFilled t
   expr_filled (let_in k x e i ts us all t u is name equals d of_in f parts) = (expr_filled d, expr_filled f)
-  expr_filled (split k o x m y c e i ts us all t u is opens left comma right closes equals d of_in f parts) = (expr_filled d, expr_filled f)
+  expr_filled (split k o x m y c e i ts us all t u is opens left comma right closes equals d of_in f parts) =
+      (expr_filled d, expr_filled f)
   expr_filled (if_else k h e ts us vs all t u v is d then_is f else_is g parts) = (expr_filled d, expr_filled f, expr_filled g)
   expr_filled (lambda k x c ts ks us all t uses u is name colon s a d parts) = (seq_filled s, expr_filled d)
   expr_filled (case_of k f o c ts us all t arms is d of_is opens a closes parts) = (some_case a, expr_filled d, cases_filled a)
-  expr_filled (match_with k w o c ts us all t arms is d with_is opens a closes parts) = (some_match a, bind_one a, expr_filled d, matches_filled a)
+  expr_filled (match_with k w o c ts us all t arms is d with_is opens a closes parts) =
+      (some_match a, bind_one a, expr_filled d, matches_filled a)
   expr_filled (one_or ts t d) = or_filled d
   expr_filled (seq ts us all k t u d is f parts) = (or_filled d, expr_filled f)
 

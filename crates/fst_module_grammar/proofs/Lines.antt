@@ -13,7 +13,8 @@ BeginsLine [] = Unit {0}
 BeginsLine (k ∷ ts) = k.first ≡ true
 
 -- the tokens of a line, and those of the lines behind it
-first_line : (k : Lined) (ts us vs : List Lined) (b : Bool) → ts ≡ us ++ vs → k ∷ ts ≡ choose b [] (k ∷ us) ++ choose b (k ∷ ts) vs
+first_line : (k : Lined) (ts us vs : List Lined) (b : Bool) → ts ≡ us ++ vs →
+    k ∷ ts ≡ choose b [] (k ∷ us) ++ choose b (k ∷ ts) vs
 unfolding choose
 first_line k ts us vs true e = refl
 first_line k ts us vs false e = ap (λ (w : List Lined). k ∷ w) e
@@ -77,7 +78,14 @@ cut (c ∷ ts) (k ∷ a) b e =
     let head : c.lexeme ≡ k = cc in
     let tail : lexemes_of ts ≡ a ++ b = cc in
     let o = cut ts a b tail in
-    record { front = c ∷ o.front; back = o.back; parts = ap (λ (w : List Lined). c ∷ w) o.parts; front_is = let same = o.front_is in cc; back_is = o.back_is }
+    record {
+      front = c ∷ o.front;
+      back = o.back;
+      parts = ap (λ (w : List Lined). c ∷ w) o.parts;
+      front_is = let same =
+          o.front_is in cc;
+      back_is = o.back_is;
+    }
 
 pub unlined_length : (ts : List Lined) → length (lexemes_of ts) ≡ length ts
 unlined_length [] = refl

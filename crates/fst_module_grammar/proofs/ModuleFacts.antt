@@ -12,11 +12,22 @@ use Rattle.fst_module_grammar.proofs.Filled.{module_filled}
 use Rattle.fst_module_grammar.proofs.Few.{module_few}
 
 -- it is filled
-pub read_filled : (text : List ℕ) (tokens : List Token) (ds : List Declared) → AnswersModule text tokens (Ok ds) → IsModuleFilled ds
+pub read_filled : (text : List ℕ) (tokens : List Token) (ds : List Declared) → AnswersModule text tokens (Ok ds) →
+    IsModuleFilled ds
 read_filled text tokens ds a = module_filled a.0.phrase.0
 
 -- it has few parts, since a text has few tokens
-pub read_few : (text : List ℕ) (tokens : List Token) (ds : List Declared) → HaveSpans text tokens → length text ≤ most_bytes → AnswersModule text tokens (Ok ds) → module_count ds < part_limit
+pub read_few : (text : List ℕ) (tokens : List Token) (ds : List Declared) → HaveSpans text tokens → length text ≤ most_bytes →
+    AnswersModule text tokens (Ok ds) → module_count ds < part_limit
 read_few text tokens ds spans size a =
     let count = module_few a.0.phrase.0 in
-    omega (arith, count, spans.few, size, ap length a.0.parts, length-append a.0.tokens [], length-map (take (length tokens - 1) tokens) (line_lexeme text), length-take-le (length tokens - 1) tokens (omega arith))
+    omega (
+      arith,
+      count,
+      spans.few,
+      size,
+      ap length a.0.parts,
+      length-append a.0.tokens [],
+      length-map (take (length tokens - 1) tokens) (line_lexeme text),
+      length-take-le (length tokens - 1) tokens (omega arith),
+    )

@@ -46,45 +46,62 @@ opens_no_unary : (k : Lexeme) → StartsUnary k → opens_expr k ≡ false
 opens_no_unary k is = by_test (opens_expr k) refl
   where
     by_test : (b : Bool) → opens_expr k ≡ b → opens_expr k ≡ false
-    by_test true e = let s = expr_of (expr_start k) e in let both = sym is ∙ means_no_unary s.0 k (expr_means k s.0 s.1) in absurd cc
+    by_test true e = let s = expr_of (expr_start k) e in let both = sym is ∙ means_no_unary s.0 k (expr_means k s.0 s.1) in
+        absurd cc
     by_test false e = e
 
 -- a term that begins with an operand
 module _ (limit d : ℕ) (e : Reader TermTree) (es : Inside) (good : Good limit (e ∷ es)) (fits : Fits limit (e ∷ es) d) where
-  behind_or : (n : ℕ) (t : TermTree) (us : List Lexeme) (y : TermTree) (ns : List ℕ) (rest : List Lexeme) → BehindR d n t us y ns → after_expr rest ≡ false → after_or (us ++ rest) ≡ false
+  behind_or : (n : ℕ) (t : TermTree) (us : List Lexeme) (y : TermTree) (ns : List ℕ) (rest : List Lexeme) →
+      BehindR d n t us y ns → after_expr rest ≡ false → after_or (us ++ rest) ≡ false
   unfolding operator addition comparison atom_named choose
   behind_or n t _ _ _ rest (taken k us y ns is q) st = or_fixed (codes ";") k (us ++ rest) is
   behind_or n t _ _ _ rest (other _ _ _ nothing) st = (or_parts _ _ st).0
 
-  then_filled : (n : ℕ) (us : List Lexeme) (y : TermTree) (ns : List ℕ) → phrase.Then (OrP d) (λ (t : TermTree). BehindR d n t) us y ns → 0 < length us
-  then_filled n _ _ _ (phrase.pair ts us vs t y ns ms ks p q parts nests) = omega (arith, or_filled d us t ms p, ap length parts, length-append us vs)
+  then_filled : (n : ℕ) (us : List Lexeme) (y : TermTree) (ns : List ℕ) → phrase.Then (OrP d)
+      (λ (t : TermTree). BehindR d n t) us y ns → 0 < length us
+  then_filled n _ _ _ (phrase.pair ts us vs t y ns ms ks p q parts nests) =
+      omega (arith, or_filled d us t ms p, ap length parts, length-append us vs)
 
   reads_operand : Reads limit (then_with e es) (ThenR d) after_expr
   unfolding then_with
   reads_operand =
       reads_located limit _ _ after_expr
-      (λ n. reads_then limit (or_with (e ∷ es)) _ (OrP d) (λ (t : TermTree). BehindR d n t) after_or after_expr (reads_or limit (e ∷ es) d good fits)
-      (λ t. reads_behind_or limit d (length es) fits e (good.0 d fits) n t) (λ t. record { tokens = []; value = t; nests = []; phrase = other _ _ _ nothing }) (or_filled d)
+      (λ n. reads_then limit (or_with (e ∷ es)) _ (OrP d)
+      (λ (t : TermTree). BehindR d n t) after_or after_expr (reads_or limit (e ∷ es) d good fits)
+      (λ t. reads_behind_or limit d (length es) fits e (good.0 d fits) n t)
+      (λ t. record { tokens = []; value = t; nests = []; phrase = other _ _ _ nothing }) (or_filled d)
       (λ us x ns vs y ms rest q st. behind_or n x vs y ms rest q st))
       then_filled
 
-  operand_free : (us : List Lexeme) (x : TermTree) (ns : List ℕ) (rest : List Lexeme) → ThenR d us x ns → after_expr rest ≡ false → begins opens_expr (us ++ rest) ≡ false
+  operand_free : (us : List Lexeme) (x : TermTree) (ns : List ℕ) (rest : List Lexeme) → ThenR d us x ns →
+      after_expr rest ≡ false → begins opens_expr (us ++ rest) ≡ false
   operand_free _ _ _ rest (at k ts t ns (phrase.pair _ us vs x y _ ms ks p q parts nests)) st =
       let b = or_begins d p.0 in
-      ap (λ (w : List Lexeme). begins opens_expr (w ++ rest)) (parts ∙ ap (λ (w : List Lexeme). w ++ vs) b.3) ∙ opens_no_unary b.0 b.5
+      ap (λ (w : List Lexeme). begins opens_expr (w ++ rest)) (parts ∙ ap (λ (w : List Lexeme). w ++ vs) b.3)
+      ∙ opens_no_unary b.0 b.5
 
-  begun_open : (us : List Lexeme) (x : TermTree) (ns : List ℕ) (rest : List Lexeme) → Switch d expr_start (BegunR d) us x ns → begins opens_expr (us ++ rest) ≡ true
+  begun_open : (us : List Lexeme) (x : TermTree) (ns : List ℕ) (rest : List Lexeme) → Switch d expr_start (BegunR d) us x ns →
+      begins opens_expr (us ++ rest) ≡ true
   begun_open _ _ _ rest (first k s ts x ns g q) = ap is_expr_start g
 
   some_if : (n : ℕ) → Sample expr_start (BegunR d) n
-  some_if n = record { token = fixed (codes "if") n; meaning = If; place_is = refl; is = means_expr If (fixed (codes "if") n) (fixed_is (codes "if") n); rest = sample_begun d If (fixed (codes "if") n) }
+  some_if n = record {
+    token = fixed (codes "if") n;
+    meaning = If;
+    place_is = refl;
+    is =
+        means_expr If (fixed (codes "if") n) (fixed_is (codes "if") n);
+    rest = sample_begun d If (fixed (codes "if") n);
+  }
 
   reads_one_expr : Reads limit (expr_with (e ∷ es)) (ExprP d) after_expr
   unfolding expr_with
   reads_one_expr =
       reads_as limit _ (ExprR d) (ExprP d) after_expr
       (reads_when limit opens_expr _ _ (Switch d expr_start (BegunR d)) (ThenR d) after_expr
-      (reads_switch limit d (omega (arith, fits)) expr_start (expr_begun_with e (length es)) (BegunR d) after_expr (λ s k. reads_begun limit d (length es) fits e (good.0 d fits) s k) some_if)
+      (reads_switch limit d (omega (arith, fits)) expr_start (expr_begun_with e (length es)) (BegunR d) after_expr
+      (λ s k. reads_begun limit d (length es) fits e (good.0 d fits) s k) some_if)
       reads_operand begun_open operand_free)
       (expr_to d) (expr_from d)
 
@@ -102,10 +119,22 @@ opens d k is = by_test (opens_expr k) refl is
     by_test true g e =
         let s = expr_of (expr_start k) g in
         let q = sample_begun d s.0 k in
-        record { others = q.tokens; value = q.value; nests = q.nests; phrase = expr_to d _ _ _ (phrase.one _ _ _ (first k s.0 q.tokens q.value q.nests s.1 q.phrase)) }
+        record {
+          others = q.tokens;
+          value = q.value;
+          nests = q.nests;
+          phrase =
+              expr_to d _ _ _ (phrase.one _ _ _ (first k s.0 q.tokens q.value q.nests s.1 q.phrase));
+        }
     by_test false g e =
         let o = opens_unary d k e in
-        record { others = o.0; value = o.1; nests = o.2; phrase = (one_or _ _ (one_and _ _ (one_cmp _ _ (one_sum _ _ (one_prod _ _ (one_unary _ _ o.3.0))))), o.3.1) }
+        record {
+          others = o.0;
+          value = o.1;
+          nests = o.2;
+          phrase =
+              (one_or _ _ (one_and _ _ (one_cmp _ _ (one_sum _ _ (one_prod _ _ (one_unary _ _ o.3.0))))), o.3.1);
+        }
 
 -- a term is read where it isn't too deep
 reads_expr : (limit : ℕ) (es : Inside) (d : ℕ) → Good limit es → Fits limit es d → Reads limit (expr_with es) (ExprP d) after_expr
@@ -121,7 +150,11 @@ reads_expr limit (e ∷ es) d good fits = reads_one_expr limit d e es good fits
 good_inside : (limit n : ℕ) → Good limit (inside n)
 unfolding inside
 good_inside limit zero = tt
-good_inside limit (suc n) = (λ d fits. reads_expr limit (inside n) (suc d) (good_inside limit n) (fits_next limit (expr_with (inside n)) (inside n) d fits), good_inside limit n)
+good_inside limit (suc n) = (
+  λ d fits. reads_expr limit (inside n) (suc d) (good_inside limit n)
+      (fits_next limit (expr_with (inside n)) (inside n) d fits),
+  good_inside limit n,
+)
 
 fits_inside : (limit n d : ℕ) → d + n ≡ suc limit → Fits limit (inside n) d
 unfolding inside

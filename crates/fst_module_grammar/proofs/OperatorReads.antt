@@ -34,20 +34,26 @@ abbrev pub UnaryR : ℕ → Phrase TermTree
 UnaryR d = Located (λ n. On d (spells (codes "not")) (Mapped (term.negate n) (UnaryP (suc d))) (AppP d))
 
 unary_read : (d : ℕ) (ts : List Lexeme) (t : TermTree) (ns : List ℕ) → UnaryR d ts t ns → UnaryP d ts t ns
-unary_read d _ _ _ (Located.at k _ _ _ (taken _ _ _ _ is (made ts t ns p))) = (negate k ts t is p.0, ap (λ (w : List ℕ). d ∷ w) p.1)
+unary_read d _ _ _ (Located.at k _ _ _ (taken _ _ _ _ is (made ts t ns p))) =
+    (negate k ts t is p.0, ap (λ (w : List ℕ). d ∷ w) p.1)
 unary_read d _ _ _ (Located.at k ts t ns (other _ _ _ p)) = (one_app (k ∷ ts) t p.0, p.1)
 
 of_unary : (d : ℕ) (ts : List Lexeme) (t : TermTree) (s : IsUnary ts t) → UnaryR d ts t (unary_nests d s)
 of_unary d _ _ (one_app ts t a) =
     let b = app_begins d a in
-    locate (λ n. On d (spells (codes "not")) (Mapped (term.negate n) (UnaryP (suc d))) (AppP d)) (start ts) ts t (app_nests d a) (omega (arith, ap length b.3)) refl (other ts t _ (a, refl))
+    locate (λ n. On d (spells (codes "not")) (Mapped (term.negate n) (UnaryP (suc d))) (AppP d)) (start ts) ts t (app_nests d a)
+    (omega (arith, ap length b.3)) refl (other ts t _ (a, refl))
 of_unary d _ _ (negate k ts t is s) = Located.at k ts _ _ (taken k ts _ _ is (made ts t (unary_nests (suc d) s) (s, refl)))
 
 read_unary : (d : ℕ) (ts : List Lexeme) (t : TermTree) (ns : List ℕ) → UnaryP d ts t ns → UnaryR d ts t ns
 read_unary d ts t ns p = subst (UnaryR d ts t) p.1 (of_unary d ts t p.0)
 
 pub sample_unary : (d n : ℕ) → (s : SomePhrase (UnaryP d)) × (start s.tokens ≡ n)
-sample_unary d n = let a = sample_app d n in (record { tokens = a.0.tokens; value = a.0.value; nests = a.0.nests; phrase = (one_app _ _ a.0.phrase.0, a.0.phrase.1) }, a.1)
+sample_unary d n = let a = sample_app d n in (
+  record
+      { tokens = a.0.tokens; value = a.0.value; nests = a.0.nests; phrase = (one_app _ _ a.0.phrase.0, a.0.phrase.1) },
+  a.1,
+)
 
 pub unary_filled : (d : ℕ) (us : List Lexeme) (t : TermTree) (ns : List ℕ) → UnaryP d us t ns → 0 < length us
 unary_filled d us t ns p = let b = unary_begins d p.0 in omega (arith, ap length b.3)
@@ -64,14 +70,22 @@ no_not k e = by_test (spells (codes "not") k) refl
     by_test true is = let both = sym e ∙ app_as_fixed (codes "not") k is in absurd cc
     by_test false is = is
 
-pub opens_unary : (d : ℕ) (k : Lexeme) → StartsUnary k → (others : List Lexeme) × (x : TermTree) × (ns : List ℕ) × UnaryP d (k ∷ others) x (d ∷ ns)
+pub opens_unary : (d : ℕ) (k : Lexeme) → StartsUnary k → (others : List Lexeme) × (x : TermTree) ×
+    (ns : List ℕ) × UnaryP d (k ∷ others) x (d ∷ ns)
 opens_unary d k is = by_test (spells (codes "not") k) refl is
   where
-    by_test : (b : Bool) → spells (codes "not") k ≡ b → b || starts_app k ≡ true → (others : List Lexeme) × (x : TermTree) × (ns : List ℕ) × UnaryP d (k ∷ others) x (d ∷ ns)
-    by_test true e g = let a = (sample_unary (suc d) 0).0 in (a.tokens, term.negate k.at a.value, a.nests, (negate k a.tokens a.value e a.phrase.0, ap (λ (w : List ℕ). d ∷ w) a.phrase.1))
+    by_test : (b : Bool) → spells (codes "not") k ≡ b → b || starts_app k ≡ true → (others : List Lexeme) × (x : TermTree) ×
+        (ns : List ℕ) × UnaryP d (k ∷ others) x (d ∷ ns)
+    by_test true e g = let a = (sample_unary (suc d) 0).0 in (
+      a.tokens,
+      term.negate k.at a.value,
+      a.nests,
+      (negate k a.tokens a.value e a.phrase.0, ap (λ (w : List ℕ). d ∷ w) a.phrase.1),
+    )
     by_test false e g = let o = opens_as_app d k g in (o.others, o.value, o.nests, (one_app _ _ o.phrase.0, o.phrase.1))
 
-pub reads_unary : (limit : ℕ) (es : Inside) (d : ℕ) → Good limit es → Fits limit es d → Reads limit (unary_with es) (UnaryP d) after_app
+pub reads_unary : (limit : ℕ) (es : Inside) (d : ℕ) → Good limit es → Fits limit es d →
+    Reads limit (unary_with es) (UnaryP d) after_app
 unfolding unary_with
 reads_unary limit [] d good over =
     reads_shut limit starts_unary (UnaryP d) after_app (λ n. sample_unary d n)
@@ -81,16 +95,21 @@ reads_unary limit [] d good over =
 reads_unary limit (e ∷ es) d good fits =
     reads_as limit _ (UnaryR d) (UnaryP d) after_app
     (reads_located limit _ _ after_app
-    (λ n. reads_on limit d (omega (arith, fits)) (spells (codes "not")) _ _ (Mapped (term.negate n) (UnaryP (suc d))) (AppP d) after_app
-    (reads_mapped limit (term.negate n) (unary_with es) (UnaryP (suc d)) after_app (reads_unary limit es (suc d) good.1 (fits_next limit e es d fits)))
+    (λ n. reads_on limit d (omega (arith, fits)) (spells (codes "not")) _ _ (Mapped (term.negate n) (UnaryP (suc d)))
+    (AppP d) after_app
+    (reads_mapped limit (term.negate n) (unary_with es) (UnaryP (suc d)) after_app
+    (reads_unary limit es (suc d) good.1 (fits_next limit e es d fits)))
     (reads_app limit (e ∷ es) d good fits) free)
     filled)
     (unary_read d) (read_unary d)
   where
-    free : (us : List Lexeme) (x : TermTree) (ns : List ℕ) (rest : List Lexeme) → AppP d us x ns → after_app rest ≡ false → begins (spells (codes "not")) (us ++ rest) ≡ false
-    free us x ns rest p st = let b = app_begins d p.0 in ap (λ (w : List Lexeme). begins (spells (codes "not")) (w ++ rest)) b.3 ∙ no_not b.0 b.5
+    free : (us : List Lexeme) (x : TermTree) (ns : List ℕ) (rest : List Lexeme) → AppP d us x ns → after_app rest ≡ false →
+        begins (spells (codes "not")) (us ++ rest) ≡ false
+    free us x ns rest p st = let b = app_begins d p.0 in ap (λ (w : List Lexeme). begins (spells (codes "not")) (w ++ rest)) b.3
+        ∙ no_not b.0 b.5
 
-    filled : (n : ℕ) (us : List Lexeme) (x : TermTree) (ns : List ℕ) → On d (spells (codes "not")) (Mapped (term.negate n) (UnaryP (suc d))) (AppP d) us x ns → 0 < length us
+    filled : (n : ℕ) (us : List Lexeme) (x : TermTree) (ns : List ℕ) →
+        On d (spells (codes "not")) (Mapped (term.negate n) (UnaryP (suc d))) (AppP d) us x ns → 0 < length us
     filled n _ _ _ (taken k ts x ns is p) = omega arith
     filled n _ _ _ (other us x ns p) = let b = app_begins d p.0 in omega (arith, ap length b.3)
 
@@ -108,15 +127,21 @@ star_ends : (k : Lexeme) (ts : List Lexeme) → is_op (operator (codes "*") op.M
 unfolding atom_named choose
 star_ends k ts e = app_fixed (codes "*") k ts (operator_word (codes "*") op.Multiply k e)
 
-pub reads_prod : (limit : ℕ) (es : Inside) (d : ℕ) → Good limit es → Fits limit es d → Reads limit (prod_with es) (ProdP d) after_prod
+pub reads_prod : (limit : ℕ) (es : Inside) (d : ℕ) → Good limit es → Fits limit es d →
+    Reads limit (prod_with es) (ProdP d) after_prod
 reads_prod limit =
-    reads_chain_as limit (operator (codes "*") op.Multiply) unary_with UnaryP after_app after_prod (Good limit) tt (λ e es g. g.1) (λ es d. reads_unary limit es d)
+    reads_chain_as limit (operator (codes "*") op.Multiply) unary_with UnaryP after_app after_prod (Good limit) tt (λ e es g. g.1)
+    (λ es d. reads_unary limit es d)
     sample_unary unary_filled unary_counted (operators (codes "*") op.Multiply) star_ends (λ rest st. or_parts _ _ st) ProdP
     (λ d c ts t ns l. let s = prod_to d c ts t ns l in (s.0, s.1))
     (λ d ts t ns p. (prod_operands p.0, subst (ProdLeft d (prod_operands p.0) ts t) p.1 (prod_from d ts t p.0)))
 
 pub sample_prod : (d n : ℕ) → (s : SomePhrase (ProdP d)) × (start s.tokens ≡ n)
-sample_prod d n = let a = sample_unary d n in (record { tokens = a.0.tokens; value = a.0.value; nests = a.0.nests; phrase = (one_unary _ _ a.0.phrase.0, a.0.phrase.1) }, a.1)
+sample_prod d n = let a = sample_unary d n in (
+  record
+      { tokens = a.0.tokens; value = a.0.value; nests = a.0.nests; phrase = (one_unary _ _ a.0.phrase.0, a.0.phrase.1) },
+  a.1,
+)
 
 plus_ends : (k : Lexeme) (ts : List Lexeme) → is_op (addition k) ≡ true → after_prod (k ∷ ts) ≡ false
 unfolding operator atom_named choose
@@ -128,8 +153,16 @@ plus_ends k ts e = let x = op_of (addition k) e in by_op (addition_is k x.0 x.1)
 
 pub reads_sum : (limit : ℕ) (es : Inside) (d : ℕ) → Good limit es → Fits limit es d → Reads limit (sum_with es) (SumP d) after_sum
 reads_sum limit =
-    reads_chain_as limit addition prod_with ProdP after_prod after_sum (Good limit) tt (λ e es g. g.1) (λ es d. reads_prod limit es d)
-    sample_prod (λ d us t ns p. let b = prod_begins d p.0 in omega (arith, ap length b.3)) (λ d us t ns p. ap length (sym p.1) ∙ prod_count d p.0)
-    (λ n. (fixed (codes "+") n, op.Add, refl, is_addition (fixed (codes "+") n) op.Add (add (fixed (codes "+") n) (fixed_is (codes "+") n)))) plus_ends (λ rest st. or_parts _ _ st) SumP
+    reads_chain_as limit addition prod_with ProdP after_prod after_sum (Good limit) tt (λ e es g. g.1)
+    (λ es d. reads_prod limit es d)
+    sample_prod (λ d us t ns p. let b = prod_begins d p.0 in omega (arith, ap length b.3))
+    (λ d us t ns p. ap length (sym p.1) ∙ prod_count d p.0)
+    (λ n. (
+      fixed (codes "+") n,
+      op.Add,
+      refl,
+      is_addition (fixed (codes "+") n) op.Add
+          (add (fixed (codes "+") n) (fixed_is (codes "+") n)),
+    )) plus_ends (λ rest st. or_parts _ _ st) SumP
     (λ d c ts t ns l. let s = sum_to d c ts t ns l in (s.0, s.1))
     (λ d ts t ns p. (sum_operands p.0, subst (SumLeft d (sum_operands p.0) ts t) p.1 (sum_from d ts t p.0)))

@@ -26,19 +26,38 @@ use Rattle.fst_module_grammar.proofs.ArmPhrases.{ArrowP, BodyR, then_body, CaseA
 use Rattle.fst_module_grammar.proofs.ExprPhrases.{BetweenR, InR, EqualsR, SecondR, ElseR, ResultR, ParameterR, ClosedR, ArmsR, CasesR, MatchesR, BegunR}
 
 pub sample_arrow : (d : ℕ) → SomePhrase (ArrowP d)
-sample_arrow d = record { tokens = fixed (codes "->") 0 ∷ []; value = how.Many; nests = d ∷ []; phrase = (many (fixed (codes "->") 0) (fixed_is (codes "->") 0), refl) }
+sample_arrow d = record {
+  tokens = fixed (codes "->") 0 ∷ [];
+  value = how.Many;
+  nests = d ∷ [];
+  phrase =
+      (many (fixed (codes "->") 0) (fixed_is (codes "->") 0), refl);
+}
 
 pub sample_lower : (d : ℕ) → SomePhrase (One d lower_of)
-sample_lower d = record { tokens = a_lower 0 ∷ []; value = a_lower 0; nests = d ∷ []; phrase = first (a_lower 0) (a_lower 0) [] (a_lower 0) [] refl nothing }
+sample_lower d = record {
+  tokens = a_lower 0 ∷ [];
+  value = a_lower 0;
+  nests = d ∷ [];
+  phrase =
+      first (a_lower 0) (a_lower 0) [] (a_lower 0) [] refl nothing;
+}
 
 -- what a function makes of a term
 pub sample_term : {A : Type 0} (d : ℕ) (h : TermTree → A) → SomePhrase (Mapped h (ExprP (suc d)))
-sample_term d h = let s = (sample_expr (suc d) 0).0 in record { tokens = s.tokens; value = h s.value; nests = s.nests; phrase = made s.tokens s.value s.nests s.phrase }
+sample_term d h = let s = (sample_expr (suc d) 0).0 in
+    record { tokens = s.tokens; value = h s.value; nests = s.nests; phrase = made s.tokens s.value s.nests s.phrase }
 
 pub sample_body : (d : ℕ) (make : TermTree → Arm) → SomePhrase (BodyR d make)
 sample_body d make =
     let s = (sample_expr (suc d) 0).0 in
-    record { tokens = fixed (codes "->") 0 ∷ s.tokens; value = make s.value; nests = d ∷ s.nests; phrase = then_body d make (fixed (codes "->") 0) s.tokens s.value s.nests (fixed_is (codes "->") 0) s.phrase }
+    record {
+      tokens = fixed (codes "->") 0 ∷ s.tokens;
+      value = make s.value;
+      nests = d ∷ s.nests;
+      phrase =
+          then_body d make (fixed (codes "->") 0) s.tokens s.value s.nests (fixed_is (codes "->") 0) s.phrase;
+    }
 
 pub sample_case_arm : (d n : ℕ) → (s : SomePhrase (CaseArmR d)) × (0 < length s.tokens) × (start s.tokens ≡ n)
 sample_case_arm d n =
@@ -62,7 +81,8 @@ sample_match_arm d n =
         tokens = an_upper n ∷ a_lower 0 ∷ a ∷ s.tokens;
         value = (bound (an_upper n), (bound (a_lower 0) ∷ [], s.value));
         nests = d ∷ d ∷ d ∷ s.nests;
-        phrase = match_arm_from d (an_upper n) (a_lower 0) a s.tokens s.value s.nests refl refl (fixed_is (codes "->") 0) s.phrase;
+        phrase = match_arm_from d (an_upper n) (a_lower 0) a s.tokens s.value s.nests refl refl
+            (fixed_is (codes "->") 0) s.phrase;
       },
       omega arith,
       refl,
@@ -74,37 +94,52 @@ sample_closing d bs = sample_mapped (λ (c : Unit {0}). arms bs) (Word d (codes 
 -- arms, of which there is one
 module _ (d : ℕ) (F : Phrase Arm) (some : (n : ℕ) → (s : SomePhrase F) × (0 < length s.tokens) × (start s.tokens ≡ n)) where
   pub sample_list : SomePhrase (ListR d F)
-  sample_list = let a = some 0 in record { tokens = a.0.tokens; value = a.0.value ∷ []; nests = a.0.nests; phrase = phrase.last a.0.tokens a.0.value a.0.nests a.0.phrase }
+  sample_list = let a = some 0 in record {
+    tokens = a.0.tokens;
+    value = a.0.value ∷ [];
+    nests = a.0.nests;
+    phrase =
+        phrase.last a.0.tokens a.0.value a.0.nests a.0.phrase;
+  }
 
   sample_arms : (make : TermArms → TermTree) → SomePhrase (Mapped make (ArmsR d F))
   sample_arms make =
-      let s = sample_then (Word d (codes "{")) _ (sample_word d (codes "{")) (λ o. sample_then (ListR d F) _ sample_list (λ bs. sample_closing d bs)) in
+      let s = sample_then (Word d (codes "{")) _ (sample_word d (codes "{"))
+      (λ o. sample_then (ListR d F) _ sample_list (λ bs. sample_closing d bs)) in
       record { tokens = s.tokens; value = make s.value; nests = s.nests; phrase = made s.tokens s.value s.nests s.phrase }
 
 -- a term, and behind a word what follows
-pub sample_between : (d : ℕ) (w : List ℕ) (Q : TermTree → Phrase TermTree) → ((t : TermTree) → SomePhrase (Q t)) → SomePhrase (BetweenR d w Q)
-sample_between d w Q some = sample_then (ExprP (suc d)) _ (sample_expr (suc d) 0).0 (λ t. sample_then (Word d w) _ (sample_word d w) (λ u. some t))
+pub sample_between : (d : ℕ) (w : List ℕ) (Q : TermTree → Phrase TermTree) →
+    ((t : TermTree) → SomePhrase (Q t)) → SomePhrase (BetweenR d w Q)
+sample_between d w Q some = sample_then (ExprP (suc d)) _ (sample_expr (suc d) 0).0
+    (λ t. sample_then (Word d w) _ (sample_word d w) (λ u. some t))
 
 pub sample_in : (d : ℕ) (make : TermTree → TermTree → TermTree) → SomePhrase (InR d make)
 sample_in d make = sample_between d (codes "in") (λ t. Mapped (make t) (ExprP (suc d))) (λ t. sample_term d (make t))
 
-pub sample_bound : (d : ℕ) (k x : Lexeme) → SomePhrase (phrase.Then (Word d (codes "=")) (λ (u : Unit {0}). InR d (term.let_in k.at (bound x))))
-sample_bound d k x = sample_then (Word d (codes "=")) _ (sample_word d (codes "=")) (λ u. sample_in d (term.let_in k.at (bound x)))
+pub sample_bound : (d : ℕ) (k x : Lexeme) → SomePhrase
+    (phrase.Then (Word d (codes "=")) (λ (u : Unit {0}). InR d (term.let_in k.at (bound x))))
+sample_bound d k x = sample_then (Word d (codes "=")) _ (sample_word d (codes "="))
+    (λ u. sample_in d (term.let_in k.at (bound x)))
 
 pub sample_equals : (d : ℕ) (k x y : Lexeme) → SomePhrase (EqualsR d k x y)
-sample_equals d k x y = sample_then (Word d (codes ")")) _ (sample_word d (codes ")")) (λ u. sample_then (Word d (codes "=")) _ (sample_word d (codes "=")) (λ v. sample_in d (term.split k.at (bound x) (bound y))))
+sample_equals d k x y = sample_then (Word d (codes ")")) _ (sample_word d (codes ")"))
+    (λ u. sample_then (Word d (codes "=")) _ (sample_word d (codes "=")) (λ v. sample_in d (term.split k.at (bound x) (bound y))))
 
 pub sample_second : (d : ℕ) (k x : Lexeme) → SomePhrase (SecondR d k x)
-sample_second d k x = sample_then (Word d (codes ",")) _ (sample_word d (codes ",")) (λ u. sample_then (One d lower_of) _ (sample_lower d) (λ y. sample_equals d k x y))
+sample_second d k x = sample_then (Word d (codes ",")) _ (sample_word d (codes ","))
+    (λ u. sample_then (One d lower_of) _ (sample_lower d) (λ y. sample_equals d k x y))
 
 pub sample_else : (d : ℕ) (k : Lexeme) (t : TermTree) → SomePhrase (ElseR d k t)
-sample_else d k t = sample_between d (codes "else") (λ u. Mapped (term.if_else k.at t u) (ExprP (suc d))) (λ u. sample_term d (term.if_else k.at t u))
+sample_else d k t = sample_between d (codes "else") (λ u. Mapped (term.if_else k.at t u) (ExprP (suc d)))
+    (λ u. sample_term d (term.if_else k.at t u))
 
 pub sample_result : (d : ℕ) (k x : Lexeme) (t : WrittenTree) → SomePhrase (ResultR d k x t)
 sample_result d k x t = sample_then (ArrowP d) _ (sample_arrow d) (λ uses. sample_term d (term.lambda k.at uses t (bound x)))
 
 pub sample_parameter : (d : ℕ) (k x : Lexeme) → SomePhrase (ParameterR d k x)
-sample_parameter d k x = sample_then (Word d (codes ":")) _ (sample_word d (codes ":")) (λ c. sample_then (SeqPhrase (suc d)) _ (sample_seq (suc d) 0) (λ t. sample_result d k x t))
+sample_parameter d k x = sample_then (Word d (codes ":")) _ (sample_word d (codes ":"))
+    (λ c. sample_then (SeqPhrase (suc d)) _ (sample_seq (suc d) 0) (λ t. sample_result d k x t))
 
 pub sample_cases : (d : ℕ) (k : Lexeme) (t : TermTree) → SomePhrase (CasesR d k t)
 sample_cases d k t = sample_arms d (CaseArmR d) (sample_case_arm d) (term.case_of k.at t)

@@ -62,35 +62,47 @@ unary_begins d (negate k ts t is s) = (k, ts, _, refl, refl, or_left _ _ is)
 
 pub prod_begins : (d : ℕ) {ts : List Lexeme} {t : TermTree} (s : IsProd ts t) → BeginsWith StartsUnary d ts (prod_nests d s)
 prod_begins d (one_unary ts t a) = unary_begins d a
-prod_begins d (more_prod ts us all k t u s is a parts) = in_front StartsUnary d ts (k ∷ us) all (prod_nests d s) _ _ (prod_begins d s) parts refl
+prod_begins d (more_prod ts us all k t u s is a parts) =
+    in_front StartsUnary d ts (k ∷ us) all (prod_nests d s) _ _ (prod_begins d s) parts refl
 
 pub sum_begins : (d : ℕ) {ts : List Lexeme} {t : TermTree} (s : IsSum ts t) → BeginsWith StartsUnary d ts (sum_nests d s)
 sum_begins d (one_prod ts t a) = prod_begins d a
-sum_begins d (more_sum ts us all k o t u s is a parts) = in_front StartsUnary d ts (k ∷ us) all (sum_nests d s) _ _ (sum_begins d s) parts refl
+sum_begins d (more_sum ts us all k o t u s is a parts) =
+    in_front StartsUnary d ts (k ∷ us) all (sum_nests d s) _ _ (sum_begins d s) parts refl
 
 pub cmp_begins : (d : ℕ) {ts : List Lexeme} {t : TermTree} (s : IsCmp ts t) → BeginsWith StartsUnary d ts (cmp_nests d s)
 cmp_begins d (one_sum ts t a) = sum_begins d a
-cmp_begins d (compare ts us all k o t u s is a parts) = in_front StartsUnary d ts (k ∷ us) all (sum_nests d s) _ _ (sum_begins d s) parts refl
+cmp_begins d (compare ts us all k o t u s is a parts) =
+    in_front StartsUnary d ts (k ∷ us) all (sum_nests d s) _ _ (sum_begins d s) parts refl
 
 pub and_begins : (d : ℕ) {ts : List Lexeme} {t : TermTree} (s : IsAnd ts t) → BeginsWith StartsUnary d ts (and_nests d s)
 and_begins d (one_cmp ts t a) = cmp_begins d a
-and_begins d (more_and ts us all k t u s is a parts) = in_front StartsUnary d ts (k ∷ us) all (and_nests d s) _ _ (and_begins d s) parts refl
+and_begins d (more_and ts us all k t u s is a parts) =
+    in_front StartsUnary d ts (k ∷ us) all (and_nests d s) _ _ (and_begins d s) parts refl
 
 pub or_begins : (d : ℕ) {ts : List Lexeme} {t : TermTree} (s : IsOr ts t) → BeginsWith StartsUnary d ts (or_nests d s)
 or_begins d (one_and ts t a) = and_begins d a
-or_begins d (more_or ts us all k t u s is a parts) = in_front StartsUnary d ts (k ∷ us) all (or_nests d s) _ _ (or_begins d s) parts refl
+or_begins d (more_or ts us all k t u s is a parts) =
+    in_front StartsUnary d ts (k ∷ us) all (or_nests d s) _ _ (or_begins d s) parts refl
 
 pub expr_begins : (d : ℕ) {ts : List Lexeme} {t : TermTree} (s : IsExpr ts t) → BeginsWith StartsExpr d ts (expr_nests d s)
 unfolding expr_named choose
-expr_begins d (let_in k x e i ts us all t u is name equals s of_in f parts) = (k, _, _, parts, refl, expr_as_fixed (codes "let") k is)
-expr_begins d (split k o x m y c e i ts us all t u is opens left comma right closes equals s of_in f parts) = (k, _, _, parts, refl, expr_as_fixed (codes "let") k is)
-expr_begins d (if_else k h e ts us vs all t u v is s then_is f else_is g parts) = (k, _, _, parts, refl, expr_as_fixed (codes "if") k is)
-expr_begins d (lambda k x c ts ks us all t uses u is name colon s a f parts) = (k, _, _, parts, refl, expr_as_fixed (codes "\\") k is)
-expr_begins d (case_of k f o c ts us all t arms is s of_is opens a closes parts) = (k, _, _, parts, refl, expr_as_fixed (codes "case") k is)
-expr_begins d (match_with k w o c ts us all t arms is s with_is opens a closes parts) = (k, _, _, parts, refl, expr_as_fixed (codes "match") k is)
+expr_begins d (let_in k x e i ts us all t u is name equals s of_in f parts) =
+    (k, _, _, parts, refl, expr_as_fixed (codes "let") k is)
+expr_begins d (split k o x m y c e i ts us all t u is opens left comma right closes equals s of_in f parts) =
+    (k, _, _, parts, refl, expr_as_fixed (codes "let") k is)
+expr_begins d (if_else k h e ts us vs all t u v is s then_is f else_is g parts) =
+    (k, _, _, parts, refl, expr_as_fixed (codes "if") k is)
+expr_begins d (lambda k x c ts ks us all t uses u is name colon s a f parts) =
+    (k, _, _, parts, refl, expr_as_fixed (codes "\\") k is)
+expr_begins d (case_of k f o c ts us all t arms is s of_is opens a closes parts) =
+    (k, _, _, parts, refl, expr_as_fixed (codes "case") k is)
+expr_begins d (match_with k w o c ts us all t arms is s with_is opens a closes parts) =
+    (k, _, _, parts, refl, expr_as_fixed (codes "match") k is)
 expr_begins d (one_or ts t s) = weaker StartsUnary StartsExpr d ts _ (λ k e. or_right _ _ e) (or_begins d s)
 expr_begins d (seq ts us all k t u s is f parts) =
-    weaker StartsUnary StartsExpr d all _ (λ k e. or_right _ _ e) (in_front StartsUnary d ts (k ∷ us) all (or_nests d s) _ _ (or_begins d s) parts refl)
+    weaker StartsUnary StartsExpr d all _ (λ k e. or_right _ _ e)
+    (in_front StartsUnary d ts (k ∷ us) all (or_nests d s) _ _ (or_begins d s) parts refl)
 
 -- a word with which no term begins
 pub no_expr : (w : List ℕ) (k : Lexeme) → starts_expr (fixed w 0) ≡ false → StartsExpr k → spells w k ≡ false

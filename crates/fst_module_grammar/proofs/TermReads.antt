@@ -42,15 +42,56 @@ by_app : (d : ℕ) (k : Lexeme) (s : AppStart) → MeansApp s k → Opening d k
 by_app d k Send is =
     let a = (sample_atom (suc d) 0).0 in
     let b = (sample_atom (suc (suc d)) 0).0 in
-    record { others = a.tokens ++ b.tokens; value = term.send k.at a.value b.value; nests = a.nests ++ b.nests; phrase = (send k a.tokens b.tokens _ a.value b.value is a.phrase.0 b.phrase.0 refl, (let e : d ∷ atom_nests (suc d) a.phrase.0 ++ atom_nests (suc (suc d)) b.phrase.0 ≡ d ∷ a.nests ++ b.nests = rw (a.phrase.1, b.phrase.1) refl in e)) }
-by_app d k Receive is = let a = (sample_atom (suc d) 0).0 in record { others = a.tokens; value = term.receive k.at a.value; nests = a.nests; phrase = (receive k a.tokens a.value is a.phrase.0, ap (λ (w : List ℕ). d ∷ w) a.phrase.1) }
+    record {
+      others = a.tokens ++ b.tokens;
+      value = term.send k.at a.value b.value;
+      nests = a.nests ++ b.nests;
+      phrase = (
+        send k a.tokens b.tokens _ a.value b.value is a.phrase.0 b.phrase.0 refl,
+        (let e : d ∷ atom_nests (suc d) a.phrase.0 ++ atom_nests (suc (suc d)) b.phrase.0 ≡ d ∷ a.nests ++ b.nests =
+            rw (a.phrase.1, b.phrase.1) refl in e),
+      );
+    }
+by_app d k Receive is = let a = (sample_atom (suc d) 0).0 in
+    record {
+      others = a.tokens;
+      value = term.receive k.at a.value;
+      nests = a.nests;
+      phrase =
+          (receive k a.tokens a.value is a.phrase.0, ap (λ (w : List ℕ). d ∷ w) a.phrase.1);
+    }
 by_app d k Select is =
     let a = (sample_atom (suc (suc d)) 0).0 in
-    record { others = an_upper 0 ∷ a.tokens; value = term.select k.at [] a.value; nests = suc d ∷ a.nests; phrase = (select k (an_upper 0) a.tokens a.value is refl a.phrase.0, ap (λ (w : List ℕ). d ∷ suc d ∷ w) a.phrase.1) }
+    record {
+      others = an_upper 0 ∷ a.tokens;
+      value = term.select k.at [] a.value;
+      nests = suc d ∷ a.nests;
+      phrase =
+          (select k (an_upper 0) a.tokens a.value is refl a.phrase.0, ap (λ (w : List ℕ). d ∷ suc d ∷ w) a.phrase.1);
+    }
 by_app d k New is =
-    record { others = fixed (codes "Skip") 0 ∷ []; value = term.new k.at (written.skip 0); nests = suc d ∷ []; phrase = (new k _ (written.skip 0) is (skip (fixed (codes "Skip") 0) (fixed_is (codes "Skip") 0)), refl) }
-by_app d k Fork is = let a = (sample_atom (suc d) 0).0 in record { others = a.tokens; value = term.fork k.at a.value; nests = a.nests; phrase = (fork k a.tokens a.value is a.phrase.0, ap (λ (w : List ℕ). d ∷ w) a.phrase.1) }
-by_app d k Make is = record { others = []; value = term.make k.at k.text no_terms; nests = []; phrase = (make k [] no_terms is no_atoms, refl) }
+    record {
+      others = fixed (codes "Skip") 0 ∷ [];
+      value = term.new k.at (written.skip 0);
+      nests = suc d ∷ [];
+      phrase =
+          (new k _ (written.skip 0) is (skip (fixed (codes "Skip") 0) (fixed_is (codes "Skip") 0)), refl);
+    }
+by_app d k Fork is = let a = (sample_atom (suc d) 0).0 in
+    record {
+      others = a.tokens;
+      value = term.fork k.at a.value;
+      nests = a.nests;
+      phrase =
+          (fork k a.tokens a.value is a.phrase.0, ap (λ (w : List ℕ). d ∷ w) a.phrase.1);
+    }
+by_app d k Make is = record {
+  others = [];
+  value = term.make k.at k.text no_terms;
+  nests = [];
+  phrase =
+      (make k [] no_terms is no_atoms, refl);
+}
 
 by_plain : (d : ℕ) (k : Lexeme) (s : AtomStart) → MeansAtom s k → Opening d k
 by_plain d k Constructor is = by_app d k Make is
@@ -78,7 +119,16 @@ opens_as_app d k is = by_test (opens_app k) refl is
     by_test false e g = let s = atom_of (atom_start k) g in by_plain d k s.0 (atom_means k s.0 s.1)
 
 pub sample_app : (d n : ℕ) → (s : SomePhrase (AppP d)) × (start s.tokens ≡ n)
-sample_app d n = (record { tokens = a_lower n ∷ []; value = term.named n [] []; nests = d ∷ []; phrase = (head _ _ (one_plain _ _ (named (a_lower n) [] [] refl none)), refl) }, refl)
+sample_app d n = (
+  record {
+    tokens = a_lower n ∷ [];
+    value = term.named n [] [];
+    nests = d ∷ [];
+    phrase =
+        (head _ _ (one_plain _ _ (named (a_lower n) [] [] refl none)), refl);
+  },
+  refl,
+)
 
 -- an application is read where it isn't too deep
 pub reads_app : (limit : ℕ) (es : Inside) (d : ℕ) → Good limit es → Fits limit es d → Reads limit (app_with es) (AppP d) after_app

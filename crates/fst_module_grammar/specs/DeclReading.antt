@@ -37,7 +37,8 @@ alias_at n = do
 -- behind the colon of a signature
 unfoldable pub signature_at : ℕ → Binder → Reader Declared
 signature_at n x = on (spells (codes "forall"))
-    (sep_by (spells (codes ",")) binder_at >>= λ bs. word (codes ".") >>= λ d. map_reader (declared.signature x bs) (type_at n))
+    (sep_by (spells (codes ",")) binder_at >>= λ bs. word (codes ".") >>= λ d. map_reader
+    (declared.signature x bs) (type_at n))
     (map_reader (declared.signature x []) (type_at n))
 
 -- the parameters and the body of a global
@@ -50,7 +51,8 @@ equation_at n x = do
 -- a declaration, at most so deep
 unfoldable pub decl_at : ℕ → Reader Declared
 decl_at n = on (spells (codes "data")) (family_at n) (on (spells (codes "type")) (alias_at n)
-    (one lower_of >>= λ x. on (spells (codes ":")) (signature_at n (bound x)) (equation_at n (bound x))))
+    (one lower_of >>= λ x. on (spells (codes ":")) (signature_at n (bound x))
+    (equation_at n (bound x))))
 
 -- a declaration with nothing behind it
 unfoldable pub decl_whole : ℕ → Reader Declared

@@ -28,13 +28,20 @@ ModulePhrase ts ds ns = (s : IsModule ts ds) × (module_nests s ≡ ns)
 
 -- the tokens of the text are this module, or why they are none
 abbrev pub AnswersModule : List ℕ → List Token → Result (List Declared) SyntaxFault → Type 0
-AnswersModule text tokens (Ok ds) = BeginsWithinLimit most_nested ModulePhrase is_left (line_lexemes text tokens) ds []
-AnswersModule text tokens (Err e) = Refuses ModulePhrase is_left (line_place (length text)) (line_lexemes text tokens) e
+AnswersModule text tokens (Ok ds) =
+    BeginsWithinLimit most_nested ModulePhrase is_left (line_lexemes text tokens) ds []
+AnswersModule text tokens (Err e) =
+    Refuses ModulePhrase is_left (line_place (length text)) (line_lexemes text tokens) e
 
 -- a list of tokens is at most one module, a text has at most one answer, and a module is read where no token is too deep
 pub record OneModule : Type 0 where
-  pub one_module : (ts : List Lined) (ds es : List Declared) → IsModule ts ds → IsModule ts es → ds ≡ es
-  pub one_answer : (text : List ℕ) (tokens : List Token) (a b : Result (List Declared) SyntaxFault) →
-      a ≢ Err fault.Memory → b ≢ Err fault.Memory → AnswersModule text tokens a → AnswersModule text tokens b → a ≡ b
-  pub answered : (text : List ℕ) (tokens : List Token) (ds : List Declared) → IsModule (line_lexemes text tokens) ds →
-      AnswersModule text tokens (Ok ds) ⊎ ((at : ℕ) × AnswersModule text tokens (Err (fault.TooDeep at)))
+  pub one_module : (ts : List Lined) (ds es : List Declared) → IsModule ts ds → IsModule ts es →
+      ds ≡ es
+  pub one_answer : (text : List ℕ) (tokens : List Token)
+      (a b : Result (List Declared) SyntaxFault) →
+      a ≢ Err fault.Memory → b ≢ Err fault.Memory → AnswersModule text tokens a →
+      AnswersModule text tokens b → a ≡ b
+  pub answered : (text : List ℕ) (tokens : List Token) (ds : List Declared) →
+      IsModule (line_lexemes text tokens) ds →
+      AnswersModule text tokens (Ok ds) ⊎
+      ((at : ℕ) × AnswersModule text tokens (Err (fault.TooDeep at)))

@@ -85,7 +85,8 @@ comparison k =
 
 -- the operator of a chain of `+` and `-` that a token is
 unfoldable pub addition : Lexeme → Option Op
-addition k = choose (spells (codes "+") k) (Some op.Add) (choose (spells (codes "-") k) (Some op.Subtract) None)
+addition k = choose (spells (codes "+") k) (Some op.Add)
+    (choose (spells (codes "-") k) (Some op.Subtract) None)
 
 -- one operator alone
 unfoldable pub operator : List ℕ → Op → Lexeme → Option Op
@@ -223,11 +224,13 @@ append_term (term.term u us) t = term.term u (append_term us t)
 
 -- the atoms behind a constructor
 unfoldable pub arguments_with : Inside → TermList → Reader TermList
-arguments_with es args = repeat starts_atom (λ es args. map_reader (append_term args) (atom_with es)) es args
+arguments_with es args = repeat starts_atom
+    (λ es args. map_reader (append_term args) (atom_with es)) es args
 
 -- the atoms behind another atom
 unfoldable pub applications_with : ℕ → Inside → TermTree → Reader TermTree
-applications_with at es t = repeat starts_atom (λ es t. map_reader (term.apply at t) (atom_with es)) es t
+applications_with at es t = repeat starts_atom
+    (λ es t. map_reader (term.apply at t) (atom_with es)) es t
 
 -- the readers inside the next operand
 abbrev pub next : Inside → Inside
@@ -243,7 +246,8 @@ label_with (e ∷ es) = one upper_of
 abbrev pub app_begun_with : Inside → AppStart → Lexeme → Reader TermTree
 app_begun_with es Send k = atom_with es >>= λ t. map_reader (term.send k.at t) (atom_with (next es))
 app_begun_with es Receive k = map_reader (term.receive k.at) (atom_with es)
-app_begun_with es Select k = label_with es >>= λ l. map_reader (term.select k.at l.text) (atom_with (next es))
+app_begun_with es Select k = label_with es >>= λ l. map_reader (term.select k.at l.text)
+    (atom_with (next es))
 app_begun_with es New k = map_reader (term.new k.at) (type_atom_with es)
 app_begun_with es Fork k = map_reader (term.fork k.at) (atom_with es)
 app_begun_with es Make k = map_reader (term.make k.at k.text) (arguments_with es no_terms)
@@ -260,11 +264,14 @@ app_with (e ∷ es) = when opens_app (switch app_start (app_begun_with es)) (hea
 -- a term behind `not`s
 unfoldable pub unary_with : Inside → Reader TermTree
 unary_with [] = shut starts_unary
-unary_with (e ∷ es) = with_start (λ at. on (spells (codes "not")) (map_reader (term.negate at) (unary_with es)) (app_with (e ∷ es)))
+unary_with (e ∷ es) = with_start (λ at. on (spells (codes "not"))
+    (map_reader (term.negate at) (unary_with es)) (app_with (e ∷ es)))
 
 -- behind the first operand of a chain
-unfoldable pub chain_with : (Lexeme → Option Op) → (Inside → Reader TermTree) → ℕ → Inside → TermTree → Reader TermTree
-chain_with p operand at = repeat (λ k. is_op (p k)) (λ es t. switch p (λ o k. map_reader (term.operate at o t) (operand es)))
+unfoldable pub chain_with : (Lexeme → Option Op) →
+    (Inside → Reader TermTree) → ℕ → Inside → TermTree → Reader TermTree
+chain_with p operand at = repeat (λ k. is_op (p k))
+    (λ es t. switch p (λ o k. map_reader (term.operate at o t) (operand es)))
 
 -- a chain of operands
 unfoldable pub chain : (Lexeme → Option Op) → (Inside → Reader TermTree) → Inside → Reader TermTree
@@ -280,7 +287,8 @@ sum_with = chain addition prod_with
 
 -- behind the first operand of a comparison
 unfoldable pub compare_with : ℕ → Inside → TermTree → Reader TermTree
-compare_with at es t = when (λ k. is_op (comparison k)) (switch comparison (λ o k. map_reader (term.operate at o t) (sum_with es))) (give t)
+compare_with at es t = when (λ k. is_op (comparison k))
+    (switch comparison (λ o k. map_reader (term.operate at o t) (sum_with es))) (give t)
 
 -- one operand, or a comparison of two
 unfoldable pub cmp_with : Inside → Reader TermTree
@@ -310,7 +318,8 @@ names = many is_lower (map_reader bound (one lower_of))
 
 -- an arrow
 unfoldable pub arrow_at : Reader Use
-arrow_at = on is_one (map_reader (λ k. Once) (word (codes "->"))) (map_reader (λ k. Many) (word (codes "->")))
+arrow_at = on is_one (map_reader (λ k. Once) (word (codes "->")))
+    (map_reader (λ k. Many) (word (codes "->")))
 
 -- the reserved word behind the term that chooses among arms
 abbrev pub word_of : Arms → List ℕ
@@ -410,12 +419,14 @@ expr_begun_with e n Match k = choice_with e by.Match k.at
 
 -- a term that begins with an operand
 unfoldable pub then_with : Reader TermTree → Inside → Reader TermTree
-then_with e es = with_start (λ at. or_with (e ∷ es) >>= λ t. on (spells (codes ";")) (map_reader (term.seq at t) e) (give t))
+then_with e es = with_start (λ at. or_with (e ∷ es) >>= λ t. on (spells (codes ";"))
+    (map_reader (term.seq at t) e) (give t))
 
 -- a term
 unfoldable pub expr_with : Inside → Reader TermTree
 expr_with [] = shut starts_expr
-expr_with (e ∷ es) = when opens_expr (switch expr_start (expr_begun_with e (length es))) (then_with e es)
+expr_with (e ∷ es) = when opens_expr (switch expr_start (expr_begun_with e (length es)))
+    (then_with e es)
 
 -- what may be opened within so many levels
 unfoldable pub inside : ℕ → Inside

@@ -32,7 +32,8 @@ fn argument<'a>(
     left: u32,
     tokens: &'a [Lexeme<'a>],
 ) -> Result<(Written, &'a [Lexeme<'a>]), Stop<'a>>
-    ensures { Gives (λ x. (x.0, x.1.now)) result (andthen (word (codes "@")) (λ k. type_atom_with (expr_at left ∷ inside left)) tokens.now) }
+    ensures { Gives (λ x. (x.0, x.1.now)) result
+        (andthen (word (codes "@")) (λ k. type_atom_with (expr_at left ∷ inside left)) tokens.now) }
 {
     let rest = expect("@", tokens)?;
     atom(alloc, left, rest)
@@ -44,7 +45,8 @@ pub fn applied<'a>(
     left: u32,
     tokens: &'a [Lexeme<'a>],
 ) -> Result<(Vec<Written>, &'a [Lexeme<'a>]), Stop<'a>>
-    ensures { Gives (λ x. (x.0.items, x.1.now)) result (applied_with (expr_at left ∷ inside left) tokens.now) }
+    ensures { Gives (λ x. (x.0.items, x.1.now)) result
+        (applied_with (expr_at left ∷ inside left) tokens.now) }
 {
     let mut arguments = Vec::new(alloc);
     let mut rest = tokens;

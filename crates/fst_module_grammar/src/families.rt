@@ -67,7 +67,8 @@ fn makers<'a>(
     left: u32,
     tokens: &'a [Lexeme<'a>],
 ) -> Result<(Vec<SourceMaker>, &'a [Lexeme<'a>]), Stop<'a>>
-    ensures { Gives (λ x. (map maker x.0.items, x.1.now)) result (sep_by (spells (codes "|")) (maker_at left) tokens.now) }
+    ensures { Gives (λ x. (map maker x.0.items, x.1.now)) result
+        (sep_by (spells (codes "|")) (maker_at left) tokens.now) }
 {
     let mut makers = Vec::new(alloc);
     let mut rest = tokens;
@@ -123,7 +124,8 @@ fn typed<'a>(
     binders: Vec<(Binder, Kind)>,
     tokens: &'a [Lexeme<'a>],
 ) -> Result<(Decl, &'a [Lexeme<'a>]), Stop<'a>>
-    ensures { Gives (λ x. (decl_tree x.0, x.1.now)) result (map_reader (tree.signature name binders.items) (type_at left) tokens.now) }
+    ensures { Gives (λ x. (decl_tree x.0, x.1.now)) result
+        (map_reader (tree.signature name binders.items) (type_at left) tokens.now) }
 {
     let (body, rest) = type_(alloc, left, tokens)?;
     Ok((Decl::Signature(name, binders, body), rest))

@@ -60,7 +60,8 @@ pub fn let_head<'a>(
     alloc: Global,
     tokens: &'a [Lexeme<'a>],
 ) -> Result<(Binding, &'a [Lexeme<'a>]), Stop<'a>>
-    ensures { (e : Reader TermTree) (at : ℕ) → GoesOn (λ x. in_with e (bind_term at x.0) x.1.now) result (let_with e at tokens.now) }
+    ensures { (e : Reader TermTree) (at : ℕ) → GoesOn
+        (λ x. in_with e (bind_term at x.0) x.1.now) result (let_with e at tokens.now) }
 {
     match after("(", tokens) {
         None => {
@@ -89,7 +90,9 @@ pub fn parameter<'a>(
     left: u32,
     tokens: &'a [Lexeme<'a>],
 ) -> Result<((Binder, Written, Use), &'a [Lexeme<'a>]), Stop<'a>>
-    ensures { (e : Reader TermTree) (at : ℕ) → GoesOn (λ x. map_reader (term.lambda at x.0.2 x.0.1 x.0.0) e x.1.now) result (lambda_with e (length (inside left)) at tokens.now) }
+    ensures { (e : Reader TermTree) (at : ℕ) → GoesOn
+        (λ x. map_reader (term.lambda at x.0.2 x.0.1 x.0.0) e x.1.now) result
+        (lambda_with e (length (inside left)) at tokens.now) }
 {
     let (name, rest) = lower(tokens)?;
     let rest = expect(":", rest)?;
@@ -106,7 +109,9 @@ pub fn arm_head<'a>(
     arms: Arms,
     tokens: &'a [Lexeme<'a>],
 ) -> Result<((Binder, Vec<Binder>), &'a [Lexeme<'a>]), Stop<'a>>
-    ensures { (e : Reader TermTree) → GoesOn (λ x. map_reader (λ t. (x.0.0, (x.0.1.items, t))) e x.1.now) result (arm_by e arms tokens.now) }
+    ensures { (e : Reader TermTree) → GoesOn
+        (λ x. map_reader (λ t. (x.0.0, (x.0.1.items, t))) e x.1.now) result
+        (arm_by e arms tokens.now) }
 {
     let (label, rest) = upper(tokens)?;
     match arms {

@@ -68,7 +68,8 @@ fn operator(level: Level, token: &Lexeme<'_>) -> Option<Op>
 
 /// The operator of a comparison, where one comes next, and what stands behind it.
 pub fn compared_by<'a>(tokens: &'a [Lexeme<'a>]) -> Option<(Op, &'a [Lexeme<'a>])>
-    ensures { MatchOption result (begins (λ k. is_op (comparison k)) tokens.now ≡ false) (λ x. (k : Lexeme) × (tokens.now ≡ k ∷ x.1.now) × (comparison k ≡ Some x.0)) }
+    ensures { MatchOption result (begins (λ k. is_op (comparison k)) tokens.now ≡ false)
+        (λ x. (k : Lexeme) × (tokens.now ≡ k ∷ x.1.now) × (comparison k ≡ Some x.0)) }
 {
     match tokens {
         [] => None,
@@ -81,7 +82,8 @@ pub fn compared_by<'a>(tokens: &'a [Lexeme<'a>]) -> Option<(Op, &'a [Lexeme<'a>]
 
 /// The operator of a chain, where one comes next, and what stands behind it.
 pub fn chained_by<'a>(level: Level, tokens: &'a [Lexeme<'a>]) -> Option<(Op, &'a [Lexeme<'a>])>
-    ensures { MatchOption result (begins (λ k. is_op (operator_of level k)) tokens.now ≡ false) (λ x. (k : Lexeme) × (tokens.now ≡ k ∷ x.1.now) × (operator_of level k ≡ Some x.0)) }
+    ensures { MatchOption result (begins (λ k. is_op (operator_of level k)) tokens.now ≡ false)
+        (λ x. (k : Lexeme) × (tokens.now ≡ k ∷ x.1.now) × (operator_of level k ≡ Some x.0)) }
 {
     match tokens {
         [] => None,

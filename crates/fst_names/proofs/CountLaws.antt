@@ -50,18 +50,21 @@ some_types [] = omega arith
 some_types (w ∷ ws) = let one = some_type w in let rest = some_types ws in omega (arith, one, rest)
 
 -- a name with its type arguments
-name_count : (ns : Numbers) (n at : ℕ) (x : List ℕ) (ts : List WrittenTree) (o : Option ℕ) → core_count (name_term ns n at x ts o) ≤ suc (length ts)
+name_count : (ns : Numbers) (n at : ℕ) (x : List ℕ) (ts : List WrittenTree) (o : Option ℕ) →
+    core_count (name_term ns n at x ts o) ≤ suc (length ts)
 name_count ns n at x [] (Some k) = omega arith
 name_count ns n at x [] None = omega arith
 name_count ns n at x (t ∷ ts) o = let long = from_long (suc n) ts in omega (arith, long)
 
-maker_count : (at : ℕ) (ns : Numbers) (xs : List (List ℕ)) (n : ℕ) (ts : TermList) (o : Option (ℕ × ℕ)) → core_count (maker_term at (core_terms ns xs n ts) o) ≡ suc (cores_count (core_terms ns xs n ts))
+maker_count : (at : ℕ) (ns : Numbers) (xs : List (List ℕ)) (n : ℕ) (ts : TermList) (o : Option (ℕ × ℕ)) →
+    core_count (maker_term at (core_terms ns xs n ts) o) ≡ suc (cores_count (core_terms ns xs n ts))
 maker_count at ns xs n ts (Some k) = refl
 maker_count at ns xs n ts None = refl
 
 mutual
   -- a term with numbers and its types have at most twice as many parts as the term with names
-  pub count_most : (ns : Numbers) (xs : List (List ℕ)) (n : ℕ) (t : TermTree) → core_count (core_term ns xs n t) + length (written_in t) ≤ 2 * term_count t
+  pub count_most : (ns : Numbers) (xs : List (List ℕ)) (n : ℕ) (t : TermTree) →
+      core_count (core_term ns xs n t) + length (written_in t) ≤ 2 * term_count t
   count_most ns xs n (named at x ts) =
       let few = name_count ns n at x ts (place_of xs x) in
       let long = length-map ts with_variables in
@@ -137,7 +140,8 @@ mutual
       let long = length-append (written_in t) (written_in u) in
       omega (arith, one, two, long)
 
-  counts_most : (ns : Numbers) (xs : List (List ℕ)) (n : ℕ) (ts : TermList) → cores_count (core_terms ns xs n ts) + length (written_in_all ts) ≤ 2 * terms_count ts
+  counts_most : (ns : Numbers) (xs : List (List ℕ)) (n : ℕ) (ts : TermList) →
+      cores_count (core_terms ns xs n ts) + length (written_in_all ts) ≤ 2 * terms_count ts
   counts_most ns xs n no_terms = omega arith
   counts_most ns xs n (term t ts) =
       let one = count_most ns xs n t in
@@ -145,7 +149,8 @@ mutual
       let long = length-append (written_in t) (written_in_all ts) in
       omega (arith, one, two, long)
 
-  arms_most : (ns : Numbers) (xs : List (List ℕ)) (n : ℕ) (bs : TermArms) → core_arms_count (core_arms ns xs n bs) + length (written_in_arms bs) ≤ 2 * arms_count bs
+  arms_most : (ns : Numbers) (xs : List (List ℕ)) (n : ℕ) (bs : TermArms) →
+      core_arms_count (core_arms ns xs n bs) + length (written_in_arms bs) ≤ 2 * arms_count bs
   arms_most ns xs n no_arms = omega arith
   arms_most ns xs n (arm l bs t arms) =
       let one = count_most ns (within bs xs) n t in
@@ -170,7 +175,8 @@ decl_long ds known (equation x ps t) = length-map (written_in t) _
 -- so is each of some declarations
 pub decls_long : (ds : List Declared) (known : Known) (es : List Declared) → length (decls_types ds known es) ≡ types_there es
 decls_long ds known [] = refl
-decls_long ds known (e ∷ es) = length-append (decl_types ds known e) (decls_types ds known es) ∙ ap (λ n. n + length (decls_types ds known es)) (decl_long ds known e) ∙ ap (λ n. types_in e + n) (decls_long ds known es)
+decls_long ds known (e ∷ es) = length-append (decl_types ds known e) (decls_types ds known es) ∙ ap
+    (λ n. n + length (decls_types ds known es)) (decl_long ds known e) ∙ ap (λ n. types_in e + n) (decls_long ds known es)
 
 fields_count : (ms : List Maker) → length (field_types ms) ≤ makers_count ms
 fields_count [] = omega arith
@@ -198,7 +204,8 @@ same_count [] = refl
 same_count (g ∷ gs) = ap (λ n. suc (length g.kinds.items + (core_count g.body + n))) (same_count gs)
 
 -- each function around a body has itself and its parameter
-functions_count : (n : ℕ) (ps : List Binder) (o : Option Tree) (b : CoreTree) → core_count (functions n ps o b) ≤ 2 * length ps + core_count b
+functions_count : (n : ℕ) (ps : List Binder) (o : Option Tree) (b : CoreTree) →
+    core_count (functions n ps o b) ≤ 2 * length ps + core_count b
 functions_count n [] o b = omega arith
 functions_count n (p ∷ ps) (Some (tree.arrow u s t)) b = let rest = functions_count (suc n) ps (Some t) b in omega (arith, rest)
 functions_count n (p ∷ ps) o b = omega arith
@@ -222,26 +229,32 @@ no_kinds (x ∷ xs) = let rest = no_kinds xs in omega (arith, rest)
 
 module _ (y : Binder) (bs : List (Binder × Kind)) (w : WrittenTree) (ds : List Declared) where
   -- a signature of another name has no say
-  others_kinds : (xs : List (List ℕ)) → AllByRecursion (λ x. bytes_eq y.name x ≡ false) xs → kinds_in (signed (signature y bs w ∷ ds)) xs ≤ kinds_in (signed ds) xs
+  others_kinds : (xs : List (List ℕ)) → AllByRecursion (λ x. bytes_eq y.name x ≡ false) xs →
+      kinds_in (signed (signature y bs w ∷ ds)) xs ≤ kinds_in (signed ds) xs
   others_kinds [] apart = omega arith
   others_kinds (x ∷ xs) apart = pick (bytes_eq x y.name) refl (others_kinds xs apart.1)
     where
       pick : (c : Bool) → bytes_eq x y.name ≡ c → kinds_in (signed (signature y bs w ∷ ds)) xs ≤ kinds_in (signed ds) xs →
-          length (kinds_of (if c then Some (record { vars = bs; its_type = w }) else signed ds x)) + kinds_in (signed (signature y bs w ∷ ds)) xs ≤
+          length (kinds_of (if c then Some (record { vars = bs; its_type = w }) else signed ds x)) + kinds_in
+          (signed (signature y bs w ∷ ds)) xs ≤
           length (kinds_of (signed ds x)) + kinds_in (signed ds) xs
       pick true is rest = absurd (cc (apart.0, is, same_text x y.name is))
       pick false is rest = omega (arith, rest)
 
   -- one more signature is that of one name at most
-  one_kinds : (xs : List (List ℕ)) → IsDistinct bytes_eq xs → kinds_in (signed (signature y bs w ∷ ds)) xs ≤ length bs + kinds_in (signed ds) xs
+  one_kinds : (xs : List (List ℕ)) → IsDistinct bytes_eq xs →
+      kinds_in (signed (signature y bs w ∷ ds)) xs ≤ length bs + kinds_in (signed ds) xs
   one_kinds [] once = omega arith
   one_kinds (x ∷ xs) once = pick (bytes_eq x y.name) refl (one_kinds xs (IsDistinct-tail bytes_eq x xs once))
     where
-      pick : (c : Bool) → bytes_eq x y.name ≡ c → kinds_in (signed (signature y bs w ∷ ds)) xs ≤ length bs + kinds_in (signed ds) xs →
-          length (kinds_of (if c then Some (record { vars = bs; its_type = w }) else signed ds x)) + kinds_in (signed (signature y bs w ∷ ds)) xs ≤
+      pick : (c : Bool) → bytes_eq x y.name ≡ c → kinds_in (signed (signature y bs w ∷ ds)) xs ≤ length bs + kinds_in
+          (signed ds) xs →
+          length (kinds_of (if c then Some (record { vars = bs; its_type = w }) else signed ds x)) + kinds_in
+          (signed (signature y bs w ∷ ds)) xs ≤
           length bs + (length (kinds_of (signed ds x)) + kinds_in (signed ds) xs)
       pick true is rest =
-          let apart = subst (λ z. AllByRecursion (λ x. bytes_eq z x ≡ false) xs) (same_text x y.name is) (IsDistinct-head bytes_eq x xs once) in
+          let apart = subst (λ z. AllByRecursion (λ x. bytes_eq z x ≡ false) xs) (same_text x y.name is)
+          (IsDistinct-head bytes_eq x xs once) in
           let few = others_kinds xs apart in
           let long = length-map bs (λ (b : Binder × Kind). b.1) in
           omega (arith, few, long)
@@ -262,21 +275,27 @@ module _ (ds : List Declared) (known : Known) where
   -- how many parts some equations have, with their parameters and the types of these, but for type variables
   abbrev bodies_count : List Equation → ℕ
   bodies_count [] = 0
-  bodies_count (e ∷ es) = suc (3 * length e.parameters + core_count (core_term (numbers ds) (within e.parameters []) e.first e.body)) + bodies_count es
+  bodies_count (e ∷ es) = suc (3 * length e.parameters + core_count
+      (core_term (numbers ds) (within e.parameters []) e.first e.body)) + bodies_count es
 
   -- globals and the types of parameters
   globals_most : (n : ℕ) (es : List Equation) →
-      parts_count (globals_from ds known n es) + length (parameters_types ds known es) ≤ kinds_in (signed ds) (map (λ (e : Equation). e.name.name) es) + bodies_count es
+      parts_count (globals_from ds known n es) + length (parameters_types ds known es) ≤ kinds_in (signed ds)
+      (map (λ (e : Equation). e.name.name) es) + bodies_count es
   globals_most n [] = omega arith
   globals_most n (e ∷ es) =
       let rest = globals_most (n + length e.parameters) es in
-      let own = functions_count n e.parameters (signed_type ds known (signed ds e.name.name)) (core_term (numbers ds) (within e.parameters []) e.first e.body) in
-      let types = parameters_long (place_of_type (signed ds e.name.name)) e.parameters (signed_type ds known (signed ds e.name.name)) in
-      let long = length-append (parameter_types (place_of_type (signed ds e.name.name)) e.parameters (signed_type ds known (signed ds e.name.name))) (parameters_types ds known es) in
+      let own = functions_count n e.parameters (signed_type ds known (signed ds e.name.name))
+      (core_term (numbers ds) (within e.parameters []) e.first e.body) in
+      let types = parameters_long (place_of_type (signed ds e.name.name)) e.parameters
+      (signed_type ds known (signed ds e.name.name)) in
+      let long = length-append (parameter_types (place_of_type (signed ds e.name.name)) e.parameters
+      (signed_type ds known (signed ds e.name.name))) (parameters_types ds known es) in
       omega (arith, rest, own, types, long)
 
   -- the equations of some declarations, with the types that stand in these and their variables
-  decls_most : (n : ℕ) (es : List Declared) → bodies_count (equations_from n es) + types_there es + variables_in es ≤ 3 * module_count es
+  decls_most : (n : ℕ) (es : List Declared) → bodies_count
+      (equations_from n es) + types_there es + variables_in es ≤ 3 * module_count es
   decls_most n [] = omega arith
   decls_most n (family x ms ∷ es) =
       let rest = decls_most (n + length (field_types ms)) es in
@@ -290,7 +309,8 @@ module _ (ds : List Declared) (known : Known) where
       omega (arith, rest, own)
 
 -- the names of equations
-pub equations_named : (n : ℕ) (es : List Declared) → map (λ (e : Equation). e.name.name) (equations_from n es) ≡ names (equation_names es)
+pub equations_named : (n : ℕ) (es : List Declared) → map
+    (λ (e : Equation). e.name.name) (equations_from n es) ≡ names (equation_names es)
 equations_named n [] = refl
 equations_named n (family x ms ∷ es) = equations_named (n + length (field_types ms)) es
 equations_named n (alias x w ∷ es) = equations_named (suc n) es
@@ -298,7 +318,8 @@ equations_named n (signature x bs w ∷ es) = equations_named (suc n) es
 equations_named n (equation x ps t ∷ es) = ap (λ zs. x.name ∷ zs) (equations_named (n + length (written_in t)) es)
 
 -- a module whose text has few parts, and where each name has one equation, has few parts with numbers
-pub few_parts : (ds : List Declared) (known : Known) (gs : List GlobalEntry) (types : List Tree) → IsDistinct bytes_eq (names (equation_names ds)) → map global_parts gs ≡ module_globals ds known →
+pub few_parts : (ds : List Declared) (known : Known) (gs : List GlobalEntry) (types : List Tree) →
+    IsDistinct bytes_eq (names (equation_names ds)) → map global_parts gs ≡ module_globals ds known →
     length types ≡ length (module_types ds known) → module_count ds < part_limit → globals_count gs + length types < core_limit
 few_parts ds known gs types once are long few =
     let same = same_count gs ∙ ap parts_count are in

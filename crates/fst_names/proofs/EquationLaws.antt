@@ -66,14 +66,18 @@ module _ (ds : List Declared) (d : Declarations) (h : IsFaultless ds d) where
   module _ (x : List ℕ) (a : code.Surroundings) (is : IsAround x a) where
     scope_is : (vars others : List (List ℕ)) → vars ≡ others → scope_of a vars ≡ module_scope ds (known_in d) others
     scope_is vars others same =
-        (λ i. scope_with (same i) (declared_in (is.types i)) (standing_in (is.types i) (final_trees (is.types i) (is.aliases i).looped.items (is.aliases i).order.items))) ∙ same_scope ds d h others
+        (λ i. scope_with (same i) (declared_in (is.types i))
+        (standing_in (is.types i) (final_trees (is.types i) (is.aliases i).looped.items (is.aliases i).order.items)))
+        ∙ same_scope ds d h others
 
     -- each name is meant that is meant in the module
     alike : AreAlike (surroundings_of a) (surroundings ds (known_in d) x)
     unfolding surroundings_of
     alike = record {
-      globals = λ y. ap (λ zs. is_among zs y) is.globals ∙ h.declared.equations.among y ∙ same_bool (is_among (names (equation_names ds)) y) (is_among (globals ds) y)
-          (among_right (names (signature_names ds)) (names (equation_names ds)) y) (is_global ds (known_in d) (sound ds d h).decls y);
+      globals = λ y. ap (λ zs. is_among zs y) is.globals ∙ h.declared.equations.among y
+          ∙ same_bool (is_among (names (equation_names ds)) y) (is_among (globals ds) y)
+          (among_right (names (signature_names ds)) (names (equation_names ds)) y)
+          (is_global ds (known_in d) (sound ds d h).decls y);
       makers = λ y. ap (λ ms. option_map (λ e. e.fields) (entry_of ms y)) is.makers ∙ h.declared.makers.fields y;
       types = λ w. ap (λ s. type_faults s w) (scope_is a.vars.now (vars_of (signed ds x)) is.vars);
       closed = λ w. ap (λ s. type_faults s w) (scope_is a.no_vars.now [] a.none);
@@ -97,16 +101,22 @@ module _ (ds : List Declared) (d : Declarations) (h : IsFaultless ds d) where
     use_stands (without w) = ap (λ s. type_of s w) (scope_is a.no_vars.now [] a.none)
 
   -- a body has no more faults there than in the module
-  pub body_sound : (x : Binder) (ps : List Binder) (t : TermTree) (a : code.Surroundings) → IsAround x.name a → decl_faults ds (known_in d) (equation x ps t) ≡ [] → term_faults (surroundings_of a) (within ps []) t ≡ []
-  body_sound x ps t a is e = same_term_faults (surroundings_of a) (surroundings ds (known_in d) x.name) (alike x.name a is) (within ps []) t ∙ (equation_sound ds (known_in d) x ps t e).body
+  pub body_sound : (x : Binder) (ps : List Binder) (t : TermTree) (a : code.Surroundings) → IsAround x.name a →
+      decl_faults ds (known_in d) (equation x ps t) ≡ [] → term_faults (surroundings_of a) (within ps []) t ≡ []
+  body_sound x ps t a is e = same_term_faults (surroundings_of a) (surroundings ds (known_in d) x.name) (alike x.name a is)
+      (within ps []) t ∙ (equation_sound ds (known_in d) x ps t e).body
 
   -- its term is that of the module
-  pub body_term : (x : List ℕ) (xs : List (List ℕ)) (n : ℕ) (t : TermTree) (a : code.Surroundings) (own : CoreTree) → own ≡ core_term (numbers_of a) xs n t → IsAround x a → own ≡ core_term (numbers ds) xs n t
+  pub body_term : (x : List ℕ) (xs : List (List ℕ)) (n : ℕ) (t : TermTree) (a : code.Surroundings) (own : CoreTree) →
+      own ≡ core_term (numbers_of a) xs n t → IsAround x a → own ≡ core_term (numbers ds) xs n t
   body_term x xs n t a own e is = e ∙ ap (λ ns. core_term ns xs n t) (numbers_are x a is)
 
   -- and its types are put behind others
-  pub body_longer : (x : List ℕ) (us : List TypeUse) (old new : TypeList) (a : code.Surroundings) → map Some new.types.items ≡ map Some old.types.items ++ map (tree_of (surroundings_of a)) us →
-      new.places.items ≡ old.places.items ++ map begins_at us → IsAround x a → IsLonger old (map (λ (u : TypeUse). record { at = begins_at u; stands = tree_of (surroundings ds (known_in d) x) u }) us) new
+  pub body_longer : (x : List ℕ) (us : List TypeUse) (old new : TypeList) (a : code.Surroundings) →
+      map Some new.types.items ≡ map Some old.types.items ++ map (tree_of (surroundings_of a)) us →
+      new.places.items ≡ old.places.items ++ map begins_at us → IsAround x a →
+      IsLonger old (map (λ (u : TypeUse). record { at = begins_at u; stands = tree_of (surroundings ds (known_in d) x) u })
+      us) new
   body_longer x us old new a types places is = record {
     types = types ∙ ap (λ ts. map Some old.types.items ++ ts) (stand us);
     places = places ∙ ap (λ ns. old.places.items ++ ns) (begin us);

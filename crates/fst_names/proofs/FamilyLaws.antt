@@ -38,36 +38,47 @@ tails x y xs ys e = cc
 -- ---- numbers of types
 
 -- the fields of constructors are below what the last of them is below
-fields_below : (top n : ℕ) (ms : List Maker) (cs : List code.Maker) → map maker_parts cs ≡ makers_from n ms → n + length (field_types ms) ≤ top → HaveFieldsInRange top cs
+fields_below : (top n : ℕ) (ms : List Maker) (cs : List code.Maker) → map maker_parts cs ≡ makers_from n ms →
+    n + length (field_types ms) ≤ top → HaveFieldsInRange top cs
 fields_below top n ms [] e low = tt
 fields_below top n [] (a ∷ cs) e low = absurd (cc e)
 fields_below top n (m ∷ ms) (a ∷ cs) e low =
-    let first = ap (λ p. p.1) (heads (maker_parts a) (m.name.name, from n m.fields) (map maker_parts cs) (makers_from (n + length m.fields) ms) e) in
-    let rest = tails (maker_parts a) (m.name.name, from n m.fields) (map maker_parts cs) (makers_from (n + length m.fields) ms) e in
-    let long = length-append m.fields (field_types ms) in
-    (subst (AreNumbersBelow top) (sym first) (from_below top n m.fields (omega (arith, low, long))), fields_below top (n + length m.fields) ms cs rest (omega (arith, low, long)))
+    let first = ap (λ p. p.1) (heads (maker_parts a) (m.name.name, from n m.fields) (map maker_parts cs)
+    (makers_from (n + length m.fields) ms) e) in
+    let rest = tails (maker_parts a) (m.name.name, from n m.fields) (map maker_parts cs)
+    (makers_from (n + length m.fields) ms) e in
+    let long = length-append m.fields (field_types ms) in (
+      subst (AreNumbersBelow top) (sym first) (from_below top n m.fields (omega (arith, low, long))),
+      fields_below top (n + length m.fields) ms cs rest (omega (arith, low, long)),
+    )
 
 -- a data type has a constructor
-some_maker : (n : ℕ) (ms : List Maker) (cs : List code.Maker) → map maker_parts cs ≡ makers_from n ms → HasMaker ms → 0 < length cs
+some_maker : (n : ℕ) (ms : List Maker) (cs : List code.Maker) → map maker_parts cs ≡ makers_from n ms → HasMaker ms →
+    0 < length cs
 some_maker n [] cs e h = absurd h
 some_maker n (m ∷ ms) [] e h = absurd (cc e)
 some_maker n (m ∷ ms) (a ∷ cs) e h = omega arith
 
 -- the data types are in range
-pub families_in_range : (top n : ℕ) (ds : List Declared) (fs : List Family) → map family_parts fs ≡ families_from n ds → IsModuleFilled ds → n + types_there ds ≤ top → AreFamilies top fs
+pub families_in_range : (top n : ℕ) (ds : List Declared) (fs : List Family) → map family_parts fs ≡ families_from n ds →
+    IsModuleFilled ds → n + types_there ds ≤ top → AreFamilies top fs
 families_in_range top n [] [] e filled low = tt
 families_in_range top n [] (f ∷ fs) e filled low = absurd (cc e)
 families_in_range top n (family x ms ∷ ds) [] e filled low = absurd (cc e)
 families_in_range top n (family x ms ∷ ds) (f ∷ fs) e filled low =
-    let first = ap (λ p. p.1) (heads (family_parts f) (x.name, makers_from n ms) (map family_parts fs) (families_from (n + length (field_types ms)) ds) e) in
-    let rest = tails (family_parts f) (x.name, makers_from n ms) (map family_parts fs) (families_from (n + length (field_types ms)) ds) e in (
+    let first = ap (λ p. p.1) (heads (family_parts f) (x.name, makers_from n ms) (map family_parts fs)
+    (families_from (n + length (field_types ms)) ds) e) in
+    let rest = tails (family_parts f) (x.name, makers_from n ms) (map family_parts fs)
+    (families_from (n + length (field_types ms)) ds) e in (
       some_maker n ms f.makers.items first filled.0.0,
       fields_below top n ms f.makers.items first (omega (arith, low)),
       families_in_range top (n + length (field_types ms)) ds fs rest filled.1 (omega (arith, low)),
     )
 families_in_range top n (alias x w ∷ ds) fs e filled low = families_in_range top (suc n) ds fs e filled.1 (omega (arith, low))
-families_in_range top n (signature x bs w ∷ ds) fs e filled low = families_in_range top (suc n) ds fs e filled.1 (omega (arith, low))
-families_in_range top n (equation x ps t ∷ ds) fs e filled low = families_in_range top (n + length (written_in t)) ds fs e filled.1 (omega (arith, low))
+families_in_range top n (signature x bs w ∷ ds) fs e filled low =
+    families_in_range top (suc n) ds fs e filled.1 (omega (arith, low))
+families_in_range top n (equation x ps t ∷ ds) fs e filled low =
+    families_in_range top (n + length (written_in t)) ds fs e filled.1 (omega (arith, low))
 
 -- ---- numbers of data types
 
@@ -88,17 +99,20 @@ families_long n (signature x bs w ∷ ds) = families_long (suc n) ds
 families_long n (equation x ps t ∷ ds) = families_long (n + length (written_in t)) ds
 
 -- what is declared as a data type has the number of one
-pub family_below : (k : ℕ) (ds : List Declared) (x : List ℕ) (j : ℕ) → declared_from k ds x ≡ Some (data_type j) → j < k + families_there ds
+pub family_below : (k : ℕ) (ds : List Declared) (x : List ℕ) (j : ℕ) → declared_from k ds x ≡ Some (data_type j) →
+    j < k + families_there ds
 family_below k [] x j e = absurd (cc e)
 family_below k (family y ms ∷ ds) x j e = pick (bytes_eq x y.name) (family_below (suc k) ds x j) e
   where
-    pick : (c : Bool) → (declared_from (suc k) ds x ≡ Some (data_type j) → j < suc k + families_there ds) → (if c then Some (data_type k) else declared_from (suc k) ds x) ≡ Some (data_type j) →
+    pick : (c : Bool) → (declared_from (suc k) ds x ≡ Some (data_type j) → j < suc k + families_there ds) →
+        (if c then Some (data_type k) else declared_from (suc k) ds x) ≡ Some (data_type j) →
         j < k + suc (families_there ds)
     pick true rest h = let same : k ≡ j = cc in omega (arith, same)
     pick false rest h = let low = rest h in omega (arith, low)
 family_below k (alias y w ∷ ds) x j e = pick (bytes_eq x y.name) (family_below k ds x j) e
   where
-    pick : (c : Bool) → (declared_from k ds x ≡ Some (data_type j) → j < k + families_there ds) → (if c then Some (other_name w) else declared_from k ds x) ≡ Some (data_type j) → j < k + families_there ds
+    pick : (c : Bool) → (declared_from k ds x ≡ Some (data_type j) → j < k + families_there ds) →
+        (if c then Some (other_name w) else declared_from k ds x) ≡ Some (data_type j) → j < k + families_there ds
     pick true rest h = absurd (cc h)
     pick false rest h = rest h
 family_below k (signature y bs w ∷ ds) x j e = family_below k ds x j e
@@ -107,13 +121,16 @@ family_below k (equation y ps t ∷ ds) x j e = family_below k ds x j e
 -- ---- constructors by their names
 
 -- the names of constructors are those in the text
-makers_named : (n : ℕ) (ms : List Maker) (cs : List code.Maker) → map maker_parts cs ≡ makers_from n ms → map (λ (a : code.Maker). a.name) cs ≡ names (map (λ (m : Maker). m.name) ms)
+makers_named : (n : ℕ) (ms : List Maker) (cs : List code.Maker) → map maker_parts cs ≡ makers_from n ms → map
+    (λ (a : code.Maker). a.name) cs ≡ names (map (λ (m : Maker). m.name) ms)
 makers_named n [] [] e = refl
 makers_named n [] (a ∷ cs) e = absurd (cc e)
 makers_named n (m ∷ ms) [] e = absurd (cc e)
 makers_named n (m ∷ ms) (a ∷ cs) e =
-    let first = ap (λ p. p.0) (heads (maker_parts a) (m.name.name, from n m.fields) (map maker_parts cs) (makers_from (n + length m.fields) ms) e) in
-    let rest = makers_named (n + length m.fields) ms cs (tails (maker_parts a) (m.name.name, from n m.fields) (map maker_parts cs) (makers_from (n + length m.fields) ms) e) in
+    let first = ap (λ p. p.0) (heads (maker_parts a) (m.name.name, from n m.fields) (map maker_parts cs)
+    (makers_from (n + length m.fields) ms) e) in
+    let rest = makers_named (n + length m.fields) ms cs
+    (tails (maker_parts a) (m.name.name, from n m.fields) (map maker_parts cs) (makers_from (n + length m.fields) ms) e) in
     λ i. first i ∷ rest i
 
 -- so are those of all constructors
@@ -123,12 +140,15 @@ all_makers_named n [] [] e = refl
 all_makers_named n [] (f ∷ fs) e = absurd (cc e)
 all_makers_named n (family x ms ∷ ds) [] e = absurd (cc e)
 all_makers_named n (family x ms ∷ ds) (f ∷ fs) e =
-    let first = ap (λ p. p.1) (heads (family_parts f) (x.name, makers_from n ms) (map family_parts fs) (families_from (n + length (field_types ms)) ds) e) in
-    let rest = tails (family_parts f) (x.name, makers_from n ms) (map family_parts fs) (families_from (n + length (field_types ms)) ds) e in
+    let first = ap (λ p. p.1) (heads (family_parts f) (x.name, makers_from n ms) (map family_parts fs)
+    (families_from (n + length (field_types ms)) ds) e) in
+    let rest = tails (family_parts f) (x.name, makers_from n ms) (map family_parts fs)
+    (families_from (n + length (field_types ms)) ds) e in
     map-append (λ (a : code.Maker). a.name) f.makers.items (core.makers fs) ∙
     ap (λ zs. zs ++ map (λ (a : code.Maker). a.name) (core.makers fs)) (makers_named n ms f.makers.items first) ∙
     ap (λ zs. names (map (λ (m : Maker). m.name) ms) ++ zs) (all_makers_named (n + length (field_types ms)) ds fs rest) ∙
-    sym (ap names (map-append (λ (m : Maker). m.name) ms (makers ds)) ∙ map-append (λ (b : Binder). b.name) (map (λ (m : Maker). m.name) ms) (map (λ (m : Maker). m.name) (makers ds)))
+    sym (ap names (map-append (λ (m : Maker). m.name) ms (makers ds)) ∙ map-append
+    (λ (b : Binder). b.name) (map (λ (m : Maker). m.name) ms) (map (λ (m : Maker). m.name) (makers ds)))
 all_makers_named n (alias x w ∷ ds) fs e = all_makers_named (suc n) ds fs e
 all_makers_named n (signature x bs w ∷ ds) fs e = all_makers_named (suc n) ds fs e
 all_makers_named n (equation x ps t ∷ ds) fs e = all_makers_named (n + length (written_in t)) ds fs e
@@ -155,18 +175,22 @@ maker_here : (a : code.Maker) (cs : List code.Maker) (x : List ℕ) → bytes_eq
 maker_here a cs x e = ap (λ c. if c then Some a else maker_named x cs) e
 
 -- or it hasn't
-maker_next : (a : code.Maker) (cs : List code.Maker) (x : List ℕ) → bytes_eq x a.name ≡ false → maker_named x (a ∷ cs) ≡ maker_named x cs
+maker_next : (a : code.Maker) (cs : List code.Maker) (x : List ℕ) → bytes_eq x a.name ≡ false →
+    maker_named x (a ∷ cs) ≡ maker_named x cs
 maker_next a cs x e = ap (λ c. if c then Some a else maker_named x cs) e
 
 module _ (k : ℕ) (more : List Maker) (rest : List (ℕ × ℕ)) (others : List code.Maker) (x : List ℕ) (m : ℕ) where
   -- which of the two it is, for the constructors of one data type
-  in_family : (n j : ℕ) (ms : List Maker) (cs : List code.Maker) → map maker_parts cs ≡ makers_from n ms → fields_of (ms ++ more) x ≡ Some m →
-      IsHere k j m (ms ++ more) (numbers_from k j ms ++ rest) cs (cs ++ others) x ⊎ IsLater m (ms ++ more) more (numbers_from k j ms ++ rest) rest (cs ++ others) others x
+  in_family : (n j : ℕ) (ms : List Maker) (cs : List code.Maker) → map maker_parts cs ≡ makers_from n ms →
+      fields_of (ms ++ more) x ≡ Some m →
+      IsHere k j m (ms ++ more) (numbers_from k j ms ++ rest) cs (cs ++ others) x ⊎
+      IsLater m (ms ++ more) more (numbers_from k j ms ++ rest) rest (cs ++ others) others x
   in_family n j [] [] e f = inr (record { fields = f; numbered = refl; first = refl })
   in_family n j [] (a ∷ cs) e f = absurd (cc e)
   in_family n j (c ∷ ms) [] e f = absurd (cc e)
   in_family n j (c ∷ ms) (a ∷ cs) e f =
-      pick (bytes_eq x c.name.name) refl f (in_family (n + length c.fields) (suc j) ms cs (tails (maker_parts a) (c.name.name, from n c.fields) (map maker_parts cs) (makers_from (n + length c.fields) ms) e))
+      pick (bytes_eq x c.name.name) refl f (in_family (n + length c.fields) (suc j) ms cs
+      (tails (maker_parts a) (c.name.name, from n c.fields) (map maker_parts cs) (makers_from (n + length c.fields) ms) e))
     where
       head : maker_parts a ≡ (c.name.name, from n c.fields)
       head = heads (maker_parts a) (c.name.name, from n c.fields) (map maker_parts cs) (makers_from (n + length c.fields) ms) e
@@ -178,23 +202,27 @@ module _ (k : ℕ) (more : List Maker) (rest : List (ℕ × ℕ)) (others : List
       as_long = ap (λ p. length p.1) head ∙ from_long n c.fields
 
       behind : bytes_eq x c.name.name ≡ false →
-          IsHere k (suc j) m (ms ++ more) (numbers_from k (suc j) ms ++ rest) cs (cs ++ others) x ⊎ IsLater m (ms ++ more) more (numbers_from k (suc j) ms ++ rest) rest (cs ++ others) others x →
+          IsHere k (suc j) m (ms ++ more) (numbers_from k (suc j) ms ++ rest) cs (cs ++ others) x ⊎
+          IsLater m (ms ++ more) more (numbers_from k (suc j) ms ++ rest) rest (cs ++ others) others x →
           IsHere k j m (c ∷ ms ++ more) ((k, j) ∷ numbers_from k (suc j) ms ++ rest) (a ∷ cs) (a ∷ cs ++ others) x ⊎
           IsLater m (c ∷ ms ++ more) more ((k, j) ∷ numbers_from k (suc j) ms ++ rest) rest (a ∷ cs ++ others) others x
       behind is (inl h) = inl (record {
         number = suc h.number;
-        numbered = own_next c.name.name (names (map (λ (z : Maker). z.name) (ms ++ more))) (k, j) (numbers_from k (suc j) ms ++ rest) x is ∙ h.numbered ∙ ap (λ i. Some (k, i)) (omega arith);
+        numbered = own_next c.name.name (names (map (λ (z : Maker). z.name) (ms ++ more))) (k, j)
+            (numbers_from k (suc j) ms ++ rest) x is ∙ h.numbered ∙ ap (λ i. Some (k, i)) (omega arith);
         fields = h.fields;
         first = subst (λ o. HasFields o m) (sym (maker_next a (cs ++ others) x (same_name ∙ is))) h.first;
       })
       behind is (inr h) = inr (record {
         fields = h.fields;
-        numbered = own_next c.name.name (names (map (λ (z : Maker). z.name) (ms ++ more))) (k, j) (numbers_from k (suc j) ms ++ rest) x is ∙ h.numbered;
+        numbered = own_next c.name.name (names (map (λ (z : Maker). z.name) (ms ++ more))) (k, j)
+            (numbers_from k (suc j) ms ++ rest) x is ∙ h.numbered;
         first = maker_next a (cs ++ others) x (same_name ∙ is) ∙ h.first;
       })
 
       pick : (b : Bool) → bytes_eq x c.name.name ≡ b → (if b then Some (length c.fields) else fields_of (ms ++ more) x) ≡ Some m →
-          (fields_of (ms ++ more) x ≡ Some m → IsHere k (suc j) m (ms ++ more) (numbers_from k (suc j) ms ++ rest) cs (cs ++ others) x ⊎
+          (fields_of (ms ++ more) x ≡ Some m → IsHere k (suc j) m (ms ++ more) (numbers_from k (suc j) ms ++ rest) cs
+          (cs ++ others) x ⊎
           IsLater m (ms ++ more) more (numbers_from k (suc j) ms ++ rest) rest (cs ++ others) others x) →
           IsHere k j m (c ∷ ms ++ more) ((k, j) ∷ numbers_from k (suc j) ms ++ rest) (a ∷ cs) (a ∷ cs ++ others) x ⊎
           IsLater m (c ∷ ms ++ more) more ((k, j) ∷ numbers_from k (suc j) ms ++ rest) rest (a ∷ cs ++ others) others x
@@ -202,7 +230,8 @@ module _ (k : ℕ) (more : List Maker) (rest : List (ℕ × ℕ)) (others : List
           let long = as_long ∙ same_Some (length c.fields) m f in
           inl (record {
             number = 0;
-            numbered = own_here c.name.name (names (map (λ (z : Maker). z.name) (ms ++ more))) (k, j) (numbers_from k (suc j) ms ++ rest) x is ∙ ap (λ i. Some (k, i)) (omega arith);
+            numbered = own_here c.name.name (names (map (λ (z : Maker). z.name) (ms ++ more))) (k, j)
+                (numbers_from k (suc j) ms ++ rest) x is ∙ ap (λ i. Some (k, i)) (omega arith);
             fields = long;
             first = subst (λ o. HasFields o m) (sym (maker_here a (cs ++ others) x (same_name ∙ is))) long;
           })
@@ -217,20 +246,26 @@ pub record IsNumbered (k m : ℕ) (ds : List Declared) (fs : List Family) (x : L
   pub first : HasFields (maker_named x (core.makers fs)) m
 
 -- each constructor with fields has its numbers, and is the first of its name
-pub numbered : (k n : ℕ) (ds : List Declared) (fs : List Family) → map family_parts fs ≡ families_from n ds → (x : List ℕ) (m : ℕ) → fields_of (makers ds) x ≡ Some m → IsNumbered k m ds fs x
+pub numbered : (k n : ℕ) (ds : List Declared) (fs : List Family) → map family_parts fs ≡ families_from n ds →
+    (x : List ℕ) (m : ℕ) → fields_of (makers ds) x ≡ Some m → IsNumbered k m ds fs x
 numbered k n [] fs e x m f = absurd (cc f)
 numbered k n (family y ms ∷ ds) [] e x m f = absurd (cc e)
 numbered k n (family y ms ∷ ds) (g ∷ fs) e x m f =
-    either (in_family k (makers ds) (maker_numbers (suc k) ds) (core.makers fs) x m n 0 ms g.makers.items first f) (numbered (suc k) (n + length (field_types ms)) ds fs rest x m)
+    either (in_family k (makers ds) (maker_numbers (suc k) ds) (core.makers fs) x m n 0 ms g.makers.items first f)
+    (numbered (suc k) (n + length (field_types ms)) ds fs rest x m)
   where
     first : map maker_parts g.makers.items ≡ makers_from n ms
-    first = ap (λ p. p.1) (heads (family_parts g) (y.name, makers_from n ms) (map family_parts fs) (families_from (n + length (field_types ms)) ds) e)
+    first = ap (λ p. p.1) (heads (family_parts g) (y.name, makers_from n ms) (map family_parts fs)
+        (families_from (n + length (field_types ms)) ds) e)
 
     rest : map family_parts fs ≡ families_from (n + length (field_types ms)) ds
-    rest = tails (family_parts g) (y.name, makers_from n ms) (map family_parts fs) (families_from (n + length (field_types ms)) ds) e
+    rest = tails (family_parts g) (y.name, makers_from n ms) (map family_parts fs)
+        (families_from (n + length (field_types ms)) ds) e
 
-    either : IsHere k 0 m (ms ++ makers ds) (numbers_from k 0 ms ++ maker_numbers (suc k) ds) g.makers.items (g.makers.items ++ core.makers fs) x ⊎
-        IsLater m (ms ++ makers ds) (makers ds) (numbers_from k 0 ms ++ maker_numbers (suc k) ds) (maker_numbers (suc k) ds) (g.makers.items ++ core.makers fs) (core.makers fs) x →
+    either : IsHere k 0 m (ms ++ makers ds) (numbers_from k 0 ms ++ maker_numbers (suc k) ds) g.makers.items
+        (g.makers.items ++ core.makers fs) x ⊎
+        IsLater m (ms ++ makers ds) (makers ds) (numbers_from k 0 ms ++ maker_numbers (suc k) ds) (maker_numbers (suc k) ds)
+        (g.makers.items ++ core.makers fs) (core.makers fs) x →
         (fields_of (makers ds) x ≡ Some m → IsNumbered (suc k) m ds fs x) → IsNumbered k m (family y ms ∷ ds) (g ∷ fs) x
     either (inl h) next = record {
       its_family = 0;

@@ -32,24 +32,31 @@ pub own_known : (ds : List Declared) (d : Declarations) → AreDeclarations ds d
 own_known ds d are = subst (λ declared. IsKnown declared (known_in d)) (same_declared ds d.types are.types) are.known
 
 -- the parts of a module are those that its source gives
-pub built : (ds : List Declared) (d : Declarations) (p : Parts) (entries : List GlobalEntry) (list : TypeList) → IsFaultless ds d → AreParts ds (known_in d) ds p → map global_parts entries ≡ module_globals ds (known_in d) →
-    IsLonger p.list (parameters_types ds (known_in d) (equations_from 0 ds)) list → IsBuilt ds (known_in d) p.families.items entries list.types.items list.places.items
+pub built : (ds : List Declared) (d : Declarations) (p : Parts) (entries : List GlobalEntry) (list : TypeList) →
+    IsFaultless ds d → AreParts ds (known_in d) ds p → map global_parts entries ≡ module_globals ds (known_in d) →
+    IsLonger p.list (parameters_types ds (known_in d) (equations_from 0 ds)) list →
+    IsBuilt ds (known_in d) p.families.items entries list.types.items list.places.items
 built ds d p entries list whole parts globals_are longer = record {
   filled = whole.filled;
   is_known = own_known ds d whole.declared;
   faultless = whole.faultless;
   types_are =
-      longer.types ∙ ap (λ z. z ++ map (λ (t : TypeAt). t.stands) (parameters_types ds (known_in d) (equations_from 0 ds))) parts.types ∙
-      sym (map-append (λ (t : TypeAt). t.stands) (decls_types ds (known_in d) ds) (parameters_types ds (known_in d) (equations_from 0 ds)));
+      longer.types ∙ ap (λ z. z ++ map (λ (t : TypeAt). t.stands) (parameters_types ds (known_in d) (equations_from 0 ds)))
+      parts.types ∙
+      sym (map-append (λ (t : TypeAt). t.stands) (decls_types ds (known_in d) ds)
+      (parameters_types ds (known_in d) (equations_from 0 ds)));
   places_are =
-      longer.places ∙ ap (λ z. z ++ map (λ (t : TypeAt). t.at) (parameters_types ds (known_in d) (equations_from 0 ds))) parts.places ∙
-      sym (map-append (λ (t : TypeAt). t.at) (decls_types ds (known_in d) ds) (parameters_types ds (known_in d) (equations_from 0 ds)));
+      longer.places ∙ ap (λ z. z ++ map (λ (t : TypeAt). t.at) (parameters_types ds (known_in d) (equations_from 0 ds)))
+      parts.places ∙
+      sym (map-append (λ (t : TypeAt). t.at) (decls_types ds (known_in d) ds)
+      (parameters_types ds (known_in d) (equations_from 0 ds)));
   families_are = parts.families;
   globals_are = globals_are;
 }
 
 -- and so is the module
-pub is_resolved : (ds : List Declared) (known : Known) (m : Module) → IsBuilt ds known m.families.items m.globals.items m.types.items m.places.items → IsResolvedModule ds m
+pub is_resolved : (ds : List Declared) (known : Known) (m : Module) →
+    IsBuilt ds known m.families.items m.globals.items m.types.items m.places.items → IsResolvedModule ds m
 is_resolved ds known m b = record {
   known = known;
   is_known = b.is_known;
@@ -74,20 +81,29 @@ main_there ds [] e = ap (λ c. if c then [] else NoMain ∷ []) e
 main_there ds (g ∷ fs) e = refl
 
 -- where nothing is, this is told
-pub main_told : (ds : List Declared) (fs : List NameFault) → is_among (globals ds) (codes "main") ≡ false → first_fault fs ≡ None → Some NoMain ≡ first_fault (no_main ds fs)
+pub main_told : (ds : List Declared) (fs : List NameFault) → is_among (globals ds) (codes "main") ≡ false →
+    first_fault fs ≡ None → Some NoMain ≡ first_fault (no_main ds fs)
 main_told ds fs e none =
-    sym (ap (λ c. first_fault (if c then [] else NoMain ∷ [])) e) ∙ ap (λ gs. first_fault (no_main ds gs)) (sym (no_first fs none))
+    sym (ap (λ c. first_fault (if c then [] else NoMain ∷ [])) e) ∙ ap
+    (λ gs. first_fault (no_main ds gs)) (sym (no_first fs none))
 
 -- the first of all faults
-pub all_noted : (ds : List Declared) (known : Known) (one two three : Option NameFault) → one ≡ first_from None (twice_declared ds) → two ≡ first_from one (decls_faults ds known ds) →
-    (two ≡ first_fault (faults_but_main ds known) → three ≡ first_fault (no_main ds (faults_but_main ds known))) → three ≡ first_fault (module_faults ds known)
+pub all_noted : (ds : List Declared) (known : Known) (one two three : Option NameFault) →
+    one ≡ first_from None (twice_declared ds) → two ≡ first_from one (decls_faults ds known ds) →
+    (two ≡ first_fault (faults_but_main ds known) → three ≡ first_fault (no_main ds (faults_but_main ds known))) →
+    three ≡ first_fault (module_faults ds known)
 all_noted ds known one two three first second third =
-    third (second ∙ ap (λ k. first_from k (decls_faults ds known ds)) first ∙ sym (first_append None (twice_declared ds) (decls_faults ds known ds)))
+    third (second ∙ ap (λ k. first_from k (decls_faults ds known ds)) first
+    ∙ sym (first_append None (twice_declared ds) (decls_faults ds known ds)))
 
 -- whatever is known
-pub any_known : (ds : List Declared) (d : Declarations) (f : Option NameFault) → AreDeclarations ds d → f ≡ first_fault (module_faults ds (known_in d)) → (known : Known) → IsKnown (type_declared ds) known → first_fault (module_faults ds known) ≡ f
-any_known ds d f are is known is_known = ap (λ k. first_fault (module_faults ds k)) (known_same (type_declared ds) known (known_in d) is_known (own_known ds d are)) ∙ sym is
+pub any_known : (ds : List Declared) (d : Declarations) (f : Option NameFault) → AreDeclarations ds d →
+    f ≡ first_fault (module_faults ds (known_in d)) →
+    (known : Known) → IsKnown (type_declared ds) known → first_fault (module_faults ds known) ≡ f
+any_known ds d f are is known is_known = ap (λ k. first_fault (module_faults ds k))
+    (known_same (type_declared ds) known (known_in d) is_known (own_known ds d are)) ∙ sym is
 
 -- where none is first, there is none
-pub none_first : (ds : List Declared) (known : Known) (f : Option NameFault) → f ≡ first_fault (module_faults ds known) → f ≡ None → module_faults ds known ≡ []
+pub none_first : (ds : List Declared) (known : Known) (f : Option NameFault) → f ≡ first_fault (module_faults ds known) →
+    f ≡ None → module_faults ds known ≡ []
 none_first ds known f is none = no_first (module_faults ds known) (sym is ∙ none)

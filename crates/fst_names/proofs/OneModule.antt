@@ -22,7 +22,8 @@ known_same declared k l a b = λ i. record { stands = λ x. stands_same x i; loo
         pick None e None f = refl
 
     loops_same : (x : List ℕ) → k.loops x ≡ l.loops x
-    loops_same x = same_bool (k.loops x) (l.loops x) (λ e. (b.leads_back x).1 ((a.leads_back x).0 e)) (λ e. (a.leads_back x).1 ((b.leads_back x).0 e))
+    loops_same x = same_bool (k.loops x) (l.loops x) (λ e. (b.leads_back x).1 ((a.leads_back x).0 e))
+        (λ e. (a.leads_back x).1 ((b.leads_back x).0 e))
 
 -- lists that are one with each item there are one
 same_there : {A : Type 0} (xs ys : List A) → map Some xs ≡ map Some ys → xs ≡ ys
@@ -43,7 +44,8 @@ one_module = record { one = same_modules }
     same_modules ds m n a b =
         let same = known_same (type_declared ds) a.known b.known a.is_known b.is_known in
         record {
-          types = same_there m.types.items n.types.items (a.types ∙ ap (λ k. map (λ (t : TypeAt). t.stands) (module_types ds k)) same ∙ sym b.types);
+          types = same_there m.types.items n.types.items
+              (a.types ∙ ap (λ k. map (λ (t : TypeAt). t.stands) (module_types ds k)) same ∙ sym b.types);
           places = a.places ∙ ap (λ k. map (λ (t : TypeAt). t.at) (module_types ds k)) same ∙ sym b.places;
           families = a.families ∙ sym b.families;
           globals = a.globals ∙ ap (module_globals ds) same ∙ sym b.globals;

@@ -32,7 +32,8 @@ bounds_of ns families types = record { families = families; globals = length ns.
 
 -- how many names are in scope behind some binders
 pub long_within : (bs : List Binder) (xs : List (List ℕ)) → length (within bs xs) ≡ length bs + length xs
-long_within bs xs = length-append (reverse (names bs)) xs ∙ ap (λ n. n + length xs) (length-reverse (names bs) ∙ length-map bs (λ (b : Binder). b.name))
+long_within bs xs = length-append (reverse (names bs)) xs ∙ ap
+    (λ n. n + length xs) (length-reverse (names bs) ∙ length-map bs (λ (b : Binder). b.name))
 
 -- as many numbers as types
 pub from_long : (n : ℕ) (ts : List WrittenTree) → length (from n ts) ≡ length ts
@@ -74,7 +75,8 @@ maker_found at x got (Some wanted) e = pick (got == wanted) refl e
     pick false is h = absurd (cc h)
 
 -- as many terms with numbers as with names
-cores_long : (ns : Numbers) (xs : List (List ℕ)) (n : ℕ) (ts : TermList) → core.terms_length (core_terms ns xs n ts) ≡ terms_length ts
+cores_long : (ns : Numbers) (xs : List (List ℕ)) (n : ℕ) (ts : TermList) →
+    core.terms_length (core_terms ns xs n ts) ≡ terms_length ts
 cores_long ns xs n no_terms = refl
 cores_long ns xs n (term t ts) = ap suc (cores_long ns xs (n + length (written_in t)) ts)
 
@@ -84,32 +86,39 @@ core_arm_there ns xs n no_arms h = h
 core_arm_there ns xs n (arm l bs t arms) h = tt
 
 module _ (s : Surroundings) (ns : Numbers) (families : List Family) (fits : Fits s ns families) (types : ℕ) where
-  name_in_range : (xs : List (List ℕ)) (n at : ℕ) (x : List ℕ) (ts : List WrittenTree) → name_faults xs s.globals at x ts ≡ [] → n + length ts ≤ types →
+  name_in_range : (xs : List (List ℕ)) (n at : ℕ) (x : List ℕ) (ts : List WrittenTree) → name_faults xs s.globals at x ts ≡ [] →
+      n + length ts ≤ types →
       IsInRange (bounds_of ns families types) (length xs) (name_term ns n at x ts (place_of xs x))
   name_in_range xs n at x [] e low = pick (place_of xs x) refl e
     where
-      pick : (o : Option ℕ) → place_of xs x ≡ o → unless_there at x (or_else o (place_of s.globals x)) ≡ [] → IsInRange (bounds_of ns families types) (length xs) (name_term ns n at x [] o)
+      pick : (o : Option ℕ) → place_of xs x ≡ o → unless_there at x (or_else o (place_of s.globals x)) ≡ [] →
+          IsInRange (bounds_of ns families types) (length xs) (name_term ns n at x [] o)
       pick (Some k) is h = place_within xs x k is
       pick None is h = (among_place ns.globals x (fits.globals x (is_found at x (place_of s.globals x) h)), tt)
   name_in_range xs n at x (t ∷ ts) e low =
       (among_place ns.globals x (fits.globals x (is_found at x (place_of s.globals x) e)), from_below types n (t ∷ ts) low)
 
   -- a constructor with its arguments
-  maker_in_range : (xs : List (List ℕ)) (n at : ℕ) (x : List ℕ) (ts : TermList) → maker_faults at x (terms_length ts) (s.makers x) ≡ [] →
-      AreInRange (bounds_of ns families types) (length xs) (core_terms ns xs n ts) → IsInRange (bounds_of ns families types) (length xs) (maker_term at (core_terms ns xs n ts) (ns.makers x))
+  maker_in_range : (xs : List (List ℕ)) (n at : ℕ) (x : List ℕ) (ts : TermList) →
+      maker_faults at x (terms_length ts) (s.makers x) ≡ [] →
+      AreInRange (bounds_of ns families types) (length xs) (core_terms ns xs n ts) →
+      IsInRange (bounds_of ns families types) (length xs) (maker_term at (core_terms ns xs n ts) (ns.makers x))
   maker_in_range xs n at x ts e all =
       let found = fits.makers x (terms_length ts) (maker_found at x (terms_length ts) (s.makers x) e) in
       subst (λ o. IsInRange (bounds_of ns families types) (length xs) (maker_term at (core_terms ns xs n ts) o)) (sym found.2)
       (subst (HasFields (maker_of (slice_get families found.0) found.1)) (sym (cores_long ns xs n ts)) found.3, all)
 
   -- a term under further binders
-  under : (bs : List Binder) (xs : List (List ℕ)) (n : ℕ) (t : TermTree) → IsInRange (bounds_of ns families types) (length (within bs xs)) (core_term ns (within bs xs) n t) →
+  under : (bs : List Binder) (xs : List (List ℕ)) (n : ℕ) (t : TermTree) →
+      IsInRange (bounds_of ns families types) (length (within bs xs)) (core_term ns (within bs xs) n t) →
       IsInRange (bounds_of ns families types) (length bs + length xs) (core_term ns (within bs xs) n t)
-  under bs xs n t h = subst (λ m. IsInRange (bounds_of ns families types) m (core_term ns (within bs xs) n t)) (long_within bs xs) h
+  under bs xs n t h = subst (λ m. IsInRange (bounds_of ns families types) m (core_term ns (within bs xs) n t))
+      (long_within bs xs) h
 
   mutual
     -- a term without faults is in range
-    pub in_range : (xs : List (List ℕ)) (n : ℕ) (t : TermTree) → term_faults s xs t ≡ [] → IsFilled t → n + length (written_in t) ≤ types →
+    pub in_range : (xs : List (List ℕ)) (n : ℕ) (t : TermTree) → term_faults s xs t ≡ [] → IsFilled t →
+        n + length (written_in t) ≤ types →
         IsInRange (bounds_of ns families types) (length xs) (core_term ns xs n t)
     in_range xs n (named at x ts) e filled low =
         let two = none_named (name_faults xs s.globals at x ts) (types_faults s.types ts) e in
@@ -138,26 +147,31 @@ module _ (s : Surroundings) (ns : Numbers) (families : List Family) (fits : Fits
     in_range xs n (let_in at x t u) e filled low =
         let two = none_named (term_faults s xs t) (term_faults s (x.name ∷ xs) u) e in (
           in_range xs n t two.0 filled.0 (left_low n types (written_in t) (written_in u) low),
-          in_range (x.name ∷ xs) (n + length (written_in t)) u two.1 filled.1 (right_low n types (written_in t) (written_in u) low),
+          in_range (x.name ∷ xs) (n + length (written_in t)) u two.1 filled.1
+              (right_low n types (written_in t) (written_in u) low),
         )
     in_range xs n (split at x y t u) e filled low =
         let two = none_named (term_faults s xs t) (term_faults s (y.name ∷ x.name ∷ xs) u) e in (
           in_range xs n t two.0 filled.0 (left_low n types (written_in t) (written_in u) low),
-          in_range (y.name ∷ x.name ∷ xs) (n + length (written_in t)) u two.1 filled.1 (right_low n types (written_in t) (written_in u) low),
+          in_range (y.name ∷ x.name ∷ xs) (n + length (written_in t)) u two.1 filled.1
+              (right_low n types (written_in t) (written_in u) low),
         )
     in_range xs n (if_else at t u v) e filled low =
         let one = none_named (term_faults s xs t) (term_faults s xs u ++ term_faults s xs v) e in
         let two = none_named (term_faults s xs u) (term_faults s xs v) one.1 in
         let rest = right_low n types (written_in t) (written_in u ++ written_in v) low in (
           in_range xs n t one.0 filled.0 (left_low n types (written_in t) (written_in u ++ written_in v) low),
-          in_range xs (n + length (written_in t)) u two.0 filled.1 (left_low (n + length (written_in t)) types (written_in u) (written_in v) rest),
-          in_range xs (n + length (written_in t) + length (written_in u)) v two.1 filled.2 (right_low (n + length (written_in t)) types (written_in u) (written_in v) rest),
+          in_range xs (n + length (written_in t)) u two.0 filled.1
+              (left_low (n + length (written_in t)) types (written_in u) (written_in v) rest),
+          in_range xs (n + length (written_in t) + length (written_in u)) v two.1 filled.2
+              (right_low (n + length (written_in t)) types (written_in u) (written_in v) rest),
         )
     in_range xs n (case_of at t bs) e filled low =
         let two = none_named (term_faults s xs t) (cases_faults s xs bs) e in (
           core_arm_there ns xs (n + length (written_in t)) bs filled.0,
           in_range xs n t two.0 filled.1 (left_low n types (written_in t) (written_in_arms bs) low),
-          cases_in_range xs (n + length (written_in t)) bs two.1 filled.2 (right_low n types (written_in t) (written_in_arms bs) low),
+          cases_in_range xs (n + length (written_in t)) bs two.1 filled.2
+              (right_low n types (written_in t) (written_in_arms bs) low),
         )
     in_range xs n (operate at o t u) e filled low =
         let two = none_named (term_faults s xs t) (term_faults s xs u) e in (
@@ -177,7 +191,8 @@ module _ (s : Surroundings) (ns : Numbers) (families : List Family) (fits : Fits
         let two = none_named (term_faults s xs t) (matches_faults s xs bs) e in (
           core_arm_there ns xs (n + length (written_in t)) bs filled.0,
           in_range xs n t two.0 filled.2 (left_low n types (written_in t) (written_in_arms bs) low),
-          matches_in_range xs (n + length (written_in t)) bs two.1 filled.1 filled.3 (right_low n types (written_in t) (written_in_arms bs) low),
+          matches_in_range xs (n + length (written_in t)) bs two.1 filled.1 filled.3
+              (right_low n types (written_in t) (written_in_arms bs) low),
         )
     in_range xs n (fork at t) e filled low = in_range xs n t e filled low
     in_range xs n (seq at t u) e filled low =
@@ -186,28 +201,35 @@ module _ (s : Surroundings) (ns : Numbers) (families : List Family) (fits : Fits
           in_range xs (n + length (written_in t)) u two.1 filled.1 (right_low n types (written_in t) (written_in u) low),
         )
 
-    all_in_range : (xs : List (List ℕ)) (n : ℕ) (ts : TermList) → terms_faults s xs ts ≡ [] → AreFilled ts → n + length (written_in_all ts) ≤ types →
+    all_in_range : (xs : List (List ℕ)) (n : ℕ) (ts : TermList) → terms_faults s xs ts ≡ [] → AreFilled ts →
+        n + length (written_in_all ts) ≤ types →
         AreInRange (bounds_of ns families types) (length xs) (core_terms ns xs n ts)
     all_in_range xs n no_terms e filled low = tt
     all_in_range xs n (term t ts) e filled low =
         let two = none_named (term_faults s xs t) (terms_faults s xs ts) e in (
           in_range xs n t two.0 filled.0 (left_low n types (written_in t) (written_in_all ts) low),
-          all_in_range xs (n + length (written_in t)) ts two.1 filled.1 (right_low n types (written_in t) (written_in_all ts) low),
+          all_in_range xs (n + length (written_in t)) ts two.1 filled.1
+              (right_low n types (written_in t) (written_in_all ts) low),
         )
 
-    cases_in_range : (xs : List (List ℕ)) (n : ℕ) (bs : TermArms) → cases_faults s xs bs ≡ [] → HaveArmsFilled bs → n + length (written_in_arms bs) ≤ types →
+    cases_in_range : (xs : List (List ℕ)) (n : ℕ) (bs : TermArms) → cases_faults s xs bs ≡ [] → HaveArmsFilled bs →
+        n + length (written_in_arms bs) ≤ types →
         AreCasesInRange (bounds_of ns families types) (length xs) (core_arms ns xs n bs)
     cases_in_range xs n no_arms e filled low = tt
     cases_in_range xs n (arm l bs t arms) e filled low =
-        let one = none_named (maker_faults l.at l.name (length bs) (s.makers l.name)) (term_faults s (within bs xs) t ++ cases_faults s xs arms) e in
+        let one = none_named (maker_faults l.at l.name (length bs) (s.makers l.name))
+        (term_faults s (within bs xs) t ++ cases_faults s xs arms) e in
         let two = none_named (term_faults s (within bs xs) t) (cases_faults s xs arms) one.1 in
         let found = fits.makers l.name (length bs) (maker_found l.at l.name (length bs) (s.makers l.name) one.0) in (
           found.4,
-          under bs xs n t (in_range (within bs xs) n t two.0 filled.0 (left_low n types (written_in t) (written_in_arms arms) low)),
-          cases_in_range xs (n + length (written_in t)) arms two.1 filled.1 (right_low n types (written_in t) (written_in_arms arms) low),
+          under bs xs n t (in_range (within bs xs) n t two.0 filled.0
+              (left_low n types (written_in t) (written_in_arms arms) low)),
+          cases_in_range xs (n + length (written_in t)) arms two.1 filled.1
+              (right_low n types (written_in t) (written_in_arms arms) low),
         )
 
-    matches_in_range : (xs : List (List ℕ)) (n : ℕ) (bs : TermArms) → matches_faults s xs bs ≡ [] → BindOne bs → HaveArmsFilled bs → n + length (written_in_arms bs) ≤ types →
+    matches_in_range : (xs : List (List ℕ)) (n : ℕ) (bs : TermArms) → matches_faults s xs bs ≡ [] → BindOne bs →
+        HaveArmsFilled bs → n + length (written_in_arms bs) ≤ types →
         AreMatchesInRange (bounds_of ns families types) (length xs) (core_arms ns xs n bs)
     matches_in_range xs n no_arms e one filled low = tt
     matches_in_range xs n (arm l bs t arms) e one filled low =
@@ -215,6 +237,8 @@ module _ (s : Surroundings) (ns : Numbers) (families : List Family) (fits : Fits
         let is = one.0 in (
           is,
           subst (λ m. IsInRange (bounds_of ns families types) m (core_term ns (within bs xs) n t)) (omega (arith, is))
-              (under bs xs n t (in_range (within bs xs) n t two.0 filled.0 (left_low n types (written_in t) (written_in_arms arms) low))),
-          matches_in_range xs (n + length (written_in t)) arms two.1 one.1 filled.1 (right_low n types (written_in t) (written_in_arms arms) low),
+              (under bs xs n t (in_range (within bs xs) n t two.0 filled.0
+              (left_low n types (written_in t) (written_in_arms arms) low))),
+          matches_in_range xs (n + length (written_in t)) arms two.1 one.1 filled.1
+              (right_low n types (written_in t) (written_in_arms arms) low),
         )

@@ -10,7 +10,6 @@ use Rattle.std.proofs.lemmas.List.Elements.{All-from_recursion, Contains-append_
 use Rattle.std.proofs.lemmas.Map.Keys.{IsDistinct-head, IsDistinct-tail}
 use Rattle.std.proofs.lemmas.Option.{get_or_from_slice_get, slice_get-map}
 use Rattle.std.proofs.lemmas.Slice.Eq.{bytes_eq-Decides}
-use Rattle.fst_scopes.proofs.OrderLaws.{place_among, stands_at}
 use Rattle.fst_base.proofs.Bools.{same_text}
 use Rattle.fst_base.proofs.Lists.{contains_none, from_contains}
 use Rattle.fst_loops.specs.Graphs.{edges, IsOrder}
@@ -27,7 +26,7 @@ use Rattle.fst_scopes.specs.declared.types.TypeEntry.{TypeEntry}
 use Rattle.fst_scopes.specs.declared.types.TypeEntry.TheVariants as entry
 use Rattle.fst_scopes.specs.declared.types.TypeNames.{TypeNames}
 use Rattle.fst_scopes.proofs.Laws.{type_agrees}
-use Rattle.fst_scopes.proofs.Laws.{place_within, type_there}
+use Rattle.fst_scopes.proofs.Laws.{place_within, type_there, place_among, stands_at}
 
 -- ---- places
 
@@ -71,7 +70,8 @@ module _ (declared : List ℕ → Option TypeDecl) (aliases : List ℕ → Optio
   all_filled x (Some (other_name w)) = refl
 
   -- where the aliases in a type stand for something, it does
-  types_stand : (w : WrittenTree) → ((y : List ℕ) (v : WrittenTree) → Contains (names_in [] w) y → declared y ≡ Some (other_name v) → IsSome (aliases y)) → IsSome (type_of (scope_with [] declared aliases) w)
+  types_stand : (w : WrittenTree) → ((y : List ℕ) (v : WrittenTree) → Contains (names_in [] w) y →
+      declared y ≡ Some (other_name v) → IsSome (aliases y)) → IsSome (type_of (scope_with [] declared aliases) w)
   types_stand w all =
       subst IsSome (sym (type_agrees declared aliases filled [] w (λ y v c d. same (aliases y) (all y v c d))))
       (type_there (scope_with [] declared filled) (λ x. all_filled x (declared x)) w)
@@ -96,70 +96,88 @@ module _ (types : TypeNames) where
   pub has_entry : (y : List ℕ) (v : WrittenTree) → declared_in types y ≡ Some (other_name v) → HasEntry y
   has_entry y v d = pick (place_of types.names y) refl d
     where
-      at : (k : ℕ) → place_of types.names y ≡ Some k → (o : Option TypeEntry) → entry_at k ≡ o → option_map entry_decl o ≡ Some (other_name v) → HasEntry y
+      at : (k : ℕ) → place_of types.names y ≡ Some k →
+          (o : Option TypeEntry) → entry_at k ≡ o → option_map entry_decl o ≡ Some (other_name v) → HasEntry y
       at k is None e h = absurd (cc h)
       at k is (Some (entry.Family n)) e h = absurd (cc h)
       at k is (Some (entry.Alias w)) e h = record { number = k; written = w; placed = is; entered = e }
 
-      pick : (o : Option ℕ) → place_of types.names y ≡ o → option_map entry_decl (option_and_then (λ k. slice_get types.entries.items k) o) ≡ Some (other_name v) → HasEntry y
+      pick : (o : Option ℕ) → place_of types.names y ≡ o →
+          option_map entry_decl (option_and_then (λ k. slice_get types.entries.items k) o) ≡ Some (other_name v) → HasEntry y
       pick None is h = absurd (cc h)
       pick (Some k) is h = at k is (entry_at k) refl h
 
   -- an entry's edges are those of its node
   edges_are : (x : ℕ) (e : TypeEntry) → entry_at x ≡ Some e → edges (graph_of types) x ≡ entry_edges types.names e
   edges_are x e is =
-      get_or_from_slice_get (graph_of types) x (entry_edges types.names e) [] (slice_get-map (entry_edges types.names) types.entries.items x ∙ ap (option_map (entry_edges types.names)) is)
+      get_or_from_slice_get (graph_of types) x (entry_edges types.names e) []
+      (slice_get-map (entry_edges types.names) types.entries.items x ∙ ap (option_map (entry_edges types.names)) is)
 
 module _ (types : TypeNames) (looped : List Bool) where
   -- no declared alias lies on a loop
   pub record NoneLoops : Type 0 where
-    pub off : (y : List ℕ) (v : WrittenTree) (k : ℕ) → declared_in types y ≡ Some (other_name v) → place_of types.names y ≡ Some k → get_or looped k false ≡ false
+    pub off : (y : List ℕ) (v : WrittenTree) (k : ℕ) → declared_in types y ≡ Some (other_name v) →
+        place_of types.names y ≡ Some k → get_or looped k false ≡ false
 
   -- each alias among those that were looked at stands for something, unless it lies on a loop
   pub record AreMade (done : List ℕ) (trees : List (Option Tree)) : Type 0 where
-    pub made : (k : ℕ) (w : Bor Written) → Contains done k → get_or looped k false ≡ false → slice_get types.entries.items k ≡ Some (entry.Alias w) → IsSome (get_or trees k None)
+    pub made : (k : ℕ) (w : Bor Written) → Contains done k → get_or looped k false ≡ false →
+        slice_get types.entries.items k ≡ Some (entry.Alias w) → IsSome (get_or trees k None)
 
   module _ (open_ended : NoneLoops) where
     -- the type of an alias stands for something where those in it were looked at
-    pub alias_there : (done : List ℕ) (trees : List (Option Tree)) (x : ℕ) (w : Bor Written) → AreMade done trees → slice_get types.entries.items x ≡ Some (entry.Alias w) →
+    pub alias_there : (done : List ℕ) (trees : List (Option Tree)) (x : ℕ) (w : Bor Written) → AreMade done trees →
+        slice_get types.entries.items x ≡ Some (entry.Alias w) →
         ((y : ℕ) → Contains (edges (graph_of types) x) y → Contains done y) → IsSome (type_of (alias_scope types trees) w.now)
     alias_there done trees x w are at behind = types_stand (declared_in types) (standing_in types trees) w.now each
       where
-        each : (y : List ℕ) (v : WrittenTree) → Contains (names_in [] w.now) y → declared_in types y ≡ Some (other_name v) → IsSome (standing_in types trees y)
+        each : (y : List ℕ) (v : WrittenTree) → Contains (names_in [] w.now) y → declared_in types y ≡ Some (other_name v) →
+            IsSome (standing_in types trees y)
         each y v c d =
             let h = has_entry types y v d in
-            let led = subst (λ z. Contains z h.number) (sym (edges_are types x (entry.Alias w) at)) (place_among types.names (names_in [] w.now) y h.number c h.placed) in
-            subst IsSome (sym (stands_at types trees y h.number h.placed)) (are.made h.number h.written (behind h.number led) (open_ended.off y v h.number d h.placed) h.entered)
+            let led = subst (λ z. Contains z h.number) (sym (edges_are types x (entry.Alias w) at))
+            (place_among types.names (names_in [] w.now) y h.number c h.placed) in
+            subst IsSome (sym (stands_at types trees y h.number h.placed))
+            (are.made h.number h.written (behind h.number led) (open_ended.off y v h.number d h.placed) h.entered)
 
     -- one more name
     one_made : (done : List ℕ) (trees : List (Option Tree)) (x : ℕ) → AreMade done trees → x < length trees →
-        (get_or looped x false ≡ false → (y : ℕ) → Contains (edges (graph_of types) x) y → Contains done y) → AreMade (done ++ x ∷ []) (set trees x (tree_after types looped trees x))
+        (get_or looped x false ≡ false → (y : ℕ) → Contains (edges (graph_of types) x) y → Contains done y) →
+        AreMade (done ++ x ∷ []) (set trees x (tree_after types looped trees x))
     one_made done trees x are within behind = record { made = made }
       where
-        own : (w : Bor Written) → get_or looped x false ≡ false → slice_get types.entries.items x ≡ Some (entry.Alias w) → IsSome (tree_after types looped trees x)
+        own : (w : Bor Written) → get_or looped x false ≡ false → slice_get types.entries.items x ≡ Some (entry.Alias w) →
+            IsSome (tree_after types looped trees x)
         own w off at =
-            subst IsSome (sym (ap (λ (c : Bool). if c then None else entry_tree types trees (slice_get types.entries.items x)) off ∙ ap (entry_tree types trees) at)) (alias_there done trees x w are at (behind off))
+            subst IsSome (sym (ap (λ (c : Bool). if c then None else entry_tree types trees (slice_get types.entries.items x)) off
+            ∙ ap (entry_tree types trees) at)) (alias_there done trees x w are at (behind off))
 
-        same : (k : ℕ) (w : Bor Written) → get_or looped k false ≡ false → slice_get types.entries.items k ≡ Some (entry.Alias w) → x ≡ k → IsSome (get_or (set trees x (tree_after types looped trees x)) k None)
+        same : (k : ℕ) (w : Bor Written) → get_or looped k false ≡ false →
+            slice_get types.entries.items k ≡ Some (entry.Alias w) → x ≡ k →
+            IsSome (get_or (set trees x (tree_after types looped trees x)) k None)
         same k w off at is =
             subst (λ z. IsSome (get_or (set trees x (tree_after types looped trees x)) z None)) is
             (subst IsSome (sym (get_or-set_same trees x (tree_after types looped trees x) None within))
             (own w (ap (λ z. get_or looped z false) is ∙ off) (ap (λ z. slice_get types.entries.items z) is ∙ at)))
 
-        made : (k : ℕ) (w : Bor Written) → Contains (done ++ x ∷ []) k → get_or looped k false ≡ false → slice_get types.entries.items k ≡ Some (entry.Alias w) →
+        made : (k : ℕ) (w : Bor Written) → Contains (done ++ x ∷ []) k → get_or looped k false ≡ false →
+            slice_get types.entries.items k ≡ Some (entry.Alias w) →
             IsSome (get_or (set trees x (tree_after types looped trees x)) k None)
         made k w c off at = pick (k == x) refl (by_last done x k c)
           where
-            pick : (b : Bool) → (k == x) ≡ b → Contains done k ⊎ (x ≡ k) → IsSome (get_or (set trees x (tree_after types looped trees x)) k None)
+            pick : (b : Bool) → (k == x) ≡ b → Contains done k ⊎
+                (x ≡ k) → IsSome (get_or (set trees x (tree_after types looped trees x)) k None)
             pick true is d = same k w off at (sym ((Decides-eqb k x).0 is))
             pick false is (inl d) =
                 let apart : k ≢ x = λ e. absurd (cc ((Decides-eqb k x).1 e, is)) in
-                subst IsSome (sym (get_or-set_other trees x k (tree_after types looped trees x) None apart)) (are.made k w d off at)
+                subst IsSome (sym (get_or-set_other trees x k (tree_after types looped trees x) None apart))
+                (are.made k w d off at)
             pick false is (inr e) = same k w off at e
 
 -- ---- in an order
 
-module _ (types : TypeNames) (order : List ℕ) (looped : List Bool) (is : IsOrder (graph_of types) order looped) (open_ended : NoneLoops types looped) where
+module _ (types : TypeNames) (order : List ℕ) (looped : List Bool) (is : IsOrder (graph_of types) order looped)
+    (open_ended : NoneLoops types looped) where
   entries_paired : length (graph_of types) ≡ length types.names
   entries_paired = length-map types.entries.items (entry_edges types.names) ∙ types.paired
 
@@ -168,11 +186,14 @@ module _ (types : TypeNames) (order : List ℕ) (looped : List Bool) (is : IsOrd
   after i = trees_after types looped (replicate (length types.names) None) (take i order)
 
   -- one more of them
-  pub after_next : (i : ℕ) → i < length order → after (suc i) ≡ set (after i) (get_or order i 0) (tree_after types looped (after i) (get_or order i 0))
-  after_next i low = ap (trees_after types looped (replicate (length types.names) None)) (take-suc order i 0 low) ∙ last (replicate (length types.names) None) (take i order)
+  pub after_next : (i : ℕ) → i < length order →
+      after (suc i) ≡ set (after i) (get_or order i 0) (tree_after types looped (after i) (get_or order i 0))
+  after_next i low = ap (trees_after types looped (replicate (length types.names) None)) (take-suc order i 0 low)
+      ∙ last (replicate (length types.names) None) (take i order)
     where
       last : (trees : List (Option Tree)) (done : List ℕ) → trees_after types looped trees (done ++ get_or order i 0 ∷ []) ≡
-          set (trees_after types looped trees done) (get_or order i 0) (tree_after types looped (trees_after types looped trees done) (get_or order i 0))
+          set (trees_after types looped trees done) (get_or order i 0)
+          (tree_after types looped (trees_after types looped trees done) (get_or order i 0))
       last trees [] = refl
       last trees (x ∷ done) = last (set trees x (tree_after types looped trees x)) done
 
@@ -185,7 +206,8 @@ module _ (types : TypeNames) (order : List ℕ) (looped : List Bool) (is : IsOrd
     where
       long : (trees : List (Option Tree)) (done : List ℕ) → length (trees_after types looped trees done) ≡ length trees
       long trees [] = refl
-      long trees (x ∷ done) = long (set trees x (tree_after types looped trees x)) done ∙ length-set trees x (tree_after types looped trees x)
+      long trees (x ∷ done) = long (set trees x (tree_after types looped trees x)) done
+          ∙ length-set trees x (tree_after types looped trees x)
 
   pub node_within : (i : ℕ) → i < length order → get_or order i 0 < length types.names
   node_within i low = let same = entries_paired in let within = is.nodes i low in omega (arith, same, within)
@@ -198,20 +220,27 @@ module _ (types : TypeNames) (order : List ℕ) (looped : List Bool) (is : IsOrd
       let within : get_or order i 0 < length (after i) = omega (arith, node_within i lt, after_long i) in
       subst (λ z. AreMade types looped z (after (suc i))) (sym (take-suc order i 0 lt))
       (subst (AreMade types looped (take i order ++ get_or order i 0 ∷ [])) (sym (after_next i lt))
-      (one_made types looped open_ended (take i order) (after i) (get_or order i 0) (made_after i (omega (arith, low))) within (is.behind i lt)))
+      (one_made types looped open_ended (take i order) (after i) (get_or order i 0) (made_after i (omega (arith, low))) within
+      (is.behind i lt)))
 
   -- so the type of the next one stands for something
-  pub next_there : (i : ℕ) (w : Bor Written) → i < length order → get_or looped (get_or order i 0) false ≡ false → slice_get types.entries.items (get_or order i 0) ≡ Some (entry.Alias w) →
+  pub next_there : (i : ℕ) (w : Bor Written) → i < length order → get_or looped (get_or order i 0) false ≡ false →
+      slice_get types.entries.items (get_or order i 0) ≡ Some (entry.Alias w) →
       IsSome (type_of (alias_scope types (after i)) w.now)
-  next_there i w low off at = alias_there types looped open_ended (take i order) (after i) (get_or order i 0) w (made_after i (omega (arith, low))) at (is.behind i low off)
+  next_there i w low off at = alias_there types looped open_ended (take i order) (after i) (get_or order i 0) w
+      (made_after i (omega (arith, low))) at (is.behind i low off)
 
   -- and in the end each declared alias does
-  pub final_stands : (y : List ℕ) (v : WrittenTree) → declared_in types y ≡ Some (other_name v) → IsSome (standing_in types (final_trees types looped order) y)
+  pub final_stands : (y : List ℕ) (v : WrittenTree) → declared_in types y ≡ Some (other_name v) →
+      IsSome (standing_in types (final_trees types looped order) y)
   final_stands y v d =
       let h = has_entry types y v d in
       let within = place_within types.names y h.number h.placed in
       let same = entries_paired in
       let made : AreMade types looped order (final_trees types looped order) =
-      subst (AreMade types looped order) after_all (subst (λ z. AreMade types looped z (after (length order))) (take_all (length order) order (omega arith)) (made_after (length order) (omega arith))) in
+      subst (AreMade types looped order) after_all
+      (subst (λ z. AreMade types looped z (after (length order))) (take_all (length order) order (omega arith))
+      (made_after (length order) (omega arith))) in
       subst IsSome (sym (stands_at types (final_trees types looped order) y h.number h.placed))
-      (made.made h.number h.written (is.all h.number (omega (arith, within, same))) (open_ended.off y v h.number d h.placed) h.entered)
+      (made.made h.number h.written (is.all h.number (omega (arith, within, same)))
+      (open_ended.off y v h.number d h.placed) h.entered)

@@ -49,7 +49,8 @@ module _ {A : Type 0} (P : ℕ → A → Type 0) where
   each_append n (x ∷ xs) ys a b = (a.0, each_append (suc n) xs ys a.1 (subst (λ m. EachAt P m ys) (omega arith) b))
 
 -- of what the items are made from
-pub each_from : {A B : Type 0} (P : ℕ → A → Type 0) (Q : ℕ → B → Type 0) (f : A → B) → ((k : ℕ) (x : A) → Q k (f x) → P k x) → (n : ℕ) (xs : List A) → EachAt Q n (map f xs) → EachAt P n xs
+pub each_from : {A B : Type 0} (P : ℕ → A → Type 0) (Q : ℕ → B → Type 0) (f : A → B) → ((k : ℕ) (x : A) → Q k (f x) → P k x) →
+    (n : ℕ) (xs : List A) → EachAt Q n (map f xs) → EachAt P n xs
 each_from P Q f h n [] a = tt
 each_from P Q f h n (x ∷ xs) a = (h n x a.0, each_from P Q f h (suc n) xs a.1)
 
@@ -57,13 +58,15 @@ each_from P Q f h n (x ∷ xs) a = (h n x a.0, each_from P Q f h (suc n) xs a.1)
 
 module _ (ds : List Declared) where
   -- what is declared has no variables where what aliases stand for has none
-  declared_closed : (aliases : List ℕ → Option Tree) → ((x : List ℕ) (t : Tree) → aliases x ≡ Some t → HasVariablesBelow 0 t) → (x : List ℕ) (t : Tree) →
+  declared_closed : (aliases : List ℕ → Option Tree) → ((x : List ℕ) (t : Tree) → aliases x ≡ Some t → HasVariablesBelow 0 t) →
+      (x : List ℕ) (t : Tree) →
       standing_for aliases x (type_declared ds x) ≡ Some (Some t) → HasVariablesBelow 0 t
   declared_closed aliases all x t e = pick (type_declared ds x) e
     where
       pick : (o : Option TypeDecl) → standing_for aliases x o ≡ Some (Some t) → HasVariablesBelow 0 t
       pick None h = absurd (cc h)
-      pick (Some (data_type k)) h = subst (HasVariablesBelow 0) (same_Some (tree.named k) t (same_Some (Some (tree.named k)) (Some t) h)) tt
+      pick (Some (data_type k)) h = subst (HasVariablesBelow 0)
+          (same_Some (tree.named k) t (same_Some (Some (tree.named k)) (Some t) h)) tt
       pick (Some (other_name w)) h = all x t (same_Some (aliases x) (Some t) h)
 
   skip_closed : (t : Tree) → Some tree.skip ≡ Some t → HasVariablesBelow 0 t
@@ -75,7 +78,8 @@ module _ (ds : List Declared) where
       whole (λ y u p. stands_closed y u (stand y u p))
     where
       whole : ((y : List ℕ) (u : Tree) → others y ≡ Some u → HasVariablesBelow 0 u) → HasVariablesBelow 0 t
-      whole all = variables_below (scope_with [] (type_declared ds) others) w t (record { declared = declared_closed others all; otherwise = skip_closed }) e
+      whole all = variables_below (scope_with [] (type_declared ds) others) w t
+          (record { declared = declared_closed others all; otherwise = skip_closed }) e
 
 module _ (ds : List Declared) (known : Known) (is_known : IsKnown (type_declared ds) known) where
   -- nor has all that is in scope in a module
@@ -86,18 +90,21 @@ module _ (ds : List Declared) (known : Known) (is_known : IsKnown (type_declared
   }
 
   -- so a type has only the variables that are in scope
-  pub own_variables : (vars : List (List ℕ)) (w : WrittenTree) (t : Tree) → type_of (module_scope ds known vars) w ≡ Some t → HasVariablesBelow (length vars) t
+  pub own_variables : (vars : List (List ℕ)) (w : WrittenTree) (t : Tree) → type_of (module_scope ds known vars) w ≡ Some t →
+      HasVariablesBelow (length vars) t
   own_variables vars w t e = variables_below (module_scope ds known vars) w t (all_closed vars) e
 
   -- that of a signature has only the signature's
-  pub signed_variables : (o : Option Signed) (t : Tree) → signed_type ds known o ≡ Some t → HasVariablesBelow (length (vars_of o)) t
+  pub signed_variables : (o : Option Signed) (t : Tree) → signed_type ds known o ≡ Some t →
+      HasVariablesBelow (length (vars_of o)) t
   signed_variables (Some s) t e = own_variables (vars_of (Some s)) s.its_type t e
   signed_variables None t e = absurd (cc e)
 
 -- as many kinds as variables
 pub kinds_long : (o : Option Signed) → length (kinds_of o) ≡ length (vars_of o)
 kinds_long (Some s) =
-    length-map s.vars (λ (b : Binder × Kind). b.1) ∙ sym (length-map (variables s.vars) (λ (b : Binder). b.name) ∙ length-map s.vars (λ (b : Binder × Kind). b.0))
+    length-map s.vars (λ (b : Binder × Kind). b.1)
+    ∙ sym (length-map (variables s.vars) (λ (b : Binder). b.name) ∙ length-map s.vars (λ (b : Binder × Kind). b.0))
 kinds_long None = refl
 
 -- ---- types by their numbers
@@ -109,7 +116,8 @@ pub record IsAt (types : List Tree) (k : ℕ) (a : TypeAt) : Type 0 where
   pub is : a.stands ≡ Some stands
 
 -- a type with a number has only so many variables where what stands there has
-pub over_at : (types : List Tree) (n k : ℕ) (t : Tree) → slice_get types k ≡ Some t → HasVariablesBelow n t → IsTypeOver n (slice_get types k)
+pub over_at : (types : List Tree) (n k : ℕ) (t : Tree) → slice_get types k ≡ Some t → HasVariablesBelow n t →
+    IsTypeOver n (slice_get types k)
 over_at types n k t e h = subst (IsTypeOver n) (sym e) h
 
 -- a type in a term has a number, with so many variables, or with none where a channel is made
@@ -118,11 +126,15 @@ IsUseOver types n k (with_variables w) = IsTypeOver n (slice_get types k)
 IsUseOver types n k (without w) = IsTypeOver 0 (slice_get types k)
 
 -- so it is in an equation
-pub use_over : (ds : List Declared) (known : Known) → IsKnown (type_declared ds) known → (types : List Tree) (x : List ℕ) (k : ℕ) (u : TypeUse) →
-    IsAt types k (record { at = begins_at u; stands = tree_of (surroundings ds known x) u }) → IsUseOver types (length (vars_of (signed ds x))) k u
+pub use_over : (ds : List Declared) (known : Known) → IsKnown (type_declared ds) known →
+    (types : List Tree) (x : List ℕ) (k : ℕ) (u : TypeUse) →
+    IsAt types k (record { at = begins_at u; stands = tree_of (surroundings ds known x) u }) →
+    IsUseOver types (length (vars_of (signed ds x))) k u
 use_over ds known is_known types x k (with_variables w) h =
-    over_at types (length (vars_of (signed ds x))) k h.stands h.there (own_variables ds known is_known (vars_of (signed ds x)) w h.stands h.is)
-use_over ds known is_known types x k (without w) h = over_at types 0 k h.stands h.there (own_variables ds known is_known [] w h.stands h.is)
+    over_at types (length (vars_of (signed ds x))) k h.stands h.there
+    (own_variables ds known is_known (vars_of (signed ds x)) w h.stands h.is)
+use_over ds known is_known types x k (without w) h =
+    over_at types 0 k h.stands h.there (own_variables ds known is_known [] w h.stands h.is)
 
 module _ (types : List Tree) (v : ℕ) (ns : Numbers) where
   -- the types in a term have the numbers from n on
@@ -136,63 +148,82 @@ module _ (types : List Tree) (v : ℕ) (ns : Numbers) where
   later_at n us vs h = each_right (IsUseOver types v) n us vs h
 
   -- what follows from two parts
-  of_two : {X Y : Type 0} (n : ℕ) (us vs : List TypeUse) → (AreAt n us → X) → (AreAt (n + length us) vs → Y) → AreAt n (us ++ vs) → X × Y
+  of_two : {X Y : Type 0} (n : ℕ) (us vs : List TypeUse) → (AreAt n us → X) →
+      (AreAt (n + length us) vs → Y) → AreAt n (us ++ vs) → X × Y
   of_two n us vs f g h = (f (first_at n us vs h), g (later_at n us vs h))
 
   arguments_over : (n : ℕ) (ts : List WrittenTree) → AreAt n (map with_variables ts) → AreTypesOver types v (from n ts)
   arguments_over n [] h = tt
   arguments_over n (t ∷ ts) h = (h.0, arguments_over (suc n) ts h.1)
 
-  name_over : (n at : ℕ) (x : List ℕ) (ts : List WrittenTree) (o : Option ℕ) → AreAt n (map with_variables ts) → HasTypesOver types v (name_term ns n at x ts o)
+  name_over : (n at : ℕ) (x : List ℕ) (ts : List WrittenTree) (o : Option ℕ) → AreAt n (map with_variables ts) →
+      HasTypesOver types v (name_term ns n at x ts o)
   name_over n at x [] (Some k) h = tt
   name_over n at x [] None h = tt
   name_over n at x (t ∷ ts) o h = arguments_over n (t ∷ ts) h
 
-  maker_over : (at : ℕ) (ts : CoreList) (o : Option (ℕ × ℕ)) → HaveTypesOver types v ts → HasTypesOver types v (maker_term at ts o)
+  maker_over : (at : ℕ) (ts : CoreList) (o : Option (ℕ × ℕ)) → HaveTypesOver types v ts →
+      HasTypesOver types v (maker_term at ts o)
   maker_over at ts (Some k) h = h
   maker_over at ts None h = h
 
   mutual
     -- so a term has only types with so many variables
-    pub term_over : (xs : List (List ℕ)) (n : ℕ) (t : TermTree) → AreAt n (written_in t) → HasTypesOver types v (core_term ns xs n t)
+    pub term_over : (xs : List (List ℕ)) (n : ℕ) (t : TermTree) → AreAt n (written_in t) →
+        HasTypesOver types v (core_term ns xs n t)
     term_over xs n (named at x ts) h = name_over n at x ts (place_of xs x) h
     term_over xs n (int at i) h = tt
     term_over xs n (bool at b) h = tt
     term_over xs n (char at c) h = tt
     term_over xs n (unit at) h = tt
-    term_over xs n (pair at t u) h = of_two n (written_in t) (written_in u) (term_over xs n t) (term_over xs (n + length (written_in t)) u) h
+    term_over xs n (pair at t u) h = of_two n (written_in t) (written_in u) (term_over xs n t)
+        (term_over xs (n + length (written_in t)) u) h
     term_over xs n (make at x ts) h = maker_over at (core_terms ns xs n ts) (ns.makers x) (terms_over xs n ts h)
     term_over xs n (lambda at u a x t) h = (h.0, term_over (x.name ∷ xs) (suc n) t h.1)
-    term_over xs n (apply at t u) h = of_two n (written_in t) (written_in u) (term_over xs n t) (term_over xs (n + length (written_in t)) u) h
-    term_over xs n (let_in at x t u) h = of_two n (written_in t) (written_in u) (term_over xs n t) (term_over (x.name ∷ xs) (n + length (written_in t)) u) h
-    term_over xs n (split at x y t u) h = of_two n (written_in t) (written_in u) (term_over xs n t) (term_over (y.name ∷ x.name ∷ xs) (n + length (written_in t)) u) h
+    term_over xs n (apply at t u) h = of_two n (written_in t) (written_in u) (term_over xs n t)
+        (term_over xs (n + length (written_in t)) u) h
+    term_over xs n (let_in at x t u) h = of_two n (written_in t) (written_in u) (term_over xs n t)
+        (term_over (x.name ∷ xs) (n + length (written_in t)) u) h
+    term_over xs n (split at x y t u) h = of_two n (written_in t) (written_in u) (term_over xs n t)
+        (term_over (y.name ∷ x.name ∷ xs) (n + length (written_in t)) u) h
     term_over xs n (if_else at t u v) h =
         let rest = later_at n (written_in t) (written_in u ++ written_in v) h in (
           term_over xs n t (first_at n (written_in t) (written_in u ++ written_in v) h),
           term_over xs (n + length (written_in t)) u (first_at (n + length (written_in t)) (written_in u) (written_in v) rest),
-          term_over xs (n + length (written_in t) + length (written_in u)) v (later_at (n + length (written_in t)) (written_in u) (written_in v) rest),
+          term_over xs (n + length (written_in t) + length (written_in u)) v
+              (later_at (n + length (written_in t)) (written_in u) (written_in v) rest),
         )
-    term_over xs n (case_of at t bs) h = of_two n (written_in t) (written_in_arms bs) (term_over xs n t) (arms_over xs (n + length (written_in t)) bs) h
-    term_over xs n (operate at o t u) h = of_two n (written_in t) (written_in u) (term_over xs n t) (term_over xs (n + length (written_in t)) u) h
+    term_over xs n (case_of at t bs) h = of_two n (written_in t) (written_in_arms bs) (term_over xs n t)
+        (arms_over xs (n + length (written_in t)) bs) h
+    term_over xs n (operate at o t u) h = of_two n (written_in t) (written_in u) (term_over xs n t)
+        (term_over xs (n + length (written_in t)) u) h
     term_over xs n (negate at t) h = term_over xs n t h
     term_over xs n (new at a) h = h.0
-    term_over xs n (send at t u) h = of_two n (written_in t) (written_in u) (term_over xs n t) (term_over xs (n + length (written_in t)) u) h
+    term_over xs n (send at t u) h = of_two n (written_in t) (written_in u) (term_over xs n t)
+        (term_over xs (n + length (written_in t)) u) h
     term_over xs n (receive at t) h = term_over xs n t h
     term_over xs n (select at l t) h = term_over xs n t h
-    term_over xs n (match_with at t bs) h = of_two n (written_in t) (written_in_arms bs) (term_over xs n t) (arms_over xs (n + length (written_in t)) bs) h
+    term_over xs n (match_with at t bs) h = of_two n (written_in t) (written_in_arms bs) (term_over xs n t)
+        (arms_over xs (n + length (written_in t)) bs) h
     term_over xs n (fork at t) h = term_over xs n t h
-    term_over xs n (seq at t u) h = of_two n (written_in t) (written_in u) (term_over xs n t) (term_over xs (n + length (written_in t)) u) h
+    term_over xs n (seq at t u) h = of_two n (written_in t) (written_in u) (term_over xs n t)
+        (term_over xs (n + length (written_in t)) u) h
 
-    terms_over : (xs : List (List ℕ)) (n : ℕ) (ts : TermList) → AreAt n (written_in_all ts) → HaveTypesOver types v (core_terms ns xs n ts)
+    terms_over : (xs : List (List ℕ)) (n : ℕ) (ts : TermList) → AreAt n (written_in_all ts) →
+        HaveTypesOver types v (core_terms ns xs n ts)
     terms_over xs n no_terms h = tt
-    terms_over xs n (term t ts) h = of_two n (written_in t) (written_in_all ts) (term_over xs n t) (terms_over xs (n + length (written_in t)) ts) h
+    terms_over xs n (term t ts) h = of_two n (written_in t) (written_in_all ts) (term_over xs n t)
+        (terms_over xs (n + length (written_in t)) ts) h
 
-    arms_over : (xs : List (List ℕ)) (n : ℕ) (bs : TermArms) → AreAt n (written_in_arms bs) → HaveArmTypesOver types v (core_arms ns xs n bs)
+    arms_over : (xs : List (List ℕ)) (n : ℕ) (bs : TermArms) → AreAt n (written_in_arms bs) →
+        HaveArmTypesOver types v (core_arms ns xs n bs)
     arms_over xs n no_arms h = tt
-    arms_over xs n (arm l bs t arms) h = of_two n (written_in t) (written_in_arms arms) (term_over (within bs xs) n t) (arms_over xs (n + length (written_in t)) arms) h
+    arms_over xs n (arm l bs t arms) h = of_two n (written_in t) (written_in_arms arms) (term_over (within bs xs) n t)
+        (arms_over xs (n + length (written_in t)) arms) h
 
 -- functions around a body, whose parameters' types are in front of the arrows of a type
-pub functions_over : (types : List Tree) (v m at : ℕ) (ps : List Binder) (o : Option Tree) (body : CoreTree) → EachAt (IsAt types) m (parameter_types at ps o) →
+pub functions_over : (types : List Tree) (v m at : ℕ) (ps : List Binder) (o : Option Tree) (body : CoreTree) →
+    EachAt (IsAt types) m (parameter_types at ps o) →
     ((t : Tree) → o ≡ Some t → HasVariablesBelow v t) → HasTypesOver types v body → HasTypesOver types v (functions m ps o body)
 functions_over types v m at [] o body here below h = h
 functions_over types v m at (p ∷ ps) (Some (tree.arrow u s t)) body here below h =

@@ -24,5 +24,8 @@ pub record IsFaultless (ds : List Declared) (d : Declarations) : Type 0 where
 
 -- the type of an alias stands for something, where the names in it stand for these trees, and is not too high
 pub record IsReady (d : Declarations) (trees : List (Option Tree)) (k : ℕ) : Type 0 where
-  pub known : (w : Bor Written) → slice_index_or d.aliases.looped.items k false ≡ false → slice_get d.types.entries.items k ≡ Some (entry.Alias w) → IsSome (type_of (alias_scope d.types trees) w.now)
-  pub depth : (w : Bor Written) → slice_get d.types.entries.items k ≡ Some (entry.Alias w) → 0 + height w.now < 2 ^ 32
+  pub known : (w : Bor Written) → slice_index_or d.aliases.looped.items k false ≡ false →
+      slice_get d.types.entries.items k ≡ Some (entry.Alias w) →
+      IsSome (type_of (alias_scope d.types trees) w.now)
+  pub depth : (w : Bor Written) → slice_get d.types.entries.items k ≡ Some (entry.Alias w) →
+      0 + height w.now < 2 ^ 32

@@ -50,8 +50,11 @@ closed_type ds known w = record { at = place w; stands = type_of (module_scope d
 abbrev pub decl_types : List Declared → Known → Declared → List TypeAt
 decl_types ds known (family x ms) = map (closed_type ds known) (field_types ms)
 decl_types ds known (alias x w) = closed_type ds known w ∷ []
-decl_types ds known (signature x bs w) = record { at = place w; stands = type_of (module_scope ds known (names (variables bs))) w } ∷ []
-decl_types ds known (equation x ps t) = map (λ u. record { at = begins_at u; stands = tree_of (surroundings ds known x.name) u }) (written_in t)
+decl_types ds known (signature x bs w) =
+    record { at = place w; stands = type_of (module_scope ds known (names (variables bs))) w } ∷ []
+decl_types ds known (equation x ps t) = map
+    (λ u. record { at = begins_at u; stands = tree_of (surroundings ds known x.name) u })
+    (written_in t)
 
 -- the types of some declarations of a module, in order of text
 abbrev pub decls_types : List Declared → Known → List Declared → List TypeAt
@@ -61,7 +64,8 @@ decls_types ds known (e ∷ es) = decl_types ds known e ++ decls_types ds known 
 -- the types of parameters, which are in front of the arrows of a signature's type
 abbrev pub parameter_types : ℕ → List Binder → Option Tree → List TypeAt
 parameter_types at [] o = []
-parameter_types at (p ∷ ps) (Some (arrow u s t)) = record { at = at; stands = Some s } ∷ parameter_types at ps (Some t)
+parameter_types at (p ∷ ps) (Some (arrow u s t)) =
+    record { at = at; stands = Some s } ∷ parameter_types at ps (Some t)
 parameter_types at (p ∷ ps) o = record { at = at; stands = None } ∷ parameter_types at ps None
 
 -- ---- data types
@@ -74,7 +78,8 @@ makers_from n (m ∷ ms) = (m.name.name, from n m.fields) ∷ makers_from (n + l
 -- the data types, by their names and constructors, where so many types stand before
 abbrev pub families_from : ℕ → List Declared → List (List ℕ × List (List ℕ × List ℕ))
 families_from n [] = []
-families_from n (family x ms ∷ ds) = (x.name, makers_from n ms) ∷ families_from (n + length (field_types ms)) ds
+families_from n (family x ms ∷ ds) =
+    (x.name, makers_from n ms) ∷ families_from (n + length (field_types ms)) ds
 families_from n (alias x w ∷ ds) = families_from (suc n) ds
 families_from n (signature x bs w ∷ ds) = families_from (suc n) ds
 families_from n (equation x ps t ∷ ds) = families_from (n + length (written_in t)) ds
@@ -106,7 +111,9 @@ equations_from n [] = []
 equations_from n (family x ms ∷ ds) = equations_from (n + length (field_types ms)) ds
 equations_from n (alias x w ∷ ds) = equations_from (suc n) ds
 equations_from n (signature x bs w ∷ ds) = equations_from (suc n) ds
-equations_from n (equation x ps t ∷ ds) = record { name = x; parameters = ps; body = t; first = n } ∷ equations_from (n + length (written_in t)) ds
+equations_from n (equation x ps t ∷ ds) =
+    record { name = x; parameters = ps; body = t; first = n } ∷ equations_from
+    (n + length (written_in t)) ds
 
 -- a global: its name, where its equation begins, the kinds of its variables, the number of its type and where that begins,
 -- and its body
@@ -120,17 +127,30 @@ pub record Global : Type 0 where
 
 -- the same of a global that the code keeps
 abbrev pub global_parts : GlobalEntry → Global
-global_parts g = record { name = g.name; at = g.at; its_kinds = g.kinds.items; signature = g.signature; signature_at = g.signature_at; body = g.body }
+global_parts g = record {
+  name = g.name;
+  at = g.at;
+  its_kinds = g.kinds.items;
+  signature =
+      g.signature;
+  signature_at = g.signature_at;
+  body = g.body;
+}
 
 -- what names stand for in terms
 abbrev pub numbers : List Declared → Numbers
-numbers ds = record { globals = names (equation_names ds); makers = of_name (names (map (λ m. m.name) (makers ds))) (maker_numbers 0 ds) }
+numbers ds = record {
+  globals = names (equation_names ds);
+  makers =
+      of_name (names (map (λ m. m.name) (makers ds))) (maker_numbers 0 ds);
+}
 
 -- functions around a body, one for each parameter, with the uses of the arrows and with the numbers from n on for the types
 -- in front of them
 abbrev pub functions : ℕ → List Binder → Option Tree → CoreTree → CoreTree
 functions n [] o b = b
-functions n (p ∷ ps) (Some (arrow u s t)) b = core.lambda p.at u n p (functions (suc n) ps (Some t) b)
+functions n (p ∷ ps) (Some (arrow u s t)) b =
+    core.lambda p.at u n p (functions (suc n) ps (Some t) b)
 functions n (p ∷ ps) o b = b
 
 -- the kinds of a signature's variables
@@ -149,21 +169,25 @@ global_of ds known n e = record {
   name = e.name.name;
   at = e.name.at;
   its_kinds = kinds_of (signed ds e.name.name);
-  signature = unwrap_or (of_name (names (signature_names ds)) (signature_numbers 0 ds) e.name.name) 0;
+  signature = unwrap_or (of_name (names (signature_names ds)) (signature_numbers 0 ds) e.name.name)
+      0;
   signature_at = place_of_type (signed ds e.name.name);
-  body = functions n e.parameters (signed_type ds known (signed ds e.name.name)) (core_term (numbers ds) (within e.parameters []) e.first e.body);
+  body = functions n e.parameters (signed_type ds known (signed ds e.name.name))
+      (core_term (numbers ds) (within e.parameters []) e.first e.body);
 }
 
 -- the globals of some equations
 abbrev pub globals_from : List Declared → Known → ℕ → List Equation → List Global
 globals_from ds known n [] = []
-globals_from ds known n (e ∷ es) = global_of ds known n e ∷ globals_from ds known (n + length e.parameters) es
+globals_from ds known n (e ∷ es) = global_of ds known n e ∷ globals_from ds known
+    (n + length e.parameters) es
 
 -- the types of their parameters
 abbrev pub parameters_types : List Declared → Known → List Equation → List TypeAt
 parameters_types ds known [] = []
 parameters_types ds known (e ∷ es) =
-    parameter_types (place_of_type (signed ds e.name.name)) e.parameters (signed_type ds known (signed ds e.name.name)) ++ parameters_types ds known es
+    parameter_types (place_of_type (signed ds e.name.name)) e.parameters
+    (signed_type ds known (signed ds e.name.name)) ++ parameters_types ds known es
 
 -- all types of a module: those that are written, in order of text, and behind them those of parameters, in order of text
 abbrev pub module_types : List Declared → Known → List TypeAt
@@ -171,4 +195,5 @@ module_types ds known = decls_types ds known ds ++ parameters_types ds known (eq
 
 -- all globals of a module
 abbrev pub module_globals : List Declared → Known → List Global
-module_globals ds known = globals_from ds known (length (decls_types ds known ds)) (equations_from 0 ds)
+module_globals ds known = globals_from ds known (length (decls_types ds known ds))
+    (equations_from 0 ds)

@@ -35,7 +35,12 @@ pub record Numbered : Type 0 where
 
 -- what stands in an equation
 abbrev pub numbered : List Declared → Equation → Numbered
-numbered ds e = record { name = e.name; parameters = e.parameters; body = core_term (numbers ds) (within e.parameters []) e.first e.body }
+numbered ds e = record {
+  name = e.name;
+  parameters = e.parameters;
+  body =
+      core_term (numbers ds) (within e.parameters []) e.first e.body;
+}
 
 -- the same of one that the code keeps
 abbrev pub equation_part : EquationPart → Numbered
@@ -43,11 +48,13 @@ equation_part e = record { name = e.binder.now; parameters = e.parameters.now; b
 
 -- the list has these types behind those that it had
 pub record IsLonger (old : TypeList) (ts : List TypeAt) (new : TypeList) : Type 0 where
-  pub types : map Some new.types.items ≡ map Some old.types.items ++ map (λ (t : TypeAt). t.stands) ts
+  pub types : map Some new.types.items ≡ map Some old.types.items ++ map
+      (λ (t : TypeAt). t.stands) ts
   pub places : new.places.items ≡ old.places.items ++ map (λ (t : TypeAt). t.at) ts
 
 -- these are the parts of some declarations in front of a module
-pub record AreParts (ds : List Declared) (known : Known) (es : List Declared) (p : Parts) : Type 0 where
+pub record AreParts (ds : List Declared) (known : Known) (es : List Declared)
+    (p : Parts) : Type 0 where
   -- the types that stand in them
   pub types : map Some p.list.types.items ≡ map (λ (t : TypeAt). t.stands) (decls_types ds known es)
   -- the bytes at which these begin
@@ -62,16 +69,20 @@ pub record AreParts (ds : List Declared) (known : Known) (es : List Declared) (p
 -- the list begins with the types that stand in a module's declarations
 pub record HasTypes (ds : List Declared) (known : Known) (list : TypeList) : Type 0 where
   pub others : List (Option Tree)
-  pub begins : map Some list.types.items ≡ map (λ (t : TypeAt). t.stands) (decls_types ds known ds) ++ others
+  pub begins : map Some list.types.items ≡ map
+      (λ (t : TypeAt). t.stands) (decls_types ds known ds) ++ others
 
 -- an equation has a signature, and no more parameters than arrows stand in its type
 pub record IsSoundEquation (ds : List Declared) (known : Known) (e : Numbered) : Type 0 where
   pub has_signature : alone (signature_names ds) e.name ≡ []
-  pub few : more_parameters e.name.at (length e.parameters) (signed_type ds known (signed ds e.name.name)) ≡ []
+  pub few : more_parameters e.name.at (length e.parameters)
+      (signed_type ds known (signed ds e.name.name)) ≡ []
 
 -- the types of its parameters
 abbrev pub types_of_parameters : List Declared → Known → Numbered → List TypeAt
-types_of_parameters ds known e = parameter_types (place_of_type (signed ds e.name.name)) e.parameters (signed_type ds known (signed ds e.name.name))
+types_of_parameters ds known e = parameter_types
+    (place_of_type (signed ds e.name.name)) e.parameters
+    (signed_type ds known (signed ds e.name.name))
 
 -- the global that it is, where its parameters' types have the numbers from n on
 abbrev pub global_from : List Declared → Known → ℕ → Numbered → Global
@@ -79,7 +90,8 @@ global_from ds known n e = record {
   name = e.name.name;
   at = e.name.at;
   its_kinds = kinds_of (signed ds e.name.name);
-  signature = unwrap_or (of_name (names (signature_names ds)) (signature_numbers 0 ds) e.name.name) 0;
+  signature = unwrap_or (of_name (names (signature_names ds)) (signature_numbers 0 ds) e.name.name)
+      0;
   signature_at = place_of_type (signed ds e.name.name);
   body = functions n e.parameters (signed_type ds known (signed ds e.name.name)) e.body;
 }

@@ -27,7 +27,8 @@ pub record IsResolvedModule (ds : List Declared) (m : Module) : Type 0 where
 pub record IsFirstFault (ds : List Declared) (f : NameFault) : Type 0 where
   pub known : Known
   pub is_known : IsKnown (type_declared ds) known
-  pub first : (other : Known) → IsKnown (type_declared ds) other → first_fault (module_faults ds other) ≡ Some f
+  pub first : (other : Known) → IsKnown (type_declared ds) other →
+      first_fault (module_faults ds other) ≡ Some f
 
 -- the module that a source stands for, or the first of its faults
 abbrev pub IsAnswer : List Declared → Option Module → Option NameFault → Type 0
@@ -43,4 +44,5 @@ pub record AreSame (m n : Module) : Type 0 where
 
 -- a source stands for one module at most
 pub record OneModuleLaw : Type 0 where
-  pub one : (ds : List Declared) (m n : Module) → IsResolvedModule ds m → IsResolvedModule ds n → AreSame m n
+  pub one : (ds : List Declared) (m n : Module) → IsResolvedModule ds m → IsResolvedModule ds n →
+      AreSame m n

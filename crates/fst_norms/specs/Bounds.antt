@@ -21,7 +21,8 @@ total bounds (n ∷ w) = unwrap_or (bound_at bounds n) 0 + total bounds w
 
 -- the bound of a word
 abbrev pub word_bound : List (Option ℕ) → List ℕ → Option ℕ
-word_bound bounds w = if all_bounded bounds w then Some (min (total bounds w) greatest_norm) else None
+word_bound bounds w = if all_bounded bounds w then Some
+    (min (total bounds w) greatest_norm) else None
 
 -- one letter more than a bound
 abbrev pub one_more : Option ℕ → Option ℕ
@@ -50,7 +51,8 @@ best_bound bounds (r ∷ rules) = lesser (rule_bound bounds r) (best_bound bound
 
 -- each bound is the length of a trace to the empty word, or 2^63 where that is longer
 abbrev pub IsSound : Productions → List (Option ℕ) → Type 0
-IsSound rows bounds = (n k : ℕ) → bound_at bounds n ≡ Some k → (s : List ℕ) × Empties rows (n ∷ []) s × (k ≡ min (length s) greatest_norm)
+IsSound rows bounds = (n k : ℕ) → bound_at bounds n ≡ Some k →
+    (s : List ℕ) × Empties rows (n ∷ []) s × (k ≡ min (length s) greatest_norm)
 
 -- no rule gives the non-terminal a lesser bound
 abbrev pub IsSettledAt : Productions → List (Option ℕ) → ℕ → Type 0

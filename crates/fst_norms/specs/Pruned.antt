@@ -7,7 +7,8 @@ use Rattle.fst_words.specs.Words.{Productions}
 pub record AreUnnormed (rows : Productions) (marks : List Bool) : Type 0 where
   pub count : length marks ≡ length rows
   pub set : IsUnnormedSet rows marks
-  pub largest : (other : List Bool) (n : ℕ) → IsUnnormedSet rows other → is_marked other n ≡ true → n < length rows → is_marked marks n ≡ true
+  pub largest : (other : List Bool) (n : ℕ) → IsUnnormedSet rows other → is_marked other n ≡ true →
+      n < length rows → is_marked marks n ≡ true
 
 -- the word up to its first marked non-terminal
 abbrev pub pruned_word : List Bool → List ℕ → List ℕ

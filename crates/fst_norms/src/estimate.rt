@@ -27,7 +27,9 @@ pub(crate) struct Estimate {
 }
 
 fn add_pending(pending: &mut Vec<Pending>, number: usize, rules: &[Rule]) -> Result<(), AllocError>
-    ensures { (rows : Productions) → number < length rows → row_of rows number ≡ rules.now → All (IsPending rows) pending.old.items → OnOk result (All (IsPending rows) pending.new.items) }
+    ensures { (rows : Productions) → number < length rows → row_of rows number ≡ rules.now →
+        All (IsPending rows) pending.old.items →
+        OnOk result (All (IsPending rows) pending.new.items) }
 {
     for (rule, r) in rules.iter().enumerate() {
         let open = r.word.as_slice().len();
@@ -67,7 +69,8 @@ fn relax(g: &Grammar, p: &Pending, e: &mut Estimate) -> Result<(), AllocError>
 fn add_uses(uses: &mut Vec<Vec<usize>>, at: usize, word: &[u32]) -> Result<(), AllocError>
     requires { WordBelow (length uses.old.items) word.now }
     ensures len { length uses.new.items ≡ length uses.old.items }
-    ensures below { (n : ℕ) → at < n → All (λ u. All (λ k. k < n) u.items) uses.old.items → OnOk result (All (λ u. All (λ k. k < n) u.items) uses.new.items) }
+    ensures below { (n : ℕ) → at < n → All (λ u. All (λ k. k < n) u.items) uses.old.items →
+        OnOk result (All (λ u. All (λ k. k < n) u.items) uses.new.items) }
 {
     for n in word {
         uses[*n as usize].push(at)?;
@@ -80,7 +83,8 @@ fn uses_of(alloc: Global, g: &Grammar, pending: &[Pending]) -> Result<Vec<Vec<us
     requires range { InRange g.now.rules.items }
     requires pending { All (IsPending g.now.rules.items) pending.now }
     ensures len { IfOk result (λ uses. length uses.items ≡ length g.now.rules.items) }
-    ensures below { IfOk result (λ uses. All (λ u. All (λ k. k < length pending.now) u.items) uses.items) }
+    ensures below { IfOk result (λ uses. All
+        (λ u. All (λ k. k < length pending.now) u.items) uses.items) }
 {
     let mut uses = empty_lists(alloc, g.rules.len())?;
     for (at, p) in pending.iter().enumerate() {

@@ -25,7 +25,8 @@ pub fn prune(w: &mut Word, unnormed: &[bool])
     ensures cut { w.new ≡ pruned_word unnormed.now w.old }
     ensures pruned { IsPruned unnormed.now w.new }
     ensures range { (n : ℕ) → WordBelow n w.old → WordBelow n w.new }
-    ensures same { (rows : Productions) → IsUnnormedSet rows unnormed.now → HaveSameTraces (step rows) (step rows) w.new w.old }
+    ensures same { (rows : Productions) → IsUnnormedSet rows unnormed.now →
+        HaveSameTraces (step rows) (step rows) w.new w.old }
 {
     let len = pruned_len(w.as_slice(), unnormed);
     w.truncate(len);
@@ -42,8 +43,10 @@ fn without_norm(alloc: Global, norms: &[Option<u64>]) -> Result<Vec<bool>, Alloc
 pub fn unnormed(alloc: Global, g: &Grammar) -> Result<Vec<bool>, AllocError>
     requires { InRange g.now.rules.items }
     ensures unnormed { IfOk result (λ marks. AreUnnormed g.now.rules.items marks.items) }
-    ensures marked { IfOk result (λ marks. (n : ℕ) → is_marked marks.items n ≡ true → HasNoNorm g.now.rules.items n) }
-    ensures unmarked { IfOk result (λ marks. (n : ℕ) → n < length g.now.rules.items → is_marked marks.items n ≡ false → HasNorm g.now.rules.items n) }
+    ensures marked { IfOk result (λ marks. (n : ℕ) → is_marked marks.items n ≡ true →
+        HasNoNorm g.now.rules.items n) }
+    ensures unmarked { IfOk result (λ marks. (n : ℕ) → n < length g.now.rules.items →
+        is_marked marks.items n ≡ false → HasNorm g.now.rules.items n) }
 {
     let norms = norms(alloc, g)?;
     let marks = without_norm(alloc, &norms)?;

@@ -16,7 +16,8 @@ fn improve(g: &Grammar, bounds: &mut Vec<Option<u64>>) -> bool
     requires sound { IsSound g.now.rules.items bounds.old.items }
     ensures len { length bounds.new.items ≡ length bounds.old.items }
     ensures sound { IsSound g.now.rules.items bounds.new.items }
-    ensures lower { OnTrue result (sum_by weight bounds.new.items < sum_by weight bounds.old.items) }
+    ensures lower { OnTrue result (sum_by weight bounds.new.items < sum_by weight
+        bounds.old.items) }
     ensures settled { OnFalse result ((n : ℕ) → IsSettledAt g.now.rules.items bounds.new.items n) }
 {
     let mut changed = false;
@@ -35,7 +36,8 @@ fn improve(g: &Grammar, bounds: &mut Vec<Option<u64>>) -> bool
 pub fn norms(alloc: Global, g: &Grammar) -> Result<Vec<Option<u64>>, AllocError>
     requires { InRange g.now.rules.items }
     ensures len { IfOk result (λ norms. length norms.items ≡ length g.now.rules.items) }
-    ensures each { IfOk result (λ norms. (n : ℕ) → IsNormOrNone g.now.rules.items n (bound_at norms.items n)) }
+    ensures each { IfOk result (λ norms. (n : ℕ) →
+        IsNormOrNone g.now.rules.items n (bound_at norms.items n)) }
 {
     let mut bounds = first_bounds(alloc, g)?;
     while improve(g, &mut bounds) {}

@@ -20,9 +20,11 @@ pub not_empty : (n : ℕ) (b : Bool) → b ≡ (n == 0) → b ≡ false → 1 �
 not_empty n b test none = grind (arith, nat_tests)
 
 -- at most nine digits are parsed
-pub parsed : {E : Type 0} (digits : List ℕ) (r : Result ℕ E) → ParsesUnsigned 32 10 digits r → list_all is_ascii_digit digits ≡ true → 1 ≤ length digits → length digits ≤ 9 →
+pub parsed : {E : Type 0} (digits : List ℕ) (r : Result ℕ E) → ParsesUnsigned 32 10 digits r →
+    list_all is_ascii_digit digits ≡ true → 1 ≤ length digits → length digits ≤ 9 →
     r ≡ Ok (digits_value 10 digits)
-parsed digits r h spelled some few = parse_gives own 32 digits r h spelled (omega arith) (omega (arith, digits_value_short own digits 9 spelled few))
+parsed digits r h spelled some few = parse_gives own 32 digits r h spelled (omega arith)
+    (omega (arith, digits_value_short own digits 9 spelled few))
 
 -- ---- one reading
 
@@ -39,9 +41,11 @@ longer (x ∷ xs) ys e = longer xs ys (tails e)
     tails e = ap tail e
 
 -- words begin with an option in one way
-one_begin : (name : List ℕ) (ws : List (List ℕ)) (ds es : List ℕ) (rest others : List (List ℕ)) → Begins name ws ds rest → Begins name ws es others → (ds ≡ es) × (rest ≡ others)
+one_begin : (name : List ℕ) (ws : List (List ℕ)) (ds es : List ℕ) (rest others : List (List ℕ)) → Begins name ws ds rest →
+    Begins name ws es others → (ds ≡ es) × (rest ≡ others)
 one_begin name [] ds es rest others p q = absurd p
-one_begin name (w ∷ ws) ds es rest others (inl p) (inl q) = (append_cancel_left (name ++ codes "=") ds es (sym p.0 ∙ q.0), sym p.1 ∙ q.1)
+one_begin name (w ∷ ws) ds es rest others (inl p) (inl q) =
+    (append_cancel_left (name ++ codes "=") ds es (sym p.0 ∙ q.0), sym p.1 ∙ q.1)
 one_begin name (w ∷ ws) ds es rest others (inl p) (inr q) = absurd (longer name ds (sym q.0 ∙ p.0))
 one_begin name (w ∷ ws) ds es rest others (inr p) (inl q) = absurd (longer name es (sym p.0 ∙ q.0))
 one_begin name (w ∷ ws) ds es rest others (inr p) (inr q) =
@@ -49,7 +53,8 @@ one_begin name (w ∷ ws) ds es rest others (inr p) (inr q) =
     (cc, cc)
 
 -- and set one value
-one_setting : (o : Setting) (ws : List (List ℕ)) (m n : ℕ) (rest others : List (List ℕ)) → Sets o ws m rest → Sets o ws n others → (m ≡ n) × (rest ≡ others)
+one_setting : (o : Setting) (ws : List (List ℕ)) (m n : ℕ) (rest others : List (List ℕ)) → Sets o ws m rest → Sets o ws n others →
+    (m ≡ n) × (rest ≡ others)
 one_setting o ws m n rest others p q =
     let same = one_begin o.name ws p.digits q.digits rest others p.begins q.begins in
     (p.value.value ∙ ap (digits_value 10) same.0 ∙ sym q.value.value, same.1)
@@ -66,7 +71,8 @@ one_option o ws m n (inr p) (inl q) = absurd (none_set o ws m [] q.0 p)
 one_option o ws m n (inr p) (inr q) = (one_setting o ws m n [] [] p q).0
 
 -- the text in front of words that begin with an option begins with its name
-begin_name : (name : List ℕ) (w : List ℕ) (ws : List (List ℕ)) (digits : List ℕ) (rest : List (List ℕ)) → Begins name (w ∷ ws) digits rest → (t : List ℕ) × (w ≡ name ++ t)
+begin_name : (name : List ℕ) (w : List ℕ) (ws : List (List ℕ)) (digits : List ℕ) (rest : List (List ℕ)) →
+    Begins name (w ∷ ws) digits rest → (t : List ℕ) × (w ≡ name ++ t)
 begin_name name w ws digits rest (inl p) = (codes "=" ++ digits, p.0 ∙ append_assoc name (codes "=") digits)
 begin_name name w ws digits rest (inr p) = ([], p.0 ∙ sym (append-nil name))
 
@@ -80,7 +86,8 @@ abbrev mark_of : Set → ℕ
 mark_of o = third (setting_of o).name
 
 -- the text in front of words that begin with an option has its mark
-begin_mark : (o : Set) (w : List ℕ) (ws : List (List ℕ)) (n : ℕ) (rest : List (List ℕ)) → Sets (setting_of o) (w ∷ ws) n rest → third w ≡ mark_of o
+begin_mark : (o : Set) (w : List ℕ) (ws : List (List ℕ)) (n : ℕ) (rest : List (List ℕ)) → Sets (setting_of o) (w ∷ ws) n rest →
+    third w ≡ mark_of o
 begin_mark Budget w ws n rest p = ap third (begin_name budget.name w ws p.digits rest p.begins).1
 begin_mark Steps w ws n rest p = ap third (begin_name steps.name w ws p.digits rest p.begins).1
 begin_mark Workers w ws n rest p = ap third (begin_name workers.name w ws p.digits rest p.begins).1
@@ -97,23 +104,32 @@ same_mark_of Workers Budget e = absurd (omega (arith, e))
 same_mark_of Workers Steps e = absurd (omega (arith, e))
 
 -- words begin by setting one option
-one_set : (ws : List (List ℕ)) (o q : Set) (m n : ℕ) (rest others : List (List ℕ)) → Sets (setting_of o) ws m rest → Sets (setting_of q) ws n others → o ≡ q
+one_set : (ws : List (List ℕ)) (o q : Set) (m n : ℕ) (rest others : List (List ℕ)) → Sets (setting_of o) ws m rest →
+    Sets (setting_of q) ws n others → o ≡ q
 one_set [] o q m n rest others p r = absurd p.begins
 one_set (w ∷ ws) o q m n rest others p r = same_mark_of o q (sym (begin_mark o w ws m rest p) ∙ begin_mark q w ws n others r)
 
 -- so they begin by giving one value
-one_given : (ws : List (List ℕ)) (before : Given) (o : Set) (n : ℕ) (rest others : List (List ℕ)) (next : Given) → Sets (setting_of o) ws n rest → GivesOne before ws next others →
+one_given : (ws : List (List ℕ)) (before : Given) (o : Set) (n : ℕ) (rest others : List (List ℕ)) (next : Given) →
+    Sets (setting_of o) ws n rest → GivesOne before ws next others →
     (value_in before o ≡ None) × (next ≡ give before o n) × (others ≡ rest)
 one_given ws before o n rest others next p g =
     let same = one_set ws g.option o g.number n others rest g.sets p in
-    let values = one_setting (setting_of o) ws g.number n others rest (subst (λ q. Sets (setting_of q) ws g.number others) same g.sets) p in
-    (subst (λ q. value_in before q ≡ None) same g.first, g.given ∙ ap (λ q. give before q g.number) same ∙ ap (give before o) values.0, values.1)
+    let values = one_setting (setting_of o) ws g.number n others rest
+    (subst (λ q. Sets (setting_of q) ws g.number others) same g.sets) p in (
+      subst (λ q. value_in before q ≡ None) same g.first,
+      g.given ∙ ap (λ q. give before q g.number) same
+          ∙ ap (give before o) values.0,
+      values.1,
+    )
 
 -- words give values in one way
 one_giving : (j k : ℕ) (before : Given) (ws : List (List ℕ)) (a b : Given) → Give j before ws a → Give k before ws b → a ≡ b
 one_giving zero zero before ws a b p q = p.1 ∙ sym q.1
-one_giving zero (suc k) before ws a b p (next, rest, g, more) = absurd (none_set (setting_of g.option) ws g.number rest p.0 g.sets)
-one_giving (suc j) zero before ws a b (next, rest, g, more) q = absurd (none_set (setting_of g.option) ws g.number rest q.0 g.sets)
+one_giving zero (suc k) before ws a b p (next, rest, g, more) =
+    absurd (none_set (setting_of g.option) ws g.number rest p.0 g.sets)
+one_giving (suc j) zero before ws a b (next, rest, g, more) q =
+    absurd (none_set (setting_of g.option) ws g.number rest q.0 g.sets)
 one_giving (suc j) (suc k) before ws a b (next, rest, g, more) (other, others, h, further) =
     let same = one_given ws before g.option g.number rest others other g.sets h in
     let is : other ≡ next = same.1 ∙ sym g.given in
@@ -149,7 +165,8 @@ initial [] = 0
 initial (c ∷ cs) = c
 
 -- what holds of the words behind a name
-both_named : (name : List ℕ) (P Q : List (List ℕ) → Type 0) (ws : List (List ℕ)) → IsNamed name P ws → IsNamed name Q ws → (rest : List (List ℕ)) × P rest × Q rest
+both_named : (name : List ℕ) (P Q : List (List ℕ) → Type 0) (ws : List (List ℕ)) → IsNamed name P ws → IsNamed name Q ws →
+    (rest : List (List ℕ)) × P rest × Q rest
 both_named name P Q [] p q = absurd p
 both_named name P Q (w ∷ ws) p q = (ws, p.1, q.1)
 
@@ -196,7 +213,8 @@ one_command ws (run s w b) (run t v d) p q =
     let same = one_options both.0 s t w v b d both.1 both.2 in
     λ i. run (same.0 i) (same.1 i) (same.2 i)
 one_command ws (make m) (make n) p q =
-    let both = both_named (codes "make") (λ rest. IsOneNumber 0 most_made rest m) (λ rest. IsOneNumber 0 most_made rest n) ws p q in
+    let both = both_named (codes "make") (λ rest. IsOneNumber 0 most_made rest m)
+    (λ rest. IsOneNumber 0 most_made rest n) ws p q in
     ap make (one_number 0 most_made both.0 m n both.1 both.2)
 one_command ws (equiv m) show p q = absurd (omega (arith, same_mark ws (equiv m) show p q))
 one_command ws (equiv m) (check n) p q = absurd (omega (arith, same_mark ws (equiv m) (check n) p q))
@@ -222,60 +240,75 @@ one_command ws (make m) (run s w b) p q = absurd (omega (arith, same_mark ws (ma
 -- ---- what the code finds
 
 -- no value is set where the option's digits are none
-pub no_value : (o : Setting) (ws : List (List ℕ)) (digits : List ℕ) (behind : List (List ℕ)) → Begins o.name ws digits behind → ((n : ℕ) → IsValue o digits n → ⊥) →
+pub no_value : (o : Setting) (ws : List (List ℕ)) (digits : List ℕ) (behind : List (List ℕ)) → Begins o.name ws digits behind →
+    ((n : ℕ) → IsValue o digits n → ⊥) →
     (n : ℕ) (rest : List (List ℕ)) → Sets o ws n rest → ⊥
-no_value o ws digits behind b none n rest p = none n (subst (λ d. IsValue o d n) (one_begin o.name ws p.digits digits rest behind p.begins b).0 p.value)
+no_value o ws digits behind b none n rest p = none n
+    (subst (λ d. IsValue o d n) (one_begin o.name ws p.digits digits rest behind p.begins b).0 p.value)
 
 -- words that are there and set nothing are no option
-pub no_option : (o : Setting) (ws : List (List ℕ)) → (ws ≡ [] → ⊥) → ((n : ℕ) (rest : List (List ℕ)) → Sets o ws n rest → ⊥) → (n : ℕ) → IsOption o ws n → ⊥
+pub no_option : (o : Setting) (ws : List (List ℕ)) → (ws ≡ [] → ⊥) → ((n : ℕ) (rest : List (List ℕ)) → Sets o ws n rest → ⊥) →
+    (n : ℕ) → IsOption o ws n → ⊥
 no_option o ws some none n (inl p) = some p.0
 no_option o ws some none n (inr p) = none n [] p
 
 -- nor are words that have more behind the value that they set
-pub more_option : (o : Setting) (ws : List (List ℕ)) (m : ℕ) (behind : List (List ℕ)) → Sets o ws m behind → (behind ≡ [] → ⊥) → (n : ℕ) → IsOption o ws n → ⊥
+pub more_option : (o : Setting) (ws : List (List ℕ)) (m : ℕ) (behind : List (List ℕ)) → Sets o ws m behind → (behind ≡ [] → ⊥) →
+    (n : ℕ) → IsOption o ws n → ⊥
 more_option o ws m behind s more n (inl p) = none_set o ws m behind p.0 s
 more_option o ws m behind s more n (inr p) = more (one_setting o ws m n behind [] s p).1
 
 -- words that set no budget, no steps and no workers set nothing
-pub sets_none : (ws : List (List ℕ)) → ((n : ℕ) (rest : List (List ℕ)) → Sets budget ws n rest → ⊥) → ((n : ℕ) (rest : List (List ℕ)) → Sets steps ws n rest → ⊥) →
-    ((n : ℕ) (rest : List (List ℕ)) → Sets workers ws n rest → ⊥) → (o : Set) (n : ℕ) (rest : List (List ℕ)) → Sets (setting_of o) ws n rest → ⊥
+pub sets_none : (ws : List (List ℕ)) → ((n : ℕ) (rest : List (List ℕ)) → Sets budget ws n rest → ⊥) →
+    ((n : ℕ) (rest : List (List ℕ)) → Sets steps ws n rest → ⊥) →
+    ((n : ℕ) (rest : List (List ℕ)) → Sets workers ws n rest → ⊥) →
+    (o : Set) (n : ℕ) (rest : List (List ℕ)) → Sets (setting_of o) ws n rest → ⊥
 sets_none ws no_budget no_steps no_workers Budget n rest p = no_budget n rest p
 sets_none ws no_budget no_steps no_workers Steps n rest p = no_steps n rest p
 sets_none ws no_budget no_steps no_workers Workers n rest p = no_workers n rest p
 
 -- no values are given by words that are there and set nothing
-pub gives_none : (ws : List (List ℕ)) (before : Given) → (ws ≡ [] → ⊥) → ((o : Set) (n : ℕ) (rest : List (List ℕ)) → Sets (setting_of o) ws n rest → ⊥) →
+pub gives_none : (ws : List (List ℕ)) (before : Given) → (ws ≡ [] → ⊥) →
+    ((o : Set) (n : ℕ) (rest : List (List ℕ)) → Sets (setting_of o) ws n rest → ⊥) →
     (k : ℕ) (all : Given) → Give k before ws all → ⊥
 gives_none ws before some none zero all p = some p.0
 gives_none ws before some none (suc k) all (next, rest, g, more) = none g.option g.number rest g.sets
 
 -- nor by those that set an option that has a value, or are followed by words that give none
-pub gives_no_more : (ws : List (List ℕ)) (before : Given) (o : Set) (n : ℕ) (rest : List (List ℕ)) → Sets (setting_of o) ws n rest →
-    (value_in before o ≡ None → (k : ℕ) (all : Given) → Give k (give before o n) rest all → ⊥) → (k : ℕ) (all : Given) → Give k before ws all → ⊥
+pub gives_no_more : (ws : List (List ℕ)) (before : Given) (o : Set) (n : ℕ) (rest : List (List ℕ)) →
+    Sets (setting_of o) ws n rest →
+    (value_in before o ≡ None → (k : ℕ) (all : Given) → Give k (give before o n) rest all → ⊥) →
+    (k : ℕ) (all : Given) → Give k before ws all → ⊥
 gives_no_more ws before o n rest p none zero all q = none_set (setting_of o) ws n rest q.0 p
 gives_no_more ws before o n rest p none (suc k) all (next, others, g, more) =
     let same = one_given ws before o n rest others next p g in
     none same.0 k all (subst (λ r. Give k (give before o n) r all) same.2 (subst (λ v. Give k v others all) same.1 more))
 
 -- words that give values are those that give one and then the others
-pub gives_more : (ws : List (List ℕ)) (before : Given) (o : Set) (n : ℕ) (rest : List (List ℕ)) (all : Given) → Sets (setting_of o) ws n rest → value_in before o ≡ None →
+pub gives_more : (ws : List (List ℕ)) (before : Given) (o : Set) (n : ℕ) (rest : List (List ℕ)) (all : Given) →
+    Sets (setting_of o) ws n rest → value_in before o ≡ None →
     (k : ℕ) × Give k (give before o n) rest all → (k : ℕ) × Give k before ws all
 gives_more ws before o n rest all p first (k, more) =
     (suc k, (give before o n, rest, record { option = o; number = n; sets = p; first = first; given = refl }, more))
 
 -- what is told of the words behind is so of all
-pub gives_so : (ws : List (List ℕ)) (before : Given) (o : Set) (n : ℕ) (rest : List (List ℕ)) (after : Given) (r : Option Given) → Sets (setting_of o) ws n rest → value_in before o ≡ None →
-    after ≡ give before o n → MatchOption r ((k : ℕ) (all : Given) → Give k after rest all → ⊥) (λ all. (k : ℕ) × Give k after rest all) →
+pub gives_so : (ws : List (List ℕ)) (before : Given) (o : Set) (n : ℕ) (rest : List (List ℕ)) (after : Given) (r : Option Given) →
+    Sets (setting_of o) ws n rest → value_in before o ≡ None →
+    after ≡ give before o n → MatchOption r ((k : ℕ) (all : Given) → Give k after rest all → ⊥)
+    (λ all. (k : ℕ) × Give k after rest all) →
     MatchOption r ((k : ℕ) (all : Given) → Give k before ws all → ⊥) (λ all. (k : ℕ) × Give k before ws all)
-gives_so ws before o n rest after None p first is h = gives_no_more ws before o n rest p (λ also k all g. h k all (subst (λ v. Give k v rest all) (sym is) g))
-gives_so ws before o n rest after (Some all) p first is (k, g) = gives_more ws before o n rest all p first (k, subst (λ v. Give k v rest all) is g)
+gives_so ws before o n rest after None p first is h = gives_no_more ws before o n rest p
+    (λ also k all g. h k all (subst (λ v. Give k v rest all) (sym is) g))
+gives_so ws before o n rest after (Some all) p first is (k, g) =
+    gives_more ws before o n rest all p first (k, subst (λ v. Give k v rest all) is g)
 
 -- words are those that a test of their number says
 pub no_words_left : {A : Type 0} (f : A → List ℕ) (ws : List A) (b : Bool) → b ≡ (length ws == 0) → b ≡ true → map f ws ≡ []
 no_words_left f [] b test is = refl
 no_words_left f (w ∷ ws) b test is = absurd (grind (arith, nat_tests))
 
-pub some_words_left : {A : Type 0} (f : A → List ℕ) (ws : List A) (b : Bool) → b ≡ (length ws == 0) → b ≡ false → map f ws ≡ [] → ⊥
+pub some_words_left : {A : Type 0} (f : A → List ℕ) (ws : List A) (b : Bool) → b ≡ (length ws == 0) → b ≡ false → map f ws ≡ [] →
+    ⊥
 some_words_left f [] b test is e = absurd (grind (arith, nat_tests))
 some_words_left f (w ∷ ws) b test is e = absurd (cc e)
 
@@ -324,8 +357,10 @@ no_make ws rest is none c p = by c (subst (λ us. IsCommand us c) is p)
     by (make n) q = none n q.1
 
 -- words that begin with no command's name are no command's
-pub no_name : (ws : List (List ℕ)) → ((rest : List (List ℕ)) → ws ≡ codes "show" ∷ rest → ⊥) → ((rest : List (List ℕ)) → ws ≡ codes "equiv" ∷ rest → ⊥) →
-    ((rest : List (List ℕ)) → ws ≡ codes "check" ∷ rest → ⊥) → ((rest : List (List ℕ)) → ws ≡ codes "run" ∷ rest → ⊥) → ((rest : List (List ℕ)) → ws ≡ codes "make" ∷ rest → ⊥) → NoCommand ws
+pub no_name : (ws : List (List ℕ)) → ((rest : List (List ℕ)) → ws ≡ codes "show" ∷ rest → ⊥) →
+    ((rest : List (List ℕ)) → ws ≡ codes "equiv" ∷ rest → ⊥) →
+    ((rest : List (List ℕ)) → ws ≡ codes "check" ∷ rest → ⊥) → ((rest : List (List ℕ)) → ws ≡ codes "run" ∷ rest → ⊥) →
+    ((rest : List (List ℕ)) → ws ≡ codes "make" ∷ rest → ⊥) → NoCommand ws
 no_name [] shows equivs checks runs makes c p = no_words c p
 no_name (w ∷ ws) shows equivs checks runs makes (equiv n) p = equivs ws (ap (λ v. v ∷ ws) p.0)
 no_name (w ∷ ws) shows equivs checks runs makes show p = shows ws (ap (λ v. v ∷ ws) p.0)
@@ -336,7 +371,8 @@ no_name (w ∷ ws) shows equivs checks runs makes (make n) p = makes ws (ap (λ 
 -- ---- what commands have
 
 -- a value that words set is in its range, where its default is
-set_within : (o : Setting) (ws : List (List ℕ)) (n : ℕ) → o.least ≤ o.default → o.default ≤ o.most → IsOption o ws n → (o.least ≤ n) × (n ≤ o.most)
+set_within : (o : Setting) (ws : List (List ℕ)) (n : ℕ) → o.least ≤ o.default → o.default ≤ o.most → IsOption o ws n →
+    (o.least ≤ n) × (n ≤ o.most)
 set_within o ws n low high (inl p) = (subst (λ k. o.least ≤ k) (sym p.1) low, subst (λ k. k ≤ o.most) (sym p.1) high)
 set_within o ws n low high (inr p) = (p.value.at_least, p.value.at_most)
 
@@ -356,17 +392,22 @@ value_given g Steps Workers n m e = inr e
 value_given g Workers Budget n m e = inr e
 value_given g Workers Steps n m e = inr e
 
-one_within : (before : Given) (ws : List (List ℕ)) (next : Given) (rest : List (List ℕ)) → AreWithin before → GivesOne before ws next rest → AreWithin next
-one_within before ws next rest all g o m e = by (value_given before g.option o g.number m (sym (ap (λ v. value_in v o) g.given) ∙ e))
+one_within : (before : Given) (ws : List (List ℕ)) (next : Given) (rest : List (List ℕ)) → AreWithin before →
+    GivesOne before ws next rest → AreWithin next
+one_within before ws next rest all g o m e = by
+    (value_given before g.option o g.number m (sym (ap (λ v. value_in v o) g.given) ∙ e))
   where
     by : ((o ≡ g.option) × (g.number ≡ m)) ⊎ (value_in before o ≡ Some m) → ((setting_of o).least ≤ m) × (m ≤ (setting_of o).most)
     by (inl p) = subst (λ q. ((setting_of q).least ≤ m) × (m ≤ (setting_of q).most)) (sym p.0)
-        (subst (λ k. ((setting_of g.option).least ≤ k) × (k ≤ (setting_of g.option).most)) p.1 (g.sets.value.at_least, g.sets.value.at_most))
+        (subst (λ k. ((setting_of g.option).least ≤ k) × (k ≤ (setting_of g.option).most)) p.1
+        (g.sets.value.at_least, g.sets.value.at_most))
     by (inr p) = all o m p
 
-all_within : (k : ℕ) (before : Given) (ws : List (List ℕ)) (after : Given) → AreWithin before → Give k before ws after → AreWithin after
+all_within : (k : ℕ) (before : Given) (ws : List (List ℕ)) (after : Given) → AreWithin before → Give k before ws after →
+    AreWithin after
 all_within zero before ws after all p = subst AreWithin (sym p.1) all
-all_within (suc k) before ws after all (next, rest, g, more) = all_within k next rest after (one_within before ws next rest all g) more
+all_within (suc k) before ws after all (next, rest, g, more) =
+    all_within k next rest after (one_within before ws next rest all g) more
 
 none_within : AreWithin none_given
 none_within Budget n e = absurd (cc e)
@@ -374,13 +415,16 @@ none_within Steps n e = absurd (cc e)
 none_within Workers n e = absurd (cc e)
 
 -- and so is what an option is
-or_within : (o : Setting) (v : Option ℕ) (n : ℕ) → n ≡ value_or o v → ((m : ℕ) → v ≡ Some m → (o.least ≤ m) × (m ≤ o.most)) → o.least ≤ o.default → o.default ≤ o.most → (o.least ≤ n) × (n ≤ o.most)
+or_within : (o : Setting) (v : Option ℕ) (n : ℕ) → n ≡ value_or o v →
+    ((m : ℕ) → v ≡ Some m → (o.least ≤ m) × (m ≤ o.most)) → o.least ≤ o.default → o.default ≤ o.most → (o.least ≤ n) ×
+    (n ≤ o.most)
 or_within o None n is all low high = (subst (λ k. o.least ≤ k) (sym is) low, subst (λ k. k ≤ o.most) (sym is) high)
 or_within o (Some m) n is all low high =
     let in_range = all m refl in
     (subst (λ k. o.least ≤ k) (sym is) in_range.0, subst (λ k. k ≤ o.most) (sym is) in_range.1)
 
-options_within : (ws : List (List ℕ)) (s w b : ℕ) → AreOptions ws s w b → (s ≤ steps.most) × (1 ≤ w) × (w ≤ workers.most) × (1 ≤ b)
+options_within : (ws : List (List ℕ)) (s w b : ℕ) → AreOptions ws s w b → (s ≤ steps.most) × (1 ≤ w) × (w ≤ workers.most) ×
+    (1 ≤ b)
 options_within ws s w b p =
     let all = all_within p.count none_given ws p.values none_within p.give in
     let of_workers = or_within workers p.values.workers w p.workers (all Workers) (omega arith) (omega arith) in (

@@ -53,7 +53,8 @@ IsValue o digits n = IsNumber o.least o.most digits n
 -- the words begin with the option, which has these digits behind `=` or as the next word; others are behind it
 abbrev pub Begins : List ℕ → List (List ℕ) → List ℕ → List (List ℕ) → Type 0
 Begins name [] digits rest = ⊥
-Begins name (w ∷ ws) digits rest = ((w ≡ name ++ codes "=" ++ digits) × (ws ≡ rest)) ⊎ ((w ≡ name) × (ws ≡ digits ∷ rest))
+Begins name (w ∷ ws) digits rest = ((w ≡ name ++ codes "=" ++ digits) × (ws ≡ rest)) ⊎
+    ((w ≡ name) × (ws ≡ digits ∷ rest))
 
 -- the words begin by setting this value; others are behind it
 pub record Sets (o : Setting) (words : List (List ℕ)) (n : ℕ) (rest : List (List ℕ)) : Type 0 where
@@ -82,7 +83,8 @@ abbrev pub none_given : Given
 none_given = record { steps = None; workers = None; budget = None }
 
 -- the words begin by giving a value for an option that has none; others are behind it
-pub record GivesOne (before : Given) (words : List (List ℕ)) (after : Given) (rest : List (List ℕ)) : Type 0 where
+pub record GivesOne (before : Given) (words : List (List ℕ)) (after : Given)
+    (rest : List (List ℕ)) : Type 0 where
   pub option : Set
   pub number : ℕ
   pub sets : Sets (setting_of option) words number rest
@@ -92,7 +94,8 @@ pub record GivesOne (before : Given) (words : List (List ℕ)) (after : Given) (
 -- the words give so many values one after the other, and nothing else
 abbrev pub Give : ℕ → Given → List (List ℕ) → Given → Type 0
 Give zero before words after = (words ≡ []) × (after ≡ before)
-Give (suc n) before words after = (next : Given) × (rest : List (List ℕ)) × GivesOne before words next rest × Give n next rest after
+Give (suc n) before words after = (next : Given) ×
+    (rest : List (List ℕ)) × GivesOne before words next rest × Give n next rest after
 
 -- what an option is with this value, or without one
 abbrev pub value_or : Setting → Option ℕ → ℕ

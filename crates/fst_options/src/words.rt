@@ -113,7 +113,8 @@ fn joined<'a>(name: &str, word: &'a str) -> Option<&'a str>
 // The digits of the option of this name that the words begin with, and the words behind it.
 fn begins<'a>(name: &str, words: &'a [String]) -> Option<(&'a str, &'a [String])>
     ensures { MatchOption result
-        ((digits : List ℕ) (rest : List (List ℕ)) → Begins name.now (map string_bytes words.now) digits rest → ⊥)
+        ((digits : List ℕ) (rest : List (List ℕ)) →
+        Begins name.now (map string_bytes words.now) digits rest → ⊥)
         (λ p. Begins name.now (map string_bytes words.now) p.0.now (map string_bytes p.1.now)) }
 {
     let (word, behind) = match words.split_first() {
@@ -135,8 +136,10 @@ fn begins<'a>(name: &str, words: &'a [String]) -> Option<(&'a str, &'a [String])
 // The value that the words begin by setting, and the words behind it.
 fn sets<'a>(setting: Setting, words: &'a [String]) -> Option<(u32, &'a [String])>
     ensures { MatchOption result
-        ((n : ℕ) (rest : List (List ℕ)) → Sets (setting_of setting) (map string_bytes words.now) n rest → ⊥)
-        (λ p. Sets (setting_of setting) (map string_bytes words.now) p.0 (map string_bytes p.1.now)) }
+        ((n : ℕ) (rest : List (List ℕ)) →
+        Sets (setting_of setting) (map string_bytes words.now) n rest → ⊥)
+        (λ p. Sets (setting_of setting) (map string_bytes words.now) p.0
+        (map string_bytes p.1.now)) }
 {
     match begins(setting.name(), words) {
         Some((digits, rest)) => match value_of(setting, digits) {
@@ -207,7 +210,8 @@ impl Given {
 // The option that the words begin by setting, its value, and the words behind it.
 fn next<'a>(words: &'a [String]) -> Option<(Setting, u32, &'a [String])>
     ensures { MatchOption result
-        ((o : Set) (n : ℕ) (rest : List (List ℕ)) → Sets (setting_of o) (map string_bytes words.now) n rest → ⊥)
+        ((o : Set) (n : ℕ) (rest : List (List ℕ)) →
+        Sets (setting_of o) (map string_bytes words.now) n rest → ⊥)
         (λ p. Sets (setting_of p.0) (map string_bytes words.now) p.1 (map string_bytes p.2.now)) }
 {
     if let Some((n, rest)) = sets(Setting::Steps, words) {

@@ -25,15 +25,19 @@ module _ (test : Vec ℕ Global → Bool) (key : List ℕ) (says : (k : Vec ℕ 
   any_is [] = refl
   any_is (k ∷ ks) = ap (λ c. c || list_any test ks) (says k) ∙ pick (any_is ks) (bytes_eq key k.items)
     where
-      pick : list_any test ks ≡ nat_lt (place (map items_of ks) key) (length (map items_of ks)) → (c : Bool) → (c || list_any test ks) ≡ nat_lt (cond (not c) (1 + place (map items_of ks) key) 0) (suc (length (map items_of ks)))
+      pick : list_any test ks ≡ nat_lt (place (map items_of ks) key) (length (map items_of ks)) → (c : Bool) →
+          (c || list_any test ks) ≡ nat_lt (cond (not c) (1 + place (map items_of ks) key) 0) (suc (length (map items_of ks)))
       pick e true = sym (lt-ltb 0 (suc (length (map items_of ks))) (omega arith))
       pick e false = e ∙ sym (next_less (place (map items_of ks) key) (length (map items_of ks)))
 
   -- and the keys once one is put
-  pub with_is : (ks : List (Vec ℕ Global)) (v : Vec ℕ Global) → v.items ≡ key → map items_of (if list_any test ks then ks else ks ++ v ∷ []) ≡ with_key (map items_of ks) key
-  with_is ks v e = ap (λ c. map items_of (if c then ks else ks ++ v ∷ [])) (any_is ks) ∙ pick (nat_lt (place (map items_of ks) key) (length (map items_of ks)))
+  pub with_is : (ks : List (Vec ℕ Global)) (v : Vec ℕ Global) → v.items ≡ key →
+      map items_of (if list_any test ks then ks else ks ++ v ∷ []) ≡ with_key (map items_of ks) key
+  with_is ks v e = ap (λ c. map items_of (if c then ks else ks ++ v ∷ [])) (any_is ks)
+      ∙ pick (nat_lt (place (map items_of ks) key) (length (map items_of ks)))
     where
-      pick : (c : Bool) → map items_of (if c then ks else ks ++ v ∷ []) ≡ (if c then map items_of ks else map items_of ks ++ key ∷ [])
+      pick : (c : Bool) → map items_of (if c then ks else ks ++ v ∷ [])
+          ≡ (if c then map items_of ks else map items_of ks ++ key ∷ [])
       pick true = refl
       pick false = map-append items_of ks (v ∷ []) ∙ ap (λ x. map items_of ks ++ x ∷ []) e
 
@@ -49,35 +53,49 @@ module _ (test : Vec ℕ Global → Bool) (key : List ℕ) (says : (k : Vec ℕ 
   pub none_place : (ks : List (Vec ℕ Global)) → None ≡ position test ks → length ks ≡ place (map items_of ks) key
   none_place ks e = pick (nat_lt (position_or_len test ks) (length ks)) refl e ∙ place_is ks
     where
-      pick : (c : Bool) → nat_lt (position_or_len test ks) (length ks) ≡ c → None ≡ cond c (Some (position_or_len test ks)) None → length ks ≡ position_or_len test ks
+      pick : (c : Bool) → nat_lt (position_or_len test ks) (length ks) ≡ c → None ≡ cond c (Some (position_or_len test ks)) None →
+          length ks ≡ position_or_len test ks
       pick true is e = absurd (cc e)
       pick false is e =
-          let within : position_or_len test ks ≤ length ks = subst (λ n. n ≤ length ks) (sym (place_is ks)) (subst (λ n. place (map items_of ks) key ≤ n) (length-map ks items_of) (place_within (map items_of ks) key)) in
+          let within : position_or_len test ks ≤ length ks = subst
+          (λ n. n ≤ length ks) (sym (place_is ks)) (subst
+          (λ n. place (map items_of ks) key ≤ n) (length-map ks items_of) (place_within (map items_of ks) key)) in
           let past : length ks ≤ position_or_len test ks = ltb-false (position_or_len test ks) (length ks) is in
           omega arith
 
-module _ (eq : Vec ℕ Global → Vec ℕ Global → Bool) (v : Vec ℕ Global) (says : (k : Vec ℕ Global) → eq v k ≡ bytes_eq v.items k.items) {C : Type 0} (c : C) where
+module _ (eq : Vec ℕ Global → Vec ℕ Global → Bool) (v : Vec ℕ Global)
+    (says : (k : Vec ℕ Global) → eq v k ≡ bytes_eq v.items k.items) {C : Type 0} (c : C) where
   -- the keys of a table with values once one is put
-  pub with_entry : (es : List (Vec ℕ Global × C)) → map items_of (keys_of (insert_entry eq es v c)) ≡ with_key (map items_of (keys_of es)) v.items
+  pub with_entry : (es : List (Vec ℕ Global × C)) →
+      map items_of (keys_of (insert_entry eq es v c)) ≡ with_key (map items_of (keys_of es)) v.items
   with_entry [] = refl
   with_entry (p ∷ es) =
       ap (λ b. map items_of (keys_of (if b then (p.0, c) ∷ es else p ∷ insert_entry eq es v c))) (says p.0)
       ∙ pick (with_entry es) (bytes_eq v.items p.0.items)
     where
-      inner : (b : Bool) → p.0.items ∷ (if b then map items_of (keys_of es) else map items_of (keys_of es) ++ v.items ∷ []) ≡ (if b then p.0.items ∷ map items_of (keys_of es) else (p.0.items ∷ map items_of (keys_of es)) ++ v.items ∷ [])
+      inner : (b : Bool) → p.0.items ∷ (if b then map items_of (keys_of es) else map items_of (keys_of es) ++ v.items ∷ [])
+          ≡ (if b then p.0.items ∷ map items_of (keys_of es) else (p.0.items ∷ map items_of (keys_of es)) ++ v.items ∷ [])
       inner true = refl
       inner false = refl
 
       pick : map items_of (keys_of (insert_entry eq es v c)) ≡ with_key (map items_of (keys_of es)) v.items → (b : Bool) →
           map items_of (keys_of (if b then (p.0, c) ∷ es else p ∷ insert_entry eq es v c))
-          ≡ (if nat_lt (cond (not b) (1 + place (map items_of (keys_of es)) v.items) 0) (suc (length (map items_of (keys_of es)))) then p.0.items ∷ map items_of (keys_of es) else (p.0.items ∷ map items_of (keys_of es)) ++ v.items ∷ [])
-      pick next true = ap (λ b. if b then p.0.items ∷ map items_of (keys_of es) else (p.0.items ∷ map items_of (keys_of es)) ++ v.items ∷ []) (sym (lt-ltb 0 (suc (length (map items_of (keys_of es)))) (omega arith)))
+          ≡ (if nat_lt (cond (not b) (1 + place (map items_of (keys_of es)) v.items) 0)
+          (suc (length (map items_of (keys_of es)))) then p.0.items ∷ map items_of (keys_of es) else
+          (p.0.items ∷ map items_of (keys_of es)) ++ v.items ∷ [])
+      pick next true = ap (λ b. if b then p.0.items ∷ map items_of (keys_of es) else
+          (p.0.items ∷ map items_of (keys_of es)) ++ v.items ∷ [])
+          (sym (lt-ltb 0 (suc (length (map items_of (keys_of es)))) (omega arith)))
       pick next false =
-          ap (λ l. p.0.items ∷ l) next ∙ inner (nat_lt (place (map items_of (keys_of es)) v.items) (length (map items_of (keys_of es))))
-          ∙ ap (λ b. if b then p.0.items ∷ map items_of (keys_of es) else (p.0.items ∷ map items_of (keys_of es)) ++ v.items ∷ []) (sym (next_less (place (map items_of (keys_of es)) v.items) (length (map items_of (keys_of es)))))
+          ap (λ l. p.0.items ∷ l) next ∙ inner (nat_lt (place (map items_of (keys_of es)) v.items)
+          (length (map items_of (keys_of es))))
+          ∙ ap (λ b. if b then p.0.items ∷ map items_of (keys_of es) else (p.0.items ∷ map items_of (keys_of es)) ++ v.items ∷ [])
+          (sym (next_less (place (map items_of (keys_of es)) v.items) (length (map items_of (keys_of es)))))
 
 -- the key of an entry
-pub entry_key : {C : Type 0} (es : List (Vec ℕ Global × C)) (at : ℕ) (e : Vec ℕ Global × C) → Some e ≡ slice_get es at → get_or (map items_of (keys_of es)) at [] ≡ e.0.items
+pub entry_key : {C : Type 0} (es : List (Vec ℕ Global × C)) (at : ℕ) (e : Vec ℕ Global × C) → Some e ≡ slice_get es at →
+    get_or (map items_of (keys_of es)) at [] ≡ e.0.items
 entry_key es at e g =
     get_or_from_slice_get (map items_of (keys_of es)) at e.0.items []
-    (slice_get-map items_of (keys_of es) at ∙ ap (option_map items_of) (slice_get-map (λ p. p.0) es at ∙ ap (option_map (λ p. p.0)) (sym g)))
+    (slice_get-map items_of (keys_of es) at ∙ ap (option_map items_of)
+    (slice_get-map (λ p. p.0) es at ∙ ap (option_map (λ p. p.0)) (sym g)))

@@ -11,13 +11,13 @@ use Rattle.fst_parts.specs.Counts.{counts_of}
 use Rattle.fst_parts.specs.Labels.{labels_in, names, AreLetters}
 use Rattle.fst_parts.specs.Letters.{with_labels}
 use Rattle.fst_parts.specs.Place.{open_depth}
-use Rattle.fst_parts.specs.Same.{same_tree}
 use Rattle.fst_parts.specs.Shapes.{shape_of}
 use Rattle.fst_parts.proofs.BranchLaws as branches
 use Rattle.fst_parts.proofs.CountLaws as counts
 use Rattle.fst_parts.proofs.LabelLaws as labels
 use Rattle.fst_parts.proofs.PlaceLaws as places
-use Rattle.fst_parts.proofs.SameLaws as same
+-- two types pass the test exactly where they are one
+pub use Rattle.fst_parts.proofs.SameLaws.{same_tree_is}
 
 -- what is inserted one by one into no labels are the labels of both types, each at its place
 pub letters_are : (s r : Tree) → AreLetters s r (with_labels [] (labels_in s ++ labels_in r))
@@ -28,16 +28,9 @@ pub names_rise : (letters : List Label) → IsRising label_cmp letters → IsRis
 names_rise = places.names_rise
 
 -- the branches from a place on: the one there, and then the others
-pub branches_at : (bs : List Branch) (i : ℕ) (b : Branch) → i < length bs → b ≡ get_or bs i b → branches_of (drop i bs) ≡ branch b.label b.body (branches_of (drop (i + 1) bs))
+pub branches_at : (bs : List Branch) (i : ℕ) (b : Branch) → i < length bs → b ≡ get_or bs i b →
+    branches_of (drop i bs) ≡ branch b.label b.body (branches_of (drop (i + 1) bs))
 branches_at = branches.branches_at
-
--- two types that pass the test are one
-pub same_tree-same : (s t : Tree) → same_tree s t ≡ true → s ≡ t
-same_tree-same = same.same_tree-same
-
--- each type passes the test with itself
-pub same_tree-itself : (s : Tree) → same_tree s s ≡ true
-same_tree-itself = same.same_tree-itself
 
 -- the nodes that are counted of a type's shape are those of the type
 pub nodes_of_tree : (t : Tree) → (counts_of (shape_of t)).nodes ≡ nodes t

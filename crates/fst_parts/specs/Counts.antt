@@ -17,18 +17,38 @@ leaf_counts form holds = record { nodes = 1; open_depth = 0; terminated = false 
 
 -- those of a node with one part: the branches of a choice count the choice
 abbrev pub wrap_counts : Form → Counts → Counts
-wrap_counts forms.Rec c = record { nodes = c.nodes + 1; open_depth = c.open_depth - 1; terminated = c.terminated }
+wrap_counts forms.Rec c = record {
+  nodes = c.nodes + 1;
+  open_depth = c.open_depth - 1;
+  terminated =
+      c.terminated;
+}
 wrap_counts form c = record { nodes = c.nodes; open_depth = c.open_depth; terminated = false }
 
 -- those of a node with two parts
 abbrev pub fork_counts : Form → Counts → Counts → Counts
 fork_counts forms.Seq c d =
-    record { nodes = c.nodes + d.nodes + 1; open_depth = max c.open_depth d.open_depth; terminated = c.terminated && d.terminated }
-fork_counts form c d = record { nodes = c.nodes + d.nodes + 1; open_depth = max c.open_depth d.open_depth; terminated = false }
+    record {
+      nodes = c.nodes + d.nodes + 1;
+      open_depth = max c.open_depth d.open_depth;
+      terminated =
+          c.terminated && d.terminated;
+    }
+fork_counts form c d = record {
+  nodes = c.nodes + d.nodes + 1;
+  open_depth =
+      max c.open_depth d.open_depth;
+  terminated = false;
+}
 
 -- those of a branch and those behind it
 abbrev pub link_counts : Counts → Counts → Counts
-link_counts c d = record { nodes = c.nodes + d.nodes + 1; open_depth = max c.open_depth d.open_depth; terminated = false }
+link_counts c d = record {
+  nodes = c.nodes + d.nodes + 1;
+  open_depth =
+      max c.open_depth d.open_depth;
+  terminated = false;
+}
 
 -- the counts of a shape
 abbrev pub counts_of : Shape → Counts

@@ -75,11 +75,14 @@ IsAt keys at key = (place keys key ≡ at) × (at < length keys)
 abbrev pub Stands : List (List ℕ) → ℕ → Shape → Type 0
 Stands keys at end = IsAt keys at []
 Stands keys at (leaf f holds) = IsAt keys at (leaf_key f holds)
-Stands keys at (wrap f x) = IsAt keys at (wrap_key f (first keys at)) × Stands keys (first keys at) x
+Stands keys at (wrap f x) = IsAt keys at (wrap_key f (first keys at)) ×
+    Stands keys (first keys at) x
 Stands keys at (fork f x y) =
-    IsAt keys at (fork_key f (first keys at) (second keys at)) × Stands keys (first keys at) x × Stands keys (second keys at) y
+    IsAt keys at (fork_key f (first keys at) (second keys at)) × Stands keys (first keys at) x ×
+    Stands keys (second keys at) y
 Stands keys at (link l x y) =
-    IsAt keys at (link_key l (first keys at) (second keys at)) × Stands keys (first keys at) x × Stands keys (second keys at) y
+    IsAt keys at (link_key l (first keys at) (second keys at)) × Stands keys (first keys at) x ×
+    Stands keys (second keys at) y
 
 -- all trees keep their numbers
 abbrev pub KeepsNumbers : List (List ℕ) → List (List ℕ) → Type 0

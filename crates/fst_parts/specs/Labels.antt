@@ -31,7 +31,8 @@ abbrev mutual
 
 -- the labels of the two types, each once, in label order
 abbrev pub AreLetters : Tree → Tree → List Label → Type 0
-AreLetters s r letters = IsRising label_cmp letters × ((a : Label) → Contains letters a ↔ Contains (labels_in s ++ labels_in r) a)
+AreLetters s r letters = IsRising label_cmp letters ×
+    ((a : Label) → Contains letters a ↔ Contains (labels_in s ++ labels_in r) a)
 
 -- the label of a message or variable
 abbrev pub is_name : Label → Bool

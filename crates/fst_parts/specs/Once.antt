@@ -20,7 +20,8 @@ position (e ∷ es) whole at = if stands_at e whole at then 0 else suc (position
 
 -- the list, and behind it a part that is the same as none in it
 abbrev pub with_part : List Part → Part → List Part
-with_part found e = if nat_lt (position found e.place.whole e.place.at) (length found) then found else found ++ e ∷ []
+with_part found e = if nat_lt (position found e.place.whole e.place.at)
+    (length found) then found else found ++ e ∷ []
 
 -- the list with each of these parts in turn
 abbrev pub with_parts : List Part → List Part → List Part

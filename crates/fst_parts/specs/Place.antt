@@ -58,7 +58,12 @@ binders_in closed binders = if closed then [] else binders
 -- the place of a part, by whether it is closed
 abbrev pub own_place_if : Bool → Place → Tree → Place
 own_place_if closed p t =
-    record { whole = whole_in closed p.whole t; at = start_in closed p.at; binders = binders_in closed p.binders }
+    record {
+      whole = whole_in closed p.whole t;
+      at = start_in closed p.at;
+      binders =
+          binders_in closed p.binders;
+    }
 
 -- the place of a part: a closed type is a whole of its own
 abbrev pub own_place : Place → Tree → Place

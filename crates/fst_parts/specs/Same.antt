@@ -41,4 +41,5 @@ abbrev mutual
   same_branches none none = true
   same_branches none (branch m t cs) = false
   same_branches (branch l s bs) none = false
-  same_branches (branch l s bs) (branch m t cs) = bytes_eq l m && (same_tree s t && same_branches bs cs)
+  same_branches (branch l s bs) (branch m t cs) =
+      bytes_eq l m && (same_tree s t && same_branches bs cs)

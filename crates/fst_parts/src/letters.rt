@@ -12,7 +12,8 @@ use std::alloc::{AllocError, Global};
 /// The labels of two types, each once, in label order.
 #[tactic(auto, using(crate::proofs::LabelLaws::inserted_append))]
 pub fn letters_of(alloc: Global, s: &Ty, r: &Ty) -> Result<Vec<Label>, AllocError>
-    ensures letters { IfOk result (λ l. l.items ≡ with_labels [] (labels_in s.now ++ labels_in r.now)) }
+    ensures letters { IfOk result (λ l. l.items ≡ with_labels []
+        (labels_in s.now ++ labels_in r.now)) }
     ensures rising { IfOk result (λ l. IsRising label_cmp l.items) }
 {
     let mut letters = Vec::new(alloc);
@@ -26,7 +27,8 @@ pub fn letters_of(alloc: Global, s: &Ty, r: &Ty) -> Result<Vec<Label>, AllocErro
 #[tactic(auto, using(crate::proofs::LabelLaws::inserted_append))]
 fn add_labels(alloc: Global, letters: &mut Vec<Label>, t: &Ty) -> Result<(), AllocError>
     requires { IsRising label_cmp letters.old.items }
-    ensures letters { OnOk result (letters.new.items ≡ with_labels letters.old.items (labels_in t.now)) }
+    ensures letters { OnOk result (letters.new.items ≡ with_labels letters.old.items
+        (labels_in t.now)) }
     ensures rising { OnOk result (IsRising label_cmp letters.new.items) }
 {
     match &t.form {
@@ -58,7 +60,8 @@ fn add_branches(
     offers: bool,
 ) -> Result<(), AllocError>
     requires { IsRising label_cmp letters.old.items }
-    ensures letters { OnOk result (letters.new.items ≡ with_labels letters.old.items (branch_labels (branch_label offers) (branches_of branches.now))) }
+    ensures letters { OnOk result (letters.new.items ≡ with_labels letters.old.items
+        (branch_labels (branch_label offers) (branches_of branches.now))) }
     ensures rising { OnOk result (IsRising label_cmp letters.new.items) }
 {
     for branch in branches {

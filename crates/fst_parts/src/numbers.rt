@@ -63,7 +63,8 @@ fn number_wrap(
     part: usize,
 ) -> Result<usize, AllocError>
     requires few { HasFewNodes trees.old part }
-    ensures stands { IfOk result (λ i. (x : Shape) → Stands trees.old part x → Stands trees.new i (wrap form x)) }
+    ensures stands { IfOk result (λ i. (x : Shape) → Stands trees.old part x →
+        Stands trees.new i (wrap form x)) }
     ensures kept { OnOk result (KeepsNumbers trees.old trees.new) }
 {
     let counts = Counts::of_wrap(form, trees.counts(part));
@@ -81,7 +82,8 @@ fn number_fork(
     second: usize,
 ) -> Result<usize, AllocError>
     requires few { HaveFewNodes trees.old first second }
-    ensures stands { IfOk result (λ i. (x y : Shape) → Stands trees.old first x → Stands trees.old second y → Stands trees.new i (fork form x y)) }
+    ensures stands { IfOk result (λ i. (x y : Shape) → Stands trees.old first x →
+        Stands trees.old second y → Stands trees.new i (fork form x y)) }
     ensures kept { OnOk result (KeepsNumbers trees.old trees.new) }
 {
     let counts = Counts::of_fork(form, trees.counts(first), trees.counts(second));
@@ -116,7 +118,8 @@ fn number_link(
     second: usize,
 ) -> Result<usize, AllocError>
     requires few { HaveFewNodes trees.old first second }
-    ensures stands { IfOk result (λ i. (x y : Shape) → Stands trees.old first x → Stands trees.old second y → Stands trees.new i (link name.now x y)) }
+    ensures stands { IfOk result (λ i. (x y : Shape) → Stands trees.old first x →
+        Stands trees.old second y → Stands trees.new i (link name.now x y)) }
     ensures kept { OnOk result (KeepsNumbers trees.old trees.new) }
 {
     let counts = Counts::of_link(trees.counts(first), trees.counts(second));
@@ -169,7 +172,8 @@ fn number_both(
     second: &Ty,
 ) -> Result<usize, AllocError>
     requires few { nodes first.now + nodes second.now + 1 < 2 ^ 31 }
-    ensures stands { IfOk result (λ i. Stands trees.new i (fork form (shape_of first.now) (shape_of second.now))) }
+    ensures stands { IfOk result (λ i. Stands trees.new i
+        (fork form (shape_of first.now) (shape_of second.now))) }
     ensures kept { OnOk result (KeepsNumbers trees.old trees.new) }
 {
     let left = number_of(alloc, trees, first)?;
@@ -185,7 +189,8 @@ fn number_choice(
     branches: &[Branch],
 ) -> Result<usize, AllocError>
     requires few { nodes_all (branches_of branches.now) + 1 < 2 ^ 31 }
-    ensures stands { IfOk result (λ i. Stands trees.new i (wrap form (shape_of_all (branches_of branches.now)))) }
+    ensures stands { IfOk result (λ i. Stands trees.new i
+        (wrap form (shape_of_all (branches_of branches.now)))) }
     ensures kept { OnOk result (KeepsNumbers trees.old trees.new) }
 {
     let part = number_branches(alloc, trees, branches)?;
@@ -199,7 +204,8 @@ fn number_branches(
     branches: &[Branch],
 ) -> Result<usize, AllocError>
     requires few { nodes_all (branches_of branches.now) + 1 < 2 ^ 31 }
-    ensures stands { IfOk result (λ i. Stands trees.new i (shape_of_all (branches_of branches.now))) }
+    ensures stands { IfOk result (λ i. Stands trees.new i
+        (shape_of_all (branches_of branches.now))) }
     ensures kept { OnOk result (KeepsNumbers trees.old trees.new) }
 {
     match branches.split_first() {

@@ -72,7 +72,13 @@ pub fn note<'a>(
     requires part { HasNumber trees.now t }
     requires kept { IsKept trees.now parts.old }
     ensures kept { OnOk result (IsKept trees.now parts.new) }
-    ensures parts { OnOk result (map part_of parts.new.found.items ≡ with_part (map part_of parts.old.found.items) (record { place = place_in whole.entry.ty.now at (places_of binders.now); type = t.entry.ty.now })) }
+    ensures parts { OnOk result (map part_of parts.new.found.items ≡ with_part
+        (map part_of parts.old.found.items)
+        (record {
+          place = place_in whole.entry.ty.now at (places_of binders.now);
+          type =
+              t.entry.ty.now;
+        })) }
 {
     if place_of(trees, parts, whole, at) < parts.found.len() {
         return Ok(());

@@ -16,7 +16,7 @@ use Rattle.fst_context.specs.Scope.{Scope}
 use Rattle.fst_derivations.specs.Deriv.{Deriv, none, row, type_of}
 use Rattle.fst_derivations.specs.Parts.{IsFormed}
 use Rattle.fst_premises.specs.Checks.{Check, IsInSize, IsPlainBy, IsTypedAlone}
-use Rattle.fst_lts.proofs.DualKinds.{dual_formed}
+use Rattle.fst_lts.proofs.Laws.{dual_formed}
 use Rattle.fst_premises.proofs.Formed.{closed_formed, pair_of_formed}
 use Rattle.fst_context.proofs.Laws.{takes_none}
 
@@ -28,9 +28,17 @@ session_prekind Top u h = absurd (cc h)
 pub session_below : (t : Tree) (k : Kind) → IsWellFormed [] t k → subkind k (session Once) ≡ true → IsSession [] t
 session_below t k w h = (k.uses, subst (IsWellFormed [] t) (session_of k (session_prekind k.prekind k.uses h)) w)
 
-pub channel_typed : (c : Check) (at k : ℕ) (s : Scope) (w : Deriv) (t l : Tree) → slice_get c.surroundings.types k ≡ Some l → IsSession [] l → t ≡ type.pair l (dual l) → IsInSize t → w ≡ row t none → IsTypedAlone c s s (new at k) w
+pub channel_typed : (c : Check) (at k : ℕ) (s : Scope) (w : Deriv) (t l : Tree) → slice_get c.surroundings.types k ≡ Some l →
+    IsSession [] l → t ≡ type.pair l (dual l) → IsInSize t → w ≡ row t none → IsTypedAlone c s s (new at k) w
 channel_typed c at k s w t l g p e small q =
     let is : w ≡ row (type.pair l (dual l)) none = q ∙ ap (λ o. row o none) e in
     let left : IsFormed c.surroundings.vars l = closed_formed c.surroundings.vars l (session p.0, p.1) in
-    let right : IsFormed c.surroundings.vars (dual l) = closed_formed c.surroundings.vars (dual l) (session p.0, dual_formed [] l (session p.0) p.1) in
-    takes_none (IsPlainBy (λ _ _. ⊥) c (new at k) s.variables w) s (record { rule = (l, g, p, refl, is); formed = subst (λ d. IsFormed c.surroundings.vars (type_of d)) (sym is) (pair_of_formed c.surroundings.vars l (dual l) left right); small = subst IsInSize (sym (ap type_of q)) small })
+    let right : IsFormed c.surroundings.vars (dual l) =
+    closed_formed c.surroundings.vars (dual l) (session p.0, dual_formed [] l (session p.0) p.1) in
+    takes_none (IsPlainBy (λ _ _. ⊥) c (new at k) s.variables w) s
+    (record {
+      rule = (l, g, p, refl, is);
+      formed = subst
+          (λ d. IsFormed c.surroundings.vars (type_of d)) (sym is) (pair_of_formed c.surroundings.vars l (dual l) left right);
+      small = subst IsInSize (sym (ap type_of q)) small;
+    })

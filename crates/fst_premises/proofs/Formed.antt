@@ -8,8 +8,16 @@ use Rattle.fst_derivations.specs.Parts.{IsFormed}
 
 -- a pair of well-formed types is one
 pub pair_of_formed : (vars : List Kind) (s r : Tree) → IsFormed vars s → IsFormed vars r → IsFormed vars (pair s r)
-pair_of_formed vars s r (i, v) (j, w) =
-    (_, record { kinded = (i, j, v.kinded, w.kinded, refl); contractive = (v.contractive, w.contractive); scoped = (v.scoped, w.scoped); ordered = (v.ordered, w.ordered) })
+pair_of_formed vars s r (i, v) (j, w) = (
+  _,
+  record {
+    kinded = (i, j, v.kinded, w.kinded, refl);
+    contractive = (v.contractive, w.contractive);
+    scoped =
+        (v.scoped, w.scoped);
+    ordered = (v.ordered, w.ordered);
+  },
+)
 
 -- labels that rise are sorted
 rising_sorted : (bs : Branches) → AreRising bs → AreSorted bs
@@ -66,4 +74,12 @@ mutual
 
 -- a closed well-formed type is well formed over any variables
 pub closed_formed : (vars : List Kind) (t : Tree) → IsFormed [] t → IsFormed vars t
-closed_formed vars t (k, w) = (k, record { kinded = closed_kind vars t k w.kinded; contractive = w.contractive; scoped = w.scoped; ordered = w.ordered })
+closed_formed vars t (k, w) = (
+  k,
+  record {
+    kinded = closed_kind vars t k w.kinded;
+    contractive = w.contractive;
+    scoped = w.scoped;
+    ordered = w.ordered;
+  },
+)

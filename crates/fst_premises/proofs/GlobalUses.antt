@@ -15,13 +15,24 @@ use Rattle.fst_premises.specs.Checks.{Check, IsInSize, IsPlainBy, IsTypedAlone}
 use Rattle.fst_context.proofs.Laws.{takes_none}
 
 -- an instance of a global's type is the type of its use
-pub global_typed : (c : Check) (at k : ℕ) (ks : List ℕ) (s : Scope) (w : Deriv) (g : GlobalEntry) (t i : Tree) (args : List Tree) →
-    ((outer vars : List Kind) (bs : List Tree) (r : Tree) (j : Kind) → IsInstantiation outer vars bs → IsWellFormed vars r j → IsInstance outer j (instantiated bs r)) →
-    slice_get c.surroundings.globals k ≡ Some g → IsFormedAt c.surroundings.types g.kinds.items g.signature → slice_get c.surroundings.types g.signature ≡ Some t → AreAt c.surroundings.types ks args →
-    IsInstantiation c.surroundings.vars g.kinds.items args → i ≡ instantiated args t → IsInSize i → w ≡ row i none → IsTypedAlone c s s (global at k ks) w
+pub global_typed : (c : Check) (at k : ℕ) (ks : List ℕ) (s : Scope) (w : Deriv) (g : GlobalEntry) (t i : Tree)
+    (args : List Tree) →
+    ((outer vars : List Kind) (bs : List Tree) (r : Tree) (j : Kind) → IsInstantiation outer vars bs → IsWellFormed vars r j →
+    IsInstance outer j (instantiated bs r)) →
+    slice_get c.surroundings.globals k ≡ Some g → IsFormedAt c.surroundings.types g.kinds.items g.signature →
+    slice_get c.surroundings.types g.signature ≡ Some t → AreAt c.surroundings.types ks args →
+    IsInstantiation c.surroundings.vars g.kinds.items args → i ≡ instantiated args t → IsInSize i → w ≡ row i none →
+    IsTypedAlone c s s (global at k ks) w
 global_typed c at k ks s w g t i args law e f h a b j small q =
     let is : w ≡ row (instantiated args t) none = subst (λ o. w ≡ row o none) j q in
     let same : f.0 ≡ t = same_Some f.0 t (sym f.1 ∙ h) in
     let formed : IsFormed g.kinds.items t = subst (IsFormed g.kinds.items) same f.2 in
     let instance = law c.surroundings.vars g.kinds.items args t formed.0 b formed.1 in
-    takes_none (IsPlainBy (λ _ _. ⊥) c (global at k ks) s.variables w) s (record { rule = (g, t, args, e, h, a, b, refl, is); formed = subst (λ d. IsFormed c.surroundings.vars (type_of d)) (sym is) (instance.kind, instance.well_formed); small = subst IsInSize (sym (ap type_of q)) small })
+    takes_none (IsPlainBy (λ _ _. ⊥) c (global at k ks) s.variables w) s
+    (record {
+      rule = (g, t, args, e, h, a, b, refl, is);
+      formed = subst
+          (λ d. IsFormed c.surroundings.vars (type_of d)) (sym is) (instance.kind, instance.well_formed);
+      small =
+          subst IsInSize (sym (ap type_of q)) small;
+    })

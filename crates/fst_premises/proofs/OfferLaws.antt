@@ -8,7 +8,8 @@ abbrev pub AreOfferedTo : ℕ → List Label → Type 0
 AreOfferedTo i ls = (names : List (List ℕ)) × (map Offer names ≡ take i ls)
 
 -- one more is
-pub offered_more : (ls : List Label) (i : ℕ) (a : Label) (x : List ℕ) → AreOfferedTo i ls → i < length ls → a ≡ get_or ls i a → a ≡ Offer x → AreOfferedTo (i + 1) ls
+pub offered_more : (ls : List Label) (i : ℕ) (a : Label) (x : List ℕ) → AreOfferedTo i ls → i < length ls → a ≡ get_or ls i a →
+    a ≡ Offer x → AreOfferedTo (i + 1) ls
 offered_more [] i a x h l e f = absurd (omega (arith, l))
 offered_more (b ∷ ls) zero a x h l e f = (x ∷ [], ap (λ y. y ∷ []) (sym f ∙ e))
 offered_more (b ∷ ls) (suc i) a x ([], h) l e f = absurd (cc h)
@@ -20,7 +21,8 @@ offered_more (b ∷ ls) (suc i) a x (n ∷ ns, h) l e f =
     (n ∷ r.0, (λ j. head j ∷ r.1 j) ∙ ap (λ m. take m (b ∷ ls)) (sym step))
 
 -- a label among those of a choice is offered
-pub offered_at : (names : List (List ℕ)) (ls : List Label) (i : ℕ) (a : Label) → ls ≡ map Offer names → i < length ls → a ≡ get_or ls i a → (x : List ℕ) × (a ≡ Offer x)
+pub offered_at : (names : List (List ℕ)) (ls : List Label) (i : ℕ) (a : Label) → ls ≡ map Offer names → i < length ls →
+    a ≡ get_or ls i a → (x : List ℕ) × (a ≡ Offer x)
 offered_at [] [] i a h l e = absurd (omega (arith, l))
 offered_at [] (b ∷ ls) i a h l e = absurd (cc h)
 offered_at (n ∷ ns) [] i a h l e = absurd (omega (arith, l))

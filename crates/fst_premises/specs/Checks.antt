@@ -27,7 +27,8 @@ AreInSize ts = AllByRecursion IsInSize ts
 
 -- a row of a plain derivation, of a well-formed type, where types that are compared are related by E, and each type of a term and
 -- of a variable that is bound is within its size
-pub record IsPlainBy (E : Tree → Tree → Type 0) (c : Check) (e : CoreTree) (g : List Variable) (d : Deriv) (u : Vars) : Type 0 where
+pub record IsPlainBy (E : Tree → Tree → Type 0) (c : Check) (e : CoreTree) (g : List Variable)
+    (d : Deriv) (u : Vars) : Type 0 where
   pub rule : Row c.surroundings (within IsInSize E) e g u d
   pub formed : IsFormed c.surroundings.vars (type_of d)
   pub small : IsInSize (type_of d)

@@ -33,7 +33,9 @@ pub record IsEntered (c : Check) (p : Parameter) (before after : Scope) : Type 0
 
 -- at this type the term has these parameters in front, the first outermost, which are entered between the scopes; under them
 -- is b at the type r
-abbrev pub AreEntered : Check → CoreTree → Tree → Scope → List Parameter → CoreTree → Tree → Scope → Type 0
+abbrev pub AreEntered : Check → CoreTree → Tree → Scope → List Parameter → CoreTree → Tree → Scope →
+    Type 0
 AreEntered c e t before [] b r after = (e ≡ b) × (t ≡ r) × (before ≡ after)
 AreEntered c e t before (p ∷ ps) b r after =
-    HasParameter c e t p × ((z : Scope) × IsEntered c p before z × AreEntered c p.body.now p.to.now z ps b r after)
+    HasParameter c e t p × ((z : Scope) × IsEntered c p before z ×
+    AreEntered c p.body.now p.to.now z ps b r after)

@@ -18,17 +18,28 @@ use Rattle.fst_premises.specs.declared.scene.Scene.{Scene}
 
 -- what is checked with in an equation of a module
 abbrev pub check_in : Scene → Check
-check_in s = record { surroundings = surroundings s.module.now s.vars.now; places = s.module.now.places.items; budget = s.budget }
+check_in s = record {
+  surroundings = surroundings s.module.now s.vars.now;
+  places =
+      s.module.now.places.items;
+  budget = s.budget;
+}
 
 -- a question has a budget, and the types of signatures and of fields are well formed
 pub record IsSetUp (c : Check) : Type 0 where
   pub budget : 1 ≤ c.budget
-  pub signatures : (k : ℕ) (g : GlobalEntry) → slice_get c.surroundings.globals k ≡ Some g → IsFormedAt c.surroundings.types g.kinds.items g.signature
-  pub fields : (n : ℕ) (f : Family) → slice_get c.surroundings.families n ≡ Some f → AreMakersFormed c.surroundings.types f.makers.items
+  pub signatures : (k : ℕ) (g : GlobalEntry) → slice_get c.surroundings.globals k ≡ Some g →
+      IsFormedAt c.surroundings.types g.kinds.items g.signature
+  pub fields : (n : ℕ) (f : Family) → slice_get c.surroundings.families n ≡ Some f →
+      AreMakersFormed c.surroundings.types f.makers.items
 
 -- what the numbers in a term stand for
 abbrev pub bounds : Check → Bounds
-bounds c = record { families = c.surroundings.families; globals = length c.surroundings.globals; types = length c.surroundings.types }
+bounds c = record {
+  families = c.surroundings.families;
+  globals = length c.surroundings.globals;
+  types = length c.surroundings.types;
+}
 
 -- variables of well-formed types within their size, each with its use
 abbrev pub AreHeld : List Kind → List Variable → Type 0
@@ -42,13 +53,15 @@ pub record IsReady (c : Check) (e : CoreTree) (g : List Variable) : Type 0 where
   pub held : AreHeld c.surroundings.vars g
 
 -- the type is a data type whose constructors are these arms, each once, by their numbers
-pub record IsCase (families : List Family) (t : Tree) (arms : List Arm) (o : Constructors) : Type 0 where
+pub record IsCase (families : List Family) (t : Tree) (arms : List Arm)
+    (o : Constructors) : Type 0 where
   pub number : ℕ
   pub family : Family
   pub type : t ≡ named number
   pub there : slice_get families number ≡ Some family
   pub makers : o.makers.now ≡ family.makers.items
-  pub each_once : AreEachOnce (map (λ x. x.name) family.makers.items) (arm_labels (core_arms_of arms))
+  pub each_once : AreEachOnce (map (λ x. x.name) family.makers.items)
+      (arm_labels (core_arms_of arms))
   pub numbers : AreMakerNumbers family.makers.items arms o.numbers.items
 
 -- types that are well formed

@@ -67,15 +67,18 @@ pub record IsTooLargeAt (at : ℕ) (t : Tree) (f : CheckFault) : Type 0 where
 abbrev pub ShowsVariable : ℕ → ℕ → Scope → CheckFault → Type 0
 ShowsVariable at k s f =
     (x : List ℕ) × (slice_get s.names k ≡ Some x) ×
-    (((taken_at s k ≡ Gone) × (f ≡ UsedTwice at x)) ⊎ ((taken_at s k ≡ Outside) × (f ≡ CapturedLinear at x)))
+    (((taken_at s k ≡ Gone) × (f ≡ UsedTwice at x)) ⊎
+    ((taken_at s k ≡ Outside) × (f ≡ CapturedLinear at x)))
 
 -- of type arguments the first whose kind isn't below that of its variable
 abbrev pub ShowsArguments : Check → List ℕ → List Kind → CheckFault → Type 0
 ShowsArguments c [] vs f = ⊥
 ShowsArguments c (k ∷ ks) [] f = ⊥
 ShowsArguments c (k ∷ ks) (v ∷ vs) f =
-    (t : Tree) × (j : Kind) × (slice_get c.surroundings.types k ≡ Some t) × IsWellFormed c.surroundings.vars t j ×
-    (((subkind j v ≡ false) × ((at : ℕ) × (slice_get c.places k ≡ Some at) × (f ≡ KindOfArgument at j v)))
+    (t : Tree) × (j : Kind) × (slice_get c.surroundings.types k ≡ Some t) ×
+    IsWellFormed c.surroundings.vars t j ×
+    (((subkind j v ≡ false) × ((at : ℕ) × (slice_get c.places k ≡ Some at) ×
+    (f ≡ KindOfArgument at j v)))
     ⊎ ((subkind j v ≡ true) × ShowsArguments c ks vs f))
 
 -- a use of a global has not as many type arguments as its signature has variables, or one of another kind; or they are such, and
@@ -83,16 +86,20 @@ ShowsArguments c (k ∷ ks) (v ∷ vs) f =
 abbrev pub ShowsUse : Check → ℕ → ℕ → List ℕ → CheckFault → Type 0
 ShowsUse c at k ks f =
     (g : GlobalEntry) × (slice_get c.surroundings.globals k ≡ Some g) ×
-    (((length ks ≡ length g.kinds.items → ⊥) × (f ≡ TypeArguments at (length ks) (length g.kinds.items)))
+    (((length ks ≡ length g.kinds.items → ⊥) ×
+    (f ≡ TypeArguments at (length ks) (length g.kinds.items)))
     ⊎ (((length ks ≡ length g.kinds.items) × ShowsArguments c ks g.kinds.items f)
-    ⊎ ((t : Tree) × (args : List Tree) × (slice_get c.surroundings.types g.signature ≡ Some t) × AreAt c.surroundings.types ks args ×
-    IsInstantiation c.surroundings.vars g.kinds.items args × IsTooLargeAt at (instantiated args t) f)))
+    ⊎ ((t : Tree) × (args : List Tree) ×
+    (slice_get c.surroundings.types g.signature ≡ Some t) × AreAt c.surroundings.types ks args ×
+    IsInstantiation c.surroundings.vars g.kinds.items args ×
+    IsTooLargeAt at (instantiated args t) f)))
 
 -- the type of a new channel's end isn't a session type, or the type of both its ends is over its size
 abbrev pub ShowsNew : Check → ℕ → ℕ → CheckFault → Type 0
 ShowsNew c at k f =
     (t : Tree) × (slice_get c.surroundings.types k ≡ Some t) ×
-    (((j : Kind) × IsWellFormed [] t j × (subkind j (session Once) ≡ false) × ((p : ℕ) × (slice_get c.places k ≡ Some p) × (f ≡ Kinds p (WrongKind j (session Once)))))
+    (((j : Kind) × IsWellFormed [] t j × (subkind j (session Once) ≡ false) ×
+    ((p : ℕ) × (slice_get c.places k ≡ Some p) × (f ≡ Kinds p (WrongKind j (session Once)))))
     ⊎ (IsSession [] t × IsTooLargeAt at (type.pair t (dual t)) f))
 
 -- a variable that is bound isn't used at the end
@@ -103,13 +110,15 @@ pub record IsUnused (z : Scope) (k : ℕ) (x : Binder) (f : CheckFault) : Type 0
 -- of the variables that these names bind, the last innermost, the first that isn't used at the end; the last has the number 0
 abbrev pub ShowsUnused : Scope → List Binder → CheckFault → Type 0
 ShowsUnused z [] f = ⊥
-ShowsUnused z (x ∷ xs) f = IsUnused z (length xs) x f ⊎ ((at_or_not z.there (length xs) ≡ false) × ShowsUnused z xs f)
+ShowsUnused z (x ∷ xs) f = IsUnused z (length xs) x f ⊎
+    ((at_or_not z.there (length xs) ≡ false) × ShowsUnused z xs f)
 
 -- of the types that names are bound at the first that is over its size
 abbrev pub IsLargeBinder : List Binder → List Tree → CheckFault → Type 0
 IsLargeBinder [] ts f = ⊥
 IsLargeBinder (x ∷ xs) [] f = ⊥
-IsLargeBinder (x ∷ xs) (t ∷ ts) f = IsTooLargeAt x.at t f ⊎ ((HasTooManyNodes t → ⊥) × IsLargeBinder xs ts f)
+IsLargeBinder (x ∷ xs) (t ∷ ts) f = IsTooLargeAt x.at t f ⊎
+    ((HasTooManyNodes t → ⊥) × IsLargeBinder xs ts f)
 
 -- the outermost variable that is there in one scope and not in the other
 pub record DifferAt (s z : Scope) (k : ℕ) : Type 0 where
@@ -126,7 +135,8 @@ pub record UseDifferent (at : ℕ) (s z : Scope) (f : CheckFault) : Type 0 where
 
 -- what is found is no type of functions
 abbrev pub ShowsNoFunction : ℕ → Tree → CheckFault → Type 0
-ShowsNoFunction at t f = ((u : Use) (from to : Tree) → t ≡ arrow u from to → ⊥) × (f ≡ NotFunction at t)
+ShowsNoFunction at t f = ((u : Use) (from to : Tree) → t ≡ arrow u from to → ⊥) ×
+    (f ≡ NotFunction at t)
 
 -- what is found is no type of pairs
 abbrev pub ShowsNoPair : ℕ → Tree → CheckFault → Type 0
@@ -139,14 +149,18 @@ ShowsDropped vars at t f = (HasUse vars t Many → ⊥) × (f ≡ Dropped at t)
 -- a value of the first type can't be sent on an end of the second, or what is left then is over its size
 abbrev pub ShowsSend : ℕ → Tree → Tree → CheckFault → Type 0
 ShowsSend at s t f =
-    (((b : Base) (next : Tree) → s ≡ plain b → step t (label.Send b) ≡ Some next → ⊥) × (f ≡ NoSuchMove at t (move.Send s)))
-    ⊎ ((b : Base) × (next : Tree) × (s ≡ plain b) × (step t (label.Send b) ≡ Some next) × IsTooLargeAt at next f)
+    (((b : Base) (next : Tree) → s ≡ plain b → step t (label.Send b) ≡ Some next → ⊥) ×
+    (f ≡ NoSuchMove at t (move.Send s)))
+    ⊎ ((b : Base) × (next : Tree) × (s ≡ plain b) ×
+    (step t (label.Send b) ≡ Some next) × IsTooLargeAt at next f)
 
 -- nothing can be received on an end of the type, or what it gives is over its size
 abbrev pub ShowsReceive : ℕ → Tree → CheckFault → Type 0
 ShowsReceive at t f =
-    (((b : Base) (next : Tree) → step t (label.Receive b) ≡ Some next → ⊥) × (f ≡ NoSuchMove at t move.Receive))
-    ⊎ ((b : Base) × (next : Tree) × (step t (label.Receive b) ≡ Some next) × IsTooLargeAt at (type.pair (plain b) next) f)
+    (((b : Base) (next : Tree) → step t (label.Receive b) ≡ Some next → ⊥) ×
+    (f ≡ NoSuchMove at t move.Receive))
+    ⊎ ((b : Base) × (next : Tree) × (step t (label.Receive b) ≡ Some next) ×
+    IsTooLargeAt at (type.pair (plain b) next) f)
 
 -- the branch can't be selected on an end of the type, or what is left then is over its size
 abbrev pub ShowsSelect : ℕ → List ℕ → Tree → CheckFault → Type 0
@@ -157,7 +171,8 @@ ShowsSelect at l t f =
 -- the type is no data type, or these labels aren't its constructors, each once
 abbrev pub ShowsNoCase : List Family → ℕ → Tree → List (List ℕ) → CheckFault → Type 0
 ShowsNoCase families at t found f =
-    ((n : ℕ) (g : Family) → t ≡ named n → slice_get families n ≡ Some g → AreEachOnce (map (λ o. o.name) g.makers.items) found → ⊥) × (f ≡ Arms at t)
+    ((n : ℕ) (g : Family) → t ≡ named n → slice_get families n ≡ Some g →
+    AreEachOnce (map (λ o. o.name) g.makers.items) found → ⊥) × (f ≡ Arms at t)
 
 -- the type offers no choice, or these labels aren't those that it offers, each once
 abbrev pub ShowsNoMatch : ℕ → Tree → List (List ℕ) → CheckFault → Type 0

@@ -51,7 +51,8 @@ pub fn enter(
     t: Ty,
 ) -> Result<(), AllocError>
     requires { IsFormed scene.vars.now t }
-    ensures { OnOk result ((n : Use) × HasUse scene.entry.vars.now t n × (context.new ≡ entered binder.now.name (record { type = t; uses = n }) context.old)) }
+    ensures { OnOk result ((n : Use) × HasUse scene.entry.vars.now t n ×
+        (context.new ≡ entered binder.now.name (record { type = t; uses = n }) context.old)) }
 {
     let uses = use_of(alloc, scene.vars, &t)?;
     context.enter(binder, t, uses)
@@ -66,10 +67,16 @@ pub fn enter_fields(
     fields: &[u32],
 ) -> Result<(), CheckFault>
     requires long { length binders.now ≡ length fields.now }
-    requires there { (ts : List Tree) × AreAt scene.module.now.types.items fields.now ts × AreFormed scene.vars.now ts }
-    ensures entered { OnOk result ((ts : List Tree) → AreAt scene.entry.module.now.types.items fields.now ts →
-        (vs : List Variable) × AreVariables scene.entry.vars.now ts vs × AreInSize ts × (length binders.now ≡ length vs) × (context.new ≡ entered_all binders.now vs context.old)) }
-    ensures refused { IfErr result (λ f. (ts : List Tree) → AreAt scene.entry.module.now.types.items fields.now ts → IsShown f (IsLargeBinder binders.now ts f)) }
+    requires there { (ts : List Tree) × AreAt scene.module.now.types.items fields.now ts ×
+        AreFormed scene.vars.now ts }
+    ensures entered { OnOk result ((ts : List Tree) →
+        AreAt scene.entry.module.now.types.items fields.now ts →
+        (vs : List Variable) × AreVariables scene.entry.vars.now ts vs × AreInSize ts ×
+        (length binders.now ≡ length vs) ×
+        (context.new ≡ entered_all binders.now vs context.old)) }
+    ensures refused { IfErr result (λ f. (ts : List Tree) →
+        AreAt scene.entry.module.now.types.items fields.now ts →
+        IsShown f (IsLargeBinder binders.now ts f)) }
 {
     for i in 0..binders.len() {
         let binder = &binders[i];
@@ -103,8 +110,10 @@ pub fn leave_two(
 ) -> Result<(), CheckFault>
     requires { 1 < length context.old.variables }
     ensures used { OnOk result (AreUsed (length (first.now ∷ second.now ∷ [])) context.old) }
-    ensures left { OnOk result (context.new ≡ left_all (length (first.now ∷ second.now ∷ [])) context.old) }
-    ensures refused { IfErr result (λ f. IsShown f (ShowsUnused context.old (first.now ∷ second.now ∷ []) f)) }
+    ensures left { OnOk result (context.new ≡ left_all
+        (length (first.now ∷ second.now ∷ [])) context.old) }
+    ensures refused { IfErr result (λ f. IsShown f
+        (ShowsUnused context.old (first.now ∷ second.now ∷ []) f)) }
 {
     let inner = context.leave();
     let outer = context.leave();
@@ -156,7 +165,8 @@ pub fn same_marks(
 ) -> Result<(), CheckFault>
     requires { length marks.now ≡ length context.now.there }
     ensures same { OnOk result (context.now.there ≡ reverse marks.now) }
-    ensures refused { IfErr result (λ f. IsShown f (UseDifferent at (with_marks (reverse marks.now) context.now) context.now f)) }
+    ensures refused { IfErr result (λ f. IsShown f
+        (UseDifferent at (with_marks (reverse marks.now) context.now) context.now f)) }
 {
     match context.differs(marks) {
         None => Ok(()),

@@ -32,8 +32,10 @@ fn makers_in<'a>(
     family: u32,
     arms: &[Arm],
 ) -> Result<Option<Constructors<'a>>, AllocError>
-    ensures found { IfOk result (λ found. IfSome found (λ o. IsCase scene.entry.module.now.families.items (named family) arms.now o)) }
-    ensures none { IfOk result (λ found. IfNone found ((g : Family) → slice_get scene.entry.module.now.families.items family ≡ Some g →
+    ensures found { IfOk result (λ found. IfSome found
+        (λ o. IsCase scene.entry.module.now.families.items (named family) arms.now o)) }
+    ensures none { IfOk result (λ found. IfNone found
+        ((g : Family) → slice_get scene.entry.module.now.families.items family ≡ Some g →
         AreEachOnce (map (λ o. o.name) g.makers.items) (arm_labels (core_arms_of arms.now)) → ⊥)) }
 {
     let number = family as usize;
@@ -57,8 +59,11 @@ fn found_makers<'a>(
     t: &Ty,
     arms: &[Arm],
 ) -> Result<Option<Constructors<'a>>, AllocError>
-    ensures found { IfOk result (λ found. IfSome found (λ o. IsCase scene.entry.module.now.families.items t.now arms.now o)) }
-    ensures none { IfOk result (λ found. IfNone found ((n : ℕ) (g : Family) → t.now ≡ named n → slice_get scene.entry.module.now.families.items n ≡ Some g →
+    ensures found { IfOk result (λ found. IfSome found
+        (λ o. IsCase scene.entry.module.now.families.items t.now arms.now o)) }
+    ensures none { IfOk result (λ found. IfNone found
+        ((n : ℕ) (g : Family) → t.now ≡ named n →
+        slice_get scene.entry.module.now.families.items n ≡ Some g →
         AreEachOnce (map (λ o. o.name) g.makers.items) (arm_labels (core_arms_of arms.now)) → ⊥)) }
 {
     match &t.form {
@@ -75,8 +80,11 @@ pub fn case_constructors<'a>(
     t: &Ty,
     arms: &[Arm],
 ) -> Result<Constructors<'a>, CheckFault>
-    ensures found { IfOk result (λ o. IsCase scene.entry.module.now.families.items t.now arms.now o) }
-    ensures refused { IfErr result (λ f. IsShown f (ShowsNoCase scene.entry.module.now.families.items at t.now (arm_labels (core_arms_of arms.now)) f)) }
+    ensures found { IfOk result (λ o. IsCase scene.entry.module.now.families.items t.now arms.now
+        o) }
+    ensures refused { IfErr result (λ f. IsShown f
+        (ShowsNoCase scene.entry.module.now.families.items at t.now
+        (arm_labels (core_arms_of arms.now)) f)) }
 {
     match found_makers(alloc, scene, t, arms)? {
         Some(found) => Ok(found),
@@ -86,7 +94,8 @@ pub fn case_constructors<'a>(
 
 /// Whether these are the labels of an offered choice.
 fn are_offered(labels: &[Label]) -> bool
-    ensures { IsTrue result ↔ ((names : List (List ℕ)) × (labels.now ≡ map label.Offer names) × (names ≡ [] → ⊥)) }
+    ensures { IsTrue result ↔ ((names : List (List ℕ)) × (labels.now ≡ map label.Offer names) ×
+        (names ≡ [] → ⊥)) }
 {
     if labels.is_empty() {
         return false;
@@ -114,8 +123,10 @@ fn is_offer(a: &Label) -> bool
 
 /// That a `match` on an end of this type has its arms.
 pub fn match_labels(alloc: Global, at: u32, t: &Ty, arms: &[Arm]) -> Result<(), CheckFault>
-    ensures offered { OnOk result ((ls : List (List ℕ)) × IsOffering t.now ls × AreEachOnce ls (arm_labels (core_arms_of arms.now))) }
-    ensures refused { IfErr result (λ f. IsShown f (ShowsNoMatch at t.now (arm_labels (core_arms_of arms.now)) f)) }
+    ensures offered { OnOk result ((ls : List (List ℕ)) × IsOffering t.now ls ×
+        AreEachOnce ls (arm_labels (core_arms_of arms.now))) }
+    ensures refused { IfErr result (λ f. IsShown f
+        (ShowsNoMatch at t.now (arm_labels (core_arms_of arms.now)) f)) }
 {
     let found = labels(alloc, t)?;
     if !are_offered(&found) {

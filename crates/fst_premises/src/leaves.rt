@@ -38,7 +38,8 @@ pub fn variable(
     k: u32,
 ) -> Result<Derivation, CheckFault>
     requires { IsReady (check_in scene) (local at k) context.old.variables }
-    ensures typed { IfOk result (λ d. IsTypedAlone (check_in scene.entry) context.old context.new (local at k) (deriv_of d)) }
+    ensures typed { IfOk result (λ d. IsTypedAlone (check_in scene.entry) context.old context.new
+        (local at k) (deriv_of d)) }
     ensures refused { IfErr result (λ f. IsShown f (ShowsVariable at k context.old f)) }
 {
     match context.take(k) {
@@ -51,7 +52,8 @@ pub fn variable(
 /// The kind of a type of the module that is well formed over some variables.
 fn written_kind(alloc: Global, scene: Scene<'_>, vars: &[Kind], k: u32) -> Result<Kind, AllocError>
     requires { IsFormedAt scene.module.now.types.items vars.now k }
-    ensures { IfOk result (λ kind. (t : Tree) × (slice_get scene.entry.module.now.types.items k ≡ Some t) × IsWellFormed vars.now t kind) }
+    ensures { IfOk result (λ kind. (t : Tree) ×
+        (slice_get scene.entry.module.now.types.items k ≡ Some t) × IsWellFormed vars.now t kind) }
 {
     match kind_of(alloc, type_at(scene, k), vars) {
         Ok(kind) => Ok(kind),
@@ -67,10 +69,14 @@ fn arguments(
     kinds: &[Kind],
 ) -> Result<Vec<Ty>, CheckFault>
     requires long { length ks.now ≡ length kinds.now }
-    requires formed { AreStandingFormed scene.module.now.types.items scene.vars.now (all_open ks.now) }
-    ensures there { IfOk result (λ args. AreAt scene.entry.module.now.types.items ks.now args.items) }
-    ensures below { IfOk result (λ args. IsInstantiation scene.entry.vars.now kinds.now args.items) }
-    ensures refused { IfErr result (λ f. IsShown f (ShowsArguments (check_in scene.entry) ks.now kinds.now f)) }
+    requires formed { AreStandingFormed scene.module.now.types.items scene.vars.now
+        (all_open ks.now) }
+    ensures there { IfOk result (λ args.
+        AreAt scene.entry.module.now.types.items ks.now args.items) }
+    ensures below { IfOk result (λ args.
+        IsInstantiation scene.entry.vars.now kinds.now args.items) }
+    ensures refused { IfErr result (λ f. IsShown f
+        (ShowsArguments (check_in scene.entry) ks.now kinds.now f)) }
 {
     let mut args = Vec::new(alloc);
     for i in 0..ks.len() {
@@ -95,8 +101,10 @@ pub fn global_use(
 ) -> Result<Derivation, CheckFault>
     requires set_up { IsSetUp (check_in scene) }
     requires ready { IsReady (check_in scene) (global at k ks.now) context.now.variables }
-    ensures typed { IfOk result (λ d. IsTypedAlone (check_in scene.entry) context.now context.now (global at k ks.now) (deriv_of d)) }
-    ensures refused { IfErr result (λ f. IsShown f (ShowsUse (check_in scene.entry) at k ks.now f)) }
+    ensures typed { IfOk result (λ d. IsTypedAlone (check_in scene.entry) context.now context.now
+        (global at k ks.now) (deriv_of d)) }
+    ensures refused { IfErr result (λ f. IsShown f
+        (ShowsUse (check_in scene.entry) at k ks.now f)) }
 {
     let entry = &scene.module.globals[k as usize];
     let wanted = entry.kinds.len();
@@ -121,7 +129,8 @@ pub fn new_channel(
     k: u32,
 ) -> Result<Derivation, CheckFault>
     requires { IsReady (check_in scene) (new at k) context.now.variables }
-    ensures typed { IfOk result (λ d. IsTypedAlone (check_in scene.entry) context.now context.now (new at k) (deriv_of d)) }
+    ensures typed { IfOk result (λ d. IsTypedAlone (check_in scene.entry) context.now context.now
+        (new at k) (deriv_of d)) }
     ensures refused { IfErr result (λ f. IsShown f (ShowsNew (check_in scene.entry) at k f)) }
 {
     let kind = written_kind(alloc, scene, &[], k)?;

@@ -19,7 +19,8 @@ use std::alloc::Global;
 fn after(alloc: Global, at: u32, t: &Ty, a: &Label) -> Result<Option<Ty>, CheckFault>
     ensures next { IfOk result (λ next. next ≡ step t.now a.now) }
     ensures small { IfOk result (λ next. IfSome next IsInSize) }
-    ensures refused { IfErr result (λ f. IsShown f ((next : Tree) × (step t.now a.now ≡ Some next) × IsTooLargeAt at next f)) }
+    ensures refused { IfErr result (λ f. IsShown f
+        ((next : Tree) × (step t.now a.now ≡ Some next) × IsTooLargeAt at next f)) }
 {
     match step_within_limit(alloc, t, a) {
         Ok(next) => Ok(next),
@@ -30,7 +31,8 @@ fn after(alloc: Global, at: u32, t: &Ty, a: &Label) -> Result<Option<Ty>, CheckF
 
 /// The type of an end after a value of the type `value` was sent on it.
 pub(crate) fn sent(alloc: Global, at: u32, value: &Ty, channel: &Ty) -> Result<Ty, CheckFault>
-    ensures sent { IfOk result (λ next. (b : Base) × (value.now ≡ tree.plain b) × (step channel.now (label.Send b) ≡ Some next)) }
+    ensures sent { IfOk result (λ next. (b : Base) × (value.now ≡ tree.plain b) ×
+        (step channel.now (label.Send b) ≡ Some next)) }
     ensures small { IfOk result (λ t. IsInSize t) }
     ensures refused { IfErr result (λ f. IsShown f (ShowsSend at value.now channel.now f)) }
 {
@@ -44,7 +46,8 @@ pub(crate) fn sent(alloc: Global, at: u32, value: &Ty, channel: &Ty) -> Result<T
 
 /// The payload that a label receives.
 fn payload(a: &Label) -> Option<Base>
-    ensures { MatchOption result ((b : Base) → a.now ≡ label.Receive b → ⊥) (λ b. a.now ≡ label.Receive b) }
+    ensures { MatchOption result ((b : Base) → a.now ≡ label.Receive b → ⊥)
+        (λ b. a.now ≡ label.Receive b) }
 {
     match a {
         Label::Receive(payload) => Some(*payload),
@@ -57,7 +60,8 @@ fn payload(a: &Label) -> Option<Base>
 
 /// The payload of the label among these that receives.
 fn received_payload(labels: &[Label]) -> Option<Base>
-    ensures { MatchOption result ((b : Base) → Contains labels.now (label.Receive b) → ⊥) (λ b. Contains labels.now (label.Receive b)) }
+    ensures { MatchOption result ((b : Base) → Contains labels.now (label.Receive b) → ⊥)
+        (λ b. Contains labels.now (label.Receive b)) }
 {
     for label in labels {
         if let Some(base) = payload(label) {
@@ -70,9 +74,13 @@ fn received_payload(labels: &[Label]) -> Option<Base>
 /// What is received on an end by this payload, and the type of the end afterwards, as a pair.
 fn received_at(alloc: Global, at: u32, channel: &Ty, payload: Base) -> Result<Ty, CheckFault>
     requires { IsSome (step channel.now (label.Receive payload)) }
-    ensures received { IfOk result (λ t. (next : Tree) × (step channel.now (label.Receive payload) ≡ Some next) × (t ≡ tree.pair (tree.plain payload) next)) }
+    ensures received { IfOk result (λ t. (next : Tree) ×
+        (step channel.now (label.Receive payload) ≡ Some next) ×
+        (t ≡ tree.pair (tree.plain payload) next)) }
     ensures small { IfOk result (λ t. IsInSize t) }
-    ensures refused { IfErr result (λ f. IsShown f ((next : Tree) × (step channel.now (label.Receive payload) ≡ Some next) × IsTooLargeAt at (tree.pair (tree.plain payload) next) f)) }
+    ensures refused { IfErr result (λ f. IsShown f
+        ((next : Tree) × (step channel.now (label.Receive payload) ≡ Some next) ×
+        IsTooLargeAt at (tree.pair (tree.plain payload) next) f)) }
 {
     match after(alloc, at, channel, &Label::Receive(payload))? {
         Some(next) => pair_of(alloc, at, &base(payload), &next),
@@ -82,7 +90,8 @@ fn received_at(alloc: Global, at: u32, channel: &Ty, payload: Base) -> Result<Ty
 
 /// What is received on an end, and the type of the end afterwards, as a pair.
 pub(crate) fn received(alloc: Global, at: u32, channel: &Ty) -> Result<Ty, CheckFault>
-    ensures received { IfOk result (λ t. (b : Base) × (next : Tree) × (step channel.now (label.Receive b) ≡ Some next) × (t ≡ tree.pair (tree.plain b) next)) }
+    ensures received { IfOk result (λ t. (b : Base) × (next : Tree) ×
+        (step channel.now (label.Receive b) ≡ Some next) × (t ≡ tree.pair (tree.plain b) next)) }
     ensures small { IfOk result (λ t. IsInSize t) }
     ensures refused { IfErr result (λ f. IsShown f (ShowsReceive at channel.now f)) }
 {
@@ -114,7 +123,9 @@ pub fn offered(alloc: Global, at: u32, name: &Name, channel: &Ty) -> Result<Ty, 
     requires { IsSome (step channel.now (label.Offer name.now)) }
     ensures offered { IfOk result (λ next. step channel.now (label.Offer name.now) ≡ Some next) }
     ensures small { IfOk result (λ t. IsInSize t) }
-    ensures refused { IfErr result (λ f. IsShown f ((next : Tree) × (step channel.now (label.Offer name.now) ≡ Some next) × IsTooLargeAt at next f)) }
+    ensures refused { IfErr result (λ f. IsShown f
+        ((next : Tree) × (step channel.now (label.Offer name.now) ≡ Some next) ×
+        IsTooLargeAt at next f)) }
 {
     match after(alloc, at, channel, &Label::Offer(name.copy(alloc)?))? {
         Some(next) => Ok(next),

@@ -31,7 +31,9 @@ pub struct Parameter<'a> {
 /// The parameter in front of a term at this type: a function at the place of its variable, of just the arrow's type.
 pub fn parameter_of<'a>(scene: Scene<'a>, wanted: &'a Ty, term: &'a Term) -> Option<Parameter<'a>>
     requires { (n : ℕ) × IsInRange (bounds (check_in scene)) n term.now }
-    ensures { MatchOption result (HasNoParameter (check_in scene.entry).surroundings.types term.now wanted.now) (HasParameter (check_in scene.entry) term.now wanted.now) }
+    ensures { MatchOption result (HasNoParameter
+        (check_in scene.entry).surroundings.types term.now wanted.now)
+        (HasParameter (check_in scene.entry) term.now wanted.now) }
 {
     let Form::Lambda(uses, k, binder, body) = &term.form else {
         return None;
@@ -62,8 +64,10 @@ pub fn enter_parameter(
     parameter: Parameter<'_>,
 ) -> Result<(), CheckFault>
     requires { IsFormed scene.vars.now parameter.from.now }
-    ensures entered { OnOk result (IsEntered (check_in scene.entry) parameter.entry context.old context.new) }
-    ensures refused { IfErr result (λ f. IsShown f (IsTooLargeAt parameter.entry.binder.now.at parameter.entry.from.now f)) }
+    ensures entered { OnOk result (IsEntered
+        (check_in scene.entry) parameter.entry context.old context.new) }
+    ensures refused { IfErr result (λ f. IsShown f
+        (IsTooLargeAt parameter.entry.binder.now.at parameter.entry.from.now f)) }
 {
     fits(parameter.binder.at, parameter.from)?;
     begin_body(context, parameter.uses)?;
@@ -76,7 +80,8 @@ pub fn enter_parameter(
 #[tactic(auto, using(crate::proofs::ParameterLaws::last_popped))]
 pub fn pop_parameter<'a>(parameters: &mut Vec<Parameter<'a>>) -> Option<Parameter<'a>>
     ensures less { IfSome result (λ p. length parameters.new.items < length parameters.old.items) }
-    ensures items { MatchOption result (parameters.old.items ≡ []) (λ p. parameters.old.items ≡ parameters.new.items ++ p ∷ []) }
+    ensures items { MatchOption result (parameters.old.items ≡ [])
+        (λ p. parameters.old.items ≡ parameters.new.items ++ p ∷ []) }
 {
     parameters.pop()
 }

@@ -28,7 +28,8 @@ use std::alloc::{AllocError, Global};
 
 /// A row of the second part's type.
 pub fn sequence(alloc: Global, d: Derivation, h: Derivation) -> Result<Derivation, AllocError>
-    ensures { IfOk result (λ c. deriv_of c ≡ row (type_of (deriv_of h)) (two (deriv_of d) (deriv_of h))) }
+    ensures { IfOk result (λ c. deriv_of c ≡ row (type_of (deriv_of h))
+        (two (deriv_of d) (deriv_of h))) }
 {
     let t = copy(alloc, h.type_of())?;
     Derivation::with_two(alloc, t, d, h)
@@ -41,7 +42,8 @@ pub fn branches(
     h: Derivation,
     o: Derivation,
 ) -> Result<Derivation, AllocError>
-    ensures { IfOk result (λ b. deriv_of b ≡ row (type_of (deriv_of h)) (three (deriv_of c) (deriv_of h) (deriv_of o))) }
+    ensures { IfOk result (λ b. deriv_of b ≡ row (type_of (deriv_of h))
+        (three (deriv_of c) (deriv_of h) (deriv_of o))) }
 {
     let t = copy(alloc, h.type_of())?;
     Derivation::with_three(alloc, t, c, h, o)
@@ -54,9 +56,11 @@ pub fn pair_row(
     d: Derivation,
     h: Derivation,
 ) -> Result<Derivation, CheckFault>
-    ensures made { IfOk result (λ w. deriv_of w ≡ row (tree.pair (type_of (deriv_of d)) (type_of (deriv_of h))) (two (deriv_of d) (deriv_of h))) }
+    ensures made { IfOk result (λ w. deriv_of w ≡ row
+        (tree.pair (type_of (deriv_of d)) (type_of (deriv_of h))) (two (deriv_of d) (deriv_of h))) }
     ensures small { IfOk result (λ w. IsInSize (type_of (deriv_of w))) }
-    ensures refused { IfErr result (λ f. IsShown f (IsTooLargeAt at (tree.pair (type_of (deriv_of d)) (type_of (deriv_of h))) f)) }
+    ensures refused { IfErr result (λ f. IsShown f
+        (IsTooLargeAt at (tree.pair (type_of (deriv_of d)) (type_of (deriv_of h))) f)) }
 {
     let t = pair_of(alloc, at, d.type_of(), h.type_of())?;
     Ok(Derivation::with_two(alloc, t, d, h)?)
@@ -70,9 +74,11 @@ pub fn function_row(
     from: &Ty,
     d: Derivation,
 ) -> Result<Derivation, CheckFault>
-    ensures made { IfOk result (λ w. deriv_of w ≡ row (tree.arrow uses from.now (type_of (deriv_of d))) (one (deriv_of d))) }
+    ensures made { IfOk result (λ w. deriv_of w ≡ row
+        (tree.arrow uses from.now (type_of (deriv_of d))) (one (deriv_of d))) }
     ensures small { IfOk result (λ w. IsInSize (type_of (deriv_of w))) }
-    ensures refused { IfErr result (λ f. IsShown f (IsTooLargeAt at (tree.arrow uses from.now (type_of (deriv_of d))) f)) }
+    ensures refused { IfErr result (λ f. IsShown f
+        (IsTooLargeAt at (tree.arrow uses from.now (type_of (deriv_of d))) f)) }
 {
     let t = arrow_of(alloc, at, uses, from, d.type_of())?;
     Ok(Derivation::with_one(alloc, t, d)?)
@@ -91,7 +97,9 @@ pub fn begin_function(
     ensures from { IfOk result (λ t. slice_get scene.entry.module.now.types.items k ≡ Some t) }
     ensures small { IfOk result (λ t. IsInSize t) }
     ensures begun { OnOk result (context.new ≡ inside uses context.old) }
-    ensures refused { IfErr result (λ f. IsShown f ((t : Tree) × (slice_get scene.entry.module.now.types.items k ≡ Some t) × IsTooLargeAt binder.now.at t f)) }
+    ensures refused { IfErr result (λ f. IsShown f
+        ((t : Tree) × (slice_get scene.entry.module.now.types.items k ≡ Some t) ×
+        IsTooLargeAt binder.now.at t f)) }
 {
     let from = type_at(scene, k);
     fits(binder.at, from)?;
@@ -106,10 +114,13 @@ pub fn sent_row(
     d: Derivation,
     h: Derivation,
 ) -> Result<Derivation, CheckFault>
-    ensures made { IfOk result (λ w. (b : Base) × (next : Tree) × (type_of (deriv_of d) ≡ tree.plain b) × (step (type_of (deriv_of h)) (label.Send b) ≡ Some next) ×
+    ensures made { IfOk result (λ w. (b : Base) × (next : Tree) ×
+        (type_of (deriv_of d) ≡ tree.plain b) ×
+        (step (type_of (deriv_of h)) (label.Send b) ≡ Some next) ×
         (deriv_of w ≡ row next (two (deriv_of d) (deriv_of h)))) }
     ensures small { IfOk result (λ w. IsInSize (type_of (deriv_of w))) }
-    ensures refused { IfErr result (λ f. IsShown f (ShowsSend at (type_of (deriv_of d)) (type_of (deriv_of h)) f)) }
+    ensures refused { IfErr result (λ f. IsShown f
+        (ShowsSend at (type_of (deriv_of d)) (type_of (deriv_of h)) f)) }
 {
     let t = sent(alloc, at, d.type_of(), h.type_of())?;
     Ok(Derivation::with_two(alloc, t, d, h)?)
@@ -117,7 +128,8 @@ pub fn sent_row(
 
 /// The row of a value that is received on an end.
 pub fn received_row(alloc: Global, at: u32, d: Derivation) -> Result<Derivation, CheckFault>
-    ensures made { IfOk result (λ w. (b : Base) × (next : Tree) × (step (type_of (deriv_of d)) (label.Receive b) ≡ Some next) ×
+    ensures made { IfOk result (λ w. (b : Base) × (next : Tree) ×
+        (step (type_of (deriv_of d)) (label.Receive b) ≡ Some next) ×
         (deriv_of w ≡ row (tree.pair (tree.plain b) next) (one (deriv_of d)))) }
     ensures small { IfOk result (λ w. IsInSize (type_of (deriv_of w))) }
     ensures refused { IfErr result (λ f. IsShown f (ShowsReceive at (type_of (deriv_of d)) f)) }
@@ -133,9 +145,12 @@ pub fn selected_row(
     name: &Name,
     d: Derivation,
 ) -> Result<Derivation, CheckFault>
-    ensures made { IfOk result (λ w. (next : Tree) × (step (type_of (deriv_of d)) (label.Select name.now) ≡ Some next) × (deriv_of w ≡ row next (one (deriv_of d)))) }
+    ensures made { IfOk result (λ w. (next : Tree) ×
+        (step (type_of (deriv_of d)) (label.Select name.now) ≡ Some next) ×
+        (deriv_of w ≡ row next (one (deriv_of d)))) }
     ensures small { IfOk result (λ w. IsInSize (type_of (deriv_of w))) }
-    ensures refused { IfErr result (λ f. IsShown f (ShowsSelect at name.now (type_of (deriv_of d)) f)) }
+    ensures refused { IfErr result (λ f. IsShown f
+        (ShowsSelect at name.now (type_of (deriv_of d)) f)) }
 {
     let t = selected(alloc, at, name, d.type_of())?;
     Ok(Derivation::with_one(alloc, t, d)?)
@@ -149,8 +164,10 @@ pub fn forked_row(
     d: Derivation,
 ) -> Result<Derivation, CheckFault>
     requires { IsFormed vars.now (type_of (deriv_of d)) }
-    ensures made { IfOk result (λ w. HasUse vars.now (type_of (deriv_of d)) Many × (deriv_of w ≡ row (tree.plain Nothing) (one (deriv_of d)))) }
-    ensures refused { IfErr result (λ f. IsShown f (ShowsDropped vars.now at (type_of (deriv_of d)) f)) }
+    ensures made { IfOk result (λ w. HasUse vars.now (type_of (deriv_of d)) Many ×
+        (deriv_of w ≡ row (tree.plain Nothing) (one (deriv_of d)))) }
+    ensures refused { IfErr result (λ f. IsShown f
+        (ShowsDropped vars.now at (type_of (deriv_of d)) f)) }
 {
     may_be_dropped(alloc, vars, at, d.type_of())?;
     Ok(Derivation::with_one(alloc, base(Base::Unit), d)?)

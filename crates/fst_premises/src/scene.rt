@@ -56,8 +56,10 @@ pub fn place_of(term: &Term) -> u32
 
 /// The numbers of the types of a constructor's fields.
 pub fn fields_of<'a>(scene: Scene<'a>, family: u32, maker: u32) -> &'a [u32]
-    requires { (n : ℕ) × HasFields (maker_of (slice_get scene.module.now.families.items family) maker) n }
-    ensures { (o : Maker) × (maker_of (slice_get scene.entry.module.now.families.items family) maker ≡ Some o) × (result.now ≡ o.fields.items) }
+    requires { (n : ℕ) × HasFields (maker_of
+        (slice_get scene.module.now.families.items family) maker) n }
+    ensures { (o : Maker) × (maker_of (slice_get scene.entry.module.now.families.items family)
+        maker ≡ Some o) × (result.now ≡ o.fields.items) }
 {
     &scene.module.families[family as usize].makers[maker as usize].fields
 }

@@ -46,32 +46,46 @@ abbrev mutual
   term_text (unit at) = codes "()"
   term_text (pair at s t) = in_parens (term_text s ++ codes ", " ++ term_text t)
   term_text (make at x ts) = x ++ arguments_text ts
-  term_text (lambda at u a x t) = codes "\\" ++ x.name ++ codes ":" ++ seq_text a ++ arrow_text u ++ term_text t
-  term_text (apply at s t) = in_parens_if (is_no_head s) (term_text s) ++ codes " " ++ in_parens_if (is_below atom_rank t) (term_text t)
-  term_text (let_in at x s t) = codes "let " ++ x.name ++ codes " = " ++ term_text s ++ codes " in " ++ term_text t
-  term_text (split at x y s t) = codes "let (" ++ x.name ++ codes ", " ++ y.name ++ codes ") = " ++ term_text s ++ codes " in " ++ term_text t
-  term_text (if_else at s t u) = codes "if " ++ term_text s ++ codes " then " ++ term_text t ++ codes " else " ++ term_text u
-  term_text (case_of at t bs) = codes "case " ++ term_text t ++ codes " of " ++ in_braces (joined_text (codes ", ") (arm_texts bs))
+  term_text (lambda at u a x t) = codes "\\" ++ x.name ++ codes ":" ++ seq_text a ++ arrow_text u
+      ++ term_text t
+  term_text (apply at s t) = in_parens_if (is_no_head s) (term_text s) ++ codes " " ++ in_parens_if
+      (is_below atom_rank t) (term_text t)
+  term_text (let_in at x s t) = codes "let " ++ x.name ++ codes " = " ++ term_text s ++ codes " in "
+      ++ term_text t
+  term_text (split at x y s t) = codes "let (" ++ x.name ++ codes ", " ++ y.name ++ codes ") = "
+      ++ term_text s ++ codes " in " ++ term_text t
+  term_text (if_else at s t u) = codes "if " ++ term_text s ++ codes " then " ++ term_text t
+      ++ codes " else " ++ term_text u
+  term_text (case_of at t bs) = codes "case " ++ term_text t ++ codes " of " ++ in_braces
+      (joined_text (codes ", ") (arm_texts bs))
   term_text (operate at o s t) =
-      in_parens_if (is_below (left_rank o) s) (term_text s) ++ codes " " ++ op_text o ++ codes " " ++ in_parens_if (is_below (right_rank o) t) (term_text t)
+      in_parens_if (is_below (left_rank o) s)
+      (term_text s) ++ codes " " ++ op_text o ++ codes " " ++ in_parens_if
+      (is_below (right_rank o) t) (term_text t)
   term_text (negate at t) = codes "not " ++ in_parens_if (is_below negation_rank t) (term_text t)
   term_text (new at a) = codes "new " ++ atom_text a
-  term_text (send at s t) = codes "send " ++ in_parens_if (is_below atom_rank s) (term_text s) ++ codes " " ++ in_parens_if (is_below atom_rank t) (term_text t)
+  term_text (send at s t) = codes "send " ++ in_parens_if (is_below atom_rank s)
+      (term_text s) ++ codes " " ++ in_parens_if (is_below atom_rank t) (term_text t)
   term_text (receive at t) = codes "receive " ++ in_parens_if (is_below atom_rank t) (term_text t)
-  term_text (select at l t) = codes "select " ++ l ++ codes " " ++ in_parens_if (is_below atom_rank t) (term_text t)
-  term_text (match_with at t bs) = codes "match " ++ term_text t ++ codes " with " ++ in_braces (joined_text (codes ", ") (arm_texts bs))
+  term_text (select at l t) = codes "select " ++ l ++ codes " " ++ in_parens_if
+      (is_below atom_rank t) (term_text t)
+  term_text (match_with at t bs) = codes "match " ++ term_text t ++ codes " with " ++ in_braces
+      (joined_text (codes ", ") (arm_texts bs))
   term_text (fork at t) = codes "fork " ++ in_parens_if (is_below atom_rank t) (term_text t)
-  term_text (seq at s t) = in_parens_if (is_below or_rank s) (term_text s) ++ codes "; " ++ term_text t
+  term_text (seq at s t) = in_parens_if (is_below or_rank s)
+      (term_text s) ++ codes "; " ++ term_text t
 
   -- the arguments of a constructor, with a space before each
   pub arguments_text : TermList → List ℕ
   arguments_text no_terms = []
-  arguments_text (term t ts) = codes " " ++ in_parens_if (is_below atom_rank t) (term_text t) ++ arguments_text ts
+  arguments_text (term t ts) = codes " " ++ in_parens_if (is_below atom_rank t)
+      (term_text t) ++ arguments_text ts
 
   -- the arms of a case or a match: a constructor or a label, the variables that it binds, and what follows
   pub arm_texts : TermArms → List (List ℕ)
   arm_texts no_arms = []
-  arm_texts (arm l xs t bs) = (l.name ++ names_text xs ++ codes " -> " ++ term_text t) ∷ arm_texts bs
+  arm_texts (arm l xs t bs) = (l.name ++ names_text xs ++ codes " -> " ++ term_text t) ∷ arm_texts
+      bs
 
 -- a constructor and the types of its fields
 abbrev pub maker_text : Maker → List ℕ
@@ -84,11 +98,13 @@ binder_kind_text b = b.0.name ++ codes ":" ++ kind_text b.1
 -- the variables of a signature, where it has any
 abbrev pub binders_text : List (Binder × Kind) → List ℕ
 binders_text [] = []
-binders_text bs = codes "forall " ++ joined_text (codes ", ") (map binder_kind_text bs) ++ codes ". "
+binders_text bs = codes "forall " ++ joined_text (codes ", ")
+    (map binder_kind_text bs) ++ codes ". "
 
 -- a declaration, on a line of its own
 abbrev pub decl_text : Declared → List ℕ
-decl_text (family x makers) = codes "data " ++ x.name ++ codes " = " ++ joined_text (codes " | ") (map maker_text makers)
+decl_text (family x makers) = codes "data " ++ x.name ++ codes " = " ++ joined_text (codes " | ")
+    (map maker_text makers)
 decl_text (alias x t) = codes "type " ++ x.name ++ codes " = " ++ written_text t
 decl_text (signature x bs t) = x.name ++ codes " : " ++ binders_text bs ++ written_text t
 decl_text (equation x xs t) = x.name ++ names_text xs ++ codes " = " ++ term_text t

@@ -21,8 +21,10 @@ pub(crate) fn unfold_pair<'a>(
     first: &'a SourceTerm,
     second: &'a SourceTerm,
 ) -> Result<(), AllocError>
-    ensures same { Unfolds result text.old text.new stack.old stack.new (term_text (tree.pair 0 first.now second.now)) }
-    ensures less { Lightens result stack.old stack.new (term_weight (tree.pair 0 first.now second.now)) }
+    ensures same { Unfolds result text.old text.new stack.old stack.new
+        (term_text (tree.pair 0 first.now second.now)) }
+    ensures less { Lightens result stack.old stack.new
+        (term_weight (tree.pair 0 first.now second.now)) }
 {
     text.push_str("(")?;
     push_text(stack, ")")?;
@@ -37,8 +39,10 @@ pub(crate) fn unfold_make<'a>(
     name: &Name,
     arguments: &'a [SourceTerm],
 ) -> Result<(), AllocError>
-    ensures same { Unfolds result text.old text.new stack.old stack.new (term_text (tree.make 0 name.now (terms_of arguments.now))) }
-    ensures less { Lightens result stack.old stack.new (term_weight (tree.make 0 name.now (terms_of arguments.now))) }
+    ensures same { Unfolds result text.old text.new stack.old stack.new
+        (term_text (tree.make 0 name.now (terms_of arguments.now))) }
+    ensures less { Lightens result stack.old stack.new
+        (term_weight (tree.make 0 name.now (terms_of arguments.now))) }
 {
     text.push_str(name.as_str())?;
     push(stack, Piece::Arguments(arguments))
@@ -52,8 +56,10 @@ pub(crate) fn unfold_lambda<'a>(
     binder: &Binder,
     body: &'a SourceTerm,
 ) -> Result<(), AllocError>
-    ensures same { Unfolds result text.old text.new stack.old stack.new (term_text (tree.lambda 0 uses from.now binder.now body.now)) }
-    ensures less { Lightens result stack.old stack.new (term_weight (tree.lambda 0 uses from.now binder.now body.now)) }
+    ensures same { Unfolds result text.old text.new stack.old stack.new
+        (term_text (tree.lambda 0 uses from.now binder.now body.now)) }
+    ensures less { Lightens result stack.old stack.new
+        (term_weight (tree.lambda 0 uses from.now binder.now body.now)) }
 {
     text.push_str("\\")?;
     text.push_str(binder.name.as_str())?;
@@ -70,8 +76,10 @@ pub(crate) fn unfold_let<'a>(
     first: &'a SourceTerm,
     second: &'a SourceTerm,
 ) -> Result<(), AllocError>
-    ensures same { Unfolds result text.old text.new stack.old stack.new (term_text (tree.let_in 0 binder.now first.now second.now)) }
-    ensures less { Lightens result stack.old stack.new (term_weight (tree.let_in 0 binder.now first.now second.now)) }
+    ensures same { Unfolds result text.old text.new stack.old stack.new
+        (term_text (tree.let_in 0 binder.now first.now second.now)) }
+    ensures less { Lightens result stack.old stack.new
+        (term_weight (tree.let_in 0 binder.now first.now second.now)) }
 {
     text.push_str("let ")?;
     text.push_str(binder.name.as_str())?;
@@ -89,8 +97,10 @@ pub(crate) fn unfold_split<'a>(
     first: &'a SourceTerm,
     second: &'a SourceTerm,
 ) -> Result<(), AllocError>
-    ensures same { Unfolds result text.old text.new stack.old stack.new (term_text (tree.split 0 left.now right.now first.now second.now)) }
-    ensures less { Lightens result stack.old stack.new (term_weight (tree.split 0 left.now right.now first.now second.now)) }
+    ensures same { Unfolds result text.old text.new stack.old stack.new
+        (term_text (tree.split 0 left.now right.now first.now second.now)) }
+    ensures less { Lightens result stack.old stack.new
+        (term_weight (tree.split 0 left.now right.now first.now second.now)) }
 {
     text.push_str("let (")?;
     text.push_str(left.name.as_str())?;
@@ -109,8 +119,10 @@ pub(crate) fn unfold_if<'a>(
     yes: &'a SourceTerm,
     no: &'a SourceTerm,
 ) -> Result<(), AllocError>
-    ensures same { Unfolds result text.old text.new stack.old stack.new (term_text (tree.if_else 0 test.now yes.now no.now)) }
-    ensures less { Lightens result stack.old stack.new (term_weight (tree.if_else 0 test.now yes.now no.now)) }
+    ensures same { Unfolds result text.old text.new stack.old stack.new
+        (term_text (tree.if_else 0 test.now yes.now no.now)) }
+    ensures less { Lightens result stack.old stack.new
+        (term_weight (tree.if_else 0 test.now yes.now no.now)) }
 {
     text.push_str("if ")?;
     push_term(stack, no)?;
@@ -130,8 +142,10 @@ pub(crate) fn unfold_choice<'a>(
     arms: &'a [SourceArm],
 ) -> Result<(), AllocError>
     ensures same { Unfolds result text.old text.new stack.old stack.new
-        (word.now ++ term_text value.now ++ behind.now ++ joined_text (codes ", ") (arm_texts (arms_of arms.now)) ++ codes "}") }
-    ensures less { Lightens result stack.old stack.new (form_weight + (term_weight value.now + arms_weight (arms_of arms.now))) }
+        (word.now ++ term_text value.now ++ behind.now ++ joined_text (codes ", ")
+        (arm_texts (arms_of arms.now)) ++ codes "}") }
+    ensures less { Lightens result stack.old stack.new
+        (form_weight + (term_weight value.now + arms_weight (arms_of arms.now))) }
 {
     text.push_str(word)?;
     push_text(stack, "}")?;
@@ -146,8 +160,10 @@ pub(crate) fn unfold_send<'a>(
     value: &'a SourceTerm,
     channel: &'a SourceTerm,
 ) -> Result<(), AllocError>
-    ensures same { Unfolds result text.old text.new stack.old stack.new (term_text (tree.send 0 value.now channel.now)) }
-    ensures less { Lightens result stack.old stack.new (term_weight (tree.send 0 value.now channel.now)) }
+    ensures same { Unfolds result text.old text.new stack.old stack.new
+        (term_text (tree.send 0 value.now channel.now)) }
+    ensures less { Lightens result stack.old stack.new
+        (term_weight (tree.send 0 value.now channel.now)) }
 {
     text.push_str("send ")?;
     push_enclosed(stack, channel, is_no_atom(channel))?;
@@ -161,8 +177,10 @@ pub(crate) fn unfold_select<'a>(
     label: &Name,
     channel: &'a SourceTerm,
 ) -> Result<(), AllocError>
-    ensures same { Unfolds result text.old text.new stack.old stack.new (term_text (tree.select 0 label.now channel.now)) }
-    ensures less { Lightens result stack.old stack.new (term_weight (tree.select 0 label.now channel.now)) }
+    ensures same { Unfolds result text.old text.new stack.old stack.new
+        (term_text (tree.select 0 label.now channel.now)) }
+    ensures less { Lightens result stack.old stack.new
+        (term_weight (tree.select 0 label.now channel.now)) }
 {
     text.push_str("select ")?;
     text.push_str(label.as_str())?;
@@ -178,7 +196,8 @@ pub(crate) fn unfold_behind<'a>(
     t: &'a SourceTerm,
     in_parens: bool,
 ) -> Result<(), AllocError>
-    ensures same { Unfolds result text.old text.new stack.old stack.new (word.now ++ in_parens_if in_parens (term_text t.now)) }
+    ensures same { Unfolds result text.old text.new stack.old stack.new
+        (word.now ++ in_parens_if in_parens (term_text t.now)) }
     ensures less { Lightens result stack.old stack.new (form_weight + term_weight t.now) }
 {
     text.push_str(word)?;
@@ -190,8 +209,10 @@ pub(crate) fn unfold_apply<'a>(
     function: &'a SourceTerm,
     argument: &'a SourceTerm,
 ) -> Result<(), AllocError>
-    ensures same { Stacks result stack.old stack.new (term_text (tree.apply 0 function.now argument.now)) }
-    ensures less { Lightens result stack.old stack.new (term_weight (tree.apply 0 function.now argument.now)) }
+    ensures same { Stacks result stack.old stack.new
+        (term_text (tree.apply 0 function.now argument.now)) }
+    ensures less { Lightens result stack.old stack.new
+        (term_weight (tree.apply 0 function.now argument.now)) }
 {
     push_enclosed(stack, argument, is_no_atom(argument))?;
     push_text(stack, " ")?;
@@ -204,8 +225,10 @@ pub(crate) fn unfold_operate<'a>(
     left: &'a SourceTerm,
     right: &'a SourceTerm,
 ) -> Result<(), AllocError>
-    ensures same { Stacks result stack.old stack.new (term_text (tree.operate 0 op left.now right.now)) }
-    ensures less { Lightens result stack.old stack.new (term_weight (tree.operate 0 op left.now right.now)) }
+    ensures same { Stacks result stack.old stack.new
+        (term_text (tree.operate 0 op left.now right.now)) }
+    ensures less { Lightens result stack.old stack.new
+        (term_weight (tree.operate 0 op left.now right.now)) }
 {
     push_enclosed(stack, right, is_no_right(op, right))?;
     push_text(stack, " ")?;
@@ -220,7 +243,8 @@ pub(crate) fn unfold_then<'a>(
     next: &'a SourceTerm,
 ) -> Result<(), AllocError>
     ensures same { Stacks result stack.old stack.new (term_text (tree.seq 0 first.now next.now)) }
-    ensures less { Lightens result stack.old stack.new (term_weight (tree.seq 0 first.now next.now)) }
+    ensures less { Lightens result stack.old stack.new
+        (term_weight (tree.seq 0 first.now next.now)) }
 {
     push_term(stack, next)?;
     push_text(stack, "; ")?;

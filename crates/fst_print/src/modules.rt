@@ -34,7 +34,8 @@ fn push_maker(text: &mut String, constructor: &SourceMaker) -> Result<(), AllocE
 }
 
 fn push_makers(text: &mut String, makers: &[SourceMaker]) -> Result<(), AllocError>
-    ensures { Gains result text.old text.new (joined_text (codes " | ") (map maker_text (map maker makers.now))) }
+    ensures { Gains result text.old text.new
+        (joined_text (codes " | ") (map maker_text (map maker makers.now))) }
 {
     let [first, others @ ..] = makers else {
         return Ok(());
@@ -56,7 +57,8 @@ fn push_binder_kind(text: &mut String, binder: &Binder, kind: Kind) -> Result<()
 }
 
 fn push_later_binders(text: &mut String, binders: &[(Binder, Kind)]) -> Result<(), AllocError>
-    ensures { Gains result text.old text.new (separated_text (codes ", ") (map binder_kind_text binders.now)) }
+    ensures { Gains result text.old text.new
+        (separated_text (codes ", ") (map binder_kind_text binders.now)) }
 {
     for (binder, kind) in binders {
         text.push_str(", ")?;
@@ -78,7 +80,8 @@ fn push_binders(text: &mut String, binders: &[(Binder, Kind)]) -> Result<(), All
 }
 
 fn push_family(text: &mut String, name: &Binder, makers: &[SourceMaker]) -> Result<(), AllocError>
-    ensures { Gains result text.old text.new (decl_text (tree.family name.now (map maker makers.now))) }
+    ensures { Gains result text.old text.new
+        (decl_text (tree.family name.now (map maker makers.now))) }
 {
     text.push_str("data ")?;
     text.push_str(name.name.as_str())?;
@@ -101,7 +104,8 @@ fn push_signature(
     binders: &[(Binder, Kind)],
     t: &Written,
 ) -> Result<(), AllocError>
-    ensures { Gains result text.old text.new (decl_text (tree.signature name.now binders.now t.now)) }
+    ensures { Gains result text.old text.new
+        (decl_text (tree.signature name.now binders.now t.now)) }
 {
     text.push_str(name.name.as_str())?;
     text.push_str(" : ")?;
@@ -116,7 +120,8 @@ fn push_equation(
     parameters: &[Binder],
     body: &SourceTerm,
 ) -> Result<(), AllocError>
-    ensures { Gains result text.old text.new (decl_text (tree.equation name.now parameters.now body.now)) }
+    ensures { Gains result text.old text.new
+        (decl_text (tree.equation name.now parameters.now body.now)) }
 {
     text.push_str(name.name.as_str())?;
     push_names(text, parameters)?;

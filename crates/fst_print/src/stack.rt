@@ -30,29 +30,34 @@ pub(crate) type Stack<'a> = Vec<Piece<'a>>;
 #[tactic(auto, using(crate::proofs::StackLaws::after_push))]
 pub(crate) fn push<'a>(stack: &mut Stack<'a>, piece: Piece<'a>) -> Result<(), AllocError>
     ensures text { Stacks result stack.old stack.new (piece_text piece.entry) }
-    ensures weight { OnOk result (pieces_weight stack.new.items ≡ piece_weight piece.entry + pieces_weight stack.old.items) }
+    ensures weight { OnOk result (pieces_weight stack.new.items ≡ piece_weight piece.entry
+        + pieces_weight stack.old.items) }
 {
     stack.push(piece)?;
     Ok(())
 }
 
 pub(crate) fn pop<'a>(stack: &mut Stack<'a>) -> Option<Piece<'a>>
-    ensures text { MatchOption result (pieces_text stack.old.items ≡ []) (λ p. pieces_text stack.old.items ≡ piece_text p ++ pieces_text stack.new.items) }
-    ensures weight { IfSome result (λ p. pieces_weight stack.old.items ≡ piece_weight p + pieces_weight stack.new.items) }
+    ensures text { MatchOption result (pieces_text stack.old.items ≡ [])
+        (λ p. pieces_text stack.old.items ≡ piece_text p ++ pieces_text stack.new.items) }
+    ensures weight { IfSome result (λ p.
+        pieces_weight stack.old.items ≡ piece_weight p + pieces_weight stack.new.items) }
 {
     stack.pop()
 }
 
 pub(crate) fn push_text<'a>(stack: &mut Stack<'a>, text: &'a str) -> Result<(), AllocError>
     ensures text { Stacks result stack.old stack.new text.now }
-    ensures weight { OnOk result (pieces_weight stack.new.items ≡ 1 + pieces_weight stack.old.items) }
+    ensures weight { OnOk result (pieces_weight stack.new.items ≡ 1 + pieces_weight
+        stack.old.items) }
 {
     push(stack, Piece::Text(text))
 }
 
 pub(crate) fn push_term<'a>(stack: &mut Stack<'a>, t: &'a SourceTerm) -> Result<(), AllocError>
     ensures text { Stacks result stack.old stack.new (term_text t.now) }
-    ensures weight { OnOk result (pieces_weight stack.new.items ≡ term_weight t.now + pieces_weight stack.old.items) }
+    ensures weight { OnOk result (pieces_weight stack.new.items ≡ term_weight t.now + pieces_weight
+        stack.old.items) }
 {
     push(stack, Piece::Term(t))
 }
@@ -64,7 +69,8 @@ pub(crate) fn push_enclosed<'a>(
     in_parens: bool,
 ) -> Result<(), AllocError>
     ensures text { Stacks result stack.old stack.new (in_parens_if in_parens (term_text t.now)) }
-    ensures weight { OnOk result (pieces_weight stack.new.items ≤ 2 + (term_weight t.now + pieces_weight stack.old.items)) }
+    ensures weight { OnOk result (pieces_weight stack.new.items ≤ 2
+        + (term_weight t.now + pieces_weight stack.old.items)) }
 {
     if !in_parens {
         return push_term(stack, t);

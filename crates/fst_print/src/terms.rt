@@ -57,7 +57,8 @@ fn unfold_arguments<'a>(
     stack: &mut Stack<'a>,
     arguments: &'a [SourceTerm],
 ) -> Result<(), AllocError>
-    ensures same { Unfolds result text.old text.new stack.old stack.new (arguments_text (terms_of arguments.now)) }
+    ensures same { Unfolds result text.old text.new stack.old stack.new
+        (arguments_text (terms_of arguments.now)) }
     ensures less { Lightens result stack.old stack.new (terms_weight (terms_of arguments.now)) }
 {
     let [first, others @ ..] = arguments else {
@@ -74,8 +75,10 @@ fn unfold_arm<'a>(
     arm: &'a SourceArm,
     others: &'a [SourceArm],
 ) -> Result<(), AllocError>
-    ensures same { Unfolds result text.old text.new stack.old stack.new (joined_text (codes ", ") (arm_texts (arms_of (arm.now ∷ others.now)))) }
-    ensures less { Lightens result stack.old stack.new (arms_weight (arms_of (arm.now ∷ others.now))) }
+    ensures same { Unfolds result text.old text.new stack.old stack.new
+        (joined_text (codes ", ") (arm_texts (arms_of (arm.now ∷ others.now)))) }
+    ensures less { Lightens result stack.old stack.new
+        (arms_weight (arms_of (arm.now ∷ others.now))) }
 {
     text.push_str(arm.label.name.as_str())?;
     push_names(text, &arm.binders)?;
@@ -89,7 +92,8 @@ fn unfold_arms<'a>(
     stack: &mut Stack<'a>,
     arms: &'a [SourceArm],
 ) -> Result<(), AllocError>
-    ensures same { Unfolds result text.old text.new stack.old stack.new (joined_text (codes ", ") (arm_texts (arms_of arms.now))) }
+    ensures same { Unfolds result text.old text.new stack.old stack.new
+        (joined_text (codes ", ") (arm_texts (arms_of arms.now))) }
     ensures less { Lightens result stack.old stack.new (arms_weight (arms_of arms.now)) }
 {
     let [first, others @ ..] = arms else {
@@ -103,7 +107,8 @@ fn unfold_later_arms<'a>(
     stack: &mut Stack<'a>,
     later: &'a [SourceArm],
 ) -> Result<(), AllocError>
-    ensures same { Unfolds result text.old text.new stack.old stack.new (separated_text (codes ", ") (arm_texts (arms_of later.now))) }
+    ensures same { Unfolds result text.old text.new stack.old stack.new
+        (separated_text (codes ", ") (arm_texts (arms_of later.now))) }
     ensures less { Lightens result stack.old stack.new (arms_weight (arms_of later.now)) }
 {
     let [first, others @ ..] = later else {

@@ -35,10 +35,12 @@ nothing_yet m k from = record {
 }
 
 -- what is kept is the first configuration after main's task is put in
-pub begun : (m : Module) (k : Code) (e : CoreTree) (s : Slot) → IsFrom m k → IsOf m k main_path s (new_task (begins e []) zero) → Fine m (started e) →
+pub begun : (m : Module) (k : Code) (e : CoreTree) (s : Slot) → IsFrom m k → IsOf m k main_path s (new_task (begins e []) zero) →
+    Fine m (started e) →
     Reflects m k zero (settled (length m.types.items) s nothing) (started e)
 begun m k e s from is fine =
-    comes_in m k zero nothing nobody main_path s (new_task (begins e []) zero) (nothing_yet m k from) refl is refl (omega arith) (omega arith) fine
+    comes_in m k zero nothing nobody main_path s (new_task (begins e []) zero) (nothing_yet m k from) refl is refl (omega arith)
+    (omega arith) fine
 
 -- a task that isn't there has made no channel, where the makers of channels are
 pub unmade : (m : Module) (k : Code) (n : ℕ) (d : Kept) (c : Config) (p : Path) → Reflects m k n d c → c.tasks p ≡ None →

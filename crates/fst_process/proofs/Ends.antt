@@ -17,7 +17,8 @@ use Rattle.fst_process.proofs.PathLaws.{one_of_both, apart_channels}
 use Rattle.fst_process.proofs.Places.{channel_cases, channel_here}
 
 -- what asks at an end moves where its partner is there
-pub moves_at : (types : ℕ) (d : Kept) (q : Request) (x : EndName) → end_of q ≡ Some x → moves_with types d q ≡ is_some (partner d x)
+pub moves_at : (types : ℕ) (d : Kept) (q : Request) (x : EndName) → end_of q ≡ Some x →
+    moves_with types d q ≡ is_some (partner d x)
 moves_at types d Step x e = absurd (none_some e)
 moves_at types d (New n) x e = absurd (none_some e)
 moves_at types d Fork x e = absurd (none_some e)
@@ -52,25 +53,30 @@ asks_opposite : (s : Side) (o : Option Path) (j : Channel) → asker_at (opposit
 asks_opposite Left o j = refl
 asks_opposite Right o j = refl
 
-opposite_asked : (s : Side) (o : Option Path) (u : Option Channel) → option_and_then (asker_at (opposite s)) (option_map (with_asker s o) u) ≡ option_and_then (asker_at (opposite s)) u
+opposite_asked : (s : Side) (o : Option Path) (u : Option Channel) →
+    option_and_then (asker_at (opposite s)) (option_map (with_asker s o) u) ≡ option_and_then (asker_at (opposite s)) u
 opposite_asked s o None = refl
 opposite_asked s o (Some j) = asks_opposite s o j
 
 -- who asks at an end from then on
-pub asker_own : (d : Kept) (x : EndName) (o : Option Path) (j : Channel) → d.channels x.channel ≡ Some j → asker (changed x.channel (with_asker x.side o) d) x ≡ o
+pub asker_own : (d : Kept) (x : EndName) (o : Option Path) (j : Channel) → d.channels x.channel ≡ Some j →
+    asker (changed x.channel (with_asker x.side o) d) x ≡ o
 asker_own d x o j e =
-    ap (option_and_then (asker_at x.side)) (channel_here x.channel (option_map (with_asker x.side o) (d.channels x.channel)) (d.channels x.channel) ∙ ap (option_map (with_asker x.side o)) e)
+    ap (option_and_then (asker_at x.side)) (channel_here x.channel (option_map (with_asker x.side o) (d.channels x.channel))
+    (d.channels x.channel) ∙ ap (option_map (with_asker x.side o)) e)
     ∙ asks_own x.side o j
 
 -- who asks at another end asks there still
-pub asker_else : (d : Kept) (x y : EndName) (o : Option Path) → (x ≡ y → ⊥) → asker (changed x.channel (with_asker x.side o) d) y ≡ asker d y
+pub asker_else : (d : Kept) (x y : EndName) (o : Option Path) →
+    (x ≡ y → ⊥) → asker (changed x.channel (with_asker x.side o) d) y ≡ asker d y
 asker_else d x y o n =
     channel_cases (λ (z : Option Channel). option_and_then (asker_at y.side) z ≡ asker d y) x.channel y.channel
     (option_map (with_asker x.side o) (d.channels y.channel)) (d.channels y.channel)
     (λ e. elim (one_of_both x y e) [
       | inl f ↦ absurd (n f)
       | inr f ↦
-          ap (λ (z : EndName). option_and_then (asker_at z.side) (option_map (with_asker x.side o) (d.channels y.channel))) (sym f)
+          ap (λ (z : EndName). option_and_then (asker_at z.side) (option_map (with_asker x.side o) (d.channels y.channel)))
+          (sym f)
           ∙ opposite_asked x.side o (d.channels y.channel)
           ∙ ap (λ (z : EndName). option_and_then (asker_at z.side) (d.channels y.channel)) f
     ])
@@ -85,7 +91,8 @@ all_bare s o None = refl
 all_bare s o (Some j) = ap Some (asked_bare s o j)
 
 -- who asks doesn't matter for what a channel is
-pub still_bare : (d : Kept) (x : EndName) (o : Option Path) (h : ChannelName) → option_map bare ((changed x.channel (with_asker x.side o) d).channels h) ≡ option_map bare (d.channels h)
+pub still_bare : (d : Kept) (x : EndName) (o : Option Path) (h : ChannelName) →
+    option_map bare ((changed x.channel (with_asker x.side o) d).channels h) ≡ option_map bare (d.channels h)
 still_bare d x o h =
     channel_cases (λ (z : Option Channel). option_map bare z ≡ option_map bare (d.channels h)) x.channel h
     (option_map (with_asker x.side o) (d.channels h)) (d.channels h) (λ e. all_bare x.side o (d.channels h)) (λ e. refl)
@@ -95,6 +102,7 @@ pub bare_there : (u : Option Channel) (j : Channel) → u ≡ Some j → option_
 bare_there u j e = ap (option_map bare) e
 
 -- and the other way
-pub there_bare : (u : Option Channel) (v : Option runs.Channel) (j : runs.Channel) → option_map bare u ≡ v → v ≡ Some j → (i : Channel) × (u ≡ Some i) × (bare i ≡ j)
+pub there_bare : (u : Option Channel) (v : Option runs.Channel) (j : runs.Channel) → option_map bare u ≡ v → v ≡ Some j →
+    (i : Channel) × (u ≡ Some i) × (bare i ≡ j)
 there_bare None v j e f = absurd (none_some (e ∙ f))
 there_bare (Some i) v j e f = (i, refl, some_same (e ∙ f))

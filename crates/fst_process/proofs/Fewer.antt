@@ -21,13 +21,17 @@ pub record Fine (m : Module) (c : Config) : Type 0 where
       end_of a ≡ Some x → end_of b ≡ Some x → p ≡ q
   pub there : (p : Path) (t : Task) (a : Request) (x : EndName) → Asks (program m) c p t a → end_of a ≡ Some x →
       (j : Channel) × (c.channels x.channel ≡ Some j)
-  pub puts_apart : (p q : Path) (t u : Task) (x : EndName) (ev ew : Event) → Asks (program m) c p t (Put x ev) → Asks (program m) c q u (Put (other x) ew) → ⊥
-  pub gets_apart : (p q : Path) (t u : Task) (x : EndName) → Asks (program m) c p t (Get x) → Asks (program m) c q u (Get (other x)) → ⊥
-  pub meets : (p q : Path) (t u : Task) (x : EndName) (ev : Event) → Asks (program m) c p t (Put x ev) → Asks (program m) c q u (Get (other x)) →
+  pub puts_apart : (p q : Path) (t u : Task) (x : EndName) (ev ew : Event) → Asks (program m) c p t (Put x ev) →
+      Asks (program m) c q u (Put (other x) ew) → ⊥
+  pub gets_apart : (p q : Path) (t u : Task) (x : EndName) → Asks (program m) c p t (Get x) →
+      Asks (program m) c q u (Get (other x)) → ⊥
+  pub meets : (p q : Path) (t u : Task) (x : EndName) (ev : Event) → Asks (program m) c p t (Put x ev) →
+      Asks (program m) c q u (Get (other x)) →
       (s : State) × (v : State) × (answered (program m) t.state Sent ≡ Some s) × (answered (program m) u.state (Got ev) ≡ Some v)
 
 -- fewer tasks, and the same channels
-pub fewer : (m : Module) (b c : Config) → ((p : Path) (t : Task) → b.tasks p ≡ Some t → c.tasks p ≡ Some t) → ((h : ChannelName) → b.channels h ≡ c.channels h) →
+pub fewer : (m : Module) (b c : Config) → ((p : Path) (t : Task) → b.tasks p ≡ Some t → c.tasks p ≡ Some t) →
+    ((h : ChannelName) → b.channels h ≡ c.channels h) →
     Fine m c → Fine m b
 fewer m b c f g fine = record {
   one = λ p q t u a e x i j y z. fine.one p q t u a e x (also p t a i) (also q u e j) y z;

@@ -30,7 +30,8 @@ use Rattle.fst_process.proofs.Stepping.{there_live, its_task, can_go_on, is_of, 
 put_event : (x y : EndName) (ev ew : Event) → request.Put x ev ≡ request.Put y ew → ev ≡ ew
 put_event x y ev ew e = cc e
 
-module _ (m : Module) (c : Config) (p q : Path) (h : ChannelName) (w : Write) (f : Does (program m) m.types.items c (Meet p q h) w) where
+module _ (m : Module) (c : Config) (p q : Path) (h : ChannelName) (w : Write)
+    (f : Does (program m) m.types.items c (Meet p q h) w) where
   abbrev stamp : ℕ
   stamp = meeting_stamp f.sender f.receiver f.channel
 
@@ -77,11 +78,13 @@ stamp_second i a b c l e f = omega (arith, e, f)
 module _ (k : Code) (d : Kept) (p q : Path) (h : ChannelName) where
   -- the task that sends is kept as one that has not ended
   pub sender_kept : IsPossible k d (Meet p q h) → is_live (d.tasks p) ≡ true
-  sender_kept x = there_live x.source k x.events d x.before p x.does.sender (request.Put x.does.end x.does.event) x.reflects x.does.puts refl
+  sender_kept x = there_live x.source k x.events d x.before p x.does.sender
+      (request.Put x.does.end x.does.event) x.reflects x.does.puts refl
 
   -- and so is the one that receives
   pub receiver_kept : IsPossible k d (Meet p q h) → is_live (d.tasks q) ≡ true
-  receiver_kept x = there_live x.source k x.events d x.before q x.does.receiver (request.Get (other x.does.end)) x.reflects x.does.gets refl
+  receiver_kept x = there_live x.source k x.events d x.before q x.does.receiver
+      (request.Get (other x.does.end)) x.reflects x.does.gets refl
 
   -- the last stamp of the channel is in bounds
   pub stamps_few : (j : Channel) → d.channels h ≡ Some j → IsPossible k d (Meet p q h) → last_stamp j.history < 4294967296
@@ -91,13 +94,16 @@ module _ (k : Code) (d : Kept) (p q : Path) (h : ChannelName) where
       omega (arith, l, f)
 
   module _ (s o : Slot) (there : d.tasks p ≡ Some s) (there' : d.tasks q ≡ Some o) where
-    sender_is : (m : Module) (n : ℕ) (c : Config) (w : Write) → Reflects m k n d c → (f : Does (program m) m.types.items c (Meet p q h) w) → IsTask m k d p s f.sender
+    sender_is : (m : Module) (n : ℕ) (c : Config) (w : Write) → Reflects m k n d c →
+        (f : Does (program m) m.types.items c (Meet p q h) w) → IsTask m k d p s f.sender
     sender_is m n c w r f = its_task m k n d c p s f.sender r there f.puts.0
 
-    receiver_is : (m : Module) (n : ℕ) (c : Config) (w : Write) → Reflects m k n d c → (f : Does (program m) m.types.items c (Meet p q h) w) → IsTask m k d q o f.receiver
+    receiver_is : (m : Module) (n : ℕ) (c : Config) (w : Write) → Reflects m k n d c →
+        (f : Does (program m) m.types.items c (Meet p q h) w) → IsTask m k d q o f.receiver
     receiver_is m n c w r f = its_task m k n d c q o f.receiver r there' f.gets.0
 
-    asks_put : (m : Module) (n : ℕ) (c : Config) (w : Write) → Reflects m k n d c → (f : Does (program m) m.types.items c (Meet p q h) w) → s.request ≡ request.Put f.end f.event
+    asks_put : (m : Module) (n : ℕ) (c : Config) (w : Write) → Reflects m k n d c →
+        (f : Does (program m) m.types.items c (Meet p q h) w) → s.request ≡ request.Put f.end f.event
     asks_put m n c w r f = some_same (sym (sender_is m n c w r f).asks ∙ f.puts.1)
 
     -- where the first asks for something else, they don't meet
@@ -109,13 +115,16 @@ module _ (k : Code) (d : Kept) (p q : Path) (h : ChannelName) where
     put_can b en after x =
         let i = sender_is x.source x.events x.before x.write x.reflects x.does in
         let a = x.right_after.asks p _ (sender_there x.source x.before p q h x.write x.does) in
-        can_go_on x.source k d p s x.does.sender x.reflects.from i Sent x.does.sent x.does.sender_leads (sender_alive x.source x.before p q h x.write x.does x.right_after) b
+        can_go_on x.source k d p s x.does.sender x.reflects.from i Sent x.does.sent x.does.sender_leads
+        (sender_alive x.source x.before p q h x.write x.does x.right_after) b
         (ap (λ (z : Kept). z.tasks p) after ∙ there)
-        (ap (λ (z : Kept). z.ready p) after ∙ moves_ready x.source k x.events d x.before x.reflects p (Meet p q h) x.write (inl refl) x.does)
+        (ap (λ (z : Kept). z.ready p) after ∙ moves_ready x.source k x.events d x.before x.reflects p (Meet p q h) x.write
+        (inl refl) x.does)
         (clock_few k d p s (Meet p q h) there x) (λ z. absurd (cc z)) a.0 a.1
 
     -- the one that receives doesn't ask at another channel
-    never_partner : (m : Module) (n : ℕ) (c : Config) (w : Write) → Reflects m k n d c → (f : Does (program m) m.types.items c (Meet p q h) w) →
+    never_partner : (m : Module) (n : ℕ) (c : Config) (w : Write) → Reflects m k n d c →
+        (f : Does (program m) m.types.items c (Meet p q h) w) →
         (en : Entry) (x : EndName) → partner (changed h (passed en) d) x ≡ Some q → ⊥
     never_partner m n c w r f en x e =
         let a = asks_elsewhere d h en (other x) q e in
@@ -126,22 +135,26 @@ module _ (k : Code) (d : Kept) (p q : Path) (h : ChannelName) where
         a.0 (sym (ap (λ (z : EndName). z.channel) same ∙ f.named))
 
     module _ (y : EndName) (ev : Event) (asks : s.request ≡ request.Put y ev) where
-      event_is : (m : Module) (n : ℕ) (c : Config) (w : Write) → Reflects m k n d c → (f : Does (program m) m.types.items c (Meet p q h) w) → ev ≡ f.event
+      event_is : (m : Module) (n : ℕ) (c : Config) (w : Write) → Reflects m k n d c →
+          (f : Does (program m) m.types.items c (Meet p q h) w) → ev ≡ f.event
       event_is m n c w r f = put_event y f.end ev f.event (sym asks ∙ asks_put m n c w r f)
 
-      told : (m : Module) (n : ℕ) (c : Config) (w : Write) → Reflects m k n d c → (f : Does (program m) m.types.items c (Meet p q h) w) →
+      told : (m : Module) (n : ℕ) (c : Config) (w : Write) → Reflects m k n d c →
+          (f : Does (program m) m.types.items c (Meet p q h) w) →
           answered (program m) f.receiver.state (Got ev) ≡ Some f.got
       told m n c w r f = ap (λ z. answered (program m) f.receiver.state (Got z)) (event_is m n c w r f) ∙ f.receiver_leads
 
       -- the task that receives can go on with what is sent, once the other one has gone on
-      pub get_can : (l : ℕ) (b e : Kept) (en : Entry) → b ≡ changed h (passed en) d → HasGoneOn k p Sent l b e → IsPossible k d (Meet p q h) → CanGoOn k e q (Got ev)
+      pub get_can : (l : ℕ) (b e : Kept) (en : Entry) → b ≡ changed h (passed en) d → HasGoneOn k p Sent l b e →
+          IsPossible k d (Meet p q h) → CanGoOn k e q (Got ev)
       get_can l b e en after g x =
           let i = receiver_is x.source x.events x.before x.write x.reflects x.does in
           let a = x.right_after.asks q _ (receiver_there x.source x.before p q h x.write x.does) in
           let types = length k.types.items in
           let n = differ x.source x.before p q h x.write x.does in
           let is = g.after ∙ ap (λ z. settled_at types p g.now (without p z)) after in
-          can_go_on x.source k d q o x.does.receiver x.reflects.from i (Got ev) x.does.got (told x.source x.events x.before x.write x.reflects x.does)
+          can_go_on x.source k d q o x.does.receiver x.reflects.from i (Got ev) x.does.got
+          (told x.source x.events x.before x.write x.reflects x.does)
           (receiver_alive x.source x.before p q h x.write x.does x.right_after) e
           (ap (λ (z : Kept). z.tasks q) is ∙ rest_there types p q g.now (changed h (passed en) d) n ∙ there')
           (ap (λ (z : Kept). z.ready q) is ∙ rest_ready types p q g.now (changed h (passed en) d) n
@@ -159,31 +172,39 @@ module _ (k : Code) (d : Kept) (p q : Path) (h : ChannelName) where
           let i' = receiver_is m n c w r f in
           let j = there_bare (d.channels h) (c.channels h) f.channel (r.channels h) f.there in
           let over = stamped j.0 j.1 in
-          let stamp_is : l ≡ stamp m c p q h w f = over ∙ (λ a. suc (max (max (i.clock a) (i'.clock a)) (last_stamp (j.2 a).history))) in
+          let stamp_is : l ≡ stamp m c p q h w f = over
+          ∙ (λ a. suc (max (max (i.clock a) (i'.clock a)) (last_stamp (j.2 a).history))) in
           let en : Entry = record { event = ev; stamp = l; sent = s.clock; got = o.clock } in
           let entry : en ≡ its_entry m k n d c p q h w s o r f =
           λ a. record { event = event_is m n c w r f a; stamp = stamp_is a; sent = i.clock a; got = i'.clock a } in
           let is = on.after ∙ ap (λ z. settled_at (length k.types.items) p on.now (without p z)) after in
           let first : d.tasks p ≡ Some on.slot = sym (ap (λ (z : Kept). z.tasks p) after) ∙ on.there in
           let second : d.tasks q ≡ Some on'.slot =
-          sym (rest_there (length k.types.items) p q on.now (changed h (passed en) d) (differ m c p q h w f)) ∙ sym (ap (λ (z : Kept). z.tasks q) is) ∙ on'.there in
+          sym (rest_there (length k.types.items) p q on.now (changed h (passed en) d) (differ m c p q h w f))
+          ∙ sym (ap (λ (z : Kept). z.tasks q) is) ∙ on'.there in
           let t = its_task m k n d c p on.slot f.sender r first f.puts.0 in
           let t' = its_task m k n d c q on'.slot f.receiver r second f.gets.0 in
           let z = settles_gone k p Sent l b e on t.path in
           let z' = settles_gone k q (Got ev) l e g on' t'.path in
           let at = stamp_first on.slot.clock s.clock o.clock (last_stamp j.0.history) l (t.clock ∙ sym i.clock) over ∙ stamp_is in
-          let at' = stamp_second on'.slot.clock s.clock o.clock (last_stamp j.0.history) l (t'.clock ∙ sym i'.clock) over ∙ stamp_is in
+          let at' = stamp_second on'.slot.clock s.clock o.clock (last_stamp j.0.history) l (t'.clock ∙ sym i'.clock) over
+          ∙ stamp_is in
           let it =
-          is_of m k d p on.slot f.sender r.from t Sent f.sent f.sender_leads (sender_alive m c p q h w f right) on.moves_on.task (max (suc on.slot.clock) l) (without p b) e
+          is_of m k d p on.slot f.sender r.from t Sent f.sent f.sender_leads (sender_alive m c p q h w f right) on.moves_on.task
+          (max (suc on.slot.clock) l) (without p b) e
           f.sender.made (stamp m c p q h w f) f.sender.forked on.moves_on.goes_on z at refl in
           let it' =
-          is_of m k d q on'.slot f.receiver r.from t' (Got ev) f.got (told m n c w r f) (receiver_alive m c p q h w f right) on'.moves_on.task (max (suc on'.slot.clock) l) (without q e) g
+          is_of m k d q on'.slot f.receiver r.from t' (Got ev) f.got (told m n c w r f)
+          (receiver_alive m c p q h w f right) on'.moves_on.task (max (suc on'.slot.clock) l) (without q e) g
           f.receiver.made (stamp m c p q h w f) f.receiver.forked on'.moves_on.goes_on z' at' refl in
           let changed_is = after ∙ ap (λ y. changed h (passed y) d) entry in
           let half =
           ap (without q) (settled_types m k on.moves_on.task (max (suc on.slot.clock) l) (without p b) e r.from z)
           ∙ ap (λ y. without q (settled types z.slot (without p y))) changed_is
           ∙ settled_apart types z.slot.task.path q z.slot (without p (changed h (passed (its_entry m k n d c p q h w s o r f)) d))
-          (λ y. differ m c p q h w f (sym it.path ∙ y)) (λ x y. never_partner m n c w r f (its_entry m k n d c p q h w s o r f) x) in
-          let kept = settled_types m k on'.moves_on.task (max (suc on'.slot.clock) l) (without q e) g r.from z' ∙ ap (settled types z'.slot) half in
-          subst (λ y. Reflects m k (suc n) y (written c w)) (sym kept) (meet_goes m k n d c p q h w z.slot z'.slot r f it it' (right_fine m (written c w) right))
+          (λ y. differ m c p q h w f (sym it.path ∙ y))
+          (λ x y. never_partner m n c w r f (its_entry m k n d c p q h w s o r f) x) in
+          let kept = settled_types m k on'.moves_on.task (max (suc on'.slot.clock) l) (without q e) g r.from z'
+          ∙ ap (settled types z'.slot) half in
+          subst (λ y. Reflects m k (suc n) y (written c w)) (sym kept)
+          (meet_goes m k n d c p q h w z.slot z'.slot r f it it' (right_fine m (written c w) right))

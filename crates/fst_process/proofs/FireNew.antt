@@ -27,14 +27,18 @@ new_number : (i j : ℕ) → request.New i ≡ request.New j → i ≡ j
 new_number i j e = cc e
 
 -- the task is there after it has made the channel
-maker_there : (m : Module) (c : Config) (p : Path) (w : Write) → (f : Does (program m) m.types.items c (New p) w) → (written c w).tasks p ≡ Some (has_made f.task f.state (suc f.task.clock))
+maker_there : (m : Module) (c : Config) (p : Path) (w : Write) → (f : Does (program m) m.types.items c (New p) w) →
+    (written c w).tasks p ≡ Some (has_made f.task f.state (suc f.task.clock))
 maker_there m c p w f =
     ap (λ z. z.tasks p) (new_puts (program m) m.types.items c p w f)
-    ∙ put_there (with_channel c (channel_name p f.task.made) (record { declared = f.declared; history = [] })) p (has_made f.task f.state (suc f.task.clock))
+    ∙ put_there (with_channel c (channel_name p f.task.made) (record { declared = f.declared; history = [] })) p
+    (has_made f.task f.state (suc f.task.clock))
 
-maker_alive : (m : Module) (c : Config) (p : Path) (w : Write) → IsRight (program m) (written c w) → (f : Does (program m) m.types.items c (New p) w) →
+maker_alive : (m : Module) (c : Config) (p : Path) (w : Write) → IsRight (program m) (written c w) →
+    (f : Does (program m) m.types.items c (New p) w) →
     pause m.families.items f.state ≡ stuck → ⊥
-maker_alive m c p w right f = right_alive m (written c w) p (has_made f.task f.state (suc f.task.clock)) right (maker_there m c p w f)
+maker_alive m c p w right f = right_alive m (written c w) p (has_made f.task f.state (suc f.task.clock)) right
+    (maker_there m c p w f)
 
 module _ (k : Code) (d : Kept) (p : Path) where
   -- the task is kept as one that has not ended
@@ -46,10 +50,12 @@ module _ (k : Code) (d : Kept) (p : Path) where
   made_few x = let a = x.reflects.makes p in let f = x.few in omega (arith, a, f)
 
   module _ (s : Slot) (there : d.tasks p ≡ Some s) where
-    its_maker : (m : Module) (n : ℕ) (c : Config) (w : Write) → Reflects m k n d c → (f : Does (program m) m.types.items c (New p) w) → IsTask m k d p s f.task
+    its_maker : (m : Module) (n : ℕ) (c : Config) (w : Write) → Reflects m k n d c →
+        (f : Does (program m) m.types.items c (New p) w) → IsTask m k d p s f.task
     its_maker m n c w r f = its_task m k n d c p s f.task r there f.asks.0
 
-    asks_new : (m : Module) (n : ℕ) (c : Config) (w : Write) → Reflects m k n d c → (f : Does (program m) m.types.items c (New p) w) → s.request ≡ request.New f.number
+    asks_new : (m : Module) (n : ℕ) (c : Config) (w : Write) → Reflects m k n d c →
+        (f : Does (program m) m.types.items c (New p) w) → s.request ≡ request.New f.number
     asks_new m n c w r f = some_same (sym (its_maker m n c w r f).asks ∙ f.asks.1)
 
     -- the type of the channel that it asks for is there
@@ -65,10 +71,12 @@ module _ (k : Code) (d : Kept) (p : Path) where
     new_never e h = λ m n c w r f right makers parents. absurd (h f.number (asks_new m n c w r f))
 
     module _ (h : ChannelName) (its : h ≡ channel_name p (d.made p)) where
-      name_is : (m : Module) (n : ℕ) (c : Config) (w : Write) → Reflects m k n d c → (f : Does (program m) m.types.items c (New p) w) → h ≡ channel_name p f.task.made
+      name_is : (m : Module) (n : ℕ) (c : Config) (w : Write) → Reflects m k n d c →
+          (f : Does (program m) m.types.items c (New p) w) → h ≡ channel_name p f.task.made
       name_is m n c w r f = its ∙ ap (channel_name p) (its_maker m n c w r f).made
 
-      told : (m : Module) (n : ℕ) (c : Config) (w : Write) → Reflects m k n d c → (f : Does (program m) m.types.items c (New p) w) →
+      told : (m : Module) (n : ℕ) (c : Config) (w : Write) → Reflects m k n d c →
+          (f : Does (program m) m.types.items c (New p) w) →
           answered (program m) f.task.state (Made h) ≡ Some f.state
       told m n c w r f = ap (λ z. answered (program m) f.task.state (Made z)) (name_is m n c w r f) ∙ f.leads
 
@@ -76,14 +84,18 @@ module _ (k : Code) (d : Kept) (p : Path) where
       pub new_can : (a : Tree) (mid : Kept) → mid ≡ opened h a d → IsPossible k d (New p) → CanGoOn k mid p (Made h)
       new_can a mid after x =
           let i = its_maker x.source x.events x.before x.write x.reflects x.does in
-          let a = x.right_after.asks p (has_made x.does.task x.does.state (suc x.does.task.clock)) (maker_there x.source x.before p x.write x.does) in
-          can_go_on x.source k d p s x.does.task x.reflects.from i (Made h) x.does.state (told x.source x.events x.before x.write x.reflects x.does)
+          let a = x.right_after.asks p (has_made x.does.task x.does.state (suc x.does.task.clock))
+          (maker_there x.source x.before p x.write x.does) in
+          can_go_on x.source k d p s x.does.task x.reflects.from i (Made h) x.does.state
+          (told x.source x.events x.before x.write x.reflects x.does)
           (maker_alive x.source x.before p x.write x.right_after x.does) mid (ap (λ (z : Kept). z.tasks p) after ∙ there)
-          (ap (λ (z : Kept). z.ready p) after ∙ moves_ready x.source k x.events d x.before x.reflects p (New p) x.write refl x.does)
+          (ap (λ (z : Kept). z.ready p) after ∙ moves_ready x.source k x.events d x.before x.reflects p
+          (New p) x.write refl x.does)
           (clock_few k d p s (New p) there x) (λ z. absurd (cc z)) a.0 a.1
 
       -- what is kept after the task has made the channel is the configuration after it
-      pub new_happens : (number : ℕ) (a : Tree) (mid e : Kept) → s.request ≡ request.New number → slice_get k.types.items number ≡ Some a →
+      pub new_happens : (number : ℕ) (a : Tree) (mid e : Kept) → s.request ≡ request.New number →
+          slice_get k.types.items number ≡ Some a →
           mid ≡ opened h a d → HasGoneOn k p (Made h) zero mid e → Happens k d (New p) e
       new_happens number a mid e asks type after g = λ m n c w r f right makers parents.
           let u = g.slot in
@@ -91,7 +103,8 @@ module _ (k : Code) (d : Kept) (p : Path) where
           let l = max (suc u.clock) zero in
           let i = its_task m k n d c p u f.task r (sym (ap (λ (z : Kept). z.tasks p) after) ∙ g.there) f.asks.0 in
           let z = settles_gone k p (Made h) zero mid e g i.path in
-          let o = is_of m k d p u f.task r.from i (Made h) f.state (told m n c w r f) (maker_alive m c p w right f) v l (without p mid) e (suc f.task.made) (suc f.task.clock) f.task.forked
+          let o = is_of m k d p u f.task r.from i (Made h) f.state (told m n c w r f) (maker_alive m c p w right f) v l
+          (without p mid) e (suc f.task.made) (suc f.task.clock) f.task.forked
           g.moves_on.goes_on z (next_clock u.clock f.task.clock i.clock) refl in
           let number_is = new_number number f.number (sym asks ∙ asks_new m n c w r f) in
           let type_is : a ≡ f.declared = some_same (sym type ∙ (λ j. slice_get (r.from.same_types j) (number_is j)) ∙ f.typed) in

@@ -23,7 +23,8 @@ use Rattle.fst_process.proofs.Rights.{right_fine, right_alive}
 use Rattle.fst_process.proofs.Stepping.{settled_types}
 
 -- nothing is kept in empty maps
-pub kept_nothing : (k : Config) → k.tasks.entries ≡ [] → k.ended.items ≡ [] → k.channels.entries ≡ [] → k.ready.keys ≡ [] → kept_of k ≡ nothing
+pub kept_nothing : (k : Config) → k.tasks.entries ≡ [] → k.ended.items ≡ [] → k.channels.entries ≡ [] → k.ready.keys ≡ [] →
+    kept_of k ≡ nothing
 kept_nothing k ts es js rs = λ i. record {
   tasks = tasks_in (ts i) (es i);
   channels = λ h. (ap (λ es. numbered (made_in es h.maker) h.count) js ∙ none_numbered h.count) i;
@@ -33,7 +34,8 @@ kept_nothing k ts es js rs = λ i. record {
 
 main_alive : (m : Module) (e : CoreTree) → IsRight (program m) (started e) → pause m.families.items (begins e []) ≡ stuck → ⊥
 main_alive m e right =
-    right_alive m (started e) main_path (new_task (begins e []) zero) right (ap (λ b. if b then Some (new_task (begins e []) zero) else None) (same_path-itself main_path))
+    right_alive m (started e) main_path (new_task (begins e []) zero) right
+    (ap (λ b. if b then Some (new_task (begins e []) zero) else None) (same_path-itself main_path))
 
 -- main's task asks for something at the beginning
 pub start_next : (k : Code) (t : TaskView) → IsStart k t → CanStart k → HasNext k t
@@ -60,5 +62,6 @@ start_begun k t d e none s z = λ m main from body right.
       clock = z.clock;
       forked = z.stays.forked ∙ s.forked;
     } in
-    subst (λ y. Reflects m k zero y (started main)) (sym (settled_types m k t 0 d e from z ∙ ap (settled (length m.types.items) z.slot) none))
+    subst (λ y. Reflects m k zero y (started main))
+    (sym (settled_types m k t 0 d e from z ∙ ap (settled (length m.types.items) z.slot) none))
     (begun m k main z.slot from is (right_fine m (started main) right))

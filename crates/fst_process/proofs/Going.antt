@@ -36,7 +36,8 @@ pub record IsBound (n : ℕ) (channels : ℕ) (t : Task) : Type 0 where
   pub makes : t.made ≤ n
 
 -- so it is with each task that is there
-pub bound : (m : Module) (k : Code) (n : ℕ) (d : Kept) (c : Config) (p : Path) (t : Task) → Reflects m k n d c → c.tasks p ≡ Some t → IsBound n (d.made p) t
+pub bound : (m : Module) (k : Code) (n : ℕ) (d : Kept) (c : Config) (p : Path) (t : Task) → Reflects m k n d c →
+    c.tasks p ≡ Some t → IsBound n (d.made p) t
 bound m k n d c p t r e =
     let f = is_kept m k d p (d.tasks p) (c.tasks p) t (r.tasks p) e in
     let a = r.clocks p f.0 f.1 in
@@ -61,22 +62,35 @@ settled_made types s d p = go s.request
     go request.Ended = refl
 
 -- a task that asks at no end is taken out, an event later
-pub taken : (m : Module) (k : Code) (n : ℕ) (d : Kept) (c : Config) (p : Path) (t : Task) (a : Request) → Reflects m k n d c → Asks (program m) c p t a → end_of a ≡ None →
+pub taken : (m : Module) (k : Code) (n : ℕ) (d : Kept) (c : Config) (p : Path) (t : Task) (a : Request) → Reflects m k n d c →
+    Asks (program m) c p t a → end_of a ≡ None →
     Reflects m k (suc n) (without p d) (hide p c)
 taken m k n d c p t a r i f =
     let g = kept_asks m k n d c r p t a i in
     later m k n (suc n) (without p d) (hide p c) (taken_out m k n d c p g.0 r g.1 (ap end_of g.2 ∙ f)) (omega arith)
 
 -- a task is put in whose numbers are in bounds
-pub comes_in : (m : Module) (k : Code) (n : ℕ) (d : Kept) (c : Config) (p : Path) (s : Slot) (t : Task) → Reflects m k n d c → c.tasks p ≡ None → IsOf m k p s t →
-    d.made p ≡ t.made → t.clock ≤ n → t.forked ≤ n → Fine m (show p t c) → Reflects m k n (settled (length m.types.items) s d) (show p t c)
+pub comes_in : (m : Module) (k : Code) (n : ℕ) (d : Kept) (c : Config) (p : Path) (s : Slot) (t : Task) → Reflects m k n d c →
+    c.tasks p ≡ None → IsOf m k p s t →
+    d.made p ≡ t.made → t.clock ≤ n → t.forked ≤ n → Fine m (show p t c) →
+    Reflects m k n (settled (length m.types.items) s d) (show p t c)
 comes_in m k n d c p s t r free is made clock forked fine =
     put_in m k n d c p s t r free
-    (record { path = is.path; rests = is.rests; is_in = is.is_in; asks = is.asks; clock = is.clock; forked = is.forked; made = made })
+    (record {
+      path = is.path;
+      rests = is.rests;
+      is_in = is.is_in;
+      asks = is.asks;
+      clock = is.clock;
+      forked = is.forked;
+      made =
+          made;
+    })
     (subst (λ z. z ≤ n) (sym is.clock) clock) (subst (λ z. z ≤ n) (sym is.forked) forked) fine
 
 -- a task written in place of one that was there
-pub one_written : {X : Type 0} (b : Bool) (t : X) (o : Option X) → (if b then Some t else if b then None else o) ≡ over (if b then Some t else None) o
+pub one_written : {X : Type 0} (b : Bool) (t : X) (o : Option X) →
+    (if b then Some t else if b then None else o) ≡ over (if b then Some t else None) o
 one_written true t o = refl
 one_written false t o = refl
 
@@ -87,8 +101,10 @@ pub local_goes : (m : Module) (k : Code) (n : ℕ) (d : Kept) (c : Config) (p : 
 local_goes m k n d c p w s r f is fine =
     let b = bound m k n d c p f.task r f.asks.0 in
     subst (Reflects m k (suc n) (settled (length m.types.items) s (without p d))) same
-    (comes_in m k (suc n) (without p d) (hide p c) p s (moved f.task f.state) (taken m k n d c p f.task request.Step r f.asks refl) (put_here p None c.tasks) is b.made
+    (comes_in m k (suc n) (without p d) (hide p c) p s (moved f.task f.state)
+    (taken m k n d c p f.task request.Step r f.asks refl) (put_here p None c.tasks) is b.made
     (let g = b.clock in omega (arith, g)) (let g = b.forked in omega (arith, g)) (subst (Fine m) (sym same) fine))
   where
     same : show p (moved f.task f.state) (hide p c) ≡ written c w
-    same = (λ i. record { tasks = λ q. one_written (same_path p q) (moved f.task f.state) (c.tasks q) i; channels = c.channels }) ∙ sym (ap (written c) f.writes)
+    same = (λ i. record { tasks = λ q. one_written (same_path p q) (moved f.task f.state) (c.tasks q) i; channels = c.channels })
+        ∙ sym (ap (written c) f.writes)

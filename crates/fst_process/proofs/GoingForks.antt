@@ -18,12 +18,14 @@ use Rattle.fst_process.proofs.Going.{IsOf, bound, settled_made, taken, comes_in}
 
 -- a task written in place of one that was there, and another one
 pub two_written : {X : Type 0} (a b : Bool) (u t : X) (o : Option X) →
-    (if a then Some u else if b then Some t else if b then None else o) ≡ over (over (if a then Some u else None) (if b then Some t else None)) o
+    (if a then Some u else if b then Some t else if b then None else o) ≡ over
+    (over (if a then Some u else None) (if b then Some t else None)) o
 two_written true b u t o = refl
 two_written false true u t o = refl
 two_written false false u t o = refl
 
-module _ (m : Module) (k : Code) (n : ℕ) (d : Kept) (c : Config) (p : Path) (w : Write) (s o : Slot) (r : Reflects m k n d c) (f : Does (program m) m.types.items c (Fork p) w) where
+module _ (m : Module) (k : Code) (n : ℕ) (d : Kept) (c : Config) (p : Path) (w : Write) (s o : Slot) (r : Reflects m k n d c)
+    (f : Does (program m) m.types.items c (Fork p) w) where
   -- the task after it has forked
   abbrev pub parent : Task
   parent = has_forked f.task f.state (suc f.task.clock)
@@ -50,7 +52,8 @@ module _ (m : Module) (k : Code) (n : ℕ) (d : Kept) (c : Config) (p : Path) (w
   first = settled (length m.types.items) s (without p d)
 
   -- after a task has forked another one, whose path is new
-  pub fork_goes : IsOf m k p s parent → IsOf m k its_path o forked_task → c.tasks its_path ≡ None → d.made its_path ≡ zero → Fine m (written c w) →
+  pub fork_goes : IsOf m k p s parent → IsOf m k its_path o forked_task → c.tasks its_path ≡ None → d.made its_path ≡ zero →
+      Fine m (written c w) →
       Reflects m k (suc n) (settled (length m.types.items) o first) (written c w)
   fork_goes is child fresh unmade fine =
       let b = bound m k n d c p f.task r f.asks.0 in
@@ -58,9 +61,11 @@ module _ (m : Module) (k : Code) (n : ℕ) (d : Kept) (c : Config) (p : Path) (w
       let forked = b.forked in
       subst (Reflects m k (suc n) (settled (length m.types.items) o first)) same
       (comes_in m k (suc n) first half its_path o forked_task
-      (comes_in m k (suc n) (without p d) (hide p c) p s parent (taken m k n d c p f.task request.Fork r f.asks refl) (put_here p None c.tasks) is b.made
+      (comes_in m k (suc n) (without p d) (hide p c) p s parent (taken m k n d c p f.task request.Fork r f.asks refl)
+      (put_here p None c.tasks) is b.made
       (omega (arith, clock)) (omega (arith, forked)) (fine_before m half its_path forked_task free whole))
-      free child (settled_made (length m.types.items) s (without p d) its_path ∙ unmade) (omega (arith, clock)) (omega arith) whole)
+      free child (settled_made (length m.types.items) s (without p d) its_path ∙ unmade) (omega (arith, clock))
+      (omega arith) whole)
     where
       whole : Fine m (show its_path forked_task half)
       whole = subst (Fine m) (sym same) fine

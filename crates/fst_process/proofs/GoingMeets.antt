@@ -26,7 +26,8 @@ use Rattle.fst_process.proofs.GoingNew.{channel_written}
 
 -- two tasks written in place of those that were there
 both_written : {X : Type 0} (a b : Bool) (u t : X) (o : Option X) →
-    (if a then Some u else if b then Some t else if a then None else if b then None else o) ≡ over (over (if a then Some u else None) (if b then Some t else None)) o
+    (if a then Some u else if b then Some t else if a then None else if b then None else o) ≡ over
+    (over (if a then Some u else None) (if b then Some t else None)) o
 both_written true b u t o = refl
 both_written false true u t o = refl
 both_written false false u t o = refl
@@ -38,12 +39,14 @@ last_stamped n (e ∷ []) s = s.0
 last_stamped n (e ∷ f ∷ es) s = last_stamped n (f ∷ es) s.1
 
 -- no stamp of a channel is over n
-channel_stamped : (m : Module) (k : Code) (n : ℕ) (d : Kept) (c : Config) (h : ChannelName) (j : runs.Channel) → Reflects m k n d c → c.channels h ≡ Some j → last_stamp j.history ≤ n
+channel_stamped : (m : Module) (k : Code) (n : ℕ) (d : Kept) (c : Config) (h : ChannelName) (j : runs.Channel) →
+    Reflects m k n d c → c.channels h ≡ Some j → last_stamp j.history ≤ n
 channel_stamped m k n d c h j r e =
     let f = there_bare (d.channels h) (c.channels h) j (r.channels h) e in
     subst (λ (i : runs.Channel). last_stamp i.history ≤ n) f.2 (last_stamped n f.0.history (r.stamps h f.0 f.1))
 
-module _ (m : Module) (k : Code) (n : ℕ) (d : Kept) (c : Config) (p q : Path) (h : ChannelName) (w : Write) (s o : Slot) (r : Reflects m k n d c)
+module _ (m : Module) (k : Code) (n : ℕ) (d : Kept) (c : Config) (p q : Path) (h : ChannelName) (w : Write) (s o : Slot)
+    (r : Reflects m k n d c)
     (f : Does (program m) m.types.items c (Meet p q h) w) where
   -- the stamp of what has passed
   abbrev pub stamp : ℕ
@@ -92,8 +95,10 @@ module _ (m : Module) (k : Code) (n : ℕ) (d : Kept) (c : Config) (p q : Path) 
   emptied =
       let a = kept_asks m k n d c r p f.sender (request.Put f.end f.event) f.puts in
       let b = kept_asks m k n d c r q f.receiver (request.Get (other f.end)) f.gets in
-      subst (λ g. Reflects m k (suc n) (changed g (passed its_entry) (without q (without p d))) (hide q (hide p (with_channel g (extended f.channel its_entry) c)))) f.named
-      (meeting m k n (suc n) d c p q a.0 b.0 f.end its_entry f.channel r a.1 b.1 (ap end_of a.2) (ap end_of b.2) (ap c.channels f.named ∙ f.there) (omega arith) stamp_few)
+      subst (λ g. Reflects m k (suc n) (changed g (passed its_entry) (without q (without p d)))
+      (hide q (hide p (with_channel g (extended f.channel its_entry) c)))) f.named
+      (meeting m k n (suc n) d c p q a.0 b.0 f.end its_entry f.channel r a.1 b.1 (ap end_of a.2) (ap end_of b.2)
+      (ap c.channels f.named ∙ f.there) (omega arith) stamp_few)
 
   -- after two tasks have met
   pub meet_goes : IsOf m k p s sender → IsOf m k q o receiver → Fine m (written c w) →
@@ -105,7 +110,8 @@ module _ (m : Module) (k : Code) (n : ℕ) (d : Kept) (c : Config) (p q : Path) 
       let second = b.forked in
       subst (Reflects m k (suc n) (settled (length m.types.items) o (settled (length m.types.items) s before))) same
       (comes_in m k (suc n) (settled (length m.types.items) s before) half q o receiver
-      (comes_in m k (suc n) before empty p s sender emptied first_free is a.made stamp_few (omega (arith, first)) (fine_before m half q receiver second_free whole))
+      (comes_in m k (suc n) before empty p s sender emptied first_free is a.made stamp_few (omega (arith, first))
+      (fine_before m half q receiver second_free whole))
       second_free it (settled_made (length m.types.items) s before q ∙ b.made) stamp_few (omega (arith, second)) whole)
     where
       whole : Fine m (show q receiver half)
@@ -115,4 +121,5 @@ module _ (m : Module) (k : Code) (n : ℕ) (d : Kept) (c : Config) (p q : Path) 
       first_free = put_cases (λ z. z ≡ None) q p None (put_at p None c.tasks) (λ z. refl) (λ z. put_here p None c.tasks)
 
       second_free : half.tasks q ≡ None
-      second_free = put_cases (λ z. z ≡ None) p q (Some sender) empty.tasks (λ z. absurd (differ z)) (λ z. put_here q None (put_at p None c.tasks))
+      second_free = put_cases (λ z. z ≡ None) p q (Some sender) empty.tasks (λ z. absurd (differ z))
+          (λ z. put_here q None (put_at p None c.tasks))

@@ -18,11 +18,13 @@ use Rattle.fst_process.proofs.Opening.{with_channel, opening}
 use Rattle.fst_process.proofs.Going.{IsOf, bound, taken, comes_in, one_written}
 
 -- a channel that is written
-pub channel_written : {X : Type 0} (b : Bool) (j : X) (o : Option X) → (if b then Some j else o) ≡ over (if b then Some j else None) o
+pub channel_written : {X : Type 0} (b : Bool) (j : X) (o : Option X) →
+    (if b then Some j else o) ≡ over (if b then Some j else None) o
 channel_written true j o = refl
 channel_written false j o = refl
 
-module _ (m : Module) (k : Code) (n : ℕ) (d : Kept) (c : Config) (p : Path) (w : Write) (s : Slot) (r : Reflects m k n d c) (f : Does (program m) m.types.items c (New p) w) where
+module _ (m : Module) (k : Code) (n : ℕ) (d : Kept) (c : Config) (p : Path) (w : Write) (s : Slot) (r : Reflects m k n d c)
+    (f : Does (program m) m.types.items c (New p) w) where
   -- the task after it has made the channel
   abbrev pub maker : Task
   maker = has_made f.task f.state (suc f.task.clock)
@@ -52,6 +54,8 @@ module _ (m : Module) (k : Code) (n : ℕ) (d : Kept) (c : Config) (p : Path) (w
       let forked = b.forked in
       subst (Reflects m k (suc n) (settled (length m.types.items) s (opened its_name f.declared (without p d)))) same
       (comes_in m k (suc n) (opened its_name f.declared (without p d)) (with_channel its_name its_channel (hide p c)) p s maker
-      (opening m k (suc n) (suc n) (without p d) (hide p c) its_name f.declared (taken m k n d c p f.task (request.New f.number) r f.asks refl) fresh (put_here p None c.tasks)
+      (opening m k (suc n) (suc n) (without p d) (hide p c) its_name f.declared
+      (taken m k n d c p f.task (request.New f.number) r f.asks refl) fresh (put_here p None c.tasks)
       (ap suc (sym made)) (omega (arith, made, makes)) (omega arith))
-      (put_here p None c.tasks) is (put_here p (suc (d.made p)) d.made ∙ ap suc made) (omega (arith, clock)) (omega (arith, forked)) (subst (Fine m) (sym same) fine))
+      (put_here p None c.tasks) is (put_here p (suc (d.made p)) d.made ∙ ap suc made) (omega (arith, clock))
+      (omega (arith, forked)) (subst (Fine m) (sym same) fine))

@@ -11,7 +11,8 @@ use Rattle.fst_process.specs.Reflects.{Reflects}
 use Rattle.fst_process.proofs.Moving.{moves_ready}
 
 -- an event is the least one where a task takes part in it before which none is marked
-pub is_least : (m : Module) (k : Code) (n : ℕ) (d : Kept) (c : Config) (p : Path) (e : CoreEvent) → Reflects m k n d c → TakesPart p e →
+pub is_least : (m : Module) (k : Code) (n : ℕ) (d : Kept) (c : Config) (p : Path) (e : CoreEvent) → Reflects m k n d c →
+    TakesPart p e →
     ((q : Path) → IsBefore q p → d.ready q ≡ false) → IsLeast (program m) m.types.items c e
 is_least m k n d c p e r h f = record {
   path = p;

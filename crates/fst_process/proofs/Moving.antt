@@ -45,7 +45,8 @@ module _ (m : Module) (k : Code) (n : ℕ) (d : Kept) (c : Config) (r : Reflects
   types = m.types.items
 
   -- a task that asks for something is kept with it
-  pub kept_asks : (p : Path) (t : Task) (a : Request) → Asks (program m) c p t a → (s : Slot) × (d.tasks p ≡ Some s) × (s.request ≡ a) × IsTask m k d p s t
+  pub kept_asks : (p : Path) (t : Task) (a : Request) → Asks (program m) c p t a → (s : Slot) × (d.tasks p ≡ Some s) ×
+      (s.request ≡ a) × IsTask m k d p s t
   kept_asks p t a i =
       let f = is_kept m k d p (d.tasks p) (c.tasks p) t (r.tasks p) i.0 in
       (f.0, f.1, some_same (sym f.2.asks ∙ i.1), f.2)
@@ -62,7 +63,8 @@ module _ (m : Module) (k : Code) (n : ℕ) (d : Kept) (c : Config) (r : Reflects
       let f = kept_asks p t a i in
       (r.askers x p).1 (f.0, f.1, ap end_of f.2 ∙ e)
 
-  ready_with : (p : Path) (t : Task) (a : Request) → Asks (program m) c p t a → moves_with (length types) d a ≡ true → d.ready p ≡ true
+  ready_with : (p : Path) (t : Task) (a : Request) → Asks (program m) c p t a → moves_with (length types) d a ≡ true →
+      d.ready p ≡ true
   ready_with p t a i e =
       let f = kept_asks p t a i in
       r.ready p ∙ ap (moves_so (length types) d) f.1 ∙ ap (moves_with (length types) d) f.2 ∙ e
@@ -70,13 +72,16 @@ module _ (m : Module) (k : Code) (n : ℕ) (d : Kept) (c : Config) (r : Reflects
   -- a task that takes part in an event that is possible is marked
   pub moves_ready : (p : Path) (e : CoreEvent) (w : Write) → TakesPart p e → Does (program m) types c e w → d.ready p ≡ true
   moves_ready p (Local q) w h f = ap d.ready h ∙ ready_with q f.task request.Step f.asks refl
-  moves_ready p (New q) w h f = ap d.ready h ∙ ready_with q f.task (request.New f.number) f.asks (below f.number (length types) (slice_get_within types f.number f.declared f.typed))
+  moves_ready p (New q) w h f = ap d.ready h ∙ ready_with q f.task (request.New f.number) f.asks
+      (below f.number (length types) (slice_get_within types f.number f.declared f.typed))
   moves_ready p (Fork q) w h f = ap d.ready h ∙ ready_with q f.task request.Fork f.asks refl
   moves_ready p (Meet q o g) w (inl h) f =
-      ap d.ready h ∙ ready_with q f.sender (request.Put f.end f.event) f.puts (ap (λ (z : Option Path). is_some z) (at_it o f.receiver (request.Get (other f.end)) (other f.end) f.gets refl))
+      ap d.ready h ∙ ready_with q f.sender (request.Put f.end f.event) f.puts
+      (ap (λ (z : Option Path). is_some z) (at_it o f.receiver (request.Get (other f.end)) (other f.end) f.gets refl))
   moves_ready p (Meet q o g) w (inr h) f =
       ap d.ready h ∙ ready_with o f.receiver (request.Get (other f.end)) f.gets
-      (ap (λ (z : Option Path). is_some z) (ap (asker d) (other-twice f.end) ∙ at_it q f.sender (request.Put f.end f.event) f.end f.puts refl))
+      (ap (λ (z : Option Path). is_some z) (ap (asker d) (other-twice f.end)
+      ∙ at_it q f.sender (request.Put f.end f.event) f.end f.puts refl))
 
   -- where no task is marked, no event is possible
   pub nothing_ready : ((p : Path) → d.ready p ≡ false) → IsLast (program m) types c
@@ -91,7 +96,8 @@ module _ (m : Module) (k : Code) (n : ℕ) (d : Kept) (c : Config) (r : Reflects
     abbrev Moves : Path → Option CoreEvent → Type 0
     Moves p o = (e : CoreEvent) × (o ≡ Some e) × TakesPart p e × (w : Write) × Does (program m) types c e w
 
-    meeting : (p q : Path) (t u : Task) (x : EndName) (ev : Event) → Asks (program m) c p t (request.Put x ev) → Asks (program m) c q u (request.Get (other x)) →
+    meeting : (p q : Path) (t u : Task) (x : EndName) (ev : Event) → Asks (program m) c p t (request.Put x ev) →
+        Asks (program m) c q u (request.Get (other x)) →
         (w : Write) × Does (program m) types c (Meet p q x.channel) w
     meeting p q t u x ev i j =
         let f = fine.meets p q t u x ev i j in
@@ -128,7 +134,8 @@ module _ (m : Module) (k : Code) (n : ℕ) (d : Kept) (c : Config) (r : Reflects
           ],
         )
 
-    put_moves : (p : Path) (t : Task) (x : EndName) (ev : Event) → Asks (program m) c p t (request.Put x ev) → (o : Option Path) → partner d x ≡ o → is_some o ≡ true →
+    put_moves : (p : Path) (t : Task) (x : EndName) (ev : Event) → Asks (program m) c p t (request.Put x ev) →
+        (o : Option Path) → partner d x ≡ o → is_some o ≡ true →
         Moves p (option_map (λ q. Meet p q x.channel) o)
     put_moves p t x ev i None e h = absurd (false≢true h)
     put_moves p t x ev i (Some q) e h =
@@ -138,26 +145,43 @@ module _ (m : Module) (k : Code) (n : ℕ) (d : Kept) (c : Config) (r : Reflects
           | inr g ↦ let f = meeting p q t u.0 x ev i g in (Meet p q x.channel, refl, inl refl, f.0, f.1)
         ]
 
-    get_moves : (p : Path) (t : Task) (x : EndName) → Asks (program m) c p t (request.Get x) → (o : Option Path) → partner d x ≡ o → is_some o ≡ true →
+    get_moves : (p : Path) (t : Task) (x : EndName) → Asks (program m) c p t (request.Get x) →
+        (o : Option Path) → partner d x ≡ o → is_some o ≡ true →
         Moves p (option_map (λ q. Meet q p x.channel) o)
     get_moves p t x i None e h = absurd (false≢true h)
     get_moves p t x i (Some q) e h =
         let u = asks_there q (other x) e in
         elim u.1 [
           | inl g ↦
-              let f = meeting q p u.0 t (other x) g.0 g.1 (subst (λ y. Asks (program m) c p t (request.Get y)) (sym (other-twice x)) i) in
+              let f = meeting q p u.0 t (other x) g.0 g.1
+              (subst (λ y. Asks (program m) c p t (request.Get y)) (sym (other-twice x)) i) in
               (Meet q p x.channel, refl, inr refl, f.0, f.1)
           | inr g ↦ absurd (fine.gets_apart p q t u.0 x i g)
         ]
 
-    with_request : (p : Path) (t : Task) (a : Request) → Asks (program m) c p t a → moves_with (length types) d a ≡ true → Moves p (event_with d p a)
+    with_request : (p : Path) (t : Task) (a : Request) → Asks (program m) c p t a → moves_with (length types) d a ≡ true →
+        Moves p (event_with d p a)
     with_request p t request.Step i h =
         let f = step_next (program m) (pause m.families.items t.state) i.1 in
         (Local p, refl, refl, _, record { task = t; state = f.0; asks = i; leads = f.1; writes = refl })
     with_request p t (request.New l) i h =
         let f = new_next (program m) (pause m.families.items t.state) l (channel_name p t.made) i.1 in
-        let g = element types l h in
-        (New p, refl, refl, _, record { task = t; state = f.0; number = l; declared = g.0; asks = i; typed = g.1; leads = f.1; writes = refl })
+        let g = element types l h in (
+          New p,
+          refl,
+          refl,
+          _,
+          record {
+            task = t;
+            state = f.0;
+            number = l;
+            declared = g.0;
+            asks = i;
+            typed = g.1;
+            leads = f.1;
+            writes = refl;
+          },
+        )
     with_request p t request.Fork i h =
         let f = fork_next (program m) (pause m.families.items t.state) i.1 in
         (Fork p, refl, refl, _, record { task = t; state = f.0; begun = f.1; asks = i; begins = f.3; leads = f.2; writes = refl })
@@ -166,10 +190,12 @@ module _ (m : Module) (k : Code) (n : ℕ) (d : Kept) (c : Config) (r : Reflects
     with_request p t request.Ended i h = absurd (false≢true h)
 
     -- the event of a task that is marked is possible, and the task takes part in it
-    pub ready_moves : (p : Path) → d.ready p ≡ true → (e : CoreEvent) × (event_of d p ≡ Some e) × TakesPart p e × (w : Write) × Does (program m) types c e w
+    pub ready_moves : (p : Path) → d.ready p ≡ true → (e : CoreEvent) × (event_of d p ≡ Some e) × TakesPart p e ×
+        (w : Write) × Does (program m) types c e w
     ready_moves p h = go (d.tasks p) refl (sym (r.ready p) ∙ h)
       where
-        go : (o : Option Slot) → d.tasks p ≡ o → moves_so (length types) d o ≡ true → Moves p (option_and_then (λ (s : Slot). event_with d p s.request) o)
+        go : (o : Option Slot) → d.tasks p ≡ o → moves_so (length types) d o ≡ true →
+            Moves p (option_and_then (λ (s : Slot). event_with d p s.request) o)
         go None e f = absurd (false≢true f)
         go (Some s) e f = let g = asks_kept p s e in with_request p g.0 s.request g.1 f
 

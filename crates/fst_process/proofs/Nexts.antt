@@ -24,13 +24,15 @@ step_next m (matches y bs env fs) e = absurd (cc e)
 step_next m (ended v) e = absurd (cc e)
 
 -- what asks for a channel
-pub new_next : (m : Program) (p : Pause) (n : ℕ) (h : ChannelName) → asked p ≡ Some (request.New n) → (s : State) × (after m p (Made h) ≡ Some s)
+pub new_next : (m : Program) (p : Pause) (n : ℕ) (h : ChannelName) → asked p ≡ Some (request.New n) → (s : State) ×
+    (after m p (Made h) ≡ Some s)
 new_next m p n h e =
     let w = new_pause p n e in
     (_, ap (λ z. after m z (Made h)) w.1)
 
 -- what asks for a task, and the task
-pub fork_next : (m : Program) (p : Pause) → asked p ≡ Some request.Fork → (s : State) × (b : State) × (after m p Forked ≡ Some s) × (child p ≡ Some b)
+pub fork_next : (m : Program) (p : Pause) → asked p ≡ Some request.Fork → (s : State) × (b : State) ×
+    (after m p Forked ≡ Some s) × (child p ≡ Some b)
 fork_next m stuck e = absurd (none_some e)
 fork_next m (calls f env v fs) e = absurd (cc e)
 fork_next m (uses g fs) e = absurd (cc e)

@@ -22,7 +22,8 @@ use Rattle.fst_process.proofs.Taking.{are_same, none_kept, moves_same, later}
 abbrev pub with_channel : ChannelName → runs.Channel → Config → Config
 with_channel h j c = record c { channels = λ g. if same_channel h g then Some j else c.channels g }
 
-no_task : (m : Module) (k : Code) (d : Kept) (p : Path) (o : Option Slot) (u : Option Task) → o ≡ None → u ≡ None → AreTask m k d p o u
+no_task : (m : Module) (k : Code) (d : Kept) (p : Path) (o : Option Slot) (u : Option Task) → o ≡ None → u ≡ None →
+    AreTask m k d p o u
 no_task m k d p None None e f = tt
 no_task m k d p None (Some t) e f = absurd (none_some (sym f))
 no_task m k d p (Some s) u e f = absurd (none_some (sym e))
@@ -31,8 +32,10 @@ no_bare : (u : Option Channel) → option_map bare u ≡ None → u ≡ None
 no_bare None e = refl
 no_bare (Some j) e = absurd (none_some (sym e))
 
-module _ (m : Module) (k : Code) (n : ℕ) (d : Kept) (c : Config) (h : ChannelName) (a : Tree) (es : List Entry) (r : Reflects m k n d c) (free : c.channels h ≡ None)
-    (away : c.tasks h.maker ≡ None) (next : h.count ≡ suc (d.made h.maker)) (few : d.made h.maker < n) (stamped : StampedTo n es) where
+module _ (m : Module) (k : Code) (n : ℕ) (d : Kept) (c : Config) (h : ChannelName) (a : Tree) (es : List Entry)
+    (r : Reflects m k n d c) (free : c.channels h ≡ None)
+    (away : c.tasks h.maker ≡ None) (next : h.count ≡ suc (d.made h.maker)) (few : d.made h.maker < n)
+    (stamped : StampedTo n es) where
   abbrev new : Channel
   new = record { declared = a; history = es; left = None; right = None }
 
@@ -52,7 +55,8 @@ module _ (m : Module) (k : Code) (n : ℕ) (d : Kept) (c : Config) (h : ChannelN
   -- nobody asks at the ends of a channel that isn't there, or is new
   askers_still : (x : EndName) → asker e x ≡ asker d x
   askers_still x =
-      channel_cases (λ (z : Option Channel). option_and_then (asker_at x.side) z ≡ asker d x) h x.channel (Some new) (d.channels x.channel)
+      channel_cases (λ (z : Option Channel). option_and_then (asker_at x.side) z ≡ asker d x) h x.channel (Some new)
+      (d.channels x.channel)
       (λ z. none_asks x.side ∙ sym (ap (option_and_then (asker_at x.side)) (ap d.channels (sym z) ∙ fresh)))
       (λ z. refl)
 
@@ -68,11 +72,13 @@ module _ (m : Module) (k : Code) (n : ℕ) (d : Kept) (c : Config) (h : ChannelN
 
   there : (g : ChannelName) (j : Channel) → d.channels g ≡ Some j → (i : Channel) × (e.channels g ≡ Some i)
   there g j f =
-      channel_cases (λ (z : Option Channel). (i : Channel) × (z ≡ Some i)) h g (Some new) (d.channels g) (λ z. (new, refl)) (λ z. (j, f))
+      channel_cases (λ (z : Option Channel). (i : Channel) × (z ≡ Some i)) h g (Some new) (d.channels g) (λ z. (new, refl))
+      (λ z. (j, f))
 
   all_makers : (q : Path) (i : ℕ) → e.made q ≡ suc i → (j : Channel) × (e.channels (channel_name q i) ≡ Some j)
   all_makers q i =
-      put_cases (λ z. z ≡ suc i → (j : Channel) × (e.channels (channel_name q i) ≡ Some j)) h.maker q (suc (d.made h.maker)) d.made
+      put_cases (λ z. z ≡ suc i → (j : Channel) × (e.channels (channel_name q i) ≡ Some j)) h.maker q
+      (suc (d.made h.maker)) d.made
       (λ z f. (new, ap e.channels (sym (named z f)) ∙ channel_here h (Some new) (d.channels h)))
       (λ z f. let g = r.makers q i f in there (channel_name q i) g.0 g.1)
     where
@@ -85,10 +91,12 @@ module _ (m : Module) (k : Code) (n : ℕ) (d : Kept) (c : Config) (h : ChannelN
     from = r.from;
     tasks = all_tasks;
     channels = λ g.
-        channel_both (λ (x : Option Channel) (y : Option runs.Channel). option_map bare x ≡ y) h g (Some new) (d.channels g) (Some bare_new) (c.channels g)
+        channel_both (λ (x : Option Channel) (y : Option runs.Channel). option_map bare x ≡ y) h g (Some new) (d.channels g)
+        (Some bare_new) (c.channels g)
         (λ z. refl) (λ z. r.channels g);
     askers = λ x q. (λ f. (r.askers x q).0 (sym (askers_still x) ∙ f), λ f. askers_still x ∙ (r.askers x q).1 f);
-    ready = λ q. r.ready q ∙ moves_same (length m.types.items) d e (d.tasks q) (λ s x f g. ap (λ (o : Option Path). is_some o) (sym (askers_still (other x))));
+    ready = λ q. r.ready q ∙ moves_same (length m.types.items) d e (d.tasks q)
+        (λ s x f g. ap (λ (o : Option Path). is_some o) (sym (askers_still (other x))));
     makers = all_makers;
     clocks = r.clocks;
     forks = r.forks;
@@ -99,6 +107,8 @@ module _ (m : Module) (k : Code) (n : ℕ) (d : Kept) (c : Config) (h : ChannelN
   }
 
 -- so it is where the channel is made then
-pub opening : (m : Module) (k : Code) (n l : ℕ) (d : Kept) (c : Config) (h : ChannelName) (a : Tree) → Reflects m k n d c → c.channels h ≡ None → c.tasks h.maker ≡ None →
-    h.count ≡ suc (d.made h.maker) → d.made h.maker < l → n ≤ l → Reflects m k l (opened h a d) (with_channel h (record { declared = a; history = [] }) c)
+pub opening : (m : Module) (k : Code) (n l : ℕ) (d : Kept) (c : Config) (h : ChannelName) (a : Tree) → Reflects m k n d c →
+    c.channels h ≡ None → c.tasks h.maker ≡ None →
+    h.count ≡ suc (d.made h.maker) → d.made h.maker < l → n ≤ l →
+    Reflects m k l (opened h a d) (with_channel h (record { declared = a; history = [] }) c)
 opening m k n l d c h a r free away next few more = adding m k l d c h a [] (later m k n l d c r more) free away next few tt

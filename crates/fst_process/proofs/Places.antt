@@ -15,7 +15,8 @@ pub put_else : {X : Type 0} (p q : Path) (x : X) (f : Path → X) → same_path 
 put_else p q x f e = ap (λ b. if b then x else f q) e
 
 -- what holds of what is put there, and of what was at each other path
-pub put_cases : {X : Type 0} (P : X → Type 0) (p q : Path) (x : X) (f : Path → X) → (p ≡ q → P x) → (same_path p q ≡ false → P (f q)) → P (put_at p x f q)
+pub put_cases : {X : Type 0} (P : X → Type 0) (p q : Path) (x : X) (f : Path → X) → (p ≡ q → P x) →
+    (same_path p q ≡ false → P (f q)) → P (put_at p x f q)
 put_cases P p q x f g h = go (same_path p q) refl
   where
     go : (b : Bool) → same_path p q ≡ b → P (if b then x else f q)
@@ -32,7 +33,8 @@ put_both P p q x f y g h k = go (same_path p q) refl
     go false e = k e
 
 -- what holds at a channel's name, and at each other
-pub channel_cases : {X : Type 0} (P : X → Type 0) (g h : ChannelName) (x y : X) → (g ≡ h → P x) → (same_channel g h ≡ false → P y) →
+pub channel_cases : {X : Type 0} (P : X → Type 0) (g h : ChannelName) (x y : X) → (g ≡ h → P x) →
+    (same_channel g h ≡ false → P y) →
     P (if same_channel g h then x else y)
 channel_cases P g h x y f k = go (same_channel g h) refl
   where
@@ -41,7 +43,8 @@ channel_cases P g h x y f k = go (same_channel g h) refl
     go false e = k e
 
 -- so it is with two things
-pub channel_both : {X Y : Type 0} (P : X → Y → Type 0) (g h : ChannelName) (x x' : X) (y y' : Y) → (g ≡ h → P x y) → (same_channel g h ≡ false → P x' y') →
+pub channel_both : {X Y : Type 0} (P : X → Y → Type 0) (g h : ChannelName) (x x' : X) (y y' : Y) → (g ≡ h → P x y) →
+    (same_channel g h ≡ false → P x' y') →
     P (if same_channel g h then x else x') (if same_channel g h then y else y')
 channel_both P g h x x' y y' f k = go (same_channel g h) refl
   where

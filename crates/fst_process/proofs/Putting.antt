@@ -19,7 +19,8 @@ use Rattle.fst_process.proofs.Taking.{show, is_same, are_same, is_there, none_ke
 use Rattle.fst_process.proofs.Fewer.{Fine}
 use Rattle.fst_process.proofs.Ends.{moves_at, not_other, one_or_not, asker_own, asker_else, still_bare, bare_there, there_bare}
 
-module _ (m : Module) (k : Code) (n : ℕ) (d : Kept) (c : Config) (p : Path) (s : Slot) (t : Task) (r : Reflects m k n d c) (free : c.tasks p ≡ None)
+module _ (m : Module) (k : Code) (n : ℕ) (d : Kept) (c : Config) (p : Path) (s : Slot) (t : Task) (r : Reflects m k n d c)
+    (free : c.tasks p ≡ None)
     (is : IsTask m k d p s t) (clock : s.clock ≤ n) (forked : s.task.forked ≤ n) (fine : Fine m (show p t c)) where
   abbrev types : ℕ
   types = length m.types.items
@@ -40,18 +41,21 @@ module _ (m : Module) (k : Code) (n : ℕ) (d : Kept) (c : Config) (p : Path) (s
   not_ready : (q : Path) → p ≡ q → d.ready q ≡ false
   not_ready q z = r.ready q ∙ ap (moves_so types d) (ap d.tasks (sym z) ∙ none)
 
-  all_tasks : (e : Kept) → ((q : Path) → e.made q ≡ d.made q) → (q : Path) → AreTask m k e q (put_at p (Some s) d.tasks q) (put_at p (Some t) c.tasks q)
+  all_tasks : (e : Kept) → ((q : Path) → e.made q ≡ d.made q) →
+      (q : Path) → AreTask m k e q (put_at p (Some s) d.tasks q) (put_at p (Some t) c.tasks q)
   all_tasks e f q =
       put_both (AreTask m k e q) p q (Some s) d.tasks (Some t) c.tasks
       (λ z. is_same m k d e q s t (f q) (subst (λ o. IsTask m k d o s t) z is))
       (λ z. are_same m k d e q (d.tasks q) (c.tasks q) (f q) (r.tasks q))
 
   all_clocks : (q : Path) (u : Slot) → put_at p (Some s) d.tasks q ≡ Some u → u.clock ≤ n
-  all_clocks q u = put_cases (λ o. o ≡ Some u → u.clock ≤ n) p q (Some s) d.tasks (λ z a. subst (λ (w : Slot). w.clock ≤ n) (some_same a) clock) (λ z. r.clocks q u)
+  all_clocks q u = put_cases (λ o. o ≡ Some u → u.clock ≤ n) p q (Some s) d.tasks
+      (λ z a. subst (λ (w : Slot). w.clock ≤ n) (some_same a) clock) (λ z. r.clocks q u)
 
   all_forks : (q : Path) (u : Slot) → put_at p (Some s) d.tasks q ≡ Some u → u.task.forked ≤ n
   all_forks q u =
-      put_cases (λ o. o ≡ Some u → u.task.forked ≤ n) p q (Some s) d.tasks (λ z a. subst (λ (w : Slot). w.task.forked ≤ n) (some_same a) forked) (λ z. r.forks q u)
+      put_cases (λ o. o ≡ Some u → u.task.forked ≤ n) p q (Some s) d.tasks
+      (λ z a. subst (λ (w : Slot). w.task.forked ≤ n) (some_same a) forked) (λ z. r.forks q u)
 
   -- where the task asks at no end
   module _ (none_asked : end_of s.request ≡ None) where
@@ -63,7 +67,8 @@ module _ (m : Module) (k : Code) (n : ℕ) (d : Kept) (c : Config) (p : Path) (s
           (λ z a. (r.askers x q).1 (b.0, a, b.2)) b.1,
     )
 
-    able_ready : (b : Bool) → ((e : Kept) → moves_with types e s.request ≡ b) → (q : Path) → marked b p d.ready q ≡ moves_so types placed (put_at p (Some s) d.tasks q)
+    able_ready : (b : Bool) → ((e : Kept) → moves_with types e s.request ≡ b) →
+        (q : Path) → marked b p d.ready q ≡ moves_so types placed (put_at p (Some s) d.tasks q)
     able_ready true f q =
         put_both (λ b o. b ≡ moves_so types placed o) p q true d.ready (Some s) d.tasks (λ z. sym (f placed))
         (λ z. r.ready q ∙ moves_same types d placed (d.tasks q) (λ u x a b. refl))
@@ -144,7 +149,8 @@ module _ (m : Module) (k : Code) (n : ℕ) (d : Kept) (c : Config) (p : Path) (s
     rest_moves : (q : Path) → (partner d x ≡ Some q → ⊥) → d.ready q ≡ moves_so types e (d.tasks q)
     rest_moves q g = r.ready q ∙ moves_same types d e (d.tasks q) same
       where
-        same : (u : Slot) (y : EndName) → d.tasks q ≡ Some u → end_of u.request ≡ Some y → is_some (partner d y) ≡ is_some (partner e y)
+        same : (u : Slot) (y : EndName) → d.tasks q ≡ Some u → end_of u.request ≡ Some y →
+            is_some (partner d y) ≡ is_some (partner e y)
         same u y a b = elim (one_or_not x (other y)) [
           | inl f ↦ absurd (g (ap (asker d) (ap other f ∙ other-twice y) ∙ (r.askers y q).1 (u, a, b)))
           | inr f ↦ ap (λ (o : Option Path). is_some o) (sym (others (other y) f))
@@ -154,9 +160,11 @@ module _ (m : Module) (k : Code) (n : ℕ) (d : Kept) (c : Config) (p : Path) (s
     partner_moves : (q : Path) → partner d x ≡ Some q → true ≡ moves_so types e (d.tasks q)
     partner_moves q g =
         let a = (r.askers (other x) q).0 g in
-        sym (ap (moves_so types e) a.1 ∙ moves_at types e a.0.request (other x) a.2 ∙ ap (λ y. is_some (asker e y)) (other-twice x) ∙ ap (λ (o : Option Path). is_some o) own)
+        sym (ap (moves_so types e) a.1 ∙ moves_at types e a.0.request (other x) a.2 ∙ ap
+        (λ y. is_some (asker e y)) (other-twice x) ∙ ap (λ (o : Option Path). is_some o) own)
 
-    asking_ready : (o : Option Path) → partner d x ≡ o → (q : Path) → marked_both p o d.ready q ≡ moves_so types e (put_at p (Some s) d.tasks q)
+    asking_ready : (o : Option Path) → partner d x ≡ o →
+        (q : Path) → marked_both p o d.ready q ≡ moves_so types e (put_at p (Some s) d.tasks q)
     asking_ready None g q =
         put_cases (λ o. d.ready q ≡ moves_so types e o) p q (Some s) d.tasks
         (λ z. not_ready q z ∙ sym (own_moves ∙ ap (λ (o : Option Path). is_some o) g))
@@ -170,7 +178,8 @@ module _ (m : Module) (k : Code) (n : ℕ) (d : Kept) (c : Config) (p : Path) (s
 
     there_still : (h : ChannelName) (j : Channel) → d.channels h ≡ Some j → (i : Channel) × (e.channels h ≡ Some i)
     there_still h j a =
-        let b = there_bare (e.channels h) (option_map bare (d.channels h)) (bare j) (still_bare d x (Some p) h) (bare_there (d.channels h) j a) in
+        let b = there_bare (e.channels h) (option_map bare (d.channels h)) (bare j) (still_bare d x (Some p) h)
+        (bare_there (d.channels h) j a) in
         (b.0, b.1)
 
     asking_in : Reflects m k n e (show p t c)
@@ -185,7 +194,8 @@ module _ (m : Module) (k : Code) (n : ℕ) (d : Kept) (c : Config) (p : Path) (s
       forks = all_forks;
       makes = r.makes;
       stamps = λ h j a.
-          let b = there_bare (d.channels h) (option_map bare (e.channels h)) (bare j) (sym (still_bare d x (Some p) h)) (bare_there (e.channels h) j a) in
+          let b = there_bare (d.channels h) (option_map bare (e.channels h)) (bare j) (sym (still_bare d x (Some p) h))
+          (bare_there (e.channels h) j a) in
           subst (λ (i : runs.Channel). StampedTo n i.history) b.2 (r.stamps h b.0 b.1);
     }
 
@@ -199,4 +209,5 @@ module _ (m : Module) (k : Code) (n : ℕ) (d : Kept) (c : Config) (p : Path) (s
 
   -- what is kept is a configuration after a task is put in both
   pub put_in : Reflects m k n (settled types s d) (show p t c)
-  put_in = subst (λ o. Reflects m k n (noted types o s.request (record d { tasks = put_at o (Some s) d.tasks })) (show p t c)) (sym is.path) (by_request s.request refl)
+  put_in = subst (λ o. Reflects m k n (noted types o s.request (record d { tasks = put_at o (Some s) d.tasks })) (show p t c))
+      (sym is.path) (by_request s.request refl)

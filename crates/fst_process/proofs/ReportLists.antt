@@ -63,7 +63,8 @@ none_found p (e ∷ es) a = ap (λ o. cond (is_eq o) (Some e.1) (lookup (at_path
 -- ---- tasks that wait
 
 -- what holds of the paths of all keys holds of those of the tasks that wait
-waiting_keys : (P : Path → Type 0) (es : Slots) (w : Waiting) → AllByRecursion (λ (k : Key). P k.items) (keys_of es) → Contains (waiting_in es) w → P w.task
+waiting_keys : (P : Path → Type 0) (es : Slots) (w : Waiting) → AllByRecursion (λ (k : Key). P k.items) (keys_of es) →
+    Contains (waiting_in es) w → P w.task
 waiting_keys P [] w a h = absurd (none_in w h)
 waiting_keys P (e ∷ es) w a h = elim (Contains-append_cases (one_waiting e.0.items (end_of e.1.request)) (waiting_in es) w h) [
   | inl b ↦ one (end_of e.1.request) b
@@ -90,7 +91,8 @@ waiting_rises (e ∷ es) o =
     one None = tt
     one (Some x) = (λ y c. absurd (none_in y c), tt)
 
-    first : (o : Option EndName) (v w : Waiting) → AreBehind e.0.items es → Contains (one_waiting e.0.items o) v → Contains (waiting_in es) w → IsBefore v.task w.task
+    first : (o : Option EndName) (v w : Waiting) → AreBehind e.0.items es → Contains (one_waiting e.0.items o) v →
+        Contains (waiting_in es) w → IsBefore v.task w.task
     first None v w behind a b = absurd (none_in v a)
     first (Some x) v w behind a b = elim (first_or_rest (record { task = e.0.items; end = x }) [] v a) [
       | inl f ↦ subst (λ (z : Waiting). IsBefore z.task w.task) f (waiting_keys (λ p. IsBefore e.0.items p) es w behind b)
@@ -105,17 +107,19 @@ slot_else : (e : Key × rust_slot.Slot) (es : Slots) (p : Path) → at_path p e.
 slot_else e es p f = ap (λ b. option_map slot_of (cond b (Some e.1) (lookup (at_path p) es))) f
 
 -- a task that is listed is kept, and asks at the end
-pub listed_waits : (es : Slots) (p : Path) (x : EndName) → AreInOrder es → Contains (waiting_in es) (record { task = p; end = x }) →
+pub listed_waits : (es : Slots) (p : Path) (x : EndName) → AreInOrder es →
+    Contains (waiting_in es) (record { task = p; end = x }) →
     (s : Slot) × (slot_in es p ≡ Some s) × (end_of s.request ≡ Some x)
 listed_waits [] p x o h = absurd (none_in (record { task = p; end = x }) h)
-listed_waits (e ∷ es) p x o h = elim (Contains-append_cases (one_waiting e.0.items (end_of e.1.request)) (waiting_in es) (record { task = p; end = x }) h) [
-  | inl b ↦ one (end_of e.1.request) refl b
-  | inr b ↦
-      let both = in_order e es o in
-      let r = listed_waits es p x both.1 b in
-      let less = waiting_keys (λ q. slice_cmp nat_cmp e.0.items q ≡ Less) es (record { task = p; end = x }) both.0 b in
-      (r.0, slot_else e es p (apart_behind e.0.items p e.0 refl less) ∙ r.1, r.2)
-]
+listed_waits (e ∷ es) p x o h = elim (Contains-append_cases (one_waiting e.0.items (end_of e.1.request)) (waiting_in es)
+    (record { task = p; end = x }) h) [
+      | inl b ↦ one (end_of e.1.request) refl b
+      | inr b ↦
+          let both = in_order e es o in
+          let r = listed_waits es p x both.1 b in
+          let less = waiting_keys (λ q. slice_cmp nat_cmp e.0.items q ≡ Less) es (record { task = p; end = x }) both.0 b in
+          (r.0, slot_else e es p (apart_behind e.0.items p e.0 refl less) ∙ r.1, r.2)
+    ]
   where
     one : (o : Option EndName) → end_of e.1.request ≡ o → Contains (one_waiting e.0.items o) (record { task = p; end = x }) →
         (s : Slot) × (slot_in (e ∷ es) p ≡ Some s) × (end_of s.request ≡ Some x)
@@ -129,7 +133,8 @@ listed_waits (e ∷ es) p x o h = elim (Contains-append_cases (one_waiting e.0.i
     ]
 
 -- a task that is kept and asks at an end is listed
-pub waits_listed : (es : Slots) (p : Path) (x : EndName) (s : Slot) → slot_in es p ≡ Some s → end_of s.request ≡ Some x → Contains (waiting_in es) (record { task = p; end = x })
+pub waits_listed : (es : Slots) (p : Path) (x : EndName) (s : Slot) → slot_in es p ≡ Some s → end_of s.request ≡ Some x →
+    Contains (waiting_in es) (record { task = p; end = x })
 waits_listed [] p x s e f = absurd (none_some e)
 waits_listed (e ∷ es) p x s at f = go (λ (a : slot_in es p ≡ Some s). waits_listed es p x s a f) (at_path p e.0) refl
   where
@@ -170,32 +175,38 @@ at_history p n (j ∷ js) zero i e =
     zeros = omega arith
 at_history p n (j ∷ js) (suc k) i e =
     subst (λ l. Contains (histories_of p n (j ∷ js)) (history_of p (suc l) i)) more
-    (rest_in (history_of p (suc n) j) (histories_of p (suc n) js) (history_of p (suc (k + suc n)) i) (at_history p (suc n) js k i e))
+    (rest_in (history_of p (suc n) j) (histories_of p (suc n) js) (history_of p (suc (k + suc n)) i)
+    (at_history p (suc n) js k i e))
   where
     more : k + suc n ≡ suc k + n
     more = omega arith
 
-history_keys : (P : Path → Type 0) (es : Channels) (h : ChannelHistory) → AllByRecursion (λ (k : Key). P k.items) (keys_of es) → Contains (histories_in es) h → P h.name.maker
+history_keys : (P : Path → Type 0) (es : Channels) (h : ChannelHistory) → AllByRecursion (λ (k : Key). P k.items) (keys_of es) →
+    Contains (histories_in es) h → P h.name.maker
 history_keys P [] h a c = absurd (none_in h c)
 history_keys P (e ∷ es) h a c = elim (Contains-append_cases (histories_of e.0.items zero e.1.items) (histories_in es) h c) [
   | inl b ↦ let r = history_at e.0.items zero e.1.items h b in subst (λ (z : ChannelHistory). P z.name.maker) (sym r.3) a.0
   | inr b ↦ history_keys P es h a.1 b
 ]
 
-made_here : (e : Key × Vec rust_channel.Channel Global) (es : Channels) (p : Path) → at_path p e.0 ≡ true → made_in (e ∷ es) p ≡ e.1.items
+made_here : (e : Key × Vec rust_channel.Channel Global) (es : Channels) (p : Path) → at_path p e.0 ≡ true →
+    made_in (e ∷ es) p ≡ e.1.items
 made_here e es p f = ap (λ b. listed (cond b (Some e.1) (lookup (at_path p) es))) f
 
-made_else : (e : Key × Vec rust_channel.Channel Global) (es : Channels) (p : Path) → at_path p e.0 ≡ false → made_in (e ∷ es) p ≡ made_in es p
+made_else : (e : Key × Vec rust_channel.Channel Global) (es : Channels) (p : Path) → at_path p e.0 ≡ false →
+    made_in (e ∷ es) p ≡ made_in es p
 made_else e es p f = ap (λ b. listed (cond b (Some e.1) (lookup (at_path p) es))) f
 
 -- a channel that is listed is kept
 pub listed_kept : (es : Channels) (h : ChannelHistory) → AreInOrder es → Contains (histories_in es) h →
-    (i : rust_channel.Channel) × (numbered (made_in es h.name.maker) h.name.count ≡ Some (channel_of i)) × (h.declared ≡ i.declared) × (h.entries ≡ i.entries)
+    (i : rust_channel.Channel) × (numbered (made_in es h.name.maker) h.name.count ≡ Some (channel_of i)) ×
+    (h.declared ≡ i.declared) × (h.entries ≡ i.entries)
 listed_kept [] h o c = absurd (none_in h c)
 listed_kept (e ∷ es) h o c = elim (Contains-append_cases (histories_of e.0.items zero e.1.items) (histories_in es) h c) [
   | inl b ↦
       let r = history_at e.0.items zero e.1.items h b in
-      let name : h.name ≡ record { maker = e.0.items; count = suc r.0 } = ap (λ (z : ChannelHistory). z.name) r.3 ∙ (λ a. record { maker = e.0.items; count = suc (plain r.0 a) }) in
+      let name : h.name ≡ record { maker = e.0.items; count = suc r.0 } = ap (λ (z : ChannelHistory). z.name) r.3
+      ∙ (λ a. record { maker = e.0.items; count = suc (plain r.0 a) }) in
       let found = ap (λ (z : ChannelName). numbered (made_in (e ∷ es) z.maker) z.count) name
       ∙ ap (λ v. numbered v (suc r.0)) (made_here e es e.0.items (at_itself e.0))
       ∙ ap (option_map channel_of) r.2 in
@@ -204,7 +215,8 @@ listed_kept (e ∷ es) h o c = elim (Contains-append_cases (histories_of e.0.ite
       let both = in_order e es o in
       let r = listed_kept es h both.1 b in
       let less = history_keys (λ q. slice_cmp nat_cmp e.0.items q ≡ Less) es h both.0 b in
-      let found = ap (λ v. numbered v h.name.count) (made_else e es h.name.maker (apart_behind e.0.items h.name.maker e.0 refl less)) ∙ r.1 in
+      let found = ap (λ v. numbered v h.name.count)
+      (made_else e es h.name.maker (apart_behind e.0.items h.name.maker e.0 refl less)) ∙ r.1 in
       (r.0, found, r.2, r.3)
 ]
   where
@@ -229,21 +241,25 @@ kept_listed [] g j e = absurd (nothing g.count e)
     nothing : (n : ℕ) → numbered [] n ≡ Some j → ⊥
     nothing zero f = none_some f
     nothing (suc n) f = none_some f
-kept_listed (e ∷ es) g j at = go (λ (a : numbered (made_in es g.maker) g.count ≡ Some j). kept_listed es g j a) (at_path g.maker e.0) refl
+kept_listed (e ∷ es) g j at = go (λ (a : numbered (made_in es g.maker) g.count ≡ Some j). kept_listed es g j a)
+    (at_path g.maker e.0) refl
   where
     plain : (k : ℕ) → suc (k + zero) ≡ suc k
     plain k = omega arith
 
     go : (numbered (made_in es g.maker) g.count ≡ Some j →
-        (h : ChannelHistory) × Contains (histories_in es) h × (h.name ≡ g) × (h.declared ≡ j.declared) × (h.entries.items ≡ j.history)) →
+        (h : ChannelHistory) × Contains (histories_in es) h × (h.name ≡ g) × (h.declared ≡ j.declared) ×
+        (h.entries.items ≡ j.history)) →
         (b : Bool) → at_path g.maker e.0 ≡ b →
-        (h : ChannelHistory) × Contains (histories_in (e ∷ es)) h × (h.name ≡ g) × (h.declared ≡ j.declared) × (h.entries.items ≡ j.history)
+        (h : ChannelHistory) × Contains (histories_in (e ∷ es)) h × (h.name ≡ g) × (h.declared ≡ j.declared) ×
+        (h.entries.items ≡ j.history)
     go rest true f =
         let path : g.maker ≡ e.0.items = same_path-same g.maker e.0.items (sym (at_same g.maker e.0.items) ∙ f) in
         let r = numbered_some e.1.items g.count j (sym (ap (λ v. numbered v g.count) (made_here e es g.maker f)) ∙ at) in
         let c = at_history e.0.items zero e.1.items r.0 r.1 r.3 in (
           history_of e.0.items (suc (r.0 + zero)) r.1,
-          Contains-append_left (histories_of e.0.items zero e.1.items) (histories_in es) (history_of e.0.items (suc (r.0 + zero)) r.1) c,
+          Contains-append_left (histories_of e.0.items zero e.1.items) (histories_in es)
+              (history_of e.0.items (suc (r.0 + zero)) r.1) c,
           (λ i. record { maker = sym path i; count = (plain r.0 ∙ sym r.2) i }),
           ap (λ (z : Channel). z.declared) r.4,
           ap (λ (z : Channel). z.history) r.4,
@@ -253,17 +269,20 @@ kept_listed (e ∷ es) g j at = go (λ (a : numbered (made_in es g.maker) g.coun
         (r.0, Contains-append_right (histories_of e.0.items zero e.1.items) (histories_in es) r.0 r.1, r.2, r.3, r.4)
 
 -- the channels of one maker are in the order of their numbers
-histories_rise : (p : Path) (n : ℕ) (js : List rust_channel.Channel) → AreRising (λ (g h : ChannelHistory). ComesBefore g.name h.name) (histories_of p n js)
+histories_rise : (p : Path) (n : ℕ) (js : List rust_channel.Channel) → AreRising
+    (λ (g h : ChannelHistory). ComesBefore g.name h.name) (histories_of p n js)
 histories_rise p n [] = tt
 histories_rise p n (j ∷ js) = (
   λ h c.
       let r = history_at p (suc n) js h c in
-      subst (λ (z : ChannelHistory). ComesBefore (record { maker = p; count = suc n }) z.name) (sym r.3) (inr (refl, omega arith)),
+      subst (λ (z : ChannelHistory). ComesBefore (record { maker = p; count = suc n }) z.name) (sym r.3)
+      (inr (refl, omega arith)),
   histories_rise p (suc n) js,
 )
 
 -- all channels are in order
-pub channels_rise : (es : Channels) → AreInOrder es → AreRising (λ (g h : ChannelHistory). ComesBefore g.name h.name) (histories_in es)
+pub channels_rise : (es : Channels) → AreInOrder es → AreRising
+    (λ (g h : ChannelHistory). ComesBefore g.name h.name) (histories_in es)
 channels_rise [] o = tt
 channels_rise (e ∷ es) o =
     let both = in_order e es o in

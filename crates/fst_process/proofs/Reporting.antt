@@ -76,7 +76,8 @@ module _ (m : Module) (k : Code) (l : ℕ) (d : Kept) (c : Config) (r : Reflects
       (f.0, g.0, f.1, g.1, means_alike (code_of m.families.items k) x g.0 (h.3 m k f.0.state g.0 f.2.rests f.2.is_in g.1))
 
   -- a task that asks at an end waits
-  kept_waits : (p : Path) (x : EndName) → ((s : Slot) × (d.tasks p ≡ Some s) × (end_of s.request ≡ Some x)) → WaitsAt (program m) c p x
+  kept_waits : (p : Path) (x : EndName) → ((s : Slot) × (d.tasks p ≡ Some s) × (end_of s.request ≡ Some x)) →
+      WaitsAt (program m) c p x
   kept_waits p x h =
       let f = is_there m k d p (d.tasks p) (c.tasks p) h.0 (r.tasks p) h.1 in (
         f.0,
@@ -88,7 +89,8 @@ module _ (m : Module) (k : Code) (l : ℕ) (d : Kept) (c : Config) (r : Reflects
       )
 
   -- and a task that waits asks there
-  waits_kept : (p : Path) (x : EndName) → WaitsAt (program m) c p x → (s : Slot) × (d.tasks p ≡ Some s) × (end_of s.request ≡ Some x)
+  waits_kept : (p : Path) (x : EndName) → WaitsAt (program m) c p x → (s : Slot) × (d.tasks p ≡ Some s) ×
+      (end_of s.request ≡ Some x)
   waits_kept p x h =
       let f = is_kept m k d p (d.tasks p) (c.tasks p) h.0 (r.tasks p) h.1 in (
         f.0,
@@ -124,14 +126,18 @@ reported k n r result waiting order channels channel_order events = λ m code l 
         subst (λ ws. Contains ws (record { task = p; end = x })) (sym waiting)
         (waits_listed k.tasks.entries p x s.0 (sym (live_there k.tasks.entries k.ended.items p live) ∙ s.1) s.2),
   );
-  waiting_order = subst (AreRising (λ (v w : Waiting). IsBefore v.task w.task)) (sym waiting) (waiting_rises k.tasks.entries order);
+  waiting_order = subst (AreRising (λ (v w : Waiting). IsBefore v.task w.task)) (sym waiting)
+      (waiting_rises k.tasks.entries order);
   channels = λ g j. (there m code l c h g j, back m code l c h g j);
-  channels_order = subst (AreRising (λ (i j : ChannelHistory). ComesBefore i.name j.name)) (sym channels) (channels_rise k.channels.entries channel_order);
+  channels_order = subst (AreRising (λ (i j : ChannelHistory). ComesBefore i.name j.name)) (sym channels)
+      (channels_rise k.channels.entries channel_order);
   events = events;
 }
   where
-    there : (m : Module) (code : Code) (l : ℕ) (c : Config) → Reflects m code l (kept_of k) c → (g : ChannelName) (j : runs.Channel) → c.channels g ≡ Some j →
-        (i : ChannelHistory) × Contains r.channels.items i × (i.name ≡ g) × (i.declared ≡ j.declared) × (i.entries.items ≡ j.history)
+    there : (m : Module) (code : Code) (l : ℕ) (c : Config) → Reflects m code l (kept_of k) c →
+        (g : ChannelName) (j : runs.Channel) → c.channels g ≡ Some j →
+        (i : ChannelHistory) × Contains r.channels.items i × (i.name ≡ g) × (i.declared ≡ j.declared) ×
+        (i.entries.items ≡ j.history)
     there m code l c h g j e =
         let f = there_bare ((kept_of k).channels g) (c.channels g) j (h.channels g) e in
         let o = kept_listed k.channels.entries g f.0 f.1 in (
@@ -142,11 +148,14 @@ reported k n r result waiting order channels channel_order events = λ m code l 
           o.4 ∙ ap (λ (z : runs.Channel). z.history) f.2,
         )
 
-    back : (m : Module) (code : Code) (l : ℕ) (c : Config) → Reflects m code l (kept_of k) c → (g : ChannelName) (j : runs.Channel) →
-        ((i : ChannelHistory) × Contains r.channels.items i × (i.name ≡ g) × (i.declared ≡ j.declared) × (i.entries.items ≡ j.history)) → c.channels g ≡ Some j
+    back : (m : Module) (code : Code) (l : ℕ) (c : Config) → Reflects m code l (kept_of k) c →
+        (g : ChannelName) (j : runs.Channel) →
+        ((i : ChannelHistory) × Contains r.channels.items i × (i.name ≡ g) × (i.declared ≡ j.declared) ×
+        (i.entries.items ≡ j.history)) → c.channels g ≡ Some j
     back m code l c h g j o =
         let f = listed_kept k.channels.entries o.0 channel_order (subst (λ hs. Contains hs o.0) channels o.1) in
         let at : (kept_of k).channels g ≡ Some (channel_of f.0) = ap (kept_of k).channels (sym o.2) ∙ f.1 in
         let declared : f.0.declared ≡ j.declared = sym f.2 ∙ o.3 in
         let history : f.0.entries.items ≡ j.history = ap (λ es. es.items) (sym f.3) ∙ o.4 in
-        sym (h.channels g) ∙ bare_there ((kept_of k).channels g) (channel_of f.0) at ∙ (λ a. Some (record { declared = declared a; history = history a }))
+        sym (h.channels g) ∙ bare_there ((kept_of k).channels g)
+        (channel_of f.0) at ∙ (λ a. Some (record { declared = declared a; history = history a }))

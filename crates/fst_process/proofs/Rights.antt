@@ -19,7 +19,8 @@ right_fine m c right = record {
 }
 
 -- a task that is there is not stuck
-pub right_alive : (m : Module) (c : Config) (p : Path) (t : Task) → IsRight (program m) c → c.tasks p ≡ Some t → pause m.families.items t.state ≡ stuck → ⊥
+pub right_alive : (m : Module) (c : Config) (p : Path) (t : Task) → IsRight (program m) c → c.tasks p ≡ Some t →
+    pause m.families.items t.state ≡ stuck → ⊥
 right_alive m c p t right e z =
     let f = right.asks p t e in
     none_some (sym (ap asked z) ∙ f.1)

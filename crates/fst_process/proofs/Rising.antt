@@ -25,7 +25,8 @@ pub none_in : {X : Type 0} (y : X) → Contains [] y → ⊥
 none_in y h = let l = h.1 in omega (arith, l)
 
 -- two lists in order are one, where all of the first come before all of the second
-pub rising_both : {X : Type 0} (R : X → X → Type 0) (xs ys : List X) → AreRising R xs → AreRising R ys → ((x y : X) → Contains xs x → Contains ys y → R x y) →
+pub rising_both : {X : Type 0} (R : X → X → Type 0) (xs ys : List X) → AreRising R xs → AreRising R ys →
+    ((x y : X) → Contains xs x → Contains ys y → R x y) →
     AreRising R (xs ++ ys)
 rising_both R [] ys r s h = s
 rising_both R (x ∷ xs) ys r s h = (

@@ -27,15 +27,23 @@ use Rattle.fst_process.proofs.Least.{is_least}
 use Rattle.fst_process.proofs.Rights.{right_fine}
 
 -- a run with one event more
-runs_more : (m : Program) (types : List Tree) (c : Config) (es : List CoreEvent) (d : Config) (e : CoreEvent) (w : Write) → Runs m types c es d → Does m types d e w →
+runs_more : (m : Program) (types : List Tree) (c : Config) (es : List CoreEvent) (d : Config) (e : CoreEvent) (w : Write) →
+    Runs m types c es d → Does m types d e w →
     Runs m types c (es ++ e ∷ []) (written d w)
 runs_more m types c [] d e w r f = (w, subst (λ z. Does m types z e w) r f, ap (λ z. written z w) r)
 runs_more m types c (g ∷ es) d e w r f = (r.0, r.1, runs_more m types (written c r.0) es d e w r.2 f)
 
 -- so it is with the least run
-least_more : (m : Program) (types : List Tree) (c : Config) (es : List CoreEvent) (d : Config) (e : CoreEvent) (w : Write) → RunsLeast m types c es d → Does m types d e w →
+least_more : (m : Program) (types : List Tree) (c : Config) (es : List CoreEvent) (d : Config) (e : CoreEvent) (w : Write) →
+    RunsLeast m types c es d → Does m types d e w →
     IsLeast m types d e → RunsLeast m types c (es ++ e ∷ []) (written d w)
-least_more m types c [] d e w r f l = (w, subst (λ z. Does m types z e w) r f, subst (λ z. IsLeast m types z e) r l, ap (λ z. written z w) r)
+least_more m types c [] d e w r f l = (
+  w,
+  subst (λ z. Does m types z e w) r f,
+  subst (λ z. IsLeast m types z e) r l,
+  ap
+      (λ z. written z w) r,
+)
 least_more m types c (g ∷ es) d e w r f l = (r.0, r.1, r.2, least_more m types (written c r.0) es d e w r.3 f l)
 
 one_longer : (es : List CoreEvent) (e : CoreEvent) → length (es ++ e ∷ []) ≡ suc (length es)
@@ -43,7 +51,8 @@ one_longer [] e = refl
 one_longer (g ∷ es) e = ap suc (one_longer es e)
 
 -- the least run as far as so many events
-shorter : (m : Program) (types : List Tree) (n : ℕ) (c : Config) (es : List CoreEvent) (d : Config) → RunsLeast m types c es d → n ≤ length es →
+shorter : (m : Program) (types : List Tree) (n : ℕ) (c : Config) (es : List CoreEvent) (d : Config) → RunsLeast m types c es d →
+    n ≤ length es →
     (fs : List CoreEvent) × (b : Config) × RunsLeast m types c fs b × (length fs ≡ n)
 shorter m types zero c es d r h = ([], c, refl, refl)
 shorter m types (suc n) c [] d r h = absurd (omega (arith, h))
@@ -63,11 +72,19 @@ pub record IsReached (m : Module) (k : Code) (b : Config) (before n : ℕ) (d : 
 -- so it is with each configuration that was kept at first and from which no run goes wrong
 abbrev pub IsKept : Code → ℕ → Kept → ℕ → Kept → Type 0
 IsKept k before o n d =
-    (m : Module) (b : Config) → Reflects m k before o b → HasMakers b → HasParents b → RunsRightFrom m b → IsReached m k b before n d
+    (m : Module) (b : Config) → Reflects m k before o b → HasMakers b → HasParents b → RunsRightFrom m b →
+    IsReached m k b before n d
 
 -- where no run goes wrong, the first configuration is right
 pub can_start : (k : Code) → CanRun k → CanStart k
-can_start k x = record { source = x.source; main = x.main; from = x.from; body = x.body; right = x.right [] (started x.main) refl }
+can_start k x = record {
+  source = x.source;
+  main = x.main;
+  from = x.from;
+  body = x.body;
+  right =
+      x.right [] (started x.main) refl;
+}
 
 -- and no run from it goes wrong
 pub can_run_from : (k : Code) (d : Kept) → IsBegun k d → CanRun k → CanRunFrom k zero d
@@ -83,7 +100,8 @@ can_run_from k d b x =
     }
 
 -- an answer from the first configuration is one of the module
-first_answer : (m : Module) (e : CoreTree) (steps : ℕ) (o : Outcome) → IsAnswerFrom m (started e) zero steps o → IsAnswer m e steps o
+first_answer : (m : Module) (e : CoreTree) (steps : ℕ) (o : Outcome) → IsAnswerFrom m (started e) zero steps o →
+    IsAnswer m e steps o
 first_answer m e steps (Done r) x =
     let none : zero + length x.0 ≡ length x.0 = omega arith in
     (x.0, x.1, x.2, x.3, subst (λ l. l ≤ steps) none x.4, subst (λ l. IsReport (program m) x.1 l r) none x.5)
@@ -92,7 +110,8 @@ first_answer m e steps OutOfSteps x =
     shorter (program m) m.types.items (suc steps) (started e) x.0 x.1 x.2 (omega (arith, over))
 
 -- so the answer of a run that has begun is the answer of the run
-pub answers_begun : (k : Code) (steps : ℕ) (d : Kept) (o : Outcome) → IsBegun k d → IsOutcomeFrom k zero steps d o → IsOutcome k steps o
+pub answers_begun : (k : Code) (steps : ℕ) (d : Kept) (o : Outcome) → IsBegun k d → IsOutcomeFrom k zero steps d o →
+    IsOutcome k steps o
 answers_begun k steps d o b answer = λ m e from body right.
     let named = named_start e in
     first_answer m e steps o (answer m (started e) (b m e from body (right [] (started e) refl)) named.0 named.1 right)
@@ -109,13 +128,15 @@ kept_first k n d = λ m b reflects makers parents right.
       fresh = (makers, parents);
     }
 
-module _ (m : Module) (k : Code) (b : Config) (before n : ℕ) (d : Kept) (x : IsReached m k b before n d) (right : RunsRightFrom m b) where
+module _ (m : Module) (k : Code) (b : Config) (before n : ℕ) (d : Kept) (x : IsReached m k b before n d)
+    (right : RunsRightFrom m b) where
   right_here : IsRight (program m) x.config
   right_here = right x.events x.config (least_runs (program m) m.types.items b x.events x.config x.runs)
 
   -- the next event is possible, and the least one
   abbrev Goes : CoreEvent → Type 0
-  Goes ev = (p : Path) × TakesPart p ev × IsLeast (program m) m.types.items x.config ev × (w : Write) × Does (program m) m.types.items x.config ev w
+  Goes ev = (p : Path) × TakesPart p ev × IsLeast (program m) m.types.items x.config ev ×
+      (w : Write) × Does (program m) m.types.items x.config ev w
 
   goes : (ev : CoreEvent) → IsNext d (Some ev) → Goes ev
   goes ev (inl f) = absurd (none_some (sym f.1))
@@ -124,10 +145,12 @@ module _ (m : Module) (k : Code) (b : Config) (before n : ℕ) (d : Kept) (x : I
       let same : g.0 ≡ ev = some_same (sym g.1 ∙ sym f.2) in
       subst Goes same (f.0, g.2, is_least m k n d x.config f.0 g.0 x.reflects g.2 f.1.none_before, g.3, g.4)
 
-  right_after : (ev : CoreEvent) (w : Write) → Does (program m) m.types.items x.config ev w → IsRight (program m) (written x.config w)
+  right_after : (ev : CoreEvent) (w : Write) → Does (program m) m.types.items x.config ev w →
+      IsRight (program m) (written x.config w)
   right_after ev w f =
       right (x.events ++ ev ∷ []) (written x.config w)
-      (runs_more (program m) m.types.items b x.events x.config ev w (least_runs (program m) m.types.items b x.events x.config x.runs) f)
+      (runs_more (program m) m.types.items b x.events x.config ev w
+      (least_runs (program m) m.types.items b x.events x.config x.runs) f)
 
   -- the next event is possible
   pub next_possible : (ev : CoreEvent) → IsNext d (Some ev) → n < 4294967295 → IsPossible k d ev
@@ -168,19 +191,24 @@ module _ (m : Module) (k : Code) (b : Config) (before n : ℕ) (d : Kept) (x : I
       absurd (none_some (f.2 ∙ g.1))
 
 -- the next event is possible where no run is known to go wrong
-pub possible_next : (k : Code) (before : ℕ) (o : Kept) (n : ℕ) (d : Kept) (ev : CoreEvent) → IsKept k before o n d → IsNext d (Some ev) → n < 4294967295 →
+pub possible_next : (k : Code) (before : ℕ) (o : Kept) (n : ℕ) (d : Kept) (ev : CoreEvent) → IsKept k before o n d →
+    IsNext d (Some ev) → n < 4294967295 →
     CanRunFrom k before o → IsPossible k d ev
 possible_next k before o n d ev kept next few x =
-    next_possible x.source k x.config before n d (kept x.source x.config x.reflects x.makers x.parents x.right) x.right ev next few
+    next_possible x.source k x.config before n d (kept x.source x.config x.reflects x.makers x.parents x.right) x.right ev next
+    few
 
 -- and what is kept after it is what the run has come to
-pub kept_next : (k : Code) (before : ℕ) (o : Kept) (n l : ℕ) (d f : Kept) (ev : CoreEvent) → IsKept k before o n d → IsNext d (Some ev) → Happens k d ev f → suc n ≡ l →
+pub kept_next : (k : Code) (before : ℕ) (o : Kept) (n l : ℕ) (d f : Kept) (ev : CoreEvent) → IsKept k before o n d →
+    IsNext d (Some ev) → Happens k d ev f → suc n ≡ l →
     IsKept k before o l f
 kept_next k before o n l d f ev kept next happens more = λ m b reflects makers parents right.
-    subst (λ z. IsReached m k b before z f) more (reached_next m k b before n d (kept m b reflects makers parents right) right ev f next happens)
+    subst (λ z. IsReached m k b before z f) more (reached_next m k b before n d
+    (kept m b reflects makers parents right) right ev f next happens)
 
 -- the report of what is kept is the answer where there is no next event
-pub answers_done : (k : Code) (before : ℕ) (o : Kept) (steps n : ℕ) (d : Kept) (r : Report) → IsKept k before o n d → IsNext d None → n ≤ steps → IsReported d n r →
+pub answers_done : (k : Code) (before : ℕ) (o : Kept) (steps n : ℕ) (d : Kept) (r : Report) → IsKept k before o n d →
+    IsNext d None → n ≤ steps → IsReported d n r →
     IsOutcomeFrom k before steps o (Done r)
 answers_done k before o steps n d r kept next few reported = λ m b reflects makers parents right.
     let x = kept m b reflects makers parents right in (
@@ -193,13 +221,15 @@ answers_done k before o steps n d r kept next few reported = λ m b reflects mak
     )
 
 -- and the answer after one event too many
-pub answers_out : (k : Code) (before : ℕ) (o : Kept) (steps n : ℕ) (d : Kept) → IsKept k before o n d → steps < n → IsOutcomeFrom k before steps o OutOfSteps
+pub answers_out : (k : Code) (before : ℕ) (o : Kept) (steps n : ℕ) (d : Kept) → IsKept k before o n d → steps < n →
+    IsOutcomeFrom k before steps o OutOfSteps
 answers_out k before o steps n d kept over = λ m b reflects makers parents right.
     let x = kept m b reflects makers parents right in
     (x.events, x.config, x.runs, subst (λ l. steps < l) (sym x.many) over)
 
 -- what is kept is some configuration
-pub some_config : (k : Code) (before : ℕ) (o : Kept) (n : ℕ) (d : Kept) → IsKept k before o n d → n < 4294967295 → CanRunFrom k before o → IsConfig d
+pub some_config : (k : Code) (before : ℕ) (o : Kept) (n : ℕ) (d : Kept) → IsKept k before o n d → n < 4294967295 →
+    CanRunFrom k before o → IsConfig d
 some_config k before o n d kept few x =
     let y = kept x.source x.config x.reflects x.makers x.parents x.right in
     record { source = x.source; code = k; events = n; config = y.config; reflects = y.reflects; few = few }

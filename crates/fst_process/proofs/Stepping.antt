@@ -22,7 +22,8 @@ use Rattle.fst_process.proofs.Taking.{is_kept}
 use Rattle.fst_process.proofs.Going.{IsOf}
 
 -- a task that asks for something is kept as one that has not ended
-pub there_live : (m : Module) (k : Code) (n : ℕ) (d : Kept) (c : Config) (p : Path) (t : Task) (q : Request) → Reflects m k n d c → Asks (program m) c p t q →
+pub there_live : (m : Module) (k : Code) (n : ℕ) (d : Kept) (c : Config) (p : Path) (t : Task) (q : Request) →
+    Reflects m k n d c → Asks (program m) c p t q →
     has_ended q ≡ false → is_live (d.tasks p) ≡ true
 there_live m k n d c p t q r asks e =
     let f = is_kept m k d p (d.tasks p) (c.tasks p) t (r.tasks p) asks.0 in
@@ -30,7 +31,8 @@ there_live m k n d c p t q r asks e =
     ap (λ o. is_live o) f.1 ∙ ap (λ z. not (has_ended z)) same ∙ ap not e
 
 -- what takes an answer has not ended
-takes_none : (m : Program) (x : Pause) (a : Answer) (u : State) (q : Request) → after m x a ≡ Some u → asked x ≡ Some q → has_ended q ≡ false
+takes_none : (m : Program) (x : Pause) (a : Answer) (u : State) (q : Request) → after m x a ≡ Some u → asked x ≡ Some q →
+    has_ended q ≡ false
 takes_none m stuck a u q e f = absurd (none_some f)
 takes_none m (calls b env v fs) a u q e f = sym (ap has_ended (some_same f))
 takes_none m (uses g fs) a u q e f = sym (ap has_ended (some_same f))
@@ -42,14 +44,16 @@ takes_none m (matches x bs env fs) a u q e f = sym (ap has_ended (some_same f))
 takes_none m (ended v) a u q e f = absurd (none_some e)
 
 -- and it is what is kept
-pub its_task : (m : Module) (k : Code) (n : ℕ) (d : Kept) (c : Config) (p : Path) (s : Slot) (t : Task) → Reflects m k n d c → d.tasks p ≡ Some s → c.tasks p ≡ Some t →
+pub its_task : (m : Module) (k : Code) (n : ℕ) (d : Kept) (c : Config) (p : Path) (s : Slot) (t : Task) → Reflects m k n d c →
+    d.tasks p ≡ Some s → c.tasks p ≡ Some t →
     IsTask m k d p s t
 its_task m k n d c p s t r there e =
     let f = is_kept m k d p (d.tasks p) (c.tasks p) t (r.tasks p) e in
     subst (λ z. IsTask m k d p z t) (some_same (sym f.1 ∙ there)) f.2
 
 -- how what a task is in becomes what it is in after an answer
-module _ (m : Module) (k : Code) (d : Kept) (p : Path) (s : Slot) (t : Task) (from : IsFrom m k) (is : IsTask m k d p s t) (a : Answer) (u : State)
+module _ (m : Module) (k : Code) (d : Kept) (p : Path) (s : Slot) (t : Task) (from : IsFrom m k) (is : IsTask m k d p s t)
+    (a : Answer) (u : State)
     (told : answered (program m) t.state a ≡ Some u) (alive : pause m.families.items u ≡ stuck → ⊥) where
   -- it takes the answer
   takes : (a ≡ Forked → s.task.forked < 4294967295) → Takes k s.task a
@@ -74,7 +78,8 @@ module _ (m : Module) (k : Code) (d : Kept) (p : Path) (s : Slot) (t : Task) (fr
   next_after v g q e = record { source = m; from = from; state = u; is_in = is_after v g; next = (q, e) }
 
   -- it can go on where it is kept and can move
-  pub can_go_on : (e : Kept) → e.tasks p ≡ Some s → e.ready p ≡ true → s.clock < 4294967295 → (a ≡ Forked → s.task.forked < 4294967295) →
+  pub can_go_on : (e : Kept) → e.tasks p ≡ Some s → e.ready p ≡ true → s.clock < 4294967295 →
+      (a ≡ Forked → s.task.forked < 4294967295) →
       (q : Request) → request m.families.items u ≡ Some q → CanGoOn k e p a
   can_go_on e there moves clock few q asks = record {
     slot = s;
@@ -88,7 +93,8 @@ module _ (m : Module) (k : Code) (d : Kept) (p : Path) (s : Slot) (t : Task) (fr
   }
 
   -- put in again, it is the task in that state
-  pub is_of : (v : TaskView) (l : ℕ) (e f : Kept) (made clock forked : ℕ) → GoesOn k s.task a v → (z : Settles k v l e f) → l ≡ clock → forked_after a t.forked ≡ forked →
+  pub is_of : (v : TaskView) (l : ℕ) (e f : Kept) (made clock forked : ℕ) → GoesOn k s.task a v →
+      (z : Settles k v l e f) → l ≡ clock → forked_after a t.forked ≡ forked →
       IsOf m k p z.slot (record { state = u; made = made; forked = forked; clock = clock })
   is_of v l e f made clock forked g z same grown = record {
     path = z.stays.path ∙ g.path ∙ is.path;
@@ -108,11 +114,13 @@ settles_gone k p a n d e g path = record {
   asked = g.moves_on.asked;
   rests = g.moves_on.rests;
   clock = g.moves_on.clock;
-  after = g.after ∙ ap (λ q. settled_at (length k.types.items) q g.now (without p d)) (sym (g.moves_on.stays.path ∙ g.moves_on.goes_on.path ∙ path));
+  after = g.after ∙ ap (λ q. settled_at (length k.types.items) q g.now (without p d))
+      (sym (g.moves_on.stays.path ∙ g.moves_on.goes_on.path ∙ path));
 }
 
 -- what is kept after a task is put in, by the number of types of the module
-pub settled_types : (m : Module) (k : Code) (v : TaskView) (l : ℕ) (e f : Kept) → IsFrom m k → (z : Settles k v l e f) → f ≡ settled (length m.types.items) z.slot e
+pub settled_types : (m : Module) (k : Code) (v : TaskView) (l : ℕ) (e f : Kept) → IsFrom m k →
+    (z : Settles k v l e f) → f ≡ settled (length m.types.items) z.slot e
 settled_types m k v l e f from z = z.after ∙ ap (λ ts. settled (length ts) z.slot e) from.same_types
 
 -- a clock that counts one event more
@@ -124,9 +132,11 @@ pub next_clock : (i j : ℕ) → i ≡ j → max (suc i) zero ≡ suc j
 next_clock i j e = omega (arith, e)
 
 -- a clock in bounds
-pub clock_few : (k : Code) (d : Kept) (p : Path) (s : Slot) (e : CoreEvent) → d.tasks p ≡ Some s → IsPossible k d e → s.clock < 4294967295
+pub clock_few : (k : Code) (d : Kept) (p : Path) (s : Slot) (e : CoreEvent) → d.tasks p ≡ Some s → IsPossible k d e →
+    s.clock < 4294967295
 clock_few k d p s e there x = let c = x.reflects.clocks p s there in let f = x.few in omega (arith, c, f)
 
 -- even where the event is merely known to be possible
-pub clock_within : (k : Code) (d : Kept) (p : Path) (s : Slot) (e : CoreEvent) → d.tasks p ≡ Some s → ∥ IsPossible k d e ∥₁ → s.clock < 4294967295
+pub clock_within : (k : Code) (d : Kept) (p : Path) (s : Slot) (e : CoreEvent) → d.tasks p ≡ Some s → ∥ IsPossible k d e ∥₁ →
+    s.clock < 4294967295
 clock_within k d p s e there x = ∥∥₁_elim x le_prop (clock_few k d p s e there)

@@ -17,7 +17,8 @@ use Rattle.fst_process.specs.KeptOf.{at_path}
 
 -- paths are ordered as equal where they are the same
 pub at_same : (p q : Path) → is_eq (slice_cmp nat_cmp p q) ≡ same_path p q
-at_same p q = same_from_slice_cmp nat_cmp is_eq same_path refl (λ _ _. refl) (λ _ _. refl) (λ x y xs ys o h. grind (arith, nat_tests)) p q (slice_cmp nat_cmp p q) refl
+at_same p q = same_from_slice_cmp nat_cmp is_eq same_path refl (λ _ _. refl) (λ _ _. refl)
+    (λ x y xs ys o h. grind (arith, nat_tests)) p q (slice_cmp nat_cmp p q) refl
 
 -- the keys of maps and sets
 abbrev pub Key : Type 0
@@ -38,7 +39,8 @@ other_key p q k f e =
     at_same q k.items ∙ ap (same_path q) (sym same) ∙ nat_list_eq_equiv.symm q p ∙ f
 
 -- what a map finds once a path has this value, or none
-pub found_after : {X : Type 0} (p : Path) (old new : List (Key × X)) (w : Option X) → lookup (at_path p) new ≡ w → KeepsOthers same_key (at_path p) old new → (q : Path) →
+pub found_after : {X : Type 0} (p : Path) (old new : List (Key × X)) (w : Option X) → lookup (at_path p) new ≡ w →
+    KeepsOthers same_key (at_path p) old new → (q : Path) →
     lookup (at_path q) new ≡ put_at p w (λ o. lookup (at_path o) old) q
 unfolding KeepsOthers
 found_after p old new w here others q = by (same_path p q) refl
@@ -48,7 +50,8 @@ found_after p old new w here others q = by (same_path p q) refl
     by false e = others (at_path q) (one_key q) (λ k. other_key p q k e)
 
 -- and what a set has
-pub has_after : (p : Path) (old new : List Key) (b : Bool) → list_any (at_path p) new ≡ b → KeepsOtherKeys same_key (at_path p) old new → (q : Path) →
+pub has_after : (p : Path) (old new : List Key) (b : Bool) → list_any (at_path p) new ≡ b →
+    KeepsOtherKeys same_key (at_path p) old new → (q : Path) →
     list_any (at_path q) new ≡ put_at p b (λ o. list_any (at_path o) old) q
 unfolding KeepsOtherKeys
 has_after p old new b here others q = by (same_path p q) refl
@@ -58,7 +61,8 @@ has_after p old new b here others q = by (same_path p q) refl
     by false e = others (at_path q) (one_key q) (λ k. other_key p q k e)
 
 -- a function of what is put at a path
-pub put_mapped : {X Y : Type 0} (f : X → Y) (p : Path) (x : X) (g : Path → X) (q : Path) → f (put_at p x g q) ≡ put_at p (f x) (λ o. f (g o)) q
+pub put_mapped : {X Y : Type 0} (f : X → Y) (p : Path) (x : X) (g : Path → X) (q : Path) → f (put_at p x g q) ≡ put_at p (f x)
+    (λ o. f (g o)) q
 put_mapped f p x g q = by (same_path p q)
   where
     by : (b : Bool) → f (if b then x else g q) ≡ (if b then f x else f (g q))

@@ -31,7 +31,8 @@ pub record IsPossible (k : Code) (d : Kept) (e : CoreEvent) : Type 0 where
 -- what is kept after the event is the configuration after it
 abbrev pub Happens : Code → Kept → CoreEvent → Kept → Type 0
 Happens k d e f =
-    (m : Module) (n : ℕ) (c : Config) (w : Write) → Reflects m k n d c → Does (program m) m.types.items c e w → IsRight (program m) (written c w) →
+    (m : Module) (n : ℕ) (c : Config) (w : Write) → Reflects m k n d c →
+    Does (program m) m.types.items c e w → IsRight (program m) (written c w) →
     HasMakers c → HasParents c → Reflects m k (suc n) f (written c w)
 
 -- the task has come to what it asks for, and is put in with that and this clock
@@ -81,4 +82,5 @@ pub record CanStart (k : Code) : Type 0 where
 
 -- what is kept is the first configuration of the module whose code this is, where that is right
 abbrev pub IsBegun : Code → Kept → Type 0
-IsBegun k d = (m : Module) (e : CoreTree) → IsFrom m k → main_body m.globals.items ≡ Some e → IsRight (program m) (started e) → Reflects m k zero d (started e)
+IsBegun k d = (m : Module) (e : CoreTree) → IsFrom m k → main_body m.globals.items ≡ Some e →
+    IsRight (program m) (started e) → Reflects m k zero d (started e)

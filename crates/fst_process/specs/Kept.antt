@@ -97,7 +97,8 @@ abbrev pub put_at : {X : Type 0} → Path → X → (Path → X) → Path → X
 put_at p x f q = if same_path p q then x else f q
 
 -- a value at one channel
-abbrev pub put_channel : ChannelName → Channel → (ChannelName → Option Channel) → ChannelName → Option Channel
+abbrev pub put_channel : ChannelName → Channel →
+    (ChannelName → Option Channel) → ChannelName → Option Channel
 put_channel h k f g = if same_channel h g then Some k else f g
 
 -- a task that can't move
@@ -110,7 +111,10 @@ without p d = record d { tasks = put_at p None d.tasks; ready = put_at p false d
 
 -- a channel is changed, if it is there
 abbrev pub changed : ChannelName → (Channel → Channel) → Kept → Kept
-changed h f d = record d { channels = λ g. if same_channel h g then option_map f (d.channels g) else d.channels g }
+changed h f d = record d {
+  channels =
+      λ g. if same_channel h g then option_map f (d.channels g) else d.channels g;
+}
 
 -- a task is marked, if this holds
 abbrev pub marked : Bool → Path → (Path → Bool) → Path → Bool
@@ -128,7 +132,8 @@ able b p d = record d { ready = marked b p d.ready }
 
 -- the task asks at the end, and can move with its partner if that is there
 abbrev pub asking : Path → EndName → Kept → Kept
-asking p x d = record (changed x.channel (with_asker x.side (Some p)) d) { ready = marked_both p (partner d x) d.ready }
+asking p x d = record (changed x.channel (with_asker x.side (Some p)) d)
+    { ready = marked_both p (partner d x) d.ready }
 
 -- what a task asks for is noted: where it can move, or at which end it asks
 abbrev pub noted : ℕ → Path → Request → Kept → Kept
@@ -153,7 +158,11 @@ nothing = record { tasks = λ p. None; channels = λ h. None; made = λ p. zero;
 
 -- a task has this channel besides those that it has made
 abbrev pub added : ChannelName → Channel → Kept → Kept
-added h j d = record d { channels = put_channel h j d.channels; made = put_at h.maker (suc (d.made h.maker)) d.made }
+added h j d = record d {
+  channels = put_channel h j d.channels;
+  made =
+      put_at h.maker (suc (d.made h.maker)) d.made;
+}
 
 -- a new channel of a task
 abbrev pub opened : ChannelName → Tree → Kept → Kept
@@ -161,4 +170,10 @@ opened h t d = added h (record { declared = t; history = []; left = None; right 
 
 -- an entry is added to a channel, and nobody asks at its ends any more
 abbrev pub passed : Entry → Channel → Channel
-passed e k = record { declared = k.declared; history = k.history ++ e ∷ []; left = None; right = None }
+passed e k = record {
+  declared = k.declared;
+  history = k.history ++ e ∷ [];
+  left = None;
+  right =
+      None;
+}

@@ -29,7 +29,13 @@ slot_of_ended t = record { task = t.task; request = Ended; clock = t.clock }
 
 -- what a channel keeps
 abbrev pub channel_of : rust_channel.Channel → Channel
-channel_of j = record { declared = j.declared; history = j.entries.items; left = j.left; right = j.right }
+channel_of j = record {
+  declared = j.declared;
+  history = j.entries.items;
+  left = j.left;
+  right =
+      j.right;
+}
 
 -- the keys of maps and sets
 abbrev pub Keys : Type 0
@@ -50,7 +56,8 @@ slot_in ss p = option_map slot_of (lookup (at_path p) ss)
 -- the last with this path of the tasks that have ended
 abbrev pub ended_in : List EndedTask → Path → Option Slot
 ended_in [] p = None
-ended_in (t ∷ ts) p = option_or (ended_in ts p) (if same_path t.task.path p then Some (slot_of_ended t) else None)
+ended_in (t ∷ ts) p = option_or (ended_in ts p)
+    (if same_path t.task.path p then Some (slot_of_ended t) else None)
 
 -- the task with this path, among those that have not ended or else among those that have
 abbrev pub tasks_in : Slots → List EndedTask → Path → Option Slot
@@ -88,6 +95,8 @@ abbrev pub kept_of : Config → Kept
 kept_of k = kept_in (tasks_in k.tasks.entries k.ended.items) k.channels.entries k.ready.keys
 
 -- in a list of channels the one with this number is changed, if it is there
-pub record IsChangedAt (n : ℕ) (f : Channel → Channel) (old new : List rust_channel.Channel) : Type 0 where
-  pub channels : (i : ℕ) → numbered new i ≡ (if nat_eq n i then option_map f (numbered old i) else numbered old i)
+pub record IsChangedAt (n : ℕ) (f : Channel → Channel)
+    (old new : List rust_channel.Channel) : Type 0 where
+  pub channels : (i : ℕ) → numbered new
+      i ≡ (if nat_eq n i then option_map f (numbered old i) else numbered old i)
   pub same_length : length new ≡ length old

@@ -33,7 +33,12 @@ waiting_in (e ∷ es) = one_waiting e.0.items (end_of e.1.request) ++ waiting_in
 
 -- a channel of the task with this path, with its number
 abbrev pub history_of : Path → ℕ → rust_channel.Channel → ChannelHistory
-history_of p n j = record { name = record { maker = p; count = n }; declared = j.declared; entries = j.entries }
+history_of p n j = record {
+  name = record { maker = p; count = n };
+  declared = j.declared;
+  entries =
+      j.entries;
+}
 
 -- the channels of the task with this path, which made so many before
 abbrev pub histories_of : Path → ℕ → List rust_channel.Channel → List ChannelHistory

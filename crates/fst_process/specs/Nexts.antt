@@ -32,9 +32,11 @@ pub record IsFirst (d : Kept) (p : Path) : Type 0 where
 
 -- the event is that of the first task that can move, and there is none where no task can
 abbrev pub IsNext : Kept → Option CoreEvent → Type 0
-IsNext d o = (((p : Path) → d.ready p ≡ false) × (o ≡ None)) ⊎ ((p : Path) × IsFirst d p × (o ≡ event_of d p))
+IsNext d o = (((p : Path) → d.ready p ≡ false) × (o ≡ None)) ⊎
+    ((p : Path) × IsFirst d p × (o ≡ event_of d p))
 
 -- the answer says whether the task can move, in each configuration that is kept and is right
 abbrev pub TellsMoving : Kept → Path → Bool → Type 0
 TellsMoving d p b =
-    (m : Module) (k : Code) (n : ℕ) (c : Config) → Reflects m k n d c → IsRight (program m) c → (b ≡ true) ↔ CanMove (program m) m.types.items c p
+    (m : Module) (k : Code) (n : ℕ) (c : Config) → Reflects m k n d c → IsRight (program m) c →
+    (b ≡ true) ↔ CanMove (program m) m.types.items c p

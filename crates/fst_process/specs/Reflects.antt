@@ -49,7 +49,8 @@ pub record Reflects (m : Module) (k : Code) (n : ℕ) (d : Kept) (c : Config) : 
   pub channels : (h : ChannelName) → option_map bare (d.channels h) ≡ c.channels h
   pub askers : (x : EndName) (p : Path) → (asker d x ≡ Some p) ↔ AsksAt d p x
   pub ready : (p : Path) → d.ready p ≡ moves (length m.types.items) d p
-  pub makers : (p : Path) (i : ℕ) → d.made p ≡ suc i → (j : Channel) × (d.channels (channel_name p i) ≡ Some j)
+  pub makers : (p : Path) (i : ℕ) → d.made p ≡ suc i → (j : Channel) ×
+      (d.channels (channel_name p i) ≡ Some j)
   pub clocks : (p : Path) (s : Slot) → d.tasks p ≡ Some s → s.clock ≤ n
   pub forks : (p : Path) (s : Slot) → d.tasks p ≡ Some s → s.task.forked ≤ n
   pub makes : (p : Path) → d.made p ≤ n

@@ -28,7 +28,8 @@ abbrev mutual
   IsAlike (tree.bool b) v = v ≡ value.bool b
   IsAlike (tree.char n) v = v ≡ value.char n
   IsAlike tree.unit v = v ≡ value.unit
-  IsAlike (tree.pair x y) v = (a : Value) × (b : Value) × (v ≡ value.pair a b) × IsAlike x a × IsAlike y b
+  IsAlike (tree.pair x y) v = (a : Value) × (b : Value) ×
+      (v ≡ value.pair a b) × IsAlike x a × IsAlike y b
   IsAlike (tree.make n o xs) v = (vs : Values) × (v ≡ value.made n o vs) × AreAlike xs vs
   IsAlike (tree.function l xs) v = (e : CoreTree) × (env : Environment) × (v ≡ value.function e env)
   IsAlike (tree.end x) v = v ≡ value.end x
@@ -42,8 +43,10 @@ abbrev mutual
 
 -- main has ended with this value, or it hasn't ended
 abbrev pub IsMainResult : Program → Config → Option ValueTree → Type 0
-IsMainResult m c None = (t : Task) (v : Value) → c.tasks main_path ≡ Some t → pause m.families t.state ≡ ended v → ⊥
-IsMainResult m c (Some x) = (t : Task) × (v : Value) × (c.tasks main_path ≡ Some t) × (pause m.families t.state ≡ ended v) × IsAlike x v
+IsMainResult m c None = (t : Task) (v : Value) → c.tasks main_path ≡ Some t →
+    pause m.families t.state ≡ ended v → ⊥
+IsMainResult m c (Some x) = (t : Task) × (v : Value) × (c.tasks main_path ≡ Some t) ×
+    (pause m.families t.state ≡ ended v) × IsAlike x v
 
 -- each of these things comes before those behind it
 abbrev pub AreRising : {X : Type 0} → (X → X → Type 0) → List X → Type 0
@@ -58,10 +61,12 @@ ComesBefore g h = IsBefore g.maker h.maker ⊎ ((g.maker ≡ h.maker) × (g.coun
 -- order of makers and numbers
 pub record IsReport (m : Program) (c : Config) (n : ℕ) (r : Report) : Type 0 where
   pub result : IsMainResult m c r.result
-  pub waiting : (p : Path) (x : EndName) → Contains r.waiting.items (record { task = p; end = x }) ↔ WaitsAt m c p x
+  pub waiting : (p : Path) (x : EndName) →
+      Contains r.waiting.items (record { task = p; end = x }) ↔ WaitsAt m c p x
   pub waiting_order : AreRising (λ v w. IsBefore v.task w.task) r.waiting.items
   pub channels : (h : ChannelName) (k : Channel) →
-      (c.channels h ≡ Some k) ↔ ((j : ChannelHistory) × Contains r.channels.items j × (j.name ≡ h) × (j.declared ≡ k.declared) × (j.entries.items ≡ k.history))
+      (c.channels h ≡ Some k) ↔ ((j : ChannelHistory) × Contains r.channels.items j × (j.name ≡ h) ×
+      (j.declared ≡ k.declared) × (j.entries.items ≡ k.history))
   pub channels_order : AreRising (λ j k. ComesBefore j.name k.name) r.channels.items
   pub events : r.events ≡ n
 
@@ -76,19 +81,24 @@ pub record IsConfig (d : Kept) : Type 0 where
 
 -- the report is that of each configuration that is kept
 abbrev pub IsReported : Kept → ℕ → Report → Type 0
-IsReported d n r = (m : Module) (k : Code) (l : ℕ) (c : Config) → Reflects m k l d c → IsReport (program m) c n r
+IsReported d n r = (m : Module) (k : Code) (l : ℕ) (c : Config) → Reflects m k l d c →
+    IsReport (program m) c n r
 
 -- what the least run of the module comes to within so many events
 abbrev pub IsAnswer : Module → CoreTree → ℕ → Outcome → Type 0
 IsAnswer m e steps (Done r) =
-    (es : List CoreEvent) × (c : Config) × RunsLeast (program m) m.types.items (started e) es c × IsLast (program m) m.types.items c ×
+    (es : List CoreEvent) × (c : Config) × RunsLeast (program m) m.types.items (started e) es c ×
+    IsLast (program m) m.types.items c ×
     (length es ≤ steps) × IsReport (program m) c (length es) r
-IsAnswer m e steps OutOfSteps = (es : List CoreEvent) × (c : Config) × RunsLeast (program m) m.types.items (started e) es c × (length es ≡ suc steps)
+IsAnswer m e steps OutOfSteps = (es : List CoreEvent) ×
+    (c : Config) × RunsLeast (program m) m.types.items (started e) es c × (length es ≡ suc steps)
 
 -- what the least run from a configuration comes to, where so many events before it count among the steps
 abbrev pub IsAnswerFrom : Module → Config → ℕ → ℕ → Outcome → Type 0
 IsAnswerFrom m b before steps (Done r) =
-    (es : List CoreEvent) × (c : Config) × RunsLeast (program m) m.types.items b es c × IsLast (program m) m.types.items c ×
+    (es : List CoreEvent) × (c : Config) × RunsLeast (program m) m.types.items b es c ×
+    IsLast (program m) m.types.items c ×
     (before + length es ≤ steps) × IsReport (program m) c (before + length es) r
 IsAnswerFrom m b before steps OutOfSteps =
-    (es : List CoreEvent) × (c : Config) × RunsLeast (program m) m.types.items b es c × (steps < before + length es)
+    (es : List CoreEvent) × (c : Config) × RunsLeast (program m) m.types.items b es c ×
+    (steps < before + length es)

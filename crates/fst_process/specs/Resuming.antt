@@ -34,7 +34,8 @@ AreApart (t ∷ ts) = (task_in ts t.0.path ≡ None) × AreApart ts
 
 -- the channel, if its name is this
 abbrev pub named_so : ChannelHistory → ChannelName → Option runs.Channel
-named_so h g = if same_channel h.name g then Some (record { declared = h.declared; history = h.entries.items }) else None
+named_so h g = if same_channel h.name g then Some
+    (record { declared = h.declared; history = h.entries.items }) else None
 
 -- the last of these channels that has this name
 abbrev pub channel_in : Histories → ChannelName → Option runs.Channel
@@ -49,11 +50,13 @@ made_by p (h ∷ hs) = if same_path h.name.maker p then suc (made_by p hs) else 
 -- where each task has made so many channels before, those that it has made here have the next numbers, in order
 abbrev pub AreNumbered : (Path → ℕ) → Histories → Type 0
 AreNumbered f [] = ⊤
-AreNumbered f (h ∷ hs) = (h.name.count ≡ suc (f h.name.maker)) × AreNumbered (put_at h.name.maker (suc (f h.name.maker)) f) hs
+AreNumbered f (h ∷ hs) = (h.name.count ≡ suc (f h.name.maker)) ×
+    AreNumbered (put_at h.name.maker (suc (f h.name.maker)) f) hs
 
 -- the task that is handed in with this clock is that of the configuration at its path, and has made those of the channels that
 -- have its path as their maker
-pub record IsThere (m : Module) (k : Code) (hs : Histories) (c : Config) (t : TaskView) (l : ℕ) : Type 0 where
+pub record IsThere (m : Module) (k : Code) (hs : Histories) (c : Config) (t : TaskView)
+    (l : ℕ) : Type 0 where
   pub task : Task
   pub there : c.tasks t.path ≡ Some task
   pub is_in : IsIn m k t task.state
@@ -95,7 +98,8 @@ pub record CanResume (k : Code) (ts : Tasks) (hs : Histories) : Type 0 where
 -- what is kept is each right configuration whose tasks and channels these are, after n events where no number is over n
 abbrev pub IsResumed : Code → Tasks → Histories → Kept → Type 0
 IsResumed k ts hs d =
-    (m : Module) (n : ℕ) (c : Config) → AreAll m k ts hs c → IsRight (program m) c → TasksWithin n ts → ChannelsWithin n hs → Reflects m k n d c
+    (m : Module) (n : ℕ) (c : Config) → AreAll m k ts hs c → IsRight (program m) c →
+    TasksWithin n ts → ChannelsWithin n hs → Reflects m k n d c
 
 -- a channel at whose ends no task asks yet
 abbrev pub unasked : ChannelHistory → Channel
@@ -104,7 +108,8 @@ unasked h = record { declared = h.declared; history = h.entries.items; left = No
 -- these channels are put in, each behind those of its maker
 abbrev pub restored : Histories → Kept → Kept
 restored [] d = d
-restored (h ∷ hs) d = restored hs (added (channel_name h.name.maker (d.made h.name.maker)) (unasked h) d)
+restored (h ∷ hs) d = restored hs (added (channel_name h.name.maker (d.made h.name.maker))
+    (unasked h) d)
 
 -- each of these tasks is in a state that has a next request
 abbrev pub HaveNext : Code → Tasks → Type 0

@@ -16,7 +16,8 @@ use Rattle.fst_process.specs.Reports.{IsAnswer, IsAnswerFrom}
 
 -- no run of the module from this configuration goes wrong
 abbrev pub RunsRightFrom : Module → Config → Type 0
-RunsRightFrom m b = (es : List CoreEvent) (c : Config) → Runs (program m) m.types.items b es c → IsRight (program m) c
+RunsRightFrom m b = (es : List CoreEvent) (c : Config) → Runs (program m) m.types.items b es c →
+    IsRight (program m) c
 
 -- no run of the module from main's body goes wrong
 abbrev pub RunsRight : Module → CoreTree → Type 0
@@ -32,7 +33,8 @@ pub record CanRun (k : Code) : Type 0 where
 
 -- what so many steps of the least run come to, of each module whose code this is and of which no run goes wrong
 abbrev pub IsOutcome : Code → ℕ → Outcome → Type 0
-IsOutcome k steps o = (m : Module) (e : CoreTree) → IsFrom m k → main_body m.globals.items ≡ Some e → RunsRight m e → IsAnswer m e steps o
+IsOutcome k steps o = (m : Module) (e : CoreTree) → IsFrom m k →
+    main_body m.globals.items ≡ Some e → RunsRight m e → IsAnswer m e steps o
 
 -- what is kept is a configuration of the module whose code this is, after n events, from which no run goes wrong
 pub record CanRunFrom (k : Code) (n : ℕ) (d : Kept) : Type 0 where
@@ -46,4 +48,5 @@ pub record CanRunFrom (k : Code) (n : ℕ) (d : Kept) : Type 0 where
 -- what the least run comes to from each such configuration, where the n events count among so many steps
 abbrev pub IsOutcomeFrom : Code → ℕ → ℕ → Kept → Outcome → Type 0
 IsOutcomeFrom k n steps d o =
-    (m : Module) (c : Config) → Reflects m k n d c → HasMakers c → HasParents c → RunsRightFrom m c → IsAnswerFrom m c n steps o
+    (m : Module) (c : Config) → Reflects m k n d c → HasMakers c → HasParents c →
+    RunsRightFrom m c → IsAnswerFrom m c n steps o

@@ -173,7 +173,8 @@ impl Config {
         clock: u64,
     ) -> Result<(), AllocError>
         requires { ∥ HasNext code.now task ∥₁ }
-        ensures settles { OnOk result (Settles code.now task clock (kept_of self.old) (kept_of self.new)) }
+        ensures settles { OnOk result (Settles code.now task clock (kept_of self.old)
+            (kept_of self.new)) }
         ensures events { self.new.events ≡ self.old.events }
     {
         let request = task.advance(code)?;
@@ -226,7 +227,8 @@ impl Config {
         least: u64,
     ) -> Result<(), AllocError>
         requires { ∥ CanGoOn code.now (kept_of self.old) path.now answer ∥₁ }
-        ensures { OnOk result (HasGoneOn code.now path.now answer least (kept_of self.old) (kept_of self.new)) }
+        ensures { OnOk result (HasGoneOn code.now path.now answer least (kept_of self.old)
+            (kept_of self.new)) }
     {
         match self.tasks.get_mut(path.as_slice()) {
             Some(slot) => {
@@ -256,7 +258,8 @@ impl Config {
     ) -> Result<usize, AllocError>
         ensures count { IfOk result (λ n. n ≡ suc ((kept_of self.old).made maker.now)) }
         ensures added { OnOk result (kept_of self.new ≡
-            added (channel_name maker.now ((kept_of self.old).made maker.now)) (channel_of channel) (kept_of self.old)) }
+            added (channel_name maker.now ((kept_of self.old).made maker.now)) (channel_of channel)
+            (kept_of self.old)) }
         ensures events { self.new.events ≡ self.old.events }
     {
         let mut channels = match self.channels.remove(maker.as_slice()) {
@@ -277,8 +280,10 @@ impl Config {
         declared: Ty,
     ) -> Result<ChannelName, AllocError>
         requires { (kept_of self.old).made maker.now < 4294967295 }
-        ensures name { IfOk result (λ h. h ≡ channel_name maker.now ((kept_of self.old).made maker.now)) }
-        ensures opened { IfOk result (λ h. kept_of self.new ≡ opened h declared (kept_of self.old)) }
+        ensures name { IfOk result (λ h. h ≡ channel_name maker.now
+            ((kept_of self.old).made maker.now)) }
+        ensures opened { IfOk result (λ h. kept_of self.new ≡ opened h declared
+            (kept_of self.old)) }
     {
         let entries = Vec::new(self.alloc);
         let channel = Channel {
@@ -306,10 +311,12 @@ impl Config {
         requires got { got < 4294967295 }
         requires stamps { (j : _) → (kept_of self.old).channels channel.now ≡ Some j →
             last_stamp j.history < 4294967296 }
-        ensures stamp { IfOk result (λ stamp. (j : _) → (kept_of self.old).channels channel.now ≡ Some j →
+        ensures stamp { IfOk result (λ stamp. (j : _) →
+            (kept_of self.old).channels channel.now ≡ Some j →
             stamp ≡ suc (max (max sent got) (last_stamp j.history))) }
         ensures passed { IfOk result (λ stamp. kept_of self.new ≡ changed channel.now
-            (passed (record { event = event; stamp = stamp; sent = sent; got = got })) (kept_of self.old)) }
+            (passed (record { event = event; stamp = stamp; sent = sent; got = got }))
+            (kept_of self.old)) }
     {
         match self.channels.get_mut(channel.maker.as_slice()) {
             Some(channels) => {

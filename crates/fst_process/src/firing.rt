@@ -13,7 +13,8 @@ impl Config {
     pub fn fire(&mut self, code: &Code, event: &CoreEvent) -> Result<(), AllocError>
         requires possible { ∥ IsPossible code.now (kept_of self.old) event.now ∥₁ }
         requires few { self.old.events < 4294967295 }
-        ensures happens { OnOk result (Happens code.now (kept_of self.old) event.now (kept_of self.new)) }
+        ensures happens { OnOk result (Happens code.now (kept_of self.old) event.now
+            (kept_of self.new)) }
         ensures counted { OnOk result (self.new.events ≡ suc self.old.events) }
     {
         let events = self.events + 1;
@@ -40,7 +41,8 @@ impl Config {
     // A task makes a step alone.
     fn step(&mut self, code: &Code, path: &Path) -> Result<(), AllocError>
         requires { ∥ IsPossible code.now (kept_of self.old) (CoreEvent.Local path.now) ∥₁ }
-        ensures { OnOk result (Happens code.now (kept_of self.old) (CoreEvent.Local path.now) (kept_of self.new)) }
+        ensures { OnOk result (Happens code.now (kept_of self.old) (CoreEvent.Local path.now)
+            (kept_of self.new)) }
     {
         self.go_on(code, path, Answer::Go, 0)
     }
@@ -48,7 +50,8 @@ impl Config {
     // A task makes a channel.
     fn open(&mut self, code: &Code, path: &Path) -> Result<(), AllocError>
         requires { ∥ IsPossible code.now (kept_of self.old) (CoreEvent.New path.now) ∥₁ }
-        ensures { OnOk result (Happens code.now (kept_of self.old) (CoreEvent.New path.now) (kept_of self.new)) }
+        ensures { OnOk result (Happens code.now (kept_of self.old) (CoreEvent.New path.now)
+            (kept_of self.new)) }
     {
         match &self.slot(path).request {
             Request::New(number) => {
@@ -63,7 +66,8 @@ impl Config {
     // A task makes a task.
     fn fork(&mut self, code: &Code, path: &Path) -> Result<(), AllocError>
         requires { ∥ IsPossible code.now (kept_of self.old) (CoreEvent.Fork path.now) ∥₁ }
-        ensures { OnOk result (Happens code.now (kept_of self.old) (CoreEvent.Fork path.now) (kept_of self.new)) }
+        ensures { OnOk result (Happens code.now (kept_of self.old) (CoreEvent.Fork path.now)
+            (kept_of self.new)) }
     {
         let parent = self.slot(path);
         let clock = parent.clock;
@@ -80,7 +84,8 @@ impl Config {
         receiver: &Path,
         channel: &ChannelName,
     ) -> Result<(), AllocError>
-        requires { ∥ IsPossible code.now (kept_of self.old) (CoreEvent.Meet sender.now receiver.now channel.now) ∥₁ }
+        requires { ∥ IsPossible code.now (kept_of self.old)
+            (CoreEvent.Meet sender.now receiver.now channel.now) ∥₁ }
         ensures { OnOk result (Happens code.now (kept_of self.old)
             (CoreEvent.Meet sender.now receiver.now channel.now) (kept_of self.new)) }
     {

@@ -71,7 +71,8 @@ pub(crate) fn move_on(
     least: u64,
 ) -> Result<(), AllocError>
     requires takes { ∥ Takes code.now slot.old.task answer ∥₁ }
-    requires next { (u : TaskView) → GoesOn code.now slot.old.task answer u → ∥ HasNext code.now u ∥₁ }
+    requires next { (u : TaskView) → GoesOn code.now slot.old.task answer u →
+        ∥ HasNext code.now u ∥₁ }
     requires few { slot.old.clock < 4294967295 }
     ensures { OnOk result (MovesOn code.now answer least (slot_of slot.old) (slot_of slot.new)) }
 {
@@ -134,7 +135,8 @@ fn pass(channel: &mut Channel, entry: Entry) -> Result<(), AllocError>
 /// The task that asks at the other end, where these are the channels of its maker.
 pub(crate) fn partner_among<'a>(channels: &'a [Channel], end: &EndName) -> Option<&'a Path>
     ensures { option_copied result ≡
-        option_and_then (asker_at (opposite end.now.side)) (numbered channels.now end.now.channel.count) }
+        option_and_then (asker_at (opposite end.now.side))
+        (numbered channels.now end.now.channel.count) }
 {
     let count = end.channel.count as usize;
     if count == 0 || channels.len() < count {
@@ -151,8 +153,10 @@ pub(crate) fn ask_among(
     path: &Path,
 ) -> Result<Option<Path>, AllocError>
     ensures partner { IfOk result (λ o.
-        o ≡ option_and_then (asker_at (opposite end.now.side)) (numbered channels.old.items end.now.channel.count)) }
-    ensures asked { OnOk result (IsChangedAt end.now.channel.count (with_asker end.now.side (Some path.now))
+        o ≡ option_and_then (asker_at (opposite end.now.side))
+        (numbered channels.old.items end.now.channel.count)) }
+    ensures asked { OnOk result (IsChangedAt end.now.channel.count
+        (with_asker end.now.side (Some path.now))
         channels.old.items channels.new.items) }
 {
     let count = end.channel.count as usize;
@@ -179,7 +183,8 @@ pub(crate) fn record_among(
 ) -> Result<u64, AllocError>
     requires sent { sent < 4294967295 }
     requires got { got < 4294967295 }
-    requires stamps { (j : _) → numbered channels.old.items number ≡ Some j → last_stamp j.history < 4294967296 }
+    requires stamps { (j : _) → numbered channels.old.items number ≡ Some j →
+        last_stamp j.history < 4294967296 }
     ensures stamp { IfOk result (λ stamp. (j : _) → numbered channels.old.items number ≡ Some j →
         stamp ≡ suc (max (max sent got) (last_stamp j.history))) }
     ensures passed { IfOk result (λ stamp. IsChangedAt number

@@ -25,9 +25,11 @@ fn ask(
     end: &EndName,
     path: &Path,
 ) -> Result<Option<Path>, AllocError>
-    ensures partner { IfOk result (λ o. (ks : Keys) → o ≡ partner (kept_besides channels.old.entries ks) end.now) }
+    ensures partner { IfOk result (λ o. (ks : Keys) →
+        o ≡ partner (kept_besides channels.old.entries ks) end.now) }
     ensures asked { OnOk result ((ks : Keys) → kept_besides channels.new.entries ks ≡
-        changed end.now.channel (with_asker end.now.side (Some path.now)) (kept_besides channels.old.entries ks)) }
+        changed end.now.channel (with_asker end.now.side (Some path.now))
+        (kept_besides channels.old.entries ks)) }
 {
     match channels.get_mut(end.channel.maker.as_slice()) {
         Some(channels) => {
@@ -110,7 +112,8 @@ pub(crate) fn note_again(
 ) -> Result<(), AllocError>
     requires { (kept_besides channels.old.entries ready.old.keys).ready path.now ≡ true }
     ensures { OnOk result (kept_besides channels.new.entries ready.new.keys ≡
-        noted types path.now request.now (unable path.now (kept_besides channels.old.entries ready.old.keys))) }
+        noted types path.now request.now (unable path.now
+        (kept_besides channels.old.entries ready.old.keys))) }
 {
     if moves_alone(types, request) {
         return Ok(());

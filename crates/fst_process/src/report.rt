@@ -90,7 +90,8 @@ pub(crate) fn main_result(
     tasks: &mut BTreeMap<Vec<u32>, Slot>,
     ended: Vec<EndedTask>,
 ) -> Option<Value>
-    requires { (s : _) → tasks_in tasks.old.entries ended.items main_path ≡ Some s → s.request ≡ Request.Ended →
+    requires { (s : _) → tasks_in tasks.old.entries ended.items main_path ≡ Some s →
+        s.request ≡ Request.Ended →
         ∥ HasEnded s.task ∥₁ }
     ensures { IsEnd (tasks_in tasks.old.entries ended.items main_path) result }
 {

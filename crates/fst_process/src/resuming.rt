@@ -22,7 +22,8 @@ impl Config {
         events: u64,
     ) -> Result<Config, AllocError>
         requires { ∥ CanResume code.now tasks.items channels.items ∥₁ }
-        ensures resumed { IfOk result (λ v. IsResumed code.now tasks.items channels.items (kept_of v)) }
+        ensures resumed { IfOk result (λ v. IsResumed code.now tasks.items channels.items
+            (kept_of v)) }
         ensures events { IfOk result (λ v. v.events ≡ events) }
     {
         let mut config = Config::empty(alloc, events);
@@ -33,7 +34,8 @@ impl Config {
 
     // Puts channels in, each behind those of its maker.
     fn restore(&mut self, channels: Vec<ChannelHistory>) -> Result<(), AllocError>
-        ensures restored { OnOk result (kept_of self.new ≡ restored channels.items (kept_of self.old)) }
+        ensures restored { OnOk result (kept_of self.new ≡ restored channels.items
+            (kept_of self.old)) }
         ensures events { self.new.events ≡ self.old.events }
     {
         for history in channels {
@@ -56,7 +58,8 @@ impl Config {
     // Puts tasks in with their clocks and with what they ask for.
     fn settle_all(&mut self, code: &Code, tasks: Vec<(Task, u64)>) -> Result<(), AllocError>
         requires { ∥ HaveNext code.now tasks.items ∥₁ }
-        ensures settled { OnOk result (AreSettled code.now tasks.items (kept_of self.old) (kept_of self.new)) }
+        ensures settled { OnOk result (AreSettled code.now tasks.items (kept_of self.old)
+            (kept_of self.new)) }
         ensures events { self.new.events ≡ self.old.events }
     {
         for (task, clock) in tasks {

@@ -18,7 +18,9 @@ module _ {A B : Type 0} (more : List Lexeme → Bool) where
   unfolding andthen
   ends_then f g p ts y rest e = let a = bind_ok _ _ (y, rest) e in p a.0.0 a.0.1 y rest a.2
 
-pub ends_on : {A : Type 0} (more : List Lexeme → Bool) (test : Lexeme → Bool) (f g : Reader A) → Ends f more → ((ts : List Lexeme) (x : A) (rest : List Lexeme) → begins test ts ≡ false → g ts ≡ Ok (x, rest) → more rest ≡ false) → Ends (on test f g) more
+pub ends_on : {A : Type 0} (more : List Lexeme → Bool) (test : Lexeme → Bool) (f g : Reader A) → Ends f more →
+    ((ts : List Lexeme) (x : A) (rest : List Lexeme) → begins test ts ≡ false → g ts ≡ Ok (x, rest) → more rest ≡ false) →
+    Ends (on test f g) more
 unfolding on
 ends_on more test f g p q ts x rest e = elim (chosen _ _ _ _ e) [ inl h ↦ p (behind ts) x rest h.1 | inr h ↦ q ts x rest h.0 h.1 ]
 

@@ -3,7 +3,8 @@ use Rattle.std.proofs.Common.{◌≡◌, ℕ, suc, ◌≤◌, ◌<◌, List, [],
 use Rattle.fst_reading.specs.Faults.{IsWithinLimit}
 
 -- the first number over a limit stands at one place
-pub one_first : (limit : ℕ) (xs ys : List ℕ) (n m : ℕ) (zs ws : List ℕ) → xs ++ n ∷ zs ≡ ys ++ m ∷ ws → IsWithinLimit limit xs → IsWithinLimit limit ys → limit < n → limit < m → length xs ≡ length ys
+pub one_first : (limit : ℕ) (xs ys : List ℕ) (n m : ℕ) (zs ws : List ℕ) → xs ++ n ∷ zs ≡ ys ++ m ∷ ws → IsWithinLimit limit xs →
+    IsWithinLimit limit ys → limit < n → limit < m → length xs ≡ length ys
 one_first limit [] [] n m zs ws e p q a b = refl
 one_first limit [] (y ∷ ys) n m zs ws e p q a b = let head : n ≡ y = cc in absurd (omega (arith, head, q.0))
 one_first limit (x ∷ xs) [] n m zs ws e p q a b = let head : x ≡ m = cc in absurd (omega (arith, head, p.0))
@@ -12,7 +13,8 @@ one_first limit (x ∷ xs) (y ∷ ys) n m zs ws e p q a b =
     ap suc (one_first limit xs ys n m zs ws tail p.1 q.1 a b)
 
 -- a number over a limit stands behind those in front that aren't
-pub first_behind : (limit : ℕ) (xs ys : List ℕ) (n : ℕ) (zs ws : List ℕ) → xs ++ n ∷ zs ≡ ys ++ ws → IsWithinLimit limit ys → limit < n → length ys ≤ length xs
+pub first_behind : (limit : ℕ) (xs ys : List ℕ) (n : ℕ) (zs ws : List ℕ) → xs ++ n ∷ zs ≡ ys ++ ws → IsWithinLimit limit ys →
+    limit < n → length ys ≤ length xs
 first_behind limit xs [] n zs ws e q a = omega arith
 first_behind limit [] (y ∷ ys) n zs ws e q a = let head : n ≡ y = cc in absurd (omega (arith, head, q.0))
 first_behind limit (x ∷ xs) (y ∷ ys) n zs ws e q a =

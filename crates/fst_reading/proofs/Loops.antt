@@ -28,13 +28,16 @@ begins_empty test f n ts =
     let k : n - 0 ≡ n = omega arith in
     rw k (with_none (sep_by_within test f n ts))
 
-module _ {A : Type 0} (test : Lexeme → Bool) (f : Reader A) (front : List A) (end i : ℕ) (rest : List Lexeme) (total : Result (List A × List Lexeme) Halt) where
+module _ {A : Type 0} (test : Lexeme → Bool) (f : Reader A) (front : List A) (end i : ℕ) (rest : List Lexeme)
+    (total : Result (List A × List Lexeme) Halt) where
   pub goes_on : (a : A) (after : List Lexeme) → i < end → f rest ≡ Ok (a, after) → begins test after ≡ true →
-      with_front front (sep_by_within test f (end - i) rest) ≡ total → with_front (front ++ a ∷ []) (sep_by_within test f (end - (i + 1)) (behind after)) ≡ total
+      with_front front (sep_by_within test f (end - i) rest) ≡ total →
+      with_front (front ++ a ∷ []) (sep_by_within test f (end - (i + 1)) (behind after)) ≡ total
   unfolding sep_by_within andthen map_reader on bind choose
   goes_on a after lt h comma so_far =
       let k : end - i ≡ suc (end - (i + 1)) = omega arith in
-      let one : with_front front (sep_by_within test f (end - i) rest) ≡ with_front (front ++ a ∷ []) (sep_by_within test f (end - (i + 1)) (behind after)) =
+      let one : with_front front (sep_by_within test f (end - i) rest) ≡ with_front (front ++ a ∷ [])
+      (sep_by_within test f (end - (i + 1)) (behind after)) =
       rw (k, h, comma) (regroup front a (sep_by_within test f (end - (i + 1)) (behind after))) in
       sym one ∙ so_far
 
@@ -53,7 +56,8 @@ module _ {A : Type 0} (test : Lexeme → Bool) (f : Reader A) (front : List A) (
       let one : with_front front (sep_by_within test f (end - i) rest) ≡ Err (Syntax rest) = rw k refl in
       sym so_far ∙ one
 
-  pub fails : (e : Stop) → i < end → Fails e (f rest) → with_front front (sep_by_within test f (end - i) rest) ≡ total → Fails e total
+  pub fails : (e : Stop) → i < end → Fails e (f rest) → with_front front (sep_by_within test f (end - i) rest) ≡ total →
+      Fails e total
   unfolding sep_by_within andthen bind
   fails stop.Memory lt h so_far = tt
   fails (stop.Syntax ts) lt h so_far =

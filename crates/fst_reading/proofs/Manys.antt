@@ -9,8 +9,10 @@ use Rattle.fst_reading.proofs.Sequences.{reads_then}
 use Rattle.fst_reading.proofs.Repeats.{reads_when}
 use Rattle.fst_base.specs.Choice.{choose}
 
-module _ {A : Type 0} (limit : ℕ) (test : Lexeme → Bool) (f : Reader A) (P : Phrase A) (more stop : List Lexeme → Bool) (r : Reads limit f P more)
-    (begun : (us : List Lexeme) (x : A) (ns : List ℕ) → P us x ns → (k : Lexeme) × (v : List Lexeme) × (us ≡ k ∷ v) × (test k ≡ true))
+module _ {A : Type 0} (limit : ℕ) (test : Lexeme → Bool) (f : Reader A) (P : Phrase A) (more stop : List Lexeme → Bool)
+    (r : Reads limit f P more)
+    (begun : (us : List Lexeme) (x : A) (ns : List ℕ) → P us x ns → (k : Lexeme) × (v : List Lexeme) × (us ≡ k ∷ v) ×
+    (test k ≡ true))
     (sign : (k : Lexeme) (ts : List Lexeme) → test k ≡ true → more (k ∷ ts) ≡ false)
     (end_ : (rest : List Lexeme) → stop rest ≡ false → (more rest ≡ false) × (begins test rest ≡ false)) where
   filled : (us : List Lexeme) (x : A) (ns : List ℕ) → P us x ns → 0 < length us
@@ -27,27 +29,33 @@ module _ {A : Type 0} (limit : ℕ) (test : Lexeme → Bool) (f : Reader A) (P :
   to : (n : ℕ) (us : List Lexeme) (ys : List A) (ns : List ℕ) → Either (Further n) (Give []) us ys ns → AtMost (suc n) us ys ns
   to n _ _ _ (one _ _ _ (pair ts us vs x ys ns ms ks p q parts nests)) = by_rest vs ys ks q parts nests
     where
-      by_rest : (vs : List Lexeme) (ys : List A) (ks : List ℕ) → Mapped (λ bs. x ∷ bs) (AtMost n) vs ys ks → ts ≡ us ++ vs → ns ≡ ms ++ ks → AtMost (suc n) ts ys ns
+      by_rest : (vs : List Lexeme) (ys : List A) (ks : List ℕ) → Mapped (λ bs. x ∷ bs) (AtMost n) vs ys ks → ts ≡ us ++ vs →
+          ns ≡ ms ++ ks → AtMost (suc n) ts ys ns
       by_rest _ _ _ (made vs xs ks q) parts nests = (some ts us vs x xs ns ms ks p q.0 parts nests, omega (arith, q.1))
   to n _ _ _ (other _ _ _ nothing) = (none, omega arith)
 
   from : (n : ℕ) (us : List Lexeme) (ys : List A) (ns : List ℕ) → AtMost (suc n) us ys ns → Either (Further n) (Give []) us ys ns
-  from n _ _ _ (some ts us vs x xs ns ms ks p q parts nests, le) = one ts (x ∷ xs) ns (pair ts us vs x (x ∷ xs) ns ms ks p (made vs xs ks (q, omega (arith, le))) parts nests)
+  from n _ _ _ (some ts us vs x xs ns ms ks p q parts nests, le) =
+      one ts (x ∷ xs) ns (pair ts us vs x (x ∷ xs) ns ms ks p (made vs xs ks (q, omega (arith, le))) parts nests)
   from n _ _ _ (none, le) = other [] [] [] nothing
 
-  opened : (n : ℕ) (us : List Lexeme) (ys : List A) (ns : List ℕ) (rest : List Lexeme) → Further n us ys ns → begins test (us ++ rest) ≡ true
+  opened : (n : ℕ) (us : List Lexeme) (ys : List A) (ns : List ℕ) (rest : List Lexeme) → Further n us ys ns →
+      begins test (us ++ rest) ≡ true
   opened n _ _ _ rest (pair ts us vs x y ns ms ks p q parts nests) =
       let b = begun us x ms p in
       ap (λ (w : List Lexeme). begins test (w ++ rest)) (parts ∙ ap (λ (w : List Lexeme). w ++ vs) b.2) ∙ b.3
 
-  free : (us : List Lexeme) (ys : List A) (ns : List ℕ) (rest : List Lexeme) → Give [] us ys ns → stop rest ≡ false → begins test (us ++ rest) ≡ false
+  free : (us : List Lexeme) (ys : List A) (ns : List ℕ) (rest : List Lexeme) → Give [] us ys ns → stop rest ≡ false →
+      begins test (us ++ rest) ≡ false
   free _ _ _ rest nothing st = (end_ rest st).1
 
-  next : (x : A) (n : ℕ) (vs : List Lexeme) (ys : List A) (ks : List ℕ) (rest : List Lexeme) → Mapped (λ bs. x ∷ bs) (AtMost n) vs ys ks → stop rest ≡ false → more (vs ++ rest) ≡ false
+  next : (x : A) (n : ℕ) (vs : List Lexeme) (ys : List A) (ks : List ℕ) (rest : List Lexeme) → Mapped
+      (λ bs. x ∷ bs) (AtMost n) vs ys ks → stop rest ≡ false → more (vs ++ rest) ≡ false
   next x n _ _ _ rest (made _ _ _ (none, le)) st = (end_ rest st).0
   next x n _ _ _ rest (made _ _ _ (some ts us vs y ys ns ms ks p q parts nests, le)) st =
       let b = begun us y ms p in
-      ap (λ (w : List Lexeme). more (w ++ rest)) (parts ∙ ap (λ (w : List Lexeme). w ++ vs) b.2) ∙ sign b.0 ((b.1 ++ vs) ++ rest) b.3
+      ap (λ (w : List Lexeme). more (w ++ rest)) (parts ∙ ap (λ (w : List Lexeme). w ++ vs) b.2)
+      ∙ sign b.0 ((b.1 ++ vs) ++ rest) b.3
 
   gives : Reads {A = List A} limit (give []) (Give []) stop
   gives = reads_until limit (give []) (Give []) never stop (reads_give limit []) (λ ts st. refl)
@@ -65,7 +73,8 @@ module _ {A : Type 0} (limit : ℕ) (test : Lexeme → Bool) (f : Reader A) (P :
   reads_within (suc n) =
       reads_as limit _ (Either (Further n) (Give [])) (AtMost (suc n)) stop
       (reads_when limit test _ (give []) (Further n) (Give []) stop
-      (reads_then limit f (λ a. map_reader (λ bs. a ∷ bs) (many_within test f n)) P (λ a. Mapped (λ bs. a ∷ bs) (AtMost n)) more stop
+      (reads_then limit f (λ a. map_reader (λ bs. a ∷ bs) (many_within test f n)) P
+      (λ a. Mapped (λ bs. a ∷ bs) (AtMost n)) more stop
       r (λ a. reads_mapped limit (λ bs. a ∷ bs) (many_within test f n) (AtMost n) stop (reads_within n))
       (λ a. record { tokens = []; value = a ∷ []; nests = []; phrase = made [] [] [] (none, omega arith) })
       filled (λ us x ns vs ys ms rest q st. next x n vs ys ms rest q st))
@@ -83,10 +92,13 @@ module _ {A : Type 0} (limit : ℕ) (test : Lexeme → Bool) (f : Reader A) (P :
   enough zero (suc m) (k ∷ ts) le le' = absurd (omega (arith, le))
   enough (suc n) zero [] le le' = refl
   enough (suc n) zero (k ∷ ts) le le' = absurd (omega (arith, le'))
-  enough (suc n) (suc m) ts le le' = ap (λ z. choose (begins test ts) z (Ok ([], ts))) (step (λ s a b. enough n m s a b) (f ts) refl)
+  enough (suc n) (suc m) ts le le' = ap (λ z. choose (begins test ts) z (Ok ([], ts)))
+      (step (λ s a b. enough n m s a b) (f ts) refl)
     where
-      step : ((s : List Lexeme) → length s ≤ n → length s ≤ m → many_within test f n s ≡ many_within test f m s) → (v : Result (A × List Lexeme) Halt) → f ts ≡ v →
-          bind (f ts) (λ x. bind (many_within test f n x.1) (kept x.0)) ≡ bind (f ts) (λ x. bind (many_within test f m x.1) (kept x.0))
+      step : ((s : List Lexeme) → length s ≤ n → length s ≤ m → many_within test f n s ≡ many_within test f m s) →
+          (v : Result (A × List Lexeme) Halt) → f ts ≡ v →
+          bind (f ts) (λ x. bind (many_within test f n x.1) (kept x.0)) ≡ bind (f ts)
+          (λ x. bind (many_within test f m x.1) (kept x.0))
       step inner (Ok x) e =
           let q = r.found ts x.0 x.1 e in
           let some = filled q.tokens x.0 q.nests q.phrase in
@@ -96,14 +108,24 @@ module _ {A : Type 0} (limit : ℕ) (test : Lexeme → Bool) (f : Reader A) (P :
 
   counts : (us : List Lexeme) (xs : List A) (ns : List ℕ) → Many P us xs ns → length xs ≤ length us
   counts _ _ _ none = omega arith
-  counts _ _ _ (some ts us vs x xs ns ms ks p q parts nests) = omega (arith, filled us x ms p, counts vs xs ks q, ap length parts, length-append us vs)
+  counts _ _ _ (some ts us vs x xs ns ms ks p q parts nests) =
+      omega (arith, filled us x ms p, counts vs xs ks q, ap length parts, length-append us vs)
 
   all_counted : (us : List Lexeme) (xs : List A) (ns : List ℕ) → Many P us xs ns → length ns ≡ length us
   all_counted _ _ _ none = refl
   all_counted _ _ _ (some ts us vs x xs ns ms ks p q parts nests) =
-      omega (arith, r.counted us x ms p, all_counted vs xs ks q, ap length parts, ap length nests, length-append us vs, length-append ms ks)
+      omega (
+        arith,
+        r.counted us x ms p,
+        all_counted vs xs ks q,
+        ap length parts,
+        ap length nests,
+        length-append us vs,
+        length-append ms ks,
+      )
 
-  same_outcome : (us : List Lexeme) (xs : List A) (ns : List ℕ) (rest : List Lexeme) → Outcome limit (many_within test f (length (us ++ rest))) us xs ns rest → Outcome limit (many test f) us xs ns rest
+  same_outcome : (us : List Lexeme) (xs : List A) (ns : List ℕ) (rest : List Lexeme) →
+      Outcome limit (many_within test f (length (us ++ rest))) us xs ns rest → Outcome limit (many test f) us xs ns rest
   same_outcome us xs ns rest (whole lows e) = whole lows e
   same_outcome us xs ns rest (deep pre v c lo highs m a b l o h g) = deep pre v c lo highs m a b l o h g
 
@@ -117,10 +139,26 @@ module _ {A : Type 0} (limit : ℕ) (test : Lexeme → Bool) (f : Reader A) (P :
 
   pub reads_many : Reads limit (many test f) (Many P) stop
   reads_many = record {
-    found = λ ts xs rest e. let q = (reads_within (length ts)).found ts xs rest e in record { tokens = q.tokens; nests = q.nests; parts = q.parts; phrase = q.phrase.0; low = q.low };
+    found = λ ts xs rest e. let q = (reads_within (length ts)).found ts xs rest e in
+        record { tokens = q.tokens; nests = q.nests; parts = q.parts; phrase = q.phrase.0; low = q.low };
     stopped = λ ts h e. let q = (reads_within (length ts)).stopped ts h e in
-        record { tokens = q.tokens; others = q.others; value = q.value; nests = q.nests; high = q.high; parts = q.parts; phrase = q.phrase.0; count = q.count; low = q.low; over = q.over; begins_so = q.begins_so };
-    reads = λ us xs ns rest q st. same_outcome us xs ns rest ((reads_within (length (us ++ rest))).reads us xs ns rest (q, omega (arith, counts us xs ns q, length-append us rest)) st);
+        record {
+          tokens = q.tokens;
+          others = q.others;
+          value = q.value;
+          nests = q.nests;
+          high = q.high;
+          parts = q.parts;
+          phrase =
+              q.phrase.0;
+          count = q.count;
+          low = q.low;
+          over = q.over;
+          begins_so = q.begins_so;
+        };
+    reads = λ us xs ns rest q st. same_outcome us xs ns rest
+        ((reads_within (length (us ++ rest))).reads us xs ns rest
+        (q, omega (arith, counts us xs ns q, length-append us rest)) st);
     alike = many_alike;
     counted = all_counted;
   }

@@ -23,24 +23,29 @@ reads_give limit x = record {
   counted = given_count;
 }
   where
-    given : (us : List Lexeme) (y : _) (ns : List ℕ) (rest : List Lexeme) → Give x us y ns → never rest ≡ false → Outcome limit (give x) us y ns rest
+    given : (us : List Lexeme) (y : _) (ns : List ℕ) (rest : List Lexeme) → Give x us y ns → never rest ≡ false →
+        Outcome limit (give x) us y ns rest
     given _ _ _ rest nothing stop = whole tt refl
 
     given_count : (us : List Lexeme) (y : _) (ns : List ℕ) → Give x us y ns → length ns ≡ length us
     given_count _ _ _ nothing = refl
 
 -- what a function makes of a phrase
-module _ {A B : Type 0} (limit : ℕ) (h : A → B) (f : Reader A) (P : Phrase A) (more : List Lexeme → Bool) (r : Reads limit f P more) where
-  mapped_alike : (k : Lexeme) (s s' w : List Lexeme) → SameUpTo k s s' (map_reader h f (w ++ k ∷ s)) (map_reader h f (w ++ k ∷ s'))
+module _ {A B : Type 0} (limit : ℕ) (h : A → B) (f : Reader A) (P : Phrase A) (more : List Lexeme → Bool)
+    (r : Reads limit f P more) where
+  mapped_alike : (k : Lexeme) (s s' w : List Lexeme) →
+      SameUpTo k s s' (map_reader h f (w ++ k ∷ s)) (map_reader h f (w ++ k ∷ s'))
   unfolding map_reader bind
   mapped_alike k s s' w = of_step (f (w ++ k ∷ s)) refl
     where
-      of_step : (v : Result _ Halt) → f (w ++ k ∷ s) ≡ v → SameUpTo k s s' (bind (f (w ++ k ∷ s)) (λ x. Ok (h x.0, x.1))) (bind (f (w ++ k ∷ s')) (λ x. Ok (h x.0, x.1)))
+      of_step : (v : Result _ Halt) → f (w ++ k ∷ s) ≡ v →
+          SameUpTo k s s' (bind (f (w ++ k ∷ s)) (λ x. Ok (h x.0, x.1))) (bind (f (w ++ k ∷ s')) (λ x. Ok (h x.0, x.1)))
       of_step (Ok x) e = rw e (λ u is. let same = rw e at (r.alike k s s' w) in rw (same u is) refl)
       of_step (Err (Syntax t)) e = rw e (λ u is. let same = rw e at (r.alike k s s' w) in rw (same u is) refl)
       of_step (Err (Deep t)) e = rw e (λ u is. let same = rw e at (r.alike k s s' w) in rw (same u is) refl)
 
-  mapped_found : (ts : List Lexeme) (y : B) (rest : List Lexeme) → map_reader h f ts ≡ Ok (y, rest) → Found limit (Mapped h P) ts y rest
+  mapped_found : (ts : List Lexeme) (y : B) (rest : List Lexeme) → map_reader h f ts ≡ Ok (y, rest) →
+      Found limit (Mapped h P) ts y rest
   unfolding map_reader
   mapped_found ts y rest e =
       let a = bind_ok _ _ (y, rest) e in
@@ -77,7 +82,8 @@ module _ {A B : Type 0} (limit : ℕ) (h : A → B) (f : Reader A) (P : Phrase A
     | inr g ↦ absurd (let is = g.2 in cc)
   ]
 
-  mapped_reads : (us : List Lexeme) (y : B) (ns : List ℕ) (rest : List Lexeme) → Mapped h P us y ns → more rest ≡ false → Outcome limit (map_reader h f) us y ns rest
+  mapped_reads : (us : List Lexeme) (y : B) (ns : List ℕ) (rest : List Lexeme) → Mapped h P us y ns → more rest ≡ false →
+      Outcome limit (map_reader h f) us y ns rest
   unfolding map_reader
   mapped_reads _ _ _ rest (made us x ns p) stop = of_outcome (r.reads us x ns rest p stop)
     where
@@ -89,7 +95,14 @@ module _ {A B : Type 0} (limit : ℕ) (h : A → B) (f : Reader A) (P : Phrase A
   mapped_counted _ _ _ (made us x ns p) = r.counted us x ns p
 
   pub reads_mapped : Reads limit (map_reader h f) (Mapped h P) more
-  reads_mapped = record { found = mapped_found; stopped = mapped_stopped; reads = mapped_reads; alike = mapped_alike; counted = mapped_counted }
+  reads_mapped = record {
+    found = mapped_found;
+    stopped = mapped_stopped;
+    reads = mapped_reads;
+    alike = mapped_alike;
+    counted =
+        mapped_counted;
+  }
 
 -- a token that stands for something, with a phrase behind it, that begins at a place
 pub record Sample {A S : Type 0} (p : Lexeme → Option S) (P : S → Lexeme → Phrase A) (n : ℕ) : Type 0 where
@@ -100,15 +113,25 @@ pub record Sample {A S : Type 0} (p : Lexeme → Option S) (P : S → Lexeme →
   pub rest : SomePhrase (P meaning token)
 
 -- a token that stands for something, and what stands behind it
-module _ {A S : Type 0} (limit d : ℕ) (low : d ≤ limit) (p : Lexeme → Option S) (f : S → Lexeme → Reader A) (P : S → Lexeme → Phrase A) (more : List Lexeme → Bool)
+module _ {A S : Type 0} (limit d : ℕ) (low : d ≤ limit) (p : Lexeme → Option S) (f : S → Lexeme → Reader A)
+    (P : S → Lexeme → Phrase A) (more : List Lexeme → Bool)
     (r : (s : S) (k : Lexeme) → Reads limit (f s k) (P s k) more) (sample : (n : ℕ) → Sample p P n) where
-  switched_found : (k : Lexeme) (o : Option S) (ts : List Lexeme) (y : A) (rest : List Lexeme) → p k ≡ o → switch_on o f k ts ≡ Ok (y, rest) → Found limit (Switch d p P) (k ∷ ts) y rest
+  switched_found : (k : Lexeme) (o : Option S) (ts : List Lexeme) (y : A) (rest : List Lexeme) → p k ≡ o →
+      switch_on o f k ts ≡ Ok (y, rest) → Found limit (Switch d p P) (k ∷ ts) y rest
   switched_found k (Some s) ts y rest is e =
       let q = (r s k).found ts y rest e in
-      record { tokens = k ∷ q.tokens; nests = d ∷ q.nests; parts = ap (λ (w : List Lexeme). k ∷ w) q.parts; phrase = first k s q.tokens y q.nests is q.phrase; low = (low, q.low) }
+      record {
+        tokens = k ∷ q.tokens;
+        nests = d ∷ q.nests;
+        parts = ap (λ (w : List Lexeme). k ∷ w) q.parts;
+        phrase =
+            first k s q.tokens y q.nests is q.phrase;
+        low = (low, q.low);
+      }
   switched_found k None ts y rest is e = absurd cc
 
-  switch_found : (ts : List Lexeme) (y : A) (rest : List Lexeme) → switch p f ts ≡ Ok (y, rest) → Found limit (Switch d p P) ts y rest
+  switch_found : (ts : List Lexeme) (y : A) (rest : List Lexeme) → switch p f ts ≡ Ok (y, rest) →
+      Found limit (Switch d p P) ts y rest
   unfolding switch
   switch_found [] y rest e = absurd cc
   switch_found (k ∷ ts) y rest e = switched_found k (p k) ts y rest refl e
@@ -131,7 +154,8 @@ module _ {A S : Type 0} (limit d : ℕ) (low : d ≤ limit) (p : Lexeme → Opti
         begins_so = λ lt. q.place_is;
       }
 
-  switched_stopped : (k : Lexeme) (o : Option S) (ts : List Lexeme) (h : Halt) → p k ≡ o → switch_on o f k ts ≡ Err h → Stopped limit (Switch d p P) h (k ∷ ts)
+  switched_stopped : (k : Lexeme) (o : Option S) (ts : List Lexeme) (h : Halt) → p k ≡ o → switch_on o f k ts ≡ Err h →
+      Stopped limit (Switch d p P) h (k ∷ ts)
   switched_stopped k (Some s) ts h is e =
       let q = (r s k).stopped ts h e in
       record {
@@ -154,14 +178,16 @@ module _ {A S : Type 0} (limit d : ℕ) (low : d ≤ limit) (p : Lexeme → Opti
   switch_stopped [] h e = none_here [] h (sym (err_is _ _ e))
   switch_stopped (k ∷ ts) h e = switched_stopped k (p k) ts h refl e
 
-  switch_reads : (ts : List Lexeme) (y : A) (ns : List ℕ) (rest : List Lexeme) → Switch d p P ts y ns → more rest ≡ false → Outcome limit (switch p f) ts y ns rest
+  switch_reads : (ts : List Lexeme) (y : A) (ns : List ℕ) (rest : List Lexeme) → Switch d p P ts y ns → more rest ≡ false →
+      Outcome limit (switch p f) ts y ns rest
   unfolding switch
   switch_reads _ _ _ rest (first k s ts x ns is q) stop = of_rest ((r s k).reads ts x ns rest q stop)
     where
       of_rest : Outcome limit (f s k) ts x ns rest → Outcome limit (switch p f) (k ∷ ts) x (d ∷ ns) rest
       of_rest (whole lows e) = whole (low, lows) (rw is e)
       of_rest (deep pre v c lows highs n a b l o q e) =
-          deep (k ∷ pre) v c (d ∷ lows) highs n (ap (λ (w : List Lexeme). k ∷ w) a) (ap (λ (w : List ℕ). d ∷ w) b) (ap suc l) (low, o) q (rw is e)
+          deep (k ∷ pre) v c (d ∷ lows) highs n (ap (λ (w : List Lexeme). k ∷ w) a) (ap (λ (w : List ℕ). d ∷ w) b) (ap suc l)
+          (low, o) q (rw is e)
 
   switch_alike : (k : Lexeme) (t t' w : List Lexeme) → SameUpTo k t t' (switch p f (w ++ k ∷ t)) (switch p f (w ++ k ∷ t'))
   unfolding switch
@@ -170,7 +196,13 @@ module _ {A S : Type 0} (limit d : ℕ) (low : d ≤ limit) (p : Lexeme → Opti
       at_end : (o : Option S) → SameUpTo k t t' (switch_on o f k t) (switch_on o f k t')
       at_end (Some s) u is =
           let back = tail_of limit (f s k) (P s k) more (r s k) t in
-          absurd (omega (arith, ap length back.1, ap length is, length-append back.0 (left_by (f s k t)), length-append u (k ∷ t)))
+          absurd (omega (
+            arith,
+            ap length back.1,
+            ap length is,
+            length-append back.0 (left_by (f s k t)),
+            length-append u (k ∷ t),
+          ))
       at_end None u is = ap (λ z. Err (Syntax z)) (same_front [] u k t t' is)
   switch_alike k t t' (c ∷ w) = before (p c)
     where
@@ -182,32 +214,65 @@ module _ {A S : Type 0} (limit d : ℕ) (low : d ≤ limit) (p : Lexeme → Opti
   switch_counted _ _ _ (first k s ts x ns is q) = ap suc ((r s k).counted ts x ns q)
 
   pub reads_switch : Reads limit (switch p f) (Switch d p P) more
-  reads_switch = record { found = switch_found; stopped = switch_stopped; reads = switch_reads; alike = switch_alike; counted = switch_counted }
+  reads_switch = record {
+    found = switch_found;
+    stopped = switch_stopped;
+    reads = switch_reads;
+    alike = switch_alike;
+    counted =
+        switch_counted;
+  }
 
 -- one token that stands for something
 abbrev pub One : {A : Type 0} → ℕ → (Lexeme → Option A) → Phrase A
 One d p = Switch d p (λ x k. Give x)
 
-pub reads_one : {A : Type 0} (limit d : ℕ) → d ≤ limit → (p : Lexeme → Option A) → ((n : ℕ) → (k : Lexeme) × (x : A) × (k.at ≡ n) × (p k ≡ Some x)) → Reads limit (one p) (One d p) never
+pub reads_one : {A : Type 0} (limit d : ℕ) → d ≤ limit → (p : Lexeme → Option A) →
+    ((n : ℕ) → (k : Lexeme) × (x : A) × (k.at ≡ n) × (p k ≡ Some x)) → Reads limit (one p) (One d p) never
 reads_one limit d low p sample =
     reads_switch limit d low p (λ x k. give x) (λ x k. Give x) never (λ x k. reads_give limit x)
-    (λ n. let s = sample n in record { token = s.0; meaning = s.1; place_is = s.2; is = s.3; rest = record { tokens = []; value = s.1; nests = []; phrase = nothing } })
+    (λ n. let s = sample n in record {
+      token = s.0;
+      meaning = s.1;
+      place_is = s.2;
+      is = s.3;
+      rest =
+          record { tokens = []; value = s.1; nests = []; phrase = nothing };
+    })
 
 -- one reader behind a token that passes a test, and else another
-module _ {A : Type 0} (limit d : ℕ) (low : d ≤ limit) (test : Lexeme → Bool) (f g : Reader A) (P Q : Phrase A) (more : List Lexeme → Bool)
+module _ {A : Type 0} (limit d : ℕ) (low : d ≤ limit) (test : Lexeme → Bool) (f g : Reader A) (P Q : Phrase A)
+    (more : List Lexeme → Bool)
     (r : Reads limit f P more) (s : Reads limit g Q more)
-    (free : (us : List Lexeme) (x : A) (ns : List ℕ) (rest : List Lexeme) → Q us x ns → more rest ≡ false → begins test (us ++ rest) ≡ false) where
-  on_found : (ts : List Lexeme) (y : A) (rest : List Lexeme) → on test f g ts ≡ Ok (y, rest) → Found limit (On d test P Q) ts y rest
+    (free : (us : List Lexeme) (x : A) (ns : List ℕ) (rest : List Lexeme) → Q us x ns → more rest ≡ false →
+    begins test (us ++ rest) ≡ false) where
+  on_found : (ts : List Lexeme) (y : A) (rest : List Lexeme) → on test f g ts ≡ Ok (y, rest) →
+      Found limit (On d test P Q) ts y rest
   unfolding on
   on_found [] y rest e = elim (chosen _ _ _ _ e) [
     | inl h ↦ absurd cc
-    | inr h ↦ let q = s.found [] y rest h.1 in record { tokens = q.tokens; nests = q.nests; parts = q.parts; phrase = other q.tokens y q.nests q.phrase; low = q.low }
+    | inr h ↦ let q = s.found [] y rest h.1 in record {
+      tokens = q.tokens;
+      nests = q.nests;
+      parts = q.parts;
+      phrase =
+          other q.tokens y q.nests q.phrase;
+      low = q.low;
+    }
   ]
   on_found (k ∷ ts) y rest e = elim (chosen _ _ _ _ e) [
     | inl h ↦
         let q = r.found ts y rest h.1 in
-        record { tokens = k ∷ q.tokens; nests = d ∷ q.nests; parts = ap (λ (w : List Lexeme). k ∷ w) q.parts; phrase = taken k q.tokens y q.nests h.0 q.phrase; low = (low, q.low) }
-    | inr h ↦ let q = s.found (k ∷ ts) y rest h.1 in record { tokens = q.tokens; nests = q.nests; parts = q.parts; phrase = other q.tokens y q.nests q.phrase; low = q.low }
+        record {
+          tokens = k ∷ q.tokens;
+          nests = d ∷ q.nests;
+          parts = ap (λ (w : List Lexeme). k ∷ w) q.parts;
+          phrase =
+              taken k q.tokens y q.nests h.0 q.phrase;
+          low = (low, q.low);
+        }
+    | inr h ↦ let q = s.found (k ∷ ts) y rest h.1 in
+        record { tokens = q.tokens; nests = q.nests; parts = q.parts; phrase = other q.tokens y q.nests q.phrase; low = q.low }
   ]
 
   else_stopped : (ts : List Lexeme) (h : Halt) → g ts ≡ Err h → Stopped limit (On d test P Q) h ts
@@ -249,19 +314,22 @@ module _ {A : Type 0} (limit d : ℕ) (low : d ≤ limit) (test : Lexeme → Boo
     | inr c ↦ else_stopped (k ∷ ts) h c.1
   ]
 
-  on_reads : (ts : List Lexeme) (y : A) (ns : List ℕ) (rest : List Lexeme) → On d test P Q ts y ns → more rest ≡ false → Outcome limit (on test f g) ts y ns rest
+  on_reads : (ts : List Lexeme) (y : A) (ns : List ℕ) (rest : List Lexeme) → On d test P Q ts y ns → more rest ≡ false →
+      Outcome limit (on test f g) ts y ns rest
   unfolding on
   on_reads _ _ _ rest (taken k ts x ns is q) stop = of_rest (r.reads ts x ns rest q stop)
     where
       of_rest : Outcome limit f ts x ns rest → Outcome limit (on test f g) (k ∷ ts) x (d ∷ ns) rest
       of_rest (whole lows e) = whole (low, lows) (choose_true _ _ _ is ∙ e)
       of_rest (deep pre v c lows highs n a b l o q e) =
-          deep (k ∷ pre) v c (d ∷ lows) highs n (ap (λ (w : List Lexeme). k ∷ w) a) (ap (λ (w : List ℕ). d ∷ w) b) (ap suc l) (low, o) q (choose_true _ _ _ is ∙ e)
+          deep (k ∷ pre) v c (d ∷ lows) highs n (ap (λ (w : List Lexeme). k ∷ w) a) (ap (λ (w : List ℕ). d ∷ w) b) (ap suc l)
+          (low, o) q (choose_true _ _ _ is ∙ e)
   on_reads _ _ _ rest (other ts x ns q) stop = of_rest (s.reads ts x ns rest q stop)
     where
       of_rest : Outcome limit g ts x ns rest → Outcome limit (on test f g) ts x ns rest
       of_rest (whole lows e) = whole lows (choose_false _ _ _ (free ts x ns rest q stop) ∙ e)
-      of_rest (deep pre v c lows highs n a b l o p e) = deep pre v c lows highs n a b l o p (choose_false _ _ _ (free ts x ns rest q stop) ∙ e)
+      of_rest (deep pre v c lows highs n a b l o p e) =
+          deep pre v c lows highs n a b l o p (choose_false _ _ _ (free ts x ns rest q stop) ∙ e)
 
   on_alike : (k : Lexeme) (t t' w : List Lexeme) → SameUpTo k t t' (on test f g (w ++ k ∷ t)) (on test f g (w ++ k ∷ t'))
   unfolding on choose
@@ -274,7 +342,8 @@ module _ {A : Type 0} (limit d : ℕ) (low : d ≤ limit) (test : Lexeme → Boo
       at_end false e u is = s.alike k t t' [] u is
   on_alike k t t' (c ∷ w) = before (test c)
     where
-      before : (b : Bool) → SameUpTo k t t' (choose b (f (w ++ k ∷ t)) (g (c ∷ (w ++ k ∷ t)))) (choose b (f (w ++ k ∷ t')) (g (c ∷ (w ++ k ∷ t'))))
+      before : (b : Bool) → SameUpTo k t t' (choose b (f (w ++ k ∷ t)) (g (c ∷ (w ++ k ∷ t))))
+          (choose b (f (w ++ k ∷ t')) (g (c ∷ (w ++ k ∷ t'))))
       before true u is = r.alike k t t' w u is
       before false u is = s.alike k t t' (c ∷ w) u is
 
@@ -295,7 +364,14 @@ any (k ∷ ts) = true
 
 pub reads_finish : (limit : ℕ) → Reads limit finish End any
 unfolding finish
-reads_finish limit = record { found = end_found; stopped = end_stopped; reads = end_reads; alike = end_alike; counted = end_counted }
+reads_finish limit = record {
+  found = end_found;
+  stopped = end_stopped;
+  reads = end_reads;
+  alike = end_alike;
+  counted =
+      end_counted;
+}
   where
     end_found : (ts : List Lexeme) (x : Unit {0}) (rest : List Lexeme) → finish ts ≡ Ok (x, rest) → Found limit End ts x rest
     end_found [] x rest e =
@@ -321,7 +397,8 @@ reads_finish limit = record { found = end_found; stopped = end_stopped; reads = 
           begins_so = λ lt. absurd (omega arith);
         }
 
-    end_reads : (us : List Lexeme) (x : Unit {0}) (ns : List ℕ) (rest : List Lexeme) → End us x ns → any rest ≡ false → Outcome limit finish us x ns rest
+    end_reads : (us : List Lexeme) (x : Unit {0}) (ns : List ℕ) (rest : List Lexeme) → End us x ns → any rest ≡ false →
+        Outcome limit finish us x ns rest
     end_reads _ _ _ [] ended stop = whole tt refl
     end_reads _ _ _ (k ∷ rest) ended stop = absurd cc
 
@@ -334,18 +411,41 @@ reads_finish limit = record { found = end_found; stopped = end_stopped; reads = 
 
 -- the same phrases by other facts
 module _ {A : Type 0} (limit : ℕ) (f : Reader A) (P Q : Phrase A) (more : List Lexeme → Bool) (r : Reads limit f P more)
-    (to : (us : List Lexeme) (x : A) (ns : List ℕ) → P us x ns → Q us x ns) (from : (us : List Lexeme) (x : A) (ns : List ℕ) → Q us x ns → P us x ns) where
+    (to : (us : List Lexeme) (x : A) (ns : List ℕ) → P us x ns → Q us x ns)
+    (from : (us : List Lexeme) (x : A) (ns : List ℕ) → Q us x ns → P us x ns) where
   pub reads_as : Reads limit f Q more
   reads_as = record {
-    found = λ ts x rest e. let q = r.found ts x rest e in record { tokens = q.tokens; nests = q.nests; parts = q.parts; phrase = to _ _ _ q.phrase; low = q.low };
+    found = λ ts x rest e. let q = r.found ts x rest e in
+        record { tokens = q.tokens; nests = q.nests; parts = q.parts; phrase = to _ _ _ q.phrase; low = q.low };
     stopped = λ ts h e. let q = r.stopped ts h e in
-        record { tokens = q.tokens; others = q.others; value = q.value; nests = q.nests; high = q.high; parts = q.parts; phrase = to _ _ _ q.phrase; count = q.count; low = q.low; over = q.over; begins_so = q.begins_so };
+        record {
+          tokens = q.tokens;
+          others = q.others;
+          value = q.value;
+          nests = q.nests;
+          high = q.high;
+          parts = q.parts;
+          phrase =
+              to _ _ _ q.phrase;
+          count = q.count;
+          low = q.low;
+          over = q.over;
+          begins_so = q.begins_so;
+        };
     reads = λ us x ns rest q stop. r.reads us x ns rest (from us x ns q) stop;
     alike = r.alike;
     counted = λ us x ns q. r.counted us x ns (from us x ns q);
   }
 
 -- a reader that looks for no more than another test says
-module _ {A : Type 0} (limit : ℕ) (f : Reader A) (P : Phrase A) (more less : List Lexeme → Bool) (r : Reads limit f P more) (so : (ts : List Lexeme) → less ts ≡ false → more ts ≡ false) where
+module _ {A : Type 0} (limit : ℕ) (f : Reader A) (P : Phrase A) (more less : List Lexeme → Bool) (r : Reads limit f P more)
+    (so : (ts : List Lexeme) → less ts ≡ false → more ts ≡ false) where
   pub reads_until : Reads limit f P less
-  reads_until = record { found = r.found; stopped = r.stopped; alike = r.alike; counted = r.counted; reads = λ us x ns rest q stop. r.reads us x ns rest q (so rest stop) }
+  reads_until = record {
+    found = r.found;
+    stopped = r.stopped;
+    alike = r.alike;
+    counted = r.counted;
+    reads =
+        λ us x ns rest q stop. r.reads us x ns rest q (so rest stop);
+  }

@@ -63,7 +63,8 @@ pub record Stopped {A : Type 0} (limit : ℕ) (P : Phrase A) (h : Halt) (ts : Li
 -- a phrase and what stands behind it is read, or refused at its first token over the limit
 pub data Outcome {T A : Type 0} (limit : ℕ) (f : ReaderOf T A) (us : List T) (x : A) (ns : List ℕ) (rest : List T) : Type 0 where
   whole : IsWithinLimit limit ns → f (us ++ rest) ≡ Ok (x, rest) → Outcome limit f us x ns rest
-  deep : (pre v : List T) (k : T) (low high : List ℕ) (n : ℕ) → us ≡ pre ++ k ∷ v → ns ≡ low ++ n ∷ high → length low ≡ length pre → IsWithinLimit limit low → limit < n →
+  deep : (pre v : List T) (k : T) (low high : List ℕ) (n : ℕ) → us ≡ pre ++ k ∷ v → ns ≡ low ++ n ∷ high →
+      length low ≡ length pre → IsWithinLimit limit low → limit < n →
       f (us ++ rest) ≡ Err (Deep (k ∷ v ++ rest)) → Outcome limit f us x ns rest
 
 -- what is left by a step
@@ -78,7 +79,8 @@ leaving (Err (Syntax t)) s = Err (Syntax s)
 leaving (Err (Deep t)) s = Err (Deep s)
 
 -- where the first step stops no later than at this token, the second is the same with other tokens behind it
-abbrev pub SameUpTo : {T A : Type 0} → T → List T → List T → Result (A × List T) (HaltOf T) → Result (A × List T) (HaltOf T) → Type 0
+abbrev pub SameUpTo : {T A : Type 0} → T → List T → List T → Result (A × List T) (HaltOf T) → Result (A × List T) (HaltOf T) →
+    Type 0
 SameUpTo {T} k r r' a b = (w : List T) → left_by a ≡ w ++ k ∷ r → b ≡ leaving a (w ++ k ∷ r')
 
 -- the reader reads just these phrases; behind one of them it looks for more where this test says so
@@ -92,16 +94,30 @@ pub record ReadsJust {T A : Type 0} (limit : ℕ) (f : ReaderOf T A) (P : Phrase
 pub record Reads {A : Type 0} (limit : ℕ) (f : Reader A) (P : Phrase A) (more : List Lexeme → Bool) : Type 0 where
   pub found : (ts : List Lexeme) (x : A) (rest : List Lexeme) → f ts ≡ Ok (x, rest) → Found limit P ts x rest
   pub stopped : (ts : List Lexeme) (h : Halt) → f ts ≡ Err h → Stopped limit P h ts
-  pub reads : (us : List Lexeme) (x : A) (ns : List ℕ) (rest : List Lexeme) → P us x ns → more rest ≡ false → Outcome limit f us x ns rest
+  pub reads : (us : List Lexeme) (x : A) (ns : List ℕ) (rest : List Lexeme) → P us x ns → more rest ≡ false →
+      Outcome limit f us x ns rest
   pub alike : (k : Lexeme) (r r' w : List Lexeme) → SameUpTo k r r' (f (w ++ k ∷ r)) (f (w ++ k ∷ r'))
   pub counted : (us : List Lexeme) (x : A) (ns : List ℕ) → P us x ns → length ns ≡ length us
 
-pub reads_just : {A : Type 0} {limit : ℕ} {f : Reader A} {P : Phrase A} {more : List Lexeme → Bool} → Reads limit f P more → ReadsJust limit f P more
+pub reads_just : {A : Type 0} {limit : ℕ} {f : Reader A} {P : Phrase A} {more : List Lexeme → Bool} → Reads limit f P more →
+    ReadsJust limit f P more
 reads_just r = record {
   found = r.found;
   stopped = λ ts h e.
       let q = r.stopped ts h e in
-      record { tokens = q.tokens; others = q.others; value = q.value; nests = q.nests; high = q.high; parts = q.parts; phrase = q.phrase; count = q.count; low = q.low; over = q.over };
+      record {
+        tokens = q.tokens;
+        others = q.others;
+        value = q.value;
+        nests = q.nests;
+        high = q.high;
+        parts = q.parts;
+        phrase =
+            q.phrase;
+        count = q.count;
+        low = q.low;
+        over = q.over;
+      };
   reads = r.reads;
   alike = r.alike;
 }
@@ -116,15 +132,18 @@ pub data Give {A : Type 0} (x : A) : List Lexeme → A → List ℕ → Type 0 w
 
 -- one phrase and then another
 pub data Then {A B : Type 0} (P : Phrase A) (Q : A → Phrase B) : List Lexeme → B → List ℕ → Type 0 where
-  pair : (ts us vs : List Lexeme) (x : A) (y : B) (ns ms ks : List ℕ) → P us x ms → Q x vs y ks → ts ≡ us ++ vs → ns ≡ ms ++ ks → Then P Q ts y ns
+  pair : (ts us vs : List Lexeme) (x : A) (y : B) (ns ms ks : List ℕ) → P us x ms → Q x vs y ks → ts ≡ us ++ vs → ns ≡ ms ++ ks →
+      Then P Q ts y ns
 
 -- a phrase that stands for what a function makes of it
 pub data Mapped {A B : Type 0} (h : A → B) (P : Phrase A) : List Lexeme → B → List ℕ → Type 0 where
   made : (ts : List Lexeme) (x : A) (ns : List ℕ) → P ts x ns → Mapped h P ts (h x) ns
 
 -- a token that stands for something, and behind it a phrase by what it stands for
-pub data Switch {A S : Type 0} (d : ℕ) (p : Lexeme → Option S) (P : S → Lexeme → Phrase A) : List Lexeme → A → List ℕ → Type 0 where
-  first : (k : Lexeme) (s : S) (ts : List Lexeme) (x : A) (ns : List ℕ) → p k ≡ Some s → P s k ts x ns → Switch d p P (k ∷ ts) x (d ∷ ns)
+pub data Switch {A S : Type 0} (d : ℕ) (p : Lexeme → Option S) (P : S → Lexeme → Phrase A) : List Lexeme → A → List ℕ →
+    Type 0 where
+  first : (k : Lexeme) (s : S) (ts : List Lexeme) (x : A) (ns : List ℕ) → p k ≡ Some s → P s k ts x ns →
+      Switch d p P (k ∷ ts) x (d ∷ ns)
 
 -- a phrase behind a token that passes a test, or another phrase
 pub data On {A : Type 0} (d : ℕ) (test : Lexeme → Bool) (P Q : Phrase A) : List Lexeme → A → List ℕ → Type 0 where
@@ -139,7 +158,8 @@ pub data Located {A : Type 0} (P : ℕ → Phrase A) : List Lexeme → A → Lis
 pub data Separated {A : Type 0} (d : ℕ) (test : Lexeme → Bool) (P : Phrase A) : List Lexeme → List A → List ℕ → Type 0 where
   last : (ts : List Lexeme) (x : A) (ns : List ℕ) → P ts x ns → Separated d test P ts (x ∷ []) ns
   further : (ts us vs : List Lexeme) (k : Lexeme) (x : A) (xs : List A) (ns ms ks : List ℕ) →
-      P us x ms → test k ≡ true → Separated d test P vs xs ks → ts ≡ us ++ k ∷ vs → ns ≡ ms ++ d ∷ ks → Separated d test P ts (x ∷ xs) ns
+      P us x ms → test k ≡ true → Separated d test P vs xs ks → ts ≡ us ++ k ∷ vs → ns ≡ ms ++ d ∷ ks →
+      Separated d test P ts (x ∷ xs) ns
 
 -- one of two phrases
 pub data Either {A : Type 0} (P Q : Phrase A) : List Lexeme → A → List ℕ → Type 0 where
@@ -155,4 +175,5 @@ pub data Repeat {A : Type 0} (S : ℕ → A → Phrase A) : ℕ → A → List L
 -- one behind the other
 pub data Many {A : Type 0} (P : Phrase A) : List Lexeme → List A → List ℕ → Type 0 where
   none : Many P [] [] []
-  some : (ts us vs : List Lexeme) (x : A) (xs : List A) (ns ms ks : List ℕ) → P us x ms → Many P vs xs ks → ts ≡ us ++ vs → ns ≡ ms ++ ks → Many P ts (x ∷ xs) ns
+  some : (ts us vs : List Lexeme) (x : A) (xs : List A) (ns ms ks : List ℕ) → P us x ms → Many P vs xs ks → ts ≡ us ++ vs →
+      ns ≡ ms ++ ks → Many P ts (x ∷ xs) ns

@@ -14,8 +14,10 @@ refused h = Err h
 -- where a phrase would be too deep none is read
 module _ {A : Type 0} (limit : ℕ) (test : Lexeme → Bool) (P : Phrase A) (more : List Lexeme → Bool)
     (sample : (n : ℕ) → (s : SomePhrase P) × (start s.tokens ≡ n))
-    (opens : (k : Lexeme) → test k ≡ true → (others : List Lexeme) × (x : A) × (n : ℕ) × (ns : List ℕ) × P (k ∷ others) x (n ∷ ns) × (limit < n))
-    (begun : (us : List Lexeme) (x : A) (ns : List ℕ) → P us x ns → (k : Lexeme) × (v : List Lexeme) × (n : ℕ) × (ms : List ℕ) × (us ≡ k ∷ v) × (ns ≡ n ∷ ms) × (test k ≡ true) × (limit < n))
+    (opens : (k : Lexeme) → test k ≡ true → (others : List Lexeme) × (x : A) × (n : ℕ) ×
+    (ns : List ℕ) × P (k ∷ others) x (n ∷ ns) × (limit < n))
+    (begun : (us : List Lexeme) (x : A) (ns : List ℕ) → P us x ns → (k : Lexeme) × (v : List Lexeme) × (n : ℕ) × (ms : List ℕ) ×
+    (us ≡ k ∷ v) × (ns ≡ n ∷ ms) × (test k ≡ true) × (limit < n))
     (count : (us : List Lexeme) (x : A) (ns : List ℕ) → P us x ns → length ns ≡ length us) where
   shut_deep : (ts : List Lexeme) (h : Halt) → begins test ts ≡ true → Deep ts ≡ h → Stopped limit P h ts
   shut_deep [] h b e = absurd cc
@@ -31,7 +33,18 @@ module _ {A : Type 0} (limit : ℕ) (test : Lexeme → Bool) (P : Phrase A) (mor
         phrase = o.4;
         count = refl;
         low = tt;
-        over = subst (λ z. Over z limit (k ∷ o.0) (o.2 ∷ o.3)) e (record { token = k; after = ts; further = o.0; nest = o.2; nests = o.3; here = refl; first = refl; highest = refl; over = o.5 });
+        over = subst (λ z. Over z limit (k ∷ o.0) (o.2 ∷ o.3)) e
+            (record {
+              token = k;
+              after = ts;
+              further = o.0;
+              nest = o.2;
+              nests = o.3;
+              here = refl;
+              first = refl;
+              highest = refl;
+              over = o.5;
+            });
         begins_so = λ lt. refl;
       }
 
@@ -57,7 +70,8 @@ module _ {A : Type 0} (limit : ℕ) (test : Lexeme → Bool) (P : Phrase A) (mor
         }
   ]
 
-  shut_reads : (us : List Lexeme) (x : A) (ns : List ℕ) (rest : List Lexeme) → P us x ns → more rest ≡ false → Outcome limit (shut test) us x ns rest
+  shut_reads : (us : List Lexeme) (x : A) (ns : List ℕ) (rest : List Lexeme) → P us x ns → more rest ≡ false →
+      Outcome limit (shut test) us x ns rest
   unfolding shut
   shut_reads us x ns rest p stop =
       let b = begun us x ns p in
@@ -68,12 +82,15 @@ module _ {A : Type 0} (limit : ℕ) (test : Lexeme → Bool) (P : Phrase A) (mor
   unfolding shut choose
   shut_alike k t t' [] = of_test (test k)
     where
-      of_test : (b : Bool) → SameUpTo k t t' (choose b (refused {A = A} (Deep (k ∷ t))) (refused (Syntax (k ∷ t)))) (choose b (refused {A = A} (Deep (k ∷ t'))) (refused (Syntax (k ∷ t'))))
+      of_test : (b : Bool) → SameUpTo k t t' (choose b (refused {A = A} (Deep (k ∷ t))) (refused (Syntax (k ∷ t))))
+          (choose b (refused {A = A} (Deep (k ∷ t'))) (refused (Syntax (k ∷ t'))))
       of_test true u is = ap (λ z. Err (Deep z)) (same_front [] u k t t' is)
       of_test false u is = ap (λ z. Err (Syntax z)) (same_front [] u k t t' is)
   shut_alike k t t' (c ∷ w) = of_test (test c)
     where
-      of_test : (b : Bool) → SameUpTo k t t' (choose b (refused {A = A} (Deep (c ∷ (w ++ k ∷ t)))) (refused (Syntax (c ∷ (w ++ k ∷ t))))) (choose b (refused {A = A} (Deep (c ∷ (w ++ k ∷ t')))) (refused (Syntax (c ∷ (w ++ k ∷ t')))))
+      of_test : (b : Bool) → SameUpTo k t t' (choose b (refused {A = A} (Deep (c ∷ (w ++ k ∷ t))))
+          (refused (Syntax (c ∷ (w ++ k ∷ t))))) (choose b (refused {A = A} (Deep (c ∷ (w ++ k ∷ t'))))
+          (refused (Syntax (c ∷ (w ++ k ∷ t')))))
       of_test true u is = ap (λ z. Err (Deep z)) (same_front (c ∷ w) u k t t' is)
       of_test false u is = ap (λ z. Err (Syntax z)) (same_front (c ∷ w) u k t t' is)
 

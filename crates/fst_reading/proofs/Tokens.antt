@@ -93,7 +93,8 @@ word_not_one w k e = of_kind k.kind e
     of_kind _ g = absurd cc
 
 -- the token is a reserved word or a sign with this text
-pub spelled_so : (t : TokenKind) (w text : List ℕ) → bytes_eq text w ≡ true → (t ≡ kind.Reserved) ⊎ (t ≡ kind.Sign) → spells_by t w text ≡ true
+pub spelled_so : (t : TokenKind) (w text : List ℕ) → bytes_eq text w ≡ true → (t ≡ kind.Reserved) ⊎
+    (t ≡ kind.Sign) → spells_by t w text ≡ true
 spelled_so t w text e (inl is) = rw is e
 spelled_so t w text e (inr is) = rw is e
 

@@ -23,7 +23,8 @@ IsWithinLimit limit [] = Unit {0}
 IsWithinLimit limit (n ∷ ns) = (n ≤ limit) × IsWithinLimit limit ns
 
 -- the tokens begin with a phrase, and what is left can't make it longer
-pub record Begins {T A : Type 0} (P : PhraseOf T A) (more : List T → Bool) (ts : List T) (x : A) (rest : List T) : Type 0 where
+pub record Begins {T A : Type 0} (P : PhraseOf T A) (more : List T → Bool) (ts : List T) (x : A)
+    (rest : List T) : Type 0 where
   pub tokens : List T
   pub nests : List ℕ
   pub parts : ts ≡ tokens ++ rest
@@ -31,8 +32,10 @@ pub record Begins {T A : Type 0} (P : PhraseOf T A) (more : List T → Bool) (ts
   pub ended : more rest ≡ false
 
 -- so they do, and none of the phrase's tokens is over the limit
-abbrev pub BeginsWithinLimit : {T A : Type 0} → ℕ → PhraseOf T A → (List T → Bool) → List T → A → List T → Type 0
-BeginsWithinLimit limit P more ts x rest = (b : Begins P more ts x rest) × IsWithinLimit limit b.nests
+abbrev pub BeginsWithinLimit : {T A : Type 0} → ℕ → PhraseOf T A →
+    (List T → Bool) → List T → A → List T → Type 0
+BeginsWithinLimit limit P more ts x rest =
+    (b : Begins P more ts x rest) × IsWithinLimit limit b.nests
 
 -- some phrase begins with these tokens, none of which is over the limit
 pub record IsViablePrefix {T A : Type 0} (limit : ℕ) (P : PhraseOf T A) (ts : List T) : Type 0 where
@@ -47,10 +50,12 @@ pub record IsViablePrefix {T A : Type 0} (limit : ℕ) (P : PhraseOf T A) (ts : 
 -- no phrase goes on behind these tokens with the first one here, or ends where none is left
 abbrev pub NoneGoesOn : {T A : Type 0} → PhraseOf T A → (List T → Bool) → List T → List T → Type 0
 NoneGoesOn {T} {A} P more ts [] = (x : A) (rest : List T) → Begins P more ts x rest → ⊥
-NoneGoesOn {T} {A} P more ts (k ∷ here) = (others : List T) (x : A) (rest : List T) → Begins P more (ts ++ k ∷ others) x rest → ⊥
+NoneGoesOn {T} {A} P more ts (k ∷ here) =
+    (others : List T) (x : A) (rest : List T) → Begins P more (ts ++ k ∷ others) x rest → ⊥
 
 -- the tokens stop being a phrase here: those in front can go on, and with what is here none can
-pub record IsFirstError {T A : Type 0} (limit : ℕ) (P : PhraseOf T A) (more : List T → Bool) (ts here : List T) : Type 0 where
+pub record IsFirstError {T A : Type 0} (limit : ℕ) (P : PhraseOf T A) (more : List T → Bool)
+    (ts here : List T) : Type 0 where
   pub tokens : List T
   pub parts : ts ≡ tokens ++ here
   pub goes_on : IsViablePrefix limit P tokens
@@ -79,7 +84,10 @@ is_left [] = false
 is_left (k ∷ ts) = true
 
 -- why these tokens don't begin with such a phrase; the function says where tokens stand
-abbrev pub Refuses : {T A : Type 0} → PhraseOf T A → (List T → Bool) → (List T → ℕ) → List T → SyntaxFault → Type 0
-Refuses {T} P more where_is ts (fault.Syntax at) = (here : List T) × (at ≡ where_is here) × IsFirstError most_nested P more ts here
-Refuses {T} P more where_is ts (fault.TooDeep at) = (here : List T) × (at ≡ where_is here) × IsTooDeep most_nested P ts here
+abbrev pub Refuses : {T A : Type 0} → PhraseOf T A → (List T → Bool) →
+    (List T → ℕ) → List T → SyntaxFault → Type 0
+Refuses {T} P more where_is ts (fault.Syntax at) = (here : List T) ×
+    (at ≡ where_is here) × IsFirstError most_nested P more ts here
+Refuses {T} P more where_is ts (fault.TooDeep at) = (here : List T) ×
+    (at ≡ where_is here) × IsTooDeep most_nested P ts here
 Refuses P more where_is ts fault.Memory = ⊤

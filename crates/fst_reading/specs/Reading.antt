@@ -90,7 +90,8 @@ on test f g ts = choose (begins test ts) (f (behind ts)) (g ts)
 -- one behind the other, with a sign between each two: at most so many
 unfoldable pub sep_by_within : {A : Type 0} → (Lexeme → Bool) → Reader A → ℕ → Reader (List A)
 sep_by_within test f zero ts = Err (Syntax ts)
-sep_by_within test f (suc n) ts = (f >>= λ a. on test (map_reader (λ bs. a ∷ bs) (sep_by_within test f n)) (give (a ∷ []))) ts
+sep_by_within test f (suc n) ts = (f >>= λ a. on test
+    (map_reader (λ bs. a ∷ bs) (sep_by_within test f n)) (give (a ∷ []))) ts
 
 -- one behind the other, with a sign between each two
 abbrev pub sep_by : {A : Type 0} → (Lexeme → Bool) → Reader A → Reader (List A)
@@ -105,14 +106,16 @@ unfoldable pub shut : {A : Type 0} → (Lexeme → Bool) → Reader A
 shut test ts = choose (begins test ts) (Err (Deep ts)) (Err (Syntax ts))
 
 -- a step for each token that begins one, with the readers of what is inside it: at most so many, and each with one less
-unfoldable pub repeat : {A B : Type 0} → (Lexeme → Bool) → (List B → A → Reader A) → List B → A → Reader A
+unfoldable pub repeat : {A B : Type 0} → (Lexeme → Bool) →
+    (List B → A → Reader A) → List B → A → Reader A
 repeat test step [] x = when test (shut test) (give x)
 repeat test step (b ∷ bs) x = when test (step (b ∷ bs) x >>= repeat test step bs) (give x)
 
 -- one behind the other as long as one begins: at most so many
 unfoldable pub many_within : {A : Type 0} → (Lexeme → Bool) → Reader A → ℕ → Reader (List A)
 many_within test f zero = give []
-many_within test f (suc n) = when test (f >>= λ a. map_reader (λ bs. a ∷ bs) (many_within test f n)) (give [])
+many_within test f (suc n) = when test (f >>= λ a. map_reader (λ bs. a ∷ bs) (many_within test f n))
+    (give [])
 
 -- one behind the other as long as one begins
 abbrev pub many : {A : Type 0} → (Lexeme → Bool) → Reader A → Reader (List A)

@@ -60,7 +60,8 @@ pub fn behind<'a>(tokens: &'a [Lexeme<'a>]) -> &'a [Lexeme<'a>]
 
 /// What stands behind this reserved word or sign, where it comes next.
 pub fn after<'a>(wanted: &str, tokens: &'a [Lexeme<'a>]) -> Option<&'a [Lexeme<'a>]>
-    ensures { MatchOption result (begins (spells wanted.now) tokens.now ≡ false) (λ r. (begins (spells wanted.now) tokens.now ≡ true) × (r.now ≡ behind tokens.now)) }
+    ensures { MatchOption result (begins (spells wanted.now) tokens.now ≡ false)
+        (λ r. (begins (spells wanted.now) tokens.now ≡ true) × (r.now ≡ behind tokens.now)) }
 {
     match tokens {
         [first, rest @ ..] if spells(wanted, first) => Some(rest),
@@ -70,7 +71,8 @@ pub fn after<'a>(wanted: &str, tokens: &'a [Lexeme<'a>]) -> Option<&'a [Lexeme<'
 
 /// What stands behind a number of value 1, where one comes next.
 pub fn after_one<'a>(tokens: &'a [Lexeme<'a>]) -> Option<&'a [Lexeme<'a>]>
-    ensures { MatchOption result (begins is_one tokens.now ≡ false) (λ r. (begins is_one tokens.now ≡ true) × (r.now ≡ behind tokens.now)) }
+    ensures { MatchOption result (begins is_one tokens.now ≡ false)
+        (λ r. (begins is_one tokens.now ≡ true) × (r.now ≡ behind tokens.now)) }
 {
     match tokens {
         [first, rest @ ..] if is_one(first) => Some(rest),

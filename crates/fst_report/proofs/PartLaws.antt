@@ -26,7 +26,8 @@ some_nodes (pair s r) = omega arith
 some_nodes (named k) = omega arith
 
 -- one function after another, where there is something
-mapped_twice : {A B C : Type 0} (g : B → C) (f : A → B) (o : Option A) → option_map g (option_map f o) ≡ option_map (λ x. g (f x)) o
+mapped_twice : {A B C : Type 0} (g : B → C) (f : A → B) (o : Option A) → option_map g (option_map f o) ≡ option_map
+    (λ x. g (f x)) o
 mapped_twice g f None = refl
 mapped_twice g f (Some x) = refl
 
@@ -51,7 +52,8 @@ moves_first (s ∷ ss) t e a =
     mapped_twice (λ u. followed_by u ss) (λ u. seq u s) (step t a)
 
 -- types that end alike and move alike do so with the same parts behind them
-moves_alike : (ss : List Tree) (t u : Tree) → terminated t ≡ terminated u → ((a : Label) → step t a ≡ step u a) → MoveAlike (t ∷ ss) (u ∷ ss)
+moves_alike : (ss : List Tree) (t u : Tree) → terminated t ≡ terminated u →
+    ((a : Label) → step t a ≡ step u a) → MoveAlike (t ∷ ss) (u ∷ ss)
 moves_alike [] t u e f = f
 moves_alike (s ∷ ss) t u e f =
     moves_alike ss (seq t s) (seq u s) (ap (λ b. b && terminated s) e)

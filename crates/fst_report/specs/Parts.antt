@@ -26,7 +26,8 @@ MoveAlike ss ts = (a : Label) → step (whole ss) a ≡ step (whole ts) a
 
 -- these parts move as the type t does, with the rest of them behind
 abbrev pub MovesFirst : Tree → List Tree → List Tree → Type 0
-MovesFirst t rest parts = (a : Label) → step (whole parts) a ≡ option_map (λ s. followed_by s rest) (step t a)
+MovesFirst t rest parts = (a : Label) → step (whole parts) a ≡ option_map
+    (λ s. followed_by s rest) (step t a)
 
 -- how many nodes these types have together
 abbrev pub nodes_in : List Tree → ℕ

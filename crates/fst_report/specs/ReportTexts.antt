@@ -53,19 +53,23 @@ behind_event t ev = unwrap_or (after_event t ev) skip
 -- a history from where the left end has this type, with a space before each entry
 abbrev pub entries_text : Tree → List Entry → List ℕ
 entries_text t [] = []
-entries_text t (e ∷ es) = codes " " ++ event_text (sends t e.event) e.event ++ entries_text (behind_event t e.event) es
+entries_text t (e ∷ es) = codes " " ++ event_text (sends t e.event) e.event ++ entries_text
+    (behind_event t e.event) es
 
 -- the line of a task that waits
 abbrev pub waiting_text : Waiting → List ℕ
-waiting_text w = codes "waiting " ++ path_text w.task ++ codes " at " ++ channel_text w.end.channel ++ codes " " ++ side_text w.end.side ++ codes "\n"
+waiting_text w = codes "waiting " ++ path_text w.task ++ codes " at " ++ channel_text w.end.channel
+    ++ codes " " ++ side_text w.end.side ++ codes "\n"
 
 -- the line of a channel and its type
 abbrev pub type_line : List Family → ChannelHistory → List ℕ
-type_line families h = codes "channel " ++ channel_text h.name ++ codes " : " ++ type_text (family_names families) h.declared ++ codes "\n"
+type_line families h = codes "channel " ++ channel_text h.name ++ codes " : " ++ type_text
+    (family_names families) h.declared ++ codes "\n"
 
 -- the line of what passed over a channel
 abbrev pub history_line : ChannelHistory → List ℕ
-history_line h = codes "history " ++ channel_text h.name ++ codes " :" ++ entries_text h.declared h.entries.items ++ codes "\n"
+history_line h = codes "history " ++ channel_text h.name ++ codes " :" ++ entries_text h.declared
+    h.entries.items ++ codes "\n"
 
 -- both lines of a channel
 abbrev pub history_text : List Family → ChannelHistory → List ℕ
@@ -83,4 +87,5 @@ result_line families o = codes "result " ++ result_text families o ++ codes "\n"
 -- the report: main's value, the tasks that wait, and the channels with their histories, a line each
 abbrev pub report_text : List Family → Report → List ℕ
 report_text families r =
-    result_line families r.result ++ flat_map waiting_text r.waiting.items ++ flat_map (history_text families) r.channels.items
+    result_line families r.result ++ flat_map waiting_text r.waiting.items ++ flat_map
+    (history_text families) r.channels.items

@@ -11,5 +11,6 @@ count_line name count = name ++ codes " " ++ decimal count ++ codes "\n"
 -- where there are no data types
 abbrev pub summary_text : ℕ → Report → List ℕ
 summary_text bytes r =
-    count_line (codes "bytes") bytes ++ count_line (codes "events") r.events ++ count_line (codes "channels") (length r.channels.items) ++
+    count_line (codes "bytes") bytes ++ count_line (codes "events") r.events ++ count_line
+    (codes "channels") (length r.channels.items) ++
     result_line [] r.result

@@ -56,7 +56,8 @@ fn push_entry(
     residual: &mut Residual,
     entry: &Entry,
 ) -> Result<(), AllocError>
-    ensures text { Gains result text.old text.new (codes " " ++ event_text (sends residual.old entry.now.event) entry.now.event) }
+    ensures text { Gains result text.old text.new
+        (codes " " ++ event_text (sends residual.old entry.now.event) entry.now.event) }
     ensures left { OnOk result (residual.new ≡ behind_event residual.old entry.now.event) }
 {
     let out = residual.advance(alloc, &entry.event)?;

@@ -57,7 +57,8 @@ fn push(parts: &mut Vec<Ty>, part: Ty) -> Result<(), AllocError>
 }
 
 fn pop(parts: &mut Vec<Ty>) -> Option<Ty>
-    ensures { MatchOption result (reverse parts.old.items ≡ []) (λ t. reverse parts.old.items ≡ t ∷ reverse parts.new.items) }
+    ensures { MatchOption result (reverse parts.old.items ≡ [])
+        (λ t. reverse parts.old.items ≡ t ∷ reverse parts.new.items) }
 {
     parts.pop()
 }
@@ -90,7 +91,8 @@ fn take_apart(parts: &mut Vec<Ty>, part: Ty) -> Result<Option<Ty>, AllocError>
 
 // Takes the first part that moves, or `Skip` where none does.
 fn next_part(parts: &mut Vec<Ty>) -> Result<Ty, AllocError>
-    ensures { IfOk result (λ part. MovesFirst part (reverse parts.new.items) (reverse parts.old.items)) }
+    ensures { IfOk result (λ part. MovesFirst part (reverse parts.new.items)
+        (reverse parts.old.items)) }
 {
     while let Some(part) = pop(parts) {
         if let Some(found) = take_apart(parts, part)? {
@@ -116,7 +118,8 @@ fn after_event(alloc: Global, ty: &Ty, event: &Event) -> Result<(bool, Option<Ty
 // Goes on to what is left behind the event: the parts behind the first one stay as they are.
 fn advance_parts(alloc: Global, parts: &mut Vec<Ty>, event: &Event) -> Result<bool, AllocError>
     ensures sends { IfOk result (λ out. out ≡ sends (left_in parts.old.items) event.now) }
-    ensures left { OnOk result (left_in parts.new.items ≡ behind_event (left_in parts.old.items) event.now) }
+    ensures left { OnOk result (left_in parts.new.items ≡ behind_event
+        (left_in parts.old.items) event.now) }
 {
     let part = next_part(parts)?;
     let (out, behind) = after_event(alloc, &part, event)?;

@@ -118,7 +118,8 @@ mutual
 
 names_shown : (ts : List Lexeme) (xs : List Binder) → AreNames ts xs → AreMade ts → AreLowerNames xs
 names_shown _ _ terms.none m = All-nil _
-names_shown _ _ (terms.name k ts xs is d) m = All-cons (λ (x : Binder). IsLowerName x.name) (terms.bound k) xs (lower_name k m.0 is) (names_shown ts xs d m.1)
+names_shown _ _ (terms.name k ts xs is d) m = All-cons
+    (λ (x : Binder). IsLowerName x.name) (terms.bound k) xs (lower_name k m.0 is) (names_shown ts xs d m.1)
 
 applied_shown : (ts : List Lexeme) (types : List WrittenTree) → AreApplied ts types → AreMade ts → All IsShowableType types
 applied_shown _ _ terms.none m = All-nil _
@@ -133,11 +134,13 @@ types_shown all _ (terms.type ts us _ t types d e is) m =
     All-cons IsShowableType t types (type_atom_shown ts t d h.0) (types_shown us types e h.1)
 
 -- one arm more
-more_cases : (l : Binder) (xs : List Binder) (t : TermTree) (arms : TermArms) → IsUpperName l.name → AreLowerNames xs → IsShowable t → AreShowableCases arms → AreShowableCases (arm l xs t arms)
+more_cases : (l : Binder) (xs : List Binder) (t : TermTree) (arms : TermArms) → IsUpperName l.name → AreLowerNames xs →
+    IsShowable t → AreShowableCases arms → AreShowableCases (arm l xs t arms)
 more_cases l xs t no_arms upper lower s h = absurd h
 more_cases l xs t (arm m ys u arms) upper lower s h = (upper, lower, s, h)
 
-more_matches : (l x : Binder) (t : TermTree) (arms : TermArms) → IsUpperName l.name → IsLowerName x.name → IsShowable t → AreShowableMatches arms → AreShowableMatches (arm l (x ∷ []) t arms)
+more_matches : (l x : Binder) (t : TermTree) (arms : TermArms) → IsUpperName l.name → IsLowerName x.name → IsShowable t →
+    AreShowableMatches arms → AreShowableMatches (arm l (x ∷ []) t arms)
 more_matches l x t no_arms upper lower s h = absurd h
 more_matches l x t (arm m ys u arms) upper lower s h = (upper, lower, s, h)
 
@@ -182,14 +185,17 @@ mutual
       let h = subst AreMade is m in
       let g = around xs (ts ++ c ∷ us) a h.1 in
       let r = around ts us c g.1 in
-      more_cases (terms.bound l) binders t arms (upper_name l h.0 upper) (names_shown xs binders names g.0) (expr_shown ts t d r.0) (cases_shown us arms e r.1)
+      more_cases (terms.bound l) binders t arms (upper_name l h.0 upper) (names_shown xs binders names g.0)
+      (expr_shown ts t d r.0) (cases_shown us arms e r.1)
 
   matches_shown : (ts : List Lexeme) (arms : TermArms) → AreMatches ts arms → AreMade ts → AreShowableMatches arms
-  matches_shown _ _ (terms.last_match l x a ts t upper low sign d) m = (upper_name l m.0 upper, lower_name x m.1.0 low, expr_shown ts t d m.1.1.1)
+  matches_shown _ _ (terms.last_match l x a ts t upper low sign d) m =
+      (upper_name l m.0 upper, lower_name x m.1.0 low, expr_shown ts t d m.1.1.1)
   matches_shown all _ (terms.further_match l x a c ts us _ t arms upper low sign d comma e is) m =
       let h = subst AreMade is m in
       let r = around ts us c h.1.1.1 in
-      more_matches (terms.bound l) (terms.bound x) t arms (upper_name l h.0 upper) (lower_name x h.1.0 low) (expr_shown ts t d r.0) (matches_shown us arms e r.1)
+      more_matches (terms.bound l) (terms.bound x) t arms (upper_name l h.0 upper) (lower_name x h.1.0 low)
+      (expr_shown ts t d r.0) (matches_shown us arms e r.1)
 
   or_shown : (ts : List Lexeme) (t : TermTree) → IsOr ts t → AreMade ts → IsShowable t
   or_shown _ _ (terms.one_and ts t d) m = and_shown ts t d m
@@ -270,8 +276,10 @@ mutual
 binder_shown : (ts : List Lexeme) (b : Binder) (k : Kind) → IsBinder ts b k → AreMade ts → IsLowerName b.name
 binder_shown _ _ _ (types.binder x c u p uses prekind low colon once pre) m = lower_name x m.0 low
 
-binders_shown : (ts : List Lexeme) (bs : List (Binder × Kind)) → IsBinders ts bs → AreMade ts → All (λ (b : Binder × Kind). IsLowerName b.0.name) bs
-binders_shown ts _ (types.last _ b k d) m = All-cons (λ (c : Binder × Kind). IsLowerName c.0.name) (b, k) [] (binder_shown ts b k d m) (All-nil _)
+binders_shown : (ts : List Lexeme) (bs : List (Binder × Kind)) → IsBinders ts bs → AreMade ts → All
+    (λ (b : Binder × Kind). IsLowerName b.0.name) bs
+binders_shown ts _ (types.last _ b k d) m = All-cons
+    (λ (c : Binder × Kind). IsLowerName c.0.name) (b, k) [] (binder_shown ts b k d m) (All-nil _)
 binders_shown all _ (types.further ts us _ c b k bs d comma e is) m =
     let h = around ts us c (subst AreMade is m) in
     All-cons (λ (x : Binder × Kind). IsLowerName x.0.name) (b, k) bs (binder_shown ts b k d h.0) (binders_shown us bs e h.1)
@@ -320,5 +328,7 @@ pub showable_decl : (ts : List Lexeme) (d : Declared) → All IsMade ts → IsDe
 showable_decl ts d all e = decl_shown ts d e (recursion_from_All IsMade ts all)
 
 -- a module
-pub showable_module : (ts : List Lined) (ds : List Declared) → All (λ k. IsMade k.lexeme) ts → IsModule ts ds → All IsShowableDecl ds
-showable_module ts ds all d = module_shown ts ds d (recursion_from_All IsMade (lexemes_of ts) (All-map IsMade (λ (k : Lined). k.lexeme) ts all))
+pub showable_module : (ts : List Lined) (ds : List Declared) → All (λ k. IsMade k.lexeme) ts → IsModule ts ds →
+    All IsShowableDecl ds
+showable_module ts ds all d = module_shown ts ds d
+    (recursion_from_All IsMade (lexemes_of ts) (All-map IsMade (λ (k : Lined). k.lexeme) ts all))

@@ -35,7 +35,8 @@ digit_alphanumeric c e = grind (arith, nat_tests)
 
 digit_goes_on : (c : ℕ) → is_digit c ≡ true → continues_name c ≡ true
 digit_goes_on c e =
-    let on : is_xid_continue c ≡ true = is_xid_continue-ascii c (digit_low c e) ∙ ap (λ b. b || (c == byte "_")) (digit_alphanumeric c e) in
+    let on : is_xid_continue c ≡ true = is_xid_continue-ascii c (digit_low c e) ∙ ap
+    (λ b. b || (c == byte "_")) (digit_alphanumeric c e) in
     rw on (or-true (is_quote c))
 
 digits_go_on : (cs : List ℕ) → list_all is_digit cs ≡ true → list_all continues_name cs ≡ true
@@ -48,7 +49,8 @@ decimal_goes_on : (n : ℕ) → n < 2 ^ 64 → list_all continues_name (decimal 
 decimal_goes_on n small = digits_go_on (decimal n) (digits_alone n small)
 
 -- a small letter and a number are a lower name
-numbered : (c n : ℕ) → c < 128 → starts_name c ≡ true → is_capital (c ∷ decimal n) ≡ false → is_reserved (c ∷ decimal n) ≡ false → n < 2 ^ 64 → IsWordOf kind.Lower (c ∷ decimal n)
+numbered : (c n : ℕ) → c < 128 → starts_name c ≡ true → is_capital (c ∷ decimal n) ≡ false → is_reserved (c ∷ decimal n) ≡ false →
+    n < 2 ^ 64 → IsWordOf kind.Lower (c ∷ decimal n)
 numbered c n low starts small free fits =
     let ascii : IsAscii (c ∷ decimal n) = IsAscii-cons c (decimal n) low (IsAscii-decimal n fits) in
     let same : chars (c ∷ decimal n) ≡ c ∷ decimal n = chars-IsAscii (c ∷ decimal n) ascii in
@@ -115,7 +117,8 @@ variable_place (suc m) j zero i at below fits =
     rw (is, same (variable_text j)) refl
 variable_place (suc m) j (suc k) i at below fits =
     let inner = variable_place m (suc j) k i (omega arith) (omega arith) (omega arith) in
-    rw (differ (variable_text i) (variable_text j) (apart (byte "a") i j (omega arith) (omega arith) (λ e. omega arith)), inner) refl
+    rw (differ (variable_text i) (variable_text j) (apart (byte "a") i j (omega arith) (omega arith) (λ e. omega arith)), inner)
+    refl
 
 -- an upper name is no variable's
 pub upper_no_binder : (n : ℕ) (x : List ℕ) → IsWordOf kind.Upper x → n < 2 ^ 64 → place_of (binder_names n) x ≡ None
@@ -136,10 +139,12 @@ name_in P [] k below all = absurd (omega arith)
 name_in P (x ∷ names) zero below all = all 0 [] below
 name_in P (x ∷ names) (suc k) below all = name_in P names k (omega arith) (λ i d h. all (suc i) d (omega arith))
 
-pub name_place : (names : List (List ℕ)) (k : ℕ) → k < length names → AllPairs (λ a b. a ≢ b) names → place_of names (name_at names k) ≡ Some k
+pub name_place : (names : List (List ℕ)) (k : ℕ) → k < length names → AllPairs (λ a b. a ≢ b) names →
+    place_of names (name_at names k) ≡ Some k
 name_place [] k below distinct = absurd (omega arith)
 name_place (x ∷ names) zero below distinct = rw (same x) refl
 name_place (x ∷ names) (suc k) below distinct =
     let inner = name_place names k (omega arith) (λ i j d a b. distinct (suc i) (suc j) d (omega arith) (omega arith)) in
-    let later = name_in (λ y. y ≢ x) names k (omega arith) (λ i d h e. distinct 0 (suc i) d (omega arith) (omega arith) (sym e)) in
+    let later = name_in (λ y. y ≢ x) names k (omega arith)
+    (λ i d h e. distinct 0 (suc i) d (omega arith) (omega arith) (sym e)) in
     rw (differ (name_at names k) x later, inner) refl

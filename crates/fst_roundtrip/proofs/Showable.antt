@@ -79,13 +79,15 @@ abbrev mutual
   pub AreShowableCases : TermArms → Type 0
   AreShowableCases no_arms = ⊥
   AreShowableCases (arm l xs t no_arms) = IsUpperName l.name × AreLowerNames xs × IsShowable t
-  AreShowableCases (arm l xs t (arm m ys u bs)) = IsUpperName l.name × AreLowerNames xs × IsShowable t × AreShowableCases (arm m ys u bs)
+  AreShowableCases (arm l xs t (arm m ys u bs)) = IsUpperName l.name × AreLowerNames xs × IsShowable t ×
+      AreShowableCases (arm m ys u bs)
 
   -- and those of a match, each with one variable
   pub AreShowableMatches : TermArms → Type 0
   AreShowableMatches no_arms = ⊥
   AreShowableMatches (arm l (x ∷ []) t no_arms) = IsUpperName l.name × IsLowerName x.name × IsShowable t
-  AreShowableMatches (arm l (x ∷ []) t (arm m ys u bs)) = IsUpperName l.name × IsLowerName x.name × IsShowable t × AreShowableMatches (arm m ys u bs)
+  AreShowableMatches (arm l (x ∷ []) t (arm m ys u bs)) = IsUpperName l.name × IsLowerName x.name × IsShowable t ×
+      AreShowableMatches (arm m ys u bs)
   AreShowableMatches (arm l xs t bs) = ⊥
 
 -- a constructor with the types of its fields

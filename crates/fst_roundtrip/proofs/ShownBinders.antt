@@ -26,11 +26,28 @@ use Rattle.fst_roundtrip.specs.Unplaced.{unplaced_binder}
 
 session_word : IsWordOf kind.Upper (codes "S")
 unfolding encode chars
-session_word = (record { utf8 = (codes "S", (refl, refl)); name = rw (is_xid_start-ascii (byte "S") (omega arith)) refl; free = refl; short = omega arith }, refl)
+session_word = (
+  record {
+    utf8 = (codes "S", (refl, refl));
+    name = rw (is_xid_start-ascii (byte "S") (omega arith)) refl;
+    free =
+        refl;
+    short = omega arith;
+  },
+  refl,
+)
 
 top_word : IsWordOf kind.Upper (codes "T")
 unfolding encode chars
-top_word = (record { utf8 = (codes "T", (refl, refl)); name = rw (is_xid_start-ascii (byte "T") (omega arith)) refl; free = refl; short = omega arith }, refl)
+top_word = (
+  record {
+    utf8 = (codes "T", (refl, refl));
+    name = rw (is_xid_start-ascii (byte "T") (omega arith)) refl;
+    free = refl;
+    short = omega arith;
+  },
+  refl,
+)
 
 prekind_reads : (p : Prekind) → Reads EndsName (prekind_text p) (One (λ k. IsPrekind k p))
 prekind_reads Session = so (codes "S") stands (upper_name (codes "S") session_word)
@@ -42,8 +59,10 @@ prekind_reads Top = so (codes "T") stands (upper_name (codes "T") top_word)
     stands : (ts : List Lexeme) → One (λ k. IsUpper k × (k.text ≡ codes "T")) ts → One (λ k. IsPrekind k Top) ts
     stands _ (one k h) = one k (grammar.top k h.0 h.1)
 
-kind_reads : (u : Use) (p : Prekind) → Reads EndsName (use_text u ++ prekind_text p) (Two (One (λ k. IsUse k u)) (One (λ k. IsPrekind k p)))
-kind_reads Many p = both (codes "*") (prekind_text p) (λ rest q. tt) (so (codes "*") stands (sign {Q = Any} (byte "*") refl (λ b. refl))) (prekind_reads p)
+kind_reads : (u : Use) (p : Prekind) → Reads EndsName (use_text u ++ prekind_text p)
+    (Two (One (λ k. IsUse k u)) (One (λ k. IsPrekind k p)))
+kind_reads Many p = both (codes "*") (prekind_text p)
+    (λ rest q. tt) (so (codes "*") stands (sign {Q = Any} (byte "*") refl (λ b. refl))) (prekind_reads p)
   where
     stands : (ts : List Lexeme) → One (Is (codes "*")) ts → One (λ k. IsUse k Many) ts
     stands _ (one k is) = one k (grammar.star k is)
@@ -69,7 +88,8 @@ binder_shown b lower =
     (both b.0.name (codes ":") (λ rest q. refl) (lower_name b.0.name lower) (sign {Q = Any} (byte ":") refl (λ c. refl)))
     (kind_reads b.1.uses b.1.prekind))
   where
-    stands : (ts : List Lexeme) → Two (Two (One (λ k. IsLower k × (k.text ≡ b.0.name))) (One (Is (codes ":")))) (Two (One (λ k. IsUse k b.1.uses)) (One (λ k. IsPrekind k b.1.prekind))) ts → ShownBinder b ts
+    stands : (ts : List Lexeme) → Two (Two (One (λ k. IsLower k × (k.text ≡ b.0.name))) (One (Is (codes ":"))))
+        (Two (One (λ k. IsUse k b.1.uses)) (One (λ k. IsPrekind k b.1.prekind))) ts → ShownBinder b ts
     stands _ (two _ _ (two _ _ (one x name) (one c colon)) (two _ _ (one u uses) (one p prekind))) = record {
       wrote = record { name = x.text; at = x.at };
       form = grammar.binder x c u p b.1.uses b.1.prekind name.0 colon uses prekind;
@@ -92,12 +112,20 @@ single_shown : (b : Binder × Kind) → IsLowerName b.0.name → Reads EndsName 
 single_shown b lower = rw (append-nil (binder_kind_text b)) (so (binder_kind_text b) stands (binder_shown b lower))
   where
     stands : (ts : List Lexeme) → ShownBinder b ts → ShownBinders (b ∷ []) ts
-    stands ts x = record { wrote = (x.wrote, b.1) ∷ []; form = grammar.last ts x.wrote b.1 x.form; same = λ i. (x.same i, b.1) ∷ [] }
+    stands ts x = record {
+      wrote = (x.wrote, b.1) ∷ [];
+      form = grammar.last ts x.wrote b.1 x.form;
+      same =
+          λ i. (x.same i, b.1) ∷ [];
+    }
 
-further_shown : (b : Binder × Kind) (more : List ℕ) (bs : List (Binder × Kind)) → IsLowerName b.0.name → Reads EndsName more (ShownBinders bs) → Reads EndsName (binder_kind_text b ++ (codes ", " ++ more)) (ShownBinders (b ∷ bs))
+further_shown : (b : Binder × Kind) (more : List ℕ) (bs : List (Binder × Kind)) → IsLowerName b.0.name →
+    Reads EndsName more (ShownBinders bs) → Reads EndsName (binder_kind_text b ++ (codes ", " ++ more)) (ShownBinders (b ∷ bs))
 further_shown b more bs lower others =
     so (binder_kind_text b ++ (codes ", " ++ more)) stands
-    (both (binder_kind_text b) (codes ", " ++ more) (λ rest q. refl) (binder_shown b lower) (both (codes ", ") more (λ rest q. tt) (spaced {Q = Any} (byte ",") refl (λ c. refl)) others))
+    (both (binder_kind_text b) (codes ", " ++ more)
+    (λ rest q. refl) (binder_shown b lower) (both (codes ", ") more
+    (λ rest q. tt) (spaced {Q = Any} (byte ",") refl (λ c. refl)) others))
   where
     stands : (ts : List Lexeme) → Two (ShownBinder b) (Two (One (Is (codes ","))) (ShownBinders bs)) ts → ShownBinders (b ∷ bs) ts
     stands _ (two us _ x (two _ vs (one c comma) y)) = record {
@@ -106,8 +134,10 @@ further_shown b more bs lower others =
       same = λ i. (x.same i, b.1) ∷ y.same i;
     }
 
-pub binders_shown : (b : Binder × Kind) (bs : List (Binder × Kind)) → AreVariables (b ∷ bs) → Reads EndsName (joined_text (codes ", ") (map binder_kind_text (b ∷ bs))) (ShownBinders (b ∷ bs))
+pub binders_shown : (b : Binder × Kind) (bs : List (Binder × Kind)) → AreVariables (b ∷ bs) →
+    Reads EndsName (joined_text (codes ", ") (map binder_kind_text (b ∷ bs))) (ShownBinders (b ∷ bs))
 binders_shown b [] h = single_shown b (All-head (λ (x : Binder × Kind). IsLowerName x.0.name) b [] h)
 binders_shown b (c ∷ bs) h =
-    further_shown b (joined_text (codes ", ") (map binder_kind_text (c ∷ bs))) (c ∷ bs) (All-head (λ (x : Binder × Kind). IsLowerName x.0.name) b (c ∷ bs) h)
+    further_shown b (joined_text (codes ", ") (map binder_kind_text (c ∷ bs))) (c ∷ bs)
+    (All-head (λ (x : Binder × Kind). IsLowerName x.0.name) b (c ∷ bs) h)
     (binders_shown c bs (All-tail (λ (x : Binder × Kind). IsLowerName x.0.name) b (c ∷ bs) h))

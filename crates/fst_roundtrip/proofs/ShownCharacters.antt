@@ -40,7 +40,8 @@ between (a ∷ d ∷ e ∷ b ∷ []) c all is =
 between _ c all is = absurd (cc is)
 
 -- characters between quotes as bytes
-spelled : (cs text : List ℕ) (c : ℕ) → scalars cs ≡ true → encodes cs ≡ text → quoted_character cs ≡ Some c → IsWordOf (kind.Character c) text
+spelled : (cs text : List ℕ) (c : ℕ) → scalars cs ≡ true → encodes cs ≡ text → quoted_character cs ≡ Some c →
+    IsWordOf (kind.Character c) text
 spelled cs text c all is stands = ((cs, (all, is)), ap quoted_character (ap chars (sym is) ∙ chars-encodes cs all) ∙ stands)
 
 -- a character that stands for itself is none of those that don't
@@ -48,11 +49,17 @@ differs : (d c : ℕ) → is_plain d ≡ false → is_plain c ≡ true → (c ==
 differs d c special plain = excluded (c == d) (is_plain c) (λ e. ap is_plain (same_number c d e) ∙ special) plain
 
 itself : (c : ℕ) → is_plain c ≡ true → character_text c ≡ encode c
-itself c plain = rw (differs (byte "\n") c refl plain, differs (byte "\t") c refl plain, differs (byte "\\") c refl plain, differs (byte "'") c refl plain) refl
+itself c plain = rw (
+  differs (byte "\n") c refl plain,
+  differs (byte "\t") c refl plain,
+  differs (byte "\\") c refl plain,
+  differs (byte "'") c refl plain,
+) refl
 
 plain_word : (c : ℕ) → is_plain c ≡ true → scalar c ≡ true → IsWordOf (kind.Character c) (codes "'" ++ encode c ++ codes "'")
 unfolding encode choose
-plain_word c plain unicode = spelled (byte "'" ∷ c ∷ byte "'" ∷ []) (codes "'" ++ encode c ++ codes "'") c (ap (λ b. b && true) unicode) refl (rw plain refl)
+plain_word c plain unicode = spelled (byte "'" ∷ c ∷ byte "'" ∷ []) (codes "'" ++ encode c ++ codes "'") c
+    (ap (λ b. b && true) unicode) refl (rw plain refl)
 
 abbrev IsWritten : ℕ → Type 0
 IsWritten c = IsWordOf (kind.Character c) (quoted_text c)
@@ -91,6 +98,7 @@ escaped_word c e =
 pub character_word : (text : List ℕ) (c : ℕ) → IsWordOf (kind.Character c) text → IsWordOf (kind.Character c) (quoted_text c)
 character_word text c is =
     elim (between (chars text) c (scalars-chars text is.0) is.1) [
-      | inl h ↦ subst (λ (inner : List ℕ). IsWordOf (kind.Character c) (codes "'" ++ inner ++ codes "'")) (sym (itself c h.0)) (plain_word c h.0 h.1)
+      | inl h ↦ subst (λ (inner : List ℕ). IsWordOf (kind.Character c) (codes "'" ++ inner ++ codes "'")) (sym (itself c h.0))
+          (plain_word c h.0 h.1)
       | inr h ↦ escaped_word c h
     ]

@@ -77,17 +77,23 @@ first_ends (equation x xs t) more = rest_ends_name (equation x xs t) more
 
 -- lexemes that are this declaration behind its first word
 abbrev pub ShownDecl : Declared → List Lexeme → Type 0
-ShownDecl d ts = (k : Lexeme) → k.kind ≡ decl_kind d → k.text ≡ decl_first d → Shown (λ us e. IsDecl (k ∷ us) e) unplaced_decl d ts
+ShownDecl d ts = (k : Lexeme) → k.kind ≡ decl_kind d → k.text ≡ decl_first d → Shown
+    (λ us e. IsDecl (k ∷ us) e) unplaced_decl d ts
 
 -- a name and an equals sign, with what it stands for behind it
 abbrev Stands : Binder → (List Lexeme → Type 0) → List Lexeme → Type 0
 Stands x P = Two (Two (UpperBound x) (One (Is (codes "=")))) P
 
-equated : {P : List Lexeme → Type 0} (x : Binder) (text : List ℕ) → IsUpperName x.name → Reads EndsName text P → Reads EndsName (codes " " ++ x.name ++ codes " = " ++ text) (Stands x P)
-equated x text upper r = both (codes " " ++ x.name ++ codes " = ") text (λ rest q. tt) (both (codes " " ++ x.name) (codes " = ") (λ rest q. refl) (blank_before x.name (upper_name x.name upper)) (equals {Q = Any})) r
+equated : {P : List Lexeme → Type 0} (x : Binder) (text : List ℕ) → IsUpperName x.name → Reads EndsName text P →
+    Reads EndsName (codes " " ++ x.name ++ codes " = " ++ text) (Stands x P)
+equated x text upper r = both (codes " " ++ x.name ++ codes " = ") text
+    (λ rest q. tt) (both (codes " " ++ x.name) (codes " = ")
+    (λ rest q. refl) (blank_before x.name (upper_name x.name upper)) (equals {Q = Any})) r
 
-family_shown : (x : Binder) (m : Maker) (ms : List Maker) → IsShowableDecl (family x (m ∷ ms)) → Reads EndsName (decl_rest (family x (m ∷ ms))) (ShownDecl (family x (m ∷ ms)))
-family_shown x m ms h = so (decl_rest (family x (m ∷ ms))) stands (equated x (joined_text (codes " | ") (map maker_text (m ∷ ms))) h.0 (makers_shown m ms h.1.0 h.1.1))
+family_shown : (x : Binder) (m : Maker) (ms : List Maker) → IsShowableDecl (family x (m ∷ ms)) →
+    Reads EndsName (decl_rest (family x (m ∷ ms))) (ShownDecl (family x (m ∷ ms)))
+family_shown x m ms h = so (decl_rest (family x (m ∷ ms))) stands
+    (equated x (joined_text (codes " | ") (map maker_text (m ∷ ms))) h.0 (makers_shown m ms h.1.0 h.1.1))
   where
     stands : (ts : List Lexeme) → Stands x (ShownMakers (m ∷ ms)) ts → ShownDecl (family x (m ∷ ms)) ts
     stands _ (two _ ts (two _ _ (one y name) (one e is)) inner) k same_kind same_text = record {
@@ -96,7 +102,8 @@ family_shown x m ms h = so (decl_rest (family x (m ∷ ms))) stands (equated x (
       same = λ i. family (record { name = name.1 i; at = 0 }) (inner.same i);
     }
 
-alias_shown : (x : Binder) (t : WrittenTree) → IsShowableDecl (alias x t) → Reads EndsName (decl_rest (alias x t)) (ShownDecl (alias x t))
+alias_shown : (x : Binder) (t : WrittenTree) → IsShowableDecl (alias x t) →
+    Reads EndsName (decl_rest (alias x t)) (ShownDecl (alias x t))
 alias_shown x t h = so (decl_rest (alias x t)) stands (equated x (written_text t) h.0 (type_shown t h.1))
   where
     stands : (ts : List Lexeme) → Stands x (ShownType IsType t) ts → ShownDecl (alias x t) ts
@@ -109,8 +116,10 @@ alias_shown x t h = so (decl_rest (alias x t)) stands (equated x (written_text t
 colon : {Q : List ℕ → Type 0} → Reads Q (codes " : ") (One (Is (codes ":")))
 colon = blank_before (codes ": ") (sign_blank (codes ":") refl (λ rest. refl))
 
-closed_shown : (x : Binder) (t : WrittenTree) → IsShowableDecl (signature x [] t) → Reads EndsName (decl_rest (signature x [] t)) (ShownDecl (signature x [] t))
-closed_shown x t h = so (codes " : " ++ written_text t) stands (both (codes " : ") (written_text t) (λ rest q. tt) (colon {Q = Any}) (type_shown t h.2))
+closed_shown : (x : Binder) (t : WrittenTree) → IsShowableDecl (signature x [] t) →
+    Reads EndsName (decl_rest (signature x [] t)) (ShownDecl (signature x [] t))
+closed_shown x t h = so (codes " : " ++ written_text t) stands
+    (both (codes " : ") (written_text t) (λ rest q. tt) (colon {Q = Any}) (type_shown t h.2))
   where
     stands : (ts : List Lexeme) → Two (One (Is (codes ":"))) (ShownType IsType t) ts → ShownDecl (signature x [] t) ts
     stands _ (two _ ts (one c is) inner) k same_kind same_text = record {
@@ -119,7 +128,8 @@ closed_shown x t h = so (codes " : " ++ written_text t) stands (both (codes " : 
       same = λ i. signature (record { name = same_text i; at = 0 }) [] (inner.same i);
     }
 
-over_shown : (x : Binder) (b : Binder × Kind) (bs : List (Binder × Kind)) (t : WrittenTree) → IsShowableDecl (signature x (b ∷ bs) t) →
+over_shown : (x : Binder) (b : Binder × Kind) (bs : List (Binder × Kind)) (t : WrittenTree) →
+    IsShowableDecl (signature x (b ∷ bs) t) →
     Reads EndsName (decl_rest (signature x (b ∷ bs) t)) (ShownDecl (signature x (b ∷ bs) t))
 over_shown x b bs t h =
     let variables = joined_text (codes ", ") (map binder_kind_text (b ∷ bs)) in
@@ -131,15 +141,21 @@ over_shown x b bs t h =
     (spaced {Q = Any} (byte ".") refl (λ c. refl))))
     (type_shown t h.2))
   where
-    stands : (ts : List Lexeme) → Two (Two (One (Is (codes ":"))) (Two (Two (One (Is (codes "forall"))) (ShownBinders (b ∷ bs))) (One (Is (codes "."))))) (ShownType IsType t) ts → ShownDecl (signature x (b ∷ bs) t) ts
-    stands _ (two _ ts (two _ _ (one c is) (two _ _ (two _ vs (one f is') y) (one d is''))) inner) k same_kind same_text = record {
-      wrote = signature (bound k) y.wrote inner.wrote;
-      form = grammar.over k c f d vs ts (k ∷ c ∷ f ∷ (vs ++ d ∷ []) ++ ts) y.wrote inner.wrote same_kind is is' y.form is'' inner.form (simp append_assoc);
-      same = λ i. signature (record { name = same_text i; at = 0 }) (y.same i) (inner.same i);
-    }
+    stands : (ts : List Lexeme) → Two (Two (One (Is (codes ":")))
+        (Two (Two (One (Is (codes "forall"))) (ShownBinders (b ∷ bs))) (One (Is (codes "."))))) (ShownType IsType t) ts →
+        ShownDecl (signature x (b ∷ bs) t) ts
+    stands _ (two _ ts (two _ _ (one c is) (two _ _ (two _ vs (one f is') y) (one d is''))) inner) k same_kind same_text =
+        record {
+          wrote = signature (bound k) y.wrote inner.wrote;
+          form = grammar.over k c f d vs ts (k ∷ c ∷ f ∷ (vs ++ d ∷ []) ++ ts) y.wrote inner.wrote same_kind is is' y.form is''
+              inner.form (simp append_assoc);
+          same = λ i. signature (record { name = same_text i; at = 0 }) (y.same i) (inner.same i);
+        }
 
-constant_shown : (x : Binder) (t : TermTree) → IsShowableDecl (equation x [] t) → Reads EndsName (decl_rest (equation x [] t)) (ShownDecl (equation x [] t))
-constant_shown x t h = so (codes " = " ++ term_text t) stands (both (codes " = ") (term_text t) (λ rest q. tt) (equals {Q = Any}) (term_shown t h.2))
+constant_shown : (x : Binder) (t : TermTree) → IsShowableDecl (equation x [] t) →
+    Reads EndsName (decl_rest (equation x [] t)) (ShownDecl (equation x [] t))
+constant_shown x t h = so (codes " = " ++ term_text t) stands
+    (both (codes " = ") (term_text t) (λ rest q. tt) (equals {Q = Any}) (term_shown t h.2))
   where
     stands : (ts : List Lexeme) → Two (One (Is (codes "="))) (ShownTerm IsExpr t) ts → ShownDecl (equation x [] t) ts
     stands _ (two _ ts (one e is) inner) k same_kind same_text = record {
@@ -148,15 +164,20 @@ constant_shown x t h = so (codes " = " ++ term_text t) stands (both (codes " = "
       same = λ i. equation (record { name = same_text i; at = 0 }) [] (inner.same i);
     }
 
-function_shown : (x y : Binder) (ys : List Binder) (t : TermTree) → IsShowableDecl (equation x (y ∷ ys) t) → Reads EndsName (decl_rest (equation x (y ∷ ys) t)) (ShownDecl (equation x (y ∷ ys) t))
+function_shown : (x y : Binder) (ys : List Binder) (t : TermTree) → IsShowableDecl (equation x (y ∷ ys) t) →
+    Reads EndsName (decl_rest (equation x (y ∷ ys) t)) (ShownDecl (equation x (y ∷ ys) t))
 function_shown x y ys t h =
     so (names_text (y ∷ ys) ++ codes " = " ++ term_text t) stands
-    (both (names_text (y ∷ ys) ++ codes " = ") (term_text t) (λ rest q. tt) (both (names_text (y ∷ ys)) (codes " = ") (λ rest q. refl) (names_shown y ys h.1) (equals {Q = Any})) (term_shown t h.2))
+    (both (names_text (y ∷ ys) ++ codes " = ") (term_text t)
+    (λ rest q. tt) (both (names_text (y ∷ ys)) (codes " = ") (λ rest q. refl) (names_shown y ys h.1) (equals {Q = Any}))
+    (term_shown t h.2))
   where
-    stands : (ts : List Lexeme) → Two (Two (ShownNames (y ∷ ys)) (One (Is (codes "=")))) (ShownTerm IsExpr t) ts → ShownDecl (equation x (y ∷ ys) t) ts
+    stands : (ts : List Lexeme) → Two (Two (ShownNames (y ∷ ys)) (One (Is (codes "=")))) (ShownTerm IsExpr t) ts →
+        ShownDecl (equation x (y ∷ ys) t) ts
     stands _ (two _ ts (two xs _ names (one e is)) inner) k same_kind same_text = record {
       wrote = equation (bound k) names.wrote inner.wrote;
-      form = grammar.equation k e xs ts (k ∷ (xs ++ e ∷ []) ++ ts) names.wrote inner.wrote same_kind names.form is inner.form (simp append_assoc);
+      form = grammar.equation k e xs ts (k ∷ (xs ++ e ∷ []) ++ ts) names.wrote inner.wrote same_kind names.form is inner.form
+          (simp append_assoc);
       same = λ i. equation (record { name = same_text i; at = 0 }) (names.same i) (inner.same i);
     }
 

@@ -38,9 +38,12 @@ last_shown m h = rw (append-nil (maker_text m)) (so (maker_text m) stands (maker
       same = λ i. record { name = record { name = name.1 i; at = 0 }; fields = x.same i } ∷ [];
     }
 
-further_shown : (m : Maker) (more : List ℕ) (ms : List Maker) → IsShowableMaker m → Reads EndsName more (ShownMakers ms) → Reads EndsName (maker_text m ++ (codes " | " ++ more)) (ShownMakers (m ∷ ms))
+further_shown : (m : Maker) (more : List ℕ) (ms : List Maker) → IsShowableMaker m → Reads EndsName more (ShownMakers ms) →
+    Reads EndsName (maker_text m ++ (codes " | " ++ more)) (ShownMakers (m ∷ ms))
 further_shown m more ms h others =
-    so (maker_text m ++ (codes " | " ++ more)) stands (both (maker_text m) (codes " | " ++ more) (λ rest q. refl) (maker_shown m h) (both (codes " | ") more (λ rest q. tt) (bar {Q = Any}) others))
+    so (maker_text m ++ (codes " | " ++ more)) stands
+    (both (maker_text m) (codes " | " ++ more) (λ rest q. refl) (maker_shown m h)
+    (both (codes " | ") more (λ rest q. tt) (bar {Q = Any}) others))
   where
     stands : (ts : List Lexeme) → Two (ShownMaker m) (Two (One (Is (codes "|"))) (ShownMakers ms)) ts → ShownMakers (m ∷ ms) ts
     stands _ (two _ _ (two _ ts (one k name) x) (two _ us (one b is) y)) = record {
@@ -49,7 +52,9 @@ further_shown m more ms h others =
       same = λ i. record { name = record { name = name.1 i; at = 0 }; fields = x.same i } ∷ y.same i;
     }
 
-pub makers_shown : (m : Maker) (ms : List Maker) → IsShowableMaker m → All IsShowableMaker ms → Reads EndsName (joined_text (codes " | ") (map maker_text (m ∷ ms))) (ShownMakers (m ∷ ms))
+pub makers_shown : (m : Maker) (ms : List Maker) → IsShowableMaker m → All IsShowableMaker ms →
+    Reads EndsName (joined_text (codes " | ") (map maker_text (m ∷ ms))) (ShownMakers (m ∷ ms))
 makers_shown m [] h hs = last_shown m h
 makers_shown m (n ∷ ms) h hs =
-    further_shown m (joined_text (codes " | ") (map maker_text (n ∷ ms))) (n ∷ ms) h (makers_shown n ms (All-head IsShowableMaker n ms hs) (All-tail IsShowableMaker n ms hs))
+    further_shown m (joined_text (codes " | ") (map maker_text (n ∷ ms))) (n ∷ ms) h
+    (makers_shown n ms (All-head IsShowableMaker n ms hs) (All-tail IsShowableMaker n ms hs))

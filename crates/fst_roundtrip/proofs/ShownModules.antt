@@ -25,7 +25,8 @@ abbrev lined_word_of : Lined → LinedWord
 lined_word_of k = record { first = k.first; word = word_of k.lexeme }
 
 -- tokens that are words inside a line
-inside_words : (ts : List Lined) (ws : List Word) → map lined_word_of ts ≡ map inside ws → AreInside ts × (map word_of (lexemes_of ts) ≡ ws)
+inside_words : (ts : List Lined) (ws : List Word) → map lined_word_of ts ≡ map inside ws → AreInside ts ×
+    (map word_of (lexemes_of ts) ≡ ws)
 inside_words [] [] e = (tt, refl)
 inside_words [] (w ∷ ws) e = absurd (cc e)
 inside_words (k ∷ ts) [] e = absurd (cc e)
@@ -50,8 +51,11 @@ record Written (ds : List Declared) : Type 0 where
 one_more : (d : Declared) (ds : List Declared) → IsShowableDecl d → Written ds → Written (d ∷ ds)
 one_more d ds h w = record {
   words = first ∷ (map inside r.words ++ w.words);
-  spelled = spelling.word true (record { kind = decl_kind d; text = decl_first d }) (module_text (d ∷ ds)) (decl_rest d ++ (codes "\n" ++ module_text ds)) (map inside r.words ++ w.words) (first_word d h) (first_ends d (codes "\n" ++ module_text ds)) parts
-      (r.spelled (codes "\n" ++ module_text ds) w.words refl (spelling.blank false (byte "\n") (module_text ds) w.words refl w.spelled));
+  spelled = spelling.word true (record { kind = decl_kind d; text = decl_first d }) (module_text (d ∷ ds))
+      (decl_rest d ++ (codes "\n" ++ module_text ds)) (map inside r.words ++ w.words) (first_word d h)
+      (first_ends d (codes "\n" ++ module_text ds)) parts
+      (r.spelled (codes "\n" ++ module_text ds) w.words refl
+      (spelling.blank false (byte "\n") (module_text ds) w.words refl w.spelled));
   again = read_again;
 }
   where
@@ -74,11 +78,13 @@ one_more d ds h w = record {
         let tail : map lined_word_of ts ≡ map inside r.words ++ w.words = cc in
         let c = halves lined_word_of ts (map inside r.words) w.words tail in
         let i = inside_words c.front r.words c.first in
-        let s = r.read (lexemes_of c.front) i.1 k.lexeme (ap (λ (z : LinedWord). z.word.kind) head) (ap (λ (z : LinedWord). z.word.text) head) in
+        let s = r.read (lexemes_of c.front) i.1 k.lexeme (ap (λ (z : LinedWord). z.word.kind) head)
+        (ap (λ (z : LinedWord). z.word.text) head) in
         let m = w.again c.back c.second in
         record {
           read = s.wrote ∷ m.read;
-          derives = decl k c.front c.back (k ∷ ts) s.wrote m.read (ap (λ (z : LinedWord). z.first) head) i.0 s.form m.derives (ap (λ (z : List Lined). k ∷ z) (sym c.parts));
+          derives = decl k c.front c.back (k ∷ ts) s.wrote m.read (ap (λ (z : LinedWord). z.first) head) i.0 s.form m.derives
+              (ap (λ (z : List Lined). k ∷ z) (sym c.parts));
           same = λ j. s.same j ∷ m.same j;
         }
 
@@ -91,7 +97,9 @@ written [] all = record { words = []; spelled = spelling.nothing true; again = r
 written (d ∷ ds) all = one_more d ds all.0 (written ds all.1)
 
 -- the tokens of a text by lines are its words
-lined_words : (text : List ℕ) (tokens : List Token) (ws : List LinedWord) (end : LinedWord) (n : ℕ) → map (lined_word_at text) tokens ≡ ws ++ end ∷ [] → n ≡ length ws → map lined_word_of (map (line_lexeme text) (take n tokens)) ≡ ws
+lined_words : (text : List ℕ) (tokens : List Token) (ws : List LinedWord) (end : LinedWord) (n : ℕ) →
+    map (lined_word_at text) tokens ≡ ws ++ end ∷ [] → n ≡ length ws →
+    map lined_word_of (map (line_lexeme text) (take n tokens)) ≡ ws
 lined_words text tokens [] end n e is = rw is refl
 lined_words text [] (w ∷ ws) end n e is = absurd (cc e)
 lined_words text (k ∷ tokens) (w ∷ ws) end zero e is = absurd (omega (arith, is))
@@ -103,11 +111,24 @@ lined_words text (k ∷ tokens) (w ∷ ws) end (suc n) e is =
 
 pub read_again_law : SpellingLaw → TokenWords → ReadAgain
 read_again_law spelled token_words text tokens ds lexes derives =
-    let all = showable_module (line_lexemes text tokens) ds (All-map (λ k. IsMade k.lexeme) (line_lexeme text) (take (length tokens - 1) tokens) (token_words text tokens lexes)) derives in
+    let all = showable_module (line_lexemes text tokens) ds
+    (All-map (λ k. IsMade k.lexeme) (line_lexeme text) (take (length tokens - 1) tokens) (token_words text tokens lexes))
+    derives in
     let w = written ds (recursion_from_All IsShowableDecl ds all) in
     let found = spelled (module_text ds) w.words w.spelled in
     let end : LinedWord = record { first = found.has.last; word = end_word } in
-    let many : length (map (lined_word_at (module_text ds)) found.tokens) ≡ length found.tokens = length-map found.tokens (lined_word_at (module_text ds)) in
-    let size : length found.tokens - 1 ≡ length w.words = omega (arith, many, ap length found.has.words, length-append w.words (end ∷ [])) in
-    let a = w.again (line_lexemes (module_text ds) found.tokens) (lined_words (module_text ds) found.tokens w.words end (length found.tokens - 1) found.has.words size) in
-    record { tokens = found.tokens; read = a.read; lexes = found.lexes; derives = a.derives; same = a.same; same_text = one_text a.read ds a.same }
+    let many : length (map (lined_word_at (module_text ds)) found.tokens) ≡ length found.tokens =
+    length-map found.tokens (lined_word_at (module_text ds)) in
+    let size : length found.tokens - 1 ≡ length w.words =
+    omega (arith, many, ap length found.has.words, length-append w.words (end ∷ [])) in
+    let a = w.again (line_lexemes (module_text ds) found.tokens)
+    (lined_words (module_text ds) found.tokens w.words end (length found.tokens - 1) found.has.words size) in
+    record {
+      tokens = found.tokens;
+      read = a.read;
+      lexes = found.lexes;
+      derives = a.derives;
+      same = a.same;
+      same_text =
+          one_text a.read ds a.same;
+    }

@@ -62,23 +62,29 @@ abbrev pub RankedTerm : TermTree → List Lexeme → Type 0
 RankedTerm t = ShownTerm (Ranked t) t
 
 -- a term that isn't applied without parentheses, and an atom that may be
-pub no_head : (text : List ℕ) (t : TermTree) → is_no_head t ≡ true → Reads EndsName text (ShownTerm (IsRank (rank t)) t) → Reads EndsName text (RankedTerm t)
+pub no_head : (text : List ℕ) (t : TermTree) → is_no_head t ≡ true → Reads EndsName text (ShownTerm (IsRank (rank t)) t) →
+    Reads EndsName text (RankedTerm t)
 no_head text t is r = reshown text t (λ ts u x. (x, λ e. absurd (cc (is, e)))) r
 
-pub plain_head : (text : List ℕ) (t : TermTree) → atom_rank ≡ rank t → Reads EndsName text (ShownTerm IsPlain t) → Reads EndsName text (RankedTerm t)
-plain_head text t is r = reshown text t (λ ts u x. (subst (λ n. IsRank n ts u) is (grammar.plain ts u x), λ e. grammar.one_plain ts u x)) r
+pub plain_head : (text : List ℕ) (t : TermTree) → atom_rank ≡ rank t → Reads EndsName text (ShownTerm IsPlain t) →
+    Reads EndsName text (RankedTerm t)
+plain_head text t is r = reshown text t (λ ts u x.
+    (subst (λ n. IsRank n ts u) is (grammar.plain ts u x), λ e. grammar.one_plain ts u x)) r
 
 -- as a whole term
 pub whole : (text : List ℕ) (t : TermTree) → Reads EndsName text (RankedTerm t) → Reads EndsName text (ShownTerm IsExpr t)
 whole text t r = reshown text t (λ ts u x. lower (rank t) whole_rank (omega arith) ts u x.0) r
 
 -- in parentheses
-pub group_shown : (text : List ℕ) (t : TermTree) → Reads EndsName text (ShownTerm IsExpr t) → Reads EndsName (in_parens text) (ShownTerm IsPlain t)
+pub group_shown : (text : List ℕ) (t : TermTree) → Reads EndsName text (ShownTerm IsExpr t) →
+    Reads EndsName (in_parens text) (ShownTerm IsPlain t)
 group_shown text t r =
     so (in_parens text) stands
-    (both (codes "(" ++ text) (codes ")") (λ rest q. refl) (both (codes "(") text (λ rest q. tt) (sign {Q = Any} (byte "(") refl (λ b. refl)) r) (sign (byte ")") refl (λ b. refl)))
+    (both (codes "(" ++ text) (codes ")") (λ rest q. refl)
+    (both (codes "(") text (λ rest q. tt) (sign {Q = Any} (byte "(") refl (λ b. refl)) r) (sign (byte ")") refl (λ b. refl)))
   where
-    stands : (ts : List Lexeme) → Two (Two (One (Is (codes "("))) (ShownTerm IsExpr t)) (One (Is (codes ")"))) ts → ShownTerm IsPlain t ts
+    stands : (ts : List Lexeme) → Two (Two (One (Is (codes "("))) (ShownTerm IsExpr t)) (One (Is (codes ")"))) ts →
+        ShownTerm IsPlain t ts
     stands _ (two _ _ (two _ us (one k opens) inner) (one c closes)) = record {
       wrote = inner.wrote;
       form = grammar.group k c us (k ∷ us ++ c ∷ []) inner.wrote opens inner.form closes refl;
@@ -86,16 +92,21 @@ group_shown text t r =
     }
 
 -- where the grammar takes only forms of a rank, or what may be applied
-ranked_by : (parens : Bool) (n : ℕ) (text : List ℕ) (t : TermTree) → n ≤ atom_rank → is_below n t ≡ parens → Reads EndsName text (RankedTerm t) → Reads EndsName (in_parens_if parens text) (ShownTerm (IsRank n) t)
-ranked_by true n text t h e r = reshown (in_parens text) t (λ ts u x. lower atom_rank n h ts u (grammar.plain ts u x)) (group_shown text t (whole text t r))
+ranked_by : (parens : Bool) (n : ℕ) (text : List ℕ) (t : TermTree) → n ≤ atom_rank → is_below n t ≡ parens →
+    Reads EndsName text (RankedTerm t) → Reads EndsName (in_parens_if parens text) (ShownTerm (IsRank n) t)
+ranked_by true n text t h e r = reshown (in_parens text) t
+    (λ ts u x. lower atom_rank n h ts u (grammar.plain ts u x)) (group_shown text t (whole text t r))
 ranked_by false n text t h e r = reshown text t (λ ts u x. lower (rank t) n (grind (arith, nat_tests)) ts u x.0) r
 
-pub ranked : (n : ℕ) (text : List ℕ) (t : TermTree) → n ≤ atom_rank → Reads EndsName text (RankedTerm t) → Reads EndsName (in_parens_if (is_below n t) text) (ShownTerm (IsRank n) t)
+pub ranked : (n : ℕ) (text : List ℕ) (t : TermTree) → n ≤ atom_rank → Reads EndsName text (RankedTerm t) →
+    Reads EndsName (in_parens_if (is_below n t) text) (ShownTerm (IsRank n) t)
 ranked n text t h r = ranked_by (is_below n t) n text t h refl r
 
-applied_by : (parens : Bool) (text : List ℕ) (t : TermTree) → is_no_head t ≡ parens → Reads EndsName text (RankedTerm t) → Reads EndsName (in_parens_if parens text) (ShownTerm IsHead t)
+applied_by : (parens : Bool) (text : List ℕ) (t : TermTree) → is_no_head t ≡ parens → Reads EndsName text (RankedTerm t) →
+    Reads EndsName (in_parens_if parens text) (ShownTerm IsHead t)
 applied_by true text t e r = reshown (in_parens text) t (λ ts u x. grammar.one_plain ts u x) (group_shown text t (whole text t r))
 applied_by false text t e r = reshown text t (λ ts u x. x.1 e) r
 
-pub applied : (text : List ℕ) (t : TermTree) → Reads EndsName text (RankedTerm t) → Reads EndsName (in_parens_if (is_no_head t) text) (ShownTerm IsHead t)
+pub applied : (text : List ℕ) (t : TermTree) → Reads EndsName text (RankedTerm t) →
+    Reads EndsName (in_parens_if (is_no_head t) text) (ShownTerm IsHead t)
 applied text t r = applied_by (is_no_head t) text t refl r

@@ -34,41 +34,63 @@ skip_shown at = so (codes "Skip") stands (reserved (codes "Skip") refl)
     stands _ (one k is) = record { wrote = written.skip k.at; form = grammar.skip k is; same = refl }
 
 send_shown : (at : ℕ) (b : Base) → Reads EndsName (send_text b) (ShownType IsAtom (written.send at b))
-send_shown at b = so (send_text b) stands (both (codes "!") (base_text b) (λ rest q. tt) (sign {Q = Any} (byte "!") refl (λ c. refl)) (base_reads b))
+send_shown at b = so (send_text b) stands (both (codes "!") (base_text b)
+    (λ rest q. tt) (sign {Q = Any} (byte "!") refl (λ c. refl)) (base_reads b))
   where
     stands : (ts : List Lexeme) → Two (One (Is (codes "!"))) (λ us. IsBase us b) ts → ShownType IsAtom (written.send at b) ts
     stands _ (two _ us (one k is) d) = record { wrote = written.send k.at b; form = grammar.send k us b is d; same = refl }
 
 receive_shown : (at : ℕ) (b : Base) → Reads EndsName (receive_text b) (ShownType IsAtom (written.receive at b))
-receive_shown at b = so (receive_text b) stands (both (codes "?") (base_text b) (λ rest q. tt) (sign {Q = Any} (byte "?") refl (λ c. refl)) (base_reads b))
+receive_shown at b = so (receive_text b) stands
+    (both (codes "?") (base_text b) (λ rest q. tt) (sign {Q = Any} (byte "?") refl (λ c. refl)) (base_reads b))
   where
     stands : (ts : List Lexeme) → Two (One (Is (codes "?"))) (λ us. IsBase us b) ts → ShownType IsAtom (written.receive at b) ts
     stands _ (two _ us (one k is) d) = record { wrote = written.receive k.at b; form = grammar.receive k us b is d; same = refl }
 
 plain_shown : (at : ℕ) (b : Base) → Reads EndsName (base_text b) (ShownType IsAtom (written.plain at b))
-plain_shown at b = so (base_text b) (λ ts d. record { wrote = written.plain (start ts) b; form = grammar.plain ts b d; same = refl }) (base_reads b)
+plain_shown at b = so (base_text b) (λ ts d. record {
+  wrote = written.plain (start ts) b;
+  form = grammar.plain ts b d;
+  same =
+      refl;
+}) (base_reads b)
 
 -- a name, lower or upper
 named_shown : (at : ℕ) (x : List ℕ) → IsLowerName x ⊎ IsUpperName x → Reads EndsName x (ShownType IsAtom (written.named at x))
 named_shown at x (inl lower) = so x stands (lower_name x lower)
   where
     stands : (ts : List Lexeme) → One (λ k. IsLower k × (k.text ≡ x)) ts → ShownType IsAtom (written.named at x) ts
-    stands _ (one k name) = record { wrote = written.named k.at k.text; form = grammar.lower k name.0; same = ap (written.named 0) name.1 }
+    stands _ (one k name) = record {
+      wrote = written.named k.at k.text;
+      form = grammar.lower k name.0;
+      same =
+          ap (written.named 0) name.1;
+    }
 named_shown at x (inr upper) = so x stands (upper_name x upper)
   where
     stands : (ts : List Lexeme) → One (λ k. IsUpper k × (k.text ≡ x)) ts → ShownType IsAtom (written.named at x) ts
-    stands _ (one k name) = record { wrote = written.named k.at k.text; form = grammar.upper k name.0; same = ap (written.named 0) name.1 }
+    stands _ (one k name) = record {
+      wrote = written.named k.at k.text;
+      form = grammar.upper k name.0;
+      same =
+          ap (written.named 0) name.1;
+    }
 
 -- the text between braces
 abbrev Braced : List ℕ → (List Lexeme → Type 0) → List Lexeme → Type 0
 Braced before P = Two (One (Is before)) (Two (Two (One (Is (codes "{"))) P) (One (Is (codes "}"))))
 
-braces : {P : List Lexeme → Type 0} (c : ℕ) (text : List ℕ) → is_sign (c ∷ []) ≡ true → ((rest : List ℕ) → ends_sign (c ∷ []) (byte "{" ∷ rest) ≡ true) → Reads EndsName text P → Reads EndsName ((c ∷ []) ++ in_braces text) (Braced (c ∷ []) P)
+braces : {P : List Lexeme → Type 0} (c : ℕ) (text : List ℕ) → is_sign (c ∷ []) ≡ true →
+    ((rest : List ℕ) → ends_sign (c ∷ []) (byte "{" ∷ rest) ≡ true) → Reads EndsName text P →
+    Reads EndsName ((c ∷ []) ++ in_braces text) (Braced (c ∷ []) P)
 braces c text is apart inner =
     both (c ∷ []) (in_braces text) (λ rest q. apart (text ++ codes "}" ++ rest)) (sign_before (c ∷ []) is)
-    (both (codes "{" ++ text) (codes "}") (λ rest q. refl) (both (codes "{") text (λ rest q. tt) (sign {Q = Any} (byte "{") refl (λ b. refl)) inner) (sign (byte "}") refl (λ b. refl)))
+    (both (codes "{" ++ text) (codes "}") (λ rest q. refl)
+    (both (codes "{") text (λ rest q. tt) (sign {Q = Any} (byte "{") refl (λ b. refl)) inner)
+    (sign (byte "}") refl (λ b. refl)))
 
-select_shown : (at : ℕ) (text : List ℕ) (bs : WrittenBranches) → Reads EndsName text (ShownBranches bs) → Reads EndsName (codes "+" ++ in_braces text) (ShownType IsAtom (written.select at bs))
+select_shown : (at : ℕ) (text : List ℕ) (bs : WrittenBranches) → Reads EndsName text (ShownBranches bs) →
+    Reads EndsName (codes "+" ++ in_braces text) (ShownType IsAtom (written.select at bs))
 select_shown at text bs r = so (codes "+" ++ in_braces text) stands (braces (byte "+") text refl (λ rest. refl) r)
   where
     stands : (ts : List Lexeme) → Braced (codes "+") (ShownBranches bs) ts → ShownType IsAtom (written.select at bs) ts
@@ -78,7 +100,8 @@ select_shown at text bs r = so (codes "+" ++ in_braces text) stands (braces (byt
       same = ap (written.select 0) inner.same;
     }
 
-offer_shown : (at : ℕ) (text : List ℕ) (bs : WrittenBranches) → Reads EndsName text (ShownBranches bs) → Reads EndsName (codes "&" ++ in_braces text) (ShownType IsAtom (written.offer at bs))
+offer_shown : (at : ℕ) (text : List ℕ) (bs : WrittenBranches) → Reads EndsName text (ShownBranches bs) →
+    Reads EndsName (codes "&" ++ in_braces text) (ShownType IsAtom (written.offer at bs))
 offer_shown at text bs r = so (codes "&" ++ in_braces text) stands (braces (byte "&") text refl (λ rest. refl) r)
   where
     stands : (ts : List Lexeme) → Braced (codes "&") (ShownBranches bs) ts → ShownType IsAtom (written.offer at bs) ts
@@ -89,65 +112,82 @@ offer_shown at text bs r = so (codes "&" ++ in_braces text) stands (braces (byte
     }
 
 -- a type in parentheses
-group_shown : (text : List ℕ) (t : WrittenTree) → Reads EndsName text (ShownType IsType t) → Reads EndsName (in_parens text) (ShownType IsAtom t)
+group_shown : (text : List ℕ) (t : WrittenTree) → Reads EndsName text (ShownType IsType t) →
+    Reads EndsName (in_parens text) (ShownType IsAtom t)
 group_shown text t r =
     so (in_parens text) stands
-    (both (codes "(" ++ text) (codes ")") (λ rest q. refl) (both (codes "(") text (λ rest q. tt) (sign {Q = Any} (byte "(") refl (λ b. refl)) r) (sign (byte ")") refl (λ b. refl)))
+    (both (codes "(" ++ text) (codes ")") (λ rest q. refl)
+    (both (codes "(") text (λ rest q. tt) (sign {Q = Any} (byte "(") refl (λ b. refl)) r) (sign (byte ")") refl (λ b. refl)))
   where
-    stands : (ts : List Lexeme) → Two (Two (One (Is (codes "("))) (ShownType IsType t)) (One (Is (codes ")"))) ts → ShownType IsAtom t ts
+    stands : (ts : List Lexeme) → Two (Two (One (Is (codes "("))) (ShownType IsType t)) (One (Is (codes ")"))) ts →
+        ShownType IsAtom t ts
     stands _ (two _ _ (two _ us (one k opens) inner) (one c closes)) = record {
       wrote = inner.wrote;
       form = grammar.group k c us (k ∷ us ++ c ∷ []) inner.wrote opens inner.form closes refl;
       same = inner.same;
     }
 
-seq_shown : (at : ℕ) (left right : List ℕ) (t u : WrittenTree) → Reads EndsName left (ShownType IsAtom t) → Reads EndsName right (ShownType IsSeq u) → Reads EndsName (left ++ codes ";" ++ right) (ShownType IsSeq (written.seq at t u))
+seq_shown : (at : ℕ) (left right : List ℕ) (t u : WrittenTree) → Reads EndsName left (ShownType IsAtom t) →
+    Reads EndsName right (ShownType IsSeq u) → Reads EndsName (left ++ codes ";" ++ right) (ShownType IsSeq (written.seq at t u))
 seq_shown at left right t u l r =
-    so (left ++ codes ";" ++ right) stands (both (left ++ codes ";") right (λ rest q. tt) (both left (codes ";") (λ rest q. refl) l (sign {Q = Any} (byte ";") refl (λ b. refl))) r)
+    so (left ++ codes ";" ++ right) stands (both (left ++ codes ";") right
+    (λ rest q. tt) (both left (codes ";") (λ rest q. refl) l (sign {Q = Any} (byte ";") refl (λ b. refl))) r)
   where
-    stands : (ts : List Lexeme) → Two (Two (ShownType IsAtom t) (One (Is (codes ";")))) (ShownType IsSeq u) ts → ShownType IsSeq (written.seq at t u) ts
+    stands : (ts : List Lexeme) → Two (Two (ShownType IsAtom t) (One (Is (codes ";")))) (ShownType IsSeq u) ts →
+        ShownType IsSeq (written.seq at t u) ts
     stands _ (two _ vs (two us _ x (one k is)) y) = record {
       wrote = written.seq (start us) x.wrote y.wrote;
       form = grammar.chain us vs ((us ++ k ∷ []) ++ vs) k x.wrote y.wrote x.form is y.form (append_assoc us (k ∷ []) vs);
       same = λ i. written.seq 0 (x.same i) (y.same i);
     }
 
-arrow_shown : (at : ℕ) (left right : List ℕ) (uses : Use) (t u : WrittenTree) → Reads EndsName left (ShownType IsSeq t) → Reads EndsName right (ShownType IsType u) →
+arrow_shown : (at : ℕ) (left right : List ℕ) (uses : Use) (t u : WrittenTree) → Reads EndsName left (ShownType IsSeq t) →
+    Reads EndsName right (ShownType IsType u) →
     Reads EndsName (left ++ arrow_text uses ++ right) (ShownType IsType (written.arrow at uses t u))
 arrow_shown at left right uses t u l r =
-    so (left ++ arrow_text uses ++ right) stands (both (left ++ arrow_text uses) right (λ rest q. tt) (both left (arrow_text uses) (ends uses) l (arrow_reads {Q = Any} uses)) r)
+    so (left ++ arrow_text uses ++ right) stands (both (left ++ arrow_text uses) right
+    (λ rest q. tt) (both left (arrow_text uses) (ends uses) l (arrow_reads {Q = Any} uses)) r)
   where
     ends : (u : Use) (rest : List ℕ) → Any rest → EndsName (arrow_text u ++ rest)
     ends Many rest q = refl
     ends Once rest q = refl
 
-    stands : (ts : List Lexeme) → Two (Two (ShownType IsSeq t) (λ ks. IsArrow ks uses)) (ShownType IsType u) ts → ShownType IsType (written.arrow at uses t u) ts
+    stands : (ts : List Lexeme) → Two (Two (ShownType IsSeq t) (λ ks. IsArrow ks uses)) (ShownType IsType u) ts →
+        ShownType IsType (written.arrow at uses t u) ts
     stands _ (two _ vs (two us ks x is) y) = record {
       wrote = written.arrow (start us) uses x.wrote y.wrote;
       form = grammar.arrow us ks vs ((us ++ ks) ++ vs) x.wrote y.wrote uses x.form is y.form (append_assoc us ks vs);
       same = λ i. written.arrow 0 uses (x.same i) (y.same i);
     }
 
-pair_shown : (at : ℕ) (left right : List ℕ) (t u : WrittenTree) → Reads EndsName left (ShownType IsType t) → Reads EndsName right (ShownType IsType u) →
+pair_shown : (at : ℕ) (left right : List ℕ) (t u : WrittenTree) → Reads EndsName left (ShownType IsType t) →
+    Reads EndsName right (ShownType IsType u) →
     Reads EndsName (in_parens (left ++ codes ", " ++ right)) (ShownType IsAtom (written.pair at t u))
 pair_shown at left right t u l r =
     so (in_parens (left ++ codes ", " ++ right)) stands (parts_of_pair left right l r)
   where
-    stands : (ts : List Lexeme) → Two (Two (One (Is (codes "("))) (Two (Two (ShownType IsType t) (One (Is (codes ",")))) (ShownType IsType u))) (One (Is (codes ")"))) ts → ShownType IsAtom (written.pair at t u) ts
+    stands : (ts : List Lexeme) → Two (Two (One (Is (codes "(")))
+        (Two (Two (ShownType IsType t) (One (Is (codes ",")))) (ShownType IsType u))) (One (Is (codes ")"))) ts →
+        ShownType IsAtom (written.pair at t u) ts
     stands _ (two _ _ (two _ _ (one k opens) (two _ vs (two us _ x (one m comma)) y)) (one c closes)) = record {
       wrote = written.pair k.at x.wrote y.wrote;
-      form = grammar.pair k m c us vs (k ∷ ((us ++ m ∷ []) ++ vs) ++ c ∷ []) x.wrote y.wrote opens x.form comma y.form closes (simp append_assoc);
+      form = grammar.pair k m c us vs (k ∷ ((us ++ m ∷ []) ++ vs) ++ c ∷ []) x.wrote y.wrote opens x.form comma y.form closes
+          (simp append_assoc);
       same = λ i. written.pair 0 (x.same i) (y.same i);
     }
 
-rec_shown : (at : ℕ) (x text : List ℕ) (t : WrittenTree) → IsLowerName x → Reads EndsName text (ShownType IsSeq t) → Reads EndsName (codes "rec " ++ x ++ codes ". " ++ text) (ShownType IsSeq (written.rec at x t))
+rec_shown : (at : ℕ) (x text : List ℕ) (t : WrittenTree) → IsLowerName x → Reads EndsName text (ShownType IsSeq t) →
+    Reads EndsName (codes "rec " ++ x ++ codes ". " ++ text) (ShownType IsSeq (written.rec at x t))
 rec_shown at x text t lower r =
     so (codes "rec " ++ x ++ codes ". " ++ text) stands
     (both (codes "rec " ++ x ++ codes ". ") text (λ rest q. tt)
-    (both (codes "rec " ++ x) (codes ". ") (λ rest q. refl) (both (codes "rec ") x (λ rest q. tt) (rec_word {Q = Any}) (lower_name x lower)) (spaced {Q = Any} (byte ".") refl (λ b. refl)))
+    (both (codes "rec " ++ x) (codes ". ") (λ rest q. refl)
+    (both (codes "rec ") x (λ rest q. tt) (rec_word {Q = Any}) (lower_name x lower))
+    (spaced {Q = Any} (byte ".") refl (λ b. refl)))
     r)
   where
-    stands : (ts : List Lexeme) → Two (Two (Two (One (Is (codes "rec"))) (One (λ k. IsLower k × (k.text ≡ x)))) (One (Is (codes ".")))) (ShownType IsSeq t) ts → ShownType IsSeq (written.rec at x t) ts
+    stands : (ts : List Lexeme) → Two (Two (Two (One (Is (codes "rec"))) (One (λ k. IsLower k × (k.text ≡ x))))
+        (One (Is (codes ".")))) (ShownType IsSeq t) ts → ShownType IsSeq (written.rec at x t) ts
     stands _ (two _ us (two _ _ (two _ _ (one k is) (one y name)) (one d dot)) inner) = record {
       wrote = written.rec k.at y.text inner.wrote;
       form = grammar.rec k y d us inner.wrote is name.0 dot inner.form;
@@ -160,30 +200,46 @@ record ShownBranch (l : List ℕ) (t : WrittenTree) (ts : List Lexeme) : Type 0 
   form : IsAlt ts l wrote
   same : unplaced_type wrote ≡ unplaced_type t
 
-branch_shown : (l text : List ℕ) (t : WrittenTree) → IsUpperName l → Reads EndsName text (ShownType IsSeq t) → Reads EndsName (l ++ codes ": " ++ text) (ShownBranch l t)
+branch_shown : (l text : List ℕ) (t : WrittenTree) → IsUpperName l → Reads EndsName text (ShownType IsSeq t) →
+    Reads EndsName (l ++ codes ": " ++ text) (ShownBranch l t)
 branch_shown l text t upper r =
-    so (l ++ codes ": " ++ text) stands (both (l ++ codes ": ") text (λ rest q. tt) (both l (codes ": ") (λ rest q. refl) (upper_name l upper) (spaced {Q = Any} (byte ":") refl (λ b. refl))) r)
+    so (l ++ codes ": " ++ text) stands (both (l ++ codes ": ") text
+    (λ rest q. tt) (both l (codes ": ") (λ rest q. refl) (upper_name l upper) (spaced {Q = Any} (byte ":") refl (λ b. refl)))
+    r)
   where
-    stands : (ts : List Lexeme) → Two (Two (One (λ k. IsUpper k × (k.text ≡ l))) (One (Is (codes ":")))) (ShownType IsSeq t) ts → ShownBranch l t ts
+    stands : (ts : List Lexeme) → Two (Two (One (λ k. IsUpper k × (k.text ≡ l))) (One (Is (codes ":")))) (ShownType IsSeq t) ts →
+        ShownBranch l t ts
     stands _ (two _ us (two _ _ (one k name) (one c colon)) inner) = record {
       wrote = inner.wrote;
-      form = subst (λ (x : List ℕ). IsAlt (k ∷ c ∷ us) x inner.wrote) name.1 (grammar.alt k c us inner.wrote name.0 colon inner.form);
+      form = subst (λ (x : List ℕ). IsAlt (k ∷ c ∷ us) x inner.wrote) name.1
+          (grammar.alt k c us inner.wrote name.0 colon inner.form);
       same = inner.same;
     }
 
-last_shown : (l text : List ℕ) (t : WrittenTree) → IsUpperName l → Reads EndsName text (ShownType IsSeq t) → Reads EndsName ((l ++ codes ": " ++ text) ++ []) (ShownBranches (branch l t none))
-last_shown l text t upper r = rw (append-nil (l ++ codes ": " ++ text)) (so (l ++ codes ": " ++ text) stands (branch_shown l text t upper r))
+last_shown : (l text : List ℕ) (t : WrittenTree) → IsUpperName l → Reads EndsName text (ShownType IsSeq t) →
+    Reads EndsName ((l ++ codes ": " ++ text) ++ []) (ShownBranches (branch l t none))
+last_shown l text t upper r = rw (append-nil (l ++ codes ": " ++ text))
+    (so (l ++ codes ": " ++ text) stands (branch_shown l text t upper r))
   where
     stands : (ts : List Lexeme) → ShownBranch l t ts → ShownBranches (branch l t none) ts
-    stands ts b = record { wrote = branch l b.wrote none; form = grammar.last ts l b.wrote b.form; same = λ i. branch l (b.same i) none }
+    stands ts b = record {
+      wrote = branch l b.wrote none;
+      form = grammar.last ts l b.wrote b.form;
+      same =
+          λ i. branch l (b.same i) none;
+    }
 
-further_shown : (l text more : List ℕ) (t : WrittenTree) (bs : WrittenBranches) → IsUpperName l → Reads EndsName text (ShownType IsSeq t) → Reads EndsName more (ShownBranches bs) →
+further_shown : (l text more : List ℕ) (t : WrittenTree) (bs : WrittenBranches) → IsUpperName l →
+    Reads EndsName text (ShownType IsSeq t) → Reads EndsName more (ShownBranches bs) →
     Reads EndsName ((l ++ codes ": " ++ text) ++ (codes ", " ++ more)) (ShownBranches (branch l t bs))
 further_shown l text more t bs upper r others =
     so ((l ++ codes ": " ++ text) ++ (codes ", " ++ more)) stands
-    (both (l ++ codes ": " ++ text) (codes ", " ++ more) (λ rest q. refl) (branch_shown l text t upper r) (both (codes ", ") more (λ rest q. tt) (spaced {Q = Any} (byte ",") refl (λ b. refl)) others))
+    (both (l ++ codes ": " ++ text) (codes ", " ++ more)
+    (λ rest q. refl) (branch_shown l text t upper r)
+    (both (codes ", ") more (λ rest q. tt) (spaced {Q = Any} (byte ",") refl (λ b. refl)) others))
   where
-    stands : (ts : List Lexeme) → Two (ShownBranch l t) (Two (One (Is (codes ","))) (ShownBranches bs)) ts → ShownBranches (branch l t bs) ts
+    stands : (ts : List Lexeme) → Two (ShownBranch l t) (Two (One (Is (codes ","))) (ShownBranches bs)) ts →
+        ShownBranches (branch l t bs) ts
     stands _ (two us _ b (two _ vs (one k comma) c)) = record {
       wrote = branch l b.wrote c.wrote;
       form = grammar.further us vs (us ++ k ∷ vs) k l b.wrote c.wrote b.form comma c.form refl;
@@ -229,15 +285,18 @@ as_atom true b e g ts w f = absurd (cc e)
 as_atom false true e g ts w f = absurd (cc g)
 as_atom false false e g ts w f = f
 
-typed : (text : List ℕ) (t : WrittenTree) → Reads EndsName text (ShownType (FormOf t) t) → Reads EndsName text (ShownType IsType t)
+typed : (text : List ℕ) (t : WrittenTree) → Reads EndsName text (ShownType (FormOf t) t) →
+    Reads EndsName text (ShownType IsType t)
 typed text t r = reshown text t (as_type (is_arrow t) (is_compound t)) r
 
 -- a type where no function stands without parentheses, and one where an atomic one does
-seq_by : (parens : Bool) (text : List ℕ) (t : WrittenTree) → is_arrow t ≡ parens → Reads EndsName text (ShownType (FormOf t) t) → Reads EndsName (in_parens_if parens text) (ShownType IsSeq t)
+seq_by : (parens : Bool) (text : List ℕ) (t : WrittenTree) → is_arrow t ≡ parens → Reads EndsName text (ShownType (FormOf t) t) →
+    Reads EndsName (in_parens_if parens text) (ShownType IsSeq t)
 seq_by true text t e r = reshown (in_parens text) t grammar.atom (group_shown text t (typed text t r))
 seq_by false text t e r = reshown text t (as_seq (is_arrow t) (is_compound t) e) r
 
-atom_by : (parens : Bool) (text : List ℕ) (t : WrittenTree) → is_compound t ≡ parens → Reads EndsName text (ShownType (FormOf t) t) → Reads EndsName (in_parens_if parens text) (ShownType IsAtom t)
+atom_by : (parens : Bool) (text : List ℕ) (t : WrittenTree) → is_compound t ≡ parens →
+    Reads EndsName text (ShownType (FormOf t) t) → Reads EndsName (in_parens_if parens text) (ShownType IsAtom t)
 atom_by true text t e r = group_shown text t (typed text t r)
 atom_by false text t e r = reshown text t (as_atom (is_arrow t) (is_compound t) (simple t e) e) r
 
@@ -254,23 +313,30 @@ mutual
   formed (written.receive at b) h = receive_shown at b
   formed (written.select at none) h = absurd h
   formed (written.select at (branch l t bs)) h =
-      select_shown at (joined_text (codes ", ") (written_branch_texts (branch l t bs))) (branch l t bs) (all_formed (branch l t bs) tt h)
+      select_shown at (joined_text (codes ", ") (written_branch_texts (branch l t bs))) (branch l t bs)
+      (all_formed (branch l t bs) tt h)
   formed (written.offer at none) h = absurd h
   formed (written.offer at (branch l t bs)) h =
-      offer_shown at (joined_text (codes ", ") (written_branch_texts (branch l t bs))) (branch l t bs) (all_formed (branch l t bs) tt h)
+      offer_shown at (joined_text (codes ", ") (written_branch_texts (branch l t bs))) (branch l t bs)
+      (all_formed (branch l t bs) tt h)
   formed (written.seq at s t) h =
-      seq_shown at (atom_text s) (seq_text t) s t (atom_by (is_compound s) (written_text s) s refl (formed s h.0)) (seq_by (is_arrow t) (written_text t) t refl (formed t h.1))
+      seq_shown at (atom_text s) (seq_text t) s t (atom_by (is_compound s) (written_text s) s refl (formed s h.0))
+      (seq_by (is_arrow t) (written_text t) t refl (formed t h.1))
   formed (written.rec at x t) h = rec_shown at x (seq_text t) t h.0 (seq_by (is_arrow t) (written_text t) t refl (formed t h.1))
   formed (written.named at x) h = named_shown at x h
   formed (written.plain at b) h = plain_shown at b
   formed (written.arrow at u s t) h =
-      arrow_shown at (seq_text s) (written_text t) u s t (seq_by (is_arrow s) (written_text s) s refl (formed s h.0)) (typed (written_text t) t (formed t h.1))
-  formed (written.pair at s t) h = pair_shown at (written_text s) (written_text t) s t (typed (written_text s) s (formed s h.0)) (typed (written_text t) t (formed t h.1))
+      arrow_shown at (seq_text s) (written_text t) u s t (seq_by (is_arrow s) (written_text s) s refl (formed s h.0))
+      (typed (written_text t) t (formed t h.1))
+  formed (written.pair at s t) h = pair_shown at (written_text s) (written_text t) s t (typed (written_text s) s (formed s h.0))
+      (typed (written_text t) t (formed t h.1))
 
   -- the branches of a choice
-  all_formed : (bs : WrittenBranches) → HasOne bs → AreShowableBranches bs → Reads EndsName (joined_text (codes ", ") (written_branch_texts bs)) (ShownBranches bs)
+  all_formed : (bs : WrittenBranches) → HasOne bs → AreShowableBranches bs →
+      Reads EndsName (joined_text (codes ", ") (written_branch_texts bs)) (ShownBranches bs)
   all_formed none some h = absurd some
-  all_formed (branch l t none) some h = last_shown l (seq_text t) t h.0 (seq_by (is_arrow t) (written_text t) t refl (formed t h.1))
+  all_formed (branch l t none) some h = last_shown l (seq_text t) t h.0
+      (seq_by (is_arrow t) (written_text t) t refl (formed t h.1))
   all_formed (branch l t (branch m u bs)) some h =
       further_shown l (seq_text t) (joined_text (codes ", ") (written_branch_texts (branch m u bs))) t (branch m u bs) h.0
       (seq_by (is_arrow t) (written_text t) t refl (formed t h.1)) (all_formed (branch m u bs) tt h.2)

@@ -45,9 +45,12 @@ mutual
   type_same (written.skip at) = refl
   type_same (written.send at b) = refl
   type_same (written.receive at b) = refl
-  type_same (written.select at bs) = ap (λ (w : List (List ℕ)). codes "+" ++ in_braces (joined_text (codes ", ") w)) (branches_same bs)
-  type_same (written.offer at bs) = ap (λ (w : List (List ℕ)). codes "&" ++ in_braces (joined_text (codes ", ") w)) (branches_same bs)
-  type_same (written.seq at s t) = λ i. in_parens_if (compound_same s i) (type_same s i) ++ codes ";" ++ in_parens_if (arrow_same t i) (type_same t i)
+  type_same (written.select at bs) = ap (λ (w : List (List ℕ)). codes "+" ++ in_braces (joined_text (codes ", ") w))
+      (branches_same bs)
+  type_same (written.offer at bs) = ap (λ (w : List (List ℕ)). codes "&" ++ in_braces (joined_text (codes ", ") w))
+      (branches_same bs)
+  type_same (written.seq at s t) = λ i. in_parens_if (compound_same s i) (type_same s i) ++ codes ";" ++ in_parens_if
+      (arrow_same t i) (type_same t i)
   type_same (written.rec at x t) = λ i. codes "rec " ++ x ++ codes ". " ++ in_parens_if (arrow_same t i) (type_same t i)
   type_same (written.named at x) = refl
   type_same (written.plain at b) = refl
@@ -62,7 +65,8 @@ atom_same : (t : WrittenTree) → atom_text (unplaced_type t) ≡ atom_text t
 atom_same t = λ i. in_parens_if (compound_same t i) (type_same t i)
 
 -- texts put together from those of a list
-texts_same : {A : Type 0} (f : A → List ℕ) (g : A → A) → ((x : A) → f (g x) ≡ f x) → (xs : List A) → flat_map f (map g xs) ≡ flat_map f xs
+texts_same : {A : Type 0} (f : A → List ℕ) (g : A → A) → ((x : A) → f (g x) ≡ f x) →
+    (xs : List A) → flat_map f (map g xs) ≡ flat_map f xs
 texts_same f g same [] = refl
 texts_same f g same (x ∷ xs) = λ i. same x i ++ texts_same f g same xs i
 
@@ -74,7 +78,8 @@ names_same : (xs : List Binder) → names_text (map unplaced_binder xs) ≡ name
 names_same xs = texts_same (λ (x : Binder). codes " " ++ x.name) unplaced_binder (λ x. refl) xs
 
 applied_same : (types : List WrittenTree) → applied_text (map unplaced_type types) ≡ applied_text types
-applied_same types = texts_same (λ t. codes " @" ++ atom_text t) unplaced_type (λ t. ap (λ (w : List ℕ). codes " @" ++ w) (atom_same t)) types
+applied_same types = texts_same (λ t. codes " @" ++ atom_text t) unplaced_type
+    (λ t. ap (λ (w : List ℕ). codes " @" ++ w) (atom_same t)) types
 
 make_rank_same : (ts : TermList) → make_rank (unplaced_terms ts) ≡ make_rank ts
 make_rank_same no_terms = refl
@@ -140,19 +145,27 @@ mutual
   term_same (unit at) = refl
   term_same (pair at s t) = λ i. in_parens (term_same s i ++ codes ", " ++ term_same t i)
   term_same (make at x ts) = ap (λ (w : List ℕ). x ++ w) (arguments_same ts)
-  term_same (lambda at u a x t) = λ i. codes "\\" ++ x.name ++ codes ":" ++ in_parens_if (arrow_same a i) (type_same a i) ++ arrow_text u ++ term_same t i
-  term_same (apply at s t) = λ i. in_parens_if (head_same s i) (term_same s i) ++ codes " " ++ in_parens_if (below_same atom_rank t i) (term_same t i)
+  term_same (lambda at u a x t) = λ i. codes "\\" ++ x.name ++ codes ":" ++ in_parens_if (arrow_same a i)
+      (type_same a i) ++ arrow_text u ++ term_same t i
+  term_same (apply at s t) = λ i. in_parens_if (head_same s i) (term_same s i) ++ codes " " ++ in_parens_if
+      (below_same atom_rank t i) (term_same t i)
   term_same (let_in at x s t) = λ i. codes "let " ++ x.name ++ codes " = " ++ term_same s i ++ codes " in " ++ term_same t i
-  term_same (split at x y s t) = λ i. codes "let (" ++ x.name ++ codes ", " ++ y.name ++ codes ") = " ++ term_same s i ++ codes " in " ++ term_same t i
-  term_same (if_else at s t u) = λ i. codes "if " ++ term_same s i ++ codes " then " ++ term_same t i ++ codes " else " ++ term_same u i
-  term_same (case_of at t bs) = λ i. codes "case " ++ term_same t i ++ codes " of " ++ in_braces (joined_text (codes ", ") (arms_same bs i))
-  term_same (operate at o s t) = λ i. in_parens_if (below_same (left_rank o) s i) (term_same s i) ++ codes " " ++ op_text o ++ codes " " ++ in_parens_if (below_same (right_rank o) t i) (term_same t i)
+  term_same (split at x y s t) = λ i. codes "let (" ++ x.name ++ codes ", " ++ y.name ++ codes ") = " ++ term_same s i ++ codes
+      " in " ++ term_same t i
+  term_same (if_else at s t u) = λ i. codes "if " ++ term_same s i ++ codes " then " ++ term_same t i ++ codes " else "
+      ++ term_same u i
+  term_same (case_of at t bs) = λ i. codes "case " ++ term_same t i ++ codes " of " ++ in_braces
+      (joined_text (codes ", ") (arms_same bs i))
+  term_same (operate at o s t) = λ i. in_parens_if (below_same (left_rank o) s i)
+      (term_same s i) ++ codes " " ++ op_text o ++ codes " " ++ in_parens_if (below_same (right_rank o) t i) (term_same t i)
   term_same (negate at t) = λ i. codes "not " ++ in_parens_if (below_same negation_rank t i) (term_same t i)
   term_same (new at a) = ap (λ (w : List ℕ). codes "new " ++ w) (atom_same a)
-  term_same (send at s t) = λ i. codes "send " ++ in_parens_if (below_same atom_rank s i) (term_same s i) ++ codes " " ++ in_parens_if (below_same atom_rank t i) (term_same t i)
+  term_same (send at s t) = λ i. codes "send " ++ in_parens_if (below_same atom_rank s i)
+      (term_same s i) ++ codes " " ++ in_parens_if (below_same atom_rank t i) (term_same t i)
   term_same (receive at t) = λ i. codes "receive " ++ in_parens_if (below_same atom_rank t i) (term_same t i)
   term_same (select at l t) = λ i. codes "select " ++ l ++ codes " " ++ in_parens_if (below_same atom_rank t i) (term_same t i)
-  term_same (match_with at t bs) = λ i. codes "match " ++ term_same t i ++ codes " with " ++ in_braces (joined_text (codes ", ") (arms_same bs i))
+  term_same (match_with at t bs) = λ i. codes "match " ++ term_same t i ++ codes " with " ++ in_braces
+      (joined_text (codes ", ") (arms_same bs i))
   term_same (fork at t) = λ i. codes "fork " ++ in_parens_if (below_same atom_rank t i) (term_same t i)
   term_same (seq at s t) = λ i. in_parens_if (below_same or_rank s i) (term_same s i) ++ codes "; " ++ term_same t i
 
@@ -165,20 +178,26 @@ mutual
   arms_same (arm l xs t bs) = λ i. (l.name ++ names_same xs i ++ codes " -> " ++ term_same t i) ∷ arms_same bs i
 
 maker_same : (m : Maker) → maker_text (unplaced_maker m) ≡ maker_text m
-maker_same m = ap (λ (w : List ℕ). m.name.name ++ w) (texts_same (λ t. codes " " ++ atom_text t) unplaced_type (λ t. ap (λ (w : List ℕ). codes " " ++ w) (atom_same t)) m.fields)
+maker_same m = ap (λ (w : List ℕ). m.name.name ++ w)
+    (texts_same (λ t. codes " " ++ atom_text t) unplaced_type (λ t. ap (λ (w : List ℕ). codes " " ++ w) (atom_same t)) m.fields)
 
-binders_same : (bs : List (Binder × Kind)) → binders_text (map (λ (b : Binder × Kind). (unplaced_binder b.0, b.1)) bs) ≡ binders_text bs
+binders_same : (bs : List (Binder × Kind)) → binders_text
+    (map (λ (b : Binder × Kind). (unplaced_binder b.0, b.1)) bs) ≡ binders_text bs
 binders_same [] = refl
-binders_same (b ∷ bs) = ap (λ (w : List (List ℕ)). codes "forall " ++ joined_text (codes ", ") (binder_kind_text b ∷ w) ++ codes ". ") (maps_same binder_kind_text (λ (b : Binder × Kind). (unplaced_binder b.0, b.1)) (λ b. refl) bs)
+binders_same (b ∷ bs) = ap (λ (w : List (List ℕ)). codes "forall " ++ joined_text (codes ", ")
+    (binder_kind_text b ∷ w) ++ codes ". ") (maps_same binder_kind_text (λ (b : Binder × Kind). (unplaced_binder b.0, b.1))
+    (λ b. refl) bs)
 
 decl_same : (d : Declared) → decl_text (unplaced_decl d) ≡ decl_text d
-decl_same (family x makers) = ap (λ (w : List (List ℕ)). codes "data " ++ x.name ++ codes " = " ++ joined_text (codes " | ") w) (maps_same maker_text unplaced_maker maker_same makers)
+decl_same (family x makers) = ap (λ (w : List (List ℕ)). codes "data " ++ x.name ++ codes " = " ++ joined_text (codes " | ") w)
+    (maps_same maker_text unplaced_maker maker_same makers)
 decl_same (alias x t) = ap (λ (w : List ℕ). codes "type " ++ x.name ++ codes " = " ++ w) (type_same t)
 decl_same (signature x bs t) = λ i. x.name ++ codes " : " ++ binders_same bs i ++ type_same t i
 decl_same (equation x xs t) = λ i. x.name ++ names_same xs i ++ codes " = " ++ term_same t i
 
 module_same : (ds : List Declared) → module_text (map unplaced_decl ds) ≡ module_text ds
-module_same ds = texts_same (λ d. decl_text d ++ codes "\n") unplaced_decl (λ d. ap (λ (w : List ℕ). w ++ codes "\n") (decl_same d)) ds
+module_same ds = texts_same (λ d. decl_text d ++ codes "\n") unplaced_decl
+    (λ d. ap (λ (w : List ℕ). w ++ codes "\n") (decl_same d)) ds
 
 -- modules that differ in places alone have one text
 pub one_text : (ds es : List Declared) → map unplaced_decl ds ≡ map unplaced_decl es → module_text ds ≡ module_text es

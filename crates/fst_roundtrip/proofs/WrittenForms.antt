@@ -63,7 +63,8 @@ arrow_same names n (arrow u s r) = refl
 arrow_same names n (pair s r) = refl
 arrow_same names n (named k) = refl
 
-compound_same : (names : List (List ℕ)) (n : ℕ) (t : Tree) → IsNoArrow t → is_compound (as_written names n t) ≡ in_parens_before_semicolon t
+compound_same : (names : List (List ℕ)) (n : ℕ) (t : Tree) → IsNoArrow t →
+    is_compound (as_written names n t) ≡ in_parens_before_semicolon t
 compound_same names n skip e = refl
 compound_same names n (send b) e = refl
 compound_same names n (receive b) e = refl
@@ -84,30 +85,40 @@ bare true text same e h = absurd (cc e)
 bare false text same e h = h
 
 -- a type that is no function stands in no parentheses where a function does
-bare_same : (names : List (List ℕ)) (n : ℕ) (t : Tree) → IsNoArrow t → written_text (as_written names n t) ≡ text_under names n t →
+bare_same : (names : List (List ℕ)) (n : ℕ) (t : Tree) → IsNoArrow t →
+    written_text (as_written names n t) ≡ text_under names n t →
     in_parens_if (is_arrow (as_written names n t)) (written_text (as_written names n t)) ≡ text_under names n t
-bare_same names n t e h = bare (is_arrow (as_written names n t)) (written_text (as_written names n t)) (text_under names n t) (arrow_same names n t ∙ e) h
+bare_same names n t e h = bare (is_arrow (as_written names n t)) (written_text (as_written names n t)) (text_under names n t)
+    (arrow_same names n t ∙ e) h
 
 mutual
   -- the text of what is written is the text of the type
-  pub text_same : (names : List (List ℕ)) (m n : ℕ) (t : Tree) → IsWritable m t → written_text (as_written names n t) ≡ text_under names n t
+  pub text_same : (names : List (List ℕ)) (m n : ℕ) (t : Tree) → IsWritable m t →
+      written_text (as_written names n t) ≡ text_under names n t
   text_same names m n skip w = refl
   text_same names m n (send b) w = refl
   text_same names m n (receive b) w = refl
-  text_same names m n (select bs) w = ap (λ (texts : List (List ℕ)). codes "+" ++ in_braces (joined_text (codes ", ") texts)) (texts_same names m n bs w)
-  text_same names m n (offer bs) w = ap (λ (texts : List (List ℕ)). codes "&" ++ in_braces (joined_text (codes ", ") texts)) (texts_same names m n bs w)
-  text_same names m n (seq s r) w = λ i. in_parens_if (compound_same names n s w.0 i) (text_same names m n s w.2 i) ++ codes ";" ++ bare_same names n r w.1 (text_same names m n r w.3) i
-  text_same names m n (rec s) w = λ i. codes "rec " ++ binder_text n ++ codes ". " ++ bare_same names (suc n) s w.0 (text_same names m (suc n) s w.1) i
+  text_same names m n (select bs) w = ap (λ (texts : List (List ℕ)). codes "+" ++ in_braces (joined_text (codes ", ") texts))
+      (texts_same names m n bs w)
+  text_same names m n (offer bs) w = ap (λ (texts : List (List ℕ)). codes "&" ++ in_braces (joined_text (codes ", ") texts))
+      (texts_same names m n bs w)
+  text_same names m n (seq s r) w = λ i. in_parens_if (compound_same names n s w.0 i)
+      (text_same names m n s w.2 i) ++ codes ";" ++ bare_same names n r w.1 (text_same names m n r w.3) i
+  text_same names m n (rec s) w = λ i. codes "rec " ++ binder_text n ++ codes ". " ++ bare_same names (suc n) s w.0
+      (text_same names m (suc n) s w.1) i
   text_same names m n (back k) w = refl
   text_same names m n (var k) w = refl
   text_same names m n (plain b) w = refl
-  text_same names m n (arrow u s r) w = λ i. in_parens_if (arrow_same names n s i) (text_same names m n s w.0 i) ++ arrow_text u ++ text_same names m n r w.1 i
+  text_same names m n (arrow u s r) w = λ i. in_parens_if (arrow_same names n s i)
+      (text_same names m n s w.0 i) ++ arrow_text u ++ text_same names m n r w.1 i
   text_same names m n (pair s r) w = λ i. in_parens (text_same names m n s w.0 i ++ codes ", " ++ text_same names m n r w.1 i)
   text_same names m n (named k) w = refl
 
-  texts_same : (names : List (List ℕ)) (m n : ℕ) (bs : Branches) → AreWritable m bs → written_branch_texts (all_written names n bs) ≡ branch_texts names n bs
+  texts_same : (names : List (List ℕ)) (m n : ℕ) (bs : Branches) → AreWritable m bs →
+      written_branch_texts (all_written names n bs) ≡ branch_texts names n bs
   texts_same names m n none w = refl
-  texts_same names m n (branch l s bs) w = λ i. (l ++ codes ": " ++ bare_same names n s w.1 (text_same names m n s w.2) i) ∷ texts_same names m n bs w.3 i
+  texts_same names m n (branch l s bs) w = λ i.
+      (l ++ codes ": " ++ bare_same names n s w.1 (text_same names m n s w.2) i) ∷ texts_same names m n bs w.3 i
 
 -- what holds of the names around a type
 pub record Around (names : List (List ℕ)) (m : ℕ) : Type 0 where
@@ -117,7 +128,13 @@ pub record Around (names : List (List ℕ)) (m : ℕ) : Type 0 where
 
 -- the names in scope within n recs
 abbrev pub scope_under : List (List ℕ) → ℕ → ℕ → Scope
-scope_under names m n = record { recs = binder_names n; vars = variable_names 0 m; declared = family_named names; otherwise = None }
+scope_under names m n = record {
+  recs = binder_names n;
+  vars = variable_names 0 m;
+  declared = family_named names;
+  otherwise =
+      None;
+}
 
 -- what is written can be read, and means the type
 pub record IsMeant (names : List (List ℕ)) (m n : ℕ) (t : Tree) : Type 0 where
@@ -148,11 +165,16 @@ named_meant names m n k g below fits =
     let few = g.few in
     record {
       showable = inr upper;
-      means = rw (upper_no_binder n x upper fits, upper_no_variable m 0 x upper (omega arith), name_place names k below g.distinct) refl;
+      means = rw (
+        upper_no_binder n x upper fits,
+        upper_no_variable m 0 x upper (omega arith),
+        name_place names k below g.distinct,
+      ) refl;
     }
 
 -- a branch that stands before another stays there
-in_place : (o : Ordering) (l m : List ℕ) (t u : Tree) (bs behind : Branches) → o ≢ Greater → insert_by o l t m u bs behind ≡ branch l t (branch m u bs)
+in_place : (o : Ordering) (l m : List ℕ) (t u : Tree) (bs behind : Branches) → o ≢ Greater →
+    insert_by o l t m u bs behind ≡ branch l t (branch m u bs)
 in_place Less l m t u bs behind below = refl
 in_place Equal l m t u bs behind below = refl
 in_place Greater l m t u bs behind below = absurd (below refl)
@@ -161,7 +183,8 @@ mutual
   unfolding naming.both
 
   -- a type under n recs
-  pub meant : (names : List (List ℕ)) (m : ℕ) → Around names m → (n : ℕ) (t : Tree) → IsScoped n t → IsNamedWithin (length names) t → IsSorted t → IsWritable m t → n + height t < 2 ^ 64 →
+  pub meant : (names : List (List ℕ)) (m : ℕ) → Around names m →
+      (n : ℕ) (t : Tree) → IsScoped n t → IsNamedWithin (length names) t → IsSorted t → IsWritable m t → n + height t < 2 ^ 64 →
       IsMeant names m n t
   meant names m g n skip scoped within sorted writable fits = record { showable = tt; means = refl }
   meant names m g n (send b) scoped within sorted writable fits = record { showable = tt; means = refl }
@@ -195,7 +218,9 @@ mutual
   meant names m g n (named k) scoped within sorted writable fits = named_meant names m n k g within (omega arith)
 
   -- the branches of a choice under n recs
-  all_meant : (names : List (List ℕ)) (m : ℕ) → Around names m → (n : ℕ) (bs : Branches) → AllScoped n bs → AllNamedWithin (length names) bs → AreSorted bs → EachChoiceBelow AreSorted bs → AreWritable m bs →
+  all_meant : (names : List (List ℕ)) (m : ℕ) → Around names m →
+      (n : ℕ) (bs : Branches) → AllScoped n bs → AllNamedWithin (length names) bs → AreSorted bs → EachChoiceBelow AreSorted bs →
+      AreWritable m bs →
       n + height_all bs < 2 ^ 64 → AreMeant names m n bs
   all_meant names m g n none scoped within order sorted writable fits = absurd order
   all_meant names m g n (branch l t none) scoped within order sorted writable fits =
@@ -229,5 +254,6 @@ mutual
   branches_same s (written.branch l t bs) = λ i. naming.both (insert l) (meaning_same s t i) (branches_same s bs i)
 
 -- types that differ in places alone mean the same
-pub means_same : (s : Scope) (w v : WrittenTree) (t : Tree) → unplaced_type w ≡ unplaced_type v → type_of s v ≡ Some t → type_of s w ≡ Some t
+pub means_same : (s : Scope) (w v : WrittenTree) (t : Tree) → unplaced_type w ≡ unplaced_type v → type_of s v ≡ Some t →
+    type_of s w ≡ Some t
 means_same s w v t e h = sym (meaning_same s w) ∙ (ap (type_of s) e ∙ (meaning_same s v ∙ h))

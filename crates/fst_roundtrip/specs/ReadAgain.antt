@@ -19,4 +19,5 @@ pub record IsReadAgain (ds : List Declared) : Type 0 where
 
 -- so do those of each module that a text has
 abbrev pub ReadAgain : Type 0
-ReadAgain = (text : List ℕ) (tokens : List Token) (ds : List Declared) → Lexes text tokens → IsModule (line_lexemes text tokens) ds → IsReadAgain ds
+ReadAgain = (text : List ℕ) (tokens : List Token) (ds : List Declared) → Lexes text tokens →
+    IsModule (line_lexemes text tokens) ds → IsReadAgain ds

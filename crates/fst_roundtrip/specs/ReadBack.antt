@@ -40,7 +40,8 @@ abbrev mutual
   -- the same of the branches of a choice
   pub AreWritable : ℕ → Branches → Type 0
   AreWritable m none = ⊤
-  AreWritable m (branch l s bs) = IsWordOf kind.Upper l × IsNoArrow s × IsWritable m s × AreWritable m bs
+  AreWritable m (branch l s bs) = IsWordOf kind.Upper l × IsNoArrow s × IsWritable m s ×
+      AreWritable m bs
 
 -- the names of so many type variables of a signature, from the k-th on
 abbrev pub variable_names : ℕ → ℕ → List (List ℕ)
@@ -53,7 +54,12 @@ family_named names x = option_map (λ k. Some (named k)) (place_of names x)
 
 -- the names in scope around a type: those of the first m variables, and of the data types
 abbrev pub scope_of : List (List ℕ) → ℕ → Scope
-scope_of names m = record { recs = []; vars = variable_names 0 m; declared = family_named names; otherwise = None }
+scope_of names m = record {
+  recs = [];
+  vars = variable_names 0 m;
+  declared = family_named names;
+  otherwise = None;
+}
 
 -- the text of the type can be read
 pub record IsReadable (names : List (List ℕ)) (m : ℕ) (t : Tree) : Type 0 where

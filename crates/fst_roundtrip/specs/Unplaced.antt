@@ -42,11 +42,15 @@ abbrev mutual
   unplaced_term (term.unit at) = term.unit 0
   unplaced_term (term.pair at s t) = term.pair 0 (unplaced_term s) (unplaced_term t)
   unplaced_term (term.make at x ts) = term.make 0 x (unplaced_terms ts)
-  unplaced_term (term.lambda at u a x t) = term.lambda 0 u (unplaced_type a) (unplaced_binder x) (unplaced_term t)
+  unplaced_term (term.lambda at u a x t) =
+      term.lambda 0 u (unplaced_type a) (unplaced_binder x) (unplaced_term t)
   unplaced_term (term.apply at s t) = term.apply 0 (unplaced_term s) (unplaced_term t)
-  unplaced_term (term.let_in at x s t) = term.let_in 0 (unplaced_binder x) (unplaced_term s) (unplaced_term t)
-  unplaced_term (term.split at x y s t) = term.split 0 (unplaced_binder x) (unplaced_binder y) (unplaced_term s) (unplaced_term t)
-  unplaced_term (term.if_else at s t u) = term.if_else 0 (unplaced_term s) (unplaced_term t) (unplaced_term u)
+  unplaced_term (term.let_in at x s t) =
+      term.let_in 0 (unplaced_binder x) (unplaced_term s) (unplaced_term t)
+  unplaced_term (term.split at x y s t) =
+      term.split 0 (unplaced_binder x) (unplaced_binder y) (unplaced_term s) (unplaced_term t)
+  unplaced_term (term.if_else at s t u) =
+      term.if_else 0 (unplaced_term s) (unplaced_term t) (unplaced_term u)
   unplaced_term (term.case_of at t bs) = term.case_of 0 (unplaced_term t) (unplaced_arms bs)
   unplaced_term (term.operate at o s t) = term.operate 0 o (unplaced_term s) (unplaced_term t)
   unplaced_term (term.negate at t) = term.negate 0 (unplaced_term t)
@@ -66,7 +70,8 @@ abbrev mutual
   -- the arms of a case or a match
   pub unplaced_arms : TermArms → TermArms
   unplaced_arms no_arms = no_arms
-  unplaced_arms (arm l xs t bs) = arm (unplaced_binder l) (map unplaced_binder xs) (unplaced_term t) (unplaced_arms bs)
+  unplaced_arms (arm l xs t bs) = arm (unplaced_binder l) (map unplaced_binder xs) (unplaced_term t)
+      (unplaced_arms bs)
 
 -- a constructor without its places
 abbrev pub unplaced_maker : Maker → Maker
@@ -76,5 +81,7 @@ unplaced_maker m = record { name = unplaced_binder m.name; fields = map unplaced
 abbrev pub unplaced_decl : Declared → Declared
 unplaced_decl (family x makers) = family (unplaced_binder x) (map unplaced_maker makers)
 unplaced_decl (alias x t) = alias (unplaced_binder x) (unplaced_type t)
-unplaced_decl (signature x bs t) = signature (unplaced_binder x) (map (λ (b : Binder × Kind). (unplaced_binder b.0, b.1)) bs) (unplaced_type t)
-unplaced_decl (equation x xs t) = equation (unplaced_binder x) (map unplaced_binder xs) (unplaced_term t)
+unplaced_decl (signature x bs t) = signature (unplaced_binder x)
+    (map (λ (b : Binder × Kind). (unplaced_binder b.0, b.1)) bs) (unplaced_type t)
+unplaced_decl (equation x xs t) = equation (unplaced_binder x) (map unplaced_binder xs)
+    (unplaced_term t)

@@ -22,7 +22,8 @@ nothing : {A : Type 0} (o : Option A) (f : A → Option Scope) → ((x : A) → 
 nothing None f h = refl
 nothing (Some x) f h = h x
 
-pub none_entered : (vars : List Kind) (xs : List Binder) (ts : List Tree) (s : Scope) → (length xs ≡ length ts → ⊥) → entered_all vars xs ts s ≡ None
+pub none_entered : (vars : List Kind) (xs : List Binder) (ts : List Tree) (s : Scope) →
+    (length xs ≡ length ts → ⊥) → entered_all vars xs ts s ≡ None
 none_entered vars [] [] s f = absurd (f refl)
 none_entered vars [] (t ∷ ts) s f = refl
 none_entered vars (x ∷ xs) [] s f = refl
@@ -34,7 +35,8 @@ some_of : {A : Type 0} (o : Option A) (f : A → Option Scope) (r : Scope) → n
 some_of None f r h = absurd (cc h)
 some_of (Some x) f r h = (x, h)
 
-pub entered_long : (vars : List Kind) (xs : List Binder) (ts : List Tree) (s r : Scope) → entered_all vars xs ts s ≡ Some r → length xs + length s.variables ≡ length r.variables
+pub entered_long : (vars : List Kind) (xs : List Binder) (ts : List Tree) (s r : Scope) → entered_all vars xs ts s ≡ Some r →
+    length xs + length s.variables ≡ length r.variables
 entered_long vars [] [] s r h = let e = ap (λ z. length z.variables) (same_Some s r h) in omega (arith, e)
 entered_long vars [] (t ∷ ts) s r h = absurd (cc h)
 entered_long vars (x ∷ xs) [] s r h = absurd (cc h)
@@ -55,7 +57,8 @@ closed_stops : (n i : ℕ) (s : Scope) → i ≤ n → closed_all i s ≡ None �
 closed_stops zero i s h e = let z : i ≡ 0 = omega arith in subst (λ k. closed_all k s ≡ None) z e
 closed_stops (suc n) i s h e = pick (nat_eq i (suc n)) refl (closed_stops n i s)
   where
-    pick : (b : Bool) → nat_eq i (suc n) ≡ b → (i ≤ n → closed_all i s ≡ None → closed_all n s ≡ None) → closed_all (suc n) s ≡ None
+    pick : (b : Bool) → nat_eq i (suc n) ≡ b → (i ≤ n → closed_all i s ≡ None → closed_all n s ≡ None) →
+        closed_all (suc n) s ≡ None
     pick true f go = subst (λ k. closed_all k s ≡ None) (same_nat i (suc n) f) e
     pick false f go = ap (λ o. next o closed) (go (number_less i n f h) e)
 
@@ -81,33 +84,42 @@ tested true F r h = h
 tested false F r h = refl
 
 module _ (m : Surroundings) (B : Binding) (t : Tree) (s : Scope) where
-  one_wrong : (b : Arm) (bs : List Arm) (p : Derivation) (ps : List Derivation) (r : Scope) → ((q : Scope) → further_walk m B (core_arms_of bs) t (parts_of ps) s q ≡ None) →
+  one_wrong : (b : Arm) (bs : List Arm) (p : Derivation) (ps : List Derivation) (r : Scope) →
+      ((q : Scope) → further_walk m B (core_arms_of bs) t (parts_of ps) s q ≡ None) →
       further_walk m B (core_arms_of (b ∷ bs)) t (parts_of (p ∷ ps)) s r ≡ None
   one_wrong b bs p ps r f =
-      let F = λ (z : Scope). next (further (arm_walk m.vars (bound_types m B b.label) b.binders.items (whole m.vars (row_walk m b.body) (deriv_of p))) s z) (further_walk m B (core_arms_of bs) t (parts_of ps) s) in
-      tested (same_tree (type_of (deriv_of p)) t) F r (nothing (further (arm_walk m.vars (bound_types m B b.label) b.binders.items (whole m.vars (row_walk m b.body) (deriv_of p))) s r) (further_walk m B (core_arms_of bs) t (parts_of ps) s) f)
+      let F = λ (z : Scope). next (further (arm_walk m.vars (bound_types m B b.label) b.binders.items
+      (whole m.vars (row_walk m b.body) (deriv_of p))) s z) (further_walk m B (core_arms_of bs) t (parts_of ps) s) in
+      tested (same_tree (type_of (deriv_of p)) t) F r
+      (nothing (further (arm_walk m.vars (bound_types m B b.label) b.binders.items
+      (whole m.vars (row_walk m b.body) (deriv_of p))) s r) (further_walk m B (core_arms_of bs) t (parts_of ps) s) f)
 
-  pub none_further : (bs : List Arm) (ps : List Derivation) (r : Scope) → (length bs ≡ length ps → ⊥) → further_walk m B (core_arms_of bs) t (parts_of ps) s r ≡ None
+  pub none_further : (bs : List Arm) (ps : List Derivation) (r : Scope) →
+      (length bs ≡ length ps → ⊥) → further_walk m B (core_arms_of bs) t (parts_of ps) s r ≡ None
   none_further [] [] r f = absurd (f refl)
   none_further [] (p ∷ ps) r f = refl
   none_further (b ∷ bs) [] r f = refl
   none_further (b ∷ bs) (p ∷ ps) r f = one_wrong b bs p ps r (λ q. none_further bs ps q (λ e. f (ap suc e)))
 
 module _ (m : Surroundings) where
-  field_wrong : (e : CoreTree) (es : List CoreTree) (k : ℕ) (ks : List ℕ) (p : Derivation) (ps : List Derivation) (s : Scope) → ((q : Scope) → fields_walk m (cores_of es) ks (parts_of ps) q ≡ None) →
+  field_wrong : (e : CoreTree) (es : List CoreTree) (k : ℕ) (ks : List ℕ) (p : Derivation) (ps : List Derivation) (s : Scope) →
+      ((q : Scope) → fields_walk m (cores_of es) ks (parts_of ps) q ≡ None) →
       fields_walk m (cores_of (e ∷ es)) (k ∷ ks) (parts_of (p ∷ ps)) s ≡ None
   field_wrong e es k ks p ps s f =
       let F = λ (z : Scope). next (whole m.vars (row_walk m e) (deriv_of p) z) (fields_walk m (cores_of es) ks (parts_of ps)) in
-      tested (is_type (slice_get m.types k) (type_of (deriv_of p))) F s (nothing (whole m.vars (row_walk m e) (deriv_of p) s) (fields_walk m (cores_of es) ks (parts_of ps)) f)
+      tested (is_type (slice_get m.types k) (type_of (deriv_of p))) F s
+      (nothing (whole m.vars (row_walk m e) (deriv_of p) s) (fields_walk m (cores_of es) ks (parts_of ps)) f)
 
-  pub none_fields : (es : List CoreTree) (ks : List ℕ) (ps : List Derivation) (s : Scope) → (length es ≡ length ks → ⊥) → fields_walk m (cores_of es) ks (parts_of ps) s ≡ None
+  pub none_fields : (es : List CoreTree) (ks : List ℕ) (ps : List Derivation) (s : Scope) →
+      (length es ≡ length ks → ⊥) → fields_walk m (cores_of es) ks (parts_of ps) s ≡ None
   none_fields [] [] ps s f = absurd (f refl)
   none_fields [] (k ∷ ks) ps s f = refl
   none_fields (e ∷ es) [] ps s f = refl
   none_fields (e ∷ es) (k ∷ ks) [] s f = refl
   none_fields (e ∷ es) (k ∷ ks) (p ∷ ps) s f = field_wrong e es k ks p ps s (λ q. none_fields es ks ps q (λ h. f (ap suc h)))
 
-  pub none_parts : (es : List CoreTree) (ks : List ℕ) (ps : List Derivation) (s : Scope) → (length es ≡ length ps → ⊥) → fields_walk m (cores_of es) ks (parts_of ps) s ≡ None
+  pub none_parts : (es : List CoreTree) (ks : List ℕ) (ps : List Derivation) (s : Scope) →
+      (length es ≡ length ps → ⊥) → fields_walk m (cores_of es) ks (parts_of ps) s ≡ None
   none_parts [] [] [] s f = absurd (f refl)
   none_parts [] [] (p ∷ ps) s f = refl
   none_parts [] (k ∷ ks) ps s f = refl

@@ -40,18 +40,22 @@ three_of (part x (part y (part z (part w ds)))) p h = absurd (cc h)
 
 -- ---- rows
 
-pub decides_leaf : (g : List Variable) (P : Vars → Type 0) (fits : Bool) (ds : Derivs) → ((u : Vars) → P u → (u ≡ no_vars) × (ds ≡ none) × (fits ≡ true)) →
+pub decides_leaf : (g : List Variable) (P : Vars → Type 0) (fits : Bool) (ds : Derivs) →
+    ((u : Vars) → P u → (u ≡ no_vars) × (ds ≡ none) × (fits ≡ true)) →
     ((u : Vars) → u ≡ no_vars → ds ≡ none → fits ≡ true → P u) → Decides g P (leaf_row fits ds)
 decides_leaf g P fits ds from to =
     decides_only g P (has_none ds && fits) Some (λ u x. let z = from u x in and_both (has_none ds) fits (ap has_none z.1) z.2)
-    (λ h. decides_as g (λ u. u ≡ no_vars) P Some (λ u e. to u e (none_of ds (and_left (has_none ds) fits h)) (and_right (has_none ds) fits h)) (λ u x. (from u x).0) (decides_none g))
+    (λ h. decides_as g (λ u. u ≡ no_vars) P Some (λ u e. to u e (none_of ds (and_left (has_none ds) fits h))
+    (and_right (has_none ds) fits h)) (λ u x. (from u x).0) (decides_none g))
 
 -- a row with one part
-pub decides_row_1 : (g : List Variable) (P : Vars → Type 0) (fits : Tree → Bool) (ds : Derivs) (A : Deriv → Walk) (PA : Deriv → Vars → Type 0) → ((d : Deriv) → Decides g (PA d) (A d)) →
+pub decides_row_1 : (g : List Variable) (P : Vars → Type 0) (fits : Tree → Bool) (ds : Derivs) (A : Deriv → Walk)
+    (PA : Deriv → Vars → Type 0) → ((d : Deriv) → Decides g (PA d) (A d)) →
     ((u : Vars) → P u → (d : Deriv) × (ds ≡ one d) × (fits (type_of d) ≡ true) × PA d u) →
     ((u : Vars) (d : Deriv) → ds ≡ one d → fits (type_of d) ≡ true → PA d u → P u) → Decides g P (row_1 fits ds A)
 decides_row_1 g P fits ds A PA da from to =
-    decides_given g P (parts_1 ds) (λ d. only (fits (type_of d)) (A d)) (λ u x e. let z = from u x in absurd (cc (e, ap parts_1 z.1)))
+    decides_given g P (parts_1 ds) (λ d. only (fits (type_of d)) (A d))
+    (λ u x e. let z = from u x in absurd (cc (e, ap parts_1 z.1)))
     (λ d is.
     let same : ds ≡ one d = one_of ds d is in
     let part_is = λ (u : Vars) (x : P u). same_part (from u x).0 d ((sym (from u x).1) ∙ same) in
@@ -61,7 +65,8 @@ decides_row_1 g P fits ds A PA da from to =
     same_part : (d h : Deriv) → one d ≡ one h → d ≡ h
     same_part d h e = cc
 
-both_turned : (PA PB : Deriv → Vars → Type 0) (u : Vars) (d h x y : Deriv) → d ≡ x → h ≡ y → Both (PA d) (PB h) u → Both (PA x) (PB y) u
+both_turned : (PA PB : Deriv → Vars → Type 0) (u : Vars) (d h x y : Deriv) → d ≡ x → h ≡ y → Both (PA d) (PB h) u →
+    Both (PA x) (PB y) u
 both_turned PA PB u d h x y e f z = subst (λ k. Both (PA k) (PB y) u) e (subst (λ k. Both (PA d) (PB k) u) f z)
 
 pub same_first : (d h x y : Deriv) → two d h ≡ two x y → d ≡ x
@@ -71,12 +76,16 @@ pub same_second : (d h x y : Deriv) → two d h ≡ two x y → h ≡ y
 same_second d h x y e = cc
 
 -- a row with two parts
-pub decides_row_2 : (g : List Variable) (P : Vars → Type 0) (fits : Tree → Tree → Bool) (ds : Derivs) (A B : Deriv → Walk) (PA PB : Deriv → Vars → Type 0) →
+pub decides_row_2 : (g : List Variable) (P : Vars → Type 0) (fits : Tree → Tree → Bool) (ds : Derivs) (A B : Deriv → Walk)
+    (PA PB : Deriv → Vars → Type 0) →
     ((d : Deriv) → Decides g (PA d) (A d)) → ((d : Deriv) → Decides g (PB d) (B d)) →
-    ((u : Vars) → P u → (d : Deriv) × (h : Deriv) × (ds ≡ two d h) × (fits (type_of d) (type_of h) ≡ true) × Both (PA d) (PB h) u) →
-    ((u : Vars) (d h : Deriv) → ds ≡ two d h → fits (type_of d) (type_of h) ≡ true → Both (PA d) (PB h) u → P u) → Decides g P (row_2 fits ds A B)
+    ((u : Vars) → P u → (d : Deriv) × (h : Deriv) × (ds ≡ two d h) × (fits (type_of d) (type_of h) ≡ true) × Both (PA d) (PB h) u)
+    →
+    ((u : Vars) (d h : Deriv) → ds ≡ two d h → fits (type_of d) (type_of h) ≡ true → Both (PA d) (PB h) u → P u) →
+    Decides g P (row_2 fits ds A B)
 decides_row_2 g P fits ds A B PA PB da db from to =
-    decides_given g P (parts_2 ds) (λ p. only (fits (type_of p.0) (type_of p.1)) (after (A p.0) (B p.1))) (λ u x e. let z = from u x in absurd (cc (e, ap parts_2 z.2)))
+    decides_given g P (parts_2 ds) (λ p. only (fits (type_of p.0) (type_of p.1)) (after (A p.0) (B p.1)))
+    (λ u x e. let z = from u x in absurd (cc (e, ap parts_2 z.2)))
     (λ p is.
     let same : ds ≡ two p.0 p.1 = two_of ds p is in
     let first = λ (u : Vars) (x : P u). same_first (from u x).0 (from u x).1 p.0 p.1 (sym (from u x).2 ∙ same) in
@@ -98,7 +107,8 @@ went true o y h = (refl, h)
 went false o y h = absurd (cc h)
 
 -- what is below conversions is a row of a well-formed type, to which they lead
-pub peeled_is : (vars : List Kind) (d : Deriv) (p : Tree × Derivs) → peeled vars d ≡ Some p → Converted (IsAnyConversion vars) d (row p.0 p.1) × IsFormed vars p.0
+pub peeled_is : (vars : List Kind) (d : Deriv) (p : Tree × Derivs) → peeled vars d ≡ Some p →
+    Converted (IsAnyConversion vars) d (row p.0 p.1) × IsFormed vars p.0
 peeled_is vars (row t ds) p h =
     let k = kept (has_some (kind_in vars t)) (t, ds) p h in
     (itself (λ i. row (k.1 i).0 (k.1 i).1), subst (IsFormed vars) (λ i. (k.1 i).0) (is_formed vars t k.0))
@@ -108,11 +118,16 @@ peeled_is vars (convert s t d) p h =
     let c = same_tree (type_of d) s in
     let k = went (a && (b && c)) (peeled vars d) p h in
     let r = peeled_is vars d p k.1 in
-    let bc = and_right a (b && c) k.0 in
-    (turned (record { left = is_formed vars s (and_left a (b && c) k.0); right = is_formed vars t (and_left b c bc) }) (tree_same (type_of d) s (and_right b c bc)) r.0, r.1)
+    let bc = and_right a (b && c) k.0 in (
+      turned (record { left = is_formed vars s (and_left a (b && c) k.0); right = is_formed vars t (and_left b c bc) })
+          (tree_same (type_of d) s (and_right b c bc)) r.0,
+      r.1,
+    )
 
-pub is_peeled : (vars : List Kind) (d c : Deriv) (t : Tree) (ds : Derivs) → Converted (IsAnyConversion vars) d c → c ≡ row t ds → IsFormed vars t → peeled vars d ≡ Some (t, ds)
-is_peeled vars d c t ds (itself e) q f = ap (peeled vars) (e ∙ q) ∙ ap (λ b. if b then Some (t, ds) else None) (of_formed vars t f)
+pub is_peeled : (vars : List Kind) (d c : Deriv) (t : Tree) (ds : Derivs) → Converted (IsAnyConversion vars) d c → c ≡ row t ds →
+    IsFormed vars t → peeled vars d ≡ Some (t, ds)
+is_peeled vars d c t ds (itself e) q f = ap (peeled vars) (e ∙ q) ∙ ap
+    (λ b. if b then Some (t, ds) else None) (of_formed vars t f)
 is_peeled vars _ c t ds (turned {s} {t = r} {d} x y z) q f =
     ap (λ b. if b then peeled vars d else None)
     (and_both (has_some (kind_in vars s)) (has_some (kind_in vars r) && same_tree (type_of d) s) (of_formed vars s x.left)
@@ -121,17 +136,20 @@ is_peeled vars _ c t ds (turned {s} {t = r} {d} x y z) q f =
 
 -- a derivation of a part
 pub decides_whole : (vars : List Kind) (g : List Variable) (P : Vars → Deriv → Type 0) (R : Tree → Derivs → Walk) →
-    ((u : Vars) (c : Deriv) → P u c → (t : Tree) × (ds : Derivs) × (c ≡ row t ds)) → ((t : Tree) (ds : Derivs) → Decides g (λ u. P u (row t ds)) (R t ds)) →
+    ((u : Vars) (c : Deriv) → P u c → (t : Tree) × (ds : Derivs) × (c ≡ row t ds)) →
+    ((t : Tree) (ds : Derivs) → Decides g (λ u. P u (row t ds)) (R t ds)) →
     (d : Deriv) → Decides g (λ u. Over vars (Converted (IsAnyConversion vars)) P u d) (whole vars R d)
 decides_whole vars g P R rows f d =
-    decides_given g (λ u. Over vars (Converted (IsAnyConversion vars)) P u d) (peeled vars d) (λ p. R p.0 p.1) (λ u x e. absurd (cc (e, of u x)))
+    decides_given g (λ u. Over vars (Converted (IsAnyConversion vars)) P u d) (peeled vars d) (λ p. R p.0 p.1)
+    (λ u x e. absurd (cc (e, of u x)))
     (λ p is. decides_as g (λ u. P u (row p.0 p.1)) (λ u. Over vars (Converted (IsAnyConversion vars)) P u d) (R p.0 p.1)
     (λ u x. record { core = row p.0 p.1; stands = (peeled_is vars d p is).0; rule = x; formed = (peeled_is vars d p is).1 })
     (λ u x. let r = rows u x.core x.rule in
     let same : (r.0, r.1) ≡ p = same_Some (r.0, r.1) p (sym (of u x) ∙ is) in
     subst (P u) (r.2 ∙ (λ i. row (same i).0 (same i).1)) x.rule) (f p.0 p.1))
   where
-    of : (u : Vars) (x : Over vars (Converted (IsAnyConversion vars)) P u d) → peeled vars d ≡ Some ((rows u x.core x.rule).0, (rows u x.core x.rule).1)
+    of : (u : Vars) (x : Over vars (Converted (IsAnyConversion vars)) P u d) →
+        peeled vars d ≡ Some ((rows u x.core x.rule).0, (rows u x.core x.rule).1)
     of u x =
         let r = rows u x.core x.rule in
         is_peeled vars d x.core r.0 r.1 x.stands r.2 (subst (λ z. IsFormed vars (type_of z)) r.2 x.formed)

@@ -25,7 +25,8 @@ nothing_used false f = refl
 nothing_used true f = sym (f refl)
 
 -- in no context a walk comes to its end exactly where the tree is a derivation without linear variables
-pub closed_walk : (m : Surroundings) (e : CoreTree) (d : Deriv) (b : Bool) (s r : Scope) → s ≡ empty → walk_of m e d s ≡ came b r → (b ≡ true) ↔ Part m e [] d no_vars
+pub closed_walk : (m : Surroundings) (e : CoreTree) (d : Deriv) (b : Bool) (s r : Scope) → s ≡ empty →
+    walk_of m e d s ≡ came b r → (b ≡ true) ↔ Part m e [] d no_vars
 closed_walk m e d b s r is h = (
   (λ on.
       let t = (derived m e [] d).sound empty r refl (ap (walk_of m e d) (sym is) ∙ h ∙ ap (λ c. came c r) on) in
@@ -38,19 +39,27 @@ closed_walk m e d b s r is h = (
     ended true z = refl
     ended false z = absurd (cc z)
 
-pub global_derived : (m : Module) (g : GlobalEntry) (d : Deriv) (t : Tree) (b c : Bool) (s r : Scope) → Some t ≡ slice_get m.types.items g.signature → c ≡ same_tree (type_of d) t → c ≡ true →
+pub global_derived : (m : Module) (g : GlobalEntry) (d : Deriv) (t : Tree) (b c : Bool) (s r : Scope) →
+    Some t ≡ slice_get m.types.items g.signature → c ≡ same_tree (type_of d) t → c ≡ true →
     s ≡ empty → walk_of (surroundings m g.kinds.items) g.body d s ≡ came b r → (b ≡ true) ↔ IsDerived m g d
 global_derived m g d t b c s r there fits on is h =
     let n = surroundings m g.kinds.items in
     let w = closed_walk n g.body d b s r is h in (
-      (λ f. (t, sym there, over_at g.kinds.items t (Conversions n) (Rule n g.body []) no_vars d (w.0 f) (tree_same (type_of d) t (sym fits ∙ on)))),
+      (λ f. (
+        t,
+        sym there,
+        over_at g.kinds.items t (Conversions n) (Rule n g.body []) no_vars d (w.0 f)
+            (tree_same (type_of d) t (sym fits ∙ on)),
+      )),
       (λ (t', p, x). w.1 (at_over g.kinds.items t' (Conversions n) (Rule n g.body []) no_vars d x)),
     )
 
-pub none_derived : (m : Module) (g : GlobalEntry) (d : Deriv) → None ≡ slice_get m.types.items g.signature → (false ≡ true) ↔ IsDerived m g d
+pub none_derived : (m : Module) (g : GlobalEntry) (d : Deriv) → None ≡ slice_get m.types.items g.signature →
+    (false ≡ true) ↔ IsDerived m g d
 none_derived m g d e = ((λ f. absurd (cc f)), (λ (t, p, x). let z = e ∙ p in absurd (cc z)))
 
-pub wrong_type : (m : Module) (g : GlobalEntry) (d : Deriv) (t : Tree) (c : Bool) → Some t ≡ slice_get m.types.items g.signature → c ≡ same_tree (type_of d) t → c ≡ false → (false ≡ true) ↔ IsDerived m g d
+pub wrong_type : (m : Module) (g : GlobalEntry) (d : Deriv) (t : Tree) (c : Bool) → Some t ≡ slice_get m.types.items g.signature →
+    c ≡ same_tree (type_of d) t → c ≡ false → (false ≡ true) ↔ IsDerived m g d
 wrong_type m g d t c there fits off = (
   (λ f. absurd (cc f)),
   (λ (t', p, x).
@@ -58,11 +67,13 @@ wrong_type m g d t c there fits off = (
       let z = sym off ∙ fits ∙ tree_itself (type_of d) t (x.wanted ∙ same) in absurd (cc z)),
 )
 
-as_many : (m : Module) (E : List Kind → Tree → Tree → Type 0) (gs : List GlobalEntry) (ds : List Derivation) → AreDerived m E gs (map deriv_of ds) → length gs ≡ length ds
+as_many : (m : Module) (E : List Kind → Tree → Tree → Type 0) (gs : List GlobalEntry) (ds : List Derivation) →
+    AreDerived m E gs (map deriv_of ds) → length gs ≡ length ds
 as_many m E [] [] x = refl
 as_many m E [] (d ∷ ds) x = absurd x
 as_many m E (g ∷ gs) [] x = absurd x
 as_many m E (g ∷ gs) (d ∷ ds) x = ap suc (as_many m E gs ds x.1)
 
-pub wrong_count : (m : Module) (gs : List GlobalEntry) (ds : List Derivation) → (length gs ≡ length ds → ⊥) → (false ≡ true) ↔ AreDerived m IsAnyConversion gs (map deriv_of ds)
+pub wrong_count : (m : Module) (gs : List GlobalEntry) (ds : List Derivation) → (length gs ≡ length ds → ⊥) →
+    (false ≡ true) ↔ AreDerived m IsAnyConversion gs (map deriv_of ds)
 wrong_count m gs ds f = ((λ h. absurd (cc h)), (λ x. absurd (f (as_many m IsAnyConversion gs ds x))))

@@ -24,11 +24,13 @@ after_some F = λ i s. some (F s) i
     some None = refl
     some (Some s) = refl
 
-pub rest_last : (m : Surroundings) (ls : List Level) (l : Level) → rest_walk m (ls ++ l ∷ []) ≡ after (walk_of m l.term.now (deriv_of l.derivation.now)) (rest_walk m ls)
+pub rest_last : (m : Surroundings) (ls : List Level) (l : Level) →
+    rest_walk m (ls ++ l ∷ []) ≡ after (walk_of m l.term.now (deriv_of l.derivation.now)) (rest_walk m ls)
 rest_last m [] l = sym (after_some (walk_of m l.term.now (deriv_of l.derivation.now)))
 rest_last m (x ∷ ls) l =
     ap (λ F. after F (walk_of m x.term.now (deriv_of x.derivation.now))) (rest_last m ls l)
-    ∙ after_twice (walk_of m l.term.now (deriv_of l.derivation.now)) (rest_walk m ls) (walk_of m x.term.now (deriv_of x.derivation.now))
+    ∙ after_twice (walk_of m l.term.now (deriv_of l.derivation.now)) (rest_walk m ls)
+    (walk_of m x.term.now (deriv_of x.derivation.now))
 
 pub lower_last : (n : ℕ) (ls : List Level) (l : Level) → AreLower n ls → core_height l.term.now < n → AreLower n (ls ++ l ∷ [])
 lower_last n [] l x h = (h, tt)
@@ -38,7 +40,8 @@ last_lower : (n : ℕ) (ls : List Level) (l : Level) → AreLower n (ls ++ l ∷
 last_lower n [] l x = (x.0, tt)
 last_lower n (y ∷ ls) l x = let r = last_lower n ls l x.1 in (r.0, (x.0, r.1))
 
-pub lower_popped : (old new : List Level) (r : Option Level) → old ≡ new ++ option_to_list r → (n : ℕ) → AreLower n old → AreLower n new × IfSome r (λ l. core_height l.term.now < n)
+pub lower_popped : (old new : List Level) (r : Option Level) → old ≡ new ++ option_to_list r →
+    (n : ℕ) → AreLower n old → AreLower n new × IfSome r (λ l. core_height l.term.now < n)
 lower_popped old new None is n x = (subst (AreLower n) (is ∙ same new) x, tt)
   where
     same : (xs : List Level) → xs ++ [] ≡ xs
@@ -46,8 +49,10 @@ lower_popped old new None is n x = (subst (AreLower n) (is ∙ same new) x, tt)
     same (y ∷ ys) = ap (λ zs. y ∷ zs) (same ys)
 lower_popped old new (Some l) is n x = let r = last_lower n new l (subst (AreLower n) is x) in (r.1, r.0)
 
-pub rest_popped : (old new : List Level) (n k : ℕ) (r : Option Level) → n ≡ length old → old ≡ new ++ option_to_list r → MatchOption r ((n ≡ 0) × (k ≡ 0)) (λ _. k + 1 ≡ n) →
-    (m : Surroundings) → MatchOption r (rest_walk m old ≡ Some) (λ l. rest_walk m old ≡ after (walk_of m l.term.now (deriv_of l.derivation.now)) (rest_walk m new))
+pub rest_popped : (old new : List Level) (n k : ℕ) (r : Option Level) → n ≡ length old → old ≡ new ++ option_to_list r →
+    MatchOption r ((n ≡ 0) × (k ≡ 0)) (λ _. k + 1 ≡ n) →
+    (m : Surroundings) → MatchOption r (rest_walk m old ≡ Some)
+    (λ l. rest_walk m old ≡ after (walk_of m l.term.now (deriv_of l.derivation.now)) (rest_walk m new))
 rest_popped [] new n k None long is cases m = refl
 rest_popped (y ∷ old) new n k None long is cases m = absurd (omega (arith, long, cases.0))
 rest_popped old new n k (Some l) long is cases m = ap (rest_walk m) is ∙ rest_last m new l
@@ -57,13 +62,15 @@ rest_popped old new n k (Some l) long is cases m = ap (rest_walk m) is ∙ rest_
 pub row_2_none : (fits : Tree → Tree → Bool) (ds : Derivs) (A B : Deriv → Walk) → None ≡ parts_2 ds → row_2 fits ds A B ≡ nowhere
 row_2_none fits ds A B e = ap (λ o. given o (λ p. only (fits (type_of p.0) (type_of p.1)) (after (A p.0) (B p.1)))) (sym e)
 
-pub row_2_some : (fits : Tree → Tree → Bool) (ds : Derivs) (A B : Deriv → Walk) (d h : Deriv) (b : Bool) → Some (d, h) ≡ parts_2 ds → b ≡ fits (type_of d) (type_of h) → b ≡ true →
+pub row_2_some : (fits : Tree → Tree → Bool) (ds : Derivs) (A B : Deriv → Walk) (d h : Deriv) (b : Bool) →
+    Some (d, h) ≡ parts_2 ds → b ≡ fits (type_of d) (type_of h) → b ≡ true →
     row_2 fits ds A B ≡ after (A d) (B h)
 row_2_some fits ds A B d h b e f g =
     ap (λ o. given o (λ p. only (fits (type_of p.0) (type_of p.1)) (after (A p.0) (B p.1)))) (sym e)
     ∙ ap (λ c. only c (after (A d) (B h))) (sym f ∙ g)
 
-pub row_2_wrong : (fits : Tree → Tree → Bool) (ds : Derivs) (A B : Deriv → Walk) (d h : Deriv) (b : Bool) → Some (d, h) ≡ parts_2 ds → b ≡ fits (type_of d) (type_of h) → b ≡ false →
+pub row_2_wrong : (fits : Tree → Tree → Bool) (ds : Derivs) (A B : Deriv → Walk) (d h : Deriv) (b : Bool) →
+    Some (d, h) ≡ parts_2 ds → b ≡ fits (type_of d) (type_of h) → b ≡ false →
     row_2 fits ds A B ≡ nowhere
 row_2_wrong fits ds A B d h b e f g =
     ap (λ o. given o (λ p. only (fits (type_of p.0) (type_of p.1)) (after (A p.0) (B p.1)))) (sym e)
@@ -71,7 +78,8 @@ row_2_wrong fits ds A B d h b e f g =
 
 -- ---- below conversions
 
-pub walk_peeled : (m : Surroundings) (e : CoreTree) (d : Deriv) (t : Tree) (ds : Derivs) → Some (t, ds) ≡ peeled m.vars d → walk_of m e d ≡ row_walk m e t ds
+pub walk_peeled : (m : Surroundings) (e : CoreTree) (d : Deriv) (t : Tree) (ds : Derivs) → Some (t, ds) ≡ peeled m.vars d →
+    walk_of m e d ≡ row_walk m e t ds
 walk_peeled m e d t ds h = ap (λ o. given o (λ p. row_walk m e p.0 p.1)) (sym h)
 
 pub walk_none : (m : Surroundings) (e : CoreTree) (d : Deriv) → None ≡ peeled m.vars d → walk_of m e d ≡ nowhere

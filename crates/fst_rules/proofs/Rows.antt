@@ -28,8 +28,10 @@ no_three (x ∷ y ∷ []) f = refl
 no_three (x ∷ y ∷ z ∷ []) f = absurd (f refl)
 no_three (x ∷ y ∷ z ∷ w ∷ xs) f = refl
 
-pub row_peeled : (vars : List Kind) (t : Tree) (v : Vec Derivation Global) (below : Derivation) (ps : List Derivation) (b : Bool) →
-    below ≡ Row t v → ps ≡ v.items → b ≡ has_some (kind_in vars t) → b ≡ true → Some (t, parts_of ps) ≡ peeled vars (deriv_of below)
+pub row_peeled : (vars : List Kind) (t : Tree) (v : Vec Derivation Global) (below : Derivation) (ps : List Derivation)
+    (b : Bool) →
+    below ≡ Row t v → ps ≡ v.items → b ≡ has_some (kind_in vars t) → b ≡ true →
+    Some (t, parts_of ps) ≡ peeled vars (deriv_of below)
 row_peeled vars t v below ps b e i h f =
     (λ j. Some (t, parts_of (i j)))
     ∙ ap (λ c. if c then Some (t, parts_of v.items) else None) (sym f ∙ h)

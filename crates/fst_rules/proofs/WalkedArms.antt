@@ -39,7 +39,8 @@ next_twice (Some s) F G = refl
 
 -- variables of these types, in which a set is taken
 abbrev pub InVariables : List Kind → List Binder → List Tree → List Variable → (List Variable → Vars → Type 0) → Vars → Type 0
-InVariables vars xs ts g P u = (vs : List Variable) × AreVariables vars ts vs × (length xs ≡ length vs) × P (enter_all vs g) (under_all vs u)
+InVariables vars xs ts g P u = (vs : List Variable) × AreVariables vars ts vs ×
+    (length xs ≡ length vs) × P (enter_all vs g) (under_all vs u)
 
 same_length : (m n : ℕ) → suc m ≡ suc n → m ≡ n
 same_length m n e = cc
@@ -50,7 +51,8 @@ module _ (vars : List Kind) (P : List Variable → Vars → Type 0) (F : Walk) (
   some_again (Some s) = refl
 
   one_inside : (x : Binder) (xs : List Binder) (t : Tree) (ts : List Tree) (o : Option Use) (s : Scope) →
-      next (next o (λ n. entered_all vars xs ts (entered x.name (record { type = t; uses = n }) s))) (λ r. next (F r) (closed_all (suc (length xs))))
+      next (next o (λ n. entered_all vars xs ts (entered x.name (record { type = t; uses = n }) s)))
+      (λ r. next (F r) (closed_all (suc (length xs))))
       ≡ given o (λ n. inside x.name (record { type = t; uses = n }) (inside_all vars xs ts F)) s
   one_inside x xs t ts None s = refl
   one_inside x xs t ts (Some n) s =
@@ -61,13 +63,16 @@ module _ (vars : List Kind) (P : List Variable → Vars → Type 0) (F : Walk) (
       inner None = refl
       inner (Some z) = refl
 
-      go : (q : Option Scope) → next q (λ r. next (F r) (closed_all (suc (length xs)))) ≡ next (next q (λ r. next (F r) (closed_all (length xs)))) closed
+      go : (q : Option Scope) → next q (λ r. next (F r) (closed_all (suc (length xs)))) ≡ next
+          (next q (λ r. next (F r) (closed_all (length xs)))) closed
       go None = refl
       go (Some r) = inner (F r)
 
-  pub decides_inside_all : (xs : List Binder) (ts : List Tree) (g : List Variable) → Decides g (InVariables vars xs ts g P) (inside_all vars xs ts F)
+  pub decides_inside_all : (xs : List Binder) (ts : List Tree) (g : List Variable) →
+      Decides g (InVariables vars xs ts g P) (inside_all vars xs ts F)
   decides_inside_all [] [] g =
-      decides_as g (P g) (InVariables vars [] [] g P) (inside_all vars [] [] F) (λ u x. ([], tt, refl, x)) (λ u (vs, a, n, x). from u vs a x)
+      decides_as g (P g) (InVariables vars [] [] g P) (inside_all vars [] [] F) (λ u x. ([], tt, refl, x))
+      (λ u (vs, a, n, x). from u vs a x)
       (decides_equal g (P g) F (inside_all vars [] [] F) (λ s e. some_again (F s)) (d g))
     where
       from : (u : Vars) (vs : List Variable) → AreVariables vars [] vs → P (enter_all vs g) (under_all vs u) → P g u
@@ -84,9 +89,12 @@ module _ (vars : List Kind) (P : List Variable → Vars → Type 0) (F : Walk) (
       wrong [] a n = cc
       wrong (v ∷ vs) a n = a
   decides_inside_all (x ∷ xs) (t ∷ ts) g =
-      decides_equal g Q (given (use_in vars t) G) (inside_all vars (x ∷ xs) (t ∷ ts) F) (λ s e. one_inside x xs t ts (use_in vars t) s)
-      (decides_given g Q (use_in vars t) G (λ u (vs, a, n, y). none_used vs a) (λ n is. decides_as g (R n) Q (G n) (λ u y. to n is u y) (λ u (vs, a, l, y). from n is u vs a l y)
-      (decides_inside g x.name (record { type = t; uses = n }) (InVariables vars xs ts (record { type = t; uses = n } ∷ g) P) (inside_all vars xs ts F)
+      decides_equal g Q (given (use_in vars t) G) (inside_all vars (x ∷ xs) (t ∷ ts) F)
+      (λ s e. one_inside x xs t ts (use_in vars t) s)
+      (decides_given g Q (use_in vars t) G (λ u (vs, a, n, y). none_used vs a)
+      (λ n is. decides_as g (R n) Q (G n) (λ u y. to n is u y) (λ u (vs, a, l, y). from n is u vs a l y)
+      (decides_inside g x.name (record { type = t; uses = n }) (InVariables vars xs ts (record { type = t; uses = n } ∷ g) P)
+      (inside_all vars xs ts F)
       (decides_inside_all xs ts (record { type = t; uses = n } ∷ g)))))
     where
       Q : Vars → Type 0
@@ -105,7 +113,8 @@ module _ (vars : List Kind) (P : List Variable → Vars → Type 0) (F : Walk) (
       to : (n : Use) → use_in vars t ≡ Some n → (u : Vars) → R n u → Q u
       to n is u (vs, a, l, y) = (record { type = t; uses = n } ∷ vs, (refl, has_use vars t n is, a), ap suc l, y)
 
-      from : (n : Use) → use_in vars t ≡ Some n → (u : Vars) (vs : List Variable) → AreVariables vars (t ∷ ts) vs → length (x ∷ xs) ≡ length vs → P (enter_all vs g) (under_all vs u) → R n u
+      from : (n : Use) → use_in vars t ≡ Some n → (u : Vars) (vs : List Variable) → AreVariables vars (t ∷ ts) vs →
+          length (x ∷ xs) ≡ length vs → P (enter_all vs g) (under_all vs u) → R n u
       from n is u [] a l y = absurd a
       from n is u (v ∷ vs) a l y =
           let uses : v.uses ≡ n = same_Some v.uses n (sym (of_use vars t v.uses a.1) ∙ is) in
@@ -119,7 +128,8 @@ module _ (m : Surroundings) where
   bound : (B : Binding) (l : List ℕ) (ts : List Tree) → bound_types m B l ≡ Some ts → Binds m B l ts
   bound (fields ms) l ts h = pick (maker_named l ms) refl h
     where
-      pick : (o : Option Maker) → maker_named l ms ≡ o → next o (λ c. types_at m.types c.fields.items) ≡ Some ts → Binds m (fields ms) l ts
+      pick : (o : Option Maker) → maker_named l ms ≡ o → next o (λ c. types_at m.types c.fields.items) ≡ Some ts →
+          Binds m (fields ms) l ts
       pick None e h = absurd (cc h)
       pick (Some c) e h = (c, e, types_are m.types c.fields.items ts h)
   bound (rest s) l ts h = pick (step s (Offer l)) refl h
@@ -129,7 +139,8 @@ module _ (m : Surroundings) where
       pick (Some t) e h = (t, e, sym (same_Some (t ∷ []) ts h))
 
   of_bound : (B : Binding) (l : List ℕ) (ts : List Tree) → Binds m B l ts → bound_types m B l ≡ Some ts
-  of_bound (fields ms) l ts (c, p, a) = ap (λ o. next o (λ c. types_at m.types c.fields.items)) p ∙ are_types m.types c.fields.items ts a
+  of_bound (fields ms) l ts (c, p, a) = ap (λ o. next o (λ c. types_at m.types c.fields.items)) p
+      ∙ are_types m.types c.fields.items ts a
   of_bound (rest s) l ts (t, p, e) = ap (λ o. next o (λ t. Some (t ∷ []))) p ∙ ap Some (sym e)
 
   -- ---- one arm
@@ -143,9 +154,11 @@ module _ (m : Surroundings) where
   decides_arm B l xs e A g d =
       decides_given g (Arm B l xs e g d) (bound_types m B l) (λ ts. inside_all m.vars xs ts (whole m.vars (row_walk m e) d))
       (λ u (ts, b, x) f. let z = sym f ∙ of_bound B l ts b in absurd (cc z))
-      (λ ts is. decides_as g (InVariables m.vars xs ts g (λ h. Part m e h d)) (Arm B l xs e g d) (inside_all m.vars xs ts (whole m.vars (row_walk m e) d))
+      (λ ts is. decides_as g (InVariables m.vars xs ts g (λ h. Part m e h d)) (Arm B l xs e g d)
+      (inside_all m.vars xs ts (whole m.vars (row_walk m e) d))
       (λ u x. (ts, bound B l ts is, x))
-      (λ u (ts', b, x). let same : ts' ≡ ts = same_Some ts' ts (sym (of_bound B l ts' b) ∙ is) in subst (λ y. InVariables m.vars xs y g (λ h. Part m e h d) u) same x)
+      (λ u (ts', b, x). let same : ts' ≡ ts = same_Some ts' ts (sym (of_bound B l ts' b) ∙ is) in subst
+      (λ y. InVariables m.vars xs y g (λ h. Part m e h d) u) same x)
       (decides_inside_all m.vars (λ h. Part m e h d) (whole m.vars (row_walk m e) d) (λ h. A h d) xs ts g))
 
   -- ---- further arms
@@ -155,7 +168,8 @@ module _ (m : Surroundings) where
 
   -- the walk over further arms from a scope decides whether a set that was taken is theirs
   abbrev pub Furthers : CoreArms → Type 0
-  Furthers bs = (B : Binding) (g : List Variable) (t : Tree) (ds : Derivs) → Agrees g (Further B bs g t ds) (further_walk m B bs t ds)
+  Furthers bs = (B : Binding) (g : List Variable) (t : Tree) (ds : Derivs) →
+      Agrees g (Further B bs g t ds) (further_walk m B bs t ds)
 
   pub no_furthers : Furthers no_arms
   no_furthers B g t ds = record {
@@ -167,21 +181,26 @@ module _ (m : Surroundings) where
       passed true s r h = (refl, same_Some s r h)
       passed false s r h = absurd (cc h)
 
-  pub one_further : (l : List ℕ) (xs : List Binder) (e : CoreTree) (bs : CoreArms) → Parts m e → Furthers bs → Furthers (arm l xs e bs)
+  pub one_further : (l : List ℕ) (xs : List Binder) (e : CoreTree) (bs : CoreArms) → Parts m e → Furthers bs →
+      Furthers (arm l xs e bs)
   one_further l xs e bs A next_ones B g t none = record {
     sound = λ s r u p w h. absurd (cc h);
     complete = λ s u p w (ts, vs, d, more, i, v, b, n, y, z, f). absurd (cc f);
   }
   one_further l xs e bs A next_ones B g t (part d ds) =
-      let rest_agrees = agrees_further g (Arm B l xs e g d) (Further B bs g t ds) (arm_walk m.vars (bound_types m B l) xs (whole m.vars (row_walk m e) d)) (further_walk m B bs t ds)
+      let rest_agrees = agrees_further g (Arm B l xs e g d) (Further B bs g t ds)
+      (arm_walk m.vars (bound_types m B l) xs (whole m.vars (row_walk m e) d)) (further_walk m B bs t ds)
       (decides_arm B l xs e A g d) (next_ones B g t ds) in
       record {
         sound = λ s r u p w h.
-            let q = passed (same_tree (type_of d) t) (λ z. next (further (arm_walk m.vars (bound_types m B l) xs (whole m.vars (row_walk m e) d)) s z) (further_walk m B bs t ds s)) (without u s) r h in
+            let q = passed (same_tree (type_of d) t) (λ z. next
+            (further (arm_walk m.vars (bound_types m B l) xs (whole m.vars (row_walk m e) d)) s z)
+            (further_walk m B bs t ds s)) (without u s) r h in
             let z = rest_agrees.sound s r u p w q.1 in
             (to q.0 u z.0, z.1);
         complete = λ s u p w z.
-            ap (λ b. only b (λ z. next (further (arm_walk m.vars (bound_types m B l) xs (whole m.vars (row_walk m e) d)) s z) (further_walk m B bs t ds s)) (without u s)) (fits u z)
+            ap (λ b. only b (λ z. next (further (arm_walk m.vars (bound_types m B l) xs (whole m.vars (row_walk m e) d)) s z)
+            (further_walk m B bs t ds s)) (without u s)) (fits u z)
             ∙ rest_agrees.complete s u p w (from u z);
       }
     where
@@ -190,17 +209,34 @@ module _ (m : Surroundings) where
       passed false F s r h = absurd (cc h)
 
       fits : (u : Vars) → Further B (arm l xs e bs) g t (part d ds) u → same_tree (type_of d) t ≡ true
-      fits u (ts, vs, d', more, i, v, b, n, y, z, f) = tree_itself (type_of d) t (ap type_of (same_part d d' ds more f).0 ∙ y.wanted)
+      fits u (ts, vs, d', more, i, v, b, n, y, z, f) =
+          tree_itself (type_of d) t (ap type_of (same_part d d' ds more f).0 ∙ y.wanted)
 
-      to : same_tree (type_of d) t ≡ true → (u : Vars) → Arm B l xs e g d u × Further B bs g t ds u → Further B (arm l xs e bs) g t (part d ds) u
-      to h u ((ts, i, (vs, v, n, y)), z) =
-          (ts, vs, d, ds, i, v, all_any ts, n, over_at m.vars t (Conversions m) (Rule m e (enter_all vs g)) (under_all vs u) d y (tree_same (type_of d) t h), z, refl)
+      to : same_tree (type_of d) t ≡ true → (u : Vars) → Arm B l xs e g d u × Further B bs g t ds u →
+          Further B (arm l xs e bs) g t (part d ds) u
+      to h u ((ts, i, (vs, v, n, y)), z) = (
+        ts,
+        vs,
+        d,
+        ds,
+        i,
+        v,
+        all_any ts,
+        n,
+        over_at m.vars t (Conversions m) (Rule m e (enter_all vs g)) (under_all vs u) d y
+            (tree_same (type_of d) t h),
+        z,
+        refl,
+      )
 
       from : (u : Vars) → Further B (arm l xs e bs) g t (part d ds) u → Arm B l xs e g d u × Further B bs g t ds u
       from u (ts, vs, d', more, i, v, b, n, y, z, f) =
           let same = same_part d d' ds more f in
-          let y' = at_over m.vars t (Conversions m) (Rule m e (enter_all vs g)) (under_all vs u) d' y in
-          ((ts, i, (vs, v, n, subst (λ k. Part m e (enter_all vs g) k (under_all vs u)) (sym same.0) y')), subst (λ k. Further B bs g t k u) (sym same.1) z)
+          let y' = at_over m.vars t (Conversions m) (Rule m e (enter_all vs g)) (under_all vs u) d' y in (
+            (ts, i, (vs, v, n, subst (λ k. Part m e (enter_all vs g) k (under_all vs u)) (sym same.0) y')),
+            subst
+                (λ k. Further B bs g t k u) (sym same.1) z,
+          )
 
   -- ---- all arms
 
@@ -222,9 +258,13 @@ module _ (m : Surroundings) where
       (λ h. decides_as g (λ u. Arm B l xs e g d u × Further B bs g t ds u) P (λ s. next (G s) (further_walk m B bs t ds s))
       (λ u ((ts, i, (vs, v, n, y)), k). (ts, vs, d, ds, i, v, all_any ts, n, y, tree_same (type_of d) t h, k, refl))
       (λ u (ts, vs, d', more, i, v, b, n, y, z, k, f).
-      let same = same_part d d' ds more f in
-      ((ts, i, (vs, v, n, subst (λ j. Part m e (enter_all vs g) j (under_all vs u)) (sym same.0) y)), subst (λ j. Further B bs g t j u) (sym same.1) k))
-      (decides_agreed g (Arm B l xs e g d) (Further B bs g t ds) G (further_walk m B bs t ds) (decides_arm B l xs e A g d) (next_ones B g t ds)))
+      let same = same_part d d' ds more f in (
+        (ts, i, (vs, v, n, subst (λ j. Part m e (enter_all vs g) j (under_all vs u)) (sym same.0) y)),
+        subst
+            (λ j. Further B bs g t j u) (sym same.1) k,
+      ))
+      (decides_agreed g (Arm B l xs e g d) (Further B bs g t ds) G (further_walk m B bs t ds) (decides_arm B l xs e A g d)
+      (next_ones B g t ds)))
     where
       G : Walk
       G = arm_walk m.vars (bound_types m B l) xs (whole m.vars (row_walk m e) d)
@@ -238,13 +278,15 @@ module _ (m : Surroundings) where
   more_of none p h = absurd (cc h)
   more_of (part d ds) p h = λ i. part (same_Some (d, ds) p h i).0 (same_Some (d, ds) p h i).1
 
-  family_some : (t : Tree) (o : Option ℕ) (f : Family) → family_number t ≡ o → family_of m.families o ≡ Some f → (n : ℕ) × (t ≡ named n) × (slice_get m.families n ≡ Some f)
+  family_some : (t : Tree) (o : Option ℕ) (f : Family) → family_number t ≡ o → family_of m.families o ≡ Some f → (n : ℕ) ×
+      (t ≡ named n) × (slice_get m.families n ≡ Some f)
   family_some t None f e h = absurd (cc h)
   family_some t (Some n) f e h = (n, family_is t n e, h)
 
   pub case_rows : (at : ℕ) (a : CoreTree) (bs : CoreArms) → Parts m a → All bs → Rows m (case_of at a bs)
   case_rows at a bs A F g t ds =
-      decides_given g P (parts_more ds) G (λ u (d, n, f, t', es, x, p, q, l, e) h. let z = sym h ∙ ap parts_more (rows t t' ds (part d es) e).1 in absurd (cc z))
+      decides_given g P (parts_more ds) G (λ u (d, n, f, t', es, x, p, q, l, e) h. let z = sym h
+      ∙ ap parts_more (rows t t' ds (part d es) e).1 in absurd (cc z))
       (λ p is. outer p (more_of ds p is))
     where
       P : Vars → Type 0
@@ -261,28 +303,46 @@ module _ (m : Surroundings) where
 
       outer : (p : Deriv × Derivs) → ds ≡ part p.0 p.1 → Decides g P (G p)
       outer p same =
-          let pd = λ (d : Deriv) (es : Derivs) (t' : Tree) (e : row t ds ≡ row t' (part d es)). same_part d p.0 es p.1 (sym (rows t t' ds (part d es) e).1 ∙ same) in
-          let there = λ (d : Deriv) (es : Derivs) (t' : Tree) (e : row t ds ≡ row t' (part d es)) (n : ℕ) (f : Family) (k : type_of d ≡ named n) (q : slice_get m.families n ≡ Some f).
+          let pd = λ (d : Deriv) (es : Derivs) (t' : Tree) (e : row t ds ≡ row t' (part d es)). same_part d p.0 es p.1
+          (sym (rows t t' ds (part d es) e).1 ∙ same) in
+          let there = λ (d : Deriv) (es : Derivs) (t' : Tree) (e : row t ds ≡ row t' (part d es)) (n : ℕ) (f : Family)
+          (k : type_of d ≡ named n) (q : slice_get m.families n ≡ Some f).
           ap (λ z. family_of m.families (family_number z)) (sym (ap type_of (pd d es t' e).0) ∙ k) ∙ q in
-          let Z = λ (d : Deriv) (f : Family) (t' : Tree) (es : Derivs) (u : Vars). Both (Part m a g d) (ArmsOf (fields f.makers.items) bs g t' es) u in
+          let Z = λ (d : Deriv) (f : Family) (t' : Tree) (es : Derivs) (u : Vars). Both (Part m a g d)
+          (ArmsOf (fields f.makers.items) bs g t' es) u in
           decides_given g P (family_of m.families (family_number (type_of p.0))) (G' p)
           (λ u (d, n, f, t', es, x, k, q, l, e) h. let z = sym h ∙ there d es t' e n f k q in absurd (cc z))
           (λ f is. decides_only g P (each_once (map (λ o. o.name) f.makers.items) (arm_labels bs)) (last p f)
           (λ u (d, n, f', t', es, x, k, q, l, e).
           let pf : f' ≡ f = same_Some f' f (sym (there d es t' e n f' k q) ∙ is) in
-          of_once (map (λ o. o.name) f.makers.items) (arm_labels bs) (subst (λ z. AreEachOnce (map (λ o. o.name) z.makers.items) (arm_labels bs)) pf l))
+          of_once (map (λ o. o.name) f.makers.items) (arm_labels bs)
+          (subst (λ z. AreEachOnce (map (λ o. o.name) z.makers.items) (arm_labels bs)) pf l))
           (λ h. decides_as g (Z p.0 f t p.1) P (last p f)
-          (λ u x. let s = family_some (type_of p.0) (family_number (type_of p.0)) f refl is in
-          (p.0, s.0, f, t, p.1, x, s.1, s.2, once (map (λ o. o.name) f.makers.items) (arm_labels bs) h, as_row t t ds (part p.0 p.1) refl same))
+          (λ u x. let s = family_some (type_of p.0) (family_number (type_of p.0)) f refl is in (
+            p.0,
+            s.0,
+            f,
+            t,
+            p.1,
+            x,
+            s.1,
+            s.2,
+            once (map (λ o. o.name) f.makers.items) (arm_labels bs) h,
+            as_row t t ds (part p.0 p.1) refl same,
+          ))
           (λ u (d, n, f', t', es, x, k, q, l, e).
           let pf : f' ≡ f = same_Some f' f (sym (there d es t' e n f' k q) ∙ is) in
           let pt = (rows t t' ds (part d es) e).0 in
-          subst (λ z. Z p.0 f t z u) (pd d es t' e).1 (subst (λ z. Z p.0 f z es u) (sym pt) (subst (λ z. Z p.0 z t' es u) pf (subst (λ z. Z z f' t' es u) (pd d es t' e).0 x))))
-          (decides_both g (Part m a g p.0) (ArmsOf (fields f.makers.items) bs g t p.1) (whole m.vars (row_walk m a) p.0) (arms_walk m (fields f.makers.items) bs t p.1) (A g p.0) (F (fields f.makers.items) g t p.1))))
+          subst (λ z. Z p.0 f t z u) (pd d es t' e).1
+          (subst (λ z. Z p.0 f z es u) (sym pt) (subst
+          (λ z. Z p.0 z t' es u) pf (subst (λ z. Z z f' t' es u) (pd d es t' e).0 x))))
+          (decides_both g (Part m a g p.0) (ArmsOf (fields f.makers.items) bs g t p.1) (whole m.vars (row_walk m a) p.0)
+          (arms_walk m (fields f.makers.items) bs t p.1) (A g p.0) (F (fields f.makers.items) g t p.1))))
 
   pub match_rows : (at : ℕ) (a : CoreTree) (bs : CoreArms) → Parts m a → All bs → Rows m (match_with at a bs)
   match_rows at a bs A F g t ds =
-      decides_given g P (parts_more ds) G (λ u (d, ls, t', es, x, i, l, e) h. let z = sym h ∙ ap parts_more (rows t t' ds (part d es) e).1 in absurd (cc z))
+      decides_given g P (parts_more ds) G (λ u (d, ls, t', es, x, i, l, e) h. let z = sym h
+      ∙ ap parts_more (rows t t' ds (part d es) e).1 in absurd (cc z))
       (λ p is. outer p (more_of ds p is))
     where
       P : Vars → Type 0
@@ -296,13 +356,19 @@ module _ (m : Surroundings) where
 
       outer : (p : Deriv × Derivs) → ds ≡ part p.0 p.1 → Decides g P (G p)
       outer p same =
-          let pd = λ (d : Deriv) (es : Derivs) (t' : Tree) (e : row t ds ≡ row t' (part d es)). same_part d p.0 es p.1 (sym (rows t t' ds (part d es) e).1 ∙ same) in
-          let Z = λ (d : Deriv) (t' : Tree) (es : Derivs) (u : Vars). Both (Part m a g d) (ArmsOf (rest (type_of d)) bs g t' es) u in
+          let pd = λ (d : Deriv) (es : Derivs) (t' : Tree) (e : row t ds ≡ row t' (part d es)). same_part d p.0 es p.1
+          (sym (rows t t' ds (part d es) e).1 ∙ same) in
+          let Z = λ (d : Deriv) (t' : Tree) (es : Derivs) (u : Vars). Both (Part m a g d)
+          (ArmsOf (rest (type_of d)) bs g t' es) u in
           decides_only g P (offers (labels (type_of p.0)) (arm_labels bs)) (last p)
-          (λ u (d, ls, t', es, x, i, l, e). of_offering (type_of p.0) ls (arm_labels bs) (subst (λ z. IsOffering (type_of z) ls) (pd d es t' e).0 i) l)
+          (λ u (d, ls, t', es, x, i, l, e). of_offering (type_of p.0) ls (arm_labels bs)
+          (subst (λ z. IsOffering (type_of z) ls) (pd d es t' e).0 i) l)
           (λ h. decides_as g (Z p.0 t p.1) P (last p)
-          (λ u x. let o = offering (type_of p.0) (arm_labels bs) h in (p.0, o.0, t, p.1, x, o.1, o.2, as_row t t ds (part p.0 p.1) refl same))
+          (λ u x. let o = offering (type_of p.0) (arm_labels bs) h in
+          (p.0, o.0, t, p.1, x, o.1, o.2, as_row t t ds (part p.0 p.1) refl same))
           (λ u (d, ls, t', es, x, i, l, e).
           let pt = (rows t t' ds (part d es) e).0 in
-          subst (λ z. Z p.0 t z u) (pd d es t' e).1 (subst (λ z. Z p.0 z es u) (sym pt) (subst (λ z. Z z t' es u) (pd d es t' e).0 x)))
-          (decides_both g (Part m a g p.0) (ArmsOf (rest (type_of p.0)) bs g t p.1) (whole m.vars (row_walk m a) p.0) (arms_walk m (rest (type_of p.0)) bs t p.1) (A g p.0) (F (rest (type_of p.0)) g t p.1)))
+          subst (λ z. Z p.0 t z u) (pd d es t' e).1 (subst
+          (λ z. Z p.0 z es u) (sym pt) (subst (λ z. Z z t' es u) (pd d es t' e).0 x)))
+          (decides_both g (Part m a g p.0) (ArmsOf (rest (type_of p.0)) bs g t p.1) (whole m.vars (row_walk m a) p.0)
+          (arms_walk m (rest (type_of p.0)) bs t p.1) (A g p.0) (F (rest (type_of p.0)) g t p.1)))

@@ -29,7 +29,8 @@ module _ (m : Surroundings) where
   pub no_terms_lists : Lists no_terms
   no_terms_lists g [] ds =
       decides_only g (Arguments no_terms g [] ds) (has_none ds) Some (λ u (ts, a, x). none_there ds (is_none ts u a x))
-      (λ h. decides_as g (λ u. u ≡ no_vars) (Arguments no_terms g [] ds) Some (λ u e. ([], tt, (e, none_is ds h))) (λ u (ts, a, x). no_more ts u a x) (decides_none g))
+      (λ h. decides_as g (λ u. u ≡ no_vars) (Arguments no_terms g [] ds) Some (λ u e. ([], tt, (e, none_is ds h)))
+      (λ u (ts, a, x). no_more ts u a x) (decides_none g))
     where
       is_none : (ts : List Tree) (u : Vars) → AreAt m.types [] ts → Fields m (mode m) no_terms ts g u ds → ds ≡ none
       is_none [] u a x = x.1
@@ -56,26 +57,32 @@ module _ (m : Surroundings) where
       wrong [] u a x = a
       wrong (t ∷ ts) u a (d, more, z, f) = absurd (cc f)
   term_lists e es A F g (k ∷ ks) (part d ds) =
-      decides_only g P (is_type (slice_get m.types k) (type_of d)) (after (whole m.vars (row_walk m e) d) (fields_walk m es ks ds)) (λ u (ts, a, x). fits ts u a x)
-      (λ h. decides_as g (Both (Part m e g d) (Arguments es g ks ds)) P (after (whole m.vars (row_walk m e) d) (fields_walk m es ks ds)) (λ u x. to u h x) (λ u (ts, a, x). from ts u a x)
-      (decides_both g (Part m e g d) (Arguments es g ks ds) (whole m.vars (row_walk m e) d) (fields_walk m es ks ds) (A g d) (F g ks ds)))
+      decides_only g P (is_type (slice_get m.types k) (type_of d))
+      (after (whole m.vars (row_walk m e) d) (fields_walk m es ks ds)) (λ u (ts, a, x). fits ts u a x)
+      (λ h. decides_as g (Both (Part m e g d) (Arguments es g ks ds)) P
+      (after (whole m.vars (row_walk m e) d) (fields_walk m es ks ds)) (λ u x. to u h x) (λ u (ts, a, x). from ts u a x)
+      (decides_both g (Part m e g d) (Arguments es g ks ds) (whole m.vars (row_walk m e) d) (fields_walk m es ks ds) (A g d)
+      (F g ks ds)))
     where
       P : Vars → Type 0
       P = Arguments (term e es) g (k ∷ ks) (part d ds)
 
-      fits : (ts : List Tree) (u : Vars) → AreAt m.types (k ∷ ks) ts → Fields m (mode m) (term e es) ts g u (part d ds) → is_type (slice_get m.types k) (type_of d) ≡ true
+      fits : (ts : List Tree) (u : Vars) → AreAt m.types (k ∷ ks) ts → Fields m (mode m) (term e es) ts g u (part d ds) →
+          is_type (slice_get m.types k) (type_of d) ≡ true
       fits [] u a x = absurd a
       fits (t ∷ ts) u a (d', more, z, f) =
           let pd = (same_part d d' ds more f).0 in
           of_type (slice_get m.types k) (type_of d) (a.0 ∙ ap Some (sym (ap type_of pd ∙ z.first.wanted)))
 
-      from : (ts : List Tree) (u : Vars) → AreAt m.types (k ∷ ks) ts → Fields m (mode m) (term e es) ts g u (part d ds) → Both (Part m e g d) (Arguments es g ks ds) u
+      from : (ts : List Tree) (u : Vars) → AreAt m.types (k ∷ ks) ts → Fields m (mode m) (term e es) ts g u (part d ds) →
+          Both (Part m e g d) (Arguments es g ks ds) u
       from [] u a x = absurd a
       from (t ∷ ts) u a (d', more, z, f) =
           let same = same_part d d' ds more f in
           let z' = both (PartAt m t e g d') (λ w. Fields m (mode m) es ts g w more) (Part m e g d') (Arguments es g ks more)
           (λ v y. at_over m.vars t (Conversions m) (Rule m e g) v d' y) (λ v y. (ts, a.1, y)) u z in
-          subst (λ y. Both (Part m e g d) (Arguments es g ks y) u) (sym same.1) (subst (λ y. Both (Part m e g y) (Arguments es g ks more) u) (sym same.0) z')
+          subst (λ y. Both (Part m e g d) (Arguments es g ks y) u) (sym same.1)
+          (subst (λ y. Both (Part m e g y) (Arguments es g ks more) u) (sym same.0) z')
 
       to : (u : Vars) → is_type (slice_get m.types k) (type_of d) ≡ true → Both (Part m e g d) (Arguments es g ks ds) u → P u
       to u h z =
@@ -98,7 +105,8 @@ module _ (m : Surroundings) where
 
   pub make_rows : (at n k : ℕ) (es : CoreList) → Lists es → Rows m (make at n k es)
   make_rows at n k es F g t ds =
-      decides_only g P (same_tree t (named n)) (given (maker_of (slice_get m.families n) k) (λ o. fields_walk m es o.fields.items ds))
+      decides_only g P (same_tree t (named n)) (given (maker_of (slice_get m.families n) k)
+      (λ o. fields_walk m es o.fields.items ds))
       (λ u (o, ts, es', p, q, x, e). tree_itself t (named n) (rows t (named n) ds es' e).0)
       (λ h. decides_given g P (maker_of (slice_get m.families n) k) (λ o. fields_walk m es o.fields.items ds)
       (λ u (o, ts, es', p, q, x, e) f. let z = sym f ∙ p in absurd (cc z))
@@ -107,7 +115,8 @@ module _ (m : Surroundings) where
       (λ u (o', ts, es', p, q, x, e).
       let same : o' ≡ o = same_Some o' o (sym p ∙ is) in
       let parts = (rows t (named n) ds es' e).1 in
-      (ts, subst (λ y. AreAt m.types y.fields.items ts) same q, subst (λ y. Fields m (mode m) es ts g u y) (sym parts) x)) (F g o.fields.items ds)))
+      (ts, subst (λ y. AreAt m.types y.fields.items ts) same q, subst (λ y. Fields m (mode m) es ts g u y) (sym parts) x))
+      (F g o.fields.items ds)))
     where
       P : Vars → Type 0
       P u = Rule m (make at n k es) g u (row t ds)

@@ -37,7 +37,8 @@ abbrev pub Descends : Surroundings → CoreTree → Tree → Derivs → Down →
 Descends m e t ds Head = IsFalse (has_first e)
 Descends m e t ds Wrong = row_walk m e t ds ≡ nowhere
 Descends m e t ds (Step f d l) =
-    (row_walk m e t ds ≡ after (walk_of m f.now (deriv_of d.now)) (walk_of m l.term.now (deriv_of l.derivation.now))) ×
+    (row_walk m e t ds ≡ after (walk_of m f.now (deriv_of d.now))
+    (walk_of m l.term.now (deriv_of l.derivation.now))) ×
     (core_height f.now < core_height e) × (core_height l.term.now < core_height e)
 
 -- what the variables of arms hold
@@ -49,4 +50,6 @@ binding_of (Rest s) = rest s.now
 abbrev pub IsDerived : Module → GlobalEntry → Deriv → Type 0
 IsDerived m g d =
     (t : Tree) × (slice_get m.types.items g.signature ≡ Some t) ×
-    At g.kinds.items t (Converted (IsAnyConversion g.kinds.items)) (Row (surroundings m g.kinds.items) (converting (IsAnyConversion g.kinds.items)) g.body []) no_vars d
+    At g.kinds.items t (Converted (IsAnyConversion g.kinds.items))
+    (Row (surroundings m g.kinds.items) (converting (IsAnyConversion g.kinds.items)) g.body [])
+    no_vars d

@@ -26,7 +26,7 @@ use std::alloc::AllocError;
 
 /// Whether trees are derivations of terms, at the types with these numbers.
 #[cycle(follows)]
-#[tactic(auto, using(fst_terms::proofs::Heights::cores_height_at, crate::proofs::ArmLaws::none_fields, crate::proofs::ArmLaws::none_parts))]
+#[tactic(auto, using(fst_terms::proofs::Laws::cores_height_at, crate::proofs::ArmLaws::none_fields, crate::proofs::ArmLaws::none_parts))]
 fn fields_follow(
     place: &Place<'_>,
     context: &mut Context,
@@ -126,7 +126,7 @@ fn further_arm_follows(
 
 /// Whether trees are derivations of further arms at a type, which begin with these marks, with the same linear variables.
 #[cycle(follows)]
-#[tactic(auto, using(fst_terms::proofs::Heights::core_arms_height_at, crate::proofs::ArmLaws::none_further))]
+#[tactic(auto, using(fst_terms::proofs::Laws::core_arms_height_at, crate::proofs::ArmLaws::none_further))]
 fn further_arms_follow(
     place: &Place<'_>,
     context: &mut Context,

@@ -9,7 +9,8 @@ use Rattle.fst_machine.specs.Values.{Environment}
 use Rattle.fst_machine.specs.Machine.{State, Frame, Pause, stuck, calls, uses, makes, forks, puts, gets, matches, ended, asked, child}
 
 -- what asks to send
-pub put_pause : (p : Pause) (x : EndName) (ev : Event) → asked p ≡ Some (request.Put x ev) → (fs : List Frame) × (p ≡ puts x ev fs)
+pub put_pause : (p : Pause) (x : EndName) (ev : Event) → asked p ≡ Some (request.Put x ev) → (fs : List Frame) ×
+    (p ≡ puts x ev fs)
 put_pause stuck x ev e = absurd (cc e)
 put_pause (calls f env v fs) x ev e = absurd (cc e)
 put_pause (uses g fs) x ev e = absurd (cc e)
@@ -24,7 +25,8 @@ put_pause (matches y bs env fs) x ev e = absurd (cc e)
 put_pause (ended v) x ev e = absurd (cc e)
 
 -- whatever holds of a pause that asks to receive, by its two forms
-pub get_pause : (P : Pause → Type 0) (p : Pause) (x : EndName) → asked p ≡ Some (request.Get x) → ((fs : List Frame) → P (gets x fs)) →
+pub get_pause : (P : Pause → Type 0) (p : Pause) (x : EndName) → asked p ≡ Some (request.Get x) →
+    ((fs : List Frame) → P (gets x fs)) →
     ((bs : CoreArms) (env : Environment) (fs : List Frame) → P (matches x bs env fs)) → P p
 get_pause P stuck x e f g = absurd (cc e)
 get_pause P (calls h env v fs) x e f g = absurd (cc e)
@@ -56,7 +58,8 @@ new_pause (ended v) k e = absurd (cc e)
 
 -- whatever holds of a pause that makes a task, by its form
 pub fork_pause : (P : Pause → Type 0) (p : Pause) (k : State) → child p ≡ Some k →
-    ((e : CoreTree) (env : Environment) (fs : List Frame) → record { term = e; environment = env; frames = [] } ≡ k → P (forks e env fs)) → P p
+    ((e : CoreTree) (env : Environment) (fs : List Frame) → record { term = e; environment = env; frames = [] } ≡ k →
+    P (forks e env fs)) → P p
 fork_pause P stuck k e f = absurd (none-some _ e)
 fork_pause P (calls b env v fs) k e f = absurd (none-some _ e)
 fork_pause P (uses g fs) k e f = absurd (none-some _ e)

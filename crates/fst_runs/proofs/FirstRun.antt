@@ -16,7 +16,8 @@ x = record { name = []; at = 0 }
 
 -- let (a, b) = new !Int in fork (send 5 a); let (x, d) = receive b in x
 main : CoreTree
-main = split 0 x x (new 0 0) (seq 0 (fork 0 (send 0 (int 0 (pos 5)) (local 0 1))) (split 0 x x (receive 0 (local 0 0)) (local 0 1)))
+main = split 0 x x (new 0 0) (seq 0 (fork 0 (send 0 (int 0 (pos 5)) (local 0 1)))
+    (split 0 x x (receive 0 (local 0 0)) (local 0 1)))
 
 program : Program
 program = record { families = []; bodies = main ∷ [] }
@@ -25,7 +26,8 @@ types : List Tree
 types = type.send base.Int ∷ []
 
 -- a channel is made, a task forked, and both meet
-run : (d : Config) × Runs program types (started main) (New (0 ∷ []) ∷ Fork (0 ∷ []) ∷ Meet (0 ∷ 1 ∷ []) (0 ∷ []) (record { maker = 0 ∷ []; count = 1 }) ∷ []) d
+run : (d : Config) × Runs program types (started main)
+    (New (0 ∷ []) ∷ Fork (0 ∷ []) ∷ Meet (0 ∷ 1 ∷ []) (0 ∷ []) (record { maker = 0 ∷ []; count = 1 }) ∷ []) d
 unfolding main program types x
 run = (
   _,

@@ -40,9 +40,11 @@ module _ (m : List Family) (x : EndName) where
   keep_none none p h = refl
   keep_none (hole env) p h = keep_none env (outside p) h
   keep_none (slot v env) p h =
-      enter_none (p zero) v (keep (outside p) env) (left_zero (held x v) (held_env x env) h) (keep_none env (outside p) (right_zero (held x v) (held_env x env) h))
+      enter_none (p zero) v (keep (outside p) env) (left_zero (held x v) (held_env x env) h)
+      (keep_none env (outside p) (right_zero (held x v) (held_env x env) h))
 
-  enter_all_none : (p : ℕ → Bool) (vs : Values) (env : Environment) → held_all x vs ≡ 0 → held_env x env ≡ 0 → held_env x (enter_all p vs env) ≡ 0
+  enter_all_none : (p : ℕ → Bool) (vs : Values) (env : Environment) → held_all x vs ≡ 0 → held_env x env ≡ 0 →
+      held_env x (enter_all p vs env) ≡ 0
   enter_all_none p no_values env h g = g
   enter_all_none p (value.value v vs) env h g =
       enter_all_none p vs (enter (p (count vs)) v env) (right_zero (held x v) (held_all x vs) h)
@@ -60,7 +62,8 @@ module _ (m : List Family) (x : EndName) where
   chosen_none true p q h g = h
   chosen_none false p q h g = g
 
-  found_none : (env : Environment) (k : ℕ) (f : Value → Pause) → held_env x env ≡ 0 → Backs f → held_pause x (on (lookup env k) f) ≡ 0
+  found_none : (env : Environment) (k : ℕ) (f : Value → Pause) → held_env x env ≡ 0 → Backs f →
+      held_pause x (on (lookup env k) f) ≡ 0
   found_none none k f h g = refl
   found_none (hole env) zero f h g = refl
   found_none (hole env) (suc k) f h g = found_none env k f h g
@@ -77,7 +80,8 @@ module _ (m : List Family) (x : EndName) where
   end_none f g (value.function e env) h = refl
   end_none f g (value.end y) h = g y h
 
-  pair_none : (f : Value → Value → Pause) → ((y z : Value) → held x y ≡ 0 → held x z ≡ 0 → held_pause x (f y z) ≡ 0) → Backs (λ v. on_pair v f)
+  pair_none : (f : Value → Value → Pause) → ((y z : Value) → held x y ≡ 0 → held x z ≡ 0 → held_pause x (f y z) ≡ 0) → Backs
+      (λ v. on_pair v f)
   pair_none f g (value.int n) h = refl
   pair_none f g (value.bool b) h = refl
   pair_none f g (value.char c) h = refl
@@ -87,7 +91,8 @@ module _ (m : List Family) (x : EndName) where
   pair_none f g (value.function e env) h = refl
   pair_none f g (value.end y) h = refl
 
-  made_none : (f : ℕ → ℕ → Values → Pause) → ((n o : ℕ) (vs : Values) → held_all x vs ≡ 0 → held_pause x (f n o vs) ≡ 0) → Backs (λ v. on_made v f)
+  made_none : (f : ℕ → ℕ → Values → Pause) → ((n o : ℕ) (vs : Values) → held_all x vs ≡ 0 → held_pause x (f n o vs) ≡ 0) → Backs
+      (λ v. on_made v f)
   made_none f g (value.int n) h = refl
   made_none f g (value.bool b) h = refl
   made_none f g (value.char c) h = refl
@@ -97,7 +102,8 @@ module _ (m : List Family) (x : EndName) where
   made_none f g (value.function e env) h = refl
   made_none f g (value.end y) h = refl
 
-  call_none : (v : Value) (fs : List Frame) → held x v ≡ 0 → held_frames x fs ≡ 0 → Backs (λ w. on_function v (λ b own. calls b own w fs))
+  call_none : (v : Value) (fs : List Frame) → held x v ≡ 0 → held_frames x fs ≡ 0 → Backs
+      (λ w. on_function v (λ b own. calls b own w fs))
   call_none (value.int n) fs h g w k = refl
   call_none (value.bool b) fs h g w k = refl
   call_none (value.char c) fs h g w k = refl
@@ -108,7 +114,8 @@ module _ (m : List Family) (x : EndName) where
   call_none (value.end y) fs h g w k = refl
 
   send_none : (v : Value) (fs : List Frame) → held_frames x fs ≡ 0 → Backs (λ w. on_end w (λ y. on (sent v) (λ ev. puts y ev fs)))
-  send_none v fs g = end_none (λ y. on (sent v) (λ ev. puts y ev fs)) (λ y h. on_none (sent v) (λ ev. puts y ev fs) (λ ev. zeros (held x (value.end y)) (held_frames x fs) h g))
+  send_none v fs g = end_none (λ y. on (sent v) (λ ev. puts y ev fs))
+      (λ y h. on_none (sent v) (λ ev. puts y ev fs) (λ ev. zeros (held x (value.end y)) (held_frames x fs) h g))
 
   computed_none : (f : ℤ → ℤ → ℤ) (a b : Option ℤ) (back : Value → Pause) → Backs back →
       held_pause x (on (option_and_then (λ m. option_map (λ n. value.int (f m n)) b) a) back) ≡ 0
@@ -122,7 +129,8 @@ module _ (m : List Family) (x : EndName) where
   decided_none f (Some n) None back g = refl
   decided_none f (Some n) (Some k) back g = g (value.bool (f n k)) refl
 
-  tested_none : (f : Ordering → Bool) (o : Option Ordering) (back : Value → Pause) → Backs back → held_pause x (on (option_map (λ o. value.bool (f o)) o) back) ≡ 0
+  tested_none : (f : Ordering → Bool) (o : Option Ordering) (back : Value → Pause) → Backs back →
+      held_pause x (on (option_map (λ o. value.bool (f o)) o) back) ≡ 0
   tested_none f None back g = refl
   tested_none f (Some o) back g = g (value.bool (f o)) refl
 
@@ -139,18 +147,21 @@ module _ (m : List Family) (x : EndName) where
   operated_none And v w back g = decided_none both (bool_in v) (bool_in w) back g
   operated_none Or v w back g = decided_none either (bool_in v) (bool_in w) back g
 
-  branch_none : (o : Option Bool) (p q : Pause) → held_pause x p ≡ 0 → held_pause x q ≡ 0 → held_pause x (on o (λ b. chosen b p q)) ≡ 0
+  branch_none : (o : Option Bool) (p q : Pause) → held_pause x p ≡ 0 → held_pause x q ≡ 0 →
+      held_pause x (on o (λ b. chosen b p q)) ≡ 0
   branch_none o p q h g = on_none o (λ b. chosen b p q) (λ b. chosen_none b p q h g)
 
   case_none : (bs : CoreArms) (env : Environment) (fs : List Frame) (back : Value → Pause) →
       ((l : List ℕ) (vs : Values) → held_all x vs ≡ 0 → held_pause x (eval_arm m bs l vs env fs back) ≡ 0) →
       Backs (λ v. on_made v (λ n o vs. on (name_of m n o) (λ l. eval_arm m bs l vs env fs back)))
   case_none bs env fs back h =
-      made_none (λ n o vs. on (name_of m n o) (λ l. eval_arm m bs l vs env fs back)) (λ n o vs d. on_none (name_of m n o) (λ l. eval_arm m bs l vs env fs back) (λ l. h l vs d))
+      made_none (λ n o vs. on (name_of m n o) (λ l. eval_arm m bs l vs env fs back))
+      (λ n o vs d. on_none (name_of m n o) (λ l. eval_arm m bs l vs env fs back) (λ l. h l vs d))
 
   mutual
     -- a term leads to no pause with the end
-    term_none : (e : CoreTree) (env : Environment) (fs : List Frame) (back : Value → Pause) → held_env x env ≡ 0 → held_frames x fs ≡ 0 → Backs back →
+    term_none : (e : CoreTree) (env : Environment) (fs : List Frame) (back : Value → Pause) → held_env x env ≡ 0 →
+        held_frames x fs ≡ 0 → Backs back →
         held_pause x (eval m e env fs back) ≡ 0
     term_none (local at k) env fs back h g f = found_none env k back h f
     term_none (global at n ts) env fs back h g f = g
@@ -160,25 +171,32 @@ module _ (m : List Family) (x : EndName) where
     term_none (unit at) env fs back h g f = f value.unit refl
     term_none (pair at a b) env fs back h g f =
         let k = keep_none env (free b) h in
-        term_none a (keep (free a) env) (at_first b (keep (free b) env) ∷ fs) (λ v. eval m b (keep (free b) env) (at_second v ∷ fs) (λ w. back (value.pair v w)))
+        term_none a (keep (free a) env) (at_first b (keep (free b) env) ∷ fs)
+        (λ v. eval m b (keep (free b) env) (at_second v ∷ fs) (λ w. back (value.pair v w)))
         (keep_none env (free a) h) (zeros _ _ k g)
-        (λ v z. term_none b (keep (free b) env) (at_second v ∷ fs) (λ w. back (value.pair v w)) k (zeros _ _ z g) (λ w y. f (value.pair v w) (zeros _ _ z y)))
+        (λ v z. term_none b (keep (free b) env) (at_second v ∷ fs) (λ w. back (value.pair v w)) k (zeros _ _ z g)
+        (λ w y. f (value.pair v w) (zeros _ _ z y)))
     term_none (make at n o es) env fs back h g f = terms_none es n o no_values env fs back refl h g f
     term_none (lambda at u t y e) env fs back h g f = f (value.function e env) h
     term_none (apply at a b) env fs back h g f =
         let k = keep_none env (free b) h in
-        term_none a (keep (free a) env) (at_function b (keep (free b) env) ∷ fs) (λ v. eval m b (keep (free b) env) (at_argument v ∷ fs) (λ w. on_function v (λ b own. calls b own w fs)))
+        term_none a (keep (free a) env) (at_function b (keep (free b) env) ∷ fs)
+        (λ v. eval m b (keep (free b) env) (at_argument v ∷ fs) (λ w. on_function v (λ b own. calls b own w fs)))
         (keep_none env (free a) h) (zeros _ _ k g)
-        (λ v z. term_none b (keep (free b) env) (at_argument v ∷ fs) (λ w. on_function v (λ b own. calls b own w fs)) k (zeros _ _ z g) (call_none v fs z g))
+        (λ v z. term_none b (keep (free b) env) (at_argument v ∷ fs)
+        (λ w. on_function v (λ b own. calls b own w fs)) k (zeros _ _ z g) (call_none v fs z g))
     term_none (let_in at y a b) env fs back h g f =
         let k = keep_none env (outside (free b)) h in
-        term_none a (keep (free a) env) (at_let b (keep (outside (free b)) env) ∷ fs) (λ v. eval m b (enter (free b zero) v (keep (outside (free b)) env)) fs back)
+        term_none a (keep (free a) env) (at_let b (keep (outside (free b)) env) ∷ fs)
+        (λ v. eval m b (enter (free b zero) v (keep (outside (free b)) env)) fs back)
         (keep_none env (free a) h) (zeros _ _ k g)
-        (λ v z. term_none b (enter (free b zero) v (keep (outside (free b)) env)) fs back (enter_none (free b zero) v (keep (outside (free b)) env) z k) g f)
+        (λ v z. term_none b (enter (free b zero) v (keep (outside (free b)) env)) fs back
+        (enter_none (free b zero) v (keep (outside (free b)) env) z k) g f)
     term_none (split at y w a b) env fs back h g f =
         let kept = keep (outside (outside (free b))) env in
         let k = keep_none env (outside (outside (free b))) h in
-        term_none a (keep (free a) env) (at_split b kept ∷ fs) (λ v. on_pair v (λ y z. eval m b (enter (free b zero) z (enter (free b (suc zero)) y kept)) fs back))
+        term_none a (keep (free a) env) (at_split b kept ∷ fs)
+        (λ v. on_pair v (λ y z. eval m b (enter (free b zero) z (enter (free b (suc zero)) y kept)) fs back))
         (keep_none env (free a) h) (zeros _ _ k g)
         (pair_none (λ y z. eval m b (enter (free b zero) z (enter (free b (suc zero)) y kept)) fs back)
         (λ y z hy hz. term_none b (enter (free b zero) z (enter (free b (suc zero)) y kept)) fs back
@@ -195,14 +213,17 @@ module _ (m : List Family) (x : EndName) where
     term_none (case_of at e bs) env fs back h g f =
         let kept = keep (free_below bs) env in
         let k = keep_none env (free_below bs) h in
-        term_none e (keep (free e) env) (at_case bs kept ∷ fs) (λ v. on_made v (λ n o vs. on (name_of m n o) (λ l. eval_arm m bs l vs kept fs back)))
+        term_none e (keep (free e) env) (at_case bs kept ∷ fs)
+        (λ v. on_made v (λ n o vs. on (name_of m n o) (λ l. eval_arm m bs l vs kept fs back)))
         (keep_none env (free e) h) (zeros _ _ k g)
         (case_none bs kept fs back (λ l vs d. arm_none bs l vs kept fs back d k g f))
     term_none (operate at o a b) env fs back h g f =
         let k = keep_none env (free b) h in
-        term_none a (keep (free a) env) (at_left o b (keep (free b) env) ∷ fs) (λ v. eval m b (keep (free b) env) (at_right o v ∷ fs) (λ w. on (operated o v w) back))
+        term_none a (keep (free a) env) (at_left o b (keep (free b) env) ∷ fs)
+        (λ v. eval m b (keep (free b) env) (at_right o v ∷ fs) (λ w. on (operated o v w) back))
         (keep_none env (free a) h) (zeros _ _ k g)
-        (λ v z. term_none b (keep (free b) env) (at_right o v ∷ fs) (λ w. on (operated o v w) back) k (zeros _ _ z g) (λ w y. operated_none o v w back f))
+        (λ v z. term_none b (keep (free b) env) (at_right o v ∷ fs) (λ w. on (operated o v w) back) k (zeros _ _ z g)
+        (λ w y. operated_none o v w back f))
     term_none (negate at e) env fs back h g f =
         term_none e env (at_not ∷ fs) (λ v. on (bool_in v) (λ b. back (value.bool (not b)))) h (zeros 0 _ refl g)
         (λ v z. on_none (bool_in v) (λ b. back (value.bool (not b))) (λ b. f (value.bool (not b)) refl))
@@ -212,39 +233,47 @@ module _ (m : List Family) (x : EndName) where
         term_none a (keep (free a) env) (at_value b (keep (free b) env) ∷ fs)
         (λ v. eval m b (keep (free b) env) (at_target v ∷ fs) (λ w. on_end w (λ y. on (sent v) (λ ev. puts y ev fs))))
         (keep_none env (free a) h) (zeros _ _ k g)
-        (λ v z. term_none b (keep (free b) env) (at_target v ∷ fs) (λ w. on_end w (λ y. on (sent v) (λ ev. puts y ev fs))) k (zeros _ _ z g) (send_none v fs g))
+        (λ v z. term_none b (keep (free b) env) (at_target v ∷ fs)
+        (λ w. on_end w (λ y. on (sent v) (λ ev. puts y ev fs))) k (zeros _ _ z g) (send_none v fs g))
     term_none (receive at e) env fs back h g f =
-        term_none e env (at_receive ∷ fs) (λ v. on_end v (λ y. gets y fs)) h (zeros 0 _ refl g) (end_none (λ y. gets y fs) (λ y hy. zeros _ _ hy g))
+        term_none e env (at_receive ∷ fs) (λ v. on_end v (λ y. gets y fs)) h (zeros 0 _ refl g)
+        (end_none (λ y. gets y fs) (λ y hy. zeros _ _ hy g))
     term_none (select at l e) env fs back h g f =
         term_none e env (at_select l ∷ fs) _ h (zeros 0 _ refl g) (end_none _ (λ y hy. zeros _ _ hy g))
     term_none (match_with at e bs) env fs back h g f =
         let kept = keep (free_below bs) env in
         let k = keep_none env (free_below bs) h in
-        term_none e (keep (free e) env) (at_match bs kept ∷ fs) (λ v. on_end v (λ y. matches y bs kept fs)) (keep_none env (free e) h) (zeros _ _ k g)
+        term_none e (keep (free e) env) (at_match bs kept ∷ fs)
+        (λ v. on_end v (λ y. matches y bs kept fs)) (keep_none env (free e) h) (zeros _ _ k g)
         (end_none (λ y. matches y bs kept fs) (λ y hy. zeros _ _ (zeros _ _ hy k) g))
     term_none (fork at e) env fs back h g f = zeros _ _ h g
     term_none (seq at a b) env fs back h g f =
         let k = keep_none env (free b) h in
-        term_none a (keep (free a) env) (at_seq b (keep (free b) env) ∷ fs) (λ v. eval m b (keep (free b) env) fs back) (keep_none env (free a) h) (zeros _ _ k g)
+        term_none a (keep (free a) env) (at_seq b (keep (free b) env) ∷ fs)
+        (λ v. eval m b (keep (free b) env) fs back) (keep_none env (free a) h) (zeros _ _ k g)
         (λ v z. term_none b (keep (free b) env) fs back k g f)
 
     -- nor do the arguments of a constructor
-    terms_none : (es : CoreList) (n o : ℕ) (done : Values) (env : Environment) (fs : List Frame) (back : Value → Pause) → held_all x done ≡ 0 → held_env x env ≡ 0 →
+    terms_none : (es : CoreList) (n o : ℕ) (done : Values) (env : Environment) (fs : List Frame) (back : Value → Pause) →
+        held_all x done ≡ 0 → held_env x env ≡ 0 →
         held_frames x fs ≡ 0 → Backs back → held_pause x (eval_all m es n o done env fs back) ≡ 0
     terms_none no_terms n o done env fs back d h g f =
         f (value.made n o (turned_onto done no_values)) (let t = held_turned x done no_values in omega (arith, d, t))
     terms_none (term e es) n o done env fs back d h g f =
         let k = keep_none env (free_in es) h in
-        term_none e (keep (free e) env) (at_field n o done es (keep (free_in es) env) ∷ fs) (λ v. eval_all m es n o (value.value v done) (keep (free_in es) env) fs back)
+        term_none e (keep (free e) env) (at_field n o done es (keep (free_in es) env) ∷ fs)
+        (λ v. eval_all m es n o (value.value v done) (keep (free_in es) env) fs back)
         (keep_none env (free e) h) (zeros _ _ (zeros _ _ d k) g)
         (λ v z. terms_none es n o (value.value v done) (keep (free_in es) env) fs back (zeros _ _ z d) k g f)
 
     -- nor does the arm of a label
-    arm_none : (bs : CoreArms) (l : List ℕ) (vs : Values) (env : Environment) (fs : List Frame) (back : Value → Pause) → held_all x vs ≡ 0 → held_env x env ≡ 0 →
+    arm_none : (bs : CoreArms) (l : List ℕ) (vs : Values) (env : Environment) (fs : List Frame) (back : Value → Pause) →
+        held_all x vs ≡ 0 → held_env x env ≡ 0 →
         held_frames x fs ≡ 0 → Backs back → held_pause x (eval_arm m bs l vs env fs back) ≡ 0
     arm_none no_arms l vs env fs back d h g f = refl
     arm_none (arm k xs e bs) l vs env fs back d h g f =
-        chosen_none (bytes_eq l k) (eval m e (enter_all (free e) vs (keep (outside_all xs (free e)) env)) fs back) (eval_arm m bs l vs env fs back)
+        chosen_none (bytes_eq l k) (eval m e (enter_all (free e) vs (keep (outside_all xs (free e)) env)) fs back)
+        (eval_arm m bs l vs env fs back)
         (term_none e (enter_all (free e) vs (keep (outside_all xs (free e)) env)) fs back
         (enter_all_none (free e) vs (keep (outside_all xs (free e)) env) d (keep_none env (outside_all xs (free e)) h)) g f)
         (arm_none bs l vs env fs back d h g f)
@@ -254,14 +283,18 @@ module _ (m : List Family) (x : EndName) where
   value_none [] h v z = z
   value_none (at_function b env ∷ fs) h v z =
       let g = right_zero (held_env x env) (held_frames x fs) h in
-      term_none b env (at_argument v ∷ fs) (λ w. on_function v (λ b own. calls b own w fs)) (left_zero (held_env x env) (held_frames x fs) h) (zeros _ _ z g) (call_none v fs z g)
-  value_none (at_argument w ∷ fs) h v z = call_none w fs (left_zero (held x w) (held_frames x fs) h) (right_zero (held x w) (held_frames x fs) h) v z
+      term_none b env (at_argument v ∷ fs) (λ w. on_function v (λ b own. calls b own w fs))
+      (left_zero (held_env x env) (held_frames x fs) h) (zeros _ _ z g) (call_none v fs z g)
+  value_none (at_argument w ∷ fs) h v z = call_none w fs (left_zero (held x w) (held_frames x fs) h)
+      (right_zero (held x w) (held_frames x fs) h) v z
   value_none (at_first b env ∷ fs) h v z =
       let g = right_zero (held_env x env) (held_frames x fs) h in
-      term_none b env (at_second v ∷ fs) (λ w. resume m fs (value.pair v w)) (left_zero (held_env x env) (held_frames x fs) h) (zeros _ _ z g)
+      term_none b env (at_second v ∷ fs) (λ w. resume m fs (value.pair v w)) (left_zero (held_env x env) (held_frames x fs) h)
+      (zeros _ _ z g)
       (λ w y. value_none fs g (value.pair v w) (zeros _ _ z y))
   value_none (at_second w ∷ fs) h v z =
-      value_none fs (right_zero (held x w) (held_frames x fs) h) (value.pair w v) (zeros _ _ (left_zero (held x w) (held_frames x fs) h) z)
+      value_none fs (right_zero (held x w) (held_frames x fs) h) (value.pair w v)
+      (zeros _ _ (left_zero (held x w) (held_frames x fs) h) z)
   value_none (at_field n o done es env ∷ fs) h v z =
       let d = left_zero (held_all x done + held_env x env) (held_frames x fs) h in
       let g = right_zero (held_all x done + held_env x env) (held_frames x fs) h in
@@ -269,13 +302,15 @@ module _ (m : List Family) (x : EndName) where
       (right_zero (held_all x done) (held_env x env) d) g (value_none fs g)
   value_none (at_let b env ∷ fs) h v z =
       let g = right_zero (held_env x env) (held_frames x fs) h in
-      term_none b (enter (free b zero) v env) fs (resume m fs) (enter_none (free b zero) v env z (left_zero (held_env x env) (held_frames x fs) h)) g (value_none fs g)
+      term_none b (enter (free b zero) v env) fs (resume m fs)
+      (enter_none (free b zero) v env z (left_zero (held_env x env) (held_frames x fs) h)) g (value_none fs g)
   value_none (at_split b env ∷ fs) h v z =
       let g = right_zero (held_env x env) (held_frames x fs) h in
       let k = left_zero (held_env x env) (held_frames x fs) h in
       pair_none (λ y w. eval m b (enter (free b zero) w (enter (free b (suc zero)) y env)) fs (resume m fs))
       (λ y w hy hw. term_none b (enter (free b zero) w (enter (free b (suc zero)) y env)) fs (resume m fs)
-      (enter_none (free b zero) w (enter (free b (suc zero)) y env) hw (enter_none (free b (suc zero)) y env hy k)) g (value_none fs g)) v z
+      (enter_none (free b zero) w (enter (free b (suc zero)) y env) hw (enter_none (free b (suc zero)) y env hy k)) g
+      (value_none fs g)) v z
   value_none (at_if a b env ∷ fs) h v z =
       let g = right_zero (held_env x env) (held_frames x fs) h in
       let k = left_zero (held_env x env) (held_frames x fs) h in
@@ -288,20 +323,25 @@ module _ (m : List Family) (x : EndName) where
       case_none bs env fs (resume m fs) (λ l vs d. arm_none bs l vs env fs (resume m fs) d k g (value_none fs g)) v z
   value_none (at_left o b env ∷ fs) h v z =
       let g = right_zero (held_env x env) (held_frames x fs) h in
-      term_none b env (at_right o v ∷ fs) (λ w. on (operated o v w) (resume m fs)) (left_zero (held_env x env) (held_frames x fs) h) (zeros _ _ z g)
+      term_none b env (at_right o v ∷ fs) (λ w. on (operated o v w) (resume m fs))
+      (left_zero (held_env x env) (held_frames x fs) h) (zeros _ _ z g)
       (λ w y. operated_none o v w (resume m fs) (value_none fs g))
-  value_none (at_right o w ∷ fs) h v z = operated_none o w v (resume m fs) (value_none fs (right_zero (held x w) (held_frames x fs) h))
+  value_none (at_right o w ∷ fs) h v z = operated_none o w v (resume m fs)
+      (value_none fs (right_zero (held x w) (held_frames x fs) h))
   value_none (at_not ∷ fs) h v z =
-      on_none (bool_in v) (λ b. resume m fs (value.bool (not b))) (λ b. value_none fs (right_zero 0 (held_frames x fs) h) (value.bool (not b)) refl)
+      on_none (bool_in v) (λ b. resume m fs (value.bool (not b)))
+      (λ b. value_none fs (right_zero 0 (held_frames x fs) h) (value.bool (not b)) refl)
   value_none (at_value b env ∷ fs) h v z =
       let g = right_zero (held_env x env) (held_frames x fs) h in
-      term_none b env (at_target v ∷ fs) (λ w. on_end w (λ y. on (sent v) (λ ev. puts y ev fs))) (left_zero (held_env x env) (held_frames x fs) h) (zeros _ _ z g) (send_none v fs g)
+      term_none b env (at_target v ∷ fs) (λ w. on_end w (λ y. on (sent v) (λ ev. puts y ev fs)))
+      (left_zero (held_env x env) (held_frames x fs) h) (zeros _ _ z g) (send_none v fs g)
   value_none (at_target w ∷ fs) h v z = send_none w fs (right_zero (held x w) (held_frames x fs) h) v z
   value_none (at_receive ∷ fs) h v z = end_none (λ y. gets y fs) (λ y hy. zeros _ _ hy (right_zero 0 (held_frames x fs) h)) v z
   value_none (at_select l ∷ fs) h v z = end_none _ (λ y hy. zeros _ _ hy (right_zero 0 (held_frames x fs) h)) v z
   value_none (at_match bs env ∷ fs) h v z =
       end_none (λ y. matches y bs env fs)
-      (λ y hy. zeros _ _ (zeros _ _ hy (left_zero (held_env x env) (held_frames x fs) h)) (right_zero (held_env x env) (held_frames x fs) h)) v z
+      (λ y hy. zeros _ _ (zeros _ _ hy (left_zero (held_env x env) (held_frames x fs) h))
+      (right_zero (held_env x env) (held_frames x fs) h)) v z
   value_none (at_seq b env ∷ fs) h v z =
       let g = right_zero (held_env x env) (held_frames x fs) h in
       term_none b env fs (resume m fs) (left_zero (held_env x env) (held_frames x fs) h) g (value_none fs g)
@@ -310,4 +350,5 @@ module _ (m : List Family) (x : EndName) where
   pub pause_none : (s : State) → held_state x s ≡ 0 → held_pause x (pause m s) ≡ 0
   pause_none s h =
       let g = right_zero (held_env x s.environment) (held_frames x s.frames) h in
-      term_none s.term s.environment s.frames (resume m s.frames) (left_zero (held_env x s.environment) (held_frames x s.frames) h) g (value_none s.frames g)
+      term_none s.term s.environment s.frames (resume m s.frames)
+      (left_zero (held_env x s.environment) (held_frames x s.frames) h) g (value_none s.frames g)

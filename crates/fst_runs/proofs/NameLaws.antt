@@ -29,7 +29,8 @@ same_path-apart p q n = go (same_path p q) refl
 
 -- a channel's name is the same as itself
 pub same_channel-itself : (h : ChannelName) → same_channel h h ≡ true
-same_channel-itself h = and_from (bytes_eq h.maker h.maker) (nat_eq h.count h.count) (same_path-itself h.maker) (nat_itself h.count)
+same_channel-itself h = and_from (bytes_eq h.maker h.maker) (nat_eq h.count h.count) (same_path-itself h.maker)
+    (nat_itself h.count)
 
 -- names that pass the test are one
 pub same_channel-same : (g h : ChannelName) → same_channel g h ≡ true → g ≡ h
@@ -52,7 +53,8 @@ same_side-same Right Right e = refl
 
 -- an end is the same as itself
 pub same_end-itself : (x : EndName) → same_end x x ≡ true
-same_end-itself x = and_from (same_channel x.channel x.channel) (same_side x.side x.side) (same_channel-itself x.channel) (same_side-itself x.side)
+same_end-itself x = and_from (same_channel x.channel x.channel) (same_side x.side x.side) (same_channel-itself x.channel)
+    (same_side-itself x.side)
 
 -- ends that pass the test are one
 pub same_end-same : (x y : EndName) → same_end x y ≡ true → x ≡ y

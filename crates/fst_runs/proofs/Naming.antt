@@ -92,7 +92,8 @@ grows_itself : (t : Task) → Grows t t
 grows_itself t = (omega arith, omega arith)
 
 -- a task that was there is, or one in its place that has grown
-still_there : (c : Config) (p q : Path) (t s u : Task) → c.tasks p ≡ Some t → Grows t s → c.tasks q ≡ Some u → (v : Task) × ((with_task c p s).tasks q ≡ Some v) × Grows u v
+still_there : (c : Config) (p q : Path) (t s u : Task) → c.tasks p ≡ Some t → Grows t s → c.tasks q ≡ Some u → (v : Task) ×
+    ((with_task c p s).tasks q ≡ Some v) × Grows u v
 still_there c p q t s u e g f = go (same_path p q) refl
   where
     go : (b : Bool) → same_path p q ≡ b → (v : Task) × (put b s (c.tasks q) ≡ Some v) × Grows u v
@@ -100,8 +101,10 @@ still_there c p q t s u e g f = go (same_path p q) refl
     go true h = (s, refl, subst (λ w. Grows w s) (same_Some t u (sym e ∙ ap c.tasks (same_path-same p q h) ∙ f)) g)
 
 -- where a task is, one was
-was_there : (c : Config) (p q : Path) (t s u : Task) → c.tasks p ≡ Some t → (with_task c p s).tasks q ≡ Some u → (v : Task) × (c.tasks q ≡ Some v)
-was_there c p q t s u e f = in_put (same_path p q) s u (c.tasks q) (λ h z. (t, ap c.tasks (sym (same_path-same p q h)) ∙ e)) (λ h z. (u, z)) f
+was_there : (c : Config) (p q : Path) (t s u : Task) → c.tasks p ≡ Some t → (with_task c p s).tasks q ≡ Some u → (v : Task) ×
+    (c.tasks q ≡ Some v)
+was_there c p q t s u e f = in_put (same_path p q) s u (c.tasks q) (λ h z. (t, ap c.tasks (sym (same_path-same p q h)) ∙ e))
+    (λ h z. (u, z)) f
 
 more_made : (k : ℕ) (u w : Task) → k ≤ u.made → Grows u w → k ≤ w.made
 more_made k u w l g = omega (arith, l, g.0)
@@ -110,14 +113,16 @@ more_forked : (k : ℕ) (u w : Task) → k < u.forked → Grows u w → k < w.fo
 more_forked k u w l g = omega (arith, l, g.1)
 
 -- the makers of channels are there after a task has grown
-pub makers_with : (c : Config) (p : Path) (t s : Task) → HasMakers c → c.tasks p ≡ Some t → Grows t s → HasMakers (with_task c p s)
+pub makers_with : (c : Config) (p : Path) (t s : Task) → HasMakers c → c.tasks p ≡ Some t → Grows t s →
+    HasMakers (with_task c p s)
 makers_with c p t s h e g k j f =
     let o = h k j f in
     let w = still_there c p k.maker t s o.0 e g o.1 in
     (w.0, w.1, o.2, more_made k.count o.0 w.0 o.3 w.2)
 
 -- and so are the parents of tasks
-pub parents_with : (c : Config) (p : Path) (t s : Task) → HasParents c → c.tasks p ≡ Some t → Grows t s → HasParents (with_task c p s)
+pub parents_with : (c : Config) (p : Path) (t s : Task) → HasParents c → c.tasks p ≡ Some t → Grows t s →
+    HasParents (with_task c p s)
 parents_with c p t s h e g q k u f =
     let b = was_there c p (child_path q k) t s u e f in
     let o = h q k b.0 b.1 in
@@ -125,7 +130,8 @@ parents_with c p t s h e g q k u f =
     (w.0, w.1, more_forked k o.0 w.0 o.2 w.2)
 
 -- names stay fresh where a task makes a channel; n is its clock after it
-module _ (c : Config) (p : Path) (t : Task) (s : State) (n : ℕ) (k : Channel) (hm : HasMakers c) (hp : HasParents c) (e : c.tasks p ≡ Some t) where
+module _ (c : Config) (p : Path) (t : Task) (s : State) (n : ℕ) (k : Channel) (hm : HasMakers c) (hp : HasParents c)
+    (e : c.tasks p ≡ Some t) where
   abbrev maker : Task
   maker = has_made t s n
 
@@ -138,14 +144,16 @@ module _ (c : Config) (p : Path) (t : Task) (s : State) (n : ℕ) (k : Channel) 
   pub named_new : HasMakers made × HasParents made
   named_new = (
     λ g j f. in_put (same_channel name g) k j (c.channels g)
-        (λ a b. subst (λ g. (w : Task) × (made.tasks g.maker ≡ Some w) × (0 < g.count) × (g.count ≤ w.made)) (same_channel-same name g a)
+        (λ a b. subst (λ g. (w : Task) × (made.tasks g.maker ≡ Some w) × (0 < g.count) × (g.count ≤ w.made))
+        (same_channel-same name g a)
         (maker, put_there c p maker, omega arith, omega arith))
         (λ a b. makers_with c p t maker hm e (omega arith, omega arith) g j b) f,
     parents_with c p t maker hp e (omega arith, omega arith),
   )
 
 -- and where it makes a task
-module _ (c : Config) (p : Path) (t : Task) (s : State) (n : ℕ) (k : Task) (hm : HasMakers c) (hp : HasParents c) (e : c.tasks p ≡ Some t) where
+module _ (c : Config) (p : Path) (t : Task) (s : State) (n : ℕ) (k : Task) (hm : HasMakers c) (hp : HasParents c)
+    (e : c.tasks p ≡ Some t) where
   abbrev parent : Task
   parent = has_forked t s n
 
@@ -179,20 +187,25 @@ module _ (c : Config) (p : Path) (t : Task) (s : State) (n : ℕ) (k : Task) (hm
   )
 
 -- a task doesn't send and receive at once
-pub asks_apart : (m : Program) (c : Config) (p q : Path) (t u : Task) (x y : EndName) (ev : Event) → Asks m c p t (request.Put x ev) → Asks m c q u (request.Get y) → p ≡ q → ⊥
+pub asks_apart : (m : Program) (c : Config) (p q : Path) (t u : Task) (x y : EndName) (ev : Event) →
+    Asks m c p t (request.Put x ev) → Asks m c q u (request.Get y) → p ≡ q → ⊥
 asks_apart m c p q t u x y ev f g e =
     let same : u ≡ t = same_Some u t (sym g.0 ∙ ap c.tasks (sym e) ∙ f.0) in
-    let asked : Some (request.Get y) ≡ Some (request.Put x ev) = sym g.1 ∙ ap (λ z. machine.request m.families z.state) same ∙ f.1 in
+    let asked : Some (request.Get y) ≡ Some (request.Put x ev) = sym g.1 ∙ ap (λ z. machine.request m.families z.state) same
+    ∙ f.1 in
     cc asked
 
 -- a channel that goes on keeps its maker
-makers_grow : (c : Config) (h : ChannelName) (k j : Channel) → HasMakers c → c.channels h ≡ Some k → HasMakers (with_channel c h j)
+makers_grow : (c : Config) (h : ChannelName) (k j : Channel) → HasMakers c → c.channels h ≡ Some k →
+    HasMakers (with_channel c h j)
 makers_grow c h k j hm e g i f = in_put (same_channel h g) j i (c.channels g)
-    (λ a b. subst (λ g. (t : Task) × (c.tasks g.maker ≡ Some t) × (0 < g.count) × (g.count ≤ t.made)) (same_channel-same h g a) (hm h k e))
+    (λ a b. subst (λ g. (t : Task) × (c.tasks g.maker ≡ Some t) × (0 < g.count) × (g.count ≤ t.made)) (same_channel-same h g a)
+    (hm h k e))
     (λ a b. hm g i b) f
 
 -- names stay fresh where two tasks meet
-module _ (c : Config) (p q : Path) (t u : Task) (s v : State) (n : ℕ) (h : ChannelName) (k j : Channel) (hm : HasMakers c) (hp : HasParents c)
+module _ (c : Config) (p q : Path) (t u : Task) (s v : State) (n : ℕ) (h : ChannelName) (k j : Channel) (hm : HasMakers c)
+    (hp : HasParents c)
     (ep : c.tasks p ≡ Some t) (eq : c.tasks q ≡ Some u) (apart : p ≡ q → ⊥) (ek : c.channels h ≡ Some k) where
   abbrev first : Config
   first = with_task (with_channel c h j) p (has_met t s n)
@@ -206,35 +219,44 @@ module _ (c : Config) (p q : Path) (t u : Task) (s v : State) (n : ℕ) (h : Cha
   pub named_meet : HasMakers both × HasParents both
   named_meet = (
     makers_with first q u (has_met u v n)
-        (makers_with (with_channel c h j) p t (has_met t s n) (makers_grow c h k j hm ek) ep (omega arith, omega arith)) at_q (omega arith, omega arith),
-    parents_with first q u (has_met u v n) (parents_with (with_channel c h j) p t (has_met t s n) hp ep (omega arith, omega arith)) at_q (omega arith, omega arith),
+        (makers_with (with_channel c h j) p t (has_met t s n) (makers_grow c h k j hm ek) ep (omega arith, omega arith)) at_q
+        (omega arith, omega arith),
+    parents_with first q u (has_met u v n) (parents_with (with_channel c h j) p t (has_met t s n) hp ep
+        (omega arith, omega arith)) at_q (omega arith, omega arith),
   )
 
 -- names stay fresh whatever happens
-pub named_after : (m : Program) (types : List Tree) (c : Config) (e : CoreEvent) (w : Write) → Does m types c e w → HasMakers c → HasParents c →
+pub named_after : (m : Program) (types : List Tree) (c : Config) (e : CoreEvent) (w : Write) → Does m types c e w → HasMakers c →
+    HasParents c →
     HasMakers (written c w) × HasParents (written c w)
 named_after m types c (Local p) w d hm hp =
-    subst (λ z. HasMakers z × HasParents z) (sym (local_puts m types c p w d))
-    (makers_with c p d.task (moved d.task d.state) hm d.asks.0 (omega arith, omega arith), parents_with c p d.task (moved d.task d.state) hp d.asks.0 (omega arith, omega arith))
+    subst (λ z. HasMakers z × HasParents z) (sym (local_puts m types c p w d)) (
+      makers_with c p d.task (moved d.task d.state) hm d.asks.0 (omega arith, omega arith),
+      parents_with c p d.task (moved d.task d.state) hp d.asks.0 (omega arith, omega arith),
+    )
 named_after m types c (New p) w d hm hp =
     subst (λ z. HasMakers z × HasParents z) (sym (new_puts m types c p w d))
     (named_new c p d.task d.state (suc d.task.clock) (record { declared = d.declared; history = [] }) hm hp d.asks.0)
 named_after m types c (Fork p) w d hm hp =
-    subst (λ z. HasMakers z × HasParents z) (sym (fork_puts m types c p w d)) (named_fork c p d.task d.state (suc d.task.clock) (new_task d.begun (suc d.task.clock)) hm hp d.asks.0)
+    subst (λ z. HasMakers z × HasParents z) (sym (fork_puts m types c p w d))
+    (named_fork c p d.task d.state (suc d.task.clock) (new_task d.begun (suc d.task.clock)) hm hp d.asks.0)
 named_after m types c (Meet p q h) w d hm hp =
     subst (λ z. HasMakers z × HasParents z) (sym (meet_puts m types c p q h w d))
-    (named_meet c p q d.sender d.receiver d.sent d.got (meeting_stamp d.sender d.receiver d.channel) h d.channel (extended d.channel (passed d.event d.sender d.receiver d.channel)) hm hp d.puts.0 d.gets.0
+    (named_meet c p q d.sender d.receiver d.sent d.got (meeting_stamp d.sender d.receiver d.channel) h d.channel
+    (extended d.channel (passed d.event d.sender d.receiver d.channel)) hm hp d.puts.0 d.gets.0
     (asks_apart m c p q d.sender d.receiver d.end (other d.end) d.event d.puts d.gets) d.there)
 
 -- and along a run
-pub named_on : (m : Program) (types : List Tree) (es : List CoreEvent) (c d : Config) → HasMakers c → HasParents c → Runs m types c es d → HasMakers d × HasParents d
+pub named_on : (m : Program) (types : List Tree) (es : List CoreEvent) (c d : Config) → HasMakers c → HasParents c →
+    Runs m types c es d → HasMakers d × HasParents d
 named_on m types [] c d hm hp r = subst (λ z. HasMakers z × HasParents z) (sym r) (hm, hp)
 named_on m types (e ∷ es) c d hm hp r =
     let f = named_after m types c e r.0 r.1 hm hp in
     named_on m types es (written c r.0) d f.0 f.1 r.2
 
 -- wherever a run leads, names are fresh
-pub named_runs : (m : Program) (types : List Tree) (e : CoreTree) (es : List CoreEvent) (c : Config) → Runs m types (started e) es c → HasMakers c × HasParents c
+pub named_runs : (m : Program) (types : List Tree) (e : CoreTree) (es : List CoreEvent) (c : Config) →
+    Runs m types (started e) es c → HasMakers c × HasParents c
 named_runs m types e es c r =
     let f = named_start e in
     named_on m types es (started e) c f.0 f.1 r

@@ -23,7 +23,8 @@ pub owner : (c : Config) (x : EndName) (p : Path) (t : Task) → IsOwned c x →
     (held_state x t.state ≡ 1) × ((q : Path) → same_path p q ≡ false → amount x (c.tasks q) ≡ 0)
 owner c x p t o e n = pick (same_path o.0 p) refl
   where
-    pick : (b : Bool) → same_path o.0 p ≡ b → (held_state x t.state ≡ 1) × ((q : Path) → same_path p q ≡ false → amount x (c.tasks q) ≡ 0)
+    pick : (b : Bool) → same_path o.0 p ≡ b → (held_state x t.state ≡ 1) ×
+        ((q : Path) → same_path p q ≡ false → amount x (c.tasks q) ≡ 0)
     pick true s =
         let q : o.0 ≡ p = same_path-same o.0 p s in
         (sym (ap (λ z. amount x z) (ap c.tasks q ∙ e)) ∙ o.1, λ z f. o.2 z (ap (λ y. same_path y z) q ∙ f))
@@ -45,7 +46,8 @@ asks_held p (request.New k) x n e z = absurd (none-some x n)
 asks_held p request.Fork x n e z = absurd (none-some x n)
 asks_held p (request.Put y ev) x n e z =
     let w = put_pause p y ev e in
-    let f : held_pause y (puts y ev w.0) ≡ 0 = sym (ap (λ o. held_pause y o) w.1) ∙ ap (λ o. held_pause o p) (same_Some y x n) ∙ z in
+    let f : held_pause y (puts y ev w.0) ≡ 0 = sym (ap (λ o. held_pause y o) w.1) ∙ ap (λ o. held_pause o p) (same_Some y x n)
+    ∙ z in
     let o = own_once y in
     omega (arith, f, o)
 asks_held p (request.Get y) x n e z =

@@ -45,22 +45,27 @@ input_directions (Var k) i = absurd i
 -- where a type receives, its dual doesn't
 no_two_receives : (s t u : Tree) (a b : Label) → IsInput a → IsInput b → step s a ≡ Some t → step (dual s) b ≡ Some u → ⊥
 no_two_receives s t u a b i j e f =
-    let g : step (dual s) b ≡ option_map dual (step s (dual_label b)) = ap (step (dual s)) (sym (dual_label-dual_label b)) ∙ dual_step s (dual_label b) in
+    let g : step (dual s) b ≡ option_map dual (step s (dual_label b)) = ap (step (dual s)) (sym (dual_label-dual_label b))
+    ∙ dual_step s (dual_label b) in
     let z = mapped_some dual (step s (dual_label b)) u (sym g ∙ f) in
     let d = one_direction s t z.0 a (dual_label b) e z.1 in
     cc (sym (input_directions a i).0 ∙ d ∙ (input_directions b j).1)
 
 -- what asks to send goes on once it has sent
-pub put_answered : (m : Program) (p : Pause) (x : EndName) (ev : Event) → asked p ≡ Some (Put x ev) → (s : State) × (after m p Sent ≡ Some s)
+pub put_answered : (m : Program) (p : Pause) (x : EndName) (ev : Event) → asked p ≡ Some (Put x ev) → (s : State) ×
+    (after m p Sent ≡ Some s)
 put_answered m p x ev e =
     let w = put_pause p x ev e in
     (_, ap (λ z. after m z Sent) w.1)
 
 -- what asks to receive goes on with each event
-pub get_answered : (m : Program) (p : Pause) (x : EndName) (ev : Event) → asked p ≡ Some (Get x) → (s : State) × (after m p (Got ev) ≡ Some s)
-get_answered m p x ev e = get_pause (λ w. (s : State) × (after m w (Got ev) ≡ Some s)) p x e (λ fs. (_, refl)) (λ bs env fs. matched bs env fs ev)
+pub get_answered : (m : Program) (p : Pause) (x : EndName) (ev : Event) → asked p ≡ Some (Get x) → (s : State) ×
+    (after m p (Got ev) ≡ Some s)
+get_answered m p x ev e = get_pause (λ w. (s : State) × (after m w (Got ev) ≡ Some s)) p x e (λ fs. (_, refl))
+    (λ bs env fs. matched bs env fs ev)
   where
-    matched : (bs : CoreArms) (env : Environment) (fs : List Frame) (ev : Event) → (s : State) × (after m (matches x bs env fs) (Got ev) ≡ Some s)
+    matched : (bs : CoreArms) (env : Environment) (fs : List Frame) (ev : Event) → (s : State) ×
+        (after m (matches x bs env fs) (Got ev) ≡ Some s)
     matched bs env fs (event.Int n) = (_, refl)
     matched bs env fs (event.Bool b) = (_, refl)
     matched bs env fs (event.Char k) = (_, refl)
@@ -74,7 +79,8 @@ module _ (m : Program) (c : Config) (h : IsRight m c) where
       subst (IsAllowed (residual_in c)) (same_Some f.0 q (sym f.1 ∙ a.1)) f.2
 
   -- an end at which a task asks isn't spent
-  pub right_unspent : (p : Path) (t : Task) (a : Request) (x : EndName) → Asks m c p t a → end_of a ≡ Some x → IsUnspent (residual_in c) x
+  pub right_unspent : (p : Path) (t : Task) (a : Request) (x : EndName) → Asks m c p t a → end_of a ≡ Some x →
+      IsUnspent (residual_in c) x
   right_unspent p t a x f n = allowed_unspent (residual_in c) a x n (asks_allowed p t a f)
 
   -- and the task holds it
@@ -82,7 +88,8 @@ module _ (m : Program) (c : Config) (h : IsRight m c) where
   holds p t a x f n z = asks_held (pause m.families t.state) a x n f.1 (pause_none m.families x t.state z)
 
   -- two tasks that ask at one end are one
-  pub right_one : (p q : Path) (t u : Task) (a b : Request) (x : EndName) → Asks m c p t a → Asks m c q u b → end_of a ≡ Some x → end_of b ≡ Some x → p ≡ q
+  pub right_one : (p q : Path) (t u : Task) (a b : Request) (x : EndName) → Asks m c p t a → Asks m c q u b → end_of a ≡ Some x →
+      end_of b ≡ Some x → p ≡ q
   right_one p q t u a b x f g n k = pick (same_path p q) refl
     where
       pick : (z : Bool) → same_path p q ≡ z → p ≡ q
@@ -92,10 +99,12 @@ module _ (m : Program) (c : Config) (h : IsRight m c) where
           absurd (holds q u b x g k (sym (ap (λ o. amount x o) g.0) ∙ o.1 q e))
 
   -- an end at which a task asks is one of a channel
-  pub right_there : (p : Path) (t : Task) (a : Request) (x : EndName) → Asks m c p t a → end_of a ≡ Some x → (k : Channel) × (c.channels x.channel ≡ Some k)
+  pub right_there : (p : Path) (t : Task) (a : Request) (x : EndName) → Asks m c p t a → end_of a ≡ Some x → (k : Channel) ×
+      (c.channels x.channel ≡ Some k)
   right_there p t a x f n = pick (c.channels x.channel) refl (right_unspent p t a x f n)
     where
-      pick : (o : Option Channel) → c.channels x.channel ≡ o → IsUnspent (residual_in c) x → (k : Channel) × (c.channels x.channel ≡ Some k)
+      pick : (o : Option Channel) → c.channels x.channel ≡ o → IsUnspent (residual_in c) x → (k : Channel) ×
+          (c.channels x.channel ≡ Some k)
       pick None e u = absurd (none-some u.0 (sym (ap (option_and_then (channel_residual x.side)) e) ∙ u.1))
       pick (Some k) e u = (k, e)
 
@@ -103,7 +112,8 @@ module _ (m : Program) (c : Config) (h : IsRight m c) where
   dual_at x s u e f = same_Some u (dual s) (sym f ∙ residual-other c x ∙ ap (option_map dual) e)
 
   -- no two tasks send at the two ends of a channel
-  pub right_opposed : (p q : Path) (t u : Task) (x : EndName) (ev ew : Event) → Asks m c p t (Put x ev) → Asks m c q u (Put (other x) ew) → ⊥
+  pub right_opposed : (p q : Path) (t u : Task) (x : EndName) (ev ew : Event) → Asks m c p t (Put x ev) →
+      Asks m c q u (Put (other x) ew) → ⊥
   right_opposed p q t u x ev ew f g =
       let a = asks_allowed p t (Put x ev) f in
       let b = asks_allowed q u (Put (other x) ew) g in
@@ -117,7 +127,8 @@ module _ (m : Program) (c : Config) (h : IsRight m c) where
       no_two_receives a.0 a.2 b.2 a.1 b.1 a.4 b.4 a.5 (subst (λ z. step z b.1 ≡ Some b.2) (dual_at x a.0 b.0 a.3 b.3) b.5)
 
   -- where one task sends at an end and another receives at the other, the answers lead both on
-  pub right_meets : (p q : Path) (t u : Task) (x : EndName) (ev : Event) → Asks m c p t (Put x ev) → Asks m c q u (Get (other x)) →
+  pub right_meets : (p q : Path) (t u : Task) (x : EndName) (ev : Event) → Asks m c p t (Put x ev) →
+      Asks m c q u (Get (other x)) →
       (s : State) × (v : State) × (answered m t.state Sent ≡ Some s) × (answered m u.state (Got ev) ≡ Some v)
   right_meets p q t u x ev f g =
       let s = put_answered m (pause m.families t.state) x ev f.1 in

@@ -21,7 +21,11 @@ pub record Write : Type 0 where
 
 -- the configuration after it
 abbrev pub written : Config → Write → Config
-written c w = record { tasks = λ p. over (w.tasks p) (c.tasks p); channels = λ h. over (w.channels h) (c.channels h) }
+written c w = record {
+  tasks = λ p. over (w.tasks p) (c.tasks p);
+  channels =
+      λ h. over (w.channels h) (c.channels h);
+}
 
 -- one task is written
 abbrev pub task_at : Path → Task → Path → Option Task
@@ -76,7 +80,8 @@ pub record DoesStep (m : Program) (c : Config) (p : Path) (w : Write) : Type 0 w
   pub writes : w ≡ record { tasks = task_at p (moved task state); channels = no_channel }
 
 -- it makes a channel, whose type is the one with the number that it asks for
-pub record DoesNew (m : Program) (types : List Tree) (c : Config) (p : Path) (w : Write) : Type 0 where
+pub record DoesNew (m : Program) (types : List Tree) (c : Config) (p : Path)
+    (w : Write) : Type 0 where
   pub task : Task
   pub state : State
   pub number : ℕ
@@ -98,12 +103,14 @@ pub record DoesFork (m : Program) (c : Config) (p : Path) (w : Write) : Type 0 w
   pub begins : child (pause m.families task.state) ≡ Some begun
   pub leads : answered m task.state Forked ≡ Some state
   pub writes : w ≡ record {
-    tasks = λ q. over (task_at (child_path p task.forked) (new_task begun (suc task.clock)) q) (task_at p (has_forked task state (suc task.clock)) q);
+    tasks = λ q. over (task_at (child_path p task.forked) (new_task begun (suc task.clock)) q)
+        (task_at p (has_forked task state (suc task.clock)) q);
     channels = no_channel;
   }
 
 -- the event passes from the task with the first path to the one with the second, over this channel
-pub record DoesMeet (m : Program) (c : Config) (p q : Path) (h : ChannelName) (w : Write) : Type 0 where
+pub record DoesMeet (m : Program) (c : Config) (p q : Path) (h : ChannelName)
+    (w : Write) : Type 0 where
   pub sender : Task
   pub receiver : Task
   pub end : EndName

@@ -37,9 +37,12 @@ pub record IsLeast (m : Program) (types : List Tree) (c : Config) (e : CoreEvent
 -- the run in which always the least task moves that can
 abbrev pub RunsLeast : Program → List Tree → Config → List CoreEvent → Config → Type 0
 RunsLeast m types c [] d = d ≡ c
-RunsLeast m types c (e ∷ es) d = (w : Write) × Does m types c e w × IsLeast m types c e × RunsLeast m types (written c w) es d
+RunsLeast m types c (e ∷ es) d = (w : Write) × Does m types c e w × IsLeast m types c e ×
+    RunsLeast m types (written c w) es d
 
 -- the task waits at an end
 abbrev pub WaitsAt : Program → Config → Path → EndName → Type 0
 WaitsAt m c p x =
-    (t : Task) × (c.tasks p ≡ Some t) × (((ev : Event) × (request m.families t.state ≡ Some (Put x ev))) ⊎ (request m.families t.state ≡ Some (Get x)))
+    (t : Task) × (c.tasks p ≡ Some t) ×
+    (((ev : Event) × (request m.families t.state ≡ Some (Put x ev))) ⊎
+    (request m.families t.state ≡ Some (Get x)))

@@ -95,7 +95,8 @@ IsUnspent r x = (s : Tree) × (r x ≡ Some s) × (terminated s ≡ false)
 
 -- the end is held by one task, once
 abbrev pub IsOwned : Config → EndName → Type 0
-IsOwned c x = (p : Path) × (amount x (c.tasks p) ≡ 1) × ((q : Path) → same_path p q ≡ false → amount x (c.tasks q) ≡ 0)
+IsOwned c x = (p : Path) × (amount x (c.tasks p) ≡ 1) ×
+    ((q : Path) → same_path p q ≡ false → amount x (c.tasks q) ≡ 0)
 
 -- the end at which something is asked for, where it is at one
 abbrev pub end_of : Request → Option EndName
@@ -111,15 +112,19 @@ abbrev pub IsAllowed : (EndName → Option Tree) → Request → Type 0
 IsAllowed r request.Step = ⊤
 IsAllowed r (request.New n) = ⊤
 IsAllowed r request.Fork = ⊤
-IsAllowed r (request.Put x ev) = (s : Tree) × (t : Tree) × (r x ≡ Some s) × (step s (sending ev) ≡ Some t)
-IsAllowed r (request.Get x) = (s : Tree) × (a : Label) × (t : Tree) × (r x ≡ Some s) × IsInput a × (step s a ≡ Some t)
+IsAllowed r (request.Put x ev) = (s : Tree) × (t : Tree) × (r x ≡ Some s) ×
+    (step s (sending ev) ≡ Some t)
+IsAllowed r (request.Get x) = (s : Tree) × (a : Label) × (t : Tree) × (r x ≡ Some s) × IsInput a ×
+    (step s a ≡ Some t)
 IsAllowed r request.Ended = ⊤
 
 -- nothing has gone wrong: each task asks for something that the residuals of its ends allow, each history is a trace of its
 -- declared type, and each end that isn't spent is held by one task, once
 pub record IsRight (m : Program) (c : Config) : Type 0 where
-  pub asks : (p : Path) (t : Task) → c.tasks p ≡ Some t → (q : Request) × (request m.families t.state ≡ Some q) × IsAllowed (residual_in c) q
-  pub traces : (h : ChannelName) (k : Channel) → c.channels h ≡ Some k → (s : Tree) × (channel_residual Left k ≡ Some s)
+  pub asks : (p : Path) (t : Task) → c.tasks p ≡ Some t → (q : Request) ×
+      (request m.families t.state ≡ Some q) × IsAllowed (residual_in c) q
+  pub traces : (h : ChannelName) (k : Channel) → c.channels h ≡ Some k → (s : Tree) ×
+      (channel_residual Left k ≡ Some s)
   pub owned : (x : EndName) → IsUnspent (residual_in c) x → IsOwned c x
 
 -- the configuration is wrong

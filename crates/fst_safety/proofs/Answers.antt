@@ -40,7 +40,8 @@ body_at [] k g q = absurd (cc q)
 body_at (h ∷ gs) zero g q = λ i. Some (some_same q i).body
 body_at (h ∷ gs) (suc k) g q = body_at gs k g q
 
-offered : (names : List (List ℕ)) (l : List ℕ) (k : ℕ) → k < length (map Offer names) → slice_index_or (map Offer names) k (Offer l) ≡ Offer l → Contains names l
+offered : (names : List (List ℕ)) (l : List ℕ) (k : ℕ) → k < length (map Offer names) →
+    slice_index_or (map Offer names) k (Offer l) ≡ Offer l → Contains names l
 offered [] l k i e = absurd (omega (arith, i))
 offered (n ∷ names) l zero i e = (zero, omega arith, same e)
   where
@@ -52,7 +53,8 @@ offered (n ∷ names) l (suc k) i e =
     (suc c.0, omega (arith, b), c.2)
 
 -- a label by which a type moves that offers these names is one of them
-pub offered_name : (s : Tree) (names : List (List ℕ)) (l : List ℕ) (q : Tree) → IsOffering s names → step s (Offer l) ≡ Some q → Contains names l
+pub offered_name : (s : Tree) (names : List (List ℕ)) (l : List ℕ) (q : Tree) → IsOffering s names → step s (Offer l) ≡ Some q →
+    Contains names l
 offered_name s names l q o e =
     let c = (labels_are_moves s (Offer l)).1 (subst IsSome (sym e) refl) in
     let d = subst (λ ls. Contains ls (Offer l)) o.labels c in
@@ -61,7 +63,8 @@ offered_name s names l q o e =
 module _ (m : Surroundings) (w : IsWellTyped m) (r : Residuals) where
   -- a function's body, with its argument bound
   pub call_goes : (e : CoreTree) (env : Environment) (v : Value) (fs : List Frame) (t : Tree) → Allowed m r (calls e env v fs) t →
-      Goes m r (record { term = e; environment = enter (free e zero) v env; frames = fs }) t (λ x. held_pause x (calls e env v fs))
+      Goes m r (record { term = e; environment = enter (free e zero) v env; frames = fs }) t
+      (λ x. held_pause x (calls e env v fs))
   call_goes e env v fs t a =
       let f : Fits m r (value.function e env) (arrow a.0 a.1 a.2) = a.3 in
       let q = arrows_equal f.10 in
@@ -69,7 +72,10 @@ module _ (m : Surroundings) (w : IsWellTyped m) (r : Residuals) where
         record {
           variables = f.2 ∷ f.0;
           type = a.5;
-          environment = (fits_enter m r (free e zero) v env f.2 f.0 g f.6 f.4, exactly_enter (free e zero) v env (free e) refl f.5);
+          environment = (
+            fits_enter m r (free e zero) v env f.2 f.0 g f.6 f.4,
+            exactly_enter (free e zero) v env (free e) refl f.5,
+          );
           term = type_equal m (f.2 ∷ f.0) e f.3 a.5 f.7 (equals_through q.2 a.6);
           frames = a.7;
         },
@@ -77,17 +83,20 @@ module _ (m : Surroundings) (w : IsWellTyped m) (r : Residuals) where
       )
 
   -- the body of a global that is used is there
-  pub use_there : (g : ℕ) (fs : List Frame) (t : Tree) → Allowed m r (uses g fs) t → (e : CoreTree) × (slice_get (bodies m.globals) g ≡ Some e)
+  pub use_there : (g : ℕ) (fs : List Frame) (t : Tree) → Allowed m r (uses g fs) t → (e : CoreTree) ×
+      (slice_get (bodies m.globals) g ≡ Some e)
   use_there g fs t a = (a.1.entry.body, body_at m.globals g a.1.entry a.1.there)
 
   -- and it is what runs on
-  pub use_goes : (g : ℕ) (e : CoreTree) (fs : List Frame) (t : Tree) → slice_get (bodies m.globals) g ≡ Some e → Allowed m r (uses g fs) t →
+  pub use_goes : (g : ℕ) (e : CoreTree) (fs : List Frame) (t : Tree) → slice_get (bodies m.globals) g ≡ Some e →
+      Allowed m r (uses g fs) t →
       Goes m r (begins e fs) t (λ x. held_pause x (uses g fs))
   use_goes g e fs t q a =
       let same : a.1.entry.body ≡ e = some_same (sym (body_at m.globals g a.1.entry a.1.there) ∙ q) in
       let d : HasType m [] e a.0 =
       subst (λ b. HasType m [] b a.0) same
-      (subst (HasType m [] a.1.entry.body) (sym a.1.is) (w.bodies_typed g a.1.entry a.1.signature a.1.arguments a.1.there a.1.written a.1.closing)) in (
+      (subst (HasType m [] a.1.entry.body) (sym a.1.is)
+      (w.bodies_typed g a.1.entry a.1.signature a.1.arguments a.1.there a.1.written a.1.closing)) in (
         record {
           variables = [];
           type = a.2;
@@ -103,7 +112,8 @@ module _ (m : Surroundings) (w : IsWellTyped m) (r : Residuals) where
   only_one v (suc k) = refl
 
   -- a value on its way to what waits for it
-  pub giving_goes : (v : Value) (fs : List Frame) (a t : Tree) → Fits m r v a → Takes m r fs a t → Goes m r (giving v fs) t (λ x. held x v + held_frames x fs)
+  pub giving_goes : (v : Value) (fs : List Frame) (a t : Tree) → Fits m r v a → Takes m r fs a t → Goes m r (giving v fs) t
+      (λ x. held x v + held_frames x fs)
   giving_goes v fs a t f k =
       let u = formed_use (fits_formed m r v a f) in
       let y : Variable = record { type = a; uses = u.0 } in (
@@ -129,14 +139,17 @@ module _ (m : Surroundings) (w : IsWellTyped m) (r : Residuals) where
   )
 
   -- and the task that forks
-  pub parent_goes : (e : CoreTree) (env : Environment) (fs : List Frame) (t : Tree) → Allowed m r (forks e env fs) t → Goes m r (giving value.unit fs) t (λ x. held_frames x fs)
+  pub parent_goes : (e : CoreTree) (env : Environment) (fs : List Frame) (t : Tree) → Allowed m r (forks e env fs) t →
+      Goes m r (giving value.unit fs) t (λ x. held_frames x fs)
   parent_goes e env fs t h =
       let g = giving_goes value.unit fs h.5 t h.6 h.7 in
       (g.0, λ x u. let z = g.1 x u in omega (arith, z))
 
   -- an arm with one variable, which stands for the end
-  one_arm : (y : EndName) (e : CoreTree) (env : Environment) (fs : List Frame) (q b t : Tree) (g : List Variable) (p : ℕ → Bool) (xs : List Binder) (ts : List Tree) (vs : List Variable) →
-      Fits m r (value.end y) q → IsEnv m r g p env → ts ≡ q ∷ [] → AreVariables [] ts vs → length xs ≡ length vs → HasType m (context.enter_all vs g) e b → SpendAll vs (free e) →
+  one_arm : (y : EndName) (e : CoreTree) (env : Environment) (fs : List Frame) (q b t : Tree) (g : List Variable) (p : ℕ → Bool)
+      (xs : List Binder) (ts : List Tree) (vs : List Variable) →
+      Fits m r (value.end y) q → IsEnv m r g p env → ts ≡ q ∷ [] → AreVariables [] ts vs → length xs ≡ length vs →
+      HasType m (context.enter_all vs g) e b → SpendAll vs (free e) →
       Alike g (outside_all xs (free e)) p → ((k : ℕ) → outside_all xs (free e) k ≡ true → p k ≡ true) → Takes m r fs b t →
       Goes m r (record { term = e; environment = enter (free e zero) (value.end y) (keep (outside (free e)) env); frames = fs }) t
       (λ x. (held x (value.end y) + held_env x env) + held_frames x fs)
@@ -168,16 +181,24 @@ module _ (m : Surroundings) (w : IsWellTyped m) (r : Residuals) where
             omega (arith, c, c2),
       )
 
-  arms_match : (bs : CoreArms) (l : List ℕ) (y : EndName) (env : Environment) (fs : List Frame) (s q b t : Tree) (g : List Variable) (p : ℕ → Bool) →
-      Contains (arm_labels bs) l → Fits m r (value.end y) q → step s (Offer l) ≡ Some q → IsEnv m r g p env → ((k : ℕ) → free_below bs k ≡ true → p k ≡ true) →
+  arms_match : (bs : CoreArms) (l : List ℕ) (y : EndName) (env : Environment) (fs : List Frame) (s q b t : Tree)
+      (g : List Variable) (p : ℕ → Bool) →
+      Contains (arm_labels bs) l → Fits m r (value.end y) q → step s (Offer l) ≡ Some q → IsEnv m r g p env →
+      ((k : ℕ) → free_below bs k ≡ true → p k ≡ true) →
       ArmsHaveType m (rest s) g bs b → AreAlike g p bs → Takes m r fs b t →
       Goes m r (arm_state bs l y env fs) t (λ x. (held x (value.end y) + held_env x env) + held_frames x fs)
   arms_match no_arms l y env fs s q b t g p c f o i su d al k = let z : c.0 < 0 = c.1 in absurd (omega (arith, z))
   arms_match (arm j xs e bs) l y env fs s q b t g p c f o i su d al k =
-      pick (λ c'. arms_match bs l y env fs s q b t g p c' f o i (λ n u. su n (or_right (outside_all xs (free e) n) (free_below bs n) u)) d.7 al.1 k) (bytes_eq l j) refl
+      pick (λ c'. arms_match bs l y env fs s q b t g p c' f o i
+      (λ n u. su n (or_right (outside_all xs (free e) n) (free_below bs n) u)) d.7 al.1 k) (bytes_eq l j) refl
     where
-      pick : (Contains (arm_labels bs) l → Goes m r (arm_state bs l y env fs) t (λ x. (held x (value.end y) + held_env x env) + held_frames x fs)) → (z : Bool) → bytes_eq l j ≡ z →
-          Goes m r (if z then record { term = e; environment = enter (free e zero) (value.end y) (keep (outside (free e)) env); frames = fs } else arm_state bs l y env fs) t
+      pick : (Contains (arm_labels bs) l → Goes m r (arm_state bs l y env fs) t
+          (λ x. (held x (value.end y) + held_env x env) + held_frames x fs)) → (z : Bool) → bytes_eq l j ≡ z →
+          Goes m r (if z then record {
+            term = e;
+            environment = enter (free e zero) (value.end y) (keep (outside (free e)) env);
+            frames = fs;
+          } else arm_state bs l y env fs) t
           (λ x. (held x (value.end y) + held_env x env) + held_frames x fs)
       pick more true eq =
           one_arm y e env fs q b t g p xs d.0 d.1 f i
@@ -186,8 +207,10 @@ module _ (m : Surroundings) (w : IsWellTyped m) (r : Residuals) where
       pick more false eq = more (contains_later j (arm_labels bs) l eq c)
 
   -- the arm of a label that came
-  pub match_goes : (y : EndName) (bs : CoreArms) (l : List ℕ) (names : List (List ℕ)) (env : Environment) (fs : List Frame) (s q b t : Tree) (g : List Variable) →
-      Fits m r (value.end y) q → IsOffering s names → AreEachOnce names (arm_labels bs) → step s (Offer l) ≡ Some q → IsEnv m r g (free_below bs) env →
+  pub match_goes : (y : EndName) (bs : CoreArms) (l : List ℕ) (names : List (List ℕ)) (env : Environment) (fs : List Frame)
+      (s q b t : Tree) (g : List Variable) →
+      Fits m r (value.end y) q → IsOffering s names → AreEachOnce names (arm_labels bs) → step s (Offer l) ≡ Some q →
+      IsEnv m r g (free_below bs) env →
       ArmsHaveType m (rest s) g bs b → AreAlike g (free_below bs) bs → Takes m r fs b t →
       Goes m r (arm_state bs l y env fs) t (λ x. (held x (value.end y) + held_env x env) + held_frames x fs)
   match_goes y bs l names env fs s q b t g f o a e i d al k =

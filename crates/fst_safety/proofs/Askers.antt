@@ -27,13 +27,18 @@ pub record IsRegular (m : Program) (c : Config) : Type 0 where
   pub parents : HasParents c
 
 -- a path has one task, and it asks for one thing
-pub same_asks : (m : Program) (c : Config) (p : Path) (t u : Task) (q r : Request) → Asks m c p t q → Asks m c p u r → (t ≡ u) × (q ≡ r)
+pub same_asks : (m : Program) (c : Config) (p : Path) (t u : Task) (q r : Request) → Asks m c p t q → Asks m c p u r → (t ≡ u) ×
+    (q ≡ r)
 same_asks m c p t u q r a b =
     let e : t ≡ u = some_same (sym a.0 ∙ b.0) in
     (e, some_same (sym a.1 ∙ ap (λ z. machine.request m.families z.state) e ∙ b.1))
 
 other_other : (x y : EndName) → other x ≡ other y → x ≡ y
-other_other x y e = λ i. record { channel = (e i).channel; side = (back x.side ∙ ap (λ (z : EndName). opposite z.side) e ∙ sym (back y.side)) i }
+other_other x y e = λ i. record {
+  channel = (e i).channel;
+  side =
+      (back x.side ∙ ap (λ (z : EndName). opposite z.side) e ∙ sym (back y.side)) i;
+}
   where
     back : (s : Side) → s ≡ opposite (opposite s)
     back Left = refl
@@ -55,15 +60,19 @@ module _ (m : Program) (c : Config) (hs : IsRegular m c) where
   Role (New p) o q = (n : ℕ) × (p ≡ o) × (q ≡ request.New n)
   Role (Fork p) o q = (p ≡ o) × (q ≡ request.Fork)
   Role (Meet p r h) o q =
-      ((u : Task) × (x : EndName) × (ev : Event) × (p ≡ o) × (q ≡ request.Put x ev) × Asks m c r u (request.Get (other x)) × (x.channel ≡ h))
-      ⊎ ((t : Task) × (x : EndName) × (ev : Event) × (r ≡ o) × (q ≡ request.Get (other x)) × Asks m c p t (request.Put x ev) × (x.channel ≡ h))
+      ((u : Task) × (x : EndName) × (ev : Event) × (p ≡ o) × (q ≡ request.Put x ev) × Asks m c r u (request.Get (other x)) ×
+      (x.channel ≡ h))
+      ⊎ ((t : Task) × (x : EndName) × (ev : Event) × (r ≡ o) × (q ≡ request.Get (other x)) × Asks m c p t (request.Put x ev) ×
+      (x.channel ≡ h))
 
-  same_meet : (p p' q q' : Path) (h h' : ChannelName) (o : Path) (r : Request) → Role (Meet p p' h) o r → Role (Meet q q' h') o r → Meet p p' h ≡ Meet q q' h'
+  same_meet : (p p' q q' : Path) (h h' : ChannelName) (o : Path) (r : Request) → Role (Meet p p' h) o r →
+      Role (Meet q q' h') o r → Meet p p' h ≡ Meet q q' h'
   same_meet p p' q q' h h' o r (inl f) (inl g) =
       let z : request.Put f.1 f.2 ≡ request.Put g.1 g.2 = sym f.4 ∙ g.4 in
       let e : f.1 ≡ g.1 = cc z in
       let first : p ≡ q = f.3 ∙ sym g.3 in
-      let second : p' ≡ q' = right_one m c hs.fine p' q' f.0 g.0 (request.Get (other f.1)) (request.Get (other g.1)) (other f.1) f.5 g.5 refl (ap (λ z. Some (other z)) (sym e)) in
+      let second : p' ≡ q' = right_one m c hs.fine p' q' f.0 g.0 (request.Get (other f.1)) (request.Get (other g.1))
+      (other f.1) f.5 g.5 refl (ap (λ z. Some (other z)) (sym e)) in
       let over : h ≡ h' = sym f.6 ∙ ap (λ (x : EndName). x.channel) e ∙ g.6 in
       λ i. Meet (first i) (second i) (over i)
   same_meet p p' q q' h h' o r (inl f) (inr g) =
@@ -76,7 +85,8 @@ module _ (m : Program) (c : Config) (hs : IsRegular m c) where
       let z : request.Get (other f.1) ≡ request.Get (other g.1) = sym f.4 ∙ g.4 in
       let others : other f.1 ≡ other g.1 = cc z in
       let e : f.1 ≡ g.1 = other_other f.1 g.1 others in
-      let first : p ≡ q = right_one m c hs.fine p q f.0 g.0 (request.Put f.1 f.2) (request.Put g.1 g.2) f.1 f.5 g.5 refl (ap Some (sym e)) in
+      let first : p ≡ q = right_one m c hs.fine p q f.0 g.0 (request.Put f.1 f.2) (request.Put g.1 g.2) f.1 f.5 g.5 refl
+      (ap Some (sym e)) in
       let second : p' ≡ q' = f.3 ∙ sym g.3 in
       let over : h ≡ h' = sym f.6 ∙ ap (λ (x : EndName). x.channel) e ∙ g.6 in
       λ i. Meet (first i) (second i) (over i)

@@ -36,12 +36,15 @@ closed m = record { families = m.families; globals = m.globals; types = m.types;
 -- what instances of terms ask of a module: its data types and its signatures are well formed
 pub record HasFormedParts (m : Surroundings) : Type 0 where
   pub families : AreFamiliesFormed m.types m.families
-  pub signatures : (k : ℕ) (g : GlobalEntry) (t : Tree) → slice_get m.globals k ≡ Some g → slice_get m.types g.signature ≡ Some t → IsFormed g.kinds.items t
+  pub signatures : (k : ℕ) (g : GlobalEntry) (t : Tree) → slice_get m.globals k ≡ Some g →
+      slice_get m.types g.signature ≡ Some t → IsFormed g.kinds.items t
 
 -- where all arms have one set, each has the same linear variables as a part with this set
-are_alike : (args : List Tree) (g h : List Variable) (u : Vars) (p : ℕ → Bool) → IsInstanceOf args g h → Alike h u p → (bs : CoreArms) → AreSetsOf g u bs → AreAlike h p bs
+are_alike : (args : List Tree) (g h : List Variable) (u : Vars) (p : ℕ → Bool) → IsInstanceOf args g h → Alike h u p →
+    (bs : CoreArms) → AreSetsOf g u bs → AreAlike h p bs
 are_alike args g h u p q f no_arms x = tt
-are_alike args g h u p q f (arm l xs e bs) x = (alike_of h u _ p (alike_in args g h u _ q x.0) f, are_alike args g h u p q f bs x.1)
+are_alike args g h u p q f (arm l xs e bs) x =
+    (alike_of h u _ p (alike_in args g h u _ q x.0) f, are_alike args g h u p q f bs x.1)
 
 module _ (m : Surroundings) (F : HasFormedParts m) (args : List Tree) (i : IsInstantiation [] m.vars args) where
   abbrev Cv : Deriv → Deriv → Type 0
@@ -63,21 +66,28 @@ module _ (m : Surroundings) (F : HasFormedParts m) (args : List Tree) (i : IsIns
   abbrev Gives : CoreTree → List Variable → List Variable → Type 0
   Gives e g h = (u : Vars) (c : Deriv) → IsFormed m.vars (type_of c) → Rows e g u c → Runs h e (type_of c)
 
-  part_of : (e : CoreTree) (g h : List Variable) (u : Vars) (d : Deriv) → Gives e g h → Over m.vars Cv (Rows e g) u d → Runs h e (type_of d)
-  part_of e g h u d f x = type_equal (closed m) h e (In (type_of x.core)) (In (type_of d)) (f u x.core x.formed x.rule) (converted_in m.vars args i d x.core x.formed x.stands)
+  part_of : (e : CoreTree) (g h : List Variable) (u : Vars) (d : Deriv) → Gives e g h → Over m.vars Cv (Rows e g) u d →
+      Runs h e (type_of d)
+  part_of e g h u d f x = type_equal (closed m) h e (In (type_of x.core)) (In (type_of d)) (f u x.core x.formed x.rule)
+      (converted_in m.vars args i d x.core x.formed x.stands)
 
-  part_at : (t : Tree) (e : CoreTree) (g h : List Variable) (u : Vars) (d : Deriv) → Gives e g h → At m.vars t Cv (Rows e g) u d → Runs h e t
+  part_at : (t : Tree) (e : CoreTree) (g h : List Variable) (u : Vars) (d : Deriv) → Gives e g h → At m.vars t Cv (Rows e g) u d →
+      Runs h e t
   part_at t e g h u d f x =
-      subst (λ z. Runs h e z) x.wanted (type_equal (closed m) h e (In (type_of x.core)) (In (type_of d)) (f u x.core x.formed x.rule) (converted_in m.vars args i d x.core x.formed x.stands))
+      subst (λ z. Runs h e z) x.wanted (type_equal (closed m) h e (In (type_of x.core)) (In (type_of d))
+      (f u x.core x.formed x.rule) (converted_in m.vars args i d x.core x.formed x.stands))
 
-  set_of : (e : CoreTree) (g h : List Variable) (u : Vars) (d : Deriv) → IsInstanceOf args g h → Over m.vars Cv (Rows e g) u d → Alike h u (free e)
+  set_of : (e : CoreTree) (g h : List Variable) (u : Vars) (d : Deriv) → IsInstanceOf args g h → Over m.vars Cv (Rows e g) u d →
+      Alike h u (free e)
   set_of e g h u d q x = alike_in args g h u (free e) q (set_is_free m S e g u x.core x.rule)
 
-  set_at : (t : Tree) (e : CoreTree) (g h : List Variable) (u : Vars) (d : Deriv) → IsInstanceOf args g h → At m.vars t Cv (Rows e g) u d → Alike h u (free e)
+  set_at : (t : Tree) (e : CoreTree) (g h : List Variable) (u : Vars) (d : Deriv) → IsInstanceOf args g h →
+      At m.vars t Cv (Rows e g) u d → Alike h u (free e)
   set_at t e g h u d q x = alike_in args g h u (free e) q (set_is_free m S e g u x.core x.rule)
 
   -- a term of a row's type
-  made : (e : CoreTree) (h : List Variable) (c : Deriv) (t : Tree) (ds : Derivs) → c ≡ row t ds → Runs h e t → Runs h e (type_of c)
+  made : (e : CoreTree) (h : List Variable) (c : Deriv) (t : Tree) (ds : Derivs) → c ≡ row t ds → Runs h e t →
+      Runs h e (type_of c)
   made e h c t ds x r = subst (λ z. Runs h e (type_of z)) (sym x) r
 
   -- a row's type is equal to itself
@@ -90,16 +100,23 @@ module _ (m : Surroundings) (F : HasFormedParts m) (args : List Tree) (i : IsIns
   -- fields are closed
   bound_fields : (n : ℕ) (f : Family) → slice_get m.families n ≡ Some f → Bound (fields f.makers.items) (fields f.makers.items)
   bound_fields n f e l ts (c, x, y) =
-      let all = fields_formed m.types c.fields.items ts (named_formed m.types f.makers.items l c (family_formed m.types m.families n f F.families e) x) y in
+      let all = fields_formed m.types c.fields.items ts
+      (named_formed m.types f.makers.items l c (family_formed m.types m.families n f F.families e) x) y in
       (c, x, subst (λ z. AreAt m.types c.fields.items z) (sym (all_closed_in args ts all)) y)
 
   -- an instance moves to an instance
   bound_rest : (s : Tree) → Bound (rest s) (rest (In s))
-  bound_rest s l ts (t, x, e) = (In t, instance_moves [] m.vars args i s t (Offer l) (λ k z. cc z) x, ap (map (instantiated args)) e)
+  bound_rest s l ts (t, x, e) = (
+    In t,
+    instance_moves [] m.vars args i s t (Offer l) (λ k z. cc z) x,
+    ap (map (instantiated args)) e,
+  )
 
   mutual
     -- a row gives its term the instance of its type
-    pub typed : (e : CoreTree) (g h : List Variable) → IsInstanceOf args g h → (u : Vars) (c : Deriv) → IsFormed m.vars (type_of c) → Row m S e g u c → HasType (closed m) h e (instantiated args (type_of c))
+    pub typed : (e : CoreTree) (g h : List Variable) → IsInstanceOf args g h →
+        (u : Vars) (c : Deriv) → IsFormed m.vars (type_of c) → Row m S e g u c →
+        HasType (closed m) h e (instantiated args (type_of c))
     typed (local at k) g h q u c f (v, x, p, e) =
         let r = found_in args g h q k v x in
         made (local at k) h c v.type none e (r.0, r.1, subst (λ z. Equals z (In v.type)) (sym r.2.type) (same c v.type none e f))
@@ -128,7 +145,8 @@ module _ (m : Surroundings) (F : HasFormedParts m) (args : List Tree) (i : IsIns
           In (type_of l),
           part_of a g h x.left d (typed a g h q) x.first,
           part_of b g h x.right l (typed b g h q) x.second,
-          apart_in h u x.left x.right (free a) (free b) x.split (set_of a g h x.left d q x.first) (set_of b g h x.right l q x.second),
+          apart_in h u x.left x.right (free a) (free b) x.split (set_of a g h x.left d q x.first)
+              (set_of b g h x.right l q x.second),
           same c (type.pair (type_of d) (type_of l)) (two d l) e f,
         )
     typed (make at n k es) g h q u c f (o, ts, ds, p, z, x, e) =
@@ -156,7 +174,8 @@ module _ (m : Surroundings) (F : HasFormedParts m) (args : List Tree) (i : IsIns
           In t,
           subst (λ z. Runs h a z) p (part_of a g h x.left d (typed a g h q) x.first),
           part_at s b g h x.right l (typed b g h q) x.second,
-          apart_in h u x.left x.right (free a) (free b) x.split (set_of a g h x.left d q x.first) (set_at s b g h x.right l q x.second),
+          apart_in h u x.left x.right (free a) (free b) x.split (set_of a g h x.left d q x.first)
+              (set_at s b g h x.right l q x.second),
           same c t (two d l) e f,
         )
     typed (let_in at z a b) g h q u c f (d, l, n, x, w, e) =
@@ -171,7 +190,8 @@ module _ (m : Surroundings) (F : HasFormedParts m) (args : List Tree) (i : IsIns
           part_of a g h x.left d (typed a g h q) x.first,
           part_of b (V ∷ g) (W ∷ h) (under (is_once n) x.right) l (typed b (V ∷ g) (W ∷ h) q') x.second,
           spends_in (W ∷ h) (under (is_once n) x.right) (free b) zero W s refl r.falls,
-          apart_in h u x.left x.right (free a) (outside (free b)) x.split (set_of a g h x.left d q x.first) (λ j v y. s (suc j) v y),
+          apart_in h u x.left x.right (free a) (outside (free b)) x.split (set_of a g h x.left d q x.first)
+              (λ j v y. s (suc j) v y),
         )
     typed (split at y z a b) g h q u c f (d, l, s, t, n, o, x, p, j, w, e) =
         let r = has_instance m.vars args s n i j in
@@ -192,18 +212,21 @@ module _ (m : Surroundings) (F : HasFormedParts m) (args : List Tree) (i : IsIns
           part_of b (V' ∷ V ∷ g) (W' ∷ W ∷ h) U l (typed b (V' ∷ V ∷ g) (W' ∷ W ∷ h) q') x.second,
           spends_in (W' ∷ W ∷ h) U (free b) (suc zero) W k refl r.falls,
           spends_in (W' ∷ W ∷ h) U (free b) zero W' k refl r'.falls,
-          apart_in h u x.left x.right (free a) (outside (outside (free b))) x.split (set_of a g h x.left d q x.first) (λ n v y. k (suc (suc n)) v y),
+          apart_in h u x.left x.right (free a) (outside (outside (free b))) x.split (set_of a g h x.left d q x.first)
+              (λ n v y. k (suc (suc n)) v y),
         )
     typed (if_else at a b o) g h q u c f (d, k, l, x, e) =
         let s = set_of b g h x.right k q x.second.0 in
         let s' = set_at (type_of k) o g h x.right l q x.second.1 in
-        let both = same_set g x.right (free b) (free o) (set_is_free m S b g x.right x.second.0.core x.second.0.rule) (set_is_free m S o g x.right x.second.1.core x.second.1.rule) in
+        let both = same_set g x.right (free b) (free o) (set_is_free m S b g x.right x.second.0.core x.second.0.rule)
+        (set_is_free m S o g x.right x.second.1.core x.second.1.rule) in
         made (if_else at a b o) h c (type_of k) (three d k l) e (
           part_at (plain Truth) a g h x.left d (typed a g h q) x.first,
           part_of b g h x.right k (typed b g h q) x.second.0,
           part_at (type_of k) o g h x.right l (typed o g h q) x.second.1,
           alike_of h x.right (free b) (free o) s s',
-          apart_in h u x.left x.right (free a) (in_either b o) x.split (set_at (plain Truth) a g h x.left d q x.first) (alike_in args g h x.right (in_either b o) q both),
+          apart_in h u x.left x.right (free a) (in_either b o) x.split (set_at (plain Truth) a g h x.left d q x.first)
+              (alike_in args g h x.right (in_either b o) q both),
         )
     typed (case_of at a bs) g h q u c f (d, n, fam, t, ds, x, p, y, l, e) =
         let s = alike_in args g h x.right (free_below bs) q (arms_set m S (fields fam.makers.items) bs g x.right t ds x.second) in
@@ -224,14 +247,18 @@ module _ (m : Surroundings) (F : HasFormedParts m) (args : List Tree) (i : IsIns
           operates_in args o s t j,
           part_at s a g h x.left d (typed a g h q) x.first,
           part_at s b g h x.right l (typed b g h q) x.second,
-          apart_in h u x.left x.right (free a) (free b) x.split (set_at s a g h x.left d q x.first) (set_at s b g h x.right l q x.second),
+          apart_in h u x.left x.right (free a) (free b) x.split (set_at s a g h x.left d q x.first)
+              (set_at s b g h x.right l q x.second),
           same c t (two d l) e f,
         )
     typed (negate at a) g h q u c f (d, x, e) =
-        made (negate at a) h c (plain Truth) (one d) e (part_at (plain Truth) a g h u d (typed a g h q) x, same c (plain Truth) (one d) e f)
+        made (negate at a) h c (plain Truth) (one d) e
+        (part_at (plain Truth) a g h u d (typed a g h q) x, same c (plain Truth) (one d) e f)
     typed (new at k) g h q u c f (s, p, w, o, e) =
-        let is : In (type.pair s (dual s)) ≡ type.pair s (dual s) = λ j. type.pair (closed_in args s (_, w.1) j) (dual_in args s w j) in
-        made (new at k) h c (type.pair s (dual s)) none e (s, p, w, subst (λ z. Equals z (In (type.pair s (dual s)))) is (same c (type.pair s (dual s)) none e f))
+        let is : In (type.pair s (dual s)) ≡ type.pair s (dual s) =
+        λ j. type.pair (closed_in args s (_, w.1) j) (dual_in args s w j) in
+        made (new at k) h c (type.pair s (dual s)) none e
+        (s, p, w, subst (λ z. Equals z (In (type.pair s (dual s)))) is (same c (type.pair s (dual s)) none e f))
     typed (send at a b) g h q u c f (d, l, k, t, x, p, y, e) =
         made (send at a b) h c t (two d l) e (
           k,
@@ -240,7 +267,8 @@ module _ (m : Surroundings) (F : HasFormedParts m) (args : List Tree) (i : IsIns
           subst (λ z. Runs h a z) p (part_of a g h x.left d (typed a g h q) x.first),
           part_of b g h x.right l (typed b g h q) x.second,
           instance_moves [] m.vars args i (type_of l) t (Send k) (λ j z. cc z) y,
-          apart_in h u x.left x.right (free a) (free b) x.split (set_of a g h x.left d q x.first) (set_of b g h x.right l q x.second),
+          apart_in h u x.left x.right (free a) (free b) x.split (set_of a g h x.left d q x.first)
+              (set_of b g h x.right l q x.second),
           same c t (two d l) e f,
         )
     typed (receive at a) g h q u c f (d, k, t, x, p, e) =
@@ -273,29 +301,38 @@ module _ (m : Surroundings) (F : HasFormedParts m) (args : List Tree) (i : IsIns
           apart_in h u x.left x.right (free a) (free_below bs) x.split (set_of a g h x.left d q x.first) s,
         )
     typed (fork at a) g h q u c f (d, x, w, e) =
-        made (fork at a) h c (plain Nothing) (one d) e (In (type_of d), part_of a g h u d (typed a g h q) x, many_in m.vars args (type_of d) i w, same c (plain Nothing) (one d) e f)
+        made (fork at a) h c (plain Nothing) (one d) e (
+          In (type_of d),
+          part_of a g h u d (typed a g h q) x,
+          many_in m.vars args (type_of d) i w,
+          same c (plain Nothing) (one d) e f,
+        )
     typed (seq at a b) g h q u c f (d, l, x, w, e) =
         made (seq at a b) h c (type_of l) (two d l) e (
           In (type_of d),
           part_of a g h x.left d (typed a g h q) x.first,
           many_in m.vars args (type_of d) i w,
           part_of b g h x.right l (typed b g h q) x.second,
-          apart_in h u x.left x.right (free a) (free b) x.split (set_of a g h x.left d q x.first) (set_of b g h x.right l q x.second),
+          apart_in h u x.left x.right (free a) (free b) x.split (set_of a g h x.left d q x.first)
+              (set_of b g h x.right l q x.second),
         )
 
     -- a constructor's arguments have the types of its fields
-    typed_fields : (es : CoreList) (ts : List Tree) (g h : List Variable) → IsInstanceOf args g h → (u : Vars) (ds : Derivs) → AllByRecursion (IsFormed []) ts → Fields m S es ts g u ds → HaveTypes (closed m) h es ts
+    typed_fields : (es : CoreList) (ts : List Tree) (g h : List Variable) → IsInstanceOf args g h →
+        (u : Vars) (ds : Derivs) → AllByRecursion (IsFormed []) ts → Fields m S es ts g u ds → HaveTypes (closed m) h es ts
     typed_fields no_terms [] g h q u ds f x = tt
     typed_fields no_terms (t ∷ ts) g h q u ds f x = absurd x
     typed_fields (term e es) [] g h q u ds f x = absurd x
     typed_fields (term e es) (t ∷ ts) g h q u ds f (d, more, x, p) = (
       subst (λ z. HasType (closed m) h e z) (closed_in args t f.0) (part_at t e g h x.left d (typed e g h q) x.first),
       typed_fields es ts g h q x.right more f.1 x.second,
-      apart_in h u x.left x.right (free e) (free_in es) x.split (set_at t e g h x.left d q x.first) (alike_in args g h x.right (free_in es) q (fields_set m S es ts g x.right more x.second)),
+      apart_in h u x.left x.right (free e) (free_in es) x.split (set_at t e g h x.left d q x.first)
+          (alike_in args g h x.right (free_in es) q (fields_set m S es ts g x.right more x.second)),
     )
 
     -- arms have the instance of their type, where their variables stand for instances
-    typed_arms : (B D : Binding) → Bound B D → (bs : CoreArms) (g h : List Variable) → IsInstanceOf args g h → (u : Vars) (t : Tree) (ds : Derivs) → Arms m S B bs g u t ds → ArmsHaveType (closed m) D h bs (In t)
+    typed_arms : (B D : Binding) → Bound B D → (bs : CoreArms) (g h : List Variable) → IsInstanceOf args g h →
+        (u : Vars) (t : Tree) (ds : Derivs) → Arms m S B bs g u t ds → ArmsHaveType (closed m) D h bs (In t)
     typed_arms B D b no_arms g h q u t ds x = absurd x
     typed_arms B D b (arm l xs e bs) g h q u t ds (ts, vs, d, more, j, k, v, n, x, p, y, z) =
         let r = variables_in m.vars args i ts vs k in
@@ -305,12 +342,14 @@ module _ (m : Surroundings) (F : HasFormedParts m) (args : List Tree) (i : IsIns
           b l ts j,
           r.1,
           n ∙ same_length args vs r.0 r.2,
-          subst (λ z. Runs (enter_all r.0 h) e z) p (part_of e (enter_all vs g) (enter_all r.0 h) (under_all vs u) d (typed e (enter_all vs g) (enter_all r.0 h) q') x),
+          subst (λ z. Runs (enter_all r.0 h) e z) p (part_of e (enter_all vs g) (enter_all r.0 h) (under_all vs u) d
+              (typed e (enter_all vs g) (enter_all r.0 h) q') x),
           spend_all_in args vs r.0 h u (free e) r.2 (set_of e (enter_all vs g) (enter_all r.0 h) (under_all vs u) d q' x),
           typed_further B D b bs g h q u t more y,
         )
 
-    typed_further : (B D : Binding) → Bound B D → (bs : CoreArms) (g h : List Variable) → IsInstanceOf args g h → (u : Vars) (t : Tree) (ds : Derivs) → FurtherArms m S B bs g u t ds → ArmsHaveType (closed m) D h bs (In t)
+    typed_further : (B D : Binding) → Bound B D → (bs : CoreArms) (g h : List Variable) → IsInstanceOf args g h →
+        (u : Vars) (t : Tree) (ds : Derivs) → FurtherArms m S B bs g u t ds → ArmsHaveType (closed m) D h bs (In t)
     typed_further B D b no_arms g h q u t ds x = tt
     typed_further B D b (arm l xs e bs) g h q u t ds (ts, vs, d, more, j, k, v, n, x, y, z) =
         let r = variables_in m.vars args i ts vs k in
@@ -326,11 +365,13 @@ module _ (m : Surroundings) (F : HasFormedParts m) (args : List Tree) (i : IsIns
         )
 
   -- a derivation gives its term the instance of its type
-  pub derived_typed : (e : CoreTree) (g h : List Variable) → IsInstanceOf args g h → (u : Vars) (d : Deriv) → Over m.vars (Converted (IsConversion m.vars)) (Row m (converting (IsConversion m.vars)) e g) u d →
+  pub derived_typed : (e : CoreTree) (g h : List Variable) → IsInstanceOf args g h →
+      (u : Vars) (d : Deriv) → Over m.vars (Converted (IsConversion m.vars)) (Row m (converting (IsConversion m.vars)) e g) u d →
       HasType (closed m) h e (instantiated args (type_of d))
   derived_typed e g h q u d x = part_of e g h u d (typed e g h q) x
 
   -- and so does one at the type that is wanted
-  pub wanted_typed : (t : Tree) (e : CoreTree) (g h : List Variable) → IsInstanceOf args g h → (u : Vars) (d : Deriv) → At m.vars t (Converted (IsConversion m.vars)) (Row m (converting (IsConversion m.vars)) e g) u d →
+  pub wanted_typed : (t : Tree) (e : CoreTree) (g h : List Variable) → IsInstanceOf args g h →
+      (u : Vars) (d : Deriv) → At m.vars t (Converted (IsConversion m.vars)) (Row m (converting (IsConversion m.vars)) e g) u d →
       HasType (closed m) h e (instantiated args t)
   wanted_typed t e g h q u d x = part_at t e g h u d (typed e g h q) x

@@ -20,7 +20,8 @@ any_default (x ∷ xs) zero d e h = refl
 any_default (x ∷ xs) (suc i) d e h = any_default xs i d e (omega (arith, h))
 
 -- the end of a place is another one now
-pub changed : (P : EndView → EndView → Type 0) (es mid bag : List EndView) (i : ℕ) (e f : EndView) → i < length es → e ≡ get_or es i e → mid ≡ swap_remove es i e → bag ≡ mid ++ f ∷ [] → P e f →
+pub changed : (P : EndView → EndView → Type 0) (es mid bag : List EndView) (i : ℕ) (e f : EndView) → i < length es →
+    e ≡ get_or es i e → mid ≡ swap_remove es i e → bag ≡ mid ++ f ∷ [] → P e f →
     IsChanged P es i bag
 changed P es mid bag i e f there is gone back by = record {
   before = e;
@@ -32,7 +33,8 @@ changed P es mid bag i e f there is gone back by = record {
   by = by;
 }
 
-pub passed : (P : EndView → EndView → Type 0) (es spent mid bag retired : List EndView) (i : ℕ) (e f : EndView) → i < length es → e ≡ get_or es i e → mid ≡ swap_remove es i e →
+pub passed : (P : EndView → EndView → Type 0) (es spent mid bag retired : List EndView) (i : ℕ) (e f : EndView) → i < length es →
+    e ≡ get_or es i e → mid ≡ swap_remove es i e →
     IsPutBack f mid spent bag retired → P e f → IsPassed P es spent i bag retired
 passed P es spent mid bag retired i e f there is gone put by = record {
   before = e;
@@ -47,29 +49,35 @@ passed P es spent mid bag retired i e f there is gone put by = record {
 -- ---- an end that is looked for
 
 -- one place before those among which it doesn't stand
-pub none_before : (x : EndName) (es : List EndView) (i : ℕ) (e : EndView) → i < length es → e ≡ get_or es i e → counted x e ≡ 0 → count_of x (drop (suc i) es) ≡ 0 → count_of x (drop i es) ≡ 0
+pub none_before : (x : EndName) (es : List EndView) (i : ℕ) (e : EndView) → i < length es → e ≡ get_or es i e → counted x e ≡ 0 →
+    count_of x (drop (suc i) es) ≡ 0 → count_of x (drop i es) ≡ 0
 none_before x es i e there is n rest =
     let d = ap (count_of x) (drop-cons es i e there) in
     let f = count_first x (get_or es i e) (drop (suc i) es) in
     let g = ap (counted x) is in
     omega (arith, d, f, g, n, rest)
 
-pub placed_at : (x : EndName) (es : List EndView) (i : ℕ) (e : EndView) → i < length es → e ≡ get_or es i e → x ≡ end_name e → IsPlaced x es i
+pub placed_at : (x : EndName) (es : List EndView) (i : ℕ) (e : EndView) → i < length es → e ≡ get_or es i e → x ≡ end_name e →
+    IsPlaced x es i
 placed_at x es i e there is same = (there, λ d. ap end_name (any_default es i d e there ∙ sym is) ∙ sym same)
 
 -- ---- ends that are handed over
 
 -- the names up to the next one
-next_names : (names : List EndName) (j : ℕ) (n : EndName) → j < length names → n ≡ get_or names j n → take (j + 1) names ≡ take j names ++ n ∷ []
+next_names : (names : List EndName) (j : ℕ) (n : EndName) → j < length names → n ≡ get_or names j n →
+    take (j + 1) names ≡ take j names ++ n ∷ []
 next_names names j n h is = take_more names j n h ∙ ap (λ (z : EndName). take j names ++ z ∷ []) (sym is)
 
 -- the names among the first and another
-more_moved : (xs : List EndName) (n : EndName) (theirs : List EndView) → All (λ (e : EndView). Contains xs (end_name e)) theirs → All (λ (e : EndView). Contains (xs ++ n ∷ []) (end_name e)) theirs
+more_moved : (xs : List EndName) (n : EndName) (theirs : List EndView) → All (λ (e : EndView). Contains xs (end_name e)) theirs →
+    All (λ (e : EndView). Contains (xs ++ n ∷ []) (end_name e)) theirs
 more_moved xs n theirs h =
-    All-weaker (λ (e : EndView). Contains xs (end_name e)) (λ (e : EndView). Contains (xs ++ n ∷ []) (end_name e)) (λ e c. Contains-append_left xs (n ∷ []) (end_name e) c) theirs h
+    All-weaker (λ (e : EndView). Contains xs (end_name e)) (λ (e : EndView). Contains (xs ++ n ∷ []) (end_name e))
+    (λ e c. Contains-append_left xs (n ∷ []) (end_name e) c) theirs h
 
 -- an end that isn't there
-pub parted_on : (names : List EndName) (j : ℕ) (n : EndName) (bag mine theirs : List EndView) → j < length names → n ≡ get_or names j n → count_of n mine ≡ 0 →
+pub parted_on : (names : List EndName) (j : ℕ) (n : EndName) (bag mine theirs : List EndView) → j < length names →
+    n ≡ get_or names j n → count_of n mine ≡ 0 →
     AreParted (take j names) bag mine theirs → AreParted (take (j + 1) names) bag mine theirs
 parted_on names j n bag mine theirs h is none p =
     subst (λ ns. AreParted ns bag mine theirs) (sym (next_names names j n h is))
@@ -84,8 +92,10 @@ parted_on names j n bag mine theirs h is none p =
     go z (inr q) = subst (λ z. count_of z mine ≡ 0) q none
 
 -- one that is there is handed over
-module _ (names : List EndName) (j : ℕ) (n : EndName) (bag mine theirs : List EndView) (h : j < length names) (is : n ≡ get_or names j n) (p : AreParted (take j names) bag mine theirs)
-    (once : (z : EndName) → count_of z bag ≤ 1) (i : ℕ) (e : EndView) (placed : IsPlaced n mine i) (it : e ≡ get_or mine i e) where
+module _ (names : List EndName) (j : ℕ) (n : EndName) (bag mine theirs : List EndView) (h : j < length names)
+    (is : n ≡ get_or names j n) (p : AreParted (take j names) bag mine theirs)
+    (once : (z : EndName) → count_of z bag ≤ 1) (i : ℕ) (e : EndView) (placed : IsPlaced n mine i)
+    (it : e ≡ get_or mine i e) where
   abbrev rest : List EndView
   rest = swap_remove mine i e
 
@@ -108,8 +118,10 @@ module _ (names : List EndName) (j : ℕ) (n : EndName) (bag mine theirs : List 
   all_there : IsPermutation bag (rest ++ (theirs ++ e ∷ []))
   all_there =
       IsPermutation-trans bag (mine ++ theirs) (rest ++ (theirs ++ e ∷ [])) p.all
-      (IsPermutation-trans (mine ++ theirs) ((e ∷ rest) ++ theirs) (rest ++ (theirs ++ e ∷ [])) (IsPermutation-append_left theirs mine (e ∷ rest) moves)
-      (subst (λ l. IsPermutation (e ∷ (rest ++ theirs)) l) (append_assoc rest theirs (e ∷ [])) (IsPermutation-append_comm (e ∷ []) (rest ++ theirs))))
+      (IsPermutation-trans (mine ++ theirs) ((e ∷ rest) ++ theirs) (rest ++ (theirs ++ e ∷ []))
+      (IsPermutation-append_left theirs mine (e ∷ rest) moves)
+      (subst (λ l. IsPermutation (e ∷ (rest ++ theirs)) l) (append_assoc rest theirs (e ∷ []))
+      (IsPermutation-append_comm (e ∷ []) (rest ++ theirs))))
 
   pub handed_over : AreParted (take (j + 1) names) bag rest (theirs ++ e ∷ [])
   handed_over =
@@ -117,7 +129,8 @@ module _ (names : List EndName) (j : ℕ) (n : EndName) (bag mine theirs : List 
       (record {
         all = all_there;
         gone = λ z c. go z (Contains-push_cases (take j names) n z c);
-        moved = All-push (λ (e : EndView). Contains (take j names ++ n ∷ []) (end_name e)) theirs e (more_moved (take j names) n theirs p.moved)
+        moved = All-push (λ (e : EndView). Contains (take j names ++ n ∷ []) (end_name e)) theirs e
+            (more_moved (take j names) n theirs p.moved)
             (subst (λ z. Contains (take j names ++ n ∷ []) z) (sym named) (Contains-push (take j names) n));
       })
     where
@@ -126,6 +139,7 @@ module _ (names : List EndName) (j : ℕ) (n : EndName) (bag mine theirs : List 
       go z (inr q) = let s = counts z in let o = at_most z in let k = counted_so z e (named ∙ q) in omega (arith, s, o, k)
 
 -- the same lists
-pub parted_same : (names : List EndName) (bag mine mine' theirs theirs' : List EndView) → mine' ≡ mine → theirs' ≡ theirs → AreParted names bag mine theirs → AreParted names bag mine' theirs'
+pub parted_same : (names : List EndName) (bag mine mine' theirs theirs' : List EndView) → mine' ≡ mine → theirs' ≡ theirs →
+    AreParted names bag mine theirs → AreParted names bag mine' theirs'
 parted_same names bag mine mine' theirs theirs' p q h =
     subst (λ b. AreParted names bag b theirs') (sym p) (subst (λ t. AreParted names bag mine t) (sym q) h)

@@ -57,16 +57,19 @@ none_of x (e ∷ es) h =
     let b = none_of x es (All-tail (λ (e : EndView). counted x e ≡ 0) e es h) in
     omega (arith, f, a, b)
 
-here_or : (P : EndView → Type 0) (x : EndName) (e : EndView) → P e → (end_name e ≡ x) ⊎ (counted x e ≡ 0) → (counted x e ≡ 0 → (e : EndView) × (end_name e ≡ x) × P e) →
+here_or : (P : EndView → Type 0) (x : EndName) (e : EndView) → P e → (end_name e ≡ x) ⊎ (counted x e ≡ 0) →
+    (counted x e ≡ 0 → (e : EndView) × (end_name e ≡ x) × P e) →
     (e : EndView) × (end_name e ≡ x) × P e
 here_or P x e p (inl i) more = (e, i, p)
 here_or P x e p (inr i) more = more i
 
 -- an end that stands there
-pub there : (P : EndView → Type 0) (x : EndName) (es : List EndView) → 0 < count_of x es → All P es → (e : EndView) × (end_name e ≡ x) × P e
+pub there : (P : EndView → Type 0) (x : EndName) (es : List EndView) → 0 < count_of x es → All P es → (e : EndView) ×
+    (end_name e ≡ x) × P e
 there P x [] n h = absurd (omega (arith, n))
 there P x (e ∷ es) n h =
-    here_or P x e (All-head P e es h) (or_not x e) (λ i. there P x es (let f = count_first x e es in omega (arith, n, f, i)) (All-tail P e es h))
+    here_or P x e (All-head P e es h) (or_not x e)
+    (λ i. there P x es (let f = count_first x e es in omega (arith, n, f, i)) (All-tail P e es h))
 
 -- ---- residuals
 
@@ -94,41 +97,49 @@ are_permuted r xs ys p h = record {
 }
 
 -- the residual of an end that doesn't stand there doesn't matter
-known_but : (r : Residuals) (x : EndName) (o : Option Tree) (es : List EndView) → count_of x es ≡ 0 → All (Known r) es → All (Known (with_at x o r)) es
+known_but : (r : Residuals) (x : EndName) (o : Option Tree) (es : List EndView) → count_of x es ≡ 0 → All (Known r) es →
+    All (Known (with_at x o r)) es
 known_but r x o [] n h = All-nil (Known (with_at x o r))
 known_but r x o (e ∷ es) n h =
     let f = count_first x e es in
-    All-cons (Known (with_at x o r)) e es (go (at_other x o r (end_name e))) (known_but r x o es (omega (arith, n, f)) (All-tail (Known r) e es h))
+    All-cons (Known (with_at x o r)) e es (go (at_other x o r (end_name e)))
+    (known_but r x o es (omega (arith, n, f)) (All-tail (Known r) e es h))
   where
     go : (end_name e ≡ x) ⊎ (with_at x o r (end_name e) ≡ r (end_name e)) → Known (with_at x o r) e
     go (inl i) = let f = count_first x e es in let c = counted_so x e i in absurd (omega (arith, n, f, c))
     go (inr i) = i ∙ All-head (Known r) e es h
 
 -- with one end more
-pub are_more : (r : Residuals) (f : EndView) (es : List EndView) → AreResiduals es r → count_of (end_name f) es ≡ 0 → AreResiduals (f ∷ es) (with_at (end_name f) (residual_of f.knows) r)
+pub are_more : (r : Residuals) (f : EndView) (es : List EndView) → AreResiduals es r → count_of (end_name f) es ≡ 0 →
+    AreResiduals (f ∷ es) (with_at (end_name f) (residual_of f.knows) r)
 are_more r f es h n = record {
-  known = All-cons (Known (with_at (end_name f) (residual_of f.knows) r)) f es (at_itself (end_name f) (residual_of f.knows) r) (known_but r (end_name f) (residual_of f.knows) es n h.known);
+  known = All-cons (Known (with_at (end_name f) (residual_of f.knows) r)) f es (at_itself (end_name f) (residual_of f.knows) r)
+      (known_but r (end_name f) (residual_of f.knows) es n h.known);
   others = λ x k. go x k (at_other (end_name f) (residual_of f.knows) r x);
 }
   where
-    go : (x : EndName) → count_of x (f ∷ es) ≡ 0 → (x ≡ end_name f) ⊎ (with_at (end_name f) (residual_of f.knows) r x ≡ r x) → with_at (end_name f) (residual_of f.knows) r x ≡ Some skip
+    go : (x : EndName) → count_of x (f ∷ es) ≡ 0 → (x ≡ end_name f) ⊎
+        (with_at (end_name f) (residual_of f.knows) r x ≡ r x) → with_at (end_name f) (residual_of f.knows) r x ≡ Some skip
     go x k (inl i) = let c = count_first x f es in let d = counted_so x f (sym i) in absurd (omega (arith, k, c, d))
     go x k (inr i) = let c = count_first x f es in i ∙ h.others x (omega (arith, k, c))
 
 -- with one end less
-pub are_less : (r : Residuals) (e : EndView) (es : List EndView) → AreResiduals (e ∷ es) r → count_of (end_name e) es ≡ 0 → AreResiduals es (with_at (end_name e) (Some skip) r)
+pub are_less : (r : Residuals) (e : EndView) (es : List EndView) → AreResiduals (e ∷ es) r → count_of (end_name e) es ≡ 0 →
+    AreResiduals es (with_at (end_name e) (Some skip) r)
 are_less r e es h n = record {
   known = known_but r (end_name e) (Some skip) es n (All-tail (Known r) e es h.known);
   others = λ x k. go x k (at_other (end_name e) (Some skip) r x) (or_not x e);
 }
   where
-    go : (x : EndName) → count_of x es ≡ 0 → (x ≡ end_name e) ⊎ (with_at (end_name e) (Some skip) r x ≡ r x) → (end_name e ≡ x) ⊎ (counted x e ≡ 0) → with_at (end_name e) (Some skip) r x ≡ Some skip
+    go : (x : EndName) → count_of x es ≡ 0 → (x ≡ end_name e) ⊎ (with_at (end_name e) (Some skip) r x ≡ r x) → (end_name e ≡ x) ⊎
+        (counted x e ≡ 0) → with_at (end_name e) (Some skip) r x ≡ Some skip
     go x k (inl i) c = ap (with_at (end_name e) (Some skip) r) i ∙ at_itself (end_name e) (Some skip) r
     go x k (inr i) (inl j) = ap (with_at (end_name e) (Some skip) r) (sym j) ∙ at_itself (end_name e) (Some skip) r
     go x k (inr i) (inr j) = let c = count_first x e es in i ∙ h.others x (omega (arith, k, c, j))
 
 -- an end that stands there has something left to do
-pub unspent_in : (r : Residuals) (es : List EndView) → All IsOpen es → AreResiduals es r → (x : EndName) → 0 < count_of x es → IsUnspent r x
+pub unspent_in : (r : Residuals) (es : List EndView) → All IsOpen es → AreResiduals es r →
+    (x : EndName) → 0 < count_of x es → IsUnspent r x
 unspent_in r es o h x n = go (there (λ (e : EndView). IsOpen e × Known r e) x es n (both es o h.known))
   where
     both : (es : List EndView) → All IsOpen es → All (Known r) es → All (λ (e : EndView). IsOpen e × Known r e) es
@@ -138,7 +149,8 @@ unspent_in r es o h x n = go (there (λ (e : EndView). IsOpen e × Known r e) x 
     go (e, i, p) = (p.0.residual, ap r (sym i) ∙ p.1 ∙ p.0.is, p.0.left)
 
 -- an end with something left to do stands there
-pub stands_there : (r : Residuals) (es : List EndView) → AreResiduals es r → (x : EndName) (s : Tree) → r x ≡ Some s → terminated s ≡ false → 0 < count_of x es
+pub stands_there : (r : Residuals) (es : List EndView) → AreResiduals es r →
+    (x : EndName) (s : Tree) → r x ≡ Some s → terminated s ≡ false → 0 < count_of x es
 stands_there r es h x s e f = go (count_of x es) refl
   where
     some_is : {a b : Tree} → Some a ≡ Some b → a ≡ b

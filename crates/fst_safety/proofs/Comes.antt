@@ -44,7 +44,8 @@ module _ (m : Surroundings) (w : IsWellTyped m) (r : Residuals) where
   -- so do the arguments of a constructor
   abbrev pub GoodAll : CoreList → Type 0
   GoodAll es =
-      (n o : ℕ) (done : Values) (env : Environment) (fs : List Frame) (back : Value → Pause) (g : List Variable) (c : Maker) (all ts : List Tree) (d t : Tree) →
+      (n o : ℕ) (done : Values) (env : Environment) (fs : List Frame) (back : Value → Pause) (g : List Variable) (c : Maker)
+      (all ts : List Tree) (d t : Tree) →
       maker_of (slice_get m.families n) o ≡ Some c → AreAt m.types c.fields.items all → FitBefore m r done all ts →
       IsEnv m r g (free_in es) env → HaveTypes m g es ts → Equals (named n) d → Takes m r fs d t → Comes back fs d t →
       Reached m r (eval_all m.families es n o done env fs back) t (λ x. (held_all x done + held_env x env) + held_frames x fs)
@@ -52,35 +53,44 @@ module _ (m : Surroundings) (w : IsWellTyped m) (r : Residuals) where
   -- so does the arm of a label
   abbrev pub GoodArms : CoreArms → Type 0
   GoodArms bs =
-      (l : List ℕ) (vs : Values) (ts : List Tree) (B : Binding) (env : Environment) (fs : List Frame) (back : Value → Pause) (g : List Variable) (p : ℕ → Bool) (b t : Tree) →
-      Contains (arm_labels bs) l → FitAll m r vs ts → ((us : List Tree) → Binds m B l us → us ≡ ts) → IsEnv m r g p env → ((k : ℕ) → free_below bs k ≡ true → p k ≡ true) →
+      (l : List ℕ) (vs : Values) (ts : List Tree) (B : Binding) (env : Environment) (fs : List Frame) (back : Value → Pause)
+      (g : List Variable) (p : ℕ → Bool) (b t : Tree) →
+      Contains (arm_labels bs) l → FitAll m r vs ts → ((us : List Tree) → Binds m B l us → us ≡ ts) → IsEnv m r g p env →
+      ((k : ℕ) → free_below bs k ≡ true → p k ≡ true) →
       ArmsHaveType m B g bs b → AreAlike g p bs → Takes m r fs b t → Comes back fs b t →
       Reached m r (eval_arm m.families bs l vs env fs back) t (λ x. (held_all x vs + held_env x env) + held_frames x fs)
 
   -- with another count that is the same
-  pub counted : (p : Pause) (t : Tree) (n o : EndName → ℕ) → Reached m r p t n → ((x : EndName) → IsUnspent r x → n x ≡ o x) → Reached m r p t o
+  pub counted : (p : Pause) (t : Tree) (n o : EndName → ℕ) → Reached m r p t n →
+      ((x : EndName) → IsUnspent r x → n x ≡ o x) → Reached m r p t o
   counted p t n o h q = (h.0, λ x u. h.1 x u ∙ q x u)
 
   -- what is kept for a part is an environment for it
-  pub part : (g : List Variable) (q p : ℕ → Bool) (env : Environment) → IsEnv m r g q env → ((k : ℕ) → p k ≡ true → q k ≡ true) → IsEnv m r g p (keep p env)
+  pub part : (g : List Variable) (q p : ℕ → Bool) (env : Environment) → IsEnv m r g q env →
+      ((k : ℕ) → p k ≡ true → q k ≡ true) → IsEnv m r g p (keep p env)
   part g q p env i s = (fits_keep m r env p g i.0, exactly_keep env q p i.1 s)
 
   -- for the left one of two parts
-  pub left : (g : List Variable) (p q : ℕ → Bool) (env : Environment) → IsEnv m r g (λ k. p k || q k) env → IsEnv m r g p (keep p env)
+  pub left : (g : List Variable) (p q : ℕ → Bool) (env : Environment) → IsEnv m r g (λ k. p k || q k) env →
+      IsEnv m r g p (keep p env)
   left g p q env i = part g (λ k. p k || q k) p env i (λ k. or_left (p k) (q k))
 
   -- and for the right one
-  pub right : (g : List Variable) (p q : ℕ → Bool) (env : Environment) → IsEnv m r g (λ k. p k || q k) env → IsEnv m r g q (keep q env)
+  pub right : (g : List Variable) (p q : ℕ → Bool) (env : Environment) → IsEnv m r g (λ k. p k || q k) env →
+      IsEnv m r g q (keep q env)
   right g p q env i = part g (λ k. p k || q k) q env i (λ k. or_right (p k) (q k))
 
   -- the unspent ends of both parts, in front of the frames
-  pub shared : (g : List Variable) (p q : ℕ → Bool) (env : Environment) (fs : List Frame) → IsEnv m r g (λ k. p k || q k) env → Apart g p q →
-      (x : EndName) → IsUnspent r x → held_env x (keep p env) + (held_env x (keep q env) + held_frames x fs) ≡ held_env x env + held_frames x fs
+  pub shared : (g : List Variable) (p q : ℕ → Bool) (env : Environment) (fs : List Frame) → IsEnv m r g (λ k. p k || q k) env →
+      Apart g p q →
+      (x : EndName) → IsUnspent r x → held_env x (keep p env) + (held_env x (keep q env) + held_frames x fs) ≡ held_env x env
+      + held_frames x fs
   shared g p q env fs i s x u = let h = held_parts m w r x env g p q u i.0 i.1 s in omega (arith, h)
 
   -- a value of a type that moves is an end
   pub end_next : (v : Value) (a t : Tree) (n : EndName → ℕ) (f : EndName → Pause) → IsMoving a → Fits m r v a →
-      ((y : EndName) → Fits m r (value.end y) a → Reached m r (f y) t (λ x. held x (value.end y) + n x)) → Reached m r (on_end v f) t (λ x. held x v + n x)
+      ((y : EndName) → Fits m r (value.end y) a → Reached m r (f y) t (λ x. held x (value.end y) + n x)) →
+      Reached m r (on_end v f) t (λ x. held x v + n x)
   end_next (value.int i) a t n f h g k = absurd (subst IsMoving (equals_plain g) h)
   end_next (value.bool b) a t n f h g k = absurd (subst IsMoving (equals_plain g) h)
   end_next (value.char c) a t n f h g k = absurd (subst IsMoving (equals_plain g) h)
@@ -91,8 +101,10 @@ module _ (m : Surroundings) (w : IsWellTyped m) (r : Residuals) where
   end_next (value.end y) a t n f h g k = k y g
 
   -- a value of a function type is a function
-  pub function_next : (v : Value) (u : Use) (a c t : Tree) (n : EndName → ℕ) (f : CoreTree → Environment → Pause) → Fits m r v (arrow u a c) →
-      ((e : CoreTree) (env : Environment) → Fits m r (value.function e env) (arrow u a c) → Reached m r (f e env) t (λ x. held_env x env + n x)) →
+  pub function_next : (v : Value) (u : Use) (a c t : Tree) (n : EndName → ℕ) (f : CoreTree → Environment → Pause) →
+      Fits m r v (arrow u a c) →
+      ((e : CoreTree) (env : Environment) → Fits m r (value.function e env) (arrow u a c) → Reached m r (f e env) t
+      (λ x. held_env x env + n x)) →
       Reached m r (on_function v f) t (λ x. held x v + n x)
   function_next (value.int i) u a c t n f g k = plain_arrow g
   function_next (value.bool b) u a c t n f g k = plain_arrow g
@@ -105,7 +117,8 @@ module _ (m : Surroundings) (w : IsWellTyped m) (r : Residuals) where
 
   -- a value of a pair type is a pair
   pub pair_next : (v : Value) (a b t : Tree) (n : EndName → ℕ) (f : Value → Value → Pause) → Fits m r v (type.pair a b) →
-      ((y z : Value) → Fits m r y a → Fits m r z b → Reached m r (f y z) t (λ x. (held x y + held x z) + n x)) → Reached m r (on_pair v f) t (λ x. held x v + n x)
+      ((y z : Value) → Fits m r y a → Fits m r z b → Reached m r (f y z) t (λ x. (held x y + held x z) + n x)) →
+      Reached m r (on_pair v f) t (λ x. held x v + n x)
   pair_next (value.int i) a b t n f g k = plain_pair g
   pair_next (value.bool c) a b t n f g k = plain_pair g
   pair_next (value.char i) a b t n f g k = plain_pair g
@@ -135,4 +148,5 @@ module _ (m : Surroundings) (w : IsWellTyped m) (r : Residuals) where
       ((b : Bool) → Reached m r (f b) t n) → Reached m r (on (bool_in v) f) t (λ x. held x v + n x)
   bool_next v t n f g k =
       let p = bool_value m r v g in
-      subst (λ z. Reached m r (on (bool_in z) f) t (λ x. held x z + n x)) (sym p.1) (counted (f p.0) t n (λ x. 0 + n x) (k p.0) (λ x u. omega arith))
+      subst (λ z. Reached m r (on (bool_in z) f) t (λ x. held x z + n x)) (sym p.1)
+      (counted (f p.0) t n (λ x. 0 + n x) (k p.0) (λ x u. omega arith))

@@ -45,11 +45,16 @@ over_second (Some x) b n e = some_none e
 
 -- an event stays possible, and writes the same, after a write of nothing that it writes
 pub stays : (m : Program) (types : List Tree) (c : Config) (e : CoreEvent) (v w : Write) → Does m types c e w →
-    ((o : Path) → (v.tasks o ≡ None) ⊎ (w.tasks o ≡ None)) → ((h : ChannelName) → (v.channels h ≡ None) ⊎ (w.channels h ≡ None)) → Does m types (written c v) e w
+    ((o : Path) → (v.tasks o ≡ None) ⊎ (w.tasks o ≡ None)) →
+    ((h : ChannelName) → (v.channels h ≡ None) ⊎ (w.channels h ≡ None)) → Does m types (written c v) e w
 stays m types c (Local p) v w d f g = record {
   task = d.task;
   state = d.state;
-  asks = (over_none (v.tasks p) (w.tasks p) (c.tasks p) (f p) (λ e. at_self p _ (sym (ap (λ z. z.tasks p) d.writes) ∙ e)) ∙ d.asks.0, d.asks.1);
+  asks = (
+    over_none (v.tasks p) (w.tasks p) (c.tasks p) (f p) (λ e. at_self p _ (sym (ap (λ z. z.tasks p) d.writes) ∙ e))
+        ∙ d.asks.0,
+    d.asks.1,
+  );
   leads = d.leads;
   writes = d.writes;
 }
@@ -58,7 +63,11 @@ stays m types c (New p) v w d f g = record {
   state = d.state;
   number = d.number;
   declared = d.declared;
-  asks = (over_none (v.tasks p) (w.tasks p) (c.tasks p) (f p) (λ e. at_self p _ (sym (ap (λ z. z.tasks p) d.writes) ∙ e)) ∙ d.asks.0, d.asks.1);
+  asks = (
+    over_none (v.tasks p) (w.tasks p) (c.tasks p) (f p) (λ e. at_self p _ (sym (ap (λ z. z.tasks p) d.writes) ∙ e))
+        ∙ d.asks.0,
+    d.asks.1,
+  );
   typed = d.typed;
   leads = d.leads;
   writes = d.writes;
@@ -68,7 +77,8 @@ stays m types c (Fork p) v w d f g = record {
   state = d.state;
   begun = d.begun;
   asks = (
-    over_none (v.tasks p) (w.tasks p) (c.tasks p) (f p) (λ e. over_second _ _ (at_self p _) (sym (ap (λ z. z.tasks p) d.writes) ∙ e)) ∙ d.asks.0,
+    over_none (v.tasks p) (w.tasks p) (c.tasks p) (f p)
+        (λ e. over_second _ _ (at_self p _) (sym (ap (λ z. z.tasks p) d.writes) ∙ e)) ∙ d.asks.0,
     d.asks.1,
   );
   begins = d.begins;
@@ -84,15 +94,18 @@ stays m types c (Meet p q h) v w d f g = record {
   got = d.got;
   channel = d.channel;
   puts = (
-    over_none (v.tasks p) (w.tasks p) (c.tasks p) (f p) (λ e. over_second _ _ (at_self p _) (sym (ap (λ z. z.tasks p) d.writes) ∙ e)) ∙ d.puts.0,
+    over_none (v.tasks p) (w.tasks p) (c.tasks p) (f p)
+        (λ e. over_second _ _ (at_self p _) (sym (ap (λ z. z.tasks p) d.writes) ∙ e)) ∙ d.puts.0,
     d.puts.1,
   );
   gets = (
-    over_none (v.tasks q) (w.tasks q) (c.tasks q) (f q) (λ e. over_first _ _ (at_self q _) (sym (ap (λ z. z.tasks q) d.writes) ∙ e)) ∙ d.gets.0,
+    over_none (v.tasks q) (w.tasks q) (c.tasks q) (f q)
+        (λ e. over_first _ _ (at_self q _) (sym (ap (λ z. z.tasks q) d.writes) ∙ e)) ∙ d.gets.0,
     d.gets.1,
   );
   named = d.named;
-  there = over_none (v.channels h) (w.channels h) (c.channels h) (g h) (λ e. at_own h _ (sym (ap (λ z. z.channels h) d.writes) ∙ e)) ∙ d.there;
+  there = over_none (v.channels h) (w.channels h) (c.channels h) (g h)
+      (λ e. at_own h _ (sym (ap (λ z. z.channels h) d.writes) ∙ e)) ∙ d.there;
   sender_leads = d.sender_leads;
   receiver_leads = d.receiver_leads;
   writes = d.writes;
@@ -103,7 +116,8 @@ turned_round (inl a) = inr a
 turned_round (inr b) = inl b
 
 -- two different events commute where nothing has gone wrong and names are fresh
-pub commute : (m : Program) (types : List Tree) (c : Config) (a b : CoreEvent) (v w : Write) → IsRegular m c → Does m types c a v → Does m types c b w →
+pub commute : (m : Program) (types : List Tree) (c : Config) (a b : CoreEvent) (v w : Write) → IsRegular m c →
+    Does m types c a v → Does m types c b w →
     (a ≡ b → ⊥) → Commutes m types c a v b w
 commute m types c a b v w hs da db n =
     let f = apart_tasks m types c hs a b v w da db n in

@@ -67,20 +67,31 @@ pair_parts f =
     )
 
 -- what equals a function type is one of the same use with equal parts
-pub equals_arrow : {u : Use} {s r t : Tree} → Equals (arrow u s r) t → (a : Tree) × (b : Tree) × (t ≡ arrow u a b) × Equals s a × Equals r b
+pub equals_arrow : {u : Use} {s r t : Tree} → Equals (arrow u s r) t → (a : Tree) × (b : Tree) ×
+    (t ≡ arrow u a b) × Equals s a × Equals r b
 equals_arrow e =
     let f = equal_function [] e.equal in
     let l = arrow_parts e.left in
-    let r = arrow_parts (subst (IsFormed []) f.is e.right) in
-    (f.domain, f.codomain, f.is, record { left = l.0; right = r.0; equal = f.domains }, record { left = l.1; right = r.1; equal = f.codomains })
+    let r = arrow_parts (subst (IsFormed []) f.is e.right) in (
+      f.domain,
+      f.codomain,
+      f.is,
+      record { left = l.0; right = r.0; equal = f.domains },
+      record { left = l.1; right = r.1; equal = f.codomains },
+    )
 
 -- what equals a pair type is one with equal parts
 pub equals_pair : {s r t : Tree} → Equals (pair s r) t → (a : Tree) × (b : Tree) × (t ≡ pair a b) × Equals s a × Equals r b
 equals_pair e =
     let f = equal_pair [] e.equal in
     let l = pair_parts e.left in
-    let r = pair_parts (subst (IsFormed []) f.is e.right) in
-    (f.first, f.second, f.is, record { left = l.0; right = r.0; equal = f.firsts }, record { left = l.1; right = r.1; equal = f.seconds })
+    let r = pair_parts (subst (IsFormed []) f.is e.right) in (
+      f.first,
+      f.second,
+      f.is,
+      record { left = l.0; right = r.0; equal = f.firsts },
+      record { left = l.1; right = r.1; equal = f.seconds },
+    )
 
 -- what equals a base type is the base type
 pub equals_plain : {b : Base} {t : Tree} → Equals (plain b) t → t ≡ plain b
@@ -103,10 +114,19 @@ pub session_step : (s t : Tree) (a : Label) → IsSession [] s → step s a ≡ 
 session_step s t a h e = subst (λ o. IfSome o (IsSession [])) e (step_session [] s a h)
 
 -- equal session types step by the same labels to equal types
-pub equals_steps : (s r t : Tree) (a : Label) → Equals s r → IsSession [] s → step s a ≡ Some t → (next : Tree) × (step r a ≡ Some next) × Equals t next
+pub equals_steps : (s r t : Tree) (a : Label) → Equals s r → IsSession [] s → step s a ≡ Some t → (next : Tree) ×
+    (step r a ≡ Some next) × Equals t next
 equals_steps s r t a e h q =
-    let f = equal_steps [] e.equal h a t q in
-    (f.next, f.steps, record { left = session_formed (session_step s t a h q); right = session_formed (session_step r f.next a (equals_session e h) f.steps); equal = f.equal })
+    let f = equal_steps [] e.equal h a t q in (
+      f.next,
+      f.steps,
+      record {
+        left = session_formed (session_step s t a h q);
+        right =
+            session_formed (session_step r f.next a (equals_session e h) f.steps);
+        equal = f.equal;
+      },
+    )
 
 -- two function types that are equal have the same use and equal parts
 pub arrows_equal : {u v : Use} {s r a b : Tree} → Equals (arrow u s r) (arrow v a b) → (u ≡ v) × Equals s a × Equals r b
@@ -185,9 +205,11 @@ lively_once (seq s r) u h g o e =
     whole : u ≡ join h.0 h.1
     whole = ap (λ (k : Kind). k.uses) h.4
 
-    pick : (terminated s ≡ false → h.0 ≡ Once) → (IsGuarded r → terminated r ≡ false → h.1 ≡ Once) → (c : Bool) → terminated s ≡ c → u ≡ Once
+    pick : (terminated s ≡ false → h.0 ≡ Once) → (IsGuarded r → terminated r ≡ false → h.1 ≡ Once) →
+        (c : Bool) → terminated s ≡ c → u ≡ Once
     pick front next true is =
-        whole ∙ ap (λ x. join x h.1) (ended_many s h.0 h.2 is) ∙ next (guarded_second s r g is) (sym (ap (λ c. c && terminated r) is) ∙ e)
+        whole ∙ ap (λ x. join x h.1) (ended_many s h.0 h.2 is)
+        ∙ next (guarded_second s r g is) (sym (ap (λ c. c && terminated r) is) ∙ e)
     pick front next false is = whole ∙ ap (λ x. join x h.1) (front is)
 lively_once (rec s) u h g o e = lively_once s u h.0 (guarded_body s o.1 g) o.0 e
 lively_once (back k) u h g o e = absurd (no_variable k g)

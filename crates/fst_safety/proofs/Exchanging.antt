@@ -47,16 +47,22 @@ received_fits m r event.Unit b e = (value.unit, refl, of_base b base.Unit e, λ 
 received_fits m r (event.Label l) b e = absurd (cc e)
 
 -- an end's new residual is a type equal to that after the label, where it stands at a type that moves by the label
-end_next : (m : Surroundings) (r r' : Residuals) (y : EndName) (now next : Tree) (a : Label) → r y ≡ Some now → step now a ≡ Some next → r' y ≡ Some next →
+end_next : (m : Surroundings) (r r' : Residuals) (y : EndName) (now next : Tree) (a : Label) → r y ≡ Some now →
+    step now a ≡ Some next → r' y ≡ Some next →
     (s t d : Tree) → Fits m r (value.end y) s → step s a ≡ Some t → Equals t d → Fits m r' (value.end y) d
 end_next m r r' y now next a before moves later s t d f e q =
     let g = end_moves m r y s t a f e in
     let is : g.0 ≡ now = some_same (sym g.2 ∙ before) in
-    let then_is : g.1 ≡ next = some_same (sym g.3 ∙ ap (λ w. step w a) is ∙ moves) in
-    (next, later, session_step now next a (subst (IsSession []) is g.4) moves, equals_through (equals_back (subst (Equals t) then_is g.5)) q)
+    let then_is : g.1 ≡ next = some_same (sym g.3 ∙ ap (λ w. step w a) is ∙ moves) in (
+      next,
+      later,
+      session_step now next a (subst (IsSession []) is g.4) moves,
+      equals_through (equals_back (subst (Equals t) then_is g.5)) q,
+    )
 
 -- an end's residual moves where a type moves at which the end stands
-end_label : (m : Surroundings) (r : Residuals) (y : EndName) (now : Tree) → r y ≡ Some now → (s t : Tree) (a : Label) → Fits m r (value.end y) s → step s a ≡ Some t →
+end_label : (m : Surroundings) (r : Residuals) (y : EndName) (now : Tree) → r y ≡ Some now →
+    (s t : Tree) (a : Label) → Fits m r (value.end y) s → step s a ≡ Some t →
     (u : Tree) × (step now a ≡ Some u)
 end_label m r y now before s t a f e =
     let g = end_moves m r y s t a f e in
@@ -70,9 +76,11 @@ label_came l event.Unit e = absurd (cc e)
 label_came l (event.Label k) e = (k, refl)
 
 -- the residual of y is first now, and then next
-module _ (m : Surroundings) (well : IsWellTyped m) (r r' : Residuals) (y : EndName) (ev : Event) (now next : Tree) (before : r y ≡ Some now) where
+module _ (m : Surroundings) (well : IsWellTyped m) (r r' : Residuals) (y : EndName) (ev : Event) (now next : Tree)
+    (before : r y ≡ Some now) where
   -- the state of a task that sent
-  pub sent_goes : step now (sending ev) ≡ Some next → r' y ≡ Some next → (fs : List Frame) (t : Tree) → Allowed m r (puts y ev fs) t → Still m r r' (λ z. held_frames z fs) →
+  pub sent_goes : step now (sending ev) ≡ Some next → r' y ≡ Some next →
+      (fs : List Frame) (t : Tree) → Allowed m r (puts y ev fs) t → Still m r r' (λ z. held_frames z fs) →
       Goes m r' (giving (value.end y) fs) t (λ z. held_pause z (puts y ev fs))
   sent_goes moves later fs t a still =
       giving_goes m well r' (value.end y) fs a.4 t
@@ -80,7 +88,8 @@ module _ (m : Surroundings) (well : IsWellTyped m) (r r' : Residuals) (y : EndNa
       (takes_still m r r' fs a.4 t a.6 still)
 
   -- the state of a task that received a value
-  pub received_goes : step now (receiving ev) ≡ Some next → r' y ≡ Some next → (p : Program) (fs : List Frame) (t : Tree) (s : State) → Allowed m r (gets y fs) t →
+  pub received_goes : step now (receiving ev) ≡ Some next → r' y ≡ Some next →
+      (p : Program) (fs : List Frame) (t : Tree) (s : State) → Allowed m r (gets y fs) t →
       Still m r r' (λ z. held_frames z fs) → after p (gets y fs) (Got ev) ≡ Some s → Goes m r' s t (λ z. held_pause z (gets y fs))
   received_goes moves later p fs t s a still e =
       let mine = end_label m r y now before a.1 a.2 (Receive a.0) a.3 a.4 in
@@ -90,14 +99,16 @@ module _ (m : Surroundings) (well : IsWellTyped m) (r r' : Residuals) (y : EndNa
       end_next m r r' y now next (receiving ev) before moves later a.1 a.2 a.2 a.3
       (subst (λ k. step a.1 k ≡ Some a.2) (sym same) a.4)
       (equals_itself a.2 (session_formed (session_step a.1 a.2 (Receive a.0) (equals_session a.3.3 a.3.2) a.4))) in
-      let g = giving_goes m well r' (value.pair v.0 (value.end y)) fs a.5 t (plain a.0, a.2, v.2, f, a.6) (takes_still m r r' fs a.5 t a.7 still) in
+      let g = giving_goes m well r' (value.pair v.0 (value.end y)) fs a.5 t (plain a.0, a.2, v.2, f, a.6)
+      (takes_still m r r' fs a.5 t a.7 still) in
       let is : Some (giving (value.pair v.0 (value.end y)) fs) ≡ Some s =
       ap (λ o. Some (or_lost (option_map (λ v. giving (value.pair v (value.end y)) fs) o))) (sym v.1) ∙ e in
       subst (λ k. Goes m r' k t (λ z. held_pause z (gets y fs))) (some_same is)
       (g.0, λ z u. let n = v.3 z in let q = g.1 z u in omega (arith, n, q))
 
   -- the state of a task that received a label
-  pub chosen_goes : step now (receiving ev) ≡ Some next → r' y ≡ Some next → (p : Program) (bs : CoreArms) (env : Environment) (fs : List Frame) (t : Tree) (s : State) →
+  pub chosen_goes : step now (receiving ev) ≡ Some next → r' y ≡ Some next →
+      (p : Program) (bs : CoreArms) (env : Environment) (fs : List Frame) (t : Tree) (s : State) →
       Allowed m r (matches y bs env fs) t → Still m r r' (λ z. held_env z env + held_frames z fs) →
       after p (matches y bs env fs) (Got ev) ≡ Some s → Goes m r' s t (λ z. held_pause z (matches y bs env fs))
   chosen_goes moves later p bs env fs t s a still e =
@@ -108,10 +119,17 @@ module _ (m : Surroundings) (well : IsWellTyped m) (r r' : Residuals) (y : EndNa
       let by : step now (Offer c.0) ≡ Some next = subst (λ ev'. step now (receiving ev') ≡ Some next) c.1 moves in
       let was : a.4.0 ≡ now = some_same (sym a.4.1 ∙ before) in
       let n = equals_steps now a.0 next (Offer c.0) (subst (λ w. Equals w a.0) was a.4.3) (subst (IsSession []) was a.4.2) by in
-      let f : Fits m r' (value.end y) n.0 = (next, later, session_step now next (Offer c.0) (subst (IsSession []) was a.4.2) by, n.2) in
+      let f : Fits m r' (value.end y) n.0 = (
+        next,
+        later,
+        session_step now next (Offer c.0) (subst (IsSession []) was a.4.2) by,
+        n.2,
+      ) in
       let g = match_goes m well r' y bs c.0 a.1 env fs a.0 n.0 a.2 t a.3 f a.5 a.6 n.1
-      (env_still m r r' a.3 _ env a.7 (less m r r' (λ z. held_env z env + held_frames z fs) (λ z. held_env z env) still (λ z q. omega (arith, q))))
+      (env_still m r r' a.3 _ env a.7 (less m r r' (λ z. held_env z env + held_frames z fs) (λ z. held_env z env) still
+      (λ z q. omega (arith, q))))
       a.8 a.9
-      (takes_still m r r' fs a.2 t a.10 (less m r r' (λ z. held_env z env + held_frames z fs) (λ z. held_frames z fs) still (λ z q. omega (arith, q)))) in
+      (takes_still m r r' fs a.2 t a.10 (less m r r' (λ z. held_env z env + held_frames z fs) (λ z. held_frames z fs) still
+      (λ z q. omega (arith, q)))) in
       let is : Some (arm_state bs c.0 y env fs) ≡ Some s = ap (λ ev'. after p (matches y bs env fs) (Got ev')) (sym c.1) ∙ e in
       subst (λ k. Goes m r' k t (λ z. held_pause z (matches y bs env fs))) (some_same is) g

@@ -22,24 +22,31 @@ use Rattle.fst_safety.proofs.Settles.{pause_goes}
 
 -- what a fork makes of a state: two typed ones that share its unspent ends
 abbrev pub Parts : Surroundings → Residuals → Tree → (EndName → ℕ) → State → State → Type 0
-Parts m r a n s k = IsTyped m r s a × ((b : Tree) × IsTyped m r k b) × ((z : EndName) → IsUnspent r z → held_state z s + held_state z k ≡ n z)
+Parts m r a n s k = IsTyped m r s a × ((b : Tree) × IsTyped m r k b) ×
+    ((z : EndName) → IsUnspent r z → held_state z s + held_state z k ≡ n z)
 
 -- a fork makes two such states
-pub fork_parts : (m : Surroundings) (well : IsWellTyped m) (r : Residuals) (w : Program) (p : Pause) (a : Tree) (n : EndName → ℕ) (s k : State) →
+pub fork_parts : (m : Surroundings) (well : IsWellTyped m) (r : Residuals) (w : Program) (p : Pause) (a : Tree) (n : EndName → ℕ)
+    (s k : State) →
     Reached m r p a n → child p ≡ Some k → after w p Forked ≡ Some s → Parts m r a n s k
-fork_parts m well r w p a n s k h e f = (fork_pause (λ p. Reached m r p a n → after w p Forked ≡ Some s → Parts m r a n s k) p k e go) h f
+fork_parts m well r w p a n s k h e f = (fork_pause
+    (λ p. Reached m r p a n → after w p Forked ≡ Some s → Parts m r a n s k) p k e go) h f
   where
-    go : (b : CoreTree) (env : Environment) (fs : List Frame) → record { term = b; environment = env; frames = [] } ≡ k → Reached m r (forks b env fs) a n →
+    go : (b : CoreTree) (env : Environment) (fs : List Frame) → record { term = b; environment = env; frames = [] } ≡ k →
+        Reached m r (forks b env fs) a n →
         after w (forks b env fs) Forked ≡ Some s → Parts m r a n s k
     go b env fs q h f =
         let c = child_goes m well r b env fs a h.0 in
         let o = parent_goes m well r b env fs a h.0 in
-        subst (λ k. Parts m r a n s k) q (subst (λ s. Parts m r a n s (record { term = b; environment = env; frames = [] })) (some_same f)
+        subst (λ k. Parts m r a n s k) q (subst (λ s. Parts m r a n s (record { term = b; environment = env; frames = [] }))
+        (some_same f)
         (o.0, (c.0, c.1.0), λ z u. let x = o.1 z u in let y = c.1.1 z u in let w = h.1 z u in omega (arith, x, y, w)))
 
 -- all that is about a fork; i and j are the clocks of both tasks after it
-module _ (m : Surroundings) (well : IsWellTyped m) (a : Tree) (c : Config) (p : Path) (t : Task) (s k : State) (i j : ℕ) (hs : IsSound m a c)
-    (ep : c.tasks p ≡ Some t) (ch : child (pause m.families t.state) ≡ Some k) (an : answered (program_in m) t.state Forked ≡ Some s) where
+module _ (m : Surroundings) (well : IsWellTyped m) (a : Tree) (c : Config) (p : Path) (t : Task) (s k : State) (i j : ℕ)
+    (hs : IsSound m a c)
+    (ep : c.tasks p ≡ Some t) (ch : child (pause m.families t.state) ≡ Some k)
+    (an : answered (program_in m) t.state Forked ≡ Some s) where
   abbrev r : Residuals
   r = residual_in c
 
@@ -59,7 +66,8 @@ module _ (m : Surroundings) (well : IsWellTyped m) (a : Tree) (c : Config) (p : 
   A = (hs.tasks p t ep).0
 
   parts : Parts m r A (λ z. held_state z t.state) s k
-  parts = fork_parts m well r (program_in m) (pause m.families t.state) A (λ z. held_state z t.state) s k (pause_goes m well r t.state A (hs.tasks p t ep).1) ch an
+  parts = fork_parts m well r (program_in m) (pause m.families t.state) A
+      (λ z. held_state z t.state) s k (pause_goes m well r t.state A (hs.tasks p t ep).1) ch an
 
   no_task : c.tasks q ≡ None
   no_task = fork_free c p t hs.parents ep
@@ -73,7 +81,8 @@ module _ (m : Surroundings) (well : IsWellTyped m) (a : Tree) (c : Config) (p : 
   else_now : (o : Path) → same_path p o ≡ false → same_path q o ≡ false → d.tasks o ≡ c.tasks o
   else_now o e f = ap (λ b. put b tk (put (same_path p o) tp (c.tasks o))) f ∙ ap (λ b. put b tp (c.tasks o)) e
 
-  outside : (z : EndName) (n : (o : Path) → same_path p o ≡ false → amount z (c.tasks o) ≡ 0) (o : Path) → same_path p o ≡ false → same_path q o ≡ false → amount z (d.tasks o) ≡ 0
+  outside : (z : EndName) (n : (o : Path) → same_path p o ≡ false → amount z (c.tasks o) ≡ 0) (o : Path) → same_path p o ≡ false →
+      same_path q o ≡ false → amount z (d.tasks o) ≡ 0
   outside z n o e f = ap (λ w. amount z w) (else_now o e f) ∙ n o e
 
   share_out : (x y : ℕ) → x + y ≡ 1 → ((x ≡ 1) × (y ≡ 0)) ⊎ ((x ≡ 0) × (y ≡ 1))
@@ -110,10 +119,15 @@ module _ (m : Surroundings) (well : IsWellTyped m) (a : Tree) (c : Config) (p : 
 
   -- what it didn't hold, neither does
   owned_else : (z : EndName) → IsUnspent r z → (o : IsOwned c z) → same_path o.0 p ≡ false → IsOwned d z
-  owned_else z u o e = (o.0, stays (same_path p o.0) refl (same_path q o.0) refl, λ x f. others x f (same_path p x) refl (same_path q x) refl)
+  owned_else z u o e = (
+    o.0,
+    stays (same_path p o.0) refl (same_path q o.0) refl,
+    λ x f. others x f (same_path p x) refl (same_path q x) refl,
+  )
     where
       n : (held_state z s ≡ 0) × (held_state z k ≡ 0)
-      n = zero_both (held_state z s) (held_state z k) (held_state z t.state) (parts.2 z u) (sym (ap (λ w. amount z w) ep) ∙ o.2 p e)
+      n = zero_both (held_state z s) (held_state z k) (held_state z t.state) (parts.2 z u)
+          (sym (ap (λ w. amount z w) ep) ∙ o.2 p e)
 
       not_p : same_path p o.0 ≡ true → ⊥
       not_p h =
@@ -122,10 +136,12 @@ module _ (m : Surroundings) (well : IsWellTyped m) (a : Tree) (c : Config) (p : 
 
       stays : (x : Bool) → same_path p o.0 ≡ x → (b : Bool) → same_path q o.0 ≡ b → amount z (d.tasks o.0) ≡ 1
       stays true h b h' = absurd (not_p h)
-      stays false h true h' = absurd (zero_one (sym (ap (λ w. amount z w) (ap c.tasks (sym (same_path-same q o.0 h')) ∙ no_task)) ∙ o.1))
+      stays false h true h' = absurd (zero_one (sym (ap (λ w. amount z w) (ap c.tasks (sym (same_path-same q o.0 h')) ∙ no_task))
+          ∙ o.1))
       stays false h false h' = ap (λ w. amount z w) (else_now o.0 h h') ∙ o.1
 
-      others : (x : Path) → same_path o.0 x ≡ false → (y : Bool) → same_path p x ≡ y → (b : Bool) → same_path q x ≡ b → amount z (d.tasks x) ≡ 0
+      others : (x : Path) → same_path o.0 x ≡ false → (y : Bool) → same_path p x ≡ y →
+          (b : Bool) → same_path q x ≡ b → amount z (d.tasks x) ≡ 0
       others x f true h b h' = ap (λ w. amount z w) (ap d.tasks (sym (same_path-same p x h)) ∙ p_now) ∙ n.0
       others x f false h true h' = ap (λ w. amount z w) (ap d.tasks (sym (same_path-same q x h')) ∙ q_now) ∙ n.1
       others x f false h false h' = ap (λ w. amount z w) (else_now x h h') ∙ o.2 x f
@@ -141,7 +157,11 @@ module _ (m : Surroundings) (well : IsWellTyped m) (a : Tree) (c : Config) (p : 
   pub forked : IsSound m a d
   forked = record {
     tasks = λ o w e. in_put (same_path q o) tk w (put (same_path p o) tp (c.tasks o))
-        (λ f g. (parts.1.0, subst (λ z. IsTyped m r z.state parts.1.0) g parts.1.1, λ h. absurd (no_parent p t.forked (same_path-same q o f ∙ h))))
+        (λ f g. (
+          parts.1.0,
+          subst (λ z. IsTyped m r z.state parts.1.0) g parts.1.1,
+          λ h. absurd (no_parent p t.forked (same_path-same q o f ∙ h)),
+        ))
         (λ f g. in_put (same_path p o) tp w (c.tasks o)
         (λ f' g'. (A, subst (λ z. IsTyped m r z.state A) g' parts.0, λ h. (hs.tasks p t ep).2 (same_path-same p o f' ∙ h)))
         (λ f' g'. hs.tasks o w g') g) e;

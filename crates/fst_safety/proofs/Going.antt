@@ -59,7 +59,8 @@ then_more : (o : Option Tree) (h : List Entry) (e : Entry) → then_all o (h ++ 
 then_more o [] e = refl
 then_more o (d ∷ h) e = then_more (then_after o d.event) h e
 
-parts_more : (n : EndName) (o : Option Tree) (h : List Entry) (e : Entry) → parts_in n o (h ++ e ∷ []) ≡ parts_in n o h ++ part_in n (sends (then_all o h) e.event) e ∷ []
+parts_more : (n : EndName) (o : Option Tree) (h : List Entry) (e : Entry) →
+    parts_in n o (h ++ e ∷ []) ≡ parts_in n o h ++ part_in n (sends (then_all o h) e.event) e ∷ []
 parts_more n o [] e = refl
 parts_more n o (d ∷ h) e = ap (λ (l : List Exchange). part_in n (sends o d.event) d ∷ l) (parts_more n (then_after o d.event) h e)
 
@@ -68,17 +69,20 @@ unfolding residual
 known_is e = then_is (Some (side_type e.knows.side e.knows.declared)) e.knows.history
 
 -- the residual with one entry more
-longer_residual : (e : EndView) (k : ℕ) (x : Entry) (now next : Tree) → residual_of e.knows ≡ Some now → after_event now x.event ≡ Some next → residual_of (end_with e (longer e.knows k x)).knows ≡ Some next
+longer_residual : (e : EndView) (k : ℕ) (x : Entry) (now next : Tree) → residual_of e.knows ≡ Some now →
+    after_event now x.event ≡ Some next → residual_of (end_with e (longer e.knows k x)).knows ≡ Some next
 longer_residual e k x now next q h =
     let o = Some (side_type e.knows.side e.knows.declared) in
-    known_is (end_with e (longer e.knows k x)) ∙ then_more o e.knows.history x ∙ ap (λ t. then_after t x.event) (sym (known_is e) ∙ q) ∙ h
+    known_is (end_with e (longer e.knows k x)) ∙ then_more o e.knows.history x ∙ ap
+    (λ t. then_after t x.event) (sym (known_is e) ∙ q) ∙ h
 
 -- what an end shows with one entry more
 pub longer_shown : (w : Exchange → ℕ) (e : EndView) (k : ℕ) (x : Entry) (b : Bool) → sends (residual_of e.knows) x.event ≡ b →
     by_exchanges w (end_with e (longer e.knows k x)) ≡ by_exchanges w e + w (part_in (end_name e) b x)
 longer_shown w e k x b h =
     let o = Some (side_type e.knows.side e.knows.declared) in
-    ap (sum_by w) (parts_more (end_name e) o e.knows.history x) ∙ sum_by_push w (shown e) (part_in (end_name e) (sends (then_all o e.knows.history) x.event) x)
+    ap (sum_by w) (parts_more (end_name e) o e.knows.history x)
+    ∙ sum_by_push w (shown e) (part_in (end_name e) (sends (then_all o e.knows.history) x.event) x)
     ∙ ap (λ (b : Bool). by_exchanges w e + w (part_in (end_name e) b x)) (ap (λ t. sends t x.event) (sym (known_is e)) ∙ h)
 
 sends_it : (t u : Tree) (ev : Event) → step t (sending ev) ≡ Some u → sends (Some t) ev ≡ true
@@ -89,19 +93,22 @@ sends_not : (t u : Tree) (ev : Event) → step t (receiving ev) ≡ Some u → s
 unfolding sends
 sends_not t u ev e = ap is_some (not_both t u ev e)
 
-receives_it : (o : Option Tree) (ev : Event) → receives o ev ≡ true → (t : Tree) × (u : Tree) × (o ≡ Some t) × (step t (receiving ev) ≡ Some u)
+receives_it : (o : Option Tree) (ev : Event) → receives o ev ≡ true → (t : Tree) × (u : Tree) × (o ≡ Some t) ×
+    (step t (receiving ev) ≡ Some u)
 unfolding receives
 receives_it None ev e = absurd (cc e)
 receives_it (Some t) ev e = there (step t (receiving ev)) refl e
   where
-    there : (o : Option Tree) → step t (receiving ev) ≡ o → is_some o ≡ true → (t' : Tree) × (u : Tree) × (Some t ≡ Some t') × (step t' (receiving ev) ≡ Some u)
+    there : (o : Option Tree) → step t (receiving ev) ≡ o → is_some o ≡ true → (t' : Tree) × (u : Tree) × (Some t ≡ Some t') ×
+        (step t' (receiving ev) ≡ Some u)
     there None q h = absurd (cc h)
     there (Some u) q h = (t, u, refl, q)
 
 -- ---- exchanges
 
 -- the end e has the entry taken more, which its task sent or received
-module _ (m : Surroundings) (well : IsWellTyped m) (a : Tree) (x : Thread) (fits : FitsIn m a x) (e : EndView) (k : ℕ) (taken : Entry) (s : State) (bag retired : List EndView)
+module _ (m : Surroundings) (well : IsWellTyped m) (a : Tree) (x : Thread) (fits : FitsIn m a x) (e : EndView) (k : ℕ)
+    (taken : Entry) (s : State) (bag retired : List EndView)
     (moved : IsMoved x e (end_with e (longer e.knows k taken)) bag retired) (late : x.now.clock < taken.stamp) where
   abbrev n : EndName
   n = end_name e
@@ -110,7 +117,8 @@ module _ (m : Surroundings) (well : IsWellTyped m) (a : Tree) (x : Thread) (fits
   f = end_with e (longer e.knows k taken)
 
   e_fits : FitsEnd m x.now e
-  e_fits = All-head (FitsEnd m x.now) e moved.rest (All-permutation (FitsEnd m x.now) x.bag (e ∷ moved.rest) moved.before fits.ends)
+  e_fits = All-head (FitsEnd m x.now) e moved.rest
+      (All-permutation (FitsEnd m x.now) x.bag (e ∷ moved.rest) moved.before fits.ends)
 
   e_known : fits.typed.residuals n ≡ residual_of e.knows
   e_known =
@@ -120,7 +128,8 @@ module _ (m : Surroundings) (well : IsWellTyped m) (a : Tree) (x : Thread) (fits
   past : IsPast taken.stamp f
   past = rise_more 0 e.knows.history x.now.clock taken e_fits.past late
 
-  module _ (asks : machine.request m.families x.now.state ≡ Some (request.Put n taken.event)) (told : answered (program_in m) x.now.state Sent ≡ Some s) (sent : taken.sent ≡ x.now.clock) where
+  module _ (asks : machine.request m.families x.now.state ≡ Some (request.Put n taken.event))
+      (told : answered (program_in m) x.now.state Sent ≡ Some s) (sent : taken.sent ≡ x.now.clock) where
     abbrev g : LogEntry
     g = record { asked = request.Put n taken.event; answer = Sent; stamp = taken.stamp }
 
@@ -132,7 +141,8 @@ module _ (m : Surroundings) (well : IsWellTyped m) (a : Tree) (x : Thread) (fits
 
     allowed : IsAllowed fits.typed.residuals (request.Put n taken.event)
     allowed =
-        let p = allowed_right m fits.typed.residuals (pause m.families x.now.state) fits.typed.type (pause_goes m well fits.typed.residuals x.now.state fits.typed.type fits.typed.typed).0 in
+        let p = allowed_right m fits.typed.residuals (pause m.families x.now.state) fits.typed.type
+        (pause_goes m well fits.typed.residuals x.now.state fits.typed.type fits.typed.typed).0 in
         subst (IsAllowed fits.typed.residuals) (some_same (sym p.1 ∙ asks)) p.2
 
     was : residual_of e.knows ≡ Some allowed.0
@@ -143,26 +153,36 @@ module _ (m : Surroundings) (well : IsWellTyped m) (a : Tree) (x : Thread) (fits
 
     pub sent_on : GoesOnTo m a x (with_entry m x (request.Put n taken.event) Sent taken.stamp bag retired) []
     sent_on =
-        let once = held_once m a x fits g enters n e f bag retired moved refl refl allowed.0 allowed.1 was is refl past refl refl in
-        let goes = λ (t : Tree) (q q' : Residuals) (h : Exchanges m a x fits g enters n e f bag retired moved refl refl allowed.0 allowed.1 was is refl past refl refl q q') (ty : IsTyped m q x.now.state t).
+        let once = held_once m a x fits g enters n e f bag retired moved refl refl allowed.0 allowed.1 was is refl past refl
+        refl in
+        let goes = λ (t : Tree) (q q' : Residuals) (h : Exchanges m a x fits g enters n e f bag retired moved refl refl allowed.0
+        allowed.1 was is refl past refl refl q q') (ty : IsTyped m q x.now.state t).
         sent_typed m well n taken.event allowed.0 allowed.1 x.now.state (after_entry (program_in m) x.now g).state t once q q'
         (record { before = h.before; later = h.later; others = h.others }) allowed.3 ty asks there in
-        let first = exchanged_residuals m a x fits g enters n e f bag retired moved refl refl allowed.0 allowed.1 was is refl past refl refl in
+        let first = exchanged_residuals m a x fits g enters n e f bag retired moved refl refl allowed.0 allowed.1 was is refl past
+        refl refl in
         let holds = λ (z : EndName) (c : held_state z x.now.state ≡ 0).
-        sent_holds m well n taken.event allowed.0 allowed.1 x.now.state (after_entry (program_in m) x.now g).state fits.typed.type once fits.typed.residuals _
-        (record { before = first.before; later = first.later; others = first.others }) allowed.3 fits.typed.typed asks there z c in
+        sent_holds m well n taken.event allowed.0 allowed.1 x.now.state
+        (after_entry (program_in m) x.now g).state fits.typed.type once fits.typed.residuals _
+        (record { before = first.before; later = first.later; others = first.others }) allowed.3 fits.typed.typed asks there z
+        c in
         record {
-          fits = exchanged_fits m a x fits g enters n e f bag retired moved refl refl allowed.0 allowed.1 was is refl past refl refl goes holds;
+          fits = exchanged_fits m a x fits g enters n e f bag retired moved refl refl allowed.0 allowed.1 was is refl past refl
+              refl goes holds;
           new_fit = All-nil (FitsIn m a);
-          turn = exchanged_turn m a x fits g enters n e f bag retired moved refl refl allowed.0 allowed.1 was is refl past refl refl goes holds refl refl refl refl refl refl
+          turn = exchanged_turn m a x fits g enters n e f bag retired moved refl refl allowed.0 allowed.1 was is refl past refl
+              refl goes holds refl refl refl refl refl refl
               (λ w.
-              let p = longer_shown w e k taken true (ap (λ o. sends o taken.event) was ∙ sends_it allowed.0 allowed.1 taken.event allowed.3) in
-              let q : w (part_in n true taken) ≡ w (record { end = n; sends = true; event = taken.event; stamp = taken.stamp; clock = x.now.clock }) =
+              let p = longer_shown w e k taken true (ap (λ o. sends o taken.event) was
+              ∙ sends_it allowed.0 allowed.1 taken.event allowed.3) in
+              let q : w (part_in n true taken) ≡ w (record
+              { end = n; sends = true; event = taken.event; stamp = taken.stamp; clock = x.now.clock }) =
               λ i. w (record { end = n; sends = true; event = taken.event; stamp = taken.stamp; clock = sent i }) in
               omega (arith, p, q));
         }
 
-  module _ (asks : machine.request m.families x.now.state ≡ Some (request.Get n)) (told : answered (program_in m) x.now.state (Got taken.event) ≡ Some s)
+  module _ (asks : machine.request m.families x.now.state ≡ Some (request.Get n))
+      (told : answered (program_in m) x.now.state (Got taken.event) ≡ Some s)
       (may : receives (residual_of e.knows) taken.event ≡ true) (got : taken.got ≡ x.now.clock) where
     abbrev taking : LogEntry
     taking = record { asked = request.Get n; answer = Got taken.event; stamp = taken.stamp }
@@ -181,21 +201,30 @@ module _ (m : Surroundings) (well : IsWellTyped m) (a : Tree) (x : Thread) (fits
 
     pub got_on : GoesOnTo m a x (with_entry m x (request.Get n) (Got taken.event) taken.stamp bag retired) []
     got_on =
-        let once = held_once m a x fits taking enters_taking n e f bag retired moved refl refl by.0 by.1 by.2 is_then refl past refl refl in
-        let goes = λ (t : Tree) (q q' : Residuals) (h : Exchanges m a x fits taking enters_taking n e f bag retired moved refl refl by.0 by.1 by.2 is_then refl past refl refl q q') (ty : IsTyped m q x.now.state t).
+        let once = held_once m a x fits taking enters_taking n e f bag retired moved refl refl by.0 by.1 by.2 is_then refl past
+        refl refl in
+        let goes = λ (t : Tree) (q q' : Residuals) (h : Exchanges m a x fits taking enters_taking n e f bag retired moved refl
+        refl by.0 by.1 by.2 is_then refl past refl refl q q') (ty : IsTyped m q x.now.state t).
         got_typed m well n taken.event by.0 by.1 x.now.state (after_entry (program_in m) x.now taking).state t once q q'
         (record { before = h.before; later = h.later; others = h.others }) by.3 ty asks there_taking in
-        let first = exchanged_residuals m a x fits taking enters_taking n e f bag retired moved refl refl by.0 by.1 by.2 is_then refl past refl refl in
+        let first = exchanged_residuals m a x fits taking enters_taking n e f bag retired moved refl refl by.0 by.1 by.2 is_then
+        refl past refl refl in
         let holds = λ (z : EndName) (c : held_state z x.now.state ≡ 0).
-        got_holds m well n taken.event by.0 by.1 x.now.state (after_entry (program_in m) x.now taking).state fits.typed.type once fits.typed.residuals _
-        (record { before = first.before; later = first.later; others = first.others }) by.3 fits.typed.typed asks there_taking z c in
+        got_holds m well n taken.event by.0 by.1 x.now.state
+        (after_entry (program_in m) x.now taking).state fits.typed.type once fits.typed.residuals _
+        (record { before = first.before; later = first.later; others = first.others }) by.3 fits.typed.typed asks there_taking z
+        c in
         record {
-          fits = exchanged_fits m a x fits taking enters_taking n e f bag retired moved refl refl by.0 by.1 by.2 is_then refl past refl refl goes holds;
+          fits = exchanged_fits m a x fits taking enters_taking n e f bag retired moved refl refl by.0 by.1 by.2 is_then refl past
+              refl refl goes holds;
           new_fit = All-nil (FitsIn m a);
-          turn = exchanged_turn m a x fits taking enters_taking n e f bag retired moved refl refl by.0 by.1 by.2 is_then refl past refl refl goes holds refl refl refl refl refl refl
+          turn = exchanged_turn m a x fits taking enters_taking n e f bag retired moved refl refl by.0 by.1 by.2 is_then refl past
+              refl refl goes holds refl refl refl refl refl refl
               (λ w.
-              let p = longer_shown w e k taken false (ap (λ o. sends o taken.event) by.2 ∙ sends_not by.0 by.1 taken.event by.3) in
-              let q : w (part_in n false taken) ≡ w (record { end = n; sends = false; event = taken.event; stamp = taken.stamp; clock = x.now.clock }) =
+              let p = longer_shown w e k taken false (ap (λ o. sends o taken.event) by.2
+              ∙ sends_not by.0 by.1 taken.event by.3) in
+              let q : w (part_in n false taken) ≡ w (record
+              { end = n; sends = false; event = taken.event; stamp = taken.stamp; clock = x.now.clock }) =
               λ i. w (record { end = n; sends = false; event = taken.event; stamp = taken.stamp; clock = got i }) in
               omega (arith, p, q));
         }
@@ -225,7 +254,9 @@ forks_on m ds h a x fits b s names mine theirs asks ch told all gone moved are =
     let w = checked m ds h in
     record {
       fits = forked_fits (surroundings m []) w a x fits asks b ch s told names mine theirs all gone moved are;
-      new_fit = All-cons (FitsIn (surroundings m []) a) _ [] (begun_fits (surroundings m []) w a x fits asks b ch s told names mine theirs all gone moved are) (All-nil (FitsIn (surroundings m []) a));
+      new_fit = All-cons (FitsIn (surroundings m []) a) _ []
+          (begun_fits (surroundings m []) w a x fits asks b ch s told names mine theirs all gone moved are)
+          (All-nil (FitsIn (surroundings m []) a));
       turn = forked_turn (surroundings m []) w a x fits asks b ch s told names mine theirs all gone moved are;
     }
 

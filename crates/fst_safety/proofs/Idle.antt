@@ -37,12 +37,17 @@ end_same x y h =
     let p = and_parts (same_channel x.channel y.channel) (same_side x.side y.side) h in
     let q = and_parts (bytes_eq x.channel.maker y.channel.maker) (nat_eq x.channel.count y.channel.count) p.0 in
     λ i. record {
-      channel = record { maker = same_text x.channel.maker y.channel.maker q.0 i; count = eqb-true x.channel.count y.channel.count q.1 i };
+      channel = record {
+        maker = same_text x.channel.maker y.channel.maker q.0 i;
+        count =
+            eqb-true x.channel.count y.channel.count q.1 i;
+      };
       side = side_same x.side y.side p.1 i;
     }
 
 module _ (m : Surroundings) (w : IsWellTyped m) (r : Residuals) where
-  spent_elsewhere : (x y : EndName) (s : Tree) (b : Bool) → same_end x y ≡ b → IsUnspent r x → r y ≡ Some s → terminated s ≡ true → once b ≡ 0
+  spent_elsewhere : (x y : EndName) (s : Tree) (b : Bool) → same_end x y ≡ b → IsUnspent r x → r y ≡ Some s →
+      terminated s ≡ true → once b ≡ 0
   spent_elsewhere x y s false e h q t = refl
   spent_elsewhere x y s true e h q t =
       absurd (true≢false (sym t ∙ ap terminated (some_same (sym q ∙ ap r (sym (end_same x y e)) ∙ h.1)) ∙ h.2))
@@ -62,10 +67,12 @@ module _ (m : Surroundings) (w : IsWellTyped m) (r : Residuals) where
     idle x (value.made n o vs) t h f u = idle_all x vs f.1 h f.4 (w.fields n o f.0 f.1 f.2 f.3)
     idle x (value.function e env) t h f u =
         idle_env x env f.0 (outside (free e)) h f.4 f.5 (f.9 (sym (arrow_use (equals_use u (equals_back f.10)))))
-    idle x (value.end y) t h f u = spent_elsewhere x y f.0 (same_end x y) refl h f.1 (copied_ended f.0 f.2 (equals_use u (equals_back f.3)))
+    idle x (value.end y) t h f u = spent_elsewhere x y f.0 (same_end x y) refl h f.1
+        (copied_ended f.0 f.2 (equals_use u (equals_back f.3)))
 
     -- nor do fields of constructors
-    pub idle_all : (x : EndName) (vs : Values) (ts : List Tree) → IsUnspent r x → FitAll m r vs ts → AllByRecursion IsFieldType ts → held_all x vs ≡ 0
+    pub idle_all : (x : EndName) (vs : Values) (ts : List Tree) → IsUnspent r x → FitAll m r vs ts →
+        AllByRecursion IsFieldType ts → held_all x vs ≡ 0
     idle_all x no_values ts h f p = refl
     idle_all x (value.value v vs) [] h f p = absurd f
     idle_all x (value.value v vs) (t ∷ ts) h f p =
@@ -74,7 +81,8 @@ module _ (m : Surroundings) (w : IsWellTyped m) (r : Residuals) where
         omega (arith, a, b)
 
     -- nor does an environment for variables that may be copied
-    pub idle_env : (x : EndName) (env : Environment) (g : List Variable) (p : ℕ → Bool) → IsUnspent r x → FitsEnv m r env g → Exactly p env → Plentiful g p → held_env x env ≡ 0
+    pub idle_env : (x : EndName) (env : Environment) (g : List Variable) (p : ℕ → Bool) → IsUnspent r x → FitsEnv m r env g →
+        Exactly p env → Plentiful g p → held_env x env ≡ 0
     idle_env x none g p h f s l = refl
     idle_env x (hole env) [] p h f s l = absurd f
     idle_env x (hole env) (y ∷ g) p h f s l = idle_env x env g (outside p) h f (λ k. s (suc k)) (λ k. l (suc k))

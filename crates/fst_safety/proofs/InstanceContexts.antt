@@ -43,29 +43,35 @@ use_falls Once Many e o = absurd (cc e)
 use_falls Once Once e o = refl
 
 -- a type that has a use has a closed instance
-pub has_instance : (vars : List Kind) (args : List Tree) (t : Tree) (n : Use) → IsInstantiation [] vars args → HasUse vars t n → HasInstance args t n
+pub has_instance : (vars : List Kind) (args : List Tree) (t : Tree) (n : Use) → IsInstantiation [] vars args → HasUse vars t n →
+    HasInstance args t n
 has_instance vars args t n i w =
     let r = instantiated_well_formed [] vars args t w.kind i w.formed in
     record {
       uses = r.kind.uses;
       variable = record { kind = r.kind; formed = r.well_formed; is = refl };
-      falls = λ o. ap is_once (sym w.is) ∙ use_falls r.kind.uses w.kind.uses (and_parts (prekind_below r.kind.prekind w.kind.prekind) (use_below r.kind.uses w.kind.uses) r.below).1 o;
+      falls = λ o. ap is_once (sym w.is) ∙ use_falls r.kind.uses w.kind.uses
+          (and_parts (prekind_below r.kind.prekind w.kind.prekind) (use_below r.kind.uses w.kind.uses) r.below).1 o;
     }
 
 -- a type whose values may be used often has such an instance
-pub many_in : (vars : List Kind) (args : List Tree) (t : Tree) → IsInstantiation [] vars args → HasUse vars t Many → HasUse [] (instantiated args t) Many
+pub many_in : (vars : List Kind) (args : List Tree) (t : Tree) → IsInstantiation [] vars args → HasUse vars t Many →
+    HasUse [] (instantiated args t) Many
 many_in vars args t i w = let r = has_instance vars args t Many i w in pick r.uses r.falls r.variable
   where
-    pick : (n : Use) → (is_once n ≡ true → is_once Many ≡ true) → HasUse [] (instantiated args t) n → HasUse [] (instantiated args t) Many
+    pick : (n : Use) → (is_once n ≡ true → is_once Many ≡ true) → HasUse [] (instantiated args t) n →
+        HasUse [] (instantiated args t) Many
     pick Many f h = h
     pick Once f h = absurd (cc (f refl))
 
 -- the closed instance of a variable
-pub variable_in : (args : List Tree) (t : Tree) (n : Use) (r : HasInstance args t n) → IsOneOf args (record { type = t; uses = n }) (record { type = instantiated args t; uses = r.uses })
+pub variable_in : (args : List Tree) (t : Tree) (n : Use) (r : HasInstance args t n) →
+    IsOneOf args (record { type = t; uses = n }) (record { type = instantiated args t; uses = r.uses })
 variable_in args t n r = record { type = refl; variable = r.variable; falls = r.falls }
 
 -- variables of these types have closed instances
-pub variables_in : (vars : List Kind) (args : List Tree) → IsInstantiation [] vars args → (ts : List Tree) (vs : List Variable) → AreVariables vars ts vs →
+pub variables_in : (vars : List Kind) (args : List Tree) → IsInstantiation [] vars args →
+    (ts : List Tree) (vs : List Variable) → AreVariables vars ts vs →
     (ws : List Variable) × AreVariables [] (map (instantiated args) ts) ws × IsInstanceOf args vs ws
 variables_in vars args i [] [] x = ([], tt, tt)
 variables_in vars args i [] (v ∷ vs) x = absurd x
@@ -81,21 +87,24 @@ variables_in vars args i (t ∷ ts) (v ∷ vs) x =
 -- ---- places in an instance of a context
 
 -- what stands in the instance for a variable of the context
-pub found_in : (args : List Tree) (g h : List Variable) → IsInstanceOf args g h → (k : ℕ) (v : Variable) → slice_get g k ≡ Some v → (w : Variable) × (slice_get h k ≡ Some w) × IsOneOf args v w
+pub found_in : (args : List Tree) (g h : List Variable) → IsInstanceOf args g h →
+    (k : ℕ) (v : Variable) → slice_get g k ≡ Some v → (w : Variable) × (slice_get h k ≡ Some w) × IsOneOf args v w
 found_in args [] h q k v e = absurd (cc e)
 found_in args (a ∷ g) [] q k v e = absurd q
 found_in args (a ∷ g) (b ∷ h) q zero v e = let same : a ≡ v = cc in (b, refl, subst (λ z. IsOneOf args z b) same q.0)
 found_in args (a ∷ g) (b ∷ h) q (suc k) v e = found_in args g h q.1 k v e
 
 -- what a variable of the instance stands for
-found_of : (args : List Tree) (g h : List Variable) → IsInstanceOf args g h → (k : ℕ) (w : Variable) → slice_get h k ≡ Some w → (v : Variable) × (slice_get g k ≡ Some v) × IsOneOf args v w
+found_of : (args : List Tree) (g h : List Variable) → IsInstanceOf args g h → (k : ℕ) (w : Variable) → slice_get h k ≡ Some w →
+    (v : Variable) × (slice_get g k ≡ Some v) × IsOneOf args v w
 found_of args g [] q k w e = absurd (cc e)
 found_of args [] (b ∷ h) q k w e = absurd q
 found_of args (a ∷ g) (b ∷ h) q zero w e = let same : b ≡ w = cc in (a, refl, subst (λ z. IsOneOf args a z) same q.0)
 found_of args (a ∷ g) (b ∷ h) q (suc k) w e = found_of args g h q.1 k w e
 
 -- variables entered in a context and in its instance
-pub entered_in : (args : List Tree) (vs ws g h : List Variable) → IsInstanceOf args vs ws → IsInstanceOf args g h → IsInstanceOf args (enter_all vs g) (enter_all ws h)
+pub entered_in : (args : List Tree) (vs ws g h : List Variable) → IsInstanceOf args vs ws → IsInstanceOf args g h →
+    IsInstanceOf args (enter_all vs g) (enter_all ws h)
 entered_in args [] [] g h p q = q
 entered_in args [] (w ∷ ws) g h p q = absurd p
 entered_in args (v ∷ vs) [] g h p q = absurd p
@@ -115,7 +124,8 @@ and_true true c e = e
 and_true false c e = refl
 
 -- a set of a context's linear variables has in an instance those that are linear there
-pub alike_in : (args : List Tree) (g h : List Variable) (u : Vars) (p : ℕ → Bool) → IsInstanceOf args g h → IsSetOf g u p → Alike h u p
+pub alike_in : (args : List Tree) (g h : List Variable) (u : Vars) (p : ℕ → Bool) → IsInstanceOf args g h → IsSetOf g u p →
+    Alike h u p
 alike_in args g h u p q s k w x o =
     let f = found_of args g h q k w x in
     s k f.0 f.1 ∙ and_true (p k) (is_once (f.0).uses) (f.2.falls o)
@@ -137,7 +147,8 @@ plentiful_in h u p e f k w x used = pick (is_once w.uses) refl
     pick true is = let wrong : false ≡ true = ap (λ z. z k) (sym e) ∙ f k w x is ∙ used in absurd (cc wrong)
 
 -- a variable that is in the set where it is linear is used
-pub spends_in : (h : List Variable) (u : Vars) (p : ℕ → Bool) (k : ℕ) (w : Variable) → Alike h u p → slice_get h k ≡ Some w → (is_once w.uses ≡ true → u k ≡ true) → Spends w (p k)
+pub spends_in : (h : List Variable) (u : Vars) (p : ℕ → Bool) (k : ℕ) (w : Variable) → Alike h u p → slice_get h k ≡ Some w →
+    (is_once w.uses ≡ true → u k ≡ true) → Spends w (p k)
 spends_in h u p k w f x g o = sym (f k w x o) ∙ g o
 
 -- the number of a variable beyond these
@@ -164,14 +175,19 @@ at_length : (vs : List Variable) → beyond vs zero ≡ length vs
 at_length vs = let b = beyond_length vs zero in omega (arith, b)
 
 -- each variable of an arm that is linear is used
-pub spend_all_in : (args : List Tree) (vs ws h : List Variable) (u : Vars) (p : ℕ → Bool) → IsInstanceOf args vs ws → Alike (enter_all ws h) (under_all vs u) p → SpendAll ws p
+pub spend_all_in : (args : List Tree) (vs ws h : List Variable) (u : Vars) (p : ℕ → Bool) → IsInstanceOf args vs ws →
+    Alike (enter_all ws h) (under_all vs u) p → SpendAll ws p
 spend_all_in args [] [] h u p q f = tt
 spend_all_in args [] (w ∷ ws) h u p q f = absurd q
 spend_all_in args (v ∷ vs) [] h u p q f = absurd q
 spend_all_in args (v ∷ vs) (w ∷ ws) h u p q f =
-    let there : slice_get (enter_all ws (w ∷ h)) (length ws) ≡ Some w = subst (λ z. slice_get (enter_all ws (w ∷ h)) z ≡ Some w) (at_length ws) (entered_beyond ws (w ∷ h) zero) in
+    let there : slice_get (enter_all ws (w ∷ h)) (length ws) ≡ Some w = subst
+    (λ z. slice_get (enter_all ws (w ∷ h)) z ≡ Some w) (at_length ws) (entered_beyond ws (w ∷ h) zero) in
     let long : beyond vs zero ≡ length ws = at_length vs ∙ same_length args vs ws q.1 in
-    let held : under_all vs (under (is_once v.uses) u) (length ws) ≡ is_once v.uses = subst (λ z. under_all vs (under (is_once v.uses) u) z ≡ is_once v.uses) long (under_beyond vs (under (is_once v.uses) u) zero) in (
-      spends_in (enter_all ws (w ∷ h)) (under_all vs (under (is_once v.uses) u)) p (length ws) w f there (λ o. held ∙ q.0.falls o),
+    let held : under_all vs (under (is_once v.uses) u) (length ws) ≡ is_once v.uses = subst
+    (λ z. under_all vs (under (is_once v.uses) u) z ≡ is_once v.uses) long
+    (under_beyond vs (under (is_once v.uses) u) zero) in (
+      spends_in (enter_all ws (w ∷ h)) (under_all vs (under (is_once v.uses) u)) p (length ws) w f there
+          (λ o. held ∙ q.0.falls o),
       spend_all_in args vs ws (w ∷ h) (under (is_once v.uses) u) p q.1 f,
     )

@@ -31,13 +31,21 @@ module _ (vars : List Kind) (args : List Tree) (i : IsInstantiation [] vars args
 
   -- a conversion stays one
   pub converts_in : (s t : Tree) → IsConversion vars s t → Equals (instantiated args s) (instantiated args t)
-  converts_in s t e = record { left = formed_in s e.left; right = formed_in t e.right; equal = instances_equal [] vars args i e.equal }
+  converts_in s t e = record {
+    left = formed_in s e.left;
+    right = formed_in t e.right;
+    equal =
+        instances_equal [] vars args i e.equal;
+  }
 
   -- below conversions stands a term of an equal type
-  pub converted_in : (d c : Deriv) → IsFormed vars (type_of c) → Converted (IsConversion vars) d c → Equals (instantiated args (type_of c)) (instantiated args (type_of d))
-  converted_in d c f (itself h) = subst (λ z. Equals (instantiated args (type_of c)) (instantiated args (type_of z))) (sym h) (equals_itself (instantiated args (type_of c)) (formed_in (type_of c) f))
+  pub converted_in : (d c : Deriv) → IsFormed vars (type_of c) → Converted (IsConversion vars) d c →
+      Equals (instantiated args (type_of c)) (instantiated args (type_of d))
+  converted_in d c f (itself h) = subst (λ z. Equals (instantiated args (type_of c)) (instantiated args (type_of z))) (sym h)
+      (equals_itself (instantiated args (type_of c)) (formed_in (type_of c) f))
   converted_in _ c f (turned {s} {t} {d} x h y) =
-      equals_through (converted_in d c f y) (subst (λ z. Equals (instantiated args z) (instantiated args t)) (sym h) (converts_in s t x))
+      equals_through (converted_in d c f y) (subst
+      (λ z. Equals (instantiated args z) (instantiated args t)) (sym h) (converts_in s t x))
 
 -- ---- closed types
 
@@ -57,7 +65,8 @@ twice_dual (t ∷ args) = λ i. dual-dual t i ∷ twice_dual args i
 -- and the dual of a closed session type
 pub dual_in : (args : List Tree) (s : Tree) → IsSession [] s → instantiated args (dual s) ≡ dual s
 dual_in args s w =
-    ap (λ z. instantiated z (dual s)) (sym (twice_dual args)) ∙ instantiated-dual (map dual args) s ∙ ap dual (instantiated_closed (map dual args) s (session w.0) w.1.kinded)
+    ap (λ z. instantiated z (dual s)) (sym (twice_dual args)) ∙ instantiated-dual (map dual args) s
+    ∙ ap dual (instantiated_closed (map dual args) s (session w.0) w.1.kinded)
 
 -- ---- operands
 
@@ -66,7 +75,8 @@ comparable_in args t (inl e) = inl (ap (instantiated args) e)
 comparable_in args t (inr e) = inr (ap (instantiated args) e)
 
 -- the types of operands and of a sign's result are their own instances
-pub operates_in : (args : List Tree) (o : Op) (s t : Tree) → Operates o s t → Operates o (instantiated args s) (instantiated args t)
+pub operates_in : (args : List Tree) (o : Op) (s t : Tree) → Operates o s t →
+    Operates o (instantiated args s) (instantiated args t)
 operates_in args Add s t h = (ap (instantiated args) h.0, ap (instantiated args) h.1)
 operates_in args Subtract s t h = (ap (instantiated args) h.0, ap (instantiated args) h.1)
 operates_in args Multiply s t h = (ap (instantiated args) h.0, ap (instantiated args) h.1)
@@ -81,7 +91,8 @@ operates_in args Or s t h = (ap (instantiated args) h.0, ap (instantiated args) 
 
 -- ---- offers
 
-choices_in : (make : List ℕ → Label) (args : List Tree) (bs : Branches) → choice_labels make (instantiated_all args bs) ≡ choice_labels make bs
+choices_in : (make : List ℕ → Label) (args : List Tree) (bs : Branches) →
+    choice_labels make (instantiated_all args bs) ≡ choice_labels make bs
 choices_in make args none = refl
 choices_in make args (branch l s bs) = ap (λ z. make l ∷ z) (choices_in make args bs)
 
@@ -94,12 +105,17 @@ labels_in args (select bs) e = choices_in label.Select args bs
 labels_in args (offer bs) e = choices_in label.Offer args bs
 labels_in args (seq s r) e = pick (labels_in args s) (labels_in args r) (terminated s) refl e
   where
-    pick : (leading s ≡ None → labels (instantiated args s) ≡ labels s) → (leading r ≡ None → labels (instantiated args r) ≡ labels r) → (c : Bool) → terminated s ≡ c → (if c then leading r else leading s) ≡ None →
-        (if terminated (instantiated args s) then labels (instantiated args r) else labels (instantiated args s)) ≡ (if terminated s then labels r else labels s)
+    pick : (leading s ≡ None → labels (instantiated args s) ≡ labels s) →
+        (leading r ≡ None → labels (instantiated args r) ≡ labels r) → (c : Bool) → terminated s ≡ c →
+        (if c then leading r else leading s) ≡ None →
+        (if terminated (instantiated args s) then labels (instantiated args r) else labels (instantiated args s))
+        ≡ (if terminated s then labels r else labels s)
     pick front behind true is e =
-        ap (λ c. if c then labels (instantiated args r) else labels (instantiated args s)) (instantiated_terminated args s is) ∙ behind e ∙ sym (ap (λ c. if c then labels r else labels s) is)
+        ap (λ c. if c then labels (instantiated args r) else labels (instantiated args s)) (instantiated_terminated args s is)
+        ∙ behind e ∙ sym (ap (λ c. if c then labels r else labels s) is)
     pick front behind false is e =
-        ap (λ c. if c then labels (instantiated args r) else labels (instantiated args s)) (terminated_kept args s e ∙ is) ∙ front e ∙ sym (ap (λ c. if c then labels r else labels s) is)
+        ap (λ c. if c then labels (instantiated args r) else labels (instantiated args s)) (terminated_kept args s e ∙ is)
+        ∙ front e ∙ sym (ap (λ c. if c then labels r else labels s) is)
 labels_in args (rec s) e = labels_in args s e
 labels_in args (back k) e = refl
 labels_in args (var k) e = absurd (cc e)
@@ -123,8 +139,10 @@ unled_offering s names h = pick (leading s) refl
     pick None is = is
     pick (Some k) is =
         let m = leading_moves [] s k is in
-        absurd (no_variable_offered names k (subst (λ z. Contains z (label.Var k)) h ((labels_are_moves s (label.Var k)).1 (there m.0 k m.1))))
+        absurd (no_variable_offered names k (subst (λ z. Contains z (label.Var k)) h
+        ((labels_are_moves s (label.Var k)).1 (there m.0 k m.1))))
 
 -- an instance of an offered choice offers the same labels
-pub offering_in : (args : List Tree) (s : Tree) (names : List (List ℕ)) → IsOffering s names → IsOffering (instantiated args s) names
+pub offering_in : (args : List Tree) (s : Tree) (names : List (List ℕ)) → IsOffering s names →
+    IsOffering (instantiated args s) names
 offering_in args s names o = record { labels = labels_in args s (unled_offering s names o.labels) ∙ o.labels; some = o.some }

@@ -64,7 +64,8 @@ stays m a x f = record {
 }
 
 -- a thread that fits its module asks for something that its ends allow
-module _ (m : Module) (ds : List Deriv) (h : HasDerivations m ds) (a : Tree) (x : Thread) (f : FitsIn (surroundings m []) a x) where
+module _ (m : Module) (ds : List Deriv) (h : HasDerivations m ds) (a : Tree) (x : Thread)
+    (f : FitsIn (surroundings m []) a x) where
   pub its_pause : Allowed (surroundings m []) f.typed.residuals (pause m.families.items x.now.state) f.typed.type
   its_pause = (pause_goes (surroundings m []) (checked m ds h) f.typed.residuals x.now.state f.typed.type f.typed.typed).0
 
@@ -95,7 +96,8 @@ asked_there c s p still h alive = go (h 1)
 pub same_keeps : (k : Code) (t u : TypedTask) (x : Thread) → IsSame t u → Keeps k t x → Keeps k u x
 same_keeps k t u x s h = record {
   path = s.task.0 ∙ h.path;
-  is_in = subst (λ p. IsIn k.module.value k (record { path = t.task.path; forked = t.task.forked; spot = p; ready = t.task.ready }) x.now.state) (sym s.task.2) h.is_in;
+  is_in = subst (λ p. IsIn k.module.value k (record
+      { path = t.task.path; forked = t.task.forked; spot = p; ready = t.task.ready }) x.now.state) (sym s.task.2) h.is_in;
   forked = s.task.1 ∙ h.forked;
   made = s.made ∙ h.made;
   clock = s.clock ∙ h.clock;
@@ -115,27 +117,33 @@ module _ (k : Code) (a : Tree) (t : TypedTask) (x : Thread) (f : Fits k a t x) w
       record { source = k.module.value; from = f.code.from; state = x.now.state; is_in = f.keeps.is_in; next = (q.0, q.1) }
 
   -- it asks where it runs for what its thread asks for
-  pub asks_alike : IsAtRest k t.task → asked_at (code_of k.module.value.families.items k) t.task.spot ≡ machine.request (module_of k).families x.now.state
+  pub asks_alike : IsAtRest k t.task → asked_at (code_of k.module.value.families.items k) t.task.spot ≡ machine.request
+      (module_of k).families x.now.state
   asks_alike rests =
-      asked_there (code_of k.module.value.families.items k) t.task.spot (pause k.module.value.families.items x.now.state) (rests k.module.value.families.items) f.keeps.is_in
+      asked_there (code_of k.module.value.families.items k) t.task.spot (pause k.module.value.families.items x.now.state)
+      (rests k.module.value.families.items) f.keeps.is_in
       (not_stuck k.module.value f.code.derivations f.code.derived a x f.fits)
 
   pub asks_it : (q : Request) → AsksNow k t q → machine.request (module_of k).families x.now.state ≡ Some q
   asks_it q now = sym (asks_alike now.0) ∙ now.1
 
   -- an end of its bag at which it asks stands at a place
-  pub known_there : (n : EndName) (i : ℕ) → IsPlaced n t.bag.items i → (d : EndView) → f.fits.typed.residuals n ≡ residual_of (slice_index_or t.bag.items i d).knows
+  pub known_there : (n : EndName) (i : ℕ) → IsPlaced n t.bag.items i →
+      (d : EndView) → f.fits.typed.residuals n ≡ residual_of (slice_index_or t.bag.items i d).knows
   known_there n i p d =
       let q = subst (λ es. IsPlaced n es i) f.keeps.bag p in
-      ap f.fits.typed.residuals (sym (q.1 d)) ∙ f.fits.typed.are.known i d q.0 ∙ ap (λ es. residual_of (slice_index_or es i d).knows) (sym f.keeps.bag)
+      ap f.fits.typed.residuals (sym (q.1 d)) ∙ f.fits.typed.are.known i d q.0 ∙ ap
+      (λ es. residual_of (slice_index_or es i d).knows) (sym f.keeps.bag)
 
-  pub fits_there : (n : EndName) (i : ℕ) → IsPlaced n t.bag.items i → (d : EndView) → FitsEnd (module_of k) x.now (slice_index_or t.bag.items i d)
+  pub fits_there : (n : EndName) (i : ℕ) → IsPlaced n t.bag.items i →
+      (d : EndView) → FitsEnd (module_of k) x.now (slice_index_or t.bag.items i d)
   fits_there n i p d =
       let q = subst (λ es. IsPlaced n es i) f.keeps.bag p in
       subst (λ es. FitsEnd (module_of k) x.now (slice_index_or es i d)) (sym f.keeps.bag) (f.fits.ends i d q.0)
 
   -- it takes an answer after which there is a next request
-  pub takes_it : (r : Answer) (s : State) → IsAtRest k t.task → answered (program k.module.value) x.now.state r ≡ Some s → (pause k.module.value.families.items s ≡ stuck → ⊥) →
+  pub takes_it : (r : Answer) (s : State) → IsAtRest k t.task → answered (program k.module.value) x.now.state r ≡ Some s →
+      (pause k.module.value.families.items s ≡ stuck → ⊥) →
       (r ≡ Forked → t.task.forked < 4294967295) → Takes k t.task r
   takes_it r s rests told alive few = record {
     rests = rests;
@@ -151,23 +159,29 @@ module _ (k : Code) (a : Tree) (t : TypedTask) (x : Thread) (f : Fits k a t x) w
 
   -- as where the thread that it leads to fits
   pub alive_in : (q : Request) (r : Answer) (stamp : ℕ) (bag retired : List EndView) (new : List Thread) (s : State) →
-      answered (program k.module.value) x.now.state r ≡ Some s → GoesOnTo (module_of k) a x (with_entry (module_of k) x q r stamp bag retired) new →
+      answered (program k.module.value) x.now.state r ≡ Some s →
+      GoesOnTo (module_of k) a x (with_entry (module_of k) x q r stamp bag retired) new →
       pause k.module.value.families.items s ≡ stuck → ⊥
   alive_in q r stamp bag retired new s told goes stop =
       not_stuck k.module.value f.code.derivations f.code.derived a (with_entry (module_of k) x q r stamp bag retired) goes.fits
       (ap (λ o. pause k.module.value.families.items (or_lost o)) told ∙ stop)
 
   -- a task that has gone on with an entry is that thread, with the ends that it has then
-  pub keeps_it : (q : Request) (r : Answer) (stamp : ℕ) (bag retired : List EndView) (new : List Thread) (s : State) (u v : TypedTask) →
-      answered (program k.module.value) x.now.state r ≡ Some s → GoesOnTo (module_of k) a x (with_entry (module_of k) x q r stamp bag retired) new →
-      HasGoneOn k t q r stamp u → v.task ≡ u.task → v.made ≡ made_after r t.made → v.clock ≡ u.clock → v.log.items ≡ u.log.items → v.bag.items ≡ bag → v.retired.items ≡ retired →
+  pub keeps_it : (q : Request) (r : Answer) (stamp : ℕ) (bag retired : List EndView) (new : List Thread) (s : State)
+      (u v : TypedTask) →
+      answered (program k.module.value) x.now.state r ≡ Some s →
+      GoesOnTo (module_of k) a x (with_entry (module_of k) x q r stamp bag retired) new →
+      HasGoneOn k t q r stamp u → v.task ≡ u.task → v.made ≡ made_after r t.made → v.clock ≡ u.clock → v.log.items ≡ u.log.items →
+      v.bag.items ≡ bag → v.retired.items ≡ retired →
       Keeps k v (with_entry (module_of k) x q r stamp bag retired)
   keeps_it q r stamp bag retired new s u v told goes on task made clock log bag_is retired_is = record {
     path = ap (λ w. w.path) task ∙ on.task.path ∙ f.keeps.path;
     is_in = subst (λ w. IsIn k.module.value k w (or_lost (answered (program k.module.value) x.now.state r))) (sym task)
-        (on.task.states k.module.value x.now.state (or_lost (answered (program k.module.value) x.now.state r)) f.code.from f.keeps.is_in
+        (on.task.states k.module.value x.now.state (or_lost (answered (program k.module.value) x.now.state r)) f.code.from
+        f.keeps.is_in
         (told ∙ ap (λ o. Some (or_lost o)) (sym told))
-        (not_stuck k.module.value f.code.derivations f.code.derived a (with_entry (module_of k) x q r stamp bag retired) goes.fits));
+        (not_stuck k.module.value f.code.derivations f.code.derived a
+        (with_entry (module_of k) x q r stamp bag retired) goes.fits));
     forked = ap (λ w. w.forked) task ∙ on.task.forked ∙ forked_same r ∙ ap (forks_after r) f.keeps.forked;
     made = made ∙ ap (made_after r) f.keeps.made;
     clock = clock ∙ on.clock;
@@ -184,7 +198,8 @@ module _ (k : Code) (a : Tree) (t : TypedTask) (x : Thread) (f : Fits k a t x) w
       forked_same (Got ev) = refl
 
 -- a task that has run on to what it asks for fits as before
-pub advanced_fits : (k : Code) (a : Tree) (t u : TypedTask) (x : Thread) → Stays k t.task u.task → u.made ≡ t.made → u.clock ≡ t.clock → u.log.items ≡ t.log.items → u.bag.items ≡ t.bag.items →
+pub advanced_fits : (k : Code) (a : Tree) (t u : TypedTask) (x : Thread) → Stays k t.task u.task → u.made ≡ t.made →
+    u.clock ≡ t.clock → u.log.items ≡ t.log.items → u.bag.items ≡ t.bag.items →
     u.retired.items ≡ t.retired.items → Fits k a t x → Fits k a u x
 advanced_fits k a t u x s made clock log bag retired f = record {
   code = f.code;

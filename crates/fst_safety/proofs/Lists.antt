@@ -20,7 +20,8 @@ contains_at xs k x e = (k, slice_get_within xs k x e, get_or_from_slice_get xs k
 pub contains_map : {A B : Type 0} (f : A → B) (xs : List A) (k : ℕ) (x : A) → slice_get xs k ≡ Some x → Contains (map f xs) (f x)
 contains_map f xs k x e = contains_at (map f xs) k (f x) (slice_get-map f xs k ∙ ap (option_map f) e)
 
-later : (y : List ℕ) (ys : List (List ℕ)) (x : List ℕ) → bytes_eq x y ≡ false → (k : ℕ) → k < length (y ∷ ys) → slice_index_or (y ∷ ys) k x ≡ x → Contains ys x
+later : (y : List ℕ) (ys : List (List ℕ)) (x : List ℕ) → bytes_eq x y ≡ false →
+    (k : ℕ) → k < length (y ∷ ys) → slice_index_or (y ∷ ys) k x ≡ x → Contains ys x
 later y ys x q zero l e = absurd (true≢false (sym ((bytes_eq-Decides x y).1 (sym e)) ∙ q))
 later y ys x q (suc k) l e = (k, le_of_suc-le-suc l, e)
 
@@ -38,6 +39,7 @@ are_at_one types (k ∷ ks) (t ∷ ts) [] a b = absurd b
 are_at_one types (k ∷ ks) (t ∷ ts) (u ∷ us) a b = λ i. some_same (sym b.0 ∙ a.0) i ∷ are_at_one types ks ts us a.1 b.1 i
 
 -- values turned round are of the types of all
-pub fit_turned : (m : Surroundings) (r : Residuals) (done ws : Values) (all ts : List Tree) → FitBefore m r done all ts → FitAll m r ws ts → FitAll m r (turned_onto done ws) all
+pub fit_turned : (m : Surroundings) (r : Residuals) (done ws : Values) (all ts : List Tree) → FitBefore m r done all ts →
+    FitAll m r ws ts → FitAll m r (turned_onto done ws) all
 fit_turned m r no_values ws all ts b f = subst (FitAll m r ws) (sym b) f
 fit_turned m r (value.value v vs) ws all ts b f = fit_turned m r vs (value.value v ws) all (b.0 ∷ ts) b.2 (b.1, f)

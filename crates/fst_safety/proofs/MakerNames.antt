@@ -26,18 +26,22 @@ distinct_behind [] ms d = d
 distinct_behind (p ∷ os) ms d = distinct_behind os ms d.1
 
 -- where all constructors have different names, so have those of one data type
-pub distinct_family : (fs : List Family) (n : ℕ) (f : Family) → IsDistinct bytes_eq (map (λ (o : Maker). o.name) (makers fs)) → slice_get fs n ≡ Some f → IsDistinct bytes_eq (map (λ (o : Maker). o.name) f.makers.items)
+pub distinct_family : (fs : List Family) (n : ℕ) (f : Family) → IsDistinct bytes_eq (map (λ (o : Maker). o.name) (makers fs)) →
+    slice_get fs n ≡ Some f → IsDistinct bytes_eq (map (λ (o : Maker). o.name) f.makers.items)
 distinct_family [] n f d e = absurd (cc e)
-distinct_family (g ∷ fs) zero f d e = let same : g ≡ f = cc in subst (λ (q : Family). IsDistinct bytes_eq (names q.makers.items)) same (distinct_front g.makers.items (makers fs) d)
+distinct_family (g ∷ fs) zero f d e = let same : g ≡ f = cc in subst
+    (λ (q : Family). IsDistinct bytes_eq (names q.makers.items)) same (distinct_front g.makers.items (makers fs) d)
 distinct_family (g ∷ fs) (suc n) f d e = distinct_family fs n f (distinct_behind g.makers.items (makers fs) d) e
 
-all_at : (P : List ℕ → Type 0) (os : List Maker) (k : ℕ) (o : Maker) → AllByRecursion P (names os) → slice_get os k ≡ Some o → P o.name
+all_at : (P : List ℕ → Type 0) (os : List Maker) (k : ℕ) (o : Maker) → AllByRecursion P (names os) → slice_get os k ≡ Some o →
+    P o.name
 all_at P [] k o h e = absurd (cc e)
 all_at P (p ∷ os) zero o h e = let same : p ≡ o = cc in subst (λ (q : Maker). P q.name) same h.0
 all_at P (p ∷ os) (suc k) o h e = all_at P os k o h.1 e
 
 -- what stands behind a constructor of another name
-later_named : (p o : Maker) (os : List Maker) → bytes_eq p.name o.name ≡ false → maker_named o.name os ≡ Some o → maker_named o.name (p ∷ os) ≡ Some o
+later_named : (p o : Maker) (os : List Maker) → bytes_eq p.name o.name ≡ false → maker_named o.name os ≡ Some o →
+    maker_named o.name (p ∷ os) ≡ Some o
 later_named p o os differs h = pick (bytes_eq o.name p.name) refl
   where
     pick : (b : Bool) → bytes_eq o.name p.name ≡ b → (if bytes_eq o.name p.name then Some p else maker_named o.name os) ≡ Some o
@@ -47,10 +51,13 @@ later_named p o os differs h = pick (bytes_eq o.name p.name) refl
     pick false e = ap (λ b. if b then Some p else maker_named o.name os) e ∙ h
 
 -- a constructor among some of different names is the one that its name stands for
-pub named_itself : (os : List Maker) (k : ℕ) (o : Maker) → IsDistinct bytes_eq (map (λ (q : Maker). q.name) os) → slice_get os k ≡ Some o → maker_named o.name os ≡ Some o
+pub named_itself : (os : List Maker) (k : ℕ) (o : Maker) → IsDistinct bytes_eq (map (λ (q : Maker). q.name) os) →
+    slice_get os k ≡ Some o → maker_named o.name os ≡ Some o
 unfolding IsDistinct
 named_itself [] k o d e = absurd (cc e)
 named_itself (p ∷ os) zero o d e =
     let same : p ≡ o = cc in
-    subst (λ (q : Maker). maker_named q.name (p ∷ os) ≡ Some q) same (ap (λ b. if b then Some p else maker_named p.name os) (text_itself p.name))
-named_itself (p ∷ os) (suc k) o d e = later_named p o os (all_at (λ y. bytes_eq p.name y ≡ false) os k o d.0 e) (named_itself os k o d.1 e)
+    subst (λ (q : Maker). maker_named q.name (p ∷ os) ≡ Some q) same
+    (ap (λ b. if b then Some p else maker_named p.name os) (text_itself p.name))
+named_itself (p ∷ os) (suc k) o d e = later_named p o os (all_at (λ y. bytes_eq p.name y ≡ false) os k o d.0 e)
+    (named_itself os k o d.1 e)

@@ -37,10 +37,13 @@ use Rattle.fst_safety.proofs.StillLaws.{typed_still}
 use Rattle.fst_safety.proofs.TraceLaws.{Sides, sides_from, trace_from, sides_grow}
 
 -- all that a meeting is about; n is the clock of both tasks after it
-module _ (m : Surroundings) (well : IsWellTyped m) (a : Tree) (c : Config) (p q : Path) (t u : Task) (x : EndName) (e : Entry) (s v : State) (k : Channel) (n : ℕ)
+module _ (m : Surroundings) (well : IsWellTyped m) (a : Tree) (c : Config) (p q : Path) (t u : Task) (x : EndName) (e : Entry)
+    (s v : State) (k : Channel) (n : ℕ)
     (hs : IsSound m a c) (ep : c.tasks p ≡ Some t) (eq : c.tasks q ≡ Some u)
-    (rp : machine.request m.families t.state ≡ Some (request.Put x e.event)) (rq : machine.request m.families u.state ≡ Some (request.Get (other x)))
-    (ap' : answered (program_in m) t.state Sent ≡ Some s) (aq : answered (program_in m) u.state (Got e.event) ≡ Some v) (ek : c.channels x.channel ≡ Some k) where
+    (rp : machine.request m.families t.state ≡ Some (request.Put x e.event))
+    (rq : machine.request m.families u.state ≡ Some (request.Get (other x)))
+    (ap' : answered (program_in m) t.state Sent ≡ Some s) (aq : answered (program_in m) u.state (Got e.event) ≡ Some v)
+    (ek : c.channels x.channel ≡ Some k) where
   abbrev r : Residuals
   r = residual_in c
 
@@ -75,7 +78,8 @@ module _ (m : Surroundings) (well : IsWellTyped m) (a : Tree) (c : Config) (p q 
   is_puts = (put_pause (pause m.families t.state) x e.event rp).1
 
   put_reached : Reached m r (puts x e.event fs) A (λ z. held_state z t.state)
-  put_reached = subst (λ z. Reached m r z A (λ z. held_state z t.state)) is_puts (pause_goes m well r t.state A (hs.tasks p t ep).1)
+  put_reached = subst (λ z. Reached m r z A (λ z. held_state z t.state)) is_puts
+      (pause_goes m well r t.state A (hs.tasks p t ep).1)
 
   get_reached : Reached m r (pause m.families u.state) B (λ z. held_state z u.state)
   get_reached = pause_goes m well r u.state B (hs.tasks q u eq).1
@@ -98,7 +102,8 @@ module _ (m : Surroundings) (well : IsWellTyped m) (a : Tree) (c : Config) (p q 
   new_trace = trace_from (extended k e) x.side mv.1 its_trace.1 (session_step mv.0 mv.1 (sending e.event) mv.4 mv.3) new_sides
 
   at_own : (b : Side) → option_and_then (channel_residual b) (d.channels x.channel) ≡ channel_residual b (extended k e)
-  at_own b = ap (λ o. option_and_then (channel_residual b) (put o (extended k e) (c.channels x.channel))) (same_channel-itself x.channel)
+  at_own b = ap (λ o. option_and_then (channel_residual b) (put o (extended k e) (c.channels x.channel)))
+      (same_channel-itself x.channel)
 
   others : (z : EndName) → (z ≡ x) ⊎ ((z ≡ y) ⊎ (r' z ≡ r z))
   others z = go (same_channel x.channel z.channel) refl
@@ -130,13 +135,19 @@ module _ (m : Surroundings) (well : IsWellTyped m) (a : Tree) (c : Config) (p q 
   x_unspent = (mv.0, mv.2, moving mv.0 mv.1 (sending e.event) mv.3)
 
   y_unspent : IsUnspent r y
-  y_unspent = (dual mv.0, before_other, moving (dual mv.0) (dual mv.1) (receiving e.event) (dual_receives mv.0 e.event ∙ ap (option_map dual) mv.3))
+  y_unspent = (
+    dual mv.0,
+    before_other,
+    moving (dual mv.0) (dual mv.1) (receiving e.event)
+        (dual_receives mv.0 e.event ∙ ap (option_map dual) mv.3),
+  )
 
   apart : p ≡ q → ⊥
   apart = asks_apart (program_in m) c p q t u x y e.event (ep, rp) (eq, rq)
 
   x_owned : (held_state x t.state ≡ 1) × ((o : Path) → same_path p o ≡ false → amount x (c.tasks o) ≡ 0)
-  x_owned = owner c x p t (hs.owned x x_unspent) ep (λ z. let f = put_reached.1 x x_unspent in let o = own_once x in omega (arith, z, f, o))
+  x_owned = owner c x p t (hs.owned x x_unspent) ep
+      (λ z. let f = put_reached.1 x x_unspent in let o = own_once x in omega (arith, z, f, o))
 
   y_in : held_pause y (pause m.families u.state) ≡ 0 → ⊥
   y_in = get_pause (λ z. held_pause y z ≡ 0 → ⊥) (pause m.families u.state) y rq
@@ -163,7 +174,8 @@ module _ (m : Surroundings) (well : IsWellTyped m) (a : Tree) (c : Config) (p q 
 
   got : Goes m r' v B (λ z. held_pause z (pause m.families u.state))
   got = get_pause
-      (λ w. Allowed m r w B → ((z : EndName) → IsUnspent r z → held_pause z w ≡ held_state z u.state) → after (program_in m) w (Got e.event) ≡ Some v → Goes m r' v B (λ z. held_pause z w))
+      (λ w. Allowed m r w B → ((z : EndName) → IsUnspent r z → held_pause z w ≡ held_state z u.state) →
+      after (program_in m) w (Got e.event) ≡ Some v → Goes m r' v B (λ z. held_pause z w))
       (pause m.families u.state) y rq
       (λ fs k h f. get_goes m well r r' x e.event meeting (program_in m) fs B v k
       (let g = h x x_unspent in let w = x_at_q in omega (arith, g, w))
@@ -189,12 +201,14 @@ module _ (m : Surroundings) (well : IsWellTyped m) (a : Tree) (c : Config) (p q 
       same_amount z (with_task c p t') q o u u' at_q (got.1 z h ∙ get_reached.1 z (was_unspent z h))
       ∙ same_amount z c p o t t' ep (sent.1 z h ∙ put_reached.1 z (was_unspent z h))
 
-  third : (o : Path) (w : Task) → same_path p o ≡ false → same_path q o ≡ false → c.tasks o ≡ Some w → (b : Tree) × IsTyped m r' w.state b × (o ≡ main_path → b ≡ a)
+  third : (o : Path) (w : Task) → same_path p o ≡ false → same_path q o ≡ false → c.tasks o ≡ Some w →
+      (b : Tree) × IsTyped m r' w.state b × (o ≡ main_path → b ≡ a)
   third o w f g i =
       let h = hs.tasks o w i in (
         h.0,
         typed_still m r r' w.state h.0 h.1
-            (still_but m well r r' x e.event meeting (λ z. held_state z w.state) (sym (ap (λ z. amount x z) i) ∙ x_owned.1 o f) (sym (ap (λ z. amount y z) i) ∙ y_owned.1 o g)),
+            (still_but m well r r' x e.event meeting (λ z. held_state z w.state) (sym (ap (λ z. amount x z) i) ∙ x_owned.1 o f)
+            (sym (ap (λ z. amount y z) i) ∙ y_owned.1 o g)),
         h.2,
       )
 
@@ -225,8 +239,11 @@ pub meet_sound : (m : Surroundings) (well : IsWellTyped m) (a : Tree) (c : Confi
 meet_sound m well a c p q h w sound d =
     let n = meeting_stamp d.sender d.receiver d.channel in
     let entry = passed d.event d.sender d.receiver d.channel in
-    let is : with_task (with_task (with_channel c d.end.channel (extended d.channel entry)) p (has_met d.sender d.sent n)) q (has_met d.receiver d.got n) ≡ written c w =
-    ap (λ g. with_task (with_task (with_channel c g (extended d.channel entry)) p (has_met d.sender d.sent n)) q (has_met d.receiver d.got n)) d.named
+    let is : with_task (with_task (with_channel c d.end.channel (extended d.channel entry)) p (has_met d.sender d.sent n)) q
+    (has_met d.receiver d.got n) ≡ written c w =
+    ap (λ g. with_task (with_task (with_channel c g (extended d.channel entry)) p (has_met d.sender d.sent n)) q
+    (has_met d.receiver d.got n)) d.named
     ∙ sym (meet_puts (program_in m) m.types c p q h w d) in
     subst (IsSound m a) is
-    (met m well a c p q d.sender d.receiver d.end entry d.sent d.got d.channel n sound d.puts.0 d.gets.0 d.puts.1 d.gets.1 d.sender_leads d.receiver_leads (ap c.channels d.named ∙ d.there))
+    (met m well a c p q d.sender d.receiver d.end entry d.sent d.got d.channel n sound d.puts.0 d.gets.0 d.puts.1 d.gets.1
+    d.sender_leads d.receiver_leads (ap c.channels d.named ∙ d.there))

@@ -47,18 +47,23 @@ module _ (m : Surroundings) (well : IsWellTyped m) (r r' : Residuals) (x : EndNa
   other_moves = dual_receives h.now ev ∙ ap (option_map dual) h.moves
 
   -- the state of the task that sent
-  pub put_goes : (fs : List Frame) (t : Tree) → Allowed m r (puts x ev fs) t → held_frames x fs ≡ 0 → held_frames (other x) fs ≡ 0 →
+  pub put_goes : (fs : List Frame) (t : Tree) → Allowed m r (puts x ev fs) t → held_frames x fs ≡ 0 →
+      held_frames (other x) fs ≡ 0 →
       Goes m r' (giving (value.end x) fs) t (λ z. held_pause z (puts x ev fs))
-  put_goes fs t a i j = sent_goes m well r r' x ev h.now h.next h.before h.moves h.later fs t a (still_but (λ z. held_frames z fs) i j)
+  put_goes fs t a i j = sent_goes m well r r' x ev h.now h.next h.before h.moves h.later fs t a
+      (still_but (λ z. held_frames z fs) i j)
 
   -- the state of the task that received a value
-  pub get_goes : (p : Program) (fs : List Frame) (t : Tree) (s : State) → Allowed m r (gets (other x) fs) t → held_frames x fs ≡ 0 → held_frames (other x) fs ≡ 0 →
+  pub get_goes : (p : Program) (fs : List Frame) (t : Tree) (s : State) → Allowed m r (gets (other x) fs) t →
+      held_frames x fs ≡ 0 → held_frames (other x) fs ≡ 0 →
       after p (gets (other x) fs) (Got ev) ≡ Some s → Goes m r' s t (λ z. held_pause z (gets (other x) fs))
   get_goes p fs t s a i j e =
-      received_goes m well r r' (other x) ev (dual h.now) (dual h.next) h.before_other other_moves h.later_other p fs t s a (still_but (λ z. held_frames z fs) i j) e
+      received_goes m well r r' (other x) ev (dual h.now) (dual h.next) h.before_other other_moves h.later_other p fs t s a
+      (still_but (λ z. held_frames z fs) i j) e
 
   -- the state of the task that received a label
-  pub choose_goes : (p : Program) (bs : CoreArms) (env : Environment) (fs : List Frame) (t : Tree) (s : State) → Allowed m r (matches (other x) bs env fs) t →
+  pub choose_goes : (p : Program) (bs : CoreArms) (env : Environment) (fs : List Frame) (t : Tree) (s : State) →
+      Allowed m r (matches (other x) bs env fs) t →
       held_env x env + held_frames x fs ≡ 0 → held_env (other x) env + held_frames (other x) fs ≡ 0 →
       after p (matches (other x) bs env fs) (Got ev) ≡ Some s → Goes m r' s t (λ z. held_pause z (matches (other x) bs env fs))
   choose_goes p bs env fs t s a i j e =

@@ -31,11 +31,13 @@ record HasMainAt (types : List Tree) (gs : List GlobalEntry) (e : CoreTree) : Ty
   declared : main_type types gs ≡ slice_get types entry.signature
   main : IsMain types entry
 
-main_at : (types : List Tree) (gs : List GlobalEntry) (e : CoreTree) → HasMain types gs → main_body gs ≡ Some e → HasMainAt types gs e
+main_at : (types : List Tree) (gs : List GlobalEntry) (e : CoreTree) → HasMain types gs → main_body gs ≡ Some e →
+    HasMainAt types gs e
 main_at types [] e h q = absurd (none_some q)
 main_at types (g ∷ gs) e h q = pick (main_at types gs e h.1) (bytes_eq g.name (codes "main")) refl q
   where
-    pick : (main_body gs ≡ Some e → HasMainAt types gs e) → (b : Bool) → bytes_eq g.name (codes "main") ≡ b → (if b then Some g.body else main_body gs) ≡ Some e → HasMainAt types (g ∷ gs) e
+    pick : (main_body gs ≡ Some e → HasMainAt types gs e) → (b : Bool) → bytes_eq g.name (codes "main") ≡ b →
+        (if b then Some g.body else main_body gs) ≡ Some e → HasMainAt types (g ∷ gs) e
     pick later true i q = record {
       number = zero;
       entry = g;
@@ -69,7 +71,8 @@ pub record IsMainTyped (m : Module) (e : CoreTree) : Type 0 where
   pub printable : IsPrintable type
 
 -- so it is where the module has derivations
-pub main_typed : (m : Module) (ds : List Deriv) → HasDerivations m ds → (e : CoreTree) → main_body m.globals.items ≡ Some e → IsMainTyped m e
+pub main_typed : (m : Module) (ds : List Deriv) → HasDerivations m ds →
+    (e : CoreTree) → main_body m.globals.items ≡ Some e → IsMainTyped m e
 main_typed m ds h e q =
     let k = main_at m.types.items m.globals.items e h.main q in
     let t = k.main.1.0 in
@@ -84,11 +87,13 @@ main_typed m ds h e q =
     }
 
 -- where main has a type it has a body
-has_body : (types : List Tree) (gs : List GlobalEntry) (a : Tree) → main_type types gs ≡ Some a → (e : CoreTree) × (main_body gs ≡ Some e)
+has_body : (types : List Tree) (gs : List GlobalEntry) (a : Tree) → main_type types gs ≡ Some a → (e : CoreTree) ×
+    (main_body gs ≡ Some e)
 has_body types [] a q = absurd (none_some q)
 has_body types (g ∷ gs) a q = pick (has_body types gs a) (bytes_eq g.name (codes "main")) refl q
   where
-    pick : (main_type types gs ≡ Some a → (e : CoreTree) × (main_body gs ≡ Some e)) → (b : Bool) → bytes_eq g.name (codes "main") ≡ b →
+    pick : (main_type types gs ≡ Some a → (e : CoreTree) × (main_body gs ≡ Some e)) →
+        (b : Bool) → bytes_eq g.name (codes "main") ≡ b →
         (if b then slice_get types g.signature else main_type types gs) ≡ Some a → (e : CoreTree) × (main_body (g ∷ gs) ≡ Some e)
     pick later true i p = (g.body, ap (λ b. if b then Some g.body else main_body gs) i)
     pick later false i p =
@@ -96,7 +101,8 @@ has_body types (g ∷ gs) a q = pick (has_body types gs a) (bytes_eq g.name (cod
         (k.0, ap (λ b. if b then Some g.body else main_body gs) i ∙ k.1)
 
 -- a sound configuration in which main has a type whose values can be printed is safe
-sound_safe : (m : Module) → IsWellTyped (surroundings m []) → (e : CoreTree) (k : IsMainTyped m e) (c : Config) → IsSound (surroundings m []) k.type c → IsSafeAt m c
+sound_safe : (m : Module) → IsWellTyped (surroundings m []) →
+    (e : CoreTree) (k : IsMainTyped m e) (c : Config) → IsSound (surroundings m []) k.type c → IsSafeAt m c
 sound_safe m w e k c s = record {
   right = sound_right (surroundings m []) w k.type c s;
   sessions = λ h j i. (s.traces h j i).1;
@@ -119,4 +125,5 @@ stays_safe m ds h a q c s =
 pub modules_safe : DerivedIsSafe
 modules_safe m ds h e q =
     let k = main_typed m ds h e q in
-    stays_safe m ds h k.type k.declared (started e) (started_sound (surroundings m []) (checked m ds h) k.type e (printable_formed k.type k.printable) k.typed)
+    stays_safe m ds h k.type k.declared (started e)
+    (started_sound (surroundings m []) (checked m ds h) k.type e (printable_formed k.type k.printable) k.typed)

@@ -28,15 +28,17 @@ use Rattle.fst_safety.specs.Pauses.{Reached, Goes}
 use Rattle.fst_safety.specs.Sound.{IsSound, IsTrace}
 use Rattle.fst_safety.proofs.Answers.{giving_goes}
 use Rattle.fst_safety.proofs.Settles.{pause_goes}
-use Rattle.fst_lts.proofs.DualKinds.{dual_session}
+use Rattle.fst_lts.proofs.Laws.{dual_session}
 use Rattle.fst_safety.proofs.Equals.{equals_itself, session_formed}
 use Rattle.fst_safety.proofs.Owners.{held_apart}
 use Rattle.fst_safety.proofs.StillLaws.{Still, unchanged, takes_still, typed_still}
 use Rattle.fst_safety.proofs.Unknown.{unknown_frames, unknown_state}
 
 -- all that is about a new channel; n is the task's clock after it
-module _ (m : Surroundings) (well : IsWellTyped m) (a : Tree) (c : Config) (p : Path) (t : Task) (s : State) (i : ℕ) (k : Tree) (n : ℕ)
-    (hs : IsSound m a c) (ep : c.tasks p ≡ Some t) (rp : machine.request m.families t.state ≡ Some (request.New i)) (ek : slice_get m.types i ≡ Some k)
+module _ (m : Surroundings) (well : IsWellTyped m) (a : Tree) (c : Config) (p : Path) (t : Task) (s : State) (i : ℕ) (k : Tree)
+    (n : ℕ)
+    (hs : IsSound m a c) (ep : c.tasks p ≡ Some t) (rp : machine.request m.families t.state ≡ Some (request.New i))
+    (ek : slice_get m.types i ≡ Some k)
     (an : answered (program_in m) t.state (Made (channel_name p t.made)) ≡ Some s) where
   abbrev h : ChannelName
   h = channel_name p t.made
@@ -111,13 +113,19 @@ module _ (m : Surroundings) (well : IsWellTyped m) (a : Tree) (c : Config) (p : 
     k,
     dual k,
     (k, its_residual Left, session_new, equals_itself k (session_formed session_new)),
-    (dual k, its_residual Right, dual_session [] k session_new, equals_itself (dual k) (session_formed (dual_session [] k session_new))),
+    (
+      dual k,
+      its_residual Right,
+      dual_session [] k session_new,
+      equals_itself (dual k) (session_formed (dual_session [] k session_new)),
+    ),
     subst (λ k. Equals (type.pair k (dual k)) reached.0.3) is_type reached.0.4,
   )
 
   new_goes : Goes m r' s A (λ z. held z (ends h) + held_frames z fs)
   new_goes = subst (λ w. Goes m r' w A (λ z. held z (ends h) + held_frames z fs)) (sym is_given)
-      (giving_goes m well r' (ends h) fs reached.0.3 A ends_fit (takes_still m r r' fs reached.0.3 A reached.0.5 (still (λ z. held_frames z fs))))
+      (giving_goes m well r' (ends h) fs reached.0.3 A ends_fit
+      (takes_still m r r' fs reached.0.3 A reached.0.5 (still (λ z. held_frames z fs))))
 
   none_held : (z : EndName) (o : Path) (w : Option Task) → r z ≡ None → c.tasks o ≡ w → amount z w ≡ 0
   none_held z o None n e = refl
@@ -130,8 +138,10 @@ module _ (m : Surroundings) (well : IsWellTyped m) (a : Tree) (c : Config) (p : 
   not_left x f e = let g : Right ≡ Left = sym f ∙ ap (λ (z : EndName). z.side) e in absurd (cc g)
 
   one_side : (b : Side) → held (end_at b) (ends h) ≡ 1
-  one_side Left = let x = own_once (end_at Left) in let y = held_apart (end_at Left) (end_at Right) (not_right (end_at Left) refl) in omega (arith, x, y)
-  one_side Right = let x = own_once (end_at Right) in let y = held_apart (end_at Right) (end_at Left) (not_left (end_at Right) refl) in omega (arith, x, y)
+  one_side Left = let x = own_once (end_at Left) in let y =
+      held_apart (end_at Left) (end_at Right) (not_right (end_at Left) refl) in omega (arith, x, y)
+  one_side Right = let x = own_once (end_at Right) in let y =
+      held_apart (end_at Right) (end_at Left) (not_left (end_at Right) refl) in omega (arith, x, y)
 
   own_new : (b : Side) → IsUnspent r' (end_at b) → held_state (end_at b) s ≡ 1
   own_new b u =
@@ -140,7 +150,8 @@ module _ (m : Surroundings) (well : IsWellTyped m) (a : Tree) (c : Config) (p : 
       let f = unknown_frames m r (end_at b) (no_residual b) fs reached.0.3 A reached.0.5 in
       omega (arith, e, o, f)
 
-  same_old : (z : EndName) → IsUnspent r z → IsUnspent r' z → same_channel h z.channel ≡ false → held_state z s ≡ held_state z t.state
+  same_old : (z : EndName) → IsUnspent r z → IsUnspent r' z → same_channel h z.channel ≡ false →
+      held_state z s ≡ held_state z t.state
   same_old z u u' f =
       let x = held_apart z (end_at Left) (λ e. other_name e) in
       let y = held_apart z (end_at Right) (λ e. other_name e) in
@@ -160,20 +171,29 @@ module _ (m : Surroundings) (well : IsWellTyped m) (a : Tree) (c : Config) (p : 
       go true e =
           let g : z ≡ end_at z.side = is_side z e in (
             p,
-            ap (λ b. amount z (put b t' (c.tasks p))) (same_path-itself p) ∙ ap (λ w. held_state w s) g ∙ own_new z.side (subst (IsUnspent r') g u),
+            ap (λ b. amount z (put b t' (c.tasks p))) (same_path-itself p) ∙ ap (λ w. held_state w s) g
+                ∙ own_new z.side (subst (IsUnspent r') g u),
             λ q f. ap (λ b. amount z (put b t' (c.tasks q))) f ∙ none_held z q (c.tasks q) (ap r g ∙ no_residual z.side) refl,
           )
       go false e =
           let u0 : IsUnspent r z = (u.0, sym (kept z e) ∙ u.1, u.2) in
-          let o = hs.owned z u0 in
-          (o.0, same_amount z c p o.0 t t' ep (same_old z u0 u e) ∙ o.1, λ q f. same_amount z c p q t t' ep (same_old z u0 u e) ∙ o.2 q f)
+          let o = hs.owned z u0 in (
+            o.0,
+            same_amount z c p o.0 t t' ep (same_old z u0 u e) ∙ o.1,
+            λ q f. same_amount z c p q t t' ep (same_old z u0 u e) ∙ o.2 q f,
+          )
 
   -- the configuration with a new channel is sound
   pub made_new : IsSound m a d
   made_new = record {
     tasks = λ o w e. in_put (same_path p o) t' w (c.tasks o)
         (λ f g. (A, subst (λ z. IsTyped m r' z.state A) g new_goes.0, λ j. (hs.tasks p t ep).2 (same_path-same p o f ∙ j)))
-        (λ f g. ((hs.tasks o w g).0, typed_still m r r' w.state (hs.tasks o w g).0 (hs.tasks o w g).1 (still (λ z. held_state z w.state)), (hs.tasks o w g).2)) e;
+        (λ f g. (
+          (hs.tasks o w g).0,
+          typed_still m r r' w.state (hs.tasks o w g).0 (hs.tasks o w g).1
+              (still (λ z. held_state z w.state)),
+          (hs.tasks o w g).2,
+        )) e;
     owned = owned;
     traces = λ g j e. in_put (same_channel h g) channel j (c.channels g)
         (λ f q. subst IsTrace q (k, session_new, session_new, refl, refl))

@@ -28,27 +28,34 @@ module _ (m : Surroundings) (w : IsWellTyped m) (r : Residuals) where
   pub next_argument : (v : Value) (fs : List Frame) (a t : Tree) → Takes m r (at_argument v ∷ fs) a t →
       Comes m w r (λ z. on_function v (λ b own. calls b own z fs)) (at_argument v ∷ fs) a t
   next_argument v fs a t k z g =
-      counted m w r (on_function v (λ b own. calls b own z fs)) t (λ x. held x v + (held x z + held_frames x fs)) (λ x. held x z + (held x v + held_frames x fs))
+      counted m w r (on_function v (λ b own. calls b own z fs)) t (λ x. held x v + (held x z + held_frames x fs))
+      (λ x. held x z + (held x v + held_frames x fs))
       (function_next m w r v k.0 a k.1 t (λ x. held x z + held_frames x fs) (λ b own. calls b own z fs) k.2
       (λ e env f. ((k.0, a, k.1, f, g, k.3, k.4, k.5), λ x u. omega arith)))
       (λ x u. omega arith)
 
   -- a function waits for its argument
-  pub next_function : (f : CoreTree) (env : Environment) (fs : List Frame) (a t : Tree) → Good m w r f → Takes m r (at_function f env ∷ fs) a t →
-      Comes m w r (λ v. eval m.families f env (at_argument v ∷ fs) (λ z. on_function v (λ b own. calls b own z fs))) (at_function f env ∷ fs) a t
+  pub next_function : (f : CoreTree) (env : Environment) (fs : List Frame) (a t : Tree) → Good m w r f →
+      Takes m r (at_function f env ∷ fs) a t →
+      Comes m w r (λ v. eval m.families f env (at_argument v ∷ fs) (λ z. on_function v (λ b own. calls b own z fs)))
+      (at_function f env ∷ fs) a t
   next_function f env fs a t h k v g =
       let k' : Takes m r (at_argument v ∷ fs) k.1 t = (k.0, k.2, subst (Fits m r v) k.4 g, k.7, k.8, k.9) in
       counted m w r (eval m.families f env (at_argument v ∷ fs) (λ z. on_function v (λ b own. calls b own z fs))) t _ _
-      (h env (at_argument v ∷ fs) (λ z. on_function v (λ b own. calls b own z fs)) k.3 k.1 t k.5 k.6 k' (next_argument v fs k.1 t k'))
+      (h env (at_argument v ∷ fs) (λ z. on_function v (λ b own. calls b own z fs)) k.3 k.1 t k.5 k.6 k'
+      (next_argument v fs k.1 t k'))
       (λ x u. omega arith)
 
   -- both parts of a pair are there
-  pub next_second : (v : Value) (fs : List Frame) (back : Value → Pause) (b t : Tree) (k : Takes m r (at_second v ∷ fs) b t) → Comes m w r back fs k.2 t →
+  pub next_second : (v : Value) (fs : List Frame) (back : Value → Pause) (b t : Tree) (k : Takes m r (at_second v ∷ fs) b t) →
+      Comes m w r back fs k.2 t →
       Comes m w r (λ z. back (value.pair v z)) (at_second v ∷ fs) b t
-  next_second v fs back b t k h z g = counted m w r (back (value.pair v z)) t _ _ (h (value.pair v z) (k.0, b, k.1, g, k.3)) (λ x u. omega arith)
+  next_second v fs back b t k h z g = counted m w r (back (value.pair v z)) t _ _ (h (value.pair v z) (k.0, b, k.1, g, k.3))
+      (λ x u. omega arith)
 
   -- the first part waits for the second
-  pub next_first : (f : CoreTree) (env : Environment) (fs : List Frame) (back : Value → Pause) (a t : Tree) → Good m w r f → (k : Takes m r (at_first f env ∷ fs) a t) →
+  pub next_first : (f : CoreTree) (env : Environment) (fs : List Frame) (back : Value → Pause) (a t : Tree) → Good m w r f →
+      (k : Takes m r (at_first f env ∷ fs) a t) →
       Comes m w r back fs k.4 t →
       Comes m w r (λ v. eval m.families f env (at_second v ∷ fs) (λ z. back (value.pair v z))) (at_first f env ∷ fs) a t
   next_first f env fs back a t h k c v g =
@@ -58,7 +65,8 @@ module _ (m : Surroundings) (w : IsWellTyped m) (r : Residuals) where
       (λ x u. omega arith)
 
   -- an argument of a constructor joins those before it
-  pub next_field : (n o : ℕ) (done : Values) (es : CoreList) (env : Environment) (fs : List Frame) (back : Value → Pause) (a t : Tree) → GoodAll m w r es →
+  pub next_field : (n o : ℕ) (done : Values) (es : CoreList) (env : Environment) (fs : List Frame) (back : Value → Pause)
+      (a t : Tree) → GoodAll m w r es →
       (k : Takes m r (at_field n o done es env ∷ fs) a t) → Comes m w r back fs k.9 t →
       Comes m w r (λ v. eval_all m.families es n o (value.value v done) env fs back) (at_field n o done es env ∷ fs) a t
   next_field n o done es env fs back a t h k c v g =
@@ -67,7 +75,8 @@ module _ (m : Surroundings) (w : IsWellTyped m) (r : Residuals) where
       (λ x u. omega arith)
 
   -- a value is bound
-  pub next_let : (f : CoreTree) (env : Environment) (fs : List Frame) (back : Value → Pause) (a t : Tree) → Good m w r f → (k : Takes m r (at_let f env ∷ fs) a t) →
+  pub next_let : (f : CoreTree) (env : Environment) (fs : List Frame) (back : Value → Pause) (a t : Tree) → Good m w r f →
+      (k : Takes m r (at_let f env ∷ fs) a t) →
       Comes m w r back fs k.1 t → Comes m w r (λ v. eval m.families f (enter (free f zero) v env) fs back) (at_let f env ∷ fs) a t
   next_let f env fs back a t h k c v g =
       let g' : Fits m r v k.0.type = subst (Fits m r v) k.3 g in
@@ -77,11 +86,14 @@ module _ (m : Surroundings) (w : IsWellTyped m) (r : Residuals) where
       (λ x u. let z = held_enter m w r x (free f zero) v env k.0 u g' k.4 k.7 in omega (arith, z))
 
   -- the parts of a pair are bound
-  pub next_split : (f : CoreTree) (env : Environment) (fs : List Frame) (back : Value → Pause) (a t : Tree) → Good m w r f → (k : Takes m r (at_split f env ∷ fs) a t) →
+  pub next_split : (f : CoreTree) (env : Environment) (fs : List Frame) (back : Value → Pause) (a t : Tree) → Good m w r f →
+      (k : Takes m r (at_split f env ∷ fs) a t) →
       Comes m w r back fs k.2 t →
-      Comes m w r (λ v. on_pair v (λ y z. eval m.families f (enter (free f zero) z (enter (free f (suc zero)) y env)) fs back)) (at_split f env ∷ fs) a t
+      Comes m w r (λ v. on_pair v (λ y z. eval m.families f (enter (free f zero) z (enter (free f (suc zero)) y env)) fs back))
+      (at_split f env ∷ fs) a t
   next_split f env fs back a t h k c v g =
-      pair_next m w r v k.0.type k.1.type t (λ x. held_env x env + held_frames x fs) (λ y z. eval m.families f (enter (free f zero) z (enter (free f (suc zero)) y env)) fs back)
+      pair_next m w r v k.0.type k.1.type t (λ x. held_env x env + held_frames x fs)
+      (λ y z. eval m.families f (enter (free f zero) z (enter (free f (suc zero)) y env)) fs back)
       (subst (Fits m r v) k.4 g)
       (λ y z gy gz.
       let e1 : Environment = enter (free f (suc zero)) y env in
@@ -98,14 +110,16 @@ module _ (m : Surroundings) (w : IsWellTyped m) (r : Residuals) where
       omega (arith, p, q)))
 
   -- a value that may be copied is dropped
-  pub next_seq : (f : CoreTree) (env : Environment) (fs : List Frame) (back : Value → Pause) (a t : Tree) → Good m w r f → (k : Takes m r (at_seq f env ∷ fs) a t) →
+  pub next_seq : (f : CoreTree) (env : Environment) (fs : List Frame) (back : Value → Pause) (a t : Tree) → Good m w r f →
+      (k : Takes m r (at_seq f env ∷ fs) a t) →
       Comes m w r back fs k.0 t → Comes m w r (λ v. eval m.families f env fs back) (at_seq f env ∷ fs) a t
   next_seq f env fs back a t h k c v g =
       counted m w r (eval m.families f env fs back) t _ _ (h env fs back k.1 k.0 t k.3 k.4 k.5 c)
       (λ x u. let z = idle m w r x v a u g k.2 in omega (arith, z))
 
   -- a sign has both operands
-  pub next_right : (o : Op) (v : Value) (fs : List Frame) (back : Value → Pause) (a t : Tree) (k : Takes m r (at_right o v ∷ fs) a t) → Comes m w r back fs k.3 t →
+  pub next_right : (o : Op) (v : Value) (fs : List Frame) (back : Value → Pause) (a t : Tree)
+      (k : Takes m r (at_right o v ∷ fs) a t) → Comes m w r back fs k.3 t →
       Comes m w r (λ z. on (operated o v z) back) (at_right o v ∷ fs) a t
   next_right o v fs back a t k c z g =
       let s = operated_gives m r o a k.0 v z k.1 k.2 g in
@@ -114,8 +128,10 @@ module _ (m : Surroundings) (w : IsWellTyped m) (r : Residuals) where
       (λ x u. let i = s.empty x in let j = s.left x in let l = s.right x in omega (arith, i, j, l)))
 
   -- the left operand waits for the right one
-  pub next_left : (o : Op) (f : CoreTree) (env : Environment) (fs : List Frame) (back : Value → Pause) (a t : Tree) → Good m w r f → (k : Takes m r (at_left o f env ∷ fs) a t) →
-      Comes m w r back fs k.5 t → Comes m w r (λ v. eval m.families f env (at_right o v ∷ fs) (λ z. on (operated o v z) back)) (at_left o f env ∷ fs) a t
+  pub next_left : (o : Op) (f : CoreTree) (env : Environment) (fs : List Frame) (back : Value → Pause) (a t : Tree) →
+      Good m w r f → (k : Takes m r (at_left o f env ∷ fs) a t) →
+      Comes m w r back fs k.5 t → Comes m w r (λ v. eval m.families f env (at_right o v ∷ fs) (λ z. on (operated o v z) back))
+      (at_left o f env ∷ fs) a t
   next_left o f env fs back a t h k c v g =
       let k' : Takes m r (at_right o v ∷ fs) a t = (k.0, k.2, g, k.5, k.6, k.7) in
       counted m w r (eval m.families f env (at_right o v ∷ fs) (λ z. on (operated o v z) back)) t _ _
@@ -123,38 +139,46 @@ module _ (m : Surroundings) (w : IsWellTyped m) (r : Residuals) where
       (λ x u. omega arith)
 
   -- a truth value is turned round
-  pub next_not : (fs : List Frame) (back : Value → Pause) (a t : Tree) (k : Takes m r (at_not ∷ fs) a t) → Comes m w r back fs k.1 t →
+  pub next_not : (fs : List Frame) (back : Value → Pause) (a t : Tree) (k : Takes m r (at_not ∷ fs) a t) →
+      Comes m w r back fs k.1 t →
       Comes m w r (λ v. on (bool_in v) (λ b. back (value.bool (not b)))) (at_not ∷ fs) a t
   next_not fs back a t k c v g =
-      bool_next m w r v t (λ x. 0 + held_frames x fs) (λ b. back (value.bool (not b))) (subst (Fits m r v) k.0 g) (λ b. c (value.bool (not b)) k.2)
+      bool_next m w r v t (λ x. 0 + held_frames x fs) (λ b. back (value.bool (not b))) (subst (Fits m r v) k.0 g)
+      (λ b. c (value.bool (not b)) k.2)
 
   -- a value is sent on an end
   pub next_target : (v : Value) (fs : List Frame) (a t : Tree) → Takes m r (at_target v ∷ fs) a t →
       Comes m w r (λ z. on_end z (λ y. on (sent v) (λ ev. puts y ev fs))) (at_target v ∷ fs) a t
   next_target v fs a t k z g =
       let s = sent_value m r v k.0 k.2 in
-      end_next m w r z a t (λ x. held x v + held_frames x fs) (λ y. on (sent v) (λ ev. puts y ev fs)) (step_moving a (Send k.0) k.1 k.3) g
+      end_next m w r z a t (λ x. held x v + held_frames x fs)
+      (λ y. on (sent v) (λ ev. puts y ev fs)) (step_moving a (Send k.0) k.1 k.3) g
       (λ y f.
       subst (λ q. Reached m r (on q (λ ev. puts y ev fs)) t (λ x. held x (value.end y) + (held x v + held_frames x fs))) (sym s.1)
       ((a, k.1, f, subst (λ l. step a l ≡ Some k.1) (sym s.2) k.3, k.4, k.5, k.6), λ x u. let i = s.3 x in omega (arith, i)))
 
   -- a value to send waits for the end
-  pub next_value : (f : CoreTree) (env : Environment) (fs : List Frame) (a t : Tree) → Good m w r f → Takes m r (at_value f env ∷ fs) a t →
-      Comes m w r (λ v. eval m.families f env (at_target v ∷ fs) (λ z. on_end z (λ y. on (sent v) (λ ev. puts y ev fs)))) (at_value f env ∷ fs) a t
+  pub next_value : (f : CoreTree) (env : Environment) (fs : List Frame) (a t : Tree) → Good m w r f →
+      Takes m r (at_value f env ∷ fs) a t →
+      Comes m w r (λ v. eval m.families f env (at_target v ∷ fs) (λ z. on_end z (λ y. on (sent v) (λ ev. puts y ev fs))))
+      (at_value f env ∷ fs) a t
   next_value f env fs a t h k v g =
       let k' : Takes m r (at_target v ∷ fs) k.1 t = (k.0, k.2, subst (Fits m r v) k.4 g, k.7, k.8, k.9, k.10) in
       counted m w r (eval m.families f env (at_target v ∷ fs) (λ z. on_end z (λ y. on (sent v) (λ ev. puts y ev fs)))) t _ _
-      (h env (at_target v ∷ fs) (λ z. on_end z (λ y. on (sent v) (λ ev. puts y ev fs))) k.3 k.1 t k.5 k.6 k' (next_target v fs k.1 t k'))
+      (h env (at_target v ∷ fs) (λ z. on_end z (λ y. on (sent v) (λ ev. puts y ev fs))) k.3 k.1 t k.5 k.6 k'
+      (next_target v fs k.1 t k'))
       (λ x u. omega arith)
 
   -- something is received on an end
-  pub next_receive : (fs : List Frame) (a t : Tree) → Takes m r (at_receive ∷ fs) a t → Comes m w r (λ z. on_end z (λ y. gets y fs)) (at_receive ∷ fs) a t
+  pub next_receive : (fs : List Frame) (a t : Tree) → Takes m r (at_receive ∷ fs) a t → Comes m w r
+      (λ z. on_end z (λ y. gets y fs)) (at_receive ∷ fs) a t
   next_receive fs a t k z g =
       end_next m w r z a t (λ x. 0 + held_frames x fs) (λ y. gets y fs) (step_moving a (Receive k.0) k.1 k.2) g
       (λ y f. ((k.0, a, k.1, f, k.2, k.3, k.4, k.5), λ x u. omega arith))
 
   -- a label is selected on an end
-  pub next_select : (l : List ℕ) (fs : List Frame) (a t : Tree) → Takes m r (at_select l ∷ fs) a t → Comes m w r (λ z. on_end z (λ y. puts y (Label l) fs)) (at_select l ∷ fs) a t
+  pub next_select : (l : List ℕ) (fs : List Frame) (a t : Tree) → Takes m r (at_select l ∷ fs) a t → Comes m w r
+      (λ z. on_end z (λ y. puts y (Label l) fs)) (at_select l ∷ fs) a t
   next_select l fs a t k z g =
       end_next m w r z a t (λ x. 0 + held_frames x fs) (λ y. puts y (Label l) fs) (step_moving a (Select l) k.0 k.1) g
       (λ y f. ((a, k.0, f, k.1, k.2, k.3, k.4), λ x u. omega arith))

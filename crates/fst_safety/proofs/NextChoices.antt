@@ -36,26 +36,32 @@ one_of false b e h = e ∙ h
 
 module _ (m : Surroundings) (w : IsWellTyped m) (r : Residuals) where
   -- one of two terms with the same linear variables goes on
-  branch : (f : CoreTree) (q : ℕ → Bool) (env : Environment) (fs : List Frame) (back : Value → Pause) (g : List Variable) (b t : Tree) → Good m w r f →
+  branch : (f : CoreTree) (q : ℕ → Bool) (env : Environment) (fs : List Frame) (back : Value → Pause) (g : List Variable)
+      (b t : Tree) → Good m w r f →
       IsEnv m r g q env → ((k : ℕ) → free f k ≡ true → q k ≡ true) →
       ((k : ℕ) (y : Variable) → slice_get g k ≡ Some y → is_once y.uses ≡ true → q k ≡ true → free f k ≡ true) →
       HasType m g f b → Takes m r fs b t → Comes m w r back fs b t →
       Reached m r (eval m.families f (keep (free f) env) fs back) t (λ x. held_env x env + held_frames x fs)
   branch f q env fs back g b t h i s l d k c =
-      counted m w r (eval m.families f (keep (free f) env) fs back) t (λ x. held_env x (keep (free f) env) + held_frames x fs) (λ x. held_env x env + held_frames x fs)
+      counted m w r (eval m.families f (keep (free f) env) fs back) t (λ x. held_env x (keep (free f) env) + held_frames x fs)
+      (λ x. held_env x env + held_frames x fs)
       (h (keep (free f) env) fs back g b t (part m w r g q (free f) env i s) d k c)
       (λ x u. let z = held_kept m w r x env g (free f) q u i.0 i.1 l in omega (arith, z))
 
   -- a truth value leads to one of two terms
-  pub next_if : (f h : CoreTree) (env : Environment) (fs : List Frame) (back : Value → Pause) (a t : Tree) → Good m w r f → Good m w r h → (k : Takes m r (at_if f h env ∷ fs) a t) →
+  pub next_if : (f h : CoreTree) (env : Environment) (fs : List Frame) (back : Value → Pause) (a t : Tree) → Good m w r f →
+      Good m w r h → (k : Takes m r (at_if f h env ∷ fs) a t) →
       Comes m w r back fs k.0 t →
-      Comes m w r (λ v. on (bool_in v) (λ b. chosen b (eval m.families f (keep (free f) env) fs back) (eval m.families h (keep (free h) env) fs back))) (at_if f h env ∷ fs) a t
+      Comes m w r (λ v. on (bool_in v) (λ b. chosen b (eval m.families f (keep (free f) env) fs back)
+      (eval m.families h (keep (free h) env) fs back))) (at_if f h env ∷ fs) a t
   next_if f h env fs back a t gf gh k c v g =
       bool_next m w r v t (λ x. held_env x env + held_frames x fs)
-      (λ b. chosen b (eval m.families f (keep (free f) env) fs back) (eval m.families h (keep (free h) env) fs back)) (subst (Fits m r v) k.2 g)
+      (λ b. chosen b (eval m.families f (keep (free f) env) fs back) (eval m.families h (keep (free h) env) fs back))
+      (subst (Fits m r v) k.2 g)
       pick
     where
-      pick : (b : Bool) → Reached m r (chosen b (eval m.families f (keep (free f) env) fs back) (eval m.families h (keep (free h) env) fs back)) t (λ x. held_env x env + held_frames x fs)
+      pick : (b : Bool) → Reached m r (chosen b (eval m.families f (keep (free f) env) fs back)
+          (eval m.families h (keep (free h) env) fs back)) t (λ x. held_env x env + held_frames x fs)
       pick true =
           branch f (in_either f h) env fs back k.1 k.0 t gf k.3 (λ j. or_left (free f j) (free h j))
           (λ j y s l u. one_of (free f j) (free h j) (k.6 j y s l) u) k.4 k.7 c
@@ -68,17 +74,23 @@ module _ (m : Surroundings) (w : IsWellTyped m) (r : Residuals) where
   no_arm l vs ts B env fs back g p b t c f o i s d a k h = let z : c.0 < 0 = c.1 in absurd (omega (arith, z))
 
   -- the first arm, or one behind it
-  pub next_arm : (j : List ℕ) (xs : List Binder) (e : CoreTree) (bs : CoreArms) → Good m w r e → GoodArms m w r bs → GoodArms m w r (arm j xs e bs)
+  pub next_arm : (j : List ℕ) (xs : List Binder) (e : CoreTree) (bs : CoreArms) → Good m w r e → GoodArms m w r bs →
+      GoodArms m w r (arm j xs e bs)
   next_arm j xs e bs he hb l vs ts B env fs back g p b t c f o i s d a k h = pick (bytes_eq l j) refl
     where
-      here : l ≡ j → Reached m r (eval m.families e (enter_all (free e) vs (keep (outside_all xs (free e)) env)) fs back) t (λ x. (held_all x vs + held_env x env) + held_frames x fs)
+      here : l ≡ j → Reached m r (eval m.families e (enter_all (free e) vs (keep (outside_all xs (free e)) env)) fs back) t
+          (λ x. (held_all x vs + held_env x env) + held_frames x fs)
       here q =
           let f' : FitAll m r vs d.0 = subst (FitAll m r vs) (sym (o d.0 (subst (λ n. Binds m B n d.0) (sym q) d.2))) f in
-          let kept : IsEnv m r g (outside_all xs (free e)) (keep (outside_all xs (free e)) env) = part m w r g p (outside_all xs (free e)) env i (λ n u. s n (or_left (outside_all xs (free e) n) (free_below bs n) u)) in
+          let kept : IsEnv m r g (outside_all xs (free e)) (keep (outside_all xs (free e)) env) =
+          part m w r g p (outside_all xs (free e)) env i
+          (λ n u. s n (or_left (outside_all xs (free e) n) (free_below bs n) u)) in
           let many : length xs ≡ count vs = d.4 ∙ sym (counted_values m r vs d.0 d.1 f' d.3) in
           counted m w r (eval m.families e (enter_all (free e) vs (keep (outside_all xs (free e)) env)) fs back) t _ _
-          (he (enter_all (free e) vs (keep (outside_all xs (free e)) env)) fs back (context.enter_all d.1 g) b t
-          (fits_enter_all m r (free e) vs d.0 d.1 (keep (outside_all xs (free e)) env) g f' d.3 kept.0, exactly_enter_all xs (free e) vs (keep (outside_all xs (free e)) env) many kept.1)
+          (he (enter_all (free e) vs (keep (outside_all xs (free e)) env)) fs back (context.enter_all d.1 g) b t (
+            fits_enter_all m r (free e) vs d.0 d.1 (keep (outside_all xs (free e)) env) g f' d.3 kept.0,
+            exactly_enter_all xs (free e) vs (keep (outside_all xs (free e)) env) many kept.1,
+          )
           d.5 k h)
           (λ x u.
           let y = held_enter_all m w r x (free e) vs d.0 d.1 (keep (outside_all xs (free e)) env) u f' d.3 d.6 in
@@ -86,32 +98,42 @@ module _ (m : Surroundings) (w : IsWellTyped m) (r : Residuals) where
           omega (arith, y, z))
 
       pick : (z : Bool) → bytes_eq l j ≡ z →
-          Reached m r (chosen z (eval m.families e (enter_all (free e) vs (keep (outside_all xs (free e)) env)) fs back) (eval_arm m.families bs l vs env fs back)) t
+          Reached m r (chosen z (eval m.families e (enter_all (free e) vs (keep (outside_all xs (free e)) env)) fs back)
+          (eval_arm m.families bs l vs env fs back)) t
           (λ x. (held_all x vs + held_env x env) + held_frames x fs)
       pick true q = here (same_text l j q)
       pick false q =
-          hb l vs ts B env fs back g p b t (contains_later j (arm_labels bs) l q c) f o i (λ n u. s n (or_right (outside_all xs (free e) n) (free_below bs n) u)) d.7 a.1 k h
+          hb l vs ts B env fs back g p b t (contains_later j (arm_labels bs) l q c) f o i
+          (λ n u. s n (or_right (outside_all xs (free e) n) (free_below bs n) u)) d.7 a.1 k h
 
   -- a constructor with its fields leads to its arm
-  pub next_case : (bs : CoreArms) (env : Environment) (fs : List Frame) (back : Value → Pause) (a t : Tree) → GoodArms m w r bs → (k : Takes m r (at_case bs env ∷ fs) a t) →
+  pub next_case : (bs : CoreArms) (env : Environment) (fs : List Frame) (back : Value → Pause) (a t : Tree) → GoodArms m w r bs →
+      (k : Takes m r (at_case bs env ∷ fs) a t) →
       Comes m w r back fs k.2 t →
-      Comes m w r (λ v. on_made v (λ n o vs. on (name_of m.families n o) (λ l. eval_arm m.families bs l vs env fs back))) (at_case bs env ∷ fs) a t
+      Comes m w r (λ v. on_made v (λ n o vs. on (name_of m.families n o) (λ l. eval_arm m.families bs l vs env fs back)))
+      (at_case bs env ∷ fs) a t
   next_case bs env fs back a t h k c v g =
-      made_next m w r v k.0 t (λ x. held_env x env + held_frames x fs) (λ n o vs. on (name_of m.families n o) (λ l. eval_arm m.families bs l vs env fs back))
+      made_next m w r v k.0 t (λ x. held_env x env + held_frames x fs)
+      (λ n o vs. on (name_of m.families n o) (λ l. eval_arm m.families bs l vs env fs back))
       (subst (Fits m r v) k.4 g) found
     where
       found : (n o : ℕ) (vs : Values) → Fits m r (value.made n o vs) (named k.0) →
-          Reached m r (on (name_of m.families n o) (λ l. eval_arm m.families bs l vs env fs back)) t (λ x. held_all x vs + (held_env x env + held_frames x fs))
+          Reached m r (on (name_of m.families n o) (λ l. eval_arm m.families bs l vs env fs back)) t
+          (λ x. held_all x vs + (held_env x env + held_frames x fs))
       found n o vs f =
           let maker : Maker = f.0 in
           let there : slice_get m.families n ≡ Some k.1 = subst (λ j. slice_get m.families j ≡ Some k.1) (nameds_equal f.5) k.6 in
           let at_place : slice_get k.1.makers.items o ≡ Some maker = subst (λ z. maker_of z o ≡ Some maker) there f.2 in
           let name : name_of m.families n o ≡ Some maker.name = ap (option_map (λ (q : Maker). q.name)) f.2 in
           let by_name : maker_named maker.name k.1.makers.items ≡ Some maker = w.names n o k.1 maker there at_place in
-          subst (λ z. Reached m r (on z (λ l. eval_arm m.families bs l vs env fs back)) t (λ x. held_all x vs + (held_env x env + held_frames x fs))) (sym name)
-          (counted m w r (eval_arm m.families bs maker.name vs env fs back) t (λ x. (held_all x vs + held_env x env) + held_frames x fs) (λ x. held_all x vs + (held_env x env + held_frames x fs))
+          subst (λ z. Reached m r (on z (λ l. eval_arm m.families bs l vs env fs back)) t
+          (λ x. held_all x vs + (held_env x env + held_frames x fs))) (sym name)
+          (counted m w r (eval_arm m.families bs maker.name vs env fs back) t
+          (λ x. (held_all x vs + held_env x env) + held_frames x fs)
+          (λ x. held_all x vs + (held_env x env + held_frames x fs))
           (h maker.name vs f.1 (fields k.1.makers.items) env fs back k.3 (free_below bs) k.2 t
           ((k.7.same maker.name).0 (contains_map (λ (q : Maker). q.name) k.1.makers.items o maker at_place)) f.4
-          (λ us b. are_at_one m.types maker.fields.items f.1 us f.3 (subst (λ (q : Maker). context.AreAt m.types q.fields.items us) (some_same (sym b.1 ∙ by_name)) b.2))
+          (λ us b. are_at_one m.types maker.fields.items f.1 us f.3
+          (subst (λ (q : Maker). context.AreAt m.types q.fields.items us) (some_same (sym b.1 ∙ by_name)) b.2))
           k.5 (λ j u. u) k.8 k.9 k.10 c)
           (λ x u. omega arith))

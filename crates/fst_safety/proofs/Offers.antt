@@ -9,15 +9,22 @@ use Rattle.fst_lts.specs.Step.{step, labels}
 use Rattle.fst_lts.proofs.Laws.{labels_are_moves}
 use Rattle.fst_derivations.specs.Parts.{IsOffering}
 
-first_offer : (ls : List Label) (names : List (List ℕ)) → ls ≡ map Offer names → (names ≡ [] → ⊥) → (l : List ℕ) × Contains ls (Offer l)
+first_offer : (ls : List Label) (names : List (List ℕ)) → ls ≡ map Offer names → (names ≡ [] → ⊥) →
+    (l : List ℕ) × Contains ls (Offer l)
 first_offer ls [] e h = absurd (h refl)
-first_offer ls (l ∷ names) e h = (l, subst (λ w. Contains w (Offer l)) (sym e) (contains_head (map Offer names) (Offer l) (Offer l) refl))
+first_offer ls (l ∷ names) e h = (
+  l,
+  subst (λ w. Contains w (Offer l)) (sym e)
+      (contains_head (map Offer names) (Offer l) (Offer l) refl),
+)
 
 -- a type that offers branches moves by one of them
-pub offering_moves : (s : Tree) (names : List (List ℕ)) → IsOffering s names → (l : List ℕ) × (t : Tree) × (step s (Offer l) ≡ Some t)
+pub offering_moves : (s : Tree) (names : List (List ℕ)) → IsOffering s names → (l : List ℕ) × (t : Tree) ×
+    (step s (Offer l) ≡ Some t)
 offering_moves s names h = pick (first_offer (labels s) names h.labels h.some)
   where
-    found : (l : List ℕ) (o : Option Tree) → step s (Offer l) ≡ o → IsSome o → (l : List ℕ) × (t : Tree) × (step s (Offer l) ≡ Some t)
+    found : (l : List ℕ) (o : Option Tree) → step s (Offer l) ≡ o → IsSome o → (l : List ℕ) × (t : Tree) ×
+        (step s (Offer l) ≡ Some t)
     found l None e i = absurd (cc i)
     found l (Some t) e i = (l, t, e)
 

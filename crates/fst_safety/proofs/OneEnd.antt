@@ -23,18 +23,22 @@ module _ (m : Surroundings) (well : IsWellTyped m) (a : Tree) where
   Shorter es c d = (fs : List CoreEvent) × (length es ≡ suc (length fs)) × Runs (program_in m) m.types c fs d
 
   -- each event that is possible can stand first in a run that comes to an end
-  begin_with : (es : List CoreEvent) (c d : Config) (b : CoreEvent) (v : Write) → IsSound m a c → Runs (program_in m) m.types c es d → IsLast (program_in m) m.types d →
+  begin_with : (es : List CoreEvent) (c d : Config) (b : CoreEvent) (v : Write) → IsSound m a c →
+      Runs (program_in m) m.types c es d → IsLast (program_in m) m.types d →
       Does (program_in m) m.types c b v → Shorter es (written c v) d
   begin_with [] c d b v h g l f = absurd (subst (IsLast (program_in m) m.types) g l b v f)
   begin_with (e ∷ es) c d b v h g l f =
       go (begin_with es (written c g.0) d b v (does_sound m well a c e g.0 h g.1) g.2 l) (same_event e b) refl
     where
-      go : (Does (program_in m) m.types (written c g.0) b v → Shorter es (written (written c g.0) v) d) → (z : Bool) → same_event e b ≡ z → Shorter (e ∷ es) (written c v) d
+      go : (Does (program_in m) m.types (written c g.0) b v → Shorter es (written (written c g.0) v) d) →
+          (z : Bool) → same_event e b ≡ z → Shorter (e ∷ es) (written c v) d
       go later true s =
-          let x : g.0 ≡ v = one_write (program_in m) m.types c b g.0 v (subst (λ z. Does (program_in m) m.types c z g.0) (same_event-same e b s) g.1) f in
+          let x : g.0 ≡ v = one_write (program_in m) m.types c b g.0 v
+          (subst (λ z. Does (program_in m) m.types c z g.0) (same_event-same e b s) g.1) f in
           (es, refl, subst (λ w. Runs (program_in m) m.types (written c w) es d) x g.2)
       go later false s =
-          let differ : e ≡ b → ⊥ = λ q. let z : true ≡ false = sym (same_event-itself e) ∙ ap (same_event e) q ∙ s in absurd (cc z) in
+          let differ : e ≡ b → ⊥ = λ q. let z : true ≡ false = sym (same_event-itself e) ∙ ap (same_event e) q ∙ s in
+          absurd (cc z) in
           let x = commute (program_in m) m.types c e b g.0 v (sound_regular c h) g.1 f differ in
           let r = later x.0 in
           (e ∷ r.0, ap suc r.1, (g.0, x.1, subst (λ z. Runs (program_in m) m.types z r.0 d) x.2 r.2))
@@ -43,8 +47,10 @@ module _ (m : Surroundings) (well : IsWellTyped m) (a : Tree) where
   one_less e l = omega (arith, e, l)
 
   -- no run has more events than one that comes to an end, and each that does so has as many and leads to the same configuration
-  pub ends_alike : (fs es : List CoreEvent) (c d e : Config) → IsSound m a c → Runs (program_in m) m.types c es d → IsLast (program_in m) m.types d →
-      Runs (program_in m) m.types c fs e → (length fs ≤ length es) × (IsLast (program_in m) m.types e → (length fs ≡ length es) × (e ≡ d))
+  pub ends_alike : (fs es : List CoreEvent) (c d e : Config) → IsSound m a c → Runs (program_in m) m.types c es d →
+      IsLast (program_in m) m.types d →
+      Runs (program_in m) m.types c fs e → (length fs ≤ length es) ×
+      (IsLast (program_in m) m.types e → (length fs ≡ length es) × (e ≡ d))
   ends_alike [] [] c d e h g l f = (omega arith, λ q. (refl, f ∙ sym g))
   ends_alike [] (x ∷ es) c d e h g l f = (omega arith, λ q. absurd (subst (IsLast (program_in m) m.types) f q x g.0 g.1))
   ends_alike (y ∷ fs) es c d e h g l f =

@@ -17,7 +17,8 @@ use Rattle.fst_runs.proofs.Laws.{same_path-itself, same_path-same, same_channel-
 use Rattle.fst_safety.proofs.Askers.{same_asks}
 
 -- an event has one write
-pub one_write : (m : Program) (types : List Tree) (c : Config) (e : CoreEvent) (w v : Write) → Does m types c e w → Does m types c e v → w ≡ v
+pub one_write : (m : Program) (types : List Tree) (c : Config) (e : CoreEvent) (w v : Write) → Does m types c e w →
+    Does m types c e v → w ≡ v
 one_write m types c (Local p) w v d f =
     let t : d.task ≡ f.task = (same_asks m c p d.task f.task request.Step request.Step d.asks f.asks).0 in
     let s : d.state ≡ f.state = some_same (sym d.leads ∙ ap (λ z. answered m z.state Go) t ∙ f.leads) in
@@ -28,7 +29,8 @@ one_write m types c (New p) w v d f =
     let q : request.New d.number ≡ request.New f.number = a.1 in
     let n : d.number ≡ f.number = cc q in
     let k : d.declared ≡ f.declared = some_same (sym d.typed ∙ ap (slice_get types) n ∙ f.typed) in
-    let s : d.state ≡ f.state = some_same (sym d.leads ∙ ap (λ z. answered m z.state (Made (channel_name p z.made))) t ∙ f.leads) in
+    let s : d.state ≡ f.state = some_same (sym d.leads ∙ ap (λ z. answered m z.state (Made (channel_name p z.made))) t
+    ∙ f.leads) in
     d.writes ∙ (λ i. record {
       tasks = task_at p (record { state = s i; made = suc (t i).made; forked = (t i).forked; clock = suc (t i).clock });
       channels = channel_at (channel_name p (t i).made) (record { declared = k i; history = [] });
@@ -46,7 +48,8 @@ one_write m types c (Fork p) w v d f =
 one_write m types c (Meet p q h) w v d f =
     let a = same_asks m c p d.sender f.sender (request.Put d.end d.event) (request.Put f.end f.event) d.puts f.puts in
     let t : d.sender ≡ f.sender = a.0 in
-    let u : d.receiver ≡ f.receiver = (same_asks m c q d.receiver f.receiver (request.Get (other d.end)) (request.Get (other f.end)) d.gets f.gets).0 in
+    let u : d.receiver ≡ f.receiver = (same_asks m c q d.receiver f.receiver (request.Get (other d.end))
+    (request.Get (other f.end)) d.gets f.gets).0 in
     let r : request.Put d.end d.event ≡ request.Put f.end f.event = a.1 in
     let ev : d.event ≡ f.event = cc r in
     let k : d.channel ≡ f.channel = some_same (sym d.there ∙ f.there) in
@@ -56,7 +59,8 @@ one_write m types c (Meet p q h) w v d f =
       tasks = λ o. over
           (task_at q (record (u i) { state = g i; clock = meeting_stamp (t i) (u i) (k i) }) o)
           (task_at p (record (t i) { state = s i; clock = meeting_stamp (t i) (u i) (k i) }) o);
-      channels = channel_at h (extended (k i) (record { event = ev i; stamp = meeting_stamp (t i) (u i) (k i); sent = (t i).clock; got = (u i).clock }));
+      channels = channel_at h (extended (k i) (record
+          { event = ev i; stamp = meeting_stamp (t i) (u i) (k i); sent = (t i).clock; got = (u i).clock }));
     }) ∙ sym f.writes
 
 -- the events are the same

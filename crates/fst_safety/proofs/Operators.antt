@@ -27,7 +27,8 @@ module _ (m : Surroundings) (r : Residuals) where
     pub left : (x : EndName) → held x v ≡ 0
     pub right : (x : EndName) → held x w ≡ 0
 
-  computed_gives : (f : ℤ → ℤ → ℤ) (v w : Value) → Fits m r v (plain Int) → Fits m r w (plain Int) → Gives v w (computed f v w) (plain Int)
+  computed_gives : (f : ℤ → ℤ → ℤ) (v w : Value) → Fits m r v (plain Int) → Fits m r w (plain Int) →
+      Gives v w (computed f v w) (plain Int)
   computed_gives f v w g h =
       let p = int_value m r v g in
       let q = int_value m r w h in
@@ -40,7 +41,8 @@ module _ (m : Surroundings) (r : Residuals) where
         right = λ x. ap (held x) q.1;
       }
 
-  decided_gives : (f : Bool → Bool → Bool) (v w : Value) → Fits m r v (plain Truth) → Fits m r w (plain Truth) → Gives v w (decided f v w) (plain Truth)
+  decided_gives : (f : Bool → Bool → Bool) (v w : Value) → Fits m r v (plain Truth) → Fits m r w (plain Truth) →
+      Gives v w (decided f v w) (plain Truth)
   decided_gives f v w g h =
       let p = bool_value m r v g in
       let q = bool_value m r w h in
@@ -53,7 +55,8 @@ module _ (m : Surroundings) (r : Residuals) where
         right = λ x. ap (held x) q.1;
       }
 
-  tested_gives : (f : Ordering → Bool) (s : Tree) (v w : Value) → IsComparable s → Fits m r v s → Fits m r w s → Gives v w (tested f v w) (plain Truth)
+  tested_gives : (f : Ordering → Bool) (s : Tree) (v w : Value) → IsComparable s → Fits m r v s → Fits m r w s →
+      Gives v w (tested f v w) (plain Truth)
   tested_gives f s v w (inl e) g h =
       let p = int_value m r v (subst (Fits m r v) e g) in
       let q = int_value m r w (subst (Fits m r w) e h) in
@@ -81,15 +84,21 @@ module _ (m : Surroundings) (r : Residuals) where
   at_type v w o s t e g = subst (Gives v w o) (sym e) g
 
   -- a sign has a result for operands of its type
-  pub operated_gives : (o : Op) (s t : Tree) (v w : Value) → Operates o s t → Fits m r v s → Fits m r w s → Gives v w (operated o v w) t
-  operated_gives Add s t v w p g h = at_type v w (operated Add v w) (plain Int) t p.1 (computed_gives (int_wrapping_add w64) v w (subst (Fits m r v) p.0 g) (subst (Fits m r w) p.0 h))
-  operated_gives Subtract s t v w p g h = at_type v w (operated Subtract v w) (plain Int) t p.1 (computed_gives (int_wrapping_sub w64) v w (subst (Fits m r v) p.0 g) (subst (Fits m r w) p.0 h))
-  operated_gives Multiply s t v w p g h = at_type v w (operated Multiply v w) (plain Int) t p.1 (computed_gives (int_wrapping_mul w64) v w (subst (Fits m r v) p.0 g) (subst (Fits m r w) p.0 h))
+  pub operated_gives : (o : Op) (s t : Tree) (v w : Value) → Operates o s t → Fits m r v s → Fits m r w s →
+      Gives v w (operated o v w) t
+  operated_gives Add s t v w p g h = at_type v w (operated Add v w) (plain Int) t p.1
+      (computed_gives (int_wrapping_add w64) v w (subst (Fits m r v) p.0 g) (subst (Fits m r w) p.0 h))
+  operated_gives Subtract s t v w p g h = at_type v w (operated Subtract v w) (plain Int) t p.1
+      (computed_gives (int_wrapping_sub w64) v w (subst (Fits m r v) p.0 g) (subst (Fits m r w) p.0 h))
+  operated_gives Multiply s t v w p g h = at_type v w (operated Multiply v w) (plain Int) t p.1
+      (computed_gives (int_wrapping_mul w64) v w (subst (Fits m r v) p.0 g) (subst (Fits m r w) p.0 h))
   operated_gives Equal s t v w p g h = at_type v w (operated Equal v w) (plain Truth) t p.1 (tested_gives is_eq s v w p.0 g h)
   operated_gives Unequal s t v w p g h = at_type v w (operated Unequal v w) (plain Truth) t p.1 (tested_gives is_ne s v w p.0 g h)
   operated_gives Less s t v w p g h = at_type v w (operated Less v w) (plain Truth) t p.1 (tested_gives is_lt s v w p.0 g h)
   operated_gives AtMost s t v w p g h = at_type v w (operated AtMost v w) (plain Truth) t p.1 (tested_gives is_le s v w p.0 g h)
   operated_gives Greater s t v w p g h = at_type v w (operated Greater v w) (plain Truth) t p.1 (tested_gives is_gt s v w p.0 g h)
   operated_gives AtLeast s t v w p g h = at_type v w (operated AtLeast v w) (plain Truth) t p.1 (tested_gives is_ge s v w p.0 g h)
-  operated_gives And s t v w p g h = at_type v w (operated And v w) (plain Truth) t p.1 (decided_gives both v w (subst (Fits m r v) p.0 g) (subst (Fits m r w) p.0 h))
-  operated_gives Or s t v w p g h = at_type v w (operated Or v w) (plain Truth) t p.1 (decided_gives either v w (subst (Fits m r v) p.0 g) (subst (Fits m r w) p.0 h))
+  operated_gives And s t v w p g h = at_type v w (operated And v w) (plain Truth) t p.1
+      (decided_gives both v w (subst (Fits m r v) p.0 g) (subst (Fits m r w) p.0 h))
+  operated_gives Or s t v w p g h = at_type v w (operated Or v w) (plain Truth) t p.1
+      (decided_gives either v w (subst (Fits m r v) p.0 g) (subst (Fits m r w) p.0 h))

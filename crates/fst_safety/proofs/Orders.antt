@@ -15,7 +15,8 @@ use Rattle.fst_safety.proofs.OneEnd.{sound_regular, ends_alike}
 use Rattle.fst_safety.proofs.Runs.{printable_formed, runs_sound, started_sound}
 
 -- the start is sound
-start_sound : (m : Module) (ds : List Deriv) → HasDerivations m ds → (e : CoreTree) → main_body m.globals.items ≡ Some e → (a : Tree) × IsSound (surroundings m []) a (started e)
+start_sound : (m : Module) (ds : List Deriv) → HasDerivations m ds → (e : CoreTree) → main_body m.globals.items ≡ Some e →
+    (a : Tree) × IsSound (surroundings m []) a (started e)
 start_sound m ds h e q =
     let k = main_typed m ds h e q in
     (k.type, started_sound (surroundings m []) (checked m ds h) k.type e (printable_formed k.type k.printable) k.typed)

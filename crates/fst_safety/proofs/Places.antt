@@ -55,7 +55,8 @@ module _ (m : Program) (types : List Tree) (c : Config) (hs : IsRegular m c) whe
       (task_written p o _ _ (λ e. inl (subst (Asker m c hs (Local p)) e (d.task, request.Step, d.asks, (refl, refl)))))
   tasks_at (New p) w d o =
       subst (λ z. (z.tasks o ≡ None) ⊎ (Asker m c hs (New p) o ⊎ Child (New p) o)) (sym d.writes)
-      (task_written p o _ _ (λ e. inl (subst (Asker m c hs (New p)) e (d.task, request.New d.number, d.asks, (d.number, refl, refl)))))
+      (task_written p o _ _ (λ e. inl (subst (Asker m c hs (New p)) e
+      (d.task, request.New d.number, d.asks, (d.number, refl, refl)))))
   tasks_at (Fork p) w d o =
       subst (λ z. (z.tasks o ≡ None) ⊎ (Asker m c hs (Fork p) o ⊎ Child (Fork p) o)) (sym d.writes)
       (either_written _ _ _
@@ -64,11 +65,14 @@ module _ (m : Program) (types : List Tree) (c : Config) (hs : IsRegular m c) whe
   tasks_at (Meet p q h) w d o =
       subst (λ z. (z.tasks o ≡ None) ⊎ (Asker m c hs (Meet p q h) o ⊎ Child (Meet p q h) o)) (sym d.writes)
       (either_written _ _ _
-      (task_written q o _ _ (λ e. inl (subst (Asker m c hs (Meet p q h)) e (d.receiver, request.Get (other d.end), d.gets, inr (d.sender, d.end, d.event, refl, refl, d.puts, d.named)))))
-      (task_written p o _ _ (λ e. inl (subst (Asker m c hs (Meet p q h)) e (d.sender, request.Put d.end d.event, d.puts, inl (d.receiver, d.end, d.event, refl, refl, d.gets, d.named))))))
+      (task_written q o _ _ (λ e. inl (subst (Asker m c hs (Meet p q h)) e
+      (d.receiver, request.Get (other d.end), d.gets, inr (d.sender, d.end, d.event, refl, refl, d.puts, d.named)))))
+      (task_written p o _ _ (λ e. inl (subst (Asker m c hs (Meet p q h)) e
+      (d.sender, request.Put d.end d.event, d.puts, inl (d.receiver, d.end, d.event, refl, refl, d.gets, d.named))))))
 
   -- an event writes the channel that it makes, and the one over which it passes something
-  channels_at : (e : CoreEvent) (w : Write) → Does m types c e w → (h : ChannelName) → (w.channels h ≡ None) ⊎ (Named e h ⊎ Spoken e h)
+  channels_at : (e : CoreEvent) (w : Write) → Does m types c e w → (h : ChannelName) → (w.channels h ≡ None) ⊎
+      (Named e h ⊎ Spoken e h)
   channels_at (Local p) w d h = inl (ap (λ z. z.channels h) d.writes)
   channels_at (New p) w d h =
       subst (λ z. (z.channels h ≡ None) ⊎ (Named (New p) h ⊎ Spoken (New p) h)) (sym d.writes)
@@ -76,7 +80,20 @@ module _ (m : Program) (types : List Tree) (c : Config) (hs : IsRegular m c) whe
   channels_at (Fork p) w d h = inl (ap (λ z. z.channels h) d.writes)
   channels_at (Meet p q g) w d h =
       subst (λ z. (z.channels h ≡ None) ⊎ (Named (Meet p q g) h ⊎ Spoken (Meet p q g) h)) (sym d.writes)
-      (channel_written g h _ _ (λ e. inr (p, q, d.sender, d.receiver, d.end, d.event, d.channel, ap (Meet p q) e, d.puts, d.gets, d.named ∙ e, ap c.channels (sym e) ∙ d.there)))
+      (channel_written g h _ _ (λ e. inr (
+        p,
+        q,
+        d.sender,
+        d.receiver,
+        d.end,
+        d.event,
+        d.channel,
+        ap (Meet p q) e,
+        d.puts,
+        d.gets,
+        d.named ∙ e,
+        ap c.channels (sym e) ∙ d.there,
+      )))
 
   -- no task is there before it is made
   no_child : (e : CoreEvent) (o : Path) (t : Task) → Child e o → c.tasks o ≡ Some t → ⊥
@@ -87,16 +104,19 @@ module _ (m : Program) (types : List Tree) (c : Config) (hs : IsRegular m c) whe
   no_name e h k f g = none_some (sym (new_free c f.0 f.1 hs.makers f.3) ∙ ap c.channels f.4 ∙ g)
 
   -- two different events write no task in common
-  pub apart_tasks : (a b : CoreEvent) (v w : Write) → Does m types c a v → Does m types c b w → (a ≡ b → ⊥) → (o : Path) → (v.tasks o ≡ None) ⊎ (w.tasks o ≡ None)
+  pub apart_tasks : (a b : CoreEvent) (v w : Write) → Does m types c a v → Does m types c b w → (a ≡ b → ⊥) → (o : Path) →
+      (v.tasks o ≡ None) ⊎ (w.tasks o ≡ None)
   apart_tasks a b v w da db n o = go (tasks_at a v da o) (tasks_at b w db o)
     where
-      go : (v.tasks o ≡ None) ⊎ (Asker m c hs a o ⊎ Child a o) → (w.tasks o ≡ None) ⊎ (Asker m c hs b o ⊎ Child b o) → (v.tasks o ≡ None) ⊎ (w.tasks o ≡ None)
+      go : (v.tasks o ≡ None) ⊎ (Asker m c hs a o ⊎ Child a o) → (w.tasks o ≡ None) ⊎ (Asker m c hs b o ⊎ Child b o) →
+          (v.tasks o ≡ None) ⊎ (w.tasks o ≡ None)
       go (inl f) g = inl f
       go (inr f) (inl g) = inr g
       go (inr (inl f)) (inr (inl g)) = absurd (n (same_asker m c hs a b o f g))
       go (inr (inl f)) (inr (inr g)) = absurd (no_child b o f.0 g f.2.0)
       go (inr (inr f)) (inr (inl g)) = absurd (no_child a o g.0 f g.2.0)
-      go (inr (inr f)) (inr (inr g)) = absurd (n (f.2 ∙ ap Fork (one_parent f.0 g.0 f.1.forked g.1.forked (f.4 ∙ sym g.4)).0 ∙ sym g.2))
+      go (inr (inr f)) (inr (inr g)) = absurd (n (f.2 ∙ ap Fork (one_parent f.0 g.0 f.1.forked g.1.forked (f.4 ∙ sym g.4)).0
+          ∙ sym g.2))
 
   -- two meetings over one channel are one event
   same_spoken : (a b : CoreEvent) (h : ChannelName) → Spoken a h → Spoken b h → a ≡ b
@@ -104,12 +124,16 @@ module _ (m : Program) (types : List Tree) (c : Config) (hs : IsRegular m c) whe
     where
       go : (f.4 ≡ g.4) ⊎ (f.4 ≡ other g.4) → a ≡ b
       go (inl e) =
-          let first = right_one m c hs.fine f.0 g.0 f.2 g.2 (request.Put f.4 f.5) (request.Put g.4 g.5) f.4 f.8 g.8 refl (ap Some (sym e)) in
-          let second = right_one m c hs.fine f.1 g.1 f.3 g.3 (request.Get (other f.4)) (request.Get (other g.4)) (other f.4) f.9 g.9 refl (ap (λ z. Some (other z)) (sym e)) in
+          let first = right_one m c hs.fine f.0 g.0 f.2 g.2 (request.Put f.4 f.5) (request.Put g.4 g.5) f.4 f.8 g.8 refl
+          (ap Some (sym e)) in
+          let second = right_one m c hs.fine f.1 g.1 f.3 g.3 (request.Get (other f.4)) (request.Get (other g.4))
+          (other f.4) f.9 g.9 refl (ap (λ z. Some (other z)) (sym e)) in
           f.7 ∙ (λ i. Meet (first i) (second i) h) ∙ sym g.7
       go (inr e) =
-          let q : f.0 ≡ g.1 = right_one m c hs.fine f.0 g.1 f.2 g.3 (request.Put f.4 f.5) (request.Get (other g.4)) f.4 f.8 g.9 refl (ap Some (sym e)) in
-          let z = (same_asks m c g.1 f.2 g.3 (request.Put f.4 f.5) (request.Get (other g.4)) (subst (λ z. Asks m c z f.2 (request.Put f.4 f.5)) q f.8) g.9).1 in
+          let q : f.0 ≡ g.1 = right_one m c hs.fine f.0 g.1 f.2 g.3 (request.Put f.4 f.5)
+          (request.Get (other g.4)) f.4 f.8 g.9 refl (ap Some (sym e)) in
+          let z = (same_asks m c g.1 f.2 g.3 (request.Put f.4 f.5) (request.Get (other g.4))
+          (subst (λ z. Asks m c z f.2 (request.Put f.4 f.5)) q f.8) g.9).1 in
           absurd (cc z)
 
   -- two different events write no channel in common
@@ -117,7 +141,8 @@ module _ (m : Program) (types : List Tree) (c : Config) (hs : IsRegular m c) whe
       (h : ChannelName) → (v.channels h ≡ None) ⊎ (w.channels h ≡ None)
   apart_channels a b v w da db n h = go (channels_at a v da h) (channels_at b w db h)
     where
-      go : (v.channels h ≡ None) ⊎ (Named a h ⊎ Spoken a h) → (w.channels h ≡ None) ⊎ (Named b h ⊎ Spoken b h) → (v.channels h ≡ None) ⊎ (w.channels h ≡ None)
+      go : (v.channels h ≡ None) ⊎ (Named a h ⊎ Spoken a h) → (w.channels h ≡ None) ⊎ (Named b h ⊎ Spoken b h) →
+          (v.channels h ≡ None) ⊎ (w.channels h ≡ None)
       go (inl f) g = inl f
       go (inr f) (inl g) = inr g
       go (inr (inl f)) (inr (inl g)) = absurd (n (f.2 ∙ ap New (ap (λ (h : ChannelName). h.maker) (f.4 ∙ sym g.4)) ∙ sym g.2))

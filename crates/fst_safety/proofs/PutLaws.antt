@@ -45,12 +45,15 @@ pub record HasPut (f : EndView) (t : Tree) (bag0 ret0 bag1 ret1 : List EndView) 
   pub ends : (m : Surroundings) (u : Task) → FitsEnd m u f → All (FitsEnd m u) bag0 → All (FitsEnd m u) bag1
   pub more : List EndView
   pub kept : ret1 ≡ ret0 ++ more
-  pub are : (q : Residuals) → AreResiduals bag0 q → count_of (end_name f) bag0 ≡ 0 → AreResiduals bag1 (with_at (end_name f) (Some (rested t)) q)
+  pub are : (q : Residuals) → AreResiduals bag0 q → count_of (end_name f) bag0 ≡ 0 →
+      AreResiduals bag1 (with_at (end_name f) (Some (rested t)) q)
 
 -- a residual that was that of a spent end anyway
-are_idle : (q : Residuals) (x : EndName) (bag : List EndView) → AreResiduals bag q → count_of x bag ≡ 0 → AreResiduals bag (with_at x (Some skip) q)
+are_idle : (q : Residuals) (x : EndName) (bag : List EndView) → AreResiduals bag q → count_of x bag ≡ 0 →
+    AreResiduals bag (with_at x (Some skip) q)
 are_idle q x bag h n = record {
-  known = All-weaker (λ (e : EndView). q (end_name e) ≡ residual_of e.knows) (λ (e : EndView). with_at x (Some skip) q (end_name e) ≡ residual_of e.knows) (λ e k. same (end_name e) ∙ k) bag h.known;
+  known = All-weaker (λ (e : EndView). q (end_name e) ≡ residual_of e.knows)
+      (λ (e : EndView). with_at x (Some skip) q (end_name e) ≡ residual_of e.knows) (λ e k. same (end_name e) ∙ k) bag h.known;
   others = λ z c. same z ∙ h.others z c;
 }
   where
@@ -61,7 +64,8 @@ are_idle q x bag h n = record {
         go (inl i) = ap (with_at x (Some skip) q) i ∙ at_itself x (Some skip) q ∙ sym (h.others x n) ∙ sym (ap q i)
         go (inr i) = i
 
-pub has_put : (f : EndView) (t : Tree) → residual_of f.knows ≡ Some t → (bag0 ret0 bag1 ret1 : List EndView) → IsPutBack f bag0 ret0 bag1 ret1 → HasPut f t bag0 ret0 bag1 ret1
+pub has_put : (f : EndView) (t : Tree) → residual_of f.knows ≡ Some t →
+    (bag0 ret0 bag1 ret1 : List EndView) → IsPutBack f bag0 ret0 bag1 ret1 → HasPut f t bag0 ret0 bag1 ret1
 has_put f t is bag0 ret0 bag1 ret1 p = pick (terminated p.0) refl p.2
   where
     same : p.0 ≡ t
@@ -75,17 +79,20 @@ has_put f t is bag0 ret0 bag1 ret1 p = pick (terminated p.0) refl p.2
       went = inr (λ z. (ap (count_of z) h.0, ap (count_of z) h.1 ∙ sum_by_push (counted z) ret0 f));
       sums = λ w. let a = ap (sum_by w) h.0 in let b = ap (sum_by w) h.1 ∙ sum_by_push w ret0 f in omega (arith, a, b);
       unspent = λ o. subst (All IsOpen) (sym h.0) o;
-      spent = λ i s. subst (All IsSpent) (sym h.1) (All-push IsSpent ret0 f s (record { residual = t; is = is; done = ap terminated (sym same) ∙ e; idle = i }));
+      spent = λ i s. subst (All IsSpent) (sym h.1)
+          (All-push IsSpent ret0 f s (record { residual = t; is = is; done = ap terminated (sym same) ∙ e; idle = i }));
       past = λ n one rest. subst (All (IsPast n)) (sym h.1) (All-push (IsPast n) ret0 f rest one);
       ends = λ m u one rest. subst (All (FitsEnd m u)) (sym h.0) rest;
       more = f ∷ [];
       kept = h.1;
-      are = λ q a n. subst (λ u. AreResiduals bag1 (with_at (end_name f) (Some u) q)) (sym (rested_is true e)) (subst (λ b. AreResiduals b (with_at (end_name f) (Some skip) q)) (sym h.0) (are_idle q (end_name f) bag0 a n));
+      are = λ q a n. subst (λ u. AreResiduals bag1 (with_at (end_name f) (Some u) q)) (sym (rested_is true e))
+          (subst (λ b. AreResiduals b (with_at (end_name f) (Some skip) q)) (sym h.0) (are_idle q (end_name f) bag0 a n));
     }
     pick false e h = record {
       went = inl (λ z. (ap (count_of z) h.0 ∙ sum_by_push (counted z) bag0 f, ap (count_of z) h.1));
       sums = λ w. let a = ap (sum_by w) h.0 ∙ sum_by_push w bag0 f in let b = ap (sum_by w) h.1 in omega (arith, a, b);
-      unspent = λ o. subst (All IsOpen) (sym h.0) (All-push IsOpen bag0 f o (record { residual = t; is = is; left = ap terminated (sym same) ∙ e }));
+      unspent = λ o. subst (All IsOpen) (sym h.0) (All-push IsOpen bag0 f o
+          (record { residual = t; is = is; left = ap terminated (sym same) ∙ e }));
       spent = λ i s. subst (All IsSpent) (sym h.1) s;
       past = λ n one rest. subst (All (IsPast n)) (sym h.1) rest;
       ends = λ m u one rest. subst (All (FitsEnd m u)) (sym h.0) (All-push (FitsEnd m u) bag0 f rest one);
@@ -97,17 +104,20 @@ has_put f t is bag0 ret0 bag1 ret1 p = pick (terminated p.0) refl p.2
           (subst (λ b. AreResiduals b (with_at (end_name f) (residual_of f.knows) q)) (sym h.0) (last_first q k));
     }
       where
-        last_first : (q : Residuals) → AreResiduals (f ∷ bag0) (with_at (end_name f) (residual_of f.knows) q) → AreResiduals (bag0 ++ f ∷ []) (with_at (end_name f) (residual_of f.knows) q)
+        last_first : (q : Residuals) → AreResiduals (f ∷ bag0) (with_at (end_name f) (residual_of f.knows) q) →
+            AreResiduals (bag0 ++ f ∷ []) (with_at (end_name f) (residual_of f.knows) q)
         last_first q k =
             let P = λ (e : EndView). with_at (end_name f) (residual_of f.knows) q (end_name e) ≡ residual_of e.knows in
             record {
               known = All-push P bag0 f (All-tail P f bag0 k.known) (All-head P f bag0 k.known);
-              others = λ z c. k.others z (let a = sum_by_push (counted z) bag0 f in let b = sum_by-cons (counted z) f bag0 in omega (arith, a, b, c));
+              others = λ z c. k.others z (let a = sum_by_push (counted z) bag0 f in let b = sum_by-cons (counted z) f bag0 in
+                  omega (arith, a, b, c));
             }
 
 -- ---- residuals of which one is rested
 
-module _ (q q' : Residuals) (x : EndName) (t : Tree) (before : q x ≡ Some t) (later : q' x ≡ Some (rested t)) (others : (z : EndName) → (z ≡ x) ⊎ (q' z ≡ q z)) where
+module _ (q q' : Residuals) (x : EndName) (t : Tree) (before : q x ≡ Some t) (later : q' x ≡ Some (rested t))
+    (others : (z : EndName) → (z ≡ x) ⊎ (q' z ≡ q z)) where
   -- what is typed stays so
   pub rested_typed : (m : Surroundings) (s : State) (a : Tree) → IsTyped m q s a → IsTyped m q' s a
   rested_typed m s a h = pick (terminated t) refl

@@ -47,7 +47,8 @@ printable_formed t (pairs {s} {t = r} p q) =
 
 module _ (m : Surroundings) (well : IsWellTyped m) (a : Tree) where
   -- a configuration stays sound whatever happens
-  pub does_sound : (c : Config) (e : CoreEvent) (w : Write) → IsSound m a c → Does (program_in m) m.types c e w → IsSound m a (written c w)
+  pub does_sound : (c : Config) (e : CoreEvent) (w : Write) → IsSound m a c → Does (program_in m) m.types c e w →
+      IsSound m a (written c w)
   does_sound c (Local p) w h d = local_sound m well a c p w h d
   does_sound c (New p) w h d = new_sound m well a c p w h d
   does_sound c (Fork p) w h d = fork_sound m well a c p w h d
@@ -79,8 +80,10 @@ module _ (m : Surroundings) (well : IsWellTyped m) (a : Tree) where
       }
 
   -- where main has ended, its value fits its type
-  pub ended_fits : (c : Config) → IsSound m a c → (t : Task) (v : Value) → c.tasks main_path ≡ Some t → pause m.families t.state ≡ ended v → Fits m (residual_in c) v a
+  pub ended_fits : (c : Config) → IsSound m a c →
+      (t : Task) (v : Value) → c.tasks main_path ≡ Some t → pause m.families t.state ≡ ended v → Fits m (residual_in c) v a
   ended_fits c h t v f g =
       let s = h.tasks main_path t f in
-      let k : Allowed m (residual_in c) (ended v) s.0 = subst (λ z. Allowed m (residual_in c) z s.0) g (pause_goes m well (residual_in c) t.state s.0 s.1).0 in
+      let k : Allowed m (residual_in c) (ended v) s.0 = subst
+      (λ z. Allowed m (residual_in c) z s.0) g (pause_goes m well (residual_in c) t.state s.0 s.1).0 in
       subst (Fits m (residual_in c) v) (s.2 refl) k

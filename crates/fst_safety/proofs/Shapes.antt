@@ -194,7 +194,8 @@ module _ (m : Surroundings) (r : Residuals) where
   char_value (value.end x) f = session_plain f.3 f.2
 
   -- a value of a base type can be sent as one of that type, and holds no end
-  pub sent_value : (v : Value) (b : Base) → Fits m r v (plain b) → (ev : Event) × (sent v ≡ Some ev) × (sending ev ≡ Send b) × ((x : EndName) → held x v ≡ 0)
+  pub sent_value : (v : Value) (b : Base) → Fits m r v (plain b) → (ev : Event) × (sent v ≡ Some ev) × (sending ev ≡ Send b) ×
+      ((x : EndName) → held x v ≡ 0)
   sent_value (value.int n) b f = (event.Int n, refl, ap Send (sym (plains_equal f)), λ x. refl)
   sent_value (value.bool c) b f = (event.Bool c, refl, ap Send (sym (plains_equal f)), λ x. refl)
   sent_value (value.char c) b f = (event.Char c, refl, ap Send (sym (plains_equal f)), λ x. refl)

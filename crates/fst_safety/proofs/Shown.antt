@@ -51,13 +51,21 @@ module _ (m : Module) (w : IsWellTyped (surroundings m [])) (r : Residuals) wher
         let is = sym (printable_same (type.pair f.0 f.1) t p f.4) in
         let q = printable_parts (subst IsPrintable is p) in
         (f.0, f.1, is, result_of v f.0 q.0 f.2, result_of z f.1 q.1 f.3)
-    result_of (value.made n o vs) t p f = (f.0, f.1, f.2, f.3, fields_of vs f.1 (w.fields n o f.0 f.1 f.2 f.3) f.4, equals_named f.5)
+    result_of (value.made n o vs) t p f = (
+      f.0,
+      f.1,
+      f.2,
+      f.3,
+      fields_of vs f.1 (w.fields n o f.0 f.1 f.2 f.3) f.4,
+      equals_named f.5,
+    )
     result_of (value.function e env) t p f =
         no_printable_arrow (subst IsPrintable (sym (printable_same (arrow f.1 f.2.type f.3) t p f.10)) p)
     result_of (value.end x) t p f = no_printable_session f.0 (subst IsPrintable (sym (printable_same f.0 t p f.3)) p) f.2
 
     -- so it is with fields
-    pub fields_of : (vs : Values) (ts : List Tree) → AllByRecursion IsFieldType ts → FitAll (surroundings m []) r vs ts → AreOf m vs ts
+    pub fields_of : (vs : Values) (ts : List Tree) → AllByRecursion IsFieldType ts → FitAll (surroundings m []) r vs ts →
+        AreOf m vs ts
     fields_of no_values [] p f = tt
     fields_of no_values (t ∷ ts) p f = f
     fields_of (value.value v vs) [] p f = f

@@ -31,14 +31,16 @@ use Rattle.fst_safety.specs.Running.{Equals}
 use Rattle.fst_safety.proofs.Offers.{offering_moves}
 
 -- the residual of an end moves where a type moves at which the end stands, to an equal type
-pub end_moves : (m : Surroundings) (r : Residuals) (x : EndName) (s t : Tree) (a : Label) → Fits m r (value.end x) s → step s a ≡ Some t →
+pub end_moves : (m : Surroundings) (r : Residuals) (x : EndName) (s t : Tree) (a : Label) → Fits m r (value.end x) s →
+    step s a ≡ Some t →
     (s0 : Tree) × (t0 : Tree) × (r x ≡ Some s0) × (step s0 a ≡ Some t0) × IsSession [] s0 × Equals t t0
 end_moves m r x s t a f e =
     let g = equals_steps s f.0 t a (equals_back f.3) (equals_session f.3 f.2) e in
     (f.0, g.0, f.1, g.1, f.2, g.2)
 
 -- what a typed task asks for is allowed
-pub allowed_right : (m : Surroundings) (r : Residuals) (p : Pause) (t : Tree) → Allowed m r p t → (q : Request) × (asked p ≡ Some q) × IsAllowed r q
+pub allowed_right : (m : Surroundings) (r : Residuals) (p : Pause) (t : Tree) → Allowed m r p t → (q : Request) ×
+    (asked p ≡ Some q) × IsAllowed r q
 allowed_right m r stuck t a = absurd a
 allowed_right m r (calls e env v fs) t a = (request.Step, refl, tt)
 allowed_right m r (uses g fs) t a = (request.Step, refl, tt)
@@ -59,14 +61,18 @@ allowed_right m r (ended v) t a = (request.Ended, refl, tt)
 -- a sound configuration isn't wrong
 pub sound_right : (m : Surroundings) (well : IsWellTyped m) (a : Tree) (c : Config) → IsSound m a c → IsRight (program_in m) c
 sound_right m well a c h = record {
-  asks = λ p t e. let g = h.tasks p t e in allowed_right m (residual_in c) (pause m.families t.state) g.0 (pause_goes m well (residual_in c) t.state g.0 g.1).0;
+  asks = λ p t e. let g = h.tasks p t e in allowed_right m (residual_in c) (pause m.families t.state) g.0
+      (pause_goes m well (residual_in c) t.state g.0 g.1).0;
   traces = λ k t e. let g = h.traces k t e in (g.0, g.3);
   owned = h.owned;
 }
 
 -- one task goes on, and no residual changes
-pub goes_on : (m : Surroundings) (a : Tree) (c : Config) (p : Path) (t u : Task) (b : Tree) → IsSound m a c → c.tasks p ≡ Some t → Grows t u →
-    IsTyped m (residual_in c) u.state b → (p ≡ main_path → b ≡ a) → ((x : EndName) → IsUnspent (residual_in c) x → held_state x u.state ≡ held_state x t.state) → IsSound m a (with_task c p u)
+pub goes_on : (m : Surroundings) (a : Tree) (c : Config) (p : Path) (t u : Task) (b : Tree) → IsSound m a c → c.tasks p ≡ Some t →
+    Grows t u →
+    IsTyped m (residual_in c) u.state b → (p ≡ main_path → b ≡ a) →
+    ((x : EndName) → IsUnspent (residual_in c) x → held_state x u.state ≡ held_state x t.state) →
+    IsSound m a (with_task c p u)
 goes_on m a c p t u b h e g k y n = record {
   tasks = λ q v f. in_put (same_path p q) u v (c.tasks q)
       (λ s z. (b, subst (λ w. IsTyped m (residual_in c) w.state b) z k, λ i. y (same_path-same p q s ∙ i)))
@@ -80,7 +86,8 @@ goes_on m a c p t u b h e g k y n = record {
 }
 
 -- what a task becomes that applies a function or uses a global
-pub steps_on : (m : Surroundings) (well : IsWellTyped m) (r : Residuals) (p : Pause) (s : State) (t : Tree) → Allowed m r p t → after (program_in m) p Go ≡ Some s →
+pub steps_on : (m : Surroundings) (well : IsWellTyped m) (r : Residuals) (p : Pause) (s : State) (t : Tree) → Allowed m r p t →
+    after (program_in m) p Go ≡ Some s →
     Goes m r s t (λ x. held_pause x p)
 steps_on m well r stuck s t a e = absurd a
 steps_on m well r (calls f env v fs) s t a e =

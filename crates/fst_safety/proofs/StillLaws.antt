@@ -22,7 +22,8 @@ own y q = let e = own_once y in omega (arith, q, e)
 module _ (m : Surroundings) (r r' : Residuals) where
   -- the ends that are counted have residuals that are equal types
   abbrev pub Still : (EndName → ℕ) → Type 0
-  Still n = (x : EndName) (s : Tree) → r x ≡ Some s → IsSession [] s → (n x ≡ 0 → ⊥) → (u : Tree) × (r' x ≡ Some u) × IsSession [] u × Equals u s
+  Still n = (x : EndName) (s : Tree) → r x ≡ Some s → IsSession [] s → (n x ≡ 0 → ⊥) → (u : Tree) ×
+      (r' x ≡ Some u) × IsSession [] u × Equals u s
 
   -- so they have where they keep them
   pub unchanged : (n : EndName → ℕ) → ((x : EndName) (s : Tree) → r x ≡ Some s → (n x ≡ 0 → ⊥) → r' x ≡ Some s) → Still n
@@ -71,10 +72,12 @@ module _ (m : Surroundings) (r r' : Residuals) where
     )
 
   -- so does an environment
-  pub env_still : (g : List Variable) (p : ℕ → Bool) (env : Environment) → IsEnv m r g p env → Still (λ x. held_env x env) → IsEnv m r' g p env
+  pub env_still : (g : List Variable) (p : ℕ → Bool) (env : Environment) → IsEnv m r g p env → Still (λ x. held_env x env) →
+      IsEnv m r' g p env
   env_still g p env i h = (values_still env g i.0 h, i.1)
 
-  before_still : (vs : Values) (all ts : List Tree) → FitBefore m r vs all ts → Still (λ x. held_all x vs) → FitBefore m r' vs all ts
+  before_still : (vs : Values) (all ts : List Tree) → FitBefore m r vs all ts → Still (λ x. held_all x vs) →
+      FitBefore m r' vs all ts
   before_still no_values all ts f h = f
   before_still (value.value v vs) all ts f h = (
     f.0,
@@ -88,21 +91,46 @@ module _ (m : Surroundings) (r r' : Residuals) where
   behind : (f : Frame) (fs : List Frame) → Still (λ x. held_frames x (f ∷ fs)) → Still (λ x. held_frames x fs)
   behind f fs h = less (λ x. held_frames x (f ∷ fs)) (λ x. held_frames x fs) h (λ x q. omega (arith, q))
 
-  field_done : (n o : ℕ) (done : Values) (es : CoreList) (env : Environment) → Still (λ x. held_frame x (at_field n o done es env)) → Still (λ x. held_all x done)
+  field_done : (n o : ℕ) (done : Values) (es : CoreList) (env : Environment) → Still
+      (λ x. held_frame x (at_field n o done es env)) → Still (λ x. held_all x done)
   field_done n o done es env h = less (λ x. held_all x done + held_env x env) (λ x. held_all x done) h (λ x q. omega (arith, q))
 
-  field_env : (n o : ℕ) (done : Values) (es : CoreList) (env : Environment) → Still (λ x. held_frame x (at_field n o done es env)) → Still (λ x. held_env x env)
+  field_env : (n o : ℕ) (done : Values) (es : CoreList) (env : Environment) → Still
+      (λ x. held_frame x (at_field n o done es env)) → Still (λ x. held_env x env)
   field_env n o done es env h = less (λ x. held_all x done + held_env x env) (λ x. held_env x env) h (λ x q. omega (arith, q))
 
   -- so do frames
   pub takes_still : (fs : List Frame) (a t : Tree) → Takes m r fs a t → Still (λ x. held_frames x fs) → Takes m r' fs a t
   takes_still [] a t k h = k
-  takes_still (at_function e env ∷ fs) a t k h =
-      (k.0, k.1, k.2, k.3, k.4, env_still k.3 _ env k.5 (first (at_function e env) fs h), k.6, k.7, k.8, takes_still fs k.7 t k.9 (behind (at_function e env) fs h))
-  takes_still (at_argument v ∷ fs) a t k h =
-      (k.0, k.1, fits_still v _ k.2 (first (at_argument v) fs h), k.3, k.4, takes_still fs k.3 t k.5 (behind (at_argument v) fs h))
-  takes_still (at_first e env ∷ fs) a t k h =
-      (k.0, k.1, env_still k.1 _ env k.2 (first (at_first e env) fs h), k.3, k.4, k.5, takes_still fs k.4 t k.6 (behind (at_first e env) fs h))
+  takes_still (at_function e env ∷ fs) a t k h = (
+    k.0,
+    k.1,
+    k.2,
+    k.3,
+    k.4,
+    env_still k.3 _ env k.5 (first (at_function e env) fs h),
+    k.6,
+    k.7,
+    k.8,
+    takes_still fs k.7 t k.9 (behind (at_function e env) fs h),
+  )
+  takes_still (at_argument v ∷ fs) a t k h = (
+    k.0,
+    k.1,
+    fits_still v _ k.2 (first (at_argument v) fs h),
+    k.3,
+    k.4,
+    takes_still fs k.3 t k.5 (behind (at_argument v) fs h),
+  )
+  takes_still (at_first e env ∷ fs) a t k h = (
+    k.0,
+    k.1,
+    env_still k.1 _ env k.2 (first (at_first e env) fs h),
+    k.3,
+    k.4,
+    k.5,
+    takes_still fs k.4 t k.6 (behind (at_first e env) fs h),
+  )
   takes_still (at_second v ∷ fs) a t k h =
       (k.0, fits_still v k.0 k.1 (first (at_second v) fs h), k.2, k.3, takes_still fs k.2 t k.4 (behind (at_second v) fs h))
   takes_still (at_field n o done es env ∷ fs) a t k h =
@@ -120,29 +148,110 @@ module _ (m : Surroundings) (r r' : Residuals) where
         k.10,
         takes_still fs k.9 t k.11 (behind (at_field n o done es env) fs h),
       )
-  takes_still (at_let e env ∷ fs) a t k h =
-      (k.0, k.1, k.2, k.3, k.4, env_still k.2 _ env k.5 (first (at_let e env) fs h), k.6, k.7, takes_still fs k.1 t k.8 (behind (at_let e env) fs h))
-  takes_still (at_split e env ∷ fs) a t k h =
-      (k.0, k.1, k.2, k.3, k.4, k.5, k.6, env_still k.3 _ env k.7 (first (at_split e env) fs h), k.8, k.9, k.10, takes_still fs k.2 t k.11 (behind (at_split e env) fs h))
-  takes_still (at_if e f env ∷ fs) a t k h =
-      (k.0, k.1, k.2, env_still k.1 _ env k.3 (first (at_if e f env) fs h), k.4, k.5, k.6, takes_still fs k.0 t k.7 (behind (at_if e f env) fs h))
-  takes_still (at_case bs env ∷ fs) a t k h =
-      (k.0, k.1, k.2, k.3, k.4, env_still k.3 _ env k.5 (first (at_case bs env) fs h), k.6, k.7, k.8, k.9, takes_still fs k.2 t k.10 (behind (at_case bs env) fs h))
-  takes_still (at_left o e env ∷ fs) a t k h =
-      (k.0, k.1, k.2, env_still k.1 _ env k.3 (first (at_left o e env) fs h), k.4, k.5, k.6, takes_still fs k.5 t k.7 (behind (at_left o e env) fs h))
+  takes_still (at_let e env ∷ fs) a t k h = (
+    k.0,
+    k.1,
+    k.2,
+    k.3,
+    k.4,
+    env_still k.2 _ env k.5 (first (at_let e env) fs h),
+    k.6,
+    k.7,
+    takes_still fs k.1 t k.8 (behind (at_let e env) fs h),
+  )
+  takes_still (at_split e env ∷ fs) a t k h = (
+    k.0,
+    k.1,
+    k.2,
+    k.3,
+    k.4,
+    k.5,
+    k.6,
+    env_still k.3 _ env k.7 (first (at_split e env) fs h),
+    k.8,
+    k.9,
+    k.10,
+    takes_still fs k.2 t k.11 (behind (at_split e env) fs h),
+  )
+  takes_still (at_if e f env ∷ fs) a t k h = (
+    k.0,
+    k.1,
+    k.2,
+    env_still k.1 _ env k.3 (first (at_if e f env) fs h),
+    k.4,
+    k.5,
+    k.6,
+    takes_still fs k.0 t k.7 (behind (at_if e f env) fs h),
+  )
+  takes_still (at_case bs env ∷ fs) a t k h = (
+    k.0,
+    k.1,
+    k.2,
+    k.3,
+    k.4,
+    env_still k.3 _ env k.5 (first (at_case bs env) fs h),
+    k.6,
+    k.7,
+    k.8,
+    k.9,
+    takes_still fs k.2 t k.10 (behind (at_case bs env) fs h),
+  )
+  takes_still (at_left o e env ∷ fs) a t k h = (
+    k.0,
+    k.1,
+    k.2,
+    env_still k.1 _ env k.3 (first (at_left o e env) fs h),
+    k.4,
+    k.5,
+    k.6,
+    takes_still fs k.5 t k.7 (behind (at_left o e env) fs h),
+  )
   takes_still (at_right o v ∷ fs) a t k h =
       (k.0, k.1, fits_still v a k.2 (first (at_right o v) fs h), k.3, k.4, takes_still fs k.3 t k.5 (behind (at_right o v) fs h))
   takes_still (at_not ∷ fs) a t k h = (k.0, k.1, k.2, takes_still fs k.1 t k.3 (behind at_not fs h))
-  takes_still (at_value e env ∷ fs) a t k h =
-      (k.0, k.1, k.2, k.3, k.4, env_still k.3 _ env k.5 (first (at_value e env) fs h), k.6, k.7, k.8, k.9, takes_still fs k.8 t k.10 (behind (at_value e env) fs h))
-  takes_still (at_target v ∷ fs) a t k h =
-      (k.0, k.1, fits_still v _ k.2 (first (at_target v) fs h), k.3, k.4, k.5, takes_still fs k.4 t k.6 (behind (at_target v) fs h))
+  takes_still (at_value e env ∷ fs) a t k h = (
+    k.0,
+    k.1,
+    k.2,
+    k.3,
+    k.4,
+    env_still k.3 _ env k.5 (first (at_value e env) fs h),
+    k.6,
+    k.7,
+    k.8,
+    k.9,
+    takes_still fs k.8 t k.10 (behind (at_value e env) fs h),
+  )
+  takes_still (at_target v ∷ fs) a t k h = (
+    k.0,
+    k.1,
+    fits_still v _ k.2 (first (at_target v) fs h),
+    k.3,
+    k.4,
+    k.5,
+    takes_still fs k.4 t k.6 (behind (at_target v) fs h),
+  )
   takes_still (at_receive ∷ fs) a t k h = (k.0, k.1, k.2, k.3, k.4, takes_still fs k.3 t k.5 (behind at_receive fs h))
   takes_still (at_select l ∷ fs) a t k h = (k.0, k.1, k.2, k.3, takes_still fs k.2 t k.4 (behind (at_select l) fs h))
-  takes_still (at_match bs env ∷ fs) a t k h =
-      (k.0, k.1, k.2, k.3, k.4, env_still k.2 _ env k.5 (first (at_match bs env) fs h), k.6, k.7, takes_still fs k.1 t k.8 (behind (at_match bs env) fs h))
-  takes_still (at_seq e env ∷ fs) a t k h =
-      (k.0, k.1, k.2, env_still k.1 _ env k.3 (first (at_seq e env) fs h), k.4, takes_still fs k.0 t k.5 (behind (at_seq e env) fs h))
+  takes_still (at_match bs env ∷ fs) a t k h = (
+    k.0,
+    k.1,
+    k.2,
+    k.3,
+    k.4,
+    env_still k.2 _ env k.5 (first (at_match bs env) fs h),
+    k.6,
+    k.7,
+    takes_still fs k.1 t k.8 (behind (at_match bs env) fs h),
+  )
+  takes_still (at_seq e env ∷ fs) a t k h = (
+    k.0,
+    k.1,
+    k.2,
+    env_still k.1 _ env k.3 (first (at_seq e env) fs h),
+    k.4,
+    takes_still fs k.0 t k.5 (behind (at_seq e env) fs h),
+  )
 
   -- so does a state
   pub typed_still : (s : State) (t : Tree) → IsTyped m r s t → Still (λ x. held_state x s) → IsTyped m r' s t

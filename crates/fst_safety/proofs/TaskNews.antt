@@ -44,7 +44,8 @@ use Rattle.fst_safety.proofs.Told.{told_made, told_forked}
 -- ---- a channel
 
 -- where a new channel is asked for its type is a session type
-is_declared : (m : Surroundings) (r : Residuals) (p : Pause) (t : Tree) (j : ℕ) → Allowed m r p t → asked p ≡ Some (request.New j) → (d : Tree) × (slice_get m.types j ≡ Some d) × IsSession [] d
+is_declared : (m : Surroundings) (r : Residuals) (p : Pause) (t : Tree) (j : ℕ) → Allowed m r p t →
+    asked p ≡ Some (request.New j) → (d : Tree) × (slice_get m.types j ≡ Some d) × IsSession [] d
 is_declared m r stuck t j h e = absurd h
 is_declared m r (calls b env v fs) t j h e = absurd (cc e)
 is_declared m r (uses g fs) t j h e = absurd (cc e)
@@ -57,10 +58,12 @@ is_declared m r (gets x fs) t j h e = absurd (cc e)
 is_declared m r (matches x bs env fs) t j h e = absurd (cc e)
 is_declared m r (ended v) t j h e = absurd (cc e)
 
-pub declarable : (k : Code) (a : Tree) (t : TypedTask) (x : Thread) → Fits k a t x → (j : ℕ) → AsksNow k t (request.New j) → IsDeclarable k j
+pub declarable : (k : Code) (a : Tree) (t : TypedTask) (x : Thread) → Fits k a t x →
+    (j : ℕ) → AsksNow k t (request.New j) → IsDeclarable k j
 declarable k a t x f j now =
     let p = its_pause k.module.value f.code.derivations f.code.derived a x f.fits in
-    let d = is_declared (module_of k) f.fits.typed.residuals (pause k.module.value.families.items x.now.state) f.fits.typed.type j p (asks_it k a t x f (request.New j) now) in
+    let d = is_declared (module_of k) f.fits.typed.residuals
+    (pause k.module.value.families.items x.now.state) f.fits.typed.type j p (asks_it k a t x f (request.New j) now) in
     (d.0, ap (λ ts. slice_get ts j) f.code.from.same_types ∙ d.1, d.2)
 
 -- few were made
@@ -68,14 +71,16 @@ pub few_made : (k : Code) (a : Tree) (t : TypedTask) (x : Thread) → Fits k a t
 few_made k a t x f few = let m = f.fits.made in let c = f.keeps.clock in let d = f.keeps.made in omega (arith, few, m, c, d)
 
 -- each end can be put somewhere
-put_somewhere : (e : EndView) (s : Tree) → residual_of e.knows ≡ Some s → (es spent : List EndView) → (bag : List EndView) × (retired : List EndView) × IsPutBack e es spent bag retired
+put_somewhere : (e : EndView) (s : Tree) → residual_of e.knows ≡ Some s → (es spent : List EndView) → (bag : List EndView) ×
+    (retired : List EndView) × IsPutBack e es spent bag retired
 put_somewhere e s is es spent = go (terminated s) refl
   where
     go : (b : Bool) → terminated s ≡ b → (bag : List EndView) × (retired : List EndView) × IsPutBack e es spent bag retired
     go true q = (es, spent ++ e ∷ [], (s, is, subst (λ b. put_by b e es spent es (spent ++ e ∷ [])) (sym q) (refl, refl)))
     go false q = (es ++ e ∷ [], spent, (s, is, subst (λ b. put_by b e es spent (es ++ e ∷ []) spent) (sym q) (refl, refl)))
 
-module _ (k : Code) (t : TypedTask) (j : ℕ) (now : AsksNow k t (request.New j)) (name again : ChannelName) (l r : EndView) (new : AreNew k t j name again l r)
+module _ (k : Code) (t : TypedTask) (j : ℕ) (now : AsksNow k t (request.New j)) (name again : ChannelName) (l r : EndView)
+    (new : AreNew k t j name again l r)
     (a : Tree) (x : Thread) (f : Fits k a t x) (stamp : ℕ) (next : stamp ≡ t.clock + 1) where
   abbrev h : ChannelName
   h = channel_name x.path x.now.made
@@ -103,34 +108,43 @@ module _ (k : Code) (t : TypedTask) (j : ℕ) (now : AsksNow k t (request.New j)
   goes bag1 ret1 bag ret pl pr =
       let late : suc x.now.clock ≡ stamp = let c = f.keeps.clock in omega (arith, c, next) in
       subst (λ n. GoesOnTo (module_of k) a x (with_entry (module_of k) x (request.New j) (Made h) n bag ret) []) late
-      (stay_typed.opens k.module.value f.code.derivations f.code.derived a x f.fits j new.declared told.0 l.cell l r bag1 ret1 bag ret asks is told.1 left_is right_is pl pr)
+      (stay_typed.opens k.module.value f.code.derivations f.code.derived a x f.fits j new.declared told.0 l.cell l r bag1 ret1 bag
+      ret asks is told.1 left_is right_is pl pr)
 
   told_name : machine.answered (program k.module.value) x.now.state (Made name) ≡ Some told.0
   told_name = ap (λ n. machine.answered (program k.module.value) x.now.state (Made n)) named ∙ told.1
 
   abbrev pl : (bag : List EndView) × (retired : List EndView) × IsPutBack l x.bag x.retired bag retired
-  pl = put_somewhere l new.declared (ap (λ (e : EndView). residual_of e.knows) new.left ∙ left_residual new.declared) x.bag x.retired
+  pl = put_somewhere l new.declared (ap (λ (e : EndView). residual_of e.knows) new.left ∙ left_residual new.declared) x.bag
+      x.retired
 
   abbrev pr : (bag : List EndView) × (retired : List EndView) × IsPutBack r pl.0 pl.1 bag retired
-  pr = put_somewhere r (dual new.declared) (ap (λ (e : EndView). residual_of e.knows) new.right ∙ right_residual new.declared) pl.0 pl.1
+  pr = put_somewhere r (dual new.declared) (ap (λ (e : EndView). residual_of e.knows) new.right ∙ right_residual new.declared)
+      pl.0 pl.1
 
   pub made_takes : Takes k t.task (Made name)
   made_takes =
       takes_it k a t x f (Made name) told.0 now.0 told_name
-      (alive_in k a t x f (request.New j) (Made h) stamp pr.0 pr.1 [] told.0 told.1 (goes pl.0 pl.1 pr.0 pr.1 pl.2 pr.2)) (λ e. absurd (cc e))
+      (alive_in k a t x f (request.New j) (Made h) stamp pr.0 pr.1 [] told.0 told.1 (goes pl.0 pl.1 pr.0 pr.1 pl.2 pr.2))
+      (λ e. absurd (cc e))
 
-  pub made_turned : (u v : TypedTask) (bag1 ret1 : List EndView) → HasGoneOn k t (request.New j) (Made name) stamp u → v.task ≡ u.task → v.made ≡ suc t.made → v.clock ≡ u.clock →
-      v.log.items ≡ u.log.items → u.bag.items ≡ t.bag.items → u.retired.items ≡ t.retired.items → IsPutBack l u.bag.items u.retired.items bag1 ret1 →
+  pub made_turned : (u v : TypedTask) (bag1 ret1 : List EndView) → HasGoneOn k t (request.New j) (Made name) stamp u →
+      v.task ≡ u.task → v.made ≡ suc t.made → v.clock ≡ u.clock →
+      v.log.items ≡ u.log.items → u.bag.items ≡ t.bag.items → u.retired.items ≡ t.retired.items →
+      IsPutBack l u.bag.items u.retired.items bag1 ret1 →
       IsPutBack r bag1 ret1 v.bag.items v.retired.items → HasTurned k a (Ok Moved) v x
   made_turned u v bag1 ret1 on task made clock log bag retired ql qr =
-      let ql' = subst (λ es. IsPutBack l es x.retired bag1 ret1) (bag ∙ f.keeps.bag) (subst (λ es. IsPutBack l u.bag.items es bag1 ret1) (retired ∙ f.keeps.retired) ql) in
+      let ql' = subst (λ es. IsPutBack l es x.retired bag1 ret1) (bag ∙ f.keeps.bag)
+      (subst (λ es. IsPutBack l u.bag.items es bag1 ret1) (retired ∙ f.keeps.retired) ql) in
       let g = goes bag1 ret1 v.bag.items v.retired.items ql' qr in
-      let on' : HasGoneOn k t (request.New j) (Made h) stamp u = subst (λ n. HasGoneOn k t (request.New j) (Made n) stamp u) named on in
+      let on' : HasGoneOn k t (request.New j) (Made h) stamp u = subst
+      (λ n. HasGoneOn k t (request.New j) (Made n) stamp u) named on in
       record {
         after = with_entry (module_of k) x (request.New j) (Made h) stamp v.bag.items v.retired.items;
         new = [];
         goes = g;
-        keeps = keeps_it k a t x f (request.New j) (Made h) stamp v.bag.items v.retired.items [] told.0 u v told.1 g on' task made clock log refl refl;
+        keeps = keeps_it k a t x f (request.New j) (Made h) stamp v.bag.items v.retired.items [] told.0 u v told.1 g on' task made
+            clock log refl refl;
         done =
             let b = made_sum offers x l r bag1 ret1 v.bag.items v.retired.items ql' qr in
             let n = length_push x.log (record { asked = request.New j; answer = Made h; stamp = stamp }) in
@@ -147,7 +161,8 @@ no_frames stuck b e = absurd (cc e)
 no_frames (calls c env v fs) b e = absurd (cc e)
 no_frames (uses g fs) b e = absurd (cc e)
 no_frames (makes k fs) b e = absurd (cc e)
-no_frames (forks c env fs) b e = let same : record { term = c; environment = env; frames = [] } ≡ b = cc e in ap (λ (s : State). s.frames) (sym same)
+no_frames (forks c env fs) b e = let same : record { term = c; environment = env; frames = [] } ≡ b = cc e in ap
+    (λ (s : State). s.frames) (sym same)
 no_frames (puts x ev fs) b e = absurd (cc e)
 no_frames (gets x fs) b e = absurd (cc e)
 no_frames (matches x bs env fs) b e = absurd (cc e)
@@ -164,18 +179,28 @@ once_in k a t x f z = go (count_of z t.bag.items) refl
         let o = (f.fits.once z (omega (arith, same))).0 in
         omega (arith, o, same)
 
-module _ (k : Code) (t : TypedTask) (now : AsksNow k t request.Fork) (few : t.clock < 4294967295) (a : Tree) (x : Thread) (f : Fits k a t x) where
+module _ (k : Code) (t : TypedTask) (now : AsksNow k t request.Fork) (few : t.clock < 4294967295) (a : Tree) (x : Thread)
+    (f : Fits k a t x) where
   asks_fork : machine.request (module_of k).families x.now.state ≡ Some request.Fork
   asks_fork = asks_it k a t x f request.Fork now
 
-  told_fork : (b : State) × (s : State) × (child (pause k.module.value.families.items x.now.state) ≡ Some b) × (machine.answered (program k.module.value) x.now.state Told ≡ Some s)
+  told_fork : (b : State) × (s : State) × (child (pause k.module.value.families.items x.now.state) ≡ Some b) ×
+      (machine.answered (program k.module.value) x.now.state Told ≡ Some s)
   told_fork = told_forked (program k.module.value) (pause k.module.value.families.items x.now.state) asks_fork
 
   few_forked : t.task.forked < 4294967295
   few_forked = let m = f.fits.forked in let c = f.keeps.clock in let d = f.keeps.forked in omega (arith, few, m, c, d)
 
   pub forks_now : Forks k t.task
-  forks_now = record { rests = now.0; source = k.module.value; from = f.code.from; state = x.now.state; is_in = f.keeps.is_in; asks = asks_fork; few = few_forked }
+  forks_now = record {
+    rests = now.0;
+    source = k.module.value;
+    from = f.code.from;
+    state = x.now.state;
+    is_in = f.keeps.is_in;
+    asks = asks_fork;
+    few = few_forked;
+  }
 
   -- the state after the fork is typed
   alive : pause k.module.value.families.items told_fork.1 ≡ stuck → ⊥
@@ -184,24 +209,30 @@ module _ (k : Code) (t : TypedTask) (now : AsksNow k t request.Fork) (few : t.cl
       let well = checked k.module.value f.code.derivations f.code.derived in
       let r = f.fits.typed.residuals in
       let ty = f.fits.typed.type in
-      let parts = fork_parts m well r (program k.module.value) (pause k.module.value.families.items x.now.state) ty (λ z. held_state z x.now.state) told_fork.1 told_fork.0
+      let parts = fork_parts m well r (program k.module.value) (pause k.module.value.families.items x.now.state) ty
+      (λ z. held_state z x.now.state) told_fork.1 told_fork.0
       (pause_goes m well r x.now.state ty f.fits.typed.typed) told_fork.2 told_fork.3 in
       subst (λ p. Allowed m r p ty) stop (pause_goes m well r told_fork.1 ty parts.0).0
 
   pub fork_takes : Takes k t.task Told
   fork_takes = takes_it k a t x f Told told_fork.1 now.0 told_fork.3 alive (λ e. few_forked)
 
-  module _ (w : TaskView) (ch : IsChild k t.task w) (names : List EndName) (are : names ≡ ends_in_slots w.spot.slots) (stamp : ℕ) (next : stamp ≡ t.clock + 1)
-      (u v : TypedTask) (on : HasGoneOn k t request.Fork Told stamp u) (task : v.task ≡ u.task) (made : v.made ≡ u.made) (clock : v.clock ≡ u.clock) (log : v.log.items ≡ u.log.items)
-      (retired : v.retired.items ≡ t.retired.items) (theirs : List EndView) (p : AreParted names t.bag.items v.bag.items theirs) where
+  module _ (w : TaskView) (ch : IsChild k t.task w) (names : List EndName) (are : names ≡ ends_in_slots w.spot.slots) (stamp : ℕ)
+      (next : stamp ≡ t.clock + 1)
+      (u v : TypedTask) (on : HasGoneOn k t request.Fork Told stamp u) (task : v.task ≡ u.task) (made : v.made ≡ u.made)
+      (clock : v.clock ≡ u.clock) (log : v.log.items ≡ u.log.items)
+      (retired : v.retired.items ≡ t.retired.items) (theirs : List EndView)
+      (p : AreParted names t.bag.items v.bag.items theirs) where
     abbrev b : State
     b = told_fork.0
 
     -- the child's names are the ends that it holds
     they_are : (z : EndName) → (Contains names z → 0 < held_state z b) × (0 < held_state z b → Contains names z)
     they_are z =
-        let e = slots_ends _ w.spot.slots b.environment (ch.alike k.module.value x.now.state b f.code.from f.keeps.is_in told_fork.2) z in
-        let none : held_frames z b.frames ≡ 0 = ap (held_frames z) (no_frames (pause k.module.value.families.items x.now.state) b told_fork.2) in (
+        let e = slots_ends _ w.spot.slots b.environment
+        (ch.alike k.module.value x.now.state b f.code.from f.keeps.is_in told_fork.2) z in
+        let none : held_frames z b.frames ≡ 0 = ap (held_frames z)
+        (no_frames (pause k.module.value.families.items x.now.state) b told_fork.2) in (
           λ c. let g = e.0 (subst (λ ns. Contains ns z) are c) in omega (arith, g, none),
           λ c. subst (λ ns. Contains ns z) (sym are) (e.1 (omega (arith, c, none))),
         )
@@ -219,19 +250,25 @@ module _ (k : Code) (t : TypedTask) (now : AsksNow k t request.Fork) (few : t.cl
     own : IsPermutation x.bag (v.bag.items ++ theirs)
     own = subst (λ es. IsPermutation es (v.bag.items ++ theirs)) f.keeps.bag p.all
 
-    fork_goes : GoesOnTo (module_of k) a x (with_entry (module_of k) x request.Fork Told stamp v.bag.items x.retired) (begun stamp ∷ [])
+    fork_goes : GoesOnTo (module_of k) a x (with_entry (module_of k) x request.Fork Told stamp v.bag.items x.retired)
+        (begun stamp ∷ [])
     fork_goes =
         let late : suc x.now.clock ≡ stamp = let c = f.keeps.clock in omega (arith, c, next) in
-        subst (λ n. GoesOnTo (module_of k) a x (with_entry (module_of k) x request.Fork Told n v.bag.items x.retired) (begun n ∷ [])) late
-        (stay_typed.forks k.module.value f.code.derivations f.code.derived a x f.fits b told_fork.1 names v.bag.items theirs asks_fork told_fork.2 told_fork.3
+        subst (λ n. GoesOnTo (module_of k) a x (with_entry (module_of k) x request.Fork Told n v.bag.items x.retired)
+        (begun n ∷ [])) late
+        (stay_typed.forks k.module.value f.code.derivations f.code.derived a x f.fits b told_fork.1 names v.bag.items theirs
+        asks_fork told_fork.2 told_fork.3
         own p.gone p.moved they_are)
 
-    pub fork_turned : (c : TypedTask) → c.task ≡ w → c.made ≡ 0 → c.clock ≡ stamp → c.log.items ≡ [] → c.bag.items ≡ theirs → c.retired.items ≡ [] → HasTurned k a (Ok (Forked c)) v x
+    pub fork_turned : (c : TypedTask) → c.task ≡ w → c.made ≡ 0 → c.clock ≡ stamp → c.log.items ≡ [] → c.bag.items ≡ theirs →
+        c.retired.items ≡ [] → HasTurned k a (Ok (Forked c)) v x
     fork_turned c its_task none at_start no_log its_bag none_spent = record {
       after = with_entry (module_of k) x request.Fork Told stamp v.bag.items x.retired;
       new = begun stamp ∷ [];
       goes = fork_goes;
-      keeps = keeps_it k a t x f request.Fork Told stamp v.bag.items x.retired (begun stamp ∷ []) told_fork.1 u v told_fork.3 fork_goes on task (made ∙ on.made) clock log refl (retired ∙ f.keeps.retired);
+      keeps = keeps_it k a t x f request.Fork Told stamp v.bag.items x.retired
+          (begun stamp ∷ []) told_fork.1 u v told_fork.3 fork_goes on task (made ∙ on.made) clock log refl
+          (retired ∙ f.keeps.retired);
       done =
           let b = parted_sum offers x v.bag.items theirs own in
           let n = length_push x.log (record { asked = request.Fork; answer = Told; stamp = stamp }) in
@@ -243,7 +280,8 @@ module _ (k : Code) (t : TypedTask) (now : AsksNow k t request.Fork) (few : t.cl
         refl,
         record {
           path = ap (λ (w : TaskView). w.path) its_task ∙ ch.path ∙ (λ i. child_path (f.keeps.path i) (f.keeps.forked i));
-          is_in = subst (λ w. IsIn k.module.value k w b) (sym its_task) (ch.states k.module.value x.now.state b f.code.from f.keeps.is_in told_fork.2);
+          is_in = subst (λ w. IsIn k.module.value k w b) (sym its_task)
+              (ch.states k.module.value x.now.state b f.code.from f.keeps.is_in told_fork.2);
           forked = ap (λ (w : TaskView). w.forked) its_task ∙ ch.forked;
           made = none;
           clock = at_start;

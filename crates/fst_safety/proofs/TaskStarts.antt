@@ -25,7 +25,8 @@ abbrev none_known : Residuals
 none_known x = Some skip
 
 -- the beginning of a typed term whose values can be printed is typed
-begun_typed : (m : Surroundings) (a : Tree) (e : CoreTree) → IsPrintable a → HasType m [] e a → IsTyped m none_known (begins e []) a
+begun_typed : (m : Surroundings) (a : Tree) (e : CoreTree) → IsPrintable a → HasType m [] e a →
+    IsTyped m none_known (begins e []) a
 begun_typed m a e p h = record {
   variables = [];
   type = a;
@@ -59,7 +60,8 @@ begun_fits m a e p h = record {
 }
 
 -- the machine's task of main is that thread
-pub begun : (k : Code) (t : TypedTask) → IsStart k t.task → t.made ≡ 0 → t.clock ≡ 0 → t.log.items ≡ [] → t.bag.items ≡ [] → t.retired.items ≡ [] → IsBegun k t
+pub begun : (k : Code) (t : TypedTask) → IsStart k t.task → t.made ≡ 0 → t.clock ≡ 0 → t.log.items ≡ [] → t.bag.items ≡ [] →
+    t.retired.items ≡ [] → IsBegun k t
 begun k t s made clock log bag retired a e code body =
     let h = main_typed k.module.value code.derivations code.derived e body in
     let same : h.type ≡ a = some_same (sym h.declared ∙ code.main) in

@@ -26,9 +26,12 @@ use Rattle.fst_safety.proofs.Pasts.{later_past}
 use Rattle.fst_safety.proofs.PutLaws.{HasPut, WentTo, has_put, rested, rested_typed, rested_unspent}
 use Rattle.fst_safety.proofs.ThreadLaws.{follows_more, later, few_made, few_forks, idle_end, later_ends, opened_more, none_opened}
 
-module _ (m : Surroundings) (a : Tree) (x : Thread) (fits : FitsIn m a x) (g : LogEntry) (enters : Enters (program_in m) x.path x.now g) (n : EndName) (e f : EndView)
-    (bag retired : List EndView) (moved : IsMoved x e f bag retired) (ne : end_name e ≡ n) (nf : end_name f ≡ n) (nw nx : Tree) (was : residual_of e.knows ≡ Some nw)
-    (is : residual_of f.knows ≡ Some nx) (idle : f.knows.offer ≡ None) (past : IsPast g.stamp f) (same_made : made_after g.answer x.now.made ≡ x.now.made)
+module _ (m : Surroundings) (a : Tree) (x : Thread) (fits : FitsIn m a x) (g : LogEntry)
+    (enters : Enters (program_in m) x.path x.now g) (n : EndName) (e f : EndView)
+    (bag retired : List EndView) (moved : IsMoved x e f bag retired) (ne : end_name e ≡ n) (nf : end_name f ≡ n) (nw nx : Tree)
+    (was : residual_of e.knows ≡ Some nw)
+    (is : residual_of f.knows ≡ Some nx) (idle : f.knows.offer ≡ None) (past : IsPast g.stamp f)
+    (same_made : made_after g.answer x.now.made ≡ x.now.made)
     (at : end_of g.asked ≡ Some n) where
   abbrev now' : Task
   now' = after_entry (program_in m) x.now g
@@ -55,7 +58,8 @@ module _ (m : Surroundings) (a : Tree) (x : Thread) (fits : FitsIn m a x) (g : L
   held_once = (fits.once n n_there).1
 
   rest_none : count_of n rest ≡ 0
-  rest_none = let c = count_first n e rest in let o = counted_so n e ne in let q = (fits.once n n_there).0 in omega (arith, there_is, c, o, q)
+  rest_none = let c = count_first n e rest in let o = counted_so n e ne in let q =
+      (fits.once n n_there).0 in omega (arith, there_is, c, o, q)
 
   rest_none_e : count_of (end_name e) rest ≡ 0
   rest_none_e = ap (λ z. count_of z rest) ne ∙ rest_none
@@ -112,7 +116,8 @@ module _ (m : Surroundings) (a : Tree) (x : Thread) (fits : FitsIn m a x) (g : L
       none_offer q = absurd (cc q)
 
   -- what typing says of the state after it, and that no end is held that wasn't
-  module _ (s_after : (t : Tree) (q q' : Residuals) → Exchanges q q' → IsTyped m q x.now.state t → Goes m q' now'.state t (λ z. held_state z x.now.state))
+  module _ (s_after : (t : Tree) (q q' : Residuals) → Exchanges q q' → IsTyped m q x.now.state t → Goes m q' now'.state t
+      (λ z. held_state z x.now.state))
       (holds : (z : EndName) → held_state z x.now.state ≡ 0 → held_state z now'.state ≡ 0) where
     goes : Goes m r1 now'.state fits.typed.type (λ z. held_state z x.now.state)
     goes = s_after fits.typed.type r r1 exchanged_residuals fits.typed.typed
@@ -156,10 +161,12 @@ module _ (m : Surroundings) (a : Tree) (x : Thread) (fits : FitsIn m a x) (g : L
 
     once_after : (z : EndName) → 0 < count_of z bag → (count_of z bag ≡ 1) × (held_state z now'.state ≡ 1)
     once_after z k =
-        let u = rested_unspent r1 rF n nx later_n at_n others_F z (unspent_in rF bag (put.unspent (All-tail IsOpen e rest open_before)) are z k) in
+        let u = rested_unspent r1 rF n nx later_n at_n others_F z
+        (unspent_in rF bag (put.unspent (All-tail IsOpen e rest open_before)) are z k) in
         by put.went (goes.1 z u)
       where
-        by : WentTo f rest x.retired bag retired → held_state z now'.state ≡ held_state z x.now.state → (count_of z bag ≡ 1) × (held_state z now'.state ≡ 1)
+        by : WentTo f rest x.retired bag retired → held_state z now'.state ≡ held_state z x.now.state → (count_of z bag ≡ 1) ×
+            (held_state z now'.state ≡ 1)
         by (inl w) h =
             let c = (w z).0 in
             let d = count_split z in
@@ -179,7 +186,8 @@ module _ (m : Surroundings) (a : Tree) (x : Thread) (fits : FitsIn m a x) (g : L
     known_after : AreKnownSpent x y y
     known_after z k c = by put.went (or_not z e)
       where
-        by : WentTo f rest x.retired bag retired → (end_name e ≡ z) ⊎ (counted z e ≡ 0) → (0 < count_of z retired) ⊎ ((0 < held_state z x.now.state) × (count_of z x.bag ≡ 0))
+        by : WentTo f rest x.retired bag retired → (end_name e ≡ z) ⊎ (counted z e ≡ 0) → (0 < count_of z retired) ⊎
+            ((0 < held_state z x.now.state) × (count_of z x.bag ≡ 0))
         by (inl w) o =
             let i = (w z).0 in
             let d = count_split z in
@@ -208,7 +216,8 @@ module _ (m : Surroundings) (a : Tree) (x : Thread) (fits : FitsIn m a x) (g : L
       };
       unspent = put.unspent (All-tail IsOpen e rest open_before);
       once = once_after;
-      named = λ z k. let h = fits.named z (held_before z k) in record { behind = h.behind; leads = h.leads; own = λ q. let c = h.own q in omega (arith, c, same_made) };
+      named = λ z k. let h = fits.named z (held_before z k) in
+          record { behind = h.behind; leads = h.leads; own = λ q. let c = h.own q in omega (arith, c, same_made) };
       ends = put.ends m now' f_later rest_later;
       spent = put.spent idle fits.spent;
       past = put.past g.stamp past (later_past x.now.clock g.stamp (omega (arith, clock_later)) x.retired fits.past);
@@ -227,8 +236,10 @@ module _ (m : Surroundings) (a : Tree) (x : Thread) (fits : FitsIn m a x) (g : L
         let c = sum_by-cons w e rest in
         omega (arith, a, b, c)
 
-    pub exchanged_turn : births (program_in m) x.path x.now (g ∷ []) ≡ [] → openings m.types (g ∷ []) ≡ [] → f.channel ≡ e.channel → f.cell ≡ e.cell →
-        f.knows.side ≡ e.knows.side → f.knows.declared ≡ e.knows.declared → ((w : Exchange → ℕ) → by_exchanges w f ≡ by_exchanges w e + sum_by w (exchanges x.now.clock (g ∷ []))) →
+    pub exchanged_turn : births (program_in m) x.path x.now (g ∷ []) ≡ [] → openings m.types (g ∷ []) ≡ [] →
+        f.channel ≡ e.channel → f.cell ≡ e.cell →
+        f.knows.side ≡ e.knows.side → f.knows.declared ≡ e.knows.declared →
+        ((w : Exchange → ℕ) → by_exchanges w f ≡ by_exchanges w e + sum_by w (exchanges x.now.clock (g ∷ []))) →
         Turn m x y []
     exchanged_turn no_births no_openings channel cell side declared shows = record {
       gained = g ∷ [];

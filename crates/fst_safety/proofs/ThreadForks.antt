@@ -54,23 +54,35 @@ kept_out : (n : ℕ) (o : Option Tree) → n ≡ 0 → kept_by n o ≡ Some skip
 kept_out zero o h = refl
 kept_out (suc n) o h = absurd (omega (arith, h))
 
-are_among : (es : List EndView) (r : Residuals) → All (λ (e : EndView). (r (end_name e) ≡ residual_of e.knows) × (0 < count_of (end_name e) es)) es → AreResiduals es (among es r)
+are_among : (es : List EndView) (r : Residuals) → All
+    (λ (e : EndView). (r (end_name e) ≡ residual_of e.knows) × (0 < count_of (end_name e) es)) es → AreResiduals es (among es r)
 are_among es r h = record {
-  known = All-weaker (λ (e : EndView). (r (end_name e) ≡ residual_of e.knows) × (0 < count_of (end_name e) es)) (λ (e : EndView). among es r (end_name e) ≡ residual_of e.knows)
+  known = All-weaker (λ (e : EndView). (r (end_name e) ≡ residual_of e.knows) × (0 < count_of (end_name e) es))
+      (λ (e : EndView). among es r (end_name e) ≡ residual_of e.knows)
       (λ e g. kept_here (count_of (end_name e) es) (r (end_name e)) g.1 ∙ g.0) es h;
   others = λ x n. kept_out (count_of x es) (r x) n;
 }
 
-module _ (m : Surroundings) (well : IsWellTyped m) (a : Tree) (x : Thread) (fits : FitsIn m a x) (asks : machine.request m.families x.now.state ≡ Some request.Fork)
-    (b : State) (ch : child (pause m.families x.now.state) ≡ Some b) (s : State) (told : answered (program_in m) x.now.state Forked ≡ Some s)
+module _ (m : Surroundings) (well : IsWellTyped m) (a : Tree) (x : Thread) (fits : FitsIn m a x)
+    (asks : machine.request m.families x.now.state ≡ Some request.Fork)
+    (b : State) (ch : child (pause m.families x.now.state) ≡ Some b) (s : State)
+    (told : answered (program_in m) x.now.state Forked ≡ Some s)
     (names : List EndName) (mine theirs : List EndView) (all : IsPermutation x.bag (mine ++ theirs))
-    (gone : (z : EndName) → Contains names z → count_of z mine ≡ 0) (moved : All (λ (e : EndView). Contains names (end_name e)) theirs)
+    (gone : (z : EndName) → Contains names z → count_of z mine ≡ 0)
+    (moved : All (λ (e : EndView). Contains names (end_name e)) theirs)
     (names_are : (z : EndName) → (Contains names z → 0 < held_state z b) × (0 < held_state z b → Contains names z)) where
   abbrev entry : LogEntry
   entry = record { asked = request.Fork; answer = Forked; stamp = suc x.now.clock }
 
   abbrev pub forked_on : Thread
-  forked_on = record { path = x.path; first = x.first; log = x.log ++ entry ∷ []; now = after_entry (program_in m) x.now entry; bag = mine; retired = x.retired }
+  forked_on = record {
+    path = x.path;
+    first = x.first;
+    log = x.log ++ entry ∷ [];
+    now = after_entry (program_in m) x.now entry;
+    bag = mine;
+    retired = x.retired;
+  }
 
   abbrev pub begun : Thread
   begun = record {
@@ -157,7 +169,9 @@ module _ (m : Surroundings) (well : IsWellTyped m) (a : Tree) (x : Thread) (fits
   theirs_else z h n = let q = split (counted z) in let c = child_has z h in omega (arith, q, c, n)
 
   -- where an end isn't among some, its residual is that of a spent one, up to equality
-  still_among : (es : List EndView) (t : State) → ((z : EndName) → 0 < held_state z t → count_of z es ≡ 0 → count_of z x.bag ≡ 0) → Still m r (among es r) (λ z. held_state z t)
+  still_among : (es : List EndView) (t : State) →
+      ((z : EndName) → 0 < held_state z t → count_of z es ≡ 0 → count_of z x.bag ≡ 0) → Still m r (among es r)
+      (λ z. held_state z t)
   still_among es t else_none z u e k n = go (count_of z es) refl
     where
       some : (j : ℕ) → held_state z t ≡ j → 0 < j
@@ -201,7 +215,8 @@ module _ (m : Surroundings) (well : IsWellTyped m) (a : Tree) (x : Thread) (fits
   are_of : (es : List EndView) → All (λ (e : EndView). r (end_name e) ≡ residual_of e.knows) es → AreResiduals es (among es r)
   are_of es h = are_among es r (λ k d l. (h k d l, stand es k d l))
 
-  named_before : (z : EndName) (t : State) → ((z : EndName) → held_state z x.now.state ≡ 0 → held_state z t ≡ 0) → 0 < held_state z t → 0 < held_state z x.now.state
+  named_before : (z : EndName) (t : State) → ((z : EndName) → held_state z x.now.state ≡ 0 → held_state z t ≡ 0) →
+      0 < held_state z t → 0 < held_state z x.now.state
   named_before z t h k = go (held_state z x.now.state) refl
     where
       go : (j : ℕ) → held_state z x.now.state ≡ j → 0 < j
@@ -209,10 +224,12 @@ module _ (m : Surroundings) (well : IsWellTyped m) (a : Tree) (x : Thread) (fits
       go (suc j) q = omega arith
 
   mine_before : (z : EndName) → 0 < held_state z s' → 0 < held_state z x.now.state
-  mine_before z = named_before z s' (λ z n. (fork_holds m well r x.now.state s' b fits.typed.type fits.typed.typed ch there_is z n).0)
+  mine_before z = named_before z s' (λ z n. (fork_holds m well r x.now.state s' b fits.typed.type fits.typed.typed ch there_is z
+      n).0)
 
   theirs_before : (z : EndName) → 0 < held_state z b → 0 < held_state z x.now.state
-  theirs_before z = named_before z b (λ z n. (fork_holds m well r x.now.state s' b fits.typed.type fits.typed.typed ch there_is z n).1)
+  theirs_before z = named_before z b (λ z n. (fork_holds m well r x.now.state s' b fits.typed.type fits.typed.typed ch there_is z
+      n).1)
 
   ends_later : (u : Task) → x.now.clock ≤ u.clock → All (FitsEnd m u) x.bag
   ends_later u le = later_all m a x fits u le request.Fork asks (λ z ev q. absurd (cc q))
@@ -245,7 +262,8 @@ module _ (m : Surroundings) (well : IsWellTyped m) (a : Tree) (x : Thread) (fits
       let o = fits.named z (theirs_before z k) in
       record {
         behind = o.behind ++ suc x.now.forked ∷ [];
-        leads = ap (λ (p : Path). p ++ suc x.now.forked ∷ []) o.leads ∙ append_assoc z.channel.maker o.behind (suc x.now.forked ∷ []);
+        leads = ap (λ (p : Path). p ++ suc x.now.forked ∷ []) o.leads
+            ∙ append_assoc z.channel.maker o.behind (suc x.now.forked ∷ []);
         own = λ q. absurd (never o.behind q);
       }
     where
@@ -276,7 +294,8 @@ module _ (m : Surroundings) (well : IsWellTyped m) (a : Tree) (x : Thread) (fits
     forked = omega arith;
   }
 
-  born_is : (w : Birth → ℕ) → sum_by w (birth_of (child_path x.path x.now.forked) (suc x.now.clock) (child (pause m.families x.now.state)) ++ []) ≡ w (birth begun)
+  born_is : (w : Birth → ℕ) → sum_by w (birth_of (child_path x.path x.now.forked) (suc x.now.clock)
+      (child (pause m.families x.now.state)) ++ []) ≡ w (birth begun)
   born_is w = ap (λ o. sum_by w (birth_of (child_path x.path x.now.forked) (suc x.now.clock) o ++ [])) ch ∙ omega arith
 
   one : (w : Thread → ℕ) → sum_by w (begun ∷ []) ≡ w begun
@@ -301,5 +320,6 @@ module _ (m : Surroundings) (well : IsWellTyped m) (a : Tree) (x : Thread) (fits
     spent = [];
     kept = sym (append-nil x.retired);
     known = λ z h c. inr (mine_before z h, mine_else z h c);
-    known_new = All-cons (AreKnownSpent x forked_on) begun [] (λ z h c. inr (theirs_before z h, theirs_else z h c)) (All-nil (AreKnownSpent x forked_on));
+    known_new = All-cons (AreKnownSpent x forked_on) begun []
+        (λ z h c. inr (theirs_before z h, theirs_else z h c)) (All-nil (AreKnownSpent x forked_on));
   }

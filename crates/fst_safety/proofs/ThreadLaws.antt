@@ -23,20 +23,23 @@ use Rattle.fst_safety.proofs.BagLaws.{counted, count_first, counted_so}
 
 -- ---- logs
 
-pub follows_more : (p : Program) (path : Path) (t : Task) (es : List LogEntry) (u : Task) (g : LogEntry) → Follows p path t es u → Enters p path u g →
+pub follows_more : (p : Program) (path : Path) (t : Task) (es : List LogEntry) (u : Task) (g : LogEntry) → Follows p path t es u →
+    Enters p path u g →
     Follows p path t (es ++ g ∷ []) (after_entry p u g)
 follows_more p path t [] u g f h = (subst (λ v. Enters p path v g) f h, ap (λ v. after_entry p v g) f)
 follows_more p path t (e ∷ es) u g f h = (f.0, follows_more p path (after_entry p t e) es u g f.1 h)
 
 -- the channels that a log with one entry more opens
-openings_more : (types : List Tree) (es : List LogEntry) (g : LogEntry) → openings types (es ++ g ∷ []) ≡ openings types es ++ opened_by types g.asked g.answer
+openings_more : (types : List Tree) (es : List LogEntry) (g : LogEntry) →
+    openings types (es ++ g ∷ []) ≡ openings types es ++ opened_by types g.asked g.answer
 openings_more types [] g = append-nil (opened_by types g.asked g.answer)
 openings_more types (e ∷ es) g =
     ap (λ (l : List Opening). opened_by types e.asked e.answer ++ l) (openings_more types es g)
     ∙ sym (append_assoc (opened_by types e.asked e.answer) (openings types es) (opened_by types g.asked g.answer))
 
 -- each channel has a type still where the next one has
-pub opened_more : (types : List Tree) (es : List LogEntry) (g : LogEntry) (n k : ℕ) → length (openings types es) ≡ n → n + length (opened_by types g.asked g.answer) ≡ k →
+pub opened_more : (types : List Tree) (es : List LogEntry) (g : LogEntry) (n k : ℕ) → length (openings types es) ≡ n →
+    n + length (opened_by types g.asked g.answer) ≡ k →
     length (openings types (es ++ g ∷ [])) ≡ k
 opened_more types es g n k h more =
     let a = ap length (openings_more types es g) in
@@ -109,7 +112,8 @@ none_or_some : {o : Offer} → None ≡ Some o → ⊥
 none_or_some e = absurd (cc e)
 
 -- an end doesn't wait where the task doesn't ask to send on it
-pub idle_end : (m : Surroundings) (t : Task) (e : EndView) → FitsEnd m t e → ((ev : Event) → machine.request m.families t.state ≡ Some (request.Put (end_name e) ev) → ⊥) → e.knows.offer ≡ None
+pub idle_end : (m : Surroundings) (t : Task) (e : EndView) → FitsEnd m t e →
+    ((ev : Event) → machine.request m.families t.state ≡ Some (request.Put (end_name e) ev) → ⊥) → e.knows.offer ≡ None
 idle_end m t e f h = go e.knows.offer refl
   where
     go : (o : Option Offer) → e.knows.offer ≡ o → o ≡ None
@@ -117,16 +121,23 @@ idle_end m t e f h = go e.knows.offer refl
     go (Some o) q = absurd (h o.event (f.waits o q).asks)
 
 -- one that doesn't wait fits each later state
-pub later_end : (m : Surroundings) (t u : Task) (e : EndView) → t.clock ≤ u.clock → e.knows.offer ≡ None → FitsEnd m t e → FitsEnd m u e
-later_end m t u e le idle f = record { past = rise_later 0 e.knows.history t.clock u.clock le f.past; waits = λ o q. absurd (none_or_some (sym idle ∙ q)) }
+pub later_end : (m : Surroundings) (t u : Task) (e : EndView) → t.clock ≤ u.clock → e.knows.offer ≡ None → FitsEnd m t e →
+    FitsEnd m u e
+later_end m t u e le idle f = record {
+  past = rise_later 0 e.knows.history t.clock u.clock le f.past;
+  waits =
+      λ o q. absurd (none_or_some (sym idle ∙ q));
+}
 
 -- so it is with all of some ends
 pub later_ends : (m : Surroundings) (t u : Task) → t.clock ≤ u.clock → (es : List EndView) → All (FitsEnd m t) es →
-    ((e : EndView) → FitsEnd m t e → counted (end_name e) e ≡ 1 → 0 < count_of (end_name e) es → e.knows.offer ≡ None) → All (FitsEnd m u) es
+    ((e : EndView) → FitsEnd m t e → counted (end_name e) e ≡ 1 → 0 < count_of (end_name e) es → e.knows.offer ≡ None) →
+    All (FitsEnd m u) es
 later_ends m t u le [] f h = All-nil (FitsEnd m u)
 later_ends m t u le (e ∷ es) f h =
     let own = counted_so (end_name e) e refl in
     let head = All-head (FitsEnd m t) e es f in
     let c = count_first (end_name e) e es in
     All-cons (FitsEnd m u) e es (later_end m t u e le (h e head own (omega (arith, c, own))) head)
-    (later_ends m t u le es (All-tail (FitsEnd m t) e es f) (λ d g o n. let c = count_first (end_name d) e es in h d g o (omega (arith, c, n))))
+    (later_ends m t u le es (All-tail (FitsEnd m t) e es f)
+    (λ d g o n. let c = count_first (end_name d) e es in h d g o (omega (arith, c, n))))

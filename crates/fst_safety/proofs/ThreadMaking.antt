@@ -23,7 +23,7 @@ use Rattle.fst_safety.specs.Fitting.{Residuals, Fits, IsTyped}
 use Rattle.fst_safety.specs.WellTyped.{IsWellTyped, program_in}
 use Rattle.fst_safety.specs.Pauses.{Reached, Goes}
 use Rattle.fst_safety.proofs.Answers.{giving_goes}
-use Rattle.fst_lts.proofs.DualKinds.{dual_session}
+use Rattle.fst_lts.proofs.Laws.{dual_session}
 use Rattle.fst_safety.proofs.Equals.{equals_itself, session_formed}
 use Rattle.fst_safety.proofs.ForkLaws.{fork_parts}
 use Rattle.fst_safety.proofs.Owners.{held_apart}
@@ -47,8 +47,10 @@ hidden z r y e = ap (λ (b : Bool). if b then None else r y) e
 
 -- each end of a channel stands once in the pair of both
 pub own_ends : (h : ChannelName) (b : Side) → held (end_at h b) (ends h) ≡ 1
-own_ends h Left = let x = own_once (end_at h Left) in let y = held_apart (end_at h Left) (end_at h Right) (sides_differ h) in omega (arith, x, y)
-own_ends h Right = let x = own_once (end_at h Right) in let y = held_apart (end_at h Right) (end_at h Left) (λ e. sides_differ h (sym e)) in omega (arith, x, y)
+own_ends h Left = let x = own_once (end_at h Left) in let y = held_apart (end_at h Left) (end_at h Right) (sides_differ h) in
+    omega (arith, x, y)
+own_ends h Right = let x = own_once (end_at h Right) in let y = held_apart (end_at h Right) (end_at h Left)
+    (λ e. sides_differ h (sym e)) in omega (arith, x, y)
 
 -- no other end does
 pub other_ends : (h : ChannelName) (z : EndName) → (z ≡ end_at h Left → ⊥) → (z ≡ end_at h Right → ⊥) → held z (ends h) ≡ 0
@@ -56,8 +58,10 @@ other_ends h z l r = let x = held_apart z (end_at h Left) l in let y = held_apar
 
 -- ---- a new channel, whose ends the state doesn't hold
 
-module _ (m : Surroundings) (well : IsWellTyped m) (h : ChannelName) (i : ℕ) (k : Tree) (s s' : State) (t : Tree) (no_left : held_state (end_at h Left) s ≡ 0)
-    (no_right : held_state (end_at h Right) s ≡ 0) (asks : machine.request m.families s ≡ Some (request.New i)) (is : slice_get m.types i ≡ Some k)
+module _ (m : Surroundings) (well : IsWellTyped m) (h : ChannelName) (i : ℕ) (k : Tree) (s s' : State) (t : Tree)
+    (no_left : held_state (end_at h Left) s ≡ 0)
+    (no_right : held_state (end_at h Right) s ≡ 0) (asks : machine.request m.families s ≡ Some (request.New i))
+    (is : slice_get m.types i ≡ Some k)
     (told : answered (program_in m) s (Made h) ≡ Some s') where
   -- its ends have the declared type and its dual, and no other residual changes
   pub record HasOpened (r r' : Residuals) : Type 0 where
@@ -73,10 +77,12 @@ module _ (m : Surroundings) (well : IsWellTyped m) (h : ChannelName) (i : ℕ) (
     no_residual_left = without_itself (end_at h Left) (without (end_at h Right) r)
 
     no_residual_right : q (end_at h Right) ≡ None
-    no_residual_right = without_other (end_at h Left) (without (end_at h Right) r) (end_at h Right) (sides_differ h) ∙ without_itself (end_at h Right) r
+    no_residual_right = without_other (end_at h Left) (without (end_at h Right) r) (end_at h Right) (sides_differ h)
+        ∙ without_itself (end_at h Right) r
 
     typed_so : IsTyped m q s t
-    typed_so = typed_without m (without (end_at h Right) r) (end_at h Left) s t (typed_without m r (end_at h Right) s t typed no_right) no_left
+    typed_so = typed_without m (without (end_at h Right) r) (end_at h Left) s t
+        (typed_without m r (end_at h Right) s t typed no_right) no_left
 
     abbrev fs : List Frame
     fs = (new_pause (pause m.families s) i asks).0
@@ -109,7 +115,8 @@ module _ (m : Surroundings) (well : IsWellTyped m) (h : ChannelName) (i : ℕ) (
         not_right f = none_some (sym no_residual_right ∙ ap q f ∙ e)
 
         q_is : q z ≡ r z
-        q_is = without_other (end_at h Left) (without (end_at h Right) r) z not_left ∙ without_other (end_at h Right) r z not_right
+        q_is = without_other (end_at h Left) (without (end_at h Right) r) z not_left
+            ∙ without_other (end_at h Right) r z not_right
 
     ends_fit : Fits m r' (ends h) reached.0.3
     ends_fit = (
@@ -123,7 +130,8 @@ module _ (m : Surroundings) (well : IsWellTyped m) (h : ChannelName) (i : ℕ) (
     goes : Goes m r' s' t (λ z. held z (ends h) + held_frames z fs)
     goes = subst (λ w. Goes m r' w t (λ z. held z (ends h) + held_frames z fs)) is_given
         (giving_goes m well r' (ends h) fs reached.0.3 t ends_fit
-        (takes_still m q r' fs reached.0.3 t reached.0.5 (unchanged m q r' (λ z. held_frames z fs) (λ z u e n. keeps z u e (o.others z)))))
+        (takes_still m q r' fs reached.0.3 t reached.0.5
+        (unchanged m q r' (λ z. held_frames z fs) (λ z u e n. keeps z u e (o.others z)))))
 
     left_frames : (z : EndName) → z ≡ end_at h Left → held_frames z fs ≡ held_state z s
     left_frames z j =
@@ -135,15 +143,22 @@ module _ (m : Surroundings) (well : IsWellTyped m) (h : ChannelName) (i : ℕ) (
         let a = unknown_frames m q (end_at h Right) no_residual_right fs reached.0.3 t reached.0.5 in
         ap (λ y. held_frames y fs) j ∙ a ∙ sym no_right ∙ sym (ap (λ y. held_state y s) j)
 
-    frames_hold : (z : EndName) → IsUnspent r' z → (z ≡ end_at h Left) ⊎ ((z ≡ end_at h Right) ⊎ (r' z ≡ r z)) → held_frames z fs ≡ held_state z s
+    frames_hold : (z : EndName) → IsUnspent r' z → (z ≡ end_at h Left) ⊎
+        ((z ≡ end_at h Right) ⊎ (r' z ≡ r z)) → held_frames z fs ≡ held_state z s
     frames_hold z u (inl j) = left_frames z j
     frames_hold z u (inr (inl j)) = right_frames z j
     frames_hold z u (inr (inr j)) = old (same_end (end_at h Left) z) refl (same_end (end_at h Right) z) refl
       where
-        old : (b : Bool) → same_end (end_at h Left) z ≡ b → (c : Bool) → same_end (end_at h Right) z ≡ c → held_frames z fs ≡ held_state z s
+        old : (b : Bool) → same_end (end_at h Left) z ≡ b →
+            (c : Bool) → same_end (end_at h Right) z ≡ c → held_frames z fs ≡ held_state z s
         old true e c f = left_frames z (sym (same_is (end_at h Left) z e))
         old false e true f = right_frames z (sym (same_is (end_at h Right) z f))
-        old false e false f = reached.1 z (u.0, hidden (end_at h Left) (without (end_at h Right) r) z e ∙ hidden (end_at h Right) r z f ∙ sym j ∙ u.1, u.2)
+        old false e false f = reached.1 z (
+          u.0,
+          hidden (end_at h Left) (without (end_at h Right) r) z e
+              ∙ hidden (end_at h Right) r z f ∙ sym j ∙ u.1,
+          u.2,
+        )
 
     -- the state with the new channel, which holds both ends once and the unspent others as before
     pub made_typed : IsTyped m r' s' t × ((z : EndName) → IsUnspent r' z → held_state z s' ≡ held z (ends h) + held_state z s)
@@ -160,7 +175,8 @@ module _ (m : Surroundings) (well : IsWellTyped m) (h : ChannelName) (i : ℕ) (
       where
         go : (w : EndName) (b : Bool) → same_end z w ≡ b → (w ≡ end_at h Left) ⊎ ((w ≡ end_at h Right) ⊎ (r' w ≡ r w)) →
             (w ≡ end_at h Left) ⊎ ((w ≡ end_at h Right) ⊎ (without z r' w ≡ without z r w))
-        go w true e o = inr (inr (ap (λ (b : Bool). if b then None else r' w) e ∙ sym (ap (λ (b : Bool). if b then None else r w) e)))
+        go w true e o = inr (inr (ap (λ (b : Bool). if b then None else r' w) e
+            ∙ sym (ap (λ (b : Bool). if b then None else r w) e)))
         go w false e (inl i) = inl i
         go w false e (inr (inl i)) = inr (inl i)
         go w false e (inr (inr i)) = inr (inr (hidden z r' w e ∙ i ∙ sym (hidden z r w e)))
@@ -173,9 +189,12 @@ module _ (m : Surroundings) (well : IsWellTyped m) (h : ChannelName) (i : ℕ) (
 -- ---- a fork
 
 -- a fork leads to no end that the state doesn't hold
-pub fork_holds : (m : Surroundings) (well : IsWellTyped m) (r : Residuals) (s s' k : State) (t : Tree) → IsTyped m r s t → child (pause m.families s) ≡ Some k →
+pub fork_holds : (m : Surroundings) (well : IsWellTyped m) (r : Residuals) (s s' k : State) (t : Tree) → IsTyped m r s t →
+    child (pause m.families s) ≡ Some k →
     answered (program_in m) s Forked ≡ Some s' → (z : EndName) → held_state z s ≡ 0 → (held_state z s' ≡ 0) × (held_state z k ≡ 0)
 fork_holds m well r s s' k t typed ch told z n =
     let g = fork_parts m well (without z r) (program_in m) (pause m.families s) t (λ z. held_state z s) s' k
-    (pause_goes m well (without z r) s t (typed_without m r z s t typed n)) ch told in
-    (unknown_state m (without z r) z (without_itself z r) s' t g.0, unknown_state m (without z r) z (without_itself z r) k g.1.0 g.1.1)
+    (pause_goes m well (without z r) s t (typed_without m r z s t typed n)) ch told in (
+      unknown_state m (without z r) z (without_itself z r) s' t g.0,
+      unknown_state m (without z r) z (without_itself z r) k g.1.0 g.1.1,
+    )

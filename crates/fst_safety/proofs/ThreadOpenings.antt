@@ -42,9 +42,12 @@ nothing_behind xs (y ∷ ys) e = let l = ap length e in let k = length-append xs
 
 -- ends are counted on among open and spent ones
 pub went_counts : (f : EndView) (bag0 ret0 bag1 ret1 : List EndView) → WentTo f bag0 ret0 bag1 ret1 → (z : EndName) →
-    (count_of z bag1 + count_of z ret1 ≡ (count_of z bag0 + count_of z ret0) + counted z f) × (count_of z bag0 ≤ count_of z bag1) × (count_of z bag1 ≤ count_of z bag0 + counted z f)
-went_counts f bag0 ret0 bag1 ret1 (inl w) z = let a = (w z).0 in let b = (w z).1 in (omega (arith, a, b), omega (arith, a), omega (arith, a))
-went_counts f bag0 ret0 bag1 ret1 (inr w) z = let a = (w z).0 in let b = (w z).1 in (omega (arith, a, b), omega (arith, a), omega (arith, a))
+    (count_of z bag1 + count_of z ret1 ≡ (count_of z bag0 + count_of z ret0) + counted z f) ×
+    (count_of z bag0 ≤ count_of z bag1) × (count_of z bag1 ≤ count_of z bag0 + counted z f)
+went_counts f bag0 ret0 bag1 ret1 (inl w) z = let a = (w z).0 in let b = (w z).1 in
+    (omega (arith, a, b), omega (arith, a), omega (arith, a))
+went_counts f bag0 ret0 bag1 ret1 (inr w) z = let a = (w z).0 in let b = (w z).1 in
+    (omega (arith, a, b), omega (arith, a), omega (arith, a))
 
 -- two residuals at one place
 only_at : (x : EndName) (o p : Option Tree) (q : Residuals) (z : EndName) → (z ≡ x) ⊎ (with_at x o q z ≡ with_at x p q z)
@@ -71,11 +74,14 @@ pub right_residual : (t : Tree) → residual Right t [] ≡ Some (dual t)
 unfolding residual
 right_residual t = refl
 
-module _ (m : Surroundings) (well : IsWellTyped m) (a : Tree) (x : Thread) (fits : FitsIn m a x) (k : ℕ) (d : Tree) (asks : machine.request m.families x.now.state ≡ Some (request.New k))
-    (is : slice_get m.types k ≡ Some d) (s : State) (told : answered (program_in m) x.now.state (Made (channel_name x.path x.now.made)) ≡ Some s) (cell : TableId)
+module _ (m : Surroundings) (well : IsWellTyped m) (a : Tree) (x : Thread) (fits : FitsIn m a x) (k : ℕ) (d : Tree)
+    (asks : machine.request m.families x.now.state ≡ Some (request.New k))
+    (is : slice_get m.types k ≡ Some d) (s : State)
+    (told : answered (program_in m) x.now.state (Made (channel_name x.path x.now.made)) ≡ Some s) (cell : TableId)
     (l r : EndView) (l_is : l ≡ record { cell = cell; channel = channel_name x.path x.now.made; knows = fresh Left d })
     (r_is : r ≡ record { cell = cell; channel = channel_name x.path x.now.made; knows = fresh Right d })
-    (bag1 ret1 bag ret : List EndView) (put_l : IsPutBack l x.bag x.retired bag1 ret1) (put_r : IsPutBack r bag1 ret1 bag ret) where
+    (bag1 ret1 bag ret : List EndView) (put_l : IsPutBack l x.bag x.retired bag1 ret1)
+    (put_r : IsPutBack r bag1 ret1 bag ret) where
   abbrev h : ChannelName
   h = channel_name x.path x.now.made
 
@@ -83,7 +89,14 @@ module _ (m : Surroundings) (well : IsWellTyped m) (a : Tree) (x : Thread) (fits
   entry = record { asked = request.New k; answer = Made h; stamp = suc x.now.clock }
 
   abbrev pub made_on : Thread
-  made_on = record { path = x.path; first = x.first; log = x.log ++ entry ∷ []; now = after_entry (program_in m) x.now entry; bag = bag; retired = ret }
+  made_on = record {
+    path = x.path;
+    first = x.first;
+    log = x.log ++ entry ∷ [];
+    now = after_entry (program_in m) x.now entry;
+    bag = bag;
+    retired = ret;
+  }
 
   abbrev s' : State
   s' = made_on.now.state
@@ -129,10 +142,12 @@ module _ (m : Surroundings) (well : IsWellTyped m) (a : Tree) (x : Thread) (fits
   abbrev p2 : HasPut r (dual d) bag1 ret1 bag ret
   p2 = has_put r (dual d) (ap (λ (e : EndView). residual_of e.knows) r_is ∙ right_residual d) bag1 ret1 bag ret put_r
 
-  counts_1 : (z : EndName) → (count_of z bag1 + count_of z ret1 ≡ (count_of z x.bag + count_of z x.retired) + counted z l) × (count_of z x.bag ≤ count_of z bag1) × (count_of z bag1 ≤ count_of z x.bag + counted z l)
+  counts_1 : (z : EndName) → (count_of z bag1 + count_of z ret1 ≡ (count_of z x.bag + count_of z x.retired) + counted z l) ×
+      (count_of z x.bag ≤ count_of z bag1) × (count_of z bag1 ≤ count_of z x.bag + counted z l)
   counts_1 = went_counts l x.bag x.retired bag1 ret1 p1.went
 
-  counts_2 : (z : EndName) → (count_of z bag + count_of z ret ≡ (count_of z bag1 + count_of z ret1) + counted z r) × (count_of z bag1 ≤ count_of z bag) × (count_of z bag ≤ count_of z bag1 + counted z r)
+  counts_2 : (z : EndName) → (count_of z bag + count_of z ret ≡ (count_of z bag1 + count_of z ret1) + counted z r) ×
+      (count_of z bag1 ≤ count_of z bag) × (count_of z bag ≤ count_of z bag1 + counted z r)
   counts_2 = went_counts r bag1 ret1 bag ret p2.went
 
   -- how an end is counted with the new ones
@@ -160,7 +175,8 @@ module _ (m : Surroundings) (well : IsWellTyped m) (a : Tree) (x : Thread) (fits
   r2 = with_at (end_name r) (Some (rested (dual d))) r1
 
   are : AreResiduals bag r2
-  are = p2.are r1 (p1.are r0 fits.typed.are (ap (λ w. count_of w x.bag) name_l ∙ not_there Left)) (ap (λ w. count_of w bag1) name_r ∙ R_not_in_1)
+  are = p2.are r1 (p1.are r0 fits.typed.are (ap (λ w. count_of w x.bag) name_l ∙ not_there Left))
+      (ap (λ w. count_of w bag1) name_r ∙ R_not_in_1)
 
   -- the residuals of the new channel
   abbrev q1 : Residuals
@@ -179,7 +195,8 @@ module _ (m : Surroundings) (well : IsWellTyped m) (a : Tree) (x : Thread) (fits
   beyond : (o p : Option Tree) (q : Residuals) → with_at (end_name r) p (with_at (end_name l) o q) (end_name l) ≡ o
   beyond o p q = go (at_other (end_name r) p (with_at (end_name l) o q) (end_name l))
     where
-      go : (end_name l ≡ end_name r) ⊎ (with_at (end_name r) p (with_at (end_name l) o q) (end_name l) ≡ with_at (end_name l) o q (end_name l)) →
+      go : (end_name l ≡ end_name r) ⊎ (with_at (end_name r) p (with_at (end_name l) o q) (end_name l) ≡ with_at (end_name l) o q
+          (end_name l)) →
           with_at (end_name r) p (with_at (end_name l) o q) (end_name l) ≡ o
       go (inl i) = absurd (names_differ i)
       go (inr i) = i ∙ at_itself (end_name l) o q
@@ -191,13 +208,16 @@ module _ (m : Surroundings) (well : IsWellTyped m) (a : Tree) (x : Thread) (fits
     others = λ z. go z (at_other (end_name r) (Some (dual d)) q1 z) (at_other (end_name l) (Some d) r0 z);
   }
     where
-      go : (z : EndName) → (z ≡ end_name r) ⊎ (q2 z ≡ q1 z) → (z ≡ end_name l) ⊎ (q1 z ≡ r0 z) → (z ≡ L) ⊎ ((z ≡ R) ⊎ (q2 z ≡ r0 z))
+      go : (z : EndName) → (z ≡ end_name r) ⊎ (q2 z ≡ q1 z) → (z ≡ end_name l) ⊎ (q1 z ≡ r0 z) → (z ≡ L) ⊎
+          ((z ≡ R) ⊎ (q2 z ≡ r0 z))
       go z (inl i) o = inr (inl (i ∙ name_r))
       go z (inr i) (inl j) = inl (j ∙ name_l)
       go z (inr i) (inr j) = inr (inr (i ∙ j))
 
-  made : IsTyped m q2 s' fits.typed.type × ((z : EndName) → IsUnspent q2 z → held_state z s' ≡ held z (ends h) + held_state z x.now.state)
-  made = made_typed m well h k d x.now.state s' fits.typed.type (not_held Left) (not_held Right) asks is there r0 q2 opens fits.typed.typed
+  made : IsTyped m q2 s' fits.typed.type × ((z : EndName) → IsUnspent q2 z →
+      held_state z s' ≡ held z (ends h) + held_state z x.now.state)
+  made = made_typed m well h k d x.now.state s' fits.typed.type (not_held Left)
+      (not_held Right) asks is there r0 q2 opens fits.typed.typed
 
   left_others : (z : EndName) → (z ≡ end_name l) ⊎ (q3 z ≡ q2 z)
   left_others z = go (only_at (end_name l) (Some (rested d)) (Some d) r0 z)
@@ -207,7 +227,8 @@ module _ (m : Surroundings) (well : IsWellTyped m) (a : Tree) (x : Thread) (fits
       go (inr i) = inr (below_at (end_name r) (Some (dual d)) r1 q1 z i)
 
   typed_3 : IsTyped m q3 s' fits.typed.type
-  typed_3 = rested_typed q2 q3 (end_name l) d (beyond (Some d) (Some (dual d)) r0) (beyond (Some (rested d)) (Some (dual d)) r0) left_others m s' fits.typed.type made.0
+  typed_3 = rested_typed q2 q3 (end_name l) d (beyond (Some d) (Some (dual d)) r0)
+      (beyond (Some (rested d)) (Some (dual d)) r0) left_others m s' fits.typed.type made.0
 
   right_others : (z : EndName) → (z ≡ end_name r) ⊎ (r2 z ≡ q3 z)
   right_others z = only_at (end_name r) (Some (rested (dual d))) (Some (dual d)) r1 z
@@ -223,7 +244,8 @@ module _ (m : Surroundings) (well : IsWellTyped m) (a : Tree) (x : Thread) (fits
 
   unspent_before : (z : EndName) → IsUnspent r2 z → IsUnspent q2 z
   unspent_before z u =
-      rested_unspent q2 q3 (end_name l) d (beyond (Some d) (Some (dual d)) r0) (beyond (Some (rested d)) (Some (dual d)) r0) left_others z
+      rested_unspent q2 q3 (end_name l) d (beyond (Some d) (Some (dual d)) r0)
+      (beyond (Some (rested d)) (Some (dual d)) r0) left_others z
       (rested_unspent q3 r2 (end_name r) (dual d) right_before right_later right_others z u)
 
   -- an end is the left new one, the right new one, or another
@@ -243,11 +265,13 @@ module _ (m : Surroundings) (well : IsWellTyped m) (a : Tree) (x : Thread) (fits
     where
       go : (j : ℕ) → held_state z x.now.state ≡ j → 0 < j
       go zero q =
-          let n = made_holds m well h k d x.now.state s' fits.typed.type (not_held Left) (not_held Right) asks is there z nl nr q r0 q2 opens fits.typed.typed in
+          let n = made_holds m well h k d x.now.state s' fits.typed.type (not_held Left)
+          (not_held Right) asks is there z nl nr q r0 q2 opens fits.typed.typed in
           omega (arith, g, n)
       go (suc j) q = omega arith
 
-  once_new : (z : EndName) (b : Side) → z ≡ end_at h b → 0 < count_of z bag → counted z l + counted z r ≡ 1 → (count_of z bag ≡ 1) × (held_state z s' ≡ 1)
+  once_new : (z : EndName) (b : Side) → z ≡ end_at h b → 0 < count_of z bag → counted z l + counted z r ≡ 1 →
+      (count_of z bag ≡ 1) × (held_state z s' ≡ 1)
   once_new z b i g one =
       let c = (counts_1 z).2 in
       let c2 = (counts_2 z).2 in
@@ -285,12 +309,14 @@ module _ (m : Surroundings) (well : IsWellTyped m) (a : Tree) (x : Thread) (fits
   named_after z g = go (which z)
     where
       new : (b : Side) → z ≡ end_at h b → IsNamedBelow x.path made_on.now.made z
-      new b i = subst (IsNamedBelow x.path made_on.now.made) (sym i) (record { behind = []; leads = sym (append-nil x.path); own = λ q. omega arith })
+      new b i = subst (IsNamedBelow x.path made_on.now.made) (sym i)
+          (record { behind = []; leads = sym (append-nil x.path); own = λ q. omega arith })
 
       go : (z ≡ L) ⊎ ((z ≡ R) ⊎ ((z ≡ L → ⊥) × (z ≡ R → ⊥))) → IsNamedBelow x.path made_on.now.made z
       go (inl i) = new Left i
       go (inr (inl i)) = new Right i
-      go (inr (inr n)) = let o = fits.named z (held_before z n.0 n.1 g) in record { behind = o.behind; leads = o.leads; own = λ q. let c = o.own q in omega (arith, c) }
+      go (inr (inr n)) = let o = fits.named z (held_before z n.0 n.1 g) in
+          record { behind = o.behind; leads = o.leads; own = λ q. let c = o.own q in omega (arith, c) }
 
   known_after : AreKnownSpent x made_on made_on
   known_after z g c = go (which z)
@@ -298,9 +324,12 @@ module _ (m : Surroundings) (well : IsWellTyped m) (a : Tree) (x : Thread) (fits
       new : counted z l + counted z r ≡ 1 → (0 < count_of z ret) ⊎ ((0 < held_state z x.now.state) × (count_of z x.bag ≡ 0))
       new one = let a = (counts_1 z).0 in let b = (counts_2 z).0 in inl (omega (arith, a, b, c, one))
 
-      go : (z ≡ L) ⊎ ((z ≡ R) ⊎ ((z ≡ L → ⊥) × (z ≡ R → ⊥))) → (0 < count_of z ret) ⊎ ((0 < held_state z x.now.state) × (count_of z x.bag ≡ 0))
-      go (inl i) = let a = counted_so z l (name_l ∙ sym i) in let b = apart z r R name_r (λ e. sides_differ h (sym i ∙ e)) in new (omega (arith, a, b))
-      go (inr (inl i)) = let a = apart z l L name_l (λ e. sides_differ h (sym (sym i ∙ e))) in let b = counted_so z r (name_r ∙ sym i) in new (omega (arith, a, b))
+      go : (z ≡ L) ⊎ ((z ≡ R) ⊎ ((z ≡ L → ⊥) × (z ≡ R → ⊥))) → (0 < count_of z ret) ⊎
+          ((0 < held_state z x.now.state) × (count_of z x.bag ≡ 0))
+      go (inl i) = let a = counted_so z l (name_l ∙ sym i) in let b = apart z r R name_r (λ e. sides_differ h (sym i ∙ e)) in
+          new (omega (arith, a, b))
+      go (inr (inl i)) = let a = apart z l L name_l (λ e. sides_differ h (sym (sym i ∙ e))) in let b =
+          counted_so z r (name_r ∙ sym i) in new (omega (arith, a, b))
       go (inr (inr n)) = let a = (counts_1 z).1 in let b = (counts_2 z).1 in inr (held_before z n.0 n.1 g, omega (arith, a, b, c))
 
   fresh_end : (e : EndView) (b : Side) → e ≡ record { cell = cell; channel = h; knows = fresh b d } → FitsEnd m made_on.now e
@@ -319,10 +348,12 @@ module _ (m : Surroundings) (well : IsWellTyped m) (a : Tree) (x : Thread) (fits
     once = once_after;
     named = named_after;
     ends = p2.ends m made_on.now (fresh_end r Right r_is)
-        (p1.ends m made_on.now (fresh_end l Left l_is) (later_all m a x fits made_on.now (omega arith) (request.New k) asks (λ z ev q. absurd (cc q))));
+        (p1.ends m made_on.now (fresh_end l Left l_is)
+        (later_all m a x fits made_on.now (omega arith) (request.New k) asks (λ z ev q. absurd (cc q))));
     spent = p2.spent (idle_end r Right r_is) (p1.spent (idle_end l Left l_is) fits.spent);
     past = p2.past made_on.now.clock (fresh_end r Right r_is).past
-        (p1.past made_on.now.clock (fresh_end l Left l_is).past (later_past x.now.clock made_on.now.clock (omega arith) x.retired fits.past));
+        (p1.past made_on.now.clock (fresh_end l Left l_is).past
+        (later_past x.now.clock made_on.now.clock (omega arith) x.retired fits.past));
     opened = opened_more m.types x.log entry x.now.made made_on.now.made fits.opened
         (let c = ap (λ o. length (opening_of h o)) is in omega (arith, c));
     made = let c = fits.made in omega (arith, c);

@@ -56,8 +56,10 @@ still_turn m x = record {
 -- ---- an end is tried
 
 -- the end e is f now, which has exchanged no more
-module _ (m : Surroundings) (a : Tree) (x : Thread) (fits : FitsIn m a x) (e : EndView) (v : Half) (rest bag : List EndView) (before : IsPermutation x.bag (e ∷ rest))
-    (after : bag ≡ rest ++ end_with e v ∷ []) (side : v.side ≡ e.knows.side) (declared : v.declared ≡ e.knows.declared) (history : v.history ≡ e.knows.history)
+module _ (m : Surroundings) (a : Tree) (x : Thread) (fits : FitsIn m a x) (e : EndView) (v : Half) (rest bag : List EndView)
+    (before : IsPermutation x.bag (e ∷ rest))
+    (after : bag ≡ rest ++ end_with e v ∷ []) (side : v.side ≡ e.knows.side) (declared : v.declared ≡ e.knows.declared)
+    (history : v.history ≡ e.knows.history)
     (fit : FitsEnd m x.now (end_with e v)) where
   abbrev f : EndView
   f = end_with e v
@@ -126,7 +128,8 @@ module _ (m : Surroundings) (a : Tree) (x : Thread) (fits : FitsIn m a x) (e : E
         let a = sums (by_cell Left w) (λ i. on_side Left (side i) (w e.channel e.cell)) in
         let b = sums (by_cell Right w) (λ i. on_side Right (side i) (w e.channel e.cell)) in
         omega (arith, a, b);
-    exchanged = λ w. let a = sums (by_exchanges w) (λ i. sum_by w (parts_in (same_name i) (Some (side_type (side i) (declared i))) (history i))) in omega (arith, a);
+    exchanged = λ w. let a = sums (by_exchanges w)
+        (λ i. sum_by w (parts_in (same_name i) (Some (side_type (side i) (declared i))) (history i))) in omega (arith, a);
     spent = [];
     kept = sym (append-nil x.retired);
     known = λ z h c. inr (h, sym (same_count z) ∙ c);
@@ -136,17 +139,27 @@ module _ (m : Surroundings) (a : Tree) (x : Thread) (fits : FitsIn m a x) (e : E
 -- ---- a step
 
 -- the ends that the state holds keep to the thread
-pub later_all : (m : Surroundings) (a : Tree) (x : Thread) (fits : FitsIn m a x) (u : Task) → x.now.clock ≤ u.clock → (q : Request) → machine.request m.families x.now.state ≡ Some q →
+pub later_all : (m : Surroundings) (a : Tree) (x : Thread) (fits : FitsIn m a x) (u : Task) → x.now.clock ≤ u.clock →
+    (q : Request) → machine.request m.families x.now.state ≡ Some q →
     ((z : EndName) (ev : Event) → q ≡ request.Put z ev → ⊥) → All (FitsEnd m u) x.bag
-later_all m a x fits u le q asks never = later_ends m x.now u le x.bag fits.ends (λ e fit own k. idle_end m x.now e fit (λ ev p. never (end_name e) ev (some_same (sym asks ∙ p))))
+later_all m a x fits u le q asks never = later_ends m x.now u le x.bag fits.ends
+    (λ e fit own k. idle_end m x.now e fit (λ ev p. never (end_name e) ev (some_same (sym asks ∙ p))))
 
-module _ (m : Surroundings) (well : IsWellTyped m) (a : Tree) (x : Thread) (fits : FitsIn m a x) (asks : machine.request m.families x.now.state ≡ Some request.Step)
+module _ (m : Surroundings) (well : IsWellTyped m) (a : Tree) (x : Thread) (fits : FitsIn m a x)
+    (asks : machine.request m.families x.now.state ≡ Some request.Step)
     (s : State) (told : answered (program_in m) x.now.state Go ≡ Some s) where
   abbrev pub entry : LogEntry
   entry = record { asked = request.Step; answer = Go; stamp = suc x.now.clock }
 
   abbrev pub stepped_on : Thread
-  stepped_on = record { path = x.path; first = x.first; log = x.log ++ entry ∷ []; now = after_entry (program_in m) x.now entry; bag = x.bag; retired = x.retired }
+  stepped_on = record {
+    path = x.path;
+    first = x.first;
+    log = x.log ++ entry ∷ [];
+    now = after_entry (program_in m) x.now entry;
+    bag = x.bag;
+    retired = x.retired;
+  }
 
   enters : Enters (program_in m) x.path x.now entry
   enters = record { asked = asks; is_answered = refl; state = s; leads = told }
@@ -161,7 +174,8 @@ module _ (m : Surroundings) (well : IsWellTyped m) (a : Tree) (x : Thread) (fits
   held_before z k = go (held_state z x.now.state) refl
     where
       go : (j : ℕ) → held_state z x.now.state ≡ j → 0 < j
-      go zero q = let h = step_holds m well fits.typed.residuals x.now.state stepped_on.now.state fits.typed.type fits.typed.typed there z q in omega (arith, k, h)
+      go zero q = let h = step_holds m well fits.typed.residuals x.now.state stepped_on.now.state fits.typed.type fits.typed.typed
+          there z q in omega (arith, k, h)
       go (suc j) q = omega arith
 
   pub stepped_fits : FitsIn m a stepped_on
@@ -169,9 +183,20 @@ module _ (m : Surroundings) (well : IsWellTyped m) (a : Tree) (x : Thread) (fits
     none_made = fits.none_made;
     none_forked = fits.none_forked;
     follows = follows_more (program_in m) x.path x.first x.log x.now entry fits.follows enters;
-    typed = record { residuals = fits.typed.residuals; are = fits.typed.are; type = fits.typed.type; typed = goes.0; main = fits.typed.main };
+    typed = record {
+      residuals = fits.typed.residuals;
+      are = fits.typed.are;
+      type = fits.typed.type;
+      typed = goes.0;
+      main =
+          fits.typed.main;
+    };
     unspent = fits.unspent;
-    once = λ z k. let o = fits.once z k in (o.0, goes.1 z (unspent_in fits.typed.residuals x.bag fits.unspent fits.typed.are z k) ∙ o.1);
+    once = λ z k. let o = fits.once z k in (
+      o.0,
+      goes.1 z (unspent_in fits.typed.residuals x.bag fits.unspent fits.typed.are z k)
+          ∙ o.1,
+    );
     named = λ z k. fits.named z (held_before z k);
     ends = later_all m a x fits stepped_on.now (omega arith) request.Step asks (λ z ev q. absurd (cc q));
     spent = fits.spent;

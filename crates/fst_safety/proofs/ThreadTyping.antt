@@ -65,10 +65,12 @@ without_other z r y h = go (same_end z y) refl
 
 module _ (m : Surroundings) where
   -- a state that doesn't hold an end is typed without its residual
-  pub typed_without : (r : Residuals) (z : EndName) (s : State) (t : Tree) → IsTyped m r s t → held_state z s ≡ 0 → IsTyped m (without z r) s t
+  pub typed_without : (r : Residuals) (z : EndName) (s : State) (t : Tree) → IsTyped m r s t → held_state z s ≡ 0 →
+      IsTyped m (without z r) s t
   typed_without r z s t h e =
       typed_still m r (without z r) s t h
-      (unchanged m r (without z r) (λ y. held_state y s) (λ y u q k. without_other z r y (λ i. k (ap (λ x. held_state x s) (sym i) ∙ e)) ∙ q))
+      (unchanged m r (without z r) (λ y. held_state y s)
+      (λ y u q k. without_other z r y (λ i. k (ap (λ x. held_state x s) (sym i) ∙ e)) ∙ q))
 
 -- ---- spent ends
 
@@ -88,14 +90,21 @@ skip_session = (Many, record { kinded = refl; contractive = tt; scoped = tt; ord
 
 -- what has nothing left to do is as good as nothing
 pub ended_equal : (s : Tree) → IsSession [] s → terminated s ≡ true → Equals skip s
-ended_equal s h e = record { left = session_formed skip_session; right = session_formed h; equal = sessions skip_session h (both_end s e) }
+ended_equal s h e = record {
+  left = session_formed skip_session;
+  right = session_formed h;
+  equal =
+      sessions skip_session h (both_end s e);
+}
 
 -- an end with nothing left to do stands in a state as good as one of no residual at all
-pub spent_typed : (m : Surroundings) (r r' : Residuals) (x : EndName) (now : Tree) → r x ≡ Some now → terminated now ≡ true → r' x ≡ Some skip →
+pub spent_typed : (m : Surroundings) (r r' : Residuals) (x : EndName) (now : Tree) → r x ≡ Some now → terminated now ≡ true →
+    r' x ≡ Some skip →
     ((z : EndName) → (z ≡ x) ⊎ (r' z ≡ r z)) → (s : State) (t : Tree) → IsTyped m r s t → IsTyped m r' s t
 spent_typed m r r' x now before done later others s t h = typed_still m r r' s t h (λ z u e k n. go z u e k (others z))
   where
-    go : (z : EndName) (u : Tree) → r z ≡ Some u → IsSession [] u → (z ≡ x) ⊎ (r' z ≡ r z) → (v : Tree) × (r' z ≡ Some v) × IsSession [] v × Equals v u
+    go : (z : EndName) (u : Tree) → r z ≡ Some u → IsSession [] u → (z ≡ x) ⊎ (r' z ≡ r z) → (v : Tree) ×
+        (r' z ≡ Some v) × IsSession [] v × Equals v u
     go z u e k (inl i) =
         let same : now ≡ u = some_same (sym before ∙ ap r (sym i) ∙ e) in
         (skip, ap r' i ∙ later, skip_session, ended_equal u k (subst (λ w. terminated w ≡ true) same done))
@@ -109,20 +118,23 @@ module _ (m : Surroundings) (well : IsWellTyped m) where
   not_stuck r s t h q = subst (λ p. Allowed m r p t) q (pause_goes m well r s t h).0
 
   -- the state after a step
-  pub stepped : (r : Residuals) (s s' : State) (t : Tree) → IsTyped m r s t → answered (program_in m) s Go ≡ Some s' → Goes m r s' t (λ z. held_state z s)
+  pub stepped : (r : Residuals) (s s' : State) (t : Tree) → IsTyped m r s t → answered (program_in m) s Go ≡ Some s' →
+      Goes m r s' t (λ z. held_state z s)
   stepped r s s' t h e =
       let k = pause_goes m well r s t h in
       let n = steps_on m well r (pause m.families s) s' t k.0 e in
       (n.0, λ z u. n.1 z u ∙ k.1 z u)
 
   -- a step leads to no end that the state doesn't hold
-  pub step_holds : (r : Residuals) (s s' : State) (t : Tree) → IsTyped m r s t → answered (program_in m) s Go ≡ Some s' → (z : EndName) → held_state z s ≡ 0 → held_state z s' ≡ 0
+  pub step_holds : (r : Residuals) (s s' : State) (t : Tree) → IsTyped m r s t → answered (program_in m) s Go ≡ Some s' →
+      (z : EndName) → held_state z s ≡ 0 → held_state z s' ≡ 0
   step_holds r s s' t h e z n =
       unknown_state m (without z r) z (without_itself z r) s' t (stepped (without z r) s s' t (typed_without m r z s t h n) e).0
 
 -- ---- an exchange on the end x, which the state holds once; its residual is first now, and then next
 
-module _ (m : Surroundings) (well : IsWellTyped m) (x : EndName) (ev : Event) (now next : Tree) (s s' : State) (t : Tree) (once : held_state x s ≡ 1) where
+module _ (m : Surroundings) (well : IsWellTyped m) (x : EndName) (ev : Event) (now next : Tree) (s s' : State) (t : Tree)
+    (once : held_state x s ≡ 1) where
   -- the residuals differ in that of x alone
   pub record Moves (r r' : Residuals) : Type 0 where
     pub before : r x ≡ Some now
@@ -146,7 +158,8 @@ module _ (m : Surroundings) (well : IsWellTyped m) (x : EndName) (ev : Event) (n
       go z u q k (inr i) = i ∙ q
 
   -- the state of a task that sent
-  pub sent_typed : (r r' : Residuals) → Moves r r' → step now (sending ev) ≡ Some next → IsTyped m r s t → machine.request m.families s ≡ Some (request.Put x ev) →
+  pub sent_typed : (r r' : Residuals) → Moves r r' → step now (sending ev) ≡ Some next → IsTyped m r s t →
+      machine.request m.families s ≡ Some (request.Put x ev) →
       answered (program_in m) s Sent ≡ Some s' → Goes m r' s' t (λ z. held_state z s)
   sent_typed r r' h moves typed asks told =
       let p = put_pause (pause m.families s) x ev asks in
@@ -154,20 +167,23 @@ module _ (m : Surroundings) (well : IsWellTyped m) (x : EndName) (ev : Event) (n
       let u : IsUnspent r x = (now, h.before, moving now next (sending ev) moves) in
       let n = k.1 x u in
       let o = own_once x in
-      let g = sent_goes m well r r' x ev now next h.before moves h.later p.0 t k.0 (still_without r r' h (λ z. held_frames z p.0) (omega (arith, n, o, once))) in
+      let g = sent_goes m well r r' x ev now next h.before moves h.later p.0 t k.0
+      (still_without r r' h (λ z. held_frames z p.0) (omega (arith, n, o, once))) in
       let is : giving (value.end x) p.0 ≡ s' = some_same (sym (ap (λ q. after (program_in m) q Sent) p.1) ∙ told) in
       let g' = subst (λ w. Goes m r' w t (λ z. held_pause z (puts x ev p.0))) is g in
       (g'.0, λ z w. g'.1 z w ∙ k.1 z (was_unspent r r' h u z w))
 
   -- the state of a task that received
-  pub got_typed : (r r' : Residuals) → Moves r r' → step now (receiving ev) ≡ Some next → IsTyped m r s t → machine.request m.families s ≡ Some (request.Get x) →
+  pub got_typed : (r r' : Residuals) → Moves r r' → step now (receiving ev) ≡ Some next → IsTyped m r s t →
+      machine.request m.families s ≡ Some (request.Get x) →
       answered (program_in m) s (Got ev) ≡ Some s' → Goes m r' s' t (λ z. held_state z s)
   got_typed r r' h moves typed asks told =
       let k = pause_goes m well r s t typed in
       let u : IsUnspent r x = (now, h.before, moving now next (receiving ev) moves) in
       let o = own_once x in
       let g = get_pause
-      (λ w. Allowed m r w t → held_pause x w ≡ held_state x s → after (program_in m) w (Got ev) ≡ Some s' → Goes m r' s' t (λ z. held_pause z w))
+      (λ w. Allowed m r w t → held_pause x w ≡ held_state x s → after (program_in m) w (Got ev) ≡ Some s' → Goes m r' s' t
+      (λ z. held_pause z w))
       (pause m.families s) x asks
       (λ fs a n e. received_goes m well r r' x ev now next h.before moves h.later (program_in m) fs t s' a
       (still_without r r' h (λ z. held_frames z fs) (omega (arith, n, o, once))) e)
@@ -190,16 +206,19 @@ module _ (m : Surroundings) (well : IsWellTyped m) (x : EndName) (ev : Event) (n
       go : (y : EndName) (b : Bool) → same_end z y ≡ b → (y ≡ x) ⊎ (r' y ≡ r y) → (y ≡ x) ⊎ (without z r' y ≡ without z r y)
       go y true e o = inr (ap (λ (b : Bool). if b then None else r' y) e ∙ sym (ap (λ (b : Bool). if b then None else r y) e))
       go y false e (inl i) = inl i
-      go y false e (inr i) = inr (ap (λ (b : Bool). if b then None else r' y) e ∙ i ∙ sym (ap (λ (b : Bool). if b then None else r y) e))
+      go y false e (inr i) = inr (ap (λ (b : Bool). if b then None else r' y) e ∙ i
+          ∙ sym (ap (λ (b : Bool). if b then None else r y) e))
 
   -- neither leads to an end that the state doesn't hold
-  pub sent_holds : (r r' : Residuals) → Moves r r' → step now (sending ev) ≡ Some next → IsTyped m r s t → machine.request m.families s ≡ Some (request.Put x ev) →
+  pub sent_holds : (r r' : Residuals) → Moves r r' → step now (sending ev) ≡ Some next → IsTyped m r s t →
+      machine.request m.families s ≡ Some (request.Put x ev) →
       answered (program_in m) s Sent ≡ Some s' → (z : EndName) → held_state z s ≡ 0 → held_state z s' ≡ 0
   sent_holds r r' h moves typed asks told z n =
       unknown_state m (without z r') z (without_itself z r') s' t
       (sent_typed (without z r) (without z r') (moves_without r r' h z n) moves (typed_without m r z s t typed n) asks told).0
 
-  pub got_holds : (r r' : Residuals) → Moves r r' → step now (receiving ev) ≡ Some next → IsTyped m r s t → machine.request m.families s ≡ Some (request.Get x) →
+  pub got_holds : (r r' : Residuals) → Moves r r' → step now (receiving ev) ≡ Some next → IsTyped m r s t →
+      machine.request m.families s ≡ Some (request.Get x) →
       answered (program_in m) s (Got ev) ≡ Some s' → (z : EndName) → held_state z s ≡ 0 → held_state z s' ≡ 0
   got_holds r r' h moves typed asks told z n =
       unknown_state m (without z r') z (without_itself z r') s' t

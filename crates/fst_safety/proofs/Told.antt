@@ -19,7 +19,8 @@ told_go p (gets x fs) e = absurd (cc e)
 told_go p (matches x bs env fs) e = absurd (cc e)
 told_go p (ended v) e = absurd (cc e)
 
-pub told_made : (p : Program) (q : Pause) (k : ℕ) (h : ChannelName) → asked q ≡ Some (New k) → (s : State) × (after p q (Made h) ≡ Some s)
+pub told_made : (p : Program) (q : Pause) (k : ℕ) (h : ChannelName) → asked q ≡ Some (New k) → (s : State) ×
+    (after p q (Made h) ≡ Some s)
 told_made p stuck k h e = absurd (cc e)
 told_made p (calls b env v fs) k h e = absurd (cc e)
 told_made p (uses g fs) k h e = absurd (cc e)
@@ -30,7 +31,8 @@ told_made p (gets x fs) k h e = absurd (cc e)
 told_made p (matches x bs env fs) k h e = absurd (cc e)
 told_made p (ended v) k h e = absurd (cc e)
 
-pub told_forked : (p : Program) (q : Pause) → asked q ≡ Some Fork → (b : State) × (s : State) × (child q ≡ Some b) × (after p q Forked ≡ Some s)
+pub told_forked : (p : Program) (q : Pause) → asked q ≡ Some Fork → (b : State) × (s : State) × (child q ≡ Some b) ×
+    (after p q Forked ≡ Some s)
 told_forked p stuck e = absurd (cc e)
 told_forked p (calls b env v fs) e = absurd (cc e)
 told_forked p (uses g fs) e = absurd (cc e)
@@ -41,7 +43,8 @@ told_forked p (gets x fs) e = absurd (cc e)
 told_forked p (matches x bs env fs) e = absurd (cc e)
 told_forked p (ended v) e = absurd (cc e)
 
-pub told_sent : (p : Program) (q : Pause) (x : EndName) (ev : Event) → asked q ≡ Some (Put x ev) → (s : State) × (after p q Sent ≡ Some s)
+pub told_sent : (p : Program) (q : Pause) (x : EndName) (ev : Event) → asked q ≡ Some (Put x ev) → (s : State) ×
+    (after p q Sent ≡ Some s)
 told_sent p stuck x ev e = absurd (cc e)
 told_sent p (calls b env v fs) x ev e = absurd (cc e)
 told_sent p (uses g fs) x ev e = absurd (cc e)
@@ -52,7 +55,8 @@ told_sent p (gets y fs) x ev e = absurd (cc e)
 told_sent p (matches y bs env fs) x ev e = absurd (cc e)
 told_sent p (ended v) x ev e = absurd (cc e)
 
-pub told_got : (p : Program) (q : Pause) (x : EndName) (ev : Event) → asked q ≡ Some (Get x) → (s : State) × (after p q (Got ev) ≡ Some s)
+pub told_got : (p : Program) (q : Pause) (x : EndName) (ev : Event) → asked q ≡ Some (Get x) → (s : State) ×
+    (after p q (Got ev) ≡ Some s)
 told_got p stuck x ev e = absurd (cc e)
 told_got p (calls b env v fs) x ev e = absurd (cc e)
 told_got p (uses g fs) x ev e = absurd (cc e)

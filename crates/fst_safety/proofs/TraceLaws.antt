@@ -8,32 +8,36 @@ use Rattle.fst_kinds.specs.WellFormed.{IsSession}
 use Rattle.fst_lts.specs.Step.{step}
 use Rattle.fst_lts.specs.Dual.{dual}
 use Rattle.fst_lts.specs.Histories.{sending, after_event, after_history, side_type, opposite}
-use Rattle.fst_lts.proofs.Laws.{dual-dual, after_sent}
+use Rattle.fst_lts.proofs.Laws.{dual-dual, after_sent, dual_session}
 use Rattle.fst_base.specs.Agreement.{residual}
 use Rattle.fst_types.specs.declared.event.Entry.{Entry}
 use Rattle.fst_runs.specs.Configs.{Channel, channel_residual}
 use Rattle.fst_runs.specs.Events.{extended}
 use Rattle.fst_runs.proofs.Laws.{residual-opposite}
 use Rattle.fst_safety.specs.Sound.{IsTrace}
-use Rattle.fst_lts.proofs.DualKinds.{dual_session}
 
 then_itself : (o : Option Tree) → option_and_then (λ y. residual after_event y []) o ≡ o
 then_itself None = refl
 then_itself (Some t) = refl
 
 -- the type after one more entry
-pub after_extended : (t : Tree) (h : List Entry) (e : Entry) → after_history t (h ++ e ∷ []) ≡ option_and_then (λ y. after_event y e.event) (after_history t h)
+pub after_extended : (t : Tree) (h : List Entry) (e : Entry) → after_history t (h ++ e ∷ []) ≡ option_and_then
+    (λ y. after_event y e.event) (after_history t h)
 after_extended t [] e = then_itself (after_event t e.event)
 after_extended t (d ∷ h) e = go (after_event t d.event) (λ y. after_extended y h e)
   where
-    go : (o : Option Tree) → ((y : Tree) → after_history y (h ++ e ∷ []) ≡ option_and_then (λ z. after_event z e.event) (after_history y h)) →
-        option_and_then (λ y. after_history y (h ++ e ∷ [])) o ≡ option_and_then (λ z. after_event z e.event) (option_and_then (λ y. after_history y h) o)
+    go : (o : Option Tree) → ((y : Tree) → after_history y (h ++ e ∷ []) ≡ option_and_then
+        (λ z. after_event z e.event) (after_history y h)) →
+        option_and_then (λ y. after_history y (h ++ e ∷ [])) o ≡ option_and_then
+        (λ z. after_event z e.event) (option_and_then (λ y. after_history y h) o)
     go None f = refl
     go (Some y) f = f y
 
 -- the residual of a side after one more entry
-pub residual_extended : (side : Side) (k : Channel) (e : Entry) (s : Tree) → channel_residual side k ≡ Some s → channel_residual side (extended k e) ≡ after_event s e.event
-residual_extended side k e s h = after_extended (side_type side k.declared) k.history e ∙ ap (option_and_then (λ y. after_event y e.event)) h
+pub residual_extended : (side : Side) (k : Channel) (e : Entry) (s : Tree) → channel_residual side k ≡ Some s →
+    channel_residual side (extended k e) ≡ after_event s e.event
+residual_extended side k e s h = after_extended (side_type side k.declared) k.history e
+    ∙ ap (option_and_then (λ y. after_event y e.event)) h
 
 -- both residuals of a channel, seen from one side
 abbrev pub Sides : Side → Channel → Tree → Type 0
@@ -49,5 +53,6 @@ trace_from k Left u d w h = (u, d, w, h.0, h.1)
 trace_from k Right u d w h = (dual u, d, dual_session [] u w, h.1, h.0 ∙ ap Some (sym (dual-dual u)))
 
 -- what one side sends takes both on
-pub sides_grow : (k : Channel) (side : Side) (e : Entry) (s t : Tree) → Sides side k s → step s (sending e.event) ≡ Some t → Sides side (extended k e) t
+pub sides_grow : (k : Channel) (side : Side) (e : Entry) (s t : Tree) → Sides side k s → step s (sending e.event) ≡ Some t →
+    Sides side (extended k e) t
 sides_grow k side e s t h g = sides_from (extended k e) side t (residual_extended side k e s h.0 ∙ after_sent s t e.event g)

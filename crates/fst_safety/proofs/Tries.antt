@@ -14,10 +14,12 @@ use Rattle.fst_safety.specs.Bags.{put_by, IsPutBack}
 use Rattle.fst_safety.specs.Tasks.{offers, tries_at}
 
 -- an end that has the same name and has tried more
-pub tried_more : (z : EndName) (e f : EndView) → end_name f ≡ end_name e → e.knows.tries ≤ f.knows.tries → tries_at z e ≤ tries_at z f
+pub tried_more : (z : EndName) (e f : EndView) → end_name f ≡ end_name e → e.knows.tries ≤ f.knows.tries →
+    tries_at z e ≤ tries_at z f
 tried_more z e f same more = go (same_end z (end_name e)) refl
   where
-    there : (b : Bool) → same_end z (end_name e) ≡ b → (tries_at z e ≡ (if b then e.knows.tries else 0)) × (tries_at z f ≡ (if b then f.knows.tries else 0))
+    there : (b : Bool) → same_end z (end_name e) ≡ b → (tries_at z e ≡ (if b then e.knows.tries else 0)) ×
+        (tries_at z f ≡ (if b then f.knows.tries else 0))
     there b q = (
       ap (λ (b : Bool). if b then e.knows.tries else 0) q,
       ap (λ y. if same_end z y then f.knows.tries else 0) same ∙ ap (λ (b : Bool). if b then f.knows.tries else 0) q,
@@ -46,7 +48,8 @@ changed_sum w x e f rest was =
     omega (arith, a, b, c)
 
 -- or it is put where it belongs
-pub passed_sum : (w : EndView → ℕ) (x : Thread) (e f : EndView) (rest bag retired : List EndView) → IsPermutation x.bag (e ∷ rest) → IsPutBack f rest x.retired bag retired →
+pub passed_sum : (w : EndView → ℕ) (x : Thread) (e f : EndView) (rest bag retired : List EndView) →
+    IsPermutation x.bag (e ∷ rest) → IsPutBack f rest x.retired bag retired →
     (sum_by w bag + sum_by w retired) + w e ≡ of_ends w x + w f
 passed_sum w x e f rest bag retired was put =
     let a = sum_by-IsPermutation w x.bag (e ∷ rest) was in
@@ -55,7 +58,8 @@ passed_sum w x e f rest bag retired was put =
     omega (arith, a, b, c)
 
 -- two ends come in
-pub made_sum : (w : EndView → ℕ) (x : Thread) (l r : EndView) (bag1 ret1 bag retired : List EndView) → IsPutBack l x.bag x.retired bag1 ret1 → IsPutBack r bag1 ret1 bag retired →
+pub made_sum : (w : EndView → ℕ) (x : Thread) (l r : EndView) (bag1 ret1 bag retired : List EndView) →
+    IsPutBack l x.bag x.retired bag1 ret1 → IsPutBack r bag1 ret1 bag retired →
     sum_by w bag + sum_by w retired ≡ (of_ends w x + w l) + w r
 made_sum w x l r bag1 ret1 bag retired pl pr =
     let a = put_sum w l x.bag x.retired bag1 ret1 pl in

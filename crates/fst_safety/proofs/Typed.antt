@@ -18,7 +18,8 @@ use Rattle.fst_safety.proofs.Equals.{equals_through}
 
 mutual
   -- a term of a type is one of each equal type
-  pub type_equal : (m : Surroundings) (g : List Variable) (e : CoreTree) (a b : Tree) → HasType m g e a → Equals a b → HasType m g e b
+  pub type_equal : (m : Surroundings) (g : List Variable) (e : CoreTree) (a b : Tree) → HasType m g e a → Equals a b →
+      HasType m g e b
   type_equal m g (local at k) a b d q = (d.0, d.1, equals_through d.2 q)
   type_equal m g (global at k ks) a b d q = (d.0, d.1, equals_through d.2 q)
   type_equal m g (int at n) a b d q = equals_through d q
@@ -32,7 +33,16 @@ mutual
   type_equal m g (let_in at x e f) a b d q = (d.0, d.1, d.2, type_equal m (d.0 ∷ g) f a b d.3 q, d.4, d.5)
   type_equal m g (split at x y e f) a b d q = (d.0, d.1, d.2, d.3, d.4, type_equal m (d.1 ∷ d.0 ∷ g) f a b d.5 q, d.6, d.7, d.8)
   type_equal m g (if_else at e f h) a b d q = (d.0, type_equal m g f a b d.1 q, type_equal m g h a b d.2 q, d.3, d.4)
-  type_equal m g (case_of at e bs) a b d q = (d.0, d.1, d.2, d.3, d.4, arms_equal m (fields d.1.makers.items) g bs a b d.5 q, d.6, d.7)
+  type_equal m g (case_of at e bs) a b d q = (
+    d.0,
+    d.1,
+    d.2,
+    d.3,
+    d.4,
+    arms_equal m (fields d.1.makers.items) g bs a b d.5 q,
+    d.6,
+    d.7,
+  )
   type_equal m g (operate at o e f) a b d q = (d.0, d.1, d.2, d.3, d.4, d.5, equals_through d.6 q)
   type_equal m g (negate at e) a b d q = (d.0, equals_through d.1 q)
   type_equal m g (new at k) a b d q = (d.0, d.1, d.2, equals_through d.3 q)
@@ -44,7 +54,8 @@ mutual
   type_equal m g (seq at e f) a b d q = (d.0, d.1, d.2, type_equal m g f a b d.3 q, d.4)
 
   -- so are arms
-  pub arms_equal : (m : Surroundings) (B : Binding) (g : List Variable) (bs : CoreArms) (a b : Tree) → ArmsHaveType m B g bs a → Equals a b → ArmsHaveType m B g bs b
+  pub arms_equal : (m : Surroundings) (B : Binding) (g : List Variable) (bs : CoreArms) (a b : Tree) → ArmsHaveType m B g bs a →
+      Equals a b → ArmsHaveType m B g bs b
   arms_equal m B g no_arms a b d q = tt
   arms_equal m B g (arm l xs e bs) a b d q =
       (d.0, d.1, d.2, d.3, d.4, type_equal m (context.enter_all d.1 g) e a b d.5 q, d.6, arms_equal m B g bs a b d.7 q)
@@ -73,13 +84,15 @@ module _ (m : Surroundings) (r : Residuals) where
   fits_formed (value.end x) a f = f.3.right
 
   -- a value that is entered fits its variable
-  pub fits_enter : (b : Bool) (v : Value) (env : Environment) (x : Variable) (g : List Variable) → Fits m r v x.type → IsVariable x → FitsEnv m r env g →
+  pub fits_enter : (b : Bool) (v : Value) (env : Environment) (x : Variable) (g : List Variable) → Fits m r v x.type →
+      IsVariable x → FitsEnv m r env g →
       FitsEnv m r (enter b v env) (x ∷ g)
   fits_enter true v env x g f i h = (f, i, h)
   fits_enter false v env x g f i h = h
 
   -- and so do the values that are entered for an arm's variables
-  pub fits_enter_all : (p : ℕ → Bool) (vs : Values) (ts : List Tree) (xs : List Variable) (env : Environment) (g : List Variable) →
+  pub fits_enter_all : (p : ℕ → Bool) (vs : Values) (ts : List Tree) (xs : List Variable) (env : Environment)
+      (g : List Variable) →
       FitAll m r vs ts → AreVariables [] ts xs → FitsEnv m r env g → FitsEnv m r (enter_all p vs env) (context.enter_all xs g)
   fits_enter_all p no_values [] [] env g f a h = h
   fits_enter_all p no_values [] (x ∷ xs) env g f a h = absurd a
@@ -99,7 +112,8 @@ module _ (m : Surroundings) (r : Residuals) where
   fits_keep (slot v env) p (x ∷ g) f = fits_enter (p zero) v (keep (outside p) env) x g f.0 f.1 (fits_keep env (outside p) g f.2)
 
   -- the value of a variable that is there fits it
-  pub fits_lookup : (env : Environment) (k : ℕ) (g : List Variable) (x : Variable) → FitsEnv m r env g → present env k ≡ true → slice_get g k ≡ Some x →
+  pub fits_lookup : (env : Environment) (k : ℕ) (g : List Variable) (x : Variable) → FitsEnv m r env g → present env k ≡ true →
+      slice_get g k ≡ Some x →
       (v : Value) × (lookup env k ≡ Some v) × Fits m r v x.type
   fits_lookup none k g x f h q = absurd (false≢true h)
   fits_lookup (hole env) k [] x f h q = absurd f

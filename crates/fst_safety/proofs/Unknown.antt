@@ -38,33 +38,46 @@ module _ (m : Surroundings) (r : Residuals) (z : EndName) (n : r z ≡ None) whe
 
   unknown_before : (vs : Values) (all ts : List Tree) → FitBefore m r vs all ts → held_all z vs ≡ 0
   unknown_before no_values all ts f = refl
-  unknown_before (value.value v vs) all ts f = let a = unknown v f.0 f.1 in let b = unknown_before vs all (f.0 ∷ ts) f.2 in omega (arith, a, b)
+  unknown_before (value.value v vs) all ts f = let a = unknown v f.0 f.1 in let b = unknown_before vs all (f.0 ∷ ts) f.2 in
+      omega (arith, a, b)
 
   -- not in what waits
   pub unknown_frames : (fs : List Frame) (a t : Tree) → Takes m r fs a t → held_frames z fs ≡ 0
   unknown_frames [] a t k = refl
-  unknown_frames (at_function e env ∷ fs) a t k = let x = unknown_env env k.3 k.5.0 in let y = unknown_frames fs k.7 t k.9 in omega (arith, x, y)
-  unknown_frames (at_argument v ∷ fs) a t k = let x = unknown v _ k.2 in let y = unknown_frames fs k.3 t k.5 in omega (arith, x, y)
-  unknown_frames (at_first e env ∷ fs) a t k = let x = unknown_env env k.1 k.2.0 in let y = unknown_frames fs k.4 t k.6 in omega (arith, x, y)
-  unknown_frames (at_second v ∷ fs) a t k = let x = unknown v k.0 k.1 in let y = unknown_frames fs k.2 t k.4 in omega (arith, x, y)
+  unknown_frames (at_function e env ∷ fs) a t k = let x = unknown_env env k.3 k.5.0 in let y = unknown_frames fs k.7 t k.9 in
+      omega (arith, x, y)
+  unknown_frames (at_argument v ∷ fs) a t k = let x = unknown v _ k.2 in let y = unknown_frames fs k.3 t k.5 in
+      omega (arith, x, y)
+  unknown_frames (at_first e env ∷ fs) a t k = let x = unknown_env env k.1 k.2.0 in let y = unknown_frames fs k.4 t k.6 in
+      omega (arith, x, y)
+  unknown_frames (at_second v ∷ fs) a t k = let x = unknown v k.0 k.1 in let y = unknown_frames fs k.2 t k.4 in
+      omega (arith, x, y)
   unknown_frames (at_field i o done es env ∷ fs) a t k =
       let w = unknown_before done k.1 (a ∷ k.2) k.6 in
       let x = unknown_env env k.3 k.7.0 in
       let y = unknown_frames fs k.9 t k.11 in
       omega (arith, w, x, y)
-  unknown_frames (at_let e env ∷ fs) a t k = let x = unknown_env env k.2 k.5.0 in let y = unknown_frames fs k.1 t k.8 in omega (arith, x, y)
-  unknown_frames (at_split e env ∷ fs) a t k = let x = unknown_env env k.3 k.7.0 in let y = unknown_frames fs k.2 t k.11 in omega (arith, x, y)
-  unknown_frames (at_if e f env ∷ fs) a t k = let x = unknown_env env k.1 k.3.0 in let y = unknown_frames fs k.0 t k.7 in omega (arith, x, y)
-  unknown_frames (at_case bs env ∷ fs) a t k = let x = unknown_env env k.3 k.5.0 in let y = unknown_frames fs k.2 t k.10 in omega (arith, x, y)
-  unknown_frames (at_left o e env ∷ fs) a t k = let x = unknown_env env k.1 k.3.0 in let y = unknown_frames fs k.5 t k.7 in omega (arith, x, y)
+  unknown_frames (at_let e env ∷ fs) a t k = let x = unknown_env env k.2 k.5.0 in let y = unknown_frames fs k.1 t k.8 in
+      omega (arith, x, y)
+  unknown_frames (at_split e env ∷ fs) a t k = let x = unknown_env env k.3 k.7.0 in let y = unknown_frames fs k.2 t k.11 in
+      omega (arith, x, y)
+  unknown_frames (at_if e f env ∷ fs) a t k = let x = unknown_env env k.1 k.3.0 in let y = unknown_frames fs k.0 t k.7 in
+      omega (arith, x, y)
+  unknown_frames (at_case bs env ∷ fs) a t k = let x = unknown_env env k.3 k.5.0 in let y = unknown_frames fs k.2 t k.10 in
+      omega (arith, x, y)
+  unknown_frames (at_left o e env ∷ fs) a t k = let x = unknown_env env k.1 k.3.0 in let y = unknown_frames fs k.5 t k.7 in
+      omega (arith, x, y)
   unknown_frames (at_right o v ∷ fs) a t k = let x = unknown v a k.2 in let y = unknown_frames fs k.3 t k.5 in omega (arith, x, y)
   unknown_frames (at_not ∷ fs) a t k = let y = unknown_frames fs k.1 t k.3 in omega (arith, y)
-  unknown_frames (at_value e env ∷ fs) a t k = let x = unknown_env env k.3 k.5.0 in let y = unknown_frames fs k.8 t k.10 in omega (arith, x, y)
+  unknown_frames (at_value e env ∷ fs) a t k = let x = unknown_env env k.3 k.5.0 in let y = unknown_frames fs k.8 t k.10 in
+      omega (arith, x, y)
   unknown_frames (at_target v ∷ fs) a t k = let x = unknown v _ k.2 in let y = unknown_frames fs k.4 t k.6 in omega (arith, x, y)
   unknown_frames (at_receive ∷ fs) a t k = let y = unknown_frames fs k.3 t k.5 in omega (arith, y)
   unknown_frames (at_select l ∷ fs) a t k = let y = unknown_frames fs k.2 t k.4 in omega (arith, y)
-  unknown_frames (at_match bs env ∷ fs) a t k = let x = unknown_env env k.2 k.5.0 in let y = unknown_frames fs k.1 t k.8 in omega (arith, x, y)
-  unknown_frames (at_seq e env ∷ fs) a t k = let x = unknown_env env k.1 k.3.0 in let y = unknown_frames fs k.0 t k.5 in omega (arith, x, y)
+  unknown_frames (at_match bs env ∷ fs) a t k = let x = unknown_env env k.2 k.5.0 in let y = unknown_frames fs k.1 t k.8 in
+      omega (arith, x, y)
+  unknown_frames (at_seq e env ∷ fs) a t k = let x = unknown_env env k.1 k.3.0 in let y = unknown_frames fs k.0 t k.5 in
+      omega (arith, x, y)
 
   -- not in a state
   pub unknown_state : (s : State) (t : Tree) → IsTyped m r s t → held_state z s ≡ 0

@@ -12,13 +12,15 @@ use Rattle.fst_cell.specs.End.{EndView, end_name, residual_of}
 use Rattle.fst_safety.specs.Threads.{count_of}
 
 -- the end is put behind the spent ones, or behind the open ones
-abbrev pub put_by : Bool → EndView → List EndView → List EndView → List EndView → List EndView → Type 0
+abbrev pub put_by : Bool → EndView → List EndView → List EndView → List EndView → List EndView →
+    Type 0
 put_by true e es spent bag retired = (bag ≡ es) × (retired ≡ spent ++ e ∷ [])
 put_by false e es spent bag retired = (bag ≡ es ++ e ∷ []) × (retired ≡ spent)
 
 -- the end is put where it belongs
 abbrev pub IsPutBack : EndView → List EndView → List EndView → List EndView → List EndView → Type 0
-IsPutBack e es spent bag retired = (s : Tree) × (residual_of e.knows ≡ Some s) × put_by (terminated s) e es spent bag retired
+IsPutBack e es spent bag retired = (s : Tree) ×
+    (residual_of e.knows ≡ Some s) × put_by (terminated s) e es spent bag retired
 
 -- at this place stands an end of this name
 abbrev pub IsPlaced : EndName → List EndView → ℕ → Type 0
@@ -44,7 +46,8 @@ pub record MayTake (e : EndView) : Type 0 where
   pub few : length e.knows.history < 4294967296
 
 -- the end of this place is another one now, which stands last
-pub record IsChanged (P : EndView → EndView → Type 0) (es : List EndView) (i : ℕ) (bag : List EndView) : Type 0 where
+pub record IsChanged (P : EndView → EndView → Type 0) (es : List EndView) (i : ℕ)
+    (bag : List EndView) : Type 0 where
   pub before : EndView
   pub after : EndView
   pub rest : List EndView
@@ -54,7 +57,8 @@ pub record IsChanged (P : EndView → EndView → Type 0) (es : List EndView) (i
   pub by : P before after
 
 -- or it is put where it belongs
-pub record IsPassed (P : EndView → EndView → Type 0) (es spent : List EndView) (i : ℕ) (bag retired : List EndView) : Type 0 where
+pub record IsPassed (P : EndView → EndView → Type 0) (es spent : List EndView) (i : ℕ)
+    (bag retired : List EndView) : Type 0 where
   pub before : EndView
   pub after : EndView
   pub rest : List EndView
@@ -70,12 +74,19 @@ OffersAt es i ev clock (Ok false) bag = IsChanged FoundHeld es i bag
 OffersAt es i ev clock (Err x) bag = IsChanged (λ e f. f ≡ e) es i bag
 
 -- what a notice answers
-abbrev pub NoticesAt : List EndView → List EndView → ℕ → Option ℕ → List EndView → List EndView → Type 0
-NoticesAt es spent i (Some stamp) bag retired = IsPassed (λ e f. IsNoticed e stamp f) es spent i bag retired
-NoticesAt es spent i None bag retired = IsChanged (λ e f. FoundHeld e f ⊎ FoundStanding e f) es i bag × (retired ≡ spent)
+abbrev pub NoticesAt : List EndView → List EndView → ℕ → Option ℕ → List EndView → List EndView →
+    Type 0
+NoticesAt es spent i (Some stamp) bag retired = IsPassed
+    (λ e f. IsNoticed e stamp f) es spent i bag retired
+NoticesAt es spent i None bag retired = IsChanged
+    (λ e f. FoundHeld e f ⊎ FoundStanding e f) es i bag × (retired ≡ spent)
 
 -- what a take answers
-abbrev pub TakesAt : List EndView → List EndView → ℕ → ℕ → Result (Option (Event × ℕ)) AllocError → List EndView → List EndView → Type 0
-TakesAt es spent i clock (Ok (Some p)) bag retired = IsPassed (λ e f. IsTaken e clock p.0 p.1 f) es spent i bag retired
-TakesAt es spent i clock (Ok None) bag retired = IsChanged (λ e f. FoundHeld e f ⊎ FoundNothing e f) es i bag × (retired ≡ spent)
-TakesAt es spent i clock (Err x) bag retired = IsChanged (λ e f. f ≡ end_with e (tried e.knows f.knows.found)) es i bag × (retired ≡ spent)
+abbrev pub TakesAt : List EndView → List EndView → ℕ → ℕ → Result (Option (Event × ℕ)) AllocError →
+    List EndView → List EndView → Type 0
+TakesAt es spent i clock (Ok (Some p)) bag retired = IsPassed
+    (λ e f. IsTaken e clock p.0 p.1 f) es spent i bag retired
+TakesAt es spent i clock (Ok None) bag retired = IsChanged
+    (λ e f. FoundHeld e f ⊎ FoundNothing e f) es i bag × (retired ≡ spent)
+TakesAt es spent i clock (Err x) bag retired = IsChanged
+    (λ e f. f ≡ end_with e (tried e.knows f.knows.found)) es i bag × (retired ≡ spent)

@@ -12,20 +12,26 @@ use Rattle.fst_runs.specs.Events.{Write, written, Does, Runs, IsLast}
 
 -- each of two events stays possible after the other and writes the same, and both orders lead to one configuration
 abbrev pub Commutes : Program → List Tree → Config → CoreEvent → Write → CoreEvent → Write → Type 0
-Commutes m types c a v b w = Does m types (written c v) b w × Does m types (written c w) a v × (written (written c v) w ≡ written (written c w) v)
+Commutes m types c a v b w = Does m types (written c v) b w × Does m types (written c w) a v ×
+    (written (written c v) w ≡ written (written c w) v)
 
 -- after any run of a module that has derivations, two different events that are possible commute
 abbrev pub DiamondLaw : Type 0
 DiamondLaw =
-    (m : Module) (ds : List Deriv) → HasDerivations m ds → (e : CoreTree) → main_body m.globals.items ≡ Some e →
+    (m : Module) (ds : List Deriv) → HasDerivations m ds →
+    (e : CoreTree) → main_body m.globals.items ≡ Some e →
     (es : List CoreEvent) (c : Config) → Runs (program m) m.types.items (started e) es c →
-    (a b : CoreEvent) (v w : Write) → Does (program m) m.types.items c a v → Does (program m) m.types.items c b w → (a ≡ b → ⊥) →
+    (a b : CoreEvent) (v w : Write) → Does (program m) m.types.items c a v →
+    Does (program m) m.types.items c b w → (a ≡ b → ⊥) →
     Commutes (program m) m.types.items c a v b w
 
 -- where a run of such a module comes to an end, none is longer, and each that does is as long and ends in the same configuration
 abbrev pub OneEnd : Type 0
 OneEnd =
-    (m : Module) (ds : List Deriv) → HasDerivations m ds → (e : CoreTree) → main_body m.globals.items ≡ Some e →
-    (es : List CoreEvent) (d : Config) → Runs (program m) m.types.items (started e) es d → IsLast (program m) m.types.items d →
+    (m : Module) (ds : List Deriv) → HasDerivations m ds →
+    (e : CoreTree) → main_body m.globals.items ≡ Some e →
+    (es : List CoreEvent) (d : Config) → Runs (program m) m.types.items (started e) es d →
+    IsLast (program m) m.types.items d →
     (fs : List CoreEvent) (c : Config) → Runs (program m) m.types.items (started e) fs c →
-    (length fs ≤ length es) × (IsLast (program m) m.types.items c → (length fs ≡ length es) × (c ≡ d))
+    (length fs ≤ length es) × (IsLast (program m) m.types.items c → (length fs ≡ length es) ×
+    (c ≡ d))

@@ -56,13 +56,17 @@ abbrev mutual
   Fits m r (value.bool b) t = Equals (plain Truth) t
   Fits m r (value.char c) t = Equals (plain Char) t
   Fits m r value.unit t = Equals (plain Nothing) t
-  Fits m r (value.pair v w) t = (a : Tree) × (b : Tree) × Fits m r v a × Fits m r w b × Equals (type.pair a b) t
+  Fits m r (value.pair v w) t = (a : Tree) ×
+      (b : Tree) × Fits m r v a × Fits m r w b × Equals (type.pair a b) t
   Fits m r (value.made n o vs) t =
-      (c : Maker) × (ts : List Tree) × (maker_of (slice_get m.families n) o ≡ Some c) × AreAt m.types c.fields.items ts ×
+      (c : Maker) × (ts : List Tree) × (maker_of (slice_get m.families n) o ≡ Some c) ×
+      AreAt m.types c.fields.items ts ×
       FitAll m r vs ts × Equals (named n) t
   Fits m r (value.function e env) t =
-      (g : List Variable) × (u : Use) × (v : Variable) × (b : Tree) × FitsEnv m r env g × Exactly (outside (free e)) env × IsVariable v ×
-      HasType m (v ∷ g) e b × Spends v (free e zero) × (u ≡ Many → Plentiful g (outside (free e))) × Equals (arrow u v.type b) t
+      (g : List Variable) × (u : Use) × (v : Variable) ×
+      (b : Tree) × FitsEnv m r env g × Exactly (outside (free e)) env × IsVariable v ×
+      HasType m (v ∷ g) e b × Spends v (free e zero) ×
+      (u ≡ Many → Plentiful g (outside (free e))) × Equals (arrow u v.type b) t
   Fits m r (value.end x) t = (s : Tree) × (r x ≡ Some s) × IsSession [] s × Equals s t
 
   -- the values are of these types, one each
@@ -91,47 +95,69 @@ FitBefore m r (value.value v vs) all ts = (t : Tree) × Fits m r v t × FitBefor
 abbrev pub Takes : Surroundings → Residuals → List Frame → Tree → Tree → Type 0
 Takes m r [] a t = Equals a t
 Takes m r (at_function f env ∷ fs) a t =
-    (u : Use) × (b : Tree) × (c : Tree) × (g : List Variable) × (a ≡ arrow u b c) × IsEnv m r g (free f) env × HasType m g f b ×
+    (u : Use) × (b : Tree) × (c : Tree) × (g : List Variable) ×
+    (a ≡ arrow u b c) × IsEnv m r g (free f) env × HasType m g f b ×
     (d : Tree) × Equals c d × Takes m r fs d t
-Takes m r (at_argument v ∷ fs) a t = (u : Use) × (c : Tree) × Fits m r v (arrow u a c) × (d : Tree) × Equals c d × Takes m r fs d t
+Takes m r (at_argument v ∷ fs) a t = (u : Use) × (c : Tree) × Fits m r v (arrow u a c) ×
+    (d : Tree) × Equals c d × Takes m r fs d t
 Takes m r (at_first f env ∷ fs) a t =
-    (b : Tree) × (g : List Variable) × IsEnv m r g (free f) env × HasType m g f b × (d : Tree) × Equals (type.pair a b) d × Takes m r fs d t
-Takes m r (at_second v ∷ fs) b t = (a : Tree) × Fits m r v a × (d : Tree) × Equals (type.pair a b) d × Takes m r fs d t
+    (b : Tree) × (g : List Variable) × IsEnv m r g (free f) env × HasType m g f b ×
+    (d : Tree) × Equals (type.pair a b) d × Takes m r fs d t
+Takes m r (at_second v ∷ fs) b t = (a : Tree) × Fits m r v a ×
+    (d : Tree) × Equals (type.pair a b) d × Takes m r fs d t
 Takes m r (at_field n o done es env ∷ fs) a t =
-    (c : Maker) × (all : List Tree) × (ts : List Tree) × (g : List Variable) × (maker_of (slice_get m.families n) o ≡ Some c) ×
-    AreAt m.types c.fields.items all × FitBefore m r done all (a ∷ ts) × IsEnv m r g (free_in es) env × HaveTypes m g es ts ×
+    (c : Maker) × (all : List Tree) × (ts : List Tree) × (g : List Variable) ×
+    (maker_of (slice_get m.families n) o ≡ Some c) ×
+    AreAt m.types c.fields.items all × FitBefore m r done all (a ∷ ts) ×
+    IsEnv m r g (free_in es) env × HaveTypes m g es ts ×
     (d : Tree) × Equals (named n) d × Takes m r fs d t
 Takes m r (at_let f env ∷ fs) a t =
-    (v : Variable) × (b : Tree) × (g : List Variable) × (a ≡ v.type) × IsVariable v × IsEnv m r g (outside (free f)) env ×
+    (v : Variable) × (b : Tree) × (g : List Variable) ×
+    (a ≡ v.type) × IsVariable v × IsEnv m r g (outside (free f)) env ×
     HasType m (v ∷ g) f b × Spends v (free f zero) × Takes m r fs b t
 Takes m r (at_split f env ∷ fs) a t =
-    (v : Variable) × (w : Variable) × (b : Tree) × (g : List Variable) × (a ≡ type.pair v.type w.type) × IsVariable v × IsVariable w ×
-    IsEnv m r g (outside (outside (free f))) env × HasType m (w ∷ v ∷ g) f b × Spends v (free f (suc zero)) × Spends w (free f zero) ×
+    (v : Variable) × (w : Variable) × (b : Tree) × (g : List Variable) ×
+    (a ≡ type.pair v.type w.type) × IsVariable v × IsVariable w ×
+    IsEnv m r g (outside (outside (free f))) env × HasType m (w ∷ v ∷ g) f b ×
+    Spends v (free f (suc zero)) × Spends w (free f zero) ×
     Takes m r fs b t
 Takes m r (at_if f h env ∷ fs) a t =
-    (b : Tree) × (g : List Variable) × (a ≡ plain Truth) × IsEnv m r g (in_either f h) env × HasType m g f b × HasType m g h b ×
+    (b : Tree) × (g : List Variable) ×
+    (a ≡ plain Truth) × IsEnv m r g (in_either f h) env × HasType m g f b × HasType m g h b ×
     Alike g (free f) (free h) × Takes m r fs b t
 Takes m r (at_case bs env ∷ fs) a t =
-    (n : ℕ) × (f : Family) × (b : Tree) × (g : List Variable) × (a ≡ named n) × IsEnv m r g (free_below bs) env ×
-    (slice_get m.families n ≡ Some f) × AreEachOnce (map (λ o. o.name) f.makers.items) (arm_labels bs) ×
+    (n : ℕ) × (f : Family) × (b : Tree) × (g : List Variable) ×
+    (a ≡ named n) × IsEnv m r g (free_below bs) env ×
+    (slice_get m.families n ≡ Some f) ×
+    AreEachOnce (map (λ o. o.name) f.makers.items) (arm_labels bs) ×
     ArmsHaveType m (fields f.makers.items) g bs b × AreAlike g (free_below bs) bs × Takes m r fs b t
 Takes m r (at_left o f env ∷ fs) a t =
-    (b : Tree) × (g : List Variable) × Operates o a b × IsEnv m r g (free f) env × HasType m g f a × (d : Tree) × Equals b d × Takes m r fs d t
-Takes m r (at_right o v ∷ fs) a t = (b : Tree) × Operates o a b × Fits m r v a × (d : Tree) × Equals b d × Takes m r fs d t
-Takes m r (at_not ∷ fs) a t = (a ≡ plain Truth) × (d : Tree) × Equals (plain Truth) d × Takes m r fs d t
+    (b : Tree) × (g : List Variable) × Operates o a b × IsEnv m r g (free f) env × HasType m g f a ×
+    (d : Tree) × Equals b d × Takes m r fs d t
+Takes m r (at_right o v ∷ fs) a t = (b : Tree) × Operates o a b × Fits m r v a ×
+    (d : Tree) × Equals b d × Takes m r fs d t
+Takes m r (at_not ∷ fs) a t = (a ≡ plain Truth) ×
+    (d : Tree) × Equals (plain Truth) d × Takes m r fs d t
 Takes m r (at_value f env ∷ fs) a t =
-    (b : Base) × (s : Tree) × (q : Tree) × (g : List Variable) × (a ≡ plain b) × IsEnv m r g (free f) env × HasType m g f s ×
+    (b : Base) × (s : Tree) × (q : Tree) × (g : List Variable) ×
+    (a ≡ plain b) × IsEnv m r g (free f) env × HasType m g f s ×
     (step s (Send b) ≡ Some q) × (d : Tree) × Equals q d × Takes m r fs d t
 Takes m r (at_target v ∷ fs) a t =
-    (b : Base) × (q : Tree) × Fits m r v (plain b) × (step a (Send b) ≡ Some q) × (d : Tree) × Equals q d × Takes m r fs d t
+    (b : Base) × (q : Tree) × Fits m r v (plain b) × (step a (Send b) ≡ Some q) ×
+    (d : Tree) × Equals q d × Takes m r fs d t
 Takes m r (at_receive ∷ fs) a t =
-    (b : Base) × (q : Tree) × (step a (Receive b) ≡ Some q) × (d : Tree) × Equals (type.pair (plain b) q) d × Takes m r fs d t
-Takes m r (at_select l ∷ fs) a t = (q : Tree) × (step a (Select l) ≡ Some q) × (d : Tree) × Equals q d × Takes m r fs d t
+    (b : Base) × (q : Tree) × (step a (Receive b) ≡ Some q) ×
+    (d : Tree) × Equals (type.pair (plain b) q) d × Takes m r fs d t
+Takes m r (at_select l ∷ fs) a t = (q : Tree) × (step a (Select l) ≡ Some q) ×
+    (d : Tree) × Equals q d × Takes m r fs d t
 Takes m r (at_match bs env ∷ fs) a t =
-    (names : List (List ℕ)) × (b : Tree) × (g : List Variable) × IsOffering a names × AreEachOnce names (arm_labels bs) ×
-    IsEnv m r g (free_below bs) env × ArmsHaveType m (rest a) g bs b × AreAlike g (free_below bs) bs × Takes m r fs b t
+    (names : List (List ℕ)) × (b : Tree) ×
+    (g : List Variable) × IsOffering a names × AreEachOnce names (arm_labels bs) ×
+    IsEnv m r g (free_below bs) env × ArmsHaveType m (rest a) g bs b ×
+    AreAlike g (free_below bs) bs × Takes m r fs b t
 Takes m r (at_seq f env ∷ fs) a t =
-    (b : Tree) × (g : List Variable) × HasUse [] a Many × IsEnv m r g (free f) env × HasType m g f b × Takes m r fs b t
+    (b : Tree) × (g : List Variable) × HasUse [] a Many × IsEnv m r g (free f) env ×
+    HasType m g f b × Takes m r fs b t
 
 -- the state is that of a task whose value is of the type
 pub record IsTyped (m : Surroundings) (r : Residuals) (s : State) (t : Tree) : Type 0 where

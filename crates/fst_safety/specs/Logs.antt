@@ -79,8 +79,10 @@ pub record Enters (p : Program) (path : Path) (t : Task) (e : LogEntry) : Type 0
 
 -- what the task exchanges at an entry
 abbrev pub exchanged_by : ℕ → ℕ → Request → Answer → List Exchange
-exchanged_by clock stamp (Put x ev) Sent = record { end = x; sends = true; event = ev; stamp = stamp; clock = clock } ∷ []
-exchanged_by clock stamp (Get x) (Got ev) = record { end = x; sends = false; event = ev; stamp = stamp; clock = clock } ∷ []
+exchanged_by clock stamp (Put x ev) Sent =
+    record { end = x; sends = true; event = ev; stamp = stamp; clock = clock } ∷ []
+exchanged_by clock stamp (Get x) (Got ev) =
+    record { end = x; sends = false; event = ev; stamp = stamp; clock = clock } ∷ []
 exchanged_by clock stamp q a = []
 
 -- the channel that a number of a type and a name are
@@ -102,7 +104,8 @@ birth_of path clock (Some s) = record { path = path; first = new_task s clock } 
 abbrev pub born_by : Program → Path → Task → ℕ → Answer → List Birth
 born_by p path t stamp Go = []
 born_by p path t stamp (Made h) = []
-born_by p path t stamp Forked = birth_of (child_path path t.forked) stamp (child (pause p.families t.state))
+born_by p path t stamp Forked = birth_of (child_path path t.forked) stamp
+    (child (pause p.families t.state))
 born_by p path t stamp Sent = []
 born_by p path t stamp (Got ev) = []
 
@@ -132,8 +135,22 @@ births p path t (e ∷ es) = born_by p path t e.stamp e.answer ++ births p path 
 
 -- one side's part in an entry, whether it sends there
 abbrev pub part_in : EndName → Bool → Entry → Exchange
-part_in x true e = record { end = x; sends = true; event = e.event; stamp = e.stamp; clock = e.sent }
-part_in x false e = record { end = x; sends = false; event = e.event; stamp = e.stamp; clock = e.got }
+part_in x true e = record {
+  end = x;
+  sends = true;
+  event = e.event;
+  stamp = e.stamp;
+  clock =
+      e.sent;
+}
+part_in x false e = record {
+  end = x;
+  sends = false;
+  event = e.event;
+  stamp = e.stamp;
+  clock =
+      e.got;
+}
 
 -- the type after an event, if there was one
 abbrev pub then_after : Option Tree → Event → Option Tree

@@ -27,19 +27,28 @@ use Rattle.fst_safety.specs.Fitting.{Residuals, Fits, IsEnv, Takes, IsTyped}
 abbrev pub Allowed : Surroundings → Residuals → Pause → Tree → Type 0
 Allowed m r stuck t = ⊥
 Allowed m r (calls e env v fs) t =
-    (u : Use) × (a : Tree) × (c : Tree) × Fits m r (value.function e env) (arrow u a c) × Fits m r v a × (d : Tree) × Equals c d × Takes m r fs d t
+    (u : Use) × (a : Tree) × (c : Tree) × Fits m r (value.function e env) (arrow u a c) ×
+    Fits m r v a × (d : Tree) × Equals c d × Takes m r fs d t
 Allowed m r (uses g fs) t = (a : Tree) × IsUse m g a × (d : Tree) × Equals a d × Takes m r fs d t
 Allowed m r (makes k fs) t =
-    (s : Tree) × (slice_get m.types k ≡ Some s) × IsSession [] s × (d : Tree) × Equals (type.pair s (dual s)) d × Takes m r fs d t
+    (s : Tree) × (slice_get m.types k ≡ Some s) × IsSession [] s ×
+    (d : Tree) × Equals (type.pair s (dual s)) d × Takes m r fs d t
 Allowed m r (forks e env fs) t =
-    (a : Tree) × (g : List Variable) × IsEnv m r g (free e) env × HasType m g e a × HasUse [] a Many × (d : Tree) × Equals (plain Nothing) d × Takes m r fs d t
+    (a : Tree) × (g : List Variable) × IsEnv m r g (free e) env × HasType m g e a ×
+    HasUse [] a Many × (d : Tree) × Equals (plain Nothing) d × Takes m r fs d t
 Allowed m r (puts x ev fs) t =
-    (s : Tree) × (q : Tree) × Fits m r (value.end x) s × (step s (sending ev) ≡ Some q) × (d : Tree) × Equals q d × Takes m r fs d t
+    (s : Tree) × (q : Tree) × Fits m r (value.end x) s × (step s (sending ev) ≡ Some q) ×
+    (d : Tree) × Equals q d × Takes m r fs d t
 Allowed m r (gets x fs) t =
-    (b : Base) × (s : Tree) × (q : Tree) × Fits m r (value.end x) s × (step s (Receive b) ≡ Some q) × (d : Tree) × Equals (type.pair (plain b) q) d × Takes m r fs d t
+    (b : Base) × (s : Tree) × (q : Tree) × Fits m r (value.end x) s ×
+    (step s (Receive b) ≡ Some q) × (d : Tree) × Equals (type.pair (plain b) q) d ×
+    Takes m r fs d t
 Allowed m r (matches x bs env fs) t =
-    (s : Tree) × (names : List (List ℕ)) × (b : Tree) × (g : List Variable) × Fits m r (value.end x) s × IsOffering s names × AreEachOnce names (arm_labels bs) ×
-    IsEnv m r g (free_below bs) env × ArmsHaveType m (rest s) g bs b × AreAlike g (free_below bs) bs × Takes m r fs b t
+    (s : Tree) × (names : List (List ℕ)) × (b : Tree) ×
+    (g : List Variable) × Fits m r (value.end x) s × IsOffering s names ×
+    AreEachOnce names (arm_labels bs) ×
+    IsEnv m r g (free_below bs) env × ArmsHaveType m (rest s) g bs b ×
+    AreAlike g (free_below bs) bs × Takes m r fs b t
 Allowed m r (ended v) t = Fits m r v t
 
 -- the pause is one of the type, and holds each unspent end so often

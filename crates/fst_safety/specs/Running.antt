@@ -29,7 +29,8 @@ Equals s t = IsConversion [] s t
 
 -- no linear variable is in both sets
 abbrev pub Apart : List Variable → (ℕ → Bool) → (ℕ → Bool) → Type 0
-Apart g p q = (k : ℕ) (v : Variable) → slice_get g k ≡ Some v → is_once v.uses ≡ true → (p k && q k) ≡ false
+Apart g p q = (k : ℕ) (v : Variable) → slice_get g k ≡ Some v → is_once v.uses ≡ true →
+    (p k && q k) ≡ false
 
 -- the same linear variables are in both sets
 abbrev pub Alike : List Variable → (ℕ → Bool) → (ℕ → Bool) → Type 0
@@ -37,7 +38,8 @@ Alike g p q = (k : ℕ) (v : Variable) → slice_get g k ≡ Some v → is_once 
 
 -- no linear variable is in the set
 abbrev pub Plentiful : List Variable → (ℕ → Bool) → Type 0
-Plentiful g p = (k : ℕ) (v : Variable) → slice_get g k ≡ Some v → p k ≡ true → is_once v.uses ≡ false
+Plentiful g p = (k : ℕ) (v : Variable) → slice_get g k ≡ Some v → p k ≡ true →
+    is_once v.uses ≡ false
 
 -- a variable is used where it is linear
 abbrev pub Spends : Variable → Bool → Type 0
@@ -77,53 +79,72 @@ abbrev mutual
   HasType m g (char at c) t = Equals (plain Char) t
   HasType m g (unit at) t = Equals (plain Nothing) t
   HasType m g (pair at e f) t =
-      (a : Tree) × (b : Tree) × HasType m g e a × HasType m g f b × Apart g (free e) (free f) × Equals (type.pair a b) t
+      (a : Tree) × (b : Tree) × HasType m g e a × HasType m g f b × Apart g (free e) (free f) ×
+      Equals (type.pair a b) t
   HasType m g (make at n o es) t =
-      (c : Maker) × (ts : List Tree) × (maker_of (slice_get m.families n) o ≡ Some c) × AreAt m.types c.fields.items ts ×
+      (c : Maker) × (ts : List Tree) × (maker_of (slice_get m.families n) o ≡ Some c) ×
+      AreAt m.types c.fields.items ts ×
       HaveTypes m g es ts × Equals (named n) t
   HasType m g (lambda at u k x e) t =
       (v : Variable) × (b : Tree) × IsVariable v × HasType m (v ∷ g) e b × Spends v (free e zero) ×
       (u ≡ Many → Plentiful g (outside (free e))) × Equals (arrow u v.type b) t
   HasType m g (apply at e f) t =
-      (u : Use) × (a : Tree) × (b : Tree) × HasType m g e (arrow u a b) × HasType m g f a × Apart g (free e) (free f) × Equals b t
+      (u : Use) × (a : Tree) × (b : Tree) × HasType m g e (arrow u a b) × HasType m g f a ×
+      Apart g (free e) (free f) × Equals b t
   HasType m g (let_in at x e f) t =
-      (v : Variable) × IsVariable v × HasType m g e v.type × HasType m (v ∷ g) f t × Spends v (free f zero) ×
+      (v : Variable) × IsVariable v × HasType m g e v.type × HasType m (v ∷ g) f t ×
+      Spends v (free f zero) ×
       Apart g (free e) (outside (free f))
   HasType m g (split at x y e f) t =
-      (v : Variable) × (w : Variable) × IsVariable v × IsVariable w × HasType m g e (type.pair v.type w.type) × HasType m (w ∷ v ∷ g) f t ×
-      Spends v (free f (suc zero)) × Spends w (free f zero) × Apart g (free e) (outside (outside (free f)))
+      (v : Variable) × (w : Variable) × IsVariable v × IsVariable w ×
+      HasType m g e (type.pair v.type w.type) × HasType m (w ∷ v ∷ g) f t ×
+      Spends v (free f (suc zero)) × Spends w (free f zero) ×
+      Apart g (free e) (outside (outside (free f)))
   HasType m g (if_else at e f h) t =
-      HasType m g e (plain Truth) × HasType m g f t × HasType m g h t × Alike g (free f) (free h) × Apart g (free e) (in_either f h)
+      HasType m g e (plain Truth) × HasType m g f t × HasType m g h t × Alike g (free f) (free h) ×
+      Apart g (free e) (in_either f h)
   HasType m g (case_of at e bs) t =
       (n : ℕ) × (f : Family) × HasType m g e (named n) × (slice_get m.families n ≡ Some f) ×
       AreEachOnce (map (λ o. o.name) f.makers.items) (arm_labels bs) ×
-      ArmsHaveType m (fields f.makers.items) g bs t × AreAlike g (free_below bs) bs × Apart g (free e) (free_below bs)
+      ArmsHaveType m (fields f.makers.items) g bs t × AreAlike g (free_below bs) bs ×
+      Apart g (free e) (free_below bs)
   HasType m g (operate at o e f) t =
-      (a : Tree) × (b : Tree) × Operates o a b × HasType m g e a × HasType m g f a × Apart g (free e) (free f) × Equals b t
+      (a : Tree) × (b : Tree) × Operates o a b × HasType m g e a × HasType m g f a ×
+      Apart g (free e) (free f) × Equals b t
   HasType m g (negate at e) t = HasType m g e (plain Truth) × Equals (plain Truth) t
-  HasType m g (new at k) t = (s : Tree) × (slice_get m.types k ≡ Some s) × IsSession [] s × Equals (type.pair s (dual s)) t
+  HasType m g (new at k) t = (s : Tree) ×
+      (slice_get m.types k ≡ Some s) × IsSession [] s × Equals (type.pair s (dual s)) t
   HasType m g (send at e f) t =
-      (b : Base) × (s : Tree) × (r : Tree) × HasType m g e (plain b) × HasType m g f s × (step s (Send b) ≡ Some r) ×
+      (b : Base) × (s : Tree) × (r : Tree) × HasType m g e (plain b) × HasType m g f s ×
+      (step s (Send b) ≡ Some r) ×
       Apart g (free e) (free f) × Equals r t
   HasType m g (receive at e) t =
-      (b : Base) × (s : Tree) × (r : Tree) × HasType m g e s × (step s (Receive b) ≡ Some r) × Equals (type.pair (plain b) r) t
-  HasType m g (select at l e) t = (s : Tree) × (r : Tree) × HasType m g e s × (step s (Select l) ≡ Some r) × Equals r t
+      (b : Base) × (s : Tree) × (r : Tree) × HasType m g e s ×
+      (step s (Receive b) ≡ Some r) × Equals (type.pair (plain b) r) t
+  HasType m g (select at l e) t = (s : Tree) × (r : Tree) × HasType m g e s ×
+      (step s (Select l) ≡ Some r) × Equals r t
   HasType m g (match_with at e bs) t =
-      (s : Tree) × (names : List (List ℕ)) × HasType m g e s × IsOffering s names × AreEachOnce names (arm_labels bs) ×
-      ArmsHaveType m (rest s) g bs t × AreAlike g (free_below bs) bs × Apart g (free e) (free_below bs)
-  HasType m g (fork at e) t = (a : Tree) × HasType m g e a × HasUse [] a Many × Equals (plain Nothing) t
-  HasType m g (seq at e f) t = (a : Tree) × HasType m g e a × HasUse [] a Many × HasType m g f t × Apart g (free e) (free f)
+      (s : Tree) × (names : List (List ℕ)) × HasType m g e s × IsOffering s names ×
+      AreEachOnce names (arm_labels bs) ×
+      ArmsHaveType m (rest s) g bs t × AreAlike g (free_below bs) bs ×
+      Apart g (free e) (free_below bs)
+  HasType m g (fork at e) t = (a : Tree) × HasType m g e a × HasUse [] a Many ×
+      Equals (plain Nothing) t
+  HasType m g (seq at e f) t = (a : Tree) × HasType m g e a × HasUse [] a Many × HasType m g f t ×
+      Apart g (free e) (free f)
 
   -- the terms have these types, one each
   pub HaveTypes : Surroundings → List Variable → CoreList → List Tree → Type 0
   HaveTypes m g no_terms [] = ⊤
   HaveTypes m g no_terms (t ∷ ts) = ⊥
   HaveTypes m g (term e es) [] = ⊥
-  HaveTypes m g (term e es) (t ∷ ts) = HasType m g e t × HaveTypes m g es ts × Apart g (free e) (free_in es)
+  HaveTypes m g (term e es) (t ∷ ts) = HasType m g e t × HaveTypes m g es ts ×
+      Apart g (free e) (free_in es)
 
   -- each arm has this type, where its variables stand for what B says
   pub ArmsHaveType : Surroundings → Binding → List Variable → CoreArms → Tree → Type 0
   ArmsHaveType m B g no_arms t = ⊤
   ArmsHaveType m B g (arm l xs e bs) t =
-      (ts : List Tree) × (vs : List Variable) × Binds m B l ts × AreVariables [] ts vs × (length xs ≡ length vs) ×
+      (ts : List Tree) × (vs : List Variable) × Binds m B l ts × AreVariables [] ts vs ×
+      (length xs ≡ length vs) ×
       HasType m (enter_all vs g) e t × SpendAll vs (free e) × ArmsHaveType m B g bs t

@@ -46,9 +46,11 @@ abbrev mutual
   IsOf m (value.bool b) t = t ≡ plain Truth
   IsOf m (value.char c) t = t ≡ plain Char
   IsOf m value.unit t = t ≡ plain Nothing
-  IsOf m (value.pair v w) t = (a : Tree) × (b : Tree) × (t ≡ type.pair a b) × IsOf m v a × IsOf m w b
+  IsOf m (value.pair v w) t = (a : Tree) × (b : Tree) ×
+      (t ≡ type.pair a b) × IsOf m v a × IsOf m w b
   IsOf m (value.made n o vs) t =
-      (c : Maker) × (ts : List Tree) × (maker_of (slice_get m.families.items n) o ≡ Some c) × AreAt m.types.items c.fields.items ts ×
+      (c : Maker) × (ts : List Tree) × (maker_of (slice_get m.families.items n) o ≡ Some c) ×
+      AreAt m.types.items c.fields.items ts ×
       AreOf m vs ts × (t ≡ named n)
   IsOf m (value.function e env) t = ⊥
   IsOf m (value.end x) t = ⊥
@@ -63,7 +65,8 @@ abbrev mutual
 -- the type that the global named main is declared with, by its number in these types
 abbrev pub main_type : List Tree → List GlobalEntry → Option Tree
 main_type types [] = None
-main_type types (g ∷ gs) = if bytes_eq g.name (codes "main") then slice_get types g.signature else main_type types gs
+main_type types (g ∷ gs) = if bytes_eq g.name
+    (codes "main") then slice_get types g.signature else main_type types gs
 
 -- the value is one of main's declared type, and no function and no end stands in it
 pub record HasMainType (m : Module) (v : Value) : Type 0 where
@@ -77,11 +80,13 @@ pub record HasMainType (m : Module) (v : Value) : Type 0 where
 pub record IsSafeAt (m : Module) (c : Config) : Type 0 where
   pub right : IsRight (program m) c
   pub sessions : (h : ChannelName) (k : Channel) → c.channels h ≡ Some k → IsSession [] k.declared
-  pub result : (t : Task) (v : Value) → c.tasks main_path ≡ Some t → pause m.families.items t.state ≡ ended v → HasMainType m v
+  pub result : (t : Task) (v : Value) → c.tasks main_path ≡ Some t →
+      pause m.families.items t.state ≡ ended v → HasMainType m v
 
 -- so it is whatever happens from this configuration on, in any order
 abbrev pub StaysSafe : Module → Config → Type 0
-StaysSafe m c = (es : List CoreEvent) (d : Config) → Runs (program m) m.types.items c es d → IsSafeAt m d
+StaysSafe m c = (es : List CoreEvent) (d : Config) → Runs (program m) m.types.items c es d →
+    IsSafeAt m d
 
 -- so it is in every run of the module
 abbrev pub IsSafe : Module → Type 0

@@ -18,12 +18,14 @@ use Rattle.fst_safety.specs.Safety.{StaysSafe, main_type}
 
 -- each side has gone on as the dual of the other
 abbrev pub IsTrace : Channel → Type 0
-IsTrace k = (s : Tree) × IsSession [] k.declared × IsSession [] s × (channel_residual Left k ≡ Some s) × (channel_residual Right k ≡ Some (dual s))
+IsTrace k = (s : Tree) × IsSession [] k.declared × IsSession [] s ×
+    (channel_residual Left k ≡ Some s) × (channel_residual Right k ≡ Some (dual s))
 
 -- the configuration is sound, where a is the type of main
 pub record IsSound (m : Surroundings) (a : Tree) (c : Config) : Type 0 where
   -- each task has a type, main's has this one
-  pub tasks : (p : Path) (t : Task) → c.tasks p ≡ Some t → (b : Tree) × IsTyped m (residual_in c) t.state b × (p ≡ main_path → b ≡ a)
+  pub tasks : (p : Path) (t : Task) → c.tasks p ≡ Some t →
+      (b : Tree) × IsTyped m (residual_in c) t.state b × (p ≡ main_path → b ≡ a)
   -- no unspent end is held twice, and none is lost
   pub owned : (x : EndName) → IsUnspent (residual_in c) x → IsOwned c x
   -- both sides of each channel fit
@@ -35,5 +37,6 @@ pub record IsSound (m : Surroundings) (a : Tree) (c : Config) : Type 0 where
 
 -- what happens from a sound configuration of a module that has derivations on is safe
 abbrev pub SoundStaysSafe : Type 0
-SoundStaysSafe = (m : Module) (ds : List Deriv) → HasDerivations m ds → (a : Tree) → main_type m.types.items m.globals.items ≡ Some a →
+SoundStaysSafe = (m : Module) (ds : List Deriv) → HasDerivations m ds →
+    (a : Tree) → main_type m.types.items m.globals.items ≡ Some a →
     (c : Config) → IsSound (surroundings m []) a c → StaysSafe m c

@@ -73,11 +73,20 @@ pub record Fits (k : Code) (a : Tree) (t : TypedTask) (x : Thread) : Type 0 wher
 
 -- the thread of main at the beginning of its body
 abbrev pub main_thread : CoreTree → Thread
-main_thread e = record { path = main_path; first = new_task (begins e []) 0; log = []; now = new_task (begins e []) 0; bag = []; retired = [] }
+main_thread e = record {
+  path = main_path;
+  first = new_task (begins e []) 0;
+  log = [];
+  now =
+      new_task (begins e []) 0;
+  bag = [];
+  retired = [];
+}
 
 -- the task is that of main at the beginning
 abbrev pub IsBegun : Code → TypedTask → Type 0
-IsBegun k t = (a : Tree) (e : CoreTree) → IsTypedCode k a → main_body k.module.value.globals.items ≡ Some e → Fits k a t (main_thread e)
+IsBegun k t = (a : Tree) (e : CoreTree) → IsTypedCode k a →
+    main_body k.module.value.globals.items ≡ Some e → Fits k a t (main_thread e)
 
 -- ---- what a turn answers
 
@@ -149,11 +158,13 @@ Answers k (Ok Moved) x y new = HasGained x y × (new ≡ [])
 Answers k (Ok (Forked t)) x y new = (z : Thread) × HasGained x y × (new ≡ z ∷ []) × Keeps k t z
 Answers k (Ok Offered) x y new = HasOffered (module_of k) x y × (new ≡ [])
 Answers k (Ok (Off name)) x y new = HasLeft (module_of k) name x y × (new ≡ [])
-Answers k (Ok Ended) x y new = (request (module_of k).families x.now.state ≡ Some Over) × (y ≡ x) × (new ≡ [])
+Answers k (Ok Ended) x y new = (request (module_of k).families x.now.state ≡ Some Over) × (y ≡ x) ×
+    (new ≡ [])
 Answers k (Err e) x y new = (y.log ≡ x.log) × (y.now ≡ x.now) × (new ≡ [])
 
 -- the thread x has gone on to one that the task is now, with this answer
-pub record HasTurned (k : Code) (a : Tree) (r : Result Turned AllocError) (u : TypedTask) (x : Thread) : Type 0 where
+pub record HasTurned (k : Code) (a : Tree) (r : Result Turned AllocError) (u : TypedTask)
+    (x : Thread) : Type 0 where
   pub after : Thread
   pub new : List Thread
   pub goes : GoesOnTo (module_of k) a x after new
@@ -161,7 +172,8 @@ pub record HasTurned (k : Code) (a : Tree) (r : Result Turned AllocError) (u : T
   -- more was done exactly where the answer says so
   pub done : Grows (is_move r) (work x) (work after + sum_by work new)
   -- no end has tried less often
-  pub tries : (z : EndName) → of_ends (tries_at z) x ≤ of_ends (tries_at z) after + sum_by (of_ends (tries_at z)) new
+  pub tries : (z : EndName) → of_ends (tries_at z) x ≤ of_ends (tries_at z) after + sum_by
+      (of_ends (tries_at z)) new
   pub answers : Answers k r x after new
 
 -- so it is with each thread that the task was
@@ -172,7 +184,8 @@ TakesTurn k t r u = (a : Tree) (x : Thread) → Fits k a t x → HasTurned k a r
 
 -- the same but for room
 pub record IsSame (t u : TypedTask) : Type 0 where
-  pub task : (u.task.path ≡ t.task.path) × (u.task.forked ≡ t.task.forked) × (u.task.spot ≡ t.task.spot)
+  pub task : (u.task.path ≡ t.task.path) × (u.task.forked ≡ t.task.forked) ×
+      (u.task.spot ≡ t.task.spot)
   pub made : u.made ≡ t.made
   pub clock : u.clock ≡ t.clock
   pub log : u.log.items ≡ t.log.items
@@ -180,11 +193,13 @@ pub record IsSame (t u : TypedTask) : Type 0 where
   pub retired : u.retired.items ≡ t.retired.items
 
 -- the task has gone on with this entry, whatever has become of its ends
-pub record HasGoneOn (k : Code) (t : TypedTask) (asked : Request) (answer : Answer) (stamp : ℕ) (u : TypedTask) : Type 0 where
+pub record HasGoneOn (k : Code) (t : TypedTask) (asked : Request) (answer : Answer) (stamp : ℕ)
+    (u : TypedTask) : Type 0 where
   pub task : GoesOn k t.task answer u.task
   pub made : u.made ≡ t.made
   pub clock : u.clock ≡ stamp
-  pub log : u.log.items ≡ t.log.items ++ record { asked = asked; answer = answer; stamp = stamp } ∷ []
+  pub log : u.log.items ≡ t.log.items ++ record { asked = asked; answer = answer; stamp = stamp }
+      ∷ []
 
 -- its ends are the same
 abbrev pub HasSameEnds : TypedTask → TypedTask → Type 0
@@ -196,7 +211,8 @@ CanTurn k t = (a : Tree) × (x : Thread) × Fits k a t x
 
 -- the task asks for this where it runs, and no step is left before
 abbrev pub AsksNow : Code → TypedTask → Request → Type 0
-AsksNow k t q = IsAtRest k t.task × (asked_at (code_of k.module.value.families.items k) t.task.spot ≡ Some q)
+AsksNow k t q = IsAtRest k t.task ×
+    (asked_at (code_of k.module.value.families.items k) t.task.spot ≡ Some q)
 
 -- there is room for what an exchange leads to
 pub record HasRoom (t : TypedTask) : Type 0 where
@@ -205,7 +221,8 @@ pub record HasRoom (t : TypedTask) : Type 0 where
   pub retired : vec_len t.retired < vec_capacity t.retired
 
 -- the name of a new channel twice, and the two ends of its cell
-pub record AreNew (k : Code) (t : TypedTask) (number : ℕ) (name again : ChannelName) (l r : EndView) : Type 0 where
+pub record AreNew (k : Code) (t : TypedTask) (number : ℕ) (name again : ChannelName)
+    (l r : EndView) : Type 0 where
   pub declared : Tree
   pub is : slice_get k.types.items number ≡ Some declared
   pub named : name ≡ channel_name t.task.path t.made

@@ -79,7 +79,8 @@ pub record IsNamedBelow (path : Path) (made : ℕ) (y : EndName) : Type 0 where
 -- ---- a task that fits its module
 
 -- the task's state is typed over what its open ends know, in its module, where main has the type a
-pub record IsTypedOver (m : Surroundings) (a : Tree) (path : Path) (s : State) (bag : List EndView) : Type 0 where
+pub record IsTypedOver (m : Surroundings) (a : Tree) (path : Path) (s : State)
+    (bag : List EndView) : Type 0 where
   pub residuals : Residuals
   pub are : AreResiduals bag residuals
   pub type : Tree
@@ -94,7 +95,8 @@ pub record FitsIn (m : Surroundings) (a : Tree) (x : Thread) : Type 0 where
   pub follows : Follows (program_in m) x.path x.first x.log x.now
   pub typed : IsTypedOver m a x.path x.now.state x.bag
   pub unspent : All IsOpen x.bag
-  pub once : (y : EndName) → 0 < count_of y x.bag → (count_of y x.bag ≡ 1) × (held_state y x.now.state ≡ 1)
+  pub once : (y : EndName) → 0 < count_of y x.bag → (count_of y x.bag ≡ 1) ×
+      (held_state y x.now.state ≡ 1)
   pub named : (y : EndName) → 0 < held_state y x.now.state → IsNamedBelow x.path x.now.made y
   pub ends : All (FitsEnd m x.now) x.bag
   pub spent : All IsSpent x.retired

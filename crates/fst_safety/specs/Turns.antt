@@ -59,17 +59,22 @@ pub record Turn (m : Surroundings) (x y : Thread) (new : List Thread) : Type 0 w
   pub first : y.first ≡ x.first
   pub idle : All (λ (k : Thread). k.log ≡ []) new
   -- the new threads are those that the log forks
-  pub born : (w : Birth → ℕ) → sum_by (λ (k : Thread). w (birth k)) new ≡ sum_by w (births (program_in m) x.path x.now gained)
+  pub born : (w : Birth → ℕ) → sum_by
+      (λ (k : Thread). w (birth k)) new ≡ sum_by w (births (program_in m) x.path x.now gained)
   -- the ends of each side are those of x and of the channels that were made, with their declared types
   pub typed : (s : Side) (w : ChannelName → Tree → ℕ) →
-      of_ends (by_type s w) y + sum_by (of_ends (by_type s w)) new ≡ of_ends (by_type s w) x + sum_by (λ (o : Opening). w o.name o.declared) (openings m.types gained)
+      of_ends (by_type s w) y + sum_by (of_ends (by_type s w)) new ≡ of_ends
+      (by_type s w) x + sum_by (λ (o : Opening). w o.name o.declared) (openings m.types gained)
   -- as many left as right ends are new in each cell
   pub cells : (w : ChannelName → TableId → ℕ) →
-      (of_ends (by_cell Left w) y + sum_by (of_ends (by_cell Left w)) new) + of_ends (by_cell Right w) x ≡
-      (of_ends (by_cell Right w) y + sum_by (of_ends (by_cell Right w)) new) + of_ends (by_cell Left w) x
+      (of_ends (by_cell Left w) y + sum_by (of_ends (by_cell Left w)) new) + of_ends
+      (by_cell Right w) x ≡
+      (of_ends (by_cell Right w) y + sum_by (of_ends (by_cell Right w)) new) + of_ends
+      (by_cell Left w) x
   -- what the ends have exchanged is what the log says
   pub exchanged : (w : Exchange → ℕ) →
-      of_ends (by_exchanges w) y + sum_by (of_ends (by_exchanges w)) new ≡ of_ends (by_exchanges w) x + sum_by w (exchanges x.now.clock gained)
+      of_ends (by_exchanges w) y + sum_by (of_ends (by_exchanges w)) new ≡ of_ends
+      (by_exchanges w) x + sum_by w (exchanges x.now.clock gained)
   -- spent ends stay, and those that stand in states are known
   pub spent : List EndView
   pub kept : y.retired ≡ x.retired ++ spent

@@ -23,12 +23,16 @@ pub record IsFieldType (t : Tree) : Type 0 where
 -- what a module with derivations gives to the terms that run
 pub record IsWellTyped (m : Surroundings) : Type 0 where
   -- the body of a global has each closing instance of its signature as its type
-  pub bodies_typed : (k : ℕ) (g : GlobalEntry) (t : Tree) (args : List Tree) → slice_get m.globals k ≡ Some g → slice_get m.types g.signature ≡ Some t →
+  pub bodies_typed : (k : ℕ) (g : GlobalEntry) (t : Tree) (args : List Tree) →
+      slice_get m.globals k ≡ Some g → slice_get m.types g.signature ≡ Some t →
       IsInstantiation [] g.kinds.items args → HasType m [] g.body (instantiated args t)
   -- the fields of constructors can be printed
-  pub fields : (n o : ℕ) (c : Maker) (ts : List Tree) → maker_of (slice_get m.families n) o ≡ Some c → AreAt m.types c.fields.items ts → AllByRecursion IsFieldType ts
+  pub fields : (n o : ℕ) (c : Maker) (ts : List Tree) →
+      maker_of (slice_get m.families n) o ≡ Some c → AreAt m.types c.fields.items ts →
+      AllByRecursion IsFieldType ts
   -- a constructor is found by its name
-  pub names : (n o : ℕ) (f : Family) (c : Maker) → slice_get m.families n ≡ Some f → slice_get f.makers.items o ≡ Some c → maker_named c.name f.makers.items ≡ Some c
+  pub names : (n o : ℕ) (f : Family) (c : Maker) → slice_get m.families n ≡ Some f →
+      slice_get f.makers.items o ≡ Some c → maker_named c.name f.makers.items ≡ Some c
 
 -- the program of a module
 abbrev pub program_in : Surroundings → Program

@@ -52,8 +52,10 @@ pub(crate) fn put_back(bag: &mut Vec<End>, retired: &mut Vec<End>, end: End)
     requires open { vec_len bag.old < vec_capacity bag.old }
     requires spent { vec_len retired.old < vec_capacity retired.old }
     ensures put { IsPutBack end bag.old.items retired.old.items bag.new.items retired.new.items }
-    ensures grown { (vec_len bag.new ≤ vec_len bag.old + 1) × (vec_len retired.new ≤ vec_len retired.old + 1) }
-    ensures room { (vec_capacity bag.new ≡ vec_capacity bag.old) × (vec_capacity retired.new ≡ vec_capacity retired.old) }
+    ensures grown { (vec_len bag.new ≤ vec_len bag.old + 1) ×
+        (vec_len retired.new ≤ vec_len retired.old + 1) }
+    ensures room { (vec_capacity bag.new ≡ vec_capacity bag.old) ×
+        (vec_capacity retired.new ≡ vec_capacity retired.old) }
 {
     if terminated(end.residual()) {
         retired.push_reserved(end);
@@ -141,7 +143,8 @@ pub(crate) fn take_at(
     requires may { (d : EndView) → MayTake (slice_index_or bag.old.items i d) }
     requires clock { clock < 4294967295 }
     requires room { vec_len retired.old < vec_capacity retired.old }
-    ensures { TakesAt bag.old.items retired.old.items i clock result bag.new.items retired.new.items }
+    ensures { TakesAt bag.old.items retired.old.items i clock result bag.new.items
+        retired.new.items }
 {
     let end = bag.swap_remove(i);
     match end.take(clock) {

@@ -86,7 +86,8 @@ impl TypedTask {
         ensures room { (vec_capacity self.new.bag ≡ vec_capacity self.old.bag)
             × (vec_capacity self.new.retired ≡ vec_capacity self.old.retired) }
         ensures back { OnErr result (IsSame self.old self.new) }
-        ensures sure { self.old.task.ready ≡ true → vec_len self.old.log < vec_capacity self.old.log →
+        ensures sure { self.old.task.ready ≡ true →
+            vec_len self.old.log < vec_capacity self.old.log →
             is_exchange answer ≡ true → IsOk result }
     {
         let Ok(()) = self.log.reserve(1) else {
@@ -208,7 +209,8 @@ impl TypedTask {
         requires fits { CanTurn code.now self.old }
         requires asks { AsksNow code.now self.old (Put name event) }
         requires placed { IsPlaced name self.old.bag.items i }
-        requires waits { (d : EndView) → IsSome (slice_index_or self.old.bag.items i d).knows.offer }
+        requires waits { (d : EndView) → IsSome
+            (slice_index_or self.old.bag.items i d).knows.offer }
         requires room { HasRoom self.old }
         ensures { TakesTurn code.now self.old result self.new }
     {

@@ -130,7 +130,8 @@ pub(crate) fn sound(t: &Ty, n: u32) -> bool
 #[cycle(sound)]
 #[tactic(auto, using(fst_types::proofs::Laws::height_at))]
 fn all_sound(branches: &[Branch], n: u32) -> bool
-    ensures { IsTrue result → AllScoped n (branches_of branches.now) × EachChoiceBelow AreSorted (branches_of branches.now) }
+    ensures { IsTrue result → AllScoped n (branches_of branches.now) ×
+        EachChoiceBelow AreSorted (branches_of branches.now) }
 {
     for branch in branches {
         if !sound(&branch.body, n) {

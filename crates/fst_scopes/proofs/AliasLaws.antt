@@ -17,7 +17,8 @@ use Rattle.fst_scopes.proofs.ScopeLaws.{inside}
 
 -- a list of one has that one
 only_one : {A : Type 0} (x y : A) → Contains (x ∷ []) y → x ≡ y
-only_one x y (k, lt, is) = elim (Contains-append_cases (x ∷ []) [] y (k, lt, is)) [ inl c ↦ head c | inr c ↦ absurd (contains_none y c) ]
+only_one x y (k, lt, is) = elim (Contains-append_cases (x ∷ []) [] y (k, lt, is))
+    [ inl c ↦ head c | inr c ↦ absurd (contains_none y c) ]
   where
     head : Contains (x ∷ []) y → x ≡ y
     head (zero, lt, is) = is
@@ -42,7 +43,8 @@ module _ (declared : List ℕ → Option TypeDecl) where
     name_agrees at x (Some k) a = refl
     name_agrees at x None a = pick (declared x) refl
       where
-        pick : (d : Option TypeDecl) → declared x ≡ d → unwrap_or (standing_for f x d) (Some tree.skip) ≡ unwrap_or (standing_for g x d) (Some tree.skip)
+        pick : (d : Option TypeDecl) → declared x ≡ d →
+            unwrap_or (standing_for f x d) (Some tree.skip) ≡ unwrap_or (standing_for g x d) (Some tree.skip)
         pick None is = refl
         pick (Some (data_type k)) is = refl
         pick (Some (other_name w)) is = a x w (here x) is
@@ -55,37 +57,47 @@ module _ (declared : List ℕ → Option TypeDecl) where
 
     mutual
       -- a type stands for the same where its aliases do
-      pub type_agrees : (recs : List (List ℕ)) (w : WrittenTree) → Agree f g (names_in recs w) → type_of (scope recs f) w ≡ type_of (scope recs g) w
+      pub type_agrees : (recs : List (List ℕ)) (w : WrittenTree) → Agree f g (names_in recs w) →
+          type_of (scope recs f) w ≡ type_of (scope recs g) w
       type_agrees recs (skip at) a = refl
       type_agrees recs (send at b) a = refl
       type_agrees recs (receive at b) a = refl
       type_agrees recs (select at bs) a = ap (option_map tree.select) (branches_agree recs bs a)
       type_agrees recs (offer at bs) a = ap (option_map tree.offer) (branches_agree recs bs a)
-      type_agrees recs (seq at t u) a = λ i. both tree.seq (type_agrees recs t (left (names_in recs t) (names_in recs u) a) i) (type_agrees recs u (right (names_in recs t) (names_in recs u) a) i)
+      type_agrees recs (seq at t u) a = λ i. both tree.seq (type_agrees recs t (left (names_in recs t) (names_in recs u) a) i)
+          (type_agrees recs u (right (names_in recs t) (names_in recs u) a) i)
       type_agrees recs (rec at x t) a = ap (option_map tree.rec) (type_agrees (x ∷ recs) t a)
       type_agrees recs (named at x) a = name_agrees at x (place_of recs x) a
       type_agrees recs (plain at b) a = refl
-      type_agrees recs (arrow at uses t u) a = λ i. both (tree.arrow uses) (type_agrees recs t (left (names_in recs t) (names_in recs u) a) i) (type_agrees recs u (right (names_in recs t) (names_in recs u) a) i)
-      type_agrees recs (pair at t u) a = λ i. both tree.pair (type_agrees recs t (left (names_in recs t) (names_in recs u) a) i) (type_agrees recs u (right (names_in recs t) (names_in recs u) a) i)
+      type_agrees recs (arrow at uses t u) a = λ i. both (tree.arrow uses)
+          (type_agrees recs t (left (names_in recs t) (names_in recs u) a) i)
+          (type_agrees recs u (right (names_in recs t) (names_in recs u) a) i)
+      type_agrees recs (pair at t u) a = λ i. both tree.pair (type_agrees recs t (left (names_in recs t) (names_in recs u) a) i)
+          (type_agrees recs u (right (names_in recs t) (names_in recs u) a) i)
 
-      branches_agree : (recs : List (List ℕ)) (bs : WrittenBranches) → Agree f g (names_in_all recs bs) → branches_of (scope recs f) bs ≡ branches_of (scope recs g) bs
+      branches_agree : (recs : List (List ℕ)) (bs : WrittenBranches) → Agree f g (names_in_all recs bs) →
+          branches_of (scope recs f) bs ≡ branches_of (scope recs g) bs
       branches_agree recs none a = refl
       branches_agree recs (branch l t bs) a =
-          λ i. both (insert l) (type_agrees recs t (left (names_in recs t) (names_in_all recs bs) a) i) (branches_agree recs bs (right (names_in recs t) (names_in_all recs bs) a) i)
+          λ i. both (insert l) (type_agrees recs t (left (names_in recs t) (names_in_all recs bs) a) i)
+          (branches_agree recs bs (right (names_in recs t) (names_in_all recs bs) a) i)
 
   -- each alias among some names stands for something
   abbrev AllStand : (List ℕ → Option Tree) → List (List ℕ) → Type 0
-  AllStand f names = (y : List ℕ) (v : WrittenTree) → Contains names y → declared y ≡ Some (other_name v) → (u : Tree) × (f y ≡ Some u)
+  AllStand f names = (y : List ℕ) (v : WrittenTree) → Contains names y → declared y ≡ Some (other_name v) → (u : Tree) ×
+      (f y ≡ Some u)
 
   module _ (f : List ℕ → Option Tree) where
-    name_stands : (x : List ℕ) (o : Option ℕ) (t : Tree) → unwrap_or (or_else (option_map (λ k. Some (tree.back k)) o) (standing_for f x (declared x))) (Some tree.skip) ≡ Some t →
+    name_stands : (x : List ℕ) (o : Option ℕ) (t : Tree) →
+        unwrap_or (or_else (option_map (λ k. Some (tree.back k)) o) (standing_for f x (declared x))) (Some tree.skip) ≡ Some t →
         AllStand f (if is_there o then [] else x ∷ [])
     name_stands x (Some k) t e y v c d = absurd (contains_none y c)
     name_stands x None t e y v c d =
         let same = only_one x y c in
         (t, subst (λ z. f z ≡ Some t) same (pick (declared x) (ap declared same ∙ d) e))
       where
-        pick : (d : Option TypeDecl) → d ≡ Some (other_name v) → unwrap_or (standing_for f x d) (Some tree.skip) ≡ Some t → f x ≡ Some t
+        pick : (d : Option TypeDecl) → d ≡ Some (other_name v) → unwrap_or (standing_for f x d) (Some tree.skip) ≡ Some t →
+            f x ≡ Some t
         pick None is h = absurd (cc is)
         pick (Some (data_type k)) is h = absurd (cc is)
         pick (Some (other_name w)) is h = h
@@ -95,16 +107,20 @@ module _ (declared : List ℕ → Option TypeDecl) where
 
     mutual
       -- the aliases in a type that stands for something stand for something
-      pub aliases_stand : (recs : List (List ℕ)) (w : WrittenTree) (t : Tree) → type_of (scope recs f) w ≡ Some t → AllStand f (names_in recs w)
+      pub aliases_stand : (recs : List (List ℕ)) (w : WrittenTree) (t : Tree) → type_of (scope recs f) w ≡ Some t →
+          AllStand f (names_in recs w)
       aliases_stand recs (skip at) t e = λ y v c d. absurd (contains_none y c)
       aliases_stand recs (send at b) t e = λ y v c d. absurd (contains_none y c)
       aliases_stand recs (receive at b) t e = λ y v c d. absurd (contains_none y c)
-      aliases_stand recs (select at bs) t e = let m = mapped_some tree.select (branches_of (scope recs f) bs) t e in branches_stand recs bs m.0 m.1
-      aliases_stand recs (offer at bs) t e = let m = mapped_some tree.offer (branches_of (scope recs f) bs) t e in branches_stand recs bs m.0 m.1
+      aliases_stand recs (select at bs) t e = let m = mapped_some tree.select (branches_of (scope recs f) bs) t e in
+          branches_stand recs bs m.0 m.1
+      aliases_stand recs (offer at bs) t e = let m = mapped_some tree.offer (branches_of (scope recs f) bs) t e in
+          branches_stand recs bs m.0 m.1
       aliases_stand recs (seq at v w) t e =
           let b = both_some tree.seq (type_of (scope recs f) v) (type_of (scope recs f) w) t e in
           two (names_in recs v) (names_in recs w) (aliases_stand recs v b.0 b.2) (aliases_stand recs w b.1 b.3)
-      aliases_stand recs (rec at x w) t e = let m = mapped_some tree.rec (type_of (scope (x ∷ recs) f) w) t e in aliases_stand (x ∷ recs) w m.0 m.1
+      aliases_stand recs (rec at x w) t e = let m = mapped_some tree.rec (type_of (scope (x ∷ recs) f) w) t e in
+          aliases_stand (x ∷ recs) w m.0 m.1
       aliases_stand recs (named at x) t e = name_stands x (place_of recs x) t e
       aliases_stand recs (plain at b) t e = λ y v c d. absurd (contains_none y c)
       aliases_stand recs (arrow at uses v w) t e =
@@ -114,16 +130,19 @@ module _ (declared : List ℕ → Option TypeDecl) where
           let b = both_some tree.pair (type_of (scope recs f) v) (type_of (scope recs f) w) t e in
           two (names_in recs v) (names_in recs w) (aliases_stand recs v b.0 b.2) (aliases_stand recs w b.1 b.3)
 
-      branches_stand : (recs : List (List ℕ)) (ws : WrittenBranches) (bs : Branches) → branches_of (scope recs f) ws ≡ Some bs → AllStand f (names_in_all recs ws)
+      branches_stand : (recs : List (List ℕ)) (ws : WrittenBranches) (bs : Branches) → branches_of (scope recs f) ws ≡ Some bs →
+          AllStand f (names_in_all recs ws)
       branches_stand recs none bs e = λ y v c d. absurd (contains_none y c)
       branches_stand recs (branch l w ws) bs e =
           let b = both_some (insert l) (type_of (scope recs f) w) (branches_of (scope recs f) ws) bs e in
           two (names_in recs w) (names_in_all recs ws) (aliases_stand recs w b.0 b.2) (branches_stand recs ws b.1 b.3)
 
   -- what stands for more stands for the same
-  pub more_stands : (f g : List ℕ → Option Tree) → ((y : List ℕ) (u : Tree) → f y ≡ Some u → g y ≡ Some u) → (w : WrittenTree) (t : Tree) →
+  pub more_stands : (f g : List ℕ → Option Tree) → ((y : List ℕ) (u : Tree) → f y ≡ Some u → g y ≡ Some u) →
+      (w : WrittenTree) (t : Tree) →
       type_of (scope [] f) w ≡ Some t → type_of (scope [] g) w ≡ Some t
-  more_stands f g more w t e = sym (type_agrees f g [] w (λ y v c d. let s = aliases_stand f [] w t e y v c d in s.1 ∙ sym (more y s.0 s.1))) ∙ e
+  more_stands f g more w t e = sym (type_agrees f g [] w
+      (λ y v c d. let s = aliases_stand f [] w t e y v c d in s.1 ∙ sym (more y s.0 s.1))) ∙ e
 
   -- ---- loops
 
@@ -151,7 +170,8 @@ module _ (declared : List ℕ → Option TypeDecl) where
   pub no_loop : (x : List ℕ) (t : Tree) → StandsFor declared x t → LeadsTo declared x x → ⊥
   no_loop x t (alias others _ w _ is stand e) l = first (λ y u p. no_loop y u (stand y u p)) l
     where
-      stands : ((y : List ℕ) (u : Tree) → others y ≡ Some u → LeadsTo declared y y → ⊥) → (y : List ℕ) → Names declared x y → LeadsTo declared y y → ⊥
+      stands : ((y : List ℕ) (u : Tree) → others y ≡ Some u → LeadsTo declared y y → ⊥) →
+          (y : List ℕ) → Names declared x y → LeadsTo declared y y → ⊥
       stands below y n l =
           let from = leads_from y y l in
           let inside = subst (λ z. Contains (names_in [] z) y) (same_type n.its_type w (declared x) n.is_alias is) n.is_in in

@@ -11,8 +11,10 @@ use Rattle.fst_scopes.specs.First.{first_from}
 use Rattle.fst_scopes.proofs.FirstLaws.{first_append}
 
 -- one branch, and then the others
-pub branch_noted : (s : Scope) (bs : List WrittenBranch) (i : ℕ) (b : WrittenBranch) (kept next : Option NameFault) → i < length bs → b ≡ get_or bs i b → next ≡ first_from kept (unbound s b.body) →
-    first_from next (unbound_in s (written_branches (drop (i + 1) bs))) ≡ first_from kept (unbound_in s (written_branches (drop i bs)))
+pub branch_noted : (s : Scope) (bs : List WrittenBranch) (i : ℕ) (b : WrittenBranch) (kept next : Option NameFault) →
+    i < length bs → b ≡ get_or bs i b → next ≡ first_from kept (unbound s b.body) →
+    first_from next (unbound_in s (written_branches (drop (i + 1) bs))) ≡ first_from kept
+    (unbound_in s (written_branches (drop i bs)))
 branch_noted s bs i b kept next lt is noted =
     ap (λ k. first_from k (unbound_in s (written_branches (drop (i + 1) bs)))) noted ∙
     sym (first_append kept (unbound s b.body) (unbound_in s (written_branches (drop (i + 1) bs)))) ∙

@@ -9,7 +9,8 @@ use Rattle.fst_scopes.specs.declared.fault.NameFault.{NameFault}
 use Rattle.fst_scopes.specs.First.{place, number, comes_before, earlier, first_from, first_fault, FirstFaultLaw}
 
 -- faults one after another
-pub first_append : (kept : Option NameFault) (fs gs : List NameFault) → first_from kept (fs ++ gs) ≡ first_from (first_from kept fs) gs
+pub first_append : (kept : Option NameFault) (fs gs : List NameFault) →
+    first_from kept (fs ++ gs) ≡ first_from (first_from kept fs) gs
 first_append kept [] gs = refl
 first_append kept (f ∷ fs) gs = first_append (earlier kept f) fs gs
 
@@ -62,7 +63,8 @@ kept_there (Some k) g f e = pick (comes_before g k) e
     pick true e = inr (same_Some g f e)
     pick false e = inl e
 
-there : (kept : Option NameFault) (fs : List NameFault) (f : NameFault) → first_from kept fs ≡ some f → (kept ≡ some f) ⊎ Contains fs f
+there : (kept : Option NameFault) (fs : List NameFault) (f : NameFault) → first_from kept fs ≡ some f →
+    (kept ≡ some f) ⊎ Contains fs f
 there kept [] f e = inl e
 there kept (g ∷ fs) f e = elim (there (earlier kept g) fs f e) [
   | inl k ↦ elim (kept_there kept g f k) [ inl old ↦ inl old | inr new ↦ inr (subst (Contains (g ∷ fs)) new (head_there g fs)) ]
@@ -70,27 +72,44 @@ there kept (g ∷ fs) f e = elim (there (earlier kept g) fs f e) [
 ]
 
 -- what is no later than what is kept of a further fault is no later than both
-both_least : (kept : Option NameFault) (g f : NameFault) → IsLeast f (earlier kept g) → IsLeast f kept × (comes_before g f ≡ false)
+both_least : (kept : Option NameFault) (g f : NameFault) → IsLeast f (earlier kept g) → IsLeast f kept ×
+    (comes_before g f ≡ false)
 both_least None g f l = (λ k e. absurd (cc e), l g refl)
 both_least (Some h) g f l = pick (comes_before g h) refl l
   where
-    pick : (c : Bool) → comes_before g h ≡ c → IsLeast f (if c then Some g else Some h) → IsLeast f (Some h) × (comes_before g f ≡ false)
-    pick true is l = (λ k e. subst (λ z. comes_before z f ≡ false) (same_Some h k e) (after_first (place g) (number g) (place h) (number h) (place f) (number f) is (l g refl)), l g refl)
+    pick : (c : Bool) → comes_before g h ≡ c → IsLeast f (if c then Some g else Some h) → IsLeast f (Some h) ×
+        (comes_before g f ≡ false)
+    pick true is l = (
+      λ k e. subst (λ z. comes_before z f ≡ false) (same_Some h k e)
+          (after_first (place g) (number g) (place h) (number h) (place f) (number f) is (l g refl)),
+      l g refl,
+    )
     pick false is l = (l, not_before (place g) (number g) (place h) (number h) (place f) (number f) is (l h refl))
 
-least : (kept : Option NameFault) (fs : List NameFault) (f : NameFault) → first_from kept fs ≡ some f → IsLeast f kept × ((g : NameFault) → Contains fs g → comes_before g f ≡ false)
-least kept [] f e = (λ k is. subst (λ z. comes_before z f ≡ false) (same_Some f k (sym e ∙ is)) (not_itself (place f) (number f)), λ g c. absurd (contains_none g c))
+least : (kept : Option NameFault) (fs : List NameFault) (f : NameFault) → first_from kept fs ≡ some f → IsLeast f kept ×
+    ((g : NameFault) → Contains fs g → comes_before g f ≡ false)
+least kept [] f e = (
+  λ k is. subst (λ z. comes_before z f ≡ false) (same_Some f k (sym e ∙ is)) (not_itself (place f) (number f)),
+  λ g c. absurd (contains_none g c),
+)
 least kept (h ∷ fs) f e =
     let rest = least (earlier kept h) fs f e in
-    let here = both_least kept h f rest.0 in
-    (here.0, λ g c. elim (by_place h g fs c) [ inl is ↦ subst (λ z. comes_before z f ≡ false) (sym is) here.1 | inr c ↦ rest.1 g c ])
+    let here = both_least kept h f rest.0 in (
+      here.0,
+      λ g c. elim (by_place h g fs c) [
+        | inl is ↦ subst
+            (λ z. comes_before z f ≡ false) (sym is) here.1
+        | inr c ↦ rest.1 g c
+      ],
+    )
 
 -- what is kept stays something
 some_stays : (k : NameFault) (fs : List NameFault) → first_from (Some k) fs ≡ none → ⊥
 some_stays k [] e = absurd (cc e)
 some_stays k (f ∷ fs) e = pick (comes_before f k) (λ h. some_stays h fs) e
   where
-    pick : (c : Bool) → ((h : NameFault) → first_from (Some h) fs ≡ none → ⊥) → first_from (if c then Some f else Some k) fs ≡ none → ⊥
+    pick : (c : Bool) → ((h : NameFault) → first_from (Some h) fs ≡ none → ⊥) →
+        first_from (if c then Some f else Some k) fs ≡ none → ⊥
     pick true stays e = stays f e
     pick false stays e = stays k e
 
@@ -101,6 +120,10 @@ no_first (f ∷ fs) e = absurd (some_stays f fs e)
 
 pub first_fault_law : FirstFaultLaw
 first_fault_law = record {
-  first = λ fs f e. record { there = elim (there none fs f e) [ inl n ↦ absurd (cc n) | inr c ↦ c ]; least = (least none fs f e).1 };
+  first = λ fs f e. record {
+    there = elim (there none fs f e) [ inl n ↦ absurd (cc n) | inr c ↦ c ];
+    least =
+        (least none fs f e).1;
+  };
   none = λ fs. (no_first fs, λ e. subst (λ z. first_fault z ≡ none) (sym e) refl);
 }

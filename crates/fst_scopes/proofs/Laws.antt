@@ -27,13 +27,16 @@ use Rattle.fst_scopes.proofs.MeasureLengths as lengths
 use Rattle.fst_scopes.proofs.Plain as plain
 use Rattle.fst_scopes.proofs.There as there
 use Rattle.fst_scopes.proofs.TypeLaws as types
--- what is kept, and which names are there, once some binders are noted
-pub use Rattle.fst_scopes.proofs.TwiceLaws.{IsNoted, none_noted, one_noted}
+-- what is kept, and which names are there, once some binders are noted; a binder of which no fault is told is new
+pub use Rattle.fst_scopes.proofs.TwiceLaws.{IsNoted, none_noted, one_noted, is_new}
 -- types in which aliases stand for the same
 pub use Rattle.fst_scopes.proofs.AliasLaws.{type_agrees}
+-- where the name of an alias stands
+pub use Rattle.fst_scopes.proofs.OrderLaws.{place_among, stands_at}
 
 -- faults one after another
-pub first_append : (kept : Option NameFault) (fs gs : List NameFault) → first_from kept (fs ++ gs) ≡ first_from (first_from kept fs) gs
+pub first_append : (kept : Option NameFault) (fs gs : List NameFault) →
+    first_from kept (fs ++ gs) ≡ first_from (first_from kept fs) gs
 first_append = first.first_append
 
 -- there is no first fault where there is none
@@ -45,7 +48,8 @@ pub none_named : (fs gs : List NameFault) → fs ++ gs ≡ [] → (fs ≡ []) ×
 none_named = bound.none_named
 
 -- where each name stands for something, each type does
-pub type_there : (s : Scope) → ((x : List ℕ) → IsSome (unwrap_or (s.declared x) s.otherwise)) → (w : WrittenTree) → IsSome (type_of s w)
+pub type_there : (s : Scope) → ((x : List ℕ) → IsSome (unwrap_or (s.declared x) s.otherwise)) →
+    (w : WrittenTree) → IsSome (type_of s w)
 type_there s all w = there.type_there s all s.recs w
 
 -- a written type is no higher than what it stands for has nodes
@@ -53,34 +57,43 @@ pub no_higher : (s : Scope) (w : WrittenTree) (t : Tree) → type_of s w ≡ Som
 no_higher = there.no_higher
 
 -- what is declared is plain, and so is each type with no `rec` around
-pub closed_plain : (families : ℕ) (s : Scope) (w : WrittenTree) (t : Tree) → AllPlain families s → s.recs ≡ [] → HasBranches w → type_of s w ≡ Some t → IsPlain families 0 t
+pub closed_plain : (families : ℕ) (s : Scope) (w : WrittenTree) (t : Tree) → AllPlain families s → s.recs ≡ [] → HasBranches w →
+    type_of s w ≡ Some t → IsPlain families 0 t
 closed_plain = plain.closed_plain
 
 -- where what is declared has no variables of a signature, those of a type are among the ones in scope
-pub variables_below : (s : Scope) (w : WrittenTree) (t : Tree) → DeclaresClosed s → type_of s w ≡ Some t → HasVariablesBelow (length s.vars) t
+pub variables_below : (s : Scope) (w : WrittenTree) (t : Tree) → DeclaresClosed s → type_of s w ≡ Some t →
+    HasVariablesBelow (length s.vars) t
 variables_below = variables.variables_below
 
 -- the faults of a type go by which names its variables have, and not by their numbers
-pub same_faults : (xs ys : List (List ℕ)) (declared : List ℕ → Option TypeDecl) (aliases : List ℕ → Option Tree) → ((x : List ℕ) → is_among xs x ≡ is_among ys x) → (w : WrittenTree) →
+pub same_faults : (xs ys : List (List ℕ)) (declared : List ℕ → Option TypeDecl) (aliases : List ℕ → Option Tree) →
+    ((x : List ℕ) → is_among xs x ≡ is_among ys x) → (w : WrittenTree) →
     type_faults (scope_with xs declared aliases) w ≡ type_faults (scope_with ys declared aliases) w
 same_faults = types.same_faults
 
 -- and is as large
-pub same_size : (xs ys : List (List ℕ)) (declared : List ℕ → Option TypeDecl) (aliases : List ℕ → Option Tree) → ((x : List ℕ) → is_among xs x ≡ is_among ys x) → (w : WrittenTree) →
-    option_map measured (type_of (scope_with xs declared aliases) w) ≡ option_map measured (type_of (scope_with ys declared aliases) w)
+pub same_size : (xs ys : List (List ℕ)) (declared : List ℕ → Option TypeDecl) (aliases : List ℕ → Option Tree) →
+    ((x : List ℕ) → is_among xs x ≡ is_among ys x) → (w : WrittenTree) →
+    option_map measured (type_of (scope_with xs declared aliases) w) ≡ option_map measured
+    (type_of (scope_with ys declared aliases) w)
 same_size = types.same_size
 
 -- what is counted of a type is what it stands for, measured
-pub type_counted : (names : Names) (trees : List (Option Tree)) (measures : List (Option Measure)) (w : WrittenTree) → AreMeasures trees measures →
-    measure (recs_of names) (counted (vars_of names) (types_of names) measures) w ≡ option_map measured (type_of (scope_around names trees) w)
+pub type_counted : (names : Names) (trees : List (Option Tree)) (measures : List (Option Measure)) (w : WrittenTree) →
+    AreMeasures trees measures →
+    measure (recs_of names) (counted (vars_of names) (types_of names) measures) w ≡ option_map measured
+    (type_of (scope_around names trees) w)
 type_counted = types.type_counted
 
 -- as many names of types stand for something or for nothing as there are
-pub trees_long : (types : TypeNames) (looped : List Bool) (order : List ℕ) → length (final_trees types looped order) ≡ length types.names
+pub trees_long : (types : TypeNames) (looped : List Bool) (order : List ℕ) →
+    length (final_trees types looped order) ≡ length types.names
 trees_long = lengths.trees_long
 
 -- and of as many something is counted
-pub measures_long : (types : TypeNames) (looped : List Bool) (order : List ℕ) (measures : List (Option Measure)) → AreMeasures (final_trees types looped order) measures → length measures ≡ length types.names
+pub measures_long : (types : TypeNames) (looped : List Bool) (order : List ℕ) (measures : List (Option Measure)) →
+    AreMeasures (final_trees types looped order) measures → length measures ≡ length types.names
 measures_long = lengths.measures_long
 
 -- a type without faults is no larger than types may be

@@ -32,27 +32,36 @@ pub put_is : (b : Branch) (bs : List Branch) → branches_of (put b bs) ≡ inse
 put_is b [] = refl
 put_is b (c ∷ bs) = by (slice_cmp nat_cmp b.label c.label) (put_is b bs)
   where
-    by : (o : Ordering) → branches_of (put b bs) ≡ insert b.label b.body (branches_of bs) → branches_of (put_by o b c bs (put b bs)) ≡ insert_by o b.label b.body c.label c.body (branches_of bs) (insert b.label b.body (branches_of bs))
+    by : (o : Ordering) → branches_of (put b bs) ≡ insert b.label b.body (branches_of bs) →
+        branches_of (put_by o b c bs (put b bs)) ≡ insert_by o b.label b.body c.label c.body (branches_of bs)
+        (insert b.label b.body (branches_of bs))
     by Less e = refl
     by Equal e = refl
     by Greater e = rw e refl
 
 -- a branch in front of named ones
-pub branches_named : (s : Scope) (b : WrittenBranch) (bs : List WrittenBranch) (body : Tree) (l : List ℕ) (others all : List Branch) → type_of s b.body ≡ Some body → l ≡ b.label →
-    named_in s (written_branches bs) ≡ Some (branches_of others) → all ≡ put (record { label = l; body = body }) others → named_in s (written_branches (b ∷ bs)) ≡ Some (branches_of all)
+pub branches_named : (s : Scope) (b : WrittenBranch) (bs : List WrittenBranch) (body : Tree) (l : List ℕ)
+    (others all : List Branch) → type_of s b.body ≡ Some body → l ≡ b.label →
+    named_in s (written_branches bs) ≡ Some (branches_of others) → all ≡ put (record { label = l; body = body }) others →
+    named_in s (written_branches (b ∷ bs)) ≡ Some (branches_of all)
 unfolding both
 branches_named s b bs body l others all one label rest is =
-    let insert_is : branches_of all ≡ insert b.label body (branches_of others) = ap branches_of is ∙ put_is (record { label = l; body = body }) others ∙ ap (λ z. insert z body (branches_of others)) label in
+    let insert_is : branches_of all ≡ insert b.label body (branches_of others) = ap branches_of is
+    ∙ put_is (record { label = l; body = body }) others ∙ ap (λ z. insert z body (branches_of others)) label in
     rw (one, rest) (ap Some (sym insert_is))
 
 -- the same of a list by its first item
-pub first_named : (s : Scope) (bs : List WrittenBranch) (first : WrittenBranch) (body : Tree) (l : List ℕ) (others all : List Branch) → 1 ≤ length bs → first ≡ get_or bs 0 first →
-    type_of s first.body ≡ Some body → l ≡ first.label → named_in s (written_branches (take (length bs - 1) (drop 1 bs))) ≡ Some (branches_of others) → all ≡ put (record { label = l; body = body }) others →
+pub first_named : (s : Scope) (bs : List WrittenBranch) (first : WrittenBranch) (body : Tree) (l : List ℕ)
+    (others all : List Branch) → 1 ≤ length bs → first ≡ get_or bs 0 first →
+    type_of s first.body ≡ Some body → l ≡ first.label →
+    named_in s (written_branches (take (length bs - 1) (drop 1 bs))) ≡ Some (branches_of others) →
+    all ≡ put (record { label = l; body = body }) others →
     named_in s (written_branches bs) ≡ Some (branches_of all)
 first_named s [] first body l others all some is one label rest put_ = absurd (omega arith)
 first_named s (b ∷ bs) first body l others all some is one label rest put_ =
     let whole : take (length (b ∷ bs) - 1) bs ≡ bs = take_all (length (b ∷ bs) - 1) bs (omega arith) in
-    branches_named s b bs body l others all (ap (λ (z : WrittenBranch). type_of s z.body) (sym is) ∙ one) (label ∙ ap (λ (z : WrittenBranch). z.label) is) (ap (λ z. named_in s (written_branches z)) (sym whole) ∙ rest) put_
+    branches_named s b bs body l others all (ap (λ (z : WrittenBranch). type_of s z.body) (sym is) ∙ one)
+    (label ∙ ap (λ (z : WrittenBranch). z.label) is) (ap (λ z. named_in s (written_branches z)) (sym whole) ∙ rest) put_
 
 some_type : (w : WrittenTree) → 0 < type_count w
 some_type (written.skip at) = omega arith
@@ -88,7 +97,8 @@ rest_less (b ∷ bs) some =
     (omega (arith, high), omega (arith, many, one))
 
 -- where all branches stand for something, the first does, and the others do
-pub first_there : (s : Scope) (bs : List WrittenBranch) (first : WrittenBranch) → 1 ≤ length bs → first ≡ get_or bs 0 first → IsSome (named_in s (written_branches bs)) →
+pub first_there : (s : Scope) (bs : List WrittenBranch) (first : WrittenBranch) → 1 ≤ length bs → first ≡ get_or bs 0 first →
+    IsSome (named_in s (written_branches bs)) →
     IsSome (type_of s first.body) × IsSome (named_in s (written_branches (take (length bs - 1) (drop 1 bs))))
 first_there s [] first some is known = absurd (omega arith)
 first_there s (b ∷ bs) first some is known =

@@ -15,7 +15,8 @@ standing_outside s x = or_else (option_map (λ k. Some (tree.var k)) (place_of s
 abbrev pub inside : List (List ℕ) → Scope → Scope
 inside recs s = record { recs = recs; vars = s.vars; declared = s.declared; otherwise = s.otherwise }
 
-same_there : {A : Type 0} (at : ℕ) (x : List ℕ) (o p : Option A) → is_there o ≡ is_there p → unless_there at x o ≡ unless_there at x p
+same_there : {A : Type 0} (at : ℕ) (x : List ℕ) (o p : Option A) → is_there o ≡ is_there p →
+    unless_there at x o ≡ unless_there at x p
 same_there at x (Some a) (Some b) e = refl
 same_there at x (Some a) None e = absurd (cc e)
 same_there at x None (Some b) e = absurd (cc e)
@@ -23,7 +24,8 @@ same_there at x None None e = refl
 
 module _ (s z : Scope) (same : (x : List ℕ) → is_there (standing_outside s x) ≡ is_there (standing_outside z x)) where
   same_name : (at : ℕ) (x : List ℕ) (r : Option ℕ) →
-      unless_there at x (or_else (option_map (λ k. Some (tree.back k)) r) (standing_outside s x)) ≡ unless_there at x (or_else (option_map (λ k. Some (tree.back k)) r) (standing_outside z x))
+      unless_there at x (or_else (option_map (λ k. Some (tree.back k)) r) (standing_outside s x)) ≡ unless_there at x
+      (or_else (option_map (λ k. Some (tree.back k)) r) (standing_outside z x))
   same_name at x (Some k) = refl
   same_name at x None = same_there at x (standing_outside s x) (standing_outside z x) (same x)
 
@@ -42,6 +44,7 @@ module _ (s z : Scope) (same : (x : List ℕ) → is_there (standing_outside s x
     same_unbound recs (arrow at uses t u) = λ i. same_unbound recs t i ++ same_unbound recs u i
     same_unbound recs (pair at t u) = λ i. same_unbound recs t i ++ same_unbound recs u i
 
-    same_unbound_in : (recs : List (List ℕ)) (bs : WrittenBranches) → unbound_in (inside recs s) bs ≡ unbound_in (inside recs z) bs
+    same_unbound_in : (recs : List (List ℕ)) (bs : WrittenBranches) →
+        unbound_in (inside recs s) bs ≡ unbound_in (inside recs z) bs
     same_unbound_in recs none = refl
     same_unbound_in recs (branch l t bs) = λ i. same_unbound recs t i ++ same_unbound_in recs bs i

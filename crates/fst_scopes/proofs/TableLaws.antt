@@ -36,7 +36,8 @@ module _ (test : Vec ℕ Global → Bool) (key : List ℕ) (says : (k : Vec ℕ 
   pub place_is : (ks : List (Vec ℕ Global)) → position test ks ≡ place_of (map bytes_of ks) key
   place_is [] = refl
   place_is (k ∷ ks) =
-      below_next (test k) (position_or_len test ks) (length ks) ∙ (λ i. if says k i then Some 0 else option_map suc (place_is ks i))
+      below_next (test k) (position_or_len test ks) (length ks)
+      ∙ (λ i. if says k i then Some 0 else option_map suc (place_is ks i))
 
   -- whether it finds it
   pub any_is : (ks : List (Vec ℕ Global)) → list_any test ks ≡ is_among (map bytes_of ks) key
@@ -44,9 +45,11 @@ module _ (test : Vec ℕ Global → Bool) (key : List ℕ) (says : (k : Vec ℕ 
   any_is (k ∷ ks) = (λ i. says k i || any_is ks i) ∙ sym (among_next (bytes_eq key k.items) (place_of (map bytes_of ks) key))
 
   -- and the names once one is put
-  pub with_is : (ks : List (Vec ℕ Global)) (v : Vec ℕ Global) → v.items ≡ key → map bytes_of (if list_any test ks then ks else ks ++ v ∷ []) ≡ with_name (map bytes_of ks) key
+  pub with_is : (ks : List (Vec ℕ Global)) (v : Vec ℕ Global) → v.items ≡ key →
+      map bytes_of (if list_any test ks then ks else ks ++ v ∷ []) ≡ with_name (map bytes_of ks) key
   with_is ks v e = ap (λ c. map bytes_of (if c then ks else ks ++ v ∷ [])) (any_is ks) ∙ pick (is_among (map bytes_of ks) key)
     where
-      pick : (c : Bool) → map bytes_of (if c then ks else ks ++ v ∷ []) ≡ (if c then map bytes_of ks else map bytes_of ks ++ key ∷ [])
+      pick : (c : Bool) → map bytes_of (if c then ks else ks ++ v ∷ [])
+          ≡ (if c then map bytes_of ks else map bytes_of ks ++ key ∷ [])
       pick true = refl
       pick false = map-append bytes_of ks (v ∷ []) ∙ ap (λ x. map bytes_of ks ++ x ∷ []) e

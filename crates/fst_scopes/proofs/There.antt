@@ -20,7 +20,9 @@ both_here f (Some x) None h k = absurd (cc k)
 both_here f None p h k = absurd (cc h)
 
 module _ (outer : Scope) (all : (x : List ℕ) → IsSome (unwrap_or (outer.declared x) outer.otherwise)) where
-  name_there : (x : List ℕ) (r v : Option ℕ) → IsSome (unwrap_or (or_else (option_map (λ k. Some (tree.back k)) r) (or_else (option_map (λ k. Some (tree.var k)) v) (outer.declared x))) outer.otherwise)
+  name_there : (x : List ℕ) (r v : Option ℕ) → IsSome
+      (unwrap_or (or_else (option_map (λ k. Some (tree.back k)) r)
+      (or_else (option_map (λ k. Some (tree.var k)) v) (outer.declared x))) outer.otherwise)
   name_there x (Some k) v = refl
   name_there x None (Some k) = refl
   name_there x None None = all x
@@ -33,16 +35,20 @@ module _ (outer : Scope) (all : (x : List ℕ) → IsSome (unwrap_or (outer.decl
     type_there recs (receive at b) = refl
     type_there recs (select at bs) = mapped_there tree.select (branches_of (inside recs outer) bs) (branches_there recs bs)
     type_there recs (offer at bs) = mapped_there tree.offer (branches_of (inside recs outer) bs) (branches_there recs bs)
-    type_there recs (seq at t u) = both_here tree.seq (type_of (inside recs outer) t) (type_of (inside recs outer) u) (type_there recs t) (type_there recs u)
+    type_there recs (seq at t u) = both_here tree.seq (type_of (inside recs outer) t) (type_of (inside recs outer) u)
+        (type_there recs t) (type_there recs u)
     type_there recs (rec at x t) = mapped_there tree.rec (type_of (inside (x ∷ recs) outer) t) (type_there (x ∷ recs) t)
     type_there recs (named at x) = name_there x (place_of recs x) (place_of outer.vars x)
     type_there recs (plain at b) = refl
-    type_there recs (arrow at uses t u) = both_here (tree.arrow uses) (type_of (inside recs outer) t) (type_of (inside recs outer) u) (type_there recs t) (type_there recs u)
-    type_there recs (pair at t u) = both_here tree.pair (type_of (inside recs outer) t) (type_of (inside recs outer) u) (type_there recs t) (type_there recs u)
+    type_there recs (arrow at uses t u) = both_here (tree.arrow uses) (type_of (inside recs outer) t)
+        (type_of (inside recs outer) u) (type_there recs t) (type_there recs u)
+    type_there recs (pair at t u) = both_here tree.pair (type_of (inside recs outer) t) (type_of (inside recs outer) u)
+        (type_there recs t) (type_there recs u)
 
     branches_there : (recs : List (List ℕ)) (bs : WrittenBranches) → IsSome (branches_of (inside recs outer) bs)
     branches_there recs none = refl
-    branches_there recs (branch l t bs) = both_here (insert l) (type_of (inside recs outer) t) (branches_of (inside recs outer) bs) (type_there recs t) (branches_there recs bs)
+    branches_there recs (branch l t bs) = both_here (insert l) (type_of (inside recs outer) t)
+        (branches_of (inside recs outer) bs) (type_there recs t) (branches_there recs bs)
 
 some_node : (t : Tree) → 1 ≤ nodes t
 some_node tree.skip = omega arith
@@ -95,7 +101,8 @@ mutual
       let two = no_higher s w b.1 b.3 in
       subst (λ z. height (pair at v w) ≤ nodes z) b.4 (omega (arith, one, two))
 
-  branches_no_higher : (s : Scope) (ws : WrittenBranches) (bs : Branches) → branches_of s ws ≡ Some bs → height_all ws ≤ nodes_all bs
+  branches_no_higher : (s : Scope) (ws : WrittenBranches) (bs : Branches) → branches_of s ws ≡ Some bs →
+      height_all ws ≤ nodes_all bs
   branches_no_higher s none bs e = omega arith
   branches_no_higher s (branch l w ws) bs e =
       let b = both_some (insert l) (type_of s w) (branches_of s ws) bs e in

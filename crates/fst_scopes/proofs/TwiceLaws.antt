@@ -23,9 +23,11 @@ among_push [] y x = among_next (bytes_eq x y) None ∙ pick (bytes_eq x y)
     pick true = refl
     pick false = refl
 among_push (z ∷ xs) y x =
-    among_next (bytes_eq x z) (place_of (xs ++ y ∷ []) x) ∙ pick (bytes_eq x z) (among_push xs y x) ∙ sym (ap (λ c. c || bytes_eq x y) (among_next (bytes_eq x z) (place_of xs x)))
+    among_next (bytes_eq x z) (place_of (xs ++ y ∷ []) x) ∙ pick (bytes_eq x z) (among_push xs y x)
+    ∙ sym (ap (λ c. c || bytes_eq x y) (among_next (bytes_eq x z) (place_of xs x)))
   where
-    pick : (c : Bool) → is_among (xs ++ y ∷ []) x ≡ (is_among xs x || bytes_eq x y) → (c || is_among (xs ++ y ∷ []) x) ≡ ((c || is_among xs x) || bytes_eq x y)
+    pick : (c : Bool) → is_among (xs ++ y ∷ []) x ≡ (is_among xs x || bytes_eq x y) →
+        (c || is_among (xs ++ y ∷ []) x) ≡ ((c || is_among xs x) || bytes_eq x y)
     pick true e = refl
     pick false e = e
 
@@ -52,11 +54,14 @@ names_push bs b = map-append (λ (z : Binder). z.name) bs (b ∷ [])
 -- one more binder behind others
 twice_after_push : (front : List (List ℕ)) (bs : List Binder) (b : Binder) →
     twice_after front (bs ++ b ∷ []) ≡ twice_after front bs ++ twice_if (is_among (front ++ names bs) b.name) b
-twice_after_push front [] b = append-nil (twice_if (is_among front b.name) b) ∙ ap (λ xs. twice_if (is_among xs b.name) b) (sym (append-nil front))
+twice_after_push front [] b = append-nil (twice_if (is_among front b.name) b) ∙ ap
+    (λ xs. twice_if (is_among xs b.name) b) (sym (append-nil front))
 twice_after_push front (c ∷ bs) b =
     ap (λ fs. twice_if (is_among front c.name) c ++ fs) (twice_after_push (front ++ c.name ∷ []) bs b ∙
-    ap (λ xs. twice_after (front ++ c.name ∷ []) bs ++ twice_if (is_among xs b.name) b) (append_assoc front (c.name ∷ []) (names bs))) ∙
-    sym (append_assoc (twice_if (is_among front c.name) c) (twice_after (front ++ c.name ∷ []) bs) (twice_if (is_among (front ++ c.name ∷ names bs) b.name) b))
+    ap (λ xs. twice_after (front ++ c.name ∷ []) bs ++ twice_if (is_among xs b.name) b)
+    (append_assoc front (c.name ∷ []) (names bs))) ∙
+    sym (append_assoc (twice_if (is_among front c.name) c) (twice_after (front ++ c.name ∷ []) bs)
+    (twice_if (is_among (front ++ c.name ∷ names bs) b.name) b))
 
 pub twice_push : (bs : List Binder) (b : Binder) → twice (bs ++ b ∷ []) ≡ twice bs ++ twice_if (is_among (names bs) b.name) b
 twice_push bs b = twice_after_push [] bs b
@@ -72,7 +77,8 @@ pub no_names : AreNames [] []
 no_names = record { among = λ x. refl; own = λ e. refl }
 
 -- one more binder
-pub more_names : (bs : List Binder) (b : Binder) (xs ys : List (List ℕ)) → AreNames bs xs → ys ≡ with_name xs b.name → AreNames (bs ++ b ∷ []) ys
+pub more_names : (bs : List Binder) (b : Binder) (xs ys : List (List ℕ)) → AreNames bs xs → ys ≡ with_name xs b.name →
+    AreNames (bs ++ b ∷ []) ys
 more_names bs b xs ys are is = record { among = among; own = own }
   where
     among : (x : List ℕ) → is_among ys x ≡ is_among (names (bs ++ b ∷ [])) x
@@ -84,7 +90,8 @@ more_names bs b xs ys are is = record { among = among; own = own }
     own e =
         let both = none_named (twice bs) (twice_if (is_among (names bs) b.name) b) (sym (twice_push bs b) ∙ e) in
         let new : is_among xs b.name ≡ false = are.among b.name ∙ is_new (is_among (names bs) b.name) b both.1 in
-        is ∙ ap (λ c. if c then xs else xs ++ b.name ∷ []) new ∙ ap (λ z. z ++ b.name ∷ []) (are.own both.0) ∙ sym (names_push bs b)
+        is ∙ ap (λ c. if c then xs else xs ++ b.name ∷ []) new ∙ ap (λ z. z ++ b.name ∷ []) (are.own both.0)
+        ∙ sym (names_push bs b)
 
 -- what is kept, and which names are there, once one more binder is noted
 pub record IsNoted (old : Option NameFault) (bs : List Binder) (xs : List (List ℕ)) (kept : Option NameFault) : Type 0 where
@@ -94,10 +101,12 @@ pub record IsNoted (old : Option NameFault) (bs : List Binder) (xs : List (List 
 pub none_noted : (old : Option NameFault) → IsNoted old [] [] old
 none_noted old = record { names_are = no_names; kept_is = refl }
 
-pub one_noted : (old kept new : Option NameFault) (bs all : List Binder) (b : Binder) (xs ys : List (List ℕ)) → IsNoted old bs xs kept → all ≡ bs ++ b ∷ [] →
+pub one_noted : (old kept new : Option NameFault) (bs all : List Binder) (b : Binder) (xs ys : List (List ℕ)) →
+    IsNoted old bs xs kept → all ≡ bs ++ b ∷ [] →
     ys ≡ with_name xs b.name → new ≡ first_from kept (twice_if (is_among xs b.name) b) → IsNoted old all ys new
 one_noted old kept new bs all b xs ys before whole names_are noted = subst (λ z. IsNoted old z ys new) (sym whole) (record {
   names_are = more_names bs b xs ys before.names_are names_are;
-  kept_is = noted ∙ ap (λ c. first_from kept (twice_if c b)) (before.names_are.among b.name) ∙ ap (λ k. first_from k (twice_if (is_among (names bs) b.name) b)) before.kept_is ∙
+  kept_is = noted ∙ ap (λ c. first_from kept (twice_if c b)) (before.names_are.among b.name) ∙ ap
+      (λ k. first_from k (twice_if (is_among (names bs) b.name) b)) before.kept_is ∙
       sym (first_append old (twice bs) (twice_if (is_among (names bs) b.name) b)) ∙ ap (first_from old) (sym (twice_push bs b));
 })

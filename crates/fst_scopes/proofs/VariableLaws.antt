@@ -19,7 +19,8 @@ use Rattle.fst_scopes.specs.Plain.{DeclaresClosed}
 use Rattle.fst_scopes.proofs.Plain.{both_some, place_within}
 
 -- a branch in its place
-placed_variables : (n : ℕ) (l : List ℕ) (t : Tree) (bs : Branches) → HasVariablesBelow n t → HaveVariablesBelow n bs → HaveVariablesBelow n (insert l t bs)
+placed_variables : (n : ℕ) (l : List ℕ) (t : Tree) (bs : Branches) → HasVariablesBelow n t → HaveVariablesBelow n bs →
+    HaveVariablesBelow n (insert l t bs)
 placed_variables n l t none p q = (p, tt)
 placed_variables n l t (branch m u bs) p q = by (slice_cmp nat_cmp l m) (placed_variables n l t bs p q.1)
   where
@@ -38,7 +39,9 @@ module _ (outer : Scope) (all : DeclaresClosed outer) where
   HasOwn t = HasVariablesBelow (length outer.vars) t
 
   name_variables : (names : List (List ℕ)) (x : List ℕ) (t : Tree) (o : Option ℕ) →
-      unwrap_or (or_else (option_map (λ k. Some (tree.back k)) o) (or_else (option_map (λ k. Some (tree.var k)) (place_of outer.vars x)) (outer.declared x))) outer.otherwise ≡ Some t → HasOwn t
+      unwrap_or (or_else (option_map (λ k. Some (tree.back k)) o)
+      (or_else (option_map (λ k. Some (tree.var k)) (place_of outer.vars x)) (outer.declared x))) outer.otherwise ≡ Some t →
+      HasOwn t
   name_variables names x t (Some k) g = subst HasOwn (same_Some (tree.back k) t g) tt
   name_variables names x t None g = of_variable (place_of outer.vars x) refl g
     where
@@ -46,7 +49,8 @@ module _ (outer : Scope) (all : DeclaresClosed outer) where
       of_declared (Some p) d h = variables_wider 0 (length outer.vars) t (omega arith) (all.declared x t (d ∙ ap Some h))
       of_declared None d h = variables_wider 0 (length outer.vars) t (omega arith) (all.otherwise t h)
 
-      of_variable : (o : Option ℕ) → place_of outer.vars x ≡ o → unwrap_or (or_else (option_map (λ k. Some (tree.var k)) o) (outer.declared x)) outer.otherwise ≡ Some t → HasOwn t
+      of_variable : (o : Option ℕ) → place_of outer.vars x ≡ o →
+          unwrap_or (or_else (option_map (λ k. Some (tree.var k)) o) (outer.declared x)) outer.otherwise ≡ Some t → HasOwn t
       of_variable (Some k) is g = subst HasOwn (same_Some (tree.var k) t g) (place_within outer.vars x k is)
       of_variable None is g = of_declared (outer.declared x) refl g
 
@@ -76,12 +80,16 @@ module _ (outer : Scope) (all : DeclaresClosed outer) where
         let b = both_some tree.pair (type_of (scope names) v) (type_of (scope names) w) t e in
         subst HasOwn b.4 (type_variables names v b.0 b.2, type_variables names w b.1 b.3)
 
-    branches_variables : (names : List (List ℕ)) (ws : WrittenBranches) (bs : Branches) → branches_of (scope names) ws ≡ Some bs → HaveVariablesBelow (length outer.vars) bs
+    branches_variables : (names : List (List ℕ)) (ws : WrittenBranches) (bs : Branches) → branches_of (scope names) ws ≡ Some bs →
+        HaveVariablesBelow (length outer.vars) bs
     branches_variables names written.none bs e = subst (HaveVariablesBelow (length outer.vars)) (same_Some none bs e) tt
     branches_variables names (written.branch l w ws) bs e =
         let b = both_some (insert l) (type_of (scope names) w) (branches_of (scope names) ws) bs e in
-        subst (HaveVariablesBelow (length outer.vars)) b.4 (placed_variables (length outer.vars) l b.0 b.1 (type_variables names w b.0 b.2) (branches_variables names ws b.1 b.3))
+        subst (HaveVariablesBelow (length outer.vars)) b.4
+        (placed_variables (length outer.vars) l b.0 b.1 (type_variables names w b.0 b.2)
+        (branches_variables names ws b.1 b.3))
 
 -- so it is in any scope in which what is declared has none
-pub variables_below : (s : Scope) (w : WrittenTree) (t : Tree) → DeclaresClosed s → type_of s w ≡ Some t → HasVariablesBelow (length s.vars) t
+pub variables_below : (s : Scope) (w : WrittenTree) (t : Tree) → DeclaresClosed s → type_of s w ≡ Some t →
+    HasVariablesBelow (length s.vars) t
 variables_below s w t all e = type_variables s all s.recs w t e

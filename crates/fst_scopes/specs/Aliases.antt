@@ -8,8 +8,10 @@ use Rattle.fst_scopes.specs.TypeNames.{TypeDecl, other_name, scope_with}
 
 -- an alias stands for its type, with what further aliases stand for in their places; one that leads to a loop stands for none
 pub data StandsFor (declared : List ℕ → Option TypeDecl) : List ℕ → Tree → Type 0 where
-  alias : (others : List ℕ → Option Tree) (x : List ℕ) (w : WrittenTree) (t : Tree) → declared x ≡ Some (other_name w) →
-      ((y : List ℕ) (u : Tree) → others y ≡ Some u → StandsFor declared y u) → type_of (scope_with [] declared others) w ≡ Some t → StandsFor declared x t
+  alias : (others : List ℕ → Option Tree) (x : List ℕ) (w : WrittenTree) (t : Tree) →
+      declared x ≡ Some (other_name w) →
+      ((y : List ℕ) (u : Tree) → others y ≡ Some u → StandsFor declared y u) →
+      type_of (scope_with [] declared others) w ≡ Some t → StandsFor declared x t
 
 abbrev mutual
   -- the names in a type other than those of `rec`s around them, of which these are names already

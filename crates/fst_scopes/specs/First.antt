@@ -25,7 +25,8 @@ number Memory = 7
 
 -- a fault stands at a lesser place than another one, or at its place with a lesser number
 abbrev pub comes_before : NameFault → NameFault → Bool
-comes_before f g = nat_lt (place f) (place g) || (nat_eq (place f) (place g) && nat_lt (number f) (number g))
+comes_before f g = nat_lt (place f)
+    (place g) || (nat_eq (place f) (place g) && nat_lt (number f) (number g))
 
 -- the first of a fault that was kept, if there is one, and a further fault, which is first only where it comes before
 abbrev pub earlier : Option NameFault → NameFault → Option NameFault

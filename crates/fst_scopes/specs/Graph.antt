@@ -35,7 +35,8 @@ entry_tree types trees (Some (entry.Alias w)) = type_of (alias_scope types trees
 
 -- what a name stands for; nothing if it lies on a loop
 abbrev pub tree_after : TypeNames → List Bool → List (Option Tree) → ℕ → Option Tree
-tree_after types looped trees x = if get_or looped x false then None else entry_tree types trees (slice_get types.entries.items x)
+tree_after types looped trees x = if get_or looped x false then None else entry_tree types trees
+    (slice_get types.entries.items x)
 
 -- what the aliases stand for once those in some order are looked at, of which those on loops stand for nothing
 abbrev pub trees_after : TypeNames → List Bool → List (Option Tree) → List ℕ → List (Option Tree)
@@ -45,8 +46,13 @@ trees_after types looped trees (x ∷ order) =
 
 -- what the aliases stand for once all in an order are looked at
 abbrev pub final_trees : TypeNames → List Bool → List ℕ → List (Option Tree)
-final_trees types looped order = trees_after types looped (replicate (length types.names) None) order
+final_trees types looped order = trees_after types looped
+    (replicate (length types.names) None) order
 
 -- what is known of aliases by the trees and by which of them lie on loops
 abbrev pub known_by : TypeNames → List (Option Tree) → List Bool → Known
-known_by types trees looped = record { stands = standing_in types trees; loops = λ x. unwrap_or (of_name types.names looped x) false }
+known_by types trees looped = record {
+  stands = standing_in types trees;
+  loops =
+      λ x. unwrap_or (of_name types.names looped x) false;
+}

@@ -46,7 +46,11 @@ node_of a b = node (a.nodes + b.nodes)
 
 -- what is counted of a function
 abbrev pub function_of : Measure → Measure → Measure
-function_of a b = record { nodes = min (a.nodes + b.nodes + 1) ceiling; arrows = min (b.arrows + 1) ceiling }
+function_of a b = record {
+  nodes = min (a.nodes + b.nodes + 1) ceiling;
+  arrows =
+      min (b.arrows + 1) ceiling;
+}
 
 abbrev mutual
   -- what is counted of a written type, from what is counted of the names in it that no `rec` binds
@@ -60,10 +64,12 @@ abbrev mutual
   measure recs m (written.rec at x t) = option_map (λ a. node a.nodes) (measure (x ∷ recs) m t)
   measure recs m (written.named at x) = if is_among recs x then Some leaf else m x
   measure recs m (written.plain at b) = Some leaf
-  measure recs m (written.arrow at uses t u) = both function_of (measure recs m t) (measure recs m u)
+  measure recs m (written.arrow at uses t u) =
+      both function_of (measure recs m t) (measure recs m u)
   measure recs m (written.pair at t u) = both node_of (measure recs m t) (measure recs m u)
 
   -- how many nodes some branches have
   pub measure_all : List (List ℕ) → (List ℕ → Option Measure) → WrittenBranches → Option ℕ
   measure_all recs m written.none = Some 0
-  measure_all recs m (written.branch l t bs) = both (λ a n. min (a.nodes + 1 + n) ceiling) (measure recs m t) (measure_all recs m bs)
+  measure_all recs m (written.branch l t bs) = both
+      (λ a n. min (a.nodes + 1 + n) ceiling) (measure recs m t) (measure_all recs m bs)

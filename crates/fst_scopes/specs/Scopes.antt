@@ -56,8 +56,15 @@ standing_in types trees x = flat (of_name types.names trees x)
 -- what is in scope within these `rec`s, where the names of types stand for these trees
 abbrev pub scope_within : List (List ℕ) → Names → List (Option Tree) → Scope
 scope_within recs names trees =
-    let outer = scope_with (vars_of names) (declared_in (types_of names)) (standing_in (types_of names) trees) in
-    record { recs = recs; vars = outer.vars; declared = outer.declared; otherwise = outer.otherwise }
+    let outer = scope_with (vars_of names) (declared_in (types_of names))
+    (standing_in (types_of names) trees) in
+    record {
+      recs = recs;
+      vars = outer.vars;
+      declared = outer.declared;
+      otherwise =
+          outer.otherwise;
+    }
 
 -- what is in scope, where the names of types stand for these trees
 abbrev pub scope_around : Names → List (Option Tree) → Scope
@@ -71,4 +78,5 @@ counted_of m (Some (other_name w)) = m
 
 -- what is counted of a name that no `rec` binds
 abbrev pub counted : List (List ℕ) → TypeNames → List (Option Measure) → List ℕ → Option Measure
-counted vars types measures x = if is_among vars x then Some leaf else counted_of (flat (of_name types.names measures x)) (declared_in types x)
+counted vars types measures x = if is_among vars x then Some leaf else counted_of
+    (flat (of_name types.names measures x)) (declared_in types x)

@@ -17,7 +17,8 @@ twice_if known b = if known then Twice b.at b.name ∷ [] else []
 -- the names that are among earlier ones, where these stand in front
 abbrev pub twice_after : List (List ℕ) → List Binder → List NameFault
 twice_after front [] = []
-twice_after front (b ∷ bs) = twice_if (is_among front b.name) b ++ twice_after (front ++ b.name ∷ []) bs
+twice_after front (b ∷ bs) = twice_if (is_among front b.name) b ++ twice_after
+    (front ++ b.name ∷ []) bs
 
 -- the names that are among earlier ones
 abbrev pub twice : List Binder → List NameFault

@@ -15,8 +15,10 @@ pub data TypeDecl : Type 0 where
 -- the first declaration of a type with a name, where so many data types stand before
 abbrev pub declared_from : ℕ → List Declared → List ℕ → Option TypeDecl
 declared_from k [] x = None
-declared_from k (family y ms ∷ ds) x = if bytes_eq x y.name then Some (data_type k) else declared_from (suc k) ds x
-declared_from k (alias y w ∷ ds) x = if bytes_eq x y.name then Some (other_name w) else declared_from k ds x
+declared_from k (family y ms ∷ ds) x =
+    if bytes_eq x y.name then Some (data_type k) else declared_from (suc k) ds x
+declared_from k (alias y w ∷ ds) x =
+    if bytes_eq x y.name then Some (other_name w) else declared_from k ds x
 declared_from k (signature y bs w ∷ ds) x = declared_from k ds x
 declared_from k (equation y ps t ∷ ds) x = declared_from k ds x
 
@@ -32,4 +34,10 @@ standing_for aliases x (Some (other_name w)) = Some (aliases x)
 
 -- what is in scope where these variables are bound and these types declared; a name that isn't in scope is taken for `Skip`
 abbrev pub scope_with : List (List ℕ) → (List ℕ → Option TypeDecl) → (List ℕ → Option Tree) → Scope
-scope_with vars declared aliases = record { recs = []; vars = vars; declared = λ x. standing_for aliases x (declared x); otherwise = Some tree.skip }
+scope_with vars declared aliases = record {
+  recs = [];
+  vars = vars;
+  declared =
+      λ x. standing_for aliases x (declared x);
+  otherwise = Some tree.skip;
+}

@@ -160,9 +160,11 @@ fn measures_of(
     order: &[u32],
     looped: &[bool],
 ) -> Result<Vec<Option<Measure>>, AllocError>
-    requires order { (i : ℕ) → i < length order.now → slice_index order.now i < length types.now.names }
+    requires order { (i : ℕ) → i < length order.now →
+        slice_index order.now i < length types.now.names }
     requires told { length looped.now ≡ length types.now.names }
-    ensures { IfOk result (λ ms. AreMeasures (final_trees types.now looped.now order.now) ms.items) }
+    ensures { IfOk result (λ ms. AreMeasures
+        (final_trees types.now looped.now order.now) ms.items) }
 {
     let vars = NameTable::new(alloc);
     let mut measures = no_measures(alloc, types.names.len())?;
@@ -178,7 +180,8 @@ pub fn aliases_of(alloc: Global, types: &TypeNames<'_>) -> Result<Aliases, Alloc
     requires { length types.now.names ≤ 2 ^ 32 }
     ensures known { IfOk result (λ a. IsKnown (declared_in types.now)
         (known_by types.now (final_trees types.now a.looped.items a.order.items) a.looped.items)) }
-    ensures measures { IfOk result (λ a. AreMeasures (final_trees types.now a.looped.items a.order.items) a.measures.items) }
+    ensures measures { IfOk result (λ a. AreMeasures
+        (final_trees types.now a.looped.items a.order.items) a.measures.items) }
     ensures order { IfOk result (λ a. IsOrder (graph_of types.now) a.order.items a.looped.items) }
 {
     let graph = graph_of(alloc, types)?;

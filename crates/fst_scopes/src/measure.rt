@@ -72,7 +72,8 @@ fn counted(name: &Name, names: &Names<'_>, measures: &[Option<Measure>]) -> Opti
 #[tactic(auto, unfolding(fst_terms::specs::Naming::both))]
 pub fn measure_of(w: &Written, names: &Names<'_>, measures: &[Option<Measure>]) -> Option<Measure>
     requires { length measures.now ≡ length (types_of names.now).names }
-    ensures { result ≡ measure (recs_of names.now) (counted (vars_of names.now) (types_of names.now) measures.now) w.now }
+    ensures { result ≡ measure (recs_of names.now)
+        (counted (vars_of names.now) (types_of names.now) measures.now) w.now }
 {
     match &w.form {
         WrittenForm::Skip => Some(leaf()),
@@ -115,7 +116,9 @@ fn measure_all_of(
     measures: &[Option<Measure>],
 ) -> Option<u64>
     requires { length measures.now ≡ length (types_of names.now).names }
-    ensures { result ≡ measure_all (recs_of names.now) (counted (vars_of names.now) (types_of names.now) measures.now) (written_branches branches.now) }
+    ensures { result ≡ measure_all (recs_of names.now)
+        (counted (vars_of names.now) (types_of names.now) measures.now)
+        (written_branches branches.now) }
 {
     let mut total: u64 = 0;
     for branch in branches {

@@ -154,7 +154,8 @@ fn named_branches(
     names: &Names<'_>,
     trees: &[Option<Ty>],
 ) -> Result<Vec<Branch>, AllocError>
-    requires depth { length (recs_of names.now) + height_all (written_branches branches.now) < 2 ^ 32 }
+    requires depth { length (recs_of names.now) + height_all
+        (written_branches branches.now) < 2 ^ 32 }
     requires count { length (vars_of names.now) ≤ 2 ^ 32 }
     requires trees { length trees.now ≡ length (types_of names.now).names }
     requires known { IsSome (branches_of (scope_around names.now trees.now)

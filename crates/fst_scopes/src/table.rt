@@ -71,7 +71,8 @@ pub fn note_name(
     least: &mut Option<NameFault>,
 ) -> Result<bool, AllocError>
     ensures names { OnOk result (names.new ≡ with_name names.old binder.now.name) }
-    ensures twice { OnOk result (least.new ≡ first_from least.old (twice_if (is_among names.old binder.now.name) binder.now)) }
+    ensures twice { OnOk result (least.new ≡ first_from least.old
+        (twice_if (is_among names.old binder.now.name) binder.now)) }
     ensures is_new { IfOk result (λ is_new. is_new ≡ not (is_among names.old binder.now.name)) }
 {
     let is_new = names.add(alloc, &binder.name)?;

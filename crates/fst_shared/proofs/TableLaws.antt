@@ -19,7 +19,8 @@ word-last W x = get_or-append_seam W x [] []
 split_last : (i n : ℕ) → i < suc n → (i < n) ⊎ (i ≡ n)
 split_last i n l = elim (cases_lt i n) [ inl lt ↦ inl lt | inr ge ↦ inr (omega arith) ]
 
-pub words-push : (N : List (ℕ × ℕ)) (W : List (List ℕ)) (p : ℕ × ℕ) → words_from W (N ++ p ∷ []) ≡ words_from W N ++ (p.0 ∷ word_of (words_from W N) p.1) ∷ []
+pub words-push : (N : List (ℕ × ℕ)) (W : List (List ℕ)) (p : ℕ × ℕ) →
+    words_from W (N ++ p ∷ []) ≡ words_from W N ++ (p.0 ∷ word_of (words_from W N) p.1) ∷ []
 words-push [] W p = refl
 words-push (q ∷ N) W p = words-push N (W ++ (q.0 ∷ word_of W q.1) ∷ []) p
 
@@ -67,22 +68,26 @@ module _ (N : List (ℕ × ℕ)) (W : List (List ℕ)) (h t : ℕ) (ok : IsTable
           | inl e ↦
               let l = slice_get_within N k p e in
               let b = ok.before k p e in
-              word-front W (h ∷ word_of W t) (suc k) (omega arith) ∙ ok.linked k p e ∙ ap (λ (z : List ℕ). p.0 ∷ z) (sym (word-front W (h ∷ word_of W t) p.1 (omega arith)))
+              word-front W (h ∷ word_of W t) (suc k) (omega arith) ∙ ok.linked k p e ∙ ap
+              (λ (z : List ℕ). p.0 ∷ z) (sym (word-front W (h ∷ word_of W t) p.1 (omega arith)))
           | inr e ↦
               let a = e.0 in
               let at : suc k ≡ length W = omega arith in
               let b : t ≡ p.1 = ap (λ (z : ℕ × ℕ). z.1) e.1 in
               let c : h ≡ p.0 = ap (λ (z : ℕ × ℕ). z.0) e.1 in
-              ap (word_of (W ++ (h ∷ word_of W t) ∷ [])) at ∙ word-last W (h ∷ word_of W t) ∙ ap (λ (z : ℕ × ℕ). z.0 ∷ word_of W z.1) e.1
+              ap (word_of (W ++ (h ∷ word_of W t) ∷ [])) at ∙ word-last W (h ∷ word_of W t) ∙ ap
+              (λ (z : ℕ × ℕ). z.0 ∷ word_of W z.1) e.1
               ∙ ap (λ (z : List ℕ). p.0 ∷ z) (sym (word-front W (h ∷ word_of W t) p.1 (omega arith)))
         ];
         once = λ i j li lj e. elim (split_last i (length W) (omega arith)) [
           | inl a ↦ elim (split_last j (length W) (omega arith)) [
             | inl b ↦ ok.once i j a b (sym (word-front W (h ∷ word_of W t) i a) ∙ e ∙ word-front W (h ∷ word_of W t) j b)
-            | inr b ↦ absurd (other i a (sym (word-front W (h ∷ word_of W t) i a) ∙ e ∙ ap (word_of (W ++ (h ∷ word_of W t) ∷ [])) b ∙ word-last W (h ∷ word_of W t)))
+            | inr b ↦ absurd (other i a (sym (word-front W (h ∷ word_of W t) i a) ∙ e
+                ∙ ap (word_of (W ++ (h ∷ word_of W t) ∷ [])) b ∙ word-last W (h ∷ word_of W t)))
           ]
           | inr a ↦ elim (split_last j (length W) (omega arith)) [
-            | inl b ↦ absurd (other j b (sym (word-front W (h ∷ word_of W t) j b) ∙ sym e ∙ ap (word_of (W ++ (h ∷ word_of W t) ∷ [])) a ∙ word-last W (h ∷ word_of W t)))
+            | inl b ↦ absurd (other j b (sym (word-front W (h ∷ word_of W t) j b) ∙ sym e
+                ∙ ap (word_of (W ++ (h ∷ word_of W t) ∷ [])) a ∙ word-last W (h ∷ word_of W t)))
             | inr b ↦ a ∙ sym b
           ]
         ];
@@ -96,7 +101,8 @@ pub record IsPushed (N : List (ℕ × ℕ)) (old new : List (List ℕ)) (h t at 
   pub kept : Keeps old new
 
 module _ (eq : ℕ × ℕ → ℕ × ℕ → Bool) (same : (p q : ℕ × ℕ) → eq p q ≡ true → p ≡ q) (self : (p : ℕ × ℕ) → eq p p ≡ true) where
-  not_there : (p : ℕ × ℕ) (N : List (ℕ × ℕ)) → list_any (eq p) N ≡ false → (k : ℕ) (q : ℕ × ℕ) → slice_get N k ≡ Some q → q ≡ p → ⊥
+  not_there : (p : ℕ × ℕ) (N : List (ℕ × ℕ)) → list_any (eq p) N ≡ false →
+      (k : ℕ) (q : ℕ × ℕ) → slice_get N k ≡ Some q → q ≡ p → ⊥
   not_there p [] none k q is e = cc
   not_there p (x ∷ N) none zero q is e =
       let there : x ≡ p = (let f : x ≡ q = cc in f ∙ e) in
@@ -108,12 +114,15 @@ module _ (eq : ℕ × ℕ → ℕ × ℕ → Bool) (same : (p q : ℕ × ℕ) �
       rest true b h = cc
       rest false b h = h
 
-  pub pushed : (N M : List (ℕ × ℕ)) (h t at : ℕ) (k : ℕ × ℕ) → IsTable N (words_of N) → t < length (words_of N) → M ≡ insert_key eq N (h, t)
+  pub pushed : (N M : List (ℕ × ℕ)) (h t at : ℕ) (k : ℕ × ℕ) → IsTable N (words_of N) → t < length (words_of N) →
+      M ≡ insert_key eq N (h, t)
       → slice_get M at ≡ Some k → eq (h, t) k ≡ true → IsPushed M (words_of N) (words_of M) h t at
   pushed N M h t at k ok within made stored equal =
-      (elim (list_any (eq (h, t)) N) as (λ b. list_any (eq (h, t)) N ≡ b → M ≡ (if b then N else N ++ (h, t) ∷ []) → IsPushed M (words_of N) (words_of M) h t at) [
+      (elim (list_any (eq (h, t)) N) as (λ b. list_any (eq (h, t)) N ≡ b → M ≡ (if b then N else N ++ (h, t) ∷ []) →
+      IsPushed M (words_of N) (words_of M) h t at) [
         | true ↦ λ b is. subst (λ (z : List (ℕ × ℕ)). IsPushed z (words_of N) (words_of z) h t at) (sym is)
-            (let there : slice_get N at ≡ Some (h, t) = ap (λ (z : List (ℕ × ℕ)). slice_get z at) (sym is) ∙ stored ∙ ap Some (sym (same (h, t) k equal)) in
+            (let there : slice_get N at ≡ Some (h, t) = ap (λ (z : List (ℕ × ℕ)). slice_get z at) (sym is) ∙ stored
+            ∙ ap Some (sym (same (h, t) k equal)) in
             let l = slice_get_within N at (h, t) there in
             let count = ok.count in
             record {
@@ -123,15 +132,20 @@ module _ (eq : ℕ × ℕ → ℕ × ℕ → Bool) (same : (p q : ℕ × ℕ) �
               kept = keeps_all (words_of N);
             })
         | false ↦ λ b is.
-            let made : words_of M ≡ words_of N ++ (h ∷ word_of (words_of N) t) ∷ [] = ap words_of is ∙ words-push N ([] ∷ []) (h, t) in
-            let ok2 : IsTable M (words_of M) = subst (IsTable M) (sym made) (subst (λ (z : List (ℕ × ℕ)). IsTable z (words_of N ++ (h ∷ word_of (words_of N) t) ∷ [])) (sym is) (table-push N (words_of N) h t ok within (not_there (h, t) N b))) in
+            let made : words_of M ≡ words_of N ++ (h ∷ word_of (words_of N) t) ∷ [] = ap words_of is
+            ∙ words-push N ([] ∷ []) (h, t) in
+            let ok2 : IsTable M (words_of M) = subst (IsTable M) (sym made)
+            (subst (λ (z : List (ℕ × ℕ)). IsTable z (words_of N ++ (h ∷ word_of (words_of N) t) ∷ [])) (sym is)
+            (table-push N (words_of N) h t ok within (not_there (h, t) N b))) in
             let there : slice_get M at ≡ Some (h, t) = stored ∙ ap Some (sym (same (h, t) k equal)) in
-            let keeps : Keeps (words_of N) (words_of M) = subst (Keeps (words_of N)) (sym made) (keeps-push (words_of N) (h ∷ word_of (words_of N) t)) in
+            let keeps : Keeps (words_of N) (words_of M) =
+            subst (Keeps (words_of N)) (sym made) (keeps-push (words_of N) (h ∷ word_of (words_of N) t)) in
             let l = slice_get_within M at (h, t) there in
             let count = ok2.count in
             record {
               table = ok2;
-              word = ap (word_of (words_of M)) (let e : at + 1 ≡ suc at = omega arith in e) ∙ ok2.linked at (h, t) there ∙ ap (λ (z : List ℕ). h ∷ z) (keeps.kept t within);
+              word = ap (word_of (words_of M)) (let e : at + 1 ≡ suc at = omega arith in e) ∙ ok2.linked at (h, t) there ∙ ap
+                  (λ (z : List ℕ). h ∷ z) (keeps.kept t within);
               within = omega arith;
               kept = keeps;
             }

@@ -13,7 +13,8 @@ pub record IsNumber (words : List (List ℕ)) (r : Rule) (n : ℕ) : Type 0 wher
 
 -- the numbers are those of the words of a row's rules
 abbrev pub AreNumbers : List (List ℕ) → List Rule → List ℕ → Type 0
-AreNumbers words row numbers = (i n : ℕ) (r : Rule) → slice_get row i ≡ Some r → slice_get numbers i ≡ Some n → IsNumber words r n
+AreNumbers words row numbers = (i n : ℕ) (r : Rule) → slice_get row i ≡ Some r →
+    slice_get numbers i ≡ Some n → IsNumber words r n
 
 -- a row has as many numbers as rules, those of their words
 pub record IsRow (words : List (List ℕ)) (row : List Rule) (numbers : List ℕ) : Type 0 where
@@ -21,6 +22,8 @@ pub record IsRow (words : List (List ℕ)) (row : List Rule) (numbers : List ℕ
   pub count : length numbers ≡ length row
 
 -- each row has its numbers
-pub record AreNumbered (words : List (List ℕ)) (rows : Productions) (numbers : List (Vec ℕ Global)) : Type 0 where
-  pub row : (n : ℕ) (v : Vec ℕ Global) → slice_get numbers n ≡ Some v → IsRow words (row_of rows n) v.items
+pub record AreNumbered (words : List (List ℕ)) (rows : Productions)
+    (numbers : List (Vec ℕ Global)) : Type 0 where
+  pub row : (n : ℕ) (v : Vec ℕ Global) → slice_get numbers n ≡ Some v →
+      IsRow words (row_of rows n) v.items
   pub count : length numbers ≡ length rows

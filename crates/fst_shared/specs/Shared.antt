@@ -21,14 +21,16 @@ pub record Keeps (old new : List (List ℕ)) : Type 0 where
 
 -- no word has two numbers
 abbrev pub IsEachOnce : List (List ℕ) → Type 0
-IsEachOnce words = (i j : ℕ) → i < length words → j < length words → word_of words i ≡ word_of words j → i ≡ j
+IsEachOnce words = (i j : ℕ) → i < length words → j < length words →
+    word_of words i ≡ word_of words j → i ≡ j
 
 -- each node is the word behind it, with its first non-terminal in front, and no word has two numbers
 pub record IsTable (nodes : List (ℕ × ℕ)) (words : List (List ℕ)) : Type 0 where
   pub count : length words ≡ suc (length nodes)
   pub empty : word_of words 0 ≡ []
   pub before : (k : ℕ) (p : ℕ × ℕ) → slice_get nodes k ≡ Some p → p.1 ≤ k
-  pub linked : (k : ℕ) (p : ℕ × ℕ) → slice_get nodes k ≡ Some p → word_of words (suc k) ≡ p.0 ∷ word_of words p.1
+  pub linked : (k : ℕ) (p : ℕ × ℕ) → slice_get nodes k ≡ Some p →
+      word_of words (suc k) ≡ p.0 ∷ word_of words p.1
   pub once : IsEachOnce words
 
 -- these pairs of numbers are below n

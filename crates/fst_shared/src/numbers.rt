@@ -27,7 +27,8 @@ fn row_numbers(
 
 /// A number for the word of each rule, row by row: rules with the same number have the same word.
 pub fn word_numbers(alloc: Global, g: &Grammar) -> Result<Vec<Vec<u32>>, AllocError>
-    ensures { IfOk result (λ numbers. (words : List (List ℕ)) × AreNumbered words g.now.rules.items numbers.items) }
+    ensures { IfOk result (λ numbers. (words : List (List ℕ)) ×
+        AreNumbered words g.now.rules.items numbers.items) }
 {
     let mut words = SharedWords::new(alloc);
     let mut numbers = Vec::new(alloc);

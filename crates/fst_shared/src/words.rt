@@ -29,7 +29,8 @@ impl Model for SharedWords {
 // What is left of a word in front of another, and the number of the word behind that.
 fn cut_front<'a>(marks: &[bool], front: &'a [u32], tail: u32) -> (&'a [u32], u32)
     requires { WordBelow (length marks.now) front.now }
-    ensures value { (words : List (List ℕ)) → word_of words 0 ≡ [] → result.0.now ++ word_of words result.1 ≡ cut marks.now front.now (word_of words tail) }
+    ensures value { (words : List (List ℕ)) → word_of words 0 ≡ [] →
+        result.0.now ++ word_of words result.1 ≡ cut marks.now front.now (word_of words tail) }
     ensures within { (n : ℕ) → tail < n → result.1 < n }
 {
     match first_marked(marks, front) {
@@ -130,7 +131,8 @@ impl SharedWords {
     pub fn prepend(&mut self, marks: &[bool], front: &[u32], tail: u32) -> Result<u32, AllocError>
         requires tail { tail < length self.old }
         requires front { WordBelow (length marks.now) front.now }
-        ensures word { IfOk result (λ r. word_of self.new r ≡ cut marks.now front.now (word_of self.old tail)) }
+        ensures word { IfOk result (λ r. word_of self.new r ≡ cut marks.now front.now
+            (word_of self.old tail)) }
         ensures within { IfOk result (λ r. r < length self.new) }
         ensures kept { Keeps self.old self.new }
     {

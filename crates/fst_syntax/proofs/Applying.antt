@@ -16,7 +16,8 @@ module _ {A : Type 0} (make : A → TermTree → A) where
   abbrev step : Inside → A → Reader A
   step es x = map_reader (make x) (atom_with es)
 
-  step_reads : (es : Inside) (x : A) (ts : List Lexeme) (u : TermTree) (rest : List Lexeme) → atom_with es ts ≡ Ok (u, rest) → step es x ts ≡ Ok (make x u, rest)
+  step_reads : (es : Inside) (x : A) (ts : List Lexeme) (u : TermTree) (rest : List Lexeme) → atom_with es ts ≡ Ok (u, rest) →
+      step es x ts ≡ Ok (make x u, rest)
   unfolding map_reader bind
   step_reads es x ts u rest h = rw h refl
 
@@ -35,14 +36,18 @@ module _ (at : ℕ) (t : TermTree) (ts : List Lexeme) where
   unfolding applications_with
   applications_shut b = repeat_shut starts_atom (step (term.apply at)) t ts b
 
-  pub applications_go_on : (n : ℕ) (u : TermTree) (rest : List Lexeme) → 0 < n → begins starts_atom ts ≡ true → atom_with (inside n) ts ≡ Ok (u, rest) →
+  pub applications_go_on : (n : ℕ) (u : TermTree) (rest : List Lexeme) → 0 < n → begins starts_atom ts ≡ true →
+      atom_with (inside n) ts ≡ Ok (u, rest) →
       applications_with at (inside n) t ts ≡ applications_with at (inside (n - 1)) (term.apply at t u) rest
   unfolding applications_with
-  applications_go_on n u rest lt b h = repeat_goes_on starts_atom (step (term.apply at)) t ts n (term.apply at t u) rest lt b (step_reads (term.apply at) (inside n) t ts u rest h)
+  applications_go_on n u rest lt b h = repeat_goes_on starts_atom (step (term.apply at)) t ts n (term.apply at t u) rest lt b
+      (step_reads (term.apply at) (inside n) t ts u rest h)
 
-  pub applications_fail : (n : ℕ) (e : Stop) → 0 < n → begins starts_atom ts ≡ true → Fails e (atom_with (inside n) ts) → Fails e (applications_with at (inside n) t ts)
+  pub applications_fail : (n : ℕ) (e : Stop) → 0 < n → begins starts_atom ts ≡ true → Fails e (atom_with (inside n) ts) →
+      Fails e (applications_with at (inside n) t ts)
   unfolding applications_with
-  applications_fail n e lt b h = repeat_fails starts_atom (step (term.apply at)) t ts n e lt b (step_fails (term.apply at) (inside n) t ts e h)
+  applications_fail n e lt b h = repeat_fails starts_atom (step (term.apply at)) t ts n e lt b
+      (step_fails (term.apply at) (inside n) t ts e h)
 
 appended_of : (us : List TermTree) (u : TermTree) → append_term (terms_of us) u ≡ terms_of (us ++ u ∷ [])
 appended_of [] u = refl
@@ -57,13 +62,17 @@ module _ (us : List TermTree) (ts : List Lexeme) where
   unfolding arguments_with
   arguments_shut b = repeat_shut starts_atom (step append_term) (terms_of us) ts b
 
-  pub arguments_go_on : (n : ℕ) (u : TermTree) (rest : List Lexeme) → 0 < n → begins starts_atom ts ≡ true → atom_with (inside n) ts ≡ Ok (u, rest) →
+  pub arguments_go_on : (n : ℕ) (u : TermTree) (rest : List Lexeme) → 0 < n → begins starts_atom ts ≡ true →
+      atom_with (inside n) ts ≡ Ok (u, rest) →
       arguments_with (inside n) (terms_of us) ts ≡ arguments_with (inside (n - 1)) (terms_of (us ++ u ∷ [])) rest
   unfolding arguments_with
   arguments_go_on n u rest lt b h =
-      let one = repeat_goes_on starts_atom (step append_term) (terms_of us) ts n (append_term (terms_of us) u) rest lt b (step_reads append_term (inside n) (terms_of us) ts u rest h) in
+      let one = repeat_goes_on starts_atom (step append_term) (terms_of us) ts n (append_term (terms_of us) u) rest lt b
+      (step_reads append_term (inside n) (terms_of us) ts u rest h) in
       rw (← appended_of us u) one
 
-  pub arguments_fail : (n : ℕ) (e : Stop) → 0 < n → begins starts_atom ts ≡ true → Fails e (atom_with (inside n) ts) → Fails e (arguments_with (inside n) (terms_of us) ts)
+  pub arguments_fail : (n : ℕ) (e : Stop) → 0 < n → begins starts_atom ts ≡ true → Fails e (atom_with (inside n) ts) →
+      Fails e (arguments_with (inside n) (terms_of us) ts)
   unfolding arguments_with
-  arguments_fail n e lt b h = repeat_fails starts_atom (step append_term) (terms_of us) ts n e lt b (step_fails append_term (inside n) (terms_of us) ts e h)
+  arguments_fail n e lt b h = repeat_fails starts_atom (step append_term) (terms_of us) ts n e lt b
+      (step_fails append_term (inside n) (terms_of us) ts e h)

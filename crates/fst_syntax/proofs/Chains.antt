@@ -21,13 +21,15 @@ module _ {A : Type 0} (test : Lexeme → Bool) (step : Inside → A → Reader A
   unfolding inside repeat when shut choose
   repeat_shut b = rw b refl
 
-  pub repeat_goes_on : (n : ℕ) (y : A) (rest : List Lexeme) → 0 < n → begins test ts ≡ true → step (inside n) x ts ≡ Ok (y, rest) →
+  pub repeat_goes_on : (n : ℕ) (y : A) (rest : List Lexeme) → 0 < n → begins test ts ≡ true →
+      step (inside n) x ts ≡ Ok (y, rest) →
       repeat test step (inside n) x ts ≡ repeat test step (inside (n - 1)) y rest
   unfolding inside repeat when andthen bind choose
   repeat_goes_on zero y rest lt b h = absurd (omega arith)
   repeat_goes_on (suc n) y rest lt b h = let e : suc n - 1 ≡ n = omega arith in rw (e, b, h) refl
 
-  pub repeat_fails : (n : ℕ) (e : Stop) → 0 < n → begins test ts ≡ true → Fails e (step (inside n) x ts) → Fails e (repeat test step (inside n) x ts)
+  pub repeat_fails : (n : ℕ) (e : Stop) → 0 < n → begins test ts ≡ true → Fails e (step (inside n) x ts) →
+      Fails e (repeat test step (inside n) x ts)
   unfolding inside repeat when andthen bind choose
   repeat_fails zero e lt b h = absurd (omega arith)
   repeat_fails (suc n) stop.Memory lt b h = tt
@@ -53,7 +55,8 @@ module _ (p : Lexeme → Option Op) (operand : Inside → Reader TermTree) (at :
     unfolding chain_with
     chain_shut = repeat_shut test step t ts sign
 
-    step_reads : (es : Inside) (u : TermTree) (rest : List Lexeme) → operand es us ≡ Ok (u, rest) → step es t ts ≡ Ok (term.operate at o t u, rest)
+    step_reads : (es : Inside) (u : TermTree) (rest : List Lexeme) → operand es us ≡ Ok (u, rest) →
+        step es t ts ≡ Ok (term.operate at o t u, rest)
     unfolding switch map_reader bind
     step_reads es u rest h = rw (parts, is, h) refl
 
@@ -66,8 +69,10 @@ module _ (p : Lexeme → Option Op) (operand : Inside → Reader TermTree) (at :
     pub chain_goes_on : (n : ℕ) (u : TermTree) (rest : List Lexeme) → 0 < n → operand (inside n) us ≡ Ok (u, rest) →
         chain_with p operand at (inside n) t ts ≡ chain_with p operand at (inside (n - 1)) (term.operate at o t u) rest
     unfolding chain_with
-    chain_goes_on n u rest lt h = repeat_goes_on test step t ts n (term.operate at o t u) rest lt sign (step_reads (inside n) u rest h)
+    chain_goes_on n u rest lt h = repeat_goes_on test step t ts n (term.operate at o t u) rest lt sign
+        (step_reads (inside n) u rest h)
 
-    pub chain_fails : (n : ℕ) (e : Stop) → 0 < n → Fails e (operand (inside n) us) → Fails e (chain_with p operand at (inside n) t ts)
+    pub chain_fails : (n : ℕ) (e : Stop) → 0 < n → Fails e (operand (inside n) us) →
+        Fails e (chain_with p operand at (inside n) t ts)
     unfolding chain_with
     chain_fails n e lt h = repeat_fails test step t ts n e lt sign (step_fails (inside n) e h)

@@ -29,7 +29,8 @@ inside_next (suc n) lt = let e : suc n - 1 ≡ n = omega arith in rw e refl
 
 -- no term is read where nothing is left
 pub expr_empty : (n : ℕ) → expr_at n [] ≡ Err (Syntax [])
-unfolding inside expr_with then_with chain cmp_with unary_with app_with head_with plain_with bind choose andthen switch on when shut
+unfolding inside expr_with then_with chain cmp_with unary_with app_with head_with plain_with bind choose andthen switch on when
+    shut
 expr_empty zero = refl
 expr_empty (suc n) = refl
 

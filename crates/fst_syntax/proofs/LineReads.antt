@@ -12,7 +12,8 @@ use Rattle.fst_module_grammar.proofs.Laws.{lines_are, ok_same, err_same}
 use Rattle.fst_base.proofs.Choices.{choose_true, choose_false}
 
 -- what was read before, and what is still read
-abbrev pub with_decls : List Declared → Result (List Declared × List Lined) (HaltOf Lined) → Result (List Declared × List Lined) (HaltOf Lined)
+abbrev pub with_decls : List Declared → Result (List Declared × List Lined) (HaltOf Lined) →
+    Result (List Declared × List Lined) (HaltOf Lined)
 with_decls front (Ok x) = Ok (front ++ x.0, x.1)
 with_decls front (Err h) = Err h
 
@@ -20,7 +21,8 @@ pub with_none : (r : Result (List Declared × List Lined) (HaltOf Lined)) → wi
 with_none (Ok x) = refl
 with_none (Err h) = refl
 
-with_one : (front : List Declared) (d : Declared) (r : Result (List Declared × List Lined) (HaltOf Lined)) → with_decls front (cons_decl (Ok d) r) ≡ with_decls (front ++ d ∷ []) r
+with_one : (front : List Declared) (d : Declared) (r : Result (List Declared × List Lined) (HaltOf Lined)) →
+    with_decls front (cons_decl (Ok d) r) ≡ with_decls (front ++ d ∷ []) r
 with_one front d (Ok x) = ap (λ (ds : List Declared). Ok (ds, x.1)) (sym (append_assoc front (d ∷ []) x.0))
 with_one front d (Err h) = refl
 
@@ -34,7 +36,8 @@ enough limit (suc n) (suc m) [] a b = refl
 enough limit zero m (k ∷ ts) a b = absurd (omega (arith, a))
 enough limit (suc n) zero (k ∷ ts) a b = absurd (omega (arith, b))
 enough limit (suc n) (suc m) (k ∷ ts) a b =
-    let few : length (next_lines ts) ≤ length ts = omega (arith, ap length (lines_are ts), length-append (in_line ts) (next_lines ts)) in
+    let few : length (next_lines ts) ≤ length ts =
+    omega (arith, ap length (lines_are ts), length-append (in_line ts) (next_lines ts)) in
     let same = enough limit n m (next_lines ts) (omega (arith, a, few)) (omega (arith, b, few)) in
     ap (λ z. choose k.first (cons_decl (first_decl limit k ts) z) (Err (Syntax (k ∷ ts)))) same
 
@@ -57,47 +60,60 @@ next_is : (ts : List Lined) → next_lines ts ≡ drop (length (in_line ts)) ts
 next_is ts = sym (drop_length (in_line ts) (next_lines ts)) ∙ ap (drop (length (in_line ts))) (sym (lines_are ts))
 
 -- a declaration that was read, and the lines behind it
-pub one_line : (limit : ℕ) (ts : List Lined) (d : Declared) (n : ℕ) → line_read limit ts ≡ Ok (d, n) → (module_at limit ts ≡ cons_decl (Ok d) (module_at limit (drop n ts))) × (n ≤ length ts) × (0 < n)
+pub one_line : (limit : ℕ) (ts : List Lined) (d : Declared) (n : ℕ) → line_read limit ts ≡ Ok (d, n) →
+    (module_at limit ts ≡ cons_decl (Ok d) (module_at limit (drop n ts))) × (n ≤ length ts) × (0 < n)
 unfolding line_read module_at module_within
 one_line limit [] d n e = absurd cc
 one_line limit (k ∷ ts) d n e = by_first k.first refl e
   where
-    by_first : (b : Bool) → k.first ≡ b → choose b (counted (suc (length (in_line ts))) (first_decl limit k ts)) (Err (Syntax (k ∷ ts))) ≡ Ok (d, n) →
-        (choose k.first (cons_decl (first_decl limit k ts) (module_within limit (length ts) (next_lines ts))) (Err (Syntax (k ∷ ts))) ≡ cons_decl (Ok d) (module_at limit (drop n (k ∷ ts)))) × (n ≤ suc (length ts)) × (0 < n)
+    by_first : (b : Bool) → k.first ≡ b → choose b (counted (suc (length (in_line ts))) (first_decl limit k ts))
+        (Err (Syntax (k ∷ ts))) ≡ Ok (d, n) →
+        (choose k.first (cons_decl (first_decl limit k ts) (module_within limit (length ts) (next_lines ts)))
+        (Err (Syntax (k ∷ ts))) ≡ cons_decl (Ok d) (module_at limit (drop n (k ∷ ts)))) × (n ≤ suc (length ts)) × (0 < n)
     by_first false f g = absurd (let none = sym (choose_false _ _ _ refl) ∙ g in cc)
     by_first true f g =
         let c = counted_ok (suc (length (in_line ts))) n (first_decl limit k ts) d (sym (choose_true _ _ _ refl) ∙ g) in
         let behind : drop n (k ∷ ts) ≡ next_lines ts = ap (λ (m : ℕ). drop m (k ∷ ts)) (sym c.1) ∙ sym (next_is ts) in
-        let few : length (next_lines ts) ≤ length ts = omega (arith, ap length (lines_are ts), length-append (in_line ts) (next_lines ts)) in (
-          choose_true _ _ _ f ∙ ap (λ z. cons_decl z (module_within limit (length ts) (next_lines ts))) c.0 ∙ ap (cons_decl (Ok d)) (enough limit (length ts) (length (next_lines ts)) (next_lines ts) few (omega arith) ∙ ap (module_at limit) (sym behind)),
+        let few : length (next_lines ts) ≤ length ts =
+        omega (arith, ap length (lines_are ts), length-append (in_line ts) (next_lines ts)) in (
+          choose_true _ _ _ f ∙ ap (λ z. cons_decl z (module_within limit (length ts) (next_lines ts))) c.0
+              ∙ ap (cons_decl (Ok d)) (enough limit (length ts) (length (next_lines ts)) (next_lines ts) few (omega arith)
+              ∙ ap (module_at limit) (sym behind)),
           omega (arith, c.1, ap length (lines_are ts), length-append (in_line ts) (next_lines ts)),
           omega (arith, c.1),
         )
 
 -- a declaration that stopped
-pub stopped_line : (limit : ℕ) (ts : List Lined) (h : HaltOf Lined) → 0 < length ts → line_read limit ts ≡ Err h → module_at limit ts ≡ Err h
+pub stopped_line : (limit : ℕ) (ts : List Lined) (h : HaltOf Lined) → 0 < length ts → line_read limit ts ≡ Err h →
+    module_at limit ts ≡ Err h
 unfolding line_read module_at module_within
 stopped_line limit [] h lt e = absurd (omega (arith, lt))
 stopped_line limit (k ∷ ts) h lt e = by_first k.first refl e
   where
-    by_first : (b : Bool) → k.first ≡ b → choose b (counted (suc (length (in_line ts))) (first_decl limit k ts)) (Err (Syntax (k ∷ ts))) ≡ Err h →
-        choose k.first (cons_decl (first_decl limit k ts) (module_within limit (length ts) (next_lines ts))) (Err (Syntax (k ∷ ts))) ≡ Err h
+    by_first : (b : Bool) → k.first ≡ b → choose b (counted (suc (length (in_line ts))) (first_decl limit k ts))
+        (Err (Syntax (k ∷ ts))) ≡ Err h →
+        choose k.first (cons_decl (first_decl limit k ts) (module_within limit (length ts) (next_lines ts)))
+        (Err (Syntax (k ∷ ts))) ≡ Err h
     by_first false f g = choose_false _ _ _ f ∙ ap Err (err_same (Syntax (k ∷ ts)) h (sym (choose_false _ _ _ refl) ∙ g))
     by_first true f g =
         let c = counted_err (suc (length (in_line ts))) (first_decl limit k ts) h (sym (choose_true _ _ _ refl) ∙ g) in
         choose_true _ _ _ f ∙ ap (λ z. cons_decl z (module_within limit (length ts) (next_lines ts))) c
 
 -- in a loop: one declaration further
-pub goes_on : (limit : ℕ) (front : List Declared) (ts : List Lined) (d : Declared) (n : ℕ) (total : Result (List Declared × List Lined) (HaltOf Lined)) → line_read limit ts ≡ Ok (d, n) →
+pub goes_on : (limit : ℕ) (front : List Declared) (ts : List Lined) (d : Declared) (n : ℕ)
+    (total : Result (List Declared × List Lined) (HaltOf Lined)) → line_read limit ts ≡ Ok (d, n) →
     with_decls front (module_at limit ts) ≡ total → with_decls (front ++ d ∷ []) (module_at limit (drop n ts)) ≡ total
-goes_on limit front ts d n total e so_far = sym (with_one front d (module_at limit (drop n ts))) ∙ ap (with_decls front) (sym (one_line limit ts d n e).0) ∙ so_far
+goes_on limit front ts d n total e so_far = sym (with_one front d (module_at limit (drop n ts)))
+    ∙ ap (with_decls front) (sym (one_line limit ts d n e).0) ∙ so_far
 
-pub stops : (limit : ℕ) (front : List Declared) (ts : List Lined) (h : HaltOf Lined) (total : Result (List Declared × List Lined) (HaltOf Lined)) → 0 < length ts → line_read limit ts ≡ Err h →
+pub stops : (limit : ℕ) (front : List Declared) (ts : List Lined) (h : HaltOf Lined)
+    (total : Result (List Declared × List Lined) (HaltOf Lined)) → 0 < length ts → line_read limit ts ≡ Err h →
     with_decls front (module_at limit ts) ≡ total → total ≡ Err h
 stops limit front ts h total lt e so_far = sym so_far ∙ ap (with_decls front) (stopped_line limit ts h lt e)
 
 -- at the end of the tokens
-pub ended : (limit : ℕ) (front : List Declared) (total : Result (List Declared × List Lined) (HaltOf Lined)) → with_decls front (module_at limit []) ≡ total → total ≡ Ok (front ++ [], [])
+pub ended : (limit : ℕ) (front : List Declared) (total : Result (List Declared × List Lined) (HaltOf Lined)) →
+    with_decls front (module_at limit []) ≡ total → total ≡ Ok (front ++ [], [])
 unfolding module_at module_within
 ended limit front total so_far = sym so_far
 

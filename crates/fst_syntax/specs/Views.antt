@@ -32,7 +32,8 @@ counted n (Err h) = Err h
 -- the first declaration, and how many tokens it has
 unfoldable pub line_read : ℕ → List Lined → Result (Declared × ℕ) (HaltOf Lined)
 line_read limit [] = Err (Syntax [])
-line_read limit (k ∷ ts) = choose k.first (counted (suc (length (in_line ts))) (first_decl limit k ts)) (Err (Syntax (k ∷ ts)))
+line_read limit (k ∷ ts) = choose k.first
+    (counted (suc (length (in_line ts))) (first_decl limit k ts)) (Err (Syntax (k ∷ ts)))
 
 -- the fault of a stop, where the text ends at this byte
 abbrev pub line_fault : ℕ → HaltOf Lined → SyntaxFault
@@ -40,7 +41,8 @@ line_fault end (Syntax ts) = fault.Syntax (place end (lexemes_of ts))
 line_fault end (Deep ts) = fault.TooDeep (place end (lexemes_of ts))
 
 -- it gives the first declaration and how many tokens it has, or the fault there; want of memory says nothing
-abbrev pub GivesLine : Result (Decl × ℕ) SyntaxFault → ℕ → Result (Declared × ℕ) (HaltOf Lined) → Type 0
+abbrev pub GivesLine : Result (Decl × ℕ) SyntaxFault → ℕ → Result (Declared × ℕ) (HaltOf Lined) →
+    Type 0
 GivesLine (Ok x) end read = read ≡ Ok (decl_tree x.0, x.1)
 GivesLine (Err fault.Memory) end read = ⊤
 GivesLine (Err e) end read = (h : HaltOf Lined) × (read ≡ Err h) × (e ≡ line_fault end h)

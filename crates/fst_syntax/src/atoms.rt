@@ -20,7 +20,8 @@ pub(crate) fn arguments<'a>(
     items: &mut Vec<SourceTerm>,
     tokens: &'a [Lexeme<'a>],
 ) -> Result<&'a [Lexeme<'a>], Stop<'a>>
-    ensures { Gives (λ r. (terms_of items.new.items, r.now)) result (arguments_with (inside left) (terms_of items.old.items) tokens.now) }
+    ensures { Gives (λ r. (terms_of items.new.items, r.now)) result
+        (arguments_with (inside left) (terms_of items.old.items) tokens.now) }
 {
     if !begins_atom(tokens) {
         return Ok(tokens);
@@ -41,7 +42,8 @@ pub(crate) fn head<'a>(
     left: u32,
     tokens: &'a [Lexeme<'a>],
 ) -> Result<(SourceTerm, &'a [Lexeme<'a>]), Stop<'a>>
-    ensures { Gives (λ x. (x.0, x.1.now)) result (head_with (expr_at left) (inside left) tokens.now) }
+    ensures { Gives (λ x. (x.0, x.1.now)) result
+        (head_with (expr_at left) (inside left) tokens.now) }
 {
     match tokens {
         [] => Err(Stop::Syntax(tokens)),
@@ -65,7 +67,8 @@ fn applications<'a>(
     term: &mut SourceTerm,
     tokens: &'a [Lexeme<'a>],
 ) -> Result<&'a [Lexeme<'a>], Stop<'a>>
-    ensures { Gives (λ r. (term.new, r.now)) result (applications_with at (inside left) term.old tokens.now) }
+    ensures { Gives (λ r. (term.new, r.now)) result
+        (applications_with at (inside left) term.old tokens.now) }
 {
     if !begins_atom(tokens) {
         return Ok(tokens);
@@ -123,7 +126,8 @@ fn begun<'a>(
     first: &Lexeme<'_>,
     tokens: &'a [Lexeme<'a>],
 ) -> Result<(SourceTerm, &'a [Lexeme<'a>]), Stop<'a>>
-    ensures { Gives (λ x. (x.0, x.1.now)) result (begun_with (expr_at left) (inside left) start first.now tokens.now) }
+    ensures { Gives (λ x. (x.0, x.1.now)) result
+        (begun_with (expr_at left) (inside left) start first.now tokens.now) }
 {
     let at = first.at;
     match start {

@@ -59,7 +59,8 @@ fn more<'a>(
     term: &mut SourceTerm,
     tokens: &'a [Lexeme<'a>],
 ) -> Result<&'a [Lexeme<'a>], Stop<'a>>
-    ensures { Gives (λ r. (term.new, r.now)) result (chain_with (operator_of level) (operand_with level) at (inside left) term.old tokens.now) }
+    ensures { Gives (λ r. (term.new, r.now)) result
+        (chain_with (operator_of level) (operand_with level) at (inside left) term.old tokens.now) }
 {
     match chained_by(level, tokens) {
         None => Ok(tokens),
@@ -107,7 +108,8 @@ fn boxed_sum<'a>(
     left: u32,
     tokens: &'a [Lexeme<'a>],
 ) -> Result<(Box<SourceTerm>, &'a [Lexeme<'a>]), Stop<'a>>
-    ensures { Gives (λ x. (x.0.value, x.1.now)) result (level_with Level.Sum (inside left) tokens.now) }
+    ensures { Gives (λ x. (x.0.value, x.1.now)) result
+        (level_with Level.Sum (inside left) tokens.now) }
 {
     let (term, rest) = chain(alloc, Level::Sum, left, tokens)?;
     Ok((Box::new(alloc, term)?, rest))
@@ -152,7 +154,8 @@ fn app<'a>(
     first: &Lexeme<'_>,
     tokens: &'a [Lexeme<'a>],
 ) -> Result<(SourceTerm, &'a [Lexeme<'a>]), Stop<'a>>
-    ensures { Gives (λ x. (x.0, x.1.now)) result (app_begun_with (inside left) start first.now tokens.now) }
+    ensures { Gives (λ x. (x.0, x.1.now)) result
+        (app_begun_with (inside left) start first.now tokens.now) }
 {
     let at = first.at;
     match start {

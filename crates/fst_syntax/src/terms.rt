@@ -62,7 +62,8 @@ fn then<'a>(
     tokens: &'a [Lexeme<'a>],
 ) -> Result<(SourceTerm, &'a [Lexeme<'a>]), Stop<'a>>
     requires { 0 < left }
-    ensures { Gives (λ x. (x.0, x.1.now)) result (then_with (expr_at (left - 1)) (inside (left - 1)) tokens.now) }
+    ensures { Gives (λ x. (x.0, x.1.now)) result
+        (then_with (expr_at (left - 1)) (inside (left - 1)) tokens.now) }
 {
     let at = start(tokens);
     let (term, rest) = chain(alloc, Level::Or, left, tokens)?;
@@ -133,7 +134,8 @@ fn lambda<'a>(
     at: u32,
     tokens: &'a [Lexeme<'a>],
 ) -> Result<(SourceTerm, &'a [Lexeme<'a>]), Stop<'a>>
-    ensures { Gives (λ x. (x.0, x.1.now)) result (lambda_with (expr_at left) (length (inside left)) at tokens.now) }
+    ensures { Gives (λ x. (x.0, x.1.now)) result
+        (lambda_with (expr_at left) (length (inside left)) at tokens.now) }
 {
     let ((name, domain, uses), rest) = parameter(alloc, left, tokens)?;
     let (body, rest) = boxed(alloc, left, rest)?;
@@ -169,7 +171,8 @@ fn arms<'a>(
     kind: Arms,
     tokens: &'a [Lexeme<'a>],
 ) -> Result<(Vec<SourceArm>, &'a [Lexeme<'a>]), Stop<'a>>
-    ensures { Gives (λ x. (map arm_parts x.0.items, x.1.now)) result (sep_by (spells (codes ",")) (arm_by (expr_at left) kind) tokens.now) }
+    ensures { Gives (λ x. (map arm_parts x.0.items, x.1.now)) result
+        (sep_by (spells (codes ",")) (arm_by (expr_at left) kind) tokens.now) }
 {
     let mut arms = Vec::new(alloc);
     let mut rest = tokens;

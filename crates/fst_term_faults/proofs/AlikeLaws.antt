@@ -23,8 +23,10 @@ or_alike : (l o p : Option ℕ) → is_there o ≡ is_there p → is_there (or_e
 or_alike (Some a) o p e = refl
 or_alike None o p e = e
 
-name_alike : (xs gs hs : List (List ℕ)) (at : ℕ) (x : List ℕ) (ws : List WrittenTree) → is_among gs x ≡ is_among hs x → name_faults xs gs at x ws ≡ name_faults xs hs at x ws
-name_alike xs gs hs at x [] e = unless_alike at x (or_else (place_of xs x) (place_of gs x)) (or_else (place_of xs x) (place_of hs x)) (or_alike (place_of xs x) (place_of gs x) (place_of hs x) e)
+name_alike : (xs gs hs : List (List ℕ)) (at : ℕ) (x : List ℕ) (ws : List WrittenTree) → is_among gs x ≡ is_among hs x →
+    name_faults xs gs at x ws ≡ name_faults xs hs at x ws
+name_alike xs gs hs at x [] e = unless_alike at x (or_else (place_of xs x) (place_of gs x))
+    (or_else (place_of xs x) (place_of hs x)) (or_alike (place_of xs x) (place_of gs x) (place_of hs x) e)
 name_alike xs gs hs at x (w ∷ ws) e = unless_alike at x (place_of gs x) (place_of hs x) e
 
 module _ (s t : Surroundings) (alike : AreAlike s t) where
@@ -67,7 +69,8 @@ module _ (s t : Surroundings) (alike : AreAlike s t) where
 
     same_cases_faults : (xs : List (List ℕ)) (bs : TermArms) → cases_faults s xs bs ≡ cases_faults t xs bs
     same_cases_faults xs no_arms = refl
-    same_cases_faults xs (arm l ys u bs) = λ i. maker_alike l.at l.name (length ys) i ++ (same_term_faults (within ys xs) u i ++ same_cases_faults xs bs i)
+    same_cases_faults xs (arm l ys u bs) = λ i. maker_alike l.at l.name
+        (length ys) i ++ (same_term_faults (within ys xs) u i ++ same_cases_faults xs bs i)
 
     same_matches_faults : (xs : List (List ℕ)) (bs : TermArms) → matches_faults s xs bs ≡ matches_faults t xs bs
     same_matches_faults xs no_arms = refl

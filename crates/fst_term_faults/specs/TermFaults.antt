@@ -23,8 +23,10 @@ types_faults s [] = []
 types_faults s (t ∷ ts) = type_faults s t ++ types_faults s ts
 
 -- a name in a term is that of a variable around it, innermost first, or of a global; before `@` it is that of a global
-abbrev pub name_faults : List (List ℕ) → List (List ℕ) → ℕ → List ℕ → List WrittenTree → List NameFault
-name_faults locals globals at x [] = unless_there at x (or_else (place_of locals x) (place_of globals x))
+abbrev pub name_faults : List (List ℕ) → List (List ℕ) → ℕ → List ℕ → List WrittenTree →
+    List NameFault
+name_faults locals globals at x [] =
+    unless_there at x (or_else (place_of locals x) (place_of globals x))
 name_faults locals globals at x (t ∷ ts) = unless_there at x (place_of globals x)
 
 -- a constructor, or its pattern, has as many parts as the constructor has fields
@@ -50,12 +52,14 @@ abbrev mutual
   term_faults s xs (char at c) = []
   term_faults s xs (unit at) = []
   term_faults s xs (pair at t u) = term_faults s xs t ++ term_faults s xs u
-  term_faults s xs (make at x ts) = maker_faults at x (terms_length ts) (s.makers x) ++ terms_faults s xs ts
+  term_faults s xs (make at x ts) = maker_faults at x (terms_length ts)
+      (s.makers x) ++ terms_faults s xs ts
   term_faults s xs (lambda at u a x t) = type_faults s.types a ++ term_faults s (x.name ∷ xs) t
   term_faults s xs (apply at t u) = term_faults s xs t ++ term_faults s xs u
   term_faults s xs (let_in at x t u) = term_faults s xs t ++ term_faults s (x.name ∷ xs) u
   term_faults s xs (split at x y t u) = term_faults s xs t ++ term_faults s (y.name ∷ x.name ∷ xs) u
-  term_faults s xs (if_else at t u v) = term_faults s xs t ++ (term_faults s xs u ++ term_faults s xs v)
+  term_faults s xs (if_else at t u v) =
+      term_faults s xs t ++ (term_faults s xs u ++ term_faults s xs v)
   term_faults s xs (case_of at t bs) = term_faults s xs t ++ cases_faults s xs bs
   term_faults s xs (operate at o t u) = term_faults s xs t ++ term_faults s xs u
   term_faults s xs (negate at t) = term_faults s xs t
@@ -75,7 +79,9 @@ abbrev mutual
   -- those of the arms of a `case`
   pub cases_faults : Surroundings → List (List ℕ) → TermArms → List NameFault
   cases_faults s xs no_arms = []
-  cases_faults s xs (arm l bs t arms) = maker_faults l.at l.name (length bs) (s.makers l.name) ++ (term_faults s (within bs xs) t ++ cases_faults s xs arms)
+  cases_faults s xs (arm l bs t arms) =
+      maker_faults l.at l.name (length bs)
+      (s.makers l.name) ++ (term_faults s (within bs xs) t ++ cases_faults s xs arms)
 
   -- those of the arms of a `match`, whose labels are no names
   pub matches_faults : Surroundings → List (List ℕ) → TermArms → List NameFault

@@ -13,18 +13,24 @@ both_ok (Ok x) p q f = f p q
 both_ok (Err e) p q f = tt
 
 -- so many types are put behind others
-pub are_added : (s : Surroundings) (us : List TypeUse) (old new : TypeList) → map Some new.types.items ≡ map Some old.types.items ++ map (tree_of s) us → new.places.items ≡ old.places.items ++ map begins_at us → AreAdded s us old new
+pub are_added : (s : Surroundings) (us : List TypeUse) (old new : TypeList) →
+    map Some new.types.items ≡ map Some old.types.items ++ map (tree_of s) us →
+    new.places.items ≡ old.places.items ++ map begins_at us → AreAdded s us old new
 are_added s us old new types places = record {
   types = types;
   places = places;
-  count = sym (length-map new.types.items Some) ∙ ap length types ∙ length-append (map Some old.types.items) (map (tree_of s) us) ∙
+  count = sym (length-map new.types.items Some) ∙ ap length types ∙ length-append (map Some old.types.items) (map (tree_of s) us)
+      ∙
       (λ i. length-map old.types.items Some i + length-map us (tree_of s) i);
 }
 
 -- the types of one part, and then those of another one
-pub both_added : (s : Surroundings) (us vs : List TypeUse) (old mid new : TypeList) → AreAdded s us old mid → AreAdded s vs mid new → AreAdded s (us ++ vs) old new
+pub both_added : (s : Surroundings) (us vs : List TypeUse) (old mid new : TypeList) → AreAdded s us old mid →
+    AreAdded s vs mid new → AreAdded s (us ++ vs) old new
 both_added s us vs old mid new one two = are_added s (us ++ vs) old new
-    (two.types ∙ ap (λ ts. ts ++ map (tree_of s) vs) one.types ∙ append_assoc (map Some old.types.items) (map (tree_of s) us) (map (tree_of s) vs) ∙
+    (two.types ∙ ap (λ ts. ts ++ map (tree_of s) vs) one.types
+    ∙ append_assoc (map Some old.types.items) (map (tree_of s) us) (map (tree_of s) vs) ∙
     ap (λ ts. map Some old.types.items ++ ts) (sym (map-append (tree_of s) us vs)))
-    (two.places ∙ ap (λ ps. ps ++ map begins_at vs) one.places ∙ append_assoc old.places.items (map begins_at us) (map begins_at vs) ∙
+    (two.places ∙ ap (λ ps. ps ++ map begins_at vs) one.places
+    ∙ append_assoc old.places.items (map begins_at us) (map begins_at vs) ∙
     ap (λ ps. old.places.items ++ ps) (sym (map-append begins_at us vs)))

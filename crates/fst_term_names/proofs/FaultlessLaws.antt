@@ -8,7 +8,8 @@ use Rattle.fst_scopes.proofs.Laws.{none_named}
 use Rattle.fst_term_faults.specs.TermFaults.{types_faults}
 
 -- of some things without faults each has none
-pub all_none : {A : Type 0} (faults : A → List NameFault) (all : List A → List NameFault) → ((x : A) (xs : List A) → all (x ∷ xs) ≡ faults x ++ all xs) →
+pub all_none : {A : Type 0} (faults : A → List NameFault) (all : List A → List NameFault) →
+    ((x : A) (xs : List A) → all (x ∷ xs) ≡ faults x ++ all xs) →
     (xs : List A) (i : ℕ) (d : A) → all xs ≡ [] → i < length xs → faults (get_or xs i d) ≡ []
 all_none faults all split [] i d none low = absurd (omega arith)
 all_none faults all split (x ∷ xs) zero d none low = (none_named (faults x) (all xs) (sym (split x xs) ∙ none)).0
@@ -17,5 +18,6 @@ all_none faults all split (x ∷ xs) (suc i) d none low =
     all_none faults all split xs i d ((none_named (faults x) (all xs) (sym (split x xs) ∙ none)).1) low'
 
 -- of some types
-pub type_none : (s : Scope) (ws : List WrittenTree) (i : ℕ) (w : WrittenTree) → types_faults s ws ≡ [] → i < length ws → w ≡ get_or ws i w → type_faults s w ≡ []
+pub type_none : (s : Scope) (ws : List WrittenTree) (i : ℕ) (w : WrittenTree) → types_faults s ws ≡ [] → i < length ws →
+    w ≡ get_or ws i w → type_faults s w ≡ []
 type_none s ws i w none low is = ap (type_faults s) is ∙ all_none (type_faults s) (types_faults s) (λ x xs. refl) ws i w none low

@@ -25,7 +25,8 @@ scope_is m vars = ap (λ (ts : List (Option Tree)). scope_around (names.Outermos
 pub trees_counted : (m : Meanings) → length m.trees.now ≡ length m.around.now.types.now.names
 trees_counted m =
     let a = m.around.now in
-    ap (λ (ts : List (Option Tree)). length ts) m.trees_are ∙ trees_long a.types.now a.aliases.now.looped.items a.aliases.now.order.items
+    ap (λ (ts : List (Option Tree)). length ts) m.trees_are
+    ∙ trees_long a.types.now a.aliases.now.looped.items a.aliases.now.order.items
 
 -- a type that stands for something and is no higher than types may be
 pub record IsSound (s : Scope) (w : WrittenTree) : Type 0 where
@@ -33,8 +34,13 @@ pub record IsSound (s : Scope) (w : WrittenTree) : Type 0 where
   pub depth : 0 + height w < 2 ^ 32
 
 -- as each without faults does
-pub type_sound : (m : Meanings) (vars : Bor (List (List ℕ))) (w : WrittenTree) → type_faults (scope_of m.around.now vars.now) w ≡ [] → IsSound (looked_in m vars) w
+pub type_sound : (m : Meanings) (vars : Bor (List (List ℕ))) (w : WrittenTree) →
+    type_faults (scope_of m.around.now vars.now) w ≡ [] → IsSound (looked_in m vars) w
 type_sound m vars w none =
     let s = scope_of m.around.now vars.now in
     let low = type_low s m.there w none in
-    record { known = subst (λ t. IsSome (type_of t w)) (sym (scope_is m vars)) (type_known s m.there w); depth = omega (arith, low) }
+    record {
+      known = subst (λ t. IsSome (type_of t w)) (sym (scope_is m vars)) (type_known s m.there w);
+      depth =
+          omega (arith, low);
+    }

@@ -19,7 +19,8 @@ module _ (s : Scope) (all : (x : List ℕ) → IsSome (unwrap_or (s.declared x) 
     where
       low : (o : Option Tree) → type_of s w ≡ o → IsSome o → height w < 2 ^ 32
       low (Some t) is h =
-          let small = no_larger (place w) t (ap (too_large (place w)) (sym is) ∙ (none_named (unbound s w) (too_large (place w) (type_of s w)) e).1) in
+          let small = no_larger (place w) t (ap (too_large (place w)) (sym is)
+          ∙ (none_named (unbound s w) (too_large (place w) (type_of s w)) e).1) in
           let high = no_higher s w t is in
           omega (arith, small, high)
       low None is h = absurd (cc h)

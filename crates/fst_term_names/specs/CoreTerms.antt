@@ -42,31 +42,46 @@ abbrev mutual
   core_term s xs n (bool at b) = core.bool at b
   core_term s xs n (char at c) = core.char at c
   core_term s xs n (unit at) = core.unit at
-  core_term s xs n (pair at t u) = core.pair at (core_term s xs n t) (core_term s xs (n + length (written_in t)) u)
+  core_term s xs n (pair at t u) = core.pair at (core_term s xs n t)
+      (core_term s xs (n + length (written_in t)) u)
   core_term s xs n (make at x ts) = maker_term at (core_terms s xs n ts) (s.makers x)
   core_term s xs n (lambda at u a x t) = core.lambda at u n x (core_term s (x.name ∷ xs) (suc n) t)
-  core_term s xs n (apply at t u) = core.apply at (core_term s xs n t) (core_term s xs (n + length (written_in t)) u)
-  core_term s xs n (let_in at x t u) = core.let_in at x (core_term s xs n t) (core_term s (x.name ∷ xs) (n + length (written_in t)) u)
-  core_term s xs n (split at x y t u) = core.split at x y (core_term s xs n t) (core_term s (y.name ∷ x.name ∷ xs) (n + length (written_in t)) u)
+  core_term s xs n (apply at t u) = core.apply at (core_term s xs n t)
+      (core_term s xs (n + length (written_in t)) u)
+  core_term s xs n (let_in at x t u) =
+      core.let_in at x (core_term s xs n t)
+      (core_term s (x.name ∷ xs) (n + length (written_in t)) u)
+  core_term s xs n (split at x y t u) =
+      core.split at x y (core_term s xs n t)
+      (core_term s (y.name ∷ x.name ∷ xs) (n + length (written_in t)) u)
   core_term s xs n (if_else at t u v) =
-      core.if_else at (core_term s xs n t) (core_term s xs (n + length (written_in t)) u) (core_term s xs (n + length (written_in t) + length (written_in u)) v)
-  core_term s xs n (case_of at t bs) = core.case_of at (core_term s xs n t) (core_arms s xs (n + length (written_in t)) bs)
-  core_term s xs n (operate at o t u) = core.operate at o (core_term s xs n t) (core_term s xs (n + length (written_in t)) u)
+      core.if_else at (core_term s xs n t) (core_term s xs (n + length (written_in t)) u)
+      (core_term s xs (n + length (written_in t) + length (written_in u)) v)
+  core_term s xs n (case_of at t bs) =
+      core.case_of at (core_term s xs n t) (core_arms s xs (n + length (written_in t)) bs)
+  core_term s xs n (operate at o t u) =
+      core.operate at o (core_term s xs n t) (core_term s xs (n + length (written_in t)) u)
   core_term s xs n (negate at t) = core.negate at (core_term s xs n t)
   core_term s xs n (new at a) = core.new at n
-  core_term s xs n (send at t u) = core.send at (core_term s xs n t) (core_term s xs (n + length (written_in t)) u)
+  core_term s xs n (send at t u) = core.send at (core_term s xs n t)
+      (core_term s xs (n + length (written_in t)) u)
   core_term s xs n (receive at t) = core.receive at (core_term s xs n t)
   core_term s xs n (select at l t) = core.select at l (core_term s xs n t)
-  core_term s xs n (match_with at t bs) = core.match_with at (core_term s xs n t) (core_arms s xs (n + length (written_in t)) bs)
+  core_term s xs n (match_with at t bs) =
+      core.match_with at (core_term s xs n t) (core_arms s xs (n + length (written_in t)) bs)
   core_term s xs n (fork at t) = core.fork at (core_term s xs n t)
-  core_term s xs n (seq at t u) = core.seq at (core_term s xs n t) (core_term s xs (n + length (written_in t)) u)
+  core_term s xs n (seq at t u) = core.seq at (core_term s xs n t)
+      (core_term s xs (n + length (written_in t)) u)
 
   -- some terms
   pub core_terms : Numbers → List (List ℕ) → ℕ → TermList → CoreList
   core_terms s xs n no_terms = core.no_terms
-  core_terms s xs n (term t ts) = core.term (core_term s xs n t) (core_terms s xs (n + length (written_in t)) ts)
+  core_terms s xs n (term t ts) = core.term (core_term s xs n t)
+      (core_terms s xs (n + length (written_in t)) ts)
 
   -- some arms
   pub core_arms : Numbers → List (List ℕ) → ℕ → TermArms → CoreArms
   core_arms s xs n no_arms = core.no_arms
-  core_arms s xs n (arm l bs t arms) = core.arm l.name bs (core_term s (within bs xs) n t) (core_arms s xs (n + length (written_in t)) arms)
+  core_arms s xs n (arm l bs t arms) =
+      core.arm l.name bs (core_term s (within bs xs) n t)
+      (core_arms s xs (n + length (written_in t)) arms)

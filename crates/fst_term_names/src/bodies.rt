@@ -20,7 +20,8 @@ pub fn core_body(
     meanings: &Meanings<'_>,
     types: &mut TypeList,
 ) -> Result<Term, AllocError>
-    requires faultless { term_faults (scope_in meanings.now) (within parameters.now []) body.now ≡ [] }
+    requires faultless { term_faults (scope_in meanings.now)
+        (within parameters.now []) body.now ≡ [] }
     ensures term { IfOk result (λ t. t ≡ core_term (numbers_in meanings.now)
         (within parameters.now []) (length types.old.types.items) body.now) }
     ensures types { OnOk result (map Some types.new.types.items ≡ map Some types.old.types.items ++

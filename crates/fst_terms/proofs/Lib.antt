@@ -2,4 +2,4 @@ pub mod TermDrops
 pub mod CoreDrops
 pub mod SourceAround
 pub mod Around
-pub mod Heights
+pub mod Laws

@@ -16,7 +16,8 @@ pub all_three : {A B C : Type 0} → IsProp A → IsProp B → IsProp C → IsPr
 all_three p q r x y i = (p x.0 y.0 i, q x.1 y.1 i, r x.2 y.2 i)
 
 -- and four
-pub all_four : {A B C D : Type 0} → IsProp A → IsProp B → IsProp C → IsProp D → IsProp (A × B × C × D)
+pub all_four : {A B C D : Type 0} → IsProp A → IsProp B → IsProp C → IsProp D →
+    IsProp (A × B × C × D)
 all_four p q r s x y i = (p x.0 y.0 i, q x.1 y.1 i, r x.2 y.2 i, s x.3 y.3 i)
 
 always : IsProp (Unit {0})

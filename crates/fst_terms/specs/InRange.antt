@@ -64,7 +64,8 @@ abbrev mutual
   IsInRange b n (char at c) = ⊤
   IsInRange b n (unit at) = ⊤
   IsInRange b n (pair at s t) = IsInRange b n s × IsInRange b n t
-  IsInRange b n (make at f k ts) = HasFields (maker_of (slice_get b.families f) k) (terms_length ts) × AreInRange b n ts
+  IsInRange b n (make at f k ts) = HasFields (maker_of (slice_get b.families f) k)
+      (terms_length ts) × AreInRange b n ts
   IsInRange b n (lambda at u a x t) = (a < b.types) × IsInRange b (suc n) t
   IsInRange b n (apply at s t) = IsInRange b n s × IsInRange b n t
   IsInRange b n (let_in at x s t) = IsInRange b n s × IsInRange b (suc n) t
@@ -89,12 +90,14 @@ abbrev mutual
   -- so it is in the term of each arm of a `case`, which binds as many variables as its constructor has fields
   pub AreCasesInRange : Bounds → ℕ → CoreArms → Type 0
   AreCasesInRange b n no_arms = ⊤
-  AreCasesInRange b n (arm l xs t bs) = HasFields (maker_named l (makers b.families)) (length xs) × IsInRange b (length xs + n) t × AreCasesInRange b n bs
+  AreCasesInRange b n (arm l xs t bs) = HasFields (maker_named l (makers b.families)) (length xs) ×
+      IsInRange b (length xs + n) t × AreCasesInRange b n bs
 
   -- so it is in the term of each arm of a `match`, which binds one variable
   pub AreMatchesInRange : Bounds → ℕ → CoreArms → Type 0
   AreMatchesInRange b n no_arms = ⊤
-  AreMatchesInRange b n (arm l xs t bs) = (length xs ≡ 1) × IsInRange b (suc n) t × AreMatchesInRange b n bs
+  AreMatchesInRange b n (arm l xs t bs) =
+      (length xs ≡ 1) × IsInRange b (suc n) t × AreMatchesInRange b n bs
 
 -- the fields of constructors are types that are there
 abbrev pub HaveFieldsInRange : ℕ → List Maker → Type 0
@@ -104,7 +107,8 @@ HaveFieldsInRange n (m ∷ ms) = AreNumbersBelow n m.fields.items × HaveFieldsI
 -- each data type has a constructor, whose fields are types that are there
 abbrev pub AreFamilies : ℕ → List Family → Type 0
 AreFamilies n [] = ⊤
-AreFamilies n (f ∷ fs) = (0 < length f.makers.items) × HaveFieldsInRange n f.makers.items × AreFamilies n fs
+AreFamilies n (f ∷ fs) = (0 < length f.makers.items) × HaveFieldsInRange n f.makers.items ×
+    AreFamilies n fs
 
 -- the types of globals are there, and their terms are in range
 abbrev pub AreGlobals : Bounds → List GlobalEntry → Type 0
@@ -120,13 +124,16 @@ AreTypes n (t ∷ ts) = IsScoped 0 t × IsNamedWithin n t × EachChoice AreSorte
 -- the parts of a module fit together: each number is that of a part, each type has a place, constructors have different names,
 -- and just one global is named main; and a type has only the variables of the global that it stands in, and none where it
 -- stands in a field, in an alias or under `new`
-pub record IsModule (families : List Family) (globals : List GlobalEntry) (types : List Tree) (places : List ℕ) : Type 0 where
+pub record IsModule (families : List Family) (globals : List GlobalEntry) (types : List Tree)
+    (places : List ℕ) : Type 0 where
   pub family_parts : AreFamilies (length types) families
-  pub global_parts : AreGlobals (record { families = families; globals = length globals; types = length types }) globals
+  pub global_parts : AreGlobals (record
+      { families = families; globals = length globals; types = length types }) globals
   pub type_parts : AreTypes (length families) types
   pub places_there : length places ≡ length types
   pub makers_differ : IsDistinct bytes_eq (map (λ m. m.name) (makers families))
   pub one_main : count_by (λ g. bytes_eq g.name (codes "main")) globals ≡ 1
   pub field_variables : AreTypesOver types 0 (field_numbers (makers families))
   pub global_variables : AreGlobalsOver types globals
-  pub other_variables : AreOthersClosed (field_numbers (makers families) ++ global_numbers globals) types
+  pub other_variables : AreOthersClosed
+      (field_numbers (makers families) ++ global_numbers globals) types

@@ -53,7 +53,8 @@ module _ (b : Bounds) where
     range_prop n (send at s t) = both (range_prop n s) (range_prop n t)
     range_prop n (receive at t) = range_prop n t
     range_prop n (select at l t) = range_prop n t
-    range_prop n (match_with at t bs) = all_three (core_arm_prop bs) (range_prop n t) (matches_prop n bs)
+    range_prop n (match_with at t bs) =
+        all_three (core_arm_prop bs) (range_prop n t) (matches_prop n bs)
     range_prop n (fork at t) = range_prop n t
     range_prop n (seq at s t) = both (range_prop n s) (range_prop n t)
 
@@ -63,11 +64,13 @@ module _ (b : Bounds) where
 
     cases_prop : (n : ℕ) (bs : CoreArms) → IsProp (AreCasesInRange b n bs)
     cases_prop n no_arms = always
-    cases_prop n (arm l xs t bs) = all_three (fields_prop _ _) (range_prop (length xs + n) t) (cases_prop n bs)
+    cases_prop n (arm l xs t bs) = all_three (fields_prop _ _) (range_prop (length xs + n) t)
+        (cases_prop n bs)
 
     matches_prop : (n : ℕ) (bs : CoreArms) → IsProp (AreMatchesInRange b n bs)
     matches_prop n no_arms = always
-    matches_prop n (arm l xs t bs) = all_three (ℕ_set (length xs) 1) (range_prop (suc n) t) (matches_prop n bs)
+    matches_prop n (arm l xs t bs) = all_three (ℕ_set (length xs) 1) (range_prop (suc n) t)
+        (matches_prop n bs)
 
   globals_prop : (gs : List GlobalEntry) → IsProp (AreGlobals b gs)
   globals_prop [] = always
@@ -79,12 +82,14 @@ have_fields_prop n (m ∷ ms) = both (numbers_prop n m.fields.items) (have_field
 
 families_prop : (n : ℕ) (fs : List Family) → IsProp (AreFamilies n fs)
 families_prop n [] = always
-families_prop n (f ∷ fs) = all_three le_prop (have_fields_prop n f.makers.items) (families_prop n fs)
+families_prop n (f ∷ fs) = all_three le_prop (have_fields_prop n f.makers.items)
+    (families_prop n fs)
 
 sorted_prop : (bs : Branches) → IsProp (AreSorted bs)
 sorted_prop none = never
 sorted_prop (branch l t none) = always
-sorted_prop (branch l t (branch m u bs)) = both (λ x y i e. never (x e) (y e) i) (sorted_prop (branch m u bs))
+sorted_prop (branch l t (branch m u bs)) = both
+    (λ x y i e. never (x e) (y e) i) (sorted_prop (branch m u bs))
 
 mutual
   scoped_prop : (n : ℕ) (t : Tree) → IsProp (IsScoped n t)
@@ -148,17 +153,25 @@ mutual
 
 types_prop : (n : ℕ) (ts : List Tree) → IsProp (AreTypes n ts)
 types_prop n [] = always
-types_prop n (t ∷ ts) = all_four (scoped_prop 0 t) (named_prop n t) (choice_prop t) (types_prop n ts)
+types_prop n (t ∷ ts) = all_four (scoped_prop 0 t) (named_prop n t) (choice_prop t)
+    (types_prop n ts)
 
-pub is_module_prop : (families : List Family) (globals : List GlobalEntry) (types : List Tree) (places : List ℕ) → IsProp (IsModule families globals types places)
+pub is_module_prop : (families : List Family) (globals : List GlobalEntry) (types : List Tree)
+    (places : List ℕ) → IsProp (IsModule families globals types places)
 is_module_prop families globals types places x y i = record {
   family_parts = families_prop (length types) families x.family_parts y.family_parts i;
-  global_parts = globals_prop (record { families = families; globals = length globals; types = length types }) globals x.global_parts y.global_parts i;
+  global_parts = globals_prop (record
+      { families = families; globals = length globals; types = length types }) globals
+      x.global_parts y.global_parts i;
   type_parts = types_prop (length families) types x.type_parts y.type_parts i;
   places_there = ℕ_set (length places) (length types) x.places_there y.places_there i;
-  makers_differ = IsDistinct-prop bytes_eq (map (λ m. m.name) (makers families)) x.makers_differ y.makers_differ i;
+  makers_differ = IsDistinct-prop bytes_eq
+      (map (λ m. m.name) (makers families)) x.makers_differ y.makers_differ i;
   one_main = ℕ_set _ 1 x.one_main y.one_main i;
-  field_variables = types_over_prop types 0 (field_numbers (makers families)) x.field_variables y.field_variables i;
+  field_variables = types_over_prop types 0
+      (field_numbers (makers families)) x.field_variables y.field_variables i;
   global_variables = globals_over_prop types globals x.global_variables y.global_variables i;
-  other_variables = others_closed_prop (field_numbers (makers families) ++ global_numbers globals) types x.other_variables y.other_variables i;
+  other_variables = others_closed_prop
+      (field_numbers (makers families) ++ global_numbers globals) types x.other_variables
+      y.other_variables i;
 }

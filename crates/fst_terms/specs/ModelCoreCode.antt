@@ -26,7 +26,8 @@ abbrev mutual
   code_of (lambda at Once a x t) = node 8 at (binder_code x) (gnum a) (code_of t) gnil gnil
   code_of (apply at s t) = node 9 at gnil gnil (code_of s) (code_of t) gnil
   code_of (let_in at x s t) = node 10 at (binder_code x) gnil (code_of s) (code_of t) gnil
-  code_of (split at x y s t) = node 11 at (binder_code x) (binder_code y) (code_of s) (code_of t) gnil
+  code_of (split at x y s t) = node 11 at (binder_code x) (binder_code y) (code_of s)
+      (code_of t) gnil
   code_of (if_else at s t u) = node 12 at gnil gnil (code_of s) (code_of t) (code_of u)
   code_of (case_of at t bs) = node 13 at gnil gnil (code_of t) (code_of_arms bs) gnil
   code_of (operate at o s t) = node 14 at (op_code o) gnil (code_of s) (code_of t) gnil
@@ -47,10 +48,12 @@ abbrev mutual
   -- the code of arms
   pub code_of_arms : CoreArms → Gv
   code_of_arms no_arms = gnil
-  code_of_arms (arm l xs t bs) = gcons (name_code l) (gcons (list_code binder_code xs) (gcons (code_of t) (code_of_arms bs)))
+  code_of_arms (arm l xs t bs) = gcons (name_code l)
+      (gcons (list_code binder_code xs) (gcons (code_of t) (code_of_arms bs)))
 
 -- the node of a number, from its parts and what its terms are read as
-abbrev pub node_at : ℕ → ℕ → Gv → Gv → CoreList → CoreArms → CoreTree → CoreTree → CoreTree → CoreTree
+abbrev pub node_at : ℕ → ℕ → Gv → Gv → CoreList → CoreArms → CoreTree → CoreTree → CoreTree →
+    CoreTree
 node_at tag at x y ts bs s t u =
     if tag == 0 then local at (num x) else
     if tag == 23 then global at (num x) (name_at y) else
@@ -92,7 +95,8 @@ abbrev mutual
 
   -- the arms of a code
   pub arms_at : Gv → CoreArms
-  arms_at (gcons l (gcons xs (gcons t bs))) = arm (name_at l) (list_at binder_at xs) (tree_at t) (arms_at bs)
+  arms_at (gcons l (gcons xs (gcons t bs))) =
+      arm (name_at l) (list_at binder_at xs) (tree_at t) (arms_at bs)
   arms_at _ = no_arms
 
 mutual
@@ -106,23 +110,29 @@ mutual
   tree_at-code_of (unit at) = refl
   tree_at-code_of (pair at s t) = λ i. pair at (tree_at-code_of s i) (tree_at-code_of t i)
   tree_at-code_of (make at f k ts) = ap (make at f k) (terms_at-code_of_terms ts)
-  tree_at-code_of (lambda at Many a x t) = λ i. lambda at Many a (binder_at-binder_code x i) (tree_at-code_of t i)
-  tree_at-code_of (lambda at Once a x t) = λ i. lambda at Once a (binder_at-binder_code x i) (tree_at-code_of t i)
+  tree_at-code_of (lambda at Many a x t) =
+      λ i. lambda at Many a (binder_at-binder_code x i) (tree_at-code_of t i)
+  tree_at-code_of (lambda at Once a x t) =
+      λ i. lambda at Once a (binder_at-binder_code x i) (tree_at-code_of t i)
   tree_at-code_of (apply at s t) = λ i. apply at (tree_at-code_of s i) (tree_at-code_of t i)
   tree_at-code_of (let_in at x s t) =
       λ i. let_in at (binder_at-binder_code x i) (tree_at-code_of s i) (tree_at-code_of t i)
   tree_at-code_of (split at x y s t) =
-      λ i. split at (binder_at-binder_code x i) (binder_at-binder_code y i) (tree_at-code_of s i) (tree_at-code_of t i)
+      λ i. split at (binder_at-binder_code x i) (binder_at-binder_code y i) (tree_at-code_of s i)
+      (tree_at-code_of t i)
   tree_at-code_of (if_else at s t u) =
       λ i. if_else at (tree_at-code_of s i) (tree_at-code_of t i) (tree_at-code_of u i)
-  tree_at-code_of (case_of at t bs) = λ i. case_of at (tree_at-code_of t i) (arms_at-code_of_arms bs i)
-  tree_at-code_of (operate at o s t) = λ i. operate at (op_at-op_code o i) (tree_at-code_of s i) (tree_at-code_of t i)
+  tree_at-code_of (case_of at t bs) =
+      λ i. case_of at (tree_at-code_of t i) (arms_at-code_of_arms bs i)
+  tree_at-code_of (operate at o s t) =
+      λ i. operate at (op_at-op_code o i) (tree_at-code_of s i) (tree_at-code_of t i)
   tree_at-code_of (negate at t) = ap (negate at) (tree_at-code_of t)
   tree_at-code_of (new at a) = refl
   tree_at-code_of (send at s t) = λ i. send at (tree_at-code_of s i) (tree_at-code_of t i)
   tree_at-code_of (receive at t) = ap (receive at) (tree_at-code_of t)
   tree_at-code_of (select at l t) = λ i. select at (name_at-name_code l i) (tree_at-code_of t i)
-  tree_at-code_of (match_with at t bs) = λ i. match_with at (tree_at-code_of t i) (arms_at-code_of_arms bs i)
+  tree_at-code_of (match_with at t bs) =
+      λ i. match_with at (tree_at-code_of t i) (arms_at-code_of_arms bs i)
   tree_at-code_of (fork at t) = ap (fork at) (tree_at-code_of t)
   tree_at-code_of (seq at s t) = λ i. seq at (tree_at-code_of s i) (tree_at-code_of t i)
 
@@ -135,8 +145,13 @@ mutual
   pub arms_at-code_of_arms : (bs : CoreArms) → arms_at (code_of_arms bs) ≡ bs
   arms_at-code_of_arms no_arms = refl
   arms_at-code_of_arms (arm l xs t bs) =
-      λ i. arm (name_at-name_code l i) (list_at-list_code binder_code binder_at binder_at-binder_code xs i) (tree_at-code_of t i) (arms_at-code_of_arms bs i)
+      λ i. arm (name_at-name_code l i) (list_at-list_code binder_code binder_at
+      binder_at-binder_code xs i) (tree_at-code_of t i) (arms_at-code_of_arms bs i)
 
 -- terms, told apart by their codes
 abbrev pub core_code : Coded CoreTree
-core_code = record { code = code_of; inj = λ x y e. sym (tree_at-code_of x) ∙ ap tree_at e ∙ tree_at-code_of y }
+core_code = record {
+  code = code_of;
+  inj =
+      λ x y e. sym (tree_at-code_of x) ∙ ap tree_at e ∙ tree_at-code_of y;
+}

@@ -10,12 +10,14 @@ use Rattle.fst_terms.specs.declared.core_term.Term.TheDeep.{deep-Form, deep-Arm}
 use denote.Param.Weighed.{most}
 
 -- no argument is higher than the highest of them
-pub most_le-cores_height : (ts : List CoreTree) → most (λ t. core_height t + 1) ts ≤ suc (cores_height (cores_of ts))
+pub most_le-cores_height : (ts : List CoreTree) → most
+    (λ t. core_height t + 1) ts ≤ suc (cores_height (cores_of ts))
 most_le-cores_height [] = omega arith
 most_le-cores_height (t ∷ ts) = omega (arith, most_le-cores_height ts)
 
 -- no arm is higher than the highest of them
-pub most_le-core_arms_height : (bs : List Arm) → most deep-Arm bs ≤ suc (core_arms_height (core_arms_of bs))
+pub most_le-core_arms_height : (bs : List Arm) →
+    most deep-Arm bs ≤ suc (core_arms_height (core_arms_of bs))
 most_le-core_arms_height [] = omega arith
 most_le-core_arms_height (b ∷ bs) = omega (arith, most_le-core_arms_height bs)
 

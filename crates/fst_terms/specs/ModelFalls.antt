@@ -10,17 +10,20 @@ use Rattle.fst_terms.specs.declared.term.SourceTerm.TheDeep.{deep-SourceForm, de
 use denote.Param.Weighed.{most}
 
 -- no argument is higher than the highest of them
-pub most_le-terms_height : (ts : List TermTree) → most (λ t. term_height t + 1) ts ≤ suc (terms_height (terms_of ts))
+pub most_le-terms_height : (ts : List TermTree) → most
+    (λ t. term_height t + 1) ts ≤ suc (terms_height (terms_of ts))
 most_le-terms_height [] = omega arith
 most_le-terms_height (t ∷ ts) = omega (arith, most_le-terms_height ts)
 
 -- no arm is higher than the highest of them
-pub most_le-arms_height : (bs : List SourceArm) → most deep-SourceArm bs ≤ suc (arms_height (arms_of bs))
+pub most_le-arms_height : (bs : List SourceArm) →
+    most deep-SourceArm bs ≤ suc (arms_height (arms_of bs))
 most_le-arms_height [] = omega arith
 most_le-arms_height (b ∷ bs) = omega (arith, most_le-arms_height bs)
 
 -- no part is as high as the whole
-pub deep_le-height : (at : ℕ) (f : SourceForm) → max (deep-SourceForm f) 0 ≤ term_height (term_of at f)
+pub deep_le-height : (at : ℕ) (f : SourceForm) →
+    max (deep-SourceForm f) 0 ≤ term_height (term_of at f)
 deep_le-height at (Named x ts) = omega arith
 deep_le-height at (Int n) = omega arith
 deep_le-height at (Bool b) = omega arith

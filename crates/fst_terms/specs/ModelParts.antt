@@ -18,7 +18,8 @@ list_at d (gnum n) = []
 list_at d (gcons x y) = d x ∷ list_at d y
 
 -- a list comes back from its code where its items do
-pub list_at-list_code : {A : Type 0} (c : A → Gv) (d : Gv → A) → ((x : A) → d (c x) ≡ x) → (xs : List A) → list_at d (list_code c xs) ≡ xs
+pub list_at-list_code : {A : Type 0} (c : A → Gv) (d : Gv → A) → ((x : A) → d (c x) ≡ x) →
+    (xs : List A) → list_at d (list_code c xs) ≡ xs
 list_at-list_code c d e [] = refl
 list_at-list_code c d e (x ∷ xs) = λ i. e x i ∷ list_at-list_code c d e xs i
 

@@ -29,11 +29,13 @@ abbrev mutual
   HasTypesOver types n (unit at) = ⊤
   HasTypesOver types n (pair at s t) = HasTypesOver types n s × HasTypesOver types n t
   HasTypesOver types n (make at f k ts) = HaveTypesOver types n ts
-  HasTypesOver types n (lambda at u a x t) = IsTypeOver n (slice_get types a) × HasTypesOver types n t
+  HasTypesOver types n (lambda at u a x t) = IsTypeOver n (slice_get types a) ×
+      HasTypesOver types n t
   HasTypesOver types n (apply at s t) = HasTypesOver types n s × HasTypesOver types n t
   HasTypesOver types n (let_in at x s t) = HasTypesOver types n s × HasTypesOver types n t
   HasTypesOver types n (split at x y s t) = HasTypesOver types n s × HasTypesOver types n t
-  HasTypesOver types n (if_else at s t u) = HasTypesOver types n s × HasTypesOver types n t × HasTypesOver types n u
+  HasTypesOver types n (if_else at s t u) = HasTypesOver types n s × HasTypesOver types n t ×
+      HasTypesOver types n u
   HasTypesOver types n (case_of at t bs) = HasTypesOver types n t × HaveArmTypesOver types n bs
   HasTypesOver types n (operate at o s t) = HasTypesOver types n s × HasTypesOver types n t
   HasTypesOver types n (negate at t) = HasTypesOver types n t
@@ -58,7 +60,8 @@ abbrev mutual
 -- the type of each global, and the types in its body, have only variables of which it has the kinds
 abbrev pub AreGlobalsOver : List Tree → List GlobalEntry → Type 0
 AreGlobalsOver types [] = ⊤
-AreGlobalsOver types (g ∷ gs) = IsTypeOver (length g.kinds.items) (slice_get types g.signature) × HasTypesOver types (length g.kinds.items) g.body × AreGlobalsOver types gs
+AreGlobalsOver types (g ∷ gs) = IsTypeOver (length g.kinds.items) (slice_get types g.signature) ×
+    HasTypesOver types (length g.kinds.items) g.body × AreGlobalsOver types gs
 
 -- ---- which types
 
@@ -111,4 +114,5 @@ field_numbers (m ∷ ms) = m.fields.items ++ field_numbers ms
 
 -- each type that has none of these numbers has no variables
 abbrev pub AreOthersClosed : List ℕ → List Tree → Type 0
-AreOthersClosed numbers types = (k : ℕ) (t : Tree) → slice_get types k ≡ Some t → (Contains numbers k → ⊥) → HasVariablesBelow 0 t
+AreOthersClosed numbers types = (k : ℕ) (t : Tree) → slice_get types k ≡ Some t →
+    (Contains numbers k → ⊥) → HasVariablesBelow 0 t

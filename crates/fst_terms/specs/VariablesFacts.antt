@@ -57,11 +57,13 @@ module _ (types : List Tree) where
     term_over_prop n (unit at) = always
     term_over_prop n (pair at s t) = both (term_over_prop n s) (term_over_prop n t)
     term_over_prop n (make at f k ts) = terms_over_prop n ts
-    term_over_prop n (lambda at u a x t) = both (type_over_prop n (slice_get types a)) (term_over_prop n t)
+    term_over_prop n (lambda at u a x t) =
+        both (type_over_prop n (slice_get types a)) (term_over_prop n t)
     term_over_prop n (apply at s t) = both (term_over_prop n s) (term_over_prop n t)
     term_over_prop n (let_in at x s t) = both (term_over_prop n s) (term_over_prop n t)
     term_over_prop n (split at x y s t) = both (term_over_prop n s) (term_over_prop n t)
-    term_over_prop n (if_else at s t u) = all_three (term_over_prop n s) (term_over_prop n t) (term_over_prop n u)
+    term_over_prop n (if_else at s t u) =
+        all_three (term_over_prop n s) (term_over_prop n t) (term_over_prop n u)
     term_over_prop n (case_of at t bs) = both (term_over_prop n t) (arms_over_prop n bs)
     term_over_prop n (operate at o s t) = both (term_over_prop n s) (term_over_prop n t)
     term_over_prop n (negate at t) = term_over_prop n t
@@ -84,8 +86,11 @@ module _ (types : List Tree) where
   -- of globals
   pub globals_over_prop : (gs : List GlobalEntry) → IsProp (AreGlobalsOver types gs)
   globals_over_prop [] = always
-  globals_over_prop (g ∷ gs) = all_three (type_over_prop (length g.kinds.items) (slice_get types g.signature)) (term_over_prop (length g.kinds.items) g.body) (globals_over_prop gs)
+  globals_over_prop (g ∷ gs) = all_three
+      (type_over_prop (length g.kinds.items) (slice_get types g.signature))
+      (term_over_prop (length g.kinds.items) g.body) (globals_over_prop gs)
 
 -- of the other types
-pub others_closed_prop : (numbers : List ℕ) (types : List Tree) → IsProp (AreOthersClosed numbers types)
+pub others_closed_prop : (numbers : List ℕ) (types : List Tree) →
+    IsProp (AreOthersClosed numbers types)
 others_closed_prop numbers types x y i k t e n = variables_prop 0 t (x k t e n) (y k t e n) i

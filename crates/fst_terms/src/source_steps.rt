@@ -49,8 +49,10 @@ pub fn source_spine_of<'a>(
 /// The innermost step, which is taken off.
 pub fn pop_source_step<'a>(steps: &mut Vec<SourceStep<'a>>) -> Option<SourceStep<'a>>
     ensures less { IfSome result (λ x. length steps.new.items < length steps.old.items) }
-    ensures low { IfSome result (λ x. (t : TermTree) → term_height (second x) < term_height (around t steps.old.items)) }
-    ensures whole { MatchOption result ((t : TermTree) → around t steps.old.items ≡ t) (λ x. (t : TermTree) → around t steps.old.items ≡ around (wrap x t) steps.new.items) }
+    ensures low { IfSome result (λ x. (t : TermTree) →
+        term_height (second x) < term_height (around t steps.old.items)) }
+    ensures whole { MatchOption result ((t : TermTree) → around t steps.old.items ≡ t)
+        (λ x. (t : TermTree) → around t steps.old.items ≡ around (wrap x t) steps.new.items) }
 {
     steps.pop()
 }

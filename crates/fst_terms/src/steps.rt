@@ -47,8 +47,10 @@ pub fn spine_of<'a>(alloc: Global, term: &'a Term) -> Result<Spine<'a>, AllocErr
 /// The innermost step, which is taken off.
 pub fn pop_step<'a>(steps: &mut Vec<Step<'a>>) -> Option<Step<'a>>
     ensures less { IfSome result (λ x. length steps.new.items < length steps.old.items) }
-    ensures low { IfSome result (λ x. (t : CoreTree) → core_height (second x) < core_height (around t steps.old.items)) }
-    ensures whole { MatchOption result ((t : CoreTree) → around t steps.old.items ≡ t) (λ x. (t : CoreTree) → around t steps.old.items ≡ around (wrap x t) steps.new.items) }
+    ensures low { IfSome result (λ x. (t : CoreTree) →
+        core_height (second x) < core_height (around t steps.old.items)) }
+    ensures whole { MatchOption result ((t : CoreTree) → around t steps.old.items ≡ t)
+        (λ x. (t : CoreTree) → around t steps.old.items ≡ around (wrap x t) steps.new.items) }
 {
     steps.pop()
 }

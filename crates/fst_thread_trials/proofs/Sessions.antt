@@ -11,4 +11,13 @@ number_session = (Once, record { kinded = refl; contractive = tt; scoped = tt; o
 
 -- `rec x. !Int;x`
 pub numbers_session : IsSession [] (rec (seq (send Int) (back 0)))
-numbers_session = (Once, record { kinded = ((Once, Many, refl, refl, refl), refl); contractive = ((tt, tt), refl); scoped = (tt, omega arith); ordered = (tt, tt) })
+numbers_session = (
+  Once,
+  record {
+    kinded = ((Once, Many, refl, refl, refl), refl);
+    contractive = ((tt, tt), refl);
+    scoped =
+        (tt, omega arith);
+    ordered = (tt, tt);
+  },
+)

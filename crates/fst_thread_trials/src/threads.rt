@@ -159,7 +159,8 @@ fn relay<R: Threads + Sync>(
         { send_all(alloc, left, count) },
         move || -> Option<End>
             requires { length right.knows.history ≡ 0 }
-            ensures { IfSome result (λ e. (e.cell ≡ right.cell) × (e.knows.side ≡ right.knows.side)) }
+            ensures { IfSome result (λ e. (e.cell ≡ right.cell) ×
+                (e.knows.side ≡ right.knows.side)) }
         { take_all(alloc, right, count) },
     );
     let (Some(left), Some(right)) = (left, right) else {

@@ -7,6 +7,7 @@ pub longer : (n : ℕ) (text more : List ℕ) → n ≤ length text → n ≤ le
 longer n text more h = let e = length-append text more in omega arith
 
 -- two texts, one written after the other
-pub both_written : {T E : Type 0} (r : Result T E) (old new front back between : List ℕ) → between ≡ old ++ front → OnOk r (new ≡ between ++ back) → OnOk r (new ≡ old ++ (front ++ back))
+pub both_written : {T E : Type 0} (r : Result T E) (old new front back between : List ℕ) → between ≡ old ++ front →
+    OnOk r (new ≡ between ++ back) → OnOk r (new ≡ old ++ (front ++ back))
 both_written (Ok x) old new front back between is h = h ∙ ap (λ m. m ++ back) is ∙ append_assoc old front back
 both_written (Err e) old new front back between is h = h

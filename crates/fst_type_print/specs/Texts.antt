@@ -112,21 +112,28 @@ abbrev mutual
   text_under names n skip = codes "Skip"
   text_under names n (send b) = send_text b
   text_under names n (receive b) = receive_text b
-  text_under names n (select bs) = codes "+" ++ in_braces (joined_text (codes ", ") (branch_texts names n bs))
-  text_under names n (offer bs) = codes "&" ++ in_braces (joined_text (codes ", ") (branch_texts names n bs))
-  text_under names n (seq s r) = in_parens_if (in_parens_before_semicolon s) (text_under names n s) ++ codes ";" ++ text_under names n r
-  text_under names n (rec s) = codes "rec " ++ binder_text n ++ codes ". " ++ text_under names (suc n) s
+  text_under names n (select bs) = codes "+" ++ in_braces
+      (joined_text (codes ", ") (branch_texts names n bs))
+  text_under names n (offer bs) = codes "&" ++ in_braces
+      (joined_text (codes ", ") (branch_texts names n bs))
+  text_under names n (seq s r) = in_parens_if (in_parens_before_semicolon s)
+      (text_under names n s) ++ codes ";" ++ text_under names n r
+  text_under names n (rec s) = codes "rec " ++ binder_text n ++ codes ". " ++ text_under names
+      (suc n) s
   text_under names n (back k) = binder_text (n - 1 - k)
   text_under names n (var k) = variable_text k
   text_under names n (plain b) = base_text b
-  text_under names n (arrow u s r) = in_parens_if (in_parens_before_arrow s) (text_under names n s) ++ arrow_text u ++ text_under names n r
-  text_under names n (pair s r) = in_parens (text_under names n s ++ codes ", " ++ text_under names n r)
+  text_under names n (arrow u s r) = in_parens_if (in_parens_before_arrow s)
+      (text_under names n s) ++ arrow_text u ++ text_under names n r
+  text_under names n (pair s r) = in_parens
+      (text_under names n s ++ codes ", " ++ text_under names n r)
   text_under names n (named k) = name_at names k
 
   -- the branches of a choice, each a label and its type
   pub branch_texts : List (List ℕ) → ℕ → Branches → List (List ℕ)
   branch_texts names n none = []
-  branch_texts names n (branch l s bs) = (l ++ codes ": " ++ text_under names n s) ∷ branch_texts names n bs
+  branch_texts names n (branch l s bs) =
+      (l ++ codes ": " ++ text_under names n s) ∷ branch_texts names n bs
 
 -- the names of the data types
 abbrev pub family_names : List Family → List (List ℕ)
@@ -178,11 +185,13 @@ kinds_text got wanted = codes "kind " ++ kind_text got ++ codes " wanted " ++ ki
 -- the word that just one of two protocols performs, and which of them
 abbrev pub difference_text : {Z : Type 0} → Option (String Z × Side) → List ℕ
 difference_text None = []
-difference_text (Some (word, side)) = codes " word " ++ string_bytes word ++ codes " " ++ side_text side
+difference_text (Some (word, side)) =
+    codes " word " ++ string_bytes word ++ codes " " ++ side_text side
 
 -- two types: that of a term, and that which is wanted
 abbrev pub mismatch_text : {Z : Type 0} → List ℕ → List ℕ → Option (String Z × Side) → List ℕ
-mismatch_text got wanted difference = codes "type " ++ got ++ codes " wanted " ++ wanted ++ difference_text difference
+mismatch_text got wanted difference =
+    codes "type " ++ got ++ codes " wanted " ++ wanted ++ difference_text difference
 
 -- why a text is refused
 abbrev pub phrase_text : Phrase → List ℕ
@@ -200,7 +209,8 @@ phrase_text NotContractive = codes "not contractive"
 phrase_text (WrongKind got wanted) = kinds_text got wanted
 phrase_text (UnboundType k) = codes "unbound type " ++ variable_text k
 phrase_text (DoubleLabel l) = codes "double label " ++ l
-phrase_text (Mismatch got wanted difference) = mismatch_text (string_bytes got) (string_bytes wanted) difference
+phrase_text (Mismatch got wanted difference) =
+    mismatch_text (string_bytes got) (string_bytes wanted) difference
 phrase_text (Unused name) = codes "unused " ++ name
 phrase_text (UsedTwice name) = codes "used twice " ++ name
 phrase_text (CapturedLinear name) = codes "captured " ++ name
@@ -210,10 +220,12 @@ phrase_text (NotPair t) = codes "not a pair " ++ string_bytes t
 phrase_text (NotPrintable t) = codes "not printable " ++ string_bytes t
 phrase_text (TypeArguments got wanted) = counts_text (codes "type arguments ") got wanted
 phrase_text (KindOfArgument got wanted) = kinds_text got wanted
-phrase_text (NoSuchMove asked t) = codes "no move " ++ string_bytes asked ++ codes " in " ++ string_bytes t
+phrase_text (NoSuchMove asked t) = codes "no move " ++ string_bytes asked ++ codes " in "
+    ++ string_bytes t
 phrase_text (Arms t) = codes "arms " ++ string_bytes t
 phrase_text (Dropped t) = codes "dropped " ++ string_bytes t
 
 -- a refusal: where, by line and column, and why
 abbrev pub refusal_text : Refusal → List ℕ
-refusal_text r = codes "refused " ++ decimal r.line ++ codes ":" ++ decimal r.column ++ codes " " ++ phrase_text r.phrase
+refusal_text r = codes "refused " ++ decimal r.line ++ codes ":" ++ decimal r.column ++ codes " "
+    ++ phrase_text r.phrase

@@ -38,19 +38,26 @@ abbrev mutual
   written_text (written.skip at) = codes "Skip"
   written_text (written.send at b) = send_text b
   written_text (written.receive at b) = receive_text b
-  written_text (written.select at bs) = codes "+" ++ in_braces (joined_text (codes ", ") (written_branch_texts bs))
-  written_text (written.offer at bs) = codes "&" ++ in_braces (joined_text (codes ", ") (written_branch_texts bs))
-  written_text (written.seq at s t) = in_parens_if (is_compound s) (written_text s) ++ codes ";" ++ in_parens_if (is_arrow t) (written_text t)
-  written_text (written.rec at x t) = codes "rec " ++ x ++ codes ". " ++ in_parens_if (is_arrow t) (written_text t)
+  written_text (written.select at bs) =
+      codes "+" ++ in_braces (joined_text (codes ", ") (written_branch_texts bs))
+  written_text (written.offer at bs) =
+      codes "&" ++ in_braces (joined_text (codes ", ") (written_branch_texts bs))
+  written_text (written.seq at s t) =
+      in_parens_if (is_compound s) (written_text s) ++ codes ";" ++ in_parens_if (is_arrow t)
+      (written_text t)
+  written_text (written.rec at x t) =
+      codes "rec " ++ x ++ codes ". " ++ in_parens_if (is_arrow t) (written_text t)
   written_text (written.named at x) = x
   written_text (written.plain at b) = base_text b
-  written_text (written.arrow at u s t) = in_parens_if (is_arrow s) (written_text s) ++ arrow_text u ++ written_text t
+  written_text (written.arrow at u s t) =
+      in_parens_if (is_arrow s) (written_text s) ++ arrow_text u ++ written_text t
   written_text (written.pair at s t) = in_parens (written_text s ++ codes ", " ++ written_text t)
 
   -- the branches of a choice, each a label and its type
   pub written_branch_texts : WrittenBranches → List (List ℕ)
   written_branch_texts none = []
-  written_branch_texts (branch l t bs) = (l ++ codes ": " ++ in_parens_if (is_arrow t) (written_text t)) ∷ written_branch_texts bs
+  written_branch_texts (branch l t bs) =
+      (l ++ codes ": " ++ in_parens_if (is_arrow t) (written_text t)) ∷ written_branch_texts bs
 
 -- a type where no function stands without parentheses
 abbrev pub seq_text : WrittenTree → List ℕ

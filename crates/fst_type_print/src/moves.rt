@@ -47,7 +47,8 @@ fn push_move(text: &mut String, m: &Move, families: &[Family]) -> Result<(), All
 pub fn move_text(alloc: Global, m: &Move, families: &[Family]) -> Result<String, AllocError>
     requires scoped { IfSome (sent_type m.now) (IsScoped 0) }
     requires named { IfSome (sent_type m.now) (IsNamedWithin (length families.now)) }
-    ensures { IfOk result (λ text. string_bytes text ≡ move_text (family_names families.now) m.now) }
+    ensures { IfOk result (λ text. string_bytes text ≡ move_text
+        (family_names families.now) m.now) }
 {
     let mut text = String::new(alloc);
     push_move(&mut text, m, families)?;

@@ -162,7 +162,8 @@ fn push_mismatch(
 }
 
 fn push_no_move(text: &mut String, asked: &str, t: &str) -> Result<(), AllocError>
-    ensures { Gains result text.old text.new (codes "no move " ++ asked.now ++ codes " in " ++ t.now) }
+    ensures { Gains result text.old text.new
+        (codes "no move " ++ asked.now ++ codes " in " ++ t.now) }
 {
     text.push_str("no move ")?;
     text.push_str(asked)?;

@@ -18,7 +18,8 @@ use std::alloc::{AllocError, Global};
 pub fn type_text(alloc: Global, t: &Ty, families: &[Family]) -> Result<String, AllocError>
     requires scoped { IsScoped 0 t.now }
     requires named { IsNamedWithin (length families.now) t.now }
-    ensures { IfOk result (λ text. string_bytes text ≡ type_text (family_names families.now) t.now) }
+    ensures { IfOk result (λ text. string_bytes text ≡ type_text
+        (family_names families.now) t.now) }
 {
     let mut text = String::new(alloc);
     push_type(&mut text, t, 0, families)?;
@@ -113,7 +114,8 @@ pub(crate) fn push_enclosed(
     requires scoped { IsScoped depth t.now }
     requires named { IsNamedWithin (length families.now) t.now }
     requires written { depth ≤ length (string_bytes text.old) }
-    ensures { Gains result text.old text.new (in_parens_if in_parens (text_under (family_names families.now) depth t.now)) }
+    ensures { Gains result text.old text.new
+        (in_parens_if in_parens (text_under (family_names families.now) depth t.now)) }
 {
     if !in_parens {
         return push_type(text, t, depth, families);
@@ -133,7 +135,8 @@ fn push_rec(
     requires scoped { IsScoped (suc depth) body.now }
     requires named { IsNamedWithin (length families.now) body.now }
     requires written { depth ≤ length (string_bytes text.old) }
-    ensures { Gains result text.old text.new (text_under (family_names families.now) depth (tree.rec body.now)) }
+    ensures { Gains result text.old text.new
+        (text_under (family_names families.now) depth (tree.rec body.now)) }
 {
     text.push_str("rec ")?;
     push_binder(text, depth)?;
@@ -151,9 +154,11 @@ fn push_pair(
     families: &[Family],
 ) -> Result<(), AllocError>
     requires scoped { IsScoped depth first.now × IsScoped depth second.now }
-    requires named { IsNamedWithin (length families.now) first.now × IsNamedWithin (length families.now) second.now }
+    requires named { IsNamedWithin (length families.now) first.now ×
+        IsNamedWithin (length families.now) second.now }
     requires written { depth ≤ length (string_bytes text.old) }
-    ensures { Gains result text.old text.new (text_under (family_names families.now) depth (tree.pair first.now second.now)) }
+    ensures { Gains result text.old text.new
+        (text_under (family_names families.now) depth (tree.pair first.now second.now)) }
 {
     text.push_str("(")?;
     push_type(text, first, depth, families)?;
@@ -174,7 +179,9 @@ fn push_choice(
     requires scoped { AllScoped depth (branches_of branches.now) }
     requires named { AllNamedWithin (length families.now) (branches_of branches.now) }
     requires written { depth ≤ length (string_bytes text.old) }
-    ensures { Gains result text.old text.new (sign.now ++ in_braces (joined_text (codes ", ") (branch_texts (family_names families.now) depth (branches_of branches.now)))) }
+    ensures { Gains result text.old text.new
+        (sign.now ++ in_braces (joined_text (codes ", ")
+        (branch_texts (family_names families.now) depth (branches_of branches.now)))) }
 {
     text.push_str(sign)?;
     text.push_str("{")?;
@@ -192,7 +199,9 @@ fn push_branch(
     requires scoped { IsScoped depth branch.now.body }
     requires named { IsNamedWithin (length families.now) branch.now.body }
     requires written { depth ≤ length (string_bytes text.old) }
-    ensures { Gains result text.old text.new (branch.now.label ++ codes ": " ++ text_under (family_names families.now) depth branch.now.body) }
+    ensures { Gains result text.old text.new
+        (branch.now.label ++ codes ": " ++ text_under
+        (family_names families.now) depth branch.now.body) }
 {
     text.push_str(branch.label.as_str())?;
     text.push_str(": ")?;
@@ -209,7 +218,9 @@ fn push_branches(
     requires scoped { AllScoped depth (branches_of branches.now) }
     requires named { AllNamedWithin (length families.now) (branches_of branches.now) }
     requires written { depth ≤ length (string_bytes text.old) }
-    ensures { Gains result text.old text.new (joined_text (codes ", ") (branch_texts (family_names families.now) depth (branches_of branches.now))) }
+    ensures { Gains result text.old text.new
+        (joined_text (codes ", ") (branch_texts (family_names families.now) depth
+        (branches_of branches.now))) }
 {
     let [first, others @ ..] = branches else {
         return Ok(());
@@ -229,7 +240,9 @@ fn push_others(
     requires scoped { AllScoped depth (branches_of others.now) }
     requires named { AllNamedWithin (length families.now) (branches_of others.now) }
     requires written { depth ≤ length (string_bytes text.old) }
-    ensures { Gains result text.old text.new (separated_text (codes ", ") (branch_texts (family_names families.now) depth (branches_of others.now))) }
+    ensures { Gains result text.old text.new
+        (separated_text (codes ", ") (branch_texts (family_names families.now) depth
+        (branches_of others.now))) }
 {
     for branch in others {
         text.push_str(", ")?;

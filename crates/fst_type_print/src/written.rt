@@ -107,7 +107,9 @@ fn push_pair(text: &mut String, first: &Written, second: &Written) -> Result<(),
 // A choice, whose sign says which side makes it.
 #[cycle(written)]
 fn push_choice(text: &mut String, sign: &str, branches: &[WrittenBranch]) -> Result<(), AllocError>
-    ensures { Gains result text.old text.new (sign.now ++ in_braces (joined_text (codes ", ") (written_branch_texts (written_branches branches.now)))) }
+    ensures { Gains result text.old text.new
+        (sign.now ++ in_braces (joined_text (codes ", ")
+        (written_branch_texts (written_branches branches.now)))) }
 {
     text.push_str(sign)?;
     text.push_str("{")?;
@@ -117,7 +119,8 @@ fn push_choice(text: &mut String, sign: &str, branches: &[WrittenBranch]) -> Res
 
 #[cycle(written)]
 fn push_branch(text: &mut String, branch: &WrittenBranch) -> Result<(), AllocError>
-    ensures { Gains result text.old text.new (branch.now.label ++ codes ": " ++ seq_text branch.now.body) }
+    ensures { Gains result text.old text.new
+        (branch.now.label ++ codes ": " ++ seq_text branch.now.body) }
 {
     text.push_str(branch.label.as_str())?;
     text.push_str(": ")?;
@@ -126,7 +129,8 @@ fn push_branch(text: &mut String, branch: &WrittenBranch) -> Result<(), AllocErr
 
 #[cycle(written)]
 fn push_branches(text: &mut String, branches: &[WrittenBranch]) -> Result<(), AllocError>
-    ensures { Gains result text.old text.new (joined_text (codes ", ") (written_branch_texts (written_branches branches.now))) }
+    ensures { Gains result text.old text.new
+        (joined_text (codes ", ") (written_branch_texts (written_branches branches.now))) }
 {
     let [first, others @ ..] = branches else {
         return Ok(());
@@ -138,7 +142,8 @@ fn push_branches(text: &mut String, branches: &[WrittenBranch]) -> Result<(), Al
 #[cycle(written)]
 #[tactic(auto, using(fst_types::proofs::Laws::written_height_at))]
 fn push_others(text: &mut String, others: &[WrittenBranch]) -> Result<(), AllocError>
-    ensures { Gains result text.old text.new (separated_text (codes ", ") (written_branch_texts (written_branches others.now))) }
+    ensures { Gains result text.old text.new
+        (separated_text (codes ", ") (written_branch_texts (written_branches others.now))) }
 {
     for branch in others {
         text.push_str(", ")?;

@@ -34,7 +34,8 @@ mutual
   atom_few (skip k is) = omega arith
   atom_few (send k ts b is s) = omega arith
   atom_few (receive k ts b is s) = omega arith
-  atom_few (select k o c ts all bs is opens a closes parts) = omega (arith, alts_few a, ap length parts, length-append ts (c ∷ []))
+  atom_few (select k o c ts all bs is opens a closes parts) =
+      omega (arith, alts_few a, ap length parts, length-append ts (c ∷ []))
   atom_few (offer k o c ts all bs is opens a closes parts) = omega (arith, alts_few a, ap length parts, length-append ts (c ∷ []))
   atom_few (plain ts b s) = base_some s
   atom_few (lower k is) = omega arith
@@ -45,7 +46,8 @@ mutual
 
   alts_few : {ts : List Lexeme} {bs : WrittenBranches} → IsAlts ts bs → branches_count bs ≤ length ts
   alts_few (last ts l t a) = omega (arith, alt_few a)
-  alts_few (further ts us all k l t bs a is s parts) = omega (arith, alt_few a, alts_few s, ap length parts, length-append ts (k ∷ us))
+  alts_few (further ts us all k l t bs a is s parts) =
+      omega (arith, alt_few a, alts_few s, ap length parts, length-append ts (k ∷ us))
 
   alt_few : {ts : List Lexeme} {l : List ℕ} {t : WrittenTree} → IsAlt ts l t → type_count t ≤ length ts
   alt_few (alt l c ts t is colon s) = omega (arith, seq_few s)
@@ -55,4 +57,5 @@ binder_some (binder x c u p uses prekind name colon first second) = omega arith
 
 pub binders_few : {ts : List Lexeme} {bs : List (Binder × Kind)} → IsBinders ts bs → length bs ≤ length ts
 binders_few (last ts b k s) = binder_some s
-binders_few (further ts us all c b k bs s is r parts) = omega (arith, binder_some s, binders_few r, ap length parts, length-append ts (c ∷ us))
+binders_few (further ts us all c b k bs s is r parts) =
+    omega (arith, binder_some s, binders_few r, ap length parts, length-append ts (c ∷ us))

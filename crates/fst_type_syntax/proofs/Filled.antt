@@ -21,9 +21,11 @@ mutual
   atom_filled (send k ts b is s) = tt
   atom_filled (receive k ts b is s) = tt
   atom_filled (select k o c ts all _ is opens (last us l t a) closes parts) = (alt_filled a, tt)
-  atom_filled (select k o c ts all _ is opens (further us vs ws m l t bs a comma s whole) closes parts) = (alt_filled a, alts_filled s)
+  atom_filled (select k o c ts all _ is opens (further us vs ws m l t bs a comma s whole) closes parts) =
+      (alt_filled a, alts_filled s)
   atom_filled (offer k o c ts all _ is opens (last us l t a) closes parts) = (alt_filled a, tt)
-  atom_filled (offer k o c ts all _ is opens (further us vs ws m l t bs a comma s whole) closes parts) = (alt_filled a, alts_filled s)
+  atom_filled (offer k o c ts all _ is opens (further us vs ws m l t bs a comma s whole) closes parts) =
+      (alt_filled a, alts_filled s)
   atom_filled (plain ts b s) = tt
   atom_filled (lower k is) = tt
   atom_filled (upper k is) = tt

@@ -54,21 +54,25 @@ pub sample_type : (d n : ℕ) → SomePhrase (TypePhrase d)
 sample_type = types.sample_type
 
 -- a `seqtype` begins with a token with which a type may begin
-pub seq_begins : (d : ℕ) (ts : List Lexeme) (t : WrittenTree) (ns : List ℕ) → SeqPhrase d ts t ns → BeginsWith (λ k. starts_type k ≡ true) d ts ns
+pub seq_begins : (d : ℕ) (ts : List Lexeme) (t : WrittenTree) (ns : List ℕ) → SeqPhrase d ts t ns → BeginsWith
+    (λ k. starts_type k ≡ true) d ts ns
 seq_begins = phrases.seq_begins
 
 -- so does a type, whose first token is nested one deeper
-pub type_begins : (d : ℕ) (ts : List Lexeme) (t : WrittenTree) (ns : List ℕ) → TypePhrase d ts t ns → BeginsWith (λ k. starts_type k ≡ true) (suc d) ts ns
+pub type_begins : (d : ℕ) (ts : List Lexeme) (t : WrittenTree) (ns : List ℕ) → TypePhrase d ts t ns → BeginsWith
+    (λ k. starts_type k ≡ true) (suc d) ts ns
 type_begins = phrases.type_begins
 
 -- an atomic type begins with a token with which one may begin
-pub atom_begins : (d : ℕ) (ts : List Lexeme) (t : WrittenTree) (ns : List ℕ) → AtomPhrase d ts t ns → BeginsWith (λ k. starts_type_atom k ≡ true) d ts ns
+pub atom_begins : (d : ℕ) (ts : List Lexeme) (t : WrittenTree) (ns : List ℕ) → AtomPhrase d ts t ns → BeginsWith
+    (λ k. starts_type_atom k ≡ true) d ts ns
 atom_begins d ts t ns p =
     let b = phrases.atom_begins d ts t ns p in
     (b.0, b.1, b.2, b.3, b.4, ap is_begun b.5.1)
 
 -- and each such token begins some atomic type
-pub atom_opens : (d : ℕ) (k : Lexeme) → starts_type_atom k ≡ true → (others : List Lexeme) × (x : WrittenTree) × (ns : List ℕ) × AtomPhrase d (k ∷ others) x (d ∷ ns)
+pub atom_opens : (d : ℕ) (k : Lexeme) → starts_type_atom k ≡ true → (others : List Lexeme) × (x : WrittenTree) ×
+    (ns : List ℕ) × AtomPhrase d (k ∷ others) x (d ∷ ns)
 atom_opens d k is =
     let s = tokens.option_of (start_of k) is in
     let q = types.opening_by d k s.0 in
@@ -79,7 +83,8 @@ pub no_atom_word : (w : List ℕ) (k : Lexeme) → start_named w ≡ None → Is
 no_atom_word w k none is = ap is_begun (tokens.start_spelled w k is ∙ none)
 
 -- and no type does, where the word is not `rec` either
-pub no_type_word : (w : List ℕ) (k : Lexeme) → bytes_eq (codes "rec") w ≡ false → start_named w ≡ None → starts_type k ≡ true → spells w k ≡ false
+pub no_type_word : (w : List ℕ) (k : Lexeme) → bytes_eq (codes "rec") w ≡ false → start_named w ≡ None → starts_type k ≡ true →
+    spells w k ≡ false
 no_type_word = tokens.no_type
 
 -- each token of a `seqtype` has a nesting

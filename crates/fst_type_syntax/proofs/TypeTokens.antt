@@ -42,7 +42,8 @@ is_base_word base.Bool k e = base_spelled (codes "Bool") k e
 is_base_word base.Char k e = base_spelled (codes "Char") k e
 is_base_word base.Unit k e = absurd e
 
-base_named_is : (k : Lexeme) (b : Base) → (k.kind ≡ kind.Reserved) ⊎ (k.kind ≡ kind.Sign) → base_named k.text ≡ Some b → IsBaseWord b k
+base_named_is : (k : Lexeme) (b : Base) → (k.kind ≡ kind.Reserved) ⊎
+    (k.kind ≡ kind.Sign) → base_named k.text ≡ Some b → IsBaseWord b k
 unfolding base_named
 base_named_is k b f e = elim (chosen _ _ _ _ e) [
   | inl h ↦ subst (λ z. IsBaseWord z k) (some_is base.Int b h.1) (spelled_so k.kind (codes "Int") k.text h.0 f)
@@ -74,11 +75,13 @@ Means begin.Paren k = Is (codes "(") k
 Means begin.Name k = IsLower k ⊎ IsUpper k
 Means (begin.Word b) k = IsBaseWord b k
 
-begun_is : (k : Lexeme) (o : Option Base) (s : Start) → (k.kind ≡ kind.Reserved) ⊎ (k.kind ≡ kind.Sign) → base_named k.text ≡ o → word_begun o ≡ Some s → Means s k
+begun_is : (k : Lexeme) (o : Option Base) (s : Start) → (k.kind ≡ kind.Reserved) ⊎
+    (k.kind ≡ kind.Sign) → base_named k.text ≡ o → word_begun o ≡ Some s → Means s k
 begun_is k (Some b) s f is e = subst (λ z. Means z k) (some_is (begin.Word b) s e) (base_named_is k b f is)
 begun_is k None s f is e = absurd cc
 
-start_named_is : (k : Lexeme) (s : Start) → (k.kind ≡ kind.Reserved) ⊎ (k.kind ≡ kind.Sign) → start_named k.text ≡ Some s → Means s k
+start_named_is : (k : Lexeme) (s : Start) → (k.kind ≡ kind.Reserved) ⊎
+    (k.kind ≡ kind.Sign) → start_named k.text ≡ Some s → Means s k
 unfolding start_named
 start_named_is k s f e = elim (chosen _ _ _ _ e) [
   | inl h ↦ subst (λ z. Means z k) (some_is begin.Skip s h.1) (spelled_so k.kind (codes "Skip") k.text h.0 f)
@@ -202,11 +205,13 @@ option_of None e = absurd cc
 pub starts_with : (k : Lexeme) → starts_type k ≡ true → Is (codes "rec") k ⊎ ((s : Start) × (start_of k ≡ Some s))
 starts_with k e = of_test (spells (codes "rec") k) refl e
   where
-    of_test : (c : Bool) → spells (codes "rec") k ≡ c → c || is_begun (start_of k) ≡ true → Is (codes "rec") k ⊎ ((s : Start) × (start_of k ≡ Some s))
+    of_test : (c : Bool) → spells (codes "rec") k ≡ c → c || is_begun (start_of k) ≡ true → Is (codes "rec") k ⊎
+        ((s : Start) × (start_of k ≡ Some s))
     of_test true is g = inl is
     of_test false is g = inr (option_of (start_of k) g)
 
-pub no_type : (w : List ℕ) (k : Lexeme) → bytes_eq (codes "rec") w ≡ false → start_named w ≡ None → starts_type k ≡ true → spells w k ≡ false
+pub no_type : (w : List ℕ) (k : Lexeme) → bytes_eq (codes "rec") w ≡ false → start_named w ≡ None → starts_type k ≡ true →
+    spells w k ≡ false
 no_type w k r n e = of_start (starts_with k e)
   where
     of_start : Is (codes "rec") k ⊎ ((s : Start) × (start_of k ≡ Some s)) → spells w k ≡ false

@@ -43,20 +43,30 @@ lengthens ts = lengthens_seq ts || (begins (spells (codes "->")) ts || begins is
 
 -- the tokens of the text are this question, or why they are none
 abbrev pub AnswersQuestion : List ℕ → List Token → Result Asked SyntaxFault → Type 0
-AnswersQuestion text tokens (Ok q) = (rest : List Lexeme) × BeginsWithinLimit most_nested QuestionPhrase is_left (lexemes text tokens) q rest
-AnswersQuestion text tokens (Err e) = Refuses QuestionPhrase is_left (place (length text)) (lexemes text tokens) e
+AnswersQuestion text tokens (Ok q) =
+    (rest : List Lexeme) × BeginsWithinLimit most_nested QuestionPhrase is_left
+    (lexemes text tokens) q rest
+AnswersQuestion text tokens (Err e) =
+    Refuses QuestionPhrase is_left (place (length text)) (lexemes text tokens) e
 
 -- from one of its tokens on the text has this type up to another, or why it has none
 abbrev pub AnswersType : List ℕ → List Token → ℕ → Result (WrittenTree × ℕ) SyntaxFault → Type 0
 AnswersType text tokens from (Ok x) =
-    (rest : List Lexeme) × (b : BeginsWithinLimit most_nested (TypePhrase 0) lengthens (drop from (lexemes text tokens)) x.0 rest) × (x.1 ≡ from + length b.0.tokens)
-AnswersType text tokens from (Err e) = Refuses (TypePhrase 0) lengthens (place (length text)) (drop from (lexemes text tokens)) e
+    (rest : List Lexeme) × (b : BeginsWithinLimit most_nested (TypePhrase 0) lengthens
+    (drop from (lexemes text tokens)) x.0 rest) × (x.1 ≡ from + length b.0.tokens)
+AnswersType text tokens from (Err e) =
+    Refuses (TypePhrase 0) lengthens (place (length text)) (drop from (lexemes text tokens)) e
 
 -- a list of tokens is at most one question, and begins with at most one type; and a text has at most one answer of each
 pub record OneReading : Type 0 where
-  pub one_type : (ts : List Lexeme) (t u : WrittenTree) (x y : List Lexeme) → Begins (TypePhrase 0) lengthens ts t x → Begins (TypePhrase 0) lengthens ts u y → (t ≡ u) × (x ≡ y)
+  pub one_type : (ts : List Lexeme) (t u : WrittenTree) (x y : List Lexeme) →
+      Begins (TypePhrase 0) lengthens ts t x → Begins (TypePhrase 0) lengthens ts u y → (t ≡ u) ×
+      (x ≡ y)
   pub one_question : (ts : List Lexeme) (q r : Asked) → IsQuestion ts q → IsQuestion ts r → q ≡ r
-  pub one_type_answer : (text : List ℕ) (tokens : List Token) (from : ℕ) (a b : Result (WrittenTree × ℕ) SyntaxFault) →
-      a ≢ Err fault.Memory → b ≢ Err fault.Memory → AnswersType text tokens from a → AnswersType text tokens from b → a ≡ b
+  pub one_type_answer : (text : List ℕ) (tokens : List Token) (from : ℕ)
+      (a b : Result (WrittenTree × ℕ) SyntaxFault) →
+      a ≢ Err fault.Memory → b ≢ Err fault.Memory → AnswersType text tokens from a →
+      AnswersType text tokens from b → a ≡ b
   pub one_question_answer : (text : List ℕ) (tokens : List Token) (a b : Result Asked SyntaxFault) →
-      a ≢ Err fault.Memory → b ≢ Err fault.Memory → AnswersQuestion text tokens a → AnswersQuestion text tokens b → a ≡ b
+      a ≢ Err fault.Memory → b ≢ Err fault.Memory → AnswersQuestion text tokens a →
+      AnswersQuestion text tokens b → a ≡ b

@@ -29,44 +29,56 @@ mutual
   pub data IsType : List Lexeme → WrittenTree → Type 0 where
     single : (ts : List Lexeme) (t : WrittenTree) → IsSeq ts t → IsType ts t
     arrow : (ts ks us all : List Lexeme) (t u : WrittenTree) (uses : Use) →
-        IsSeq ts t → IsArrow ks uses → IsType us u → all ≡ ts ++ (ks ++ us) → IsType all (written.arrow (start ts) uses t u)
+        IsSeq ts t → IsArrow ks uses → IsType us u → all ≡ ts ++ (ks ++ us) →
+        IsType all (written.arrow (start ts) uses t u)
 
   -- seqtype = "rec" lname "." seqtype | tatom [ ";" seqtype ]
   pub data IsSeq : List Lexeme → WrittenTree → Type 0 where
     rec : (k x d : Lexeme) (ts : List Lexeme) (t : WrittenTree) →
-        Is (codes "rec") k → IsLower x → Is (codes ".") d → IsSeq ts t → IsSeq (k ∷ x ∷ d ∷ ts) (written.rec k.at x.text t)
+        Is (codes "rec") k → IsLower x → Is (codes ".") d → IsSeq ts t →
+        IsSeq (k ∷ x ∷ d ∷ ts) (written.rec k.at x.text t)
     atom : (ts : List Lexeme) (t : WrittenTree) → IsAtom ts t → IsSeq ts t
     chain : (ts us all : List Lexeme) (k : Lexeme) (t u : WrittenTree) →
-        IsAtom ts t → Is (codes ";") k → IsSeq us u → all ≡ ts ++ k ∷ us → IsSeq all (written.seq (start ts) t u)
+        IsAtom ts t → Is (codes ";") k → IsSeq us u → all ≡ ts ++ k ∷ us →
+        IsSeq all (written.seq (start ts) t u)
 
   -- tatom = "Skip" | "!" base | "?" base | "+" "{" alts "}" | "&" "{" alts "}" | base | lname | uname
   --       | "(" type ")" | "(" type "," type ")"
   pub data IsAtom : List Lexeme → WrittenTree → Type 0 where
     skip : (k : Lexeme) → Is (codes "Skip") k → IsAtom (k ∷ []) (written.skip k.at)
-    send : (k : Lexeme) (ts : List Lexeme) (b : Base) → Is (codes "!") k → IsBase ts b → IsAtom (k ∷ ts) (written.send k.at b)
-    receive : (k : Lexeme) (ts : List Lexeme) (b : Base) → Is (codes "?") k → IsBase ts b → IsAtom (k ∷ ts) (written.receive k.at b)
+    send : (k : Lexeme) (ts : List Lexeme) (b : Base) → Is (codes "!") k → IsBase ts b →
+        IsAtom (k ∷ ts) (written.send k.at b)
+    receive : (k : Lexeme) (ts : List Lexeme) (b : Base) → Is (codes "?") k → IsBase ts b →
+        IsAtom (k ∷ ts) (written.receive k.at b)
     select : (k o c : Lexeme) (ts all : List Lexeme) (bs : WrittenBranches) →
-        Is (codes "+") k → Is (codes "{") o → IsAlts ts bs → Is (codes "}") c → all ≡ k ∷ o ∷ ts ++ c ∷ [] → IsAtom all (written.select k.at bs)
+        Is (codes "+") k → Is (codes "{") o → IsAlts ts bs → Is (codes "}") c →
+        all ≡ k ∷ o ∷ ts ++ c ∷ [] → IsAtom all (written.select k.at bs)
     offer : (k o c : Lexeme) (ts all : List Lexeme) (bs : WrittenBranches) →
-        Is (codes "&") k → Is (codes "{") o → IsAlts ts bs → Is (codes "}") c → all ≡ k ∷ o ∷ ts ++ c ∷ [] → IsAtom all (written.offer k.at bs)
+        Is (codes "&") k → Is (codes "{") o → IsAlts ts bs → Is (codes "}") c →
+        all ≡ k ∷ o ∷ ts ++ c ∷ [] → IsAtom all (written.offer k.at bs)
     plain : (ts : List Lexeme) (b : Base) → IsBase ts b → IsAtom ts (written.plain (start ts) b)
     lower : (k : Lexeme) → IsLower k → IsAtom (k ∷ []) (written.named k.at k.text)
     upper : (k : Lexeme) → IsUpper k → IsAtom (k ∷ []) (written.named k.at k.text)
     group : (k c : Lexeme) (ts all : List Lexeme) (t : WrittenTree) →
         Is (codes "(") k → IsType ts t → Is (codes ")") c → all ≡ k ∷ ts ++ c ∷ [] → IsAtom all t
     pair : (k m c : Lexeme) (ts us all : List Lexeme) (t u : WrittenTree) →
-        Is (codes "(") k → IsType ts t → Is (codes ",") m → IsType us u → Is (codes ")") c → all ≡ k ∷ (ts ++ (m ∷ (us ++ c ∷ []))) →
+        Is (codes "(") k → IsType ts t → Is (codes ",") m → IsType us u → Is (codes ")") c →
+        all ≡ k ∷ (ts ++ (m ∷ (us ++ c ∷ []))) →
         IsAtom all (written.pair k.at t u)
 
   -- alts = alt { "," alt }
   pub data IsAlts : List Lexeme → WrittenBranches → Type 0 where
-    last : (ts : List Lexeme) (l : List ℕ) (t : WrittenTree) → IsAlt ts l t → IsAlts ts (branch l t none)
-    further : (ts us all : List Lexeme) (k : Lexeme) (l : List ℕ) (t : WrittenTree) (bs : WrittenBranches) →
-        IsAlt ts l t → Is (codes ",") k → IsAlts us bs → all ≡ ts ++ k ∷ us → IsAlts all (branch l t bs)
+    last : (ts : List Lexeme) (l : List ℕ) (t : WrittenTree) → IsAlt ts l t →
+        IsAlts ts (branch l t none)
+    further : (ts us all : List Lexeme) (k : Lexeme) (l : List ℕ) (t : WrittenTree)
+        (bs : WrittenBranches) →
+        IsAlt ts l t → Is (codes ",") k → IsAlts us bs → all ≡ ts ++ k ∷ us →
+        IsAlts all (branch l t bs)
 
   -- alt = uname ":" seqtype
   pub data IsAlt : List Lexeme → List ℕ → WrittenTree → Type 0 where
-    alt : (l c : Lexeme) (ts : List Lexeme) (t : WrittenTree) → IsUpper l → Is (codes ":") c → IsSeq ts t → IsAlt (l ∷ c ∷ ts) l.text t
+    alt : (l c : Lexeme) (ts : List Lexeme) (t : WrittenTree) → IsUpper l → Is (codes ":") c →
+        IsSeq ts t → IsAlt (l ∷ c ∷ ts) l.text t
 
 -- the first half of a kind: "*" | one
 pub data IsUse : Lexeme → Use → Type 0 where
@@ -82,13 +94,16 @@ pub data IsPrekind : Lexeme → Prekind → Type 0 where
 pub data IsBinder : List Lexeme → Binder → Kind → Type 0 where
   binder : (x c u p : Lexeme) (uses : Use) (prekind : Prekind) →
       IsLower x → Is (codes ":") c → IsUse u uses → IsPrekind p prekind →
-      IsBinder (x ∷ c ∷ u ∷ p ∷ []) (record { name = x.text; at = x.at }) (record { prekind = prekind; uses = uses })
+      IsBinder (x ∷ c ∷ u ∷ p ∷ []) (record { name = x.text; at = x.at })
+      (record { prekind = prekind; uses = uses })
 
 -- binder { "," binder }
 pub data IsBinders : List Lexeme → List (Binder × Kind) → Type 0 where
   last : (ts : List Lexeme) (b : Binder) (k : Kind) → IsBinder ts b k → IsBinders ts ((b, k) ∷ [])
-  further : (ts us all : List Lexeme) (c : Lexeme) (b : Binder) (k : Kind) (bs : List (Binder × Kind)) →
-      IsBinder ts b k → Is (codes ",") c → IsBinders us bs → all ≡ ts ++ c ∷ us → IsBinders all ((b, k) ∷ bs)
+  further : (ts us all : List Lexeme) (c : Lexeme) (b : Binder) (k : Kind)
+      (bs : List (Binder × Kind)) →
+      IsBinder ts b k → Is (codes ",") c → IsBinders us bs → all ≡ ts ++ c ∷ us →
+      IsBinders all ((b, k) ∷ bs)
 
 -- what is asked: whether two types are equivalent, over variables of these kinds
 pub record Asked : Type 0 where
@@ -99,7 +114,11 @@ pub record Asked : Type 0 where
 -- question = [ "forall" binder { "," binder } "." ] seqtype "~" seqtype
 pub data IsQuestion : List Lexeme → Asked → Type 0 where
   closed : (ts us all : List Lexeme) (k : Lexeme) (t u : WrittenTree) →
-      IsSeq ts t → Is (codes "~") k → IsSeq us u → all ≡ ts ++ k ∷ us → IsQuestion all (record { binders = []; left = t; right = u })
-  over : (f d k : Lexeme) (vs ts us all : List Lexeme) (bs : List (Binder × Kind)) (t u : WrittenTree) →
-      Is (codes "forall") f → IsBinders vs bs → Is (codes ".") d → IsSeq ts t → Is (codes "~") k → IsSeq us u →
-      all ≡ f ∷ (vs ++ (d ∷ (ts ++ k ∷ us))) → IsQuestion all (record { binders = bs; left = t; right = u })
+      IsSeq ts t → Is (codes "~") k → IsSeq us u → all ≡ ts ++ k ∷ us →
+      IsQuestion all (record { binders = []; left = t; right = u })
+  over : (f d k : Lexeme) (vs ts us all : List Lexeme) (bs : List (Binder × Kind))
+      (t u : WrittenTree) →
+      Is (codes "forall") f → IsBinders vs bs → Is (codes ".") d → IsSeq ts t → Is (codes "~") k →
+      IsSeq us u →
+      all ≡ f ∷ (vs ++ (d ∷ (ts ++ k ∷ us))) →
+      IsQuestion all (record { binders = bs; left = t; right = u })

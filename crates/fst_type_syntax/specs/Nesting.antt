@@ -10,7 +10,8 @@ abbrev mutual
   -- for each token of a type its nesting, where this much encloses the type
   pub type_nests : ℕ → {ts : List Lexeme} {t : WrittenTree} → IsType ts t → List ℕ
   type_nests n (single ts t s) = seq_nests (suc n) s
-  type_nests n (arrow ts ks us all t u uses s a d parts) = seq_nests (suc n) s ++ (level (suc n) ks ++ type_nests (suc n) d)
+  type_nests n (arrow ts ks us all t u uses s a d parts) =
+      seq_nests (suc n) s ++ (level (suc n) ks ++ type_nests (suc n) d)
 
   -- the same of a `seqtype`, where its own tokens have this nesting
   pub seq_nests : ℕ → {ts : List Lexeme} {t : WrittenTree} → IsSeq ts t → List ℕ
@@ -29,7 +30,8 @@ abbrev mutual
   atom_nests n (lower k is) = n ∷ []
   atom_nests n (upper k is) = n ∷ []
   atom_nests n (group k c ts all t is d closes parts) = n ∷ type_nests n d ++ n ∷ []
-  atom_nests n (pair k m c ts us all t u is d comma e closes parts) = n ∷ (type_nests n d ++ (n ∷ (type_nests n e ++ n ∷ [])))
+  atom_nests n (pair k m c ts us all t u is d comma e closes parts) =
+      n ∷ (type_nests n d ++ (n ∷ (type_nests n e ++ n ∷ [])))
 
   -- the same of branches with commas between them
   pub alts_nests : ℕ → {ts : List Lexeme} {bs : WrittenBranches} → IsAlts ts bs → List ℕ
@@ -43,4 +45,5 @@ abbrev mutual
 -- for each token of a question its nesting
 abbrev pub question_nests : {ts : List Lexeme} {q : Asked} → IsQuestion ts q → List ℕ
 question_nests (closed ts us all k t u s is r parts) = seq_nests 1 s ++ 0 ∷ seq_nests 1 r
-question_nests (over f d k vs ts us all bs t u is b dot s tilde r parts) = 0 ∷ (level 0 vs ++ (0 ∷ (seq_nests 1 s ++ 0 ∷ seq_nests 1 r)))
+question_nests (over f d k vs ts us all bs t u is b dot s tilde r parts) =
+    0 ∷ (level 0 vs ++ (0 ∷ (seq_nests 1 s ++ 0 ∷ seq_nests 1 r)))

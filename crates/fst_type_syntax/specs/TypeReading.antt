@@ -99,7 +99,8 @@ module _ (seq type : Reader WrittenTree) where
   unfoldable pub paren_with : ℕ → Reader WrittenTree
   paren_with at =
       on (spells (codes ")")) (give (written.plain at base.Unit))
-      (type >>= λ t. on (spells (codes ",")) (pair_with at t) (map_reader (λ c. t) (word (codes ")"))))
+      (type >>= λ t. on (spells (codes ",")) (pair_with at t)
+      (map_reader (λ c. t) (word (codes ")"))))
 
   -- behind what a `tatom` begins with
   abbrev pub begun_with : Start → Lexeme → Reader WrittenTree
@@ -125,7 +126,8 @@ module _ (seq type : Reader WrittenTree) where
 
   -- an atomic type, and what goes on behind `;`
   unfoldable pub chain_with : ℕ → Reader WrittenTree
-  chain_with at = atom_with >>= λ t. on (spells (codes ";")) (map_reader (written.seq at t) seq) (give t)
+  chain_with at = atom_with >>= λ t. on (spells (codes ";")) (map_reader (written.seq at t) seq)
+      (give t)
 
   -- a `rec` or a chain of `;`
   unfoldable pub seq_with : Reader WrittenTree
@@ -178,7 +180,8 @@ use_of k = use_by k.kind k.text
 
 -- the prekind of a text
 unfoldable pub prekind_named : List ℕ → Option Prekind
-prekind_named text = choose (bytes_eq text (codes "S")) (Some Session) (choose (bytes_eq text (codes "T")) (Some Top) None)
+prekind_named text = choose (bytes_eq text (codes "S")) (Some Session)
+    (choose (bytes_eq text (codes "T")) (Some Top) None)
 
 -- the prekind of a token, by its kind and text
 abbrev pub prekind_by : TokenKind → List ℕ → Option Prekind
@@ -195,7 +198,10 @@ binder_at = do
   x ← one lower_of
   c ← word (codes ":")
   u ← one use_of
-  map_reader (λ (p : Prekind). (record { name = x.text; at = x.at }, record { prekind = p; uses = u })) (one prekind_of)
+  map_reader (λ (p : Prekind). (
+    record { name = x.text; at = x.at },
+    record { prekind = p; uses = u },
+  )) (one prekind_of)
 
 -- the two types of a question, behind its binders
 unfoldable pub types_at : ℕ → List (Binder × Kind) → Reader Asked
@@ -207,4 +213,6 @@ types_at n bs = do
 
 -- a question with nothing behind it
 unfoldable pub question_at : ℕ → Reader Asked
-question_at n = on (spells (codes "forall")) (sep_by (spells (codes ",")) binder_at >>= λ bs. word (codes ".") >>= λ d. types_at n bs) (types_at n [])
+question_at n = on (spells (codes "forall"))
+    (sep_by (spells (codes ",")) binder_at >>= λ bs. word (codes ".") >>= λ d. types_at n bs)
+    (types_at n [])

@@ -63,7 +63,8 @@ pub fn binders<'a>(
     alloc: Global,
     tokens: &'a [Lexeme<'a>],
 ) -> Result<(Vec<(Binder, Kind)>, &'a [Lexeme<'a>]), Stop<'a>>
-    ensures { Gives (λ x. (x.0.items, x.1.now)) result (sep_by (spells (codes ",")) binder_at tokens.now) }
+    ensures { Gives (λ x. (x.0.items, x.1.now)) result
+        (sep_by (spells (codes ",")) binder_at tokens.now) }
 {
     let mut binders = Vec::new(alloc);
     let mut rest = tokens;

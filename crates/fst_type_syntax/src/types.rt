@@ -22,7 +22,8 @@ fn alt<'a>(
     left: u32,
     tokens: &'a [Lexeme<'a>],
 ) -> Result<(WrittenBranch, &'a [Lexeme<'a>]), Stop<'a>>
-    ensures { Gives (λ x. (labelled x.0, x.1.now)) result (alt_with (seq_at left) (type_at left) tokens.now) }
+    ensures { Gives (λ x. (labelled x.0, x.1.now)) result
+        (alt_with (seq_at left) (type_at left) tokens.now) }
 {
     let (label, rest) = upper(tokens)?;
     let rest = expect(":", rest)?;
@@ -38,7 +39,8 @@ fn alts<'a>(
     left: u32,
     tokens: &'a [Lexeme<'a>],
 ) -> Result<(Vec<WrittenBranch>, &'a [Lexeme<'a>]), Stop<'a>>
-    ensures { Gives (λ x. (map labelled x.0.items, x.1.now)) result (sep_by (spells (codes ",")) (alt_with (seq_at left) (type_at left)) tokens.now) }
+    ensures { Gives (λ x. (map labelled x.0.items, x.1.now)) result
+        (sep_by (spells (codes ",")) (alt_with (seq_at left) (type_at left)) tokens.now) }
 {
     let mut branches = Vec::new(alloc);
     let mut rest = tokens;
@@ -61,7 +63,9 @@ fn choice<'a>(
     left: u32,
     tokens: &'a [Lexeme<'a>],
 ) -> Result<(Vec<WrittenBranch>, &'a [Lexeme<'a>]), Stop<'a>>
-    ensures { (make : WrittenBranches → WrittenTree) → Gives (λ x. (make (written_branches x.0.items), x.1.now)) result (choice_with (seq_at left) (type_at left) make tokens.now) }
+    ensures { (make : WrittenBranches → WrittenTree) → Gives
+        (λ x. (make (written_branches x.0.items), x.1.now)) result
+        (choice_with (seq_at left) (type_at left) make tokens.now) }
 {
     let rest = expect("{", tokens)?;
     let (branches, rest) = alts(alloc, left, rest)?;
@@ -92,7 +96,8 @@ fn seq_inside<'a>(
     left: u32,
     tokens: &'a [Lexeme<'a>],
 ) -> Result<(Written, &'a [Lexeme<'a>]), Stop<'a>>
-    ensures { Gives (λ x. (x.0, x.1.now)) result (seq_with (seq_at left) (type_at left) tokens.now) }
+    ensures { Gives (λ x. (x.0, x.1.now)) result
+        (seq_with (seq_at left) (type_at left) tokens.now) }
 {
     let at = start(tokens);
     match after("rec", tokens) {
@@ -109,7 +114,8 @@ fn rec_body<'a>(
     at: u32,
     tokens: &'a [Lexeme<'a>],
 ) -> Result<(Written, &'a [Lexeme<'a>]), Stop<'a>>
-    ensures { Gives (λ x. (x.0, x.1.now)) result (rec_with (seq_at left) (type_at left) at tokens.now) }
+    ensures { Gives (λ x. (x.0, x.1.now)) result
+        (rec_with (seq_at left) (type_at left) at tokens.now) }
 {
     let (name, rest) = lower(tokens)?;
     let rest = expect(".", rest)?;
@@ -128,7 +134,8 @@ fn chain<'a>(
     at: u32,
     tokens: &'a [Lexeme<'a>],
 ) -> Result<(Written, &'a [Lexeme<'a>]), Stop<'a>>
-    ensures { Gives (λ x. (x.0, x.1.now)) result (chain_with (seq_at left) (type_at left) at tokens.now) }
+    ensures { Gives (λ x. (x.0, x.1.now)) result
+        (chain_with (seq_at left) (type_at left) at tokens.now) }
 {
     let (first, rest) = atom(alloc, left, tokens)?;
     match after(";", rest) {
@@ -151,7 +158,8 @@ pub fn atom<'a>(
     left: u32,
     tokens: &'a [Lexeme<'a>],
 ) -> Result<(Written, &'a [Lexeme<'a>]), Stop<'a>>
-    ensures { Gives (λ x. (x.0, x.1.now)) result (atom_with (seq_at left) (type_at left) tokens.now) }
+    ensures { Gives (λ x. (x.0, x.1.now)) result
+        (atom_with (seq_at left) (type_at left) tokens.now) }
 {
     match tokens {
         [] => Err(Stop::Syntax(tokens)),
@@ -172,7 +180,8 @@ fn begun<'a>(
     first: &Lexeme<'_>,
     rest: &'a [Lexeme<'a>],
 ) -> Result<(Written, &'a [Lexeme<'a>]), Stop<'a>>
-    ensures { Gives (λ x. (x.0, x.1.now)) result (begun_with (seq_at left) (type_at left) start first.now rest.now) }
+    ensures { Gives (λ x. (x.0, x.1.now)) result
+        (begun_with (seq_at left) (type_at left) start first.now rest.now) }
 {
     let at = first.at;
     match start {
@@ -221,7 +230,8 @@ fn paren<'a>(
     at: u32,
     tokens: &'a [Lexeme<'a>],
 ) -> Result<(Written, &'a [Lexeme<'a>]), Stop<'a>>
-    ensures { Gives (λ x. (x.0, x.1.now)) result (paren_with (seq_at left) (type_at left) at tokens.now) }
+    ensures { Gives (λ x. (x.0, x.1.now)) result
+        (paren_with (seq_at left) (type_at left) at tokens.now) }
 {
     if let Some(behind) = after(")", tokens) {
         return Ok((
@@ -252,7 +262,8 @@ fn pair<'a>(
     first: Written,
     tokens: &'a [Lexeme<'a>],
 ) -> Result<(Written, &'a [Lexeme<'a>]), Stop<'a>>
-    ensures { Gives (λ x. (x.0, x.1.now)) result (pair_with (seq_at left) (type_at left) at first tokens.now) }
+    ensures { Gives (λ x. (x.0, x.1.now)) result
+        (pair_with (seq_at left) (type_at left) at first tokens.now) }
 {
     let (second, rest) = type_(alloc, left, tokens)?;
     let rest = expect(")", rest)?;
@@ -290,7 +301,8 @@ fn arrow<'a>(
     first: Written,
     tokens: &'a [Lexeme<'a>],
 ) -> Result<(Written, &'a [Lexeme<'a>]), Stop<'a>>
-    ensures { Gives (λ x. (x.0, x.1.now)) result (arrow_with (seq_at left) (type_at left) at first tokens.now) }
+    ensures { Gives (λ x. (x.0, x.1.now)) result
+        (arrow_with (seq_at left) (type_at left) at first tokens.now) }
 {
     if let Some(behind) = after("->", tokens) {
         return function(alloc, left, at, Use::Many, first, behind);
@@ -315,7 +327,8 @@ fn function<'a>(
     first: Written,
     tokens: &'a [Lexeme<'a>],
 ) -> Result<(Written, &'a [Lexeme<'a>]), Stop<'a>>
-    ensures { Gives (λ x. (x.0, x.1.now)) result (map_reader (written.arrow at uses first) (type_at left) tokens.now) }
+    ensures { Gives (λ x. (x.0, x.1.now)) result
+        (map_reader (written.arrow at uses first) (type_at left) tokens.now) }
 {
     let (second, rest) = type_(alloc, left, tokens)?;
     let first = Box::new(alloc, first)?;

@@ -59,14 +59,16 @@ pub scoped_exactly : (n : ℕ) (t : Tree) → IsScoped n t ↔ ((k : ℕ) → Is
 scoped_exactly n t = (λ h k f. free_within n k t h f, scoped_by_free n t)
 
 -- the free variables of what a variable stands for
-variable_free : (env : List (Option Tree)) → EnvHas (IsScoped 0) env → (j m k : ℕ) → IsFree k (variable env j (back m)) ↔ ((m ≡ k) × StandsForNothing env j)
+variable_free : (env : List (Option Tree)) → EnvHas (IsScoped 0) env →
+    (j m k : ℕ) → IsFree k (variable env j (back m)) ↔ ((m ≡ k) × StandsForNothing env j)
 variable_free [] ok j m k = (λ e. (e, tt), λ p. p.0)
 variable_free (None ∷ env) ok zero m k = (λ e. (e, tt), λ p. p.0)
 variable_free (Some t ∷ env) ok zero m k = (λ f. absurd (omega (arith, free_within 0 k t ok.0 f)), λ p. absurd p.1)
 variable_free (None ∷ env) ok (suc j) m k = variable_free env ok.1 j m k
 variable_free (Some t ∷ env) ok (suc j) m k = variable_free env ok.1 j m k
 
-at_one : (env : List (Option Tree)) (j k : ℕ) (A : Type 0) → A ↔ ((j ≡ k) × StandsForNothing env j) → A ↔ ((j ≡ k) × StandsForNothing env k)
+at_one : (env : List (Option Tree)) (j k : ℕ) (A : Type 0) → A ↔ ((j ≡ k) × StandsForNothing env j) →
+    A ↔ ((j ≡ k) × StandsForNothing env k)
 at_one env j k A h = (
   λ a. let p = h.0 a in (p.0, subst (StandsForNothing env) p.0 p.1),
   λ p. h.1 (p.0, subst (StandsForNothing env) (sym p.0) p.1),
@@ -89,7 +91,8 @@ in_neither = (λ f. absurd f, λ p. p.0)
 
 mutual
   -- the free variables of a type in which types without any are put: those of the type that stand for nothing
-  pub substitute_free : (env : List (Option Tree)) → EnvHas (IsScoped 0) env → (t : Tree) (k : ℕ) → IsFree k (substitute env t) ↔ (IsFree k t × StandsForNothing env k)
+  pub substitute_free : (env : List (Option Tree)) → EnvHas (IsScoped 0) env →
+      (t : Tree) (k : ℕ) → IsFree k (substitute env t) ↔ (IsFree k t × StandsForNothing env k)
   substitute_free env ok skip k = in_neither
   substitute_free env ok (send b) k = in_neither
   substitute_free env ok (receive b) k = in_neither
@@ -104,7 +107,8 @@ mutual
   substitute_free env ok (pair s r) k = in_either (substitute_free env ok s k) (substitute_free env ok r k)
   substitute_free env ok (named j) k = in_neither
 
-  substitute_free_in_some : (env : List (Option Tree)) → EnvHas (IsScoped 0) env → (bs : Branches) (k : ℕ) → IsFreeInSome k (substitute_all env bs) ↔ (IsFreeInSome k bs × StandsForNothing env k)
+  substitute_free_in_some : (env : List (Option Tree)) → EnvHas (IsScoped 0) env →
+      (bs : Branches) (k : ℕ) → IsFreeInSome k (substitute_all env bs) ↔ (IsFreeInSome k bs × StandsForNothing env k)
   substitute_free_in_some env ok none k = in_neither
   substitute_free_in_some env ok (branch l s bs) k = in_either (substitute_free env ok s k) (substitute_free_in_some env ok bs k)
 

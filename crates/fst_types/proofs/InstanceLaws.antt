@@ -9,7 +9,8 @@ use Rattle.fst_types.proofs.SubstitutionLaws.{scoped_wider, substitute_kept}
 
 mutual
   -- where types without free variables are put for a signature's variables, no variable gets free
-  pub instantiated_scoped : (n : ℕ) (args : List Tree) (s : Tree) → ArgumentsHave (IsScoped 0) args → IsScoped n s → IsScoped n (instantiated args s)
+  pub instantiated_scoped : (n : ℕ) (args : List Tree) (s : Tree) → ArgumentsHave (IsScoped 0) args → IsScoped n s →
+      IsScoped n (instantiated args s)
   instantiated_scoped n args skip ok h = tt
   instantiated_scoped n args (send b) ok h = tt
   instantiated_scoped n args (receive b) ok h = tt
@@ -24,9 +25,11 @@ mutual
   instantiated_scoped n args (pair s r) ok h = (instantiated_scoped n args s ok h.0, instantiated_scoped n args r ok h.1)
   instantiated_scoped n args (named k) ok h = tt
 
-  instantiated_all_scoped : (n : ℕ) (args : List Tree) (bs : Branches) → ArgumentsHave (IsScoped 0) args → AllScoped n bs → AllScoped n (instantiated_all args bs)
+  instantiated_all_scoped : (n : ℕ) (args : List Tree) (bs : Branches) → ArgumentsHave (IsScoped 0) args → AllScoped n bs →
+      AllScoped n (instantiated_all args bs)
   instantiated_all_scoped n args none ok h = tt
-  instantiated_all_scoped n args (branch l s bs) ok h = (instantiated_scoped n args s ok h.0, instantiated_all_scoped n args bs ok h.1)
+  instantiated_all_scoped n args (branch l s bs) ok h =
+      (instantiated_scoped n args s ok h.0, instantiated_all_scoped n args bs ok h.1)
 
 instantiated_rising : (args : List Tree) (bs : Branches) → AreRising bs → AreRising (instantiated_all args bs)
 instantiated_rising args none r = r
@@ -35,7 +38,8 @@ instantiated_rising args (branch l s (branch m t bs)) r = (r.0, instantiated_ris
 
 mutual
   -- ordered types put into an ordered type give an ordered type
-  pub instantiated_ordered : (args : List Tree) (s : Tree) → ArgumentsHave IsOrdered args → IsOrdered s → IsOrdered (instantiated args s)
+  pub instantiated_ordered : (args : List Tree) (s : Tree) → ArgumentsHave IsOrdered args → IsOrdered s →
+      IsOrdered (instantiated args s)
   instantiated_ordered args skip ok o = tt
   instantiated_ordered args (send b) ok o = tt
   instantiated_ordered args (receive b) ok o = tt
@@ -50,9 +54,11 @@ mutual
   instantiated_ordered args (pair s r) ok o = (instantiated_ordered args s ok o.0, instantiated_ordered args r ok o.1)
   instantiated_ordered args (named k) ok o = tt
 
-  instantiated_all_ordered : (args : List Tree) (bs : Branches) → ArgumentsHave IsOrdered args → AllOrdered bs → AllOrdered (instantiated_all args bs)
+  instantiated_all_ordered : (args : List Tree) (bs : Branches) → ArgumentsHave IsOrdered args → AllOrdered bs →
+      AllOrdered (instantiated_all args bs)
   instantiated_all_ordered args none ok o = tt
-  instantiated_all_ordered args (branch l s bs) ok o = (instantiated_ordered args s ok o.0, instantiated_all_ordered args bs ok o.1)
+  instantiated_all_ordered args (branch l s bs) ok o =
+      (instantiated_ordered args s ok o.0, instantiated_all_ordered args bs ok o.1)
 
 instantiated_variable : (args : List Tree) (env : List (Option Tree)) (k j : ℕ) →
     instantiated args (variable env k (back j)) ≡ variable (instantiated_env args env) k (back j)
@@ -70,19 +76,23 @@ mutual
   instantiated_substitute args env (receive b) ok = refl
   instantiated_substitute args env (select bs) ok = ap select (instantiated_substitute_all args env bs ok)
   instantiated_substitute args env (offer bs) ok = ap offer (instantiated_substitute_all args env bs ok)
-  instantiated_substitute args env (seq s r) ok = λ i. seq (instantiated_substitute args env s ok i) (instantiated_substitute args env r ok i)
+  instantiated_substitute args env (seq s r) ok =
+      λ i. seq (instantiated_substitute args env s ok i) (instantiated_substitute args env r ok i)
   instantiated_substitute args env (rec s) ok = ap rec (instantiated_substitute args (None ∷ env) s ok)
   instantiated_substitute args env (back k) ok = instantiated_variable args env k k
   instantiated_substitute args env (var k) ok = sym (substitute_kept 0 (instantiated_env args env) (argument args k) (ok k))
   instantiated_substitute args env (plain b) ok = refl
-  instantiated_substitute args env (arrow u s r) ok = λ i. arrow u (instantiated_substitute args env s ok i) (instantiated_substitute args env r ok i)
-  instantiated_substitute args env (pair s r) ok = λ i. pair (instantiated_substitute args env s ok i) (instantiated_substitute args env r ok i)
+  instantiated_substitute args env (arrow u s r) ok =
+      λ i. arrow u (instantiated_substitute args env s ok i) (instantiated_substitute args env r ok i)
+  instantiated_substitute args env (pair s r) ok =
+      λ i. pair (instantiated_substitute args env s ok i) (instantiated_substitute args env r ok i)
   instantiated_substitute args env (named k) ok = refl
 
   instantiated_substitute_all : (args : List Tree) (env : List (Option Tree)) (bs : Branches) → ArgumentsHave (IsScoped 0) args →
       instantiated_all args (substitute_all env bs) ≡ substitute_all (instantiated_env args env) (instantiated_all args bs)
   instantiated_substitute_all args env none ok = refl
-  instantiated_substitute_all args env (branch l s bs) ok = λ i. branch l (instantiated_substitute args env s ok i) (instantiated_substitute_all args env bs ok i)
+  instantiated_substitute_all args env (branch l s bs) ok =
+      λ i. branch l (instantiated_substitute args env s ok i) (instantiated_substitute_all args env bs ok i)
 
 -- the instance of an unfolding is the unfolding of the instance
 pub instantiated_unfolding_of : (args : List Tree) (s : Tree) → ArgumentsHave (IsScoped 0) args →

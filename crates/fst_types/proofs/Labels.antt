@@ -59,8 +59,10 @@ same_text (x ∷ xs) (y ∷ ys) e =
 -- labels that pass the test are one
 pub same_label-same : (a b : Label) → same_label a b ≡ true → a ≡ b
 same_label-same a b e =
-    let outer = both_equal (ordering_then (nat_cmp (label_rank a) (label_rank b)) (nat_cmp (label_number a) (label_number b))) (slice_cmp nat_cmp (label_text a) (label_text b)) e in
-    let inner = both_equal (nat_cmp (label_rank a) (label_rank b)) (nat_cmp (label_number a) (label_number b)) (ap is_eq outer.0) in
+    let outer = both_equal (ordering_then (nat_cmp (label_rank a) (label_rank b)) (nat_cmp (label_number a) (label_number b)))
+    (slice_cmp nat_cmp (label_text a) (label_text b)) e in
+    let inner = both_equal (nat_cmp (label_rank a) (label_rank b)) (nat_cmp (label_number a) (label_number b))
+    (ap is_eq outer.0) in
     let ranks = exact_unsigned (label_rank a) (label_rank b) inner.0 in
     let numbers = exact_unsigned (label_number a) (label_number b) inner.1 in
     let texts = same_text (label_text a) (label_text b) outer.1 in
@@ -69,8 +71,10 @@ same_label-same a b e =
 -- each label passes the test with itself
 pub same_label-itself : (a : Label) → same_label a a ≡ true
 same_label-itself a =
-    ap (λ o. is_eq (ordering_then (ordering_then o (nat_cmp (label_number a) (label_number a))) (slice_cmp nat_cmp (label_text a) (label_text a)))) (tied_itself nat_cmp_total (label_rank a))
-    ∙ ap (λ o. is_eq (ordering_then o (slice_cmp nat_cmp (label_text a) (label_text a)))) (tied_itself nat_cmp_total (label_number a))
+    ap (λ o. is_eq (ordering_then (ordering_then o (nat_cmp (label_number a) (label_number a)))
+    (slice_cmp nat_cmp (label_text a) (label_text a)))) (tied_itself nat_cmp_total (label_rank a))
+    ∙ ap (λ o. is_eq (ordering_then o (slice_cmp nat_cmp (label_text a) (label_text a))))
+    (tied_itself nat_cmp_total (label_number a))
     ∙ ap is_eq (tied_itself nat_list_cmp_total (label_text a))
 
 -- the test is equality
@@ -79,4 +83,5 @@ same_label_is a b = (same_label-same a b, λ e. ap (λ c. same_label a c) (sym e
 
 -- the order of labels is total
 pub label_cmp_total : IsTotalOrder label_cmp
-label_cmp_total = then_total (then_total (on_total label_rank nat_cmp_total) (on_total label_number nat_cmp_total)) (on_total label_text nat_list_cmp_total)
+label_cmp_total = then_total (then_total (on_total label_rank nat_cmp_total) (on_total label_number nat_cmp_total))
+    (on_total label_text nat_list_cmp_total)

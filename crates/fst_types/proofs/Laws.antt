@@ -19,9 +19,13 @@ use Rattle.fst_types.proofs.Labels as labels
 use Rattle.fst_types.specs.Variables.{HasVariablesBelow}
 use Rattle.fst_types.proofs.SubstitutionLaws as substitution
 use Rattle.fst_types.proofs.VariableLaws as variables
+-- a type may cross threads, and so may a path
+pub use Rattle.fst_types.proofs.ty.Ty.TheLaws.TheKnot.{crosses}
+pub use Rattle.fst_types.proofs.path.Path.TheSendSync.{the_send}
 
 -- a branch is no higher than the highest branch of its choice
-pub height_at : (bs : List Branch) (i : ℕ) (d : Branch) → i < length bs → height ((get_or bs i d).body) ≤ height_all (branches_of bs)
+pub height_at : (bs : List Branch) (i : ℕ) (d : Branch) → i < length bs →
+    height ((get_or bs i d).body) ≤ height_all (branches_of bs)
 height_at = heights.height_at
 
 -- a written branch is no higher than the highest branch of its choice
@@ -62,7 +66,8 @@ pub substitute_nothing : (s : Tree) → substitute [] s ≡ s
 substitute_nothing = substitution.substitute_nothing 0
 
 -- a type whose free variables all stand for types without any has none left
-pub substitute_scoped : (env : List (Option Tree)) (s : Tree) → AllClosed env → IsScoped (length env) s → IsScoped 0 (substitute env s)
+pub substitute_scoped : (env : List (Option Tree)) (s : Tree) → AllClosed env → IsScoped (length env) s →
+    IsScoped 0 (substitute env s)
 substitute_scoped = substitution.all_put_scoped
 
 -- ordered types put into an ordered type give an ordered type
@@ -83,11 +88,13 @@ pub unfolding_of_ordered : (s : Tree) → IsOrdered (rec s) → IsOrdered (unfol
 unfolding_of_ordered = substitution.unfolding_of_ordered
 
 -- where types without free variables are put for a signature's variables, no variable gets free
-pub instantiated_scoped : (n : ℕ) (args : List Tree) (s : Tree) → ArgumentsHave (IsScoped 0) args → IsScoped n s → IsScoped n (instantiated args s)
+pub instantiated_scoped : (n : ℕ) (args : List Tree) (s : Tree) → ArgumentsHave (IsScoped 0) args → IsScoped n s →
+    IsScoped n (instantiated args s)
 instantiated_scoped = instance_part.instantiated_scoped
 
 -- an instance of an ordered type by ordered types is ordered
-pub instantiated_ordered : (args : List Tree) (s : Tree) → ArgumentsHave IsOrdered args → IsOrdered s → IsOrdered (instantiated args s)
+pub instantiated_ordered : (args : List Tree) (s : Tree) → ArgumentsHave IsOrdered args → IsOrdered s →
+    IsOrdered (instantiated args s)
 instantiated_ordered = instance_part.instantiated_ordered
 
 -- instantiating goes through substitution
@@ -96,5 +103,6 @@ pub instantiated_substitute : (args : List Tree) (env : List (Option Tree)) (s :
 instantiated_substitute = instance_part.instantiated_substitute
 
 -- the instance of an unfolding is the unfolding of the instance
-pub instantiated_unfolding_of : (args : List Tree) (s : Tree) → ArgumentsHave (IsScoped 0) args → instantiated args (unfolding_of s) ≡ unfolding_of (instantiated args s)
+pub instantiated_unfolding_of : (args : List Tree) (s : Tree) → ArgumentsHave (IsScoped 0) args →
+    instantiated args (unfolding_of s) ≡ unfolding_of (instantiated args s)
 instantiated_unfolding_of = instance_part.instantiated_unfolding_of

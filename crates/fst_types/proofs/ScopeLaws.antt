@@ -21,7 +21,8 @@ outward_weight (Kept' p outer) (suc k) = outward_weight outer k
 outward_weight (Under' t p outer) (suc k) = omega (arith, outward_weight outer k)
 
 -- the k-th variable is the innermost one of the binders from the k-th outward
-pub outward_variable : (scope : Scope) (k : ℕ) (t : Tree) → variable (env_of scope) k t ≡ variable (env_of (outward scope k)) zero t
+pub outward_variable : (scope : Scope) (k : ℕ) (t : Tree) →
+    variable (env_of scope) k t ≡ variable (env_of (outward scope k)) zero t
 outward_variable scope zero t = refl
 outward_variable Top (suc k) t = refl
 outward_variable (Kept' p outer) (suc k) t = outward_variable outer k t

@@ -19,7 +19,8 @@ substitute_rising env (branch l s (branch m t bs)) r = (r.0, substitute_rising e
 
 mutual
   -- ordered types put into an ordered type give an ordered type
-  pub substitute_ordered : (env : List (Option Tree)) (s : Tree) → EnvHas IsOrdered env → IsOrdered s → IsOrdered (substitute env s)
+  pub substitute_ordered : (env : List (Option Tree)) (s : Tree) → EnvHas IsOrdered env → IsOrdered s →
+      IsOrdered (substitute env s)
   substitute_ordered env skip e o = tt
   substitute_ordered env (send b) e o = tt
   substitute_ordered env (receive b) e o = tt
@@ -35,7 +36,8 @@ mutual
   substitute_ordered env (named k) e o = tt
 
   -- and put into ordered branches, ordered branches
-  pub substitute_all_ordered : (env : List (Option Tree)) (bs : Branches) → EnvHas IsOrdered env → AllOrdered bs → AllOrdered (substitute_all env bs)
+  pub substitute_all_ordered : (env : List (Option Tree)) (bs : Branches) → EnvHas IsOrdered env → AllOrdered bs →
+      AllOrdered (substitute_all env bs)
   substitute_all_ordered env none e o = tt
   substitute_all_ordered env (branch l s bs) e o = (substitute_ordered env s e o.0, substitute_all_ordered env bs e o.1)
 
@@ -117,17 +119,21 @@ mutual
   all_scoped_wider n m none le h = tt
   all_scoped_wider n m (branch l s bs) le h = (scoped_wider n m s le h.0, all_scoped_wider n m bs le h.1)
 
-variable_scoped : (n m : ℕ) (env : List (Option Tree)) (k j : ℕ) → AllClosed env → k < n + length env → (k < n → j < m) → n ≤ m → IsScoped m (variable (below n env) k (back j))
+variable_scoped : (n m : ℕ) (env : List (Option Tree)) (k j : ℕ) → AllClosed env → k < n + length env →
+    (k < n → j < m) → n ≤ m → IsScoped m (variable (below n env) k (back j))
 variable_scoped zero m [] k j ok lt h le = absurd (omega arith)
 variable_scoped zero m (None ∷ env) k j ok lt h le = absurd ok
 variable_scoped zero m (Some t ∷ env) zero j ok lt h le = scoped_wider 0 m t (omega arith) ok.0
-variable_scoped zero m (Some t ∷ env) (suc k) j ok lt h le = variable_scoped zero m env k j ok.1 (omega arith) (λ l. absurd (omega arith)) le
+variable_scoped zero m (Some t ∷ env) (suc k) j ok lt h le = variable_scoped zero m env k j ok.1 (omega arith)
+    (λ l. absurd (omega arith)) le
 variable_scoped (suc n) m env zero j ok lt h le = h (omega arith)
-variable_scoped (suc n) m env (suc k) j ok lt h le = variable_scoped n m env k j ok (omega arith) (λ l. h (omega arith)) (omega arith)
+variable_scoped (suc n) m env (suc k) j ok lt h le = variable_scoped n m env k j ok (omega arith)
+    (λ l. h (omega arith)) (omega arith)
 
 mutual
   -- only the binders that stand for nothing are left
-  pub substitute_scoped : (n : ℕ) (env : List (Option Tree)) (s : Tree) → AllClosed env → IsScoped (n + length env) s → IsScoped n (substitute (below n env) s)
+  pub substitute_scoped : (n : ℕ) (env : List (Option Tree)) (s : Tree) → AllClosed env → IsScoped (n + length env) s →
+      IsScoped n (substitute (below n env) s)
   substitute_scoped n env skip ok h = tt
   substitute_scoped n env (send b) ok h = tt
   substitute_scoped n env (receive b) ok h = tt
@@ -144,24 +150,28 @@ mutual
   substitute_scoped n env (pair s r) ok h = (substitute_scoped n env s ok h.0, substitute_scoped n env r ok h.1)
   substitute_scoped n env (named k) ok h = tt
 
-  substitute_all_scoped : (n : ℕ) (env : List (Option Tree)) (bs : Branches) → AllClosed env → AllScoped (n + length env) bs → AllScoped n (substitute_all (below n env) bs)
+  substitute_all_scoped : (n : ℕ) (env : List (Option Tree)) (bs : Branches) → AllClosed env → AllScoped (n + length env) bs →
+      AllScoped n (substitute_all (below n env) bs)
   substitute_all_scoped n env none ok h = tt
   substitute_all_scoped n env (branch l s bs) ok h = (substitute_scoped n env s ok h.0, substitute_all_scoped n env bs ok h.1)
 
 -- a type whose free variables all stand for types without any has none left
-pub all_put_scoped : (env : List (Option Tree)) (s : Tree) → AllClosed env → IsScoped (length env) s → IsScoped 0 (substitute env s)
+pub all_put_scoped : (env : List (Option Tree)) (s : Tree) → AllClosed env → IsScoped (length env) s →
+    IsScoped 0 (substitute env s)
 all_put_scoped env s ok h =
     let sum : length env ≡ 0 + length env = omega arith in
     substitute_scoped 0 env s ok (subst (λ m. IsScoped m s) sum h)
 
-past : (E env : List (Option Tree)) → AllClosed env → (k j : ℕ) → variable E j (back j) ≡ back j → substitute E (variable env k (back j)) ≡ variable env k (back j)
+past : (E env : List (Option Tree)) → AllClosed env →
+    (k j : ℕ) → variable E j (back j) ≡ back j → substitute E (variable env k (back j)) ≡ variable env k (back j)
 past E [] ok k j h = h
 past E (None ∷ env) ok k j h = absurd ok
 past E (Some t ∷ env) ok zero j h = substitute_kept 0 E t ok.0
 past E (Some t ∷ env) ok (suc k) j h = past E env ok.1 k j h
 
 at_variable : (E : List (Option Tree)) (whole : Tree) (env : List (Option Tree)) → AllClosed env → (n k j : ℕ) →
-    variable E j (back j) ≡ variable (below n (Some whole ∷ [])) k (back j) → substitute E (variable (below n (None ∷ env)) k (back j)) ≡ variable (below n (Some whole ∷ env)) k (back j)
+    variable E j (back j) ≡ variable (below n (Some whole ∷ [])) k (back j) →
+    substitute E (variable (below n (None ∷ env)) k (back j)) ≡ variable (below n (Some whole ∷ env)) k (back j)
 at_variable E whole env ok zero zero j h = h
 at_variable E whole env ok zero (suc k) j h = past E env ok k j h
 at_variable E whole env ok (suc n) zero j h = h
@@ -170,7 +180,8 @@ at_variable E whole env ok (suc n) (suc k) j h = at_variable E whole env ok n k 
 module _ (whole : Tree) (env : List (Option Tree)) (ok : AllClosed env) where
   mutual
     -- putting in one type after the others is putting them in all at once
-    pub substitute_after : (n : ℕ) (s : Tree) → substitute (below n (Some whole ∷ [])) (substitute (below n (None ∷ env)) s) ≡ substitute (below n (Some whole ∷ env)) s
+    pub substitute_after : (n : ℕ) (s : Tree) → substitute (below n (Some whole ∷ []))
+        (substitute (below n (None ∷ env)) s) ≡ substitute (below n (Some whole ∷ env)) s
     substitute_after n skip = refl
     substitute_after n (send b) = refl
     substitute_after n (receive b) = refl
@@ -186,7 +197,8 @@ module _ (whole : Tree) (env : List (Option Tree)) (ok : AllClosed env) where
     substitute_after n (named k) = refl
 
     substitute_all_after : (n : ℕ) (bs : Branches) →
-        substitute_all (below n (Some whole ∷ [])) (substitute_all (below n (None ∷ env)) bs) ≡ substitute_all (below n (Some whole ∷ env)) bs
+        substitute_all (below n (Some whole ∷ [])) (substitute_all (below n (None ∷ env)) bs) ≡ substitute_all
+        (below n (Some whole ∷ env)) bs
     substitute_all_after n none = refl
     substitute_all_after n (branch l s bs) = λ i. branch l (substitute_after n s i) (substitute_all_after n bs i)
 

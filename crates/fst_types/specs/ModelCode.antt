@@ -127,4 +127,8 @@ mutual
 
 -- trees, told apart by their codes
 abbrev pub tree_code : Coded Tree
-tree_code = record { code = code_of; inj = λ x y e. sym (tree_at-code_of x) ∙ ap tree_at e ∙ tree_at-code_of y }
+tree_code = record {
+  code = code_of;
+  inj =
+      λ x y e. sym (tree_at-code_of x) ∙ ap tree_at e ∙ tree_at-code_of y;
+}

@@ -10,7 +10,8 @@ use Rattle.fst_types.specs.declared.ty.Ty.TheDeep.{deep-TyForm, deep-Branch}
 use denote.Param.Weighed.{most}
 
 -- no branch is higher than the highest of them
-pub most_le-height_all : (bs : List Branch) → most deep-Branch bs ≤ suc (height_all (branches_of bs))
+pub most_le-height_all : (bs : List Branch) →
+    most deep-Branch bs ≤ suc (height_all (branches_of bs))
 most_le-height_all [] = omega arith
 most_le-height_all (b ∷ bs) = omega (arith, most_le-height_all bs)
 

@@ -56,7 +56,8 @@ abbrev mutual
   tree_at (gcons t (gnum n)) = skip 0
   tree_at (gcons t (gcons n gnil)) = skip 0
   tree_at (gcons t (gcons n (gnum m))) = skip 0
-  tree_at (gcons t (gcons n (gcons x y))) = node_at (num t) (num n) (num x) (name_at x) (branches_at x) (tree_at x) (tree_at y)
+  tree_at (gcons t (gcons n (gcons x y))) =
+      node_at (num t) (num n) (num x) (name_at x) (branches_at x) (tree_at x) (tree_at y)
 
   -- the branches of a code
   pub branches_at : Gv → WrittenBranches
@@ -78,8 +79,10 @@ mutual
   tree_at-code_of (rec at x t) = λ i. rec at (name_at-name_code x i) (tree_at-code_of t i)
   tree_at-code_of (named at x) = ap (named at) (name_at-name_code x)
   tree_at-code_of (plain at b) = ap (plain at) (base_at-base_code b)
-  tree_at-code_of (arrow at Many s t) = λ i. arrow at Many (tree_at-code_of s i) (tree_at-code_of t i)
-  tree_at-code_of (arrow at Once s t) = λ i. arrow at Once (tree_at-code_of s i) (tree_at-code_of t i)
+  tree_at-code_of (arrow at Many s t) =
+      λ i. arrow at Many (tree_at-code_of s i) (tree_at-code_of t i)
+  tree_at-code_of (arrow at Once s t) =
+      λ i. arrow at Once (tree_at-code_of s i) (tree_at-code_of t i)
   tree_at-code_of (pair at s t) = λ i. pair at (tree_at-code_of s i) (tree_at-code_of t i)
 
   -- branches come back from their code
@@ -90,4 +93,8 @@ mutual
 
 -- trees, told apart by their codes
 abbrev pub written_code : Coded WrittenTree
-written_code = record { code = code_of; inj = λ x y e. sym (tree_at-code_of x) ∙ ap tree_at e ∙ tree_at-code_of y }
+written_code = record {
+  code = code_of;
+  inj =
+      λ x y e. sym (tree_at-code_of x) ∙ ap tree_at e ∙ tree_at-code_of y;
+}

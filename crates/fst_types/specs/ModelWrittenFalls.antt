@@ -10,12 +10,14 @@ use Rattle.fst_types.specs.declared.written.Written.TheDeep.{deep-WrittenForm, d
 use denote.Param.Weighed.{most}
 
 -- no branch is higher than the highest of them
-pub most_le-height_all : (bs : List WrittenBranch) → most deep-WrittenBranch bs ≤ suc (height_all (written_branches bs))
+pub most_le-height_all : (bs : List WrittenBranch) →
+    most deep-WrittenBranch bs ≤ suc (height_all (written_branches bs))
 most_le-height_all [] = omega arith
 most_le-height_all (b ∷ bs) = omega (arith, most_le-height_all bs)
 
 -- no part is as high as the whole
-pub deep_le-height : (at : ℕ) (f : WrittenForm) → max (deep-WrittenForm f) 0 ≤ height (written_of at f)
+pub deep_le-height : (at : ℕ) (f : WrittenForm) →
+    max (deep-WrittenForm f) 0 ≤ height (written_of at f)
 deep_le-height at Skip = omega arith
 deep_le-height at (Send b) = omega arith
 deep_le-height at (Receive b) = omega arith

@@ -44,7 +44,8 @@ label_text (Var k) = []
 -- how two labels stand: by their form, then their number, then their bytes
 abbrev pub label_cmp : Label → Label → Ordering
 label_cmp a b =
-    ordering_then (ordering_then (nat_cmp (label_rank a) (label_rank b)) (nat_cmp (label_number a) (label_number b)))
+    ordering_then (ordering_then (nat_cmp (label_rank a) (label_rank b))
+    (nat_cmp (label_number a) (label_number b)))
     (slice_cmp nat_cmp (label_text a) (label_text b))
 
 -- whether two labels are one, as a test
@@ -61,7 +62,8 @@ AreRising (branch l t (branch m u bs)) = (slice_cmp nat_cmp l m ≡ Less) × Are
 abbrev pub AreSorted : Branches → Type 0
 AreSorted none = ⊥
 AreSorted (branch l t none) = ⊤
-AreSorted (branch l t (branch m u bs)) = (slice_cmp nat_cmp l m ≢ Greater) × AreSorted (branch m u bs)
+AreSorted (branch l t (branch m u bs)) =
+    (slice_cmp nat_cmp l m ≢ Greater) × AreSorted (branch m u bs)
 
 abbrev mutual
   -- the branches of each choice in the tree are as P says

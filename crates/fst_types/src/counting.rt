@@ -51,7 +51,8 @@ pub fn substituted_size(scope: &Scope<'_>, t: &Ty, before: u64) -> u64
 #[cycle(substituted_size)]
 #[tactic(auto, using(crate::proofs::ScopeLaws::of_variables))]
 fn variable_size(scope: &Scope<'_>, k: u32, before: u64) -> u64
-    ensures { result ≡ min (before + nodes (variable (env_of scope.now) k (tree.back k))) (most_nodes + 1) }
+    ensures { result ≡ min (before + nodes (variable (env_of scope.now) k (tree.back k)))
+        (most_nodes + 1) }
 {
     match outward(&*scope, k) {
         Scope::Under(whole, outer) => substituted_size(outer, whole, before),
@@ -63,7 +64,8 @@ fn variable_size(scope: &Scope<'_>, k: u32, before: u64) -> u64
 #[cycle(substituted_size)]
 #[tactic(auto, using(crate::proofs::Laws::height_at))]
 fn branches_size(scope: &Scope<'_>, branches: &[Branch], before: u64) -> u64
-    ensures { result ≡ min (before + nodes_all (substitute_all (env_of scope.now) (branches_of branches.now))) (most_nodes + 1) }
+    ensures { result ≡ min (before + nodes_all
+        (substitute_all (env_of scope.now) (branches_of branches.now))) (most_nodes + 1) }
 {
     let mut counted = before;
     for branch in branches {

@@ -141,7 +141,8 @@ pub fn instance_size(t: &Ty, args: &[Ty]) -> u64
 #[cycle(instance_size)]
 #[tactic(auto, using(crate::proofs::Laws::height_at))]
 fn instance_branches_size(branches: &[Branch], args: &[Ty]) -> u64
-    ensures { result ≡ min (nodes_all (instantiated_all args.now (branches_of branches.now))) (2 ^ 64 - 1) }
+    ensures { result ≡ min (nodes_all (instantiated_all args.now (branches_of branches.now)))
+        (2 ^ 64 - 1) }
 {
     let mut total: u64 = 0;
     for branch in branches {

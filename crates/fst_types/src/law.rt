@@ -18,5 +18,6 @@ pub fn label_order_law()
 #[tactic(auto, using(crate::proofs::FreeLaws::substitution_laws))]
 pub fn substitution_law()
     ensures scoped { (n : ℕ) (t : Tree) → IsScoped n t ↔ ((k : ℕ) → IsFree k t → k < n) }
-    ensures free { (env : List (Option Tree)) → EnvHas (IsScoped 0) env → (t : Tree) (k : ℕ) → IsFree k (substitute env t) ↔ (IsFree k t × StandsForNothing env k) }
+    ensures free { (env : List (Option Tree)) → EnvHas (IsScoped 0) env →
+        (t : Tree) (k : ℕ) → IsFree k (substitute env t) ↔ (IsFree k t × StandsForNothing env k) }
 {}

@@ -35,7 +35,8 @@ pub fn unfold_within_limit(alloc: Global, t: &Ty) -> Result<Ty, UnfoldFault>
     requires scoped { IsScoped 0 t.now }
     ensures unfolding { IfOk result (λ u. (s : Tree) → t.now ≡ tree.rec s → u ≡ unfolding_of s) }
     ensures scoped { IfOk result (λ u. IsScoped 0 u) }
-    ensures too_large { IsErrAnd result (λ f. f ≡ TooLarge) ↔ ((s : Tree) → t.now ≡ tree.rec s → HasTooManyNodes (unfolding_of s)) }
+    ensures too_large { IsErrAnd result
+        (λ f. f ≡ TooLarge) ↔ ((s : Tree) → t.now ≡ tree.rec s → HasTooManyNodes (unfolding_of s)) }
 {
     if unfolding_is_too_large(t) {
         return Err(UnfoldFault::TooLarge);

@@ -15,5 +15,7 @@ accepted_derived m budget ds h = record {
   types = h.types;
   fields = h.fields;
   main = h.main;
-  equations = globals_derived m (checking_over m budget) (λ vars. within_converts IsInSize (IsKnown (check_over m budget vars)) (IsConversion vars) (λ s t k. k.conversion)) m.globals.items ds h.types.globals h.equations;
+  equations = globals_derived m (checking_over m budget)
+      (λ vars. within_converts IsInSize (IsKnown (check_over m budget vars)) (IsConversion vars) (λ s t k. k.conversion))
+      m.globals.items ds h.types.globals h.equations;
 }

@@ -36,8 +36,10 @@ one_binder [] b l e = absurd (omega (arith, l))
 one_binder (x ∷ []) b l e = ap (λ y. y ∷ []) (sym e)
 one_binder (x ∷ y ∷ xs) b l e = absurd (omega (arith, l))
 
-pub case_numbered : (families : List Family) (t : Tree) (arms : List Arm) (o : Constructors) (ns : List ℕ) (k : ℕ) (b : Arm) → IsCase families t arms o → ns ≡ o.numbers.items → k < length arms → b ≡ get_or arms k b →
-    (k < length ns) × (slice_index ns k < length o.makers.now) × (maker_named b.label o.makers.now ≡ slice_get o.makers.now (slice_index ns k))
+pub case_numbered : (families : List Family) (t : Tree) (arms : List Arm) (o : Constructors) (ns : List ℕ) (k : ℕ) (b : Arm) →
+    IsCase families t arms o → ns ≡ o.numbers.items → k < length arms → b ≡ get_or arms k b →
+    (k < length ns) × (slice_index ns k < length o.makers.now) ×
+    (maker_named b.label o.makers.now ≡ slice_get o.makers.now (slice_index ns k))
 case_numbered families t arms o ns k b i q l e =
     let makers = subst (λ ms. AreMakerNumbers ms arms o.numbers.items) (sym i.makers) i.numbers in
     let numbers = subst (λ z. AreMakerNumbers o.makers.now arms z) (sym q) makers in
@@ -51,7 +53,8 @@ module _ (c : Check) where
   T = c.surroundings.types
 
   -- what an arm of a `case` is checked with, by the numbers of its constructor's fields
-  pub record FieldsArm (ms : List Maker) (ks : List ℕ) (l : List ℕ) (xs : List Binder) (e : CoreTree) (g : List Variable) : Type 0 where
+  pub record FieldsArm (ms : List Maker) (ks : List ℕ) (l : List ℕ) (xs : List Binder) (e : CoreTree)
+      (g : List Variable) : Type 0 where
     pub types : List Tree
     pub at : AreAt T ks types
     pub binds : Binds c.surroundings (fields ms) l types
@@ -59,35 +62,85 @@ module _ (c : Check) where
     pub long : length xs ≡ length ks
     pub body : AreInSize types → (vs : List Variable) → AreVariables V types vs → IsReady c e (enter_all vs g)
 
-  pub fields_arm : (ms : List Maker) (k : ℕ) (o : Maker) (ks : List ℕ) (l : List ℕ) (xs : List Binder) (e : CoreTree) (g : List Variable) → IsArmReady c (fields ms) l xs e g → k < length ms →
+  pub fields_arm : (ms : List Maker) (k : ℕ) (o : Maker) (ks : List ℕ) (l : List ℕ) (xs : List Binder) (e : CoreTree)
+      (g : List Variable) → IsArmReady c (fields ms) l xs e g → k < length ms →
       maker_named l ms ≡ slice_get ms k → o ≡ get_or ms k o → ks ≡ o.fields.items → FieldsArm ms ks l xs e g
   fields_arm ms k o ks l xs e g h b n i q =
       let there : slice_get ms k ≡ Some o = slice_get-get_or ms k o b ∙ ap Some (sym i) in
       let same : h.binds.0 ≡ o = let both : Some h.binds.0 ≡ Some o = sym h.binds.1 ∙ n ∙ there in cc in
-      let numbers : AreAt T ks h.types = subst (λ z. AreAt T z h.types) (sym (q ∙ ap (λ (p : Maker). p.fields.items) (sym same))) h.binds.2 in
-      record { types = h.types; at = numbers; binds = h.binds; formed = h.formed; long = h.long ∙ numbers_long T ks h.types numbers; body = h.body }
+      let numbers : AreAt T ks h.types = subst (λ z. AreAt T z h.types)
+      (sym (q ∙ ap (λ (p : Maker). p.fields.items) (sym same))) h.binds.2 in
+      record {
+        types = h.types;
+        at = numbers;
+        binds = h.binds;
+        formed = h.formed;
+        long = h.long
+            ∙ numbers_long T ks h.types numbers;
+        body = h.body;
+      }
 
-  pub case_typed : (at : ℕ) (a : CoreTree) (bs : CoreArms) (d w : Deriv) (r s z : Scope) (n : ℕ) (g : Family) → IsTyped c r s a d → type_of d ≡ named n → slice_get c.surroundings.families n ≡ Some g →
-      AreEachOnce (map (λ (o : Maker). o.name) g.makers.items) (arm_labels bs) → AreArmsTyped c (fields g.makers.items) bs s z d w → IsTyped c r z (case_of at a bs) w
+  pub case_typed : (at : ℕ) (a : CoreTree) (bs : CoreArms) (d w : Deriv) (r s z : Scope) (n : ℕ) (g : Family) →
+      IsTyped c r s a d → type_of d ≡ named n → slice_get c.surroundings.families n ≡ Some g →
+      AreEachOnce (map (λ (o : Maker). o.name) g.makers.items) (arm_labels bs) →
+      AreArmsTyped c (fields g.makers.items) bs s z d w → IsTyped c r z (case_of at a bs) w
   case_typed at a bs d w r s z n g x t i o y =
-      let A : List Variable → Vars → Type 0 = λ v u. Arms c.surroundings (checking c) (fields g.makers.items) bs v u y.type y.parts in
-      let arms : Takes (A r.variables) s z = subst (λ v. Takes (A v) s z) (same_variables c (IsPlain c a r.variables d) r s x) y.takes in
+      let A : List Variable → Vars → Type 0 = λ v u. Arms c.surroundings (checking c)
+      (fields g.makers.items) bs v u y.type y.parts in
+      let arms : Takes (A r.variables) s z = subst
+      (λ v. Takes (A v) s z) (same_variables c (IsPlain c a r.variables d) r s x) y.takes in
       takes_as (Both (IsPlain c a r.variables d) (A r.variables)) (IsPlain c (case_of at a bs) r.variables w) r z
       (λ u j. record {
-        rule = (d, n, g, y.type, y.parts, record { left = j.left; right = j.right; split = j.split; first = over c a r.variables d j.left j.first; second = j.second }, t, i, o, y.is);
+        rule = (
+          d,
+          n,
+          g,
+          y.type,
+          y.parts,
+          record {
+            left = j.left;
+            right = j.right;
+            split = j.split;
+            first =
+                over c a r.variables d j.left j.first;
+            second = j.second;
+          },
+          t,
+          i,
+          o,
+          y.is,
+        );
         formed = subst (λ v. IsFormed V (type_of v)) (sym y.is) y.formed;
         small = subst (λ v. IsInSize (type_of v)) (sym y.is) y.small;
       })
       (takes_both (IsPlain c a r.variables d) (A r.variables) r s z x arms)
 
-  pub match_typed : (at : ℕ) (a : CoreTree) (bs : CoreArms) (d w : Deriv) (r s z : Scope) (ls : List (List ℕ)) → IsTyped c r s a d → IsOffering (type_of d) ls → AreEachOnce ls (arm_labels bs) →
+  pub match_typed : (at : ℕ) (a : CoreTree) (bs : CoreArms) (d w : Deriv) (r s z : Scope) (ls : List (List ℕ)) →
+      IsTyped c r s a d → IsOffering (type_of d) ls → AreEachOnce ls (arm_labels bs) →
       AreArmsTyped c (rest (type_of d)) bs s z d w → IsTyped c r z (match_with at a bs) w
   match_typed at a bs d w r s z ls x i o y =
       let A : List Variable → Vars → Type 0 = λ v u. Arms c.surroundings (checking c) (rest (type_of d)) bs v u y.type y.parts in
-      let arms : Takes (A r.variables) s z = subst (λ v. Takes (A v) s z) (same_variables c (IsPlain c a r.variables d) r s x) y.takes in
+      let arms : Takes (A r.variables) s z = subst
+      (λ v. Takes (A v) s z) (same_variables c (IsPlain c a r.variables d) r s x) y.takes in
       takes_as (Both (IsPlain c a r.variables d) (A r.variables)) (IsPlain c (match_with at a bs) r.variables w) r z
       (λ u j. record {
-        rule = (d, ls, y.type, y.parts, record { left = j.left; right = j.right; split = j.split; first = over c a r.variables d j.left j.first; second = j.second }, i, o, y.is);
+        rule = (
+          d,
+          ls,
+          y.type,
+          y.parts,
+          record {
+            left = j.left;
+            right = j.right;
+            split = j.split;
+            first =
+                over c a r.variables d j.left j.first;
+            second = j.second;
+          },
+          i,
+          o,
+          y.is,
+        );
         formed = subst (λ v. IsFormed V (type_of v)) (sym y.is) y.formed;
         small = subst (λ v. IsInSize (type_of v)) (sym y.is) y.small;
       })

@@ -26,20 +26,27 @@ plain_small : (b : Base) (w : Deriv) → w ≡ row (plain b) none → IsInSize (
 plain_small b w is = subst (λ d. IsInSize (type_of d)) (sym is) (base_small b)
 
 pub int_typed : (c : Check) (at : ℕ) (n : ℤ) (s : Scope) (w : Deriv) → w ≡ row (plain Int) none → IsTyped c s s (int at n) w
-int_typed c at n s w is = typed_leaf c s (int at n) w (record { rule = (refl, is); formed = plain_formed c Int w is; small = plain_small Int w is })
+int_typed c at n s w is = typed_leaf c s (int at n) w
+    (record { rule = (refl, is); formed = plain_formed c Int w is; small = plain_small Int w is })
 
-pub bool_typed : (c : Check) (at : ℕ) (n : Bool) (s : Scope) (w : Deriv) → w ≡ row (plain Truth) none → IsTyped c s s (bool at n) w
-bool_typed c at n s w is = typed_leaf c s (bool at n) w (record { rule = (refl, is); formed = plain_formed c Truth w is; small = plain_small Truth w is })
+pub bool_typed : (c : Check) (at : ℕ) (n : Bool) (s : Scope) (w : Deriv) → w ≡ row (plain Truth) none →
+    IsTyped c s s (bool at n) w
+bool_typed c at n s w is = typed_leaf c s (bool at n) w
+    (record { rule = (refl, is); formed = plain_formed c Truth w is; small = plain_small Truth w is })
 
 pub char_typed : (c : Check) (at : ℕ) (n : ℕ) (s : Scope) (w : Deriv) → w ≡ row (plain Char) none → IsTyped c s s (char at n) w
-char_typed c at n s w is = typed_leaf c s (char at n) w (record { rule = (refl, is); formed = plain_formed c Char w is; small = plain_small Char w is })
+char_typed c at n s w is = typed_leaf c s (char at n) w
+    (record { rule = (refl, is); formed = plain_formed c Char w is; small = plain_small Char w is })
 
 pub unit_typed : (c : Check) (at : ℕ) (s : Scope) (w : Deriv) → w ≡ row (plain Nothing) none → IsTyped c s s (unit at) w
-unit_typed c at s w is = typed_leaf c s (unit at) w (record { rule = (refl, is); formed = plain_formed c Nothing w is; small = plain_small Nothing w is })
+unit_typed c at s w is = typed_leaf c s (unit at) w
+    (record { rule = (refl, is); formed = plain_formed c Nothing w is; small = plain_small Nothing w is })
 
 -- what has its plain derivation where no types are compared has it, where the row of the term asks for no comparison
 pub alone_typed : {A F : Type 0} (c : Check) (e : CoreTree) (r s : Scope) (o : Result A F) (g : A → Deriv) →
-    ((u : Vars) (d : Deriv) → Row c.surroundings (within IsInSize (λ _ _. ⊥)) e r.variables u d → Row c.surroundings (checking c) e r.variables u d) →
+    ((u : Vars) (d : Deriv) → Row c.surroundings (within IsInSize (λ _ _. ⊥)) e r.variables u d →
+    Row c.surroundings (checking c) e r.variables u d) →
     IfOk o (λ d. IsTypedAlone c r s e (g d)) → IfOk o (λ d. IsTyped c r s e (g d))
 alone_typed c e r s o g f = IfOk-weaker o (λ d. IsTypedAlone c r s e (g d)) (λ d. IsTyped c r s e (g d))
-    (λ d x. takes_as (IsPlainBy (λ _ _. ⊥) c e r.variables (g d)) (IsPlain c e r.variables (g d)) r s (λ u p. record { rule = f u (g d) p.rule; formed = p.formed; small = p.small }) x)
+    (λ d x. takes_as (IsPlainBy (λ _ _. ⊥) c e r.variables (g d)) (IsPlain c e r.variables (g d)) r s
+    (λ u p. record { rule = f u (g d) p.rule; formed = p.formed; small = p.small }) x)

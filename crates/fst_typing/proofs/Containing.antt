@@ -13,7 +13,8 @@ pub no_first : {X : Type 0} (x : X) → Contains [] x → ⊥
 no_first x h = absurd (omega (arith, h.1))
 
 -- an element of a list is its first or one of the others
-pub contains_cases : {X : Type 0} (C : Type 0) (x y : X) (xs : List X) → Contains (x ∷ xs) y → (x ≡ y → C) → (Contains xs y → C) → C
+pub contains_cases : {X : Type 0} (C : Type 0) (x y : X) (xs : List X) → Contains (x ∷ xs) y → (x ≡ y → C) →
+    (Contains xs y → C) → C
 contains_cases C x y xs (zero, lt, e) f g = f e
 contains_cases C x y xs (suc k, lt, e) f g = g (k, omega (arith, lt), e)
 
@@ -24,7 +25,8 @@ mapped_contains {X} {Y} f (y ∷ xs) x h =
     (λ e. subst (λ z. Contains (f y ∷ map f xs) (f z)) e (contains_first (f y) (map f xs)))
     (λ g. contains_later (f y) (f x) (map f xs) (mapped_contains f xs x g))
 
-pub contains_mapped : {X Y : Type 0} (f : X → Y) (xs : List X) (y : Y) → Contains (map f xs) y → (x : X) × Contains xs x × (y ≡ f x)
+pub contains_mapped : {X Y : Type 0} (f : X → Y) (xs : List X) (y : Y) → Contains (map f xs) y → (x : X) × Contains xs x ×
+    (y ≡ f x)
 contains_mapped f [] y h = absurd (no_first y h)
 contains_mapped {X} {Y} f (x ∷ xs) y h =
     contains_cases ((z : X) × Contains (x ∷ xs) z × (y ≡ f z)) (f x) y (map f xs) h
@@ -32,7 +34,8 @@ contains_mapped {X} {Y} f (x ∷ xs) y h =
     (λ g. let r = contains_mapped f xs y g in (r.0, contains_later x r.0 xs r.1, r.2))
 
 -- a list whose elements are values of a function is the list of its values at some
-pub all_mapped : {X Y : Type 0} (f : X → Y) (ys : List Y) → ((y : Y) → Contains ys y → (x : X) × (y ≡ f x)) → (xs : List X) × (ys ≡ map f xs)
+pub all_mapped : {X Y : Type 0} (f : X → Y) (ys : List Y) → ((y : Y) → Contains ys y → (x : X) × (y ≡ f x)) → (xs : List X) ×
+    (ys ≡ map f xs)
 all_mapped f [] h = ([], refl)
 all_mapped f (y ∷ ys) h =
     let first = h y (contains_first y ys) in

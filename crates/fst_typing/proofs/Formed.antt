@@ -35,8 +35,16 @@ pair_formed vars s r (k, w) =
     )
 
 pub arrow_of_formed : (vars : List Kind) (n : Use) (s r : Tree) → IsFormed vars s → IsFormed vars r → IsFormed vars (arrow n s r)
-arrow_of_formed vars n s r (i, v) (j, w) =
-    (_, record { kinded = ((i, v.kinded), (j, w.kinded), refl); contractive = (v.contractive, w.contractive); scoped = (v.scoped, w.scoped); ordered = (v.ordered, w.ordered) })
+arrow_of_formed vars n s r (i, v) (j, w) = (
+  _,
+  record {
+    kinded = ((i, v.kinded), (j, w.kinded), refl);
+    contractive = (v.contractive, w.contractive);
+    scoped =
+        (v.scoped, w.scoped);
+    ordered = (v.ordered, w.ordered);
+  },
+)
 
 -- ---- so it is with types within their size
 
@@ -57,7 +65,8 @@ named_small n = omega arith
 as_session : (vars : List Kind) (t : Tree) (k : Kind) (u : Use) → k ≡ session u → IsWellFormed vars t k → IsSession vars t
 as_session vars t k u e w = (u, subst (IsWellFormed vars t) e w)
 
-pub moving_session : (vars : List Kind) (t : Tree) (k : Kind) (a : Label) (r : Tree) → IsWellFormed vars t k → ((j : ℕ) → a ≡ label.Var j → ⊥) → step t a ≡ Some r → IsSession vars t
+pub moving_session : (vars : List Kind) (t : Tree) (k : Kind) (a : Label) (r : Tree) → IsWellFormed vars t k →
+    ((j : ℕ) → a ≡ label.Var j → ⊥) → step t a ≡ Some r → IsSession vars t
 moving_session vars skip k a r w n e = as_session vars skip k Many w.kinded w
 moving_session vars (send b) k a r w n e = as_session vars (send b) k Once w.kinded w
 moving_session vars (receive b) k a r w n e = as_session vars (receive b) k Once w.kinded w

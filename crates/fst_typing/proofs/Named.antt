@@ -16,7 +16,8 @@ named_left : (l : List ℕ) (os ms : List Maker) (o : Maker) → maker_named l o
 named_left l [] ms o h = absurd (cc h)
 named_left l (p ∷ os) ms o h = pick (named_left l os ms o) (bytes_eq l p.name) refl h
   where
-    pick : (maker_named l os ≡ Some o → maker_named l (os ++ ms) ≡ Some o) → (b : Bool) → bytes_eq l p.name ≡ b → (if b then Some p else maker_named l os) ≡ Some o →
+    pick : (maker_named l os ≡ Some o → maker_named l (os ++ ms) ≡ Some o) → (b : Bool) → bytes_eq l p.name ≡ b →
+        (if b then Some p else maker_named l os) ≡ Some o →
         (if bytes_eq l p.name then Some p else maker_named l (os ++ ms)) ≡ Some o
     pick f true e i = ap (λ b. if b then Some p else maker_named l (os ++ ms)) e ∙ i
     pick f false e i = ap (λ b. if b then Some p else maker_named l (os ++ ms)) e ∙ f i
@@ -25,11 +26,13 @@ named_name : (l : List ℕ) (os : List Maker) (o : Maker) → maker_named l os �
 named_name l [] o h = absurd (cc h)
 named_name l (p ∷ os) o h = pick (named_name l os o) (bytes_eq l p.name) refl h
   where
-    pick : (maker_named l os ≡ Some o → bytes_eq l o.name ≡ true) → (b : Bool) → bytes_eq l p.name ≡ b → (if b then Some p else maker_named l os) ≡ Some o → bytes_eq l o.name ≡ true
+    pick : (maker_named l os ≡ Some o → bytes_eq l o.name ≡ true) → (b : Bool) → bytes_eq l p.name ≡ b →
+        (if b then Some p else maker_named l os) ≡ Some o → bytes_eq l o.name ≡ true
     pick f true e i = let same : p ≡ o = cc in subst (λ (q : Maker). bytes_eq l q.name ≡ true) same e
     pick f false e i = f i
 
-all_named : (P : List ℕ → Type 0) (l : List ℕ) (ms : List Maker) (o : Maker) → AllByRecursion P (names ms) → maker_named l ms ≡ Some o → P o.name
+all_named : (P : List ℕ → Type 0) (l : List ℕ) (ms : List Maker) (o : Maker) → AllByRecursion P (names ms) →
+    maker_named l ms ≡ Some o → P o.name
 all_named P l [] o a h = absurd (cc h)
 all_named P l (p ∷ ms) o a h = pick (all_named P l ms o a.1) (bytes_eq l p.name) h
   where
@@ -38,14 +41,18 @@ all_named P l (p ∷ ms) o a h = pick (all_named P l ms o a.1) (bytes_eq l p.nam
     pick f false i = f i
 
 -- what is behind a constructor of another name
-named_behind : (l : List ℕ) (p : Maker) (qs : List Maker) (q : Maker) → maker_named l qs ≡ Some q → bytes_eq p.name q.name ≡ false → maker_named l (p ∷ qs) ≡ Some q
+named_behind : (l : List ℕ) (p : Maker) (qs : List Maker) (q : Maker) → maker_named l qs ≡ Some q →
+    bytes_eq p.name q.name ≡ false → maker_named l (p ∷ qs) ≡ Some q
 named_behind l p qs q h differs = pick (bytes_eq l p.name) refl (named_name l qs q h)
   where
-    pick : (b : Bool) → bytes_eq l p.name ≡ b → bytes_eq l q.name ≡ true → (if bytes_eq l p.name then Some p else maker_named l qs) ≡ Some q
-    pick true e agrees = let wrong : true ≡ false = sym (subst (λ x. bytes_eq x q.name ≡ true) (same_text l p.name e) agrees) ∙ differs in absurd (cc wrong)
+    pick : (b : Bool) → bytes_eq l p.name ≡ b → bytes_eq l q.name ≡ true →
+        (if bytes_eq l p.name then Some p else maker_named l qs) ≡ Some q
+    pick true e agrees = let wrong : true ≡ false = sym (subst (λ x. bytes_eq x q.name ≡ true) (same_text l p.name e) agrees)
+        ∙ differs in absurd (cc wrong)
     pick false e agrees = ap (λ b. if b then Some p else maker_named l qs) e ∙ h
 
-named_right : (l : List ℕ) (os ms : List Maker) (o : Maker) → IsDistinct bytes_eq (names (os ++ ms)) → maker_named l ms ≡ Some o → maker_named l (os ++ ms) ≡ Some o
+named_right : (l : List ℕ) (os ms : List Maker) (o : Maker) → IsDistinct bytes_eq (names (os ++ ms)) → maker_named l ms ≡ Some o →
+    maker_named l (os ++ ms) ≡ Some o
 unfolding IsDistinct
 named_right l [] ms o d h = h
 named_right l (p ∷ os) ms o d h =
@@ -58,18 +65,22 @@ distinct_later [] ms d = d
 distinct_later (p ∷ os) ms d = distinct_later os ms d.1
 
 -- what a name stands for among a data type's constructors it stands for in the module
-pub family_named : (fs : List Family) (n : ℕ) (g : Family) (l : List ℕ) (o : Maker) → IsDistinct bytes_eq (names (makers fs)) → slice_get fs n ≡ Some g → maker_named l g.makers.items ≡ Some o → maker_named l (makers fs) ≡ Some o
+pub family_named : (fs : List Family) (n : ℕ) (g : Family) (l : List ℕ) (o : Maker) → IsDistinct bytes_eq (names (makers fs)) →
+    slice_get fs n ≡ Some g → maker_named l g.makers.items ≡ Some o → maker_named l (makers fs) ≡ Some o
 family_named [] zero g l o d h e = absurd (cc h)
 family_named [] (suc n) g l o d h e = absurd (cc h)
-family_named (f ∷ fs) zero g l o d h e = let same : f ≡ g = cc in named_left l f.makers.items (makers fs) o (subst (λ (q : Family). maker_named l q.makers.items ≡ Some o) (sym same) e)
-family_named (f ∷ fs) (suc n) g l o d h e = named_right l f.makers.items (makers fs) o d (family_named fs n g l o (distinct_later f.makers.items (makers fs) d) h e)
+family_named (f ∷ fs) zero g l o d h e = let same : f ≡ g = cc in
+    named_left l f.makers.items (makers fs) o (subst (λ (q : Family). maker_named l q.makers.items ≡ Some o) (sym same) e)
+family_named (f ∷ fs) (suc n) g l o d h e = named_right l f.makers.items (makers fs) o d
+    (family_named fs n g l o (distinct_later f.makers.items (makers fs) d) h e)
 
 -- a name among those of constructors stands for one
 pub contained_named : (os : List Maker) (x : List ℕ) → Contains (names os) x → (o : Maker) × (maker_named x os ≡ Some o)
 contained_named [] x h = absurd (no_first x h)
 contained_named (p ∷ os) x h = pick (contained_named os x) (bytes_eq x p.name) refl
   where
-    pick : (Contains (names os) x → (o : Maker) × (maker_named x os ≡ Some o)) → (b : Bool) → bytes_eq x p.name ≡ b → (o : Maker) × ((if bytes_eq x p.name then Some p else maker_named x os) ≡ Some o)
+    pick : (Contains (names os) x → (o : Maker) × (maker_named x os ≡ Some o)) → (b : Bool) → bytes_eq x p.name ≡ b →
+        (o : Maker) × ((if bytes_eq x p.name then Some p else maker_named x os) ≡ Some o)
     pick f true e = (p, ap (λ b. if b then Some p else maker_named x os) e)
     pick f false e =
         let later : Contains (names os) x = contains_cases (Contains (names os) x) p.name x (names os) h

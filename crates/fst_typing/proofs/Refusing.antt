@@ -10,7 +10,8 @@ use Rattle.fst_premises.specs.Shown.{IsShown}
 use Rattle.fst_typing.specs.Views.{written_fault}
 
 -- a fault of written types refuses the module
-pub kinds_refused : (m : Module) (w : WrittenFault) → IsWrittenFault m w → IsTold w → IsShown (written_fault w) ((budget : ℕ) → IsRefusal m budget (written_fault w))
+pub kinds_refused : (m : Module) (w : WrittenFault) → IsWrittenFault m w → IsTold w →
+    IsShown (written_fault w) ((budget : ℕ) → IsRefusal m budget (written_fault w))
 kinds_refused m (Kinds at fault) h told = λ n budget. kinds at fault h told refl
 kinds_refused m Memory h told = λ n. absurd (n refl)
 

@@ -61,7 +61,8 @@ branches_text n at s z f y = said n f (Branches at y.name) y.is tt
 
 -- ---- two types that aren't known to be equal
 
-pub unequal_text : (n : ℕ) (c : Check) (at : ℕ) (found wanted : Tree) (f : CheckFault) → HasText n found → HasText n wanted → IsUnequal c at found wanted f → HaveTexts n f
+pub unequal_text : (n : ℕ) (c : Check) (at : ℕ) (found wanted : Tree) (f : CheckFault) → HasText n found → HasText n wanted →
+    IsUnequal c at found wanted f → HaveTexts n f
 unequal_text n c at found wanted _ h i (shape x) = (h, i)
 unequal_text n c at found wanted _ h i (word x) = (h, i)
 unequal_text n c at found wanted _ h i (undecided x) = (h, i)
@@ -77,7 +78,8 @@ ScopeHasText n s = VariablesHaveText n s.variables
 taken_text : (n : ℕ) (P : Vars → Type 0) (s r : Scope) → ScopeHasText n s → Takes P s r → ScopeHasText n r
 taken_text n P s r h t = subst (ScopeHasText n) (sym t.rest) h
 
-entered_text : (n : ℕ) (xs : List Binder) (vs : List Variable) (s : Scope) → VariablesHaveText n vs → ScopeHasText n s → ScopeHasText n (entered_all xs vs s)
+entered_text : (n : ℕ) (xs : List Binder) (vs : List Variable) (s : Scope) → VariablesHaveText n vs → ScopeHasText n s →
+    ScopeHasText n (entered_all xs vs s)
 entered_text n [] vs s a h = h
 entered_text n (x ∷ xs) [] s a h = h
 entered_text n (x ∷ xs) (v ∷ vs) s a h = entered_text n xs vs (entered x.name v s) a.1 (a.0, h)
@@ -97,25 +99,32 @@ module _ (c : Check) (types : AllHaveText (length c.surroundings.families) c.sur
   pub typed_text : (e : CoreTree) (s r : Scope) (d : Deriv) → ScopeHasText N s → IsTyped c s r e d → HasText N (type_of d)
   typed_text e s r d h t =
       row_text c.surroundings (IsKnown c) types e s.variables h t.used d
-      (weaker c.surroundings (checking c) (comparing (IsKnown c)) (within_compares IsInSize (IsKnown c) (IsKnown c) (λ p q k. k)) e s.variables t.used d t.fact.rule)
+      (weaker c.surroundings (checking c) (comparing (IsKnown c))
+      (within_compares IsInSize (IsKnown c) (IsKnown c) (λ p q k. k)) e s.variables t.used d t.fact.rule)
 
   -- so has that of a first part
-  pub after_text : {P : Scope → Tree → Type 0} (e : CoreTree) (s : Scope) → ScopeHasText N s → (x : After c s e P) → HasText N (type_of x.derivation)
+  pub after_text : {P : Scope → Tree → Type 0} (e : CoreTree) (s : Scope) → ScopeHasText N s →
+      (x : After c s e P) → HasText N (type_of x.derivation)
   after_text e s h x = typed_text e s x.scope x.derivation h x.typed
 
   -- and the variables behind it
-  pub behind_text : {P : Scope → Tree → Type 0} (e : CoreTree) (s : Scope) → ScopeHasText N s → (x : After c s e P) → ScopeHasText N x.scope
+  pub behind_text : {P : Scope → Tree → Type 0} (e : CoreTree) (s : Scope) → ScopeHasText N s →
+      (x : After c s e P) → ScopeHasText N x.scope
   behind_text e s h x = taken_text N _ s x.scope h x.typed
 
   -- the term under names is refused, or leaves one of them unused, or something is asked behind it
-  pub under_text : (Refused : Scope → Type 0) (P : Scope → Tree → Type 0) (xs : List Binder) (ts : List Tree) (e : CoreTree) (s : Scope) (f : CheckFault) → AllHaveText N ts → ScopeHasText N s →
-      ((z : Scope) → ScopeHasText N z → Refused z → HaveTexts N f) → ((z : Scope) (t : Tree) → HasText N t → P z t → HaveTexts N f) → Under c xs ts e s Refused P f → HaveTexts N f
+  pub under_text : (Refused : Scope → Type 0) (P : Scope → Tree → Type 0) (xs : List Binder) (ts : List Tree) (e : CoreTree)
+      (s : Scope) (f : CheckFault) → AllHaveText N ts → ScopeHasText N s →
+      ((z : Scope) → ScopeHasText N z → Refused z → HaveTexts N f) →
+      ((z : Scope) (t : Tree) → HasText N t → P z t → HaveTexts N f) → Under c xs ts e s Refused P f → HaveTexts N f
   under_text Refused P xs ts e s f a h g k x =
       let vs = x.variables in
       let there = entered_text N xs vs s (variables_text N c.surroundings.vars ts vs a x.types) h in
       either N f x.inside (g (entered_all xs vs s) there)
-      (λ z. either N f z.then (one_unused_text N z.scope xs f) (λ q. k _ (type_of z.derivation) (after_text e (entered_all xs vs s) there z) q.1))
+      (λ z. either N f z.then (one_unused_text N z.scope xs f)
+      (λ q. k _ (type_of z.derivation) (after_text e (entered_all xs vs s) there z) q.1))
 
   -- two types aren't known to be equal, or something is asked behind them
-  pub unless_text : (P : Type 0) (at : ℕ) (found wanted : Tree) (f : CheckFault) → HasText N found → HasText N wanted → (P → HaveTexts N f) → Unless c at found wanted f P → HaveTexts N f
+  pub unless_text : (P : Type 0) (at : ℕ) (found wanted : Tree) (f : CheckFault) → HasText N found → HasText N wanted →
+      (P → HaveTexts N f) → Unless c at found wanted f P → HaveTexts N f
   unless_text P at found wanted f h i g x = either N f x (unequal_text N c at found wanted f h i) (λ y. g y.1)

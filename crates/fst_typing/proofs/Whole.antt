@@ -38,9 +38,11 @@ Any t = ⊤
 any_types : (vars : List Kind) → Weaker (comparing (IsConversion vars)) (within Any (IsConversion vars))
 any_types vars = record { kept = λ k o h. (h, tt); compared = λ k o h. (h, tt); bound = λ t h. tt }
 
-module _ (differ : (vars : List Kind) (t u : Tree) (budget : ℕ) (a : Same) → IsComparison t u budget a → IsDifference a → IsEqual vars t u → ⊥) (unique : PlainTypesAreUnique) where
+module _ (differ : (vars : List Kind) (t u : Tree) (budget : ℕ) (a : Same) → IsComparison t u budget a → IsDifference a →
+    IsEqual vars t u → ⊥) (unique : PlainTypesAreUnique) where
   -- a refusal that is of the module excludes equal types
-  unequal_cause : (c : Check) (at : ℕ) (s t : Tree) (f : CheckFault) → IsCause f → IsConversion c.surroundings.vars s t → IsUnequal c at s t f → ⊥
+  unequal_cause : (c : Check) (at : ℕ) (s t : Tree) (f : CheckFault) → IsCause f → IsConversion c.surroundings.vars s t →
+      IsUnequal c at s t f → ⊥
   unequal_cause c at s t _ i e (shape h) = differ c.surroundings.vars s t c.budget same.Shape h tt e.equal
   unequal_cause c at s t _ i e (word {w} {side} h) = differ c.surroundings.vars s t c.budget (same.Word w side) h tt e.equal
   unequal_cause c at s t _ i e (undecided h) = i
@@ -52,28 +54,38 @@ module _ (differ : (vars : List Kind) (t u : Tree) (budget : ℕ) (a : Same) →
   pub refused_has_none : DerivedIsPlain → ((vars : List Kind) → IsTypeEquality vars (IsConversion vars)) → RefusedHasNone
   refused_has_none plainly equality m budget f i r ds h =
       let plain = derived_has_plain plainly equality m ds h in
-      let any = module_more m (λ vars. comparing (IsConversion vars)) (λ vars. within Any (IsConversion vars)) any_types plain.0 plain.1 in
+      let any = module_more m (λ vars. comparing (IsConversion vars))
+      (λ vars. within Any (IsConversion vars)) any_types plain.0 plain.1 in
       no_module m budget unique IsCause Any IsConversion (λ vars. cause_excludes (check_over m budget vars)) f i r plain.0 any
 
   -- each refusal is excluded within the limits
   abbrev Each : CheckFault → Type 0
   Each f = ⊤
 
-  unequal_within : (c : Check) (at : ℕ) (s t : Tree) (f : CheckFault) → Each f → IsAnswered c.surroundings.vars c.budget s t → IsUnequal c at s t f → ⊥
+  unequal_within : (c : Check) (at : ℕ) (s t : Tree) (f : CheckFault) → Each f → IsAnswered c.surroundings.vars c.budget s t →
+      IsUnequal c at s t f → ⊥
   unequal_within c at s t _ i e (shape h) = differ c.surroundings.vars s t c.budget same.Shape h tt e.conversion.equal
-  unequal_within c at s t _ i e (word {w} {side} h) = differ c.surroundings.vars s t c.budget (same.Word w side) h tt e.conversion.equal
+  unequal_within c at s t _ i e (word {w} {side} h) =
+      differ c.surroundings.vars s t c.budget (same.Word w side) h tt e.conversion.equal
   unequal_within c at s t _ i e (undecided {g} {pairs} h) = e.decided g pairs h
   unequal_within c at s t _ i e (too_large h) = e.fits h
 
   within_excludes : (c : Check) → Excludes c unique Each IsInSize (IsAnswered c.surroundings.vars c.budget)
-  within_excludes c = record { equal = λ s t e. e.conversion; large = λ at t f i l x. absurd (omega (arith, l, x.large)); unequal = unequal_within c }
+  within_excludes c = record {
+    equal = λ s t e. e.conversion;
+    large =
+        λ at t f i l x. absurd (omega (arith, l, x.large));
+    unequal = unequal_within c;
+  }
 
   pub within_is_not_refused : WithinIsNotRefused
-  within_is_not_refused m budget ds h f r = no_module m budget unique Each IsInSize (λ vars. IsAnswered vars budget) (λ vars. within_excludes (check_over m budget vars)) f tt r ds h
+  within_is_not_refused m budget ds h f r = no_module m budget unique Each IsInSize (λ vars. IsAnswered vars budget)
+      (λ vars. within_excludes (check_over m budget vars)) f tt r ds h
 
 -- ---- what a check shows of a refusal, where memory may be wanting
 
-pub shown_has_none : RefusedHasNone → (m : Module) (budget : ℕ) (f : CheckFault) → IsCause f → IsShown f (IsRefusal m budget f) → (ds : List Deriv) → HasDerivations m ds → ⊥
+pub shown_has_none : RefusedHasNone → (m : Module) (budget : ℕ) (f : CheckFault) → IsCause f → IsShown f (IsRefusal m budget f) →
+    (ds : List Deriv) → HasDerivations m ds → ⊥
 shown_has_none none m budget f i r = none m budget f i (r (λ e. subst IsCause e i))
 
 memory_or_not : (f : CheckFault) → (f ≡ Memory) ⊎ (f ≡ Memory → ⊥)
@@ -95,7 +107,8 @@ memory_or_not (NotPair at got) = inr (λ e. cc e)
 memory_or_not (Kinds at fault) = inr (λ e. cc e)
 memory_or_not (TooLarge at) = inr (λ e. cc e)
 
-pub wants_memory : WithinIsNotRefused → (m : Module) (budget : ℕ) (f : CheckFault) → IsShown f (IsRefusal m budget f) → (ds : List Deriv) → HasDerivationsWithin m budget ds → f ≡ Memory
+pub wants_memory : WithinIsNotRefused → (m : Module) (budget : ℕ) (f : CheckFault) → IsShown f (IsRefusal m budget f) →
+    (ds : List Deriv) → HasDerivationsWithin m budget ds → f ≡ Memory
 wants_memory complete m budget f r ds h = pick (memory_or_not f)
   where
     pick : (f ≡ Memory) ⊎ (f ≡ Memory → ⊥) → f ≡ Memory

@@ -29,7 +29,11 @@ use Rattle.fst_premises.specs.declared.fault.CheckFault.TheVariants.{Kinds, NotP
 
 -- what an equation is checked with, in a module, over variables of these kinds
 abbrev pub check_over : Module → ℕ → List Kind → Check
-check_over m budget vars = record { surroundings = surroundings m vars; places = m.places.items; budget = budget }
+check_over m budget vars = record {
+  surroundings = surroundings m vars;
+  places = m.places.items;
+  budget = budget;
+}
 
 -- how the check of a module makes plain derivations over such variables
 abbrev pub checking_over : Module → ℕ → List Kind → Mode
@@ -43,7 +47,8 @@ IsNamedMain g = bytes_eq g.name (codes "main") ≡ true
 abbrev pub IsEquationDerived : Module → ℕ → GlobalEntry → Deriv → Type 0
 IsEquationDerived m budget g d =
     (t : Tree) × (slice_get m.types.items g.signature ≡ Some t) ×
-    Equation (surroundings m g.kinds.items) (checking_over m budget g.kinds.items) g.body t [] no_vars d
+    Equation (surroundings m g.kinds.items)
+    (checking_over m budget g.kinds.items) g.body t [] no_vars d
 
 -- the equation has a plain derivation, and main has no variables and a printable type
 pub record IsGlobalAccepted (m : Module) (budget : ℕ) (g : GlobalEntry) : Type 0 where
@@ -64,30 +69,38 @@ pub record IsAnswered (vars : List Kind) (budget : ℕ) (found wanted : Tree) : 
 
 -- the module has these plain derivations, and their types and questions are within the limits
 abbrev pub HasDerivationsWithin : Module → ℕ → List Deriv → Type 0
-HasDerivationsWithin m budget ds = HasPlainDerivations m (λ vars. within IsInSize (IsAnswered vars budget)) ds
+HasDerivationsWithin m budget ds = HasPlainDerivations m
+    (λ vars. within IsInSize (IsAnswered vars budget)) ds
 
 -- main has variables, or a type whose values can't be printed
 abbrev pub ShowsMain : Module → GlobalEntry → CheckFault → Type 0
 ShowsMain m g f =
     ((g.kinds.items ≡ [] → ⊥) × (f ≡ TypeArguments g.signature_at (length g.kinds.items) 0))
-    ⊎ ((g.kinds.items ≡ []) × ((t : Tree) × (slice_get m.types.items g.signature ≡ Some t) × (IsPrintable t → ⊥) × (f ≡ NotPrintable g.signature_at t)))
+    ⊎ ((g.kinds.items ≡ []) × ((t : Tree) × (slice_get m.types.items g.signature ≡ Some t) ×
+    (IsPrintable t → ⊥) × (f ≡ NotPrintable g.signature_at t)))
 
 -- a global is refused: it is main, and that is no type for it, or its equation is refused
 abbrev pub ShowsGlobal : Module → ℕ → GlobalEntry → CheckFault → Type 0
 ShowsGlobal m budget g f =
     (IsNamedMain g × ShowsMain m g f)
     ⊎ ((IsNamedMain g → IsMain m.types.items g) ×
-    ((t : Tree) × (slice_get m.types.items g.signature ≡ Some t) × ShowsEquation (check_over m budget g.kinds.items) g.body t empty f))
+    ((t : Tree) × (slice_get m.types.items g.signature ≡ Some t) ×
+    ShowsEquation (check_over m budget g.kinds.items) g.body t empty f))
 
 -- the module is refused, for the first of these in order: a written type that isn't well formed, a field that can't be
 -- printed, a global that is refused, where each global is accepted whose equation begins before this one's, or begins where
 -- it does and stands before it
 pub data IsRefusal (m : Module) (budget : ℕ) (f : CheckFault) : Type 0 where
-  kinds : (at : ℕ) (fault : KindFault) → IsFirstKindFault m (readings m) at fault → IsWrittenKindFault fault → f ≡ Kinds at fault → IsRefusal m budget f
-  field : (k at : ℕ) (t : Tree) → AreTypesFormed m → IsFirstUnprintable m (family_types m.families.items) k →
-      slice_get m.places.items k ≡ Some at → slice_get m.types.items k ≡ Some t → f ≡ NotPrintable at t → IsRefusal m budget f
-  equation : (g : GlobalEntry) → AreTypesFormed m → AreFamiliesPrintable m.types.items m.families.items →
-      IsFirst (λ (h : GlobalEntry). h.at) (IsGlobalAccepted m budget) m.globals.items g → ShowsGlobal m budget g f → IsRefusal m budget f
+  kinds : (at : ℕ) (fault : KindFault) → IsFirstKindFault m (readings m) at fault →
+      IsWrittenKindFault fault → f ≡ Kinds at fault → IsRefusal m budget f
+  field : (k at : ℕ) (t : Tree) → AreTypesFormed m →
+      IsFirstUnprintable m (family_types m.families.items) k →
+      slice_get m.places.items k ≡ Some at → slice_get m.types.items k ≡ Some t →
+      f ≡ NotPrintable at t → IsRefusal m budget f
+  equation : (g : GlobalEntry) → AreTypesFormed m →
+      AreFamiliesPrintable m.types.items m.families.items →
+      IsFirst (λ (h : GlobalEntry). h.at) (IsGlobalAccepted m budget) m.globals.items g →
+      ShowsGlobal m budget g f → IsRefusal m budget f
 
 -- ---- while the equations are looked at
 
@@ -95,9 +108,11 @@ pub data IsRefusal (m : Module) (budget : ℕ) (f : CheckFault) : Type 0 where
 -- equation begins before this one's, or begins where it does and stands before it
 unfoldable pub IsFoundOf : Module → ℕ → List GlobalEntry → List Deriv → Option Refused → Type 0
 IsFoundOf m budget gs ds None =
-    ArePlainlyDerived m (checking_over m budget) gs ds × HasMain m.types.items gs × AllByRecursion (IsGlobalAccepted m budget) gs
+    ArePlainlyDerived m (checking_over m budget) gs ds × HasMain m.types.items gs ×
+    AllByRecursion (IsGlobalAccepted m budget) gs
 IsFoundOf m budget gs ds (Some r) =
-    (g : GlobalEntry) × IsFirst (λ (h : GlobalEntry). h.at) (IsGlobalAccepted m budget) gs g × (r.at ≡ g.at) × IsShown r.fault (ShowsGlobal m budget g r.fault)
+    (g : GlobalEntry) × IsFirst (λ (h : GlobalEntry). h.at) (IsGlobalAccepted m budget) gs g ×
+    (r.at ≡ g.at) × IsShown r.fault (ShowsGlobal m budget g r.fault)
 
 -- the equation of the global begins before that of the refused one
 abbrev pub IsEarlier : Option Refused → GlobalEntry → Type 0

@@ -36,30 +36,39 @@ IsCause (TooLarge at) = ⊥
 
 -- a module that has derivations has plain ones
 abbrev pub DerivedHasPlain : Type 0
-DerivedHasPlain = (m : Module) (ds : List Deriv) → HasDerivations m ds → (es : List Deriv) × HasPlainDerivations m (λ vars. comparing (IsConversion vars)) es
+DerivedHasPlain = (m : Module) (ds : List Deriv) → HasDerivations m ds →
+    (es : List Deriv) × HasPlainDerivations m (λ vars. comparing (IsConversion vars)) es
 
 -- a module of which such a refusal is shown has no derivations
 abbrev pub RefusedHasNone : Type 0
-RefusedHasNone = (m : Module) (budget : ℕ) (f : CheckFault) → IsCause f → IsRefusal m budget f → (ds : List Deriv) → HasDerivations m ds → ⊥
+RefusedHasNone = (m : Module) (budget : ℕ) (f : CheckFault) → IsCause f → IsRefusal m budget f →
+    (ds : List Deriv) → HasDerivations m ds → ⊥
 
 -- of a module with plain derivations whose types and questions are within the limits no refusal is shown
 abbrev pub WithinIsNotRefused : Type 0
-WithinIsNotRefused = (m : Module) (budget : ℕ) (ds : List Deriv) → HasDerivationsWithin m budget ds → (f : CheckFault) → IsRefusal m budget f → ⊥
+WithinIsNotRefused = (m : Module) (budget : ℕ) (ds : List Deriv) →
+    HasDerivationsWithin m budget ds → (f : CheckFault) → IsRefusal m budget f → ⊥
 
 -- two refusals say the same: of a trace that tells two types apart the labels, and of a question that is left undecided the types
 pub data SaySame : CheckFault → CheckFault → Type 0 where
   itself : {f g : CheckFault} → f ≡ g → SaySame f g
-  traces : {at : ℕ} {found wanted : Tree} {v w : Vec Label Global} {side : Side} → v.items ≡ w.items → SaySame (Mismatch at found wanted (Word v side)) (Mismatch at found wanted (Word w side))
-  questions : {at : ℕ} {found wanted : Tree} {g h : _} {ps qs : _} → SaySame (Undecided at found wanted g ps) (Undecided at found wanted h qs)
+  traces : {at : ℕ} {found wanted : Tree} {v w : Vec Label Global} {side : Side} →
+      v.items ≡ w.items → SaySame (Mismatch at found wanted (Word v side))
+      (Mismatch at found wanted (Word w side))
+  questions : {at : ℕ} {found wanted : Tree} {g h : _} {ps qs : _} →
+      SaySame (Undecided at found wanted g ps) (Undecided at found wanted h qs)
 
 -- a module is refused in one way at most
 abbrev pub OneRefusal : Type 0
-OneRefusal = (m : Module) (budget : ℕ) (f g : CheckFault) → IsRefusal m budget f → IsRefusal m budget g → SaySame f g
+OneRefusal = (m : Module) (budget : ℕ) (f g : CheckFault) → IsRefusal m budget f →
+    IsRefusal m budget g → SaySame f g
 
 -- an accepted module is within the limits: so the modules of which this can be said are just those that are accepted where there is memory
 abbrev pub AcceptedIsWithin : Type 0
-AcceptedIsWithin = (m : Module) (budget : ℕ) (ds : List Deriv) → IsAccepted m budget ds → HasDerivationsWithin m budget ds
+AcceptedIsWithin = (m : Module) (budget : ℕ) (ds : List Deriv) → IsAccepted m budget ds →
+    HasDerivationsWithin m budget ds
 
 -- a module that is accepted isn't refused
 abbrev pub AcceptedIsNotRefused : Type 0
-AcceptedIsNotRefused = (m : Module) (budget : ℕ) (ds : List Deriv) → IsAccepted m budget ds → (f : CheckFault) → IsRefusal m budget f → ⊥
+AcceptedIsNotRefused = (m : Module) (budget : ℕ) (ds : List Deriv) → IsAccepted m budget ds →
+    (f : CheckFault) → IsRefusal m budget f → ⊥

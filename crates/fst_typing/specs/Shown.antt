@@ -28,9 +28,12 @@ use Rattle.fst_premises.specs.Signs.{operand}
 
 -- the type found at a place isn't known to be the one wanted
 pub data IsUnequal (c : Check) (at : ℕ) (found wanted : Tree) : CheckFault → Type 0 where
-  shape : IsComparison found wanted c.budget same.Shape → IsUnequal c at found wanted (Mismatch at found wanted Shape)
-  word : {w : _} {side : _} → IsComparison found wanted c.budget (same.Word w side) → IsUnequal c at found wanted (Mismatch at found wanted (Word w side))
-  undecided : {g : _} {pairs : _} → IsComparison found wanted c.budget (same.Undecided g pairs) → IsUnequal c at found wanted (Undecided at found wanted g pairs)
+  shape : IsComparison found wanted c.budget same.Shape →
+      IsUnequal c at found wanted (Mismatch at found wanted Shape)
+  word : {w : _} {side : _} → IsComparison found wanted c.budget (same.Word w side) →
+      IsUnequal c at found wanted (Mismatch at found wanted (Word w side))
+  undecided : {g : _} {pairs : _} → IsComparison found wanted c.budget (same.Undecided g pairs) →
+      IsUnequal c at found wanted (Undecided at found wanted g pairs)
   too_large : IsTooLargeComparison found wanted c.budget → IsUnequal c at found wanted (TooLarge at)
 
 -- the part has its plain derivation, and then this is so of the scope behind it and of its type
@@ -46,12 +49,14 @@ First c e s Refused P = Refused ⊎ After c s e P
 
 -- names are bound at types within their size, and the term under them is refused, or has its plain derivation and leaves one of
 -- the names unused, or uses all of them and then this is so
-pub record Under (c : Check) (xs : List Binder) (ts : List Tree) (e : CoreTree) (s : Scope) (Refused : Scope → Type 0) (P : Scope → Tree → Type 0) (f : CheckFault) : Type 0 where
+pub record Under (c : Check) (xs : List Binder) (ts : List Tree) (e : CoreTree) (s : Scope)
+    (Refused : Scope → Type 0) (P : Scope → Tree → Type 0) (f : CheckFault) : Type 0 where
   pub variables : List Variable
   pub small : AreInSize ts
   pub types : AreVariables c.surroundings.vars ts variables
   pub long : length xs ≡ length variables
-  pub inside : First c e (entered_all xs variables s) (Refused (entered_all xs variables s)) (λ z t. ShowsUnused z xs f ⊎ (AreUsed (length xs) z × P (left_all (length xs) z) t))
+  pub inside : First c e (entered_all xs variables s) (Refused (entered_all xs variables s))
+      (λ z t. ShowsUnused z xs f ⊎ (AreUsed (length xs) z × P (left_all (length xs) z) t))
 
 -- nothing is asked behind a term
 abbrev pub NoMore : Scope → Tree → Type 0
@@ -81,61 +86,79 @@ abbrev mutual
   Shows c (char at n) s f = ⊥
   Shows c (unit at) s f = ⊥
   Shows c (pair at a b) s f =
-      First c a s (Shows c a s f) (λ r t. First c b r (Shows c b r f) (λ z u. IsTooLargeAt at (type.pair t u) f))
+      First c a s (Shows c a s f) (λ r t. First c b r (Shows c b r f)
+      (λ z u. IsTooLargeAt at (type.pair t u) f))
   Shows c (make at n k es) s f =
-      (o : Maker) × (ts : List Tree) × (maker_of (slice_get c.surroundings.families n) k ≡ Some o) × AreAt c.surroundings.types o.fields.items ts × ShowsFields c es ts s f
+      (o : Maker) × (ts : List Tree) × (maker_of (slice_get c.surroundings.families n) k ≡ Some o) ×
+      AreAt c.surroundings.types o.fields.items ts × ShowsFields c es ts s f
   Shows c (lambda at uses k x e) s f =
       (t : Tree) × (slice_get c.surroundings.types k ≡ Some t) ×
-      (IsTooLargeAt x.at t f ⊎ Under c (x ∷ []) (t ∷ []) e (inside uses s) (λ z. Shows c e z f) (λ z u. IsTooLargeAt at (arrow uses t u) f) f)
+      (IsTooLargeAt x.at t f ⊎ Under c (x ∷ []) (t ∷ []) e (inside uses s) (λ z. Shows c e z f)
+      (λ z u. IsTooLargeAt at (arrow uses t u) f) f)
   Shows c (apply at a b) s f =
       First c a s (Shows c a s f)
       (λ r t. ShowsNoFunction (place a) t f
-      ⊎ ((n : Use) × (from : Tree) × (to : Tree) × (t ≡ arrow n from to) × First c b r (Shows c b r f) (λ z u. IsUnequal c (place b) u from f)))
+      ⊎ ((n : Use) × (from : Tree) × (to : Tree) ×
+      (t ≡ arrow n from to) × First c b r (Shows c b r f)
+      (λ z u. IsUnequal c (place b) u from f)))
   Shows c (let_in at x a b) s f =
-      First c a s (Shows c a s f) (λ r t. Under c (x ∷ []) (t ∷ []) b r (λ z. Shows c b z f) NoMore f)
+      First c a s (Shows c a s f) (λ r t. Under c (x ∷ []) (t ∷ []) b r
+      (λ z. Shows c b z f) NoMore f)
   Shows c (split at x y a b) s f =
       First c a s (Shows c a s f)
       (λ r t. ShowsNoPair (place a) t f
-      ⊎ ((u : Tree) × (v : Tree) × (t ≡ type.pair u v) × Under c (x ∷ y ∷ []) (u ∷ v ∷ []) b r (λ z. Shows c b z f) NoMore f))
+      ⊎ ((u : Tree) × (v : Tree) × (t ≡ type.pair u v) × Under c (x ∷ y ∷ []) (u ∷ v ∷ []) b r
+      (λ z. Shows c b z f) NoMore f))
   Shows c (if_else at a b o) s f =
       First c a s (Shows c a s f)
       (λ r t. Unless c (place a) t (plain Truth) f
       (First c b r (Shows c b r f)
-      (λ z u. First c o r (Shows c o r f) (λ y v. UseDifferent (place o) z y f ⊎ ((y ≡ z) × IsUnequal c (place o) v u f)))))
+      (λ z u. First c o r (Shows c o r f)
+      (λ y v. UseDifferent (place o) z y f ⊎ ((y ≡ z) × IsUnequal c (place o) v u f)))))
   Shows c (case_of at a bs) s f =
       First c a s (Shows c a s f)
       (λ r t. ShowsNoCase c.surroundings.families at t (arm_labels bs) f
-      ⊎ ((n : ℕ) × (g : Family) × (t ≡ named n) × (slice_get c.surroundings.families n ≡ Some g) × AreEachOnce (map (λ o. o.name) g.makers.items) (arm_labels bs) ×
+      ⊎ ((n : ℕ) × (g : Family) × (t ≡ named n) ×
+      (slice_get c.surroundings.families n ≡ Some g) ×
+      AreEachOnce (map (λ o. o.name) g.makers.items) (arm_labels bs) ×
       ShowsArms c (fields g.makers.items) bs r f))
   Shows c (operate at o a b) s f =
       First c a s (Shows c a s f)
       (λ r t. ShowsOperand c (operand o) (place a) t f
-      ⊎ ((wanted : Tree) × IsOperand c (operand o) t wanted × First c b r (Shows c b r f) (λ z u. IsUnequal c (place b) u wanted f)))
-  Shows c (negate at a) s f = First c a s (Shows c a s f) (λ r t. IsUnequal c (place a) t (plain Truth) f)
+      ⊎ ((wanted : Tree) × IsOperand c (operand o) t wanted × First c b r (Shows c b r f)
+      (λ z u. IsUnequal c (place b) u wanted f)))
+  Shows c (negate at a) s f = First c a s (Shows c a s f)
+      (λ r t. IsUnequal c (place a) t (plain Truth) f)
   Shows c (new at k) s f = ShowsNew c at k f
-  Shows c (send at a b) s f = First c a s (Shows c a s f) (λ r t. First c b r (Shows c b r f) (λ z u. ShowsSend at t u f))
+  Shows c (send at a b) s f = First c a s (Shows c a s f)
+      (λ r t. First c b r (Shows c b r f) (λ z u. ShowsSend at t u f))
   Shows c (receive at a) s f = First c a s (Shows c a s f) (λ r t. ShowsReceive at t f)
   Shows c (select at l a) s f = First c a s (Shows c a s f) (λ r t. ShowsSelect at l t f)
   Shows c (match_with at a bs) s f =
       First c a s (Shows c a s f)
       (λ r t. ShowsNoMatch at t (arm_labels bs) f
-      ⊎ ((ls : List (List ℕ)) × IsOffering t ls × AreEachOnce ls (arm_labels bs) × ShowsArms c (rest t) bs r f))
-  Shows c (fork at a) s f = First c a s (Shows c a s f) (λ r t. ShowsDropped c.surroundings.vars (place a) t f)
+      ⊎ ((ls : List (List ℕ)) × IsOffering t ls × AreEachOnce ls (arm_labels bs) ×
+      ShowsArms c (rest t) bs r f))
+  Shows c (fork at a) s f = First c a s (Shows c a s f)
+      (λ r t. ShowsDropped c.surroundings.vars (place a) t f)
   Shows c (seq at a b) s f =
-      First c a s (Shows c a s f) (λ r t. ShowsDropped c.surroundings.vars (place a) t f ⊎ (HasUse c.surroundings.vars t Many × Shows c b r f))
+      First c a s (Shows c a s f) (λ r t. ShowsDropped c.surroundings.vars (place a) t f ⊎
+      (HasUse c.surroundings.vars t Many × Shows c b r f))
 
   -- one of a constructor's arguments is, or its type isn't that of its field
   pub ShowsFields : Check → CoreList → List Tree → Scope → CheckFault → Type 0
   ShowsFields c no_terms ts s f = ⊥
   ShowsFields c (term e es) [] s f = ⊥
-  ShowsFields c (term e es) (t ∷ ts) s f = First c e s (Shows c e s f) (λ r u. Unless c (place e) u t f (ShowsFields c es ts r f))
+  ShowsFields c (term e es) (t ∷ ts) s f = First c e s (Shows c e s f)
+      (λ r u. Unless c (place e) u t f (ShowsFields c es ts r f))
 
   -- one of the arms is: the first
   pub ShowsArms : Check → Binding → CoreArms → Scope → CheckFault → Type 0
   ShowsArms c b no_arms s f = ⊥
   ShowsArms c b (arm l xs e bs) s f =
       (ts : List Tree) × Binds c.surroundings b l ts ×
-      (IsLargeBinder xs ts f ⊎ Under c xs ts e s (λ z. Shows c e z f) (λ z t. ShowsFurther c b bs s z t f) f)
+      (IsLargeBinder xs ts f ⊎ Under c xs ts e s (λ z. Shows c e z f)
+      (λ z t. ShowsFurther c b bs s z t f) f)
 
   -- or a further one, which has to use the same variables and to have the type of the first
   pub ShowsFurther : Check → Binding → CoreArms → Scope → Scope → Tree → CheckFault → Type 0
@@ -144,7 +167,8 @@ abbrev mutual
       (ts : List Tree) × Binds c.surroundings b l ts ×
       (IsLargeBinder xs ts f
       ⊎ Under c xs ts e s (λ z. Shows c e z f)
-      (λ z u. UseDifferent (place e) r z f ⊎ ((z ≡ r) × Unless c (place e) u t f (ShowsFurther c b bs s r t f))) f)
+      (λ z u. UseDifferent (place e) r z f ⊎
+      ((z ≡ r) × Unless c (place e) u t f (ShowsFurther c b bs s r t f))) f)
 
 -- the same of a term
 abbrev pub IsRefused : Check → CoreTree → Scope → CheckFault → Type 0

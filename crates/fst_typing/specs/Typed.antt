@@ -32,10 +32,12 @@ IsTyped c = IsTypedBy (IsKnown c) c
 
 -- ds are the plain derivations of a constructor's arguments at the types of its fields
 abbrev pub AreFieldsTyped : Check → CoreList → List Tree → Scope → Scope → Derivs → Type 0
-AreFieldsTyped c es ts before after ds = Takes (λ u. Fields c.surroundings (checking c) es ts before.variables u ds) before after
+AreFieldsTyped c es ts before after ds = Takes
+    (λ u. Fields c.surroundings (checking c) es ts before.variables u ds) before after
 
 -- d is the plain derivation of the term under these names, whose variables have these types, within their size, and are used
-pub record IsTypedUnder (c : Check) (xs : List Binder) (ts : List Tree) (before after : Scope) (e : CoreTree) (d : Deriv) : Type 0 where
+pub record IsTypedUnder (c : Check) (xs : List Binder) (ts : List Tree) (before after : Scope)
+    (e : CoreTree) (d : Deriv) : Type 0 where
   pub variables : List Variable
   pub types : AreVariables c.surroundings.vars ts variables
   pub small : AreInSize ts

@@ -57,12 +57,15 @@ fn check_written(alloc: Global, m: &Module) -> Result<(), CheckFault>
 /// undecided, for a size, or for want of memory.
 pub fn check(alloc: Global, m: &Module, budget: u32) -> Result<Accepted, CheckFault>
     requires { 1 ≤ budget }
-    ensures accepted { IfOk result (λ a. IsAccepted m.now budget (map deriv_of a.derivations.items)) }
+    ensures accepted { IfOk result (λ a. IsAccepted m.now budget
+        (map deriv_of a.derivations.items)) }
     ensures derived { IfOk result (λ a. HasDerivations m.now (map deriv_of a.derivations.items)) }
     ensures refused { IfErr result (λ f. IsShown f (IsRefusal m.now budget f)) }
     ensures texts { IfErr result (HaveTexts (length m.now.families.items)) }
-    ensures groundless { IfErr result (λ f. IsCause f → (ds : List Deriv) → HasDerivations m.now ds → ⊥) }
-    ensures complete { IfErr result (λ f. (ds : List Deriv) → HasDerivationsWithin m.now budget ds → f ≡ Memory) }
+    ensures groundless { IfErr result (λ f. IsCause f →
+        (ds : List Deriv) → HasDerivations m.now ds → ⊥) }
+    ensures complete { IfErr result (λ f. (ds : List Deriv) → HasDerivationsWithin m.now budget ds →
+        f ≡ Memory) }
 {
     refusal_law();
     complete_law();

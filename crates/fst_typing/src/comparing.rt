@@ -38,9 +38,12 @@ pub(crate) fn compared(
     requires budget { 1 ≤ scene.budget }
     requires found { IsFormed scene.vars.now (type_of (deriv_of d)) }
     requires wanted { IsFormed scene.vars.now wanted.now }
-    ensures turned { IfOk result (λ c. deriv_of c ≡ convert (type_of (deriv_of d)) wanted.now (deriv_of d)) }
-    ensures known { IfOk result (λ c. IsKnown (check_in scene.entry) (type_of (deriv_of d)) wanted.now) }
-    ensures refused { IfErr result (λ f. IsShown f (IsUnequal (check_in scene.entry) at (type_of (deriv_of d)) wanted.now f)) }
+    ensures turned { IfOk result (λ c. deriv_of c ≡ convert (type_of (deriv_of d)) wanted.now
+        (deriv_of d)) }
+    ensures known { IfOk result (λ c. IsKnown (check_in scene.entry)
+        (type_of (deriv_of d)) wanted.now) }
+    ensures refused { IfErr result (λ f. IsShown f
+        (IsUnequal (check_in scene.entry) at (type_of (deriv_of d)) wanted.now f)) }
 {
     match same_type(alloc, d.type_of(), wanted, scene.budget) {
         Ok(Same::Yes) => {
@@ -74,9 +77,12 @@ pub(crate) fn truth(
 ) -> Result<Derivation, CheckFault>
     requires budget { 1 ≤ scene.budget }
     requires found { IsFormed scene.vars.now (type_of (deriv_of d)) }
-    ensures turned { IfOk result (λ c. deriv_of c ≡ convert (type_of (deriv_of d)) (tree.plain Truth) (deriv_of d)) }
-    ensures known { IfOk result (λ c. IsKnown (check_in scene.entry) (type_of (deriv_of d)) (tree.plain Truth)) }
-    ensures refused { IfErr result (λ f. IsShown f (IsUnequal (check_in scene.entry) at (type_of (deriv_of d)) (tree.plain Truth) f)) }
+    ensures turned { IfOk result (λ c. deriv_of c ≡ convert (type_of (deriv_of d))
+        (tree.plain Truth) (deriv_of d)) }
+    ensures known { IfOk result (λ c. IsKnown (check_in scene.entry) (type_of (deriv_of d))
+        (tree.plain Truth)) }
+    ensures refused { IfErr result (λ f. IsShown f
+        (IsUnequal (check_in scene.entry) at (type_of (deriv_of d)) (tree.plain Truth) f)) }
 {
     let wanted = base(Base::Bool);
     compared(alloc, scene, at, &wanted, d)
@@ -91,9 +97,12 @@ pub(crate) fn negated(
 ) -> Result<Derivation, CheckFault>
     requires budget { 1 ≤ scene.budget }
     requires found { IsFormed scene.vars.now (type_of (deriv_of d)) }
-    ensures made { IfOk result (λ w. IsKnown (check_in scene.entry) (type_of (deriv_of d)) (tree.plain Truth) ×
-        (deriv_of w ≡ row (tree.plain Truth) (one (convert (type_of (deriv_of d)) (tree.plain Truth) (deriv_of d))))) }
-    ensures refused { IfErr result (λ f. IsShown f (IsUnequal (check_in scene.entry) at (type_of (deriv_of d)) (tree.plain Truth) f)) }
+    ensures made { IfOk result (λ w. IsKnown (check_in scene.entry) (type_of (deriv_of d))
+        (tree.plain Truth) ×
+        (deriv_of w ≡ row (tree.plain Truth)
+        (one (convert (type_of (deriv_of d)) (tree.plain Truth) (deriv_of d))))) }
+    ensures refused { IfErr result (λ f. IsShown f
+        (IsUnequal (check_in scene.entry) at (type_of (deriv_of d)) (tree.plain Truth) f)) }
 {
     let c = truth(alloc, scene, at, d)?;
     Ok(Derivation::with_one(alloc, base(Base::Bool), c)?)
@@ -112,8 +121,10 @@ pub(crate) fn applied(
     requires found { IsFormed scene.vars.now (type_of (deriv_of h)) }
     requires wanted { IsFormed scene.vars.now parts.0 }
     ensures made { IfOk result (λ w. IsKnown (check_in scene.entry) (type_of (deriv_of h)) parts.0 ×
-        (deriv_of w ≡ row parts.1 (two (deriv_of d) (convert (type_of (deriv_of h)) parts.0 (deriv_of h))))) }
-    ensures refused { IfErr result (λ f. IsShown f (IsUnequal (check_in scene.entry) at (type_of (deriv_of h)) parts.0 f)) }
+        (deriv_of w ≡ row parts.1 (two (deriv_of d)
+        (convert (type_of (deriv_of h)) parts.0 (deriv_of h))))) }
+    ensures refused { IfErr result (λ f. IsShown f
+        (IsUnequal (check_in scene.entry) at (type_of (deriv_of h)) parts.0 f)) }
 {
     let argument = compared(alloc, scene, at, &parts.0, h)?;
     Ok(Derivation::with_two(alloc, parts.1, d, argument)?)
@@ -135,11 +146,14 @@ pub(crate) fn joined(
     requires found { IsFormed scene.vars.now (type_of (deriv_of d)) }
     requires wanted { IsFormed scene.vars.now wanted.now }
     ensures same { OnOk result (context.now.there ≡ reverse marks.now) }
-    ensures turned { IfOk result (λ c. deriv_of c ≡ convert (type_of (deriv_of d)) wanted.now (deriv_of d)) }
-    ensures known { IfOk result (λ c. IsKnown (check_in scene.entry) (type_of (deriv_of d)) wanted.now) }
+    ensures turned { IfOk result (λ c. deriv_of c ≡ convert (type_of (deriv_of d)) wanted.now
+        (deriv_of d)) }
+    ensures known { IfOk result (λ c. IsKnown (check_in scene.entry)
+        (type_of (deriv_of d)) wanted.now) }
     ensures refused { IfErr result (λ f. IsShown f (
         UseDifferent at (with_marks (reverse marks.now) context.now) context.now f ⊎
-        ((context.now.there ≡ reverse marks.now) × IsUnequal (check_in scene.entry) at (type_of (deriv_of d)) wanted.now f))) }
+        ((context.now.there ≡ reverse marks.now) ×
+        IsUnequal (check_in scene.entry) at (type_of (deriv_of d)) wanted.now f))) }
 {
     same_marks(alloc, context, marks, at)?;
     compared(alloc, scene, at, wanted, d)

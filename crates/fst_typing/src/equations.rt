@@ -45,11 +45,16 @@ fn enter_parameters<'a>(
 ) -> Result<Entered<'a>, CheckFault>
     requires ready { IsReady (check_in scene) term.now context.old.variables }
     requires formed { IsFormed scene.vars.now wanted.now }
-    ensures entered { IfOk result (λ o. AreEntered (check_in scene.entry) term.now wanted.now context.old o.parameters.items o.body.now o.to.now context.new) }
-    ensures last { IfOk result (λ o. HasNoParameter (check_in scene.entry).surroundings.types o.body.now o.to.now) }
-    ensures ready { IfOk result (λ o. IsReady (check_in scene.entry) o.body.now context.new.variables) }
+    ensures entered { IfOk result (λ o. AreEntered
+        (check_in scene.entry) term.now wanted.now context.old o.parameters.items o.body.now
+        o.to.now context.new) }
+    ensures last { IfOk result (λ o. HasNoParameter
+        (check_in scene.entry).surroundings.types o.body.now o.to.now) }
+    ensures ready { IfOk result (λ o. IsReady
+        (check_in scene.entry) o.body.now context.new.variables) }
     ensures formed { IfOk result (λ o. IsFormed scene.entry.vars.now o.to.now) }
-    ensures refused { IfErr result (λ f. IsShown f (ShowsEquation (check_in scene.entry) term.now wanted.now context.old f)) }
+    ensures refused { IfErr result (λ f. IsShown f
+        (ShowsEquation (check_in scene.entry) term.now wanted.now context.old f)) }
 {
     let mut parameters = Vec::new(alloc);
     let mut body = term;
@@ -78,11 +83,13 @@ fn leave_parameter(
     requires bodies { parameter.uses ≡ Many → 0 < length context.old.bodies }
     ensures typed { IfOk result (λ d. (c : Check) (e : CoreTree) (t : Tree) (s z : Scope) →
         HasParameter c e t parameter.entry → IsEntered c parameter.entry s z →
-        IsEquationTyped c parameter.entry.to.now z context.old parameter.entry.body.now (deriv_of under) →
+        IsEquationTyped c parameter.entry.to.now z context.old parameter.entry.body.now
+        (deriv_of under) →
         IsEquationTyped c t s context.new e (deriv_of d)) }
     ensures refused { IfErr result (λ f. (c : Check) (e : CoreTree) (t : Tree) (s z : Scope) →
         HasParameter c e t parameter.entry → IsEntered c parameter.entry s z →
-        IsEquationTyped c parameter.entry.to.now z context.old parameter.entry.body.now (deriv_of under) →
+        IsEquationTyped c parameter.entry.to.now z context.old parameter.entry.body.now
+        (deriv_of under) →
         IsShown f (ShowsEquation c e t s f)) }
 {
     leave(alloc, context, parameter.binder)?;
@@ -102,9 +109,12 @@ fn infer_result(
     requires set_up { IsSetUp (check_in scene) }
     requires ready { IsReady (check_in scene) term.now context.old.variables }
     requires formed { IsFormed scene.vars.now wanted.now }
-    ensures typed { IfOk result (λ d. HasNoParameter (check_in scene.entry).surroundings.types term.now wanted.now →
-        IsEquationTyped (check_in scene.entry) wanted.now context.old context.new term.now (deriv_of d)) }
-    ensures refused { IfErr result (λ f. IsShown f (ShowsResult (check_in scene.entry) term.now wanted.now context.old f)) }
+    ensures typed { IfOk result (λ d. HasNoParameter
+        (check_in scene.entry).surroundings.types term.now wanted.now →
+        IsEquationTyped (check_in scene.entry) wanted.now context.old context.new term.now
+        (deriv_of d)) }
+    ensures refused { IfErr result (λ f. IsShown f
+        (ShowsResult (check_in scene.entry) term.now wanted.now context.old f)) }
 {
     let found = infer(alloc, scene, context, term)?;
     compared(alloc, scene, place_of(term), wanted, found)
@@ -122,8 +132,10 @@ pub(crate) fn infer_equation(
     requires set_up { IsSetUp (check_in scene) }
     requires ready { IsReady (check_in scene) term.now context.old.variables }
     requires formed { IsFormed scene.vars.now wanted.now }
-    ensures typed { IfOk result (λ d. IsEquationTyped (check_in scene.entry) wanted.now context.old context.new term.now (deriv_of d)) }
-    ensures refused { IfErr result (λ f. IsShown f (ShowsEquation (check_in scene.entry) term.now wanted.now context.old f)) }
+    ensures typed { IfOk result (λ d. IsEquationTyped
+        (check_in scene.entry) wanted.now context.old context.new term.now (deriv_of d)) }
+    ensures refused { IfErr result (λ f. IsShown f
+        (ShowsEquation (check_in scene.entry) term.now wanted.now context.old f)) }
 {
     let mut entered = enter_parameters(alloc, scene, context, wanted, term)?;
     let mut found = infer_result(alloc, scene, context, entered.to, entered.body)?;

@@ -62,7 +62,8 @@ fn check_main(alloc: Global, m: &Module, global: &GlobalEntry) -> Result<(), Che
 fn check_name(alloc: Global, m: &Module, global: &GlobalEntry) -> Result<(), CheckFault>
     requires { global.now.signature < length m.now.types.items }
     ensures main { OnOk result (IsNamedMain global.now → IsMain m.now.types.items global.now) }
-    ensures refused { IfErr result (λ f. IsShown f (IsNamedMain global.now × ShowsMain m.now global.now f)) }
+    ensures refused { IfErr result (λ f. IsShown f
+        (IsNamedMain global.now × ShowsMain m.now global.now f)) }
 {
     if is_main(global) {
         check_main(alloc, m, global)
@@ -98,7 +99,8 @@ fn check_global(
 
 /// Whether a refusal is known of an equation that begins no later than the global's.
 fn is_behind(refused: &Option<Refused>, global: &GlobalEntry) -> bool
-    ensures { MatchOption refused.now (result ≡ false) (λ r. IsTrue result ↔ (r.at ≤ global.now.at)) }
+    ensures { MatchOption refused.now (result ≡ false)
+        (λ r. IsTrue result ↔ (r.at ≤ global.now.at)) }
 {
     match refused {
         Some(first) => first.at <= global.at,
@@ -109,7 +111,9 @@ fn is_behind(refused: &Option<Refused>, global: &GlobalEntry) -> bool
 /// What is found with one more derivation.
 fn with_derivation(found: Found, derivation: Derivation) -> Result<Found, AllocError>
     ensures refused { IfOk result (λ o. o.refused ≡ found.refused) }
-    ensures derivations { IfOk result (λ o. map deriv_of o.derivations.items ≡ map deriv_of found.derivations.items ++ deriv_of derivation ∷ []) }
+    ensures derivations { IfOk result (λ o.
+        map deriv_of o.derivations.items ≡ map deriv_of found.derivations.items ++ deriv_of
+        derivation ∷ []) }
 {
     let Found {
         mut derivations,
@@ -144,8 +148,10 @@ fn next_found(
     requires budget { 1 ≤ budget }
     requires types { AreTypesFormed m.now }
     requires there { (k : ℕ) × (slice_get m.now.globals.items k ≡ Some global.now) }
-    ensures { IfOk result (λ o. (gs : List GlobalParts) → IsFoundOf m.now budget gs (map deriv_of found.derivations.items) found.refused →
-        IsFoundOf m.now budget (gs ++ global.now ∷ []) (map deriv_of o.derivations.items) o.refused) }
+    ensures { IfOk result (λ o. (gs : List GlobalParts) →
+        IsFoundOf m.now budget gs (map deriv_of found.derivations.items) found.refused →
+        IsFoundOf m.now budget (gs ++ global.now ∷ [])
+        (map deriv_of o.derivations.items) o.refused) }
 {
     if is_behind(&found.refused, global) {
         return Ok(found);
@@ -165,9 +171,11 @@ pub(crate) fn check_globals(
     requires budget { 1 ≤ budget }
     requires types { AreTypesFormed m.now }
     ensures main { OnOk result (HasMain m.now.types.items m.now.globals.items) }
-    ensures derived { IfOk result (λ ds. ArePlainlyDerived m.now (checking_over m.now budget) m.now.globals.items (map deriv_of ds.items)) }
+    ensures derived { IfOk result (λ ds. ArePlainlyDerived m.now
+        (checking_over m.now budget) m.now.globals.items (map deriv_of ds.items)) }
     ensures refused { IfErr result (λ f. IsShown f (
-        (g : GlobalParts) × IsFirst (λ (h : GlobalParts). h.at) (IsGlobalAccepted m.now budget) m.now.globals.items g × ShowsGlobal m.now budget g f)) }
+        (g : GlobalParts) × IsFirst (λ (h : GlobalParts). h.at)
+        (IsGlobalAccepted m.now budget) m.now.globals.items g × ShowsGlobal m.now budget g f)) }
 {
     let mut found = Found {
         derivations: Vec::new(alloc),

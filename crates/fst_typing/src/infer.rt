@@ -38,7 +38,8 @@ pub(crate) fn infer(
 ) -> Result<Derivation, CheckFault>
     requires set_up { IsSetUp (check_in scene) }
     requires ready { IsReady (check_in scene) term.now context.old.variables }
-    ensures typed { IfOk result (λ d. IsTyped (check_in scene.entry) context.old context.new term.now (deriv_of d)) }
+    ensures typed { IfOk result (λ d. IsTyped
+        (check_in scene.entry) context.old context.new term.now (deriv_of d)) }
     ensures refused { IfErr result (λ f. IsRefused (check_in scene.entry) term.now context.old f) }
 {
     let mut spine = spine_of(alloc, term)?;
@@ -74,9 +75,11 @@ fn infer_step(
     requires set_up { IsSetUp (check_in scene) }
     requires ready { IsReady (check_in scene) (second step) context.old.variables }
     requires formed { IsFormed scene.vars.now (type_of (deriv_of first)) }
-    ensures typed { IfOk result (λ d. (s : Scope) (e : CoreTree) → IsTyped (check_in scene.entry) s context.old e (deriv_of first) →
+    ensures typed { IfOk result (λ d. (s : Scope) (e : CoreTree) →
+        IsTyped (check_in scene.entry) s context.old e (deriv_of first) →
         IsTyped (check_in scene.entry) s context.new (wrap step.entry e) (deriv_of d)) }
-    ensures refused { IfErr result (λ f. (s : Scope) (e : CoreTree) → IsTyped (check_in scene.entry) s context.old e (deriv_of first) → at ≡ place e →
+    ensures refused { IfErr result (λ f. (s : Scope) (e : CoreTree) →
+        IsTyped (check_in scene.entry) s context.old e (deriv_of first) → at ≡ place e →
         IsRefused (check_in scene.entry) (wrap step.entry e) s f) }
 {
     match step {
@@ -104,7 +107,8 @@ fn infer_head(
     requires set_up { IsSetUp (check_in scene) }
     requires ready { IsReady (check_in scene) head.now context.old.variables }
     requires first { IsFalse (has_first head.now) }
-    ensures typed { IfOk result (λ d. IsTyped (check_in scene.entry) context.old context.new head.now (deriv_of d)) }
+    ensures typed { IfOk result (λ d. IsTyped
+        (check_in scene.entry) context.old context.new head.now (deriv_of d)) }
     ensures refused { IfErr result (λ f. IsRefused (check_in scene.entry) head.now context.old f) }
 {
     let at = place_of(head);

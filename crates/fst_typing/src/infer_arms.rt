@@ -47,13 +47,19 @@ fn infer_fields_arm(
 ) -> Result<Derivation, CheckFault>
     requires set_up { IsSetUp (check_in scene) }
     requires long { length arm.now.binders.items ≡ length fields.now }
-    requires ready { (ts : List Tree) × AreAt scene.module.now.types.items fields.now ts × AreFormed scene.vars.now ts ×
-        (AreInSize ts → (vs : List Variable) → AreVariables scene.vars.now ts vs → IsReady (check_in scene) arm.now.body (enter_all vs context.old.variables)) }
-    ensures typed { IfOk result (λ d. (ts : List Tree) → AreAt scene.entry.module.now.types.items fields.now ts →
-        IsTypedUnder (check_in scene.entry) arm.now.binders.items ts context.old context.new arm.now.body (deriv_of d)) }
-    ensures refused { IfErr result (λ f. (ts : List Tree) → AreAt scene.entry.module.now.types.items fields.now ts → IsShown f (
+    requires ready { (ts : List Tree) × AreAt scene.module.now.types.items fields.now ts ×
+        AreFormed scene.vars.now ts ×
+        (AreInSize ts → (vs : List Variable) → AreVariables scene.vars.now ts vs →
+        IsReady (check_in scene) arm.now.body (enter_all vs context.old.variables)) }
+    ensures typed { IfOk result (λ d. (ts : List Tree) →
+        AreAt scene.entry.module.now.types.items fields.now ts →
+        IsTypedUnder (check_in scene.entry) arm.now.binders.items ts context.old context.new
+        arm.now.body (deriv_of d)) }
+    ensures refused { IfErr result (λ f. (ts : List Tree) →
+        AreAt scene.entry.module.now.types.items fields.now ts → IsShown f (
         IsLargeBinder arm.now.binders.items ts f ⊎
-        Under (check_in scene.entry) arm.now.binders.items ts arm.now.body context.old (λ z. Shows (check_in scene.entry) arm.now.body z f) NoMore f)) }
+        Under (check_in scene.entry) arm.now.binders.items ts arm.now.body context.old
+        (λ z. Shows (check_in scene.entry) arm.now.body z f) NoMore f)) }
 {
     enter_fields(alloc, scene, context, &arm.binders, fields)?;
     let d = infer(alloc, scene, context, &arm.body)?;
@@ -71,9 +77,14 @@ fn infer_rest_arm(
     arm: &Arm,
 ) -> Result<Derivation, CheckFault>
     requires set_up { IsSetUp (check_in scene) }
-    requires ready { IsArmReady (check_in scene) (rest t.now) arm.now.label arm.now.binders.items arm.now.body context.old.variables }
-    ensures typed { IfOk result (λ d. IsArmTyped (check_in scene.entry) (rest t.now) arm.now.label arm.now.binders.items context.old context.new arm.now.body (deriv_of d)) }
-    ensures refused { IfErr result (λ f. IsShown f (ShowsArm (check_in scene.entry) (rest t.now) arm.now.label arm.now.binders.items arm.now.body context.old f)) }
+    requires ready { IsArmReady (check_in scene)
+        (rest t.now) arm.now.label arm.now.binders.items arm.now.body context.old.variables }
+    ensures typed { IfOk result (λ d. IsArmTyped (check_in scene.entry)
+        (rest t.now) arm.now.label arm.now.binders.items context.old context.new arm.now.body
+        (deriv_of d)) }
+    ensures refused { IfErr result (λ f. IsShown f
+        (ShowsArm (check_in scene.entry) (rest t.now) arm.now.label arm.now.binders.items
+        arm.now.body context.old f)) }
 {
     let binder = &arm.binders[0];
     let next = offered(alloc, binder.at, &arm.label, t)?;
@@ -92,9 +103,15 @@ fn infer_arm(
 ) -> Result<Derivation, CheckFault>
     requires set_up { IsSetUp (check_in scene) }
     requires numbered { IsNumbered binding number arm.now.label }
-    requires ready { IsArmReady (check_in scene) (binding_of binding) arm.now.label arm.now.binders.items arm.now.body context.old.variables }
-    ensures typed { IfOk result (λ d. IsArmTyped (check_in scene.entry) (binding_of binding.entry) arm.now.label arm.now.binders.items context.old context.new arm.now.body (deriv_of d)) }
-    ensures refused { IfErr result (λ f. IsShown f (ShowsArm (check_in scene.entry) (binding_of binding.entry) arm.now.label arm.now.binders.items arm.now.body context.old f)) }
+    requires ready { IsArmReady (check_in scene)
+        (binding_of binding) arm.now.label arm.now.binders.items arm.now.body
+        context.old.variables }
+    ensures typed { IfOk result (λ d. IsArmTyped (check_in scene.entry)
+        (binding_of binding.entry) arm.now.label arm.now.binders.items context.old context.new
+        arm.now.body (deriv_of d)) }
+    ensures refused { IfErr result (λ f. IsShown f
+        (ShowsArm (check_in scene.entry) (binding_of binding.entry) arm.now.label
+        arm.now.binders.items arm.now.body context.old f)) }
 {
     match binding {
         Binding::Fields(makers, numbers) => {
@@ -121,12 +138,20 @@ fn infer_further(
 ) -> Result<Vec<Derivation>, CheckFault>
     requires set_up { IsSetUp (check_in scene) }
     requires numbered { AreNumbered binding arms.now }
-    requires ready { AreArmsReady (check_in scene) (binding_of binding) (core_arms_of arms.now) context.old.variables }
-    requires first { IsFirstTyped (check_in scene) (binding_of binding) (core_arms_of arms.now) context.old (with_marks (reverse after.now) context.old) (deriv_of first) }
+    requires ready { AreArmsReady (check_in scene) (binding_of binding)
+        (core_arms_of arms.now) context.old.variables }
+    requires first { IsFirstTyped (check_in scene) (binding_of binding)
+        (core_arms_of arms.now) context.old (with_marks (reverse after.now) context.old)
+        (deriv_of first) }
     requires wanted { t.now ≡ type_of (deriv_of first) }
-    ensures typed { IfOk result (λ ds. AreArmsTyped (check_in scene.entry) (binding_of binding.entry) (core_arms_of arms.now) context.old (with_marks (reverse after.now) context.old) (deriv_of value) (row t.now (parts_of ds.items))) }
+    ensures typed { IfOk result (λ ds. AreArmsTyped (check_in scene.entry)
+        (binding_of binding.entry) (core_arms_of arms.now) context.old
+        (with_marks (reverse after.now) context.old) (deriv_of value)
+        (row t.now (parts_of ds.items))) }
     ensures here { IfOk result (λ ds. context.new ≡ context.old) }
-    ensures refused { IfErr result (λ f. IsShown f (ShowsArms (check_in scene.entry) (binding_of binding.entry) (core_arms_of arms.now) context.old f)) }
+    ensures refused { IfErr result (λ f. IsShown f
+        (ShowsArms (check_in scene.entry) (binding_of binding.entry)
+        (core_arms_of arms.now) context.old f)) }
 {
     let before = context.marks()?;
     let mut parts = two_parts(alloc, value, first)?;
@@ -154,9 +179,13 @@ fn infer_arms(
     requires set_up { IsSetUp (check_in scene) }
     requires some { 0 < length arms.now }
     requires numbered { AreNumbered binding arms.now }
-    requires ready { AreArmsReady (check_in scene) (binding_of binding) (core_arms_of arms.now) context.old.variables }
-    ensures typed { IfOk result (λ w. AreArmsTyped (check_in scene.entry) (binding_of binding.entry) (core_arms_of arms.now) context.old context.new (deriv_of value) (deriv_of w)) }
-    ensures refused { IfErr result (λ f. IsShown f (ShowsArms (check_in scene.entry) (binding_of binding.entry) (core_arms_of arms.now) context.old f)) }
+    requires ready { AreArmsReady (check_in scene) (binding_of binding)
+        (core_arms_of arms.now) context.old.variables }
+    ensures typed { IfOk result (λ w. AreArmsTyped (check_in scene.entry) (binding_of binding.entry)
+        (core_arms_of arms.now) context.old context.new (deriv_of value) (deriv_of w)) }
+    ensures refused { IfErr result (λ f. IsShown f
+        (ShowsArms (check_in scene.entry) (binding_of binding.entry)
+        (core_arms_of arms.now) context.old f)) }
 {
     let before = context.marks()?;
     let first = infer_arm(alloc, scene, context, binding, 0, &arms[0])?;
@@ -180,9 +209,12 @@ pub(crate) fn infer_case(
     arms: &[Arm],
 ) -> Result<Derivation, CheckFault>
     requires set_up { IsSetUp (check_in scene) }
-    requires ready { IsReady (check_in scene) (case_of at value.now (core_arms_of arms.now)) context.old.variables }
-    ensures typed { IfOk result (λ d. IsTyped (check_in scene.entry) context.old context.new (case_of at value.now (core_arms_of arms.now)) (deriv_of d)) }
-    ensures refused { IfErr result (λ f. IsRefused (check_in scene.entry) (case_of at value.now (core_arms_of arms.now)) context.old f) }
+    requires ready { IsReady (check_in scene)
+        (case_of at value.now (core_arms_of arms.now)) context.old.variables }
+    ensures typed { IfOk result (λ d. IsTyped (check_in scene.entry) context.old context.new
+        (case_of at value.now (core_arms_of arms.now)) (deriv_of d)) }
+    ensures refused { IfErr result (λ f. IsRefused (check_in scene.entry)
+        (case_of at value.now (core_arms_of arms.now)) context.old f) }
 {
     let d = infer(alloc, scene, context, value)?;
     let found = case_constructors(alloc, scene, at, d.type_of(), arms)?;
@@ -201,9 +233,12 @@ pub(crate) fn infer_match(
     arms: &[Arm],
 ) -> Result<Derivation, CheckFault>
     requires set_up { IsSetUp (check_in scene) }
-    requires ready { IsReady (check_in scene) (match_with at channel.now (core_arms_of arms.now)) context.old.variables }
-    ensures typed { IfOk result (λ d. IsTyped (check_in scene.entry) context.old context.new (match_with at channel.now (core_arms_of arms.now)) (deriv_of d)) }
-    ensures refused { IfErr result (λ f. IsRefused (check_in scene.entry) (match_with at channel.now (core_arms_of arms.now)) context.old f) }
+    requires ready { IsReady (check_in scene)
+        (match_with at channel.now (core_arms_of arms.now)) context.old.variables }
+    ensures typed { IfOk result (λ d. IsTyped (check_in scene.entry) context.old context.new
+        (match_with at channel.now (core_arms_of arms.now)) (deriv_of d)) }
+    ensures refused { IfErr result (λ f. IsRefused (check_in scene.entry)
+        (match_with at channel.now (core_arms_of arms.now)) context.old f) }
 {
     let d = infer(alloc, scene, context, channel)?;
     match_labels(alloc, at, d.type_of(), arms)?;

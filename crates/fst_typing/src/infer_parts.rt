@@ -36,8 +36,10 @@ pub(crate) fn infer_pair(
 ) -> Result<Derivation, CheckFault>
     requires set_up { IsSetUp (check_in scene) }
     requires ready { IsReady (check_in scene) (pair at first.now second.now) context.old.variables }
-    ensures typed { IfOk result (λ d. IsTyped (check_in scene.entry) context.old context.new (pair at first.now second.now) (deriv_of d)) }
-    ensures refused { IfErr result (λ f. IsRefused (check_in scene.entry) (pair at first.now second.now) context.old f) }
+    ensures typed { IfOk result (λ d. IsTyped (check_in scene.entry) context.old context.new
+        (pair at first.now second.now) (deriv_of d)) }
+    ensures refused { IfErr result (λ f. IsRefused (check_in scene.entry)
+        (pair at first.now second.now) context.old f) }
 {
     let d = infer(alloc, scene, context, first)?;
     let h = infer(alloc, scene, context, second)?;
@@ -54,10 +56,14 @@ fn infer_fields(
     fields: &[u32],
 ) -> Result<Vec<Derivation>, CheckFault>
     requires set_up { IsSetUp (check_in scene) }
-    requires ready { AreFieldsReady (check_in scene) (cores_of arguments.now) fields.now context.old.variables }
-    ensures typed { IfOk result (λ ds. (ts : List Tree) → AreAt scene.entry.module.now.types.items fields.now ts →
-        AreFieldsTyped (check_in scene.entry) (cores_of arguments.now) ts context.old context.new (parts_of ds.items)) }
-    ensures refused { IfErr result (λ f. (ts : List Tree) → AreAt scene.entry.module.now.types.items fields.now ts →
+    requires ready { AreFieldsReady (check_in scene)
+        (cores_of arguments.now) fields.now context.old.variables }
+    ensures typed { IfOk result (λ ds. (ts : List Tree) →
+        AreAt scene.entry.module.now.types.items fields.now ts →
+        AreFieldsTyped (check_in scene.entry) (cores_of arguments.now) ts context.old context.new
+        (parts_of ds.items)) }
+    ensures refused { IfErr result (λ f. (ts : List Tree) →
+        AreAt scene.entry.module.now.types.items fields.now ts →
         IsShown f (ShowsFields (check_in scene.entry) (cores_of arguments.now) ts context.old f)) }
 {
     let mut parts = Vec::new(alloc);
@@ -82,9 +88,12 @@ pub(crate) fn infer_make(
     arguments: &[Term],
 ) -> Result<Derivation, CheckFault>
     requires set_up { IsSetUp (check_in scene) }
-    requires ready { IsReady (check_in scene) (make at family maker (cores_of arguments.now)) context.old.variables }
-    ensures typed { IfOk result (λ d. IsTyped (check_in scene.entry) context.old context.new (make at family maker (cores_of arguments.now)) (deriv_of d)) }
-    ensures refused { IfErr result (λ f. IsRefused (check_in scene.entry) (make at family maker (cores_of arguments.now)) context.old f) }
+    requires ready { IsReady (check_in scene)
+        (make at family maker (cores_of arguments.now)) context.old.variables }
+    ensures typed { IfOk result (λ d. IsTyped (check_in scene.entry) context.old context.new
+        (make at family maker (cores_of arguments.now)) (deriv_of d)) }
+    ensures refused { IfErr result (λ f. IsRefused (check_in scene.entry)
+        (make at family maker (cores_of arguments.now)) context.old f) }
 {
     let fields = fields_of(scene, family, maker);
     let parts = infer_fields(alloc, scene, context, arguments, fields)?;
@@ -103,9 +112,12 @@ pub(crate) fn infer_if(
     no: &Term,
 ) -> Result<Derivation, CheckFault>
     requires set_up { IsSetUp (check_in scene) }
-    requires ready { IsReady (check_in scene) (if_else at condition.now yes.now no.now) context.old.variables }
-    ensures typed { IfOk result (λ d. IsTyped (check_in scene.entry) context.old context.new (if_else at condition.now yes.now no.now) (deriv_of d)) }
-    ensures refused { IfErr result (λ f. IsRefused (check_in scene.entry) (if_else at condition.now yes.now no.now) context.old f) }
+    requires ready { IsReady (check_in scene)
+        (if_else at condition.now yes.now no.now) context.old.variables }
+    ensures typed { IfOk result (λ d. IsTyped (check_in scene.entry) context.old context.new
+        (if_else at condition.now yes.now no.now) (deriv_of d)) }
+    ensures refused { IfErr result (λ f. IsRefused (check_in scene.entry)
+        (if_else at condition.now yes.now no.now) context.old f) }
 {
     let found = infer(alloc, scene, context, condition)?;
     let tested = truth(alloc, scene, place_of(condition), found)?;
@@ -128,8 +140,10 @@ pub(crate) fn infer_not(
 ) -> Result<Derivation, CheckFault>
     requires set_up { IsSetUp (check_in scene) }
     requires ready { IsReady (check_in scene) (negate at part.now) context.old.variables }
-    ensures typed { IfOk result (λ d. IsTyped (check_in scene.entry) context.old context.new (negate at part.now) (deriv_of d)) }
-    ensures refused { IfErr result (λ f. IsRefused (check_in scene.entry) (negate at part.now) context.old f) }
+    ensures typed { IfOk result (λ d. IsTyped (check_in scene.entry) context.old context.new
+        (negate at part.now) (deriv_of d)) }
+    ensures refused { IfErr result (λ f. IsRefused (check_in scene.entry)
+        (negate at part.now) context.old f) }
 {
     let d = infer(alloc, scene, context, part)?;
     negated(alloc, scene, place_of(part), d)
@@ -146,9 +160,12 @@ pub(crate) fn infer_send(
     channel: &Term,
 ) -> Result<Derivation, CheckFault>
     requires set_up { IsSetUp (check_in scene) }
-    requires ready { IsReady (check_in scene) (send at value.now channel.now) context.old.variables }
-    ensures typed { IfOk result (λ d. IsTyped (check_in scene.entry) context.old context.new (send at value.now channel.now) (deriv_of d)) }
-    ensures refused { IfErr result (λ f. IsRefused (check_in scene.entry) (send at value.now channel.now) context.old f) }
+    requires ready { IsReady (check_in scene)
+        (send at value.now channel.now) context.old.variables }
+    ensures typed { IfOk result (λ d. IsTyped (check_in scene.entry) context.old context.new
+        (send at value.now channel.now) (deriv_of d)) }
+    ensures refused { IfErr result (λ f. IsRefused (check_in scene.entry)
+        (send at value.now channel.now) context.old f) }
 {
     let d = infer(alloc, scene, context, value)?;
     let h = infer(alloc, scene, context, channel)?;
@@ -166,8 +183,10 @@ pub(crate) fn infer_receive(
 ) -> Result<Derivation, CheckFault>
     requires set_up { IsSetUp (check_in scene) }
     requires ready { IsReady (check_in scene) (receive at channel.now) context.old.variables }
-    ensures typed { IfOk result (λ d. IsTyped (check_in scene.entry) context.old context.new (receive at channel.now) (deriv_of d)) }
-    ensures refused { IfErr result (λ f. IsRefused (check_in scene.entry) (receive at channel.now) context.old f) }
+    ensures typed { IfOk result (λ d. IsTyped (check_in scene.entry) context.old context.new
+        (receive at channel.now) (deriv_of d)) }
+    ensures refused { IfErr result (λ f. IsRefused (check_in scene.entry)
+        (receive at channel.now) context.old f) }
 {
     let d = infer(alloc, scene, context, channel)?;
     received_row(alloc, at, d)
@@ -184,9 +203,12 @@ pub(crate) fn infer_select(
     channel: &Term,
 ) -> Result<Derivation, CheckFault>
     requires set_up { IsSetUp (check_in scene) }
-    requires ready { IsReady (check_in scene) (select at label.now channel.now) context.old.variables }
-    ensures typed { IfOk result (λ d. IsTyped (check_in scene.entry) context.old context.new (select at label.now channel.now) (deriv_of d)) }
-    ensures refused { IfErr result (λ f. IsRefused (check_in scene.entry) (select at label.now channel.now) context.old f) }
+    requires ready { IsReady (check_in scene)
+        (select at label.now channel.now) context.old.variables }
+    ensures typed { IfOk result (λ d. IsTyped (check_in scene.entry) context.old context.new
+        (select at label.now channel.now) (deriv_of d)) }
+    ensures refused { IfErr result (λ f. IsRefused (check_in scene.entry)
+        (select at label.now channel.now) context.old f) }
 {
     let d = infer(alloc, scene, context, channel)?;
     selected_row(alloc, at, label, d)
@@ -203,8 +225,10 @@ pub(crate) fn infer_fork(
 ) -> Result<Derivation, CheckFault>
     requires set_up { IsSetUp (check_in scene) }
     requires ready { IsReady (check_in scene) (fork at part.now) context.old.variables }
-    ensures typed { IfOk result (λ d. IsTyped (check_in scene.entry) context.old context.new (fork at part.now) (deriv_of d)) }
-    ensures refused { IfErr result (λ f. IsRefused (check_in scene.entry) (fork at part.now) context.old f) }
+    ensures typed { IfOk result (λ d. IsTyped (check_in scene.entry) context.old context.new
+        (fork at part.now) (deriv_of d)) }
+    ensures refused { IfErr result (λ f. IsRefused (check_in scene.entry)
+        (fork at part.now) context.old f) }
 {
     let d = infer(alloc, scene, context, part)?;
     forked_row(alloc, scene.vars, place_of(part), d)
@@ -222,8 +246,10 @@ pub(crate) fn infer_then(
 ) -> Result<Derivation, CheckFault>
     requires set_up { IsSetUp (check_in scene) }
     requires ready { IsReady (check_in scene) (seq at first.now second.now) context.old.variables }
-    ensures typed { IfOk result (λ d. IsTyped (check_in scene.entry) context.old context.new (seq at first.now second.now) (deriv_of d)) }
-    ensures refused { IfErr result (λ f. IsRefused (check_in scene.entry) (seq at first.now second.now) context.old f) }
+    ensures typed { IfOk result (λ d. IsTyped (check_in scene.entry) context.old context.new
+        (seq at first.now second.now) (deriv_of d)) }
+    ensures refused { IfErr result (λ f. IsRefused (check_in scene.entry)
+        (seq at first.now second.now) context.old f) }
 {
     let d = infer(alloc, scene, context, first)?;
     may_be_dropped(alloc, scene.vars, place_of(first), d.type_of())?;

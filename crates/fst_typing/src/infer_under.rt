@@ -35,9 +35,13 @@ pub(crate) fn infer_under(
     requires set_up { IsSetUp (check_in scene) }
     requires formed { IsFormed scene.vars.now t }
     requires small { IsInSize t }
-    requires ready { (vs : List Variable) → AreVariables scene.vars.now (t ∷ []) vs → IsReady (check_in scene) body.now (enter_all vs context.old.variables) }
-    ensures typed { IfOk result (λ d. IsTypedUnder (check_in scene.entry) (binder.now ∷ []) (t ∷ []) context.old context.new body.now (deriv_of d)) }
-    ensures refused { IfErr result (λ f. IsShown f (Under (check_in scene.entry) (binder.now ∷ []) (t ∷ []) body.now context.old (λ z. Shows (check_in scene.entry) body.now z f) NoMore f)) }
+    requires ready { (vs : List Variable) → AreVariables scene.vars.now (t ∷ []) vs →
+        IsReady (check_in scene) body.now (enter_all vs context.old.variables) }
+    ensures typed { IfOk result (λ d. IsTypedUnder (check_in scene.entry) (binder.now ∷ [])
+        (t ∷ []) context.old context.new body.now (deriv_of d)) }
+    ensures refused { IfErr result (λ f. IsShown f
+        (Under (check_in scene.entry) (binder.now ∷ []) (t ∷ []) body.now context.old
+        (λ z. Shows (check_in scene.entry) body.now z f) NoMore f)) }
 {
     enter(alloc, scene, context, binder, t)?;
     let d = infer(alloc, scene, context, body)?;
@@ -62,9 +66,13 @@ fn infer_under_two(
     requires right_formed { IsFormed scene.vars.now t }
     requires left_small { IsInSize s }
     requires right_small { IsInSize t }
-    requires ready { (vs : List Variable) → AreVariables scene.vars.now (s ∷ t ∷ []) vs → IsReady (check_in scene) body.now (enter_all vs context.old.variables) }
-    ensures typed { IfOk result (λ d. IsTypedUnder (check_in scene.entry) (left.now ∷ right.now ∷ []) (s ∷ t ∷ []) context.old context.new body.now (deriv_of d)) }
-    ensures refused { IfErr result (λ f. IsShown f (Under (check_in scene.entry) (left.now ∷ right.now ∷ []) (s ∷ t ∷ []) body.now context.old (λ z. Shows (check_in scene.entry) body.now z f) NoMore f)) }
+    requires ready { (vs : List Variable) → AreVariables scene.vars.now (s ∷ t ∷ []) vs →
+        IsReady (check_in scene) body.now (enter_all vs context.old.variables) }
+    ensures typed { IfOk result (λ d. IsTypedUnder (check_in scene.entry)
+        (left.now ∷ right.now ∷ []) (s ∷ t ∷ []) context.old context.new body.now (deriv_of d)) }
+    ensures refused { IfErr result (λ f. IsShown f
+        (Under (check_in scene.entry) (left.now ∷ right.now ∷ []) (s ∷ t ∷ []) body.now context.old
+        (λ z. Shows (check_in scene.entry) body.now z f) NoMore f)) }
 {
     enter(alloc, scene, context, left, s)?;
     enter(alloc, scene, context, right, t)?;
@@ -86,9 +94,12 @@ pub(crate) fn infer_function(
     body: &Term,
 ) -> Result<Derivation, CheckFault>
     requires set_up { IsSetUp (check_in scene) }
-    requires ready { IsReady (check_in scene) (lambda at uses k binder.now body.now) context.old.variables }
-    ensures typed { IfOk result (λ d. IsTyped (check_in scene.entry) context.old context.new (lambda at uses k binder.now body.now) (deriv_of d)) }
-    ensures refused { IfErr result (λ f. IsRefused (check_in scene.entry) (lambda at uses k binder.now body.now) context.old f) }
+    requires ready { IsReady (check_in scene)
+        (lambda at uses k binder.now body.now) context.old.variables }
+    ensures typed { IfOk result (λ d. IsTyped (check_in scene.entry) context.old context.new
+        (lambda at uses k binder.now body.now) (deriv_of d)) }
+    ensures refused { IfErr result (λ f. IsRefused (check_in scene.entry)
+        (lambda at uses k binder.now body.now) context.old f) }
 {
     let from = begin_function(alloc, scene, context, uses, k, binder)?;
     let d = infer_under(alloc, scene, context, binder, from, body)?;
@@ -108,9 +119,12 @@ pub(crate) fn infer_let(
     second: &Term,
 ) -> Result<Derivation, CheckFault>
     requires set_up { IsSetUp (check_in scene) }
-    requires ready { IsReady (check_in scene) (let_in at binder.now first.now second.now) context.old.variables }
-    ensures typed { IfOk result (λ d. IsTyped (check_in scene.entry) context.old context.new (let_in at binder.now first.now second.now) (deriv_of d)) }
-    ensures refused { IfErr result (λ f. IsRefused (check_in scene.entry) (let_in at binder.now first.now second.now) context.old f) }
+    requires ready { IsReady (check_in scene)
+        (let_in at binder.now first.now second.now) context.old.variables }
+    ensures typed { IfOk result (λ d. IsTyped (check_in scene.entry) context.old context.new
+        (let_in at binder.now first.now second.now) (deriv_of d)) }
+    ensures refused { IfErr result (λ f. IsRefused (check_in scene.entry)
+        (let_in at binder.now first.now second.now) context.old f) }
 {
     let d = infer(alloc, scene, context, first)?;
     let t = copy(alloc, d.type_of())?;
@@ -131,9 +145,12 @@ pub(crate) fn infer_split(
     second: &Term,
 ) -> Result<Derivation, CheckFault>
     requires set_up { IsSetUp (check_in scene) }
-    requires ready { IsReady (check_in scene) (split at left.now right.now first.now second.now) context.old.variables }
-    ensures typed { IfOk result (λ d. IsTyped (check_in scene.entry) context.old context.new (split at left.now right.now first.now second.now) (deriv_of d)) }
-    ensures refused { IfErr result (λ f. IsRefused (check_in scene.entry) (split at left.now right.now first.now second.now) context.old f) }
+    requires ready { IsReady (check_in scene)
+        (split at left.now right.now first.now second.now) context.old.variables }
+    ensures typed { IfOk result (λ d. IsTyped (check_in scene.entry) context.old context.new
+        (split at left.now right.now first.now second.now) (deriv_of d)) }
+    ensures refused { IfErr result (λ f. IsRefused (check_in scene.entry)
+        (split at left.now right.now first.now second.now) context.old f) }
 {
     let d = infer(alloc, scene, context, first)?;
     let parts = pair_parts(alloc, place_of(first), d.type_of())?;

@@ -19,7 +19,8 @@ pub fn equality_law()
 
 /// The plain derivations with which a module is accepted are its derivations.
 pub fn accepted_law()
-    ensures { (m : Module) (budget : ℕ) (ds : List Deriv) → IsAccepted m budget ds → HasDerivations m ds }
+    ensures { (m : Module) (budget : ℕ) (ds : List Deriv) → IsAccepted m budget ds →
+        HasDerivations m ds }
 {}
 
 /// A module that has derivations has plain ones; and one of which a refusal is shown, other than for an undecided question or

@@ -26,10 +26,14 @@ fn first_compared(
 ) -> Result<Derivation, CheckFault>
     requires budget { 1 ≤ scene.budget }
     requires found { IsFormed scene.vars.now (type_of (deriv_of d)) }
-    ensures turned { IfOk result (λ c. deriv_of c ≡ convert (type_of (deriv_of d)) (type_of (deriv_of c)) (deriv_of d)) }
-    ensures known { IfOk result (λ c. IsKnown (check_in scene.entry) (type_of (deriv_of d)) (type_of (deriv_of c))) }
-    ensures operand { IfOk result (λ c. IsOperand (check_in scene.entry) None (type_of (deriv_of d)) (type_of (deriv_of c))) }
-    ensures refused { IfErr result (λ f. IsShown f (ShowsOperand (check_in scene.entry) None at (type_of (deriv_of d)) f)) }
+    ensures turned { IfOk result (λ c. deriv_of c ≡ convert (type_of (deriv_of d))
+        (type_of (deriv_of c)) (deriv_of d)) }
+    ensures known { IfOk result (λ c. IsKnown (check_in scene.entry) (type_of (deriv_of d))
+        (type_of (deriv_of c))) }
+    ensures operand { IfOk result (λ c. IsOperand (check_in scene.entry) None (type_of (deriv_of d))
+        (type_of (deriv_of c))) }
+    ensures refused { IfErr result (λ f. IsShown f
+        (ShowsOperand (check_in scene.entry) None at (type_of (deriv_of d)) f)) }
 {
     if is_comparable(d.type_of()) {
         let parts = copies(alloc, d.type_of(), d.type_of())?;
@@ -49,10 +53,14 @@ fn first_fixed(
 ) -> Result<Derivation, CheckFault>
     requires budget { 1 ≤ scene.budget }
     requires found { IsFormed scene.vars.now (type_of (deriv_of d)) }
-    ensures turned { IfOk result (λ c. deriv_of c ≡ convert (type_of (deriv_of d)) (type_of (deriv_of c)) (deriv_of d)) }
-    ensures known { IfOk result (λ c. IsKnown (check_in scene.entry) (type_of (deriv_of d)) (type_of (deriv_of c))) }
-    ensures operand { IfOk result (λ c. IsOperand (check_in scene.entry) (Some (plain operand)) (type_of (deriv_of d)) (type_of (deriv_of c))) }
-    ensures refused { IfErr result (λ f. IsShown f (ShowsOperand (check_in scene.entry) (Some (plain operand)) at (type_of (deriv_of d)) f)) }
+    ensures turned { IfOk result (λ c. deriv_of c ≡ convert (type_of (deriv_of d))
+        (type_of (deriv_of c)) (deriv_of d)) }
+    ensures known { IfOk result (λ c. IsKnown (check_in scene.entry) (type_of (deriv_of d))
+        (type_of (deriv_of c))) }
+    ensures operand { IfOk result (λ c. IsOperand (check_in scene.entry) (Some (plain operand))
+        (type_of (deriv_of d)) (type_of (deriv_of c))) }
+    ensures refused { IfErr result (λ f. IsShown f
+        (ShowsOperand (check_in scene.entry) (Some (plain operand)) at (type_of (deriv_of d)) f)) }
 {
     let wanted = base(operand);
     compared(alloc, scene, at, &wanted, d)
@@ -68,10 +76,14 @@ pub(crate) fn first_operand(
 ) -> Result<Derivation, CheckFault>
     requires budget { 1 ≤ scene.budget }
     requires found { IsFormed scene.vars.now (type_of (deriv_of d)) }
-    ensures turned { IfOk result (λ c. deriv_of c ≡ convert (type_of (deriv_of d)) (type_of (deriv_of c)) (deriv_of d)) }
-    ensures known { IfOk result (λ c. IsKnown (check_in scene.entry) (type_of (deriv_of d)) (type_of (deriv_of c))) }
-    ensures operand { IfOk result (λ c. IsOperand (check_in scene.entry) (operand op) (type_of (deriv_of d)) (type_of (deriv_of c))) }
-    ensures refused { IfErr result (λ f. IsShown f (ShowsOperand (check_in scene.entry) (operand op) at (type_of (deriv_of d)) f)) }
+    ensures turned { IfOk result (λ c. deriv_of c ≡ convert (type_of (deriv_of d))
+        (type_of (deriv_of c)) (deriv_of d)) }
+    ensures known { IfOk result (λ c. IsKnown (check_in scene.entry) (type_of (deriv_of d))
+        (type_of (deriv_of c))) }
+    ensures operand { IfOk result (λ c. IsOperand (check_in scene.entry) (operand op)
+        (type_of (deriv_of d)) (type_of (deriv_of c))) }
+    ensures refused { IfErr result (λ f. IsShown f
+        (ShowsOperand (check_in scene.entry) (operand op) at (type_of (deriv_of d)) f)) }
 {
     match fixed_operand(op) {
         Some(operand) => first_fixed(alloc, scene, at, operand, d),
@@ -91,9 +103,13 @@ pub(crate) fn operated(
     requires budget { 1 ≤ scene.budget }
     requires found { IsFormed scene.vars.now (type_of (deriv_of h)) }
     requires wanted { IsFormed scene.vars.now (type_of (deriv_of d)) }
-    ensures made { IfOk result (λ w. IsKnown (check_in scene.entry) (type_of (deriv_of h)) (type_of (deriv_of d)) ×
-        (deriv_of w ≡ row (result_type op) (two (deriv_of d) (convert (type_of (deriv_of h)) (type_of (deriv_of d)) (deriv_of h))))) }
-    ensures refused { IfErr result (λ f. IsShown f (IsUnequal (check_in scene.entry) at (type_of (deriv_of h)) (type_of (deriv_of d)) f)) }
+    ensures made { IfOk result (λ w. IsKnown (check_in scene.entry) (type_of (deriv_of h))
+        (type_of (deriv_of d)) ×
+        (deriv_of w ≡ row (result_type op)
+        (two (deriv_of d) (convert (type_of (deriv_of h)) (type_of (deriv_of d))
+        (deriv_of h))))) }
+    ensures refused { IfErr result (λ f. IsShown f
+        (IsUnequal (check_in scene.entry) at (type_of (deriv_of h)) (type_of (deriv_of d)) f)) }
 {
     let right = compared(alloc, scene, at, d.type_of(), h)?;
     Ok(Derivation::with_two(alloc, result_of(op), d, right)?)

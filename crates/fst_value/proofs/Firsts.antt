@@ -34,7 +34,8 @@ second_set cs rest p q c h =
     ∙ ap (λ xs. p ∷ c ∷ xs) (reverse-reverse rest)
 
 -- the cells of a pair begin with its own and that at the root of its first part
-pair_cells : (v : ValueTree) → pair_form (form_of v) ≡ true → (a : ValueTree) × (w : ValueTree) × (v ≡ pair a w) × (cells_of v ≡ cell.Pair ∷ root_of a ∷ (cells_of_all (parts_of a) ++ cells_of w))
+pair_cells : (v : ValueTree) → pair_form (form_of v) ≡ true → (a : ValueTree) × (w : ValueTree) × (v ≡ pair a w) ×
+    (cells_of v ≡ cell.Pair ∷ root_of a ∷ (cells_of_all (parts_of a) ++ cells_of w))
 pair_cells (pair a w) h = (a, w, refl, ap (λ cs. cell.Pair ∷ (cs ++ cells_of w)) (root_cells a))
 pair_cells (int n) h = absurd (false≢true h)
 pair_cells (bool b) h = absurd (false≢true h)
@@ -56,14 +57,17 @@ form_root (end x) = refl
 
 -- a pair has two cells
 pub pair_long : (cs : List Cell) (v : ValueTree) → IsKept cs → tree_of cs ≡ v → pair_form (form_of v) ≡ true → 1 < length cs
-pair_long cs v k e h = let r = pair_cells v h in two_long cs (cells_of_all (parts_of r.0) ++ cells_of r.1) cell.Pair (root_of r.0) (kept_cells cs v k e ∙ r.3)
+pair_long cs v k e h = let r = pair_cells v h in
+    two_long cs (cells_of_all (parts_of r.0) ++ cells_of r.1) cell.Pair (root_of r.0) (kept_cells cs v k e ∙ r.3)
 
 -- its last cell but one says whether its first part is the unit value
-pub first_read : (cs : List Cell) (v : ValueTree) (c : Cell) → IsKept cs → tree_of cs ≡ v → pair_form (form_of v) ≡ true → c ≡ get_or cs (length cs - 2) c →
+pub first_read : (cs : List Cell) (v : ValueTree) (c : Cell) → IsKept cs → tree_of cs ≡ v → pair_form (form_of v) ≡ true →
+    c ≡ get_or cs (length cs - 2) c →
     unit_form (form_at c) ≡ unit_first v
 first_read cs v c k e h g =
     let r = pair_cells v h in
-    ap (λ d. unit_form (form_at d)) (g ∙ second_last cs (cells_of_all (parts_of r.0) ++ cells_of r.1) cell.Pair (root_of r.0) c (kept_cells cs v k e ∙ r.3))
+    ap (λ d. unit_form (form_at d)) (g ∙ second_last cs (cells_of_all (parts_of r.0) ++ cells_of r.1) cell.Pair (root_of r.0) c
+    (kept_cells cs v k e ∙ r.3))
     ∙ ap unit_form (form_root r.0)
     ∙ ap unit_first (sym r.2)
 
@@ -92,17 +96,20 @@ unit_pair (pair unit w) h = (w, refl)
 unit_pair v h = absurd (false≢true h)
 
 -- its cells with another first part
-first_cells : (f : Form) (c : Cell) (w : ValueTree) → Some c ≡ cell_with f → cells_of (with_first f (pair unit w)) ≡ cell.Pair ∷ c ∷ cells_of w
+first_cells : (f : Form) (c : Cell) (w : ValueTree) → Some c ≡ cell_with f →
+    cells_of (with_first f (pair unit w)) ≡ cell.Pair ∷ c ∷ cells_of w
 first_cells (form.Int n) c w h = ap (λ d. cell.Pair ∷ d ∷ cells_of w) (sym (same_Some c (cell.Int n) h))
 first_cells (form.Bool b) c w h = ap (λ d. cell.Pair ∷ d ∷ cells_of w) (sym (same_Some c (cell.Bool b) h))
 first_cells (form.Char k) c w h = ap (λ d. cell.Pair ∷ d ∷ cells_of w) (sym (same_Some c (cell.Char k) h))
 first_cells f c w h = absurd (none-some c (sym h))
 
 pub unit_pair_long : (cs : List Cell) (v : ValueTree) → IsKept cs → tree_of cs ≡ v → unit_first v ≡ true → 1 < length cs
-unit_pair_long cs v k e h = let r = unit_pair v h in two_long cs (cells_of r.0) cell.Pair cell.Unit (kept_cells cs v k e ∙ ap cells_of r.1)
+unit_pair_long cs v k e h = let r = unit_pair v h in
+    two_long cs (cells_of r.0) cell.Pair cell.Unit (kept_cells cs v k e ∙ ap cells_of r.1)
 
 -- one written over the last cell but one
-first_written : (cs : List Cell) (v : ValueTree) (f : Form) (c : Cell) → IsKept cs → tree_of cs ≡ v → unit_first v ≡ true → Some c ≡ cell_with f →
+first_written : (cs : List Cell) (v : ValueTree) (f : Form) (c : Cell) → IsKept cs → tree_of cs ≡ v → unit_first v ≡ true →
+    Some c ≡ cell_with f →
     reverse (set cs (length cs - 2) c) ≡ cells_of (with_first f v)
 first_written cs v f c k e h g =
     let r = unit_pair v h in
@@ -111,8 +118,10 @@ first_written cs v f c k e h g =
     ∙ ap (λ u. cells_of (with_first f u)) (sym r.1)
 
 -- then it is a value's, with another first part
-pub first_kept : (cs : List Cell) (v : ValueTree) (f : Form) (c : Cell) (n : ℕ) → IsKept cs → tree_of cs ≡ v → unit_first v ≡ true → Some c ≡ cell_with f → n ≡ length cs →
+pub first_kept : (cs : List Cell) (v : ValueTree) (f : Form) (c : Cell) (n : ℕ) → IsKept cs → tree_of cs ≡ v →
+    unit_first v ≡ true → Some c ≡ cell_with f → n ≡ length cs →
     IsKept (set cs (n - 2) c) × (tree_of (set cs (n - 2) c) ≡ with_first f v)
 first_kept cs v f c n k e h g l =
-    let w : reverse (set cs (n - 2) c) ≡ cells_of (with_first f v) = ap (λ (m : ℕ). reverse (set cs (m - 2) c)) l ∙ first_written cs v f c k e h g in
+    let w : reverse (set cs (n - 2) c) ≡ cells_of (with_first f v) = ap (λ (m : ℕ). reverse (set cs (m - 2) c)) l
+    ∙ first_written cs v f c k e h g in
     (kept_is (set cs (n - 2) c) (with_first f v) w, kept_tree (set cs (n - 2) c) (with_first f v) w)

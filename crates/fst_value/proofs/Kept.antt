@@ -43,7 +43,8 @@ root_cells (end x) = refl
 head : (c d : Cell) (cs ds : List Cell) → c ∷ cs ≡ d ∷ ds → (c ≡ d) × (cs ≡ ds)
 head c d cs ds h = (ap (λ xs. get_or xs 0 c) h, ap (drop 1) h)
 
-last_first : (cs : List Cell) (d : Cell) → 0 < length cs → reverse cs ≡ get_or cs (length cs - 1) d ∷ reverse (take (length cs - 1) cs)
+last_first : (cs : List Cell) (d : Cell) → 0 < length cs →
+    reverse cs ≡ get_or cs (length cs - 1) d ∷ reverse (take (length cs - 1) cs)
 last_first cs d h =
     let n : length cs - 1 + 1 ≡ length cs = omega (arith, h) in
     ap reverse (sym (take_all (length cs) cs (omega arith)))
@@ -73,16 +74,19 @@ pub spelled-listed : (cs : List Cell) (vs : ValueTrees) → reverse cs ≡ cells
 spelled-listed cs vs h = ap spelled (h ∙ sym (append-nil (cells_of_all vs))) ∙ spelled-cells_of_all vs []
 
 -- cells that spell values are these values' cells
-pub spelled_cells : (cs : List Cell) (vs : ValueTrees) → reverse cs ≡ cells_of_all vs → reverse cs ≡ flat_map cells_of (spelled (reverse cs))
+pub spelled_cells : (cs : List Cell) (vs : ValueTrees) → reverse cs ≡ cells_of_all vs →
+    reverse cs ≡ flat_map cells_of (spelled (reverse cs))
 spelled_cells cs vs h = h ∙ sym (cells-listed vs) ∙ ap (flat_map cells_of) (sym (spelled-listed cs vs h))
 
 pub spelled_count : (cs : List Cell) (vs : ValueTrees) → reverse cs ≡ cells_of_all vs → length (spelled (reverse cs)) ≡ count vs
 spelled_count cs vs h = ap length (spelled-listed cs vs h) ∙ length-listed vs
 
 -- behind all values but the last there is the last one
-pub drop_to_last : (vs : List ValueTree) (n : ℕ) (d : ValueTree) → length vs ≡ n → 0 < n → drop (n - 1) vs ≡ get_or vs (n - 1) d ∷ []
+pub drop_to_last : (vs : List ValueTree) (n : ℕ) (d : ValueTree) → length vs ≡ n → 0 < n →
+    drop (n - 1) vs ≡ get_or vs (n - 1) d ∷ []
 drop_to_last vs n d h lt =
-    drop_more vs (n - 1) d (omega (arith, h, lt)) ∙ ap (λ ws. get_or vs (n - 1) d ∷ ws) (drop_all (n - 1 + 1) vs (omega (arith, h, lt)))
+    drop_more vs (n - 1) d (omega (arith, h, lt)) ∙ ap
+    (λ ws. get_or vs (n - 1) d ∷ ws) (drop_all (n - 1 + 1) vs (omega (arith, h, lt)))
 
 -- the cells that are behind others come first
 pub first_cells : (cs front back : List Cell) → reverse cs ≡ front ++ back → reverse (take (length back) cs) ≡ back
@@ -97,10 +101,12 @@ abbrev pub last_of : ValueTrees → ValueTree
 last_of vs = get_or (listed vs) (count vs - 1) unit
 
 last_alone : (vs : ValueTrees) → 0 < count vs → flat_map cells_of (drop (count vs - 1) (listed vs)) ≡ cells_of (last_of vs)
-last_alone vs h = ap (flat_map cells_of) (drop_to_last (listed vs) (count vs) unit (length-listed vs) h) ∙ append-nil (cells_of (last_of vs))
+last_alone vs h = ap (flat_map cells_of) (drop_to_last (listed vs) (count vs) unit (length-listed vs) h)
+    ∙ append-nil (cells_of (last_of vs))
 
 -- what is kept of a value whose last part alone is kept
-pub last_part : (cs : List Cell) (v : ValueTree) (n : ℕ) → IsKept cs → tree_of cs ≡ v → 0 < count (parts_of v) → n ≡ length (cells_of (last_of (parts_of v))) →
+pub last_part : (cs : List Cell) (v : ValueTree) (n : ℕ) → IsKept cs → tree_of cs ≡ v → 0 < count (parts_of v) →
+    n ≡ length (cells_of (last_of (parts_of v))) →
     reverse (take n cs) ≡ cells_of (last_of (parts_of v))
 last_part cs v n h e lt len =
     let vs = parts_of v in
@@ -113,18 +119,22 @@ last_part cs v n h e lt len =
     let all : reverse cs ≡ (root_of v ∷ flat_map cells_of (take (count vs - 1) (listed vs))) ++ cells_of (last_of vs) =
     kept_cells cs v h e ∙ root_cells v ∙ ap (λ ds. root_of v ∷ ds) split
     in
-    ap (λ (m : ℕ). reverse (take m cs)) len ∙ first_cells cs (root_of v ∷ flat_map cells_of (take (count vs - 1) (listed vs))) (cells_of (last_of vs)) all
+    ap (λ (m : ℕ). reverse (take m cs)) len ∙ first_cells cs (root_of v ∷ flat_map cells_of (take (count vs - 1) (listed vs)))
+    (cells_of (last_of vs)) all
 
 -- all values that the cells spell
-pub all_parts : (cs : List Cell) (vs : ValueTrees) (n : ℕ) → reverse cs ≡ cells_of_all vs → n ≡ count vs → take n (spelled (reverse cs)) ≡ listed vs
+pub all_parts : (cs : List Cell) (vs : ValueTrees) (n : ℕ) → reverse cs ≡ cells_of_all vs → n ≡ count vs →
+    take n (spelled (reverse cs)) ≡ listed vs
 all_parts cs vs n h e = take_all n (spelled (reverse cs)) (omega (arith, spelled_count cs vs h, e)) ∙ spelled-listed cs vs h
 
 pub front_parts_are : (cs : List Cell) (vs : ValueTrees) (n : ℕ) → reverse cs ≡ cells_of_all vs → n ≡ count vs →
     take (n - 1) (spelled (reverse cs)) ≡ take (count vs - 1) (listed vs)
 front_parts_are cs vs n h e = (λ i. take (e i - 1) (spelled-listed cs vs h i))
 
-pub last_part_length : (cs : List Cell) (vs : ValueTrees) (n len : ℕ) → reverse cs ≡ cells_of_all vs → n ≡ count vs → 0 < count vs → len ≤ length cs →
+pub last_part_length : (cs : List Cell) (vs : ValueTrees) (n len : ℕ) → reverse cs ≡ cells_of_all vs → n ≡ count vs →
+    0 < count vs → len ≤ length cs →
     reverse (take len cs) ≡ flat_map cells_of (drop (n - 1) (spelled (reverse cs))) → len ≡ length (cells_of (last_of vs))
 last_part_length cs vs n len h e lt le r =
-    let is : reverse (take len cs) ≡ cells_of (last_of vs) = r ∙ (λ i. flat_map cells_of (drop (e i - 1) (spelled-listed cs vs h i))) ∙ last_alone vs lt in
+    let is : reverse (take len cs) ≡ cells_of (last_of vs) = r
+    ∙ (λ i. flat_map cells_of (drop (e i - 1) (spelled-listed cs vs h i))) ∙ last_alone vs lt in
     sym (length-take-le len cs le) ∙ sym (length-reverse (take len cs)) ∙ ap length is

@@ -3,7 +3,8 @@ use Rattle.std.proofs.Common.{◌≡◌, ◌∙◌, ℕ, ◌+◌, ◌-◌, ◌<�
 use Rattle.std.proofs.lemmas.List.{take-append-drop, length-drop, drop_at, reverse-append, length-reverse, get_or-reverse, take_more, at_drop_more}
 
 -- one step towards the beginning
-pub turned_more : {X Y : Type 0} (F : List X → Y) (xs : List X) (i : ℕ) (d : X) → i < length xs → F (drop i (reverse xs)) ≡ F (get_or xs (length xs - 1 - i) d ∷ drop (i + 1) (reverse xs))
+pub turned_more : {X Y : Type 0} (F : List X → Y) (xs : List X) (i : ℕ) (d : X) → i < length xs →
+    F (drop i (reverse xs)) ≡ F (get_or xs (length xs - 1 - i) d ∷ drop (i + 1) (reverse xs))
 turned_more F xs i d h =
     at_drop_more F (reverse xs) i d (subst (λ (n : ℕ). i < n) (sym (length-reverse xs)) h)
     ∙ ap (λ x. F (x ∷ drop (i + 1) (reverse xs))) (get_or-reverse xs i d h)
@@ -13,7 +14,8 @@ pub last_turned : {X : Type 0} (xs : List X) (x : X) → reverse (xs ++ x ∷ []
 last_turned xs x = reverse-append xs (x ∷ [])
 
 -- the same of the first i + 1
-pub take_turned : {X : Type 0} (xs : List X) (i : ℕ) (d : X) → i < length xs → reverse (take (i + 1) xs) ≡ get_or xs i d ∷ reverse (take i xs)
+pub take_turned : {X : Type 0} (xs : List X) (i : ℕ) (d : X) → i < length xs →
+    reverse (take (i + 1) xs) ≡ get_or xs i d ∷ reverse (take i xs)
 take_turned xs i d h = ap reverse (take_more xs i d h) ∙ last_turned (take i xs) (get_or xs i d)
 
 -- without its last k
@@ -25,10 +27,12 @@ drop_turned xs k h =
     ∙ drop_at (reverse (drop n xs)) (reverse (take n xs)) k len
 
 -- an element in place of the last k ones
-pub replaced : {X : Type 0} (xs ys zs ws rs : List X) (k n : ℕ) (x : X) → reverse xs ≡ rs → ys ≡ xs → n ≡ length ys → zs ≡ take (n - k) ys → ws ≡ zs ++ x ∷ [] → k ≤ length rs →
+pub replaced : {X : Type 0} (xs ys zs ws rs : List X) (k n : ℕ) (x : X) → reverse xs ≡ rs → ys ≡ xs → n ≡ length ys →
+    zs ≡ take (n - k) ys → ws ≡ zs ++ x ∷ [] → k ≤ length rs →
     reverse ws ≡ x ∷ drop k rs
 replaced xs ys zs ws rs k n x r y l z w h =
     let le : k ≤ length xs = omega (arith, h, length-reverse xs, ap length r) in
     ap reverse w
     ∙ last_turned zs x
-    ∙ ap (λ us. x ∷ us) (ap reverse (z ∙ (λ i. take (l i - k) (y i)) ∙ ap (λ us. take (length us - k) xs) y) ∙ sym (drop_turned xs k le) ∙ ap (drop k) r)
+    ∙ ap (λ us. x ∷ us) (ap reverse (z ∙ (λ i. take (l i - k) (y i)) ∙ ap (λ us. take (length us - k) xs) y)
+    ∙ sym (drop_turned xs k le) ∙ ap (drop k) r)

@@ -43,7 +43,8 @@ pub behind_one : (v : ValueTree) (cs : List Cell) → behind 1 (cells_of v ++ cs
 behind_one v cs = behind-cells_of v zero cs ∙ behind_none cs
 
 -- the cells between where the first value starts and the end are this value's
-pub between : (xs : List Cell) (start : ℕ) (v : ValueTree) (rest : List Cell) → reverse xs ≡ cells_of v ++ rest → reverse (take start xs) ≡ rest → reverse (drop start xs) ≡ cells_of v
+pub between : (xs : List Cell) (start : ℕ) (v : ValueTree) (rest : List Cell) → reverse xs ≡ cells_of v ++ rest →
+    reverse (take start xs) ≡ rest → reverse (drop start xs) ≡ cells_of v
 between xs start v rest whole r =
     append_cancel_right (reverse (drop start xs)) (cells_of v) rest
     (ap (λ s. reverse (drop start xs) ++ s) (sym r)
@@ -70,7 +71,8 @@ mutual
       flat_map-append ends_at (cells_of v) (cells_of_all vs) ∙ (λ i. ends_at-cells_of v i ++ ends_at-cells_of_all vs i)
 
 -- one cell more was looked at
-pub names_more : (before now total : List EndName) (cs : List Cell) (i : ℕ) (x : Cell) (o : Option EndName) → i < length cs → x ≡ get_or cs (length cs - 1 - i) x →
+pub names_more : (before now total : List EndName) (cs : List Cell) (i : ℕ) (x : Cell) (o : Option EndName) → i < length cs →
+    x ≡ get_or cs (length cs - 1 - i) x →
     option_to_list o ≡ ends_at x → now ≡ before ++ option_to_list o → before ++ flat_map ends_at (drop i (reverse cs)) ≡ total →
     now ++ flat_map ends_at (drop (i + 1) (reverse cs)) ≡ total
 names_more before now total cs i x o lt r e n t =
@@ -84,7 +86,8 @@ names_more before now total cs i x o lt r e n t =
 pub walked : (cs : List Cell) (last start i : ℕ) (vs : List ValueTree) → i < length vs → last ≤ length cs →
     reverse (take last cs) ≡ flat_map cells_of (drop i vs) → start ≤ last →
     reverse (take start (take last cs)) ≡ behind 1 (reverse (take last cs)) →
-    (reverse (take (last - start) (drop start cs)) ≡ cells_of (get_or vs i unit)) × (reverse (take start cs) ≡ flat_map cells_of (drop (i + 1) vs))
+    (reverse (take (last - start) (drop start cs)) ≡ cells_of (get_or vs i unit)) ×
+    (reverse (take start cs) ≡ flat_map cells_of (drop (i + 1) vs))
 walked cs last start i vs lt le r s b =
     let v = get_or vs i unit in
     let rest = flat_map cells_of (drop (i + 1) vs) in

@@ -75,9 +75,13 @@ cell_of-said (cell.End x) = refl
 abbrev pub cell_code : Coded Cell
 cell_code =
     code_by Said
-    (coded⊎ coded_ℤ (coded⊎ coded_bool (coded⊎ coded_ℕ (coded⊎ coded_bool (coded⊎ (coded× coded_ℕ (coded× coded_ℕ coded_ℕ)) (coded⊎ (coded× coded_ℕ coded_ℕ) end_code))))))
+    (coded⊎ coded_ℤ (coded⊎ coded_bool
+    (coded⊎ coded_ℕ (coded⊎ coded_bool
+    (coded⊎ (coded× coded_ℕ (coded× coded_ℕ coded_ℕ))
+    (coded⊎ (coded× coded_ℕ coded_ℕ) end_code))))))
     said cell_of cell_of-said
 
 -- values, told apart by their cells
 abbrev pub value_code : Coded ValueTree
-value_code = code_by (List Cell) (coded_list cell_code) cells_of (λ cs. first_or_unit (spelled cs)) value-cells_of
+value_code = code_by (List Cell) (coded_list cell_code) cells_of
+    (λ cs. first_or_unit (spelled cs)) value-cells_of

@@ -20,14 +20,16 @@ drop-stacked (value v vs) ws = drop-stacked vs ws
 
 mutual
   -- the cells of a value in front of others spell this value first
-  pub spelled-cells_of : (v : ValueTree) (cs : List Cell) → spelled (cells_of v ++ cs) ≡ v ∷ spelled cs
+  pub spelled-cells_of : (v : ValueTree) (cs : List Cell) →
+      spelled (cells_of v ++ cs) ≡ v ∷ spelled cs
   spelled-cells_of (int n) cs = refl
   spelled-cells_of (bool b) cs = refl
   spelled-cells_of (char c) cs = refl
   spelled-cells_of unit cs = refl
   spelled-cells_of (pair v w) cs =
       ap (λ ds. above cell.Pair (spelled ds)) (append_assoc (cells_of v) (cells_of w) cs)
-      ∙ ap (above cell.Pair) (spelled-cells_of v (cells_of w ++ cs) ∙ ap (λ ws. v ∷ ws) (spelled-cells_of w cs))
+      ∙ ap (above cell.Pair) (spelled-cells_of v (cells_of w ++ cs) ∙ ap
+      (λ ws. v ∷ ws) (spelled-cells_of w cs))
   spelled-cells_of (make n o vs) cs =
       ap (above (cell.Make n o (count vs))) (spelled-cells_of_all vs cs)
       ∙ (λ i. make n o (taken-stacked vs (spelled cs) i) ∷ drop-stacked vs (spelled cs) i)
@@ -37,7 +39,8 @@ mutual
   spelled-cells_of (end x) cs = refl
 
   -- the cells of values in front of others spell these values first
-  pub spelled-cells_of_all : (vs : ValueTrees) (cs : List Cell) → spelled (cells_of_all vs ++ cs) ≡ stacked vs (spelled cs)
+  pub spelled-cells_of_all : (vs : ValueTrees) (cs : List Cell) →
+      spelled (cells_of_all vs ++ cs) ≡ stacked vs (spelled cs)
   spelled-cells_of_all none cs = refl
   spelled-cells_of_all (value v vs) cs =
       ap spelled (append_assoc (cells_of v) (cells_of_all vs) cs)
@@ -46,4 +49,5 @@ mutual
 
 -- a value comes back from its cells
 pub value-cells_of : (v : ValueTree) → first_or_unit (spelled (cells_of v)) ≡ v
-value-cells_of v = ap (λ cs. first_or_unit (spelled cs)) (sym (append-nil (cells_of v))) ∙ ap first_or_unit (spelled-cells_of v [])
+value-cells_of v = ap (λ cs. first_or_unit (spelled cs)) (sym (append-nil (cells_of v)))
+    ∙ ap first_or_unit (spelled-cells_of v [])

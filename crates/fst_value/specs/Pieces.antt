@@ -28,17 +28,21 @@ abbrev pub pieces_text : List Family → List Piece → List ValueTree → List 
 pieces_text families [] vs = []
 pieces_text families (Close ∷ ps) vs = codes ")" ++ pieces_text families ps vs
 pieces_text families (Next ∷ ps) vs = next_text families vs ++ pieces_text families ps (drop 1 vs)
-pieces_text families (Second ∷ ps) vs = codes ", " ++ next_text families vs ++ pieces_text families ps (drop 1 vs)
-pieces_text families (Fields k ∷ ps) vs = fields_text families (taken k vs) ++ pieces_text families ps (drop k vs)
+pieces_text families (Second ∷ ps) vs =
+    codes ", " ++ next_text families vs ++ pieces_text families ps (drop 1 vs)
+pieces_text families (Fields k ∷ ps) vs =
+    fields_text families (taken k vs) ++ pieces_text families ps (drop k vs)
 
 -- a text, and behind it pieces with the values that these cells spell, the last cell first
 abbrev pub whole_text : {Z : Type 0} → List Family → String Z → List Piece → List Cell → List ℕ
 whole_text families text ps cs = string_bytes text ++ pieces_text families ps (spelled (reverse cs))
 
 -- where there is memory, and these cells are left, the whole text is what it was with these pieces and cells
-abbrev pub Unfolds : {E Z A : Type 0} → Result (Bor (List Cell)) E → List Family → String Z → String Z → List Piece → Vec Piece A → List Cell → Type 0
+abbrev pub Unfolds : {E Z A : Type 0} → Result (Bor (List Cell)) E → List Family → String Z →
+    String Z → List Piece → Vec Piece A → List Cell → Type 0
 Unfolds result families old new ps stack cs =
-    IfOk result (λ rest. whole_text families new (reverse stack.items) rest.now ≡ whole_text families old ps cs)
+    IfOk result (λ rest. whole_text families new
+    (reverse stack.items) rest.now ≡ whole_text families old ps cs)
 
 -- these cells, the last one first, are those of the values that they spell
 abbrev pub AreCells : List Cell → Type 0

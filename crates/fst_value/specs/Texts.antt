@@ -50,8 +50,10 @@ abbrev mutual
   value_text families (bool b) = truth_text b
   value_text families (char c) = codes "'" ++ character_text c ++ codes "'"
   value_text families unit = codes "()"
-  value_text families (pair v w) = codes "(" ++ value_text families v ++ codes ", " ++ value_text families w ++ codes ")"
-  value_text families (make n o vs) = made_text (maker_in (slice_get families n) o) (fields_text families vs)
+  value_text families (pair v w) = codes "(" ++ value_text families v ++ codes ", " ++ value_text
+      families w ++ codes ")"
+  value_text families (make n o vs) =
+      made_text (maker_in (slice_get families n) o) (fields_text families vs)
   value_text families (function l vs) = codes "?"
   value_text families (end x) = codes "?"
 
@@ -59,4 +61,5 @@ abbrev mutual
   pub fields_text : List Family → ValueTrees → List ℕ
   fields_text families none = []
   fields_text families (value v vs) =
-      codes " " ++ (if is_enclosed families v then codes "(" ++ value_text families v ++ codes ")" else value_text families v) ++ fields_text families vs
+      codes " " ++ (if is_enclosed families v then codes "(" ++ value_text families v ++ codes
+      ")" else value_text families v) ++ fields_text families vs

@@ -32,9 +32,11 @@ fn move_behind(
     count: usize,
 ) -> Result<(), AllocError>
     requires values { count ≤ length values.old.items }
-    requires room { vec_len cells.old + room count (reverse values.old.items) ≤ vec_capacity cells.old }
+    requires room { vec_len cells.old + room count
+        (reverse values.old.items) ≤ vec_capacity cells.old }
     ensures done { IsOk result }
-    ensures cells { reverse cells.new.items ≡ in_front count (reverse values.old.items) (reverse cells.old.items) }
+    ensures cells { reverse cells.new.items ≡ in_front count (reverse values.old.items)
+        (reverse cells.old.items) }
     ensures values { reverse values.new.items ≡ drop count (reverse values.old.items) }
     ensures len { vec_len cells.new ≡ vec_len cells.old + room count (reverse values.old.items) }
     ensures capacity { vec_capacity cells.old ≤ vec_capacity cells.new }
@@ -61,8 +63,10 @@ fn join_onto(
     count: usize,
 ) -> Result<(), AllocError>
     requires { count ≤ length values.old.items }
-    ensures cells { OnOk result (reverse cells.new.items ≡ root ∷ in_front count (reverse values.old.items) (reverse cells.old.items)) }
-    ensures values { OnOk result (reverse values.new.items ≡ drop count (reverse values.old.items)) }
+    ensures cells { OnOk result (reverse cells.new.items ≡ root ∷ in_front count
+        (reverse values.old.items) (reverse cells.old.items)) }
+    ensures values { OnOk result (reverse values.new.items ≡ drop count
+        (reverse values.old.items)) }
     ensures cells_stay { OnErr result (cells.new.items ≡ cells.old.items) }
     ensures values_stay { OnErr result (values.new.items ≡ values.old.items) }
     ensures fewer { vec_len values.new ≤ vec_len values.old }
@@ -80,7 +84,9 @@ pub(crate) fn join(values: &mut Vec<Value>, root: Cell, count: usize) -> Result<
     requires some { 0 < count }
     requires values { count ≤ length values.old.items }
     requires root { arity root ≡ count }
-    ensures joined { OnOk result ((p : ValueTrees × List ValueTree) → collected count (reverse values.old.items) none ≡ Some p → reverse values.new.items ≡ rooted root p.0 ∷ p.1) }
+    ensures joined { OnOk result ((p : ValueTrees × List ValueTree) →
+        collected count (reverse values.old.items) none ≡ Some p →
+        reverse values.new.items ≡ rooted root p.0 ∷ p.1) }
     ensures unchanged { OnErr result (values.new.items ≡ values.old.items) }
 {
     match values.pop() {
@@ -121,7 +127,8 @@ pub(crate) fn gather(
     count: u32,
 ) -> Result<bool, AllocError>
     requires { arity root ≡ count }
-    ensures { Makes (gathered (rooted root) count) (reverse values.old.items) result (reverse values.new.items) }
+    ensures { Makes (gathered (rooted root) count) (reverse values.old.items) result
+        (reverse values.new.items) }
 {
     if values.len() < count as usize {
         return Ok(false);

@@ -38,7 +38,8 @@ fn push(stack: &mut Vec<Piece>, piece: Piece) -> Result<(), AllocError>
 }
 
 fn pop(stack: &mut Vec<Piece>) -> Option<Piece>
-    ensures { MatchOption result (stack.old.items ≡ []) (λ p. reverse stack.old.items ≡ p ∷ reverse stack.new.items) }
+    ensures { MatchOption result (stack.old.items ≡ [])
+        (λ p. reverse stack.old.items ≡ p ∷ reverse stack.new.items) }
 {
     stack.pop()
 }
@@ -56,7 +57,8 @@ fn maker_at(families: &[Family], family: u32, maker: u32) -> Option<&Maker>
 // The beginning of a pair.
 fn push_pair(text: &mut String, stack: &mut Vec<Piece>) -> Result<bool, AllocError>
     ensures text { Gains result text.old text.new (codes "(") }
-    ensures pieces { OnOk result (reverse stack.new.items ≡ piece_is.Next ∷ piece_is.Second ∷ piece_is.Close ∷ reverse stack.old.items) }
+    ensures pieces { OnOk result (reverse stack.new.items ≡ piece_is.Next ∷ piece_is.Second
+        ∷ piece_is.Close ∷ reverse stack.old.items) }
     ensures shown { IfOk result (λ shown. shown ≡ true) }
 {
     text.push_str("(")?;
@@ -74,7 +76,8 @@ fn push_maker(
     count: u32,
 ) -> Result<bool, AllocError>
     ensures text { Gains result text.old text.new (maker_name (option_copied maker.entry)) }
-    ensures pieces { OnOk result (reverse stack.new.items ≡ made_pieces (option_copied maker.entry) count ++ reverse stack.old.items) }
+    ensures pieces { OnOk result (reverse stack.new.items ≡ made_pieces
+        (option_copied maker.entry) count ++ reverse stack.old.items) }
     ensures shown { IfOk result (λ shown. shown ≡ is_some (option_copied maker.entry)) }
 {
     match maker {
@@ -98,7 +101,8 @@ fn push_root(
     root: &Cell,
 ) -> Result<bool, AllocError>
     ensures text { Gains result text.old text.new (root_text families.now root.now) }
-    ensures pieces { OnOk result (reverse stack.new.items ≡ root_pieces families.now root.now ++ reverse stack.old.items) }
+    ensures pieces { OnOk result (reverse stack.new.items ≡ root_pieces families.now root.now
+        ++ reverse stack.old.items) }
     ensures shown { IfOk result (λ shown. shown ≡ is_shown families.now root.now) }
 {
     match root {
@@ -122,7 +126,8 @@ fn push_root(
 fn cells_behind(cells: &[Cell], shown: bool) -> &[Cell]
     requires some { 0 < length cells.now }
     requires cells { AreCells cells.now }
-    ensures rest { reverse result.now ≡ (if shown then drop 1 (reverse cells.now) else behind 1 (reverse cells.now)) }
+    ensures rest { reverse result.now ≡ (if shown then drop 1 (reverse cells.now) else behind 1
+        (reverse cells.now)) }
     ensures cells { AreCells result.now }
     ensures fewer { length result.now < length cells.now }
 {
@@ -142,8 +147,10 @@ fn push_first<'a>(
     requires some { 0 < length cells.now }
     requires cells { AreCells cells.now }
     ensures cells { IfOk result (λ rest. AreCells rest.now) }
-    ensures same { Unfolds result families.now text.old text.new (piece_is.Next ∷ reverse stack.old.items) stack.new cells.now }
-    ensures less { IfOk result (λ rest. 4 + weight stack.new.items rest.now ≤ weight stack.old.items cells.now) }
+    ensures same { Unfolds result families.now text.old text.new
+        (piece_is.Next ∷ reverse stack.old.items) stack.new cells.now }
+    ensures less { IfOk result (λ rest.
+        4 + weight stack.new.items rest.now ≤ weight stack.old.items cells.now) }
 {
     let shown = push_root(text, stack, families, &cells[cells.len() - 1])?;
     Ok(cells_behind(cells, shown))
@@ -158,8 +165,10 @@ fn push_next<'a>(
 ) -> Result<&'a [Cell], AllocError>
     requires { AreCells cells.now }
     ensures cells { IfOk result (λ rest. AreCells rest.now) }
-    ensures same { Unfolds result families.now text.old text.new (piece_is.Next ∷ reverse stack.old.items) stack.new cells.now }
-    ensures less { IfOk result (λ rest. weight stack.new.items rest.now ≤ weight stack.old.items cells.now) }
+    ensures same { Unfolds result families.now text.old text.new
+        (piece_is.Next ∷ reverse stack.old.items) stack.new cells.now }
+    ensures less { IfOk result (λ rest.
+        weight stack.new.items rest.now ≤ weight stack.old.items cells.now) }
 {
     if cells.len() == 0 {
         return Ok(cells);
@@ -183,7 +192,9 @@ fn is_enclosed(families: &[Family], root: &Cell) -> bool
 // Opens parentheses where they are asked for.
 fn push_open(text: &mut String, stack: &mut Vec<Piece>, enclosed: bool) -> Result<(), AllocError>
     ensures text { Gains result text.old text.new (if enclosed then codes "(" else []) }
-    ensures pieces { OnOk result (reverse stack.new.items ≡ (if enclosed then piece_is.Close ∷ [] else []) ++ reverse stack.old.items) }
+    ensures pieces { OnOk result (reverse
+        stack.new.items ≡ (if enclosed then piece_is.Close ∷ [] else []) ++ reverse
+        stack.old.items) }
 {
     if !enclosed {
         return Ok(());
@@ -202,8 +213,10 @@ fn push_fields<'a>(
 ) -> Result<&'a [Cell], AllocError>
     requires { AreCells cells.now }
     ensures cells { IfOk result (λ rest. AreCells rest.now) }
-    ensures same { Unfolds result families.now text.old text.new (piece_is.Fields count ∷ reverse stack.old.items) stack.new cells.now }
-    ensures less { IfOk result (λ rest. weight stack.new.items rest.now ≤ weight stack.old.items cells.now) }
+    ensures same { Unfolds result families.now text.old text.new
+        (piece_is.Fields count ∷ reverse stack.old.items) stack.new cells.now }
+    ensures less { IfOk result (λ rest.
+        weight stack.new.items rest.now ≤ weight stack.old.items cells.now) }
 {
     if count == 0 || cells.len() == 0 {
         return Ok(cells);
@@ -223,8 +236,10 @@ fn push_piece<'a>(
 ) -> Result<&'a [Cell], AllocError>
     requires { AreCells cells.now }
     ensures cells { IfOk result (λ rest. AreCells rest.now) }
-    ensures same { Unfolds result families.now text.old text.new (piece ∷ reverse stack.old.items) stack.new cells.now }
-    ensures less { IfOk result (λ rest. weight stack.new.items rest.now ≤ weight stack.old.items cells.now) }
+    ensures same { Unfolds result families.now text.old text.new
+        (piece ∷ reverse stack.old.items) stack.new cells.now }
+    ensures less { IfOk result (λ rest.
+        weight stack.new.items rest.now ≤ weight stack.old.items cells.now) }
 {
     match piece {
         Piece::Close => {

@@ -91,7 +91,8 @@ impl Stack {
 
     /// Takes the last value off.
     pub fn pop(&mut self) -> Option<Value>
-        ensures { MatchOption result ((self.old ≡ []) × (self.new ≡ [])) (λ v. self.old ≡ v ∷ self.new) }
+        ensures { MatchOption result ((self.old ≡ []) × (self.new ≡ []))
+            (λ v. self.old ≡ v ∷ self.new) }
     {
         self.values.pop()
     }

@@ -136,8 +136,11 @@ impl Value {
     /// The parts but the last one in order, in memory of their own, and how many cells the last one has.
     pub(crate) fn front_parts(&self, alloc: Global) -> Result<(Vec<Value>, usize), AllocError>
         requires { 0 < count (parts_of self.now) }
-        ensures parts { IfOk result (λ p. p.0.items ≡ take (count (parts_of self.now) - 1) (listed (parts_of self.now))) }
-        ensures last { IfOk result (λ p. p.1 ≡ length (cells_of (slice_index_or (listed (parts_of self.now)) (count (parts_of self.now) - 1) unit))) }
+        ensures parts { IfOk result (λ p. p.0.items ≡ take (count (parts_of self.now) - 1)
+            (listed (parts_of self.now))) }
+        ensures last { IfOk result (λ p. p.1 ≡ length
+            (cells_of (slice_index_or (listed (parts_of self.now))
+            (count (parts_of self.now) - 1) unit))) }
     {
         let (parts, len) = first_parts(alloc, self.body(), self.count() as usize - 1)?;
         Ok((parts, len))
@@ -146,8 +149,10 @@ impl Value {
     /// Keeps of the value only its last part, which has so many cells.
     pub(crate) fn keep_last_part(&mut self, len: usize)
         requires some { 0 < count (parts_of self.old) }
-        requires cells { len ≡ length (cells_of (slice_index_or (listed (parts_of self.old)) (count (parts_of self.old) - 1) unit)) }
-        ensures { self.new ≡ slice_index_or (listed (parts_of self.old)) (count (parts_of self.old) - 1) unit }
+        requires cells { len ≡ length (cells_of
+            (slice_index_or (listed (parts_of self.old)) (count (parts_of self.old) - 1) unit)) }
+        ensures { self.new ≡ slice_index_or (listed (parts_of self.old))
+            (count (parts_of self.old) - 1) unit }
     {
         self.cells.truncate(len);
     }

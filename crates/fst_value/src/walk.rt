@@ -31,7 +31,8 @@ pub(crate) fn first_parts(
     requires count { count ≤ length (spelled (reverse cells.now)) }
     ensures parts { IfOk result (λ p. p.0.items ≡ take count (spelled (reverse cells.now))) }
     ensures within { IfOk result (λ p. p.1 ≤ length cells.now) }
-    ensures rest { IfOk result (λ p. reverse (take p.1 cells.now) ≡ flat_map cells_of (drop count (spelled (reverse cells.now)))) }
+    ensures rest { IfOk result (λ p. reverse (take p.1 cells.now) ≡ flat_map cells_of
+        (drop count (spelled (reverse cells.now)))) }
 {
     let mut parts = Vec::new(alloc);
     let mut end = cells.len();

@@ -5,3 +5,4 @@ mod RunLaws
 mod TellLaws
 mod TaskLaws
 mod SpareLaws
+pub mod Laws

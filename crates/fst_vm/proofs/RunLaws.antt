@@ -19,7 +19,8 @@ one_further c s t u here e = next e here
 one_further c s t u (next f k) e = next f (one_further c _ t u k e)
 
 -- a step that was made
-pub stepped : (c : Compiled) (a : Instr) (old new : Parts) (p q : ℕ) (o : Option ℕ) (s : Spot) → spot_of p old ≡ s → Some a ≡ instr_there c p → o ≡ Some q → Acts c a (p - 1) old (Ok o) new →
+pub stepped : (c : Compiled) (a : Instr) (old new : Parts) (p q : ℕ) (o : Option ℕ) (s : Spot) → spot_of p old ≡ s →
+    Some a ≡ instr_there c p → o ≡ Some q → Acts c a (p - 1) old (Ok o) new →
     inner c s ≡ Some (spot_of q new)
 stepped c a old new p q o s v h e m =
     let there = read_there c p a (λ b j. ran c b j (spot_of p old) old.operands) h in
@@ -27,7 +28,8 @@ stepped c a old new p q o s v h e m =
     ap (inner c) (sym v) ∙ there ∙ made p
 
 -- a step that there isn't
-pub not_stepped : (c : Compiled) (a : Instr) (old new : Parts) (p : ℕ) (o : Option ℕ) (s : Spot) → spot_of p old ≡ s → Some a ≡ instr_there c p → o ≡ None → Acts c a (p - 1) old (Ok o) new →
+pub not_stepped : (c : Compiled) (a : Instr) (old new : Parts) (p : ℕ) (o : Option ℕ) (s : Spot) → spot_of p old ≡ s →
+    Some a ≡ instr_there c p → o ≡ None → Acts c a (p - 1) old (Ok o) new →
     (inner c s ≡ None) × (spot_of p new ≡ s)
 not_stepped c a old new p o s v h e m =
     let there = read_there c p a (λ b j. ran c b j (spot_of p old) old.operands) h in
@@ -35,12 +37,14 @@ not_stepped c a old new p o s v h e m =
     (ap (inner c) (sym v) ∙ there ∙ none.0 p, ap (spot_of p) none.1 ∙ v)
 
 -- where memory is wanting nothing changes
-pub unchanged : {X : Type 0} (f : X → Option X) (old new : X) (r : Result Bool AllocError) → IsErr r → new ≡ old → Makes f old r new
+pub unchanged : {X : Type 0} (f : X → Option X) (old new : X) (r : Result Bool AllocError) → IsErr r → new ≡ old →
+    Makes f old r new
 unchanged f old new (Ok b) h e = absurd (false≢true h)
 unchanged f old new (Err d) h e = e
 
 -- what a step comes to says nothing but of where it begins
-pub makes_alike : {X : Type 0} (f g : X → Option X) (old new : X) (r : Result Bool AllocError) → g old ≡ f old → Makes f old r new → Makes g old r new
+pub makes_alike : {X : Type 0} (f g : X → Option X) (old new : X) (r : Result Bool AllocError) → g old ≡ f old →
+    Makes f old r new → Makes g old r new
 makes_alike f g old new (Ok true) e m = e ∙ m
 makes_alike f g old new (Ok false) e m = (e ∙ m.0, m.1)
 makes_alike f g old new (Err d) e m = m

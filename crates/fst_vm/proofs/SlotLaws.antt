@@ -18,14 +18,16 @@ flip a b x =
     ∙ append_assoc (reverse b) (x ∷ []) (reverse a)
 
 -- a write to it
-pub set_turned : {X : Type 0} (xs : List X) (k n : ℕ) (x : X) → n ≡ length xs → k < n → reverse (set xs (n - 1 - k) x) ≡ set (reverse xs) k x
+pub set_turned : {X : Type 0} (xs : List X) (k n : ℕ) (x : X) → n ≡ length xs → k < n →
+    reverse (set xs (n - 1 - k) x) ≡ set (reverse xs) k x
 set_turned xs k n x l h =
     let i = n - 1 - k in
     let lt : i < length xs = omega (arith, h, l) in
     let d = get_or xs i x in
     let behind = reverse (drop (suc i) xs) in
     let long : length behind ≡ k = length-reverse (drop (suc i) xs) ∙ length-drop (suc i) xs ∙ omega (arith, h, l) in
-    let whole : reverse xs ≡ behind ++ d ∷ reverse (take i xs) = ap reverse (sym (set-get_or xs i x) ∙ set_split xs i d lt) ∙ flip (take i xs) (drop (suc i) xs) d in
+    let whole : reverse xs ≡ behind ++ d ∷ reverse (take i xs) = ap reverse (sym (set-get_or xs i x) ∙ set_split xs i d lt)
+    ∙ flip (take i xs) (drop (suc i) xs) d in
     ap reverse (set_split xs i x lt)
     ∙ flip (take i xs) (drop (suc i) xs) x
     ∙ sym (set_at behind d (reverse (take i xs)) x k long)
@@ -38,7 +40,8 @@ slot_read (o ∷ os) zero = refl
 slot_read (o ∷ os) (suc k) = slot_read os k
 
 -- where the innermost stands last
-pub slot_turned : (xs os : Slots) (k n : ℕ) (o : Option ValueTree) → reverse xs ≡ os → n ≡ length xs → k < n → o ≡ get_or xs (n - 1 - k) o → slot_at os k ≡ o
+pub slot_turned : (xs os : Slots) (k n : ℕ) (o : Option ValueTree) → reverse xs ≡ os → n ≡ length xs → k < n →
+    o ≡ get_or xs (n - 1 - k) o → slot_at os k ≡ o
 slot_turned xs os k n o v l h e =
     let lt : n - 1 - k < length xs = omega (arith, h, l) in
     ap (λ z. slot_at z k) (sym v)
@@ -59,7 +62,8 @@ emptied_set zero (o ∷ os) = refl
 emptied_set (suc k) (o ∷ os) = ap (λ r. o ∷ r) (emptied_set k os)
 
 -- without the last k
-pub left_turned : {X : Type 0} (xs os : List X) (k n : ℕ) → reverse xs ≡ os → n ≡ length xs → k ≤ n → reverse (take (n - k) xs) ≡ drop k os
+pub left_turned : {X : Type 0} (xs os : List X) (k n : ℕ) → reverse xs ≡ os → n ≡ length xs → k ≤ n →
+    reverse (take (n - k) xs) ≡ drop k os
 left_turned xs os k n v l h =
     let m = n - k in
     let long : length (reverse (drop m xs)) ≡ k = length-reverse (drop m xs) ∙ length-drop m xs ∙ omega (arith, h, l) in
@@ -91,52 +95,66 @@ spread_few (k ∷ ks) [] = refl
 spread_few (k ∷ ks) (v ∷ vs) = ap (filled k v) (spread_few ks vs)
 
 -- the last of the first values is taken off
-pub popped : {X : Type 0} (vs ps qs : List X) (v : X) → ps ≡ take (length ps) vs → ps ≡ qs ++ v ∷ [] → (qs ≡ take (length qs) vs) × (drop (length qs) vs ≡ v ∷ drop (length ps) vs)
+pub popped : {X : Type 0} (vs ps qs : List X) (v : X) → ps ≡ take (length ps) vs → ps ≡ qs ++ v ∷ [] →
+    (qs ≡ take (length qs) vs) × (drop (length qs) vs ≡ v ∷ drop (length ps) vs)
 popped vs ps qs v l e =
     let rest = drop (length ps) vs in
-    let whole : vs ≡ qs ++ v ∷ rest = sym (take-append-drop (length ps) vs) ∙ ap (λ z. z ++ rest) (sym l ∙ e) ∙ append_assoc qs (v ∷ []) rest in
-    (sym (take_at qs (v ∷ rest) (length qs) refl) ∙ ap (take (length qs)) (sym whole), ap (drop (length qs)) whole ∙ drop_at qs (v ∷ rest) (length qs) refl)
+    let whole : vs ≡ qs ++ v ∷ rest = sym (take-append-drop (length ps) vs) ∙ ap (λ z. z ++ rest) (sym l ∙ e)
+    ∙ append_assoc qs (v ∷ []) rest in (
+      sym (take_at qs (v ∷ rest) (length qs) refl) ∙ ap (take (length qs)) (sym whole),
+      ap (drop (length qs)) whole
+          ∙ drop_at qs (v ∷ rest) (length qs) refl,
+    )
 
 -- a value for one more variable
-pub spread_more : (ks : List ℕ) (vs ps qs : List ValueTree) (v : ValueTree) (k : ℕ) (old new : Slots) → length ps ≤ length ks → ps ≡ take (length ps) vs → ps ≡ qs ++ v ∷ [] →
+pub spread_more : (ks : List ℕ) (vs ps qs : List ValueTree) (v : ValueTree) (k : ℕ) (old new : Slots) → length ps ≤ length ks →
+    ps ≡ take (length ps) vs → ps ≡ qs ++ v ∷ [] →
     k ≡ get_or ks (length qs) 0 → old ≡ spread (drop (length ps) ks) (trees_of (drop (length ps) vs)) → new ≡ filled k v old →
     new ≡ spread (drop (length qs) ks) (trees_of (drop (length qs) vs))
 spread_more ks vs ps qs v k old new h l e r o w =
     let more : length ps ≡ length qs + 1 = ap length e ∙ length-append qs (v ∷ []) in
     let lt : length qs < length ks = omega (arith, h, more) in
-    let first : drop (length qs) ks ≡ k ∷ drop (length ps) ks = drop_more ks (length qs) 0 lt ∙ (λ i. sym r i ∷ drop (sym more i) ks) in
+    let first : drop (length qs) ks ≡ k ∷ drop (length ps) ks = drop_more ks (length qs) 0 lt
+    ∙ (λ i. sym r i ∷ drop (sym more i) ks) in
     let rest = popped vs ps qs v l e in
     w ∙ ap (filled k v) o ∙ (λ i. spread (sym first i) (trees_of (sym rest.1 i)))
 
 -- a value that was moved out onto the stack is the variable's, which has none any more
-moved_value : (xs os : Slots) (k n : ℕ) (o p : Option ValueTree) (ops new : List ValueTree) → reverse xs ≡ os → n ≡ length xs → k < n → o ≡ get_or xs (n - 1 - k) o →
+moved_value : (xs os : Slots) (k n : ℕ) (o p : Option ValueTree) (ops new : List ValueTree) → reverse xs ≡ os → n ≡ length xs →
+    k < n → o ≡ get_or xs (n - 1 - k) o →
     moved_on (o, ops) ≡ Some (p, new) → taken_out k (os, ops) ≡ Some (reverse (set xs (n - 1 - k) p), new)
 moved_value xs os k n None p ops new v l h e m = absurd (none-some (p, new) m)
 moved_value xs os k n (Some w) p ops new v l h e m =
     let both : ◌≡◌ {A = Option ValueTree × List ValueTree} (None, w ∷ ops) (p, new) = same_Some (None, w ∷ ops) (p, new) m in
     let gone : emptied k os ≡ reverse (set xs (n - 1 - k) p) =
-    emptied_set k os ∙ ap (λ r. set r k None) (sym v) ∙ sym (set_turned xs k n None l h) ∙ ap (λ q. reverse (set xs (n - 1 - k) q.0)) both in
+    emptied_set k os ∙ ap (λ r. set r k None) (sym v) ∙ sym (set_turned xs k n None l h) ∙ ap
+    (λ q. reverse (set xs (n - 1 - k) q.0)) both in
     ap (option_map (λ u. (emptied k os, u ∷ ops))) (slot_turned xs os k n (Some w) v l h e) ∙ (λ i. Some (gone i, (both i).1))
 
 -- where there is none, nothing was moved
-moved_none : (xs os : Slots) (k n : ℕ) (o p : Option ValueTree) (ops new : List ValueTree) → reverse xs ≡ os → n ≡ length xs → k < n → o ≡ get_or xs (n - 1 - k) o →
+moved_none : (xs os : Slots) (k n : ℕ) (o p : Option ValueTree) (ops new : List ValueTree) → reverse xs ≡ os → n ≡ length xs →
+    k < n → o ≡ get_or xs (n - 1 - k) o →
     (moved_on (o, ops) ≡ None) × (◌≡◌ {A = Option ValueTree × List ValueTree} (p, new) (o, ops)) →
     (taken_out k (os, ops) ≡ None) × (◌≡◌ {A = Slots × List ValueTree} (reverse (set xs (n - 1 - k) p), new) (os, ops))
 moved_none xs os k n (Some w) p ops new v l h e m = absurd (none-some (None, w ∷ ops) (sym m.0))
 moved_none xs os k n None p ops new v l h e m =
     let i = n - 1 - k in
-    let same : reverse (set xs i p) ≡ os = ap (λ q. reverse (set xs i q.0)) m.1 ∙ ap (λ q. reverse (set xs i q)) e ∙ ap reverse (set-get_or xs i None) ∙ v in
+    let same : reverse (set xs i p) ≡ os = ap (λ q. reverse (set xs i q.0)) m.1 ∙ ap (λ q. reverse (set xs i q)) e
+    ∙ ap reverse (set-get_or xs i None) ∙ v in
     (ap (option_map (λ u. (emptied k os, u ∷ ops))) (slot_turned xs os k n None v l h e), λ j. (same j, (m.1 j).1))
 
 -- so the variable's value is taken out if it is moved onto the stack
-pub moved_out : (xs os : Slots) (k n : ℕ) (o p : Option ValueTree) (ops new : List ValueTree) (done : Bool) → reverse xs ≡ os → n ≡ length xs → k < n → o ≡ get_or xs (n - 1 - k) o →
+pub moved_out : (xs os : Slots) (k n : ℕ) (o p : Option ValueTree) (ops new : List ValueTree) (done : Bool) → reverse xs ≡ os →
+    n ≡ length xs → k < n → o ≡ get_or xs (n - 1 - k) o →
     Makes moved_on (o, ops) (Ok done) (p, new) → Makes (taken_out k) (os, ops) (Ok done) (reverse (set xs (n - 1 - k) p), new)
 moved_out xs os k n o p ops new true v l h e m = moved_value xs os k n o p ops new v l h e m
 moved_out xs os k n o p ops new false v l h e m = moved_none xs os k n o p ops new v l h e m
 
 -- the ends of one more variable
-pub ends_more : (xs os : Slots) (n i : ℕ) (o : Option ValueTree) (ends new own : List EndName) → reverse xs ≡ os → n ≡ length xs → i < n → o ≡ get_or xs (n - 1 - i) o →
-    own ≡ ends_in_slot o → new ≡ ends ++ own → ends ++ ends_in_slots (drop i os) ≡ ends_in_slots os → new ++ ends_in_slots (drop (i + 1) os) ≡ ends_in_slots os
+pub ends_more : (xs os : Slots) (n i : ℕ) (o : Option ValueTree) (ends new own : List EndName) → reverse xs ≡ os → n ≡ length xs →
+    i < n → o ≡ get_or xs (n - 1 - i) o →
+    own ≡ ends_in_slot o → new ≡ ends ++ own → ends ++ ends_in_slots (drop i os) ≡ ends_in_slots os →
+    new ++ ends_in_slots (drop (i + 1) os) ≡ ends_in_slots os
 ends_more xs os n i o ends new own v l h e w m k =
     let rest = ends_in_slots (drop (i + 1) os) in
     let lt : i < length os = omega (arith, h, l, ap length v, length-reverse xs) in

@@ -32,7 +32,8 @@ spare_some [] both h = absurd (none-some both (sym h))
 spare_some (v ∷ ops) both h = omega arith
 
 -- the spare pair in place of the end
-pub spare_put : (c : Compiled) (p j : ℕ) (os : Slots) (ops new : List ValueTree) (calls : List Call) (s : Spot) (ev : Event) (f : Form) (both : ValueTree) →
+pub spare_put : (c : Compiled) (p j : ℕ) (os : Slots) (ops new : List ValueTree) (calls : List Call) (s : Spot) (ev : Event)
+    (f : Form) (both : ValueTree) →
     at_spot p os ops calls ≡ s → Some both ≡ spare_for ops → Some f ≡ brought ev → new ≡ with_first f both ∷ drop 1 ops →
     told c instr.Receive j s s.operands (Got ev) ≡ Some (at_spot j os new calls)
 spare_put c p j os (end x ∷ ops) new calls s ev f both v e h w =
@@ -43,12 +44,14 @@ spare_put c p j os (end x ∷ ops) new calls s ev f both v e h w =
 spare_put c p j os ops new calls s ev f both v e h w = absurd (none-some both (sym e))
 
 -- where there is none
-pub no_spare : (c : Compiled) (j : ℕ) (s : Spot) (ops : List ValueTree) (ev : Event) → None ≡ spare_for ops → told c instr.Receive j s ops (Got ev) ≡ None
+pub no_spare : (c : Compiled) (j : ℕ) (s : Spot) (ops : List ValueTree) (ev : Event) → None ≡ spare_for ops →
+    told c instr.Receive j s ops (Got ev) ≡ None
 no_spare c j s (end x ∷ ops) ev h = absurd (none-some (pair unit (end x)) h)
 no_spare c j s ops ev h = refl
 
 -- where a label was received
-pub none_brought : (c : Compiled) (j : ℕ) (s : Spot) (ops : List ValueTree) (ev : Event) → None ≡ brought ev → told c instr.Receive j s ops (Got ev) ≡ None
+pub none_brought : (c : Compiled) (j : ℕ) (s : Spot) (ops : List ValueTree) (ev : Event) → None ≡ brought ev →
+    told c instr.Receive j s ops (Got ev) ≡ None
 none_brought c j s ops (event.Int n) h = absurd (none-some (form.Int n) h)
 none_brought c j s ops (event.Bool b) h = absurd (none-some (form.Bool b) h)
 none_brought c j s ops (event.Char k) h = absurd (none-some (form.Char k) h)

@@ -28,16 +28,19 @@ unfolding before
 before_none [] = refl
 before_none (u ∷ us) = ap (value u) (before_none us)
 
-collected_before : (n : ℕ) (ops : List ValueTree) (vs : ValueTrees) → n ≤ length ops → collected n ops vs ≡ Some (before (reverse (take n ops)) vs, drop n ops)
+collected_before : (n : ℕ) (ops : List ValueTree) (vs : ValueTrees) → n ≤ length ops →
+    collected n ops vs ≡ Some (before (reverse (take n ops)) vs, drop n ops)
 unfolding before
 collected_before zero ops vs h = refl
 collected_before (suc n) [] vs h = absurd (omega (arith, h))
 collected_before (suc n) (v ∷ ops) vs h =
     collected_before n ops (value v vs) (omega (arith, h))
-    ∙ ap (λ us. Some (us, drop n ops)) (sym (before_last (reverse (take n ops)) v vs) ∙ ap (λ us. before us vs) (sym (reverse-append (v ∷ []) (take n ops))))
+    ∙ ap (λ us. Some (us, drop n ops)) (sym (before_last (reverse (take n ops)) v vs) ∙ ap
+    (λ us. before us vs) (sym (reverse-append (v ∷ []) (take n ops))))
 
 -- the last n values, where there are so many
-pub collected_many : (n : ℕ) (ops : List ValueTree) → n ≤ length ops → collected n ops none ≡ Some (trees_of (reverse (take n ops)), drop n ops)
+pub collected_many : (n : ℕ) (ops : List ValueTree) → n ≤ length ops →
+    collected n ops none ≡ Some (trees_of (reverse (take n ops)), drop n ops)
 collected_many n ops h = collected_before n ops none h ∙ ap (λ vs. Some (vs, drop n ops)) (before_none (reverse (take n ops)))
 
 -- where there are fewer
@@ -51,12 +54,15 @@ pub given_few : (j n : ℕ) (v : ValueTree) (s : Spot) → length s.operands < n
 given_few j n v s h = ap (option_map (λ p. moved_to j (v ∷ p.1) s)) (collected_few n s.operands none h)
 
 -- a value of the last n ones
-pub given_many : (j n : ℕ) (v : ValueTree) (s t : Spot) (new : List ValueTree) → s ≡ t → n ≤ length s.operands → new ≡ v ∷ drop n s.operands → given_for j n v t ≡ Some (moved_to j new s)
+pub given_many : (j n : ℕ) (v : ValueTree) (s t : Spot) (new : List ValueTree) → s ≡ t → n ≤ length s.operands →
+    new ≡ v ∷ drop n s.operands → given_for j n v t ≡ Some (moved_to j new s)
 given_many j n v s t new e h w =
-    ap (given_for j n v) (sym e) ∙ ap (option_map (λ p. moved_to j (v ∷ p.1) s)) (collected_many n s.operands h) ∙ ap (λ ops. Some (moved_to j ops s)) (sym w)
+    ap (given_for j n v) (sym e) ∙ ap (option_map (λ p. moved_to j (v ∷ p.1) s)) (collected_many n s.operands h) ∙ ap
+    (λ ops. Some (moved_to j ops s)) (sym w)
 
 -- one more of the first values
-one_more : (k n : ℕ) (ops : List ValueTree) (v : ValueTree) → k < n → Some v ≡ slice_get ops k → drop k (take n ops) ≡ v ∷ drop (suc k) (take n ops)
+one_more : (k n : ℕ) (ops : List ValueTree) (v : ValueTree) → k < n → Some v ≡ slice_get ops k →
+    drop k (take n ops) ≡ v ∷ drop (suc k) (take n ops)
 one_more k zero ops v h e = absurd (omega (arith, h))
 one_more zero (suc n) [] v h e = absurd (none-some v (sym e))
 one_more (suc k) (suc n) [] v h e = absurd (none-some v (sym e))
@@ -73,26 +79,31 @@ none_more zero (suc n) (x ∷ ops) e = absurd (none-some x e)
 none_more (suc k) (suc n) (x ∷ ops) e = none_more k n ops e
 
 -- a copy of one more of the last values
-pub copied_more : (i n : ℕ) (ops old new : List ValueTree) (v w : ValueTree) → 0 < i → i ≤ n → Some v ≡ slice_get ops (i - 1) → w ≡ v → old ≡ reverse (drop i (take n ops)) → new ≡ old ++ w ∷ [] →
+pub copied_more : (i n : ℕ) (ops old new : List ValueTree) (v w : ValueTree) → 0 < i → i ≤ n → Some v ≡ slice_get ops (i - 1) →
+    w ≡ v → old ≡ reverse (drop i (take n ops)) → new ≡ old ++ w ∷ [] →
     new ≡ reverse (drop (i - 1) (take n ops))
 copied_more i n ops old new v w h l e s o m =
     let k : suc (i - 1) ≡ i = omega (arith, h) in
     let rest = drop i (take n ops) in
-    let whole : drop (i - 1) (take n ops) ≡ v ∷ rest = one_more (i - 1) n ops v (omega (arith, h, l)) e ∙ ap (λ (j : ℕ). v ∷ drop j (take n ops)) k in
+    let whole : drop (i - 1) (take n ops) ≡ v ∷ rest = one_more (i - 1) n ops v (omega (arith, h, l)) e ∙ ap
+    (λ (j : ℕ). v ∷ drop j (take n ops)) k in
     m ∙ (λ j. o j ++ s j ∷ []) ∙ sym (reverse-append (v ∷ []) rest) ∙ ap reverse (sym whole)
 
 -- where there is none
-pub copied_none : (i n : ℕ) (ops old : List ValueTree) → 0 < i → None ≡ slice_get ops (i - 1) → old ≡ reverse (drop i (take n ops)) → old ≡ reverse (drop (i - 1) (take n ops))
+pub copied_none : (i n : ℕ) (ops old : List ValueTree) → 0 < i → None ≡ slice_get ops (i - 1) →
+    old ≡ reverse (drop i (take n ops)) → old ≡ reverse (drop (i - 1) (take n ops))
 copied_none i n ops old h e o =
     let k : suc (i - 1) ≡ i = omega (arith, h) in
     o ∙ ap (λ (j : ℕ). reverse (drop j (take n ops))) (sym k) ∙ ap reverse (sym (none_more (i - 1) n ops e))
 
 -- the task that an instruction makes, by its entry
-by_entry : (c : Compiled) (a : Instr) (ops : List ValueTree) → forks_at c a ops ≡ forked_spot (entry_of c a) (collected (captured_count (entry_of c a)) ops none)
+by_entry : (c : Compiled) (a : Instr) (ops : List ValueTree) →
+    forks_at c a ops ≡ forked_spot (entry_of c a) (collected (captured_count (entry_of c a)) ops none)
 by_entry c (instr.Fork l) ops = refl
 by_entry c a ops = refl
 
-pub child_by_entry : (c : Compiled) (s : Spot) → child_at c s ≡ forked_spot (forked_entry c s.place) (collected (captured_count (forked_entry c s.place)) s.operands none)
+pub child_by_entry : (c : Compiled) (s : Spot) →
+    child_at c s ≡ forked_spot (forked_entry c s.place) (collected (captured_count (forked_entry c s.place)) s.operands none)
 child_by_entry c s = go s.place
   where
     at : (o : Option Instr) → option_and_then (λ a. forks_at c a s.operands) o ≡
@@ -100,7 +111,8 @@ child_by_entry c s = go s.place
     at None = refl
     at (Some a) = by_entry c a s.operands
 
-    go : (p : ℕ) → on_instr c p (λ a j. forks_at c a s.operands) ≡ forked_spot (forked_entry c p) (collected (captured_count (forked_entry c p)) s.operands none)
+    go : (p : ℕ) → on_instr c p (λ a j. forks_at c a s.operands) ≡ forked_spot (forked_entry c p)
+        (collected (captured_count (forked_entry c p)) s.operands none)
     go zero = refl
     go (suc j) = at (slice_get c.code j)
 
@@ -118,8 +130,10 @@ last_kept u ops [] f r = absurd (none-some u f)
 last_kept u ops (x ∷ new) f r = λ i. same_Some x u f i ∷ r i
 
 -- where a function's code starts with its own variables
-pub function_called : (c : Compiled) (p j : ℕ) (os own slots : Slots) (ops new : List ValueTree) (calls around : List Call) (s : Spot) (e : LambdaEntry) (v : ValueTree) (vs : List ValueTree) →
-    at_spot p os ops calls ≡ s → Some e ≡ entry_below c ops → Some v ≡ slice_get ops 1 → vs ≡ listed (parts_of v) → own ≡ spread e.captured.items (trees_of vs) → slots ≡ own →
+pub function_called : (c : Compiled) (p j : ℕ) (os own slots : Slots) (ops new : List ValueTree) (calls around : List Call)
+    (s : Spot) (e : LambdaEntry) (v : ValueTree) (vs : List ValueTree) →
+    at_spot p os ops calls ≡ s → Some e ≡ entry_below c ops → Some v ≡ slice_get ops 1 → vs ≡ listed (parts_of v) →
+    own ≡ spread e.captured.items (trees_of vs) → slots ≡ own →
     around ≡ calls ++ record { place = j; slots = os } ∷ [] → slice_get new 0 ≡ slice_get ops 0 → drop 1 new ≡ drop 2 ops →
     told c instr.Call j s s.operands Go ≡ Some (at_spot e.start slots new around)
 function_called c p j os own slots [] new calls around s e v vs w h g l o z k f r = absurd (none-some e (sym h))
@@ -129,21 +143,26 @@ function_called c p j os own slots (u ∷ bool b ∷ ops) new calls around s e v
 function_called c p j os own slots (u ∷ char n ∷ ops) new calls around s e v vs w h g l o z k f r = absurd (none-some e (sym h))
 function_called c p j os own slots (u ∷ unit ∷ ops) new calls around s e v vs w h g l o z k f r = absurd (none-some e (sym h))
 function_called c p j os own slots (u ∷ pair a b ∷ ops) new calls around s e v vs w h g l o z k f r = absurd (none-some e (sym h))
-function_called c p j os own slots (u ∷ make n m us ∷ ops) new calls around s e v vs w h g l o z k f r = absurd (none-some e (sym h))
+function_called c p j os own slots (u ∷ make n m us ∷ ops) new calls around s e v vs w h g l o z k f r =
+    absurd (none-some e (sym h))
 function_called c p j os own slots (u ∷ end x ∷ ops) new calls around s e v vs w h g l o z k f r = absurd (none-some e (sym h))
 function_called c p j os own slots (u ∷ function n us ∷ ops) new calls around s e v vs w h g l o z k f r =
     let begun = at_spot p os (u ∷ function n us ∷ ops) calls in
-    let starts : Slots → List ValueTree → List Call → Option Spot = λ a b d. Some (record { place = e.start; slots = a; operands = b; calls = d }) in
+    let starts : Slots → List ValueTree → List Call → Option Spot =
+    λ a b d. Some (record { place = e.start; slots = a; operands = b; calls = d }) in
     let captured : spread e.captured.items us ≡ slots =
-    sym (z ∙ o ∙ ap (λ q. spread e.captured.items (trees_of q)) (l ∙ ap (λ q. listed (parts_of q)) (same_Some v (function n us) g)) ∙ ap (spread e.captured.items) (trees_listed us))
+    sym (z ∙ o ∙ ap (λ q. spread e.captured.items (trees_of q))
+    (l ∙ ap (λ q. listed (parts_of q)) (same_Some v (function n us) g)) ∙ ap (spread e.captured.items) (trees_listed us))
     in
-    let inside : record { place = j; slots = os } ∷ reverse calls ≡ reverse around = sym (ap reverse k ∙ reverse-append calls (record { place = j; slots = os } ∷ [])) in
+    let inside : record { place = j; slots = os } ∷ reverse calls ≡ reverse around =
+    sym (ap reverse k ∙ reverse-append calls (record { place = j; slots = os } ∷ [])) in
     ap (λ q. told c instr.Call j q q.operands Go) (sym w)
     ∙ ap (λ q. called (start_of q) (spread (captured_by q) us) j (u ∷ ops) begun) (sym h)
     ∙ (λ i. starts (captured i) (sym (last_kept u ops new f r) i) (inside i))
 
 -- where there is no such function
-pub no_function : (c : Compiled) (j : ℕ) (s : Spot) (ops : List ValueTree) → None ≡ entry_below c ops → told c instr.Call j s ops Go ≡ None
+pub no_function : (c : Compiled) (j : ℕ) (s : Spot) (ops : List ValueTree) → None ≡ entry_below c ops →
+    told c instr.Call j s ops Go ≡ None
 no_function c j s [] h = refl
 no_function c j s (u ∷ []) h = refl
 no_function c j s (u ∷ int n ∷ ops) h = refl
@@ -156,28 +175,38 @@ no_function c j s (u ∷ end x ∷ ops) h = refl
 no_function c j s (u ∷ function n us ∷ ops) h = ap (λ q. called (start_of q) (spread (captured_by q) us) j (u ∷ ops) s) (sym h)
 
 -- where a global's code starts
-pub global_called : (c : Compiled) (g p j i : ℕ) (os own slots : Slots) (ops : List ValueTree) (calls around : List Call) (s : Spot) → at_spot p os ops calls ≡ s → Some i ≡ slice_get c.globals g →
-    own ≡ [] → slots ≡ own → around ≡ calls ++ record { place = j; slots = os } ∷ [] → told c (instr.Global g) j s s.operands Go ≡ Some (at_spot i slots ops around)
+pub global_called : (c : Compiled) (g p j i : ℕ) (os own slots : Slots) (ops : List ValueTree) (calls around : List Call)
+    (s : Spot) → at_spot p os ops calls ≡ s → Some i ≡ slice_get c.globals g →
+    own ≡ [] → slots ≡ own → around ≡ calls ++ record { place = j; slots = os } ∷ [] →
+    told c (instr.Global g) j s s.operands Go ≡ Some (at_spot i slots ops around)
 global_called c g p j i os own slots ops calls around s w h o z k =
     let starts : Slots → List Call → Option Spot = λ a d. Some (record { place = i; slots = a; operands = ops; calls = d }) in
-    let inside : record { place = j; slots = os } ∷ reverse calls ≡ reverse around = sym (ap reverse k ∙ reverse-append calls (record { place = j; slots = os } ∷ [])) in
-    ap (λ q. told c (instr.Global g) j q q.operands Go) (sym w) ∙ ap (λ q. called q [] j ops (at_spot p os ops calls)) (sym h) ∙ (λ m. starts (sym (z ∙ o) m) (inside m))
+    let inside : record { place = j; slots = os } ∷ reverse calls ≡ reverse around =
+    sym (ap reverse k ∙ reverse-append calls (record { place = j; slots = os } ∷ [])) in
+    ap (λ q. told c (instr.Global g) j q q.operands Go) (sym w) ∙ ap (λ q. called q [] j ops (at_spot p os ops calls)) (sym h)
+    ∙ (λ m. starts (sym (z ∙ o) m) (inside m))
 
 -- where no task is made
 pub no_child : (c : Compiled) (s t : Spot) → s ≡ t → None ≡ forked_entry c s.place → None ≡ child_at c t
-no_child c s t e h = sym (ap (child_at c) (sym e) ∙ child_by_entry c s ∙ ap (λ o. forked_spot o (collected (captured_count o) s.operands none)) (sym h))
+no_child c s t e h = sym (ap (child_at c) (sym e) ∙ child_by_entry c s ∙ ap
+    (λ o. forked_spot o (collected (captured_count o) s.operands none)) (sym h))
 
 -- where the values that it captures aren't there
-pub few_captured : (c : Compiled) (s t : Spot) (e : LambdaEntry) → s ≡ t → Some e ≡ forked_entry c s.place → length s.operands < length e.captured.items → None ≡ child_at c t
+pub few_captured : (c : Compiled) (s t : Spot) (e : LambdaEntry) → s ≡ t → Some e ≡ forked_entry c s.place →
+    length s.operands < length e.captured.items → None ≡ child_at c t
 few_captured c s t e v h l =
-    sym (ap (child_at c) (sym v) ∙ child_by_entry c s ∙ ap (λ o. forked_spot o (collected (captured_count o) s.operands none)) (sym h)
+    sym (ap (child_at c) (sym v) ∙ child_by_entry c s ∙ ap
+    (λ o. forked_spot o (collected (captured_count o) s.operands none)) (sym h)
     ∙ ap (forked_spot (Some e)) (collected_few (length e.captured.items) s.operands none l))
 
 -- where it begins
-pub child_begins : (c : Compiled) (s t u : Spot) (e : LambdaEntry) (values : List ValueTree) (slots : Slots) → s ≡ t → Some e ≡ forked_entry c s.place → length e.captured.items ≤ length s.operands →
-    values ≡ reverse (take (length e.captured.items) s.operands) → slots ≡ spread e.captured.items (trees_of values) → u ≡ begins_at e.start slots → Some u ≡ child_at c t
+pub child_begins : (c : Compiled) (s t u : Spot) (e : LambdaEntry) (values : List ValueTree) (slots : Slots) → s ≡ t →
+    Some e ≡ forked_entry c s.place → length e.captured.items ≤ length s.operands →
+    values ≡ reverse (take (length e.captured.items) s.operands) → slots ≡ spread e.captured.items (trees_of values) →
+    u ≡ begins_at e.start slots → Some u ≡ child_at c t
 child_begins c s t u e values slots v h l w o b =
-    sym (ap (child_at c) (sym v) ∙ child_by_entry c s ∙ ap (λ q. forked_spot q (collected (captured_count q) s.operands none)) (sym h)
+    sym (ap (child_at c) (sym v) ∙ child_by_entry c s ∙ ap
+    (λ q. forked_spot q (collected (captured_count q) s.operands none)) (sym h)
     ∙ ap (forked_spot (Some e)) (collected_many (length e.captured.items) s.operands l)
     ∙ ap (λ q. Some (begins_at e.start (spread e.captured.items (trees_of q)))) (sym w)
     ∙ ap (λ q. Some (begins_at e.start q)) (sym o)
@@ -189,10 +218,13 @@ no_entry c (instr.Fork l) h = absurd (h l refl)
 no_entry c a h = refl
 
 -- the forking task goes on without the values that the other captures
-without_given : (j : ℕ) (o : Option (ValueTrees × List ValueTree)) (s : Spot) → without_captured j o s ≡ option_map (λ p. moved_to j (unit ∷ p.1) s) o
+without_given : (j : ℕ) (o : Option (ValueTrees × List ValueTree)) (s : Spot) → without_captured j o s ≡ option_map
+    (λ p. moved_to j (unit ∷ p.1) s) o
 without_given j None s = refl
 without_given j (Some p) s = refl
 
-pub fork_given : (c : Compiled) (l j n : ℕ) (v : ValueTree) (s : Spot) → n ≡ captured_count (slice_get c.lambdas l) → v ≡ unit → told c (instr.Fork l) j s s.operands Forked ≡ given_for j n v s
+pub fork_given : (c : Compiled) (l j n : ℕ) (v : ValueTree) (s : Spot) → n ≡ captured_count (slice_get c.lambdas l) → v ≡ unit →
+    told c (instr.Fork l) j s s.operands Forked ≡ given_for j n v s
 fork_given c l j n v s e u =
-    without_given j (collected (captured_count (slice_get c.lambdas l)) s.operands none) s ∙ (λ i. given_for j (sym e i) (sym u i) s)
+    without_given j (collected (captured_count (slice_get c.lambdas l)) s.operands none) s
+    ∙ (λ i. given_for j (sym e i) (sym u i) s)

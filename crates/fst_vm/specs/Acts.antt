@@ -20,8 +20,10 @@ spot_of i p = record { place = i; slots = p.slots; operands = p.operands; calls 
 
 -- the step is made and leads to a place, or it isn't and nothing changes; nothing changes either where memory is wanting
 abbrev pub Acts : Compiled → Instr → ℕ → Parts → Result (Option ℕ) AllocError → Parts → Type 0
-Acts c a j old (Ok (Some place)) new = (i : ℕ) → ran c a j (spot_of i old) old.operands ≡ Some (spot_of place new)
-Acts c a j old (Ok None) new = ((i : ℕ) → ran c a j (spot_of i old) old.operands ≡ None) × (new ≡ old)
+Acts c a j old (Ok (Some place)) new =
+    (i : ℕ) → ran c a j (spot_of i old) old.operands ≡ Some (spot_of place new)
+Acts c a j old (Ok None) new = ((i : ℕ) → ran c a j (spot_of i old) old.operands ≡ None) ×
+    (new ≡ old)
 Acts c a j old (Err e) new = new ≡ old
 
 -- with the calls around in a list, the innermost last
@@ -29,7 +31,8 @@ abbrev pub parts : Slots → List ValueTree → List Call → Parts
 parts os ops calls = record { slots = os; operands = ops; calls = reverse calls }
 
 -- what a step comes to that changes something and leads to a place
-abbrev pub Goes : {X : Type 0} → (X → Option (ℕ × X)) → X → Result (Option ℕ) AllocError → X → Type 0
+abbrev pub Goes : {X : Type 0} → (X → Option (ℕ × X)) → X → Result (Option ℕ) AllocError → X →
+    Type 0
 Goes f old (Ok (Some place)) new = f old ≡ Some (place, new)
 Goes f old (Ok None) new = (f old ≡ None) × (new ≡ old)
 Goes f old (Err e) new = new ≡ old
@@ -53,7 +56,8 @@ branched place behind ops = None
 
 -- in the arm of the constructor that the last value is, whose fields are put on the stack
 abbrev pub armed : List ℕ → List ValueTree → Option (ℕ × List ValueTree)
-armed places (make n o vs ∷ ops) = option_map (λ place. (place, stacked vs ops)) (slice_get places o)
+armed places (make n o vs ∷ ops) = option_map
+    (λ place. (place, stacked vs ops)) (slice_get places o)
 armed places ops = None
 
 -- back where the innermost call, the last one, goes on

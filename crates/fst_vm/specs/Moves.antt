@@ -69,7 +69,8 @@ given_for j n v s = option_map (λ p. moved_to j (v ∷ p.1) s) (collected n s.o
 
 -- in the arm of a label that was received on the last value, an end
 abbrev pub matched : List (List ℕ × ℕ) → Event → Spot → List ValueTree → Option Spot
-matched places (Label l) s (end x ∷ ops) = option_map (λ place. moved_to place (end x ∷ ops) s) (place_of places l)
+matched places (Label l) s (end x ∷ ops) = option_map
+    (λ place. moved_to place (end x ∷ ops) s) (place_of places l)
 matched places ev s ops = None
 
 -- to send the value before the last one on the last one, an end

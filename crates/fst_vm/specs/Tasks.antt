@@ -42,7 +42,8 @@ pub record IsStart (k : Code) (t : TaskView) : Type 0 where
   pub path : t.path ≡ zero ∷ []
   pub forked : t.forked ≡ zero
   pub ready : t.ready ≡ false
-  pub begun : (m : Module) (e : CoreTree) → IsFrom m k → main_body m.globals.items ≡ Some e → IsIn m k t (begins e [])
+  pub begun : (m : Module) (e : CoreTree) → IsFrom m k → main_body m.globals.items ≡ Some e →
+      IsIn m k t (begins e [])
 
 -- the task is the same, and is in each state in which it was
 pub record Stays (k : Code) (t u : TaskView) : Type 0 where
@@ -52,7 +53,8 @@ pub record Stays (k : Code) (t u : TaskView) : Type 0 where
 
 -- it asks for what its state asks for
 abbrev pub AsksFor : Code → TaskView → Request → Type 0
-AsksFor k t r = (m : Module) (s : State) → IsIn m k t s → (pause m.families.items s ≡ stuck → ⊥) → request m.families.items s ≡ Some r
+AsksFor k t r = (m : Module) (s : State) → IsIn m k t s →
+    (pause m.families.items s ≡ stuck → ⊥) → request m.families.items s ≡ Some r
 
 -- the answer is one to what the task asks for, and after it there is a next request
 pub record Takes (k : Code) (t : TaskView) (a : Answer) : Type 0 where
@@ -91,7 +93,8 @@ pub record GoesOn (k : Code) (t : TaskView) (a : Answer) (u : TaskView) : Type 0
   pub path : u.path ≡ t.path
   pub forked : u.forked ≡ forked_after a t.forked
   pub ready : u.ready ≡ false
-  pub states : (m : Module) (s after : State) → IsFrom m k → IsIn m k t s → answered (program m) s a ≡ Some after →
+  pub states : (m : Module) (s after : State) → IsFrom m k → IsIn m k t s →
+      answered (program m) s a ≡ Some after →
       (pause m.families.items after ≡ stuck → ⊥) → IsIn m k u after
 
 -- the task asks for a fork
@@ -109,8 +112,10 @@ pub record IsChild (k : Code) (t u : TaskView) : Type 0 where
   pub path : u.path ≡ t.path ++ suc t.forked ∷ []
   pub forked : u.forked ≡ zero
   pub ready : u.ready ≡ false
-  pub states : (m : Module) (s b : State) → IsFrom m k → IsIn m k t s → child (pause m.families.items s) ≡ Some b → IsIn m k u b
-  pub alike : (m : Module) (s b : State) → IsFrom m k → IsIn m k t s → child (pause m.families.items s) ≡ Some b →
+  pub states : (m : Module) (s b : State) → IsFrom m k → IsIn m k t s →
+      child (pause m.families.items s) ≡ Some b → IsIn m k u b
+  pub alike : (m : Module) (s b : State) → IsFrom m k → IsIn m k t s →
+      child (pause m.families.items s) ≡ Some b →
       AreAlike (code_of m.families.items k) u.spot.slots b.environment
 
 -- the task has ended
@@ -126,4 +131,5 @@ pub record HasEnded (t : TaskView) : Type 0 where
 -- the value is that of the task
 abbrev pub IsResult : TaskView → ValueTree → Type 0
 IsResult t x =
-    (m : Module) (k : Code) (s : State) (v : Value) → IsAtRest k t → IsIn m k t s → pause m.families.items s ≡ ended v → Means (code_of m.families.items k) x v
+    (m : Module) (k : Code) (s : State) (v : Value) → IsAtRest k t → IsIn m k t s →
+    pause m.families.items s ≡ ended v → Means (code_of m.families.items k) x v

@@ -156,7 +156,8 @@ pub(crate) fn act(
     calls: &mut Vec<Caller>,
 ) -> Result<Option<u64>, AllocError>
     ensures { (fs : List Family) → Acts (code_of fs code.now) instr.now behind
-        (parts slots.old stack.old calls.old.items) result (parts slots.new stack.new calls.new.items) }
+        (parts slots.old stack.old calls.old.items) result
+        (parts slots.new stack.new calls.new.items) }
 {
     match instr {
         Instr::Int(number) => to(behind, push(stack, Value::int(alloc, *number)?)),

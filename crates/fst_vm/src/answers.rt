@@ -30,9 +30,11 @@ fn call(
     behind: u64,
     own: Slots,
 ) -> Result<(), AllocError>
-    ensures calls { OnOk result (calls.new.items ≡ calls.old.items ++ record { place = behind; slots = slots.old } ∷ []) }
+    ensures calls { OnOk result (calls.new.items ≡ calls.old.items
+        ++ record { place = behind; slots = slots.old } ∷ []) }
     ensures slots { OnOk result (slots.new ≡ own) }
-    ensures unchanged { OnErr result ((calls.new.items ≡ calls.old.items) × (slots.new ≡ slots.old)) }
+    ensures unchanged { OnErr result ((calls.new.items ≡ calls.old.items) ×
+        (slots.new ≡ slots.old)) }
 {
     calls.reserve(1)?;
     let slots = mem::replace(slots, own);
@@ -45,7 +47,8 @@ fn call(
 
 // The entry of the function that the value before the last one is.
 fn function_entry<'a>(code: &'a Code, stack: &Stack) -> Option<&'a LambdaEntry>
-    ensures { (fs : List Family) → option_copied result ≡ entry_below (code_of fs code.now) stack.now }
+    ensures { (fs : List Family) → option_copied result ≡ entry_below
+        (code_of fs code.now) stack.now }
 {
     let value = stack.get(1)?;
     match value.form() {
@@ -61,7 +64,9 @@ fn go_into_function(
     behind: u64,
     running: &mut Running,
 ) -> Result<bool, AllocError>
-    ensures { (fs : List Family) → Makes (λ s. told (code_of fs code.now) does.Call behind s s.operands Go) running.old result running.new }
+    ensures { (fs : List Family) → Makes
+        (λ s. told (code_of fs code.now) does.Call behind s s.operands Go) running.old result
+        running.new }
 {
     let entry = match function_entry(code, &running.stack) {
         Some(entry) => entry,
@@ -86,7 +91,9 @@ fn go_into_global(
     behind: u64,
     running: &mut Running,
 ) -> Result<bool, AllocError>
-    ensures { (fs : List Family) → Makes (λ s. told (code_of fs code.now) (does.Global global) behind s s.operands Go) running.old result running.new }
+    ensures { (fs : List Family) → Makes
+        (λ s. told (code_of fs code.now) (does.Global global) behind s s.operands Go) running.old
+        result running.new }
 {
     match start_at(code, global) {
         Some(start) => {
@@ -122,7 +129,8 @@ fn go_on_with(
 
 // The value was received, of which the end is left.
 fn go_on_with_end(running: &mut Running, behind: u64) -> bool
-    ensures { (c : Compiled) → Makes (λ s. told c does.Send behind s s.operands Sent) running.old (Ok result) running.new }
+    ensures { (c : Compiled) → Makes (λ s. told c does.Send behind s s.operands Sent) running.old
+        (Ok result) running.new }
 {
     if running.stack.len() < 2 || last_end(&running.stack).is_none() {
         return false;
@@ -134,7 +142,8 @@ fn go_on_with_end(running: &mut Running, behind: u64) -> bool
 
 // The branch was selected on the end, which is left.
 fn go_on_selected(running: &mut Running, behind: u64) -> bool
-    ensures { (c : Compiled) (l : List ℕ) → Makes (λ s. told c (does.Select l) behind s s.operands Sent) running.old (Ok result) running.new }
+    ensures { (c : Compiled) (l : List ℕ) → Makes
+        (λ s. told c (does.Select l) behind s s.operands Sent) running.old (Ok result) running.new }
 {
     if last_end(&running.stack).is_none() {
         return false;
@@ -150,7 +159,8 @@ fn go_on_received(
     event: &Event,
     running: &mut Running,
 ) -> Result<bool, AllocError>
-    ensures { (c : Compiled) → Makes (λ s. told c does.Receive behind s s.operands (Got event.now)) running.old result running.new }
+    ensures { (c : Compiled) → Makes (λ s. told c does.Receive behind s s.operands (Got event.now))
+        running.old result running.new }
 {
     let end = match last_end(&running.stack) {
         Some(end) => copy(alloc, end)?,
@@ -179,7 +189,8 @@ fn place_of(places: &[(Name, u64)], label: &Name) -> Option<u64>
 
 // Goes on at the place of the label that was received, with the end.
 fn go_on_in_arm(places: &[(Name, u64)], event: &Event, running: &mut Running) -> bool
-    ensures { Makes (λ s. matched places.now event.now s s.operands) running.old (Ok result) running.new }
+    ensures { Makes (λ s. matched places.now event.now s s.operands) running.old
+        (Ok result) running.new }
 {
     if last_end(&running.stack).is_none() {
         return false;
@@ -205,7 +216,9 @@ fn tell_instr(
     answer: &Answer,
     running: &mut Running,
 ) -> Result<bool, AllocError>
-    ensures { (fs : List Family) → Makes (λ s. told (code_of fs code.now) instr.now behind s s.operands answer.now) running.old result running.new }
+    ensures { (fs : List Family) → Makes
+        (λ s. told (code_of fs code.now) instr.now behind s s.operands answer.now) running.old
+        result running.new }
 {
     match (instr, answer) {
         (Instr::Call, Answer::Go) => go_into_function(alloc, code, behind, running),
@@ -239,7 +252,8 @@ fn tell(
     answer: &Answer,
     running: &mut Running,
 ) -> Result<bool, AllocError>
-    ensures { (fs : List Family) → Makes (λ s. told_at (code_of fs code.now) s answer.now) running.old result running.new }
+    ensures { (fs : List Family) → Makes
+        (λ s. told_at (code_of fs code.now) s answer.now) running.old result running.new }
 {
     match instr_at(code, running.place) {
         Some(instr) => tell_instr(alloc, code, instr, running.place - 1, answer, running),
@@ -249,7 +263,8 @@ fn tell(
 
 // Goes on after what was sent on the last value.
 fn sent_instr(instr: &Instr, behind: u64, running: &mut Running) -> bool
-    ensures { (c : Compiled) → Makes (λ s. told c instr.now behind s s.operands Sent) running.old (Ok result) running.new }
+    ensures { (c : Compiled) → Makes (λ s. told c instr.now behind s s.operands Sent) running.old
+        (Ok result) running.new }
 {
     match instr {
         Instr::Send => go_on_with_end(running, behind),
@@ -261,7 +276,8 @@ fn sent_instr(instr: &Instr, behind: u64, running: &mut Running) -> bool
 // What was received goes into the spare pair, in place of the end.
 fn go_on_with_spare(running: &mut Running, behind: u64, event: &Event, spare: Option<Value>) -> bool
     requires { spare ≡ spare_for running.old.operands }
-    ensures { (c : Compiled) → Makes (λ s. told c does.Receive behind s s.operands (Got event.now)) running.old (Ok result) running.new }
+    ensures { (c : Compiled) → Makes (λ s. told c does.Receive behind s s.operands (Got event.now))
+        running.old (Ok result) running.new }
 {
     let mut both = match spare {
         Some(both) => both,
@@ -289,7 +305,8 @@ fn got_instr(
     running: &mut Running,
 ) -> bool
     requires { spare ≡ spare_for running.old.operands }
-    ensures { (c : Compiled) → Makes (λ s. told c instr.now behind s s.operands (Got event.now)) running.old (Ok result) running.new }
+    ensures { (c : Compiled) → Makes (λ s. told c instr.now behind s s.operands (Got event.now))
+        running.old (Ok result) running.new }
 {
     match instr {
         Instr::Receive => go_on_with_spare(running, behind, event, spare),
@@ -300,7 +317,8 @@ fn got_instr(
 
 // Goes on after what was sent, and says whether the code sends.
 fn tell_sent(code: &Code, running: &mut Running) -> bool
-    ensures { (fs : List Family) → Makes (λ s. told_at (code_of fs code.now) s Sent) running.old (Ok result) running.new }
+    ensures { (fs : List Family) → Makes
+        (λ s. told_at (code_of fs code.now) s Sent) running.old (Ok result) running.new }
 {
     match instr_at(code, running.place) {
         Some(instr) => sent_instr(instr, running.place - 1, running),
@@ -311,7 +329,8 @@ fn tell_sent(code: &Code, running: &mut Running) -> bool
 // Goes on after what was received, and says whether the code receives it.
 fn tell_got(code: &Code, event: &Event, spare: Option<Value>, running: &mut Running) -> bool
     requires { spare ≡ spare_for running.old.operands }
-    ensures { (fs : List Family) → Makes (λ s. told_at (code_of fs code.now) s (Got event.now)) running.old (Ok result) running.new }
+    ensures { (fs : List Family) → Makes
+        (λ s. told_at (code_of fs code.now) s (Got event.now)) running.old (Ok result) running.new }
 {
     match instr_at(code, running.place) {
         Some(instr) => got_instr(instr, running.place - 1, event, spare, running),
@@ -330,7 +349,8 @@ pub(crate) fn tell_ready(
     running: &mut Running,
 ) -> Result<bool, AllocError>
     requires { ready ≡ true → spare.old ≡ spare_for running.old.operands }
-    ensures goes { (fs : List Family) → Makes (λ s. told_at (code_of fs code.now) s answer.now) running.old result running.new }
+    ensures goes { (fs : List Family) → Makes
+        (λ s. told_at (code_of fs code.now) s answer.now) running.old result running.new }
     ensures sure { ready ≡ true → is_exchange answer.now ≡ true → IsOk result }
     ensures kept { OnErr result (spare.new ≡ spare.old) }
 {
@@ -375,7 +395,8 @@ pub(crate) fn child_at(
     code: &Code,
     running: &Running,
 ) -> Result<Option<Running>, AllocError>
-    ensures { IfOk result (λ o. (fs : List Family) → o ≡ child_at (code_of fs code.now) running.now) }
+    ensures { IfOk result (λ o. (fs : List Family) →
+        o ≡ child_at (code_of fs code.now) running.now) }
 {
     let entry = match forked_entry(code, running.place) {
         Some(entry) => entry,

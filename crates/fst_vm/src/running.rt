@@ -73,7 +73,8 @@ impl Running {
 
     /// Makes one step, and says whether there is one. Where there is no room, nothing changes.
     pub(crate) fn step(&mut self, alloc: Global, code: &Code) -> Result<bool, AllocError>
-        ensures { (fs : List Family) → Makes (inner (code_of fs code.now)) self.old result self.new }
+        ensures { (fs : List Family) → Makes
+            (inner (code_of fs code.now)) self.old result self.new }
     {
         let instr = match instr_at(code, self.place) {
             Some(instr) => instr,
@@ -101,7 +102,8 @@ impl Running {
     pub(crate) fn run_on(&mut self, alloc: Global, code: &Code) -> Result<(), AllocError>
         requires { ∥ ((fs : List Family) → GoesDown (code_of fs code.now)) ∥₁ }
         ensures way { (fs : List Family) → ComesTo (code_of fs code.now) self.old self.new }
-        ensures still { OnOk result ((fs : List Family) → inner (code_of fs code.now) self.new ≡ None) }
+        ensures still { OnOk result ((fs : List Family) →
+            inner (code_of fs code.now) self.new ≡ None) }
     {
         while self.step(alloc, code)? {}
         Ok(())

@@ -60,7 +60,13 @@ impl Model for Task {
     ghost use Rattle.std.specs.Prelude.{◌≡◌, true};
     ghost use Rattle.fst_vm.specs.Moves.{spare_for};
 
-    ghost view = { λ t. record { path = t.path; forked = t.forked; spot = t.running; ready = t.ready } };
+    ghost view = { λ t. record {
+      path = t.path;
+      forked = t.forked;
+      spot = t.running;
+      ready =
+          t.ready;
+    } };
 
     ghost invariant = { λ t. t.ready ≡ true → t.spare ≡ spare_for t.running.operands };
 }

@@ -14,7 +14,8 @@ pub rule_within : (rows : Productions) (n a : ℕ) (v : List ℕ) → rule_of (r
 rule_within = range_laws.rule_within
 
 -- the word of a rule stays among the grammar's non-terminals
-pub row_in_range : (rows : Productions) (n a : ℕ) (v : List ℕ) → InRange rows → rule_of (row_of rows n) a ≡ Some v → WordBelow (length rows) v
+pub row_in_range : (rows : Productions) (n a : ℕ) (v : List ℕ) → InRange rows → rule_of (row_of rows n) a ≡ Some v →
+    WordBelow (length rows) v
 row_in_range = range_laws.row_in_range
 
 -- among rules in order, the rule at a place is the one that its letter finds

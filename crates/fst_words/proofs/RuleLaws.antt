@@ -10,7 +10,8 @@ use Rattle.fst_words.specs.declared.rules.Rule.{Rule}
 use Rattle.fst_words.specs.Ordered.{IsAbove, AreOrdered}
 use Rattle.fst_words.specs.Words.{rule_of}
 
-above_all : (rules : List Rule) (b : ℕ) → IsAbove b rules → AreOrdered rules → (i : ℕ) (d : Rule) → i < length rules → b < (get_or rules i d).letter
+above_all : (rules : List Rule) (b : ℕ) → IsAbove b rules → AreOrdered rules →
+    (i : ℕ) (d : Rule) → i < length rules → b < (get_or rules i d).letter
 above_all [] b up o i d lt = absurd (omega arith)
 above_all (r ∷ rules) b up o zero d lt = up
 above_all (r ∷ rules) b up o (suc i) d lt =
@@ -19,25 +20,31 @@ above_all (r ∷ rules) b up o (suc i) d lt =
     omega arith
 
 -- the letters rise
-rising : (rules : List Rule) → AreOrdered rules → (i j : ℕ) (d : Rule) → i < j → j < length rules → (get_or rules i d).letter < (get_or rules j d).letter
+rising : (rules : List Rule) → AreOrdered rules → (i j : ℕ) (d : Rule) → i < j → j < length rules →
+    (get_or rules i d).letter < (get_or rules j d).letter
 rising [] o i j d lt within = absurd (omega arith)
 rising (r ∷ rules) o i zero d lt within = absurd (omega arith)
 rising (r ∷ rules) o zero (suc j) d lt within = above_all rules r.letter o.0 o.1 j d (omega arith)
 rising (r ∷ rules) o (suc i) (suc j) d lt within = rising rules o.1 i j d (omega arith) (omega arith)
 
-pick : (r : Rule) (a : ℕ) (next : Option (List ℕ)) (c : Bool) → r.letter == a ≡ c → r.letter ≢ a → (if c then Some r.word else next) ≡ next
+pick : (r : Rule) (a : ℕ) (next : Option (List ℕ)) (c : Bool) → r.letter == a ≡ c → r.letter ≢ a →
+    (if c then Some r.word else next) ≡ next
 pick r a next true e differs = absurd (differs (eqb-true r.letter a e))
 pick r a next false e differs = refl
 
-absent : (rules : List Rule) (a : ℕ) → ((j : ℕ) (d : Rule) → j < length rules → (get_or rules j d).letter ≢ a) → rule_of rules a ≡ None
+absent : (rules : List Rule) (a : ℕ) → ((j : ℕ) (d : Rule) → j < length rules → (get_or rules j d).letter ≢ a) →
+    rule_of rules a ≡ None
 absent [] a h = refl
-absent (r ∷ rules) a h = pick r a (rule_of rules a) (r.letter == a) refl (h 0 r (omega arith)) ∙ absent rules a (λ j d lt. h (suc j) d (omega arith))
+absent (r ∷ rules) a h = pick r a (rule_of rules a) (r.letter == a) refl (h 0 r (omega arith)) ∙ absent rules a
+    (λ j d lt. h (suc j) d (omega arith))
 
-taken : (r : Rule) (a : ℕ) (next : Option (List ℕ)) (c : Bool) → r.letter == a ≡ c → r.letter ≡ a → (if c then Some r.word else next) ≡ Some r.word
+taken : (r : Rule) (a : ℕ) (next : Option (List ℕ)) (c : Bool) → r.letter == a ≡ c → r.letter ≡ a →
+    (if c then Some r.word else next) ≡ Some r.word
 taken r a next true e same = refl
 taken r a next false e same = absurd (cc (sym e ∙ eq-eqb r.letter a same))
 
-pub present : (rules : List Rule) (a i : ℕ) (d : Rule) → AreOrdered rules → i < length rules → (get_or rules i d).letter ≡ a → rule_of rules a ≡ Some (get_or rules i d).word
+pub present : (rules : List Rule) (a i : ℕ) (d : Rule) → AreOrdered rules → i < length rules →
+    (get_or rules i d).letter ≡ a → rule_of rules a ≡ Some (get_or rules i d).word
 present [] a i d o lt same = absurd (omega arith)
 present (r ∷ rules) a zero d o lt same = taken r a (rule_of rules a) (r.letter == a) refl same
 present (r ∷ rules) a (suc i) d o lt same =
@@ -48,7 +55,8 @@ present (r ∷ rules) a (suc i) d o lt same =
 module _ (rules : List Rule) (o : AreOrdered rules) (a : ℕ) (d : Rule) where
   comparisons_rise : IsNonDecreasingBy (λ r. ordering_index (nat_cmp r.letter a)) rules
   comparisons_rise = IsNonDecreasingBy-from_default (λ r. ordering_index (nat_cmp r.letter a)) rules d (λ i j le within.
-      let up : (get_or rules i d).letter ≤ (get_or rules j d).letter = grind (arith, rising rules o i j d, λ (same : i ≡ j). ap (λ k. (get_or rules k d).letter) same) in
+      let up : (get_or rules i d).letter ≤ (get_or rules j d).letter =
+      grind (arith, rising rules o i j d, λ (same : i ≡ j). ap (λ k. (get_or rules k d).letter) same) in
       grind (arith, nat_tests))
 
   -- where a binary search by letter ends

@@ -13,7 +13,8 @@ has_marked marks (n ∷ w) = is_marked marks n || has_marked marks w
 
 -- every rule of every marked non-terminal contains a marked one
 abbrev pub IsUnnormedSet : Productions → List Bool → Type 0
-IsUnnormedSet rows marks = (n a : ℕ) (v : List ℕ) → is_marked marks n ≡ true → rule_of (row_of rows n) a ≡ Some v → has_marked marks v ≡ true
+IsUnnormedSet rows marks = (n a : ℕ) (v : List ℕ) → is_marked marks n ≡ true →
+    rule_of (row_of rows n) a ≡ Some v → has_marked marks v ≡ true
 
 -- a word in front of another, up to its own first marked non-terminal
 abbrev pub cut : List Bool → List ℕ → List ℕ → List ℕ

@@ -28,7 +28,8 @@ use Rattle.fst_worker.proofs.Catching.{asks_it}
 use Rattle.fst_worker.proofs.Telling.{SendsOn, Knows, Becomes, all_knowing, told}
 use Rattle.fst_worker.proofs.Wholes.{went_fits}
 
-module _ (m : Surroundings) (well : IsWellTyped m) (a : Tree) (main : Birth) (xs : List Thread) (ps : List Pair) (over : IsOver m a main xs ps)
+module _ (m : Surroundings) (well : IsWellTyped m) (a : Tree) (main : Birth) (xs : List Thread) (ps : List Pair)
+    (over : IsOver m a main xs ps)
     (sends : SendsOn m a) (x : Thread) where
   abbrev ks : List ChannelHistory
   ks = histories_of ps
@@ -41,7 +42,8 @@ module _ (m : Surroundings) (well : IsWellTyped m) (a : Tree) (main : Birth) (xs
     -- the answer leads to a state
     leads_to : (s : State) × (answered (program_in m) x.now.state Sent ≡ Some s)
     leads_to =
-        let p = put_pause (pause m.families x.now.state) (end_name e) d.event (asks_it m a main xs ps over x h.here e d there lacks) in
+        let p = put_pause (pause m.families x.now.state) (end_name e) d.event
+        (asks_it m a main xs ps over x h.here e d there lacks) in
         (_, ap (λ q. after (program_in m) q Sent) p.1)
 
     -- the thread that was told, with no ends
@@ -53,18 +55,21 @@ module _ (m : Surroundings) (well : IsWellTyped m) (a : Tree) (main : Birth) (xs
         (record { end = e; there = there; entry = d; lacks = lacks; state = leads_to.0; leads = leads_to.1; is = refl })
 
     fits : FitsIn m a becomes.thread
-    fits = All-head (FitsIn m a) becomes.thread [] (went_fits m a (x ∷ []) (becomes.thread ∷ []) becomes.went (All-cons (FitsIn m a) x [] h.here.0 (All-nil (FitsIn m a))))
+    fits = All-head (FitsIn m a) becomes.thread []
+        (went_fits m a (x ∷ []) (becomes.thread ∷ []) becomes.went (All-cons (FitsIn m a) x [] h.here.0 (All-nil (FitsIn m a))))
 
     -- this has a next request
     next_there : pause m.families leads_to.0 ≡ stuck → ⊥
     next_there q =
         let now : becomes.thread.now.state ≡ leads_to.0 = ap (λ (t : Thread). t.now.state) becomes.same ∙ ap or_lost leads_to.1 in
-        not_stuck m well fits.typed.residuals becomes.thread.now.state fits.typed.type fits.typed.typed (ap (pause m.families) now ∙ q)
+        not_stuck m well fits.typed.residuals becomes.thread.now.state fits.typed.type fits.typed.typed
+        (ap (pause m.families) now ∙ q)
 
 module _ (n : Module) (ds : List Deriv) (q : HasDerivations n ds) (a : Tree) (main : Birth) (xs : List Thread) (ps : List Pair)
     (over : IsOver (surroundings n []) a main xs ps) where
   -- a thread that lacks an entry can be told
-  can_tell : (x : Thread) → Known (surroundings n []) (checked n ds q) a main xs ps over (λ x. stay_typed.sends n ds q a x) x x → (e : EndView) (d : Entry) →
+  can_tell : (x : Thread) → Known (surroundings n []) (checked n ds q) a main xs ps over (λ x. stay_typed.sends n ds q a x) x x →
+      (e : EndView) (d : Entry) →
       Contains x.bag e → missing (histories_of ps) e ≡ Some d → Tells n (histories_of ps) x
   can_tell x h e d there lacks =
       let m = surroundings n [] in
@@ -78,7 +83,8 @@ module _ (n : Module) (ds : List Deriv) (q : HasDerivations n ds) (a : Tree) (ma
         alive = alive;
         goes_on = λ k t u clock from is on y told. record {
           path = on.path ∙ is.path ∙ sym (ap (λ (t : Thread). t.path) told.is);
-          is_in = subst (IsIn n k u) (sym (ap (λ (t : Thread). t.now.state) told.is ∙ ap or_lost g.1)) (on.states n x.now.state g.0 from is.is_in g.1 alive);
+          is_in = subst (IsIn n k u) (sym (ap (λ (t : Thread). t.now.state) told.is ∙ ap or_lost g.1))
+              (on.states n x.now.state g.0 from is.is_in g.1 alive);
           forked = on.forked ∙ is.forked ∙ sym (ap (λ (t : Thread). t.now.forked) told.is);
           time = refl;
         };
@@ -87,7 +93,8 @@ module _ (n : Module) (ds : List Deriv) (q : HasDerivations n ds) (a : Tree) (ma
 -- so it is at the end of each run
 pub tells : TellLaw
 tells n ds q a main xs ps over = record {
-  told = λ i d l. can_tell n ds q a main xs ps over _ (all_knowing (surroundings n []) a main xs ps over (histories_of ps) (IsPermutation-refl (histories_of ps)) i d l);
+  told = λ i d l. can_tell n ds q a main xs ps over _
+      (all_knowing (surroundings n []) a main xs ps over (histories_of ps) (IsPermutation-refl (histories_of ps)) i d l);
   stays = λ k t clock x y is s. record {
     path = is.path ∙ sym (ap (λ (t : Thread). t.path) s.is);
     is_in = subst (λ (u : Task). IsIn n k t u.state) (sym (ap (λ (t : Thread). t.now) s.is)) is.is_in;

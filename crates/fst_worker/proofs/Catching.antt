@@ -41,7 +41,8 @@ use Rattle.fst_worker.proofs.Tests.{end_or, end_counts, there_sums}
 -- ---- what is told
 
 -- a task whose ends lack nothing
-stays : (m : Surroundings) (a : Tree) (ks : List ChannelHistory) (x : Thread) → FitsIn m a x → All (λ (e : EndView). missing ks e ≡ None) x.bag →
+stays : (m : Surroundings) (a : Tree) (ks : List ChannelHistory) (x : Thread) → FitsIn m a x → All
+    (λ (e : EndView). missing ks e ≡ None) x.bag →
     All (λ (e : EndView). missing ks e ≡ None) x.retired →
     (bag retired : List EndView) → Caught m ks x (record x { bag = bag; retired = retired })
 stays m a ks x fits level spent bag retired = record {
@@ -69,11 +70,13 @@ counts_named n es e c is =
     omega (arith, a, b)
 
 -- one that isn't counted lags by nothing
-not_lags : (ks : List ChannelHistory) (w : Exchange → ℕ) (n : EndName) (f : EndView) → once (same_end n (end_name f)) ≡ 0 → LagsOr ks n f → lag w ks f ≡ 0
+not_lags : (ks : List ChannelHistory) (w : Exchange → ℕ) (n : EndName) (f : EndView) → once (same_end n (end_name f)) ≡ 0 →
+    LagsOr ks n f → lag w ks f ≡ 0
 not_lags ks w n f z (inl i) = let b = end_counts n (end_name f) (sym i) in absurd (omega (arith, b, z))
 not_lags ks w n f z (inr i) = ap (lag_by w f) i
 
-none_lag : (ks : List ChannelHistory) (w : Exchange → ℕ) (n : EndName) (es : List EndView) → count_of n es ≡ 0 → All (LagsOr ks n) es → sum_by (lag w ks) es ≡ 0
+none_lag : (ks : List ChannelHistory) (w : Exchange → ℕ) (n : EndName) (es : List EndView) → count_of n es ≡ 0 →
+    All (LagsOr ks n) es → sum_by (lag w ks) es ≡ 0
 none_lag ks w n [] z h = refl
 none_lag ks w n (f ∷ es) z h =
     let a = sum_by-cons (λ (f : EndView). once (same_end n (end_name f))) f es in
@@ -82,7 +85,8 @@ none_lag ks w n (f ∷ es) z h =
     let d = not_lags ks w n f (omega (arith, a, z)) (All-head (LagsOr ks n) f es h) in
     omega (arith, b, c, d)
 
-one_lags_or : (ks : List ChannelHistory) (w : Exchange → ℕ) (n : EndName) (d : EndView) (es : List EndView) (e : EndView) → end_name e ≡ n →
+one_lags_or : (ks : List ChannelHistory) (w : Exchange → ℕ) (n : EndName) (d : EndView) (es : List EndView) (e : EndView) →
+    end_name e ≡ n →
     count_of n (d ∷ es) ≤ 1 → All (LagsOr ks n) (d ∷ es) →
     (Contains es e → sum_by (lag w ks) es ≡ lag w ks e) → (d ≡ e) ⊎ Contains es e → sum_by (lag w ks) (d ∷ es) ≡ lag w ks e
 one_lags_or ks w n d es e is le h more (inl i) =
@@ -101,13 +105,15 @@ one_lags_or ks w n d es e is le h more (inr i) =
     omega (arith, c, z, g)
 
 -- the one end of some that lacks something, where no other has its name
-one_lags : (ks : List ChannelHistory) (w : Exchange → ℕ) (n : EndName) (es : List EndView) (e : EndView) → Contains es e → end_name e ≡ n →
+one_lags : (ks : List ChannelHistory) (w : Exchange → ℕ) (n : EndName) (es : List EndView) (e : EndView) → Contains es e →
+    end_name e ≡ n →
     count_of n es ≤ 1 → All (LagsOr ks n) es →
     sum_by (lag w ks) es ≡ lag w ks e
 one_lags ks w n [] e c is le h = absurd (contains_none e c)
 one_lags ks w n (d ∷ es) e c is le h =
     one_lags_or ks w n d es e is le h
-    (λ i. one_lags ks w n es e i is (let a = sum_by-cons (λ (f : EndView). once (same_end n (end_name f))) d es in omega (arith, a, le))
+    (λ i. one_lags ks w n es e i is (let a = sum_by-cons (λ (f : EndView). once (same_end n (end_name f))) d es in
+    omega (arith, a, le))
     (All-tail (LagsOr ks n) d es h)) (from_contains es e d c)
 
 put_same : {x y : EndName} {u v : Event} → Some (Put x u) ≡ Some (Put y v) → x ≡ y
@@ -132,7 +138,8 @@ module _ (m : Surroundings) (a : Tree) (main : Birth) (xs : List Thread) (ps : L
   level_of : (e : EndView) → settles e ≡ true → e.knows.offer ≡ None → missing ks e ≡ None
   level_of = idle_level m a main xs ps over
 
-  waits_of : (e : EndView) → settles e ≡ true → (d : Entry) → missing ks e ≡ Some d → (o : Offer) × (e.knows.offer ≡ Some o) × IsTrailing ks e o d
+  waits_of : (e : EndView) → settles e ≡ true → (d : Entry) → missing ks e ≡ Some d → (o : Offer) ×
+      (e.knows.offer ≡ Some o) × IsTrailing ks e o d
   waits_of = lacking_waits m a main xs ps over
 
   pub spent_level : (x : Thread) → IsHere x → All (λ (e : EndView). missing ks e ≡ None) x.retired
@@ -196,9 +203,11 @@ module _ (m : Surroundings) (a : Tree) (main : Birth) (xs : List Thread) (ps : L
           none_opened = refl;
           exchanged = λ w.
               let b = one_lags ks w (end_name e) x.bag e in_bag refl bag_once others in
-              let c = sum_none (lag w ks) (λ (e : EndView). missing ks e ≡ None) (λ e q. ap (lag_by w e) q) x.retired (spent_level x h) in
+              let c = sum_none (lag w ks) (λ (e : EndView). missing ks e ≡ None)
+              (λ e q. ap (lag_by w e) q) x.retired (spent_level x h) in
               let q = ap (lag_by w e) lacks in
-              let r = ap (λ (n : ℕ). w (record { end = end_name e; sends = true; event = d.event; stamp = d.stamp; clock = n })) sent_at in
+              let r = ap (λ (n : ℕ). w (record { end = end_name e; sends = true; event = d.event; stamp = d.stamp; clock = n }))
+              sent_at in
               omega (arith, b, c, q, r);
         }
 
@@ -210,14 +219,17 @@ module _ (m : Surroundings) (a : Tree) (main : Birth) (xs : List Thread) (ps : L
 
   trades_caught : (w : Exchange → ℕ) (x y : Thread) → FitsIn m a x → Caught m ks x y → trades w y ≡ trades w x + lags w x
   trades_caught w x y f c =
-      ap (λ (t : Task). sum_by w (exchanges t.clock y.log)) c.first ∙ ap (λ (l : List LogEntry). sum_by w (exchanges x.first.clock l)) c.log
-      ∙ exchanges_more w (program_in m) x.path x.first x.log c.gained x.now f.follows ∙ ap (λ (n : ℕ). trades w x + n) (c.exchanged w)
+      ap (λ (t : Task). sum_by w (exchanges t.clock y.log)) c.first ∙ ap
+      (λ (l : List LogEntry). sum_by w (exchanges x.first.clock l)) c.log
+      ∙ exchanges_more w (program_in m) x.path x.first x.log c.gained x.now f.follows ∙ ap
+      (λ (n : ℕ). trades w x + n) (c.exchanged w)
 
   bears_caught : (w : Birth → ℕ) (x y : Thread) → FitsIn m a x → Caught m ks x y → bears m w y ≡ bears m w x
   bears_caught w x y f c =
       let b = births_more w (program_in m) x.path x.first x.log c.gained x.now f.follows in
       let z = ap (sum_by w) c.none_born in
-      ap (λ (p : Path). sum_by w (births (program_in m) p y.first y.log)) c.path ∙ ap (λ (t : Task). sum_by w (births (program_in m) x.path t y.log)) c.first
+      ap (λ (p : Path). sum_by w (births (program_in m) p y.first y.log)) c.path ∙ ap
+      (λ (t : Task). sum_by w (births (program_in m) x.path t y.log)) c.first
       ∙ ap (λ (l : List LogEntry). sum_by w (births (program_in m) x.path x.first l)) c.log ∙ omega (arith, b, z)
 
   opens_caught : (w : ChannelName → Tree → ℕ) (x y : Thread) → Caught m ks x y → opens m w y ≡ opens m w x
@@ -230,7 +242,8 @@ module _ (m : Surroundings) (a : Tree) (main : Birth) (xs : List Thread) (ps : L
   same_birth : (w : Birth → ℕ) (x y : Thread) → Caught m ks x y → w (birth y) ≡ w (birth x)
   same_birth w x y c = λ i. w (record { path = c.path i; first = c.first i })
 
-  sums : (f g h : Thread → ℕ) → ((x y : Thread) → FitsIn m a x → Caught m ks x y → f y ≡ g x + h x) → (xs ys : List Thread) → All (FitsIn m a) xs →
+  sums : (f g h : Thread → ℕ) → ((x y : Thread) → FitsIn m a x → Caught m ks x y → f y ≡ g x + h x) →
+      (xs ys : List Thread) → All (FitsIn m a) xs →
       AllCaught m ks xs ys →
       sum_by f ys ≡ sum_by g xs + sum_by h xs
   sums f g h e [] [] all k = refl
@@ -244,7 +257,8 @@ module _ (m : Surroundings) (a : Tree) (main : Birth) (xs : List Thread) (ps : L
       let ih = sums f g h e xs ys (All-tail (FitsIn m a) x xs all) k.1 in
       omega (arith, p, q, r, one, ih)
 
-  same_sums : (f g : Thread → ℕ) → ((x y : Thread) → FitsIn m a x → Caught m ks x y → f y ≡ g x) → (xs ys : List Thread) → All (FitsIn m a) xs →
+  same_sums : (f g : Thread → ℕ) → ((x y : Thread) → FitsIn m a x → Caught m ks x y → f y ≡ g x) →
+      (xs ys : List Thread) → All (FitsIn m a) xs →
       AllCaught m ks xs ys → sum_by f ys ≡ sum_by g xs
   same_sums f g e [] [] all k = refl
   same_sums f g e [] (y ∷ ys) all k = absurd k
@@ -275,7 +289,8 @@ module _ (m : Surroundings) (a : Tree) (main : Birth) (xs : List Thread) (ps : L
       sum_by w (shown_of e.channel e.knows.side e.knows.declared h) ≡ by_exchanges w e + lag w ks e
   shows_of w e h b = by b.lacks refl
     where
-      by : (o : Option Entry) → b.lacks ≡ o → sum_by w (shown_of e.channel e.knows.side e.knows.declared h) ≡ by_exchanges w e + lag w ks e
+      by : (o : Option Entry) → b.lacks ≡ o → sum_by w
+          (shown_of e.channel e.knows.side e.knows.declared h) ≡ by_exchanges w e + lag w ks e
       by None q =
           let c = ap (λ (l : List Entry). sum_by w (shown_of e.channel e.knows.side e.knows.declared l))
           (b.is ∙ ap (λ o. e.knows.history ++ option_to_list o) q ∙ append-nil e.knows.history) in
@@ -312,7 +327,8 @@ module _ (m : Surroundings) (a : Tree) (main : Birth) (xs : List Thread) (ps : L
       λ i. sum_by w (shown_of ((s.channel ∙ sym s.closed.named) i) (s.right_side i) (sym s.closed.right_declared i) h) in
       omega (arith, l, r, x, y)
 
-  ends_weigh : (w : Exchange → ℕ) (xs : List Thread) → sum_by (of_ends (weighed w)) xs ≡ sum_by (of_ends (by_exchanges w)) xs + sum_by (lags w) xs
+  ends_weigh : (w : Exchange → ℕ) (xs : List Thread) →
+      sum_by (of_ends (weighed w)) xs ≡ sum_by (of_ends (by_exchanges w)) xs + sum_by (lags w) xs
   ends_weigh w xs = sum_both (of_ends (weighed w)) (of_ends (by_exchanges w)) (lags w)
       (λ x.
       let p = sum_both (weighed w) (by_exchanges w) (lag w ks) (λ e. refl) x.bag in
@@ -324,7 +340,8 @@ module _ (m : Surroundings) (a : Tree) (main : Birth) (xs : List Thread) (ps : L
   caught_record ys caught = record {
     root = over.run.root;
     births = λ w.
-        let p = same_sums (λ (x : Thread). w (birth x)) (λ (x : Thread). w (birth x)) (λ x y f c. same_birth w x y c) xs ys over.run.fit caught in
+        let p = same_sums (λ (x : Thread). w (birth x)) (λ (x : Thread). w (birth x))
+        (λ x y f c. same_birth w x y c) xs ys over.run.fit caught in
         let q = same_sums (bears m w) (bears m w) (bears_caught w) xs ys over.run.fit caught in
         omega (arith, p, q, over.run.whole.births w);
     logs = logged xs ys over.run.fit caught;
@@ -338,20 +355,24 @@ module _ (m : Surroundings) (a : Tree) (main : Birth) (xs : List Thread) (ps : L
         let r = sums (trades w) (trades w) (lags w) (trades_caught w) xs ys over.run.fit caught in
         let s = ends_weigh w xs in
         omega (arith, p, q, r, s, over.run.whole.exchanged w);
-    histories = all_histories IsShut IsRecorded (λ p s. record { formed = s.closed.formed; trace = s.closed.trace; stamped = s.closed.stamped }) ps over.shut;
+    histories = all_histories IsShut IsRecorded (λ p s.
+        record { formed = s.closed.formed; trace = s.closed.trace; stamped = s.closed.stamped }) ps over.shut;
   }
 
-  pair_named : (e : EndView) (p : Pair) → IsShut p → 0 < counted (end_name e) p.left + counted (end_name e) p.right → p.closed.history.name ≡ e.channel
+  pair_named : (e : EndView) (p : Pair) → IsShut p → 0 < counted (end_name e) p.left + counted (end_name e) p.right →
+      p.closed.history.name ≡ e.channel
   pair_named e p s n = by (end_or (end_name e) (end_name p.left)) (end_or (end_name e) (end_name p.right))
     where
       by : ((end_name e ≡ end_name p.left) × (counted (end_name e) p.left ≡ 1)) ⊎ (counted (end_name e) p.left ≡ 0) →
-          ((end_name e ≡ end_name p.right) × (counted (end_name e) p.right ≡ 1)) ⊎ (counted (end_name e) p.right ≡ 0) → p.closed.history.name ≡ e.channel
+          ((end_name e ≡ end_name p.right) × (counted (end_name e) p.right ≡ 1)) ⊎
+          (counted (end_name e) p.right ≡ 0) → p.closed.history.name ≡ e.channel
       by (inl q) r = s.closed.named ∙ sym (ap (λ (z : EndName). z.channel) q.0)
       by (inr q) (inl r) = s.closed.named ∙ sym s.channel ∙ sym (ap (λ (z : EndName). z.channel) r.0)
       by (inr q) (inr r) = absurd (omega (arith, n, q, r))
 
   -- the channel of an end was closed
-  closed_there : (x : Thread) → Contains xs x → (e : EndView) → Contains x.bag e → (p : Pair) × Contains ps p × (p.closed.history.name ≡ e.channel)
+  closed_there : (x : Thread) → Contains xs x → (e : EndView) → Contains x.bag e → (p : Pair) × Contains ps p ×
+      (p.closed.history.name ≡ e.channel)
   closed_there x c e b =
       let z = end_name e in
       let h = (in_bag xs x e c b).ends (counted z) in
@@ -363,8 +384,10 @@ module _ (m : Surroundings) (a : Tree) (main : Birth) (xs : List Thread) (ps : L
   -- all that holds at the end
   pub finishes : Finishes m main xs ps
   finishes = record {
-    there = All-weaker (Contains xs) (λ (x : Thread). All (λ (e : EndView). (p : Pair) × Contains ps p × (p.closed.history.name ≡ e.channel)) x.bag)
-        (λ x c. All-weaker (Contains x.bag) (λ (e : EndView). (p : Pair) × Contains ps p × (p.closed.history.name ≡ e.channel)) (closed_there x c) x.bag
+    there = All-weaker (Contains xs) (λ (x : Thread). All
+        (λ (e : EndView). (p : Pair) × Contains ps p × (p.closed.history.name ≡ e.channel)) x.bag)
+        (λ x c. All-weaker (Contains x.bag) (λ (e : EndView). (p : Pair) × Contains ps p × (p.closed.history.name ≡ e.channel))
+        (closed_there x c) x.bag
         (All-contains_itself x.bag)) xs (All-contains_itself xs);
     waiting = λ k c l e o p in_bag q there is.
         let h = all_here k c l in

@@ -16,7 +16,15 @@ use Rattle.fst_worker.specs.Works.{Step, Turns, Went, IsLonger, GoesOnIn}
 -- ---- each thread by itself
 
 longer_itself : (x : Thread) → IsLonger x x
-longer_itself x = record { path = refl; first = refl; gained = []; log = sym (append-nil x.log); spent = []; kept = sym (append-nil x.retired) }
+longer_itself x = record {
+  path = refl;
+  first = refl;
+  gained = [];
+  log = sym (append-nil x.log);
+  spent = [];
+  kept =
+      sym (append-nil x.retired);
+}
 
 longer_then : (x y z : Thread) → IsLonger x y → IsLonger y z → IsLonger x z
 longer_then x y z p q = record {
@@ -45,13 +53,17 @@ module _ (m : Surroundings) (a : Tree) where
       let all = s.after ∷ (s.new ++ s.rest) in
       let there = λ (x : Thread) (c : Contains all x). Contains-permutation all ys x s.after_is c in
       All-permutation (GoesOnIn ys) (s.task ∷ s.rest) xs (IsPermutation-sym xs (s.task ∷ s.rest) s.before_is)
-      (All-cons (GoesOnIn ys) s.task s.rest
-      (s.after, there s.after (contains_head (s.new ++ s.rest) s.after s.after refl), longer_by m s.task s.after s.new s.goes.turn)
+      (All-cons (GoesOnIn ys) s.task s.rest (
+        s.after,
+        there s.after (contains_head (s.new ++ s.rest) s.after s.after refl),
+        longer_by m s.task s.after s.new s.goes.turn,
+      )
       (moves_in s.rest ys (λ x c. there x (contains_tail (s.new ++ s.rest) x s.after (Contains-append_right s.new s.rest x c)))))
 
   turns_in : (n : ℕ) (xs ys : List Thread) → Turns m a n xs ys → All (GoesOnIn ys) xs
   turns_in zero xs ys t = moves_in xs ys (λ x c. Contains-permutation xs ys x t c)
-  turns_in (suc n) xs ys t = All-weaker (GoesOnIn t.0) (GoesOnIn ys) (goes_then t.0 ys (step_in t.0 ys t.2)) xs (turns_in n xs t.0 t.1)
+  turns_in (suc n) xs ys t = All-weaker (GoesOnIn t.0) (GoesOnIn ys) (goes_then t.0 ys (step_in t.0 ys t.2)) xs
+      (turns_in n xs t.0 t.1)
 
   -- each thread is there afterwards, with a longer log
   pub went_in : (xs ys : List Thread) → Went m a xs ys → All (GoesOnIn ys) xs
@@ -123,4 +135,5 @@ module _ (m : Surroundings) (a : Tree) where
   went_both xs ys us vs p q =
       went_then (xs ++ us) (ys ++ us) (ys ++ vs) (went_beside xs ys us p)
       (went_then (ys ++ us) (us ++ ys) (ys ++ vs) (went_moved (ys ++ us) (us ++ ys) (IsPermutation-append_comm ys us))
-      (went_then (us ++ ys) (vs ++ ys) (ys ++ vs) (went_beside us vs ys q) (went_moved (vs ++ ys) (ys ++ vs) (IsPermutation-append_comm vs ys))))
+      (went_then (us ++ ys) (vs ++ ys) (ys ++ vs) (went_beside us vs ys q)
+      (went_moved (vs ++ ys) (ys ++ vs) (IsPermutation-append_comm vs ys))))

@@ -20,14 +20,17 @@ pub record IsLeftUpTo (steps n left count : ℕ) : Type 0 where
 
 module _ (steps n : ℕ) where
   -- some more are counted
-  pub counted_more : (left rest more count now : ℕ) → IsLeftUpTo steps n left count → left ≡ more + rest → count ≤ steps → now ≡ count + more → IsLeftUpTo steps n rest now
+  pub counted_more : (left rest more count now : ℕ) → IsLeftUpTo steps n left count → left ≡ more + rest → count ≤ steps →
+      now ≡ count + more → IsLeftUpTo steps n rest now
   counted_more left rest more count now h is few sum =
       let a = h.all few in
       record { all = λ l. omega (arith, a, is, sum); more = λ l. omega (arith, a, is, l, sum) }
 
   -- or not, where they are too many
-  pub counted_no_more : (left rest count now : ℕ) → IsLeftUpTo steps n left count → steps < count → now ≡ count → IsLeftUpTo steps n rest now
-  counted_no_more left rest count now h many same = record { all = λ l. absurd (omega (arith, l, many, same)); more = λ l. h.more many }
+  pub counted_no_more : (left rest count now : ℕ) → IsLeftUpTo steps n left count → steps < count → now ≡ count →
+      IsLeftUpTo steps n rest now
+  counted_no_more left rest count now h many same =
+      record { all = λ l. absurd (omega (arith, l, many, same)); more = λ l. h.more many }
 
   -- none is left
   pub all_counted : (left count : ℕ) → left ≡ 0 → IsLeftUpTo steps n left count → IsUpTo steps n count

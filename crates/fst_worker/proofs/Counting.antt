@@ -15,7 +15,8 @@ use Rattle.fst_worker.proofs.Tests.{path_or, channel_or, snoc_same}
 -- ---- tasks
 
 -- no fewer tasks are forked later
-pub forked_grows : (p : Program) (path : Path) (t : Task) (log : List LogEntry) (u : Task) → Follows p path t log u → t.forked ≤ u.forked
+pub forked_grows : (p : Program) (path : Path) (t : Task) (log : List LogEntry) (u : Task) → Follows p path t log u →
+    t.forked ≤ u.forked
 forked_grows p path t [] u f = let e = ap (λ (t : Task). t.forked) f in omega (arith, e)
 forked_grows p path t (e ∷ es) u f = by (forked_grows p path (after_entry p t e) es u f.1) (is_fork p path t e.stamp e.answer)
   where
@@ -23,38 +24,47 @@ forked_grows p path t (e ∷ es) u f = by (forked_grows p path (after_entry p t 
     by g (inl k) = let c = k.1 in omega (arith, g, c)
     by g (inr k) = let c = k.1 in omega (arith, g, c)
 
-forked_here : (p : Program) (q : Path) (j : ℕ) (path : Path) (t : Task) (stamp : ℕ) (n : ℕ) (e : LogEntry) → forks_after e.answer t.forked ≤ n →
-    IsFork p path t e.stamp e.answer → 0 < sum_by (at_path (child_path q j)) (born_by p path t e.stamp e.answer) → (q ≡ path) × (j < n)
-forked_here p q j path t stamp n e le (inr k) h = let z = ap (sum_by (at_path (child_path q j))) k.0 in absurd (omega (arith, z, h))
+forked_here : (p : Program) (q : Path) (j : ℕ) (path : Path) (t : Task) (stamp : ℕ) (n : ℕ) (e : LogEntry) →
+    forks_after e.answer t.forked ≤ n →
+    IsFork p path t e.stamp e.answer → 0 < sum_by (at_path (child_path q j)) (born_by p path t e.stamp e.answer) → (q ≡ path) ×
+    (j < n)
+forked_here p q j path t stamp n e le (inr k) h = let z = ap (sum_by (at_path (child_path q j))) k.0 in
+    absurd (omega (arith, z, h))
 forked_here p q j path t stamp n e le (inl k) h = by (path_or (child_path q j) (child_path path t.forked))
   where
     by : ((child_path q j ≡ child_path path t.forked) × (once (same_path (child_path q j) (child_path path t.forked)) ≡ 1))
         ⊎ (once (same_path (child_path q j) (child_path path t.forked)) ≡ 0) → (q ≡ path) × (j < n)
-    by (inl y) = let r = snoc_same q path (suc j) (suc t.forked) y.0 in let c = k.1 in let e = r.1 in (r.0, omega (arith, c, e, le))
+    by (inl y) = let r = snoc_same q path (suc j) (suc t.forked) y.0 in let c = k.1 in let e = r.1 in
+        (r.0, omega (arith, c, e, le))
     by (inr y) =
         let z = ap (sum_by (at_path (child_path q j))) k.0 in
         let b = birth_le (child_path q j) (child_path path t.forked) e.stamp (child (pause p.families t.state)) in
         absurd (omega (arith, z, b, y, h))
 
 -- a task that a log forks is a child of its task, with a number that this has given
-pub forked_by : (p : Program) (q : Path) (j : ℕ) (path : Path) (t : Task) (log : List LogEntry) (u : Task) → Follows p path t log u →
+pub forked_by : (p : Program) (q : Path) (j : ℕ) (path : Path) (t : Task) (log : List LogEntry) (u : Task) →
+    Follows p path t log u →
     0 < sum_by (at_path (child_path q j)) (births p path t log) → (q ≡ path) × (j < u.forked)
 forked_by p q j path t [] u f h = absurd (omega (arith, h))
 forked_by p q j path t (e ∷ es) u f h =
-    by (forked_by p q j path (after_entry p t e) es u f.1) (sum_by (at_path (child_path q j)) (born_by p path t e.stamp e.answer)) refl
+    by (forked_by p q j path (after_entry p t e) es u f.1)
+    (sum_by (at_path (child_path q j)) (born_by p path t e.stamp e.answer)) refl
   where
     by : (0 < sum_by (at_path (child_path q j)) (births p path (after_entry p t e) es) → (q ≡ path) × (j < u.forked)) → (n : ℕ) →
         sum_by (at_path (child_path q j)) (born_by p path t e.stamp e.answer) ≡ n → (q ≡ path) × (j < u.forked)
     by more zero z =
-        let a = sum_by-append (at_path (child_path q j)) (born_by p path t e.stamp e.answer) (births p path (after_entry p t e) es) in
+        let a = sum_by-append (at_path (child_path q j)) (born_by p path t e.stamp e.answer)
+        (births p path (after_entry p t e) es) in
         more (omega (arith, a, z, h))
     by more (suc n) z =
-        forked_here p q j path t e.stamp u.forked e (forked_grows p path (after_entry p t e) es u f.1) (is_fork p path t e.stamp e.answer) (omega (arith, z))
+        forked_here p q j path t e.stamp u.forked e (forked_grows p path (after_entry p t e) es u f.1)
+        (is_fork p path t e.stamp e.answer) (omega (arith, z))
 
 -- ---- channels
 
 -- no fewer channels are made later
-pub made_grows : (p : Program) (types : List Tree) (path : Path) (t : Task) (log : List LogEntry) (u : Task) → Follows p path t log u → t.made ≤ u.made
+pub made_grows : (p : Program) (types : List Tree) (path : Path) (t : Task) (log : List LogEntry) (u : Task) →
+    Follows p path t log u → t.made ≤ u.made
 made_grows p types path t [] u f = let e = ap (λ (t : Task). t.made) f in omega (arith, e)
 made_grows p types path t (e ∷ es) u f =
     by (made_grows p types path (after_entry p t e) es u f.1) (is_new types path t e.stamp e.asked e.answer f.0.is_answered)
@@ -69,12 +79,14 @@ pub record IsMadeBy (path : Path) (n : ℕ) (h : ChannelName) : Type 0 where
   pub first : 0 < h.count
   pub last : h.count ≤ n
 
-made_here : (types : List Tree) (h : ChannelName) (path : Path) (t : Task) (n : ℕ) (e : LogEntry) → made_after e.answer t.made ≤ n →
+made_here : (types : List Tree) (h : ChannelName) (path : Path) (t : Task) (n : ℕ) (e : LogEntry) →
+    made_after e.answer t.made ≤ n →
     IsNew types path t e.asked e.answer → 0 < sum_by (of_name h) (opened_by types e.asked e.answer) → IsMadeBy path n h
 made_here types h path t n e le (inr k) g = let z = ap (sum_by (of_name h)) k.0 in absurd (omega (arith, z, g))
 made_here types h path t n e le (inl k) g = by (channel_or h (channel_name path t.made))
   where
-    by : ((h ≡ channel_name path t.made) × (once (same_channel h (channel_name path t.made)) ≡ 1)) ⊎ (once (same_channel h (channel_name path t.made)) ≡ 0) →
+    by : ((h ≡ channel_name path t.made) × (once (same_channel h (channel_name path t.made)) ≡ 1)) ⊎
+        (once (same_channel h (channel_name path t.made)) ≡ 0) →
         IsMadeBy path n h
     by (inl y) =
         let c = k.2 in
@@ -86,13 +98,15 @@ made_here types h path t n e le (inl k) g = by (channel_or h (channel_name path 
         absurd (omega (arith, z, b, y, g))
 
 -- a channel that a log opens is one that its task has made
-pub opened_in : (p : Program) (types : List Tree) (h : ChannelName) (path : Path) (t : Task) (log : List LogEntry) (u : Task) → Follows p path t log u →
+pub opened_in : (p : Program) (types : List Tree) (h : ChannelName) (path : Path) (t : Task) (log : List LogEntry) (u : Task) →
+    Follows p path t log u →
     0 < sum_by (of_name h) (openings types log) → IsMadeBy path u.made h
 opened_in p types h path t [] u f g = absurd (omega (arith, g))
 opened_in p types h path t (e ∷ es) u f g =
     by (opened_in p types h path (after_entry p t e) es u f.1) (sum_by (of_name h) (opened_by types e.asked e.answer)) refl
   where
-    by : (0 < sum_by (of_name h) (openings types es) → IsMadeBy path u.made h) → (n : ℕ) → sum_by (of_name h) (opened_by types e.asked e.answer) ≡ n →
+    by : (0 < sum_by (of_name h) (openings types es) → IsMadeBy path u.made h) →
+        (n : ℕ) → sum_by (of_name h) (opened_by types e.asked e.answer) ≡ n →
         IsMadeBy path u.made h
     by more zero z =
         let a = sum_by-append (of_name h) (opened_by types e.asked e.answer) (openings types es) in

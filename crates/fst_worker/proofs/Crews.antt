@@ -41,14 +41,16 @@ module _ (k : Code) where
       let r = kept_at ts xs i h.1 (omega (arith, l)) in
       record { thread = r.thread; keeps = r.keeps; is = r.is }
 
-  pub kept_set : (ts : List TypedTask) (xs : List Thread) (i : ℕ) (u : TypedTask) (y : Thread) → AreKept k ts xs → Keeps k u y → AreKept k (set ts i u) (set xs i y)
+  pub kept_set : (ts : List TypedTask) (xs : List Thread) (i : ℕ) (u : TypedTask) (y : Thread) → AreKept k ts xs → Keeps k u y →
+      AreKept k (set ts i u) (set xs i y)
   kept_set [] [] i u y h p = h
   kept_set [] (x ∷ xs) i u y h p = absurd h
   kept_set (t ∷ ts) [] i u y h p = absurd h
   kept_set (t ∷ ts) (x ∷ xs) zero u y h p = (p, h.1)
   kept_set (t ∷ ts) (x ∷ xs) (suc i) u y h p = (h.0, kept_set ts xs i u y h.1 p)
 
-  pub kept_append : (ts us : List TypedTask) (xs ys : List Thread) → AreKept k ts xs → AreKept k us ys → AreKept k (ts ++ us) (xs ++ ys)
+  pub kept_append : (ts us : List TypedTask) (xs ys : List Thread) → AreKept k ts xs → AreKept k us ys →
+      AreKept k (ts ++ us) (xs ++ ys)
   kept_append [] us [] ys h p = p
   kept_append [] us (x ∷ xs) ys h p = absurd h
   kept_append (t ∷ ts) us [] ys h p = absurd h
@@ -67,19 +69,30 @@ module _ (k : Code) where
   kept_split (t ∷ ts) us [] h = absurd h
   kept_split (t ∷ ts) us (z ∷ zs) h =
       let r = kept_split ts us zs h.1 in
-      record { first = z ∷ r.first; second = r.second; is = ap (λ (l : List Thread). z ∷ l) r.is; keeps = (h.0, r.keeps); others = r.others }
+      record {
+        first = z ∷ r.first;
+        second = r.second;
+        is = ap (λ (l : List Thread). z ∷ l) r.is;
+        keeps =
+            (h.0, r.keeps);
+        others = r.others;
+      }
 
-  pub kept_swap : (ts : List TypedTask) (xs : List Thread) (i j : ℕ) → AreKept k ts xs → i < length ts → j < length ts → AreKept k (swap ts i j) (swap xs i j)
+  pub kept_swap : (ts : List TypedTask) (xs : List Thread) (i j : ℕ) → AreKept k ts xs → i < length ts → j < length ts →
+      AreKept k (swap ts i j) (swap xs i j)
   kept_swap [] xs i j h li lj = absurd (omega (arith, li))
   kept_swap (t ∷ ts) [] i j h li lj = absurd h
   kept_swap (t ∷ ts) (x ∷ xs) i j h li lj =
       let p = kept_at (t ∷ ts) (x ∷ xs) i h li in
       let q = kept_at (t ∷ ts) (x ∷ xs) j h lj in
-      let first = kept_set (t ∷ ts) (x ∷ xs) i (get_or (t ∷ ts) j t) (get_or (x ∷ xs) j x) h (subst (Keeps k (get_or (t ∷ ts) j t)) (sym (q.is x)) (q.keeps t)) in
-      kept_set (set (t ∷ ts) i (get_or (t ∷ ts) j t)) (set (x ∷ xs) i (get_or (x ∷ xs) j x)) j (get_or (t ∷ ts) i t) (get_or (x ∷ xs) i x) first
+      let first = kept_set (t ∷ ts) (x ∷ xs) i (get_or (t ∷ ts) j t) (get_or (x ∷ xs) j x) h
+      (subst (Keeps k (get_or (t ∷ ts) j t)) (sym (q.is x)) (q.keeps t)) in
+      kept_set (set (t ∷ ts) i (get_or (t ∷ ts) j t)) (set (x ∷ xs) i (get_or (x ∷ xs) j x)) j (get_or (t ∷ ts) i t)
+      (get_or (x ∷ xs) i x) first
       (subst (Keeps k (get_or (t ∷ ts) i t)) (sym (p.is x)) (p.keeps t))
 
-  pub kept_sum : (f : TypedTask → ℕ) (g : Thread → ℕ) → ((t : TypedTask) (x : Thread) → Keeps k t x → f t ≡ g x) → (ts : List TypedTask) (xs : List Thread) → AreKept k ts xs → sum_by f ts ≡ sum_by g xs
+  pub kept_sum : (f : TypedTask → ℕ) (g : Thread → ℕ) → ((t : TypedTask) (x : Thread) → Keeps k t x → f t ≡ g x) →
+      (ts : List TypedTask) (xs : List Thread) → AreKept k ts xs → sum_by f ts ≡ sum_by g xs
   kept_sum f g e [] [] h = refl
   kept_sum f g e [] (x ∷ xs) h = absurd h
   kept_sum f g e (t ∷ ts) [] h = absurd h
@@ -90,11 +103,13 @@ module _ (k : Code) where
       let ih = kept_sum f g e ts xs h.1 in
       omega (arith, a, b, one, ih)
 
-  pub kept_all : (P : TypedTask → Type 0) (Q : Thread → Type 0) → ((t : TypedTask) (x : Thread) → Keeps k t x → Q x → P t) → (ts : List TypedTask) (xs : List Thread) → AreKept k ts xs → All Q xs → All P ts
+  pub kept_all : (P : TypedTask → Type 0) (Q : Thread → Type 0) → ((t : TypedTask) (x : Thread) → Keeps k t x → Q x → P t) →
+      (ts : List TypedTask) (xs : List Thread) → AreKept k ts xs → All Q xs → All P ts
   kept_all P Q f [] [] h all = All-nil P
   kept_all P Q f [] (x ∷ xs) h all = absurd h
   kept_all P Q f (t ∷ ts) [] h all = absurd h
-  kept_all P Q f (t ∷ ts) (x ∷ xs) h all = All-cons P t ts (f t x h.0 (All-head Q x xs all)) (kept_all P Q f ts xs h.1 (All-tail Q x xs all))
+  kept_all P Q f (t ∷ ts) (x ∷ xs) h all = All-cons P t ts (f t x h.0 (All-head Q x xs all))
+      (kept_all P Q f ts xs h.1 (All-tail Q x xs all))
 
   -- ---- shares
 
@@ -107,7 +122,8 @@ module _ (k : Code) where
   crews_kept [] [] h = tt
   crews_kept [] (c ∷ cs) h = absurd h
   crews_kept (s ∷ ss) [] h = absurd h
-  crews_kept (s ∷ ss) (c ∷ cs) h = kept_append (all_of s) (all_tasks ss) (threads_of c) (all_threads cs) (crew_kept s c h.0) (crews_kept ss cs h.1)
+  crews_kept (s ∷ ss) (c ∷ cs) h = kept_append (all_of s) (all_tasks ss) (threads_of c) (all_threads cs) (crew_kept s c h.0)
+      (crews_kept ss cs h.1)
 
   -- the threads of a share's tasks as a crew
   pub record IsManned (s : Share) (xs : List Thread) : Type 0 where
@@ -141,5 +157,6 @@ module _ (k : Code) where
       record {
         crews = q.crew ∷ r.crews;
         are = (q.is, r.are);
-        same = ap (λ (l : List Thread). l ++ all_threads r.crews) q.same ∙ ap (λ (l : List Thread). p.first ++ l) r.same ∙ sym p.is;
+        same = ap (λ (l : List Thread). l ++ all_threads r.crews) q.same ∙ ap (λ (l : List Thread). p.first ++ l) r.same
+            ∙ sym p.is;
       }

@@ -20,7 +20,8 @@ use Rattle.fst_worker.proofs.Sums.{sum_none}
 use Rattle.fst_worker.proofs.Tests.{path_counts}
 
 -- clocks go up
-pub clock_grows : (p : Program) (path : Path) (t : Task) (log : List LogEntry) (u : Task) → Follows p path t log u → t.clock ≤ u.clock
+pub clock_grows : (p : Program) (path : Path) (t : Task) (log : List LogEntry) (u : Task) → Follows p path t log u →
+    t.clock ≤ u.clock
 clock_grows p path t [] u f = let e = ap (λ (t : Task). t.clock) f in omega (arith, e)
 clock_grows p path t (e ∷ es) u f =
     let l = later path t e.stamp e.asked e.answer f.0.is_answered in
@@ -41,12 +42,14 @@ abbrev pub StampedBy : ℕ → Exchange → Type 0
 StampedBy n g = g.stamp ≤ n
 
 -- no stamp of a log is later than the clock to which it leads
-pub stamped_by : (p : Program) (path : Path) (t : Task) (log : List LogEntry) (u : Task) → Follows p path t log u → All (StampedBy u.clock) (exchanges t.clock log)
+pub stamped_by : (p : Program) (path : Path) (t : Task) (log : List LogEntry) (u : Task) → Follows p path t log u →
+    All (StampedBy u.clock) (exchanges t.clock log)
 stamped_by p path t [] u f = All-nil (StampedBy u.clock)
 stamped_by p path t (e ∷ es) u f =
     let g = clock_grows p path (after_entry p t e) es u f.1 in
     All-append (StampedBy u.clock) (exchanged_by t.clock e.stamp e.asked e.answer) (exchanges e.stamp es)
-    (All-weaker (StampedAt e.stamp) (StampedBy u.clock) (λ x q. omega (arith, g, q)) (exchanged_by t.clock e.stamp e.asked e.answer)
+    (All-weaker (StampedAt e.stamp) (StampedBy u.clock)
+    (λ x q. omega (arith, g, q)) (exchanged_by t.clock e.stamp e.asked e.answer)
     (exchanged_at t.clock e.stamp e.asked e.answer))
     (stamped_by p path (after_entry p t e) es u f.1)
 
@@ -61,11 +64,13 @@ opening_made h None = All-nil (OfMaker h.maker)
 opening_made h (Some t) = All-cons (OfMaker h.maker) _ [] refl (All-nil (OfMaker h.maker))
 
 -- a log opens channels of its task alone
-pub of_maker : (p : Program) (types : List Tree) (path : Path) (t : Task) (log : List LogEntry) (u : Task) → Follows p path t log u →
+pub of_maker : (p : Program) (types : List Tree) (path : Path) (t : Task) (log : List LogEntry) (u : Task) →
+    Follows p path t log u →
     All (OfMaker path) (openings types log)
 of_maker p types path t [] u f = All-nil (OfMaker path)
 of_maker p types path t (e ∷ es) u f =
-    All-append (OfMaker path) (opened_by types e.asked e.answer) (openings types es) (by (is_new types path t e.stamp e.asked e.answer f.0.is_answered))
+    All-append (OfMaker path) (opened_by types e.asked e.answer) (openings types es)
+    (by (is_new types path t e.stamp e.asked e.answer f.0.is_answered))
     (of_maker p types path (after_entry p t e) es u f.1)
   where
     by : IsNew types path t e.asked e.answer → All (OfMaker path) (opened_by types e.asked e.answer)

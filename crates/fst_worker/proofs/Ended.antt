@@ -26,7 +26,8 @@ histories_same [] = refl
 histories_same (p ∷ ps) = ap (λ ks. p.closed.history ∷ ks) (histories_same ps)
 
 pair_or : (c : Closed) (p : Pair) (ps : List Pair) → (closed_of p ≡ c) ⊎ Contains (map closed_of ps) c →
-    (Contains (map closed_of ps) c → (q : Pair) × Contains ps q × (closed_of q ≡ c)) → (q : Pair) × Contains (p ∷ ps) q × (closed_of q ≡ c)
+    (Contains (map closed_of ps) c → (q : Pair) × Contains ps q × (closed_of q ≡ c)) → (q : Pair) × Contains (p ∷ ps) q ×
+    (closed_of q ≡ c)
 pair_or c p ps (inl e) more = (p, (0, omega arith, refl), e)
 pair_or c p ps (inr i) more = let r = more i in (r.0, Contains-append_right (p ∷ []) ps r.0 r.1, r.2)
 
@@ -37,7 +38,8 @@ pair_in c (p ∷ ps) i = pair_or c p ps (from_contains (map closed_of ps) c (clo
 
 -- that of each pair is there
 pub closed_in : (ps : List Pair) (p : Pair) → Contains ps p → Contains (map closed_of ps) p.closed
-closed_in ps p (i, l, is) = let n = length-map ps closed_of in (i, omega (arith, n, l), get_or-map closed_of ps i p ∙ ap closed_of is)
+closed_in ps p (i, l, is) = let n = length-map ps closed_of in
+    (i, omega (arith, n, l), get_or-map closed_of ps i p ∙ ap closed_of is)
 
 module _ (es : List EndView) (cs : List Closed) (k : AreClosedTo es cs) where
   -- the run whose ends these are is over, with the pairs

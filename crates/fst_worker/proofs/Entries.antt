@@ -33,7 +33,8 @@ use Rattle.fst_worker.proofs.Tests.{counts_or, same_by, same_by-itself, same_by-
 
 -- exchanges, told apart by their codes
 abbrev exchange_code : Coded Exchange
-exchange_code = code_by (EndName × (Bool × (Event × (ℕ × ℕ)))) (coded× end_code (coded× coded_bool (coded× event_code (coded× coded_ℕ coded_ℕ))))
+exchange_code = code_by (EndName × (Bool × (Event × (ℕ × ℕ))))
+    (coded× end_code (coded× coded_bool (coded× event_code (coded× coded_ℕ coded_ℕ))))
     (λ g. (g.end, (g.sends, (g.event, (g.stamp, g.clock)))))
     (λ p. record { end = p.0; sends = p.1.0; event = p.1.1.0; stamp = p.1.1.1.0; clock = p.1.1.1.1 }) (λ g. refl)
 
@@ -104,7 +105,8 @@ part_or n o e h g (inr p) = record {
 is_part : (n : EndName) (o : Option Tree) (h : List Entry) (g : Exchange) → Contains (parts_in n o h) g → IsPart n o h g
 is_part n o [] g c = absurd (contains_none g c)
 is_part n o (e ∷ h) g c = part_or n o e h g
-    (by (from_contains (parts_in n (then_after o e.event) h) g (part_in n (sends o e.event) e) c) (is_part n (then_after o e.event) h g))
+    (by (from_contains (parts_in n (then_after o e.event) h) g (part_in n (sends o e.event) e) c)
+    (is_part n (then_after o e.event) h g))
   where
     by : (part_in n (sends o e.event) e ≡ g) ⊎ Contains (parts_in n (then_after o e.event) h) g →
         (Contains (parts_in n (then_after o e.event) h) g → IsPart n (then_after o e.event) h g) →
@@ -115,12 +117,14 @@ is_part n o (e ∷ h) g c = part_or n o e h g
 -- and the part of each entry is there
 part_there : (n : EndName) (o : Option Tree) (before : List Entry) (e : Entry) (behind : List Entry) →
     Contains (parts_in n o (before ++ e ∷ behind)) (part_in n (sends (behind_all o before) e.event) e)
-part_there n o [] e behind = contains_head (parts_in n (then_after o e.event) behind) (part_in n (sends (behind_all o []) e.event) e)
+part_there n o [] e behind = contains_head (parts_in n (then_after o e.event) behind)
+    (part_in n (sends (behind_all o []) e.event) e)
     (part_in n (sends o e.event) e)
     (ap (λ t. part_in n (sends t e.event) e) (sym (behind_none o)))
 part_there n o (c ∷ before) e behind = contains_tail (parts_in n (then_after o c.event) (before ++ e ∷ behind))
     (part_in n (sends (behind_all o (c ∷ before)) e.event) e) (part_in n (sends o c.event) c)
-    (subst (λ t. Contains (parts_in n (then_after o c.event) (before ++ e ∷ behind)) (part_in n (sends t e.event) e)) (behind_first o c before)
+    (subst (λ t. Contains (parts_in n (then_after o c.event) (before ++ e ∷ behind)) (part_in n (sends t e.event) e))
+    (behind_first o c before)
     (part_there n (then_after o c.event) before e behind))
 
 residual_is : (s : Side) (t : Tree) (h : List Entry) → residual s t h ≡ behind_all (Some (side_type s t)) h
@@ -130,7 +134,8 @@ residual_is s t h = refl
 -- ---- who sends
 
 -- an event by which a type goes on, behind a trace
-pub trace_at : (t : Tree) (before : List Entry) (e : Entry) (behind : List Entry) → IsSome (after_history t (before ++ e ∷ behind)) →
+pub trace_at : (t : Tree) (before : List Entry) (e : Entry) (behind : List Entry) →
+    IsSome (after_history t (before ++ e ∷ behind)) →
     (s : Tree) × (after_history t before ≡ Some s) × IsSome (after_event s e.event)
 trace_at t [] e behind h = (t, refl, by (after_event t e.event) h)
   where
@@ -140,13 +145,15 @@ trace_at t [] e behind h = (t, refl, by (after_event t e.event) h)
 trace_at t (c ∷ before) e behind h = by (after_event t c.event) h (λ y. trace_at y before e behind)
   where
     by : (o : Option Tree) → IsSome (option_and_then (λ y. after_history y (before ++ e ∷ behind)) o) →
-        ((y : Tree) → IsSome (after_history y (before ++ e ∷ behind)) → (s : Tree) × (after_history y before ≡ Some s) × IsSome (after_event s e.event)) →
+        ((y : Tree) → IsSome (after_history y (before ++ e ∷ behind)) → (s : Tree) ×
+        (after_history y before ≡ Some s) × IsSome (after_event s e.event)) →
         (s : Tree) × (option_and_then (λ y. after_history y before) o ≡ Some s) × IsSome (after_event s e.event)
     by None h more = absurd (cc h)
     by (Some u) h more = more u h
 
 -- a type that goes on by an event sends it, or its dual does
-either_sends : (s : Tree) (ev : Event) → IsSome (after_event s ev) → is_some (step s (sending ev)) ≡ not (is_some (option_map dual (step s (receiving ev))))
+either_sends : (s : Tree) (ev : Event) → IsSome (after_event s ev) →
+    is_some (step s (sending ev)) ≡ not (is_some (option_map dual (step s (receiving ev))))
 either_sends s ev h = by (step s (sending ev)) refl (step s (receiving ev)) refl h
   where
     by : (a : Option Tree) → step s (sending ev) ≡ a → (b : Option Tree) → step s (receiving ev) ≡ b → IsSome (over a b) →
@@ -156,17 +163,20 @@ either_sends s ev h = by (step s (sending ev)) refl (step s (receiving ev)) refl
     by (Some t) p None q h = refl
     by (Some t) p (Some u) q h = absurd (cc (sym p ∙ not_both s u ev q))
 
-pub sides_send : (t : Tree) (before : List Entry) (s : Tree) (ev : Event) → after_history t before ≡ Some s → IsSome (after_event s ev) →
+pub sides_send : (t : Tree) (before : List Entry) (s : Tree) (ev : Event) → after_history t before ≡ Some s →
+    IsSome (after_event s ev) →
     sends (residual Left t before) ev ≡ not (sends (residual Right t before) ev)
 unfolding residual sends
 sides_send t before s ev q h =
     let r : after_history (dual t) before ≡ Some (dual s) = after_history-dual t before ∙ ap (option_map dual) q in
-    ap (λ o. sends o ev) q ∙ either_sends s ev h ∙ ap (λ o. not (is_some o)) (sym (dual_sends s ev)) ∙ ap (λ o. not (sends o ev)) (sym r)
+    ap (λ o. sends o ev) q ∙ either_sends s ev h ∙ ap (λ o. not (is_some o)) (sym (dual_sends s ev)) ∙ ap
+    (λ o. not (sends o ev)) (sym r)
 
 -- ---- records
 
 module _ (m : Surroundings) (main : Birth) (xs : List Thread) (ks : List ChannelHistory) (fits : FitsRecord m main xs ks) where
-  stands_at : (g : Exchange) (k : ChannelHistory) → Contains ks k → (s : Side) → Contains (shown_of k.name s k.declared k.entries.items) g → StandsIn ks g
+  stands_at : (g : Exchange) (k : ChannelHistory) → Contains ks k →
+      (s : Side) → Contains (shown_of k.name s k.declared k.entries.items) g → StandsIn ks g
   stands_at g k c s h =
       let n : EndName = record { channel = k.name; side = s } in
       let p = is_part n (Some (side_type s k.declared)) k.entries.items g h in
@@ -196,7 +206,8 @@ module _ (m : Surroundings) (main : Birth) (xs : List Thread) (ks : List Channel
       let r = some_in (shows (just g)) ks (omega (arith, a, b, e)) in
       stands g r.0 r.1 r.2
 
-  part_shows : (w : Exchange → ℕ) (s : Side) (k : ChannelHistory) → sum_by w (shown_of k.name s k.declared k.entries.items) ≤ shows w k
+  part_shows : (w : Exchange → ℕ) (s : Side) (k : ChannelHistory) →
+      sum_by w (shown_of k.name s k.declared k.entries.items) ≤ shows w k
   part_shows w Left k = omega arith
   part_shows w Right k = omega arith
 
@@ -207,7 +218,8 @@ module _ (m : Surroundings) (main : Birth) (xs : List Thread) (ks : List Channel
       let g = part_at k s before e in
       let p : Contains (shown_of k.name s k.declared k.entries.items) g =
       subst (λ l. Contains (shown_of k.name s k.declared l) g) (sym is)
-      (subst (λ t. Contains (shown_of k.name s k.declared (before ++ e ∷ behind)) (part_in n (sends t e.event) e)) (sym (residual_is s k.declared before))
+      (subst (λ t. Contains (shown_of k.name s k.declared (before ++ e ∷ behind)) (part_in n (sends t e.event) e))
+      (sym (residual_is s k.declared before))
       (part_there n (Some (side_type s k.declared)) before e behind)) in
       let a = counts_in g (shown_of k.name s k.declared k.entries.items) p in
       let b = part_shows (just g) s k in
@@ -216,7 +228,8 @@ module _ (m : Surroundings) (main : Birth) (xs : List Thread) (ks : List Channel
       let r = some_in (trades (just g)) xs (omega (arith, a, b, d, f)) in
       record { task = r.0; there = r.1; logged = one_of g (exchanges r.0.first.clock r.0.log) r.2 }
 
-  one_sends : (k : ChannelHistory) (before : List Entry) (e : Entry) (behind : List Entry) → Contains ks k → k.entries.items ≡ before ++ e ∷ behind →
+  one_sends : (k : ChannelHistory) (before : List Entry) (e : Entry) (behind : List Entry) → Contains ks k →
+      k.entries.items ≡ before ++ e ∷ behind →
       sends (residual Left k.declared before) e.event ≡ not (sends (residual Right k.declared before) e.event)
   one_sends k before e behind c is =
       let h = (All-contains IsRecorded ks k fits.histories c).trace in
@@ -229,10 +242,12 @@ module _ (m : Surroundings) (main : Birth) (xs : List Thread) (ks : List Channel
     paths = paths_once m main xs fits.root fits.births;
     names = λ h.
         let a = fits.channels (λ n t. once (same_channel h n)) in
-        let b = names_once m main xs fits.root fits.births (All-weaker (IsLogged m) (IsLed m) (λ x l. l.follows) xs fits.logs) h in
+        let b = names_once m main xs fits.root fits.births
+        (All-weaker (IsLogged m) (IsLed m) (λ x l. l.follows) xs fits.logs) h in
         omega (arith, a, b);
     logged = All-weaker (Contains xs) (λ (x : Thread). All (StandsIn ks) (exchanges x.first.clock x.log))
-        (λ x c. All-weaker (Contains (exchanges x.first.clock x.log)) (StandsIn ks) (λ g h. logged x c g h) (exchanges x.first.clock x.log)
+        (λ x c. All-weaker (Contains (exchanges x.first.clock x.log)) (StandsIn ks)
+        (λ g h. logged x c g h) (exchanges x.first.clock x.log)
         (All-contains_itself (exchanges x.first.clock x.log))) xs (All-contains_itself xs);
     exchanged = exchanged;
     one_sends = one_sends;

@@ -35,4 +35,5 @@ event_of-said (event.Label l) = refl
 
 -- the codes of events
 abbrev pub event_code : Coded Event
-event_code = code_by Said (coded⊎ coded_ℤ (coded⊎ coded_bool (coded⊎ coded_ℕ (coded⊎ coded_bool (coded_list coded_ℕ))))) said event_of event_of-said
+event_code = code_by Said (coded⊎ coded_ℤ (coded⊎ coded_bool (coded⊎ coded_ℕ (coded⊎ coded_bool (coded_list coded_ℕ))))) said
+    event_of event_of-said

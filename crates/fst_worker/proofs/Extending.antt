@@ -42,7 +42,16 @@ own_events y = sum_by (λ (e : LogEntry). alone e.answer) y.log
 
 -- no entries
 abbrev no_entries : Vec Entry
-no_entries = record { ptr = null_ptr; len = 0; cap = 0; alloc = record { memory = record { seal = tt } }; items = []; ok = (refl, omega arith); small = omega arith }
+no_entries = record {
+  ptr = null_ptr;
+  len = 0;
+  cap = 0;
+  alloc = record { memory = record { seal = tt } };
+  items = [];
+  ok =
+      (refl, omega arith);
+  small = omega arith;
+}
 
 -- the entries of a history
 abbrev pub entries_of : ChannelHistory → ℕ
@@ -64,21 +73,25 @@ module _ (m : Surroundings) (x : Thread) (q : Request) (r : Answer) (stamp : ℕ
     follows = follows_more (program_in m) x.path x.first x.log x.now (entry q r stamp) logged.follows e;
   }
 
-  pub entered_trades : (w : Exchange → ℕ) → trades w (entered m x q r stamp) ≡ trades w x + sum_by w (exchanges x.now.clock (entry q r stamp ∷ []))
+  pub entered_trades : (w : Exchange → ℕ) → trades w (entered m x q r stamp) ≡ trades w x + sum_by w
+      (exchanges x.now.clock (entry q r stamp ∷ []))
   entered_trades w = exchanges_more w (program_in m) x.path x.first x.log (entry q r stamp ∷ []) x.now logged.follows
 
-  pub entered_bears : (w : Birth → ℕ) → bears m w (entered m x q r stamp) ≡ bears m w x + sum_by w (births (program_in m) x.path x.now (entry q r stamp ∷ []))
+  pub entered_bears : (w : Birth → ℕ) → bears m w (entered m x q r stamp) ≡ bears m w x + sum_by w
+      (births (program_in m) x.path x.now (entry q r stamp ∷ []))
   entered_bears w = births_more w (program_in m) x.path x.first x.log (entry q r stamp ∷ []) x.now logged.follows
 
   pub entered_opens : (w : ChannelName → Tree → ℕ) →
-      opens m w (entered m x q r stamp) ≡ opens m w x + sum_by (λ (o : Opening). w o.name o.declared) (openings m.types (entry q r stamp ∷ []))
+      opens m w (entered m x q r stamp) ≡ opens m w x + sum_by
+      (λ (o : Opening). w o.name o.declared) (openings m.types (entry q r stamp ∷ []))
   entered_opens w = openings_more (λ (o : Opening). w o.name o.declared) m.types x.log (entry q r stamp ∷ [])
 
   pub entered_events : own_events (entered m x q r stamp) ≡ own_events x + alone r
   entered_events = sum_by-append (λ (e : LogEntry). alone e.answer) x.log (entry q r stamp ∷ []) ∙ omega arith
 
 -- one of these threads has one more entry
-module _ (m : Surroundings) (ys : List Thread) (logs : All (IsLogged m) ys) (p : Path) (t : Task) (a : IsAt p ys t) (q : Request) (r : Answer) (stamp : ℕ) where
+module _ (m : Surroundings) (ys : List Thread) (logs : All (IsLogged m) ys) (p : Path) (t : Task) (a : IsAt p ys t) (q : Request)
+    (r : Answer) (stamp : ℕ) where
   -- the thread, and all threads then
   abbrev pub one : Thread
   one = entered m a.thread q r stamp
@@ -90,20 +103,23 @@ module _ (m : Surroundings) (ys : List Thread) (logs : All (IsLogged m) ys) (p :
   one_logged = one_swapped (IsLogged m) ys (a.with a.thread) a.thread a.thread (a.swaps a.thread) logs
 
   pub ones_logged : Enters (program_in m) a.thread.path a.thread.now (entry q r stamp) → All (IsLogged m) ones
-  ones_logged e = all_swapped (IsLogged m) ys ones a.thread one (a.swaps one) logs (entered_logged m a.thread q r stamp one_logged e)
+  ones_logged e = all_swapped (IsLogged m) ys ones a.thread one (a.swaps one) logs
+      (entered_logged m a.thread q r stamp one_logged e)
 
   pub ones_are : (w : Birth → ℕ) → sum_by (λ (x : Thread). w (birth x)) ones ≡ sum_by (λ (x : Thread). w (birth x)) ys
   ones_are w = let b = sum_swapped (λ (x : Thread). w (birth x)) ys ones a.thread one (a.swaps one) in omega (arith, b)
 
   pub ones_bear : (w : Birth → ℕ) →
-      sum_by (bears m w) ones ≡ sum_by (bears m w) ys + sum_by w (births (program_in m) a.thread.path a.thread.now (entry q r stamp ∷ []))
+      sum_by (bears m w) ones ≡ sum_by (bears m w) ys + sum_by w
+      (births (program_in m) a.thread.path a.thread.now (entry q r stamp ∷ []))
   ones_bear w =
       let b = sum_swapped (bears m w) ys ones a.thread one (a.swaps one) in
       let c = entered_bears m a.thread q r stamp one_logged w in
       omega (arith, b, c)
 
   pub ones_open : (w : ChannelName → Tree → ℕ) →
-      sum_by (opens m w) ones ≡ sum_by (opens m w) ys + sum_by (λ (o : Opening). w o.name o.declared) (openings m.types (entry q r stamp ∷ []))
+      sum_by (opens m w) ones ≡ sum_by (opens m w) ys + sum_by
+      (λ (o : Opening). w o.name o.declared) (openings m.types (entry q r stamp ∷ []))
   ones_open w =
       let b = sum_swapped (opens m w) ys ones a.thread one (a.swaps one) in
       let c = entered_opens m a.thread q r stamp one_logged w in
@@ -129,21 +145,24 @@ module _ (m : Surroundings) (ys : List Thread) (logs : All (IsLogged m) ys) (p :
 -- ---- records that grow
 
 -- threads and channels of which so much is more: births, channels that are made, what is exchanged, and events
-pub record Grows (m : Surroundings) (ys : List Thread) (ks : List ChannelHistory) (zs : List Thread) (js : List ChannelHistory) : Type 0 where
+pub record Grows (m : Surroundings) (ys : List Thread) (ks : List ChannelHistory) (zs : List Thread)
+    (js : List ChannelHistory) : Type 0 where
   pub born : (Birth → ℕ) → ℕ
   pub opened : (ChannelName → Tree → ℕ) → ℕ
   pub passed : (Exchange → ℕ) → ℕ
   pub births : (w : Birth → ℕ) → sum_by (λ (x : Thread). w (birth x)) zs ≡ sum_by (λ (x : Thread). w (birth x)) ys + born w
   pub bears : (w : Birth → ℕ) → sum_by (bears m w) zs ≡ sum_by (bears m w) ys + born w
   pub logs : All (IsLogged m) zs
-  pub channels : (w : ChannelName → Tree → ℕ) → sum_by (λ (k : ChannelHistory). w k.name k.declared) js ≡ sum_by (λ (k : ChannelHistory). w k.name k.declared) ks + opened w
+  pub channels : (w : ChannelName → Tree → ℕ) → sum_by (λ (k : ChannelHistory). w k.name k.declared) js ≡ sum_by
+      (λ (k : ChannelHistory). w k.name k.declared) ks + opened w
   pub opens : (w : ChannelName → Tree → ℕ) → sum_by (opens m w) zs ≡ sum_by (opens m w) ys + opened w
   pub shows : (w : Exchange → ℕ) → sum_by (shows w) js ≡ sum_by (shows w) ks + passed w
   pub trades : (w : Exchange → ℕ) → sum_by (trades w) zs ≡ sum_by (trades w) ys + passed w
   pub histories : All IsRecorded js
 
 -- they fit
-pub grown : (m : Surroundings) (main : Birth) (ys : List Thread) (ks : List ChannelHistory) (zs : List Thread) (js : List ChannelHistory) → FitsRecord m main ys ks →
+pub grown : (m : Surroundings) (main : Birth) (ys : List Thread) (ks : List ChannelHistory) (zs : List Thread)
+    (js : List ChannelHistory) → FitsRecord m main ys ks →
     Grows m ys ks zs js → FitsRecord m main zs js
 grown m main ys ks zs js fits g = record {
   root = fits.root;
@@ -203,7 +222,10 @@ module _ (m : Surroundings) (main : Birth) (ys : List Thread) (ks : List Channel
       threads = local_threads;
       channels = ks;
       fits = grown m main ys ks local_threads ks fits local_grows;
-      config = λ i. record { tasks = λ q. ones_tasks m ys fits.logs p t a Step Go local_stamp (moved t s) local_now q i; channels = channel_in ks };
+      config = λ i. record {
+        tasks = λ q. ones_tasks m ys fits.logs p t a Step Go local_stamp (moved t s) local_now q i;
+        channels = channel_in ks;
+      };
       events = let b = ones_happen m ys fits.logs p t a Step Go local_stamp in omega (arith, b);
     }
 
@@ -213,8 +235,10 @@ module _ (m : Surroundings) (main : Birth) (ys : List Thread) (ks : List Channel
   abbrev new_channel : ChannelName → Tree → ChannelHistory
   new_channel h d = record { name = h; declared = d; entries = no_entries }
 
-  module _ (p : Path) (t : Task) (s : State) (n : ℕ) (d : Tree) (a : IsAt p ys t) (asks : request m.families t.state ≡ Some (New n))
-      (there : slice_get m.types n ≡ Some d) (leads : answered (program_in m) t.state (Made (channel_name p t.made)) ≡ Some s) (formed : IsSession [] d) where
+  module _ (p : Path) (t : Task) (s : State) (n : ℕ) (d : Tree) (a : IsAt p ys t)
+      (asks : request m.families t.state ≡ Some (New n))
+      (there : slice_get m.types n ≡ Some d) (leads : answered (program_in m) t.state (Made (channel_name p t.made)) ≡ Some s)
+      (formed : IsSession [] d) where
     -- its name, as the thread has it
     abbrev new_name : ChannelName
     new_name = channel_name a.thread.path a.thread.now.made
@@ -235,7 +259,13 @@ module _ (m : Surroundings) (main : Birth) (ys : List Thread) (ks : List Channel
     new_leads = (λ i. answered (program_in m) (a.now i).state (Made (new_named i))) ∙ leads
 
     new_now : (one m ys fits.logs p t a (New n) (Made new_name) new_stamp).now ≡ has_made t s (suc t.clock)
-    new_now = (λ i. record { state = or_lost (new_leads i); made = suc (a.now i).made; forked = (a.now i).forked; clock = suc (a.now i).clock })
+    new_now = (λ i. record {
+      state = or_lost (new_leads i);
+      made = suc (a.now i).made;
+      forked =
+          (a.now i).forked;
+      clock = suc (a.now i).clock;
+    })
 
     new_grows : Grows m ys ks new_threads new_channels
     new_grows = record {
@@ -258,11 +288,13 @@ module _ (m : Surroundings) (main : Birth) (ys : List Thread) (ks : List Channel
           omega (arith, b, c, e);
       shows = λ w. let b = sum_by_push (shows w) ks (new_channel (channel_name p t.made) d) in omega (arith, b);
       trades = λ w. let b = ones_trade m ys fits.logs p t a (New n) (Made new_name) new_stamp w in omega (arith, b);
-      histories = All-push IsRecorded ks (new_channel (channel_name p t.made) d) fits.histories (record { formed = formed; trace = refl; stamped = tt });
+      histories = All-push IsRecorded ks (new_channel (channel_name p t.made) d) fits.histories
+          (record { formed = formed; trace = refl; stamped = tt });
     }
 
     -- the record with one more event
-    pub new_extends : IsRecordOf m main (with_task (with_channel here (channel_name p t.made) (record { declared = d; history = [] })) p (has_made t s (suc t.clock))) later
+    pub new_extends : IsRecordOf m main (with_task
+        (with_channel here (channel_name p t.made) (record { declared = d; history = [] })) p (has_made t s (suc t.clock))) later
     new_extends = record {
       threads = new_threads;
       channels = new_channels;
@@ -299,13 +331,20 @@ module _ (m : Surroundings) (main : Birth) (ys : List Thread) (ks : List Channel
     fork_leads = ap (λ (u : Task). answered (program_in m) u.state Forked) a.now ∙ leads
 
     fork_now : (one m ys fits.logs p t a Fork Forked fork_stamp).now ≡ has_forked t s (suc t.clock)
-    fork_now = (λ i. record { state = or_lost (fork_leads i); made = (a.now i).made; forked = suc (a.now i).forked; clock = suc (a.now i).clock })
+    fork_now = (λ i. record {
+      state = or_lost (fork_leads i);
+      made =
+          (a.now i).made;
+      forked = suc (a.now i).forked;
+      clock = suc (a.now i).clock;
+    })
 
     fork_begins : child (pause m.families a.thread.now.state) ≡ Some b
     fork_begins = ap (λ (u : Task). child (pause m.families u.state)) a.now ∙ begins
 
     -- what the log forks is the new one
-    fork_born : birth_of (child_path a.thread.path a.thread.now.forked) fork_stamp (child (pause m.families a.thread.now.state)) ≡ birth forked_thread ∷ []
+    fork_born : birth_of (child_path a.thread.path a.thread.now.forked) fork_stamp
+        (child (pause m.families a.thread.now.state)) ≡ birth forked_thread ∷ []
     fork_born = λ i. birth_of (child_path (a.path i) (a.now i).forked) (suc (a.now i).clock) (fork_begins i)
 
     fork_grows : Grows m ys ks (forked_thread ∷ fork_ones) ks
@@ -343,7 +382,8 @@ module _ (m : Surroundings) (main : Birth) (ys : List Thread) (ks : List Channel
     }
 
     -- the record with one more event
-    pub fork_extends : IsRecordOf m main (with_task (with_task here p (has_forked t s (suc t.clock))) (child_path p t.forked) (new_task b (suc t.clock))) later
+    pub fork_extends : IsRecordOf m main (with_task (with_task here p (has_forked t s (suc t.clock))) (child_path p t.forked)
+        (new_task b (suc t.clock))) later
     fork_extends = record {
       threads = forked_thread ∷ fork_ones;
       channels = ks;

@@ -48,7 +48,8 @@ use Rattle.fst_worker.proofs.Telling.{joins}
 
 module _ (k : Code) where
   -- the ends of the tasks are those of the threads
-  ends_kept : (ts : List TypedTask) (xs : List Thread) → AreKept k ts xs → (w : EndView → ℕ) → sum_by (of_ends w) xs ≡ sum_by w (ends_of ts)
+  ends_kept : (ts : List TypedTask) (xs : List Thread) → AreKept k ts xs →
+      (w : EndView → ℕ) → sum_by (of_ends w) xs ≡ sum_by w (ends_of ts)
   ends_kept [] [] h w = refl
   ends_kept [] (x ∷ xs) h w = absurd h
   ends_kept (t ∷ ts) [] h w = absurd h
@@ -82,7 +83,8 @@ module _ (k : Code) where
   )
 
   -- no clock of the tasks is over what no clock of the threads is over
-  clocks_in : (n : ℕ) (ts : Tasks) (ys : List Thread) → AreTasksOf k.module.value k ts ys → All (IsWithin n) ys → ClocksWithin n ts
+  clocks_in : (n : ℕ) (ts : Tasks) (ys : List Thread) → AreTasksOf k.module.value k ts ys → All (IsWithin n) ys →
+      ClocksWithin n ts
   clocks_in n [] [] h all = tt
   clocks_in n [] (y ∷ ys) h all = absurd h
   clocks_in n (t ∷ ts) [] h all = absurd h
@@ -107,7 +109,8 @@ alone_kept k (t ∷ ts) (x ∷ xs) h =
     omega (arith, a, b, d, more)
 
 -- what a task is told isn't something that it did alone
-alone_same : (m : Surroundings) (ks : List ChannelHistory) (x y : Thread) → Stayed ks x y ⊎ Told m ks x y → alone_by y ≡ alone_by x
+alone_same : (m : Surroundings) (ks : List ChannelHistory) (x y : Thread) → Stayed ks x y ⊎ Told m ks x y →
+    alone_by y ≡ alone_by x
 alone_same m ks x y (inl s) = ap alone_by s.is
 alone_same m ks x y (inr t) =
     let e : LogEntry = record { asked = Put (end_name t.end) t.entry.event; answer = Sent; stamp = t.entry.stamp } in
@@ -115,7 +118,8 @@ alone_same m ks x y (inr t) =
     let b = sum_by-append (λ (e : LogEntry). alone e.answer) x.log (e ∷ []) in
     omega (arith, a, b)
 
-alone_told : (m : Surroundings) (ks : List ChannelHistory) (xs ys : List Thread) → AreTold m ks xs ys → sum_by alone_by ys ≡ sum_by alone_by xs
+alone_told : (m : Surroundings) (ks : List ChannelHistory) (xs ys : List Thread) → AreTold m ks xs ys →
+    sum_by alone_by ys ≡ sum_by alone_by xs
 alone_told m ks [] [] h = refl
 alone_told m ks [] (y ∷ ys) h = absurd h
 alone_told m ks (x ∷ xs) [] h = absurd h
@@ -126,7 +130,8 @@ alone_told m ks (x ∷ xs) (y ∷ ys) h =
     let more = alone_told m ks xs ys h.1 in
     omega (arith, a, b, d, more)
 
-entries_same : (cs : List Closed) → sum_by (λ (k : ChannelHistory). length k.entries.items) (map (λ (c : Closed). c.history) cs) ≡ entries_of cs
+entries_same : (cs : List Closed) → sum_by (λ (k : ChannelHistory). length k.entries.items)
+    (map (λ (c : Closed). c.history) cs) ≡ entries_of cs
 entries_same [] = refl
 entries_same (c ∷ cs) =
     let a = sum_by-cons (λ (k : ChannelHistory). length k.entries.items) c.history (map (λ (c : Closed). c.history) cs) in
@@ -139,7 +144,15 @@ entries_same (c ∷ cs) =
 module _ (k : Code) (ts : List TypedTask) (d : AreRunOf k ts) where
   -- the ends of its tasks are those of a run
   pub of_run : AreOfRun (ends_of ts)
-  of_run = record { surroundings = module_of k; type = d.type; main = d.main; threads = d.threads; run = d.run; ends = ends_kept k ts d.threads d.kept }
+  of_run = record {
+    surroundings = module_of k;
+    type = d.type;
+    main = d.main;
+    threads = d.threads;
+    run = d.run;
+    ends =
+        ends_kept k ts d.threads d.kept;
+  }
 
   module _ (cs : List Closed) (shut : AreClosedTo (ends_of ts) cs) where
     over : IsOver (module_of k) d.type d.main d.threads shut.pairs
@@ -148,7 +161,16 @@ module _ (k : Code) (ts : List TypedTask) (d : AreRunOf k ts) where
     -- its tasks can be told what became of their offers
     pub are_tellable : (bs : List Bare) → AreBare ts bs → AreTellable k bs cs
     are_tellable bs bare = record {
-      run = record { type = d.type; code = d.code; main = d.main; threads = d.threads; pairs = shut.pairs; over = over; closed = shut.closed };
+      run = record {
+        type = d.type;
+        code = d.code;
+        main = d.main;
+        threads = d.threads;
+        pairs = shut.pairs;
+        over = over;
+        closed =
+            shut.closed;
+      };
       bare = bare_kept k ts bs d.threads d.kept bare;
     }
 
@@ -163,8 +185,10 @@ pub record AreFinished (k : Code) (ts : List TypedTask) (cs : List Closed) (us :
   pub tell : (d : AreTellable k bare cs) → AreToldTo k (histories_of d.run.pairs) d.run.threads us
 
 -- so it is where the ends were put behind none
-pub finished : (k : Code) (ts : List TypedTask) (ds es : List EndView) (cs ls : List Closed) (bs : List Bare) (us : Tasks) → ds ≡ [] → es ≡ ds ++ ends_of ts → AreBare ts bs →
-    AreClosedTo es cs → IsStrictlySortedBy name_cmp (names_of cs) → ls ≡ cs → ((d : AreTellable k bs ls) → AreToldTo k (histories_of d.run.pairs) d.run.threads us) →
+pub finished : (k : Code) (ts : List TypedTask) (ds es : List EndView) (cs ls : List Closed) (bs : List Bare) (us : Tasks) →
+    ds ≡ [] → es ≡ ds ++ ends_of ts → AreBare ts bs →
+    AreClosedTo es cs → IsStrictlySortedBy name_cmp (names_of cs) → ls ≡ cs →
+    ((d : AreTellable k bs ls) → AreToldTo k (histories_of d.run.pairs) d.run.threads us) →
     AreFinished k ts cs us
 finished k ts ds es cs ls bs us none taken bare shut order same tell = record {
   shut = subst (λ es. AreClosedTo es cs) (taken ∙ ap (λ ds. ds ++ ends_of ts) none) shut;
@@ -175,10 +199,12 @@ finished k ts ds es cs ls bs us none taken bare shut order same tell = record {
 }
 
 -- all events are counted, where none is too many
-pub counted_so : (steps alone all : ℕ) (ts tl : List TypedTask) (cs cl : List Closed) → tl ≡ ts → IsUpTo steps (alone_of tl) alone → cl ≡ cs →
+pub counted_so : (steps alone all : ℕ) (ts tl : List TypedTask) (cs cl : List Closed) → tl ≡ ts →
+    IsUpTo steps (alone_of tl) alone → cl ≡ cs →
     ((n : ℕ) → IsUpTo steps n alone → IsUpTo steps (n + entries_of cl) all) → IsUpTo steps (alone_of ts + entries_of cs) all
 counted_so steps alone all ts tl cs cl same first alike more =
-    subst (λ cs. IsUpTo steps (alone_of ts + entries_of cs) all) alike (more (alone_of ts) (subst (λ ts. IsUpTo steps (alone_of ts) alone) same first))
+    subst (λ cs. IsUpTo steps (alone_of ts + entries_of cs) all) alike
+    (more (alone_of ts) (subst (λ ts. IsUpTo steps (alone_of ts) alone) same first))
 
 module _ (k : Code) (ts : List TypedTask) (cs : List Closed) (us : Tasks) (f : AreFinished k ts cs us) (d : AreRunOf k ts) where
   abbrev ps : List Pair
@@ -214,7 +240,8 @@ module _ (k : Code) (ts : List TypedTask) (cs : List Closed) (us : Tasks) (f : A
   config = config_of told.after hs
 
   goes_on : Resumes m k us hs config
-  goes_on = resumes m d.code.derivations d.code.derived d.type d.main d.threads ps run_over told.after told.told k us hs d.code.from told.tasks moved
+  goes_on = resumes m d.code.derivations d.code.derived d.type d.main d.threads ps run_over told.after told.told k us hs
+      d.code.from told.tasks moved
       (in_order (module_of k) d.type d.main d.threads ps run_over cs f.shut.closed f.order)
 
   pub can_resume : CanResume k us hs
@@ -229,7 +256,8 @@ module _ (k : Code) (ts : List TypedTask) (cs : List Closed) (us : Tasks) (f : A
       omega (arith, a, b, c)
 
   within : ClocksWithin (events_of told.after hs) us
-  within = clocks_in k (events_of told.after hs) us told.after told.tasks (stamps (module_of k) d.main told.after hs d.begins fits).tasks
+  within = clocks_in k (events_of told.after hs) us told.after told.tasks
+      (stamps (module_of k) d.main told.after hs d.begins fits).tasks
 
   module _ (steps n : ℕ) (counted : IsUpTo steps (alone_of ts + entries_of cs) n) where
     -- where they are more than the steps, that is the answer
@@ -248,7 +276,8 @@ module _ (k : Code) (ts : List TypedTask) (cs : List Closed) (us : Tasks) (f : A
       can_run = goes_on.can_run n clocks v kept
 
       -- and what it comes to is the answer
-      pub is_answer : SoundStaysSafe → steps < 2 ^ 32 → (o : Outcome) → IsOutcomeFrom k n steps v o → IsRecordAnswer m d.main steps o
+      pub is_answer : SoundStaysSafe → steps < 2 ^ 32 →
+          (o : Outcome) → IsOutcomeFrom k n steps v o → IsRecordAnswer m d.main steps o
       is_answer stays below o out =
           let so = goes_on.goes in
           let w = goes_on.within n clocks in

@@ -28,9 +28,16 @@ pub record HasTask (ys : List Thread) (p : Path) (t : Task) : Type 0 where
   pub path : thread.path ≡ p
   pub now : thread.now ≡ t
 
-task_or : (y : Thread) (ys : List Thread) (p : Path) (t : Task) → (task_of ys p ≡ Some t → HasTask ys p t) → (b : Bool) → same_path y.path p ≡ b →
+task_or : (y : Thread) (ys : List Thread) (p : Path) (t : Task) → (task_of ys p ≡ Some t → HasTask ys p t) →
+    (b : Bool) → same_path y.path p ≡ b →
     (if b then Some y.now else task_of ys p) ≡ Some t → HasTask (y ∷ ys) p t
-task_or y ys p t more true q e = record { thread = y; there = contains_head ys y y refl; path = same_path-same y.path p q; now = same_Some y.now t e }
+task_or y ys p t more true q e = record {
+  thread = y;
+  there = contains_head ys y y refl;
+  path = same_path-same y.path p q;
+  now =
+      same_Some y.now t e;
+}
 task_or y ys p t more false q e =
     let r = more e in
     record { thread = r.thread; there = contains_tail ys r.thread y r.there; path = r.path; now = r.now }
@@ -43,9 +50,11 @@ has_task (y ∷ ys) p t e = task_or y ys p t (has_task ys p t) (same_path y.path
 there_or : (z y : Thread) (ys : List Thread) → sum_by (on_path y.path) (z ∷ ys) ≤ 1 → (z ≡ y) ⊎ Contains ys y →
     (Contains ys y → task_of ys y.path ≡ Some y.now) → task_of (z ∷ ys) y.path ≡ Some y.now
 there_or z y ys le (inl i) more =
-    ap (λ (b : Bool). if b then Some z.now else task_of ys y.path) (ap (λ (t : Thread). same_path t.path y.path) i ∙ same_path-itself y.path)
+    ap (λ (b : Bool). if b then Some z.now else task_of ys y.path)
+    (ap (λ (t : Thread). same_path t.path y.path) i ∙ same_path-itself y.path)
     ∙ ap (λ (t : Thread). Some t.now) i
-there_or z y ys le (inr c) more = ap (λ (b : Bool). if b then Some z.now else task_of ys y.path) (apart (same_path z.path y.path) refl) ∙ more c
+there_or z y ys le (inr c) more = ap (λ (b : Bool). if b then Some z.now else task_of ys y.path)
+    (apart (same_path z.path y.path) refl) ∙ more c
   where
     apart : (b : Bool) → same_path z.path y.path ≡ b → b ≡ false
     apart false r = refl
@@ -60,7 +69,8 @@ there_or z y ys le (inr c) more = ap (λ (b : Bool). if b then Some z.now else t
 pub task_there : (ys : List Thread) (y : Thread) → Contains ys y → sum_by (on_path y.path) ys ≤ 1 → task_of ys y.path ≡ Some y.now
 task_there [] y c le = absurd (contains_none y c)
 task_there (z ∷ ys) y c le =
-    there_or z y ys le (from_contains ys y z c) (λ i. task_there ys y i (let a = sum_by-cons (on_path y.path) z ys in omega (arith, a, le)))
+    there_or z y ys le (from_contains ys y z c) (λ i. task_there ys y i
+    (let a = sum_by-cons (on_path y.path) z ys in omega (arith, a, le)))
 
 -- ---- channels
 
@@ -79,12 +89,20 @@ pub record HasChannel (ks : List ChannelHistory) (h : ChannelName) (j : Channel)
   pub name : history.name ≡ h
   pub is : channel_of history ≡ j
 
-named_is : (k : ChannelHistory) (ks : List ChannelHistory) (h : ChannelName) (j : Channel) (b : Bool) → same_channel k.name h ≡ b →
+named_is : (k : ChannelHistory) (ks : List ChannelHistory) (h : ChannelName) (j : Channel) (b : Bool) →
+    same_channel k.name h ≡ b →
     (if b then Some (channel_of k) else None) ≡ Some j → HasChannel (k ∷ ks) h j
-named_is k ks h j true q e = record { history = k; there = contains_head ks k k refl; name = same_channel-same k.name h q; is = same_Some (channel_of k) j e }
+named_is k ks h j true q e = record {
+  history = k;
+  there = contains_head ks k k refl;
+  name = same_channel-same k.name h q;
+  is =
+      same_Some (channel_of k) j e;
+}
 named_is k ks h j false q e = absurd (none-some j e)
 
-channel_or : (k : ChannelHistory) (ks : List ChannelHistory) (h : ChannelName) (j : Channel) → (channel_in ks h ≡ Some j → HasChannel ks h j) →
+channel_or : (k : ChannelHistory) (ks : List ChannelHistory) (h : ChannelName) (j : Channel) →
+    (channel_in ks h ≡ Some j → HasChannel ks h j) →
     (o : Option Channel) → channel_in ks h ≡ o → over o (named_so k h) ≡ Some j → HasChannel (k ∷ ks) h j
 channel_or k ks h j more None q e = named_is k ks h j (same_channel k.name h) refl e
 channel_or k ks h j more (Some x) q e =
@@ -109,18 +127,22 @@ no_channel (k ∷ ks) h z =
     let a = sum_by-cons (on_name h) k ks in
     ap (λ o. over o (named_so k h)) (no_channel ks h (omega (arith, a, z))) ∙ not_named k h (omega (arith, a, z))
 
-channel_here : (j k : ChannelHistory) (ks : List ChannelHistory) → sum_by (on_name k.name) (j ∷ ks) ≤ 1 → (j ≡ k) ⊎ Contains ks k →
+channel_here : (j k : ChannelHistory) (ks : List ChannelHistory) → sum_by (on_name k.name) (j ∷ ks) ≤ 1 →
+    (j ≡ k) ⊎ Contains ks k →
     (Contains ks k → channel_in ks k.name ≡ Some (channel_of k)) → channel_in (j ∷ ks) k.name ≡ Some (channel_of k)
 channel_here j k ks le (inl i) more =
     let a = sum_by-cons (on_name k.name) j ks in
     let b = channel_counts k.name j.name (ap (λ (l : ChannelHistory). l.name) (sym i)) in
     ap (λ o. over o (named_so j k.name)) (no_channel ks k.name (omega (arith, a, b, le)))
-    ∙ ap (λ (b : Bool). if b then Some (channel_of j) else None) (ap (λ (l : ChannelHistory). same_channel l.name k.name) i ∙ same_channel-itself k.name)
+    ∙ ap (λ (b : Bool). if b then Some (channel_of j) else None)
+    (ap (λ (l : ChannelHistory). same_channel l.name k.name) i ∙ same_channel-itself k.name)
     ∙ ap (λ (l : ChannelHistory). Some (channel_of l)) i
 channel_here j k ks le (inr c) more = ap (λ o. over o (named_so j k.name)) (more c)
 
 -- the channel of a history is found where no other has its name
-pub channel_there : (ks : List ChannelHistory) (k : ChannelHistory) → Contains ks k → sum_by (on_name k.name) ks ≤ 1 → channel_in ks k.name ≡ Some (channel_of k)
+pub channel_there : (ks : List ChannelHistory) (k : ChannelHistory) → Contains ks k → sum_by (on_name k.name) ks ≤ 1 →
+    channel_in ks k.name ≡ Some (channel_of k)
 channel_there [] k c le = absurd (contains_none k c)
 channel_there (j ∷ ks) k c le =
-    channel_here j k ks le (from_contains ks k j c) (λ i. channel_there ks k i (let a = sum_by-cons (on_name k.name) j ks in omega (arith, a, le)))
+    channel_here j k ks le (from_contains ks k j c)
+    (λ i. channel_there ks k i (let a = sum_by-cons (on_name k.name) j ks in omega (arith, a, le)))

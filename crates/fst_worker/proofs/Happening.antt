@@ -34,7 +34,8 @@ not_both_ask : {a : Option Request} (x y : EndName) (ev : Event) → a ≡ Some 
 not_both_ask x y ev e f = absurd (cc (sym e ∙ f))
 
 -- an event that the residual allows to send is sent
-allowed_sends : (c : Config) (x : EndName) (ev : Event) (k : Channel) → c.channels x.channel ≡ Some k → IsAllowed (residual_in c) (Put x ev) → side_sends k ev x.side ≡ true
+allowed_sends : (c : Config) (x : EndName) (ev : Event) (k : Channel) → c.channels x.channel ≡ Some k →
+    IsAllowed (residual_in c) (Put x ev) → side_sends k ev x.side ≡ true
 unfolding sends
 allowed_sends c x ev k there r =
     let o : channel_residual x.side k ≡ Some r.0 = sym (ap (option_and_then (channel_residual x.side)) there) ∙ r.2 in
@@ -55,7 +56,8 @@ module _ (m : Surroundings) (main : Birth) (ys : List Thread) (ks : List Channel
       subst Next (sym (local_puts (program_in m) m.types here p w d))
       (local_extends m main ys ks fits p d.task d.state (is_at p ys d.task d.asks.0) d.asks.1 d.leads)
 
-  happens_new : (p : Path) (w : Write) → Does (program_in m) m.types here (New p) w → IsFine m (written here w) → Next (written here w)
+  happens_new : (p : Path) (w : Write) → Does (program_in m) m.types here (New p) w → IsFine m (written here w) →
+      Next (written here w)
   happens_new p w d fine =
       let is = new_puts (program_in m) m.types here p w d in
       let h = channel_name p d.task.made in
@@ -74,14 +76,17 @@ module _ (m : Surroundings) (main : Birth) (ys : List Thread) (ks : List Channel
   clock_within : (p : Path) (t : Task) → task_of ys p ≡ Some t → t.clock < 2 ^ 63
   clock_within p t e =
       let a = is_at p ys t e in
-      let b = (one_swapped (IsWithin (events_of ys ks)) ys (a.with a.thread) a.thread a.thread (a.swaps a.thread) within.tasks).clock in
+      let b = (one_swapped (IsWithin (events_of ys ks)) ys (a.with a.thread) a.thread a.thread
+      (a.swaps a.thread) within.tasks).clock in
       let c = ap (λ (u : Task). u.clock) a.now in
       omega (arith, b, c, few)
 
   entries_within : (h : ChannelName) (k : Channel) (c : IsChannelAt h ks k) → length c.channel.entries.items + 1 < 2 ^ 63
-  entries_within h k c = let a = le_swapped entries_of ks (c.with c.channel) c.channel c.channel (c.swaps c.channel) in omega (arith, a, few)
+  entries_within h k c = let a = le_swapped entries_of ks (c.with c.channel) c.channel c.channel (c.swaps c.channel) in
+      omega (arith, a, few)
 
-  happens_meet : (p q : Path) (h : ChannelName) (w : Write) → Does (program_in m) m.types here (Meet p q h) w → IsRight (program_in m) here →
+  happens_meet : (p q : Path) (h : ChannelName) (w : Write) → Does (program_in m) m.types here (Meet p q h) w →
+      IsRight (program_in m) here →
       IsFine m (written here w) → Next (written here w)
   happens_meet p q h w d right fine =
       let t = d.sender in
@@ -100,24 +105,29 @@ module _ (m : Surroundings) (main : Birth) (ys : List Thread) (ks : List Channel
       let now = put_now m main ys ks fits p q t u x ev d.sent d.got k c a d.puts.1 d.sender_leads in
       let n = meet_stamp m main ys ks fits p q t u x ev d.sent d.got k c in
       let second : task_of (put_ones m main ys ks fits p q t u x ev d.sent d.got k c a d.puts.1 d.sender_leads) q ≡ Some u =
-      ones_tasks m ys fits.logs p t a (Put x ev) _ n (has_met t d.sent n) now q ∙ ap (λ b. put b (has_met t d.sent n) (task_of ys q)) apart ∙ d.gets.0 in
+      ones_tasks m ys fits.logs p t a (Put x ev) _ n (has_met t d.sent n) now q ∙ ap
+      (λ b. put b (has_met t d.sent n) (task_of ys q)) apart ∙ d.gets.0 in
       let asks = right.asks p t d.puts.0 in
       let allowed = subst (IsAllowed (residual_in here)) (same_Some asks.0 (Put x ev) (sym asks.1 ∙ d.puts.1)) asks.2 in
       let sends_it = allowed_sends here x ev k there allowed in
       let after = (subst (IsFine m) is fine).right.traces h (extended k (passed ev t u k))
       (ap (λ b. put b (extended k (passed ev t u k)) (channel_in ks h)) (same_channel-itself h)) in
       let config = λ (g : ChannelName) (j : Channel). with_task
-      (with_task (with_channel here g (extended j (passed ev t u j))) p (has_met t d.sent (meeting_stamp t u j))) q (has_met u d.got (meeting_stamp t u j)) in
+      (with_task (with_channel here g (extended j (passed ev t u j))) p (has_met t d.sent (meeting_stamp t u j))) q
+      (has_met u d.got (meeting_stamp t u j)) in
       subst Next (sym is)
       (subst Next (λ i. config (d.named i) (c.is i))
       (meet_extends m main ys ks fits p q t u x ev d.sent d.got k c a d.puts.1 d.sender_leads
-      (is_at q (put_ones m main ys ks fits p q t u x ev d.sent d.got k c a d.puts.1 d.sender_leads) u second) d.gets.1 d.receiver_leads
+      (is_at q (put_ones m main ys ks fits p q t u x ev d.sent d.got k c a d.puts.1 d.sender_leads) u second) d.gets.1
+      d.receiver_leads
       (ap (λ (j : Channel). side_sends j ev x.side) c.is ∙ sends_it)
-      (subst (λ (j : Channel). IsSome (after_history j.declared (j.history ++ passed ev t u j ∷ []))) (sym c.is) (ap is_some after.1))
+      (subst (λ (j : Channel). IsSome (after_history j.declared (j.history ++ passed ev t u j ∷ []))) (sym c.is)
+      (ap is_some after.1))
       (clock_within p t d.puts.0) (clock_within q u d.gets.0) (entries_within x.channel k c)))
 
   -- whatever happens
-  pub happens : (e : CoreEvent) (w : Write) → IsRight (program_in m) here → Does (program_in m) m.types here e w → IsFine m (written here w) → Next (written here w)
+  pub happens : (e : CoreEvent) (w : Write) → IsRight (program_in m) here → Does (program_in m) m.types here e w →
+      IsFine m (written here w) → Next (written here w)
   happens (Local p) w right d fine = happens_local p w d
   happens (New p) w right d fine = happens_new p w d fine
   happens (Fork p) w right d fine = happens_fork p w d

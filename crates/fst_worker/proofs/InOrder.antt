@@ -49,7 +49,8 @@ IsFrom h e = IsUpTo h e.channel
 pub in_order : (es : List EndView) → IsSorted channel_cmp es → AreInOrder es
 in_order es sorted i j d l m =
     up_to (get_or es i d).channel (get_or es j d).channel
-    (sorted_far (λ x y. is_lt (channel_cmp x y)) (ranks_by name_total (λ (e : EndView). e.channel)) es sorted i j d (omega arith) m)
+    (sorted_far (λ x y. is_lt (channel_cmp x y)) (ranks_by name_total (λ (e : EndView). e.channel)) es sorted i j d
+    (omega arith) m)
 
 -- no channel of the others comes before that of the first one
 first_up : (e : EndView) (es : List EndView) → AreInOrder (e ∷ es) → All (IsFrom e.channel) es
@@ -91,7 +92,8 @@ side_or Right Right = inl refl
 name_or : (e f : EndView) → f.channel ≡ e.channel → (end_name f ≡ end_name e) ⊎ (end_name f ≡ other (end_name e))
 name_or e f c = by (side_or f.knows.side e.knows.side)
   where
-    by : (f.knows.side ≡ e.knows.side) ⊎ (f.knows.side ≡ opposite e.knows.side) → (end_name f ≡ end_name e) ⊎ (end_name f ≡ other (end_name e))
+    by : (f.knows.side ≡ e.knows.side) ⊎ (f.knows.side ≡ opposite e.knows.side) → (end_name f ≡ end_name e) ⊎
+        (end_name f ≡ other (end_name e))
     by (inl s) = inl (λ i. record { channel = c i; side = s i })
     by (inr s) = inr (λ i. record { channel = c i; side = s i })
 
@@ -120,7 +122,8 @@ at_first es sorted = record {
   below = All-nil (AreAbove es);
 }
 
-module _ (es : List EndView) (cs : List Closed) (e : EndView) (more : List EndView) (all : AreOfRun es) (k : AreClosedSoFar es cs (e ∷ more)) where
+module _ (es : List EndView) (cs : List Closed) (e : EndView) (more : List EndView) (all : AreOfRun es)
+    (k : AreClosedSoFar es cs (e ∷ more)) where
   pooled : Pooled all.threads k.pairs (e ∷ more)
   pooled w = all.ends w ∙ k.ends w
 
@@ -147,7 +150,8 @@ module _ (es : List EndView) (cs : List Closed) (e : EndView) (more : List EndVi
       let c = sum_by-cons (counted z) e more in
       omega (arith, a, b, c)
 
-module _ (es : List EndView) (cs : List Closed) (e f : EndView) (rest : List EndView) (all : AreOfRun es) (k : AreClosedSoFar es cs (e ∷ (f ∷ rest))) where
+module _ (es : List EndView) (cs : List Closed) (e f : EndView) (rest : List EndView) (all : AreOfRun es)
+    (k : AreClosedSoFar es cs (e ∷ (f ∷ rest))) where
   -- no name stands twice among these
   once_of : (z : EndName) → counted z e + (counted z f + count_of z rest) ≤ 1
   once_of z = let a = at_most_once es cs e (f ∷ rest) all k z in let b = sum_by-cons (counted z) f rest in omega (arith, a, b)
@@ -229,7 +233,8 @@ module _ (es : List EndView) (cs : List Closed) (e f : EndView) (rest : List End
         let j = s.ends w in
         omega (arith, a, b, d, g, h, j);
     shut = All-push IsShut k.pairs s.pair k.shut s.shut;
-    closed = map-append (λ (p : Pair). p.closed) k.pairs (s.pair ∷ []) ∙ ap (λ xs. xs ++ s.pair.closed ∷ []) k.closed ∙ ap (λ x. cs ++ x ∷ []) s.closed;
+    closed = map-append (λ (p : Pair). p.closed) k.pairs (s.pair ∷ []) ∙ ap (λ xs. xs ++ s.pair.closed ∷ []) k.closed ∙ ap
+        (λ x. cs ++ x ∷ []) s.closed;
     order = others_order f rest (others_order e (f ∷ rest) k.order);
     rising = subst (IsStrictlySortedBy name_cmp) (sym names) (rising_more (names_of cs) c.history.name k.rising before_this);
     below = subst (All (AreAbove rest)) (sym names)

@@ -68,10 +68,17 @@ abbrev put_part : ChannelName → Side → Entry → Exchange
 put_part h s d = record { end = record { channel = h; side = s }; sends = true; event = d.event; stamp = d.stamp; clock = d.sent }
 
 abbrev get_part : ChannelName → Side → Entry → Exchange
-get_part h s d = record { end = record { channel = h; side = opposite s }; sends = false; event = d.event; stamp = d.stamp; clock = d.got }
+get_part h s d = record {
+  end = record { channel = h; side = opposite s };
+  sends = false;
+  event = d.event;
+  stamp = d.stamp;
+  clock = d.got;
+}
 
 both_parts : (w : Exchange → ℕ) (h : ChannelName) (s : Side) (f : Side → Bool) (d : Entry) → f s ≡ true → f (opposite s) ≡ false →
-    w (part_in (record { channel = h; side = Left }) (f Left) d) + w (part_in (record { channel = h; side = Right }) (f Right) d) ≡ w (put_part h s d) + w (get_part h s d)
+    w (part_in (record { channel = h; side = Left }) (f Left) d) + w
+    (part_in (record { channel = h; side = Right }) (f Right) d) ≡ w (put_part h s d) + w (get_part h s d)
 both_parts w h Left f d y n =
     let a = ap (λ b. w (part_in (record { channel = h; side = Left }) b d)) y in
     let c = ap (λ b. w (part_in (record { channel = h; side = Right }) b d)) n in
@@ -86,7 +93,8 @@ other_side f e Left y = not_true (f Right) (sym y ∙ e)
 other_side f e Right y = e ∙ ap not y
 
 -- the other side doesn't send what the one sends, where the history goes on with that
-one_side : (k : Channel) (d : Entry) → IsSome (after_history k.declared (k.history ++ d ∷ [])) → (s : Side) → side_sends k d.event s ≡ true →
+one_side : (k : Channel) (d : Entry) → IsSome (after_history k.declared (k.history ++ d ∷ [])) →
+    (s : Side) → side_sends k d.event s ≡ true →
     side_sends k d.event (opposite s) ≡ false
 unfolding residual
 one_side k d h s y =
@@ -104,7 +112,8 @@ module _ (m : Surroundings) (main : Birth) (ys : List Thread) (ks : List Channel
   abbrev pub meet_entry : Entry
   meet_entry = passed ev t u (channel_of c.channel)
 
-  module _ (a : IsAt p ys t) (puts_it : request m.families t.state ≡ Some (Put x ev)) (sent : answered (program_in m) t.state Sent ≡ Some s) where
+  module _ (a : IsAt p ys t) (puts_it : request m.families t.state ≡ Some (Put x ev))
+      (sent : answered (program_in m) t.state Sent ≡ Some s) where
     -- the threads once the one task was told that it was sent
     abbrev pub put_ones : List Thread
     put_ones = ones m ys fits.logs p t a (Put x ev) Sent meet_stamp
@@ -125,7 +134,8 @@ module _ (m : Surroundings) (main : Birth) (ys : List Thread) (ks : List Channel
       leads = ap (λ (o : Task). answered (program_in m) o.state Sent) a.now ∙ sent;
     })
 
-    module _ (b : IsAt q put_ones u) (gets_it : request m.families u.state ≡ Some (Get (other x))) (got : answered (program_in m) u.state (Got ev) ≡ Some v)
+    module _ (b : IsAt q put_ones u) (gets_it : request m.families u.state ≡ Some (Get (other x)))
+        (got : answered (program_in m) u.state (Got ev) ≡ Some v)
         (sends_it : side_sends (channel_of c.channel) ev x.side ≡ true)
         (trace : IsSome (after_history c.channel.declared (c.channel.entries.items ++ meet_entry ∷ [])))
         (early : t.clock < 2 ^ 63) (soon : u.clock < 2 ^ 63) (few : length c.channel.entries.items + 1 < 2 ^ 63) where
@@ -158,7 +168,8 @@ module _ (m : Surroundings) (main : Birth) (ys : List Thread) (ks : List Channel
         stamped = stamped_push c.channel.entries.items meet_entry was_recorded.stamped (omega arith) early soon;
       }
 
-      met_shows : (w : Exchange → ℕ) → shows w met_channel ≡ shows w c.channel + (w (put_part x.channel x.side meet_entry) + w (get_part x.channel x.side meet_entry))
+      met_shows : (w : Exchange → ℕ) → shows w met_channel ≡ shows w c.channel
+          + (w (put_part x.channel x.side meet_entry) + w (get_part x.channel x.side meet_entry))
       met_shows w =
           let d = shows_push w c.channel meet_entry few in
           let e = both_parts w c.channel.name x.side (side_sends (channel_of c.channel) ev) meet_entry sends_it
@@ -186,7 +197,8 @@ module _ (m : Surroundings) (main : Birth) (ys : List Thread) (ks : List Channel
           leads = ap (λ (o : Task). answered (program_in m) o.state (Got ev)) b.now ∙ got;
         });
         channels = λ w.
-            let d = sum_swapped (λ (k : ChannelHistory). w k.name k.declared) ks met_channels c.channel met_channel (c.swaps met_channel) in
+            let d = sum_swapped (λ (k : ChannelHistory). w k.name k.declared) ks met_channels c.channel met_channel
+            (c.swaps met_channel) in
             omega (arith, d);
         opens = λ w.
             let d = ones_open m ys fits.logs p t a (Put x ev) Sent meet_stamp w in
@@ -199,15 +211,25 @@ module _ (m : Surroundings) (main : Birth) (ys : List Thread) (ks : List Channel
         trades = λ w.
             let d = ones_trade m ys fits.logs p t a (Put x ev) Sent meet_stamp w in
             let e = ones_trade m put_ones put_logged q u b (Get (other x)) (Got ev) meet_stamp w in
-            let f = ap (λ (o : Task). w (record { end = x; sends = true; event = ev; stamp = meet_stamp; clock = o.clock })) a.now in
-            let g = ap (λ (o : Task). w (record { end = other x; sends = false; event = ev; stamp = meet_stamp; clock = o.clock })) b.now in
+            let f = ap (λ (o : Task). w (record { end = x; sends = true; event = ev; stamp = meet_stamp; clock = o.clock }))
+            a.now in
+            let g = ap (λ (o : Task). w (record {
+              end = other x;
+              sends = false;
+              event = ev;
+              stamp = meet_stamp;
+              clock =
+                  o.clock;
+            })) b.now in
             omega (arith, d, e, f, g);
-        histories = all_swapped IsRecorded ks met_channels c.channel met_channel (c.swaps met_channel) fits.histories met_recorded;
+        histories = all_swapped IsRecorded ks met_channels c.channel met_channel
+            (c.swaps met_channel) fits.histories met_recorded;
       }
 
       -- the record with one more event
       pub meet_extends : IsRecordOf m main
-          (with_task (with_task (with_channel (config_of ys ks) x.channel (extended (channel_of c.channel) meet_entry)) p (has_met t s meet_stamp)) q (has_met u v meet_stamp))
+          (with_task (with_task (with_channel (config_of ys ks) x.channel (extended (channel_of c.channel) meet_entry)) p
+          (has_met t s meet_stamp)) q (has_met u v meet_stamp))
           (suc (events_of ys ks))
       meet_extends = record {
         threads = get_ones;

@@ -22,7 +22,8 @@ use Rattle.fst_worker.specs.Closing.{name_cmp}
 
 -- names are in a total order
 pub name_total : IsTotalOrder name_cmp
-name_total = then_total (on_total (λ (h : ChannelName). h.maker) nat_list_cmp_total) (on_total (λ (h : ChannelName). h.count) nat_cmp_total)
+name_total = then_total (on_total (λ (h : ChannelName). h.maker) nat_list_cmp_total)
+    (on_total (λ (h : ChannelName). h.count) nat_cmp_total)
 
 both_equal : (a b : Ordering) → ordering_then a b ≡ Equal → (a ≡ Equal) × (b ≡ Equal)
 both_equal Less b e = absurd (cc e)
@@ -47,7 +48,8 @@ apart_greater g h e l = let a = subst (λ x. name_cmp x h ≡ Greater) e l in ab
 -- of two names with one maker, the one that is below the other has the smaller count
 pub counts_rise : (g h : ChannelName) → name_cmp g h ≡ Less → g.maker ≡ h.maker → g.count < h.count
 counts_rise g h l e =
-    let tied : slice_cmp nat_cmp g.maker h.maker ≡ Equal = subst (λ p. slice_cmp nat_cmp g.maker p ≡ Equal) e (tied_itself nat_list_cmp_total g.maker) in
+    let tied : slice_cmp nat_cmp g.maker h.maker ≡ Equal = subst
+    (λ p. slice_cmp nat_cmp g.maker p ≡ Equal) e (tied_itself nat_list_cmp_total g.maker) in
     ranked g.count h.count Less (sym l ∙ ap (λ o. ordering_then o (nat_cmp g.count h.count)) tied)
 
 -- the one name is below the other, or they are one
@@ -76,7 +78,8 @@ rising_more (h ∷ hs) g rise all =
     below : name_cmp h g ≡ Less
     below = All-head (λ (x : ChannelName). name_cmp x g ≡ Less) h hs all
 
-    more : (xs : List ChannelName) → AllByRecursion (λ y. name_cmp h y ≡ Less) xs → AllByRecursion (λ y. name_cmp h y ≡ Less) (xs ++ g ∷ [])
+    more : (xs : List ChannelName) → AllByRecursion (λ y. name_cmp h y ≡ Less) xs → AllByRecursion
+        (λ y. name_cmp h y ≡ Less) (xs ++ g ∷ [])
     more [] r = (below, tt)
     more (x ∷ xs) r = (r.0, more xs r.1)
 
@@ -86,5 +89,6 @@ pub sorted_by_name : {X : Type 0} (name : X → ChannelName) (xs : List X) → I
 sorted_by_name name xs rise k d low high =
     let l = length-map xs name in
     let a = Less-from_sorted name_cmp (map name xs) k (k + 1) (name d) rise (omega arith) (omega (arith, l)) in
-    let b : name_cmp (name (get_or xs k d)) (name (get_or xs (k + 1) d)) ≡ Less = rw (sym (get_or-map name xs k d), sym (get_or-map name xs (k + 1) d)) a in
+    let b : name_cmp (name (get_or xs k d)) (name (get_or xs (k + 1) d)) ≡ Less =
+    rw (sym (get_or-map name xs k d), sym (get_or-map name xs (k + 1) d)) a in
     ap is_lt (name_total.antisymm (name (get_or xs (k + 1) d)) (name (get_or xs k d)) ∙ ap ordering_reverse b)

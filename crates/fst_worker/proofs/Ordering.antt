@@ -50,7 +50,8 @@ all_before : (k : ChannelHistory) (cs : List Closed) → AllByRecursion (λ h. n
     All (IsBefore k) (map (λ (c : Closed). c.history) cs)
 all_before k [] s = All-nil (IsBefore k)
 all_before k (c ∷ cs) s =
-    All-cons (IsBefore k) c.history (map (λ (c : Closed). c.history) cs) (counts_rise k.name c.history.name s.0) (all_before k cs s.1)
+    All-cons (IsBefore k) c.history (map (λ (c : Closed). c.history) cs) (counts_rise k.name c.history.name s.0)
+    (all_before k cs s.1)
 
 rise : (cs : List Closed) → IsStrictlySortedBy name_cmp (names_of cs) → Rise (map (λ (c : Closed). c.history) cs)
 unfolding IsStrictlySortedBy
@@ -128,7 +129,10 @@ module _ (f t : Path → ℕ) (k : ChannelHistory) (ks : List ChannelHistory) (n
 -- so they have the next numbers
 numbered : (f t : Path → ℕ) (ks : List ChannelHistory) → AreNext f t ks → AreNumbered f ks
 numbered f t [] n = tt
-numbered f t (k ∷ ks) n = (first_is f t k ks n, numbered (put_at k.name.maker (suc (f k.name.maker)) f) t ks (rest_next f t k ks n))
+numbered f t (k ∷ ks) n = (
+  first_is f t k ks n,
+  numbered (put_at k.name.maker (suc (f k.name.maker)) f) t ks (rest_next f t k ks n),
+)
 
 module _ (m : Surroundings) (a : Tree) (main : Birth) (xs : List Thread) (ps : List Pair) (over : IsOver m a main xs ps) where
   -- the histories of the closed channels
@@ -150,7 +154,8 @@ module _ (m : Surroundings) (a : Tree) (main : Birth) (xs : List Thread) (ps : L
       let d = channel_counts k.name k.name refl in
       let q = are_opened m a main xs ps over (λ h t. once (same_channel k.name h)) in
       let y = some_in (opens m (λ h t. once (same_channel k.name h))) xs (omega (arith, b, d, q)) in
-      let o = opened_in (program_in m) m.types k.name y.0.path y.0.first y.0.log y.0.now (All-contains (IsLed m) xs y.0 led y.1) y.2 in
+      let o = opened_in (program_in m) m.types k.name y.0.path y.0.first y.0.log y.0.now
+      (All-contains (IsLed m) xs y.0 led y.1) y.2 in
       let e = made y.0 y.1 in
       let g = ap (λ p. made_by p ks) o.maker in
       let l = o.last in

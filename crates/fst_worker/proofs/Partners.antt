@@ -45,10 +45,13 @@ all_ends w (x ∷ xs) =
     let ih = all_ends w xs in
     omega (arith, a, b, c, ih)
 
-bag_or : (y x : Thread) (ys : List Thread) (e : EndView) → Contains x.bag e → (y ≡ x) ⊎ Contains ys x → (Contains ys x → Contains (ends_of ys) e) →
+bag_or : (y x : Thread) (ys : List Thread) (e : EndView) → Contains x.bag e → (y ≡ x) ⊎ Contains ys x →
+    (Contains ys x → Contains (ends_of ys) e) →
     Contains (ends_of (y ∷ ys)) e
-bag_or y x ys e b (inl i) more = Contains-append_left y.bag (y.retired ++ ends_of ys) e (subst (λ (t : Thread). Contains t.bag e) (sym i) b)
-bag_or y x ys e b (inr c) more = Contains-append_right y.bag (y.retired ++ ends_of ys) e (Contains-append_right y.retired (ends_of ys) e (more c))
+bag_or y x ys e b (inl i) more = Contains-append_left y.bag (y.retired ++ ends_of ys) e
+    (subst (λ (t : Thread). Contains t.bag e) (sym i) b)
+bag_or y x ys e b (inr c) more = Contains-append_right y.bag (y.retired ++ ends_of ys) e
+    (Contains-append_right y.retired (ends_of ys) e (more c))
 
 of_bag : (xs : List Thread) (x : Thread) (e : EndView) → Contains xs x → Contains x.bag e → Contains (ends_of xs) e
 of_bag [] x e c b = absurd (contains_none x c)
@@ -61,7 +64,8 @@ record Found (z : EndName) (es : List EndView) : Type 0 where
   named : end_name end ≡ z
   ends : (w : EndView → ℕ) → sum_by w es ≡ w end + sum_by w rest
 
-found_or : (z : EndName) (e : EndView) (es : List EndView) → 0 < sum_by (counted z) (e ∷ es) → (0 < sum_by (counted z) es → Found z es) →
+found_or : (z : EndName) (e : EndView) (es : List EndView) → 0 < sum_by (counted z) (e ∷ es) →
+    (0 < sum_by (counted z) es → Found z es) →
     ((z ≡ end_name e) × (counted z e ≡ 1)) ⊎ (counted z e ≡ 0) → Found z (e ∷ es)
 found_or z e es n more (inl q) = record { end = e; rest = es; named = sym q.0; ends = λ w. sum_by-cons w e es }
 found_or z e es n more (inr q) =
@@ -91,7 +95,8 @@ split_or f e es (inr c) more =
     (e ∷ r.0, λ w. let a = sum_by-cons w e es in let b = sum_by-cons w e r.0 in let d = r.1 w in omega (arith, a, b, d))
 
 -- some ends are one of them and others
-pub split_of : (f : EndView) (es : List EndView) → Contains es f → (rest : List EndView) × ((w : EndView → ℕ) → sum_by w es ≡ w f + sum_by w rest)
+pub split_of : (f : EndView) (es : List EndView) → Contains es f → (rest : List EndView) ×
+    ((w : EndView → ℕ) → sum_by w es ≡ w f + sum_by w rest)
 split_of f [] c = absurd (contains_none f c)
 split_of f (e ∷ es) c = split_or f e es (from_contains es f e c) (split_of f es)
 
@@ -103,7 +108,8 @@ in_bag xs x e c b = at_once (of_bag xs x e c b)
     at_once c = let s = split_of e (ends_of xs) c in record { rest = s.0; ends = λ w. all_ends w xs ∙ s.1 w }
 
 -- an end that counts is there
-pub there : (z : EndName) (xs : List Thread) → 0 < sum_by (of_ends (counted z)) xs → (e : EndView) × HasEnd xs e × (end_name e ≡ z)
+pub there : (z : EndName) (xs : List Thread) → 0 < sum_by (of_ends (counted z)) xs → (e : EndView) × HasEnd xs e ×
+    (end_name e ≡ z)
 there z xs n =
     let a = all_ends (counted z) xs in
     let r = found z (ends_of xs) (omega (arith, n, a)) in
@@ -121,7 +127,8 @@ none_times f v (e ∷ es) z =
     omega (arith, b, g, ih)
 
 -- the one end of a name, however it is weighed
-pub only : (z : EndName) (xs : List Thread) (e : EndView) → end_name e ≡ z → HasEnd xs e → sum_by (of_ends (counted z)) xs ≤ 1 → (v : EndView → ℕ) →
+pub only : (z : EndName) (xs : List Thread) (e : EndView) → end_name e ≡ z → HasEnd xs e → sum_by (of_ends (counted z)) xs ≤ 1 →
+    (v : EndView → ℕ) →
     sum_by (of_ends (λ (f : EndView). counted z f * v f)) xs ≡ v e
 only z xs e is h le v =
     let a = h.ends (counted z) in
@@ -132,7 +139,8 @@ only z xs e is h le v =
     omega (arith, c, d, g)
 
 same_ends : (f g : EndView → ℕ) → ((e : EndView) → f e ≡ g e) → (xs : List Thread) → sum_by (of_ends f) xs ≡ sum_by (of_ends g) xs
-same_ends f g h xs = sum_same (of_ends f) (of_ends g) (λ x. let a = sum_same f g h x.bag in let b = sum_same f g h x.retired in omega (arith, a, b)) xs
+same_ends f g h xs = sum_same (of_ends f) (of_ends g)
+    (λ x. let a = sum_same f g h x.bag in let b = sum_same f g h x.retired in omega (arith, a, b)) xs
 
 -- ---- pairs
 
@@ -141,22 +149,27 @@ module _ (m : Surroundings) (a : Tree) (main : Birth) (xs : List Thread) (run : 
   abbrev at_most : (z : EndName) → sum_by (of_ends (counted z)) xs ≤ 1
   at_most = ends_once m a main xs run
 
-  both_typed : (s : Side) (w : ChannelName → Tree → ℕ) → sum_by (of_ends (by_type s w)) xs ≡ sum_by (of_ends (by_type (opposite s) w)) xs
+  both_typed : (s : Side) (w : ChannelName → Tree → ℕ) →
+      sum_by (of_ends (by_type s w)) xs ≡ sum_by (of_ends (by_type (opposite s) w)) xs
   both_typed s w = run.whole.typed s w ∙ sym (run.whole.typed (opposite s) w)
 
-  both_cells : (s : Side) (w : ChannelName → TableId → ℕ) → sum_by (of_ends (by_cell s w)) xs ≡ sum_by (of_ends (by_cell (opposite s) w)) xs
+  both_cells : (s : Side) (w : ChannelName → TableId → ℕ) →
+      sum_by (of_ends (by_cell s w)) xs ≡ sum_by (of_ends (by_cell (opposite s) w)) xs
   both_cells Left w = run.whole.cells w
   both_cells Right w = sym (run.whole.cells w)
 
   -- what a side's ends of a channel weigh by their types, and by their cells
   typed_of : (z : EndName) (g : Tree → ℕ) → sum_by (of_ends (by_type z.side (λ n t. once (same_channel z.channel n) * g t))) xs ≡
       sum_by (of_ends (λ (f : EndView). counted z f * g f.knows.declared)) xs
-  typed_of z g = same_ends (by_type z.side (λ n t. once (same_channel z.channel n) * g t)) (λ (f : EndView). counted z f * g f.knows.declared)
+  typed_of z g = same_ends (by_type z.side (λ n t. once (same_channel z.channel n) * g t))
+      (λ (f : EndView). counted z f * g f.knows.declared)
       (λ f. by_sides (same_channel z.channel f.channel) z.side f.knows.side (g f.knows.declared)) xs
 
   cells_of : (z : EndName) (g : TableId → ℕ) →
-      sum_by (of_ends (by_cell z.side (λ n k. once (same_channel z.channel n) * g k))) xs ≡ sum_by (of_ends (λ (f : EndView). counted z f * g f.cell)) xs
-  cells_of z g = same_ends (by_cell z.side (λ n k. once (same_channel z.channel n) * g k)) (λ (f : EndView). counted z f * g f.cell)
+      sum_by (of_ends (by_cell z.side (λ n k. once (same_channel z.channel n) * g k))) xs ≡ sum_by
+      (of_ends (λ (f : EndView). counted z f * g f.cell)) xs
+  cells_of z g = same_ends (by_cell z.side (λ n k. once (same_channel z.channel n) * g k))
+      (λ (f : EndView). counted z f * g f.cell)
       (λ f. by_sides (same_channel z.channel f.channel) z.side f.knows.side (g f.cell)) xs
 
   -- the end and the other end of its channel are a pair
@@ -169,7 +182,8 @@ module _ (m : Surroundings) (a : Tree) (main : Birth) (xs : List Thread) (run : 
             ∙ sym (both_cells z.side (λ n k. once (same_channel z.channel n) * g k)) ∙ cells_of z g
             ∙ only z xs e refl he (at_most z) (λ (d : EndView). g d.cell));
         declared = one_by tree_code e.knows.declared f.knows.declared
-            (λ g. sym (only (other z) xs f is hf (at_most (other z)) (λ (d : EndView). g d.knows.declared)) ∙ sym (typed_of (other z) g)
+            (λ g. sym (only (other z) xs f is hf (at_most (other z)) (λ (d : EndView). g d.knows.declared))
+            ∙ sym (typed_of (other z) g)
             ∙ sym (both_typed z.side (λ n t. once (same_channel z.channel n) * g t)) ∙ typed_of z g
             ∙ only z xs e refl he (at_most z) (λ (d : EndView). g d.knows.declared));
       }
@@ -192,5 +206,6 @@ module _ (m : Surroundings) (a : Tree) (main : Birth) (xs : List Thread) (run : 
         let c = others_count z in
         let r = there (other z) xs (omega (arith, a, b, c)) in
         (r.0, r.1, r.2, pair_of e r.0 h r.1 r.2);
-    one = λ l r hl hr left right channel. pair_of l r hl hr (λ i. record { channel = channel i; side = (right ∙ sym (ap opposite left)) i });
+    one = λ l r hl hr left right channel. pair_of l r hl hr
+        (λ i. record { channel = channel i; side = (right ∙ sym (ap opposite left)) i });
   }

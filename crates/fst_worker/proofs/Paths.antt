@@ -41,7 +41,8 @@ record Few (here : ℕ) (j : ℕ) (counter : ℕ) (n : ℕ) : Type 0 where
 abbrev Hits : ℕ → ℕ → ℕ → ℕ → ℕ → Type 0
 Hits here j counter next n = ((n ≤ 1) × (j ≡ counter) × (next ≡ suc counter) × (here ≡ 1)) ⊎ ((n ≡ 0) × (counter ≤ next))
 
-few_more : (here j counter next one more n : ℕ) → Few here j next more → n ≡ one + more → Hits here j counter next one → Few here j counter n
+few_more : (here j counter next one more n : ℕ) → Few here j next more → n ≡ one + more → Hits here j counter next one →
+    Few here j counter n
 few_more here j counter next one more n f a (inl (b, c, d, e)) =
     let z = f.past (omega (arith, c, d)) in
     record { le = omega (arith, a, b, e, z); past = λ l. absurd (omega (arith, l, c)) }
@@ -53,7 +54,8 @@ few_more here j counter next one more n f a (inr (b, c)) = record {
 -- an answer makes the task fork, or not
 abbrev pub IsFork : Program → Path → Task → ℕ → Answer → Type 0
 IsFork p path t stamp a =
-    ((born_by p path t stamp a ≡ birth_of (child_path path t.forked) stamp (child (pause p.families t.state))) × (forks_after a t.forked ≡ suc t.forked))
+    ((born_by p path t stamp a ≡ birth_of (child_path path t.forked) stamp (child (pause p.families t.state))) ×
+    (forks_after a t.forked ≡ suc t.forked))
     ⊎ ((born_by p path t stamp a ≡ []) × (forks_after a t.forked ≡ t.forked))
 
 pub is_fork : (p : Program) (path : Path) (t : Task) (stamp : ℕ) (a : Answer) → IsFork p path t stamp a
@@ -63,18 +65,21 @@ is_fork p path t stamp Forked = inl (refl, refl)
 is_fork p path t stamp Sent = inr (refl, refl)
 is_fork p path t stamp (Got ev) = inr (refl, refl)
 
-pub birth_le : (x path : Path) (clock : ℕ) (o : Option State) → sum_by (at_path x) (birth_of path clock o) ≤ once (same_path x path)
+pub birth_le : (x path : Path) (clock : ℕ) (o : Option State) →
+    sum_by (at_path x) (birth_of path clock o) ≤ once (same_path x path)
 birth_le x path clock None = omega arith
 birth_le x path clock (Some s) = omega arith
 
 birth_hits : (p : Program) (q : Path) (j : ℕ) (path : Path) (t : Task) (stamp : ℕ) (a : Answer) → IsFork p path t stamp a →
-    Hits (once (same_path q path)) j t.forked (forks_after a t.forked) (sum_by (at_path (child_path q j)) (born_by p path t stamp a))
+    Hits (once (same_path q path)) j t.forked (forks_after a t.forked)
+    (sum_by (at_path (child_path q j)) (born_by p path t stamp a))
 birth_hits p q j path t stamp a (inr k) = let c = k.1 in inr (ap (sum_by (at_path (child_path q j))) k.0, omega (arith, c))
 birth_hits p q j path t stamp a (inl k) = by (path_or (child_path q j) (child_path path t.forked))
   where
     by : ((child_path q j ≡ child_path path t.forked) × (once (same_path (child_path q j) (child_path path t.forked)) ≡ 1))
         ⊎ (once (same_path (child_path q j) (child_path path t.forked)) ≡ 0) →
-        Hits (once (same_path q path)) j t.forked (forks_after a t.forked) (sum_by (at_path (child_path q j)) (born_by p path t stamp a))
+        Hits (once (same_path q path)) j t.forked (forks_after a t.forked)
+        (sum_by (at_path (child_path q j)) (born_by p path t stamp a))
     by (inl y) =
         let z = ap (sum_by (at_path (child_path q j))) k.0 in
         let b = birth_le (child_path q j) (child_path path t.forked) stamp (child (pause p.families t.state)) in
@@ -92,14 +97,17 @@ few_births : (p : Program) (q : Path) (j : ℕ) (path : Path) (t : Task) (log : 
     Few (once (same_path q path)) j t.forked (sum_by (at_path (child_path q j)) (births p path t log))
 few_births p q j path t [] = record { le = omega arith; past = λ l. refl }
 few_births p q j path t (e ∷ es) =
-    few_more (once (same_path q path)) j t.forked (forks_after e.answer t.forked) (sum_by (at_path (child_path q j)) (born_by p path t e.stamp e.answer))
-    (sum_by (at_path (child_path q j)) (births p path (after_entry p t e) es)) (sum_by (at_path (child_path q j)) (births p path t (e ∷ es)))
+    few_more (once (same_path q path)) j t.forked (forks_after e.answer t.forked)
+    (sum_by (at_path (child_path q j)) (born_by p path t e.stamp e.answer))
+    (sum_by (at_path (child_path q j)) (births p path (after_entry p t e) es))
+    (sum_by (at_path (child_path q j)) (births p path t (e ∷ es)))
     (few_births p q j path (after_entry p t e) es)
     (sum_by-append (at_path (child_path q j)) (born_by p path t e.stamp e.answer) (births p path (after_entry p t e) es))
     (birth_hits p q j path t e.stamp e.answer (is_fork p path t e.stamp e.answer))
 
 -- no task with a path that isn't a child's is forked
-none_born : (p : Program) (x : Path) → ((q : Path) (k : ℕ) → x ≡ child_path q k → ⊥) → (path : Path) (t : Task) (log : List LogEntry) →
+none_born : (p : Program) (x : Path) → ((q : Path) (k : ℕ) → x ≡ child_path q k → ⊥) →
+    (path : Path) (t : Task) (log : List LogEntry) →
     sum_by (at_path x) (births p path t log) ≡ 0
 none_born p x never path t [] = refl
 none_born p x never path t (e ∷ es) =
@@ -139,7 +147,8 @@ IsNew types path t q a =
     ((o : Option Tree) × (opened_by types q a ≡ opening_of (channel_name path t.made) o) × (made_after a t.made ≡ suc t.made))
     ⊎ ((opened_by types q a ≡ []) × (made_after a t.made ≡ t.made))
 
-pub is_new : (types : List Tree) (path : Path) (t : Task) (stamp : ℕ) (q : Request) (a : Answer) → IsAnswered path t stamp q a → IsNew types path t q a
+pub is_new : (types : List Tree) (path : Path) (t : Task) (stamp : ℕ) (q : Request) (a : Answer) → IsAnswered path t stamp q a →
+    IsNew types path t q a
 is_new types path t stamp Step Go h = inr (refl, refl)
 is_new types path t stamp (New k) (Made n) h = inl (slice_get types k, ap (λ n. opening_of n (slice_get types k)) h.1, refl)
 is_new types path t stamp Fork Forked h = inr (refl, refl)
@@ -151,30 +160,41 @@ pub opening_le : (h n : ChannelName) (o : Option Tree) → sum_by (of_name h) (o
 opening_le h n None = omega arith
 opening_le h n (Some t) = omega arith
 
-opening_hits : (types : List Tree) (h : ChannelName) (path : Path) (t : Task) (q : Request) (a : Answer) → IsNew types path t q a →
-    Hits (once (same_path h.maker path)) h.count (suc t.made) (suc (made_after a t.made)) (sum_by (of_name h) (opened_by types q a))
+opening_hits : (types : List Tree) (h : ChannelName) (path : Path) (t : Task) (q : Request) (a : Answer) →
+    IsNew types path t q a →
+    Hits (once (same_path h.maker path)) h.count (suc t.made) (suc (made_after a t.made))
+    (sum_by (of_name h) (opened_by types q a))
 opening_hits types h path t q a (inr k) = let c = k.1 in inr (ap (sum_by (of_name h)) k.0, omega (arith, c))
 opening_hits types h path t q a (inl k) = by (channel_or h (channel_name path t.made))
   where
-    by : ((h ≡ channel_name path t.made) × (once (same_channel h (channel_name path t.made)) ≡ 1)) ⊎ (once (same_channel h (channel_name path t.made)) ≡ 0) →
-        Hits (once (same_path h.maker path)) h.count (suc t.made) (suc (made_after a t.made)) (sum_by (of_name h) (opened_by types q a))
+    by : ((h ≡ channel_name path t.made) × (once (same_channel h (channel_name path t.made)) ≡ 1)) ⊎
+        (once (same_channel h (channel_name path t.made)) ≡ 0) →
+        Hits (once (same_path h.maker path)) h.count (suc t.made) (suc (made_after a t.made))
+        (sum_by (of_name h) (opened_by types q a))
     by (inl y) =
         let z = ap (sum_by (of_name h)) k.1 in
         let b = opening_le h (channel_name path t.made) k.0 in
         let g = y.1 in
         let c = k.2 in
-        inl (omega (arith, z, b, g), ap (λ (x : ChannelName). x.count) y.0, omega (arith, c), path_counts h.maker path (ap (λ (x : ChannelName). x.maker) y.0))
+        inl (
+          omega (arith, z, b, g),
+          ap (λ (x : ChannelName). x.count) y.0,
+          omega (arith, c),
+          path_counts h.maker path (ap (λ (x : ChannelName). x.maker) y.0),
+        )
     by (inr n) =
         let z = ap (sum_by (of_name h)) k.1 in
         let b = opening_le h (channel_name path t.made) k.0 in
         let c = k.2 in
         inr (omega (arith, z, b, n), omega (arith, c))
 
-few_openings : (p : Program) (types : List Tree) (h : ChannelName) (path : Path) (t : Task) (log : List LogEntry) (u : Task) → Follows p path t log u →
+few_openings : (p : Program) (types : List Tree) (h : ChannelName) (path : Path) (t : Task) (log : List LogEntry) (u : Task) →
+    Follows p path t log u →
     Few (once (same_path h.maker path)) h.count (suc t.made) (sum_by (of_name h) (openings types log))
 few_openings p types h path t [] u f = record { le = omega arith; past = λ l. refl }
 few_openings p types h path t (e ∷ es) u f =
-    few_more (once (same_path h.maker path)) h.count (suc t.made) (suc (made_after e.answer t.made)) (sum_by (of_name h) (opened_by types e.asked e.answer))
+    few_more (once (same_path h.maker path)) h.count (suc t.made) (suc (made_after e.answer t.made))
+    (sum_by (of_name h) (opened_by types e.asked e.answer))
     (sum_by (of_name h) (openings types es)) (sum_by (of_name h) (openings types (e ∷ es)))
     (few_openings p types h path (after_entry p t e) es u f.1)
     (sum_by-append (of_name h) (opened_by types e.asked e.answer) (openings types es))
@@ -196,7 +216,8 @@ module _ (m : Surroundings) (main : Birth) (xs : List Thread) (root : main.path 
   pub main_not : (q : Path) (k : ℕ) → once (same_path (child_path q k) main.path) ≡ 0
   main_not q k = by (path_or (child_path q k) main.path)
     where
-      by : ((child_path q k ≡ main.path) × (once (same_path (child_path q k) main.path) ≡ 1)) ⊎ (once (same_path (child_path q k) main.path) ≡ 0) →
+      by : ((child_path q k ≡ main.path) × (once (same_path (child_path q k) main.path) ≡ 1)) ⊎
+          (once (same_path (child_path q k) main.path) ≡ 0) →
           once (same_path (child_path q k) main.path) ≡ 0
       by (inl y) = absurd (not_first [] q k (sym (y.0 ∙ root)))
       by (inr n) = n
@@ -205,7 +226,8 @@ module _ (m : Surroundings) (main : Birth) (xs : List Thread) (root : main.path 
   at_most_main : (x : Path) → ((q : Path) (k : ℕ) → x ≡ child_path q k → ⊥) → sum_by (has_path x) xs ≤ 1
   at_most_main x never =
       let w = births_are (at_path x) in
-      let z = sum_same (bears m (at_path x)) (λ (t : Thread). 0) (λ t. none_born (program_in m) x never t.path t.first t.log) xs in
+      let z = sum_same (bears m (at_path x)) (λ (t : Thread). 0)
+      (λ t. none_born (program_in m) x never t.path t.first t.log) xs in
       let n = none_sum xs in
       let b = small (same_path x main.path) in
       omega (arith, w, z, n, b)
@@ -219,14 +241,16 @@ module _ (m : Surroundings) (main : Birth) (xs : List Thread) (root : main.path 
   at_most_child q k ih =
       let x = child_path q k in
       let w = births_are (at_path x) in
-      let l = sum_by-le-sum_by (bears m (at_path x)) (has_path q) xs (λ t. (few_births (program_in m) q k t.path t.first t.log).le) in
+      let l = sum_by-le-sum_by (bears m (at_path x)) (has_path q) xs
+      (λ t. (few_births (program_in m) q k t.path t.first t.log).le) in
       let z = main_not q k in
       omega (arith, w, l, z, ih)
 
   once_by : (n : ℕ) (x : Path) → length x ≤ n → (x ≡ []) ⊎ ((q : Path) × (j : ℕ) × (x ≡ q ++ j ∷ [])) → sum_by (has_path x) xs ≤ 1
   once_by n x l (inl e) = subst (λ y. sum_by (has_path y) xs ≤ 1) (sym e) (at_most_main [] no_child)
   once_by n x l (inr (q, zero, e)) = subst (λ y. sum_by (has_path y) xs ≤ 1) (sym e) (at_most_main (q ++ zero ∷ []) (not_first q))
-  once_by zero x l (inr (q, suc k, e)) = let b = ap length e in let c = length-append q (suc k ∷ []) in absurd (omega (arith, b, c, l))
+  once_by zero x l (inr (q, suc k, e)) = let b = ap length e in let c = length-append q (suc k ∷ []) in
+      absurd (omega (arith, b, c, l))
   once_by (suc n) x l (inr (q, suc k, e)) =
       let b = ap length e in
       let c = length-append q (suc k ∷ []) in
@@ -247,7 +271,8 @@ module _ (m : Surroundings) (main : Birth) (xs : List Thread) (root : main.path 
 module _ (m : Surroundings) (a : Tree) (main : Birth) (xs : List Thread) (run : IsRun m a main xs) where
   -- no two channels of a run have one name
   pub channels_once : (h : ChannelName) → sum_by (opens m (λ n t. once (same_channel h n))) xs ≤ 1
-  channels_once h = names_once m main xs run.root run.whole.births (All-weaker (FitsIn m a) (IsLed m) (λ t f. f.follows) xs run.fit) h
+  channels_once h = names_once m main xs run.root run.whole.births
+      (All-weaker (FitsIn m a) (IsLed m) (λ t f. f.follows) xs run.fit) h
 
   -- no two ends have one name
   pub ends_once : (z : EndName) → sum_by (of_ends (λ e. once (same_end z (end_name e)))) xs ≤ 1

@@ -23,7 +23,8 @@ module _ {X : Type 0} where
     pub was : xs ≡ before ++ x ∷ behind
     pub is : ys ≡ before ++ y ∷ behind
 
-  sum_at : (f : X → ℕ) (before : List X) (x : X) (behind : List X) → sum_by f (before ++ x ∷ behind) ≡ (sum_by f before + sum_by f behind) + f x
+  sum_at : (f : X → ℕ) (before : List X) (x : X) (behind : List X) →
+      sum_by f (before ++ x ∷ behind) ≡ (sum_by f before + sum_by f behind) + f x
   sum_at f before x behind = let a = sum_by-append f before (x ∷ behind) in let b = sum_by-cons f x behind in omega (arith, a, b)
 
   -- so are their sums
@@ -39,7 +40,8 @@ module _ {X : Type 0} where
   pub le_swapped : (f : X → ℕ) (xs ys : List X) (x y : X) → IsSwapped xs ys x y → f x ≤ sum_by f xs
   le_swapped f xs ys x y s = let a = ap (sum_by f) s.was in let b = sum_at f s.before x s.behind in omega (arith, a, b)
 
-  all_split : (P : X → Type 0) (before : List X) (x : X) (behind : List X) → All P (before ++ x ∷ behind) → All P before × P x × All P behind
+  all_split : (P : X → Type 0) (before : List X) (x : X) (behind : List X) → All P (before ++ x ∷ behind) → All P before × P x ×
+      All P behind
   all_split P [] x behind all = ((λ k d l. absurd (omega (arith, l))), All-head P x behind all, All-tail P x behind all)
   all_split P (b ∷ before) x behind all =
       let r = all_split P before x behind (All-tail P b (before ++ x ∷ behind) all) in
@@ -67,7 +69,8 @@ pub put_first : {X : Type 0} (b : Bool) (x : X) (o : Option X) → (if b then So
 put_first true x o = refl
 put_first false x o = refl
 
-put_behind : {X : Type 0} (b c : Bool) (x y : X) (o : Option X) → (b ≡ true → c ≡ false) → (if c then Some y else put b x o) ≡ put b x (if c then Some y else o)
+put_behind : {X : Type 0} (b c : Bool) (x y : X) (o : Option X) → (b ≡ true → c ≡ false) →
+    (if c then Some y else put b x o) ≡ put b x (if c then Some y else o)
 put_behind false c x y o h = refl
 put_behind true c x y o h = ap (λ a. if a then Some y else Some x) (h refl)
 
@@ -124,7 +127,8 @@ pub is_at : (p : Path) (ys : List Thread) (t : Task) → task_of ys p ≡ Some t
 is_at p [] t e = absurd (none-some t e)
 is_at p (y ∷ ys) t e = by (same_path y.path p) refl e (is_at p ys t)
   where
-    by : (b : Bool) → same_path y.path p ≡ b → (if b then Some y.now else task_of ys p) ≡ Some t → (task_of ys p ≡ Some t → IsAt p ys t) → IsAt p (y ∷ ys) t
+    by : (b : Bool) → same_path y.path p ≡ b → (if b then Some y.now else task_of ys p) ≡ Some t →
+        (task_of ys p ≡ Some t → IsAt p ys t) → IsAt p (y ∷ ys) t
     by true s q more = at_first p y ys t s (same_Some y.now t q)
     by false s q more = at_later p y ys t s (more q)
 
@@ -141,20 +145,25 @@ pub record IsChannelAt (h : ChannelName) (ks : List ChannelHistory) (c : Channel
   pub swaps : (j : ChannelHistory) → IsSwapped ks (with j) channel j
   pub name : channel.name ≡ h
   pub is : channel_of channel ≡ c
-  pub puts : (j : ChannelHistory) → j.name ≡ h → (g : ChannelName) → channel_in (with j) g ≡ put (same_channel h g) (channel_of j) (channel_in ks g)
+  pub puts : (j : ChannelHistory) → j.name ≡ h →
+      (g : ChannelName) → channel_in (with j) g ≡ put (same_channel h g) (channel_of j) (channel_in ks g)
 
-last_again : (h : ChannelName) (k j : ChannelHistory) (o : ChannelName → Option Channel) → o h ≡ None → k.name ≡ h → j.name ≡ h → (g : ChannelName) →
+last_again : (h : ChannelName) (k j : ChannelHistory) (o : ChannelName → Option Channel) → o h ≡ None → k.name ≡ h → j.name ≡ h →
+    (g : ChannelName) →
     over (o g) (named_so j g) ≡ put (same_channel h g) (channel_of j) (over (o g) (named_so k g))
 last_again h k j o n a b g =
     ap (λ r. over (o g) (if same_channel r g then Some (channel_of j) else None)) b ∙ by (same_channel h g) refl
-    ∙ ap (λ r. put (same_channel h g) (channel_of j) (over (o g) (if same_channel r g then Some (channel_of k) else None))) (sym a)
+    ∙ ap (λ r. put (same_channel h g) (channel_of j) (over (o g) (if same_channel r g then Some (channel_of k) else None)))
+    (sym a)
   where
     by : (b : Bool) → same_channel h g ≡ b →
-        over (o g) (if b then Some (channel_of j) else None) ≡ put b (channel_of j) (over (o g) (if b then Some (channel_of k) else None))
+        over (o g) (if b then Some (channel_of j) else None) ≡ put b (channel_of j)
+        (over (o g) (if b then Some (channel_of k) else None))
     by true s = ap (λ u. over u (Some (channel_of j))) (ap o (sym (same_channel-same h g s)) ∙ n)
     by false s = refl
 
-channel_here : (h : ChannelName) (k : ChannelHistory) (ks : List ChannelHistory) (c : Channel) → channel_in ks h ≡ None → named_so k h ≡ Some c → IsChannelAt h (k ∷ ks) c
+channel_here : (h : ChannelName) (k : ChannelHistory) (ks : List ChannelHistory) (c : Channel) → channel_in ks h ≡ None →
+    named_so k h ≡ Some c → IsChannelAt h (k ∷ ks) c
 channel_here h k ks c n e = by (same_channel k.name h) refl e
   where
     by : (b : Bool) → same_channel k.name h ≡ b → (if b then Some (channel_of k) else None) ≡ Some c → IsChannelAt h (k ∷ ks) c
@@ -168,7 +177,8 @@ channel_here h k ks c n e = by (same_channel k.name h) refl e
       puts = λ j i g. last_again h k j (channel_in ks) n (same_channel-same k.name h s) i g;
     }
 
-channel_later : (h : ChannelName) (k : ChannelHistory) (ks : List ChannelHistory) (c : Channel) → IsChannelAt h ks c → IsChannelAt h (k ∷ ks) c
+channel_later : (h : ChannelName) (k : ChannelHistory) (ks : List ChannelHistory) (c : Channel) → IsChannelAt h ks c →
+    IsChannelAt h (k ∷ ks) c
 channel_later h k ks c a = record {
   channel = a.channel;
   with = λ j. k ∷ a.with j;
@@ -178,7 +188,8 @@ channel_later h k ks c a = record {
   name = a.name;
   is = a.is;
   puts = λ j i g.
-      ap (λ o. over o (named_so k g)) (a.puts j i g) ∙ over_put (same_channel h g) (channel_of j) (channel_in ks g) (named_so k g);
+      ap (λ o. over o (named_so k g)) (a.puts j i g)
+      ∙ over_put (same_channel h g) (channel_of j) (channel_in ks g) (named_so k g);
 }
 
 -- a channel that is found is one of them
@@ -186,7 +197,8 @@ pub is_channel_at : (h : ChannelName) (ks : List ChannelHistory) (c : Channel) �
 is_channel_at h [] c e = absurd (none-some c e)
 is_channel_at h (k ∷ ks) c e = by (channel_in ks h) refl e (is_channel_at h ks c)
   where
-    by : (o : Option Channel) → channel_in ks h ≡ o → over o (named_so k h) ≡ Some c → (channel_in ks h ≡ Some c → IsChannelAt h ks c) → IsChannelAt h (k ∷ ks) c
+    by : (o : Option Channel) → channel_in ks h ≡ o → over o (named_so k h) ≡ Some c →
+        (channel_in ks h ≡ Some c → IsChannelAt h ks c) → IsChannelAt h (k ∷ ks) c
     by None s q more = channel_here h k ks c s q
     by (Some d) s q more = channel_later h k ks c (more (s ∙ q))
 
@@ -195,4 +207,5 @@ pub channel_behind : (ks : List ChannelHistory) (j : ChannelHistory) (g : Channe
     channel_in (ks ++ j ∷ []) g ≡ put (same_channel j.name g) (channel_of j) (channel_in ks g)
 channel_behind [] j g = over_named (same_channel j.name g) (channel_of j)
 channel_behind (k ∷ ks) j g =
-    ap (λ o. over o (named_so k g)) (channel_behind ks j g) ∙ over_put (same_channel j.name g) (channel_of j) (channel_in ks g) (named_so k g)
+    ap (λ o. over o (named_so k g)) (channel_behind ks j g)
+    ∙ over_put (same_channel j.name g) (channel_of j) (channel_in ks g) (named_so k g)

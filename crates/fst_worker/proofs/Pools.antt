@@ -57,9 +57,11 @@ right_name p s = λ i. record { channel = s.channel i; side = (s.right_side ∙ 
 -- a pair has as many ends of a name as of the other end's
 pair_even : (z : EndName) (p : Pair) → IsShut p → of_pair (other z) p ≡ of_pair z p
 pair_even z p s =
-    let a : counted (other z) p.right ≡ counted z p.left = ap (λ x. once (same_end (other z) x)) (right_name p s) ∙ flip_counts z (end_name p.left) in
+    let a : counted (other z) p.right ≡ counted z p.left = ap (λ x. once (same_end (other z) x)) (right_name p s)
+    ∙ flip_counts z (end_name p.left) in
     let b : counted (other z) p.left ≡ counted z p.right =
-    ap (λ x. once (same_end (other z) x)) (sym (there_back (end_name p.left)) ∙ ap other (sym (right_name p s))) ∙ flip_counts z (end_name p.right) in
+    ap (λ x. once (same_end (other z) x)) (sym (there_back (end_name p.left)) ∙ ap other (sym (right_name p s)))
+    ∙ flip_counts z (end_name p.right) in
     omega (arith, a, b)
 
 pairs_even : (z : EndName) (ps : List Pair) → All IsShut ps → sum_by (of_pair (other z)) ps ≡ sum_by (of_pair z) ps
@@ -85,7 +87,8 @@ in_pairs w (p ∷ ps) =
     let ih = in_pairs w ps in
     omega (arith, a, b, c, ih)
 
-module _ (m : Surroundings) (a : Tree) (main : Birth) (xs : List Thread) (ps : List Pair) (es : List EndView) (run : IsRun m a main xs)
+module _ (m : Surroundings) (a : Tree) (main : Birth) (xs : List Thread) (ps : List Pair) (es : List EndView)
+    (run : IsRun m a main xs)
     (pooled : Pooled xs ps es)
     (shut : All IsShut ps) where
   module _ (e : EndView) (rest : List EndView) (p : IsPermutation es (e ∷ rest)) where

@@ -46,7 +46,8 @@ use Rattle.fst_worker.proofs.Tests.{path_or, path_counts, there_sums}
 same_both : (p q : Path) → once (same_path p q) ≡ once (same_path q p)
 same_both p q = by (path_or p q) (path_or q p)
   where
-    by : ((p ≡ q) × (once (same_path p q) ≡ 1)) ⊎ (once (same_path p q) ≡ 0) → ((q ≡ p) × (once (same_path q p) ≡ 1)) ⊎ (once (same_path q p) ≡ 0) →
+    by : ((p ≡ q) × (once (same_path p q) ≡ 1)) ⊎ (once (same_path p q) ≡ 0) → ((q ≡ p) × (once (same_path q p) ≡ 1)) ⊎
+        (once (same_path q p) ≡ 0) →
         once (same_path p q) ≡ once (same_path q p)
     by (inl x) y = let b = x.1 in let c = path_counts q p (sym x.0) in omega (arith, b, c)
     by (inr x) (inl y) = let b = y.1 in let c = path_counts p q (sym y.0) in omega (arith, b, c, x)
@@ -75,14 +76,16 @@ only_path : (f : Thread → ℕ) (ys : List Thread) (y : Thread) → Contains ys
     All (λ (z : Thread). on_path y.path z ≡ 0 → f z ≡ 0) ys → sum_by f ys ≡ f y
 only_path f [] y c le none = absurd (contains_none y c)
 only_path f (x ∷ ys) y c le none =
-    by (λ c le. only_path f ys y c le (All-tail (λ (z : Thread). on_path y.path z ≡ 0 → f z ≡ 0) x ys none)) (from_contains ys y x c)
+    by (λ c le. only_path f ys y c le (All-tail (λ (z : Thread). on_path y.path z ≡ 0 → f z ≡ 0) x ys none))
+    (from_contains ys y x c)
   where
     by : (Contains ys y → sum_by (on_path y.path) ys ≤ 1 → sum_by f ys ≡ f y) → (x ≡ y) ⊎ Contains ys y → sum_by f (x ∷ ys) ≡ f y
     by more (inl i) =
         let a = sum_by-cons f x ys in
         let b = sum_by-cons (on_path y.path) x ys in
         let d = path_counts y.path x.path (ap (λ (t : Thread). t.path) (sym i)) in
-        let e = none_sum f (on_path y.path) ys (omega (arith, b, d, le)) (All-tail (λ (z : Thread). on_path y.path z ≡ 0 → f z ≡ 0) x ys none) in
+        let e = none_sum f (on_path y.path) ys (omega (arith, b, d, le))
+        (All-tail (λ (z : Thread). on_path y.path z ≡ 0 → f z ≡ 0) x ys none) in
         let g = ap f i in
         omega (arith, a, e, g)
     by more (inr i) =
@@ -104,7 +107,8 @@ module _ (m : Module) (k : Code) where
   no_task (t ∷ ts) [] p a e = absurd a
   no_task (t ∷ ts) (y ∷ ys) p a e = by (no_task ts ys p a.1) (same_path t.0.path p) (ap (λ q. same_path q p) a.0.path) e
     where
-      by : (task_in ts p ≡ None → task_of ys p ≡ None) → (b : Bool) → b ≡ same_path y.path p → (if b then Some t else task_in ts p) ≡ None →
+      by : (task_in ts p ≡ None → task_of ys p ≡ None) → (b : Bool) → b ≡ same_path y.path p →
+          (if b then Some t else task_in ts p) ≡ None →
           (if same_path y.path p then Some y.now else task_of ys p) ≡ None
       by more true q e = absurd (cc e)
       by more false q e = ap (λ (b : Bool). if b then Some y.now else task_of ys p) (sym q) ∙ more e
@@ -116,7 +120,8 @@ module _ (m : Module) (k : Code) where
   none_there (t ∷ ts) [] p a z = absurd a
   none_there (t ∷ ts) (y ∷ ys) p a z =
       let c = sum_by-cons (on_path p) y ys in
-      ap (λ (b : Bool). if b then Some t else task_in ts p) (by (same_path t.0.path p) refl) ∙ none_there ts ys p a.1 (omega (arith, c, z))
+      ap (λ (b : Bool). if b then Some t else task_in ts p) (by (same_path t.0.path p) refl)
+      ∙ none_there ts ys p a.1 (omega (arith, c, z))
     where
       by : (b : Bool) → same_path t.0.path p ≡ b → b ≡ false
       by false q = refl
@@ -139,15 +144,18 @@ module _ (m : Module) (k : Code) where
   )
 
   -- the clocks of the threads
-  clocks_of : (n : ℕ) (ts : Tasks) (ys : List Thread) → AreTasksOf m k ts ys → ClocksWithin n ts → All (λ (y : Thread). y.now.clock ≤ n) ys
+  clocks_of : (n : ℕ) (ts : Tasks) (ys : List Thread) → AreTasksOf m k ts ys → ClocksWithin n ts → All
+      (λ (y : Thread). y.now.clock ≤ n) ys
   clocks_of n [] [] a c = All-nil (λ (y : Thread). y.now.clock ≤ n)
   clocks_of n [] (y ∷ ys) a c = absurd a
   clocks_of n (t ∷ ts) [] a c = absurd a
   clocks_of n (t ∷ ts) (y ∷ ys) a c =
-      All-cons (λ (y : Thread). y.now.clock ≤ n) y ys (let l = c.0 in let e = a.0.time in omega (arith, l, e)) (clocks_of n ts ys a.1 c.1)
+      All-cons (λ (y : Thread). y.now.clock ≤ n) y ys (let l = c.0 in let e = a.0.time in omega (arith, l, e))
+      (clocks_of n ts ys a.1 c.1)
 
   -- no task has forked more than its clock says
-  tasks_within : (n : ℕ) (ts : Tasks) (ys : List Thread) → AreTasksOf m k ts ys → ClocksWithin n ts → All (λ (y : Thread). y.now.forked ≤ y.now.clock) ys →
+  tasks_within : (n : ℕ) (ts : Tasks) (ys : List Thread) → AreTasksOf m k ts ys → ClocksWithin n ts → All
+      (λ (y : Thread). y.now.forked ≤ y.now.clock) ys →
       TasksWithin n ts
   tasks_within n [] ys a c f = tt
   tasks_within n (t ∷ ts) [] a c f = absurd a
@@ -189,7 +197,8 @@ module _ (m : Surroundings) (ys : List Thread) (hs : List ChannelHistory) (once_
       let f = channels w in
       let o = only_path (opens m w) ys y c (once_path y.path)
       (All-weaker (IsLed m) (λ (z : Thread). on_path y.path z ≡ 0 → opens m w z ≡ 0)
-      (λ z l q. others_made y.path z.path (openings m.types z.log) q (of_maker (program_in m) m.types z.path z.first z.log z.now l)) ys led) in
+      (λ z l q. others_made y.path z.path (openings m.types z.log) q
+      (of_maker (program_in m) m.types z.path z.first z.log z.now l)) ys led) in
       let l = All-contains (IsLed m) ys y led c in
       let g = own_made y.path (openings m.types y.log) (of_maker (program_in m) m.types y.path y.first y.log y.now l) in
       let h = All-contains (HasOpened m) ys y opened c in
@@ -212,7 +221,8 @@ module _ (m : Surroundings) (main : Birth) (ys : List Thread) (hs : List Channel
 
   -- no stamp is later than all clocks
   module _ (n : ℕ) (clocks : All (λ (y : Thread). y.now.clock ≤ n) ys) where
-    entry_within : (k : ChannelHistory) (before : List Entry) (e : Entry) (behind : List Entry) → Contains hs k → k.entries.items ≡ before ++ e ∷ behind → e.stamp ≤ n
+    entry_within : (k : ChannelHistory) (before : List Entry) (e : Entry) (behind : List Entry) → Contains hs k →
+        k.entries.items ≡ before ++ e ∷ behind → e.stamp ≤ n
     entry_within k before e behind c is =
         let x = (corresponds m main ys hs fits).exchanged k Left before e behind c is in
         let l = All-contains (IsLogged m) ys x.task fits.logs x.there in
@@ -222,12 +232,17 @@ module _ (m : Surroundings) (main : Birth) (ys : List Thread) (hs : List Channel
         let u = stamp_of (record { channel = k.name; side = Left }) (sends (residual Left k.declared before) e.event) e in
         omega (arith, s, t, u)
 
-    stamps_within : (k : ChannelHistory) → Contains hs k → (before behind : List Entry) → k.entries.items ≡ before ++ behind → StampedTo n behind
+    stamps_within : (k : ChannelHistory) → Contains hs k →
+        (before behind : List Entry) → k.entries.items ≡ before ++ behind → StampedTo n behind
     stamps_within k c before [] is = tt
-    stamps_within k c before (e ∷ behind) is =
-        (entry_within k before e behind c is, stamps_within k c (before ++ e ∷ []) behind (is ∙ sym (append_assoc before (e ∷ []) behind)))
+    stamps_within k c before (e ∷ behind) is = (
+      entry_within k before e behind c is,
+      stamps_within k c (before ++ e ∷ []) behind
+          (is ∙ sym (append_assoc before (e ∷ []) behind)),
+    )
 
-    channels_within : HasMakers (config_of ys hs) → All (λ (y : Thread). y.now.made ≤ y.now.clock) ys → (ks : List ChannelHistory) → All (Contains hs) ks →
+    channels_within : HasMakers (config_of ys hs) → All (λ (y : Thread). y.now.made ≤ y.now.clock) ys →
+        (ks : List ChannelHistory) → All (Contains hs) ks →
         ChannelsWithin n ks
     channels_within makers made [] c = tt
     channels_within makers made (h ∷ ks) c =
@@ -244,7 +259,8 @@ module _ (m : Surroundings) (main : Birth) (ys : List Thread) (hs : List Channel
         )
 
   -- the tasks are those of the configuration
-  are_there : (n : Module) (k : Code) → All (HasOpened m) ys → (ts : Tasks) (us : List Thread) → AreTasksOf n k ts us → All (Contains ys) us →
+  are_there : (n : Module) (k : Code) → All (HasOpened m) ys →
+      (ts : Tasks) (us : List Thread) → AreTasksOf n k ts us → All (Contains ys) us →
       AreThere n k hs (config_of ys hs) ts
   are_there n k opened [] us a c = tt
   are_there n k opened (t ∷ ts) [] a c = absurd a
@@ -285,7 +301,8 @@ resumes n ds d a main xs ps over ys told k ts hs from are moved numbered =
     let right : IsRight (program n) c = sound_right m (checked n ds d) a c sound in
     let within : (n : ℕ) → ClocksWithin n ts → TasksWithin n ts × ChannelsWithin n hs = λ b q. (
       tasks_within n k b ts ys are q (few (λ l t. t.forked ≤ t.clock) (λ y f. f.forked)),
-      channels_within m main ys hs fits b (clocks_of n k b ts ys are q) goes.makers (few (λ l t. t.made ≤ t.clock) (λ y f. f.made)) hs (All-contains_itself hs),
+      channels_within m main ys hs fits b (clocks_of n k b ts ys are q) goes.makers
+          (few (λ l t. t.made ≤ t.clock) (λ y f. f.made)) hs (All-contains_itself hs),
     ) in
     record {
       all = all;

@@ -12,7 +12,8 @@ use Rattle.fst_safety.specs.Logs.{Exchange, part_in, parts_in, shown}
 use Rattle.fst_worker.specs.Records.{shown_of, lag_by}
 
 pub parts_push : (w : Exchange → ℕ) (n : EndName) (o : Option Tree) (h : List Entry) (d : Entry) →
-    sum_by w (parts_in n o (h ++ d ∷ [])) ≡ sum_by w (parts_in n o h) + w (part_in n (sends (option_and_then (λ t. after_history t h) o) d.event) d)
+    sum_by w (parts_in n o (h ++ d ∷ [])) ≡ sum_by w (parts_in n o h) + w
+    (part_in n (sends (option_and_then (λ t. after_history t h) o) d.event) d)
 parts_push w n None [] d = omega arith
 parts_push w n (Some t) [] d = omega arith
 parts_push w n None (c ∷ h) d =
@@ -28,7 +29,9 @@ parts_push w n (Some t) (c ∷ h) d =
 
 -- where the entry is one that the end sends, it is its part
 pub shown_more : (w : Exchange → ℕ) (e : EndView) (d : Entry) → sends (residual_of e.knows) d.event ≡ true →
-    sum_by w (shown_of e.channel e.knows.side e.knows.declared (e.knows.history ++ d ∷ [])) ≡ sum_by w (shown e) + lag_by w e (Some d)
+    sum_by w (shown_of e.channel e.knows.side e.knows.declared (e.knows.history ++ d ∷ [])) ≡ sum_by w (shown e) + lag_by w e
+    (Some d)
 unfolding residual
 shown_more w e d q =
-    parts_push w (end_name e) (Some (side_type e.knows.side e.knows.declared)) e.knows.history d ∙ ap (λ b. sum_by w (shown e) + w (part_in (end_name e) b d)) q
+    parts_push w (end_name e) (Some (side_type e.knows.side e.knows.declared)) e.knows.history d ∙ ap
+    (λ b. sum_by w (shown e) + w (part_in (end_name e) b d)) q

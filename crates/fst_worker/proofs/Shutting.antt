@@ -63,14 +63,21 @@ less_number m n h = grind (arith, nat_tests)
 
 to_settled : (d : Entry) (o : Offer) → Lacks d o → settled (Some d) (Some o) ≡ true
 to_settled d o l =
-    and_from (same_by event_code d.event o.event) (nat_eq d.sent o.clock && nat_lt o.clock d.stamp) (same_by-itself event_code d.event o.event l.event)
-    (and_from (nat_eq d.sent o.clock) (nat_lt o.clock d.stamp) (equal_number d.sent o.clock l.sent) (less_number o.clock d.stamp l.later))
+    and_from (same_by event_code d.event o.event) (nat_eq d.sent o.clock && nat_lt o.clock d.stamp)
+    (same_by-itself event_code d.event o.event l.event)
+    (and_from (nat_eq d.sent o.clock) (nat_lt o.clock d.stamp) (equal_number d.sent o.clock l.sent)
+    (less_number o.clock d.stamp l.later))
 
 from_settled : (d : Entry) (o : Offer) → settled (Some d) (Some o) ≡ true → Lacks d o
 from_settled d o h =
     let p = and_parts (same_by event_code d.event o.event) (nat_eq d.sent o.clock && nat_lt o.clock d.stamp) h in
     let q = and_parts (nat_eq d.sent o.clock) (nat_lt o.clock d.stamp) p.1 in
-    record { event = same_by-same event_code d.event o.event p.0; sent = same_number d.sent o.clock q.0; later = is_less o.clock d.stamp q.1 }
+    record {
+      event = same_by-same event_code d.event o.event p.0;
+      sent = same_number d.sent o.clock q.0;
+      later =
+          is_less o.clock d.stamp q.1;
+    }
 
 -- what an end that lacks an entry waits for
 waits_for : (d : Entry) (o : Option Offer) → settled (Some d) o ≡ true → (x : Offer) × (o ≡ Some x) × Lacks d x
@@ -103,7 +110,8 @@ level h v e = record {
 reaches : (h : List Entry) (v : Half) → (v.offer ≡ None → v.history ≡ h) → Trails h v → AreStamped 0 h → Reaches h v
 reaches h v idle trails stamped = by v.offer refl
   where
-    some : (o : Offer) → v.offer ≡ Some o → (v.history ≡ h) ⊎ ((e : Entry) × (h ≡ v.history ++ e ∷ []) × (e.event ≡ o.event) × (e.sent ≡ o.clock)) → Reaches h v
+    some : (o : Offer) → v.offer ≡ Some o → (v.history ≡ h) ⊎
+        ((e : Entry) × (h ≡ v.history ++ e ∷ []) × (e.event ≡ o.event) × (e.sent ≡ o.clock)) → Reaches h v
     some o q (inl e) = level h v e
     some o q (inr (d, is, event, sent)) =
         let late = stamped_later 0 v.history d (subst (AreStamped 0) is stamped) in
@@ -152,10 +160,12 @@ module _ (xs : List Thread) (ps : List Pair) (paired : Paired xs ps) (t : EndVie
       (λ p q. let a = passed t p.left q.0 in let b = passed t p.right q.1 in omega (arith, a, b)) ps h in
       let s = paired (fails t) in
       All-weaker (λ (x : Thread). of_ends (fails t) x ≡ 0) (EndsPass t)
-      (λ x q. (of_list x.bag (omega (arith, q)), of_list x.retired (omega (arith, q)))) xs (none_in_sum (of_ends (fails t)) xs (omega (arith, z, s)))
+      (λ x q. (of_list x.bag (omega (arith, q)), of_list x.retired (omega (arith, q)))) xs
+      (none_in_sum (of_ends (fails t)) xs (omega (arith, z, s)))
     where
       of_list : (es : List EndView) → sum_by (fails t) es ≡ 0 → All (Passes t) es
-      of_list es q = All-weaker (λ (e : EndView). fails t e ≡ 0) (Passes t) (λ e z. fails_not (t e) z) es (none_in_sum (fails t) es q)
+      of_list es q = All-weaker (λ (e : EndView). fails t e ≡ 0) (Passes t)
+          (λ e z. fails_not (t e) z) es (none_in_sum (fails t) es q)
 
   -- and the other way round
   pub pairs_pass : All (EndsPass t) xs → All (BothPass t) ps
@@ -195,7 +205,8 @@ look_or f none ps h p q is le more (inl i) =
     ap (λ (b : Bool). if b then f q else look f none ps h)
     (ap (λ n. same_channel n q.closed.history.name) (is ∙ ap (λ (p : Pair). p.closed.history.name) (sym i))
     ∙ same_channel-itself q.closed.history.name) ∙ ap f i
-look_or f none ps h p q is le more (inr i) = ap (λ (b : Bool). if b then f q else look f none ps h) (apart (same_channel h q.closed.history.name) refl) ∙ more i
+look_or f none ps h p q is le more (inr i) = ap
+    (λ (b : Bool). if b then f q else look f none ps h) (apart (same_channel h q.closed.history.name) refl) ∙ more i
   where
     apart : (b : Bool) → same_channel h q.closed.history.name ≡ b → b ≡ false
     apart false r = refl
@@ -207,12 +218,14 @@ look_or f none ps h p q is le more (inr i) = ap (λ (b : Bool). if b then f q el
         absurd (omega (arith, a, b, c, d, le))
 
 -- where only one pair has a name, it is said of that
-pub look_of : {R : Type 0} (f : Pair → R) (none : R) (ps : List Pair) (h : ChannelName) (p : Pair) → Contains ps p → h ≡ p.closed.history.name →
+pub look_of : {R : Type 0} (f : Pair → R) (none : R) (ps : List Pair) (h : ChannelName) (p : Pair) → Contains ps p →
+    h ≡ p.closed.history.name →
     sum_by (of_channel h) ps ≤ 1 →
     look f none ps h ≡ f p
 look_of f none [] h p c is le = absurd (contains_none p c)
 look_of f none (q ∷ ps) h p c is le =
-    look_or f none ps h p q is le (λ i. look_of f none ps h p i is (let a = sum_by-cons (of_channel h) q ps in omega (arith, a, le))) (from_contains ps p q c)
+    look_or f none ps h p q is le (λ i. look_of f none ps h p i is
+    (let a = sum_by-cons (of_channel h) q ps in omega (arith, a, le))) (from_contains ps p q c)
 
 -- the entry of the pair's history behind those that an end knows
 abbrev behind_in : EndView → Pair → Option Entry
@@ -220,9 +233,11 @@ behind_in e p = slice_get p.closed.history.entries.items (length e.knows.history
 
 missing_is : (ps : List Pair) (e : EndView) → missing (histories_of ps) e ≡ look (behind_in e) None ps e.channel
 missing_is [] e = refl
-missing_is (p ∷ ps) e = ap (λ (r : Option Entry). if same_channel e.channel p.closed.history.name then behind_in e p else r) (missing_is ps e)
+missing_is (p ∷ ps) e = ap (λ (r : Option Entry). if same_channel e.channel p.closed.history.name then behind_in e p else r)
+    (missing_is ps e)
 
-missing_of : (ps : List Pair) (e : EndView) (p : Pair) → Contains ps p → e.channel ≡ p.closed.history.name → sum_by (of_channel e.channel) ps ≤ 1 →
+missing_of : (ps : List Pair) (e : EndView) (p : Pair) → Contains ps p → e.channel ≡ p.closed.history.name →
+    sum_by (of_channel e.channel) ps ≤ 1 →
     missing (histories_of ps) e ≡ slice_get p.closed.history.entries.items (length e.knows.history)
 missing_of ps e p c is le = missing_is ps e ∙ look_of (behind_in e) None ps e.channel p c is le
 
@@ -236,7 +251,8 @@ shut_type w p s =
     omega (arith, a, b)
 
 -- a sum over pairs by what closing them gave
-pub by_histories : (f : Pair → ℕ) (g : ChannelHistory → ℕ) (P : Pair → Type 0) → ((p : Pair) → P p → f p ≡ g p.closed.history) → (ps : List Pair) → All P ps →
+pub by_histories : (f : Pair → ℕ) (g : ChannelHistory → ℕ) (P : Pair → Type 0) → ((p : Pair) → P p → f p ≡ g p.closed.history) →
+    (ps : List Pair) → All P ps →
     sum_by f ps ≡ sum_by g (histories_of ps)
 by_histories f g P e [] all = refl
 by_histories f g P e (p ∷ ps) all =
@@ -247,10 +263,12 @@ by_histories f g P e (p ∷ ps) all =
     omega (arith, a, b, d, ih)
 
 -- what holds of all histories, by what holds of the pairs
-pub all_histories : (P : Pair → Type 0) (Q : ChannelHistory → Type 0) → ((p : Pair) → P p → Q p.closed.history) → (ps : List Pair) → All P ps →
+pub all_histories : (P : Pair → Type 0) (Q : ChannelHistory → Type 0) → ((p : Pair) → P p → Q p.closed.history) →
+    (ps : List Pair) → All P ps →
     All Q (histories_of ps)
 all_histories P Q f [] all = All-nil Q
-all_histories P Q f (p ∷ ps) all = All-cons Q p.closed.history (histories_of ps) (f p (All-head P p ps all)) (all_histories P Q f ps (All-tail P p ps all))
+all_histories P Q f (p ∷ ps) all = All-cons Q p.closed.history (histories_of ps) (f p (All-head P p ps all))
+    (all_histories P Q f ps (All-tail P p ps all))
 
 module _ (m : Surroundings) (a : Tree) (main : Birth) (xs : List Thread) (ps : List Pair) (over : IsOver m a main xs ps) where
   -- the histories of the closed channels
@@ -269,7 +287,8 @@ module _ (m : Surroundings) (a : Tree) (main : Birth) (xs : List Thread) (ps : L
   -- no two pairs have one name
   pub names_once : (h : ChannelName) → sum_by (of_channel h) ps ≤ 1
   names_once h =
-      let q = by_histories (of_channel h) (λ (k : ChannelHistory). once (same_channel h k.name)) IsShut (λ p s. refl) ps over.shut in
+      let q = by_histories (of_channel h) (λ (k : ChannelHistory). once (same_channel h k.name)) IsShut
+      (λ p s. refl) ps over.shut in
       let b = are_opened (λ n t. once (same_channel h n)) in
       let d = channels_once m a main xs over.run h in
       omega (arith, q, b, d)
@@ -292,7 +311,8 @@ module _ (m : Surroundings) (a : Tree) (main : Birth) (xs : List Thread) (ps : L
 
   -- of both
   pub right_missing : (p : Pair) → Contains ps p → (s : IsShut p) → missing ks p.right ≡ (right_reaches p s).lacks
-  right_missing p c s = missing_of ps p.right p c (s.channel ∙ sym s.closed.named) (names_once p.right.channel) ∙ (right_reaches p s).next
+  right_missing p c s = missing_of ps p.right p c (s.channel ∙ sym s.closed.named) (names_once p.right.channel)
+      ∙ (right_reaches p s).next
 
   -- the end lacks nothing, or what it offers
   abbrev settles : EndView → Bool
@@ -336,7 +356,8 @@ module _ (m : Surroundings) (a : Tree) (main : Birth) (xs : List Thread) (ps : L
   }
 
   -- both ends of each pair are behind their channel's history by what they sent
-  pub all_behind : All (λ (p : Pair). IsBehind ks p.left p.closed.history.entries.items × IsBehind ks p.right p.closed.history.entries.items) ps
+  pub all_behind : All (λ (p : Pair). IsBehind ks p.left p.closed.history.entries.items ×
+      IsBehind ks p.right p.closed.history.entries.items) ps
   all_behind = λ k d l.
       let q = here k d l in
       let s = all_send k d l in (
@@ -355,7 +376,8 @@ module _ (m : Surroundings) (a : Tree) (main : Birth) (xs : List Thread) (ps : L
           absurd (cc c)
 
   -- an end that lacks an entry waits, and the entry is its offer
-  pub lacking_waits : (e : EndView) → Passes settles e → (d : Entry) → missing ks e ≡ Some d → (o : Offer) × (e.knows.offer ≡ Some o) × IsTrailing ks e o d
+  pub lacking_waits : (e : EndView) → Passes settles e → (d : Entry) → missing ks e ≡ Some d → (o : Offer) ×
+      (e.knows.offer ≡ Some o) × IsTrailing ks e o d
   lacking_waits e h d i =
       let w = waits_for d e.knows.offer (ap (λ l. settled l e.knows.offer) (sym i) ∙ h) in
       (w.0, w.1, record { lacks = i; event = w.2.event; sent = w.2.sent; later = w.2.later })

@@ -30,7 +30,7 @@ use Rattle.fst_safety.specs.Logs.{Birth}
 use Rattle.fst_safety.specs.Sound.{IsSound, IsTrace}
 use Rattle.fst_safety.specs.Threads.{Thread, FitsIn, IsSpent, count_of}
 use Rattle.fst_safety.specs.Turns.{of_ends, by_type}
-use Rattle.fst_lts.proofs.DualKinds.{dual_session}
+use Rattle.fst_lts.proofs.Laws.{dual_session}
 use Rattle.fst_safety.proofs.Laws.{there, equals_back, equals_itself, session_formed, session_step, Still, typed_still, ended_equal, sides_from, trace_from}
 use Rattle.fst_worker.specs.Works.{IsRun, IsKnownIn, bears, opens}
 use Rattle.fst_worker.specs.Records.{FitsRecord, IsRecorded}
@@ -55,7 +55,8 @@ session_after : (s t : Tree) (es : List Entry) → IsSession [] s → after_hist
 session_after s t [] h e = subst (IsSession []) (same_Some s t e) h
 session_after s t (d ∷ es) h e = by (after_event s d.event) refl (λ u. session_after u t es) e
   where
-    by : (o : Option Tree) → after_event s d.event ≡ o → ((u : Tree) → IsSession [] u → after_history u es ≡ Some t → IsSession [] t) →
+    by : (o : Option Tree) → after_event s d.event ≡ o →
+        ((u : Tree) → IsSession [] u → after_history u es ≡ Some t → IsSession [] t) →
         option_and_then (λ y. after_history y es) o ≡ Some t → IsSession [] t
     by None q more e = absurd (none-some t e)
     by (Some u) q more e = more u (session_event s u d.event h q) e
@@ -68,7 +69,8 @@ some_is (Some x) h = (x, refl)
 pub trace_of : (k : ChannelHistory) → IsRecorded k → IsTrace (channel_of k)
 trace_of k q =
     let u = some_is (after_history k.declared k.entries.items) q.trace in
-    trace_from (channel_of k) Left u.0 q.formed (session_after k.declared u.0 k.entries.items q.formed u.1) (sides_from (channel_of k) Left u.0 u.1)
+    trace_from (channel_of k) Left u.0 q.formed (session_after k.declared u.0 k.entries.items q.formed u.1)
+    (sides_from (channel_of k) Left u.0 u.1)
 
 -- ---- ends that know all of their channels
 
@@ -88,11 +90,13 @@ all_both : {X : Type 0} (P Q : X → Type 0) (xs : List X) → All P xs → All 
 all_both P Q xs p q = λ k d l. (p k d l, q k d l)
 
 -- two threads of different paths are both in a sum
-both_sum : (f : Thread → ℕ) (xs : List Thread) (x y : Thread) → Contains xs x → Contains xs y → (x.path ≡ y.path → ⊥) → f x + f y ≤ sum_by f xs
+both_sum : (f : Thread → ℕ) (xs : List Thread) (x y : Thread) → Contains xs x → Contains xs y →
+    (x.path ≡ y.path → ⊥) → f x + f y ≤ sum_by f xs
 both_sum f [] x y c d n = absurd (contains_none x c)
 both_sum f (t ∷ xs) x y c d n = by (λ c d. both_sum f xs x y c d n) (from_contains xs x t c) (from_contains xs y t d)
   where
-    by : (Contains xs x → Contains xs y → f x + f y ≤ sum_by f xs) → (t ≡ x) ⊎ Contains xs x → (t ≡ y) ⊎ Contains xs y → f x + f y ≤ sum_by f (t ∷ xs)
+    by : (Contains xs x → Contains xs y → f x + f y ≤ sum_by f xs) → (t ≡ x) ⊎ Contains xs x →
+        (t ≡ y) ⊎ Contains xs y → f x + f y ≤ sum_by f (t ∷ xs)
     by more (inl i) (inl j) = absurd (n (ap (λ (t : Thread). t.path) (sym i ∙ j)))
     by more (inl i) (inr d) =
         let a = sum_by-cons f t xs in
@@ -212,9 +216,12 @@ module _ (m : Surroundings) (a : Tree) (main : Birth) (ys : List Thread) (ks : L
         open_end (d, q, g) = (s, ap r (sym q) ∙ g.1 ∙ sym g.0 ∙ ap f.typed.residuals q ∙ e, k, equals_itself s (session_formed k))
 
         by : (j : ℕ) → count_of z y.bag ≡ j → (u : Tree) × (r z ≡ Some u) × IsSession [] u × Equals u s
-        by zero q = ended (over_known z (All-contains (IsKnownIn ys) ys y run.whole.known i z (positive (held_state z y.now.state) n) q)) q
-        by (suc j) q = open_end (there (λ (e : EndView). (f.typed.residuals (end_name e) ≡ residual_of e.knows) × IsLevel ks e) z y.bag (omega (arith, q))
-            (all_both (λ (e : EndView). f.typed.residuals (end_name e) ≡ residual_of e.knows) (IsLevel ks) y.bag f.typed.are.known (level_of y i).0))
+        by zero q = ended (over_known z (All-contains (IsKnownIn ys) ys y run.whole.known i z
+            (positive (held_state z y.now.state) n) q)) q
+        by (suc j) q = open_end (there (λ (e : EndView). (f.typed.residuals (end_name e) ≡ residual_of e.knows) × IsLevel ks e) z
+            y.bag (omega (arith, q))
+            (all_both (λ (e : EndView). f.typed.residuals (end_name e) ≡ residual_of e.knows) (IsLevel ks) y.bag f.typed.are.known
+            (level_of y i).0))
 
     typed : IsTyped m r y.now.state f.typed.type
     typed = typed_still m f.typed.residuals r y.now.state f.typed.type f.typed.typed still
@@ -223,8 +230,11 @@ module _ (m : Surroundings) (a : Tree) (main : Birth) (ys : List Thread) (ks : L
   pub tasks : (p : Path) (t : Task) → c.tasks p ≡ Some t → (b : Tree) × IsTyped m r t.state b × (p ≡ main_path → b ≡ a)
   tasks p t e =
       let g = has_task ys p t e in
-      let f = fits_of g.thread g.there in
-      (f.typed.type, subst (λ (t : Task). IsTyped m r t.state f.typed.type) g.now (typed g.thread g.there), λ q. f.typed.main (g.path ∙ q))
+      let f = fits_of g.thread g.there in (
+        f.typed.type,
+        subst (λ (t : Task). IsTyped m r t.state f.typed.type) g.now (typed g.thread g.there),
+        λ q. f.typed.main (g.path ∙ q),
+      )
 
   -- ---- owners
 
@@ -262,18 +272,21 @@ module _ (m : Surroundings) (a : Tree) (main : Birth) (ys : List Thread) (ks : L
         by y i n (suc j) q = omega (arith, q)
 
     -- and in no other thread's state
-    none_else : (y x : Thread) → Contains ys y → 0 < count_of z y.bag → Contains ys x → (y.path ≡ x.path → ⊥) → held_state z x.now.state ≡ 0
+    none_else : (y x : Thread) → Contains ys y → 0 < count_of z y.bag → Contains ys x →
+        (y.path ≡ x.path → ⊥) → held_state z x.now.state ≡ 0
     none_else y x i n j apart = by (held_state z x.now.state) refl (count_of z x.bag) refl
       where
         by : (h : ℕ) → held_state z x.now.state ≡ h → (k : ℕ) → count_of z x.bag ≡ k → h ≡ 0
         by zero p k q = refl
-        by (suc h) p zero q = absurd (not_over z u (over_known z (All-contains (IsKnownIn ys) ys x run.whole.known j z (omega (arith, p)) q)))
+        by (suc h) p zero q = absurd (not_over z u (over_known z
+            (All-contains (IsKnownIn ys) ys x run.whole.known j z (omega (arith, p)) q)))
         by (suc h) p (suc k) q =
             let o = ends_once m a main ys run z in
             let b = both_sum (of_ends (named_so z)) ys y x i j apart in
             absurd (omega (arith, o, b, n, q))
 
-    held_else : (y : Thread) → Contains ys y → 0 < count_of z y.bag → (q : Path) → same_path y.path q ≡ false → (o : Option Task) → c.tasks q ≡ o → amount z o ≡ 0
+    held_else : (y : Thread) → Contains ys y → 0 < count_of z y.bag → (q : Path) → same_path y.path q ≡ false →
+        (o : Option Task) → c.tasks q ≡ o → amount z o ≡ 0
     held_else y i n q s None e = refl
     held_else y i n q s (Some t) e =
         let g = has_task ys q t e in
@@ -287,8 +300,11 @@ module _ (m : Surroundings) (a : Tree) (main : Birth) (ys : List Thread) (ks : L
     -- one task holds it, once
     pub owned : IsOwned c z
     owned =
-        let g = open_in in
-        (g.0.path, ap (amount z) (task_is g.0 g.1) ∙ ((fits_of g.0 g.1).once z g.2).1, λ q s. held_else g.0 g.1 g.2 q s (c.tasks q) refl)
+        let g = open_in in (
+          g.0.path,
+          ap (amount z) (task_is g.0 g.1) ∙ ((fits_of g.0 g.1).once z g.2).1,
+          λ q s. held_else g.0 g.1 g.2 q s (c.tasks q) refl,
+        )
 
   -- ---- names
 
@@ -307,7 +323,12 @@ module _ (m : Surroundings) (a : Tree) (main : Birth) (ys : List Thread) (ks : L
       let q = fits.channels w in
       let s = some_in (opens m w) ys (omega (arith, n, o, q)) in
       let f = fits_of s.0 s.1 in
-      record { thread = s.0; there = s.1; made = opened_in (program_in m) m.types h s.0.path s.0.first s.0.log s.0.now f.follows s.2 }
+      record {
+        thread = s.0;
+        there = s.1;
+        made = opened_in
+            (program_in m) m.types h s.0.path s.0.first s.0.log s.0.now f.follows s.2;
+      }
 
   -- the task that made a channel is there, and has made as many
   pub makers : HasMakers c

@@ -112,14 +112,18 @@ alone_le w h (Got ev) s = omega arith
 
 passed_le : (w : ℕ → ℕ) → ((s : ℕ) → w s ≤ 1) → (h : List Entry) → passed_by w h ≤ length h
 passed_le w h [] = omega arith
-passed_le w h (e ∷ es) = let a = sum_by-cons (λ (e : Entry). w e.stamp) e es in let b = h e.stamp in let c = passed_le w h es in omega (arith, a, b, c)
+passed_le w h (e ∷ es) = let a = sum_by-cons (λ (e : Entry). w e.stamp) e es in let b = h e.stamp in let c = passed_le w h es in
+    omega (arith, a, b, c)
 
 -- no more than all of them
-events_le : (w : ℕ → ℕ) → ((s : ℕ) → w s ≤ 1) → (ys : List Thread) (ks : List ChannelHistory) → events_by w ys ks ≤ events_of ys ks
+events_le : (w : ℕ → ℕ) → ((s : ℕ) → w s ≤ 1) →
+    (ys : List Thread) (ks : List ChannelHistory) → events_by w ys ks ≤ events_of ys ks
 events_le w h ys ks =
     let a = sum_by-le-sum_by (λ (y : Thread). own_by w y.log) (λ (y : Thread). sum_by (λ (e : LogEntry). alone e.answer) y.log) ys
-    (λ y. sum_by-le-sum_by (λ (e : LogEntry). alone_by w e.answer e.stamp) (λ (e : LogEntry). alone e.answer) y.log (λ e. alone_le w h e.answer e.stamp)) in
-    let b = sum_by-le-sum_by (λ (k : ChannelHistory). passed_by w k.entries.items) (λ (k : ChannelHistory). length k.entries.items) ks
+    (λ y. sum_by-le-sum_by (λ (e : LogEntry). alone_by w e.answer e.stamp) (λ (e : LogEntry). alone e.answer) y.log
+    (λ e. alone_le w h e.answer e.stamp)) in
+    let b = sum_by-le-sum_by (λ (k : ChannelHistory). passed_by w k.entries.items)
+    (λ (k : ChannelHistory). length k.entries.items) ks
     (λ k. passed_le w h k.entries.items) in
     omega (arith, a, b)
 
@@ -130,20 +134,25 @@ alone_both v w Forked s = refl
 alone_both v w Sent s = refl
 alone_both v w (Got ev) s = refl
 
-events_both : (v w : ℕ → ℕ) (ys : List Thread) (ks : List ChannelHistory) → events_by (λ s. v s + w s) ys ks ≡ events_by v ys ks + events_by w ys ks
+events_both : (v w : ℕ → ℕ) (ys : List Thread) (ks : List ChannelHistory) → events_by
+    (λ s. v s + w s) ys ks ≡ events_by v ys ks + events_by w ys ks
 events_both v w ys ks =
-    let a = sum_both (λ (y : Thread). own_by (λ s. v s + w s) y.log) (λ (y : Thread). own_by v y.log) (λ (y : Thread). own_by w y.log)
+    let a = sum_both (λ (y : Thread). own_by (λ s. v s + w s) y.log) (λ (y : Thread). own_by v y.log)
+    (λ (y : Thread). own_by w y.log)
     (λ y. sum_both (λ (e : LogEntry). alone_by (λ s. v s + w s) e.answer e.stamp) (λ (e : LogEntry). alone_by v e.answer e.stamp)
     (λ (e : LogEntry). alone_by w e.answer e.stamp) (λ e. alone_both v w e.answer e.stamp) y.log) ys in
-    let b = sum_both (λ (k : ChannelHistory). passed_by (λ s. v s + w s) k.entries.items) (λ (k : ChannelHistory). passed_by v k.entries.items)
+    let b = sum_both (λ (k : ChannelHistory). passed_by (λ s. v s + w s) k.entries.items)
+    (λ (k : ChannelHistory). passed_by v k.entries.items)
     (λ (k : ChannelHistory). passed_by w k.entries.items)
-    (λ k. sum_both (λ (e : Entry). v e.stamp + w e.stamp) (λ (e : Entry). v e.stamp) (λ (e : Entry). w e.stamp) (λ e. refl) k.entries.items) ks in
+    (λ k. sum_both (λ (e : Entry). v e.stamp + w e.stamp) (λ (e : Entry). v e.stamp) (λ (e : Entry). w e.stamp)
+    (λ e. refl) k.entries.items) ks in
     omega (arith, a, b)
 
 -- ---- logs
 
 -- what is forked at a stamp is an event there
-birth_at : (c : ℕ) (path : Path) (stamp : ℕ) (o : Option State) → sum_by (λ (b : Birth). at c b.first.clock) (birth_of path stamp o) ≤ at c stamp
+birth_at : (c : ℕ) (path : Path) (stamp : ℕ) (o : Option State) → sum_by
+    (λ (b : Birth). at c b.first.clock) (birth_of path stamp o) ≤ at c stamp
 birth_at c path stamp None = omega arith
 birth_at c path stamp (Some s) = omega arith
 
@@ -177,7 +186,8 @@ entry_at c path t stamp (Get x) (Got ev) h = omega arith
 entry_at c path t stamp q a h = absurd h
 
 log_at : (c : ℕ) (p : Program) (path : Path) (t : Task) (log : List LogEntry) (u : Task) → Follows p path t log u →
-    sum_by (λ (e : LogEntry). at c e.stamp) log ≡ own_by (at c) log + sum_by (λ (g : Exchange). at c g.stamp) (exchanges t.clock log)
+    sum_by (λ (e : LogEntry). at c e.stamp) log ≡ own_by (at c) log + sum_by
+    (λ (g : Exchange). at c g.stamp) (exchanges t.clock log)
 log_at c p path t [] u f = refl
 log_at c p path t (e ∷ es) u f =
     let w = λ (g : Exchange). at c g.stamp in
@@ -203,7 +213,8 @@ made_rises p path t (e ∷ es) u f =
     rises Sent = omega arith
     rises (Got ev) = omega arith
 
-counts_below : (p : Program) (path : Path) (t : Task) (log : List LogEntry) (u : Task) → Follows p path t log u → t.made ≤ t.clock → t.forked ≤ t.clock →
+counts_below : (p : Program) (path : Path) (t : Task) (log : List LogEntry) (u : Task) → Follows p path t log u →
+    t.made ≤ t.clock → t.forked ≤ t.clock →
     (u.made ≤ u.clock) × (u.forked ≤ u.clock)
 counts_below p path t [] u f m k = subst (λ (v : Task). (v.made ≤ v.clock) × (v.forked ≤ v.clock)) (sym f) (m, k)
 counts_below p path t (e ∷ es) u f m k =
@@ -217,11 +228,13 @@ abbrev of_channel : ChannelName → Opening → ℕ
 of_channel h o = once (same_channel h o.name)
 
 -- the number of a channel that a log makes is no more than how many its task has made
-opened_here : (types : List Tree) (h : ChannelName) (path : Path) (t : Task) (stamp : ℕ) (q : Request) (a : Answer) → IsAnswered path t stamp q a →
+opened_here : (types : List Tree) (h : ChannelName) (path : Path) (t : Task) (stamp : ℕ) (q : Request) (a : Answer) →
+    IsAnswered path t stamp q a →
     0 < sum_by (of_channel h) (opened_by types q a) → h.count ≤ made_after a t.made
 opened_here types h path t stamp (New k) (Made n) i l = by (slice_get types k) l
   where
-    name : ((h ≡ n) × (once (same_channel h n) ≡ 1)) ⊎ (once (same_channel h n) ≡ 0) → 0 < once (same_channel h n) → h.count ≤ suc t.made
+    name : ((h ≡ n) × (once (same_channel h n) ≡ 1)) ⊎
+        (once (same_channel h n) ≡ 0) → 0 < once (same_channel h n) → h.count ≤ suc t.made
     name (inl e) l = let c = ap (λ (g : ChannelName). g.count) (e.0 ∙ i.1) in omega (arith, c)
     name (inr z) l = absurd (omega (arith, l, z))
 
@@ -234,17 +247,20 @@ opened_here types h path t stamp (Put x ev) Sent i l = absurd (omega (arith, l))
 opened_here types h path t stamp (Get x) (Got ev) i l = absurd (omega (arith, l))
 opened_here types h path t stamp q a i l = absurd i
 
-opened_below : (types : List Tree) (h : ChannelName) (p : Program) (path : Path) (t : Task) (log : List LogEntry) (u : Task) → Follows p path t log u →
+opened_below : (types : List Tree) (h : ChannelName) (p : Program) (path : Path) (t : Task) (log : List LogEntry) (u : Task) →
+    Follows p path t log u →
     0 < sum_by (of_channel h) (openings types log) → h.count ≤ u.made
 opened_below types h p path t [] u f l = absurd (omega (arith, l))
 opened_below types h p path t (e ∷ es) u f l =
-    by (sum_by (of_channel h) (opened_by types e.asked e.answer)) refl (opened_here types h path t e.stamp e.asked e.answer f.0.is_answered)
+    by (sum_by (of_channel h) (opened_by types e.asked e.answer)) refl
+    (opened_here types h path t e.stamp e.asked e.answer f.0.is_answered)
     (opened_below types h p path (after_entry p t e) es u f.1)
   where
     by : (n : ℕ) → sum_by (of_channel h) (opened_by types e.asked e.answer) ≡ n →
         (0 < sum_by (of_channel h) (opened_by types e.asked e.answer) → h.count ≤ made_after e.answer t.made) →
         (0 < sum_by (of_channel h) (openings types es) → h.count ≤ u.made) → h.count ≤ u.made
-    by zero z first more = let a = sum_by-append (of_channel h) (opened_by types e.asked e.answer) (openings types es) in more (omega (arith, a, z, l))
+    by zero z first more = let a = sum_by-append (of_channel h) (opened_by types e.asked e.answer) (openings types es) in
+        more (omega (arith, a, z, l))
     by (suc n) z first more =
         let a = first (omega (arith, z)) in
         let b = made_rises p path (after_entry p t e) es u f.1 in
@@ -256,7 +272,8 @@ part_stamp : (x : EndName) (b : Bool) (e : Entry) → (part_in x b e).stamp ≡ 
 part_stamp x true e = refl
 part_stamp x false e = refl
 
-parts_at : (c : ℕ) (x : EndName) (o : Option Tree) (h : List Entry) → sum_by (λ (g : Exchange). at c g.stamp) (parts_in x o h) ≡ passed_by (at c) h
+parts_at : (c : ℕ) (x : EndName) (o : Option Tree) (h : List Entry) → sum_by
+    (λ (g : Exchange). at c g.stamp) (parts_in x o h) ≡ passed_by (at c) h
 parts_at c x o [] = refl
 parts_at c x o (e ∷ es) =
     let w = λ (g : Exchange). at c g.stamp in
@@ -267,7 +284,8 @@ parts_at c x o (e ∷ es) =
     omega (arith, a, b, d, ih)
 
 -- both clocks of an entry are those of its parts
-both_clocks : (P : ℕ → Type 0) (x y : EndName) (b d : Bool) (e : Entry) → b ≡ not d → P (part_in x b e).clock → P (part_in y d e).clock → P e.sent × P e.got
+both_clocks : (P : ℕ → Type 0) (x y : EndName) (b d : Bool) (e : Entry) → b ≡ not d → P (part_in x b e).clock →
+    P (part_in y d e).clock → P e.sent × P e.got
 both_clocks P x y true true e n l r = absurd (cc n)
 both_clocks P x y true false e n l r = (l, r)
 both_clocks P x y false true e n l r = (r, l)
@@ -296,19 +314,25 @@ next_later P e es s n = record {
   next = n.next;
 }
 
-is_next : (P : ℕ → Type 0) (b : ℕ) (h : List Entry) (s : ℕ) → AreStamped b h → P b → All (λ (e : Entry). P e.stamp) h → 0 < passed_by (at s) h → IsNext P h s
+is_next : (P : ℕ → Type 0) (b : ℕ) (h : List Entry) (s : ℕ) → AreStamped b h → P b → All (λ (e : Entry). P e.stamp) h →
+    0 < passed_by (at s) h → IsNext P h s
 is_next P b [] s st here all l = absurd (omega (arith, l))
 is_next P b (e ∷ es) s st here all l =
     by (at_or s e.stamp)
     (is_next P e.stamp es s st.3 (All-head (λ (e : Entry). P e.stamp) e es all) (All-tail (λ (e : Entry). P e.stamp) e es all))
   where
-    by : ((e.stamp ≡ s) × (at s e.stamp ≡ 1)) ⊎ (at s e.stamp ≡ 0) → (0 < passed_by (at s) es → IsNext P es s) → IsNext P (e ∷ es) s
+    by : ((e.stamp ≡ s) × (at s e.stamp ≡ 1)) ⊎ (at s e.stamp ≡ 0) →
+        (0 < passed_by (at s) es → IsNext P es s) → IsNext P (e ∷ es) s
     by (inl q) more = record { before = []; entry = e; behind = es; is = refl; stamp = q.0; last = b; holds = here; next = st.0 }
-    by (inr z) more = let a = sum_by-cons (λ (e : Entry). at s e.stamp) e es in next_later P e es s (more (omega (arith, a, z, l)))
+    by (inr z) more = let a = sum_by-cons (λ (e : Entry). at s e.stamp) e es in
+        next_later P e es s (more (omega (arith, a, z, l)))
 
 stamped_to : (n : ℕ) (h : List Entry) → All (λ (e : Entry). e.stamp ≤ n) h → StampedTo n h
 stamped_to n [] all = tt
-stamped_to n (e ∷ es) all = (All-head (λ (e : Entry). e.stamp ≤ n) e es all, stamped_to n es (All-tail (λ (e : Entry). e.stamp ≤ n) e es all))
+stamped_to n (e ∷ es) all = (
+  All-head (λ (e : Entry). e.stamp ≤ n) e es all,
+  stamped_to n es (All-tail (λ (e : Entry). e.stamp ≤ n) e es all),
+)
 
 -- the number of a channel and its stamps aren't over n
 abbrev ChannelWithin : ℕ → ChannelHistory → Type 0
@@ -331,13 +355,16 @@ of_greater P a b p q = by (b - a) refl
 -- ---- what holds along a log
 
 -- the clock at its end
-end_holds : (P : ℕ → Type 0) (p : Program) (path : Path) (t : Task) (log : List LogEntry) (u : Task) → Follows p path t log u → P t.clock →
+end_holds : (P : ℕ → Type 0) (p : Program) (path : Path) (t : Task) (log : List LogEntry) (u : Task) → Follows p path t log u →
+    P t.clock →
     All (λ (e : LogEntry). P e.stamp) log → P u.clock
 end_holds P p path t [] u f h all = subst (λ (v : Task). P v.clock) (sym f) h
 end_holds P p path t (e ∷ es) u f h all =
-    end_holds P p path (after_entry p t e) es u f.1 (All-head (λ (e : LogEntry). P e.stamp) e es all) (All-tail (λ (e : LogEntry). P e.stamp) e es all)
+    end_holds P p path (after_entry p t e) es u f.1 (All-head (λ (e : LogEntry). P e.stamp) e es all)
+    (All-tail (λ (e : LogEntry). P e.stamp) e es all)
 
-own_is : (c : ℕ) (path : Path) (t : Task) (stamp : ℕ) (q : Request) (a : Answer) → IsAnswered path t stamp q a → 0 < alone_by (at (suc c)) a stamp → t.clock ≡ c
+own_is : (c : ℕ) (path : Path) (t : Task) (stamp : ℕ) (q : Request) (a : Answer) → IsAnswered path t stamp q a →
+    0 < alone_by (at (suc c)) a stamp → t.clock ≡ c
 own_is c path t stamp Step Go h l = let e = at_is (suc c) stamp l in omega (arith, e, h)
 own_is c path t stamp (New k) (Made n) h l = let e = at_is (suc c) stamp l in let s = h.0 in omega (arith, e, s)
 own_is c path t stamp Fork Forked h l = let e = at_is (suc c) stamp l in omega (arith, e, h)
@@ -346,18 +373,22 @@ own_is c path t stamp (Get x) (Got ev) h l = absurd (omega (arith, l))
 own_is c path t stamp q a h l = absurd h
 
 -- the clock before an event that a task logged alone
-own_holds : (P : ℕ → Type 0) (c : ℕ) (p : Program) (path : Path) (t : Task) (log : List LogEntry) (u : Task) → Follows p path t log u → P t.clock →
+own_holds : (P : ℕ → Type 0) (c : ℕ) (p : Program) (path : Path) (t : Task) (log : List LogEntry) (u : Task) →
+    Follows p path t log u → P t.clock →
     All (λ (e : LogEntry). P e.stamp) log → 0 < own_by (at (suc c)) log → P c
 own_holds P c p path t [] u f h all l = absurd (omega (arith, l))
 own_holds P c p path t (e ∷ es) u f h all l =
     by (alone_by (at (suc c)) e.answer e.stamp) refl
-    (own_holds P c p path (after_entry p t e) es u f.1 (All-head (λ (e : LogEntry). P e.stamp) e es all) (All-tail (λ (e : LogEntry). P e.stamp) e es all))
+    (own_holds P c p path (after_entry p t e) es u f.1 (All-head (λ (e : LogEntry). P e.stamp) e es all)
+    (All-tail (λ (e : LogEntry). P e.stamp) e es all))
   where
     by : (n : ℕ) → alone_by (at (suc c)) e.answer e.stamp ≡ n → (0 < own_by (at (suc c)) es → P c) → P c
-    by zero z more = let a = sum_by-cons (λ (e : LogEntry). alone_by (at (suc c)) e.answer e.stamp) e es in more (omega (arith, a, z, l))
+    by zero z more = let a = sum_by-cons (λ (e : LogEntry). alone_by (at (suc c)) e.answer e.stamp) e es in
+        more (omega (arith, a, z, l))
     by (suc n) z more = subst P (own_is c path t e.stamp e.asked e.answer f.0.is_answered (omega (arith, z))) h
 
-exchange_is : (c clock stamp : ℕ) (q : Request) (a : Answer) → 0 < sum_by (λ (g : Exchange). at c g.clock) (exchanged_by clock stamp q a) → clock ≡ c
+exchange_is : (c clock stamp : ℕ) (q : Request) (a : Answer) → 0 < sum_by
+    (λ (g : Exchange). at c g.clock) (exchanged_by clock stamp q a) → clock ≡ c
 exchange_is c clock stamp (Put x ev) Sent l = at_is c clock (omega (arith, l))
 exchange_is c clock stamp (Get x) (Got ev) l = at_is c clock (omega (arith, l))
 exchange_is c clock stamp q a l = absurd (omega (arith, l))
@@ -368,18 +399,21 @@ exchange_holds : (P : ℕ → Type 0) (c : ℕ) (clock : ℕ) (log : List LogEnt
 exchange_holds P c clock [] h all l = absurd (omega (arith, l))
 exchange_holds P c clock (e ∷ es) h all l =
     by (sum_by (λ (g : Exchange). at c g.clock) (exchanged_by clock e.stamp e.asked e.answer)) refl
-    (exchange_holds P c e.stamp es (All-head (λ (e : LogEntry). P e.stamp) e es all) (All-tail (λ (e : LogEntry). P e.stamp) e es all))
+    (exchange_holds P c e.stamp es (All-head (λ (e : LogEntry). P e.stamp) e es all)
+    (All-tail (λ (e : LogEntry). P e.stamp) e es all))
   where
     by : (n : ℕ) → sum_by (λ (g : Exchange). at c g.clock) (exchanged_by clock e.stamp e.asked e.answer) ≡ n →
         (0 < sum_by (λ (g : Exchange). at c g.clock) (exchanges e.stamp es) → P c) → P c
     by zero z more =
-        let a = sum_by-append (λ (g : Exchange). at c g.clock) (exchanged_by clock e.stamp e.asked e.answer) (exchanges e.stamp es) in
+        let a = sum_by-append (λ (g : Exchange). at c g.clock) (exchanged_by clock e.stamp e.asked e.answer)
+        (exchanges e.stamp es) in
         more (omega (arith, a, z, l))
     by (suc n) z more = subst P (exchange_is c clock e.stamp e.asked e.answer (omega (arith, z))) h
 
 -- ---- a record
 
-module _ (m : Surroundings) (main : Birth) (ys : List Thread) (ks : List ChannelHistory) (early : main.first.clock ≡ 0) (fits : FitsRecord m main ys ks) where
+module _ (m : Surroundings) (main : Birth) (ys : List Thread) (ks : List ChannelHistory) (early : main.first.clock ≡ 0)
+    (fits : FitsRecord m main ys ks) where
   -- how many events have this stamp
   abbrev happens : ℕ → ℕ
   happens c = events_by (at c) ys ks
@@ -397,7 +431,8 @@ module _ (m : Surroundings) (main : Birth) (ys : List Thread) (ks : List Channel
   exchanged_at c =
       let w = λ (g : Exchange). at c g.stamp in
       let a = fits.exchanged w in
-      let b = sum_both (shows w) (λ (k : ChannelHistory). passed_by (at c) k.entries.items) (λ (k : ChannelHistory). passed_by (at c) k.entries.items)
+      let b = sum_both (shows w) (λ (k : ChannelHistory). passed_by (at c) k.entries.items)
+      (λ (k : ChannelHistory). passed_by (at c) k.entries.items)
       (λ k.
       let l = parts_at c (record { channel = k.name; side = Left }) (Some (side_type Left k.declared)) k.entries.items in
       let r = parts_at c (record { channel = k.name; side = Right }) (Some (side_type Right k.declared)) k.entries.items in
@@ -438,7 +473,8 @@ module _ (m : Surroundings) (main : Birth) (ys : List Thread) (ks : List Channel
       by zero e = inl e
       by (suc n) e = among (at_or y.first.clock main.first.clock)
         where
-          among : ((main.first.clock ≡ y.first.clock) × (at y.first.clock main.first.clock ≡ 1)) ⊎ (at y.first.clock main.first.clock ≡ 0) → Hit y.first.clock
+          among : ((main.first.clock ≡ y.first.clock) × (at y.first.clock main.first.clock ≡ 1)) ⊎
+              (at y.first.clock main.first.clock ≡ 0) → Hit y.first.clock
           among (inl q) = let s = q.0 in absurd (omega (arith, s, early, e))
           among (inr z) =
               let c = y.first.clock in
@@ -446,7 +482,8 @@ module _ (m : Surroundings) (main : Birth) (ys : List Thread) (ks : List Channel
               let a = there_sums (λ (x : Thread). w (birth x)) ys y i in
               let o = at_itself c in
               let b = fits.births w in
-              let d = sum_by-le-sum_by (bears m w) (λ (x : Thread). own_by (at c) x.log) ys (λ x. births_at c (program_in m) x.path x.first x.log) in
+              let d = sum_by-le-sum_by (bears m w) (λ (x : Thread). own_by (at c) x.log) ys
+              (λ x. births_at c (program_in m) x.path x.first x.log) in
               inr (omega (arith, a, o, b, d, z))
 
   -- and that at which it stands
@@ -458,13 +495,15 @@ module _ (m : Surroundings) (main : Birth) (ys : List Thread) (ks : List Channel
   exchange_hits g x =
       let a = there_sums (λ (f : Exchange). at g.clock f.clock) (exchanges x.task.first.clock x.task.log) g x.logged in
       let o = at_itself g.clock in
-      exchange_holds Hit g.clock x.task.first.clock x.task.log (first_hits x.task x.there) (log_hits x.task x.there) (omega (arith, a, o))
+      exchange_holds Hit g.clock x.task.first.clock x.task.log (first_hits x.task x.there) (log_hits x.task x.there)
+      (omega (arith, a, o))
 
   -- what an entry's stamp follows
   passed_hits : (c : ℕ) (k : ChannelHistory) → Contains ks k → 0 < passed_by (at (suc c)) k.entries.items → Hit c
   passed_hits c k i l =
       let r = corresponds m main ys ks fits in
-      let n = is_next Hit 0 k.entries.items (suc c) (All-contains IsRecorded ks k fits.histories i).stamped (inl refl) (history_hits k i) l in
+      let n = is_next Hit 0 k.entries.items (suc c) (All-contains IsRecorded ks k fits.histories i).stamped (inl refl)
+      (history_hits k i) l in
       let b = both_clocks Hit (record { channel = k.name; side = Left }) (record { channel = k.name; side = Right })
       (sends (residual Left k.declared n.before) n.entry.event) (sends (residual Right k.declared n.before) n.entry.event) n.entry
       (r.one_sends k n.before n.entry n.behind i n.is)
@@ -472,7 +511,8 @@ module _ (m : Surroundings) (main : Birth) (ys : List Thread) (ks : List Channel
       (exchange_hits (part_at k Right n.before n.entry) (r.exchanged k Right n.before n.entry n.behind i n.is)) in
       let d = n.stamp in
       let e = n.next in
-      subst Hit (omega (arith, d, e)) (of_greater Hit (max n.entry.sent n.entry.got) n.last (of_greater Hit n.entry.sent n.entry.got b.0 b.1) n.holds)
+      subst Hit (omega (arith, d, e)) (of_greater Hit (max n.entry.sent n.entry.got) n.last
+      (of_greater Hit n.entry.sent n.entry.got b.0 b.1) n.holds)
 
   -- the stamp before that of an event is one, or 0
   before_hits : (c : ℕ) → 0 < happens (suc c) → Hit c
@@ -484,7 +524,8 @@ module _ (m : Surroundings) (main : Birth) (ys : List Thread) (ks : List Channel
           passed_hits c r.0 r.1 r.2
       by (suc n) z =
           let r = some_in (λ (y : Thread). own_by (at (suc c)) y.log) ys (omega (arith, z)) in
-          own_holds Hit c (program_in m) r.0.path r.0.first r.0.log r.0.now (logged r.0 r.1).follows (first_hits r.0 r.1) (log_hits r.0 r.1) r.2
+          own_holds Hit c (program_in m) r.0.path r.0.first r.0.log r.0.now (logged r.0 r.1).follows (first_hits r.0 r.1)
+          (log_hits r.0 r.1) r.2
 
   counted : (n : ℕ) → Hit n → n ≤ events_by (upto n) ys ks
   counted zero h = omega arith
@@ -514,7 +555,8 @@ module _ (m : Surroundings) (main : Birth) (ys : List Thread) (ks : List Channel
         clock = c;
         forked = omega (arith, c, f);
         made = omega (arith, c, e);
-        stamps = All-weaker (λ (e : LogEntry). Hit e.stamp) (λ (e : LogEntry). e.stamp ≤ events_of ys ks) (λ e h. few e.stamp h) y.log (log_hits y i);
+        stamps = All-weaker (λ (e : LogEntry). Hit e.stamp) (λ (e : LogEntry). e.stamp ≤ events_of ys ks)
+            (λ e h. few e.stamp h) y.log (log_hits y i);
       }
 
   channel_within : (k : ChannelHistory) → Contains ks k → ChannelWithin (events_of ys ks) k
@@ -528,14 +570,16 @@ module _ (m : Surroundings) (main : Birth) (ys : List Thread) (ks : List Channel
       let e = (task_within r.0 r.1).made in (
         omega (arith, d, e),
         stamped_to (events_of ys ks) k.entries.items
-            (All-weaker (λ (e : Entry). Hit e.stamp) (λ (e : Entry). e.stamp ≤ events_of ys ks) (λ e h. few e.stamp h) k.entries.items (history_hits k i)),
+            (All-weaker (λ (e : Entry). Hit e.stamp) (λ (e : Entry). e.stamp ≤ events_of ys ks)
+            (λ e h. few e.stamp h) k.entries.items (history_hits k i)),
       )
 
   -- nothing is
   pub all_within : AreWithin (events_of ys ks) ys ks
   all_within = record {
     tasks = All-weaker (Contains ys) (IsWithin (events_of ys ks)) task_within ys (All-contains_itself ys);
-    channels = channels_within (events_of ys ks) ks (All-weaker (Contains ks) (ChannelWithin (events_of ys ks)) channel_within ks (All-contains_itself ks));
+    channels = channels_within (events_of ys ks) ks
+        (All-weaker (Contains ks) (ChannelWithin (events_of ys ks)) channel_within ks (All-contains_itself ks));
   }
 
 -- of each record

@@ -86,12 +86,14 @@ module _ (h : List Entry) (l r : Half) (sl : l.side ≡ Left) (sr : r.side ≡ R
   last_is v d e = equal_stamp (last_stamp h) d.stamp (ap last_stamp e ∙ last_stamp_push v.history d)
 
   -- what the left end may rely on
-  pub left_agrees : (lacks : Option Entry) (o : Option Offer) → h ≡ l.history ++ option_to_list lacks → settled lacks o ≡ true → l.offer ≡ o →
+  pub left_agrees : (lacks : Option Entry) (o : Option Offer) → h ≡ l.history ++ option_to_list lacks → settled lacks o ≡ true →
+      l.offer ≡ o →
       agrees lacks o (stands_on Left stood) (last_stamp h) ≡ true
   left_agrees None None e s q = refl
   left_agrees None (Some o) e s q =
       ap (stands_on Left) by_parts
-      ∙ (λ i. stands_on Left (either_of (stand_if (same_length (length l.history) (length h) (ap length (sym (e ∙ append-nil l.history))) i) Left
+      ∙ (λ i. stands_on Left (either_of (stand_if (same_length (length l.history) (length h)
+      (ap length (sym (e ∙ append-nil l.history))) i) Left
       (q i)) (stand_if right_level Right r.offer)))
   left_agrees (Some d) None e s q = absurd (cc s)
   left_agrees (Some d) (Some o) e s q =
@@ -101,7 +103,8 @@ module _ (h : List Entry) (l r : Half) (sl : l.side ≡ Left) (sr : r.side ≡ R
       ap (λ b. not b && nat_eq (last_stamp h) d.stamp) z ∙ last_is l d e
 
   -- what the right end may rely on, where the left end's offer doesn't stand with it
-  pub right_agrees : stand_if left_level Left l.offer ≡ None ⊎ (r.history ≡ h → r.offer ≡ None) → (lacks : Option Entry) (o : Option Offer) →
+  pub right_agrees : stand_if left_level Left l.offer ≡ None ⊎ (r.history ≡ h → r.offer ≡ None) →
+      (lacks : Option Entry) (o : Option Offer) →
       h ≡ r.history ++ option_to_list lacks →
       settled lacks o ≡ true → r.offer ≡ o → agrees lacks o (stands_on Right stood) (last_stamp h) ≡ true
   right_agrees one None None e s q = refl
@@ -114,11 +117,13 @@ module _ (h : List Entry) (l r : Half) (sl : l.side ≡ Left) (sr : r.side ≡ R
   right_agrees one (Some d) (Some o) e s q =
       let z : stands_on Right stood ≡ false = ap (stands_on Right) by_parts
       ∙ (λ i. stands_on Right (either_of (stand_if left_level Left l.offer)
-      (stand_if (other_length (length r.history) (length h) (longer_by r d e) i) Right r.offer))) ∙ not_right left_level l.offer in
+      (stand_if (other_length (length r.history) (length h) (longer_by r d e) i) Right r.offer)))
+      ∙ not_right left_level l.offer in
       ap (λ b. not b && nat_eq (last_stamp h) d.stamp) z ∙ last_is r d e
 
   -- where the right end's offer stands, the left end's doesn't
-  module _ (t : Tree) (dl : l.declared ≡ t) (dr : r.declared ≡ t) (lacks : Option Entry) (is : h ≡ l.history ++ option_to_list lacks)
+  module _ (t : Tree) (dl : l.declared ≡ t) (dr : r.declared ≡ t) (lacks : Option Entry)
+      (is : h ≡ l.history ++ option_to_list lacks)
       (pl : sends_by (residual_of l) l.offer ≡ true) (pr : sends_by (residual_of r) r.offer ≡ true) where
     level_so : (lacks : Option Entry) → h ≡ l.history ++ option_to_list lacks → length l.history ≡ length h → l.history ≡ h
     level_so None e n = sym (e ∙ append-nil l.history)
@@ -130,7 +135,8 @@ module _ (h : List Entry) (l r : Half) (sl : l.side ≡ Left) (sr : r.side ≡ R
         ((λ i. sends (residual (sym sl i) (sym dl i) (sym hl i)) o.event) ∙ (λ i. sends_by (residual_of l) (sym ql i)) ∙ pl)
         ((λ i. sends (residual (sym sr i) (sym dr i) (sym hr i)) p.event) ∙ (λ i. sends_by (residual_of r) (sym qr i)) ∙ pr)
 
-    one_stands : (b : Bool) → left_level ≡ b → (o : Option Offer) → l.offer ≡ o → (stand_if b Left o ≡ None) ⊎ (r.history ≡ h → r.offer ≡ None)
+    one_stands : (b : Bool) → left_level ≡ b → (o : Option Offer) → l.offer ≡ o → (stand_if b Left o ≡ None) ⊎
+        (r.history ≡ h → r.offer ≡ None)
     one_stands b e None q = inl (none_of b Left)
     one_stands false e (Some o) q = inl refl
     one_stands true e (Some o) q = inr (λ hr. by hr r.offer refl)
@@ -156,15 +162,19 @@ module _ (m : Surroundings) (a : Tree) (main : Birth) (xs : List Thread) (ps : L
 
   -- the end is as closing its channel has said
   abbrev pub as_closed : EndView → Bool
-  as_closed e = agrees (missing (histories_of ps) e) e.knows.offer (stands_on e.knows.side (offered_at e.channel)) (last_at e.channel)
+  as_closed e = agrees (missing (histories_of ps) e) e.knows.offer (stands_on e.knows.side (offered_at e.channel))
+      (last_at e.channel)
 
   offered_is : (h : ChannelName) (p : Pair) → Contains ps p → h ≡ p.closed.history.name → offered_at h ≡ p.closed.offered
   offered_is h p c is = look_of (λ (p : Pair). p.closed.offered) None ps h p c is (names_once m a main xs ps over h)
 
-  last_is_at : (h : ChannelName) (p : Pair) → Contains ps p → h ≡ p.closed.history.name → last_at h ≡ last_stamp p.closed.history.entries.items
-  last_is_at h p c is = look_of (λ (p : Pair). last_stamp p.closed.history.entries.items) 0 ps h p c is (names_once m a main xs ps over h)
+  last_is_at : (h : ChannelName) (p : Pair) → Contains ps p → h ≡ p.closed.history.name →
+      last_at h ≡ last_stamp p.closed.history.entries.items
+  last_is_at h p c is = look_of (λ (p : Pair). last_stamp p.closed.history.entries.items) 0 ps h p c is
+      (names_once m a main xs ps over h)
 
-  pair_as_closed : (p : Pair) → Contains ps p → IsShut p → BothPass (λ e. sends_by (residual_of e.knows) e.knows.offer) p → BothPass as_closed p
+  pair_as_closed : (p : Pair) → Contains ps p → IsShut p → BothPass (λ e. sends_by (residual_of e.knows) e.knows.offer) p →
+      BothPass as_closed p
   pair_as_closed p c s may =
       let h = p.closed.history.entries.items in
       let rl = left_reaches m a main xs ps over p s in
@@ -173,14 +183,18 @@ module _ (m : Surroundings) (a : Tree) (main : Birth) (xs : List Thread) (ps : L
       let mr = right_missing m a main xs ps over p c s in
       let nl = sym s.closed.named in
       let nr = s.channel ∙ sym s.closed.named in
-      let one = one_only h p.left.knows p.right.knows s.left_side s.right_side p.closed.history.declared (sym s.closed.left_declared)
+      let one = one_only h p.left.knows p.right.knows s.left_side s.right_side p.closed.history.declared
+      (sym s.closed.left_declared)
       (sym s.closed.right_declared) rl.lacks rl.is may.0 may.1 in (
-        (λ i. agrees (ml i) p.left.knows.offer (stands_on (s.left_side i) ((offered_is p.left.channel p c nl ∙ s.closed.offered) i))
+        (λ i. agrees (ml i) p.left.knows.offer (stands_on (s.left_side i)
+            ((offered_is p.left.channel p c nl ∙ s.closed.offered) i))
             (last_is_at p.left.channel p c nl i))
             ∙ left_agrees h p.left.knows p.right.knows s.left_side s.right_side rl.lacks p.left.knows.offer rl.is rl.settles refl,
-        (λ i. agrees (mr i) p.right.knows.offer (stands_on (s.right_side i) ((offered_is p.right.channel p c nr ∙ s.closed.offered) i))
+        (λ i. agrees (mr i) p.right.knows.offer (stands_on (s.right_side i)
+            ((offered_is p.right.channel p c nr ∙ s.closed.offered) i))
             (last_is_at p.right.channel p c nr i))
-            ∙ right_agrees h p.left.knows p.right.knows s.left_side s.right_side one rr.lacks p.right.knows.offer rr.is rr.settles refl,
+            ∙ right_agrees h p.left.knows p.right.knows s.left_side s.right_side one rr.lacks p.right.knows.offer rr.is rr.settles
+            refl,
       )
 
   -- so all ends are
@@ -190,7 +204,8 @@ module _ (m : Surroundings) (a : Tree) (main : Birth) (xs : List Thread) (ps : L
       (all_send m a main xs ps over k d l))
 
   -- what an end that waits may rely on
-  pub waits_so : (e : EndView) → Passes (λ e. settled (missing (histories_of ps) e) e.knows.offer) e → Passes as_closed e → (o : Offer) (p : Pair) →
+  pub waits_so : (e : EndView) → Passes (λ e. settled (missing (histories_of ps) e) e.knows.offer) e → Passes as_closed e →
+      (o : Offer) (p : Pair) →
       e.knows.offer ≡ Some o → Contains ps p →
       p.closed.history.name ≡ e.channel → IsAsClosed (histories_of ps) e o p.closed (stands_on e.knows.side p.closed.offered)
   waits_so e settles agree o p q c is =
@@ -212,4 +227,5 @@ module _ (m : Surroundings) (a : Tree) (main : Birth) (xs : List Thread) (ps : L
           let v = lacking_waits m a main xs ps over e settles d i in
           let t = at_false b (last_stamp p.closed.history.entries.items) d.stamp
           (ap (λ r. agrees r (Some o) b (last_stamp p.closed.history.entries.items)) (sym i) ∙ h) in
-          subst (λ b. IsAsClosed (histories_of ps) e o p.closed b) (sym t.0) (d, subst (λ o. IsTrailing (histories_of ps) e o d) (same_Some v.0 o (sym v.1 ∙ q)) v.2, t.1)
+          subst (λ b. IsAsClosed (histories_of ps) e o p.closed b) (sym t.0)
+          (d, subst (λ o. IsTrailing (histories_of ps) e o d) (same_Some v.0 o (sym v.1 ∙ q)) v.2, t.1)

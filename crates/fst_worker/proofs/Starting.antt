@@ -26,7 +26,8 @@ use Rattle.fst_worker.specs.Works.{Whole, IsKnownIn, bears, opens, trades}
 use Rattle.fst_worker.specs.Laws.{BeginLaw}
 
 -- a thread with no log and no ends, in whose state no end stands, is whole by itself
-pub idle_whole : (m : Surroundings) (x : Thread) → x.log ≡ [] → x.bag ≡ [] → x.retired ≡ [] → ((z : EndName) → held_state z x.now.state ≡ 0) →
+pub idle_whole : (m : Surroundings) (x : Thread) → x.log ≡ [] → x.bag ≡ [] → x.retired ≡ [] →
+    ((z : EndName) → held_state z x.now.state ≡ 0) →
     Whole m (birth x) (x ∷ [])
 idle_whole m x log bag retired free = record {
   births = λ w.
@@ -38,7 +39,8 @@ idle_whole m x log bag retired free = record {
       let a = sum_by-cons (of_ends (by_type s w)) x [] in
       let b = sum_by-cons (opens m w) x [] in
       let c = none (by_type s w) in
-      let d : opens m w x ≡ 0 = ap (λ (l : List LogEntry). sum_by (λ (o : Opening). w o.name o.declared) (openings m.types l)) log in
+      let d : opens m w x ≡ 0 = ap (λ (l : List LogEntry). sum_by (λ (o : Opening). w o.name o.declared) (openings m.types l))
+      log in
       omega (arith, a, b, c, d);
   cells = λ w.
       let a = sum_by-cons (of_ends (by_cell Left w)) x [] in
@@ -52,7 +54,8 @@ idle_whole m x log bag retired free = record {
       let c = none (by_exchanges w) in
       let d : trades w x ≡ 0 = ap (λ (l : List LogEntry). sum_by w (exchanges x.first.clock l)) log in
       omega (arith, a, b, c, d);
-  known = All-cons (IsKnownIn (x ∷ [])) x [] (λ z h c. let q = free z in absurd (omega (arith, h, q))) (All-nil (IsKnownIn (x ∷ [])));
+  known = All-cons (IsKnownIn (x ∷ [])) x [] (λ z h c. let q = free z in absurd (omega (arith, h, q)))
+      (All-nil (IsKnownIn (x ∷ [])));
 }
   where
     none : (w : EndView → ℕ) → of_ends w x ≡ 0

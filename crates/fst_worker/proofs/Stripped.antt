@@ -30,7 +30,8 @@ use Rattle.fst_worker.proofs.Ended.{pair_in, closed_in}
 -- ---- ends of one name
 
 -- an end that is there counts
-counts_there : (z : EndName) (e : EndView) (es : List EndView) (k : ℕ) → k < length es → slice_index_or es k e ≡ e → end_name e ≡ z → 0 < count_of z es
+counts_there : (z : EndName) (e : EndView) (es : List EndView) (k : ℕ) → k < length es → slice_index_or es k e ≡ e →
+    end_name e ≡ z → 0 < count_of z es
 counts_there z e [] k l is named = absurd (omega (arith, l))
 counts_there z e (d ∷ es) zero l is named =
     let f = count_first z d es in
@@ -42,7 +43,8 @@ counts_there z e (d ∷ es) (suc k) l is named =
     omega (arith, f, c)
 
 -- two ends of one name that stands there once are one end
-one_end : (z : EndName) (e f : EndView) (es : List EndView) (j k : ℕ) → count_of z es ≤ 1 → j < length es → slice_index_or es j e ≡ e → k < length es → slice_index_or es k f ≡ f →
+one_end : (z : EndName) (e f : EndView) (es : List EndView) (j k : ℕ) → count_of z es ≤ 1 → j < length es →
+    slice_index_or es j e ≡ e → k < length es → slice_index_or es k f ≡ f →
     end_name e ≡ z → end_name f ≡ z → e ≡ f
 one_end z e f [] j k once jl ji kl ki ez fz = absurd (omega (arith, jl))
 one_end z e f (d ∷ es) zero zero once jl ji kl ki ez fz = sym ji ∙ ki
@@ -86,13 +88,15 @@ module _ (k : Code) (cs : List Closed) (run : HasEnded k cs) where
     level : (e : EndView) → Contains x.bag e → e.knows.offer ≡ None → missing ks e ≡ None
     level e c =
         All-contains (λ (e : EndView). e.knows.offer ≡ None → missing ks e ≡ None) x.bag e
-        (All-contains (λ (x : Thread). All (λ (e : EndView). e.knows.offer ≡ None → missing ks e ≡ None) x.bag) run.threads x finish.level there) c
+        (All-contains (λ (x : Thread). All (λ (e : EndView). e.knows.offer ≡ None → missing ks e ≡ None) x.bag) run.threads x
+        finish.level there) c
 
     fits_end : (e : EndView) → Contains x.bag e → FitsEnd (module_of k) x.now e
     fits_end e c = All-contains (FitsEnd (module_of k) x.now) x.bag e fits.ends c
 
     -- only one end waits
-    one_waits : (e f : EndView) (o u : Offer) → Contains x.bag e → Contains x.bag f → e.knows.offer ≡ Some o → f.knows.offer ≡ Some u → e ≡ f
+    one_waits : (e f : EndView) (o u : Offer) → Contains x.bag e → Contains x.bag f → e.knows.offer ≡ Some o →
+        f.knows.offer ≡ Some u → e ≡ f
     one_waits e f o u ec fc eo fu =
         let one = ((fits_end e ec).waits o eo).asks in
         let two = ((fits_end f fc).waits u fu).asks in
@@ -107,8 +111,10 @@ module _ (k : Code) (cs : List Closed) (run : HasEnded k cs) where
     none_waits none = λ j d l. level (slice_index_or x.bag j d) (Contains-get_or x.bag j d l) (none j d l)
 
     -- nor where the one that waits lacks nothing
-    all_level : (e : EndView) (o : Offer) → Contains x.bag e → e.knows.offer ≡ Some o → missing ks e ≡ None → All (λ (e : EndView). missing ks e ≡ None) x.bag
-    all_level e o c eo nothing = λ j d l. by (slice_index_or x.bag j d) (Contains-get_or x.bag j d l) (slice_index_or x.bag j d).knows.offer refl
+    all_level : (e : EndView) (o : Offer) → Contains x.bag e → e.knows.offer ≡ Some o → missing ks e ≡ None → All
+        (λ (e : EndView). missing ks e ≡ None) x.bag
+    all_level e o c eo nothing = λ j d l. by (slice_index_or x.bag j d) (Contains-get_or x.bag j d l)
+        (slice_index_or x.bag j d).knows.offer refl
       where
         by : (f : EndView) → Contains x.bag f → (u : Option Offer) → f.knows.offer ≡ u → missing ks f ≡ None
         by f fc None fu = level f fc fu
@@ -118,15 +124,18 @@ module _ (k : Code) (cs : List Closed) (run : HasEnded k cs) where
     pub channel_there : (e : EndView) → Contains x.bag e → (c : Closed) × Contains cs c × (c.history.name ≡ e.channel)
     channel_there e c =
         let IsThere = λ (e : EndView). (p : Pair) × Contains run.pairs p × (p.closed.history.name ≡ e.channel) in
-        let p = All-contains IsThere x.bag e (All-contains (λ (x : Thread). All IsThere x.bag) run.threads x finish.there there) c in
+        let p = All-contains IsThere x.bag e (All-contains (λ (x : Thread). All IsThere x.bag) run.threads x finish.there there)
+        c in
         (p.0.closed, subst (λ l. Contains l p.0.closed) run.closed (closed_in run.pairs p.0 p.1), p.2)
 
     -- closing tells what became of the offer
-    as_closed : (e : EndView) (o : Offer) → Contains x.bag e → e.knows.offer ≡ Some o → (c : Closed) → Contains cs c → c.history.name ≡ e.channel →
+    as_closed : (e : EndView) (o : Offer) → Contains x.bag e → e.knows.offer ≡ Some o →
+        (c : Closed) → Contains cs c → c.history.name ≡ e.channel →
         IsAsClosed ks e o c (stands_on e.knows.side c.offered)
     as_closed e o ec eo c i named =
         let p = pair_in c run.pairs (subst (λ l. Contains l c) (sym run.closed) i) in
-        let IsSo = λ (x : Thread). (e : EndView) (o : Offer) (p : Pair) → Contains x.bag e → e.knows.offer ≡ Some o → Contains run.pairs p → p.closed.history.name ≡ e.channel →
+        let IsSo = λ (x : Thread). (e : EndView) (o : Offer) (p : Pair) → Contains x.bag e → e.knows.offer ≡ Some o →
+        Contains run.pairs p → p.closed.history.name ≡ e.channel →
         IsAsClosed ks e o p.closed (stands_on e.knows.side p.closed.offered) in
         subst (λ c. IsAsClosed ks e o c (stands_on e.knows.side c.offered)) p.2
         (All-contains IsSo run.threads x finish.waiting there e o p.0 ec eo p.1 (ap (λ (c : Closed). c.history.name) p.2 ∙ named))
@@ -137,11 +146,13 @@ module _ (k : Code) (cs : List Closed) (run : HasEnded k cs) where
     abbrev pub IsItsTask : TaskView → ℕ → Type 0
     IsItsTask t clock = IsToldTo k ks x t clock
 
-    pub stays_so : (t : TaskView) (clock : ℕ) → IsTaskOf k.module.value k t clock x → All (λ (e : EndView). missing ks e ≡ None) x.bag → IsItsTask t clock
+    pub stays_so : (t : TaskView) (clock : ℕ) → IsTaskOf k.module.value k t clock x → All
+        (λ (e : EndView). missing ks e ≡ None) x.bag → IsItsTask t clock
     stays_so t clock task nothing = record { after = x; told = inl (record { level = nothing; is = refl }); task = task }
 
     -- so where its offer stands
-    pub stands_so : (t : TaskView) (clock : ℕ) → IsTaskOf k.module.value k t clock x → (n : EndName) → TellsWaiting x.bag (Some n) → (c : Closed) → Contains cs c → c.history.name ≡ n.channel →
+    pub stands_so : (t : TaskView) (clock : ℕ) → IsTaskOf k.module.value k t clock x →
+        (n : EndName) → TellsWaiting x.bag (Some n) → (c : Closed) → Contains cs c → c.history.name ≡ n.channel →
         stands_on n.side c.offered ≡ true → IsItsTask t clock
     stands_so t clock task n w c i named stands = by w.0.knows.offer refl w.3
       where
@@ -160,7 +171,8 @@ module _ (k : Code) (cs : List Closed) (run : HasEnded k cs) where
       pub lacks : missing ks end ≡ Some entry
       pub stamp : last_stamp c.history.entries.items ≡ entry.stamp
 
-    pub lacks_so : (n : EndName) → TellsWaiting x.bag (Some n) → (c : Closed) → Contains cs c → c.history.name ≡ n.channel → stands_on n.side c.offered ≡ false → Lacks n c
+    pub lacks_so : (n : EndName) → TellsWaiting x.bag (Some n) →
+        (c : Closed) → Contains cs c → c.history.name ≡ n.channel → stands_on n.side c.offered ≡ false → Lacks n c
     lacks_so n w c i named stands = by w.0.knows.offer refl w.3
       where
         by : (o : Option Offer) → w.0.knows.offer ≡ o → IsSome w.0.knows.offer → Lacks n c
@@ -174,11 +186,13 @@ module _ (k : Code) (cs : List Closed) (run : HasEnded k cs) where
     module _ (n : EndName) (c : Closed) (l : Lacks n c) where
       says : Tells k.module.value ks x
       says =
-          let IsSo = λ (x : Thread). (e : EndView) (d : Entry) → Contains x.bag e → missing ks e ≡ Some d → Tells k.module.value ks x in
+          let IsSo = λ (x : Thread). (e : EndView) (d : Entry) → Contains x.bag e → missing ks e ≡ Some d →
+          Tells k.module.value ks x in
           All-contains IsSo run.threads x can.told there l.end l.entry l.in_bag l.lacks
 
       -- it takes that answer where it has run on
-      pub takes_sent : (t v : TaskView) (clock : ℕ) → IsTaskOf k.module.value k t clock x → Stays k t v → IsAtRest k v → Takes k v Sent
+      pub takes_sent : (t v : TaskView) (clock : ℕ) → IsTaskOf k.module.value k t clock x → Stays k t v → IsAtRest k v →
+          Takes k v Sent
       takes_sent t v clock task stay rests = record {
         rests = rests;
         source = k.module.value;
@@ -195,10 +209,19 @@ module _ (k : Code) (cs : List Closed) (run : HasEnded k cs) where
       y = with_entry (module_of k) x (Put (end_name l.end) l.entry.event) Sent l.entry.stamp x.bag x.retired
 
       is_told : Told (module_of k) ks x y
-      is_told = record { end = l.end; there = l.in_bag; entry = l.entry; lacks = l.lacks; state = says.state; leads = says.leads; is = refl }
+      is_told = record {
+        end = l.end;
+        there = l.in_bag;
+        entry = l.entry;
+        lacks = l.lacks;
+        state = says.state;
+        leads = says.leads;
+        is = refl;
+      }
 
       -- and then it is told
-      pub told_so : (t v u : TaskView) (clock : ℕ) → IsTaskOf k.module.value k t clock x → Stays k t v → GoesOn k v Sent u → (now : ℕ) → now ≡ last_stamp c.history.entries.items → IsItsTask u now
+      pub told_so : (t v u : TaskView) (clock : ℕ) → IsTaskOf k.module.value k t clock x → Stays k t v → GoesOn k v Sent u →
+          (now : ℕ) → now ≡ last_stamp c.history.entries.items → IsItsTask u now
       told_so t v u clock task stay goes now is =
           let on : IsTaskOf k.module.value k v clock x = record {
             path = stay.path ∙ task.path;

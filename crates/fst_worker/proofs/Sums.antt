@@ -11,7 +11,8 @@ use Rattle.fst_safety.specs.declared.tasks.LogEntry.{LogEntry}
 use Rattle.fst_safety.specs.Logs.{Birth, Exchange, Opening, Follows, after_entry, exchanged_by, opened_by, born_by, exchanges, openings, births}
 
 -- what is exchanged by a longer log
-pub exchanges_more : (w : Exchange → ℕ) (p : Program) (path : Path) (t : Task) (xs ys : List LogEntry) (u : Task) → Follows p path t xs u →
+pub exchanges_more : (w : Exchange → ℕ) (p : Program) (path : Path) (t : Task) (xs ys : List LogEntry) (u : Task) →
+    Follows p path t xs u →
     sum_by w (exchanges t.clock (xs ++ ys)) ≡ sum_by w (exchanges t.clock xs) + sum_by w (exchanges u.clock ys)
 exchanges_more w p path t [] ys u f = ap (λ (k : Task). sum_by w (exchanges k.clock ys)) (sym f) ∙ omega arith
 exchanges_more w p path t (e ∷ es) ys u f =
@@ -21,7 +22,8 @@ exchanges_more w p path t (e ∷ es) ys u f =
     omega (arith, ih, a, b)
 
 -- the tasks that it forks
-pub births_more : (w : Birth → ℕ) (p : Program) (path : Path) (t : Task) (xs ys : List LogEntry) (u : Task) → Follows p path t xs u →
+pub births_more : (w : Birth → ℕ) (p : Program) (path : Path) (t : Task) (xs ys : List LogEntry) (u : Task) →
+    Follows p path t xs u →
     sum_by w (births p path t (xs ++ ys)) ≡ sum_by w (births p path t xs) + sum_by w (births p path u ys)
 births_more w p path t [] ys u f = ap (λ (k : Task). sum_by w (births p path k ys)) (sym f) ∙ omega arith
 births_more w p path t (e ∷ es) ys u f =
@@ -51,7 +53,8 @@ module _ {X : Type 0} where
       omega (arith, ih, a, b)
 
   -- a sum of what is no more
-  pub sum_less : (f g : X → ℕ) (P : X → Type 0) → ((x : X) → P x → f x ≤ g x) → (xs : List X) → All P xs → sum_by f xs ≤ sum_by g xs
+  pub sum_less : (f g : X → ℕ) (P : X → Type 0) → ((x : X) → P x → f x ≤ g x) →
+      (xs : List X) → All P xs → sum_by f xs ≤ sum_by g xs
   sum_less f g P le [] all = omega arith
   sum_less f g P le (x ∷ xs) all =
       let a = sum_by-cons f x xs in
@@ -99,7 +102,8 @@ module _ {X : Type 0} where
       omega (arith, a, b, d, one, ih)
 
 -- where a sum is something, one of its terms is
-some_or : {X : Type 0} (f : X → ℕ) (x : X) (xs : List X) → 0 < sum_by f (x ∷ xs) → (0 < sum_by f xs → (y : X) × Contains xs y × (0 < f y)) → (n : ℕ) → f x ≡ n →
+some_or : {X : Type 0} (f : X → ℕ) (x : X) (xs : List X) → 0 < sum_by f (x ∷ xs) →
+    (0 < sum_by f xs → (y : X) × Contains xs y × (0 < f y)) → (n : ℕ) → f x ≡ n →
     (y : X) × Contains (x ∷ xs) y × (0 < f y)
 some_or f x xs h more zero q =
     let a = sum_by-cons f x xs in

@@ -55,7 +55,8 @@ in_histories : (ps : List Pair) (p : Pair) → Contains ps p → Contains (histo
 in_histories [] p c = absurd (contains_none p c)
 in_histories (q ∷ ps) p c = by (in_histories ps p) (from_contains ps p q c)
   where
-    by : (Contains ps p → Contains (histories_of ps) p.closed.history) → (q ≡ p) ⊎ Contains ps p → Contains (histories_of (q ∷ ps)) p.closed.history
+    by : (Contains ps p → Contains (histories_of ps) p.closed.history) →
+        (q ≡ p) ⊎ Contains ps p → Contains (histories_of (q ∷ ps)) p.closed.history
     by more (inl i) = contains_head (histories_of ps) p.closed.history q.closed.history (ap (λ (p : Pair). p.closed.history) i)
     by more (inr c) = contains_tail (histories_of ps) p.closed.history q.closed.history (more c)
 
@@ -67,7 +68,8 @@ record IsPut (P : EndView → Type 0) (b : Bool) (f : EndView) (rest spent : Lis
   open_ends : All P bag
   spent_ends : All P retired
 
-is_put : (P : EndView → Type 0) (b : Bool) (f : EndView) (rest spent : List EndView) → P f → All P rest → All P spent → IsPut P b f rest spent
+is_put : (P : EndView → Type 0) (b : Bool) (f : EndView) (rest spent : List EndView) → P f → All P rest → All P spent →
+    IsPut P b f rest spent
 is_put P true f rest spent p q r = record {
   bag = rest;
   retired = spent ++ f ∷ [];
@@ -86,7 +88,8 @@ is_put P false f rest spent p q r = record {
 -- a thread that sent what one of its ends lacks goes on by a turn
 abbrev pub SendsOn : Surroundings → Tree → Type 0
 SendsOn m a = (x : Thread) → FitsIn m a x → (e : EndView) (n : ℕ) (taken : Entry) (s : State) (bag retired : List EndView) →
-    machine.request m.families x.now.state ≡ Some (Put (end_name e) taken.event) → answered (program_in m) x.now.state Sent ≡ Some s →
+    machine.request m.families x.now.state ≡ Some (Put (end_name e) taken.event) →
+    answered (program_in m) x.now.state Sent ≡ Some s →
     taken.sent ≡ x.now.clock → x.now.clock < taken.stamp → IsMoved x e (end_with e (longer e.knows n taken)) bag retired →
     GoesOnTo m a x (with_entry m x (Put (end_name e) taken.event) Sent taken.stamp bag retired) []
 
@@ -107,7 +110,8 @@ side_is : (s : Side) (k : ChannelHistory) → IsTrace (channel_of k) → (t : Tr
 side_is Left k i = (_, i.3)
 side_is Right k i = (_, i.4)
 
-module _ (m : Surroundings) (a : Tree) (main : Birth) (xs : List Thread) (ps : List Pair) (over : IsOver m a main xs ps) (ks : List ChannelHistory)
+module _ (m : Surroundings) (a : Tree) (main : Birth) (xs : List Thread) (ps : List Pair) (over : IsOver m a main xs ps)
+    (ks : List ChannelHistory)
     (moved : IsPermutation (histories_of ps) ks) where
   -- no two channels have one name
   once_named : (h : ChannelName) → sum_by (on_name h) ks ≤ 1
@@ -118,22 +122,26 @@ module _ (m : Surroundings) (a : Tree) (main : Birth) (xs : List Thread) (ps : L
       omega (arith, n, b, c)
 
   -- the channel of a pair
-  channel_is : (p : Pair) → Contains ps p → (h : ChannelName) → p.closed.history.name ≡ h → channel_in ks h ≡ Some (channel_of p.closed.history)
+  channel_is : (p : Pair) → Contains ps p → (h : ChannelName) → p.closed.history.name ≡ h →
+      channel_in ks h ≡ Some (channel_of p.closed.history)
   channel_is p c h is =
       ap (channel_in ks) (sym is)
-      ∙ channel_there ks p.closed.history (Contains-permutation (histories_of ps) ks p.closed.history moved (in_histories ps p c)) (once_named p.closed.history.name)
+      ∙ channel_there ks p.closed.history (Contains-permutation (histories_of ps) ks p.closed.history moved (in_histories ps p c))
+      (once_named p.closed.history.name)
 
   -- the end has the residual that its channel gives it, once it has what it lacks
   abbrev pub knows : EndView → Bool
   knows e = same_by (coded_option tree_code) (residual_at ks (end_name e)) (residual_then e (missing (histories_of ps) e))
 
-  knows_so : (e : EndView) (p : Pair) → Contains ps p → p.closed.history.name ≡ e.channel → p.closed.history.declared ≡ e.knows.declared →
+  knows_so : (e : EndView) (p : Pair) → Contains ps p → p.closed.history.name ≡ e.channel →
+      p.closed.history.declared ≡ e.knows.declared →
       IsBehind (histories_of ps) e p.closed.history.entries.items → knows e ≡ true
   unfolding residual
   knows_so e p c is declared b =
       same_by-itself (coded_option tree_code) (residual_at ks (end_name e)) (residual_then e (missing (histories_of ps) e))
       (ap (option_and_then (channel_residual e.knows.side)) (channel_is p c e.channel is)
-      ∙ (λ i. after_history (side_type e.knows.side (declared i)) ((b.is ∙ ap (λ d. e.knows.history ++ option_to_list d) (sym b.missing_is)) i)))
+      ∙ (λ i. after_history (side_type e.knows.side (declared i))
+      ((b.is ∙ ap (λ d. e.knows.history ++ option_to_list d) (sym b.missing_is)) i)))
 
   all_know : All (EndsPass knows) xs
   all_know = ends_pass xs ps over.paired knows
@@ -145,7 +153,8 @@ module _ (m : Surroundings) (a : Tree) (main : Birth) (xs : List Thread) (ps : L
       ))
 
   known_is : (e : EndView) → knows e ≡ true → residual_at ks (end_name e) ≡ residual_then e (missing (histories_of ps) e)
-  known_is e h = same_by-same (coded_option tree_code) (residual_at ks (end_name e)) (residual_then e (missing (histories_of ps) e)) h
+  known_is e h = same_by-same (coded_option tree_code) (residual_at ks (end_name e))
+      (residual_then e (missing (histories_of ps) e)) h
 
   -- an end that lacks nothing
   level_so : (e : EndView) → knows e ≡ true → missing (histories_of ps) e ≡ None → IsLevel ks e
@@ -250,12 +259,14 @@ module _ (m : Surroundings) (a : Tree) (main : Birth) (xs : List Thread) (ps : L
     rest_level =
         let P = λ (g : EndView). (end_name g ≡ end_name e) ⊎ (missing (histories_of ps) g ≡ None) in
         let K = λ (g : EndView). knows g ≡ true in
-        let o = All-tail P e rest (All-permutation P x.bag (e ∷ rest) before (others m a main xs ps over x h.here e d t.there t.lacks)) in
+        let o = All-tail P e rest (All-permutation P x.bag (e ∷ rest) before
+        (others m a main xs ps over x h.here e d t.there t.lacks)) in
         let k = All-tail K e rest (All-permutation K x.bag (e ∷ rest) before h.know.0) in
         let n = others_of (end_name e) rest rest_none in
         λ j c l. by _ (o j c l) (k j c l) (n j c l)
       where
-        by : (g : EndView) → (end_name g ≡ end_name e) ⊎ (missing (histories_of ps) g ≡ None) → knows g ≡ true → counted (end_name e) g ≡ 0 → IsLevel ks g
+        by : (g : EndView) → (end_name g ≡ end_name e) ⊎
+            (missing (histories_of ps) g ≡ None) → knows g ≡ true → counted (end_name e) g ≡ 0 → IsLevel ks g
         by g (inl i) k z = let c = counted_so (end_name e) g i in absurd (omega (arith, c, z))
         by g (inr q) k z = level_so g k q
 
@@ -284,7 +295,8 @@ module _ (m : Surroundings) (a : Tree) (main : Birth) (xs : List Thread) (ps : L
     said = All-contains IsTold xs x h.finish.told h.there e d t.there t.lacks
 
     goes : GoesOnTo m a x z []
-    goes = sends x h.here.0 e 0 d t.state put.bag put.retired said.0 t.leads (sent_at m a main xs ps over x h.here e d t.there t.lacks)
+    goes = sends x h.here.0 e 0 d t.state put.bag put.retired said.0 t.leads
+        (sent_at m a main xs ps over x h.here e d t.there t.lacks)
         (late m a main xs ps over x h.here e d t.there t.lacks) is_moved
 
     pub told : Becomes x y
@@ -317,7 +329,15 @@ module _ (m : Surroundings) (a : Tree) (main : Birth) (xs : List Thread) (ps : L
     pub level : All (AreLevel ks) threads
 
   become_all : SendsOn m a → (us vs : List Thread) → All Knows us → AreTold m (histories_of ps) us vs → BecomeAll us vs
-  become_all sends [] [] all k = record { threads = []; same = tt; went = went_none m a []; caught = tt; itself = tt; level = All-nil (AreLevel ks) }
+  become_all sends [] [] all k = record {
+    threads = [];
+    same = tt;
+    went = went_none m a [];
+    caught = tt;
+    itself = tt;
+    level =
+        All-nil (AreLevel ks);
+  }
   become_all sends [] (y ∷ ys) all k = absurd k
   become_all sends (x ∷ us) [] all k = absurd k
   become_all sends (x ∷ us) (y ∷ vs) all k =

@@ -30,7 +30,8 @@ task_at (t ∷ ts) zero l = t
 task_at (t ∷ ts) (suc i) l = task_at ts i (omega (arith, l))
 
 -- a share that begins anew and passes over its tasks has worked
-pub works : (k : Code) (steps : ℕ) (s t u : Share) → t.tasks.items ≡ s.tasks.items → t.forked.items ≡ s.forked.items → t.ended.items ≡ s.ended.items → t.events ≡ s.events →
+pub works : (k : Code) (steps : ℕ) (s t u : Share) → t.tasks.items ≡ s.tasks.items → t.forked.items ≡ s.forked.items →
+    t.ended.items ≡ s.ended.items → t.events ≡ s.events →
     t.moved ≡ false → Passes k steps t u → Works k steps s u
 works k steps s t u tasks forked ended events calm p a b code is fit =
     let g = p a b code (crew_same k s t b tasks forked ended is) fit in
@@ -49,12 +50,14 @@ works k steps s t u tasks forked ended events calm p a b code is fit =
       };
     }
   where
-    tried : (c : Crew) → IsCrew k u c → HasStopped k steps u b c → u.refused ≡ false → u.events ≤ steps → All (λ (t : TypedTask). t.clock ≤ steps) u.tasks.items →
+    tried : (c : Crew) → IsCrew k u c → HasStopped k steps u b c → u.refused ≡ false → u.events ≤ steps → All
+        (λ (t : TypedTask). t.clock ≤ steps) u.tasks.items →
         All (HasAsked k (threads_of b) (threads_of c)) c.tasks
     tried c is (inl all) calm few low = all
     tried c is (inr (j, l, x)) calm few low = λ i e m. absurd (never c is j l calm few low e (x e))
       where
-        never : (c : Crew) → IsCrew k u c → (j : ℕ) → j < length c.tasks → u.refused ≡ false → u.events ≤ steps → All (λ (t : TypedTask). t.clock ≤ steps) u.tasks.items →
+        never : (c : Crew) → IsCrew k u c → (j : ℕ) → j < length c.tasks → u.refused ≡ false → u.events ≤ steps → All
+            (λ (t : TypedTask). t.clock ≤ steps) u.tasks.items →
             (e : Thread) → Exceeds steps u (get_or c.tasks j e) → ⊥
         never c is j l calm few low e (inl h) = let q = sym h ∙ calm in cc q
         never c is j l calm few low e (inr (inl h)) = omega (arith, h, few)
@@ -71,17 +74,26 @@ works k steps s t u tasks forked ended events calm p a b code is fit =
 
 module _ (k : Code) where
   -- the crew of a share
-  pub crew_at : (ss : List Share) (cs : List Crew) (i : ℕ) (d : Share) (e : Crew) → AreCrews k ss cs → i < length ss → IsCrew k (get_or ss i d) (get_or cs i e)
+  pub crew_at : (ss : List Share) (cs : List Crew) (i : ℕ) (d : Share) (e : Crew) → AreCrews k ss cs → i < length ss →
+      IsCrew k (get_or ss i d) (get_or cs i e)
   crew_at [] cs i d e h l = absurd (omega (arith, l))
   crew_at (s ∷ ss) [] i d e h l = absurd h
   crew_at (s ∷ ss) (c ∷ cs) zero d e h l = h.0
   crew_at (s ∷ ss) (c ∷ cs) (suc i) d e h l = crew_at ss cs i d e h.1 (omega (arith, l))
 
-  can_run : (a : Tree) (ss : List Share) (cs : List Crew) → IsTypedCode k a → AreCrews k ss cs → All (FitsIn (module_of k) a) (all_threads cs) → All (CanRun k) ss
+  can_run : (a : Tree) (ss : List Share) (cs : List Crew) → IsTypedCode k a → AreCrews k ss cs →
+      All (FitsIn (module_of k) a) (all_threads cs) → All (CanRun k) ss
   can_run a [] cs code h fit = All-nil (CanRun k)
   can_run a (s ∷ ss) [] code h fit = absurd h
   can_run a (s ∷ ss) (c ∷ cs) code h fit = All-cons (CanRun k) s ss
-      (record { type = a; code = code; crew = c; is = h.0; fit = All-first (FitsIn (module_of k) a) (threads_of c) (all_threads cs) fit })
+      (record {
+        type = a;
+        code = code;
+        crew = c;
+        is = h.0;
+        fit =
+            All-first (FitsIn (module_of k) a) (threads_of c) (all_threads cs) fit;
+      })
       (can_run a ss cs code h.1 (All-behind (FitsIn (module_of k) a) (threads_of c) (all_threads cs) fit))
 
   -- each share can run where the tasks of all can
@@ -91,7 +103,8 @@ module _ (k : Code) where
       can_run m.type ss r.crews m.code r.are (subst (All (FitsIn (module_of k) m.type)) (sym r.same) m.fit)
 
   module _ (a : Tree) (steps : ℕ) (code : IsTypedCode k a) where
-    both : (s u : Share) (b : Crew) (ss us : List Share) (bs : List Crew) → HasWorked k a steps s u b → HaveRun k a steps ss us bs → HaveRun k a steps (s ∷ ss) (u ∷ us) (b ∷ bs)
+    both : (s u : Share) (b : Crew) (ss us : List Share) (bs : List Crew) → HasWorked k a steps s u b →
+        HaveRun k a steps ss us bs → HaveRun k a steps (s ∷ ss) (u ∷ us) (b ∷ bs)
     both s u b ss us bs w r = record {
       after = w.crew ∷ r.after;
       are = (w.is, r.are);
@@ -99,23 +112,34 @@ module _ (k : Code) where
       each = at;
     }
       where
-        at : (i : ℕ) (d : Share) (e : Crew) → i < length (s ∷ ss) → HasRun k steps (get_or (s ∷ ss) i d) (get_or (u ∷ us) i d) (get_or (b ∷ bs) i e) (get_or (w.crew ∷ r.after) i e)
+        at : (i : ℕ) (d : Share) (e : Crew) → i < length (s ∷ ss) →
+            HasRun k steps (get_or (s ∷ ss) i d) (get_or (u ∷ us) i d) (get_or (b ∷ bs) i e) (get_or (w.crew ∷ r.after) i e)
         at zero d e l = w.run
         at (suc i) d e l = r.each i d e (omega (arith, l))
 
-    done : (ss us : List Share) (bs : List Crew) → AreCrews k ss bs → All (FitsIn (module_of k) a) (all_threads bs) → length us ≡ length ss →
+    done : (ss us : List Share) (bs : List Crew) → AreCrews k ss bs → All (FitsIn (module_of k) a) (all_threads bs) →
+        length us ≡ length ss →
         ((i : ℕ) (d : Share) → i < length ss → Works k steps (get_or ss i d) (get_or us i d)) → HaveRun k a steps ss us bs
-    done [] [] [] h fit e each = record { after = []; are = tt; went = went_none (module_of k) a []; each = λ i d e l. absurd (omega (arith, l)) }
+    done [] [] [] h fit e each = record {
+      after = [];
+      are = tt;
+      went = went_none (module_of k) a [];
+      each =
+          λ i d e l. absurd (omega (arith, l));
+    }
     done [] [] (b ∷ bs) h fit e each = absurd h
     done [] (u ∷ us) bs h fit e each = absurd (omega (arith, e))
     done (s ∷ ss) [] bs h fit e each = absurd (omega (arith, e))
     done (s ∷ ss) (u ∷ us) [] h fit e each = absurd h
     done (s ∷ ss) (u ∷ us) (b ∷ bs) h fit e each =
-        both s u b ss us bs (each 0 s (omega arith) a b code h.0 (All-first (FitsIn (module_of k) a) (threads_of b) (all_threads bs) fit))
-        (done ss us bs h.1 (All-behind (FitsIn (module_of k) a) (threads_of b) (all_threads bs) fit) (omega (arith, e)) (λ i d l. each (suc i) d (omega (arith, l))))
+        both s u b ss us bs (each 0 s (omega arith) a b code h.0
+        (All-first (FitsIn (module_of k) a) (threads_of b) (all_threads bs) fit))
+        (done ss us bs h.1 (All-behind (FitsIn (module_of k) a) (threads_of b) (all_threads bs) fit) (omega (arith, e))
+        (λ i d l. each (suc i) d (omega (arith, l))))
 
   -- what each share did by itself is what they did together
-  pub all_run : (steps : ℕ) (ss us : List Share) → length us ≡ length ss → ((i : ℕ) (d : Share) → i < length ss → Works k steps (get_or ss i d) (get_or us i d)) → RunsAll k steps ss us
+  pub all_run : (steps : ℕ) (ss us : List Share) → length us ≡ length ss →
+      ((i : ℕ) (d : Share) → i < length ss → Works k steps (get_or ss i d) (get_or us i d)) → RunsAll k steps ss us
   all_run steps ss us e each a bs code are fit = done a steps code ss us bs are fit e each
 
   pub go_on : (steps : ℕ) (ss us : List Share) → RunsAll k steps ss us → GoOn k ss us
@@ -129,7 +153,8 @@ module _ (k : Code) where
 
   -- ---- told by the tasks
 
-  module _ (steps : ℕ) (ss us : List Share) (len : length us ≡ length ss) (can : CanMove k ss) (runs : RunsAll k steps ss us) where
+  module _ (steps : ℕ) (ss us : List Share) (len : length us ≡ length ss) (can : CanMove k ss)
+      (runs : RunsAll k steps ss us) where
     manned : AreManned k ss can.threads
     manned = crews_of k ss can.threads can.kept
 
@@ -142,7 +167,8 @@ module _ (k : Code) where
     crew_after : (i : ℕ) (d : Share) (e : Crew) → i < length ss → IsCrew k (get_or us i d) (get_or run.after i e)
     crew_after i d e l = crew_at us run.after i d e run.are (omega (arith, l, len))
 
-    summed : (f : TypedTask → ℕ) (g : Thread → ℕ) → ((t : TypedTask) (x : Thread) → Keeps k t x → f t ≡ g x) → (s : Share) (c : Crew) → IsCrew k s c → sum_by f (all_of s) ≡ sum_by g (threads_of c)
+    summed : (f : TypedTask → ℕ) (g : Thread → ℕ) → ((t : TypedTask) (x : Thread) → Keeps k t x → f t ≡ g x) →
+        (s : Share) (c : Crew) → IsCrew k s c → sum_by f (all_of s) ≡ sum_by g (threads_of c)
     summed f g e s c is = kept_sum k f g e (all_of s) (threads_of c) (crew_kept k s c is)
 
     nobody : Crew
@@ -186,23 +212,28 @@ module _ (k : Code) where
         parts t e is =
             let o = summed (λ (t : TypedTask). sum_by offers t.bag.items + sum_by offers t.retired.items) (of_ends offers)
             (λ t x h. let p = ap (sum_by offers) h.bag in let q = ap (sum_by offers) h.retired in omega (arith, p, q)) t e is in
-            let n = summed (λ (t : TypedTask). length t.log.items) (λ (x : Thread). length x.log) (λ t x h. ap length h.log) t e is in
+            let n = summed (λ (t : TypedTask). length t.log.items) (λ (x : Thread). length x.log)
+            (λ t x h. ap length h.log) t e is in
             let a = sum_both work (of_ends offers) (λ (x : Thread). length x.log + length x.log) (λ x. refl) (threads_of e) in
-            let m = sum_both (λ (x : Thread). length x.log + length x.log) (λ (x : Thread). length x.log) (λ (x : Thread). length x.log) (λ x. refl) (threads_of e) in
+            let m = sum_both (λ (x : Thread). length x.log + length x.log) (λ (x : Thread). length x.log)
+            (λ (x : Thread). length x.log) (λ x. refl) (threads_of e) in
             omega (arith, o, n, a, m)
 
-        by_more : Grows u.moved (work_of (threads_of b)) (work_of (threads_of c)) → u.moved ≡ true → (entries_in s < entries_in u) ⊎ (offers_in s < offers_in u)
+        by_more : Grows u.moved (work_of (threads_of b)) (work_of (threads_of c)) → u.moved ≡ true →
+            (entries_in s < entries_in u) ⊎ (offers_in s < offers_in u)
         by_more g m = either (cases_lt (entries_in s) (entries_in u))
           where
             more : work_of (threads_of b) < work_of (threads_of c)
             more = subst (λ m. Grows m (work_of (threads_of b)) (work_of (threads_of c))) m g
 
-            either : (entries_in s < entries_in u) ⊎ (entries_in u ≤ entries_in s) → (entries_in s < entries_in u) ⊎ (offers_in s < offers_in u)
+            either : (entries_in s < entries_in u) ⊎ (entries_in u ≤ entries_in s) → (entries_in s < entries_in u) ⊎
+                (offers_in s < offers_in u)
             either (inl h) = inl h
             either (inr h) = let p = parts s b before in let q = parts u c now in let w = more in inr (omega (arith, h, p, q, w))
 
         same_logs : u.moved ≡ false → (w : Path → List LogEntry → ℕ) →
-            sum_by (λ (t : TypedTask). w t.task.path t.log.items) (all_of u) ≡ sum_by (λ (t : TypedTask). w t.task.path t.log.items) (all_of s)
+            sum_by (λ (t : TypedTask). w t.task.path t.log.items) (all_of u) ≡ sum_by
+            (λ (t : TypedTask). w t.task.path t.log.items) (all_of s)
         same_logs m w =
             let f = λ (t : TypedTask). w t.task.path t.log.items in
             let g = λ (x : Thread). w x.path x.log in
@@ -211,7 +242,8 @@ module _ (k : Code) where
 
         as_many : Grows u.moved (work_of (threads_of b)) (work_of (threads_of c)) → u.moved ≡ false → offers_in u ≡ offers_in s
         as_many g m =
-            let e : work_of (threads_of c) ≡ work_of (threads_of b) = subst (λ m. Grows m (work_of (threads_of b)) (work_of (threads_of c))) m g in
+            let e : work_of (threads_of c) ≡ work_of (threads_of b) = subst
+            (λ m. Grows m (work_of (threads_of b)) (work_of (threads_of c))) m g in
             let n : entries_in u ≡ entries_in s = same_logs m (λ p log. length log) in
             let p = parts s b before in
             let q = parts u c now in
@@ -223,7 +255,8 @@ module _ (k : Code) where
       own = λ i d l w.
           let f = λ (t : TypedTask). w t.task.path in
           let g = λ (x : Thread). w x.path in
-          let part = λ (ts : List TypedTask) (xs : List Thread) (h : AreKept k ts xs). kept_sum k f g (λ t x h. ap w h.path) ts xs h in
+          let part = λ (ts : List TypedTask) (xs : List Thread) (h : AreKept k ts xs). kept_sum k f g
+          (λ t x h. ap w h.path) ts xs h in
           let s = crew_before i d nobody l in
           let u = crew_after i d nobody l in
           let e = (run.each i d nobody l).own w in
@@ -234,8 +267,11 @@ module _ (k : Code) where
           omega (arith, e, s1, s2, u1, u2);
       idle = λ i d l.
           let m : i < length ss = omega (arith, l, len) in
-          kept_all k (λ (t : TypedTask). t.log.items ≡ []) IsIdle (λ t x h e. h.log ∙ e) (get_or us i d).forked.items (get_or run.after i nobody).forked (crew_after i d nobody m).forked
-          ((run.each i d nobody m).idle (no_threads (get_or ss i d).forked.items (get_or manned.crews i nobody).forked (none i d m) (crew_before i d nobody m).forked));
+          kept_all k (λ (t : TypedTask). t.log.items ≡ []) IsIdle
+          (λ t x h e. h.log ∙ e) (get_or us i d).forked.items (get_or run.after i nobody).forked
+          (crew_after i d nobody m).forked
+          ((run.each i d nobody m).idle (no_threads (get_or ss i d).forked.items (get_or manned.crews i nobody).forked
+          (none i d m) (crew_before i d nobody m).forked));
     }
       where
         no_threads : (ts : List TypedTask) (xs : List Thread) → ts ≡ [] → AreKept k ts xs → All IsIdle xs

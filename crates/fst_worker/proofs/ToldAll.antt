@@ -19,14 +19,16 @@ use Rattle.fst_worker.specs.Resumes.{IsTaskOf, AreTasksOf}
 use Rattle.fst_worker.specs.Ending.{IsBareOf, AreBareOf, IsTellable, IsToldTo, AreTellable, AreToldTo}
 
 -- one more thread is told
-told_more : (m : Surroundings) (ks : List ChannelHistory) (xs ys : List Thread) (x y : Thread) → AreTold m ks xs ys → Stayed ks x y ⊎ Told m ks x y → AreTold m ks (xs ++ (x ∷ [])) (ys ++ (y ∷ []))
+told_more : (m : Surroundings) (ks : List ChannelHistory) (xs ys : List Thread) (x y : Thread) → AreTold m ks xs ys →
+    Stayed ks x y ⊎ Told m ks x y → AreTold m ks (xs ++ (x ∷ [])) (ys ++ (y ∷ []))
 told_more m ks [] [] x y h d = (d, tt)
 told_more m ks [] (z ∷ ys) x y h d = absurd h
 told_more m ks (z ∷ xs) [] x y h d = absurd h
 told_more m ks (z ∷ xs) (u ∷ ys) x y h d = (h.0, told_more m ks xs ys x y h.1 d)
 
 -- one more task is that of a thread
-tasks_more : (m : Module) (k : Code) (ts : Tasks) (ys : List Thread) (t : TaskView) (clock : ℕ) (y : Thread) → AreTasksOf m k ts ys → IsTaskOf m k t clock y →
+tasks_more : (m : Module) (k : Code) (ts : Tasks) (ys : List Thread) (t : TaskView) (clock : ℕ) (y : Thread) →
+    AreTasksOf m k ts ys → IsTaskOf m k t clock y →
     AreTasksOf m k (ts ++ ((t, clock) ∷ [])) (ys ++ (y ∷ []))
 tasks_more m k [] [] t clock y h d = (d, tt)
 tasks_more m k [] (z ∷ ys) t clock y h d = absurd h
@@ -43,12 +45,20 @@ module _ (k : Code) (bs : List Bare) (cs : List Closed) (d : AreTellable k bs cs
     pub told : AreToldTo k (histories_of d.run.pairs) done ts
 
   pub none_told : IsToldAsFar bs []
-  none_told = record { done = []; rest = d.run.threads; all = refl; left = d.bare; told = record { after = []; told = tt; tasks = tt } }
+  none_told = record {
+    done = [];
+    rest = d.run.threads;
+    all = refl;
+    left = d.bare;
+    told =
+        record { after = []; told = tt; tasks = tt };
+  }
 
   pub all_told : (ts : Tasks) → IsToldAsFar [] ts → AreToldTo k (histories_of d.run.pairs) d.run.threads ts
   all_told ts p = by p.rest p.all p.left
     where
-      by : (rest : List Thread) → d.run.threads ≡ p.done ++ rest → AreBareOf k [] rest → AreToldTo k (histories_of d.run.pairs) d.run.threads ts
+      by : (rest : List Thread) → d.run.threads ≡ p.done ++ rest → AreBareOf k [] rest →
+          AreToldTo k (histories_of d.run.pairs) d.run.threads ts
       by [] all left = subst (λ xs. AreToldTo k (histories_of d.run.pairs) xs ts) (sym (all ∙ append-nil p.done)) p.told
       by (x ∷ xs) all left = absurd left
 
@@ -74,12 +84,14 @@ module _ (k : Code) (bs : List Bare) (cs : List Closed) (d : AreTellable k bs cs
         record {
           run = d.run;
           thread = n.thread;
-          there = subst (λ xs. Contains xs n.thread) (sym n.all) (Contains-append_right p.done (n.thread ∷ n.others) n.thread (0, omega arith, refl));
+          there = subst (λ xs. Contains xs n.thread) (sym n.all)
+              (Contains-append_right p.done (n.thread ∷ n.others) n.thread (0, omega arith, refl));
           bare = n.bare;
         }
 
     -- one more is told
-    pub told_next : IsToldAsFar (b ∷ rs) ts → (t : TaskView) (clock : ℕ) → ((d : IsTellable k b cs) → IsToldTo k (histories_of d.run.pairs) d.thread t clock) →
+    pub told_next : IsToldAsFar (b ∷ rs) ts → (t : TaskView) (clock : ℕ) →
+        ((d : IsTellable k b cs) → IsToldTo k (histories_of d.run.pairs) d.thread t clock) →
         IsToldAsFar rs (ts ++ ((t, clock) ∷ []))
     unfolding tellable next
     told_next p t clock told =

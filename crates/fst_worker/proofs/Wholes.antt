@@ -47,7 +47,8 @@ module _ (m : Surroundings) (a : Tree) where
   -- what holds of the one that went on, of the new ones and of the others holds of each afterwards
   all_again : (P : Thread → Type 0) (xs ys : List Thread) (s : Step m a xs ys) → P s.after → All P s.new → All P s.rest → All P ys
   all_again P xs ys s one new rest =
-      All-permutation P (s.after ∷ (s.new ++ s.rest)) ys s.after_is (All-cons P s.after (s.new ++ s.rest) one (All-append P s.new s.rest new rest))
+      All-permutation P (s.after ∷ (s.new ++ s.rest)) ys s.after_is
+      (All-cons P s.after (s.new ++ s.rest) one (All-append P s.new s.rest new rest))
 
   -- all fit after a step
   pub step_fits : (xs ys : List Thread) → Step m a xs ys → All (FitsIn m a) xs → All (FitsIn m a) ys
@@ -58,13 +59,15 @@ module _ (m : Surroundings) (a : Tree) where
   trades_grow : (w : Exchange → ℕ) (x y : Thread) (new : List Thread) (r : Turn m x y new) → FitsIn m a x →
       trades w y ≡ trades w x + sum_by w (exchanges x.now.clock r.gained)
   trades_grow w x y new r f =
-      ap (λ (t : Task). sum_by w (exchanges t.clock y.log)) r.first ∙ ap (λ (l : List LogEntry). sum_by w (exchanges x.first.clock l)) r.log
+      ap (λ (t : Task). sum_by w (exchanges t.clock y.log)) r.first ∙ ap
+      (λ (l : List LogEntry). sum_by w (exchanges x.first.clock l)) r.log
       ∙ exchanges_more w (program_in m) x.path x.first x.log r.gained x.now f.follows
 
   bears_grow : (w : Birth → ℕ) (x y : Thread) (new : List Thread) (r : Turn m x y new) → FitsIn m a x →
       bears m w y ≡ bears m w x + sum_by w (births (program_in m) x.path x.now r.gained)
   bears_grow w x y new r f =
-      ap (λ (p : Path). sum_by w (births (program_in m) p y.first y.log)) r.path ∙ ap (λ (t : Task). sum_by w (births (program_in m) x.path t y.log)) r.first
+      ap (λ (p : Path). sum_by w (births (program_in m) p y.first y.log)) r.path ∙ ap
+      (λ (t : Task). sum_by w (births (program_in m) x.path t y.log)) r.first
       ∙ ap (λ (l : List LogEntry). sum_by w (births (program_in m) x.path x.first l)) r.log
       ∙ births_more w (program_in m) x.path x.first x.log r.gained x.now f.follows
 
@@ -102,10 +105,12 @@ module _ (m : Surroundings) (a : Tree) where
       let k = ap (count_of z) r.kept ∙ sum_by-append (λ (e : EndView). once (same_end z (end_name e))) s.task.retired r.spent in
       omega (arith, n, b, l, k)
 
-  known_again : (xs ys : List Thread) (s : Step m a xs ys) → IsKnownIn xs s.task → (k : Thread) → AreKnownSpent s.task s.after k → IsKnownIn ys k
+  known_again : (xs ys : List Thread) (s : Step m a xs ys) → IsKnownIn xs s.task →
+      (k : Thread) → AreKnownSpent s.task s.after k → IsKnownIn ys k
   known_again xs ys s was k known z h c = by (known z h c)
     where
-      by : (0 < count_of z s.after.retired) ⊎ ((0 < held_state z s.task.now.state) × (count_of z s.task.bag ≡ 0)) → 0 < sum_by (spent_in z) ys
+      by : (0 < count_of z s.after.retired) ⊎ ((0 < held_state z s.task.now.state) × (count_of z s.task.bag ≡ 0)) →
+          0 < sum_by (spent_in z) ys
       by (inl n) = let l = (sums (spent_in z) xs ys s).later in omega (arith, n, l)
       by (inr q) = spent_grow z xs ys s (was z q.0 q.1)
 
@@ -114,7 +119,8 @@ module _ (m : Surroundings) (a : Tree) where
       let one = known_again xs ys s (first_of_all (IsKnownIn xs) xs ys s all) in
       all_again (IsKnownIn ys) xs ys s (one s.after s.goes.turn.known)
       (All-weaker (AreKnownSpent s.task s.after) (IsKnownIn ys) one s.new s.goes.turn.known_new)
-      (All-weaker (IsKnownIn xs) (IsKnownIn ys) (λ k h z n c. spent_grow z xs ys s (h z n c)) s.rest (rest_of_all (IsKnownIn xs) xs ys s all))
+      (All-weaker (IsKnownIn xs) (IsKnownIn ys) (λ k h z n c. spent_grow z xs ys s (h z n c)) s.rest
+      (rest_of_all (IsKnownIn xs) xs ys s all))
 
   -- ---- all threads
 
@@ -195,16 +201,19 @@ module _ (m : Surroundings) (a : Tree) where
         omega (arith, b, c, whole.exchanged w);
     known = All-permutation (IsKnownIn ys) xs ys p
         (All-weaker (IsKnownIn xs) (IsKnownIn ys)
-        (λ k h z n c. let b = sum_by-IsPermutation (spent_in z) xs ys p in let d = h z n c in omega (arith, b, d)) xs whole.known);
+        (λ k h z n c. let b = sum_by-IsPermutation (spent_in z) xs ys p in let d = h z n c in omega (arith, b, d)) xs
+        whole.known);
   }
 
   turns_fit : (n : ℕ) (xs ys : List Thread) → Turns m a n xs ys → All (FitsIn m a) xs → All (FitsIn m a) ys
   turns_fit zero xs ys t all = All-permutation (FitsIn m a) xs ys t all
   turns_fit (suc n) xs ys t all = step_fits t.0 ys t.2 (turns_fit n xs t.0 t.1 all)
 
-  turns_whole : (n : ℕ) (main : Birth) (xs ys : List Thread) → Turns m a n xs ys → All (FitsIn m a) xs → Whole m main xs → Whole m main ys
+  turns_whole : (n : ℕ) (main : Birth) (xs ys : List Thread) → Turns m a n xs ys → All (FitsIn m a) xs → Whole m main xs →
+      Whole m main ys
   turns_whole zero main xs ys t all whole = moved_whole main xs ys t whole
-  turns_whole (suc n) main xs ys t all whole = step_whole main t.0 ys t.2 (turns_fit n xs t.0 t.1 all) (turns_whole n main xs t.0 t.1 all whole)
+  turns_whole (suc n) main xs ys t all whole = step_whole main t.0 ys t.2 (turns_fit n xs t.0 t.1 all)
+      (turns_whole n main xs t.0 t.1 all whole)
 
   -- all fit after turns
   pub went_fits : (xs ys : List Thread) → Went m a xs ys → All (FitsIn m a) xs → All (FitsIn m a) ys

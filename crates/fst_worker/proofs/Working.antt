@@ -28,11 +28,13 @@ module _ (k : Code) where
   length_moves ts [] = refl
   length_moves ts (p ∷ ms) = length-swap (apply_swaps ts ms) p.0 p.1 ∙ length_moves ts ms
 
-  kept_moves : (ts : List TypedTask) (xs : List Thread) (ms : List (ℕ × ℕ)) → AreKept k ts xs → SwapsInRange (length ts) ms → AreKept k (apply_swaps ts ms) (apply_swaps xs ms)
+  kept_moves : (ts : List TypedTask) (xs : List Thread) (ms : List (ℕ × ℕ)) → AreKept k ts xs → SwapsInRange (length ts) ms →
+      AreKept k (apply_swaps ts ms) (apply_swaps xs ms)
   kept_moves ts xs [] h below = h
   kept_moves ts xs (p ∷ ms) h below =
       let n = length_moves ts ms in
-      kept_swap k (apply_swaps ts ms) (apply_swaps xs ms) p.0 p.1 (kept_moves ts xs ms h below.2) (omega (arith, n, below.0)) (omega (arith, n, below.1))
+      kept_swap k (apply_swaps ts ms) (apply_swaps xs ms) p.0 p.1 (kept_moves ts xs ms h below.2) (omega (arith, n, below.0))
+      (omega (arith, n, below.1))
 
   -- their threads are so, too
   pub record AreMoved (us : List TypedTask) (xs : List Thread) : Type 0 where
@@ -43,7 +45,12 @@ module _ (k : Code) where
   pub kept_moved : (ts us : List TypedTask) (xs : List Thread) → IsPermutation ts us → AreKept k ts xs → AreMoved us xs
   kept_moved ts us xs p h = record {
     threads = apply_swaps xs p.moves;
-    moved = record { moves = p.moves; below = subst (λ n. SwapsInRange n p.moves) (sym (kept_length k ts xs h)) p.below; is = refl };
+    moved = record {
+      moves = p.moves;
+      below = subst (λ n. SwapsInRange n p.moves) (sym (kept_length k ts xs h)) p.below;
+      is =
+          refl;
+    };
     kept = subst (λ us. AreKept k us (apply_swaps xs p.moves)) (sym p.is) (kept_moves ts xs p.moves h p.below);
   }
 
@@ -66,7 +73,16 @@ module _ (k : Code) (d : CanBegin k) where
 
   -- tasks at work are those of a run that can be finished
   abbrev pub runs : (ts : List TypedTask) → AreAtWork k d ts → AreRunOf k ts
-  runs ts w = record { type = d.type; code = d.code; main = birth (main_thread d.main); begins = refl; threads = w.threads; kept = w.kept; run = w.run }
+  runs ts w = record {
+    type = d.type;
+    code = d.code;
+    main = birth (main_thread d.main);
+    begins = refl;
+    threads = w.threads;
+    kept =
+        w.kept;
+    run = w.run;
+  }
 
   module _ (ts es : List TypedTask) (w : AreAtWork k d (ts ++ es)) (ss : List Share) (dealt : IsDealt ts ss) where
     abbrev P : Thread → Type 0
@@ -79,18 +95,22 @@ module _ (k : Code) (d : CanBegin k) where
     moved = kept_moved k ts (all_tasks ss) parts.first dealt.tasks parts.keeps
 
     fit : All P moved.threads
-    fit = All-permutation P parts.first moved.threads moved.moved (All-first P parts.first parts.second (subst (All P) parts.is w.run.fit))
+    fit = All-permutation P parts.first moved.threads moved.moved
+        (All-first P parts.first parts.second (subst (All P) parts.is w.run.fit))
 
     -- the shares can be moved
     pub can_move : CanMove k ss
     can_move = record { type = d.type; code = d.code; threads = moved.threads; kept = moved.kept; fit = fit }
 
     -- and what was moved and taken in again are all tasks of the run
-    pub moves : (us : List Share) → GoOn k ss us → (now over : List TypedTask) → IsPermutation (all_tasks us ++ es) (now ++ over) → AreAtWork k d (now ++ over)
+    pub moves : (us : List Share) → GoOn k ss us →
+        (now over : List TypedTask) → IsPermutation (all_tasks us ++ es) (now ++ over) → AreAtWork k d (now ++ over)
     moves us goes now over taken =
         let g = goes d.type moved.threads d.code moved.kept fit in
-        let again = kept_moved k (all_tasks us ++ es) (now ++ over) (g.0 ++ parts.second) taken (kept_append k (all_tasks us) es g.0 parts.second g.1 parts.others) in
-        let one = went_then (module_of k) d.type parts.first moved.threads g.0 (went_moved (module_of k) d.type parts.first moved.threads moved.moved) g.2 in
+        let again = kept_moved k (all_tasks us ++ es) (now ++ over) (g.0 ++ parts.second) taken
+        (kept_append k (all_tasks us) es g.0 parts.second g.1 parts.others) in
+        let one = went_then (module_of k) d.type parts.first moved.threads g.0
+        (went_moved (module_of k) d.type parts.first moved.threads moved.moved) g.2 in
         let two = went_beside (module_of k) d.type parts.first g.0 parts.second one in
         let all : Went (module_of k) d.type w.threads again.threads =
         subst (λ xs. Went (module_of k) d.type xs again.threads) (sym parts.is)
@@ -102,6 +122,7 @@ module _ (k : Code) (d : CanBegin k) where
           run = record {
             root = w.run.root;
             fit = went_fits (module_of k) d.type w.threads again.threads all w.run.fit;
-            whole = went_whole (module_of k) d.type (birth (main_thread d.main)) w.threads again.threads all w.run.fit w.run.whole;
+            whole = went_whole (module_of k) d.type (birth (main_thread d.main)) w.threads again.threads all w.run.fit
+                w.run.whole;
           };
         }

@@ -66,7 +66,8 @@ AreSame (y ∷ ys) (z ∷ zs) = (z ≡ record y { bag = z.bag; retired = z.retir
 -- ---- laws
 
 -- what holds of the threads of a run that were told
-pub record Joins (m : Surroundings) (a : Tree) (main : Birth) (xs : List Thread) (ps : List Pair) (ys : List Thread) : Type 0 where
+pub record Joins (m : Surroundings) (a : Tree) (main : Birth) (xs : List Thread) (ps : List Pair)
+    (ys : List Thread) : Type 0 where
   -- each of them has gained what it lacked
   pub caught : AllCaught m (histories_of ps) xs ys
   -- so their logs and the histories are a record that fits
@@ -74,9 +75,13 @@ pub record Joins (m : Surroundings) (a : Tree) (main : Birth) (xs : List Thread)
   -- with some ends they are all threads of a run
   pub fit : (zs : List Thread) × AreSame ys zs × IsRun m a main zs
   -- the configuration that they make with the closed channels is sound, in whichever order these are
-  pub sound : (ks : List ChannelHistory) → IsPermutation (histories_of ps) ks → IsSound m a (config_of ys ks)
+  pub sound : (ks : List ChannelHistory) → IsPermutation (histories_of ps) ks →
+      IsSound m a (config_of ys ks)
 
 -- where all channels of a run were closed, and each task is told what its end lacks, tasks and channels are a sound configuration
 abbrev pub SoundLaw : Type 0
-SoundLaw = (m : Module) (ds : List Deriv) → HasDerivations m ds → (a : Tree) (main : Birth) (xs : List Thread) (ps : List Pair) →
-    IsOver (surroundings m []) a main xs ps → (ys : List Thread) → AreTold (surroundings m []) (histories_of ps) xs ys → Joins (surroundings m []) a main xs ps ys
+SoundLaw = (m : Module) (ds : List Deriv) → HasDerivations m ds →
+    (a : Tree) (main : Birth) (xs : List Thread) (ps : List Pair) →
+    IsOver (surroundings m []) a main xs ps →
+    (ys : List Thread) → AreTold (surroundings m []) (histories_of ps) xs ys →
+    Joins (surroundings m []) a main xs ps ys

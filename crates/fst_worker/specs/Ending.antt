@@ -73,7 +73,8 @@ pub record IsTellable (k : Code) (b : Bare) (cs : List Closed) : Type 0 where
   pub bare : IsBareOf k b thread
 
 -- the thread has stayed as it was, or was told that its offer was taken, and this is its task
-pub record IsToldTo (k : Code) (ks : List ChannelHistory) (x : Thread) (t : TaskView) (clock : ℕ) : Type 0 where
+pub record IsToldTo (k : Code) (ks : List ChannelHistory) (x : Thread) (t : TaskView)
+    (clock : ℕ) : Type 0 where
   pub after : Thread
   pub told : Stayed ks x after ⊎ Told (module_of k) ks x after
   pub task : IsTaskOf k.module.value k t clock after
@@ -84,7 +85,8 @@ pub record AreTellable (k : Code) (bs : List Bare) (cs : List Closed) : Type 0 w
   pub bare : AreBareOf k bs run.threads
 
 -- all threads were told, and these are their tasks
-pub record AreToldTo (k : Code) (ks : List ChannelHistory) (xs : List Thread) (ts : List (TaskView × ℕ)) : Type 0 where
+pub record AreToldTo (k : Code) (ks : List ChannelHistory) (xs : List Thread)
+    (ts : List (TaskView × ℕ)) : Type 0 where
   pub after : List Thread
   pub told : AreTold (module_of k) ks xs after
   pub tasks : AreTasksOf k.module.value k ts after

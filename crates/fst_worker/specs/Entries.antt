@@ -13,7 +13,8 @@ use Rattle.fst_safety.specs.Threads.{Thread}
 
 -- one side's part in an entry of a channel's history that stands behind these
 abbrev pub part_at : ChannelHistory → Side → List Entry → Entry → Exchange
-part_at k s before e = part_in (record { channel = k.name; side = s }) (sends (residual s k.declared before) e.event) e
+part_at k s before e = part_in (record { channel = k.name; side = s })
+    (sends (residual s k.declared before) e.event) e
 
 -- what a task has exchanged is a side's part in an entry of one of the histories
 pub record StandsIn (ks : List ChannelHistory) (g : Exchange) : Type 0 where
@@ -36,13 +37,17 @@ pub record IsExchanged (xs : List Thread) (g : Exchange) : Type 0 where
 pub record Correspond (xs : List Thread) (ks : List ChannelHistory) : Type 0 where
   -- no two tasks have one path, and no two channels one name
   pub paths : (p : Path) → sum_by (λ (x : Thread). once (same_path p x.path)) xs ≤ 1
-  pub names : (h : ChannelName) → sum_by (λ (k : ChannelHistory). once (same_channel h k.name)) ks ≤ 1
+  pub names : (h : ChannelName) → sum_by
+      (λ (k : ChannelHistory). once (same_channel h k.name)) ks ≤ 1
   -- what a log says that was sent or received at an end stands in its channel's history, with its stamp and the task's clock
   pub logged : All (λ (x : Thread). All (StandsIn ks) (exchanges x.first.clock x.log)) xs
   -- each entry of a history was exchanged by a task at the left end, and by one at the right end
-  pub exchanged : (k : ChannelHistory) (s : Side) (before : List Entry) (e : Entry) (behind : List Entry) → Contains ks k →
+  pub exchanged : (k : ChannelHistory) (s : Side) (before : List Entry) (e : Entry)
+      (behind : List Entry) → Contains ks k →
       k.entries.items ≡ before ++ e ∷ behind →
       IsExchanged xs (part_at k s before e)
   -- just one of both has sent it
-  pub one_sends : (k : ChannelHistory) (before : List Entry) (e : Entry) (behind : List Entry) → Contains ks k → k.entries.items ≡ before ++ e ∷ behind →
-      sends (residual Left k.declared before) e.event ≡ not (sends (residual Right k.declared before) e.event)
+  pub one_sends : (k : ChannelHistory) (before : List Entry) (e : Entry) (behind : List Entry) →
+      Contains ks k → k.entries.items ≡ before ++ e ∷ behind →
+      sends (residual Left k.declared before)
+      e.event ≡ not (sends (residual Right k.declared before) e.event)

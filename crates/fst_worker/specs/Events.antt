@@ -37,7 +37,8 @@ alone (Got ev) = 0
 -- the entries of the logs for what tasks do alone, and the entries of the histories
 abbrev pub events_of : List Thread → List ChannelHistory → ℕ
 events_of ys ks =
-    sum_by (λ (y : Thread). sum_by (λ (e : LogEntry). alone e.answer) y.log) ys + sum_by (λ (k : ChannelHistory). length k.entries.items) ks
+    sum_by (λ (y : Thread). sum_by (λ (e : LogEntry). alone e.answer) y.log) ys + sum_by
+    (λ (k : ChannelHistory). length k.entries.items) ks
 
 -- the task's clock, how many tasks it has forked and channels it has made, and the stamps of its log are not over n
 pub record IsWithin (n : ℕ) (y : Thread) : Type 0 where
@@ -53,7 +54,8 @@ pub record AreWithin (n : ℕ) (ys : List Thread) (ks : List ChannelHistory) : T
 
 -- in a record that fits nothing is over the number of its events
 abbrev pub StampLaw : Type 0
-StampLaw = (m : Surroundings) (main : Birth) (ys : List Thread) (ks : List ChannelHistory) → main.first.clock ≡ 0 → FitsRecord m main ys ks →
+StampLaw = (m : Surroundings) (main : Birth) (ys : List Thread) (ks : List ChannelHistory) →
+    main.first.clock ≡ 0 → FitsRecord m main ys ks →
     AreWithin (events_of ys ks) ys ks
 
 -- ---- events
@@ -73,9 +75,11 @@ pub record IsRecordOf (m : Surroundings) (main : Birth) (c : Config) (n : ℕ) :
 
 -- where an event is possible in the configuration of a record that fits, what it leads to is that of one with one event more
 abbrev pub ExtendsLaw : Type 0
-ExtendsLaw = (m : Surroundings) (main : Birth) (ys : List Thread) (ks : List ChannelHistory) (e : CoreEvent) (w : Write) →
+ExtendsLaw = (m : Surroundings) (main : Birth) (ys : List Thread) (ks : List ChannelHistory)
+    (e : CoreEvent) (w : Write) →
     main.first.clock ≡ 0 → FitsRecord m main ys ks → events_of ys ks < 2 ^ 32 →
-    IsRight (program_in m) (config_of ys ks) → Does (program_in m) m.types (config_of ys ks) e w → IsFine m (written (config_of ys ks) w) →
+    IsRight (program_in m) (config_of ys ks) → Does (program_in m) m.types (config_of ys ks) e w →
+    IsFine m (written (config_of ys ks) w) →
     IsRecordOf m main (written (config_of ys ks) w) (suc (events_of ys ks))
 
 -- ---- runs
@@ -83,24 +87,32 @@ ExtendsLaw = (m : Surroundings) (main : Birth) (ys : List Thread) (ks : List Cha
 -- the events are possible one after the other, and all configurations on the way are fine, the first and the last too
 abbrev pub RunsFine : Surroundings → Config → List CoreEvent → Config → Type 0
 RunsFine m c [] d = IsFine m c × (d ≡ c)
-RunsFine m c (e ∷ es) d = IsFine m c × (w : Write) × Does (program_in m) m.types c e w × RunsFine m (written c w) es d
+RunsFine m c (e ∷ es) d = IsFine m c ×
+    (w : Write) × Does (program_in m) m.types c e w × RunsFine m (written c w) es d
 
 -- so it is along a run
 abbrev pub RunsLaw : Type 0
-RunsLaw = (m : Surroundings) (main : Birth) (ys : List Thread) (ks : List ChannelHistory) (es : List CoreEvent) (d : Config) →
-    main.first.clock ≡ 0 → FitsRecord m main ys ks → events_of ys ks + length es ≤ 2 ^ 32 → RunsFine m (config_of ys ks) es d →
+RunsLaw = (m : Surroundings) (main : Birth) (ys : List Thread) (ks : List ChannelHistory)
+    (es : List CoreEvent) (d : Config) →
+    main.first.clock ≡ 0 → FitsRecord m main ys ks → events_of ys ks + length es ≤ 2 ^ 32 →
+    RunsFine m (config_of ys ks) es d →
     IsRecordOf m main d (events_of ys ks + length es)
 
 -- the report of a record that fits, is safe, has at most so many events and allows no other, or that one that fits has more
 abbrev pub IsRecordAnswer : Module → Birth → ℕ → Outcome → Type 0
 IsRecordAnswer m main steps (Done r) =
-    (ys : List Thread) × (ks : List ChannelHistory) × FitsRecord (surroundings m []) main ys ks × IsSafeAt m (config_of ys ks) ×
-    IsLast (program m) m.types.items (config_of ys ks) × (events_of ys ks ≤ steps) × IsReport (program m) (config_of ys ks) (events_of ys ks) r
+    (ys : List Thread) × (ks : List ChannelHistory) × FitsRecord (surroundings m []) main ys ks ×
+    IsSafeAt m (config_of ys ks) ×
+    IsLast (program m) m.types.items (config_of ys ks) ×
+    (events_of ys ks ≤ steps) × IsReport (program m) (config_of ys ks) (events_of ys ks) r
 IsRecordAnswer m main steps OutOfSteps =
-    (ys : List Thread) × (ks : List ChannelHistory) × FitsRecord (surroundings m []) main ys ks × (steps < events_of ys ks)
+    (ys : List Thread) × (ks : List ChannelHistory) × FitsRecord (surroundings m []) main ys ks ×
+    (steps < events_of ys ks)
 
 -- what the least run from a record's configuration comes to, where its events count among the steps, is such an answer
 abbrev pub AnswerLaw : Type 0
-AnswerLaw = (m : Module) (main : Birth) (ys : List Thread) (ks : List ChannelHistory) (steps : ℕ) (o : Outcome) →
-    main.first.clock ≡ 0 → FitsRecord (surroundings m []) main ys ks → StaysSafe m (config_of ys ks) → steps < 2 ^ 32 →
+AnswerLaw = (m : Module) (main : Birth) (ys : List Thread) (ks : List ChannelHistory) (steps : ℕ)
+    (o : Outcome) →
+    main.first.clock ≡ 0 → FitsRecord (surroundings m []) main ys ks →
+    StaysSafe m (config_of ys ks) → steps < 2 ^ 32 →
     IsAnswerFrom m (config_of ys ks) (events_of ys ks) steps o → IsRecordAnswer m main steps o

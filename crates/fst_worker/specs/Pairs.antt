@@ -30,6 +30,8 @@ pub record IsOnePair (l r : EndView) : Type 0 where
 -- the ends of these threads are the two ends of channels
 pub record ArePaired (xs : List Thread) : Type 0 where
   -- with each end the other end of its channel is there
-  pub partner : (e : EndView) → HasEnd xs e → (f : EndView) × HasEnd xs f × (end_name f ≡ other (end_name e)) × IsOnePair e f
+  pub partner : (e : EndView) → HasEnd xs e → (f : EndView) × HasEnd xs f ×
+      (end_name f ≡ other (end_name e)) × IsOnePair e f
   -- a left and a right end of one channel are a pair, whichever they are
-  pub one : (l r : EndView) → HasEnd xs l → HasEnd xs r → l.knows.side ≡ Left → r.knows.side ≡ Right → r.channel ≡ l.channel → IsOnePair l r
+  pub one : (l r : EndView) → HasEnd xs l → HasEnd xs r → l.knows.side ≡ Left →
+      r.knows.side ≡ Right → r.channel ≡ l.channel → IsOnePair l r

@@ -38,12 +38,14 @@ pub record Ran (k : Code) (a : Tree) (s u : Share) (b c : Crew) : Type 0 where
   pub own : (w : Path → ℕ) → own_paths w c ≡ own_paths w b
   pub idle : All IsIdle b.forked → All IsIdle c.forked
   pub over : All (IsOver k) b.ended → All (IsOver k) c.ended
-  pub counted : u.events + sum_by (λ (x : Thread). counts x.log) (threads_of b) ≡ s.events + sum_by (λ (x : Thread). counts x.log) (threads_of c)
+  pub counted : u.events + sum_by (λ (x : Thread). counts x.log) (threads_of b) ≡ s.events + sum_by
+      (λ (x : Thread). counts x.log) (threads_of c)
   pub moved : u.moved ≡ false → s.moved ≡ false
   pub work : work_of (threads_of b) ≤ work_of (threads_of c)
   pub done : s.moved ≡ false → Grows u.moved (work_of (threads_of b)) (work_of (threads_of c))
   pub still : u.moved ≡ false → (w : Path → List LogEntry → ℕ) →
-      sum_by (λ (x : Thread). w x.path x.log) (threads_of c) ≡ sum_by (λ (x : Thread). w x.path x.log) (threads_of b)
+      sum_by (λ (x : Thread). w x.path x.log) (threads_of c) ≡ sum_by
+      (λ (x : Thread). w x.path x.log) (threads_of b)
   pub tries : (z : EndName) → tries_of z (threads_of b) ≤ tries_of z (threads_of c)
 
 -- the crew b has become one of which P holds
@@ -91,7 +93,8 @@ is_move (Ok Over) = false
 is_move (Err e) = false
 
 -- the thread at the place i has made a turn
-pub record TurnedAt (k : Code) (a : Tree) (i : ℕ) (r : Result Move AllocError) (u : Share) (b : Crew) : Type 0 where
+pub record TurnedAt (k : Code) (a : Tree) (i : ℕ) (r : Result Move AllocError) (u : Share)
+    (b : Crew) : Type 0 where
   pub crew : Crew
   pub is : IsCrew k u crew
   pub before : Thread
@@ -100,7 +103,8 @@ pub record TurnedAt (k : Code) (a : Tree) (i : ℕ) (r : Result Move AllocError)
   pub at : IsAt i b crew after
   pub goes : GoesOnTo (module_of k) a before after at.new
   pub done : Grows (is_move r) (work before) (work after + work_of at.new)
-  pub tries : (z : EndName) → of_ends (tries_at z) before ≤ of_ends (tries_at z) after + tries_of z at.new
+  pub tries : (z : EndName) → of_ends (tries_at z) before ≤ of_ends
+      (tries_at z) after + tries_of z at.new
   pub comes : Comes k r before after at.new
 
 -- so it is whatever threads the share's tasks were
@@ -130,7 +134,8 @@ Leads k (Err e) xs ys y = ⊤
 
 -- one turn at the place i
 abbrev pub StepsAt : Code → ℕ → Result Move AllocError → Share → Share → Type 0
-StepsAt k i r = Runs k (λ b c. (y : Thread) × IsAt i b c y × Leads k r (threads_of b) (threads_of c) y)
+StepsAt k i r = Runs k (λ b c. (y : Thread) × IsAt i b c y ×
+    Leads k r (threads_of b) (threads_of c) y)
 
 -- the clock of the thread or the events exceed the steps, or memory was wanting
 abbrev pub Exceeds : ℕ → Share → Thread → Type 0
@@ -144,17 +149,22 @@ Stops k steps Halts u xs ys y = Exceeds steps u y
 
 -- as many turns as it can make at the place i
 abbrev pub StopsAt : Code → ℕ → ℕ → Stop → Share → Share → Type 0
-StopsAt k i steps r s u = Runs k (λ b c. (y : Thread) × IsAt i b c y × Stops k steps r u (threads_of b) (threads_of c) y) s u
+StopsAt k i steps r s u = Runs k (λ b c. (y : Thread) × IsAt i b c y ×
+    Stops k steps r u (threads_of b) (threads_of c) y) s u
 
 -- ---- all tasks
 
 -- each of the first ones asks at an end that was tried, or one of them exceeds the steps
-abbrev pub FirstStop : Code → ℕ → ℕ → Bool → Share → List Thread → List Thread → List Thread → Type 0
-FirstStop k steps kept false u xs ys ts = (j : ℕ) (e : Thread) → j < kept → HasAsked k xs ys (slice_index_or ts j e)
-FirstStop k steps kept true u xs ys ts = (j : ℕ) × (j < kept) × ((e : Thread) → Exceeds steps u (slice_index_or ts j e))
+abbrev pub FirstStop : Code → ℕ → ℕ → Bool → Share → List Thread → List Thread → List Thread →
+    Type 0
+FirstStop k steps kept false u xs ys ts =
+    (j : ℕ) (e : Thread) → j < kept → HasAsked k xs ys (slice_index_or ts j e)
+FirstStop k steps kept true u xs ys ts = (j : ℕ) × (j < kept) ×
+    ((e : Thread) → Exceeds steps u (slice_index_or ts j e))
 
 -- so many tasks before the place i are kept, and the others before it are over
-pub record HasPassed (k : Code) (steps kept i : ℕ) (halted : Bool) (u : Share) (b c : Crew) : Type 0 where
+pub record HasPassed (k : Code) (steps kept i : ℕ) (halted : Bool) (u : Share)
+    (b c : Crew) : Type 0 where
   pub first : FirstStop k steps kept halted u (threads_of b) (threads_of c) c.tasks
   pub over : (j : ℕ) (e : Thread) → kept ≤ j → j < i → IsOver k (slice_index_or c.tasks j e)
 
@@ -172,7 +182,8 @@ pub record IsPutBefore (kept i : ℕ) (s u : Share) : Type 0 where
 -- after a pass each task that is left asks at an end that was tried, or one exceeds the steps
 abbrev pub HasStopped : Code → ℕ → Share → Crew → Crew → Type 0
 HasStopped k steps u b c = All (HasAsked k (threads_of b) (threads_of c)) c.tasks
-    ⊎ ((j : ℕ) × (j < length c.tasks) × ((e : Thread) → Exceeds steps u (slice_index_or c.tasks j e)))
+    ⊎ ((j : ℕ) × (j < length c.tasks) ×
+    ((e : Thread) → Exceeds steps u (slice_index_or c.tasks j e)))
 
 -- a pass, or some
 abbrev pub Passes : Code → ℕ → Share → Share → Type 0
@@ -180,11 +191,13 @@ Passes k steps s u = Runs k (HasStopped k steps u) s u
 
 -- the tasks from a place on are over
 abbrev pub AreOverFrom : Code → ℕ → List Thread → Type 0
-AreOverFrom k kept xs = (j : ℕ) (e : Thread) → kept ≤ j → j < length xs → IsOver k (slice_index_or xs j e)
+AreOverFrom k kept xs = (j : ℕ) (e : Thread) → kept ≤ j → j < length xs →
+    IsOver k (slice_index_or xs j e)
 
 -- the first n tasks are left, and the others, all of which are over, are among those that have ended
 abbrev pub RetiresTo : ℕ → ℕ → Share → Share → Type 0
-RetiresTo kept n s u = (k : Code) → WhateverCrew k s (λ a b. AreOverFrom k kept b.tasks → Becomes k a (λ c. c.tasks ≡ take n b.tasks) s u b)
+RetiresTo kept n s u = (k : Code) → WhateverCrew k s
+    (λ a b. AreOverFrom k kept b.tasks → Becomes k a (λ c. c.tasks ≡ take n b.tasks) s u b)
 
 -- the events and what the share tells are the same
 abbrev pub HasSameMarks : Share → Share → Type 0

@@ -32,7 +32,8 @@ shown_of h s t es = parts_in (record { channel = h; side = s }) (Some (side_type
 
 -- what passed over a channel, as the parts of both sides
 abbrev pub shows : (Exchange → ℕ) → ChannelHistory → ℕ
-shows w k = sum_by w (shown_of k.name Left k.declared k.entries.items) + sum_by w (shown_of k.name Right k.declared k.entries.items)
+shows w k = sum_by w (shown_of k.name Left k.declared k.entries.items) + sum_by w
+    (shown_of k.name Right k.declared k.entries.items)
 
 -- the log leads from a task that has made and forked nothing yet to the one that is there now
 pub record IsLogged (m : Surroundings) (x : Thread) : Type 0 where
@@ -47,13 +48,16 @@ pub record IsRecorded (k : ChannelHistory) : Type 0 where
   pub stamped : AreStamped 0 k.entries.items
 
 -- the logs of these threads and these histories are a record that fits the module
-pub record FitsRecord (m : Surroundings) (main : Birth) (xs : List Thread) (ks : List ChannelHistory) : Type 0 where
+pub record FitsRecord (m : Surroundings) (main : Birth) (xs : List Thread)
+    (ks : List ChannelHistory) : Type 0 where
   -- the tasks are main's, whose path is 0, and those that the logs fork, each as its fork gives it
   pub root : main.path ≡ main_path
-  pub births : (w : Birth → ℕ) → sum_by (λ (x : Thread). w (birth x)) xs ≡ w main + sum_by (bears m w) xs
+  pub births : (w : Birth → ℕ) → sum_by
+      (λ (x : Thread). w (birth x)) xs ≡ w main + sum_by (bears m w) xs
   pub logs : All (IsLogged m) xs
   -- the channels are those that the logs make, each with its declared type
-  pub channels : (w : ChannelName → Tree → ℕ) → sum_by (λ (k : ChannelHistory). w k.name k.declared) ks ≡ sum_by (opens m w) xs
+  pub channels : (w : ChannelName → Tree → ℕ) → sum_by
+      (λ (k : ChannelHistory). w k.name k.declared) ks ≡ sum_by (opens m w) xs
   -- what passed over them is what the logs exchange, with events, stamps, sides and clocks
   pub exchanged : (w : Exchange → ℕ) → sum_by (shows w) ks ≡ sum_by (trades w) xs
   pub histories : All IsRecorded ks
@@ -75,19 +79,24 @@ pub record IsShut (p : Pair) : Type 0 where
 
 -- the ends of these threads, open and spent, are those of the pairs
 abbrev pub Paired : List Thread → List Pair → Type 0
-Paired xs ps = (w : EndView → ℕ) → sum_by (of_ends w) xs ≡ sum_by (λ (p : Pair). w p.left + w p.right) ps
+Paired xs ps = (w : EndView → ℕ) → sum_by (of_ends w) xs ≡ sum_by
+    (λ (p : Pair). w p.left + w p.right) ps
 
 -- the ends of these threads, open and spent, are those of the pairs and others
 abbrev pub Pooled : List Thread → List Pair → List EndView → Type 0
-Pooled xs ps es = (w : EndView → ℕ) → sum_by (of_ends w) xs ≡ sum_by (λ (p : Pair). w p.left + w p.right) ps + sum_by w es
+Pooled xs ps es = (w : EndView → ℕ) → sum_by (of_ends w) xs ≡ sum_by
+    (λ (p : Pair). w p.left + w p.right) ps + sum_by w es
 
 -- each of these ends has the other end of its channel beside it, and any end there of that name is a pair with it
 pub record Closable (es : List EndView) : Type 0 where
-  pub partner : (e : EndView) (rest : List EndView) → IsPermutation es (e ∷ rest) → 0 < count_of (other (end_name e)) rest
-  pub pair : (e f : EndView) (rest : List EndView) → IsPermutation es (e ∷ rest) → Contains rest f → end_name f ≡ other (end_name e) → IsOnePair e f
+  pub partner : (e : EndView) (rest : List EndView) → IsPermutation es (e ∷ rest) →
+      0 < count_of (other (end_name e)) rest
+  pub pair : (e f : EndView) (rest : List EndView) → IsPermutation es (e ∷ rest) → Contains rest f →
+      end_name f ≡ other (end_name e) → IsOnePair e f
 
 -- a run all of whose channels were closed, with these pairs of ends
-pub record IsOver (m : Surroundings) (a : Tree) (main : Birth) (xs : List Thread) (ps : List Pair) : Type 0 where
+pub record IsOver (m : Surroundings) (a : Tree) (main : Birth) (xs : List Thread)
+    (ps : List Pair) : Type 0 where
   pub run : IsRun m a main xs
   pub paired : Paired xs ps
   pub shut : All IsShut ps
@@ -100,19 +109,27 @@ histories_of (p ∷ ps) = p.closed.history ∷ histories_of ps
 -- the entry behind those that an end knows, in the history of its channel
 abbrev pub missing : List ChannelHistory → EndView → Option Entry
 missing [] e = None
-missing (k ∷ ks) e = if same_channel e.channel k.name then slice_get k.entries.items (length e.knows.history) else missing ks e
+missing (k ∷ ks) e = if same_channel e.channel k.name then slice_get k.entries.items
+    (length e.knows.history) else missing ks e
 
 -- what an end sent and wasn't told of yet, however it is weighed
 abbrev pub lag_by : (Exchange → ℕ) → EndView → Option Entry → ℕ
 lag_by w e None = 0
-lag_by w e (Some d) = w (record { end = end_name e; sends = true; event = d.event; stamp = d.stamp; clock = d.sent })
+lag_by w e (Some d) = w (record {
+  end = end_name e;
+  sends = true;
+  event = d.event;
+  stamp = d.stamp;
+  clock = d.sent;
+})
 
 -- the same by its channel's history
 abbrev pub lag : (Exchange → ℕ) → List ChannelHistory → EndView → ℕ
 lag w ks e = lag_by w e (missing ks e)
 
 -- the end's offer is the entry that it lacks
-pub record IsTrailing (ks : List ChannelHistory) (e : EndView) (o : Offer) (d : Entry) : Type 0 where
+pub record IsTrailing (ks : List ChannelHistory) (e : EndView) (o : Offer)
+    (d : Entry) : Type 0 where
   pub lacks : missing ks e ≡ Some d
   pub event : d.event ≡ o.event
   pub sent : d.sent ≡ o.clock
@@ -126,7 +143,8 @@ stands_on s (Some q) = same_side s q.0
 -- an end whose offer stands lacks nothing; for another that waits, the last entry of its channel's history is its offer
 abbrev pub IsAsClosed : List ChannelHistory → EndView → Offer → Closed → Bool → Type 0
 IsAsClosed ks e o c true = missing ks e ≡ None
-IsAsClosed ks e o c false = (d : Entry) × IsTrailing ks e o d × (last_stamp c.history.entries.items ≡ d.stamp)
+IsAsClosed ks e o c false = (d : Entry) × IsTrailing ks e o d ×
+    (last_stamp c.history.entries.items ≡ d.stamp)
 
 -- ---- tasks that are told
 
@@ -139,7 +157,8 @@ pub record Caught (m : Surroundings) (ks : List ChannelHistory) (x y : Thread) :
   pub follows : Follows (program_in m) y.path y.first y.log y.now
   pub none_born : births (program_in m) x.path x.now gained ≡ []
   pub none_opened : openings m.types gained ≡ []
-  pub exchanged : (w : Exchange → ℕ) → sum_by w (exchanges x.now.clock gained) ≡ of_ends (lag w ks) x
+  pub exchanged : (w : Exchange → ℕ) →
+      sum_by w (exchanges x.now.clock gained) ≡ of_ends (lag w ks) x
 
 -- so it is with each of these threads
 abbrev pub AllCaught : Surroundings → List ChannelHistory → List Thread → List Thread → Type 0

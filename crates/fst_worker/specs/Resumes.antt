@@ -34,7 +34,8 @@ pub record GoesRight (m : Module) (c : Config) : Type 0 where
 
 -- so it is with each sound configuration of a module that has derivations
 abbrev pub RightLaw : Type 0
-RightLaw = (m : Module) (ds : List Deriv) → HasDerivations m ds → (a : Tree) (c : Config) → IsSound (surroundings m []) a c → GoesRight m c
+RightLaw = (m : Module) (ds : List Deriv) → HasDerivations m ds →
+    (a : Tree) (c : Config) → IsSound (surroundings m []) a c → GoesRight m c
 
 -- ---- tasks as the machine keeps them
 
@@ -59,7 +60,8 @@ pub record Tells (m : Module) (ks : Histories) (x : Thread) : Type 0 where
   pub leads : answered (program m) x.now.state Sent ≡ Some state
   pub alive : pause m.families.items state ≡ stuck → ⊥
   -- the task that has gone on after the answer is that of the thread that was told
-  pub goes_on : (k : Code) (t u : TaskView) (clock : ℕ) → IsFrom m k → IsTaskOf m k t clock x → GoesOn k t Sent u → (y : Thread) →
+  pub goes_on : (k : Code) (t u : TaskView) (clock : ℕ) → IsFrom m k → IsTaskOf m k t clock x →
+      GoesOn k t Sent u → (y : Thread) →
       Told (surroundings m []) ks x y → IsTaskOf m k u y.now.clock y
 
 -- no clock of these tasks is over n
@@ -71,12 +73,15 @@ ClocksWithin n (t ∷ ts) = (t.1 ≤ n) × ClocksWithin n ts
 
 -- the threads of a run whose channels were closed can be told what their ends lack, and are as they were where they lack nothing
 pub record CanTell (m : Module) (ks : Histories) (xs : List Thread) : Type 0 where
-  pub told : All (λ (x : Thread). (e : EndView) (d : Entry) → Contains x.bag e → missing ks e ≡ Some d → Tells m ks x) xs
-  pub stays : (k : Code) (t : TaskView) (clock : ℕ) (x y : Thread) → IsTaskOf m k t clock x → Stayed ks x y → IsTaskOf m k t clock y
+  pub told : All (λ (x : Thread). (e : EndView) (d : Entry) → Contains x.bag e →
+      missing ks e ≡ Some d → Tells m ks x) xs
+  pub stays : (k : Code) (t : TaskView) (clock : ℕ) (x y : Thread) → IsTaskOf m k t clock x →
+      Stayed ks x y → IsTaskOf m k t clock y
 
 -- so it is where all channels of a run were closed
 abbrev pub TellLaw : Type 0
-TellLaw = (m : Module) (ds : List Deriv) → HasDerivations m ds → (a : Tree) (main : Birth) (xs : List Thread) (ps : List Pair) →
+TellLaw = (m : Module) (ds : List Deriv) → HasDerivations m ds →
+    (a : Tree) (main : Birth) (xs : List Thread) (ps : List Pair) →
     IsOver (surroundings m []) a main xs ps → CanTell m (histories_of ps) xs
 
 -- tasks and channels that the machine can go on from
@@ -93,13 +98,18 @@ pub record Resumes (m : Module) (k : Code) (ts : Tasks) (hs : Histories) (c : Co
 -- where all channels of a run were closed, and each task is told what its end lacks, the machine can go on from the tasks and the
 -- closed channels, where these come in the order in which each task has made them
 abbrev pub ResumeLaw : Type 0
-ResumeLaw = (m : Module) (ds : List Deriv) → HasDerivations m ds → (a : Tree) (main : Birth) (xs : List Thread) (ps : List Pair) →
-    IsOver (surroundings m []) a main xs ps → (ys : List Thread) → AreTold (surroundings m []) (histories_of ps) xs ys →
-    (k : Code) (ts : Tasks) (hs : Histories) → IsFrom m k → AreTasksOf m k ts ys → IsPermutation (histories_of ps) hs → AreNumbered (λ p. zero) hs →
+ResumeLaw = (m : Module) (ds : List Deriv) → HasDerivations m ds →
+    (a : Tree) (main : Birth) (xs : List Thread) (ps : List Pair) →
+    IsOver (surroundings m []) a main xs ps →
+    (ys : List Thread) → AreTold (surroundings m []) (histories_of ps) xs ys →
+    (k : Code) (ts : Tasks) (hs : Histories) → IsFrom m k → AreTasksOf m k ts ys →
+    IsPermutation (histories_of ps) hs → AreNumbered (λ p. zero) hs →
     Resumes m k ts hs (config_of ys hs)
 
 -- so the closed channels of a run come where their names rise
 abbrev pub OrderLaw : Type 0
-OrderLaw = (m : Surroundings) (a : Tree) (main : Birth) (xs : List Thread) (ps : List Pair) → IsOver m a main xs ps →
-    (cs : List Closed) → map (λ (p : Pair). p.closed) ps ≡ cs → IsStrictlySortedBy name_cmp (names_of cs) →
+OrderLaw = (m : Surroundings) (a : Tree) (main : Birth) (xs : List Thread) (ps : List Pair) →
+    IsOver m a main xs ps →
+    (cs : List Closed) → map (λ (p : Pair). p.closed) ps ≡ cs →
+    IsStrictlySortedBy name_cmp (names_of cs) →
     AreNumbered (λ p. zero) (map (λ (c : Closed). c.history) cs)

@@ -102,7 +102,8 @@ tries_of z xs = sum_by (of_ends (tries_at z)) xs
 
 -- the paths of all threads but those that were forked, however they are weighed
 abbrev pub own_paths : (Path → ℕ) → Crew → ℕ
-own_paths w c = sum_by (λ (x : Thread). w x.path) c.tasks + sum_by (λ (x : Thread). w x.path) c.ended
+own_paths w c = sum_by (λ (x : Thread). w x.path) c.tasks + sum_by
+    (λ (x : Thread). w x.path) c.ended
 
 -- how much the threads have done
 abbrev pub work_of : List Thread → ℕ
@@ -123,21 +124,26 @@ pub record HasRun (k : Code) (steps : ℕ) (s u : Share) (b c : Crew) : Type 0 w
   pub idle : All IsIdle b.forked → All IsIdle c.forked
   pub over : All (IsOver k) b.ended → All (IsOver k) c.ended
   -- the events are counted
-  pub counted : u.events + sum_by (λ (x : Thread). counts x.log) (threads_of b) ≡ s.events + sum_by (λ (x : Thread). counts x.log) (threads_of c)
+  pub counted : u.events + sum_by (λ (x : Thread). counts x.log) (threads_of b) ≡ s.events + sum_by
+      (λ (x : Thread). counts x.log) (threads_of c)
   -- more was done where the share has moved, and else as much
   pub done : Grows u.moved (work_of (threads_of b)) (work_of (threads_of c))
   -- where nothing moved, no log has changed
   pub still : u.moved ≡ false → (w : Path → List LogEntry → ℕ) →
-      sum_by (λ (x : Thread). w x.path x.log) (threads_of c) ≡ sum_by (λ (x : Thread). w x.path x.log) (threads_of b)
+      sum_by (λ (x : Thread). w x.path x.log) (threads_of c) ≡ sum_by
+      (λ (x : Thread). w x.path x.log) (threads_of b)
   -- unless memory was wanting, or the events or the clock of a task exceed the steps, each task that is left asks at an end that was tried
-  pub tried : u.refused ≡ false → u.events ≤ steps → All (λ (t : TypedTask). t.clock ≤ steps) u.tasks.items →
+  pub tried : u.refused ≡ false → u.events ≤ steps → All
+      (λ (t : TypedTask). t.clock ≤ steps) u.tasks.items →
       All (HasAsked k (threads_of b) (threads_of c)) c.tasks
 
 -- ---- whatever threads the tasks were
 
 -- P holds of whatever threads tasks were, as Is tells them from the tasks, where they fit the code, whose main has the type that P is told
-abbrev pub Whatever : {V : Type 0} → Code → (V → Type 0) → (V → List Thread) → (Tree → V → Type 0) → Type 0
-Whatever {V} k Is threads P = (a : Tree) (v : V) → IsTypedCode k a → Is v → All (FitsIn (module_of k) a) (threads v) → P a v
+abbrev pub Whatever : {V : Type 0} → Code → (V → Type 0) → (V → List Thread) →
+    (Tree → V → Type 0) → Type 0
+Whatever {V} k Is threads P = (a : Tree) (v : V) → IsTypedCode k a → Is v →
+    All (FitsIn (module_of k) a) (threads v) → P a v
 
 -- the same of the crew of one share
 abbrev pub WhateverCrew : Code → Share → (Tree → Crew → Type 0) → Type 0
@@ -147,15 +153,18 @@ WhateverCrew k s P = Whatever k (IsCrew k s) threads_of P
 
 -- whatever threads the tasks were, they have gone on by turns alone
 abbrev pub GoOn : Code → List Share → List Share → Type 0
-GoOn k ss us = Whatever k (AreKept k (all_tasks ss)) (λ xs. xs) (λ a xs. (ys : List Thread) × AreKept k (all_tasks us) ys × Went (module_of k) a xs ys)
+GoOn k ss us = Whatever k (AreKept k (all_tasks ss)) (λ xs. xs)
+    (λ a xs. (ys : List Thread) × AreKept k (all_tasks us) ys × Went (module_of k) a xs ys)
 
 -- the shares ss, whose tasks were the threads of these crews, are us now
-pub record HaveRun (k : Code) (a : Tree) (steps : ℕ) (ss us : List Share) (bs : List Crew) : Type 0 where
+pub record HaveRun (k : Code) (a : Tree) (steps : ℕ) (ss us : List Share)
+    (bs : List Crew) : Type 0 where
   pub after : List Crew
   pub are : AreCrews k us after
   pub went : Went (module_of k) a (all_threads bs) (all_threads after)
   pub each : (i : ℕ) (d : Share) (e : Crew) → i < length ss →
-      HasRun k steps (slice_index_or ss i d) (slice_index_or us i d) (slice_index_or bs i e) (slice_index_or after i e)
+      HasRun k steps (slice_index_or ss i d) (slice_index_or us i d) (slice_index_or bs i e)
+      (slice_index_or after i e)
 
 -- so it is whatever crews they had
 abbrev pub RunsAll : Code → ℕ → List Share → List Share → Type 0
@@ -163,12 +172,14 @@ RunsAll k steps ss us = Whatever k (AreCrews k ss) all_threads (λ a bs. HaveRun
 
 -- the paths of a share's tasks but for those that were forked, however they are weighed
 abbrev pub paths_in : (Path → ℕ) → Share → ℕ
-paths_in w s = sum_by (λ (t : TypedTask). w t.task.path) s.tasks.items + sum_by (λ (t : TypedTask). w t.task.path) s.ended.items
+paths_in w s = sum_by (λ (t : TypedTask). w t.task.path) s.tasks.items + sum_by
+    (λ (t : TypedTask). w t.task.path) s.ended.items
 
 -- there are as many shares, each with the tasks that it had, and no task that was forked has moved
 pub record AreLent (ss us : List Share) : Type 0 where
   pub length_is : length us ≡ length ss
-  pub own : (i : ℕ) (d : Share) → i < length ss → (w : Path → ℕ) → paths_in w (slice_index_or us i d) ≡ paths_in w (slice_index_or ss i d)
+  pub own : (i : ℕ) (d : Share) → i < length ss →
+      (w : Path → ℕ) → paths_in w (slice_index_or us i d) ≡ paths_in w (slice_index_or ss i d)
   pub idle : All (λ (s : Share). All (λ (t : TypedTask). t.log.items ≡ []) s.forked.items) us
 
 -- in each share the events have grown by those that its logs have gained
@@ -176,7 +187,8 @@ abbrev pub AreCounted : List Share → List Share → Type 0
 AreCounted ss us = (i : ℕ) (d : Share) → i < length ss →
     let s = slice_index_or ss i d in
     let u = slice_index_or us i d in
-    u.events + sum_by (λ (t : TypedTask). counts t.log.items) (all_of s) ≡ s.events + sum_by (λ (t : TypedTask). counts t.log.items) (all_of u)
+    u.events + sum_by (λ (t : TypedTask). counts t.log.items) (all_of s) ≡ s.events + sum_by
+    (λ (t : TypedTask). counts t.log.items) (all_of u)
 
 -- how many entries the logs of a share have
 abbrev pub entries_in : Share → ℕ
@@ -184,7 +196,8 @@ entries_in s = sum_by (λ (t : TypedTask). length t.log.items) (all_of s)
 
 -- how many offers of its tasks stand, for all that these know
 abbrev pub offers_in : Share → ℕ
-offers_in s = sum_by (λ (t : TypedTask). sum_by offers t.bag.items + sum_by offers t.retired.items) (all_of s)
+offers_in s = sum_by (λ (t : TypedTask). sum_by offers t.bag.items + sum_by offers t.retired.items)
+    (all_of s)
 
 -- what `moved` tells of the share s, which is u now
 pub record IsTold (s u : Share) : Type 0 where
@@ -192,12 +205,14 @@ pub record IsTold (s u : Share) : Type 0 where
   pub moved : u.moved ≡ true → (entries_in s < entries_in u) ⊎ (offers_in s < offers_in u)
   -- where it hasn't, the logs of its tasks are as before, and as many offers stand
   pub still : u.moved ≡ false → (w : Path → List LogEntry → ℕ) →
-      sum_by (λ (t : TypedTask). w t.task.path t.log.items) (all_of u) ≡ sum_by (λ (t : TypedTask). w t.task.path t.log.items) (all_of s)
+      sum_by (λ (t : TypedTask). w t.task.path t.log.items) (all_of u) ≡ sum_by
+      (λ (t : TypedTask). w t.task.path t.log.items) (all_of s)
   pub idle : u.moved ≡ false → offers_in u ≡ offers_in s
 
 -- so it is of each share
 abbrev pub AreTold : List Share → List Share → Type 0
-AreTold ss us = (i : ℕ) (d : Share) → i < length ss → IsTold (slice_index_or ss i d) (slice_index_or us i d)
+AreTold ss us = (i : ℕ) (d : Share) → i < length ss →
+    IsTold (slice_index_or ss i d) (slice_index_or us i d)
 
 -- whether a share has moved
 abbrev pub some_moved : List Share → Bool

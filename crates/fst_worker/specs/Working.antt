@@ -22,4 +22,5 @@ IsWholeRun k ts = (d : CanBegin k) → AreAtWork k d ts
 
 -- the report of a record that fits the module, has at most so many events and allows no other, or that one that fits has more
 abbrev pub IsWorkedOut : Code → ℕ → Outcome → Type 0
-IsWorkedOut k steps o = (d : CanBegin k) → IsRecordAnswer k.module.value (birth (main_thread d.main)) steps o
+IsWorkedOut k steps o = (d : CanBegin k) →
+    IsRecordAnswer k.module.value (birth (main_thread d.main)) steps o

@@ -68,16 +68,20 @@ trades w x = sum_by w (exchanges x.first.clock x.log)
 
 -- an end that stands in the thread's state and isn't open is among the spent ends of one of the threads
 abbrev pub IsKnownIn : List Thread → Thread → Type 0
-IsKnownIn xs x = (z : EndName) → 0 < held_state z x.now.state → count_of z x.bag ≡ 0 → 0 < sum_by (λ (y : Thread). count_of z y.retired) xs
+IsKnownIn xs x = (z : EndName) → 0 < held_state z x.now.state → count_of z x.bag ≡ 0 → 0 < sum_by
+    (λ (y : Thread). count_of z y.retired) xs
 
 -- all threads of a run, which main began, with nothing left out
 pub record Whole (m : Surroundings) (main : Birth) (xs : List Thread) : Type 0 where
   -- the threads are main's and those that the logs fork, each as its fork gives it
-  pub births : (w : Birth → ℕ) → sum_by (λ (x : Thread). w (birth x)) xs ≡ w main + sum_by (bears m w) xs
+  pub births : (w : Birth → ℕ) → sum_by
+      (λ (x : Thread). w (birth x)) xs ≡ w main + sum_by (bears m w) xs
   -- the ends of each side are those of the channels that the logs make, with the declared types
-  pub typed : (s : Side) (w : ChannelName → Tree → ℕ) → sum_by (of_ends (by_type s w)) xs ≡ sum_by (opens m w) xs
+  pub typed : (s : Side) (w : ChannelName → Tree → ℕ) →
+      sum_by (of_ends (by_type s w)) xs ≡ sum_by (opens m w) xs
   -- as many left as right ends have a name and a cell
-  pub cells : (w : ChannelName → TableId → ℕ) → sum_by (of_ends (by_cell Left w)) xs ≡ sum_by (of_ends (by_cell Right w)) xs
+  pub cells : (w : ChannelName → TableId → ℕ) →
+      sum_by (of_ends (by_cell Left w)) xs ≡ sum_by (of_ends (by_cell Right w)) xs
   -- what the ends have exchanged is what the logs say
   pub exchanged : (w : Exchange → ℕ) → sum_by (of_ends (by_exchanges w)) xs ≡ sum_by (trades w) xs
   -- each end that stands in a state and isn't open there is among the spent ones

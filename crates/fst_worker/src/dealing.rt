@@ -55,7 +55,8 @@ fn take_in(
     tasks: &mut Vec<TypedTask>,
     ended: &mut Vec<TypedTask>,
 ) -> Result<(), AllocError>
-    ensures { OnOk result (IsPermutation (all_of share ++ (tasks.old.items ++ ended.old.items)) (tasks.new.items ++ ended.new.items)) }
+    ensures { OnOk result (IsPermutation (all_of share ++ (tasks.old.items ++ ended.old.items))
+        (tasks.new.items ++ ended.new.items)) }
 {
     let Share {
         tasks: mut own,
@@ -75,7 +76,8 @@ pub(crate) fn gather(
     shares: Vec<Share>,
     ended: &mut Vec<TypedTask>,
 ) -> Result<Vec<TypedTask>, AllocError>
-    ensures { IfOk result (λ ts. IsPermutation (all_tasks shares.items ++ ended.old.items) (ts.items ++ ended.new.items)) }
+    ensures { IfOk result (λ ts. IsPermutation (all_tasks shares.items ++ ended.old.items)
+        (ts.items ++ ended.new.items)) }
 {
     let mut tasks = Vec::new(alloc);
     for share in shares {

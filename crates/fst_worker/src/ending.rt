@@ -40,7 +40,8 @@ fn waiting(alloc: Global, bag: &[End]) -> Result<Option<EndName>, AllocError>
 // Takes the ends of a task and puts them behind others.
 fn strip(alloc: Global, task: TypedTask, ends: &mut Vec<End>) -> Result<Bare, AllocError>
     ensures bare { IfOk result (IsBare task) }
-    ensures ends { OnOk result (ends.new.items ≡ ends.old.items ++ (task.bag.items ++ task.retired.items)) }
+    ensures ends { OnOk result (ends.new.items ≡ ends.old.items
+        ++ (task.bag.items ++ task.retired.items)) }
 {
     let TypedTask {
         task,

@@ -91,7 +91,8 @@ impl Share {
         requires kept { walk.kept ≤ i }
         ensures put { IsPutBefore walk.kept i self.old self.new }
         ensures more { (result.kept ≡ walk.kept + 1) × (result.halted ≡ walk.halted) }
-        ensures len { (vec_len self.new.tasks ≡ vec_len self.old.tasks) × (vec_len self.new.ended ≡ vec_len self.old.ended) }
+        ensures len { (vec_len self.new.tasks ≡ vec_len self.old.tasks) ×
+            (vec_len self.new.ended ≡ vec_len self.old.ended) }
         ensures room { vec_capacity self.new.ended ≡ vec_capacity self.old.ended }
     {
         self.tasks.swap(walk.kept, i);
@@ -121,7 +122,8 @@ impl Share {
             PassesTo code.now steps result.kept (i + 1) result.halted s self.new }
         ensures kept { result.kept ≤ i + 1 }
         ensures len { vec_len self.new.tasks ≡ vec_len self.old.tasks }
-        ensures room { vec_len self.new.ended + (i + 1 - result.kept) ≤ vec_capacity self.new.ended }
+        ensures room { vec_len self.new.ended + (i + 1 - result.kept) ≤ vec_capacity
+            self.new.ended }
     {
         if walk.halted {
             return self.keep(i, walk);
@@ -147,7 +149,8 @@ impl Share {
     // Puts the tasks from this place on, which have come to their end, to those that have.
     fn retire(&mut self, kept: usize)
         requires kept { kept ≤ vec_len self.old.tasks }
-        requires room { vec_len self.old.ended + (vec_len self.old.tasks - kept) ≤ vec_capacity self.old.ended }
+        requires room { vec_len self.old.ended + (vec_len self.old.tasks - kept) ≤ vec_capacity
+            self.old.ended }
         ensures retires { RetiresTo kept kept self.old self.new }
         ensures same { HasSameMarks self.old self.new }
     {

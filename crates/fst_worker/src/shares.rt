@@ -52,7 +52,8 @@ pub(crate) enum Stop {
 
 // Whether the last event of a log counts here: what was received is counted with the one that received it.
 fn is_counted(log: &[LogEntry]) -> bool
-    ensures { (es : List Logged) (e : Logged) → log.now ≡ es ++ e ∷ [] → once result ≡ counts_one e.answer }
+    ensures { (es : List Logged) (e : Logged) → log.now ≡ es ++ e ∷ [] →
+        once result ≡ counts_one e.answer }
 {
     match log.last() {
         Some(entry) => !matches!(entry.answer, Answer::Sent),
@@ -66,12 +67,16 @@ impl Share {
         requires at { i < vec_len self.old.tasks }
         requires beside { over ≤ i }
         requires fit { CanRun code.now self.old }
-        requires clock { (d : Tasked) → (slice_index_or self.old.tasks.items i d).clock < 4294967295 }
+        requires clock { (d : Tasked) → (slice_index_or self.old.tasks.items i d).clock
+            < 4294967295 }
         ensures turns { TurnsAt code.now i result self.old self.new }
-        ensures same { (self.new.events ≡ self.old.events) × (self.new.moved ≡ self.old.moved) × (self.new.refused ≡ self.old.refused) }
-        ensures len { (vec_len self.new.tasks ≡ vec_len self.old.tasks) × (vec_len self.new.ended ≡ vec_len self.old.ended) }
+        ensures same { (self.new.events ≡ self.old.events) × (self.new.moved ≡ self.old.moved) ×
+            (self.new.refused ≡ self.old.refused) }
+        ensures len { (vec_len self.new.tasks ≡ vec_len self.old.tasks) ×
+            (vec_len self.new.ended ≡ vec_len self.old.ended) }
         ensures room { vec_capacity self.old.ended ≤ vec_capacity self.new.ended }
-        ensures more { OnOk result (vec_len self.new.ended + over + 1 ≤ vec_capacity self.new.ended) }
+        ensures more { OnOk result (vec_len self.new.ended + over + 1 ≤ vec_capacity
+            self.new.ended) }
     {
         let Ok(()) = self.forked.reserve(1) else {
             return Err(AllocError);
@@ -123,13 +128,17 @@ impl Share {
         requires at { i < vec_len self.old.tasks }
         requires beside { over ≤ i }
         requires fit { CanRun code.now self.old }
-        requires clock { (d : Tasked) → (slice_index_or self.old.tasks.items i d).clock < 4294967295 }
+        requires clock { (d : Tasked) → (slice_index_or self.old.tasks.items i d).clock
+            < 4294967295 }
         requires few { self.old.events < 4294967295 }
         ensures steps { StepsAt code.now i result self.old self.new }
-        ensures later { (b : Bool) → result ≡ Ok (Has_gained b) → clock_at self.old.tasks.items i < clock_at self.new.tasks.items i }
-        ensures len { (vec_len self.new.tasks ≡ vec_len self.old.tasks) × (vec_len self.new.ended ≡ vec_len self.old.ended) }
+        ensures later { (b : Bool) → result ≡ Ok (Has_gained b) →
+            clock_at self.old.tasks.items i < clock_at self.new.tasks.items i }
+        ensures len { (vec_len self.new.tasks ≡ vec_len self.old.tasks) ×
+            (vec_len self.new.ended ≡ vec_len self.old.ended) }
         ensures room { vec_capacity self.old.ended ≤ vec_capacity self.new.ended }
-        ensures more { OnOk result (vec_len self.new.ended + over + 1 ≤ vec_capacity self.new.ended) }
+        ensures more { OnOk result (vec_len self.new.ended + over + 1 ≤ vec_capacity
+            self.new.ended) }
     {
         let Ok(told) = self.turn_at(code, i, over) else {
             return Err(AllocError);
@@ -153,9 +162,11 @@ impl Share {
         requires fit { CanRun code.now self.old }
         requires steps { steps < 4294967295 }
         ensures stops { StopsAt code.now i steps result.0 self.old self.new }
-        ensures len { (vec_len self.new.tasks ≡ vec_len self.old.tasks) × (vec_len self.new.ended ≡ vec_len self.old.ended) }
+        ensures len { (vec_len self.new.tasks ≡ vec_len self.old.tasks) ×
+            (vec_len self.new.ended ≡ vec_len self.old.ended) }
         ensures room { vec_capacity self.old.ended ≤ vec_capacity self.new.ended }
-        ensures more { result.0 ≡ Has_ended → vec_len self.new.ended + over + 1 ≤ vec_capacity self.new.ended }
+        ensures more { result.0 ≡ Has_ended →
+            vec_len self.new.ended + over + 1 ≤ vec_capacity self.new.ended }
     {
         let mut moved = false;
         while self.events <= steps && self.tasks[i].clock <= steps {

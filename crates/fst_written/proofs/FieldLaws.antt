@@ -18,18 +18,22 @@ module _ (m : Module) where
 
   -- where nothing was found, each data type's fields are printable
   pub least_fields : (found : Option ℕ) → IsLeastField m (family_types m.families.items) found →
-      MatchOption found (AreFamiliesPrintable m.types.items m.families.items) (IsFirstUnprintable m (family_types m.families.items))
+      MatchOption found (AreFamiliesPrintable m.types.items m.families.items)
+      (IsFirstUnprintable m (family_types m.families.items))
   least_fields None h = families_printable m.types.items m.families.items h
   least_fields (Some k) h = h
 
   -- a field that isn't printable excludes that all are
-  pub one_refused : (k : ℕ) → IsFirstUnprintable m (family_types m.families.items) k → AreFamiliesPrintable m.types.items m.families.items → ⊥
+  pub one_refused : (k : ℕ) → IsFirstUnprintable m (family_types m.families.items) k →
+      AreFamiliesPrintable m.types.items m.families.items → ⊥
   one_refused k f h =
-      let all = subst (AllByRecursion (IsPrintableAt m.types.items)) f.first.stands (printable_families m.types.items m.families.items h) in
+      let all = subst (AllByRecursion (IsPrintableAt m.types.items)) f.first.stands
+      (printable_families m.types.items m.families.items h) in
       let here = (all_right (IsPrintableAt m.types.items) f.first.before (k ∷ f.first.after) all).0 in
       unprintable m k f.type f.is f.unprintable here
 
   -- where something was found, they aren't
-  pub fields_refused : (found : Option ℕ) → IsLeastField m (family_types m.families.items) found → IfSome found (λ _. AreFamiliesPrintable m.types.items m.families.items → ⊥)
+  pub fields_refused : (found : Option ℕ) → IsLeastField m (family_types m.families.items) found → IfSome found
+      (λ _. AreFamiliesPrintable m.types.items m.families.items → ⊥)
   fields_refused None h = tt
   fields_refused (Some k) h = one_refused k h

@@ -17,7 +17,8 @@ module _ {A : Type 0} (begins : A → ℕ) (P : A → Type 0) where
   before_less m n [] le h = tt
   before_less m n (x ∷ xs) le h = (λ lt. h.0 (omega arith), before_less m n xs le h.1)
 
-  before_append : (at : ℕ) (xs ys : List A) → AreBefore begins P at xs → AreBefore begins P at ys → AreBefore begins P at (xs ++ ys)
+  before_append : (at : ℕ) (xs ys : List A) → AreBefore begins P at xs → AreBefore begins P at ys →
+      AreBefore begins P at (xs ++ ys)
   before_append at [] ys h g = g
   before_append at (x ∷ xs) ys h g = (h.0, before_append at xs ys h.1 g)
 
@@ -26,7 +27,8 @@ module _ {A : Type 0} (begins : A → ℕ) (P : A → Type 0) where
   first_new xs x h = record { before = xs; after = []; stands = refl; earlier = all_before (suc (begins x)) xs h; later = tt }
 
   -- the first stays, where the next one doesn't begin before it or is as P says
-  pub first_kept : (xs : List A) (x y : A) → IsFirst begins P xs y → (begins x < begins y → P x) → IsFirst begins P (xs ++ x ∷ []) y
+  pub first_kept : (xs : List A) (x y : A) → IsFirst begins P xs y →
+      (begins x < begins y → P x) → IsFirst begins P (xs ++ x ∷ []) y
   first_kept xs x y f h = record {
     before = f.before;
     after = f.after ++ x ∷ [];
@@ -45,7 +47,8 @@ module _ {A : Type 0} (begins : A → ℕ) (P : A → Type 0) where
         before = xs;
         after = [];
         stands = refl;
-        earlier = subst (AreBefore begins P (suc (begins x))) (sym f.stands) (before_append (suc (begins x)) f.before (y ∷ f.after) left (here, right));
+        earlier = subst (AreBefore begins P (suc (begins x))) (sym f.stands)
+            (before_append (suc (begins x)) f.before (y ∷ f.after) left (here, right));
         later = tt;
       }
 
@@ -54,7 +57,8 @@ module _ {A : Type 0} (begins : A → ℕ) (P : A → Type 0) where
   before_here at [] y ys h lt = h.0 lt
   before_here at (x ∷ xs) y ys h lt = before_here at xs y ys h.1 lt
 
-  before_at : (at : ℕ) (xs : List A) (y : A) (i : ℕ) → AreBefore begins P at xs → i < length xs → get_or xs i y ≡ y → begins y < at → P y
+  before_at : (at : ℕ) (xs : List A) (y : A) (i : ℕ) → AreBefore begins P at xs → i < length xs → get_or xs i y ≡ y →
+      begins y < at → P y
   before_at at [] y i h lt is less = absurd (omega arith)
   before_at at (x ∷ xs) y zero h lt is less = subst (λ z. begins z < at → P z) is h.0 less
   before_at at (x ∷ xs) y (suc i) h lt is less = before_at at xs y i h.1 (omega arith) is less
@@ -64,10 +68,12 @@ module _ {A : Type 0} (begins : A → ℕ) (P : A → Type 0) where
   first_before xs x f y at lt =
       let here : begins x < begins x → P x = λ less. absurd (omega arith) in
       let left = before_less (begins x) (suc (begins x)) f.before (omega arith) f.earlier in
-      let all = subst (AreBefore begins P (begins x)) (sym f.stands) (before_append (begins x) f.before (x ∷ f.after) left (here, f.later)) in
+      let all = subst (AreBefore begins P (begins x)) (sym f.stands)
+      (before_append (begins x) f.before (x ∷ f.after) left (here, f.later)) in
       before_at (begins x) xs y at.0 all at.1 at.2 lt
 
-  one_of : (x : A) (us bs : List A) (y : A) (cs : List A) → (P x → ⊥) → (P y → ⊥) → x ∷ us ≡ bs ++ y ∷ cs → AreBefore begins P (begins x) us → AreBefore begins P (suc (begins y)) bs → x ≡ y
+  one_of : (x : A) (us bs : List A) (y : A) (cs : List A) → (P x → ⊥) →
+      (P y → ⊥) → x ∷ us ≡ bs ++ y ∷ cs → AreBefore begins P (begins x) us → AreBefore begins P (suc (begins y)) bs → x ≡ y
   one_of x us [] y cs not_x not_y e later earlier = cc
   one_of x us (b ∷ bs) y cs not_x not_y e later earlier =
       let same : x ≡ b = cc in
@@ -78,13 +84,16 @@ module _ {A : Type 0} (begins : A → ℕ) (P : A → Type 0) where
       ]
 
   one_at : (us bs : List A) (x y : A) (xs ys : List A) → (P x → ⊥) → (P y → ⊥) → us ++ x ∷ xs ≡ bs ++ y ∷ ys →
-      AreBefore begins P (suc (begins x)) us → AreBefore begins P (begins x) xs → AreBefore begins P (suc (begins y)) bs → AreBefore begins P (begins y) ys → x ≡ y
+      AreBefore begins P (suc (begins x)) us → AreBefore begins P (begins x) xs → AreBefore begins P (suc (begins y)) bs →
+      AreBefore begins P (begins y) ys → x ≡ y
   one_at [] bs x y xs ys not_x not_y e early late early' late' = one_of x xs bs y ys not_x not_y e late early'
-  one_at (a ∷ us) [] x y xs ys not_x not_y e early late early' late' = sym (one_of y ys (a ∷ us) x xs not_y not_x (sym e) late' early)
+  one_at (a ∷ us) [] x y xs ys not_x not_y e early late early' late' =
+      sym (one_of y ys (a ∷ us) x xs not_y not_x (sym e) late' early)
   one_at (a ∷ us) (b ∷ bs) x y xs ys not_x not_y e early late early' late' =
       let rest : us ++ x ∷ xs ≡ bs ++ y ∷ ys = cc in
       one_at us bs x y xs ys not_x not_y rest early.1 late early'.1 late'
 
   -- there is only one that isn't as P says
   pub one_first : (xs : List A) (x y : A) → IsFirst begins P xs x → IsFirst begins P xs y → (P x → ⊥) → (P y → ⊥) → x ≡ y
-  one_first xs x y f g not_x not_y = one_at f.before g.before x y f.after g.after not_x not_y (sym f.stands ∙ g.stands) f.earlier f.later g.earlier g.later
+  one_first xs x y f g not_x not_y = one_at f.before g.before x y f.after g.after not_x not_y
+      (sym f.stands ∙ g.stands) f.earlier f.later g.earlier g.later

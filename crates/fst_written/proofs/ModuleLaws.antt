@@ -24,13 +24,15 @@ module _ (m : Module) where
   abbrev pub standing_types : List ℕ
   standing_types = global_types m.globals.items ++ family_types m.families.items
 
-  some_numbers : map (λ r. r.number) (global_readings m.globals.items ++ closed_readings (family_types m.families.items)) ≡ standing_types
+  some_numbers : map (λ r. r.number) (global_readings m.globals.items ++ closed_readings (family_types m.families.items))
+      ≡ standing_types
   some_numbers =
       map-append (λ (r : Reading). r.number) (global_readings m.globals.items) (closed_readings (family_types m.families.items))
       ∙ (λ i. global_numbers m.globals.items i ++ closed_numbers (family_types m.families.items) i)
 
   -- the numbers of the types that stand in globals and in fields
-  pub standing_numbers_of : (os : List Occurrence) → map reading_of os ≡ global_readings m.globals.items ++ closed_readings (family_types m.families.items) →
+  pub standing_numbers_of : (os : List Occurrence) →
+      map reading_of os ≡ global_readings m.globals.items ++ closed_readings (family_types m.families.items) →
       map (λ o. o.number) os ≡ standing_types
   standing_numbers_of os e = occurrence_numbers os ∙ ap (map (λ (r : Reading). r.number)) e ∙ some_numbers
 
@@ -38,23 +40,28 @@ module _ (m : Module) where
   pub standing_there : AreNumbersBelow (length m.types.items) standing_types
   standing_there =
       below_append (length m.types.items) (global_types m.globals.items) (family_types m.families.items)
-      (globals_in_range (record { families = m.families.items; globals = length m.globals.items; types = length m.types.items }) m.globals.items m.whole.global_parts)
+      (globals_in_range (record { families = m.families.items; globals = length m.globals.items; types = length m.types.items })
+      m.globals.items m.whole.global_parts)
       (families_in_range (length m.types.items) m.families.items m.whole.family_parts)
 
-  all_numbers : map (λ r. r.number) (readings m) ≡ global_types m.globals.items ++ (family_types m.families.items ++ others standing_types (length m.types.items))
+  all_numbers : map (λ r. r.number) (readings m) ≡ global_types m.globals.items
+      ++ (family_types m.families.items ++ others standing_types (length m.types.items))
   all_numbers =
       let number : Reading → ℕ = λ r. r.number in
       let fields = closed_readings (family_types m.families.items) in
       let left = closed_readings (others standing_types (length m.types.items)) in
       map-append number (global_readings m.globals.items) (fields ++ left)
       ∙ (λ i. global_numbers m.globals.items i ++ map-append number fields left i)
-      ∙ (λ i. global_types m.globals.items ++ (closed_numbers (family_types m.families.items) i ++ closed_numbers (others standing_types (length m.types.items)) i))
+      ∙ (λ i. global_types m.globals.items ++ (closed_numbers (family_types m.families.items) i ++ closed_numbers
+      (others standing_types (length m.types.items)) i))
 
   -- so are the numbers of all types
-  pub all_there : (os : List Occurrence) → map reading_of os ≡ readings m → AreNumbersBelow (length m.types.items) (map (λ o. o.number) os)
+  pub all_there : (os : List Occurrence) → map reading_of os ≡ readings m →
+      AreNumbersBelow (length m.types.items) (map (λ o. o.number) os)
   all_there os e =
       let n = length m.types.items in
-      let globals = globals_in_range (record { families = m.families.items; globals = length m.globals.items; types = n }) m.globals.items m.whole.global_parts in
+      let globals = globals_in_range (record { families = m.families.items; globals = length m.globals.items; types = n })
+      m.globals.items m.whole.global_parts in
       let fields = families_in_range n m.families.items m.whole.family_parts in
       subst (AreNumbersBelow n) (sym (occurrence_numbers os ∙ ap (map (λ (r : Reading). r.number)) e ∙ all_numbers))
       (below_append n (global_types m.globals.items) (family_types m.families.items ++ others standing_types n) globals
@@ -67,8 +74,10 @@ module _ (m : Module) where
       let left = closed_readings (others standing_types (length m.types.items)) in
       let rest = all_right (IsFormedReading m) (global_readings m.globals.items) (fields ++ left) h in
       record {
-        families = families_formed m m.families.items (closed_formed m (family_types m.families.items) (all_left (IsFormedReading m) fields left rest));
-        globals = globals_formed m m.globals.items (all_left (IsFormedReading m) (global_readings m.globals.items) (fields ++ left) h);
+        families = families_formed m m.families.items
+            (closed_formed m (family_types m.families.items) (all_left (IsFormedReading m) fields left rest));
+        globals = globals_formed m m.globals.items (all_left (IsFormedReading m) (global_readings m.globals.items)
+            (fields ++ left) h);
         others = others_have (IsFormedAt m.types.items []) standing_types (length m.types.items)
             (closed_formed m (others standing_types (length m.types.items)) (all_right (IsFormedReading m) fields left rest));
       }
@@ -78,9 +87,12 @@ module _ (m : Module) where
   formed_types h =
       let fields = closed_readings (family_types m.families.items) in
       let left = closed_readings (others standing_types (length m.types.items)) in
-      all_append (IsFormedReading m) (global_readings m.globals.items) (fields ++ left) (formed_globals m m.globals.items h.globals)
-      (all_append (IsFormedReading m) fields left (formed_closed m (family_types m.families.items) (formed_families m m.families.items h.families))
-      (formed_closed m (others standing_types (length m.types.items)) (have_others (IsFormedAt m.types.items []) standing_types (length m.types.items) h.others)))
+      all_append (IsFormedReading m) (global_readings m.globals.items) (fields ++ left)
+      (formed_globals m m.globals.items h.globals)
+      (all_append (IsFormedReading m) fields left (formed_closed m (family_types m.families.items)
+      (formed_families m m.families.items h.families))
+      (formed_closed m (others standing_types (length m.types.items))
+      (have_others (IsFormedAt m.types.items []) standing_types (length m.types.items) h.others)))
 
   -- a type with a fault isn't well formed
   pub unformed : (r : Reading) (at : ℕ) (f : KindFault) → HasFault m r at f → IsFormedReading m r → ⊥
@@ -93,4 +105,5 @@ module _ (m : Module) where
   refused at f found h =
       let at_first = found.first in
       let all = subst (AllByRecursion (IsFormedReading m)) at_first.stands (formed_types h) in
-      unformed found.reading at f found.fails (all_right (IsFormedReading m) at_first.before (found.reading ∷ at_first.after) all).0
+      unformed found.reading at f found.fails (all_right (IsFormedReading m) at_first.before
+      (found.reading ∷ at_first.after) all).0

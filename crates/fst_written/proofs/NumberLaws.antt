@@ -23,11 +23,14 @@ open_numbers [] = refl
 open_numbers (k ∷ ks) = ap (λ js. k ∷ js) (open_numbers ks)
 
 -- those of two terms
-two_numbers : (s t : CoreTree) → numbers (types_in s) ≡ type_numbers s → numbers (types_in t) ≡ type_numbers t → numbers (types_in s ++ types_in t) ≡ type_numbers s ++ type_numbers t
+two_numbers : (s t : CoreTree) → numbers (types_in s) ≡ type_numbers s → numbers (types_in t) ≡ type_numbers t →
+    numbers (types_in s ++ types_in t) ≡ type_numbers s ++ type_numbers t
 two_numbers s t e f = both (types_in s) (types_in t) (type_numbers s) (type_numbers t) e f
 
 -- those of a term and of the arms behind it
-with_arms : (t : CoreTree) (bs : CoreArms) → numbers (types_in t) ≡ type_numbers t → numbers (types_in_arms bs) ≡ arm_type_numbers bs → numbers (types_in t ++ types_in_arms bs) ≡ type_numbers t ++ arm_type_numbers bs
+with_arms : (t : CoreTree) (bs : CoreArms) → numbers (types_in t) ≡ type_numbers t →
+    numbers (types_in_arms bs) ≡ arm_type_numbers bs →
+    numbers (types_in t ++ types_in_arms bs) ≡ type_numbers t ++ arm_type_numbers bs
 with_arms t bs e f = both (types_in t) (types_in_arms bs) (type_numbers t) (arm_type_numbers bs) e f
 
 mutual
@@ -45,7 +48,8 @@ mutual
   term_numbers (apply at s t) = two_numbers s t (term_numbers s) (term_numbers t)
   term_numbers (let_in at x s t) = two_numbers s t (term_numbers s) (term_numbers t)
   term_numbers (split at x y s t) = two_numbers s t (term_numbers s) (term_numbers t)
-  term_numbers (if_else at s t u) = both (types_in s) (types_in t ++ types_in u) (type_numbers s) (type_numbers t ++ type_numbers u) (term_numbers s) (two_numbers t u (term_numbers t) (term_numbers u))
+  term_numbers (if_else at s t u) = both (types_in s) (types_in t ++ types_in u) (type_numbers s)
+      (type_numbers t ++ type_numbers u) (term_numbers s) (two_numbers t u (term_numbers t) (term_numbers u))
   term_numbers (case_of at t bs) = with_arms t bs (term_numbers t) (arm_numbers bs)
   term_numbers (operate at o s t) = two_numbers s t (term_numbers s) (term_numbers t)
   term_numbers (negate at t) = term_numbers t
@@ -60,7 +64,8 @@ mutual
   -- of some terms
   all_numbers : (ts : CoreList) → numbers (types_in_all ts) ≡ all_type_numbers ts
   all_numbers no_terms = refl
-  all_numbers (term t ts) = both (types_in t) (types_in_all ts) (type_numbers t) (all_type_numbers ts) (term_numbers t) (all_numbers ts)
+  all_numbers (term t ts) = both (types_in t) (types_in_all ts) (type_numbers t) (all_type_numbers ts) (term_numbers t)
+      (all_numbers ts)
 
   -- and of arms
   arm_numbers : (bs : CoreArms) → numbers (types_in_arms bs) ≡ arm_type_numbers bs
@@ -80,9 +85,11 @@ maker_types_are (o ∷ os) = ap (λ ks. o.fields.items ++ ks) (maker_types_are o
 -- the fields of constructors, some behind others
 fields_together : (os ps : List Maker) → field_numbers (os ++ ps) ≡ field_numbers os ++ field_numbers ps
 fields_together [] ps = refl
-fields_together (o ∷ os) ps = ap (λ ks. o.fields.items ++ ks) (fields_together os ps) ∙ sym (append_assoc o.fields.items (field_numbers os) (field_numbers ps))
+fields_together (o ∷ os) ps = ap (λ ks. o.fields.items ++ ks) (fields_together os ps)
+    ∙ sym (append_assoc o.fields.items (field_numbers os) (field_numbers ps))
 
 -- those of data types' fields
 pub family_types_are : (fs : List Family) → family_types fs ≡ field_numbers (makers fs)
 family_types_are [] = refl
-family_types_are (f ∷ fs) = (λ i. maker_types_are f.makers.items i ++ family_types_are fs i) ∙ sym (fields_together f.makers.items (makers fs))
+family_types_are (f ∷ fs) = (λ i. maker_types_are f.makers.items i ++ family_types_are fs i)
+    ∙ sym (fields_together f.makers.items (makers fs))

@@ -48,14 +48,19 @@ module _ (types : List Tree) where
 
   makers_printable : (os : List Maker) → AllByRecursion (IsPrintableAt types) (maker_types os) → HavePrintableFields types os
   makers_printable [] h = tt
-  makers_printable (o ∷ os) h =
-      (all_printable o.fields.items (all_left (IsPrintableAt types) o.fields.items (maker_types os) h), makers_printable os (all_right (IsPrintableAt types) o.fields.items (maker_types os) h))
+  makers_printable (o ∷ os) h = (
+    all_printable o.fields.items (all_left (IsPrintableAt types) o.fields.items (maker_types os) h),
+    makers_printable os (all_right (IsPrintableAt types) o.fields.items (maker_types os) h),
+  )
 
   -- where each field is printable, those of all data types are
-  pub families_printable : (fs : List Family) → AllByRecursion (IsPrintableAt types) (family_types fs) → AreFamiliesPrintable types fs
+  pub families_printable : (fs : List Family) → AllByRecursion (IsPrintableAt types) (family_types fs) →
+      AreFamiliesPrintable types fs
   families_printable [] h = tt
-  families_printable (f ∷ fs) h =
-      (makers_printable f.makers.items (all_left (IsPrintableAt types) (maker_types f.makers.items) (family_types fs) h), families_printable fs (all_right (IsPrintableAt types) (maker_types f.makers.items) (family_types fs) h))
+  families_printable (f ∷ fs) h = (
+    makers_printable f.makers.items (all_left (IsPrintableAt types) (maker_types f.makers.items) (family_types fs) h),
+    families_printable fs (all_right (IsPrintableAt types) (maker_types f.makers.items) (family_types fs) h),
+  )
 
   printable_all : (ks : List ℕ) → ArePrintable types ks → AllByRecursion (IsPrintableAt types) ks
   printable_all [] h = tt
@@ -63,9 +68,12 @@ module _ (types : List Tree) where
 
   printable_makers : (os : List Maker) → HavePrintableFields types os → AllByRecursion (IsPrintableAt types) (maker_types os)
   printable_makers [] h = tt
-  printable_makers (o ∷ os) h = all_append (IsPrintableAt types) o.fields.items (maker_types os) (printable_all o.fields.items h.0) (printable_makers os h.1)
+  printable_makers (o ∷ os) h = all_append (IsPrintableAt types) o.fields.items (maker_types os)
+      (printable_all o.fields.items h.0) (printable_makers os h.1)
 
   -- and the other way round
-  pub printable_families : (fs : List Family) → AreFamiliesPrintable types fs → AllByRecursion (IsPrintableAt types) (family_types fs)
+  pub printable_families : (fs : List Family) → AreFamiliesPrintable types fs →
+      AllByRecursion (IsPrintableAt types) (family_types fs)
   printable_families [] h = tt
-  printable_families (f ∷ fs) h = all_append (IsPrintableAt types) (maker_types f.makers.items) (family_types fs) (printable_makers f.makers.items h.0) (printable_families fs h.1)
+  printable_families (f ∷ fs) h = all_append (IsPrintableAt types) (maker_types f.makers.items) (family_types fs)
+      (printable_makers f.makers.items h.0) (printable_families fs h.1)

@@ -37,24 +37,32 @@ module _ (m : Module) where
   abbrev pub AllFormed : List Reading → Type 0
   AllFormed rs = AllByRecursion (IsFormedReading m) rs
 
-  standing_formed : (vars : List Kind) (ps : List Standing) → AllFormed (standing_readings vars ps) → AreStandingFormed m.types.items vars ps
+  standing_formed : (vars : List Kind) (ps : List Standing) → AllFormed (standing_readings vars ps) →
+      AreStandingFormed m.types.items vars ps
   standing_formed vars [] h = tt
   standing_formed vars (p ∷ ps) h = (h.0, standing_formed vars ps h.1)
 
-  formed_standing : (vars : List Kind) (ps : List Standing) → AreStandingFormed m.types.items vars ps → AllFormed (standing_readings vars ps)
+  formed_standing : (vars : List Kind) (ps : List Standing) → AreStandingFormed m.types.items vars ps →
+      AllFormed (standing_readings vars ps)
   formed_standing vars [] h = tt
   formed_standing vars (p ∷ ps) h = (h.0, formed_standing vars ps h.1)
 
   pub globals_formed : (gs : List GlobalEntry) → AllFormed (global_readings gs) → AreGlobalsFormed m.types.items gs
   globals_formed [] h = tt
   globals_formed (g ∷ gs) h =
-      let rs = standing_readings g.kinds.items (types_in g.body) in
-      (h.0, standing_formed g.kinds.items (types_in g.body) (all_left (IsFormedReading m) rs (global_readings gs) h.1), globals_formed gs (all_right (IsFormedReading m) rs (global_readings gs) h.1))
+      let rs = standing_readings g.kinds.items (types_in g.body) in (
+        h.0,
+        standing_formed g.kinds.items (types_in g.body) (all_left (IsFormedReading m) rs (global_readings gs) h.1),
+        globals_formed gs (all_right (IsFormedReading m) rs (global_readings gs) h.1),
+      )
 
   pub formed_globals : (gs : List GlobalEntry) → AreGlobalsFormed m.types.items gs → AllFormed (global_readings gs)
   formed_globals [] h = tt
-  formed_globals (g ∷ gs) h =
-      (h.0, all_append (IsFormedReading m) (standing_readings g.kinds.items (types_in g.body)) (global_readings gs) (formed_standing g.kinds.items (types_in g.body) h.1) (formed_globals gs h.2))
+  formed_globals (g ∷ gs) h = (
+    h.0,
+    all_append (IsFormedReading m) (standing_readings g.kinds.items (types_in g.body)) (global_readings gs)
+        (formed_standing g.kinds.items (types_in g.body) h.1) (formed_globals gs h.2),
+  )
 
   -- the types of these numbers are well formed over no variables
   abbrev pub AllClosed : List ℕ → Type 0
@@ -79,19 +87,25 @@ module _ (m : Module) where
   makers_formed : (os : List Maker) → AllClosed (maker_types os) → AreMakersFormed m.types.items os
   makers_formed [] h = tt
   makers_formed (o ∷ os) h =
-      let ks = o.fields.items in
-      (fields_formed ks (all_left (IsFormedAt m.types.items []) ks (maker_types os) h), makers_formed os (all_right (IsFormedAt m.types.items []) ks (maker_types os) h))
+      let ks = o.fields.items in (
+        fields_formed ks (all_left (IsFormedAt m.types.items []) ks (maker_types os) h),
+        makers_formed os (all_right (IsFormedAt m.types.items []) ks (maker_types os) h),
+      )
 
   formed_makers : (os : List Maker) → AreMakersFormed m.types.items os → AllClosed (maker_types os)
   formed_makers [] h = tt
-  formed_makers (o ∷ os) h = all_append (IsFormedAt m.types.items []) o.fields.items (maker_types os) (formed_fields o.fields.items h.0) (formed_makers os h.1)
+  formed_makers (o ∷ os) h = all_append (IsFormedAt m.types.items []) o.fields.items (maker_types os)
+      (formed_fields o.fields.items h.0) (formed_makers os h.1)
 
   pub families_formed : (fs : List Family) → AllClosed (family_types fs) → AreFamiliesFormed m.types.items fs
   families_formed [] h = tt
   families_formed (f ∷ fs) h =
-      let ks = maker_types f.makers.items in
-      (makers_formed f.makers.items (all_left (IsFormedAt m.types.items []) ks (family_types fs) h), families_formed fs (all_right (IsFormedAt m.types.items []) ks (family_types fs) h))
+      let ks = maker_types f.makers.items in (
+        makers_formed f.makers.items (all_left (IsFormedAt m.types.items []) ks (family_types fs) h),
+        families_formed fs (all_right (IsFormedAt m.types.items []) ks (family_types fs) h),
+      )
 
   pub formed_families : (fs : List Family) → AreFamiliesFormed m.types.items fs → AllClosed (family_types fs)
   formed_families [] h = tt
-  formed_families (f ∷ fs) h = all_append (IsFormedAt m.types.items []) (maker_types f.makers.items) (family_types fs) (formed_makers f.makers.items h.0) (formed_families fs h.1)
+  formed_families (f ∷ fs) h = all_append (IsFormedAt m.types.items []) (maker_types f.makers.items) (family_types fs)
+      (formed_makers f.makers.items h.0) (formed_families fs h.1)

@@ -39,7 +39,8 @@ written_of (DoubleLabel l) not_memory bound = tt
 written_of Memory not_memory bound = absurd (not_memory refl)
 
 -- the first fault of a type whose variables are all in scope is one that a written type may have
-written_fault : (vars : List Kind) (t : Tree) (f : KindFault) → HasVariablesBelow (length vars) t → IsFirstFault vars t f → IsWrittenKindFault f
+written_fault : (vars : List Kind) (t : Tree) (f : KindFault) → HasVariablesBelow (length vars) t → IsFirstFault vars t f →
+    IsWrittenKindFault f
 written_fault vars t f below first = written_of f (never_memory vars t f first) (λ k. never_unbound vars t f k below first)
 
 -- so is the fault of the first type of a module that isn't well formed
@@ -47,4 +48,5 @@ pub told : (m : Module) (at : ℕ) (f : KindFault) → IsFirstKindFault m (readi
 told m at f found =
     let r = found.reading in
     let has = found.fails in
-    written_fault r.vars has.type f (reading_over m r has.type found.first.before found.first.after found.first.stands has.is) has.fails
+    written_fault r.vars has.type f (reading_over m r has.type found.first.before found.first.after found.first.stands has.is)
+    has.fails

@@ -54,7 +54,8 @@ module _ (types : List Tree) where
       term_over (apply at s t) h = over_append (types_in s) (types_in t) (term_over s h.0) (term_over t h.1)
       term_over (let_in at x s t) h = over_append (types_in s) (types_in t) (term_over s h.0) (term_over t h.1)
       term_over (split at x y s t) h = over_append (types_in s) (types_in t) (term_over s h.0) (term_over t h.1)
-      term_over (if_else at s t u) h = over_append (types_in s) (types_in t ++ types_in u) (term_over s h.0) (over_append (types_in t) (types_in u) (term_over t h.1) (term_over u h.2))
+      term_over (if_else at s t u) h = over_append (types_in s) (types_in t ++ types_in u) (term_over s h.0)
+          (over_append (types_in t) (types_in u) (term_over t h.1) (term_over u h.2))
       term_over (case_of at t bs) h = over_append (types_in t) (types_in_arms bs) (term_over t h.0) (arms_over bs h.1)
       term_over (operate at o s t) h = over_append (types_in s) (types_in t) (term_over s h.0) (term_over t h.1)
       term_over (negate at t) h = term_over t h
@@ -80,8 +81,11 @@ module _ (types : List Tree) where
   globals_over : (gs : List GlobalEntry) → AreGlobalsOver types gs → AllOver (global_readings gs)
   globals_over [] h = tt
   globals_over (g ∷ gs) h =
-      let vars = g.kinds.items in
-      (h.0, all_append IsOver (standing_readings vars (types_in g.body)) (global_readings gs) (term_over vars g.body h.1) (globals_over gs h.2))
+      let vars = g.kinds.items in (
+        h.0,
+        all_append IsOver (standing_readings vars (types_in g.body)) (global_readings gs) (term_over vars g.body h.1)
+            (globals_over gs h.2),
+      )
 
   -- and of types over no variables
   closed_over : (ks : List ℕ) → AreTypesOver types 0 ks → AllOver (closed_readings ks)
@@ -94,7 +98,8 @@ module _ (types : List Tree) where
   none_over (k ∷ ks) h = (h.0, none_over ks h.1)
 
 -- what holds of the k-th type, where there is one
-there : (ts : List Tree) (k : ℕ) → k < length ts → ((t : Tree) → slice_get ts k ≡ Some t → HasVariablesBelow 0 t) → IsTypeOver 0 (slice_get ts k)
+there : (ts : List Tree) (k : ℕ) → k < length ts →
+    ((t : Tree) → slice_get ts k ≡ Some t → HasVariablesBelow 0 t) → IsTypeOver 0 (slice_get ts k)
 there [] k lt h = absurd (omega arith)
 there (t ∷ ts) zero lt h = h t refl
 there (t ∷ ts) (suc k) lt h = there ts k (omega arith) h
@@ -118,15 +123,20 @@ module _ (m : Module) where
       let left = others standing (length types) in
       let fields = subst (AreTypesOver types 0) (sym (family_types_are families)) m.whole.field_variables in
       let whole : AreOthersClosed (family_types families ++ global_types globals) types =
-      subst (λ ks. AreOthersClosed ks types) (λ i. sym (family_types_are families) i ++ sym (global_types_are globals) i) m.whole.other_variables in
+      subst (λ ks. AreOthersClosed ks types) (λ i. sym (family_types_are families) i ++ sym (global_types_are globals) i)
+      m.whole.other_variables in
       let closed : (k : ℕ) → k < length types → (Contains standing k → ⊥) → IsTypeOver 0 (slice_get types k) =
-      λ k lt none. there types k lt (λ t is. whole k t is (λ at. none (contains_either (family_types families) (global_types globals) k at))) in
-      all_append (IsOver types) (global_readings globals) (closed_readings (family_types families) ++ closed_readings left) (globals_over types globals m.whole.global_variables)
-      (all_append (IsOver types) (closed_readings (family_types families)) (closed_readings left) (closed_over types (family_types families) fields)
+      λ k lt none. there types k lt (λ t is. whole k t is
+      (λ at. none (contains_either (family_types families) (global_types globals) k at))) in
+      all_append (IsOver types) (global_readings globals) (closed_readings (family_types families) ++ closed_readings left)
+      (globals_over types globals m.whole.global_variables)
+      (all_append (IsOver types) (closed_readings (family_types families)) (closed_readings left)
+      (closed_over types (family_types families) fields)
       (none_over types left (have_others (λ k. IsTypeOver 0 (slice_get types k)) standing (length types) closed)))
 
   -- so has the one that stands between others
-  pub reading_over : (r : Reading) (t : Tree) (before after : List Reading) → readings m ≡ before ++ r ∷ after → slice_get m.types.items r.number ≡ Some t → HasVariablesBelow (length r.vars) t
+  pub reading_over : (r : Reading) (t : Tree) (before after : List Reading) → readings m ≡ before ++ r ∷ after →
+      slice_get m.types.items r.number ≡ Some t → HasVariablesBelow (length r.vars) t
   reading_over r t before after stands is =
       let all = subst (AllByRecursion (IsOver m.types.items)) stands readings_over in
       subst (IsTypeOver (length r.vars)) is (all_right (IsOver m.types.items) before (r ∷ after) all).0

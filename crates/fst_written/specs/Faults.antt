@@ -22,7 +22,8 @@ pub record HasFault (m : Module) (r : Reading) (at : ℕ) (fault : KindFault) : 
   pub fails : IsFirstFault r.vars type fault
 
 -- of these types, the first in order of text that isn't well formed begins at this byte and has this fault
-pub record IsFirstKindFault (m : Module) (rs : List Reading) (at : ℕ) (fault : KindFault) : Type 0 where
+pub record IsFirstKindFault (m : Module) (rs : List Reading) (at : ℕ)
+    (fault : KindFault) : Type 0 where
   pub reading : Reading
   pub first : IsFirst (begins m) (IsFormedReading m) rs reading
   pub fails : HasFault m reading at fault
@@ -34,7 +35,8 @@ IsWrittenFault m Memory = ⊤
 
 -- these types are well formed, or the first in order of text that isn't has this fault
 abbrev pub IsLeast : Module → List Reading → Option Placed → Type 0
-IsLeast m rs found = MatchOption found (AllByRecursion (IsFormedReading m) rs) (λ p. IsFirstKindFault m rs p.at p.fault)
+IsLeast m rs found = MatchOption found (AllByRecursion (IsFormedReading m) rs)
+    (λ p. IsFirstKindFault m rs p.at p.fault)
 
 -- a fault that a written type of a module may have: its variables are bound
 abbrev pub IsWrittenKindFault : KindFault → Type 0

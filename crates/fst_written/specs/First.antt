@@ -7,7 +7,8 @@ AreBefore begins P at [] = ⊤
 AreBefore begins P at (x ∷ xs) = (begins x < at → P x) × AreBefore begins P at xs
 
 -- x stands in the list; what begins before it is as P says, and so is what begins where it does and stands before it
-pub record IsFirst {A : Type 0} (begins : A → ℕ) (P : A → Type 0) (xs : List A) (x : A) : Type 0 where
+pub record IsFirst {A : Type 0} (begins : A → ℕ) (P : A → Type 0) (xs : List A)
+    (x : A) : Type 0 where
   pub before : List A
   pub after : List A
   pub stands : xs ≡ before ++ x ∷ after

@@ -36,4 +36,5 @@ pub record IsFirstUnprintable (m : Module) (ks : List ℕ) (k : ℕ) : Type 0 wh
 
 -- the types of these numbers are printable, or this is the first in order of text that isn't
 abbrev pub IsLeastField : Module → List ℕ → Option ℕ → Type 0
-IsLeastField m ks found = MatchOption found (AllByRecursion (IsPrintableAt m.types.items) ks) (IsFirstUnprintable m ks)
+IsLeastField m ks found = MatchOption found (AllByRecursion (IsPrintableAt m.types.items) ks)
+    (IsFirstUnprintable m ks)

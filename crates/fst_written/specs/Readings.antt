@@ -15,13 +15,15 @@ pub record Reading : Type 0 where
 -- the types that stand in an equation whose signature has variables of these kinds
 abbrev pub standing_readings : List Kind → List Standing → List Reading
 standing_readings vars [] = []
-standing_readings vars (p ∷ ps) = record { number = p.0; vars = scope_at vars p.1 } ∷ standing_readings vars ps
+standing_readings vars (p ∷ ps) = record { number = p.0; vars = scope_at vars p.1 }
+    ∷ standing_readings vars ps
 
 -- the types that stand in globals: of each one its signature, and then those of its equation in order of text
 abbrev pub global_readings : List GlobalEntry → List Reading
 global_readings [] = []
 global_readings (g ∷ gs) =
-    record { number = g.signature; vars = g.kinds.items } ∷ (standing_readings g.kinds.items (types_in g.body) ++ global_readings gs)
+    record { number = g.signature; vars = g.kinds.items }
+    ∷ (standing_readings g.kinds.items (types_in g.body) ++ global_readings gs)
 
 -- types over no variables
 abbrev pub closed_readings : List ℕ → List Reading
@@ -37,7 +39,8 @@ others ks (suc n) = if list_any (nat_eq n) ks then others ks n else others ks n 
 abbrev pub readings : Module → List Reading
 readings m =
     global_readings m.globals.items ++ (closed_readings (family_types m.families.items) ++
-    closed_readings (others (global_types m.globals.items ++ family_types m.families.items) (length m.types.items)))
+    closed_readings (others (global_types m.globals.items ++ family_types m.families.items)
+    (length m.types.items)))
 
 -- the byte at which a type of a module begins, by its number
 abbrev pub begins_at : Module → ℕ → ℕ

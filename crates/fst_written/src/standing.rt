@@ -35,7 +35,7 @@ fn add_two(
 }
 
 #[cycle(standing)]
-#[tactic(auto, using(fst_terms::proofs::Heights::cores_height_at))]
+#[tactic(auto, using(fst_terms::proofs::Laws::cores_height_at))]
 fn add_all(alloc: Global, terms: &[Term], out: &mut Vec<Standing>) -> Result<(), AllocError>
     ensures { OnOk result (out.new.items ≡ out.old.items ++ types_in_all (cores_of terms.now)) }
 {
@@ -46,7 +46,7 @@ fn add_all(alloc: Global, terms: &[Term], out: &mut Vec<Standing>) -> Result<(),
 }
 
 #[cycle(standing)]
-#[tactic(auto, using(fst_terms::proofs::Heights::core_arms_height_at))]
+#[tactic(auto, using(fst_terms::proofs::Laws::core_arms_height_at))]
 fn add_arms(alloc: Global, arms: &[Arm], out: &mut Vec<Standing>) -> Result<(), AllocError>
     ensures { OnOk result (out.new.items ≡
         out.old.items ++ types_in_arms (core_arms_of arms.now)) }

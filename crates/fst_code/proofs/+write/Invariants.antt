@@ -46,12 +46,14 @@ decreases-terms::write-loop-first l = core_height l.rest
 
 abbrev pub invariant-terms::write-loop-first : goal.invariant-terms::write-loop-first
 invariant-terms::write-loop-first l = record {
-  left : Leaves (compiled l.given.families.now l.fn.out) l.fn.later.items (compiled l.given.families.now l.out) l.later.items l.fn.term l.rest;
+  left : Leaves (compiled l.given.families.now l.fn.out) l.fn.later.items
+      (compiled l.given.families.now l.out) l.later.items l.fn.term l.rest;
   low : core_height l.rest ≤ core_height l.fn.term;
 }
 
 abbrev pub invariant-parts::write_all-loop-i : goal.invariant-parts::write_all-loop-i
-invariant-parts::write_all-loop-i l = WritesAll (compiled l.given.families.now l.fn.out) l.fn.later.items (compiled l.given.families.now l.out) l.later.items (cores_of (drop l.i l.terms))
+invariant-parts::write_all-loop-i l = WritesAll (compiled l.given.families.now l.fn.out) l.fn.later.items
+    (compiled l.given.families.now l.out) l.later.items (cores_of (drop l.i l.terms))
 
 abbrev pub decreases-branches::write_arm : goal.decreases-branches::write_arm
 decreases-branches::write_arm l = 8 * core_height l.arm.now.body + 3

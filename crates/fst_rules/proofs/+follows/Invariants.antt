@@ -36,7 +36,8 @@ abbrev pub decreases-inside::split_follows : goal.decreases-inside::split_follow
 decreases-inside::split_follows l = 8 * max (core_height l.value.now) (core_height l.body.now) + 3
 
 abbrev pub decreases-inside::if_follows : goal.decreases-inside::if_follows
-decreases-inside::if_follows l = 8 * max (core_height l.condition.now) (max (core_height l.then.now) (core_height l.otherwise.now)) + 3
+decreases-inside::if_follows l = 8 * max (core_height l.condition.now)
+    (max (core_height l.then.now) (core_height l.otherwise.now)) + 3
 
 abbrev pub decreases-following::pair_follows : goal.decreases-following::pair_follows
 decreases-following::pair_follows l = 8 * max (core_height l.first.now) (core_height l.second.now) + 3
@@ -65,7 +66,8 @@ decreases-following::follows-loop-level l = length l.walk.levels.items
 -- what is left to be walked is the levels that are left
 abbrev pub invariant-following::follows-loop-level : goal.invariant-following::follows-loop-level
 invariant-following::follows-loop-level l = record {
-  walk : walk_of (surroundings_at l.place) l.term (deriv_of l.derivation) l.fn.context ≡ rest_walk (surroundings_at l.place) l.walk.levels.items l.context;
+  walk : walk_of (surroundings_at l.place) l.term (deriv_of l.derivation) l.fn.context ≡ rest_walk
+      (surroundings_at l.place) l.walk.levels.items l.context;
   lower : AreLower (core_height l.term) l.walk.levels.items;
 }
 
@@ -95,11 +97,15 @@ decreases-arms::match_follows l = 8 * max (core_height l.channel.now) (core_arms
 
 abbrev pub invariant-arms::fields_follow-loop-i : goal.invariant-arms::fields_follow-loop-i
 invariant-arms::fields_follow-loop-i l =
-    fields_walk (surroundings_at l.place) (cores_of (drop l.i l.terms)) (drop l.i l.fields) (parts_of (drop l.i l.parts)) l.context ≡ fields_walk (surroundings_at l.place) (cores_of l.terms) l.fields (parts_of l.parts) l.fn.context
+    fields_walk (surroundings_at l.place) (cores_of (drop l.i l.terms)) (drop l.i l.fields)
+    (parts_of (drop l.i l.parts)) l.context ≡ fields_walk (surroundings_at l.place) (cores_of l.terms) l.fields
+    (parts_of l.parts) l.fn.context
 
 abbrev pub invariant-arms::further_arms_follow-loop-i : goal.invariant-arms::further_arms_follow-loop-i
 invariant-arms::further_arms_follow-loop-i l = record {
-  walk : further_walk (surroundings_at l.place) (binding_of l.binds) (core_arms_of (drop l.i l.arms)) l.ty (parts_of (drop l.i l.parts)) (with_marks (reverse l.before) l.fn.context) l.context
-      ≡ further_walk (surroundings_at l.place) (binding_of l.binds) (core_arms_of l.arms) l.ty (parts_of l.parts) (with_marks (reverse l.before) l.fn.context) l.fn.context;
+  walk : further_walk (surroundings_at l.place) (binding_of l.binds) (core_arms_of (drop l.i l.arms)) l.ty
+      (parts_of (drop l.i l.parts)) (with_marks (reverse l.before) l.fn.context) l.context
+      ≡ further_walk (surroundings_at l.place) (binding_of l.binds) (core_arms_of l.arms) l.ty (parts_of l.parts)
+      (with_marks (reverse l.before) l.fn.context) l.fn.context;
   keeps : Keeps (with_marks (reverse l.before) l.fn.context) l.context;
 }

@@ -78,7 +78,8 @@ abbrev pub invariant-terms::arms-loop : goal.invariant-terms::arms-loop
 invariant-terms::arms-loop l =
     let comma = spells (codes ",") in
     let arm = arm_by (expr_at l.left) l.kind in
-    (with_front (map arm_parts l.arms.items) (sep_by_within comma arm (l.end - l.counter) l.rest) ≡ sep_by_within comma arm (length l.tokens) l.tokens) × (l.end ≡ length l.tokens)
+    (with_front (map arm_parts l.arms.items) (sep_by_within comma arm (l.end - l.counter) l.rest) ≡ sep_by_within comma arm
+    (length l.tokens) l.tokens) × (l.end ≡ length l.tokens)
 
 abbrev pub decreases-terms::then : goal.decreases-terms::then
 decreases-terms::then l = 128 * l.left + 59

@@ -44,17 +44,20 @@ decreases-core_terms::core_term-loop-step l = length l.spine.steps.items
 
 abbrev pub invariant-core_terms::core_term-loop-step : goal.invariant-core_terms::core_term-loop-step
 invariant-core_terms::core_term-loop-step l =
-    (t : TermTree) × (around t l.spine.steps.items ≡ l.term) × (l.made ≡ core_term (numbers_in l.meanings) l.fn.locals (length l.fn.types.types.items) t) ×
+    (t : TermTree) × (around t l.spine.steps.items ≡ l.term) ×
+    (l.made ≡ core_term (numbers_in l.meanings) l.fn.locals (length l.fn.types.types.items) t) ×
     AreAdded (scope_in l.meanings) (written_in t) l.fn.types l.types × (l.locals ≡ l.fn.locals)
 
 abbrev pub invariant-core_parts::core_terms-loop-t : goal.invariant-core_parts::core_terms-loop-t
 invariant-core_parts::core_terms-loop-t l = record {
-  made : AreMade itself (core_term (numbers_in l.meanings) l.fn.locals) written_in (scope_in l.meanings) l.terms l.t-index l.fn.types l.types l.made.items;
+  made : AreMade itself (core_term (numbers_in l.meanings) l.fn.locals) written_in
+      (scope_in l.meanings) l.terms l.t-index l.fn.types l.types l.made.items;
   kept : l.locals ≡ l.fn.locals;
 }
 
 abbrev pub invariant-core_parts::core_arms-loop-arm : goal.invariant-core_parts::core_arms-loop-arm
 invariant-core_parts::core_arms-loop-arm l = record {
-  made : AreMade as_arm (arm_as (numbers_in l.meanings) l.fn.locals) arm_types (scope_in l.meanings) l.arms l.arm-index l.fn.types l.types l.made.items;
+  made : AreMade as_arm (arm_as (numbers_in l.meanings) l.fn.locals) arm_types
+      (scope_in l.meanings) l.arms l.arm-index l.fn.types l.types l.made.items;
   kept : l.locals ≡ l.fn.locals;
 }

@@ -41,10 +41,12 @@ decreases-infer::infer-loop-step l = length l.spine.steps.items
 
 abbrev pub invariant-infer::infer-loop-step : goal.invariant-infer::infer-loop-step
 invariant-infer::infer-loop-step l =
-    (e : CoreTree) × (around e l.spine.steps.items ≡ l.term) × IsTyped (check_in l.scene) l.fn.context l.context e (deriv_of l.found) × (l.at ≡ place e)
+    (e : CoreTree) × (around e l.spine.steps.items ≡ l.term) ×
+    IsTyped (check_in l.scene) l.fn.context l.context e (deriv_of l.found) × (l.at ≡ place e)
 
 abbrev pub invariant-infer_parts::infer_fields-loop-i : goal.invariant-infer_parts::infer_fields-loop-i
-invariant-infer_parts::infer_fields-loop-i l = FieldsSoFar (check_in l.scene) l.arguments l.fields l.i l.fn.context l.context l.parts.items
+invariant-infer_parts::infer_fields-loop-i l =
+    FieldsSoFar (check_in l.scene) l.arguments l.fields l.i l.fn.context l.context l.parts.items
 
 abbrev pub decreases-infer_arms::infer_fields_arm : goal.decreases-infer_arms::infer_fields_arm
 decreases-infer_arms::infer_fields_arm l = 8 * core_height l.arm.now.body + 2
@@ -70,7 +72,8 @@ decreases-infer_arms::infer_match l = 8 * max (core_height l.channel.now) (core_
 -- the marks of the scope at the end of the first arm
 abbrev pub invariant-infer_arms::infer_further-loop-i : goal.invariant-infer_arms::infer_further-loop-i
 invariant-infer_arms::infer_further-loop-i l =
-    RowSoFar (check_in l.scene) (binding_of l.binding) l.arms l.i l.fn.context (with_marks (reverse l.after) l.fn.context) (deriv_of l.fn.value) l.t l.parts.items ×
+    RowSoFar (check_in l.scene) (binding_of l.binding) l.arms l.i l.fn.context (with_marks (reverse l.after) l.fn.context)
+    (deriv_of l.fn.value) l.t l.parts.items ×
     (l.context ≡ l.fn.context) × (reverse l.before.items ≡ l.fn.context.there)
 
 abbrev pub decreases-infer_parts::infer_pair : goal.decreases-infer_parts::infer_pair

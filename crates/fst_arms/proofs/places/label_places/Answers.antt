@@ -18,5 +18,6 @@ loop-n-preserved c =
     let whole = drop-cons labels n c.index-labels-n.result lt in (
       y ∷ before.0,
       whole ∙ (λ i. (sym c.index-labels-n.is ∙ c.in-Some.ensures) i ∷ (ap (λ k. drop k labels) next ∙ before.1) i),
-      places_put n y before.0 c.loop-n.places.entries c.put.new.places.entries (subst (λ k. ArePlacesFrom k before.0 c.loop-n.places.entries) (sym next) before.2) c.in_ok-put-in-Some.ensures,
+      places_put n y before.0 c.loop-n.places.entries c.put.new.places.entries
+          (subst (λ k. ArePlacesFrom k before.0 c.loop-n.places.entries) (sym next) before.2) c.in_ok-put-in-Some.ensures,
     )

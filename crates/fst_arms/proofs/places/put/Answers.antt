@@ -10,5 +10,6 @@ returns c = λ x.
     let key = c.in_ok-key.key in
     let updates = c.in_ok-insert.ensures.updates in
     let is : key.items ≡ c.args.name.now = c.in_ok-key.ensures.items ∙ c.as_slice.ensures.bytes in
-    found_after _ (λ a b. refl) _ key.items (λ k. refl) c.args.places.now.entries c.insert.new.self.entries (Some c.args.n) updates.1 updates.3 x
+    found_after _ (λ a b. refl) _ key.items (λ k. refl) c.args.places.now.entries c.insert.new.self.entries
+    (Some c.args.n) updates.1 updates.3 x
     ∙ ap (λ y. if bytes_eq x y then Some c.args.n else found c.args.places.now.entries x) is

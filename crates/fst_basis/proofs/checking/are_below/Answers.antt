@@ -18,7 +18,8 @@ loop-b-preserved c = λ k d l. elim (cases_lt k c.loop-b.b-index) [
   | inl before ↦ c.loop-b.invariant k d before
   | inr last ↦
       let at : c.loop-b.b-index ≡ k = omega arith in
-      let is = c.b-item.is ∙ get_or_default c.args.basis.now c.loop-b.b-index c.b-item.result d c.loop-b-test.true ∙ ap (λ (i : ℕ). slice_index_or c.args.basis.now i d) at in
+      let is = c.b-item.is ∙ get_or_default c.args.basis.now c.loop-b.b-index c.b-item.result d c.loop-b-test.true ∙ ap
+      (λ (i : ℕ). slice_index_or c.args.basis.now i d) at in
       let R : Pair → Type 0 = λ z. IsPairBelow c.args.count z in
       subst R is (c.if-not-is_pair_below.ensures.0 refl)
 ]

@@ -6,4 +6,5 @@ use Rattle.fst_basis.proofs.marks.is_unnormed_set.Given as goal
 
 -- the words of the rules of each marked non-terminal so far have a marked one
 abbrev pub invariant-loop-n : goal.invariant-loop-n
-invariant-loop-n l = (k : ℕ) → k < l.n → is_marked l.marks k ≡ true → All (λ r. has_marked l.marks r.word ≡ true) (row_of l.g.rules.items k)
+invariant-loop-n l = (k : ℕ) → k < l.n → is_marked l.marks k ≡ true → All
+    (λ r. has_marked l.marks r.word ≡ true) (row_of l.g.rules.items k)

@@ -22,4 +22,5 @@ returns c e there =
     let at = ap (λ n. slice_get c.args.table.now (n - 1)) c.len.ensures ∙ there in
     let trace = c.in_ok-numbers.ensures ∙ trace_there c.args.table.now (c.len.result - 1) e at in
     let is = c.deref-2.ensures.value ∙ c.in_ok-push.ensures.items ∙ (λ i. trace i ++ c.args.letter ∷ []) in
-    subst (λ s. IsLabelTrace c.args.g.now.letters.items s c.in_ok-labels.labels.items) is (rw c.deref.ensures.value at c.in_ok-labels.ensures)
+    subst (λ s. IsLabelTrace c.args.g.now.letters.items s c.in_ok-labels.labels.items) is
+    (rw c.deref.ensures.value at c.in_ok-labels.ensures)

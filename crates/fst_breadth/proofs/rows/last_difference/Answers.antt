@@ -11,14 +11,21 @@ use Rattle.fst_breadth.proofs.RowLaws.{same_letters_by_rows, difference_by_rows,
 use Rattle.fst_breadth.proofs.rows.last_difference.Goals as goal
 
 module _ (g : Productions) (found : List ReachedPair) where
-  none_of : (o : Option (ℕ × Side)) → ((e : ReachedPair) → slice_get found (length found - 1) ≡ Some e → o ≡ row_difference (first_row g e.left) (first_row g e.right)) → IfNone o (IsLastAlike g found)
+  none_of : (o : Option (ℕ × Side)) → ((e : ReachedPair) → slice_get found (length found - 1) ≡ Some e →
+      o ≡ row_difference (first_row g e.left) (first_row g e.right)) → IfNone o (IsLastAlike g found)
   none_of None h = λ e there. same_letters_by_rows g e.left e.right (sym (h e there))
   none_of (Some d) h = tt
 
-  some_of : (o : Option (ℕ × Side)) (e : ReachedPair) → slice_get found (length found - 1) ≡ Some e → AreOrdered (first_row g e.left) → AreOrdered (first_row g e.right) →
+  some_of : (o : Option (ℕ × Side)) (e : ReachedPair) → slice_get found (length found - 1) ≡ Some e →
+      AreOrdered (first_row g e.left) → AreOrdered (first_row g e.right) →
       o ≡ row_difference (first_row g e.left) (first_row g e.right) → IfSome o (λ d. IsLastParted g found d.0 d.1)
   some_of None e there a b h = tt
-  some_of (Some d) e there a b h = record { entry = e; there = there; differs = difference_by_rows g e.left e.right d.0 d.1 a b (sym h) }
+  some_of (Some d) e there a b h = record {
+    entry = e;
+    there = there;
+    differs =
+        difference_by_rows g e.left e.right d.0 d.1 a b (sym h);
+  }
 
 pub rules_of-requires : goal.rules_of-requires
 rules_of-requires c =
@@ -50,4 +57,5 @@ returns-clause-some c =
     let left = c.rules_of.ensures.value e.0.left (c.heads-left.ensures.left e.0 e.1) in
     let right = c.rules_of-2.ensures.value e.0.right (c.heads-left.ensures.right e.0 e.1) in
     some_of c.args.g.now.rules.items c.args.table.now c.row_difference.result e.0 there
-    (rw (← left) c.rules_of.ensures.ordered) (rw (← right) c.rules_of-2.ensures.ordered) (c.row_difference.ensures ∙ (λ i. row_difference (left i) (right i)))
+    (rw (← left) c.rules_of.ensures.ordered) (rw (← right) c.rules_of-2.ensures.ordered)
+    (c.row_difference.ensures ∙ (λ i. row_difference (left i) (right i)))

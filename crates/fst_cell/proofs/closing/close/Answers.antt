@@ -28,7 +28,11 @@ returns c =
     let left : half_of c.left.inside.grip.seat.me.0 ≡ c.args.left.knows = ap (λ (e : EndView). e.knows) c.left.view_is in
     let right : half_of c.right.inside.grip.seat.me.0 ≡ c.args.right.knows = ap (λ (e : EndView). e.knows) c.right.view_is in
     let offered : c.match-offer.offered ≡ shown c.in-Some.content.offer =
-    elim c.match-offer.branch [ in-Some-offer v ↦ v.offered-is ∙ ap shown (sym v.in-Some-offer.is) | in-None v ↦ v.offered-is ∙ ap shown (sym v.in-None.is) ] in
+    elim c.match-offer.branch [
+      | in-Some-offer v ↦ v.offered-is ∙ ap shown (sym v.in-Some-offer.is)
+      | in-None v ↦ v.offered-is
+          ∙ ap shown (sym v.in-None.is)
+    ] in
     closes c.args.left.channel c.in-Some.content c.args.left.knows c.args.right.knows _
     (ap (λ (e : EndView). e.channel) c.left.view_is)
     refl
@@ -37,5 +41,7 @@ returns c =
     c.requires.sides.0
     c.requires.sides.1
     (subst (λ (x : Content). Sound x) is w.sound)
-    (subst (λ (v : Half). Fits c.in-Some.content v) left (subst (λ (x : Content). Fits x (half_of c.left.inside.grip.seat.me.0)) is w.left))
-    (subst (λ (v : Half). Fits c.in-Some.content v) right (subst (λ (x : Content). Fits x (half_of c.right.inside.grip.seat.me.0)) is w.right))
+    (subst (λ (v : Half). Fits c.in-Some.content v) left
+    (subst (λ (x : Content). Fits x (half_of c.left.inside.grip.seat.me.0)) is w.left))
+    (subst (λ (v : Half). Fits c.in-Some.content v) right
+    (subst (λ (x : Content). Fits x (half_of c.right.inside.grip.seat.me.0)) is w.right))

@@ -24,9 +24,11 @@ loop-i-preserved c =
     record {
       long = λ n f here each. ap length put ∙ put_length (found entries b.label) start ps ∙ c.loop-i.invariant.long n f here each;
       places = λ n f here each. subst (λ z. PlacedSoFar f bs is z (i + 1)) (sym put)
-          (placed_more c.args.given.now.families.now entries n f bs is ps i b start c.args.given.now.placed here each at to (c.loop-i.invariant.long n f here each)
+          (placed_more c.args.given.now.families.now entries n f bs is ps i b start c.args.given.now.placed here each at to
+          (c.loop-i.invariant.long n f here each)
           (c.loop-i.invariant.places n f here each));
-      low = λ j h. subst (AreAtMost j) (sym put) (put_at_most (found entries b.label) j start ps (c.loop-i.invariant.low j h) (h i start to));
+      low = λ j h. subst (AreAtMost j) (sym put) (put_at_most (found entries b.label) j start ps (c.loop-i.invariant.low j h)
+          (h i start to));
     }
 
 pub returns : goal.returns
@@ -34,6 +36,7 @@ returns c =
     let bs = c.args.arms.now in
     let past : length bs ≤ c.loop-i.i = omega arith in
     record {
-      places = λ n f here each. placed_all f bs c.args.starts.now c.loop-i.places.items c.loop-i.i (c.loop-i.invariant.places n f here each) past;
+      places = λ n f here each. placed_all f bs c.args.starts.now c.loop-i.places.items c.loop-i.i
+          (c.loop-i.invariant.places n f here each) past;
       within = c.loop-i.invariant.low;
     }

@@ -9,7 +9,9 @@ use Rattle.fst_code.proofs.arms.case_places.Given as goal
 
 abbrev pub invariant-loop-i : goal.invariant-loop-i
 invariant-loop-i l = record {
-  long : (n : ℕ) (f : Family) → slice_get l.given.families.now n ≡ Some f → AreEachOnce (names f.makers.items) (arm_labels (core_arms_of l.arms)) → length l.places.items ≡ length f.makers.items;
-  places : (n : ℕ) (f : Family) → slice_get l.given.families.now n ≡ Some f → AreEachOnce (names f.makers.items) (arm_labels (core_arms_of l.arms)) → PlacedSoFar f l.arms l.starts l.places.items l.i;
+  long : (n : ℕ) (f : Family) → slice_get l.given.families.now n ≡ Some f →
+      AreEachOnce (names f.makers.items) (arm_labels (core_arms_of l.arms)) → length l.places.items ≡ length f.makers.items;
+  places : (n : ℕ) (f : Family) → slice_get l.given.families.now n ≡ Some f →
+      AreEachOnce (names f.makers.items) (arm_labels (core_arms_of l.arms)) → PlacedSoFar f l.arms l.starts l.places.items l.i;
   low : (j : ℕ) → AreAtMost j l.starts → AreAtMost j l.places.items;
 }

@@ -12,7 +12,11 @@ use Rattle.fst_code.proofs.arms.mark_arms.Goals as goal
 pub loop-i-init : goal.loop-i-init
 loop-i-init c =
     let cs = c.args.codes.now in let all : length cs ≤ length cs = omega arith in
-    record { marks = ap (λ z. also (marks_of z) (marked c.args.later.now.items)) (sym (drop_all (length cs) cs all)); deep = refl }
+    record {
+      marks = ap (λ z. also (marks_of z) (marked c.args.later.now.items)) (sym (drop_all (length cs) cs all));
+      deep =
+          refl;
+    }
 
 pub loop-i-preserved : goal.loop-i-preserved
 loop-i-preserved c =
@@ -20,9 +24,11 @@ loop-i-preserved c =
     let lt : n < length cs = omega arith in let e : c.loop-i.i ≡ n + 1 = omega arith in
     let its = c.deref.ensures.value ∙ ap (λ (z : ArmCode). z.marks.items) (sym c.index-codes-i.is) in
     record {
-      marks = marks_more a (drop c.loop-i.i cs) (marked c.args.later.now.items) (marked c.loop-i.later.items) (marked c.mark_all.new.later.items)
+      marks = marks_more a (drop c.loop-i.i cs) (marked c.args.later.now.items) (marked c.loop-i.later.items)
+          (marked c.mark_all.new.later.items)
           c.loop-i.invariant.marks (c.mark_all.ensures.marks ∙ ap (λ z. also (marked z) (marked c.loop-i.later.items)) its)
-          ∙ ap (λ z. also (marks_of z) (marked c.args.later.now.items)) (sym (drop_before cs n c.loop-i.i a lt e c.index-codes-i.is));
+          ∙ ap (λ z. also (marks_of z) (marked c.args.later.now.items))
+          (sym (drop_before cs n c.loop-i.i a lt e c.index-codes-i.is));
       deep = c.mark_all.ensures.deep ∙ c.loop-i.invariant.deep;
     }
 

@@ -11,10 +11,12 @@ loop-i-preserved c =
     let start = get_or is n 0 in
     let put = c.in_ok-push.ensures.items ∙ ap (λ l. c.loop-i.places.items ++ (l, start) ∷ []) c.in_ok-copy.ensures in
     ap (λ z. z ++ table_of (drop (n + 1) bs) (drop (n + 1) is)) put
-    ∙ table_more c.loop-i.places.items bs is n c.index-arms-i.result start (table_of bs is) lb li c.index-arms-i.is (get_or_default is n 0 start li) c.loop-i.invariant
+    ∙ table_more c.loop-i.places.items bs is n c.index-arms-i.result start (table_of bs is) lb li c.index-arms-i.is
+    (get_or_default is n 0 start li) c.loop-i.invariant
 
 pub returns : goal.returns
 returns c =
     let bs = c.args.arms.now in let is = c.args.starts.now in let n = c.loop-i.i in
     let past : length bs ≤ n = omega arith in
-    sym (append-nil c.loop-i.places.items) ∙ ap (λ z. c.loop-i.places.items ++ table_of z (drop n is)) (sym (drop_all n bs past)) ∙ c.loop-i.invariant
+    sym (append-nil c.loop-i.places.items) ∙ ap (λ z. c.loop-i.places.items ++ table_of z (drop n is)) (sym (drop_all n bs past))
+    ∙ c.loop-i.invariant

@@ -14,7 +14,8 @@ pub loop-i-preserved : goal.loop-i-preserved
 loop-i-preserved c = record {
   long = ap length c.in_ok-push.ensures.items ∙ length_push c.loop-i.places.items _ ∙ ap (λ z. z + 1) c.loop-i.invariant.long;
   low = λ j. let same : j ≤ j = omega arith in let least : 0 ≤ j = omega arith in
-      subst (AreAtMost j) (sym c.in_ok-push.ensures.items) (at_most_more j j c.loop-i.places.items 0 (c.loop-i.invariant.low j) same least);
+      subst (AreAtMost j) (sym c.in_ok-push.ensures.items)
+      (at_most_more j j c.loop-i.places.items 0 (c.loop-i.invariant.low j) same least);
 }
 
 pub returns : goal.returns

@@ -31,7 +31,8 @@ pub loop-code-init : goal.loop-code-init
 loop-code-init c = record {
   more = λ fs. extends_same (compiled fs c.args.out.now) (compiled fs c.args.out.now) refl refl refl;
   starts = λ fs q p e. subst (AllForget (compiled fs c.args.out.now) q p []) (sym c.new-starts.ensures.items) tt;
-  within = subst (AreAtMost (length c.args.out.now.code.items)) (sym c.new-starts.ensures.items) (at_most_none (length c.args.out.now.code.items));
+  within = subst (AreAtMost (length c.args.out.now.code.items)) (sym c.new-starts.ensures.items)
+      (at_most_none (length c.args.out.now.code.items));
 }
 
 pub loop-code-preserved : goal.loop-code-preserved
@@ -47,11 +48,14 @@ loop-code-preserved c =
       more = λ fs. let z = x fs in extends_both (c.loop-code.invariant.more fs) z.extends;
       starts = λ fs q p e. let z = x fs in
           subst (AllForget (compiled fs d) q p (take (i + 1) cs)) (sym {A = List ℕ} c.in_ok-push.ensures.items)
-          (subst (λ ts. AllForget (compiled fs d) q p ts (old ++ start ∷ [])) (sym {A = List ArmCode} (take_next cs i a lt c.code-item.is))
-          (forget_more (compiled fs d) q p (take i cs) old a start (kept_forget z.extends q p (take i cs) old (c.loop-code.invariant.starts fs q p e))
+          (subst (λ ts. AllForget (compiled fs d) q p ts (old ++ start ∷ []))
+          (sym {A = List ArmCode} (take_next cs i a lt c.code-item.is))
+          (forget_more (compiled fs d) q p (take i cs) old a start
+          (kept_forget z.extends q p (take i cs) old (c.loop-code.invariant.starts fs q p e))
           (λ f g. let forgot = c.in_ok-forget.ensures fs q f p e (ap marked c.deref.ensures.value ∙ g) in forgot.forgets)));
       within = subst (AreAtMost (length d.code.items)) (sym {A = List ℕ} c.in_ok-push.ensures.items)
-          (at_most_more (length m.code.items) (length d.code.items) old start c.loop-code.invariant.within y.extends.longer y.within);
+          (at_most_more (length m.code.items) (length d.code.items) old start c.loop-code.invariant.within y.extends.longer
+          y.within);
     }
 
 pub returns : goal.returns
@@ -60,6 +64,7 @@ returns c =
     let past : length cs ≤ i = omega arith in
     record {
       more = c.loop-code.invariant.more;
-      starts = λ fs q p e. subst (λ ts. AllForget (compiled fs c.loop-code.out) q p ts c.loop-code.starts.items) (take_all i cs past) (c.loop-code.invariant.starts fs q p e);
+      starts = λ fs q p e. subst (λ ts. AllForget (compiled fs c.loop-code.out) q p ts c.loop-code.starts.items)
+          (take_all i cs past) (c.loop-code.invariant.starts fs q p e);
       within = c.loop-code.invariant.within;
     }

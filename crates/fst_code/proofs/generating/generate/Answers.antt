@@ -12,27 +12,36 @@ use Rattle.fst_code.proofs.GlobalLaws.{is_code_as, none_down}
 use Rattle.fst_code.proofs.generating.generate.Goals as goal
 
 pub maker_places-requires : goal.maker_places-requires
-maker_places-requires c = subst DistinctMakers (sym c.deref.ensures.value) (distinct_makers c.args.m.now.families.items c.args.m.now.whole.makers_differ)
+maker_places-requires c = subst DistinctMakers (sym c.deref.ensures.value)
+    (distinct_makers c.args.m.now.families.items c.args.m.now.whole.makers_differ)
 
 pub write_program-requires : goal.write_program-requires
-write_program-requires c = ap (count_by (λ (g : GlobalEntry). bytes_eq g.name (codes "main"))) c.deref-3.ensures.value ∙ c.args.m.now.whole.one_main
+write_program-requires c = ap (count_by (λ (g : GlobalEntry). bytes_eq g.name (codes "main"))) c.deref-3.ensures.value
+    ∙ c.args.m.now.whole.one_main
 
 pub invariant_of-result : goal.invariant_of-result
 invariant_of-result c =
-    let written = is_code_as c.args.m.now c.deref-2.result.now c.deref-3.result.now c.write_program.new.out c.in_ok-globals.globals.items c.in_ok-types.types.items c.deref-2.ensures.value
+    let written = is_code_as c.args.m.now c.deref-2.result.now c.deref-3.result.now c.write_program.new.out
+    c.in_ok-globals.globals.items c.in_ok-types.types.items c.deref-2.ensures.value
     c.deref-3.ensures.value c.requires
-    c.in_ok-globals.ensures.starts (c.in_ok-globals.ensures.more.down (none_down (compiled c.deref-2.result.now (record { code = c.new.result; lambdas = c.new-2.result })) c.new.ensures.items))
+    c.in_ok-globals.ensures.starts (c.in_ok-globals.ensures.more.down
+    (none_down (compiled c.deref-2.result.now (record { code = c.new.result; lambdas = c.new-2.result }))
+    c.new.ensures.items))
     c.in_ok-globals.ensures.main (c.in_ok-types.ensures ∙ c.deref-4.ensures.value) in
     record {
-      stands = merely (subst (λ m. IsCodeOf m c.write_program.new.out.code.items c.write_program.new.out.lambdas.items c.in_ok-globals.globals.items c.in_ok-types.types.items)
+      stands = merely (subst (λ m. IsCodeOf m c.write_program.new.out.code.items c.write_program.new.out.lambdas.items
+          c.in_ok-globals.globals.items c.in_ok-types.types.items)
           (sym c.of-module.ensures) written);
     }
 
 pub returns : goal.returns
 returns c = record {
   «module» = c.of-module.ensures;
-  code = is_code_as c.args.m.now c.deref-2.result.now c.deref-3.result.now c.write_program.new.out c.in_ok-globals.globals.items c.in_ok-types.types.items c.deref-2.ensures.value
+  code = is_code_as c.args.m.now c.deref-2.result.now c.deref-3.result.now c.write_program.new.out c.in_ok-globals.globals.items
+      c.in_ok-types.types.items c.deref-2.ensures.value
       c.deref-3.ensures.value c.requires
-      c.in_ok-globals.ensures.starts (c.in_ok-globals.ensures.more.down (none_down (compiled c.deref-2.result.now (record { code = c.new.result; lambdas = c.new-2.result })) c.new.ensures.items))
+      c.in_ok-globals.ensures.starts (c.in_ok-globals.ensures.more.down
+      (none_down (compiled c.deref-2.result.now (record { code = c.new.result; lambdas = c.new-2.result }))
+      c.new.ensures.items))
       c.in_ok-globals.ensures.main (c.in_ok-types.ensures ∙ c.deref-4.ensures.value);
 }

@@ -7,7 +7,8 @@ pub loop-ty-preserved : goal.loop-ty-preserved
 loop-ty-preserved c =
     let ts = c.args.types.now in let n = c.loop-ty.ty-index in let t = c.ty-item.result in
     let lt : n < length ts = omega arith in
-    c.in_ok-push.ensures.items ∙ (λ i. c.loop-ty.invariant i ++ c.in_ok-copy.ensures i ∷ []) ∙ sym (take_next ts n t lt c.ty-item.is)
+    c.in_ok-push.ensures.items ∙ (λ i. c.loop-ty.invariant i ++ c.in_ok-copy.ensures i ∷ [])
+    ∙ sym (take_next ts n t lt c.ty-item.is)
 
 pub returns : goal.returns
 returns c =

@@ -12,6 +12,7 @@ returns c =
     let p = c.in_ok-push.ensures F in
     record {
       more = extends_both p.extends c.in_ok-write.ensures.extends;
-      starts = starts_from (compiled F c.args.out.now) (compiled F c.push.new.out) (compiled F c.write.new.out) c.new-later.result.items c.write.new.later.items c.args.body.now c.top_of.result
+      starts = starts_from (compiled F c.args.out.now) (compiled F c.push.new.out)
+          (compiled F c.write.new.out) c.new-later.result.items c.write.new.later.items c.args.body.now c.top_of.result
           p (ap marked c.new-later.ensures.items ∙ fun_ext (λ k. refl)) c.in_ok-write.ensures c.top_of.ensures;
     }

@@ -24,7 +24,8 @@ loop-global-preserved c =
       more = extends_both c.loop-global.invariant.more x;
       starts = subst (AllStart d (take (n + 1) gs)) (sym c.in_ok-push.ensures.items)
           (subst (λ z. AllStart d z (old ++ i ∷ [])) (sym (take_next gs n g lt c.global-item.is))
-          (start_more d (take n gs) old g i (kept_all x (take n gs) old c.loop-global.invariant.starts) c.in_ok-write_global.ensures.starts));
+          (start_more d (take n gs) old g i (kept_all x (take n gs) old c.loop-global.invariant.starts)
+          c.in_ok-write_global.ensures.starts));
     }
 
 pub returns : goal.returns
@@ -33,5 +34,6 @@ returns c =
     let past : length gs ≤ n = omega arith in
     record {
       more = c.loop-global.invariant.more;
-      starts = subst (λ z. AllStart (compiled c.args.given.now.families.now c.loop-global.out) z c.loop-global.starts.items) (take_all n gs past) c.loop-global.invariant.starts;
+      starts = subst (λ z. AllStart (compiled c.args.given.now.families.now c.loop-global.out) z c.loop-global.starts.items)
+          (take_all n gs past) c.loop-global.invariant.starts;
     }

@@ -14,7 +14,9 @@ loop-family-preserved c =
     let low : i < length families = omega arith in
     placed_one families i c.family-item.result c.loop-family.places.entries c.put_makers.new.places.entries c.requires
     (slice_get_read families (length families) i c.family-item.result refl low c.family-item.is) c.loop-family.invariant
-    (subst (λ z. ArePut z c.loop-family.places.entries c.put_makers.new.places.entries) c.deref.ensures.value c.in_ok-put_makers.ensures)
+    (subst (λ z. ArePut z c.loop-family.places.entries c.put_makers.new.places.entries) c.deref.ensures.value
+    c.in_ok-put_makers.ensures)
 
 pub returns : goal.returns
-returns c = placed_all c.args.families.now c.loop-family.family-index c.loop-family.places.entries c.requires c.loop-family.invariant (omega arith)
+returns c = placed_all c.args.families.now c.loop-family.family-index c.loop-family.places.entries c.requires
+    c.loop-family.invariant (omega arith)

@@ -11,7 +11,9 @@ loop-n-preserved c =
     let makers = c.args.makers.now in
     let low : c.loop-n.n < length makers = omega arith in
     put_one makers c.loop-n.n c.index-makers-n.result c.args.places.now.entries c.loop-n.places.entries c.put.new.places.entries
-    (slice_get_read makers (length makers) c.loop-n.n c.index-makers-n.result refl low c.index-makers-n.is) c.loop-n.invariant c.in_ok-put.ensures
+    (slice_get_read makers (length makers) c.loop-n.n c.index-makers-n.result refl low c.index-makers-n.is) c.loop-n.invariant
+    c.in_ok-put.ensures
 
 pub returns : goal.returns
-returns c = put_all c.args.makers.now c.loop-n.n c.args.places.now.entries c.loop-n.places.entries c.loop-n.invariant (omega arith)
+returns c = put_all c.args.makers.now c.loop-n.n c.args.places.now.entries c.loop-n.places.entries c.loop-n.invariant
+    (omega arith)

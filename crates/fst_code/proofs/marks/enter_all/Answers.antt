@@ -8,7 +8,8 @@ loop-i-init c = record { marks = enter_none (marked c.args.later.now.items); dee
 
 pub loop-i-preserved : goal.loop-i-preserved
 loop-i-preserved c = record {
-  marks = enter_more (marked c.loop-i.later.items) (marked c.enter.new.later.items) (marked c.args.later.now.items) c.loop-i._i c.loop-i.invariant.marks c.in_ok-enter.ensures.marks;
+  marks = enter_more (marked c.loop-i.later.items) (marked c.enter.new.later.items)
+      (marked c.args.later.now.items) c.loop-i._i c.loop-i.invariant.marks c.in_ok-enter.ensures.marks;
   deep = omega (arith, c.in_ok-enter.ensures.deep, c.loop-i.invariant.deep);
 }
 

@@ -5,5 +5,6 @@ use Rattle.fst_code.proofs.ListsLaws.{lists_dropped}
 use Rattle.fst_code.proofs.marks.forgotten.Goals as goal
 
 pub returns : goal.returns
-returns c = λ q f p ea eb. lists_dropped c.in_ok-variables_in.field-0.items (marked c.args.all.now) (marked c.args.branch.now) (marked c.in_ok-only.only.items) q f p ea eb c.in_ok-only.ensures
+returns c = λ q f p ea eb. lists_dropped c.in_ok-variables_in.field-0.items (marked c.args.all.now) (marked c.args.branch.now)
+    (marked c.in_ok-only.only.items) q f p ea eb c.in_ok-only.ensures
     (subst (λ z. Lists c.in_ok-variables_in.field-0.items (marked z)) c.deref.ensures.value c.in_ok-variables_in.ensures.lists)

@@ -5,4 +5,5 @@ use Rattle.fst_code.proofs.MarkLaws.{marked_push}
 use Rattle.fst_code.proofs.marks.leave.Goals as goal
 
 pub returns-clause-marks : goal.returns-clause-marks
-returns-clause-marks c = ap marked (c.pop.ensures.items ∙ ap (λ o. c.pop.new.self.items ++ option_to_list o) c.unwrap.ensures) ∙ marked_push c.pop.new.self.items c.unwrap.result
+returns-clause-marks c = ap marked (c.pop.ensures.items ∙ ap (λ o. c.pop.new.self.items ++ option_to_list o) c.unwrap.ensures)
+    ∙ marked_push c.pop.new.self.items c.unwrap.result

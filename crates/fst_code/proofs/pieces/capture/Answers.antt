@@ -7,16 +7,20 @@ use Rattle.fst_code.proofs.pieces.capture.Goals as goal
 
 pub loop-i-init : goal.loop-i-init
 loop-i-init c = λ fs. let xs = c.args.variables.now in let all : length xs ≤ length xs = omega arith in
-    subst (λ z. Loads (compiled fs c.args.out.now) (compiled fs c.args.out.now) z (marked c.args.later.now)) (sym (drop_all (length xs) xs all))
+    subst (λ z. Loads (compiled fs c.args.out.now) (compiled fs c.args.out.now) z (marked c.args.later.now))
+    (sym (drop_all (length xs) xs all))
     (loads_none (compiled fs c.args.out.now) (marked c.args.later.now))
 
 pub loop-i-preserved : goal.loop-i-preserved
 loop-i-preserved c = λ fs. let xs = c.args.variables.now in let n = c.loop-i.i - 1 in
     let lt : n < length xs = omega arith in let e : c.loop-i.i ≡ n + 1 = omega arith in let k = get_or xs n 0 in
-    subst (λ z. Loads (compiled fs c.args.out.now) (compiled fs c.push_load.new.out) z (marked c.args.later.now)) (sym (drop_before xs n c.loop-i.i k lt e (get_or_default xs n 0 k lt)))
-    (loads_more (compiled fs c.args.out.now) (compiled fs c.loop-i.out) (compiled fs c.push_load.new.out) k (drop c.loop-i.i xs) (marked c.args.later.now) (c.loop-i.invariant fs)
+    subst (λ z. Loads (compiled fs c.args.out.now) (compiled fs c.push_load.new.out) z (marked c.args.later.now))
+    (sym (drop_before xs n c.loop-i.i k lt e (get_or_default xs n 0 k lt)))
+    (loads_more (compiled fs c.args.out.now) (compiled fs c.loop-i.out) (compiled fs c.push_load.new.out) k (drop c.loop-i.i xs)
+    (marked c.args.later.now) (c.loop-i.invariant fs)
     (c.in_ok-push_load.ensures fs))
 
 pub returns : goal.returns
 returns c = λ fs. let e : c.loop-i.i ≡ 0 = omega arith in
-    subst (λ n. Loads (compiled fs c.args.out.now) (compiled fs c.loop-i.out) (drop n c.args.variables.now) (marked c.args.later.now)) e (c.loop-i.invariant fs)
+    subst (λ n. Loads (compiled fs c.args.out.now) (compiled fs c.loop-i.out) (drop n c.args.variables.now)
+    (marked c.args.later.now)) e (c.loop-i.invariant fs)

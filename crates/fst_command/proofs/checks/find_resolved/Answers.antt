@@ -15,9 +15,11 @@ pub returns-in_err-resolve-clause-fault : goal.returns-in_err-resolve-clause-fau
 returns-in_err-resolve-clause-fault c =
     let bytes = c.args.bytes.now in
     let e = c.in_err-resolve.field-0.0 in
-    of_fault c.from_residual-in_err-resolve.result (name_fault e) (λ f. IfFound f (AreUnresolved bytes)) c.from_residual-in_err-resolve.ensures.1
+    of_fault c.from_residual-in_err-resolve.result (name_fault e)
+    (λ f. IfFound f (AreUnresolved bytes)) c.from_residual-in_err-resolve.ensures.1
     (names_found bytes (declarations c.in_ok-source.source) e c.in_ok-source.ensures.module c.in_err-resolve.ensures.fault)
 
 pub returns-clause-module : goal.returns-clause-module
 returns-clause-module c =
-    resolved_by c.args.bytes.now (declarations c.in_ok-source.source) c.in_ok-resolve.field-0 c.in_ok-source.ensures.module c.in_ok-resolve.ensures.resolved
+    resolved_by c.args.bytes.now (declarations c.in_ok-source.source) c.in_ok-resolve.field-0 c.in_ok-source.ensures.module
+    c.in_ok-resolve.ensures.resolved

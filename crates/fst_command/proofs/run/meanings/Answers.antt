@@ -3,5 +3,6 @@ use Rattle.fst_command.proofs.run.meanings.Goals as goal
 
 pub returns : goal.returns
 returns c =
-    meanings c.accepted_law.ensures c.refusal_law.ensures.refused c.one_module_law.ensures c.one_lexing.ensures c.one_module.ensures
+    meanings c.accepted_law.ensures c.refusal_law.ensures.refused c.one_module_law.ensures c.one_lexing.ensures
+    c.one_module.ensures
     c.safety_law.ensures c.sound_law.ensures

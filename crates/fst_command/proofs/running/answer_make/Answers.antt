@@ -8,5 +8,6 @@ answer_source-requires-clause-short g c κs within =
 
 pub returns-clause-text : goal.returns-clause-text
 returns-clause-text g c =
-    made_output c.args.n c.as_bytes-bytes.result.now c.answer_source.result (c.as_bytes-bytes.ensures.value ∙ c.in_ok-source.ensures)
+    made_output c.args.n c.as_bytes-bytes.result.now c.answer_source.result
+    (c.as_bytes-bytes.ensures.value ∙ c.in_ok-source.ensures)
     c.answer_source.ensures.text

@@ -8,4 +8,5 @@ pub returns-then-options-eq1 : goal.returns-then-options-eq1
 returns-then-options-eq1 g c =
     let m = c.args.m.now in
     let o = c.args.options in
-    IfOk-weaker c.execute.result (IsExecuted m o.steps) (IsOutcomeOf o.workers o.steps m) (λ x h. least_outcome o.workers o.steps m x c.if-options-eq1.true h) c.execute.ensures
+    IfOk-weaker c.execute.result (IsExecuted m o.steps) (IsOutcomeOf o.workers o.steps m)
+    (λ x h. least_outcome o.workers o.steps m x c.if-options-eq1.true h) c.execute.ensures

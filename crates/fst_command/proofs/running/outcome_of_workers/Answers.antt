@@ -6,4 +6,5 @@ run_workers-requires-clause-right g c κs within = c.in_ok-code.ensures.begins
 
 pub returns : goal.returns
 returns g c =
-    record_outcome c.args.options.workers c.args.options.steps c.args.m.now c.in_ok-code.code c.in_ok-code.ensures c.requires.several c.run_workers.result c.run_workers.ensures
+    record_outcome c.args.options.workers c.args.options.steps c.args.m.now c.in_ok-code.code c.in_ok-code.ensures
+    c.requires.several c.run_workers.result c.run_workers.ensures

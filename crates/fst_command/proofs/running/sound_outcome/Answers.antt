@@ -10,4 +10,5 @@ returns-clause-sound g c =
     let o = c.args.options in
     let d = c.requires.derived in
     IfOk-weaker c.outcome.result (IsOutcomeOf o.workers o.steps m) (IsSoundOutcome m)
-    (λ x h. outcome_sound c.sound_law.ensures m (c.safety_law.ensures m d.derivations d.derived) o.workers o.steps x h) c.outcome.ensures
+    (λ x h. outcome_sound c.sound_law.ensures m (c.safety_law.ensures m d.derivations d.derived) o.workers o.steps x h)
+    c.outcome.ensures

@@ -16,7 +16,8 @@ returns-then-index-gt0-clause-counts c =
     let x : d ≡ get_or ns i d = c.index_mut.ensures.value in
     let z : Zeros (drop (suc i) ns) = subst (λ m. Zeros (drop m ns)) (sym n) c.loop-i.invariant.1 in
     let y : c.index.result.now ≡ get_or ns i d = c.index.ensures ∙ get_or_default ns i c.index.result.now d lt in
-    ap (λ m. reverse (set ns i (m - 1))) x ∙ fewer_at ns i d lt z (omega (arith, y, lt, c.if-index-gt0.true)) ∙ ap (λ m. fewer (reverse m)) c.loop-i.invariant.2
+    ap (λ m. reverse (set ns i (m - 1))) x ∙ fewer_at ns i d lt z (omega (arith, y, lt, c.if-index-gt0.true)) ∙ ap
+    (λ m. fewer (reverse m)) c.loop-i.invariant.2
 
 pub returns-clause-counts : goal.returns-clause-counts
 returns-clause-counts c =

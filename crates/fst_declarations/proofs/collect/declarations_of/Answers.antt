@@ -12,7 +12,8 @@ use Rattle.fst_declarations.proofs.collect.declarations_of.Goals as goal
 pub scopes_of-requires : goal.scopes_of-requires
 scopes_of-requires c =
     let a = c.in_ok-types.aliases in
-    rw c.deref.ensures.value (measures_long c.in_ok-types.types a.looped.items a.order.items a.measures.items c.in_ok-types.ensures.tables.measured)
+    rw c.deref.ensures.value (measures_long c.in_ok-types.types a.looped.items a.order.items a.measures.items
+    c.in_ok-types.ensures.tables.measured)
 
 pub invariant_of-result : goal.invariant_of-result
 invariant_of-result c =
@@ -24,7 +25,8 @@ invariant_of-result c =
       measured = c.in_ok-types.ensures.tables.measured;
       told = looped_long types a.looped.items a.order.items c.in_ok-types.ensures.tables.order;
       none = c.new.ensures;
-      paired = scopes_long types trees signatures.entries.items c.in_ok-scopes.scopes.items (c.in_ok-scopes.ensures trees (rw c.deref.ensures.value c.in_ok-types.ensures.tables.measured)) ∙ signatures.paired;
+      paired = scopes_long types trees signatures.entries.items c.in_ok-scopes.scopes.items
+          (c.in_ok-scopes.ensures trees (rw c.deref.ensures.value c.in_ok-types.ensures.tables.measured)) ∙ signatures.paired;
     }
 
 pub returns-clause-declarations : goal.returns-clause-declarations
@@ -39,7 +41,8 @@ returns-clause-declarations c =
       signatures = terms.signatures_are;
       equations = terms.equations_are;
       global_names = terms.globals_are;
-      scopes = c.in_ok-scopes.ensures (final_trees c.in_ok-types.types a.looped.items a.order.items) (rw c.deref.ensures.value types.measured);
+      scopes = c.in_ok-scopes.ensures (final_trees c.in_ok-types.types a.looped.items a.order.items)
+          (rw c.deref.ensures.value types.measured);
       known = types.known;
       order = types.order;
     }
@@ -47,4 +50,5 @@ returns-clause-declarations c =
 pub returns-clause-twice : goal.returns-clause-twice
 returns-clause-twice c =
     let ds = map decl_tree c.args.decls.now in
-    both_noted (twice (type_names ds)) (twice_for_terms ds) c.args.least.now c.type_tables.new.least c.term_tables.new.least c.in_ok-types.ensures.twice c.in_ok-makers.ensures.twice
+    both_noted (twice (type_names ds)) (twice_for_terms ds) c.args.least.now c.type_tables.new.least c.term_tables.new.least
+    c.in_ok-types.ensures.twice c.in_ok-makers.ensures.twice

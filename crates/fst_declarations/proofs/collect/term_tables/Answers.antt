@@ -17,5 +17,8 @@ pub returns-clause-twice : goal.returns-clause-twice
 returns-clause-twice c =
     let ds = map decl_tree c.args.decls.now in
     let equations = twice (equation_names ds) in
-    both_noted (twice (map (λ m. m.name) (makers ds))) (twice (signature_names ds) ++ equations) c.args.least.now c.makers_of.new.least c.equations_of.new.least c.in_ok-makers.ensures.twice
-    (both_noted (twice (signature_names ds)) equations c.makers_of.new.least c.signatures_of.new.least c.equations_of.new.least c.in_ok-signatures.ensures.twice c.in_ok-equations.ensures.twice)
+    both_noted (twice (map (λ m. m.name) (makers ds)))
+    (twice (signature_names ds) ++ equations) c.args.least.now c.makers_of.new.least c.equations_of.new.least
+    c.in_ok-makers.ensures.twice
+    (both_noted (twice (signature_names ds)) equations c.makers_of.new.least c.signatures_of.new.least c.equations_of.new.least
+    c.in_ok-signatures.ensures.twice c.in_ok-equations.ensures.twice)

@@ -6,8 +6,10 @@ use Rattle.fst_declarations.proofs.scopes.arrows_of.Goals as goal
 
 pub returns-in-Some : goal.returns-in-Some
 returns-in-Some c = λ trees are.
-    ap (option_map (λ (m : Measure). m.arrows)) (sym c.in-Some.is) ∙ arrows_are c.args.vars c.args.types trees c.args.measures.now c.args.w.now c.measure_of.result are c.measure_of.ensures
+    ap (option_map (λ (m : Measure). m.arrows)) (sym c.in-Some.is)
+    ∙ arrows_are c.args.vars c.args.types trees c.args.measures.now c.args.w.now c.measure_of.result are c.measure_of.ensures
 
 pub returns-in-None : goal.returns-in-None
 returns-in-None c = λ trees are.
-    ap (option_map (λ (m : Measure). m.arrows)) (sym c.in-None.is) ∙ arrows_are c.args.vars c.args.types trees c.args.measures.now c.args.w.now c.measure_of.result are c.measure_of.ensures
+    ap (option_map (λ (m : Measure). m.arrows)) (sym c.in-None.is)
+    ∙ arrows_are c.args.vars c.args.types trees c.args.measures.now c.args.w.now c.measure_of.result are c.measure_of.ensures

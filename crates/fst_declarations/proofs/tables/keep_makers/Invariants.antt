@@ -8,5 +8,6 @@ use Rattle.fst_declarations.proofs.tables.keep_makers.Given as goal
 
 abbrev pub invariant-loop-n : goal.invariant-loop-n
 invariant-loop-n l =
-    (old : Option NameFault) (before : List (Binder × MakerEntry)) → IsKept itself old before l.initial.names l.initial.entries.items l.initial.least →
+    (old : Option NameFault) (before : List (Binder × MakerEntry)) →
+    IsKept itself old before l.initial.names l.initial.entries.items l.initial.least →
     IsKept itself old (before ++ entries_from l.family 0 (map maker (take l.n l.makers))) l.names l.entries.items l.least

@@ -21,9 +21,13 @@ loop-decl-preserved c =
           let one = ap (λ z. families_in ds + families_in (decl_tree z ∷ [])) w.in-Family.is in
           let number : k ≡ families_in ds = w.in_ok-family.ensures ∙ c.loop-decl.invariant.count in
           record {
-            kept = same_kept itself c.args.least.now w.keep_makers.new.least _ (maker_entries 0 ds ++ entries_from k 0 (map maker w.in-Family.makers.items)) _ w.keep_makers.new.names _ w.keep_makers.new.entries.items _
-                (rw w.deref.ensures.value at (w.in_ok-keep_makers.ensures c.args.least.now (maker_entries 0 ds) c.loop-decl.invariant.kept))
-                (ap (maker_entries 0) whole ∙ ap (λ z. maker_entries 0 (ds ++ decl_tree z ∷ [])) w.in-Family.is ∙ makers_family ds w.in-Family.field-0 (map maker w.in-Family.makers.items) k number)
+            kept = same_kept itself c.args.least.now w.keep_makers.new.least _
+                (maker_entries 0 ds ++ entries_from k 0 (map maker w.in-Family.makers.items)) _ w.keep_makers.new.names _
+                w.keep_makers.new.entries.items _
+                (rw w.deref.ensures.value at (w.in_ok-keep_makers.ensures c.args.least.now
+                (maker_entries 0 ds) c.loop-decl.invariant.kept))
+                (ap (maker_entries 0) whole ∙ ap (λ z. maker_entries 0 (ds ++ decl_tree z ∷ [])) w.in-Family.is
+                ∙ makers_family ds w.in-Family.field-0 (map maker w.in-Family.makers.items) k number)
                 w.names-is (ap (λ v. v.items) w.entries-is) w.least-is;
             count = omega (arith, count, one, w.families-is, c.loop-decl.invariant.count);
             few = omega (arith, w.families-is, c.loop-decl.invariant.few);
@@ -31,8 +35,10 @@ loop-decl-preserved c =
       | in_default w ↦
           let none = no_makers d w.in_default.not-Family (0 + families_in ds) in
           record {
-            kept = same_kept itself c.args.least.now c.loop-decl.least _ (maker_entries 0 ds) _ c.loop-decl.names _ c.loop-decl.entries.items _ c.loop-decl.invariant.kept
-                (ap (maker_entries 0) whole ∙ makers_push 0 ds (decl_tree d) ∙ ap (λ z. maker_entries 0 ds ++ z) none.0 ∙ append-nil (maker_entries 0 ds))
+            kept = same_kept itself c.args.least.now c.loop-decl.least _
+                (maker_entries 0 ds) _ c.loop-decl.names _ c.loop-decl.entries.items _ c.loop-decl.invariant.kept
+                (ap (maker_entries 0) whole ∙ makers_push 0 ds (decl_tree d) ∙ ap (λ z. maker_entries 0 ds ++ z) none.0
+                ∙ append-nil (maker_entries 0 ds))
                 w.names-is (ap (λ v. v.items) w.entries-is) w.least-is;
             count = omega (arith, count, none.1, w.families-is, c.loop-decl.invariant.count);
             few = omega (arith, w.families-is, c.loop-decl.invariant.few);
@@ -47,4 +53,5 @@ returns-clause-makers c =
 pub returns-clause-twice : goal.returns-clause-twice
 returns-clause-twice c =
     let all = all_decls c.args.decls.now c.loop-decl.decl-index c.loop-decl-test.false in
-    (rw all at c.loop-decl.invariant.kept.noted) ∙ ap (λ bs. first_from c.args.least.now (twice bs)) (makers_named 0 (map decl_tree c.args.decls.now))
+    (rw all at c.loop-decl.invariant.kept.noted) ∙ ap
+    (λ bs. first_from c.args.least.now (twice bs)) (makers_named 0 (map decl_tree c.args.decls.now))

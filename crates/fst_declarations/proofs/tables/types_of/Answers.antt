@@ -23,36 +23,48 @@ loop-decl-preserved c =
     elim c.match-decl.branch [
       | in-Family+in_ok-number_of-in-Family+in_ok-keep-in-Family w ↦
           let one = ap (λ z. families_in ds + families_in (decl_tree z ∷ [])) w.in-Family.is in
-          let number : 0 + families_in ds ≡ w.in_ok-number_of-in-Family.field-0 = omega (arith, w.in_ok-number_of-in-Family.ensures, c.loop-decl.invariant.count) in
+          let number : 0 + families_in ds ≡ w.in_ok-number_of-in-Family.field-0 =
+          omega (arith, w.in_ok-number_of-in-Family.ensures, c.loop-decl.invariant.count) in
           record {
-            kept = one_kept entry_decl old c.loop-decl.least _ things _ w.in-Family.binder _ c.loop-decl.names _ c.loop-decl.entries.items _ c.loop-decl.invariant.kept
-                (more ∙ ap (λ z. things ++ types_from (0 + families_in ds) (decl_tree z ∷ [])) w.in-Family.is ∙ ap (λ n. things ++ (w.in-Family.binder, data_type n) ∷ []) number)
-                (w.names-is ∙ w.in_ok-keep-in-Family.ensures.names) (ap (λ v. v.items) w.entries-is ∙ w.in_ok-keep-in-Family.ensures.entries) (w.least-is ∙ w.in_ok-keep-in-Family.ensures.twice);
+            kept = one_kept entry_decl old c.loop-decl.least _ things _ w.in-Family.binder _ c.loop-decl.names _
+                c.loop-decl.entries.items _ c.loop-decl.invariant.kept
+                (more ∙ ap (λ z. things ++ types_from (0 + families_in ds) (decl_tree z ∷ [])) w.in-Family.is ∙ ap
+                (λ n. things ++ (w.in-Family.binder, data_type n) ∷ []) number)
+                (w.names-is ∙ w.in_ok-keep-in-Family.ensures.names)
+                (ap (λ v. v.items) w.entries-is ∙ w.in_ok-keep-in-Family.ensures.entries)
+                (w.least-is ∙ w.in_ok-keep-in-Family.ensures.twice);
             count = omega (arith, count, one, w.families-is, c.loop-decl.invariant.count);
             few = omega (arith, w.families-is, c.loop-decl.invariant.few);
           }
       | in-Alias+in_ok-keep-in-Alias w ↦
           let none = ap (λ z. families_in ds + families_in (decl_tree z ∷ [])) w.in-Alias.is in
           record {
-            kept = one_kept entry_decl old c.loop-decl.least _ things _ w.in-Alias.binder _ c.loop-decl.names _ c.loop-decl.entries.items _ c.loop-decl.invariant.kept
+            kept = one_kept entry_decl old c.loop-decl.least _ things _ w.in-Alias.binder _ c.loop-decl.names _
+                c.loop-decl.entries.items _ c.loop-decl.invariant.kept
                 (more ∙ ap (λ z. things ++ types_from (0 + families_in ds) (decl_tree z ∷ [])) w.in-Alias.is)
-                (w.names-is ∙ w.in_ok-keep-in-Alias.ensures.names) (ap (λ v. v.items) w.entries-is ∙ w.in_ok-keep-in-Alias.ensures.entries) (w.least-is ∙ w.in_ok-keep-in-Alias.ensures.twice);
+                (w.names-is ∙ w.in_ok-keep-in-Alias.ensures.names)
+                (ap (λ v. v.items) w.entries-is ∙ w.in_ok-keep-in-Alias.ensures.entries)
+                (w.least-is ∙ w.in_ok-keep-in-Alias.ensures.twice);
             count = omega (arith, count, none, w.families-is, c.loop-decl.invariant.count);
             few = omega (arith, w.families-is, c.loop-decl.invariant.few);
           }
       | in-Signature w ↦
           let none = ap (λ z. families_in ds + families_in (decl_tree z ∷ [])) w.in-Signature.is in
           record {
-            kept = same_kept entry_decl old c.loop-decl.least _ things _ c.loop-decl.names _ c.loop-decl.entries.items _ c.loop-decl.invariant.kept
-                (more ∙ ap (λ z. things ++ types_from (0 + families_in ds) (decl_tree z ∷ [])) w.in-Signature.is ∙ append-nil things) w.names-is (ap (λ v. v.items) w.entries-is) w.least-is;
+            kept = same_kept entry_decl old c.loop-decl.least _ things _ c.loop-decl.names _ c.loop-decl.entries.items _
+                c.loop-decl.invariant.kept
+                (more ∙ ap (λ z. things ++ types_from (0 + families_in ds) (decl_tree z ∷ [])) w.in-Signature.is
+                ∙ append-nil things) w.names-is (ap (λ v. v.items) w.entries-is) w.least-is;
             count = omega (arith, count, none, w.families-is, c.loop-decl.invariant.count);
             few = omega (arith, w.families-is, c.loop-decl.invariant.few);
           }
       | in-Equation w ↦
           let none = ap (λ z. families_in ds + families_in (decl_tree z ∷ [])) w.in-Equation.is in
           record {
-            kept = same_kept entry_decl old c.loop-decl.least _ things _ c.loop-decl.names _ c.loop-decl.entries.items _ c.loop-decl.invariant.kept
-                (more ∙ ap (λ z. things ++ types_from (0 + families_in ds) (decl_tree z ∷ [])) w.in-Equation.is ∙ append-nil things) w.names-is (ap (λ v. v.items) w.entries-is) w.least-is;
+            kept = same_kept entry_decl old c.loop-decl.least _ things _ c.loop-decl.names _ c.loop-decl.entries.items _
+                c.loop-decl.invariant.kept
+                (more ∙ ap (λ z. things ++ types_from (0 + families_in ds) (decl_tree z ∷ [])) w.in-Equation.is
+                ∙ append-nil things) w.names-is (ap (λ v. v.items) w.entries-is) w.least-is;
             count = omega (arith, count, none, w.families-is, c.loop-decl.invariant.count);
             few = omega (arith, w.families-is, c.loop-decl.invariant.few);
           }
@@ -67,9 +79,11 @@ returns-clause-types c = λ x.
 pub returns-clause-twice : goal.returns-clause-twice
 returns-clause-twice c =
     let all = all_decls c.args.decls.now c.loop-decl.decl-index c.loop-decl-test.false in
-    (rw all at c.loop-decl.invariant.kept.noted) ∙ ap (λ bs. first_from c.args.least.now (twice bs)) (types_named 0 (map decl_tree c.args.decls.now))
+    (rw all at c.loop-decl.invariant.kept.noted) ∙ ap
+    (λ bs. first_from c.args.least.now (twice bs)) (types_named 0 (map decl_tree c.args.decls.now))
 
 pub returns-clause-names : goal.returns-clause-names
 returns-clause-names c =
     let all = all_decls c.args.decls.now c.loop-decl.decl-index c.loop-decl-test.false in
-    subst (λ bs. AreNames bs c.loop-decl.names) (types_named 0 (map decl_tree c.args.decls.now)) (rw all at c.loop-decl.invariant.kept.names_are)
+    subst (λ bs. AreNames bs c.loop-decl.names) (types_named 0 (map decl_tree c.args.decls.now))
+    (rw all at c.loop-decl.invariant.kept.names_are)

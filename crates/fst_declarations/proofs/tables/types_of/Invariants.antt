@@ -7,7 +7,8 @@ use Rattle.fst_declarations.proofs.tables.types_of.Given as goal
 
 abbrev pub invariant-loop-decl : goal.invariant-loop-decl
 invariant-loop-decl l = record {
-  kept : IsKept entry_decl l.initial.least (types_from 0 (map decl_tree (take l.decl-index l.decls))) l.names l.entries.items l.least;
+  kept : IsKept entry_decl l.initial.least (types_from 0 (map decl_tree (take l.decl-index l.decls))) l.names l.entries.items
+      l.least;
   count : l.families ≡ families_in (map decl_tree (take l.decl-index l.decls));
   few : l.families ≤ l.decl-index;
 }

@@ -15,17 +15,21 @@ returns-in-Some-clause-verdict c =
     let g = c.in_ok-g.g in
     let t = c.in_ok-g.ensures in
     let marks = c.as_slice-marks.result.now in
-    let unnormed : AreUnnormed g.rules.items marks = subst (λ (z : List Bool). AreUnnormed g.rules.items z) (sym c.as_slice-marks.ensures.value) c.in_ok-marks.ensures.unnormed in
+    let unnormed : AreUnnormed g.rules.items marks = subst
+    (λ (z : List Bool). AreUnnormed g.rules.items z) (sym c.as_slice-marks.ensures.value) c.in_ok-marks.ensures.unnormed in
     let problem : IsProblem s r g.letters.items g.rules.items c.in_ok-g.left c.in_ok-g.right marks =
     record { translation = t.translation; small = t.small; range = t.range; ruled = t.ruled; unnormed = unnormed } in
-    basis_right s r c.args.budget g c.in_ok-g.left c.in_ok-g.right c.prune.new.w c.prune-2.new.w marks c.in-Some.proof problem c.prune.ensures.cut c.prune-2.ensures.cut
+    basis_right s r c.args.budget g c.in_ok-g.left c.in_ok-g.right c.prune.new.w c.prune-2.new.w marks c.in-Some.proof problem
+    c.prune.ensures.cut c.prune-2.ensures.cut
     (stand_pruned g.letters.items g.rules.items c.in_ok-g.left c.in_ok-g.right c.prune.new.w c.prune-2.new.w s r t.left t.right
     (c.prune.ensures.same g.rules.items unnormed.set) (c.prune-2.ensures.same g.rules.items unnormed.set))
-    (rw c.in-Some.is at c.in_ok-proof.ensures.proof) (rw c.in-Some.is at c.in_ok-proof.ensures.same) (rw c.in-Some.is at c.in_ok-proof.ensures.good)
+    (rw c.in-Some.is at c.in_ok-proof.ensures.proof) (rw c.in-Some.is at c.in_ok-proof.ensures.same)
+    (rw c.in-Some.is at c.in_ok-proof.ensures.good)
 
 pub returns-in-Some-clause-answer : goal.returns-in-Some-clause-answer
 returns-in-Some-clause-answer c =
-    verdict_answers c.args.t.now c.args.u.now c.args.budget (Yes (Basis c.in_ok-g.g c.prune.new.w c.prune-2.new.w c.in-Some.proof)) (returns-in-Some-clause-verdict c)
+    verdict_answers c.args.t.now c.args.u.now c.args.budget
+    (Yes (Basis c.in_ok-g.g c.prune.new.w c.prune-2.new.w c.in-Some.proof)) (returns-in-Some-clause-verdict c)
 
 pub returns-clause-verdict : goal.returns-clause-verdict
 returns-clause-verdict c =
@@ -35,11 +39,13 @@ returns-clause-verdict c =
     let t = c.in_ok-g.ensures in
     let h = c.in_ok-found-in-None.ensures in
     let marks = c.as_slice-marks.result.now in
-    let unnormed : AreUnnormed g.rules.items marks = subst (λ (z : List Bool). AreUnnormed g.rules.items z) (sym c.as_slice-marks.ensures.value) c.in_ok-marks.ensures.unnormed in
+    let unnormed : AreUnnormed g.rules.items marks = subst
+    (λ (z : List Bool). AreUnnormed g.rules.items z) (sym c.as_slice-marks.ensures.value) c.in_ok-marks.ensures.unnormed in
     let problem : IsProblem s r g.letters.items g.rules.items c.in_ok-g.left c.in_ok-g.right marks =
     record { translation = t.translation; small = t.small; range = t.range; ruled = t.ruled; unnormed = unnormed } in
     subst (λ (z : Verdict). IsVerdict s r c.args.budget z) (sym c.verdict_of.ensures)
-    (verdict_right s r c.args.budget g c.in_ok-g.left c.in_ok-g.right c.prune.new.w c.prune-2.new.w marks c.in_ok-found-in-None.found problem
+    (verdict_right s r c.args.budget g c.in_ok-g.left c.in_ok-g.right c.prune.new.w c.prune-2.new.w marks
+    c.in_ok-found-in-None.found problem
     c.prune.ensures.cut c.prune-2.ensures.cut
     (stand_pruned g.letters.items g.rules.items c.in_ok-g.left c.in_ok-g.right c.prune.new.w c.prune-2.new.w s r t.left t.right
     (c.prune.ensures.same g.rules.items unnormed.set) (c.prune-2.ensures.same g.rules.items unnormed.set))

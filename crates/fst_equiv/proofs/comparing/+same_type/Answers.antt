@@ -24,7 +24,10 @@ pub same_parts-returns-in_default : goal.same_parts-returns-in_default
 same_parts-returns-in_default t c =
     let xs = comparisons c.args.left_first.now c.args.right_first.now in
     let ys = comparisons c.args.left_second.now c.args.right_second.now in
-    record { answer = comes_in_front c.args.budget xs ys c.in_ok-other.other c.in_default.not-Yes c.in_ok-other.ensures.answer; too_large = tt }
+    record {
+      answer = comes_in_front c.args.budget xs ys c.in_ok-other.other c.in_default.not-Yes c.in_ok-other.ensures.answer;
+      too_large = tt;
+    }
 
 pub same_type-same_part-requires-clause-session_left : goal.same_type-same_part-requires-clause-session_left
 same_type-same_part-requires-clause-session_left t c =
@@ -48,7 +51,8 @@ same_type-returns-in-Plain-Plain-clause-answer t c =
 
 pub same_type-returns-in-Plain-Plain-clause-equal : goal.same_type-returns-in-Plain-Plain-clause-equal
 same_type-returns-in-Plain-Plain-clause-equal t c =
-    found_equal c.args.t.now c.args.u.now c.args.budget (Ok c.unless_same.result) (same_type-returns-in-Plain-Plain-clause-answer t c)
+    found_equal c.args.t.now c.args.u.now c.args.budget (Ok c.unless_same.result)
+    (same_type-returns-in-Plain-Plain-clause-answer t c)
 
 pub same_type-returns-then-eq-clause-equal : goal.same_type-returns-then-eq-clause-equal
 same_type-returns-then-eq-clause-equal t c =
@@ -61,7 +65,8 @@ same_type-returns-else-eq-clause-answer t c =
 
 pub same_type-returns-in-Pair-Pair-clause-equal : goal.same_type-returns-in-Pair-Pair-clause-equal
 same_type-returns-in-Pair-Pair-clause-equal t c =
-    let h : IfOk c.same_parts-in-Pair-Pair.result (λ (a : Same). IsComparison c.args.t.now c.args.u.now c.args.budget a) = search rules in
+    let h : IfOk c.same_parts-in-Pair-Pair.result (λ (a : Same). IsComparison c.args.t.now c.args.u.now c.args.budget a) =
+    search rules in
     found_equal c.args.t.now c.args.u.now c.args.budget c.same_parts-in-Pair-Pair.result h
 
 pub same_type-returns-in-Named-Named-clause-answer : goal.same_type-returns-in-Named-Named-clause-answer
@@ -71,7 +76,8 @@ same_type-returns-in-Named-Named-clause-answer t c =
 
 pub same_type-returns-in-Named-Named-clause-equal : goal.same_type-returns-in-Named-Named-clause-equal
 same_type-returns-in-Named-Named-clause-equal t c =
-    found_equal c.args.t.now c.args.u.now c.args.budget (Ok c.unless_same-in-Named-Named.result) (same_type-returns-in-Named-Named-clause-answer t c)
+    found_equal c.args.t.now c.args.u.now c.args.budget (Ok c.unless_same-in-Named-Named.result)
+    (same_type-returns-in-Named-Named-clause-answer t c)
 
 pub same_type-returns-in_default-clause-answer : goal.same_type-returns-in_default-clause-answer
 same_type-returns-in_default-clause-answer t c =

@@ -5,4 +5,5 @@ use Rattle.fst_equiv.proofs.ComparisonLaws.{only_one}
 use Rattle.fst_equiv.proofs.comparing.unless_same.Goals as goal
 
 pub returns-else-is_same : goal.returns-else-is_same
-returns-else-is_same c budget = subst (λ b. ComesTo (unless_same b) budget Shape) (sym c.if-is_same.false) (only_one budget differing)
+returns-else-is_same c budget = subst (λ b. ComesTo (unless_same b) budget Shape) (sym c.if-is_same.false)
+    (only_one budget differing)

@@ -17,4 +17,5 @@ returns c =
     let x = c.requires.derived in
     let code = c.in_ok-code.code in
     IfOk-weaker c.run_one.result (IsOutcome code c.args.steps) (IsExecuted m c.args.steps)
-    (λ o h. is_executed m code c.args.steps o c.in_ok-code.ensures.from (c.safety_law.ensures m x.derivations x.derived) h) c.run_one.ensures
+    (λ o h. is_executed m code c.args.steps o c.in_ok-code.ensures.from (c.safety_law.ensures m x.derivations x.derived) h)
+    c.run_one.ensures

@@ -8,5 +8,6 @@ invariant-loop-i l = record {
   kept : Keeps l.initial.table.words l.table.words;
   same : l.table.pairs ≡ l.initial.table.pairs;
   count : length l.chains.items ≡ l.i;
-  ways : AreWays (length l.m.lowering.now) l.m.marks.now l.initial.table.pairs l.rules l.others (word_of l.initial.table.words l.left.1) (word_of l.initial.table.words l.right.1) l.chains.items;
+  ways : AreWays (length l.m.lowering.now) l.m.marks.now l.initial.table.pairs l.rules l.others
+      (word_of l.initial.table.words l.left.1) (word_of l.initial.table.words l.right.1) l.chains.items;
 }

@@ -15,12 +15,16 @@ use Rattle.fst_expand.proofs.chaining.chains_of.Goals as goal
 
 pub bridge-requires-clause-left : goal.bridge-requires-clause-left
 bridge-requires-clause-left c =
-    front_alone (length c.args.m.now.grammar.now.rules.items) (length c.args.m.now.lowering.now) c.args.m.now.marks.now c.args.table.now.words c.args.u.now c.requires.measured.lowering.count
+    front_alone (length c.args.m.now.grammar.now.rules.items)
+    (length c.args.m.now.lowering.now) c.args.m.now.marks.now c.args.table.now.words c.args.u.now
+    c.requires.measured.lowering.count
     c.each_once.ensures.some c.each_once.ensures.empty c.requires.left
 
 pub bridge-requires-clause-right : goal.bridge-requires-clause-right
 bridge-requires-clause-right c =
-    front_alone (length c.args.m.now.grammar.now.rules.items) (length c.args.m.now.lowering.now) c.args.m.now.marks.now c.args.table.now.words c.args.v.now c.requires.measured.lowering.count
+    front_alone (length c.args.m.now.grammar.now.rules.items)
+    (length c.args.m.now.lowering.now) c.args.m.now.marks.now c.args.table.now.words c.args.v.now
+    c.requires.measured.lowering.count
     c.each_once.ensures.some c.each_once.ensures.empty c.requires.right
 
 pub bridge-requires-clause-room : goal.bridge-requires-clause-room
@@ -32,9 +36,12 @@ pub loop-at-init : goal.loop-at-init
 loop-at-init c =
     let n = length c.args.m.now.lowering.now in
     let marks = c.args.m.now.marks.now in
-    let way : IsWay n marks c.args.table.now.pairs c.args.u.now c.args.v.now c.in_ok-first.first = rw (c.each_once.ensures.empty, append-nil c.args.u.now, append-nil c.args.v.now) at c.in_ok-first.ensures.way in
-    let one : c.push.new.self.items ≡ c.in_ok-first.first ∷ [] = c.in_ok-push.ensures.items ∙ ap (λ (z : List Chain). z ++ c.in_ok-first.first ∷ []) c.new-chains.ensures.items in
-    let way2 = subst (λ (P : List Pair). IsWay n marks P c.args.u.now c.args.v.now c.in_ok-first.first) (sym c.in_ok-first.ensures.same) way in
+    let way : IsWay n marks c.args.table.now.pairs c.args.u.now c.args.v.now c.in_ok-first.first =
+    rw (c.each_once.ensures.empty, append-nil c.args.u.now, append-nil c.args.v.now) at c.in_ok-first.ensures.way in
+    let one : c.push.new.self.items ≡ c.in_ok-first.first ∷ [] = c.in_ok-push.ensures.items ∙ ap
+    (λ (z : List Chain). z ++ c.in_ok-first.first ∷ []) c.new-chains.ensures.items in
+    let way2 = subst (λ (P : List Pair). IsWay n marks P c.args.u.now c.args.v.now c.in_ok-first.first)
+    (sym c.in_ok-first.ensures.same) way in
     record {
       same = refl;
       below = rw one (All-cons (IsChainBelow n) c.in_ok-first.first [] way.below (All-nil (IsChainBelow n)));
@@ -50,12 +57,14 @@ chain_pair-requires-clause-at c =
 
 pub chain_pair-requires-clause-settled : goal.chain_pair-requires-clause-settled
 chain_pair-requires-clause-settled c =
-    subst (λ (P : List Pair). AreSettled c.args.m.now.grammar.now.rules.items c.args.m.now.marks.now c.args.m.now.norms.now c.args.m.now.lowering.now P c.args.room)
+    subst (λ (P : List Pair). AreSettled c.args.m.now.grammar.now.rules.items c.args.m.now.marks.now c.args.m.now.norms.now
+    c.args.m.now.lowering.now P c.args.room)
     (sym (c.loop-at.invariant.same ∙ c.in_ok-first.ensures.same)) c.requires.settled
 
 pub chain_pair-requires-clause-fit : goal.chain_pair-requires-clause-fit
 chain_pair-requires-clause-fit c =
-    subst (AreFit c.args.m.now.marks.now (length c.args.m.now.lowering.now)) (sym (c.loop-at.invariant.same ∙ c.in_ok-first.ensures.same)) c.requires.fit
+    subst (AreFit c.args.m.now.marks.now (length c.args.m.now.lowering.now))
+    (sym (c.loop-at.invariant.same ∙ c.in_ok-first.ensures.same)) c.requires.fit
 
 pub loop-at-preserved : goal.loop-at-preserved
 loop-at-preserved c =
@@ -101,8 +110,10 @@ returns-clause-proof c =
     let joined = subst (λ (bs : List Pair). AreJoined rows marks P bs h.1) all h.4 in
     let fit = subst (λ (k : ℕ). AreFit marks k P) m.lowering.count c.requires.fit in
     let way = subst (λ (k : ℕ). IsWay k marks P c.args.u.now c.args.v.now h.0) m.lowering.count h.3 in
-    let below = subst (λ (k : ℕ). All (IsChainBelow k) (h.0 ∷ h.1)) m.lowering.count (subst (All (IsChainBelow (length c.args.m.now.lowering.now))) h.2 i.below) in
-    rw h.2 (chained_proof (length c.args.m.now.grammar.now.letters.items) rows marks c.args.u.now c.args.v.now P h.0 h.1 c.requires.letters m.range m.unnormed c.requires.left c.requires.right fit
+    let below = subst (λ (k : ℕ). All (IsChainBelow k) (h.0 ∷ h.1)) m.lowering.count
+    (subst (All (IsChainBelow (length c.args.m.now.lowering.now))) h.2 i.below) in
+    rw h.2 (chained_proof (length c.args.m.now.grammar.now.letters.items) rows marks c.args.u.now c.args.v.now P h.0 h.1
+    c.requires.letters m.range m.unnormed c.requires.left c.requires.right fit
     c.requires.settled.alike way joined below)
 
 pub returns-clause-same : goal.returns-clause-same

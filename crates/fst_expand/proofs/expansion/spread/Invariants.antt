@@ -5,7 +5,8 @@ use Rattle.fst_expand.proofs.expansion.spread.Given as goal
 
 abbrev pub invariant-loop-at : goal.invariant-loop-at
 invariant-loop-at l = record {
-  expanded : IsExpanded l.m.grammar.now.rules.items l.m.marks.now l.m.norms.now l.m.lowering.now l.u l.v l.budget l.table.pairs l.at l.room;
+  expanded : IsExpanded l.m.grammar.now.rules.items l.m.marks.now l.m.norms.now l.m.lowering.now l.u l.v l.budget l.table.pairs
+      l.at l.room;
   once : AreDistinct l.table.pairs;
   room : length l.table.pairs ≤ l.room;
   most : l.room ≤ l.budget;

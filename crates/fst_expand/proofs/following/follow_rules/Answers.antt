@@ -4,7 +4,7 @@ use Rattle.fst_base.proofs.Lists.{length-push}
 use Rattle.fst_words.specs.declared.rules.Rule.{Rule}
 use Rattle.fst_words.specs.Words.{WordBelow, row_of}
 use Rattle.fst_shared.specs.Shared.{word_of}
-use Rattle.fst_shared.proofs.TableLaws.{keeps_on}
+use Rattle.fst_shared.proofs.Laws.{keeps_on}
 use Rattle.fst_expand.specs.Bridge.{HaveNoRoom, Meet}
 use Rattle.fst_expand.specs.Expansion.{parts_pair}
 use Rattle.fst_expand.proofs.FollowLaws.{after_at, as_long, followed_last, followed_next, lack_next}
@@ -41,11 +41,14 @@ follow_letter-requires-clause-right c =
     let there = got rs c.loop-i.i r lt c.index-rules-i.is in
     let other = got os c.loop-i.i q (omega arith) c.index-others-i.is in
     let wr : c.as_slice.result.now ≡ r.word = c.as_slice.ensures in
-    let wq : c.as_slice-in-loop-i.result.now ≡ q.word = c.as_slice-in-loop-i.ensures ∙ ap (λ (z : Rule). z.word) (sym c.index-others-i.is) in
+    let wq : c.as_slice-in-loop-i.result.now ≡ q.word = c.as_slice-in-loop-i.ensures ∙ ap
+    (λ (z : Rule). z.word) (sym c.index-others-i.is) in
     let left = i.kept.kept c.args.left.1 c.requires.left.there in
     let right = i.kept.kept c.args.right.1 c.requires.right.there in
-    let below = subst (λ (n : ℕ). All (λ (r : Rule). WordBelow n r.word) os) (sym c.requires.measured.lowering.count) c.rules_of-others.ensures.below in
-    front_of (length words) marks c.args.table.now.words c.loop-i.table.words c.args.right os c.loop-i.i q c.as_slice-in-loop-i.result.now i.kept c.requires.right below other wq
+    let below = subst (λ (n : ℕ). All (λ (r : Rule). WordBelow n r.word) os)
+    (sym c.requires.measured.lowering.count) c.rules_of-others.ensures.below in
+    front_of (length words) marks c.args.table.now.words c.loop-i.table.words c.args.right os c.loop-i.i q
+    c.as_slice-in-loop-i.result.now i.kept c.requires.right below other wq
 
 pub follow_letter-requires-clause-before : goal.follow_letter-requires-clause-before
 follow_letter-requires-clause-before c h e =
@@ -67,7 +70,8 @@ follow_letter-requires-clause-before c h e =
     let there = got rs c.loop-i.i r lt c.index-rules-i.is in
     let other = got os c.loop-i.i q (omega arith) c.index-others-i.is in
     let wr : c.as_slice.result.now ≡ r.word = c.as_slice.ensures in
-    let wq : c.as_slice-in-loop-i.result.now ≡ q.word = c.as_slice-in-loop-i.ensures ∙ ap (λ (z : Rule). z.word) (sym c.index-others-i.is) in
+    let wq : c.as_slice-in-loop-i.result.now ≡ q.word = c.as_slice-in-loop-i.ensures ∙ ap
+    (λ (z : Rule). z.word) (sym c.index-others-i.is) in
     let left = i.kept.kept c.args.left.1 c.requires.left.there in
     let right = i.kept.kept c.args.right.1 c.requires.right.there in
     let p = c.requires.places in
@@ -75,7 +79,9 @@ follow_letter-requires-clause-before c h e =
     let place = slice_index_or c.args.places.now c.loop-i.i 0 in
     let at = read_at c.args.places.now c.loop-i.i 0 (let k = p.count in omega arith) in
     let counts : slice_get c.loop-i.counts.items place ≡ Some h = rw c.deref.ensures.value at e in
-    let met = met_before rs os c.args.places.now places (omega arith) c.loop-i.i place r q at there other t s rows marks norms words (parts_pair c.args.table.now.words c.args.left c.args.right)
+    let met = met_before rs os c.args.places.now places
+    (omega arith) c.loop-i.i place r q at there other t s rows marks norms words
+    (parts_pair c.args.table.now.words c.args.left c.args.right)
     c.args.table.now.pairs c.loop-i.table.pairs c.loop-i.counts.items c.loop-i.heads h i.followed counts in
     rw (wr, wq, left, right) met
 
@@ -99,7 +105,8 @@ returns-in_default-clause-lack c =
     let there = got rs c.loop-i.i r lt c.index-rules-i.is in
     let other = got os c.loop-i.i q (omega arith) c.index-others-i.is in
     let wr : c.as_slice.result.now ≡ r.word = c.as_slice.ensures in
-    let wq : c.as_slice-in-loop-i.result.now ≡ q.word = c.as_slice-in-loop-i.ensures ∙ ap (λ (z : Rule). z.word) (sym c.index-others-i.is) in
+    let wq : c.as_slice-in-loop-i.result.now ≡ q.word = c.as_slice-in-loop-i.ensures ∙ ap
+    (λ (z : Rule). z.word) (sym c.index-others-i.is) in
     let left = i.kept.kept c.args.left.1 c.requires.left.there in
     let right = i.kept.kept c.args.right.1 c.requires.right.there in
     let count = i.count in
@@ -108,12 +115,15 @@ returns-in_default-clause-lack c =
     let b = parts_pair c.args.table.now.words c.args.left c.args.right in
     let on = rw c.rules_of-rules.ensures.row at c.rules_of-rules.ensures.ordered in
     let om = rw c.rules_of-others.ensures.row at c.rules_of-others.ensures.ordered in
-    let after = after_at rows b c.args.left.0 c.args.right.0 t s c.loop-i.i r q refl refl on om c.requires.letters (ap (λ (z : List Rule). slice_get z c.loop-i.i) (sym c.rules_of-rules.ensures.row) ∙ there)
+    let after = after_at rows b c.args.left.0 c.args.right.0 t s c.loop-i.i r q refl refl on om c.requires.letters
+    (ap (λ (z : List Rule). slice_get z c.loop-i.i) (sym c.rules_of-rules.ensures.row) ∙ there)
     (ap (λ (z : List Rule). slice_get z c.loop-i.i) (sym c.rules_of-others.ensures.row) ∙ other) in
     let full = rw c.in_default.is at c.in_ok-count.ensures.crowded in
-    let full2 : HaveNoRoom marks norms words (r.word ++ t) (q.word ++ s) c.loop-i.table.pairs c.follow_letter.new.table.pairs (c.args.room - c.loop-i.heads) = rw (wr, wq, left, right) at full in
+    let full2 : HaveNoRoom marks norms words (r.word ++ t) (q.word ++ s) c.loop-i.table.pairs c.follow_letter.new.table.pairs
+    (c.args.room - c.loop-i.heads) = rw (wr, wq, left, right) at full in
     let room = i.room in
-    lack_next rows marks norms words b c.args.table.now.pairs rs os t s c.loop-i.table.pairs c.follow_letter.new.table.pairs c.loop-i.counts.items c.loop-i.heads r q ri qi after i.followed
+    lack_next rows marks norms words b c.args.table.now.pairs rs os t s c.loop-i.table.pairs c.follow_letter.new.table.pairs
+    c.loop-i.counts.items c.loop-i.heads r q ri qi after i.followed
     (c.args.room - c.loop-i.heads) c.args.room c.rules_of-rules.ensures.row full2 (omega arith)
 
 pub loop-i-preserved : goal.loop-i-preserved
@@ -136,7 +146,8 @@ loop-i-preserved c =
     let there = got rs c.loop-i.i r lt c.index-rules-i.is in
     let other = got os c.loop-i.i q (omega arith) c.index-others-i.is in
     let wr : c.as_slice.result.now ≡ r.word = c.as_slice.ensures in
-    let wq : c.as_slice-in-loop-i.result.now ≡ q.word = c.as_slice-in-loop-i.ensures ∙ ap (λ (z : Rule). z.word) (sym c.index-others-i.is) in
+    let wq : c.as_slice-in-loop-i.result.now ≡ q.word = c.as_slice-in-loop-i.ensures ∙ ap
+    (λ (z : Rule). z.word) (sym c.index-others-i.is) in
     let left = i.kept.kept c.args.left.1 c.requires.left.there in
     let right = i.kept.kept c.args.right.1 c.requires.right.there in
     let count = i.count in
@@ -145,19 +156,23 @@ loop-i-preserved c =
     let b = parts_pair c.args.table.now.words c.args.left c.args.right in
     let on = rw c.rules_of-rules.ensures.row at c.rules_of-rules.ensures.ordered in
     let om = rw c.rules_of-others.ensures.row at c.rules_of-others.ensures.ordered in
-    let after = after_at rows b c.args.left.0 c.args.right.0 t s c.loop-i.i r q refl refl on om c.requires.letters (ap (λ (z : List Rule). slice_get z c.loop-i.i) (sym c.rules_of-rules.ensures.row) ∙ there)
+    let after = after_at rows b c.args.left.0 c.args.right.0 t s c.loop-i.i r q refl refl on om c.requires.letters
+    (ap (λ (z : List Rule). slice_get z c.loop-i.i) (sym c.rules_of-rules.ensures.row) ∙ there)
     (ap (λ (z : List Rule). slice_get z c.loop-i.i) (sym c.rules_of-others.ensures.row) ∙ other) in
     let met = rw c.in-Some.is at c.in_ok-count.ensures.met in
-    let met2 : Meet marks norms words (r.word ++ t) (q.word ++ s) c.loop-i.table.pairs c.follow_letter.new.table.pairs c.in-Some.count = rw (wr, wq, left, right) at met in
+    let met2 : Meet marks norms words (r.word ++ t)
+    (q.word ++ s) c.loop-i.table.pairs c.follow_letter.new.table.pairs c.in-Some.count = rw (wr, wq, left, right) at met in
     let room = rw c.in-Some.is at c.in_ok-count.ensures.room in
     let before = i.room in
     let longer = ap length c.in_ok-push.ensures.items in
     let one = length-push c.loop-i.counts.items c.in-Some.count in
     record {
-      kept = keeps_on c.args.table.now.words c.loop-i.table.words c.follow_letter.new.table.words i.kept c.in_ok-count.ensures.kept;
+      kept = keeps_on c.args.table.now.words c.loop-i.table.words c.follow_letter.new.table.words i.kept
+          c.in_ok-count.ensures.kept;
       room = omega arith;
       count = omega arith;
-      followed = rw c.in_ok-push.ensures.items (followed_next rows marks norms words b c.args.table.now.pairs rs os t s c.loop-i.table.pairs c.follow_letter.new.table.pairs c.loop-i.counts.items
+      followed = rw c.in_ok-push.ensures.items (followed_next rows marks norms words b c.args.table.now.pairs rs os t s
+          c.loop-i.table.pairs c.follow_letter.new.table.pairs c.loop-i.counts.items
           c.loop-i.heads r q ri qi after i.followed c.in-Some.count met2);
     }
 
@@ -172,6 +187,8 @@ returns-clause-followed c =
     let end = c.loop-i-test.false in
     let count = i.count in
     let most = c.loop-i.auto.i-end in
-    followed_last rows c.args.m.now.marks.now c.args.m.now.norms.now c.args.m.now.lowering.now (parts_pair c.args.table.now.words c.args.left c.args.right) c.args.table.now.pairs
-    c.rules_of-rules.result.now c.rules_of-others.result.now t s c.args.left.0 c.args.right.0 c.loop-i.table.pairs c.loop-i.counts.items c.loop-i.heads refl c.rules_of-rules.ensures.row
+    followed_last rows c.args.m.now.marks.now c.args.m.now.norms.now c.args.m.now.lowering.now
+    (parts_pair c.args.table.now.words c.args.left c.args.right) c.args.table.now.pairs
+    c.rules_of-rules.result.now c.rules_of-others.result.now t s c.args.left.0 c.args.right.0 c.loop-i.table.pairs
+    c.loop-i.counts.items c.loop-i.heads refl c.rules_of-rules.ensures.row
     c.rules_of-others.ensures.row on om c.requires.letters c.requires.measured.lowering.count (omega arith) i.followed

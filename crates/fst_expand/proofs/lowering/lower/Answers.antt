@@ -24,4 +24,5 @@ returns-clause-lower c = done c
 pub returns-clause-range : goal.returns-clause-range
 returns-clause-range c =
     let R : List ℕ → Type 0 = WordBelow (length c.args.words.now) in
-    subst R (sym (done c)) (lower_below (length c.args.words.now) c.args.words.now (reverse c.args.stack.now.items) c.requires.words c.requires.range)
+    subst R (sym (done c)) (lower_below (length c.args.words.now) c.args.words.now
+    (reverse c.args.stack.now.items) c.requires.words c.requires.range)

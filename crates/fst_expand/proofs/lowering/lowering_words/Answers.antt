@@ -19,9 +19,11 @@ loop-n-preserved c =
     let longer = length-push words word in
     let long = ap length pushed in
     let P : List ℕ → Type 0 = WordBelow (length c.args.g.now.rules.items) in
-    let below : P word = subst P (sym e) (lowering_in_range c.args.g.now.rules.items c.args.norms.now c.loop-n.n c.requires.range (omega arith)) in
+    let below : P word = subst P (sym e) (lowering_in_range c.args.g.now.rules.items c.args.norms.now c.loop-n.n c.requires.range
+    (omega arith)) in
     record {
       count = omega arith;
-      each = λ k lt. ap (λ (z : List (List ℕ)). lowered_to z k) pushed ∙ lowered_push words word f c.loop-n.n count i.each e k (omega arith);
+      each = λ k lt. ap (λ (z : List (List ℕ)). lowered_to z k) pushed
+          ∙ lowered_push words word f c.loop-n.n count i.each e k (omega arith);
       range = subst (All P) (sym pushed) (All-append P words (word ∷ []) i.range (All-cons P word [] below (All-nil P)));
     }

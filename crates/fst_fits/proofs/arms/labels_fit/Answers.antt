@@ -7,7 +7,8 @@ use Rattle.fst_fits.proofs.arms.labels_fit.Goals as goal
 
 pub returns-then-not-has_any : goal.returns-then-not-has_any
 returns-then-not-has_any c =
-    offers_none (labels c.args.ty.now) (arm_labels (core_arms_of c.args.arms.now)) (sym c.in_ok-moves.ensures.items ∙ sym c.deref.ensures.value ∙ c.has_any.ensures.none c.if-not-has_any.true)
+    offers_none (labels c.args.ty.now) (arm_labels (core_arms_of c.args.arms.now))
+    (sym c.in_ok-moves.ensures.items ∙ sym c.deref.ensures.value ∙ c.has_any.ensures.none c.if-not-has_any.true)
 
 pub returns : goal.returns
 returns c =

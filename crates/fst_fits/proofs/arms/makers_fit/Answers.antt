@@ -7,4 +7,5 @@ use Rattle.fst_fits.proofs.arms.makers_fit.Goals as goal
 pub returns : goal.returns
 returns c =
     c.is_some.ensures
-    ∙ once_answer (is_some c.in_ok-numbers.numbers) (map (λ o. o.name) c.args.makers.now) (arm_labels (core_arms_of c.args.arms.now)) c.in_ok-numbers.ensures.each_once
+    ∙ once_answer (is_some c.in_ok-numbers.numbers) (map (λ o. o.name) c.args.makers.now)
+    (arm_labels (core_arms_of c.args.arms.now)) c.in_ok-numbers.ensures.each_once

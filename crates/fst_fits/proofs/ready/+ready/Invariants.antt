@@ -5,7 +5,8 @@ use Rattle.fst_fits.specs.Tests.{are_ready}
 use Rattle.fst_fits.proofs.ready.+ready.Given as goal
 
 abbrev pub invariant-are_ready-loop-branch : goal.invariant-are_ready-loop-branch
-invariant-are_ready-loop-branch l = are_ready l.n (branches_of (drop l.branch-index l.branches)) ≡ are_ready l.n (branches_of l.branches)
+invariant-are_ready-loop-branch l = are_ready l.n (branches_of (drop l.branch-index l.branches)) ≡ are_ready l.n
+    (branches_of l.branches)
 
 abbrev pub decreases-is_ready : goal.decreases-is_ready
 decreases-is_ready l = 2 * height l.t.now

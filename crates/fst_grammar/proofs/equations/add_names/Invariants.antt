@@ -6,4 +6,6 @@ use Rattle.fst_grammar.proofs.equations.add_names.Given as goal
 
 abbrev pub invariant-loop-name : goal.invariant-loop-name
 invariant-loop-name l =
-    map equation_of l.equations.items ++ map (λ a. own (name_rules l.table.letters.items a)) (drop l.name-index l.table.names.items) ≡ map equation_of l.initial.equations.items ++ map (λ a. own (name_rules l.table.letters.items a)) l.table.names.items
+    map equation_of l.equations.items ++ map (λ a. own (name_rules l.table.letters.items a))
+    (drop l.name-index l.table.names.items) ≡ map equation_of l.initial.equations.items ++ map
+    (λ a. own (name_rules l.table.letters.items a)) l.table.names.items

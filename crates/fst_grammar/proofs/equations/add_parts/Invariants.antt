@@ -6,4 +6,6 @@ use Rattle.fst_grammar.proofs.equations.add_parts.Given as goal
 
 abbrev pub invariant-loop-part : goal.invariant-loop-part
 invariant-loop-part l =
-    map equation_of l.equations.items ++ map (part_equation (numbers_in l.table) l.table.letters.items) (map part_of (drop l.part-index l.table.parts.found.items)) ≡ map equation_of l.initial.equations.items ++ map (part_equation (numbers_in l.table) l.table.letters.items) (map part_of l.table.parts.found.items)
+    map equation_of l.equations.items ++ map (part_equation (numbers_in l.table) l.table.letters.items)
+    (map part_of (drop l.part-index l.table.parts.found.items)) ≡ map equation_of l.initial.equations.items ++ map
+    (part_equation (numbers_in l.table) l.table.letters.items) (map part_of l.table.parts.found.items)

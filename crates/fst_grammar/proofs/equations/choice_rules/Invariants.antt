@@ -12,5 +12,8 @@ abbrev pub invariant-loop-branch : goal.invariant-loop-branch
 invariant-loop-branch l = record {
   fits : l.place + nodes_all (branches_of (drop l.branch-index l.branches)) < 2 ^ 31;
   part : Stands l.table.trees l.list (shape_of_all (branches_of (drop l.branch-index l.branches)));
-  rest : l.rules.items ++ branch_rules (numbers_in l.table) l.table.letters.items (branch_label l.offers) (place_in l.whole.ty.now l.place l.binders) (branches_of (drop l.branch-index l.branches)) ≡ branch_rules (numbers_in l.table) l.table.letters.items (branch_label l.offers) (place_in l.whole.ty.now l.at l.binders) (branches_of l.branches);
+  rest : l.rules.items ++ branch_rules (numbers_in l.table) l.table.letters.items (branch_label l.offers)
+      (place_in l.whole.ty.now l.place l.binders) (branches_of (drop l.branch-index l.branches)) ≡ branch_rules
+      (numbers_in l.table) l.table.letters.items (branch_label l.offers) (place_in l.whole.ty.now l.at l.binders)
+      (branches_of l.branches);
 }

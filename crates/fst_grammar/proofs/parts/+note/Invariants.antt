@@ -26,5 +26,8 @@ invariant-note_branches-loop-branch l = record {
   fits : l.place + nodes_all (branches_of (drop l.branch-index l.branches)) < 2 ^ 31;
   part : Stands l.trees l.list (shape_of_all (branches_of (drop l.branch-index l.branches)));
   kept : IsKept l.trees l.parts;
-  rest : with_parts (map part_of l.parts.found.items) (parts_all (place_in l.whole.ty.now l.place (places_of l.binders)) (branches_of (drop l.branch-index l.branches))) ≡ with_parts (map part_of l.initial.parts.found.items) (parts_all (place_in l.whole.ty.now l.at (places_of l.binders)) (branches_of l.branches));
+  rest : with_parts (map part_of l.parts.found.items)
+      (parts_all (place_in l.whole.ty.now l.place (places_of l.binders)) (branches_of (drop l.branch-index l.branches)))
+      ≡ with_parts (map part_of l.initial.parts.found.items)
+      (parts_all (place_in l.whole.ty.now l.at (places_of l.binders)) (branches_of l.branches));
 }

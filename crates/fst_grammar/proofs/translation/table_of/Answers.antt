@@ -17,14 +17,18 @@ returns-clause-table c =
     let r = c.args.r.now in
     let letters = c.in_ok-letters.letters.items in
     let parts = c.in_ok-parts.parts.found.items in
-    let found : map part_of parts ≡ parts_of s r = c.in_ok-parts.ensures.parts ∙ (λ i. parts_of (c.in_ok-trees.ensures.left i) (c.in_ok-trees.ensures.right i)) in
-    let small = table_small s r letters (map part_of parts) c.requires.left c.requires.right c.in_ok-letters.ensures.letters found in
+    let found : map part_of parts ≡ parts_of s r = c.in_ok-parts.ensures.parts
+    ∙ (λ i. parts_of (c.in_ok-trees.ensures.left i) (c.in_ok-trees.ensures.right i)) in
+    let small = table_small s r letters (map part_of parts) c.requires.left c.requires.right c.in_ok-letters.ensures.letters
+    found in
     let same : c.in_ok-names.names.items ≡ names letters = c.in_ok-names.ensures ∙ ap names c.deref.ensures.value in
     let few : length c.in_ok-names.names.items ≡ length (names letters) = ap length same in
     let many = length-map parts part_of in
     let rising : IsRising label_cmp letters = c.in_ok-letters.ensures.rising in
-    let left : nodes c.in_ok-trees.left.ty.now ≤ most_nodes = subst (λ t. nodes t ≤ most_nodes) (sym c.in_ok-trees.ensures.left) c.requires.left in
-    let right : nodes c.in_ok-trees.right.ty.now ≤ most_nodes = subst (λ t. nodes t ≤ most_nodes) (sym c.in_ok-trees.ensures.right) c.requires.right in
+    let left : nodes c.in_ok-trees.left.ty.now ≤ most_nodes = subst
+    (λ t. nodes t ≤ most_nodes) (sym c.in_ok-trees.ensures.left) c.requires.left in
+    let right : nodes c.in_ok-trees.right.ty.now ≤ most_nodes = subst
+    (λ t. nodes t ≤ most_nodes) (sym c.in_ok-trees.ensures.right) c.requires.right in
     record {
       table = record {
         names_are = same;

@@ -8,7 +8,12 @@ use Rattle.fst_lexer.proofs.lexing.lex.Goals as goal
 pub lex_placed-requires : goal.lex_placed-requires
 lex_placed-requires c =
     let same = c.in-Ok.ensures.cases.0 in
-    omega (arith, ap length (c.deref.ensures.value ∙ c.in_ok-placed-in-Ok.ensures), few_places c.in-Ok.text.now (subst IsUtf8 (sym same) c.in-Ok.ensures.cases.1), ap length same)
+    omega (
+      arith,
+      ap length (c.deref.ensures.value ∙ c.in_ok-placed-in-Ok.ensures),
+      few_places c.in-Ok.text.now (subst IsUtf8 (sym same) c.in-Ok.ensures.cases.1),
+      ap length same,
+    )
 
 pub returns-in_ok-placed-in-Ok-clause-spans : goal.returns-in_ok-placed-in-Ok-clause-spans
 returns-in_ok-placed-in-Ok-clause-spans c = ok_spans c.args.bytes.now c.lex_placed.result (search rules)

@@ -5,4 +5,5 @@ use Rattle.fst_lexer.proofs.placing.places.Given as goal
 
 abbrev pub invariant-loop-c : goal.invariant-loop-c
 invariant-loop-c l =
-    (l.placed.items ++ place_all l.at (drop (length l.yielded) (chars l.text)) ≡ place_all 0 (chars l.text)) × (l.at ≤ 4 * length l.yielded)
+    (l.placed.items ++ place_all l.at (drop (length l.yielded) (chars l.text)) ≡ place_all 0 (chars l.text)) ×
+    (l.at ≤ 4 * length l.yielded)

@@ -6,7 +6,8 @@ use Rattle.fst_lts.proofs.depth.+agree.Given as goal
 
 abbrev pub invariant-agree_after_all-loop-label : goal.invariant-agree_after_all-loop-label
 invariant-agree_after_all-loop-label l =
-    (k : ℕ) (d : Label) → k < l.label-index → BothOrNeither (AgreeTo step step l.depth) (step l.s (get_or l.labels k d)) (step l.r (get_or l.labels k d))
+    (k : ℕ) (d : Label) → k < l.label-index → BothOrNeither (AgreeTo step step l.depth) (step l.s (get_or l.labels k d))
+    (step l.r (get_or l.labels k d))
 
 abbrev pub decreases-agree_within : goal.decreases-agree_within
 decreases-agree_within l = 4 * l.depth

@@ -5,4 +5,5 @@ use Rattle.fst_lts.specs.Step.{choice_labels}
 use Rattle.fst_lts.proofs.moves.offer_labels.Given as goal
 
 abbrev pub invariant-loop-branch : goal.invariant-loop-branch
-invariant-loop-branch l = l.found.items ++ choice_labels Offer (branches_of (drop l.branch-index l.branches)) ≡ choice_labels Offer (branches_of l.branches)
+invariant-loop-branch l = l.found.items ++ choice_labels Offer
+    (branches_of (drop l.branch-index l.branches)) ≡ choice_labels Offer (branches_of l.branches)

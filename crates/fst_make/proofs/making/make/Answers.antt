@@ -4,4 +4,5 @@ use Rattle.fst_make.proofs.making.make.Goals as goal
 
 pub loop-i-preserved : goal.loop-i-preserved
 loop-i-preserved c =
-    one_more c.args.n c.loop-i.i (string_bytes c.loop-i.text) (string_bytes c.push_channel_lines.new.text) c.loop-i-test.true c.in_ok-push_channel_lines.ensures c.loop-i.invariant
+    one_more c.args.n c.loop-i.i (string_bytes c.loop-i.text)
+    (string_bytes c.push_channel_lines.new.text) c.loop-i-test.true c.in_ok-push_channel_lines.ensures c.loop-i.invariant

@@ -5,4 +5,5 @@ use Rattle.fst_make.specs.Made.{channel_lines, main_lines}
 use Rattle.fst_make.proofs.making.make.Given as goal
 
 abbrev pub invariant-loop-i : goal.invariant-loop-i
-invariant-loop-i l = string_bytes l.text ++ flat_map channel_lines (range_with_len l.i (l.last - l.i)) ≡ main_lines ++ flat_map channel_lines (range_with_len 1 l.n)
+invariant-loop-i l = string_bytes l.text ++ flat_map channel_lines
+    (range_with_len l.i (l.last - l.i)) ≡ main_lines ++ flat_map channel_lines (range_with_len 1 l.n)

@@ -9,4 +9,5 @@ abbrev pub invariant-loop : goal.invariant-loop
 invariant-loop l =
     let sign = spells (codes "@") in
     let argument = andthen (word (codes "@")) (λ k. type_atom_with (expr_at l.left ∷ inside l.left)) in
-    (with_front l.arguments.items (many_within sign argument (l.end - l.counter) l.rest) ≡ many_within sign argument (length l.tokens) l.tokens) × (l.end ≡ length l.tokens)
+    (with_front l.arguments.items (many_within sign argument (l.end - l.counter) l.rest) ≡ many_within sign argument
+    (length l.tokens) l.tokens) × (l.end ≡ length l.tokens)

@@ -28,7 +28,8 @@ returns-in_err-field c =
 pub loop-preserved : goal.loop-preserved
 loop-preserved c =
     let atom = atom_with (seq_at c.args.left) (type_at c.args.left) in
-    let next = goes_on starts_type_atom atom c.loop.fields.items (length c.args.tokens.now) c.loop.counter c.loop.rest.now _ c.in_ok-field.field c.in_ok-field.remaining.now
+    let next = goes_on starts_type_atom atom c.loop.fields.items
+    (length c.args.tokens.now) c.loop.counter c.loop.rest.now _ c.in_ok-field.field c.in_ok-field.remaining.now
     c.loop-test.true (sym c.comes_type.ensures ∙ c.if-not-comes_type.false) c.in_ok-field.ensures c.loop.invariant.0 in
     (rw (c.in_ok-push.ensures.items, c.identity-rest.ensures) next, refl)
 
@@ -36,4 +37,5 @@ pub returns : goal.returns
 unfolding fields_at
 returns c =
     let atom = atom_with (seq_at c.args.left) (type_at c.args.left) in
-    runs_out starts_type_atom atom c.loop.fields.items (length c.args.tokens.now) c.loop.counter c.loop.rest.now _ c.loop-test.false c.loop.invariant.0
+    runs_out starts_type_atom atom c.loop.fields.items
+    (length c.args.tokens.now) c.loop.counter c.loop.rest.now _ c.loop-test.false c.loop.invariant.0

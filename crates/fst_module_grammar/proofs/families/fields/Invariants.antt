@@ -7,4 +7,5 @@ use Rattle.fst_module_grammar.proofs.families.fields.Given as goal
 abbrev pub invariant-loop : goal.invariant-loop
 invariant-loop l =
     let atom = atom_with (seq_at l.left) (type_at l.left) in
-    (with_front l.fields.items (many_within starts_type_atom atom (l.end - l.counter) l.rest) ≡ many_within starts_type_atom atom (length l.tokens) l.tokens) × (l.end ≡ length l.tokens)
+    (with_front l.fields.items (many_within starts_type_atom atom (l.end - l.counter) l.rest) ≡ many_within starts_type_atom atom
+    (length l.tokens) l.tokens) × (l.end ≡ length l.tokens)

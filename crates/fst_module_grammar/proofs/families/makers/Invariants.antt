@@ -9,4 +9,5 @@ use Rattle.fst_module_grammar.proofs.families.makers.Given as goal
 abbrev pub invariant-loop : goal.invariant-loop
 invariant-loop l =
     let read = sep_by_within (spells (codes "|")) (maker_at l.left) in
-    (with_front (map maker l.makers.items) (read (l.end - l.counter) l.rest) ≡ read (length l.tokens) l.tokens) × (l.end ≡ length l.tokens)
+    (with_front (map maker l.makers.items) (read (l.end - l.counter) l.rest) ≡ read (length l.tokens) l.tokens) ×
+    (l.end ≡ length l.tokens)

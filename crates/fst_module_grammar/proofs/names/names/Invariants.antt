@@ -9,4 +9,5 @@ use Rattle.fst_module_grammar.proofs.names.names.Given as goal
 abbrev pub invariant-loop : goal.invariant-loop
 invariant-loop l =
     let name = map_reader bound (one lower_of) in
-    (with_front l.names.items (many_within is_lower name (l.end - l.counter) l.rest) ≡ many_within is_lower name (length l.tokens) l.tokens) × (l.end ≡ length l.tokens)
+    (with_front l.names.items (many_within is_lower name (l.end - l.counter) l.rest) ≡ many_within is_lower name
+    (length l.tokens) l.tokens) × (l.end ≡ length l.tokens)

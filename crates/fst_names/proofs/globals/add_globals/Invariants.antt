@@ -8,4 +8,5 @@ abbrev pub ghost-add_global : goal.ghost-add_global
 ghost-add_global g a = g.ds
 
 abbrev pub invariant-loop-part : goal.invariant-loop-part
-invariant-loop-part g l = AreAdded g.ds (known_in l.declarations) (take (length l.yielded) (equations_from 0 g.ds)) l.initial.list l.globals.items l.list
+invariant-loop-part g l = AreAdded g.ds (known_in l.declarations)
+    (take (length l.yielded) (equations_from 0 g.ds)) l.initial.list l.globals.items l.list

@@ -24,4 +24,5 @@ returns g c =
     let d = c.args.declarations.now in
     let p = c.in_ok-list.field-0 in
     let parts = subst (λ z. AreParts z (known_in d) z p) c.requires.0 c.in_ok-list.ensures in
-    is_resolved g.ds (known_in d) _ (built g.ds d p c.in_ok-globals.globals.items c.add_globals.new.list c.requires.1.0 parts c.in_ok-globals.ensures.globals c.in_ok-globals.ensures.list)
+    is_resolved g.ds (known_in d) _ (built g.ds d p c.in_ok-globals.globals.items c.add_globals.new.list c.requires.1.0 parts
+    c.in_ok-globals.ensures.globals c.in_ok-globals.ensures.list)

@@ -14,4 +14,5 @@ pub returns : goal.returns
 returns g c = λ es are.
     let known = known_in c.args.declarations.now in
     parts_added g.ds known es (alias c.args.binder.now c.args.w.now) c.args.parts.now _ are
-    (alias_added g.ds known c.args.binder.now c.args.w.now _ c.args.parts.now _ c.args.declarations.now.none c.in_ok-add_type.ensures refl refl refl)
+    (alias_added g.ds known c.args.binder.now c.args.w.now _ c.args.parts.now _ c.args.declarations.now.none
+    c.in_ok-add_type.ensures refl refl refl)

@@ -11,7 +11,8 @@ use Rattle.fst_names.proofs.parts.add_equation.Goals as goal
 pub core_body-requires : goal.core_body-requires
 core_body-requires g c = record {
   faultless = body_sound g.ds c.args.declarations.now c.requires.0 c.args.binder.now c.args.parameters.now c.args.body.now _
-      (record { globals = refl; makers = refl; vars = c.variables_for-vars.ensures; types = refl; aliases = refl }) c.requires.1.1;
+      (record { globals = refl; makers = refl; vars = c.variables_for-vars.ensures; types = refl; aliases = refl })
+      c.requires.1.1;
 }
 
 pub returns : goal.returns
@@ -22,10 +23,12 @@ returns g c = λ es are.
     let t = c.args.body.now in
     let old = c.args.parts.now in
     parts_added g.ds (known_in d) es (equation x ps t) old _ are (equation_added g.ds (known_in d) x ps t _ old _
-    (body_longer g.ds d c.requires.0 x.name (written_in t) old.list c.core_body.new.types _ c.in_ok-body.ensures.types c.in_ok-body.ensures.places
+    (body_longer g.ds d c.requires.0 x.name (written_in t) old.list c.core_body.new.types _ c.in_ok-body.ensures.types
+    c.in_ok-body.ensures.places
     (record { globals = refl; makers = refl; vars = c.variables_for-vars.ensures; types = refl; aliases = refl }))
     refl refl
-    (c.in_ok-body-2.ensures.ok ∙ body_term g.ds d c.requires.0 x.name (within ps []) _ t _ c.in_ok-body.body c.in_ok-body.ensures.term
+    (c.in_ok-body-2.ensures.ok ∙ body_term g.ds d c.requires.0 x.name
+    (within ps []) _ t _ c.in_ok-body.body c.in_ok-body.ensures.term
     (record { globals = refl; makers = refl; vars = c.variables_for-vars.ensures; types = refl; aliases = refl }))
     refl refl c.in_ok-push.ensures.items)
 

@@ -5,5 +5,6 @@ use Rattle.fst_names.proofs.question.note_types.Goals as goal
 
 pub returns : goal.returns
 returns c =
-    types_noted (question_tree c.args.q.now) c.args.vars c.args.types c.args.least.now c.note_type.new.least c.note_type-2.new.least c.requires.variables c.requires.types
+    types_noted (question_tree c.args.q.now) c.args.vars c.args.types c.args.least.now c.note_type.new.least
+    c.note_type-2.new.least c.requires.variables c.requires.types
     (c.in_ok-note_type.ensures [] refl) (c.in_ok-note_type-2.ensures [] refl)

@@ -11,11 +11,13 @@ returns-in-Some-clause-fault c =
 pub resolved-requires-clause-faultless : goal.resolved-requires-clause-faultless
 resolved-requires-clause-faultless c =
     let twice = rw c.deref.ensures.value at c.in_ok-vars.ensures.twice in
-    question_none (question_tree c.args.q.now) _ (question_first (question_tree c.args.q.now) _ _ twice c.in_ok-note_types.ensures) c.in_default.is
+    question_none (question_tree c.args.q.now) _ (question_first
+    (question_tree c.args.q.now) _ _ twice c.in_ok-note_types.ensures) c.in_default.is
 
 pub resolved-requires-clause-variables : goal.resolved-requires-clause-variables
 resolved-requires-clause-variables c =
     let are = rw c.deref.ensures.value at c.in_ok-vars.ensures.names in
     let twice = rw c.deref.ensures.value at c.in_ok-vars.ensures.twice in
-    let none = question_none (question_tree c.args.q.now) _ (question_first (question_tree c.args.q.now) _ _ twice c.in_ok-note_types.ensures) c.in_default.is in
+    let none = question_none (question_tree c.args.q.now) _
+    (question_first (question_tree c.args.q.now) _ _ twice c.in_ok-note_types.ensures) c.in_default.is in
     are.own (no_twice (question_tree c.args.q.now) none)

@@ -6,5 +6,7 @@ use Rattle.fst_norms.proofs.estimate.add_pending.Goals as goal
 
 pub loop-rule-preserved : goal.loop-rule-preserved
 loop-rule-preserved c = λ rows within row all.
-    let here : c.loop-rule.rule < length (row_of rows c.args.number) = subst (λ l. c.loop-rule.rule < length l) (sym row) (omega arith) in
-    rw c.in_ok-push.ensures.items (All-push (IsPending rows) _ _ (c.loop-rule.invariant rows within row all) (record { number = within; rule = here }))
+    let here : c.loop-rule.rule < length (row_of rows c.args.number) = subst
+    (λ l. c.loop-rule.rule < length l) (sym row) (omega arith) in
+    rw c.in_ok-push.ensures.items (All-push (IsPending rows) _ _ (c.loop-rule.invariant rows within row all)
+    (record { number = within; rule = here }))

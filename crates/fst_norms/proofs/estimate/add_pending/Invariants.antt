@@ -6,4 +6,5 @@ use Rattle.fst_norms.proofs.estimate.add_pending.Given as goal
 
 abbrev pub invariant-loop-rule : goal.invariant-loop-rule
 invariant-loop-rule l =
-    (rows : Productions) → l.number < length rows → row_of rows l.number ≡ l.rules → All (IsPending rows) l.initial.pending.items → All (IsPending rows) l.pending.items
+    (rows : Productions) → l.number < length rows → row_of rows l.number ≡ l.rules →
+    All (IsPending rows) l.initial.pending.items → All (IsPending rows) l.pending.items

@@ -10,5 +10,6 @@ returns-in_default t c =
 
 pub returns-in-None : goal.returns-in-None
 returns-in-None t c =
-    gives_so (map string_bytes c.args.words.now) c.args.given c.in-Some.setting c.in-Some.n (map string_bytes c.in-Some.rest.now) c.give.result c.values.result c.in-Some.ensures
+    gives_so (map string_bytes c.args.words.now) c.args.given c.in-Some.setting c.in-Some.n
+    (map string_bytes c.in-Some.rest.now) c.give.result c.values.result c.in-Some.ensures
     (sym c.value.ensures ∙ c.in-None.is) c.give.ensures c.values.ensures

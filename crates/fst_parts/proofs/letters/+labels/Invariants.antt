@@ -17,5 +17,6 @@ decreases-add_branches l = 2 * height_all (branches_of l.branches.now) + 1
 abbrev pub invariant-add_branches-loop-branch : goal.invariant-add_branches-loop-branch
 invariant-add_branches-loop-branch l = record {
   rising : IsRising label_cmp l.letters.items;
-  rest : with_labels l.letters.items (branch_labels (branch_label l.offers) (branches_of (drop l.branch-index l.branches))) ≡ with_labels l.initial.letters.items (branch_labels (branch_label l.offers) (branches_of l.branches));
+  rest : with_labels l.letters.items (branch_labels (branch_label l.offers) (branches_of (drop l.branch-index l.branches)))
+      ≡ with_labels l.initial.letters.items (branch_labels (branch_label l.offers) (branches_of l.branches));
 }

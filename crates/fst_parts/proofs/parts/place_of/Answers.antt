@@ -4,4 +4,5 @@ use Rattle.fst_parts.proofs.parts.place_of.Goals as goal
 
 pub returns-clause-within : goal.returns-clause-within
 returns-clause-within c =
-    subst (λ n. n ≤ length c.args.parts.now.found.items) (sym c.place_of.ensures) (place_fits c.args.trees.now c.args.parts.now (c.args.whole.number ∷ c.args.at ∷ []) c.requires.kept)
+    subst (λ n. n ≤ length c.args.parts.now.found.items) (sym c.place_of.ensures)
+    (place_fits c.args.trees.now c.args.parts.now (c.args.whole.number ∷ c.args.at ∷ []) c.requires.kept)

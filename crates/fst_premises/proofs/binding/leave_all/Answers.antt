@@ -13,8 +13,11 @@ leave-requires c =
 
 pub loop-k-preserved : goal.loop-k-preserved
 loop-k-preserved c = record {
-  left = c.leave.ensures.after ∙ ap left c.loop-k.invariant.left ∙ left_commutes c.loop-k.k c.args.context.now ∙ left_more c.loop-k.k c.args.context.now;
-  last = subst (IsLastThere (c.loop-k.k + 1) c.args.context.now) (sym c.noted-unused.ensures) (last_more c.loop-k.k c.args.context.now c.loop-k.context c.loop-k.unused c.leave.result c.loop-k.invariant.last c.loop-k.invariant.left c.leave.ensures.found);
+  left = c.leave.ensures.after ∙ ap left c.loop-k.invariant.left ∙ left_commutes c.loop-k.k c.args.context.now
+      ∙ left_more c.loop-k.k c.args.context.now;
+  last = subst (IsLastThere (c.loop-k.k + 1) c.args.context.now) (sym c.noted-unused.ensures)
+      (last_more c.loop-k.k c.args.context.now c.loop-k.context c.loop-k.unused c.leave.result c.loop-k.invariant.last
+      c.loop-k.invariant.left c.leave.ensures.found);
 }
 
 pub returns-in_ok-copy-in-Some-clause-refused : goal.returns-in_ok-copy-in-Some-clause-refused
@@ -22,6 +25,8 @@ returns-in_ok-copy-in-Some-clause-refused c =
     let xs = c.args.binders.now in
     let x = c.index-binders-binders.result in
     let done : c.loop-k.k ≡ length xs = omega (arith, c.loop-k-test.false, c.loop-k.auto.k-end) in
-    let last = subst (λ u. IsLastThere (length xs) c.args.context.now u) c.in-Some.is (subst (λ n. IsLastThere n c.args.context.now c.loop-k.unused) done c.loop-k.invariant.last) in
+    let last = subst (λ u. IsLastThere (length xs) c.args.context.now u) c.in-Some.is
+    (subst (λ n. IsLastThere n c.args.context.now c.loop-k.unused) done c.loop-k.invariant.last) in
     λ m. shows_unused c.args.context.now xs c.in-Some.k x last _
-    (λ i. Unused (c.index-binders-binders.is i).at ((c.in_ok-copy-in-Some.ensures ∙ ap (λ (b : Binder). b.name) c.index-binders-binders.is) i))
+    (λ i. Unused (c.index-binders-binders.is i).at
+    ((c.in_ok-copy-in-Some.ensures ∙ ap (λ (b : Binder). b.name) c.index-binders-binders.is) i))

@@ -19,7 +19,8 @@ returns-in_err-pair_of-clause-refused c =
       c.type_at-left.ensures,
       inr (
         subst (λ t. IsSession [] t) same (session_below k.0 c.in_ok-kind.kind k.2 below),
-        subst (λ o. IsTooLargeAt c.args.at (type.pair c.type_at-left.result.now o) c.in_err-pair_of.field-0.0) c.in_ok-right.ensures (c.in_err-pair_of.ensures.err m),
+        subst (λ o. IsTooLargeAt c.args.at (type.pair c.type_at-left.result.now o) c.in_err-pair_of.field-0.0)
+            c.in_ok-right.ensures (c.in_err-pair_of.ensures.err m),
       ),
     ))
 
@@ -28,5 +29,8 @@ returns-clause-typed c =
     let k = c.in_ok-kind.ensures in
     let same = same_Some k.0 c.type_at-left.result.now (sym k.1 ∙ c.type_at-left.ensures) in
     let below = sym c.subkind.ensures ∙ c.if-not-subkind.false in
-    channel_typed (check_in c.args.scene) c.args.at c.args.k c.args.context.now _ c.in_ok-pair_of.field-0 c.type_at-left.result.now c.type_at-left.ensures (subst (λ t. IsSession [] t) same (session_below k.0 c.in_ok-kind.kind k.2 below))
-    (c.in_ok-pair_of.ensures.ok ∙ ap (λ o. type.pair c.type_at-left.result.now o) c.in_ok-right.ensures) c.in_ok-pair_of.ensures.small c.leaf.ensures
+    channel_typed (check_in c.args.scene) c.args.at c.args.k c.args.context.now _ c.in_ok-pair_of.field-0
+    c.type_at-left.result.now c.type_at-left.ensures
+    (subst (λ t. IsSession [] t) same (session_below k.0 c.in_ok-kind.kind k.2 below))
+    (c.in_ok-pair_of.ensures.ok ∙ ap (λ o. type.pair c.type_at-left.result.now o) c.in_ok-right.ensures)
+    c.in_ok-pair_of.ensures.small c.leaf.ensures

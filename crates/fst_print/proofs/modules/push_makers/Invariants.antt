@@ -7,4 +7,6 @@ use Rattle.fst_terms.specs.ModuleTree.{maker}
 use Rattle.fst_print.proofs.modules.push_makers.Given as goal
 
 abbrev pub invariant-loop-constructor : goal.invariant-loop-constructor
-invariant-loop-constructor l = string_bytes l.text ++ separated_text (codes " | ") (map maker_text (map maker (drop l.constructor-index l.others))) ≡ string_bytes l.initial.text ++ separated_text (codes " | ") (map maker_text (map maker l.others))
+invariant-loop-constructor l = string_bytes l.text ++ separated_text (codes " | ")
+    (map maker_text (map maker (drop l.constructor-index l.others))) ≡ string_bytes l.initial.text ++ separated_text (codes " | ")
+    (map maker_text (map maker l.others))

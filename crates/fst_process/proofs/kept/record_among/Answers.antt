@@ -14,7 +14,8 @@ overflow_add-stamp c =
     let js = c.args.channels.now.items in
     let x = c.index_mut-channel.result.now in
     let one : suc (c.args.number - 1) ≡ c.args.number = omega arith in
-    let there = subst (λ n. numbered js n ≡ Some (channel_of x)) one (numbered_there js (c.args.number - 1) x (omega arith) c.index_mut-channel.ensures.value) in
+    let there = subst (λ n. numbered js n ≡ Some (channel_of x)) one
+    (numbered_there js (c.args.number - 1) x (omega arith) c.index_mut-channel.ensures.value) in
     let few : last_stamp x.entries.items < 4294967296 = c.requires.stamps (channel_of x) there in
     let is : c.last_stamp.result ≡ last_stamp x.entries.items = c.last_stamp.ensures ∙ ap last_stamp c.deref.ensures.value in
     omega (arith, few, is, c.max.ensures, c.max-stamp.ensures)
@@ -24,7 +25,8 @@ returns-clause-stamp c = λ j e.
     let js = c.args.channels.now.items in
     let x = c.index_mut-channel.result.now in
     let one : suc (c.args.number - 1) ≡ c.args.number = omega arith in
-    let there = subst (λ n. numbered js n ≡ Some (channel_of x)) one (numbered_there js (c.args.number - 1) x (omega arith) c.index_mut-channel.ensures.value) in
+    let there = subst (λ n. numbered js n ≡ Some (channel_of x)) one
+    (numbered_there js (c.args.number - 1) x (omega arith) c.index_mut-channel.ensures.value) in
     let same : channel_of x ≡ j = some_same (sym there ∙ e) in
     let is = c.last_stamp.ensures ∙ ap last_stamp c.deref.ensures.value ∙ ap (λ (z : Channel). last_stamp z.history) same in
     one_more c.max-stamp.result _ (c.max-stamp.ensures ∙ (λ i. max (c.max.ensures i) (is i)))
@@ -36,4 +38,5 @@ returns-clause-passed c =
     let one : suc (c.args.number - 1) ≡ c.args.number = omega arith in
     let entry : Entry = record { event = c.args.event; stamp = c.max-stamp.result + 1; sent = c.args.sent; got = c.args.got } in
     subst (λ n. IsChangedAt n (passed entry) js (slice_set js (c.args.number - 1) c.pass.new.channel)) one
-    (set_changed js (c.args.number - 1) (passed entry) x c.pass.new.channel (omega arith) c.index_mut-channel.ensures.value c.in_ok-pass.ensures)
+    (set_changed js (c.args.number - 1) (passed entry) x c.pass.new.channel
+    (omega arith) c.index_mut-channel.ensures.value c.in_ok-pass.ensures)

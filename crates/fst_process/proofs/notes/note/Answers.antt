@@ -16,10 +16,12 @@ returns-in_ok-wake-in-New c =
     let js = c.args.channels.now.entries in
     let p = c.args.path.now in
     let old = kept_besides js c.args.ready.now.keys in
-    c.in_ok-wake-in-New.ensures js ∙ ap (λ b. able b p old) (sym (below c.in-New.number c.args.types c.if-number-types.true)) ∙ ap (λ r. noted c.args.types p r old) (sym c.in-New.is)
+    c.in_ok-wake-in-New.ensures js ∙ ap (λ b. able b p old) (sym (below c.in-New.number c.args.types c.if-number-types.true)) ∙ ap
+    (λ r. noted c.args.types p r old) (sym c.in-New.is)
 
 pub returns-in-Fork : goal.returns-in-Fork
 returns-in-Fork c =
     let js = c.args.channels.now.entries in
     let old = kept_besides js c.args.ready.now.keys in
-    on_ok_weaker c.wake-in-Fork.result (λ e. e js ∙ ap (λ r. noted c.args.types c.args.path.now r old) (sym c.in-Fork.is)) c.wake-in-Fork.ensures
+    on_ok_weaker c.wake-in-Fork.result (λ e. e js ∙ ap (λ r. noted c.args.types c.args.path.now r old) (sym c.in-Fork.is))
+    c.wake-in-Fork.ensures

@@ -21,5 +21,6 @@ returns c =
     let ready =
     ready_after c.as_slice.result.now ks c.remove.new.self.keys false off.1 off.3
     ∙ ap (λ q. put_at q false old.ready) c.as_slice.ensures in
-    let rest : kept_besides js c.remove.new.self.keys ≡ unable p old = λ i. record { tasks = old.tasks; channels = old.channels; made = old.made; ready = ready i } in
+    let rest : kept_besides js c.remove.new.self.keys ≡ unable p old =
+    λ i. record { tasks = old.tasks; channels = old.channels; made = old.made; ready = ready i } in
     on_ok_weaker c.note.result (λ e. e ∙ ap (noted c.args.types p c.args.request.now) rest) c.note.ensures

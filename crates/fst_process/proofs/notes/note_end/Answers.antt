@@ -14,7 +14,8 @@ returns-in_ok-wake-in-Some c =
     let asked = changed x.channel (with_asker x.side (Some p)) old in
     let is = sym c.in-Some.is ∙ c.in_ok-partner.ensures.partner ks in
     on_ok_weaker c.wake-in-Some.result (λ e.
-    e js ∙ ap (able true p) (c.in_ok-wake-in-Some.ensures js ∙ ap (able true c.in-Some.partner) (c.in_ok-partner.ensures.asked ks))
+    e js ∙ ap (able true p) (c.in_ok-wake-in-Some.ensures js
+    ∙ ap (able true c.in-Some.partner) (c.in_ok-partner.ensures.asked ks))
     ∙ (λ i. record asked { ready = marked_both p (is i) old.ready })) c.wake-in-Some.ensures
 
 pub returns-in-None : goal.returns-in-None

@@ -8,13 +8,15 @@ pub result-requires : goal.result-requires
 result-requires c =
     let same = ap (λ p. same_path p main_path) (sym (c.as_slice.ensures ∙ c.path.ensures)) ∙ sym c.eq.ensures ∙ c.if-eq.true in
     c.requires (slot_of_ended c.in-Some.last)
-    (sym c.loop-last.invariant ∙ last_here c.loop-last.ended.items c.pop.new.self.items c.in-Some.last main_path c.in-Some.ensures.items same)
+    (sym c.loop-last.invariant ∙ last_here c.loop-last.ended.items c.pop.new.self.items c.in-Some.last main_path
+    c.in-Some.ensures.items same)
 
 pub returns-then-eq : goal.returns-then-eq
 returns-then-eq c =
     let same = ap (λ p. same_path p main_path) (sym (c.as_slice.ensures ∙ c.path.ensures)) ∙ sym c.eq.ensures ∙ c.if-eq.true in (
       slot_of_ended c.in-Some.last,
-      sym c.loop-last.invariant ∙ last_here c.loop-last.ended.items c.pop.new.self.items c.in-Some.last main_path c.in-Some.ensures.items same,
+      sym c.loop-last.invariant ∙ last_here c.loop-last.ended.items c.pop.new.self.items c.in-Some.last main_path
+          c.in-Some.ensures.items same,
       refl,
       c.result.ensures,
     )
@@ -22,9 +24,11 @@ returns-then-eq c =
 pub loop-last-preserved-else-eq : goal.loop-last-preserved-else-eq
 loop-last-preserved-else-eq c =
     let other = ap (λ p. same_path p main_path) (sym (c.as_slice.ensures ∙ c.path.ensures)) ∙ sym c.eq.ensures ∙ c.if-eq.false in
-    sym (last_else c.loop-last.ended.items c.pop.new.self.items c.in-Some.last main_path c.in-Some.ensures.items other) ∙ c.loop-last.invariant
+    sym (last_else c.loop-last.ended.items c.pop.new.self.items c.in-Some.last main_path c.in-Some.ensures.items other)
+    ∙ c.loop-last.invariant
 
 pub loop-last-preserved : goal.loop-last-preserved
 loop-last-preserved c =
     let other = ap (λ p. same_path p main_path) (sym (c.as_slice.ensures ∙ c.path.ensures)) ∙ sym c.eq.ensures ∙ c.if-eq.false in
-    sym (last_else c.loop-last.ended.items c.pop.new.self.items c.in-Some.last main_path c.in-Some.ensures.items other) ∙ c.loop-last.invariant
+    sym (last_else c.loop-last.ended.items c.pop.new.self.items c.in-Some.last main_path c.in-Some.ensures.items other)
+    ∙ c.loop-last.invariant

@@ -8,7 +8,8 @@ use Rattle.fst_process.proofs.report.main_result.Goals as goal
 
 pub result-requires : goal.result-requires
 result-requires c =
-    c.requires (slot_of c.in-Some.slot) (ap (λ o. option_or (option_map slot_of o) (ended_in c.args.ended.items main_path)) (sym c.in-Some.ensures.value)) c.in-Ended.is
+    c.requires (slot_of c.in-Some.slot) (ap (λ o. option_or (option_map slot_of o) (ended_in c.args.ended.items main_path))
+    (sym c.in-Some.ensures.value)) c.in-Ended.is
 
 pub returns-in-Ended : goal.returns-in-Ended
 returns-in-Ended c = (
@@ -21,4 +22,5 @@ returns-in-Ended c = (
 pub ended_result-requires : goal.ended_result-requires
 ended_result-requires c = λ s e.
     let es = c.args.ended.items in
-    c.requires s (ap (λ o. option_or (option_map slot_of o) (ended_in es main_path)) (sym c.in-None.ensures.value) ∙ e) (ended_asks es main_path s e)
+    c.requires s (ap (λ o. option_or (option_map slot_of o) (ended_in es main_path)) (sym c.in-None.ensures.value) ∙ e)
+    (ended_asks es main_path s e)

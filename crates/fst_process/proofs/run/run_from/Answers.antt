@@ -15,42 +15,55 @@ fire-requires-clause-possible c =
     let n = c.loop-config.config.events in
     let next = subst (IsNext now) c.in-Some.is c.in_ok-event.ensures in
     let few : n < 4294967295 = omega (arith, c.requires.few, c.loop-config-test.true) in
-    ∥∥₁_map c.requires.right (possible_next c.args.code.now c.args.config.events first n now c.in-Some.event c.loop-config.invariant next few)
+    ∥∥₁_map c.requires.right (possible_next c.args.code.now c.args.config.events first n now c.in-Some.event
+    c.loop-config.invariant next few)
 
 pub report-requires : goal.report-requires
 report-requires c =
     let n = c.loop-config.config.events in
     let few : n < 4294967295 = omega (arith, c.requires.few, c.loop-config-test.true) in
-    ∥∥₁_map c.requires.right (some_config c.args.code.now c.args.config.events (kept_of c.args.config) n (kept_of c.loop-config.config) c.loop-config.invariant few)
+    ∥∥₁_map c.requires.right (some_config c.args.code.now c.args.config.events (kept_of c.args.config) n
+    (kept_of c.loop-config.config) c.loop-config.invariant few)
 
 pub returns-in-None : goal.returns-in-None
 returns-in-None c =
     let now = kept_of c.loop-config.config in
     let next = subst (IsNext now) c.in-None.is c.in_ok-event.ensures in
-    answers_done c.args.code.now c.args.config.events (kept_of c.args.config) c.args.steps c.loop-config.config.events now c.in_ok-report-in-None.report c.loop-config.invariant next
+    answers_done c.args.code.now c.args.config.events
+    (kept_of c.args.config) c.args.steps c.loop-config.config.events now c.in_ok-report-in-None.report c.loop-config.invariant
+    next
     c.loop-config-test.true c.in_ok-report-in-None.ensures
 
 pub loop-config-preserved-in_ok-fire-in-Some : goal.loop-config-preserved-in_ok-fire-in-Some
 loop-config-preserved-in_ok-fire-in-Some c =
-    kept_next c.args.code.now c.args.config.events (kept_of c.args.config) c.loop-config.config.events c.fire.new.self.events (kept_of c.loop-config.config) (kept_of c.fire.new.self) c.in-Some.event
-    c.loop-config.invariant (subst (IsNext (kept_of c.loop-config.config)) c.in-Some.is c.in_ok-event.ensures) c.in_ok-fire-in-Some.ensures.happens (sym c.in_ok-fire-in-Some.ensures.counted)
+    kept_next c.args.code.now c.args.config.events (kept_of c.args.config) c.loop-config.config.events c.fire.new.self.events
+    (kept_of c.loop-config.config) (kept_of c.fire.new.self) c.in-Some.event
+    c.loop-config.invariant (subst (IsNext (kept_of c.loop-config.config)) c.in-Some.is c.in_ok-event.ensures)
+    c.in_ok-fire-in-Some.ensures.happens (sym c.in_ok-fire-in-Some.ensures.counted)
 
 pub loop-config-preserved-in_ok-fire-in-Some-2 : goal.loop-config-preserved-in_ok-fire-in-Some-2
 loop-config-preserved-in_ok-fire-in-Some-2 c =
-    kept_next c.args.code.now c.args.config.events (kept_of c.args.config) c.loop-config.config.events c.fire.new.self.events (kept_of c.loop-config.config) (kept_of c.fire.new.self) c.in-Some.event
-    c.loop-config.invariant (subst (IsNext (kept_of c.loop-config.config)) c.in-Some.is c.in_ok-event.ensures) c.in_ok-fire-in-Some.ensures.happens (sym c.in_ok-fire-in-Some.ensures.counted)
+    kept_next c.args.code.now c.args.config.events (kept_of c.args.config) c.loop-config.config.events c.fire.new.self.events
+    (kept_of c.loop-config.config) (kept_of c.fire.new.self) c.in-Some.event
+    c.loop-config.invariant (subst (IsNext (kept_of c.loop-config.config)) c.in-Some.is c.in_ok-event.ensures)
+    c.in_ok-fire-in-Some.ensures.happens (sym c.in_ok-fire-in-Some.ensures.counted)
 
 pub loop-config-preserved-in_ok-fire-in-Some-3 : goal.loop-config-preserved-in_ok-fire-in-Some-3
 loop-config-preserved-in_ok-fire-in-Some-3 c =
-    kept_next c.args.code.now c.args.config.events (kept_of c.args.config) c.loop-config.config.events c.fire.new.self.events (kept_of c.loop-config.config) (kept_of c.fire.new.self) c.in-Some.event
-    c.loop-config.invariant (subst (IsNext (kept_of c.loop-config.config)) c.in-Some.is c.in_ok-event.ensures) c.in_ok-fire-in-Some.ensures.happens (sym c.in_ok-fire-in-Some.ensures.counted)
+    kept_next c.args.code.now c.args.config.events (kept_of c.args.config) c.loop-config.config.events c.fire.new.self.events
+    (kept_of c.loop-config.config) (kept_of c.fire.new.self) c.in-Some.event
+    c.loop-config.invariant (subst (IsNext (kept_of c.loop-config.config)) c.in-Some.is c.in_ok-event.ensures)
+    c.in_ok-fire-in-Some.ensures.happens (sym c.in_ok-fire-in-Some.ensures.counted)
 
 pub loop-config-preserved : goal.loop-config-preserved
 loop-config-preserved c =
-    kept_next c.args.code.now c.args.config.events (kept_of c.args.config) c.loop-config.config.events c.fire.new.self.events (kept_of c.loop-config.config) (kept_of c.fire.new.self) c.in-Some.event
-    c.loop-config.invariant (subst (IsNext (kept_of c.loop-config.config)) c.in-Some.is c.in_ok-event.ensures) c.in_ok-fire-in-Some.ensures.happens (sym c.in_ok-fire-in-Some.ensures.counted)
+    kept_next c.args.code.now c.args.config.events (kept_of c.args.config) c.loop-config.config.events c.fire.new.self.events
+    (kept_of c.loop-config.config) (kept_of c.fire.new.self) c.in-Some.event
+    c.loop-config.invariant (subst (IsNext (kept_of c.loop-config.config)) c.in-Some.is c.in_ok-event.ensures)
+    c.in_ok-fire-in-Some.ensures.happens (sym c.in_ok-fire-in-Some.ensures.counted)
 
 pub returns : goal.returns
 returns c =
-    answers_out c.args.code.now c.args.config.events (kept_of c.args.config) c.args.steps c.loop-config.config.events (kept_of c.loop-config.config) c.loop-config.invariant
+    answers_out c.args.code.now c.args.config.events (kept_of c.args.config) c.args.steps c.loop-config.config.events
+    (kept_of c.loop-config.config) c.loop-config.invariant
     c.loop-config-test.false

@@ -13,11 +13,14 @@ pub run_from-requires-clause-right : goal.run_from-requires-clause-right
 run_from-requires-clause-right c =
     let code = c.args.code.now in
     let first = kept_of c.in_ok-config.config in
-    ∥∥₁_map c.requires.right (λ r. subst (λ n. CanRunFrom code n first) (sym c.in_ok-config.ensures.events) (can_run_from code first c.in_ok-config.ensures.begun r))
+    ∥∥₁_map c.requires.right (λ r. subst (λ n. CanRunFrom code n first) (sym c.in_ok-config.ensures.events)
+    (can_run_from code first c.in_ok-config.ensures.begun r))
 
 pub returns : goal.returns
 returns c =
     let code = c.args.code.now in
     let first = kept_of c.in_ok-config.config in
-    IfOk-weaker c.run_from.result (IsOutcomeFrom code c.in_ok-config.config.events c.args.steps first) (IsOutcome code c.args.steps)
-    (λ o h. answers_begun code c.args.steps first o c.in_ok-config.ensures.begun (subst (λ n. IsOutcomeFrom code n c.args.steps first o) c.in_ok-config.ensures.events h)) c.run_from.ensures
+    IfOk-weaker c.run_from.result (IsOutcomeFrom code c.in_ok-config.config.events c.args.steps first)
+    (IsOutcome code c.args.steps)
+    (λ o h. answers_begun code c.args.steps first o c.in_ok-config.ensures.begun
+    (subst (λ n. IsOutcomeFrom code n c.args.steps first o) c.in_ok-config.ensures.events h)) c.run_from.ensures

@@ -5,4 +5,6 @@ use Rattle.fst_type_print.specs.Texts.{separated_text}
 use Rattle.fst_report.proofs.names.push_numbers.Given as goal
 
 abbrev pub invariant-loop-number : goal.invariant-loop-number
-invariant-loop-number l = string_bytes l.text ++ separated_text (codes ".") (map decimal (drop l.number-index l.others)) ≡ string_bytes l.initial.text ++ separated_text (codes ".") (map decimal l.others)
+invariant-loop-number l = string_bytes l.text ++ separated_text (codes ".")
+    (map decimal (drop l.number-index l.others)) ≡ string_bytes l.initial.text ++ separated_text (codes ".")
+    (map decimal l.others)

@@ -6,4 +6,5 @@ use Rattle.fst_rules.proofs.holding.holds.Given as goal
 
 abbrev pub invariant-loop-i : goal.invariant-loop-i
 invariant-loop-i l =
-    AreDerived l.m IsAnyConversion (drop l.i l.m.globals.items) (map deriv_of (drop l.i l.d)) ↔ AreDerived l.m IsAnyConversion l.m.globals.items (map deriv_of l.d)
+    AreDerived l.m IsAnyConversion (drop l.i l.m.globals.items)
+    (map deriv_of (drop l.i l.d)) ↔ AreDerived l.m IsAnyConversion l.m.globals.items (map deriv_of l.d)

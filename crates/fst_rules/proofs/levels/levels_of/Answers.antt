@@ -10,21 +10,26 @@ pub returns-in_default-clause-walk : goal.returns-in_default-clause-walk
 returns-in_default-clause-walk c =
     let m = surroundings_at c.args.place.now in
     let p = rw c.in_default.is at c.in_ok-row.ensures in
-    c.loop-levels.invariant.walk ∙ ap (λ F. after F (rest_walk m c.loop-levels.levels.items)) (walk_none m c.loop-levels.head.now (deriv_of c.loop-levels.below.now) p)
+    c.loop-levels.invariant.walk ∙ ap (λ F. after F (rest_walk m c.loop-levels.levels.items))
+    (walk_none m c.loop-levels.head.now (deriv_of c.loop-levels.below.now) p)
 
 pub returns-in-Head-clause-walk : goal.returns-in-Head-clause-walk
 returns-in-Head-clause-walk c =
     let m = surroundings_at c.args.place.now in
     let p = rw c.in-Some.is at c.in_ok-row.ensures in
     c.loop-levels.invariant.walk
-    ∙ ap (λ F. after F (rest_walk m c.loop-levels.levels.items)) (walk_peeled m c.loop-levels.head.now (deriv_of c.loop-levels.below.now) c.in-Some.row.ty.now (parts_of c.in-Some.row.parts.now) p)
+    ∙ ap (λ F. after F (rest_walk m c.loop-levels.levels.items))
+    (walk_peeled m c.loop-levels.head.now (deriv_of c.loop-levels.below.now) c.in-Some.row.ty.now
+    (parts_of c.in-Some.row.parts.now) p)
 
 pub returns-in-Wrong-clause-walk : goal.returns-in-Wrong-clause-walk
 returns-in-Wrong-clause-walk c =
     let m = surroundings_at c.args.place.now in
     let p = rw c.in-Some.is at c.in_ok-row.ensures in
     c.loop-levels.invariant.walk
-    ∙ ap (λ F. after F (rest_walk m c.loop-levels.levels.items)) (walk_peeled m c.loop-levels.head.now (deriv_of c.loop-levels.below.now) c.in-Some.row.ty.now (parts_of c.in-Some.row.parts.now) p ∙ c.in-Wrong.ensures)
+    ∙ ap (λ F. after F (rest_walk m c.loop-levels.levels.items))
+    (walk_peeled m c.loop-levels.head.now (deriv_of c.loop-levels.below.now) c.in-Some.row.ty.now
+    (parts_of c.in-Some.row.parts.now) p ∙ c.in-Wrong.ensures)
 
 pub loop-levels-preserved : goal.loop-levels-preserved
 loop-levels-preserved c =
@@ -40,9 +45,11 @@ loop-levels-preserved c =
     let under : core_height l.term.now < core_height c.args.term.now = omega (arith, down.2, low) in
     record {
       walk = i.walk
-          ∙ ap (λ F. after F (rest_walk m ls)) (walk_peeled m c.loop-levels.head.now (deriv_of c.loop-levels.below.now) c.in-Some.row.ty.now (parts_of c.in-Some.row.parts.now) p ∙ down.0)
+          ∙ ap (λ F. after F (rest_walk m ls)) (walk_peeled m c.loop-levels.head.now
+          (deriv_of c.loop-levels.below.now) c.in-Some.row.ty.now (parts_of c.in-Some.row.parts.now) p ∙ down.0)
           ∙ after_twice first second (rest_walk m ls)
           ∙ ap (after first) (sym (rest_last m ls l) ∙ sym (ap (rest_walk m) c.in_ok-push-in-Step.ensures.items));
       low = omega (arith, down.1, low);
-      lower = subst (AreLower (core_height c.args.term.now)) (sym c.in_ok-push-in-Step.ensures.items) (lower_last (core_height c.args.term.now) ls l i.lower under);
+      lower = subst (AreLower (core_height c.args.term.now)) (sym c.in_ok-push-in-Step.ensures.items)
+          (lower_last (core_height c.args.term.now) ls l i.lower under);
     }

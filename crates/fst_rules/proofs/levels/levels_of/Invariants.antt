@@ -7,7 +7,8 @@ use Rattle.fst_rules.proofs.levels.levels_of.Given as goal
 
 abbrev pub invariant-loop-levels : goal.invariant-loop-levels
 invariant-loop-levels l = record {
-  walk : walk_of (surroundings_at l.place) l.term (deriv_of l.derivation) ≡ after (walk_of (surroundings_at l.place) l.head (deriv_of l.below)) (rest_walk (surroundings_at l.place) l.levels.items);
+  walk : walk_of (surroundings_at l.place) l.term (deriv_of l.derivation) ≡ after
+      (walk_of (surroundings_at l.place) l.head (deriv_of l.below)) (rest_walk (surroundings_at l.place) l.levels.items);
   low : core_height l.head ≤ core_height l.term;
   lower : AreLower (core_height l.term) l.levels.items;
 }

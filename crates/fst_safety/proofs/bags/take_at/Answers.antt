@@ -6,26 +6,34 @@ use Rattle.fst_safety.proofs.bags.take_at.Goals as goal
 
 pub returns-in-Got : goal.returns-in-Got
 returns-in-Got c =
-    passed (λ e f. IsTaken e c.args.clock c.in-Got.event c.in-Got.stamp f) c.args.bag.now.items c.args.retired.now.items c.swap_remove-end.new.self.items c.put_back.new.bag.items c.put_back.new.retired.items
-    c.args.i c.swap_remove-end.result c.in-Got.end c.requires.there c.swap_remove-end.ensures.value c.swap_remove-end.ensures.items c.put_back.ensures.put c.in-Got.ensures
+    passed (λ e f. IsTaken e c.args.clock c.in-Got.event c.in-Got.stamp f) c.args.bag.now.items c.args.retired.now.items
+    c.swap_remove-end.new.self.items c.put_back.new.bag.items c.put_back.new.retired.items
+    c.args.i c.swap_remove-end.result c.in-Got.end c.requires.there c.swap_remove-end.ensures.value
+    c.swap_remove-end.ensures.items c.put_back.ensures.put c.in-Got.ensures
 
 pub returns-in-NotYet : goal.returns-in-NotYet
 returns-in-NotYet c = (
-  changed (λ e f. FoundHeld e f ⊎ FoundNothing e f) c.args.bag.now.items c.swap_remove-end.new.self.items c.push_reserved.new.self.items c.args.i c.swap_remove-end.result c.in-NotYet.end
-      c.requires.there c.swap_remove-end.ensures.value c.swap_remove-end.ensures.items c.push_reserved.ensures.items (inr c.in-NotYet.ensures),
+  changed (λ e f. FoundHeld e f ⊎ FoundNothing e f) c.args.bag.now.items c.swap_remove-end.new.self.items
+      c.push_reserved.new.self.items c.args.i c.swap_remove-end.result c.in-NotYet.end
+      c.requires.there c.swap_remove-end.ensures.value c.swap_remove-end.ensures.items c.push_reserved.ensures.items
+      (inr c.in-NotYet.ensures),
   refl,
 )
 
 pub returns-in-Busy : goal.returns-in-Busy
 returns-in-Busy c = (
-  changed (λ e f. FoundHeld e f ⊎ FoundNothing e f) c.args.bag.now.items c.swap_remove-end.new.self.items c.push_reserved-in-Busy.new.self.items c.args.i c.swap_remove-end.result c.in-Busy.end
-      c.requires.there c.swap_remove-end.ensures.value c.swap_remove-end.ensures.items c.push_reserved-in-Busy.ensures.items (inl c.in-Busy.ensures),
+  changed (λ e f. FoundHeld e f ⊎ FoundNothing e f) c.args.bag.now.items c.swap_remove-end.new.self.items
+      c.push_reserved-in-Busy.new.self.items c.args.i c.swap_remove-end.result c.in-Busy.end
+      c.requires.there c.swap_remove-end.ensures.value c.swap_remove-end.ensures.items c.push_reserved-in-Busy.ensures.items
+      (inl c.in-Busy.ensures),
   refl,
 )
 
 pub returns-in-Memory : goal.returns-in-Memory
 returns-in-Memory c = (
-  changed (λ e f. f ≡ end_with e (tried e.knows f.knows.found)) c.args.bag.now.items c.swap_remove-end.new.self.items c.push_reserved-in-Memory.new.self.items c.args.i c.swap_remove-end.result
-      c.in-Memory.end c.requires.there c.swap_remove-end.ensures.value c.swap_remove-end.ensures.items c.push_reserved-in-Memory.ensures.items c.in-Memory.ensures,
+  changed (λ e f. f ≡ end_with e (tried e.knows f.knows.found)) c.args.bag.now.items c.swap_remove-end.new.self.items
+      c.push_reserved-in-Memory.new.self.items c.args.i c.swap_remove-end.result
+      c.in-Memory.end c.requires.there c.swap_remove-end.ensures.value c.swap_remove-end.ensures.items
+      c.push_reserved-in-Memory.ensures.items c.in-Memory.ensures,
   refl,
 )

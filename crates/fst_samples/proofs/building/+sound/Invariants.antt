@@ -8,7 +8,8 @@ use Rattle.fst_samples.proofs.building.+sound.Given as goal
 abbrev pub invariant-all_sound-loop-branch : goal.invariant-all_sound-loop-branch
 invariant-all_sound-loop-branch l = record {
   scoped : AllScoped l.n (branches_of (drop l.branch-index l.branches)) → AllScoped l.n (branches_of l.branches);
-  sorted : EachChoiceBelow AreSorted (branches_of (drop l.branch-index l.branches)) → EachChoiceBelow AreSorted (branches_of l.branches);
+  sorted : EachChoiceBelow AreSorted (branches_of (drop l.branch-index l.branches)) →
+      EachChoiceBelow AreSorted (branches_of l.branches);
 }
 
 abbrev pub decreases-sound : goal.decreases-sound

@@ -6,7 +6,8 @@ use Rattle.fst_samples.proofs.texts.+named.Given as goal
 
 abbrev pub invariant-all_named-loop-branch : goal.invariant-all_named-loop-branch
 invariant-all_named-loop-branch l = record {
-  named : AllNamedWithin l.families (branches_of (drop l.branch-index l.branches)) → AllNamedWithin l.families (branches_of l.branches);
+  named : AllNamedWithin l.families (branches_of (drop l.branch-index l.branches)) →
+      AllNamedWithin l.families (branches_of l.branches);
 }
 
 abbrev pub decreases-named : goal.decreases-named

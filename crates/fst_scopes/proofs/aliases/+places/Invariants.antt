@@ -14,5 +14,6 @@ decreases-add_all_places l = 2 * height_all (written_branches l.branches.now) + 
 
 abbrev pub invariant-add_all_places-loop-branch : goal.invariant-add_all_places-loop-branch
 invariant-add_all_places-loop-branch l =
-    l.found.items ++ places_in (types_of l.names).names (names_in_all (recs_of l.names) (written_branches (drop l.branch-index l.branches)))
+    l.found.items ++ places_in (types_of l.names).names
+    (names_in_all (recs_of l.names) (written_branches (drop l.branch-index l.branches)))
     ≡ l.initial.found.items ++ places_in (types_of l.names).names (names_in_all (recs_of l.names) (written_branches l.branches))

@@ -13,4 +13,6 @@ abbrev pub decreases-note_unbound_in : goal.decreases-note_unbound_in
 decreases-note_unbound_in l = 2 * height_all (written_branches l.branches.now) + 1
 
 abbrev pub invariant-note_unbound_in-loop-branch : goal.invariant-note_unbound_in-loop-branch
-invariant-note_unbound_in-loop-branch l = first_from l.least (unbound_in (scope_around l.names []) (written_branches (drop l.branch-index l.branches))) ≡ first_from l.initial.least (unbound_in (scope_around l.names []) (written_branches l.branches))
+invariant-note_unbound_in-loop-branch l = first_from l.least
+    (unbound_in (scope_around l.names []) (written_branches (drop l.branch-index l.branches))) ≡ first_from l.initial.least
+    (unbound_in (scope_around l.names []) (written_branches l.branches))

@@ -6,4 +6,5 @@ pub measure_all_of-loop-branch-init : goal.measure_all_of-loop-branch-init
 measure_all_of-loop-branch-init t c = record { fits = omega arith; sum = capped_all _ _ _ }
 
 pub measure_all_of-returns : goal.measure_all_of-returns
-measure_all_of-returns t c = counted_last _ _ c.args.branches.now c.loop-branch.branch-index c.loop-branch.total _ c.loop-branch-test.false c.loop-branch.invariant.fits c.loop-branch.invariant.sum
+measure_all_of-returns t c = counted_last _ _ c.args.branches.now c.loop-branch.branch-index c.loop-branch.total _
+    c.loop-branch-test.false c.loop-branch.invariant.fits c.loop-branch.invariant.sum

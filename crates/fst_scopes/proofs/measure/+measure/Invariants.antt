@@ -15,6 +15,8 @@ decreases-measure_all_of l = 2 * height_all (written_branches l.branches.now) + 
 abbrev pub invariant-measure_all_of-loop-branch : goal.invariant-measure_all_of-loop-branch
 invariant-measure_all_of-loop-branch l = record {
   fits : l.total ≤ ceiling;
-  sum : option_map (λ n. min (l.total + n) ceiling) (measure_all (recs_of l.names) (counted (vars_of l.names) (types_of l.names) l.measures) (written_branches (drop l.branch-index l.branches)))
+  sum : option_map (λ n. min (l.total + n) ceiling)
+      (measure_all (recs_of l.names) (counted (vars_of l.names) (types_of l.names) l.measures)
+      (written_branches (drop l.branch-index l.branches)))
       ≡ measure_all (recs_of l.names) (counted (vars_of l.names) (types_of l.names) l.measures) (written_branches l.branches);
 }

@@ -11,10 +11,13 @@ returns-then-not-tokens c =
 pub returns-in-Ok : goal.returns-in-Ok
 returns-in-Ok c =
     let first = first_of c.args.tokens.now _ true (omega (arith, c.requires.some, c.requires.within)) c.if-not-tokens.false in
-    line_given c.args.tokens.now c.args.lexemes.now c.line_length-count.result (decl_tree c.in-Ok.decl) c.requires.some c.requires.within first c.line_length-count.ensures.line c.in-Ok.ensures
+    line_given c.args.tokens.now c.args.lexemes.now c.line_length-count.result
+    (decl_tree c.in-Ok.decl) c.requires.some c.requires.within first c.line_length-count.ensures.line c.in-Ok.ensures
 
 pub returns-in-Err : goal.returns-in-Err
 returns-in-Err c =
     let first = first_of c.args.tokens.now _ true (omega (arith, c.requires.some, c.requires.within)) c.if-not-tokens.false in
-    line_refused c.args.tokens.now c.args.lexemes.now c.args.end c.line_length-count.result c.place-in-Err.result c.in-Err.stop c.fault_of.result
-    c.requires.some c.requires.within first c.line_length-count.ensures.line c.in-Err.ensures c.place-in-Err.ensures c.fault_of.ensures
+    line_refused c.args.tokens.now c.args.lexemes.now c.args.end c.line_length-count.result c.place-in-Err.result c.in-Err.stop
+    c.fault_of.result
+    c.requires.some c.requires.within first c.line_length-count.ensures.line c.in-Err.ensures c.place-in-Err.ensures
+    c.fault_of.ensures

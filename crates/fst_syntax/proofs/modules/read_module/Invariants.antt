@@ -12,5 +12,7 @@ decreases-loop-from l = length l.lexemes.items - l.from
 abbrev pub invariant-loop-from : goal.invariant-loop-from
 invariant-loop-from l = record {
   within : l.from ≤ length l.lexemes.items;
-  read : with_decls (map decl_tree l.decls.items) (module_at most_nested (drop l.from (lines_of l.tokens l.lexemes.items))) ≡ module_at most_nested (lines_of l.tokens l.lexemes.items);
+  read : with_decls (map decl_tree l.decls.items)
+      (module_at most_nested (drop l.from (lines_of l.tokens l.lexemes.items))) ≡ module_at most_nested
+      (lines_of l.tokens l.lexemes.items);
 }

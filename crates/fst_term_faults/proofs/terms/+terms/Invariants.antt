@@ -42,22 +42,26 @@ decreases-note_term-loop-step l = length l.spine.steps.items
 
 abbrev pub invariant-note_term-loop-step : goal.invariant-note_term-loop-step
 invariant-note_term-loop-step l =
-    (t : TermTree) × (around t l.spine.steps.items ≡ l.term) × (l.least ≡ first_from l.fn.least (term_faults (surroundings_of l.around) l.fn.locals t)) × (l.locals ≡ l.fn.locals)
+    (t : TermTree) × (around t l.spine.steps.items ≡ l.term) ×
+    (l.least ≡ first_from l.fn.least (term_faults (surroundings_of l.around) l.fn.locals t)) × (l.locals ≡ l.fn.locals)
 
 abbrev pub invariant-note_terms-loop-t : goal.invariant-note_terms-loop-t
 invariant-note_terms-loop-t l = record {
-  noted : first_from l.least (terms_faults (surroundings_of l.around) l.fn.locals (terms_of (drop l.t-index l.terms))) ≡ first_from l.fn.least (terms_faults (surroundings_of l.around) l.fn.locals (terms_of l.terms));
+  noted : first_from l.least (terms_faults (surroundings_of l.around) l.fn.locals (terms_of (drop l.t-index l.terms)))
+      ≡ first_from l.fn.least (terms_faults (surroundings_of l.around) l.fn.locals (terms_of l.terms));
   kept : l.locals ≡ l.fn.locals;
 }
 
 abbrev pub invariant-note_cases-loop-arm : goal.invariant-note_cases-loop-arm
 invariant-note_cases-loop-arm l = record {
-  noted : first_from l.least (cases_faults (surroundings_of l.around) l.fn.locals (arms_of (drop l.arm-index l.arms))) ≡ first_from l.fn.least (cases_faults (surroundings_of l.around) l.fn.locals (arms_of l.arms));
+  noted : first_from l.least (cases_faults (surroundings_of l.around) l.fn.locals (arms_of (drop l.arm-index l.arms)))
+      ≡ first_from l.fn.least (cases_faults (surroundings_of l.around) l.fn.locals (arms_of l.arms));
   kept : l.locals ≡ l.fn.locals;
 }
 
 abbrev pub invariant-note_matches-loop-arm : goal.invariant-note_matches-loop-arm
 invariant-note_matches-loop-arm l = record {
-  noted : first_from l.least (matches_faults (surroundings_of l.around) l.fn.locals (arms_of (drop l.arm-index l.arms))) ≡ first_from l.fn.least (matches_faults (surroundings_of l.around) l.fn.locals (arms_of l.arms));
+  noted : first_from l.least (matches_faults (surroundings_of l.around) l.fn.locals (arms_of (drop l.arm-index l.arms)))
+      ≡ first_from l.fn.least (matches_faults (surroundings_of l.around) l.fn.locals (arms_of l.arms));
   kept : l.locals ≡ l.fn.locals;
 }

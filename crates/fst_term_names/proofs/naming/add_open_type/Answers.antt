@@ -9,14 +9,16 @@ use Rattle.fst_term_names.proofs.naming.add_open_type.Goals as goal
 
 pub add_type-requires-clause-depth : goal.add_type-requires-clause-depth
 unfolding surroundings_of
-add_type-requires-clause-depth c = (type_sound c.args.meanings.now c.args.meanings.now.around.now.vars c.args.w.now c.requires).depth
+add_type-requires-clause-depth c = (type_sound c.args.meanings.now c.args.meanings.now.around.now.vars c.args.w.now
+    c.requires).depth
 
 pub add_type-requires-clause-trees : goal.add_type-requires-clause-trees
 add_type-requires-clause-trees c = trees_counted c.args.meanings.now
 
 pub add_type-requires-clause-known : goal.add_type-requires-clause-known
 unfolding surroundings_of
-add_type-requires-clause-known c = (type_sound c.args.meanings.now c.args.meanings.now.around.now.vars c.args.w.now c.requires).known
+add_type-requires-clause-known c = (type_sound c.args.meanings.now c.args.meanings.now.around.now.vars c.args.w.now
+    c.requires).known
 
 pub returns-clause-added : goal.returns-clause-added
 unfolding surroundings_of
@@ -24,4 +26,5 @@ returns-clause-added c =
     let m = c.args.meanings.now in
     both_ok c.add_type.result c.add_type.ensures.types c.add_type.ensures.places
     (λ types places. are_added (scope_in m) (with_variables c.args.w.now ∷ []) c.args.types.now c.add_type.new.types
-    (types ∙ ap (λ s. map Some c.args.types.now.types.items ++ type_of s c.args.w.now ∷ []) (scope_is m m.around.now.vars)) places)
+    (types ∙ ap (λ s. map Some c.args.types.now.types.items ++ type_of s c.args.w.now ∷ []) (scope_is m m.around.now.vars))
+    places)

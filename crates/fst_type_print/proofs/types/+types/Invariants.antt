@@ -9,7 +9,9 @@ use Rattle.fst_type_print.proofs.types.+types.Given as goal
 abbrev pub invariant-push_others-loop-branch : goal.invariant-push_others-loop-branch
 invariant-push_others-loop-branch l = record {
   written : l.depth ≤ length (string_bytes l.text);
-  text : string_bytes l.text ++ separated_text (codes ", ") (branch_texts (family_names l.families) l.depth (branches_of (drop l.branch-index l.others))) ≡ string_bytes l.initial.text ++ separated_text (codes ", ") (branch_texts (family_names l.families) l.depth (branches_of l.others));
+  text : string_bytes l.text ++ separated_text (codes ", ")
+      (branch_texts (family_names l.families) l.depth (branches_of (drop l.branch-index l.others))) ≡ string_bytes l.initial.text
+      ++ separated_text (codes ", ") (branch_texts (family_names l.families) l.depth (branches_of l.others));
 }
 
 abbrev pub decreases-push_type : goal.decreases-push_type

@@ -8,7 +8,9 @@ use Rattle.fst_type_print.specs.Texts.{separated_text}
 use Rattle.fst_type_print.proofs.written.+written.Given as goal
 
 abbrev pub invariant-push_others-loop-branch : goal.invariant-push_others-loop-branch
-invariant-push_others-loop-branch l = string_bytes l.text ++ separated_text (codes ", ") (written_branch_texts (written_branches (drop l.branch-index l.others))) ≡ string_bytes l.initial.text ++ separated_text (codes ", ") (written_branch_texts (written_branches l.others))
+invariant-push_others-loop-branch l = string_bytes l.text ++ separated_text (codes ", ")
+    (written_branch_texts (written_branches (drop l.branch-index l.others))) ≡ string_bytes l.initial.text ++ separated_text
+    (codes ", ") (written_branch_texts (written_branches l.others))
 
 abbrev pub decreases-push_written : goal.decreases-push_written
 decreases-push_written l = 8 * height l.t.now

@@ -8,18 +8,25 @@ use Rattle.fst_reading.proofs.Loops.{begins_empty, goes_on, stops, runs_out, fai
 use Rattle.fst_type_syntax.proofs.types.+reader.Goals as goal
 
 pub alts-loop-init : goal.alts-loop-init
-alts-loop-init t c = (rw c.new-branches.ensures.items (begins_empty (spells (codes ",")) (alt_with (seq_at c.args.left) (type_at c.args.left)) (length c.args.tokens.now) c.args.tokens.now), refl)
+alts-loop-init t c = (
+  rw c.new-branches.ensures.items
+      (begins_empty (spells (codes ",")) (alt_with (seq_at c.args.left) (type_at c.args.left))
+      (length c.args.tokens.now) c.args.tokens.now),
+  refl,
+)
 
 pub alts-returns-in_err-branch : goal.alts-returns-in_err-branch
 alts-returns-in_err-branch t c =
     let alt = alt_with (seq_at c.args.left) (type_at c.args.left) in
     let p = err_from_is_err_and c.from_residual.result c.from_residual.ensures.1 in
-    rw (p.1, p.2) (fails (spells (codes ",")) alt (map labelled c.loop.branches.items) (length c.args.tokens.now) c.loop.counter c.loop.rest.now _ _ c.loop-test.true c.in_err-branch.ensures c.loop.invariant.0)
+    rw (p.1, p.2) (fails (spells (codes ",")) alt (map labelled c.loop.branches.items)
+    (length c.args.tokens.now) c.loop.counter c.loop.rest.now _ _ c.loop-test.true c.in_err-branch.ensures c.loop.invariant.0)
 
 pub alts-returns-then-not-comes : goal.alts-returns-then-not-comes
 alts-returns-then-not-comes t c =
     let alt = alt_with (seq_at c.args.left) (type_at c.args.left) in
-    let last = stops (spells (codes ",")) alt (map labelled c.loop.branches.items) (length c.args.tokens.now) c.loop.counter c.loop.rest.now _ (labelled c.in_ok-branch.branch) c.in_ok-branch.remaining.now
+    let last = stops (spells (codes ",")) alt (map labelled c.loop.branches.items)
+    (length c.args.tokens.now) c.loop.counter c.loop.rest.now _ (labelled c.in_ok-branch.branch) c.in_ok-branch.remaining.now
     c.loop-test.true c.in_ok-branch.ensures (sym c.comes.ensures ∙ c.if-not-comes.true) c.loop.invariant.0 in
     let items = ap (map labelled) c.in_ok-push.ensures.items ∙ map-append labelled c.loop.branches.items _ in
     rw items last
@@ -27,7 +34,8 @@ alts-returns-then-not-comes t c =
 pub alts-loop-preserved : goal.alts-loop-preserved
 alts-loop-preserved t c =
     let alt = alt_with (seq_at c.args.left) (type_at c.args.left) in
-    let next = goes_on (spells (codes ",")) alt (map labelled c.loop.branches.items) (length c.args.tokens.now) c.loop.counter c.loop.rest.now _ (labelled c.in_ok-branch.branch) c.in_ok-branch.remaining.now
+    let next = goes_on (spells (codes ",")) alt (map labelled c.loop.branches.items)
+    (length c.args.tokens.now) c.loop.counter c.loop.rest.now _ (labelled c.in_ok-branch.branch) c.in_ok-branch.remaining.now
     c.loop-test.true c.in_ok-branch.ensures (sym c.comes.ensures ∙ c.if-not-comes.false) c.loop.invariant.0 in
     let items = ap (map labelled) c.in_ok-push.ensures.items ∙ map-append labelled c.loop.branches.items _ in
     (rw (items, c.behind-rest.ensures) next, refl)
@@ -35,4 +43,5 @@ alts-loop-preserved t c =
 pub alts-returns : goal.alts-returns
 alts-returns t c =
     let alt = alt_with (seq_at c.args.left) (type_at c.args.left) in
-    runs_out (spells (codes ",")) alt (map labelled c.loop.branches.items) (length c.args.tokens.now) c.loop.counter c.loop.rest.now _ c.loop-test.false c.loop.invariant.0
+    runs_out (spells (codes ",")) alt (map labelled c.loop.branches.items)
+    (length c.args.tokens.now) c.loop.counter c.loop.rest.now _ c.loop-test.false c.loop.invariant.0

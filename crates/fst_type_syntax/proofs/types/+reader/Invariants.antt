@@ -52,4 +52,5 @@ abbrev pub invariant-alts-loop : goal.invariant-alts-loop
 invariant-alts-loop l =
     let comma = spells (codes ",") in
     let alt = alt_with (seq_at l.left) (type_at l.left) in
-    (with_front (map labelled l.branches.items) (sep_by_within comma alt (l.end - l.counter) l.rest) ≡ sep_by_within comma alt (length l.tokens) l.tokens) × (l.end ≡ length l.tokens)
+    (with_front (map labelled l.branches.items) (sep_by_within comma alt (l.end - l.counter) l.rest) ≡ sep_by_within comma alt
+    (length l.tokens) l.tokens) × (l.end ≡ length l.tokens)

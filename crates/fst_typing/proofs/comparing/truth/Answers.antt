@@ -6,4 +6,5 @@ use Rattle.fst_typing.proofs.Forms.{base_formed}
 use Rattle.fst_typing.proofs.comparing.truth.Goals as goal
 
 pub compared-requires-clause-wanted : goal.compared-requires-clause-wanted
-compared-requires-clause-wanted c = subst (IsFormed c.args.scene.vars.now) (sym c.base-wanted.ensures) (base_formed (check_in c.args.scene) Truth)
+compared-requires-clause-wanted c = subst (IsFormed c.args.scene.vars.now) (sym c.base-wanted.ensures)
+    (base_formed (check_in c.args.scene) Truth)

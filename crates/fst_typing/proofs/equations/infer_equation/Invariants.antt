@@ -13,5 +13,6 @@ decreases-loop-parameter l = length l.entered.parameters.items
 
 abbrev pub invariant-loop-parameter : goal.invariant-loop-parameter
 invariant-loop-parameter l =
-    (e : CoreTree) × (t : Tree) × (s : Scope) × AreEntered (check_in l.scene) l.term l.wanted l.fn.context l.entered.parameters.items e t s ×
+    (e : CoreTree) × (t : Tree) × (s : Scope) × AreEntered
+    (check_in l.scene) l.term l.wanted l.fn.context l.entered.parameters.items e t s ×
     IsEquationTyped (check_in l.scene) t s l.context e (deriv_of l.found)

@@ -13,6 +13,9 @@ returns-clause-typed c =
     both_ok c.compared.result
     (λ h. deriv_of h ≡ convert (type_of found) c.args.wanted.now found)
     (λ h. IsKnown (check_in c.args.scene) (type_of found) c.args.wanted.now)
-    (λ h. HasNoParameter (check_in c.args.scene).surroundings.types c.args.term.now c.args.wanted.now → IsEquationTyped (check_in c.args.scene) c.args.wanted.now c.args.context.now c.infer.new.context c.args.term.now (deriv_of h))
-    (λ h is known none. result_typed (check_in c.args.scene) c.args.term.now c.args.wanted.now c.args.context.now c.infer.new.context found (deriv_of h) none c.in_ok-found.ensures.typed known is)
+    (λ h. HasNoParameter (check_in c.args.scene).surroundings.types c.args.term.now c.args.wanted.now →
+    IsEquationTyped (check_in c.args.scene) c.args.wanted.now c.args.context.now c.infer.new.context c.args.term.now
+    (deriv_of h))
+    (λ h is known none. result_typed (check_in c.args.scene) c.args.term.now c.args.wanted.now c.args.context.now
+    c.infer.new.context found (deriv_of h) none c.in_ok-found.ensures.typed known is)
     c.compared.ensures.turned c.compared.ensures.known

@@ -4,4 +4,5 @@ use Rattle.fst_typing.specs.Checked.{IsFoundOf}
 use Rattle.fst_typing.proofs.globals.check_globals.Given as goal
 
 abbrev pub invariant-loop-global : goal.invariant-loop-global
-invariant-loop-global l = IsFoundOf l.m l.budget (take l.global-index l.m.globals.items) (map deriv_of l.found.derivations.items) l.found.refused
+invariant-loop-global l = IsFoundOf l.m l.budget (take l.global-index l.m.globals.items)
+    (map deriv_of l.found.derivations.items) l.found.refused

@@ -9,11 +9,13 @@ use Rattle.fst_typing.proofs.Forms.{base_formed}
 use Rattle.fst_typing.proofs.operands.first_compared.Goals as goal
 
 pub compared-requires-clause-wanted : goal.compared-requires-clause-wanted
-compared-requires-clause-wanted c = subst (IsFormed c.args.scene.vars.now) (sym c.base-wanted.ensures) (base_formed (check_in c.args.scene) Int)
+compared-requires-clause-wanted c = subst (IsFormed c.args.scene.vars.now) (sym c.base-wanted.ensures)
+    (base_formed (check_in c.args.scene) Int)
 
 pub returns-then-is_comparable-clause-known : goal.returns-then-is_comparable-clause-known
 returns-then-is_comparable-clause-known c =
     let s = type_of (deriv_of c.args.d) in
     let same = ap type_of c.in_ok-turned.ensures ∙ c.in_ok-parts.ensures.second ∙ c.type_of-then-is_comparable-2.ensures in
     let comparable = subst IsComparable c.type_of.ensures (c.is_comparable.ensures.yes c.if-is_comparable.true) in
-    subst (λ o. IsKnown (check_in c.args.scene) s o) (sym same) (known_itself (check_in c.args.scene) s c.requires.found comparable)
+    subst (λ o. IsKnown (check_in c.args.scene) s o) (sym same)
+    (known_itself (check_in c.args.scene) s c.requires.found comparable)

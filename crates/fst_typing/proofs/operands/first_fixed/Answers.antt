@@ -5,4 +5,5 @@ use Rattle.fst_typing.proofs.Forms.{base_formed}
 use Rattle.fst_typing.proofs.operands.first_fixed.Goals as goal
 
 pub compared-requires-clause-wanted : goal.compared-requires-clause-wanted
-compared-requires-clause-wanted c = subst (IsFormed c.args.scene.vars.now) (sym c.base-wanted.ensures) (base_formed (check_in c.args.scene) c.args.operand)
+compared-requires-clause-wanted c = subst (IsFormed c.args.scene.vars.now) (sym c.base-wanted.ensures)
+    (base_formed (check_in c.args.scene) c.args.operand)

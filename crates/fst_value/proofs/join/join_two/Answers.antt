@@ -5,5 +5,6 @@ use Rattle.fst_value.proofs.join.join_two.Goals as goal
 
 pub returns : goal.returns
 returns c =
-    let le : 2 ≤ length (reverse c.args.values.now.items) = omega (arith, c.if-len-lt2.false, c.len.ensures, length-reverse c.args.values.now.items) in
+    let le : 2 ≤ length (reverse c.args.values.now.items) =
+    omega (arith, c.if-len-lt2.false, c.len.ensures, length-reverse c.args.values.now.items) in
     paired_joined (reverse c.args.values.now.items) (reverse c.join.new.values.items) le c.in_ok-join.ensures.joined

@@ -10,24 +10,39 @@ returns-in_err-append-in-Some c =
     let e : reverse c.loop.values.items ≡ c.in-Some.part ∷ reverse c.pop.new.self.items =
     ap reverse c.in-Some.ensures.items ∙ last_turned c.pop.new.self.items c.in-Some.part
     in
-    let r = room_fewer c.args.count c.loop.counter (reverse c.loop.values.items) (reverse c.pop.new.self.items) c.in-Some.part c.loop-test.true e in
+    let r = room_fewer c.args.count c.loop.counter (reverse c.loop.values.items)
+    (reverse c.pop.new.self.items) c.in-Some.part c.loop-test.true e in
     let n = kept_length c.part.inside.cells.items c.in-Some.part c.part.invariant c.part.view_is in
-    absurd (omega (arith, r, n, c.loop.invariant.len, c.loop.invariant.capacity, c.requires.room, c.in_err-append-in-Some.ensures.full, c.part.inside.cells.ok))
+    absurd (omega (
+      arith,
+      r,
+      n,
+      c.loop.invariant.len,
+      c.loop.invariant.capacity,
+      c.requires.room,
+      c.in_err-append-in-Some.ensures.full,
+      c.part.inside.cells.ok,
+    ))
 
 pub loop-preserved : goal.loop-preserved
 loop-preserved c =
     let e : reverse c.loop.values.items ≡ c.in-Some.part ∷ reverse c.pop.new.self.items =
     ap reverse c.in-Some.ensures.items ∙ last_turned c.pop.new.self.items c.in-Some.part
     in
-    let r = room_fewer c.args.count c.loop.counter (reverse c.loop.values.items) (reverse c.pop.new.self.items) c.in-Some.part c.loop-test.true e in
+    let r = room_fewer c.args.count c.loop.counter (reverse c.loop.values.items)
+    (reverse c.pop.new.self.items) c.in-Some.part c.loop-test.true e in
     let n = kept_length c.part.inside.cells.items c.in-Some.part c.part.invariant c.part.view_is in
     record {
-      cells = front_more c.args.count c.loop.counter (reverse c.loop.values.items) (reverse c.pop.new.self.items) c.in-Some.part (reverse c.loop.cells.items)
-          (reverse c.append.new.self.items) (in_front c.args.count (reverse c.args.values.now.items) (reverse c.args.cells.now.items)) c.loop-test.true e
+      cells = front_more c.args.count c.loop.counter (reverse c.loop.values.items) (reverse c.pop.new.self.items) c.in-Some.part
+          (reverse c.loop.cells.items)
+          (reverse c.append.new.self.items) (in_front c.args.count (reverse c.args.values.now.items)
+          (reverse c.args.cells.now.items)) c.loop-test.true e
           (ap reverse c.in_ok-append-in-Some.ensures.items
-          ∙ moved_cells c.loop.cells.items c.part.inside.cells.items c.in-Some.part (kept_cells c.part.inside.cells.items c.in-Some.part c.part.invariant c.part.view_is))
+          ∙ moved_cells c.loop.cells.items c.part.inside.cells.items c.in-Some.part
+          (kept_cells c.part.inside.cells.items c.in-Some.part c.part.invariant c.part.view_is))
           c.loop.invariant.cells;
-      values = drop_next (reverse c.args.values.now.items) (reverse c.loop.values.items) (reverse c.pop.new.self.items) c.in-Some.part c.loop.counter c.loop.invariant.values e;
+      values = drop_next (reverse c.args.values.now.items) (reverse c.loop.values.items)
+          (reverse c.pop.new.self.items) c.in-Some.part c.loop.counter c.loop.invariant.values e;
       len = omega (arith, r, n, c.loop.invariant.len, c.in_ok-append-in-Some.ensures.len, c.part.inside.cells.ok);
       capacity = omega (arith, c.loop.invariant.capacity, c.append.ensures.capacity);
       fewer = omega (arith, c.loop.invariant.fewer, c.in-Some.ensures.cases);

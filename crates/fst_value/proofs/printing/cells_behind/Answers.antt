@@ -10,7 +10,9 @@ pub returns-then-shown-clause-cells : goal.returns-then-shown-clause-cells
 returns-then-shown-clause-cells c = cells_shorter c.args.cells.now c.requires.some c.requires.cells
 
 pub returns-clause-cells : goal.returns-clause-cells
-returns-clause-cells c = cells_of_others c.args.cells.now c.start_of.result c.requires.some c.requires.cells c.start_of.ensures.start
+returns-clause-cells c = cells_of_others c.args.cells.now c.start_of.result c.requires.some c.requires.cells
+    c.start_of.ensures.start
 
 pub returns-clause-fewer : goal.returns-clause-fewer
-returns-clause-fewer c = fewer_of_others c.args.cells.now c.start_of.result c.requires.some c.requires.cells c.start_of.ensures.start
+returns-clause-fewer c = fewer_of_others c.args.cells.now c.start_of.result c.requires.some c.requires.cells
+    c.start_of.ensures.start

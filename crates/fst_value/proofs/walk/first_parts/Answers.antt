@@ -10,19 +10,24 @@ pub invariant_of-push : goal.invariant_of-push
 invariant_of-push c =
     let vs = spelled (reverse c.args.cells.now) in
     let lt : c.loop.counter < length vs = omega (arith, c.loop-test.true, c.requires.count) in
-    let le : c.start_of-start.result ≤ c.loop.end = omega (arith, c.start_of-start.ensures.within, length-take c.loop.end c.args.cells.now) in
-    let w = walked c.args.cells.now c.loop.end c.start_of-start.result c.loop.counter vs lt c.loop.invariant.within c.loop.invariant.rest le c.start_of-start.ensures.start in
+    let le : c.start_of-start.result ≤ c.loop.end =
+    omega (arith, c.start_of-start.ensures.within, length-take c.loop.end c.args.cells.now) in
+    let w = walked c.args.cells.now c.loop.end c.start_of-start.result c.loop.counter vs lt c.loop.invariant.within
+    c.loop.invariant.rest le c.start_of-start.ensures.start in
     kept_is c.in_ok-part.part.items (get_or vs c.loop.counter unit) (ap reverse c.in_ok-part.ensures ∙ w.0)
 
 pub loop-preserved : goal.loop-preserved
 loop-preserved c =
     let vs = spelled (reverse c.args.cells.now) in
     let lt : c.loop.counter < length vs = omega (arith, c.loop-test.true, c.requires.count) in
-    let le : c.start_of-start.result ≤ c.loop.end = omega (arith, c.start_of-start.ensures.within, length-take c.loop.end c.args.cells.now) in
-    let w = walked c.args.cells.now c.loop.end c.start_of-start.result c.loop.counter vs lt c.loop.invariant.within c.loop.invariant.rest le c.start_of-start.ensures.start in
+    let le : c.start_of-start.result ≤ c.loop.end =
+    omega (arith, c.start_of-start.ensures.within, length-take c.loop.end c.args.cells.now) in
+    let w = walked c.args.cells.now c.loop.end c.start_of-start.result c.loop.counter vs lt c.loop.invariant.within
+    c.loop.invariant.rest le c.start_of-start.ensures.start in
     let t = kept_tree c.in_ok-part.part.items (get_or vs c.loop.counter unit) (ap reverse c.in_ok-part.ensures ∙ w.0) in
     record {
-      parts = c.in_ok-push.ensures.items ∙ (λ i. c.loop.invariant.parts i ++ t i ∷ []) ∙ sym (take_more vs c.loop.counter unit lt);
+      parts = c.in_ok-push.ensures.items ∙ (λ i. c.loop.invariant.parts i ++ t i ∷ [])
+          ∙ sym (take_more vs c.loop.counter unit lt);
       within = omega (arith, le, c.loop.invariant.within);
       rest = w.1;
     }

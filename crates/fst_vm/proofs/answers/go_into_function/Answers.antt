@@ -20,7 +20,10 @@ pub returns : goal.returns
 returns c =
     let i = c.running.inside in
     λ fs.
-    function_called (code_of fs c.args.code.now) i.place c.args.behind i.slots c.in_ok-slots.slots c.call.new.slots i.stack c.drop_second.new.self i.calls.items c.call.new.calls.items
-    c.args.running.now c.in-Some.entry.now c.in-Some-get.value.now c.in_ok-parts-in-Some-get.parts.items c.running.view_is (c.in-Some.ensures fs) c.in-Some-get.ensures
-    c.in_ok-parts-in-Some-get.ensures (c.in_ok-slots.ensures ∙ ap (λ ks. spread ks (trees_of c.in_ok-parts-in-Some-get.parts.items)) c.deref.ensures.value) c.in_ok-call.ensures.slots
+    function_called (code_of fs c.args.code.now) i.place c.args.behind i.slots c.in_ok-slots.slots c.call.new.slots i.stack
+    c.drop_second.new.self i.calls.items c.call.new.calls.items
+    c.args.running.now c.in-Some.entry.now c.in-Some-get.value.now c.in_ok-parts-in-Some-get.parts.items c.running.view_is
+    (c.in-Some.ensures fs) c.in-Some-get.ensures
+    c.in_ok-parts-in-Some-get.ensures (c.in_ok-slots.ensures ∙ ap
+    (λ ks. spread ks (trees_of c.in_ok-parts-in-Some-get.parts.items)) c.deref.ensures.value) c.in_ok-call.ensures.slots
     c.in_ok-call.ensures.calls c.drop_second.ensures.last c.drop_second.ensures.rest

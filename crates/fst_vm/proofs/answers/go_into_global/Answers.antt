@@ -8,8 +8,10 @@ pub returns-in_ok-call-in-Some : goal.returns-in_ok-call-in-Some
 returns-in_ok-call-in-Some c =
     let i = c.running.inside in
     λ fs.
-    global_called (code_of fs c.args.code.now) c.args.global i.place c.args.behind c.in-Some.start i.slots c.new.result c.call.new.slots i.stack i.calls.items c.call.new.calls.items
-    c.args.running.now c.running.view_is c.in-Some.ensures c.new.ensures c.in_ok-call-in-Some.ensures.slots c.in_ok-call-in-Some.ensures.calls
+    global_called (code_of fs c.args.code.now) c.args.global i.place c.args.behind c.in-Some.start i.slots c.new.result
+    c.call.new.slots i.stack i.calls.items c.call.new.calls.items
+    c.args.running.now c.running.view_is c.in-Some.ensures c.new.ensures c.in_ok-call-in-Some.ensures.slots
+    c.in_ok-call-in-Some.ensures.calls
 
 pub returns-in-None : goal.returns-in-None
 returns-in-None c =

@@ -7,7 +7,8 @@ loop-i-preserved-in_ok-push c =
     record {
       within = omega (arith, c.loop-i.invariant.within);
       copied =
-          copied_more c.loop-i.i c.args.count c.args.stack.now c.loop-i.values.items c.push.new.self.items c.in-Some.value.now c.in_ok-copy.field-0 c.loop-i-test.true
+          copied_more c.loop-i.i c.args.count c.args.stack.now c.loop-i.values.items c.push.new.self.items c.in-Some.value.now
+          c.in_ok-copy.field-0 c.loop-i-test.true
           c.loop-i.invariant.within c.in-Some.ensures c.in_ok-copy.ensures c.loop-i.invariant.copied c.in_ok-push.ensures.items;
     }
 
@@ -15,5 +16,6 @@ pub loop-i-preserved : goal.loop-i-preserved
 loop-i-preserved c =
     record {
       within = omega (arith, c.loop-i.invariant.within);
-      copied = copied_none c.loop-i.i c.args.count c.args.stack.now c.loop-i.values.items c.loop-i-test.true c.in_default.ensures c.loop-i.invariant.copied;
+      copied = copied_none c.loop-i.i c.args.count c.args.stack.now c.loop-i.values.items c.loop-i-test.true c.in_default.ensures
+          c.loop-i.invariant.copied;
     }

@@ -10,7 +10,8 @@ returns-in-Send c =
     let s = c.args.running.now in
     let j = c.args.behind in
     λ k.
-    makes_alike (λ z. told k does.Send j z z.operands Sent) (λ z. told k c.args.instr.now j z z.operands Sent) s c.go_on_with_end.new.running
+    makes_alike (λ z. told k does.Send j z z.operands Sent)
+    (λ z. told k c.args.instr.now j z z.operands Sent) s c.go_on_with_end.new.running
     (Ok c.go_on_with_end.result) (λ i. told k (c.in-Send.is i) j s s.operands Sent) (c.go_on_with_end.ensures k)
 
 pub returns-in-Select : goal.returns-in-Select
@@ -18,5 +19,7 @@ returns-in-Select c =
     let s = c.args.running.now in
     let j = c.args.behind in
     λ k.
-    makes_alike (λ z. told k (does.Select c.in-Select.field-0) j z z.operands Sent) (λ z. told k c.args.instr.now j z z.operands Sent) s c.go_on_selected.new.running
-    (Ok c.go_on_selected.result) (λ i. told k (c.in-Select.is i) j s s.operands Sent) (c.go_on_selected.ensures k c.in-Select.field-0)
+    makes_alike (λ z. told k (does.Select c.in-Select.field-0) j z z.operands Sent)
+    (λ z. told k c.args.instr.now j z z.operands Sent) s c.go_on_selected.new.running
+    (Ok c.go_on_selected.result) (λ i. told k (c.in-Select.is i) j s s.operands Sent)
+    (c.go_on_selected.ensures k c.in-Select.field-0)

@@ -15,7 +15,8 @@ returns-in-Call-Go c =
     let j = c.args.behind in
     λ fs.
     let k = code_of fs c.args.code.now in
-    makes_alike (λ z. told k does.Call j z z.operands Go) (λ z. told k c.args.instr.now j z z.operands c.args.answer.now) s c.go_into_function.new.running c.go_into_function.result
+    makes_alike (λ z. told k does.Call j z z.operands Go)
+    (λ z. told k c.args.instr.now j z z.operands c.args.answer.now) s c.go_into_function.new.running c.go_into_function.result
     (λ i. told k (c.in-Call-Go.is-0 i) j s s.operands (c.in-Call-Go.is-1 i)) (c.go_into_function.ensures fs)
 
 pub returns-in-Global-Go : goal.returns-in-Global-Go
@@ -24,8 +25,10 @@ returns-in-Global-Go c =
     let j = c.args.behind in
     λ fs.
     let k = code_of fs c.args.code.now in
-    makes_alike (λ z. told k (does.Global c.in-Global-Go.global) j z z.operands Go) (λ z. told k c.args.instr.now j z z.operands c.args.answer.now) s c.go_into_global.new.running
-    c.go_into_global.result (λ i. told k (c.in-Global-Go.is-0 i) j s s.operands (c.in-Global-Go.is-1 i)) (c.go_into_global.ensures fs)
+    makes_alike (λ z. told k (does.Global c.in-Global-Go.global) j z z.operands Go)
+    (λ z. told k c.args.instr.now j z z.operands c.args.answer.now) s c.go_into_global.new.running
+    c.go_into_global.result (λ i. told k (c.in-Global-Go.is-0 i) j s s.operands (c.in-Global-Go.is-1 i))
+    (c.go_into_global.ensures fs)
 
 pub returns-in_ok-unit-in-Fork-Forked : goal.returns-in_ok-unit-in-Fork-Forked
 returns-in_ok-unit-in-Fork-Forked c =
@@ -33,10 +36,12 @@ returns-in_ok-unit-in-Fork-Forked c =
     let j = c.args.behind in
     λ fs.
     let k = code_of fs c.args.code.now in
-    makes_alike (given_for j c.captured_count.result c.in_ok-unit-in-Fork-Forked.field-0) (λ z. told k c.args.instr.now j z z.operands c.args.answer.now) s
+    makes_alike (given_for j c.captured_count.result c.in_ok-unit-in-Fork-Forked.field-0)
+    (λ z. told k c.args.instr.now j z z.operands c.args.answer.now) s
     c.go_on_with-in-Fork-Forked.new.running c.go_on_with-in-Fork-Forked.result
     ((λ i. told k (c.in-Fork-Forked.is-0 i) j s s.operands (c.in-Fork-Forked.is-1 i))
-    ∙ fork_given k c.in-Fork-Forked.lambda j c.captured_count.result c.in_ok-unit-in-Fork-Forked.field-0 s c.captured_count.ensures c.in_ok-unit-in-Fork-Forked.ensures)
+    ∙ fork_given k c.in-Fork-Forked.lambda j c.captured_count.result c.in_ok-unit-in-Fork-Forked.field-0 s
+    c.captured_count.ensures c.in_ok-unit-in-Fork-Forked.ensures)
     c.go_on_with-in-Fork-Forked.ensures
 
 pub returns-in-Send-Sent : goal.returns-in-Send-Sent
@@ -45,7 +50,9 @@ returns-in-Send-Sent c =
     let j = c.args.behind in
     λ fs.
     let k = code_of fs c.args.code.now in
-    makes_alike (λ z. told k does.Send j z z.operands Sent) (λ z. told k c.args.instr.now j z z.operands c.args.answer.now) s c.go_on_with_end.new.running (Ok c.go_on_with_end.result)
+    makes_alike (λ z. told k does.Send j z z.operands Sent)
+    (λ z. told k c.args.instr.now j z z.operands c.args.answer.now) s c.go_on_with_end.new.running
+    (Ok c.go_on_with_end.result)
     (λ i. told k (c.in-Send-Sent.is-0 i) j s s.operands (c.in-Send-Sent.is-1 i)) (c.go_on_with_end.ensures k)
 
 pub returns-in-Select-Sent : goal.returns-in-Select-Sent
@@ -54,9 +61,11 @@ returns-in-Select-Sent c =
     let j = c.args.behind in
     λ fs.
     let k = code_of fs c.args.code.now in
-    makes_alike (λ z. told k (does.Select c.in-Select-Sent.field-0-0) j z z.operands Sent) (λ z. told k c.args.instr.now j z z.operands c.args.answer.now) s c.go_on_selected.new.running
+    makes_alike (λ z. told k (does.Select c.in-Select-Sent.field-0-0) j z z.operands Sent)
+    (λ z. told k c.args.instr.now j z z.operands c.args.answer.now) s c.go_on_selected.new.running
     (Ok c.go_on_selected.result)
-    (λ i. told k (c.in-Select-Sent.is-0 i) j s s.operands (c.in-Select-Sent.is-1 i)) (c.go_on_selected.ensures k c.in-Select-Sent.field-0-0)
+    (λ i. told k (c.in-Select-Sent.is-0 i) j s s.operands (c.in-Select-Sent.is-1 i))
+    (c.go_on_selected.ensures k c.in-Select-Sent.field-0-0)
 
 pub returns-in-Receive-Got : goal.returns-in-Receive-Got
 returns-in-Receive-Got c =
@@ -64,5 +73,7 @@ returns-in-Receive-Got c =
     let j = c.args.behind in
     λ fs.
     let k = code_of fs c.args.code.now in
-    makes_alike (λ z. told k does.Receive j z z.operands (Got c.in-Receive-Got.event)) (λ z. told k c.args.instr.now j z z.operands c.args.answer.now) s c.go_on_received.new.running
-    c.go_on_received.result (λ i. told k (c.in-Receive-Got.is-0 i) j s s.operands (c.in-Receive-Got.is-1 i)) (c.go_on_received.ensures k)
+    makes_alike (λ z. told k does.Receive j z z.operands (Got c.in-Receive-Got.event))
+    (λ z. told k c.args.instr.now j z z.operands c.args.answer.now) s c.go_on_received.new.running
+    c.go_on_received.result (λ i. told k (c.in-Receive-Got.is-0 i) j s s.operands (c.in-Receive-Got.is-1 i))
+    (c.go_on_received.ensures k)

@@ -10,5 +10,6 @@ returns-in-Got-clause-goes c =
     let s = c.args.running.now in
     λ fs.
     let k = code_of fs c.args.code.now in
-    makes_alike (λ z. told_at k z (Got c.in-Got.event)) (λ z. told_at k z c.args.answer.now) s c.tell_got.new.running (Ok c.tell_got.result)
+    makes_alike (λ z. told_at k z (Got c.in-Got.event))
+    (λ z. told_at k z c.args.answer.now) s c.tell_got.new.running (Ok c.tell_got.result)
     (λ i. told_at k s (c.in-Got.is i)) (c.tell_got.ensures fs)

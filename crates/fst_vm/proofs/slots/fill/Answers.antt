@@ -5,10 +5,13 @@ use Rattle.fst_vm.proofs.slots.fill.Goals as goal
 
 pub loop-values-preserved : goal.loop-values-preserved
 loop-values-preserved c =
-    let le : length c.loop-values.values.items ≤ c.args.k = omega (arith, c.len.ensures, c.loop-values-test.true, c.loop-values.values.ok) in
-    ap (filled c.args.k c.args.value) c.in_ok-push.ensures.items ∙ filled_wider c.args.k c.args.value c.loop-values.values.items le ∙ c.loop-values.invariant
+    let le : length c.loop-values.values.items ≤ c.args.k =
+    omega (arith, c.len.ensures, c.loop-values-test.true, c.loop-values.values.ok) in
+    ap (filled c.args.k c.args.value) c.in_ok-push.ensures.items
+    ∙ filled_wider c.args.k c.args.value c.loop-values.values.items le ∙ c.loop-values.invariant
 
 pub returns : goal.returns
 returns c =
-    let lt : c.args.k < length c.loop-values.values.items = omega (arith, c.len.ensures, c.loop-values-test.false, c.loop-values.values.ok) in
+    let lt : c.args.k < length c.loop-values.values.items =
+    omega (arith, c.len.ensures, c.loop-values-test.false, c.loop-values.values.ok) in
     sym (filled_set c.args.k c.args.value c.loop-values.values.items lt) ∙ c.loop-values.invariant

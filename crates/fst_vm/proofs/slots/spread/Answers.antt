@@ -13,7 +13,8 @@ loop-part-init c =
     record {
       few = omega (arith, ap length c.truncate.ensures.items, length-take (length ks) c.args.parts.items);
       left = sym (take_all (length vs) vs (omega arith));
-      made = c.new-values.ensures.items ∙ spread_none (drop (length vs) ks) ∙ ap (λ us. spread (drop (length vs) ks) (trees_of us)) (sym (drop_all (length vs) vs (omega arith)));
+      made = c.new-values.ensures.items ∙ spread_none (drop (length vs) ks) ∙ ap
+          (λ us. spread (drop (length vs) ks) (trees_of us)) (sym (drop_all (length vs) vs (omega arith)));
     }
 
 pub loop-part-preserved : goal.loop-part-preserved
@@ -26,7 +27,8 @@ loop-part-preserved c =
     record {
       few = omega (arith, i.few, ap length c.in-Some.ensures.items);
       left = (popped vs ps qs c.in-Some.part i.left c.in-Some.ensures.items).0;
-      made = spread_more c.args.variables.now vs ps qs c.in-Some.part _ c.loop-part.values.items c.fill.new.values.items i.few i.left c.in-Some.ensures.items
+      made = spread_more c.args.variables.now vs ps qs c.in-Some.part _ c.loop-part.values.items c.fill.new.values.items i.few
+          i.left c.in-Some.ensures.items
           (ap (λ (k : ℕ). get_or c.args.variables.now k 0) n) i.made c.in_ok-fill.ensures;
     }
 

@@ -7,7 +7,8 @@ abbrev pub invariant-loop-part : goal.invariant-loop-part
 invariant-loop-part l = record {
   few : length l.parts.items ≤ length l.variables;
   left : l.parts.items ≡ take (length l.parts.items) l.initial.parts.items;
-  made : l.values.items ≡ spread (drop (length l.parts.items) l.variables) (trees_of (drop (length l.parts.items) l.initial.parts.items));
+  made : l.values.items ≡ spread (drop (length l.parts.items) l.variables)
+      (trees_of (drop (length l.parts.items) l.initial.parts.items));
 }
 
 abbrev pub decreases-loop-part : goal.decreases-loop-part

@@ -12,8 +12,10 @@ returns-in-Ok c =
     let item = c.index-closed-index in
     let key = λ (x : Closed). name_cmp x.history.name c.args.name.now in
     let hit = c.in-Ok.ensures.position key (always_returns_same _ _ _ (λ a r q k. search rules)) item.result in
-    let found = get_or c.args.closed.now c.in-Ok.index item.result in
-    (ap (λ (x : Closed). x.history.name) item.is ∙ name_same found.history.name c.args.name.now hit, (c.in-Ok.index, c.in-Ok.ensures.bound, sym item.is))
+    let found = get_or c.args.closed.now c.in-Ok.index item.result in (
+      ap (λ (x : Closed). x.history.name) item.is ∙ name_same found.history.name c.args.name.now hit,
+      (c.in-Ok.index, c.in-Ok.ensures.bound, sym item.is),
+    )
 
 pub returns-in-Err : goal.returns-in-Err
 returns-in-Err c =

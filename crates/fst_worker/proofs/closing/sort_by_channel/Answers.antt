@@ -11,5 +11,6 @@ use Rattle.fst_worker.proofs.closing.sort_by_channel.Goals as goal
 pub returns-clause-sorted : goal.returns-clause-sorted
 returns-clause-sorted c =
     on_ok_weaker c.sort_by.result
-    (λ h. h (λ d e. is_lt (channel_cmp d e)) (ranks_by name_total (λ (e : EndView). e.channel)) (answers_always _ _ _ (λ f a r g k. search rules)))
+    (λ h. h (λ d e. is_lt (channel_cmp d e)) (ranks_by name_total (λ (e : EndView). e.channel))
+    (answers_always _ _ _ (λ f a r g k. search rules)))
     c.sort_by.ensures.sorted

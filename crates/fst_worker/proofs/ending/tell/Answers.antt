@@ -10,21 +10,24 @@ use Rattle.fst_worker.proofs.ending.tell.Goals as goal
 pub returns-in_default : goal.returns-in_default
 returns-in_default c = λ d.
     let none = subst (TellsWaiting d.thread.bag) c.in_default.is d.bare.waits in
-    stays_so c.args.code.now c.args.closed.now d.run d.thread d.there c.args.bare.task c.args.bare.clock d.bare.task (none_waits c.args.code.now c.args.closed.now d.run d.thread d.there none)
+    stays_so c.args.code.now c.args.closed.now d.run d.thread d.there c.args.bare.task c.args.bare.clock d.bare.task
+    (none_waits c.args.code.now c.args.closed.now d.run d.thread d.there none)
 
 pub unreachable-requires : goal.unreachable-requires
 unreachable-requires c =
     let d = c.requires.can in
     let w = subst (TellsWaiting d.thread.bag) c.in-Some.is d.bare.waits in
     let e = channel_there c.args.code.now c.args.closed.now d.run d.thread d.there w.0 w.1 in
-    All-contains (λ (h : Closed). ¬ (h.history.name ≡ c.in-Some.name.channel)) c.args.closed.now e.0 c.in_default-closed_at.ensures e.1
+    All-contains (λ (h : Closed). ¬ (h.history.name ≡ c.in-Some.name.channel)) c.args.closed.now e.0
+    c.in_default-closed_at.ensures e.1
     (e.2 ∙ ap (λ (z : EndName). z.channel) w.2)
 
 pub returns-then-stands : goal.returns-then-stands
 returns-then-stands c = λ d.
     let w = subst (TellsWaiting d.thread.bag) c.in-Some.is d.bare.waits in
     let h = c.in-Some-closed_at.ensures in
-    stands_so c.args.code.now c.args.closed.now d.run d.thread d.there c.args.bare.task c.args.bare.clock d.bare.task c.in-Some.name w c.in-Some-closed_at.channel.now h.1 h.0
+    stands_so c.args.code.now c.args.closed.now d.run d.thread d.there c.args.bare.task c.args.bare.clock d.bare.task
+    c.in-Some.name w c.in-Some-closed_at.channel.now h.1 h.0
     (sym c.stands.ensures ∙ c.if-stands.true)
 
 pub advance-requires : goal.advance-requires
@@ -38,8 +41,10 @@ resume-requires c =
     let w = subst (TellsWaiting d.thread.bag) c.in-Some.is d.bare.waits in
     let h = c.in-Some-closed_at.ensures in
     let z = c.in-Some-closed_at.channel.now in
-    let l = lacks_so c.args.code.now c.args.closed.now d.run d.thread d.there c.in-Some.name w z h.1 h.0 (sym c.stands.ensures ∙ c.if-stands.false) in
-    ∣ takes_sent c.args.code.now c.args.closed.now d.run d.thread d.there c.in-Some.name z l c.args.bare.task c.advance.new.self c.args.bare.clock d.bare.task
+    let l = lacks_so c.args.code.now c.args.closed.now d.run d.thread d.there c.in-Some.name w z h.1 h.0
+    (sym c.stands.ensures ∙ c.if-stands.false) in
+    ∣ takes_sent c.args.code.now c.args.closed.now d.run d.thread d.there c.in-Some.name z l c.args.bare.task c.advance.new.self
+    c.args.bare.clock d.bare.task
     c.advance.ensures.stays c.in-Ok.ensures.rests ∣₁
 
 pub returns : goal.returns
@@ -47,6 +52,9 @@ returns c = λ d.
     let w = subst (TellsWaiting d.thread.bag) c.in-Some.is d.bare.waits in
     let h = c.in-Some-closed_at.ensures in
     let z = c.in-Some-closed_at.channel.now in
-    let l = lacks_so c.args.code.now c.args.closed.now d.run d.thread d.there c.in-Some.name w z h.1 h.0 (sym c.stands.ensures ∙ c.if-stands.false) in
-    told_so c.args.code.now c.args.closed.now d.run d.thread d.there c.in-Some.name z l c.args.bare.task c.advance.new.self c.resume.new.self c.args.bare.clock d.bare.task
-    c.advance.ensures.stays c.in-Ok-resume.ensures.goes_on c.latest.result (c.latest.ensures ∙ ap last_stamp c.as_slice.ensures.value)
+    let l = lacks_so c.args.code.now c.args.closed.now d.run d.thread d.there c.in-Some.name w z h.1 h.0
+    (sym c.stands.ensures ∙ c.if-stands.false) in
+    told_so c.args.code.now c.args.closed.now d.run d.thread d.there c.in-Some.name z l c.args.bare.task c.advance.new.self
+    c.resume.new.self c.args.bare.clock d.bare.task
+    c.advance.ensures.stays c.in-Ok-resume.ensures.goes_on c.latest.result
+    (c.latest.ensures ∙ ap last_stamp c.as_slice.ensures.value)

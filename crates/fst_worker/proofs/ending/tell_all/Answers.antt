@@ -19,7 +19,8 @@ tell-requires-clause-can c =
     let cs = c.args.closed.now in
     let d = c.requires.can in
     let ts = c.loop-one.tasks.items in
-    tellable k bs cs d c.in-Some.one (into_iter_items c.next.new.self) ts (subst (λ rs. IsToldAsFar k bs cs d rs ts) c.in-Some.ensures.steps.0 (c.loop-one.invariant d))
+    tellable k bs cs d c.in-Some.one (into_iter_items c.next.new.self) ts
+    (subst (λ rs. IsToldAsFar k bs cs d rs ts) c.in-Some.ensures.steps.0 (c.loop-one.invariant d))
 
 pub loop-one-preserved : goal.loop-one-preserved
 loop-one-preserved c = λ d.
@@ -30,7 +31,8 @@ loop-one-preserved c = λ d.
     let b = c.in-Some.one in
     let rs = into_iter_items c.next.new.self in
     let so = subst (λ rs. IsToldAsFar k bs cs d rs ts) c.in-Some.ensures.steps.0 (c.loop-one.invariant d) in
-    subst (IsToldAsFar k bs cs d rs) (sym c.in_ok-push.ensures.items) (told_next k bs cs d b rs ts so c.in_ok-tell.field-0.0 c.in_ok-tell.field-0.1 c.in_ok-tell.ensures)
+    subst (IsToldAsFar k bs cs d rs) (sym c.in_ok-push.ensures.items)
+    (told_next k bs cs d b rs ts so c.in_ok-tell.field-0.0 c.in_ok-tell.field-0.1 c.in_ok-tell.ensures)
 
 pub returns : goal.returns
 returns c = λ d.
@@ -38,4 +40,6 @@ returns c = λ d.
     let bs = c.args.bare.items in
     let cs = c.args.closed.now in
     let ts = c.loop-one.tasks.items in
-    all_told k bs cs d ts (subst (λ rs. IsToldAsFar k bs cs d rs ts) (nil_from_length (into_iter_items c.loop-one.one-iterator) (omega (arith, c.in-None.ensures.steps.0, c.loop-one.one-iterator.rest.ok.0))) (c.loop-one.invariant d))
+    all_told k bs cs d ts (subst (λ rs. IsToldAsFar k bs cs d rs ts)
+    (nil_from_length (into_iter_items c.loop-one.one-iterator)
+    (omega (arith, c.in-None.ensures.steps.0, c.loop-one.one-iterator.rest.ok.0))) (c.loop-one.invariant d))

@@ -30,9 +30,12 @@ returns-then-events-steps c = λ d.
     let ts = c.args.tasks.items in
     let cs = c.in_ok-closed.closed.items in
     let us = c.in_ok-told.told.items in
-    let f = finished k ts c.new-ends.result.items c.strip_all.new.ends.items cs c.as_slice-2.result.now c.in_ok-bare.bare.items us c.new-ends.ensures.items
-    c.in_ok-bare.ensures.ends c.in_ok-bare.ensures.bare c.in_ok-closed.ensures.closed c.in_ok-closed.ensures.order c.as_slice-2.ensures.value c.in_ok-told.ensures in
-    let n = counted_so c.args.steps c.count_alone-alone.result c.count_entries-events.result ts c.as_slice.result.now cs c.as_slice-3.result.now c.as_slice.ensures.value c.count_alone-alone.ensures
+    let f = finished k ts c.new-ends.result.items c.strip_all.new.ends.items cs c.as_slice-2.result.now c.in_ok-bare.bare.items us
+    c.new-ends.ensures.items
+    c.in_ok-bare.ensures.ends c.in_ok-bare.ensures.bare c.in_ok-closed.ensures.closed c.in_ok-closed.ensures.order
+    c.as_slice-2.ensures.value c.in_ok-told.ensures in
+    let n = counted_so c.args.steps c.count_alone-alone.result c.count_entries-events.result ts c.as_slice.result.now cs
+    c.as_slice-3.result.now c.as_slice.ensures.value c.count_alone-alone.ensures
     c.as_slice-3.ensures.value c.count_entries-events.ensures in
     is_out k ts cs us f d c.args.steps c.count_entries-events.result n c.if-events-steps.true
 
@@ -42,8 +45,10 @@ resumed-requires c =
     let ts = c.args.tasks.items in
     let cs = c.in_ok-closed.closed.items in
     let us = c.in_ok-told.told.items in
-    let f = finished k ts c.new-ends.result.items c.strip_all.new.ends.items cs c.as_slice-2.result.now c.in_ok-bare.bare.items us c.new-ends.ensures.items
-    c.in_ok-bare.ensures.ends c.in_ok-bare.ensures.bare c.in_ok-closed.ensures.closed c.in_ok-closed.ensures.order c.as_slice-2.ensures.value c.in_ok-told.ensures in
+    let f = finished k ts c.new-ends.result.items c.strip_all.new.ends.items cs c.as_slice-2.result.now c.in_ok-bare.bare.items us
+    c.new-ends.ensures.items
+    c.in_ok-bare.ensures.ends c.in_ok-bare.ensures.bare c.in_ok-closed.ensures.closed c.in_ok-closed.ensures.order
+    c.as_slice-2.ensures.value c.in_ok-told.ensures in
     ∣ subst (CanResume k us) (sym c.in_ok-channels.ensures) (can_resume k ts cs us f c.requires.run) ∣₁
 
 pub run_from-requires-clause-right : goal.run_from-requires-clause-right
@@ -52,9 +57,12 @@ run_from-requires-clause-right c =
     let ts = c.args.tasks.items in
     let cs = c.in_ok-closed.closed.items in
     let us = c.in_ok-told.told.items in
-    let f = finished k ts c.new-ends.result.items c.strip_all.new.ends.items cs c.as_slice-2.result.now c.in_ok-bare.bare.items us c.new-ends.ensures.items
-    c.in_ok-bare.ensures.ends c.in_ok-bare.ensures.bare c.in_ok-closed.ensures.closed c.in_ok-closed.ensures.order c.as_slice-2.ensures.value c.in_ok-told.ensures in
-    let n = counted_so c.args.steps c.count_alone-alone.result c.count_entries-events.result ts c.as_slice.result.now cs c.as_slice-3.result.now c.as_slice.ensures.value c.count_alone-alone.ensures
+    let f = finished k ts c.new-ends.result.items c.strip_all.new.ends.items cs c.as_slice-2.result.now c.in_ok-bare.bare.items us
+    c.new-ends.ensures.items
+    c.in_ok-bare.ensures.ends c.in_ok-bare.ensures.bare c.in_ok-closed.ensures.closed c.in_ok-closed.ensures.order
+    c.as_slice-2.ensures.value c.in_ok-told.ensures in
+    let n = counted_so c.args.steps c.count_alone-alone.result c.count_entries-events.result ts c.as_slice.result.now cs
+    c.as_slice-3.result.now c.as_slice.ensures.value c.count_alone-alone.ensures
     c.as_slice-3.ensures.value c.count_entries-events.ensures in
     let v = kept_of c.in_ok-config.config in
     let kept = subst (λ hs. IsResumed k us hs v) c.in_ok-channels.ensures c.in_ok-config.ensures.resumed in
@@ -67,13 +75,17 @@ returns c =
     let ts = c.args.tasks.items in
     let cs = c.in_ok-closed.closed.items in
     let us = c.in_ok-told.told.items in
-    let f = finished k ts c.new-ends.result.items c.strip_all.new.ends.items cs c.as_slice-2.result.now c.in_ok-bare.bare.items us c.new-ends.ensures.items
-    c.in_ok-bare.ensures.ends c.in_ok-bare.ensures.bare c.in_ok-closed.ensures.closed c.in_ok-closed.ensures.order c.as_slice-2.ensures.value c.in_ok-told.ensures in
-    let n = counted_so c.args.steps c.count_alone-alone.result c.count_entries-events.result ts c.as_slice.result.now cs c.as_slice-3.result.now c.as_slice.ensures.value c.count_alone-alone.ensures
+    let f = finished k ts c.new-ends.result.items c.strip_all.new.ends.items cs c.as_slice-2.result.now c.in_ok-bare.bare.items us
+    c.new-ends.ensures.items
+    c.in_ok-bare.ensures.ends c.in_ok-bare.ensures.bare c.in_ok-closed.ensures.closed c.in_ok-closed.ensures.order
+    c.as_slice-2.ensures.value c.in_ok-told.ensures in
+    let n = counted_so c.args.steps c.count_alone-alone.result c.count_entries-events.result ts c.as_slice.result.now cs
+    c.as_slice-3.result.now c.as_slice.ensures.value c.count_alone-alone.ensures
     c.as_slice-3.ensures.value c.count_entries-events.ensures in
     let v = kept_of c.in_ok-config.config in
     let kept = subst (λ hs. IsResumed k us hs v) c.in_ok-channels.ensures c.in_ok-config.ensures.resumed in
     IfOk-weaker c.run_from.result (IsOutcomeFrom k c.in_ok-config.config.events c.args.steps v) (IsFinished k ts c.args.steps)
-    (λ o out d. is_answer k ts cs us f d c.args.steps c.count_entries-events.result n c.if-events-steps.false v kept c.stays_law.ensures (omega (arith, c.requires.few)) o
+    (λ o out d. is_answer k ts cs us f d c.args.steps c.count_entries-events.result n c.if-events-steps.false v kept
+    c.stays_law.ensures (omega (arith, c.requires.few)) o
     (subst (λ e. IsOutcomeFrom k e c.args.steps v o) c.in_ok-config.ensures.events out))
     c.run_from.ensures

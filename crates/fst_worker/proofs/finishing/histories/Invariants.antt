@@ -5,4 +5,5 @@ use Rattle.fst_worker.proofs.finishing.histories.Given as goal
 
 abbrev pub invariant-loop-channel : goal.invariant-loop-channel
 invariant-loop-channel l =
-    l.channels.items ++ map (λ (c : Closed). c.history) (into_iter_items l.channel-iterator) ≡ map (λ (c : Closed). c.history) l.fn.closed.items
+    l.channels.items ++ map (λ (c : Closed). c.history) (into_iter_items l.channel-iterator) ≡ map
+    (λ (c : Closed). c.history) l.fn.closed.items

@@ -24,7 +24,10 @@ returns g c = λ d.
     let k = c.args.code.now in
     let AtWork = λ (ts es : Vec TypedTask Global). AreAtWork k d (ts.items ++ es.items) in
     let last : AtWork c.loop-test.tasks c.loop-test.ended = elim c.loop-test.branch [
-      | else-loop-test w ↦ subst (λ ts. AtWork ts c.loop-test.ended) (sym w.tasks-is) (subst (AtWork c.loop.tasks) (sym w.ended-is) (c.loop.invariant d))
-      | then-loop-test+in_ok-made+then-made w ↦ subst (λ ts. AtWork ts c.loop-test.ended) (sym w.tasks-is) (subst (AtWork w.in_ok-made.made.tasks) (sym w.ended-is) (w.in_ok-made.ensures d))
+      | else-loop-test w ↦ subst (λ ts. AtWork ts c.loop-test.ended) (sym w.tasks-is)
+          (subst (AtWork c.loop.tasks) (sym w.ended-is) (c.loop.invariant d))
+      | then-loop-test+in_ok-made+then-made w ↦ subst
+          (λ ts. AtWork ts c.loop-test.ended) (sym w.tasks-is)
+          (subst (AtWork w.in_ok-made.made.tasks) (sym w.ended-is) (w.in_ok-made.ensures d))
     ] in
     subst (AreAtWork k d) (sym c.in_ok-append.ensures.items) last

@@ -13,4 +13,5 @@ pub returns : goal.returns
 returns g c =
     let k = c.args.code.now in
     let ts = c.in_ok-tasks.tasks.items in
-    IfOk-weaker c.finish.result (IsFinished k ts c.args.steps) (IsWorkedOut k c.args.steps) (λ o out d. out (runs k d ts (c.in_ok-tasks.ensures d))) c.finish.ensures
+    IfOk-weaker c.finish.result (IsFinished k ts c.args.steps) (IsWorkedOut k c.args.steps)
+    (λ o out d. out (runs k d ts (c.in_ok-tasks.ensures d))) c.finish.ensures

@@ -9,7 +9,9 @@ use Rattle.fst_written.proofs.kinds.first_fault.Goals as goal
 use Rattle.fst_written.proofs.kinds.first_fault.Goals.{in-Some, in_default}
 
 pub fault_of-requires : goal.fault_of-requires
-fault_of-requires c = below_at (λ o. o.number) (length c.args.m.now.types.items) c.args.standing.now c.loop-occurrence.occurrence-index _ c.requires c.loop-occurrence-test.true
+fault_of-requires c = below_at (λ o. o.number)
+    (length c.args.m.now.types.items) c.args.standing.now c.loop-occurrence.occurrence-index _ c.requires
+    c.loop-occurrence-test.true
 
 pub loop-occurrence-preserved : goal.loop-occurrence-preserved
 loop-occurrence-preserved c =
@@ -24,9 +26,11 @@ loop-occurrence-preserved c =
       | in-Some w ↦
           subst (λ rs. IsLeast m rs c.match-branch-2.found) whole
           (subst (IsLeast m (before ++ r ∷ [])) (sym w.found-is)
-          (least_fault m before r c.loop-occurrence.found w.in-Some.next w.earlier.result c.loop-occurrence.invariant (rw w.in-Some.is at c.in_ok-next.ensures) w.earlier.ensures))
+          (least_fault m before r c.loop-occurrence.found w.in-Some.next w.earlier.result c.loop-occurrence.invariant
+          (rw w.in-Some.is at c.in_ok-next.ensures) w.earlier.ensures))
       | in_default w ↦
           subst (λ rs. IsLeast m rs c.match-branch-2.found) whole
           (subst (IsLeast m (before ++ r ∷ [])) (sym w.found-is)
-          (least_formed m before r c.loop-occurrence.found c.loop-occurrence.invariant (rw w.in_default.is at c.in_ok-next.ensures)))
+          (least_formed m before r c.loop-occurrence.found c.loop-occurrence.invariant
+          (rw w.in_default.is at c.in_ok-next.ensures)))
     ]

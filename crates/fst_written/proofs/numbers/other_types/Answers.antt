@@ -14,9 +14,12 @@ loop-k-preserved c =
     let marks = c.in_ok-marks.marks.items in
     let r = c.index.result.now in
     let marked : r ≡ list_any (nat_eq k) ks =
-    c.index.ensures ∙ get_or_default marks k r false (omega (arith, c.in_ok-marks.ensures.length)) ∙ c.in_ok-marks.ensures.marks k c.loop-k-test.true ∙ any_number (λ o. o.number) k standing in
+    c.index.ensures ∙ get_or_default marks k r false (omega (arith, c.in_ok-marks.ensures.length))
+    ∙ c.in_ok-marks.ensures.marks k c.loop-k-test.true ∙ any_number (λ o. o.number) k standing in
     elim c.if-not-index.branch [
       | then-not-index+in_ok-push w ↦
-          ap (λ v. v.items) w.out-is ∙ w.in_ok-push.ensures.items ∙ ap (λ js. js ++ k ∷ []) c.loop-k.invariant ∙ sym (others_more ks k (sym marked ∙ w.if-not-index.true))
-      | else-not-index w ↦ ap (λ v. v.items) w.out-is ∙ c.loop-k.invariant ∙ sym (others_same ks k (sym marked ∙ w.if-not-index.false))
+          ap (λ v. v.items) w.out-is ∙ w.in_ok-push.ensures.items ∙ ap (λ js. js ++ k ∷ []) c.loop-k.invariant
+          ∙ sym (others_more ks k (sym marked ∙ w.if-not-index.true))
+      | else-not-index w ↦ ap (λ v. v.items) w.out-is ∙ c.loop-k.invariant
+          ∙ sym (others_same ks k (sym marked ∙ w.if-not-index.false))
     ]

@@ -10,14 +10,17 @@ use Rattle.fst_written.proofs.printable.first_field.Goals.{then-not-is_printable
 
 pub index-requires : goal.index-requires
 index-requires c =
-    let there = number_at (length c.args.m.now.types.items) c.args.numbers.now c.loop-number.number-index 0 c.requires c.loop-number-test.true in
+    let there = number_at (length c.args.m.now.types.items) c.args.numbers.now c.loop-number.number-index 0 c.requires
+    c.loop-number-test.true in
     omega (arith, there, c.args.m.now.types.ok.0)
 
 pub earlier-requires-clause-found : goal.earlier-requires-clause-found
-earlier-requires-clause-found c = found_there c.args.m.now (take c.loop-number.number-index c.args.numbers.now) c.loop-number.found c.loop-number.invariant
+earlier-requires-clause-found c = found_there c.args.m.now
+    (take c.loop-number.number-index c.args.numbers.now) c.loop-number.found c.loop-number.invariant
 
 pub earlier-requires-clause-next : goal.earlier-requires-clause-next
-earlier-requires-clause-next c = number_at (length c.args.m.now.types.items) c.args.numbers.now c.loop-number.number-index 0 c.requires c.loop-number-test.true
+earlier-requires-clause-next c = number_at (length c.args.m.now.types.items) c.args.numbers.now c.loop-number.number-index 0
+    c.requires c.loop-number-test.true
 
 pub loop-number-preserved : goal.loop-number-preserved
 loop-number-preserved c =
@@ -35,9 +38,11 @@ loop-number-preserved c =
       | then-not-is_printable w ↦
           subst (λ ks. IsLeastField m ks c.if-not-is_printable.found) whole
           (subst (IsLeastField m (take i numbers ++ k ∷ [])) (sym w.found-is)
-          (least_field m (take i numbers) k c.loop-number.found w.earlier.result t c.loop-number.invariant is (λ h. absurd (cc (test.1 h, w.if-not-is_printable.true))) w.earlier.ensures))
+          (least_field m (take i numbers) k c.loop-number.found w.earlier.result t c.loop-number.invariant is
+          (λ h. absurd (cc (test.1 h, w.if-not-is_printable.true))) w.earlier.ensures))
       | else-not-is_printable w ↦
           subst (λ ks. IsLeastField m ks c.if-not-is_printable.found) whole
           (subst (IsLeastField m (take i numbers ++ k ∷ [])) (sym w.found-is)
-          (least_printable m (take i numbers) k c.loop-number.found c.loop-number.invariant (t, is, test.0 w.if-not-is_printable.false)))
+          (least_printable m (take i numbers) k c.loop-number.found c.loop-number.invariant
+          (t, is, test.0 w.if-not-is_printable.false)))
     ]

@@ -27,10 +27,13 @@ abbrev pub decreases-add_standing-loop-step : goal.decreases-add_standing-loop-s
 decreases-add_standing-loop-step l = length l.spine.steps.items
 
 abbrev pub invariant-add_standing-loop-step : goal.invariant-add_standing-loop-step
-invariant-add_standing-loop-step l = (t : CoreTree) × (around t l.spine.steps.items ≡ l.term) × (l.out.items ≡ l.fn.out.items ++ types_in t)
+invariant-add_standing-loop-step l = (t : CoreTree) × (around t l.spine.steps.items ≡ l.term) ×
+    (l.out.items ≡ l.fn.out.items ++ types_in t)
 
 abbrev pub invariant-add_all-loop-term : goal.invariant-add_all-loop-term
-invariant-add_all-loop-term l = l.out.items ++ types_in_all (cores_of (drop l.term-index l.terms)) ≡ l.fn.out.items ++ types_in_all (cores_of l.terms)
+invariant-add_all-loop-term l = l.out.items ++ types_in_all
+    (cores_of (drop l.term-index l.terms)) ≡ l.fn.out.items ++ types_in_all (cores_of l.terms)
 
 abbrev pub invariant-add_arms-loop-arm : goal.invariant-add_arms-loop-arm
-invariant-add_arms-loop-arm l = l.out.items ++ types_in_arms (core_arms_of (drop l.arm-index l.arms)) ≡ l.fn.out.items ++ types_in_arms (core_arms_of l.arms)
+invariant-add_arms-loop-arm l = l.out.items ++ types_in_arms
+    (core_arms_of (drop l.arm-index l.arms)) ≡ l.fn.out.items ++ types_in_arms (core_arms_of l.arms)

@@ -8,4 +8,5 @@ not_false true e = refl
 not_false false e = absurd (cc e)
 
 pub returns-clause-old : goal.returns-clause-old
-returns-clause-old c = λ old. rw (← c.self.view_is) (there (c.args.left, c.args.right) c.self.inside.pairs.keys (not_false _ (sym c.in_ok-new.ensures.added ∙ old)))
+returns-clause-old c = λ old. rw (← c.self.view_is)
+    (there (c.args.left, c.args.right) c.self.inside.pairs.keys (not_false _ (sym c.in_ok-new.ensures.added ∙ old)))

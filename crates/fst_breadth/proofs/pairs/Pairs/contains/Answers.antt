@@ -15,7 +15,10 @@ pub returns : goal.returns
 returns c =
     let left = subst (λ (s : Store). c.args.left < length s.words) (sym c.self.view_is) c.requires.left in
     let right = subst (λ (s : Store). c.args.right < length s.words) (sym c.self.view_is) c.requires.right in
-    subst (λ (s : Store). IsTrue c.contains_key.result ↔ Any (HasPair (word_of s.words c.args.left) (word_of s.words c.args.right)) s.found) c.self.view_is (
-      (λ t. listed c.self.inside.words c.self.inside.map.entries c.self.invariant c.args.left c.args.right (sym c.contains_key.ensures ∙ to_true _ t)),
-      (λ h. from_true _ (c.contains_key.ensures ∙ found c.self.inside.words c.self.inside.map.entries c.self.invariant c.args.left c.args.right c.each_once.ensures.once left right h)),
+    subst (λ (s : Store). IsTrue c.contains_key.result ↔ Any
+    (HasPair (word_of s.words c.args.left) (word_of s.words c.args.right)) s.found) c.self.view_is (
+      (λ t. listed c.self.inside.words c.self.inside.map.entries c.self.invariant c.args.left c.args.right
+          (sym c.contains_key.ensures ∙ to_true _ t)),
+      (λ h. from_true _ (c.contains_key.ensures ∙ found c.self.inside.words c.self.inside.map.entries c.self.invariant c.args.left
+          c.args.right c.each_once.ensures.once left right h)),
     )

@@ -16,5 +16,6 @@ loop-left-init c =
           ∙ pairs_of_keys c.self.inside.words c.self.inside.map.entries
           ∙ ap (λ (s : Store). map pair_of s.found) c.self.view_is),
       subst (λ (W : List (List ℕ)). AreKeys (length W) c.into_iter-left-iterator.result) (sym words)
-          (subst (AreKeys (length c.self.inside.words)) (sym keys) (keys_within (length c.self.inside.words) c.self.inside.map.entries 0 c.self.invariant)),
+          (subst (AreKeys (length c.self.inside.words)) (sym keys)
+          (keys_within (length c.self.inside.words) c.self.inside.map.entries 0 c.self.invariant)),
     )

@@ -6,4 +6,5 @@ use Rattle.fst_breadth.specs.Tables.{key_pair}
 use Rattle.fst_breadth.proofs.pairs.Pairs.into_pairs.Given as goal
 
 abbrev pub invariant-loop-left : goal.invariant-loop-left
-invariant-loop-left l = (l.pairs.items ++ map (key_pair l.words.value) l.left-iterator ≡ map pair_of l.fn.self.found) × AreKeys (length l.words.value) l.left-iterator
+invariant-loop-left l = (l.pairs.items ++ map (key_pair l.words.value) l.left-iterator ≡ map pair_of l.fn.self.found) ×
+    AreKeys (length l.words.value) l.left-iterator

@@ -12,4 +12,5 @@ returns c e is =
     let right = c.in_ok-left_word.ensures.right e there in
     let found = c.next.ensures.found ∙ c.self.view_is in
     let trace = ap (λ (F : List ReachedPair). trace_at F c.args.at) found ∙ trace_there c.args.self.now c.args.at e is in
-    follows_same _ _ _ _ _ _ _ found (λ i. record { left = left i; right = right i; trace = trace i ++ c.args.letter ∷ [] }) c.in_ok-followed.ensures
+    follows_same _ _ _ _ _ _ _ found (λ i. record { left = left i; right = right i; trace = trace i ++ c.args.letter ∷ [] })
+    c.in_ok-followed.ensures

@@ -13,8 +13,11 @@ pub returns-in-Some : goal.returns-in-Some
 returns-in-Some c =
     let knows : half_of c.self.inside.grip.seat.me.0 ≡ c.args.self.now.knows = ap (λ (e : EndView). e.knows) c.self.view_is in
     let is : residual_of c.args.self.now.knows ≡ Some c.self.inside.residual =
-    sym (ap (λ (v : Half). residual v.side v.declared v.history) knows) ∙ ap (λ s. residual s (half_of c.self.inside.grip.seat.me.0).declared (half_of c.self.inside.grip.seat.me.0).history) c.self.invariant.side_is ∙ c.self.invariant.type_is in
-    let first : head c.self.inside.residual ≡ Some c.in-Some.first.now = sym c.in_ok-first.ensures ∙ ap (option_map (λ h. h.now)) c.in-Some.is in
+    sym (ap (λ (v : Half). residual v.side v.declared v.history) knows) ∙ ap
+    (λ s. residual s (half_of c.self.inside.grip.seat.me.0).declared (half_of c.self.inside.grip.seat.me.0).history)
+    c.self.invariant.side_is ∙ c.self.invariant.type_is in
+    let first : head c.self.inside.residual ≡ Some c.in-Some.first.now = sym c.in_ok-first.ensures
+    ∙ ap (option_map (λ h. h.now)) c.in-Some.is in
     λ l h. subst (λ n. length l ≤ n) (sym c.unwrap_or.ensures)
     (received_within c.self.inside.residual c.in-Some.first.now (unwrap_or c.longest_offered.result 0) first
     (within_or c.longest_offered.result c.in-Some.first.now c.longest_offered.ensures.some c.longest_offered.ensures.none) l
@@ -24,6 +27,8 @@ pub returns-in-None : goal.returns-in-None
 returns-in-None c =
     let knows : half_of c.self.inside.grip.seat.me.0 ≡ c.args.self.now.knows = ap (λ (e : EndView). e.knows) c.self.view_is in
     let is : residual_of c.args.self.now.knows ≡ Some c.self.inside.residual =
-    sym (ap (λ (v : Half). residual v.side v.declared v.history) knows) ∙ ap (λ s. residual s (half_of c.self.inside.grip.seat.me.0).declared (half_of c.self.inside.grip.seat.me.0).history) c.self.invariant.side_is ∙ c.self.invariant.type_is in
+    sym (ap (λ (v : Half). residual v.side v.declared v.history) knows) ∙ ap
+    (λ s. residual s (half_of c.self.inside.grip.seat.me.0).declared (half_of c.self.inside.grip.seat.me.0).history)
+    c.self.invariant.side_is ∙ c.self.invariant.type_is in
     λ l h. absurd (none_received c.self.inside.residual (sym c.in_ok-first.ensures ∙ ap (option_map (λ h. h.now)) c.in-None.is) l
     (subst (λ (o : Option Tree). receives o (Label l) ≡ true) is h))

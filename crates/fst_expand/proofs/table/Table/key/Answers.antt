@@ -10,12 +10,15 @@ there c = sym c.get_index.ensures.key ∙ ap option_copied c.unwrap.ensures
 
 pub returns-clause-left : goal.returns-clause-left
 returns-clause-left c = subst (λ (s : Store). c.unwrap.result.now.0 < length s.words) c.self.view_is
-    (key_at (length c.self.inside.words) c.self.inside.keys.keys c.args.at c.unwrap.result.now c.self.invariant.within (there c)).0
+    (key_at (length c.self.inside.words) c.self.inside.keys.keys c.args.at c.unwrap.result.now c.self.invariant.within
+    (there c)).0
 
 pub returns-clause-right : goal.returns-clause-right
 returns-clause-right c = subst (λ (s : Store). c.unwrap.result.now.1 < length s.words) c.self.view_is
-    (key_at (length c.self.inside.words) c.self.inside.keys.keys c.args.at c.unwrap.result.now c.self.invariant.within (there c)).1
+    (key_at (length c.self.inside.words) c.self.inside.keys.keys c.args.at c.unwrap.result.now c.self.invariant.within
+    (there c)).1
 
 pub returns-clause-pair : goal.returns-clause-pair
-returns-clause-pair c = subst (λ (s : Store). slice_get s.pairs c.args.at ≡ Some (key_pair s.words c.unwrap.result.now)) c.self.view_is
+returns-clause-pair c = subst (λ (s : Store). slice_get s.pairs c.args.at ≡ Some (key_pair s.words c.unwrap.result.now))
+    c.self.view_is
     (pair_at c.self.inside.words c.self.inside.keys.keys c.args.at c.unwrap.result.now (there c))

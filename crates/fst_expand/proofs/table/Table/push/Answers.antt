@@ -4,7 +4,9 @@ use Rattle.fst_expand.proofs.KeyLaws.{once_keep, pairs_keep}
 use Rattle.fst_expand.proofs.table.Table.push.Goals as goal
 
 pub invariant_of-self : goal.invariant_of-self
-invariant_of-self c = once_keep (length c.self.inside.words) (length c.push.new.self) c.push.ensures.kept.longer c.self.inside.keys.keys c.self.invariant
+invariant_of-self c = once_keep (length c.self.inside.words)
+    (length c.push.new.self) c.push.ensures.kept.longer c.self.inside.keys.keys c.self.invariant
 
 pub returns-clause-pairs : goal.returns-clause-pairs
-returns-clause-pairs c = pairs_keep c.self.inside.words c.push.new.self c.push.ensures.kept c.self.inside.keys.keys c.self.invariant.within ∙ ap (λ (s : Store). s.pairs) c.self.view_is
+returns-clause-pairs c = pairs_keep c.self.inside.words c.push.new.self c.push.ensures.kept c.self.inside.keys.keys
+    c.self.invariant.within ∙ ap (λ (s : Store). s.pairs) c.self.view_is

@@ -11,7 +11,8 @@ invariant_of-self c =
 pub invariant_of-self-in_default-get_index_mut : goal.invariant_of-self-in_default-get_index_mut
 invariant_of-self-in_default-get_index_mut c =
     let es = c.self.inside.levels.entries in
-    let there = last_within es c.pop.new.self.items c.in-Some.open (subst (IsTable es) c.in-Some.ensures.items c.self.invariant) in
+    let there = last_within es c.pop.new.self.items c.in-Some.open
+    (subst (IsTable es) c.in-Some.ensures.items c.self.invariant) in
     absurd (cc (c.in_default-get_index_mut.ensures.found.1 there))
 
 pub returns-in-Some-get_index_mut : goal.returns-in-Some-get_index_mut

@@ -10,5 +10,6 @@ pub returns-clause-search : goal.returns-clause-search
 returns-clause-search c =
     let g : List (List ℕ) = map items_of c.args.graph.now in
     moved (begun g c.in_ok-own_loops.field-0.items c.in_ok-own_loops.ensures)
-    (c.in_ok-vec.ensures.items_if_clones_equal (λ y e. e) ∙ ap (λ n. replicate n Unseen) (sym (length-map c.args.graph.now items_of)))
+    (c.in_ok-vec.ensures.items_if_clones_equal (λ y e. e) ∙ ap
+    (λ n. replicate n Unseen) (sym (length-map c.args.graph.now items_of)))
     c.new.ensures.items c.new-2.ensures.items c.new-3.ensures.items c.new-4.ensures.items refl

@@ -8,5 +8,6 @@ pub finish-requires : goal.finish-requires
 finish-requires c =
     let g : List (List ℕ) = map items_of c.args.graph.now in
     let s = c.args.self.now in
-    let can = can_close g s.marks.items s.path.items s.parts.items s.pending.items s.order.items s.looped.items c.requires.search c.args.part c.requires.last in
+    let can = can_close g s.marks.items s.path.items s.parts.items s.pending.items s.order.items s.looped.items c.requires.search
+    c.args.part c.requires.last in
     record { first = can.0; nodes = can.1; told = can.2 }

@@ -8,4 +8,5 @@ returns-in-Some c =
 
 pub returns-in-None : goal.returns-in-None
 returns-in-None c =
-    rw (← c.self.view_is) (c.len.ensures.len ∙ none_place _ c.args.key.now (λ k. refl) c.self.inside.set.keys c.in-None.ensures.index)
+    rw (← c.self.view_is) (c.len.ensures.len ∙ none_place _ c.args.key.now
+    (λ k. refl) c.self.inside.set.keys c.in-None.ensures.index)

@@ -6,7 +6,8 @@ use Rattle.fst_parts.proofs.keys.Keys.put.Goals as goal
 
 pub returns-clause-keys : goal.returns-clause-keys
 returns-clause-keys c =
-    rw (← c.self.view_is) (ap (map items_of) c.in_ok-at.ensures.keys ∙ with_is _ c.args.key.items (λ k. refl) c.self.inside.set.keys c.args.key refl)
+    rw (← c.self.view_is) (ap (map items_of) c.in_ok-at.ensures.keys ∙ with_is _ c.args.key.items
+    (λ k. refl) c.self.inside.set.keys c.args.key refl)
 
 pub returns-clause-place : goal.returns-clause-place
 returns-clause-place c =

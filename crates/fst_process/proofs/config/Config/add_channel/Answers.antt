@@ -8,4 +8,5 @@ returns-clause-opened c =
     c.in_ok-count.ensures.added
     ∙ (λ i.
     added (record { maker = sym c.in_ok-copy.ensures i; count = sym c.in_ok-count.ensures.count i })
-    (record { declared = c.args.declared; history = c.new-entries.ensures.items i; left = None; right = None }) (kept_of c.args.self.now))
+    (record { declared = c.args.declared; history = c.new-entries.ensures.items i; left = None; right = None })
+    (kept_of c.args.self.now))

@@ -20,18 +20,21 @@ go_on-requires c =
 pub overflow_add-clock : goal.overflow_add-clock
 overflow_add-clock c =
     let it = c.slot-parent in
-    let few = clock_within c.args.code.now (kept_of c.args.self.now) c.args.path.now (slot_of it.result.now) (Fork c.args.path.now) it.ensures c.requires in
+    let few = clock_within c.args.code.now (kept_of c.args.self.now) c.args.path.now (slot_of it.result.now)
+    (Fork c.args.path.now) it.ensures c.requires in
     omega (arith, few)
 
 pub settle-requires : goal.settle-requires
 settle-requires c =
     let it = c.slot-parent in
     ∥∥₁_map c.requires
-    (child_next c.args.code.now (kept_of c.args.self.now) c.args.path.now (slot_of it.result.now) it.ensures c.in_ok-child.child c.in_ok-child.ensures.child)
+    (child_next c.args.code.now (kept_of c.args.self.now) c.args.path.now
+    (slot_of it.result.now) it.ensures c.in_ok-child.child c.in_ok-child.ensures.child)
 
 pub returns : goal.returns
 returns c =
     let it = c.slot-parent in
     on_ok_weaker c.settle.result
-    (fork_happens c.args.code.now (kept_of c.args.self.now) c.args.path.now (slot_of it.result.now) it.ensures c.in_ok-child.child (kept_of c.go_on.new.self) (kept_of c.settle.new.self)
+    (fork_happens c.args.code.now (kept_of c.args.self.now) c.args.path.now (slot_of it.result.now) it.ensures c.in_ok-child.child
+    (kept_of c.go_on.new.self) (kept_of c.settle.new.self)
     c.in_ok-go_on.ensures c.in_ok-child.ensures.child) c.settle.ensures.settles

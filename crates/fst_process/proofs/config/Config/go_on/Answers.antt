@@ -18,21 +18,26 @@ pub move_on-requires-clause-takes : goal.move_on-requires-clause-takes
 move_on-requires-clause-takes c =
     let old = kept_of c.args.self.now in
     let there : old.tasks c.args.path.now ≡ Some (slot_of c.in-Some.slot.now) =
-    its_slot c.args.self.now c.args.path.now c.as_slice.result.now c.in-Some.slot.now c.as_slice.ensures c.in-Some.ensures.value in
-    ∥∥₁_map c.requires (λ x. subst (λ (s : Slot). Takes c.args.code.now s.task c.args.answer) (some_same (sym x.there ∙ there)) x.takes)
+    its_slot c.args.self.now c.args.path.now c.as_slice.result.now c.in-Some.slot.now c.as_slice.ensures
+    c.in-Some.ensures.value in
+    ∥∥₁_map c.requires (λ x. subst (λ (s : Slot). Takes c.args.code.now s.task c.args.answer)
+    (some_same (sym x.there ∙ there)) x.takes)
 
 pub move_on-requires-clause-next : goal.move_on-requires-clause-next
 move_on-requires-clause-next c = λ u g.
     let old = kept_of c.args.self.now in
     let there : old.tasks c.args.path.now ≡ Some (slot_of c.in-Some.slot.now) =
-    its_slot c.args.self.now c.args.path.now c.as_slice.result.now c.in-Some.slot.now c.as_slice.ensures c.in-Some.ensures.value in
-    ∥∥₁_map c.requires (λ x. x.next u (subst (λ (s : Slot). GoesOn c.args.code.now s.task c.args.answer u) (sym (some_same (sym x.there ∙ there))) g))
+    its_slot c.args.self.now c.args.path.now c.as_slice.result.now c.in-Some.slot.now c.as_slice.ensures
+    c.in-Some.ensures.value in
+    ∥∥₁_map c.requires (λ x. x.next u (subst (λ (s : Slot). GoesOn c.args.code.now s.task c.args.answer u)
+    (sym (some_same (sym x.there ∙ there))) g))
 
 pub move_on-requires-clause-few : goal.move_on-requires-clause-few
 move_on-requires-clause-few c =
     let old = kept_of c.args.self.now in
     let there : old.tasks c.args.path.now ≡ Some (slot_of c.in-Some.slot.now) =
-    its_slot c.args.self.now c.args.path.now c.as_slice.result.now c.in-Some.slot.now c.as_slice.ensures c.in-Some.ensures.value in
+    its_slot c.args.self.now c.args.path.now c.as_slice.result.now c.in-Some.slot.now c.as_slice.ensures
+    c.in-Some.ensures.value in
     ∥∥₁_elim c.requires le_prop (λ x. subst (λ (s : Slot). s.clock < 4294967295) (some_same (sym x.there ∙ there)) x.few)
 
 pub note_again-requires : goal.note_again-requires
@@ -46,11 +51,13 @@ set_aside-requires c = λ s at.
     let slot = c.move_on.new.slot in
     let map = c.get_mut.follows.lender slot in
     let updates = (c.get_mut.follows.holds slot).3 (ap is_some (sym c.in-Some.ensures.value)) in
-    let here : slot_in map.entries p ≡ Some (slot_of slot) = ap (slot_in map.entries) (sym c.as_slice.ensures) ∙ ap (option_map slot_of) updates.1 in
+    let here : slot_in map.entries p ≡ Some (slot_of slot) = ap (slot_in map.entries) (sym c.as_slice.ensures)
+    ∙ ap (option_map slot_of) updates.1 in
     let same : s ≡ slot_of slot = some_same (sym at ∙ here) in
     let there = its_slot k p c.as_slice.result.now it c.as_slice.ensures c.in-Some.ensures.value in
     let path : it.task.path ≡ p =
-    ∥∥₁_elim c.requires (Coded-set (coded_list coded_ℕ) _ _) (λ x. ap (λ (z : Slot). z.task.path) (some_same (sym there ∙ x.there)) ∙ x.path) in
+    ∥∥₁_elim c.requires (Coded-set (coded_list coded_ℕ) _ _)
+    (λ x. ap (λ (z : Slot). z.task.path) (some_same (sym there ∙ x.there)) ∙ x.path) in
     let moves = c.in_ok-move_on-in-Some.ensures in (
       ap (λ (z : Slot). z.task.path) same ∙ moves.stays.path ∙ moves.goes_on.path ∙ path,
       ap (λ (z : Slot). z.request) same ∙ asks_nothing slot.request (sym c.has_ended.ensures ∙ c.if-has_ended.true),
@@ -66,11 +73,15 @@ returns-then-has_ended c =
     let map = c.get_mut.follows.lender slot in
     let updates = (c.get_mut.follows.holds slot).3 (ap is_some (sym c.in-Some.ensures.value)) in
     let gone =
-    gone_on code p c.args.answer c.args.least c.len.result k (record k { tasks = map; channels = c.note_again.new.channels; ready = c.note_again.new.ready }) it slot
-    (its_slot k p c.as_slice.result.now it c.as_slice.ensures c.in-Some.ensures.value) c.in_ok-move_on-in-Some.ensures (c.len.ensures ∙ code.types.ok.0) refl
-    (slots_after c.as_slice.result.now k.tasks.entries map.entries (Some slot) updates.1 updates.3 ∙ ap (λ q. put_at q (Some (slot_of slot)) (slot_in k.tasks.entries)) c.as_slice.ensures)
+    gone_on code p c.args.answer c.args.least c.len.result k
+    (record k { tasks = map; channels = c.note_again.new.channels; ready = c.note_again.new.ready }) it slot
+    (its_slot k p c.as_slice.result.now it c.as_slice.ensures c.in-Some.ensures.value) c.in_ok-move_on-in-Some.ensures
+    (c.len.ensures ∙ code.types.ok.0) refl
+    (slots_after c.as_slice.result.now k.tasks.entries map.entries (Some slot) updates.1 updates.3 ∙ ap
+    (λ q. put_at q (Some (slot_of slot)) (slot_in k.tasks.entries)) c.as_slice.ensures)
     c.in_ok-note_again-in-Some.ensures in
-    on_ok_weaker c.set_aside.result (λ e. subst (λ d. HasGoneOn code p c.args.answer c.args.least (kept_of k) d) (sym e) gone) c.set_aside.ensures
+    on_ok_weaker c.set_aside.result (λ e. subst (λ d. HasGoneOn code p c.args.answer c.args.least (kept_of k) d) (sym e) gone)
+    c.set_aside.ensures
 
 pub returns-else-has_ended : goal.returns-else-has_ended
 returns-else-has_ended c =
@@ -81,16 +92,20 @@ returns-else-has_ended c =
     let slot = c.move_on.new.slot in
     let map = c.get_mut.follows.lender slot in
     let updates = (c.get_mut.follows.holds slot).3 (ap is_some (sym c.in-Some.ensures.value)) in
-    gone_on code p c.args.answer c.args.least c.len.result k (record k { tasks = map; channels = c.note_again.new.channels; ready = c.note_again.new.ready }) it slot
-    (its_slot k p c.as_slice.result.now it c.as_slice.ensures c.in-Some.ensures.value) c.in_ok-move_on-in-Some.ensures (c.len.ensures ∙ code.types.ok.0) refl
-    (slots_after c.as_slice.result.now k.tasks.entries map.entries (Some slot) updates.1 updates.3 ∙ ap (λ q. put_at q (Some (slot_of slot)) (slot_in k.tasks.entries)) c.as_slice.ensures)
+    gone_on code p c.args.answer c.args.least c.len.result k
+    (record k { tasks = map; channels = c.note_again.new.channels; ready = c.note_again.new.ready }) it slot
+    (its_slot k p c.as_slice.result.now it c.as_slice.ensures c.in-Some.ensures.value) c.in_ok-move_on-in-Some.ensures
+    (c.len.ensures ∙ code.types.ok.0) refl
+    (slots_after c.as_slice.result.now k.tasks.entries map.entries (Some slot) updates.1 updates.3 ∙ ap
+    (λ q. put_at q (Some (slot_of slot)) (slot_in k.tasks.entries)) c.as_slice.ensures)
     c.in_ok-note_again-in-Some.ensures
 
 pub returns-in-None : goal.returns-in-None
 returns-in-None c =
     let k = c.args.self.now in
     let p = c.args.path.now in
-    let none : slot_in k.tasks.entries p ≡ None = ap (slot_in k.tasks.entries) (sym c.as_slice.ensures) ∙ ap (option_map slot_of) (sym c.in-None.ensures.value) in
+    let none : slot_in k.tasks.entries p ≡ None = ap (slot_in k.tasks.entries) (sym c.as_slice.ensures)
+    ∙ ap (option_map slot_of) (sym c.in-None.ensures.value) in
     absurd (∥∥₁_elim c.requires ⊥_prop (λ x.
     let live = ap (λ o. is_live o) x.there ∙ ap not x.goes in
     none_some (sym none ∙ sym (live_there k.tasks.entries k.ended.items p live) ∙ x.there)))

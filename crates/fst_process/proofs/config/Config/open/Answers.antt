@@ -13,14 +13,16 @@ index-requires c =
     let it = c.slot in
     let types = c.args.code.now.types in
     let few : c.in-New.number < length types.items =
-    ∥∥₁_elim c.requires le_prop (type_there c.args.code.now (kept_of c.args.self.now) c.args.path.now (slot_of it.result.now) it.ensures c.in-New.number c.in-New.is) in
+    ∥∥₁_elim c.requires le_prop (type_there c.args.code.now (kept_of c.args.self.now) c.args.path.now
+    (slot_of it.result.now) it.ensures c.in-New.number c.in-New.is) in
     omega (arith, few, types.ok.0)
 
 pub go_on-requires : goal.go_on-requires
 go_on-requires c =
     let it = c.slot in
     ∥∥₁_map c.requires
-    (new_can c.args.code.now (kept_of c.args.self.now) c.args.path.now (slot_of it.result.now) it.ensures c.in_ok-name-in-New.name c.in_ok-name-in-New.ensures.name
+    (new_can c.args.code.now (kept_of c.args.self.now) c.args.path.now
+    (slot_of it.result.now) it.ensures c.in_ok-name-in-New.name c.in_ok-name-in-New.ensures.name
     c.in_ok-declared-in-New.declared (kept_of c.add_channel.new.self) c.in_ok-name-in-New.ensures.opened)
 
 pub returns-in_ok-name-in-New : goal.returns-in_ok-name-in-New
@@ -32,9 +34,12 @@ returns-in_ok-name-in-New c =
     let old = kept_of c.args.self.now in
     let s = slot_of it.result.now in
     let a = c.in_ok-declared-in-New.declared in
-    let few : c.in-New.number < length types.items = ∥∥₁_elim c.requires le_prop (type_there code old p s it.ensures c.in-New.number c.in-New.is) in
+    let few : c.in-New.number < length types.items =
+    ∥∥₁_elim c.requires le_prop (type_there code old p s it.ensures c.in-New.number c.in-New.is) in
     let type : slice_get types.items c.in-New.number ≡ Some a =
-    slice_get-get_or types.items c.in-New.number c.index.result.now few ∙ ap Some (sym c.index.ensures ∙ sym c.in_ok-declared-in-New.ensures) in
+    slice_get-get_or types.items c.in-New.number c.index.result.now few
+    ∙ ap Some (sym c.index.ensures ∙ sym c.in_ok-declared-in-New.ensures) in
     on_ok_weaker c.go_on.result
-    (new_happens code old p s it.ensures c.in_ok-name-in-New.name c.in_ok-name-in-New.ensures.name c.in-New.number a (kept_of c.add_channel.new.self) (kept_of c.go_on.new.self)
+    (new_happens code old p s it.ensures c.in_ok-name-in-New.name c.in_ok-name-in-New.ensures.name c.in-New.number a
+    (kept_of c.add_channel.new.self) (kept_of c.go_on.new.self)
     c.in-New.is type c.in_ok-name-in-New.ensures.opened) c.go_on.ensures

@@ -20,13 +20,21 @@ returns-in_ok-stamp-in-Some-clause-stamp c = λ j e.
 
 pub returns-in_ok-stamp-in-Some-clause-passed : goal.returns-in_ok-stamp-in-Some-clause-passed
 returns-in_ok-stamp-in-Some-clause-passed c =
-    let entry : Entry = record { event = c.args.event; stamp = c.in_ok-stamp-in-Some.stamp; sent = c.args.sent; got = c.args.got } in
+    let entry : Entry = record {
+      event = c.args.event;
+      stamp = c.in_ok-stamp-in-Some.stamp;
+      sent = c.args.sent;
+      got =
+          c.args.got;
+    } in
     let written = c.get_mut.follows.holds c.record_among.new.channels in
     let there = sym c.in-Some.ensures.value in
     let updates = written.3 (ap is_some there) in
     let new = c.get_mut.follows.lender c.record_among.new.channels in
-    channel_changed (kept_of c.args.self.now).tasks c.args.self.now.ready.keys c.args.self.now.channels.entries new.entries c.args.channel.now (passed entry) c.as_slice.result.now
-    c.in-Some.channels.now c.record_among.new.channels c.as_slice.ensures there updates.1 updates.3 c.in_ok-stamp-in-Some.ensures.passed
+    channel_changed (kept_of c.args.self.now).tasks c.args.self.now.ready.keys c.args.self.now.channels.entries new.entries
+    c.args.channel.now (passed entry) c.as_slice.result.now
+    c.in-Some.channels.now c.record_among.new.channels c.as_slice.ensures there updates.1 updates.3
+    c.in_ok-stamp-in-Some.ensures.passed
 
 pub returns-in-None-clause-stamp : goal.returns-in-None-clause-stamp
 returns-in-None-clause-stamp c = λ j e.

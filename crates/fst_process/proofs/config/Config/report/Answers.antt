@@ -15,6 +15,13 @@ histories-requires c = λ p. ∥∥₁_elim c.requires le_prop (made_within (kep
 
 pub returns : goal.returns
 returns c =
-    let report : Report = record { result = c.main_result-result.result; waiting = c.in_ok-waiting.waiting; channels = c.in_ok-channels.channels; events = c.args.self.events } in
-    reported c.args.self c.args.self.events report c.main_result-result.ensures c.in_ok-waiting.ensures.items c.in_ok-waiting.ensures.ordered
+    let report : Report = record {
+      result = c.main_result-result.result;
+      waiting = c.in_ok-waiting.waiting;
+      channels =
+          c.in_ok-channels.channels;
+      events = c.args.self.events;
+    } in
+    reported c.args.self c.args.self.events report c.main_result-result.ensures c.in_ok-waiting.ensures.items
+    c.in_ok-waiting.ensures.ordered
     c.in_ok-channels.ensures.items c.in_ok-channels.ensures.ordered refl

@@ -8,5 +8,6 @@ settle_all-requires c = ∥∥₁_map c.requires (have_next c.args.code.now c.ar
 
 pub returns-clause-resumed : goal.returns-clause-resumed
 returns-clause-resumed c =
-    is_resumed c.args.code.now c.args.tasks.items c.args.channels.items (kept_of c.empty-config.result) (kept_of c.restore.new.self) (kept_of c.settle_all.new.self)
+    is_resumed c.args.code.now c.args.tasks.items c.args.channels.items (kept_of c.empty-config.result)
+    (kept_of c.restore.new.self) (kept_of c.settle_all.new.self)
     c.empty-config.ensures.nothing c.in_ok-restore.ensures.restored c.in_ok-settle_all.ensures.settled

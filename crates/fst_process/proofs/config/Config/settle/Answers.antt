@@ -20,7 +20,8 @@ returns-then-has_ended-clause-settles c =
     let same : slot_of_ended t ≡ slot = λ i. record { task = t.task; request = sym asks i; clock = t.clock } in
     let off = c.remove.ensures.updates in
     let gone : slot_in new ≡ put_at path None (slot_in old) =
-    slots_after c.as_slice.result.now old new None off.1 off.3 ∙ ap (λ q. put_at q None (slot_in old)) (c.as_slice.ensures ∙ c.path-then-has_ended.ensures) in
+    slots_after c.as_slice.result.now old new None off.1 off.3 ∙ ap
+    (λ q. put_at q None (slot_in old)) (c.as_slice.ensures ∙ c.path-then-has_ended.ensures) in
     let tasks : tasks_in new c.push.new.self.items ≡ put_at path (Some slot) (tasks_in old k.ended.items) =
     ap (tasks_in new) c.in_ok-push.ensures.items
     ∙ gone_after k.ended.items t old new gone
@@ -33,7 +34,13 @@ returns-then-has_ended-clause-settles c =
       clock = refl;
       after =
           settled_now c.len.result (length types.items) c.path.result.now slot k
-          (record k { tasks = c.remove.new.self; ended = c.push.new.self; channels = c.note.new.channels; ready = c.note.new.ready }) (c.len.ensures ∙ types.ok.0) c.path.ensures
+          (record k {
+            tasks = c.remove.new.self;
+            ended = c.push.new.self;
+            channels = c.note.new.channels;
+            ready =
+                c.note.new.ready;
+          }) (c.len.ensures ∙ types.ok.0) c.path.ensures
           c.in_ok-note.ensures tasks;
     }
 
@@ -48,7 +55,8 @@ returns-clause-settles c =
     let on = c.in_ok-insert.ensures.updates in
     let key : c.in_ok-key.key.items ≡ path = c.in_ok-key.ensures.items ∙ c.as_slice-2.ensures ∙ c.path-2.ensures in
     let slots : slot_in new ≡ put_at path (Some slot) (slot_in old) =
-    slots_after c.in_ok-key.key.items old new (Some (record { task = slot.task; request = slot.request; clock = slot.clock })) on.1 on.3
+    slots_after c.in_ok-key.key.items old new (Some (record { task = slot.task; request = slot.request; clock = slot.clock }))
+    on.1 on.3
     ∙ ap (λ q. put_at q (Some slot) (slot_in old)) key in
     record {
       slot = slot;
@@ -58,6 +66,7 @@ returns-clause-settles c =
       clock = refl;
       after =
           settled_now c.len.result (length types.items) c.path.result.now slot k
-          (record k { tasks = c.insert.new.self; channels = c.note.new.channels; ready = c.note.new.ready }) (c.len.ensures ∙ types.ok.0) c.path.ensures
+          (record k { tasks = c.insert.new.self; channels = c.note.new.channels; ready = c.note.new.ready })
+          (c.len.ensures ∙ types.ok.0) c.path.ensures
           c.in_ok-note.ensures (live_after path slot k.ended.items old new slots);
     }

@@ -17,5 +17,6 @@ loop-task-preserved c =
       events = c.settle.ensures.events ∙ c.loop-task.invariant.events;
       settles = λ e z.
           c.loop-task.invariant.settles e
-          (subst (λ (ts : Tasks). AreSettled c.args.code.now ts (kept_of c.loop-task.self) e) (sym first) (kept_of c.settle.new.self, c.in_ok-settle.ensures.settles, z));
+          (subst (λ (ts : Tasks). AreSettled c.args.code.now ts (kept_of c.loop-task.self) e) (sym first)
+          (kept_of c.settle.new.self, c.in_ok-settle.ensures.settles, z));
     }

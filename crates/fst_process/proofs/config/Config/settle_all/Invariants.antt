@@ -9,5 +9,6 @@ abbrev pub invariant-loop-task : goal.invariant-loop-task
 invariant-loop-task l = record {
   next : ∥ HaveNext l.code (into_iter_items l.task-iterator) ∥₁;
   events : l.self.events ≡ l.fn.self.events;
-  settles : (e : Kept) → AreSettled l.code (into_iter_items l.task-iterator) (kept_of l.self) e → AreSettled l.code l.fn.tasks.items (kept_of l.fn.self) e;
+  settles : (e : Kept) → AreSettled l.code (into_iter_items l.task-iterator) (kept_of l.self) e →
+      AreSettled l.code l.fn.tasks.items (kept_of l.fn.self) e;
 }

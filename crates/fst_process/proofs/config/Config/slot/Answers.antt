@@ -16,7 +16,8 @@ unwrap-requires c =
     let p = c.args.path.now in
     let found : option_map slot_of (option_copied c.get.result) ≡ slot_in k.tasks.entries p =
     ap (option_map slot_of) c.get.ensures.value ∙ ap (slot_in k.tasks.entries) c.as_slice.ensures in
-    there_before (λ x. x.now) c.get.result (there_before slot_of (option_copied c.get.result) (ap (λ o. is_some o) found ∙ live_some k.tasks.entries k.ended.items p c.requires))
+    there_before (λ x. x.now) c.get.result (there_before slot_of (option_copied c.get.result)
+    (ap (λ o. is_some o) found ∙ live_some k.tasks.entries k.ended.items p c.requires))
 
 pub returns : goal.returns
 returns c =

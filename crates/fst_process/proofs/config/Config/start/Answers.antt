@@ -8,4 +8,5 @@ settle-requires c = ∥∥₁_map c.requires (start_next c.args.code.now c.in_ok
 
 pub returns-clause-begun : goal.returns-clause-begun
 returns-clause-begun c =
-    start_begun c.args.code.now c.in_ok-task.task (kept_of c.empty-config.result) (kept_of c.settle.new.self) c.empty-config.ensures.nothing c.in_ok-task.ensures c.in_ok-settle.ensures.settles
+    start_begun c.args.code.now c.in_ok-task.task (kept_of c.empty-config.result)
+    (kept_of c.settle.new.self) c.empty-config.ensures.nothing c.in_ok-task.ensures c.in_ok-settle.ensures.settles

@@ -9,4 +9,5 @@ go_on-requires c = ∥∥₁_map c.requires (local_can c.args.code.now (kept_of 
 
 pub returns : goal.returns
 returns c =
-    on_ok_weaker c.go_on.result (local_happens c.args.code.now (kept_of c.args.self.now) c.args.path.now (kept_of c.go_on.new.self)) c.go_on.ensures
+    on_ok_weaker c.go_on.result (local_happens c.args.code.now (kept_of c.args.self.now) c.args.path.now
+    (kept_of c.go_on.new.self)) c.go_on.ensures

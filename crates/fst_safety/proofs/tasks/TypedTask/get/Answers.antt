@@ -10,7 +10,8 @@ pub unreachable-requires : goal.unreachable-requires
 unreachable-requires c =
     let f = c.requires.fits in
     let t = c.args.self.now in
-    let none = subst (λ es. count_of c.args.name es ≡ 0) (c.as_slice.ensures.value ∙ c.in-Ok.ensures.same.bag) c.in_default-place.ensures.missing in
+    let none = subst (λ es. count_of c.args.name es ≡ 0)
+    (c.as_slice.ensures.value ∙ c.in-Ok.ensures.same.bag) c.in_default-place.ensures.missing in
     receiver_stands c.args.code.now f.0 t f.1 f.2 c.args.name c.requires.asks none
 
 pub returns-in_default-longest_label : goal.returns-in_default-longest_label

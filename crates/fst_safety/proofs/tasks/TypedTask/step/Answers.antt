@@ -11,4 +11,5 @@ pub returns-in_default : goal.returns-in_default
 returns-in_default c = refused c.args.code.now c.args.self.now c.go_on.new.self _ c.in_default.ensures.back
 
 pub returns : goal.returns
-returns c = λ a x f. step_turned c.args.code.now c.args.self.now c.requires.asks a x f (c.args.self.now.clock + 1) refl c.go_on.new.self c.in-Ok.ensures.on c.in-Ok.ensures.ends.0 c.in-Ok.ensures.ends.1
+returns c = λ a x f. step_turned c.args.code.now c.args.self.now c.requires.asks a x f
+    (c.args.self.now.clock + 1) refl c.go_on.new.self c.in-Ok.ensures.on c.in-Ok.ensures.ends.0 c.in-Ok.ensures.ends.1

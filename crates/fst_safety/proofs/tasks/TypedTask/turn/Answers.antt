@@ -15,31 +15,36 @@ pub step-requires-clause-asks : goal.step-requires-clause-asks
 step-requires-clause-asks c =
     let t = c.args.self.now in
     let k = c.args.code.now in
-    asks_still k t c.advance.new.self Step c.requires.fits c.advance.ensures.stays (subst (AsksFor k t.task) c.in-Step.is c.in-Ok.ensures.asked) c.in-Ok.ensures.rests
+    asks_still k t c.advance.new.self Step c.requires.fits c.advance.ensures.stays
+    (subst (AsksFor k t.task) c.in-Step.is c.in-Ok.ensures.asked) c.in-Ok.ensures.rests
 
 pub make-requires-clause-asks : goal.make-requires-clause-asks
 make-requires-clause-asks c =
     let t = c.args.self.now in
     let k = c.args.code.now in
-    asks_still k t c.advance.new.self (New c.in-New.number) c.requires.fits c.advance.ensures.stays (subst (AsksFor k t.task) c.in-New.is c.in-Ok.ensures.asked) c.in-Ok.ensures.rests
+    asks_still k t c.advance.new.self (New c.in-New.number) c.requires.fits c.advance.ensures.stays
+    (subst (AsksFor k t.task) c.in-New.is c.in-Ok.ensures.asked) c.in-Ok.ensures.rests
 
 pub fork-requires-clause-asks : goal.fork-requires-clause-asks
 fork-requires-clause-asks c =
     let t = c.args.self.now in
     let k = c.args.code.now in
-    asks_still k t c.advance.new.self Fork c.requires.fits c.advance.ensures.stays (subst (AsksFor k t.task) c.in-Fork.is c.in-Ok.ensures.asked) c.in-Ok.ensures.rests
+    asks_still k t c.advance.new.self Fork c.requires.fits c.advance.ensures.stays
+    (subst (AsksFor k t.task) c.in-Fork.is c.in-Ok.ensures.asked) c.in-Ok.ensures.rests
 
 pub put-requires-clause-asks : goal.put-requires-clause-asks
 put-requires-clause-asks c =
     let t = c.args.self.now in
     let k = c.args.code.now in
-    asks_still k t c.advance.new.self (Put c.in-Put.name c.in-Put.event) c.requires.fits c.advance.ensures.stays (subst (AsksFor k t.task) c.in-Put.is c.in-Ok.ensures.asked) c.in-Ok.ensures.rests
+    asks_still k t c.advance.new.self (Put c.in-Put.name c.in-Put.event) c.requires.fits c.advance.ensures.stays
+    (subst (AsksFor k t.task) c.in-Put.is c.in-Ok.ensures.asked) c.in-Ok.ensures.rests
 
 pub get-requires-clause-asks : goal.get-requires-clause-asks
 get-requires-clause-asks c =
     let t = c.args.self.now in
     let k = c.args.code.now in
-    asks_still k t c.advance.new.self (Get c.in-Get.name) c.requires.fits c.advance.ensures.stays (subst (AsksFor k t.task) c.in-Get.is c.in-Ok.ensures.asked) c.in-Ok.ensures.rests
+    asks_still k t c.advance.new.self (Get c.in-Get.name) c.requires.fits c.advance.ensures.stays
+    (subst (AsksFor k t.task) c.in-Get.is c.in-Ok.ensures.asked) c.in-Ok.ensures.rests
 
 pub returns-in-Ended : goal.returns-in-Ended
 returns-in-Ended c =
@@ -47,4 +52,5 @@ returns-in-Ended c =
     let k = c.args.code.now in
     let v = c.advance.new.self in
     advanced k t v _ _ c.advance.ensures.stays
-    (ended_turned k (record t { task = v }) (asks_still k t v Ended c.requires.fits c.advance.ensures.stays (subst (AsksFor k t.task) c.in-Ended.is c.in-Ok.ensures.asked) c.in-Ok.ensures.rests))
+    (ended_turned k (record t { task = v }) (asks_still k t v Ended c.requires.fits c.advance.ensures.stays
+    (subst (AsksFor k t.task) c.in-Ended.is c.in-Ok.ensures.asked) c.in-Ok.ensures.rests))

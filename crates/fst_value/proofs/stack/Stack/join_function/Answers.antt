@@ -7,5 +7,7 @@ use Rattle.fst_value.proofs.stack.Stack.join_function.Goals as goal
 
 pub returns : goal.returns
 returns c =
-    made_by (rooted (cell.Function c.args.lambda c.args.count)) (function c.args.lambda) c.args.count (reverse c.self.inside.values.items) c.args.self.now
-    (reverse c.gather.new.values.items) (Ok c.in_ok-done.done) c.self.view_is (rooted_function c.args.lambda c.args.count) c.in_ok-done.ensures
+    made_by (rooted (cell.Function c.args.lambda c.args.count)) (function c.args.lambda) c.args.count
+    (reverse c.self.inside.values.items) c.args.self.now
+    (reverse c.gather.new.values.items) (Ok c.in_ok-done.done) c.self.view_is
+    (rooted_function c.args.lambda c.args.count) c.in_ok-done.ensures

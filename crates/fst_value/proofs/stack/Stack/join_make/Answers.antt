@@ -7,5 +7,7 @@ use Rattle.fst_value.proofs.stack.Stack.join_make.Goals as goal
 
 pub returns : goal.returns
 returns c =
-    made_by (rooted (cell.Make c.args.family c.args.maker c.args.count)) (make c.args.family c.args.maker) c.args.count (reverse c.self.inside.values.items) c.args.self.now
-    (reverse c.gather.new.values.items) (Ok c.in_ok-done.done) c.self.view_is (rooted_make c.args.family c.args.maker c.args.count) c.in_ok-done.ensures
+    made_by (rooted (cell.Make c.args.family c.args.maker c.args.count)) (make c.args.family c.args.maker) c.args.count
+    (reverse c.self.inside.values.items) c.args.self.now
+    (reverse c.gather.new.values.items) (Ok c.in_ok-done.done) c.self.view_is
+    (rooted_make c.args.family c.args.maker c.args.count) c.in_ok-done.ensures

@@ -12,5 +12,6 @@ returns-then-count-eq0-clause-replaced c =
 pub returns-clause-replaced : goal.returns-clause-replaced
 returns-clause-replaced c =
     let n : c.len.result ≡ length c.self.inside.values.items = omega (arith, c.len.ensures, c.self.inside.values.ok) in
-    replaced c.self.inside.values.items c.self.inside.values.items c.truncate.new.self.items c.push-2.new.self.items c.args.self.now c.args.count c.len.result c.args.value
+    replaced c.self.inside.values.items c.self.inside.values.items c.truncate.new.self.items c.push-2.new.self.items
+    c.args.self.now c.args.count c.len.result c.args.value
     c.self.view_is refl n c.truncate.ensures.items c.in_ok-push-2.ensures.items c.requires

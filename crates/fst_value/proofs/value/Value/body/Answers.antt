@@ -6,4 +6,5 @@ use Rattle.fst_value.proofs.value.Value.body.Goals as goal
 pub returns : goal.returns
 returns c =
     let n : c.len.result ≡ length c.self.inside.cells.items = omega (arith, c.len.ensures, c.self.inside.cells.ok) in
-    (λ i. reverse (take (n i - 1) (c.deref.ensures.value i))) ∙ (kept_last c.self.inside.cells.items c.args.self.now cell.Unit c.self.invariant c.self.view_is).1
+    (λ i. reverse (take (n i - 1) (c.deref.ensures.value i)))
+    ∙ (kept_last c.self.inside.cells.items c.args.self.now cell.Unit c.self.invariant c.self.view_is).1

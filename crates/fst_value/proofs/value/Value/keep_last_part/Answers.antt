@@ -7,10 +7,12 @@ pub invariant_of-self : goal.invariant_of-self
 invariant_of-self c =
     kept_is c.truncate.new.self.items (last_of (parts_of c.args.self.now))
     (ap reverse c.truncate.ensures.items
-    ∙ last_part c.self.inside.cells.items c.args.self.now c.args.len c.self.invariant c.self.view_is c.requires.some c.requires.cells)
+    ∙ last_part c.self.inside.cells.items c.args.self.now c.args.len c.self.invariant c.self.view_is c.requires.some
+    c.requires.cells)
 
 pub returns : goal.returns
 returns c =
     kept_tree c.truncate.new.self.items (last_of (parts_of c.args.self.now))
     (ap reverse c.truncate.ensures.items
-    ∙ last_part c.self.inside.cells.items c.args.self.now c.args.len c.self.invariant c.self.view_is c.requires.some c.requires.cells)
+    ∙ last_part c.self.inside.cells.items c.args.self.now c.args.len c.self.invariant c.self.view_is c.requires.some
+    c.requires.cells)

@@ -4,7 +4,8 @@ use Rattle.fst_value.proofs.value.Value.set_first.Goals as goal
 use Rattle.fst_value.proofs.value.Value.set_first.Goals.{in-End-1, in-Int-1}
 
 pub returns-then-not-has_unit_first : goal.returns-then-not-has_unit_first
-returns-then-not-has_unit_first c = first_stays c.args.form c.args.self.now (sym c.has_unit_first.ensures ∙ c.if-not-has_unit_first.true)
+returns-then-not-has_unit_first c = first_stays c.args.form c.args.self.now
+    (sym c.has_unit_first.ensures ∙ c.if-not-has_unit_first.true)
 
 pub invariant_of-self : goal.invariant_of-self
 invariant_of-self c =

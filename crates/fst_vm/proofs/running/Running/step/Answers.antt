@@ -14,7 +14,11 @@ returns-in-None c =
     (nothing_there (code_of fs c.args.code.now) s.place (λ a j. ran (code_of fs c.args.code.now) a j s s.operands) none, refl)
 
 pub overflow_sub-behind : goal.overflow_sub-behind
-overflow_sub-behind c = omega (arith, there_is_place (code_of [] c.args.code.now) c.self.inside.place c.in-Some.instr.now (c.in-Some.ensures []))
+overflow_sub-behind c = omega (
+  arith,
+  there_is_place (code_of [] c.args.code.now) c.self.inside.place c.in-Some.instr.now
+      (c.in-Some.ensures []),
+)
 
 pub returns-in_err-place : goal.returns-in_err-place
 returns-in_err-place c =
@@ -26,12 +30,14 @@ pub returns-in-Some-2 : goal.returns-in-Some-2
 returns-in-Some-2 c =
     let i = c.self.inside in
     λ fs.
-    stepped (code_of fs c.args.code.now) c.in-Some.instr.now (parts i.slots i.stack i.calls.items) (parts c.act.new.slots c.act.new.stack c.act.new.calls.items) i.place c.in-Some-2.place
+    stepped (code_of fs c.args.code.now) c.in-Some.instr.now (parts i.slots i.stack i.calls.items)
+    (parts c.act.new.slots c.act.new.stack c.act.new.calls.items) i.place c.in-Some-2.place
     c.in_ok-place.field-0 c.args.self.now c.self.view_is (c.in-Some.ensures fs) c.in-Some-2.is (c.in_ok-place.ensures fs)
 
 pub returns-in-None-2 : goal.returns-in-None-2
 returns-in-None-2 c =
     let i = c.self.inside in
     λ fs.
-    not_stepped (code_of fs c.args.code.now) c.in-Some.instr.now (parts i.slots i.stack i.calls.items) (parts c.act.new.slots c.act.new.stack c.act.new.calls.items) i.place
+    not_stepped (code_of fs c.args.code.now) c.in-Some.instr.now (parts i.slots i.stack i.calls.items)
+    (parts c.act.new.slots c.act.new.stack c.act.new.calls.items) i.place
     c.in_ok-place.field-0 c.args.self.now c.self.view_is (c.in-Some.ensures fs) c.in-None-2.is (c.in_ok-place.ensures fs)

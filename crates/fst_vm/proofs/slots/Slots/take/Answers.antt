@@ -12,5 +12,6 @@ returns-then-len-k c =
 pub returns : goal.returns
 returns c =
     let n : c.len-len.result ≡ length c.self.inside.values.items = omega (arith, c.len-len.ensures, c.self.inside.values.ok) in
-    moved_out c.self.inside.values.items c.args.self.now c.args.k c.len-len.result c.index_mut.result.now c.push_from.new.slot c.args.stack.now c.push_from.new.self c.in_ok-done.done
+    moved_out c.self.inside.values.items c.args.self.now c.args.k c.len-len.result c.index_mut.result.now c.push_from.new.slot
+    c.args.stack.now c.push_from.new.self c.in_ok-done.done
     c.self.view_is n c.if-len-k.false c.index_mut.ensures.value c.in_ok-done.ensures

@@ -14,5 +14,7 @@ unwrap-requires c =
 pub returns-clause-asked : goal.returns-clause-asked
 returns-clause-asked c =
     let k = c.args.code.now in
-    λ m s h g. asks_for k c.args.self.now c.run_on.new.self c.in_ok-request.request c.run_on.ensures.stays c.in_ok-run_on.ensures.rests
-    (λ fs. c.in_ok-request.ensures fs ∙ ap (λ (t : TaskView). asked_at (code_of fs k) t.spot) c.self.view_is) m s h g ∙ c.unwrap.ensures
+    λ m s h g. asks_for k c.args.self.now c.run_on.new.self c.in_ok-request.request c.run_on.ensures.stays
+    c.in_ok-run_on.ensures.rests
+    (λ fs. c.in_ok-request.ensures fs ∙ ap (λ (t : TaskView). asked_at (code_of fs k) t.spot) c.self.view_is) m s h g
+    ∙ c.unwrap.ensures

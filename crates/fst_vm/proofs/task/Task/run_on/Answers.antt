@@ -24,40 +24,51 @@ run_on-requires c = down_where c.args.code.now c.args.self.now c.requires
 pub returns-in_err-run_on-clause-stays : goal.returns-in_err-run_on-clause-stays
 returns-in_err-run_on-clause-stays c =
     let i = c.self.inside in
-    let made = λ (fs : List Family). subst (λ (b : Bool). Makes (inner (code_of fs c.args.code.now)) i.running (Ok b) c.step.new.self) c.if-moved.true (c.in_ok-moved.ensures fs) in
-    stays c.args.code.now i.path i.forked i.running c.run_on.new.self i.ready false c.args.self.now c.self.view_is (λ fs. next (made fs) (c.run_on.ensures.way fs))
+    let made = λ (fs : List Family). subst (λ (b : Bool). Makes (inner (code_of fs c.args.code.now)) i.running
+    (Ok b) c.step.new.self) c.if-moved.true (c.in_ok-moved.ensures fs) in
+    stays c.args.code.now i.path i.forked i.running c.run_on.new.self i.ready false c.args.self.now c.self.view_is
+    (λ fs. next (made fs) (c.run_on.ensures.way fs))
 
 pub returns-in_err-run_on-clause-kept : goal.returns-in_err-run_on-clause-kept
 returns-in_err-run_on-clause-kept c =
     let k = c.args.code.now in
-    let made = subst (λ (b : Bool). Makes (inner (code_of [] k)) c.self.inside.running (Ok b) c.step.new.self) c.if-moved.true (c.in_ok-moved.ensures []) in
-    λ rests. absurd (none-some c.step.new.self (sym (rests []) ∙ ap (λ (t : TaskView). inner (code_of [] k) t.spot) (sym c.self.view_is) ∙ made))
+    let made = subst (λ (b : Bool). Makes (inner (code_of [] k)) c.self.inside.running (Ok b) c.step.new.self) c.if-moved.true
+    (c.in_ok-moved.ensures []) in
+    λ rests. absurd (none-some c.step.new.self (sym (rests []) ∙ ap
+    (λ (t : TaskView). inner (code_of [] k) t.spot) (sym c.self.view_is) ∙ made))
 
 pub returns-in_ok-run_on-clause-stays : goal.returns-in_ok-run_on-clause-stays
 returns-in_ok-run_on-clause-stays c =
     let i = c.self.inside in
-    let made = λ (fs : List Family). subst (λ (b : Bool). Makes (inner (code_of fs c.args.code.now)) i.running (Ok b) c.step.new.self) c.if-moved.true (c.in_ok-moved.ensures fs) in
-    stays c.args.code.now i.path i.forked i.running c.run_on.new.self i.ready false c.args.self.now c.self.view_is (λ fs. next (made fs) (c.run_on.ensures.way fs))
+    let made = λ (fs : List Family). subst (λ (b : Bool). Makes (inner (code_of fs c.args.code.now)) i.running
+    (Ok b) c.step.new.self) c.if-moved.true (c.in_ok-moved.ensures fs) in
+    stays c.args.code.now i.path i.forked i.running c.run_on.new.self i.ready false c.args.self.now c.self.view_is
+    (λ fs. next (made fs) (c.run_on.ensures.way fs))
 
 pub returns-in_ok-run_on-clause-kept : goal.returns-in_ok-run_on-clause-kept
 returns-in_ok-run_on-clause-kept c =
     let k = c.args.code.now in
-    let made = subst (λ (b : Bool). Makes (inner (code_of [] k)) c.self.inside.running (Ok b) c.step.new.self) c.if-moved.true (c.in_ok-moved.ensures []) in
-    λ rests. absurd (none-some c.step.new.self (sym (rests []) ∙ ap (λ (t : TaskView). inner (code_of [] k) t.spot) (sym c.self.view_is) ∙ made))
+    let made = subst (λ (b : Bool). Makes (inner (code_of [] k)) c.self.inside.running (Ok b) c.step.new.self) c.if-moved.true
+    (c.in_ok-moved.ensures []) in
+    λ rests. absurd (none-some c.step.new.self (sym (rests []) ∙ ap
+    (λ (t : TaskView). inner (code_of [] k) t.spot) (sym c.self.view_is) ∙ made))
 
 pub invariant_of-self-else-moved : goal.invariant_of-self-else-moved
 invariant_of-self-else-moved c =
-    let m = subst (λ (b : Bool). Makes (inner (code_of [] c.args.code.now)) c.self.inside.running (Ok b) c.step.new.self) c.if-moved.false (c.in_ok-moved.ensures []) in
+    let m = subst (λ (b : Bool). Makes (inner (code_of [] c.args.code.now)) c.self.inside.running (Ok b) c.step.new.self)
+    c.if-moved.false (c.in_ok-moved.ensures []) in
     λ ready. c.self.invariant ready ∙ ap (λ (s : Spot). spare_for s.operands) (sym m.1)
 
 pub returns-else-moved-clause-stays : goal.returns-else-moved-clause-stays
 returns-else-moved-clause-stays c =
     let i = c.self.inside in
-    let still = λ (fs : List Family). subst (λ (b : Bool). Makes (inner (code_of fs c.args.code.now)) i.running (Ok b) c.step.new.self) c.if-moved.false (c.in_ok-moved.ensures fs) in
+    let still = λ (fs : List Family). subst (λ (b : Bool). Makes (inner (code_of fs c.args.code.now)) i.running
+    (Ok b) c.step.new.self) c.if-moved.false (c.in_ok-moved.ensures fs) in
     stays c.args.code.now i.path i.forked i.running c.step.new.self i.ready i.ready c.args.self.now c.self.view_is
     (λ fs. subst (ComesTo (code_of fs c.args.code.now) i.running) (sym (still fs).1) here)
 
 pub returns-else-moved-clause-rests : goal.returns-else-moved-clause-rests
 returns-else-moved-clause-rests c = λ fs.
-    let m = subst (λ (b : Bool). Makes (inner (code_of fs c.args.code.now)) c.self.inside.running (Ok b) c.step.new.self) c.if-moved.false (c.in_ok-moved.ensures fs) in
+    let m = subst (λ (b : Bool). Makes (inner (code_of fs c.args.code.now)) c.self.inside.running (Ok b) c.step.new.self)
+    c.if-moved.false (c.in_ok-moved.ensures fs) in
     ap (inner (code_of fs c.args.code.now)) m.1 ∙ m.0

@@ -16,6 +16,7 @@ pub returns-in-Err : goal.returns-in-Err
 returns-in-Err c =
     let facts = c.binary_search_by_key.ensures in
     let by_letter = facts.position (λ r. r.letter) (answers_always _ _ _ (λ f a r g called. search rules)) in
-    let found = searched _ (rw c.deref.ensures.value c.self.invariant) c.args.letter (record { letter = 0; word = [] }) _ facts.bound by_letter in
+    let found = searched _ (rw c.deref.ensures.value c.self.invariant) c.args.letter
+    (record { letter = 0; word = [] }) _ facts.bound by_letter in
     let is = rw c.in-Err.is at found.1 in
     rw (← c.self.view_is, ← c.deref.ensures.value) (sym is)

@@ -23,7 +23,8 @@ loop-self-preserved c =
     record {
       kept = le;
       room = omega (arith, t, n, next, room, len, cap);
-      retires = retires_one c.args.kept (vec_len c.loop-self.self.tasks) (vec_len c.pop.new.self) c.args.self.now c.loop-self.self _ c.in-Some.task le (sym next) c.loop-self.invariant.retires
+      retires = retires_one c.args.kept (vec_len c.loop-self.self.tasks)
+          (vec_len c.pop.new.self) c.args.self.now c.loop-self.self _ c.in-Some.task le (sym next) c.loop-self.invariant.retires
           c.in-Some.ensures.items c.push_reserved.ensures.items refl (refl, refl, refl) c.pop.new.self.ok.0;
       same = c.loop-self.invariant.same;
     }
