@@ -2,6 +2,7 @@
 use Rattle.std.proofs.Common.{◌≡◌, ◌∙◌, ◌<◌, ◌≤◌, ◌+◌, ◌++◌, ◌||◌, get_or, take, ℕ, suc, zero, Bool, true, false, List, [], ◌∷◌, length, refl, sym, ap, subst, arith}
 use Rattle.std.proofs.Math.Path.{fun_ext}
 use Rattle.std.proofs.lemmas.List.{take_more}
+use Rattle.fst_terms.specs.CoreCount.{core_arms_count}
 use Rattle.fst_terms.specs.ModelCoreView.{core_arms_of}
 use Rattle.fst_terms.specs.declared.core_term.Arm.{Arm}
 use Rattle.fst_machine.specs.declared.code.Instr.TheVariants as instr
@@ -186,11 +187,13 @@ take_next xs i x lt e = take_more xs i x lt ∙ ap (λ y. take i xs ++ y ∷ [])
 -- ---- all arms
 
 pub arms_from : (c m d : Compiled) (ms ns : List Bool) (bs : List Arm) (cs : List ArmCode) (is : List ℕ) → Extends c m →
-    AreWritten m ms (top c) bs cs → marked ns ≡ also (marks_of cs) (marked ms) →
-    length ns ≡ length ms → Extends m d → ((q : ℕ → Bool) → marked ns ≡ also q (marked ms) → AllForget d q (marked ms) cs is) →
+    length m.lambdas ≤ length c.lambdas + core_arms_count (core_arms_of bs) → AreWritten m ms (top c) bs cs →
+    marked ns ≡ also (marks_of cs) (marked ms) → length ns ≡ length ms → Extends m d → d.lambdas ≡ m.lambdas →
+    ((q : ℕ → Bool) → marked ns ≡ also q (marked ms) → AllForget d q (marked ms) cs is) →
     AreAtMost (top d) is → WritesArms c ms d ns bs is
-arms_from c m d ms ns bs cs is x w e l y f a = record {
+arms_from c m d ms ns bs cs is x few w e l y same f a = record {
   extends = extends_both x y;
+  entries = omega (arith, few, ap length same);
   run = all_run d ms (top c) (free_below (core_arms_of bs)) bs cs is (kept_written y ms (top c) bs cs w)
       (f (free_below (core_arms_of bs)) union_is);
   within = a;

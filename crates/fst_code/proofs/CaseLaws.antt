@@ -67,7 +67,7 @@ pub match_left : (c m d : Compiled) (ms ns : List Bool) (at : ℕ) (e : CoreTree
     Pushes m d (instr.Match ps) → Leaves c ms d ns (match_with at e (core_arms_of bs)) e
 match_left c m d ms ns at e bs is ps w t x = left_from c d ms ns (match_with at e (core_arms_of bs)) e
     (free_below (core_arms_of bs)) (extends_both w.extends x.extends) w.marks w.deep (λ k. refl)
-    (λ g k r. record { range = r.range.1; whole = r.whole.0 })
+    (λ g k r. record { range = r.range.1; whole = r.whole.0 }) (omega (arith, w.entries, ap length x.entries))
     (λ a y g k s r v. let more = extends_both x.extends y in (
       top d,
       top m,
@@ -161,7 +161,7 @@ pub case_left : (c m d : Compiled) (ms ns : List Bool) (at : ℕ) (e : CoreTree)
 case_left c m d ms ns at e bs is ps w distinct t x =
     left_from c d ms ns (case_of at e (core_arms_of bs)) e (free_below (core_arms_of bs))
     (extends_both w.extends x.extends) w.marks w.deep (λ k. refl)
-    (λ g k r. record { range = r.range.1; whole = r.whole.0 })
+    (λ g k r. record { range = r.range.1; whole = r.whole.0 }) (omega (arith, w.entries, ap length x.entries))
     (λ a y g k s r v.
     let more = extends_both x.extends y in
     let all = w.extends.families ∙ more.families in

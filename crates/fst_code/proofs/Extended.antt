@@ -45,6 +45,7 @@ pushed c d a below f e l = record {
       | inr last ↦ subst (λ z. LeadsBelow z b) (sym (h.place ∙ ap suc last.0)) (subst (LeadsBelow (suc (top c))) last.1 below)
     ];
   };
+  entries = l;
   there = record {
     place = ap length e ∙ length_last c.code a;
     there = subst (λ z. slice_get z (top c) ≡ Some a) (sym e) (get_last c.code a);

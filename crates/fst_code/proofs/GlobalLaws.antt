@@ -1,10 +1,11 @@
 -- The code of the globals, one after the other, and of the module.
-use Rattle.std.proofs.Common.{◌≡◌, ◌∙◌, ◌<◌, ◌≤◌, ◌+◌, ◌++◌, ℕ, suc, Bool, true, false, List, [], ◌∷◌, length, get_or, drop, Some, cond, refl, sym, ap, subst, arith}
+use Rattle.std.proofs.Common.{◌≡◌, ◌∙◌, ◌<◌, ◌≤◌, ◌+◌, ◌++◌, ℕ, zero, suc, Bool, true, false, List, [], ◌∷◌, length, get_or, drop, Some, cond, refl, sym, ap, subst, arith}
 use Rattle.std.specs.Prelude.{if◌then◌else◌, codes, slice_get}
 use Rattle.std.specs.List.{count_by}
 use Rattle.std.specs.Str.{bytes_eq}
 use Rattle.std.proofs.lemmas.List.{drop_more}
 use Rattle.std.proofs.lemmas.List.Sums.{sum_by-cons}
+use Rattle.std.proofs.lemmas.Option.{same_Some}
 use Rattle.fst_types.specs.Tree.{Tree}
 use Rattle.fst_types.specs.declared.family.Family.{Family}
 use Rattle.fst_terms.specs.CoreTree.{CoreTree}
@@ -19,7 +20,8 @@ use Rattle.fst_machine.specs.Standing.{GoesDown}
 use Rattle.fst_machine.proofs.Laws.{closed_in_range}
 use Rattle.fst_code.specs.declared.built.Built.{Built}
 use Rattle.fst_code.specs.Globals.{AllStart, Starts}
-use Rattle.fst_code.specs.Whole.{AreBodiesWhole}
+use Rattle.fst_code.specs.Whole.{AreBodiesWhole, IsReady}
+use Rattle.fst_code.specs.Writable.{AreGlobalsWritable}
 use Rattle.fst_code.specs.Written.{Extends, Pushes, Writes, compiled, top}
 use Rattle.fst_code.specs.Marks.{marked}
 use Rattle.fst_code.proofs.Extended.{extends_same, kept, kept_at, kept_comes}
@@ -112,6 +114,23 @@ main_there d (g ∷ gs) (i ∷ is) n h c = go (bytes_eq g.name (codes "main")) r
         (sym (sum_by-cons (λ (x : GlobalEntry). cond (bytes_eq x.name (codes "main")) 1 0) g gs) ∙ c))
 
 -- ---- the module
+
+-- each body is ready
+bodies_ready : {b : Bounds} (gs : List GlobalEntry) → AreGlobals b gs → AreBodiesWhole b.families (bodies gs) →
+    (k : ℕ) (g : GlobalEntry) → slice_get gs k ≡ Some g → IsReady b 0 g.body
+bodies_ready [] r w k g at = absurd (cc at)
+bodies_ready {b} (f ∷ gs) r w zero g at = subst (λ (z : GlobalEntry). IsReady b 0 z.body) (same_Some f g at)
+    (record { range = r.1; whole = w.0 })
+bodies_ready (f ∷ gs) r w (suc k) g at = bodies_ready gs r.2 w.1 k g at
+
+-- the globals of a module can be written where no entry stands yet
+pub module_writable : (m : Module) → AreBodiesWhole m.families.items (bodies m.globals.items) →
+    AreGlobalsWritable 0 m.globals.items
+module_writable m w = record {
+  bounds = record { families = m.families.items; globals = length m.globals.items; types = length m.types.items };
+  ready = bodies_ready m.globals.items m.whole.global_parts w;
+  few = omega (arith, m.few);
+}
 
 globals_from : (d : Compiled) (b : Bounds) (gs : List GlobalEntry) (is : List ℕ) → b.families ≡ d.families → AreGlobals b gs →
     AreBodiesWhole b.families (bodies gs) → AllStart d gs is →

@@ -12,3 +12,4 @@ mod ArmLaws
 mod TableLaws
 mod CaseLaws
 mod GlobalLaws
+mod WritableLaws

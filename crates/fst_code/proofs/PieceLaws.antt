@@ -1,5 +1,5 @@
 -- Small pieces of code.
-use Rattle.std.proofs.Common.{◌≡◌, ◌∙◌, ◌<◌, ◌≤◌, ◌+◌, ℕ, zero, Bool, true, false, List, [], ◌∷◌, length, get_or, drop, inl, inr, refl, sym, ap, subst, arith}
+use Rattle.std.proofs.Common.{◌≡◌, ◌∙◌, ◌<◌, ◌≤◌, ◌+◌, ℕ, zero, suc, Bool, true, false, List, [], ◌∷◌, length, get_or, drop, inl, inr, refl, sym, ap, subst, arith}
 use Rattle.std.proofs.lemmas.List.{drop_more}
 use Rattle.std.specs.Prelude.{Some, slice_get}
 use Rattle.fst_machine.specs.declared.entry.LambdaEntry.{LambdaEntry}
@@ -11,12 +11,17 @@ use Rattle.fst_code.specs.Written.{ComesTo, Closes, Drops, Enters, Extends, Forg
 use Rattle.fst_code.proofs.Extended.{extends_both, extends_same, kept_at, kept_captures, kept_clears, kept_comes}
 
 pub enters_used : (c d : Compiled) (b : Bool) → b ≡ true → Pushes c d instr.Bind → Enters c d b
-enters_used c d b e p = record { extends = p.extends; there = subst (λ z. Binds d (top d) z (top c)) (sym e) p.there }
+enters_used c d b e p = record {
+  extends = p.extends;
+  entries = p.entries;
+  there = subst (λ z. Binds d (top d) z (top c)) (sym e) p.there;
+}
 
 pub enters_unused : (c m n d : Compiled) → Pushes c m instr.Drop → Pushes m n (instr.Take zero) → Pushes n d instr.Bind →
     Enters c d false
 enters_unused c m n d p q r = record {
   extends = extends_both p.extends (extends_both q.extends r.extends);
+  entries = r.entries ∙ q.entries ∙ p.entries;
   there = (
     top n,
     top m,
@@ -27,27 +32,30 @@ enters_unused c m n d p q r = record {
 }
 
 pub loads_none : (c : Compiled) (p : ℕ → Bool) → Loads c c [] p
-loads_none c p = record { extends = extends_same c c refl refl refl; there = refl }
+loads_none c p = record { extends = extends_same c c refl refl refl; entries = refl; there = refl }
 
 pub loads_more : (c m d : Compiled) (k : ℕ) (ks : List ℕ) (p : ℕ → Bool) → Loads c m ks p → Pushes m d (load (p k) k) →
     Loads c d (k ∷ ks) p
 loads_more c m d k ks p l h = record {
   extends = extends_both l.extends h.extends;
+  entries = h.entries ∙ l.entries;
   there = (top m, h.there, kept_captures h.extends (top m) ks p (top c) l.there);
 }
 
 pub drops_none : (c : Compiled) → Drops c c []
-drops_none c = record { extends = extends_same c c refl refl refl; there = refl }
+drops_none c = record { extends = extends_same c c refl refl refl; entries = refl; there = refl }
 
 pub drops_one : (c m d : Compiled) (k : ℕ) → Pushes c m instr.Drop → Pushes m d (instr.Take k) → Drops c d (k ∷ [])
 drops_one c m d k p q = record {
   extends = extends_both p.extends q.extends;
+  entries = q.entries ∙ p.entries;
   there = (top m, top c, q.there, kept_at q.extends (top m) instr.Drop (top c) p.there, refl);
 }
 
 pub drops_more : (c m d : Compiled) (k : ℕ) (ks : List ℕ) → Drops c m ks → Drops m d (k ∷ []) → Drops c d (k ∷ ks)
 drops_more c m d k ks l h = record {
   extends = extends_both l.extends h.extends;
+  entries = h.entries ∙ l.entries;
   there = (
     h.there.0,
     h.there.1,
@@ -66,6 +74,7 @@ pub forgot_from : (c m d : Compiled) (ks : List ℕ) (q f p : ℕ → Bool) (j :
     Drops m d ks → Forgot c d (top d) q f p j
 forgot_from c m d ks q f p j l to h = record {
   extends = extends_both to.extends h.extends;
+  entries = h.entries ∙ to.entries;
   forgets = record {
     variables = ks;
     listed = l;
@@ -81,6 +90,7 @@ pub forgot_none : (c : Compiled) (ks : List ℕ) (q f p : ℕ → Bool) (j : ℕ
     Forgot c c j q f p j
 forgot_none c ks q f p j e l h = record {
   extends = extends_same c c refl refl refl;
+  entries = refl;
   forgets = record {
     variables = [];
     listed = subst (λ z. Lists z (dropped q f p)) e l;
@@ -93,10 +103,14 @@ forgot_none c ks q f p j e l h = record {
 }
 
 pub comes_jump : (c d : Compiled) (j : ℕ) → Pushes c d (instr.Jump j) → ComesTo c d j
-comes_jump c d j p = record { extends = p.extends; there = inr (record { behind = top c; jump = p.there }) }
+comes_jump c d j p = record {
+  extends = p.extends;
+  entries = p.entries;
+  there = inr (record { behind = top c; jump = p.there });
+}
 
 pub comes_here : (c : Compiled) (j : ℕ) → top c ≡ j → ComesTo c c j
-comes_here c j e = record { extends = extends_same c c refl refl refl; there = inl e }
+comes_here c j e = record { extends = extends_same c c refl refl refl; entries = refl; there = inl e }
 
 pub load_names : (b : Bool) (k j : ℕ) → LeadsBelow j (load b k)
 load_names true k j = tt
@@ -109,13 +123,14 @@ closing_names false l j = tt
 -- a function or a task of a body
 pub closes_from : (c c1 c2 c3 d : Compiled) (ms ns : List Bool) (is_task : Bool) (used : ℕ → Bool) (j l : ℕ) (ks : List ℕ) →
     Lists ks used →
-    Extends c c1 → c1.code ≡ c.code → ((e : LambdaEntry) × (slice_get c1.lambdas l ≡ Some e) × (e.start ≡ top c) ×
-    (e.captured.items ≡ ks)) →
+    Extends c c1 → length c1.lambdas ≡ suc (length c.lambdas) → c1.code ≡ c.code →
+    ((e : LambdaEntry) × (slice_get c1.lambdas l ≡ Some e) × (e.start ≡ top c) × (e.captured.items ≡ ks)) →
     Pushes c1 c2 (instr.Jump j) → Pushes c2 c3 (closing is_task l) → Loads c3 d ks (marked ms) →
     marked ns ≡ also used (marked ms) → length ns ≡ length ms →
     Closes c ms d ns is_task (top c) used j
-closes_from c c1 c2 c3 d ms ns is_task used j l ks lists x same entry jump make loads marks deep = record {
+closes_from c c1 c2 c3 d ms ns is_task used j l ks lists x one same entry jump make loads marks deep = record {
   extends = extends_both x x1;
+  entries = ap length (loads.entries ∙ make.entries ∙ jump.entries) ∙ one;
   number = l;
   entry = entry.0;
   above = top c3;

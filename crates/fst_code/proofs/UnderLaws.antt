@@ -42,11 +42,12 @@ enter_more m n p i before e (x ∷ xs) h = let less : length xs ≡ i = omega ar
 -- so many of the innermost variables were left, of those that are marked in p
 pub record Left (c d : Compiled) (p : ℕ → Bool) (ns : List Bool) (i : ℕ) : Type 0 where
   pub extends : Extends c d
+  pub entries : d.lambdas ≡ c.lambdas
   pub binds : (xs : List Binder) → length xs ≡ i → BindsAll d (top d) xs p (top c)
   pub marks : (xs : List Binder) → length xs ≡ i → marked ns ≡ outside_all xs p
 
 pub left_none : (c : Compiled) (ns : List Bool) → Left c c (marked ns) ns 0
-left_none c ns = record { extends = extends_same c c refl refl refl; binds = none; marks = same }
+left_none c ns = record { extends = extends_same c c refl refl refl; entries = refl; binds = none; marks = same }
   where
     none : (xs : List Binder) → length xs ≡ 0 → BindsAll c (top c) xs (marked ns) (top c)
     none [] h = refl
@@ -58,7 +59,12 @@ left_none c ns = record { extends = extends_same c c refl refl refl; binds = non
 
 pub left_more : (c m d : Compiled) (p : ℕ → Bool) (ls ns : List Bool) (used : Bool) (i : ℕ) → Left c m p ls i →
     marked ls ≡ entered used (marked ns) → Enters m d used → Left c d p ns (i + 1)
-left_more c m d p ls ns used i h e b = record { extends = extends_both h.extends b.extends; binds = more; marks = fewer }
+left_more c m d p ls ns used i h e b = record {
+  extends = extends_both h.extends b.extends;
+  entries = b.entries ∙ h.entries;
+  binds = more;
+  marks = fewer;
+}
   where
     more : (xs : List Binder) → length xs ≡ i + 1 → BindsAll d (top d) xs p (top c)
     more [] l = absurd (omega arith)
@@ -95,6 +101,7 @@ pub under_written : (c d b : Compiled) (ms m1 m2 ns : List Bool) (xs : List Bind
     length m2 ≡ length xs + length ns → WritesUnder c ms b ns xs e
 under_written c d b ms m1 m2 ns xs e im lm w x on ln = record {
   extends = extends_both w.extends x.extends;
+  entries = omega (arith, w.entries, ap length x.entries);
   behind = top d;
   binds = binds_same b (top b) xs (marked m2) (free e) (top d)
       (λ k l. ap (λ z. z k) used ∙ ap (λ z. free e k || z) (within_below xs (marked ms) k l) ∙ or_none (free e k)) x.there;

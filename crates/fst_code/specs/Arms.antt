@@ -1,7 +1,8 @@
 -- The code of arms.
-use Rattle.std.specs.Prelude.{◌≡◌, ◌≤◌, ◌||◌, ℕ, Bool, false, List, [], ◌∷◌, ⊤, length, slice_get, slice_set, Option, Some, None}
+use Rattle.std.specs.Prelude.{◌≡◌, ◌≤◌, ◌||◌, ℕ, ◌+◌, Bool, false, List, [], ◌∷◌, ⊤, length, slice_get, slice_set, Option, Some, None}
 use Rattle.fst_types.specs.declared.family.Family.{Family}
 use Rattle.fst_types.specs.declared.family.Maker.{Maker}
+use Rattle.fst_terms.specs.CoreCount.{core_arms_count}
 use Rattle.fst_terms.specs.InRange.{Bounds}
 use Rattle.fst_terms.specs.ModelCoreView.{core_arms_of}
 use Rattle.fst_terms.specs.declared.core_term.Arm.{Arm}
@@ -79,10 +80,12 @@ AllRun d q p [] (i ∷ is) j = ⊥
 AllRun d q p (b ∷ bs) [] j = ⊥
 AllRun d q p (b ∷ bs) (i ∷ is) j = RunsFrom d i q p b j × AllRun d q p bs is j
 
--- the code of arms was written, which start at these places
+-- the code of arms was written, which start at these places, and no more entries than they have
+-- terms and bound names
 pub record WritesArms (c : Compiled) (ms : List Bool) (d : Compiled) (ns : List Bool)
     (bs : List Arm) (is : List ℕ) : Type 0 where
   pub extends : Extends c d
+  pub entries : length d.lambdas ≤ length c.lambdas + core_arms_count (core_arms_of bs)
   pub run : AllRun d (free_below (core_arms_of bs)) (marked ms) bs is (top c)
   pub within : AreAtMost (top d) is
   pub marks : marked ns ≡ also (free_below (core_arms_of bs)) (marked ms)

@@ -1,6 +1,7 @@
 -- What is written so far, and what each function writes.
-use Rattle.std.specs.Prelude.{◌≡◌, ◌≤◌, ℕ, Bool, List, [], length, slice_get, Some, if◌then◌else◌}
+use Rattle.std.specs.Prelude.{◌≡◌, ◌≤◌, ℕ, ◌+◌, suc, Bool, List, [], length, slice_get, Some, if◌then◌else◌}
 use Rattle.fst_types.specs.declared.family.Family.{Family}
+use Rattle.fst_terms.specs.CoreCount.{core_count, cores_count}
 use Rattle.fst_terms.specs.CoreTree.{CoreTree, CoreList}
 use Rattle.fst_terms.specs.InRange.{Bounds}
 use Rattle.fst_terms.specs.declared.binder.Binder.{Binder}
@@ -37,9 +38,11 @@ pub record Extends (c d : Compiled) : Type 0 where
   pub longer : top c ≤ top d
   pub down : GoesDown c → GoesDown d
 
--- code was written for which P holds, with the place where it begins and the place that comes behind it
+-- code was written for which P holds, with the place where it begins and the place that comes behind
+-- it, and no entry
 pub record Adds (P : Compiled → ℕ → ℕ → Type 0) (c d : Compiled) : Type 0 where
   pub extends : Extends c d
+  pub entries : d.lambdas ≡ c.lambdas
   pub there : P d (top d) (top c)
 
 -- an instruction was written
@@ -66,17 +69,19 @@ Loads c d ks p = Adds (λ e i j. Captures e i ks p j) c d
 abbrev pub Drops : Compiled → Compiled → List ℕ → Type 0
 Drops c d ks = Adds (λ e i j. Clears e i ks j) c d
 
--- what forgets variables in front of place j was written, and begins at place i
+-- what forgets variables in front of place j was written, and begins at place i, and no entry
 pub record Forgot (c d : Compiled) (i : ℕ) (q f p : ℕ → Bool) (j : ℕ) : Type 0 where
   pub extends : Extends c d
+  pub entries : d.lambdas ≡ c.lambdas
   pub forgets : Forgets d i q f p j
   pub within : i ≤ top d
 
--- the code of a term was written, if it is ready; in the marks before it, what is used behind, and afterwards what is used in
--- it too
+-- the code of a term was written, if it is ready, and no more entries than it has terms and bound
+-- names; in the marks before it, what is used behind, and afterwards what is used in it too
 pub record Writes (c : Compiled) (ms : List Bool) (d : Compiled) (ns : List Bool)
     (e : CoreTree) : Type 0 where
   pub extends : Extends c d
+  pub entries : length d.lambdas ≤ length c.lambdas + core_count e
   pub computes : (b : Bounds) (k : ℕ) → b.families ≡ c.families → IsReady b k e →
       Computes d (top d) e (marked ms) (top c)
   pub marks : marked ns ≡ also (free e) (marked ms)
@@ -86,25 +91,31 @@ pub record Writes (c : Compiled) (ms : List Bool) (d : Compiled) (ns : List Bool
 pub record WritesAll (c : Compiled) (ms : List Bool) (d : Compiled) (ns : List Bool)
     (es : CoreList) : Type 0 where
   pub extends : Extends c d
+  pub entries : length d.lambdas ≤ length c.lambdas + cores_count es
   pub computes : (b : Bounds) (k : ℕ) → b.families ≡ c.families → AreReady b k es →
       ComputesAll d (top d) es (marked ms) (top c)
   pub marks : marked ns ≡ also (free_in es) (marked ms)
   pub deep : length ns ≡ length ms
 
--- of the code of a term all was written but that of its part e, which comes first
+-- of the code of a term all was written but that of its part e, which comes first and is under no
+-- other binder
 pub record Leaves (c : Compiled) (ms : List Bool) (d : Compiled) (ns : List Bool)
     (t e : CoreTree) : Type 0 where
   pub rest : (b : Compiled) (ls : List Bool) → Writes d ns b ls e → Writes c ms b ls t
+  pub part : (b : Bounds) (k : ℕ) → IsReady b k t → IsReady b k e
+  pub entries : length d.lambdas + core_count e ≤ length c.lambdas + core_count t
+  pub deep : length ns ≡ length ms
 
 -- the instruction for a task, or for a function
 abbrev pub closing : Bool → ℕ → Instr
 closing is_task l = if is_task then instr.Fork l else instr.Function l
 
--- what makes a function or a task of a body was written: the body begins at place i and uses these variables, and place j
--- comes next
+-- what makes a function or a task of a body was written, and its entry: the body begins at place i
+-- and uses these variables, and place j comes next
 pub record Closes (c : Compiled) (ms : List Bool) (d : Compiled) (ns : List Bool) (is_task : Bool)
     (i : ℕ) (used : ℕ → Bool) (j : ℕ) : Type 0 where
   pub extends : Extends c d
+  pub entries : length d.lambdas ≡ suc (length c.lambdas)
   pub number : ℕ
   pub entry : LambdaEntry
   pub above : ℕ
@@ -122,6 +133,7 @@ pub record Closes (c : Compiled) (ms : List Bool) (d : Compiled) (ns : List Bool
 pub record WritesUnder (c : Compiled) (ms : List Bool) (d : Compiled) (ns : List Bool)
     (xs : List Binder) (e : CoreTree) : Type 0 where
   pub extends : Extends c d
+  pub entries : length d.lambdas ≤ length c.lambdas + core_count e
   pub behind : ℕ
   pub binds : BindsAll d (top d) xs (free e) behind
   pub computes : (b : Bounds) (k : ℕ) → b.families ≡ c.families → IsReady b k e →
@@ -133,6 +145,7 @@ pub record WritesUnder (c : Compiled) (ms : List Bool) (d : Compiled) (ns : List
 pub record WritesBehind (c : Compiled) (ms : List Bool) (d : Compiled) (ns : List Bool) (a : Instr)
     (e : CoreTree) : Type 0 where
   pub extends : Extends c d
+  pub entries : length d.lambdas ≤ length c.lambdas + core_count e
   pub behind : ℕ
   pub computes : (b : Bounds) (k : ℕ) → b.families ≡ c.families → IsReady b k e →
       Computes d (top d) e (marked ms) behind

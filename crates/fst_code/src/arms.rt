@@ -1,4 +1,4 @@
-ghost use Rattle.std.specs.Prelude.{◌≡◌, ◌≤◌, ℕ, Bool, List, IfOk, OnOk, Some, length, map, slice_get};
+ghost use Rattle.std.specs.Prelude.{◌≡◌, ◌≤◌, ◌<◌, ◌^◌, ℕ, Bool, List, IfOk, OnOk, Some, length, map, slice_get};
 ghost use Rattle.fst_types.specs.declared.family.Family.{Family};
 ghost use Rattle.fst_terms.specs.ModelCoreView.{core_arms_of};
 ghost use Rattle.fst_arms.specs.Arms.{AreEachOnce, arm_labels};
@@ -41,8 +41,10 @@ pub(crate) fn write_starts(
 ) -> Result<Vec<u64>, AllocError>
     requires deep { AllDeep (length all.now) codes.now }
     requires within { AllWithin (length out.old.code.items) codes.now }
+    requires few { length all.now < 2 ^ 32 }
     ensures more { OnOk result ((fs : List Family) →
         Extends (compiled fs out.old) (compiled fs out.new)) }
+    ensures entries { OnOk result (out.new.lambdas.items ≡ out.old.lambdas.items) }
     ensures starts { IfOk result (λ is. (fs : List Family) (q p : ℕ → Bool) →
         marked all.now ≡ also q p →
         AllForget (compiled fs out.new) q p codes.now is.items) }

@@ -1,7 +1,9 @@
-ghost use Rattle.std.specs.Prelude.{◌≡◌, ◌≤◌, ℕ, List, IfOk, OnOk, length};
-ghost use Rattle.fst_terms.specs.CoreTree.{CoreTree, case_of, if_else, match_with};
+ghost use Rattle.std.specs.Prelude.{◌≡◌, ◌≤◌, ◌+◌, ℕ, List, IfOk, OnOk, length};
+ghost use Rattle.fst_terms.specs.CoreCount.{core_arms_count, core_count};
+ghost use Rattle.fst_terms.specs.CoreTree.{CoreTree, case_of, if_else, match_with, no_terms, term};
 ghost use Rattle.fst_terms.specs.ModelCoreView.{core_arms_of};
 ghost use Rattle.fst_code.specs.Arms.{AreWritten, IsWritten, WritesArms};
+ghost use Rattle.fst_code.specs.Writable.{AreArmsWritable, AreWritable, IsWritable};
 ghost use Rattle.fst_code.specs.Written.{Extends, Leaves, compiled};
 
 use crate::arms::{case_places, mark_arms, match_places, write_starts};
@@ -27,6 +29,8 @@ pub(crate) fn write_if(
     yes: &Term,
     no: &Term,
 ) -> Result<(), AllocError>
+    requires { AreWritable (length later.old.items) (length out.old.lambdas.items)
+        (term yes.now (term no.now no_terms)) }
     ensures { OnOk result ((at : ℕ) (e : CoreTree) →
         Leaves (compiled given.now.families.now out.old) later.old.items
         (compiled given.now.families.now out.new) later.new.items
@@ -58,16 +62,17 @@ pub(crate) fn write_arm(
     next: u64,
     arm: &Arm,
 ) -> Result<ArmCode, AllocError>
-    requires { next ≤ length out.old.code.items }
+    requires place { next ≤ length out.old.code.items }
+    requires writable { IsWritable (length arm.now.binders.items + length later.now)
+        (length out.old.lambdas.items) arm.now.body }
     ensures more { OnOk result (Extends (compiled given.now.families.now out.old)
         (compiled given.now.families.now out.new)) }
+    ensures entries { OnOk result (length out.new.lambdas.items
+        ≤ length out.old.lambdas.items + core_count arm.now.body) }
     ensures arm { IfOk result (λ a.
         IsWritten (compiled given.now.families.now out.new) later.now next arm.now a) }
 {
     let count = arm.binders.len();
-    if u32::MAX as usize <= count {
-        return Err(AllocError);
-    }
     let mut marks = copied(given.alloc, later)?;
     come_to(out, next)?;
     push(out, Instr::Unbind(count as u32))?;
@@ -84,9 +89,12 @@ pub(crate) fn write_arms(
     next: u64,
     arms: &[Arm],
 ) -> Result<Vec<ArmCode>, AllocError>
-    requires { next ≤ length out.old.code.items }
+    requires place { next ≤ length out.old.code.items }
+    requires writable { AreArmsWritable (length later.now) (length out.old.lambdas.items) arms.now }
     ensures more { OnOk result (Extends (compiled given.now.families.now out.old)
         (compiled given.now.families.now out.new)) }
+    ensures entries { OnOk result (length out.new.lambdas.items
+        ≤ length out.old.lambdas.items + core_arms_count (core_arms_of arms.now)) }
     ensures arms { IfOk result (λ codes. AreWritten
         (compiled given.now.families.now out.new) later.now next
         arms.now codes.items) }
@@ -106,6 +114,7 @@ pub(crate) fn write_branches(
     later: &mut Vec<bool>,
     arms: &[Arm],
 ) -> Result<Vec<u64>, AllocError>
+    requires { AreArmsWritable (length later.old.items) (length out.old.lambdas.items) arms.now }
     ensures { IfOk result (λ starts. WritesArms
         (compiled given.now.families.now out.old) later.old.items
         (compiled given.now.families.now out.new) later.new.items arms.now starts.items) }
@@ -124,6 +133,7 @@ pub(crate) fn write_case(
     later: &mut Vec<bool>,
     arms: &[Arm],
 ) -> Result<(), AllocError>
+    requires { AreArmsWritable (length later.old.items) (length out.old.lambdas.items) arms.now }
     ensures { OnOk result ((at : ℕ) (e : CoreTree) →
         Leaves (compiled given.now.families.now out.old) later.old.items
         (compiled given.now.families.now out.new) later.new.items
@@ -142,6 +152,7 @@ pub(crate) fn write_match(
     later: &mut Vec<bool>,
     arms: &[Arm],
 ) -> Result<(), AllocError>
+    requires { AreArmsWritable (length later.old.items) (length out.old.lambdas.items) arms.now }
     ensures { OnOk result ((at : ℕ) (e : CoreTree) →
         Leaves (compiled given.now.families.now out.old) later.old.items
         (compiled given.now.families.now out.new) later.new.items

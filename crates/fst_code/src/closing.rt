@@ -1,4 +1,4 @@
-ghost use Rattle.std.specs.Prelude.{◌≡◌, ◌≤◌, ◌<◌, ◌^◌, ℕ, List, OnOk, IfOk, Some, length, slice_get};
+ghost use Rattle.std.specs.Prelude.{◌≡◌, ◌≤◌, ◌<◌, ◌^◌, ℕ, List, OnOk, IfOk, Some, length, slice_get, suc};
 ghost use Rattle.fst_types.specs.declared.family.Family.{Family};
 ghost use Rattle.fst_machine.specs.declared.entry.LambdaEntry.{LambdaEntry};
 ghost use Rattle.fst_code.specs.Marks.{marked};
@@ -30,18 +30,18 @@ fn push_closing(out: &mut Built, is_task: bool, number: u32) -> Result<(), Alloc
 
 // An entry for the code that begins at the last place, and its number.
 fn add_entry(alloc: Global, out: &mut Built, captured: &[u32]) -> Result<u32, AllocError>
-    requires { length captured.now < 2 ^ 32 }
+    requires few { length captured.now < 2 ^ 32 }
+    requires room { length out.old.lambdas.items < 2 ^ 32 }
     ensures more { OnOk result ((fs : List Family) →
         Extends (compiled fs out.old) (compiled fs out.new)) }
     ensures same { OnOk result (out.new.code.items ≡ out.old.code.items) }
+    ensures entries { OnOk result
+        (length out.new.lambdas.items ≡ suc (length out.old.lambdas.items)) }
     ensures there { IfOk result (λ l. (e : LambdaEntry) ×
         (slice_get out.new.lambdas.items l ≡ Some e) ×
         (e.start ≡ length out.old.code.items) × (e.captured.items ≡ captured.now)) }
 {
     let number = out.lambdas.len();
-    if u32::MAX as usize <= number {
-        return Err(AllocError);
-    }
     let start = top_of(out);
     let captured = Vec::from_slice(alloc, captured)?;
     out.lambdas.push(LambdaEntry { start, captured })?;
@@ -60,6 +60,8 @@ pub(crate) fn close(
 ) -> Result<(), AllocError>
     requires place { next ≤ length out.old.code.items }
     requires deep { length used.now ≡ length later.old.items }
+    requires few { length used.now < 2 ^ 32 }
+    requires room { length out.old.lambdas.items < 2 ^ 32 }
     ensures { OnOk result ((fs : List Family) →
         Closes (compiled fs out.old) later.old.items (compiled fs out.new) later.new.items is_task
         (length out.old.code.items) (marked used.now) next) }

@@ -1,9 +1,11 @@
-ghost use Rattle.std.specs.Prelude.{◌≡◌, ◌≤◌, ℕ, IfOk, OnOk, Some, codes, length};
+ghost use Rattle.std.specs.Prelude.{◌≡◌, ◌≤◌, ◌+◌, ℕ, IfOk, OnOk, Some, codes, length};
 ghost use Rattle.std.specs.List.{count_by};
 ghost use Rattle.std.specs.Str.{bytes_eq};
+ghost use Rattle.fst_terms.specs.CoreCount.{core_count, globals_count};
 ghost use Rattle.fst_machine.specs.Code.{Comes};
 ghost use Rattle.fst_machine.specs.Programs.{main_place};
 ghost use Rattle.fst_code.specs.Globals.{AllStart, Starts};
+ghost use Rattle.fst_code.specs.Writable.{AreGlobalsWritable, IsWritable};
 ghost use Rattle.fst_code.specs.Written.{Extends, compiled};
 
 use crate::built::{Built, come_to, push, top_of};
@@ -15,8 +17,11 @@ use std::alloc::AllocError;
 
 // The code of a global's body, and the place where it starts.
 fn write_global(given: &Given<'_>, out: &mut Built, body: &Term) -> Result<u64, AllocError>
+    requires { IsWritable 0 (length out.old.lambdas.items) body.now }
     ensures more { OnOk result (Extends (compiled given.now.families.now out.old)
         (compiled given.now.families.now out.new)) }
+    ensures entries { OnOk result
+        (length out.new.lambdas.items ≤ length out.old.lambdas.items + core_count body.now) }
     ensures starts { IfOk result (λ i. Starts
         (compiled given.now.families.now out.new) i body.now) }
 {
@@ -32,8 +37,11 @@ fn write_globals(
     out: &mut Built,
     globals: &[GlobalEntry],
 ) -> Result<Vec<u64>, AllocError>
+    requires { AreGlobalsWritable (length out.old.lambdas.items) globals.now }
     ensures more { OnOk result (Extends (compiled given.now.families.now out.old)
         (compiled given.now.families.now out.new)) }
+    ensures entries { OnOk result (length out.new.lambdas.items + length globals.now
+        ≤ length out.old.lambdas.items + globals_count globals.now) }
     ensures starts { IfOk result (λ is.
         AllStart (compiled given.now.families.now out.new) globals.now is.items) }
 {
@@ -70,9 +78,12 @@ pub(crate) fn write_program(
     out: &mut Built,
     globals: &[GlobalEntry],
 ) -> Result<Vec<u64>, AllocError>
-    requires { count_by (λ g. bytes_eq g.name (codes "main")) globals.now ≡ 1 }
+    requires main { count_by (λ g. bytes_eq g.name (codes "main")) globals.now ≡ 1 }
+    requires writable { AreGlobalsWritable (length out.old.lambdas.items) globals.now }
     ensures more { OnOk result (Extends (compiled given.now.families.now out.old)
         (compiled given.now.families.now out.new)) }
+    ensures entries { OnOk result (length out.new.lambdas.items + length globals.now
+        ≤ length out.old.lambdas.items + globals_count globals.now) }
     ensures starts { IfOk result (λ is.
         AllStart (compiled given.now.families.now out.new) globals.now is.items) }
     ensures main { IfOk result (λ is. (start : ℕ) × (main_place globals.now is.items ≡ Some start) ×

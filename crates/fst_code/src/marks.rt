@@ -74,12 +74,10 @@ pub(crate) fn mark_all(later: &mut Vec<bool>, others: &[bool])
 
 /// The variables that are marked, in rising order.
 pub(crate) fn variables_in(alloc: Global, marks: &[bool]) -> Result<Vec<u32>, AllocError>
+    requires { length marks.now < 2 ^ 32 }
     ensures lists { IfOk result (λ ks. Lists ks.items (marked marks.now)) }
     ensures few { IfOk result (λ ks. length ks.items < 2 ^ 32) }
 {
-    if u32::MAX as usize <= marks.len() {
-        return Err(AllocError);
-    }
     let mut found = Vec::new(alloc);
     for k in 0..marks.len() {
         if is_marked(marks, k) {
@@ -92,8 +90,9 @@ pub(crate) fn variables_in(alloc: Global, marks: &[bool]) -> Result<Vec<u32>, Al
 // The marks of the first list that the second one hasn't.
 fn only_in(alloc: Global, all: &[bool], some: &[bool]) -> Result<Vec<bool>, AllocError>
     requires { length some.now ≡ length all.now }
-    ensures { IfOk result (λ v. (k : ℕ) →
+    ensures marks { IfOk result (λ v. (k : ℕ) →
         marked v.items k ≡ (marked all.now k && not (marked some.now k))) }
+    ensures deep { IfOk result (λ v. length v.items ≡ length all.now) }
 {
     let mut marks = Vec::new(alloc);
     for (i, used) in all.iter().enumerate() {
@@ -108,7 +107,8 @@ pub(crate) fn forgotten(
     all: &[bool],
     branch: &[bool],
 ) -> Result<Vec<u32>, AllocError>
-    requires { length branch.now ≡ length all.now }
+    requires deep { length branch.now ≡ length all.now }
+    requires few { length all.now < 2 ^ 32 }
     ensures { IfOk result (λ ks. (q f p : ℕ → Bool) → marked all.now ≡ also q p →
         marked branch.now ≡ also f p → Lists ks.items (dropped q f p)) }
 {

@@ -1,9 +1,10 @@
-ghost use Rattle.std.specs.Prelude.{◌≡◌, ℕ, List, OnOk, length, suc};
+ghost use Rattle.std.specs.Prelude.{◌≡◌, ◌+◌, ℕ, List, OnOk, length, suc};
 ghost use Rattle.fst_types.specs.declared.kind.Use.{Use};
 ghost use Rattle.fst_terms.specs.CoreTree.{CoreTree, fork, lambda, let_in, make, seq, split};
 ghost use Rattle.fst_terms.specs.ModelCoreView.{cores_of};
 ghost use Rattle.fst_terms.specs.declared.binder.Binder.{Binder};
 ghost use Rattle.fst_machine.specs.Standing.{LeadsBelow};
+ghost use Rattle.fst_code.specs.Writable.{AreWritable, IsWritable};
 ghost use Rattle.fst_code.specs.Written.{Leaves, Writes, WritesAll, WritesBehind, WritesUnder, compiled};
 
 use crate::built::{Built, push, top_of};
@@ -27,6 +28,7 @@ pub(crate) fn write_under(
     count: usize,
     body: &Term,
 ) -> Result<(), AllocError>
+    requires { IsWritable (count + length later.old.items) (length out.old.lambdas.items) body.now }
     ensures { OnOk result ((xs : List Binder) → length xs ≡ count →
         WritesUnder (compiled given.now.families.now out.old) later.old.items
         (compiled given.now.families.now out.new) later.new.items xs body.now) }
@@ -44,6 +46,7 @@ pub(crate) fn write_task(
     later: &mut Vec<bool>,
     body: &Term,
 ) -> Result<(), AllocError>
+    requires { IsWritable (length later.old.items) (length out.old.lambdas.items) body.now }
     ensures { OnOk result ((at : ℕ) →
         Writes (compiled given.now.families.now out.old) later.old.items
         (compiled given.now.families.now out.new) later.new.items (fork at body.now)) }
@@ -63,6 +66,7 @@ pub(crate) fn write_function(
     later: &mut Vec<bool>,
     body: &Term,
 ) -> Result<(), AllocError>
+    requires { IsWritable (suc (length later.old.items)) (length out.old.lambdas.items) body.now }
     ensures { OnOk result ((at : ℕ) (u : Use) (t : ℕ) (x : Binder) →
         Writes (compiled given.now.families.now out.old) later.old.items
         (compiled given.now.families.now out.new) later.new.items (lambda at u t x body.now)) }
@@ -82,6 +86,8 @@ pub(crate) fn write_all(
     later: &mut Vec<bool>,
     terms: &[Term],
 ) -> Result<(), AllocError>
+    requires { AreWritable (length later.old.items) (length out.old.lambdas.items)
+        (cores_of terms.now) }
     ensures { OnOk result (WritesAll (compiled given.now.families.now out.old) later.old.items
         (compiled given.now.families.now out.new) later.new.items (cores_of terms.now)) }
 {
@@ -100,14 +106,13 @@ pub(crate) fn write_make(
     maker: u32,
     arguments: &[Term],
 ) -> Result<(), AllocError>
+    requires { AreWritable (length later.old.items) (length out.old.lambdas.items)
+        (cores_of arguments.now) }
     ensures { OnOk result ((at : ℕ) →
         Writes (compiled given.now.families.now out.old) later.old.items
         (compiled given.now.families.now out.new) later.new.items
         (make at family maker (cores_of arguments.now))) }
 {
-    if u32::MAX as usize <= arguments.len() {
-        return Err(AllocError);
-    }
     push(out, Instr::Make(family, maker, arguments.len() as u32))?;
     write_all(given, out, later, arguments)?;
     Ok(())
@@ -122,7 +127,9 @@ pub(crate) fn write_second(
     instr: Instr,
     second: &Term,
 ) -> Result<(), AllocError>
-    requires { LeadsBelow (suc (length out.old.code.items)) instr }
+    requires leads { LeadsBelow (suc (length out.old.code.items)) instr }
+    requires writable { IsWritable (length later.old.items)
+        (length out.old.lambdas.items) second.now }
     ensures { OnOk result (WritesBehind (compiled given.now.families.now out.old) later.old.items
         (compiled given.now.families.now out.new) later.new.items instr second.now) }
 {
@@ -138,6 +145,7 @@ pub(crate) fn write_then(
     later: &mut Vec<bool>,
     second: &Term,
 ) -> Result<(), AllocError>
+    requires { IsWritable (length later.old.items) (length out.old.lambdas.items) second.now }
     ensures { OnOk result ((at : ℕ) (e : CoreTree) →
         Leaves (compiled given.now.families.now out.old) later.old.items
         (compiled given.now.families.now out.new) later.new.items (seq at e second.now) e) }
@@ -154,6 +162,7 @@ pub(crate) fn write_let(
     later: &mut Vec<bool>,
     body: &Term,
 ) -> Result<(), AllocError>
+    requires { IsWritable (suc (length later.old.items)) (length out.old.lambdas.items) body.now }
     ensures { OnOk result ((at : ℕ) (x : Binder) (e : CoreTree) →
         Leaves (compiled given.now.families.now out.old) later.old.items
         (compiled given.now.families.now out.new) later.new.items (let_in at x e body.now) e) }
@@ -170,6 +179,8 @@ pub(crate) fn write_split(
     later: &mut Vec<bool>,
     body: &Term,
 ) -> Result<(), AllocError>
+    requires { IsWritable (suc (suc (length later.old.items)))
+        (length out.old.lambdas.items) body.now }
     ensures { OnOk result ((at : ℕ) (x y : Binder) (e : CoreTree) →
         Leaves (compiled given.now.families.now out.old) later.old.items
         (compiled given.now.families.now out.new) later.new.items (split at x y e body.now) e) }

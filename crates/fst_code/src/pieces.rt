@@ -1,4 +1,4 @@
-ghost use Rattle.std.specs.Prelude.{◌≡◌, ◌≤◌, ◌+◌, ◌∷◌, [], ℕ, Bool, List, IfOk, OnOk, length};
+ghost use Rattle.std.specs.Prelude.{◌≡◌, ◌≤◌, ◌<◌, ◌+◌, ◌^◌, ◌∷◌, [], ℕ, Bool, List, IfOk, OnOk, length};
 ghost use Rattle.fst_types.specs.declared.family.Family.{Family};
 ghost use Rattle.fst_terms.specs.declared.binder.Binder.{Binder};
 ghost use Rattle.fst_machine.specs.Free.{outside_all};
@@ -83,6 +83,7 @@ pub(crate) fn forget_here(
 ) -> Result<(), AllocError>
     requires place { start ≤ length out.old.code.items }
     requires deep { length branch.now ≡ length all.now }
+    requires few { length all.now < 2 ^ 32 }
     ensures { OnOk result ((fs : List Family) (q f p : ℕ → Bool) → marked all.now ≡ also q p →
         marked branch.now ≡ also f p →
         Forgot (compiled fs out.old) (compiled fs out.new)
@@ -103,6 +104,7 @@ pub(crate) fn forget(
 ) -> Result<u64, AllocError>
     requires place { start ≤ length out.old.code.items }
     requires deep { length branch.now ≡ length all.now }
+    requires few { length all.now < 2 ^ 32 }
     ensures { IfOk result (λ i. (fs : List Family) (q f p : ℕ → Bool) → marked all.now ≡ also q p →
         marked branch.now ≡ also f p →
         Forgot (compiled fs out.old) (compiled fs out.new) i q f p start) }

@@ -1,6 +1,7 @@
 ghost use Rattle.std.specs.Prelude.{◌≡◌, ◌<◌, ℕ, List, IfOk, IfSome, MatchOption, OnOk, length};
 ghost use Rattle.fst_types.specs.declared.family.Family.{Family};
 ghost use Rattle.fst_terms.specs.CoreTree.{core_height, local};
+ghost use Rattle.fst_code.specs.Writable.{IsWritable};
 ghost use Rattle.fst_code.specs.Written.{Leaves, Writes, compiled};
 
 use crate::branches::{write_case, write_if, write_match};
@@ -19,13 +20,11 @@ use std::alloc::AllocError;
 // operators and applications are written in a loop.
 
 fn write_local(out: &mut Built, later: &mut Vec<bool>, k: u32) -> Result<(), AllocError>
+    requires { k < length later.old.items }
     ensures { OnOk result ((fs : List Family) (at : ℕ) →
         Writes (compiled fs out.old) later.old.items (compiled fs out.new) later.new.items
         (local at k)) }
 {
-    if later.len() <= k as usize {
-        return Err(AllocError);
-    }
     push_load(out, later, k)?;
     mark(later, k as usize);
     Ok(())
@@ -39,6 +38,7 @@ fn write_behind<'a>(
     later: &mut Vec<bool>,
     term: &'a Term,
 ) -> Result<Option<&'a Term>, AllocError>
+    requires { IsWritable (length later.old.items) (length out.old.lambdas.items) term.now }
     ensures written { IfOk result (λ o. MatchOption o
         (Writes (compiled given.now.families.now out.old) later.old.items
         (compiled given.now.families.now out.new) later.new.items term.now)
@@ -150,6 +150,7 @@ pub(crate) fn write(
     later: &mut Vec<bool>,
     term: &Term,
 ) -> Result<(), AllocError>
+    requires { IsWritable (length later.old.items) (length out.old.lambdas.items) term.now }
     ensures { OnOk result (Writes (compiled given.now.families.now out.old) later.old.items
         (compiled given.now.families.now out.new) later.new.items term.now) }
 {

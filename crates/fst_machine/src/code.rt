@@ -1,3 +1,4 @@
+ghost use Rattle.std.specs.Prelude.{◌<◌, ◌+◌, ◌^◌, length};
 ghost use Rattle.fst_machine.specs.Programs.{IsCodeOf};
 
 use crate::entry::LambdaEntry;
@@ -62,7 +63,8 @@ pub enum Instr {
     Return,
 }
 
-/// The code of a module. Its greatest place is where the body of `main` begins.
+/// The code of a module. Its greatest place is where the body of `main` begins. Its functions and
+/// tasks, its globals and its types are together fewer than 2^32.
 #[derive(Drop)]
 pub struct Code {
     pub code: Vec<Instr>,
@@ -75,4 +77,5 @@ pub struct Code {
     /// The module, for contracts alone: the code stands for it.
     pub module: Snapshot<Module>,
     ghost stands: { ∥ IsCodeOf module.value code.items lambdas.items globals.items types.items ∥₁ },
+    ghost few: { length lambdas.items + length globals.items + length types.items < 2 ^ 32 },
 }

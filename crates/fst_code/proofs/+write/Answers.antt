@@ -1,13 +1,16 @@
-use Rattle.std.proofs.Common.{◌≡◌, ◌∙◌, ◌<◌, ◌≤◌, ◌+◌, ◌-◌, ◌++◌, ◌∷◌, true, false, [], length, drop, take, refl, sym, ap, subst, arith, rules, w64}
+use Rattle.std.proofs.Common.{◌≡◌, ◌∙◌, ◌<◌, ◌≤◌, ◌+◌, ◌-◌, ◌++◌, ◌∷◌, true, false, suc, [], length, drop, take, refl, sym, ap, subst, arith, rules, w64}
 use mir.Val.{of_z, to_z}
 use Rattle.std.proofs.lemmas.List.{drop_all, take_all}
+use Rattle.std.proofs.lemmas.Option.{slice_get_read}
 use Rattle.fst_terms.proofs.Laws.{core_arms_height_at, cores_height_at}
-use Rattle.fst_terms.specs.CoreTree.{core_height, pair, make, lambda, apply, let_in, int, split, if_else, case_of, match_with, operate, negate, send, receive, select, fork, seq}
+use Rattle.fst_terms.specs.CoreCount.{core_arms_count, cores_count}
+use Rattle.fst_terms.specs.CoreTree.{core_arms_height, core_height, pair, make, lambda, apply, let_in, int, split, if_else, case_of, match_with, operate, negate, send, receive, select, fork, seq}
 use Rattle.fst_terms.specs.declared.binder.Binder.{Binder}
 use Rattle.fst_terms.specs.InRange.{terms_length}
 use Rattle.fst_terms.specs.ModelCoreView.{core_arms_of, cores_of}
 use Rattle.fst_terms.specs.declared.core_term.Arm.{Arm}
-use Rattle.std.specs.Prelude.{slice_get}
+use Rattle.std.specs.Prelude.{List, slice_get}
+use Rattle.fst_code.specs.declared.codes.ArmCode.{ArmCode}
 use Rattle.fst_code.specs.Arms.{AllForget, AreAtMost, ArePlacesOf, AreWritten, marks_of, table_of}
 use Rattle.fst_code.proofs.ArmLaws.{arm_written, arms_from, kept_written, run_length, take_next, written_deep, written_more, written_within}
 use Rattle.fst_code.proofs.CaseLaws.{case_left, match_left}
@@ -19,6 +22,7 @@ use Rattle.fst_machine.specs.Free.{free, free_below}
 use Rattle.fst_machine.specs.Machine.{in_either}
 use Rattle.fst_code.specs.Marks.{marked}
 use Rattle.fst_code.proofs.ListsLaws.{also_none}
+use Rattle.fst_code.specs.Writable.{AreArmsWritable, AreWritable, IsWritable}
 use Rattle.fst_code.specs.Written.{Closes, ComesTo, Forgot, Pushes, Writes, WritesAll, WritesUnder, compiled, top}
 use Rattle.fst_code.proofs.FormLaws.{all_more, all_none, behind_from, fork_written, if_left, lambda_written, leaves_more, leaves_none, let_left, make_written, seq_left, split_left, apply_left, bool_written, char_written, global_written, int_written, negate_left, new_written, operate_left, pair_left, receive_left, select_left, send_left, unit_written}
 use Rattle.fst_code.proofs.HeightLaws.{terms_length-cores}
@@ -26,6 +30,7 @@ use Rattle.fst_code.proofs.MarkLaws.{within_none}
 use Rattle.fst_code.proofs.PieceLaws.{drop_before}
 use Rattle.fst_code.proofs.UnderLaws.{under_written}
 use Rattle.fst_code.proofs.Wholes.{left_as, whole_one, whole_three, whole_two, written_as}
+use Rattle.fst_code.proofs.WritableLaws.{case_arms, cores_count_drop, length_cores_count, match_arms, ready_at, writable_as, writable_from}
 use Rattle.fst_code.proofs.+write.Goals as goal
 
 -- some binder
@@ -33,6 +38,11 @@ unnamed : Binder
 unnamed = record { name = []; at = 0 }
 
 -- ---- under binders
+
+pub parts::write_under-write-requires : goal.parts::write_under-write-requires
+parts::write_under-write-requires t c =
+    let same = c.in_ok-enter_all.ensures.deep in
+    (omega (arith, c.decreases), writable_from c.requires.ready same (omega (arith, same, c.requires.few)))
 
 pub parts::write_under-leave_all-requires : goal.parts::write_under-leave_all-requires
 parts::write_under-leave_all-requires t c = omega (arith, c.in_ok-enter_all.ensures.deep, c.in_ok-write.ensures.deep)
@@ -52,14 +62,27 @@ parts::write_under-returns t c = λ xs h.
 
 -- ---- functions and tasks
 
+pub parts::write_task-write-requires : goal.parts::write_task-write-requires
+parts::write_task-write-requires t c =
+    let p = c.in_ok-push.ensures c.args.given.now.families.now in
+    let same : length c.in_ok-used.used.items ≡ length c.args.later.now.items =
+    omega (arith, c.in_ok-used.ensures.deep, c.len.ensures, c.args.later.now.ok.0) in (
+      omega (arith, c.decreases),
+      writable_from c.requires.ready same (omega (arith, same, ap length p.entries, c.requires.few)),
+    )
+
 pub parts::write_task-close-requires : goal.parts::write_task-close-requires
 parts::write_task-close-requires t c =
     let F = c.args.given.now.families.now in
     let p = c.in_ok-push.ensures F in
     let long = ap length c.deref.ensures.value in
+    let deep : length c.deref.result.now ≡ length c.args.later.now.items =
+    omega (arith, long, c.in_ok-write.ensures.deep, c.in_ok-used.ensures.deep, c.len.ensures, c.args.later.now.ok.0) in
     record {
       place = omega (arith, c.top_of-next.ensures, p.extends.longer, c.in_ok-write.ensures.extends.longer);
-      deep = omega (arith, long, c.in_ok-write.ensures.deep, c.in_ok-used.ensures.deep, c.len.ensures, c.args.later.now.ok.0);
+      deep = deep;
+      few = omega (arith, deep, c.requires.few);
+      room = omega (arith, c.in_ok-write.ensures.entries, ap length p.entries, c.requires.few);
     }
 
 pub parts::write_task-returns : goal.parts::write_task-returns
@@ -76,15 +99,28 @@ parts::write_task-returns t c = λ at.
     (subst (λ z. Closes k c.args.later.now.items d c.close.new.later.items true (top k) (marked c.write.new.later.items) z)
     c.top_of-next.ensures x)
 
+pub parts::write_function-write_under-requires : goal.parts::write_function-write_under-requires
+parts::write_function-write_under-requires t c =
+    let p = c.in_ok-push.ensures c.args.given.now.families.now in
+    let same : 1 + length c.in_ok-used.used.items ≡ suc (length c.args.later.now.items) =
+    omega (arith, c.in_ok-used.ensures.deep, c.len.ensures, c.args.later.now.ok.0) in (
+      omega (arith, c.decreases),
+      writable_from c.requires.ready same (omega (arith, same, ap length p.entries, c.requires.few)),
+    )
+
 pub parts::write_function-close-requires : goal.parts::write_function-close-requires
 parts::write_function-close-requires t c =
     let F = c.args.given.now.families.now in
     let p = c.in_ok-push.ensures F in
     let w = c.in_ok-write_under.ensures (unnamed ∷ []) refl in
     let long = ap length c.deref.ensures.value in
+    let deep : length c.deref.result.now ≡ length c.args.later.now.items =
+    omega (arith, long, w.deep, c.in_ok-used.ensures.deep, c.len.ensures, c.args.later.now.ok.0) in
     record {
       place = omega (arith, c.top_of-next.ensures, p.extends.longer, w.extends.longer);
-      deep = omega (arith, long, w.deep, c.in_ok-used.ensures.deep, c.len.ensures, c.args.later.now.ok.0);
+      deep = deep;
+      few = omega (arith, deep, c.requires.few);
+      room = omega (arith, w.entries, ap length p.entries, c.requires.few);
     }
 
 pub parts::write_function-returns : goal.parts::write_function-returns
@@ -105,10 +141,16 @@ parts::write_function-returns t c = λ at u a y.
 
 pub parts::write_all-write-requires : goal.parts::write_all-write-requires
 parts::write_all-write-requires t c =
-    let n = c.loop-i.i - 1 in
-    let lt : n < length c.args.terms.now = omega arith in
-    let high = cores_height_at c.args.terms.now n c.index-terms-i.result lt in
-    (omega (arith, high, ap core_height c.index-terms-i.is, c.decreases), tt)
+    let xs = c.args.terms.now in let n = c.loop-i.i - 1 in let x = c.index-terms-i.result in
+    let lt : n < length xs = omega arith in let e : c.loop-i.i ≡ n + 1 = omega arith in
+    let high = cores_height_at xs n x lt in
+    let ready = ready_at xs n x lt c.index-terms-i.is c.requires.ready in
+    let here = ap (λ z. cores_count (cores_of z)) (drop_before xs n c.loop-i.i x lt e c.index-terms-i.is) in
+    let all = cores_count_drop n xs in
+    let so_far = c.loop-i.invariant in (
+      omega (arith, high, ap core_height c.index-terms-i.is, c.decreases),
+      writable_from ready so_far.deep (omega (arith, so_far.deep, so_far.entries, here, all, c.requires.few)),
+    )
 
 pub parts::write_all-loop-i-init : goal.parts::write_all-loop-i-init
 parts::write_all-loop-i-init t c =
@@ -130,6 +172,17 @@ parts::write_all-loop-i-preserved t c =
     (compiled F c.write.new.out) c.args.later.now.items c.loop-i.later.items c.write.new.later.items c.index-terms-i.result
     (cores_of (drop c.loop-i.i xs)) c.loop-i.invariant c.in_ok-write.ensures)
 
+pub parts::write_make-overflow_cast-arguments : goal.parts::write_make-overflow_cast-arguments
+parts::write_make-overflow_cast-arguments t c = omega (arith, length_cores_count c.args.arguments.now, c.requires.few)
+
+pub parts::write_make-write_all-requires : goal.parts::write_make-write_all-requires
+parts::write_make-write_all-requires t c =
+    let p = c.in_ok-push.ensures c.args.given.now.families.now in (
+      omega (arith, c.decreases),
+      subst (λ z. AreWritable (length c.args.later.now.items) (length z) (cores_of c.args.arguments.now)) (sym p.entries)
+          c.requires,
+    )
+
 pub parts::write_make-returns : goal.parts::write_make-returns
 parts::write_make-returns t c = λ at.
     let F = c.args.given.now.families.now in
@@ -142,6 +195,13 @@ parts::write_make-returns t c = λ at.
     (c.in_ok-push.ensures F)) c.in_ok-write_all.ensures
 
 -- ---- first parts that are left
+
+pub parts::write_second-write-requires : goal.parts::write_second-write-requires
+parts::write_second-write-requires t c =
+    let p = c.in_ok-push.ensures c.args.given.now.families.now in (
+      omega (arith, c.decreases),
+      subst (λ z. IsWritable (length c.args.later.now.items) (length z) c.args.second.now) (sym p.entries) c.requires.writable,
+    )
 
 pub parts::write_second-returns : goal.parts::write_second-returns
 parts::write_second-returns t c =
@@ -157,6 +217,14 @@ parts::write_then-returns t c = λ at e.
     (compiled F c.push.new.out) c.args.later.now.items c.write.new.later.items at e c.args.second.now c.in_ok-write.ensures
     (c.in_ok-push.ensures F)
 
+pub parts::write_let-write_under-requires : goal.parts::write_let-write_under-requires
+parts::write_let-write_under-requires t c =
+    let p = c.in_ok-push.ensures c.args.given.now.families.now in
+    let same : 1 + length c.args.later.now.items ≡ suc (length c.args.later.now.items) = omega arith in (
+      omega (arith, c.decreases),
+      writable_from c.requires.ready same (omega (arith, ap length p.entries, c.requires.few)),
+    )
+
 pub parts::write_let-returns : goal.parts::write_let-returns
 parts::write_let-returns t c = λ at x e.
     let F = c.args.given.now.families.now in
@@ -164,12 +232,39 @@ parts::write_let-returns t c = λ at x e.
     (compiled F c.write_under.new.out) c.args.later.now.items c.write_under.new.later.items at x e c.args.body.now
     (c.in_ok-push.ensures F) (c.in_ok-write_under.ensures (x ∷ []) refl)
 
+pub parts::write_split-write_under-requires : goal.parts::write_split-write_under-requires
+parts::write_split-write_under-requires t c =
+    let p = c.in_ok-push.ensures c.args.given.now.families.now in
+    let same : 2 + length c.args.later.now.items ≡ suc (suc (length c.args.later.now.items)) = omega arith in (
+      omega (arith, c.decreases),
+      writable_from c.requires.ready same (omega (arith, ap length p.entries, c.requires.few)),
+    )
+
 pub parts::write_split-returns : goal.parts::write_split-returns
 parts::write_split-returns t c = λ at x y e.
     let F = c.args.given.now.families.now in
     split_left (compiled F c.args.out.now) (compiled F c.push.new.out) (compiled F c.write_under.new.out)
     (compiled F c.push-2.new.out) c.args.later.now.items c.write_under.new.later.items at x y
     e c.args.body.now (c.in_ok-push.ensures F) (c.in_ok-write_under.ensures (x ∷ y ∷ []) refl) (c.in_ok-push-2.ensures F)
+
+pub branches::write_if-write-requires : goal.branches::write_if-write-requires
+branches::write_if-write-requires t c =
+    let r = c.requires.ready in
+    let same = ap length (c.in_ok-no_marks.ensures ∙ c.deref.ensures.value) in (
+      omega (arith, c.decreases),
+      writable_from (record { range = r.range.1.0; whole = r.whole.1.0 }) same
+          (omega (arith, same, c.requires.few)),
+    )
+
+pub branches::write_if-write-requires-2 : goal.branches::write_if-write-requires-2
+branches::write_if-write-requires-2 t c =
+    let r = c.requires.ready in
+    let to = c.in_ok-come_to.ensures c.args.given.now.families.now in
+    let same = ap length (c.in_ok-yes_marks.ensures ∙ c.deref-2.ensures.value) in (
+      omega (arith, c.decreases),
+      writable_from (record { range = r.range.0; whole = r.whole.0 }) same
+          (omega (arith, same, ap length to.entries, c.in_ok-write.ensures.entries, c.requires.few)),
+    )
 
 pub branches::write_if-come_to-requires : goal.branches::write_if-come_to-requires
 branches::write_if-come_to-requires t c = omega (arith, c.top_of-next.ensures, c.in_ok-write.ensures.extends.longer)
@@ -186,11 +281,12 @@ branches::write_if-mark_all-requires-2 t c = ap length c.deref-4.ensures.value �
 pub branches::write_if-forget-requires : goal.branches::write_if-forget-requires
 branches::write_if-forget-requires t c =
     let to = c.in_ok-come_to.ensures c.args.given.now.families.now in
+    let long = ap length c.deref-5.ensures.value ∙ c.mark_all-2.ensures.deep ∙ c.mark_all.ensures.deep in
     record {
       place = omega (arith, c.top_of-no_start.ensures, to.extends.longer, c.in_ok-write-2.ensures.extends.longer);
       deep = ap length c.deref-6.ensures.value ∙ c.in_ok-write.ensures.deep
-          ∙ ap length (c.in_ok-no_marks.ensures ∙ c.deref.ensures.value)
-          ∙ sym (c.mark_all-2.ensures.deep ∙ c.mark_all.ensures.deep) ∙ sym (ap length c.deref-5.ensures.value);
+          ∙ ap length (c.in_ok-no_marks.ensures ∙ c.deref.ensures.value) ∙ sym long;
+      few = omega (arith, long, c.requires.few);
     }
 
 pub branches::write_if-forget_here-requires : goal.branches::write_if-forget_here-requires
@@ -198,11 +294,12 @@ branches::write_if-forget_here-requires t c =
     let all = marked c.deref-5.result.now in let one = marked c.deref-6.result.now in
     let x = c.in_ok-place.ensures c.args.given.now.families.now all one no_variables (sym (also_none all))
     (sym (also_none one)) in
+    let long = ap length c.deref-7.ensures.value ∙ c.mark_all-2.ensures.deep ∙ c.mark_all.ensures.deep in
     record {
       place = omega (arith, c.top_of-yes_start.ensures, x.extends.longer);
       deep = ap length c.deref-8.ensures.value ∙ c.in_ok-write-2.ensures.deep
-          ∙ ap length (c.in_ok-yes_marks.ensures ∙ c.deref-2.ensures.value)
-          ∙ sym (c.mark_all-2.ensures.deep ∙ c.mark_all.ensures.deep) ∙ sym (ap length c.deref-7.ensures.value);
+          ∙ ap length (c.in_ok-yes_marks.ensures ∙ c.deref-2.ensures.value) ∙ sym long;
+      few = omega (arith, long, c.requires.few);
     }
 
 pub branches::write_if-push-requires : goal.branches::write_if-push-requires
@@ -242,6 +339,18 @@ branches::write_if-returns t c = λ at e.
 
 -- ---- arms
 
+pub branches::write_arm-write_under-requires : goal.branches::write_arm-write_under-requires
+branches::write_arm-write_under-requires t c =
+    let F = c.args.given.now.families.now in
+    let to = c.in_ok-come_to.ensures F in let p = c.in_ok-push.ensures F in
+    let same : c.len-count.result + length c.in_ok-marks.marks.items ≡ length c.args.arm.now.binders.items
+    + length c.args.later.now =
+    omega (arith, c.len-count.ensures, c.args.arm.now.binders.ok.0, ap length c.in_ok-marks.ensures) in
+    let h = c.requires.writable in (
+      omega (arith, c.decreases),
+      writable_from h.ready same (omega (arith, same, ap length (p.entries ∙ to.entries), h.few)),
+    )
+
 pub branches::write_arm-returns-clause-more : goal.branches::write_arm-returns-clause-more
 branches::write_arm-returns-clause-more t c =
     let F = c.args.given.now.families.now in
@@ -250,6 +359,15 @@ branches::write_arm-returns-clause-more t c =
     omega (arith, c.len-count.ensures, c.args.arm.now.binders.ok.0) in
     let w = c.in_ok-write_under.ensures c.args.arm.now.binders.items count in
     extends_both to.extends (extends_both p.extends w.extends)
+
+pub branches::write_arm-returns-clause-entries : goal.branches::write_arm-returns-clause-entries
+branches::write_arm-returns-clause-entries t c =
+    let F = c.args.given.now.families.now in
+    let to = c.in_ok-come_to.ensures F in let p = c.in_ok-push.ensures F in
+    let count : length c.args.arm.now.binders.items ≡ c.len-count.result =
+    omega (arith, c.len-count.ensures, c.args.arm.now.binders.ok.0) in
+    let w = c.in_ok-write_under.ensures c.args.arm.now.binders.items count in
+    omega (arith, w.entries, ap length (p.entries ∙ to.entries))
 
 pub branches::write_arm-returns-clause-arm : goal.branches::write_arm-returns-clause-arm
 branches::write_arm-returns-clause-arm t c =
@@ -268,9 +386,16 @@ pub branches::write_arms-write_arm-requires : goal.branches::write_arms-write_ar
 branches::write_arms-write_arm-requires t c =
     let bs = c.args.arms.now in let n = c.loop-arm.arm-index in
     let lt : n < length bs = omega arith in
-    let high = core_arms_height_at bs n c.arm-item.result lt in (
+    let high = core_arms_height_at bs n c.arm-item.result lt in
+    let there = slice_get_read bs (length bs) n c.arm-item.result refl lt c.arm-item.is in
+    let here = ap (λ z. core_arms_count (core_arms_of z)) (drop_before bs n (n + 1) c.arm-item.result lt refl c.arm-item.is) in
+    let h = c.requires.writable in (
       omega (arith, high, ap (λ (z : Arm). core_height z.body) c.arm-item.is, c.decreases),
-      omega (arith, c.requires, c.loop-arm.invariant.more.longer),
+      (
+        omega (arith, c.requires.place, c.loop-arm.invariant.more.longer),
+        writable_from (h.ready n c.arm-item.result there) refl
+            (omega (arith, here, c.loop-arm.invariant.entries, h.few)),
+      ),
     )
 
 pub branches::write_arms-loop-arm-init : goal.branches::write_arms-loop-arm-init
@@ -278,6 +403,7 @@ branches::write_arms-loop-arm-init t c =
     let b = compiled c.args.given.now.families.now c.args.out.now in
     record {
       more = extends_same b b refl refl refl;
+      entries = omega arith;
       arms = subst (AreWritten b c.args.later.now c.args.next []) (sym c.new-codes.ensures.items) tt;
     }
 
@@ -289,10 +415,13 @@ branches::write_arms-loop-arm-preserved t c =
     let d = compiled F c.write_arm.new.out in let ms = c.args.later.now in let j = c.args.next in
     let old = c.loop-arm.codes.items in
     let x = c.in_ok-write_arm.ensures.more in
+    let here = ap (λ z. core_arms_count (core_arms_of z)) (drop_before bs n (n + 1) b lt refl c.arm-item.is) in
     record {
       more = extends_both c.loop-arm.invariant.more x;
-      arms = subst (AreWritten d ms j (take (n + 1) bs)) (sym c.in_ok-push.ensures.items)
-          (subst (λ z. AreWritten d ms j z (old ++ c.in_ok-write_arm.field-0 ∷ [])) (sym (take_next bs n b lt c.arm-item.is))
+      entries = omega (arith, here, c.in_ok-write_arm.ensures.entries, c.loop-arm.invariant.entries);
+      arms = subst (AreWritten d ms j (take (n + 1) bs)) (sym {A = List ArmCode} c.in_ok-push.ensures.items)
+          (subst (λ z. AreWritten d ms j z (old ++ c.in_ok-write_arm.field-0 ∷ []))
+          (sym {A = List Arm} (take_next bs n b lt c.arm-item.is))
           (written_more d ms j (take n bs) old b c.in_ok-write_arm.field-0
           (kept_written x ms j (take n bs) old c.loop-arm.invariant.arms) c.in_ok-write_arm.ensures.arm));
     }
@@ -303,12 +432,20 @@ branches::write_arms-returns t c =
     let past : length bs ≤ n = omega arith in
     record {
       more = c.loop-arm.invariant.more;
+      entries = omega (arith, c.loop-arm.invariant.entries);
       arms = subst (λ z. AreWritten (compiled c.args.given.now.families.now c.loop-arm.out) c.args.later.now c.args.next z
           c.loop-arm.codes.items) (take_all n bs past) c.loop-arm.invariant.arms;
     }
 
 pub branches::write_branches-write_arms-requires : goal.branches::write_branches-write_arms-requires
-branches::write_branches-write_arms-requires t c = (omega (arith, c.decreases), omega (arith, c.top_of-next.ensures))
+branches::write_branches-write_arms-requires t c = (
+  omega (arith, c.decreases),
+  (
+    omega (arith, c.top_of-next.ensures),
+    subst (λ z. AreArmsWritable (length z) (length c.args.out.now.lambdas.items) c.args.arms.now) (sym c.deref.ensures.value)
+        c.requires,
+  ),
+)
 
 pub branches::write_branches-mark_arms-requires : goal.branches::write_branches-mark_arms-requires
 branches::write_branches-mark_arms-requires t c = λ k a at.
@@ -327,6 +464,7 @@ branches::write_branches-write_starts-requires t c =
       within = λ k a at. written_within m c.deref.result.now c.top_of-next.result c.args.arms.now c.in_ok-codes.codes.items
           c.in_ok-codes.ensures.arms k a
           (ap (λ z. slice_get z k) (sym c.deref-4.ensures.value) ∙ at);
+      few = omega (arith, ap length c.deref-3.ensures.value, c.mark_arms.ensures.deep, c.requires.few);
     }
 
 pub branches::write_branches-returns : goal.branches::write_branches-returns
@@ -337,9 +475,9 @@ branches::write_branches-returns t c =
     let bs = c.args.arms.now in let cs = c.in_ok-codes.codes.items in let is = c.in_ok-starts.starts.items in
     let w = subst (λ z. AreWritten m z (top b) bs cs) c.deref.ensures.value
     (subst (λ z. AreWritten m c.deref.result.now z bs cs) c.top_of-next.ensures c.in_ok-codes.ensures.arms) in
-    arms_from b m d ms ns bs cs is c.in_ok-codes.ensures.more w
+    arms_from b m d ms ns bs cs is c.in_ok-codes.ensures.more c.in_ok-codes.ensures.entries w
     (c.mark_arms.ensures.marks ∙ ap (λ z. also (marks_of z) (marked ms)) c.deref-2.ensures.value) c.mark_arms.ensures.deep
-    (c.in_ok-starts.ensures.more F)
+    (c.in_ok-starts.ensures.more F) c.in_ok-starts.ensures.entries
     (λ q e. subst (λ z. AllForget d q (marked ms) z is) c.deref-4.ensures.value
     (c.in_ok-starts.ensures.starts F q (marked ms) (ap marked c.deref-3.ensures.value ∙ e))) c.in_ok-starts.ensures.within
 
@@ -396,6 +534,14 @@ branches::write_match-returns t c = λ at e.
 
 -- ---- the whole
 
+pub terms::write-write_behind-requires : goal.terms::write-write_behind-requires
+terms::write-write_behind-requires t c =
+    let left = c.loop-first.invariant.left in (
+      omega (arith, c.loop-first.invariant.low, c.decreases),
+      writable_from (left.part c.requires.bounds (length c.args.later.now.items) c.requires.ready) left.deep
+          (omega (arith, left.deep, left.entries, c.requires.few)),
+    )
+
 pub terms::write-loop-first-init : goal.terms::write-loop-first-init
 terms::write-loop-first-init t c = record {
   left =
@@ -424,6 +570,24 @@ terms::write-returns t c =
     c.loop-first.invariant.left.rest (compiled F c.write_behind.new.out) c.write_behind.new.later.items written
 
 -- ---- the forms
+
+pub terms::write_behind-write_case-requires : goal.terms::write_behind-write_case-requires
+terms::write_behind-write_case-requires t c =
+    let w = rw c.in-Case.is at c.term.view_is in
+    let arms = c.deref-in-Case.ensures.value in (
+      omega (arith, ap core_height w, ap (λ z. core_arms_height (core_arms_of z)) arms, c.decreases),
+      subst (AreArmsWritable (length c.args.later.now.items) (length c.args.out.now.lambdas.items)) (sym arms)
+          (case_arms _ (writable_as w c.requires)),
+    )
+
+pub terms::write_behind-write_match-requires : goal.terms::write_behind-write_match-requires
+terms::write_behind-write_match-requires t c =
+    let w = rw c.in-Match.is at c.term.view_is in
+    let arms = c.deref-in-Match.ensures.value in (
+      omega (arith, ap core_height w, ap (λ z. core_arms_height (core_arms_of z)) arms, c.decreases),
+      subst (AreArmsWritable (length c.args.later.now.items) (length c.args.out.now.lambdas.items)) (sym arms)
+          (match_arms _ (writable_as w c.requires)),
+    )
 
 pub terms::write_behind-returns-in_ok-push-in-GlobalUse-clause-written :
     goal.terms::write_behind-returns-in_ok-push-in-GlobalUse-clause-written

@@ -1,4 +1,5 @@
-use Rattle.std.proofs.Common.{◌≤◌, ◌+◌, ◌*◌, drop, max, take}
+use Rattle.std.proofs.Common.{◌≤◌, ◌+◌, ◌*◌, drop, length, max, take}
+use Rattle.fst_terms.specs.CoreCount.{core_arms_count}
 use Rattle.fst_terms.specs.CoreTree.{core_height, core_arms_height, cores_height}
 use Rattle.fst_terms.specs.ModelCoreView.{core_arms_of, cores_of}
 use Rattle.fst_code.specs.Written.{Extends, Leaves, WritesAll, compiled}
@@ -73,5 +74,7 @@ decreases-branches::write_match l = 8 * core_arms_height (core_arms_of l.arms.no
 abbrev pub invariant-branches::write_arms-loop-arm : goal.invariant-branches::write_arms-loop-arm
 invariant-branches::write_arms-loop-arm l = record {
   more : Extends (compiled l.given.families.now l.fn.out) (compiled l.given.families.now l.out);
+  entries : length l.out.lambdas.items + core_arms_count (core_arms_of (drop l.arm-index l.arms))
+      ≤ length l.fn.out.lambdas.items + core_arms_count (core_arms_of l.arms);
   arms : AreWritten (compiled l.given.families.now l.out) l.later l.next (take l.arm-index l.arms) l.codes.items;
 }

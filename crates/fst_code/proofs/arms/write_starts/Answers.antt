@@ -25,11 +25,13 @@ forget-requires c =
     record {
       place = omega (arith, c.requires.within i a there, more.longer);
       deep = ap length (its c) ∙ c.requires.deep i a there;
+      few = c.requires.few;
     }
 
 pub loop-code-init : goal.loop-code-init
 loop-code-init c = record {
   more = λ fs. extends_same (compiled fs c.args.out.now) (compiled fs c.args.out.now) refl refl refl;
+  entries = refl;
   starts = λ fs q p e. subst (AllForget (compiled fs c.args.out.now) q p []) (sym c.new-starts.ensures.items) tt;
   within = subst (AreAtMost (length c.args.out.now.code.items)) (sym c.new-starts.ensures.items)
       (at_most_none (length c.args.out.now.code.items));
@@ -46,6 +48,7 @@ loop-code-preserved c =
     let y = x [] in
     record {
       more = λ fs. let z = x fs in extends_both (c.loop-code.invariant.more fs) z.extends;
+      entries = y.entries ∙ c.loop-code.invariant.entries;
       starts = λ fs q p e. let z = x fs in
           subst (AllForget (compiled fs d) q p (take (i + 1) cs)) (sym {A = List ℕ} c.in_ok-push.ensures.items)
           (subst (λ ts. AllForget (compiled fs d) q p ts (old ++ start ∷ []))
@@ -64,6 +67,7 @@ returns c =
     let past : length cs ≤ i = omega arith in
     record {
       more = c.loop-code.invariant.more;
+      entries = c.loop-code.invariant.entries;
       starts = λ fs q p e. subst (λ ts. AllForget (compiled fs c.loop-code.out) q p ts c.loop-code.starts.items)
           (take_all i cs past) (c.loop-code.invariant.starts fs q p e);
       within = c.loop-code.invariant.within;

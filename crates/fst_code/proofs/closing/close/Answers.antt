@@ -14,7 +14,8 @@ returns c = λ fs.
     (compiled fs c.push_closing.new.out) (compiled fs c.capture.new.out)
     c.args.later.now.items c.mark_all.new.later.items c.args.is_task
     (marked c.args.used.now) c.args.next c.in_ok-number.number ks c.in_ok-captured.ensures.lists
-    (c.in_ok-number.ensures.more fs) c.in_ok-number.ensures.same (entry.0, entry.1, entry.2, entry.3 ∙ c.deref.ensures.value)
+    (c.in_ok-number.ensures.more fs) c.in_ok-number.ensures.entries c.in_ok-number.ensures.same
+    (entry.0, entry.1, entry.2, entry.3 ∙ c.deref.ensures.value)
     (c.in_ok-push.ensures fs) (c.in_ok-push_closing.ensures fs)
     (subst (λ z. Loads (compiled fs c.push_closing.new.out) (compiled fs c.capture.new.out) ks (marked z))
     c.deref-2.ensures.value

@@ -15,14 +15,14 @@ pub unwrap-start-requires : goal.unwrap-start-requires
 unwrap-start-requires c =
     let gs = c.args.globals.now in
     let there = main_there (compiled c.args.given.now.families.now c.write_globals.new.out) gs c.in_ok-starts.starts.items 0
-    c.in_ok-starts.ensures.starts c.requires in
+    c.in_ok-starts.ensures.starts c.requires.main in
     ap is_some (c.main_start.ensures ∙ ap (main_place gs) c.deref.ensures.value ∙ there.1)
 
 pub come_to-requires : goal.come_to-requires
 come_to-requires c =
     let gs = c.args.globals.now in
     let there = main_there (compiled c.args.given.now.families.now c.write_globals.new.out) gs c.in_ok-starts.starts.items 0
-    c.in_ok-starts.ensures.starts c.requires in
+    c.in_ok-starts.ensures.starts c.requires.main in
     let same : c.unwrap-start.result ≡ there.0 = same_Some c.unwrap-start.result there.0
     (sym c.unwrap-start.ensures ∙ c.main_start.ensures ∙ ap (main_place gs) c.deref.ensures.value ∙ there.1) in
     omega (arith, same, there.2)
@@ -34,6 +34,7 @@ returns c =
     let to = c.in_ok-come_to.ensures F in
     record {
       more = extends_both c.in_ok-starts.ensures.more to.extends;
+      entries = omega (arith, ap length to.entries, c.in_ok-starts.ensures.entries);
       starts = kept_all to.extends gs c.in_ok-starts.starts.items c.in_ok-starts.ensures.starts;
       main = (
         c.unwrap-start.result,

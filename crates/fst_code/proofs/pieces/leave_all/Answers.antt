@@ -18,7 +18,7 @@ loop-i-preserved c = record {
 
 pub returns-clause-code : goal.returns-clause-code
 returns-clause-code c = λ fs xs h. let e : length xs ≡ c.loop-i._i = omega arith in let l = c.loop-i.invariant.left fs in
-    record { extends = l.extends; there = l.binds xs e }
+    record { extends = l.extends; entries = l.entries; there = l.binds xs e }
 
 pub returns-clause-marks : goal.returns-clause-marks
 returns-clause-marks c = λ xs h. let e : length xs ≡ c.loop-i._i = omega arith in let l = c.loop-i.invariant.left [] in
