@@ -20,8 +20,8 @@ use Rattle.fst_machine.specs.Standing.{Means, StandsFor}
 use Rattle.fst_machine.proofs.Steps.{spot, step_at, asked_at_instr, told_at_instr, fewer}
 use Rattle.fst_machine.proofs.Slots.{Agree, part, in_also, in_behind}
 use Rattle.fst_machine.proofs.Moves.{captures, led}
-use Rattle.fst_machine.proofs.Goods.{Awaits, Good, then_part}
-use Rattle.fst_machine.proofs.Requests.{Takes, puts_stand, gets_stand, makes_stand, calls_stand, uses_stand, forks_stand}
+use Rattle.fst_machine.proofs.Goods.{Awaits, Good, then_part, Takes}
+use Rattle.fst_machine.proofs.Requests.{puts_stand, gets_stand, makes_stand, calls_stand, uses_stand, forks_stand}
 use Rattle.fst_machine.proofs.Operators.{nothing, sent_alike}
 use Rattle.fst_machine.proofs.Shapes.{function_stands, end_stands}
 use Rattle.fst_machine.proofs.Matches.{matches_stand}

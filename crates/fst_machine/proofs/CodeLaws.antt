@@ -1,5 +1,5 @@
 -- The code of a program asks for what its terms ask for.
-use Rattle.std.proofs.Common.{◌≡◌, ◌<◌, ◌⊎◌, ℕ, zero, suc, Some, None, List, [], ◌∷◌, slice_get, sym, ap, ◌∙◌, subst, inl, inr}
+use Rattle.std.proofs.Common.{◌≡◌, ◌<◌, ◌⊎◌, ℕ, suc, Some, None, List, [], ◌∷◌, slice_get, sym, ap, ◌∙◌, subst, inl, inr}
 use Rattle.std.proofs.lemmas.Option.{none-some, same_Some}
 use Rattle.fst_terms.specs.CoreTree.{CoreTree}
 use Rattle.fst_value.specs.ValueTree.{ValueTree}
@@ -10,32 +10,12 @@ use Rattle.fst_machine.specs.Values.{Value}
 use Rattle.fst_machine.specs.Machine.{State, Pause, stuck, ended, asked, pause, after, child, begins}
 use Rattle.fst_machine.specs.Code.{Compiled, no_variables, IsCode}
 use Rattle.fst_machine.specs.Spots.{Spot, begins_at, inner, asked_at, told_at, child_at}
-use Rattle.fst_machine.specs.Standing.{AreAlike, Means, Reaches, here, further, Rests, StandsFor, Stands, DistinctMakers, GoesDown, measure}
+use Rattle.fst_machine.specs.Standing.{AreAlike, Means, Rests, StandsFor, Stands, DistinctMakers, GoesDown, measure}
 use Rattle.fst_machine.proofs.Slots.{without}
+use Rattle.fst_machine.proofs.Steps.{rests_or_stuck, one_step}
 use Rattle.fst_machine.proofs.Requests.{of_globals, ended_awaited}
 use Rattle.fst_machine.proofs.Lowers.{step_lowers}
 use Rattle.fst_machine.proofs.Going.{all_go}
-
-still_here : (n : ℕ) (c : Compiled) (s : Spot) (q : Pause) → inner c s ≡ None → Reaches c (λ t. Rests c (StandsFor n c) t q) s →
-    Rests c (StandsFor n c) s q
-still_here n c s q h (here r) = r
-still_here n c s q h (further e r) = absurd (none-some _ (sym h ∙ e))
-
--- what stands for a task and makes no step is stuck or rests
-rests_or_stuck : (n : ℕ) (c : Compiled) (s : Spot) (q : Pause) → inner c s ≡ None → StandsFor (suc n) c s q →
-    (q ≡ stuck) ⊎ Rests c (StandsFor n c) s q
-rests_or_stuck n c s q h (inl e) = inl e
-rests_or_stuck n c s q h (inr r) = inr (still_here n c s q h r)
-
-one_on : (n : ℕ) (c : Compiled) (s t : Spot) (q : Pause) → inner c s ≡ Some t → Reaches c (λ u. Rests c (StandsFor n c) u q) s →
-    Reaches c (λ u. Rests c (StandsFor n c) u q) t
-one_on n c s t q h (here r) = absurd (none-some t (sym r.still ∙ h))
-one_on n c s t q h (further e r) = subst (λ u. Reaches c (λ z. Rests c (StandsFor n c) z q) u) (same_Some _ t (sym e ∙ h)) r
-
-one_step : (n : ℕ) (c : Compiled) (s t : Spot) (q : Pause) → inner c s ≡ Some t → StandsFor n c s q → StandsFor n c t q
-one_step zero c s t q h k = tt
-one_step (suc n) c s t q h (inl e) = inl e
-one_step (suc n) c s t q h (inr r) = inr (one_on n c s t q h r)
 
 -- an inner step keeps what the code stands for
 pub inner_stands : (c : Compiled) (s t : Spot) (q : Pause) → Stands c s q → inner c s ≡ Some t → Stands c t q

@@ -24,6 +24,11 @@ Good n c e =
     Computes c i e p j → MeansSlots c (free e) slots env → Awaits n c j p slots ops calls fs →
     StandsFor n c (spot i slots ops calls) (eval c.families e env fs (resume c.families fs))
 
+-- a value that comes to a place, with just these variables, leads where it leads the frames
+abbrev pub Takes : ℕ → Compiled → ℕ → Slots → List ValueTree → List Call → List Frame → Type 0
+Takes n c j slots ops calls fs = (x : ValueTree) (v : Value) → Means c x v →
+    StandsFor n c (spot j slots (x ∷ ops) calls) (resume c.families fs v)
+
 -- what is awaited doesn't look at variables that aren't used
 pub later : (n : ℕ) (c : Compiled) (j : ℕ) (p r : ℕ → Bool) (slots os : Slots) (ops : List ValueTree) (calls : List Call)
     (fs : List Frame) →

@@ -2,6 +2,7 @@ pub mod Steps
 pub mod Slots
 pub mod Moves
 pub mod Goods
+pub mod Tails
 pub mod Binding
 pub mod Requests
 pub mod Operators

@@ -15,8 +15,8 @@ use Rattle.fst_machine.specs.Machine.{Frame, stuck, on, resume}
 use Rattle.fst_machine.specs.Code.{Compiled, At}
 use Rattle.fst_machine.specs.Spots.{Slots, Call, Spot, scalar, of_scalar, with_value}
 use Rattle.fst_machine.specs.Standing.{Means, StandsFor}
+use Rattle.fst_machine.proofs.Goods.{Takes}
 use Rattle.fst_machine.proofs.Steps.{spot, stepped}
-use Rattle.fst_machine.proofs.Requests.{Takes}
 
 -- no sign takes the value, and it isn't sent
 pub record IsOpaque (v : Value) : Type 0 where

@@ -17,17 +17,13 @@ use Rattle.fst_machine.specs.Values as value
 use Rattle.fst_machine.specs.Values.{Value, Environment, enter}
 use Rattle.fst_machine.specs.Machine.{State, Frame, Pause, stuck, calls as applies, uses, makes, forks, puts, gets, ended, resume, pause, after, giving, lost, begins, ends, or_lost}
 use Rattle.fst_machine.specs.Code.{Compiled, At, Lists, Computes, no_variables, ComputesGlobals, IsCode}
-use Rattle.fst_machine.specs.Spots.{Slots, Call, Spot, inner, asked_at, told_at, child_at, spread, called, start_of, captured_by, captured_count, collected, without_captured, forked_spot, begins_at, ends_of}
+use Rattle.fst_machine.specs.Spots.{Slots, Call, Spot, inner, asked_at, told_at, child_at, spread, leads_back, around, called, start_of, captured_by, captured_count, collected, without_captured, forked_spot, begins_at, ends_of}
 use Rattle.fst_machine.specs.Standing.{IsFunction, HasJust, Means, MeanCaptured, AreAlike, StandsFor}
-use Rattle.fst_machine.proofs.Steps.{spot, step_at, asked_at_instr, told_at_instr, child_at_instr, stepped, rests_here}
+use Rattle.fst_machine.proofs.Steps.{spot, step_at, asked_at_instr, told_at_instr, child_at_instr, rests_here}
 use Rattle.fst_machine.proofs.Slots.{kept, entered, without, captured_means, captured_alike}
 use Rattle.fst_machine.proofs.Moves.{pushed, captured_collected, bound}
-use Rattle.fst_machine.proofs.Goods.{Awaits, Good}
-
--- a value that comes to a place, with just these variables, leads where it leads the frames
-abbrev pub Takes : ℕ → Compiled → ℕ → Slots → List ValueTree → List Call → List Frame → Type 0
-Takes n c j slots ops calls fs = (x : ValueTree) (v : Value) → Means c x v →
-    StandsFor n c (spot j slots (x ∷ ops) calls) (resume c.families fs v)
+use Rattle.fst_machine.proofs.Goods.{Awaits, Good, Takes}
+use Rattle.fst_machine.proofs.Tails.{called_awaited}
 
 -- after an answer that leads to a state, the spot stands for it
 abbrev pub Stays : ℕ → Compiled → Spot → Answer → State → Type 0
@@ -58,15 +54,6 @@ of_globals c (b ∷ es) (i ∷ is) zero e h u =
       h.0.4,
     )
 of_globals c (b ∷ es) (i ∷ is) (suc g) e h u = of_globals c es is g e h.1 u
-
--- a body's value goes back to where it was asked for
-pub returned_awaited : (n : ℕ) (c : Compiled) (r q j : ℕ) (inside slots : Slots) (ops : List ValueTree) (calls : List Call)
-    (fs : List Frame) →
-    At c r instr.Return q → Takes n c j slots ops calls fs →
-    Awaits n c r no_variables inside ops (record { place = j; slots = slots } ∷ calls) fs
-returned_awaited n c r q j inside slots ops calls fs h k x v os m a =
-    stepped n c r instr.Return q os (x ∷ ops) (record { place = j; slots = slots } ∷ calls) (spot j slots (x ∷ ops) calls)
-    (resume c.families fs v) h refl (k x v m)
 
 -- a task's value is its end
 pub ended_awaited : (n : ℕ) (c : Compiled) (r q : ℕ) (inside : Slots) → At c r instr.Return q →
@@ -181,20 +168,21 @@ module _ (n : ℕ) (c : Compiled) where
         go : Tells n c (spot i slots (y ∷ tree.function l xs ∷ ops) calls) (applies e env w fs)
         go bodies ic Go st z g =
             settled (spot i slots (y ∷ tree.function l xs ∷ ops) calls)
-            (spot f.entry.start (spread f.entry.captured.items xs) (y ∷ ops) (record { place = j; slots = slots } ∷ calls)) Go
+            (spot f.entry.start (spread f.entry.captured.items xs) (y ∷ ops)
+            (around (leads_back j c j) (record { place = j; slots = slots }) calls)) Go
             (record { term = e; environment = enter (free e zero) w env; frames = fs }) st z
             (told_at_instr c i instr.Call j slots (y ∷ tree.function l xs ∷ ops) calls Go h ∙ ap
-            (λ o. called (start_of o) (spread (captured_by o) xs) j (y ∷ ops)
+            (λ o. called c (start_of o) (spread (captured_by o) xs) j (y ∷ ops)
             (spot i slots (y ∷ tree.function l xs ∷ ops) calls)) f.there)
             (bound n c (free e zero) f.entry.start f.body (spread f.entry.captured.items xs) ops
-            (record { place = j; slots = slots } ∷ calls) y _ f.binds
+            (around (leads_back j c j) (record { place = j; slots = slots }) calls) y _ f.binds
             (before e f.body f.back no_variables (enter (free e zero) w env)
             (kept (free e zero) y ∷ (spread f.entry.captured.items xs)) ops
-            (record { place = j; slots = slots } ∷ calls) fs f.computes
+            (around (leads_back j c j) (record { place = j; slots = slots }) calls) fs f.computes
             (entered c (free e zero) (free e) (spread f.entry.captured.items xs) env y w refl
             (captured_means c xs f.entry.captured.items (outside (free e)) env mc f.listed.members hj) my)
-            (returned_awaited n c f.back f.last j (kept (free e zero) y ∷ (spread f.entry.captured.items xs)) slots ops calls fs
-            f.returns k)))
+            (called_awaited n c f.back f.last j (kept (free e zero) y ∷ (spread f.entry.captured.items xs)) slots ops
+            calls fs f.returns k)))
         go bodies ic b st z g = absurd (none-some st z)
 
     -- a global is used
@@ -215,10 +203,13 @@ module _ (n : ℕ) (c : Compiled) where
         found bodies ic st z None u e = never_lost st e z
         found bodies ic st z (Some b) u e =
             let w = of_globals c bodies c.globals g b ic u in
-            settled (spot i slots ops calls) (spot w.0 [] ops (record { place = j; slots = slots } ∷ calls)) Go (begins b fs) st e
-            (told_at_instr c i (instr.Global g) j slots ops calls Go h ∙ ap (λ o. called o [] j ops (spot i slots ops calls)) w.3)
-            (before b w.0 w.1 no_variables value.none [] ops (record { place = j; slots = slots } ∷ calls) fs w.5
-            (without c (free b) w.4) (returned_awaited n c w.1 w.2 j [] slots ops calls fs w.6 k))
+            settled (spot i slots ops calls) (spot w.0 [] ops
+            (around (leads_back j c j) (record { place = j; slots = slots }) calls)) Go (begins b fs) st e
+            (told_at_instr c i (instr.Global g) j slots ops calls Go h ∙ ap
+            (λ o. called c o [] j ops (spot i slots ops calls)) w.3)
+            (before b w.0 w.1 no_variables value.none [] ops
+            (around (leads_back j c j) (record { place = j; slots = slots }) calls) fs w.5
+            (without c (free b) w.4) (called_awaited n c w.1 w.2 j [] slots ops calls fs w.6 k))
 
         go : Tells n c (spot i slots ops calls) (uses g fs)
         go bodies ic Go st e z = found bodies ic st z (slice_get bodies g) refl e

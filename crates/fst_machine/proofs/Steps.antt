@@ -1,9 +1,10 @@
 -- One instruction's step, and what stands for a task before it.
-use Rattle.std.proofs.Common.{◌≡◌, ℕ, zero, suc, Option, Some, List, option_and_then, sym, ap, ◌∙◌, subst, inl, inr}
+use Rattle.std.proofs.Common.{◌≡◌, ◌⊎◌, ℕ, zero, suc, Option, Some, None, List, option_and_then, sym, ap, ◌∙◌, subst, inl, inr}
+use Rattle.std.proofs.lemmas.Option.{none-some, same_Some}
 use Rattle.fst_value.specs.ValueTree.{ValueTree}
 use Rattle.fst_machine.specs.declared.code.Instr.{Instr}
 use Rattle.fst_machine.specs.declared.request.Answer.{Answer}
-use Rattle.fst_machine.specs.Machine.{Pause}
+use Rattle.fst_machine.specs.Machine.{Pause, stuck}
 use Rattle.fst_machine.specs.Code.{Compiled, At}
 use Rattle.fst_machine.specs.Spots.{Slots, Call, Spot, ran, on_instr, inner, asks, asked_at, told, told_at, forks_at, child_at}
 use Rattle.fst_machine.specs.Standing.{Reaches, here, further, Rests, StandsFor}
@@ -46,6 +47,28 @@ pub before_step : (n : ℕ) (c : Compiled) (s t : Spot) (q : Pause) → inner c 
 before_step zero c s t q e h = tt
 before_step (suc n) c s t q e (inl h) = inl h
 before_step (suc n) c s t q e (inr r) = inr (further e r)
+
+still_here : (n : ℕ) (c : Compiled) (s : Spot) (q : Pause) → inner c s ≡ None → Reaches c (λ t. Rests c (StandsFor n c) t q) s →
+    Rests c (StandsFor n c) s q
+still_here n c s q h (here r) = r
+still_here n c s q h (further e r) = absurd (none-some _ (sym h ∙ e))
+
+-- what stands for a task and makes no step is stuck or rests
+pub rests_or_stuck : (n : ℕ) (c : Compiled) (s : Spot) (q : Pause) → inner c s ≡ None → StandsFor (suc n) c s q →
+    (q ≡ stuck) ⊎ Rests c (StandsFor n c) s q
+rests_or_stuck n c s q h (inl e) = inl e
+rests_or_stuck n c s q h (inr r) = inr (still_here n c s q h r)
+
+one_on : (n : ℕ) (c : Compiled) (s t : Spot) (q : Pause) → inner c s ≡ Some t → Reaches c (λ u. Rests c (StandsFor n c) u q) s →
+    Reaches c (λ u. Rests c (StandsFor n c) u q) t
+one_on n c s t q h (here r) = absurd (none-some t (sym r.still ∙ h))
+one_on n c s t q h (further e r) = subst (λ u. Reaches c (λ z. Rests c (StandsFor n c) z q) u) (same_Some _ t (sym e ∙ h)) r
+
+-- what stands for a task still does one step later
+pub one_step : (n : ℕ) (c : Compiled) (s t : Spot) (q : Pause) → inner c s ≡ Some t → StandsFor n c s q → StandsFor n c t q
+one_step zero c s t q h k = tt
+one_step (suc n) c s t q h (inl e) = inl e
+one_step (suc n) c s t q h (inr r) = inr (one_on n c s t q h r)
 
 -- so it does before an instruction that leads there
 pub stepped : (n : ℕ) (c : Compiled) (i : ℕ) (a : Instr) (j : ℕ) (slots : Slots) (ops : List ValueTree) (calls : List Call)

@@ -1,5 +1,5 @@
 -- How code runs: the steps between two requests, what is asked for, and how it goes on after an answer.
-use Rattle.std.specs.Prelude.{ℕ, zero, suc, true, false, not, Option, Some, None, option_map, option_and_then, List, [], ◌∷◌, length, drop, slice_get}
+use Rattle.std.specs.Prelude.{ℕ, zero, suc, Bool, true, false, not, unwrap_or, Option, Some, None, option_map, option_and_then, List, [], ◌∷◌, length, drop, slice_get}
 use Rattle.fst_types.specs.declared.side.Side.TheVariants.{Left, Right}
 use Rattle.fst_value.specs.ValueTree.{ValueTree, int, bool, char, unit, pair, make, function, end, ValueTrees, none, value}
 pub use Rattle.fst_value.specs.Stacks.{collected, stacked}
@@ -167,16 +167,33 @@ asks i calls ops = None
 abbrev pub asked_at : Compiled → Spot → Option Request
 asked_at c s = on_instr c s.place (λ i j. asks i s.calls s.operands)
 
+-- whether an instruction that is followed by place j returns, or only leaves variables or jumps to where f holds
+abbrev pub returns_by : (ℕ → Bool) → Instr → ℕ → Bool
+returns_by f instr.Return j = true
+returns_by f (instr.Unbind n) j = f j
+returns_by f (instr.Jump place) j = f place
+returns_by f i j = false
+
+-- whether code at place j does nothing but leave variables, in less than n steps, before it returns
+abbrev pub leads_back : ℕ → Compiled → ℕ → Bool
+leads_back zero c j = false
+leads_back (suc n) c j = unwrap_or
+    (on_instr c j (λ i k. Some (returns_by (leads_back n c) i k))) false
+
+-- the calls around a body with the one to which it goes back, unless that only leads back itself
+abbrev pub around : Bool → Call → List Call → List Call
+around true k ks = ks
+around false k ks = k ∷ ks
+
 -- in the code of a function or a global
-abbrev pub called : Option ℕ → Slots → ℕ → List ValueTree → Spot → Option Spot
-called None slots j ops s = None
-called (Some place) slots j ops s =
+abbrev pub called : Compiled → Option ℕ → Slots → ℕ → List ValueTree → Spot → Option Spot
+called c None slots j ops s = None
+called c (Some place) slots j ops s =
     Some (record {
       place = place;
       slots = slots;
       operands = ops;
-      calls =
-          record { place = j; slots = s.slots } ∷ s.calls;
+      calls = around (leads_back j c j) (record { place = j; slots = s.slots }) s.calls;
     })
 
 -- the place where a function or a task starts
@@ -201,9 +218,9 @@ without_captured j (Some p) s = Some (moved_to j (unit ∷ p.1) s)
 -- after an answer, at an instruction that is followed by place j
 abbrev pub told : Compiled → Instr → ℕ → Spot → List ValueTree → Answer → Option Spot
 told c instr.Call j s (w ∷ function l vs ∷ ops) Go =
-    called (start_of (slice_get c.lambdas l)) (spread (captured_by (slice_get c.lambdas l)) vs) j
-    (w ∷ ops) s
-told c (instr.Global g) j s ops Go = called (slice_get c.globals g) [] j ops s
+    called c (start_of (slice_get c.lambdas l))
+    (spread (captured_by (slice_get c.lambdas l)) vs) j (w ∷ ops) s
+told c (instr.Global g) j s ops Go = called c (slice_get c.globals g) [] j ops s
 told c (instr.New t) j s ops (Made h) = Some (moved_to j (ends_of h ∷ ops) s)
 told c (instr.Fork l) j s ops Forked =
     without_captured j (collected (captured_count (slice_get c.lambdas l)) ops none) s

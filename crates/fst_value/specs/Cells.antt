@@ -1,5 +1,5 @@
--- The cells that values are kept as: one for each node of the tree, in preorder.
-use Rattle.std.specs.Prelude.{◌≡◌, ℕ, zero, suc, List, [], ◌∷◌, ◌++◌, drop, reverse}
+-- The cells that values are spelled as: one for each node of the tree, in preorder.
+use Rattle.std.specs.Prelude.{ℕ, zero, suc, List, [], ◌∷◌, ◌++◌, drop}
 use Rattle.fst_value.specs.ValueTree.{ValueTree, int, bool, char, unit, pair, make, function, end, ValueTrees, none, value}
 use Rattle.fst_types.specs.declared.ends.EndName.{EndName}
 use Rattle.fst_value.specs.declared.cells.Cell.{Cell}
@@ -56,13 +56,9 @@ abbrev pub first_or_unit : List ValueTree → ValueTree
 first_or_unit [] = unit
 first_or_unit (v ∷ vs) = v
 
--- the value that is kept as these cells, the last one first
-abbrev pub tree_of : List Cell → ValueTree
-tree_of cs = first_or_unit (spelled (reverse cs))
-
--- these cells, the last one first, are those of a value
-abbrev pub IsKept : List Cell → Type 0
-IsKept cs = reverse cs ≡ cells_of (tree_of cs)
+-- the value with this root and these parts
+abbrev pub rooted : Cell → List ValueTree → ValueTree
+rooted c vs = first_or_unit (above c vs)
 
 abbrev mutual
   -- the ends in a value, in order, each as often as it stands there

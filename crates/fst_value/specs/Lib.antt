@@ -1,7 +1,8 @@
 pub mod ValueTree
 pub mod Stacks
-pub mod Nodes
+pub mod OneCell
 pub mod Cells
+pub mod Nodes
 pub mod CellFacts
 pub mod CellCode
 pub mod Parts

@@ -1,33 +1,50 @@
--- What single cells are: how many parts follow, and which end.
-use Rattle.std.specs.Prelude.{ℕ, zero, suc, ◌+◌, List, [], ◌∷◌}
-use Rattle.fst_types.specs.declared.ends.EndName.{EndName}
+-- The nodes that values are kept as: each cell with how many cells the value has that begins with it.
+use Rattle.std.specs.Prelude.{◌≡◌, suc, List, [], ◌∷◌, ◌++◌, length}
+use Rattle.std.specs.List.{flat_map}
+use Rattle.fst_value.specs.ValueTree.{ValueTree, int, bool, char, unit, pair, make, function, end, ValueTrees, none, value}
 use Rattle.fst_value.specs.declared.cells.Cell.{Cell}
 use Rattle.fst_value.specs.declared.cells.Cell.TheVariants as cell
+use Rattle.fst_value.specs.declared.nodes.Node.{Node}
+use Rattle.fst_value.specs.Cells.{count, spelled, rooted}
 
--- the end at a cell, if it is one
-abbrev pub ends_at : Cell → List EndName
-ends_at (cell.Int n) = []
-ends_at (cell.Bool b) = []
-ends_at (cell.Char c) = []
-ends_at cell.Unit = []
-ends_at cell.Pair = []
-ends_at (cell.Make n o k) = []
-ends_at (cell.Function l k) = []
-ends_at (cell.End x) = x ∷ []
+-- a root in front of the nodes of its parts
+abbrev pub headed : Cell → List Node → List Node
+headed c ns = record { cell = c; size = suc (length ns) } ∷ ns
 
--- how many values a cell has as its parts
-abbrev pub arity : Cell → ℕ
-arity (cell.Int n) = 0
-arity (cell.Bool b) = 0
-arity (cell.Char c) = 0
-arity cell.Unit = 0
-arity cell.Pair = 2
-arity (cell.Make n o k) = k
-arity (cell.Function l k) = k
-arity (cell.End x) = 0
+abbrev mutual
+  -- the nodes of a value, in preorder
+  pub nodes_of : ValueTree → List Node
+  nodes_of (int n) = headed (cell.Int n) []
+  nodes_of (bool b) = headed (cell.Bool b) []
+  nodes_of (char c) = headed (cell.Char c) []
+  nodes_of unit = headed cell.Unit []
+  nodes_of (pair v w) = headed cell.Pair (nodes_of v ++ nodes_of w)
+  nodes_of (make n o vs) = headed (cell.Make n o (count vs)) (nodes_of_all vs)
+  nodes_of (function l vs) = headed (cell.Function l (count vs)) (nodes_of_all vs)
+  nodes_of (end x) = headed (cell.End x) []
 
--- what stands behind the first m values, where cells spell these
-abbrev pub behind : ℕ → List Cell → List Cell
-behind m [] = []
-behind zero (c ∷ cs) = c ∷ cs
-behind (suc m) (c ∷ cs) = behind (arity c + m) cs
+  -- the nodes of values, one after another
+  pub nodes_of_all : ValueTrees → List Node
+  nodes_of_all none = []
+  nodes_of_all (value v vs) = nodes_of v ++ nodes_of_all vs
+
+-- the cells of nodes
+abbrev pub cells_in : List Node → List Cell
+cells_in [] = []
+cells_in (n ∷ ns) = n.cell ∷ cells_in ns
+
+-- the values that nodes spell
+abbrev pub values_in : List Node → List ValueTree
+values_in ns = spelled (cells_in ns)
+
+-- these nodes are those of the values that they spell
+abbrev pub AreNodes : List Node → Type 0
+AreNodes ns = ns ≡ flat_map nodes_of (values_in ns)
+
+-- the value that is kept as a root and the nodes of its parts
+abbrev pub tree_of : Cell → List Node → ValueTree
+tree_of c ns = rooted c (values_in ns)
+
+-- these are the root of a value and the nodes of its parts
+abbrev pub IsKept : Cell → List Node → Type 0
+IsKept c ns = headed c ns ≡ nodes_of (tree_of c ns)

@@ -1,5 +1,5 @@
 -- A value's root and its parts.
-use Rattle.std.specs.Prelude.{ℕ, zero, suc, ◌+◌, Bool, true, false, Option, Some, None, List, [], ◌∷◌, ◌++◌, length}
+use Rattle.std.specs.Prelude.{Bool, true, false, Option, Some, None, List, [], ◌∷◌}
 use Rattle.fst_value.specs.ValueTree.{ValueTree, int, bool, char, unit, pair, make, function, end, ValueTrees, none, value}
 use Rattle.fst_types.specs.declared.ends.EndName.{EndName}
 use Rattle.fst_value.specs.declared.cells.Cell.{Cell}
@@ -7,7 +7,7 @@ use Rattle.fst_value.specs.declared.cells.Cell.TheVariants as cell
 use Rattle.fst_value.specs.declared.value.Form.{Form}
 use Rattle.fst_value.specs.declared.value.Form.TheVariants as form
 use Rattle.fst_value.specs.Stacks.{stacked}
-use Rattle.fst_value.specs.Cells.{count, cells_of, above, first_or_unit}
+use Rattle.fst_value.specs.Cells.{count}
 
 -- the cell at the root of a value
 abbrev pub root_of : ValueTree → Cell
@@ -30,10 +30,6 @@ parts_of (pair v w) = value v (value w none)
 parts_of (make n o vs) = vs
 parts_of (function l vs) = vs
 parts_of (end x) = none
-
--- the value with this root and these parts
-abbrev pub rooted : Cell → ValueTrees → ValueTree
-rooted c vs = first_or_unit (above c (stacked vs []))
 
 -- these values in a list
 abbrev pub listed : ValueTrees → List ValueTree
@@ -61,18 +57,6 @@ form_of (make n o vs) = form.Make n o
 form_of (function l vs) = form.Function l
 form_of (end x) = form.End
 
--- the cells of the last n values, the last value's last, in front of others
-abbrev pub in_front : ℕ → List ValueTree → List Cell → List Cell
-in_front zero ops cs = cs
-in_front (suc n) [] cs = cs
-in_front (suc n) (v ∷ ops) cs = in_front n ops (cells_of v ++ cs)
-
--- how many cells the last n values have
-abbrev pub room : ℕ → List ValueTree → ℕ
-room zero ops = zero
-room (suc n) [] = zero
-room (suc n) (v ∷ ops) = length (cells_of v) + room n ops
-
 -- the last value is replaced by its parts, the first one last
 abbrev pub unjoined : List ValueTree → List ValueTree
 unjoined [] = []
@@ -99,6 +83,17 @@ make_form form.Pair = false
 make_form (form.Make n o) = true
 make_form (form.Function l) = false
 make_form form.End = false
+
+-- it is a function
+abbrev pub function_form : Form → Bool
+function_form (form.Int n) = false
+function_form (form.Bool b) = false
+function_form (form.Char c) = false
+function_form form.Unit = false
+function_form form.Pair = false
+function_form (form.Make n o) = false
+function_form (form.Function l) = true
+function_form form.End = false
 
 -- the end that a value is
 abbrev pub end_in : ValueTree → Option EndName

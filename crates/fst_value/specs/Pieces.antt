@@ -1,7 +1,6 @@
 -- What is still to be written of a value.
 use Rattle.std.specs.Prelude.{◌≡◌, ℕ, ◌+◌, ◌*◌, nat_lt, List, [], ◌∷◌, ◌++◌, length, drop, reverse, slice_get, codes}
 use Rattle.std.specs.Prelude.{Bool, true, false, ◌&&◌, Option, None, Some, is_some, Result, IfOk}
-use Rattle.std.specs.Borrow.{Bor}
 use Rattle.std.specs.Fmt.{signed_decimal}
 use Rattle.std.specs.Int.{is_negative}
 use Rattle.std.specs.List.{flat_map}
@@ -15,7 +14,9 @@ use Rattle.fst_value.specs.declared.cells.Cell.{Cell}
 use Rattle.fst_value.specs.declared.cells.Cell.TheVariants as cell
 use Rattle.fst_value.specs.declared.printing.Piece.{Piece}
 use Rattle.fst_value.specs.declared.printing.Piece.TheVariants.{Close, Next, Second, Fields}
-use Rattle.fst_value.specs.Cells.{cells_of, taken, spelled}
+use Rattle.fst_value.specs.declared.nodes.Node.{Node}
+use Rattle.fst_value.specs.Cells.{taken}
+use Rattle.fst_value.specs.Nodes.{nodes_of, values_in}
 use Rattle.fst_value.specs.Texts.{truth_text, character_text, maker_in, value_text, fields_text}
 
 -- the first of these values, if there is one
@@ -33,24 +34,26 @@ pieces_text families (Second ∷ ps) vs =
 pieces_text families (Fields k ∷ ps) vs =
     fields_text families (taken k vs) ++ pieces_text families ps (drop k vs)
 
--- a text, and behind it pieces with the values that these cells spell, the last cell first
-abbrev pub whole_text : {Z : Type 0} → List Family → String Z → List Piece → List Cell → List ℕ
-whole_text families text ps cs = string_bytes text ++ pieces_text families ps (spelled (reverse cs))
+-- a text, and behind it pieces with the values that these nodes spell
+abbrev pub whole_text : {Z : Type 0} → List Family → String Z → List Piece → List Node → List ℕ
+whole_text families text ps ns = string_bytes text ++ pieces_text families ps (values_in ns)
 
--- where there is memory, and these cells are left, the whole text is what it was with these pieces and cells
-abbrev pub Unfolds : {E Z A : Type 0} → Result (Bor (List Cell)) E → List Family → String Z →
-    String Z → List Piece → Vec Piece A → List Cell → Type 0
-Unfolds result families old new ps stack cs =
-    IfOk result (λ rest. whole_text families new
-    (reverse stack.items) rest.now ≡ whole_text families old ps cs)
+-- where there is memory, and the nodes from a place on are left, the whole text is what it was with these pieces and the nodes
+-- from the old place on
+abbrev pub Unfolds : {E Z A : Type 0} → Result ℕ E → List Family → String Z → String Z →
+    List Piece → Vec Piece A → List Node → ℕ → Type 0
+Unfolds result families old new ps stack ns at =
+    IfOk result (λ behind. whole_text families new
+    (reverse stack.items) (drop behind ns) ≡ whole_text families old ps (drop at ns))
 
--- these cells, the last one first, are those of the values that they spell
-abbrev pub AreCells : List Cell → Type 0
-AreCells cs = reverse cs ≡ flat_map cells_of (spelled (reverse cs))
+-- the nodes of the first value's parts and what stands behind it, or this alone where its parts aren't shown
+abbrev pub behind_root : Bool → List Node → List Node
+behind_root true ns = drop 1 ns
+behind_root false ns = flat_map nodes_of (drop 1 (values_in ns))
 
 -- as many pieces as are still to come, or more
-abbrev pub weight : List Piece → List Cell → ℕ
-weight ps cs = length ps + 8 * length cs
+abbrev pub weight : List Piece → List Node → ℕ
+weight ps ns = length ps + 8 * length ns
 
 -- the name of a constructor, if there is one
 abbrev pub maker_name : Option Maker → List ℕ

@@ -1,7 +1,6 @@
-ghost use Rattle.std.specs.Prelude.{◌≡◌, ◌∷◌, [], IfOk, reverse};
-ghost use Rattle.std.specs.List.{flat_map};
+ghost use Rattle.std.specs.Prelude.{◌≡◌, IfOk};
 ghost use Rattle.std.specs.Option.{option_copied, option_to_list};
-ghost use Rattle.fst_value.specs.Nodes.{ends_at, arity};
+ghost use Rattle.fst_value.specs.OneCell.{ends_at, arity};
 
 use fst_types::EndName;
 use std::alloc::{AllocError, Global};
@@ -39,27 +38,8 @@ impl Cell {
     }
 }
 
-/// These cells alone.
-pub(crate) fn one(alloc: Global, cell: Cell) -> Result<Vec<Cell>, AllocError>
-    ensures { IfOk result (λ cells. cells.items ≡ cell ∷ []) }
-{
-    let mut cells = Vec::new(alloc);
-    cells.push(cell)?;
-    Ok(cells)
-}
-
-/// The same cells in memory of their own.
-pub(crate) fn copies_of(alloc: Global, cells: &[Cell]) -> Result<Vec<Cell>, AllocError>
-    ensures { IfOk result (λ copies. copies.items ≡ cells.now) }
-{
-    let mut copies = Vec::new(alloc);
-    for cell in cells {
-        copies.push(cell.copy(alloc)?)?;
-    }
-    Ok(copies)
-}
-
-fn end_at(cell: &Cell) -> Option<&EndName>
+/// The end at a cell, if it is one.
+pub(crate) fn end_at(cell: &Cell) -> Option<&EndName>
     ensures { option_to_list (option_copied result) ≡ ends_at cell.now }
 {
     match cell {
@@ -72,19 +52,6 @@ fn end_at(cell: &Cell) -> Option<&EndName>
         Cell::Function(_, _) => None,
         Cell::End(name) => Some(name),
     }
-}
-
-/// The ends among the cells, from the last one to the first.
-pub(crate) fn ends_among(alloc: Global, cells: &[Cell]) -> Result<Vec<EndName>, AllocError>
-    ensures { IfOk result (λ names. names.items ≡ flat_map ends_at (reverse cells.now)) }
-{
-    let mut names = Vec::new(alloc);
-    for i in 0..cells.len() {
-        if let Some(name) = end_at(&cells[cells.len() - 1 - i]) {
-            names.push(name.copy(alloc)?)?;
-        }
-    }
-    Ok(names)
 }
 
 /// How many parts follow a cell.

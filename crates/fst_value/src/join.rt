@@ -1,23 +1,40 @@
-ghost use Rattle.std.specs.Prelude.{List, ◌≡◌, ◌<◌, ◌≤◌, ◌+◌, ◌∷◌, [], length, drop, reverse, IfOk, IsOk, OnOk, OnErr, Some};
+//! Values that become the parts of one. The largest stays where it is in memory, and the nodes of the others are moved to it.
+
+ghost use Rattle.std.specs.Prelude.{◌≡◌, ◌-◌, ◌<◌, ◌≤◌, ◌+◌, ◌∷◌, ◌++◌, [], length, take, drop, reverse, IfOk, IfErr, IsOk, OnOk, OnErr};
+ghost use Rattle.std.specs.List.{flat_map};
 ghost use Rattle.std.specs.Vec.{vec_len, vec_capacity};
-ghost use Rattle.fst_value.specs.ValueTree.{ValueTree, none, ValueTrees};
-ghost use Rattle.fst_value.specs.Nodes.{arity};
-ghost use Rattle.fst_value.specs.Stacks.{collected, Makes, paired, gathered};
-ghost use Rattle.fst_value.specs.Parts.{in_front, room, rooted};
+ghost use Rattle.std.specs.VecDeque.{deque_len, deque_capacity};
+ghost use Rattle.fst_value.specs.Cells.{rooted};
+ghost use Rattle.fst_value.specs.Nodes.{nodes_of};
+ghost use Rattle.fst_value.specs.OneCell.{arity};
+ghost use Rattle.fst_value.specs.Stacks.{Makes, paired, gathered};
+ghost use Rattle.fst_value.specs.Parts.{listed};
 
-use crate::cells::{Cell, one};
-use crate::value::Value;
+use crate::cells::Cell;
+use crate::nodes::{Node, move_before};
+use crate::value::{Value, alone};
 use std::alloc::{AllocError, Global};
+use std::collections::VecDeque;
 
-// How many cells the last values and a root have, where the number fits.
-fn room_of(values: &[Value], count: usize) -> Result<usize, AllocError>
-    requires { count ≤ length values.now }
-    ensures { IfOk result (λ n. n ≡ 1 + room count (reverse values.now)) }
+/// Turns the values from a place on: so many first ones of them go behind the others.
+pub(crate) fn turn(values: &mut Vec<Value>, at: usize, count: usize)
+    requires at { at ≤ length values.old.items }
+    requires count { count ≤ length (drop at values.old.items) }
+    ensures items { values.new.items ≡ take at values.old.items
+        ++ (drop count (drop at values.old.items) ++ take count (drop at values.old.items)) }
+    ensures len { vec_len values.new ≡ vec_len values.old }
+    ensures capacity { vec_capacity values.new ≡ vec_capacity values.old }
 {
-    let mut sum: usize = 1;
-    for i in 0..count {
-        let value = &values[values.len() - 1 - i];
-        match sum.checked_add(value.cells.len()) {
+    values[at..].rotate_left(count);
+}
+
+// How many nodes the values have, where the number fits.
+fn nodes_among(values: &[Value]) -> Result<usize, AllocError>
+    ensures { IfOk result (λ n. n ≡ length (flat_map nodes_of values.now)) }
+{
+    let mut sum: usize = 0;
+    for value in values {
+        match sum.checked_add(1 + value.body.len()) {
             None => return Err(AllocError),
             Some(more) => sum = more,
         }
@@ -25,84 +42,135 @@ fn room_of(values: &[Value], count: usize) -> Result<usize, AllocError>
     Ok(sum)
 }
 
-// Moves the cells of the last values behind others, for which there is room.
-fn move_behind(
-    cells: &mut Vec<Cell>,
-    values: &mut Vec<Value>,
-    count: usize,
-) -> Result<(), AllocError>
-    requires values { count ≤ length values.old.items }
-    requires room { vec_len cells.old + room count
-        (reverse values.old.items) ≤ vec_capacity cells.old }
-    ensures done { IsOk result }
-    ensures cells { reverse cells.new.items ≡ in_front count (reverse values.old.items)
-        (reverse cells.old.items) }
-    ensures values { reverse values.new.items ≡ drop count (reverse values.old.items) }
-    ensures len { vec_len cells.new ≡ vec_len cells.old + room count (reverse values.old.items) }
-    ensures capacity { vec_capacity cells.old ≤ vec_capacity cells.new }
-    ensures fewer { vec_len values.new + count ≡ vec_len values.old }
-    ensures values_capacity { vec_capacity values.new ≡ vec_capacity values.old }
+// The place behind the largest of the values from a place on.
+fn behind_largest(values: &[Value], at: usize) -> usize
+    requires { at ≤ length values.now }
+    ensures from { at ≤ result }
+    ensures within { result ≤ length values.now }
 {
-    for _ in 0..count {
-        match values.pop() {
-            None => return Err(AllocError),
-            Some(part) => {
-                let mut front = part.cells;
-                cells.append(&mut front)?;
-            }
+    let mut largest = 0;
+    let mut behind = values.len();
+    for i in at..values.len() {
+        let value = &values[i];
+        if largest < value.body.len() {
+            largest = value.body.len();
+            behind = i + 1;
         }
     }
-    Ok(())
+    behind
 }
 
-// Puts a root behind the cells of the last values and those of the one behind them.
-fn join_onto(
-    cells: &mut Vec<Cell>,
+// Moves the nodes of a value in front of others, where there is room.
+fn move_value(value: Value, nodes: &mut VecDeque<Node>)
+    requires { deque_len nodes.old + length (nodes_of value) ≤ deque_capacity nodes.old }
+    ensures nodes { nodes.new.items ≡ nodes_of value ++ nodes.old.items }
+    ensures len { deque_len nodes.new ≡ deque_len nodes.old + length (nodes_of value) }
+    ensures capacity { deque_capacity nodes.new ≡ deque_capacity nodes.old }
+{
+    let Value { root, body } = value;
+    let size = 1 + body.len();
+    move_before(body, nodes);
+    nodes.push_front_reserved(Node { cell: root, size });
+}
+
+/// Moves the nodes of the values from a place on in front of others, where there is room.
+pub(crate) fn move_values(values: &mut Vec<Value>, at: usize, nodes: &mut VecDeque<Node>)
+    requires at { at ≤ length values.old.items }
+    requires room { deque_len nodes.old + length (flat_map nodes_of
+        (drop at values.old.items)) ≤ deque_capacity nodes.old }
+    ensures nodes { nodes.new.items ≡ flat_map nodes_of (drop at values.old.items)
+        ++ nodes.old.items }
+    ensures values { values.new.items ≡ take at values.old.items }
+    ensures len { vec_len values.new ≡ at }
+    ensures capacity { vec_capacity values.new ≡ vec_capacity values.old }
+{
+    while at < values.len() {
+        if let Some(value) = values.pop() {
+            move_value(value, nodes);
+        }
+    }
+}
+
+// Moves the nodes of the values from a place on to those of a value behind them, for which there is room for so many nodes in
+// all. Where there is no room, nothing changes.
+fn move_to(
     values: &mut Vec<Value>,
-    root: Cell,
-    count: usize,
-) -> Result<(), AllocError>
-    requires { count ≤ length values.old.items }
-    ensures cells { OnOk result (reverse cells.new.items ≡ root ∷ in_front count
-        (reverse values.old.items) (reverse cells.old.items)) }
-    ensures values { OnOk result (reverse values.new.items ≡ drop count
-        (reverse values.old.items)) }
-    ensures cells_stay { OnErr result (cells.new.items ≡ cells.old.items) }
+    at: usize,
+    last: Value,
+    room: usize,
+) -> Result<VecDeque<Node>, Value>
+    requires at { at ≤ length values.old.items }
+    requires room { room ≡ length (flat_map nodes_of (drop at values.old.items))
+        + length (nodes_of last) }
+    ensures nodes { IfOk result (λ nodes. nodes.items ≡ flat_map nodes_of
+        (drop at values.old.items) ++ nodes_of last) }
+    ensures values { OnOk result (values.new.items ≡ take at values.old.items) }
+    ensures value { IfErr result (λ v. v ≡ last) }
     ensures values_stay { OnErr result (values.new.items ≡ values.old.items) }
     ensures fewer { vec_len values.new ≤ vec_len values.old }
     ensures capacity { vec_capacity values.new ≡ vec_capacity values.old }
 {
-    let room = room_of(values, count)?;
-    cells.reserve(room)?;
-    move_behind(cells, values, count)?;
-    cells.push(root)?;
-    Ok(())
+    let Value { root, mut body } = last;
+    match body.reserve(room - body.len()) {
+        Err(_) => Err(Value { root, body }),
+        Ok(()) => {
+            let size = 1 + body.len();
+            body.push_front_reserved(Node { cell: root, size });
+            move_values(values, at, &mut body);
+            Ok(body)
+        }
+    }
 }
 
-/// Makes one value of the last values, with a root behind them. Where there is no room, the values stay as they were.
-pub(crate) fn join(values: &mut Vec<Value>, root: Cell, count: usize) -> Result<(), AllocError>
-    requires some { 0 < count }
-    requires values { count ≤ length values.old.items }
-    requires root { arity root ≡ count }
-    ensures joined { OnOk result ((p : ValueTrees × List ValueTree) →
-        collected count (reverse values.old.items) none ≡ Some p →
-        reverse values.new.items ≡ rooted root p.0 ∷ p.1) }
+// Makes the values from a place on the parts of one with this root, in order but for so many first ones, which are its last
+// parts. Where there is no room, nothing changes.
+fn join_turned(
+    values: &mut Vec<Value>,
+    root: Cell,
+    at: usize,
+    count: usize,
+) -> Result<(), AllocError>
+    requires some { at < length values.old.items }
+    requires count { count ≤ length (drop at values.old.items) }
+    requires root { arity root ≡ length (drop at values.old.items) }
+    ensures joined { OnOk result (values.new.items ≡ take at values.old.items ++ rooted root
+        (drop count (drop at values.old.items) ++ take count (drop at values.old.items)) ∷ []) }
     ensures unchanged { OnErr result (values.new.items ≡ values.old.items) }
 {
+    let room = nodes_among(&values[at..])?;
+    let behind = nodes_among(&values[at..at + count])?;
     match values.pop() {
         None => Err(AllocError),
-        Some(last) => {
-            let mut cells = last.cells;
-            match join_onto(&mut cells, values, root, count - 1) {
-                Err(error) => {
-                    values.push(Value { cells })?;
-                    Err(error)
-                }
-                Ok(()) => {
-                    values.push(Value { cells })?;
-                    Ok(())
-                }
+        Some(last) => match move_to(values, at, last, room) {
+            Err(last) => {
+                values.push_reserved(last);
+                Err(AllocError)
             }
+            Ok(mut body) => {
+                body.rotate_left(behind);
+                values.push_reserved(Value { root, body });
+                Ok(())
+            }
+        },
+    }
+}
+
+/// Makes the values from a place on the parts of one with this root. Where there is no room, nothing changes.
+pub(crate) fn join(values: &mut Vec<Value>, root: Cell, at: usize) -> Result<(), AllocError>
+    requires some { at < length values.old.items }
+    requires root { arity root ≡ length (drop at values.old.items) }
+    ensures joined { OnOk result (values.new.items ≡ take at values.old.items ++ rooted root
+        (drop at values.old.items) ∷ []) }
+    ensures unchanged { OnErr result (values.new.items ≡ values.old.items) }
+{
+    let largest = behind_largest(values, at);
+    let behind = values.len() - largest;
+    turn(values, at, largest - at);
+    match join_turned(values, root, at, behind) {
+        Ok(()) => Ok(()),
+        Err(error) => {
+            turn(values, at, behind);
+            Err(error)
         }
     }
 }
@@ -114,7 +182,8 @@ pub(crate) fn join_two(values: &mut Vec<Value>) -> Result<bool, AllocError>
     if values.len() < 2 {
         return Ok(false);
     }
-    join(values, Cell::Pair, 2)?;
+    let at = values.len() - 2;
+    join(values, Cell::Pair, at)?;
     Ok(true)
 }
 
@@ -127,26 +196,17 @@ pub(crate) fn gather(
     count: u32,
 ) -> Result<bool, AllocError>
     requires { arity root ≡ count }
-    ensures { Makes (gathered (rooted root) count) (reverse values.old.items) result
-        (reverse values.new.items) }
+    ensures { Makes (gathered (λ vs. rooted root (listed vs)) count) (reverse values.old.items)
+        result (reverse values.new.items) }
 {
     if values.len() < count as usize {
         return Ok(false);
     }
     if count == 0 {
-        let value = alone(alloc, root)?;
-        values.push(value)?;
+        values.push(alone(alloc, root))?;
         return Ok(true);
     }
-    join(values, root, count as usize)?;
+    let at = values.len() - count as usize;
+    join(values, root, at)?;
     Ok(true)
-}
-
-// The value that is a root without parts.
-fn alone(alloc: Global, root: Cell) -> Result<Value, AllocError>
-    requires { arity root ≡ 0 }
-    ensures { IfOk result (λ v. v ≡ rooted root none) }
-{
-    let cells = one(alloc, root)?;
-    Ok(Value { cells })
 }

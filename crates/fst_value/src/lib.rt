@@ -4,11 +4,11 @@
 mod cells;
 mod join;
 mod letters;
+mod nodes;
 mod printing;
 mod split;
 mod stack;
 mod value;
-mod walk;
 
 pub use cells::Cell;
 pub use letters::{push_quoted, truth_text};

@@ -4,18 +4,19 @@ ghost use Rattle.std.specs.Prelude.{◌≡◌, ◌+◌, ◌<◌, ◌≤◌, ◌+
 ghost use Rattle.std.specs.Option.{option_copied};
 ghost use Rattle.std.specs.String.{string_bytes};
 ghost use Rattle.fst_value.specs.declared.printing.Piece.TheVariants as piece_is;
-ghost use Rattle.fst_value.specs.Nodes.{behind};
+ghost use Rattle.fst_value.specs.Nodes.{AreNodes};
 ghost use Rattle.fst_value.specs.Texts.{maker_in, value_text};
 ghost use Rattle.fst_base.specs.Gains.{Gains};
-ghost use Rattle.fst_value.specs.Pieces.{AreCells, Unfolds, is_shown, made_pieces, maker_name, root_enclosed, root_pieces, root_text, weight};
+ghost use Rattle.fst_value.specs.Pieces.{Unfolds, behind_root, is_shown, made_pieces, maker_name, root_enclosed, root_pieces, root_text, weight};
 
 use crate::cells::Cell;
 use crate::letters::{push_quoted, truth_text};
+use crate::nodes::Node;
 use crate::value::Value;
-use crate::walk::start_of;
 use fst_base::push_number;
 use fst_types::{Family, Maker};
 use std::alloc::{AllocError, Global};
+use std::collections::VecDeque;
 
 /// A part of a value that is still to be written.
 #[derive(Clone, Copy)]
@@ -122,58 +123,58 @@ fn push_root(
     Ok(true)
 }
 
-// The cells without the last one, or without all those of the value that ends with it.
-fn cells_behind(cells: &[Cell], shown: bool) -> &[Cell]
-    requires some { 0 < length cells.now }
-    requires cells { AreCells cells.now }
-    ensures rest { reverse result.now ≡ (if shown then drop 1 (reverse cells.now) else behind 1
-        (reverse cells.now)) }
-    ensures cells { AreCells result.now }
-    ensures fewer { length result.now < length cells.now }
+// The place of what is to be written behind the root at a place: its parts, or what stands behind the value.
+fn place_behind(nodes: &VecDeque<Node>, at: usize, shown: bool) -> usize
+    requires some { at < length nodes.now.items }
+    requires nodes { AreNodes (drop at nodes.now.items) }
+    ensures rest { drop result nodes.now.items ≡ behind_root shown (drop at nodes.now.items) }
+    ensures nodes { AreNodes (drop result nodes.now.items) }
+    ensures fewer { at < result }
 {
-    if shown {
-        return &cells[..cells.len() - 1];
-    }
-    &cells[..start_of(cells)]
+    if shown { at + 1 } else { at + nodes[at].size }
 }
 
-// Writes how the first value begins that these cells spell, and gives the cells of what comes behind that.
-fn push_first<'a>(
+// Writes how the value at a place begins, and gives the place of what comes behind that.
+fn push_first(
     text: &mut String,
     stack: &mut Vec<Piece>,
     families: &[Family],
-    cells: &'a [Cell],
-) -> Result<&'a [Cell], AllocError>
-    requires some { 0 < length cells.now }
-    requires cells { AreCells cells.now }
-    ensures cells { IfOk result (λ rest. AreCells rest.now) }
+    nodes: &VecDeque<Node>,
+    at: usize,
+) -> Result<usize, AllocError>
+    requires some { at < length nodes.now.items }
+    requires nodes { AreNodes (drop at nodes.now.items) }
+    ensures nodes { IfOk result (λ behind. AreNodes (drop behind nodes.now.items)) }
     ensures same { Unfolds result families.now text.old text.new
-        (piece_is.Next ∷ reverse stack.old.items) stack.new cells.now }
-    ensures less { IfOk result (λ rest.
-        4 + weight stack.new.items rest.now ≤ weight stack.old.items cells.now) }
+        (piece_is.Next ∷ reverse stack.old.items) stack.new nodes.now.items at }
+    ensures less { IfOk result (λ behind.
+        4 + weight stack.new.items (drop behind nodes.now.items) ≤ weight stack.old.items
+        (drop at nodes.now.items)) }
 {
-    let shown = push_root(text, stack, families, &cells[cells.len() - 1])?;
-    Ok(cells_behind(cells, shown))
+    let shown = push_root(text, stack, families, &nodes[at].cell)?;
+    Ok(place_behind(nodes, at, shown))
 }
 
 // The next value, if there is one.
-fn push_next<'a>(
+fn push_next(
     text: &mut String,
     stack: &mut Vec<Piece>,
     families: &[Family],
-    cells: &'a [Cell],
-) -> Result<&'a [Cell], AllocError>
-    requires { AreCells cells.now }
-    ensures cells { IfOk result (λ rest. AreCells rest.now) }
+    nodes: &VecDeque<Node>,
+    at: usize,
+) -> Result<usize, AllocError>
+    requires { AreNodes (drop at nodes.now.items) }
+    ensures nodes { IfOk result (λ behind. AreNodes (drop behind nodes.now.items)) }
     ensures same { Unfolds result families.now text.old text.new
-        (piece_is.Next ∷ reverse stack.old.items) stack.new cells.now }
-    ensures less { IfOk result (λ rest.
-        weight stack.new.items rest.now ≤ weight stack.old.items cells.now) }
+        (piece_is.Next ∷ reverse stack.old.items) stack.new nodes.now.items at }
+    ensures less { IfOk result (λ behind.
+        weight stack.new.items (drop behind nodes.now.items) ≤ weight stack.old.items
+        (drop at nodes.now.items)) }
 {
-    if cells.len() == 0 {
-        return Ok(cells);
+    if nodes.len() <= at {
+        return Ok(at);
     }
-    push_first(text, stack, families, cells)
+    push_first(text, stack, families, nodes, at)
 }
 
 // Whether the value with this root stands in parentheses as a field.
@@ -204,54 +205,58 @@ fn push_open(text: &mut String, stack: &mut Vec<Piece>, enclosed: bool) -> Resul
 }
 
 // The first of so many fields, with a space before it, and the others after it.
-fn push_fields<'a>(
+fn push_fields(
     text: &mut String,
     stack: &mut Vec<Piece>,
     families: &[Family],
     count: u32,
-    cells: &'a [Cell],
-) -> Result<&'a [Cell], AllocError>
-    requires { AreCells cells.now }
-    ensures cells { IfOk result (λ rest. AreCells rest.now) }
+    nodes: &VecDeque<Node>,
+    at: usize,
+) -> Result<usize, AllocError>
+    requires { AreNodes (drop at nodes.now.items) }
+    ensures nodes { IfOk result (λ behind. AreNodes (drop behind nodes.now.items)) }
     ensures same { Unfolds result families.now text.old text.new
-        (piece_is.Fields count ∷ reverse stack.old.items) stack.new cells.now }
-    ensures less { IfOk result (λ rest.
-        weight stack.new.items rest.now ≤ weight stack.old.items cells.now) }
+        (piece_is.Fields count ∷ reverse stack.old.items) stack.new nodes.now.items at }
+    ensures less { IfOk result (λ behind.
+        weight stack.new.items (drop behind nodes.now.items) ≤ weight stack.old.items
+        (drop at nodes.now.items)) }
 {
-    if count == 0 || cells.len() == 0 {
-        return Ok(cells);
+    if count == 0 || nodes.len() <= at {
+        return Ok(at);
     }
     text.push_str(" ")?;
     push(stack, Piece::Fields(count - 1))?;
-    push_open(text, stack, is_enclosed(families, &cells[cells.len() - 1]))?;
-    push_first(text, stack, families, cells)
+    push_open(text, stack, is_enclosed(families, &nodes[at].cell))?;
+    push_first(text, stack, families, nodes, at)
 }
 
-fn push_piece<'a>(
+fn push_piece(
     text: &mut String,
     stack: &mut Vec<Piece>,
     families: &[Family],
     piece: Piece,
-    cells: &'a [Cell],
-) -> Result<&'a [Cell], AllocError>
-    requires { AreCells cells.now }
-    ensures cells { IfOk result (λ rest. AreCells rest.now) }
+    nodes: &VecDeque<Node>,
+    at: usize,
+) -> Result<usize, AllocError>
+    requires { AreNodes (drop at nodes.now.items) }
+    ensures nodes { IfOk result (λ behind. AreNodes (drop behind nodes.now.items)) }
     ensures same { Unfolds result families.now text.old text.new
-        (piece ∷ reverse stack.old.items) stack.new cells.now }
-    ensures less { IfOk result (λ rest.
-        weight stack.new.items rest.now ≤ weight stack.old.items cells.now) }
+        (piece ∷ reverse stack.old.items) stack.new nodes.now.items at }
+    ensures less { IfOk result (λ behind.
+        weight stack.new.items (drop behind nodes.now.items) ≤ weight stack.old.items
+        (drop at nodes.now.items)) }
 {
     match piece {
         Piece::Close => {
             text.push_str(")")?;
-            Ok(cells)
+            Ok(at)
         }
-        Piece::Next => push_next(text, stack, families, cells),
+        Piece::Next => push_next(text, stack, families, nodes, at),
         Piece::Second => {
             text.push_str(", ")?;
-            push_next(text, stack, families, cells)
+            push_next(text, stack, families, nodes, at)
         }
-        Piece::Fields(count) => push_fields(text, stack, families, count, cells),
+        Piece::Fields(count) => push_fields(text, stack, families, count, nodes, at),
     }
 }
 
@@ -262,10 +267,10 @@ pub fn print(alloc: Global, v: &Value, families: &[Family]) -> Result<String, Al
 {
     let mut text = String::new(alloc);
     let mut stack = Vec::new(alloc);
-    let mut cells: &[Cell] = &v.cells;
-    push(&mut stack, Piece::Next)?;
+    let shown = push_root(&mut text, &mut stack, families, &v.root)?;
+    let mut at = if shown { 0 } else { v.body.len() };
     while let Some(piece) = pop(&mut stack) {
-        cells = push_piece(&mut text, &mut stack, families, piece, cells)?;
+        at = push_piece(&mut text, &mut stack, families, piece, &v.body, at)?;
     }
     Ok(text)
 }

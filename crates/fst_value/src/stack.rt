@@ -1,11 +1,11 @@
 ghost use Rattle.std.specs.Prelude.{◌≡◌, ◌<◌, ◌≤◌, ◌∷◌, [], length, drop, slice_get, IfOk, IsOk, OnOk, OnErr, Some, MatchOption};
 ghost use Rattle.std.specs.Option.{option_copied};
 ghost use Rattle.fst_value.specs.ValueTree.{ValueTree, make, function};
-ghost use Rattle.fst_value.specs.Stacks.{Makes, gathered, halved, moved_on, opened, paired};
+ghost use Rattle.fst_value.specs.Stacks.{Makes, Takes, applied, gathered, halved, moved_on, opened, paired};
 
 use crate::cells::Cell;
 use crate::join::{gather, join_two};
-use crate::split::{split_make, split_pair};
+use crate::split::{split_make, split_pair, take_function};
 use crate::value::Value;
 use std::alloc::{AllocError, Global};
 use std::marker::Model;
@@ -105,6 +105,14 @@ impl Stack {
     {
         let second = self.values.len() - 2;
         self.values.swap_remove(second);
+    }
+
+    /// Takes the value before the last one, where it is a function, and gives the values that it captured in order, if it is
+    /// one. Where there is no room, nothing changes.
+    pub fn take_function(&mut self, alloc: Global) -> Result<Option<Vec<Value>>, AllocError>
+        ensures { Takes applied self.old result self.new }
+    {
+        take_function(alloc, &mut self.values)
     }
 
     /// Makes a pair of the last two values, the last one its second part, and says whether there are two. Where there is no

@@ -1,14 +1,17 @@
-ghost use Rattle.std.specs.Prelude.{◌≡◌, ◌-◌, ◌<◌, [], length, take, reverse, IfOk, ℕ, slice_index_or};
+ghost use Rattle.std.specs.Prelude.{◌≡◌, ◌≤◌, ◌++◌, [], IfOk, OnOk, OnErr};
 ghost use Rattle.fst_value.specs.ValueTree.{int, bool, char, unit, end};
-ghost use Rattle.fst_value.specs.Cells.{ends_in, count, cells_of, cells_of_all};
+ghost use Rattle.fst_value.specs.Cells.{ends_in, count, rooted};
+ghost use Rattle.fst_value.specs.OneCell.{arity};
 ghost use Rattle.std.specs.Option.{option_copied};
+ghost use Rattle.std.specs.Vec.{vec_capacity};
 ghost use Rattle.fst_value.specs.Parts.{cell_with, end_in, form_of, form_at, parts_of, listed, unit_first, unit_form, with_first};
 
-use crate::cells::{Cell, copies_of, ends_among, one, parts_at};
-use crate::split::is_pair;
-use crate::walk::first_parts;
+use crate::cells::{Cell, parts_at};
+use crate::nodes::{Node, copies_of, push_end, push_ends};
+use crate::split::{is_pair, take_apart};
 use fst_types::EndName;
 use std::alloc::{AllocError, Global};
+use std::collections::VecDeque;
 use std::marker::Model;
 
 /// What a value is, without its parts: a number of its own, or the numbers of a constructor or a function.
@@ -29,8 +32,9 @@ pub enum Form {
 /// A value that a task computes with. Contracts see its tree.
 #[derive(Drop)]
 pub struct Value {
-    // the cells of the tree in preorder, the last one first: a constructor goes behind its fields
-    pub(crate) cells: Vec<Cell>,
+    pub(crate) root: Cell,
+    // the nodes of its parts in preorder
+    pub(crate) body: VecDeque<Node>,
 }
 
 impl Model for Value {
@@ -41,11 +45,11 @@ impl Model for Value {
 
     ghost coded = { value_code };
 
-    ghost use Rattle.fst_value.specs.Cells.{tree_of, IsKept};
+    ghost use Rattle.fst_value.specs.Nodes.{tree_of, IsKept};
 
-    ghost view = { λ v. tree_of v.cells.items };
+    ghost view = { λ v. tree_of v.root v.body.items };
 
-    ghost invariant = { λ v. IsKept v.cells.items };
+    ghost invariant = { λ v. IsKept v.root v.body.items };
 }
 
 impl Value {
@@ -53,108 +57,77 @@ impl Value {
     pub fn int(alloc: Global, number: i64) -> Result<Value, AllocError>
         ensures { IfOk result (λ v. v ≡ int number) }
     {
-        Ok(Value {
-            cells: one(alloc, Cell::Int(number))?,
-        })
+        Ok(alone(alloc, Cell::Int(number)))
     }
 
     /// A truth value.
     pub fn bool(alloc: Global, truth: bool) -> Result<Value, AllocError>
         ensures { IfOk result (λ v. v ≡ bool truth) }
     {
-        Ok(Value {
-            cells: one(alloc, Cell::Bool(truth))?,
-        })
+        Ok(alone(alloc, Cell::Bool(truth)))
     }
 
     /// A character.
     pub fn char(alloc: Global, character: char) -> Result<Value, AllocError>
         ensures { IfOk result (λ v. v ≡ char character) }
     {
-        Ok(Value {
-            cells: one(alloc, Cell::Char(character))?,
-        })
+        Ok(alone(alloc, Cell::Char(character)))
     }
 
     /// The unit value.
     pub fn unit(alloc: Global) -> Result<Value, AllocError>
         ensures { IfOk result (λ v. v ≡ unit) }
     {
-        Ok(Value {
-            cells: one(alloc, Cell::Unit)?,
-        })
+        Ok(alone(alloc, Cell::Unit))
     }
 
     /// An end of a channel.
     pub fn end(alloc: Global, name: EndName) -> Result<Value, AllocError>
         ensures { IfOk result (λ v. v ≡ end name) }
     {
-        Ok(Value {
-            cells: one(alloc, Cell::End(name))?,
-        })
+        Ok(alone(alloc, Cell::End(name)))
     }
 
     /// What the value is.
     pub fn form(&self) -> Form
         ensures { result ≡ form_of self.now }
     {
-        form_at(&self.cells[self.cells.len() - 1])
+        form_at(&self.root)
     }
 
     /// The end that the value is, if it is one.
     pub fn as_end(&self) -> Option<&EndName>
         ensures { option_copied result ≡ end_in self.now }
     {
-        match &self.cells[self.cells.len() - 1] {
+        match &self.root {
             Cell::End(name) => Some(name),
             _ => None,
         }
-    }
-
-    /// The parts of the value in order, in memory of their own.
-    pub fn parts(&self, alloc: Global) -> Result<Vec<Value>, AllocError>
-        ensures { IfOk result (λ parts. parts.items ≡ listed (parts_of self.now)) }
-    {
-        let (parts, _) = first_parts(alloc, self.body(), self.count() as usize)?;
-        Ok(parts)
     }
 
     /// How many parts the value has.
     pub(crate) fn count(&self) -> u32
         ensures { result ≡ count (parts_of self.now) }
     {
-        parts_at(&self.cells[self.cells.len() - 1])
+        parts_at(&self.root)
     }
 
-    // the cells of its parts
-    fn body(&self) -> &[Cell]
-        ensures { reverse result.now ≡ cells_of_all (parts_of self.now) }
+    /// Moves its parts in order behind other values, so that nothing is left of it. Where there is no room, nothing changes.
+    pub(crate) fn move_parts(
+        &mut self,
+        alloc: Global,
+        values: &mut Vec<Value>,
+    ) -> Result<(), AllocError>
+        ensures parts { OnOk result (values.new.items ≡ values.old.items ++ listed
+            (parts_of self.old)) }
+        ensures stays { OnErr result (self.new ≡ self.old) }
+        ensures values_stay { OnErr result (values.new.items ≡ values.old.items) }
+        ensures capacity { vec_capacity values.old ≤ vec_capacity values.new }
     {
-        &self.cells[..self.cells.len() - 1]
-    }
-
-    /// The parts but the last one in order, in memory of their own, and how many cells the last one has.
-    pub(crate) fn front_parts(&self, alloc: Global) -> Result<(Vec<Value>, usize), AllocError>
-        requires { 0 < count (parts_of self.now) }
-        ensures parts { IfOk result (λ p. p.0.items ≡ take (count (parts_of self.now) - 1)
-            (listed (parts_of self.now))) }
-        ensures last { IfOk result (λ p. p.1 ≡ length
-            (cells_of (slice_index_or (listed (parts_of self.now))
-            (count (parts_of self.now) - 1) unit))) }
-    {
-        let (parts, len) = first_parts(alloc, self.body(), self.count() as usize - 1)?;
-        Ok((parts, len))
-    }
-
-    /// Keeps of the value only its last part, which has so many cells.
-    pub(crate) fn keep_last_part(&mut self, len: usize)
-        requires some { 0 < count (parts_of self.old) }
-        requires cells { len ≡ length (cells_of
-            (slice_index_or (listed (parts_of self.old)) (count (parts_of self.old) - 1) unit)) }
-        ensures { self.new ≡ slice_index_or (listed (parts_of self.old))
-            (count (parts_of self.old) - 1) unit }
-    {
-        self.cells.truncate(len);
+        let count = self.count() as usize;
+        take_apart(alloc, &mut self.body, count, values)?;
+        self.root = Cell::Unit;
+        Ok(())
     }
 
     // whether it is a pair whose first part is the unit value
@@ -164,7 +137,7 @@ impl Value {
         if !is_pair(self.form()) {
             return false;
         }
-        is_unit(form_at(&self.cells[self.cells.len() - 2]))
+        is_unit(form_at(&self.body[0].cell))
     }
 
     /// Puts a number, a truth value or a character in place of the unit value that is a pair's first part. It takes no memory.
@@ -175,9 +148,20 @@ impl Value {
             return;
         }
         if let Some(cell) = cell_with(form) {
-            let at = self.cells.len() - 2;
-            self.cells[at] = cell;
+            self.body.pop_front();
+            self.body.push_front_reserved(Node { cell, size: 1 });
         }
+    }
+}
+
+/// The value that is a root without parts.
+pub(crate) fn alone(alloc: Global, root: Cell) -> Value
+    requires { arity root ≡ 0 }
+    ensures { result ≡ rooted root [] }
+{
+    Value {
+        root,
+        body: VecDeque::new(alloc),
     }
 }
 
@@ -185,16 +169,18 @@ impl Value {
 pub fn copy(alloc: Global, v: &Value) -> Result<Value, AllocError>
     ensures { IfOk result (λ w. w ≡ v.now) }
 {
-    Ok(Value {
-        cells: copies_of(alloc, &v.cells)?,
-    })
+    let root = v.root.copy(alloc)?;
+    let body = copies_of(alloc, &v.body)?;
+    Ok(Value { root, body })
 }
 
 /// The ends in the value, in order, each as often as it stands there.
 pub fn ends_of(alloc: Global, v: &Value) -> Result<Vec<EndName>, AllocError>
     ensures { IfOk result (λ names. names.items ≡ ends_in v.now) }
 {
-    let names = ends_among(alloc, &v.cells)?;
+    let mut names = Vec::new(alloc);
+    push_end(alloc, &mut names, &v.root)?;
+    push_ends(alloc, &mut names, &v.body)?;
     Ok(names)
 }
 

@@ -1,8 +1,8 @@
+mod BackLaws
 mod SlotLaws
 mod PlaceLaws
 mod StepLaws
 mod RunLaws
 mod TellLaws
 mod TaskLaws
-mod SpareLaws
 pub mod Laws

@@ -1,17 +1,21 @@
 -- How code goes on after single answers.
-use Rattle.std.proofs.Common.{◌≡◌, ◌∙◌, ◌<◌, ◌≤◌, ◌-◌, ℕ, zero, suc, Option, Some, None, option_map, option_and_then, List, [], ◌∷◌, ◌++◌, length, take, drop, slice_get, refl, sym, ap, arith}
+use Rattle.std.proofs.Common.{◌≡◌, ◌∙◌, ◌<◌, ◌≤◌, ◌-◌, ℕ, zero, suc, Option, Some, None, option_map, option_and_then, List, [], ◌∷◌, ◌++◌, length, take, drop, slice_get, refl, sym, ap, arith, Bool}
 use Rattle.std.specs.Prelude.{reverse}
 use Rattle.std.proofs.lemmas.Option.{none-some, same_Some}
 use Rattle.std.proofs.lemmas.List.{reverse-append}
 use Rattle.fst_value.specs.ValueTree.{ValueTree, int, bool, char, unit, pair, make, function, end, ValueTrees, none, value}
-use Rattle.fst_value.specs.Parts.{listed, parts_of}
+use Rattle.fst_types.specs.declared.ends.EndName.{EndName}
+use Rattle.fst_types.specs.declared.event.Event.{Event}
+use Rattle.fst_value.specs.Stacks.{applied}
+use Rattle.fst_value.specs.Parts.{listed}
 use Rattle.fst_machine.specs.declared.code.Instr.{Instr}
 use Rattle.fst_machine.specs.declared.code.Instr.TheVariants as instr
 use Rattle.fst_machine.specs.declared.entry.LambdaEntry.{LambdaEntry}
-use Rattle.fst_machine.specs.declared.request.Answer.TheVariants.{Go, Forked}
+use Rattle.fst_machine.specs.declared.request.Answer.TheVariants.{Go, Forked, Got}
 use Rattle.fst_machine.specs.Code.{Compiled}
-use Rattle.fst_machine.specs.Spots.{begins_at, Slots, Call, Spot, called, captured_by, start_of, captured_count, collected, child_at, forked_spot, forks_at, moved_to, on_instr, spread, told, without_captured}
-use Rattle.fst_vm.specs.Moves.{entry_below, entry_of, forked_entry, given_for, trees_of}
+use Rattle.fst_machine.specs.Values.{Value, received}
+use Rattle.fst_machine.specs.Spots.{begins_at, Slots, Call, Spot, leads_back, around, called, captured_by, start_of, captured_count, collected, child_at, forked_spot, forks_at, moved_to, of_scalar, on_instr, spread, told, without_captured}
+use Rattle.fst_vm.specs.Moves.{end_on, entry_below, entry_of, forked_entry, given_for, trees_of}
 
 -- these values in front of others
 before : List ValueTree → ValueTrees → ValueTrees
@@ -124,41 +128,37 @@ trees_listed (value v vs) = ap (value v) (trees_listed vs)
 abbrev pub at_spot : ℕ → Slots → List ValueTree → List Call → Spot
 at_spot p os ops calls = record { place = p; slots = os; operands = ops; calls = reverse calls }
 
--- the last value is kept, and that before it is dropped
-last_kept : (u : ValueTree) (ops new : List ValueTree) → slice_get new 0 ≡ Some u → drop 1 new ≡ ops → new ≡ u ∷ ops
-last_kept u ops [] f r = absurd (none-some u f)
-last_kept u ops (x ∷ new) f r = λ i. same_Some x u f i ∷ r i
-
 -- where a function's code starts with its own variables
-pub function_called : (c : Compiled) (p j : ℕ) (os own slots : Slots) (ops new : List ValueTree) (calls around : List Call)
-    (s : Spot) (e : LambdaEntry) (v : ValueTree) (vs : List ValueTree) →
-    at_spot p os ops calls ≡ s → Some e ≡ entry_below c ops → Some v ≡ slice_get ops 1 → vs ≡ listed (parts_of v) →
-    own ≡ spread e.captured.items (trees_of vs) → slots ≡ own →
-    around ≡ calls ++ record { place = j; slots = os } ∷ [] → slice_get new 0 ≡ slice_get ops 0 → drop 1 new ≡ drop 2 ops →
-    told c instr.Call j s s.operands Go ≡ Some (at_spot e.start slots new around)
-function_called c p j os own slots [] new calls around s e v vs w h g l o z k f r = absurd (none-some e (sym h))
-function_called c p j os own slots (u ∷ []) new calls around s e v vs w h g l o z k f r = absurd (none-some e (sym h))
-function_called c p j os own slots (u ∷ int n ∷ ops) new calls around s e v vs w h g l o z k f r = absurd (none-some e (sym h))
-function_called c p j os own slots (u ∷ bool b ∷ ops) new calls around s e v vs w h g l o z k f r = absurd (none-some e (sym h))
-function_called c p j os own slots (u ∷ char n ∷ ops) new calls around s e v vs w h g l o z k f r = absurd (none-some e (sym h))
-function_called c p j os own slots (u ∷ unit ∷ ops) new calls around s e v vs w h g l o z k f r = absurd (none-some e (sym h))
-function_called c p j os own slots (u ∷ pair a b ∷ ops) new calls around s e v vs w h g l o z k f r = absurd (none-some e (sym h))
-function_called c p j os own slots (u ∷ make n m us ∷ ops) new calls around s e v vs w h g l o z k f r =
-    absurd (none-some e (sym h))
-function_called c p j os own slots (u ∷ end x ∷ ops) new calls around s e v vs w h g l o z k f r = absurd (none-some e (sym h))
-function_called c p j os own slots (u ∷ function n us ∷ ops) new calls around s e v vs w h g l o z k f r =
-    let begun = at_spot p os (u ∷ function n us ∷ ops) calls in
+pub function_called : (c : Compiled) (p j : ℕ) (b : Bool) (os slots : Slots) (ops new : List ValueTree) (calls after : List Call)
+    (s : Spot) (e : LambdaEntry) (vs : List ValueTree) →
+    at_spot p os ops calls ≡ s → Some e ≡ entry_below c ops → applied ops ≡ Some (vs, new) →
+    slots ≡ spread e.captured.items (trees_of vs) → b ≡ leads_back j c j →
+    reverse after ≡ around b (record { place = j; slots = os }) (reverse calls) →
+    told c instr.Call j s s.operands Go ≡ Some (at_spot e.start slots new after)
+function_called c p j b os slots (w ∷ function n us ∷ ops) new calls after s e vs v h a o l k =
+    let begun = at_spot p os (w ∷ function n us ∷ ops) calls in
     let starts : Slots → List ValueTree → List Call → Option Spot =
     λ a b d. Some (record { place = e.start; slots = a; operands = b; calls = d }) in
+    let both = same_Some (listed us, w ∷ ops) (vs, new) a in
     let captured : spread e.captured.items us ≡ slots =
-    sym (z ∙ o ∙ ap (λ q. spread e.captured.items (trees_of q))
-    (l ∙ ap (λ q. listed (parts_of q)) (same_Some v (function n us) g)) ∙ ap (spread e.captured.items) (trees_listed us))
-    in
-    let inside : record { place = j; slots = os } ∷ reverse calls ≡ reverse around =
-    sym (ap reverse k ∙ reverse-append calls (record { place = j; slots = os } ∷ [])) in
-    ap (λ q. told c instr.Call j q q.operands Go) (sym w)
-    ∙ ap (λ q. called (start_of q) (spread (captured_by q) us) j (u ∷ ops) begun) (sym h)
-    ∙ (λ i. starts (captured i) (sym (last_kept u ops new f r) i) (inside i))
+    sym (o ∙ ap (λ q. spread e.captured.items (trees_of q.0)) (sym both) ∙ ap (spread e.captured.items) (trees_listed us)) in
+    let inside = sym (k ∙ ap (λ q. around q (record { place = j; slots = os }) (reverse calls)) l) in
+    ap (λ q. told c instr.Call j q q.operands Go) (sym v)
+    ∙ ap (λ q. called c (start_of q) (spread (captured_by q) us) j (w ∷ ops) begun) (sym h)
+    ∙ (λ i. starts (captured i) (both i).1 (inside i))
+function_called c p j b os slots ops new calls after s e vs v h a o l k = absurd (none-some (vs, new) a)
+
+-- where a global's code starts, without variables
+pub global_called : (c : Compiled) (g p j i : ℕ) (b : Bool) (os slots : Slots) (ops : List ValueTree) (calls after : List Call)
+    (s : Spot) →
+    at_spot p os ops calls ≡ s → Some i ≡ slice_get c.globals g → slots ≡ [] → b ≡ leads_back j c j →
+    reverse after ≡ around b (record { place = j; slots = os }) (reverse calls) →
+    told c (instr.Global g) j s s.operands Go ≡ Some (at_spot i slots ops after)
+global_called c g p j i b os slots ops calls after s w h o l k =
+    let inside = sym (k ∙ ap (λ q. around q (record { place = j; slots = os }) (reverse calls)) l) in
+    ap (λ q. told c (instr.Global g) j q q.operands Go) (sym w)
+    ∙ ap (λ q. called c q [] j ops (at_spot p os ops calls)) (sym h)
+    ∙ (λ m. Some (record { place = i; slots = sym o m; operands = ops; calls = inside m }))
 
 -- where there is no such function
 pub no_function : (c : Compiled) (j : ℕ) (s : Spot) (ops : List ValueTree) → None ≡ entry_below c ops →
@@ -172,19 +172,23 @@ no_function c j s (u ∷ unit ∷ ops) h = refl
 no_function c j s (u ∷ pair a b ∷ ops) h = refl
 no_function c j s (u ∷ make n m us ∷ ops) h = refl
 no_function c j s (u ∷ end x ∷ ops) h = refl
-no_function c j s (u ∷ function n us ∷ ops) h = ap (λ q. called (start_of q) (spread (captured_by q) us) j (u ∷ ops) s) (sym h)
+no_function c j s (u ∷ function n us ∷ ops) h = ap (λ q. called c (start_of q) (spread (captured_by q) us) j (u ∷ ops) s) (sym h)
 
--- where a global's code starts
-pub global_called : (c : Compiled) (g p j i : ℕ) (os own slots : Slots) (ops : List ValueTree) (calls around : List Call)
-    (s : Spot) → at_spot p os ops calls ≡ s → Some i ≡ slice_get c.globals g →
-    own ≡ [] → slots ≡ own → around ≡ calls ++ record { place = j; slots = os } ∷ [] →
-    told c (instr.Global g) j s s.operands Go ≡ Some (at_spot i slots ops around)
-global_called c g p j i os own slots ops calls around s w h o z k =
-    let starts : Slots → List Call → Option Spot = λ a d. Some (record { place = i; slots = a; operands = ops; calls = d }) in
-    let inside : record { place = j; slots = os } ∷ reverse calls ≡ reverse around =
-    sym (ap reverse k ∙ reverse-append calls (record { place = j; slots = os } ∷ [])) in
-    ap (λ q. told c (instr.Global g) j q q.operands Go) (sym w) ∙ ap (λ q. called q [] j ops (at_spot p os ops calls)) (sym h)
-    ∙ (λ m. starts (sym (z ∙ o) m) (inside m))
+put_received : (r : Option Value) (j : ℕ) (s : Spot) (ops : List ValueTree) (x : EndName) (u e both : ValueTree) → e ≡ end x →
+    Some u ≡ option_map of_scalar r → both ≡ pair u e →
+    option_map (λ v. moved_to j (pair (of_scalar v) (end x) ∷ ops) s) r ≡ Some (moved_to j (both ∷ ops) s)
+put_received None j s ops x u e both a h w = absurd (none-some u (sym h))
+put_received (Some v) j s ops x u e both a h w =
+    let is : both ≡ pair (of_scalar v) (end x) = w ∙ (λ i. pair (same_Some u (of_scalar v) h i) (a i)) in
+    ap (λ q. Some (moved_to j (q ∷ ops) s)) (sym is)
+
+-- what was received goes into a pair with the end, in place of it
+pub received_given : (c : Compiled) (j : ℕ) (s : Spot) (ops : List ValueTree) (ev : Event) (u e both : ValueTree) →
+    Some e ≡ option_map end (end_on ops) → Some u ≡ option_map of_scalar (received ev) → both ≡ pair u e →
+    told c instr.Receive j s ops (Got ev) ≡ option_map (λ p. moved_to j (both ∷ p.1) s) (collected 1 ops none)
+received_given c j s (end x ∷ ops) ev u e both a h w =
+    put_received (received ev) j s ops x u e both (same_Some e (end x) a) h w
+received_given c j s ops ev u e both a h w = absurd (none-some e (sym a))
 
 -- where no task is made
 pub no_child : (c : Compiled) (s t : Spot) → s ≡ t → None ≡ forked_entry c s.place → None ≡ child_at c t

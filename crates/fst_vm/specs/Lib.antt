@@ -5,3 +5,4 @@ pub mod Scalars
 pub mod Acts
 pub mod Running
 pub mod Tasks
+pub mod Ways

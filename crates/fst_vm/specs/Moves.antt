@@ -1,5 +1,5 @@
 -- What single calls do to variables and to values on the stack.
-use Rattle.std.specs.Prelude.{ℕ, Bool, true, false, not, Option, Some, None, option_map, List, [], ◌∷◌, ◌++◌, slice_get}
+use Rattle.std.specs.Prelude.{ℕ, ◌<◌, Bool, true, false, not, Option, Some, None, option_map, List, [], ◌∷◌, ◌++◌, slice_get, slice_index, EachIndex}
 use Rattle.fst_terms.specs.declared.term.Op.{Op}
 use Rattle.fst_value.specs.ValueTree.{ValueTree, bool, unit, pair, function, end, ValueTrees, none, value}
 use Rattle.fst_value.specs.Cells.{ends_in}
@@ -62,6 +62,10 @@ spare_for ops = option_map (λ x. pair unit (end x)) (end_on ops)
 abbrev pub trees_of : List ValueTree → ValueTrees
 trees_of [] = none
 trees_of (v ∷ vs) = value v (trees_of vs)
+
+-- so many places are enough for values of these variables
+abbrev pub HasRoom : ℕ → List ℕ → Type 0
+HasRoom n ks = EachIndex ks (λ i. slice_index ks i < n)
 
 -- behind an instruction, with a value in place of the last n ones
 abbrev pub given_for : ℕ → ℕ → ValueTree → Spot → Option Spot

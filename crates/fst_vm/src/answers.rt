@@ -1,21 +1,22 @@
 //! How code goes on after an answer.
 
-ghost use Rattle.std.specs.Prelude.{◌≡◌, ◌++◌, ◌∷◌, [], ℕ, List, IfOk, IsOk, OnOk, OnErr, true, option_copied, reverse, slice_get, take};
+ghost use Rattle.std.specs.Prelude.{◌≡◌, ◌<◌, ◌++◌, ◌∷◌, [], ℕ, List, IfOk, IsOk, OnErr, true, option_copied, reverse, slice_get, take};
+ghost use Rattle.std.specs.Vec.{vec_len, vec_capacity};
 ghost use Rattle.std.specs.declared.result.Result.TheVariants.{Ok};
 ghost use Rattle.fst_types.specs.declared.family.Family.{Family};
 ghost use Rattle.fst_machine.specs.declared.code.Instr.TheVariants as does;
 ghost use Rattle.fst_machine.specs.declared.request.Answer.TheVariants.{Go, Got, Sent};
 ghost use Rattle.fst_machine.specs.Code.{Compiled, place_of};
-ghost use Rattle.fst_machine.specs.Spots.{child_at, told, told_at};
+ghost use Rattle.fst_machine.specs.Spots.{around, child_at, told, told_at};
 ghost use Rattle.fst_value.specs.Stacks.{Makes};
 ghost use Rattle.fst_vm.specs.Moves.{entry_below, forked_entry, given_for, matched, spare_for};
 ghost use Rattle.fst_vm.specs.Tasks.{is_exchange};
 ghost use Rattle.fst_vm.specs.Running.{code_of};
 
 use crate::act::captured_count;
-use crate::places::{entry_at, instr_at, start_at};
+use crate::places::{entry_at, instr_at, leads_back, start_at};
 use crate::running::{Caller, Running};
-use crate::slots::{Slots, spread};
+use crate::slots::{Slots, room_for, spread};
 use crate::values::{brought, ends_of, last_end, pair, received};
 use fst_machine::{Answer, Code, Instr, LambdaEntry};
 use fst_types::{ChannelName, Event, Name};
@@ -23,26 +24,21 @@ use fst_value::{Form, Stack, Value, copy};
 use std::alloc::{AllocError, Global};
 use std::mem;
 
-// Goes on with other variables in the code of a function or a global.
-fn call(
-    calls: &mut Vec<Caller>,
-    slots: &mut Slots,
-    behind: u64,
-    own: Slots,
-) -> Result<(), AllocError>
-    ensures calls { OnOk result (calls.new.items ≡ calls.old.items
-        ++ record { place = behind; slots = slots.old } ∷ []) }
-    ensures slots { OnOk result (slots.new ≡ own) }
-    ensures unchanged { OnErr result ((calls.new.items ≡ calls.old.items) ×
-        (slots.new ≡ slots.old)) }
+// Goes on with other variables in the code of a function or a global. The place behind it is kept among the calls, where there
+// is room, unless it only leads back.
+fn call(calls: &mut Vec<Caller>, slots: &mut Slots, leads_back: bool, behind: u64, own: Slots)
+    requires { vec_len calls.old < vec_capacity calls.old }
+    ensures calls { reverse calls.new.items ≡ around leads_back
+        (record { place = behind; slots = slots.old }) (reverse calls.old.items) }
+    ensures slots { slots.new ≡ own }
 {
-    calls.reserve(1)?;
     let slots = mem::replace(slots, own);
-    calls.push(Caller {
-        place: behind,
-        slots,
-    })?;
-    Ok(())
+    if !leads_back {
+        calls.push_reserved(Caller {
+            place: behind,
+            slots,
+        });
+    }
 }
 
 // The entry of the function that the value before the last one is.
@@ -72,15 +68,23 @@ fn go_into_function(
         Some(entry) => entry,
         None => return Ok(false),
     };
-    let parts = match running.stack.get(1) {
-        Some(value) => value.parts(alloc)?,
-        None => return Ok(false),
-    };
-    let slots = spread(alloc, &entry.captured, parts)?;
-    call(&mut running.calls, &mut running.slots, behind, slots)?;
-    running.stack.drop_second();
-    running.place = entry.start;
-    Ok(true)
+    let room = room_for(alloc, &entry.captured)?;
+    running.calls.reserve(1)?;
+    match running.stack.take_function(alloc)? {
+        Some(captured) => {
+            let own = spread(room, &entry.captured, captured);
+            call(
+                &mut running.calls,
+                &mut running.slots,
+                leads_back(code, behind),
+                behind,
+                own,
+            );
+            running.place = entry.start;
+            Ok(true)
+        }
+        None => Ok(false),
+    }
 }
 
 // Goes on in the code of a global.
@@ -97,12 +101,14 @@ fn go_into_global(
 {
     match start_at(code, global) {
         Some(start) => {
+            running.calls.reserve(1)?;
             call(
                 &mut running.calls,
                 &mut running.slots,
+                leads_back(code, behind),
                 behind,
                 Slots::new(alloc),
-            )?;
+            );
             running.place = start;
             Ok(true)
         }
@@ -407,6 +413,7 @@ pub(crate) fn child_at(
         return Ok(None);
     }
     let values = last_values(alloc, &running.stack, count)?;
-    let slots = spread(alloc, &entry.captured, values)?;
+    let room = room_for(alloc, &entry.captured)?;
+    let slots = spread(room, &entry.captured, values);
     Ok(Some(Running::at(alloc, entry.start, slots)))
 }

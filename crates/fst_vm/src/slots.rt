@@ -1,7 +1,8 @@
-ghost use Rattle.std.specs.Prelude.{◌≡◌, [], drop, IfOk, OnOk};
+ghost use Rattle.std.specs.Prelude.{◌≡◌, ◌<◌, [], drop, IfOk};
+ghost use Rattle.std.specs.Vec.{vec_capacity};
 ghost use Rattle.fst_machine.specs.Spots.{filled, spread};
 ghost use Rattle.fst_value.specs.Stacks.{Makes};
-ghost use Rattle.fst_vm.specs.Moves.{bound, ends_in_slot, ends_in_slots, loaded, taken_out, trees_of};
+ghost use Rattle.fst_vm.specs.Moves.{HasRoom, bound, ends_in_slot, ends_in_slots, loaded, taken_out, trees_of};
 
 use fst_types::EndName;
 use fst_value::{Stack, Value, copy, ends_of};
@@ -118,30 +119,44 @@ fn own_ends(alloc: Global, slot: &Option<Value>) -> Result<Vec<EndName>, AllocEr
     }
 }
 
-// A value for variable k, counted from the innermost one, with as many places as that needs.
-fn fill(values: &mut Vec<Option<Value>>, k: usize, value: Value) -> Result<(), AllocError>
-    ensures { OnOk result (values.new.items ≡ filled k value values.old.items) }
+/// Room for values of these variables.
+pub(crate) fn room_for(alloc: Global, variables: &[u32]) -> Result<Vec<Option<Value>>, AllocError>
+    ensures none { IfOk result (λ values. values.items ≡ []) }
+    ensures room { IfOk result (λ values. HasRoom (vec_capacity values) variables.now) }
 {
-    while values.len() <= k {
-        values.push(None)?;
+    let mut places: usize = 0;
+    for variable in variables {
+        places = places.max(*variable as usize + 1);
     }
-    values[k] = Some(value);
-    Ok(())
+    Vec::with_capacity(alloc, places)
 }
 
-/// Variables of which just these have values, as many as there are of both.
+// A value for variable k, counted from the innermost one, with as many places as that needs, for which there is room.
+fn fill(values: &mut Vec<Option<Value>>, k: usize, value: Value)
+    requires { k < vec_capacity values.old }
+    ensures values { values.new.items ≡ filled k value values.old.items }
+    ensures capacity { vec_capacity values.new ≡ vec_capacity values.old }
+{
+    while values.len() <= k {
+        values.push_reserved(None);
+    }
+    values[k] = Some(value);
+}
+
+/// Variables of which just these have values, as many as there are of both, in the room for them.
 pub(crate) fn spread(
-    alloc: Global,
+    mut room: Vec<Option<Value>>,
     variables: &[u32],
     mut parts: Vec<Value>,
-) -> Result<Slots, AllocError>
-    ensures { IfOk result (λ slots. slots ≡ spread variables.now (trees_of parts.items)) }
+) -> Slots
+    requires none { room.items ≡ [] }
+    requires room { HasRoom (vec_capacity room) variables.now }
+    ensures { result ≡ spread variables.now (trees_of parts.items) }
 {
     parts.truncate(variables.len());
-    let mut values = Vec::new(alloc);
     while let Some(part) = parts.pop() {
-        fill(&mut values, variables[parts.len()] as usize, part)?;
+        fill(&mut room, variables[parts.len()] as usize, part);
     }
-    values.reverse();
-    Ok(Slots { values })
+    room.reverse();
+    Slots { values: room }
 }

@@ -30,7 +30,7 @@ returns c =
     let wide : c.len-count.result ≡ length e.captured.items = omega (arith, c.len-count.ensures, e.captured.ok) in
     λ fs.
     child_begins (code_of fs c.args.code.now) (at_spot i.place i.slots i.stack i.calls.items) c.args.running.now c.at.result e
-    c.in_ok-values.values.items c.in_ok-slots.slots
+    c.in_ok-values.values.items c.spread-slots.result
     c.running.view_is (c.in-Some.ensures fs) many
     (c.in_ok-values.ensures ∙ ap (λ (n : ℕ). reverse (take n i.stack)) wide)
-    (c.in_ok-slots.ensures ∙ ap (λ ks. spread ks (trees_of c.in_ok-values.values.items)) c.deref.ensures.value) c.at.ensures
+    (c.spread-slots.ensures ∙ ap (λ ks. spread ks (trees_of c.in_ok-values.values.items)) c.deref-2.ensures.value) c.at.ensures

@@ -1,4 +1,4 @@
-use Rattle.std.proofs.Common.{◌≡◌, ◌∙◌, ℕ, length, drop, get_or, sym, ap, arith}
+use Rattle.std.proofs.Common.{◌≡◌, ◌∙◌, ℕ, length, drop, get_or, refl, sym, ap, arith}
 use Rattle.std.specs.Prelude.{reverse}
 use Rattle.std.proofs.lemmas.List.{length-take, take_all, drop_all, reverse-reverse}
 use Rattle.fst_machine.specs.Spots.{spread}
@@ -13,8 +13,9 @@ loop-part-init c =
     record {
       few = omega (arith, ap length c.truncate.ensures.items, length-take (length ks) c.args.parts.items);
       left = sym (take_all (length vs) vs (omega arith));
-      made = c.new-values.ensures.items ∙ spread_none (drop (length vs) ks) ∙ ap
+      made = c.requires.none ∙ spread_none (drop (length vs) ks) ∙ ap
           (λ us. spread (drop (length vs) ks) (trees_of us)) (sym (drop_all (length vs) vs (omega arith)));
+      capacity = refl;
     }
 
 pub loop-part-preserved : goal.loop-part-preserved
@@ -27,9 +28,10 @@ loop-part-preserved c =
     record {
       few = omega (arith, i.few, ap length c.in-Some.ensures.items);
       left = (popped vs ps qs c.in-Some.part i.left c.in-Some.ensures.items).0;
-      made = spread_more c.args.variables.now vs ps qs c.in-Some.part _ c.loop-part.values.items c.fill.new.values.items i.few
+      made = spread_more c.args.variables.now vs ps qs c.in-Some.part _ c.loop-part.room.items c.fill.new.values.items i.few
           i.left c.in-Some.ensures.items
-          (ap (λ (k : ℕ). get_or c.args.variables.now k 0) n) i.made c.in_ok-fill.ensures;
+          (ap (λ (k : ℕ). get_or c.args.variables.now k 0) n) i.made c.fill.ensures.values;
+      capacity = c.fill.ensures.capacity ∙ i.capacity;
     }
 
 pub returns : goal.returns
@@ -38,7 +40,7 @@ returns c =
     let ks = c.args.variables.now in
     let none : length c.loop-part.parts.items ≡ 0 = omega (arith, c.in_default.ensures.len, c.in_default.ensures.cases) in
     ap reverse c.reverse.ensures.items
-    ∙ reverse-reverse c.loop-part.values.items
+    ∙ reverse-reverse c.loop-part.room.items
     ∙ c.loop-part.invariant.made
     ∙ ap (λ (n : ℕ). spread (drop n ks) (trees_of (drop n vs))) none
     ∙ ap (λ us. spread ks (trees_of us)) c.truncate.ensures.items
