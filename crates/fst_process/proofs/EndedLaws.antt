@@ -157,7 +157,21 @@ settled_now n types q s k new len is noting putting =
     ∙ (λ i. noted (len i) (is i) s.request (kept_of k)))
     (λ i. record { tasks = putting i; channels = mid.channels; made = mid.made; ready = mid.ready })
 
--- what is kept once a task has gone on in its place, and what it asks for then is noted
+-- what is kept once a task has come to another slot in its place, and what it asks for then is noted
+pub noted_on : (code : Code) (p : Path) (types : ℕ) (k new : Config) (t : rust_slot.Slot) →
+    types ≡ length code.types.items → new.ended.items ≡ k.ended.items →
+    slot_in new.tasks.entries ≡ put_at p (Some (slot_of t)) (slot_in k.tasks.entries) →
+    kept_besides new.channels.entries new.ready.keys ≡ noted types p t.request
+    (unable p (kept_besides k.channels.entries k.ready.keys)) →
+    kept_of new ≡ settled_at (length code.types.items) p (slot_of t) (without p (kept_of k))
+noted_on code p types k new t len same slots noting =
+    let tasks = ap (tasks_in new.tasks.entries) same
+    ∙ live_after p (slot_of t) k.ended.items k.tasks.entries new.tasks.entries slots in
+    noted_again types p k.channels.entries new.channels.entries k.ready.keys new.ready.keys (kept_of k).tasks
+    (kept_of new).tasks (slot_of t) tasks noting
+    ∙ ap (λ l. settled_at l p (slot_of t) (without p (kept_of k))) len
+
+-- so it is where it has gone on after an answer
 pub gone_on : (code : Code) (p : Path) (a : Answer) (n types : ℕ) (k new : Config) (s t : rust_slot.Slot) →
     (kept_of k).tasks p ≡ Some (slot_of s) →
     MovesOn code a n (slot_of s) (slot_of t) → types ≡ length code.types.items → new.ended.items ≡ k.ended.items →
@@ -166,15 +180,10 @@ pub gone_on : (code : Code) (p : Path) (a : Answer) (n types : ℕ) (k new : Con
     (unable p (kept_besides k.channels.entries k.ready.keys)) →
     HasGoneOn code p a n (kept_of k) (kept_of new)
 gone_on code p a n types k new s t there moves len same slots noting =
-    let tasks = ap (tasks_in new.tasks.entries) same
-    ∙ live_after p (slot_of t) k.ended.items k.tasks.entries new.tasks.entries slots in
     record {
       slot = slot_of s;
       there = there;
       now = slot_of t;
       moves_on = moves;
-      after =
-          noted_again types p k.channels.entries new.channels.entries k.ready.keys new.ready.keys (kept_of k).tasks
-          (kept_of new).tasks (slot_of t) tasks noting
-          ∙ ap (λ l. settled_at l p (slot_of t) (without p (kept_of k))) len;
+      after = noted_on code p types k new t len same slots noting;
     }

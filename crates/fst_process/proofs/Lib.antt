@@ -29,6 +29,7 @@ pub mod FireMeet
 pub mod FireStart
 pub mod Firsts
 pub mod Running
+pub mod Alone
 pub mod Restoring
 pub mod Alike
 pub mod Rising

@@ -1,5 +1,5 @@
 -- What is kept along the least run.
-use Rattle.std.proofs.Common.{◌≡◌, ◌∙◌, inl, inr, ◌<◌, ◌≤◌, ◌+◌, ℕ, zero, suc, List, [], ◌∷◌, ◌++◌, Some, None, length, refl, sym, ap, subst, arith}
+use Rattle.std.proofs.Common.{◌≡◌, ◌∙◌, inl, inr, ◌<◌, ◌≤◌, ◌+◌, ℕ, zero, suc, List, [], ◌∷◌, ◌++◌, Some, None, length, length-append, refl, sym, ap, subst, arith}
 use Rattle.fst_base.proofs.Options.{some_same, none_some}
 use Rattle.fst_types.specs.Tree.{Tree}
 use Rattle.fst_terms.specs.CoreTree.{CoreTree}
@@ -10,45 +10,31 @@ use Rattle.fst_runs.specs.declared.event.CoreEvent.{CoreEvent}
 use Rattle.fst_runs.specs.Configs.{Path, Config, program, started}
 use Rattle.fst_runs.specs.Events.{Write, Does, Runs, IsLast, written}
 use Rattle.fst_runs.specs.Least.{TakesPart, IsLeast, RunsLeast}
-use Rattle.fst_runs.specs.Names.{HasMakers, HasParents}
 use Rattle.fst_runs.specs.Wrong.{IsRight}
 use Rattle.fst_runs.proofs.Laws.{named_start, named_after, least_runs}
 use Rattle.fst_process.specs.declared.report.Report.{Report}
 use Rattle.fst_process.specs.declared.report.Outcome.{Outcome}
 use Rattle.fst_process.specs.declared.report.Outcome.TheVariants.{Done, OutOfSteps}
 use Rattle.fst_process.specs.Kept.{Kept}
-use Rattle.fst_process.specs.Reflects.{Reflects}
 use Rattle.fst_process.specs.Firing.{IsPossible, Happens, CanStart, IsBegun}
 use Rattle.fst_process.specs.Nexts.{IsNext}
 use Rattle.fst_process.specs.Reports.{IsReport, IsConfig, IsReported, IsAnswer, IsAnswerFrom}
-use Rattle.fst_process.specs.Runs.{RunsRightFrom, CanRun, IsOutcome, CanRunFrom, IsOutcomeFrom}
+use Rattle.fst_process.specs.Runs.{RunsRightFrom, CanRun, IsOutcome, CanRunFrom, IsOutcomeFrom, IsReached, RunsTo}
 use Rattle.fst_process.proofs.Moving.{nothing_ready, ready_moves}
 use Rattle.fst_process.proofs.Least.{is_least}
 use Rattle.fst_process.proofs.Rights.{right_fine}
 
--- a run with one event more
-runs_more : (m : Program) (types : List Tree) (c : Config) (es : List CoreEvent) (d : Config) (e : CoreEvent) (w : Write) →
-    Runs m types c es d → Does m types d e w →
-    Runs m types c (es ++ e ∷ []) (written d w)
-runs_more m types c [] d e w r f = (w, subst (λ z. Does m types z e w) r f, ap (λ z. written z w) r)
-runs_more m types c (g ∷ es) d e w r f = (r.0, r.1, runs_more m types (written c r.0) es d e w r.2 f)
+-- a run, and one that goes on from where it has come to
+runs_then : (m : Program) (types : List Tree) (c : Config) (es fs : List CoreEvent) (d e : Config) → Runs m types c es d →
+    Runs m types d fs e → Runs m types c (es ++ fs) e
+runs_then m types c [] fs d e r s = subst (λ z. Runs m types z fs e) r s
+runs_then m types c (g ∷ es) fs d e r s = (r.0, r.1, runs_then m types (written c r.0) es fs d e r.2 s)
 
 -- so it is with the least run
-least_more : (m : Program) (types : List Tree) (c : Config) (es : List CoreEvent) (d : Config) (e : CoreEvent) (w : Write) →
-    RunsLeast m types c es d → Does m types d e w →
-    IsLeast m types d e → RunsLeast m types c (es ++ e ∷ []) (written d w)
-least_more m types c [] d e w r f l = (
-  w,
-  subst (λ z. Does m types z e w) r f,
-  subst (λ z. IsLeast m types z e) r l,
-  ap
-      (λ z. written z w) r,
-)
-least_more m types c (g ∷ es) d e w r f l = (r.0, r.1, r.2, least_more m types (written c r.0) es d e w r.3 f l)
-
-one_longer : (es : List CoreEvent) (e : CoreEvent) → length (es ++ e ∷ []) ≡ suc (length es)
-one_longer [] e = refl
-one_longer (g ∷ es) e = ap suc (one_longer es e)
+least_then : (m : Program) (types : List Tree) (c : Config) (es fs : List CoreEvent) (d e : Config) → RunsLeast m types c es d →
+    RunsLeast m types d fs e → RunsLeast m types c (es ++ fs) e
+least_then m types c [] fs d e r s = subst (λ z. RunsLeast m types z fs e) r s
+least_then m types c (g ∷ es) fs d e r s = (r.0, r.1, r.2, least_then m types (written c r.0) es fs d e r.3 s)
 
 -- the least run as far as so many events
 shorter : (m : Program) (types : List Tree) (n : ℕ) (c : Config) (es : List CoreEvent) (d : Config) → RunsLeast m types c es d →
@@ -59,21 +45,6 @@ shorter m types (suc n) c [] d r h = absurd (omega (arith, h))
 shorter m types (suc n) c (e ∷ es) d r h =
     let s = shorter m types n (written c r.0) es d r.3 (omega (arith, h)) in
     (e ∷ s.0, s.1, (r.0, r.1, r.2, s.2), ap suc s.3)
-
--- what is kept is what the least run from a configuration has come to, so many events before it included
-pub record IsReached (m : Module) (k : Code) (b : Config) (before n : ℕ) (d : Kept) : Type 0 where
-  pub events : List CoreEvent
-  pub config : Config
-  pub runs : RunsLeast (program m) m.types.items b events config
-  pub many : before + length events ≡ n
-  pub reflects : Reflects m k n d config
-  pub fresh : HasMakers config × HasParents config
-
--- so it is with each configuration that was kept at first and from which no run goes wrong
-abbrev pub IsKept : Code → ℕ → Kept → ℕ → Kept → Type 0
-IsKept k before o n d =
-    (m : Module) (b : Config) → Reflects m k before o b → HasMakers b → HasParents b → RunsRightFrom m b →
-    IsReached m k b before n d
 
 -- where no run goes wrong, the first configuration is right
 pub can_start : (k : Code) → CanRun k → CanStart k
@@ -117,7 +88,7 @@ answers_begun k steps d o b answer = λ m e from body right.
     first_answer m e steps o (answer m (started e) (b m e from body (right [] (started e) refl)) named.0 named.1 right)
 
 -- at first what is kept is what was
-pub kept_first : (k : Code) (n : ℕ) (d : Kept) → IsKept k n d n d
+pub kept_first : (k : Code) (n : ℕ) (d : Kept) → RunsTo k n d n d
 kept_first k n d = λ m b reflects makers parents right.
     record {
       events = [];
@@ -149,8 +120,8 @@ module _ (m : Module) (k : Code) (b : Config) (before n : ℕ) (d : Kept) (x : I
       IsRight (program m) (written x.config w)
   right_after ev w f =
       right (x.events ++ ev ∷ []) (written x.config w)
-      (runs_more (program m) m.types.items b x.events x.config ev w
-      (least_runs (program m) m.types.items b x.events x.config x.runs) f)
+      (runs_then (program m) m.types.items b x.events (ev ∷ []) x.config (written x.config w)
+      (least_runs (program m) m.types.items b x.events x.config x.runs) (w, f, refl))
 
   -- the next event is possible
   pub next_possible : (ev : CoreEvent) → IsNext d (Some ev) → n < 4294967295 → IsPossible k d ev
@@ -177,8 +148,9 @@ module _ (m : Module) (k : Code) (b : Config) (before n : ℕ) (d : Kept) (x : I
       record {
         events = x.events ++ ev ∷ [];
         config = written x.config g.3;
-        runs = least_more (program m) m.types.items b x.events x.config ev g.3 x.runs g.4 g.2;
-        many = let more = one_longer x.events ev in let many = x.many in omega (arith, more, many);
+        runs =
+            least_then (program m) m.types.items b x.events (ev ∷ []) x.config (written x.config g.3) x.runs (g.3, g.4, g.2, refl);
+        many = let more = length-append x.events (ev ∷ []) in let many = x.many in omega (arith, more, many);
         reflects = happens m n x.config g.3 x.reflects g.4 (right_after ev g.3 g.4) x.fresh.0 x.fresh.1;
         fresh = named_after (program m) m.types.items x.config ev g.3 g.4 x.fresh.0 x.fresh.1;
       }
@@ -190,8 +162,46 @@ module _ (m : Module) (k : Code) (b : Config) (before n : ℕ) (d : Kept) (x : I
       let g = ready_moves m k n d x.config x.reflects (right_fine m x.config right_here) f.0 f.1.moves in
       absurd (none_some (f.2 ∙ g.1))
 
+  -- no run from here goes wrong
+  pub right_on : RunsRightFrom m x.config
+  right_on es c r =
+      right (x.events ++ es) c (runs_then (program m) m.types.items b x.events es x.config c
+      (least_runs (program m) m.types.items b x.events x.config x.runs) r)
+
+-- the run goes on from where it has come to
+pub kept_then : (k : Code) (before : ℕ) (o : Kept) (n l : ℕ) (d f : Kept) → RunsTo k before o n d → RunsTo k n d l f →
+    RunsTo k before o l f
+kept_then k before o n l d f first then = λ m b reflects makers parents right.
+    let x = first m b reflects makers parents right in
+    let y = then m x.config x.reflects x.fresh.0 x.fresh.1 (right_on m k b before n d x right) in
+    let sum = length-append x.events y.events in
+    let many = x.many in
+    let more = y.many in
+    record {
+      events = x.events ++ y.events;
+      config = y.config;
+      runs = least_then (program m) m.types.items b x.events y.events x.config y.config x.runs y.runs;
+      many = omega (arith, sum, many, more);
+      reflects = y.reflects;
+      fresh = y.fresh;
+    }
+
+-- where no run went wrong at first, none goes wrong from there
+pub can_run_on : (k : Code) (before : ℕ) (o : Kept) (n : ℕ) (d : Kept) → RunsTo k before o n d → CanRunFrom k before o →
+    CanRunFrom k n d
+can_run_on k before o n d kept x =
+    let y = kept x.source x.config x.reflects x.makers x.parents x.right in
+    record {
+      source = x.source;
+      config = y.config;
+      reflects = y.reflects;
+      makers = y.fresh.0;
+      parents = y.fresh.1;
+      right = right_on x.source k x.config before n d y x.right;
+    }
+
 -- the next event is possible where no run is known to go wrong
-pub possible_next : (k : Code) (before : ℕ) (o : Kept) (n : ℕ) (d : Kept) (ev : CoreEvent) → IsKept k before o n d →
+pub possible_next : (k : Code) (before : ℕ) (o : Kept) (n : ℕ) (d : Kept) (ev : CoreEvent) → RunsTo k before o n d →
     IsNext d (Some ev) → n < 4294967295 →
     CanRunFrom k before o → IsPossible k d ev
 possible_next k before o n d ev kept next few x =
@@ -199,15 +209,15 @@ possible_next k before o n d ev kept next few x =
     few
 
 -- and what is kept after it is what the run has come to
-pub kept_next : (k : Code) (before : ℕ) (o : Kept) (n l : ℕ) (d f : Kept) (ev : CoreEvent) → IsKept k before o n d →
+pub kept_next : (k : Code) (before : ℕ) (o : Kept) (n l : ℕ) (d f : Kept) (ev : CoreEvent) → RunsTo k before o n d →
     IsNext d (Some ev) → Happens k d ev f → suc n ≡ l →
-    IsKept k before o l f
+    RunsTo k before o l f
 kept_next k before o n l d f ev kept next happens more = λ m b reflects makers parents right.
     subst (λ z. IsReached m k b before z f) more (reached_next m k b before n d
     (kept m b reflects makers parents right) right ev f next happens)
 
 -- the report of what is kept is the answer where there is no next event
-pub answers_done : (k : Code) (before : ℕ) (o : Kept) (steps n : ℕ) (d : Kept) (r : Report) → IsKept k before o n d →
+pub answers_done : (k : Code) (before : ℕ) (o : Kept) (steps n : ℕ) (d : Kept) (r : Report) → RunsTo k before o n d →
     IsNext d None → n ≤ steps → IsReported d n r →
     IsOutcomeFrom k before steps o (Done r)
 answers_done k before o steps n d r kept next few reported = λ m b reflects makers parents right.
@@ -221,14 +231,14 @@ answers_done k before o steps n d r kept next few reported = λ m b reflects mak
     )
 
 -- and the answer after one event too many
-pub answers_out : (k : Code) (before : ℕ) (o : Kept) (steps n : ℕ) (d : Kept) → IsKept k before o n d → steps < n →
+pub answers_out : (k : Code) (before : ℕ) (o : Kept) (steps n : ℕ) (d : Kept) → RunsTo k before o n d → steps < n →
     IsOutcomeFrom k before steps o OutOfSteps
 answers_out k before o steps n d kept over = λ m b reflects makers parents right.
     let x = kept m b reflects makers parents right in
     (x.events, x.config, x.runs, subst (λ l. steps < l) (sym x.many) over)
 
 -- what is kept is some configuration
-pub some_config : (k : Code) (before : ℕ) (o : Kept) (n : ℕ) (d : Kept) → IsKept k before o n d → n < 4294967295 →
+pub some_config : (k : Code) (before : ℕ) (o : Kept) (n : ℕ) (d : Kept) → RunsTo k before o n d → n < 4294967295 →
     CanRunFrom k before o → IsConfig d
 some_config k before o n d kept few x =
     let y = kept x.source x.config x.reflects x.makers x.parents x.right in

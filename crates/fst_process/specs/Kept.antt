@@ -42,6 +42,15 @@ has_ended (Put x ev) = false
 has_ended (Get x) = false
 has_ended Ended = true
 
+-- a task that asks for this is to step
+abbrev pub is_step : Request → Bool
+is_step Step = true
+is_step (New n) = false
+is_step Fork = false
+is_step (Put x ev) = false
+is_step (Get x) = false
+is_step Ended = false
+
 -- there is a task, and it has not ended
 abbrev pub is_live : Option Slot → Bool
 is_live None = false

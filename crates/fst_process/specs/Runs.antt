@@ -1,5 +1,5 @@
 -- When no run goes wrong, and what a run answers.
-use Rattle.std.specs.Prelude.{◌≡◌, ℕ, List, Some}
+use Rattle.std.specs.Prelude.{◌≡◌, ◌+◌, ℕ, List, Some, length}
 use Rattle.fst_terms.specs.CoreTree.{CoreTree}
 use Rattle.fst_terms.specs.declared.core_module.Module.{Module}
 use Rattle.fst_machine.specs.declared.code.Code.{Code}
@@ -7,6 +7,7 @@ use Rattle.fst_vm.specs.Tasks.{IsFrom}
 use Rattle.fst_runs.specs.declared.event.CoreEvent.{CoreEvent}
 use Rattle.fst_runs.specs.Configs.{Config, program, main_body, started}
 use Rattle.fst_runs.specs.Events.{Runs}
+use Rattle.fst_runs.specs.Least.{RunsLeast}
 use Rattle.fst_runs.specs.Names.{HasMakers, HasParents}
 use Rattle.fst_runs.specs.Wrong.{IsRight}
 use Rattle.fst_process.specs.Kept.{Kept}
@@ -50,3 +51,18 @@ abbrev pub IsOutcomeFrom : Code → ℕ → ℕ → Kept → Outcome → Type 0
 IsOutcomeFrom k n steps d o =
     (m : Module) (c : Config) → Reflects m k n d c → HasMakers c → HasParents c →
     RunsRightFrom m c → IsAnswerFrom m c n steps o
+
+-- what is kept after n events is what the least run from the configuration has come to, so many events before it included
+pub record IsReached (m : Module) (k : Code) (b : Config) (before n : ℕ) (d : Kept) : Type 0 where
+  pub events : List CoreEvent
+  pub config : Config
+  pub runs : RunsLeast (program m) m.types.items b events config
+  pub many : before + length events ≡ n
+  pub reflects : Reflects m k n d config
+  pub fresh : HasMakers config × HasParents config
+
+-- so it is with each configuration that was kept at first and from which no run goes wrong
+abbrev pub RunsTo : Code → ℕ → Kept → ℕ → Kept → Type 0
+RunsTo k before o n d =
+    (m : Module) (b : Config) → Reflects m k before o b → HasMakers b → HasParents b →
+    RunsRightFrom m b → IsReached m k b before n d

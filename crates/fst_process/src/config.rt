@@ -1,4 +1,4 @@
-ghost use Rattle.std.specs.Prelude.{◌≡◌, ◌<◌, true, Some, IfOk, OnOk, suc, max};
+ghost use Rattle.std.specs.Prelude.{◌≡◌, ◌<◌, ◌≤◌, true, Some, IfOk, OnOk, suc, max};
 ghost use Rattle.std.specs.Option.{option_copied};
 ghost use Rattle.fst_lts.specs.Histories.{last_stamp};
 ghost use Rattle.fst_vm.specs.Tasks.{HasNext};
@@ -8,8 +8,11 @@ ghost use Rattle.fst_process.specs.KeptOf.{kept_of, slot_of, slot_in, channel_of
 ghost use Rattle.fst_process.specs.Firing.{Settles, CanGoOn, HasGoneOn, CanStart, IsBegun};
 ghost use Rattle.fst_process.specs.Nexts.{event_with, event_of, IsNext, TellsMoving};
 ghost use Rattle.fst_process.specs.Reports.{IsConfig, IsReported};
+ghost use Rattle.fst_process.specs.Runs.{CanRunFrom, RunsTo};
 
-use crate::kept::{Channel, EndedTask, Slot, has_ended, move_on, partner_among, record_among};
+use crate::kept::{
+    Channel, EndedTask, Slot, has_ended, move_on, partner_among, record_among, step_on,
+};
 use crate::notes::{note, note_again};
 use crate::report::{Report, histories, main_result, waiting_tasks};
 use fst_machine::{Answer, Code, Request};
@@ -205,7 +208,8 @@ impl Config {
     fn set_aside(&mut self, path: &Path) -> Result<(), AllocError>
         requires { (s : _) → slot_in self.old.tasks.entries path.now ≡ Some s →
             (s.task.path ≡ path.now) × (s.request ≡ Request.Ended) }
-        ensures { OnOk result (kept_of self.new ≡ kept_of self.old) }
+        ensures kept { OnOk result (kept_of self.new ≡ kept_of self.old) }
+        ensures events { self.new.events ≡ self.old.events }
     {
         match self.tasks.remove(path.as_slice()) {
             Some(slot) => {
@@ -247,6 +251,37 @@ impl Config {
                 Ok(())
             }
             None => Ok(()),
+        }
+    }
+
+    /// Has the first task that can move step as often as it asks to, until there are more events than these. Each step is counted.
+    pub(crate) fn step_on(&mut self, code: &Code, path: &Path, steps: u64) -> Result<(), AllocError>
+        requires first { IsNext (kept_of self.old) (Some (CoreEvent.Local path.now)) }
+        requires right { ∥ CanRunFrom code.now self.old.events (kept_of self.old) ∥₁ }
+        requires few { steps < 4294967295 }
+        requires more { self.old.events ≤ steps }
+        ensures runs { OnOk result (RunsTo code.now self.old.events (kept_of self.old)
+            self.new.events (kept_of self.new)) }
+        ensures some { OnOk result (self.old.events < self.new.events) }
+    {
+        match self.tasks.get_mut(path.as_slice()) {
+            Some(slot) => {
+                let count = step_on(slot, code, steps + 1 - self.events)?;
+                note_again(
+                    self.alloc,
+                    &mut self.channels,
+                    &mut self.ready,
+                    code.types.len(),
+                    path,
+                    &slot.request,
+                )?;
+                self.events += count;
+                if has_ended(&slot.request) {
+                    return self.set_aside(path);
+                }
+                Ok(())
+            }
+            None => unreachable!(),
         }
     }
 

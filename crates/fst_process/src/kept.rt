@@ -1,10 +1,10 @@
-ghost use Rattle.std.specs.Prelude.{◌≡◌, ◌<◌, Some, IfOk, OnOk, suc, max, option_and_then};
+ghost use Rattle.std.specs.Prelude.{◌≡◌, ◌<◌, ◌≤◌, Some, IfOk, OnOk, suc, max, option_and_then};
 ghost use Rattle.std.specs.Option.{option_copied};
 ghost use Rattle.fst_lts.specs.Histories.{opposite, last_stamp};
 ghost use Rattle.fst_vm.specs.TaskView.{TaskView};
 ghost use Rattle.fst_vm.specs.Tasks.{HasNext, Takes, GoesOn};
-ghost use Rattle.fst_process.specs.Kept.{has_ended, asker_at, with_asker, passed};
-ghost use Rattle.fst_process.specs.Firing.{MovesOn};
+ghost use Rattle.fst_process.specs.Kept.{has_ended, is_step, asker_at, with_asker, passed};
+ghost use Rattle.fst_process.specs.Firing.{MovesOn, StepsOn, CanStepOn};
 ghost use Rattle.fst_process.specs.KeptOf.{slot_of, channel_of, numbered, IsChangedAt};
 
 use fst_machine::{Answer, Code, Request};
@@ -80,6 +80,35 @@ pub(crate) fn move_on(
     slot.request = slot.task.advance(code)?;
     slot.clock = (slot.clock + 1).max(least);
     Ok(())
+}
+
+// Whether a task that asks for this is to step.
+fn is_step(request: &Request) -> bool
+    ensures { result ≡ is_step request.now }
+{
+    match request {
+        Request::Step => true,
+        Request::New(_) => false,
+        Request::Fork => false,
+        Request::Put(_, _) => false,
+        Request::Get(_) => false,
+        Request::Ended => false,
+    }
+}
+
+/// Has the task of a slot step as often as it asks to, up to so many times, and answers how often that was.
+pub(crate) fn step_on(slot: &mut Slot, code: &Code, most: u64) -> Result<u64, AllocError>
+    requires { CanStepOn code.now most (slot_of slot.old) }
+    ensures steps { IfOk result (λ n. StepsOn code.now n (slot_of slot.old) (slot_of slot.new)) }
+    ensures most { IfOk result (λ n. n ≤ most) }
+    ensures some { IfOk result (λ n. 0 < most → slot.old.request ≡ Request.Step → 0 < n) }
+{
+    let mut count = 0;
+    while count < most && is_step(&slot.request) {
+        move_on(slot, code, Answer::Go, 0)?;
+        count += 1;
+    }
+    Ok(count)
 }
 
 // The other side.

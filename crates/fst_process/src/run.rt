@@ -5,6 +5,7 @@ ghost use Rattle.fst_process.specs.Runs.{CanRun, IsOutcome, CanRunFrom, IsOutcom
 use crate::config::Config;
 use crate::report::Outcome;
 use fst_machine::Code;
+use fst_runs::CoreEvent;
 use std::alloc::{AllocError, Global};
 
 /// What the least run of the code comes to in so many steps: always the event of the first task that can move happens.
@@ -28,6 +29,7 @@ pub fn run_from(mut config: Config, code: &Code, steps: u64) -> Result<Outcome, 
 {
     while config.events <= steps {
         match config.next()? {
+            Some(CoreEvent::Local(path)) => config.step_on(code, &path, steps)?,
             Some(event) => config.fire(code, &event)?,
             None => {
                 let report = config.report()?;

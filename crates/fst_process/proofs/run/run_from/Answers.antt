@@ -2,18 +2,29 @@ use Rattle.std.proofs.Common.{◌<◌, subst, sym, arith}
 use Rattle.std.proofs.Math.Logic.{∥∥₁_map}
 use Rattle.fst_process.specs.KeptOf.{kept_of}
 use Rattle.fst_process.specs.Nexts.{IsNext}
-use Rattle.fst_process.proofs.Running.{kept_first, possible_next, kept_next, answers_done, answers_out, some_config}
+use Rattle.fst_process.proofs.Running.{kept_first, possible_next, kept_next, kept_then, can_run_on, answers_done, answers_out, some_config}
 use Rattle.fst_process.proofs.run.run_from.Goals as goal
 
 pub loop-config-init : goal.loop-config-init
 loop-config-init c = kept_first c.args.code.now c.args.config.events (kept_of c.args.config)
+
+pub step_on-requires-clause-right : goal.step_on-requires-clause-right
+step_on-requires-clause-right c =
+    ∥∥₁_map c.requires.right (can_run_on c.args.code.now c.args.config.events (kept_of c.args.config) c.loop-config.config.events
+    (kept_of c.loop-config.config) c.loop-config.invariant)
+
+pub loop-config-preserved-in-Some-Local : goal.loop-config-preserved-in-Some-Local
+loop-config-preserved-in-Some-Local c =
+    kept_then c.args.code.now c.args.config.events (kept_of c.args.config) c.loop-config.config.events
+    c.step_on.new.self.events (kept_of c.loop-config.config) (kept_of c.step_on.new.self) c.loop-config.invariant
+    c.in_ok-step_on-in-Some-Local.ensures.runs
 
 pub fire-requires-clause-possible : goal.fire-requires-clause-possible
 fire-requires-clause-possible c =
     let first = kept_of c.args.config in
     let now = kept_of c.loop-config.config in
     let n = c.loop-config.config.events in
-    let next = subst (IsNext now) c.in-Some.is c.in_ok-event.ensures in
+    let next = subst (IsNext now) c.in-Some.is c.in_ok-path.ensures in
     let few : n < 4294967295 = omega (arith, c.requires.few, c.loop-config-test.true) in
     ∥∥₁_map c.requires.right (possible_next c.args.code.now c.args.config.events first n now c.in-Some.event
     c.loop-config.invariant next few)
@@ -28,7 +39,7 @@ report-requires c =
 pub returns-in-None : goal.returns-in-None
 returns-in-None c =
     let now = kept_of c.loop-config.config in
-    let next = subst (IsNext now) c.in-None.is c.in_ok-event.ensures in
+    let next = subst (IsNext now) c.in-None.is c.in_ok-path.ensures in
     answers_done c.args.code.now c.args.config.events
     (kept_of c.args.config) c.args.steps c.loop-config.config.events now c.in_ok-report-in-None.report c.loop-config.invariant
     next
@@ -38,28 +49,28 @@ pub loop-config-preserved-in_ok-fire-in-Some : goal.loop-config-preserved-in_ok-
 loop-config-preserved-in_ok-fire-in-Some c =
     kept_next c.args.code.now c.args.config.events (kept_of c.args.config) c.loop-config.config.events c.fire.new.self.events
     (kept_of c.loop-config.config) (kept_of c.fire.new.self) c.in-Some.event
-    c.loop-config.invariant (subst (IsNext (kept_of c.loop-config.config)) c.in-Some.is c.in_ok-event.ensures)
+    c.loop-config.invariant (subst (IsNext (kept_of c.loop-config.config)) c.in-Some.is c.in_ok-path.ensures)
     c.in_ok-fire-in-Some.ensures.happens (sym c.in_ok-fire-in-Some.ensures.counted)
 
 pub loop-config-preserved-in_ok-fire-in-Some-2 : goal.loop-config-preserved-in_ok-fire-in-Some-2
 loop-config-preserved-in_ok-fire-in-Some-2 c =
     kept_next c.args.code.now c.args.config.events (kept_of c.args.config) c.loop-config.config.events c.fire.new.self.events
     (kept_of c.loop-config.config) (kept_of c.fire.new.self) c.in-Some.event
-    c.loop-config.invariant (subst (IsNext (kept_of c.loop-config.config)) c.in-Some.is c.in_ok-event.ensures)
+    c.loop-config.invariant (subst (IsNext (kept_of c.loop-config.config)) c.in-Some.is c.in_ok-path.ensures)
     c.in_ok-fire-in-Some.ensures.happens (sym c.in_ok-fire-in-Some.ensures.counted)
 
 pub loop-config-preserved-in_ok-fire-in-Some-3 : goal.loop-config-preserved-in_ok-fire-in-Some-3
 loop-config-preserved-in_ok-fire-in-Some-3 c =
     kept_next c.args.code.now c.args.config.events (kept_of c.args.config) c.loop-config.config.events c.fire.new.self.events
     (kept_of c.loop-config.config) (kept_of c.fire.new.self) c.in-Some.event
-    c.loop-config.invariant (subst (IsNext (kept_of c.loop-config.config)) c.in-Some.is c.in_ok-event.ensures)
+    c.loop-config.invariant (subst (IsNext (kept_of c.loop-config.config)) c.in-Some.is c.in_ok-path.ensures)
     c.in_ok-fire-in-Some.ensures.happens (sym c.in_ok-fire-in-Some.ensures.counted)
 
 pub loop-config-preserved : goal.loop-config-preserved
 loop-config-preserved c =
     kept_next c.args.code.now c.args.config.events (kept_of c.args.config) c.loop-config.config.events c.fire.new.self.events
     (kept_of c.loop-config.config) (kept_of c.fire.new.self) c.in-Some.event
-    c.loop-config.invariant (subst (IsNext (kept_of c.loop-config.config)) c.in-Some.is c.in_ok-event.ensures)
+    c.loop-config.invariant (subst (IsNext (kept_of c.loop-config.config)) c.in-Some.is c.in_ok-path.ensures)
     c.in_ok-fire-in-Some.ensures.happens (sym c.in_ok-fire-in-Some.ensures.counted)
 
 pub returns : goal.returns

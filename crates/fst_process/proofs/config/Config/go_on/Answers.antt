@@ -81,7 +81,7 @@ returns-then-has_ended c =
     (λ q. put_at q (Some (slot_of slot)) (slot_in k.tasks.entries)) c.as_slice.ensures)
     c.in_ok-note_again-in-Some.ensures in
     on_ok_weaker c.set_aside.result (λ e. subst (λ d. HasGoneOn code p c.args.answer c.args.least (kept_of k) d) (sym e) gone)
-    c.set_aside.ensures
+    c.set_aside.ensures.kept
 
 pub returns-else-has_ended : goal.returns-else-has_ended
 returns-else-has_ended c =

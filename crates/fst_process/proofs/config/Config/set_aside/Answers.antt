@@ -7,8 +7,8 @@ use Rattle.fst_process.proofs.KeptLaws.{slots_after}
 use Rattle.fst_process.proofs.EndedLaws.{set_aside_after}
 use Rattle.fst_process.proofs.config.Config.set_aside.Goals as goal
 
-pub returns-in_ok-push-in-Some : goal.returns-in_ok-push-in-Some
-returns-in_ok-push-in-Some c =
+pub returns-in_ok-push-in-Some-clause-kept : goal.returns-in_ok-push-in-Some-clause-kept
+returns-in_ok-push-in-Some-clause-kept c =
     let k = c.args.self.now in
     let old = k.tasks.entries in
     let new = c.remove.new.self.entries in
