@@ -11,3 +11,4 @@ pub mod Bags
 pub mod Tasks
 pub mod Turns
 pub mod Going
+pub mod Logged

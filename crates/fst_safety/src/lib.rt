@@ -8,4 +8,4 @@ mod tasks;
 mod turning;
 
 pub use law::{diamond_law, ends_law, one_end_law, safety_law, send_law, stays_law, typed_law};
-pub use tasks::{LogEntry, Turned, TypedTask};
+pub use tasks::{LogEntry, Logged, Turned, TypedTask};

@@ -1,4 +1,6 @@
-ghost use Rattle.std.specs.Prelude.{IfOk};
+ghost use Rattle.std.specs.Prelude.{◌≡◌, None, IfOk};
+ghost use Rattle.std.specs.Option.{option_copied};
+ghost use Rattle.fst_safety.specs.Logged.{told_or_go};
 ghost use Rattle.fst_safety.specs.Tasks.{IsBegun};
 
 use fst_cell::End;
@@ -6,6 +8,7 @@ use fst_machine::{Answer, Code, Request};
 use fst_types::EndName;
 use fst_vm::Task;
 use std::alloc::{AllocError, Global};
+use std::marker::Model;
 
 /// One entry of a task's log: what the task asked for, what it was told, and the stamp of that event.
 #[derive(Drop)]
@@ -13,6 +16,78 @@ pub struct LogEntry {
     pub asked: Request,
     pub answer: Answer,
     pub stamp: u64,
+}
+
+// What a task asked for, and what it was told.
+#[derive(Drop)]
+pub(crate) struct Exchange {
+    asked: Request,
+    answer: Answer,
+}
+
+impl Exchange {
+    /// Memory for one.
+    pub(crate) fn room(alloc: Global) -> Result<Box<Exchange>, AllocError> {
+        let none = Exchange {
+            asked: Request::Step,
+            answer: Answer::Go,
+        };
+        Ok(Box::new(alloc, none)?)
+    }
+}
+
+/// An entry of a log as it is kept, seen by contracts as the entry: of a step it takes no more than the stamp.
+#[derive(Drop)]
+pub struct Logged {
+    stamp: u64,
+    // none where the task asked for a step and went on
+    exchange: Option<Box<Exchange>>,
+}
+
+impl Model for Logged {
+    ghost use Rattle.fst_safety.specs.declared.tasks.LogEntry.{LogEntry};
+    ghost use Rattle.fst_safety.specs.Logged.{entry_of};
+
+    ghost Value = { LogEntry };
+
+    ghost view = { λ e. entry_of e.stamp e.exchange };
+}
+
+impl Logged {
+    /// The entry, in memory that was taken before, of which a step needs none.
+    pub(crate) fn of(
+        room: Option<Box<Exchange>>,
+        asked: Request,
+        answer: Answer,
+        stamp: u64,
+    ) -> Logged
+        requires { room ≡ None → (asked ≡ Request.Step) × (answer ≡ Answer.Go) }
+        ensures { result ≡ record { asked = asked; answer = answer; stamp = stamp } }
+    {
+        match room {
+            None => Logged {
+                stamp,
+                exchange: None,
+            },
+            Some(mut room) => {
+                *room = Exchange { asked, answer };
+                Logged {
+                    stamp,
+                    exchange: Some(room),
+                }
+            }
+        }
+    }
+
+    /// What the task was told, where it did more than a step.
+    pub fn told(&self) -> Option<&Answer>
+        ensures { told_or_go (option_copied result) ≡ self.now.answer }
+    {
+        match &self.exchange {
+            Some(exchange) => Some(&exchange.answer),
+            None => None,
+        }
+    }
 }
 
 /// A task that knows its own ends alone: its machine, the ends with something left to do, the spent ones, its clock, and its
@@ -24,7 +99,7 @@ pub struct TypedTask {
     pub bag: Vec<End>,
     pub retired: Vec<End>,
     pub clock: u64,
-    pub log: Vec<LogEntry>,
+    pub log: Vec<Logged>,
     // how many channels it has made
     pub(crate) made: u32,
 }

@@ -3,6 +3,7 @@
 ghost use Rattle.std.specs.Prelude.{◌≡◌, ◌+◌, ◌≤◌, ◌<◌, ℕ, true, List, Some, None, IfOk, OnOk, OnErr, IsOk, IsSome, [], length, vec_len, vec_capacity, slice_index_or};
 ghost use Rattle.fst_types.specs.declared.event.Event.TheVariants.{Label};
 ghost use Rattle.fst_machine.specs.declared.request.Request.TheVariants.{Step, New, Fork, Put, Get};
+ghost use Rattle.fst_machine.specs.declared.request.Answer.TheVariants.{Go};
 ghost use Rattle.fst_vm.specs.Tasks.{Takes, is_exchange};
 ghost use Rattle.fst_cell.specs.End.{EndView, residual_of};
 ghost use Rattle.fst_cell.specs.Residuals.{receives};
@@ -10,7 +11,7 @@ ghost use Rattle.fst_safety.specs.Bags.{IsPlaced};
 ghost use Rattle.fst_safety.specs.Tasks.{AreNew, AsksNow, CanTurn, HasGoneOn, HasRoom, HasSameEnds, IsDeclarable, IsSame, TakesTurn};
 
 use crate::bags::{notice_at, offer_at, part, place, put_back, take_at};
-use crate::tasks::{LogEntry, Turned, TypedTask};
+use crate::tasks::{Exchange, Logged, Turned, TypedTask};
 use fst_cell::{End, new_cell};
 use fst_machine::{Answer, Code, Request};
 use fst_types::{ChannelName, EndName, Event, copy};
@@ -32,12 +33,12 @@ fn copy_into(event: &Event, letters: Vec<u8>) -> Event
 }
 
 impl TypedTask {
-    // The name of its next channel twice, and the two ends of a new cell.
+    // The name of its next channel twice, the two ends of a new cell, and memory for the entry.
     fn fresh(
         &self,
         code: &Code,
         number: u32,
-    ) -> Result<(ChannelName, ChannelName, End, End), AllocError>
+    ) -> Result<(ChannelName, ChannelName, End, End, Box<Exchange>), AllocError>
         requires declarable { IsDeclarable code.now number }
         requires few { self.now.made < 4294967295 }
         ensures { IfOk result (λ f. AreNew code.now self.now number f.0 f.1 f.2 f.3) }
@@ -50,11 +51,12 @@ impl TypedTask {
         let third = name.copy(self.alloc)?;
         let declared = copy(self.alloc, &code.types[number as usize])?;
         let (left, right) = new_cell(self.alloc, third, declared)?;
-        Ok((name, again, left, right))
+        let entry = Exchange::room(self.alloc)?;
+        Ok((name, again, left, right, entry))
     }
 
-    // Takes the room that an exchange needs, whatever it leads to.
-    fn room(&mut self, code: &Code) -> Result<(), AllocError>
+    // Takes the room that an exchange needs, whatever it leads to. The memory for its entry.
+    fn room(&mut self, code: &Code) -> Result<Box<Exchange>, AllocError>
         ensures same { IsSame self.old self.new }
         ensures room { OnOk result (HasRoom self.new) }
     {
@@ -67,10 +69,11 @@ impl TypedTask {
         let Ok(()) = self.task.ready(code) else {
             return Err(AllocError);
         };
-        Ok(())
+        Exchange::room(self.alloc)
     }
 
-    // Goes on after an answer, which is logged. Where memory is wanting, the task is as it was.
+    // Goes on after an answer, which is logged, in this memory if it isn't that to a step. Where memory is wanting, the task is
+    // as it was.
     fn go_on(
         &mut self,
         code: &Code,
@@ -78,9 +81,11 @@ impl TypedTask {
         answer: Answer,
         logged: Answer,
         stamp: u64,
+        entry: Option<Box<Exchange>>,
     ) -> Result<(), AllocError>
         requires takes { ∥ Takes code.now self.old.task answer ∥₁ }
         requires same { logged ≡ answer }
+        requires entry { entry ≡ None → (asked ≡ Step) × (logged ≡ Go) }
         ensures on { OnOk result (HasGoneOn code.now self.old asked answer stamp self.new) }
         ensures ends { OnOk result (HasSameEnds self.old self.new) }
         ensures room { (vec_capacity self.new.bag ≡ vec_capacity self.old.bag)
@@ -96,11 +101,8 @@ impl TypedTask {
         let Ok(()) = self.task.resume(code, answer) else {
             return Err(AllocError);
         };
-        self.log.push_reserved(LogEntry {
-            asked,
-            answer: logged,
-            stamp,
-        });
+        self.log
+            .push_reserved(Logged::of(entry, asked, logged, stamp));
         self.clock = stamp;
         Ok(())
     }
@@ -113,7 +115,7 @@ impl TypedTask {
         ensures { TakesTurn code.now self.old result self.new }
     {
         let stamp = self.clock + 1;
-        let Ok(()) = self.go_on(code, Request::Step, Answer::Go, Answer::Go, stamp) else {
+        let Ok(()) = self.go_on(code, Request::Step, Answer::Go, Answer::Go, stamp, None) else {
             return Err(AllocError);
         };
         Ok(Turned::Moved)
@@ -132,12 +134,13 @@ impl TypedTask {
         let Ok(()) = self.retired.reserve(2) else {
             return Err(AllocError);
         };
-        let Ok((name, again, left, right)) = self.fresh(code, number) else {
+        let Ok((name, again, left, right, entry)) = self.fresh(code, number) else {
             return Err(AllocError);
         };
         let stamp = self.clock + 1;
         let asked = Request::New(number);
-        let Ok(()) = self.go_on(code, asked, Answer::Made(name), Answer::Made(again), stamp) else {
+        let (made, logged) = (Answer::Made(name), Answer::Made(again));
+        let Ok(()) = self.go_on(code, asked, made, logged, stamp, Some(entry)) else {
             return Err(AllocError);
         };
         self.made += 1;
@@ -159,9 +162,12 @@ impl TypedTask {
         let Ok(mut theirs) = Vec::with_capacity(self.alloc, names.len()) else {
             return Err(AllocError);
         };
+        let Ok(entry) = Exchange::room(self.alloc) else {
+            return Err(AllocError);
+        };
         let stamp = self.clock + 1;
-        let asked = Request::Fork;
-        let Ok(()) = self.go_on(code, asked, Answer::Forked, Answer::Forked, stamp) else {
+        let (asked, told) = (Request::Fork, Answer::Forked);
+        let Ok(()) = self.go_on(code, asked, told, Answer::Forked, stamp, Some(entry)) else {
             return Err(AllocError);
         };
         part(&mut self.bag, &mut theirs, names.as_slice());
@@ -205,6 +211,7 @@ impl TypedTask {
         i: usize,
         name: EndName,
         event: Event,
+        entry: Box<Exchange>,
     ) -> Result<Turned, AllocError>
         requires fits { CanTurn code.now self.old }
         requires asks { AsksNow code.now self.old (Put name event) }
@@ -217,7 +224,8 @@ impl TypedTask {
         match notice_at(&mut self.bag, &mut self.retired, i) {
             Some(stamp) => {
                 let asked = Request::Put(name, event);
-                let Ok(()) = self.go_on(code, asked, Answer::Sent, Answer::Sent, stamp) else {
+                let (told, logged) = (Answer::Sent, Answer::Sent);
+                let Ok(()) = self.go_on(code, asked, told, logged, stamp, Some(entry)) else {
                     unreachable!()
                 };
                 Ok(Turned::Moved)
@@ -233,14 +241,14 @@ impl TypedTask {
         requires asks { AsksNow code.now self.old (Put name event) }
         ensures { TakesTurn code.now self.old result self.new }
     {
-        let Ok(()) = self.room(code) else {
+        let Ok(entry) = self.room(code) else {
             return Err(AllocError);
         };
         let Some(i) = place(self.bag.as_slice(), &name) else {
             unreachable!()
         };
         if self.bag[i].waiting() {
-            self.learn(code, i, name, event)
+            self.learn(code, i, name, event, entry)
         } else {
             self.offer(code, i, name, event)
         }
@@ -253,6 +261,7 @@ impl TypedTask {
         i: usize,
         name: EndName,
         letters: Vec<u8>,
+        entry: Box<Exchange>,
     ) -> Result<Turned, AllocError>
         requires fits { CanTurn code.now self.old }
         requires clock { self.old.clock < 4294967295 }
@@ -269,7 +278,8 @@ impl TypedTask {
             Ok(Some((event, stamp))) => {
                 let asked = Request::Get(name);
                 let logged = Answer::Got(copy_into(&event, letters));
-                let Ok(()) = self.go_on(code, asked, Answer::Got(event), logged, stamp) else {
+                let told = Answer::Got(event);
+                let Ok(()) = self.go_on(code, asked, told, logged, stamp, Some(entry)) else {
                     unreachable!()
                 };
                 Ok(Turned::Moved)
@@ -286,7 +296,7 @@ impl TypedTask {
         requires asks { AsksNow code.now self.old (Get name) }
         ensures { TakesTurn code.now self.old result self.new }
     {
-        let Ok(()) = self.room(code) else {
+        let Ok(entry) = self.room(code) else {
             return Err(AllocError);
         };
         let Some(i) = place(self.bag.as_slice(), &name) else {
@@ -298,7 +308,7 @@ impl TypedTask {
         let Ok(letters) = Vec::with_capacity(self.alloc, longest) else {
             return Err(AllocError);
         };
-        self.take(code, i, name, letters)
+        self.take(code, i, name, letters, entry)
     }
 
     /// Makes one move, or tries to make it. Where memory is wanting, the task stands where its log leads, and asks for the same.

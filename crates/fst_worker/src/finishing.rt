@@ -9,7 +9,7 @@ use crate::ending::{strip_all, tell_all};
 use fst_cell::Closed;
 use fst_machine::{Answer, Code};
 use fst_process::{Config, Outcome, run_from};
-use fst_safety::{LogEntry, TypedTask, stays_law};
+use fst_safety::{Logged, TypedTask, stays_law};
 use fst_types::ChannelHistory;
 use std::alloc::{AllocError, Global};
 
@@ -40,27 +40,28 @@ pub(crate) fn finish(
     run_from(config, code, steps)
 }
 
-// 1 for an answer to what a task does alone.
-fn one_alone(answer: &Answer) -> u64
-    ensures { result ≡ alone answer.now }
+// 1 for an entry for what a task does alone.
+fn one_alone(entry: &Logged) -> u64
+    ensures { result ≡ alone entry.now.answer }
 {
-    match answer {
-        Answer::Go => 1,
-        Answer::Made(_) => 1,
-        Answer::Forked => 1,
-        Answer::Sent => 0,
-        Answer::Got(_) => 0,
+    match entry.told() {
+        None => 1,
+        Some(Answer::Go) => 1,
+        Some(Answer::Made(_)) => 1,
+        Some(Answer::Forked) => 1,
+        Some(Answer::Sent) => 0,
+        Some(Answer::Got(_)) => 0,
     }
 }
 
 // How many entries of a log are for what the task does alone.
-fn count_log(log: &[LogEntry]) -> u64
+fn count_log(log: &[Logged]) -> u64
     ensures value { result ≡ alone_in log.now }
     ensures few { result ≤ length log.now }
 {
     let mut count = 0;
     for entry in log {
-        count += one_alone(&entry.answer);
+        count += one_alone(entry);
     }
     count
 }

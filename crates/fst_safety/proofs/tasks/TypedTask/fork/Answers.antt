@@ -16,6 +16,10 @@ pub returns-in_default-with_capacity : goal.returns-in_default-with_capacity
 returns-in_default-with_capacity c = refused c.args.code.now c.args.self.now _ _
     (record { task = (refl, refl, refl); made = refl; clock = refl; log = refl; bag = refl; retired = refl })
 
+pub returns-in_default-room : goal.returns-in_default-room
+returns-in_default-room c = refused c.args.code.now c.args.self.now _ _
+    (record { task = (refl, refl, refl); made = refl; clock = refl; log = refl; bag = refl; retired = refl })
+
 pub go_on-requires-clause-takes : goal.go_on-requires-clause-takes
 go_on-requires-clause-takes c = let f = c.requires.fits in
     ∣ fork_takes c.args.code.now c.args.self.now c.requires.asks c.requires.clock f.0 f.1 f.2 ∣₁
