@@ -10,6 +10,7 @@ mod law;
 mod passes;
 mod rounds;
 mod shares;
+mod tries;
 mod workers;
 
 pub use law::{

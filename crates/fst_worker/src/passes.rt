@@ -5,16 +5,9 @@ ghost use Rattle.fst_worker.specs.declared.shares.Share.{Share as Shared};
 ghost use Rattle.fst_worker.specs.Passes.{CanRun, HasSameMarks, IsPutBefore, Passes, PassesTo, RetiresTo};
 
 use crate::shares::{Share, Stop};
+use crate::tries::Tries;
 use fst_io::Gate;
 use fst_machine::Code;
-use std::sync::atomic::{AtomicU32, Ordering};
-use std::thread;
-
-// After so many tries in vain a share counts as idle.
-const PATIENCE: u32 = 64;
-
-// After so many it ends, though another one still moves.
-const MOST_TRIES: u32 = 20_000;
 
 // How far a pass has come.
 #[derive(Clone, Copy)]
@@ -23,66 +16,28 @@ struct Walk {
     kept: usize,
     // whether one has moved
     moved: bool,
+    // how often one was tried in vain
+    vain: usize,
     // whether the others are to stay as they are
     halted: bool,
 }
 
-// What a pass comes to.
-#[derive(Clone, Copy)]
-enum Passed {
-    // a task has moved
-    Moved,
-    // none has
-    Still,
-    // there is no memory, or there were too many steps
-    Halted,
-}
-
-impl Walk {
-    // What the whole pass has come to.
-    fn passed(self) -> Passed {
-        if self.halted {
-            Passed::Halted
-        } else if self.moved {
-            Passed::Moved
-        } else {
-            Passed::Still
-        }
-    }
-}
-
-// A share whose tasks have moved goes on, and is counted among the busy ones if it counted as idle after so many tries.
-fn go_on(tries: u32, busy: &AtomicU32) {
-    if tries >= PATIENCE {
-        busy.fetch_add(1, Ordering::SeqCst);
-    }
-}
-
-// A share ends, and isn't counted among the busy ones any more.
-fn leave(tries: u32, busy: &AtomicU32) {
-    if tries < PATIENCE {
-        busy.fetch_sub(1, Ordering::SeqCst);
-    }
-}
-
 impl Share {
-    // How many tries in vain there are after a pass that moved no task, or none where the share ends: it has no tasks, or many; it
-    // has forked tasks that wait for the next round; no other share is busy; or it has tried often enough.
-    fn look_again(&self, tries: u32, busy: &AtomicU32) -> Option<u32> {
-        let more = tries.saturating_add(u32::try_from(self.tasks.len()).unwrap_or(u32::MAX));
+    // How many passes in vain there were, one after the other, after one more pass, or none where the share ends: the pass has
+    // halted or moved no task, and the share doesn't look again; or too much was tried in vain.
+    fn goes_on(&self, passed: Walk, passes: u32, tries: &Tries) -> Option<u32> {
+        tries.count(passed.vain);
+        if passed.halted || tries.are_too_many(self.events) {
+            return None;
+        }
+        if passed.moved {
+            tries.move_on(passes);
+            return Some(0);
+        }
         if self.tasks.is_empty() || !self.forked.is_empty() {
-            leave(tries, busy);
             return None;
         }
-        if more < PATIENCE {
-            return Some(more);
-        }
-        leave(tries, busy);
-        if tries == 0 || busy.load(Ordering::SeqCst) == 0 || more >= MOST_TRIES {
-            return None;
-        }
-        thread::yield_now();
-        Some(more)
+        tries.look_again(passes)
     }
 
     // Puts the task at this place behind those that are kept.
@@ -99,6 +54,7 @@ impl Share {
         Walk {
             kept: walk.kept + 1,
             moved: walk.moved,
+            vain: walk.vain,
             halted: walk.halted,
         }
     }
@@ -126,11 +82,16 @@ impl Share {
             self.new.ended }
     {
         if walk.halted {
+            let walk = Walk {
+                vain: walk.vain.saturating_add(1),
+                ..walk
+            };
             return self.keep(i, walk);
         }
         let (stop, moved) = self.run_at(code, i, i - walk.kept, steps, number, gate);
         let walk = Walk {
             moved: walk.moved || moved,
+            vain: walk.vain.saturating_add(usize::from(!moved)),
             ..walk
         };
         match stop {
@@ -163,7 +124,7 @@ impl Share {
     }
 
     // Moves each task as far as it can, one after the other.
-    fn pass<G: Gate>(&mut self, code: &Code, steps: u64, number: u32, gate: &G) -> Passed
+    fn pass<G: Gate>(&mut self, code: &Code, steps: u64, number: u32, gate: &G) -> Walk
         requires fit { CanRun code.now self.old }
         requires steps { steps < 4294967295 }
         ensures { Passes code.now steps self.old self.new }
@@ -171,24 +132,25 @@ impl Share {
         let mut walk = Walk {
             kept: 0,
             moved: false,
+            vain: 0,
             halted: false,
         };
         for i in 0..self.tasks.len() {
             walk = self.visit(code, i, walk, steps, number, gate);
         }
         self.retire(walk.kept);
-        walk.passed()
+        walk
     }
 
-    // Passes over the tasks until none of them moves. While other shares are busy it looks again for a while, since a message may
-    // come from them: so tasks of two shares can exchange many messages in one round. How long it looks hangs on `busy`, the
-    // number of shares that aren't idle, and nothing that is proved does.
+    // Passes over the tasks until none of them moves. While other shares are busy it looks again a few times before it ends,
+    // since a message may come from them: so tasks of two shares can exchange many messages in one round. How long it looks hangs
+    // on `tries`, and nothing that is proved does.
     pub(crate) fn run<G: Gate>(
         &mut self,
         code: &Code,
         steps: u64,
         number: u32,
-        busy: &AtomicU32,
+        tries: &Tries,
         gate: &G,
     )
         requires fit { CanRun code.now self.old }
@@ -196,22 +158,13 @@ impl Share {
         ensures { Passes code.now steps self.old self.new }
     {
         let mut passed = self.pass(code, steps, number, gate);
-        let mut tries = 0;
+        let mut passes = 0;
         for _pass in 0..u64::MAX {
-            match passed {
-                Passed::Moved => {
-                    go_on(tries, busy);
-                    tries = 0;
-                }
-                Passed::Still => match self.look_again(tries, busy) {
-                    Some(more) => tries = more,
-                    None => return,
-                },
-                Passed::Halted => {
-                    leave(tries, busy);
-                    return;
-                }
-            }
+            let Some(more) = self.goes_on(passed, passes, tries) else {
+                tries.leave(passes);
+                return;
+            };
+            passes = more;
             passed = self.pass(code, steps, number, gate);
         }
     }

@@ -6,10 +6,10 @@ ghost use Rattle.fst_worker.specs.Passes.{CanRun, Works};
 ghost use Rattle.fst_worker.specs.Shares.{AreCounted, AreLent, AreTold, CanMove, GoOn, IsAnswer, RunsAll, some_moved, some_refused};
 
 use crate::shares::Share;
+use crate::tries::{Progress, Tries};
 use fst_io::Gate;
 use fst_machine::Code;
 use std::alloc::AllocError;
-use std::sync::atomic::AtomicU32;
 use std::thread;
 use std::thread::Threads;
 
@@ -17,14 +17,7 @@ use std::thread::Threads;
 const WORKERS: usize = 8;
 
 // Moves the tasks of one share.
-fn work<G: Gate>(
-    code: &Code,
-    share: &mut Share,
-    steps: u64,
-    number: usize,
-    busy: &AtomicU32,
-    gate: &G,
-)
+fn work<G: Gate>(code: &Code, share: &mut Share, steps: u64, number: usize, tries: &Tries, gate: &G)
     requires fit { CanRun code.now share.old }
     requires steps { steps < 4294967295 }
     ensures { Works code.now steps share.old share.new }
@@ -33,7 +26,7 @@ fn work<G: Gate>(
     gate.enter(number);
     share.moved = false;
     share.refused = false;
-    share.run(code, steps, number, busy, gate);
+    share.run(code, steps, number, tries, gate);
 }
 
 // Moves each share in a worker.
@@ -42,6 +35,7 @@ fn each_works<R: Threads + Sync, G: Gate + Sync>(
     code: &Code,
     shares: &mut [Share],
     steps: u64,
+    tries: &Tries,
     gate: &G,
 )
     requires fit { All (CanRun code.now) shares.old }
@@ -50,12 +44,11 @@ fn each_works<R: Threads + Sync, G: Gate + Sync>(
     ensures each { (i : ℕ) (d : Shared) → i < length shares.old →
         Works code.now steps (slice_index_or shares.old i d) (slice_index_or shares.new i d) }
 {
-    let busy = AtomicU32::new(u32::try_from(shares.len()).unwrap_or(u32::MAX));
     thread::for_each_mut(
         rt,
         shares,
         WORKERS,
-        &|number, share| work(code, share, steps, number, &busy, gate),
+        &|number, share| work(code, share, steps, number, tries, gate),
     );
 }
 
@@ -65,6 +58,7 @@ fn all_work<R: Threads + Sync, G: Gate + Sync>(
     code: &Code,
     shares: &mut [Share],
     steps: u64,
+    tries: &Tries,
     gate: &G,
 )
     requires steps { steps < 4294967295 }
@@ -76,7 +70,7 @@ fn all_work<R: Threads + Sync, G: Gate + Sync>(
     ensures counted { AreCounted shares.old shares.new }
     ensures told { AreTold shares.old shares.new }
 {
-    each_works(rt, code, shares, steps, gate);
+    each_works(rt, code, shares, steps, tries, gate);
 }
 
 // Whether a share has given up for want of memory.
@@ -104,9 +98,9 @@ fn answer(shares: &[Share]) -> Result<bool, AllocError>
 }
 
 /// Moves the tasks of each share in a worker of its own: a share passes over its tasks in their order and moves each as far as
-/// it can, until a pass moves none, or its events or the clock of one of its tasks exceed the steps. A task that is forked goes
-/// to `forked` and isn't moved, and one whose value is there goes to `ended`. No task is lost where memory is wanting, which a
-/// share tells by `refused`.
+/// it can, until a pass moves none, or its events or the clock of one of its tasks exceed the steps, or too much was tried in
+/// vain. A task that is forked goes to `forked` and isn't moved, and one whose value is there goes to `ended`. No task is lost
+/// where memory is wanting, which a share tells by `refused`.
 ///
 /// The answer is whether a share made an event, an offer or a notice.
 pub fn round<R: Threads + Sync, G: Gate + Sync>(
@@ -126,6 +120,34 @@ pub fn round<R: Threads + Sync, G: Gate + Sync>(
     ensures told { AreTold shares.old.items shares.new.items }
     ensures answer { IsAnswer result shares.new.items }
 {
-    all_work(rt, code, shares.as_mut_slice(), steps, gate);
+    let tries = tries_of(shares.as_slice(), Progress::start());
+    round_after(rt, code, shares, steps, &tries, gate)
+}
+
+/// What the shares of a round know of one another at its beginning, when the rounds of the run have come so far.
+pub(crate) fn tries_of(shares: &[Share], so_far: Progress) -> Tries {
+    Tries::new(shares.len(), WORKERS, so_far)
+}
+
+/// The same, where the shares know this of one another and of the rounds before.
+pub(crate) fn round_after<R: Threads + Sync, G: Gate + Sync>(
+    rt: &R,
+    code: &Code,
+    shares: &mut Vec<Share>,
+    steps: u64,
+    tries: &Tries,
+    gate: &G,
+) -> Result<bool, AllocError>
+    requires steps { steps < 4294967295 }
+    requires fit { CanMove code.now shares.old.items }
+    requires none_forked { All (λ (s : Shared). s.forked.items ≡ []) shares.old.items }
+    ensures went { GoOn code.now shares.old.items shares.new.items }
+    ensures runs { RunsAll code.now steps shares.old.items shares.new.items }
+    ensures lent { AreLent shares.old.items shares.new.items }
+    ensures counted { AreCounted shares.old.items shares.new.items }
+    ensures told { AreTold shares.old.items shares.new.items }
+    ensures answer { IsAnswer result shares.new.items }
+{
+    all_work(rt, code, shares.as_mut_slice(), steps, tries, gate);
     answer(shares.as_slice())
 }

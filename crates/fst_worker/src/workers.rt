@@ -1,13 +1,13 @@
 //! A run on several workers, from its beginning to its end.
 
-ghost use Rattle.std.specs.Prelude.{◌<◌, ◌++◌, IfOk};
+ghost use Rattle.std.specs.Prelude.{◌<◌, ◌≤◌, ◌++◌, IfOk};
 ghost use Rattle.fst_safety.specs.Tasks.{CanBegin};
 ghost use Rattle.fst_worker.specs.Working.{IsWholeRun, IsWorkedOut};
 
 use crate::dealing::{deal, gather};
 use crate::finishing::finish;
-use crate::rounds::round;
-use crate::shares::Share;
+use crate::rounds::{round_after, tries_of};
+use crate::tries::Progress;
 use fst_io::Gate;
 use fst_machine::Code;
 use fst_process::Outcome;
@@ -18,9 +18,16 @@ use std::thread::Threads;
 // How many rounds there are at most. No run comes so far: of two rounds one moves a task.
 const ROUNDS: u64 = u64::MAX;
 
+// How much the clocks may grow in a round, but for one event: then the tasks that were forked in it move, too.
+const SLICE: u64 = 4096;
+
+// In the course of the run a slice grows by one for so many events, since each round starts threads.
+const GROWTH: u64 = 4;
+
 /// What becomes of the run of a module that has derivations, on so many workers. Before each round the tasks left are dealt out:
-/// the k-th in the order of their paths, counted from 0, goes to the share k modulo the number of workers; from the third on a
-/// share that would be empty isn't opened. The rounds end where the events or the clock of a task exceed the steps, and where a
+/// the k-th in the order of their paths, counted from 0, goes to the share k modulo the number of shares, of which there are as
+/// many as workers, but none that would be empty, unless it is the second of the first round. In a round the clocks grow by a
+/// slice. The rounds end where the events or the clock of a task exceed the steps, where too much was tried in vain, and where a
 /// round moves no task and one with a single share moves none either. The run is then finished on the machine.
 ///
 /// The answer is the report of a record that fits the module, has at most so many events and allows no other, or that a record
@@ -59,44 +66,54 @@ fn all_rounds<R: Threads + Sync, G: Gate + Sync>(
     let mut tasks = Vec::new(alloc);
     tasks.push(TypedTask::start(alloc, code)?)?;
     let mut ended = Vec::new(alloc);
-    let mut events: u64 = 0;
+    let mut so_far = Progress::start();
+    let mut is_first = true;
     let mut single = false;
     for _ in 0..ROUNDS {
         let count = if single {
             1
         } else {
-            share_count(workers, tasks.len())
+            share_count(workers, tasks.len(), is_first)
         };
-        let made = one_round(rt, alloc, code, tasks, &mut ended, count, steps, gate)?;
+        let made = one_round(
+            rt, alloc, code, tasks, &mut ended, count, steps, so_far, gate,
+        )?;
         tasks = made.tasks;
-        events = events.saturating_add(made.events);
-        if made.late || events > steps || (single && !made.moved) {
+        so_far = made.so_far;
+        if so_far.ends(steps) || (single && !made.moved) {
             break;
         }
         single = !made.moved;
+        is_first = false;
     }
     tasks.append(&mut ended)?;
     Ok(tasks)
 }
 
-// How many shares so many tasks are dealt out to: as many as there are workers, but from the third on none that would be empty.
-fn share_count(workers: usize, tasks: usize) -> usize
+// How many shares so many tasks are dealt out to: as many as there are workers, but none that would be empty, unless it is the
+// second of the first round.
+fn share_count(workers: usize, tasks: usize, is_first: bool) -> usize
     requires { 0 < workers }
     ensures { 0 < result }
 {
-    if workers <= 2 || tasks >= workers {
-        return workers;
-    }
-    if tasks > 2 { tasks } else { 2 }
+    let least = if is_first { 2 } else { 1 };
+    let count = if tasks > least { tasks } else { least };
+    if count < workers { count } else { workers }
 }
 
-// What a round comes to: the tasks left, in the order of their paths, how many events there were, whether the clock of a task
-// exceeds the steps, and whether a share moved.
+// The events and clocks that a round may come to where this is the greatest clock: a slice more, but no more than the steps.
+fn round_limit(steps: u64, clock: u64) -> u64
+    ensures { result ≤ steps }
+{
+    let limit = clock.saturating_add(SLICE).saturating_add(clock / GROWTH);
+    if limit < steps { limit } else { steps }
+}
+
+// What a round comes to: the tasks left, in the order of their paths, how far the rounds have come, and whether a share moved.
 #[derive(Drop)]
 struct Round {
     tasks: Vec<TypedTask>,
-    events: u64,
-    late: bool,
+    so_far: Progress,
     moved: bool,
 }
 
@@ -109,6 +126,7 @@ fn one_round<R: Threads + Sync, G: Gate + Sync>(
     ended: &mut Vec<TypedTask>,
     count: usize,
     steps: u64,
+    so_far: Progress,
     gate: &G,
 ) -> Result<Round, AllocError>
     requires few { steps < 4294967295 }
@@ -118,46 +136,14 @@ fn one_round<R: Threads + Sync, G: Gate + Sync>(
     ensures { IfOk result (λ r. IsWholeRun code.now (r.tasks.items ++ ended.new.items)) }
 {
     let mut shares = deal(alloc, tasks, count)?;
-    let moved = round(rt, code, &mut shares, steps, gate)?;
-    let events = events_of(shares.as_slice());
-    let late = some_late(shares.as_slice(), steps);
+    let tries = tries_of(shares.as_slice(), so_far);
+    let limit = round_limit(steps, so_far.clock);
+    let moved = round_after(rt, code, &mut shares, limit, &tries, gate)?;
+    let so_far = so_far.after(shares.as_slice(), &tries);
     let tasks = gather(alloc, shares, ended)?;
     Ok(Round {
         tasks,
-        events,
-        late,
+        so_far,
         moved,
     })
-}
-
-// How many events all shares have, or the greatest number where they are more.
-fn events_of(shares: &[Share]) -> u64 {
-    let mut events: u64 = 0;
-    for share in shares {
-        events = events.saturating_add(share.events);
-    }
-    events
-}
-
-// Whether the clock of one of the tasks exceeds the steps.
-fn is_late(tasks: &[TypedTask], steps: u64) -> bool {
-    for task in tasks {
-        if task.clock > steps {
-            return true;
-        }
-    }
-    false
-}
-
-// Whether the clock of a task of one of the shares does.
-fn some_late(shares: &[Share], steps: u64) -> bool {
-    for share in shares {
-        if is_late(share.tasks.as_slice(), steps)
-            || is_late(share.forked.as_slice(), steps)
-            || is_late(share.ended.as_slice(), steps)
-        {
-            return true;
-        }
-    }
-    false
 }

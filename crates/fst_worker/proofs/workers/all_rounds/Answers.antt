@@ -3,7 +3,7 @@ use Rattle.fst_safety.specs.declared.tasks.TypedTask.{TypedTask}
 use Rattle.fst_worker.specs.Working.{AreAtWork}
 use Rattle.fst_worker.proofs.Working.{begins}
 use Rattle.fst_worker.proofs.workers.all_rounds.Goals as goal
-use Rattle.fst_worker.proofs.workers.all_rounds.Goals.{else-loop-test, then-loop-test+in_ok-made+then-made}
+use Rattle.fst_worker.proofs.workers.all_rounds.Goals.{else-loop-test, then-loop-test+in_ok-made+then-ends}
 
 pub loop-init : goal.loop-init
 loop-init g c = λ d.
@@ -26,7 +26,7 @@ returns g c = λ d.
     let last : AtWork c.loop-test.tasks c.loop-test.ended = elim c.loop-test.branch [
       | else-loop-test w ↦ subst (λ ts. AtWork ts c.loop-test.ended) (sym w.tasks-is)
           (subst (AtWork c.loop.tasks) (sym w.ended-is) (c.loop.invariant d))
-      | then-loop-test+in_ok-made+then-made w ↦ subst
+      | then-loop-test+in_ok-made+then-ends w ↦ subst
           (λ ts. AtWork ts c.loop-test.ended) (sym w.tasks-is)
           (subst (AtWork w.in_ok-made.made.tasks) (sym w.ended-is) (w.in_ok-made.ensures d))
     ] in
