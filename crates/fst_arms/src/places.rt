@@ -46,6 +46,8 @@ fn offered(label: &Label) -> Option<&Name>
         Label::Receive(_) => None,
         Label::Select(_) => None,
         Label::Offer(name) => Some(name),
+        Label::Close => None,
+        Label::Wait => None,
         Label::Var(_) => None,
     }
 }

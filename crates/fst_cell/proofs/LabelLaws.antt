@@ -61,7 +61,7 @@ pub received_within : (t h : Tree) (n : ℕ) → head t ≡ Some h → AreOffere
     (l : List ℕ) → receives (Some t) (event.Label l) ≡ true → length l ≤ n
 unfolding receives
 received_within t h n e w l r = w l ((labels_are_moves h (Offer l)).1
-    (moves (step h (Offer l)) (sym (ap is_some (head_step t h (Offer l) e)) ∙ r)))
+    (moves (step h (Offer l)) (sym (ap is_some (head_step t h (Offer l) refl e)) ∙ r)))
   where
     moves : (o : Option Tree) → is_some (option_map (with_head t) o) ≡ true → IsSome o
     moves None q = absurd (cc q)

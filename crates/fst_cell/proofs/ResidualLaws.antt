@@ -4,7 +4,7 @@ use Rattle.std.proofs.lemmas.Option.{same_Some}
 use Rattle.std.specs.Prelude.{is_some, option_map, option_and_then}
 use Rattle.fst_base.proofs.Options.{mapped_some}
 use Rattle.fst_types.specs.declared.label.Label.{Label}
-use Rattle.fst_types.specs.declared.label.Label.TheVariants.{Send, Receive, Select, Offer, Var}
+use Rattle.fst_types.specs.declared.label.Label.TheVariants.{Send, Receive, Select, Offer, Close, Wait, Var}
 use Rattle.fst_types.specs.declared.side.Side.{Side}
 use Rattle.fst_types.specs.declared.side.Side.TheVariants.{Left, Right}
 use Rattle.fst_types.specs.Tree.{Tree}
@@ -64,6 +64,8 @@ input_label (Send b) i = absurd i
 input_label (Receive b) i = refl
 input_label (Select l) i = absurd i
 input_label (Offer l) i = refl
+input_label Close i = absurd i
+input_label Wait i = refl
 input_label (Var k) i = absurd i
 
 -- an end that asks for an input doesn't send

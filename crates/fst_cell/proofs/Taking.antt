@@ -10,6 +10,7 @@ use Rattle.fst_cell.specs.declared.content.Offer.{Offer}
 use Rattle.fst_cell.specs.declared.content.Standing.{Standing}
 use Rattle.fst_cell.specs.declared.content.Content.{Content}
 use Rattle.fst_cell.specs.declared.content.Half.{Half}
+use Rattle.fst_cell.specs.declared.heads.Next.{Next}
 use Rattle.fst_cell.specs.declared.content.View.{View}
 use Rattle.fst_cell.specs.declared.content.View.TheVariants.{Only}
 use Rattle.fst_cell.specs.Stamps.{next_stamp}
@@ -106,7 +107,7 @@ pub longer_now : (v : Half) (n : ℕ) (x : Entry) (h : Half) → h ≡ longer v 
 longer_now v n x h e = e ∙ ap (λ (k : ℕ). longer v k x) (sym (ap (λ (y : Half). y.found) e))
 
 -- the end after an entry
-pub moved_on : (v w : Half) (x : Entry) (side : Side) (t u : Tree) (next : Option Tree) (k : Me (Option Content) View) →
+pub moved_on : (v w : Half) (x : Entry) (side : Side) (t u : Tree) (next : Option Next) (k : Me (Option Content) View) →
     k ≡ (Only w, []) → half_of k.0 ≡ longer v (half_of k.0).found x → v.side ≡ side
     → residual side v.declared v.history ≡ Some t → after_event t x.event ≡ Some u → Goes u None next → IsEnd k side u next
 moved_on v w x side t u next k e now own res step goes = record {
@@ -213,7 +214,7 @@ unchanged_word v c m k ask t e none =
     ∙ omega arith
 
 -- it is the end that it was
-pub still : (v w : Half) (side : Side) (t : Tree) (next : Option Tree) (m k : Me (Option Content) View) → half_of m.0 ≡ v →
+pub still : (v w : Half) (side : Side) (t : Tree) (next : Option Next) (m k : Me (Option Content) View) → half_of m.0 ≡ v →
     IsEnd m side t next → k ≡ (Only w, []) → half_of k.0 ≡ tried v (half_of k.0).found → IsEnd k side t next
 still v w side t next m k is old e now = record {
   idle = record { only = e ∙ ap (λ (y : Half). (Only y, [])) (sym (seat_of k w [] e)); free = ap (λ (y : Half). y.held) now };

@@ -13,6 +13,7 @@ use Rattle.fst_cell.specs.declared.content.Content.{Content}
 use Rattle.fst_cell.specs.declared.content.Half.{Half}
 use Rattle.fst_cell.specs.declared.content.View.{View}
 use Rattle.fst_cell.specs.declared.content.View.TheVariants.{Only}
+use Rattle.fst_cell.specs.declared.heads.Next.{Next}
 use Rattle.fst_cell.specs.Heads.{GoesOn}
 use Rattle.fst_cell.specs.Residuals.{residual}
 use Rattle.fst_cell.specs.Rule.{fresh, tried, took, turn_word, Sound, Fits}
@@ -34,7 +35,7 @@ pub record Idle (m : Me (Option Content) View) : Type 0 where
   pub free : (half_of m.0).held ≡ None
 
 -- what the offer leads to, where one waits
-abbrev pub Goes : Tree → Option Offer → Option Tree → Type 0
+abbrev pub Goes : Tree → Option Offer → Option Next → Type 0
 Goes t None None = Unit {0}
 Goes t (Some o) (Some next) = GoesOn t o.event next
 Goes t o u = ⊥
@@ -45,7 +46,7 @@ end_name e = record { channel = e.channel; side = e.knows.side }
 
 -- the fields of an end fit what it knows
 pub record IsEnd (m : Me (Option Content) View) (side : Side) (t : Tree)
-    (next : Option Tree) : Type 0 where
+    (next : Option Next) : Type 0 where
   pub idle : Idle m
   pub side_is : (half_of m.0).side ≡ side
   pub type_is : residual side (half_of m.0).declared (half_of m.0).history ≡ Some t

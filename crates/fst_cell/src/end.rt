@@ -1,3 +1,4 @@
+use crate::heads::Next;
 use crate::turns::Grip;
 use fst_types::{EndName, Ty};
 use std::alloc::Global;
@@ -10,8 +11,8 @@ pub struct End {
     pub(crate) grip: Grip,
     pub(crate) name: EndName,
     pub(crate) residual: Ty,
-    // What the part of the residual that moves first leads to by the offer that waits.
-    pub(crate) next: Option<Ty>,
+    // What the offer that waits leaves of the residual.
+    pub(crate) next: Option<Next>,
     pub(crate) heap: Global,
 }
 

@@ -3,29 +3,32 @@ ghost use Rattle.fst_lts.specs.Step.{step};
 ghost use Rattle.fst_cell.specs.Heads.{GoesOn, MovesOn};
 ghost use Rattle.fst_cell.specs.Residuals.{sends, receives};
 
-use crate::heads::head;
-use fst_lts::{receiving_label, sending_label, step};
+use crate::heads::{Next, head};
+use fst_lts::{is_end, receiving_label, sending_label, step};
 use fst_types::{Event, Label, MOST_OPEN, Ty};
 use std::alloc::{AllocError, Global};
 
-// What the part of a residual that moves first leads to by a label by which the residual moves.
+// What is left of a residual by a label by which it moves.
 #[tactic(auto, using(crate::proofs::HeadLaws::head_moves, crate::proofs::HeadLaws::head_stays))]
-fn next_by(alloc: Global, residual: &Ty, label: &Label) -> Result<Ty, AllocError>
+fn next_by(alloc: Global, residual: &Ty, label: &Label) -> Result<Next, AllocError>
     requires { IsSome (step residual.now label.now) }
     ensures { IfOk result (λ next. MovesOn residual.now label.now next) }
 {
+    if is_end(label) {
+        return Ok(Next::Ended);
+    }
     let Some(first) = head(residual, MOST_OPEN)? else {
         unreachable!()
     };
     let Some(next) = step(alloc, first, label)? else {
         unreachable!()
     };
-    Ok(next)
+    Ok(Next::Head(next))
 }
 
-// What it leads to by an event that is sent.
+// What is left of it by an event that is sent.
 #[tactic(auto, unfolding(crate::specs::Residuals::sends), using(crate::proofs::HeadLaws::sent_on))]
-pub(crate) fn next_sent(alloc: Global, residual: &Ty, event: &Event) -> Result<Ty, AllocError>
+pub(crate) fn next_sent(alloc: Global, residual: &Ty, event: &Event) -> Result<Next, AllocError>
     requires { sends (Some residual.now) event.now ≡ true }
     ensures { IfOk result (λ next. GoesOn residual.now event.now next) }
 {
@@ -33,9 +36,9 @@ pub(crate) fn next_sent(alloc: Global, residual: &Ty, event: &Event) -> Result<T
     next_by(alloc, residual, &label)
 }
 
-// What it leads to by an event that is received.
+// What is left of it by an event that is received.
 #[tactic(auto, unfolding(crate::specs::Residuals::receives), using(crate::proofs::HeadLaws::received_on))]
-fn next_received(alloc: Global, residual: &Ty, event: &Event) -> Result<Ty, AllocError>
+fn next_received(alloc: Global, residual: &Ty, event: &Event) -> Result<Next, AllocError>
     requires { receives (Some residual.now) event.now ≡ true }
     ensures { IfOk result (λ next. GoesOn residual.now event.now next) }
 {
@@ -48,7 +51,7 @@ pub(crate) fn room(
     alloc: Global,
     residual: &Ty,
     event: &Event,
-) -> Result<(Ty, Event, Event), AllocError>
+) -> Result<(Next, Event, Event), AllocError>
     requires { receives (Some residual.now) event.now ≡ true }
     ensures { IfOk result (λ r. GoesOn residual.now event.now r.0 × (r.1 ≡ event.now) ×
         (r.2 ≡ event.now)) }

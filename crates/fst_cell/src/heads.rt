@@ -1,11 +1,20 @@
 ghost use Rattle.std.specs.Prelude.{◌≡◌, IfErr, IfOk, option_map, true, false};
 ghost use Rattle.fst_lts.specs.Step.{terminated};
-ghost use Rattle.fst_cell.specs.Heads.{head, with_head};
+ghost use Rattle.fst_cell.specs.Heads.{head, left_of, with_head};
 
 use fst_lts::terminated;
 use fst_types::{Ty, TyForm};
 use std::alloc::AllocError;
 use std::mem;
+
+// What a label leaves of a type that moves by it.
+#[derive(Drop)]
+pub(crate) enum Next {
+    // The type with this one in the place of the part that moves first.
+    Head(Ty),
+    // Nothing, where the label ends a protocol: what stands behind is never reached.
+    Ended,
+}
 
 // The part of a type that moves first, where no more than so many levels lie around it.
 #[tactic(auto, using(crate::proofs::HeadLaws::head_first, crate::proofs::HeadLaws::head_second))]
@@ -16,6 +25,8 @@ pub(crate) fn head(t: &Ty, left: u32) -> Result<Option<&Ty>, AllocError>
         TyForm::Skip => Ok(None),
         TyForm::Send(_) => Ok(Some(t)),
         TyForm::Receive(_) => Ok(Some(t)),
+        TyForm::Close => Ok(Some(t)),
+        TyForm::Wait => Ok(Some(t)),
         TyForm::Select(_) => Ok(Some(t)),
         TyForm::Offer(_) => Ok(Some(t)),
         TyForm::Seq(first, second) => {
@@ -47,6 +58,8 @@ pub(crate) fn put_head(t: Ty, other: Ty) -> Result<Ty, Ty>
         TyForm::Skip => Err(other),
         TyForm::Send(_) => Ok(other),
         TyForm::Receive(_) => Ok(other),
+        TyForm::Close => Ok(other),
+        TyForm::Wait => Ok(other),
         TyForm::Select(_) => Ok(other),
         TyForm::Offer(_) => Ok(other),
         TyForm::Seq(first, second) => {
@@ -78,13 +91,16 @@ pub(crate) fn put_head(t: Ty, other: Ty) -> Result<Ty, Ty>
     }
 }
 
-// Goes on to the type with this one in the place of the part that moves first.
-pub(crate) fn go_on(t: &mut Ty, next: Ty)
+// Goes on to what is left of the type.
+pub(crate) fn go_on(t: &mut Ty, next: Next)
     requires { terminated t.old ≡ false }
-    ensures { t.new ≡ with_head t.old next }
+    ensures { t.new ≡ left_of t.old next }
 {
     let old = mem::replace(t, Ty { form: TyForm::Skip });
-    let Ok(new) = put_head(old, next) else {
+    let Next::Head(head) = next else {
+        return;
+    };
+    let Ok(new) = put_head(old, head) else {
         unreachable!()
     };
     *t = new;

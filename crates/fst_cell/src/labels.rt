@@ -32,6 +32,8 @@ pub(crate) fn longest_offered(t: &Ty) -> Option<usize>
         TyForm::Rec(body) => longest_offered(body),
         TyForm::Send(_) => Some(0),
         TyForm::Receive(_) => Some(0),
+        TyForm::Close => Some(0),
+        TyForm::Wait => Some(0),
         TyForm::Select(_) => Some(0),
         TyForm::Back(_) => Some(0),
         TyForm::Var(_) => Some(0),

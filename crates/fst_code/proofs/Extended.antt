@@ -2,7 +2,7 @@
 use Rattle.std.proofs.Common.{◌≡◌, ◌∙◌, ℕ, suc, Bool, true, false, List, [], ◌∷◌, ◌++◌, length, Some, inl, inr, sym, ap, subst, arith}
 use Rattle.std.specs.Prelude.{slice_get}
 use Rattle.fst_types.specs.declared.family.Family.{Family}
-use Rattle.fst_terms.specs.CoreTree.{CoreTree, local, global, int, bool, char, unit, pair, make, lambda, apply, let_in, split, if_else, case_of, operate, negate, new, send, receive, select, match_with, fork, seq, CoreList, no_terms, term, CoreArms, no_arms, arm}
+use Rattle.fst_terms.specs.CoreTree.{CoreTree, local, global, int, bool, char, unit, pair, make, lambda, apply, let_in, split, if_else, case_of, operate, negate, new, send, receive, close, wait, select, match_with, fork, seq, CoreList, no_terms, term, CoreArms, no_arms, arm}
 use Rattle.fst_terms.specs.declared.binder.Binder.{Binder}
 use Rattle.fst_terms.specs.InRange.{HasFields, maker_of, terms_length}
 use Rattle.fst_machine.specs.declared.code.Instr.{Instr}
@@ -177,6 +177,8 @@ mutual
   kept x i (new at t) p j h = kept_at x _ _ _ h
   kept x i (send at e f) p j h = (h.0, h.1, kept x i e _ h.0 h.2, kept x h.0 f p h.1 h.3, kept_at x _ _ _ h.4)
   kept x i (receive at e) p j h = (h.0, kept x i e p h.0 h.1, kept_at x _ _ _ h.2)
+  kept x i (close at e) p j h = (h.0, kept x i e p h.0 h.1, kept_at x _ _ _ h.2)
+  kept x i (wait at e) p j h = (h.0, kept x i e p h.0 h.1, kept_at x _ _ _ h.2)
   kept x i (select at l e) p j h = (h.0, kept x i e p h.0 h.1, kept_at x _ _ _ h.2)
   kept x i (match_with at e bs) p j h = (h.0, h.1, h.2, kept x i e _ h.0 h.3, kept_at x _ _ _ h.4, kept_matches x _ bs _ p j h.5)
   kept x i (fork at e) p j h = (

@@ -6,7 +6,7 @@ use Rattle.fst_types.specs.declared.kind.Use.{Use}
 use Rattle.fst_terms.specs.declared.binder.Binder.{Binder}
 use Rattle.fst_terms.specs.declared.term.Op.{Op}
 use Rattle.fst_terms.specs.CoreCount.{core_count}
-use Rattle.fst_terms.specs.CoreTree.{CoreTree, local, global, int, bool, char, unit, pair, make, lambda, apply, let_in, split, if_else, operate, negate, new, send, receive, select, fork, seq, CoreList, no_terms, term}
+use Rattle.fst_terms.specs.CoreTree.{CoreTree, local, global, int, bool, char, unit, pair, make, lambda, apply, let_in, split, if_else, operate, negate, new, send, receive, close, wait, select, fork, seq, CoreList, no_terms, term}
 use Rattle.fst_terms.specs.InRange.{Bounds, HasFields, maker_of, terms_length}
 use Rattle.fst_machine.specs.declared.code.Instr.{Instr}
 use Rattle.fst_machine.specs.declared.code.Instr.TheVariants as instr
@@ -115,6 +115,16 @@ negate_left c d ms at e h = one_left c d ms (negate at e) e instr.Not h (λ k. r
 pub receive_left : (c d : Compiled) (ms : List Bool) (at : ℕ) (e : CoreTree) → Pushes c d instr.Receive →
     Leaves c ms d ms (receive at e) e
 receive_left c d ms at e h = one_left c d ms (receive at e) e instr.Receive h (λ k. refl)
+    (λ b k r. record { range = r.range; whole = r.whole }) (omega arith) (λ b w a. (top d, w, a))
+
+pub close_left : (c d : Compiled) (ms : List Bool) (at : ℕ) (e : CoreTree) → Pushes c d instr.Close →
+    Leaves c ms d ms (close at e) e
+close_left c d ms at e h = one_left c d ms (close at e) e instr.Close h (λ k. refl)
+    (λ b k r. record { range = r.range; whole = r.whole }) (omega arith) (λ b w a. (top d, w, a))
+
+pub wait_left : (c d : Compiled) (ms : List Bool) (at : ℕ) (e : CoreTree) → Pushes c d instr.Wait →
+    Leaves c ms d ms (wait at e) e
+wait_left c d ms at e h = one_left c d ms (wait at e) e instr.Wait h (λ k. refl)
     (λ b k r. record { range = r.range; whole = r.whole }) (omega arith) (λ b w a. (top d, w, a))
 
 pub select_left : (c d : Compiled) (ms : List Bool) (at : ℕ) (l : List ℕ) (e : CoreTree) → Pushes c d (instr.Select l) →

@@ -4,7 +4,7 @@ use Rattle.std.specs.Prelude.{slice_get}
 use Rattle.std.proofs.lemmas.Option.{same_Some}
 use Rattle.fst_terms.specs.declared.core_term.Arm.{Arm}
 use Rattle.fst_terms.specs.CoreCount.{core_count, core_limit, cores_count}
-use Rattle.fst_terms.specs.CoreTree.{CoreTree, local, global, int, bool, char, unit, pair, make, lambda, apply, let_in, split, if_else, case_of, operate, negate, new, send, receive, select, match_with, fork, seq}
+use Rattle.fst_terms.specs.CoreTree.{CoreTree, local, global, int, bool, char, unit, pair, make, lambda, apply, let_in, split, if_else, case_of, operate, negate, new, send, receive, close, wait, select, match_with, fork, seq}
 use Rattle.fst_terms.specs.InRange.{Bounds, IsInRange, AreCasesInRange, AreMatchesInRange}
 use Rattle.fst_terms.specs.ModelCoreView.{core_arms_of, cores_of}
 use Rattle.fst_code.specs.Whole.{AreArmsWhole, AreReady, IsReady}
@@ -86,6 +86,8 @@ count_positive (negate at e) = omega arith
 count_positive (new at t) = omega arith
 count_positive (send at e f) = omega arith
 count_positive (receive at e) = omega arith
+count_positive (close at e) = omega arith
+count_positive (wait at e) = omega arith
 count_positive (select at l e) = omega arith
 count_positive (match_with at e bs) = omega arith
 count_positive (fork at e) = omega arith

@@ -1,7 +1,7 @@
 -- Terms whose cases are whole: the arms of each `case` are the constructors of one data type, each once.
 use Rattle.std.specs.Prelude.{◌≡◌, ℕ, ⊤, List, [], ◌∷◌, map, slice_get, Some}
 use Rattle.fst_types.specs.declared.family.Family.{Family}
-use Rattle.fst_terms.specs.CoreTree.{CoreTree, local, global, int, bool, char, unit, pair, make, lambda, apply, let_in, split, if_else, case_of, operate, negate, new, send, receive, select, match_with, fork, seq, CoreList, no_terms, term, CoreArms, no_arms, arm}
+use Rattle.fst_terms.specs.CoreTree.{CoreTree, local, global, int, bool, char, unit, pair, make, lambda, apply, let_in, split, if_else, case_of, operate, negate, new, send, receive, close, wait, select, match_with, fork, seq, CoreList, no_terms, term, CoreArms, no_arms, arm}
 use Rattle.fst_terms.specs.InRange.{Bounds, IsInRange, AreInRange}
 use Rattle.fst_arms.specs.Arms.{AreEachOnce, arm_labels}
 
@@ -34,6 +34,8 @@ abbrev mutual
   AreCasesWhole fs (new at t) = ⊤
   AreCasesWhole fs (send at e f) = AreCasesWhole fs e × AreCasesWhole fs f
   AreCasesWhole fs (receive at e) = AreCasesWhole fs e
+  AreCasesWhole fs (close at e) = AreCasesWhole fs e
+  AreCasesWhole fs (wait at e) = AreCasesWhole fs e
   AreCasesWhole fs (select at l e) = AreCasesWhole fs e
   AreCasesWhole fs (match_with at e bs) = AreCasesWhole fs e × AreArmsWhole fs bs
   AreCasesWhole fs (fork at e) = AreCasesWhole fs e

@@ -123,6 +123,14 @@ fn write_behind<'a>(
             push(out, Instr::Receive)?;
             Ok(Some(channel))
         }
+        Form::Close(channel) => {
+            push(out, Instr::Close)?;
+            Ok(Some(channel))
+        }
+        Form::Wait(channel) => {
+            push(out, Instr::Wait)?;
+            Ok(Some(channel))
+        }
         Form::Select(label, channel) => {
             push(out, Instr::Select(label.copy(given.alloc)?))?;
             Ok(Some(channel))

@@ -9,7 +9,7 @@ use Rattle.fst_types.specs.declared.family.Family.{Family}
 use Rattle.fst_types.specs.declared.family.Maker.{Maker}
 use Rattle.fst_types.specs.declared.kind.Kind.{Kind}
 use Rattle.fst_kinds.specs.WellFormed.{IsInstantiation}
-use Rattle.fst_terms.specs.CoreTree.{CoreTree, local, global, int, bool, char, unit, pair, make, lambda, apply, let_in, split, if_else, case_of, operate, negate, new, send, receive, select, match_with, fork, seq, CoreList, no_terms, term, CoreArms, no_arms, arm}
+use Rattle.fst_terms.specs.CoreTree.{CoreTree, local, global, int, bool, char, unit, pair, make, lambda, apply, let_in, split, if_else, case_of, operate, negate, new, send, receive, close, wait, select, match_with, fork, seq, CoreList, no_terms, term, CoreArms, no_arms, arm}
 use Rattle.fst_terms.specs.declared.core_module.Module.{Module}
 use Rattle.fst_terms.specs.declared.global.GlobalEntry.{GlobalEntry}
 use Rattle.fst_arms.specs.Arms.{AreEachOnce, arm_labels}
@@ -242,6 +242,8 @@ module _ (fs gs : List Family) (xs ys : List GlobalEntry) (families : map family
       row_same (send at a b) g u c (d, l, k, t, x, p, q, e) =
           (d, l, k, t, both _ _ _ _ (λ v. over _ _ (row_same a g) v d) (λ v. over _ _ (row_same b g) v l) u x, p, q, e)
       row_same (receive at a) g u c (d, k, t, x, p, e) = (d, k, t, over _ _ (row_same a g) u d x, p, e)
+      row_same (close at a) g u c (d, t, x, p, e) = (d, t, over _ _ (row_same a g) u d x, p, e)
+      row_same (wait at a) g u c (d, t, x, p, e) = (d, t, over _ _ (row_same a g) u d x, p, e)
       row_same (select at l a) g u c (d, t, x, p, e) = (d, t, over _ _ (row_same a g) u d x, p, e)
       row_same (match_with at a bs) g u c (d, ls, t, ds, x, i, l, e) =
           (d, ls, t, ds, both _ _ _ _ (λ v. over _ _ (row_same a g) v d) (λ v. arms_same _ _ same_rest bs g v t ds) u x, i, l, e)

@@ -2,14 +2,14 @@
 use Rattle.std.proofs.Common.{◌≡◌, ℕ, zero, suc, not, List, [], ◌∷◌, refl, ap}
 use Rattle.std.specs.Str.{bytes_eq}
 use Rattle.fst_types.specs.declared.family.Family.{Family}
-use Rattle.fst_terms.specs.CoreTree.{CoreTree, local, global, int, bool, char, unit, pair, make, lambda, apply, let_in, split, if_else, case_of, operate, negate, new, send, receive, select, match_with, fork, seq, CoreList, no_terms, term, CoreArms, no_arms, arm}
+use Rattle.fst_terms.specs.CoreTree.{CoreTree, local, global, int, bool, char, unit, pair, make, lambda, apply, let_in, split, if_else, case_of, operate, negate, new, send, receive, close, wait, select, match_with, fork, seq, CoreList, no_terms, term, CoreArms, no_arms, arm}
 use Rattle.fst_types.specs.declared.event.Event.TheVariants as event
 use Rattle.fst_machine.specs.declared.request.Answer.{Answer}
 use Rattle.fst_machine.specs.declared.request.Answer.TheVariants.{Go, Made, Forked, Sent, Got}
 use Rattle.fst_machine.specs.Free.{free, free_in, free_below, outside, outside_all}
 use Rattle.fst_machine.specs.Values as value
 use Rattle.fst_machine.specs.Values.{Value, Values, no_values, Environment, lookup, enter, keep, enter_all, turned_onto, operated, sent}
-use Rattle.fst_machine.specs.Machine.{Frame, at_function, at_argument, at_first, at_second, at_field, at_let, at_split, at_if, at_case, at_left, at_right, at_not, at_value, at_target, at_receive, at_select, at_match, at_seq, State, Pause, stuck, calls, uses, makes, forks, puts, gets, matches, ended, on, on_function, on_pair, on_made, on_end, chosen, name_of, in_either, eval, eval_all, eval_arm, resume, pause, after}
+use Rattle.fst_machine.specs.Machine.{Frame, at_function, at_argument, at_first, at_second, at_field, at_let, at_split, at_if, at_case, at_left, at_right, at_not, at_value, at_target, at_receive, at_close, at_wait, at_select, at_match, at_seq, State, Pause, stuck, calls, uses, makes, forks, puts, gets, closes, waits, matches, ended, on, on_function, on_pair, on_made, on_end, chosen, name_of, in_either, eval, eval_all, eval_arm, resume, pause, after}
 
 module _ (m n : List Family) (names : (f o : ℕ) → name_of m f o ≡ name_of n f o) where
   mutual
@@ -53,6 +53,8 @@ module _ (m n : List Family) (names : (f o : ℕ) → name_of m f o ≡ name_of 
         eval_same e (keep (free e) env) (at_value f (keep (free f) env) ∷ fs)
         (λ i v. eval_same f (keep (free f) env) (at_target v ∷ fs) (λ j w. on_end w (λ x. on (sent v) (λ ev. puts x ev fs))) i)
     eval_same (receive at e) env fs h = eval_same e env (at_receive ∷ fs) (λ i v. on_end v (λ x. gets x fs))
+    eval_same (close at e) env fs h = eval_same e env (at_close ∷ fs) (λ i v. on_end v (λ x. closes x fs))
+    eval_same (wait at e) env fs h = eval_same e env (at_wait ∷ fs) (λ i v. on_end v (λ x. waits x fs))
     eval_same (select at l e) env fs h = eval_same e env (at_select l ∷ fs) (λ i v. on_end v (λ x. puts x (event.Label l) fs))
     eval_same (match_with at e bs) env fs h =
         eval_same e (keep (free e) env) (at_match bs (keep (free_below bs) env) ∷ fs)
@@ -99,6 +101,8 @@ module _ (m n : List Family) (names : (f o : ℕ) → name_of m f o ≡ name_of 
       (λ i w. on_end w (λ x. on (sent v) (λ ev. puts x ev fs)))
   resume_same (at_target v ∷ fs) w = refl
   resume_same (at_receive ∷ fs) v = refl
+  resume_same (at_close ∷ fs) v = refl
+  resume_same (at_wait ∷ fs) v = refl
   resume_same (at_select l ∷ fs) v = refl
   resume_same (at_match bs env ∷ fs) v = refl
   resume_same (at_seq f env ∷ fs) v = eval_same f env fs (λ i w. resume_same fs w i)
@@ -142,6 +146,16 @@ after_same fs gs bs cs h (gets x ks) (Made c) = refl
 after_same fs gs bs cs h (gets x ks) Forked = refl
 after_same fs gs bs cs h (gets x ks) Sent = refl
 after_same fs gs bs cs h (gets x ks) (Got ev) = refl
+after_same fs gs bs cs h (closes x ks) Go = refl
+after_same fs gs bs cs h (closes x ks) (Made c) = refl
+after_same fs gs bs cs h (closes x ks) Forked = refl
+after_same fs gs bs cs h (closes x ks) Sent = refl
+after_same fs gs bs cs h (closes x ks) (Got ev) = refl
+after_same fs gs bs cs h (waits x ks) Go = refl
+after_same fs gs bs cs h (waits x ks) (Made c) = refl
+after_same fs gs bs cs h (waits x ks) Forked = refl
+after_same fs gs bs cs h (waits x ks) Sent = refl
+after_same fs gs bs cs h (waits x ks) (Got ev) = refl
 after_same fs gs bs cs h (matches x as' env ks) Go = refl
 after_same fs gs bs cs h (matches x as' env ks) (Made c) = refl
 after_same fs gs bs cs h (matches x as' env ks) Forked = refl
@@ -151,4 +165,5 @@ after_same fs gs bs cs h (matches x as' env ks) (Got (event.Bool b)) = refl
 after_same fs gs bs cs h (matches x as' env ks) (Got (event.Char k)) = refl
 after_same fs gs bs cs h (matches x as' env ks) (Got event.Unit) = refl
 after_same fs gs bs cs h (matches x as' env ks) (Got (event.Label l)) = refl
+after_same fs gs bs cs h (matches x as' env ks) (Got event.Closed) = refl
 after_same fs gs bs cs h (ended v) a = refl

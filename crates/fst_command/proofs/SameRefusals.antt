@@ -8,7 +8,7 @@ use Rattle.fst_types.specs.declared.base.Base.TheVariants.{Int, Bool as Truth}
 use Rattle.fst_types.specs.declared.family.Family.{Family}
 use Rattle.fst_types.specs.declared.kind.Kind.{Kind}
 use Rattle.fst_kinds.specs.WellFormed.{IsInstantiation}
-use Rattle.fst_terms.specs.CoreTree.{CoreTree, local, global, int, bool, char, unit, pair, make, lambda, apply, let_in, split, if_else, case_of, operate, negate, new, send, receive, select, match_with, fork, seq, CoreList, no_terms, term, CoreArms, no_arms, arm}
+use Rattle.fst_terms.specs.CoreTree.{CoreTree, local, global, int, bool, char, unit, pair, make, lambda, apply, let_in, split, if_else, case_of, operate, negate, new, send, receive, close, wait, select, match_with, fork, seq, CoreList, no_terms, term, CoreArms, no_arms, arm}
 use Rattle.fst_terms.specs.declared.binder.Binder.{Binder}
 use Rattle.fst_terms.specs.declared.core_module.Module.{Module}
 use Rattle.fst_terms.specs.declared.global.GlobalEntry.{GlobalEntry}
@@ -223,6 +223,8 @@ module _ (fs gs : List Family) (xs ys : List GlobalEntry) (families : map family
     shows_same (send at a b) s f h = first_same a s _ _ _ _ (shows_same a s f)
         (λ r t. first_same b r _ _ _ _ (shows_same b r f) (λ z u x. x)) h
     shows_same (receive at a) s f h = first_same a s _ _ _ _ (shows_same a s f) (λ r t x. x) h
+    shows_same (close at a) s f h = first_same a s _ _ _ _ (shows_same a s f) (λ r t x. x) h
+    shows_same (wait at a) s f h = first_same a s _ _ _ _ (shows_same a s f) (λ r t x. x) h
     shows_same (select at l a) s f h = first_same a s _ _ _ _ (shows_same a s f) (λ r t x. x) h
     shows_same (match_with at a bs) s f h = first_same a s _ _ _ _ (shows_same a s f) (λ r t x. elim x [
       | inl y ↦ inl y

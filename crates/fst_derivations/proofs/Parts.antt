@@ -2,7 +2,7 @@
 use Rattle.std.specs.Prelude.{option_map, if◌then◌else◌}
 use Rattle.std.proofs.Common.{◌≡◌, ◌∙◌, ℕ, Bool, true, false, List, [], ◌∷◌, Option, Some, None, refl, sym, ap, subst}
 use Rattle.std.proofs.lemmas.Option.{same_Some}
-use Rattle.fst_types.specs.Tree.{Tree, skip, send, receive, select, offer, seq, rec, back, var, plain, arrow, pair, named, Branches, none, branch}
+use Rattle.fst_types.specs.Tree.{Tree, skip, send, receive, close, wait, select, offer, seq, rec, back, var, plain, arrow, pair, named, Branches, none, branch}
 use Rattle.fst_types.specs.Order.{same_label}
 use Rattle.fst_types.specs.Substitution.{substitute}
 use Rattle.fst_types.specs.declared.label.Label.{Label}
@@ -10,11 +10,11 @@ use Rattle.fst_types.specs.declared.base.Base.{Base}
 use Rattle.fst_types.specs.declared.kind.Kind.{Kind}
 use Rattle.fst_types.specs.declared.kind.Use.{Use}
 use Rattle.fst_types.specs.declared.kind.Use.TheVariants.{Many}
-use Rattle.fst_types.specs.declared.label.Label.TheVariants.{Send, Receive, Select, Offer, Var}
+use Rattle.fst_types.specs.declared.label.Label.TheVariants.{Send, Receive, Select, Offer, Close, Wait, Var}
 use Rattle.fst_kinds.specs.Kinds.{HasKind, top}
 use Rattle.fst_kinds.proofs.Laws.{one_kind}
 use Rattle.fst_types.proofs.Laws.{same_label-same}
-use Rattle.fst_lts.specs.Step.{terminated, branch_at, step_in, step}
+use Rattle.fst_lts.specs.Step.{terminated, branch_at, followed, step_in, step}
 use Rattle.fst_base.proofs.Options.{mapped_some}
 use Rattle.fst_terms.specs.declared.binder.Binder.{Binder}
 use Rattle.fst_context.specs.Scope.{Variable, is_once}
@@ -95,7 +95,7 @@ no_branch make apart (branch l s bs) b t e = pick (no_branch make apart bs b t) 
     pick later true same e = apart l b (same_label-same (Receive b) (make l) same)
     pick later false same e = later e
 
--- a label by which a message moves is its own
+-- a message, an end and a variable move by their own label alone
 own_label : (a l : Label) (x t : Tree) → (if same_label a l then Some x else None) ≡ Some t → a ≡ l
 own_label a l x t e = pick (same_label a l) refl e
   where
@@ -112,6 +112,8 @@ one_received env (receive x) b b' t t' e f =
     let right : Receive b' ≡ Receive x = own_label (Receive b') (Receive x) skip t' f in
     let same : Receive b ≡ Receive b' = left ∙ sym right in
     cc
+one_received env close b b' t t' e f = absurd (cc (own_label (Receive b) Close skip t e))
+one_received env wait b b' t t' e f = absurd (cc (own_label (Receive b) Wait skip t e))
 one_received env (select bs) b b' t t' e f =
     let m = mapped_some (substitute env) (branch_at Select bs (Receive b)) t e in
     absurd (no_branch Select (λ l c h. cc h) bs b m.0 m.1)
@@ -122,14 +124,16 @@ one_received env (seq s r) b b' t t' e f = pick (one_received env s) (one_receiv
   where
     pick : ((c c' : Base) (z z' : Tree) → step_in env s (Receive c) ≡ Some z → step_in env s (Receive c') ≡ Some z' → c ≡ c') →
         (step_in env r (Receive b) ≡ Some t → step_in env r (Receive b') ≡ Some t' → b ≡ b') → (c : Bool) →
-        (if c then step_in env r (Receive b) else option_map (λ z. seq z (substitute env r)) (step_in env s (Receive b)))
+        (if c then step_in env r (Receive b) else option_map (followed (Receive b) (substitute env r))
+        (step_in env s (Receive b)))
         ≡ Some t →
-        (if c then step_in env r (Receive b') else option_map (λ z. seq z (substitute env r)) (step_in env s (Receive b'))) ≡ Some
+        (if c then step_in env r (Receive b') else option_map (followed (Receive b') (substitute env r))
+        (step_in env s (Receive b'))) ≡ Some
         t' → b ≡ b'
     pick front next true e f = next e f
     pick front next false e f =
-        let m = mapped_some (λ z. seq z (substitute env r)) (step_in env s (Receive b)) t e in
-        let n = mapped_some (λ z. seq z (substitute env r)) (step_in env s (Receive b')) t' f in
+        let m = mapped_some (followed (Receive b) (substitute env r)) (step_in env s (Receive b)) t e in
+        let n = mapped_some (followed (Receive b') (substitute env r)) (step_in env s (Receive b')) t' f in
         front b b' m.0 n.0 m.1 n.1
 one_received env (rec s) b b' t t' e f = one_received (Some (substitute env (rec s)) ∷ env) s b b' t t' e f
 one_received env (back k) b b' t t' e f = absurd (cc e)

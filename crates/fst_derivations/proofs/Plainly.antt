@@ -4,8 +4,8 @@ use Rattle.fst_base.proofs.Alls.{all_any}
 use Rattle.fst_types.specs.Tree as type
 use Rattle.fst_types.specs.Tree.{Tree, plain, arrow, named}
 use Rattle.fst_types.specs.declared.base.Base.TheVariants.{Bool as Truth, Unit as Nothing}
-use Rattle.fst_types.specs.declared.label.Label.TheVariants.{Send, Receive, Select, Offer}
-use Rattle.fst_terms.specs.CoreTree.{CoreTree, local, global, int, bool, char, unit, pair, make, lambda, apply, let_in, split, if_else, case_of, operate, negate, new, send, receive, select, match_with, fork, seq, CoreList, no_terms, term, CoreArms, no_arms, arm}
+use Rattle.fst_types.specs.declared.label.Label.TheVariants.{Send, Receive, Select, Offer, Close, Wait}
+use Rattle.fst_terms.specs.CoreTree.{CoreTree, local, global, int, bool, char, unit, pair, make, lambda, apply, let_in, split, if_else, case_of, operate, negate, new, send, receive, close, wait, select, match_with, fork, seq, CoreList, no_terms, term, CoreArms, no_arms, arm}
 use Rattle.fst_context.specs.Scope.{Variable, is_once}
 use Rattle.fst_context.specs.Vars.{Vars, under, single}
 use Rattle.fst_derivations.specs.Deriv.{Deriv, row, convert, type_of, Derivs, none, part, one, two, three}
@@ -363,6 +363,18 @@ module _ (m : Surroundings) (E : Tree → Tree → Type 0) (L : IsTypeEquality m
         made (receive at a) h u c (row (type.pair (plain k) z.0) (one ra.derivation)) _ _ e
         (ra.derivation, k, z.0, own a h u (type_of da) ra, z.1, refl)
         (L.pair_of (plain k) z.0 (plain k) t (L.itself (plain k) (plain_formed m.vars k)) z.2)
+    plainly (close at a) g h q u c f (da, t, x, w, e) =
+        let ra = part_of a g h u da (plainly a g h q) x in
+        let z = L.steps (type_of ra.derivation) (type_of da) t Close (λ j y. cc y) ra.equal w in
+        made (close at a) h u c (row (plain Nothing) (one ra.derivation)) _ _ e
+        (ra.derivation, z.0, own a h u (type_of da) ra, z.1, refl)
+        (subst (λ z. E z z) (ap type_of e) (L.itself (type_of c) f))
+    plainly (wait at a) g h q u c f (da, t, x, w, e) =
+        let ra = part_of a g h u da (plainly a g h q) x in
+        let z = L.steps (type_of ra.derivation) (type_of da) t Wait (λ j y. cc y) ra.equal w in
+        made (wait at a) h u c (row (plain Nothing) (one ra.derivation)) _ _ e
+        (ra.derivation, z.0, own a h u (type_of da) ra, z.1, refl)
+        (subst (λ z. E z z) (ap type_of e) (L.itself (type_of c) f))
     plainly (select at l a) g h q u c f (da, t, x, w, e) =
         let ra = part_of a g h u da (plainly a g h q) x in
         let z = L.steps (type_of ra.derivation) (type_of da) t (Select l) (λ j y. cc y) ra.equal w in

@@ -8,7 +8,7 @@ use Rattle.fst_types.specs.declared.family.Maker.{Maker}
 use Rattle.fst_types.specs.declared.kind.Kind.{Kind}
 use Rattle.fst_types.specs.declared.label.Label.TheVariants.{Send, Receive, Select}
 use Rattle.fst_lts.specs.Dual.{dual}
-use Rattle.fst_terms.specs.CoreTree.{CoreTree, local, global, int, bool, char, unit, pair, make, lambda, apply, let_in, split, if_else, case_of, operate, negate, new, send, receive, select, match_with, fork, seq, CoreArms, no_arms, arm}
+use Rattle.fst_terms.specs.CoreTree.{CoreTree, local, global, int, bool, char, unit, pair, make, lambda, apply, let_in, split, if_else, case_of, operate, negate, new, send, receive, close, wait, select, match_with, fork, seq, CoreArms, no_arms, arm}
 use Rattle.fst_terms.specs.InRange.{maker_of}
 use Rattle.fst_terms.specs.declared.term.Op.{Op}
 use Rattle.fst_terms.specs.declared.term.Op.TheVariants.{Add, Subtract, Multiply, Equal, Unequal, Less, AtMost, Greater, AtLeast, And, Or}
@@ -96,6 +96,8 @@ module _ (m : Surroundings) (E : Tree → Tree → Type 0) (types : AllHaveText 
     text (receive at a) g h u c (d, k, t, x, w, e) =
         typed N _ _ c e (pair_text N (plain k) t (plain_text N k)
         (step_text N (type_of d) (Receive k) t (over m.vars N _ (text a g h) u d x) w))
+    text (close at a) g h u c (d, t, x, w, e) = typed N _ _ c e (plain_text N Nothing)
+    text (wait at a) g h u c (d, t, x, w, e) = typed N _ _ c e (plain_text N Nothing)
     text (select at l a) g h u c (d, t, x, w, e) =
         typed N _ _ c e (step_text N (type_of d) (Select l) t (over m.vars N _ (text a g h) u d x) w)
     text (match_with at a bs) g h u c (d, ls, t, ds, x, i, l, e) =

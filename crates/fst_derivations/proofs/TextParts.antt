@@ -4,7 +4,7 @@ use Rattle.std.proofs.Common.{◌≡◌, ℕ, zero, suc, Bool, true, false, List
 use Rattle.std.proofs.lemmas.Option.{slice_get_within}
 use Rattle.std.specs.List.{AllByRecursion}
 use Rattle.fst_base.proofs.Options.{mapped_some}
-use Rattle.fst_types.specs.Tree.{Tree, skip, send, receive, select, offer, seq, rec, back, var, plain, arrow, pair, named, Branches, none, branch}
+use Rattle.fst_types.specs.Tree.{Tree, skip, send, receive, close, wait, select, offer, seq, rec, back, var, plain, arrow, pair, named, Branches, none, branch}
 use Rattle.fst_types.specs.Instance.{instantiated, instantiated_all, ArgumentsHave}
 use Rattle.fst_types.specs.Named.{IsNamedWithin, AllNamedWithin}
 use Rattle.fst_types.specs.Order.{same_label}
@@ -15,11 +15,11 @@ use Rattle.fst_types.specs.declared.family.Family.{Family}
 use Rattle.fst_types.specs.declared.kind.Kind.{Kind}
 use Rattle.fst_types.specs.declared.kind.Use.{Use}
 use Rattle.fst_types.specs.declared.label.Label.{Label}
-use Rattle.fst_types.specs.declared.label.Label.TheVariants.{Send, Receive, Select, Offer, Var}
+use Rattle.fst_types.specs.declared.label.Label.TheVariants.{Send, Receive, Select, Offer, Close, Wait, Var}
 use Rattle.fst_types.proofs.Laws.{variable_has, substitute_scoped, instantiated_scoped}
 use Rattle.fst_lts.specs.Dual.{dual, dual_all}
 use Rattle.fst_lts.proofs.Laws.{dual_scoped}
-use Rattle.fst_lts.specs.Step.{terminated, branch_at, step_in, step}
+use Rattle.fst_lts.specs.Step.{terminated, branch_at, is_end, followed, step_in, step}
 use Rattle.fst_context.specs.Scope.{Variable}
 use Rattle.fst_derivations.specs.Parts.{AreAt, AreVariables, enter_all}
 use Rattle.fst_derivations.specs.Rules.{Surroundings, Binding, fields, rest, Binds}
@@ -48,6 +48,8 @@ mutual
   instantiated_named n args skip p h = tt
   instantiated_named n args (send b) p h = tt
   instantiated_named n args (receive b) p h = tt
+  instantiated_named n args close p h = tt
+  instantiated_named n args wait p h = tt
   instantiated_named n args (select bs) p h = instantiated_all_named n args bs p h
   instantiated_named n args (offer bs) p h = instantiated_all_named n args bs p h
   instantiated_named n args (seq s r) p h = (instantiated_named n args s p h.0, instantiated_named n args r p h.1)
@@ -88,6 +90,8 @@ mutual
   dual_named n skip h = tt
   dual_named n (send b) h = tt
   dual_named n (receive b) h = tt
+  dual_named n close h = tt
+  dual_named n wait h = tt
   dual_named n (select bs) h = dual_all_named n bs h
   dual_named n (offer bs) h = dual_all_named n bs h
   dual_named n (seq s r) h = (dual_named n s h.0, dual_named n r h.1)
@@ -115,6 +119,8 @@ mutual
   substitute_named n env skip p h = tt
   substitute_named n env (send b) p h = tt
   substitute_named n env (receive b) p h = tt
+  substitute_named n env close p h = tt
+  substitute_named n env wait p h = tt
   substitute_named n env (select bs) p h = substitute_all_named n env bs p h
   substitute_named n env (offer bs) p h = substitute_all_named n env bs p h
   substitute_named n env (seq s r) p h = (substitute_named n env s p h.0, substitute_named n env r p h.1)
@@ -151,29 +157,37 @@ branch_text n env make (branch l s bs) a t p h i e = pick (branch_text n env mak
     pick f true e = let same : substitute env s ≡ t = cc in subst (HasText n) same (substitute_text n env s p h.0 i.0)
     pick f false e = f e
 
--- what is left of a message, or of a variable, is nothing
+-- what is left of a message, of an end, or of a variable, is nothing
 skip_text : (n : ℕ) (c : Bool) (t : Tree) → (if c then Some skip else None) ≡ Some t → HasText n t
 skip_text n true t e = let same : skip ≡ t = cc in subst (HasText n) same (record { scoped = tt; named = tt })
 skip_text n false t e = absurd (cc e)
+
+-- what is left after a label, with what stands behind
+followed_text : (n : ℕ) (a : Label) (r t : Tree) → HasText n r → HasText n t → HasText n (followed a r t)
+followed_text n a r t h i = pick (is_end a)
+  where
+    pick : (c : Bool) → HasText n (if c then skip else seq t r)
+    pick true = record { scoped = tt; named = tt }
+    pick false = record { scoped = (i.scoped, h.scoped); named = (i.named, h.named) }
 
 step_in_text : (n : ℕ) (env : List (Option Tree)) (s : Tree) (a : Label) (t : Tree) → AreClosedTexts n env →
     IsScoped (length env) s → IsNamedWithin n s → step_in env s a ≡ Some t → HasText n t
 step_in_text n env skip a t p h i e = absurd (cc e)
 step_in_text n env (send b) a t p h i e = skip_text n (same_label a (Send b)) t e
 step_in_text n env (receive b) a t p h i e = skip_text n (same_label a (Receive b)) t e
+step_in_text n env close a t p h i e = skip_text n (same_label a Close) t e
+step_in_text n env wait a t p h i e = skip_text n (same_label a Wait) t e
 step_in_text n env (select bs) a t p h i e = branch_text n env Select bs a t p h i e
 step_in_text n env (offer bs) a t p h i e = branch_text n env Offer bs a t p h i e
 step_in_text n env (seq s r) a t p h i e = pick
     (λ x. step_in_text n env s a x p h.0 i.0) (step_in_text n env r a t p h.1 i.1) (terminated s) e
   where
     pick : ((x : Tree) → step_in env s a ≡ Some x → HasText n x) → (step_in env r a ≡ Some t → HasText n t) → (c : Bool) →
-        (if c then step_in env r a else option_map (λ x. seq x (substitute env r)) (step_in env s a)) ≡ Some t → HasText n t
+        (if c then step_in env r a else option_map (followed a (substitute env r)) (step_in env s a)) ≡ Some t → HasText n t
     pick front next true e = next e
     pick front next false e =
-        let m = mapped_some (λ x. seq x (substitute env r)) (step_in env s a) t e in
-        let first = front m.0 m.1 in
-        let later = substitute_text n env r p h.1 i.1 in
-        subst (HasText n) m.2 (record { scoped = (first.scoped, later.scoped); named = (first.named, later.named) })
+        let m = mapped_some (followed a (substitute env r)) (step_in env s a) t e in
+        subst (HasText n) m.2 (followed_text n a (substitute env r) m.0 (substitute_text n env r p h.1 i.1) (front m.0 m.1))
 step_in_text n env (rec s) a t p h i e =
     let whole = substitute_text n env (rec s) p h i in
     step_in_text n (Some (substitute env (rec s)) ∷ env) s a t

@@ -9,7 +9,7 @@ use Rattle.fst_types.specs.declared.kind.Kind.{Kind}
 use Rattle.fst_types.specs.declared.label.Label.TheVariants.{Send, Receive, Select}
 use Rattle.fst_lts.specs.Step.{step}
 use Rattle.fst_lts.specs.Dual.{dual}
-use Rattle.fst_terms.specs.CoreTree.{CoreTree, local, global, int, bool, char, unit, pair, make, lambda, apply, let_in, split, if_else, case_of, operate, negate, new, send, receive, select, match_with, fork, seq, CoreList, no_terms, term, CoreArms, no_arms, arm}
+use Rattle.fst_terms.specs.CoreTree.{CoreTree, local, global, int, bool, char, unit, pair, make, lambda, apply, let_in, split, if_else, case_of, operate, negate, new, send, receive, close, wait, select, match_with, fork, seq, CoreList, no_terms, term, CoreArms, no_arms, arm}
 use Rattle.fst_terms.specs.declared.term.Op.{Op}
 use Rattle.fst_terms.specs.declared.term.Op.TheVariants.{Add, Subtract, Multiply, Equal, Unequal, Less, AtMost, Greater, AtLeast, And, Or}
 use Rattle.fst_context.specs.Scope.{Variable, is_once}
@@ -185,6 +185,12 @@ module _ (m : Surroundings) (E : Tree → Tree → Type 0) where
         let ek : k ≡ k' = one_step (type_of pa) (type_of qa) k k' t t' fa.0 w w' in
         let same : t ≡ t' = same_Some t t' (sym w ∙ (λ i. step (fa.0 i) (Receive (ek i))) ∙ w') in
         (typed _ _ _ _ c d e h (λ i. type.pair (plain (ek i)) (same i)), fa.1)
+    unique (close at a) g u v c d (pa, t, x, w, e) (qa, t', y, w', h) =
+        let fa = over m.vars _ _ (unique a g) _ _ pa qa x y in
+        (typed (plain Nothing) (plain Nothing) _ _ c d e h refl, fa.1)
+    unique (wait at a) g u v c d (pa, t, x, w, e) (qa, t', y, w', h) =
+        let fa = over m.vars _ _ (unique a g) _ _ pa qa x y in
+        (typed (plain Nothing) (plain Nothing) _ _ c d e h refl, fa.1)
     unique (select at l a) g u v c d (pa, t, x, w, e) (qa, t', y, w', h) =
         let fa = over m.vars _ _ (unique a g) _ _ pa qa x y in
         let same : t ≡ t' = same_Some t t' (sym w ∙ ap (λ z. step z (Select l)) fa.0 ∙ w') in

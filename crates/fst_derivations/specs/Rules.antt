@@ -11,11 +11,11 @@ use Rattle.fst_types.specs.declared.family.Maker.{Maker}
 use Rattle.fst_types.specs.declared.kind.Kind.{Kind}
 use Rattle.fst_types.specs.declared.kind.Use.{Use}
 use Rattle.fst_types.specs.declared.kind.Use.TheVariants.{Many}
-use Rattle.fst_types.specs.declared.label.Label.TheVariants.{Send, Receive, Select, Offer}
+use Rattle.fst_types.specs.declared.label.Label.TheVariants.{Send, Receive, Select, Offer, Close, Wait}
 use Rattle.fst_kinds.specs.WellFormed.{IsSession, IsInstantiation}
 use Rattle.fst_lts.specs.Step.{step}
 use Rattle.fst_lts.specs.Dual.{dual}
-use Rattle.fst_terms.specs.CoreTree.{CoreTree, local, global, int, bool, char, unit, pair, make, lambda, apply, let_in, split, if_else, case_of, operate, negate, new, send, receive, select, match_with, fork, seq, CoreList, no_terms, term, CoreArms, no_arms, arm}
+use Rattle.fst_terms.specs.CoreTree.{CoreTree, local, global, int, bool, char, unit, pair, make, lambda, apply, let_in, split, if_else, case_of, operate, negate, new, send, receive, close, wait, select, match_with, fork, seq, CoreList, no_terms, term, CoreArms, no_arms, arm}
 use Rattle.fst_terms.specs.InRange.{maker_of, maker_named}
 use Rattle.fst_terms.specs.declared.global.GlobalEntry.{GlobalEntry}
 use Rattle.fst_terms.specs.declared.term.Op.{Op}
@@ -195,6 +195,10 @@ abbrev mutual
       (d : Deriv) × (b : Base) × (t : Tree) ×
       Over m.vars S.kept (Row m S e g) u d × (step (type_of d) (Receive b) ≡ Some t) ×
       (c ≡ row (type.pair (plain b) t) (one d))
+  Row m S (close at e) g u c = (d : Deriv) × (t : Tree) × Over m.vars S.kept (Row m S e g) u d ×
+      (step (type_of d) Close ≡ Some t) × (c ≡ row (plain Nothing) (one d))
+  Row m S (wait at e) g u c = (d : Deriv) × (t : Tree) × Over m.vars S.kept (Row m S e g) u d ×
+      (step (type_of d) Wait ≡ Some t) × (c ≡ row (plain Nothing) (one d))
   Row m S (select at l e) g u c =
       (d : Deriv) × (t : Tree) × Over m.vars S.kept (Row m S e g) u d ×
       (step (type_of d) (Select l) ≡ Some t) × (c ≡ row t (one d))

@@ -3,7 +3,7 @@ use Rattle.std.proofs.Common.{◌≡◌, ◌∙◌, ◌⊎◌, inl, inr, ℕ, ze
 use Rattle.std.specs.Prelude.{slice_get, if◌then◌else◌}
 use Rattle.fst_base.specs.Agreement.{Agree, AgreeTo, BothOrNeither}
 use Rattle.fst_base.proofs.AgreementLaws.{agrees_back}
-use Rattle.fst_types.specs.Tree.{Tree, skip, send, receive, select, offer, seq, rec, back, var, plain, arrow, pair, named}
+use Rattle.fst_types.specs.Tree.{Tree, skip, send, receive, close, wait, select, offer, seq, rec, back, var, plain, arrow, pair, named}
 use Rattle.fst_types.specs.declared.kind.Kind.{Kind}
 use Rattle.fst_types.specs.declared.kind.Prekind.{Prekind}
 use Rattle.fst_types.specs.declared.kind.Prekind.TheVariants.{Session, Top}
@@ -17,7 +17,7 @@ use Rattle.fst_kinds.specs.Kinds.{session, top, join, HasKind}
 use Rattle.fst_kinds.specs.WellFormed.{IsWellFormed, IsSession}
 use Rattle.fst_kinds.proofs.Laws.{session_of, not_top, unfolding_of_kind}
 use Rattle.fst_lts.specs.Step.{step}
-use Rattle.fst_lts.specs.Moves.{Moves, sends, receives, selects, offers, first, second, unfolds, variables}
+use Rattle.fst_lts.specs.Moves.{Moves, sends, receives, closes, waits, selects, offers, first, ends, second, unfolds, variables}
 use Rattle.fst_lts.specs.Equal as equal
 use Rattle.fst_lts.specs.Equal.{IsEqual}
 use Rattle.fst_lts.proofs.Laws.{steps_are_moves}
@@ -60,6 +60,8 @@ part_sorts : (vars : List Kind) (s : Tree) (k : Kind) → is_part s ≡ true →
 part_sorts vars skip k p w = inl (session_by vars skip k Many w.kinded w)
 part_sorts vars (send b) k p w = inl (session_by vars (send b) k Once w.kinded w)
 part_sorts vars (receive b) k p w = inl (session_by vars (receive b) k Once w.kinded w)
+part_sorts vars close k p w = inl (session_by vars close k Once w.kinded w)
+part_sorts vars wait k p w = inl (session_by vars wait k Once w.kinded w)
 part_sorts vars (select bs) k p w = inl (session_by vars (select bs) k Once w.kinded.1 w)
 part_sorts vars (offer bs) k p w = inl (session_by vars (offer bs) k Once w.kinded.1 w)
 part_sorts vars (seq s r) k p w = inl (session_by vars (seq s r) k (join w.kinded.0 w.kinded.1) w.kinded.4 w)
@@ -105,9 +107,12 @@ moved_variable : (vars : List Kind) {s t : Tree} {a : Label} → Moves s a t →
     (u : Use) → HasKind vars s (session u) → (v : Use) × (slice_get vars k ≡ Some (session v))
 moved_variable vars sends k e u h = absurd (cc e)
 moved_variable vars receives k e u h = absurd (cc e)
+moved_variable vars closes k e u h = absurd (cc e)
+moved_variable vars waits k e u h = absurd (cc e)
 moved_variable vars (selects b) k e u h = absurd (cc e)
 moved_variable vars (offers b) k e u h = absurd (cc e)
-moved_variable vars (first b m) k e u h = moved_variable vars m k e h.0 h.2
+moved_variable vars (first b m go) k e u h = moved_variable vars m k e h.0 h.2
+moved_variable vars (ends b m over) k e u h = moved_variable vars m k e h.0 h.2
 moved_variable vars (second b m) k e u h = moved_variable vars m k e h.1 h.3
 moved_variable vars (unfolds {s} m) k e u h = moved_variable vars m k e u (unfolding_of_kind vars s (session u) h)
 moved_variable vars (variables {k = j}) k e u h =

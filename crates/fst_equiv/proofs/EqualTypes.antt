@@ -3,7 +3,7 @@ use Rattle.std.proofs.Common.{◌≡◌, inl, inr, ℕ, Bool, true, false, List,
 use Rattle.std.specs.Prelude.{nat_eq, if◌then◌else◌, ⊤, IfOk, Result, Ok, Err}
 use Rattle.fst_base.specs.Agreement.{Agree}
 use Rattle.fst_base.proofs.AgreementLaws.{agrees_itself}
-use Rattle.fst_types.specs.Tree.{Tree, skip, send, receive, select, offer, seq, rec, back, var, plain, arrow, pair, named}
+use Rattle.fst_types.specs.Tree.{Tree, skip, send, receive, close, wait, select, offer, seq, rec, back, var, plain, arrow, pair, named}
 use Rattle.fst_types.specs.declared.kind.Kind.{Kind}
 use Rattle.fst_types.specs.declared.kind.Use.{Use}
 use Rattle.fst_types.specs.declared.kind.Use.TheVariants.{Many, Once}
@@ -66,6 +66,8 @@ module _ (vars : List Kind) (budget : ℕ) where
   types_equal skip u j k wt wu h = part_equal skip u j k refl wt wu h
   types_equal (send b) u j k wt wu h = part_equal (send b) u j k refl wt wu h
   types_equal (receive b) u j k wt wu h = part_equal (receive b) u j k refl wt wu h
+  types_equal close u j k wt wu h = part_equal close u j k refl wt wu h
+  types_equal wait u j k wt wu h = part_equal wait u j k refl wt wu h
   types_equal (select bs) u j k wt wu h = part_equal (select bs) u j k refl wt wu h
   types_equal (offer bs) u j k wt wu h = part_equal (offer bs) u j k refl wt wu h
   types_equal (seq s r) u j k wt wu h = part_equal (seq s r) u j k refl wt wu h
@@ -122,6 +124,8 @@ session_part : (vars : List Kind) (s : Tree) → IsSession vars s → is_part s 
 session_part vars skip w = refl
 session_part vars (send b) w = refl
 session_part vars (receive b) w = refl
+session_part vars close w = refl
+session_part vars wait w = refl
 session_part vars (select bs) w = refl
 session_part vars (offer bs) w = refl
 session_part vars (seq s r) w = refl

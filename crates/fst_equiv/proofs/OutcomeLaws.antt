@@ -1,7 +1,7 @@
 -- Two well-formed types compare in one way at most.
 use Rattle.std.proofs.Common.{◌≡◌, ◌∙◌, ◌⊎◌, inl, inr, ℕ, Bool, true, false, List, [], ◌∷◌, ◌++◌, refl, sym, ap, subst}
 use Rattle.std.specs.Prelude.{nat_eq, if◌then◌else◌, ⊤}
-use Rattle.fst_types.specs.Tree.{Tree, skip, send, receive, select, offer, seq, rec, back, var, plain, arrow, pair, named}
+use Rattle.fst_types.specs.Tree.{Tree, skip, send, receive, close, wait, select, offer, seq, rec, back, var, plain, arrow, pair, named}
 use Rattle.fst_types.specs.declared.kind.Kind.{Kind}
 use Rattle.fst_kinds.specs.WellFormed.{IsWellFormed, IsSession}
 use Rattle.fst_parts.specs.Same.{same_base, same_use}
@@ -54,6 +54,8 @@ module _ (vars : List Kind) where
   types_sessions skip u j k wt wu = part_sessions skip u j k refl wt wu
   types_sessions (send b) u j k wt wu = part_sessions (send b) u j k refl wt wu
   types_sessions (receive b) u j k wt wu = part_sessions (receive b) u j k refl wt wu
+  types_sessions close u j k wt wu = part_sessions close u j k refl wt wu
+  types_sessions wait u j k wt wu = part_sessions wait u j k refl wt wu
   types_sessions (select bs) u j k wt wu = part_sessions (select bs) u j k refl wt wu
   types_sessions (offer bs) u j k wt wu = part_sessions (offer bs) u j k refl wt wu
   types_sessions (seq s r) u j k wt wu = part_sessions (seq s r) u j k refl wt wu

@@ -1,6 +1,6 @@
 -- How two types of any shape compare: node by node from the root, the left part before the right.
 use Rattle.std.specs.Prelude.{◌≡◌, ◌⊎◌, ◌++◌, ℕ, Bool, true, false, List, [], ◌∷◌, ⊤, if◌then◌else◌, nat_eq}
-use Rattle.fst_types.specs.Tree.{Tree, skip, send, receive, select, offer, seq, rec, back, var, plain, arrow, pair, named}
+use Rattle.fst_types.specs.Tree.{Tree, skip, send, receive, close, wait, select, offer, seq, rec, back, var, plain, arrow, pair, named}
 use Rattle.fst_types.specs.declared.kind.Kind.{Kind}
 use Rattle.fst_kinds.specs.WellFormed.{IsWellFormed}
 use Rattle.fst_lts.specs.Equal.{IsEqual}
@@ -16,6 +16,8 @@ abbrev pub is_part : Tree → Bool
 is_part skip = true
 is_part (send b) = true
 is_part (receive b) = true
+is_part close = true
+is_part wait = true
 is_part (select bs) = true
 is_part (offer bs) = true
 is_part (seq s r) = true
@@ -46,6 +48,8 @@ abbrev pub comparisons : Tree → Tree → List Compared
 comparisons skip t = of_part skip t
 comparisons (send b) t = of_part (send b) t
 comparisons (receive b) t = of_part (receive b) t
+comparisons close t = of_part close t
+comparisons wait t = of_part wait t
 comparisons (select bs) t = of_part (select bs) t
 comparisons (offer bs) t = of_part (offer bs) t
 comparisons (seq s r) t = of_part (seq s r) t

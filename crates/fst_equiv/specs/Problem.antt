@@ -1,5 +1,5 @@
 -- The words of two types, and what the pairs that these words reach, and their cuts, show within a budget.
-use Rattle.std.specs.Prelude.{◌≡◌, ℕ, List, Bool, length}
+use Rattle.std.specs.Prelude.{◌≡◌, ℕ, ◌+◌, List, Bool, length}
 use Rattle.fst_types.specs.Tree.{Tree}
 use Rattle.fst_types.specs.Order.{label_cmp}
 use Rattle.fst_types.specs.declared.label.Label.{Label}
@@ -14,17 +14,19 @@ use Rattle.fst_basis.specs.Basis.{IsProof}
 use Rattle.fst_expand.specs.Good.{AreGoodCuts, IsGood}
 use Rattle.fst_shared.specs.declared.handle.SharedPair.{SharedPair}
 use Rattle.fst_norms.specs.Pruned.{AreUnnormed, pruned_word}
+use Rattle.fst_parts.specs.Labels.{names}
+use Rattle.fst_grammar.specs.Parts.{parts_of}
 use Rattle.fst_grammar.specs.Translation.{IsTranslation, IsInRange, IsSmall}
 use Rattle.fst_breadth.specs.Answer.{IsEqual, IsDifferent, IsBudgetSpent}
 
 -- the grammar of two types within the limits, with its numbers in range, its letters in label order and a rule for each
--- non-terminal; their words, and its unnormed non-terminals
+-- non-terminal but the dead one; their words, and its unnormed non-terminals
 pub record IsProblem (s r : Tree) (letters : List Label) (rows : Productions) (u v : List ℕ)
     (marks : List Bool) : Type 0 where
   pub translation : IsTranslation s r letters rows u v
   pub small : IsSmall s r rows
   pub range : IsInRange letters rows u v
-  pub ruled : EachHasRule rows
+  pub ruled : EachHasRule (length (names letters) + length (parts_of s r)) rows
   pub unnormed : AreUnnormed rows marks
 
 -- x and y are the pruned words of two types, and these are all the pairs that they reach: at most budget many, of

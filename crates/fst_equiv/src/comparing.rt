@@ -118,6 +118,8 @@ fn is_part(t: &Ty) -> bool
         TyForm::Skip => true,
         TyForm::Send(_) => true,
         TyForm::Receive(_) => true,
+        TyForm::Close => true,
+        TyForm::Wait => true,
         TyForm::Select(_) => true,
         TyForm::Offer(_) => true,
         TyForm::Seq(_, _) => true,

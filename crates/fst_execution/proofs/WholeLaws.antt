@@ -1,7 +1,7 @@
 -- In a module that has derivations the arms of each `case` are those of one data type.
 use Rattle.std.proofs.Common.{List, [], ◌∷◌}
 use Rattle.fst_types.specs.Tree.{Tree}
-use Rattle.fst_terms.specs.CoreTree.{CoreTree, local, global, int, bool, char, unit, pair, make, lambda, apply, let_in, split, if_else, case_of, operate, negate, new, send, receive, select, match_with, fork, seq, CoreList, no_terms, term, CoreArms, no_arms, arm}
+use Rattle.fst_terms.specs.CoreTree.{CoreTree, local, global, int, bool, char, unit, pair, make, lambda, apply, let_in, split, if_else, case_of, operate, negate, new, send, receive, close, wait, select, match_with, fork, seq, CoreList, no_terms, term, CoreArms, no_arms, arm}
 use Rattle.fst_terms.specs.declared.core_module.Module.{Module}
 use Rattle.fst_terms.specs.declared.global.GlobalEntry.{GlobalEntry}
 use Rattle.fst_context.specs.Scope.{Variable, is_once}
@@ -58,6 +58,8 @@ module _ (m : Surroundings) (S : Mode) where
     row_whole (send at a b) g u c (d, l, k, t, x, p, i, q) =
         (row_whole a g x.left x.first.core x.first.rule, row_whole b g x.right x.second.core x.second.rule)
     row_whole (receive at a) g u c (d, k, t, x, p, q) = row_whole a g u x.core x.rule
+    row_whole (close at a) g u c (d, t, x, p, q) = row_whole a g u x.core x.rule
+    row_whole (wait at a) g u c (d, t, x, p, q) = row_whole a g u x.core x.rule
     row_whole (select at l a) g u c (d, t, x, p, q) = row_whole a g u x.core x.rule
     row_whole (match_with at a bs) g u c (d, ls, t, ds, x, i, l, q) =
         (row_whole a g x.left x.first.core x.first.rule, arms_whole _ bs g x.right t ds x.second)

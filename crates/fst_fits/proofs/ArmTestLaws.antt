@@ -11,7 +11,7 @@ use Rattle.std.proofs.lemmas.Slice.Eq.{bytes_eq-Decides}
 use Rattle.fst_base.proofs.Bools.{same_text}
 use Rattle.fst_types.specs.Tree.{Tree}
 use Rattle.fst_types.specs.declared.label.Label.{Label}
-use Rattle.fst_types.specs.declared.label.Label.TheVariants.{Send, Receive, Select, Offer, Var}
+use Rattle.fst_types.specs.declared.label.Label.TheVariants.{Send, Receive, Select, Offer, Close, Wait, Var}
 use Rattle.fst_lts.specs.Step.{labels}
 use Rattle.fst_arms.specs.Arms.{AreEachOnce}
 use Rattle.fst_derivations.specs.Parts.{IsOffering}
@@ -127,6 +127,8 @@ offered_are (Select l ∷ moves) names h = absurd (cc h)
 offered_are (Offer l ∷ moves) names h =
     let n = named l (offered moves) names h in
     ap (λ z. Offer l ∷ z) (offered_are moves n.0 n.1) ∙ ap (map Offer) n.2
+offered_are (Close ∷ moves) names h = absurd (cc h)
+offered_are (Wait ∷ moves) names h = absurd (cc h)
 offered_are (Var k ∷ moves) names h = absurd (cc h)
 
 are_offered : (names : List (List ℕ)) → offered (map Offer names) ≡ Some names

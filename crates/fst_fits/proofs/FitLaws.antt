@@ -7,10 +7,11 @@ use Rattle.fst_types.specs.Tree as type
 use Rattle.fst_types.specs.Tree.{Tree, plain, arrow, named}
 use Rattle.fst_types.specs.Instance.{instantiated}
 use Rattle.fst_types.specs.declared.base.Base.{Base}
-use Rattle.fst_types.specs.declared.base.Base.TheVariants.{Int, Bool as Truth, Char}
+use Rattle.fst_types.specs.declared.base.Base.TheVariants.{Int, Bool as Truth, Char, Unit as Nothing}
 use Rattle.fst_types.specs.declared.kind.Kind.{Kind}
 use Rattle.fst_types.specs.declared.kind.Use.{Use}
 use Rattle.fst_types.specs.declared.kind.Use.TheVariants.{Many, Once}
+use Rattle.fst_types.specs.declared.label.Label.{Label}
 use Rattle.fst_types.specs.declared.label.Label.TheVariants.{Send, Receive}
 use Rattle.fst_kinds.specs.WellFormed.{IsSession, IsInstantiation}
 use Rattle.fst_lts.specs.Step.{step}
@@ -20,7 +21,7 @@ use Rattle.fst_terms.specs.declared.term.Op.{Op}
 use Rattle.fst_terms.specs.declared.term.Op.TheVariants.{Add, Subtract, Multiply, Equal, Unequal, Less, AtMost, Greater, AtLeast, And, Or}
 use Rattle.fst_derivations.specs.Parts.{AreAt, IsComparable}
 use Rattle.fst_derivations.specs.Rules.{Operates}
-use Rattle.fst_fits.specs.Tests.{same_tree, kind_in, is_session, arrow_parts, arrow_of, pair_parts, is_pair, is_arrow, same_use, base_of, family_number, applies, is_ordered, operates, sends, receives, receives_pair, is_channel, types_at, instantiates, is_instance, is_global_type}
+use Rattle.fst_fits.specs.Tests.{same_tree, has_some, kind_in, is_session, arrow_parts, arrow_of, pair_parts, is_pair, is_arrow, same_use, base_of, family_number, applies, is_ordered, operates, sends, receives, receives_pair, is_channel, types_at, instantiates, is_instance, is_global_type}
 use Rattle.fst_fits.proofs.TestLaws.{and_left, and_right, and_both, tree_same, tree_itself, type_is, of_type, has_session, of_session, types_are, are_types, instantiation, of_instantiation}
 
 -- ---- what types are made of
@@ -198,6 +199,22 @@ received t s h = received_pair t (pair_parts t) s refl h
 pub of_received : (t s r : Tree) (b : Base) → t ≡ type.pair (plain b) r → step s (Receive b) ≡ Some r →
     receives_pair (pair_parts t) s ≡ true
 of_received t s r b e h = ap (λ z. receives_pair (pair_parts z) s) e ∙ of_type (step s (Receive b)) r h
+
+there_is : (o : Option Tree) → has_some o ≡ true → (r : Tree) × (o ≡ Some r)
+there_is None h = absurd (cc h)
+there_is (Some r) h = (r, refl)
+
+-- a closing, or a wait for one, leaves the value without content
+pub ended : (t s : Tree) (l : Label) → (same_tree t (plain Nothing) && has_some (step s l)) ≡ true → (r : Tree) ×
+    (t ≡ plain Nothing) × (step s l ≡ Some r)
+ended t s l h =
+    let m = there_is (step s l) (and_right (same_tree t (plain Nothing)) (has_some (step s l)) h) in
+    (m.0, tree_same t (plain Nothing) (and_left (same_tree t (plain Nothing)) (has_some (step s l)) h), m.1)
+
+pub of_ended : (t s r : Tree) (l : Label) → t ≡ plain Nothing → step s l ≡ Some r →
+    (same_tree t (plain Nothing) && has_some (step s l)) ≡ true
+of_ended t s r l e h = and_both (same_tree t (plain Nothing)) (has_some (step s l)) (tree_itself t (plain Nothing) e)
+    (ap has_some h)
 
 pub channel : (o : Option Tree) (t : Tree) → is_channel o t ≡ true → (s : Tree) × (o ≡ Some s) × IsSession [] s ×
     (t ≡ type.pair s (dual s))

@@ -8,7 +8,7 @@ use Rattle.std.specs.Cmp.Lexicographic.{slice_cmp}
 use Rattle.std.proofs.lemmas.Option.{same_Some}
 use Rattle.fst_base.proofs.Codes.{code_itself, code_same}
 use Rattle.fst_base.specs.Codes.{same_code}
-use Rattle.fst_types.specs.Tree.{Tree, skip, send, receive, select, offer, seq, rec, back, var, plain, arrow, pair, named, Branches, none, branch}
+use Rattle.fst_types.specs.Tree.{Tree, skip, send, receive, close, wait, select, offer, seq, rec, back, var, plain, arrow, pair, named, Branches, none, branch}
 use Rattle.fst_types.specs.ModelCode.{code_of, tree_code}
 use Rattle.fst_types.specs.Order.{AreRising, AreSorted, EachChoiceBelow, IsOrdered, IsSorted}
 use Rattle.fst_types.specs.Scoped.{IsScoped, AllScoped}
@@ -89,6 +89,8 @@ mutual
   ready n skip h = (tt, tt)
   ready n (send b) h = (tt, tt)
   ready n (receive b) h = (tt, tt)
+  ready n close h = (tt, tt)
+  ready n wait h = (tt, tt)
   ready n (select bs) h =
       let r = readies n bs (and_right (rising bs) (are_ready n bs) h) in
       (r.0, ((are_rising bs (and_left (rising bs) (are_ready n bs) h)).1, r.1))
@@ -125,6 +127,8 @@ mutual
   of_ready n skip s o = refl
   of_ready n (send b) s o = refl
   of_ready n (receive b) s o = refl
+  of_ready n close s o = refl
+  of_ready n wait s o = refl
   of_ready n (select bs) s o = and_both (rising bs) (are_ready n bs) (rising_are bs o.0) (of_readies n bs s o.1)
   of_ready n (offer bs) s o = and_both (rising bs) (are_ready n bs) (rising_are bs o.0) (of_readies n bs s o.1)
   of_ready n (seq a b) s o = and_both (is_ready n a) (is_ready n b) (of_ready n a s.0 o.0) (of_ready n b s.1 o.1)

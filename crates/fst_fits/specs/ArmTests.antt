@@ -3,7 +3,7 @@ use Rattle.std.specs.Prelude.{ℕ, Bool, true, false, ◌&&◌, not, List, [], �
 use Rattle.std.specs.List.{list_any}
 use Rattle.std.specs.Str.{bytes_eq}
 use Rattle.fst_types.specs.declared.label.Label.{Label}
-use Rattle.fst_types.specs.declared.label.Label.TheVariants.{Send, Receive, Select, Offer, Var}
+use Rattle.fst_types.specs.declared.label.Label.TheVariants.{Send, Receive, Select, Offer, Close, Wait, Var}
 
 -- whether a name is among others
 abbrev pub has : List (List ℕ) → List ℕ → Bool
@@ -35,6 +35,8 @@ offered (Send b ∷ moves) = None
 offered (Receive b ∷ moves) = None
 offered (Select l ∷ moves) = None
 offered (Offer l ∷ moves) = with_name l (offered moves)
+offered (Close ∷ moves) = None
+offered (Wait ∷ moves) = None
 offered (Var k ∷ moves) = None
 
 -- whether there is a name, and the same names were found, each once

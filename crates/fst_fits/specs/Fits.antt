@@ -3,10 +3,10 @@ use Rattle.std.specs.Prelude.{ℕ, Bool, ◌&&◌, List}
 use Rattle.fst_types.specs.Tree.{Tree, plain}
 use Rattle.fst_types.specs.declared.base.Base.TheVariants.{Bool as Truth, Unit as Nothing}
 use Rattle.fst_types.specs.declared.kind.Kind.{Kind}
-use Rattle.fst_types.specs.declared.label.Label.TheVariants.{Select}
+use Rattle.fst_types.specs.declared.label.Label.TheVariants.{Select, Close, Wait}
 use Rattle.fst_lts.specs.Step.{step}
 use Rattle.fst_terms.specs.declared.term.Op.{Op}
-use Rattle.fst_fits.specs.Tests.{same_tree, use_in, is_many, is_type, is_pair, pair_parts, arrow_parts, base_of, applies, operates, sends, receives_pair}
+use Rattle.fst_fits.specs.Tests.{same_tree, has_some, use_in, is_many, is_type, is_pair, pair_parts, arrow_parts, base_of, applies, operates, sends, receives_pair}
 
 -- whether the condition is a truth value, and both branches have the type
 abbrev pub if_fits : Tree → Tree → Tree → Tree → Bool
@@ -39,6 +39,14 @@ negate_fits t a = same_tree a (plain Truth) && same_tree t (plain Truth)
 -- of a value that is received
 abbrev pub receive_fits : Tree → Tree → Bool
 receive_fits t a = receives_pair (pair_parts t) a
+
+-- of a closing
+abbrev pub close_fits : Tree → Tree → Bool
+close_fits t a = same_tree t (plain Nothing) && has_some (step a Close)
+
+-- of a wait for a closing
+abbrev pub wait_fits : Tree → Tree → Bool
+wait_fits t a = same_tree t (plain Nothing) && has_some (step a Wait)
 
 -- of a branch that is selected
 abbrev pub select_fits : List ℕ → Tree → Tree → Bool

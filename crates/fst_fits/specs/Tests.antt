@@ -5,7 +5,7 @@ use Rattle.std.specs.declared.cmp.Ordering.TheVariants.{Less, Equal, Greater}
 use Rattle.std.specs.Ordering.{nat_cmp}
 use Rattle.std.specs.Cmp.Lexicographic.{slice_cmp}
 use Rattle.fst_base.specs.Codes.{same_code}
-use Rattle.fst_types.specs.Tree.{Tree, skip, send, receive, select, offer, seq, rec, back, var, plain, arrow, pair, named, Branches, none, branch}
+use Rattle.fst_types.specs.Tree.{Tree, skip, send, receive, close, wait, select, offer, seq, rec, back, var, plain, arrow, pair, named, Branches, none, branch}
 use Rattle.fst_types.specs.ModelCode.{code_of}
 use Rattle.fst_types.specs.Instance.{instantiated}
 use Rattle.fst_types.specs.declared.base.Base.{Base}
@@ -47,6 +47,8 @@ abbrev mutual
   is_ready n skip = true
   is_ready n (send b) = true
   is_ready n (receive b) = true
+  is_ready n close = true
+  is_ready n wait = true
   is_ready n (select bs) = rising bs && are_ready n bs
   is_ready n (offer bs) = rising bs && are_ready n bs
   is_ready n (seq s r) = is_ready n s && is_ready n r
@@ -72,7 +74,7 @@ found_kind (Err f) = None
 unfoldable pub kind_in : List Kind → Tree → Option Kind
 kind_in vars t = if is_ready 0 t then found_kind (walk vars t) else None
 
--- whether the type is well formed
+-- whether there is one
 abbrev pub has_some : {A : Type 0} → Option A → Bool
 has_some None = false
 has_some (Some x) = true

@@ -4,8 +4,8 @@ ghost use Rattle.fst_types.specs.declared.base.Base.TheVariants as base;
 ghost use Rattle.fst_types.specs.declared.label.Label.{Label};
 ghost use Rattle.fst_lts.specs.Step.{step};
 ghost use Rattle.fst_terms.specs.InRange.{maker_of};
-ghost use Rattle.fst_fits.specs.Tests.{applies, arrow_of, arrow_parts, base_of, instantiates, is_arrow, is_below, is_channel, is_global_type, is_instance, is_ordered, is_pair, is_session, is_type, kind_in, operates, pair_parts, receives, receives_pair, same_tree, same_use, sends, types_at};
-ghost use Rattle.fst_fits.specs.Fits.{apply_fits, fork_fits, if_fits, negate_fits, operate_fits, pair_fits, receive_fits, select_fits, send_fits, seq_fits};
+ghost use Rattle.fst_fits.specs.Tests.{applies, arrow_of, arrow_parts, base_of, has_some, instantiates, is_arrow, is_below, is_channel, is_global_type, is_instance, is_ordered, is_pair, is_session, is_type, kind_in, operates, pair_parts, receives, receives_pair, same_tree, same_use, sends, types_at};
+ghost use Rattle.fst_fits.specs.Fits.{apply_fits, close_fits, fork_fits, if_fits, negate_fits, operate_fits, pair_fits, receive_fits, select_fits, send_fits, seq_fits, wait_fits};
 
 use crate::ready::{is_often, is_plain, is_same, kind_in};
 use fst_kinds::subkind;
@@ -147,6 +147,30 @@ pub fn receive_fits(alloc: Global, t: &Ty, channel: &Ty) -> Result<bool, AllocEr
         TyForm::Pair(value, rest) => receives(alloc, value, channel, rest),
         _ => Ok(false),
     }
+}
+
+// Whether a type moves by a label.
+fn moves(alloc: Global, from: &Ty, label: &Label) -> Result<bool, AllocError>
+    ensures { IfOk result (λ b. b ≡ has_some (step from.now label.now)) }
+{
+    match step(alloc, from, label)? {
+        Some(_) => Ok(true),
+        None => Ok(false),
+    }
+}
+
+/// Whether a type is that of the value without content, and a channel of another can be closed.
+pub fn close_fits(alloc: Global, t: &Ty, channel: &Ty) -> Result<bool, AllocError>
+    ensures { IfOk result (λ b. b ≡ close_fits t.now channel.now) }
+{
+    Ok(is_plain(t, Base::Unit) && moves(alloc, channel, &Label::Close)?)
+}
+
+/// Whether a type is that of the value without content, and a channel of another can await its closing.
+pub fn wait_fits(alloc: Global, t: &Ty, channel: &Ty) -> Result<bool, AllocError>
+    ensures { IfOk result (λ b. b ≡ wait_fits t.now channel.now) }
+{
+    Ok(is_plain(t, Base::Unit) && moves(alloc, channel, &Label::Wait)?)
 }
 
 /// Whether a channel of one type is left at another after a branch was selected on it.

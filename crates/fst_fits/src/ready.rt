@@ -50,6 +50,8 @@ fn is_ready(t: &Ty, n: u32) -> Result<bool, AllocError>
         TyForm::Skip => Ok(true),
         TyForm::Send(_) => Ok(true),
         TyForm::Receive(_) => Ok(true),
+        TyForm::Close => Ok(true),
+        TyForm::Wait => Ok(true),
         TyForm::Select(branches) => Ok(rising(branches) && are_ready(branches, n)?),
         TyForm::Offer(branches) => Ok(rising(branches) && are_ready(branches, n)?),
         TyForm::Seq(first, second) => Ok(is_ready(first, n)? && is_ready(second, n)?),

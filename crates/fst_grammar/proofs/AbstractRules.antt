@@ -1,14 +1,15 @@
 -- Grammars by the labels of their rules.
 use Rattle.std.proofs.Common.{◌≡◌, ℕ, ◌+◌, List, [], ◌∷◌, ◌++◌, false, Option, Some, None}
 use Rattle.std.specs.Prelude.{option_map, if◌then◌else◌, ⊤}
-use Rattle.fst_types.specs.Tree.{Tree, skip, send, receive, select, offer, seq, rec, back, var, plain, arrow, pair, named, Branches, none, branch}
+use Rattle.fst_types.specs.Tree.{Tree, skip, send, receive, close, wait, select, offer, seq, rec, back, var, plain, arrow, pair, named, Branches, none, branch}
 use Rattle.fst_types.specs.Size.{nodes}
 use Rattle.fst_types.specs.Order.{same_label}
 use Rattle.fst_types.specs.declared.label.Label.{Label}
-use Rattle.fst_types.specs.declared.label.Label.TheVariants.{Send, Receive, Select, Offer, Var}
+use Rattle.fst_types.specs.declared.label.Label.TheVariants.{Send, Receive, Select, Offer, Close, Wait, Var}
 use Rattle.fst_lts.specs.Step.{terminated}
 use Rattle.fst_parts.specs.Place.{Place, place_past, own_place, body_place}
 use Rattle.fst_grammar.specs.Word.{Numbers, node_at, word}
+use Rattle.fst_grammar.specs.Rules.{name_word}
 
 -- the rule of a non-terminal for a label
 abbrev pub Rule : Type 0
@@ -25,9 +26,9 @@ branch_word n make p none a = None
 branch_word n make p (branch l s cs) a =
     if same_label a (make l) then Some (word n (place_past p 1) s) else branch_word n make (place_past p (1 + nodes s)) cs a
 
--- a message or variable has its label and the empty word
+-- a message or variable has its label and the empty word; Close and Wait have their label and the dead non-terminal
 abbrev pub IsName : Numbers → Rule → Label → Type 0
-IsName n rule l = (a : Label) → rule (n.name l) a ≡ (if same_label a l then Some [] else None)
+IsName n rule l = (a : Label) → rule (n.name l) a ≡ (if same_label a l then Some (name_word n l) else None)
 
 -- a choice has, per label, the word of the branch
 abbrev pub IsChoice : Numbers → Rule → (List ℕ → Label) → Place → Branches → Type 0
@@ -43,6 +44,8 @@ abbrev mutual
   HasRules n rule p skip = ⊤
   HasRules n rule p (send b) = IsName n rule (Send b)
   HasRules n rule p (receive b) = IsName n rule (Receive b)
+  HasRules n rule p close = IsName n rule Close
+  HasRules n rule p wait = IsName n rule Wait
   HasRules n rule p (select cs) = IsChoice n rule Select (own_place p (select cs)) cs ×
       HaveRules n rule (place_past (own_place p (select cs)) 1) cs
   HasRules n rule p (offer cs) = IsChoice n rule Offer (own_place p (offer cs)) cs ×

@@ -2,11 +2,11 @@
 use Rattle.std.proofs.Common.{◌≡◌, ◌∙◌, ◌<◌, ◌≤◌, ℕ, zero, suc, List, [], ◌∷◌, length, true, false, Option, Some, None, refl, ap, arith}
 use Rattle.std.specs.Prelude.{option_map, if◌then◌else◌, ◌&&◌, ⊤}
 use Rattle.std.proofs.lemmas.Bool.{eqb-true, and_parts}
-use Rattle.fst_types.specs.Tree.{Tree, skip, send, receive, select, offer, seq, rec, back, var, plain, arrow, pair, named, Branches, none, branch}
+use Rattle.fst_types.specs.Tree.{Tree, skip, send, receive, close, wait, select, offer, seq, rec, back, var, plain, arrow, pair, named, Branches, none, branch}
 use Rattle.fst_types.specs.Substitution.{variable, substitute, substitute_all}
 use Rattle.fst_types.specs.Scoped.{IsScoped, AllScoped}
 use Rattle.fst_types.specs.declared.label.Label.{Label}
-use Rattle.fst_lts.specs.Step.{terminated, step_in}
+use Rattle.fst_lts.specs.Step.{terminated, followed, step_in}
 use Rattle.fst_parts.specs.Place.{open_depth, open_depths, is_closed}
 
 mutual
@@ -14,6 +14,8 @@ mutual
   scoped_if_loose skip n h = tt
   scoped_if_loose (send b) n h = tt
   scoped_if_loose (receive b) n h = tt
+  scoped_if_loose close n h = tt
+  scoped_if_loose wait n h = tt
   scoped_if_loose (select cs) n h = all_scoped_if_loose cs n h
   scoped_if_loose (offer cs) n h = all_scoped_if_loose cs n h
   scoped_if_loose (seq s r) n h = (scoped_if_loose s n (omega arith), scoped_if_loose r n (omega arith))
@@ -69,6 +71,8 @@ mutual
   composed l ok skip h = refl
   composed l ok (send b) h = refl
   composed l ok (receive b) h = refl
+  composed l ok close h = refl
+  composed l ok wait h = refl
   composed l ok (select cs) h = ap select (all_composed l ok cs h)
   composed l ok (offer cs) h = ap offer (all_composed l ok cs h)
   composed l ok (seq s r) h = λ i. seq (composed l ok s h.0 i) (composed l ok r h.1 i)
@@ -99,6 +103,8 @@ pub kept_terminated : (env : List (Option Tree)) → NoneEnds env → (s : Tree)
 kept_terminated env h skip = refl
 kept_terminated env h (send b) = refl
 kept_terminated env h (receive b) = refl
+kept_terminated env h close = refl
+kept_terminated env h wait = refl
 kept_terminated env h (select cs) = refl
 kept_terminated env h (offer cs) = refl
 kept_terminated env h (seq s r) = λ i. kept_terminated env h s i && kept_terminated env h r i
@@ -115,11 +121,13 @@ pub no_step : (env : List (Option Tree)) (s : Tree) (a : Label) → terminated s
 no_step env skip a e = refl
 no_step env (send b) a e = absurd (cc e)
 no_step env (receive b) a e = absurd (cc e)
+no_step env close a e = absurd (cc e)
+no_step env wait a e = absurd (cc e)
 no_step env (select cs) a e = absurd (cc e)
 no_step env (offer cs) a e = absurd (cc e)
 no_step env (seq s r) a e =
     let h = and_parts (terminated s) (terminated r) e in
-    ap (λ c. if c then step_in env r a else option_map (λ t. seq t (substitute env r)) (step_in env s a)) h.0
+    ap (λ c. if c then step_in env r a else option_map (followed a (substitute env r)) (step_in env s a)) h.0
     ∙ no_step env r a h.1
 no_step env (rec s) a e = no_step (Some (substitute env (rec s)) ∷ env) s a e
 no_step env (back k) a e = absurd (cc e)

@@ -1,7 +1,7 @@
 -- What is counted of types.
 use Rattle.std.proofs.Common.{◌≡◌, refl, ◌&&◌}
 use Rattle.fst_types.specs.declared.kind.Use.TheVariants.{Many, Once}
-use Rattle.fst_types.specs.Tree.{Tree, skip, send, receive, select, offer, seq, rec, back, var, plain, arrow, pair, named}
+use Rattle.fst_types.specs.Tree.{Tree, skip, send, receive, close, wait, select, offer, seq, rec, back, var, plain, arrow, pair, named}
 use Rattle.fst_lts.specs.Step.{terminated}
 use Rattle.fst_parts.specs.Counts.{counts_of}
 use Rattle.fst_parts.specs.Shapes.{shape_of}
@@ -13,6 +13,8 @@ ended_tree : (t : Tree) → (counts_of (shape_of t)).terminated ≡ terminated t
 ended_tree skip = refl
 ended_tree (send b) = refl
 ended_tree (receive b) = refl
+ended_tree close = refl
+ended_tree wait = refl
 ended_tree (select cs) = refl
 ended_tree (offer cs) = refl
 ended_tree (seq s r) = λ i. ended_tree s i && ended_tree r i

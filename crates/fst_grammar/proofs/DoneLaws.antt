@@ -1,5 +1,5 @@
 -- What the steps of the translation come to.
-use Rattle.std.proofs.Common.{◌≡◌, ◌∙◌, ◌+◌, ◌<◌, ◌≤◌, inr, refl, sym, subst, ℕ, List, [], ◌++◌, length, get_or}
+use Rattle.std.proofs.Common.{◌≡◌, ◌∙◌, ◌+◌, ◌<◌, ◌≤◌, inr, refl, sym, subst, arith, ℕ, List, [], ◌++◌, length, get_or}
 use Rattle.std.specs.Prelude.{All, Result, Ok, Err, IfErr}
 use Rattle.std.specs.Result.{IsErrAnd}
 use Rattle.fst_types.specs.Tree.{Tree}
@@ -14,18 +14,19 @@ use Rattle.fst_grammar.specs.Word.{word}
 use Rattle.fst_parts.specs.Labels.{labels_in, names}
 use Rattle.fst_parts.specs.Letters.{with_labels}
 use Rattle.fst_parts.specs.Once.{Part}
-use Rattle.fst_grammar.specs.Parts.{parts_of, numbers_by}
-use Rattle.fst_grammar.specs.Equations.{Equation, Solves, equations_by, IsGrounded, HasRanks, HasOrderedRows, AreFine, most_rank}
+use Rattle.fst_grammar.specs.Parts.{parts_of, numbers_by, dead_count}
+use Rattle.fst_grammar.specs.Equations.{Equation, Solves, live_equations, dead_equations, equations_by, IsGrounded, HasRanks, HasOrderedRows, AreFine, most_rank}
 use Rattle.fst_grammar.specs.Translation.{IsGrammar, IsTooLarge, right_sides}
 use Rattle.fst_grammar.specs.Done.{IsDone}
 use Rattle.fst_grammar.specs.declared.fault.TranslateFault.{TranslateFault}
 use Rattle.fst_grammar.specs.declared.fault.TranslateFault.TheVariants.{TooLarge}
 use Rattle.fst_parts.proofs.Laws.{letters_are}
 use Rattle.fst_grammar.proofs.SolveLaws.{solution, solves, solution_fine}
-use Rattle.fst_grammar.proofs.RuledLaws.{each_ruled}
+use Rattle.fst_grammar.proofs.RuledLaws.{HasRule, each_ruled}
+use Rattle.fst_grammar.proofs.SizeLaws.{live_length, equations_length}
 use Rattle.fst_grammar.proofs.RankLaws.{rank}
 use Rattle.fst_grammar.proofs.SoundLaws.{word_below}
-use Rattle.fst_grammar.proofs.TranslationLaws.{seated, known_left, known_right, fit_left, fit_right, equations_fine, equations_ruled, equations_length, equations_grounded, grammar_is, stands}
+use Rattle.fst_grammar.proofs.TranslationLaws.{seated, known_left, known_right, fit_left, fit_right, equations_fine, equations_ruled, equations_grounded, grammar_is, stands}
 use Rattle.fst_base.specs.Limits.{most_nodes, most_letters}
 
 -- a fault that is passed on is still the same
@@ -42,8 +43,11 @@ module _ (s r : Tree) (ws : (vars : List Kind) × IsSession vars s) (wr : (vars 
   abbrev all_equations : List Equation
   all_equations = equations_by all_letters (parts_of s r)
 
+  abbrev live : ℕ
+  live = length (names all_letters) + length (parts_of s r)
+
   abbrev total : ℕ
-  total = length (names all_letters) + length (parts_of s r)
+  total = live + dead_count all_letters
 
   abbrev rows : Productions
   rows = solution most_rank all_equations
@@ -61,14 +65,17 @@ module _ (s r : Tree) (ws : (vars : List Kind) × IsSession vars s) (wr : (vars 
   rows_grammar = grammar_is ws.0 s r ws.1 wr few_s few_r all_letters (letters_are s r) rows rows_solve
 
   rows_length : length rows ≡ total
-  rows_length = rows_solve.count ∙ equations_length ws.0 s r ws.1 wr few_s few_r all_letters (letters_are s r)
+  rows_length = rows_solve.count ∙ equations_length all_letters (parts_of s r)
 
-  rows_ruled : EachHasRule rows
+  rows_ruled : EachHasRule live rows
   rows_ruled =
-      each_ruled all_equations (rank all_letters (parts_of s r)
+      let long : length (live_equations all_letters (parts_of s r)) ≡ live = live_length all_letters (parts_of s r) in
+      subst (λ n. EachHasRule n rows) long
+      (each_ruled (live_equations all_letters (parts_of s r)) (dead_equations all_letters) (rank all_letters (parts_of s r)
       (seated ws.0 s r ws.1 wr few_s few_r all_letters (letters_are s r))) most_rank
       (equations_grounded ws.0 s r ws.1 wr few_s few_r all_letters (letters_are s r))
-      (equations_ruled ws.0 s r ws.1 wr few_s few_r all_letters (letters_are s r)) rows rows_solve
+      (subst (λ n. All (HasRule n) (live_equations all_letters (parts_of s r))) (sym long)
+      (equations_ruled ws.0 s r ws.1 wr few_s few_r all_letters (letters_are s r))) rows rows_solve)
 
   -- the words and rules of this grammar
   rows_done : IsDone s r all_letters rows (word (numbers_by all_letters (parts_of s r)) (top_of s) s)
@@ -76,17 +83,17 @@ module _ (s r : Tree) (ws : (vars : List Kind) × IsSession vars s) (wr : (vars 
   rows_done = record {
     translation = record { grammar = rows_grammar; left = refl; right = refl };
     left = stands ws.0 (numbers_by all_letters (parts_of s r)) all_letters rows s ws.1
-        (known_left ws.0 s r ws.1 wr few_s few_r all_letters (letters_are s r)) rows_grammar.left;
+        (known_left ws.0 s r ws.1 wr few_s few_r all_letters (letters_are s r)) rows_grammar.dead rows_grammar.left;
     right = stands wr.0 (numbers_by all_letters (parts_of s r)) all_letters rows r wr.1
-        (known_right ws.0 s r ws.1 wr few_s few_r all_letters (letters_are s r)) rows_grammar.right;
+        (known_right ws.0 s r ws.1 wr few_s few_r all_letters (letters_are s r)) rows_grammar.dead rows_grammar.right;
     range = record {
       rules = λ i d lt. subst (λ n. All (λ (q : Rule). WordBelow n q.word) (get_or rows i d)) (sym rows_length)
           (rows_fine i d lt).words;
       left = subst (λ n. WordBelow n (word (numbers_by all_letters (parts_of s r)) (top_of s) s)) (sym rows_length)
-          (word_below all_letters (parts_of s r) (top_of s) s
+          (word_below all_letters (parts_of s r) total (omega arith) (top_of s) s
           (fit_left ws.0 s r ws.1 wr few_s few_r all_letters (letters_are s r)));
       right = subst (λ n. WordBelow n (word (numbers_by all_letters (parts_of s r)) (top_of r) r)) (sym rows_length)
-          (word_below all_letters (parts_of s r) (top_of r) r
+          (word_below all_letters (parts_of s r) total (omega arith) (top_of r) r
           (fit_right ws.0 s r ws.1 wr few_s few_r all_letters (letters_are s r)));
       below = λ i d lt. (rows_fine i d lt).below;
       rising = (letters_are s r).0;

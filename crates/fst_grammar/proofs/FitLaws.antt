@@ -1,12 +1,12 @@
 -- What is known of a part at its place in two types, and so of each part within it.
 use Rattle.std.proofs.Common.{◌≡◌, ◌+◌, ◌≤◌, refl, subst, arith, ℕ, List, [], ◌∷◌, length, Bool, true, false, Some}
 use Rattle.std.specs.Prelude.{if◌then◌else◌, ⊤}
-use Rattle.fst_types.specs.Tree.{Tree, skip, send, receive, select, offer, seq, rec, back, var, plain, arrow, pair, named, Branches, none, branch}
+use Rattle.fst_types.specs.Tree.{Tree, skip, send, receive, close, wait, select, offer, seq, rec, back, var, plain, arrow, pair, named, Branches, none, branch}
 use Rattle.fst_types.specs.Size.{nodes, nodes_all}
 use Rattle.fst_types.specs.Order.{IsOrdered, AllOrdered}
 use Rattle.fst_types.specs.Scoped.{IsScoped, AllScoped}
 use Rattle.fst_types.specs.declared.label.Label.{Label}
-use Rattle.fst_types.specs.declared.label.Label.TheVariants.{Send, Receive, Select, Offer, Var}
+use Rattle.fst_types.specs.declared.label.Label.TheVariants.{Send, Receive, Select, Offer, Close, Wait, Var}
 use Rattle.fst_kinds.specs.Contractive.{IsContractive, AllContractive}
 use Rattle.fst_lts.specs.Step.{terminated}
 use Rattle.fst_parts.specs.Place.{Place, is_closed, place_past, own_place, own_place_if, body_place}
@@ -24,6 +24,8 @@ abbrev mutual
   AreKnown letters skip = ⊤
   AreKnown letters (send b) = Known letters (Send b)
   AreKnown letters (receive b) = Known letters (Receive b)
+  AreKnown letters close = Known letters Close
+  AreKnown letters wait = Known letters Wait
   AreKnown letters (select cs) = AllKnown letters Select cs
   AreKnown letters (offer cs) = AllKnown letters Offer cs
   AreKnown letters (seq s r) = AreKnown letters s × AreKnown letters r

@@ -2,12 +2,12 @@
 use Rattle.std.proofs.Common.{◌≡◌, ◌∙◌, ◌<◌, ◌⊎◌, inl, inr, refl, sym, arith, ℕ, suc, List, [], ◌∷◌, ◌++◌, length, Bool, true, false}
 use Rattle.std.specs.Prelude.{Contains, if◌then◌else◌}
 use Rattle.std.proofs.lemmas.List.Elements.{Contains-append_left, Contains-append_right}
-use Rattle.fst_types.specs.Tree.{Tree, skip, send, receive, select, offer, seq, rec, back, var, plain, arrow, pair, named, Branches, none, branch}
+use Rattle.fst_types.specs.Tree.{Tree, skip, send, receive, close, wait, select, offer, seq, rec, back, var, plain, arrow, pair, named, Branches, none, branch}
 use Rattle.fst_types.specs.Order.{same_label}
 use Rattle.fst_types.specs.declared.kind.Kind.{Kind}
 use Rattle.fst_types.specs.declared.kind.Use.{Use}
 use Rattle.fst_types.specs.declared.label.Label.{Label}
-use Rattle.fst_types.specs.declared.label.Label.TheVariants.{Send, Receive, Select, Offer, Var}
+use Rattle.fst_types.specs.declared.label.Label.TheVariants.{Send, Receive, Select, Offer, Close, Wait, Var}
 use Rattle.fst_types.proofs.Laws.{same_label_is}
 use Rattle.fst_kinds.specs.Kinds.{session, HasKind, AllSessions}
 use Rattle.fst_kinds.proofs.Laws.{not_top}
@@ -34,6 +34,8 @@ mutual
   session_known vars letters skip u h k = tt
   session_known vars letters (send b) u h k = k (Send b) (contains_head [] (Send b) (Send b) refl)
   session_known vars letters (receive b) u h k = k (Receive b) (contains_head [] (Receive b) (Receive b) refl)
+  session_known vars letters close u h k = k Close (contains_head [] Close Close refl)
+  session_known vars letters wait u h k = k Wait (contains_head [] Wait Wait refl)
   session_known vars letters (select cs) u h k = sessions_known vars letters Select cs h.0 k
   session_known vars letters (offer cs) u h k = sessions_known vars letters Offer cs h.0 k
   session_known vars letters (seq s r) u h k = (

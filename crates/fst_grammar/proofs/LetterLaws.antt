@@ -95,7 +95,7 @@ unknown letters l a k e = pick (same_label a l) refl
         absurd (omega arith)
     pick false is = refl
 
--- a known label of a message or variable is among the names
+-- a known label of a message or variable is among the names, and so are Close and Wait
 pub name_known : (letters : List Label) (a : Label) → is_name a ≡ true → Known letters a → Known (names letters) a
 name_known [] a is h = absurd (omega arith)
 name_known (l ∷ letters) a is h = pick (name_known letters a is) (same_label a l) refl (is_name l) refl h

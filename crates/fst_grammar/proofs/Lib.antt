@@ -1,11 +1,13 @@
 pub mod AbstractRules
 pub mod ClosingLaws
+pub mod WordLaws
 pub mod StandLaws
 pub mod CountLaws
 pub mod SeekLaws
 pub mod TableLaws
 pub mod LetterLaws
 pub mod FitLaws
+pub mod EquationLaws
 pub mod RowLaws
 pub mod RankLaws
 pub mod SoundLaws

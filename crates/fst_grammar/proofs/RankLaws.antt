@@ -3,11 +3,11 @@ use Rattle.std.proofs.Common.{◌≡◌, ◌∙◌, ◌+◌, ◌*◌, ◌-◌, �
 use Rattle.std.specs.Prelude.{if◌then◌else◌, slice_get, nat_lt, not}
 use Rattle.std.proofs.lemmas.Bool.{eq-eqb, lt-ltb, ltb-true}
 use Rattle.std.proofs.Math.Nat.{mul-le-mul}
-use Rattle.fst_types.specs.Tree.{Tree, skip, send, receive, select, offer, seq, rec, back, var, plain, arrow, pair, named}
+use Rattle.fst_types.specs.Tree.{Tree, skip, send, receive, close, wait, select, offer, seq, rec, back, var, plain, arrow, pair, named}
 use Rattle.fst_types.specs.Size.{nodes}
 use Rattle.fst_types.specs.Scoped.{IsScoped}
 use Rattle.fst_types.specs.declared.label.Label.{Label}
-use Rattle.fst_types.specs.declared.label.Label.TheVariants.{Send, Receive, Var}
+use Rattle.fst_types.specs.declared.label.Label.TheVariants.{Send, Receive, Close, Wait, Var}
 use Rattle.fst_kinds.specs.Contractive.{guards, reaches}
 use Rattle.fst_kinds.proofs.Laws.{unreached}
 use Rattle.fst_lts.specs.Step.{terminated}
@@ -20,7 +20,7 @@ use Rattle.fst_grammar.specs.Parts.{numbers_by}
 use Rattle.fst_base.specs.Limits.{most_nodes}
 use Rattle.fst_grammar.specs.Equations.{most_rank}
 use Rattle.fst_grammar.proofs.ClosingLaws.{scoped_if_closed}
-use Rattle.fst_grammar.proofs.StandLaws.{ended_word}
+use Rattle.fst_grammar.proofs.WordLaws.{ended_word}
 use Rattle.fst_grammar.proofs.LetterLaws.{Known, name_known}
 use Rattle.fst_grammar.proofs.SeekLaws.{Every, IsSeated, found_in}
 use Rattle.fst_grammar.proofs.TableLaws.{Has, numbered, every_get}
@@ -43,6 +43,8 @@ rank_same : (t : Tree) (e f : List ℕ) → ((k : ℕ) → reaches t k ≡ true 
 rank_same skip e f h = refl
 rank_same (send b) e f h = refl
 rank_same (receive b) e f h = refl
+rank_same close e f h = refl
+rank_same wait e f h = refl
 rank_same (select cs) e f h = refl
 rank_same (offer cs) e f h = refl
 rank_same (seq s r) e f h =
@@ -82,6 +84,8 @@ rank_most : (t : Tree) (env : List ℕ) (b : ℕ) → ((k : ℕ) → binder env 
 rank_most skip env b h = omega arith
 rank_most (send a) env b h = omega arith
 rank_most (receive a) env b h = omega arith
+rank_most close env b h = omega arith
+rank_most wait env b h = omega arith
 rank_most (select cs) env b h = omega arith
 rank_most (offer cs) env b h = omega arith
 rank_most (seq s r) env b h = pick (rank_most s env b h) (rank_most r env b h) (terminated s)
@@ -171,6 +175,8 @@ module _ (letters : List Label) (found : List Part) (seated : Every IsSeated fou
   head_rank p skip h e = absurd (cc e)
   head_rank p (send b) h e = name_head (Send b) refl h.known
   head_rank p (receive b) h e = name_head (Receive b) refl h.known
+  head_rank p close h e = name_head Close refl h.known
+  head_rank p wait h e = name_head Wait refl h.known
   head_rank p (select cs) h e = (node_at n (own_place p (select cs)), [], refl, node_rank _ _ _ (own_select letters found p cs h))
   head_rank p (offer cs) h e = (node_at n (own_place p (offer cs)), [], refl, node_rank _ _ _ (own_offer letters found p cs h))
   head_rank p (seq s r) h e =

@@ -1,72 +1,48 @@
 -- Productions that solve the equations have the rules of both types, and rows are rules by labels.
-use Rattle.std.proofs.Common.{◌≡◌, ◌∙◌, ◌+◌, refl, sym, ap, arith, ℕ, zero, suc, List, [], ◌∷◌, ◌++◌, length, Bool, true, false, Option, Some, None, append_assoc, ◌==◌, map}
-use Rattle.std.specs.Prelude.{option_map, option_and_then, if◌then◌else◌, slice_get}
-use Rattle.std.proofs.lemmas.List.{length-map}
-use Rattle.fst_types.specs.Tree.{Tree, skip, send, receive, select, offer, seq, rec, back, var, plain, arrow, pair, named, Branches, none, branch}
+use Rattle.std.proofs.Common.{◌≡◌, ◌∙◌, ◌+◌, refl, sym, ap, arith, ℕ, List, [], ◌∷◌, ◌++◌, length, Bool, true, false, Option, Some, None, append_assoc, ◌==◌}
+use Rattle.std.specs.Prelude.{option_map, option_and_then, if◌then◌else◌}
+use Rattle.std.proofs.lemmas.List.{get_or_past}
+use Rattle.fst_types.specs.Tree.{Tree, skip, send, receive, close, wait, select, offer, seq, rec, back, var, plain, arrow, pair, named, Branches, none, branch}
 use Rattle.fst_types.specs.Size.{nodes}
 use Rattle.fst_types.specs.Order.{same_label}
 use Rattle.fst_types.specs.declared.label.Label.{Label}
-use Rattle.fst_types.specs.declared.label.Label.TheVariants.{Send, Receive, Select, Offer, Var}
+use Rattle.fst_types.specs.declared.label.Label.TheVariants.{Send, Receive, Select, Offer, Close, Wait, Var}
 use Rattle.fst_words.specs.declared.rules.Rule.{Rule}
 use Rattle.fst_words.specs.Words.{Productions, row_of, rule_of, step, letter_of, label_step}
 use Rattle.fst_parts.specs.Place.{Place, place_past, own_place, body_place}
 use Rattle.fst_grammar.specs.Word.{Numbers, node_at, word}
-use Rattle.fst_parts.specs.Labels.{is_name, names, label_position}
-use Rattle.fst_parts.specs.Once.{Part, position}
-use Rattle.fst_grammar.specs.Parts.{numbers_by}
-use Rattle.fst_grammar.specs.Rules.{rules_before, word_rules, name_rules, branch_rules, HasRows, HaveRows}
-use Rattle.fst_grammar.specs.Equations.{own, rules_by, Solves, equation_at, part_equation, equations_by}
+use Rattle.fst_parts.specs.Labels.{is_name}
+use Rattle.fst_parts.specs.Once.{Part}
+use Rattle.fst_grammar.specs.Parts.{numbers_by, has_end, dead_count}
+use Rattle.fst_grammar.specs.Rules.{rules_before, word_rules, name_word, name_rules, branch_rules, HasRows, HaveRows}
+use Rattle.fst_grammar.specs.Equations.{own, rules_by, Solves, equation_at, equations_by}
 use Rattle.fst_grammar.proofs.AbstractRules.{Rule as Rewriting, move, branch_word, HasRules, HaveRules}
-use Rattle.fst_grammar.proofs.StandLaws.{append_nothing}
-use Rattle.fst_grammar.proofs.LetterLaws.{Known, located, tells, unknown, name_known}
+use Rattle.fst_grammar.proofs.WordLaws.{append_nothing}
+use Rattle.fst_grammar.proofs.LetterLaws.{Known, tells, unknown}
 use Rattle.fst_grammar.proofs.SeekLaws.{Every, IsSeated, found_in}
-use Rattle.fst_grammar.proofs.TableLaws.{Has, numbered}
+use Rattle.fst_grammar.proofs.TableLaws.{Has}
+use Rattle.fst_grammar.proofs.SizeLaws.{equations_length}
+use Rattle.fst_grammar.proofs.EquationLaws.{name_equation, node_equation, dead_equation}
 use Rattle.fst_grammar.proofs.FitLaws.{AreKnown, AllKnown, IsFit, AreFit, fit_first, fit_second, fit_select, fit_offer, fit_body, fit_branch, fit_others, own_select, own_offer, own_rec}
-use Rattle.std.proofs.lemmas.List.{length-map}
-use Rattle.std.proofs.lemmas.Option.{slice_get-map}
-
--- reading lists
-
-get_front : {A : Type 0} (xs ys : List A) (k : ℕ) (x : A) → slice_get xs k ≡ Some x → slice_get (xs ++ ys) k ≡ Some x
-get_front [] ys k x e = absurd (cc e)
-get_front (y ∷ xs) ys zero x e = e
-get_front (y ∷ xs) ys (suc k) x e = get_front xs ys k x e
-
-get_behind : {A : Type 0} (xs ys : List A) (k : ℕ) → slice_get (xs ++ ys) (length xs + k) ≡ slice_get ys k
-get_behind [] ys k = let z : 0 + k ≡ k = omega arith in ap (slice_get ys) z
-get_behind (x ∷ xs) ys k =
-    let s : suc (length xs) + k ≡ suc (length xs + k) = omega arith in
-    ap (slice_get (x ∷ (xs ++ ys))) s ∙ get_behind xs ys k
-
--- the equation of a message or variable
-pub name_equation : (letters : List Label) (found : List Part) (a : Label) → is_name a ≡ true → Known letters a →
-    slice_get (equations_by letters found) (label_position (names letters) a) ≡ Some (own (name_rules letters a))
-name_equation letters found a is k =
-    get_front (map (λ b. own (name_rules letters b)) (names letters))
-    (map (part_equation (numbers_by letters found) letters) found) (label_position (names letters) a)
-    (own (name_rules letters a))
-    (slice_get-map (λ b. own (name_rules letters b)) (names letters) (label_position (names letters) a)
-    ∙ ap (option_map (λ b. own (name_rules letters b))) (located (names letters) a (name_known letters a is k)))
-
--- the equation of a part at its place
-pub node_equation : (letters : List Label) (found : List Part) → Every IsSeated found → (w : Tree) (a : ℕ) (x : Part) →
-    (found_in w a ≡ Some x) × Has found w a →
-    slice_get (equations_by letters found) (length (names letters) + position found w a) ≡ Some
-    (part_equation (numbers_by letters found) letters x)
-node_equation letters found seated w a x h =
-    let f = part_equation (numbers_by letters found) letters in
-    ap (λ m. slice_get (equations_by letters found) (m + position found w a))
-    (sym (length-map (names letters) (λ b. own (name_rules letters b))))
-    ∙ get_behind (map (λ b. own (name_rules letters b)) (names letters)) (map f found) (position found w a)
-    ∙ slice_get-map f found (position found w a) ∙ ap (option_map f) (numbered found seated w a x h.1 h.0)
 
 module _ (letters : List Label) (found : List Part) (rows : Productions) (seated : Every IsSeated found)
     (solved : Solves rows (equations_by letters found)) where
   abbrev n : Numbers
   n = numbers_by letters found
 
-  name_row : (a : Label) → is_name a ≡ true → Known letters a → row_of rows (n.name a) ≡ name_rules letters a
-  name_row a is k = solved.each (n.name a) (own (name_rules letters a)) (name_equation letters found a is k)
+  name_row : (a : Label) → is_name a ≡ true → Known letters a → row_of rows (n.name a) ≡ name_rules n letters a
+  name_row a is k = solved.each (n.name a) (own (name_rules n letters a)) (name_equation letters found a is k)
+
+  -- the dead non-terminal has no rules
+  pub dead_row : row_of rows n.dead ≡ []
+  dead_row = pick (has_end letters) refl
+    where
+      pick : (c : Bool) → has_end letters ≡ c → row_of rows n.dead ≡ []
+      pick true e = solved.each n.dead (own []) (dead_equation letters found e)
+      pick false e =
+          let long : length rows ≡ n.dead + dead_count letters = solved.count ∙ equations_length letters found in
+          let none : dead_count letters ≡ 0 = ap (λ c. if c then 1 else 0) e in
+          get_or_past rows n.dead [] (omega arith)
 
   node_row : (q : Place) (t : Tree) → (found_in q.whole q.at ≡ Some (record { place = q; type = t })) × Has found q.whole q.at →
       row_of rows (node_at n q) ≡ rules_by rows (equation_at n letters q t)
@@ -79,6 +55,8 @@ module _ (letters : List Label) (found : List Part) (rows : Productions) (seated
     has_rows p skip h = tt
     has_rows p (send b) h = name_row (Send b) refl h.known
     has_rows p (receive b) h = name_row (Receive b) refl h.known
+    has_rows p close h = name_row Close refl h.known
+    has_rows p wait h = name_row Wait refl h.known
     has_rows p (select cs) h = (
       node_row (own_place p (select cs)) (select cs) (own_select letters found p cs h),
       have_rows Select (place_past (own_place p (select cs)) 1) cs (fit_select letters found p cs h),
@@ -136,12 +114,16 @@ module _ (n : Numbers) (letters : List Label) (rows : Productions) where
   abbrev pub rule_in : Rewriting
   rule_in m a = option_and_then (rule_of (row_of rows m)) (letter_of letters a)
 
+  no_rule : (o : Option ℕ) → option_and_then (rule_of []) o ≡ None
+  no_rule None = refl
+  no_rule (Some i) = refl
+
+  -- a non-terminal without rules has none for a label
+  pub no_rule_in : (m : ℕ) → row_of rows m ≡ [] → (a : Label) → rule_in m a ≡ None
+  no_rule_in m e a = ap (λ rules. option_and_then (rule_of rules) (letter_of letters a)) e ∙ no_rule (letter_of letters a)
+
   word_moves : (w : List ℕ) (a : Label) → option_and_then (rule_of (word_rules rows w)) (letter_of letters a) ≡ move rule_in w a
-  word_moves [] a = pick (letter_of letters a)
-    where
-      pick : (o : Option ℕ) → option_and_then (rule_of []) o ≡ None
-      pick None = refl
-      pick (Some i) = refl
+  word_moves [] a = no_rule (letter_of letters a)
   word_moves (z ∷ d) a = pick (letter_of letters a)
     where
       pick : (o : Option ℕ) → option_and_then (rule_of (rules_before d (row_of rows z))) o ≡ option_map
@@ -150,13 +132,14 @@ module _ (n : Numbers) (letters : List Label) (rows : Productions) where
       pick (Some i) = rule_carried d (row_of rows z) i
 
   name_rule : (l a : Label) → Known letters l →
-      option_and_then (rule_of (name_rules letters l)) (letter_of letters a) ≡ (if same_label a l then Some [] else None)
+      option_and_then (rule_of (name_rules n letters l)) (letter_of letters a) ≡ (if same_label a l then Some
+      (name_word n l) else None)
   name_rule l a k = pick (letter_of letters a) refl
     where
       pick : (o : Option ℕ) → letter_of letters a ≡ o →
-          option_and_then (rule_of (name_rules letters l)) o ≡ (if same_label a l then Some [] else None)
-      pick None is = sym (ap (λ c. if c then Some [] else None) (unknown letters l a k is))
-      pick (Some i) is = ap (λ c. if c then Some [] else None) (tells letters l a i k is)
+          option_and_then (rule_of (name_rules n letters l)) o ≡ (if same_label a l then Some (name_word n l) else None)
+      pick None is = sym (ap (λ c. if c then Some (name_word n l) else None) (unknown letters l a k is))
+      pick (Some i) is = ap (λ c. if c then Some (name_word n l) else None) (tells letters l a i k is)
 
   branch_rule : (make : List ℕ → Label) (p : Place) (cs : Branches) → AllKnown letters make cs →
       (a : Label) (o : Option ℕ) → letter_of letters a ≡ o →
@@ -183,6 +166,10 @@ module _ (n : Numbers) (letters : List Label) (rows : Productions) where
     has_rules p (send b) k h = λ a. ap (λ rules. option_and_then (rule_of rules) (letter_of letters a)) h ∙ name_rule (Send b) a k
     has_rules p (receive b) k h = λ a. ap (λ rules. option_and_then (rule_of rules) (letter_of letters a)) h
         ∙ name_rule (Receive b) a k
+    has_rules p close k h = λ a. ap (λ rules. option_and_then (rule_of rules) (letter_of letters a)) h
+        ∙ name_rule Close a k
+    has_rules p wait k h = λ a. ap (λ rules. option_and_then (rule_of rules) (letter_of letters a)) h
+        ∙ name_rule Wait a k
     has_rules p (select cs) k h =
         let q = own_place p (select cs) in (
           λ a. ap (λ rules. option_and_then (rule_of rules) (letter_of letters a)) h.0

@@ -2,7 +2,7 @@
 use Rattle.std.proofs.Common.{◌≡◌, ◌∙◌, ◌+◌, ◌<◌, ◌≤◌, refl, ap, arith, ℕ, List, [], ◌∷◌, ◌++◌, Bool, true, false, Option, Some, None, ◌==◌}
 use Rattle.std.specs.Prelude.{if◌then◌else◌, nat_lt, ⊤}
 use Rattle.std.proofs.lemmas.Bool.{eq-eqb, lt-ltb, le-ltb, ne_eqb}
-use Rattle.fst_types.specs.Tree.{Tree, skip, send, receive, select, offer, seq, rec, back, var, plain, arrow, pair, named, Branches, none, branch}
+use Rattle.fst_types.specs.Tree.{Tree, skip, send, receive, close, wait, select, offer, seq, rec, back, var, plain, arrow, pair, named, Branches, none, branch}
 use Rattle.fst_types.specs.Size.{nodes, nodes_all}
 use Rattle.fst_lts.specs.Step.{terminated}
 use Rattle.fst_parts.specs.Place.{Place, is_closed, top_of, place_past, own_place, own_place_if, body_place}
@@ -131,6 +131,8 @@ mutual
   all_seated p skip h = tt
   all_seated p (send b) h = tt
   all_seated p (receive b) h = tt
+  all_seated p close h = tt
+  all_seated p wait h = tt
   all_seated p (select cs) h =
       let q = own_place p (select cs) in
       let g = sees_entered p (select cs) h in

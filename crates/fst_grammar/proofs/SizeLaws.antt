@@ -1,11 +1,11 @@
 -- How many labels and parts types have, how far on they stand, and how many letters rules have.
-use Rattle.std.proofs.Common.{◌≡◌, ◌∙◌, ◌+◌, ◌<◌, ◌≤◌, ◌^◌, sym, ap, subst, arith, ℕ, suc, List, [], ◌∷◌, ◌++◌, length, Bool, true, false, map}
+use Rattle.std.proofs.Common.{◌≡◌, ◌∙◌, ◌+◌, ◌<◌, ◌≤◌, ◌^◌, refl, sym, ap, subst, arith, ℕ, suc, List, [], ◌∷◌, ◌++◌, length, Bool, true, false, map}
 use Rattle.std.specs.Prelude.{All, nat_lt, if◌then◌else◌}
 use Rattle.std.specs.declared.cmp.Ordering.{Ordering}
 use Rattle.std.specs.declared.cmp.Ordering.TheVariants.{Less, Equal, Greater}
 use Rattle.std.proofs.lemmas.List.{length-append, length-map}
 use Rattle.std.proofs.lemmas.List.Elements.{All-cons}
-use Rattle.fst_types.specs.Tree.{Tree, skip, send, receive, select, offer, seq, rec, back, var, plain, arrow, pair, named, Branches, none, branch}
+use Rattle.fst_types.specs.Tree.{Tree, skip, send, receive, close, wait, select, offer, seq, rec, back, var, plain, arrow, pair, named, Branches, none, branch}
 use Rattle.fst_types.specs.Size.{nodes, nodes_all}
 use Rattle.fst_types.specs.Order.{label_cmp}
 use Rattle.fst_types.specs.declared.label.Label.{Label}
@@ -15,9 +15,10 @@ use Rattle.fst_parts.specs.Place.{Place, is_closed, top_of, place_past, own_plac
 use Rattle.fst_parts.specs.Labels.{labels_in, branch_labels, is_name, names}
 use Rattle.fst_parts.specs.Letters.{with_label, with_label_by, with_labels}
 use Rattle.fst_parts.specs.Once.{Part, position, with_part, with_parts}
-use Rattle.fst_grammar.specs.Parts.{parts, parts_all, parts_of, numbers_by}
+use Rattle.fst_grammar.specs.Parts.{parts, parts_all, parts_of, numbers_by, has_end, dead_count}
 use Rattle.fst_grammar.specs.Rules.{name_rules}
-use Rattle.fst_grammar.specs.Equations.{own, part_equation, equations_by}
+use Rattle.fst_grammar.specs.Word.{Numbers}
+use Rattle.fst_grammar.specs.Equations.{Equation, own, part_equation, live_equations, dead_equations, equations_by}
 use Rattle.fst_parts.specs.Views.{part_of}
 use Rattle.fst_grammar.specs.Views.{equation_of}
 use Rattle.fst_grammar.specs.declared.equations.Equation.{Equation as Kept}
@@ -30,6 +31,8 @@ mutual
   labels_few skip = omega arith
   labels_few (send b) = omega arith
   labels_few (receive b) = omega arith
+  labels_few close = omega arith
+  labels_few wait = omega arith
   labels_few (select cs) = omega (arith, branches_few Select cs)
   labels_few (offer cs) = omega (arith, branches_few Offer cs)
   labels_few (seq s r) = omega (arith, length-append (labels_in s) (labels_in r), labels_few s, labels_few r)
@@ -79,6 +82,8 @@ mutual
   parts_few p skip = omega arith
   parts_few p (send b) = omega arith
   parts_few p (receive b) = omega arith
+  parts_few p close = omega arith
+  parts_few p wait = omega arith
   parts_few p (select cs) = omega (arith, parts_all_few (place_past (own_place p (select cs)) 1) cs)
   parts_few p (offer cs) = omega (arith, parts_all_few (place_past (own_place p (offer cs)) 1) cs)
   parts_few p (seq s r) = omega (
@@ -135,6 +140,8 @@ mutual
   parts_within p skip b h = tt
   parts_within p (send x) b h = tt
   parts_within p (receive x) b h = tt
+  parts_within p close b h = tt
+  parts_within p wait b h = tt
   parts_within p (select cs) b h = let le = entered_within (is_closed (select cs)) p (select cs) b h in
       (le, parts_all_within (place_past (own_place p (select cs)) 1) cs b (omega arith))
   parts_within p (offer cs) b h = let le = entered_within (is_closed (offer cs)) p (offer cs) b h in
@@ -170,8 +177,6 @@ pub found_within : (b : ℕ) (ps : List Found) → Every (EndsWithin b) (map par
 found_within b [] h = λ i d lt. absurd (omega arith)
 found_within b (p ∷ ps) h = All-cons (λ (q : Found). q.at + nodes q.part.ty.now ≤ b) p ps h.0 (found_within b ps h.1)
 
--- letters on right sides
-
 -- all numbers of two types within the limit fit
 pub table_small : (s r : Tree) (letters : List Label) (found : List Part) → nodes s ≤ 4096 → nodes r ≤ 4096 →
     letters ≡ with_labels [] (labels_in s ++ labels_in r) → found ≡ parts_of s r →
@@ -205,11 +210,36 @@ table_within s r ps few_s few_r is i d lt =
     omega arith
 
 -- there is an equation for each name and each part
+pub live_length : (letters : List Label) (found : List Part) →
+    length (live_equations letters found) ≡ length (names letters) + length found
+live_length letters found =
+    let n : Numbers = numbers_by letters found in
+    length-append (map (λ a. own (name_rules n letters a)) (names letters)) (map (part_equation n letters) found)
+    ∙ (λ i. length-map (names letters) (λ a. own (name_rules n letters a)) i + length-map found (part_equation n letters) i)
+
+dead_length : (letters : List Label) → length (dead_equations letters) ≡ dead_count letters
+dead_length letters = pick (has_end letters)
+  where
+    pick : (c : Bool) → length {A = Equation} (if c then own [] ∷ [] else []) ≡ (if c then 1 else 0)
+    pick true = refl
+    pick false = refl
+
+-- and one for the dead non-terminal, where there is one
+pub equations_length : (letters : List Label) (found : List Part) →
+    length (equations_by letters found) ≡ length (names letters) + length found + dead_count letters
+equations_length letters found =
+    length-append (live_equations letters found) (dead_equations letters)
+    ∙ (λ i. live_length letters found i + dead_length letters i)
+
+-- so there is at most one more than names and parts
 pub equations_count : (es : List Kept) (letters : List Label) (found : List Part) →
-    map equation_of es ≡ equations_by letters found → length es ≡ length (names letters) + length found
+    map equation_of es ≡ equations_by letters found → length es ≤ length (names letters) + length found + 1
 equations_count es letters found is =
-    sym (length-map es equation_of) ∙ ap length is
-    ∙ length-append (map (λ a. own (name_rules letters a)) (names letters))
-    (map (part_equation (numbers_by letters found) letters) found)
-    ∙ (λ i. length-map (names letters) (λ a. own (name_rules letters a)) i + length-map found
-    (part_equation (numbers_by letters found) letters) i)
+    let count : length es ≡ length (names letters) + length found + dead_count letters = sym (length-map es equation_of)
+    ∙ ap length is ∙ equations_length letters found in
+    let few = dead_few (has_end letters) in
+    omega arith
+  where
+    dead_few : (c : Bool) → (if c then 1 else 0) ≤ 1
+    dead_few true = omega arith
+    dead_few false = omega arith

@@ -104,7 +104,7 @@ carried_ordered d [] h = tt
 carried_ordered d (r ∷ []) h = (tt, tt)
 carried_ordered d (r ∷ (q ∷ rules)) h = (h.0, carried_ordered d (q ∷ rules) h.1)
 
-none_fine : (total few : ℕ) → AreFine total few []
+pub none_fine : (total few : ℕ) → AreFine total few []
 none_fine total few = record { words = λ i e lt. absurd (omega arith); below = λ i e lt. absurd (omega arith); ordered = tt }
 
 fine_with : (total few : ℕ) (f : ℕ → List Rule) → ((m : ℕ) → AreFine total few (f m)) →

@@ -1,9 +1,8 @@
 -- The equations of two session types are those of their grammar.
-use Rattle.std.proofs.Common.{◌≡◌, ◌∙◌, ◌+◌, ◌<◌, ◌≤◌, refl, sym, ap, subst, arith, ℕ, zero, suc, List, [], ◌∷◌, ◌++◌, length, Bool, true, false, Some, map}
+use Rattle.std.proofs.Common.{◌≡◌, ◌∙◌, ⊎_elim, ◌+◌, ◌<◌, ◌≤◌, refl, sym, ap, subst, arith, ℕ, suc, List, [], ◌∷◌, ◌++◌, length, Bool, true, false, Some, map}
 use Rattle.std.specs.Prelude.{All, Contains, slice_get, if◌then◌else◌, ⊤}
-use Rattle.std.proofs.lemmas.List.{length-append, length-map}
 use Rattle.std.proofs.lemmas.List.Elements.{All-cons, All-head, All-append, Contains-append_left, Contains-append_right}
-use Rattle.fst_types.specs.Tree.{Tree, skip, send, receive, select, offer, seq, rec, back, var, plain, arrow, pair, named, Branches}
+use Rattle.fst_types.specs.Tree.{Tree, skip, send, receive, close, wait, select, offer, seq, rec, back, var, plain, arrow, pair, named, Branches}
 use Rattle.fst_types.specs.Size.{nodes}
 use Rattle.fst_types.specs.declared.kind.Kind.{Kind}
 use Rattle.fst_types.specs.declared.label.Label.{Label}
@@ -12,14 +11,14 @@ use Rattle.fst_kinds.specs.WellFormed.{IsSession}
 use Rattle.fst_lts.specs.Step.{terminated}
 use Rattle.fst_base.specs.Agreement.{Performs}
 use Rattle.fst_words.specs.declared.rules.Rule.{Rule}
-use Rattle.fst_words.specs.Words.{Productions, WordBelow, label_step}
+use Rattle.fst_words.specs.Words.{Productions, row_of, WordBelow, label_step}
 use Rattle.fst_parts.specs.Place.{Place, top_of, place_past, own_place, body_place}
 use Rattle.fst_grammar.specs.Word.{Numbers, word}
 use Rattle.fst_parts.specs.Labels.{is_name, names, labels_in, AreLetters}
 use Rattle.fst_parts.specs.Once.{Part}
-use Rattle.fst_grammar.specs.Parts.{parts, parts_of, numbers_by}
-use Rattle.fst_grammar.specs.Rules.{name_rules, HasRows}
-use Rattle.fst_grammar.specs.Equations.{Equation, own, like, Solves, equation_at, part_equation, equations_by, BeginsLower, IsGrounded, IsFine, most_rank}
+use Rattle.fst_grammar.specs.Parts.{parts, parts_of, numbers_by, has_end, dead_count}
+use Rattle.fst_grammar.specs.Rules.{name_word, name_rules, HasRows}
+use Rattle.fst_grammar.specs.Equations.{Equation, own, like, Solves, equation_at, part_equation, live_equations, dead_equations, equations_by, BeginsLower, IsGrounded, IsFine, most_rank}
 use Rattle.fst_grammar.specs.Translation.{IsGrammar}
 use Rattle.fst_grammar.proofs.AbstractRules.{move}
 use Rattle.fst_grammar.proofs.StandLaws.{performs_same}
@@ -28,10 +27,13 @@ use Rattle.fst_grammar.proofs.KnownLaws.{contains_known, session_known}
 use Rattle.fst_grammar.proofs.SeekLaws.{Every, every_front, every_behind, every_both, IsSeated, all_seated}
 use Rattle.fst_grammar.proofs.TableLaws.{Holds, all_held, every_with, every_get}
 use Rattle.fst_grammar.proofs.FitLaws.{AreKnown, IsFit, fit_select, fit_offer, fit_body}
-use Rattle.fst_grammar.proofs.RowLaws.{has_rows, rule_in, has_rules, moves_by_label}
+use Rattle.fst_grammar.proofs.SizeLaws.{equations_length}
+use Rattle.fst_grammar.proofs.EquationLaws.{equation_cases}
+use Rattle.fst_grammar.proofs.RowLaws.{dead_row, has_rows, rule_in, no_rule_in, has_rules, moves_by_label}
+use Rattle.fst_grammar.proofs.SolveLaws.{none_fine}
 use Rattle.fst_grammar.proofs.RankLaws.{rank, part_rank, entry_rank, rank_entry, body_falls, part_most, number_most}
 use Rattle.fst_grammar.proofs.RuledLaws.{HasRule, names_ruled, branches_ruled}
-use Rattle.fst_grammar.proofs.SoundLaws.{rules_rise, rules_below, selects_rise, offers_rise, word_below, branches_below, every_part}
+use Rattle.fst_grammar.proofs.SoundLaws.{name_word_below, rules_rise, rules_below, selects_rise, offers_rise, word_below, branches_below, every_part}
 use Rattle.fst_grammar.specs.Standing.{StandsFor}
 use Rattle.fst_base.specs.Limits.{most_nodes}
 
@@ -43,48 +45,28 @@ every_all : (P : Equation → Type 0) (f : Part → Equation) (es : List Part) �
 every_all P f [] h = λ i e lt. absurd (omega arith)
 every_all P f (e ∷ es) h = All-cons P (f e) (map f es) h.0 (every_all P f es h.1)
 
--- an equation by a word is that of a part
-like_part : (f : Part → Equation) (es : List Part) (m : ℕ) (w : List ℕ) → slice_get (map f es) m ≡ Some (like w) → (e : Part) ×
-    (slice_get es m ≡ Some e) × (f e ≡ like w)
-like_part f [] m w g = absurd (cc g)
-like_part f (e ∷ es) zero w g = (e, refl, cc)
-like_part f (e ∷ es) (suc m) w g = like_part f es m w g
-
-like_behind : (h : Label → List Rule) (xs : List Label) (f : Part → Equation) (es : List Part) (m : ℕ) (w : List ℕ) →
-    slice_get (map (λ a. own (h a)) xs ++ map f es) m ≡ Some (like w) →
-    (k : ℕ) × (e : Part) × (m ≡ length xs + k) × (slice_get es k ≡ Some e) × (f e ≡ like w)
-like_behind h [] f es m w g =
-    let r = like_part f es m w g in
-    (m, r.0, omega arith, r.1, r.2)
-like_behind h (x ∷ xs) f es zero w g = absurd (cc g)
-like_behind h (x ∷ xs) f es (suc m) w g =
-    let r = like_behind h xs f es m w g in
-    (r.0, r.1, omega (arith, r.2), r.3, r.4)
-
--- each name is a letter
-names_fine : (total : ℕ) (letters xs : List Label) →
-    ((a : Label) → Contains xs a → Known letters a) →
-    All (IsFine total (length letters)) (map (λ a. own (name_rules letters a)) (names xs))
-names_fine total letters [] h = λ i e lt. absurd (omega arith)
-names_fine total letters (x ∷ xs) h = pick (names_fine total letters xs (λ a m. h a (suc m.0, omega (arith, m.1), m.2)))
+-- each name is a letter, and its rule's word is one of the grammar
+names_fine : (total : ℕ) (n : Numbers) (letters xs : List Label) →
+    ((a : Label) → Contains xs a → Known letters a × WordBelow total (name_word n a)) →
+    All (IsFine total (length letters)) (map (λ a. own (name_rules n letters a)) (names xs))
+names_fine total n letters [] h = λ i e lt. absurd (omega arith)
+names_fine total n letters (x ∷ xs) h = pick (names_fine total n letters xs (λ a m. h a (suc m.0, omega (arith, m.1), m.2)))
     (is_name x)
   where
-    none : (P : ℕ → Type 0) → All P []
-    none P i e lt = absurd (omega arith)
+    here : IsFine total (length letters) (own (name_rules n letters x))
+    here =
+        let known = h x (0, omega arith, refl) in
+        record {
+          words = All-cons (λ (r : Rule). WordBelow total r.word) _ [] known.1 (λ i e lt. absurd (omega arith));
+          below = All-cons (λ (r : Rule). r.letter < length letters) _ [] known.0 (λ i e lt. absurd (omega arith));
+          ordered = (tt, tt);
+        }
 
-    here : IsFine total (length letters) (own (name_rules letters x))
-    here = record {
-      words = All-cons (λ (r : Rule). WordBelow total r.word) _ [] (none (λ k. k < total)) (λ i e lt. absurd (omega arith));
-      below = All-cons (λ (r : Rule). r.letter < length letters) _ [] (h x (0, omega arith, refl))
-          (λ i e lt. absurd (omega arith));
-      ordered = (tt, tt);
-    }
-
-    pick : All (IsFine total (length letters)) (map (λ a. own (name_rules letters a)) (names xs)) →
+    pick : All (IsFine total (length letters)) (map (λ a. own (name_rules n letters a)) (names xs)) →
         (c : Bool) → All (IsFine total (length letters))
-        (map (λ a. own (name_rules letters a)) (if c then x ∷ names xs else names xs))
-    pick next true = All-cons (IsFine total (length letters)) (own (name_rules letters x))
-        (map (λ a. own (name_rules letters a)) (names xs)) here next
+        (map (λ a. own (name_rules n letters a)) (if c then x ∷ names xs else names xs))
+    pick next true = All-cons (IsFine total (length letters)) (own (name_rules n letters x))
+        (map (λ a. own (name_rules n letters a)) (names xs)) here next
     pick next false = next
 
 module _ (vars : List Kind) (s r : Tree) (ws : IsSession vars s) (wr : (other : List Kind) × IsSession other r)
@@ -95,8 +77,11 @@ module _ (vars : List Kind) (s r : Tree) (ws : IsSession vars s) (wr : (other : 
   abbrev n : Numbers
   n = numbers_by letters found
 
+  abbrev live : ℕ
+  live = length (names letters) + length found
+
   abbrev total : ℕ
-  total = length (names letters) + length found
+  total = live + dead_count letters
 
   pub seated : Every IsSeated found
   seated =
@@ -157,7 +142,7 @@ module _ (vars : List Kind) (s r : Tree) (ws : IsSession vars s) (wr : (other : 
       (every_found (λ q t. IsFine total (length letters) (equation_at n letters q t))
       (λ p cs h. let f = fit_select letters found p cs h in
       record {
-        words = branches_below letters found Select (place_past (own_place p (select cs)) 1) cs f;
+        words = branches_below letters found total (omega arith) Select (place_past (own_place p (select cs)) 1) cs f;
         below =
             rules_below n letters Select (place_past (own_place p (select cs)) 1) cs f.known;
         ordered =
@@ -165,38 +150,48 @@ module _ (vars : List Kind) (s r : Tree) (ws : IsSession vars s) (wr : (other : 
       })
       (λ p cs h. let f = fit_offer letters found p cs h in
       record {
-        words = branches_below letters found Offer (place_past (own_place p (offer cs)) 1) cs f;
+        words = branches_below letters found total (omega arith) Offer (place_past (own_place p (offer cs)) 1) cs f;
         below =
             rules_below n letters Offer (place_past (own_place p (offer cs)) 1) cs f.known;
         ordered =
             rules_rise n letters Offer (place_past (own_place p (offer cs)) 1) cs offers_rise are.0 f.known h.ordered.0;
       })
-      (λ p b e h. word_below letters found (body_place (own_place p (rec b))) b (fit_body letters found p b e h)))
+      (λ p b e h. word_below letters found total (omega arith) (body_place (own_place p (rec b))) b
+      (fit_body letters found p b e h)))
+
+  dead_fine : All (IsFine total (length letters)) (dead_equations letters)
+  dead_fine = pick (has_end letters)
+    where
+      none : All (IsFine total (length letters)) []
+      none i e lt = absurd (omega arith)
+
+      pick : (c : Bool) → All (IsFine total (length letters)) (if c then own [] ∷ [] else [])
+      pick true = All-cons (IsFine total (length letters)) (own []) [] (none_fine total (length letters)) none
+      pick false = none
 
   -- the equations are in order, with words and letters of the grammar
   pub equations_fine : All (IsFine total (length letters)) (equations_by letters found)
   equations_fine =
-      All-append (IsFine total (length letters)) (map (λ a. own (name_rules letters a)) (names letters))
-      (map (part_equation n letters) found) (names_fine total letters letters (contains_known letters)) parts_fine
+      All-append (IsFine total (length letters)) (live_equations letters found) (dead_equations letters)
+      (All-append (IsFine total (length letters)) (map (λ a. own (name_rules n letters a)) (names letters))
+      (map (part_equation n letters) found)
+      (names_fine total n letters letters (λ a m. (contains_known letters a m, name_word_below letters found a m))) parts_fine)
+      dead_fine
 
-  -- each equation by rules has a rule
-  parts_ruled : All HasRule (map (part_equation n letters) found)
+  -- each equation but the dead non-terminal's that is by rules has a rule
+  parts_ruled : All (HasRule live) (map (part_equation n letters) found)
   parts_ruled =
-      every_all HasRule (part_equation n letters) found
-      (every_found (λ q t. HasRule (equation_at n letters q t))
+      every_all (HasRule live) (part_equation n letters) found
+      (every_found (λ q t. HasRule live (equation_at n letters q t))
       (λ p cs h. branches_ruled n letters Select (place_past (own_place p (select cs)) 1) cs h.ordered.0)
       (λ p cs h. branches_ruled n letters Offer (place_past (own_place p (offer cs)) 1) cs h.ordered.0)
-      (λ p b e h. tt))
+      (λ p b e h. word_below letters found live (omega arith) (body_place (own_place p (rec b))) b
+      (fit_body letters found p b e h)))
 
-  pub equations_ruled : All HasRule (equations_by letters found)
+  pub equations_ruled : All (HasRule live) (live_equations letters found)
   equations_ruled =
-      All-append HasRule (map (λ a. own (name_rules letters a)) (names letters)) (map (part_equation n letters) found)
-      (names_ruled letters (names letters)) parts_ruled
-
-  pub equations_length : length (equations_by letters found) ≡ total
-  equations_length =
-      length-append (map (λ a. own (name_rules letters a)) (names letters)) (map (part_equation n letters) found)
-      ∙ (λ i. length-map (names letters) (λ a. own (name_rules letters a)) i + length-map found (part_equation n letters) i)
+      All-append (HasRule live) (map (λ a. own (name_rules n letters a)) (names letters)) (map (part_equation n letters) found)
+      (names_ruled live n letters (names letters)) parts_ruled
 
   abbrev Sinks : Place → Tree → Type 0
   Sinks q (rec b) = (z : ℕ) × (d : List ℕ) × (word n (body_place q) b ≡ z ∷ d) × (z < total) ×
@@ -206,7 +201,7 @@ module _ (vars : List Kind) (s r : Tree) (ws : IsSession vars s) (wr : (other : 
   body_sinks : (p : Place) (b : Tree) → terminated b ≡ false → IsFit letters found p (rec b) → Sinks (own_place p (rec b)) (rec b)
   body_sinks p b e h =
       let f = body_falls letters found seated p b e h in
-      let below = subst (WordBelow total) f.2 (word_below letters found (body_place (own_place p (rec b))) b
+      let below = subst (WordBelow total) f.2 (word_below letters found total (omega arith) (body_place (own_place p (rec b))) b
       (fit_body letters found p b e h)) in
       (f.0, f.1, f.2, All-head (λ k. k < total) f.0 f.1 below, f.3)
 
@@ -229,6 +224,8 @@ module _ (vars : List Kind) (s r : Tree) (ws : IsSession vars s) (wr : (other : 
   sunk q skip w e h = absurd (cc e)
   sunk q (send b) w e h = absurd (cc e)
   sunk q (receive b) w e h = absurd (cc e)
+  sunk q close w e h = absurd (cc e)
+  sunk q wait w e h = absurd (cc e)
   sunk q (select cs) w e h = absurd (cc e)
   sunk q (offer cs) w e h = absurd (cc e)
   sunk q (seq a b) w e h = absurd (cc e)
@@ -239,6 +236,13 @@ module _ (vars : List Kind) (s r : Tree) (ws : IsSession vars s) (wr : (other : 
   sunk q (pair a b) w e h = absurd (cc e)
   sunk q (named k) w e h = absurd (cc e)
 
+  -- an equation by a word is that of a part
+  like_part : (m : ℕ) (w : List ℕ) → slice_get (equations_by letters found) m ≡ Some (like w) →
+      (k : ℕ) × (e : Part) × (m ≡ length (names letters) + k) × (slice_get found k ≡ Some e) ×
+      (part_equation n letters e ≡ like w)
+  like_part m w g =
+      ⊎_elim (λ h. absurd (cc h.2)) (⊎_elim (λ h. h) (λ h. absurd (cc h.1))) (equation_cases letters found m (like w) g)
+
   -- the equations are grounded
   pub equations_grounded : IsGrounded (rank letters found seated) most_rank (equations_by letters found)
   equations_grounded = record { begins = at; most = number_most letters found seated all_most }
@@ -246,11 +250,11 @@ module _ (vars : List Kind) (s r : Tree) (ws : IsSession vars s) (wr : (other : 
       at : (m : ℕ) (w : List ℕ) → slice_get (equations_by letters found) m ≡ Some (like w) →
           BeginsLower (rank letters found seated) (equations_by letters found) m w
       at m w g =
-          let l = like_behind (name_rules letters) (names letters) (part_equation n letters) found m w g in
+          let l = like_part m w g in
           let sinks = sunk l.1.place l.1.type w l.4 (every_get (λ e. Sinks e.place e.type) found all_sink l.0 l.1 l.3) in
           let is : rank letters found seated m ≡ part_rank l.1 = ap (rank letters found seated) l.2
           ∙ rank_entry (length (names letters)) found l.0 ∙ ap entry_rank l.3 in
-          let long = equations_length in
+          let long = equations_length letters found in
           record {
             first = sinks.0;
             rest = sinks.1;
@@ -264,17 +268,20 @@ module _ (vars : List Kind) (s r : Tree) (ws : IsSession vars s) (wr : (other : 
   pub grammar_is : (rows : Productions) → Solves rows (equations_by letters found) → IsGrammar s r letters rows
   grammar_is rows h = record {
     labels = are;
-    count = h.count ∙ equations_length;
+    count = h.count ∙ equations_length letters found;
+    dead = dead_row letters found rows seated h;
     left = has_rows letters found rows seated h (top_of s) s fit_left;
     right = has_rows letters found rows seated h (top_of r) r fit_right;
   }
 
 -- the word of a type stands for it
 pub stands : (vars : List Kind) (n : Numbers) (letters : List Label) (rows : Productions) (s : Tree) → IsSession vars s →
-    AreKnown letters s → HasRows n letters rows (top_of s) s → StandsFor letters rows (word n (top_of s) s) s
-stands vars n letters rows s w known h a =
+    AreKnown letters s → row_of rows n.dead ≡ [] → HasRows n letters rows (top_of s) s →
+    StandsFor letters rows (word n (top_of s) s) s
+stands vars n letters rows s w known dead h a =
     let f = rule_in n letters rows in
-    let same = performs_same n f s w.1.scoped w.1.contractive (has_rules n letters rows (top_of s) s known h) a in
+    let same = performs_same n f (no_rule_in n letters rows n.dead dead) s w.1.scoped w.1.contractive
+    (has_rules n letters rows (top_of s) s known h) a in
     let steps : move f ≡ label_step letters rows = λ i u b. moves_by_label n letters rows u b i in (
       λ p. same.1 (subst (λ g. Performs g (word n (top_of s) s) a) (sym steps) p),
       λ p. subst (λ g. Performs g (word n (top_of s) s) a) steps (same.0 p),

@@ -1,16 +1,16 @@
 -- Two session types within the limit on nodes have at most one grammar.
-use Rattle.std.proofs.Common.{◌≡◌, ◌∙◌, ◌+◌, ◌<◌, ◌≤◌, ◌⊎◌, inl, inr, ⊎_elim, refl, sym, ap, subst, arith, ℕ, zero, suc, List, [], ◌∷◌, ◌++◌, length, map, Bool, true, false, Some, ◌&&◌}
+use Rattle.std.proofs.Common.{◌≡◌, ◌∙◌, ◌+◌, ◌<◌, ◌≤◌, ◌⊎◌, inl, inr, ⊎_elim, refl, sym, ap, subst, arith, ℕ, zero, suc, List, [], ◌∷◌, ◌++◌, length, Bool, true, false, Some, ◌&&◌}
 use Rattle.std.specs.Prelude.{Contains, slice_get, nat_lt, if◌then◌else◌}
 use Rattle.std.specs.declared.cmp.Ordering.TheVariants.{Less}
 use Rattle.std.proofs.lemmas.List.{ext_get_or}
 use Rattle.std.proofs.lemmas.List.Elements.{Contains-append_cases}
 use Rattle.std.proofs.lemmas.Bool.{eq-eqb, ltb-false, and_parts}
-use Rattle.fst_types.specs.Tree.{Tree, skip, send, receive, select, offer, seq, rec, back, var, plain, arrow, pair, named, Branches, none, branch}
+use Rattle.fst_types.specs.Tree.{Tree, skip, send, receive, close, wait, select, offer, seq, rec, back, var, plain, arrow, pair, named, Branches, none, branch}
 use Rattle.fst_types.specs.Size.{nodes}
 use Rattle.fst_types.specs.Order.{label_cmp, same_label}
 use Rattle.fst_types.specs.declared.kind.Kind.{Kind}
 use Rattle.fst_types.specs.declared.label.Label.{Label}
-use Rattle.fst_types.specs.declared.label.Label.TheVariants.{Send, Receive, Select, Offer, Var}
+use Rattle.fst_types.specs.declared.label.Label.TheVariants.{Send, Receive, Select, Offer, Close, Wait, Var}
 use Rattle.fst_types.proofs.Laws.{same_label-same, same_label-itself, label_cmp_total}
 use Rattle.fst_kinds.specs.WellFormed.{IsSession}
 use Rattle.fst_base.specs.Order.{IsRising}
@@ -31,7 +31,9 @@ use Rattle.fst_grammar.proofs.SeekLaws.{Every, every_both}
 use Rattle.fst_grammar.proofs.TableLaws.{Has, every_with, every_get}
 use Rattle.fst_grammar.proofs.SoundLaws.{rising_first, not_less}
 use Rattle.fst_grammar.proofs.RankLaws.{rank}
-use Rattle.fst_grammar.proofs.TranslationLaws.{seated, equations_length, equations_grounded}
+use Rattle.fst_grammar.proofs.SizeLaws.{equations_length}
+use Rattle.fst_grammar.proofs.EquationLaws.{equation_cases}
+use Rattle.fst_grammar.proofs.TranslationLaws.{seated, equations_grounded}
 use Rattle.fst_base.proofs.Orders.{rising_tail}
 use Rattle.fst_base.specs.Limits.{most_nodes}
 
@@ -72,7 +74,7 @@ same_letters (x ∷ xs) (y ∷ ys) h k f g =
 
 -- the place of each name
 
--- a name is a letter, and the label of a message or variable
+-- a name among letters is one of them
 name_in : (letters : List Label) (m : ℕ) (a : Label) → slice_get (names letters) m ≡ Some a →
     (is_name a ≡ true) × Contains letters a
 name_in [] m a g = absurd (cc g)
@@ -182,6 +184,8 @@ ended_labels : (t : Tree) (a : Label) → terminated t ≡ true → Contains (la
 ended_labels skip a e c = omega (arith, c.1)
 ended_labels (send b) a e c = cc e
 ended_labels (receive b) a e c = cc e
+ended_labels close a e c = cc e
+ended_labels wait a e c = cc e
 ended_labels (select cs) a e c = cc e
 ended_labels (offer cs) a e c = cc e
 ended_labels (seq s r) a e c =
@@ -206,6 +210,8 @@ module _ (n : Numbers) (letters : List Label) (rows : Productions) where
     part_rows p skip h = tt
     part_rows p (send b) h = tt
     part_rows p (receive b) h = tt
+    part_rows p close h = tt
+    part_rows p wait h = tt
     part_rows p (select cs) h = (h.0, branch_rows (place_past (own_place p (select cs)) 1) cs h.1)
     part_rows p (offer cs) h = (h.0, branch_rows (place_past (own_place p (offer cs)) 1) cs h.1)
     part_rows p (seq s r) h = every_both IsRow (parts (place_past p 1) s) (parts (place_past p (1 + nodes s)) r)
@@ -230,19 +236,21 @@ module _ (n : Numbers) (letters : List Label) (rows : Productions) where
         (part_rows (place_past p 1) s h.0) (branch_rows (place_past p (1 + nodes s)) cs h.1)
 
   abbrev HasNameRow : Label → Type 0
-  HasNameRow a = row_of rows (n.name a) ≡ name_rules letters a
+  HasNameRow a = row_of rows (n.name a) ≡ name_rules n letters a
 
-  -- the only label of a message or variable
+  -- the only label of a message or variable, or Close or Wait
   only : (a b : Label) → HasNameRow b → Contains (b ∷ []) a → HasNameRow a
   only a b h c = ⊎_elim (λ e. subst HasNameRow e h) (λ m. absurd (omega (arith, m.1))) (from_contains [] a b c)
 
   mutual
-    -- each message and variable in a type has its label's row
+    -- each message and variable in a type has its label's row, and so have Close and Wait
     name_rows : (p : Place) (t : Tree) → HasRows n letters rows p t →
         (a : Label) → is_name a ≡ true → Contains (labels_in t) a → HasNameRow a
     name_rows p skip h a is c = absurd (omega (arith, c.1))
     name_rows p (send b) h a is c = only a (Send b) h c
     name_rows p (receive b) h a is c = only a (Receive b) h c
+    name_rows p close h a is c = only a Close h c
+    name_rows p wait h a is c = only a Wait h c
     name_rows p (select cs) h a is c = names_rows Select (λ l. refl) (place_past (own_place p (select cs)) 1) cs h.1 a is c
     name_rows p (offer cs) h a is c = names_rows Offer (λ l. refl) (place_past (own_place p (offer cs)) 1) cs h.1 a is c
     name_rows p (seq s r) h a is c =
@@ -272,22 +280,6 @@ module _ (n : Numbers) (letters : List Label) (rows : Productions) where
 
 -- the rows of a grammar solve its equations
 
-part_behind : (g : Part → Equation) (es : List Part) (m : ℕ) (q : Equation) → slice_get (map g es) m ≡ Some q → (e : Part) ×
-    (slice_get es m ≡ Some e) × (g e ≡ q)
-part_behind g [] m q h = absurd (cc h)
-part_behind g (e ∷ es) zero q h = (e, refl, cc)
-part_behind g (e ∷ es) (suc m) q h = part_behind g es m q h
-
--- an equation is that of a name or that of a part
-equation_cases : (f : Label → Equation) (xs : List Label) (g : Part → Equation) (es : List Part) (m : ℕ) (q : Equation) →
-    slice_get (map f xs ++ map g es) m ≡ Some q →
-    ((a : Label) × (slice_get xs m ≡ Some a) × (f a ≡ q)) ⊎
-    ((k : ℕ) × (e : Part) × (m ≡ length xs + k) × (slice_get es k ≡ Some e) × (g e ≡ q))
-equation_cases f [] g es m q h = let b = part_behind g es m q h in inr (m, b.0, omega arith, b.1, b.2)
-equation_cases f (x ∷ xs) g es zero q h = inl (x, refl, cc)
-equation_cases f (x ∷ xs) g es (suc m) q h =
-    ⊎_elim (λ c. inl c) (λ c. inr (c.0, c.1, omega (arith, c.2), c.3, c.4)) (equation_cases f xs g es m q h)
-
 module _ (s r : Tree) (letters : List Label) (rows : Productions) (h : IsGrammar s r letters rows) where
   abbrev found : List Part
   found = parts_of s r
@@ -302,25 +294,27 @@ module _ (s r : Tree) (letters : List Label) (rows : Productions) (h : IsGrammar
       (every_both (IsRow n letters rows) (parts (top_of s) s) (parts (top_of r) r) (part_rows n letters rows (top_of s) s h.left)
       (part_rows n letters rows (top_of r) r h.right))
 
-  -- each letter of a message or variable has its row
-  found_name : (a : Label) → is_name a ≡ true → Contains letters a → row_of rows (n.name a) ≡ name_rules letters a
+  -- each letter of a message or variable has its row, and so have Close and Wait
+  found_name : (a : Label) → is_name a ≡ true → Contains letters a → row_of rows (n.name a) ≡ name_rules n letters a
   found_name a is c =
       ⊎_elim (name_rows n letters rows (top_of s) s h.left a is) (name_rows n letters rows (top_of r) r h.right a is)
       (Contains-append_cases (labels_in s) (labels_in r) a ((h.labels.1 a).0 c))
 
   -- each non-terminal has the row of its equation
   grammar_row : (m : ℕ) (q : Equation) → slice_get (equations_by letters found) m ≡ Some q → row_of rows m ≡ rules_by rows q
-  grammar_row m q g = elim (equation_cases (λ a. own (name_rules letters a)) (names letters)
-      (part_equation n letters) found m q g) [
-        | inl c ↦
-            let there = name_in letters m c.0 c.1 in
-            ap (row_of rows) (sym (name_place letters m c.0 h.labels.0 c.1)) ∙ found_name c.0 there.0 there.1
-            ∙ ap (rules_by rows) c.2
-        | inr c ↦
-            let at : m ≡ length (names letters) + position found c.1.place.whole c.1.place.at = c.2 ∙ ap
-            (λ k. length (names letters) + k) (sym (parts_once s r c.0 c.1 c.3)) in
-            ap (row_of rows) at ∙ every_get (IsRow n letters rows) found found_rows c.0 c.1 c.3 ∙ ap (rules_by rows) c.4
-      ]
+  grammar_row m q g = elim (equation_cases letters found m q g) [
+    | inl c ↦
+        let there = name_in letters m c.0 c.1 in
+        ap (row_of rows) (sym (name_place letters m c.0 h.labels.0 c.1)) ∙ found_name c.0 there.0 there.1
+        ∙ ap (rules_by rows) c.2
+    | inr d ↦ elim d [
+      | inl c ↦
+          let at : m ≡ length (names letters) + position found c.1.place.whole c.1.place.at = c.2 ∙ ap
+          (λ k. length (names letters) + k) (sym (parts_once s r c.0 c.1 c.3)) in
+          ap (row_of rows) at ∙ every_get (IsRow n letters rows) found found_rows c.0 c.1 c.3 ∙ ap (rules_by rows) c.4
+      | inr c ↦ ap (row_of rows) c.0 ∙ h.dead ∙ ap (rules_by rows) c.1
+    ]
+  ]
 
 -- grounded equations have at most one solution
 module _ (equations : List Equation) (rank : ℕ → ℕ) (bound : ℕ) (grounded : IsGrounded rank bound equations)
@@ -354,7 +348,7 @@ module _ (vars others : List Kind) (s r : Tree) (ws : IsSession vars s) (wr : Is
       Solves rows (equations_by letters (parts_of s r))
   grammar_solves letters rows h = record {
     count = h.count
-        ∙ sym (equations_length vars s r ws (others, wr) few_s few_r letters h.labels);
+        ∙ sym (equations_length letters (parts_of s r));
     each = grammar_row s r letters rows h;
   }
 

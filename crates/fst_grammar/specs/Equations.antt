@@ -1,6 +1,6 @@
 -- The rules of non-terminals by equations.
-use Rattle.std.specs.Prelude.{◌≡◌, ◌<◌, ◌≤◌, All, ℕ, List, [], ◌∷◌, ◌++◌, map, length, slice_get, take, reverse, Some}
-use Rattle.fst_types.specs.Tree.{Tree, skip, send, receive, select, offer, seq, rec, back, var, plain, arrow, pair, named}
+use Rattle.std.specs.Prelude.{◌≡◌, ◌<◌, ◌≤◌, All, ℕ, List, [], ◌∷◌, ◌++◌, map, length, slice_get, take, reverse, Some, if◌then◌else◌}
+use Rattle.fst_types.specs.Tree.{Tree, skip, send, receive, close, wait, select, offer, seq, rec, back, var, plain, arrow, pair, named}
 use Rattle.fst_types.specs.declared.label.Label.{Label}
 use Rattle.fst_types.specs.declared.label.Label.TheVariants.{Select, Offer}
 use Rattle.fst_words.specs.declared.rules.Rule.{Rule}
@@ -10,7 +10,7 @@ use Rattle.fst_parts.specs.Place.{Place, place_past, body_place}
 use Rattle.fst_grammar.specs.Word.{Numbers, word}
 use Rattle.fst_parts.specs.Labels.{names}
 use Rattle.fst_parts.specs.Once.{Part}
-use Rattle.fst_grammar.specs.Parts.{numbers_by}
+use Rattle.fst_grammar.specs.Parts.{numbers_by, has_end}
 use Rattle.fst_grammar.specs.Rules.{name_rules, branch_rules, word_rules}
 
 -- what a non-terminal's rules are: these, or those of a word
@@ -34,6 +34,8 @@ abbrev pub equation_at : Numbers → List Label → Place → Tree → Equation
 equation_at n letters p skip = own []
 equation_at n letters p (send b) = own []
 equation_at n letters p (receive b) = own []
+equation_at n letters p close = own []
+equation_at n letters p wait = own []
 equation_at n letters p (select cs) = own (branch_rules n letters Select (place_past p 1) cs)
 equation_at n letters p (offer cs) = own (branch_rules n letters Offer (place_past p 1) cs)
 equation_at n letters p (seq s r) = own []
@@ -49,11 +51,19 @@ equation_at n letters p (named k) = own []
 abbrev pub part_equation : Numbers → List Label → Part → Equation
 part_equation n letters e = equation_at n letters e.place e.type
 
+-- the equations of all non-terminals but the dead one
+abbrev pub live_equations : List Label → List Part → List Equation
+live_equations letters found =
+    map (λ a. own (name_rules (numbers_by letters found) letters a)) (names letters) ++ map
+    (part_equation (numbers_by letters found) letters) found
+
+-- the equation of the dead non-terminal, where there is one
+abbrev pub dead_equations : List Label → List Equation
+dead_equations letters = if has_end letters then own [] ∷ [] else []
+
 -- the equations of all non-terminals
 abbrev pub equations_by : List Label → List Part → List Equation
-equations_by letters found =
-    map (λ a. own (name_rules letters a)) (names letters) ++ map
-    (part_equation (numbers_by letters found) letters) found
+equations_by letters found = live_equations letters found ++ dead_equations letters
 
 -- a word begins with a non-terminal of a smaller rank
 pub record BeginsLower (rank : ℕ → ℕ) (equations : List Equation) (m : ℕ)

@@ -1,6 +1,6 @@
 -- The parts of a choice or `rec` at its own place.
 use Rattle.std.specs.Prelude.{List, [], ◌∷◌, if◌then◌else◌}
-use Rattle.fst_types.specs.Tree.{Tree, skip, send, receive, select, offer, seq, rec, back, var, plain, arrow, pair, named}
+use Rattle.fst_types.specs.Tree.{Tree, skip, send, receive, close, wait, select, offer, seq, rec, back, var, plain, arrow, pair, named}
 use Rattle.fst_lts.specs.Step.{terminated}
 use Rattle.fst_parts.specs.Place.{Place, place_past, body_place}
 use Rattle.fst_parts.specs.Once.{Part}
@@ -11,6 +11,8 @@ abbrev pub own_parts : Place → Tree → List Part
 own_parts p skip = []
 own_parts p (send b) = []
 own_parts p (receive b) = []
+own_parts p close = []
+own_parts p wait = []
 own_parts p (select cs) = record { place = p; type = select cs } ∷ parts_all (place_past p 1) cs
 own_parts p (offer cs) = record { place = p; type = offer cs } ∷ parts_all (place_past p 1) cs
 own_parts p (seq s r) = []

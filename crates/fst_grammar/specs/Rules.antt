@@ -1,10 +1,10 @@
 -- The rules of non-terminals (Almeida, Mordido, Vasconcelos, TACAS 2020).
-use Rattle.std.specs.Prelude.{◌≡◌, ℕ, ◌+◌, List, [], ◌∷◌, ◌++◌, false, ⊤}
-use Rattle.fst_types.specs.Tree.{Tree, skip, send, receive, select, offer, seq, rec, back, var, plain, arrow, pair, named, Branches, none, branch}
+use Rattle.std.specs.Prelude.{◌≡◌, ℕ, ◌+◌, List, [], ◌∷◌, ◌++◌, false, if◌then◌else◌, ⊤}
+use Rattle.fst_types.specs.Tree.{Tree, skip, send, receive, close, wait, select, offer, seq, rec, back, var, plain, arrow, pair, named, Branches, none, branch}
 use Rattle.fst_types.specs.Size.{nodes}
 use Rattle.fst_types.specs.declared.label.Label.{Label}
-use Rattle.fst_types.specs.declared.label.Label.TheVariants.{Send, Receive, Select, Offer, Var}
-use Rattle.fst_lts.specs.Step.{terminated}
+use Rattle.fst_types.specs.declared.label.Label.TheVariants.{Send, Receive, Select, Offer, Close, Wait, Var}
+use Rattle.fst_lts.specs.Step.{terminated, is_end}
 use Rattle.fst_words.specs.declared.rules.Rule.{Rule}
 use Rattle.fst_words.specs.Words.{Productions, row_of}
 use Rattle.fst_parts.specs.Place.{Place, place_past, own_place, body_place}
@@ -21,9 +21,14 @@ abbrev pub word_rules : Productions → List ℕ → List Rule
 word_rules rows [] = []
 word_rules rows (z ∷ d) = rules_before d (row_of rows z)
 
--- a message or variable has its label and the empty word
-abbrev pub name_rules : List Label → Label → List Rule
-name_rules letters a = record { letter = label_position letters a; word = [] } ∷ []
+-- the dead non-terminal behind an end, and else the empty word
+abbrev pub name_word : Numbers → Label → List ℕ
+name_word n a = if is_end a then n.dead ∷ [] else []
+
+-- a message or variable has its label and the empty word; Close and Wait have their label and the dead non-terminal
+abbrev pub name_rules : Numbers → List Label → Label → List Rule
+name_rules n letters a =
+    record { letter = label_position letters a; word = name_word n a } ∷ []
 
 -- a choice has, per label, the word of the branch
 abbrev pub branch_rules : Numbers → List Label → (List ℕ → Label) → Place → Branches → List Rule
@@ -36,9 +41,12 @@ branch_rules n letters make p (branch l s cs) =
 abbrev mutual
   pub HasRows : Numbers → List Label → Productions → Place → Tree → Type 0
   HasRows n letters rows p skip = ⊤
-  HasRows n letters rows p (send b) = row_of rows (n.name (Send b)) ≡ name_rules letters (Send b)
+  HasRows n letters rows p (send b) =
+      row_of rows (n.name (Send b)) ≡ name_rules n letters (Send b)
   HasRows n letters rows p (receive b) =
-      row_of rows (n.name (Receive b)) ≡ name_rules letters (Receive b)
+      row_of rows (n.name (Receive b)) ≡ name_rules n letters (Receive b)
+  HasRows n letters rows p close = row_of rows (n.name Close) ≡ name_rules n letters Close
+  HasRows n letters rows p wait = row_of rows (n.name Wait) ≡ name_rules n letters Wait
   HasRows n letters rows p (select cs) =
       (row_of rows (node_at n (own_place p (select cs))) ≡ branch_rules n letters Select
       (place_past (own_place p (select cs)) 1) cs)
@@ -55,7 +63,7 @@ abbrev mutual
       (word n (body_place (own_place p (rec s))) s))
       × HasRows n letters rows (body_place (own_place p (rec s))) s)
   HasRows n letters rows p (back k) = ⊤
-  HasRows n letters rows p (var k) = row_of rows (n.name (Var k)) ≡ name_rules letters (Var k)
+  HasRows n letters rows p (var k) = row_of rows (n.name (Var k)) ≡ name_rules n letters (Var k)
   HasRows n letters rows p (plain b) = ⊥
   HasRows n letters rows p (arrow u s r) = ⊥
   HasRows n letters rows p (pair s r) = ⊥

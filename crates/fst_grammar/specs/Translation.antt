@@ -1,5 +1,5 @@
 -- The translation of two types to one grammar and two words (Almeida, Mordido, Vasconcelos, TACAS 2020).
-use Rattle.std.specs.Prelude.{◌≡◌, ℕ, ◌+◌, ◌<◌, ◌≤◌, ◌⊎◌, List, length}
+use Rattle.std.specs.Prelude.{◌≡◌, ℕ, ◌+◌, ◌<◌, ◌≤◌, ◌⊎◌, List, [], length}
 use Rattle.std.specs.List.{sum_by}
 use Rattle.fst_base.specs.Limits.{most_nodes, most_letters}
 use Rattle.fst_types.specs.Tree.{Tree}
@@ -9,11 +9,11 @@ use Rattle.fst_types.specs.declared.label.Label.{Label}
 use Rattle.fst_kinds.specs.WellFormed.{IsSession}
 use Rattle.fst_words.specs.declared.rules.Rule.{Rule}
 use Rattle.fst_base.specs.Order.{IsRising}
-use Rattle.fst_words.specs.Words.{Productions, WordBelow, InRange, LettersBelow}
+use Rattle.fst_words.specs.Words.{Productions, row_of, WordBelow, InRange, LettersBelow}
 use Rattle.fst_parts.specs.Place.{top_of}
 use Rattle.fst_grammar.specs.Word.{Numbers, word}
 use Rattle.fst_parts.specs.Labels.{AreLetters, names}
-use Rattle.fst_grammar.specs.Parts.{parts_of, numbers_by}
+use Rattle.fst_grammar.specs.Parts.{parts_of, numbers_by, dead_count}
 use Rattle.fst_grammar.specs.Rules.{HasRows}
 use Rattle.fst_types.specs.Order.{label_cmp}
 
@@ -21,10 +21,11 @@ use Rattle.fst_types.specs.Order.{label_cmp}
 abbrev pub numbers_of : List Label → Tree → Tree → Numbers
 numbers_of letters s r = numbers_by letters (parts_of s r)
 
--- the grammar of two types: each of their non-terminals and no other, with its rules
+-- the grammar of two types: each of their non-terminals and no other, with its rules, of which the dead one has none
 pub record IsGrammar (s r : Tree) (letters : List Label) (rows : Productions) : Type 0 where
   pub labels : AreLetters s r letters
-  pub count : length rows ≡ length (names letters) + length (parts_of s r)
+  pub count : length rows ≡ length (names letters) + length (parts_of s r) + dead_count letters
+  pub dead : row_of rows (numbers_of letters s r).dead ≡ []
   pub left : HasRows (numbers_of letters s r) letters rows (top_of s) s
   pub right : HasRows (numbers_of letters s r) letters rows (top_of r) r
 

@@ -1,16 +1,18 @@
 -- The words of types (Almeida, Mordido, Vasconcelos, TACAS 2020).
 use Rattle.std.specs.Prelude.{ℕ, ◌+◌, List, [], ◌∷◌, ◌++◌, if◌then◌else◌}
-use Rattle.fst_types.specs.Tree.{Tree, skip, send, receive, select, offer, seq, rec, back, var, plain, arrow, pair, named}
+use Rattle.fst_types.specs.Tree.{Tree, skip, send, receive, close, wait, select, offer, seq, rec, back, var, plain, arrow, pair, named}
 use Rattle.fst_types.specs.Size.{nodes}
 use Rattle.fst_types.specs.declared.label.Label.{Label}
-use Rattle.fst_types.specs.declared.label.Label.TheVariants.{Send, Receive, Var}
+use Rattle.fst_types.specs.declared.label.Label.TheVariants.{Send, Receive, Close, Wait, Var}
 use Rattle.fst_lts.specs.Step.{terminated}
 use Rattle.fst_parts.specs.Place.{Place, place_past, own_place, binder}
 
--- the numbers of the non-terminals: of a message or variable, and of the part at a place of a closed type
+-- the numbers of the non-terminals: of a message or variable, of Close and of Wait by their labels, of the part at a place
+-- of a closed type, and of the dead one, which has no rules
 pub record Numbers : Type 0 where
   pub name : Label → ℕ
   pub node : Tree → ℕ → ℕ
+  pub dead : ℕ
 
 -- the number of a place
 abbrev pub node_at : Numbers → Place → ℕ
@@ -22,6 +24,8 @@ abbrev pub word : Numbers → Place → Tree → List ℕ
 word n p skip = []
 word n p (send b) = n.name (Send b) ∷ []
 word n p (receive b) = n.name (Receive b) ∷ []
+word n p close = n.name Close ∷ []
+word n p wait = n.name Wait ∷ []
 word n p (select cs) = node_at n (own_place p (select cs)) ∷ []
 word n p (offer cs) = node_at n (own_place p (offer cs)) ∷ []
 word n p (seq s r) = word n (place_past p 1) s ++ word n (place_past p (1 + nodes s)) r

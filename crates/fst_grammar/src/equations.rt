@@ -4,8 +4,9 @@ ghost use Rattle.fst_types.specs.Size.{nodes, nodes_all};
 ghost use Rattle.fst_types.specs.declared.label.Label.{Label};
 ghost use Rattle.fst_parts.specs.Labels.{names, label_position};
 ghost use Rattle.fst_grammar.specs.Word.{word};
-ghost use Rattle.fst_grammar.specs.Rules.{name_rules, branch_rules};
-ghost use Rattle.fst_grammar.specs.Equations.{own, part_equation, equations_by};
+ghost use Rattle.fst_grammar.specs.Parts.{has_end};
+ghost use Rattle.fst_grammar.specs.Rules.{name_word, name_rules, branch_rules};
+ghost use Rattle.fst_grammar.specs.Equations.{own, part_equation, dead_equations, equations_by};
 ghost use Rattle.fst_parts.specs.Shapes.{shape_of_all};
 ghost use Rattle.fst_parts.specs.Keys.{Stands};
 ghost use Rattle.fst_parts.specs.Views.{branch_label, part_of, place_in, HasNumber, AreNumbered};
@@ -14,6 +15,7 @@ ghost use Rattle.fst_grammar.specs.Views.{numbers_in, equation_of, IsTable};
 use crate::counts::counts;
 use crate::table::Table;
 use crate::words::word_of;
+use fst_lts::is_end;
 use fst_parts::{Found, Numbered, choice_label, first_part, place_among};
 use fst_types::{Branch, Label, Name, TyForm};
 use fst_words::{Rule, Word};
@@ -85,17 +87,28 @@ fn choice_rules(
     Ok(rules)
 }
 
-/// The rule of a message or variable.
+/// The word of the rule of a message or variable, or of Close or Wait.
+fn name_word(alloc: Global, table: &Table<'_>, name: &Label) -> Result<Word, AllocError>
+    requires { IsTable table.now }
+    ensures { IfOk result (λ w. w ≡ name_word (numbers_in table.now) name.now) }
+{
+    if is_end(name) {
+        Word::of(alloc, &[table.dead()])
+    } else {
+        Word::of(alloc, &[])
+    }
+}
+
+/// The rule of a message or variable, or of Close or Wait.
 fn name_equation(alloc: Global, table: &Table<'_>, name: &Label) -> Result<Equation, AllocError>
     requires { IsTable table.now }
-    ensures { IfOk result (λ e. equation_of e ≡ own (name_rules table.now.letters.items name.now)) }
+    ensures { IfOk result (λ e. equation_of e ≡ own
+        (name_rules (numbers_in table.now) table.now.letters.items name.now)) }
 {
     let letter = place_among(&table.letters, name) as u32;
+    let word = name_word(alloc, table, name)?;
     let mut rules = Vec::new(alloc);
-    rules.push(Rule {
-        letter,
-        word: Word::of(alloc, &[])?,
-    })?;
+    rules.push(Rule { letter, word })?;
     Ok(Equation::Own(rules))
 }
 
@@ -152,7 +165,8 @@ fn add_names(
 ) -> Result<(), AllocError>
     requires { IsTable table.now }
     ensures { OnOk result (map equation_of equations.new.items ≡ map equation_of equations.old.items
-        ++ map (λ a. own (name_rules table.now.letters.items a)) table.now.names.items) }
+        ++ map (λ a. own (name_rules (numbers_in table.now) table.now.letters.items a))
+        table.now.names.items) }
 {
     for name in &table.names {
         equations.push(name_equation(alloc, table, name)?)?;
@@ -177,6 +191,28 @@ fn add_parts(
     Ok(())
 }
 
+/// Whether Close or Wait is among the letters.
+fn has_end(letters: &[Label]) -> bool
+    ensures { result ≡ has_end letters.now }
+{
+    letters.iter().any(|letter| is_end(letter))
+}
+
+/// Adds the equation of the dead non-terminal, where there is one.
+fn add_dead(
+    alloc: Global,
+    equations: &mut Vec<Equation>,
+    letters: &[Label],
+) -> Result<(), AllocError>
+    ensures { OnOk result (map equation_of equations.new.items ≡ map equation_of equations.old.items
+        ++ dead_equations letters.now) }
+{
+    if has_end(letters) {
+        equations.push(Equation::Own(Vec::new(alloc)))?;
+    }
+    Ok(())
+}
+
 /// The equations of all non-terminals.
 #[tactic(auto, using(crate::proofs::SizeLaws::equations_count))]
 pub(crate) fn equations_of(alloc: Global, table: &Table<'_>) -> Result<Vec<Equation>, AllocError>
@@ -190,5 +226,6 @@ pub(crate) fn equations_of(alloc: Global, table: &Table<'_>) -> Result<Vec<Equat
     let mut equations = Vec::new(alloc);
     add_names(alloc, &mut equations, table)?;
     add_parts(alloc, &mut equations, table)?;
+    add_dead(alloc, &mut equations, &table.letters)?;
     Ok(equations)
 }

@@ -8,7 +8,8 @@ use crate::counts::counts;
 use fst_parts::{Numbered, Parts, Trees, place_among, place_of};
 use fst_types::Label;
 
-/// The letters of two types in label order, the messages and variables among them, and the choices and `rec`s.
+/// The letters of two types in label order, those of messages and variables and Close and Wait among them, and the choices and
+/// `rec`s.
 #[derive(Drop)]
 pub(crate) struct Table<'a> {
     pub letters: Vec<Label>,
@@ -27,12 +28,20 @@ impl Table<'_> {
         self.letters
     }
 
-    /// The number of a message or variable.
+    /// The number of a message or variable, or of Close or Wait.
     pub(crate) fn name(&self, a: &Label) -> u32
         requires { IsTable self.now }
         ensures { result ≡ (numbers_in self.now).name a.now }
     {
         place_among(&self.names, a) as u32
+    }
+
+    /// The number of the dead non-terminal, behind all others.
+    pub(crate) fn dead(&self) -> u32
+        requires { IsTable self.now }
+        ensures { result ≡ (numbers_in self.now).dead }
+    {
+        (self.names.len() + self.parts.found.len()) as u32
     }
 
     /// The number of the choice or `rec` at a place of a closed type.

@@ -1,11 +1,11 @@
-ghost use Rattle.std.specs.Prelude.{◌≡◌, ◌≤◌, ◌<◌, ◌++◌, [], List, IfErr, IfOk, map};
+ghost use Rattle.std.specs.Prelude.{◌≡◌, ◌+◌, ◌≤◌, ◌<◌, ◌++◌, [], List, IfErr, IfOk, length, map};
 ghost use Rattle.fst_types.specs.Size.{nodes};
 ghost use Rattle.fst_types.specs.declared.kind.Kind.{Kind};
 ghost use Rattle.fst_kinds.specs.WellFormed.{IsSession};
 ghost use Rattle.fst_words.specs.Words.{Productions, EachHasRule};
 ghost use Rattle.fst_grammar.specs.Equations.{Solves, HasRanks, HasOrderedRows};
 ghost use Rattle.fst_grammar.specs.Standing.{StandsFor};
-ghost use Rattle.fst_parts.specs.Labels.{labels_in};
+ghost use Rattle.fst_parts.specs.Labels.{labels_in, names};
 ghost use Rattle.fst_parts.specs.Letters.{with_labels};
 ghost use Rattle.fst_grammar.specs.Parts.{parts_of};
 ghost use Rattle.fst_grammar.specs.Translation.{IsTranslation, IsInRange, IsSmall, IsTooLarge, right_sides};
@@ -38,7 +38,8 @@ pub fn translate(alloc: Global, s: &Ty, r: &Ty) -> Result<(Grammar, Word, Word),
     ensures left { IfOk result (λ t. StandsFor t.0.letters.items t.0.rules.items t.1 s.now) }
     ensures right { IfOk result (λ t. StandsFor t.0.letters.items t.0.rules.items t.2 r.now) }
     ensures range { IfOk result (λ t. IsInRange t.0.letters.items t.0.rules.items t.1 t.2) }
-    ensures ruled { IfOk result (λ t. EachHasRule t.0.rules.items) }
+    ensures ruled { IfOk result (λ t. EachHasRule
+        (length (names t.0.letters.items) + length (parts_of s.now r.now)) t.0.rules.items) }
     ensures small { IfOk result (λ t. IsSmall s.now r.now t.0.rules.items) }
     ensures too_large { IfErr result (λ f. f ≡ TooLarge → IsTooLarge s.now r.now) }
 {

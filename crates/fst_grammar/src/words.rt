@@ -58,6 +58,8 @@ fn push_word(
         TyForm::Skip => Ok(()),
         TyForm::Send(base) => add_name(out, table, Label::Send(*base)),
         TyForm::Receive(base) => add_name(out, table, Label::Receive(*base)),
+        TyForm::Close => add_name(out, table, Label::Close),
+        TyForm::Wait => add_name(out, table, Label::Wait),
         TyForm::Var(k) => add_name(out, table, Label::Var(*k)),
         TyForm::Back(k) => add(out, table.node(whole, binder_at(binders, *k))),
         TyForm::Select(_) => add(out, table.number(whole, at, t)),

@@ -2,7 +2,7 @@
 use Rattle.std.proofs.Common.{◌≡◌, ◌∙◌, ℕ, suc, List, [], Bool, true, false, Option, Some, None, refl, sym, ap, subst, arith}
 use Rattle.std.specs.Prelude.{◌&&◌, slice_get, if◌then◌else◌}
 use Rattle.std.proofs.lemmas.Bool.{and_parts}
-use Rattle.fst_types.specs.Tree.{Tree, skip, send, receive, select, offer, seq, rec, back, var, plain, arrow, pair, named}
+use Rattle.fst_types.specs.Tree.{Tree, skip, send, receive, close, wait, select, offer, seq, rec, back, var, plain, arrow, pair, named}
 use Rattle.fst_types.specs.declared.kind.Kind.{Kind}
 use Rattle.fst_types.specs.declared.kind.Use.{Use}
 use Rattle.fst_types.specs.declared.kind.Use.TheVariants.{Many, Once}
@@ -12,9 +12,9 @@ use Rattle.fst_kinds.specs.Kinds.{session, top, join, HasKind}
 use Rattle.fst_kinds.specs.Contractive.{IsContractive, IsGuarded}
 use Rattle.fst_kinds.specs.WellFormed.{IsWellFormed, IsSession}
 use Rattle.fst_kinds.proofs.Laws.{one_kind, not_top, unreached, unfolding_of_kind}
-use Rattle.fst_lts.specs.Step.{terminated, step}
+use Rattle.fst_lts.specs.Step.{terminated, is_end, step}
 use Rattle.fst_base.specs.Agreement.{Agree}
-use Rattle.fst_lts.specs.Moves.{Moves, sends, receives, selects, offers, first, second, unfolds, variables}
+use Rattle.fst_lts.specs.Moves.{Moves, sends, receives, closes, waits, selects, offers, first, ends, second, unfolds, variables}
 use Rattle.fst_lts.specs.Equal as equal
 use Rattle.fst_lts.specs.Equal.{IsEqual}
 use Rattle.fst_lts.proofs.Laws.{guarded_first, guarded_second, guarded_body, no_variable, steps_are_moves, agree_terminated}
@@ -28,6 +28,8 @@ ended_many : (vars : List Kind) (s : Tree) (u : Use) → HasKind vars s (session
 ended_many vars skip u h e = ap (λ (k : Kind). k.uses) h
 ended_many vars (send b) u h e = absurd (cc e)
 ended_many vars (receive b) u h e = absurd (cc e)
+ended_many vars close u h e = absurd (cc e)
+ended_many vars wait u h e = absurd (cc e)
 ended_many vars (select bs) u h e = absurd (cc e)
 ended_many vars (offer bs) u h e = absurd (cc e)
 ended_many vars (seq s r) u h e =
@@ -49,6 +51,8 @@ unled_once : (vars : List Kind) (s : Tree) (u : Use) → HasKind vars s (session
 unled_once vars skip u h g o l e = absurd (cc e)
 unled_once vars (send b) u h g o l e = ap (λ (k : Kind). k.uses) h
 unled_once vars (receive b) u h g o l e = ap (λ (k : Kind). k.uses) h
+unled_once vars close u h g o l e = ap (λ (k : Kind). k.uses) h
+unled_once vars wait u h g o l e = ap (λ (k : Kind). k.uses) h
 unled_once vars (select bs) u h g o l e = ap (λ (k : Kind). k.uses) h.1
 unled_once vars (offer bs) u h g o l e = ap (λ (k : Kind). k.uses) h.1
 unled_once vars (seq s r) u h g o l e =
@@ -89,13 +93,16 @@ led_kind : (vars : List Kind) {s t : Tree} {a : Label} → Moves s a t → (k : 
     (v u w : Use) → slice_get vars k ≡ Some (session v) → HasKind vars s (session u) → HasKind vars t (session w) → u ≡ join v w
 led_kind vars sends k e v u w i h g = absurd (cc e)
 led_kind vars receives k e v u w i h g = absurd (cc e)
+led_kind vars closes k e v u w i h g = absurd (cc e)
+led_kind vars waits k e v u w i h g = absurd (cc e)
 led_kind vars (selects b) k e v u w i h g = absurd (cc e)
 led_kind vars (offers b) k e v u w i h g = absurd (cc e)
-led_kind vars (first b m) k e v u w i h g =
+led_kind vars (first b m q) k e v u w i h g =
     let front = led_kind vars m k e v h.0 g.0 i h.2 g.2 in
     let second_kind = one_kind vars _ (session h.1) (session g.1) h.3 g.3 in
     same_uses u (join h.0 h.1) h.4 ∙ (λ x. join (front x) (same_uses h.1 g.1 second_kind x)) ∙ join_again v g.0 g.1
     ∙ ap (join v) (sym (same_uses w (join g.0 g.1) g.4))
+led_kind vars (ends b m q) k e v u w i h g = absurd (cc (sym q ∙ ap is_end e))
 led_kind vars (second {s} b m) k e v u w i h g =
     same_uses u (join h.0 h.1) h.4 ∙ ap (λ x. join x h.1) (ended_many vars s h.0 h.2 b) ∙ led_kind vars m k e v h.1 w i h.3 g
 led_kind vars (unfolds {s} m) k e v u w i h g = led_kind vars m k e v u w i (unfolding_of_kind vars s (session u) h) g
@@ -109,9 +116,12 @@ led_variable : (vars : List Kind) {s t : Tree} {a : Label} → Moves s a t → (
     (u : Use) → HasKind vars s (session u) → (v : Use) × (slice_get vars k ≡ Some (session v))
 led_variable vars sends k e u h = absurd (cc e)
 led_variable vars receives k e u h = absurd (cc e)
+led_variable vars closes k e u h = absurd (cc e)
+led_variable vars waits k e u h = absurd (cc e)
 led_variable vars (selects b) k e u h = absurd (cc e)
 led_variable vars (offers b) k e u h = absurd (cc e)
-led_variable vars (first b m) k e u h = led_variable vars m k e h.0 h.2
+led_variable vars (first b m q) k e u h = led_variable vars m k e h.0 h.2
+led_variable vars (ends b m q) k e u h = led_variable vars m k e h.0 h.2
 led_variable vars (second b m) k e u h = led_variable vars m k e h.1 h.3
 led_variable vars (unfolds {s} m) k e u h = led_variable vars m k e u (unfolding_of_kind vars s (session u) h)
 led_variable vars (variables {k = j}) k e u h =

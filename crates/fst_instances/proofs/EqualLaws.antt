@@ -1,6 +1,6 @@
 -- Equality of types is an equivalence, part by part, and is kept where types are put for variables.
 use Rattle.std.proofs.Common.{◌≡◌, ℕ, suc, List, Some, refl, sym, subst}
-use Rattle.fst_types.specs.Tree.{Tree, skip, send, receive, select, offer, seq, rec, back, var, plain, arrow, pair, named}
+use Rattle.fst_types.specs.Tree.{Tree, skip, send, receive, close, wait, select, offer, seq, rec, back, var, plain, arrow, pair, named}
 use Rattle.fst_types.specs.declared.base.Base.{Base}
 use Rattle.fst_types.specs.declared.kind.Kind.{Kind}
 use Rattle.fst_types.specs.declared.kind.Use.{Use}
@@ -29,6 +29,8 @@ pub equal_itself : (vars : List Kind) (t : Tree) (k : Kind) → IsWellFormed var
 equal_itself vars skip k w = session_itself vars skip k Many w.kinded w
 equal_itself vars (send b) k w = session_itself vars (send b) k Once w.kinded w
 equal_itself vars (receive b) k w = session_itself vars (receive b) k Once w.kinded w
+equal_itself vars close k w = session_itself vars close k Once w.kinded w
+equal_itself vars wait k w = session_itself vars wait k Once w.kinded w
 equal_itself vars (select bs) k w = session_itself vars (select bs) k Once w.kinded.1 w
 equal_itself vars (offer bs) k w = session_itself vars (offer bs) k Once w.kinded.1 w
 equal_itself vars (seq s r) k w = session_itself vars (seq s r) k (join w.kinded.0 w.kinded.1) w.kinded.4 w

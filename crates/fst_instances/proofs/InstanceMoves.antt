@@ -2,10 +2,10 @@
 use Rattle.std.proofs.Common.{◌≡◌, ◌∙◌, ℕ, List, ◌∷◌, Bool, true, false, Option, Some, None, refl, sym, ap, subst}
 use Rattle.std.specs.Prelude.{option_map, if◌then◌else◌, ◌&&◌}
 use Rattle.std.proofs.lemmas.Bool.{and_parts}
-use Rattle.fst_types.specs.Tree.{Tree, skip, send, receive, select, offer, seq, rec, back, var, plain, arrow, pair, named, Branches, none, branch}
+use Rattle.fst_types.specs.Tree.{Tree, skip, send, receive, close, wait, select, offer, seq, rec, back, var, plain, arrow, pair, named, Branches, none, branch}
 use Rattle.fst_types.specs.declared.kind.Kind.{Kind}
 use Rattle.fst_types.specs.declared.label.Label.{Label}
-use Rattle.fst_types.specs.declared.label.Label.TheVariants.{Send, Receive, Select, Offer, Var}
+use Rattle.fst_types.specs.declared.label.Label.TheVariants.{Send, Receive, Select, Offer, Close, Wait, Var}
 use Rattle.fst_types.specs.Order.{same_label}
 use Rattle.fst_types.specs.Scoped.{IsScoped}
 use Rattle.fst_types.specs.Substitution.{substitute, unfolding_of}
@@ -16,8 +16,8 @@ use Rattle.fst_kinds.specs.WellFormed.{IsSession, IsInstantiation}
 use Rattle.fst_kinds.proofs.Laws.{unfolding_of_contractive, put_scoped, instantiated_session}
 use Rattle.fst_base.specs.Agreement.{AgreeTo, Agree}
 use Rattle.fst_base.proofs.AgreementLaws.{agrees_through}
-use Rattle.fst_lts.specs.Step.{terminated, branch_at, step_in, step}
-use Rattle.fst_lts.specs.Moves.{Moves, sends, receives, selects, offers, first, second, unfolds, variables}
+use Rattle.fst_lts.specs.Step.{terminated, branch_at, is_end, followed, step_in, step}
+use Rattle.fst_lts.specs.Moves.{Moves, sends, receives, closes, waits, selects, offers, first, ends, second, unfolds, variables}
 use Rattle.fst_lts.proofs.Laws.{steps_are_moves, unfolding_of_step, seq_session, agree_behind}
 use Rattle.fst_instances.proofs.SessionLaws.{first_session, second_session, moved_session, unfolding_of_session}
 use Rattle.fst_instances.proofs.SequenceLaws.{same_steps, over_step, seq_associates, seq_skip}
@@ -27,6 +27,8 @@ abbrev pub leading : Tree → Option ℕ
 leading skip = None
 leading (send b) = None
 leading (receive b) = None
+leading close = None
+leading wait = None
 leading (select bs) = None
 leading (offer bs) = None
 leading (seq s r) = if terminated s then leading r else leading s
@@ -43,6 +45,8 @@ pub instantiated_terminated : (args : List Tree) (s : Tree) → terminated s ≡
 instantiated_terminated args skip e = refl
 instantiated_terminated args (send b) e = absurd (cc e)
 instantiated_terminated args (receive b) e = absurd (cc e)
+instantiated_terminated args close e = absurd (cc e)
+instantiated_terminated args wait e = absurd (cc e)
 instantiated_terminated args (select bs) e = absurd (cc e)
 instantiated_terminated args (offer bs) e = absurd (cc e)
 instantiated_terminated args (seq s r) e =
@@ -61,6 +65,8 @@ pub terminated_kept : (args : List Tree) (s : Tree) → leading s ≡ None → t
 terminated_kept args skip e = refl
 terminated_kept args (send b) e = refl
 terminated_kept args (receive b) e = refl
+terminated_kept args close e = refl
+terminated_kept args wait e = refl
 terminated_kept args (select bs) e = refl
 terminated_kept args (offer bs) e = refl
 terminated_kept args (seq s r) e = pick (terminated_kept args s) (terminated_kept args r) (terminated s) refl e
@@ -91,11 +97,21 @@ branch_instantiated make args (branch l s bs) a = pick (branch_instantiated make
     pick next true = refl
     pick next false = next
 
--- after a message nothing is left of either
+-- after a message or an end nothing is left of either
 ended : (args : List Tree) (c : Bool) → (if c then Some skip else None) ≡ option_map (instantiated args)
     (if c then Some skip else None)
 ended args true = refl
 ended args false = refl
+
+-- what is left of an instance after a label, with another one behind it, is an instance of what is left of the types
+followed_instance : (args : List Tree) (a : Label) (r t : Tree) →
+    followed a (instantiated args r) (instantiated args t) ≡ instantiated args (followed a r t)
+followed_instance args a r t = pick (is_end a)
+  where
+    pick : (c : Bool) → (if c then skip else seq (instantiated args t) (instantiated args r)) ≡ instantiated args
+        (if c then skip else seq t r)
+    pick true = refl
+    pick false = refl
 
 module _ (args : List Tree) (ok : ArgumentsHave (IsScoped 0) args) where
   chosen_branch : (env : List (Option Tree)) (o : Option Tree) →
@@ -104,13 +120,14 @@ module _ (args : List Tree) (ok : ArgumentsHave (IsScoped 0) args) where
   chosen_branch env None = refl
   chosen_branch env (Some s) = ap Some (sym (instantiated_substitute args env s ok))
 
-  behind_instance : (env : List (Option Tree)) (r : Tree) (o p : Option Tree) → o ≡ option_map (instantiated args) p →
-      option_map (λ t. seq t (substitute (instantiated_env args env) (instantiated args r))) o ≡ option_map (instantiated args)
-      (option_map (λ t. seq t (substitute env r)) p)
-  behind_instance env r o None e = ap (option_map (λ t. seq t (substitute (instantiated_env args env) (instantiated args r)))) e
-  behind_instance env r o (Some t) e =
-      ap (option_map (λ x. seq x (substitute (instantiated_env args env) (instantiated args r)))) e
-      ∙ ap (λ q. Some (seq (instantiated args t) q)) (sym (instantiated_substitute args env r ok))
+  behind_instance : (env : List (Option Tree)) (a : Label) (r : Tree) (o p : Option Tree) → o ≡ option_map (instantiated args) p →
+      option_map (followed a (substitute (instantiated_env args env) (instantiated args r))) o ≡ option_map (instantiated args)
+      (option_map (followed a (substitute env r)) p)
+  behind_instance env a r o None e = ap (option_map (followed a (substitute (instantiated_env args env) (instantiated args r)))) e
+  behind_instance env a r o (Some t) e =
+      ap (option_map (followed a (substitute (instantiated_env args env) (instantiated args r)))) e
+      ∙ ap (λ q. Some (followed a q (instantiated args t))) (sym (instantiated_substitute args env r ok))
+      ∙ ap Some (followed_instance args a (substitute env r) t)
 
   chosen : (c d : Bool) (x y x' y' : Option Tree) → c ≡ d → (d ≡ true → x ≡ option_map (instantiated args) x') →
       (d ≡ false → y ≡ option_map (instantiated args) y') →
@@ -126,6 +143,8 @@ module _ (args : List Tree) (ok : ArgumentsHave (IsScoped 0) args) where
   step_in_instance env skip a e = refl
   step_in_instance env (send b) a e = ended args (same_label a (Send b))
   step_in_instance env (receive b) a e = ended args (same_label a (Receive b))
+  step_in_instance env close a e = ended args (same_label a Close)
+  step_in_instance env wait a e = ended args (same_label a Wait)
   step_in_instance env (select bs) a e = ap (option_map (substitute (instantiated_env args env)))
       (branch_instantiated Select args bs a) ∙ chosen_branch env (branch_at Select bs a)
   step_in_instance env (offer bs) a e = ap (option_map (substitute (instantiated_env args env)))
@@ -145,7 +164,7 @@ module _ (args : List Tree) (ok : ArgumentsHave (IsScoped 0) args) where
       pick front behind false is e =
           chosen (terminated (instantiated args s)) (terminated s) _ _ _ _ (terminated_kept args s e)
           (λ t. absurd (cc (sym t ∙ is)))
-          (λ f. behind_instance env r _ (step_in env s a) (front e))
+          (λ f. behind_instance env a r _ (step_in env s a) (front e))
   step_in_instance env (rec s) a e =
       ap (λ t. step_in (Some t ∷ instantiated_env args env) (instantiated args s) a)
       (sym (instantiated_substitute args env (rec s) ok))
@@ -163,6 +182,8 @@ pub leading_moves : (env : List (Option Tree)) (s : Tree) (k : ℕ) → leading 
 leading_moves env skip k e = absurd (cc e)
 leading_moves env (send b) k e = absurd (cc e)
 leading_moves env (receive b) k e = absurd (cc e)
+leading_moves env close k e = absurd (cc e)
+leading_moves env wait k e = absurd (cc e)
 leading_moves env (select bs) k e = absurd (cc e)
 leading_moves env (offer bs) k e = absurd (cc e)
 leading_moves env (seq s r) k e = pick (leading_moves env s k) (leading_moves env r k) (terminated s) e
@@ -202,6 +223,8 @@ pub unled : (env : List (Option Tree)) (s : Tree) (k : ℕ) → leading s ≡ No
 unled env skip k e = refl
 unled env (send b) k e = refl
 unled env (receive b) k e = refl
+unled env close k e = refl
+unled env wait k e = refl
 unled env (select bs) k e = ap (option_map (substitute env)) (no_branch_select bs k)
 unled env (offer bs) k e = ap (option_map (substitute env)) (no_branch_offer bs k)
 unled env (seq s r) k e = pick (unled env s k) (unled env r k) (terminated s) e
@@ -225,9 +248,12 @@ module _ (outer vars : List Kind) (args : List Tree) (c : IsInstantiation outer 
       (k : ℕ) → a ≡ Var k → IsSession vars s → IsSession outer (argument args k)
   leading_session sends k e h = absurd (cc e)
   leading_session receives k e h = absurd (cc e)
+  leading_session closes k e h = absurd (cc e)
+  leading_session waits k e h = absurd (cc e)
   leading_session (selects b) k e h = absurd (cc e)
   leading_session (offers b) k e h = absurd (cc e)
-  leading_session (first {s} {r} b m) k e h = leading_session m k e (first_session vars s r h)
+  leading_session (first {s} {r} b m q) k e h = leading_session m k e (first_session vars s r h)
+  leading_session (ends {s} {r} b m q) k e h = leading_session m k e (first_session vars s r h)
   leading_session (second {s} {r} b m) k e h = leading_session m k e (second_session vars s r h)
   leading_session (unfolds {s} m) k e h = leading_session m k e (unfolding_of_session vars s h)
   leading_session (variables {k = j}) k e h =
@@ -239,9 +265,11 @@ module _ (outer vars : List Kind) (args : List Tree) (c : IsInstantiation outer 
       (k : ℕ) → a ≡ Var k → IsSession vars s → Agree step step (instantiated args s) (seq (argument args k) (instantiated args t))
   instance_led sends k e h n = absurd (cc e)
   instance_led receives k e h n = absurd (cc e)
+  instance_led closes k e h n = absurd (cc e)
+  instance_led waits k e h n = absurd (cc e)
   instance_led (selects b) k e h n = absurd (cc e)
   instance_led (offers b) k e h n = absurd (cc e)
-  instance_led {a} (first {s} {r} {t} b m) k e h n =
+  instance_led {a} (first {s} {r} {t} b m q) k e h n =
       let ws = first_session vars s r h in
       let arg = leading_session m k e ws in
       let left = instantiated_session outer vars args t c (moved_session vars s t a ws m) in
@@ -250,6 +278,7 @@ module _ (outer vars : List Kind) (args : List Tree) (c : IsInstantiation outer 
       (instantiated_session outer vars args s c ws) (seq_session outer (argument args k) (instantiated args t) arg left)
       (instance_led m k e ws n))
       (seq_associates n (argument args k) (instantiated args t) (instantiated args r))
+  instance_led (ends b m q) k e h n = absurd (cc (sym q ∙ ap is_end e))
   instance_led {t} (second {s} {r} b m) k e h n =
       agrees_through step step step n _ _ _
       (same_steps (seq (instantiated args s) (instantiated args r)) (instantiated args r)

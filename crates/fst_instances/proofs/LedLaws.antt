@@ -1,7 +1,7 @@
 -- What a type moves by that moves by a variable, how often, and what its instance then does.
 use Rattle.std.proofs.Common.{◌≡◌, ◌∙◌, ◌≤◌, ℕ, zero, suc, List, [], ◌∷◌, length, map, Bool, true, false, Option, Some, None, refl, sym, ap, subst, arith}
 use Rattle.std.specs.Prelude.{option_map, option_and_then, if◌then◌else◌, IsSome, is_some}
-use Rattle.fst_types.specs.Tree.{Tree, skip, send, receive, select, offer, seq, rec, back, var, plain, arrow, pair, named}
+use Rattle.fst_types.specs.Tree.{Tree, skip, send, receive, close, wait, select, offer, seq, rec, back, var, plain, arrow, pair, named}
 use Rattle.fst_types.specs.declared.kind.Kind.{Kind}
 use Rattle.fst_types.specs.declared.label.Label.{Label}
 use Rattle.fst_types.specs.declared.label.Label.TheVariants.{Var}
@@ -11,7 +11,7 @@ use Rattle.fst_types.specs.Instance.{argument, instantiated}
 use Rattle.fst_types.proofs.Laws.{same_label-same}
 use Rattle.fst_kinds.specs.WellFormed.{IsSession, IsInstantiation}
 use Rattle.fst_kinds.proofs.Laws.{put_scoped}
-use Rattle.fst_lts.specs.Step.{terminated, step_in, step}
+use Rattle.fst_lts.specs.Step.{terminated, followed, step_in, step}
 use Rattle.fst_base.specs.Agreement.{residual, Performs, AgreeTo, BothOrNeither, Agree}
 use Rattle.fst_instances.specs.Instance.{IsUnled, FewVariables}
 use Rattle.fst_base.proofs.AgreementLaws.{agrees_through}
@@ -26,15 +26,17 @@ led_alone : (env : List (Option Tree)) (s : Tree) (k : ℕ) (a : Label) → lead
 led_alone env skip k a e h = absurd (cc e)
 led_alone env (send b) k a e h = absurd (cc e)
 led_alone env (receive b) k a e h = absurd (cc e)
+led_alone env close k a e h = absurd (cc e)
+led_alone env wait k a e h = absurd (cc e)
 led_alone env (select bs) k a e h = absurd (cc e)
 led_alone env (offer bs) k a e h = absurd (cc e)
 led_alone env (seq s r) k a e h = pick (led_alone env s k a) (led_alone env r k a) (terminated s) e h
   where
     pick : (leading s ≡ Some k → IsSome (step_in env s a) → a ≡ Var k) →
         (leading r ≡ Some k → IsSome (step_in env r a) → a ≡ Var k) → (c : Bool) → (if c then leading r else leading s) ≡ Some k →
-        IsSome (if c then step_in env r a else option_map (λ t. seq t (substitute env r)) (step_in env s a)) → a ≡ Var k
+        IsSome (if c then step_in env r a else option_map (followed a (substitute env r)) (step_in env s a)) → a ≡ Var k
     pick front behind true e h = behind e h
-    pick front behind false e h = front e (unmapped_there (λ t. seq t (substitute env r)) (step_in env s a) h)
+    pick front behind false e h = front e (unmapped_there (followed a (substitute env r)) (step_in env s a) h)
 led_alone env (rec s) k a e h = led_alone (Some (substitute env (rec s)) ∷ env) s k a e h
 led_alone env (back j) k a e h = absurd (cc e)
 led_alone env (var j) k a e h =
@@ -142,21 +144,21 @@ module _ (outer vars : List Kind) (args : List Tree) (i : IsInstantiation outer 
       (same_steps (seq (argument args k) (instantiated args t)) (instantiated args t)
       (λ a. over_step (argument args k) (instantiated args t) a over) n)
 
-  -- and otherwise it moves as the argument, with the instance of what is left behind
+  -- and otherwise it moves as the argument, followed by the instance of what is left
   pub led_ahead : (s t : Tree) (k : ℕ) → IsSession vars s → step s (Var k) ≡ Some t → terminated (argument args k) ≡ false →
       (a : Label) →
-      BothOrNeither (λ x y. Agree step step x (seq y (instantiated args t))) (step (instantiated args s) a)
+      BothOrNeither (λ x y. Agree step step x (followed a (instantiated args t) y)) (step (instantiated args s) a)
       (step (argument args k) a)
   led_ahead s t k w e on a =
       pick (step (instantiated args s) a) (step (argument args k) a)
       (λ n. subst (λ o. BothOrNeither (AgreeTo step step n) (step (instantiated args s) a) o)
       (seq_step (argument args k) (instantiated args t) a ∙ ap
-      (λ c. after_first (instantiated args t) c (step (argument args k) a) (step (instantiated args t) a)) on)
+      (λ c. after_first a (instantiated args t) c (step (argument args k) a) (step (instantiated args t) a)) on)
       (step_led outer vars args i s t k w e (suc n) a))
     where
       pick : (o p : Option Tree) → ((n : ℕ) → BothOrNeither (AgreeTo step step n) o
-          (option_map (λ y. seq y (instantiated args t)) p)) → BothOrNeither
-          (λ x y. Agree step step x (seq y (instantiated args t))) o p
+          (option_map (followed a (instantiated args t)) p)) → BothOrNeither
+          (λ x y. Agree step step x (followed a (instantiated args t) y)) o p
       pick None None h = tt
       pick None (Some y) h = h zero
       pick (Some x) None h = h zero

@@ -3,7 +3,7 @@ use Rattle.std.proofs.Common.{◌≡◌, ◌∙◌, ◌≤◌, ℕ, suc, List, [
 use Rattle.std.specs.Prelude.{if◌then◌else◌, ◌&&◌, ◌||◌, not}
 use Rattle.std.proofs.Math.Bool.{or-true}
 use Rattle.std.proofs.lemmas.Bool.{or_parts}
-use Rattle.fst_types.specs.Tree.{Tree, skip, send, receive, select, offer, seq, rec, back, var, plain, arrow, pair, named}
+use Rattle.fst_types.specs.Tree.{Tree, skip, send, receive, close, wait, select, offer, seq, rec, back, var, plain, arrow, pair, named}
 use Rattle.fst_types.specs.declared.kind.Kind.{Kind}
 use Rattle.fst_types.specs.declared.label.Label.{Label}
 use Rattle.fst_types.specs.declared.label.Label.TheVariants.{Var}
@@ -17,8 +17,8 @@ use Rattle.fst_kinds.specs.WellFormed.{IsSession}
 use Rattle.fst_kinds.specs.OpenSession.{GuardsTo, IsOpenSession, IsPut}
 use Rattle.fst_kinds.proofs.Laws.{unreached, substitute_guards, opened, open_first, open_second, open_body, unguarded_body, substitute_session, unfolding_of_contractive}
 use Rattle.fst_base.proofs.Options.{mapped_some}
-use Rattle.fst_lts.specs.Step.{terminated, step}
-use Rattle.fst_lts.specs.Moves.{Moves, sends, receives, selects, offers, first, second, unfolds, variables}
+use Rattle.fst_lts.specs.Step.{terminated, is_end, step}
+use Rattle.fst_lts.specs.Moves.{Moves, sends, receives, closes, waits, selects, offers, first, ends, second, unfolds, variables}
 use Rattle.fst_lts.proofs.Laws.{unguarded, guarded_first, guarded_body, no_variable, steps_are_moves, unfolding_of_step, seq_step}
 use Rattle.fst_instances.proofs.SessionLaws.{session_after}
 use Rattle.fst_instances.proofs.SequenceLaws.{after_first}
@@ -41,13 +41,16 @@ alike s r h f = fades (λ k t e. fading f k t (h (Var k) ∙ e))
 guards_kept : {s t : Tree} {a : Label} → Moves s a t → (k : ℕ) → a ≡ Var k → IsScoped 0 s → guards s ≡ true → guards t ≡ true
 guards_kept sends k e o g = absurd (cc e)
 guards_kept receives k e o g = absurd (cc e)
+guards_kept closes k e o g = absurd (cc e)
+guards_kept waits k e o g = absurd (cc e)
 guards_kept (selects b) k e o g = absurd (cc e)
 guards_kept (offers b) k e o g = absurd (cc e)
-guards_kept (first {s} {r} {t} b m) k e o g = pick (guards_kept m k e o.0) (guards s) refl g
+guards_kept (first {s} {r} {t} b m q) k e o g = pick (guards_kept m k e o.0) (guards s) refl g
   where
     pick : (guards s ≡ true → guards t ≡ true) → (c : Bool) → guards s ≡ c → c || guards r ≡ true → guards t || guards r ≡ true
     pick front true is g = ap (λ b. b || guards r) (front is)
     pick front false is g = ap (λ b. guards t || b) g ∙ or-true (guards t)
+guards_kept (ends b m q) k e o g = absurd (cc (sym q ∙ ap is_end e))
 guards_kept (second {s} {r} b m) k e o g = guards_kept m k e o.1 (sym (ap (λ c. c || guards r) (unguarded s b)) ∙ g)
 guards_kept (unfolds {s} m) k e o g = guards_kept m k e (unfolding_of_scoped s o)
     (substitute_guards 1 (Some (rec s) ∷ []) s (g, tt) o g)
@@ -66,7 +69,7 @@ fades_seq vars {s} r (fades f) ws h =
 
     pick : (k : ℕ) (t : Tree) → ((u : Tree) → step s (Var k) ≡ Some u → (guards u ≡ false → Fades r) → Fades (seq u r)) →
         (c : Bool) → terminated s ≡ c →
-        after_first r c (step s (Var k)) (step r (Var k)) ≡ Some t → Fades t
+        after_first (Var k) r c (step s (Var k)) (step r (Var k)) ≡ Some t → Fades t
     pick k t next true is e = fading (h (unguarded s is)) k t e
     pick k t next false is e =
         let found = mapped_some (λ u. seq u r) (step s (Var k)) t e in
@@ -100,6 +103,8 @@ fades_in : (vars : List Kind) (n : ℕ) (env : List (Option Tree)) (s : Tree) �
 fades_in vars n env skip p h g = fades_skip
 fades_in vars n env (send b) p h g = unled_fades (send b) refl
 fades_in vars n env (receive b) p h g = unled_fades (receive b) refl
+fades_in vars n env close p h g = unled_fades close refl
+fades_in vars n env wait p h g = unled_fades wait refl
 fades_in vars n env (select bs) p h g = unled_fades (substitute env (select bs)) refl
 fades_in vars n env (offer bs) p h g = unled_fades (substitute env (offer bs)) refl
 fades_in vars n env (seq s r) p h g =

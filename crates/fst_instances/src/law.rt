@@ -10,7 +10,7 @@ ghost use Rattle.fst_types.specs.Instance.{argument, instantiated};
 ghost use Rattle.fst_kinds.specs.Kinds.{top, HasKind};
 ghost use Rattle.fst_kinds.specs.WellFormed.{IsSession, IsWellFormed, IsInstantiation};
 ghost use Rattle.fst_base.specs.Agreement.{Agree, BothOrNeither};
-ghost use Rattle.fst_lts.specs.Step.{step, terminated};
+ghost use Rattle.fst_lts.specs.Step.{step, terminated, followed};
 ghost use Rattle.fst_lts.specs.Dual.{dual};
 ghost use Rattle.fst_lts.specs.Equal.{IsEqual};
 ghost use Rattle.fst_instances.specs.Instance.{InstanceLaw, InstanceLawOver, IsUnled, FewVariables};
@@ -23,9 +23,9 @@ pub fn instance_law()
     ensures outer { (outer : List Kind) → InstanceLawOver outer }
 {}
 
-/// An instance moves as its type until the type moves by a variable; then the type moves by nothing else, and the
-/// instance goes on as what was put for the variable, with the instance of what is left behind it. This comes only
-/// finitely often before another move.
+/// An instance moves as its type until the type moves by a variable; then the type moves by nothing
+/// else, and the instance goes on as what was put for the variable, followed by the instance of what
+/// is left: behind an end nothing of that is. This comes only finitely often before another move.
 pub fn instance_moves_law()
     ensures steps { (outer vars : List Kind) (args : List Tree) → IsInstantiation outer vars args →
         (s : Tree) → IsUnled s → (a : Label) →
@@ -44,7 +44,7 @@ pub fn instance_moves_law()
     ensures ahead { (outer vars : List Kind) (args : List Tree) → IsInstantiation outer vars args →
         (s t : Tree) (k : ℕ) → IsSession vars s → step s (Var k) ≡ Some t →
         terminated (argument args k) ≡ false →
-        (a : Label) → BothOrNeither (λ x y. Agree step step x (tree.seq y (instantiated args t)))
+        (a : Label) → BothOrNeither (λ x y. Agree step step x (followed a (instantiated args t) y))
         (step (instantiated args s) a) (step (argument args k) a) }
     ensures over { (outer vars : List Kind) (args : List Tree) → IsInstantiation outer vars args →
         (s t : Tree) (k : ℕ) → IsSession vars s → step s (Var k) ≡ Some t →

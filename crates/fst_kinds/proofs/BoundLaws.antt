@@ -2,7 +2,7 @@
 use Rattle.std.proofs.Common.{◌≡◌, ◌∙◌, inl, inr, sym, refl, ℕ, List, [], ◌∷◌, ◌++◌, length, Err}
 use Rattle.std.specs.Prelude.{◌≢◌, ⊤}
 use Rattle.std.proofs.lemmas.Option.{slice_get-get_or}
-use Rattle.fst_types.specs.Tree.{Tree, skip, send, receive, select, offer, seq, rec, back, var, plain, arrow, pair, named, Branches, none, branch}
+use Rattle.fst_types.specs.Tree.{Tree, skip, send, receive, close, wait, select, offer, seq, rec, back, var, plain, arrow, pair, named, Branches, none, branch}
 use Rattle.fst_types.specs.Variables.{HasVariablesBelow, HaveVariablesBelow}
 use Rattle.fst_types.specs.declared.kind.Kind.{Kind}
 use Rattle.fst_types.specs.declared.kind.Use.TheVariants.{Once}
@@ -59,6 +59,8 @@ module _ (vars : List Kind) (k : ℕ) where
     type_bound skip h = own skip h
     type_bound (send b) h = own (send b) h
     type_bound (receive b) h = own (receive b) h
+    type_bound close h = own close h
+    type_bound wait h = own wait h
     type_bound (select bs) h = choice bs (select bs) h (all_bound bs h)
     type_bound (offer bs) h = choice bs (offer bs) h (all_bound bs h)
     type_bound (seq s r) h = two s r (seq s r) h (type_bound s h.0) (type_bound r h.1)

@@ -1,7 +1,7 @@
 -- The walk answers the first fault, which a type has at most once, and a well-formed type not at all.
 use Rattle.std.proofs.Common.{◌≡◌, ◌∙◌, ◌↔◌, ◌⊎◌, inl, inr, refl, sym, ap, subst, ℕ, List, [], ◌∷◌, ◌++◌, Bool, true, false, Option, Some, None, Result, Ok, Err}
 use Rattle.std.specs.Prelude.{◌≢◌, if◌then◌else◌, ok_or, slice_get, IfErr, ⊤}
-use Rattle.fst_types.specs.Tree.{Tree, skip, send, receive, select, offer, seq, rec, back, var, plain, arrow, pair, named, Branches, none, branch}
+use Rattle.fst_types.specs.Tree.{Tree, skip, send, receive, close, wait, select, offer, seq, rec, back, var, plain, arrow, pair, named, Branches, none, branch}
 use Rattle.fst_types.specs.Order.{EachChoice, EachChoiceBelow}
 use Rattle.fst_types.specs.declared.kind.Kind.{Kind}
 use Rattle.fst_types.specs.declared.kind.Use.{Use}
@@ -48,6 +48,8 @@ parts_sessions : (vars : List Kind) (t : Tree) (k : Kind) → HasKind vars t k �
 parts_sessions vars skip k h = tt
 parts_sessions vars (send b) k h = tt
 parts_sessions vars (receive b) k h = tt
+parts_sessions vars close k h = tt
+parts_sessions vars wait k h = tt
 parts_sessions vars (select bs) k h = bodies_sessions vars bs h.0
 parts_sessions vars (offer bs) k h = bodies_sessions vars bs h.0
 parts_sessions vars (seq s r) k h = ((h.0, h.2), ((h.1, h.3), tt))
@@ -139,6 +141,8 @@ mutual
   kinded_holds vars skip k h c o = (λ f x. node_holds x k h c, tt)
   kinded_holds vars (send b) k h c o = (λ f x. node_holds x k h c, tt)
   kinded_holds vars (receive b) k h c o = (λ f x. node_holds x k h c, tt)
+  kinded_holds vars close k h c o = (λ f x. node_holds x k h c, tt)
+  kinded_holds vars wait k h c o = (λ f x. node_holds x k h c, tt)
   kinded_holds vars (select bs) k h c o = (
     λ f x. single_holds x o.0,
     hold_together vars (needs_all bs) (node (select bs) ∷ []) (all_kinded_hold vars bs h.0 c o.1)
@@ -358,6 +362,8 @@ mutual
   walk_fault vars skip f e = no_fault _ f e
   walk_fault vars (send b) f e = no_fault _ f e
   walk_fault vars (receive b) f e = no_fault _ f e
+  walk_fault vars close f e = no_fault _ f e
+  walk_fault vars wait f e = no_fault _ f e
   walk_fault vars (select bs) f e = of_choice vars bs (node (select bs)) f (all_walk_fault vars bs f) (λ k w. wrong w) e
   walk_fault vars (offer bs) f e = of_choice vars bs (node (offer bs)) f (all_walk_fault vars bs f) (λ k w. wrong w) e
   walk_fault vars (seq s r) f e =

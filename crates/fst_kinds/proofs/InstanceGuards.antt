@@ -3,7 +3,7 @@ use Rattle.std.proofs.Common.{◌≡◌, ◌∙◌, ℕ, suc, List, Bool, true, 
 use Rattle.std.specs.Prelude.{◌&&◌, ◌||◌, not}
 use Rattle.std.proofs.Math.Bool.{or-true, and-false}
 use Rattle.std.proofs.lemmas.Bool.{or_parts}
-use Rattle.fst_types.specs.Tree.{Tree, skip, send, receive, select, offer, seq, rec, back, var, plain, arrow, pair, named, Branches, none, branch}
+use Rattle.fst_types.specs.Tree.{Tree, skip, send, receive, close, wait, select, offer, seq, rec, back, var, plain, arrow, pair, named, Branches, none, branch}
 use Rattle.fst_types.specs.Scoped.{IsScoped}
 use Rattle.fst_types.specs.Instance.{argument, instantiated, instantiated_all, ArgumentsHave}
 use Rattle.fst_kinds.specs.Contractive.{guards, reaches, IsContractive, AllContractive}
@@ -14,6 +14,8 @@ pub instantiated_guards : (args : List Tree) (s : Tree) → guards s ≡ true �
 instantiated_guards args skip e = e
 instantiated_guards args (send b) e = refl
 instantiated_guards args (receive b) e = refl
+instantiated_guards args close e = refl
+instantiated_guards args wait e = refl
 instantiated_guards args (select bs) e = refl
 instantiated_guards args (offer bs) e = refl
 instantiated_guards args (seq s r) e = pick (instantiated_guards args s) (instantiated_guards args r) (guards s) refl e
@@ -36,6 +38,8 @@ pub instantiated_unreached : (args : List Tree) (s : Tree) (j : ℕ) → Argumen
 instantiated_unreached args skip j ok e = refl
 instantiated_unreached args (send b) j ok e = refl
 instantiated_unreached args (receive b) j ok e = refl
+instantiated_unreached args close j ok e = refl
+instantiated_unreached args wait j ok e = refl
 instantiated_unreached args (select bs) j ok e = refl
 instantiated_unreached args (offer bs) j ok e = refl
 instantiated_unreached args (seq s r) j ok e =
@@ -63,6 +67,8 @@ mutual
   instantiated_contractive args skip ok d e = tt
   instantiated_contractive args (send b) ok d e = tt
   instantiated_contractive args (receive b) ok d e = tt
+  instantiated_contractive args close ok d e = tt
+  instantiated_contractive args wait ok d e = tt
   instantiated_contractive args (select bs) ok d e = instantiated_all_contractive args bs ok d e
   instantiated_contractive args (offer bs) ok d e = instantiated_all_contractive args bs ok d e
   instantiated_contractive args (seq s r) ok d e =

@@ -2,7 +2,7 @@
 use Rattle.std.proofs.Common.{◌≡◌, ℕ, zero, suc, List, [], ◌∷◌, true, Some, refl, sym, ap, subst}
 use Rattle.std.specs.Prelude.{◌&&◌, slice_get, unwrap_or}
 use Rattle.std.proofs.lemmas.Bool.{and_parts}
-use Rattle.fst_types.specs.Tree.{Tree, skip, send, receive, select, offer, seq, rec, back, var, plain, arrow, pair, named, Branches, none, branch}
+use Rattle.fst_types.specs.Tree.{Tree, skip, send, receive, close, wait, select, offer, seq, rec, back, var, plain, arrow, pair, named, Branches, none, branch}
 use Rattle.fst_types.specs.declared.kind.Kind.{Kind}
 use Rattle.fst_types.specs.declared.kind.Prekind.{Prekind}
 use Rattle.fst_types.specs.declared.kind.Prekind.TheVariants.{Session, Top}
@@ -82,6 +82,8 @@ mutual
   instantiated_kind outer vars args skip k c h = (k, h, subkind_itself k)
   instantiated_kind outer vars args (send b) k c h = (k, h, subkind_itself k)
   instantiated_kind outer vars args (receive b) k c h = (k, h, subkind_itself k)
+  instantiated_kind outer vars args close k c h = (k, h, subkind_itself k)
+  instantiated_kind outer vars args wait k c h = (k, h, subkind_itself k)
   instantiated_kind outer vars args (select bs) k c h =
       (k, (instantiated_sessions outer vars args bs c h.0, h.1), subkind_itself k)
   instantiated_kind outer vars args (offer bs) k c h =

@@ -2,7 +2,7 @@
 use Rattle.std.proofs.Common.{◌≡◌, ℕ, zero, suc, List, [], ◌∷◌, Some, true, map, refl, sym, ap, subst}
 use Rattle.std.specs.Prelude.{◌&&◌, slice_get, unwrap_or}
 use Rattle.std.proofs.lemmas.Bool.{and_parts}
-use Rattle.fst_types.specs.Tree.{Tree, skip, send, receive, select, offer, seq, rec, back, var, plain, arrow, pair, named, Branches, none, branch}
+use Rattle.fst_types.specs.Tree.{Tree, skip, send, receive, close, wait, select, offer, seq, rec, back, var, plain, arrow, pair, named, Branches, none, branch}
 use Rattle.fst_types.specs.declared.kind.Kind.{Kind}
 use Rattle.fst_types.specs.declared.kind.Prekind.{Prekind}
 use Rattle.fst_types.specs.declared.kind.Prekind.TheVariants.{Session, Top}
@@ -56,6 +56,8 @@ mutual
   instantiated_closed args skip k h = refl
   instantiated_closed args (send b) k h = refl
   instantiated_closed args (receive b) k h = refl
+  instantiated_closed args close k h = refl
+  instantiated_closed args wait k h = refl
   instantiated_closed args (select bs) k h = ap select (instantiated_all_closed args bs h.0)
   instantiated_closed args (offer bs) k h = ap offer (instantiated_all_closed args bs h.0)
   instantiated_closed args (seq s r) k h = λ i. seq (instantiated_closed args s (session h.0) h.2 i)
@@ -91,6 +93,8 @@ module _ (more : List Tree) (outer vars : List Kind) (args : List Tree) (c : IsI
     instantiated_again skip k h = refl
     instantiated_again (send b) k h = refl
     instantiated_again (receive b) k h = refl
+    instantiated_again close k h = refl
+    instantiated_again wait k h = refl
     instantiated_again (select bs) k h = ap select (instantiated_all_again bs h.0)
     instantiated_again (offer bs) k h = ap offer (instantiated_all_again bs h.0)
     instantiated_again (seq s r) k h = λ i. seq (instantiated_again s (session h.0) h.2 i)

@@ -1,6 +1,6 @@
 -- Kinds below 1S, and that a type has one kind.
 use Rattle.std.proofs.Common.{◌≡◌, ◌∙◌, refl, sym, List, true}
-use Rattle.fst_types.specs.Tree.{Tree, skip, send, receive, select, offer, seq, rec, back, var, plain, arrow, pair, named}
+use Rattle.fst_types.specs.Tree.{Tree, skip, send, receive, close, wait, select, offer, seq, rec, back, var, plain, arrow, pair, named}
 use Rattle.fst_types.specs.declared.kind.Kind.{Kind}
 use Rattle.fst_types.specs.declared.kind.Prekind.{Prekind}
 use Rattle.fst_types.specs.declared.kind.Prekind.TheVariants.{Session, Top}
@@ -29,6 +29,8 @@ pub one_kind : (vars : List Kind) (t : Tree) (j k : Kind) → HasKind vars t j �
 one_kind vars skip j k h g = cc
 one_kind vars (send b) j k h g = cc
 one_kind vars (receive b) j k h g = cc
+one_kind vars close j k h g = cc
+one_kind vars wait j k h g = cc
 one_kind vars (select bs) j k h g = cc
 one_kind vars (offer bs) j k h g = cc
 one_kind vars (seq s r) j k h g =

@@ -3,7 +3,7 @@ use Rattle.std.proofs.Common.{◌≡◌, ◌∙◌, ◌<◌, ◌≤◌, ℕ, zer
 use Rattle.std.specs.Prelude.{◌&&◌, ◌||◌, not, nat_eq}
 use Rattle.std.proofs.Math.Bool.{or-true, and-false}
 use Rattle.std.proofs.lemmas.Bool.{eqb-true, false_from_ne_true, or_parts}
-use Rattle.fst_types.specs.Tree.{Tree, skip, send, receive, select, offer, seq, rec, back, var, plain, arrow, pair, named, Branches, none, branch}
+use Rattle.fst_types.specs.Tree.{Tree, skip, send, receive, close, wait, select, offer, seq, rec, back, var, plain, arrow, pair, named, Branches, none, branch}
 use Rattle.fst_types.specs.declared.kind.Kind.{Kind}
 use Rattle.fst_types.specs.declared.kind.Prekind.TheVariants.{Session, Top}
 use Rattle.fst_types.specs.declared.kind.Use.{Use}
@@ -26,6 +26,8 @@ pub unguarded_scoped : (vars : List Kind) (n : ℕ) (s : Tree) (u : Use) → Has
 unguarded_scoped vars n skip u h e = tt
 unguarded_scoped vars n (send b) u h e = tt
 unguarded_scoped vars n (receive b) u h e = tt
+unguarded_scoped vars n close u h e = tt
+unguarded_scoped vars n wait u h e = tt
 unguarded_scoped vars n (select bs) u h e = absurd (cc e)
 unguarded_scoped vars n (offer bs) u h e = absurd (cc e)
 unguarded_scoped vars n (seq s r) u h e =
@@ -44,6 +46,8 @@ pub unreached : (s : Tree) (n k : ℕ) → IsScoped n s → n ≤ k → reaches 
 unreached skip n k h le = refl
 unreached (send b) n k h le = refl
 unreached (receive b) n k h le = refl
+unreached close n k h le = refl
+unreached wait n k h le = refl
 unreached (select bs) n k h le = refl
 unreached (offer bs) n k h le = refl
 unreached (seq s r) n k h le =
@@ -71,6 +75,8 @@ pub substitute_guards : (n : ℕ) (env : List (Option Tree)) (s : Tree) → Guar
 substitute_guards n env skip g h e = e
 substitute_guards n env (send b) g h e = refl
 substitute_guards n env (receive b) g h e = refl
+substitute_guards n env close g h e = refl
+substitute_guards n env wait g h e = refl
 substitute_guards n env (select bs) g h e = refl
 substitute_guards n env (offer bs) g h e = refl
 substitute_guards n env (seq s r) g h e = pick (substitute_guards n env s g h.0) (substitute_guards n env r g h.1)
@@ -101,6 +107,8 @@ pub substitute_unreached : (n : ℕ) (env : List (Option Tree)) (s : Tree) (j : 
 substitute_unreached n env skip j g c h e = refl
 substitute_unreached n env (send b) j g c h e = refl
 substitute_unreached n env (receive b) j g c h e = refl
+substitute_unreached n env close j g c h e = refl
+substitute_unreached n env wait j g c h e = refl
 substitute_unreached n env (select bs) j g c h e = refl
 substitute_unreached n env (offer bs) j g c h e = refl
 substitute_unreached n env (seq s r) j g c h e =
@@ -129,6 +137,8 @@ mutual
   substitute_contractive n env skip g c d h e = tt
   substitute_contractive n env (send b) g c d h e = tt
   substitute_contractive n env (receive b) g c d h e = tt
+  substitute_contractive n env close g c d h e = tt
+  substitute_contractive n env wait g c d h e = tt
   substitute_contractive n env (select bs) g c d h e = substitute_all_contractive n env bs g c d h e
   substitute_contractive n env (offer bs) g c d h e = substitute_all_contractive n env bs g c d h e
   substitute_contractive n env (seq s r) g c d h e =

@@ -1,6 +1,6 @@
 -- The kind of a type in which types are put for recursion variables.
 use Rattle.std.proofs.Common.{◌≡◌, ℕ, zero, suc, List, [], ◌∷◌, true, Option, Some, None, refl, sym, ap, subst}
-use Rattle.fst_types.specs.Tree.{Tree, skip, send, receive, select, offer, seq, rec, back, var, plain, arrow, pair, named, Branches, none, branch}
+use Rattle.fst_types.specs.Tree.{Tree, skip, send, receive, close, wait, select, offer, seq, rec, back, var, plain, arrow, pair, named, Branches, none, branch}
 use Rattle.fst_types.specs.declared.kind.Kind.{Kind}
 use Rattle.fst_types.specs.declared.kind.Use.{Use}
 use Rattle.fst_types.specs.declared.kind.Use.TheVariants.{Many, Once}
@@ -83,6 +83,8 @@ mutual
   substitute_kind vars w env skip k e h = same_kind vars w k skip h
   substitute_kind vars w env (send b) k e h = same_kind vars w k (send b) h
   substitute_kind vars w env (receive b) k e h = same_kind vars w k (receive b) h
+  substitute_kind vars w env close k e h = same_kind vars w k close h
+  substitute_kind vars w env wait k e h = same_kind vars w k wait h
   substitute_kind vars w env (select bs) k e h =
       same_kind vars w k (select (substitute_all env bs)) (substitute_sessions vars w env bs e h.0, h.1)
   substitute_kind vars w env (offer bs) k e h =

@@ -1,7 +1,7 @@
 -- The walk answers with a kind exactly where the type is well formed of that kind.
 use Rattle.std.proofs.Common.{◌≡◌, ◌∙◌, ◌↔◌, inl, inr, refl, sym, ap, subst, ℕ, List, Bool, true, false, Option, Some, None, Result, Ok, Err}
 use Rattle.std.specs.Prelude.{◌≢◌, if◌then◌else◌, ok_or, slice_get, IfOk, IfErr}
-use Rattle.fst_types.specs.Tree.{Tree, skip, send, receive, select, offer, seq, rec, back, var, plain, arrow, pair, named, Branches, none, branch}
+use Rattle.fst_types.specs.Tree.{Tree, skip, send, receive, close, wait, select, offer, seq, rec, back, var, plain, arrow, pair, named, Branches, none, branch}
 use Rattle.fst_types.specs.Scoped.{IsScoped}
 use Rattle.fst_types.specs.Order.{IsSorted, IsOrdered, AllOrdered, AreSorted, AreRising, EachChoice, EachChoiceBelow}
 use Rattle.fst_types.specs.declared.kind.Kind.{Kind}
@@ -95,6 +95,8 @@ mutual
   walked vars skip k e = record { kinded = cc; contractive = tt; single = tt }
   walked vars (send b) k e = record { kinded = cc; contractive = tt; single = tt }
   walked vars (receive b) k e = record { kinded = cc; contractive = tt; single = tt }
+  walked vars close k e = record { kinded = cc; contractive = tt; single = tt }
+  walked vars wait k e = record { kinded = cc; contractive = tt; single = tt }
   walked vars (select bs) k e =
       let choice = choice_ok vars bs k e in
       let all = all_walked vars bs choice.1 in
@@ -193,6 +195,8 @@ mutual
   kinded_walk vars skip k h c o = cc
   kinded_walk vars (send b) k h c o = cc
   kinded_walk vars (receive b) k h c o = cc
+  kinded_walk vars close k h c o = cc
+  kinded_walk vars wait k h c o = cc
   kinded_walk vars (select bs) k h c o = choice_kinded vars bs k o.0 (kinded_walk_all vars bs h.0 c o.1) h.1
   kinded_walk vars (offer bs) k h c o = choice_kinded vars bs k o.0 (kinded_walk_all vars bs h.0 c o.1) h.1
   kinded_walk vars (seq s r) k h c o =
@@ -239,6 +243,8 @@ mutual
   single_ordered skip s o = tt
   single_ordered (send b) s o = tt
   single_ordered (receive b) s o = tt
+  single_ordered close s o = tt
+  single_ordered wait s o = tt
   single_ordered (select bs) s o = (sorted_rising bs s.0 o.0, all_single_ordered bs s.1 o.1)
   single_ordered (offer bs) s o = (sorted_rising bs s.0 o.0, all_single_ordered bs s.1 o.1)
   single_ordered (seq t r) s o = (single_ordered t s.0 o.0, single_ordered r s.1 o.1)

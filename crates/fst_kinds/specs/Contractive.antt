@@ -1,12 +1,14 @@
 -- Contractive types: each recursion variable stands behind a move (Almeida, Mordido, Vasconcelos, TACAS 2020).
 use Rattle.std.specs.Prelude.{◌≡◌, ℕ, suc, Bool, true, false, ◌&&◌, ◌||◌, not, nat_eq, ⊤}
-use Rattle.fst_types.specs.Tree.{Tree, skip, send, receive, select, offer, seq, rec, back, var, plain, arrow, pair, named, Branches, none, branch}
+use Rattle.fst_types.specs.Tree.{Tree, skip, send, receive, close, wait, select, offer, seq, rec, back, var, plain, arrow, pair, named, Branches, none, branch}
 
 -- what stands behind the type comes after a move
 abbrev pub guards : Tree → Bool
 guards skip = false
 guards (send b) = true
 guards (receive b) = true
+guards close = true
+guards wait = true
 guards (select bs) = true
 guards (offer bs) = true
 guards (seq s r) = guards s || guards r
@@ -23,6 +25,8 @@ abbrev pub reaches : Tree → ℕ → Bool
 reaches skip k = false
 reaches (send b) k = false
 reaches (receive b) k = false
+reaches close k = false
+reaches wait k = false
 reaches (select bs) k = false
 reaches (offer bs) k = false
 reaches (seq s r) k = reaches s k || (not (guards s) && reaches r k)
@@ -44,6 +48,8 @@ abbrev mutual
   IsContractive skip = ⊤
   IsContractive (send b) = ⊤
   IsContractive (receive b) = ⊤
+  IsContractive close = ⊤
+  IsContractive wait = ⊤
   IsContractive (select bs) = AllContractive bs
   IsContractive (offer bs) = AllContractive bs
   IsContractive (seq s r) = IsContractive s × IsContractive r

@@ -1,6 +1,6 @@
 -- The first fault of a type: what the table of kinds asks, in the order in which it is asked.
 use Rattle.std.specs.Prelude.{◌≡◌, ◌⊎◌, ℕ, List, [], ◌∷◌, ◌++◌, true, false, Some, None, slice_get}
-use Rattle.fst_types.specs.Tree.{Tree, skip, send, receive, select, offer, seq, rec, back, var, plain, arrow, pair, named, Branches, none, branch}
+use Rattle.fst_types.specs.Tree.{Tree, skip, send, receive, close, wait, select, offer, seq, rec, back, var, plain, arrow, pair, named, Branches, none, branch}
 use Rattle.fst_types.specs.declared.kind.Kind.{Kind}
 use Rattle.fst_types.specs.declared.kind.Use.TheVariants.{Once}
 use Rattle.fst_kinds.specs.declared.fault.KindFault.{KindFault}
@@ -20,6 +20,8 @@ abbrev mutual
   needs skip = node skip ∷ []
   needs (send b) = node (send b) ∷ []
   needs (receive b) = node (receive b) ∷ []
+  needs close = node close ∷ []
+  needs wait = node wait ∷ []
   needs (select bs) = single bs ∷ (needs_all bs ++ node (select bs) ∷ [])
   needs (offer bs) = single bs ∷ (needs_all bs ++ node (offer bs) ∷ [])
   needs (seq s r) = needs s ++ (needs r ++ node (seq s r) ∷ [])
@@ -46,6 +48,8 @@ abbrev pub session_parts : Tree → List Tree
 session_parts skip = []
 session_parts (send b) = []
 session_parts (receive b) = []
+session_parts close = []
+session_parts wait = []
 session_parts (select bs) = bodies bs
 session_parts (offer bs) = bodies bs
 session_parts (seq s r) = s ∷ r ∷ []

@@ -1,6 +1,6 @@
 -- What a type begins with, found in one walk.
 use Rattle.std.specs.Prelude.{zero, suc}
-use Rattle.fst_types.specs.Tree.{Tree, skip, send, receive, select, offer, seq, rec, back, var, plain, arrow, pair, named}
+use Rattle.fst_types.specs.Tree.{Tree, skip, send, receive, close, wait, select, offer, seq, rec, back, var, plain, arrow, pair, named}
 use Rattle.fst_kinds.specs.declared.front.Front.{Front}
 use Rattle.fst_kinds.specs.declared.front.Front.TheVariants.{Open, Variable, Guarded}
 
@@ -22,6 +22,8 @@ abbrev pub front : Tree → Front
 front skip = Open
 front (send b) = Guarded
 front (receive b) = Guarded
+front close = Guarded
+front wait = Guarded
 front (select bs) = Guarded
 front (offer bs) = Guarded
 front (seq s r) = front_behind (front s) (front r)

@@ -1,6 +1,6 @@
 -- The kinds of types (Almeida, Mordido, Thiemann, Vasconcelos, 2022).
 use Rattle.std.specs.Prelude.{◌≡◌, List, Bool, true, false, ◌&&◌, Some, slice_get, ⊤}
-use Rattle.fst_types.specs.Tree.{Tree, skip, send, receive, select, offer, seq, rec, back, var, plain, arrow, pair, named, Branches, none, branch}
+use Rattle.fst_types.specs.Tree.{Tree, skip, send, receive, close, wait, select, offer, seq, rec, back, var, plain, arrow, pair, named, Branches, none, branch}
 use Rattle.fst_types.specs.declared.kind.Kind.{Kind}
 use Rattle.fst_types.specs.declared.kind.Prekind.{Prekind}
 use Rattle.fst_types.specs.declared.kind.Prekind.TheVariants.{Session, Top}
@@ -42,6 +42,8 @@ abbrev mutual
   HasKind vars skip k = k ≡ session Many
   HasKind vars (send b) k = k ≡ session Once
   HasKind vars (receive b) k = k ≡ session Once
+  HasKind vars close k = k ≡ session Once
+  HasKind vars wait k = k ≡ session Once
   HasKind vars (select bs) k = AllSessions vars bs × (k ≡ session Once)
   HasKind vars (offer bs) k = AllSessions vars bs × (k ≡ session Once)
   HasKind vars (seq s r) k = (u : Use) ×

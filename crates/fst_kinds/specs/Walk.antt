@@ -3,7 +3,7 @@
 use Rattle.std.specs.Prelude.{◌≡◌, ◌⊎◌, ℕ, List, Bool, true, false, Option, Some, None, Result, Ok, Err, ok_or, slice_get, if◌then◌else◌}
 use Rattle.std.specs.Ordering.{nat_cmp, is_eq}
 use Rattle.std.specs.Cmp.Lexicographic.{slice_cmp}
-use Rattle.fst_types.specs.Tree.{Tree, skip, send, receive, select, offer, seq, rec, back, var, plain, arrow, pair, named, Branches, none, branch}
+use Rattle.fst_types.specs.Tree.{Tree, skip, send, receive, close, wait, select, offer, seq, rec, back, var, plain, arrow, pair, named, Branches, none, branch}
 use Rattle.fst_types.specs.declared.kind.Kind.{Kind}
 use Rattle.fst_types.specs.declared.kind.Use.TheVariants.{Many, Once}
 use Rattle.fst_kinds.specs.declared.fault.KindFault.{KindFault}
@@ -47,6 +47,8 @@ abbrev mutual
   walk vars skip = Ok (session Many)
   walk vars (send b) = Ok (session Once)
   walk vars (receive b) = Ok (session Once)
+  walk vars close = Ok (session Once)
+  walk vars wait = Ok (session Once)
   walk vars (select bs) = unless_double (double_label bs) (and_next (walk_all vars bs) choice_kind)
   walk vars (offer bs) = unless_double (double_label bs) (and_next (walk_all vars bs) choice_kind)
   walk vars (seq s r) =

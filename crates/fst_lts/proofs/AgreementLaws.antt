@@ -1,12 +1,12 @@
 -- Agreement is an equivalence, and a type in front of or behind both sides keeps it.
 use Rattle.std.proofs.Common.{◌≡◌, ◌∙◌, ◌↔◌, ℕ, zero, suc, List, [], ◌∷◌, Bool, true, false, Option, Some, None, refl, sym, ap, subst, arith}
 use Rattle.std.specs.Prelude.{IsSome, IsTrue, Contains, option_map, if◌then◌else◌}
-use Rattle.fst_types.specs.Tree.{Tree, seq}
+use Rattle.fst_types.specs.Tree.{Tree, skip, seq}
 use Rattle.fst_types.specs.declared.kind.Kind.{Kind}
 use Rattle.fst_types.specs.declared.label.Label.{Label}
 use Rattle.fst_types.proofs.Laws.{substitute_nothing}
 use Rattle.fst_kinds.specs.WellFormed.{IsSession}
-use Rattle.fst_lts.specs.Step.{step, labels, terminated}
+use Rattle.fst_lts.specs.Step.{step, labels, terminated, is_end, followed}
 use Rattle.fst_base.specs.Agreement.{AgreeTo, BothOrNeither}
 use Rattle.fst_lts.proofs.LabelLaws.{labels_are_moves}
 use Rattle.fst_lts.proofs.ResidualLaws.{step_session, terminated_exactly}
@@ -14,23 +14,32 @@ use Rattle.fst_base.proofs.AgreementLaws.{same_related, agrees_itself, agrees_ba
 use Rattle.fst_base.proofs.Bools.{same_bool}
 
 -- the step of a sequence whose first part goes on or is over
-abbrev pub after_first : Tree → Bool → Option Tree → Option Tree → Option Tree
-after_first s over first second = if over then second else option_map (λ t. seq t s) first
+abbrev pub after_first : Label → Tree → Bool → Option Tree → Option Tree → Option Tree
+after_first a s over first second = if over then second else option_map (followed a s) first
 
 -- the step of a sequence
-pub first_then : (s r : Tree) (a : Label) → step (seq s r) a ≡ after_first r (terminated s) (step s a) (step r a)
-first_then s r a = ap (λ z. if terminated s then step r a else option_map (λ t. seq t z) (step s a)) (substitute_nothing r)
+pub first_then : (s r : Tree) (a : Label) → step (seq s r) a ≡ after_first a r (terminated s) (step s a) (step r a)
+first_then s r a = ap (λ z. if terminated s then step r a else option_map (followed a z) (step s a)) (substitute_nothing r)
+
+-- behind an end both sides agree, and elsewhere where the sequences do
+behind_agrees : (n : ℕ) (a : Label) (s r x y : Tree) → AgreeTo step step n (seq s x) (seq r y) →
+    AgreeTo step step n (followed a x s) (followed a y r)
+behind_agrees n a s r x y h = pick (is_end a)
+  where
+    pick : (c : Bool) → AgreeTo step step n (if c then skip else seq s x) (if c then skip else seq r y)
+    pick true = agrees_itself step n skip
+    pick false = h
 
 -- both sides of a step of two sequences
-sequences_agree : (n : ℕ) (x y : Tree) (over : Bool) (o p q u : Option Tree) →
+sequences_agree : (n : ℕ) (a : Label) (x y : Tree) (over : Bool) (o p q u : Option Tree) →
     (over ≡ false → BothOrNeither (λ s r. AgreeTo step step n (seq s x) (seq r y)) o p) →
     (over ≡ true → BothOrNeither (AgreeTo step step n) q u) →
-    BothOrNeither (AgreeTo step step n) (after_first x over o q) (after_first y over p u)
-sequences_agree n x y true o p q u first second = second refl
-sequences_agree n x y false None None q u first second = tt
-sequences_agree n x y false None (Some r) q u first second = absurd (first refl)
-sequences_agree n x y false (Some s) None q u first second = absurd (first refl)
-sequences_agree n x y false (Some s) (Some r) q u first second = first refl
+    BothOrNeither (AgreeTo step step n) (after_first a x over o q) (after_first a y over p u)
+sequences_agree n a x y true o p q u first second = second refl
+sequences_agree n a x y false None None q u first second = tt
+sequences_agree n a x y false None (Some r) q u first second = absurd (first refl)
+sequences_agree n a x y false (Some s) None q u first second = absurd (first refl)
+sequences_agree n a x y false (Some s) (Some r) q u first second = behind_agrees n a s r x y (first refl)
 
 -- two steps of sequences, where both first parts are over or neither is
 step_sequences : (n : ℕ) (s r x y : Tree) (a : Label) → terminated s ≡ terminated r →
@@ -38,12 +47,12 @@ step_sequences : (n : ℕ) (s r x y : Tree) (a : Label) → terminated s ≡ ter
     (terminated s ≡ true → BothOrNeither (AgreeTo step step n) (step x a) (step y a)) →
     BothOrNeither (AgreeTo step step n) (step (seq s x) a) (step (seq r y) a)
 step_sequences n s r x y a same first second =
-    let left : after_first x (terminated s) (step s a) (step x a) ≡ step (seq s x) a = sym (first_then s x a) in
-    let right : after_first y (terminated s) (step r a) (step y a) ≡ step (seq r y) a =
-    ap (λ over. after_first y over (step r a) (step y a)) same ∙ sym (first_then r y a) in
+    let left : after_first a x (terminated s) (step s a) (step x a) ≡ step (seq s x) a = sym (first_then s x a) in
+    let right : after_first a y (terminated s) (step r a) (step y a) ≡ step (seq r y) a =
+    ap (λ over. after_first a y over (step r a) (step y a)) same ∙ sym (first_then r y a) in
     subst (λ o. BothOrNeither (AgreeTo step step n) o (step (seq r y) a)) left
-    (subst (λ o. BothOrNeither (AgreeTo step step n) (after_first x (terminated s) (step s a) (step x a)) o) right
-    (sequences_agree n x y (terminated s) (step s a) (step r a) (step x a) (step y a) first second))
+    (subst (λ o. BothOrNeither (AgreeTo step step n) (after_first a x (terminated s) (step s a) (step x a)) o) right
+    (sequences_agree n a x y (terminated s) (step s a) (step r a) (step x a) (step y a) first second))
 
 -- a type in front of both sides
 pub agree_in_front : (n : ℕ) (t s r : Tree) → AgreeTo step step n s r → AgreeTo step step n (seq t s) (seq t r)

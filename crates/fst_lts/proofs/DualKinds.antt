@@ -1,6 +1,6 @@
 -- The dual of a type is well formed, of the same kind.
 use Rattle.std.proofs.Common.{◌≡◌, ◌∙◌, ℕ, suc, ◌&&◌, ◌||◌, not, refl, List}
-use Rattle.fst_types.specs.Tree.{Tree, skip, send, receive, select, offer, seq, rec, back, var, plain, arrow, pair, named, Branches, none, branch}
+use Rattle.fst_types.specs.Tree.{Tree, skip, send, receive, close, wait, select, offer, seq, rec, back, var, plain, arrow, pair, named, Branches, none, branch}
 use Rattle.fst_types.specs.Order.{AreRising, IsOrdered, AllOrdered}
 use Rattle.fst_types.specs.Scoped.{IsScoped, AllScoped}
 use Rattle.fst_types.specs.declared.kind.Kind.{Kind}
@@ -13,6 +13,8 @@ dual_guards : (s : Tree) → guards (dual s) ≡ guards s
 dual_guards skip = refl
 dual_guards (send b) = refl
 dual_guards (receive b) = refl
+dual_guards close = refl
+dual_guards wait = refl
 dual_guards (select bs) = refl
 dual_guards (offer bs) = refl
 dual_guards (seq s r) = λ i. dual_guards s i || dual_guards r i
@@ -28,6 +30,8 @@ dual_reaches : (s : Tree) (k : ℕ) → reaches (dual s) k ≡ reaches s k
 dual_reaches skip k = refl
 dual_reaches (send b) k = refl
 dual_reaches (receive b) k = refl
+dual_reaches close k = refl
+dual_reaches wait k = refl
 dual_reaches (select bs) k = refl
 dual_reaches (offer bs) k = refl
 dual_reaches (seq s r) k = λ i. dual_reaches s k i || (not (dual_guards s i) && dual_reaches r k i)
@@ -44,6 +48,8 @@ mutual
   dual_kind vars skip k h = h
   dual_kind vars (send b) k h = h
   dual_kind vars (receive b) k h = h
+  dual_kind vars close k h = h
+  dual_kind vars wait k h = h
   dual_kind vars (select bs) k h = (dual_kinds vars bs h.0, h.1)
   dual_kind vars (offer bs) k h = (dual_kinds vars bs h.0, h.1)
   dual_kind vars (seq s r) k h = (h.0, h.1, dual_kind vars s _ h.2, dual_kind vars r _ h.3, h.4)
@@ -64,6 +70,8 @@ mutual
   dual_contractive skip h = h
   dual_contractive (send b) h = h
   dual_contractive (receive b) h = h
+  dual_contractive close h = h
+  dual_contractive wait h = h
   dual_contractive (select bs) h = dual_all_contractive bs h
   dual_contractive (offer bs) h = dual_all_contractive bs h
   dual_contractive (seq s r) h = (dual_contractive s h.0, dual_contractive r h.1)
@@ -85,6 +93,8 @@ mutual
   dual_scoped n skip h = h
   dual_scoped n (send b) h = h
   dual_scoped n (receive b) h = h
+  dual_scoped n close h = h
+  dual_scoped n wait h = h
   dual_scoped n (select bs) h = dual_all_scoped n bs h
   dual_scoped n (offer bs) h = dual_all_scoped n bs h
   dual_scoped n (seq s r) h = (dual_scoped n s h.0, dual_scoped n r h.1)
@@ -110,6 +120,8 @@ mutual
   dual_ordered skip h = h
   dual_ordered (send b) h = h
   dual_ordered (receive b) h = h
+  dual_ordered close h = h
+  dual_ordered wait h = h
   dual_ordered (select bs) h = (dual_rising bs h.0, dual_all_ordered bs h.1)
   dual_ordered (offer bs) h = (dual_rising bs h.0, dual_all_ordered bs h.1)
   dual_ordered (seq s r) h = (dual_ordered s h.0, dual_ordered r h.1)

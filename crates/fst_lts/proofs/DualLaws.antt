@@ -1,14 +1,14 @@
 -- The dual of the dual, and the moves of the dual.
 use Rattle.std.proofs.Common.{◌≡◌, ◌∙◌, ℕ, zero, suc, List, [], ◌∷◌, Bool, true, false, Option, Some, None, map, refl, ap}
 use Rattle.std.specs.Prelude.{option_map, option_and_then, if◌then◌else◌, ◌&&◌}
-use Rattle.fst_types.specs.Tree.{Tree, skip, send, receive, select, offer, seq, rec, back, var, plain, arrow, pair, named, Branches, none, branch}
+use Rattle.fst_types.specs.Tree.{Tree, skip, send, receive, close, wait, select, offer, seq, rec, back, var, plain, arrow, pair, named, Branches, none, branch}
 use Rattle.fst_types.specs.Order.{same_label}
 use Rattle.fst_types.specs.declared.label.Label.{Label}
-use Rattle.fst_types.specs.declared.label.Label.TheVariants.{Send, Receive, Select, Offer, Var}
+use Rattle.fst_types.specs.declared.label.Label.TheVariants.{Send, Receive, Select, Offer, Close, Wait, Var}
 use Rattle.fst_types.specs.declared.ty.Branch.{Branch}
 use Rattle.fst_types.specs.ModelView.{branches_of}
 use Rattle.fst_types.specs.Substitution.{variable, substitute, substitute_all}
-use Rattle.fst_lts.specs.Step.{terminated, branch_at, step_in, step}
+use Rattle.fst_lts.specs.Step.{terminated, branch_at, is_end, followed, step_in, step}
 use Rattle.fst_base.specs.Agreement.{residual}
 use Rattle.fst_lts.specs.Dual.{dual, dual_all, dual_label, dual_branch}
 
@@ -23,6 +23,8 @@ mutual
   dual-dual skip = refl
   dual-dual (send b) = refl
   dual-dual (receive b) = refl
+  dual-dual close = refl
+  dual-dual wait = refl
   dual-dual (select bs) = ap select (dual_all-dual_all bs)
   dual-dual (offer bs) = ap offer (dual_all-dual_all bs)
   dual-dual (seq s r) = λ i. seq (dual-dual s i) (dual-dual r i)
@@ -45,12 +47,16 @@ dual_label-dual_label (Send b) = refl
 dual_label-dual_label (Receive b) = refl
 dual_label-dual_label (Select l) = refl
 dual_label-dual_label (Offer l) = refl
+dual_label-dual_label Close = refl
+dual_label-dual_label Wait = refl
 dual_label-dual_label (Var k) = refl
 
 terminated-dual : (s : Tree) → terminated (dual s) ≡ terminated s
 terminated-dual skip = refl
 terminated-dual (send b) = refl
 terminated-dual (receive b) = refl
+terminated-dual close = refl
+terminated-dual wait = refl
 terminated-dual (select bs) = refl
 terminated-dual (offer bs) = refl
 terminated-dual (seq s r) = λ i. terminated-dual s i && terminated-dual r i
@@ -78,6 +84,8 @@ mutual
   substitute-dual env skip = refl
   substitute-dual env (send b) = refl
   substitute-dual env (receive b) = refl
+  substitute-dual env close = refl
+  substitute-dual env wait = refl
   substitute-dual env (select bs) = ap offer (substitute_all-dual_all env bs)
   substitute-dual env (offer bs) = ap select (substitute_all-dual_all env bs)
   substitute-dual env (seq s r) = λ i. seq (substitute-dual env s i) (substitute-dual env r i)
@@ -99,10 +107,12 @@ same_label-dual_label (Send x) (Send y) = refl
 same_label-dual_label (Receive x) (Receive y) = refl
 same_label-dual_label (Select x) (Select y) = refl
 same_label-dual_label (Offer x) (Offer y) = refl
+same_label-dual_label Close Close = refl
+same_label-dual_label Wait Wait = refl
 same_label-dual_label (Var x) (Var y) = refl
 same_label-dual_label a b = refl
 
--- after a message nothing is left on either side
+-- after a message, an end or a variable nothing is left on either side
 ended : (c : Bool) → (if c then Some skip else None) ≡ option_map dual (if c then Some skip else None)
 ended true = refl
 ended false = refl
@@ -128,12 +138,30 @@ substitute_branch_dual : (env : List (Option Tree)) (o : Option Tree) →
 substitute_branch_dual env None = refl
 substitute_branch_dual env (Some s) = ap Some (substitute-dual env s)
 
-behind_dual : (env : List (Option Tree)) (r : Tree) (o p : Option Tree) → o ≡ option_map dual p →
-    option_map (λ t. seq t (substitute (dual_env env) (dual r))) o ≡ option_map dual
-    (option_map (λ t. seq t (substitute env r)) p)
-behind_dual env r o None e = ap (option_map (λ t. seq t (substitute (dual_env env) (dual r)))) e
-behind_dual env r o (Some t) e = ap (option_map (λ t. seq t (substitute (dual_env env) (dual r)))) e ∙ ap
-    (λ q. Some (seq (dual t) q)) (substitute-dual env r)
+-- a label ends a type where its dual ends the other side
+pub is_end-dual_label : (a : Label) → is_end (dual_label a) ≡ is_end a
+is_end-dual_label (Send b) = refl
+is_end-dual_label (Receive b) = refl
+is_end-dual_label (Select l) = refl
+is_end-dual_label (Offer l) = refl
+is_end-dual_label Close = refl
+is_end-dual_label Wait = refl
+is_end-dual_label (Var k) = refl
+
+followed-dual : (a : Label) (r t : Tree) → followed (dual_label a) (dual r) (dual t) ≡ dual (followed a r t)
+followed-dual a r t = ap (λ c. if c then skip else seq (dual t) (dual r)) (is_end-dual_label a) ∙ pick (is_end a)
+  where
+    pick : (c : Bool) → (if c then skip else seq (dual t) (dual r)) ≡ dual (if c then skip else seq t r)
+    pick true = refl
+    pick false = refl
+
+behind_dual : (env : List (Option Tree)) (a : Label) (r : Tree) (o p : Option Tree) → o ≡ option_map dual p →
+    option_map (followed (dual_label a) (substitute (dual_env env) (dual r))) o ≡ option_map dual
+    (option_map (followed a (substitute env r)) p)
+behind_dual env a r o None e = ap (option_map (followed (dual_label a) (substitute (dual_env env) (dual r)))) e
+behind_dual env a r o (Some t) e = ap (option_map (followed (dual_label a) (substitute (dual_env env) (dual r)))) e
+    ∙ ap (λ q. Some (followed (dual_label a) q (dual t))) (substitute-dual env r)
+    ∙ ap Some (followed-dual a (substitute env r) t)
 
 chosen_dual : (c d : Bool) (x y : Option Tree) (x' y' : Option Tree) → c ≡ d → x ≡ option_map dual x' → y ≡ option_map dual y' →
     (if c then x else y) ≡ option_map dual (if d then x' else y')
@@ -149,13 +177,17 @@ step_in-dual env (send b) a = ap (λ c. if c then Some skip else None) (same_lab
     ∙ ended (same_label a (Send b))
 step_in-dual env (receive b) a = ap (λ c. if c then Some skip else None) (same_label-dual_label a (Receive b))
     ∙ ended (same_label a (Receive b))
+step_in-dual env close a = ap (λ c. if c then Some skip else None) (same_label-dual_label a Close)
+    ∙ ended (same_label a Close)
+step_in-dual env wait a = ap (λ c. if c then Some skip else None) (same_label-dual_label a Wait)
+    ∙ ended (same_label a Wait)
 step_in-dual env (select bs) a = ap (option_map (substitute (dual_env env))) (branch_dual Select bs a)
     ∙ substitute_branch_dual env (branch_at Select bs a)
 step_in-dual env (offer bs) a = ap (option_map (substitute (dual_env env))) (branch_dual Offer bs a)
     ∙ substitute_branch_dual env (branch_at Offer bs a)
 step_in-dual env (seq s r) a =
     chosen_dual (terminated (dual s)) (terminated s) _ _ _ _ (terminated-dual s) (step_in-dual env r a)
-    (behind_dual env r _ (step_in env s a) (step_in-dual env s a))
+    (behind_dual env a r _ (step_in env s a) (step_in-dual env s a))
 step_in-dual env (rec s) a =
     ap (λ t. step_in (Some t ∷ dual_env env) (dual s) (dual_label a)) (substitute-dual env (rec s))
     ∙ step_in-dual (Some (substitute env (rec s)) ∷ env) s a

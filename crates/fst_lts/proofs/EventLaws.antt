@@ -1,10 +1,10 @@
 -- How session types move by events: by labels of one direction, and the dual by those of the other.
 use Rattle.std.proofs.Common.{◌≡◌, ◌∙◌, ◌⊎◌, inl, inr, ℕ, List, [], ◌∷◌, Bool, true, false, Option, Some, None, refl, sym, ap, subst}
 use Rattle.std.specs.Prelude.{Contains, IsSome, option_map, option_and_then, if◌then◌else◌}
-use Rattle.fst_types.specs.Tree.{Tree, skip, send, receive, select, offer, seq, rec, back, var, plain, arrow, pair, named, Branches, none, branch}
+use Rattle.fst_types.specs.Tree.{Tree, skip, send, receive, close, wait, select, offer, seq, rec, back, var, plain, arrow, pair, named, Branches, none, branch}
 use Rattle.fst_types.specs.declared.base.Base.{Base}
 use Rattle.fst_types.specs.declared.label.Label.{Label}
-use Rattle.fst_types.specs.declared.label.Label.TheVariants.{Send, Receive, Select, Offer, Var}
+use Rattle.fst_types.specs.declared.label.Label.TheVariants.{Send, Receive, Select, Offer, Close, Wait, Var}
 use Rattle.fst_lts.specs.Step.{step, terminated, labels, choice_labels}
 use Rattle.fst_lts.specs.Dual.{dual, dual_label}
 use Rattle.fst_lts.specs.Histories.{sending, receiving, over, after_event, after_history}
@@ -17,15 +17,17 @@ use Rattle.fst_base.proofs.Lists.{from_contains, contains_none}
 use Rattle.std.proofs.lemmas.Option.{none-some}
 use Rattle.fst_types.specs.declared.event.Entry.{Entry}
 use Rattle.fst_types.specs.declared.event.Event.{Event}
-use Rattle.fst_types.specs.declared.event.Event.TheVariants.{Int, Bool as Truth, Char, Unit as Nothing, Label as Branch}
+use Rattle.fst_types.specs.declared.event.Event.TheVariants.{Int, Bool as Truth, Char, Unit as Nothing, Label as Branch, Closed}
 
--- the moves of a type: none, one message, the branches of one choice, or one variable
+-- the moves of a type: none, one message, the branches of one choice, the end, or one variable
 data Front : Type 0 where
   nothing : Front
   sends : Base → Front
   receives : Base → Front
   selects : Branches → Front
   offers : Branches → Front
+  closes : Front
+  waits : Front
   variable : ℕ → Front
 
 abbrev front_labels : Front → List Label
@@ -34,6 +36,8 @@ front_labels (sends b) = Send b ∷ []
 front_labels (receives b) = Receive b ∷ []
 front_labels (selects bs) = choice_labels Select bs
 front_labels (offers bs) = choice_labels Offer bs
+front_labels closes = Close ∷ []
+front_labels waits = Wait ∷ []
 front_labels (variable k) = Var k ∷ []
 
 -- the labels of a type are those of a front
@@ -41,6 +45,8 @@ front : (s : Tree) → (f : Front) × (labels s ≡ front_labels f)
 front skip = (nothing, refl)
 front (send b) = (sends b, refl)
 front (receive b) = (receives b, refl)
+front close = (closes, refl)
+front wait = (waits, refl)
 front (select bs) = (selects bs, refl)
 front (offer bs) = (offers bs, refl)
 front (seq s r) = pick (terminated s) (front s) (front r)
@@ -65,12 +71,14 @@ in_front s a t e = subst (λ ls. Contains ls a) (front s).1 ((labels_are_moves s
     there None = false
     there (Some x) = true
 
--- something is sent by the label
+-- something is sent by the label, or the protocol closed
 abbrev pub is_output : Label → Bool
 is_output (Send b) = true
 is_output (Receive b) = false
 is_output (Select l) = true
 is_output (Offer l) = false
+is_output Close = true
+is_output Wait = false
 is_output (Var k) = false
 
 choice_label : (make : List ℕ → Label) (bs : Branches) (a : Label) → Contains (choice_labels make bs) a → (l : List ℕ) ×
@@ -96,6 +104,8 @@ outgoing (sends b) = true
 outgoing (receives b) = false
 outgoing (selects bs) = true
 outgoing (offers bs) = false
+outgoing closes = true
+outgoing waits = false
 outgoing (variable k) = false
 
 front_direction : (f : Front) (a : Label) → Contains (front_labels f) a → is_output a ≡ outgoing f
@@ -104,6 +114,8 @@ front_direction (sends b) a h = sym (ap is_output (one_of a (Send b) h))
 front_direction (receives b) a h = sym (ap is_output (one_of a (Receive b) h))
 front_direction (selects bs) a h = sym (ap is_output (choice_label Select bs a h).1)
 front_direction (offers bs) a h = sym (ap is_output (choice_label Offer bs a h).1)
+front_direction closes a h = sym (ap is_output (one_of a Close h))
+front_direction waits a h = sym (ap is_output (one_of a Wait h))
 front_direction (variable k) a h = sym (ap is_output (one_of a (Var k) h))
 
 -- a type moves by labels of one direction
@@ -118,6 +130,7 @@ sending_output (Truth b) = refl
 sending_output (Char c) = refl
 sending_output Nothing = refl
 sending_output (Branch l) = refl
+sending_output Closed = refl
 
 -- and what is received is none
 pub receiving_output : (ev : Event) → is_output (receiving ev) ≡ false
@@ -126,6 +139,7 @@ receiving_output (Truth b) = refl
 receiving_output (Char c) = refl
 receiving_output Nothing = refl
 receiving_output (Branch l) = refl
+receiving_output Closed = refl
 
 -- a type that receives an event doesn't send it
 pub not_both : (s t : Tree) (ev : Event) → step s (receiving ev) ≡ Some t → step s (sending ev) ≡ None
@@ -168,6 +182,7 @@ dual_sending (Truth b) = refl
 dual_sending (Char c) = refl
 dual_sending Nothing = refl
 dual_sending (Branch l) = refl
+dual_sending Closed = refl
 
 -- and the other way round
 pub dual_receiving : (ev : Event) → dual_label (receiving ev) ≡ sending ev
@@ -176,6 +191,7 @@ dual_receiving (Truth b) = refl
 dual_receiving (Char c) = refl
 dual_receiving Nothing = refl
 dual_receiving (Branch l) = refl
+dual_receiving Closed = refl
 
 -- the dual receives what the type sends
 pub dual_receives : (s : Tree) (ev : Event) → step (dual s) (receiving ev) ≡ option_map dual (step s (sending ev))
@@ -192,11 +208,27 @@ only_message (sends c) b a h g = absurd (cc (one_of (Receive b) (Send c) h))
 only_message (receives c) b a h g = sym (one_of a (Receive c) g) ∙ one_of (Receive b) (Receive c) h
 only_message (selects bs) b a h g = absurd (cc (choice_label Select bs (Receive b) h).1)
 only_message (offers bs) b a h g = absurd (cc (choice_label Offer bs (Receive b) h).1)
+only_message closes b a h g = absurd (cc (one_of (Receive b) Close h))
+only_message waits b a h g = absurd (cc (one_of (Receive b) Wait h))
 only_message (variable k) b a h g = absurd (cc (one_of (Receive b) (Var k) h))
 
 -- a type that receives a value moves by no other label
 pub one_message : (s t u : Tree) (b : Base) (a : Label) → step s (Receive b) ≡ Some t → step s a ≡ Some u → a ≡ Receive b
 one_message s t u b a e f = only_message (front s).0 b a (in_front s (Receive b) t e) (in_front s a u f)
+
+only_wait : (f : Front) (a : Label) → Contains (front_labels f) Wait → Contains (front_labels f) a → a ≡ Wait
+only_wait nothing a h g = absurd (contains_none a g)
+only_wait (sends c) a h g = absurd (cc (one_of Wait (Send c) h))
+only_wait (receives c) a h g = absurd (cc (one_of Wait (Receive c) h))
+only_wait (selects bs) a h g = absurd (cc (choice_label Select bs Wait h).1)
+only_wait (offers bs) a h g = absurd (cc (choice_label Offer bs Wait h).1)
+only_wait closes a h g = absurd (cc (one_of Wait Close h))
+only_wait waits a h g = sym (one_of a Wait g)
+only_wait (variable k) a h g = absurd (cc (one_of Wait (Var k) h))
+
+-- a type that waits for the end moves by no other label
+pub one_wait : (s t u : Tree) (a : Label) → step s Wait ≡ Some t → step s a ≡ Some u → a ≡ Wait
+one_wait s t u a e f = only_wait (front s).0 a (in_front s Wait t e) (in_front s a u f)
 
 only_offers : (f : Front) (l : List ℕ) (a : Label) → Contains (front_labels f) (Offer l) → Contains (front_labels f) a →
     (k : List ℕ) × (Offer k ≡ a)
@@ -205,6 +237,8 @@ only_offers (sends c) l a h g = absurd (cc (one_of (Offer l) (Send c) h))
 only_offers (receives c) l a h g = absurd (cc (one_of (Offer l) (Receive c) h))
 only_offers (selects bs) l a h g = absurd (cc (choice_label Select bs (Offer l) h).1)
 only_offers (offers bs) l a h g = choice_label Offer bs a g
+only_offers closes l a h g = absurd (cc (one_of (Offer l) Close h))
+only_offers waits l a h g = absurd (cc (one_of (Offer l) Wait h))
 only_offers (variable k) l a h g = absurd (cc (one_of (Offer l) (Var k) h))
 
 -- a type that offers a branch moves by branches that it offers alone

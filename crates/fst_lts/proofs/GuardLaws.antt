@@ -2,7 +2,7 @@
 use Rattle.std.proofs.Common.{◌≡◌, ◌∙◌, ℕ, zero, suc, true, false, refl, sym, subst}
 use Rattle.std.specs.Prelude.{◌&&◌, ◌||◌, not}
 use Rattle.std.proofs.lemmas.Bool.{eq-eqb, or_parts, and_parts}
-use Rattle.fst_types.specs.Tree.{Tree, skip, send, receive, select, offer, seq, rec, back, var, plain, arrow, pair, named}
+use Rattle.fst_types.specs.Tree.{Tree, skip, send, receive, close, wait, select, offer, seq, rec, back, var, plain, arrow, pair, named}
 use Rattle.fst_kinds.specs.Contractive.{guards, reaches, IsGuarded}
 use Rattle.fst_lts.specs.Step.{terminated}
 
@@ -11,6 +11,8 @@ pub unguarded : (s : Tree) → terminated s ≡ true → guards s ≡ false
 unguarded skip e = refl
 unguarded (send b) e = absurd (cc e)
 unguarded (receive b) e = absurd (cc e)
+unguarded close e = absurd (cc e)
+unguarded wait e = absurd (cc e)
 unguarded (select bs) e = absurd (cc e)
 unguarded (offer bs) e = absurd (cc e)
 unguarded (seq s r) e =

@@ -1,7 +1,7 @@
 -- What other crates cite of the moves of types and of agreement.
-use Rattle.std.proofs.Common.{◌≡◌, ℕ, suc, List, true, false, Some}
+use Rattle.std.proofs.Common.{◌≡◌, ℕ, suc, List, [], true, false, Some}
 use Rattle.std.specs.Prelude.{Contains, IsSome, IfSome, option_map, if◌then◌else◌}
-use Rattle.fst_types.specs.Tree.{Tree, seq, rec, back}
+use Rattle.fst_types.specs.Tree.{Tree, skip, seq, rec, back}
 use Rattle.fst_types.specs.declared.kind.Kind.{Kind}
 use Rattle.fst_types.specs.declared.label.Label.{Label}
 use Rattle.fst_types.specs.Scoped.{IsScoped}
@@ -9,7 +9,7 @@ use Rattle.fst_types.specs.Substitution.{unfolding_of}
 use Rattle.fst_kinds.specs.Contractive.{guards, reaches, IsContractive, IsGuarded}
 use Rattle.fst_kinds.specs.WellFormed.{IsSession}
 use Rattle.fst_base.specs.Agreement.{AgreeTo}
-use Rattle.fst_lts.specs.Step.{terminated, labels, step}
+use Rattle.fst_lts.specs.Step.{terminated, labels, is_end, followed, step}
 use Rattle.fst_lts.specs.Moves.{Moves}
 use Rattle.fst_lts.proofs.GuardLaws as guard
 use Rattle.fst_lts.proofs.LabelLaws as label
@@ -18,12 +18,17 @@ use Rattle.fst_lts.proofs.ResidualLaws as left
 use Rattle.fst_lts.proofs.AgreementLaws as agreement
 -- the dual of the dual is the type itself, and so it is for labels
 pub use Rattle.fst_lts.proofs.DualLaws.{dual-dual, dual-dual_option, dual_label-dual_label}
+-- by the dual of a label the other side ends where a type ends by the label
+pub use Rattle.fst_lts.proofs.DualLaws.{is_end-dual_label}
+-- behind a label by which no protocol ends the second part of a sequence is left, and behind an end nothing is
+pub use Rattle.fst_lts.proofs.MoveLaws.{followed_on, followed_ended}
 -- what the dual leaves after the dual trace is the dual of what the type leaves after the trace
 pub use Rattle.fst_lts.proofs.DualLaws.{residual-dual}
 -- outputs, and that a type moves by outputs alone or by none; what is sent is an output, what is received is none
 pub use Rattle.fst_lts.proofs.EventLaws.{is_output, one_direction, sending_output, receiving_output}
--- a type that receives an event doesn't send it; one that receives a value moves by no other label, and one that offers a branch by branches alone
-pub use Rattle.fst_lts.proofs.EventLaws.{not_both, one_message, one_offer}
+-- a type that receives an event doesn't send it; one that receives a value or waits for the end moves by no other label, and one
+-- that offers a branch by branches alone
+pub use Rattle.fst_lts.proofs.EventLaws.{not_both, one_message, one_wait, one_offer}
 -- what moves isn't terminated; where an event is sent or received, the type goes on so
 pub use Rattle.fst_lts.proofs.EventLaws.{moving, after_sent, after_received}
 -- the dual moves by the dual label, receives what the type sends and sends what it receives
@@ -63,6 +68,10 @@ pub unfolding_of_step : (s : Tree) → IsScoped 0 (rec s) → IsContractive (rec
     (a : Label) → step (unfolding_of s) a ≡ step (rec s) a
 unfolding_of_step = moved.unfolding_of_step
 
+-- by an end a type comes to Skip
+pub ended_skip : (s t : Tree) (a : Label) → is_end a ≡ true → step s a ≡ Some t → t ≡ skip
+ended_skip = moved.ended_skip []
+
 -- two session types, one behind the other, are a session type
 pub seq_session : (vars : List Kind) (s r : Tree) → IsSession vars s → IsSession vars r → IsSession vars (seq s r)
 seq_session = left.seq_session
@@ -75,9 +84,9 @@ step_session = left.step_session
 pub no_step : (s : Tree) → terminated s ≡ true → (a : Label) → IsSome (step s a) → ⊥
 no_step s over a = agreement.no_step s a (left.terminated_unlabelled s over)
 
--- a sequence moves as its second part where the first one is terminated, and otherwise as the first, with the second behind
+-- a sequence moves as its second part where the first one is terminated, and otherwise as the first, followed by the second
 pub seq_step : (s r : Tree) (a : Label) → step
-    (seq s r) a ≡ (if terminated s then step r a else option_map (λ t. seq t r) (step s a))
+    (seq s r) a ≡ (if terminated s then step r a else option_map (followed a r) (step s a))
 seq_step = agreement.first_then
 
 -- session types that agree to a depth over 0 are terminated alike

@@ -2,18 +2,18 @@
 use Rattle.std.proofs.Common.{◌≡◌, ◌∙◌, ◌⊎◌, inl, inr, ℕ, suc, List, [], ◌∷◌, length, Bool, true, false, Option, Some, None, refl, sym, ap, subst, arith}
 use Rattle.std.specs.Prelude.{option_map, if◌then◌else◌, ◌&&◌}
 use Rattle.std.proofs.lemmas.Bool.{and_parts, false_from_ne_true}
-use Rattle.fst_types.specs.Tree.{Tree, skip, send, receive, select, offer, seq, rec, back, var, plain, arrow, pair, named, Branches, none, branch}
+use Rattle.fst_types.specs.Tree.{Tree, skip, send, receive, close, wait, select, offer, seq, rec, back, var, plain, arrow, pair, named, Branches, none, branch}
 use Rattle.fst_types.specs.Order.{same_label}
 use Rattle.fst_types.specs.Substitution.{substitute, substitute_all, unfolding_of, AllClosed}
 use Rattle.fst_types.specs.Scoped.{IsScoped}
 use Rattle.fst_types.specs.declared.label.Label.{Label}
-use Rattle.fst_types.specs.declared.label.Label.TheVariants.{Send, Receive, Select, Offer, Var}
+use Rattle.fst_types.specs.declared.label.Label.TheVariants.{Send, Receive, Select, Offer, Close, Wait, Var}
 use Rattle.fst_types.proofs.Laws.{same_label-same, same_label-itself, substitute_nothing, substitute_scoped, substitute_after, unfolding_of_scoped}
 use Rattle.fst_kinds.specs.Contractive.{IsContractive, IsGuarded}
-use Rattle.fst_lts.specs.Step.{terminated, branch_at, step_in, step}
+use Rattle.fst_lts.specs.Step.{terminated, branch_at, step_in, step, is_end, followed}
 use Rattle.fst_lts.proofs.GuardLaws.{guarded_first, guarded_second, guarded_body, no_variable}
 use Rattle.fst_kinds.proofs.Laws.{unreached}
-use Rattle.fst_lts.specs.Moves.{Moves, sends, receives, selects, offers, first, second, unfolds, variables}
+use Rattle.fst_lts.specs.Moves.{Moves, sends, receives, closes, waits, selects, offers, first, ends, second, unfolds, variables}
 use Rattle.fst_base.proofs.Options.{mapped_some}
 
 -- a terminated type holds no variable before its end
@@ -21,6 +21,8 @@ substitute-terminated : (env : List (Option Tree)) (s : Tree) → terminated s �
 substitute-terminated env skip e = refl
 substitute-terminated env (send b) e = absurd (cc e)
 substitute-terminated env (receive b) e = absurd (cc e)
+substitute-terminated env close e = absurd (cc e)
+substitute-terminated env wait e = absurd (cc e)
 substitute-terminated env (select bs) e = absurd (cc e)
 substitute-terminated env (offer bs) e = absurd (cc e)
 substitute-terminated env (seq s r) e =
@@ -38,9 +40,12 @@ substitute-terminated env (named k) e = absurd (cc e)
 moving : {s t : Tree} {a : Label} → Moves s a t → terminated s ≡ true → ⊥
 moving sends e = absurd (cc e)
 moving receives e = absurd (cc e)
+moving closes e = absurd (cc e)
+moving waits e = absurd (cc e)
 moving (selects h) e = absurd (cc e)
 moving (offers h) e = absurd (cc e)
-moving (first {s} {r} h m) e = moving m (and_parts (terminated s) (terminated r) e).0
+moving (first {s} {r} h m n) e = moving m (and_parts (terminated s) (terminated r) e).0
+moving (ends {s} {r} h m n) e = moving m (and_parts (terminated s) (terminated r) e).0
 moving (second {s} {r} h m) e = moving m (and_parts (terminated s) (terminated r) e).1
 moving (unfolds {s} m) e = moving m (substitute-terminated (Some (rec s) ∷ []) s e)
 moving variables e = absurd (cc e)
@@ -86,6 +91,22 @@ offer_moves bs a t e =
     let l = branch_label Offer bs a t e in
     subst (λ b. Moves (offer bs) b t) (sym l.1) (offers (subst (λ b. branch_at Offer bs b ≡ Some t) l.1 e))
 
+-- a sequence moves as its first part, where a move of that is left, with the second part behind it, or to Skip
+followed_moves : (s r t : Tree) (a : Label) → terminated s ≡ false → Moves s a t → Moves (seq s r) a (followed a r t)
+followed_moves s r t a h m = pick (is_end a) refl
+  where
+    pick : (c : Bool) → is_end a ≡ c → Moves (seq s r) a (if c then skip else seq t r)
+    pick true e = ends h m e
+    pick false e = first h m e
+
+-- behind a label by which no protocol ends, the second part is left
+pub followed_on : (a : Label) (r t : Tree) → is_end a ≡ false → followed a r t ≡ seq t r
+followed_on a r t e = ap (λ c. if c then skip else seq t r) e
+
+-- behind an end nothing is
+pub followed_ended : (a : Label) (r t : Tree) → is_end a ≡ true → followed a r t ≡ skip
+followed_ended a r t e = ap (λ c. if c then skip else seq t r) e
+
 -- what a `rec` stands for has no free variables
 whole_closed : (env : List (Option Tree)) → AllClosed env →
     (s : Tree) → IsScoped (suc (length env)) s → AllClosed (Some (substitute env (rec s)) ∷ env)
@@ -97,6 +118,8 @@ steps_move : (env : List (Option Tree)) → AllClosed env → (s : Tree) → IsS
 steps_move env ok skip h a t e = absurd (cc e)
 steps_move env ok (send b) h a t e = one_move (send b) a (Send b) t sends e
 steps_move env ok (receive b) h a t e = one_move (receive b) a (Receive b) t receives e
+steps_move env ok close h a t e = one_move close a Close t closes e
+steps_move env ok wait h a t e = one_move wait a Wait t waits e
 steps_move env ok (select bs) h a t e = select_moves (substitute_all env bs) a t (branch_substituted Select env bs a ∙ e)
 steps_move env ok (offer bs) h a t e = offer_moves (substitute_all env bs) a t (branch_substituted Offer env bs a ∙ e)
 steps_move env ok (seq s r) h a t e =
@@ -105,13 +128,14 @@ steps_move env ok (seq s r) h a t e =
     pick : ((u : Tree) → step_in env s a ≡ Some u → Moves (substitute env s) a u) →
         (step_in env r a ≡ Some t → Moves (substitute env r) a t) →
         (c : Bool) → terminated s ≡ c → (if c then step_in env r a else option_map
-        (λ u. seq u (substitute env r)) (step_in env s a)) ≡ Some t →
+        (followed a (substitute env r)) (step_in env s a)) ≡ Some t →
         Moves (seq (substitute env s) (substitute env r)) a t
     pick front behind true is e = second (substitute-terminated env s is) (behind e)
     pick front behind false is e =
-        let found = mapped_some (λ u. seq u (substitute env r)) (step_in env s a) t e in
+        let found = mapped_some (followed a (substitute env r)) (step_in env s a) t e in
         let m = front found.0 found.1 in
-        subst (λ y. Moves (seq (substitute env s) (substitute env r)) a y) found.2 (first (false_from_ne_true _ (moving m)) m)
+        subst (λ y. Moves (seq (substitute env s) (substitute env r)) a y) found.2
+        (followed_moves (substitute env s) (substitute env r) found.0 a (false_from_ne_true _ (moving m)) m)
 steps_move env ok (rec s) h a t e =
     let whole = substitute env (rec s) in
     unfolds (subst (λ y. Moves y a t) (sym (substitute_after whole env ok s))
@@ -122,6 +146,44 @@ steps_move env ok (plain b) h a t e = absurd (cc e)
 steps_move env ok (arrow u s r) h a t e = absurd (cc e)
 steps_move env ok (pair s r) h a t e = absurd (cc e)
 steps_move env ok (named k) h a t e = absurd (cc e)
+
+skip_left : (c : Bool) (t : Tree) → (if c then Some skip else None) ≡ Some t → t ≡ skip
+skip_left true t e = cc
+skip_left false t e = absurd (cc e)
+
+-- a choice ends by no label
+no_end : (make : List ℕ → Label) → ((l : List ℕ) → is_end (make l) ≡ false) → (env : List (Option Tree)) (bs : Branches)
+    (a : Label) (t : Tree) → is_end a ≡ true → option_map (substitute env) (branch_at make bs a) ≡ Some t → ⊥
+no_end make on env bs a t h e =
+    let found = mapped_some (substitute env) (branch_at make bs a) t e in
+    let label = branch_label make bs a found.0 found.1 in
+    absurd (cc (sym h ∙ ap is_end label.1 ∙ on label.0))
+
+-- by an end a type comes to Skip
+pub ended_skip : (env : List (Option Tree)) (s t : Tree) (a : Label) → is_end a ≡ true → step_in env s a ≡ Some t →
+    t ≡ skip
+ended_skip env skip t a h e = absurd (cc e)
+ended_skip env (send b) t a h e = skip_left (same_label a (Send b)) t e
+ended_skip env (receive b) t a h e = skip_left (same_label a (Receive b)) t e
+ended_skip env close t a h e = skip_left (same_label a Close) t e
+ended_skip env wait t a h e = skip_left (same_label a Wait) t e
+ended_skip env (select bs) t a h e = absurd (no_end Select (λ l. refl) env bs a t h e)
+ended_skip env (offer bs) t a h e = absurd (no_end Offer (λ l. refl) env bs a t h e)
+ended_skip env (seq s r) t a h e = pick (ended_skip env r t a h) (terminated s) e
+  where
+    pick : (step_in env r a ≡ Some t → t ≡ skip) → (c : Bool) →
+        (if c then step_in env r a else option_map (followed a (substitute env r)) (step_in env s a)) ≡ Some t → t ≡ skip
+    pick behind true e = behind e
+    pick behind false e =
+        let found = mapped_some (followed a (substitute env r)) (step_in env s a) t e in
+        sym found.2 ∙ followed_ended a (substitute env r) found.0 h
+ended_skip env (rec s) t a h e = ended_skip (Some (substitute env (rec s)) ∷ env) s t a h e
+ended_skip env (back k) t a h e = absurd (cc e)
+ended_skip env (var k) t a h e = skip_left (same_label a (Var k)) t e
+ended_skip env (plain b) t a h e = absurd (cc e)
+ended_skip env (arrow u s r) t a h e = absurd (cc e)
+ended_skip env (pair s r) t a h e = absurd (cc e)
+ended_skip env (named k) t a h e = absurd (cc e)
 
 -- what each type's moves come from
 no_skip : {a : Label} {t : Tree} → Moves skip a t → ⊥
@@ -145,6 +207,12 @@ send_label sends = (refl, refl)
 receive_label : {b : _} {a : Label} {t : Tree} → Moves (receive b) a t → (a ≡ Receive b) × (t ≡ skip)
 receive_label receives = (refl, refl)
 
+close_label : {a : Label} {t : Tree} → Moves close a t → (a ≡ Close) × (t ≡ skip)
+close_label closes = (refl, refl)
+
+wait_label : {a : Label} {t : Tree} → Moves wait a t → (a ≡ Wait) × (t ≡ skip)
+wait_label waits = (refl, refl)
+
 variable_label : {k : ℕ} {a : Label} {t : Tree} → Moves (var k) a t → (a ≡ Var k) × (t ≡ skip)
 variable_label variables = (refl, refl)
 
@@ -155,8 +223,9 @@ offer_branch : {bs : Branches} {a : Label} {t : Tree} → Moves (offer bs) a t �
 offer_branch (offers h) = h
 
 seq_part : {s r t : Tree} {a : Label} → Moves (seq s r) a t →
-    ((terminated s ≡ false) × ((u : Tree) × Moves s a u × (seq u r ≡ t))) ⊎ ((terminated s ≡ true) × Moves r a t)
-seq_part (first {t} h m) = inl (h, (t, m, refl))
+    ((terminated s ≡ false) × ((u : Tree) × Moves s a u × (followed a r u ≡ t))) ⊎ ((terminated s ≡ true) × Moves r a t)
+seq_part (first {r} {t} {a} h m n) = inl (h, (t, m, followed_on a r t n))
+seq_part (ends {r} {t} {a} h m n) = inl (h, (t, m, followed_ended a r t n))
 seq_part (second h m) = inr (h, m)
 
 rec_part : {s t : Tree} {a : Label} → Moves (rec s) a t → Moves (unfolding_of s) a t
@@ -168,6 +237,8 @@ still_terminated : (env : List (Option Tree)) (s : Tree) → IsContractive s →
 still_terminated env skip c g = refl
 still_terminated env (send b) c g = refl
 still_terminated env (receive b) c g = refl
+still_terminated env close c g = refl
+still_terminated env wait c g = refl
 still_terminated env (select bs) c g = refl
 still_terminated env (offer bs) c g = refl
 still_terminated env (seq s r) c g =
@@ -197,6 +268,8 @@ moves_step : (env : List (Option Tree)) → AllClosed env → (s : Tree) → IsS
 moves_step env ok skip h c g a t m = absurd (no_skip m)
 moves_step env ok (send b) h c g a t m = one_step a (Send b) t (send_label m)
 moves_step env ok (receive b) h c g a t m = one_step a (Receive b) t (receive_label m)
+moves_step env ok close h c g a t m = one_step a Close t (close_label m)
+moves_step env ok wait h c g a t m = one_step a Wait t (wait_label m)
 moves_step env ok (select bs) h c g a t m = sym (branch_substituted Select env bs a) ∙ select_branch m
 moves_step env ok (offer bs) h c g a t m = sym (branch_substituted Offer env bs a) ∙ offer_branch m
 moves_step env ok (seq s r) h c g a t m =
@@ -209,12 +282,13 @@ moves_step env ok (seq s r) h c g a t m =
     pick : ((u : Tree) → Moves (substitute env s) a u → step_in env s a ≡ Some u) →
         (IsGuarded r → Moves (substitute env r) a t → step_in env r a ≡ Some t) →
         (b : Bool) → terminated s ≡ b →
-        ((terminated (substitute env s) ≡ false) × ((u : Tree) × Moves (substitute env s) a u × (seq u (substitute env r) ≡ t))) ⊎
+        ((terminated (substitute env s) ≡ false) ×
+        ((u : Tree) × Moves (substitute env s) a u × (followed a (substitute env r) u ≡ t))) ⊎
         ((terminated (substitute env s) ≡ true) × Moves (substitute env r) a t) →
-        (if b then step_in env r a else option_map (λ u. seq u (substitute env r)) (step_in env s a)) ≡ Some t
+        (if b then step_in env r a else option_map (followed a (substitute env r)) (step_in env s a)) ≡ Some t
     pick front behind true is (inl (n, u)) = absurd (cc (sym n ∙ same ∙ is))
     pick front behind true is (inr (y, m)) = behind (guarded_second s r g is) m
-    pick front behind false is (inl (n, (u, m, e))) = ap (option_map (λ v. seq v (substitute env r))) (front u m) ∙ ap Some e
+    pick front behind false is (inl (n, (u, m, e))) = ap (option_map (followed a (substitute env r))) (front u m) ∙ ap Some e
     pick front behind false is (inr (y, m)) = absurd (cc (sym y ∙ same ∙ is))
 moves_step env ok (rec s) h c g a t m =
     let whole = substitute env (rec s) in
@@ -241,21 +315,29 @@ steps_are_moves s h c a t = (
 same_some : (t u : Tree) → Some t ≡ Some u → t ≡ u
 same_some t u e = cc
 
+-- a sequence moves to one type at most where its first part, of which a move is left, does
+seq_once : {s r t u : Tree} {a : Label} → terminated s ≡ false → ((v : Tree) → Moves s a v → t ≡ v) → Moves (seq s r) a u →
+    followed a r t ≡ u
+seq_once {s} {r} {t} {u} {a} h once n = pick (seq_part n)
+  where
+    pick : ((terminated s ≡ false) × ((v : Tree) × Moves s a v × (followed a r v ≡ u))) ⊎ ((terminated s ≡ true) × Moves r a u) →
+        followed a r t ≡ u
+    pick (inl (is, (v, k, e))) = ap (followed a r) (once v k) ∙ e
+    pick (inr (is, k)) = absurd (cc (sym h ∙ is))
+
 -- by a label a type moves to at most one type
 pub moves_once : {s t u : Tree} {a : Label} → Moves s a t → Moves s a u → t ≡ u
 moves_once sends n = sym (send_label n).1
 moves_once receives n = sym (receive_label n).1
+moves_once closes n = sym (close_label n).1
+moves_once waits n = sym (wait_label n).1
 moves_once {t} {u} (selects h) n = same_some t u (sym h ∙ select_branch n)
 moves_once {t} {u} (offers h) n = same_some t u (sym h ∙ offer_branch n)
-moves_once {u} {a} (first {s} {r} {t} h m) n = pick (λ v k. moves_once m k) (seq_part n)
-  where
-    pick : ((v : Tree) → Moves s a v → t ≡ v) → ((terminated s ≡ false) × ((v : Tree) × Moves s a v × (seq v r ≡ u))) ⊎
-        ((terminated s ≡ true) × Moves r a u) → seq t r ≡ u
-    pick once (inl (is, (v, k, e))) = ap (λ x. seq x r) (once v k) ∙ e
-    pick once (inr (is, k)) = absurd (cc (sym h ∙ is))
+moves_once {u} {a} (first {s} {r} {t} h m e) n = sym (followed_on a r t e) ∙ seq_once h (λ v k. moves_once m k) n
+moves_once {u} {a} (ends {s} {r} {t} h m e) n = sym (followed_ended a r t e) ∙ seq_once h (λ v k. moves_once m k) n
 moves_once {t} {u} {a} (second {s} {r} h m) n = pick (λ k. moves_once m k) (seq_part n)
   where
-    pick : (Moves r a u → t ≡ u) → ((terminated s ≡ false) × ((v : Tree) × Moves s a v × (seq v r ≡ u))) ⊎
+    pick : (Moves r a u → t ≡ u) → ((terminated s ≡ false) × ((v : Tree) × Moves s a v × (followed a r v ≡ u))) ⊎
         ((terminated s ≡ true) × Moves r a u) → t ≡ u
     pick once (inl (is, k)) = absurd (cc (sym h ∙ is))
     pick once (inr (is, k)) = once k

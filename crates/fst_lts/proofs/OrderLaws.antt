@@ -4,13 +4,13 @@ use Rattle.std.specs.Prelude.{option_map, option_and_then, if◌then◌else◌, 
 use Rattle.std.specs.declared.cmp.Ordering.TheVariants.{Less}
 use Rattle.std.specs.Ordering.{nat_cmp}
 use Rattle.std.specs.Cmp.Lexicographic.{slice_cmp}
-use Rattle.fst_types.specs.Tree.{Tree, skip, send, receive, select, offer, seq, rec, back, var, plain, arrow, pair, named, Branches, none, branch}
+use Rattle.fst_types.specs.Tree.{Tree, skip, send, receive, close, wait, select, offer, seq, rec, back, var, plain, arrow, pair, named, Branches, none, branch}
 use Rattle.fst_types.specs.Order.{same_label, IsOrdered, AllOrdered, AreRising, label_cmp}
 use Rattle.fst_types.specs.declared.label.Label.{Label}
-use Rattle.fst_types.specs.declared.label.Label.TheVariants.{Send, Receive, Select, Offer, Var}
+use Rattle.fst_types.specs.declared.label.Label.TheVariants.{Send, Receive, Select, Offer, Close, Wait, Var}
 use Rattle.fst_types.specs.Substitution.{substitute, EnvHas}
 use Rattle.fst_types.proofs.Laws.{substitute_ordered}
-use Rattle.fst_lts.specs.Step.{terminated, branch_at, step_in, step, labels, choice_labels}
+use Rattle.fst_lts.specs.Step.{terminated, branch_at, step_in, step, labels, choice_labels, is_end, followed}
 use Rattle.fst_base.specs.Agreement.{residual}
 use Rattle.fst_base.specs.Order.{IsRising}
 
@@ -25,6 +25,8 @@ pub labels_rise : (s : Tree) → IsOrdered s → IsRising label_cmp (labels s)
 labels_rise skip o = tt
 labels_rise (send b) o = tt
 labels_rise (receive b) o = tt
+labels_rise close o = tt
+labels_rise wait o = tt
 labels_rise (select bs) o = choice_rises Select (λ l m e. e) bs o.0
 labels_rise (offer bs) o = choice_rises Offer (λ l m e. e) bs o.0
 labels_rise (seq s r) o = pick (labels_rise s o.0) (labels_rise r o.1) (terminated s)
@@ -55,21 +57,30 @@ skip_ordered : (c : Bool) → IfSome (if c then Some skip else None) IsOrdered
 skip_ordered true = tt
 skip_ordered false = tt
 
+followed_ordered : (a : Label) (r t : Tree) → IsOrdered t → IsOrdered r → IsOrdered (followed a r t)
+followed_ordered a r t h g = pick (is_end a)
+  where
+    pick : (c : Bool) → IsOrdered (if c then skip else seq t r)
+    pick true = tt
+    pick false = (h, g)
+
 step_in_ordered : (env : List (Option Tree)) (s : Tree) (a : Label) → EnvHas IsOrdered env → IsOrdered s →
     IfSome (step_in env s a) IsOrdered
 step_in_ordered env skip a e o = tt
 step_in_ordered env (send b) a e o = skip_ordered (same_label a (Send b))
 step_in_ordered env (receive b) a e o = skip_ordered (same_label a (Receive b))
+step_in_ordered env close a e o = skip_ordered (same_label a Close)
+step_in_ordered env wait a e o = skip_ordered (same_label a Wait)
 step_in_ordered env (select bs) a e o = branch_ordered Select env bs a e o.1
 step_in_ordered env (offer bs) a e o = branch_ordered Offer env bs a e o.1
 step_in_ordered env (seq s r) a e o = pick (step_in_ordered env r a e o.1) (step_in env s a) (step_in_ordered env s a e o.0)
     (terminated s)
   where
     pick : IfSome (step_in env r a) IsOrdered → (p : Option Tree) → IfSome p IsOrdered →
-        (c : Bool) → IfSome (if c then step_in env r a else option_map (λ t. seq t (substitute env r)) p) IsOrdered
+        (c : Bool) → IfSome (if c then step_in env r a else option_map (followed a (substitute env r)) p) IsOrdered
     pick second p first true = second
     pick second None first false = tt
-    pick second (Some t) first false = (first, substitute_ordered env r e o.1)
+    pick second (Some t) first false = followed_ordered a (substitute env r) t first (substitute_ordered env r e o.1)
 step_in_ordered env (rec s) a e o = step_in_ordered (Some (substitute env (rec s)) ∷ env) s a
     (substitute_ordered env (rec s) e o, e) o
 step_in_ordered env (back k) a e o = tt

@@ -1,11 +1,11 @@
 -- What moves leave of a session type is one, and one without labels is terminated.
 use Rattle.std.proofs.Common.{◌≡◌, ◌∙◌, ◌≤◌, ℕ, suc, List, [], ◌∷◌, length, Bool, true, false, Option, Some, None, refl, sym, ap, arith}
 use Rattle.std.specs.Prelude.{◌&&◌, option_map, option_and_then, if◌then◌else◌, IfSome, IsTrue, ◌↔◌}
-use Rattle.fst_types.specs.Tree.{Tree, skip, send, receive, select, offer, seq, rec, back, var, plain, arrow, pair, named, Branches, none, branch}
+use Rattle.fst_types.specs.Tree.{Tree, skip, send, receive, close, wait, select, offer, seq, rec, back, var, plain, arrow, pair, named, Branches, none, branch}
 use Rattle.fst_types.specs.declared.kind.Kind.{Kind}
 use Rattle.fst_types.specs.declared.kind.Use.TheVariants.{Many}
 use Rattle.fst_types.specs.declared.label.Label.{Label}
-use Rattle.fst_types.specs.declared.label.Label.TheVariants.{Send, Receive, Select, Offer, Var}
+use Rattle.fst_types.specs.declared.label.Label.TheVariants.{Send, Receive, Select, Offer, Close, Wait, Var}
 use Rattle.fst_types.specs.Order.{same_label, AllOrdered, AreRising}
 use Rattle.fst_types.specs.Scoped.{AllScoped}
 use Rattle.fst_types.specs.Substitution.{substitute}
@@ -14,7 +14,7 @@ use Rattle.fst_kinds.specs.Contractive.{guards, AllContractive, IsGuarded}
 use Rattle.fst_kinds.specs.WellFormed.{IsSession}
 use Rattle.fst_kinds.proofs.Laws.{not_top, unreached, substitute_guards, opened, open_first, open_second, open_body, unguarded_body, substitute_session}
 use Rattle.fst_kinds.specs.OpenSession.{GuardsTo, IsOpenSession, IsPut}
-use Rattle.fst_lts.specs.Step.{terminated, branch_at, step_in, step, labels, choice_labels}
+use Rattle.fst_lts.specs.Step.{terminated, branch_at, step_in, step, labels, choice_labels, is_end, followed}
 use Rattle.fst_base.specs.Agreement.{residual}
 use Rattle.fst_lts.proofs.GuardLaws.{guarded_first, guarded_second, guarded_body, no_variable}
 use Rattle.std.proofs.lemmas.Bool.{and_parts}
@@ -39,6 +39,15 @@ seq_session vars s r h g = (
   },
 )
 
+-- what is left of a session type after a label, with another one behind it, is a session type
+pub followed_session : (vars : List Kind) (a : Label) (r t : Tree) → IsSession vars t → IsSession vars r →
+    IsSession vars (followed a r t)
+followed_session vars a r t h g = pick (is_end a)
+  where
+    pick : (c : Bool) → IsSession vars (if c then skip else seq t r)
+    pick true = skip_session vars
+    pick false = seq_session vars t r h g
+
 branch_session : (vars : List Kind) (n : ℕ) (env : List (Option Tree)) (make : List ℕ → Label) (bs : Branches) (a : Label) →
     IsPut vars n env → AllSessions vars bs → AllContractive bs → AllScoped n bs → AllOrdered bs →
     IfSome (option_map (substitute env) (branch_at make bs a)) (IsSession vars)
@@ -57,6 +66,8 @@ pub step_in_session : (vars : List Kind) (n : ℕ) (env : List (Option Tree)) (s
 step_in_session vars n env skip a p h = tt
 step_in_session vars n env (send b) a p h = skip_if_session vars (same_label a (Send b))
 step_in_session vars n env (receive b) a p h = skip_if_session vars (same_label a (Receive b))
+step_in_session vars n env close a p h = skip_if_session vars (same_label a Close)
+step_in_session vars n env wait a p h = skip_if_session vars (same_label a Wait)
 step_in_session vars n env (select bs) a p h =
     branch_session vars n env Select bs a p h.kinded.1.0 h.contractive h.scoped h.ordered.1
 step_in_session vars n env (offer bs) a p h = branch_session vars n env Offer bs a p h.kinded.1.0 h.contractive h.scoped
@@ -66,10 +77,10 @@ step_in_session vars n env (seq s r) a p h =
     (step_in_session vars n env s a p (open_first vars n s r h)) (terminated s)
   where
     pick : IfSome (step_in env r a) (IsSession vars) → (o : Option Tree) → IfSome o (IsSession vars) → (c : Bool) →
-        IfSome (if c then step_in env r a else option_map (λ t. seq t (substitute env r)) o) (IsSession vars)
+        IfSome (if c then step_in env r a else option_map (followed a (substitute env r)) o) (IsSession vars)
     pick second o first true = second
     pick second None first false = tt
-    pick second (Some t) first false = seq_session vars t (substitute env r) first
+    pick second (Some t) first false = followed_session vars a (substitute env r) t first
         (substitute_session vars n env r p (open_second vars n s r h))
 step_in_session vars n env (rec s) a p h =
     pick (λ m. step_in_session vars m (Some (substitute env (rec s)) ∷ env) s a) (guards s) refl
@@ -119,6 +130,8 @@ unlabelled_ends : (vars : List Kind) (n : ℕ) (s : Tree) → IsOpenSession vars
 unlabelled_ends vars n skip h g e = refl
 unlabelled_ends vars n (send b) h g e = absurd (cc e)
 unlabelled_ends vars n (receive b) h g e = absurd (cc e)
+unlabelled_ends vars n close h g e = absurd (cc e)
+unlabelled_ends vars n wait h g e = absurd (cc e)
 unlabelled_ends vars n (select bs) h g e = absurd (choice_labelled Select bs h.ordered.0 e)
 unlabelled_ends vars n (offer bs) h g e = absurd (choice_labelled Offer bs h.ordered.0 e)
 unlabelled_ends vars n (seq s r) h g e =
@@ -146,6 +159,8 @@ pub terminated_unlabelled : (s : Tree) → terminated s ≡ true → labels s �
 terminated_unlabelled skip e = refl
 terminated_unlabelled (send b) e = absurd (cc e)
 terminated_unlabelled (receive b) e = absurd (cc e)
+terminated_unlabelled close e = absurd (cc e)
+terminated_unlabelled wait e = absurd (cc e)
 terminated_unlabelled (select bs) e = absurd (cc e)
 terminated_unlabelled (offer bs) e = absurd (cc e)
 terminated_unlabelled (seq s r) e =

@@ -10,7 +10,7 @@ use Rattle.fst_base.specs.Agreement.{residual}
 use Rattle.fst_lts.specs.Step.{step}
 use Rattle.fst_lts.specs.Dual.{dual}
 use Rattle.fst_types.specs.declared.event.Event.{Event}
-use Rattle.fst_types.specs.declared.event.Event.TheVariants.{Int, Bool, Char, Unit, Label as Branch}
+use Rattle.fst_types.specs.declared.event.Event.TheVariants.{Int, Bool, Char, Unit, Label as Branch, Closed}
 use Rattle.fst_types.specs.declared.event.Entry.{Entry}
 
 -- the label by which a type moves where the event is sent
@@ -20,6 +20,7 @@ sending (Bool b) = label.Send base.Bool
 sending (Char c) = label.Send base.Char
 sending Unit = label.Send base.Unit
 sending (Branch l) = label.Select l
+sending Closed = label.Close
 
 -- and where it is received
 abbrev pub receiving : Event → Label
@@ -28,13 +29,16 @@ receiving (Bool b) = label.Receive base.Bool
 receiving (Char c) = label.Receive base.Char
 receiving Unit = label.Receive base.Unit
 receiving (Branch l) = label.Offer l
+receiving Closed = label.Wait
 
--- something is received by the label
+-- an input: something is received by the label, or it waits for the end
 abbrev pub IsInput : Label → Type 0
 IsInput (label.Send b) = ⊥
 IsInput (label.Receive b) = ⊤
 IsInput (label.Select l) = ⊥
 IsInput (label.Offer l) = ⊤
+IsInput label.Close = ⊥
+IsInput label.Wait = ⊤
 IsInput (label.Var k) = ⊥
 
 -- the first that is there

@@ -4,8 +4,8 @@ ghost use Rattle.fst_lts.specs.Dual.{dual, dual_label, dual_branch};
 use fst_types::{Branch, Label, Ty, TyForm};
 use std::alloc::{AllocError, Global};
 
-/// The other side of a type: what the one side sends, selects, receives and offers, the other receives, offers,
-/// sends and selects, in the same order.
+/// The other side of a type: what the one side sends, selects, receives and offers, the other
+/// receives, offers, sends and selects, in the same order, and where the one closes, the other waits.
 #[cycle(dual)]
 #[tactic(auto, using(crate::proofs::DualLaws::dual_all_map))]
 pub fn dual(alloc: Global, t: &Ty) -> Result<Ty, AllocError>
@@ -18,6 +18,10 @@ pub fn dual(alloc: Global, t: &Ty) -> Result<Ty, AllocError>
         }),
         TyForm::Receive(base) => Ok(Ty {
             form: TyForm::Send(*base),
+        }),
+        TyForm::Close => Ok(Ty { form: TyForm::Wait }),
+        TyForm::Wait => Ok(Ty {
+            form: TyForm::Close,
         }),
         TyForm::Select(branches) => Ok(Ty {
             form: TyForm::Offer(dual_branches(alloc, branches)?),
@@ -83,6 +87,8 @@ pub fn dual_label(alloc: Global, a: &Label) -> Result<Label, AllocError>
         Label::Receive(base) => Ok(Label::Send(*base)),
         Label::Select(name) => Ok(Label::Offer(name.copy(alloc)?)),
         Label::Offer(name) => Ok(Label::Select(name.copy(alloc)?)),
+        Label::Close => Ok(Label::Wait),
+        Label::Wait => Ok(Label::Close),
         Label::Var(k) => Ok(Label::Var(*k)),
     }
 }

@@ -14,6 +14,7 @@ pub fn sending_label(alloc: Global, event: &Event) -> Result<Label, AllocError>
         Event::Char(_) => Ok(Label::Send(Base::Char)),
         Event::Unit => Ok(Label::Send(Base::Unit)),
         Event::Label(name) => Ok(Label::Select(name.copy(alloc)?)),
+        Event::Closed => Ok(Label::Close),
     }
 }
 
@@ -27,5 +28,6 @@ pub fn receiving_label(alloc: Global, event: &Event) -> Result<Label, AllocError
         Event::Char(_) => Ok(Label::Receive(Base::Char)),
         Event::Unit => Ok(Label::Receive(Base::Unit)),
         Event::Label(name) => Ok(Label::Offer(name.copy(alloc)?)),
+        Event::Closed => Ok(Label::Wait),
     }
 }

@@ -15,4 +15,4 @@ pub use events::{receiving_label, sending_label};
 pub use fault::StepFault;
 pub use law::{agreement_law, depth_law, dual_law, moves_law, unfolding_law};
 pub use limited::step_within_limit;
-pub use moves::{labels, residual, step, terminated};
+pub use moves::{is_end, labels, residual, step, terminated};

@@ -3,13 +3,14 @@ ghost use Rattle.fst_base.specs.Limits.{most_nodes};
 ghost use Rattle.fst_types.specs.Size.{nodes, HasTooManyNodes};
 ghost use Rattle.fst_types.specs.Order.{IsOrdered};
 ghost use Rattle.fst_types.specs.ModelScopes.{env_of};
+ghost use Rattle.fst_types.specs.Substitution.{substitute};
 ghost use Rattle.fst_types.specs.declared.kind.Kind.{Kind};
 ghost use Rattle.fst_kinds.specs.WellFormed.{IsSession};
-ghost use Rattle.fst_lts.specs.Step.{step, step_in};
+ghost use Rattle.fst_lts.specs.Step.{is_end, step, step_in};
 ghost use Rattle.fst_lts.specs.declared.fault.StepFault.TheVariants.{TooLarge};
 
 use crate::fault::StepFault;
-use crate::moves::{is_terminated, offered, selected, step};
+use crate::moves::{is_end, is_terminated, offered, selected, step};
 use fst_base::MOST_NODES;
 use fst_types::{Label, Scope, Ty, TyForm, substituted_size};
 use std::alloc::Global;
@@ -48,6 +49,8 @@ fn step_size(scope: &Scope<'_>, t: &Ty, a: &Label) -> Option<u64>
         TyForm::Skip => None,
         TyForm::Send(base) => one_node_if(a.same(&Label::Send(*base))),
         TyForm::Receive(base) => one_node_if(a.same(&Label::Receive(*base))),
+        TyForm::Close => one_node_if(a.same(&Label::Close)),
+        TyForm::Wait => one_node_if(a.same(&Label::Wait)),
         TyForm::Select(branches) => match selected(branches, a) {
             Some(body) => Some(substituted_size(scope, body, 0)),
             None => None,
@@ -61,7 +64,7 @@ fn step_size(scope: &Scope<'_>, t: &Ty, a: &Label) -> Option<u64>
                 step_size(scope, second, a)
             } else {
                 match step_size(scope, first, a) {
-                    Some(size) => Some(substituted_size(scope, second, size.saturating_add(1))),
+                    Some(size) => Some(followed_size(scope, a, size, second)),
                     None => None,
                 }
             }
@@ -74,6 +77,17 @@ fn step_size(scope: &Scope<'_>, t: &Ty, a: &Label) -> Option<u64>
         TyForm::Pair(_, _) => None,
         TyForm::Named(_) => None,
     }
+}
+
+// How many nodes a type of so many has with another one behind it after a label, counted likewise.
+fn followed_size(scope: &Scope<'_>, a: &Label, size: u64, second: &Ty) -> u64
+    ensures { result ≡ (if is_end a.now then 1 else min
+        (size + 1 + nodes (substitute (env_of scope.now) second.now)) (most_nodes + 1)) }
+{
+    if is_end(a) {
+        return 1;
+    }
+    substituted_size(scope, second, size.saturating_add(1))
 }
 
 fn one_node_if(moves: bool) -> Option<u64>

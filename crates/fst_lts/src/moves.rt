@@ -5,7 +5,7 @@ ghost use Rattle.fst_types.specs.Order.{IsOrdered, label_cmp};
 ghost use Rattle.fst_types.specs.declared.label.Label.{Label};
 ghost use Rattle.fst_types.specs.declared.kind.Kind.{Kind};
 ghost use Rattle.fst_kinds.specs.WellFormed.{IsSession};
-ghost use Rattle.fst_lts.specs.Step.{terminated, labels, choice_labels, step, step_in, branch_at};
+ghost use Rattle.fst_lts.specs.Step.{terminated, labels, choice_labels, step, step_in, branch_at, is_end, followed};
 ghost use Rattle.fst_base.specs.Agreement.{residual};
 ghost use Rattle.fst_base.specs.Order.{IsRising};
 ghost use Rattle.fst_types.specs.ModelScopes.{env_of};
@@ -30,6 +30,8 @@ pub(crate) fn is_terminated(t: &Ty) -> bool
         TyForm::Skip => true,
         TyForm::Send(_) => false,
         TyForm::Receive(_) => false,
+        TyForm::Close => false,
+        TyForm::Wait => false,
         TyForm::Select(_) => false,
         TyForm::Offer(_) => false,
         TyForm::Seq(first, second) => is_terminated(first) && is_terminated(second),
@@ -61,6 +63,8 @@ fn labels_within(alloc: Global, t: &Ty) -> Result<Vec<Label>, AllocError>
         TyForm::Skip => Ok(Vec::new(alloc)),
         TyForm::Send(base) => one_label(alloc, Label::Send(*base)),
         TyForm::Receive(base) => one_label(alloc, Label::Receive(*base)),
+        TyForm::Close => one_label(alloc, Label::Close),
+        TyForm::Wait => one_label(alloc, Label::Wait),
         TyForm::Select(branches) => select_labels(alloc, branches),
         TyForm::Offer(branches) => offer_labels(alloc, branches),
         TyForm::Seq(first, second) => {
@@ -150,6 +154,8 @@ fn step_within(
         TyForm::Skip => Ok(None),
         TyForm::Send(base) => Ok(skip_if(a.same(&Label::Send(*base)))),
         TyForm::Receive(base) => Ok(skip_if(a.same(&Label::Receive(*base)))),
+        TyForm::Close => Ok(skip_if(a.same(&Label::Close))),
+        TyForm::Wait => Ok(skip_if(a.same(&Label::Wait))),
         TyForm::Select(branches) => match selected(branches, a) {
             Some(body) => substituted(alloc, scope, body, left),
             None => Ok(None),
@@ -164,7 +170,7 @@ fn step_within(
             } else {
                 match step_within(alloc, scope, first, a, left)? {
                     None => Ok(None),
-                    Some(next) => Ok(Some(followed(alloc, scope, next, second, left)?)),
+                    Some(next) => Ok(Some(followed(alloc, scope, a, next, second, left)?)),
                 }
             }
         }
@@ -189,16 +195,37 @@ fn substituted(
     Ok(Some(substitute_within(alloc, scope, t, left)?))
 }
 
-// The type with another one behind it, into which what the binders around it stand for is put.
+/// Whether a protocol ends by the label, so that nothing behind it is reached.
+pub fn is_end(a: &Label) -> bool
+    ensures { result ≡ is_end a.now }
+{
+    match a {
+        Label::Send(_) => false,
+        Label::Receive(_) => false,
+        Label::Select(_) => false,
+        Label::Offer(_) => false,
+        Label::Close => true,
+        Label::Wait => true,
+        Label::Var(_) => false,
+    }
+}
+
+// What is left after a label: the type with another one behind it, into which what the binders
+// around it stand for is put, and behind an end nothing.
 fn followed(
     alloc: Global,
     scope: &Scope<'_>,
+    a: &Label,
     next: Ty,
     second: &Ty,
     left: u32,
 ) -> Result<Ty, AllocError>
-    ensures { IfOk result (λ t. t ≡ tree.seq next (substitute (env_of scope.now) second.now)) }
+    ensures { IfOk result
+        (λ t. t ≡ followed a.now (substitute (env_of scope.now) second.now) next) }
 {
+    if is_end(a) {
+        return Ok(Ty { form: TyForm::Skip });
+    }
     let behind = substitute_within(alloc, scope, second, left)?;
     Ok(Ty {
         form: TyForm::Seq(Box::new(alloc, next)?, Box::new(alloc, behind)?),

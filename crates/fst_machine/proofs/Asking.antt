@@ -1,7 +1,7 @@
 -- The forms that ask for something: their code stands for them, where that of their parts does and, for a request less, all code does.
 use Rattle.std.proofs.Common.{◌≡◌, ℕ, suc, Bool, Option, Some, None, option_map, List, ◌∷◌, refl, sym, ap, ◌∙◌}
 use Rattle.std.proofs.lemmas.Bool.{or_left, or_right}
-use Rattle.fst_terms.specs.CoreTree.{CoreTree, CoreArms, global, apply, new, send, receive, select, match_with, fork}
+use Rattle.fst_terms.specs.CoreTree.{CoreTree, CoreArms, global, apply, new, send, receive, close, wait, select, match_with, fork}
 use Rattle.fst_value.specs.ValueTree as tree
 use Rattle.fst_value.specs.ValueTree.{ValueTree}
 use Rattle.fst_types.specs.declared.ends.EndName.{EndName}
@@ -13,7 +13,7 @@ use Rattle.fst_machine.specs.declared.code.Instr.TheVariants as instr
 use Rattle.fst_machine.specs.Free.{free, free_below}
 use Rattle.fst_machine.specs.Values as value
 use Rattle.fst_machine.specs.Values.{Value, keep, sent}
-use Rattle.fst_machine.specs.Machine.{Frame, at_function, at_argument, at_value, at_target, at_receive, at_select, at_match, calls as applies, puts, gets, matches, resume, on}
+use Rattle.fst_machine.specs.Machine.{Frame, at_function, at_argument, at_value, at_target, at_receive, at_close, at_wait, at_select, at_match, calls as applies, puts, gets, closes, waits, matches, resume, on}
 use Rattle.fst_machine.specs.Code.{Compiled, At, also}
 use Rattle.fst_machine.specs.Spots.{Slots, Call}
 use Rattle.fst_machine.specs.Standing.{Means, StandsFor}
@@ -21,7 +21,7 @@ use Rattle.fst_machine.proofs.Steps.{spot, step_at, asked_at_instr, told_at_inst
 use Rattle.fst_machine.proofs.Slots.{Agree, part, in_also, in_behind}
 use Rattle.fst_machine.proofs.Moves.{captures, led}
 use Rattle.fst_machine.proofs.Goods.{Awaits, Good, then_part, Takes}
-use Rattle.fst_machine.proofs.Requests.{puts_stand, gets_stand, makes_stand, calls_stand, uses_stand, forks_stand}
+use Rattle.fst_machine.proofs.Requests.{puts_stand, gets_stand, closes_stand, waits_stand, makes_stand, calls_stand, uses_stand, forks_stand}
 use Rattle.fst_machine.proofs.Operators.{nothing, sent_alike}
 use Rattle.fst_machine.proofs.Shapes.{function_stands, end_stands}
 use Rattle.fst_machine.proofs.Matches.{matches_stand}
@@ -69,6 +69,22 @@ module _ (n : ℕ) (c : Compiled) where
       (λ x v os mx a.
       end_stands (suc n) c (λ t. spot h.0 os (t ∷ ops) calls) (λ y. gets y fs) x v mx
       (λ y. gets_stand n c h.0 j y os ops calls fs h.2 (sooner j p slots os ops calls fs k a)))
+
+  -- a channel is closed
+  pub close_good : (at : ℕ) (e : CoreTree) → Good (suc n) c e → Good (suc n) c (close at e)
+  close_good at e ge i j p env slots ops calls fs h m k =
+      ge i h.0 p env slots ops calls (at_close ∷ fs) h.1 m
+      (λ x v os mx a.
+      end_stands (suc n) c (λ t. spot h.0 os (t ∷ ops) calls) (λ y. closes y fs) x v mx
+      (λ y. closes_stand n c h.0 j y os ops calls fs h.2 (sooner j p slots os ops calls fs k a)))
+
+  -- a closing is waited for
+  pub wait_good : (at : ℕ) (e : CoreTree) → Good (suc n) c e → Good (suc n) c (wait at e)
+  wait_good at e ge i j p env slots ops calls fs h m k =
+      ge i h.0 p env slots ops calls (at_wait ∷ fs) h.1 m
+      (λ x v os mx a.
+      end_stands (suc n) c (λ t. spot h.0 os (t ∷ ops) calls) (λ y. waits y fs) x v mx
+      (λ y. waits_stand n c h.0 j y os ops calls fs h.2 (sooner j p slots os ops calls fs k a)))
 
   -- a label is selected
   pub select_good : (at : ℕ) (l : List ℕ) (e : CoreTree) → Good (suc n) c e → Good (suc n) c (select at l e)

@@ -7,7 +7,7 @@ use Rattle.std.proofs.lemmas.Option.{none-some, same_Some}
 use Rattle.std.proofs.lemmas.Slice.Eq.{bytes_eq-Decides}
 use Rattle.fst_types.specs.declared.family.Family.{Family}
 use Rattle.fst_types.specs.declared.family.Maker.{Maker}
-use Rattle.fst_terms.specs.CoreTree.{CoreTree, local, global, int, bool, char, unit, pair, make, lambda, apply, let_in, split, if_else, case_of, operate, negate, new, send, receive, select, match_with, fork, seq, CoreList, no_terms, term, CoreArms, no_arms, arm}
+use Rattle.fst_terms.specs.CoreTree.{CoreTree, local, global, int, bool, char, unit, pair, make, lambda, apply, let_in, split, if_else, case_of, operate, negate, new, send, receive, close, wait, select, match_with, fork, seq, CoreList, no_terms, term, CoreArms, no_arms, arm}
 use Rattle.fst_terms.specs.InRange.{makers, Bounds, IsInRange, AreInRange, AreCasesInRange, AreMatchesInRange}
 use Rattle.fst_machine.specs.Free.{free, free_in, free_below, outside_all}
 use Rattle.fst_machine.specs.Machine.{name_of}
@@ -128,6 +128,8 @@ mutual
   free_in_range (new at t) b n h k g = absurd (false≢true g)
   free_in_range (send at e f) b n h k g = one_of (free e k) (free f k) g (free_in_range e b n h.0 k) (free_in_range f b n h.1 k)
   free_in_range (receive at e) b n h k g = free_in_range e b n h k g
+  free_in_range (close at e) b n h k g = free_in_range e b n h k g
+  free_in_range (wait at e) b n h k g = free_in_range e b n h k g
   free_in_range (select at l e) b n h k g = free_in_range e b n h k g
   free_in_range (match_with at e bs) b n h k g =
       one_of (free e k) (free_below bs k) g (free_in_range e b n h.1 k) (matches_in_range bs b n h.2 k)

@@ -1,12 +1,12 @@
 -- The code of each term stands for it.
 use Rattle.std.proofs.Common.{ℕ, zero, suc}
-use Rattle.fst_terms.specs.CoreTree.{CoreTree, local, global, int, bool, char, unit, pair, make, lambda, apply, let_in, split, if_else, case_of, operate, negate, new, send, receive, select, match_with, fork, seq, CoreList, no_terms, term, CoreArms, no_arms, arm}
+use Rattle.fst_terms.specs.CoreTree.{CoreTree, local, global, int, bool, char, unit, pair, make, lambda, apply, let_in, split, if_else, case_of, operate, negate, new, send, receive, close, wait, select, match_with, fork, seq, CoreList, no_terms, term, CoreArms, no_arms, arm}
 use Rattle.fst_machine.specs.Code.{Compiled}
 use Rattle.fst_machine.specs.Standing.{DistinctMakers}
 use Rattle.fst_machine.proofs.Goods.{Good}
 use Rattle.fst_machine.proofs.Arms.{GoodCases, no_case, one_case}
 use Rattle.fst_machine.proofs.Forms.{local_good, int_good, bool_good, char_good, unit_good, pair_good, lambda_good, let_good, split_good, seq_good, operate_good, negate_good, if_good}
-use Rattle.fst_machine.proofs.Asking.{send_good, receive_good, select_good, new_good, global_good, apply_good, match_good, fork_good}
+use Rattle.fst_machine.proofs.Asking.{send_good, receive_good, close_good, wait_good, select_good, new_good, global_good, apply_good, match_good, fork_good}
 use Rattle.fst_machine.proofs.Making.{GoodAll, no_more, one_more, make_good, case_good}
 
 module _ (n : ℕ) (c : Compiled) (dm : DistinctMakers c.families) (before : (e : CoreTree) → Good n c e) where
@@ -32,6 +32,8 @@ module _ (n : ℕ) (c : Compiled) (dm : DistinctMakers c.families) (before : (e 
     term_goes (new at t) = new_good n c at t
     term_goes (send at e f) = send_good n c at e f (term_goes e) (term_goes f)
     term_goes (receive at e) = receive_good n c at e (term_goes e)
+    term_goes (close at e) = close_good n c at e (term_goes e)
+    term_goes (wait at e) = wait_good n c at e (term_goes e)
     term_goes (select at l e) = select_good n c at l e (term_goes e)
     term_goes (match_with at e bs) = match_good n c before at e bs (term_goes e)
     term_goes (fork at e) = fork_good n c before at e

@@ -15,7 +15,7 @@ use Rattle.fst_machine.specs.declared.entry.LambdaEntry.{LambdaEntry}
 use Rattle.fst_machine.specs.Free.{free, outside}
 use Rattle.fst_machine.specs.Values as value
 use Rattle.fst_machine.specs.Values.{Value, Environment, enter}
-use Rattle.fst_machine.specs.Machine.{State, Frame, Pause, stuck, calls as applies, uses, makes, forks, puts, gets, ended, resume, pause, after, giving, lost, begins, ends, or_lost}
+use Rattle.fst_machine.specs.Machine.{State, Frame, Pause, stuck, calls as applies, uses, makes, forks, puts, gets, closes, waits, ended, resume, pause, after, giving, lost, begins, ends, or_lost}
 use Rattle.fst_machine.specs.Code.{Compiled, At, Lists, Computes, no_variables, ComputesGlobals, IsCode}
 use Rattle.fst_machine.specs.Spots.{Slots, Call, Spot, inner, asked_at, told_at, child_at, spread, leads_back, around, called, start_of, captured_by, captured_count, collected, without_captured, forked_spot, begins_at, ends_of}
 use Rattle.fst_machine.specs.Standing.{IsFunction, HasJust, Means, MeanCaptured, AreAlike, StandsFor}
@@ -127,6 +127,51 @@ module _ (n : ℕ) (c : Compiled) where
           (told_at_instr c i instr.Receive j slots (tree.end y ∷ ops) calls (Got (event.Char m)) h) e
       go bodies ic (Got event.Unit) st e g = got tree.unit value.unit (Got event.Unit) st refl
           (told_at_instr c i instr.Receive j slots (tree.end y ∷ ops) calls (Got event.Unit) h) e
+      go bodies ic (Got (event.Label l)) st e g = never_lost st e g
+      go bodies ic (Got event.Closed) st e g = never_lost st e g
+      go bodies ic b st e g = absurd (none-some st e)
+
+  -- a channel is closed
+  pub closes_stand : (i j : ℕ) (y : EndName) (slots : Slots) (ops : List ValueTree) (calls : List Call) (fs : List Frame) →
+      At c i instr.Close j → Takes n c j slots ops calls fs →
+      StandsFor (suc n) c (spot i slots (tree.end y ∷ ops) calls) (closes y fs)
+  closes_stand i j y slots ops calls fs h k =
+      rests_here n c (spot i slots (tree.end y ∷ ops) calls) (closes y fs) (record {
+        still = step_at c i instr.Close j slots (tree.end y ∷ ops) calls h;
+        alike = asked_at_instr c i instr.Close j slots (tree.end y ∷ ops) calls h;
+        value = tt;
+        told = go;
+        made = λ st e. absurd (none-some st e);
+      })
+    where
+      go : Tells n c (spot i slots (tree.end y ∷ ops) calls) (closes y fs)
+      go bodies ic Sent st e g =
+          settled (spot i slots (tree.end y ∷ ops) calls) (spot j slots (tree.unit ∷ ops) calls) Sent (giving value.unit fs) st e
+          (told_at_instr c i instr.Close j slots (tree.end y ∷ ops) calls Sent h) (k tree.unit value.unit refl)
+      go bodies ic b st e g = absurd (none-some st e)
+
+  -- a closing is waited for
+  pub waits_stand : (i j : ℕ) (y : EndName) (slots : Slots) (ops : List ValueTree) (calls : List Call) (fs : List Frame) →
+      At c i instr.Wait j → Takes n c j slots ops calls fs →
+      StandsFor (suc n) c (spot i slots (tree.end y ∷ ops) calls) (waits y fs)
+  waits_stand i j y slots ops calls fs h k =
+      rests_here n c (spot i slots (tree.end y ∷ ops) calls) (waits y fs) (record {
+        still = step_at c i instr.Wait j slots (tree.end y ∷ ops) calls h;
+        alike = asked_at_instr c i instr.Wait j slots (tree.end y ∷ ops) calls h;
+        value = tt;
+        told = go;
+        made = λ st e. absurd (none-some st e);
+      })
+    where
+      go : Tells n c (spot i slots (tree.end y ∷ ops) calls) (waits y fs)
+      go bodies ic (Got event.Closed) st e g =
+          settled (spot i slots (tree.end y ∷ ops) calls) (spot j slots (tree.unit ∷ ops) calls) (Got event.Closed)
+          (giving value.unit fs) st e (told_at_instr c i instr.Wait j slots (tree.end y ∷ ops) calls (Got event.Closed) h)
+          (k tree.unit value.unit refl)
+      go bodies ic (Got (event.Int m)) st e g = never_lost st e g
+      go bodies ic (Got (event.Bool b)) st e g = never_lost st e g
+      go bodies ic (Got (event.Char m)) st e g = never_lost st e g
+      go bodies ic (Got event.Unit) st e g = never_lost st e g
       go bodies ic (Got (event.Label l)) st e g = never_lost st e g
       go bodies ic b st e g = absurd (none-some st e)
 

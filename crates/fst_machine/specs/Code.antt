@@ -5,7 +5,7 @@ use Rattle.std.specs.Str.{bytes_eq}
 use Rattle.fst_types.specs.declared.family.Family.{Family}
 use Rattle.fst_types.specs.declared.family.Maker.{Maker}
 use Rattle.fst_terms.specs.declared.binder.Binder.{Binder}
-use Rattle.fst_terms.specs.CoreTree.{CoreTree, local, global, int, bool, char, unit, pair, make, lambda, apply, let_in, split, if_else, case_of, operate, negate, new, send, receive, select, match_with, fork, seq, CoreList, no_terms, term, CoreArms, no_arms, arm}
+use Rattle.fst_terms.specs.CoreTree.{CoreTree, local, global, int, bool, char, unit, pair, make, lambda, apply, let_in, split, if_else, case_of, operate, negate, new, send, receive, close, wait, select, match_with, fork, seq, CoreList, no_terms, term, CoreArms, no_arms, arm}
 use Rattle.fst_terms.specs.InRange.{maker_of, HasFields, terms_length}
 use Rattle.fst_machine.specs.declared.code.Instr.{Instr}
 use Rattle.fst_machine.specs.declared.code.Instr.TheVariants as instr
@@ -168,6 +168,8 @@ abbrev mutual
       (h : ℕ) × (n : ℕ) × Computes c i e (also (free f) p) h × Computes c h f p n ×
       At c n instr.Send j
   Computes c i (receive at e) p j = (h : ℕ) × Computes c i e p h × At c h instr.Receive j
+  Computes c i (close at e) p j = (h : ℕ) × Computes c i e p h × At c h instr.Close j
+  Computes c i (wait at e) p j = (h : ℕ) × Computes c i e p h × At c h instr.Wait j
   Computes c i (select at l e) p j = (h : ℕ) × Computes c i e p h × At c h (instr.Select l) j
   Computes c i (match_with at e bs) p j =
       (h : ℕ) × (n : ℕ) × (places : Vec (List ℕ × ℕ) Global) ×

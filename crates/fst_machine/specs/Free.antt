@@ -1,7 +1,7 @@
 -- Which variables a term has free. A variable is its number outward, as a term writes it.
 use Rattle.std.specs.Prelude.{ℕ, zero, suc, Bool, true, false, ◌||◌, List, [], ◌∷◌}
 use Rattle.fst_terms.specs.declared.binder.Binder.{Binder}
-use Rattle.fst_terms.specs.CoreTree.{CoreTree, local, global, int, bool, char, unit, pair, make, lambda, apply, let_in, split, if_else, case_of, operate, negate, new, send, receive, select, match_with, fork, seq, CoreList, no_terms, term, CoreArms, no_arms, arm}
+use Rattle.fst_terms.specs.CoreTree.{CoreTree, local, global, int, bool, char, unit, pair, make, lambda, apply, let_in, split, if_else, case_of, operate, negate, new, send, receive, close, wait, select, match_with, fork, seq, CoreList, no_terms, term, CoreArms, no_arms, arm}
 
 -- the two numbers are the same
 abbrev pub is : ℕ → ℕ → Bool
@@ -41,6 +41,8 @@ abbrev mutual
   free (new at t) k = false
   free (send at e f) k = free e k || free f k
   free (receive at e) k = free e k
+  free (close at e) k = free e k
+  free (wait at e) k = free e k
   free (select at l e) k = free e k
   free (match_with at e bs) k = free e k || free_below bs k
   free (fork at e) k = free e k

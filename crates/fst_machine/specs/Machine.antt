@@ -3,20 +3,20 @@ use Rattle.std.specs.Prelude.{ℕ, zero, suc, Bool, true, false, not, Option, So
 use Rattle.std.specs.Str.{bytes_eq}
 use Rattle.fst_types.specs.declared.family.Family.{Family}
 use Rattle.fst_types.specs.declared.side.Side.TheVariants.{Left, Right}
-use Rattle.fst_terms.specs.CoreTree.{CoreTree, local, global, int, bool, char, unit, pair, make, lambda, apply, let_in, split, if_else, case_of, operate, negate, new, send, receive, select, match_with, fork, seq, CoreList, no_terms, term, CoreArms, no_arms, arm}
+use Rattle.fst_terms.specs.CoreTree.{CoreTree, local, global, int, bool, char, unit, pair, make, lambda, apply, let_in, split, if_else, case_of, operate, negate, new, send, receive, close, wait, select, match_with, fork, seq, CoreList, no_terms, term, CoreArms, no_arms, arm}
 use Rattle.fst_terms.specs.InRange.{maker_of}
 use Rattle.fst_terms.specs.declared.term.Op.{Op}
 use Rattle.fst_types.specs.declared.ends.ChannelName.{ChannelName}
 use Rattle.fst_types.specs.declared.ends.EndName.{EndName}
 use Rattle.fst_types.specs.declared.event.Event.{Event}
-use Rattle.fst_types.specs.declared.event.Event.TheVariants.{Label}
+use Rattle.fst_types.specs.declared.event.Event.TheVariants.{Label, Closed}
 use Rattle.fst_machine.specs.declared.request.Request.{Request}
 use Rattle.fst_machine.specs.declared.request.Request.TheVariants.{Step, New, Fork, Put, Get, Ended}
 use Rattle.fst_machine.specs.declared.request.Answer.{Answer}
 use Rattle.fst_machine.specs.declared.request.Answer.TheVariants.{Go, Made, Forked, Sent, Got}
 use Rattle.fst_machine.specs.Free.{free, free_in, free_below, outside, outside_all}
 use Rattle.fst_machine.specs.Values as value
-use Rattle.fst_machine.specs.Values.{Value, Values, no_values, Environment, none, slot, lookup, enter, keep, enter_all, turned_onto, operated, sent, received}
+use Rattle.fst_machine.specs.Values.{Value, Values, no_values, Environment, none, slot, lookup, enter, keep, enter_all, turned_onto, operated, sent, received, awaited}
 
 -- what terms speak of: the data types, and the bodies of the globals
 pub record Program : Type 0 where
@@ -45,6 +45,8 @@ pub data Frame : Type 0 where
   at_value : CoreTree → Environment → Frame
   at_target : Value → Frame
   at_receive : Frame
+  at_close : Frame
+  at_wait : Frame
   at_select : List ℕ → Frame
   at_match : CoreArms → Environment → Frame
   at_seq : CoreTree → Environment → Frame
@@ -66,6 +68,8 @@ pub data Pause : Type 0 where
   forks : CoreTree → Environment → List Frame → Pause
   puts : EndName → Event → List Frame → Pause
   gets : EndName → List Frame → Pause
+  closes : EndName → List Frame → Pause
+  waits : EndName → List Frame → Pause
   matches : EndName → CoreArms → Environment → List Frame → Pause
   ended : Value → Pause
 
@@ -177,6 +181,10 @@ abbrev mutual
       (λ w. on_end w (λ x. on (sent v) (λ ev. puts x ev fs))))
   eval m (receive at e) env fs back = eval m e env (at_receive ∷ fs)
       (λ v. on_end v (λ x. gets x fs))
+  eval m (close at e) env fs back = eval m e env (at_close ∷ fs)
+      (λ v. on_end v (λ x. closes x fs))
+  eval m (wait at e) env fs back = eval m e env (at_wait ∷ fs)
+      (λ v. on_end v (λ x. waits x fs))
   eval m (select at l e) env fs back = eval m e env (at_select l ∷ fs)
       (λ v. on_end v (λ x. puts x (Label l) fs))
   eval m (match_with at e bs) env fs back =
@@ -231,6 +239,8 @@ resume m (at_value f env ∷ fs) v = eval m f env (at_target v ∷ fs)
     (λ w. on_end w (λ x. on (sent v) (λ ev. puts x ev fs)))
 resume m (at_target v ∷ fs) w = on_end w (λ x. on (sent v) (λ ev. puts x ev fs))
 resume m (at_receive ∷ fs) v = on_end v (λ x. gets x fs)
+resume m (at_close ∷ fs) v = on_end v (λ x. closes x fs)
+resume m (at_wait ∷ fs) v = on_end v (λ x. waits x fs)
 resume m (at_select l ∷ fs) v = on_end v (λ x. puts x (Label l) fs)
 resume m (at_match bs env ∷ fs) v = on_end v (λ x. matches x bs env fs)
 resume m (at_seq f env ∷ fs) v = eval m f env fs (resume m fs)
@@ -248,6 +258,8 @@ asked (makes t fs) = Some (New t)
 asked (forks e env fs) = Some Fork
 asked (puts x ev fs) = Some (Put x ev)
 asked (gets x fs) = Some (Get x)
+asked (closes x fs) = Some (Put x Closed)
+asked (waits x fs) = Some (Get x)
 asked (matches x bs env fs) = Some (Get x)
 asked (ended v) = Some Ended
 
@@ -301,6 +313,8 @@ after p (forks e env fs) Forked = Some (giving value.unit fs)
 after p (puts x ev fs) Sent = Some (giving (value.end x) fs)
 after p (gets x fs) (Got ev) = Some
     (or_lost (option_map (λ v. giving (value.pair v (value.end x)) fs) (received ev)))
+after p (closes x fs) Sent = Some (giving value.unit fs)
+after p (waits x fs) (Got ev) = Some (or_lost (option_map (λ v. giving v fs) (awaited ev)))
 after p (matches x bs env fs) (Got (Label l)) = Some (arm_state bs l x env fs)
 after p (matches x bs env fs) (Got ev) = Some lost
 after p here a = None

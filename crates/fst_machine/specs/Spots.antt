@@ -4,7 +4,7 @@ use Rattle.fst_types.specs.declared.side.Side.TheVariants.{Left, Right}
 use Rattle.fst_value.specs.ValueTree.{ValueTree, int, bool, char, unit, pair, make, function, end, ValueTrees, none, value}
 pub use Rattle.fst_value.specs.Stacks.{collected, stacked}
 use Rattle.fst_types.specs.declared.ends.ChannelName.{ChannelName}
-use Rattle.fst_types.specs.declared.event.Event.TheVariants.{Label}
+use Rattle.fst_types.specs.declared.event.Event.TheVariants.{Label, Closed}
 use Rattle.fst_machine.specs.declared.request.Request.{Request}
 use Rattle.fst_machine.specs.declared.request.Request.TheVariants.{Step, New, Fork, Put, Get, Ended}
 use Rattle.fst_machine.specs.declared.request.Answer.{Answer}
@@ -13,7 +13,7 @@ use Rattle.fst_machine.specs.declared.code.Instr.{Instr}
 use Rattle.fst_machine.specs.declared.code.Instr.TheVariants as instr
 use Rattle.fst_machine.specs.declared.entry.LambdaEntry.{LambdaEntry}
 use Rattle.fst_machine.specs.Values as plain
-use Rattle.fst_machine.specs.Values.{Value, operated, sent, received}
+use Rattle.fst_machine.specs.Values.{Value, operated, sent, received, awaited}
 use Rattle.fst_machine.specs.Code.{Compiled, place_of}
 
 -- what variables stand for, the innermost first
@@ -158,6 +158,8 @@ asks (instr.New t) calls ops = Some (New t)
 asks (instr.Fork l) calls ops = Some Fork
 asks instr.Send calls (end x ∷ v ∷ ops) = option_map (Put x) (sent (scalar v))
 asks instr.Receive calls (end x ∷ ops) = Some (Get x)
+asks instr.Close calls (end x ∷ ops) = Some (Put x Closed)
+asks instr.Wait calls (end x ∷ ops) = Some (Get x)
 asks (instr.Select l) calls (end x ∷ ops) = Some (Put x (Label l))
 asks (instr.Match places) calls (end x ∷ ops) = Some (Get x)
 asks instr.Return [] (v ∷ ops) = Some Ended
@@ -228,6 +230,9 @@ told c instr.Send j s (end x ∷ v ∷ ops) Sent = Some (moved_to j (end x ∷ o
 told c (instr.Select l) j s (end x ∷ ops) Sent = Some (moved_to j (end x ∷ ops) s)
 told c instr.Receive j s (end x ∷ ops) (Got ev) = option_map
     (λ v. moved_to j (pair (of_scalar v) (end x) ∷ ops) s) (received ev)
+told c instr.Close j s (end x ∷ ops) Sent = Some (moved_to j (unit ∷ ops) s)
+told c instr.Wait j s (end x ∷ ops) (Got ev) = option_map
+    (λ v. moved_to j (of_scalar v ∷ ops) s) (awaited ev)
 told c (instr.Match places) j s (end x ∷ ops) (Got (Label l)) = option_map
     (λ place. moved_to place (end x ∷ ops) s) (place_of places.items l)
 told c i j s ops a = None

@@ -12,7 +12,7 @@ use Rattle.fst_machine.specs.declared.entry.LambdaEntry.{LambdaEntry}
 use Rattle.fst_machine.specs.Free.{free, outside}
 use Rattle.fst_machine.specs.Values as value
 use Rattle.fst_machine.specs.Values.{Value, Values, Environment, lookup, count}
-use Rattle.fst_machine.specs.Machine.{begins, State, Pause, stuck, calls, uses, makes, forks, puts, gets, matches, ended, asked, pause, after, child, name_of}
+use Rattle.fst_machine.specs.Machine.{begins, State, Pause, stuck, calls, uses, makes, forks, puts, gets, closes, waits, matches, ended, asked, pause, after, child, name_of}
 use Rattle.fst_machine.specs.Code.{Compiled, At, Lists, Binds, Computes, no_variables, place_of, IsCode}
 use Rattle.fst_machine.specs.Spots.{begins_at, Slots, Call, Spot, slot_at, inner, asked_at, told_at, child_at}
 
@@ -96,6 +96,8 @@ HasEnded c ops (makes t fs) = ⊤
 HasEnded c ops (forks e env fs) = ⊤
 HasEnded c ops (puts x ev fs) = ⊤
 HasEnded c ops (gets x fs) = ⊤
+HasEnded c ops (closes x fs) = ⊤
+HasEnded c ops (waits x fs) = ⊤
 HasEnded c ops (matches x bs env fs) = ⊤
 
 -- the spot asks for what is asked for at the pause, and after an answer it stands as S says; so does the task that it makes,

@@ -119,6 +119,16 @@ received (event.Bool b) = Some (bool b)
 received (event.Char c) = Some (char c)
 received event.Unit = Some unit
 received (event.Label l) = None
+received event.Closed = None
+
+-- the value of a wait for a closing, where it is one
+abbrev pub awaited : Event → Option Value
+awaited (event.Int n) = None
+awaited (event.Bool b) = None
+awaited (event.Char c) = None
+awaited event.Unit = None
+awaited (event.Label l) = None
+awaited event.Closed = Some unit
 
 -- two tests that hold or fail
 abbrev pub both : Bool → Bool → Bool

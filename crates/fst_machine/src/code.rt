@@ -51,6 +51,10 @@ pub enum Instr {
     Send,
     /// Receive a value on an end.
     Receive,
+    /// Close a channel at an end.
+    Close,
+    /// Wait at an end until the channel is closed.
+    Wait,
     /// Select a branch on an end.
     Select(Name),
     /// Receive a label on an end, and go on at its place with the end.

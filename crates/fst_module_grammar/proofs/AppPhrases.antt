@@ -10,10 +10,10 @@ use Rattle.fst_reading.proofs.Phrases as phrase
 use Rattle.fst_reading.proofs.Phrases.{nothing, Then, Mapped, made, Switch, first, Located, at, Either, one, other, Repeat, enough, again}
 use Rattle.fst_reading.proofs.Parts.{One}
 use Rattle.fst_type_syntax.specs.Derives.{AtomPhrase as TypeAtomP}
-use Rattle.fst_module_grammar.specs.Grammar.{IsApp, send, receive, select, new, fork, make, head, AreAtoms, no_atoms, atom}
+use Rattle.fst_module_grammar.specs.Grammar.{IsApp, send, receive, close, wait, select, new, fork, make, head, AreAtoms, no_atoms, atom}
 use Rattle.fst_module_grammar.specs.Nesting.{app_nests, head_nests, head_operands, atoms_nests, atom_nests}
 use Rattle.fst_module_grammar.specs.declared.starts.AppStart.{AppStart}
-use Rattle.fst_module_grammar.specs.declared.starts.AppStart.TheVariants.{Send, Receive, Select, New, Fork, Make}
+use Rattle.fst_module_grammar.specs.declared.starts.AppStart.TheVariants.{Send, Receive, Close, Wait, Select, New, Fork, Make}
 use Rattle.fst_module_grammar.specs.TermReading.{app_start, append_term}
 use Rattle.fst_module_grammar.proofs.Lefts.{Right, left_filled, to_left, of_left}
 use Rattle.fst_module_grammar.proofs.ChainPhrases.{AtomP, PlainP, Argument, head_to, head_from}
@@ -75,6 +75,8 @@ LabelP e = One e upper_of
 abbrev pub AppBegunR : ℕ → AppStart → Lexeme → Phrase TermTree
 AppBegunR d Send k = Then (AtomP (suc d)) (λ (t : TermTree). Mapped (term.send k.at t) (AtomP (suc (suc d))))
 AppBegunR d Receive k = Mapped (term.receive k.at) (AtomP (suc d))
+AppBegunR d Close k = Mapped (term.close k.at) (AtomP (suc d))
+AppBegunR d Wait k = Mapped (term.wait k.at) (AtomP (suc d))
 AppBegunR d Select k = Then (LabelP (suc d)) (λ (l : Lexeme). Mapped (term.select k.at l.text) (AtomP (suc (suc d))))
 AppBegunR d New k = Mapped (term.new k.at) (TypeAtomP (suc d))
 AppBegunR d Fork k = Mapped (term.fork k.at) (AtomP (suc d))
@@ -105,6 +107,8 @@ app_to d _ _ _ (one _ _ _ (first k s ts t ns e p)) = by_start s (app_means k s e
           rw (a.1, b.1) (ap (λ (w : List ℕ). d ∷ w) (sym nests)) in e2),
     )
     by_start Receive is _ _ _ (made ts t ns a) = (receive k ts t is a.0, ap (λ (w : List ℕ). d ∷ w) a.1)
+    by_start Close is _ _ _ (made ts t ns a) = (close k ts t is a.0, ap (λ (w : List ℕ). d ∷ w) a.1)
+    by_start Wait is _ _ _ (made ts t ns a) = (wait k ts t is a.0, ap (λ (w : List ℕ). d ∷ w) a.1)
     by_start Select is _ _ _ (phrase.pair ts _ vs _ _ ns _ _ (first l m _ _ _ g nothing) (made _ u ks b) parts nests) =
         let name = upper_is l m g in
         moved (AppP d) (k ∷ ts) (k ∷ l ∷ vs) _ (term.select k.at l.text u) (d ∷ ns) (d ∷ suc d ∷ ks)
@@ -123,6 +127,8 @@ of_app d _ _ (send k ts us all t u is a b parts) =
     moved (AppR d) all (k ∷ ts ++ us) _ _ _ _ parts refl refl (one _ _ _ (first k Send (ts ++ us) _ _ (means_app Send k is)
     (phrase.pair _ ts us t _ _ (atom_nests (suc d) a) (atom_nests (suc (suc d)) b) (a, refl) (made us u _ (b, refl)) refl refl)))
 of_app d _ _ (receive k ts t is a) = one _ _ _ (first k Receive ts _ _ (means_app Receive k is) (made ts t _ (a, refl)))
+of_app d _ _ (close k ts t is a) = one _ _ _ (first k Close ts _ _ (means_app Close k is) (made ts t _ (a, refl)))
+of_app d _ _ (wait k ts t is a) = one _ _ _ (first k Wait ts _ _ (means_app Wait k is) (made ts t _ (a, refl)))
 of_app d _ _ (select k l ts t is label a) =
     one _ _ _ (first k Select (l ∷ ts) _ _ (means_app Select k is)
     (phrase.pair _ (l ∷ []) ts l _ _ (suc d ∷ []) (atom_nests (suc (suc d)) a) (first l l [] l [] (is_upper l label) nothing)

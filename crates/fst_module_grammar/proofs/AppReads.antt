@@ -22,7 +22,7 @@ use Rattle.fst_module_grammar.specs.Grammar.{none}
 use Rattle.fst_module_grammar.specs.declared.starts.AtomStart.{AtomStart}
 use Rattle.fst_module_grammar.specs.declared.starts.AtomStart.TheVariants.{Name, Constructor, Number, Character, Truth, Paren}
 use Rattle.fst_module_grammar.specs.declared.starts.AppStart.{AppStart}
-use Rattle.fst_module_grammar.specs.declared.starts.AppStart.TheVariants.{Send, Receive, Select, New, Fork, Make}
+use Rattle.fst_module_grammar.specs.declared.starts.AppStart.TheVariants.{Send, Receive, Close, Wait, Select, New, Fork, Make}
 use Rattle.fst_module_grammar.specs.TermReading.{Inside, next, atom_named, atom_start, is_start, starts_atom, is_upper, label_with, type_atom_with, begun_with, plain_start, plain_with, atom_with, arguments_with, applications_with, append_term, app_start, is_app, opens_app, app_begun_with, head_with, app_with}
 use Rattle.fst_module_grammar.proofs.Lefts.{Right}
 use Rattle.fst_module_grammar.proofs.ChainPhrases.{AtomP, PlainP, Argument}
@@ -233,6 +233,8 @@ module _ (limit d : ℕ) (e : Reader TermTree) (es : Inside) (good : Good limit 
       (λ t. some_atom (term.send k.at t) (suc (suc d)))
       (atom_filled (suc d)) (λ us x ns vs y ms rest q st. at_mapped (term.send k.at x) (suc (suc d)) vs y ms rest q)
   reads_app_begun Receive k = loud _ _ (reads_mapped limit (term.receive k.at) (atom_with es) (AtomP (suc d)) at first_atom)
+  reads_app_begun Close k = loud _ _ (reads_mapped limit (term.close k.at) (atom_with es) (AtomP (suc d)) at first_atom)
+  reads_app_begun Wait k = loud _ _ (reads_mapped limit (term.wait k.at) (atom_with es) (AtomP (suc d)) at first_atom)
   reads_app_begun Select k =
       reads_then limit (label_with es) _ (LabelP (suc d))
       (λ l. Mapped (term.select k.at l.text) (AtomP (suc (suc d)))) never after_app (reads_label limit es (suc d) one_on)

@@ -5,7 +5,7 @@ use Rattle.fst_terms.specs.TermTree.{TermTree, TermList, TermArms}
 use Rattle.fst_reading.specs.Lexeme.{Lexeme}
 use Rattle.fst_type_syntax.specs.Nesting.{seq_nests, atom_nests as type_atom_nests}
 use Rattle.fst_type_syntax.proofs.Laws.{seq_count, atom_count as type_atom_count}
-use Rattle.fst_module_grammar.specs.Grammar.{AreApplied, none, applied, IsExpr, let_in, split, if_else, lambda, case_of, match_with, one_or, seq, AreCases, last_case, further_case, AreMatches, last_match, further_match, IsOr, one_and, more_or, IsAnd, one_cmp, more_and, IsCmp, one_sum, compare, IsSum, one_prod, more_sum, IsProd, one_unary, more_prod, IsUnary, one_app, negate, IsApp, send, receive, select, new, fork, make, head, IsHead, one_plain, apply, AreAtoms, no_atoms, atom, IsAtom, constructor, plain, IsPlain, named, number, character, yes, no, unit, group, pair}
+use Rattle.fst_module_grammar.specs.Grammar.{AreApplied, none, applied, IsExpr, let_in, split, if_else, lambda, case_of, match_with, one_or, seq, AreCases, last_case, further_case, AreMatches, last_match, further_match, IsOr, one_and, more_or, IsAnd, one_cmp, more_and, IsCmp, one_sum, compare, IsSum, one_prod, more_sum, IsProd, one_unary, more_prod, IsUnary, one_app, negate, IsApp, send, receive, close, wait, select, new, fork, make, head, IsHead, one_plain, apply, AreAtoms, no_atoms, atom, IsAtom, constructor, plain, IsPlain, named, number, character, yes, no, unit, group, pair}
 use Rattle.fst_module_grammar.specs.Nesting.{applied_nests, or_operands, and_operands, sum_operands, prod_operands, head_operands, expr_nests, cases_nests, matches_nests, or_nests, and_nests, cmp_nests, sum_nests, prod_nests, unary_nests, app_nests, head_nests, atoms_nests, atom_nests, plain_nests}
 use Rattle.fst_reading.specs.Faults.{level}
 use Rattle.fst_reading.proofs.Words.{level_count}
@@ -215,6 +215,8 @@ mutual
         length-append (atom_nests (suc n) a) (atom_nests (suc (suc n)) b),
       )
   app_count n (receive k ts t is a) = ap suc (atom_count (suc n) a)
+  app_count n (close k ts t is a) = ap suc (atom_count (suc n) a)
+  app_count n (wait k ts t is a) = ap suc (atom_count (suc n) a)
   app_count n (select k l ts t is label a) = omega (arith, atom_count (suc (suc n)) a)
   app_count n (new k ts t is a) = ap suc (type_atom_count (suc n) a)
   app_count n (fork k ts t is a) = ap suc (atom_count (suc n) a)

@@ -8,7 +8,7 @@ use Rattle.fst_terms.specs.ModuleTree.{Maker, Declared}
 use Rattle.fst_terms.specs.Count.{types_count, term_count, terms_count, arms_count, makers_count, decl_count, module_count}
 use Rattle.fst_reading.specs.Lexeme.{Lexeme}
 use Rattle.fst_type_syntax.proofs.Laws.{type_few, seq_few, atom_few as type_atom_few, arrow_some, binders_few}
-use Rattle.fst_module_grammar.specs.Grammar.{AreNames, name, AreApplied, none, applied, IsExpr, let_in, split, if_else, lambda, case_of, match_with, one_or, seq, AreCases, last_case, further_case, AreMatches, last_match, further_match, IsOr, one_and, more_or, IsAnd, one_cmp, more_and, IsCmp, one_sum, compare, IsSum, one_prod, more_sum, IsProd, one_unary, more_prod, IsUnary, one_app, negate, IsApp, send, receive, select, new, fork, make, head, IsHead, one_plain, apply, AreAtoms, no_atoms, atom, IsAtom, constructor, plain, IsPlain, named, number, character, yes, no, unit, group, pair, AreTypes, type, AreMakers, last, further, IsDecl, family, alias, signature, over, equation, Lined, lexemes_of, IsModule, decl}
+use Rattle.fst_module_grammar.specs.Grammar.{AreNames, name, AreApplied, none, applied, IsExpr, let_in, split, if_else, lambda, case_of, match_with, one_or, seq, AreCases, last_case, further_case, AreMatches, last_match, further_match, IsOr, one_and, more_or, IsAnd, one_cmp, more_and, IsCmp, one_sum, compare, IsSum, one_prod, more_sum, IsProd, one_unary, more_prod, IsUnary, one_app, negate, IsApp, send, receive, close, wait, select, new, fork, make, head, IsHead, one_plain, apply, AreAtoms, no_atoms, atom, IsAtom, constructor, plain, IsPlain, named, number, character, yes, no, unit, group, pair, AreTypes, type, AreMakers, last, further, IsDecl, family, alias, signature, over, equation, Lined, lexemes_of, IsModule, decl}
 
 names_few : {ts : List Lexeme} {xs : List Binder} → AreNames ts xs → length xs ≤ length ts
 names_few none = omega arith
@@ -101,6 +101,8 @@ mutual
   app_few : {ts : List Lexeme} {t : TermTree} → IsApp ts t → suc (term_count t) ≤ 2 * length ts
   app_few (send k ts us all t u is d f parts) = omega (arith, atom_few d, atom_few f, ap length parts, length-append ts us)
   app_few (receive k ts t is d) = omega (arith, atom_few d)
+  app_few (close k ts t is d) = omega (arith, atom_few d)
+  app_few (wait k ts t is d) = omega (arith, atom_few d)
   app_few (select k l ts t is label d) = omega (arith, atom_few d)
   app_few (new k ts t is a) = omega (arith, type_atom_few a)
   app_few (fork k ts t is d) = omega (arith, atom_few d)

@@ -6,7 +6,7 @@ use Rattle.fst_terms.specs.ModuleTree.{Maker, Declared}
 use Rattle.fst_terms.specs.Filled.{HaveTypesFilled, HasArm, BindOne, IsFilled, AreFilled, HaveArmsFilled, HasMaker, HaveFieldsFilled, IsDeclFilled, IsModuleFilled}
 use Rattle.fst_reading.specs.Lexeme.{Lexeme}
 use Rattle.fst_type_syntax.proofs.Laws.{type_filled, seq_filled, atom_filled as type_atom_filled}
-use Rattle.fst_module_grammar.specs.Grammar.{AreApplied, none, applied, IsExpr, let_in, split, if_else, lambda, case_of, match_with, one_or, seq, AreCases, last_case, further_case, AreMatches, last_match, further_match, IsOr, one_and, more_or, IsAnd, one_cmp, more_and, IsCmp, one_sum, compare, IsSum, one_prod, more_sum, IsProd, one_unary, more_prod, IsUnary, one_app, negate, IsApp, send, receive, select, new, fork, make, head, IsHead, one_plain, apply, AreAtoms, no_atoms, atom, IsAtom, constructor, plain, IsPlain, named, number, character, yes, no, unit, group, pair, AreTypes, type, AreMakers, last, further, IsDecl, family, alias, signature, over, equation, Lined, IsModule, decl}
+use Rattle.fst_module_grammar.specs.Grammar.{AreApplied, none, applied, IsExpr, let_in, split, if_else, lambda, case_of, match_with, one_or, seq, AreCases, last_case, further_case, AreMatches, last_match, further_match, IsOr, one_and, more_or, IsAnd, one_cmp, more_and, IsCmp, one_sum, compare, IsSum, one_prod, more_sum, IsProd, one_unary, more_prod, IsUnary, one_app, negate, IsApp, send, receive, close, wait, select, new, fork, make, head, IsHead, one_plain, apply, AreAtoms, no_atoms, atom, IsAtom, constructor, plain, IsPlain, named, number, character, yes, no, unit, group, pair, AreTypes, type, AreMakers, last, further, IsDecl, family, alias, signature, over, equation, Lined, IsModule, decl}
 
 applied_filled : {ts : List Lexeme} {types : List WrittenTree} → AreApplied ts types → HaveTypesFilled types
 applied_filled none = tt
@@ -74,6 +74,8 @@ mutual
   app_filled : {ts : List Lexeme} {t : TermTree} → IsApp ts t → IsFilled t
   app_filled (send k ts us all t u is d f parts) = (atom_filled d, atom_filled f)
   app_filled (receive k ts t is d) = atom_filled d
+  app_filled (close k ts t is d) = atom_filled d
+  app_filled (wait k ts t is d) = atom_filled d
   app_filled (select k l ts t is label d) = atom_filled d
   app_filled (new k ts t is a) = type_atom_filled a
   app_filled (fork k ts t is d) = atom_filled d

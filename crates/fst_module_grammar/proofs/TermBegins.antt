@@ -8,9 +8,9 @@ use Rattle.fst_reading.specs.Lexeme.{Lexeme, spells_by, spells, Is}
 use Rattle.fst_base.specs.Choice.{choose}
 use Rattle.fst_reading.proofs.Words.{BeginsWith}
 use Rattle.fst_reading.proofs.Tokens.{fixed, spelled}
-use Rattle.fst_module_grammar.specs.Grammar.{IsExpr, let_in, split, if_else, lambda, case_of, match_with, one_or, seq, IsOr, one_and, more_or, IsAnd, one_cmp, more_and, IsCmp, one_sum, compare, IsSum, one_prod, more_sum, IsProd, one_unary, more_prod, IsUnary, one_app, negate, IsApp, send, receive, select, new, fork, make, head}
+use Rattle.fst_module_grammar.specs.Grammar.{IsExpr, let_in, split, if_else, lambda, case_of, match_with, one_or, seq, IsOr, one_and, more_or, IsAnd, one_cmp, more_and, IsCmp, one_sum, compare, IsSum, one_prod, more_sum, IsProd, one_unary, more_prod, IsUnary, one_app, negate, IsApp, send, receive, close, wait, select, new, fork, make, head}
 use Rattle.fst_module_grammar.specs.Nesting.{expr_nests, or_nests, and_nests, cmp_nests, sum_nests, prod_nests, unary_nests, app_nests}
-use Rattle.fst_module_grammar.specs.declared.starts.AppStart.TheVariants.{Send, Receive, Select, New, Fork, Make}
+use Rattle.fst_module_grammar.specs.declared.starts.AppStart.TheVariants.{Send, Receive, Close, Wait, Select, New, Fork, Make}
 use Rattle.fst_module_grammar.specs.TermReading.{is_app, is_start, starts_app, starts_unary, expr_named, expr_by, expr_start, is_expr_start, starts_expr}
 use Rattle.fst_module_grammar.proofs.Begins.{StartsAtom, in_front, weaker, head_begins}
 use Rattle.fst_module_grammar.proofs.TermTokens.{app_spelled, means_app, atom_spelled}
@@ -50,6 +50,8 @@ expr_as_fixed w k is = rw (unary_as_fixed w k is, ap is_expr_start (expr_spelled
 pub app_begins : (d : ℕ) {ts : List Lexeme} {t : TermTree} (s : IsApp ts t) → BeginsWith StartsApp d ts (app_nests d s)
 app_begins d (send k ts us all t u is a b parts) = (k, ts ++ us, _, parts, refl, or_left _ _ (ap is_app (means_app Send k is)))
 app_begins d (receive k ts t is a) = (k, ts, _, refl, refl, or_left _ _ (ap is_app (means_app Receive k is)))
+app_begins d (close k ts t is a) = (k, ts, _, refl, refl, or_left _ _ (ap is_app (means_app Close k is)))
+app_begins d (wait k ts t is a) = (k, ts, _, refl, refl, or_left _ _ (ap is_app (means_app Wait k is)))
 app_begins d (select k l ts t is label a) = (k, l ∷ ts, _, refl, refl, or_left _ _ (ap is_app (means_app Select k is)))
 app_begins d (new k ts t is a) = (k, ts, _, refl, refl, or_left _ _ (ap is_app (means_app New k is)))
 app_begins d (fork k ts t is a) = (k, ts, _, refl, refl, or_left _ _ (ap is_app (means_app Fork k is)))

@@ -11,15 +11,16 @@ use Rattle.fst_reading.proofs.Steps.{SomePhrase}
 use Rattle.fst_reading.proofs.Shut.{reads_shut}
 use Rattle.fst_reading.proofs.Repeats.{Fits}
 use Rattle.fst_reading.proofs.Tokens.{fixed, fixed_is, a_lower, an_upper}
-use Rattle.fst_module_grammar.specs.Grammar.{send, receive, select, new, fork, make, head, one_plain, named, none, no_atoms}
+use Rattle.fst_module_grammar.specs.Grammar.{send, receive, close, wait, select, new, fork, make, head, one_plain, named, none, no_atoms}
 use Rattle.fst_module_grammar.specs.Nesting.{atom_nests}
 use Rattle.fst_module_grammar.specs.declared.starts.AtomStart.{AtomStart}
 use Rattle.fst_module_grammar.specs.declared.starts.AtomStart.TheVariants.{Name, Constructor, Number, Character, Truth, Paren}
 use Rattle.fst_module_grammar.specs.declared.starts.AppStart.{AppStart}
-use Rattle.fst_module_grammar.specs.declared.starts.AppStart.TheVariants.{Send, Receive, Select, New, Fork, Make}
+use Rattle.fst_module_grammar.specs.declared.starts.AppStart.TheVariants.{Send, Receive, Close, Wait, Select, New, Fork, Make}
 use Rattle.fst_module_grammar.specs.TermReading.{Inside, atom_start, app_start, is_app, opens_app, starts_atom, starts_app, app_with}
 use Rattle.fst_module_grammar.proofs.AtomPhrases.{plain_to}
 use Rattle.fst_module_grammar.proofs.AtomReads.{sample_atom}
+use Rattle.fst_module_grammar.proofs.ChainPhrases.{AtomP}
 use Rattle.fst_module_grammar.proofs.AppPhrases.{AppP}
 use Rattle.fst_module_grammar.proofs.AppReads.{Good, atom_of, opening_atom, reads_one_app}
 use Rattle.fst_module_grammar.proofs.TermBegins.{StartsApp, app_begins}
@@ -38,6 +39,13 @@ pub record Opening (d : ℕ) (k : Lexeme) : Type 0 where
   pub nests : List ℕ
   pub phrase : AppP d (k ∷ others) value (d ∷ nests)
 
+-- a word and an atom made up
+before_atom : (d : ℕ) (k : Lexeme) (form : TermTree → TermTree) →
+    ((ts : List Lexeme) (t : TermTree) (ns : List ℕ) → AtomP (suc d) ts t ns → AppP d (k ∷ ts) (form t) (d ∷ ns)) → Opening d k
+before_atom d k form rule =
+    let a = (sample_atom (suc d) 0).0 in
+    record { others = a.tokens; value = form a.value; nests = a.nests; phrase = rule a.tokens a.value a.nests a.phrase }
+
 by_app : (d : ℕ) (k : Lexeme) (s : AppStart) → MeansApp s k → Opening d k
 by_app d k Send is =
     let a = (sample_atom (suc d) 0).0 in
@@ -52,14 +60,9 @@ by_app d k Send is =
             rw (a.phrase.1, b.phrase.1) refl in e),
       );
     }
-by_app d k Receive is = let a = (sample_atom (suc d) 0).0 in
-    record {
-      others = a.tokens;
-      value = term.receive k.at a.value;
-      nests = a.nests;
-      phrase =
-          (receive k a.tokens a.value is a.phrase.0, ap (λ (w : List ℕ). d ∷ w) a.phrase.1);
-    }
+by_app d k Receive is = before_atom d k (term.receive k.at) (λ ts t ns a. (receive k ts t is a.0, ap (λ (w : List ℕ). d ∷ w) a.1))
+by_app d k Close is = before_atom d k (term.close k.at) (λ ts t ns a. (close k ts t is a.0, ap (λ (w : List ℕ). d ∷ w) a.1))
+by_app d k Wait is = before_atom d k (term.wait k.at) (λ ts t ns a. (wait k ts t is a.0, ap (λ (w : List ℕ). d ∷ w) a.1))
 by_app d k Select is =
     let a = (sample_atom (suc (suc d)) 0).0 in
     record {
@@ -77,14 +80,7 @@ by_app d k New is =
       phrase =
           (new k _ (written.skip 0) is (skip (fixed (codes "Skip") 0) (fixed_is (codes "Skip") 0)), refl);
     }
-by_app d k Fork is = let a = (sample_atom (suc d) 0).0 in
-    record {
-      others = a.tokens;
-      value = term.fork k.at a.value;
-      nests = a.nests;
-      phrase =
-          (fork k a.tokens a.value is a.phrase.0, ap (λ (w : List ℕ). d ∷ w) a.phrase.1);
-    }
+by_app d k Fork is = before_atom d k (term.fork k.at) (λ ts t ns a. (fork k ts t is a.0, ap (λ (w : List ℕ). d ∷ w) a.1))
 by_app d k Make is = record {
   others = [];
   value = term.make k.at k.text no_terms;

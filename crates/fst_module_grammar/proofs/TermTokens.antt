@@ -10,7 +10,7 @@ use Rattle.fst_reading.proofs.Tokens.{some_is, spelled_so}
 use Rattle.fst_module_grammar.specs.declared.starts.AtomStart.{AtomStart}
 use Rattle.fst_module_grammar.specs.declared.starts.AtomStart.TheVariants.{Name, Constructor, Number, Character, Truth, Paren}
 use Rattle.fst_module_grammar.specs.declared.starts.AppStart.{AppStart}
-use Rattle.fst_module_grammar.specs.declared.starts.AppStart.TheVariants.{Send, Receive, Select, New, Fork, Make}
+use Rattle.fst_module_grammar.specs.declared.starts.AppStart.TheVariants.{Send, Receive, Close, Wait, Select, New, Fork, Make}
 use Rattle.fst_module_grammar.specs.TermReading.{atom_named, atom_by, atom_start, is_start, starts_atom, no_constructor, plain_start, app_named, app_by, app_start, is_app}
 use Rattle.fst_base.proofs.Bools.{same_text}
 
@@ -80,6 +80,8 @@ no_atom w k n is = ap is_start (atom_spelled w k is ∙ n)
 abbrev pub MeansApp : AppStart → Lexeme → Type 0
 MeansApp Send k = Is (codes "send") k
 MeansApp Receive k = Is (codes "receive") k
+MeansApp Close k = Is (codes "close") k
+MeansApp Wait k = Is (codes "wait") k
 MeansApp Select k = Is (codes "select") k
 MeansApp New k = Is (codes "new") k
 MeansApp Fork k = Is (codes "fork") k
@@ -92,12 +94,18 @@ app_named_is k s f e = elim (chosen _ _ _ _ e) [
   | inr h ↦ elim (chosen _ _ _ _ h.1) [
     | inl i ↦ subst (λ z. MeansApp z k) (some_is Receive s i.1) (spelled_so k.kind (codes "receive") k.text i.0 f)
     | inr i ↦ elim (chosen _ _ _ _ i.1) [
-      | inl j ↦ subst (λ z. MeansApp z k) (some_is Select s j.1) (spelled_so k.kind (codes "select") k.text j.0 f)
+      | inl j ↦ subst (λ z. MeansApp z k) (some_is Close s j.1) (spelled_so k.kind (codes "close") k.text j.0 f)
       | inr j ↦ elim (chosen _ _ _ _ j.1) [
-        | inl l ↦ subst (λ z. MeansApp z k) (some_is New s l.1) (spelled_so k.kind (codes "new") k.text l.0 f)
+        | inl l ↦ subst (λ z. MeansApp z k) (some_is Wait s l.1) (spelled_so k.kind (codes "wait") k.text l.0 f)
         | inr l ↦ elim (chosen _ _ _ _ l.1) [
-          | inl m ↦ subst (λ z. MeansApp z k) (some_is Fork s m.1) (spelled_so k.kind (codes "fork") k.text m.0 f)
-          | inr m ↦ absurd (let is = m.1 in cc)
+          | inl m ↦ subst (λ z. MeansApp z k) (some_is Select s m.1) (spelled_so k.kind (codes "select") k.text m.0 f)
+          | inr m ↦ elim (chosen _ _ _ _ m.1) [
+            | inl n ↦ subst (λ z. MeansApp z k) (some_is New s n.1) (spelled_so k.kind (codes "new") k.text n.0 f)
+            | inr n ↦ elim (chosen _ _ _ _ n.1) [
+              | inl o ↦ subst (λ z. MeansApp z k) (some_is Fork s o.1) (spelled_so k.kind (codes "fork") k.text o.0 f)
+              | inr o ↦ absurd (let is = o.1 in cc)
+            ]
+          ]
         ]
       ]
     ]
@@ -126,6 +134,8 @@ pub means_app : (s : AppStart) (k : Lexeme) → MeansApp s k → app_start k ≡
 unfolding app_named choose
 means_app Send k e = app_spelled (codes "send") k e
 means_app Receive k e = app_spelled (codes "receive") k e
+means_app Close k e = app_spelled (codes "close") k e
+means_app Wait k e = app_spelled (codes "wait") k e
 means_app Select k e = app_spelled (codes "select") k e
 means_app New k e = app_spelled (codes "new") k e
 means_app Fork k e = app_spelled (codes "fork") k e

@@ -144,7 +144,8 @@ mutual
     negate : (k : Lexeme) (ts : List Lexeme) (t : TermTree) → Is (codes "not") k → IsUnary ts t →
         IsUnary (k ∷ ts) (term.negate k.at t)
 
-  -- app = "send" atom atom | "receive" atom | "select" uname atom | "new" tatom | "fork" atom | uname { atom } | atom { atom },
+  -- app = "send" atom atom | "receive" atom | "close" atom | "wait" atom | "select" uname atom
+  --     | "new" tatom | "fork" atom | uname { atom } | atom { atom },
   -- where an upper name at the head is a constructor with its arguments
   pub data IsApp : List Lexeme → TermTree → Type 0 where
     send : (k : Lexeme) (ts us all : List Lexeme) (t u : TermTree) →
@@ -152,6 +153,10 @@ mutual
         IsApp all (term.send k.at t u)
     receive : (k : Lexeme) (ts : List Lexeme) (t : TermTree) → Is (codes "receive") k →
         IsAtom ts t → IsApp (k ∷ ts) (term.receive k.at t)
+    close : (k : Lexeme) (ts : List Lexeme) (t : TermTree) → Is (codes "close") k → IsAtom ts t →
+        IsApp (k ∷ ts) (term.close k.at t)
+    wait : (k : Lexeme) (ts : List Lexeme) (t : TermTree) → Is (codes "wait") k → IsAtom ts t →
+        IsApp (k ∷ ts) (term.wait k.at t)
     select : (k l : Lexeme) (ts : List Lexeme) (t : TermTree) →
         Is (codes "select") k → IsUpper l → IsAtom ts t →
         IsApp (k ∷ l ∷ ts) (term.select k.at l.text t)

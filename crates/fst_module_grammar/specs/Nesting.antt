@@ -6,7 +6,7 @@ use Rattle.fst_terms.specs.TermTree.{TermTree, TermList, TermArms}
 use Rattle.fst_terms.specs.ModuleTree.{Maker, Declared}
 use Rattle.fst_reading.specs.Lexeme.{Lexeme}
 use Rattle.fst_type_syntax.specs.Nesting.{type_nests, seq_nests, atom_nests as type_atom_nests}
-use Rattle.fst_module_grammar.specs.Grammar.{AreApplied, none, applied, IsExpr, let_in, split, if_else, lambda, case_of, match_with, one_or, seq, AreCases, last_case, further_case, AreMatches, last_match, further_match, IsOr, one_and, more_or, IsAnd, one_cmp, more_and, IsCmp, one_sum, compare, IsSum, one_prod, more_sum, IsProd, one_unary, more_prod, IsUnary, one_app, negate, IsApp, send, receive, select, new, fork, make, head, IsHead, one_plain, apply, AreAtoms, no_atoms, atom, IsAtom, constructor, plain, IsPlain, named, number, character, yes, no, unit, group, pair, AreTypes, type, AreMakers, last, further, IsDecl, family, alias, signature, over, equation, Lined, IsModule, decl}
+use Rattle.fst_module_grammar.specs.Grammar.{AreApplied, none, applied, IsExpr, let_in, split, if_else, lambda, case_of, match_with, one_or, seq, AreCases, last_case, further_case, AreMatches, last_match, further_match, IsOr, one_and, more_or, IsAnd, one_cmp, more_and, IsCmp, one_sum, compare, IsSum, one_prod, more_sum, IsProd, one_unary, more_prod, IsUnary, one_app, negate, IsApp, send, receive, close, wait, select, new, fork, make, head, IsHead, one_plain, apply, AreAtoms, no_atoms, atom, IsAtom, constructor, plain, IsPlain, named, number, character, yes, no, unit, group, pair, AreTypes, type, AreMakers, last, further, IsDecl, family, alias, signature, over, equation, Lined, IsModule, decl}
 use Rattle.fst_reading.specs.Faults.{level}
 
 -- the same number for the type arguments of a name
@@ -112,6 +112,8 @@ abbrev mutual
   app_nests n (send k ts us all t u is a b parts) =
       n ∷ atom_nests (suc n) a ++ atom_nests (suc (suc n)) b
   app_nests n (receive k ts t is a) = n ∷ atom_nests (suc n) a
+  app_nests n (close k ts t is a) = n ∷ atom_nests (suc n) a
+  app_nests n (wait k ts t is a) = n ∷ atom_nests (suc n) a
   app_nests n (select k l ts t is label a) = n ∷ (suc n) ∷ atom_nests (suc (suc n)) a
   app_nests n (new k ts t is a) = n ∷ type_atom_nests (suc n) a
   app_nests n (fork k ts t is a) = n ∷ atom_nests (suc n) a

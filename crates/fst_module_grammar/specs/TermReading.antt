@@ -14,7 +14,7 @@ use Rattle.fst_terms.specs.TermTree.{TermTree, TermList, no_terms, TermArms, no_
 use Rattle.fst_module_grammar.specs.declared.starts.AtomStart.{AtomStart}
 use Rattle.fst_module_grammar.specs.declared.starts.AtomStart.TheVariants.{Name, Constructor, Number, Character, Truth, Paren}
 use Rattle.fst_module_grammar.specs.declared.starts.AppStart.{AppStart}
-use Rattle.fst_module_grammar.specs.declared.starts.AppStart.TheVariants.{Send, Receive, Select, New, Fork, Make}
+use Rattle.fst_module_grammar.specs.declared.starts.AppStart.TheVariants.{Send, Receive, Close, Wait, Select, New, Fork, Make}
 use Rattle.fst_module_grammar.specs.declared.starts.Arms.{Arms}
 use Rattle.fst_module_grammar.specs.declared.starts.Arms.TheVariants as by
 use Rattle.fst_module_grammar.specs.declared.starts.ExprStart.{ExprStart}
@@ -102,9 +102,11 @@ unfoldable pub app_named : List ℕ → Option AppStart
 app_named text =
     choose (bytes_eq text (codes "send")) (Some Send)
     (choose (bytes_eq text (codes "receive")) (Some Receive)
+    (choose (bytes_eq text (codes "close")) (Some Close)
+    (choose (bytes_eq text (codes "wait")) (Some Wait)
     (choose (bytes_eq text (codes "select")) (Some Select)
     (choose (bytes_eq text (codes "new")) (Some New)
-    (choose (bytes_eq text (codes "fork")) (Some Fork) None))))
+    (choose (bytes_eq text (codes "fork")) (Some Fork) None))))))
 
 -- what a token begins as an application, by its kind and text
 abbrev pub app_by : TokenKind → List ℕ → Option AppStart
@@ -246,6 +248,8 @@ label_with (e ∷ es) = one upper_of
 abbrev pub app_begun_with : Inside → AppStart → Lexeme → Reader TermTree
 app_begun_with es Send k = atom_with es >>= λ t. map_reader (term.send k.at t) (atom_with (next es))
 app_begun_with es Receive k = map_reader (term.receive k.at) (atom_with es)
+app_begun_with es Close k = map_reader (term.close k.at) (atom_with es)
+app_begun_with es Wait k = map_reader (term.wait k.at) (atom_with es)
 app_begun_with es Select k = label_with es >>= λ l. map_reader (term.select k.at l.text)
     (atom_with (next es))
 app_begun_with es New k = map_reader (term.new k.at) (type_atom_with es)

@@ -20,6 +20,8 @@ pub enum AtomStart {
 pub enum AppStart {
     Send,
     Receive,
+    Close,
+    Wait,
     Select,
     New,
     Fork,
@@ -88,6 +90,8 @@ fn app_named(text: &str) -> Option<AppStart>
     match text {
         "send" => Some(AppStart::Send),
         "receive" => Some(AppStart::Receive),
+        "close" => Some(AppStart::Close),
+        "wait" => Some(AppStart::Wait),
         "select" => Some(AppStart::Select),
         "new" => Some(AppStart::New),
         "fork" => Some(AppStart::Fork),

@@ -16,7 +16,7 @@ use Rattle.fst_terms.specs.CoreTree.{CoreTree}
 use Rattle.fst_terms.specs.Count.{part_limit, type_count, types_count, term_count, terms_count, arms_count, makers_count, module_count}
 use Rattle.fst_terms.specs.ModuleTree.{Maker, Declared, family, alias, signature, equation}
 use Rattle.fst_terms.specs.Naming.{place_of}
-use Rattle.fst_terms.specs.TermTree.{TermTree, named, int, bool, char, unit, pair, make, lambda, apply, let_in, split, if_else, case_of, operate, negate, new, send, receive, select, match_with, fork, seq, TermList, no_terms, term, TermArms, no_arms, arm}
+use Rattle.fst_terms.specs.TermTree.{TermTree, named, int, bool, char, unit, pair, make, lambda, apply, let_in, split, if_else, case_of, operate, negate, new, send, receive, close, wait, select, match_with, fork, seq, TermList, no_terms, term, TermArms, no_arms, arm}
 use Rattle.fst_terms.specs.declared.binder.Binder.{Binder}
 use Rattle.fst_terms.specs.declared.global.GlobalEntry.{GlobalEntry}
 use Rattle.fst_scopes.specs.Aliases.{Known}
@@ -36,6 +36,8 @@ some_type : (w : WrittenTree) → 1 ≤ type_count w
 some_type (written.skip at) = omega arith
 some_type (written.send at b) = omega arith
 some_type (written.receive at b) = omega arith
+some_type (written.close at) = omega arith
+some_type (written.wait at) = omega arith
 some_type (written.select at bs) = omega arith
 some_type (written.offer at bs) = omega arith
 some_type (written.seq at s t) = omega arith
@@ -127,6 +129,8 @@ mutual
       let long = length-append (written_in t) (written_in u) in
       omega (arith, one, two, long)
   count_most ns xs n (receive at t) = let one = count_most ns xs n t in omega (arith, one)
+  count_most ns xs n (close at t) = let one = count_most ns xs n t in omega (arith, one)
+  count_most ns xs n (wait at t) = let one = count_most ns xs n t in omega (arith, one)
   count_most ns xs n (select at l t) = let one = count_most ns xs n t in omega (arith, one)
   count_most ns xs n (match_with at t bs) =
       let one = count_most ns xs n t in

@@ -14,7 +14,7 @@ use Rattle.fst_types.specs.WrittenTree.{WrittenTree}
 use Rattle.fst_terms.specs.CoreTree.{CoreTree, CoreList}
 use Rattle.fst_terms.specs.ModuleTree.{Declared, family, alias, signature, equation}
 use Rattle.fst_terms.specs.Naming.{place_of}
-use Rattle.fst_terms.specs.TermTree.{TermTree, named, int, bool, char, unit, pair, make, lambda, apply, let_in, split, if_else, case_of, operate, negate, new, send, receive, select, match_with, fork, seq, TermList, no_terms, term, TermArms, no_arms, arm}
+use Rattle.fst_terms.specs.TermTree.{TermTree, named, int, bool, char, unit, pair, make, lambda, apply, let_in, split, if_else, case_of, operate, negate, new, send, receive, close, wait, select, match_with, fork, seq, TermList, no_terms, term, TermArms, no_arms, arm}
 use Rattle.fst_terms.specs.Variables.{AreOthersClosed, type_numbers, all_type_numbers, arm_type_numbers, global_numbers}
 use Rattle.fst_terms.specs.declared.binder.Binder.{Binder}
 use Rattle.fst_terms.specs.declared.global.GlobalEntry.{GlobalEntry}
@@ -119,6 +119,8 @@ module _ (ns : Numbers) where
     numbers_are xs n (send at t u) = two_numbers n (written_in t) (written_in u) _ _ (numbers_are xs n t)
         (numbers_are xs (n + length (written_in t)) u)
     numbers_are xs n (receive at t) = numbers_are xs n t
+    numbers_are xs n (close at t) = numbers_are xs n t
+    numbers_are xs n (wait at t) = numbers_are xs n t
     numbers_are xs n (select at l t) = numbers_are xs n t
     numbers_are xs n (match_with at t bs) = two_numbers n (written_in t) (written_in_arms bs) _ _ (numbers_are xs n t)
         (arm_numbers_are xs (n + length (written_in t)) bs)

@@ -10,7 +10,7 @@ use Rattle.fst_terms.specs.Filled.{HasArm, BindOne, IsFilled, AreFilled, HaveArm
 use Rattle.fst_terms.specs.InRange as core
 use Rattle.fst_terms.specs.InRange.{maker_named, maker_of, HasFields, AreNumbersBelow, HasCoreArm, Bounds, IsInRange, AreInRange, AreCasesInRange, AreMatchesInRange}
 use Rattle.fst_terms.specs.Naming.{place_of, or_else, is_there}
-use Rattle.fst_terms.specs.TermTree.{TermTree, named, int, bool, char, unit, pair, make, lambda, apply, let_in, split, if_else, case_of, operate, negate, new, send, receive, select, match_with, fork, seq, TermList, no_terms, term, TermArms, no_arms, arm}
+use Rattle.fst_terms.specs.TermTree.{TermTree, named, int, bool, char, unit, pair, make, lambda, apply, let_in, split, if_else, case_of, operate, negate, new, send, receive, close, wait, select, match_with, fork, seq, TermList, no_terms, term, TermArms, no_arms, arm}
 use Rattle.fst_scopes.specs.declared.fault.NameFault.TheVariants.{Arity}
 use Rattle.fst_scopes.specs.Faults.{is_among, unless_there, type_faults}
 use Rattle.fst_scopes.specs.Twice.{names}
@@ -186,6 +186,8 @@ module _ (s : Surroundings) (ns : Numbers) (families : List Family) (fits : Fits
           in_range xs (n + length (written_in t)) u two.1 filled.1 (right_low n types (written_in t) (written_in u) low),
         )
     in_range xs n (receive at t) e filled low = in_range xs n t e filled low
+    in_range xs n (close at t) e filled low = in_range xs n t e filled low
+    in_range xs n (wait at t) e filled low = in_range xs n t e filled low
     in_range xs n (select at l t) e filled low = in_range xs n t e filled low
     in_range xs n (match_with at t bs) e filled low =
         let two = none_named (term_faults s xs t) (matches_faults s xs bs) e in (

@@ -13,7 +13,7 @@ use Rattle.fst_types.specs.declared.kind.Kind.{Kind}
 use Rattle.fst_terms.specs.Filled.{HaveTypesFilled, IsFilled, AreFilled, HaveArmsFilled, HaveFieldsFilled, IsModuleFilled}
 use Rattle.fst_terms.specs.ModuleTree.{Maker, Declared, family, alias, signature, equation}
 use Rattle.fst_terms.specs.Naming.{Scope, place, type_of}
-use Rattle.fst_terms.specs.TermTree.{TermTree, named, int, bool, char, unit, pair, make, lambda, apply, let_in, split, if_else, case_of, operate, negate, new, send, receive, select, match_with, fork, seq, TermList, no_terms, term, TermArms, no_arms, arm}
+use Rattle.fst_terms.specs.TermTree.{TermTree, named, int, bool, char, unit, pair, make, lambda, apply, let_in, split, if_else, case_of, operate, negate, new, send, receive, close, wait, select, match_with, fork, seq, TermList, no_terms, term, TermArms, no_arms, arm}
 use Rattle.fst_terms.specs.declared.binder.Binder.{Binder}
 use Rattle.fst_scopes.specs.Aliases.{StandsFor, alias as stands_alias, Known, IsKnown}
 use Rattle.fst_scopes.specs.Faults.{unbound, too_large, type_faults}
@@ -110,6 +110,8 @@ module _ (s : Surroundings) where
         let two = none_named (term_faults s xs t) (term_faults s xs u) e in
         both_sound (written_in t) (written_in u) (uses_sound xs t two.0 filled.0) (uses_sound xs u two.1 filled.1)
     uses_sound xs (receive at t) e filled = uses_sound xs t e filled
+    uses_sound xs (close at t) e filled = uses_sound xs t e filled
+    uses_sound xs (wait at t) e filled = uses_sound xs t e filled
     uses_sound xs (select at l t) e filled = uses_sound xs t e filled
     uses_sound xs (match_with at t bs) e filled =
         let two = none_named (term_faults s xs t) (matches_faults s xs bs) e in

@@ -11,7 +11,7 @@ use Rattle.fst_types.specs.declared.kind.Kind.{Kind}
 use Rattle.fst_terms.specs.CoreTree.{CoreTree, CoreList}
 use Rattle.fst_terms.specs.ModuleTree.{Declared}
 use Rattle.fst_terms.specs.Naming.{place_of, type_of}
-use Rattle.fst_terms.specs.TermTree.{TermTree, named, int, bool, char, unit, pair, make, lambda, apply, let_in, split, if_else, case_of, operate, negate, new, send, receive, select, match_with, fork, seq, TermList, no_terms, term, TermArms, no_arms, arm}
+use Rattle.fst_terms.specs.TermTree.{TermTree, named, int, bool, char, unit, pair, make, lambda, apply, let_in, split, if_else, case_of, operate, negate, new, send, receive, close, wait, select, match_with, fork, seq, TermList, no_terms, term, TermArms, no_arms, arm}
 use Rattle.fst_terms.specs.Variables.{IsTypeOver, AreTypesOver, HasTypesOver, HaveTypesOver, HaveArmTypesOver}
 use Rattle.fst_terms.specs.declared.binder.Binder.{Binder}
 use Rattle.fst_scopes.specs.Aliases.{StandsFor, alias as stands_alias, Known, IsKnown}
@@ -202,6 +202,8 @@ module _ (types : List Tree) (v : ℕ) (ns : Numbers) where
     term_over xs n (send at t u) h = of_two n (written_in t) (written_in u) (term_over xs n t)
         (term_over xs (n + length (written_in t)) u) h
     term_over xs n (receive at t) h = term_over xs n t h
+    term_over xs n (close at t) h = term_over xs n t h
+    term_over xs n (wait at t) h = term_over xs n t h
     term_over xs n (select at l t) h = term_over xs n t h
     term_over xs n (match_with at t bs) h = of_two n (written_in t) (written_in_arms bs) (term_over xs n t)
         (arms_over xs (n + length (written_in t)) bs) h

@@ -10,7 +10,7 @@ use Rattle.std.specs.declared.vec.Vec.{Vec}
 use Rattle.std.specs.declared.alloc.Global.{Global}
 use Rattle.indexmap.specs.IndexMap.{insert_entry}
 use Rattle.fst_types.specs.declared.kind.Use.TheVariants.{Many, Once}
-use Rattle.fst_types.specs.Tree.{Tree, skip, send, receive, select, offer, seq, rec, back, var, plain, arrow, pair, named, Branches, none, branch}
+use Rattle.fst_types.specs.Tree.{Tree, skip, send, receive, close, wait, select, offer, seq, rec, back, var, plain, arrow, pair, named, Branches, none, branch}
 use Rattle.fst_types.specs.Size.{nodes, nodes_all}
 use Rattle.fst_parts.specs.declared.forms.Form.{Form}
 use Rattle.fst_parts.specs.declared.forms.Form.TheVariants as forms
@@ -41,6 +41,8 @@ mutual
   counts_of_tree skip = refl
   counts_of_tree (send b) = refl
   counts_of_tree (receive b) = refl
+  counts_of_tree close = refl
+  counts_of_tree wait = refl
   counts_of_tree (select cs) = ap (wrap_counts forms.Select) (counts_of_branches cs)
   counts_of_tree (offer cs) = ap (wrap_counts forms.Offer) (counts_of_branches cs)
   counts_of_tree (seq s r) = λ i. fork_counts forms.Seq (counts_of_tree s i) (counts_of_tree r i)

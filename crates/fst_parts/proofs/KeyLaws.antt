@@ -226,6 +226,8 @@ apart keys at x y m n h k e f differ = differ (sym e ∙ sym (marked keys at x h
 same_form : (f g : Form) → form_number f ≡ form_number g → f ≡ g
 same_form forms.Send forms.Send e = refl
 same_form forms.Receive forms.Receive e = refl
+same_form forms.Close forms.Close e = refl
+same_form forms.Wait forms.Wait e = refl
 same_form forms.Select forms.Select e = refl
 same_form forms.Offer forms.Offer e = refl
 same_form forms.Seq forms.Seq e = refl

@@ -1,5 +1,5 @@
 -- What other crates cite of labels, and of parts and their numbers.
-use Rattle.std.proofs.Common.{◌≡◌, ◌<◌, ◌+◌, ℕ, List, [], ◌++◌, length, drop, get_or, true}
+use Rattle.std.proofs.Common.{◌≡◌, ◌<◌, ◌+◌, ℕ, List, [], ◌++◌, length, drop, get_or}
 use Rattle.fst_base.specs.Order.{IsRising}
 use Rattle.fst_types.specs.ModelView.{branches_of}
 use Rattle.fst_types.specs.Order.{label_cmp}

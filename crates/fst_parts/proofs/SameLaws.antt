@@ -8,7 +8,7 @@ use Rattle.fst_types.specs.declared.base.Base.TheVariants.{Int, Bool as Truth, C
 use Rattle.fst_types.specs.declared.kind.Use.{Use}
 use Rattle.fst_types.specs.declared.kind.Use.TheVariants.{Many, Once}
 use Rattle.fst_types.specs.Order.{base_number}
-use Rattle.fst_types.specs.Tree.{Tree, skip, send, receive, select, offer, seq, rec, back, var, plain, arrow, pair, named, Branches, none, branch}
+use Rattle.fst_types.specs.Tree.{Tree, skip, send, receive, close, wait, select, offer, seq, rec, back, var, plain, arrow, pair, named, Branches, none, branch}
 use Rattle.fst_base.proofs.Bools.{same_text}
 use Rattle.fst_parts.specs.Same.{same_base, same_use, same_tree, same_branches}
 
@@ -37,6 +37,8 @@ mutual
   same_tree-same skip skip e = refl
   same_tree-same (send a) (send b) e = ap send (base-same a b e)
   same_tree-same (receive a) (receive b) e = ap receive (base-same a b e)
+  same_tree-same close close e = refl
+  same_tree-same wait wait e = refl
   same_tree-same (select bs) (select cs) e = ap select (branches-same bs cs e)
   same_tree-same (offer bs) (offer cs) e = ap offer (branches-same bs cs e)
   same_tree-same (seq s r) (seq t u) e =
@@ -68,6 +70,8 @@ mutual
   same_tree-itself skip = refl
   same_tree-itself (send b) = base-itself b
   same_tree-itself (receive b) = base-itself b
+  same_tree-itself close = refl
+  same_tree-itself wait = refl
   same_tree-itself (select bs) = branches-itself bs
   same_tree-itself (offer bs) = branches-itself bs
   same_tree-itself (seq s r) = λ i. same_tree-itself s i && same_tree-itself r i

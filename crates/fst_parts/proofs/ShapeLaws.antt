@@ -4,15 +4,18 @@ use base.Stored.{Gv, gnil, gnum, gcons}
 use Rattle.fst_types.specs.declared.base.Base.{Base}
 use Rattle.fst_types.specs.declared.base.Base.TheVariants.{Int, Bool as Truth, Char, Unit as Nothing}
 use Rattle.fst_types.specs.declared.kind.Use.TheVariants.{Many, Once}
-use Rattle.fst_types.specs.Tree.{Tree, skip, send, receive, select, offer, seq, rec, back, var, plain, arrow, pair, named, Branches, none, branch}
+use Rattle.fst_types.specs.Tree.{Tree, skip, send, receive, close, wait, select, offer, seq, rec, back, var, plain, arrow, pair, named, Branches, none, branch}
 use Rattle.fst_types.specs.ModelCode.{code_of, code_of_all, name_code, base_code, tree_code}
 use Rattle.fst_types.specs.Order.{base_number}
+use Rattle.fst_parts.specs.declared.forms.Form.TheVariants as forms
 use Rattle.fst_parts.specs.Keys.{form_number}
 use Rattle.fst_parts.specs.Shapes.{Shape, end, leaf, wrap, fork, link, shape_of, shape_of_all}
 
 -- the code of a shape
 abbrev code_by : Shape → Gv
 code_by end = gnil
+code_by (leaf forms.Close holds) = gcons (gnum 13) (gcons gnil gnil)
+code_by (leaf forms.Wait holds) = gcons (gnum 14) (gcons gnil gnil)
 code_by (leaf form holds) = gcons (gnum (form_number form)) (gcons (gnum holds) gnil)
 code_by (wrap form x) = gcons (gnum (form_number form)) (gcons (code_by x) gnil)
 code_by (fork form x y) = gcons (gnum (form_number form)) (gcons (code_by x) (code_by y))
@@ -30,6 +33,8 @@ mutual
   code_is skip = refl
   code_is (send b) = ap (λ c. gcons (gnum 0) (gcons c gnil)) (base_is b)
   code_is (receive b) = ap (λ c. gcons (gnum 1) (gcons c gnil)) (base_is b)
+  code_is close = refl
+  code_is wait = refl
   code_is (select cs) = ap (λ c. gcons (gnum 2) (gcons c gnil)) (code_is_all cs)
   code_is (offer cs) = ap (λ c. gcons (gnum 3) (gcons c gnil)) (code_is_all cs)
   code_is (seq s r) = λ i. gcons (gnum 4) (gcons (code_is s i) (code_is r i))

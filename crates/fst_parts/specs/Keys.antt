@@ -32,6 +32,8 @@ second keys at = number_in keys at 2
 abbrev pub form_number : Form → ℕ
 form_number forms.Send = 0
 form_number forms.Receive = 1
+form_number forms.Close = 13
+form_number forms.Wait = 14
 form_number forms.Select = 2
 form_number forms.Offer = 3
 form_number forms.Seq = 4

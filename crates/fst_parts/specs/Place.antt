@@ -1,6 +1,6 @@
 -- Where a part of a type stands.
 use Rattle.std.specs.Prelude.{ℕ, zero, suc, ◌+◌, ◌-◌, max, nat_eq, List, [], ◌∷◌, Bool, if◌then◌else◌}
-use Rattle.fst_types.specs.Tree.{Tree, skip, send, receive, select, offer, seq, rec, back, var, plain, arrow, pair, named, Branches, none, branch}
+use Rattle.fst_types.specs.Tree.{Tree, skip, send, receive, close, wait, select, offer, seq, rec, back, var, plain, arrow, pair, named, Branches, none, branch}
 
 abbrev mutual
   -- how many binders around a type its free recursion variables ask for
@@ -8,6 +8,8 @@ abbrev mutual
   open_depth skip = 0
   open_depth (send b) = 0
   open_depth (receive b) = 0
+  open_depth close = 0
+  open_depth wait = 0
   open_depth (select cs) = open_depths cs
   open_depth (offer cs) = open_depths cs
   open_depth (seq s r) = max (open_depth s) (open_depth r)

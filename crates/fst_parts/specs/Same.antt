@@ -5,7 +5,7 @@ use Rattle.fst_types.specs.declared.base.Base.{Base}
 use Rattle.fst_types.specs.declared.kind.Use.{Use}
 use Rattle.fst_types.specs.declared.kind.Use.TheVariants.{Many, Once}
 use Rattle.fst_types.specs.Order.{base_number}
-use Rattle.fst_types.specs.Tree.{Tree, skip, send, receive, select, offer, seq, rec, back, var, plain, arrow, pair, named, Branches, none, branch}
+use Rattle.fst_types.specs.Tree.{Tree, skip, send, receive, close, wait, select, offer, seq, rec, back, var, plain, arrow, pair, named, Branches, none, branch}
 
 -- two base types are one
 abbrev pub same_base : Base → Base → Bool
@@ -24,6 +24,8 @@ abbrev mutual
   same_tree skip skip = true
   same_tree (send a) (send b) = same_base a b
   same_tree (receive a) (receive b) = same_base a b
+  same_tree close close = true
+  same_tree wait wait = true
   same_tree (select bs) (select cs) = same_branches bs cs
   same_tree (offer bs) (offer cs) = same_branches bs cs
   same_tree (seq s r) (seq t u) = same_tree s t && same_tree r u

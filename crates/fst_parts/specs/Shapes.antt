@@ -1,7 +1,7 @@
 -- Trees as trees of few forms of node.
 use Rattle.std.specs.Prelude.{ℕ, List}
 use Rattle.fst_types.specs.declared.kind.Use.TheVariants.{Many, Once}
-use Rattle.fst_types.specs.Tree.{Tree, skip, send, receive, select, offer, seq, rec, back, var, plain, arrow, pair, named, Branches, none, branch}
+use Rattle.fst_types.specs.Tree.{Tree, skip, send, receive, close, wait, select, offer, seq, rec, back, var, plain, arrow, pair, named, Branches, none, branch}
 use Rattle.fst_types.specs.Order.{base_number}
 use Rattle.fst_parts.specs.declared.forms.Form.{Form}
 use Rattle.fst_parts.specs.declared.forms.Form.TheVariants as forms
@@ -20,6 +20,8 @@ abbrev mutual
   shape_of skip = end
   shape_of (send b) = leaf forms.Send (base_number b)
   shape_of (receive b) = leaf forms.Receive (base_number b)
+  shape_of close = leaf forms.Close 0
+  shape_of wait = leaf forms.Wait 0
   shape_of (select cs) = wrap forms.Select (shape_of_all cs)
   shape_of (offer cs) = wrap forms.Offer (shape_of_all cs)
   shape_of (seq s r) = fork forms.Seq (shape_of s) (shape_of r)

@@ -6,6 +6,8 @@ ghost use Rattle.fst_parts.specs.Keys.{form_number, node_mark};
 pub(crate) enum Form {
     Send,
     Receive,
+    Close,
+    Wait,
     Select,
     Offer,
     Seq,
@@ -27,6 +29,8 @@ impl Form {
         match self {
             Form::Send => 0,
             Form::Receive => 1,
+            Form::Close => 13,
+            Form::Wait => 14,
             Form::Select => 2,
             Form::Offer => 3,
             Form::Seq => 4,

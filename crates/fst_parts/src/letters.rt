@@ -35,6 +35,8 @@ fn add_labels(alloc: Global, letters: &mut Vec<Label>, t: &Ty) -> Result<(), All
         TyForm::Skip => Ok(()),
         TyForm::Send(base) => insert(letters, Label::Send(*base)),
         TyForm::Receive(base) => insert(letters, Label::Receive(*base)),
+        TyForm::Close => insert(letters, Label::Close),
+        TyForm::Wait => insert(letters, Label::Wait),
         TyForm::Var(k) => insert(letters, Label::Var(*k)),
         TyForm::Select(branches) => add_branches(alloc, letters, branches, false),
         TyForm::Offer(branches) => add_branches(alloc, letters, branches, true),
@@ -112,11 +114,13 @@ fn is_name(label: &Label) -> bool
         Label::Receive(_) => true,
         Label::Select(_) => false,
         Label::Offer(_) => false,
+        Label::Close => true,
+        Label::Wait => true,
         Label::Var(_) => true,
     }
 }
 
-/// The labels of messages and variables among these.
+/// The labels of messages and variables, and Close and Wait, among these.
 pub fn names_among(alloc: Global, letters: &[Label]) -> Result<Vec<Label>, AllocError>
     ensures { IfOk result (λ n. n.items ≡ names letters.now) }
 {

@@ -139,6 +139,8 @@ fn number_of(alloc: Global, trees: &mut Trees, t: &Ty) -> Result<usize, AllocErr
         TyForm::Skip => number_end(alloc, trees),
         TyForm::Send(base) => number_leaf(alloc, trees, Form::Send, base.number()),
         TyForm::Receive(base) => number_leaf(alloc, trees, Form::Receive, base.number()),
+        TyForm::Close => number_leaf(alloc, trees, Form::Close, 0),
+        TyForm::Wait => number_leaf(alloc, trees, Form::Wait, 0),
         TyForm::Select(branches) => number_choice(alloc, trees, Form::Select, branches),
         TyForm::Offer(branches) => number_choice(alloc, trees, Form::Offer, branches),
         TyForm::Seq(first, second) => number_both(alloc, trees, Form::Seq, first, second),

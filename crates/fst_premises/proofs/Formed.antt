@@ -1,6 +1,6 @@
 -- Well-formed types: what a pair of them is, their labels, and that a closed one is well formed over any variables.
 use Rattle.std.proofs.Common.{◌∙◌, zero, suc, List, [], refl, sym}
-use Rattle.fst_types.specs.Tree.{Tree, skip, send, receive, select, offer, seq, rec, back, var, plain, arrow, pair, named, Branches, none, branch}
+use Rattle.fst_types.specs.Tree.{Tree, skip, send, receive, close, wait, select, offer, seq, rec, back, var, plain, arrow, pair, named, Branches, none, branch}
 use Rattle.fst_types.specs.Order.{AreRising, AreSorted, EachChoiceBelow, IsOrdered, IsSorted}
 use Rattle.fst_types.specs.declared.kind.Kind.{Kind}
 use Rattle.fst_kinds.specs.Kinds.{HasKind, AllSessions}
@@ -31,6 +31,8 @@ mutual
   ordered_sorted skip h = h
   ordered_sorted (send b) h = h
   ordered_sorted (receive b) h = h
+  ordered_sorted close h = h
+  ordered_sorted wait h = h
   ordered_sorted (select bs) h = (rising_sorted bs h.0, all_sorted bs h.1)
   ordered_sorted (offer bs) h = (rising_sorted bs h.0, all_sorted bs h.1)
   ordered_sorted (seq s r) h = (ordered_sorted s h.0, ordered_sorted r h.1)
@@ -56,6 +58,8 @@ mutual
   closed_kind vars skip k h = h
   closed_kind vars (send b) k h = h
   closed_kind vars (receive b) k h = h
+  closed_kind vars close k h = h
+  closed_kind vars wait k h = h
   closed_kind vars (select bs) k h = (closed_kinds vars bs h.0, h.1)
   closed_kind vars (offer bs) k h = (closed_kinds vars bs h.0, h.1)
   closed_kind vars (seq s r) k h = (h.0, h.1, closed_kind vars s _ h.2, closed_kind vars r _ h.3, h.4)

@@ -2,7 +2,7 @@
 use Rattle.std.proofs.Common.{◌≡◌, ℕ, refl}
 use Rattle.fst_terms.specs.ModelCoreView.{core_of}
 use Rattle.fst_terms.specs.declared.core_term.Form.{Form}
-use Rattle.fst_terms.specs.declared.core_term.Form.TheVariants.{Local, GlobalUse, Int, Bool, Char, Unit as Nothing, Pair, Make, Lambda, Apply, Let, Split, If, Case, Operate, Not, New, Send, Receive, Select, Match, Fork, Then}
+use Rattle.fst_terms.specs.declared.core_term.Form.TheVariants.{Local, GlobalUse, Int, Bool, Char, Unit as Nothing, Pair, Make, Lambda, Apply, Let, Split, If, Case, Operate, Not, New, Send, Receive, Close, Wait, Select, Match, Fork, Then}
 use Rattle.fst_premises.specs.Shown.{place}
 
 -- a term begins at the byte that it says
@@ -26,6 +26,8 @@ place_of_core at (Not t) = refl
 place_of_core at (New a) = refl
 place_of_core at (Send s t) = refl
 place_of_core at (Receive t) = refl
+place_of_core at (Close t) = refl
+place_of_core at (Wait t) = refl
 place_of_core at (Select l t) = refl
 place_of_core at (Match t bs) = refl
 place_of_core at (Fork t) = refl

@@ -16,7 +16,7 @@ use Rattle.fst_kinds.specs.WellFormed.{IsInstantiation, IsWellFormed, IsSession}
 use Rattle.fst_kinds.specs.declared.fault.KindFault.TheVariants.{WrongKind}
 use Rattle.fst_lts.specs.Step.{step}
 use Rattle.fst_lts.specs.Dual.{dual}
-use Rattle.fst_terms.specs.CoreTree.{CoreTree, local, global, int, bool, char, unit, pair, make, lambda, apply, let_in, split, if_else, case_of, operate, negate, new, send, receive, select, match_with, fork, seq}
+use Rattle.fst_terms.specs.CoreTree.{CoreTree, local, global, int, bool, char, unit, pair, make, lambda, apply, let_in, split, if_else, case_of, operate, negate, new, send, receive, close, wait, select, match_with, fork, seq}
 use Rattle.fst_terms.specs.declared.binder.Binder.{Binder}
 use Rattle.fst_terms.specs.declared.global.GlobalEntry.{GlobalEntry}
 use Rattle.fst_context.specs.Scope.{Scope, at_or_not}
@@ -49,6 +49,8 @@ place (negate at e) = at
 place (new at k) = at
 place (send at e f) = at
 place (receive at e) = at
+place (close at e) = at
+place (wait at e) = at
 place (select at l e) = at
 place (match_with at e bs) = at
 place (fork at e) = at
@@ -167,6 +169,14 @@ abbrev pub ShowsSelect : ℕ → List ℕ → Tree → CheckFault → Type 0
 ShowsSelect at l t f =
     ((step t (label.Select l) ≡ None) × (f ≡ NoSuchMove at t (move.Select l)))
     ⊎ ((next : Tree) × (step t (label.Select l) ≡ Some next) × IsTooLargeAt at next f)
+
+-- an end of the type can't be closed
+abbrev pub ShowsClose : ℕ → Tree → CheckFault → Type 0
+ShowsClose at t f = (step t label.Close ≡ None) × (f ≡ NoSuchMove at t move.Close)
+
+-- at an end of the type the other side's closing can't be waited for
+abbrev pub ShowsWait : ℕ → Tree → CheckFault → Type 0
+ShowsWait at t f = (step t label.Wait ≡ None) × (f ≡ NoSuchMove at t move.Wait)
 
 -- the type is no data type, or these labels aren't its constructors, each once
 abbrev pub ShowsNoCase : List Family → ℕ → Tree → List (List ℕ) → CheckFault → Type 0

@@ -117,6 +117,8 @@ fn is_offer(a: &Label) -> bool
         Label::Send(_payload) => false,
         Label::Receive(_payload) => false,
         Label::Select(_name) => false,
+        Label::Close => false,
+        Label::Wait => false,
         Label::Var(_variable) => false,
     }
 }

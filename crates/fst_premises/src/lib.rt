@@ -22,8 +22,8 @@ pub use moving::offered;
 pub use parameters::{Parameter, enter_parameter, parameter_of, pop_parameter};
 pub use parts::{function_parts, may_be_dropped, pair_parts};
 pub use rows::{
-    begin_function, branches, forked_row, function_row, pair_row, received_row, selected_row,
-    sent_row, sequence,
+    awaited_row, begin_function, branches, closed_row, forked_row, function_row, pair_row,
+    received_row, selected_row, sent_row, sequence,
 };
 pub use scene::{Scene, fields_of, place_of, type_at};
 pub use signs::{fixed_operand, is_comparable, result_of};

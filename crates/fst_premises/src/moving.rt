@@ -1,17 +1,17 @@
 // The types after the moves that terms ask of ends.
 
-ghost use Rattle.std.specs.Prelude.{◌≡◌, Contains, IfOk, IfErr, IfSome, IsSome, MatchOption, Some};
+ghost use Rattle.std.specs.Prelude.{◌≡◌, Contains, IfOk, IfErr, IfSome, IsSome, MatchOption, OnOk, Some};
 ghost use Rattle.fst_types.specs.Tree as tree;
 ghost use Rattle.fst_types.specs.Tree.{Tree};
 ghost use Rattle.fst_types.specs.declared.base.Base.{Base};
 ghost use Rattle.fst_types.specs.declared.label.Label.TheVariants as label;
 ghost use Rattle.fst_lts.specs.Step.{step};
 ghost use Rattle.fst_premises.specs.Checks.{IsInSize};
-ghost use Rattle.fst_premises.specs.Shown.{IsTooLargeAt, ShowsReceive, ShowsSelect, ShowsSend, IsShown};
+ghost use Rattle.fst_premises.specs.Shown.{IsTooLargeAt, ShowsClose, ShowsReceive, ShowsSelect, ShowsSend, ShowsWait, IsShown};
 
 use crate::builders::{base, pair_of};
 use crate::fault::CheckFault;
-use fst_lts::{StepFault, labels, step_within_limit};
+use fst_lts::{StepFault, labels, step, step_within_limit};
 use fst_types::{Base, Label, Move, Name, Ty, TyForm, copy};
 use std::alloc::Global;
 
@@ -54,6 +54,8 @@ fn payload(a: &Label) -> Option<Base>
         Label::Send(_payload) => None,
         Label::Select(_name) => None,
         Label::Offer(_name) => None,
+        Label::Close => None,
+        Label::Wait => None,
         Label::Var(_variable) => None,
     }
 }
@@ -99,6 +101,30 @@ pub(crate) fn received(alloc: Global, at: u32, channel: &Ty) -> Result<Ty, Check
     match received_payload(&found) {
         Some(payload) => received_at(alloc, at, channel, payload),
         None => Err(CheckFault::NoSuchMove(at, copy(alloc, channel)?, Move::Receive)),
+    }
+}
+
+/// An end that can be closed.
+pub(crate) fn closed(alloc: Global, at: u32, channel: &Ty) -> Result<(), CheckFault>
+    ensures closed { OnOk result
+        ((next : Tree) × (step channel.now label.Close ≡ Some next)) }
+    ensures refused { IfErr result (λ f. IsShown f (ShowsClose at channel.now f)) }
+{
+    match step(alloc, channel, &Label::Close)? {
+        Some(_next) => Ok(()),
+        None => Err(CheckFault::NoSuchMove(at, copy(alloc, channel)?, Move::Close)),
+    }
+}
+
+/// An end at which the other side's closing can be waited for.
+pub(crate) fn awaited(alloc: Global, at: u32, channel: &Ty) -> Result<(), CheckFault>
+    ensures awaited { OnOk result
+        ((next : Tree) × (step channel.now label.Wait ≡ Some next)) }
+    ensures refused { IfErr result (λ f. IsShown f (ShowsWait at channel.now f)) }
+{
+    match step(alloc, channel, &Label::Wait)? {
+        Some(_next) => Ok(()),
+        None => Err(CheckFault::NoSuchMove(at, copy(alloc, channel)?, Move::Wait)),
     }
 }
 

@@ -12,12 +12,12 @@ ghost use Rattle.fst_derivations.specs.Deriv.{deriv_of, type_of, row, one, two, 
 ghost use Rattle.fst_derivations.specs.Parts.{HasUse, IsFormed};
 ghost use Rattle.fst_premises.specs.Checks.{IsInSize};
 ghost use Rattle.fst_premises.specs.Scopes.{inside};
-ghost use Rattle.fst_premises.specs.Shown.{IsShown, IsTooLargeAt, ShowsDropped, ShowsReceive, ShowsSelect, ShowsSend};
+ghost use Rattle.fst_premises.specs.Shown.{IsShown, IsTooLargeAt, ShowsClose, ShowsDropped, ShowsReceive, ShowsSelect, ShowsSend, ShowsWait};
 
 use crate::binding::begin_body;
 use crate::builders::{arrow_of, base, pair_of};
 use crate::fault::CheckFault;
-use crate::moving::{received, selected, sent};
+use crate::moving::{awaited, closed, received, selected, sent};
 use crate::parts::may_be_dropped;
 use crate::scene::{Scene, fits, type_at};
 use fst_context::Context;
@@ -136,6 +136,28 @@ pub fn received_row(alloc: Global, at: u32, d: Derivation) -> Result<Derivation,
 {
     let t = received(alloc, at, d.type_of())?;
     Ok(Derivation::with_one(alloc, t, d)?)
+}
+
+/// The row of an end that is closed.
+pub fn closed_row(alloc: Global, at: u32, d: Derivation) -> Result<Derivation, CheckFault>
+    ensures made { IfOk result (λ w. (next : Tree) ×
+        (step (type_of (deriv_of d)) label.Close ≡ Some next) ×
+        (deriv_of w ≡ row (tree.plain Nothing) (one (deriv_of d)))) }
+    ensures refused { IfErr result (λ f. IsShown f (ShowsClose at (type_of (deriv_of d)) f)) }
+{
+    closed(alloc, at, d.type_of())?;
+    Ok(Derivation::with_one(alloc, base(Base::Unit), d)?)
+}
+
+/// The row of an end at which the other side's closing is waited for.
+pub fn awaited_row(alloc: Global, at: u32, d: Derivation) -> Result<Derivation, CheckFault>
+    ensures made { IfOk result (λ w. (next : Tree) ×
+        (step (type_of (deriv_of d)) label.Wait ≡ Some next) ×
+        (deriv_of w ≡ row (tree.plain Nothing) (one (deriv_of d)))) }
+    ensures refused { IfErr result (λ f. IsShown f (ShowsWait at (type_of (deriv_of d)) f)) }
+{
+    awaited(alloc, at, d.type_of())?;
+    Ok(Derivation::with_one(alloc, base(Base::Unit), d)?)
 }
 
 /// The row of a branch that is selected on an end.

@@ -7,7 +7,7 @@ use Rattle.fst_types.specs.WrittenTree.{WrittenTree}
 use Rattle.fst_terms.specs.declared.binder.Binder.{Binder}
 use Rattle.fst_terms.specs.declared.term.Op.{Op}
 use Rattle.fst_terms.specs.declared.term.Op.TheVariants.{Add, Subtract, Multiply, Equal, Unequal, Less, AtMost, Greater, AtLeast, And, Or}
-use Rattle.fst_terms.specs.TermTree.{TermTree, named, int, bool, char, unit, pair, make, lambda, apply, let_in, split, if_else, case_of, operate, negate, new, send, receive, select, match_with, fork, seq, TermList, no_terms, term, TermArms, no_arms, arm}
+use Rattle.fst_terms.specs.TermTree.{TermTree, named, int, bool, char, unit, pair, make, lambda, apply, let_in, split, if_else, case_of, operate, negate, new, send, receive, close, wait, select, match_with, fork, seq, TermList, no_terms, term, TermArms, no_arms, arm}
 use Rattle.fst_terms.specs.ModuleTree.{Maker, Declared, family, alias, signature, equation}
 pub use Rattle.fst_value.specs.Texts.{truth_text, character_text}
 use Rattle.fst_type_print.specs.Texts.{arrow_text, kind_text, in_parens, in_parens_if, in_braces, joined_text}
@@ -67,6 +67,8 @@ abbrev mutual
   term_text (send at s t) = codes "send " ++ in_parens_if (is_below atom_rank s)
       (term_text s) ++ codes " " ++ in_parens_if (is_below atom_rank t) (term_text t)
   term_text (receive at t) = codes "receive " ++ in_parens_if (is_below atom_rank t) (term_text t)
+  term_text (close at t) = codes "close " ++ in_parens_if (is_below atom_rank t) (term_text t)
+  term_text (wait at t) = codes "wait " ++ in_parens_if (is_below atom_rank t) (term_text t)
   term_text (select at l t) = codes "select " ++ l ++ codes " " ++ in_parens_if
       (is_below atom_rank t) (term_text t)
   term_text (match_with at t bs) = codes "match " ++ term_text t ++ codes " with " ++ in_braces

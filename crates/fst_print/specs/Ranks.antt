@@ -2,7 +2,7 @@
 use Rattle.std.specs.Prelude.{ℕ, nat_lt, Bool, true, false}
 use Rattle.fst_terms.specs.declared.term.Op.{Op}
 use Rattle.fst_terms.specs.declared.term.Op.TheVariants.{Add, Subtract, Multiply, Equal, Unequal, Less, AtMost, Greater, AtLeast, And, Or}
-use Rattle.fst_terms.specs.TermTree.{TermTree, named, int, bool, char, unit, pair, make, lambda, apply, let_in, split, if_else, case_of, operate, negate, new, send, receive, select, match_with, fork, seq, TermList, no_terms, term}
+use Rattle.fst_terms.specs.TermTree.{TermTree, named, int, bool, char, unit, pair, make, lambda, apply, let_in, split, if_else, case_of, operate, negate, new, send, receive, close, wait, select, match_with, fork, seq, TermList, no_terms, term}
 
 -- a form that stands only where a whole term does: a function, `let`, `if`, `case`, `match` and `;`
 abbrev pub whole_rank : ℕ
@@ -79,6 +79,8 @@ rank (negate at t) = negation_rank
 rank (new at a) = application_rank
 rank (send at s t) = application_rank
 rank (receive at t) = application_rank
+rank (close at t) = application_rank
+rank (wait at t) = application_rank
 rank (select at l t) = application_rank
 rank (match_with at t bs) = whole_rank
 rank (fork at t) = application_rank

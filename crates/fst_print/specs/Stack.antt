@@ -1,6 +1,6 @@
 -- What is still to be written of a term.
 use Rattle.std.specs.Prelude.{ℕ, ◌+◌, List, [], ◌∷◌, ◌++◌, codes}
-use Rattle.fst_terms.specs.TermTree.{TermTree, named, int, bool, char, unit, pair, make, lambda, apply, let_in, split, if_else, case_of, operate, negate, new, send, receive, select, match_with, fork, seq, TermList, no_terms, term, TermArms, no_arms, arm}
+use Rattle.fst_terms.specs.TermTree.{TermTree, named, int, bool, char, unit, pair, make, lambda, apply, let_in, split, if_else, case_of, operate, negate, new, send, receive, close, wait, select, match_with, fork, seq, TermList, no_terms, term, TermArms, no_arms, arm}
 use Rattle.fst_terms.specs.ModelView.{terms_of, arms_of}
 use Rattle.fst_print.specs.declared.stack.Piece.{Piece}
 use Rattle.fst_print.specs.declared.stack.Piece.TheVariants.{Text, Term, Arguments, Arms, LaterArms}
@@ -49,6 +49,8 @@ abbrev mutual
   term_weight (new at a) = form_weight
   term_weight (send at s t) = form_weight + (term_weight s + term_weight t)
   term_weight (receive at t) = form_weight + term_weight t
+  term_weight (close at t) = form_weight + term_weight t
+  term_weight (wait at t) = form_weight + term_weight t
   term_weight (select at l t) = form_weight + term_weight t
   term_weight (match_with at t bs) = form_weight + (term_weight t + arms_weight bs)
   term_weight (fork at t) = form_weight + term_weight t

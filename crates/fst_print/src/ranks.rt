@@ -106,6 +106,8 @@ fn rank(t: &SourceTerm) -> u8
         SourceForm::New(_) => APPLICATION,
         SourceForm::Send(_, _) => APPLICATION,
         SourceForm::Receive(_) => APPLICATION,
+        SourceForm::Close(_) => APPLICATION,
+        SourceForm::Wait(_) => APPLICATION,
         SourceForm::Select(_, _) => APPLICATION,
         SourceForm::Match(_, _) => WHOLE,
         SourceForm::Fork(_) => APPLICATION,

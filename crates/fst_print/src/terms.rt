@@ -45,6 +45,8 @@ fn unfold<'a>(text: &mut String, stack: &mut Stack<'a>, t: &'a SourceTerm) -> Re
         SourceForm::New(of) => push_new(text, of),
         SourceForm::Send(value, channel) => unfold_send(text, stack, value, channel),
         SourceForm::Receive(end) => unfold_behind(text, stack, "receive ", end, is_no_atom(end)),
+        SourceForm::Close(end) => unfold_behind(text, stack, "close ", end, is_no_atom(end)),
+        SourceForm::Wait(end) => unfold_behind(text, stack, "wait ", end, is_no_atom(end)),
         SourceForm::Select(label, channel) => unfold_select(text, stack, label, channel),
         SourceForm::Match(end, arms) => unfold_choice(text, stack, "match ", end, " with {", arms),
         SourceForm::Fork(task) => unfold_behind(text, stack, "fork ", task, is_no_atom(task)),

@@ -7,7 +7,7 @@ use Rattle.fst_types.specs.declared.event.Event.{Event}
 use Rattle.fst_machine.specs.declared.request.Request.{Request}
 use Rattle.fst_machine.specs.declared.request.Request.TheVariants as request
 use Rattle.fst_machine.specs.declared.request.Answer.TheVariants.{Go, Made, Forked}
-use Rattle.fst_machine.specs.Machine.{Program, State, Pause, stuck, calls, uses, makes, forks, puts, gets, matches, ended, asked, after, child}
+use Rattle.fst_machine.specs.Machine.{Program, State, Pause, stuck, calls, uses, makes, forks, puts, gets, closes, waits, matches, ended, asked, after, child}
 use Rattle.fst_runs.proofs.Laws.{new_pause}
 use Rattle.fst_process.specs.Kept.{end_of}
 
@@ -20,6 +20,8 @@ step_next m (makes k fs) e = absurd (cc e)
 step_next m (forks f env fs) e = absurd (cc e)
 step_next m (puts y ew fs) e = absurd (cc e)
 step_next m (gets y fs) e = absurd (cc e)
+step_next m (closes y fs) e = absurd (cc e)
+step_next m (waits y fs) e = absurd (cc e)
 step_next m (matches y bs env fs) e = absurd (cc e)
 step_next m (ended v) e = absurd (cc e)
 
@@ -40,6 +42,8 @@ fork_next m (makes k fs) e = absurd (cc e)
 fork_next m (forks f env fs) e = (_, _, refl, refl)
 fork_next m (puts y ew fs) e = absurd (cc e)
 fork_next m (gets y fs) e = absurd (cc e)
+fork_next m (closes y fs) e = absurd (cc e)
+fork_next m (waits y fs) e = absurd (cc e)
 fork_next m (matches y bs env fs) e = absurd (cc e)
 fork_next m (ended v) e = absurd (cc e)
 

@@ -12,7 +12,7 @@ use Rattle.fst_machine.specs.declared.code.Code.{Code}
 use Rattle.fst_machine.specs.declared.request.Request.{Request}
 use Rattle.fst_machine.specs.declared.request.Request.TheVariants as request
 use Rattle.fst_machine.specs.Values.{Value}
-use Rattle.fst_machine.specs.Machine.{Pause, stuck, calls, uses, makes, forks, puts, gets, matches, ended, asked, pause}
+use Rattle.fst_machine.specs.Machine.{Pause, stuck, calls, uses, makes, forks, puts, gets, closes, waits, matches, ended, asked, pause}
 use Rattle.fst_vm.specs.Running.{code_of}
 use Rattle.fst_vm.specs.Tasks.{HasEnded}
 use Rattle.fst_runs.specs.Configs as runs
@@ -42,6 +42,8 @@ asked_ended (makes k fs) e = absurd (cc e)
 asked_ended (forks f env fs) e = absurd (cc e)
 asked_ended (puts y ew fs) e = absurd (cc e)
 asked_ended (gets y fs) e = absurd (cc e)
+asked_ended (closes y fs) e = absurd (cc e)
+asked_ended (waits y fs) e = absurd (cc e)
 asked_ended (matches y bs env fs) e = absurd (cc e)
 asked_ended (ended v) e = (v, refl)
 

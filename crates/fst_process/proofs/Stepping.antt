@@ -9,7 +9,7 @@ use Rattle.fst_machine.specs.declared.code.Code.{Code}
 use Rattle.fst_machine.specs.declared.request.Request.{Request}
 use Rattle.fst_machine.specs.declared.request.Answer.{Answer}
 use Rattle.fst_machine.specs.declared.request.Answer.TheVariants.{Forked}
-use Rattle.fst_machine.specs.Machine.{Program, State, Pause, stuck, calls, uses, makes, forks, puts, gets, matches, ended, asked, pause, request, after, answered}
+use Rattle.fst_machine.specs.Machine.{Program, State, Pause, stuck, calls, uses, makes, forks, puts, gets, closes, waits, matches, ended, asked, pause, request, after, answered}
 use Rattle.fst_vm.specs.TaskView.{TaskView}
 use Rattle.fst_vm.specs.Tasks.{IsIn, IsFrom, HasNext, Takes, GoesOn, forked_after}
 use Rattle.fst_runs.specs.declared.event.CoreEvent.{CoreEvent}
@@ -40,6 +40,8 @@ takes_none m (makes t fs) a u q e f = sym (ap has_ended (some_same f))
 takes_none m (forks b env fs) a u q e f = sym (ap has_ended (some_same f))
 takes_none m (puts x ev fs) a u q e f = sym (ap has_ended (some_same f))
 takes_none m (gets x fs) a u q e f = sym (ap has_ended (some_same f))
+takes_none m (closes x fs) a u q e f = sym (ap has_ended (some_same f))
+takes_none m (waits x fs) a u q e f = sym (ap has_ended (some_same f))
 takes_none m (matches x bs env fs) a u q e f = sym (ap has_ended (some_same f))
 takes_none m (ended v) a u q e f = absurd (none_some e)
 

@@ -31,9 +31,9 @@ sumTree c = match c with {
     (n + l + r, c) }
 main : Int
 main =
-  let (a, b) = new TreeC in
-  fork (sendTree @Skip (Node 1 (Node 2 Leaf Leaf) Leaf) a);
-  let (n, d) = sumTree @Skip b in n
+  let (a, b) = new (TreeC;Close) in
+  fork (close (sendTree @Close (Node 1 (Node 2 Leaf Leaf) Leaf) a));
+  let (n, d) = sumTree @Wait b in wait d; n
 ";
 
 /// The module that a text stands for.

@@ -124,6 +124,8 @@ fn show(left: u32, written: &Written, text: &mut String) -> Result<(), Fail> {
         WrittenForm::Skip => write!(text, "Skip")?,
         WrittenForm::Send(base) => write!(text, "!{base:?}")?,
         WrittenForm::Receive(base) => write!(text, "?{base:?}")?,
+        WrittenForm::Close => write!(text, "Close")?,
+        WrittenForm::Wait => write!(text, "Wait")?,
         WrittenForm::Plain(base) => write!(text, "{base:?}")?,
         WrittenForm::Named(name) => text.push_str(named(name.as_slice()))?,
         WrittenForm::Select(branches) => show_all(left - 1, "+", branches, text)?,
@@ -228,7 +230,8 @@ forall a:*S, b:1S, c:*T, d : 01 T . a;b ~ (c,d) = 7a:ManySession 13b:OnceSession
 é;A ~ B = 0(0é;3A) ~ 7B
 forall a:2S . a ~ a = syntax at 9
 Skip ~ forall a:*S . a = syntax at 7
-(Int, Int, Int) ~ Int = syntax at 9";
+(Int, Int, Int) ~ Int = syntax at 9
+Close;Wait ~ (Close) = 0(0Close;6Wait) ~ 14Close";
 
 #[test]
 fn texts_are_questions(rt: HostRuntime) -> Result<(), Fail> {

@@ -1,6 +1,6 @@
 -- What other crates cite of reports.
 use Rattle.std.proofs.Common.{ℕ, List, [], All}
-use Rattle.fst_types.specs.Tree.{Tree, skip, send, receive, select, offer, seq, rec, back, var, plain, arrow, pair, named, Branches, none, branch}
+use Rattle.fst_types.specs.Tree.{Tree, skip, send, receive, close, wait, select, offer, seq, rec, back, var, plain, arrow, pair, named, Branches, none, branch}
 use Rattle.fst_types.specs.Named.{IsNamedWithin, AllNamedWithin}
 use Rattle.fst_types.specs.declared.kind.Kind.{Kind}
 use Rattle.fst_types.specs.declared.kind.Use.{Use}
@@ -17,6 +17,8 @@ mutual
   names_none n vars skip u h = tt
   names_none n vars (send b) u h = tt
   names_none n vars (receive b) u h = tt
+  names_none n vars close u h = tt
+  names_none n vars wait u h = tt
   names_none n vars (select bs) u h = all_name_none n vars bs h.0
   names_none n vars (offer bs) u h = all_name_none n vars bs h.0
   names_none n vars (seq s r) u (v, w, i, j, e) = (names_none n vars s v i, names_none n vars r w j)

@@ -1,10 +1,10 @@
 -- A type as parts of it, one after another.
-use Rattle.std.specs.Prelude.{◌≡◌, ℕ, List, [], ◌∷◌, option_map, reverse}
+use Rattle.std.specs.Prelude.{◌≡◌, ℕ, List, [], ◌∷◌, Bool, true, false, Some, None, option_map, reverse, if◌then◌else◌}
 use Rattle.std.specs.List.{sum_by}
 use Rattle.fst_types.specs.Tree.{Tree, skip, seq}
 use Rattle.fst_types.specs.Size.{nodes}
 use Rattle.fst_types.specs.declared.label.Label.{Label}
-use Rattle.fst_lts.specs.Step.{step}
+use Rattle.fst_lts.specs.Step.{step, is_end}
 
 -- a type and others behind it
 abbrev pub followed_by : Tree → List Tree → Tree
@@ -24,10 +24,19 @@ left_in parts = whole (reverse parts)
 abbrev pub MoveAlike : List Tree → List Tree → Type 0
 MoveAlike ss ts = (a : Label) → step (whole ss) a ≡ step (whole ts) a
 
--- these parts move as the type t does, with the rest of them behind
+-- what is left behind a label of a type that went on as t and of others behind that one: nothing, where a protocol ends by it
+abbrev pub left_behind : Label → List Tree → Tree → Tree
+left_behind a rest t = if is_end a then skip else followed_by t rest
+
+-- these parts move as the type t does, and what is left has the rest of them behind, where no protocol ends by the label
 abbrev pub MovesFirst : Tree → List Tree → List Tree → Type 0
-MovesFirst t rest parts = (a : Label) → step (whole parts) a ≡ option_map
-    (λ s. followed_by s rest) (step t a)
+MovesFirst t rest parts = (a : Label) → step (whole parts) a ≡ option_map (left_behind a rest)
+    (step t a)
+
+-- where t, in front of the parts, moves by the label, new parts are what is left behind it; else the parts stay
+abbrev pub GoOn : Tree → Label → List Tree → List Tree → Bool → Type 0
+GoOn t a rest new true = option_map (left_behind a rest) (step t a) ≡ Some (whole new)
+GoOn t a rest new false = (step t a ≡ None) × (new ≡ rest)
 
 -- how many nodes these types have together
 abbrev pub nodes_in : List Tree → ℕ

@@ -38,13 +38,15 @@ abbrev pub label_sign : Bool → List ℕ
 label_sign true = codes "+"
 label_sign false = codes "&"
 
--- an event that an end sends, or else receives: a value, as values are written where there are no data types, or a label
+-- an event that an end sends, or else receives: a value, as values are written where there are no data types, or a label; or
+-- that the channel is closed
 abbrev pub event_text : Bool → Event → List ℕ
 event_text out (event.Int n) = value_sign out ++ value_text [] (int n)
 event_text out (event.Bool b) = value_sign out ++ value_text [] (bool b)
 event_text out (event.Char c) = value_sign out ++ value_text [] (char c)
 event_text out event.Unit = value_sign out ++ value_text [] unit
 event_text out (event.Label l) = label_sign out ++ l
+event_text out event.Closed = codes "closed"
 
 -- the type behind an event, or Skip where the type doesn't move by it
 abbrev pub behind_event : Tree → Event → Tree

@@ -46,6 +46,7 @@ fn push_event(text: &mut String, out: bool, event: &Event) -> Result<(), AllocEr
             text.push_str(label_sign(out))?;
             text.push_str(label.as_str())
         }
+        Event::Closed => text.push_str("closed"),
     }
 }
 

@@ -2,12 +2,11 @@
 
 ghost use Rattle.std.specs.Prelude.{◌≡◌, ◌<◌, ◌+◌, ◌∷◌, [], IfOk, OnOk, MatchOption, reverse};
 ghost use Rattle.fst_types.specs.Size.{nodes};
-ghost use Rattle.fst_lts.specs.Histories.{after_event};
-ghost use Rattle.fst_report.specs.Parts.{MoveAlike, MovesFirst, left_in, nodes_in};
+ghost use Rattle.fst_report.specs.Parts.{GoOn, MoveAlike, MovesFirst, left_in, nodes_in};
 ghost use Rattle.fst_report.specs.ReportTexts.{behind_event, sends};
 
-use fst_lts::{receiving_label, sending_label, step, terminated};
-use fst_types::{Event, Ty, TyForm, copy};
+use fst_lts::{is_end, receiving_label, sending_label, step, terminated};
+use fst_types::{Event, Label, Ty, TyForm, copy};
 use std::alloc::{AllocError, Global};
 use std::marker::Model;
 
@@ -102,30 +101,42 @@ fn next_part(parts: &mut Vec<Ty>) -> Result<Ty, AllocError>
     Ok(Ty { form: TyForm::Skip })
 }
 
-// Whether an end of this type sends the event, and its type behind it.
-fn after_event(alloc: Global, ty: &Ty, event: &Event) -> Result<(bool, Option<Ty>), AllocError>
-    ensures sends { IfOk result (λ found. found.0 ≡ sends ty.now event.now) }
-    ensures behind { IfOk result (λ found. found.1 ≡ after_event ty.now event.now) }
+// Goes on by the label, and says whether the part in front moves by it. Where a protocol ends by the label nothing is left; else
+// the parts behind the one in front stay as they are.
+fn advance_by(
+    alloc: Global,
+    parts: &mut Vec<Ty>,
+    part: &Ty,
+    label: &Label,
+) -> Result<bool, AllocError>
+    ensures { IfOk result (GoOn part.now label.now (reverse parts.old.items)
+        (reverse parts.new.items)) }
 {
-    let sent = sending_label(alloc, event)?;
-    if let Some(behind) = step(alloc, ty, &sent)? {
-        return Ok((true, Some(behind)));
+    let Some(behind) = step(alloc, part, label)? else {
+        return Ok(false);
+    };
+    if is_end(label) {
+        parts.clear();
+    } else {
+        push(parts, behind)?;
     }
-    let received = receiving_label(alloc, event)?;
-    Ok((false, step(alloc, ty, &received)?))
+    Ok(true)
 }
 
-// Goes on to what is left behind the event: the parts behind the first one stay as they are.
+// Goes on to what is left behind the event, and says whether an end of this type sends it.
 fn advance_parts(alloc: Global, parts: &mut Vec<Ty>, event: &Event) -> Result<bool, AllocError>
     ensures sends { IfOk result (λ out. out ≡ sends (left_in parts.old.items) event.now) }
     ensures left { OnOk result (left_in parts.new.items ≡ behind_event
         (left_in parts.old.items) event.now) }
 {
     let part = next_part(parts)?;
-    let (out, behind) = after_event(alloc, &part, event)?;
-    match behind {
-        Some(ty) => push(parts, ty)?,
-        None => parts.clear(),
+    let sent = sending_label(alloc, event)?;
+    if advance_by(alloc, parts, &part, &sent)? {
+        return Ok(true);
     }
-    Ok(out)
+    let received = receiving_label(alloc, event)?;
+    if !advance_by(alloc, parts, &part, &received)? {
+        parts.clear();
+    }
+    Ok(false)
 }

@@ -87,6 +87,8 @@ mutual
   type_atom_shown _ _ (types.skip k is) m = tt
   type_atom_shown _ _ (types.send k ts b is d) m = tt
   type_atom_shown _ _ (types.receive k ts b is d) m = tt
+  type_atom_shown _ _ (types.close k is) m = tt
+  type_atom_shown _ _ (types.wait k is) m = tt
   type_atom_shown all _ (types.select k o c ts _ bs plus opens d closes is) m =
       let h = subst AreMade is m in
       select_shown k.at bs (alts_shown ts bs d (around ts [] c h.1.1).0)
@@ -236,6 +238,8 @@ mutual
       let h = parted ts us (subst AreMade is m).1 in
       (atom_shown ts t d h.0, atom_shown us u e h.1)
   app_shown _ _ (terms.receive k ts t is d) m = atom_shown ts t d m.1
+  app_shown _ _ (terms.close k ts t is d) m = atom_shown ts t d m.1
+  app_shown _ _ (terms.wait k ts t is d) m = atom_shown ts t d m.1
   app_shown _ _ (terms.select k l ts t is upper d) m = (upper_name l m.1.0 upper, atom_shown ts t d m.1.1)
   app_shown _ _ (terms.new k ts t is d) m = type_atom_shown ts t d m.1
   app_shown _ _ (terms.fork k ts t is d) m = atom_shown ts t d m.1

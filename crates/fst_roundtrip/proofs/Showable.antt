@@ -24,6 +24,8 @@ abbrev mutual
   IsShowableType (written.skip at) = ⊤
   IsShowableType (written.send at b) = ⊤
   IsShowableType (written.receive at b) = ⊤
+  IsShowableType (written.close at) = ⊤
+  IsShowableType (written.wait at) = ⊤
   IsShowableType (written.select at none) = ⊥
   IsShowableType (written.select at (branch l t bs)) = IsUpperName l × IsShowableType t × AreShowableBranches bs
   IsShowableType (written.offer at none) = ⊥
@@ -65,6 +67,8 @@ abbrev mutual
   IsShowable (term.new at a) = IsShowableType a
   IsShowable (term.send at s t) = IsShowable s × IsShowable t
   IsShowable (term.receive at t) = IsShowable t
+  IsShowable (term.close at t) = IsShowable t
+  IsShowable (term.wait at t) = IsShowable t
   IsShowable (term.select at l t) = IsUpperName l × IsShowable t
   IsShowable (term.match_with at t bs) = IsShowable t × AreShowableMatches bs
   IsShowable (term.fork at t) = IsShowable t

@@ -1,5 +1,5 @@
 -- The texts of terms that begin with a word of their own are read as the same terms at other places.
-use Rattle.std.proofs.Common.{◌≡◌, ℕ, true, List, [], ◌∷◌, ◌++◌, refl, append_assoc}
+use Rattle.std.proofs.Common.{◌≡◌, ℕ, true, List, [], ◌∷◌, ◌++◌, refl, ap, append_assoc}
 use Rattle.std.specs.Prelude.{codes}
 use Rattle.std.specs.Str.{byte}
 use Rattle.fst_types.specs.declared.kind.Use.{Use}
@@ -14,6 +14,7 @@ use Rattle.fst_type_syntax.specs.Grammar.{IsArrow, IsSeq, IsAtom as IsTypeAtom}
 use Rattle.fst_module_grammar.specs.Grammar as grammar
 use Rattle.fst_module_grammar.specs.Grammar.{bound, IsExpr, IsUnary, IsApp, IsAtom}
 use Rattle.fst_type_print.specs.Texts.{arrow_text}
+use Rattle.fst_roundtrip.specs.Unplaced.{unplaced_term}
 use Rattle.fst_roundtrip.proofs.Showable.{IsLowerName, IsUpperName}
 use Rattle.fst_roundtrip.proofs.Spelled.{Reads, Any, EndsName, One, one, Two, two, so, both, sign, lower_name, upper_name, spaced, arrow_reads}
 use Rattle.fst_roundtrip.proofs.ShownWords.{blank_before, blank_behind, word_blank, sign_blank}
@@ -168,31 +169,34 @@ new_shown at a t r = so (codes "new " ++ a) stands
           λ i. term.new 0 (x.same i);
     }
 
+-- a word of its own and an atom behind it
+behind_shown : (word : List ℕ) → is_reserved word ≡ true → (make : ℕ → TermTree → TermTree) →
+    ((k : Lexeme) (ts : List Lexeme) (t : TermTree) → Is word k → IsAtom ts t → IsApp (k ∷ ts) (make k.at t)) →
+    ((m n : ℕ) (s t : TermTree) → unplaced_term s ≡ unplaced_term t → unplaced_term (make m s) ≡ unplaced_term (make n t)) →
+    (at : ℕ) (a : List ℕ) (t : TermTree) → Reads EndsName a (ShownTerm IsAtom t) →
+    Reads EndsName ((word ++ codes " ") ++ a) (ShownTerm IsApp (make at t))
+behind_shown word known make rule alike at a t r = so ((word ++ codes " ") ++ a) stands
+    (both (word ++ codes " ") a (λ rest q. tt) (word_blank {Q = Any} word known) r)
+  where
+    stands : (ts : List Lexeme) → Two (One (Is word)) (ShownTerm IsAtom t) ts → ShownTerm IsApp (make at t) ts
+    stands _ (two _ ts (one k is) x) =
+        record { wrote = make k.at x.wrote; form = rule k ts x.wrote is x.form; same = alike k.at at x.wrote t x.same }
+
 pub receive_shown : (at : ℕ) (a : List ℕ) (t : TermTree) → Reads EndsName a (ShownTerm IsAtom t) →
     Reads EndsName (codes "receive " ++ a) (ShownTerm IsApp (term.receive at t))
-receive_shown at a t r = so (codes "receive " ++ a) stands
-    (both (codes "receive ") a (λ rest q. tt) (word_blank {Q = Any} (codes "receive") refl) r)
-  where
-    stands : (ts : List Lexeme) → Two (One (Is (codes "receive"))) (ShownTerm IsAtom t) ts →
-        ShownTerm IsApp (term.receive at t) ts
-    stands _ (two _ ts (one k is) x) = record {
-      wrote = term.receive k.at x.wrote;
-      form = grammar.receive k ts x.wrote is x.form;
-      same = λ i. term.receive 0 (x.same i);
-    }
+receive_shown = behind_shown (codes "receive") refl term.receive grammar.receive (λ m n s t. ap (term.receive 0))
+
+pub close_shown : (at : ℕ) (a : List ℕ) (t : TermTree) → Reads EndsName a (ShownTerm IsAtom t) →
+    Reads EndsName (codes "close " ++ a) (ShownTerm IsApp (term.close at t))
+close_shown = behind_shown (codes "close") refl term.close grammar.close (λ m n s t. ap (term.close 0))
+
+pub wait_shown : (at : ℕ) (a : List ℕ) (t : TermTree) → Reads EndsName a (ShownTerm IsAtom t) →
+    Reads EndsName (codes "wait " ++ a) (ShownTerm IsApp (term.wait at t))
+wait_shown = behind_shown (codes "wait") refl term.wait grammar.wait (λ m n s t. ap (term.wait 0))
 
 pub fork_shown : (at : ℕ) (a : List ℕ) (t : TermTree) → Reads EndsName a (ShownTerm IsAtom t) →
     Reads EndsName (codes "fork " ++ a) (ShownTerm IsApp (term.fork at t))
-fork_shown at a t r = so (codes "fork " ++ a) stands
-    (both (codes "fork ") a (λ rest q. tt) (word_blank {Q = Any} (codes "fork") refl) r)
-  where
-    stands : (ts : List Lexeme) → Two (One (Is (codes "fork"))) (ShownTerm IsAtom t) ts → ShownTerm IsApp (term.fork at t) ts
-    stands _ (two _ ts (one k is) x) = record {
-      wrote = term.fork k.at x.wrote;
-      form = grammar.fork k ts x.wrote is x.form;
-      same =
-          λ i. term.fork 0 (x.same i);
-    }
+fork_shown = behind_shown (codes "fork") refl term.fork grammar.fork (λ m n s t. ap (term.fork 0))
 
 pub send_shown : (at : ℕ) (a b : List ℕ) (s t : TermTree) → Reads EndsName a (ShownTerm IsAtom s) →
     Reads EndsName b (ShownTerm IsAtom t) → Reads EndsName (codes "send " ++ a ++ codes " " ++ b)

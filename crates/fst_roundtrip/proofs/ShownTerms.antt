@@ -16,7 +16,7 @@ use Rattle.fst_roundtrip.proofs.ShownWords.{reshown}
 use Rattle.fst_roundtrip.proofs.ShownTypes.{seq_type_shown, atom_type_shown}
 use Rattle.fst_roundtrip.proofs.ShownRanks.{ShownTerm, IsRank, RankedTerm, no_head, plain_head, whole, ranked, applied}
 use Rattle.fst_roundtrip.proofs.ShownAtoms.{number_shown, character_shown, truth_shown, unit_shown, named_shown, pair_shown}
-use Rattle.fst_roundtrip.proofs.ShownForms.{let_shown, split_shown, if_shown, lambda_shown, negate_shown, new_shown, receive_shown, fork_shown, send_shown, select_shown}
+use Rattle.fst_roundtrip.proofs.ShownForms.{let_shown, split_shown, if_shown, lambda_shown, negate_shown, new_shown, receive_shown, close_shown, wait_shown, fork_shown, send_shown, select_shown}
 use Rattle.fst_roundtrip.proofs.ShownChains.{operate_shown, seq_shown, apply_shown, ShownTerms, last_argument, further_argument, constructor_shown, make_shown}
 use Rattle.fst_roundtrip.proofs.ShownArms.{ShownCases, ShownMatches, last_case_shown, further_case_shown, last_match_shown, further_match_shown, case_shown, match_shown}
 use Rattle.fst_print.specs.Ranks.{or_rank, negation_rank, atom_rank, left_rank, right_rank, is_below, is_no_head}
@@ -122,6 +122,8 @@ mutual
   shown (term.send at s t) h = no_head _ (term.send at s t) refl
       (send_shown at (text_at atom_rank s) (text_at atom_rank t) s t (atom s (shown s h.0)) (atom t (shown t h.1)))
   shown (term.receive at t) h = no_head _ (term.receive at t) refl (receive_shown at (text_at atom_rank t) t (atom t (shown t h)))
+  shown (term.close at t) h = no_head _ (term.close at t) refl (close_shown at (text_at atom_rank t) t (atom t (shown t h)))
+  shown (term.wait at t) h = no_head _ (term.wait at t) refl (wait_shown at (text_at atom_rank t) t (atom t (shown t h)))
   shown (term.select at l t) h = no_head _ (term.select at l t) refl
       (select_shown at l (text_at atom_rank t) t h.0 (atom t (shown t h.1)))
   shown (term.match_with at t bs) h =

@@ -8,6 +8,7 @@ use Rattle.fst_types.specs.declared.kind.Use.{Use}
 use Rattle.fst_types.specs.declared.kind.Use.TheVariants.{Many, Once}
 use Rattle.fst_types.specs.WrittenTree as written
 use Rattle.fst_types.specs.WrittenTree.{WrittenTree, WrittenBranches, none, branch}
+use Rattle.fst_lexer.specs.Classes.{is_reserved}
 use Rattle.fst_lexer.specs.Spelling.{is_sign, ends_sign}
 use Rattle.fst_reading.specs.Lexeme.{Lexeme, Is, IsLower, IsUpper, start}
 use Rattle.fst_type_syntax.specs.Grammar as grammar
@@ -27,11 +28,14 @@ ShownType Form t = Shown Form unplaced_type t
 abbrev ShownBranches : WrittenBranches → List Lexeme → Type 0
 ShownBranches bs = Shown IsAlts unplaced_branches bs
 
-skip_shown : (at : ℕ) → Reads EndsName (codes "Skip") (ShownType IsAtom (written.skip at))
-skip_shown at = so (codes "Skip") stands (reserved (codes "Skip") refl)
+-- a type that is a word alone
+word_shown : (word : List ℕ) → is_reserved word ≡ true → (make : ℕ → WrittenTree) →
+    ((k : Lexeme) → Is word k → IsAtom (k ∷ []) (make k.at)) →
+    ((m n : ℕ) → unplaced_type (make m) ≡ unplaced_type (make n)) → (at : ℕ) → Reads EndsName word (ShownType IsAtom (make at))
+word_shown word known make rule alike at = so word stands (reserved word known)
   where
-    stands : (ts : List Lexeme) → One (Is (codes "Skip")) ts → ShownType IsAtom (written.skip at) ts
-    stands _ (one k is) = record { wrote = written.skip k.at; form = grammar.skip k is; same = refl }
+    stands : (ts : List Lexeme) → One (Is word) ts → ShownType IsAtom (make at) ts
+    stands _ (one k is) = record { wrote = make k.at; form = rule k is; same = alike k.at at }
 
 send_shown : (at : ℕ) (b : Base) → Reads EndsName (send_text b) (ShownType IsAtom (written.send at b))
 send_shown at b = so (send_text b) stands (both (codes "!") (base_text b)
@@ -271,6 +275,8 @@ simple : (t : WrittenTree) → is_compound t ≡ false → is_arrow t ≡ false
 simple (written.skip at) e = refl
 simple (written.send at b) e = refl
 simple (written.receive at b) e = refl
+simple (written.close at) e = refl
+simple (written.wait at) e = refl
 simple (written.select at bs) e = refl
 simple (written.offer at bs) e = refl
 simple (written.seq at s t) e = refl
@@ -308,9 +314,11 @@ HasOne (branch l t bs) = ⊤
 mutual
   -- a type in the form that it has
   formed : (t : WrittenTree) → IsShowableType t → Reads EndsName (written_text t) (ShownType (FormOf t) t)
-  formed (written.skip at) h = skip_shown at
+  formed (written.skip at) h = word_shown (codes "Skip") refl written.skip grammar.skip (λ m n. refl) at
   formed (written.send at b) h = send_shown at b
   formed (written.receive at b) h = receive_shown at b
+  formed (written.close at) h = word_shown (codes "Close") refl written.close grammar.close (λ m n. refl) at
+  formed (written.wait at) h = word_shown (codes "Wait") refl written.wait grammar.wait (λ m n. refl) at
   formed (written.select at none) h = absurd h
   formed (written.select at (branch l t bs)) h =
       select_shown at (joined_text (codes ", ") (written_branch_texts (branch l t bs))) (branch l t bs)

@@ -6,7 +6,7 @@ use Rattle.fst_types.specs.declared.kind.Kind.{Kind}
 use Rattle.fst_types.specs.WrittenTree as written
 use Rattle.fst_types.specs.WrittenTree.{WrittenTree, WrittenBranches, none, branch}
 use Rattle.fst_terms.specs.declared.binder.Binder.{Binder}
-use Rattle.fst_terms.specs.TermTree.{TermTree, named, int, bool, char, unit, pair, make, lambda, apply, let_in, split, if_else, case_of, operate, negate, new, send, receive, select, match_with, fork, seq, TermList, no_terms, term, TermArms, no_arms, arm}
+use Rattle.fst_terms.specs.TermTree.{TermTree, named, int, bool, char, unit, pair, make, lambda, apply, let_in, split, if_else, case_of, operate, negate, new, send, receive, close, wait, select, match_with, fork, seq, TermList, no_terms, term, TermArms, no_arms, arm}
 use Rattle.fst_terms.specs.ModuleTree.{Maker, Declared, family, alias, signature, equation}
 use Rattle.fst_type_print.specs.Texts.{in_parens, in_parens_if, in_braces, joined_text, arrow_text}
 use Rattle.fst_type_print.specs.WrittenTexts.{is_compound, is_arrow, written_text, written_branch_texts, atom_text}
@@ -18,6 +18,8 @@ compound_same : (t : WrittenTree) → is_compound (unplaced_type t) ≡ is_compo
 compound_same (written.skip at) = refl
 compound_same (written.send at b) = refl
 compound_same (written.receive at b) = refl
+compound_same (written.close at) = refl
+compound_same (written.wait at) = refl
 compound_same (written.select at bs) = refl
 compound_same (written.offer at bs) = refl
 compound_same (written.seq at s t) = refl
@@ -31,6 +33,8 @@ arrow_same : (t : WrittenTree) → is_arrow (unplaced_type t) ≡ is_arrow t
 arrow_same (written.skip at) = refl
 arrow_same (written.send at b) = refl
 arrow_same (written.receive at b) = refl
+arrow_same (written.close at) = refl
+arrow_same (written.wait at) = refl
 arrow_same (written.select at bs) = refl
 arrow_same (written.offer at bs) = refl
 arrow_same (written.seq at s t) = refl
@@ -45,6 +49,8 @@ mutual
   type_same (written.skip at) = refl
   type_same (written.send at b) = refl
   type_same (written.receive at b) = refl
+  type_same (written.close at) = refl
+  type_same (written.wait at) = refl
   type_same (written.select at bs) = ap (λ (w : List (List ℕ)). codes "+" ++ in_braces (joined_text (codes ", ") w))
       (branches_same bs)
   type_same (written.offer at bs) = ap (λ (w : List (List ℕ)). codes "&" ++ in_braces (joined_text (codes ", ") w))
@@ -104,6 +110,8 @@ rank_same (negate at t) = refl
 rank_same (new at a) = refl
 rank_same (send at s t) = refl
 rank_same (receive at t) = refl
+rank_same (close at t) = refl
+rank_same (wait at t) = refl
 rank_same (select at l t) = refl
 rank_same (match_with at t bs) = refl
 rank_same (fork at t) = refl
@@ -131,6 +139,8 @@ head_same (negate at t) = refl
 head_same (new at a) = refl
 head_same (send at s t) = refl
 head_same (receive at t) = refl
+head_same (close at t) = refl
+head_same (wait at t) = refl
 head_same (select at l t) = refl
 head_same (match_with at t bs) = refl
 head_same (fork at t) = refl
@@ -163,6 +173,8 @@ mutual
   term_same (send at s t) = λ i. codes "send " ++ in_parens_if (below_same atom_rank s i)
       (term_same s i) ++ codes " " ++ in_parens_if (below_same atom_rank t i) (term_same t i)
   term_same (receive at t) = λ i. codes "receive " ++ in_parens_if (below_same atom_rank t i) (term_same t i)
+  term_same (close at t) = λ i. codes "close " ++ in_parens_if (below_same atom_rank t i) (term_same t i)
+  term_same (wait at t) = λ i. codes "wait " ++ in_parens_if (below_same atom_rank t i) (term_same t i)
   term_same (select at l t) = λ i. codes "select " ++ l ++ codes " " ++ in_parens_if (below_same atom_rank t i) (term_same t i)
   term_same (match_with at t bs) = λ i. codes "match " ++ term_same t i ++ codes " with " ++ in_braces
       (joined_text (codes ", ") (arms_same bs i))

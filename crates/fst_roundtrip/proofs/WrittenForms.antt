@@ -7,7 +7,7 @@ use Rattle.std.specs.declared.cmp.Ordering.TheVariants.{Less, Equal, Greater}
 use Rattle.std.specs.Ordering.{nat_cmp}
 use Rattle.std.specs.Cmp.Lexicographic.{slice_cmp}
 use Rattle.fst_types.specs.Tree as tree
-use Rattle.fst_types.specs.Tree.{Tree, skip, send, receive, select, offer, seq, rec, back, var, plain, arrow, pair, named, Branches, none, branch}
+use Rattle.fst_types.specs.Tree.{Tree, skip, send, receive, close, wait, select, offer, seq, rec, back, var, plain, arrow, pair, named, Branches, none, branch}
 use Rattle.fst_types.specs.WrittenTree as written
 use Rattle.fst_types.specs.WrittenTree.{WrittenTree, WrittenBranches}
 use Rattle.fst_types.specs.Height.{height, height_all}
@@ -32,6 +32,8 @@ abbrev mutual
   as_written names n skip = written.skip 0
   as_written names n (send b) = written.send 0 b
   as_written names n (receive b) = written.receive 0 b
+  as_written names n close = written.close 0
+  as_written names n wait = written.wait 0
   as_written names n (select bs) = written.select 0 (all_written names n bs)
   as_written names n (offer bs) = written.offer 0 (all_written names n bs)
   as_written names n (seq s r) = written.seq 0 (as_written names n s) (as_written names n r)
@@ -52,6 +54,8 @@ arrow_same : (names : List (List ℕ)) (n : ℕ) (t : Tree) → is_arrow (as_wri
 arrow_same names n skip = refl
 arrow_same names n (send b) = refl
 arrow_same names n (receive b) = refl
+arrow_same names n close = refl
+arrow_same names n wait = refl
 arrow_same names n (select bs) = refl
 arrow_same names n (offer bs) = refl
 arrow_same names n (seq s r) = refl
@@ -68,6 +72,8 @@ compound_same : (names : List (List ℕ)) (n : ℕ) (t : Tree) → IsNoArrow t �
 compound_same names n skip e = refl
 compound_same names n (send b) e = refl
 compound_same names n (receive b) e = refl
+compound_same names n close e = refl
+compound_same names n wait e = refl
 compound_same names n (select bs) e = refl
 compound_same names n (offer bs) e = refl
 compound_same names n (seq s r) e = refl
@@ -98,6 +104,8 @@ mutual
   text_same names m n skip w = refl
   text_same names m n (send b) w = refl
   text_same names m n (receive b) w = refl
+  text_same names m n close w = refl
+  text_same names m n wait w = refl
   text_same names m n (select bs) w = ap (λ (texts : List (List ℕ)). codes "+" ++ in_braces (joined_text (codes ", ") texts))
       (texts_same names m n bs w)
   text_same names m n (offer bs) w = ap (λ (texts : List (List ℕ)). codes "&" ++ in_braces (joined_text (codes ", ") texts))
@@ -189,6 +197,8 @@ mutual
   meant names m g n skip scoped within sorted writable fits = record { showable = tt; means = refl }
   meant names m g n (send b) scoped within sorted writable fits = record { showable = tt; means = refl }
   meant names m g n (receive b) scoped within sorted writable fits = record { showable = tt; means = refl }
+  meant names m g n close scoped within sorted writable fits = record { showable = tt; means = refl }
+  meant names m g n wait scoped within sorted writable fits = record { showable = tt; means = refl }
   meant names m g n (select none) scoped within sorted writable fits = absurd sorted.0
   meant names m g n (select (branch l t bs)) scoped within sorted writable fits =
       let all = all_meant names m g n (branch l t bs) scoped within sorted.0 sorted.1 writable (omega arith) in
@@ -240,6 +250,8 @@ mutual
   meaning_same s (written.skip at) = refl
   meaning_same s (written.send at b) = refl
   meaning_same s (written.receive at b) = refl
+  meaning_same s (written.close at) = refl
+  meaning_same s (written.wait at) = refl
   meaning_same s (written.select at bs) = ap (option_map tree.select) (branches_same s bs)
   meaning_same s (written.offer at bs) = ap (option_map tree.offer) (branches_same s bs)
   meaning_same s (written.seq at t u) = λ i. naming.both tree.seq (meaning_same s t i) (meaning_same s u i)

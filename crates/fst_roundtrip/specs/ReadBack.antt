@@ -1,7 +1,7 @@
 -- What stands in the text of a type is the type again.
 use Rattle.std.specs.Prelude.{◌≡◌, ◌≢◌, ℕ, zero, suc, ◌<◌, ◌^◌, List, [], ◌∷◌, length, All, false, Option, Some, None, option_map, ⊤}
 use Rattle.std.specs.List.{AllPairs}
-use Rattle.fst_types.specs.Tree.{Tree, skip, send, receive, select, offer, seq, rec, back, var, plain, arrow, pair, named, Branches, none, branch}
+use Rattle.fst_types.specs.Tree.{Tree, skip, send, receive, close, wait, select, offer, seq, rec, back, var, plain, arrow, pair, named, Branches, none, branch}
 use Rattle.fst_types.specs.WrittenTree.{WrittenTree}
 use Rattle.fst_types.specs.Height.{height}
 use Rattle.fst_types.specs.Scoped.{IsScoped}
@@ -26,6 +26,8 @@ abbrev mutual
   IsWritable m skip = ⊤
   IsWritable m (send b) = ⊤
   IsWritable m (receive b) = ⊤
+  IsWritable m close = ⊤
+  IsWritable m wait = ⊤
   IsWritable m (select bs) = AreWritable m bs
   IsWritable m (offer bs) = AreWritable m bs
   IsWritable m (seq s r) = IsNoArrow s × IsNoArrow r × IsWritable m s × IsWritable m r

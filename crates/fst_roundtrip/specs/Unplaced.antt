@@ -14,6 +14,8 @@ abbrev mutual
   unplaced_type (written.skip at) = written.skip 0
   unplaced_type (written.send at b) = written.send 0 b
   unplaced_type (written.receive at b) = written.receive 0 b
+  unplaced_type (written.close at) = written.close 0
+  unplaced_type (written.wait at) = written.wait 0
   unplaced_type (written.select at bs) = written.select 0 (unplaced_branches bs)
   unplaced_type (written.offer at bs) = written.offer 0 (unplaced_branches bs)
   unplaced_type (written.seq at s t) = written.seq 0 (unplaced_type s) (unplaced_type t)
@@ -57,6 +59,8 @@ abbrev mutual
   unplaced_term (term.new at a) = term.new 0 (unplaced_type a)
   unplaced_term (term.send at s t) = term.send 0 (unplaced_term s) (unplaced_term t)
   unplaced_term (term.receive at t) = term.receive 0 (unplaced_term t)
+  unplaced_term (term.close at t) = term.close 0 (unplaced_term t)
+  unplaced_term (term.wait at t) = term.wait 0 (unplaced_term t)
   unplaced_term (term.select at l t) = term.select 0 l (unplaced_term t)
   unplaced_term (term.match_with at t bs) = term.match_with 0 (unplaced_term t) (unplaced_arms bs)
   unplaced_term (term.fork at t) = term.fork 0 (unplaced_term t)

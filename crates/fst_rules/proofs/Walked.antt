@@ -7,10 +7,10 @@ use Rattle.fst_types.specs.Instance.{instantiated}
 use Rattle.fst_types.specs.declared.base.Base.{Base}
 use Rattle.fst_types.specs.declared.base.Base.TheVariants.{Int, Bool as Truth, Char, Unit as Nothing}
 use Rattle.fst_types.specs.declared.kind.Kind.{Kind}
-use Rattle.fst_types.specs.declared.label.Label.TheVariants.{Select}
+use Rattle.fst_types.specs.declared.label.Label.TheVariants.{Select, Close, Wait}
 use Rattle.fst_lts.specs.Step.{step}
 use Rattle.fst_lts.specs.Dual.{dual}
-use Rattle.fst_terms.specs.CoreTree.{CoreTree, local, global, int, bool, char, unit, pair, make, lambda, apply, let_in, split, if_else, case_of, operate, negate, new, send, receive, select, match_with, fork, seq}
+use Rattle.fst_terms.specs.CoreTree.{CoreTree, local, global, int, bool, char, unit, pair, make, lambda, apply, let_in, split, if_else, case_of, operate, negate, new, send, receive, close, wait, select, match_with, fork, seq}
 use Rattle.fst_terms.specs.declared.term.Op.{Op}
 use Rattle.fst_context.specs.Vars.{Vars, no_vars, single, Both}
 use Rattle.fst_context.specs.Scope.{Variable, is_once}
@@ -19,12 +19,12 @@ use Rattle.fst_derivations.specs.Parts.{IsAnyConversion}
 use Rattle.fst_derivations.specs.Rules.{Surroundings, Mode, Converted, converting, Over, At, Row, Operates}
 use Rattle.fst_fits.specs.Tests.{same_tree, use_in, is_many, is_global_type, is_channel, operates}
 use Rattle.fst_rules.specs.Walks.{only, given, taking, has_none, local_row, leaf_row, whole, row_walk}
-use Rattle.fst_fits.specs.Fits.{pair_fits, apply_fits, operate_fits, send_fits, seq_fits, negate_fits, receive_fits, select_fits, fork_fits}
+use Rattle.fst_fits.specs.Fits.{pair_fits, apply_fits, operate_fits, send_fits, seq_fits, negate_fits, receive_fits, close_fits, wait_fits, select_fits, fork_fits}
 use Rattle.fst_rules.proofs.Deciding.{Decides, decides_as, decides_only, decides_given, decides_equal}
 use Rattle.fst_rules.proofs.DecidingInside.{decides_variable}
 use Rattle.fst_rules.proofs.DecidingRows.{decides_leaf, decides_row_1, decides_row_2, decides_whole}
 use Rattle.fst_fits.proofs.Laws.{and_left, and_right, and_both, tree_same, tree_itself, has_many, of_many, type_is, of_type}
-use Rattle.fst_fits.proofs.Laws.{paired, of_paired, applied, of_applied, operated, of_operated, sent, of_sent, received, of_received, channel, of_channel, global_type, of_global_type}
+use Rattle.fst_fits.proofs.Laws.{paired, of_paired, applied, of_applied, operated, of_operated, sent, of_sent, received, of_received, ended, of_ended, channel, of_channel, global_type, of_global_type}
 
 -- ---- rows and their parts
 
@@ -107,6 +107,8 @@ module _ (m : Surroundings) where
   is_row (new at k) g u c (s, p, i, q, e) = (type.pair s (dual s), none, e)
   is_row (send at a b) g u c (d, h, k, t, x, p, q, e) = (t, two d h, e)
   is_row (receive at a) g u c (d, k, t, x, p, e) = (type.pair (plain k) t, one d, e)
+  is_row (close at a) g u c (d, t, x, p, e) = (plain Nothing, one d, e)
+  is_row (wait at a) g u c (d, t, x, p, e) = (plain Nothing, one d, e)
   is_row (select at l a) g u c (d, t, x, p, e) = (t, one d, e)
   is_row (match_with at a bs) g u c (d, ls, t, ds, x, i, l, e) = (t, part d ds, e)
   is_row (fork at a) g u c (d, x, w, e) = (plain Nothing, one d, e)
@@ -183,6 +185,22 @@ module _ (m : Surroundings) where
       (d, r.1, of_received t (type_of d) s b r.0 p, x))
       (λ u d e h x. let c = received t (type_of d) h in
       (d, c.0, c.1, x, c.3, as_row t (type.pair (plain c.0) c.1) ds (one d) c.2 e))
+
+  pub close_rows : (at : ℕ) (a : CoreTree) → Parts a → Rows (close at a)
+  close_rows at a A g t ds =
+      decides_row_1 g (λ u. Rule (close at a) g u (row t ds)) (close_fits t) ds (whole m.vars (row_walk m a)) (Part a g) (A g)
+      (λ u (d, s, x, p, e). let r = rows t (plain Nothing) ds (one d) e in
+      (d, r.1, of_ended t (type_of d) s Close r.0 p, x))
+      (λ u d e h x. let c = ended t (type_of d) Close h in
+      (d, c.0, x, c.2, as_row t (plain Nothing) ds (one d) c.1 e))
+
+  pub wait_rows : (at : ℕ) (a : CoreTree) → Parts a → Rows (wait at a)
+  wait_rows at a A g t ds =
+      decides_row_1 g (λ u. Rule (wait at a) g u (row t ds)) (wait_fits t) ds (whole m.vars (row_walk m a)) (Part a g) (A g)
+      (λ u (d, s, x, p, e). let r = rows t (plain Nothing) ds (one d) e in
+      (d, r.1, of_ended t (type_of d) s Wait r.0 p, x))
+      (λ u d e h x. let c = ended t (type_of d) Wait h in
+      (d, c.0, x, c.2, as_row t (plain Nothing) ds (one d) c.1 e))
 
   pub select_rows : (at : ℕ) (l : List ℕ) (a : CoreTree) → Parts a → Rows (select at l a)
   select_rows at l a A g t ds =

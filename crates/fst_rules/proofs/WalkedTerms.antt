@@ -1,13 +1,13 @@
 -- The walk over a term and a derivation decides which linear variables the derivation has.
 use Rattle.std.proofs.Common.{◌≡◌, ◌∙◌, List, [], ◌∷◌, length, Some, refl, ap, Bool, suc}
 use Rattle.fst_types.specs.declared.base.Base.TheVariants.{Int, Bool as Truth, Char, Unit as Nothing}
-use Rattle.fst_terms.specs.CoreTree.{CoreTree, local, global, int, bool, char, unit, pair, make, lambda, apply, let_in, split, if_else, case_of, operate, negate, new, send, receive, select, match_with, fork, seq, CoreList, no_terms, term, CoreArms, no_arms, arm}
+use Rattle.fst_terms.specs.CoreTree.{CoreTree, local, global, int, bool, char, unit, pair, make, lambda, apply, let_in, split, if_else, case_of, operate, negate, new, send, receive, close, wait, select, match_with, fork, seq, CoreList, no_terms, term, CoreArms, no_arms, arm}
 use Rattle.fst_context.specs.Vars.{Vars, outside}
 use Rattle.fst_context.specs.Scope.{Scope, mark, Takes}
 use Rattle.fst_derivations.specs.Deriv.{Deriv}
 use Rattle.fst_derivations.specs.Rules.{Surroundings}
 use Rattle.fst_rules.specs.Walks.{walk_of, Keeps}
-use Rattle.fst_rules.proofs.Walked.{Parts, Rows, parts, local_rows, plain_rows, global_rows, new_rows, negate_rows, receive_rows, select_rows, fork_rows, pair_rows, apply_rows, operate_rows, send_rows, seq_rows}
+use Rattle.fst_rules.proofs.Walked.{Parts, Rows, parts, local_rows, plain_rows, global_rows, new_rows, negate_rows, receive_rows, close_rows, wait_rows, select_rows, fork_rows, pair_rows, apply_rows, operate_rows, send_rows, seq_rows}
 use Rattle.fst_rules.proofs.WalkedFields.{Lists, no_terms_lists, term_lists, make_rows}
 use Rattle.fst_rules.proofs.WalkedArms.{All, Furthers, no_all, arm_all, no_furthers, one_further, case_rows, match_rows}
 use Rattle.fst_rules.proofs.WalkedInside.{lambda_rows, let_rows, split_rows, if_rows}
@@ -33,6 +33,8 @@ mutual
   walked m (new at k) = new_rows m at k
   walked m (send at a b) = send_rows m at a b (parts m a (walked m a)) (parts m b (walked m b))
   walked m (receive at a) = receive_rows m at a (parts m a (walked m a))
+  walked m (close at a) = close_rows m at a (parts m a (walked m a))
+  walked m (wait at a) = wait_rows m at a (parts m a (walked m a))
   walked m (select at l a) = select_rows m at l a (parts m a (walked m a))
   walked m (match_with at a bs) = match_rows m at a bs (parts m a (walked m a)) (walked_arms m bs)
   walked m (fork at a) = fork_rows m at a (parts m a (walked m a))

@@ -6,15 +6,14 @@ use Rattle.fst_types.specs.declared.base.Base.TheVariants.{Int, Bool as Truth, C
 use Rattle.fst_types.specs.declared.kind.Kind.{Kind}
 use Rattle.fst_types.specs.declared.kind.Use.{Use}
 use Rattle.fst_types.specs.declared.kind.Use.TheVariants.{Many, Once}
-use Rattle.fst_types.specs.declared.label.Label.TheVariants.{Select, Offer}
+use Rattle.fst_types.specs.declared.label.Label.TheVariants.{Offer}
 use Rattle.fst_lts.specs.Step.{step, labels}
-use Rattle.fst_terms.specs.CoreTree.{CoreTree, local, global, int, bool, char, unit, pair, make, lambda, apply, let_in, split, if_else, case_of, operate, negate, new, send, receive, select, match_with, fork, seq, CoreList, no_terms, term, CoreArms, no_arms, arm}
+use Rattle.fst_terms.specs.CoreTree.{CoreTree, local, global, int, bool, char, unit, pair, make, lambda, apply, let_in, split, if_else, case_of, operate, negate, new, send, receive, close, wait, select, match_with, fork, seq, CoreList, no_terms, term, CoreArms, no_arms, arm}
 use Rattle.fst_terms.specs.InRange.{maker_of, maker_named}
 use Rattle.fst_types.specs.declared.family.Family.{Family}
 use Rattle.fst_types.specs.declared.family.Maker.{Maker}
 use Rattle.fst_arms.specs.Arms.{arm_labels}
 use Rattle.fst_terms.specs.declared.binder.Binder.{Binder}
-use Rattle.fst_terms.specs.declared.term.Op.{Op}
 use Rattle.fst_context.specs.Scope.{Scope, Variable, at_or_not, entered, left, begun, ended}
 use Rattle.fst_context.specs.View.{taken_at, after_take}
 use Rattle.fst_context.specs.declared.context.Taken.{Taken}
@@ -22,8 +21,8 @@ use Rattle.fst_context.specs.declared.context.Taken.TheVariants.{Here, Gone, Out
 use Rattle.fst_derivations.specs.Deriv.{Deriv, row, convert, type_of, Derivs, none, part}
 use Rattle.fst_derivations.specs.Rules.{Surroundings, Binding, fields, rest}
 use Rattle.fst_fits.specs.ArmTests.{each_once, offers}
-use Rattle.fst_fits.specs.Fits.{if_fits, pair_fits, apply_fits, operate_fits, send_fits, seq_fits, negate_fits, receive_fits, select_fits, fork_fits}
-use Rattle.fst_fits.specs.Tests.{types_at, same_tree, kind_in, has_some, use_in, is_many, is_type, is_pair, is_arrow, pair_parts, arrow_of, arrow_parts, family_number, base_of, applies, operates, sends, receives_pair, is_channel, is_global_type}
+use Rattle.fst_fits.specs.Fits.{if_fits, pair_fits, apply_fits, operate_fits, send_fits, seq_fits, negate_fits, receive_fits, close_fits, wait_fits, select_fits, fork_fits}
+use Rattle.fst_fits.specs.Tests.{types_at, same_tree, kind_in, has_some, use_in, is_type, is_arrow, pair_parts, arrow_of, family_number, is_channel, is_global_type}
 
 -- from a scope to the one after some variables were taken, or to none
 abbrev pub Walk : Type 0
@@ -292,6 +291,8 @@ abbrev mutual
   row_walk m (send at e f) t ds = row_2 (send_fits t) ds (whole m.vars (row_walk m e))
       (whole m.vars (row_walk m f))
   row_walk m (receive at e) t ds = row_1 (receive_fits t) ds (whole m.vars (row_walk m e))
+  row_walk m (close at e) t ds = row_1 (close_fits t) ds (whole m.vars (row_walk m e))
+  row_walk m (wait at e) t ds = row_1 (wait_fits t) ds (whole m.vars (row_walk m e))
   row_walk m (select at l e) t ds = row_1 (select_fits l t) ds (whole m.vars (row_walk m e))
   row_walk m (match_with at e bs) t ds = match_row (arm_labels bs) ds (whole m.vars (row_walk m e))
       (λ s. arms_walk m (rest s) bs t)

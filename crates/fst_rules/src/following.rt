@@ -5,7 +5,7 @@ ghost use Rattle.fst_derivations.specs.Deriv.{deriv_of, parts_of};
 ghost use Rattle.fst_rules.specs.Levels.{surroundings_at};
 ghost use Rattle.fst_fits.specs.Tests.{is_channel, is_global_type, same_tree};
 ghost use Rattle.fst_rules.specs.Walks.{after, came, has_none, local_row, row_1, row_2, row_walk, walk_of};
-ghost use Rattle.fst_fits.specs.Fits.{fork_fits, negate_fits, pair_fits, receive_fits, select_fits, send_fits, seq_fits};
+ghost use Rattle.fst_fits.specs.Fits.{close_fits, fork_fits, negate_fits, pair_fits, receive_fits, select_fits, send_fits, seq_fits, wait_fits};
 
 use crate::arms::{case_follows, make_follows, match_follows};
 use crate::inside::{if_follows, lambda_follows, let_follows, split_follows};
@@ -14,8 +14,8 @@ use crate::peeling::{Row, has_none, one, two};
 use fst_context::{Context, Taken};
 use fst_derivations::Derivation;
 use fst_fits::{
-    channel_fits, fork_fits, global_fits, is_plain, is_same, negate_fits, pair_fits, receive_fits,
-    select_fits, send_fits, seq_fits,
+    channel_fits, close_fits, fork_fits, global_fits, is_plain, is_same, negate_fits, pair_fits,
+    receive_fits, select_fits, send_fits, seq_fits, wait_fits,
 };
 use fst_terms::{Form, Term};
 use fst_types::{Base, Name};
@@ -192,6 +192,46 @@ fn receive_follows(
 }
 
 #[cycle(follows)]
+fn close_follows(
+    place: &Place<'_>,
+    context: &mut Context,
+    part: &Term,
+    row: Row<'_>,
+) -> Result<bool, AllocError>
+    ensures { IfOk result (λ b. row_1 (close_fits row.entry.ty.now) (parts_of
+        row.entry.parts.now)
+        (walk_of (surroundings_at place.now) part.now) context.old ≡ came b context.new) }
+{
+    let Some(d) = one(row.parts) else {
+        return Ok(false);
+    };
+    if !close_fits(place.alloc, row.ty, d.type_of())? {
+        return Ok(false);
+    }
+    follows(place, context, part, d)
+}
+
+#[cycle(follows)]
+fn wait_follows(
+    place: &Place<'_>,
+    context: &mut Context,
+    part: &Term,
+    row: Row<'_>,
+) -> Result<bool, AllocError>
+    ensures { IfOk result (λ b. row_1 (wait_fits row.entry.ty.now) (parts_of
+        row.entry.parts.now)
+        (walk_of (surroundings_at place.now) part.now) context.old ≡ came b context.new) }
+{
+    let Some(d) = one(row.parts) else {
+        return Ok(false);
+    };
+    if !wait_fits(place.alloc, row.ty, d.type_of())? {
+        return Ok(false);
+    }
+    follows(place, context, part, d)
+}
+
+#[cycle(follows)]
 fn select_follows(
     place: &Place<'_>,
     context: &mut Context,
@@ -270,6 +310,8 @@ fn head_follows(
         Form::New(k) => channel_follows(place, *k, row),
         Form::Send(first, second) => send_follows(place, context, first, second, row),
         Form::Receive(part) => receive_follows(place, context, part, row),
+        Form::Close(part) => close_follows(place, context, part, row),
+        Form::Wait(part) => wait_follows(place, context, part, row),
         Form::Select(label, part) => select_follows(place, context, label, part, row),
         Form::Match(channel, arms) => match_follows(place, context, channel, arms, row),
         Form::Fork(part) => fork_follows(place, context, part, row),

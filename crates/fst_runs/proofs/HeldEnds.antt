@@ -6,14 +6,14 @@ use Rattle.std.specs.Int.{w64, int_wrapping_add, int_wrapping_sub, int_wrapping_
 use Rattle.std.specs.Ordering.{is_eq, is_ne, is_lt, is_le, is_gt, is_ge}
 use Rattle.std.specs.Str.{bytes_eq}
 use Rattle.fst_types.specs.declared.family.Family.{Family}
-use Rattle.fst_terms.specs.CoreTree.{CoreTree, local, global, int, bool, char, unit, pair, make, lambda, apply, let_in, split, if_else, case_of, operate, negate, new, send, receive, select, match_with, fork, seq, CoreList, no_terms, term, CoreArms, no_arms, arm}
+use Rattle.fst_terms.specs.CoreTree.{CoreTree, local, global, int, bool, char, unit, pair, make, lambda, apply, let_in, split, if_else, case_of, operate, negate, new, send, receive, close, wait, select, match_with, fork, seq, CoreList, no_terms, term, CoreArms, no_arms, arm}
 use Rattle.fst_terms.specs.declared.term.Op.{Op}
 use Rattle.fst_terms.specs.declared.term.Op.TheVariants.{Add, Subtract, Multiply, Equal, Unequal, Less, AtMost, Greater, AtLeast, And, Or}
 use Rattle.fst_types.specs.declared.ends.EndName.{EndName}
 use Rattle.fst_machine.specs.Free.{free, free_in, free_below, outside, outside_all}
 use Rattle.fst_machine.specs.Values as value
 use Rattle.fst_machine.specs.Values.{Value, Values, no_values, Environment, none, hole, slot, lookup, enter, keep, count, enter_all, turned_onto, int_in, bool_in, both, either, compared, operated, sent}
-use Rattle.fst_machine.specs.Machine.{State, Frame, at_function, at_argument, at_first, at_second, at_field, at_let, at_split, at_if, at_case, at_left, at_right, at_not, at_value, at_target, at_receive, at_select, at_match, at_seq, Pause, calls, puts, gets, matches, eval, eval_all, eval_arm, resume, pause, on, on_function, on_pair, on_made, on_end, chosen, name_of, in_either}
+use Rattle.fst_machine.specs.Machine.{State, Frame, at_function, at_argument, at_first, at_second, at_field, at_let, at_split, at_if, at_case, at_left, at_right, at_not, at_value, at_target, at_receive, at_close, at_wait, at_select, at_match, at_seq, Pause, calls, puts, gets, closes, waits, matches, eval, eval_all, eval_arm, resume, pause, on, on_function, on_pair, on_made, on_end, chosen, name_of, in_either}
 use Rattle.fst_runs.specs.Wrong.{held, held_all, held_env, held_frames, held_state, held_pause}
 
 left_zero : (a b : ℕ) → a + b ≡ 0 → a ≡ 0
@@ -238,6 +238,12 @@ module _ (m : List Family) (x : EndName) where
     term_none (receive at e) env fs back h g f =
         term_none e env (at_receive ∷ fs) (λ v. on_end v (λ y. gets y fs)) h (zeros 0 _ refl g)
         (end_none (λ y. gets y fs) (λ y hy. zeros _ _ hy g))
+    term_none (close at e) env fs back h g f =
+        term_none e env (at_close ∷ fs) (λ v. on_end v (λ y. closes y fs)) h (zeros 0 _ refl g)
+        (end_none (λ y. closes y fs) (λ y hy. zeros _ _ hy g))
+    term_none (wait at e) env fs back h g f =
+        term_none e env (at_wait ∷ fs) (λ v. on_end v (λ y. waits y fs)) h (zeros 0 _ refl g)
+        (end_none (λ y. waits y fs) (λ y hy. zeros _ _ hy g))
     term_none (select at l e) env fs back h g f =
         term_none e env (at_select l ∷ fs) _ h (zeros 0 _ refl g) (end_none _ (λ y hy. zeros _ _ hy g))
     term_none (match_with at e bs) env fs back h g f =
@@ -337,6 +343,8 @@ module _ (m : List Family) (x : EndName) where
       (left_zero (held_env x env) (held_frames x fs) h) (zeros _ _ z g) (send_none v fs g)
   value_none (at_target w ∷ fs) h v z = send_none w fs (right_zero (held x w) (held_frames x fs) h) v z
   value_none (at_receive ∷ fs) h v z = end_none (λ y. gets y fs) (λ y hy. zeros _ _ hy (right_zero 0 (held_frames x fs) h)) v z
+  value_none (at_close ∷ fs) h v z = end_none (λ y. closes y fs) (λ y hy. zeros _ _ hy (right_zero 0 (held_frames x fs) h)) v z
+  value_none (at_wait ∷ fs) h v z = end_none (λ y. waits y fs) (λ y hy. zeros _ _ hy (right_zero 0 (held_frames x fs) h)) v z
   value_none (at_select l ∷ fs) h v z = end_none _ (λ y hy. zeros _ _ hy (right_zero 0 (held_frames x fs) h)) v z
   value_none (at_match bs env ∷ fs) h v z =
       end_none (λ y. matches y bs env fs)

@@ -6,7 +6,7 @@ use Rattle.fst_types.specs.declared.ends.EndName.{EndName}
 use Rattle.fst_machine.specs.declared.request.Request.{Request}
 use Rattle.fst_machine.specs.declared.request.Request.TheVariants as request
 use Rattle.fst_machine.specs.Values as value
-use Rattle.fst_machine.specs.Machine.{Pause, puts, asked}
+use Rattle.fst_machine.specs.Machine.{Pause, asked}
 use Rattle.fst_lts.specs.Histories.{sending}
 use Rattle.fst_lts.proofs.Laws.{moving}
 use Rattle.fst_runs.specs.Configs.{Path, Task, Config, same_path}
@@ -45,13 +45,12 @@ asks_held p request.Step x n e z = absurd (none-some x n)
 asks_held p (request.New k) x n e z = absurd (none-some x n)
 asks_held p request.Fork x n e z = absurd (none-some x n)
 asks_held p (request.Put y ev) x n e z =
-    let w = put_pause p y ev e in
-    let f : held_pause y (puts y ev w.0) ≡ 0 = sym (ap (λ o. held_pause y o) w.1) ∙ ap (λ o. held_pause o p) (same_Some y x n)
-    ∙ z in
-    let o = own_once y in
-    omega (arith, f, o)
+    (put_pause (λ w. held_pause y w ≡ 0 → ⊥) p y ev e
+    (λ fs f. let o = own_once y in omega (arith, f, o))
+    (λ fs c f. let o = own_once y in omega (arith, f, o))) (ap (λ o. held_pause o p) (same_Some y x n) ∙ z)
 asks_held p (request.Get y) x n e z =
     (get_pause (λ w. held_pause y w ≡ 0 → ⊥) p y e
+    (λ fs f. let o = own_once y in omega (arith, f, o))
     (λ fs f. let o = own_once y in omega (arith, f, o))
     (λ bs env fs f. let o = own_once y in omega (arith, f, o))) (ap (λ o. held_pause o p) (same_Some y x n) ∙ z)
 asks_held p request.Ended x n e z = absurd (none-some x n)

@@ -5,7 +5,7 @@ use Rattle.std.proofs.lemmas.Option.{none-some, same_Some}
 use Rattle.fst_base.proofs.Options.{mapped_some}
 use Rattle.fst_types.specs.Tree.{Tree}
 use Rattle.fst_types.specs.declared.label.Label.{Label}
-use Rattle.fst_types.specs.declared.label.Label.TheVariants.{Send, Receive, Select, Offer, Var}
+use Rattle.fst_types.specs.declared.label.Label.TheVariants.{Send, Receive, Select, Offer, Close, Wait, Var}
 use Rattle.fst_lts.specs.Step.{step}
 use Rattle.fst_lts.specs.Dual.{dual, dual_label}
 use Rattle.fst_lts.specs.Histories.{sending, receiving, IsInput}
@@ -40,6 +40,8 @@ input_directions (Send b) i = absurd i
 input_directions (Receive b) i = (refl, refl)
 input_directions (Select l) i = absurd i
 input_directions (Offer l) i = (refl, refl)
+input_directions Close i = absurd i
+input_directions Wait i = (refl, refl)
 input_directions (Var k) i = absurd i
 
 -- where a type receives, its dual doesn't
@@ -54,14 +56,12 @@ no_two_receives s t u a b i j e f =
 -- what asks to send goes on once it has sent
 pub put_answered : (m : Program) (p : Pause) (x : EndName) (ev : Event) → asked p ≡ Some (Put x ev) → (s : State) ×
     (after m p Sent ≡ Some s)
-put_answered m p x ev e =
-    let w = put_pause p x ev e in
-    (_, ap (λ z. after m z Sent) w.1)
+put_answered m p x ev e = put_pause (λ w. (s : State) × (after m w Sent ≡ Some s)) p x ev e (λ fs. (_, refl)) (λ fs c. (_, refl))
 
 -- what asks to receive goes on with each event
 pub get_answered : (m : Program) (p : Pause) (x : EndName) (ev : Event) → asked p ≡ Some (Get x) → (s : State) ×
     (after m p (Got ev) ≡ Some s)
-get_answered m p x ev e = get_pause (λ w. (s : State) × (after m w (Got ev) ≡ Some s)) p x e (λ fs. (_, refl))
+get_answered m p x ev e = get_pause (λ w. (s : State) × (after m w (Got ev) ≡ Some s)) p x e (λ fs. (_, refl)) (λ fs. (_, refl))
     (λ bs env fs. matched bs env fs ev)
   where
     matched : (bs : CoreArms) (env : Environment) (fs : List Frame) (ev : Event) → (s : State) ×
@@ -71,6 +71,7 @@ get_answered m p x ev e = get_pause (λ w. (s : State) × (after m w (Got ev) �
     matched bs env fs (event.Char k) = (_, refl)
     matched bs env fs event.Unit = (_, refl)
     matched bs env fs (event.Label l) = (_, refl)
+    matched bs env fs event.Closed = (_, refl)
 
 module _ (m : Program) (c : Config) (h : IsRight m c) where
   asks_allowed : (p : Path) (t : Task) (q : Request) → Asks m c p t q → IsAllowed (residual_in c) q

@@ -9,7 +9,7 @@ use Rattle.fst_types.specs.declared.ends.ChannelName.{ChannelName}
 use Rattle.fst_types.specs.declared.ends.EndName.{EndName}
 use Rattle.fst_machine.specs.Values as value
 use Rattle.fst_machine.specs.Values.{Value, Values, no_values, Environment, none, hole, slot}
-use Rattle.fst_machine.specs.Machine.{Program, State, Frame, at_function, at_argument, at_first, at_second, at_field, at_let, at_split, at_if, at_case, at_left, at_right, at_not, at_value, at_target, at_receive, at_select, at_match, at_seq, Pause, stuck, calls, uses, makes, forks, puts, gets, matches, ended, request}
+use Rattle.fst_machine.specs.Machine.{Program, State, Frame, at_function, at_argument, at_first, at_second, at_field, at_let, at_split, at_if, at_case, at_left, at_right, at_not, at_value, at_target, at_receive, at_close, at_wait, at_select, at_match, at_seq, Pause, stuck, calls, uses, makes, forks, puts, gets, closes, waits, matches, ended, request}
 use Rattle.fst_machine.specs.declared.request.Request.{Request}
 use Rattle.fst_machine.specs.declared.request.Request.TheVariants as request
 use Rattle.fst_runs.specs.Configs.{Path, Task, Channel, Config, same_path, same_end, residual_in, channel_residual}
@@ -59,6 +59,8 @@ held_frame x at_not = 0
 held_frame x (at_value e env) = held_env x env
 held_frame x (at_target v) = held x v
 held_frame x at_receive = 0
+held_frame x at_close = 0
+held_frame x at_wait = 0
 held_frame x (at_select l) = 0
 held_frame x (at_match bs env) = held_env x env
 held_frame x (at_seq e env) = held_env x env
@@ -81,6 +83,8 @@ held_pause x (makes k fs) = held_frames x fs
 held_pause x (forks e env fs) = held_env x env + held_frames x fs
 held_pause x (puts y ev fs) = held x (value.end y) + held_frames x fs
 held_pause x (gets y fs) = held x (value.end y) + held_frames x fs
+held_pause x (closes y fs) = held x (value.end y) + held_frames x fs
+held_pause x (waits y fs) = held x (value.end y) + held_frames x fs
 held_pause x (matches y bs env fs) = (held x (value.end y) + held_env x env) + held_frames x fs
 held_pause x (ended v) = held x v
 

@@ -6,12 +6,12 @@ use Rattle.fst_types.specs.Tree.{Tree, plain, arrow, named}
 use Rattle.fst_types.specs.Instance.{instantiated}
 use Rattle.fst_types.specs.declared.base.Base.TheVariants.{Int, Bool as Truth, Char, Unit as Nothing}
 use Rattle.fst_types.specs.declared.family.Family.{Family}
-use Rattle.fst_types.specs.declared.label.Label.TheVariants.{Send, Receive, Select, Offer}
+use Rattle.fst_types.specs.declared.label.Label.TheVariants.{Send, Receive, Select, Offer, Close, Wait}
 use Rattle.fst_kinds.specs.WellFormed.{IsInstantiation}
 use Rattle.fst_kinds.proofs.Laws.{instantiated_again, instantiation_again}
 use Rattle.fst_lts.specs.Dual.{dual}
 use Rattle.fst_instances.proofs.Laws.{instance_moves}
-use Rattle.fst_terms.specs.CoreTree.{CoreTree, local, global, int, bool, char, unit, pair, make, lambda, apply, let_in, split, if_else, case_of, operate, negate, new, send, receive, select, match_with, fork, seq, CoreList, no_terms, term, CoreArms, no_arms, arm}
+use Rattle.fst_terms.specs.CoreTree.{CoreTree, local, global, int, bool, char, unit, pair, make, lambda, apply, let_in, split, if_else, case_of, operate, negate, new, send, receive, close, wait, select, match_with, fork, seq, CoreList, no_terms, term, CoreArms, no_arms, arm}
 use Rattle.fst_terms.specs.declared.global.GlobalEntry.{GlobalEntry}
 use Rattle.fst_context.specs.Scope.{Variable, is_once}
 use Rattle.fst_context.specs.Vars.{Vars, under}
@@ -279,6 +279,22 @@ module _ (m : Surroundings) (F : HasFormedParts m) (args : List Tree) (i : IsIns
           part_of a g h u d (typed a g h q) x,
           instance_moves [] m.vars args i (type_of d) t (Receive k) (λ j z. cc z) p,
           same c (type.pair (plain k) t) (one d) e f,
+        )
+    typed (close at a) g h q u c f (d, t, x, p, e) =
+        made (close at a) h c (plain Nothing) (one d) e (
+          In (type_of d),
+          In t,
+          part_of a g h u d (typed a g h q) x,
+          instance_moves [] m.vars args i (type_of d) t Close (λ j z. cc z) p,
+          same c (plain Nothing) (one d) e f,
+        )
+    typed (wait at a) g h q u c f (d, t, x, p, e) =
+        made (wait at a) h c (plain Nothing) (one d) e (
+          In (type_of d),
+          In t,
+          part_of a g h u d (typed a g h q) x,
+          instance_moves [] m.vars args i (type_of d) t Wait (λ j z. cc z) p,
+          same c (plain Nothing) (one d) e f,
         )
     typed (select at l a) g h q u c f (d, t, x, p, e) =
         made (select at l a) h c t (one d) e (

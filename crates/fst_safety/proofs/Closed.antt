@@ -7,7 +7,7 @@ use Rattle.fst_base.proofs.Options.{none_some}
 use Rattle.fst_types.specs.Tree as type
 use Rattle.fst_types.specs.Tree.{Tree, plain, arrow, named}
 use Rattle.fst_types.specs.declared.base.Base.TheVariants.{Bool as Truth}
-use Rattle.fst_terms.specs.CoreTree.{CoreTree, local, global, int, bool, char, unit, pair, make, lambda, apply, let_in, split, if_else, case_of, operate, negate, new, send, receive, select, match_with, fork, seq, CoreList, no_terms, term, CoreArms, no_arms, arm}
+use Rattle.fst_terms.specs.CoreTree.{CoreTree, local, global, int, bool, char, unit, pair, make, lambda, apply, let_in, split, if_else, case_of, operate, negate, new, send, receive, close, wait, select, match_with, fork, seq, CoreList, no_terms, term, CoreArms, no_arms, arm}
 use Rattle.fst_context.specs.Scope.{Variable}
 use Rattle.fst_derivations.specs.Parts as context
 use Rattle.fst_derivations.specs.Rules.{Surroundings, Binding, fields, rest}
@@ -56,6 +56,8 @@ mutual
   closed_by m g (send at e f) t k d q = or_from (free e k) (free f k) (closed_by m g e (plain d.0) k d.3 q)
       (closed_by m g f d.1 k d.4 q)
   closed_by m g (receive at e) t k d q = closed_by m g e d.1 k d.3 q
+  closed_by m g (close at e) t k d q = closed_by m g e d.0 k d.2 q
+  closed_by m g (wait at e) t k d q = closed_by m g e d.0 k d.2 q
   closed_by m g (select at l e) t k d q = closed_by m g e d.0 k d.2 q
   closed_by m g (match_with at e bs) t k d q = or_from (free e k) (free_below bs k) (closed_by m g e d.0 k d.2 q)
       (arms_closed_by m (rest d.0) g bs t k d.5 q)

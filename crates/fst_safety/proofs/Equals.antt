@@ -2,7 +2,7 @@
 use Rattle.std.proofs.Common.{◌≡◌, ℕ, [], Bool, true, false, Some, refl, sym, ap, ◌∙◌, subst, arith}
 use Rattle.std.specs.Prelude.{◌&&◌, IfSome}
 use Rattle.std.proofs.lemmas.Bool.{true≢false, false≢true, and_parts}
-use Rattle.fst_types.specs.Tree.{Tree, skip, send, receive, select, offer, seq, rec, back, var, plain, arrow, pair, named}
+use Rattle.fst_types.specs.Tree.{Tree, skip, send, receive, close, wait, select, offer, seq, rec, back, var, plain, arrow, pair, named}
 use Rattle.fst_types.specs.declared.base.Base.{Base}
 use Rattle.fst_types.specs.declared.kind.Kind.{Kind}
 use Rattle.fst_types.specs.declared.kind.Use.{Use}
@@ -177,6 +177,8 @@ ended_many : (s : Tree) (u : Use) → HasKind [] s (session u) → terminated s 
 ended_many skip u h e = ap (λ (k : Kind). k.uses) h
 ended_many (send b) u h e = absurd (false≢true e)
 ended_many (receive b) u h e = absurd (false≢true e)
+ended_many close u h e = absurd (false≢true e)
+ended_many wait u h e = absurd (false≢true e)
 ended_many (select bs) u h e = absurd (false≢true e)
 ended_many (offer bs) u h e = absurd (false≢true e)
 ended_many (seq s r) u h e =
@@ -197,6 +199,8 @@ lively_once : (s : Tree) (u : Use) → HasKind [] s (session u) → IsGuarded s 
 lively_once skip u h g o e = absurd (true≢false e)
 lively_once (send b) u h g o e = ap (λ (k : Kind). k.uses) h
 lively_once (receive b) u h g o e = ap (λ (k : Kind). k.uses) h
+lively_once close u h g o e = ap (λ (k : Kind). k.uses) h
+lively_once wait u h g o e = ap (λ (k : Kind). k.uses) h
 lively_once (select bs) u h g o e = ap (λ (k : Kind). k.uses) h.1
 lively_once (offer bs) u h g o e = ap (λ (k : Kind). k.uses) h.1
 lively_once (seq s r) u h g o e =

@@ -1,7 +1,7 @@
 -- The type of a running term is well formed, or the term has every type.
 use Rattle.std.proofs.Common.{◌⊎◌, inl, inr, List, [], ◌∷◌}
 use Rattle.fst_types.specs.Tree.{Tree}
-use Rattle.fst_terms.specs.CoreTree.{CoreTree, local, global, int, bool, char, unit, pair, make, lambda, apply, let_in, split, if_else, case_of, operate, negate, new, send, receive, select, match_with, fork, seq, CoreArms, no_arms, arm}
+use Rattle.fst_terms.specs.CoreTree.{CoreTree, local, global, int, bool, char, unit, pair, make, lambda, apply, let_in, split, if_else, case_of, operate, negate, new, send, receive, close, wait, select, match_with, fork, seq, CoreArms, no_arms, arm}
 use Rattle.fst_context.specs.Scope.{Variable}
 use Rattle.fst_derivations.specs.Parts as context
 use Rattle.fst_derivations.specs.Parts.{IsFormed}
@@ -45,6 +45,8 @@ mutual
   formed_or_any m g (new at k) a h = inl h.3.right
   formed_or_any m g (send at e f) a h = inl h.7.right
   formed_or_any m g (receive at e) a h = inl h.5.right
+  formed_or_any m g (close at e) a h = inl h.4.right
+  formed_or_any m g (wait at e) a h = inl h.4.right
   formed_or_any m g (select at l e) a h = inl h.4.right
   formed_or_any m g (match_with at e bs) a h = by_one (arms_formed_or_any m (rest h.0) g bs a h.5)
       (λ k t. (h.0, h.1, h.2, h.3, h.4, k t, h.6, h.7))

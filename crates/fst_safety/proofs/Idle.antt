@@ -46,7 +46,8 @@ end_same x y h =
     }
 
 module _ (m : Surroundings) (w : IsWellTyped m) (r : Residuals) where
-  spent_elsewhere : (x y : EndName) (s : Tree) (b : Bool) → same_end x y ≡ b → IsUnspent r x → r y ≡ Some s →
+  -- an unspent end isn't one whose residual is terminated
+  pub spent_elsewhere : (x y : EndName) (s : Tree) (b : Bool) → same_end x y ≡ b → IsUnspent r x → r y ≡ Some s →
       terminated s ≡ true → once b ≡ 0
   spent_elsewhere x y s false e h q t = refl
   spent_elsewhere x y s true e h q t =

@@ -2,7 +2,7 @@
 use Rattle.std.proofs.Common.{◌≡◌, ◌∙◌, ℕ, zero, suc, Bool, true, false, Option, Some, None, List, [], ◌∷◌, inl, inr, map, refl, sym, ap, subst, arith}
 use Rattle.std.specs.Prelude.{Contains, IsSome, if◌then◌else◌}
 use Rattle.std.specs.List.{AllByRecursion}
-use Rattle.fst_types.specs.Tree.{Tree, skip, send, receive, select, offer, seq, rec, back, var, plain, arrow, pair, named, Branches, none, branch}
+use Rattle.fst_types.specs.Tree.{Tree, skip, send, receive, close, wait, select, offer, seq, rec, back, var, plain, arrow, pair, named, Branches, none, branch}
 use Rattle.fst_types.specs.Instance.{instantiated, instantiated_all}
 use Rattle.fst_types.specs.declared.kind.Kind.{Kind}
 use Rattle.fst_types.specs.declared.label.Label.{Label}
@@ -101,6 +101,8 @@ pub labels_in : (args : List Tree) (s : Tree) → leading s ≡ None → labels 
 labels_in args skip e = refl
 labels_in args (send b) e = refl
 labels_in args (receive b) e = refl
+labels_in args close e = refl
+labels_in args wait e = refl
 labels_in args (select bs) e = choices_in label.Select args bs
 labels_in args (offer bs) e = choices_in label.Offer args bs
 labels_in args (seq s r) e = pick (labels_in args s) (labels_in args r) (terminated s) refl e

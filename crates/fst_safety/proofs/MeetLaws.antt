@@ -1,8 +1,8 @@
 -- A configuration stays sound where two tasks meet.
-use Rattle.std.proofs.Common.{◌≡◌, ◌∙◌, ◌⊎◌, inl, inr, ℕ, List, [], Bool, true, false, Some, refl, sym, ap, subst, arith}
+use Rattle.std.proofs.Common.{◌≡◌, ◌∙◌, ◌⊎◌, inl, inr, ℕ, [], Bool, true, false, Some, refl, sym, ap, subst, arith}
 use Rattle.std.specs.Prelude.{option_map, option_and_then}
-use Rattle.fst_base.proofs.Options.{some_same}
 use Rattle.fst_types.specs.Tree.{Tree}
+use Rattle.fst_types.specs.declared.label.Label.TheVariants.{Close}
 use Rattle.fst_types.specs.declared.side.Side.{Side}
 use Rattle.fst_kinds.specs.WellFormed.{IsSession}
 use Rattle.fst_lts.specs.Step.{step}
@@ -12,10 +12,10 @@ use Rattle.fst_derivations.specs.Rules.{Surroundings}
 use Rattle.fst_types.specs.declared.ends.ChannelName.{ChannelName}
 use Rattle.fst_types.specs.declared.ends.EndName.{EndName}
 use Rattle.fst_types.specs.declared.event.Entry.{Entry}
+use Rattle.fst_types.specs.declared.event.Event.{Event}
 use Rattle.fst_machine.specs.declared.request.Request.TheVariants as request
 use Rattle.fst_machine.specs.declared.request.Answer.TheVariants.{Sent, Got}
-use Rattle.fst_machine.specs.Values as value
-use Rattle.fst_machine.specs.Machine.{State, Frame, puts, giving, pause, after, answered}
+use Rattle.fst_machine.specs.Machine.{State, Pause, pause, asked, after, answered}
 use Rattle.fst_machine.specs.Machine as machine
 use Rattle.fst_lts.proofs.Laws.{moving, dual_receives}
 use Rattle.fst_runs.specs.Configs.{Path, Task, Channel, Config, same_path, same_channel, other, residual_in, channel_residual, main_path}
@@ -23,18 +23,30 @@ use Rattle.fst_runs.specs.declared.event.CoreEvent.TheVariants.{Meet}
 use Rattle.fst_runs.specs.Events.{Write, written, extended, meeting_stamp, Does, has_met, passed}
 use Rattle.fst_runs.specs.Names.{HasMakers, HasParents}
 use Rattle.fst_runs.specs.Wrong.{held_state, held_pause, amount, IsUnspent}
-use Rattle.fst_runs.proofs.Laws.{put_pause, get_pause, same_path-same, same_path-apart, same_channel-itself, same_channel-same, asks_apart, named_meet, owner, own_once, put, with_task, with_channel, in_put, stays_apart, same_amount, meet_puts}
+use Rattle.fst_runs.proofs.Laws.{put_pause, get_pause, same_path-same, same_path-apart, same_channel-itself, same_channel-same, asks_apart, named_meet, owner, own_once, asks_held, put, with_task, with_channel, in_put, stays_apart, same_amount, meet_puts}
 use Rattle.fst_safety.specs.Fitting.{Residuals, IsTyped}
 use Rattle.fst_safety.specs.WellTyped.{IsWellTyped, program_in}
 use Rattle.fst_safety.specs.Pauses.{Allowed, Reached, Goes}
 use Rattle.fst_safety.specs.Sound.{IsSound, IsTrace}
 use Rattle.fst_safety.proofs.Equals.{session_step}
-use Rattle.fst_safety.proofs.Meets.{Meeting, still_but, put_goes, get_goes, choose_goes}
+use Rattle.fst_safety.proofs.Meets.{Meeting, still_but, put_goes, close_goes, get_goes, wait_goes, choose_goes}
 use Rattle.fst_safety.proofs.Owners.{or_other}
 use Rattle.fst_safety.proofs.Settles.{pause_goes}
 use Rattle.fst_safety.proofs.SoundLaws.{end_moves}
 use Rattle.fst_safety.proofs.StillLaws.{typed_still}
 use Rattle.fst_safety.proofs.TraceLaws.{Sides, sides_from, trace_from, sides_grow}
+
+-- where a typed task asks to send, the residual of the end moves so
+put_moves : (m : Surroundings) (r : Residuals) (p : Pause) (t : Tree) (x : EndName) (ev : Event) →
+    asked p ≡ Some (request.Put x ev) → Allowed m r p t →
+    (now : Tree) × (next : Tree) × (r x ≡ Some now) × (step now (sending ev) ≡ Some next) × IsSession [] now
+put_moves m r p t x ev asks = put_pause
+    (λ w. Allowed m r w t →
+    (now : Tree) × (next : Tree) × (r x ≡ Some now) × (step now (sending ev) ≡ Some next) × IsSession [] now) p x ev asks
+    (λ fs a. let g = end_moves m r x a.0 a.1 (sending ev) a.2 a.3 in (g.0, g.1, g.2, g.3, g.4))
+    (λ fs c a.
+    let g = end_moves m r x a.0 a.1 Close a.2 a.3 in
+    (g.0, g.1, g.2, subst (λ e. step g.0 (sending e) ≡ Some g.1) (sym c) g.3, g.4))
 
 -- all that a meeting is about; n is the clock of both tasks after it
 module _ (m : Surroundings) (well : IsWellTyped m) (a : Tree) (c : Config) (p q : Path) (t u : Task) (x : EndName) (e : Entry)
@@ -71,23 +83,14 @@ module _ (m : Surroundings) (well : IsWellTyped m) (a : Tree) (c : Config) (p q 
   abbrev B : Tree
   B = (hs.tasks q u eq).0
 
-  abbrev fs : List Frame
-  fs = (put_pause (pause m.families t.state) x e.event rp).0
-
-  is_puts : pause m.families t.state ≡ puts x e.event fs
-  is_puts = (put_pause (pause m.families t.state) x e.event rp).1
-
-  put_reached : Reached m r (puts x e.event fs) A (λ z. held_state z t.state)
-  put_reached = subst (λ z. Reached m r z A (λ z. held_state z t.state)) is_puts
-      (pause_goes m well r t.state A (hs.tasks p t ep).1)
+  put_reached : Reached m r (pause m.families t.state) A (λ z. held_state z t.state)
+  put_reached = pause_goes m well r t.state A (hs.tasks p t ep).1
 
   get_reached : Reached m r (pause m.families u.state) B (λ z. held_state z u.state)
   get_reached = pause_goes m well r u.state B (hs.tasks q u eq).1
 
   mv : (now : Tree) × (next : Tree) × (r x ≡ Some now) × (step now (sending e.event) ≡ Some next) × IsSession [] now
-  mv =
-      let g = end_moves m r x put_reached.0.0 put_reached.0.1 (sending e.event) put_reached.0.2 put_reached.0.3 in
-      (g.0, g.1, g.2, g.3, g.4)
+  mv = put_moves m r (pause m.families t.state) A x e.event rp put_reached.0
 
   its_trace : IsTrace k
   its_trace = hs.traces x.channel k ek
@@ -147,15 +150,11 @@ module _ (m : Surroundings) (well : IsWellTyped m) (a : Tree) (c : Config) (p q 
 
   x_owned : (held_state x t.state ≡ 1) × ((o : Path) → same_path p o ≡ false → amount x (c.tasks o) ≡ 0)
   x_owned = owner c x p t (hs.owned x x_unspent) ep
-      (λ z. let f = put_reached.1 x x_unspent in let o = own_once x in omega (arith, z, f, o))
-
-  y_in : held_pause y (pause m.families u.state) ≡ 0 → ⊥
-  y_in = get_pause (λ z. held_pause y z ≡ 0 → ⊥) (pause m.families u.state) y rq
-      (λ fs f. let o = own_once y in omega (arith, f, o))
-      (λ bs env fs f. let o = own_once y in omega (arith, f, o))
+      (λ z. asks_held (pause m.families t.state) (request.Put x e.event) x refl rp (put_reached.1 x x_unspent ∙ z))
 
   y_owned : (held_state y u.state ≡ 1) × ((o : Path) → same_path q o ≡ false → amount y (c.tasks o) ≡ 0)
-  y_owned = owner c y q u (hs.owned y y_unspent) eq (λ z. y_in (get_reached.1 y y_unspent ∙ z))
+  y_owned = owner c y q u (hs.owned y y_unspent) eq
+      (λ z. asks_held (pause m.families u.state) (request.Get y) y refl rq (get_reached.1 y y_unspent ∙ z))
 
   x_at_q : held_state x u.state ≡ 0
   x_at_q = sym (ap (λ o. amount x o) eq) ∙ x_owned.1 q (same_path-apart p q apart)
@@ -163,14 +162,18 @@ module _ (m : Surroundings) (well : IsWellTyped m) (a : Tree) (c : Config) (p q 
   y_at_p : held_state y t.state ≡ 0
   y_at_p = sym (ap (λ o. amount y o) ep) ∙ y_owned.1 p (same_path-apart q p (λ f. apart (sym f)))
 
-  is_given : s ≡ giving (value.end x) fs
-  is_given = sym (some_same (sym (ap (λ z. after (program_in m) z Sent) is_puts) ∙ ap'))
-
-  sent : Goes m r' s A (λ z. held_pause z (puts x e.event fs))
-  sent = subst (λ w. Goes m r' w A (λ z. held_pause z (puts x e.event fs))) (sym is_given)
-      (put_goes m well r r' x e.event meeting fs A put_reached.0
-      (let f = put_reached.1 x x_unspent in let o = own_once x in let w = x_owned.0 in omega (arith, f, o, w))
-      (let f = put_reached.1 y y_unspent in let w = y_at_p in omega (arith, f, w)))
+  sent : Goes m r' s A (λ z. held_pause z (pause m.families t.state))
+  sent = put_pause
+      (λ w. Allowed m r w A → ((z : EndName) → IsUnspent r z → held_pause z w ≡ held_state z t.state) →
+      after (program_in m) w Sent ≡ Some s → Goes m r' s A (λ z. held_pause z w))
+      (pause m.families t.state) x e.event rp
+      (λ fs k h f. put_goes m well r r' x e.event meeting (program_in m) fs A s k
+      (let g = h x x_unspent in let w = x_owned.0 in let o = own_once x in omega (arith, g, w, o))
+      (let g = h y y_unspent in let w = y_at_p in omega (arith, g, w)) f)
+      (λ fs c k h f. close_goes m well r r' x e.event meeting c (program_in m) fs A s k
+      (let g = h x x_unspent in let w = x_owned.0 in let o = own_once x in omega (arith, g, w, o))
+      (let g = h y y_unspent in let w = y_at_p in omega (arith, g, w)) f)
+      put_reached.0 put_reached.1 ap'
 
   got : Goes m r' v B (λ z. held_pause z (pause m.families u.state))
   got = get_pause
@@ -178,6 +181,9 @@ module _ (m : Surroundings) (well : IsWellTyped m) (a : Tree) (c : Config) (p q 
       after (program_in m) w (Got e.event) ≡ Some v → Goes m r' v B (λ z. held_pause z w))
       (pause m.families u.state) y rq
       (λ fs k h f. get_goes m well r r' x e.event meeting (program_in m) fs B v k
+      (let g = h x x_unspent in let w = x_at_q in omega (arith, g, w))
+      (let g = h y y_unspent in let w = y_owned.0 in let o = own_once y in omega (arith, g, w, o)) f)
+      (λ fs k h f. wait_goes m well r r' x e.event meeting (program_in m) fs B v k
       (let g = h x x_unspent in let w = x_at_q in omega (arith, g, w))
       (let g = h y y_unspent in let w = y_owned.0 in let o = own_once y in omega (arith, g, w, o)) f)
       (λ bs env fs k h f. choose_goes m well r r' x e.event meeting (program_in m) bs env fs B v k

@@ -9,17 +9,17 @@ use Rattle.fst_terms.specs.CoreTree.{CoreArms}
 use Rattle.fst_derivations.specs.Rules.{Surroundings}
 use Rattle.fst_types.specs.declared.ends.EndName.{EndName}
 use Rattle.fst_types.specs.declared.event.Event.{Event}
-use Rattle.fst_machine.specs.declared.request.Answer.TheVariants.{Got}
-use Rattle.fst_machine.specs.Values as value
+use Rattle.fst_types.specs.declared.event.Event.TheVariants.{Closed}
+use Rattle.fst_machine.specs.declared.request.Answer.TheVariants.{Sent, Got}
 use Rattle.fst_machine.specs.Values.{Environment}
-use Rattle.fst_machine.specs.Machine.{Program, State, Frame, puts, gets, matches, giving, after}
+use Rattle.fst_machine.specs.Machine.{Program, State, Frame, puts, gets, closes, waits, matches, after}
 use Rattle.fst_lts.proofs.Laws.{dual_receives}
 use Rattle.fst_runs.specs.Configs.{other}
 use Rattle.fst_runs.specs.Wrong.{held_env, held_frames, held_pause}
 use Rattle.fst_safety.specs.Fitting.{Residuals}
 use Rattle.fst_safety.specs.WellTyped.{IsWellTyped}
 use Rattle.fst_safety.specs.Pauses.{Allowed, Goes}
-use Rattle.fst_safety.proofs.Exchanging.{sent_goes, received_goes, chosen_goes}
+use Rattle.fst_safety.proofs.Exchanging.{sent_goes, closed_goes, received_goes, waited_goes, chosen_goes}
 use Rattle.fst_safety.proofs.StillLaws.{Still, unchanged}
 
 -- what an event does to the residuals of the two ends: that of x moves from now to next, that of the other end from dual to dual
@@ -47,11 +47,18 @@ module _ (m : Surroundings) (well : IsWellTyped m) (r r' : Residuals) (x : EndNa
   other_moves = dual_receives h.now ev ∙ ap (option_map dual) h.moves
 
   -- the state of the task that sent
-  pub put_goes : (fs : List Frame) (t : Tree) → Allowed m r (puts x ev fs) t → held_frames x fs ≡ 0 →
-      held_frames (other x) fs ≡ 0 →
-      Goes m r' (giving (value.end x) fs) t (λ z. held_pause z (puts x ev fs))
-  put_goes fs t a i j = sent_goes m well r r' x ev h.now h.next h.before h.moves h.later fs t a
-      (still_but (λ z. held_frames z fs) i j)
+  pub put_goes : (p : Program) (fs : List Frame) (t : Tree) (s : State) → Allowed m r (puts x ev fs) t →
+      held_frames x fs ≡ 0 → held_frames (other x) fs ≡ 0 →
+      after p (puts x ev fs) Sent ≡ Some s → Goes m r' s t (λ z. held_pause z (puts x ev fs))
+  put_goes p fs t s a i j e =
+      sent_goes m well r r' x ev h.now h.next h.before h.moves h.later p fs t s a (still_but (λ z. held_frames z fs) i j) e
+
+  -- the state of the task that closed the channel
+  pub close_goes : ev ≡ Closed → (p : Program) (fs : List Frame) (t : Tree) (s : State) → Allowed m r (closes x fs) t →
+      held_frames x fs ≡ 0 → held_frames (other x) fs ≡ 0 →
+      after p (closes x fs) Sent ≡ Some s → Goes m r' s t (λ z. held_pause z (closes x fs))
+  close_goes is p fs t s a i j e =
+      closed_goes m well r r' x ev h.now h.next h.before is h.moves h.later p fs t s a (still_but (λ z. held_frames z fs) i j) e
 
   -- the state of the task that received a value
   pub get_goes : (p : Program) (fs : List Frame) (t : Tree) (s : State) → Allowed m r (gets (other x) fs) t →
@@ -59,6 +66,14 @@ module _ (m : Surroundings) (well : IsWellTyped m) (r r' : Residuals) (x : EndNa
       after p (gets (other x) fs) (Got ev) ≡ Some s → Goes m r' s t (λ z. held_pause z (gets (other x) fs))
   get_goes p fs t s a i j e =
       received_goes m well r r' (other x) ev (dual h.now) (dual h.next) h.before_other other_moves h.later_other p fs t s a
+      (still_but (λ z. held_frames z fs) i j) e
+
+  -- the state of the task that waited for a closing
+  pub wait_goes : (p : Program) (fs : List Frame) (t : Tree) (s : State) → Allowed m r (waits (other x) fs) t →
+      held_frames x fs ≡ 0 → held_frames (other x) fs ≡ 0 →
+      after p (waits (other x) fs) (Got ev) ≡ Some s → Goes m r' s t (λ z. held_pause z (waits (other x) fs))
+  wait_goes p fs t s a i j e =
+      waited_goes m well r r' (other x) ev (dual h.now) (dual h.next) h.before_other other_moves h.later_other p fs t s a
       (still_but (λ z. held_frames z fs) i j) e
 
   -- the state of the task that received a label

@@ -1,7 +1,7 @@
 -- What the value of a part leads to, frame by frame.
 use Rattle.std.proofs.Common.{◌≡◌, ℕ, zero, suc, ◌+◌, List, ◌∷◌, not, Some, refl, sym, subst, arith}
 use Rattle.fst_types.specs.Tree.{Tree}
-use Rattle.fst_types.specs.declared.label.Label.TheVariants.{Send, Receive, Select}
+use Rattle.fst_types.specs.declared.label.Label.TheVariants.{Send, Receive, Select, Close, Wait}
 use Rattle.fst_lts.specs.Step.{step}
 use Rattle.fst_terms.specs.CoreTree.{CoreTree, CoreList, CoreArms}
 use Rattle.fst_terms.specs.declared.term.Op.{Op}
@@ -10,7 +10,7 @@ use Rattle.fst_types.specs.declared.event.Event.TheVariants.{Label}
 use Rattle.fst_machine.specs.Free.{free, outside}
 use Rattle.fst_machine.specs.Values as value
 use Rattle.fst_machine.specs.Values.{Value, Values, Environment, enter, bool_in, operated, sent}
-use Rattle.fst_machine.specs.Machine.{Frame, at_function, at_argument, at_first, at_second, at_field, at_let, at_split, at_left, at_right, at_not, at_value, at_target, at_receive, at_select, at_match, at_seq, Pause, calls, puts, gets, matches, eval, eval_all, on, on_function, on_pair, on_end}
+use Rattle.fst_machine.specs.Machine.{Frame, at_function, at_argument, at_first, at_second, at_field, at_let, at_split, at_left, at_right, at_not, at_value, at_target, at_receive, at_close, at_wait, at_select, at_match, at_seq, Pause, calls, puts, gets, closes, waits, matches, eval, eval_all, on, on_function, on_pair, on_end}
 use Rattle.fst_runs.specs.Wrong.{held, held_env, held_frames}
 use Rattle.fst_safety.specs.Fitting.{Residuals, Fits, FitsEnv, Takes}
 use Rattle.fst_safety.specs.WellTyped.{IsWellTyped}
@@ -175,6 +175,20 @@ module _ (m : Surroundings) (w : IsWellTyped m) (r : Residuals) where
   next_receive fs a t k z g =
       end_next m w r z a t (λ x. 0 + held_frames x fs) (λ y. gets y fs) (step_moving a (Receive k.0) k.1 k.2) g
       (λ y f. ((k.0, a, k.1, f, k.2, k.3, k.4, k.5), λ x u. omega arith))
+
+  -- a channel is closed at an end
+  pub next_close : (fs : List Frame) (a t : Tree) → Takes m r (at_close ∷ fs) a t → Comes m w r
+      (λ z. on_end z (λ y. closes y fs)) (at_close ∷ fs) a t
+  next_close fs a t k z g =
+      end_next m w r z a t (λ x. 0 + held_frames x fs) (λ y. closes y fs) (step_moving a Close k.0 k.1) g
+      (λ y f. ((a, k.0, f, k.1, k.2, k.3, k.4), λ x u. omega arith))
+
+  -- that is waited for at an end
+  pub next_wait : (fs : List Frame) (a t : Tree) → Takes m r (at_wait ∷ fs) a t → Comes m w r
+      (λ z. on_end z (λ y. waits y fs)) (at_wait ∷ fs) a t
+  next_wait fs a t k z g =
+      end_next m w r z a t (λ x. 0 + held_frames x fs) (λ y. waits y fs) (step_moving a Wait k.0 k.1) g
+      (λ y f. ((a, k.0, f, k.1, k.2, k.3, k.4), λ x u. omega arith))
 
   -- a label is selected on an end
   pub next_select : (l : List ℕ) (fs : List Frame) (a t : Tree) → Takes m r (at_select l ∷ fs) a t → Comes m w r

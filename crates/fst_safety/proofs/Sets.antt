@@ -2,7 +2,7 @@
 use Rattle.std.proofs.Common.{◌≡◌, ◌∙◌, ℕ, zero, suc, Bool, true, false, ◌&&◌, ◌||◌, List, [], ◌∷◌, Some, length, slice_get, refl, sym, ap, arith}
 use Rattle.std.specs.Prelude.{⊤}
 use Rattle.fst_types.specs.Tree.{Tree}
-use Rattle.fst_terms.specs.CoreTree.{CoreTree, local, global, int, bool, char, unit, pair, make, lambda, apply, let_in, split, if_else, case_of, operate, negate, new, send, receive, select, match_with, fork, seq, CoreList, no_terms, term, CoreArms, no_arms, arm}
+use Rattle.fst_terms.specs.CoreTree.{CoreTree, local, global, int, bool, char, unit, pair, make, lambda, apply, let_in, split, if_else, case_of, operate, negate, new, send, receive, close, wait, select, match_with, fork, seq, CoreList, no_terms, term, CoreArms, no_arms, arm}
 use Rattle.fst_terms.specs.declared.binder.Binder.{Binder}
 use Rattle.fst_context.specs.Scope.{Variable, is_once}
 use Rattle.fst_context.specs.Vars.{Vars, no_vars, under, single, IsSplit}
@@ -125,6 +125,8 @@ module _ (m : Surroundings) (S : Mode) where
         split_set g u x.left x.right (free a) (free b) x.split (set_is_free a g x.left x.first.core x.first.rule)
         (set_is_free b g x.right x.second.core x.second.rule)
     set_is_free (receive at a) g u c (d, k, t, x, p, e) = set_is_free a g u x.core x.rule
+    set_is_free (close at a) g u c (d, t, x, p, e) = set_is_free a g u x.core x.rule
+    set_is_free (wait at a) g u c (d, t, x, p, e) = set_is_free a g u x.core x.rule
     set_is_free (select at l a) g u c (d, t, x, p, e) = set_is_free a g u x.core x.rule
     set_is_free (match_with at a bs) g u c (d, ls, t, ds, x, i, l, e) =
         split_set g u x.left x.right (free a) (free_below bs) x.split (set_is_free a g x.left x.first.core x.first.rule)

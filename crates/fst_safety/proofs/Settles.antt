@@ -4,14 +4,14 @@ use Rattle.fst_machine.proofs.Laws.{is_itself}
 use Rattle.fst_types.specs.Tree as type
 use Rattle.fst_types.specs.Tree.{Tree, plain, arrow, named}
 use Rattle.fst_types.specs.declared.base.Base.TheVariants.{Bool as Truth}
-use Rattle.fst_terms.specs.CoreTree.{CoreTree, local, global, int, bool, char, unit, pair, make, lambda, apply, let_in, split, if_else, case_of, operate, negate, new, send, receive, select, match_with, fork, seq, CoreList, no_terms, term, CoreArms, no_arms, arm}
+use Rattle.fst_terms.specs.CoreTree.{CoreTree, local, global, int, bool, char, unit, pair, make, lambda, apply, let_in, split, if_else, case_of, operate, negate, new, send, receive, close, wait, select, match_with, fork, seq, CoreList, no_terms, term, CoreArms, no_arms, arm}
 use Rattle.fst_derivations.specs.Rules.{Surroundings}
 use Rattle.fst_types.specs.declared.ends.EndName.{EndName}
 use Rattle.fst_types.specs.declared.event.Event.TheVariants.{Label}
 use Rattle.fst_machine.specs.Free.{is, free, free_in, free_below, outside}
 use Rattle.fst_machine.specs.Values as value
 use Rattle.fst_machine.specs.Values.{Value, no_values, Environment, lookup, enter, keep, turned_onto, bool_in, operated, sent}
-use Rattle.fst_machine.specs.Machine.{State, Frame, at_function, at_argument, at_first, at_second, at_field, at_let, at_split, at_if, at_case, at_left, at_right, at_not, at_value, at_target, at_receive, at_select, at_match, at_seq, Pause, calls, puts, gets, matches, eval, eval_all, eval_arm, resume, pause, on, on_function, on_pair, on_made, on_end, chosen, name_of, in_either}
+use Rattle.fst_machine.specs.Machine.{State, Frame, at_function, at_argument, at_first, at_second, at_field, at_let, at_split, at_if, at_case, at_left, at_right, at_not, at_value, at_target, at_receive, at_close, at_wait, at_select, at_match, at_seq, Pause, calls, puts, gets, closes, waits, matches, eval, eval_all, eval_arm, resume, pause, on, on_function, on_pair, on_made, on_end, chosen, name_of, in_either}
 use Rattle.fst_runs.specs.Wrong.{held, held_all, held_env, held_frames, held_state}
 use Rattle.fst_runs.proofs.Laws.{held_turned}
 use Rattle.fst_safety.specs.Fitting.{Residuals, Fits, Exactly, Takes, IsTyped}
@@ -21,7 +21,7 @@ use Rattle.fst_safety.proofs.Typed.{fits_equal, fits_lookup}
 use Rattle.fst_safety.proofs.Held.{held_nothing, held_one}
 use Rattle.fst_safety.proofs.Lists.{fit_turned}
 use Rattle.fst_safety.proofs.Comes.{Comes, Good, GoodAll, GoodArms, counted, left, right, shared}
-use Rattle.fst_safety.proofs.Next.{next_argument, next_function, next_second, next_first, next_field, next_let, next_split, next_seq, next_right, next_left, next_not, next_target, next_value, next_receive, next_select, next_match}
+use Rattle.fst_safety.proofs.Next.{next_argument, next_function, next_second, next_first, next_field, next_let, next_split, next_seq, next_right, next_left, next_not, next_target, next_value, next_receive, next_close, next_wait, next_select, next_match}
 use Rattle.fst_safety.proofs.NextChoices.{next_if, no_arm, next_arm, next_case}
 
 module _ (m : Surroundings) (w : IsWellTyped m) (r : Residuals) where
@@ -148,6 +148,16 @@ module _ (m : Surroundings) (w : IsWellTyped m) (r : Residuals) where
         counted m w r (eval m.families (receive at e) env fs back) t _ _
         (term_goes e env (at_receive ∷ fs) (λ v. on_end v (λ y. gets y fs)) g d.1 t i d.3 kk (next_receive m w r fs d.1 t kk))
         (λ x u. omega arith)
+    term_goes (close at e) env fs back g a t i d k c =
+        let kk : Takes m r (at_close ∷ fs) d.0 t = (d.1, d.3, a, d.4, k) in
+        counted m w r (eval m.families (close at e) env fs back) t _ _
+        (term_goes e env (at_close ∷ fs) (λ v. on_end v (λ y. closes y fs)) g d.0 t i d.2 kk (next_close m w r fs d.0 t kk))
+        (λ x u. omega arith)
+    term_goes (wait at e) env fs back g a t i d k c =
+        let kk : Takes m r (at_wait ∷ fs) d.0 t = (d.1, d.3, a, d.4, k) in
+        counted m w r (eval m.families (wait at e) env fs back) t _ _
+        (term_goes e env (at_wait ∷ fs) (λ v. on_end v (λ y. waits y fs)) g d.0 t i d.2 kk (next_wait m w r fs d.0 t kk))
+        (λ x u. omega arith)
     term_goes (select at l e) env fs back g a t i d k c =
         let kk : Takes m r (at_select l ∷ fs) d.0 t = (d.1, d.3, a, d.4, k) in
         counted m w r (eval m.families (select at l e) env fs back) t _ _
@@ -219,6 +229,8 @@ module _ (m : Surroundings) (w : IsWellTyped m) (r : Residuals) where
   value_goes (at_value e env ∷ fs) a t k y h = next_value m w r e env fs a t (term_goes e) k y h
   value_goes (at_target v ∷ fs) a t k y h = next_target m w r v fs a t k y h
   value_goes (at_receive ∷ fs) a t k y h = next_receive m w r fs a t k y h
+  value_goes (at_close ∷ fs) a t k y h = next_close m w r fs a t k y h
+  value_goes (at_wait ∷ fs) a t k y h = next_wait m w r fs a t k y h
   value_goes (at_select l ∷ fs) a t k y h = next_select m w r l fs a t k y h
   value_goes (at_match bs env ∷ fs) a t k y h = next_match m w r bs env fs a t k y h
   value_goes (at_seq e env ∷ fs) a t k y h = next_seq m w r e env fs (resume m.families fs) a t (term_goes e) k

@@ -2,7 +2,7 @@
 use Rattle.std.proofs.Common.{◌≡◌, ℕ, ℤ, List, [], ◌∷◌, map, Bool, Some, refl, sym, ap}
 use Rattle.std.specs.Prelude.{⊤}
 use Rattle.fst_base.proofs.Options.{none_some}
-use Rattle.fst_types.specs.Tree.{Tree, skip, send, receive, select, offer, seq, rec, back, var, plain, arrow, pair, named}
+use Rattle.fst_types.specs.Tree.{Tree, skip, send, receive, close, wait, select, offer, seq, rec, back, var, plain, arrow, pair, named}
 use Rattle.fst_types.specs.declared.base.Base.{Base}
 use Rattle.fst_types.specs.declared.base.Base.TheVariants.{Int, Bool as Truth, Char}
 use Rattle.fst_types.specs.declared.kind.Use.{Use}
@@ -34,6 +34,8 @@ abbrev pub IsMoving : Tree → Type 0
 IsMoving skip = ⊤
 IsMoving (send b) = ⊤
 IsMoving (receive b) = ⊤
+IsMoving close = ⊤
+IsMoving wait = ⊤
 IsMoving (select bs) = ⊤
 IsMoving (offer bs) = ⊤
 IsMoving (seq s r) = ⊤
@@ -50,6 +52,8 @@ pub step_moving : (s : Tree) (a : Label) (t : Tree) → step s a ≡ Some t → 
 step_moving skip a t q = tt
 step_moving (send b) a t q = tt
 step_moving (receive b) a t q = tt
+step_moving close a t q = tt
+step_moving wait a t q = tt
 step_moving (select bs) a t q = tt
 step_moving (offer bs) a t q = tt
 step_moving (seq s r) a t q = tt
@@ -70,6 +74,8 @@ pub offering_moving : (s : Tree) (names : List (List ℕ)) → IsOffering s name
 offering_moving skip names o = tt
 offering_moving (send b) names o = tt
 offering_moving (receive b) names o = tt
+offering_moving close names o = tt
+offering_moving wait names o = tt
 offering_moving (select bs) names o = tt
 offering_moving (offer bs) names o = tt
 offering_moving (seq s r) names o = tt

@@ -4,17 +4,18 @@ use Rattle.std.specs.Prelude.{option_map}
 use Rattle.fst_base.proofs.Options.{some_same, none_some}
 use Rattle.fst_types.specs.Tree.{Tree}
 use Rattle.fst_types.specs.declared.label.Label.{Label}
-use Rattle.fst_types.specs.declared.label.Label.TheVariants.{Receive, Offer}
+use Rattle.fst_types.specs.declared.label.Label.TheVariants.{Receive, Offer, Close, Wait}
 use Rattle.fst_kinds.specs.WellFormed.{IsSession}
 use Rattle.fst_lts.specs.Step.{step}
 use Rattle.fst_lts.specs.Histories.{sending}
 use Rattle.fst_derivations.specs.Rules.{Surroundings}
 use Rattle.fst_types.specs.declared.ends.EndName.{EndName}
+use Rattle.fst_types.specs.declared.event.Event.TheVariants.{Closed}
 use Rattle.fst_machine.specs.declared.request.Request.{Request}
 use Rattle.fst_machine.specs.declared.request.Request.TheVariants as request
 use Rattle.fst_machine.specs.declared.request.Answer.TheVariants.{Go}
 use Rattle.fst_machine.specs.Values as value
-use Rattle.fst_machine.specs.Machine.{State, Pause, stuck, calls, uses, makes, forks, puts, gets, matches, ended, pause, asked, after, begins, or_lost}
+use Rattle.fst_machine.specs.Machine.{State, Pause, stuck, calls, uses, makes, forks, puts, gets, closes, waits, matches, ended, pause, asked, after, begins, or_lost}
 use Rattle.fst_runs.specs.declared.event.CoreEvent.TheVariants.{Local}
 use Rattle.fst_runs.specs.Configs.{Path, Task, Config, same_path, residual_in, main_path}
 use Rattle.fst_runs.specs.Events.{Write, written, moved, Does}
@@ -52,6 +53,12 @@ allowed_right m r (puts x ev fs) t a =
 allowed_right m r (gets x fs) t a =
     let g = end_moves m r x a.1 a.2 (Receive a.0) a.3 a.4 in
     (request.Get x, refl, (g.0, Receive a.0, g.1, g.2, tt, g.3))
+allowed_right m r (closes x fs) t a =
+    let g = end_moves m r x a.0 a.1 Close a.2 a.3 in
+    (request.Put x Closed, refl, (g.0, g.1, g.2, g.3))
+allowed_right m r (waits x fs) t a =
+    let g = end_moves m r x a.0 a.1 Wait a.2 a.3 in
+    (request.Get x, refl, (g.0, Wait, g.1, g.2, tt, g.3))
 allowed_right m r (matches x bs env fs) t a =
     let o = offering_moves a.0 a.1 a.5 in
     let g = end_moves m r x a.0 o.1 (Offer o.0) a.4 o.2 in
@@ -100,6 +107,8 @@ steps_on m well r (makes k fs) s t a e = absurd (none_some e)
 steps_on m well r (forks f env fs) s t a e = absurd (none_some e)
 steps_on m well r (puts x ev fs) s t a e = absurd (none_some e)
 steps_on m well r (gets x fs) s t a e = absurd (none_some e)
+steps_on m well r (closes x fs) s t a e = absurd (none_some e)
+steps_on m well r (waits x fs) s t a e = absurd (none_some e)
 steps_on m well r (matches x bs env fs) s t a e = absurd (none_some e)
 steps_on m well r (ended v) s t a e = absurd (none_some e)
 

@@ -8,7 +8,7 @@ use Rattle.fst_derivations.specs.Rules.{Surroundings}
 use Rattle.fst_types.specs.declared.ends.EndName.{EndName}
 use Rattle.fst_machine.specs.Values as value
 use Rattle.fst_machine.specs.Values.{Value, Values, no_values, Environment, none, hole, slot}
-use Rattle.fst_machine.specs.Machine.{State, Frame, at_function, at_argument, at_first, at_second, at_field, at_let, at_split, at_if, at_case, at_left, at_right, at_not, at_value, at_target, at_receive, at_select, at_match, at_seq}
+use Rattle.fst_machine.specs.Machine.{State, Frame, at_function, at_argument, at_first, at_second, at_field, at_let, at_split, at_if, at_case, at_left, at_right, at_not, at_value, at_target, at_receive, at_close, at_wait, at_select, at_match, at_seq}
 use Rattle.fst_runs.specs.Wrong.{held, held_all, held_env, held_frame, held_frames, held_state}
 use Rattle.fst_runs.proofs.Laws.{own_once}
 use Rattle.fst_safety.specs.Running.{Equals}
@@ -232,6 +232,8 @@ module _ (m : Surroundings) (r r' : Residuals) where
     takes_still fs k.4 t k.6 (behind (at_target v) fs h),
   )
   takes_still (at_receive ∷ fs) a t k h = (k.0, k.1, k.2, k.3, k.4, takes_still fs k.3 t k.5 (behind at_receive fs h))
+  takes_still (at_close ∷ fs) a t k h = (k.0, k.1, k.2, k.3, takes_still fs k.2 t k.4 (behind at_close fs h))
+  takes_still (at_wait ∷ fs) a t k h = (k.0, k.1, k.2, k.3, takes_still fs k.2 t k.4 (behind at_wait fs h))
   takes_still (at_select l ∷ fs) a t k h = (k.0, k.1, k.2, k.3, takes_still fs k.2 t k.4 (behind (at_select l) fs h))
   takes_still (at_match bs env ∷ fs) a t k h = (
     k.0,

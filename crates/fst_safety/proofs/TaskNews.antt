@@ -13,7 +13,7 @@ use Rattle.fst_types.specs.declared.ends.EndName.{EndName}
 use Rattle.fst_machine.specs.declared.code.Code.{Code}
 use Rattle.fst_machine.specs.declared.request.Request.TheVariants as request
 use Rattle.fst_machine.specs.declared.request.Answer.TheVariants.{Made, Forked as Told}
-use Rattle.fst_machine.specs.Machine.{State, Pause, stuck, calls, uses, makes, forks, puts, gets, matches, ended, pause, asked, child}
+use Rattle.fst_machine.specs.Machine.{State, Pause, stuck, calls, uses, makes, forks, puts, gets, closes, waits, matches, ended, pause, asked, child}
 use Rattle.fst_machine.specs.Machine as machine
 use Rattle.fst_machine.specs.Programs.{program}
 use Rattle.fst_vm.specs.Moves.{ends_in_slots}
@@ -55,6 +55,8 @@ is_declared m r (makes k fs) t j h e =
 is_declared m r (forks b env fs) t j h e = absurd (cc e)
 is_declared m r (puts x ev fs) t j h e = absurd (cc e)
 is_declared m r (gets x fs) t j h e = absurd (cc e)
+is_declared m r (closes x fs) t j h e = absurd (cc e)
+is_declared m r (waits x fs) t j h e = absurd (cc e)
 is_declared m r (matches x bs env fs) t j h e = absurd (cc e)
 is_declared m r (ended v) t j h e = absurd (cc e)
 
@@ -165,6 +167,8 @@ no_frames (forks c env fs) b e = let same : record { term = c; environment = env
     (λ (s : State). s.frames) (sym same)
 no_frames (puts x ev fs) b e = absurd (cc e)
 no_frames (gets x fs) b e = absurd (cc e)
+no_frames (closes x fs) b e = absurd (cc e)
+no_frames (waits x fs) b e = absurd (cc e)
 no_frames (matches x bs env fs) b e = absurd (cc e)
 no_frames (ended v) b e = absurd (cc e)
 

@@ -16,8 +16,7 @@ use Rattle.fst_types.specs.declared.ends.EndName.{EndName}
 use Rattle.fst_types.specs.declared.event.Event.{Event}
 use Rattle.fst_machine.specs.declared.request.Request.TheVariants as request
 use Rattle.fst_machine.specs.declared.request.Answer.TheVariants.{Go, Sent, Got}
-use Rattle.fst_machine.specs.Values as value
-use Rattle.fst_machine.specs.Machine.{Program, State, Pause, stuck, calls, uses, makes, forks, puts, gets, matches, ended, pause, asked, after, answered, giving}
+use Rattle.fst_machine.specs.Machine.{Program, State, Pause, stuck, calls, uses, makes, forks, puts, gets, closes, waits, matches, ended, pause, asked, after, answered}
 use Rattle.fst_machine.specs.Machine as machine
 use Rattle.fst_runs.specs.Configs.{same_end}
 use Rattle.fst_runs.specs.Wrong.{held_env, held_frames, held_state, held_pause, IsUnspent}
@@ -25,9 +24,9 @@ use Rattle.fst_runs.proofs.Laws.{put_pause, get_pause, same_end-itself, same_end
 use Rattle.fst_safety.specs.Running.{Equals}
 use Rattle.fst_safety.specs.Fitting.{Residuals, IsTyped}
 use Rattle.fst_safety.specs.WellTyped.{IsWellTyped, program_in}
-use Rattle.fst_safety.specs.Pauses.{Allowed, Reached, Goes}
+use Rattle.fst_safety.specs.Pauses.{Allowed, Goes}
 use Rattle.fst_safety.proofs.Equals.{equals_itself, session_formed}
-use Rattle.fst_safety.proofs.Exchanging.{sent_goes, received_goes, chosen_goes}
+use Rattle.fst_safety.proofs.Exchanging.{sent_goes, closed_goes, received_goes, waited_goes, chosen_goes}
 use Rattle.fst_safety.proofs.Settles.{pause_goes}
 use Rattle.fst_safety.proofs.SoundLaws.{steps_on}
 use Rattle.fst_safety.proofs.StillLaws.{Still, unchanged, typed_still}
@@ -44,6 +43,8 @@ step_there w (makes k fs) e = absurd (cc e)
 step_there w (forks f env fs) e = absurd (cc e)
 step_there w (puts x ev fs) e = absurd (cc e)
 step_there w (gets x fs) e = absurd (cc e)
+step_there w (closes x fs) e = absurd (cc e)
+step_there w (waits x fs) e = absurd (cc e)
 step_there w (matches x bs env fs) e = absurd (cc e)
 step_there w (ended v) e = absurd (cc e)
 
@@ -162,16 +163,19 @@ module _ (m : Surroundings) (well : IsWellTyped m) (x : EndName) (ev : Event) (n
       machine.request m.families s ≡ Some (request.Put x ev) →
       answered (program_in m) s Sent ≡ Some s' → Goes m r' s' t (λ z. held_state z s)
   sent_typed r r' h moves typed asks told =
-      let p = put_pause (pause m.families s) x ev asks in
-      let k = subst (λ q. Reached m r q t (λ z. held_state z s)) p.1 (pause_goes m well r s t typed) in
+      let k = pause_goes m well r s t typed in
       let u : IsUnspent r x = (now, h.before, moving now next (sending ev) moves) in
-      let n = k.1 x u in
       let o = own_once x in
-      let g = sent_goes m well r r' x ev now next h.before moves h.later p.0 t k.0
-      (still_without r r' h (λ z. held_frames z p.0) (omega (arith, n, o, once))) in
-      let is : giving (value.end x) p.0 ≡ s' = some_same (sym (ap (λ q. after (program_in m) q Sent) p.1) ∙ told) in
-      let g' = subst (λ w. Goes m r' w t (λ z. held_pause z (puts x ev p.0))) is g in
-      (g'.0, λ z w. g'.1 z w ∙ k.1 z (was_unspent r r' h u z w))
+      let g = put_pause
+      (λ w. Allowed m r w t → held_pause x w ≡ held_state x s → after (program_in m) w Sent ≡ Some s' → Goes m r' s' t
+      (λ z. held_pause z w))
+      (pause m.families s) x ev asks
+      (λ fs a n e. sent_goes m well r r' x ev now next h.before moves h.later (program_in m) fs t s' a
+      (still_without r r' h (λ z. held_frames z fs) (omega (arith, n, o, once))) e)
+      (λ fs c a n e. closed_goes m well r r' x ev now next h.before c moves h.later (program_in m) fs t s' a
+      (still_without r r' h (λ z. held_frames z fs) (omega (arith, n, o, once))) e)
+      k.0 (k.1 x u) told in
+      (g.0, λ z w. g.1 z w ∙ k.1 z (was_unspent r r' h u z w))
 
   -- the state of a task that received
   pub got_typed : (r r' : Residuals) → Moves r r' → step now (receiving ev) ≡ Some next → IsTyped m r s t →
@@ -186,6 +190,8 @@ module _ (m : Surroundings) (well : IsWellTyped m) (x : EndName) (ev : Event) (n
       (λ z. held_pause z w))
       (pause m.families s) x asks
       (λ fs a n e. received_goes m well r r' x ev now next h.before moves h.later (program_in m) fs t s' a
+      (still_without r r' h (λ z. held_frames z fs) (omega (arith, n, o, once))) e)
+      (λ fs a n e. waited_goes m well r r' x ev now next h.before moves h.later (program_in m) fs t s' a
       (still_without r r' h (λ z. held_frames z fs) (omega (arith, n, o, once))) e)
       (λ bs env fs a n e. chosen_goes m well r r' x ev now next h.before moves h.later (program_in m) bs env fs t s' a
       (still_without r r' h (λ z. held_env z env + held_frames z fs) (omega (arith, n, o, once))) e)

@@ -3,10 +3,10 @@ use Rattle.std.proofs.Common.{◌≡◌, ℕ, Some, refl}
 use Rattle.fst_types.specs.declared.ends.ChannelName.{ChannelName}
 use Rattle.fst_types.specs.declared.ends.EndName.{EndName}
 use Rattle.fst_types.specs.declared.event.Event.{Event}
-use Rattle.fst_types.specs.declared.event.Event.TheVariants.{Int, Bool, Char, Unit as Nothing, Label}
+use Rattle.fst_types.specs.declared.event.Event.TheVariants.{Int, Bool, Char, Unit as Nothing, Label, Closed}
 use Rattle.fst_machine.specs.declared.request.Request.TheVariants.{Step, New, Fork, Put, Get}
 use Rattle.fst_machine.specs.declared.request.Answer.TheVariants.{Go, Made, Forked, Sent, Got}
-use Rattle.fst_machine.specs.Machine.{Program, State, Pause, stuck, calls, uses, makes, forks, puts, gets, matches, ended, asked, after, child}
+use Rattle.fst_machine.specs.Machine.{Program, State, Pause, stuck, calls, uses, makes, forks, puts, gets, closes, waits, matches, ended, asked, after, child}
 
 pub told_go : (p : Program) (q : Pause) → asked q ≡ Some Step → (s : State) × (after p q Go ≡ Some s)
 told_go p stuck e = absurd (cc e)
@@ -16,6 +16,8 @@ told_go p (makes k fs) e = absurd (cc e)
 told_go p (forks b env fs) e = absurd (cc e)
 told_go p (puts x ev fs) e = absurd (cc e)
 told_go p (gets x fs) e = absurd (cc e)
+told_go p (closes x fs) e = absurd (cc e)
+told_go p (waits x fs) e = absurd (cc e)
 told_go p (matches x bs env fs) e = absurd (cc e)
 told_go p (ended v) e = absurd (cc e)
 
@@ -28,6 +30,8 @@ told_made p (makes j fs) k h e = (_, refl)
 told_made p (forks b env fs) k h e = absurd (cc e)
 told_made p (puts x ev fs) k h e = absurd (cc e)
 told_made p (gets x fs) k h e = absurd (cc e)
+told_made p (closes x fs) k h e = absurd (cc e)
+told_made p (waits x fs) k h e = absurd (cc e)
 told_made p (matches x bs env fs) k h e = absurd (cc e)
 told_made p (ended v) k h e = absurd (cc e)
 
@@ -40,6 +44,8 @@ told_forked p (makes k fs) e = absurd (cc e)
 told_forked p (forks b env fs) e = (_, _, refl, refl)
 told_forked p (puts x ev fs) e = absurd (cc e)
 told_forked p (gets x fs) e = absurd (cc e)
+told_forked p (closes x fs) e = absurd (cc e)
+told_forked p (waits x fs) e = absurd (cc e)
 told_forked p (matches x bs env fs) e = absurd (cc e)
 told_forked p (ended v) e = absurd (cc e)
 
@@ -52,6 +58,8 @@ told_sent p (makes k fs) x ev e = absurd (cc e)
 told_sent p (forks b env fs) x ev e = absurd (cc e)
 told_sent p (puts y ew fs) x ev e = (_, refl)
 told_sent p (gets y fs) x ev e = absurd (cc e)
+told_sent p (closes y fs) x ev e = (_, refl)
+told_sent p (waits y fs) x ev e = absurd (cc e)
 told_sent p (matches y bs env fs) x ev e = absurd (cc e)
 told_sent p (ended v) x ev e = absurd (cc e)
 
@@ -64,9 +72,12 @@ told_got p (makes k fs) x ev e = absurd (cc e)
 told_got p (forks b env fs) x ev e = absurd (cc e)
 told_got p (puts y ew fs) x ev e = absurd (cc e)
 told_got p (gets y fs) x ev e = (_, refl)
+told_got p (closes y fs) x ev e = absurd (cc e)
+told_got p (waits y fs) x ev e = (_, refl)
 told_got p (matches y bs env fs) x (Int n) e = (_, refl)
 told_got p (matches y bs env fs) x (Bool b) e = (_, refl)
 told_got p (matches y bs env fs) x (Char c) e = (_, refl)
 told_got p (matches y bs env fs) x Nothing e = (_, refl)
 told_got p (matches y bs env fs) x (Label l) e = (_, refl)
+told_got p (matches y bs env fs) x Closed e = (_, refl)
 told_got p (ended v) x ev e = absurd (cc e)

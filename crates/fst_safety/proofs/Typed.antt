@@ -4,7 +4,7 @@ use Rattle.std.specs.Prelude.{slice_get}
 use Rattle.std.proofs.lemmas.Bool.{false≢true}
 use Rattle.fst_base.proofs.Options.{some_same}
 use Rattle.fst_types.specs.Tree.{Tree}
-use Rattle.fst_terms.specs.CoreTree.{CoreTree, local, global, int, bool, char, unit, pair, make, lambda, apply, let_in, split, if_else, case_of, operate, negate, new, send, receive, select, match_with, fork, seq, CoreArms, no_arms, arm}
+use Rattle.fst_terms.specs.CoreTree.{CoreTree, local, global, int, bool, char, unit, pair, make, lambda, apply, let_in, split, if_else, case_of, operate, negate, new, send, receive, close, wait, select, match_with, fork, seq, CoreArms, no_arms, arm}
 use Rattle.fst_context.specs.Scope.{Variable}
 use Rattle.fst_derivations.specs.Parts as context
 use Rattle.fst_derivations.specs.Parts.{IsFormed, HasUse, AreVariables}
@@ -48,6 +48,8 @@ mutual
   type_equal m g (new at k) a b d q = (d.0, d.1, d.2, equals_through d.3 q)
   type_equal m g (send at e f) a b d q = (d.0, d.1, d.2, d.3, d.4, d.5, d.6, equals_through d.7 q)
   type_equal m g (receive at e) a b d q = (d.0, d.1, d.2, d.3, d.4, equals_through d.5 q)
+  type_equal m g (close at e) a b d q = (d.0, d.1, d.2, d.3, equals_through d.4 q)
+  type_equal m g (wait at e) a b d q = (d.0, d.1, d.2, d.3, equals_through d.4 q)
   type_equal m g (select at l e) a b d q = (d.0, d.1, d.2, d.3, equals_through d.4 q)
   type_equal m g (match_with at e bs) a b d q = (d.0, d.1, d.2, d.3, d.4, arms_equal m (rest d.0) g bs a b d.5 q, d.6, d.7)
   type_equal m g (fork at e) a b d q = (d.0, d.1, d.2, equals_through d.3 q)

@@ -6,7 +6,7 @@ use Rattle.fst_derivations.specs.Rules.{Surroundings}
 use Rattle.fst_types.specs.declared.ends.EndName.{EndName}
 use Rattle.fst_machine.specs.Values as value
 use Rattle.fst_machine.specs.Values.{Value, Values, no_values, Environment, none, hole, slot}
-use Rattle.fst_machine.specs.Machine.{State, Frame, at_function, at_argument, at_first, at_second, at_field, at_let, at_split, at_if, at_case, at_left, at_right, at_not, at_value, at_target, at_receive, at_select, at_match, at_seq}
+use Rattle.fst_machine.specs.Machine.{State, Frame, at_function, at_argument, at_first, at_second, at_field, at_let, at_split, at_if, at_case, at_left, at_right, at_not, at_value, at_target, at_receive, at_close, at_wait, at_select, at_match, at_seq}
 use Rattle.fst_runs.specs.Wrong.{held, held_all, held_env, held_frames, held_state}
 use Rattle.fst_safety.specs.Fitting.{Residuals, Fits, FitAll, FitsEnv, FitBefore, Takes, IsTyped}
 use Rattle.fst_safety.proofs.Owners.{held_apart}
@@ -73,6 +73,8 @@ module _ (m : Surroundings) (r : Residuals) (z : EndName) (n : r z ≡ None) whe
       omega (arith, x, y)
   unknown_frames (at_target v ∷ fs) a t k = let x = unknown v _ k.2 in let y = unknown_frames fs k.4 t k.6 in omega (arith, x, y)
   unknown_frames (at_receive ∷ fs) a t k = let y = unknown_frames fs k.3 t k.5 in omega (arith, y)
+  unknown_frames (at_close ∷ fs) a t k = let y = unknown_frames fs k.2 t k.4 in omega (arith, y)
+  unknown_frames (at_wait ∷ fs) a t k = let y = unknown_frames fs k.2 t k.4 in omega (arith, y)
   unknown_frames (at_select l ∷ fs) a t k = let y = unknown_frames fs k.2 t k.4 in omega (arith, y)
   unknown_frames (at_match bs env ∷ fs) a t k = let x = unknown_env env k.2 k.5.0 in let y = unknown_frames fs k.1 t k.8 in
       omega (arith, x, y)

@@ -8,7 +8,7 @@ use Rattle.fst_types.specs.declared.family.Family.{Family}
 use Rattle.fst_types.specs.declared.family.Maker.{Maker}
 use Rattle.fst_types.specs.declared.kind.Use.{Use}
 use Rattle.fst_types.specs.declared.kind.Use.TheVariants.{Many}
-use Rattle.fst_types.specs.declared.label.Label.TheVariants.{Send, Receive, Select}
+use Rattle.fst_types.specs.declared.label.Label.TheVariants.{Send, Receive, Select, Close, Wait}
 use Rattle.fst_kinds.specs.WellFormed.{IsSession}
 use Rattle.fst_lts.specs.Step.{step}
 use Rattle.fst_terms.specs.InRange.{maker_of}
@@ -20,7 +20,7 @@ use Rattle.fst_types.specs.declared.ends.EndName.{EndName}
 use Rattle.fst_machine.specs.Free.{free, free_in, free_below, outside}
 use Rattle.fst_machine.specs.Values as value
 use Rattle.fst_machine.specs.Values.{Value, Values, no_values, Environment, none, hole, slot}
-use Rattle.fst_machine.specs.Machine.{State, Frame, at_function, at_argument, at_first, at_second, at_field, at_let, at_split, at_if, at_case, at_left, at_right, at_not, at_value, at_target, at_receive, at_select, at_match, at_seq, in_either}
+use Rattle.fst_machine.specs.Machine.{State, Frame, at_function, at_argument, at_first, at_second, at_field, at_let, at_split, at_if, at_case, at_left, at_right, at_not, at_value, at_target, at_receive, at_close, at_wait, at_select, at_match, at_seq, in_either}
 use Rattle.fst_safety.specs.Running.{Equals, Alike, Plentiful, Spends, IsVariable, AreAlike, HasType, HaveTypes, ArmsHaveType}
 
 -- the residuals of ends, of those that have one
@@ -148,6 +148,10 @@ Takes m r (at_target v ∷ fs) a t =
 Takes m r (at_receive ∷ fs) a t =
     (b : Base) × (q : Tree) × (step a (Receive b) ≡ Some q) ×
     (d : Tree) × Equals (type.pair (plain b) q) d × Takes m r fs d t
+Takes m r (at_close ∷ fs) a t = (q : Tree) × (step a Close ≡ Some q) ×
+    (d : Tree) × Equals (plain Nothing) d × Takes m r fs d t
+Takes m r (at_wait ∷ fs) a t = (q : Tree) × (step a Wait ≡ Some q) ×
+    (d : Tree) × Equals (plain Nothing) d × Takes m r fs d t
 Takes m r (at_select l ∷ fs) a t = (q : Tree) × (step a (Select l) ≡ Some q) ×
     (d : Tree) × Equals q d × Takes m r fs d t
 Takes m r (at_match bs env ∷ fs) a t =

@@ -6,7 +6,7 @@ use Rattle.fst_types.specs.declared.base.Base.{Base}
 use Rattle.fst_types.specs.declared.base.Base.TheVariants.{Unit as Nothing}
 use Rattle.fst_types.specs.declared.kind.Use.{Use}
 use Rattle.fst_types.specs.declared.kind.Use.TheVariants.{Many}
-use Rattle.fst_types.specs.declared.label.Label.TheVariants.{Receive}
+use Rattle.fst_types.specs.declared.label.Label.TheVariants.{Receive, Close, Wait}
 use Rattle.fst_kinds.specs.WellFormed.{IsSession}
 use Rattle.fst_lts.specs.Step.{step}
 use Rattle.fst_lts.specs.Dual.{dual}
@@ -18,7 +18,7 @@ use Rattle.fst_derivations.specs.Rules.{Surroundings, rest}
 use Rattle.fst_types.specs.declared.ends.EndName.{EndName}
 use Rattle.fst_machine.specs.Free.{free, free_below}
 use Rattle.fst_machine.specs.Values as value
-use Rattle.fst_machine.specs.Machine.{State, Pause, stuck, calls, uses, makes, forks, puts, gets, matches, ended}
+use Rattle.fst_machine.specs.Machine.{State, Pause, stuck, calls, uses, makes, forks, puts, gets, closes, waits, matches, ended}
 use Rattle.fst_runs.specs.Wrong.{IsUnspent, held_state, held_pause}
 use Rattle.fst_safety.specs.Running.{Equals, IsUse, AreAlike, HasType, ArmsHaveType}
 use Rattle.fst_safety.specs.Fitting.{Residuals, Fits, IsEnv, Takes, IsTyped}
@@ -43,6 +43,12 @@ Allowed m r (gets x fs) t =
     (b : Base) × (s : Tree) × (q : Tree) × Fits m r (value.end x) s ×
     (step s (Receive b) ≡ Some q) × (d : Tree) × Equals (type.pair (plain b) q) d ×
     Takes m r fs d t
+Allowed m r (closes x fs) t =
+    (s : Tree) × (q : Tree) × Fits m r (value.end x) s × (step s Close ≡ Some q) ×
+    (d : Tree) × Equals (plain Nothing) d × Takes m r fs d t
+Allowed m r (waits x fs) t =
+    (s : Tree) × (q : Tree) × Fits m r (value.end x) s × (step s Wait ≡ Some q) ×
+    (d : Tree) × Equals (plain Nothing) d × Takes m r fs d t
 Allowed m r (matches x bs env fs) t =
     (s : Tree) × (names : List (List ℕ)) × (b : Tree) ×
     (g : List Variable) × Fits m r (value.end x) s × IsOffering s names ×

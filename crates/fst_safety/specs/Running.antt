@@ -9,11 +9,11 @@ use Rattle.fst_types.specs.declared.family.Family.{Family}
 use Rattle.fst_types.specs.declared.family.Maker.{Maker}
 use Rattle.fst_types.specs.declared.kind.Use.{Use}
 use Rattle.fst_types.specs.declared.kind.Use.TheVariants.{Many}
-use Rattle.fst_types.specs.declared.label.Label.TheVariants.{Send, Receive, Select}
+use Rattle.fst_types.specs.declared.label.Label.TheVariants.{Send, Receive, Select, Close, Wait}
 use Rattle.fst_kinds.specs.WellFormed.{IsSession, IsInstantiation}
 use Rattle.fst_lts.specs.Step.{step}
 use Rattle.fst_lts.specs.Dual.{dual}
-use Rattle.fst_terms.specs.CoreTree.{CoreTree, local, global, int, bool, char, unit, pair, make, lambda, apply, let_in, split, if_else, case_of, operate, negate, new, send, receive, select, match_with, fork, seq, CoreList, no_terms, term, CoreArms, no_arms, arm}
+use Rattle.fst_terms.specs.CoreTree.{CoreTree, local, global, int, bool, char, unit, pair, make, lambda, apply, let_in, split, if_else, case_of, operate, negate, new, send, receive, close, wait, select, match_with, fork, seq, CoreList, no_terms, term, CoreArms, no_arms, arm}
 use Rattle.fst_terms.specs.InRange.{maker_of}
 use Rattle.fst_terms.specs.declared.global.GlobalEntry.{GlobalEntry}
 use Rattle.fst_arms.specs.Arms.{arm_labels, AreEachOnce}
@@ -121,6 +121,10 @@ abbrev mutual
   HasType m g (receive at e) t =
       (b : Base) × (s : Tree) × (r : Tree) × HasType m g e s ×
       (step s (Receive b) ≡ Some r) × Equals (type.pair (plain b) r) t
+  HasType m g (close at e) t = (s : Tree) × (r : Tree) × HasType m g e s ×
+      (step s Close ≡ Some r) × Equals (plain Nothing) t
+  HasType m g (wait at e) t = (s : Tree) × (r : Tree) × HasType m g e s ×
+      (step s Wait ≡ Some r) × Equals (plain Nothing) t
   HasType m g (select at l e) t = (s : Tree) × (r : Tree) × HasType m g e s ×
       (step s (Select l) ≡ Some r) × Equals r t
   HasType m g (match_with at e bs) t =

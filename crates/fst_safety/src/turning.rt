@@ -29,6 +29,7 @@ fn copy_into(event: &Event, letters: Vec<u8>) -> Event
         Event::Char(character) => Event::Char(*character),
         Event::Unit => Event::Unit,
         Event::Label(name) => Event::Label(name.copy_into(letters)),
+        Event::Closed => Event::Closed,
     }
 }
 

@@ -51,6 +51,8 @@ fn leaf(sign: u8) -> TyForm {
         b'?' => TyForm::Receive(Base::Bool),
         b'@' => TyForm::Receive(Base::Int),
         b'$' => TyForm::Receive(Base::Unit),
+        b'k' => TyForm::Close,
+        b'w' => TyForm::Wait,
         b'i' => TyForm::Plain(Base::Int),
         b'h' => TyForm::Plain(Base::Char),
         b'u' => TyForm::Plain(Base::Unit),
@@ -83,10 +85,11 @@ fn node(alloc: Global, sign: u8, stack: &mut Vec<Ty>) -> Result<TyForm, AllocErr
 }
 
 /// The type of a code, in which the sign of a node stands before those of its parts. `s` is `Skip`; `!`, `^`, `%` are
-/// `!Int`, `!Bool`, `!()`, and `@`, `?`, `$` are `?Int`, `?Bool`, `?()`; `i`, `h`, `u` are `Int`, `Char`, `()`; `n` and
-/// `m` the first two data types; `0` the innermost recursion variable, `1` the next; `a` to `f` the first variables of a
-/// signature, `z` the last. `r` is `rec`, `,` a pair, `>` is `->`, `o` is `1->`; `-` selects `B`, `_` offers it, `+`
-/// selects `A` or `B`, `&` offers both, `*` selects `A` or `C`, `=` between two `A`, `#` between two `C`.
+/// `!Int`, `!Bool`, `!()`, and `@`, `?`, `$` are `?Int`, `?Bool`, `?()`; `k` and `w` are `Close` and `Wait`; `i`, `h`, `u`
+/// are `Int`, `Char`, `()`; `n` and `m` the first two data types; `0` the innermost recursion variable, `1` the next; `a` to
+/// `f` the first variables of a signature, `z` the last. `r` is `rec`, `,` a pair, `>` is `->`, `o` is `1->`; `-` selects
+/// `B`, `_` offers it, `+` selects `A` or `B`, `&` offers both, `*` selects `A` or `C`, `=` between two `A`, `#` between two
+/// `C`.
 pub fn ty(alloc: Global, code: &str) -> Result<Ty, AllocError> {
     let mut stack = Vec::new(alloc);
     stack_up(alloc, code, &mut stack)?;

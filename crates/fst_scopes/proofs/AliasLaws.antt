@@ -7,7 +7,7 @@ use Rattle.fst_base.proofs.Lists.{contains_none}
 use Rattle.fst_base.proofs.Options.{mapped_some}
 use Rattle.fst_types.specs.Tree as tree
 use Rattle.fst_types.specs.Tree.{Tree, Branches}
-use Rattle.fst_types.specs.WrittenTree.{WrittenTree, WrittenBranches, skip, send, receive, select, offer, seq, rec, named, plain, arrow, pair, none, branch}
+use Rattle.fst_types.specs.WrittenTree.{WrittenTree, WrittenBranches, skip, send, receive, close, wait, select, offer, seq, rec, named, plain, arrow, pair, none, branch}
 use Rattle.fst_terms.specs.Arranged.{insert}
 use Rattle.fst_terms.specs.Naming.{Scope, place_of, or_else, is_there, both, type_of, branches_of}
 use Rattle.fst_scopes.specs.Aliases.{StandsFor, alias, names_in, names_in_all, Names, LeadsTo, one, further}
@@ -62,6 +62,8 @@ module _ (declared : List ℕ → Option TypeDecl) where
       type_agrees recs (skip at) a = refl
       type_agrees recs (send at b) a = refl
       type_agrees recs (receive at b) a = refl
+      type_agrees recs (close at) a = refl
+      type_agrees recs (wait at) a = refl
       type_agrees recs (select at bs) a = ap (option_map tree.select) (branches_agree recs bs a)
       type_agrees recs (offer at bs) a = ap (option_map tree.offer) (branches_agree recs bs a)
       type_agrees recs (seq at t u) a = λ i. both tree.seq (type_agrees recs t (left (names_in recs t) (names_in recs u) a) i)
@@ -112,6 +114,8 @@ module _ (declared : List ℕ → Option TypeDecl) where
       aliases_stand recs (skip at) t e = λ y v c d. absurd (contains_none y c)
       aliases_stand recs (send at b) t e = λ y v c d. absurd (contains_none y c)
       aliases_stand recs (receive at b) t e = λ y v c d. absurd (contains_none y c)
+      aliases_stand recs (close at) t e = λ y v c d. absurd (contains_none y c)
+      aliases_stand recs (wait at) t e = λ y v c d. absurd (contains_none y c)
       aliases_stand recs (select at bs) t e = let m = mapped_some tree.select (branches_of (scope recs f) bs) t e in
           branches_stand recs bs m.0 m.1
       aliases_stand recs (offer at bs) t e = let m = mapped_some tree.offer (branches_of (scope recs f) bs) t e in

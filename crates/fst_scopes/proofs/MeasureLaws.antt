@@ -11,7 +11,7 @@ use Rattle.fst_types.specs.declared.written.WrittenBranch.{WrittenBranch}
 use Rattle.fst_types.specs.Size.{nodes, nodes_all}
 use Rattle.fst_types.specs.Tree as tree
 use Rattle.fst_types.specs.Tree.{Tree, Branches}
-use Rattle.fst_types.specs.WrittenTree.{WrittenTree, WrittenBranches, skip, send, receive, select, offer, seq, rec, named, plain, arrow, pair, none, branch}
+use Rattle.fst_types.specs.WrittenTree.{WrittenTree, WrittenBranches, skip, send, receive, close, wait, select, offer, seq, rec, named, plain, arrow, pair, none, branch}
 use Rattle.fst_terms.specs.Arranged.{insert, insert_by}
 use Rattle.fst_terms.specs.Naming.{Scope, place_of, or_else, is_there, both, type_of, branches_of}
 use Rattle.fst_scopes.specs.declared.measure.Measure.{Measure}
@@ -88,6 +88,8 @@ module _ (outer : Scope) (m : List ℕ → Option Measure)
     measured_is recs (skip at) = refl
     measured_is recs (send at b) = refl
     measured_is recs (receive at b) = refl
+    measured_is recs (close at) = refl
+    measured_is recs (wait at) = refl
     measured_is recs (select at bs) = ap (option_map node) (measured_all recs bs)
         ∙ one_counted tree.select node counted_all measured
         (λ a. same_measure _ _ (omega arith) refl) (branches_of (inside recs outer) bs)

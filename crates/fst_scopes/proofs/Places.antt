@@ -67,6 +67,8 @@ some_type : (w : WrittenTree) → 0 < type_count w
 some_type (written.skip at) = omega arith
 some_type (written.send at b) = omega arith
 some_type (written.receive at b) = omega arith
+some_type (written.close at) = omega arith
+some_type (written.wait at) = omega arith
 some_type (written.select at bs) = omega arith
 some_type (written.offer at bs) = omega arith
 some_type (written.seq at t u) = omega arith

@@ -11,7 +11,7 @@ use Rattle.std.proofs.lemmas.Option.{same_Some}
 use Rattle.fst_types.specs.Tree as tree
 use Rattle.fst_types.specs.Tree.{Tree, Branches, none, branch}
 use Rattle.fst_types.specs.WrittenTree as written
-use Rattle.fst_types.specs.WrittenTree.{WrittenTree, WrittenBranches, skip, send, receive, select, offer, seq, rec, named, plain, arrow, pair, HasBranches, HaveBranches}
+use Rattle.fst_types.specs.WrittenTree.{WrittenTree, WrittenBranches, skip, send, receive, close, wait, select, offer, seq, rec, named, plain, arrow, pair, HasBranches, HaveBranches}
 use Rattle.fst_types.specs.Order.{IsSorted, AreSorted, EachChoiceBelow}
 use Rattle.fst_types.specs.Scoped.{IsScoped, AllScoped}
 use Rattle.fst_terms.specs.Arranged.{insert_by, insert}
@@ -140,6 +140,10 @@ module _ (families : ℕ) (outer : Scope) (all : AllPlain families outer) where
     type_plain names (send at b) t h e = subst (IsPlain families (length names)) (same_Some (tree.send b) t e)
         (record { scoped = tt; sorted = tt; named = tt })
     type_plain names (receive at b) t h e = subst (IsPlain families (length names)) (same_Some (tree.receive b) t e)
+        (record { scoped = tt; sorted = tt; named = tt })
+    type_plain names (close at) t h e = subst (IsPlain families (length names)) (same_Some tree.close t e)
+        (record { scoped = tt; sorted = tt; named = tt })
+    type_plain names (wait at) t h e = subst (IsPlain families (length names)) (same_Some tree.wait t e)
         (record { scoped = tt; sorted = tt; named = tt })
     type_plain names (select at written.none) t h e = absurd h
     type_plain names (select at (written.branch l w ws)) t h e =

@@ -3,7 +3,7 @@ use Rattle.std.proofs.Common.{◌≡◌, ℕ, List, ◌∷◌, ◌++◌, Option,
 use Rattle.std.specs.Prelude.{option_map}
 use Rattle.fst_types.specs.Tree as tree
 use Rattle.fst_types.specs.Tree.{Tree}
-use Rattle.fst_types.specs.WrittenTree.{WrittenTree, WrittenBranches, skip, send, receive, select, offer, seq, rec, named, plain, arrow, pair, none, branch}
+use Rattle.fst_types.specs.WrittenTree.{WrittenTree, WrittenBranches, skip, send, receive, close, wait, select, offer, seq, rec, named, plain, arrow, pair, none, branch}
 use Rattle.fst_terms.specs.Naming.{Scope, place_of, or_else, is_there}
 use Rattle.fst_scopes.specs.Faults.{unless_there, unbound, unbound_in}
 
@@ -35,6 +35,8 @@ module _ (s z : Scope) (same : (x : List ℕ) → is_there (standing_outside s x
     same_unbound recs (skip at) = refl
     same_unbound recs (send at b) = refl
     same_unbound recs (receive at b) = refl
+    same_unbound recs (close at) = refl
+    same_unbound recs (wait at) = refl
     same_unbound recs (select at bs) = same_unbound_in recs bs
     same_unbound recs (offer at bs) = same_unbound_in recs bs
     same_unbound recs (seq at t u) = λ i. same_unbound recs t i ++ same_unbound recs u i

@@ -6,7 +6,7 @@ use Rattle.fst_types.specs.ModelWrittenHeight.{height, height_all}
 use Rattle.fst_types.specs.Size.{nodes, nodes_all}
 use Rattle.fst_types.specs.Tree as tree
 use Rattle.fst_types.specs.Tree.{Tree, Branches}
-use Rattle.fst_types.specs.WrittenTree.{WrittenTree, WrittenBranches, skip, send, receive, select, offer, seq, rec, named, plain, arrow, pair, none, branch}
+use Rattle.fst_types.specs.WrittenTree.{WrittenTree, WrittenBranches, skip, send, receive, close, wait, select, offer, seq, rec, named, plain, arrow, pair, none, branch}
 use Rattle.fst_terms.specs.Arranged.{insert}
 use Rattle.fst_terms.specs.Naming.{Scope, within, place_of, or_else, both, type_of, branches_of}
 use Rattle.fst_scopes.proofs.MeasureLaws.{insert_nodes}
@@ -33,6 +33,8 @@ module _ (outer : Scope) (all : (x : List ℕ) → IsSome (unwrap_or (outer.decl
     type_there recs (skip at) = refl
     type_there recs (send at b) = refl
     type_there recs (receive at b) = refl
+    type_there recs (close at) = refl
+    type_there recs (wait at) = refl
     type_there recs (select at bs) = mapped_there tree.select (branches_of (inside recs outer) bs) (branches_there recs bs)
     type_there recs (offer at bs) = mapped_there tree.offer (branches_of (inside recs outer) bs) (branches_there recs bs)
     type_there recs (seq at t u) = both_here tree.seq (type_of (inside recs outer) t) (type_of (inside recs outer) u)
@@ -54,6 +56,8 @@ some_node : (t : Tree) → 1 ≤ nodes t
 some_node tree.skip = omega arith
 some_node (tree.send b) = omega arith
 some_node (tree.receive b) = omega arith
+some_node tree.close = omega arith
+some_node tree.wait = omega arith
 some_node (tree.select bs) = omega arith
 some_node (tree.offer bs) = omega arith
 some_node (tree.seq t u) = omega arith
@@ -71,6 +75,8 @@ mutual
   no_higher s (skip at) t e = some_node t
   no_higher s (send at b) t e = some_node t
   no_higher s (receive at b) t e = some_node t
+  no_higher s (close at) t e = some_node t
+  no_higher s (wait at) t e = some_node t
   no_higher s (select at bs) t e =
       let m = mapped_some tree.select (branches_of s bs) t e in
       let low = branches_no_higher s bs m.0 m.1 in

@@ -11,7 +11,7 @@ use Rattle.fst_types.specs.Tree as tree
 use Rattle.fst_types.specs.Tree.{Tree, Branches, none, branch}
 use Rattle.fst_types.specs.Variables.{HasVariablesBelow, HaveVariablesBelow}
 use Rattle.fst_types.specs.WrittenTree as written
-use Rattle.fst_types.specs.WrittenTree.{WrittenTree, WrittenBranches, skip, send, receive, select, offer, seq, rec, named, plain, arrow, pair}
+use Rattle.fst_types.specs.WrittenTree.{WrittenTree, WrittenBranches, skip, send, receive, close, wait, select, offer, seq, rec, named, plain, arrow, pair}
 use Rattle.fst_types.proofs.Laws.{variables_wider}
 use Rattle.fst_terms.specs.Arranged.{insert_by, insert}
 use Rattle.fst_terms.specs.Naming.{Scope, place_of, or_else, type_of, branches_of}
@@ -59,6 +59,8 @@ module _ (outer : Scope) (all : DeclaresClosed outer) where
     type_variables names (skip at) t e = subst HasOwn (same_Some tree.skip t e) tt
     type_variables names (send at b) t e = subst HasOwn (same_Some (tree.send b) t e) tt
     type_variables names (receive at b) t e = subst HasOwn (same_Some (tree.receive b) t e) tt
+    type_variables names (close at) t e = subst HasOwn (same_Some tree.close t e) tt
+    type_variables names (wait at) t e = subst HasOwn (same_Some tree.wait t e) tt
     type_variables names (select at ws) t e =
         let m = mapped_some tree.select (branches_of (scope names) ws) t e in
         subst HasOwn m.2 (branches_variables names ws m.0 m.1)

@@ -1,7 +1,7 @@
 -- What the aliases of a module stand for, and which of them lead back to themselves.
 use Rattle.std.specs.Prelude.{◌≡◌, ◌↔◌, ℕ, Bool, true, List, [], ◌∷◌, ◌++◌, Contains, Option, Some, if◌then◌else◌}
 use Rattle.fst_types.specs.Tree.{Tree}
-use Rattle.fst_types.specs.WrittenTree.{WrittenTree, WrittenBranches, skip, send, receive, select, offer, seq, rec, named, plain, arrow, pair, none, branch}
+use Rattle.fst_types.specs.WrittenTree.{WrittenTree, WrittenBranches, skip, send, receive, close, wait, select, offer, seq, rec, named, plain, arrow, pair, none, branch}
 use Rattle.fst_terms.specs.Naming.{type_of}
 use Rattle.fst_scopes.specs.Faults.{is_among}
 use Rattle.fst_scopes.specs.TypeNames.{TypeDecl, other_name, scope_with}
@@ -19,6 +19,8 @@ abbrev mutual
   names_in recs (skip at) = []
   names_in recs (send at b) = []
   names_in recs (receive at b) = []
+  names_in recs (close at) = []
+  names_in recs (wait at) = []
   names_in recs (select at bs) = names_in_all recs bs
   names_in recs (offer at bs) = names_in_all recs bs
   names_in recs (seq at t u) = names_in recs t ++ names_in recs u

@@ -3,7 +3,7 @@ use Rattle.std.specs.Prelude.{ℕ, Bool, List, [], ◌∷◌, ◌++◌, nat_lt, 
 use Rattle.fst_base.specs.Limits.{most_nodes}
 use Rattle.fst_types.specs.Size.{nodes}
 use Rattle.fst_types.specs.Tree.{Tree}
-use Rattle.fst_types.specs.WrittenTree.{WrittenTree, WrittenBranches, skip, send, receive, select, offer, seq, rec, named, plain, arrow, pair, none, branch}
+use Rattle.fst_types.specs.WrittenTree.{WrittenTree, WrittenBranches, skip, send, receive, close, wait, select, offer, seq, rec, named, plain, arrow, pair, none, branch}
 use Rattle.fst_terms.specs.Naming.{Scope, within, standing, place_of, is_there, place, type_of}
 use Rattle.fst_scopes.specs.declared.fault.NameFault.{NameFault}
 use Rattle.fst_scopes.specs.declared.fault.NameFault.TheVariants.{Unbound, TooLarge}
@@ -23,6 +23,8 @@ abbrev mutual
   unbound s (skip at) = []
   unbound s (send at b) = []
   unbound s (receive at b) = []
+  unbound s (close at) = []
+  unbound s (wait at) = []
   unbound s (select at bs) = unbound_in s bs
   unbound s (offer at bs) = unbound_in s bs
   unbound s (seq at t u) = unbound s t ++ unbound s u

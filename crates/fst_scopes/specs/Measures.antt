@@ -1,7 +1,7 @@
 -- How large a type is, and how many arguments it takes, counted to the greatest number of 64 bits.
 use Rattle.std.specs.Prelude.{ℕ, suc, ◌+◌, ◌-◌, ◌^◌, min, List, ◌∷◌, Option, Some, option_map, if◌then◌else◌}
 use Rattle.fst_types.specs.Size as size
-use Rattle.fst_types.specs.Tree.{Tree, skip, send, receive, select, offer, seq, rec, back, var, plain, arrow, pair, named}
+use Rattle.fst_types.specs.Tree.{Tree, skip, send, receive, close, wait, select, offer, seq, rec, back, var, plain, arrow, pair, named}
 use Rattle.fst_types.specs.WrittenTree as written
 use Rattle.fst_types.specs.WrittenTree.{WrittenTree, WrittenBranches}
 use Rattle.fst_terms.specs.Naming.{both}
@@ -13,6 +13,8 @@ abbrev pub arrows : Tree → ℕ
 arrows skip = 0
 arrows (send b) = 0
 arrows (receive b) = 0
+arrows close = 0
+arrows wait = 0
 arrows (select bs) = 0
 arrows (offer bs) = 0
 arrows (seq s t) = 0
@@ -58,6 +60,8 @@ abbrev mutual
   measure recs m (written.skip at) = Some leaf
   measure recs m (written.send at b) = Some leaf
   measure recs m (written.receive at b) = Some leaf
+  measure recs m (written.close at) = Some leaf
+  measure recs m (written.wait at) = Some leaf
   measure recs m (written.select at bs) = option_map node (measure_all recs m bs)
   measure recs m (written.offer at bs) = option_map node (measure_all recs m bs)
   measure recs m (written.seq at t u) = both node_of (measure recs m t) (measure recs m u)

@@ -52,6 +52,8 @@ fn add_places(w: &Written, names: &Names<'_>, found: &mut Vec<u32>) -> Result<()
         WrittenForm::Skip => Ok(()),
         WrittenForm::Send(_) => Ok(()),
         WrittenForm::Receive(_) => Ok(()),
+        WrittenForm::Close => Ok(()),
+        WrittenForm::Wait => Ok(()),
         WrittenForm::Select(branches) => add_all_places(branches, names, found),
         WrittenForm::Offer(branches) => add_all_places(branches, names, found),
         WrittenForm::Seq(first, second) => {

@@ -46,6 +46,8 @@ fn note_unbound(
         WrittenForm::Skip => Ok(()),
         WrittenForm::Send(_) => Ok(()),
         WrittenForm::Receive(_) => Ok(()),
+        WrittenForm::Close => Ok(()),
+        WrittenForm::Wait => Ok(()),
         WrittenForm::Select(branches) => note_unbound_in(alloc, branches, names, least),
         WrittenForm::Offer(branches) => note_unbound_in(alloc, branches, names, least),
         WrittenForm::Seq(first, second) => {

@@ -79,6 +79,8 @@ pub fn measure_of(w: &Written, names: &Names<'_>, measures: &[Option<Measure>]) 
         WrittenForm::Skip => Some(leaf()),
         WrittenForm::Send(_) => Some(leaf()),
         WrittenForm::Receive(_) => Some(leaf()),
+        WrittenForm::Close => Some(leaf()),
+        WrittenForm::Wait => Some(leaf()),
         WrittenForm::Select(branches) => Some(node(measure_all_of(branches, names, measures)?)),
         WrittenForm::Offer(branches) => Some(node(measure_all_of(branches, names, measures)?)),
         WrittenForm::Seq(first, second) => {

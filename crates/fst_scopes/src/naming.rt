@@ -105,6 +105,10 @@ pub fn named(
         WrittenForm::Receive(base) => Ok(Ty {
             form: TyForm::Receive(*base),
         }),
+        WrittenForm::Close => Ok(Ty {
+            form: TyForm::Close,
+        }),
+        WrittenForm::Wait => Ok(Ty { form: TyForm::Wait }),
         WrittenForm::Select(branches) => Ok(Ty {
             form: TyForm::Select(named_branches(alloc, branches, names, trees)?),
         }),

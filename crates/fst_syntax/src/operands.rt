@@ -170,6 +170,16 @@ fn app<'a>(
             let form = SourceForm::Receive(channel);
             Ok((SourceTerm { at, form }, rest))
         }
+        AppStart::Close => {
+            let (channel, rest) = boxed_atom(alloc, left, tokens)?;
+            let form = SourceForm::Close(channel);
+            Ok((SourceTerm { at, form }, rest))
+        }
+        AppStart::Wait => {
+            let (channel, rest) = boxed_atom(alloc, left, tokens)?;
+            let form = SourceForm::Wait(channel);
+            Ok((SourceTerm { at, form }, rest))
+        }
         AppStart::Select => {
             let (label, rest) = label(left, tokens)?;
             let label = Name::of(alloc, label.text.as_bytes())?;

@@ -10,7 +10,7 @@ fn base(text: &str) -> Base {
     }
 }
 
-/// The label of a text such as `!Int`, `?()`, `+A` or `&A`; any other is that of the fourth variable.
+/// The label of a text such as `!Int`, `?()`, `+A`, `&A`, `Close` or `Wait`; any other is that of the fourth variable.
 fn label(alloc: Global, text: &str) -> Result<Label, AllocError> {
     if let Some(text) = text.strip_prefix('!') {
         Ok(Label::Send(base(text)))
@@ -21,7 +21,11 @@ fn label(alloc: Global, text: &str) -> Result<Label, AllocError> {
     } else if let Some(text) = text.strip_prefix('&') {
         Ok(Label::Offer(Name::of(alloc, text.as_bytes())?))
     } else {
-        Ok(Label::Var(3))
+        Ok(match text.as_bytes() {
+            b"Close" => Label::Close,
+            b"Wait" => Label::Wait,
+            _ => Label::Var(3),
+        })
     }
 }
 

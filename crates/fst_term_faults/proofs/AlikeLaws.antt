@@ -2,7 +2,7 @@
 use Rattle.std.proofs.Common.{◌≡◌, ℕ, List, [], ◌∷◌, ◌++◌, Option, Some, None, length, refl, ap}
 use Rattle.fst_types.specs.WrittenTree.{WrittenTree}
 use Rattle.fst_terms.specs.Naming.{is_there, or_else, place_of}
-use Rattle.fst_terms.specs.TermTree.{TermTree, named, int, bool, char, unit, pair, make, lambda, apply, let_in, split, if_else, case_of, operate, negate, new, send, receive, select, match_with, fork, seq, TermList, no_terms, term, TermArms, no_arms, arm}
+use Rattle.fst_terms.specs.TermTree.{TermTree, named, int, bool, char, unit, pair, make, lambda, apply, let_in, split, if_else, case_of, operate, negate, new, send, receive, close, wait, select, match_with, fork, seq, TermList, no_terms, term, TermArms, no_arms, arm}
 use Rattle.fst_scopes.specs.Faults.{is_among, type_faults, unless_there}
 use Rattle.fst_term_faults.specs.TermFaults.{Surroundings, types_faults, name_faults, maker_faults, terms_length, within, term_faults, terms_faults, cases_faults, matches_faults}
 
@@ -58,6 +58,8 @@ module _ (s t : Surroundings) (alike : AreAlike s t) where
     same_term_faults xs (new at w) = alike.closed w
     same_term_faults xs (send at u v) = λ i. same_term_faults xs u i ++ same_term_faults xs v i
     same_term_faults xs (receive at u) = same_term_faults xs u
+    same_term_faults xs (close at u) = same_term_faults xs u
+    same_term_faults xs (wait at u) = same_term_faults xs u
     same_term_faults xs (select at l u) = same_term_faults xs u
     same_term_faults xs (match_with at u bs) = λ i. same_term_faults xs u i ++ same_matches_faults xs bs i
     same_term_faults xs (fork at u) = same_term_faults xs u

@@ -3,7 +3,7 @@ use Rattle.std.specs.Prelude.{ℕ, suc, List, [], ◌∷◌, ◌++◌, length, r
 use Rattle.fst_types.specs.WrittenTree.{WrittenTree}
 use Rattle.fst_terms.specs.declared.binder.Binder.{Binder}
 use Rattle.fst_terms.specs.Naming.{Scope, place_of, or_else}
-use Rattle.fst_terms.specs.TermTree.{TermTree, named, int, bool, char, unit, pair, make, lambda, apply, let_in, split, if_else, case_of, operate, negate, new, send, receive, select, match_with, fork, seq, TermList, no_terms, term, TermArms, no_arms, arm}
+use Rattle.fst_terms.specs.TermTree.{TermTree, named, int, bool, char, unit, pair, make, lambda, apply, let_in, split, if_else, case_of, operate, negate, new, send, receive, close, wait, select, match_with, fork, seq, TermList, no_terms, term, TermArms, no_arms, arm}
 use Rattle.fst_scopes.specs.declared.fault.NameFault.{NameFault}
 use Rattle.fst_scopes.specs.declared.fault.NameFault.TheVariants.{Unbound, Arity}
 use Rattle.fst_scopes.specs.Faults.{unless_there, type_faults}
@@ -66,6 +66,8 @@ abbrev mutual
   term_faults s xs (new at a) = type_faults s.closed a
   term_faults s xs (send at t u) = term_faults s xs t ++ term_faults s xs u
   term_faults s xs (receive at t) = term_faults s xs t
+  term_faults s xs (close at t) = term_faults s xs t
+  term_faults s xs (wait at t) = term_faults s xs t
   term_faults s xs (select at l t) = term_faults s xs t
   term_faults s xs (match_with at t bs) = term_faults s xs t ++ matches_faults s xs bs
   term_faults s xs (fork at t) = term_faults s xs t

@@ -224,6 +224,8 @@ fn note_head(
         SourceForm::New(w) => note_closed_type(alloc, w, around, least),
         SourceForm::Send(value, channel) => note_two(alloc, value, channel, around, locals, least),
         SourceForm::Receive(channel) => note_term(alloc, channel, around, locals, least),
+        SourceForm::Close(channel) => note_term(alloc, channel, around, locals, least),
+        SourceForm::Wait(channel) => note_term(alloc, channel, around, locals, least),
         SourceForm::Select(_, channel) => note_term(alloc, channel, around, locals, least),
         SourceForm::Match(channel, arms) => {
             note_term(alloc, channel, around, locals, least)?;

@@ -4,7 +4,7 @@ use Rattle.fst_types.specs.WrittenTree.{WrittenTree}
 use Rattle.fst_terms.specs.CoreTree as core
 use Rattle.fst_terms.specs.CoreTree.{CoreTree, CoreList, CoreArms}
 use Rattle.fst_terms.specs.Naming.{place_of}
-use Rattle.fst_terms.specs.TermTree.{TermTree, named, int, bool, char, unit, pair, make, lambda, apply, let_in, split, if_else, case_of, operate, negate, new, send, receive, select, match_with, fork, seq, TermList, no_terms, term, TermArms, no_arms, arm}
+use Rattle.fst_terms.specs.TermTree.{TermTree, named, int, bool, char, unit, pair, make, lambda, apply, let_in, split, if_else, case_of, operate, negate, new, send, receive, close, wait, select, match_with, fork, seq, TermList, no_terms, term, TermArms, no_arms, arm}
 use Rattle.fst_term_faults.specs.TermFaults.{within}
 use Rattle.fst_term_names.specs.TermTypes.{written_in}
 
@@ -66,6 +66,8 @@ abbrev mutual
   core_term s xs n (send at t u) = core.send at (core_term s xs n t)
       (core_term s xs (n + length (written_in t)) u)
   core_term s xs n (receive at t) = core.receive at (core_term s xs n t)
+  core_term s xs n (close at t) = core.close at (core_term s xs n t)
+  core_term s xs n (wait at t) = core.wait at (core_term s xs n t)
   core_term s xs n (select at l t) = core.select at l (core_term s xs n t)
   core_term s xs n (match_with at t bs) =
       core.match_with at (core_term s xs n t) (core_arms s xs (n + length (written_in t)) bs)

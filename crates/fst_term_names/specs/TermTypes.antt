@@ -4,7 +4,7 @@ use Rattle.fst_types.specs.Tree.{Tree}
 use Rattle.fst_types.specs.WrittenTree.{WrittenTree}
 use Rattle.fst_terms.specs.Naming as naming
 use Rattle.fst_terms.specs.Naming.{type_of}
-use Rattle.fst_terms.specs.TermTree.{TermTree, named, int, bool, char, unit, pair, make, lambda, apply, let_in, split, if_else, case_of, operate, negate, new, send, receive, select, match_with, fork, seq, TermList, no_terms, term, TermArms, no_arms, arm}
+use Rattle.fst_terms.specs.TermTree.{TermTree, named, int, bool, char, unit, pair, make, lambda, apply, let_in, split, if_else, case_of, operate, negate, new, send, receive, close, wait, select, match_with, fork, seq, TermList, no_terms, term, TermArms, no_arms, arm}
 use Rattle.fst_term_faults.specs.TermFaults.{Surroundings}
 
 -- a type in a term, which may have the variables of the signature in it, or none, where a channel is made
@@ -33,6 +33,8 @@ abbrev mutual
   written_in (new at a) = without a ∷ []
   written_in (send at t u) = written_in t ++ written_in u
   written_in (receive at t) = written_in t
+  written_in (close at t) = written_in t
+  written_in (wait at t) = written_in t
   written_in (select at l t) = written_in t
   written_in (match_with at t bs) = written_in t ++ written_in_arms bs
   written_in (fork at t) = written_in t

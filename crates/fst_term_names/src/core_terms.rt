@@ -131,6 +131,20 @@ fn core_head(
                 form: Form::Receive(channel),
             })
         }
+        SourceForm::Close(channel) => {
+            let channel = core_part(alloc, channel, meanings, locals, types)?;
+            Ok(Term {
+                at,
+                form: Form::Close(channel),
+            })
+        }
+        SourceForm::Wait(channel) => {
+            let channel = core_part(alloc, channel, meanings, locals, types)?;
+            Ok(Term {
+                at,
+                form: Form::Wait(channel),
+            })
+        }
         SourceForm::Select(label, channel) => {
             let label = label.copy(alloc)?;
             let channel = core_part(alloc, channel, meanings, locals, types)?;

@@ -1,7 +1,7 @@
 -- How many terms and bound names the globals of a module have.
 use Rattle.std.specs.Prelude.{ℕ, suc, ◌+◌, ◌^◌, List, [], ◌∷◌, length}
 use Rattle.fst_terms.specs.declared.global.GlobalEntry.{GlobalEntry}
-use Rattle.fst_terms.specs.CoreTree.{CoreTree, local, global, int, bool, char, unit, pair, make, lambda, apply, let_in, split, if_else, case_of, operate, negate, new, send, receive, select, match_with, fork, seq, CoreList, no_terms, term, CoreArms, no_arms, arm}
+use Rattle.fst_terms.specs.CoreTree.{CoreTree, local, global, int, bool, char, unit, pair, make, lambda, apply, let_in, split, if_else, case_of, operate, negate, new, send, receive, close, wait, select, match_with, fork, seq, CoreList, no_terms, term, CoreArms, no_arms, arm}
 
 -- a module has fewer terms, bound names and types than this
 abbrev pub core_limit : ℕ
@@ -29,6 +29,8 @@ abbrev mutual
   core_count (new at a) = 1
   core_count (send at s t) = suc (core_count s + core_count t)
   core_count (receive at t) = suc (core_count t)
+  core_count (close at t) = suc (core_count t)
+  core_count (wait at t) = suc (core_count t)
   core_count (select at l t) = suc (core_count t)
   core_count (match_with at t bs) = suc (core_count t + core_arms_count bs)
   core_count (fork at t) = suc (core_count t)

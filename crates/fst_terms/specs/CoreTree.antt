@@ -26,6 +26,8 @@ mutual
     new : ℕ → ℕ → CoreTree
     send : ℕ → CoreTree → CoreTree → CoreTree
     receive : ℕ → CoreTree → CoreTree
+    close : ℕ → CoreTree → CoreTree
+    wait : ℕ → CoreTree → CoreTree
     select : ℕ → List ℕ → CoreTree → CoreTree
     match_with : ℕ → CoreTree → CoreArms → CoreTree
     fork : ℕ → CoreTree → CoreTree
@@ -64,6 +66,8 @@ abbrev mutual
   core_height (new at a) = 1
   core_height (send at s t) = suc (max (core_height s) (core_height t))
   core_height (receive at t) = suc (core_height t)
+  core_height (close at t) = suc (core_height t)
+  core_height (wait at t) = suc (core_height t)
   core_height (select at l t) = suc (core_height t)
   core_height (match_with at t bs) = suc (max (core_height t) (core_arms_height bs))
   core_height (fork at t) = suc (core_height t)

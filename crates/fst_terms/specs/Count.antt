@@ -2,7 +2,7 @@
 use Rattle.std.specs.Prelude.{ℕ, suc, ◌+◌, ◌^◌, List, [], ◌∷◌, length}
 use Rattle.fst_types.specs.WrittenTree.{WrittenTree, WrittenBranches, none, branch}
 use Rattle.fst_types.specs.WrittenTree as written
-use Rattle.fst_terms.specs.TermTree.{TermTree, named, int, bool, char, unit, pair, make, lambda, apply, let_in, split, if_else, case_of, operate, negate, new, send, receive, select, match_with, fork, seq, TermList, no_terms, term, TermArms, no_arms, arm}
+use Rattle.fst_terms.specs.TermTree.{TermTree, named, int, bool, char, unit, pair, make, lambda, apply, let_in, split, if_else, case_of, operate, negate, new, send, receive, close, wait, select, match_with, fork, seq, TermList, no_terms, term, TermArms, no_arms, arm}
 use Rattle.fst_terms.specs.ModuleTree.{Maker, Declared, family, alias, signature, equation}
 
 -- a module has fewer terms, bound names and types than this
@@ -15,6 +15,8 @@ abbrev mutual
   type_count (written.skip at) = 1
   type_count (written.send at b) = 1
   type_count (written.receive at b) = 1
+  type_count (written.close at) = 1
+  type_count (written.wait at) = 1
   type_count (written.select at bs) = suc (branches_count bs)
   type_count (written.offer at bs) = suc (branches_count bs)
   type_count (written.seq at s t) = suc (type_count s + type_count t)
@@ -55,6 +57,8 @@ abbrev mutual
   term_count (new at a) = suc (type_count a)
   term_count (send at s t) = suc (term_count s + term_count t)
   term_count (receive at t) = suc (term_count t)
+  term_count (close at t) = suc (term_count t)
+  term_count (wait at t) = suc (term_count t)
   term_count (select at l t) = suc (term_count t)
   term_count (match_with at t bs) = suc (term_count t + arms_count bs)
   term_count (fork at t) = suc (term_count t)

@@ -1,7 +1,7 @@
 -- What the grammar gives of each module: whatever has parts of a kind has at least one of them.
 use Rattle.std.specs.Prelude.{◌≡◌, List, [], ◌∷◌, length}
 use Rattle.fst_types.specs.WrittenTree.{WrittenTree, HasBranches}
-use Rattle.fst_terms.specs.TermTree.{TermTree, named, int, bool, char, unit, pair, make, lambda, apply, let_in, split, if_else, case_of, operate, negate, new, send, receive, select, match_with, fork, seq, TermList, no_terms, term, TermArms, no_arms, arm}
+use Rattle.fst_terms.specs.TermTree.{TermTree, named, int, bool, char, unit, pair, make, lambda, apply, let_in, split, if_else, case_of, operate, negate, new, send, receive, close, wait, select, match_with, fork, seq, TermList, no_terms, term, TermArms, no_arms, arm}
 use Rattle.fst_terms.specs.ModuleTree.{Maker, Declared, family, alias, signature, equation}
 
 -- each choice in these types has a branch
@@ -40,6 +40,8 @@ abbrev mutual
   IsFilled (new at a) = HasBranches a
   IsFilled (send at s t) = IsFilled s × IsFilled t
   IsFilled (receive at t) = IsFilled t
+  IsFilled (close at t) = IsFilled t
+  IsFilled (wait at t) = IsFilled t
   IsFilled (select at l t) = IsFilled t
   IsFilled (match_with at t bs) = HasArm bs × BindOne bs × IsFilled t × HaveArmsFilled bs
   IsFilled (fork at t) = IsFilled t

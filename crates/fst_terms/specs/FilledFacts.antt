@@ -3,7 +3,7 @@ use Rattle.std.specs.Prelude.{List, [], ◌∷◌, length}
 use Rattle.std.proofs.Math.Nat.{ℕ_set}
 use Rattle.fst_types.specs.WrittenTree as written
 use Rattle.fst_types.specs.WrittenTree.{WrittenTree, WrittenBranches, none, branch, HasBranches, HaveBranches}
-use Rattle.fst_terms.specs.TermTree.{TermTree, named, int, bool, char, unit, pair, make, lambda, apply, let_in, split, if_else, case_of, operate, negate, new, send, receive, select, match_with, fork, seq, TermList, no_terms, term, TermArms, no_arms, arm}
+use Rattle.fst_terms.specs.TermTree.{TermTree, named, int, bool, char, unit, pair, make, lambda, apply, let_in, split, if_else, case_of, operate, negate, new, send, receive, close, wait, select, match_with, fork, seq, TermList, no_terms, term, TermArms, no_arms, arm}
 use Rattle.fst_terms.specs.ModuleTree.{Maker, Declared, family, alias, signature, equation}
 use Rattle.fst_terms.specs.Filled.{HaveTypesFilled, HasArm, BindOne, IsFilled, AreFilled, HaveArmsFilled, HasMaker, HaveFieldsFilled, IsDeclFilled, IsModuleFilled}
 
@@ -32,6 +32,8 @@ mutual
   has_prop (written.skip at) = always
   has_prop (written.send at b) = always
   has_prop (written.receive at b) = always
+  has_prop (written.close at) = always
+  has_prop (written.wait at) = always
   has_prop (written.select at none) = never
   has_prop (written.select at (branch l t bs)) = both (has_prop t) (have_prop bs)
   has_prop (written.offer at none) = never
@@ -79,6 +81,8 @@ mutual
   term_prop (new at a) = has_prop a
   term_prop (send at s t) = both (term_prop s) (term_prop t)
   term_prop (receive at t) = term_prop t
+  term_prop (close at t) = term_prop t
+  term_prop (wait at t) = term_prop t
   term_prop (select at l t) = term_prop t
   term_prop (match_with at t bs) = all_four (arm_prop bs) (one_prop bs) (term_prop t) (arms_prop bs)
   term_prop (fork at t) = term_prop t

@@ -10,7 +10,7 @@ use Rattle.fst_types.specs.declared.family.Maker.{Maker}
 use Rattle.fst_types.specs.declared.family.Family.{Family}
 use Rattle.fst_terms.specs.declared.global.GlobalEntry.{GlobalEntry}
 use Rattle.fst_terms.specs.Variables.{AreTypesOver, AreGlobalsOver, AreOthersClosed, field_numbers, global_numbers}
-use Rattle.fst_terms.specs.CoreTree.{CoreTree, local, global, int, bool, char, unit, pair, make, lambda, apply, let_in, split, if_else, case_of, operate, negate, new, send, receive, select, match_with, fork, seq, CoreList, no_terms, term, CoreArms, no_arms, arm}
+use Rattle.fst_terms.specs.CoreTree.{CoreTree, local, global, int, bool, char, unit, pair, make, lambda, apply, let_in, split, if_else, case_of, operate, negate, new, send, receive, close, wait, select, match_with, fork, seq, CoreList, no_terms, term, CoreArms, no_arms, arm}
 
 -- the constructors of these data types, one data type after the other
 abbrev pub makers : List Family → List Maker
@@ -77,6 +77,8 @@ abbrev mutual
   IsInRange b n (new at a) = a < b.types
   IsInRange b n (send at s t) = IsInRange b n s × IsInRange b n t
   IsInRange b n (receive at t) = IsInRange b n t
+  IsInRange b n (close at t) = IsInRange b n t
+  IsInRange b n (wait at t) = IsInRange b n t
   IsInRange b n (select at l t) = IsInRange b n t
   IsInRange b n (match_with at t bs) = HasCoreArm bs × IsInRange b n t × AreMatchesInRange b n bs
   IsInRange b n (fork at t) = IsInRange b n t

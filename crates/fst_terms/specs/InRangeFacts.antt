@@ -12,7 +12,7 @@ use Rattle.fst_types.specs.Named.{IsNamedWithin, AllNamedWithin}
 use Rattle.fst_types.specs.declared.family.Maker.{Maker}
 use Rattle.fst_types.specs.declared.family.Family.{Family}
 use Rattle.fst_terms.specs.declared.global.GlobalEntry.{GlobalEntry}
-use Rattle.fst_terms.specs.CoreTree.{CoreTree, local, global, int, bool, char, unit, pair, make, lambda, apply, let_in, split, if_else, case_of, operate, negate, new, send, receive, select, match_with, fork, seq, CoreList, no_terms, term, CoreArms, no_arms, arm}
+use Rattle.fst_terms.specs.CoreTree.{CoreTree, local, global, int, bool, char, unit, pair, make, lambda, apply, let_in, split, if_else, case_of, operate, negate, new, send, receive, close, wait, select, match_with, fork, seq, CoreList, no_terms, term, CoreArms, no_arms, arm}
 use Rattle.fst_terms.specs.FilledFacts.{both, all_three, all_four}
 use Rattle.fst_terms.specs.Variables.{field_numbers, global_numbers}
 use Rattle.fst_terms.specs.VariablesFacts.{always, never, types_over_prop, globals_over_prop, others_closed_prop}
@@ -52,6 +52,8 @@ module _ (b : Bounds) where
     range_prop n (new at a) = le_prop
     range_prop n (send at s t) = both (range_prop n s) (range_prop n t)
     range_prop n (receive at t) = range_prop n t
+    range_prop n (close at t) = range_prop n t
+    range_prop n (wait at t) = range_prop n t
     range_prop n (select at l t) = range_prop n t
     range_prop n (match_with at t bs) =
         all_three (core_arm_prop bs) (range_prop n t) (matches_prop n bs)
@@ -96,6 +98,8 @@ mutual
   scoped_prop n tree.skip = always
   scoped_prop n (tree.send b) = always
   scoped_prop n (tree.receive b) = always
+  scoped_prop n tree.close = always
+  scoped_prop n tree.wait = always
   scoped_prop n (tree.select bs) = all_scoped_prop n bs
   scoped_prop n (tree.offer bs) = all_scoped_prop n bs
   scoped_prop n (tree.seq s t) = both (scoped_prop n s) (scoped_prop n t)
@@ -116,6 +120,8 @@ mutual
   named_prop n tree.skip = always
   named_prop n (tree.send b) = always
   named_prop n (tree.receive b) = always
+  named_prop n tree.close = always
+  named_prop n tree.wait = always
   named_prop n (tree.select bs) = all_named_prop n bs
   named_prop n (tree.offer bs) = all_named_prop n bs
   named_prop n (tree.seq s t) = both (named_prop n s) (named_prop n t)
@@ -136,6 +142,8 @@ mutual
   choice_prop tree.skip = always
   choice_prop (tree.send b) = always
   choice_prop (tree.receive b) = always
+  choice_prop tree.close = always
+  choice_prop tree.wait = always
   choice_prop (tree.select bs) = both (sorted_prop bs) (below_prop bs)
   choice_prop (tree.offer bs) = both (sorted_prop bs) (below_prop bs)
   choice_prop (tree.seq s t) = both (choice_prop s) (choice_prop t)

@@ -4,7 +4,7 @@ use Rattle.std.proofs.Common.{sym, ◌∙◌, ap}
 use Rattle.fst_types.specs.declared.kind.Use.TheVariants.{Many, Once}
 use Rattle.fst_types.specs.ModelCode.{name_code, name_at, name_at-name_code}
 use Rattle.fst_terms.specs.ModelParts.{list_code, list_at, list_at-list_code, int_code, int_at, int_at-int_code, bool_code, bool_at, bool_at-bool_code, binder_code, binder_at, binder_at-binder_code, op_code, op_at, op_at-op_code}
-use Rattle.fst_terms.specs.CoreTree.{CoreTree, local, global, int, bool, char, unit, pair, make, lambda, apply, let_in, split, if_else, case_of, operate, negate, new, send, receive, select, match_with, fork, seq, CoreList, no_terms, term, CoreArms, no_arms, arm}
+use Rattle.fst_terms.specs.CoreTree.{CoreTree, local, global, int, bool, char, unit, pair, make, lambda, apply, let_in, split, if_else, case_of, operate, negate, new, send, receive, close, wait, select, match_with, fork, seq, CoreList, no_terms, term, CoreArms, no_arms, arm}
 use base.Stored.{Coded, Gv, gnil, gnum, gcons, num}
 
 -- a node: a number for its kind, its place, two parts beside its terms, and its terms
@@ -35,6 +35,8 @@ abbrev mutual
   code_of (new at a) = node 16 at (gnum a) gnil gnil gnil gnil
   code_of (send at s t) = node 17 at gnil gnil (code_of s) (code_of t) gnil
   code_of (receive at t) = node 18 at gnil gnil (code_of t) gnil gnil
+  code_of (close at t) = node 24 at gnil gnil (code_of t) gnil gnil
+  code_of (wait at t) = node 25 at gnil gnil (code_of t) gnil gnil
   code_of (select at l t) = node 19 at (name_code l) gnil (code_of t) gnil gnil
   code_of (match_with at t bs) = node 20 at gnil gnil (code_of t) (code_of_arms bs) gnil
   code_of (fork at t) = node 21 at gnil gnil (code_of t) gnil gnil
@@ -78,7 +80,9 @@ node_at tag at x y ts bs s t u =
     if tag == 19 then select at (name_at x) s else
     if tag == 20 then match_with at s bs else
     if tag == 21 then fork at s else
-    seq at s t
+    if tag == 22 then seq at s t else
+    if tag == 24 then close at s else
+    wait at s
 
 abbrev mutual
   -- the tree of a code
@@ -130,6 +134,8 @@ mutual
   tree_at-code_of (new at a) = refl
   tree_at-code_of (send at s t) = λ i. send at (tree_at-code_of s i) (tree_at-code_of t i)
   tree_at-code_of (receive at t) = ap (receive at) (tree_at-code_of t)
+  tree_at-code_of (close at t) = ap (close at) (tree_at-code_of t)
+  tree_at-code_of (wait at t) = ap (wait at) (tree_at-code_of t)
   tree_at-code_of (select at l t) = λ i. select at (name_at-name_code l i) (tree_at-code_of t i)
   tree_at-code_of (match_with at t bs) =
       λ i. match_with at (tree_at-code_of t i) (arms_at-code_of_arms bs i)

@@ -4,7 +4,7 @@ use Rattle.std.proofs.Common.{arith}
 use Rattle.fst_terms.specs.CoreTree.{CoreTree, core_height, cores_height, core_arms_height}
 use Rattle.fst_terms.specs.ModelCoreView.{cores_of, core_arms_of, core_of}
 use Rattle.fst_terms.specs.declared.core_term.Form.{Form}
-use Rattle.fst_terms.specs.declared.core_term.Form.TheVariants.{Local, GlobalUse, Int, Bool, Char, Unit as Nothing, Pair, Make, Lambda, Apply, Let, Split, If, Case, Operate, Not, New, Send, Receive, Select, Match, Fork, Then}
+use Rattle.fst_terms.specs.declared.core_term.Form.TheVariants.{Local, GlobalUse, Int, Bool, Char, Unit as Nothing, Pair, Make, Lambda, Apply, Let, Split, If, Case, Operate, Not, New, Send, Receive, Close, Wait, Select, Match, Fork, Then}
 use Rattle.fst_terms.specs.declared.core_term.Arm.{Arm}
 use Rattle.fst_terms.specs.declared.core_term.Term.TheDeep.{deep-Form, deep-Arm}
 use denote.Param.Weighed.{most}
@@ -42,6 +42,8 @@ deep_le-height at (Not t) = omega arith
 deep_le-height at (New a) = omega arith
 deep_le-height at (Send s t) = omega arith
 deep_le-height at (Receive t) = omega arith
+deep_le-height at (Close t) = omega arith
+deep_le-height at (Wait t) = omega arith
 deep_le-height at (Select l t) = omega arith
 deep_le-height at (Match t bs) = omega (arith, most_le-core_arms_height bs.items)
 deep_le-height at (Fork t) = omega arith

@@ -1,8 +1,8 @@
 -- The tree of a term with numbers in place of names.
 use Rattle.std.specs.Prelude.{ℕ, List, [], ◌∷◌}
-use Rattle.fst_terms.specs.CoreTree.{CoreTree, local, global, int, bool, char, unit, pair, make, lambda, apply, let_in, split, if_else, case_of, operate, negate, new, send, receive, select, match_with, fork, seq, CoreList, no_terms, term, CoreArms, no_arms, arm}
+use Rattle.fst_terms.specs.CoreTree.{CoreTree, local, global, int, bool, char, unit, pair, make, lambda, apply, let_in, split, if_else, case_of, operate, negate, new, send, receive, close, wait, select, match_with, fork, seq, CoreList, no_terms, term, CoreArms, no_arms, arm}
 use Rattle.fst_terms.specs.declared.core_term.Form.{Form}
-use Rattle.fst_terms.specs.declared.core_term.Form.TheVariants.{Local, GlobalUse, Int, Bool, Char, Unit as Nothing, Pair, Make, Lambda, Apply, Let, Split, If, Case, Operate, Not, New, Send, Receive, Select, Match, Fork, Then}
+use Rattle.fst_terms.specs.declared.core_term.Form.TheVariants.{Local, GlobalUse, Int, Bool, Char, Unit as Nothing, Pair, Make, Lambda, Apply, Let, Split, If, Case, Operate, Not, New, Send, Receive, Close, Wait, Select, Match, Fork, Then}
 use Rattle.fst_terms.specs.declared.core_term.Arm.{Arm}
 
 -- the arguments of a constructor, in the order of their list
@@ -36,6 +36,8 @@ core_of at (Not t) = negate at t.value
 core_of at (New a) = new at a
 core_of at (Send s t) = send at s.value t.value
 core_of at (Receive t) = receive at t.value
+core_of at (Close t) = close at t.value
+core_of at (Wait t) = wait at t.value
 core_of at (Select l t) = select at l t.value
 core_of at (Match t bs) = match_with at t.value (core_arms_of bs.items)
 core_of at (Fork t) = fork at t.value

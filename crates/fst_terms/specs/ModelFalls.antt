@@ -4,7 +4,7 @@ use Rattle.std.proofs.Common.{arith}
 use Rattle.fst_terms.specs.TermTree.{TermTree, term_height, terms_height, arms_height}
 use Rattle.fst_terms.specs.ModelView.{terms_of, arms_of, term_of}
 use Rattle.fst_terms.specs.declared.term.SourceForm.{SourceForm}
-use Rattle.fst_terms.specs.declared.term.SourceForm.TheVariants.{Named, Int, Bool, Char, Unit as Nothing, Pair, Make, Lambda, Apply, Let, Split, If, Case, Operate, Not, New, Send, Receive, Select, Match, Fork, Then}
+use Rattle.fst_terms.specs.declared.term.SourceForm.TheVariants.{Named, Int, Bool, Char, Unit as Nothing, Pair, Make, Lambda, Apply, Let, Split, If, Case, Operate, Not, New, Send, Receive, Close, Wait, Select, Match, Fork, Then}
 use Rattle.fst_terms.specs.declared.term.SourceArm.{SourceArm}
 use Rattle.fst_terms.specs.declared.term.SourceTerm.TheDeep.{deep-SourceForm, deep-SourceArm}
 use denote.Param.Weighed.{most}
@@ -42,6 +42,8 @@ deep_le-height at (Not t) = omega arith
 deep_le-height at (New a) = omega arith
 deep_le-height at (Send s t) = omega arith
 deep_le-height at (Receive t) = omega arith
+deep_le-height at (Close t) = omega arith
+deep_le-height at (Wait t) = omega arith
 deep_le-height at (Select l t) = omega arith
 deep_le-height at (Match t bs) = omega (arith, most_le-arms_height bs.items)
 deep_le-height at (Fork t) = omega arith

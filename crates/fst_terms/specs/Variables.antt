@@ -4,7 +4,7 @@ use Rattle.fst_types.specs.Tree.{Tree}
 use Rattle.fst_types.specs.Variables.{HasVariablesBelow}
 use Rattle.fst_types.specs.declared.family.Maker.{Maker}
 use Rattle.fst_terms.specs.declared.global.GlobalEntry.{GlobalEntry}
-use Rattle.fst_terms.specs.CoreTree.{CoreTree, local, global, int, bool, char, unit, pair, make, lambda, apply, let_in, split, if_else, case_of, operate, negate, new, send, receive, select, match_with, fork, seq, CoreList, no_terms, term, CoreArms, no_arms, arm}
+use Rattle.fst_terms.specs.CoreTree.{CoreTree, local, global, int, bool, char, unit, pair, make, lambda, apply, let_in, split, if_else, case_of, operate, negate, new, send, receive, close, wait, select, match_with, fork, seq, CoreList, no_terms, term, CoreArms, no_arms, arm}
 
 -- ---- how many variables
 
@@ -42,6 +42,8 @@ abbrev mutual
   HasTypesOver types n (new at a) = IsTypeOver 0 (slice_get types a)
   HasTypesOver types n (send at s t) = HasTypesOver types n s × HasTypesOver types n t
   HasTypesOver types n (receive at t) = HasTypesOver types n t
+  HasTypesOver types n (close at t) = HasTypesOver types n t
+  HasTypesOver types n (wait at t) = HasTypesOver types n t
   HasTypesOver types n (select at l t) = HasTypesOver types n t
   HasTypesOver types n (match_with at t bs) = HasTypesOver types n t × HaveArmTypesOver types n bs
   HasTypesOver types n (fork at t) = HasTypesOver types n t
@@ -87,6 +89,8 @@ abbrev mutual
   type_numbers (new at a) = a ∷ []
   type_numbers (send at s t) = type_numbers s ++ type_numbers t
   type_numbers (receive at t) = type_numbers t
+  type_numbers (close at t) = type_numbers t
+  type_numbers (wait at t) = type_numbers t
   type_numbers (select at l t) = type_numbers t
   type_numbers (match_with at t bs) = type_numbers t ++ arm_type_numbers bs
   type_numbers (fork at t) = type_numbers t

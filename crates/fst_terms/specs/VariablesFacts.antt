@@ -5,7 +5,7 @@ use Rattle.fst_types.specs.Tree as tree
 use Rattle.fst_types.specs.Tree.{Tree, Branches, none, branch}
 use Rattle.fst_types.specs.Variables.{HasVariablesBelow, HaveVariablesBelow}
 use Rattle.fst_terms.specs.declared.global.GlobalEntry.{GlobalEntry}
-use Rattle.fst_terms.specs.CoreTree.{CoreTree, local, global, int, bool, char, unit, pair, make, lambda, apply, let_in, split, if_else, case_of, operate, negate, new, send, receive, select, match_with, fork, seq, CoreList, no_terms, term, CoreArms, no_arms, arm}
+use Rattle.fst_terms.specs.CoreTree.{CoreTree, local, global, int, bool, char, unit, pair, make, lambda, apply, let_in, split, if_else, case_of, operate, negate, new, send, receive, close, wait, select, match_with, fork, seq, CoreList, no_terms, term, CoreArms, no_arms, arm}
 use Rattle.fst_terms.specs.FilledFacts.{both, all_three}
 use Rattle.fst_terms.specs.Variables.{IsTypeOver, AreTypesOver, HasTypesOver, HaveTypesOver, HaveArmTypesOver, AreGlobalsOver, AreOthersClosed}
 
@@ -22,6 +22,8 @@ mutual
   variables_prop n tree.skip = always
   variables_prop n (tree.send b) = always
   variables_prop n (tree.receive b) = always
+  variables_prop n tree.close = always
+  variables_prop n tree.wait = always
   variables_prop n (tree.select bs) = all_variables_prop n bs
   variables_prop n (tree.offer bs) = all_variables_prop n bs
   variables_prop n (tree.seq s t) = both (variables_prop n s) (variables_prop n t)
@@ -70,6 +72,8 @@ module _ (types : List Tree) where
     term_over_prop n (new at a) = type_over_prop 0 (slice_get types a)
     term_over_prop n (send at s t) = both (term_over_prop n s) (term_over_prop n t)
     term_over_prop n (receive at t) = term_over_prop n t
+    term_over_prop n (close at t) = term_over_prop n t
+    term_over_prop n (wait at t) = term_over_prop n t
     term_over_prop n (select at l t) = term_over_prop n t
     term_over_prop n (match_with at t bs) = both (term_over_prop n t) (arms_over_prop n bs)
     term_over_prop n (fork at t) = term_over_prop n t

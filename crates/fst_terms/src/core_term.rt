@@ -80,6 +80,10 @@ pub enum Form {
     Send(Box<Term>, Box<Term>),
     /// Receive a value on a channel.
     Receive(Box<Term>),
+    /// Close a channel.
+    Close(Box<Term>),
+    /// Wait until a channel is closed.
+    Wait(Box<Term>),
     /// Select the branch with this label on a channel.
     Select(Name, Box<Term>),
     /// Wait which branch is selected on a channel: an arm for each, in the order in which they were written.

@@ -37,7 +37,11 @@ S -> Int ~ R -> Char ¦ >;r;!0?i ¦ >r;!;!0h ¦ 3 = shape
 Int -> Int -> !Int ~ Int -> Int -> !Bool ¦ >i>i! ¦ >i>i^ ¦ 1 = word !Int left
 Int -> Int 1-> !Int ~ Int -> Int -> !Bool ¦ >ioi! ¦ >i>i^ ¦ 1 = shape
 (Int -> !Int) -> !Int ~ (Int -> !Bool) -> ?Bool ¦ >>i!! ¦ >>i^? ¦ 1 = word !Int left
-(Int -> Int) -> Int ~ (Int -> Char) -> Int ¦ >>iii ¦ >>ihi ¦ 1 = shape";
+(Int -> Int) -> Int ~ (Int -> Char) -> Int ¦ >>iii ¦ >>ihi ¦ 1 = shape
+Close ~ Wait ¦ k ¦ w ¦ 1 = word Close left
+Close ~ Skip ¦ k ¦ s ¦ 1 = word Close left
+Int ~ Wait ¦ i ¦ w ¦ 1 = shape
+(Close;!Int, Int) ~ (Close, Int) ¦ ,;k!i ¦ ,ki ¦ 1 = yes";
 
 fn comparison_row(alloc: Global, given: &str) -> Result<String, Fail> {
     let fields = fields(alloc, given)?;

@@ -50,7 +50,10 @@ r+0-! ¦ -! = !Int +A +B ¦ 0 / 11 23 / 11 23 / 20 ¦ 1 ¦ 3
 r;+0s? ¦ s = ?Bool +A +B ¦ 0 / 110 20 / 11 2 ¦ 1 ¦ empty
 r;!0 ¦ r;r;!00 = !Int ¦ 0 / 01 / 012 ¦ 1 ¦ 2
 r;r+0s;?0 ¦ s = ?Bool +A +B ¦ 0 / 1201 201 / 12 2 / 12 2 ¦ 1 ¦ empty
-;r;!0rs ¦ r&0s = !Int &A &B ¦ 0 / 01 / 12 2 / 12 2 ¦ 1 ¦ 2";
+;r;!0rs ¦ r&0s = !Int &A &B ¦ 0 / 01 / 12 2 / 12 2 ¦ 1 ¦ 2
+k ¦ w = Close Wait ¦ 02 / 12 / ¦ 0 ¦ 1
+;k! ¦ k = !Int Close ¦ 0 / 12 / ¦ 10 ¦ 1
+s ¦ +ks = +A +B Close ¦ 22 / 00 1 / ¦ empty ¦ 1";
 
 fn or_empty(text: &str) -> &str {
     let text = text.trim();
@@ -105,7 +108,9 @@ r+;0!s ¦ r+;0^s ¦ 1000 = no +A +B !Int left
 ;s! ¦ ;!s ¦ 1 = yes by basis
 ! ¦ @ ¦ 1 = no !Int left
 ^ ¦ @ ¦ 1 = no !Bool left
-i ¦ s ¦ 1 = memory";
+i ¦ s ¦ 1 = memory
+k ¦ w ¦ 1 = no Close left
+;!k ¦ ! ¦ 2 = no !Int Close left";
 
 fn verdict_row(alloc: Global, given: &str) -> Result<String, Fail> {
     let fields = fields(alloc, given)?;

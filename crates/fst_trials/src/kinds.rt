@@ -86,7 +86,13 @@ c;a ¦ ;ca = *T for 1S true
 rec x.b ¦ rb = 1S true
 rec x.d ¦ rd = 1T for 1S true
 rec x.a;x ¦ r;a0 = not contractive false
-rec x.b;x ¦ r;b0 = not contractive false";
+rec x.b;x ¦ r;b0 = not contractive false
+Close ¦ k = 1S true
+Wait;Skip ¦ ;ws = 1S true
+Close;Int ¦ ;ki = *T for 1S true
+(Close, Skip) ¦ ,ks = 1T true
+rec x.Close;x ¦ r;k0 = 1S true
+rec x.x;Wait ¦ r;0w = not contractive false";
 
 fn kind_row(alloc: Global, given: &str) -> Result<String, Fail> {
     let fields = fields(alloc, given)?;

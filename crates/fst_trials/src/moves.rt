@@ -22,7 +22,12 @@ d = false a4
 r;!0 = false !Int
 rr;!;10 = false !Int
 ;+!s? = false +A +B
-;&!s? = false &A &B";
+;&!s? = false &A &B
+k = false Close
+;sw = false Wait
+;k! = false Close
+;+kw! = false +A +B
+r;k0 = false Close";
 
 fn labels_row(alloc: Global, given: &str) -> Result<String, Fail> {
     let t = ty(alloc, given)?;
@@ -69,7 +74,18 @@ r+r&;!01s ¦ +B ¦ s = this
 r+r&;!01s ¦ +B +A ¦ s = none
 r+r&;!01s ¦ &A ¦ s = none
 r+r&;!01s ¦ +A &A !Int &A !Int &B +A &A !Int &B +A &B +A &A !Int &A !Int &A !Int &A ¦ ;!r&;!0r+r&;!01s = this
-r+r&;!01s ¦ +A &A !Int &A !Int &B +A &A !Int &B +A &B +A &A !Int &A !Int &A !Int +A ¦ s = none";
+r+r&;!01s ¦ +A &A !Int &A !Int &B +A &A !Int &B +A &B +A &A !Int &A !Int &A !Int +A ¦ s = none
+k ¦ Close ¦ s = this
+w ¦ Close ¦ s = none
+;k! ¦ Close ¦ s = this
+;k! ¦ Close !Int ¦ s = none
+;;!k? ¦ !Int Close ¦ s = this
+;;sk? ¦ Close ¦ s = this
+;+ks! ¦ +A ¦ ;k! = this
+;+ks! ¦ +A Close ¦ s = this
+;+ks! ¦ +B !Int ¦ s = this
+;rrk! ¦ Close ¦ s = this
+r;k0 ¦ Close ¦ s = this";
 
 fn residual_row(alloc: Global, given: &str) -> Result<String, Fail> {
     let fields = fields(alloc, given)?;
@@ -99,7 +115,9 @@ o!? ¦ o@^ = true true
 ,h% ¦ ,h$ = true true
 rr;!;10 ¦ rr;@;10 = true true
 r+;!0s ¦ r&;@0s = true true
-+&%@+ds ¦ &+$!&ds = true true";
++&%@+ds ¦ &+$!&ds = true true
+k ¦ w = true true
+;+k!! ¦ ;&w@@ = true true";
 
 fn is_dual(alloc: Global, one: &str, other: &str) -> Result<bool, AllocError> {
     Ok(same(&dual(alloc, &ty(alloc, one)?)?, &ty(alloc, other)?))
@@ -129,7 +147,7 @@ fn dual_word(alloc: Global, given: &str) -> Result<String, Fail> {
 
 #[test]
 fn labels_meet_their_duals(rt: HostRuntime) -> Result<(), Fail> {
-    let table = "!Int ?Int !Bool ?() +A &A a4 = ?Int !Int ?Bool !() &A +A a4";
+    let table = "!Int ?Int !Bool ?() +A &A Close Wait a4 = ?Int !Int ?Bool !() &A +A Wait Close a4";
     each_line(rt.alloc(), table, dual_word)
 }
 
@@ -143,7 +161,11 @@ s ¦ ! = 0
 ;+!s? ¦ +;!?? = 5
 ;&!s? ¦ &;!?s = 1
 r;!0 ¦ r;!;!0 = 5
-;!;!s ¦ r;!0 = 2";
+;!;!s ¦ r;!0 = 2
+;k! ¦ k = 5
+;k! ¦ ;w! = 0
+;!k ¦ ! = 1
+r;k0 ¦ ;k? = 5";
 
 fn depth_row(alloc: Global, given: &str) -> Result<String, Fail> {
     let fields = fields(alloc, given)?;

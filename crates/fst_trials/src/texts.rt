@@ -29,7 +29,12 @@ oouii = (() 1-> Int) 1-> Int
 >ioii = Int -> Int 1-> Int
 >;!?m = !Int;?Bool -> List'
 ,iu = (Int, ())
-,>ii,nh = (Int -> Int, (Bit, Char))";
+,>ii,nh = (Int -> Int, (Bit, Char))
+k = Close
+;w;k! = Wait;Close;!Int
+;;kws = (Close;Wait);Skip
+>kw = Close -> Wait
+r_k = rec x1. &{B: Close}";
 
 fn type_row(alloc: Global, given: &str) -> Result<String, Fail> {
     text_of(alloc, &ty(alloc, given)?)

@@ -43,7 +43,10 @@ r+;!0s ¦ +;!r+;!0ss = 8 1 true true
 r&0+0a ¦ &r&0+0a+r&0+0aa = 10 1 true true
 r,0>i0 ¦ ,r,0>i0>ir,0>i0 = 6 1 true true
 ;!r;?0 ¦ ;!r;?0 = 6 1 true true
-+r0a ¦ +r0a = 6 1 true true";
++r0a ¦ +r0a = 6 1 true true
+k ¦ k = 1 1 true true
+w ¦ w = 1 1 true true
+r;k0 ¦ ;kr;k0 = 4 1 true true";
 
 /// How many lines have this type.
 fn alike(alloc: Global, t: &Ty) -> Result<usize, AllocError> {

@@ -3,7 +3,7 @@ use Rattle.std.specs.Prelude.{ℕ, suc, ◌+◌, ◌-◌, List, [], ◌∷◌, �
 use Rattle.std.specs.List.{flat_map}
 use Rattle.std.specs.String.{string_bytes}
 use Rattle.std.specs.declared.string.String.{String}
-use Rattle.fst_types.specs.Tree.{Tree, skip, send, receive, select, offer, seq, rec, back, var, plain, arrow, pair, named, Branches, none, branch}
+use Rattle.fst_types.specs.Tree.{Tree, skip, send, receive, close, wait, select, offer, seq, rec, back, var, plain, arrow, pair, named, Branches, none, branch}
 use Rattle.fst_types.specs.declared.base.Base.{Base}
 use Rattle.fst_types.specs.declared.base.Base.TheVariants.{Int, Bool as Truth, Char, Unit as Nothing}
 use Rattle.fst_types.specs.declared.family.Family.{Family}
@@ -13,7 +13,7 @@ use Rattle.fst_types.specs.declared.kind.Prekind.TheVariants.{Session, Top}
 use Rattle.fst_types.specs.declared.kind.Use.{Use}
 use Rattle.fst_types.specs.declared.kind.Use.TheVariants.{Many, Once}
 use Rattle.fst_types.specs.declared.label.Label.{Label}
-use Rattle.fst_types.specs.declared.label.Label.TheVariants.{Send, Receive, Select, Offer, Var}
+use Rattle.fst_types.specs.declared.label.Label.TheVariants.{Send, Receive, Select, Offer, Close, Wait, Var}
 use Rattle.fst_types.specs.declared.side.Side.{Side}
 use Rattle.fst_types.specs.declared.side.Side.TheVariants.{Left, Right}
 use Rattle.fst_type_print.specs.declared.refusals.Phrase.{Phrase}
@@ -70,6 +70,8 @@ abbrev pub in_parens_before_semicolon : Tree → Bool
 in_parens_before_semicolon skip = false
 in_parens_before_semicolon (send b) = false
 in_parens_before_semicolon (receive b) = false
+in_parens_before_semicolon close = false
+in_parens_before_semicolon wait = false
 in_parens_before_semicolon (select bs) = false
 in_parens_before_semicolon (offer bs) = false
 in_parens_before_semicolon (seq s r) = true
@@ -86,6 +88,8 @@ abbrev pub in_parens_before_arrow : Tree → Bool
 in_parens_before_arrow skip = false
 in_parens_before_arrow (send b) = false
 in_parens_before_arrow (receive b) = false
+in_parens_before_arrow close = false
+in_parens_before_arrow wait = false
 in_parens_before_arrow (select bs) = false
 in_parens_before_arrow (offer bs) = false
 in_parens_before_arrow (seq s r) = false
@@ -112,6 +116,8 @@ abbrev mutual
   text_under names n skip = codes "Skip"
   text_under names n (send b) = send_text b
   text_under names n (receive b) = receive_text b
+  text_under names n close = codes "Close"
+  text_under names n wait = codes "Wait"
   text_under names n (select bs) = codes "+" ++ in_braces
       (joined_text (codes ", ") (branch_texts names n bs))
   text_under names n (offer bs) = codes "&" ++ in_braces
@@ -149,6 +155,8 @@ label_text (Send b) = send_text b
 label_text (Receive b) = receive_text b
 label_text (Select l) = codes "+" ++ l
 label_text (Offer l) = codes "&" ++ l
+label_text Close = codes "Close"
+label_text Wait = codes "Wait"
 label_text (Var k) = variable_text k
 
 -- a word: its labels with a space between

@@ -9,6 +9,8 @@ abbrev pub is_compound : WrittenTree → Bool
 is_compound (written.skip at) = false
 is_compound (written.send at b) = false
 is_compound (written.receive at b) = false
+is_compound (written.close at) = false
+is_compound (written.wait at) = false
 is_compound (written.select at bs) = false
 is_compound (written.offer at bs) = false
 is_compound (written.seq at s t) = true
@@ -23,6 +25,8 @@ abbrev pub is_arrow : WrittenTree → Bool
 is_arrow (written.skip at) = false
 is_arrow (written.send at b) = false
 is_arrow (written.receive at b) = false
+is_arrow (written.close at) = false
+is_arrow (written.wait at) = false
 is_arrow (written.select at bs) = false
 is_arrow (written.offer at bs) = false
 is_arrow (written.seq at s t) = false
@@ -38,6 +42,8 @@ abbrev mutual
   written_text (written.skip at) = codes "Skip"
   written_text (written.send at b) = send_text b
   written_text (written.receive at b) = receive_text b
+  written_text (written.close at) = codes "Close"
+  written_text (written.wait at) = codes "Wait"
   written_text (written.select at bs) =
       codes "+" ++ in_braces (joined_text (codes ", ") (written_branch_texts bs))
   written_text (written.offer at bs) =

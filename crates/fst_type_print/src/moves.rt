@@ -16,7 +16,7 @@ fn in_parens_behind_sign(t: &Ty) -> bool
 {
     match &t.form {
         TyForm::Seq(_, _) | TyForm::Rec(_) | TyForm::Arrow(_, _, _) => true,
-        TyForm::Skip | TyForm::Send(_) | TyForm::Receive(_) => false,
+        TyForm::Skip | TyForm::Send(_) | TyForm::Receive(_) | TyForm::Close | TyForm::Wait => false,
         TyForm::Select(_) | TyForm::Offer(_) | TyForm::Back(_) | TyForm::Var(_) => false,
         TyForm::Plain(_) | TyForm::Pair(_, _) | TyForm::Named(_) => false,
     }
@@ -38,6 +38,8 @@ fn push_move(text: &mut String, m: &Move, families: &[Family]) -> Result<(), All
             text.push_str(label.as_str())
         }
         Move::Offer => text.push_str("&"),
+        Move::Close => text.push_str("Close"),
+        Move::Wait => text.push_str("Wait"),
     }
 }
 

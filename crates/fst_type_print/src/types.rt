@@ -31,7 +31,7 @@ fn in_parens_before_semicolon(t: &Ty) -> bool
 {
     match &t.form {
         TyForm::Seq(_, _) | TyForm::Rec(_) => true,
-        TyForm::Skip | TyForm::Send(_) | TyForm::Receive(_) => false,
+        TyForm::Skip | TyForm::Send(_) | TyForm::Receive(_) | TyForm::Close | TyForm::Wait => false,
         TyForm::Select(_) | TyForm::Offer(_) | TyForm::Back(_) | TyForm::Var(_) => false,
         TyForm::Plain(_) | TyForm::Arrow(_, _, _) | TyForm::Pair(_, _) | TyForm::Named(_) => false,
     }
@@ -42,7 +42,7 @@ fn in_parens_before_arrow(t: &Ty) -> bool
 {
     match &t.form {
         TyForm::Arrow(_, _, _) => true,
-        TyForm::Skip | TyForm::Send(_) | TyForm::Receive(_) => false,
+        TyForm::Skip | TyForm::Send(_) | TyForm::Receive(_) | TyForm::Close | TyForm::Wait => false,
         TyForm::Select(_) | TyForm::Offer(_) | TyForm::Seq(_, _) | TyForm::Rec(_) => false,
         TyForm::Back(_) | TyForm::Var(_) | TyForm::Plain(_) => false,
         TyForm::Pair(_, _) | TyForm::Named(_) => false,
@@ -79,6 +79,8 @@ fn push_type(text: &mut String, t: &Ty, depth: usize, families: &[Family]) -> Re
         TyForm::Skip => text.push_str("Skip"),
         TyForm::Send(base) => push_send(text, *base),
         TyForm::Receive(base) => push_receive(text, *base),
+        TyForm::Close => text.push_str("Close"),
+        TyForm::Wait => text.push_str("Wait"),
         TyForm::Select(branches) => push_choice(text, "+", branches, depth, families),
         TyForm::Offer(branches) => push_choice(text, "&", branches, depth, families),
         TyForm::Seq(first, second) => {

@@ -31,6 +31,8 @@ fn push_label(text: &mut String, label: &Label) -> Result<(), AllocError>
             text.push_str("&")?;
             text.push_str(name.as_str())
         }
+        Label::Close => text.push_str("Close"),
+        Label::Wait => text.push_str("Wait"),
         Label::Var(k) => push_variable(text, u64::from(*k)),
     }
 }

@@ -15,6 +15,7 @@ fn is_compound(t: &Written) -> bool
 {
     match &t.form {
         WrittenForm::Skip | WrittenForm::Send(_) | WrittenForm::Receive(_) => false,
+        WrittenForm::Close | WrittenForm::Wait => false,
         WrittenForm::Select(_) | WrittenForm::Offer(_) => false,
         WrittenForm::Seq(_, _) | WrittenForm::Rec(_, _) | WrittenForm::Arrow(_, _, _) => true,
         WrittenForm::Named(_) | WrittenForm::Plain(_) | WrittenForm::Pair(_, _) => false,
@@ -26,6 +27,7 @@ fn is_arrow(t: &Written) -> bool
 {
     match &t.form {
         WrittenForm::Skip | WrittenForm::Send(_) | WrittenForm::Receive(_) => false,
+        WrittenForm::Close | WrittenForm::Wait => false,
         WrittenForm::Select(_) | WrittenForm::Offer(_) => false,
         WrittenForm::Seq(_, _) | WrittenForm::Rec(_, _) => false,
         WrittenForm::Named(_) | WrittenForm::Plain(_) | WrittenForm::Pair(_, _) => false,
@@ -41,6 +43,8 @@ pub fn push_written(text: &mut String, t: &Written) -> Result<(), AllocError>
         WrittenForm::Skip => text.push_str("Skip"),
         WrittenForm::Send(base) => push_send(text, *base),
         WrittenForm::Receive(base) => push_receive(text, *base),
+        WrittenForm::Close => text.push_str("Close"),
+        WrittenForm::Wait => text.push_str("Wait"),
         WrittenForm::Select(branches) => push_choice(text, "+", branches),
         WrittenForm::Offer(branches) => push_choice(text, "&", branches),
         WrittenForm::Seq(first, second) => {

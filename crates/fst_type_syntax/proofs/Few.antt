@@ -1,5 +1,5 @@
 -- A written type has no more types than tokens, and variables with their kinds are no more than their tokens.
-use Rattle.std.proofs.Common.{◌≡◌, ℕ, suc, ◌+◌, ◌≤◌, List, [], ◌∷◌, ◌++◌, length, ap, arith, length-append}
+use Rattle.std.proofs.Common.{ℕ, ◌≤◌, List, [], ◌∷◌, ◌++◌, length, ap, arith, length-append}
 use Rattle.fst_types.specs.declared.base.Base.{Base}
 use Rattle.fst_types.specs.declared.kind.Kind.{Kind}
 use Rattle.fst_types.specs.declared.kind.Use.{Use}
@@ -7,7 +7,7 @@ use Rattle.fst_types.specs.WrittenTree.{WrittenTree, WrittenBranches}
 use Rattle.fst_terms.specs.declared.binder.Binder.{Binder}
 use Rattle.fst_terms.specs.Count.{type_count, branches_count}
 use Rattle.fst_reading.specs.Lexeme.{Lexeme}
-use Rattle.fst_type_syntax.specs.Grammar.{IsBase, int, bool, char, unit, IsType, single, arrow, IsSeq, rec, atom, chain, IsAtom, skip, send, receive, select, offer, plain, lower, upper, group, pair, IsAlts, last, further, IsAlt, alt, IsArrow, many, once, IsBinder, binder, IsBinders}
+use Rattle.fst_type_syntax.specs.Grammar.{IsBase, int, bool, char, unit, IsType, single, arrow, IsSeq, rec, atom, chain, IsAtom, skip, send, receive, close, wait, select, offer, plain, lower, upper, group, pair, IsAlts, last, further, IsAlt, alt, IsArrow, many, once, IsBinder, binder, IsBinders}
 
 base_some : {ts : List Lexeme} {b : Base} → IsBase ts b → 1 ≤ length ts
 base_some (int k is) = omega arith
@@ -34,6 +34,8 @@ mutual
   atom_few (skip k is) = omega arith
   atom_few (send k ts b is s) = omega arith
   atom_few (receive k ts b is s) = omega arith
+  atom_few (close k is) = omega arith
+  atom_few (wait k is) = omega arith
   atom_few (select k o c ts all bs is opens a closes parts) =
       omega (arith, alts_few a, ap length parts, length-append ts (c ∷ []))
   atom_few (offer k o c ts all bs is opens a closes parts) = omega (arith, alts_few a, ap length parts, length-append ts (c ∷ []))

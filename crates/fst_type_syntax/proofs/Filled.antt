@@ -2,7 +2,7 @@
 use Rattle.std.proofs.Common.{◌≡◌, ℕ, List, Ok, arith}
 use Rattle.fst_types.specs.WrittenTree.{WrittenTree, WrittenBranches, HasBranches, HaveBranches}
 use Rattle.fst_reading.specs.Lexeme.{Lexeme}
-use Rattle.fst_type_syntax.specs.Grammar.{IsType, single, arrow, IsSeq, rec, atom, chain, IsAtom, skip, send, receive, select, offer, plain, lower, upper, group, pair, IsAlts, last, further, IsAlt, alt}
+use Rattle.fst_type_syntax.specs.Grammar.{IsType, single, arrow, IsSeq, rec, atom, chain, IsAtom, skip, send, receive, close, wait, select, offer, plain, lower, upper, group, pair, IsAlts, last, further, IsAlt, alt}
 use Rattle.fst_type_syntax.specs.TypeReading.{seq_at}
 use Rattle.fst_type_syntax.proofs.TypeReads.{reads_seq}
 
@@ -20,6 +20,8 @@ mutual
   atom_filled (skip k is) = tt
   atom_filled (send k ts b is s) = tt
   atom_filled (receive k ts b is s) = tt
+  atom_filled (close k is) = tt
+  atom_filled (wait k is) = tt
   atom_filled (select k o c ts all _ is opens (last us l t a) closes parts) = (alt_filled a, tt)
   atom_filled (select k o c ts all _ is opens (further us vs ws m l t bs a comma s whole) closes parts) =
       (alt_filled a, alts_filled s)

@@ -10,7 +10,7 @@ use Rattle.fst_types.specs.WrittenTree.{WrittenTree, WrittenBranches, branch}
 use Rattle.fst_type_syntax.specs.declared.starts.Start.{Start}
 use Rattle.fst_type_syntax.specs.declared.starts.Start.TheVariants as begin
 use Rattle.fst_reading.specs.Lexeme.{Lexeme, spells, Is, IsLower, IsUpper, start, lower_of, upper_of, is_one}
-use Rattle.fst_type_syntax.specs.Grammar.{IsBase, int, bool, char, unit, IsArrow, many, once, IsType, single, arrow, IsSeq, rec, atom, chain, IsAtom, skip, send, receive, select, offer, plain, lower, upper, group, pair, IsAlts, last, further, IsAlt, alt}
+use Rattle.fst_type_syntax.specs.Grammar.{IsBase, int, bool, char, unit, IsArrow, many, once, IsType, single, arrow, IsSeq, rec, atom, chain, IsAtom, skip, send, receive, close, wait, select, offer, plain, lower, upper, group, pair, IsAlts, last, further, IsAlt, alt}
 use Rattle.fst_type_syntax.specs.Nesting.{type_nests, seq_nests, atom_nests, alts_nests, alt_nests}
 use Rattle.fst_reading.specs.Faults.{level, Phrase}
 use Rattle.fst_type_syntax.specs.TypeReading.{base_word, start_of, branches, is_begun, starts_type}
@@ -53,8 +53,8 @@ base_from d ts b ns p = subst (BaseR d ts b) p.1 (of_base ts b p.0)
     of_base _ _ (int k is) = other _ _ _ (first k base.Int [] base.Int [] (is_base_word base.Int k is) nothing)
     of_base _ _ (bool k is) = other _ _ _ (first k base.Bool [] base.Bool [] (is_base_word base.Bool k is) nothing)
     of_base _ _ (char k is) = other _ _ _ (first k base.Char [] base.Char [] (is_base_word base.Char k is) nothing)
-    of_base _ _ (unit k c is close) = taken k (c ∷ []) base.Unit (d ∷ []) is
-        (made (c ∷ []) tt (d ∷ []) (first c tt [] tt [] (is_only (spells (codes ")")) c close) nothing))
+    of_base _ _ (unit k c is closes) = taken k (c ∷ []) base.Unit (d ∷ []) is
+        (made (c ∷ []) tt (d ∷ []) (first c tt [] tt [] (is_only (spells (codes ")")) c closes) nothing))
 
 -- a branch as it is read
 abbrev pub AltR : ℕ → Phrase (List ℕ × WrittenTree)
@@ -129,6 +129,8 @@ abbrev pub BegunR : ℕ → Start → Lexeme → Phrase WrittenTree
 BegunR d begin.Skip k = Give (written.skip k.at)
 BegunR d begin.Send k = Mapped (written.send k.at) (BaseP d)
 BegunR d begin.Receive k = Mapped (written.receive k.at) (BaseP d)
+BegunR d begin.Close k = Give (written.close k.at)
+BegunR d begin.Wait k = Give (written.wait k.at)
 BegunR d begin.Select k = ChoiceR d (written.select k.at)
 BegunR d begin.Offer k = ChoiceR d (written.offer k.at)
 BegunR d begin.Paren k = ParenR d k
@@ -183,7 +185,7 @@ choice_from d make ts t ns i =
 
 paren_to : (d : ℕ) (k : Lexeme) (ts : List Lexeme) (t : WrittenTree) (ns : List ℕ) → Is (codes "(") k → ParenR d k ts t ns →
     AtomPhrase d (k ∷ ts) t (d ∷ ns)
-paren_to d k _ _ _ is (taken c _ _ _ close nothing) = (plain (k ∷ c ∷ []) base.Unit (unit k c is close), refl)
+paren_to d k _ _ _ is (taken c _ _ _ closes nothing) = (plain (k ∷ c ∷ []) base.Unit (unit k c is closes), refl)
 paren_to d k _ _ _ is (other _ _ _ (phrase.pair ts us _ t _ ns ms _ s
     (taken m _ _ _ comma (phrase.pair vs ws _ u _ ks ls _ r (made _ _ _ (first c y _ _ _ e nothing)) parts nests)) parts'
     nests')) =
@@ -226,6 +228,8 @@ begun_to : (d : ℕ) (s : Start) (k : Lexeme) (ts : List Lexeme) (t : WrittenTre
 begun_to d begin.Skip k _ _ _ is nothing = (skip k is, refl)
 begun_to d begin.Send k _ _ _ is (made ts b ns s) = (send k ts b is s.0, ap (λ (w : List ℕ). d ∷ w) s.1)
 begun_to d begin.Receive k _ _ _ is (made ts b ns s) = (receive k ts b is s.0, ap (λ (w : List ℕ). d ∷ w) s.1)
+begun_to d begin.Close k _ _ _ is nothing = (close k is, refl)
+begun_to d begin.Wait k _ _ _ is nothing = (wait k is, refl)
 begun_to d begin.Select k ts t ns is p = select_to d k ts t ns is (choice_to d (written.select k.at) ts t ns p)
 begun_to d begin.Offer k ts t ns is p = offer_to d k ts t ns is (choice_to d (written.offer k.at) ts t ns p)
 begun_to d begin.Paren k ts t ns is p = paren_to d k ts t ns is p
@@ -249,12 +253,14 @@ of_plain : (d : ℕ) (ts : List Lexeme) (b : Base) → IsBase ts b → AtomR d t
 of_plain d _ _ (int k is) = begun d (begin.Word base.Int) k [] _ [] is nothing
 of_plain d _ _ (bool k is) = begun d (begin.Word base.Bool) k [] _ [] is nothing
 of_plain d _ _ (char k is) = begun d (begin.Word base.Char) k [] _ [] is nothing
-of_plain d _ _ (unit k c is close) = begun d begin.Paren k (c ∷ []) _ (d ∷ []) is (taken c [] _ [] close nothing)
+of_plain d _ _ (unit k c is closes) = begun d begin.Paren k (c ∷ []) _ (d ∷ []) is (taken c [] _ [] closes nothing)
 
 of_atom : (d : ℕ) (ts : List Lexeme) (t : WrittenTree) (s : IsAtom ts t) → AtomR d ts t (atom_nests d s)
 of_atom d _ _ (skip k is) = begun d begin.Skip k [] _ [] is nothing
 of_atom d _ _ (send k ts b is s) = begun d begin.Send k ts _ (level d ts) is (made ts b (level d ts) (s, refl))
 of_atom d _ _ (receive k ts b is s) = begun d begin.Receive k ts _ (level d ts) is (made ts b (level d ts) (s, refl))
+of_atom d _ _ (close k is) = begun d begin.Close k [] _ [] is nothing
+of_atom d _ _ (wait k is) = begun d begin.Wait k [] _ [] is nothing
 of_atom d _ _ (select k o c ts all bs is opens s closes parts) =
     moved (AtomR d) all (k ∷ o ∷ ts ++ c ∷ []) _ _ _ _ parts refl refl
     (begun d begin.Select k (o ∷ ts ++ c ∷ []) _ _ is (choice_from d (written.select k.at) _ _ _ (record {

@@ -10,11 +10,10 @@ use Rattle.fst_types.specs.WrittenTree.{WrittenTree, WrittenBranches}
 use Rattle.fst_type_syntax.specs.declared.starts.Start.{Start}
 use Rattle.fst_type_syntax.specs.declared.starts.Start.TheVariants as begin
 use Rattle.fst_reading.specs.Lexeme.{Lexeme, spells, Is, start, lower_of, upper_of, is_one}
-use Rattle.fst_type_syntax.specs.Grammar.{int, IsType, single, arrow, IsSeq, rec, atom, chain, IsAtom, skip, send, receive, select, offer, plain, lower, upper, group, pair, IsAlts, last, further, IsAlt, alt}
+use Rattle.fst_type_syntax.specs.Grammar.{int, IsType, single, arrow, IsSeq, rec, atom, chain, IsAtom, skip, send, receive, close, wait, select, offer, plain, lower, upper, group, pair, IsAlts, last, further, IsAlt, alt}
 use Rattle.fst_type_syntax.specs.Nesting.{type_nests, seq_nests, atom_nests, alts_nests, alt_nests}
 use Rattle.fst_reading.specs.Faults.{level}
 use Rattle.fst_reading.specs.Reading.{Reader, map_reader, only, word, begins, on, sep_by, shut}
-use Rattle.fst_reading.specs.Reading as reading
 use Rattle.fst_type_syntax.specs.TypeReading.{base_named, base_word, start_named, start_of, base_at, alt_with, choice_with, pair_with, paren_with, begun_with, atom_with, rec_with, chain_with, seq_with, arrow_with, type_with, starts_type, seq_at, type_at}
 use Rattle.fst_reading.proofs.Phrases as phrase
 use Rattle.fst_reading.proofs.Phrases.{Reads, never, Give, nothing, Then, Mapped, made, first, On, taken, other, at}
@@ -203,6 +202,8 @@ module _ (limit d : ℕ) (low : d ≤ limit) (seq type : Reader WrittenTree) (rs
   reads_begun begin.Skip k = reads_give limit (written.skip k.at)
   reads_begun begin.Send k = reads_mapped limit _ base_at (BaseP d) never (reads_base limit d low)
   reads_begun begin.Receive k = reads_mapped limit _ base_at (BaseP d) never (reads_base limit d low)
+  reads_begun begin.Close k = reads_give limit (written.close k.at)
+  reads_begun begin.Wait k = reads_give limit (written.wait k.at)
   reads_begun begin.Select k = reads_choice (written.select k.at)
   reads_begun begin.Offer k = reads_choice (written.offer k.at)
   reads_begun begin.Paren k = reads_paren k
@@ -363,6 +364,8 @@ mutual
   atom_count n (skip k is) = refl
   atom_count n (send k ts b is s) = ap suc (level_count n ts)
   atom_count n (receive k ts b is s) = ap suc (level_count n ts)
+  atom_count n (close k is) = refl
+  atom_count n (wait k is) = refl
   atom_count n (select k o c ts all bs is opens s closes parts) =
       omega (arith, alts_count n s, ap length parts, length-append ts (c ∷ []), length-append (alts_nests n s) (n ∷ []))
   atom_count n (offer k o c ts all bs is opens s closes parts) =
@@ -441,6 +444,8 @@ pub opening_by : (d : ℕ) (k : Lexeme) (s : Start) → SomePhrase (BegunR d s k
 opening_by d k begin.Skip = record { tokens = []; value = written.skip k.at; nests = []; phrase = nothing }
 opening_by d k begin.Send = sample_mapped (written.send k.at) (BaseP d) (sample_base d)
 opening_by d k begin.Receive = sample_mapped (written.receive k.at) (BaseP d) (sample_base d)
+opening_by d k begin.Close = record { tokens = []; value = written.close k.at; nests = []; phrase = nothing }
+opening_by d k begin.Wait = record { tokens = []; value = written.wait k.at; nests = []; phrase = nothing }
 opening_by d k begin.Select = sample_choice d (written.select k.at)
 opening_by d k begin.Offer = sample_choice d (written.offer k.at)
 opening_by d k begin.Paren =

@@ -69,6 +69,8 @@ abbrev pub Means : Start → Lexeme → Type 0
 Means begin.Skip k = Is (codes "Skip") k
 Means begin.Send k = Is (codes "!") k
 Means begin.Receive k = Is (codes "?") k
+Means begin.Close k = Is (codes "Close") k
+Means begin.Wait k = Is (codes "Wait") k
 Means begin.Select k = Is (codes "+") k
 Means begin.Offer k = Is (codes "&") k
 Means begin.Paren k = Is (codes "(") k
@@ -90,12 +92,18 @@ start_named_is k s f e = elim (chosen _ _ _ _ e) [
     | inr i ↦ elim (chosen _ _ _ _ i.1) [
       | inl j ↦ subst (λ z. Means z k) (some_is begin.Receive s j.1) (spelled_so k.kind (codes "?") k.text j.0 f)
       | inr j ↦ elim (chosen _ _ _ _ j.1) [
-        | inl l ↦ subst (λ z. Means z k) (some_is begin.Select s l.1) (spelled_so k.kind (codes "+") k.text l.0 f)
+        | inl l ↦ subst (λ z. Means z k) (some_is begin.Close s l.1) (spelled_so k.kind (codes "Close") k.text l.0 f)
         | inr l ↦ elim (chosen _ _ _ _ l.1) [
-          | inl m ↦ subst (λ z. Means z k) (some_is begin.Offer s m.1) (spelled_so k.kind (codes "&") k.text m.0 f)
+          | inl m ↦ subst (λ z. Means z k) (some_is begin.Wait s m.1) (spelled_so k.kind (codes "Wait") k.text m.0 f)
           | inr m ↦ elim (chosen _ _ _ _ m.1) [
-            | inl n ↦ subst (λ z. Means z k) (some_is begin.Paren s n.1) (spelled_so k.kind (codes "(") k.text n.0 f)
-            | inr n ↦ begun_is k (base_named k.text) s f refl n.1
+            | inl n ↦ subst (λ z. Means z k) (some_is begin.Select s n.1) (spelled_so k.kind (codes "+") k.text n.0 f)
+            | inr n ↦ elim (chosen _ _ _ _ n.1) [
+              | inl o ↦ subst (λ z. Means z k) (some_is begin.Offer s o.1) (spelled_so k.kind (codes "&") k.text o.0 f)
+              | inr o ↦ elim (chosen _ _ _ _ o.1) [
+                | inl p ↦ subst (λ z. Means z k) (some_is begin.Paren s p.1) (spelled_so k.kind (codes "(") k.text p.0 f)
+                | inr p ↦ begun_is k (base_named k.text) s f refl p.1
+              ]
+            ]
           ]
         ]
       ]
@@ -127,6 +135,8 @@ unfolding start_named base_named choose
 means_start begin.Skip k e = start_spelled (codes "Skip") k e
 means_start begin.Send k e = start_spelled (codes "!") k e
 means_start begin.Receive k e = start_spelled (codes "?") k e
+means_start begin.Close k e = start_spelled (codes "Close") k e
+means_start begin.Wait k e = start_spelled (codes "Wait") k e
 means_start begin.Select k e = start_spelled (codes "+") k e
 means_start begin.Offer k e = start_spelled (codes "&") k e
 means_start begin.Paren k e = start_spelled (codes "(") k e

@@ -42,14 +42,16 @@ mutual
         IsAtom ts t → Is (codes ";") k → IsSeq us u → all ≡ ts ++ k ∷ us →
         IsSeq all (written.seq (start ts) t u)
 
-  -- tatom = "Skip" | "!" base | "?" base | "+" "{" alts "}" | "&" "{" alts "}" | base | lname | uname
-  --       | "(" type ")" | "(" type "," type ")"
+  -- tatom = "Skip" | "Close" | "Wait" | "!" base | "?" base | "+" "{" alts "}" | "&" "{" alts "}"
+  --       | base | lname | uname | "(" type ")" | "(" type "," type ")"
   pub data IsAtom : List Lexeme → WrittenTree → Type 0 where
     skip : (k : Lexeme) → Is (codes "Skip") k → IsAtom (k ∷ []) (written.skip k.at)
     send : (k : Lexeme) (ts : List Lexeme) (b : Base) → Is (codes "!") k → IsBase ts b →
         IsAtom (k ∷ ts) (written.send k.at b)
     receive : (k : Lexeme) (ts : List Lexeme) (b : Base) → Is (codes "?") k → IsBase ts b →
         IsAtom (k ∷ ts) (written.receive k.at b)
+    close : (k : Lexeme) → Is (codes "Close") k → IsAtom (k ∷ []) (written.close k.at)
+    wait : (k : Lexeme) → Is (codes "Wait") k → IsAtom (k ∷ []) (written.wait k.at)
     select : (k o c : Lexeme) (ts all : List Lexeme) (bs : WrittenBranches) →
         Is (codes "+") k → Is (codes "{") o → IsAlts ts bs → Is (codes "}") c →
         all ≡ k ∷ o ∷ ts ++ c ∷ [] → IsAtom all (written.select k.at bs)

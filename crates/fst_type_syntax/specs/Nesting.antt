@@ -3,7 +3,7 @@
 use Rattle.std.specs.Prelude.{ℕ, suc, List, [], ◌∷◌, ◌++◌}
 use Rattle.fst_types.specs.WrittenTree.{WrittenTree, WrittenBranches}
 use Rattle.fst_reading.specs.Lexeme.{Lexeme}
-use Rattle.fst_type_syntax.specs.Grammar.{IsType, single, arrow, IsSeq, rec, atom, chain, IsAtom, skip, send, receive, select, offer, plain, lower, upper, group, pair, IsAlts, last, further, IsAlt, alt, Asked, IsQuestion, closed, over}
+use Rattle.fst_type_syntax.specs.Grammar.{IsType, single, arrow, IsSeq, rec, atom, chain, IsAtom, skip, send, receive, close, wait, select, offer, plain, lower, upper, group, pair, IsAlts, last, further, IsAlt, alt, Asked, IsQuestion, closed, over}
 use Rattle.fst_reading.specs.Faults.{level}
 
 abbrev mutual
@@ -24,6 +24,8 @@ abbrev mutual
   atom_nests n (skip k is) = n ∷ []
   atom_nests n (send k ts b is d) = n ∷ level n ts
   atom_nests n (receive k ts b is d) = n ∷ level n ts
+  atom_nests n (close k is) = n ∷ []
+  atom_nests n (wait k is) = n ∷ []
   atom_nests n (select k o c ts all bs is opens d closes parts) = n ∷ n ∷ alts_nests n d ++ n ∷ []
   atom_nests n (offer k o c ts all bs is opens d closes parts) = n ∷ n ∷ alts_nests n d ++ n ∷ []
   atom_nests n (plain ts b d) = level n ts

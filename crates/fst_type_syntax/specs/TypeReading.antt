@@ -48,9 +48,11 @@ start_named text =
     choose (bytes_eq text (codes "Skip")) (Some begin.Skip)
     (choose (bytes_eq text (codes "!")) (Some begin.Send)
     (choose (bytes_eq text (codes "?")) (Some begin.Receive)
+    (choose (bytes_eq text (codes "Close")) (Some begin.Close)
+    (choose (bytes_eq text (codes "Wait")) (Some begin.Wait)
     (choose (bytes_eq text (codes "+")) (Some begin.Select)
     (choose (bytes_eq text (codes "&")) (Some begin.Offer)
-    (choose (bytes_eq text (codes "(")) (Some begin.Paren) (word_begun (base_named text)))))))
+    (choose (bytes_eq text (codes "(")) (Some begin.Paren) (word_begun (base_named text)))))))))
 
 -- what a token begins, by its kind and text
 abbrev pub start_by : TokenKind → List ℕ → Option Start
@@ -107,6 +109,8 @@ module _ (seq type : Reader WrittenTree) where
   begun_with begin.Skip k = give (written.skip k.at)
   begun_with begin.Send k = map_reader (written.send k.at) base_at
   begun_with begin.Receive k = map_reader (written.receive k.at) base_at
+  begun_with begin.Close k = give (written.close k.at)
+  begun_with begin.Wait k = give (written.wait k.at)
   begun_with begin.Select k = choice_with (written.select k.at)
   begun_with begin.Offer k = choice_with (written.offer k.at)
   begun_with begin.Paren k = paren_with k.at

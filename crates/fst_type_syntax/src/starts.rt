@@ -14,6 +14,8 @@ pub(crate) enum Start {
     Skip,
     Send,
     Receive,
+    Close,
+    Wait,
     Select,
     Offer,
     Paren,
@@ -58,6 +60,10 @@ fn start_named(text: &str) -> Option<Start>
         Some(Start::Send)
     } else if text == "?" {
         Some(Start::Receive)
+    } else if text == "Close" {
+        Some(Start::Close)
+    } else if text == "Wait" {
+        Some(Start::Wait)
     } else if text == "+" {
         Some(Start::Select)
     } else if text == "&" {

@@ -207,6 +207,14 @@ fn begun<'a>(
             let form = WrittenForm::Receive(base);
             Ok((Written { at, form }, rest))
         }
+        Start::Close => {
+            let form = WrittenForm::Close;
+            Ok((Written { at, form }, rest))
+        }
+        Start::Wait => {
+            let form = WrittenForm::Wait;
+            Ok((Written { at, form }, rest))
+        }
         Start::Select => {
             let (branches, rest) = choice(alloc, left, rest)?;
             let form = WrittenForm::Select(branches);

@@ -1,6 +1,6 @@
 -- Which variables are free, and which are after substitution.
 use Rattle.std.proofs.Common.{◌≡◌, ◌<◌, ◌↔◌, ◌⊎◌, inl, inr, ℕ, zero, suc, List, [], ◌∷◌, Option, Some, None, refl, subst, sym, arith}
-use Rattle.fst_types.specs.Tree.{Tree, skip, send, receive, select, offer, seq, rec, back, var, plain, arrow, pair, named, Branches, none, branch}
+use Rattle.fst_types.specs.Tree.{Tree, skip, send, receive, close, wait, select, offer, seq, rec, back, var, plain, arrow, pair, named, Branches, none, branch}
 use Rattle.fst_types.specs.Scoped.{IsScoped, AllScoped, IsFree, IsFreeInSome}
 use Rattle.fst_types.specs.Substitution.{variable, substitute, substitute_all, EnvHas, StandsForNothing}
 
@@ -10,6 +10,8 @@ mutual
   free_within n k skip h f = absurd f
   free_within n k (send b) h f = absurd f
   free_within n k (receive b) h f = absurd f
+  free_within n k close h f = absurd f
+  free_within n k wait h f = absurd f
   free_within n k (select bs) h f = free_within_some n k bs h f
   free_within n k (offer bs) h f = free_within_some n k bs h f
   free_within n k (seq s r) h (inl f) = free_within n k s h.0 f
@@ -39,6 +41,8 @@ mutual
   scoped_by_free n skip h = tt
   scoped_by_free n (send b) h = tt
   scoped_by_free n (receive b) h = tt
+  scoped_by_free n close h = tt
+  scoped_by_free n wait h = tt
   scoped_by_free n (select bs) h = all_scoped_by_free n bs h
   scoped_by_free n (offer bs) h = all_scoped_by_free n bs h
   scoped_by_free n (seq s r) h = (scoped_by_free n s (λ k f. h k (inl f)), scoped_by_free n r (λ k f. h k (inr f)))
@@ -96,6 +100,8 @@ mutual
   substitute_free env ok skip k = in_neither
   substitute_free env ok (send b) k = in_neither
   substitute_free env ok (receive b) k = in_neither
+  substitute_free env ok close k = in_neither
+  substitute_free env ok wait k = in_neither
   substitute_free env ok (select bs) k = substitute_free_in_some env ok bs k
   substitute_free env ok (offer bs) k = substitute_free_in_some env ok bs k
   substitute_free env ok (seq s r) k = in_either (substitute_free env ok s k) (substitute_free env ok r k)

@@ -1,6 +1,6 @@
 -- What instantiating keeps, and how it goes with substitution.
 use Rattle.std.proofs.Common.{◌≡◌, ℕ, zero, suc, List, [], ◌∷◌, Option, Some, None, refl, sym, ap, arith}
-use Rattle.fst_types.specs.Tree.{Tree, skip, send, receive, select, offer, seq, rec, back, var, plain, arrow, pair, named, Branches, none, branch}
+use Rattle.fst_types.specs.Tree.{Tree, skip, send, receive, close, wait, select, offer, seq, rec, back, var, plain, arrow, pair, named, Branches, none, branch}
 use Rattle.fst_types.specs.Order.{IsOrdered, AllOrdered, AreRising}
 use Rattle.fst_types.specs.Substitution.{variable, substitute, substitute_all, unfolding_of}
 use Rattle.fst_types.specs.Scoped.{IsScoped, AllScoped}
@@ -14,6 +14,8 @@ mutual
   instantiated_scoped n args skip ok h = tt
   instantiated_scoped n args (send b) ok h = tt
   instantiated_scoped n args (receive b) ok h = tt
+  instantiated_scoped n args close ok h = tt
+  instantiated_scoped n args wait ok h = tt
   instantiated_scoped n args (select bs) ok h = instantiated_all_scoped n args bs ok h
   instantiated_scoped n args (offer bs) ok h = instantiated_all_scoped n args bs ok h
   instantiated_scoped n args (seq s r) ok h = (instantiated_scoped n args s ok h.0, instantiated_scoped n args r ok h.1)
@@ -43,6 +45,8 @@ mutual
   instantiated_ordered args skip ok o = tt
   instantiated_ordered args (send b) ok o = tt
   instantiated_ordered args (receive b) ok o = tt
+  instantiated_ordered args close ok o = tt
+  instantiated_ordered args wait ok o = tt
   instantiated_ordered args (select bs) ok o = (instantiated_rising args bs o.0, instantiated_all_ordered args bs ok o.1)
   instantiated_ordered args (offer bs) ok o = (instantiated_rising args bs o.0, instantiated_all_ordered args bs ok o.1)
   instantiated_ordered args (seq s r) ok o = (instantiated_ordered args s ok o.0, instantiated_ordered args r ok o.1)
@@ -74,6 +78,8 @@ mutual
   instantiated_substitute args env skip ok = refl
   instantiated_substitute args env (send b) ok = refl
   instantiated_substitute args env (receive b) ok = refl
+  instantiated_substitute args env close ok = refl
+  instantiated_substitute args env wait ok = refl
   instantiated_substitute args env (select bs) ok = ap select (instantiated_substitute_all args env bs ok)
   instantiated_substitute args env (offer bs) ok = ap offer (instantiated_substitute_all args env bs ok)
   instantiated_substitute args env (seq s r) ok =

@@ -10,7 +10,7 @@ use Rattle.std.proofs.lemmas.Map.Lookups.{exact_unsigned}
 use Rattle.fst_types.specs.declared.base.Base.{Base}
 use Rattle.fst_types.specs.declared.base.Base.TheVariants.{Int, Bool as Truth, Char, Unit as Nothing}
 use Rattle.fst_types.specs.declared.label.Label.{Label}
-use Rattle.fst_types.specs.declared.label.Label.TheVariants.{Send, Receive, Select, Offer, Var}
+use Rattle.fst_types.specs.declared.label.Label.TheVariants.{Send, Receive, Select, Offer, Close, Wait, Var}
 use Rattle.fst_types.specs.Order.{base_number, label_rank, label_number, label_text, label_cmp, same_label}
 use Rattle.fst_types.specs.ModelCode.{base_at}
 
@@ -27,7 +27,9 @@ label_at zero n t = Send (base_at n)
 label_at (suc zero) n t = Receive (base_at n)
 label_at (suc (suc zero)) n t = Select t
 label_at (suc (suc (suc zero))) n t = Offer t
-label_at (suc (suc (suc (suc r)))) n t = Var n
+label_at (suc (suc (suc (suc zero)))) n t = Close
+label_at (suc (suc (suc (suc (suc zero))))) n t = Wait
+label_at (suc (suc (suc (suc (suc (suc r)))))) n t = Var n
 
 -- a label comes back from its rank, its number and its text
 label_at-rank : (a : Label) → label_at (label_rank a) (label_number a) (label_text a) ≡ a
@@ -35,6 +37,8 @@ label_at-rank (Send b) = ap Send (base_at-number b)
 label_at-rank (Receive b) = ap Receive (base_at-number b)
 label_at-rank (Select l) = refl
 label_at-rank (Offer l) = refl
+label_at-rank Close = refl
+label_at-rank Wait = refl
 label_at-rank (Var k) = refl
 
 -- two comparisons in turn tie only where both do

@@ -1,6 +1,6 @@
 -- What substitution keeps, and how substitutions compose.
 use Rattle.std.proofs.Common.{◌≡◌, ◌<◌, ◌≤◌, ◌+◌, ℕ, zero, suc, List, [], ◌∷◌, length, Option, Some, None, refl, ap, subst, arith}
-use Rattle.fst_types.specs.Tree.{Tree, skip, send, receive, select, offer, seq, rec, back, var, plain, arrow, pair, named, Branches, none, branch}
+use Rattle.fst_types.specs.Tree.{Tree, skip, send, receive, close, wait, select, offer, seq, rec, back, var, plain, arrow, pair, named, Branches, none, branch}
 use Rattle.fst_types.specs.Order.{IsOrdered, AllOrdered, AreRising}
 use Rattle.fst_types.specs.Substitution.{variable, substitute, substitute_all, unfolding_of, EnvHas, AllClosed}
 use Rattle.fst_types.specs.Scoped.{IsScoped, AllScoped}
@@ -24,6 +24,8 @@ mutual
   substitute_ordered env skip e o = tt
   substitute_ordered env (send b) e o = tt
   substitute_ordered env (receive b) e o = tt
+  substitute_ordered env close e o = tt
+  substitute_ordered env wait e o = tt
   substitute_ordered env (select bs) e o = (substitute_rising env bs o.0, substitute_all_ordered env bs e o.1)
   substitute_ordered env (offer bs) e o = (substitute_rising env bs o.0, substitute_all_ordered env bs e o.1)
   substitute_ordered env (seq s r) e o = (substitute_ordered env s e o.0, substitute_ordered env r e o.1)
@@ -57,6 +59,8 @@ mutual
   substitute_kept n env skip h = refl
   substitute_kept n env (send b) h = refl
   substitute_kept n env (receive b) h = refl
+  substitute_kept n env close h = refl
+  substitute_kept n env wait h = refl
   substitute_kept n env (select bs) h = ap select (substitute_all_kept n env bs h)
   substitute_kept n env (offer bs) h = ap offer (substitute_all_kept n env bs h)
   substitute_kept n env (seq s r) h = λ i. seq (substitute_kept n env s h.0 i) (substitute_kept n env r h.1 i)
@@ -83,6 +87,8 @@ mutual
   substitute_nothing n skip = refl
   substitute_nothing n (send b) = refl
   substitute_nothing n (receive b) = refl
+  substitute_nothing n close = refl
+  substitute_nothing n wait = refl
   substitute_nothing n (select bs) = ap select (substitute_all_nothing n bs)
   substitute_nothing n (offer bs) = ap offer (substitute_all_nothing n bs)
   substitute_nothing n (seq s r) = λ i. seq (substitute_nothing n s i) (substitute_nothing n r i)
@@ -104,6 +110,8 @@ mutual
   scoped_wider n m skip le h = tt
   scoped_wider n m (send b) le h = tt
   scoped_wider n m (receive b) le h = tt
+  scoped_wider n m close le h = tt
+  scoped_wider n m wait le h = tt
   scoped_wider n m (select bs) le h = all_scoped_wider n m bs le h
   scoped_wider n m (offer bs) le h = all_scoped_wider n m bs le h
   scoped_wider n m (seq s r) le h = (scoped_wider n m s le h.0, scoped_wider n m r le h.1)
@@ -137,6 +145,8 @@ mutual
   substitute_scoped n env skip ok h = tt
   substitute_scoped n env (send b) ok h = tt
   substitute_scoped n env (receive b) ok h = tt
+  substitute_scoped n env close ok h = tt
+  substitute_scoped n env wait ok h = tt
   substitute_scoped n env (select bs) ok h = substitute_all_scoped n env bs ok h
   substitute_scoped n env (offer bs) ok h = substitute_all_scoped n env bs ok h
   substitute_scoped n env (seq s r) ok h = (substitute_scoped n env s ok h.0, substitute_scoped n env r ok h.1)
@@ -185,6 +195,8 @@ module _ (whole : Tree) (env : List (Option Tree)) (ok : AllClosed env) where
     substitute_after n skip = refl
     substitute_after n (send b) = refl
     substitute_after n (receive b) = refl
+    substitute_after n close = refl
+    substitute_after n wait = refl
     substitute_after n (select bs) = ap select (substitute_all_after n bs)
     substitute_after n (offer bs) = ap offer (substitute_all_after n bs)
     substitute_after n (seq s r) = λ i. seq (substitute_after n s i) (substitute_after n r i)

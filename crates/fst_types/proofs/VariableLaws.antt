@@ -1,6 +1,6 @@
 -- The variables of a signature that a type has.
 use Rattle.std.proofs.Common.{◌≤◌, ℕ, arith}
-use Rattle.fst_types.specs.Tree.{Tree, skip, send, receive, select, offer, seq, rec, back, var, plain, arrow, pair, named, Branches, none, branch}
+use Rattle.fst_types.specs.Tree.{Tree, skip, send, receive, close, wait, select, offer, seq, rec, back, var, plain, arrow, pair, named, Branches, none, branch}
 use Rattle.fst_types.specs.Variables.{HasVariablesBelow, HaveVariablesBelow}
 
 mutual
@@ -9,6 +9,8 @@ mutual
   variables_wider n m skip le h = tt
   variables_wider n m (send b) le h = tt
   variables_wider n m (receive b) le h = tt
+  variables_wider n m close le h = tt
+  variables_wider n m wait le h = tt
   variables_wider n m (select bs) le h = all_variables_wider n m bs le h
   variables_wider n m (offer bs) le h = all_variables_wider n m bs le h
   variables_wider n m (seq s r) le h = (variables_wider n m s le h.0, variables_wider n m r le h.1)

@@ -1,6 +1,6 @@
 -- Types in place of a signature's variables.
 use Rattle.std.specs.Prelude.{ℕ, List, Option, slice_get, unwrap_or, map, option_map}
-use Rattle.fst_types.specs.Tree.{Tree, skip, send, receive, select, offer, seq, rec, back, var, plain, arrow, pair, named, Branches, none, branch}
+use Rattle.fst_types.specs.Tree.{Tree, skip, send, receive, close, wait, select, offer, seq, rec, back, var, plain, arrow, pair, named, Branches, none, branch}
 use Rattle.fst_types.specs.declared.ty.Branch.{Branch}
 
 -- the type that is given for the k-th variable, or the variable itself where none is
@@ -13,6 +13,8 @@ abbrev mutual
   instantiated args skip = skip
   instantiated args (send b) = send b
   instantiated args (receive b) = receive b
+  instantiated args close = close
+  instantiated args wait = wait
   instantiated args (select bs) = select (instantiated_all args bs)
   instantiated args (offer bs) = offer (instantiated_all args bs)
   instantiated args (seq s r) = seq (instantiated args s) (instantiated args r)

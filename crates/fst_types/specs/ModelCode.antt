@@ -4,7 +4,7 @@ use Rattle.std.proofs.Common.{sym, ◌∙◌, ap}
 use Rattle.fst_types.specs.declared.base.Base.{Base}
 use Rattle.fst_types.specs.declared.base.Base.TheVariants.{Int, Bool, Char, Unit as Nothing}
 use Rattle.fst_types.specs.declared.kind.Use.TheVariants.{Many, Once}
-use Rattle.fst_types.specs.Tree.{Tree, skip, send, receive, select, offer, seq, rec, back, var, plain, arrow, pair, named, Branches, none, branch}
+use Rattle.fst_types.specs.Tree.{Tree, skip, send, receive, close, wait, select, offer, seq, rec, back, var, plain, arrow, pair, named, Branches, none, branch}
 use base.Stored.{Coded, Gv, gnil, gnum, gcons, num}
 
 -- the code of a label
@@ -50,6 +50,8 @@ abbrev mutual
   code_of skip = gnil
   code_of (send b) = gcons (gnum 0) (gcons (base_code b) gnil)
   code_of (receive b) = gcons (gnum 1) (gcons (base_code b) gnil)
+  code_of close = gcons (gnum 13) (gcons gnil gnil)
+  code_of wait = gcons (gnum 14) (gcons gnil gnil)
   code_of (select bs) = gcons (gnum 2) (gcons (code_of_all bs) gnil)
   code_of (offer bs) = gcons (gnum 3) (gcons (code_of_all bs) gnil)
   code_of (seq s t) = gcons (gnum 4) (gcons (code_of s) (code_of t))
@@ -82,7 +84,9 @@ node_at tag n bs s t =
     if tag == 9 then arrow Many s t else
     if tag == 10 then arrow Once s t else
     if tag == 11 then pair s t else
-    named n
+    if tag == 12 then named n else
+    if tag == 13 then close else
+    wait
 
 abbrev mutual
   -- the tree of a code
@@ -107,6 +111,8 @@ mutual
   tree_at-code_of skip = refl
   tree_at-code_of (send b) = ap send (base_at-base_code b)
   tree_at-code_of (receive b) = ap receive (base_at-base_code b)
+  tree_at-code_of close = refl
+  tree_at-code_of wait = refl
   tree_at-code_of (select bs) = ap select (branches_at-code_of_all bs)
   tree_at-code_of (offer bs) = ap offer (branches_at-code_of_all bs)
   tree_at-code_of (seq s t) = λ i. seq (tree_at-code_of s i) (tree_at-code_of t i)

@@ -4,7 +4,7 @@ use Rattle.std.proofs.Common.{arith}
 use Rattle.fst_types.specs.Height.{height, height_all}
 use Rattle.fst_types.specs.ModelView.{branches_of, tree_of}
 use Rattle.fst_types.specs.declared.ty.TyForm.{TyForm}
-use Rattle.fst_types.specs.declared.ty.TyForm.TheVariants.{Skip, Send, Receive, Select, Offer, Seq, Rec, Back, Var, Plain, Arrow, Pair, Named}
+use Rattle.fst_types.specs.declared.ty.TyForm.TheVariants.{Skip, Send, Receive, Close, Wait, Select, Offer, Seq, Rec, Back, Var, Plain, Arrow, Pair, Named}
 use Rattle.fst_types.specs.declared.ty.Branch.{Branch}
 use Rattle.fst_types.specs.declared.ty.Ty.TheDeep.{deep-TyForm, deep-Branch}
 use denote.Param.Weighed.{most}
@@ -20,6 +20,8 @@ pub deep_le-height : (f : TyForm) → max (deep-TyForm f) 0 ≤ height (tree_of 
 deep_le-height Skip = omega arith
 deep_le-height (Send b) = omega arith
 deep_le-height (Receive b) = omega arith
+deep_le-height Close = omega arith
+deep_le-height Wait = omega arith
 deep_le-height (Select bs) = omega (arith, most_le-height_all bs.items)
 deep_le-height (Offer bs) = omega (arith, most_le-height_all bs.items)
 deep_le-height (Seq s t) = omega arith

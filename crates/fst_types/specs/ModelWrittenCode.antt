@@ -2,7 +2,7 @@
 use Rattle.std.specs.Prelude.{◌≡◌, ℕ, List, refl, ◌==◌, if◌then◌else◌}
 use Rattle.std.proofs.Common.{sym, ◌∙◌, ap}
 use Rattle.fst_types.specs.declared.kind.Use.TheVariants.{Many, Once}
-use Rattle.fst_types.specs.WrittenTree.{WrittenTree, skip, send, receive, select, offer, seq, rec, named, plain, arrow, pair, WrittenBranches, none, branch}
+use Rattle.fst_types.specs.WrittenTree.{WrittenTree, skip, send, receive, close, wait, select, offer, seq, rec, named, plain, arrow, pair, WrittenBranches, none, branch}
 use Rattle.fst_types.specs.ModelCode.{name_code, name_at, name_at-name_code, base_code, base_at, base_at-base_code}
 use base.Stored.{Coded, Gv, gnil, gnum, gcons, num}
 
@@ -16,6 +16,8 @@ abbrev mutual
   code_of (skip at) = node 0 at gnil gnil
   code_of (send at b) = node 1 at (base_code b) gnil
   code_of (receive at b) = node 2 at (base_code b) gnil
+  code_of (close at) = node 12 at gnil gnil
+  code_of (wait at) = node 13 at gnil gnil
   code_of (select at bs) = node 3 at (code_of_all bs) gnil
   code_of (offer at bs) = node 4 at (code_of_all bs) gnil
   code_of (seq at s t) = node 5 at (code_of s) (code_of t)
@@ -45,7 +47,9 @@ node_at tag at n x bs s t =
     if tag == 8 then plain at (base_at n) else
     if tag == 9 then arrow at Many s t else
     if tag == 10 then arrow at Once s t else
-    pair at s t
+    if tag == 11 then pair at s t else
+    if tag == 12 then close at else
+    wait at
 
 abbrev mutual
   -- the tree of a code
@@ -73,6 +77,8 @@ mutual
   tree_at-code_of (skip at) = refl
   tree_at-code_of (send at b) = ap (send at) (base_at-base_code b)
   tree_at-code_of (receive at b) = ap (receive at) (base_at-base_code b)
+  tree_at-code_of (close at) = refl
+  tree_at-code_of (wait at) = refl
   tree_at-code_of (select at bs) = ap (select at) (branches_at-code_of_all bs)
   tree_at-code_of (offer at bs) = ap (offer at) (branches_at-code_of_all bs)
   tree_at-code_of (seq at s t) = λ i. seq at (tree_at-code_of s i) (tree_at-code_of t i)

@@ -4,7 +4,7 @@ use Rattle.std.proofs.Common.{arith}
 use Rattle.fst_types.specs.ModelWrittenHeight.{height, height_all}
 use Rattle.fst_types.specs.ModelWrittenView.{written_branches, written_of}
 use Rattle.fst_types.specs.declared.written.WrittenForm.{WrittenForm}
-use Rattle.fst_types.specs.declared.written.WrittenForm.TheVariants.{Skip, Send, Receive, Select, Offer, Seq, Rec, Named, Plain, Arrow, Pair}
+use Rattle.fst_types.specs.declared.written.WrittenForm.TheVariants.{Skip, Send, Receive, Close, Wait, Select, Offer, Seq, Rec, Named, Plain, Arrow, Pair}
 use Rattle.fst_types.specs.declared.written.WrittenBranch.{WrittenBranch}
 use Rattle.fst_types.specs.declared.written.Written.TheDeep.{deep-WrittenForm, deep-WrittenBranch}
 use denote.Param.Weighed.{most}
@@ -21,6 +21,8 @@ pub deep_le-height : (at : ℕ) (f : WrittenForm) →
 deep_le-height at Skip = omega arith
 deep_le-height at (Send b) = omega arith
 deep_le-height at (Receive b) = omega arith
+deep_le-height at Close = omega arith
+deep_le-height at Wait = omega arith
 deep_le-height at (Select bs) = omega (arith, most_le-height_all bs.items)
 deep_le-height at (Offer bs) = omega (arith, most_le-height_all bs.items)
 deep_le-height at (Seq s t) = omega arith

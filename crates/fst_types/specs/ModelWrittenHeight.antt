@@ -1,6 +1,6 @@
 -- How high the tree of a type as it was written is.
 use Rattle.std.specs.Prelude.{ℕ, suc, max}
-use Rattle.fst_types.specs.WrittenTree.{WrittenTree, skip, send, receive, select, offer, seq, rec, named, plain, arrow, pair, WrittenBranches, none, branch}
+use Rattle.fst_types.specs.WrittenTree.{WrittenTree, skip, send, receive, close, wait, select, offer, seq, rec, named, plain, arrow, pair, WrittenBranches, none, branch}
 
 abbrev mutual
   -- how many nodes the longest way down from the top has
@@ -8,6 +8,8 @@ abbrev mutual
   height (skip at) = 1
   height (send at b) = 1
   height (receive at b) = 1
+  height (close at) = 1
+  height (wait at) = 1
   height (select at bs) = suc (height_all bs)
   height (offer at bs) = suc (height_all bs)
   height (seq at s t) = suc (max (height s) (height t))

@@ -1,6 +1,6 @@
 -- Which data types a type names.
 use Rattle.std.specs.Prelude.{ℕ, ◌<◌, ⊤}
-use Rattle.fst_types.specs.Tree.{Tree, skip, send, receive, select, offer, seq, rec, back, var, plain, arrow, pair, named, Branches, none, branch}
+use Rattle.fst_types.specs.Tree.{Tree, skip, send, receive, close, wait, select, offer, seq, rec, back, var, plain, arrow, pair, named, Branches, none, branch}
 
 abbrev mutual
   -- each data type that the type names is one of the first n
@@ -8,6 +8,8 @@ abbrev mutual
   IsNamedWithin n skip = ⊤
   IsNamedWithin n (send b) = ⊤
   IsNamedWithin n (receive b) = ⊤
+  IsNamedWithin n close = ⊤
+  IsNamedWithin n wait = ⊤
   IsNamedWithin n (select bs) = AllNamedWithin n bs
   IsNamedWithin n (offer bs) = AllNamedWithin n bs
   IsNamedWithin n (seq s r) = IsNamedWithin n s × IsNamedWithin n r

@@ -7,8 +7,8 @@ use Rattle.std.specs.Cmp.Lexicographic.{slice_cmp}
 use Rattle.fst_types.specs.declared.base.Base.{Base}
 use Rattle.fst_types.specs.declared.base.Base.TheVariants.{Int, Bool as Truth, Char, Unit as Nothing}
 use Rattle.fst_types.specs.declared.label.Label.{Label}
-use Rattle.fst_types.specs.declared.label.Label.TheVariants.{Send, Receive, Select, Offer, Var}
-use Rattle.fst_types.specs.Tree.{Tree, skip, send, receive, select, offer, seq, rec, back, var, plain, arrow, pair, named, Branches, none, branch}
+use Rattle.fst_types.specs.declared.label.Label.TheVariants.{Send, Receive, Select, Offer, Close, Wait, Var}
+use Rattle.fst_types.specs.Tree.{Tree, skip, send, receive, close, wait, select, offer, seq, rec, back, var, plain, arrow, pair, named, Branches, none, branch}
 
 -- the place of a base type in the order of payloads
 abbrev pub base_number : Base → ℕ
@@ -23,14 +23,18 @@ label_rank (Send b) = 0
 label_rank (Receive b) = 1
 label_rank (Select l) = 2
 label_rank (Offer l) = 3
-label_rank (Var k) = 4
+label_rank Close = 4
+label_rank Wait = 5
+label_rank (Var k) = 6
 
--- a payload by its place, a variable by its number, and 0 for a choice
+-- a payload by its place, a variable by its number, and 0 for the other labels
 abbrev pub label_number : Label → ℕ
 label_number (Send b) = base_number b
 label_number (Receive b) = base_number b
 label_number (Select l) = 0
 label_number (Offer l) = 0
+label_number Close = 0
+label_number Wait = 0
 label_number (Var k) = k
 
 -- the bytes of a choice's label, and none for the other labels
@@ -39,6 +43,8 @@ label_text (Send b) = []
 label_text (Receive b) = []
 label_text (Select l) = l
 label_text (Offer l) = l
+label_text Close = []
+label_text Wait = []
 label_text (Var k) = []
 
 -- how two labels stand: by their form, then their number, then their bytes
@@ -71,6 +77,8 @@ abbrev mutual
   EachChoice P skip = ⊤
   EachChoice P (send b) = ⊤
   EachChoice P (receive b) = ⊤
+  EachChoice P close = ⊤
+  EachChoice P wait = ⊤
   EachChoice P (select bs) = P bs × EachChoiceBelow P bs
   EachChoice P (offer bs) = P bs × EachChoiceBelow P bs
   EachChoice P (seq s t) = EachChoice P s × EachChoice P t

@@ -1,6 +1,6 @@
 -- Which recursion variables a type has free.
 use Rattle.std.specs.Prelude.{◌≡◌, ◌⊎◌, ℕ, suc, ◌<◌, ⊤}
-use Rattle.fst_types.specs.Tree.{Tree, skip, send, receive, select, offer, seq, rec, back, var, plain, arrow, pair, named, Branches, none, branch}
+use Rattle.fst_types.specs.Tree.{Tree, skip, send, receive, close, wait, select, offer, seq, rec, back, var, plain, arrow, pair, named, Branches, none, branch}
 
 abbrev mutual
   -- each recursion variable belongs to a `rec` in the type or to one of n around it; with n = 0 none is free
@@ -8,6 +8,8 @@ abbrev mutual
   IsScoped n skip = ⊤
   IsScoped n (send b) = ⊤
   IsScoped n (receive b) = ⊤
+  IsScoped n close = ⊤
+  IsScoped n wait = ⊤
   IsScoped n (select bs) = AllScoped n bs
   IsScoped n (offer bs) = AllScoped n bs
   IsScoped n (seq s r) = IsScoped n s × IsScoped n r
@@ -30,6 +32,8 @@ abbrev mutual
   IsFree k skip = ⊥
   IsFree k (send b) = ⊥
   IsFree k (receive b) = ⊥
+  IsFree k close = ⊥
+  IsFree k wait = ⊥
   IsFree k (select bs) = IsFreeInSome k bs
   IsFree k (offer bs) = IsFreeInSome k bs
   IsFree k (seq s r) = IsFree k s ⊎ IsFree k r

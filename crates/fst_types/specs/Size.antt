@@ -1,7 +1,7 @@
 -- How large a type is.
 use Rattle.std.specs.Prelude.{ℕ, ◌+◌, ◌<◌}
 use Rattle.fst_base.specs.Limits.{most_nodes}
-use Rattle.fst_types.specs.Tree.{Tree, skip, send, receive, select, offer, seq, rec, back, var, plain, arrow, pair, named, Branches, none, branch}
+use Rattle.fst_types.specs.Tree.{Tree, skip, send, receive, close, wait, select, offer, seq, rec, back, var, plain, arrow, pair, named, Branches, none, branch}
 
 abbrev mutual
   -- how many nodes a tree has, each branch of a choice one more
@@ -9,6 +9,8 @@ abbrev mutual
   nodes skip = 1
   nodes (send b) = 1
   nodes (receive b) = 1
+  nodes close = 1
+  nodes wait = 1
   nodes (select bs) = nodes_all bs + 1
   nodes (offer bs) = nodes_all bs + 1
   nodes (seq s t) = nodes s + nodes t + 1

@@ -1,6 +1,6 @@
 -- Types in place of recursion variables, and the unfolding of a recursive type.
 use Rattle.std.specs.Prelude.{ℕ, zero, suc, List, [], ◌∷◌, Option, Some, None, unwrap_or, IfSome, ⊤}
-use Rattle.fst_types.specs.Tree.{Tree, skip, send, receive, select, offer, seq, rec, back, var, plain, arrow, pair, named, Branches, none, branch}
+use Rattle.fst_types.specs.Tree.{Tree, skip, send, receive, close, wait, select, offer, seq, rec, back, var, plain, arrow, pair, named, Branches, none, branch}
 use Rattle.fst_types.specs.Scoped.{IsScoped}
 
 -- the k-th variable from the innermost binder: what its binder stands for, or t itself where it stands for nothing
@@ -16,6 +16,8 @@ abbrev mutual
   substitute env skip = skip
   substitute env (send b) = send b
   substitute env (receive b) = receive b
+  substitute env close = close
+  substitute env wait = wait
   substitute env (select bs) = select (substitute_all env bs)
   substitute env (offer bs) = offer (substitute_all env bs)
   substitute env (seq s r) = seq (substitute env s) (substitute env r)

@@ -1,6 +1,6 @@
 -- Which variables of a signature a type has.
 use Rattle.std.specs.Prelude.{ℕ, ◌<◌, ⊤}
-use Rattle.fst_types.specs.Tree.{Tree, skip, send, receive, select, offer, seq, rec, back, var, plain, arrow, pair, named, Branches, none, branch}
+use Rattle.fst_types.specs.Tree.{Tree, skip, send, receive, close, wait, select, offer, seq, rec, back, var, plain, arrow, pair, named, Branches, none, branch}
 
 abbrev mutual
   -- each variable of a signature in the type is one of the first n; with n = 0 it has none
@@ -8,6 +8,8 @@ abbrev mutual
   HasVariablesBelow n skip = ⊤
   HasVariablesBelow n (send b) = ⊤
   HasVariablesBelow n (receive b) = ⊤
+  HasVariablesBelow n close = ⊤
+  HasVariablesBelow n wait = ⊤
   HasVariablesBelow n (select bs) = HaveVariablesBelow n bs
   HasVariablesBelow n (offer bs) = HaveVariablesBelow n bs
   HasVariablesBelow n (seq s r) = HasVariablesBelow n s × HasVariablesBelow n r

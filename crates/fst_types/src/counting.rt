@@ -26,6 +26,8 @@ pub fn substituted_size(scope: &Scope<'_>, t: &Ty, before: u64) -> u64
         TyForm::Skip => before + 1,
         TyForm::Send(_) => before + 1,
         TyForm::Receive(_) => before + 1,
+        TyForm::Close => before + 1,
+        TyForm::Wait => before + 1,
         TyForm::Select(branches) => branches_size(scope, branches, before + 1),
         TyForm::Offer(branches) => branches_size(scope, branches, before + 1),
         TyForm::Seq(first, second) => {

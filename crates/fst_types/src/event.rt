@@ -5,7 +5,7 @@ use crate::name::Name;
 use crate::ty::Ty;
 use std::alloc::{AllocError, Global};
 
-/// What passes over a channel: a value of a base type, or the label of a branch.
+/// What passes over a channel: a value of a base type, the label of a branch, or that it is closed.
 #[derive(Drop)]
 pub enum Event {
     Int(i64),
@@ -13,6 +13,7 @@ pub enum Event {
     Char(char),
     Unit,
     Label(Name),
+    Closed,
 }
 
 /// One entry of a channel's history: what passed, its stamp, and the clocks of the task that sent it and of the task that
@@ -44,6 +45,7 @@ impl Event {
             Event::Char(character) => Ok(Event::Char(*character)),
             Event::Unit => Ok(Event::Unit),
             Event::Label(name) => Ok(Event::Label(name.copy(alloc)?)),
+            Event::Closed => Ok(Event::Closed),
         }
     }
 }

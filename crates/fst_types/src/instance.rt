@@ -34,6 +34,10 @@ pub fn instantiate(alloc: Global, t: &Ty, args: &[Ty]) -> Result<Ty, AllocError>
         TyForm::Receive(base) => Ok(Ty {
             form: TyForm::Receive(*base),
         }),
+        TyForm::Close => Ok(Ty {
+            form: TyForm::Close,
+        }),
+        TyForm::Wait => Ok(Ty { form: TyForm::Wait }),
         TyForm::Select(branches) => Ok(Ty {
             form: TyForm::Select(instantiate_all(alloc, branches, args)?),
         }),
@@ -119,6 +123,8 @@ pub fn instance_size(t: &Ty, args: &[Ty]) -> u64
         TyForm::Skip => 1,
         TyForm::Send(_) => 1,
         TyForm::Receive(_) => 1,
+        TyForm::Close => 1,
+        TyForm::Wait => 1,
         TyForm::Select(branches) => instance_branches_size(branches, args).saturating_add(1),
         TyForm::Offer(branches) => instance_branches_size(branches, args).saturating_add(1),
         TyForm::Seq(first, second) => instance_size(first, args)

@@ -6,14 +6,16 @@ use crate::name::Name;
 use std::alloc::{AllocError, Global};
 use std::cmp::Ordering;
 
-/// What a type can do next: send or receive a value of a base type, select or offer
-/// a branch of a choice by its label, or act as the k-th type variable of a signature.
+/// What a type can do next: send or receive a value of a base type, select or offer a branch of a choice by its label, close
+/// the channel or wait for that, or act as the k-th type variable of a signature.
 #[derive(Drop)]
 pub enum Label {
     Send(Base),
     Receive(Base),
     Select(Name),
     Offer(Name),
+    Close,
+    Wait,
     Var(u32),
 }
 
@@ -26,7 +28,9 @@ impl Label {
             Label::Receive(_) => 1,
             Label::Select(_) => 2,
             Label::Offer(_) => 3,
-            Label::Var(_) => 4,
+            Label::Close => 4,
+            Label::Wait => 5,
+            Label::Var(_) => 6,
         }
     }
 
@@ -38,6 +42,8 @@ impl Label {
             Label::Receive(base) => base.number(),
             Label::Select(_) => 0,
             Label::Offer(_) => 0,
+            Label::Close => 0,
+            Label::Wait => 0,
             Label::Var(k) => *k,
         }
     }
@@ -50,6 +56,8 @@ impl Label {
             Label::Receive(_) => &[],
             Label::Select(name) => name.as_slice(),
             Label::Offer(name) => name.as_slice(),
+            Label::Close => &[],
+            Label::Wait => &[],
             Label::Var(_) => &[],
         }
     }
@@ -82,6 +90,8 @@ impl Label {
             Label::Receive(_) => false,
             Label::Select(own) => own.as_slice().cmp(name.as_slice()).is_eq(),
             Label::Offer(_) => false,
+            Label::Close => false,
+            Label::Wait => false,
             Label::Var(_) => false,
         }
     }
@@ -95,6 +105,8 @@ impl Label {
             Label::Receive(_) => false,
             Label::Select(_) => false,
             Label::Offer(own) => own.as_slice().cmp(name.as_slice()).is_eq(),
+            Label::Close => false,
+            Label::Wait => false,
             Label::Var(_) => false,
         }
     }
@@ -108,6 +120,8 @@ impl Label {
             Label::Receive(base) => Ok(Label::Receive(*base)),
             Label::Select(name) => Ok(Label::Select(name.copy(alloc)?)),
             Label::Offer(name) => Ok(Label::Offer(name.copy(alloc)?)),
+            Label::Close => Ok(Label::Close),
+            Label::Wait => Ok(Label::Wait),
             Label::Var(k) => Ok(Label::Var(*k)),
         }
     }

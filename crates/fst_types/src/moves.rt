@@ -12,4 +12,8 @@ pub enum Move {
     Select(Name),
     /// To offer its branches.
     Offer,
+    /// To close the channel.
+    Close,
+    /// To wait until the channel is closed.
+    Wait,
 }

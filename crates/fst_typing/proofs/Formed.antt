@@ -1,7 +1,7 @@
 -- Parts of well-formed types, what is made of well-formed types, and what they move to.
 use Rattle.std.proofs.Common.{◌≡◌, ℕ, Bool, true, false, Some, None, List, refl, subst, arith}
 use Rattle.std.specs.Prelude.{IfSome, if◌then◌else◌}
-use Rattle.fst_types.specs.Tree.{Tree, skip, send, receive, select, offer, seq, rec, back, var, plain, arrow, pair, named}
+use Rattle.fst_types.specs.Tree.{Tree, skip, send, receive, close, wait, select, offer, seq, rec, back, var, plain, arrow, pair, named}
 use Rattle.fst_types.specs.Order.{same_label}
 use Rattle.fst_types.specs.declared.base.Base.{Base}
 use Rattle.fst_types.specs.declared.kind.Kind.{Kind}
@@ -70,6 +70,8 @@ pub moving_session : (vars : List Kind) (t : Tree) (k : Kind) (a : Label) (r : T
 moving_session vars skip k a r w n e = as_session vars skip k Many w.kinded w
 moving_session vars (send b) k a r w n e = as_session vars (send b) k Once w.kinded w
 moving_session vars (receive b) k a r w n e = as_session vars (receive b) k Once w.kinded w
+moving_session vars close k a r w n e = as_session vars close k Once w.kinded w
+moving_session vars wait k a r w n e = as_session vars wait k Once w.kinded w
 moving_session vars (select bs) k a r w n e = as_session vars (select bs) k Once w.kinded.1 w
 moving_session vars (offer bs) k a r w n e = as_session vars (offer bs) k Once w.kinded.1 w
 moving_session vars (seq s t) k a r w n e = as_session vars (seq s t) k _ w.kinded.4 w

@@ -8,9 +8,9 @@ use Rattle.fst_types.specs.declared.kind.Kind.{Kind}
 use Rattle.fst_types.specs.declared.kind.Use.{Use}
 use Rattle.fst_types.specs.declared.kind.Use.TheVariants.{Many}
 use Rattle.fst_types.specs.declared.label.Label.{Label}
-use Rattle.fst_types.specs.declared.label.Label.TheVariants.{Send, Receive, Select, Var}
+use Rattle.fst_types.specs.declared.label.Label.TheVariants.{Send, Receive, Select, Close, Wait, Var}
 use Rattle.fst_lts.specs.Step.{step}
-use Rattle.fst_terms.specs.CoreTree.{CoreTree, pair, apply, operate, negate, send, receive, select, fork, seq}
+use Rattle.fst_terms.specs.CoreTree.{CoreTree, pair, apply, operate, negate, send, receive, close, wait, select, fork, seq}
 use Rattle.fst_terms.specs.declared.term.Op.{Op}
 use Rattle.fst_terms.specs.declared.term.Op.TheVariants.{Add, Subtract, Multiply, Equal, Unequal, Less, AtMost, Greater, AtLeast, And, Or}
 use Rattle.fst_context.specs.Scope.{Scope, Variable, Takes}
@@ -226,6 +226,24 @@ module _ (c : Check) where
         small = m;
       })
 
+  -- a row at the type of the value without content, with one part
+  nothing_typed : (e a : CoreTree) (w d : Deriv) (r s : Scope) → IsTyped c r s a d → w ≡ row (plain Nothing) (one d) →
+      ((u : Vars) → Over V S.kept (Row M S a r.variables) u d → Row M S e r.variables u w) → IsTyped c r s e w
+  nothing_typed e a w d r s x is f =
+      typed_one e a w d r s x (λ u p. record {
+        rule = f u (over a r.variables d u p);
+        formed = subst (λ v. IsFormed V (type_of v)) (sym is) (base_formed Nothing);
+        small = subst (λ v. IsInSize (type_of v)) (sym is) (base_small Nothing);
+      })
+
+  pub close_typed : (at : ℕ) (a : CoreTree) (w d : Deriv) (next : Tree) (r s : Scope) → IsTyped c r s a d →
+      step (type_of d) Close ≡ Some next → w ≡ row (plain Nothing) (one d) → IsTyped c r s (close at a) w
+  close_typed at a w d next r s x f is = nothing_typed (close at a) a w d r s x is (λ u o. (d, next, o, f, is))
+
+  pub wait_typed : (at : ℕ) (a : CoreTree) (w d : Deriv) (next : Tree) (r s : Scope) → IsTyped c r s a d →
+      step (type_of d) Wait ≡ Some next → w ≡ row (plain Nothing) (one d) → IsTyped c r s (wait at a) w
+  wait_typed at a w d next r s x f is = nothing_typed (wait at a) a w d r s x is (λ u o. (d, next, o, f, is))
+
   pub select_typed : (at : ℕ) (l : List ℕ) (a : CoreTree) (w d : Deriv) (next : Tree) (r s : Scope) → IsTyped c r s a d →
       step (type_of d) (Select l) ≡ Some next → w ≡ row next (one d) → IsInSize (type_of w) →
       IsTyped c r s (select at l a) w
@@ -238,16 +256,9 @@ module _ (c : Check) where
         small = m;
       })
 
-  pub fork_typed : (at : ℕ) (a : CoreTree) (w d : Deriv) (t : Tree) (r s : Scope) → IsTyped c r s a d →
-      HasUse V (type_of d) Many → t ≡ plain Nothing → w ≡ row t (one d) → IsTyped c r s (fork at a) w
-  fork_typed at a w d t r s x n j q =
-      let is : w ≡ row (plain Nothing) (one d) = q ∙ ap (λ o. row o (one d)) j in
-      typed_one (fork at a) a w d r s x (λ u p. record {
-        rule =
-            (d, over a r.variables d u p, n, is);
-        formed = subst (λ v. IsFormed V (type_of v)) (sym is) (base_formed Nothing);
-        small = subst (λ v. IsInSize (type_of v)) (sym is) (base_small Nothing);
-      })
+  pub fork_typed : (at : ℕ) (a : CoreTree) (w d : Deriv) (r s : Scope) → IsTyped c r s a d →
+      HasUse V (type_of d) Many → w ≡ row (plain Nothing) (one d) → IsTyped c r s (fork at a) w
+  fork_typed at a w d r s x n is = nothing_typed (fork at a) a w d r s x is (λ u o. (d, o, n, is))
 
   pub seq_typed : (at : ℕ) (a b : CoreTree) (w d h : Deriv) (r s z : Scope) → IsTyped c r s a d → HasUse V (type_of d) Many →
       IsTyped c s z b h → w ≡ row (type_of h) (two d h) →

@@ -20,7 +20,7 @@ use Rattle.fst_lts.specs.Step.{step}
 use Rattle.fst_lts.specs.Dual.{dual}
 use Rattle.fst_types.specs.Instance.{instantiated}
 use Rattle.fst_terms.specs.declared.global.GlobalEntry.{GlobalEntry}
-use Rattle.fst_terms.specs.CoreTree.{CoreTree, local, global, int, bool, char, unit, pair, make, lambda, apply, let_in, split, if_else, case_of, operate, negate, new, send, receive, select, match_with, fork, seq, CoreList, no_terms, term, CoreArms, no_arms, arm}
+use Rattle.fst_terms.specs.CoreTree.{CoreTree, local, global, int, bool, char, unit, pair, make, lambda, apply, let_in, split, if_else, case_of, operate, negate, new, send, receive, close, wait, select, match_with, fork, seq, CoreList, no_terms, term, CoreArms, no_arms, arm}
 use Rattle.fst_terms.specs.declared.binder.Binder.{Binder}
 use Rattle.fst_terms.specs.declared.term.Op.{Op}
 use Rattle.fst_terms.specs.declared.term.Op.TheVariants.{Add, Subtract, Multiply, Equal, Unequal, Less, AtMost, Greater, AtLeast, And, Or}
@@ -539,6 +539,12 @@ module _ (c : Check) (unique : PlainTypesAreUnique) where
             small_as at (type_of d) (type.pair (plain o') t') f i
             (ap type_of e ∙ ap (λ j. type.pair (plain j) t) (sym base) ∙ ap (type.pair (plain o')) (sym nexts)) small z
 
+    close_none : (at : ℕ) (a : CoreTree) (f : CheckFault) → Refutes a f → Refutes (close at a) f
+    close_none at a f ra s x u d (pa, t, y, q, e) small w = over_none a f ra s _ x u pa y w (λ z. cc (sym z.0 ∙ q))
+
+    wait_none : (at : ℕ) (a : CoreTree) (f : CheckFault) → Refutes a f → Refutes (wait at a) f
+    wait_none at a f ra s x u d (pa, t, y, q, e) small w = over_none a f ra s _ x u pa y w (λ z. cc (sym z.0 ∙ q))
+
     select_none : (at : ℕ) (l : List ℕ) (a : CoreTree) (f : CheckFault) → I f → Refutes a f → Refutes (select at l a) f
     select_none at l a f i ra s x u d (pa, t, y, q, e) small w = over_none a f ra s _ x u pa y w go
       where
@@ -644,6 +650,8 @@ module _ (c : Check) (unique : PlainTypesAreUnique) where
       no_plain (new at k) f i = new_none at k f i
       no_plain (send at a b) f i = send_none at a b f i (no_plain a f i) (no_plain b f i)
       no_plain (receive at a) f i = receive_none at a f i (no_plain a f i)
+      no_plain (close at a) f i = close_none at a f (no_plain a f i)
+      no_plain (wait at a) f i = wait_none at a f (no_plain a f i)
       no_plain (select at l a) f i = select_none at l a f i (no_plain a f i)
       no_plain (match_with at a bs) f i = match_none at a bs f (no_plain a f i) (no_arms_of bs f i)
       no_plain (fork at a) f i = fork_none at a f (no_plain a f i)

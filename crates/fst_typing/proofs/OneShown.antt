@@ -18,7 +18,7 @@ use Rattle.fst_kinds.specs.WellFormed.{IsInstantiation, IsSession, IsWellFormed}
 use Rattle.fst_kinds.specs.declared.fault.KindFault.TheVariants.{WrongKind}
 use Rattle.fst_kinds.proofs.Laws.{one_kind}
 use Rattle.fst_lts.specs.Dual.{dual}
-use Rattle.fst_terms.specs.CoreTree.{CoreTree, local, global, int, bool, char, unit, pair, make, lambda, apply, let_in, split, if_else, case_of, operate, negate, new, send, receive, select, match_with, fork, seq, CoreList, no_terms, term, CoreArms, no_arms, arm}
+use Rattle.fst_terms.specs.CoreTree.{CoreTree, local, global, int, bool, char, unit, pair, make, lambda, apply, let_in, split, if_else, case_of, operate, negate, new, send, receive, close, wait, select, match_with, fork, seq, CoreList, no_terms, term, CoreArms, no_arms, arm}
 use Rattle.fst_terms.specs.InRange.{maker_of}
 use Rattle.fst_terms.specs.declared.binder.Binder.{Binder}
 use Rattle.fst_terms.specs.declared.global.GlobalEntry.{GlobalEntry}
@@ -41,7 +41,7 @@ use Rattle.fst_equiv.specs.declared.comparing.Same.TheVariants as same
 use Rattle.fst_premises.specs.Checks.{Check, IsInSize, AreInSize}
 use Rattle.fst_premises.specs.Scenes.{AreFormed}
 use Rattle.fst_premises.specs.Scopes.{AreUsed, entered_all, inside, left_all}
-use Rattle.fst_premises.specs.Shown.{place, DifferAt, IsLargeBinder, IsTooLargeAt, IsUnused, ShowsArguments, ShowsDropped, ShowsNoCase, ShowsNoFunction, ShowsNoMatch, ShowsNoPair, ShowsReceive, ShowsSelect, ShowsSend, ShowsUnused, ShowsVariable, ShowsUse, ShowsNew, UseDifferent}
+use Rattle.fst_premises.specs.Shown.{place, DifferAt, IsLargeBinder, IsTooLargeAt, IsUnused, ShowsArguments, ShowsDropped, ShowsNoCase, ShowsNoFunction, ShowsNoMatch, ShowsNoPair, ShowsReceive, ShowsClose, ShowsWait, ShowsSelect, ShowsSend, ShowsUnused, ShowsVariable, ShowsUse, ShowsNew, UseDifferent}
 use Rattle.fst_premises.specs.Signs.{operand}
 use Rattle.fst_premises.specs.declared.fault.CheckFault.{CheckFault}
 use Rattle.fst_premises.specs.declared.fault.CheckFault.TheVariants.{Mismatch, UsedTwice, CapturedLinear, TypeArguments, KindOfArgument, Branches, Undecided, Kinds, TooLarge}
@@ -160,6 +160,12 @@ one_receive at t f g (inl x) (inl y) = exact x.1 y.1
 one_receive at t f g (inl x) (inr (b, n, h, l)) = absurd (x.0 b n h)
 one_receive at t f g (inr (b, n, h, l)) (inl y) = absurd (y.0 b n h)
 one_receive at t f g (inr (b, n, h, l)) (inr (b', n', h', l')) = exact l.is l'.is
+
+one_close : (at : ℕ) (t : Tree) → IsOne (ShowsClose at t)
+one_close at t f g x y = exact x.1 y.1
+
+one_wait : (at : ℕ) (t : Tree) → IsOne (ShowsWait at t)
+one_wait at t f g x y = exact x.1 y.1
 
 one_select : (at : ℕ) (l : List ℕ) (t : Tree) → IsOne (ShowsSelect at l t)
 one_select at l t f g (inl x) (inl y) = exact x.1 y.1
@@ -455,6 +461,8 @@ module _ (c : Check) where
           one_shown (send at a b) s = one_first a s _ (one_shown a s)
               (λ r t h. one_first b r _ (one_shown b r) (λ z u k. one_send at t u))
           one_shown (receive at a) s = one_first a s _ (one_shown a s) (λ r t h. one_receive at t)
+          one_shown (close at a) s = one_first a s _ (one_shown a s) (λ r t h. one_close at t)
+          one_shown (wait at a) s = one_first a s _ (one_shown a s) (λ r t h. one_wait at t)
           one_shown (select at l a) s = one_first a s _ (one_shown a s) (λ r t h. one_select at l t)
           one_shown (match_with at a bs) s =
               one_first a s _ (one_shown a s)

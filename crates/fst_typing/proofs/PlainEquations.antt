@@ -5,7 +5,7 @@ use Rattle.std.proofs.lemmas.Option.{same_Some}
 use Rattle.fst_types.specs.Tree.{Tree, arrow}
 use Rattle.fst_types.specs.declared.kind.Kind.{Kind}
 use Rattle.fst_types.specs.declared.kind.Use.{Use}
-use Rattle.fst_terms.specs.CoreTree.{CoreTree, local, global, int, bool, char, unit, pair, make, lambda, apply, let_in, split, if_else, case_of, operate, negate, new, send, receive, select, match_with, fork, seq}
+use Rattle.fst_terms.specs.CoreTree.{CoreTree, local, global, int, bool, char, unit, pair, make, lambda, apply, let_in, split, if_else, case_of, operate, negate, new, send, receive, close, wait, select, match_with, fork, seq}
 use Rattle.fst_terms.specs.declared.binder.Binder.{Binder}
 use Rattle.fst_terms.specs.declared.core_module.Module.{Module}
 use Rattle.fst_terms.specs.declared.global.GlobalEntry.{GlobalEntry}
@@ -123,6 +123,8 @@ module _ (m : Surroundings) (E : Tree → Tree → Type 0) (L : IsTypeEquality m
   plain_equation (new at k) t g u x = under_all (new at k) t g u (λ a k n z b e. absurd (cc e)) x
   plain_equation (send at a b) t g u x = under_all (send at a b) t g u (λ a k n z b e. absurd (cc e)) x
   plain_equation (receive at a) t g u x = under_all (receive at a) t g u (λ a k n z b e. absurd (cc e)) x
+  plain_equation (close at a) t g u x = under_all (close at a) t g u (λ a k n z b e. absurd (cc e)) x
+  plain_equation (wait at a) t g u x = under_all (wait at a) t g u (λ a k n z b e. absurd (cc e)) x
   plain_equation (select at l a) t g u x = under_all (select at l a) t g u (λ a k n z b e. absurd (cc e)) x
   plain_equation (match_with at a bs) t g u x = under_all (match_with at a bs) t g u (λ a k n z b e. absurd (cc e)) x
   plain_equation (fork at a) t g u x = under_all (fork at a) t g u (λ a k n z b e. absurd (cc e)) x

@@ -4,7 +4,7 @@ use Rattle.fst_types.specs.Tree.{Tree}
 use Rattle.fst_types.specs.declared.kind.Kind.{Kind}
 use Rattle.fst_types.specs.declared.kind.Use.{Use}
 use Rattle.fst_terms.specs.Around.{around, second, wrap}
-use Rattle.fst_terms.specs.CoreTree.{CoreTree, pair, lambda, let_in, split, if_else, negate, send, receive, select, fork, seq}
+use Rattle.fst_terms.specs.CoreTree.{CoreTree, pair, lambda, let_in, split, if_else, negate, send, receive, close, wait, select, fork, seq}
 use Rattle.fst_terms.specs.declared.binder.Binder.{Binder}
 use Rattle.fst_terms.specs.declared.steps.Step.{Step}
 use Rattle.fst_terms.specs.declared.steps.Step.TheVariants.{Operate, Apply}
@@ -142,6 +142,12 @@ module _ (c : Check) where
 
   pub receive_ready : {at : ℕ} {a : CoreTree} {g : List Variable} → IsReady c (receive at a) g → IsReady c a g
   receive_ready h = record { range = h.range; formed = h.formed; held = h.held }
+
+  pub close_ready : {at : ℕ} {a : CoreTree} {g : List Variable} → IsReady c (close at a) g → IsReady c a g
+  close_ready h = record { range = h.range; formed = h.formed; held = h.held }
+
+  pub wait_ready : {at : ℕ} {a : CoreTree} {g : List Variable} → IsReady c (wait at a) g → IsReady c a g
+  wait_ready h = record { range = h.range; formed = h.formed; held = h.held }
 
   pub select_ready : {at : ℕ} {l : List ℕ} {a : CoreTree} {g : List Variable} → IsReady c (select at l a) g → IsReady c a g
   select_ready h = record { range = h.range; formed = h.formed; held = h.held }

@@ -9,7 +9,7 @@ use Rattle.fst_types.specs.declared.kind.Use.TheVariants.{Once}
 use Rattle.fst_types.specs.declared.moves.Move.TheVariants as move
 use Rattle.fst_kinds.specs.Kinds.{session}
 use Rattle.fst_kinds.specs.declared.fault.KindFault.TheVariants.{WrongKind}
-use Rattle.fst_terms.specs.CoreTree.{CoreTree, local, global, int, bool, char, unit, pair, make, lambda, apply, let_in, split, if_else, case_of, operate, negate, new, send, receive, select, match_with, fork, seq, CoreList, no_terms, term, CoreArms, no_arms, arm}
+use Rattle.fst_terms.specs.CoreTree.{CoreTree, local, global, int, bool, char, unit, pair, make, lambda, apply, let_in, split, if_else, case_of, operate, negate, new, send, receive, close, wait, select, match_with, fork, seq, CoreList, no_terms, term, CoreArms, no_arms, arm}
 use Rattle.fst_terms.specs.declared.term.Op.{Op}
 use Rattle.fst_terms.specs.declared.term.Op.TheVariants.{Add, Subtract, Multiply, Equal, Unequal, Less, AtMost, Greater, AtLeast, And, Or}
 use Rattle.fst_context.specs.Scope.{Scope}
@@ -19,7 +19,7 @@ use Rattle.fst_derivations.specs.Texts.{HasText, AllHaveText, BindingHasText}
 use Rattle.fst_derivations.proofs.Laws.{arrow_texts, bound_texts, pair_texts, plain_text, text_at, texts_at}
 use Rattle.fst_premises.specs.Checks.{Check}
 use Rattle.fst_premises.specs.Scopes.{inside}
-use Rattle.fst_premises.specs.Shown.{place, UseDifferent, ShowsDropped, ShowsNoCase, ShowsNoFunction, ShowsNoMatch, ShowsNoPair, ShowsReceive, ShowsSelect, ShowsSend}
+use Rattle.fst_premises.specs.Shown.{place, UseDifferent, ShowsDropped, ShowsNoCase, ShowsNoFunction, ShowsNoMatch, ShowsNoPair, ShowsReceive, ShowsClose, ShowsWait, ShowsSelect, ShowsSend}
 use Rattle.fst_premises.specs.Signs.{operand}
 use Rattle.fst_typing.specs.Shown.{IsOperand, NoMore, Unless, Shows, ShowsArms, ShowsFields, ShowsFurther, ShowsOperand}
 use Rattle.fst_typing.specs.Texts.{HaveTexts}
@@ -79,6 +79,12 @@ send_text n at s t f g h (inr x) = large_text n at x.1 f x.4
 receive_text : (n at : ℕ) (t : Tree) (f : CheckFault) → HasText n t → ShowsReceive at t f → HaveTexts n f
 receive_text n at t f h (inl x) = said n f (NoSuchMove at t move.Receive) x.1 (h, tt)
 receive_text n at t f h (inr x) = large_text n at _ f x.3
+
+close_text : (n at : ℕ) (t : Tree) (f : CheckFault) → HasText n t → ShowsClose at t f → HaveTexts n f
+close_text n at t f h x = said n f (NoSuchMove at t move.Close) x.1 (h, tt)
+
+wait_text : (n at : ℕ) (t : Tree) (f : CheckFault) → HasText n t → ShowsWait at t f → HaveTexts n f
+wait_text n at t f h x = said n f (NoSuchMove at t move.Wait) x.1 (h, tt)
 
 select_text : (n at : ℕ) (l : List ℕ) (t : Tree) (f : CheckFault) → HasText n t → ShowsSelect at l t f → HaveTexts n f
 select_text n at l t f h (inl x) = said n f (NoSuchMove at t (move.Select l)) x.1 (h, tt)
@@ -164,6 +170,10 @@ module _ (c : Check) (types : AllHaveText (length c.surroundings.families) c.sur
         (after_text c types b y.scope behind z) z.then))
     shown_texts (receive at a) s f h x = either N f x (shown_texts a s f h)
         (λ y. receive_text N at (type_of y.derivation) f (after_text c types a s h y) y.then)
+    shown_texts (close at a) s f h x = either N f x (shown_texts a s f h)
+        (λ y. close_text N at (type_of y.derivation) f (after_text c types a s h y) y.then)
+    shown_texts (wait at a) s f h x = either N f x (shown_texts a s f h)
+        (λ y. wait_text N at (type_of y.derivation) f (after_text c types a s h y) y.then)
     shown_texts (select at l a) s f h x = either N f x (shown_texts a s f h)
         (λ y. select_text N at l (type_of y.derivation) f (after_text c types a s h y) y.then)
     shown_texts (match_with at a bs) s f h x =

@@ -7,7 +7,7 @@ use Rattle.fst_types.specs.declared.family.Family.{Family}
 use Rattle.fst_types.specs.declared.family.Maker.{Maker}
 use Rattle.fst_types.specs.declared.kind.Use.{Use}
 use Rattle.fst_types.specs.declared.kind.Use.TheVariants.{Many}
-use Rattle.fst_terms.specs.CoreTree.{CoreTree, local, global, int, bool, char, unit, pair, make, lambda, apply, let_in, split, if_else, case_of, operate, negate, new, send, receive, select, match_with, fork, seq, CoreList, no_terms, term, CoreArms, no_arms, arm}
+use Rattle.fst_terms.specs.CoreTree.{CoreTree, local, global, int, bool, char, unit, pair, make, lambda, apply, let_in, split, if_else, case_of, operate, negate, new, send, receive, close, wait, select, match_with, fork, seq, CoreList, no_terms, term, CoreArms, no_arms, arm}
 use Rattle.fst_terms.specs.InRange.{maker_of}
 use Rattle.fst_terms.specs.declared.binder.Binder.{Binder}
 use Rattle.fst_context.specs.Scope.{Scope, Variable}
@@ -18,7 +18,7 @@ use Rattle.fst_arms.specs.Arms.{arm_labels, AreEachOnce}
 use Rattle.fst_derivations.specs.Parts.{HasUse, AreAt, AreVariables, IsOffering, IsComparable}
 use Rattle.fst_derivations.specs.Rules.{Binding, fields, rest, Binds}
 use Rattle.fst_premises.specs.Scopes.{inside, entered_all, left_all, AreUsed}
-use Rattle.fst_premises.specs.Shown.{ShowsVariable, ShowsUse, ShowsNew, IsTooLargeAt, place, IsShown, ShowsUnused, IsLargeBinder, UseDifferent, ShowsNoFunction, ShowsNoPair, ShowsDropped, ShowsSend, ShowsReceive, ShowsSelect, ShowsNoCase, ShowsNoMatch}
+use Rattle.fst_premises.specs.Shown.{ShowsVariable, ShowsUse, ShowsNew, IsTooLargeAt, place, IsShown, ShowsUnused, IsLargeBinder, UseDifferent, ShowsNoFunction, ShowsNoPair, ShowsDropped, ShowsSend, ShowsReceive, ShowsClose, ShowsWait, ShowsSelect, ShowsNoCase, ShowsNoMatch}
 use Rattle.fst_premises.specs.Checks.{Check, AreInSize}
 use Rattle.fst_typing.specs.Typed.{IsKnown, IsTyped}
 use Rattle.fst_premises.specs.declared.fault.CheckFault.{CheckFault}
@@ -133,6 +133,8 @@ abbrev mutual
   Shows c (send at a b) s f = First c a s (Shows c a s f)
       (λ r t. First c b r (Shows c b r f) (λ z u. ShowsSend at t u f))
   Shows c (receive at a) s f = First c a s (Shows c a s f) (λ r t. ShowsReceive at t f)
+  Shows c (close at a) s f = First c a s (Shows c a s f) (λ r t. ShowsClose at t f)
+  Shows c (wait at a) s f = First c a s (Shows c a s f) (λ r t. ShowsWait at t f)
   Shows c (select at l a) s f = First c a s (Shows c a s f) (λ r t. ShowsSelect at l t f)
   Shows c (match_with at a bs) s f =
       First c a s (Shows c a s f)

@@ -1,7 +1,7 @@
 -- Which refusals can be written as texts.
 use Rattle.std.specs.Prelude.{ℕ, ⊤}
 use Rattle.fst_types.specs.declared.moves.Move.{Move}
-use Rattle.fst_types.specs.declared.moves.Move.TheVariants.{Send, Receive, Select, Offer}
+use Rattle.fst_types.specs.declared.moves.Move.TheVariants.{Send, Receive, Select, Offer, Close, Wait}
 use Rattle.fst_derivations.specs.Texts.{HasText}
 use Rattle.fst_premises.specs.declared.fault.CheckFault.{CheckFault}
 use Rattle.fst_premises.specs.declared.fault.CheckFault.TheVariants.{Mismatch, Unused, UsedTwice, CapturedLinear, NotFunction, TypeArguments, KindOfArgument, NoSuchMove, Branches, NotPrintable, Undecided, Memory, Arms, Dropped, NotPair, Kinds, TooLarge}
@@ -12,6 +12,8 @@ HasMoveText n (Send t) = HasText n t
 HasMoveText n Receive = ⊤
 HasMoveText n (Select l) = ⊤
 HasMoveText n Offer = ⊤
+HasMoveText n Close = ⊤
+HasMoveText n Wait = ⊤
 
 -- each type that the refusal names has a text where there are n data types
 abbrev pub HaveTexts : ℕ → CheckFault → Type 0

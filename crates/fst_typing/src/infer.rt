@@ -14,8 +14,8 @@ ghost use Rattle.fst_premises.specs.Scenes.{check_in, IsReady, IsSetUp};
 use crate::comparing::applied;
 use crate::infer_arms::{infer_case, infer_match};
 use crate::infer_parts::{
-    infer_fork, infer_if, infer_make, infer_not, infer_pair, infer_receive, infer_select,
-    infer_send, infer_then,
+    infer_close, infer_fork, infer_if, infer_make, infer_not, infer_pair, infer_receive,
+    infer_select, infer_send, infer_then, infer_wait,
 };
 use crate::infer_under::{infer_function, infer_let, infer_split};
 use crate::operands::{first_operand, operated};
@@ -138,6 +138,8 @@ fn infer_head(
         Form::New(k) => new_channel(alloc, scene, context, at, *k),
         Form::Send(value, channel) => infer_send(alloc, scene, context, at, value, channel),
         Form::Receive(channel) => infer_receive(alloc, scene, context, at, channel),
+        Form::Close(channel) => infer_close(alloc, scene, context, at, channel),
+        Form::Wait(channel) => infer_wait(alloc, scene, context, at, channel),
         Form::Select(label, channel) => infer_select(alloc, scene, context, at, label, channel),
         Form::Match(channel, arms) => infer_match(alloc, scene, context, at, channel, arms),
         Form::Fork(part) => infer_fork(alloc, scene, context, at, part),

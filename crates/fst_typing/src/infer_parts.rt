@@ -2,7 +2,7 @@
 
 ghost use Rattle.std.specs.Prelude.{IfOk, IfErr, List};
 ghost use Rattle.fst_types.specs.Tree.{Tree};
-ghost use Rattle.fst_terms.specs.CoreTree.{fork, if_else, make, negate, pair, receive, select, send, seq};
+ghost use Rattle.fst_terms.specs.CoreTree.{close, fork, if_else, make, negate, pair, receive, select, send, seq, wait};
 ghost use Rattle.fst_terms.specs.ModelCoreView.{cores_of};
 ghost use Rattle.fst_derivations.specs.Deriv.{deriv_of, parts_of};
 ghost use Rattle.fst_derivations.specs.Parts.{AreAt};
@@ -17,8 +17,8 @@ use crate::infer::infer;
 use fst_context::Context;
 use fst_derivations::Derivation;
 use fst_premises::{
-    CheckFault, Scene, branches, fields_of, forked_row, may_be_dropped, named, pair_row, place_of,
-    received_row, selected_row, sent_row, sequence, type_at,
+    CheckFault, Scene, awaited_row, branches, closed_row, fields_of, forked_row, may_be_dropped,
+    named, pair_row, place_of, received_row, selected_row, sent_row, sequence, type_at,
 };
 use fst_terms::Term;
 use fst_types::Name;
@@ -190,6 +190,46 @@ pub(crate) fn infer_receive(
 {
     let d = infer(alloc, scene, context, channel)?;
     received_row(alloc, at, d)
+}
+
+/// The derivation of an end that is closed.
+#[cycle(infer)]
+pub(crate) fn infer_close(
+    alloc: Global,
+    scene: Scene<'_>,
+    context: &mut Context,
+    at: u32,
+    channel: &Term,
+) -> Result<Derivation, CheckFault>
+    requires set_up { IsSetUp (check_in scene) }
+    requires ready { IsReady (check_in scene) (close at channel.now) context.old.variables }
+    ensures typed { IfOk result (λ d. IsTyped (check_in scene.entry) context.old context.new
+        (close at channel.now) (deriv_of d)) }
+    ensures refused { IfErr result (λ f. IsRefused (check_in scene.entry)
+        (close at channel.now) context.old f) }
+{
+    let d = infer(alloc, scene, context, channel)?;
+    closed_row(alloc, at, d)
+}
+
+/// The derivation of an end at which the other side's closing is waited for.
+#[cycle(infer)]
+pub(crate) fn infer_wait(
+    alloc: Global,
+    scene: Scene<'_>,
+    context: &mut Context,
+    at: u32,
+    channel: &Term,
+) -> Result<Derivation, CheckFault>
+    requires set_up { IsSetUp (check_in scene) }
+    requires ready { IsReady (check_in scene) (wait at channel.now) context.old.variables }
+    ensures typed { IfOk result (λ d. IsTyped (check_in scene.entry) context.old context.new
+        (wait at channel.now) (deriv_of d)) }
+    ensures refused { IfErr result (λ f. IsRefused (check_in scene.entry)
+        (wait at channel.now) context.old f) }
+{
+    let d = infer(alloc, scene, context, channel)?;
+    awaited_row(alloc, at, d)
 }
 
 /// The derivation of a branch that is selected.

@@ -1,12 +1,12 @@
 ghost use Rattle.std.specs.Prelude.{◌≡◌, ◌<◌, ◌≤◌, ◌∷◌, [], length, drop, slice_get, IfOk, IsOk, OnOk, OnErr, Some, MatchOption};
 ghost use Rattle.std.specs.Option.{option_copied};
-ghost use Rattle.fst_value.specs.ValueTree.{ValueTree, make, function};
+ghost use Rattle.fst_value.specs.ValueTree.{ValueTree, unit, make, function};
 ghost use Rattle.fst_value.specs.Stacks.{Makes, Takes, applied, gathered, halved, moved_on, opened, paired};
 
 use crate::cells::Cell;
 use crate::join::{gather, join_two};
 use crate::split::{split_make, split_pair, take_function};
-use crate::value::Value;
+use crate::value::{Value, alone};
 use std::alloc::{AllocError, Global};
 use std::marker::Model;
 
@@ -73,6 +73,15 @@ impl Stack {
         self.values.truncate(below);
         self.values.push(value)?;
         Ok(())
+    }
+
+    /// Puts the unit value in place of the last one. It takes no memory.
+    pub fn put_unit(&mut self, alloc: Global)
+        requires { 0 < length self.old }
+        ensures { self.new ≡ unit ∷ drop 1 self.old }
+    {
+        self.values.pop();
+        self.values.push_reserved(alone(alloc, Cell::Unit));
     }
 
     /// Moves a value onto the stack, and says whether it is there. Where there is no room, nothing changes.

@@ -16,7 +16,7 @@ use Rattle.fst_machine.specs.declared.request.Request.{Request}
 use Rattle.fst_machine.specs.declared.request.Request.TheVariants as request
 use Rattle.fst_machine.specs.declared.request.Answer.{Answer}
 use Rattle.fst_machine.specs.declared.request.Answer.TheVariants.{Forked}
-use Rattle.fst_machine.specs.Machine.{State, Pause, begins, pause, stuck, calls, uses, makes, forks, puts, gets, matches, ended, asked, request, child}
+use Rattle.fst_machine.specs.Machine.{State, Pause, begins, pause, stuck, calls, uses, makes, forks, puts, gets, closes, waits, matches, ended, asked, request, child}
 use Rattle.fst_machine.specs.Code.{Compiled}
 use Rattle.fst_machine.specs.Programs.{bodies}
 use Rattle.fst_machine.specs.Spots.{Spot, begins_at, inner, asked_at, told_at, child_at}
@@ -138,6 +138,8 @@ forks_child (makes t fs) h = absurd (cc h)
 forks_child (forks e env fs) h = (record { term = e; environment = env; frames = [] }, refl)
 forks_child (puts x ev fs) h = absurd (cc h)
 forks_child (gets x fs) h = absurd (cc h)
+forks_child (closes x fs) h = absurd (cc h)
+forks_child (waits x fs) h = absurd (cc h)
 forks_child (matches x bs env fs) h = absurd (cc h)
 forks_child (ended v) h = absurd (cc h)
 

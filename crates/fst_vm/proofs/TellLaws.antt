@@ -6,12 +6,13 @@ use Rattle.std.proofs.lemmas.List.{reverse-append}
 use Rattle.fst_value.specs.ValueTree.{ValueTree, int, bool, char, unit, pair, make, function, end, ValueTrees, none, value}
 use Rattle.fst_types.specs.declared.ends.EndName.{EndName}
 use Rattle.fst_types.specs.declared.event.Event.{Event}
+use Rattle.fst_types.specs.declared.event.Event.TheVariants.{Closed}
 use Rattle.fst_value.specs.Stacks.{applied}
 use Rattle.fst_value.specs.Parts.{listed}
 use Rattle.fst_machine.specs.declared.code.Instr.{Instr}
 use Rattle.fst_machine.specs.declared.code.Instr.TheVariants as instr
 use Rattle.fst_machine.specs.declared.entry.LambdaEntry.{LambdaEntry}
-use Rattle.fst_machine.specs.declared.request.Answer.TheVariants.{Go, Forked, Got}
+use Rattle.fst_machine.specs.declared.request.Answer.TheVariants.{Go, Forked, Sent, Got}
 use Rattle.fst_machine.specs.Code.{Compiled}
 use Rattle.fst_machine.specs.Values.{Value, received}
 use Rattle.fst_machine.specs.Spots.{begins_at, Slots, Call, Spot, leads_back, around, called, captured_by, start_of, captured_count, collected, child_at, forked_spot, forks_at, moved_to, of_scalar, on_instr, spread, told, without_captured}
@@ -189,6 +190,12 @@ pub received_given : (c : Compiled) (j : ℕ) (s : Spot) (ops : List ValueTree) 
 received_given c j s (end x ∷ ops) ev u e both a h w =
     put_received (received ev) j s ops x u e both (same_Some e (end x) a) h w
 received_given c j s ops ev u e both a h w = absurd (none-some e (sym a))
+
+-- a closing that was waited for leaves what a closing leaves
+pub awaited_as_closed : (c : Compiled) (j : ℕ) (s : Spot) (ops : List ValueTree) →
+    told c instr.Wait j s ops (Got Closed) ≡ told c instr.Close j s ops Sent
+awaited_as_closed c j s (end x ∷ ops) = refl
+awaited_as_closed c j s ops = refl
 
 -- where no task is made
 pub no_child : (c : Compiled) (s t : Spot) → s ≡ t → None ≡ forked_entry c s.place → None ≡ child_at c t

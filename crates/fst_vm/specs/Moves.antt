@@ -5,7 +5,7 @@ use Rattle.fst_value.specs.ValueTree.{ValueTree, bool, unit, pair, function, end
 use Rattle.fst_value.specs.Cells.{ends_in}
 use Rattle.fst_types.specs.declared.ends.EndName.{EndName}
 use Rattle.fst_types.specs.declared.event.Event.{Event}
-use Rattle.fst_types.specs.declared.event.Event.TheVariants.{Label}
+use Rattle.fst_types.specs.declared.event.Event.TheVariants.{Label, Closed}
 use Rattle.fst_machine.specs.declared.request.Request.{Request}
 use Rattle.fst_machine.specs.declared.request.Request.TheVariants.{Put, Get}
 use Rattle.fst_machine.specs.Values.{operated, sent}
@@ -86,6 +86,11 @@ sending ops = None
 abbrev pub selecting : List ℕ → List ValueTree → Option Request
 selecting l (end x ∷ ops) = Some (Put x (Label l))
 selecting l ops = None
+
+-- to close a channel on the last value, an end
+abbrev pub closing : List ValueTree → Option Request
+closing (end x ∷ ops) = Some (Put x Closed)
+closing ops = None
 
 -- to receive on the last value, an end
 abbrev pub getting : List ValueTree → Option Request

@@ -17,10 +17,11 @@ scalar_at (form.Make n o) = pair unit unit
 scalar_at (form.Function l) = pair unit unit
 scalar_at form.End = pair unit unit
 
--- the form of the value that an event brings, if it is none of a label
+-- the form of the value that an event brings, if it brings one
 abbrev pub brought : Event → Option Form
 brought (event.Int n) = Some (form.Int n)
 brought (event.Bool b) = Some (form.Bool b)
 brought (event.Char c) = Some (form.Char c)
 brought event.Unit = Some form.Unit
 brought (event.Label l) = None
+brought event.Closed = None

@@ -26,13 +26,6 @@ fn to(place: u64, done: Result<bool, AllocError>) -> Result<Option<u64>, AllocEr
     Ok(if done? { Some(place) } else { None })
 }
 
-fn push(stack: &mut Stack, value: Value) -> Result<bool, AllocError>
-    ensures { Makes (with_one value) stack.old result stack.new }
-{
-    stack.replace(0, value)?;
-    Ok(true)
-}
-
 // The value of a base type that this is the form of.
 fn value_of(alloc: Global, form: Form) -> Result<Value, AllocError>
     ensures { IfOk result (λ v. v ≡ of_scalar (scalar_at form)) }
@@ -43,6 +36,14 @@ fn value_of(alloc: Global, form: Form) -> Result<Value, AllocError>
         Form::Char(character) => Value::char(alloc, character),
         _ => Value::unit(alloc),
     }
+}
+
+// Puts the value of a base type that this is the form of onto the stack.
+fn push(alloc: Global, form: Form, stack: &mut Stack) -> Result<bool, AllocError>
+    ensures { Makes (with_one (of_scalar (scalar_at form))) stack.old result stack.new }
+{
+    stack.replace(0, value_of(alloc, form)?)?;
+    Ok(true)
 }
 
 // The form of the value before the last `k` ones.
@@ -160,10 +161,10 @@ pub(crate) fn act(
         (parts slots.new stack.new calls.new.items) }
 {
     match instr {
-        Instr::Int(number) => to(behind, push(stack, Value::int(alloc, *number)?)),
-        Instr::Bool(truth) => to(behind, push(stack, Value::bool(alloc, *truth)?)),
-        Instr::Char(character) => to(behind, push(stack, Value::char(alloc, *character)?)),
-        Instr::Unit => to(behind, push(stack, Value::unit(alloc)?)),
+        Instr::Int(number) => to(behind, push(alloc, Form::Int(*number), stack)),
+        Instr::Bool(truth) => to(behind, push(alloc, Form::Bool(*truth), stack)),
+        Instr::Char(character) => to(behind, push(alloc, Form::Char(*character), stack)),
+        Instr::Unit => to(behind, push(alloc, Form::Unit, stack)),
         Instr::Load(k) => to(behind, slots.load(alloc, *k, stack)),
         Instr::Take(k) => to(behind, slots.take(*k, stack)),
         Instr::Bind => to(behind, slots.bind(stack)),
@@ -192,6 +193,8 @@ pub(crate) fn act(
         | Instr::New(_)
         | Instr::Send
         | Instr::Receive
+        | Instr::Close
+        | Instr::Wait
         | Instr::Select(_)
         | Instr::Match(_)
         | Instr::Fork(_) => Ok(None),

@@ -181,6 +181,30 @@ fn go_on_received(
     }
 }
 
+// The channel was closed: the unit value stands in place of the end.
+fn go_on_closed(alloc: Global, running: &mut Running, behind: u64) -> bool
+    ensures { (c : Compiled) → Makes (λ s. told c does.Close behind s s.operands Sent) running.old
+        (Ok result) running.new }
+{
+    if last_end(&running.stack).is_none() {
+        return false;
+    }
+    running.stack.put_unit(alloc);
+    running.place = behind;
+    true
+}
+
+// So it is where the closing was waited for.
+fn go_on_awaited(alloc: Global, behind: u64, event: &Event, running: &mut Running) -> bool
+    ensures { (c : Compiled) → Makes (λ s. told c does.Wait behind s s.operands (Got event.now))
+        running.old (Ok result) running.new }
+{
+    match event {
+        Event::Closed => go_on_closed(alloc, running, behind),
+        _ => false,
+    }
+}
+
 // The place of a label in a table.
 fn place_of(places: &[(Name, u64)], label: &Name) -> Option<u64>
     ensures { result ≡ place_of places.now label.now }
@@ -243,8 +267,10 @@ fn tell_instr(
             )
         }
         (Instr::Send, Answer::Sent) => Ok(go_on_with_end(running, behind)),
+        (Instr::Close, Answer::Sent) => Ok(go_on_closed(alloc, running, behind)),
         (Instr::Select(_), Answer::Sent) => Ok(go_on_selected(running, behind)),
         (Instr::Receive, Answer::Got(event)) => go_on_received(alloc, behind, event, running),
+        (Instr::Wait, Answer::Got(event)) => Ok(go_on_awaited(alloc, behind, event, running)),
         (Instr::Match(places), Answer::Got(event)) => Ok(go_on_in_arm(places, event, running)),
         _ => Ok(false),
     }
@@ -268,12 +294,13 @@ fn tell(
 }
 
 // Goes on after what was sent on the last value.
-fn sent_instr(instr: &Instr, behind: u64, running: &mut Running) -> bool
+fn sent_instr(alloc: Global, instr: &Instr, behind: u64, running: &mut Running) -> bool
     ensures { (c : Compiled) → Makes (λ s. told c instr.now behind s s.operands Sent) running.old
         (Ok result) running.new }
 {
     match instr {
         Instr::Send => go_on_with_end(running, behind),
+        Instr::Close => go_on_closed(alloc, running, behind),
         Instr::Select(_) => go_on_selected(running, behind),
         _ => false,
     }
@@ -304,6 +331,7 @@ fn go_on_with_spare(running: &mut Running, behind: u64, event: &Event, spare: Op
 
 // Goes on after what was received on the last value.
 fn got_instr(
+    alloc: Global,
     instr: &Instr,
     behind: u64,
     event: &Event,
@@ -316,30 +344,37 @@ fn got_instr(
 {
     match instr {
         Instr::Receive => go_on_with_spare(running, behind, event, spare),
+        Instr::Wait => go_on_awaited(alloc, behind, event, running),
         Instr::Match(places) => go_on_in_arm(places, event, running),
         _ => false,
     }
 }
 
 // Goes on after what was sent, and says whether the code sends.
-fn tell_sent(code: &Code, running: &mut Running) -> bool
+fn tell_sent(alloc: Global, code: &Code, running: &mut Running) -> bool
     ensures { (fs : List Family) → Makes
         (λ s. told_at (code_of fs code.now) s Sent) running.old (Ok result) running.new }
 {
     match instr_at(code, running.place) {
-        Some(instr) => sent_instr(instr, running.place - 1, running),
+        Some(instr) => sent_instr(alloc, instr, running.place - 1, running),
         None => false,
     }
 }
 
 // Goes on after what was received, and says whether the code receives it.
-fn tell_got(code: &Code, event: &Event, spare: Option<Value>, running: &mut Running) -> bool
+fn tell_got(
+    alloc: Global,
+    code: &Code,
+    event: &Event,
+    spare: Option<Value>,
+    running: &mut Running,
+) -> bool
     requires { spare ≡ spare_for running.old.operands }
     ensures { (fs : List Family) → Makes
         (λ s. told_at (code_of fs code.now) s (Got event.now)) running.old (Ok result) running.new }
 {
     match instr_at(code, running.place) {
-        Some(instr) => got_instr(instr, running.place - 1, event, spare, running),
+        Some(instr) => got_instr(alloc, instr, running.place - 1, event, spare, running),
         None => false,
     }
 }
@@ -362,8 +397,8 @@ pub(crate) fn tell_ready(
 {
     if ready {
         match answer {
-            Answer::Sent => return Ok(tell_sent(code, running)),
-            Answer::Got(event) => return Ok(tell_got(code, event, spare.take(), running)),
+            Answer::Sent => return Ok(tell_sent(alloc, code, running)),
+            Answer::Got(event) => return Ok(tell_got(alloc, code, event, spare.take(), running)),
             _ => {}
         }
     }

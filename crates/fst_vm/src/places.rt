@@ -54,6 +54,8 @@ fn way_of(instr: &Instr, behind: u64) -> Way
         Instr::New(_) => Way::Elsewhere,
         Instr::Send => Way::Elsewhere,
         Instr::Receive => Way::Elsewhere,
+        Instr::Close => Way::Elsewhere,
+        Instr::Wait => Way::Elsewhere,
         Instr::Select(_) => Way::Elsewhere,
         Instr::Match(_) => Way::Elsewhere,
         Instr::Fork(_) => Way::Elsewhere,

@@ -4,7 +4,7 @@ ghost use Rattle.std.specs.Prelude.{◌≡◌, List, IfOk, option_copied};
 ghost use Rattle.fst_types.specs.declared.family.Family.{Family};
 ghost use Rattle.fst_machine.specs.Spots.{asked_at, asks};
 ghost use Rattle.fst_machine.specs.Values.{sent};
-ghost use Rattle.fst_vm.specs.Moves.{end_on, function_below, getting, selecting, sending};
+ghost use Rattle.fst_vm.specs.Moves.{closing, end_on, function_below, getting, selecting, sending};
 ghost use Rattle.fst_vm.specs.Running.{code_of};
 ghost use Rattle.fst_vm.specs.Scalars.{scalar_at};
 
@@ -68,6 +68,15 @@ fn to_select(alloc: Global, label: &Name, stack: &Stack) -> Result<Option<Reques
     }
 }
 
+fn to_close(alloc: Global, stack: &Stack) -> Result<Option<Request>, AllocError>
+    ensures { IfOk result (λ o. o ≡ closing stack.now) }
+{
+    match last_end(alloc, stack)? {
+        Some(end) => Ok(Some(Request::Put(end, Event::Closed))),
+        None => Ok(None),
+    }
+}
+
 fn to_get(alloc: Global, stack: &Stack) -> Result<Option<Request>, AllocError>
     ensures { IfOk result (λ o. o ≡ getting stack.now) }
 {
@@ -104,6 +113,8 @@ fn asked(alloc: Global, instr: &Instr, at: &Running) -> Result<Option<Request>, 
         Instr::Fork(_) => Ok(Some(Request::Fork)),
         Instr::Send => to_send(alloc, &at.stack),
         Instr::Receive => to_get(alloc, &at.stack),
+        Instr::Close => to_close(alloc, &at.stack),
+        Instr::Wait => to_get(alloc, &at.stack),
         Instr::Select(label) => to_select(alloc, label, &at.stack),
         Instr::Match(_) => to_get(alloc, &at.stack),
         Instr::Return => {

@@ -40,7 +40,7 @@ pub(crate) fn ends_of(alloc: Global, channel: &ChannelName) -> Result<Value, All
     Ok(both)
 }
 
-/// The value that an event brings, if it is none of a label.
+/// The value that an event brings, if it brings one.
 pub(crate) fn received(alloc: Global, event: &Event) -> Result<Option<Value>, AllocError>
     ensures { IfOk result (λ o. o ≡ option_map of_scalar (received event.now)) }
 {
@@ -50,6 +50,7 @@ pub(crate) fn received(alloc: Global, event: &Event) -> Result<Option<Value>, Al
         Event::Char(character) => Value::char(alloc, *character)?,
         Event::Unit => Value::unit(alloc)?,
         Event::Label(_) => return Ok(None),
+        Event::Closed => return Ok(None),
     };
     Ok(Some(value))
 }
@@ -78,7 +79,7 @@ pub(crate) fn spare_for(alloc: Global, stack: &Stack) -> Result<Option<Value>, A
     }
 }
 
-/// The form of the value that an event brings, if it is none of a label.
+/// The form of the value that an event brings, if it brings one.
 pub(crate) fn brought(event: &Event) -> Option<Form>
     ensures { result ≡ brought event.now }
 {
@@ -88,5 +89,6 @@ pub(crate) fn brought(event: &Event) -> Option<Form>
         Event::Char(character) => Some(Form::Char(*character)),
         Event::Unit => Some(Form::Unit),
         Event::Label(_) => None,
+        Event::Closed => None,
     }
 }

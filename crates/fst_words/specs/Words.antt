@@ -46,9 +46,9 @@ WordBelow n w = All (λ k. k < n) w
 abbrev pub InRange : Productions → Type 0
 InRange rows = All (λ rules. All (λ r. WordBelow (length rows) r.word) rules) rows
 
--- each non-terminal has a rule
-abbrev pub EachHasRule : Productions → Type 0
-EachHasRule rows = (n : ℕ) → n < length rows → row_of rows n ≢ []
+-- each of the first n non-terminals has a rule
+abbrev pub EachHasRule : ℕ → Productions → Type 0
+EachHasRule n rows = (m : ℕ) → m < n → row_of rows m ≢ []
 
 -- each rule's letter is below n
 abbrev pub LettersBelow : ℕ → Productions → Type 0

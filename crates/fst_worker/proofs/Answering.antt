@@ -42,9 +42,8 @@ module _ (m : Surroundings) (well : IsWellTyped m) (a : Tree) (main : Birth) (xs
     -- the answer leads to a state
     leads_to : (s : State) × (answered (program_in m) x.now.state Sent ≡ Some s)
     leads_to =
-        let p = put_pause (pause m.families x.now.state) (end_name e) d.event
-        (asks_it m a main xs ps over x h.here e d there lacks) in
-        (_, ap (λ q. after (program_in m) q Sent) p.1)
+        put_pause (λ q. (s : State) × (after (program_in m) q Sent ≡ Some s)) (pause m.families x.now.state) (end_name e) d.event
+        (asks_it m a main xs ps over x h.here e d there lacks) (λ fs. (_, refl)) (λ fs c. (_, refl))
 
     -- the thread that was told, with no ends
     abbrev y : Thread

@@ -1,5 +1,5 @@
 -- Events as codes, by which they are told apart.
-use Rattle.std.proofs.Common.{◌≡◌, ◌⊎◌, inl, inr, ℕ, Bool, true, List, refl}
+use Rattle.std.proofs.Common.{◌≡◌, ◌⊎◌, inl, inr, ℕ, Bool, true, false, List, refl}
 use Rattle.std.specs.Prelude.{ℤ}
 use Rattle.std.specs.Coded.{Coded, code_by, coded⊎, coded_ℕ, coded_ℤ, coded_bool, coded_list}
 use Rattle.fst_types.specs.declared.event.Event.{Event}
@@ -16,13 +16,15 @@ said (event.Bool b) = inr (inl b)
 said (event.Char c) = inr (inr (inl c))
 said event.Unit = inr (inr (inr (inl true)))
 said (event.Label l) = inr (inr (inr (inr l)))
+said event.Closed = inr (inr (inr (inl false)))
 
 -- the event that says this
 abbrev pub event_of : Said → Event
 event_of (inl n) = event.Int n
 event_of (inr (inl b)) = event.Bool b
 event_of (inr (inr (inl c))) = event.Char c
-event_of (inr (inr (inr (inl b)))) = event.Unit
+event_of (inr (inr (inr (inl true)))) = event.Unit
+event_of (inr (inr (inr (inl false)))) = event.Closed
 event_of (inr (inr (inr (inr l)))) = event.Label l
 
 -- an event comes back from what it says
@@ -32,6 +34,7 @@ event_of-said (event.Bool b) = refl
 event_of-said (event.Char c) = refl
 event_of-said event.Unit = refl
 event_of-said (event.Label l) = refl
+event_of-said event.Closed = refl
 
 -- the codes of events
 abbrev pub event_code : Coded Event

@@ -32,7 +32,7 @@ pub(crate) struct Progress {
 
 impl Progress {
     /// Before the first round.
-    pub fn start() -> Progress {
+    pub(crate) fn start() -> Progress {
         Progress {
             events: 0,
             clock: 0,
@@ -41,12 +41,12 @@ impl Progress {
     }
 
     /// Whether the rounds end here: the events or a clock exceed the steps, or too much was tried in vain.
-    pub fn ends(self, steps: u64) -> bool {
+    pub(crate) fn ends(self, steps: u64) -> bool {
         self.events > steps || self.clock > steps || self.vain > allowed(self.events)
     }
 
     /// How far they have come after a round of these shares.
-    pub fn after(self, shares: &[Share], tries: &Tries) -> Progress {
+    pub(crate) fn after(self, shares: &[Share], tries: &Tries) -> Progress {
         let mut events = self.events;
         let mut clock = self.clock;
         for share in shares {
@@ -94,7 +94,7 @@ pub(crate) struct Tries {
 
 impl Tries {
     /// At the beginning of a round that moves so many shares on so many threads.
-    pub fn new(shares: usize, threads: usize, so_far: Progress) -> Tries {
+    pub(crate) fn new(shares: usize, threads: usize, so_far: Progress) -> Tries {
         let count = u32::try_from(shares).unwrap_or(u32::MAX);
         // the round's own thread moves a share, too
         let busy = if shares < threads { shares } else { threads };
@@ -108,31 +108,31 @@ impl Tries {
     }
 
     /// How many tries in vain there were in the run.
-    pub fn in_vain(&self) -> u64 {
+    pub(crate) fn in_vain(&self) -> u64 {
         self.vain.load(Ordering::SeqCst)
     }
 
     /// Counts so many more.
-    pub fn count(&self, vain: usize) {
+    pub(crate) fn count(&self, vain: usize) {
         if vain > 0 {
             self.vain.fetch_add(vain as u64, Ordering::SeqCst);
         }
     }
 
     /// Whether too much was tried in vain, where a share has made so many events in the round.
-    pub fn are_too_many(&self, events: u64) -> bool {
+    pub(crate) fn are_too_many(&self, events: u64) -> bool {
         self.in_vain() > allowed(self.events.saturating_add(events))
     }
 
     /// A share has moved after so many passes in vain, and is busy.
-    pub fn move_on(&self, passes: u32) {
+    pub(crate) fn move_on(&self, passes: u32) {
         if passes >= IDLE {
             self.busy.fetch_add(1, Ordering::SeqCst);
         }
     }
 
     /// A share ends after so many.
-    pub fn leave(&self, passes: u32) {
+    pub(crate) fn leave(&self, passes: u32) {
         self.going.fetch_sub(1, Ordering::SeqCst);
         if passes < IDLE {
             self.busy.fetch_sub(1, Ordering::SeqCst);
@@ -141,7 +141,7 @@ impl Tries {
 
     /// How many passes in vain there are after one more, or none where a share doesn't look again: it has done so often enough,
     /// or no other share is busy. One that has just moved looks again while there are others, since these may not have seen it.
-    pub fn look_again(&self, passes: u32) -> Option<u32> {
+    pub(crate) fn look_again(&self, passes: u32) -> Option<u32> {
         let more = passes.saturating_add(1);
         let alone = if passes < IDLE {
             self.going.load(Ordering::SeqCst) <= 1

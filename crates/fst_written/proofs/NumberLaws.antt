@@ -3,7 +3,7 @@ use Rattle.std.proofs.Common.{◌≡◌, ◌∙◌, refl, ap, sym, ℕ, List, []
 use Rattle.std.proofs.lemmas.List.{map-append}
 use Rattle.fst_types.specs.declared.family.Family.{Family}
 use Rattle.fst_types.specs.declared.family.Maker.{Maker}
-use Rattle.fst_terms.specs.CoreTree.{CoreTree, local, global, int, bool, char, unit, pair, make, lambda, apply, let_in, split, if_else, case_of, operate, negate, new, send, receive, select, match_with, fork, seq, CoreList, no_terms, term, CoreArms, no_arms, arm}
+use Rattle.fst_terms.specs.CoreTree.{CoreTree, local, global, int, bool, char, unit, pair, make, lambda, apply, let_in, split, if_else, case_of, operate, negate, new, send, receive, close, wait, select, match_with, fork, seq, CoreList, no_terms, term, CoreArms, no_arms, arm}
 use Rattle.fst_terms.specs.InRange.{makers}
 use Rattle.fst_terms.specs.Variables.{type_numbers, all_type_numbers, arm_type_numbers, global_numbers, field_numbers}
 use Rattle.fst_terms.specs.declared.global.GlobalEntry.{GlobalEntry}
@@ -56,6 +56,8 @@ mutual
   term_numbers (new at a) = refl
   term_numbers (send at s t) = two_numbers s t (term_numbers s) (term_numbers t)
   term_numbers (receive at t) = term_numbers t
+  term_numbers (close at t) = term_numbers t
+  term_numbers (wait at t) = term_numbers t
   term_numbers (select at l t) = term_numbers t
   term_numbers (match_with at t bs) = with_arms t bs (term_numbers t) (arm_numbers bs)
   term_numbers (fork at t) = term_numbers t

@@ -3,7 +3,7 @@ use Rattle.std.proofs.Common.{◌≡◌, ◌↔◌, refl, ℕ, List, [], ◌∷�
 use Rattle.std.specs.Prelude.{◌&&◌}
 use Rattle.std.specs.List.{AllByRecursion}
 use Rattle.fst_base.proofs.Alls.{all_append, all_left, all_right}
-use Rattle.fst_types.specs.Tree.{Tree, skip, send, receive, select, offer, seq, rec, back, var, plain, arrow, pair, named}
+use Rattle.fst_types.specs.Tree.{Tree, skip, send, receive, close, wait, select, offer, seq, rec, back, var, plain, arrow, pair, named}
 use Rattle.fst_types.specs.declared.family.Family.{Family}
 use Rattle.fst_types.specs.declared.family.Maker.{Maker}
 use Rattle.fst_derivations.specs.Modules.{IsPrintable, base_types, data_types, pairs, ArePrintable, HavePrintableFields, AreFamiliesPrintable, maker_types, family_types}
@@ -21,6 +21,8 @@ passed : (t : Tree) → printable t ≡ true → IsPrintable t
 passed skip e = absurd (cc e)
 passed (send b) e = absurd (cc e)
 passed (receive b) e = absurd (cc e)
+passed close e = absurd (cc e)
+passed wait e = absurd (cc e)
 passed (select bs) e = absurd (cc e)
 passed (offer bs) e = absurd (cc e)
 passed (seq s r) e = absurd (cc e)

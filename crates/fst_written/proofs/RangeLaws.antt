@@ -8,7 +8,7 @@ use Rattle.fst_types.specs.Order.{IsSorted}
 use Rattle.fst_types.specs.Scoped.{IsScoped}
 use Rattle.fst_types.specs.declared.family.Family.{Family}
 use Rattle.fst_types.specs.declared.family.Maker.{Maker}
-use Rattle.fst_terms.specs.CoreTree.{CoreTree, local, global, int, bool, char, unit, pair, make, lambda, apply, let_in, split, if_else, case_of, operate, negate, new, send, receive, select, match_with, fork, seq, CoreList, no_terms, term, CoreArms, no_arms, arm}
+use Rattle.fst_terms.specs.CoreTree.{CoreTree, local, global, int, bool, char, unit, pair, make, lambda, apply, let_in, split, if_else, case_of, operate, negate, new, send, receive, close, wait, select, match_with, fork, seq, CoreList, no_terms, term, CoreArms, no_arms, arm}
 use Rattle.fst_terms.specs.InRange.{Bounds, IsInRange, AreInRange, AreCasesInRange, AreMatchesInRange, AreNumbersBelow, AreGlobals, AreFamilies, HaveFieldsInRange, AreTypes}
 use Rattle.fst_terms.specs.declared.global.GlobalEntry.{GlobalEntry}
 use Rattle.fst_derivations.specs.Modules.{Standing, all_open, types_in, types_in_all, types_in_arms, global_types, maker_types, family_types}
@@ -77,6 +77,8 @@ module _ (b : Bounds) where
     in_range n (new at a) h = (h, tt)
     in_range n (send at s t) h = below_both b.types (types_in s) (types_in t) (in_range n s h.0) (in_range n t h.1)
     in_range n (receive at t) h = in_range n t h
+    in_range n (close at t) h = in_range n t h
+    in_range n (wait at t) h = in_range n t h
     in_range n (select at l t) h = in_range n t h
     in_range n (match_with at t bs) h = below_both b.types (types_in t) (types_in_arms bs) (in_range n t h.1)
         (matches_in_range n bs h.2)

@@ -7,7 +7,7 @@ use Rattle.fst_base.proofs.Alls.{all_append, all_right}
 use Rattle.fst_types.specs.Tree.{Tree}
 use Rattle.fst_types.specs.Variables.{HasVariablesBelow}
 use Rattle.fst_types.specs.declared.kind.Kind.{Kind}
-use Rattle.fst_terms.specs.CoreTree.{CoreTree, local, global, int, bool, char, unit, pair, make, lambda, apply, let_in, split, if_else, case_of, operate, negate, new, send, receive, select, match_with, fork, seq, CoreList, no_terms, term, CoreArms, no_arms, arm}
+use Rattle.fst_terms.specs.CoreTree.{CoreTree, local, global, int, bool, char, unit, pair, make, lambda, apply, let_in, split, if_else, case_of, operate, negate, new, send, receive, close, wait, select, match_with, fork, seq, CoreList, no_terms, term, CoreArms, no_arms, arm}
 use Rattle.fst_terms.specs.Variables.{IsTypeOver, AreTypesOver, HasTypesOver, HaveTypesOver, HaveArmTypesOver, AreGlobalsOver, AreOthersClosed}
 use Rattle.fst_terms.specs.declared.core_module.Module.{Module}
 use Rattle.fst_terms.specs.declared.global.GlobalEntry.{GlobalEntry}
@@ -62,6 +62,8 @@ module _ (types : List Tree) where
       term_over (new at a) h = (h, tt)
       term_over (send at s t) h = over_append (types_in s) (types_in t) (term_over s h.0) (term_over t h.1)
       term_over (receive at t) h = term_over t h
+      term_over (close at t) h = term_over t h
+      term_over (wait at t) h = term_over t h
       term_over (select at l t) h = term_over t h
       term_over (match_with at t bs) h = over_append (types_in t) (types_in_arms bs) (term_over t h.0) (arms_over bs h.1)
       term_over (fork at t) h = term_over t h

@@ -1,7 +1,7 @@
 -- The first field, in order of text, that can't be printed.
 use Rattle.std.specs.Prelude.{◌≡◌, ℕ, Bool, true, false, ◌&&◌, List, Option, Some, MatchOption, slice_get}
 use Rattle.std.specs.List.{AllByRecursion}
-use Rattle.fst_types.specs.Tree.{Tree, skip, send, receive, select, offer, seq, rec, back, var, plain, arrow, pair, named}
+use Rattle.fst_types.specs.Tree.{Tree, skip, send, receive, close, wait, select, offer, seq, rec, back, var, plain, arrow, pair, named}
 use Rattle.fst_terms.specs.declared.core_module.Module.{Module}
 use Rattle.fst_derivations.specs.Modules.{IsPrintable}
 use Rattle.fst_written.specs.First.{IsFirst}
@@ -12,6 +12,8 @@ abbrev pub printable : Tree → Bool
 printable skip = false
 printable (send b) = false
 printable (receive b) = false
+printable close = false
+printable wait = false
 printable (select bs) = false
 printable (offer bs) = false
 printable (seq s r) = false

@@ -16,6 +16,8 @@ fn passes(t: &Ty) -> bool
         TyForm::Skip => false,
         TyForm::Send(_) => false,
         TyForm::Receive(_) => false,
+        TyForm::Close => false,
+        TyForm::Wait => false,
         TyForm::Select(_) => false,
         TyForm::Offer(_) => false,
         TyForm::Seq(_, _) => false,

@@ -95,6 +95,8 @@ fn add_head(alloc: Global, head: &Term, out: &mut Vec<Standing>) -> Result<(), A
         }
         Form::Send(value, channel) => add_two(alloc, value, channel, out),
         Form::Receive(channel) => add_standing(alloc, channel, out),
+        Form::Close(channel) => add_standing(alloc, channel, out),
+        Form::Wait(channel) => add_standing(alloc, channel, out),
         Form::Select(_, channel) => add_standing(alloc, channel, out),
         Form::Match(channel, arms) => {
             add_standing(alloc, channel, out)?;

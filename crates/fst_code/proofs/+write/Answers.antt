@@ -4,7 +4,7 @@ use Rattle.std.proofs.lemmas.List.{drop_all, take_all}
 use Rattle.std.proofs.lemmas.Option.{slice_get_read}
 use Rattle.fst_terms.proofs.Laws.{core_arms_height_at, cores_height_at}
 use Rattle.fst_terms.specs.CoreCount.{core_arms_count, cores_count}
-use Rattle.fst_terms.specs.CoreTree.{core_arms_height, core_height, pair, make, lambda, apply, let_in, int, split, if_else, case_of, match_with, operate, negate, send, receive, select, fork, seq}
+use Rattle.fst_terms.specs.CoreTree.{core_arms_height, core_height, pair, make, lambda, apply, let_in, int, split, if_else, case_of, match_with, operate, negate, send, receive, close, wait, select, fork, seq}
 use Rattle.fst_terms.specs.declared.binder.Binder.{Binder}
 use Rattle.fst_terms.specs.InRange.{terms_length}
 use Rattle.fst_terms.specs.ModelCoreView.{core_arms_of, cores_of}
@@ -24,7 +24,7 @@ use Rattle.fst_code.specs.Marks.{marked}
 use Rattle.fst_code.proofs.ListsLaws.{also_none}
 use Rattle.fst_code.specs.Writable.{AreArmsWritable, AreWritable, IsWritable}
 use Rattle.fst_code.specs.Written.{Closes, ComesTo, Forgot, Pushes, Writes, WritesAll, WritesUnder, compiled, top}
-use Rattle.fst_code.proofs.FormLaws.{all_more, all_none, behind_from, fork_written, if_left, lambda_written, leaves_more, leaves_none, let_left, make_written, seq_left, split_left, apply_left, bool_written, char_written, global_written, int_written, negate_left, new_written, operate_left, pair_left, receive_left, select_left, send_left, unit_written}
+use Rattle.fst_code.proofs.FormLaws.{all_more, all_none, behind_from, fork_written, if_left, lambda_written, leaves_more, leaves_none, let_left, make_written, seq_left, split_left, apply_left, bool_written, char_written, global_written, int_written, negate_left, new_written, operate_left, pair_left, receive_left, close_left, wait_left, select_left, send_left, unit_written}
 use Rattle.fst_code.proofs.HeightLaws.{terms_length-cores}
 use Rattle.fst_code.proofs.MarkLaws.{within_none}
 use Rattle.fst_code.proofs.PieceLaws.{drop_before}
@@ -696,6 +696,20 @@ terms::write_behind-returns-in_ok-push-in-Receive-clause-written t c =
     let w = rw c.in-Receive.is at c.term.view_is in
     left_as (whole_one (receive c.term.inside.at) w c.deref-in-Receive.ensures)
     (receive_left _ _ _ c.term.inside.at _ (c.in_ok-push-in-Receive.ensures c.args.given.now.families.now))
+
+pub terms::write_behind-returns-in_ok-push-in-Close-clause-written :
+    goal.terms::write_behind-returns-in_ok-push-in-Close-clause-written
+terms::write_behind-returns-in_ok-push-in-Close-clause-written t c =
+    let w = rw c.in-Close.is at c.term.view_is in
+    left_as (whole_one (close c.term.inside.at) w c.deref-in-Close.ensures)
+    (close_left _ _ _ c.term.inside.at _ (c.in_ok-push-in-Close.ensures c.args.given.now.families.now))
+
+pub terms::write_behind-returns-in_ok-push-in-Wait-clause-written :
+    goal.terms::write_behind-returns-in_ok-push-in-Wait-clause-written
+terms::write_behind-returns-in_ok-push-in-Wait-clause-written t c =
+    let w = rw c.in-Wait.is at c.term.view_is in
+    left_as (whole_one (wait c.term.inside.at) w c.deref-in-Wait.ensures)
+    (wait_left _ _ _ c.term.inside.at _ (c.in_ok-push-in-Wait.ensures c.args.given.now.families.now))
 
 pub terms::write_behind-returns-in_ok-push-in-Select-clause-written :
     goal.terms::write_behind-returns-in_ok-push-in-Select-clause-written

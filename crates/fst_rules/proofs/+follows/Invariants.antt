@@ -54,6 +54,12 @@ decreases-following::negate_follows l = 8 * core_height l.part.now + 2
 abbrev pub decreases-following::receive_follows : goal.decreases-following::receive_follows
 decreases-following::receive_follows l = 8 * core_height l.part.now + 2
 
+abbrev pub decreases-following::close_follows : goal.decreases-following::close_follows
+decreases-following::close_follows l = 8 * core_height l.part.now + 2
+
+abbrev pub decreases-following::wait_follows : goal.decreases-following::wait_follows
+decreases-following::wait_follows l = 8 * core_height l.part.now + 2
+
 abbrev pub decreases-following::select_follows : goal.decreases-following::select_follows
 decreases-following::select_follows l = 8 * core_height l.part.now + 2
 

@@ -1,4 +1,4 @@
-use Rattle.std.proofs.Common.{◌≡◌, ◌∙◌, ◌<◌, ◌∷◌, ◌++◌, List, [], Some, Bool, ap, arith, get_or, inl, inr, length, refl, reverse, subst, sym}
+use Rattle.std.proofs.Common.{◌≡◌, ◌∙◌, ◌<◌, ◌∷◌, List, [], Some, Bool, ap, arith, get_or, inl, inr, length, refl, reverse, subst, sym}
 use Rattle.std.specs.Prelude.{◌⊎◌, IsSome}
 use Rattle.std.proofs.lemmas.List.{length-reverse}
 use Rattle.std.proofs.lemmas.Result.{IfErr-weaker, IfOk-weaker, err_from_is_err_and}
@@ -10,10 +10,10 @@ use Rattle.fst_types.specs.declared.base.Base.{Base}
 use Rattle.fst_types.specs.declared.base.Base.TheVariants.{Bool as Truth, Unit as Nothing}
 use Rattle.fst_types.specs.declared.family.Maker.{Maker}
 use Rattle.fst_types.specs.declared.kind.Use.TheVariants.{Many}
-use Rattle.fst_types.specs.declared.label.Label.TheVariants.{Send, Receive, Select}
+use Rattle.fst_types.specs.declared.label.Label.TheVariants.{Send, Receive, Select, Close, Wait}
 use Rattle.fst_lts.specs.Step.{step}
 use Rattle.fst_terms.specs.Around.{second, wrap}
-use Rattle.fst_terms.specs.CoreTree.{CoreTree, core_height, local, global, int, bool, char, unit, pair, make, lambda, let_in, split, if_else, case_of, match_with, negate, new, send, receive, select, fork, seq}
+use Rattle.fst_terms.specs.CoreTree.{CoreTree, core_height, local, global, int, bool, char, unit, pair, make, lambda, let_in, split, if_else, case_of, match_with, negate, new, send, receive, close, wait, select, fork, seq}
 use Rattle.fst_terms.specs.InRange.{terms_length}
 use Rattle.fst_terms.specs.ModelCoreView.{core_arms_of, cores_of}
 use Rattle.fst_terms.specs.declared.core_term.Arm.{Arm}
@@ -28,7 +28,7 @@ use Rattle.fst_premises.specs.Scenes.{check_in, IsReady, AreFormed}
 use Rattle.fst_premises.proofs.Laws.{closed_formed}
 use Rattle.fst_typing.specs.Scenes.{binding_of, AreArmsReady, AreArmsTyped, AreFieldsReady, IsArmReady, IsArmTyped, IsFirstTyped, IsNumbered, ShowsArm}
 use Rattle.fst_premises.specs.Scopes.{inside, AreUsed, entered_all, left_all}
-use Rattle.fst_premises.specs.Shown.{place, IsLargeBinder, IsTooLargeAt, ShowsNoCase, ShowsNoMatch, ShowsUnused, ShowsDropped, ShowsNoFunction, ShowsNoPair, ShowsReceive, ShowsSelect, ShowsSend, UseDifferent, IsShown}
+use Rattle.fst_premises.specs.Shown.{place, IsLargeBinder, IsTooLargeAt, ShowsNoCase, ShowsNoMatch, ShowsUnused, ShowsDropped, ShowsNoFunction, ShowsNoPair, ShowsReceive, ShowsClose, ShowsWait, ShowsSelect, ShowsSend, UseDifferent, IsShown}
 use Rattle.fst_premises.specs.Signs.{result_type}
 use Rattle.fst_typing.specs.Shown.{NoMore, Shows, IsUnequal, ShowsArms, Under, IsRefused}
 use Rattle.fst_typing.specs.Typed.{IsKnown, IsTyped, IsTypedUnder}
@@ -39,11 +39,11 @@ use Rattle.fst_typing.proofs.Cases.{case_numbered, case_typed, fields_arm, match
 use Rattle.fst_typing.proofs.Fields.{FieldsSoFar, fields_end, fields_refused, fields_start, fields_step, fields_unequal, next_ready}
 use Rattle.fst_typing.proofs.EquationLaws.{both_ok}
 use Rattle.fst_typing.proofs.Formed.{arrow_formed, pair_formed, pair_small}
-use Rattle.fst_typing.proofs.Forms.{apply_typed, fork_typed, negate_typed, operate_typed, pair_typed, receive_typed, select_typed, send_typed, seq_typed}
+use Rattle.fst_typing.proofs.Forms.{apply_typed, close_typed, fork_typed, negate_typed, operate_typed, pair_typed, receive_typed, select_typed, send_typed, seq_typed, wait_typed}
 use Rattle.fst_typing.proofs.Constants.{alone_typed, bool_typed, char_typed, int_typed, unit_typed}
 use Rattle.fst_typing.proofs.Makers.{field_types, formed_fields, make_ready, make_typed, terms_of_length}
 use Rattle.fst_typing.proofs.Marks.{marks_back, marks_decide, marks_length, marks_on, with_marks_same}
-use Rattle.fst_typing.proofs.Ready.{fork_ready, if_ready, inner_ready, lambda_ready, later_ready, let_first_ready, let_ready, one_ready, pair_ready, receive_ready, second_ready, select_ready, send_ready, seq_ready, split_first_ready, split_ready}
+use Rattle.fst_typing.proofs.Ready.{close_ready, fork_ready, if_ready, inner_ready, lambda_ready, later_ready, let_first_ready, let_ready, one_ready, pair_ready, receive_ready, second_ready, select_ready, send_ready, seq_ready, split_first_ready, split_ready, wait_ready}
 use Rattle.fst_typing.proofs.Refusals.{behind, behind_under, under_more, joined_refused, shows_argument, shows_around, shows_no_function, shows_operand, shows_second_operand, shows_unequal_argument, shows_unequal_operand}
 use Rattle.fst_typing.proofs.Under.{bodies_entered, bodies_left, entered_variables, inside_variables}
 use Rattle.fst_typing.proofs.Wholes.{refused_as, typed_as, whole_none, whole_one, whole_three, whole_two}
@@ -583,6 +583,48 @@ infer::infer_head-returns-in-Receive-clause-refused t c =
     let whole = whole_one receive (λ n x. refl) (rw c.in-Receive.is at c.head.view_is) c.place_of-at.ensures
     c.deref-in-Receive.ensures in
     refused_as (check_in c.args.scene) c.args.context.now c.infer_receive.result whole c.infer_receive.ensures.refused
+
+pub infer::infer_head-infer_close-requires : goal.infer::infer_head-infer_close-requires
+infer::infer_head-infer_close-requires t c =
+    let whole = whole_one close (λ n x. refl) (rw c.in-Close.is at c.head.view_is) c.place_of-at.ensures
+    c.deref-in-Close.ensures in (
+      omega (arith, ap core_height whole, c.decreases),
+      (c.requires.set_up, subst (λ e. IsReady (check_in c.args.scene) e c.args.context.now.variables) whole c.requires.ready),
+    )
+
+pub infer::infer_head-returns-in-Close-clause-typed : goal.infer::infer_head-returns-in-Close-clause-typed
+infer::infer_head-returns-in-Close-clause-typed t c =
+    let whole = whole_one close (λ n x. refl) (rw c.in-Close.is at c.head.view_is) c.place_of-at.ensures
+    c.deref-in-Close.ensures in
+    typed_as (check_in c.args.scene) c.args.context.now c.infer_close.new.context c.infer_close.result
+    (λ d. deriv_of d) whole c.infer_close.ensures.typed
+
+pub infer::infer_head-returns-in-Close-clause-refused : goal.infer::infer_head-returns-in-Close-clause-refused
+infer::infer_head-returns-in-Close-clause-refused t c =
+    let whole = whole_one close (λ n x. refl) (rw c.in-Close.is at c.head.view_is) c.place_of-at.ensures
+    c.deref-in-Close.ensures in
+    refused_as (check_in c.args.scene) c.args.context.now c.infer_close.result whole c.infer_close.ensures.refused
+
+pub infer::infer_head-infer_wait-requires : goal.infer::infer_head-infer_wait-requires
+infer::infer_head-infer_wait-requires t c =
+    let whole = whole_one wait (λ n x. refl) (rw c.in-Wait.is at c.head.view_is) c.place_of-at.ensures
+    c.deref-in-Wait.ensures in (
+      omega (arith, ap core_height whole, c.decreases),
+      (c.requires.set_up, subst (λ e. IsReady (check_in c.args.scene) e c.args.context.now.variables) whole c.requires.ready),
+    )
+
+pub infer::infer_head-returns-in-Wait-clause-typed : goal.infer::infer_head-returns-in-Wait-clause-typed
+infer::infer_head-returns-in-Wait-clause-typed t c =
+    let whole = whole_one wait (λ n x. refl) (rw c.in-Wait.is at c.head.view_is) c.place_of-at.ensures
+    c.deref-in-Wait.ensures in
+    typed_as (check_in c.args.scene) c.args.context.now c.infer_wait.new.context c.infer_wait.result
+    (λ d. deriv_of d) whole c.infer_wait.ensures.typed
+
+pub infer::infer_head-returns-in-Wait-clause-refused : goal.infer::infer_head-returns-in-Wait-clause-refused
+infer::infer_head-returns-in-Wait-clause-refused t c =
+    let whole = whole_one wait (λ n x. refl) (rw c.in-Wait.is at c.head.view_is) c.place_of-at.ensures
+    c.deref-in-Wait.ensures in
+    refused_as (check_in c.args.scene) c.args.context.now c.infer_wait.result whole c.infer_wait.ensures.refused
 
 pub infer::infer_head-infer_select-requires : goal.infer::infer_head-infer_select-requires
 infer::infer_head-infer_select-requires t c =
@@ -2061,6 +2103,48 @@ infer_parts::infer_receive-returns-clause-typed t c =
     (λ w s n. receive_typed (check_in c.args.scene) _ _ _ _ s.0 s.1 _ _ _ c.in_ok-d.ensures.typed s.2 refl s.3 n)
     c.received_row.ensures.made c.received_row.ensures.small
 
+pub infer_parts::infer_close-infer-requires : goal.infer_parts::infer_close-infer-requires
+infer_parts::infer_close-infer-requires t c =
+    (omega (arith, c.decreases), (c.requires.set_up, close_ready (check_in c.args.scene) c.requires.ready))
+
+pub infer_parts::infer_close-returns-in_err-d-clause-refused : goal.infer_parts::infer_close-returns-in_err-d-clause-refused
+infer_parts::infer_close-returns-in_err-d-clause-refused t c =
+    let p = err_from_is_err_and c.from_residual.result c.from_residual.ensures.1 in
+    rw (p.1, p.2) (λ m. inl (c.in_err-d.ensures.refused m))
+
+pub infer_parts::infer_close-returns-clause-refused : goal.infer_parts::infer_close-returns-clause-refused
+infer_parts::infer_close-returns-clause-refused t c =
+    IfErr-weaker c.closed_row.result (λ f. IsShown f (ShowsClose c.args.at (type_of (deriv_of c.in_ok-d.d)) f))
+    (λ f. IsRefused (check_in c.args.scene) (close c.args.at c.args.channel.now) c.args.context.now f)
+    (λ f y m. inr (behind c.in_ok-d.ensures.typed (y m))) c.closed_row.ensures.refused
+
+pub infer_parts::infer_close-returns-clause-typed : goal.infer_parts::infer_close-returns-clause-typed
+infer_parts::infer_close-returns-clause-typed t c =
+    IfOk-weaker c.closed_row.result (λ w. (next : Tree) × (step (type_of (deriv_of c.in_ok-d.d)) Close ≡ Some next) ×
+    (deriv_of w ≡ row (plain Nothing) (one (deriv_of c.in_ok-d.d)))) _
+    (λ w s. close_typed (check_in c.args.scene) _ _ _ _ s.0 _ _ c.in_ok-d.ensures.typed s.1 s.2) c.closed_row.ensures.made
+
+pub infer_parts::infer_wait-infer-requires : goal.infer_parts::infer_wait-infer-requires
+infer_parts::infer_wait-infer-requires t c =
+    (omega (arith, c.decreases), (c.requires.set_up, wait_ready (check_in c.args.scene) c.requires.ready))
+
+pub infer_parts::infer_wait-returns-in_err-d-clause-refused : goal.infer_parts::infer_wait-returns-in_err-d-clause-refused
+infer_parts::infer_wait-returns-in_err-d-clause-refused t c =
+    let p = err_from_is_err_and c.from_residual.result c.from_residual.ensures.1 in
+    rw (p.1, p.2) (λ m. inl (c.in_err-d.ensures.refused m))
+
+pub infer_parts::infer_wait-returns-clause-refused : goal.infer_parts::infer_wait-returns-clause-refused
+infer_parts::infer_wait-returns-clause-refused t c =
+    IfErr-weaker c.awaited_row.result (λ f. IsShown f (ShowsWait c.args.at (type_of (deriv_of c.in_ok-d.d)) f))
+    (λ f. IsRefused (check_in c.args.scene) (wait c.args.at c.args.channel.now) c.args.context.now f)
+    (λ f y m. inr (behind c.in_ok-d.ensures.typed (y m))) c.awaited_row.ensures.refused
+
+pub infer_parts::infer_wait-returns-clause-typed : goal.infer_parts::infer_wait-returns-clause-typed
+infer_parts::infer_wait-returns-clause-typed t c =
+    IfOk-weaker c.awaited_row.result (λ w. (next : Tree) × (step (type_of (deriv_of c.in_ok-d.d)) Wait ≡ Some next) ×
+    (deriv_of w ≡ row (plain Nothing) (one (deriv_of c.in_ok-d.d)))) _
+    (λ w s. wait_typed (check_in c.args.scene) _ _ _ _ s.0 _ _ c.in_ok-d.ensures.typed s.1 s.2) c.awaited_row.ensures.made
+
 pub infer_parts::infer_select-infer-requires : goal.infer_parts::infer_select-infer-requires
 infer_parts::infer_select-infer-requires t c =
     (omega (arith, c.decreases), (c.requires.set_up, select_ready (check_in c.args.scene) c.requires.ready))
@@ -2111,7 +2195,7 @@ pub infer_parts::infer_fork-returns-clause-typed : goal.infer_parts::infer_fork-
 infer_parts::infer_fork-returns-clause-typed t c =
     IfOk-weaker c.forked_row.result (λ w. HasUse c.args.scene.vars.now (type_of (deriv_of c.in_ok-d.d)) Many ×
     (deriv_of w ≡ row (plain Nothing) (one (deriv_of c.in_ok-d.d)))) _
-    (λ w s. fork_typed (check_in c.args.scene) _ _ _ _ _ _ _ c.in_ok-d.ensures.typed s.0 refl s.1) c.forked_row.ensures.made
+    (λ w s. fork_typed (check_in c.args.scene) _ _ _ _ _ _ c.in_ok-d.ensures.typed s.0 s.1) c.forked_row.ensures.made
 
 pub infer_parts::infer_then-infer-requires : goal.infer_parts::infer_then-infer-requires
 infer_parts::infer_then-infer-requires t c = (

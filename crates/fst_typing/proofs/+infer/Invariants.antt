@@ -97,6 +97,12 @@ decreases-infer_parts::infer_send l = 8 * max (core_height l.value.now) (core_he
 abbrev pub decreases-infer_parts::infer_receive : goal.decreases-infer_parts::infer_receive
 decreases-infer_parts::infer_receive l = 8 * core_height l.channel.now + 2
 
+abbrev pub decreases-infer_parts::infer_close : goal.decreases-infer_parts::infer_close
+decreases-infer_parts::infer_close l = 8 * core_height l.channel.now + 2
+
+abbrev pub decreases-infer_parts::infer_wait : goal.decreases-infer_parts::infer_wait
+decreases-infer_parts::infer_wait l = 8 * core_height l.channel.now + 2
+
 abbrev pub decreases-infer_parts::infer_select : goal.decreases-infer_parts::infer_select
 decreases-infer_parts::infer_select l = 8 * core_height l.channel.now + 2
 

@@ -14,6 +14,15 @@ returns-in-Send c =
     (λ z. told k c.args.instr.now j z z.operands Sent) s c.go_on_with_end.new.running
     (Ok c.go_on_with_end.result) (λ i. told k (c.in-Send.is i) j s s.operands Sent) (c.go_on_with_end.ensures k)
 
+pub returns-in-Close : goal.returns-in-Close
+returns-in-Close c =
+    let s = c.args.running.now in
+    let j = c.args.behind in
+    λ k.
+    makes_alike (λ z. told k does.Close j z z.operands Sent)
+    (λ z. told k c.args.instr.now j z z.operands Sent) s c.go_on_closed.new.running
+    (Ok c.go_on_closed.result) (λ i. told k (c.in-Close.is i) j s s.operands Sent) (c.go_on_closed.ensures k)
+
 pub returns-in-Select : goal.returns-in-Select
 returns-in-Select c =
     let s = c.args.running.now in

@@ -55,6 +55,17 @@ returns-in-Send-Sent c =
     (Ok c.go_on_with_end.result)
     (λ i. told k (c.in-Send-Sent.is-0 i) j s s.operands (c.in-Send-Sent.is-1 i)) (c.go_on_with_end.ensures k)
 
+pub returns-in-Close-Sent : goal.returns-in-Close-Sent
+returns-in-Close-Sent c =
+    let s = c.args.running.now in
+    let j = c.args.behind in
+    λ fs.
+    let k = code_of fs c.args.code.now in
+    makes_alike (λ z. told k does.Close j z z.operands Sent)
+    (λ z. told k c.args.instr.now j z z.operands c.args.answer.now) s c.go_on_closed.new.running
+    (Ok c.go_on_closed.result)
+    (λ i. told k (c.in-Close-Sent.is-0 i) j s s.operands (c.in-Close-Sent.is-1 i)) (c.go_on_closed.ensures k)
+
 pub returns-in-Select-Sent : goal.returns-in-Select-Sent
 returns-in-Select-Sent c =
     let s = c.args.running.now in
@@ -77,3 +88,14 @@ returns-in-Receive-Got c =
     (λ z. told k c.args.instr.now j z z.operands c.args.answer.now) s c.go_on_received.new.running
     c.go_on_received.result (λ i. told k (c.in-Receive-Got.is-0 i) j s s.operands (c.in-Receive-Got.is-1 i))
     (c.go_on_received.ensures k)
+
+pub returns-in-Wait-Got : goal.returns-in-Wait-Got
+returns-in-Wait-Got c =
+    let s = c.args.running.now in
+    let j = c.args.behind in
+    λ fs.
+    let k = code_of fs c.args.code.now in
+    makes_alike (λ z. told k does.Wait j z z.operands (Got c.in-Wait-Got.event))
+    (λ z. told k c.args.instr.now j z z.operands c.args.answer.now) s c.go_on_awaited.new.running
+    (Ok c.go_on_awaited.result) (λ i. told k (c.in-Wait-Got.is-0 i) j s s.operands (c.in-Wait-Got.is-1 i))
+    (c.go_on_awaited.ensures k)

@@ -1,10 +1,10 @@
 use Rattle.std.proofs.Common.{◌≡◌, ap, sym, ◌∙◌, subst, refl, Option, Some, None}
 use Rattle.fst_types.specs.declared.side.Side.{Side}
-use Rattle.fst_types.specs.Tree.{Tree}
 use Rattle.fst_lts.specs.Histories.{after_event}
 use Rattle.fst_types.specs.declared.event.Event.{Event}
 use Rattle.fst_cell.specs.declared.content.Offer.{Offer}
 use Rattle.fst_cell.specs.declared.content.Half.{Half}
+use Rattle.fst_cell.specs.declared.heads.Next.{Next}
 use Rattle.fst_cell.specs.Residuals.{residual}
 use Rattle.fst_cell.specs.Rule.{stands_for}
 use Rattle.fst_cell.specs.Heads.{GoesOn}
@@ -27,8 +27,8 @@ invariant_of-self-2 c =
     let goes = subst (λ (o : Option Offer). Goes c.self.inside.residual o c.self.inside.next)
     (ap (λ (v : Half). v.offer) knows ∙ offer.1) c.self.invariant.goes in
     let onward : GoesOn c.self.inside.residual offer.0.event c.in-Some-take.next =
-    subst (λ (n : Option Tree). Goes c.self.inside.residual (Some offer.0) n) (sym c.in-Some-take.ensures.value) goes in
-    subst (λ (n : Option Tree). IsEnd c.give_back.new.self.seat.me c.self.inside.name.side c.go_on.new.t n)
+    subst (λ (n : Option Next). Goes c.self.inside.residual (Some offer.0) n) (sym c.in-Some-take.ensures.value) goes in
+    subst (λ (n : Option Next). IsEnd c.give_back.new.self.seat.me c.self.inside.name.side c.go_on.new.t n)
     (sym c.in-Some-take.ensures.after)
     (moved_on c.args.self.knows _ gone.0 c.self.inside.name.side c.self.inside.residual c.go_on.new.t None
     c.give_back.new.self.seat.me c.give_back.ensures.told gone.1 own
