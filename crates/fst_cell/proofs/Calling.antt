@@ -11,7 +11,7 @@ use Rattle.fst_cell.specs.declared.content.Content.{Content}
 use Rattle.fst_cell.specs.declared.content.Half.{Half}
 use Rattle.fst_cell.specs.declared.content.View.{View}
 use Rattle.fst_cell.specs.declared.content.View.TheVariants.{Only}
-use Rattle.fst_cell.specs.Residuals.{residual, sends}
+use Rattle.fst_lts.specs.Residuals.{residual, sends}
 use Rattle.fst_cell.specs.Rule.{turn_word, offers, stands_for, Waits, Sound, Fits, Holds, both_fresh, empty, took, synced}
 use Rattle.fst_cell.specs.End.{EndView, half_of, Seized, Passes, residual_of}
 use Rattle.fst_cell.specs.Answers.{end_with, offered}

@@ -19,8 +19,8 @@ use Rattle.fst_cell.specs.declared.content.Half.{Half}
 use Rattle.fst_cell.specs.declared.content.View.{View}
 use Rattle.fst_cell.specs.declared.content.View.TheVariants.{Only, Whole}
 use Rattle.fst_cell.specs.declared.answers.Closed.{Closed}
-use Rattle.fst_cell.specs.Stamps.{AreStamped}
-use Rattle.fst_cell.specs.Residuals.{residual, sends}
+use Rattle.fst_lts.specs.Stamps.{AreStamped}
+use Rattle.fst_lts.specs.Residuals.{residual, sends}
 use Rattle.fst_cell.specs.Rule.{turn_word, stands_for, Waits, Sound, Lags, Place, Fits, Holds, joined, took, out, TriedAs}
 use Rattle.fst_cell.specs.End.{half_of, Idle}
 use Rattle.fst_cell.specs.Close.{longer_of, stand_if, stands_at, either_of, Trails, ClosedAs}

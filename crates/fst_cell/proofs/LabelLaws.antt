@@ -10,7 +10,7 @@ use Rattle.fst_lts.specs.Step.{step, terminated, choice_labels}
 use Rattle.fst_lts.proofs.Laws.{no_step, labels_are_moves}
 use Rattle.fst_types.specs.declared.event.Event.TheVariants as event
 use Rattle.fst_cell.specs.Heads.{head, with_head}
-use Rattle.fst_cell.specs.Residuals.{receives, AreOfferedWithin}
+use Rattle.fst_lts.specs.Residuals.{receives, AreOfferedWithin}
 use Rattle.fst_cell.proofs.HeadLaws.{head_none, head_step}
 
 -- no name of these branches is longer

@@ -1,7 +1,6 @@
 pub mod Laws
 pub mod HeadLaws
 pub mod ResidualLaws
-pub mod StampLaws
 pub mod Words
 pub mod Focus
 pub mod Places

@@ -10,7 +10,7 @@ use Rattle.fst_cell.specs.declared.content.Offer.{Offer}
 use Rattle.fst_cell.specs.declared.content.Standing.{Standing}
 use Rattle.fst_cell.specs.declared.content.Content.{Content}
 use Rattle.fst_cell.specs.declared.content.Half.{Half}
-use Rattle.fst_cell.specs.Residuals.{residual, sends}
+use Rattle.fst_lts.specs.Residuals.{residual, sends}
 use Rattle.fst_cell.specs.Rule.{offer_of, stands_for, Waits, Sound, Lags, Place, Fits, synced}
 use Rattle.fst_cell.proofs.ResidualLaws.{exclusive}
 

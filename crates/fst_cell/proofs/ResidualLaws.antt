@@ -14,7 +14,7 @@ use Rattle.fst_lts.specs.Histories.{sending, receiving, IsInput, after_event, af
 use Rattle.fst_lts.proofs.Laws.{is_output, one_direction, sending_output, receiving_output, after_sent, after_received, dual_sends, dual_receives, after_history-dual, dual-dual_option}
 use Rattle.fst_types.specs.declared.event.Entry.{Entry}
 use Rattle.fst_types.specs.declared.event.Event.{Event}
-use Rattle.fst_cell.specs.Residuals.{residual, sends, receives, asks}
+use Rattle.fst_lts.specs.Residuals.{residual, sends, receives, asks}
 
 -- the residual of one end is the dual of that of the other
 residual_opposite : (s : Side) (t : Tree) (h : List Entry) → residual (opposite s) t h ≡ option_map dual (residual s t h)

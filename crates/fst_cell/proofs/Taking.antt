@@ -13,13 +13,13 @@ use Rattle.fst_cell.specs.declared.content.Half.{Half}
 use Rattle.fst_cell.specs.declared.heads.Next.{Next}
 use Rattle.fst_cell.specs.declared.content.View.{View}
 use Rattle.fst_cell.specs.declared.content.View.TheVariants.{Only}
-use Rattle.fst_cell.specs.Stamps.{next_stamp}
-use Rattle.fst_cell.specs.Residuals.{residual, sends, receives, asks}
+use Rattle.fst_lts.specs.Stamps.{next_stamp}
+use Rattle.fst_lts.specs.Residuals.{residual, sends, receives, asks}
 use Rattle.fst_cell.specs.Rule.{turn_word, offers, stands_for, Sound, Place, Fits, tried, took, synced}
 use Rattle.fst_cell.specs.End.{half_of, Seized, IsEnd, Goes, Passes, Stays, residual_of}
 use Rattle.fst_cell.specs.Answers.{longer}
 use Rattle.fst_cell.proofs.ResidualLaws.{asks_only, meets, residual_push, trace_push}
-use Rattle.fst_cell.proofs.StampLaws.{stamped_push, stamps_below}
+use Rattle.fst_lts.proofs.StampLaws.{stamped_push, stamps_below}
 use Rattle.fst_cell.proofs.Places.{own_offer, taken, idle_place}
 use Rattle.fst_cell.proofs.Calling.{seat_of}
 

@@ -10,10 +10,10 @@ use Rattle.fst_cell.specs.declared.answers.TakenEvent.{TakenEvent}
 use Rattle.fst_cell.specs.declared.answers.TakenEvent.TheVariants as takes
 use Rattle.fst_cell.specs.declared.answers.Noticed.{Noticed}
 use Rattle.fst_cell.specs.declared.answers.Noticed.TheVariants as notices
-use Rattle.fst_cell.specs.Stamps.{next_stamp}
+use Rattle.fst_lts.specs.Stamps.{next_stamp}
 use Rattle.fst_cell.specs.Rule.{tried}
 use Rattle.fst_cell.specs.End.{EndView, residual_of}
-use Rattle.fst_cell.specs.Residuals.{receives}
+use Rattle.fst_lts.specs.Residuals.{receives}
 
 -- the same end, with new knowledge
 abbrev pub end_with : EndView → Half → EndView

@@ -9,7 +9,7 @@ use Rattle.fst_types.specs.declared.ends.ChannelName.{ChannelName}
 use Rattle.fst_cell.specs.declared.content.Offer.{Offer}
 use Rattle.fst_cell.specs.declared.content.Half.{Half}
 use Rattle.fst_cell.specs.declared.answers.Closed.{Closed}
-use Rattle.fst_cell.specs.Stamps.{AreStamped}
+use Rattle.fst_lts.specs.Stamps.{AreStamped}
 
 -- the longer one of two histories
 abbrev pub longer_of : List Entry → List Entry → List Entry

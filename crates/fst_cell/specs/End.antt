@@ -15,7 +15,7 @@ use Rattle.fst_cell.specs.declared.content.View.{View}
 use Rattle.fst_cell.specs.declared.content.View.TheVariants.{Only}
 use Rattle.fst_cell.specs.declared.heads.Next.{Next}
 use Rattle.fst_cell.specs.Heads.{GoesOn}
-use Rattle.fst_cell.specs.Residuals.{residual}
+use Rattle.fst_lts.specs.Residuals.{residual}
 use Rattle.fst_cell.specs.Rule.{fresh, tried, took, turn_word, Sound, Fits}
 
 -- an end: its cell, the channel's name, and what it knows

@@ -1,6 +1,4 @@
-pub mod Residuals
 pub mod Heads
-pub mod Stamps
 pub mod Rule
 pub mod End
 pub mod Answers

@@ -14,8 +14,8 @@ use Rattle.fst_cell.specs.declared.content.Content.{Content}
 use Rattle.fst_cell.specs.declared.content.Half.{Half}
 use Rattle.fst_cell.specs.declared.content.View.{View}
 use Rattle.fst_cell.specs.declared.content.View.TheVariants.{Maker, Only, Whole, Nothing}
-use Rattle.fst_cell.specs.Residuals.{residual, sends}
-use Rattle.fst_cell.specs.Stamps.{AreStamped}
+use Rattle.fst_lts.specs.Residuals.{residual, sends}
+use Rattle.fst_lts.specs.Stamps.{AreStamped}
 
 -- an offer, where it is the side's
 abbrev pub offer_of : Side → Side → Offer → Option Offer

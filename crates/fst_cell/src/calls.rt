@@ -2,7 +2,7 @@ ghost use Rattle.std.specs.Prelude.{◌≡◌, ◌^◌, ◌<◌, ◌≤◌, ◌�
 ghost use Rattle.fst_types.specs.declared.event.Event.TheVariants.{Label};
 ghost use Rattle.fst_cell.specs.Answers.{OfferedAs, TakenAs, NoticedAs};
 ghost use Rattle.fst_cell.specs.End.{end_name, residual_of};
-ghost use Rattle.fst_cell.specs.Residuals.{sends, receives, asks};
+ghost use Rattle.fst_lts.specs.Residuals.{sends, receives, asks};
 
 use crate::answers::{Noticed, Offered, TakenEvent};
 use crate::content::{Offer, Standing};

@@ -1,7 +1,7 @@
 ghost use Rattle.std.specs.Prelude.{◌≡◌, IfOk, IsSome, Some, true};
 ghost use Rattle.fst_lts.specs.Step.{step};
 ghost use Rattle.fst_cell.specs.Heads.{GoesOn, MovesOn};
-ghost use Rattle.fst_cell.specs.Residuals.{sends, receives};
+ghost use Rattle.fst_lts.specs.Residuals.{sends, receives};
 
 use crate::heads::{Next, head};
 use fst_lts::{is_end, receiving_label, sending_label, step};
@@ -27,7 +27,7 @@ fn next_by(alloc: Global, residual: &Ty, label: &Label) -> Result<Next, AllocErr
 }
 
 // What is left of it by an event that is sent.
-#[tactic(auto, unfolding(crate::specs::Residuals::sends), using(crate::proofs::HeadLaws::sent_on))]
+#[tactic(auto, unfolding(fst_lts::specs::Residuals::sends), using(crate::proofs::HeadLaws::sent_on))]
 pub(crate) fn next_sent(alloc: Global, residual: &Ty, event: &Event) -> Result<Next, AllocError>
     requires { sends (Some residual.now) event.now ≡ true }
     ensures { IfOk result (λ next. GoesOn residual.now event.now next) }
@@ -37,7 +37,7 @@ pub(crate) fn next_sent(alloc: Global, residual: &Ty, event: &Event) -> Result<N
 }
 
 // What is left of it by an event that is received.
-#[tactic(auto, unfolding(crate::specs::Residuals::receives), using(crate::proofs::HeadLaws::received_on))]
+#[tactic(auto, unfolding(fst_lts::specs::Residuals::receives), using(crate::proofs::HeadLaws::received_on))]
 fn next_received(alloc: Global, residual: &Ty, event: &Event) -> Result<Next, AllocError>
     requires { receives (Some residual.now) event.now ≡ true }
     ensures { IfOk result (λ next. GoesOn residual.now event.now next) }

@@ -1,7 +1,7 @@
 ghost use Rattle.std.specs.Prelude.{◌≡◌, ◌≤◌, All, IfNone, IfSome, true, false, length};
 ghost use Rattle.fst_lts.specs.Step.{terminated};
 ghost use Rattle.fst_types.specs.declared.ty.Branch.{Branch as Named};
-ghost use Rattle.fst_cell.specs.Residuals.{AreOfferedWithin};
+ghost use Rattle.fst_lts.specs.Residuals.{AreOfferedWithin};
 
 use fst_types::{Branch, Ty, TyForm};
 

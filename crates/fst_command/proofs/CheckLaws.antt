@@ -1,5 +1,5 @@
 -- What `check` writes of a module, and what each command's text means.
-use Rattle.std.proofs.Common.{◌≡◌, ◌∙◌, ◌⊎◌, inl, inr, ℕ, ◌≤◌, List, [], ◌∷◌, length, Result, Ok, Err, refl, sym, ap, subst, append_assoc}
+use Rattle.std.proofs.Common.{◌≡◌, ◌∙◌, ◌⊎◌, inl, inr, ℕ, ◌≤◌, Bool, false, List, [], ◌∷◌, ◌++◌, length, Result, Ok, Err, refl, sym, ap, subst, append_assoc}
 use Rattle.std.specs.Prelude.{◌≢◌, IfOk}
 use Rattle.std.specs.declared.alloc.AllocError.{AllocError}
 use Rattle.fst_base.specs.Limits.{most_bytes}
@@ -30,13 +30,13 @@ use Rattle.fst_options.specs.Words as setting
 use Rattle.fst_options.specs.Words.{equiv, show, check, run, make}
 use Rattle.fst_command.specs.Finding as finding
 use Rattle.fst_command.specs.Finding.{Finding, IsRead, IsUnread, AreResolved, AreUnresolved, name_finding}
-use Rattle.fst_command.specs.Output.{IsFoundOf, accepted, unaccepted, FindsModule, SaysAccepted, SaysOutcome, made_summary, waiting_status, outcome_text, outcome_status, WritesOf, too_long, is_none, makes, finding_status, Writes}
+use Rattle.fst_command.specs.Output.{AreLines, IsFoundOf, accepted, unaccepted, FindsModule, SaysAccepted, SaysOutcome, made_summary, waiting_status, outcome_text, outcome_status, WritesOf, too_long, is_none, makes, finding_status, Writes}
 use Rattle.fst_safety.specs.Safety.{DerivedIsSafe}
 use Rattle.fst_process.specs.declared.report.Outcome.{Outcome}
 use Rattle.fst_process.specs.declared.report.Outcome.TheVariants.{Done, OutOfSteps}
 use Rattle.fst_process.specs.declared.report.Report.{Report}
 use Rattle.fst_process.specs.declared.report.Waiting.{Waiting}
-use Rattle.fst_execution.specs.Execution.{IsSound, ReportsAreSound}
+use Rattle.fst_execution.specs.Execution.{IsSound, AnswersAreSound}
 use Rattle.fst_make.specs.Made.{made_text}
 use Rattle.fst_report.specs.ReportTexts.{report_text}
 use Rattle.fst_command.specs.declared.status.Status.{Status}
@@ -167,12 +167,12 @@ means_refused bytes (limited_so e) = absurd (cc e)
 means_refused bytes (memory_so e) = absurd (cc e)
 
 -- and of a run the others mean nothing
-no_run : (shown : List Family → Report → List ℕ) (s : Status) (bytes text : List ℕ) → IsRefused bytes s →
-    MeansRun shown s bytes text
-no_run shown s bytes text (refused_so e none) = subst (λ r. MeansRun shown r bytes text) (sym e) none
-no_run shown s bytes text (undecided_so e) = subst (λ r. MeansRun shown r bytes text) (sym e) tt
-no_run shown s bytes text (limited_so e) = subst (λ r. MeansRun shown r bytes text) (sym e) tt
-no_run shown s bytes text (memory_so e) = subst (λ r. MeansRun shown r bytes text) (sym e) tt
+no_run : (shown : List Family → Report → List ℕ) (events : Bool) (s : Status) (bytes text : List ℕ) → IsRefused bytes s →
+    MeansRun shown events s bytes text
+no_run shown events s bytes text (refused_so e none) = subst (λ r. MeansRun shown events r bytes text) (sym e) none
+no_run shown events s bytes text (undecided_so e) = subst (λ r. MeansRun shown events r bytes text) (sym e) tt
+no_run shown events s bytes text (limited_so e) = subst (λ r. MeansRun shown events r bytes text) (sym e) tt
+no_run shown events s bytes text (memory_so e) = subst (λ r. MeansRun shown events r bytes text) (sym e) tt
 
 module _ (law : (m : Module) (budget : ℕ) (ds : List Deriv) → IsAccepted m budget ds → HasDerivations m ds)
     (refusal : RefusedHasNone) (resolving : OneModuleLaw) (lexing : OneLexing) (modules : OneModule)
@@ -231,42 +231,54 @@ module _ (law : (m : Module) (budget : ℕ) (ds : List Deriv) → IsAccepted m b
     }
   ]
 
-  module _ (sound : ReportsAreSound) where
+  module _ (sound : AnswersAreSound) where
     module _ (shown : List Family → Report → List ℕ) where
       -- what the outcome of a run means, with reports written like this
-      outcome_means : (workers steps budget : ℕ) (bytes text : List ℕ) (s : Status) (m : Module) (ds : List Deriv) →
+      outcome_means : (events : Bool) (steps budget : ℕ) (bytes text : List ℕ) (s : Status) (m : Module) (ds : List Deriv) →
           AreResolved bytes m → IsAccepted m budget ds →
-          SaysOutcome shown workers steps m text s → MeansRun shown s bytes text
-      outcome_means workers steps budget bytes text s m ds is a o =
-          by o.outcome (outcome_sound sound m (safety m ds (law m budget ds a)) workers steps o.outcome o.is) o.written o.ended
+          SaysOutcome shown events steps m text s → MeansRun shown events s bytes text
+      outcome_means events steps budget bytes text s m ds is a o =
+          by o.outcome o.is.behind
+          (outcome_sound sound m (safety m ds (law m budget ds a)) events steps o.outcome o.lines o.is) o.written o.ended
         where
-          report_means : (r : Report) → IsSound m r → text ≡ shown m.families.items r → MeansReport shown bytes text
-          report_means r h w = record { accepted = means_accepted budget bytes m ds is a; report = r; written = w; sound = h }
+          report_means : (r : Report) → IsSound m r → AreLines events m o.is.main (Done r) o.lines →
+              text ≡ shown m.families.items r ++ o.lines → MeansReport shown events bytes text
+          report_means r h l w = record {
+            accepted = means_accepted budget bytes m ds is a;
+            report = r;
+            lines = o.lines;
+            written = w;
+            sound = h;
+            main = o.is.main;
+            body = o.is.body;
+            behind = l;
+          }
 
-          by_tasks : (ws : List Waiting) → MeansReport shown bytes text → MeansRun shown (waiting_status ws) bytes text
+          by_tasks : (ws : List Waiting) → MeansReport shown events bytes text →
+              MeansRun shown events (waiting_status ws) bytes text
           by_tasks [] h = h
           by_tasks (w ∷ ws) h = h
 
-          by : (c : Outcome) → IsSoundOutcome m c → text ≡ outcome_text shown m.families.items c → s ≡ outcome_status c →
-              MeansRun shown s bytes text
-          by (Done r) h w e = subst (λ z. MeansRun shown z bytes text) (sym e)
-              (by_tasks r.waiting.items (report_means r (h r refl) w))
-          by OutOfSteps h w e = subst (λ z. MeansRun shown z bytes text) (sym e) (means_accepted budget bytes m ds is a)
+          by : (c : Outcome) → AreLines events m o.is.main c o.lines → IsSoundOutcome m c →
+              text ≡ outcome_text shown m.families.items c ++ o.lines → s ≡ outcome_status c → MeansRun shown events s bytes text
+          by (Done r) l h w e = subst (λ z. MeansRun shown events z bytes text) (sym e)
+              (by_tasks r.waiting.items (report_means r (h r refl) l w))
+          by OutOfSteps l h w e = subst (λ z. MeansRun shown events z bytes text) (sym e) (means_accepted budget bytes m ds is a)
 
       -- what is written of the run of a module
-      source_means : (workers steps budget : ℕ) (bytes text : List ℕ) (s : Status) →
-          WritesOf AreUnresolved (FindsModule (SaysOutcome shown workers steps) budget) bytes text s →
-          MeansRun shown s bytes text
-      source_means workers steps budget bytes text s w =
-          elim (made_or_refused (SaysOutcome shown workers steps) budget bytes text s w) [
-            | inl m ↦ outcome_means workers steps budget bytes text s m.resolved m.derivations m.is_resolved m.is_accepted m.made
-            | inr r ↦ no_run shown s bytes text r
+      source_means : (events : Bool) (steps budget : ℕ) (bytes text : List ℕ) (s : Status) →
+          WritesOf AreUnresolved (FindsModule (SaysOutcome shown events steps) budget) bytes text s →
+          MeansRun shown events s bytes text
+      source_means events steps budget bytes text s w =
+          elim (made_or_refused (SaysOutcome shown events steps) budget bytes text s w) [
+            | inl m ↦ outcome_means events steps budget bytes text s m.resolved m.derivations m.is_resolved m.is_accepted m.made
+            | inr r ↦ no_run shown events s bytes text r
           ]
 
     pub meanings : Meanings
     meanings (equiv budget) bytes text s w = equiv_means budget bytes text s w
     meanings show bytes text s w = tt
     meanings (check budget) bytes text s w = check_means budget bytes text s w
-    meanings (run steps workers budget) bytes text s w = source_means report_text workers steps budget bytes text s w
+    meanings (run steps workers budget events) bytes text s w = source_means report_text events steps budget bytes text s w
     meanings (make n) bytes text s w = source_means
-        (made_summary n) setting.workers.default setting.steps.default setting.budget.default (made_text n) text s w
+        (made_summary n) false setting.steps.default setting.budget.default (made_text n) text s w

@@ -72,8 +72,8 @@ module _ (lexing : OneLexing) (modules : OneModule) (one : OneModuleLaw) (comple
   pub are_complete : AreComplete
   are_complete = record {
     check = λ budget bytes text s w l. (makes_within SaysAccepted budget bytes text s w l).1;
-    run = λ steps workers budget bytes text s w l.
-        let m = makes_within (SaysOutcome report_text workers steps) budget bytes text s w l in
+    run = λ steps workers budget events bytes text s w l.
+        let m = makes_within (SaysOutcome report_text events steps) budget bytes text s w l in
         record {
           resolved = m.0.resolved;
           is_resolved = m.0.is_resolved;
@@ -90,7 +90,8 @@ pub is_complete : AreComplete → (words : List (List ℕ)) (old new : Option (L
 is_complete law words old new text s a = record {
   check = λ budget it w. (law.check budget a.bytes text s (written_for words a.bytes text s (check budget) it a.output)
       (read_within budget old new a.bytes w (a.read (check budget) it))).1;
-  run = λ steps workers budget it w.
-      (law.run steps workers budget a.bytes text s (written_for words a.bytes text s (run steps workers budget) it a.output)
-      (read_within budget old new a.bytes w (a.read (run steps workers budget) it))).begun;
+  run = λ steps workers budget events it w.
+      (law.run steps workers budget events a.bytes text s
+      (written_for words a.bytes text s (run steps workers budget events) it a.output)
+      (read_within budget old new a.bytes w (a.read (run steps workers budget events) it))).begun;
 }

@@ -1,5 +1,5 @@
 -- What `make` writes.
-use Rattle.std.proofs.Common.{◌≡◌, ℕ, ◌≤◌, List, [], length, Result, Ok, Err, ap, subst, arith}
+use Rattle.std.proofs.Common.{◌≡◌, ℕ, ◌≤◌, false, List, [], length, Result, Ok, Err, ap, subst, arith}
 use Rattle.std.specs.Prelude.{IfOk}
 use Rattle.std.specs.declared.alloc.AllocError.{AllocError}
 use Rattle.fst_base.specs.Limits.{most_bytes, most_made}
@@ -20,7 +20,7 @@ bytes_short n bytes few is = omega (arith, ap length is, made_short n few)
 -- what is written of these bytes, with a summary that has their number
 abbrev WritesSummary : List ℕ → List ℕ → Status → Type 0
 WritesSummary bytes text s = WritesOf AreUnresolved
-    (FindsModule (SaysOutcome (shown_as (form.Summary (length bytes))) setting.workers.default setting.steps.default)
+    (FindsModule (SaysOutcome (shown_as (form.Summary (length bytes))) false setting.steps.default)
     setting.budget.default) bytes text s
 
 -- what is written of a made module

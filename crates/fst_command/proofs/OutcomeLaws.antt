@@ -1,31 +1,34 @@
 -- What `run` and `make` write of a module that is accepted.
-use Rattle.std.proofs.Common.{◌≡◌, inl, inr, ℕ, ◌<◌, List, [], ◌∷◌, Some, Result, length, get_or, Bool, true, false, refl, subst, arith}
+use Rattle.std.proofs.Common.{◌≡◌, ℕ, List, [], ◌∷◌, Some, Result, length, get_or, Bool, true, false, refl, sym, subst, arith}
 use Rattle.std.specs.Prelude.{◌==◌, IfOk}
 use Rattle.std.specs.declared.alloc.AllocError.{AllocError}
 use Rattle.std.proofs.lemmas.Result.{IfOk-weaker}
 use Rattle.std.proofs.lemmas.Bool.Decides.{nat_tests}
 use Rattle.std.proofs.lemmas.List.Elements.{All-contains_itself}
-use Rattle.fst_terms.specs.CoreTree.{CoreTree}
 use Rattle.fst_terms.specs.declared.core_module.Module.{Module}
 use Rattle.fst_machine.specs.declared.code.Code.{Code}
-use Rattle.fst_runs.specs.Configs.{main_body}
+use Rattle.fst_runs.specs.declared.event.Stamped.{Stamped}
+use Rattle.fst_runs.specs.Configs.{main_body, program}
 use Rattle.fst_process.specs.declared.report.Outcome.{Outcome}
-use Rattle.fst_process.specs.declared.report.Outcome.TheVariants.{Done}
+use Rattle.fst_process.specs.declared.marks.TaskMarks.{TaskMarks}
+use Rattle.fst_process.specs.declared.report.Outcome.TheVariants.{Done, OutOfSteps}
 use Rattle.fst_process.specs.declared.report.Report.{Report}
 use Rattle.fst_process.specs.declared.report.Waiting.{Waiting}
 use Rattle.fst_process.specs.Reports.{IsAnswer}
 use Rattle.fst_safety.specs.Safety.{IsSafe}
-use Rattle.fst_safety.specs.Tasks.{main_thread}
-use Rattle.fst_safety.specs.Turns.{birth}
-use Rattle.fst_worker.specs.Configs.{config_of}
-use Rattle.fst_worker.specs.Events.{IsRecordAnswer, events_of}
-use Rattle.fst_worker.specs.Working.{IsWorkedOut}
-use Rattle.fst_execution.specs.Execution.{IsExecuted, IsPrepared, IsSound, ReportsAreSound, SafeIsSound}
+use Rattle.fst_records.specs.Records.{config_of}
+use Rattle.fst_worker.specs.declared.workers.Logged.{Logged}
+use Rattle.fst_worker.specs.declared.workers.Logged.TheVariants as logged
+use Rattle.fst_worker.specs.Working.{IsLoggedOut, IsMarkedRecord, IsWorkedOut}
+use Rattle.fst_merge.specs.LeastEvents.{AreEventsOf, SortedLaw}
+use Rattle.fst_merge.specs.Merging.{AreOfRecord, AreMerged}
+use Rattle.fst_execution.specs.Execution.{IsDerived, IsExecuted, IsPrepared, IsSound, AnswersAreSound}
 use Rattle.fst_report.specs.DeclaredTypes.{AreScoped, AreNamedWithin}
 use Rattle.fst_report.proofs.Laws.{of_sessions}
 use Rattle.fst_command.specs.declared.status.Status.TheVariants as status
 use Rattle.fst_command.specs.Meanings.{IsSoundOutcome}
-use Rattle.fst_command.specs.Output.{ComesTo, IsOutcomeOf, waiting_status}
+use Rattle.fst_command.specs.Output.{IsOutcomeOf, waiting_status}
+use Rattle.fst_command.specs.Views.{HasLines}
 
 -- no task waits
 pub none_waits : (ws : List Waiting) (b : Bool) → b ≡ (length ws == 0) → b ≡ true → status.Done ≡ waiting_status ws
@@ -46,37 +49,70 @@ can_be_written m n r sound =
 
 -- ---- what a run comes to
 
--- on one worker
-pub least_outcome : (workers steps : ℕ) (m : Module) (o : Outcome) → workers ≡ 1 → IsExecuted m steps o →
-    IsOutcomeOf workers steps m o
-least_outcome workers steps m o one x = record { main = x.main; body = x.body; comes = inl (one, x.answer) }
+-- on one worker, without its events
+pub least_outcome : (steps : ℕ) (m : Module) (o : Outcome) → IsExecuted m steps o → IsOutcomeOf false steps m o []
+least_outcome steps m o x = record { main = x.main; body = x.body; answer = x.answer; behind = refl }
 
-module _ (workers steps : ℕ) (m : Module) (k : Code) (ready : IsPrepared m k) (more : 1 < workers) where
+module _ (steps : ℕ) (m : Module) (k : Code) (ready : IsPrepared m k) where
+  -- main's body
+  body : main_body m.globals.items ≡ Some ready.begins.main
+  body = subst (λ (n : Module). main_body n.globals.items ≡ Some ready.begins.main) ready.is_of ready.begins.body
+
   -- on several
-  worked : (o : Outcome) → IsWorkedOut k steps o → IsOutcomeOf workers steps m o
+  worked : (o : Outcome) → IsWorkedOut k steps o → IsOutcomeOf false steps m o []
   worked o w = record {
     main = ready.begins.main;
-    body = subst (λ (n : Module). main_body n.globals.items ≡ Some ready.begins.main) ready.is_of ready.begins.body;
-    comes = inr (
-      more,
-      subst (λ n. IsRecordAnswer n (birth (main_thread ready.begins.main)) steps o) ready.is_of
-          (w ready.begins),
-    );
+    body = body;
+    answer = subst (λ n. IsAnswer n ready.begins.main steps o) ready.is_of (w ready.begins);
+    behind = refl;
   }
 
-  pub record_outcome : (r : Result Outcome AllocError) → IfOk r (IsWorkedOut k steps) → IfOk r (IsOutcomeOf workers steps m)
-  record_outcome r h = IfOk-weaker r (IsWorkedOut k steps) (IsOutcomeOf workers steps m) worked h
+  pub worked_outcome : (r : Result Outcome AllocError) → IfOk r (IsWorkedOut k steps) →
+      IfOk r (λ o. IsOutcomeOf false steps m o [])
+  worked_outcome r h = IfOk-weaker r (IsWorkedOut k steps) (λ o. IsOutcomeOf false steps m o []) worked h
 
--- the report of a record is sound
-pub record_sound : SafeIsSound → (m : Module) (main : CoreTree) (steps : ℕ) (r : Report) →
-    IsRecordAnswer m (birth (main_thread main)) steps (Done r) → IsSound m r
-record_sound law m main steps r (ys, ks, fits, safe, last, few, is) = law m (config_of ys ks) safe (events_of ys ks) r is
+  module _ (sorted : SortedLaw) (d : IsDerived m) where
+    -- the events of a record that allows no other are those of the module
+    record_events : (r : Report) (ts : List TaskMarks) (es : List Stamped) → IsAnswer m ready.begins.main steps (Done r) →
+        (b : IsMarkedRecord m ready.begins.main steps r ts) → ((a : AreOfRecord ts) → AreMerged ts a es) →
+        AreEventsOf m ready.begins.main es
+    record_events r ts es (fs, c, least, last, few, is) b merged =
+        let a : AreOfRecord ts = record {
+          program = program m;
+          types = m.types.items;
+          main = ready.begins.main;
+          tasks = b.tasks;
+          channels = b.channels;
+          fits = b.fits;
+          marks = b.marks;
+        } in
+        let g = merged a in
+        sorted m d.derivations d.derived ready.begins.main body es (config_of b.tasks b.channels) g.run b.last g.sorted fs c
+        least last
 
--- so is that of each outcome of a safe module
-pub outcome_sound : ReportsAreSound → (m : Module) → IsSafe m →
-    (workers steps : ℕ) (o : Outcome) → IsOutcomeOf workers steps m o → IsSoundOutcome m o
-outcome_sound law m safe workers steps o h r is = by h.comes
-  where
-    by : ComesTo workers steps m h.main o → IsSound m r
-    by (inl p) = law.answers m safe h.main h.body steps r (subst (IsAnswer m h.main steps) is p.1)
-    by (inr p) = record_sound law.safe m h.main steps r (subst (IsRecordAnswer m (birth (main_thread h.main)) steps) is p.1)
+    -- with its events
+    pub logged_outcome : (l : Logged) (o : Outcome) (lines : List ℕ) → IsLoggedOut k steps l → HasLines l o lines →
+        IsOutcomeOf true steps m o lines
+    logged_outcome (logged.Done r ts) o lines h (is, es, merged, written) =
+        let b = h ready.begins in
+        let answer = subst (λ n. IsAnswer n ready.begins.main steps (Done r)) ready.is_of b.0 in
+        let marked = subst (λ n. IsMarkedRecord n ready.begins.main steps r ts.items) ready.is_of b.1 in
+        subst (λ q. IsOutcomeOf true steps m q lines) (sym is) (record {
+          main = ready.begins.main;
+          body = body;
+          answer = answer;
+          behind = (es, record_events r ts.items es answer marked merged, written);
+        })
+    logged_outcome logged.OutOfSteps o lines h (is, written) =
+        subst (λ q. IsOutcomeOf true steps m q lines) (sym is) (record {
+          main = ready.begins.main;
+          body = body;
+          answer = subst (λ n. IsAnswer n ready.begins.main steps OutOfSteps) ready.is_of (h ready.begins).0;
+          behind = written;
+        })
+
+-- the report of an outcome of a safe module is sound
+pub outcome_sound : AnswersAreSound → (m : Module) → IsSafe m →
+    (events : Bool) (steps : ℕ) (o : Outcome) (lines : List ℕ) → IsOutcomeOf events steps m o lines → IsSoundOutcome m o
+outcome_sound law m safe events steps o lines h r is =
+    law m safe h.main h.body steps r (subst (IsAnswer m h.main steps) is h.answer)

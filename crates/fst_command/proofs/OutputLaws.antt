@@ -1,5 +1,5 @@
 -- What is written is an output, and there is at most one.
-use Rattle.std.proofs.Common.{◌≡◌, ◌∙◌, ◌⊎◌, inl, inr, ℕ, ◌≤◌, ◌<◌, List, [], length, Result, Ok, Err, refl, sym, ap, subst, arith}
+use Rattle.std.proofs.Common.{◌≡◌, ◌∙◌, ◌⊎◌, inl, inr, ℕ, ◌≤◌, Bool, false, List, [], length, Result, Ok, Err, refl, sym, ap, subst, arith}
 use Rattle.std.specs.Prelude.{IfOk}
 use Rattle.std.specs.declared.alloc.AllocError.{AllocError}
 use Rattle.std.proofs.lemmas.List.{append-nil}
@@ -25,6 +25,7 @@ use Rattle.fst_derivations.specs.Deriv.{Deriv}
 use Rattle.fst_derivations.specs.Modules.{HasDerivations}
 use Rattle.fst_typing.specs.Checked.{IsAccepted}
 use Rattle.fst_safety.specs.Diamond.{OneEnd}
+use Rattle.fst_merge.specs.LeastEvents.{OneListLaw}
 use Rattle.fst_process.specs.declared.report.Report.{Report}
 use Rattle.fst_make.specs.Made.{made_text}
 use Rattle.fst_type_print.specs.Texts.{family_names}
@@ -159,39 +160,36 @@ module _ (answers : OneAnswer) (lexing : OneLexing) (readings : OneReading) (mod
         (one_found IsMade budget bytes made)
 
     module _ (law : (m : Module) (budget : ℕ) (ds : List Deriv) → IsAccepted m budget ds → HasDerivations m ds)
-        (ends : OneEnd) where
-      one_run : (shown : List Family → Report → List ℕ) → IsWritten shown → (workers steps budget : ℕ) (bytes : List ℕ) →
-          (1 < workers → ⊥) →
-          IsOne (WritesOf AreUnresolved (FindsModule (SaysOutcome shown workers steps) budget) bytes)
-      one_run shown written workers steps budget bytes few =
-          one_source (SaysOutcome shown workers steps) budget bytes
-          (λ m n ds parts a t u s r o q. one_outcome ends shown written workers steps few m n ds parts
+        (ends : OneEnd) (lists : OneListLaw) where
+      one_run : (shown : List Family → Report → List ℕ) → IsWritten shown → (events : Bool) (steps budget : ℕ) (bytes : List ℕ) →
+          IsOne (WritesOf AreUnresolved (FindsModule (SaysOutcome shown events steps) budget) bytes)
+      one_run shown written events steps budget bytes =
+          one_source (SaysOutcome shown events steps) budget bytes
+          (λ m n ds parts a t u s r o q. one_outcome ends lists shown written events steps m n ds parts
           (law m budget ds a) t u s r o q)
 
-      -- of one command one thing is written, but for a run on several workers
-      one_text : (c : Command) (bytes : List ℕ) → ((k w n : ℕ) → c ≡ run k w n → 1 < w → ⊥) → IsOne (Writes c bytes)
-      one_text (equiv budget) bytes few =
+      -- of one command one thing is written
+      one_text : (c : Command) (bytes : List ℕ) → IsOne (Writes c bytes)
+      one_text (equiv budget) bytes =
           one_written IsNoQuestion (AnswersQuestion budget) bytes (one_no_question lexing readings bytes)
           (λ f t s none m. question_or_not lexing readings bytes m.asked f m.is_asked none) (one_question budget bytes)
-      one_text show bytes few =
+      one_text show bytes =
           one_written IsNoModule ShowsModule bytes (one_unread ReadsModule lexing modules.one_answer bytes)
           (λ f t s none m. read_once ReadsModule lexing modules.one_answer bytes m.declared f m.read none) (one_module bytes)
-      one_text (check budget) bytes few = one_source SaysAccepted budget bytes
+      one_text (check budget) bytes = one_source SaysAccepted budget bytes
           (λ m n ds parts a t u s r h k. (h.0 ∙ sym k.0, h.1 ∙ sym k.1))
-      one_text (run steps workers budget) bytes few =
-          one_run report_text report_written workers steps budget bytes (few steps workers budget refl)
-      one_text (make n) bytes few =
-          one_run (made_summary n) (summary_written (length (made_text n))) setting.workers.default setting.steps.default
-          setting.budget.default (made_text n) (λ l. absurd (omega (arith, l)))
+      one_text (run steps workers budget events) bytes = one_run report_text report_written events steps budget bytes
+      one_text (make n) bytes =
+          one_run (made_summary n) (summary_written (length (made_text n))) false setting.steps.default
+          setting.budget.default (made_text n)
 
       pub one_output : OneOutput
-      one_output words bytes text other s r few (usage n none w e) (usage m none' x d) = (w ∙ sym x, e ∙ sym d)
-      one_output words bytes text other s r few (usage n none w e) (command c is w') = absurd (n c is)
-      one_output words bytes text other s r few (command c is w) (usage n none x d) = absurd (n c is)
-      one_output words bytes text other s r few (command c is w) (command d it v) =
+      one_output words bytes text other s r (usage n none w e) (usage m none' x d) = (w ∙ sym x, e ∙ sym d)
+      one_output words bytes text other s r (usage n none w e) (command c is w') = absurd (n c is)
+      one_output words bytes text other s r (command c is w) (usage n none x d) = absurd (n c is)
+      one_output words bytes text other s r (command c is w) (command d it v) =
           let one = one_command words c d is it in
-          one_text d bytes (λ k w n e. few k w n (subst (IsCommand words) e it)) text other s r
-          (subst (λ z. Writes z bytes text s) one w) v
+          one_text d bytes text other s r (subst (λ z. Writes z bytes text s) one w) v
 
 -- ---- shown again
 

@@ -19,7 +19,7 @@ pub reads_for : (c : Command) (old new : Option (List ℕ)) (bytes : List ℕ) �
 reads_for (equiv budget) old new bytes is r = r
 reads_for show old new bytes is r = r
 reads_for (check budget) old new bytes is r = r
-reads_for (run steps workers budget) old new bytes is r = r
+reads_for (run steps workers budget events) old new bytes is r = r
 reads_for (make n) old new bytes is r = absurd (cc is)
 
 -- and so where it was read
@@ -35,7 +35,7 @@ pub reads_none : (c : Command) (old : Option (List ℕ)) (bytes : List ℕ) → 
 reads_none (equiv budget) old bytes not is = absurd (cc not)
 reads_none show old bytes not is = absurd (cc not)
 reads_none (check budget) old bytes not is = absurd (cc not)
-reads_none (run steps workers budget) old bytes not is = absurd (cc not)
+reads_none (run steps workers budget events) old bytes not is = absurd (cc not)
 reads_none (make n) old bytes not is = record { none = is; same = refl }
 
 -- what was read for a command has its output, which means what it says
@@ -54,7 +54,7 @@ too_long_written : (c : Command) (bytes text : List ℕ) (s : Status) → IsTrue
 too_long_written (equiv budget) bytes text s is long w e = too_long long w e
 too_long_written show bytes text s is long w e = too_long long w e
 too_long_written (check budget) bytes text s is long w e = too_long long w e
-too_long_written (run steps workers budget) bytes text s is long w e = too_long long w e
+too_long_written (run steps workers budget events) bytes text s is long w e = too_long long w e
 too_long_written (make n) bytes text s is long w e = absurd (cc is)
 
 pub read_over : Meanings → (s : Status) (words : List (List ℕ)) (c : Command) (old new : Option (List ℕ)) (text : List ℕ) →

@@ -24,9 +24,11 @@ use Rattle.fst_runs.specs.Configs.{Path, Config, Task, Channel}
 use Rattle.fst_runs.specs.Least.{IsBefore}
 use Rattle.fst_process.specs.declared.report.Report.{Report}
 use Rattle.fst_process.specs.declared.report.Waiting.{Waiting}
-use Rattle.fst_process.specs.Reports.{IsAlike, AreAlike, IsMainResult, AreRising, ComesBefore, IsReport}
+use Rattle.fst_process.specs.Reports.{IsAlike, AreAlike, IsMainResult, ComesBefore, IsReport}
+use Rattle.fst_runs.specs.Order.{AreRising}
 use Rattle.fst_type_print.specs.Texts.{type_text, family_names}
-use Rattle.fst_report.specs.ReportTexts.{channel_text, entries_text, waiting_text, history_text, result_text, report_text}
+use Rattle.fst_type_print.specs.NameTexts.{channel_text}
+use Rattle.fst_report.specs.ReportTexts.{entries_text, waiting_text, history_text, result_text, report_text}
 use Rattle.fst_report.specs.SummaryTexts.{count_line, summary_text}
 use Rattle.fst_names.specs.Modules.{family_parts}
 use Rattle.fst_command.proofs.SameParts.{same_map, same_names}

@@ -1,5 +1,5 @@
 -- Runs of two programs that have the same bodies, and whose tasks stand still at the same places.
-use Rattle.std.proofs.Common.{◌≡◌, ◌∙◌, inl, inr, ℕ, List, [], ◌∷◌, length, Some, None, sym, ap, subst}
+use Rattle.std.proofs.Common.{◌≡◌, ◌∙◌, inl, inr, ℕ, Bool, true, false, List, [], ◌∷◌, length, Some, None, sym, ap, subst}
 use Rattle.fst_types.specs.Tree.{Tree}
 use Rattle.fst_terms.specs.CoreTree.{CoreTree}
 use Rattle.fst_terms.specs.declared.core_module.Module.{Module}
@@ -11,11 +11,15 @@ use Rattle.fst_runs.specs.declared.event.CoreEvent.TheVariants.{Local, New, Fork
 use Rattle.fst_runs.specs.Configs.{Config, program, started}
 use Rattle.fst_runs.specs.Events.{Write, Does, IsLast, written}
 use Rattle.fst_runs.specs.Least.{IsLeast, RunsLeast, WaitsAt}
+use Rattle.fst_runs.specs.declared.event.Stamped.{Stamped}
+use Rattle.fst_runs.specs.StampedRuns.{RunsAt, events_in}
 use Rattle.fst_process.specs.declared.report.Outcome.{Outcome}
 use Rattle.fst_process.specs.declared.report.Outcome.TheVariants.{Done, OutOfSteps}
 use Rattle.fst_process.specs.declared.report.Report.{Report}
 use Rattle.fst_process.specs.Reports.{IsMainResult, IsReport, IsAnswer}
 use Rattle.fst_names.specs.ResolvedModule.{AreSame}
+use Rattle.fst_merge.specs.LeastEvents.{AreEventsOf}
+use Rattle.fst_command.specs.Output.{AreLines}
 use Rattle.fst_command.proofs.SameMachines.{pause_same, after_same}
 use Rattle.fst_command.proofs.SameParts.{same_bodies, same_names}
 
@@ -143,3 +147,34 @@ answer_same m n s e steps OutOfSteps (es, c, h, many) =
           (runs_same (program m) (program n) x m.types.items (started e) es c h),
       many,
     )
+
+-- ---- events with their stamps
+
+module _ (m n : Program) (x : RunAlike m n) (types : List Tree) where
+  at_same : (c : Config) (es : List Stamped) (d : Config) → RunsAt m types c es d → RunsAt n types c es d
+  at_same c [] d r = r
+  at_same c (e ∷ es) d r = (r.0, does_same m n x types c e.event r.0 r.1, r.2, at_same (written c r.0) es d r.3)
+
+-- modules that have the same parts have the same events
+events_same : (m n : Module) → AreSame m n → (e : CoreTree) (es : List Stamped) → AreEventsOf m e es → AreEventsOf n e es
+events_same m n s e es a =
+    let x = run_alike m n s in
+    record {
+      run = a.run;
+      config = a.config;
+      at = subst (λ z. RunsAt (program n) z (started e) a.run a.config) s.types
+          (at_same (program m) (program n) x m.types.items (started e) a.run a.config a.at);
+      least = subst (λ z. RunsLeast (program n) z (started e) (events_in a.run) a.config) s.types
+          (runs_same (program m) (program n) x m.types.items (started e) (events_in a.run) a.config a.least);
+      last = subst (λ z. IsLast (program n) z a.config) s.types
+          (last_same (program m) (program n) x m.types.items a.config a.last);
+      arranged = a.arranged;
+      sorted = a.sorted;
+    }
+
+-- so the lines behind a report are those of both
+pub lines_same : (m n : Module) → AreSame m n → (events : Bool) (e : CoreTree) (o : Outcome) (lines : List ℕ) →
+    AreLines events m e o lines → AreLines events n e o lines
+lines_same m n s false e o lines l = l
+lines_same m n s true e (Done r) lines l = (l.0, events_same m n s e l.0 l.1, l.2)
+lines_same m n s true e OutOfSteps lines l = l

@@ -1,5 +1,5 @@
 -- When a module is accepted: the limits of a check.
-use Rattle.std.specs.Prelude.{◌≡◌, ◌≤◌, ℕ, List, length, Option, Some, None, ⊤}
+use Rattle.std.specs.Prelude.{◌≡◌, ◌≤◌, ℕ, Bool, List, length, Option, Some, None, ⊤}
 use Rattle.fst_base.specs.Limits.{most_bytes}
 use Rattle.fst_terms.specs.declared.core_module.Module.{Module}
 use Rattle.fst_derivations.specs.Deriv.{Deriv}
@@ -42,20 +42,22 @@ HasBegun status.Memory = ⊥
 pub record IsComplete (words : List (List ℕ)) (old : Option (List ℕ)) (s : Status) : Type 0 where
   pub check : (budget : ℕ) → IsCommand words (check budget) → IsInputWithin budget old →
       s ≡ status.Done
-  pub run : (steps workers budget : ℕ) → IsCommand words (run steps workers budget) →
+  pub run : (steps workers budget : ℕ) (events : Bool) →
+      IsCommand words (run steps workers budget events) →
       IsInputWithin budget old → HasBegun s
 
--- the text and the status are what so many steps of the module come to on so many workers, and say that they were begun
-pub record HasRunModule (workers steps : ℕ) (bytes text : List ℕ) (s : Status) : Type 0 where
+-- the text and the status are what so many steps of the module come to, and say that they were begun
+pub record HasRunModule (events : Bool) (steps : ℕ) (bytes text : List ℕ)
+    (s : Status) : Type 0 where
   pub resolved : Module
   pub is_resolved : AreResolved bytes resolved
-  pub says : SaysOutcome report_text workers steps resolved text s
+  pub says : SaysOutcome report_text events steps resolved text s
   pub begun : HasBegun s
 
 -- of bytes that are within the limits `check` says that the module is accepted, and `run` what its steps come to
 pub record AreComplete : Type 0 where
   pub check : (budget : ℕ) (bytes text : List ℕ) (s : Status) → Writes (check budget) bytes text s →
       IsWithinLimits budget bytes → (text ≡ accepted_text) × (s ≡ status.Done)
-  pub run : (steps workers budget : ℕ) (bytes text : List ℕ) (s : Status) →
-      Writes (run steps workers budget) bytes text s → IsWithinLimits budget bytes →
-      HasRunModule workers steps bytes text s
+  pub run : (steps workers budget : ℕ) (events : Bool) (bytes text : List ℕ) (s : Status) →
+      Writes (run steps workers budget events) bytes text s → IsWithinLimits budget bytes →
+      HasRunModule events steps bytes text s

@@ -1,6 +1,6 @@
 -- What the texts of `equiv` say of the two types that an input asks about, over the variables of the question, and what those
 -- of `check`, `run` and `make` say of a module.
-use Rattle.std.specs.Prelude.{◌≡◌, ◌↔◌, ℕ, List, ◌++◌, length, codes, Bool, ⊤}
+use Rattle.std.specs.Prelude.{◌≡◌, ◌↔◌, ℕ, List, ◌++◌, length, codes, Bool, false, Some, ⊤}
 use Rattle.fst_base.specs.Agreement.{Performs, Agree}
 use Rattle.fst_base.specs.Order.{IsBefore}
 use Rattle.fst_types.specs.Order.{label_cmp}
@@ -14,6 +14,7 @@ use Rattle.fst_norms.specs.Pruned.{pruned_word}
 use Rattle.fst_expand.specs.Good.{IsGood}
 use Rattle.fst_breadth.specs.Reached.{AreFirst, IsBeyond, AreAlike, ReachedPair}
 use Rattle.fst_equiv.specs.Problem.{IsProblem}
+use Rattle.fst_terms.specs.CoreTree.{CoreTree}
 use Rattle.fst_terms.specs.ModuleTree.{Declared}
 use Rattle.fst_terms.specs.declared.core_module.Module.{Module}
 use Rattle.fst_module_grammar.specs.Derives.{AnswersModule}
@@ -21,6 +22,7 @@ use Rattle.fst_names.specs.declared.question.Question.{Question}
 use Rattle.fst_names.specs.ResolvedModule.{IsResolvedModule}
 use Rattle.fst_derivations.specs.Deriv.{Deriv}
 use Rattle.fst_derivations.specs.Modules.{HasDerivations}
+use Rattle.fst_runs.specs.Configs.{main_body}
 use Rattle.fst_safety.specs.Safety.{IsSafe}
 use Rattle.fst_process.specs.declared.report.Outcome.{Outcome}
 use Rattle.fst_process.specs.declared.report.Outcome.TheVariants.{Done}
@@ -32,7 +34,7 @@ use Rattle.fst_command.specs.declared.status.Status.TheVariants as status
 use Rattle.fst_make.specs.Made.{made_text}
 use Rattle.fst_options.specs.Words.{Command, equiv, show, check, run, make}
 use Rattle.fst_command.specs.Finding.{IsRead, AreAsked, AreResolved}
-use Rattle.fst_command.specs.Output.{Writes, made_summary}
+use Rattle.fst_command.specs.Output.{AreLines, Writes, made_summary}
 use Rattle.fst_command.specs.Texts.{yes_text, no_text, undecided_text}
 
 -- the two types agree at every depth
@@ -100,29 +102,34 @@ pub record MeansCheck (bytes : List ℕ) (s : Status) : Type 0 where
   pub refused : s ≡ status.Refused → MeansRefused bytes
 
 -- so are the bytes, and the text is that of a report, written like this, in which each history is a trace of its channel's declared
--- type, and the value of main is one of main's type
-pub record MeansReport (shown : List Family → Report → List ℕ) (bytes text : List ℕ) : Type 0 where
+-- type, and the value of main is one of main's type; behind it stand the lines of the module's events, where they are asked for
+pub record MeansReport (shown : List Family → Report → List ℕ) (events : Bool)
+    (bytes text : List ℕ) : Type 0 where
   pub accepted : MeansAccepted bytes
   pub report : Report
-  pub written : text ≡ shown accepted.resolved.families.items report
+  pub lines : List ℕ
+  pub written : text ≡ shown accepted.resolved.families.items report ++ lines
   pub sound : IsSound accepted.resolved report
+  pub main : CoreTree
+  pub body : main_body accepted.resolved.globals.items ≡ Some main
+  pub behind : AreLines events accepted.resolved main (Done report) lines
 
 -- the report of an outcome is sound, if there is one
 abbrev pub IsSoundOutcome : Module → Outcome → Type 0
 IsSoundOutcome m o = (r : Report) → o ≡ Done r → IsSound m r
 
 -- what it means that a text was written with this status of the run of a module, with reports written like this
-abbrev pub MeansRun : (List Family → Report → List ℕ) → Status → List ℕ → List ℕ → Type 0
-MeansRun shown status.Done bytes text = MeansReport shown bytes text
-MeansRun shown status.Refused bytes text = MeansRefused bytes
-MeansRun shown status.Words bytes text = ⊤
-MeansRun shown status.Waiting bytes text = MeansReport shown bytes text
-MeansRun shown status.OutOfSteps bytes text = MeansAccepted bytes
-MeansRun shown status.Undecided bytes text = ⊤
-MeansRun shown status.ReadFault bytes text = ⊤
-MeansRun shown status.WriteFault bytes text = ⊤
-MeansRun shown status.Limit bytes text = ⊤
-MeansRun shown status.Memory bytes text = ⊤
+abbrev pub MeansRun : (List Family → Report → List ℕ) → Bool → Status → List ℕ → List ℕ → Type 0
+MeansRun shown events status.Done bytes text = MeansReport shown events bytes text
+MeansRun shown events status.Refused bytes text = MeansRefused bytes
+MeansRun shown events status.Words bytes text = ⊤
+MeansRun shown events status.Waiting bytes text = MeansReport shown events bytes text
+MeansRun shown events status.OutOfSteps bytes text = MeansAccepted bytes
+MeansRun shown events status.Undecided bytes text = ⊤
+MeansRun shown events status.ReadFault bytes text = ⊤
+MeansRun shown events status.WriteFault bytes text = ⊤
+MeansRun shown events status.Limit bytes text = ⊤
+MeansRun shown events status.Memory bytes text = ⊤
 
 -- what it means that this text was written for a command, with this status, where these bytes were read: `make` reads none, and what
 -- it writes is about the module that it makes
@@ -130,8 +137,8 @@ abbrev pub Means : Command → List ℕ → List ℕ → Status → Type 0
 Means (equiv budget) bytes text s = MeansAnswer budget bytes text
 Means show bytes text s = ⊤
 Means (check budget) bytes text s = MeansCheck bytes s
-Means (run steps workers budget) bytes text s = MeansRun report_text s bytes text
-Means (make n) bytes text s = MeansRun (made_summary n) s (made_text n) text
+Means (run steps workers budget events) bytes text s = MeansRun report_text events s bytes text
+Means (make n) bytes text s = MeansRun (made_summary n) false s (made_text n) text
 
 -- whatever a command writes means that
 abbrev pub Meanings : Type 0

@@ -1,5 +1,5 @@
 -- Which text and which status belong to which words and which bytes: a command has its own case in `Writes`.
-use Rattle.std.specs.Prelude.{◌≡◌, ℕ, ◌+◌, ◌≤◌, ◌<◌, ◌⊎◌, List, [], ◌∷◌, length, Some}
+use Rattle.std.specs.Prelude.{◌≡◌, ℕ, ◌+◌, ◌≤◌, ◌<◌, ◌⊎◌, List, [], ◌∷◌, ◌++◌, Bool, true, false, length, Some}
 use Rattle.fst_base.specs.Limits.{most_bytes}
 use Rattle.fst_equiv.specs.Answers.{Answer, yes, no, undecided, too_large, Answers}
 use Rattle.fst_types.specs.declared.family.Family.{Family}
@@ -13,15 +13,15 @@ use Rattle.fst_print.specs.ModuleTexts.{module_text}
 use Rattle.fst_derivations.specs.Deriv.{Deriv}
 use Rattle.fst_typing.specs.Checked.{IsAccepted, IsRefusal}
 use Rattle.fst_premises.specs.declared.fault.CheckFault.{CheckFault}
+use Rattle.fst_runs.specs.declared.event.Stamped.{Stamped}
 use Rattle.fst_runs.specs.Configs.{main_body}
 use Rattle.fst_process.specs.declared.report.Outcome.{Outcome}
 use Rattle.fst_process.specs.declared.report.Outcome.TheVariants.{Done, OutOfSteps}
 use Rattle.fst_process.specs.declared.report.Report.{Report}
 use Rattle.fst_process.specs.declared.report.Waiting.{Waiting}
 use Rattle.fst_process.specs.Reports.{IsAnswer}
-use Rattle.fst_safety.specs.Tasks.{main_thread}
-use Rattle.fst_safety.specs.Turns.{birth}
-use Rattle.fst_worker.specs.Events.{IsRecordAnswer}
+use Rattle.fst_merge.specs.EventTexts.{events_text}
+use Rattle.fst_merge.specs.LeastEvents.{AreEventsOf}
 use Rattle.fst_report.specs.ReportTexts.{report_text}
 use Rattle.fst_report.specs.SummaryTexts.{summary_text}
 use Rattle.fst_command.specs.declared.status.Status.{Status}
@@ -127,24 +127,28 @@ abbrev pub outcome_status : Outcome → Status
 outcome_status (Done r) = waiting_status r.waiting.items
 outcome_status OutOfSteps = status.OutOfSteps
 
--- what so many steps of a module come to on so many workers, where this is the body of its main: on one it is what its least run comes
--- to, and on several what a record that fits does
-abbrev pub ComesTo : ℕ → ℕ → Module → CoreTree → Outcome → Type 0
-ComesTo workers steps m main o = ((workers ≡ 1) × IsAnswer m main steps o) ⊎
-    ((1 < workers) × IsRecordAnswer m (birth (main_thread main)) steps o)
+-- the lines behind a report: none, or where events are asked for one for each event of the module, where this is the body of its main
+abbrev pub AreLines : Bool → Module → CoreTree → Outcome → List ℕ → Type 0
+AreLines false m main o lines = lines ≡ []
+AreLines true m main (Done r) lines = (es : List Stamped) × AreEventsOf m main es ×
+    (lines ≡ events_text es)
+AreLines true m main OutOfSteps lines = lines ≡ []
 
--- this is what so many steps of the module come to on so many workers
-pub record IsOutcomeOf (workers steps : ℕ) (m : Module) (o : Outcome) : Type 0 where
+-- this is what so many steps of the module's least run come to, and these are the lines behind its report
+pub record IsOutcomeOf (events : Bool) (steps : ℕ) (m : Module) (o : Outcome)
+    (lines : List ℕ) : Type 0 where
   pub main : CoreTree
   pub body : main_body m.globals.items ≡ Some main
-  pub comes : ComesTo workers steps m main o
+  pub answer : IsAnswer m main steps o
+  pub behind : AreLines events m main o lines
 
 -- this text and status are what they come to, where this is how its report is written
-pub record SaysOutcome (shown : List Family → Report → List ℕ) (workers steps : ℕ) (m : Module)
-    (text : List ℕ) (s : Status) : Type 0 where
+pub record SaysOutcome (shown : List Family → Report → List ℕ) (events : Bool) (steps : ℕ)
+    (m : Module) (text : List ℕ) (s : Status) : Type 0 where
   pub outcome : Outcome
-  pub is : IsOutcomeOf workers steps m outcome
-  pub written : text ≡ outcome_text shown m.families.items outcome
+  pub lines : List ℕ
+  pub is : IsOutcomeOf events steps m outcome lines
+  pub written : text ≡ outcome_text shown m.families.items outcome ++ lines
   pub ended : s ≡ outcome_status outcome
 
 -- ---- all commands
@@ -163,12 +167,12 @@ pub data WritesOf (IsNone : List ℕ → Finding → Type 0) (Makes : List ℕ �
 abbrev pub made_summary : ℕ → List Family → Report → List ℕ
 made_summary n families r = summary_text (length (made_text n)) r
 
--- what `make` writes, whatever the input: what `run` writes of the made module, with the steps, the workers and the budget that it has
--- where no word sets them, but for the report
+-- what `make` writes, whatever the input: what `run` writes of the made module, with the steps and the budget that it has where no word
+-- sets them, but for the report
 abbrev pub WritesMade : ℕ → List ℕ → List ℕ → Status → Type 0
 WritesMade n bytes text s =
     WritesOf AreUnresolved (FindsModule
-    (SaysOutcome (made_summary n) setting.workers.default setting.steps.default)
+    (SaysOutcome (made_summary n) false setting.steps.default)
     setting.budget.default) (made_text n) text s
 
 -- what a command writes of an input
@@ -176,8 +180,8 @@ abbrev pub Writes : Command → List ℕ → List ℕ → Status → Type 0
 Writes (equiv budget) = WritesOf IsNoQuestion (AnswersQuestion budget)
 Writes show = WritesOf IsNoModule ShowsModule
 Writes (check budget) = WritesOf AreUnresolved (FindsModule SaysAccepted budget)
-Writes (run steps workers budget) =
-    WritesOf AreUnresolved (FindsModule (SaysOutcome report_text workers steps) budget)
+Writes (run steps workers budget events) =
+    WritesOf AreUnresolved (FindsModule (SaysOutcome report_text events steps) budget)
 Writes (make n) = WritesMade n
 
 -- what is written of words and bytes: the usage line where the words are no command's, with nothing read, and else what
@@ -189,11 +193,10 @@ pub data IsOutput (words : List (List ℕ)) (bytes text : List ℕ) (s : Status)
 
 -- ---- laws
 
--- words and bytes have at most one output; of words of `run` with several workers this isn't said
+-- words and bytes have at most one output
 abbrev pub OneOutput : Type 0
 OneOutput =
     (words : List (List ℕ)) (bytes text other : List ℕ) (s t : Status) →
-    ((steps workers budget : ℕ) → IsCommand words (run steps workers budget) → 1 < workers → ⊥) →
     IsOutput words bytes text s → IsOutput words bytes other t → (text ≡ other) × (s ≡ t)
 
 -- the text of a module that is shown is a module that is shown by the same text, or a token of it is nested too deep

@@ -13,7 +13,7 @@ abbrev pub reads_input : Command → Bool
 reads_input (equiv budget) = true
 reads_input show = true
 reads_input (check budget) = true
-reads_input (run steps workers budget) = true
+reads_input (run steps workers budget events) = true
 reads_input (make n) = false
 
 -- the words are those of a command that reads an input
@@ -35,7 +35,7 @@ abbrev pub ReadsFor : Command → Option (List ℕ) → Option (List ℕ) → Li
 ReadsFor (equiv budget) = ReadsInput
 ReadsFor show = ReadsInput
 ReadsFor (check budget) = ReadsInput
-ReadsFor (run steps workers budget) = ReadsInput
+ReadsFor (run steps workers budget events) = ReadsInput
 ReadsFor (make n) = ReadsNothing
 
 -- a text that with this status is an output of the words and of what was read, and means what it says

@@ -1,5 +1,5 @@
 -- What the code finds, as the definitions see it.
-use Rattle.std.specs.Prelude.{ℕ, Option, Some, None, List, ⊤}
+use Rattle.std.specs.Prelude.{◌≡◌, ℕ, Option, Some, None, List, [], ⊤}
 use Rattle.std.specs.String.{string_bytes}
 use Rattle.fst_types.specs.declared.family.Family.{Family}
 use Rattle.fst_kinds.specs.declared.fault.KindFault.{KindFault}
@@ -12,7 +12,14 @@ use Rattle.fst_type_print.specs.declared.refusals.Phrase.TheVariants as phrase
 use Rattle.fst_type_print.specs.Texts.{phrase_text}
 use Rattle.fst_scopes.specs.declared.fault.NameFault.{NameFault}
 use Rattle.fst_scopes.specs.declared.fault.NameFault.TheVariants as naming
+use Rattle.fst_runs.specs.declared.event.Stamped.{Stamped}
+use Rattle.fst_process.specs.declared.report.Outcome.{Outcome}
+use Rattle.fst_process.specs.declared.report.Outcome.TheVariants as outcome
 use Rattle.fst_process.specs.declared.report.Report.{Report}
+use Rattle.fst_worker.specs.declared.workers.Logged.{Logged}
+use Rattle.fst_worker.specs.declared.workers.Logged.TheVariants as logged
+use Rattle.fst_merge.specs.EventTexts.{events_text}
+use Rattle.fst_merge.specs.Merging.{AreOfRecord, AreMerged}
 use Rattle.fst_report.specs.ReportTexts.{report_text}
 use Rattle.fst_report.specs.SummaryTexts.{summary_text}
 use Rattle.fst_command.specs.declared.finding.Fault.{Fault}
@@ -82,3 +89,9 @@ cause_of (given.TooLarge at) = check_texts.too_large at
 abbrev pub shown_as : Form → List Family → Report → List ℕ
 shown_as form.Report families r = report_text families r
 shown_as (form.Summary bytes) families r = summary_text bytes r
+
+-- what the log of a run came to is this outcome, and the lines are those of the events into which its marks are merged
+abbrev pub HasLines : Logged → Outcome → List ℕ → Type 0
+HasLines (logged.Done r ts) o lines = (o ≡ outcome.Done r) × (es : List Stamped) ×
+    ((d : AreOfRecord ts.items) → AreMerged ts.items d es) × (lines ≡ events_text es)
+HasLines logged.OutOfSteps o lines = (o ≡ outcome.OutOfSteps) × (lines ≡ [])

@@ -19,6 +19,7 @@ use fst_equiv::one_answer;
 use fst_execution::sound_law;
 use fst_io::{Gate, ReadFault, Sink, Source, WriteFault, read_all, write_all};
 use fst_lexer::one_lexing;
+use fst_merge::one_list_law;
 use fst_module_grammar::one_module;
 use fst_names::one_module_law;
 use fst_options::{Command, parse};
@@ -172,8 +173,7 @@ pub fn top<R: Threads + Sync, S: Source, K: Sink, G: Gate + Sync>(
     }
 }
 
-/// Words and bytes have at most one output: what is written is a function of what was read. Of a run on several workers this
-/// isn't said.
+/// Words and bytes have at most one output: what is written is a function of what was read, whatever the number of workers.
 pub fn one_output()
     ensures { OneOutput }
 {
@@ -185,6 +185,7 @@ pub fn one_output()
     one_refusal_law();
     accepted_law();
     one_end_law();
+    one_list_law();
 }
 
 /// What `show` writes of a module it writes again, as far as its limits go.

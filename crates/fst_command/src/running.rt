@@ -1,4 +1,4 @@
-ghost use Rattle.std.specs.Prelude.{◌≡◌, ◌≤◌, ◌<◌, [], IfOk, length};
+ghost use Rattle.std.specs.Prelude.{◌≡◌, ◌≤◌, ◌<◌, [], IfOk, false, length, true};
 ghost use Rattle.std.specs.String.{string_bytes};
 ghost use Rattle.fst_base.specs.Limits.{most_bytes, most_made};
 ghost use Rattle.fst_execution.specs.Execution.{IsDerived};
@@ -8,7 +8,7 @@ ghost use Rattle.fst_command.specs.Finding.{AreUnresolved};
 ghost use Rattle.fst_command.specs.Meanings.{IsSoundOutcome};
 ghost use Rattle.fst_command.specs.Output.{FindsModule, IsFoundOf, IsOutcomeOf, SaysOutcome, Writes, WritesMade, WritesOf, waiting_status};
 ghost use Rattle.fst_command.specs.Top.{IsAnswer};
-ghost use Rattle.fst_command.specs.Views.{shown_as};
+ghost use Rattle.fst_command.specs.Views.{HasLines, shown_as};
 
 use crate::answer::{Answer, answer_fault, fixed};
 use crate::checks::find_resolved;
@@ -16,7 +16,9 @@ use crate::refusals::answer_refusal;
 use crate::status::Status;
 use fst_execution::{execute, prepare, sound_law};
 use fst_io::Gate;
+use fst_machine::Code;
 use fst_make::make;
+use fst_merge::{events_text, merge, sorted_law};
 use fst_options::{DEFAULT_BUDGET, DEFAULT_STEPS, DEFAULT_WORKERS, RunOptions};
 use fst_process::{Outcome, Report, Waiting};
 use fst_report::{report_text, summary_text};
@@ -24,9 +26,16 @@ use fst_safety::safety_law;
 use fst_terms::Module;
 use fst_types::Family;
 use fst_typing::{accepted_law, check};
-use fst_worker::run_workers;
+use fst_worker::{Logged, run_logged, run_workers};
 use std::alloc::{AllocError, Global};
 use std::thread::Threads;
+
+// What so many steps of a module come to, and the lines behind its report.
+#[derive(Drop)]
+struct Ran {
+    outcome: Outcome,
+    lines: String,
+}
 
 // What so many steps of a module come to on several workers.
 fn outcome_of_workers<R: Threads + Sync, G: Gate + Sync>(
@@ -38,8 +47,8 @@ fn outcome_of_workers<R: Threads + Sync, G: Gate + Sync>(
 ) -> Result<Outcome, AllocError>
     requires derived { IsDerived m.now }
     requires few { options.steps < 4294967295 }
-    requires several { 1 < options.workers }
-    ensures { IfOk result (IsOutcomeOf options.workers options.steps m.now) }
+    requires some { 1 ≤ options.workers }
+    ensures { IfOk result (λ o. IsOutcomeOf false options.steps m.now o []) }
 {
     let code = prepare(alloc, m)?;
     run_workers(
@@ -52,7 +61,7 @@ fn outcome_of_workers<R: Threads + Sync, G: Gate + Sync>(
     )
 }
 
-// What so many steps of a module come to.
+// What so many steps of a module come to, without its events.
 fn outcome<R: Threads + Sync, G: Gate + Sync>(
     rt: &R,
     alloc: Global,
@@ -63,7 +72,7 @@ fn outcome<R: Threads + Sync, G: Gate + Sync>(
     requires derived { IsDerived m.now }
     requires few { options.steps < 4294967295 }
     requires some { 1 ≤ options.workers }
-    ensures { IfOk result (IsOutcomeOf options.workers options.steps m.now) }
+    ensures { IfOk result (λ o. IsOutcomeOf false options.steps m.now o []) }
 {
     if options.workers == 1 {
         return execute(alloc, m, options.steps as u64);
@@ -71,23 +80,114 @@ fn outcome<R: Threads + Sync, G: Gate + Sync>(
     outcome_of_workers(rt, alloc, m, options, gate)
 }
 
-// The same, with a report that is sound.
-fn sound_outcome<R: Threads + Sync, G: Gate + Sync>(
+// What the steps came to of which these are the marks, with a line for each event.
+fn write_logged(alloc: Global, code: &Code, logged: Logged) -> Result<Ran, AllocError>
+    ensures { IfOk result (λ r. HasLines logged r.outcome (string_bytes r.lines)) }
+{
+    match logged {
+        Logged::Done(report, marks) => {
+            let events = merge(alloc, &marks)?;
+            Ok(Ran {
+                outcome: Outcome::Done(report),
+                lines: events_text(alloc, code, &events)?,
+            })
+        }
+        Logged::OutOfSteps => Ok(Ran {
+            outcome: Outcome::OutOfSteps,
+            lines: String::new(alloc),
+        }),
+    }
+}
+
+// What so many steps of a module come to, where its events are asked for.
+fn run_with_events<R: Threads + Sync, G: Gate + Sync>(
     rt: &R,
     alloc: Global,
     m: &Module,
     options: RunOptions,
     gate: &G,
-) -> Result<Outcome, AllocError>
+) -> Result<Ran, AllocError>
+    requires asked { options.events ≡ true }
     requires derived { IsDerived m.now }
     requires few { options.steps < 4294967295 }
     requires some { 1 ≤ options.workers }
-    ensures is { IfOk result (IsOutcomeOf options.workers options.steps m.now) }
-    ensures sound { IfOk result (IsSoundOutcome m.now) }
+    ensures { IfOk result (λ r. IsOutcomeOf options.events options.steps m.now r.outcome
+        (string_bytes r.lines)) }
+{
+    sorted_law();
+    let code = prepare(alloc, m)?;
+    let logged = run_logged(
+        rt,
+        alloc,
+        &code,
+        options.steps as u64,
+        options.workers,
+        gate,
+    )?;
+    write_logged(alloc, &code, logged)
+}
+
+// What so many steps of a module come to, where its events aren't asked for.
+fn run_without_events<R: Threads + Sync, G: Gate + Sync>(
+    rt: &R,
+    alloc: Global,
+    m: &Module,
+    options: RunOptions,
+    gate: &G,
+) -> Result<Ran, AllocError>
+    requires unasked { options.events ≡ false }
+    requires derived { IsDerived m.now }
+    requires few { options.steps < 4294967295 }
+    requires some { 1 ≤ options.workers }
+    ensures { IfOk result (λ r. IsOutcomeOf options.events options.steps m.now r.outcome
+        (string_bytes r.lines)) }
+{
+    let found = outcome(rt, alloc, m, options, gate)?;
+    let lines = String::new(alloc);
+    Ok(Ran {
+        outcome: found,
+        lines,
+    })
+}
+
+// What so many steps of a module come to.
+fn run_module<R: Threads + Sync, G: Gate + Sync>(
+    rt: &R,
+    alloc: Global,
+    m: &Module,
+    options: RunOptions,
+    gate: &G,
+) -> Result<Ran, AllocError>
+    requires derived { IsDerived m.now }
+    requires few { options.steps < 4294967295 }
+    requires some { 1 ≤ options.workers }
+    ensures { IfOk result (λ r. IsOutcomeOf options.events options.steps m.now r.outcome
+        (string_bytes r.lines)) }
+{
+    if options.events {
+        return run_with_events(rt, alloc, m, options, gate);
+    }
+    run_without_events(rt, alloc, m, options, gate)
+}
+
+// The same, with a report that is sound.
+fn run_soundly<R: Threads + Sync, G: Gate + Sync>(
+    rt: &R,
+    alloc: Global,
+    m: &Module,
+    options: RunOptions,
+    gate: &G,
+) -> Result<Ran, AllocError>
+    requires derived { IsDerived m.now }
+    requires few { options.steps < 4294967295 }
+    requires some { 1 ≤ options.workers }
+    ensures is { IfOk result (λ r. IsOutcomeOf options.events options.steps m.now r.outcome
+        (string_bytes r.lines)) }
+    ensures sound { IfOk result (λ r. IsSoundOutcome m.now r.outcome) }
 {
     safety_law();
     sound_law();
-    outcome(rt, alloc, m, options, gate)
+    run_module(rt, alloc, m, options, gate)
 }
 
 // The status of a report in which these tasks wait.
@@ -141,12 +241,14 @@ fn answer_outcome<R: Threads + Sync, G: Gate + Sync>(
     requires few { options.steps < 4294967295 }
     requires some { 1 ≤ options.workers }
     ensures outcome { IfOk result (λ a. SaysOutcome
-        (shown_as form) options.workers options.steps m.now a.text.items a.status) }
+        (shown_as form) options.events options.steps m.now a.text.items a.status) }
     ensures whole { IfOk result (λ a. IsAnswer a.status) }
 {
-    match sound_outcome(rt, alloc, m, options, gate)? {
+    let Ran { outcome, lines } = run_soundly(rt, alloc, m, options, gate)?;
+    match outcome {
         Outcome::Done(report) => {
-            let text = shown_as(alloc, form, &report, &m.families)?;
+            let mut text = shown_as(alloc, form, &report, &m.families)?;
+            text.push_str(&lines)?;
             Ok(Answer {
                 status: waiting_status(&report.waiting),
                 text: text.into_bytes(),
@@ -171,7 +273,7 @@ fn answer_steps<R: Threads + Sync, G: Gate + Sync>(
     requires budget { 1 ≤ options.budget }
     requires short { length bytes.now ≤ most_bytes }
     ensures found { IfOk result (λ a. IsFoundOf
-        (SaysOutcome (shown_as form) options.workers options.steps m.now) bytes.now m.now
+        (SaysOutcome (shown_as form) options.events options.steps m.now) bytes.now m.now
         options.budget a.text.items a.status) }
     ensures whole { IfOk result (λ a. IsAnswer a.status) }
 {
@@ -196,7 +298,7 @@ fn answer_source<R: Threads + Sync, G: Gate + Sync>(
     requires budget { 1 ≤ options.budget }
     requires short { length bytes.now ≤ most_bytes }
     ensures text { IfOk result (λ a. WritesOf AreUnresolved
-        (FindsModule (SaysOutcome (shown_as form) options.workers options.steps) options.budget)
+        (FindsModule (SaysOutcome (shown_as form) options.events options.steps) options.budget)
         bytes.now a.text.items a.status) }
     ensures whole { IfOk result (λ a. IsAnswer a.status) }
 {
@@ -219,7 +321,7 @@ pub(crate) fn answer_run<R: Threads + Sync, G: Gate + Sync>(
     requires budget { 1 ≤ options.budget }
     requires short { length bytes.now ≤ most_bytes }
     ensures text { IfOk result (λ a. Writes
-        (run options.steps options.workers options.budget) bytes.now a.text.items a.status) }
+        (run options.steps options.workers options.budget options.events) bytes.now a.text.items a.status) }
     ensures whole { IfOk result (λ a. IsAnswer a.status) }
 {
     answer_source(rt, alloc, Form::Report, bytes, options, gate)
@@ -243,6 +345,7 @@ pub(crate) fn answer_make<R: Threads + Sync, G: Gate + Sync>(
         steps: DEFAULT_STEPS,
         workers: DEFAULT_WORKERS,
         budget: DEFAULT_BUDGET,
+        events: false,
     };
     answer_source(rt, alloc, form, bytes, options, gate)
 }

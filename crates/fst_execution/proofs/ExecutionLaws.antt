@@ -20,7 +20,7 @@ use Rattle.fst_process.specs.Reports.{IsAnswer, IsMainResult, IsReport}
 use Rattle.fst_process.specs.Runs.{CanRun, IsOutcome}
 use Rattle.fst_safety.specs.Safety.{IsSafe, IsSafeAt, main_type}
 use Rattle.fst_safety.proofs.Laws.{main_typed}
-use Rattle.fst_execution.specs.Execution.{IsDerived, IsSound, ReportsAreSound, IsPrepared, IsExecuted}
+use Rattle.fst_execution.specs.Execution.{IsDerived, AnswersAreSound, IsSound, IsPrepared, IsExecuted}
 
 -- where there is a place of main's code, there is a body of main
 pub main_there : (gs : List GlobalEntry) (is : List ℕ) (i : ℕ) → main_place gs is ≡ Some i → (e : CoreTree) ×
@@ -55,12 +55,9 @@ module _ (m : Module) (c : Config) (safe : IsSafeAt m c) (n : ℕ) (r : Report) 
         (v, safe.result t v there ends, alike);
   }
 
-pub reports_sound : ReportsAreSound
-reports_sound = record {
-  safe = safe_sound;
-  answers = λ m safe e body steps r. λ (es, c, runs, last, few, is). safe_sound m c
-      (safe e body es c (least_runs (program m) m.types.items (started e) es c runs)) (length es) r is;
-}
+pub answers_sound : AnswersAreSound
+answers_sound m safe e body steps r (es, c, runs, last, few, is) =
+    safe_sound m c (safe e body es c (least_runs (program m) m.types.items (started e) es c runs)) (length es) r is
 
 -- the tasks of the code of a module that has derivations can begin
 is_prepared : (m : Module) (k : Code) (ds : List Deriv) → HasDerivations m ds → k.module.value ≡ m → IsFrom m k → IsPrepared m k
@@ -106,5 +103,5 @@ is_executed m k steps o from safe h =
       body = body;
       answer = answer;
       sound =
-          λ r q. reports_sound.answers m safe e body steps r (subst (IsAnswer m e steps) q answer);
+          λ r q. answers_sound m safe e body steps r (subst (IsAnswer m e steps) q answer);
     }

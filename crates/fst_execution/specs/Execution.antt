@@ -12,12 +12,12 @@ use Rattle.fst_types.specs.declared.event.ChannelHistory.{ChannelHistory}
 use Rattle.fst_machine.specs.Values.{Value}
 use Rattle.fst_machine.specs.declared.code.Code.{Code}
 use Rattle.fst_vm.specs.Tasks.{IsFrom}
-use Rattle.fst_runs.specs.Configs.{Config, main_body, program}
+use Rattle.fst_runs.specs.Configs.{main_body}
 use Rattle.fst_process.specs.declared.report.Outcome.{Outcome}
 use Rattle.fst_process.specs.declared.report.Outcome.TheVariants.{Done}
 use Rattle.fst_process.specs.declared.report.Report.{Report}
-use Rattle.fst_process.specs.Reports.{IsAlike, IsAnswer, IsReport}
-use Rattle.fst_safety.specs.Safety.{HasMainType, IsSafe, IsSafeAt}
+use Rattle.fst_process.specs.Reports.{IsAlike, IsAnswer}
+use Rattle.fst_safety.specs.Safety.{HasMainType, IsSafe}
 use Rattle.fst_safety.specs.Tasks.{CanBegin}
 
 -- the module has derivations
@@ -46,18 +46,8 @@ pub record IsExecuted (m : Module) (steps : ℕ) (o : Outcome) : Type 0 where
   pub answer : IsAnswer m main steps o
   pub sound : (r : Report) → o ≡ Done r → IsSound m r
 
--- the report of a safe configuration is sound
-abbrev pub SafeIsSound : Type 0
-SafeIsSound = (m : Module) (c : Config) → IsSafeAt m c →
-    (n : ℕ) (r : Report) → IsReport (program m) c n r → IsSound m r
-
--- so is that which is the answer of the least run of a safe module
+-- the report that is the answer of the least run of a safe module is sound
 abbrev pub AnswersAreSound : Type 0
 AnswersAreSound = (m : Module) → IsSafe m →
     (main : CoreTree) → main_body m.globals.items ≡ Some main →
     (steps : ℕ) (r : Report) → IsAnswer m main steps (Done r) → IsSound m r
-
--- both
-pub record ReportsAreSound : Type 0 where
-  pub safe : SafeIsSound
-  pub answers : AnswersAreSound

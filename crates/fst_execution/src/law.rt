@@ -1,9 +1,7 @@
-ghost use Rattle.fst_execution.specs.Execution.{ReportsAreSound};
+ghost use Rattle.fst_execution.specs.Execution.{AnswersAreSound};
 
-/// The report of a safe configuration is sound: each of its channels has a closed well-formed session type, of which its history
-/// is a trace; and main's value, if it is there, is one of main's type, in which no function and no end stands. So is the report
-/// that the least run of a safe module answers.
-#[tactic(auto, using(crate::proofs::ExecutionLaws::reports_sound))]
+/// The report that the least run of a safe module answers is sound: each of its channels has a closed well-formed session type, of
+/// which its history is a trace; and main's value, if it is there, is one of main's type, in which no function and no end stands.
 pub fn sound_law()
-    ensures { ReportsAreSound }
+    ensures { AnswersAreSound }
 {}

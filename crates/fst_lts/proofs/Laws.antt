@@ -35,6 +35,10 @@ pub use Rattle.fst_lts.proofs.EventLaws.{moving, after_sent, after_received}
 pub use Rattle.fst_lts.proofs.EventLaws.{dual_step, dual_receives, dual_sends}
 -- after an event, and after a history, the dual is the dual of the type
 pub use Rattle.fst_lts.proofs.EventLaws.{after_event-dual, after_history-dual}
+-- a stamped history stays one with an entry more that has the next stamp and clocks below 2^63, and this entry has that stamp
+pub use Rattle.fst_lts.proofs.StampLaws.{stamped_push, stamped_last}
+-- the last stamp of a history with an entry more is that of the entry, and that of a history is the stamp of the entry at its last place
+pub use Rattle.fst_lts.proofs.StampLaws.{last_stamp_push, last_at}
 -- the dual has the kind of the type, and no free recursion variable where the type has none
 pub use Rattle.fst_lts.proofs.DualKinds.{dual_scoped, dual_formed, dual_session}
 

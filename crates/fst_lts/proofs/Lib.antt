@@ -10,3 +10,4 @@ pub mod ResidualLaws
 pub mod AgreementLaws
 pub mod MoveRules
 pub mod EventLaws
+pub mod StampLaws

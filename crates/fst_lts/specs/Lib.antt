@@ -3,3 +3,5 @@ pub mod Dual
 pub mod Moves
 pub mod Equal
 pub mod Histories
+pub mod Residuals
+pub mod Stamps

@@ -27,3 +27,7 @@ pub use Rattle.fst_machine.proofs.Conditions.{distinct_makers}
 pub use Rattle.fst_machine.proofs.Slots.{is_itself, is_same}
 -- Outside some binders a variable has a number less by theirs.
 pub use Rattle.fst_machine.proofs.Moves.{outside_all_at}
+-- What asks for a fork has a state for the task that it makes.
+pub use Rattle.fst_machine.proofs.Children.{forks_child}
+-- States, told apart by their codes.
+pub use Rattle.fst_machine.proofs.StateCode.{state_code}

@@ -19,3 +19,5 @@ pub mod CodeLaws
 pub mod Conditions
 pub mod Started
 pub mod Laws
+pub mod StateCode
+pub mod Children

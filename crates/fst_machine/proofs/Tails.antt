@@ -5,7 +5,6 @@ use Rattle.std.proofs.lemmas.Option.{none-some}
 use Rattle.fst_value.specs.ValueTree.{ValueTree}
 use Rattle.fst_machine.specs.declared.code.Instr.{Instr}
 use Rattle.fst_machine.specs.declared.code.Instr.TheVariants as instr
-use Rattle.fst_machine.specs.Values.{Value}
 use Rattle.fst_machine.specs.Machine.{Frame, Pause, resume}
 use Rattle.fst_machine.specs.Code.{Compiled, At, no_variables}
 use Rattle.fst_machine.specs.Spots.{Slots, Call, returns_by, leads_back, around}

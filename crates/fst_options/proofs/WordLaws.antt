@@ -1,17 +1,18 @@
 -- The words of the command line.
-use Rattle.std.proofs.Common.{◌≡◌, ◌∙◌, ◌⊎◌, inl, inr, ℕ, zero, suc, ◌≤◌, List, [], ◌∷◌, ◌++◌, length, map, Bool, true, false, Option, Some, None, Result, Ok, refl, sym, ap, subst, append_assoc, arith, rules}
+use Rattle.std.proofs.Common.{◌≡◌, ◌∙◌, ◌⊎◌, inl, inr, ℕ, zero, suc, ◌≤◌, ◌<◌, List, [], ◌∷◌, ◌++◌, length, map, Bool, true, false, true≢false, Option, Some, None, Result, Ok, refl, sym, ap, subst, append_assoc, arith, rules}
 use Rattle.std.specs.Prelude.{◌==◌, MatchOption, codes}
 use Rattle.std.proofs.lemmas.Bool.Decides.{nat_tests}
 use Rattle.std.specs.List.{list_all}
 use Rattle.std.specs.Char.{is_ascii_digit}
 use Rattle.std.specs.Str.Parse.{ParsesUnsigned, digits_value}
+use Rattle.std.proofs.lemmas.Option.{none-some}
 use Rattle.std.proofs.lemmas.List.{append-nil, append_cancel_left}
 use Rattle.std.proofs.lemmas.Str.Parse.{IsNumeralModel, numerals_by_value, parse_gives, digits_value_short}
 use Rattle.fst_base.specs.Limits.{most_made}
 use Rattle.fst_options.specs.declared.words.Given.{Given}
 use Rattle.fst_options.specs.declared.words.Setting.{Setting as Set}
 use Rattle.fst_options.specs.declared.words.Setting.TheVariants.{Budget, Steps, Workers}
-use Rattle.fst_options.specs.Words.{Setting, budget, steps, workers, setting_of, IsValue, Begins, Sets, IsOption, value_in, give, none_given, GivesOne, Give, value_or, AreOptions, IsOneNumber, IsNamed, Command, equiv, show, check, run, make, IsCommand, NoCommand, IsWithin}
+use Rattle.fst_options.specs.Words.{Setting, budget, steps, workers, setting_of, IsValue, Begins, Sets, IsOption, value_in, give, none_given, GivesOne, value, events, Give, value_or, AreOptions, IsOneNumber, IsNamed, Command, equiv, show, check, run, make, IsCommand, NoCommand, IsWithin}
 
 own : IsNumeralModel (λ ds. list_all is_ascii_digit ds ≡ true) (digits_value 10)
 own = numerals_by_value _ (search rules)
@@ -109,39 +110,53 @@ one_set : (ws : List (List ℕ)) (o q : Set) (m n : ℕ) (rest others : List (Li
 one_set [] o q m n rest others p r = absurd p.begins
 one_set (w ∷ ws) o q m n rest others p r = same_mark_of o q (sym (begin_mark o w ws m rest p) ∙ begin_mark q w ws n others r)
 
--- so they begin by giving one value
-one_given : (ws : List (List ℕ)) (before : Given) (o : Set) (n : ℕ) (rest others : List (List ℕ)) (next : Given) →
-    Sets (setting_of o) ws n rest → GivesOne before ws next others →
-    (value_in before o ≡ None) × (next ≡ give before o n) × (others ≡ rest)
-one_given ws before o n rest others next p g =
-    let same = one_set ws g.option o g.number n others rest g.sets p in
-    let values = one_setting (setting_of o) ws g.number n others rest
-    (subst (λ q. Sets (setting_of q) ws g.number others) same g.sets) p in (
-      subst (λ q. value_in before q ≡ None) same g.first,
-      g.given ∙ ap (λ q. give before q g.number) same
-          ∙ ap (give before o) values.0,
-      values.1,
-    )
+-- `--events` is no option with a value
+no_value_set : (ws : List (List ℕ)) (rest : List (List ℕ)) → ws ≡ codes "--events" ∷ rest → (o : Set) (n : ℕ)
+    (others : List (List ℕ)) → Sets (setting_of o) ws n others → ⊥
+no_value_set ws rest e o n others p = by o (begin_mark o (codes "--events") rest n others
+    (subst (λ us. Sets (setting_of o) us n others) e p))
+  where
+    by : (o : Set) → third (codes "--events") ≡ mark_of o → ⊥
+    by Budget q = absurd (omega (arith, q))
+    by Steps q = absurd (omega (arith, q))
+    by Workers q = absurd (omega (arith, q))
+
+-- so they begin by giving one thing
+one_given : (ws : List (List ℕ)) (before a b : Given) (rest others : List (List ℕ)) →
+    GivesOne before ws a rest → GivesOne before ws b others → (a ≡ b) × (rest ≡ others)
+one_given ws before a b rest others (value o m p first g) (value q n r other h) =
+    let same = one_set ws o q m n rest others p r in
+    let values = one_setting (setting_of q) ws m n rest others (subst (λ q. Sets (setting_of q) ws m rest) same p) r in
+    (g ∙ ap (λ q. give before q m) same ∙ ap (give before q) values.0 ∙ sym h, values.1)
+one_given ws before a b rest others (value o m p first g) (events e none h) = absurd (no_value_set ws others e o m rest p)
+one_given ws before a b rest others (events e none h) (value o m p first g) = absurd (no_value_set ws rest e o m others p)
+one_given ws before a b rest others (events e none g) (events i other h) =
+    let same : codes "--events" ∷ rest ≡ codes "--events" ∷ others = sym e ∙ i in
+    (g ∙ sym h, cc)
+
+-- no words give nothing
+none_given_by : (before after : Given) (ws rest : List (List ℕ)) → ws ≡ [] → GivesOne before ws after rest → ⊥
+none_given_by before after ws rest e (value o n p first g) = none_set (setting_of o) ws n rest e p
+none_given_by before after ws rest e (events i none g) = absurd (cc (sym i ∙ e))
 
 -- words give values in one way
 one_giving : (j k : ℕ) (before : Given) (ws : List (List ℕ)) (a b : Given) → Give j before ws a → Give k before ws b → a ≡ b
 one_giving zero zero before ws a b p q = p.1 ∙ sym q.1
-one_giving zero (suc k) before ws a b p (next, rest, g, more) =
-    absurd (none_set (setting_of g.option) ws g.number rest p.0 g.sets)
-one_giving (suc j) zero before ws a b (next, rest, g, more) q =
-    absurd (none_set (setting_of g.option) ws g.number rest q.0 g.sets)
+one_giving zero (suc k) before ws a b p (next, rest, g, more) = absurd (none_given_by before next ws rest p.0 g)
+one_giving (suc j) zero before ws a b (next, rest, g, more) q = absurd (none_given_by before next ws rest q.0 g)
 one_giving (suc j) (suc k) before ws a b (next, rest, g, more) (other, others, h, further) =
-    let same = one_given ws before g.option g.number rest others other g.sets h in
-    let is : other ≡ next = same.1 ∙ sym g.given in
-    one_giving j k next rest a b more (subst (λ r. Give k next r b) same.2 (subst (λ v. Give k v others b) is further))
+    let same = one_given ws before other next others rest h g in
+    one_giving j k next rest a b more (subst (λ r. Give k next r b) same.1 (subst (λ v. Give k v others b) same.0 further))
 
 -- so they are one list of options
-one_options : (ws : List (List ℕ)) (s t w v b d : ℕ) → AreOptions ws s w b → AreOptions ws t v d → (s ≡ t) × (w ≡ v) × (b ≡ d)
-one_options ws s t w v b d p q =
+one_options : (ws : List (List ℕ)) (s t w v b d : ℕ) (e f : Bool) → AreOptions ws s w b e → AreOptions ws t v d f →
+    (s ≡ t) × (w ≡ v) × (b ≡ d) × (e ≡ f)
+one_options ws s t w v b d e f p q =
     let same = one_giving p.count q.count none_given ws p.values q.values p.give q.give in (
       p.steps ∙ ap (λ (g : Given). value_or steps g.steps) same ∙ sym q.steps,
       p.workers ∙ ap (λ (g : Given). value_or workers g.workers) same ∙ sym q.workers,
       p.budget ∙ ap (λ (g : Given). value_or budget g.budget) same ∙ sym q.budget,
+      p.events ∙ ap (λ (g : Given). g.events) same ∙ sym q.events,
     )
 
 -- ---- one number
@@ -175,7 +190,7 @@ abbrev mark : Command → ℕ
 mark (equiv n) = initial (codes "equiv")
 mark show = initial (codes "show")
 mark (check n) = initial (codes "check")
-mark (run s w b) = initial (codes "run")
+mark (run s w b e) = initial (codes "run")
 mark (make n) = initial (codes "make")
 
 -- the words of a command begin with its name
@@ -183,7 +198,7 @@ head_mark : (w : List ℕ) (ws : List (List ℕ)) (c : Command) → IsCommand (w
 head_mark w ws (equiv n) p = ap initial p.0
 head_mark w ws show p = ap initial p.0
 head_mark w ws (check n) p = ap initial p.0
-head_mark w ws (run s v b) p = ap initial p.0
+head_mark w ws (run s v b e) p = ap initial p.0
 head_mark w ws (make n) p = ap initial p.0
 
 -- so there are some
@@ -191,7 +206,7 @@ no_words : (c : Command) → IsCommand [] c → ⊥
 no_words (equiv n) p = p
 no_words show p = p
 no_words (check n) p = p
-no_words (run s w b) p = p
+no_words (run s w b e) p = p
 no_words (make n) p = p
 
 -- the names of two commands with the same words begin alike
@@ -208,34 +223,34 @@ one_command ws show show p q = refl
 one_command ws (check m) (check n) p q =
     let both = both_named (codes "check") (λ rest. IsOption budget rest m) (λ rest. IsOption budget rest n) ws p q in
     ap check (one_option budget both.0 m n both.1 both.2)
-one_command ws (run s w b) (run t v d) p q =
-    let both = both_named (codes "run") (λ rest. AreOptions rest s w b) (λ rest. AreOptions rest t v d) ws p q in
-    let same = one_options both.0 s t w v b d both.1 both.2 in
-    λ i. run (same.0 i) (same.1 i) (same.2 i)
+one_command ws (run s w b e) (run t v d f) p q =
+    let both = both_named (codes "run") (λ rest. AreOptions rest s w b e) (λ rest. AreOptions rest t v d f) ws p q in
+    let same = one_options both.0 s t w v b d e f both.1 both.2 in
+    λ i. run (same.0 i) (same.1 i) (same.2 i) (same.3 i)
 one_command ws (make m) (make n) p q =
     let both = both_named (codes "make") (λ rest. IsOneNumber 0 most_made rest m)
     (λ rest. IsOneNumber 0 most_made rest n) ws p q in
     ap make (one_number 0 most_made both.0 m n both.1 both.2)
 one_command ws (equiv m) show p q = absurd (omega (arith, same_mark ws (equiv m) show p q))
 one_command ws (equiv m) (check n) p q = absurd (omega (arith, same_mark ws (equiv m) (check n) p q))
-one_command ws (equiv m) (run s w b) p q = absurd (omega (arith, same_mark ws (equiv m) (run s w b) p q))
+one_command ws (equiv m) (run s w b e) p q = absurd (omega (arith, same_mark ws (equiv m) (run s w b e) p q))
 one_command ws show (equiv n) p q = absurd (omega (arith, same_mark ws show (equiv n) p q))
 one_command ws show (check n) p q = absurd (omega (arith, same_mark ws show (check n) p q))
-one_command ws show (run s w b) p q = absurd (omega (arith, same_mark ws show (run s w b) p q))
+one_command ws show (run s w b e) p q = absurd (omega (arith, same_mark ws show (run s w b e) p q))
 one_command ws (check m) (equiv n) p q = absurd (omega (arith, same_mark ws (check m) (equiv n) p q))
 one_command ws (check m) show p q = absurd (omega (arith, same_mark ws (check m) show p q))
-one_command ws (check m) (run s w b) p q = absurd (omega (arith, same_mark ws (check m) (run s w b) p q))
-one_command ws (run s w b) (equiv n) p q = absurd (omega (arith, same_mark ws (run s w b) (equiv n) p q))
-one_command ws (run s w b) show p q = absurd (omega (arith, same_mark ws (run s w b) show p q))
-one_command ws (run s w b) (check n) p q = absurd (omega (arith, same_mark ws (run s w b) (check n) p q))
+one_command ws (check m) (run s w b e) p q = absurd (omega (arith, same_mark ws (check m) (run s w b e) p q))
+one_command ws (run s w b e) (equiv n) p q = absurd (omega (arith, same_mark ws (run s w b e) (equiv n) p q))
+one_command ws (run s w b e) show p q = absurd (omega (arith, same_mark ws (run s w b e) show p q))
+one_command ws (run s w b e) (check n) p q = absurd (omega (arith, same_mark ws (run s w b e) (check n) p q))
 one_command ws (equiv m) (make n) p q = absurd (omega (arith, same_mark ws (equiv m) (make n) p q))
 one_command ws show (make n) p q = absurd (omega (arith, same_mark ws show (make n) p q))
 one_command ws (check m) (make n) p q = absurd (omega (arith, same_mark ws (check m) (make n) p q))
-one_command ws (run s w b) (make n) p q = absurd (omega (arith, same_mark ws (run s w b) (make n) p q))
+one_command ws (run s w b e) (make n) p q = absurd (omega (arith, same_mark ws (run s w b e) (make n) p q))
 one_command ws (make m) (equiv n) p q = absurd (omega (arith, same_mark ws (make m) (equiv n) p q))
 one_command ws (make m) show p q = absurd (omega (arith, same_mark ws (make m) show p q))
 one_command ws (make m) (check n) p q = absurd (omega (arith, same_mark ws (make m) (check n) p q))
-one_command ws (make m) (run s w b) p q = absurd (omega (arith, same_mark ws (make m) (run s w b) p q))
+one_command ws (make m) (run s w b e) p q = absurd (omega (arith, same_mark ws (make m) (run s w b e) p q))
 
 -- ---- what the code finds
 
@@ -267,40 +282,62 @@ sets_none ws no_budget no_steps no_workers Budget n rest p = no_budget n rest p
 sets_none ws no_budget no_steps no_workers Steps n rest p = no_steps n rest p
 sets_none ws no_budget no_steps no_workers Workers n rest p = no_workers n rest p
 
--- no values are given by words that are there and set nothing
-pub gives_none : (ws : List (List ℕ)) (before : Given) → (ws ≡ [] → ⊥) →
+-- nothing is given by words that don't ask for events and set nothing
+pub none_to_give : (ws : List (List ℕ)) (before : Given) → ((rest : List (List ℕ)) → ws ≡ codes "--events" ∷ rest → ⊥) →
     ((o : Set) (n : ℕ) (rest : List (List ℕ)) → Sets (setting_of o) ws n rest → ⊥) →
+    (after : Given) (rest : List (List ℕ)) → GivesOne before ws after rest → ⊥
+none_to_give ws before no_events none after rest (value o n p first g) = none o n rest p
+none_to_give ws before no_events none after rest (events e first g) = no_events rest e
+
+-- nor by those that ask for events again
+pub events_again : (ws : List (List ℕ)) (before : Given) (rest : List (List ℕ)) → ws ≡ codes "--events" ∷ rest →
+    before.events ≡ true → (after : Given) (others : List (List ℕ)) → GivesOne before ws after others → ⊥
+events_again ws before rest is twice after others (value o n p first g) = no_value_set ws rest is o n others p
+events_again ws before rest is twice after others (events e first g) = absurd (true≢false (sym twice ∙ first))
+
+-- nor by those that set an option again
+pub value_again : (ws : List (List ℕ)) (before : Given) (o : Set) (n m : ℕ) (rest : List (List ℕ)) →
+    Sets (setting_of o) ws n rest → value_in before o ≡ Some m →
+    (after : Given) (others : List (List ℕ)) → GivesOne before ws after others → ⊥
+value_again ws before o n m rest p twice after others (value q k r first g) =
+    let same = one_set ws q o k n others rest r p in
+    none-some m (sym (subst (λ q. value_in before q ≡ None) same first) ∙ twice)
+value_again ws before o n m rest p twice after others (events e first g) = no_value_set ws others e o n rest p
+
+-- nothing is given by words that are there and give nothing at first
+pub gives_none : (ws : List (List ℕ)) (before : Given) → (ws ≡ [] → ⊥) →
+    ((after : Given) (rest : List (List ℕ)) → GivesOne before ws after rest → ⊥) →
     (k : ℕ) (all : Given) → Give k before ws all → ⊥
 gives_none ws before some none zero all p = some p.0
-gives_none ws before some none (suc k) all (next, rest, g, more) = none g.option g.number rest g.sets
+gives_none ws before some none (suc k) all (next, rest, g, more) = none next rest g
 
--- nor by those that set an option that has a value, or are followed by words that give none
-pub gives_no_more : (ws : List (List ℕ)) (before : Given) (o : Set) (n : ℕ) (rest : List (List ℕ)) →
-    Sets (setting_of o) ws n rest →
-    (value_in before o ≡ None → (k : ℕ) (all : Given) → Give k (give before o n) rest all → ⊥) →
+-- nor by those that are followed by words that give nothing
+gives_no_more : (ws : List (List ℕ)) (before after : Given) (rest : List (List ℕ)) → GivesOne before ws after rest →
+    ((k : ℕ) (all : Given) → Give k after rest all → ⊥) →
     (k : ℕ) (all : Given) → Give k before ws all → ⊥
-gives_no_more ws before o n rest p none zero all q = none_set (setting_of o) ws n rest q.0 p
-gives_no_more ws before o n rest p none (suc k) all (next, others, g, more) =
-    let same = one_given ws before o n rest others next p g in
-    none same.0 k all (subst (λ r. Give k (give before o n) r all) same.2 (subst (λ v. Give k v others all) same.1 more))
-
--- words that give values are those that give one and then the others
-pub gives_more : (ws : List (List ℕ)) (before : Given) (o : Set) (n : ℕ) (rest : List (List ℕ)) (all : Given) →
-    Sets (setting_of o) ws n rest → value_in before o ≡ None →
-    (k : ℕ) × Give k (give before o n) rest all → (k : ℕ) × Give k before ws all
-gives_more ws before o n rest all p first (k, more) =
-    (suc k, (give before o n, rest, record { option = o; number = n; sets = p; first = first; given = refl }, more))
+gives_no_more ws before after rest p none zero all q = none_given_by before after ws rest q.0 p
+gives_no_more ws before after rest p none (suc k) all (next, others, g, more) =
+    let same = one_given ws before next after others rest g p in
+    none k all (subst (λ r. Give k after r all) same.1 (subst (λ v. Give k v others all) same.0 more))
 
 -- what is told of the words behind is so of all
-pub gives_so : (ws : List (List ℕ)) (before : Given) (o : Set) (n : ℕ) (rest : List (List ℕ)) (after : Given) (r : Option Given) →
-    Sets (setting_of o) ws n rest → value_in before o ≡ None →
-    after ≡ give before o n → MatchOption r ((k : ℕ) (all : Given) → Give k after rest all → ⊥)
+pub gives_so : (ws : List (List ℕ)) (before after : Given) (rest : List (List ℕ)) (r : Option Given) →
+    GivesOne before ws after rest → MatchOption r ((k : ℕ) (all : Given) → Give k after rest all → ⊥)
     (λ all. (k : ℕ) × Give k after rest all) →
     MatchOption r ((k : ℕ) (all : Given) → Give k before ws all → ⊥) (λ all. (k : ℕ) × Give k before ws all)
-gives_so ws before o n rest after None p first is h = gives_no_more ws before o n rest p
-    (λ also k all g. h k all (subst (λ v. Give k v rest all) (sym is) g))
-gives_so ws before o n rest after (Some all) p first is (k, g) =
-    gives_more ws before o n rest all p first (k, subst (λ v. Give k v rest all) is g)
+gives_so ws before after rest None p h = gives_no_more ws before after rest p h
+gives_so ws before after rest (Some all) p (k, g) = (suc k, (after, rest, p, g))
+
+-- the words behind are fewer
+pub fewer_words : (ws : List (List ℕ)) (before after : Given) (rest : List (List ℕ)) → GivesOne before ws after rest →
+    length rest < length ws
+fewer_words ws before after rest (events e first g) = let n = ap length e in omega (arith, n)
+fewer_words ws before after rest (value o n p first g) = by ws p.begins
+  where
+    by : (ws : List (List ℕ)) → Begins (setting_of o).name ws p.digits rest → length rest < length ws
+    by [] b = absurd b
+    by (w ∷ ws) (inl b) = let n = ap length b.1 in omega (arith, n)
+    by (w ∷ ws) (inr b) = let n = ap length b.1 in omega (arith, n)
 
 -- words are those that a test of their number says
 pub no_words_left : {A : Type 0} (f : A → List ℕ) (ws : List A) (b : Bool) → b ≡ (length ws == 0) → b ≡ true → map f ws ≡ []
@@ -319,7 +356,7 @@ no_equiv ws rest is none c p = by c (subst (λ us. IsCommand us c) is p)
     by : (c : Command) → IsCommand (codes "equiv" ∷ rest) c → ⊥
     by show q = absurd (omega (arith, head_mark (codes "equiv") rest show q))
     by (check n) q = absurd (omega (arith, head_mark (codes "equiv") rest (check n) q))
-    by (run s w b) q = absurd (omega (arith, head_mark (codes "equiv") rest (run s w b) q))
+    by (run s w b e) q = absurd (omega (arith, head_mark (codes "equiv") rest (run s w b e) q))
     by (make n) q = absurd (omega (arith, head_mark (codes "equiv") rest (make n) q))
     by (equiv n) q = none n q.1
 
@@ -330,12 +367,13 @@ no_check ws rest is none c p = by c (subst (λ us. IsCommand us c) is p)
     by : (c : Command) → IsCommand (codes "check" ∷ rest) c → ⊥
     by (equiv n) q = absurd (omega (arith, head_mark (codes "check") rest (equiv n) q))
     by show q = absurd (omega (arith, head_mark (codes "check") rest show q))
-    by (run s w b) q = absurd (omega (arith, head_mark (codes "check") rest (run s w b) q))
+    by (run s w b e) q = absurd (omega (arith, head_mark (codes "check") rest (run s w b e) q))
     by (make n) q = absurd (omega (arith, head_mark (codes "check") rest (make n) q))
     by (check n) q = none n q.1
 
 -- words behind `run` that set nothing of its are no command's
-pub no_run : (ws rest : List (List ℕ)) → ws ≡ codes "run" ∷ rest → ((s w b : ℕ) → AreOptions rest s w b → ⊥) → NoCommand ws
+pub no_run : (ws rest : List (List ℕ)) → ws ≡ codes "run" ∷ rest → ((s w b : ℕ) (e : Bool) → AreOptions rest s w b e → ⊥) →
+    NoCommand ws
 no_run ws rest is none c p = by c (subst (λ us. IsCommand us c) is p)
   where
     by : (c : Command) → IsCommand (codes "run" ∷ rest) c → ⊥
@@ -343,7 +381,7 @@ no_run ws rest is none c p = by c (subst (λ us. IsCommand us c) is p)
     by show q = absurd (omega (arith, head_mark (codes "run") rest show q))
     by (check n) q = absurd (omega (arith, head_mark (codes "run") rest (check n) q))
     by (make n) q = absurd (omega (arith, head_mark (codes "run") rest (make n) q))
-    by (run s w b) q = none s w b q.1
+    by (run s w b e) q = none s w b e q.1
 
 -- words behind `make` that aren't just its number are no command's
 pub no_make : (ws rest : List (List ℕ)) → ws ≡ codes "make" ∷ rest → ((n : ℕ) → IsOneNumber 0 most_made rest n → ⊥) → NoCommand ws
@@ -353,7 +391,7 @@ no_make ws rest is none c p = by c (subst (λ us. IsCommand us c) is p)
     by (equiv n) q = absurd (omega (arith, head_mark (codes "make") rest (equiv n) q))
     by show q = absurd (omega (arith, head_mark (codes "make") rest show q))
     by (check n) q = absurd (omega (arith, head_mark (codes "make") rest (check n) q))
-    by (run s w b) q = absurd (omega (arith, head_mark (codes "make") rest (run s w b) q))
+    by (run s w b e) q = absurd (omega (arith, head_mark (codes "make") rest (run s w b e) q))
     by (make n) q = none n q.1
 
 -- words that begin with no command's name are no command's
@@ -365,7 +403,7 @@ no_name [] shows equivs checks runs makes c p = no_words c p
 no_name (w ∷ ws) shows equivs checks runs makes (equiv n) p = equivs ws (ap (λ v. v ∷ ws) p.0)
 no_name (w ∷ ws) shows equivs checks runs makes show p = shows ws (ap (λ v. v ∷ ws) p.0)
 no_name (w ∷ ws) shows equivs checks runs makes (check n) p = checks ws (ap (λ v. v ∷ ws) p.0)
-no_name (w ∷ ws) shows equivs checks runs makes (run s v b) p = runs ws (ap (λ v. v ∷ ws) p.0)
+no_name (w ∷ ws) shows equivs checks runs makes (run s v b e) p = runs ws (ap (λ v. v ∷ ws) p.0)
 no_name (w ∷ ws) shows equivs checks runs makes (make n) p = makes ws (ap (λ v. v ∷ ws) p.0)
 
 -- ---- what commands have
@@ -394,14 +432,19 @@ value_given g Workers Steps n m e = inr e
 
 one_within : (before : Given) (ws : List (List ℕ)) (next : Given) (rest : List (List ℕ)) → AreWithin before →
     GivesOne before ws next rest → AreWithin next
-one_within before ws next rest all g o m e = by
-    (value_given before g.option o g.number m (sym (ap (λ v. value_in v o) g.given) ∙ e))
+one_within before ws next rest all (value q n p first g) o m e = by (value_given before q o n m (sym (ap (λ v. value_in v o) g) ∙ e))
   where
-    by : ((o ≡ g.option) × (g.number ≡ m)) ⊎ (value_in before o ≡ Some m) → ((setting_of o).least ≤ m) × (m ≤ (setting_of o).most)
-    by (inl p) = subst (λ q. ((setting_of q).least ≤ m) × (m ≤ (setting_of q).most)) (sym p.0)
-        (subst (λ k. ((setting_of g.option).least ≤ k) × (k ≤ (setting_of g.option).most)) p.1
-        (g.sets.value.at_least, g.sets.value.at_most))
-    by (inr p) = all o m p
+    by : ((o ≡ q) × (n ≡ m)) ⊎ (value_in before o ≡ Some m) → ((setting_of o).least ≤ m) × (m ≤ (setting_of o).most)
+    by (inl r) = subst (λ q. ((setting_of q).least ≤ m) × (m ≤ (setting_of q).most)) (sym r.0)
+        (subst (λ k. ((setting_of q).least ≤ k) × (k ≤ (setting_of q).most)) r.1 (p.value.at_least, p.value.at_most))
+    by (inr r) = all o m r
+one_within before ws next rest all (events i first g) o m e =
+    all o m (sym (same o) ∙ sym (ap (λ v. value_in v o) g) ∙ e)
+  where
+    same : (o : Set) → value_in (record before { events = true }) o ≡ value_in before o
+    same Budget = refl
+    same Steps = refl
+    same Workers = refl
 
 all_within : (k : ℕ) (before : Given) (ws : List (List ℕ)) (after : Given) → AreWithin before → Give k before ws after →
     AreWithin after
@@ -423,9 +466,9 @@ or_within o (Some m) n is all low high =
     let in_range = all m refl in
     (subst (λ k. o.least ≤ k) (sym is) in_range.0, subst (λ k. k ≤ o.most) (sym is) in_range.1)
 
-options_within : (ws : List (List ℕ)) (s w b : ℕ) → AreOptions ws s w b → (s ≤ steps.most) × (1 ≤ w) × (w ≤ workers.most) ×
-    (1 ≤ b)
-options_within ws s w b p =
+options_within : (ws : List (List ℕ)) (s w b : ℕ) (e : Bool) → AreOptions ws s w b e → (s ≤ steps.most) × (1 ≤ w) ×
+    (w ≤ workers.most) × (1 ≤ b)
+options_within ws s w b e p =
     let all = all_within p.count none_given ws p.values none_within p.give in
     let of_workers = or_within workers p.values.workers w p.workers (all Workers) (omega arith) (omega arith) in (
       (or_within steps p.values.steps s p.steps (all Steps) (omega arith) (omega arith)).1,
@@ -440,5 +483,5 @@ within [] c p = absurd (no_words c p)
 within (w ∷ ws) (equiv b) p = (set_within budget ws b (omega arith) (omega arith) p.1).0
 within (w ∷ ws) show p = tt
 within (w ∷ ws) (check b) p = (set_within budget ws b (omega arith) (omega arith) p.1).0
-within (w ∷ ws) (run s v b) p = options_within ws s v b p.1
+within (w ∷ ws) (run s v b e) p = options_within ws s v b e p.1
 within (w ∷ ws) (make n) p = p.1.number.at_most

@@ -8,5 +8,5 @@ abbrev pub command_of : Said → Command
 command_of (said.Equiv b) = equiv b
 command_of said.Show = show
 command_of (said.Check b) = check b
-command_of (said.Run o) = run o.steps o.workers o.budget
+command_of (said.Run o) = run o.steps o.workers o.budget o.events
 command_of (said.Make n) = make n

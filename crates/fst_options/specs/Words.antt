@@ -1,5 +1,5 @@
 -- The words of the command line.
-use Rattle.std.specs.Prelude.{◌≡◌, ◌⊎◌, ℕ, zero, suc, ◌≤◌, List, [], ◌∷◌, ◌++◌, length, codes, true, Option, Some, None, ⊤}
+use Rattle.std.specs.Prelude.{◌≡◌, ◌⊎◌, ℕ, zero, suc, ◌≤◌, List, [], ◌∷◌, ◌++◌, length, codes, Bool, true, false, Option, Some, None, ⊤}
 use Rattle.std.specs.List.{list_all}
 use Rattle.std.specs.Char.{is_ascii_digit}
 use Rattle.std.specs.Str.Parse.{digits_value}
@@ -80,18 +80,18 @@ give g Workers n = record g { workers = Some n }
 
 -- none is given
 abbrev pub none_given : Given
-none_given = record { steps = None; workers = None; budget = None }
+none_given = record { steps = None; workers = None; budget = None; events = false }
 
--- the words begin by giving a value for an option that has none; others are behind it
-pub record GivesOne (before : Given) (words : List (List ℕ)) (after : Given)
+-- the words begin by giving a value for an option that has none, or by asking for events, which weren't asked for; others are behind it
+pub data GivesOne (before : Given) (words : List (List ℕ)) (after : Given)
     (rest : List (List ℕ)) : Type 0 where
-  pub option : Set
-  pub number : ℕ
-  pub sets : Sets (setting_of option) words number rest
-  pub first : value_in before option ≡ None
-  pub given : after ≡ give before option number
+  value : (option : Set) (number : ℕ) → Sets (setting_of option) words number rest →
+      value_in before option ≡ None → after ≡ give before option number →
+      GivesOne before words after rest
+  events : words ≡ codes "--events" ∷ rest → before.events ≡ false →
+      after ≡ record before { events = true } → GivesOne before words after rest
 
--- the words give so many values one after the other, and nothing else
+-- the words give so much, one thing after the other, and nothing else
 abbrev pub Give : ℕ → Given → List (List ℕ) → Given → Type 0
 Give zero before words after = (words ≡ []) × (after ≡ before)
 Give (suc n) before words after = (next : Given) ×
@@ -102,14 +102,15 @@ abbrev pub value_or : Setting → Option ℕ → ℕ
 value_or o None = o.default
 value_or o (Some n) = n
 
--- the words set the steps, the workers and the budget, each at most once, in any order
-pub record AreOptions (words : List (List ℕ)) (s w b : ℕ) : Type 0 where
+-- the words set the steps, the workers and the budget, and ask for events or don't, each at most once, in any order
+pub record AreOptions (words : List (List ℕ)) (s w b : ℕ) (e : Bool) : Type 0 where
   pub count : ℕ
   pub values : Given
   pub give : Give count none_given words values
   pub steps : s ≡ value_or steps values.steps
   pub workers : w ≡ value_or workers values.workers
   pub budget : b ≡ value_or budget values.budget
+  pub events : e ≡ values.events
 
 -- the only word is a number from the least to the most
 pub record IsOneNumber (least most : ℕ) (words : List (List ℕ)) (n : ℕ) : Type 0 where
@@ -123,13 +124,13 @@ IsNamed name P [] = ⊥
 IsNamed name P (w ∷ ws) = (w ≡ name) × P ws
 
 -- a command: whether two types are equivalent, within a budget, or the canonical text of a module, or whether a module is
--- well typed, within a budget, or what so many steps of a module that is well typed come to on so many workers, within a budget, or
--- in brief what the made module of so many channels comes to
+-- well typed, within a budget, or what so many steps of a module that is well typed come to on so many workers, within a budget, and
+-- whether its events are asked for, or in brief what the made module of so many channels comes to
 pub data Command : Type 0 where
   equiv : ℕ → Command
   show : Command
   check : ℕ → Command
-  run : ℕ → ℕ → ℕ → Command
+  run : ℕ → ℕ → ℕ → Bool → Command
   make : ℕ → Command
 
 -- the words of a command
@@ -137,7 +138,7 @@ abbrev pub IsCommand : List (List ℕ) → Command → Type 0
 IsCommand words (equiv n) = IsNamed (codes "equiv") (λ ws. IsOption budget ws n) words
 IsCommand words show = IsNamed (codes "show") (λ ws. ws ≡ []) words
 IsCommand words (check n) = IsNamed (codes "check") (λ ws. IsOption budget ws n) words
-IsCommand words (run s w b) = IsNamed (codes "run") (λ ws. AreOptions ws s w b) words
+IsCommand words (run s w b e) = IsNamed (codes "run") (λ ws. AreOptions ws s w b e) words
 IsCommand words (make n) = IsNamed (codes "make") (λ ws. IsOneNumber 0 most_made ws n) words
 
 -- the words aren't those of a command
@@ -149,5 +150,5 @@ abbrev pub IsWithin : Command → Type 0
 IsWithin (equiv b) = 1 ≤ b
 IsWithin show = ⊤
 IsWithin (check b) = 1 ≤ b
-IsWithin (run s w b) = (s ≤ steps.most) × (1 ≤ w) × (w ≤ workers.most) × (1 ≤ b)
+IsWithin (run s w b e) = (s ≤ steps.most) × (1 ≤ w) × (w ≤ workers.most) × (1 ≤ b)
 IsWithin (make n) = n ≤ most_made

@@ -1,10 +1,10 @@
-ghost use Rattle.std.specs.Prelude.{◌≡◌, ◌++◌, ◌∷◌, [], ℕ, List, MatchOption, codes, map, string_bytes};
+ghost use Rattle.std.specs.Prelude.{◌≡◌, ◌++◌, ◌∷◌, [], ℕ, Bool, List, MatchOption, codes, map, string_bytes};
 ghost use Rattle.std.specs.List.{list_all};
 ghost use Rattle.std.specs.Char.{is_ascii_digit};
 ghost use Rattle.fst_base.specs.Limits.{most_made};
 ghost use Rattle.fst_options.specs.declared.words.Given.{Given as Gives};
 ghost use Rattle.fst_options.specs.declared.words.Setting.{Setting as Set};
-ghost use Rattle.fst_options.specs.Words.{AreOptions, Begins, Give, IsCommand, IsNumber, IsOneNumber, IsOption, IsValue, NoCommand, Sets, give, setting_of, value_in};
+ghost use Rattle.fst_options.specs.Words.{AreOptions, Begins, Give, GivesOne, IsCommand, IsNumber, IsOneNumber, IsOption, IsValue, NoCommand, Sets, give, setting_of, value_in};
 ghost use Rattle.fst_options.specs.Views.{command_of};
 
 use fst_base::MOST_MADE;
@@ -172,6 +172,7 @@ pub(crate) struct Given {
     steps: Option<u32>,
     workers: Option<u32>,
     budget: Option<u32>,
+    events: bool,
 }
 
 impl Given {
@@ -226,7 +227,46 @@ fn next<'a>(words: &'a [String]) -> Option<(Setting, u32, &'a [String])>
     }
 }
 
-// The values that are given when the words have given theirs too, each at most once.
+// The words behind this one, or none where another is in front.
+fn behind<'a>(name: &str, words: &'a [String]) -> Option<&'a [String]>
+    ensures { MatchOption result
+        ((rest : List (List ℕ)) → map string_bytes words.now ≡ name.now ∷ rest → ⊥)
+        (λ rest. map string_bytes words.now ≡ name.now ∷ map string_bytes rest.now) }
+{
+    match words.split_first() {
+        Some((word, rest)) if word.as_str() == name => Some(rest),
+        Some(_) => None,
+        None => None,
+    }
+}
+
+// What is given when the words have given one thing more, which wasn't given, and the words behind it.
+fn gives<'a>(given: Given, words: &'a [String]) -> Option<(Given, &'a [String])>
+    ensures { MatchOption result
+        ((after : Gives) (rest : List (List ℕ)) →
+        GivesOne given (map string_bytes words.now) after rest → ⊥)
+        (λ p. GivesOne given (map string_bytes words.now) p.0 (map string_bytes p.1.now)) }
+{
+    if let Some(rest) = behind("--events", words) {
+        if given.events {
+            return None;
+        }
+        let given = Given {
+            events: true,
+            ..given
+        };
+        return Some((given, rest));
+    }
+    let Some((setting, n, rest)) = next(words) else {
+        return None;
+    };
+    match given.value(setting) {
+        None => Some((given.give(setting, n), rest)),
+        Some(_) => None,
+    }
+}
+
+// What is given when the words have given theirs too, each thing at most once.
 fn values(given: Given, words: &[String]) -> Option<Given>
     ensures { MatchOption result
         ((k : ℕ) (all : Gives) → Give k given (map string_bytes words.now) all → ⊥)
@@ -235,12 +275,9 @@ fn values(given: Given, words: &[String]) -> Option<Given>
     if words.is_empty() {
         return Some(given);
     }
-    let Some((setting, n, rest)) = next(words) else {
-        return None;
-    };
-    match given.value(setting) {
-        None => values(given.give(setting, n), rest),
-        Some(_) => None,
+    match gives(given, words) {
+        Some((given, rest)) => values(given, rest),
+        None => None,
     }
 }
 
@@ -253,24 +290,28 @@ pub struct RunOptions {
     pub workers: u32,
     /// How many pairs a question may have.
     pub budget: u32,
+    /// Whether its events are written behind its report.
+    pub events: bool,
 }
 
-// The steps, the workers and the budget that the words set.
+// The steps, the workers and the budget that the words set, and whether they ask for events.
 fn options(words: &[String]) -> Option<RunOptions>
     ensures { MatchOption result
-        ((s w b : ℕ) → AreOptions (map string_bytes words.now) s w b → ⊥)
-        (λ o. AreOptions (map string_bytes words.now) o.steps o.workers o.budget) }
+        ((s w b : ℕ) (e : Bool) → AreOptions (map string_bytes words.now) s w b e → ⊥)
+        (λ o. AreOptions (map string_bytes words.now) o.steps o.workers o.budget o.events) }
 {
     let none = Given {
         steps: None,
         workers: None,
         budget: None,
+        events: false,
     };
     match values(none, words) {
         Some(given) => Some(RunOptions {
             steps: given.steps.unwrap_or(DEFAULT_STEPS),
             workers: given.workers.unwrap_or(DEFAULT_WORKERS),
             budget: given.budget.unwrap_or(DEFAULT_BUDGET),
+            events: given.events,
         }),
         None => None,
     }
@@ -302,19 +343,6 @@ pub enum Command {
     Run(RunOptions),
     /// In brief, what the made module of so many channels comes to.
     Make(u32),
-}
-
-// The words behind a command's name, or none where another word is in front.
-fn behind<'a>(name: &str, words: &'a [String]) -> Option<&'a [String]>
-    ensures { MatchOption result
-        ((rest : List (List ℕ)) → map string_bytes words.now ≡ name.now ∷ rest → ⊥)
-        (λ rest. map string_bytes words.now ≡ name.now ∷ map string_bytes rest.now) }
-{
-    match words.split_first() {
-        Some((word, rest)) if word.as_str() == name => Some(rest),
-        Some(_) => None,
-        None => None,
-    }
 }
 
 /// The command that the words are, or none.

@@ -2,6 +2,7 @@
 use Rattle.std.proofs.Common.{◌≡◌, ◌∙◌, ◌≤◌, ℕ, suc, List, [], ◌∷◌, Bool, true, false, Option, Some, None, refl, sym, ap, subst, arith}
 use Rattle.std.specs.Prelude.{length, if◌then◌else◌}
 use Rattle.fst_lts.specs.Histories.{over, last_stamp}
+use Rattle.fst_lts.specs.Stamps.{StampedTo}
 use Rattle.fst_terms.specs.declared.core_module.Module.{Module}
 use Rattle.fst_types.specs.declared.ends.ChannelName.{ChannelName}
 use Rattle.fst_types.specs.declared.event.Entry.{Entry}
@@ -13,7 +14,7 @@ use Rattle.fst_runs.specs.Configs.{Path, Config, Task, same_path, same_channel, 
 use Rattle.fst_runs.specs.Events.{Write, written, meeting_stamp, extended, Does, has_met, passed as passed_entry}
 use Rattle.fst_runs.proofs.Laws.{asks_apart}
 use Rattle.fst_process.specs.Kept.{Slot, Kept, end_of, put_at, without, changed, passed, settled}
-use Rattle.fst_process.specs.Reflects.{StampedTo, Reflects}
+use Rattle.fst_process.specs.Reflects.{Reflects}
 use Rattle.fst_process.proofs.Places.{put_here, put_cases}
 use Rattle.fst_process.proofs.Taking.{hide, show}
 use Rattle.fst_process.proofs.Fewer.{Fine, fine_before}

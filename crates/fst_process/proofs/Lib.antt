@@ -35,3 +35,7 @@ pub mod Alike
 pub mod Rising
 pub mod ReportLists
 pub mod Reporting
+pub mod NoteLaws
+pub mod MarkLaws
+pub mod MarkLists
+pub mod MarkedRuns

@@ -7,13 +7,14 @@ use Rattle.fst_types.specs.declared.side.Side.TheVariants.{Left, Right}
 use Rattle.fst_terms.specs.declared.core_module.Module.{Module}
 use Rattle.fst_types.specs.declared.ends.EndName.{EndName}
 use Rattle.fst_types.specs.declared.event.Entry.{Entry}
+use Rattle.fst_lts.specs.Stamps.{StampedTo}
 use Rattle.fst_machine.specs.declared.code.Code.{Code}
 use Rattle.fst_runs.specs.Configs as runs
 use Rattle.fst_runs.specs.Configs.{Path, Config, same_channel, other, channel_name}
 use Rattle.fst_runs.specs.Events.{extended}
 use Rattle.fst_runs.proofs.Laws.{same_channel-same}
 use Rattle.fst_process.specs.Kept.{Slot, Channel, Kept, asker_at, asker, partner, end_of, moves_so, put_at, without, changed, passed}
-use Rattle.fst_process.specs.Reflects.{AreTask, AsksAt, StampedTo, Reflects, bare}
+use Rattle.fst_process.specs.Reflects.{AreTask, AsksAt, Reflects, bare}
 use Rattle.fst_process.proofs.PathLaws.{one_of_both, apart_paths, apart_channels}
 use Rattle.fst_process.proofs.Places.{put_cases, put_both, channel_cases, channel_both}
 use Rattle.fst_process.proofs.Taking.{hide, are_same, moves_same, later}

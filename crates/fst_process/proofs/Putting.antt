@@ -5,6 +5,7 @@ use Rattle.fst_base.proofs.Options.{some_same, none_some}
 use Rattle.fst_terms.specs.declared.core_module.Module.{Module}
 use Rattle.fst_types.specs.declared.ends.ChannelName.{ChannelName}
 use Rattle.fst_types.specs.declared.ends.EndName.{EndName}
+use Rattle.fst_lts.specs.Stamps.{StampedTo}
 use Rattle.fst_machine.specs.declared.code.Code.{Code}
 use Rattle.fst_machine.specs.declared.request.Request.{Request}
 use Rattle.fst_machine.specs.declared.request.Request.TheVariants.{Step, New, Fork, Put, Get, Ended}
@@ -12,7 +13,7 @@ use Rattle.fst_runs.specs.Configs as runs
 use Rattle.fst_runs.specs.Configs.{Path, Config, Task, same_path, other, channel_name, program}
 use Rattle.fst_runs.specs.Events.{Asks}
 use Rattle.fst_process.specs.Kept.{Slot, Channel, Kept, asker, partner, end_of, moves_with, moves_so, put_at, marked, marked_both, able, asking, noted, settled}
-use Rattle.fst_process.specs.Reflects.{IsTask, AreTask, AsksAt, StampedTo, Reflects, bare}
+use Rattle.fst_process.specs.Reflects.{IsTask, AreTask, AsksAt, Reflects, bare}
 use Rattle.fst_process.proofs.PathLaws.{other-twice, apart_paths}
 use Rattle.fst_process.proofs.Places.{put_here, put_else, put_cases, put_both}
 use Rattle.fst_process.proofs.Taking.{show, is_same, are_same, is_there, none_kept, moves_same}

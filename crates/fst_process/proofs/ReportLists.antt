@@ -17,23 +17,24 @@ use Rattle.fst_types.specs.declared.ends.EndName.{EndName}
 use Rattle.fst_types.specs.declared.event.ChannelHistory.{ChannelHistory}
 use Rattle.fst_runs.specs.Configs.{Path}
 use Rattle.fst_runs.specs.Least.{IsBefore}
+use Rattle.fst_runs.specs.Order.{AreRising}
 use Rattle.fst_runs.proofs.Laws.{same_path-same, same_path-itself}
 use Rattle.fst_process.specs.declared.kept.Channel as rust_channel
 use Rattle.fst_process.specs.declared.kept.Slot as rust_slot
 use Rattle.fst_process.specs.declared.report.Waiting.{Waiting}
 use Rattle.fst_process.specs.Kept.{Slot, Channel, end_of}
 use Rattle.fst_process.specs.KeptOf.{at_path, slot_of, channel_of, Slots, Channels, slot_in, listed, made_in, numbered}
-use Rattle.fst_process.specs.Reports.{AreRising, ComesBefore}
+use Rattle.fst_process.specs.Reports.{ComesBefore}
 use Rattle.fst_process.specs.Listed.{AreInOrder, one_waiting, waiting_in, history_of, histories_of, histories_in}
 use Rattle.fst_process.proofs.Tables.{Key, at_same}
 use Rattle.fst_process.proofs.Rising.{first_or_rest, first_in, rest_in, none_in, rising_both}
 
 -- all keys of a map come behind this path
-abbrev AreBehind : {X : Type 0} → Path → List (Key × X) → Type 0
+abbrev pub AreBehind : {X : Type 0} → Path → List (Key × X) → Type 0
 AreBehind p es = AllByRecursion (λ (k : Key). slice_cmp nat_cmp p k.items ≡ Less) (keys_of es)
 
 -- the keys behind the first one come behind it, and are in order
-in_order : {X : Type 0} (e : Key × X) (es : List (Key × X)) → AreInOrder (e ∷ es) → AreBehind e.0.items es × AreInOrder es
+pub in_order : {X : Type 0} (e : Key × X) (es : List (Key × X)) → AreInOrder (e ∷ es) → AreBehind e.0.items es × AreInOrder es
 unfolding IsStrictlySortedBy
 in_order e es o = o
 

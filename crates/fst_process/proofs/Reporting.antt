@@ -18,13 +18,14 @@ use Rattle.fst_vm.specs.Tasks.{HasEnded}
 use Rattle.fst_runs.specs.Configs as runs
 use Rattle.fst_runs.specs.Configs.{Path, Config, main_path, program}
 use Rattle.fst_runs.specs.Least.{IsBefore, WaitsAt}
+use Rattle.fst_runs.specs.Order.{AreRising}
 use Rattle.fst_process.specs.declared.config.Config as rust_config
 use Rattle.fst_process.specs.declared.report.Report.{Report}
 use Rattle.fst_process.specs.declared.report.Waiting.{Waiting}
 use Rattle.fst_process.specs.Kept.{Slot, Kept, has_ended, is_live, end_of}
 use Rattle.fst_process.specs.KeptOf.{channel_of, ended_in, tasks_in, kept_of}
 use Rattle.fst_process.specs.Reflects.{Reflects}
-use Rattle.fst_process.specs.Reports.{AreRising, ComesBefore, IsMainResult, IsConfig, IsReported}
+use Rattle.fst_process.specs.Reports.{ComesBefore, IsMainResult, IsConfig, IsReported}
 use Rattle.fst_process.specs.Listed.{AreInOrder, waiting_in, histories_in, IsEnd}
 use Rattle.fst_process.proofs.Taking.{is_kept, is_there}
 use Rattle.fst_process.proofs.Nexts.{at_end}

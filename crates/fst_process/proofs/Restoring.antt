@@ -8,12 +8,12 @@ use Rattle.fst_types.specs.declared.ends.ChannelName.{ChannelName}
 use Rattle.fst_machine.specs.declared.code.Code.{Code}
 use Rattle.fst_vm.specs.Tasks.{IsFrom}
 use Rattle.fst_runs.specs.Configs as runs
-use Rattle.fst_runs.specs.Configs.{Path, Config, Task, same_path, same_channel, channel_name, program}
+use Rattle.fst_runs.specs.Configs.{Path, Config, Task, same_path, same_channel, channel_name, program, Histories, channel_in, ChannelsWithin}
 use Rattle.fst_runs.specs.Wrong.{IsRight}
 use Rattle.fst_runs.proofs.Laws.{same_path-same}
 use Rattle.fst_process.specs.Kept.{Kept, nothing, added, put_at, settled}
 use Rattle.fst_process.specs.Reflects.{Reflects}
-use Rattle.fst_process.specs.Resuming.{Tasks, Histories, task_in, AreApart, channel_in, made_by, AreNumbered, AreThere, TasksWithin, ChannelsWithin, CanResume, IsResumed, unasked, restored, HaveNext, AreSettled}
+use Rattle.fst_process.specs.Resuming.{Tasks, task_in, AreApart, made_by, AreNumbered, AreThere, TasksWithin, CanResume, IsResumed, unasked, restored, HaveNext, AreSettled}
 use Rattle.fst_process.proofs.Places.{put_here, put_cases, channel_cases}
 use Rattle.fst_process.proofs.Taking.{hide, show, later}
 use Rattle.fst_process.proofs.Fewer.{Fine, fewer}

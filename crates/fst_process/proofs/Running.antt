@@ -31,8 +31,8 @@ runs_then m types c [] fs d e r s = subst (λ z. Runs m types z fs e) r s
 runs_then m types c (g ∷ es) fs d e r s = (r.0, r.1, runs_then m types (written c r.0) es fs d e r.2 s)
 
 -- so it is with the least run
-least_then : (m : Program) (types : List Tree) (c : Config) (es fs : List CoreEvent) (d e : Config) → RunsLeast m types c es d →
-    RunsLeast m types d fs e → RunsLeast m types c (es ++ fs) e
+pub least_then : (m : Program) (types : List Tree) (c : Config) (es fs : List CoreEvent) (d e : Config) →
+    RunsLeast m types c es d → RunsLeast m types d fs e → RunsLeast m types c (es ++ fs) e
 least_then m types c [] fs d e r s = subst (λ z. RunsLeast m types z fs e) r s
 least_then m types c (g ∷ es) fs d e r s = (r.0, r.1, r.2, least_then m types (written c r.0) es fs d e r.3 s)
 
@@ -88,7 +88,7 @@ answers_begun k steps d o b answer = λ m e from body right.
     first_answer m e steps o (answer m (started e) (b m e from body (right [] (started e) refl)) named.0 named.1 right)
 
 -- at first what is kept is what was
-pub kept_first : (k : Code) (n : ℕ) (d : Kept) → RunsTo k n d n d
+abbrev pub kept_first : (k : Code) (n : ℕ) (d : Kept) → RunsTo k n d n d
 kept_first k n d = λ m b reflects makers parents right.
     record {
       events = [];
@@ -105,18 +105,20 @@ module _ (m : Module) (k : Code) (b : Config) (before n : ℕ) (d : Kept) (x : I
   right_here = right x.events x.config (least_runs (program m) m.types.items b x.events x.config x.runs)
 
   -- the next event is possible, and the least one
-  abbrev Goes : CoreEvent → Type 0
+  abbrev pub Goes : CoreEvent → Type 0
   Goes ev = (p : Path) × TakesPart p ev × IsLeast (program m) m.types.items x.config ev ×
       (w : Write) × Does (program m) m.types.items x.config ev w
 
-  goes : (ev : CoreEvent) → IsNext d (Some ev) → Goes ev
+  -- the next event is one of the least task that can move
+  pub goes : (ev : CoreEvent) → IsNext d (Some ev) → Goes ev
   goes ev (inl f) = absurd (none_some (sym f.1))
   goes ev (inr f) =
       let g = ready_moves m k n d x.config x.reflects (right_fine m x.config right_here) f.0 f.1.moves in
       let same : g.0 ≡ ev = some_same (sym g.1 ∙ sym f.2) in
       subst Goes same (f.0, g.2, is_least m k n d x.config f.0 g.0 x.reflects g.2 f.1.none_before, g.3, g.4)
 
-  right_after : (ev : CoreEvent) (w : Write) → Does (program m) m.types.items x.config ev w →
+  -- and what it leads to is right
+  pub right_after : (ev : CoreEvent) (w : Write) → Does (program m) m.types.items x.config ev w →
       IsRight (program m) (written x.config w)
   right_after ev w f =
       right (x.events ++ ev ∷ []) (written x.config w)
@@ -142,7 +144,7 @@ module _ (m : Module) (k : Code) (b : Config) (before n : ℕ) (d : Kept) (x : I
       }
 
   -- what is kept after the next event
-  pub reached_next : (ev : CoreEvent) (f : Kept) → IsNext d (Some ev) → Happens k d ev f → IsReached m k b before (suc n) f
+  abbrev pub reached_next : (ev : CoreEvent) (f : Kept) → IsNext d (Some ev) → Happens k d ev f → IsReached m k b before (suc n) f
   reached_next ev f next happens =
       let g = goes ev next in
       record {

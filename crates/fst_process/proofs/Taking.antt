@@ -5,12 +5,13 @@ use Rattle.fst_base.proofs.Options.{some_same, none_some}
 use Rattle.fst_terms.specs.declared.core_module.Module.{Module}
 use Rattle.fst_types.specs.declared.ends.EndName.{EndName}
 use Rattle.fst_types.specs.declared.event.Entry.{Entry}
+use Rattle.fst_lts.specs.Stamps.{StampedTo}
 use Rattle.fst_machine.specs.declared.code.Code.{Code}
 use Rattle.fst_machine.specs.declared.request.Request.{Request}
 use Rattle.fst_machine.specs.declared.request.Request.TheVariants.{Step, New, Fork, Put, Get, Ended}
 use Rattle.fst_runs.specs.Configs.{Path, Config, Task}
 use Rattle.fst_process.specs.Kept.{Slot, Kept, asker, partner, end_of, moves_with, moves_so, put_at, without}
-use Rattle.fst_process.specs.Reflects.{IsTask, AreTask, AsksAt, StampedTo, Reflects}
+use Rattle.fst_process.specs.Reflects.{IsTask, AreTask, AsksAt, Reflects}
 use Rattle.fst_process.proofs.Places.{put_cases, put_both}
 
 -- the configuration without the task at a path

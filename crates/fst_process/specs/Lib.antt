@@ -7,3 +7,5 @@ pub mod Reports
 pub mod Runs
 pub mod Listed
 pub mod Resuming
+pub mod Marks
+pub mod Marking

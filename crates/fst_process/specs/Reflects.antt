@@ -1,9 +1,9 @@
 -- When what is kept is a configuration.
-use Rattle.std.specs.Prelude.{◌≡◌, ◌≤◌, ◌↔◌, ℕ, suc, Option, Some, None, option_map, List, [], ◌∷◌, ⊤, length}
+use Rattle.std.specs.Prelude.{◌≡◌, ◌≤◌, ◌↔◌, ℕ, suc, Option, Some, None, option_map, ⊤, length}
+use Rattle.fst_lts.specs.Stamps.{StampedTo}
 use Rattle.fst_terms.specs.declared.core_module.Module.{Module}
 use Rattle.fst_types.specs.declared.ends.ChannelName.{ChannelName}
 use Rattle.fst_types.specs.declared.ends.EndName.{EndName}
-use Rattle.fst_types.specs.declared.event.Entry.{Entry}
 use Rattle.fst_machine.specs.declared.code.Code.{Code}
 use Rattle.fst_machine.specs.Machine.{request}
 use Rattle.fst_vm.specs.Tasks.{IsFrom, IsIn, IsAtRest}
@@ -35,11 +35,6 @@ bare h = record { declared = h.declared; history = h.history }
 -- the task with this path asks at an end
 abbrev pub AsksAt : Kept → Path → EndName → Type 0
 AsksAt d p x = (s : Slot) × (d.tasks p ≡ Some s) × (end_of s.request ≡ Some x)
-
--- no entry's stamp is over n
-abbrev pub StampedTo : ℕ → List Entry → Type 0
-StampedTo n [] = ⊤
-StampedTo n (e ∷ es) = (e.stamp ≤ n) × StampedTo n es
 
 -- what is kept is the configuration, after n events: its tasks and channels; which tasks ask at which ends, and can move; that
 -- the last channel that a task has made is there; and no number is over n

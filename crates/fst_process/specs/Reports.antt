@@ -1,5 +1,5 @@
 -- What a run answers.
-use Rattle.std.specs.Prelude.{◌≡◌, ◌↔◌, ◌⊎◌, ◌<◌, ◌≤◌, ◌+◌, ℕ, suc, Option, Some, None, List, [], ◌∷◌, ⊤, length, Contains}
+use Rattle.std.specs.Prelude.{◌≡◌, ◌↔◌, ◌⊎◌, ◌<◌, ◌≤◌, ◌+◌, ℕ, suc, Option, Some, None, List, ⊤, length, Contains}
 use Rattle.fst_terms.specs.CoreTree.{CoreTree}
 use Rattle.fst_terms.specs.declared.core_module.Module.{Module}
 use Rattle.fst_value.specs.ValueTree as tree
@@ -14,6 +14,7 @@ use Rattle.fst_runs.specs.declared.event.CoreEvent.{CoreEvent}
 use Rattle.fst_runs.specs.Configs.{Path, Config, Task, Channel, main_path, program, started}
 use Rattle.fst_runs.specs.Events.{IsLast}
 use Rattle.fst_runs.specs.Least.{IsBefore, RunsLeast, WaitsAt}
+use Rattle.fst_runs.specs.Order.{AreRising}
 use Rattle.fst_machine.specs.declared.code.Code.{Code}
 use Rattle.fst_process.specs.Kept.{Kept}
 use Rattle.fst_process.specs.Reflects.{Reflects}
@@ -47,11 +48,6 @@ IsMainResult m c None = (t : Task) (v : Value) → c.tasks main_path ≡ Some t 
     pause m.families t.state ≡ ended v → ⊥
 IsMainResult m c (Some x) = (t : Task) × (v : Value) × (c.tasks main_path ≡ Some t) ×
     (pause m.families t.state ≡ ended v) × IsAlike x v
-
--- each of these things comes before those behind it
-abbrev pub AreRising : {X : Type 0} → (X → X → Type 0) → List X → Type 0
-AreRising R [] = ⊤
-AreRising R (x ∷ xs) = ((y : _) → Contains xs y → R x y) × AreRising R xs
 
 -- one channel comes before another: by its maker, and then by its number
 abbrev pub ComesBefore : ChannelName → ChannelName → Type 0

@@ -1,26 +1,20 @@
 -- Tasks and channels that are handed in, and when they are a configuration.
 use Rattle.std.specs.Prelude.{◌≡◌, ◌≤◌, ℕ, zero, suc, Option, Some, None, List, [], ◌∷◌, ⊤, if◌then◌else◌}
-use Rattle.fst_lts.specs.Histories.{over}
 use Rattle.fst_terms.specs.declared.core_module.Module.{Module}
 use Rattle.fst_types.specs.declared.ends.ChannelName.{ChannelName}
 use Rattle.fst_types.specs.declared.event.ChannelHistory.{ChannelHistory}
 use Rattle.fst_machine.specs.declared.code.Code.{Code}
 use Rattle.fst_vm.specs.TaskView.{TaskView}
 use Rattle.fst_vm.specs.Tasks.{IsFrom, IsIn, HasNext}
-use Rattle.fst_runs.specs.Configs as runs
-use Rattle.fst_runs.specs.Configs.{Path, Config, Task, same_path, same_channel, channel_name, program}
+use Rattle.fst_runs.specs.Configs.{Path, Config, Task, Histories, same_path, channel_in, channel_name, ChannelsWithin, program}
 use Rattle.fst_runs.specs.Wrong.{IsRight}
 use Rattle.fst_process.specs.Kept.{Channel, Kept, put_at, added}
-use Rattle.fst_process.specs.Reflects.{StampedTo, Reflects}
+use Rattle.fst_process.specs.Reflects.{Reflects}
 use Rattle.fst_process.specs.Firing.{Settles}
 
 -- tasks with their clocks
 abbrev pub Tasks : Type 0
 Tasks = List (TaskView × ℕ)
-
--- channels with what passed over them
-abbrev pub Histories : Type 0
-Histories = List ChannelHistory
 
 -- the first of these tasks that has this path
 abbrev pub task_in : Tasks → Path → Option (TaskView × ℕ)
@@ -31,16 +25,6 @@ task_in (t ∷ ts) p = if same_path t.0.path p then Some t else task_in ts p
 abbrev pub AreApart : Tasks → Type 0
 AreApart [] = ⊤
 AreApart (t ∷ ts) = (task_in ts t.0.path ≡ None) × AreApart ts
-
--- the channel, if its name is this
-abbrev pub named_so : ChannelHistory → ChannelName → Option runs.Channel
-named_so h g = if same_channel h.name g then Some
-    (record { declared = h.declared; history = h.entries.items }) else None
-
--- the last of these channels that has this name
-abbrev pub channel_in : Histories → ChannelName → Option runs.Channel
-channel_in [] g = None
-channel_in (h ∷ hs) g = over (channel_in hs g) (named_so h g)
 
 -- how many of these channels the task with this path has made
 abbrev pub made_by : Path → Histories → ℕ
@@ -82,11 +66,6 @@ pub record AreAll (m : Module) (k : Code) (ts : Tasks) (hs : Histories) (c : Con
 abbrev pub TasksWithin : ℕ → Tasks → Type 0
 TasksWithin n [] = ⊤
 TasksWithin n (t ∷ ts) = (t.1 ≤ n) × (t.0.forked ≤ n) × TasksWithin n ts
-
--- no number of these channels, and no stamp of what passed over them, is over n
-abbrev pub ChannelsWithin : ℕ → Histories → Type 0
-ChannelsWithin n [] = ⊤
-ChannelsWithin n (h ∷ hs) = (h.name.count ≤ n) × StampedTo n h.entries.items × ChannelsWithin n hs
 
 -- these are all tasks and all channels of a right configuration of a module whose code this is
 pub record CanResume (k : Code) (ts : Tasks) (hs : Histories) : Type 0 where

@@ -11,7 +11,7 @@ ghost use Rattle.fst_process.specs.Reports.{IsConfig, IsReported};
 ghost use Rattle.fst_process.specs.Runs.{CanRunFrom, RunsTo};
 
 use crate::kept::{
-    Channel, EndedTask, Slot, has_ended, move_on, partner_among, record_among, step_on,
+    Channel, EndedTask, Slot, has_ended, last_among, move_on, partner_among, record_among, step_on,
 };
 use crate::notes::{note, note_again};
 use crate::report::{Report, histories, main_result, waiting_tasks};
@@ -157,6 +157,27 @@ impl Config {
         match self.channels.get(end.channel.maker.as_slice()) {
             Some(channels) => partner_among(channels, end),
             None => None,
+        }
+    }
+
+    /// How many channels a task has made.
+    pub(crate) fn made(&self, maker: &Path) -> usize
+        ensures { result ≡ (kept_of self.now).made maker.now }
+    {
+        match self.channels.get(maker.as_slice()) {
+            Some(channels) => channels.len(),
+            None => 0,
+        }
+    }
+
+    /// The stamp of the last entry of a channel.
+    pub(crate) fn last_stamp(&self, channel: &ChannelName) -> u64
+        ensures { (j : _) → (kept_of self.now).channels channel.now ≡ Some j →
+            result ≡ last_stamp j.history }
+    {
+        match self.channels.get(channel.maker.as_slice()) {
+            Some(channels) => last_among(channels, channel.count),
+            None => 0,
         }
     }
 

@@ -111,8 +111,8 @@ pub(crate) fn step_on(slot: &mut Slot, code: &Code, most: u64) -> Result<u64, Al
     Ok(count)
 }
 
-// The other side.
-fn opposite(side: Side) -> Side
+/// The other side.
+pub(crate) fn opposite(side: Side) -> Side
     ensures { result ≡ opposite side }
 {
     match side {
@@ -172,6 +172,17 @@ pub(crate) fn partner_among<'a>(channels: &'a [Channel], end: &EndName) -> Optio
         return None;
     }
     asker(&channels[count - 1], opposite(end.side))
+}
+
+/// The stamp of the last entry of one of the channels of a maker.
+pub(crate) fn last_among(channels: &[Channel], number: u32) -> u64
+    ensures { (j : _) → numbered channels.now number ≡ Some j → result ≡ last_stamp j.history }
+{
+    let count = number as usize;
+    if count == 0 || channels.len() < count {
+        return 0;
+    }
+    last_stamp(&channels[count - 1].entries)
 }
 
 /// Notes among the channels of one maker that a task asks at an end, and answers the one that asks at the other.

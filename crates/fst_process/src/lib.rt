@@ -4,11 +4,15 @@
 mod config;
 mod firing;
 mod kept;
+mod marking;
+mod marks;
 mod notes;
 mod report;
 mod resuming;
 mod run;
 
 pub use config::Config;
+pub use marking::{in_path_order, run_marked};
+pub use marks::{Done, Mark, TaskMarks};
 pub use report::{Outcome, Report, Waiting};
 pub use run::{run_from, run_one};

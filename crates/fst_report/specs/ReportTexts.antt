@@ -1,5 +1,5 @@
 -- The report of a run as text.
-use Rattle.std.specs.Prelude.{ℕ, List, [], ◌∷◌, ◌++◌, Bool, true, false, Option, Some, None, is_some, codes, decimal, map, unwrap_or}
+use Rattle.std.specs.Prelude.{ℕ, List, [], ◌∷◌, ◌++◌, Bool, true, false, Option, Some, None, is_some, codes, unwrap_or}
 use Rattle.std.specs.List.{flat_map}
 use Rattle.fst_types.specs.Tree.{Tree, skip}
 use Rattle.fst_types.specs.declared.family.Family.{Family}
@@ -7,22 +7,14 @@ use Rattle.fst_lts.specs.Step.{step}
 use Rattle.fst_lts.specs.Histories.{sending, after_event}
 use Rattle.fst_value.specs.ValueTree.{ValueTree, int, bool, char, unit}
 use Rattle.fst_value.specs.Texts.{value_text}
-use Rattle.fst_types.specs.declared.ends.ChannelName.{ChannelName}
 use Rattle.fst_types.specs.declared.event.Event.{Event}
 use Rattle.fst_types.specs.declared.event.Event.TheVariants as event
 use Rattle.fst_types.specs.declared.event.Entry.{Entry}
 use Rattle.fst_types.specs.declared.event.ChannelHistory.{ChannelHistory}
-use Rattle.fst_type_print.specs.Texts.{joined_text, type_text, family_names, side_text}
+use Rattle.fst_type_print.specs.NameTexts.{path_text, channel_text}
+use Rattle.fst_type_print.specs.Texts.{type_text, family_names, side_text}
 use Rattle.fst_process.specs.declared.report.Report.{Report}
 use Rattle.fst_process.specs.declared.report.Waiting.{Waiting}
-
--- a path: its numbers with points between
-abbrev pub path_text : List ℕ → List ℕ
-path_text p = joined_text (codes ".") (map decimal p)
-
--- a channel: its maker's path, and which of its maker's channels it is
-abbrev pub channel_text : ChannelName → List ℕ
-channel_text h = path_text h.maker ++ codes "#" ++ decimal h.count
 
 -- an end of this type sends the event, or selects the label
 abbrev pub sends : Tree → Event → Bool

@@ -2,7 +2,6 @@
 #![tactic(auto)]
 
 mod entries;
-mod names;
 mod report;
 mod residual;
 mod summary;

@@ -8,9 +8,8 @@ ghost use Rattle.fst_report.specs.DeclaredTypes.{AreNamedWithin, AreScoped};
 ghost use Rattle.fst_report.specs.ReportTexts.{history_line, history_text, report_text, result_line, type_line, waiting_text};
 
 use crate::entries::push_entries;
-use crate::names::{push_channel, push_path};
 use fst_process::{Report, Waiting};
-use fst_type_print::{side_text, type_text};
+use fst_type_print::{push_channel, push_path, side_text, type_text};
 use fst_types::{ChannelHistory, Family};
 use fst_value::{Value, print};
 use std::alloc::{AllocError, Global};

@@ -32,11 +32,13 @@ held_turned x (value.value v vs) ws = let h = held_turned x vs (value.value v ws
 
 -- x stands nowhere in what the lemmas begin with
 module _ (m : List Family) (x : EndName) where
-  enter_none : (b : Bool) (v : Value) (env : Environment) → held x v ≡ 0 → held_env x env ≡ 0 → held_env x (enter b v env) ≡ 0
+  -- with one variable more
+  pub enter_none : (b : Bool) (v : Value) (env : Environment) → held x v ≡ 0 → held_env x env ≡ 0 → held_env x (enter b v env) ≡ 0
   enter_none true v env h g = zeros (held x v) (held_env x env) h g
   enter_none false v env h g = g
 
-  keep_none : (env : Environment) (p : ℕ → Bool) → held_env x env ≡ 0 → held_env x (keep p env) ≡ 0
+  -- with those alone that are kept
+  pub keep_none : (env : Environment) (p : ℕ → Bool) → held_env x env ≡ 0 → held_env x (keep p env) ≡ 0
   keep_none none p h = refl
   keep_none (hole env) p h = keep_none env (outside p) h
   keep_none (slot v env) p h =

@@ -17,9 +17,21 @@ pub use Rattle.fst_runs.proofs.Owners.{own_once, owner, allowed_unspent, asks_he
 pub use Rattle.fst_runs.proofs.Asked.{put_pause, get_pause, new_pause, fork_pause}
 -- How often values hold an end.
 pub use Rattle.fst_runs.proofs.HeldEnds.{pause_none, held_turned}
+-- After an answer a state holds no end that its pause doesn't, but those of a new channel; nor does a task that is forked.
+pub use Rattle.fst_runs.proofs.HeldAfter.{after_none, child_none}
 -- What is left at one side is the dual of what is left at the other.
 pub use Rattle.fst_runs.proofs.HistoryLaws.{residual-opposite, residual-other}
 -- Where nothing has gone wrong, two tasks don't ask at one end nor send or receive at both, and one that sends meets one that receives.
 pub use Rattle.fst_runs.proofs.RightLaws.{right_one, right_there, right_opposed, right_received, right_meets}
 -- The least run is a run.
 pub use Rattle.fst_runs.proofs.LeastRuns.{least_runs}
+-- A log that leads to a task leads with an entry of this task more to the task after the entry; each channel that is made has a type still where the next one has, and none is opened where none is made.
+pub use Rattle.fst_runs.proofs.LogLaws.{follows_more, opened_more, none_opened}
+-- The stamp of an answer is later than the task's clock, and with it a task has made one channel more at most, and forked one task more at most.
+pub use Rattle.fst_runs.proofs.LogLaws.{later, few_made, few_forks}
+-- The events of each run have stamps, and what has stamps is a run; an event has one stamp, which is the clock of what it writes.
+pub use Rattle.fst_runs.proofs.StampedLaws.{HasStamps, run_stamps, stamped_runs, write_stamp, one_stamp}
+-- Paths, and events with stamps, don't come before one another; the stamps of sorted events don't fall.
+pub use Rattle.fst_runs.proofs.OrderLaws.{not_both, precede_apart, sorted_timed}
+-- What a task's log gains in more events is what it gains in the first of them and what it gains in the others; in each run logs gain something.
+pub use Rattle.fst_runs.proofs.LogLaws.{entries_at-append, run_notes}

@@ -1,11 +1,15 @@
 pub mod Asked
 pub mod FirstRun
+pub mod HeldAfter
 pub mod HeldEnds
 pub mod HistoryLaws
 pub mod Laws
 pub mod LeastRuns
+pub mod LogLaws
 pub mod NameLaws
 pub mod Naming
+pub mod OrderLaws
 pub mod Owners
 pub mod RightLaws
+pub mod StampedLaws
 pub mod Updates

@@ -1,13 +1,15 @@
 -- A configuration: all tasks by their paths, and all channels by their names.
-use Rattle.std.specs.Prelude.{ℕ, zero, suc, Bool, true, false, ◌&&◌, Option, Some, None, option_and_then, List, [], ◌∷◌, ◌++◌, nat_eq, if◌then◌else◌}
+use Rattle.std.specs.Prelude.{◌≤◌, ℕ, zero, suc, Bool, true, false, ◌&&◌, Option, Some, None, option_and_then, List, [], ◌∷◌, ◌++◌, nat_eq, if◌then◌else◌, ⊤}
 use Rattle.std.specs.Str.{bytes_eq}
 use Rattle.fst_types.specs.Tree.{Tree}
 use Rattle.fst_types.specs.declared.side.Side.{Side}
 use Rattle.fst_types.specs.declared.side.Side.TheVariants.{Left, Right}
-use Rattle.fst_lts.specs.Histories.{after_history, side_type, opposite}
+use Rattle.fst_lts.specs.Histories.{over, after_history, side_type, opposite}
+use Rattle.fst_lts.specs.Stamps.{StampedTo}
 use Rattle.fst_terms.specs.CoreTree.{CoreTree}
 use Rattle.fst_types.specs.declared.ends.ChannelName.{ChannelName}
 use Rattle.fst_types.specs.declared.ends.EndName.{EndName}
+use Rattle.fst_types.specs.declared.event.ChannelHistory.{ChannelHistory}
 use Rattle.fst_types.specs.declared.event.Entry.{Entry}
 use Rattle.fst_machine.specs.Machine.{State, begins}
 pub use Rattle.fst_machine.specs.Programs.{bodies, program, main_body}
@@ -86,3 +88,24 @@ started e = record {
   tasks = λ p. if same_path main_path p then Some (new_task (begins e []) zero) else None;
   channels = λ h. None;
 }
+
+-- ---- channels in a list
+
+-- channels with what passed over them
+abbrev pub Histories : Type 0
+Histories = List ChannelHistory
+
+-- the channel, if its name is this
+abbrev pub named_so : ChannelHistory → ChannelName → Option Channel
+named_so h g = if same_channel h.name g then Some
+    (record { declared = h.declared; history = h.entries.items }) else None
+
+-- the last of these channels that has this name
+abbrev pub channel_in : Histories → ChannelName → Option Channel
+channel_in [] g = None
+channel_in (h ∷ hs) g = over (channel_in hs g) (named_so h g)
+
+-- no number of these channels, and no stamp of what passed over them, is over n
+abbrev pub ChannelsWithin : ℕ → Histories → Type 0
+ChannelsWithin n [] = ⊤
+ChannelsWithin n (h ∷ hs) = (h.name.count ≤ n) × StampedTo n h.entries.items × ChannelsWithin n hs

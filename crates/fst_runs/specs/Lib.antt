@@ -1,5 +1,9 @@
 pub mod Configs
 pub mod Events
+pub mod StampedRuns
 pub mod Wrong
 pub mod Least
+pub mod Order
 pub mod Names
+pub mod Logs
+pub mod Notes

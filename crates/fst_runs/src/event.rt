@@ -12,3 +12,10 @@ pub enum CoreEvent {
     /// The first task sends on one end of this channel what the second receives on the other.
     Meet(Path, Path, ChannelName),
 }
+
+/// What happens in a run, with its stamp: the clock of each task that takes part in it just after it.
+#[derive(Drop)]
+pub struct Stamped {
+    pub event: CoreEvent,
+    pub stamp: u64,
+}

@@ -21,11 +21,12 @@ use Rattle.fst_machine.specs.Machine as machine
 use Rattle.fst_runs.specs.Wrong.{held_state, IsAllowed}
 use Rattle.fst_cell.specs.Answers.{end_with, longer}
 use Rattle.fst_cell.specs.End.{EndView, end_name, residual_of}
-use Rattle.fst_cell.specs.Residuals.{residual, sends, receives}
-use Rattle.fst_safety.specs.declared.tasks.LogEntry.{LogEntry}
+use Rattle.fst_lts.specs.Residuals.{residual, sends, receives}
+use Rattle.fst_runs.specs.declared.log.LogEntry.{LogEntry}
 use Rattle.fst_safety.specs.Fitting.{Residuals, IsTyped}
 use Rattle.fst_safety.specs.WellTyped.{IsWellTyped, program_in}
-use Rattle.fst_safety.specs.Logs.{Exchange, Enters, after_entry, part_in, parts_in, then_after, shown}
+use Rattle.fst_runs.specs.Logs.{Exchange, Enters, after_entry, part_in, parts_in, then_after}
+use Rattle.fst_safety.specs.Threads.{shown}
 use Rattle.fst_safety.specs.Threads.{Thread, FitsIn, FitsEnd, IsPast}
 use Rattle.fst_safety.specs.Turns.{by_exchanges}
 use Rattle.fst_safety.specs.Going.{GoesOnTo, IsMoved, with_entry, StayTyped, StepsOn, Opens, ForksOn, Tries, Sends, Receives}

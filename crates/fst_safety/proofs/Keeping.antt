@@ -26,10 +26,10 @@ use Rattle.fst_vm.specs.Running.{code_of}
 use Rattle.fst_vm.specs.Tasks.{IsIn, IsAtRest, HasNext, Takes, Stays, forked_after}
 use Rattle.fst_runs.specs.Wrong.{IsAllowed}
 use Rattle.fst_cell.specs.End.{EndView, residual_of}
-use Rattle.fst_safety.specs.declared.tasks.LogEntry.{LogEntry}
+use Rattle.fst_runs.specs.declared.log.LogEntry.{LogEntry}
 use Rattle.fst_safety.specs.declared.tasks.TypedTask.{TypedTask}
 use Rattle.fst_safety.specs.Pauses.{Allowed}
-use Rattle.fst_safety.specs.Logs.{made_after, forks_after}
+use Rattle.fst_runs.specs.Logs.{made_after, forks_after}
 use Rattle.fst_safety.specs.Threads.{Thread, FitsIn, FitsEnd, count_of}
 use Rattle.fst_safety.specs.Turns.{AreKnownSpent}
 use Rattle.fst_safety.specs.Going.{GoesOnTo, with_entry}

@@ -5,8 +5,16 @@ pub use Rattle.fst_safety.proofs.Checked.{checked}
 pub use Rattle.fst_safety.proofs.Modules.{IsMainTyped, main_typed}
 -- a sound configuration of a well-typed module is right
 pub use Rattle.fst_safety.proofs.SoundLaws.{sound_right}
--- what a run of a well-typed module leads to from a sound configuration is sound
-pub use Rattle.fst_safety.proofs.Runs.{runs_sound}
+-- what an event or a run of a well-typed module leads to from a sound configuration is sound
+pub use Rattle.fst_safety.proofs.Runs.{does_sound, runs_sound}
+-- the start of a module that has derivations is sound
+pub use Rattle.fst_safety.proofs.Orders.{start_sound}
+-- where a typed state stands still it asks for something that its residuals allow
+pub use Rattle.fst_safety.proofs.Settles.{pause_goes}
+-- where it asks for a channel, that has a type
+pub use Rattle.fst_safety.proofs.TaskNews.{is_declared}
+-- a task asks for one thing
+pub use Rattle.fst_safety.proofs.Askers.{same_asks}
 -- a closed well-formed type equals itself, and equality goes back
 pub use Rattle.fst_safety.proofs.Equals.{equals_itself, equals_back}
 -- a closed session type is well formed, and what a step leaves of it is a closed session type
@@ -31,12 +39,6 @@ pub use Rattle.fst_safety.proofs.BagLaws.{count_first, counts_itself, counted_so
 pub use Rattle.fst_safety.proofs.BagLaws.{others_of}
 -- where an end of a name stands among some that all have a property, one of this name has it
 pub use Rattle.fst_safety.proofs.BagLaws.{there}
--- a log that leads to a task leads with an entry of this task more to the task after the entry
-pub use Rattle.fst_safety.proofs.ThreadLaws.{follows_more}
--- the stamp of an answer is later than the task's clock
-pub use Rattle.fst_safety.proofs.ThreadLaws.{later}
--- with an answer a task has made one channel more at most, and forked one task more at most
-pub use Rattle.fst_safety.proofs.ThreadLaws.{few_made, few_forks}
 -- main's thread fits at the beginning of a body of main's type, whose values can be printed
 pub use Rattle.fst_safety.proofs.TaskStarts.{begun_fits}
 -- a thread that fits a module which has derivations asks for something that the residuals of its ends allow
@@ -47,3 +49,7 @@ pub use Rattle.fst_safety.proofs.Keeping.{stays}
 pub use Rattle.fst_safety.proofs.Going.{stay_typed}
 -- a task may cross threads
 pub use Rattle.fst_safety.proofs.Sends.{typed_task_send}
+-- runs of a module that has derivations which come to an end are of one length and lead to one configuration, and no run is longer
+pub use Rattle.fst_safety.proofs.Orders.{one_end}
+-- they have the same events, which sorted are one list
+pub use Rattle.fst_safety.proofs.Orders.{all_same, one_text}

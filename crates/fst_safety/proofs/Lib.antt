@@ -30,6 +30,7 @@ pub mod Next
 pub mod NextChoices
 pub mod Offers
 pub mod OneEnd
+pub mod OneOrder
 pub mod OneWrite
 pub mod Operators
 pub mod Orders
@@ -38,6 +39,7 @@ pub mod Pasts
 pub mod Places
 pub mod PutLaws
 pub mod Runs
+pub mod SameEvents
 pub mod Sets
 pub mod Settles
 pub mod Shapes

@@ -11,7 +11,7 @@ use Rattle.fst_types.proofs.path.Path.TheSendSync as path
 use Rattle.fst_vm.proofs.task.Task.TheSendSync as task
 use Rattle.fst_cell.specs.contracts.end.End as end
 use Rattle.fst_cell.specs.contracts.end.End.TheInside as inside
-use Rattle.fst_safety.proofs.tasks.Logged.TheSendSync as entry
+use Rattle.fst_safety.proofs.tasks.KeptEntry.TheSendSync as entry
 use Rattle.fst_safety.specs.contracts.tasks.TypedTask as typed_task
 
 ruleset known = (sendable, crosses, types.crosses, path.the_send)

@@ -44,7 +44,7 @@ use Rattle.fst_safety.proofs.Told.{told_made, told_forked}
 -- ---- a channel
 
 -- where a new channel is asked for its type is a session type
-is_declared : (m : Surroundings) (r : Residuals) (p : Pause) (t : Tree) (j : ℕ) → Allowed m r p t →
+pub is_declared : (m : Surroundings) (r : Residuals) (p : Pause) (t : Tree) (j : ℕ) → Allowed m r p t →
     asked p ≡ Some (request.New j) → (d : Tree) × (slice_get m.types j ≡ Some d) × IsSession [] d
 is_declared m r stuck t j h e = absurd h
 is_declared m r (calls b env v fs) t j h e = absurd (cc e)

@@ -26,7 +26,7 @@ use Rattle.fst_cell.specs.declared.content.Half.{Half}
 use Rattle.fst_cell.specs.declared.content.Offer.{Offer}
 use Rattle.fst_cell.specs.Answers.{FoundHeld, FoundNothing, FoundStanding, IsOffered, IsTaken, IsNoticed, end_with, longer, offered, entry}
 use Rattle.fst_cell.specs.End.{EndView, end_name, residual_of}
-use Rattle.fst_cell.specs.Residuals.{sends, asks}
+use Rattle.fst_lts.specs.Residuals.{sends, asks}
 use Rattle.fst_cell.specs.Rule.{tried}
 use Rattle.fst_safety.specs.declared.tasks.TypedTask.{TypedTask}
 use Rattle.fst_safety.specs.declared.tasks.Turned.TheVariants.{Moved, Offered, Left as Off, Ended}

@@ -13,18 +13,19 @@ use Rattle.fst_runs.specs.Configs.{Task, same_end}
 use Rattle.fst_runs.specs.Wrong.{once, held_state, end_of}
 use Rattle.fst_cell.specs.declared.content.Offer.{Offer}
 use Rattle.fst_cell.specs.End.{EndView, end_name, residual_of}
-use Rattle.fst_safety.specs.declared.tasks.LogEntry.{LogEntry}
+use Rattle.fst_runs.specs.declared.log.LogEntry.{LogEntry}
 use Rattle.fst_safety.specs.Fitting.{Residuals, IsTyped}
 use Rattle.fst_safety.specs.Pauses.{Goes}
 use Rattle.fst_safety.specs.WellTyped.{program_in}
-use Rattle.fst_safety.specs.Logs.{Exchange, Opening, Enters, after_entry, made_after, births, exchanges, openings}
+use Rattle.fst_runs.specs.Logs.{Exchange, Opening, Enters, after_entry, made_after, births, exchanges, openings}
+use Rattle.fst_runs.proofs.Laws.{follows_more, later, few_made, few_forks, opened_more, none_opened}
 use Rattle.fst_safety.specs.Threads.{Thread, FitsIn, FitsEnd, IsOpen, IsPast, AreResiduals, count_of}
 use Rattle.fst_safety.specs.Turns.{Turn, AreKnownSpent, of_ends, on_side, by_type, by_cell, by_exchanges}
 use Rattle.fst_safety.specs.Going.{IsMoved}
 use Rattle.fst_safety.proofs.BagLaws.{counted, count_first, counted_so, or_not, with_at, at_itself, at_other, are_permuted, are_less, unspent_in}
 use Rattle.fst_safety.proofs.Pasts.{later_past}
 use Rattle.fst_safety.proofs.PutLaws.{HasPut, WentTo, has_put, rested, rested_typed, rested_unspent}
-use Rattle.fst_safety.proofs.ThreadLaws.{follows_more, later, few_made, few_forks, idle_end, later_ends, opened_more, none_opened}
+use Rattle.fst_safety.proofs.ThreadLaws.{idle_end, later_ends}
 
 module _ (m : Surroundings) (a : Tree) (x : Thread) (fits : FitsIn m a x) (g : LogEntry)
     (enters : Enters (program_in m) x.path x.now g) (n : EndName) (e f : EndView)

@@ -17,13 +17,13 @@ use Rattle.fst_machine.specs.Machine.{State, pause, child, or_lost, answered}
 use Rattle.fst_machine.specs.Machine as machine
 use Rattle.fst_runs.specs.Configs.{Path, Task, child_path, new_task}
 use Rattle.fst_runs.specs.Wrong.{held_state, IsUnspent}
-use Rattle.fst_runs.proofs.Laws.{no_parent}
+use Rattle.fst_runs.proofs.Laws.{no_parent, follows_more, opened_more}
 use Rattle.fst_cell.specs.End.{EndView, end_name, residual_of}
-use Rattle.fst_safety.specs.declared.tasks.LogEntry.{LogEntry}
+use Rattle.fst_runs.specs.declared.log.LogEntry.{LogEntry}
 use Rattle.fst_safety.specs.Running.{Equals}
 use Rattle.fst_safety.specs.Fitting.{Residuals}
 use Rattle.fst_safety.specs.WellTyped.{IsWellTyped, program_in}
-use Rattle.fst_safety.specs.Logs.{Birth, Enters, after_entry, birth_of}
+use Rattle.fst_runs.specs.Logs.{Birth, Enters, after_entry, birth_of}
 use Rattle.fst_safety.specs.Threads.{Thread, FitsIn, FitsEnd, IsOpen, IsSpent, AreResiduals, IsNamedBelow, count_of, IsPast}
 use Rattle.fst_safety.specs.Turns.{Turn, AreKnownSpent, of_ends, birth, by_type, by_cell, by_exchanges}
 use Rattle.fst_safety.proofs.BagLaws.{counted, count_first, counts_itself, stands_there, there, unspent_in}
@@ -31,7 +31,6 @@ use Rattle.fst_safety.proofs.ForkLaws.{Parts, fork_parts}
 use Rattle.fst_safety.proofs.Settles.{pause_goes}
 use Rattle.fst_safety.proofs.StillLaws.{Still, typed_still}
 use Rattle.fst_safety.proofs.Pasts.{later_past}
-use Rattle.fst_safety.proofs.ThreadLaws.{follows_more, opened_more}
 use Rattle.fst_safety.proofs.ThreadMaking.{fork_holds}
 use Rattle.fst_safety.proofs.ThreadTurns.{later_all}
 use Rattle.fst_safety.proofs.ThreadTyping.{skip_session, ended_equal}

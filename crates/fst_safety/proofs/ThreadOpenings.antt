@@ -17,21 +17,20 @@ use Rattle.fst_machine.specs.Machine.{State, ends, or_lost, answered}
 use Rattle.fst_machine.specs.Machine as machine
 use Rattle.fst_runs.specs.Configs.{same_end, channel_name}
 use Rattle.fst_runs.specs.Wrong.{held, held_state, IsUnspent}
-use Rattle.fst_runs.proofs.Laws.{same_end-itself, same_end-same}
+use Rattle.fst_runs.proofs.Laws.{same_end-itself, same_end-same, follows_more, opened_more}
 use Rattle.fst_cell.specs.End.{EndView, end_name, residual_of}
-use Rattle.fst_cell.specs.Residuals.{residual}
+use Rattle.fst_lts.specs.Residuals.{residual}
 use Rattle.fst_cell.specs.Rule.{fresh}
-use Rattle.fst_safety.specs.declared.tasks.LogEntry.{LogEntry}
+use Rattle.fst_runs.specs.declared.log.LogEntry.{LogEntry}
 use Rattle.fst_safety.specs.Fitting.{Residuals, IsTyped}
 use Rattle.fst_safety.specs.WellTyped.{IsWellTyped, program_in}
-use Rattle.fst_safety.specs.Logs.{Opening, Enters, after_entry, opening_of}
+use Rattle.fst_runs.specs.Logs.{Opening, Enters, after_entry, opening_of}
 use Rattle.fst_safety.specs.Threads.{Thread, FitsIn, FitsEnd, AreResiduals, IsNamedBelow, count_of}
 use Rattle.fst_safety.specs.Turns.{Turn, AreKnownSpent, on_side, by_type, by_cell, by_exchanges}
 use Rattle.fst_safety.specs.Bags.{IsPutBack}
 use Rattle.fst_safety.proofs.BagLaws.{counted, counted_so, or_not, with_at, at_itself, at_other, unspent_in}
 use Rattle.fst_safety.proofs.Pasts.{later_past}
 use Rattle.fst_safety.proofs.PutLaws.{HasPut, WentTo, has_put, rested, rested_typed, rested_unspent}
-use Rattle.fst_safety.proofs.ThreadLaws.{follows_more, opened_more}
 use Rattle.fst_safety.proofs.ThreadMaking.{HasOpened, end_at, sides_differ, own_ends, other_ends, made_typed, made_holds}
 use Rattle.fst_safety.proofs.ThreadTurns.{later_all}
 

@@ -22,16 +22,17 @@ use Rattle.fst_runs.specs.Wrong.{once, held_state}
 use Rattle.fst_cell.specs.declared.content.Half.{Half}
 use Rattle.fst_cell.specs.End.{EndView, end_name, residual_of}
 use Rattle.fst_cell.specs.Answers.{end_with}
-use Rattle.fst_cell.specs.Residuals.{residual}
-use Rattle.fst_safety.specs.declared.tasks.LogEntry.{LogEntry}
+use Rattle.fst_lts.specs.Residuals.{residual}
+use Rattle.fst_runs.specs.declared.log.LogEntry.{LogEntry}
 use Rattle.fst_safety.specs.Pauses.{Goes}
 use Rattle.fst_safety.specs.WellTyped.{IsWellTyped, program_in}
-use Rattle.fst_safety.specs.Logs.{Enters, after_entry, parts_in}
+use Rattle.fst_runs.specs.Logs.{Enters, after_entry, parts_in}
+use Rattle.fst_runs.proofs.Laws.{follows_more, opened_more}
 use Rattle.fst_safety.specs.Threads.{Thread, FitsIn, FitsEnd, IsOpen, count_of}
 use Rattle.fst_safety.specs.Turns.{Turn, AreKnownSpent, on_side, by_type, by_cell, by_exchanges}
 use Rattle.fst_safety.proofs.BagLaws.{counted, unspent_in}
 use Rattle.fst_safety.proofs.Pasts.{later_past}
-use Rattle.fst_safety.proofs.ThreadLaws.{follows_more, idle_end, later_ends, opened_more}
+use Rattle.fst_safety.proofs.ThreadLaws.{idle_end, later_ends}
 use Rattle.fst_safety.proofs.ThreadTyping.{stepped, step_holds}
 
 -- ---- nothing happens

@@ -6,7 +6,7 @@ use Rattle.fst_lts.specs.Step.{terminated}
 use Rattle.fst_types.specs.declared.ends.EndName.{EndName}
 use Rattle.fst_types.specs.declared.event.Event.{Event}
 use Rattle.fst_cell.specs.Answers.{end_with, FoundHeld, FoundNothing, FoundStanding, IsOffered, IsTaken, IsNoticed}
-use Rattle.fst_cell.specs.Residuals.{sends, asks}
+use Rattle.fst_lts.specs.Residuals.{sends, asks}
 use Rattle.fst_cell.specs.Rule.{tried}
 use Rattle.fst_cell.specs.End.{EndView, end_name, residual_of}
 use Rattle.fst_safety.specs.Threads.{count_of}

@@ -24,11 +24,11 @@ use Rattle.fst_runs.specs.Wrong.{held_env, held_state}
 use Rattle.fst_cell.specs.declared.content.Half.{Half}
 use Rattle.fst_cell.specs.Answers.{end_with, longer}
 use Rattle.fst_cell.specs.End.{EndView, end_name, residual_of}
-use Rattle.fst_cell.specs.Residuals.{receives}
+use Rattle.fst_lts.specs.Residuals.{receives}
 use Rattle.fst_cell.specs.Rule.{fresh}
-use Rattle.fst_safety.specs.declared.tasks.LogEntry.{LogEntry}
+use Rattle.fst_runs.specs.declared.log.LogEntry.{LogEntry}
 use Rattle.fst_safety.specs.WellTyped.{program_in}
-use Rattle.fst_safety.specs.Logs.{after_entry}
+use Rattle.fst_runs.specs.Logs.{after_entry}
 use Rattle.fst_safety.specs.Threads.{Thread, FitsIn, FitsEnd, count_of}
 use Rattle.fst_safety.specs.Bags.{IsPutBack}
 use Rattle.fst_safety.specs.Turns.{Turn}

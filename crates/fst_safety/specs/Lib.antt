@@ -5,10 +5,9 @@ pub mod Pauses
 pub mod Sound
 pub mod Safety
 pub mod Diamond
-pub mod Logs
 pub mod Threads
 pub mod Bags
 pub mod Tasks
 pub mod Turns
 pub mod Going
-pub mod Logged
+pub mod KeptEntries

@@ -25,7 +25,7 @@ use Rattle.fst_runs.specs.Wrong.{end_of, once}
 use Rattle.fst_cell.specs.Answers.{FoundHeld, FoundNothing, FoundStanding, IsOffered}
 use Rattle.fst_cell.specs.End.{EndView, end_name}
 use Rattle.fst_cell.specs.Rule.{fresh}
-use Rattle.fst_safety.specs.declared.tasks.LogEntry.{LogEntry}
+use Rattle.fst_runs.specs.declared.log.LogEntry.{LogEntry}
 use Rattle.fst_safety.specs.declared.tasks.TypedTask.{TypedTask}
 use Rattle.fst_safety.specs.declared.tasks.Turned.{Turned}
 use Rattle.fst_safety.specs.declared.tasks.Turned.TheVariants.{Moved, Forked, Offered, Left as Off, Ended}

@@ -2,6 +2,7 @@
 use Rattle.std.specs.Prelude.{◌≡◌, ℕ, ◌<◌, ◌≤◌, false, true, Some, None, List, [], ◌∷◌, ◌++◌, length, sum_by, All}
 use Rattle.fst_types.specs.Tree.{Tree, skip}
 use Rattle.fst_lts.specs.Step.{terminated}
+use Rattle.fst_lts.specs.Histories.{side_type}
 use Rattle.fst_derivations.specs.Rules.{Surroundings}
 use Rattle.fst_types.specs.declared.ends.EndName.{EndName}
 use Rattle.fst_types.specs.declared.event.Entry.{Entry}
@@ -10,12 +11,12 @@ use Rattle.fst_machine.specs.Machine.{State, request}
 use Rattle.fst_runs.specs.Configs.{Path, Task, same_end, main_path}
 use Rattle.fst_runs.specs.Wrong.{once, held_state}
 use Rattle.fst_cell.specs.declared.content.Offer.{Offer}
-use Rattle.fst_cell.specs.Residuals.{sends}
+use Rattle.fst_lts.specs.Residuals.{sends}
 use Rattle.fst_cell.specs.End.{EndView, end_name, residual_of}
-use Rattle.fst_safety.specs.declared.tasks.LogEntry.{LogEntry}
+use Rattle.fst_runs.specs.declared.log.LogEntry.{LogEntry}
 use Rattle.fst_safety.specs.Fitting.{Residuals, IsTyped}
 use Rattle.fst_safety.specs.WellTyped.{program_in}
-use Rattle.fst_safety.specs.Logs.{Follows, openings}
+use Rattle.fst_runs.specs.Logs.{Exchange, Follows, openings, parts_in}
 
 -- a task: its path, how it began, its log, how it is now, and its ends, those with something left to do and the spent ones
 pub record Thread : Type 0 where
@@ -75,6 +76,10 @@ pub record IsNamedBelow (path : Path) (made : ℕ) (y : EndName) : Type 0 where
   pub behind : List ℕ
   pub leads : path ≡ y.channel.maker ++ behind
   pub own : behind ≡ [] → y.channel.count ≤ made
+
+-- what an end has exchanged, as far as it knows
+abbrev pub shown : EndView → List Exchange
+shown e = parts_in (end_name e) (Some (side_type e.knows.side e.knows.declared)) e.knows.history
 
 -- ---- a task that fits its module
 

@@ -9,9 +9,10 @@ use Rattle.fst_types.specs.declared.ends.ChannelName.{ChannelName}
 use Rattle.fst_types.specs.declared.ends.EndName.{EndName}
 use Rattle.fst_runs.specs.Wrong.{held_state}
 use Rattle.fst_cell.specs.End.{EndView}
-use Rattle.fst_safety.specs.declared.tasks.LogEntry.{LogEntry}
+use Rattle.fst_runs.specs.declared.log.LogEntry.{LogEntry}
 use Rattle.fst_safety.specs.WellTyped.{program_in}
-use Rattle.fst_safety.specs.Logs.{Birth, Exchange, Opening, births, exchanges, openings, shown}
+use Rattle.fst_runs.specs.Logs.{Birth, Exchange, Opening, births, exchanges, openings}
+use Rattle.fst_safety.specs.Threads.{shown}
 use Rattle.fst_safety.specs.Threads.{Thread, count_of}
 
 -- ---- what is counted of threads, however it is weighed

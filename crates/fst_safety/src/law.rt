@@ -1,4 +1,4 @@
-ghost use Rattle.fst_safety.specs.Diamond.{DiamondLaw, OneEnd};
+ghost use Rattle.fst_safety.specs.Diamond.{DiamondLaw, OneEnd, OneOrder, SameEvents};
 ghost use Rattle.fst_safety.specs.Going.{EndsAreHeld, StayTyped};
 ghost use Rattle.fst_safety.specs.Safety.{DerivedIsSafe};
 ghost use Rattle.fst_safety.specs.Sound.{SoundStaysSafe};
@@ -29,6 +29,17 @@ pub fn diamond_law()
 /// events, and each that comes to such a configuration has as many and leads to the same one.
 pub fn one_end_law()
     ensures { OneEnd }
+{}
+
+/// Runs of a module that has derivations which come to such a configuration have the same events with the same stamps, each as
+/// often.
+pub fn same_events_law()
+    ensures { SameEvents }
+{}
+
+/// So their events in order, by their stamps and then by the paths of their tasks, are one list.
+pub fn one_order_law()
+    ensures { OneOrder }
 {}
 
 /// A task that is typed over what its own ends know stays so, whatever it is told: after a step, a new channel, a fork, a try at

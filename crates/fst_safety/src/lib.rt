@@ -7,5 +7,9 @@ mod law;
 mod tasks;
 mod turning;
 
-pub use law::{diamond_law, ends_law, one_end_law, safety_law, send_law, stays_law, typed_law};
-pub use tasks::{LogEntry, Logged, Turned, TypedTask};
+pub use fst_runs::LogEntry;
+pub use law::{
+    diamond_law, ends_law, one_end_law, one_order_law, safety_law, same_events_law, send_law,
+    stays_law, typed_law,
+};
+pub use tasks::{KeptEntry, Turned, TypedTask};

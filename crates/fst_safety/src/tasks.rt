@@ -1,22 +1,15 @@
 ghost use Rattle.std.specs.Prelude.{◌≡◌, None, IfOk};
 ghost use Rattle.std.specs.Option.{option_copied};
-ghost use Rattle.fst_safety.specs.Logged.{told_or_go};
+ghost use Rattle.fst_safety.specs.KeptEntries.{told_or_go};
 ghost use Rattle.fst_safety.specs.Tasks.{IsBegun};
 
 use fst_cell::End;
 use fst_machine::{Answer, Code, Request};
+use fst_runs::LogEntry;
 use fst_types::EndName;
 use fst_vm::Task;
 use std::alloc::{AllocError, Global};
 use std::marker::Model;
-
-/// One entry of a task's log: what the task asked for, what it was told, and the stamp of that event.
-#[derive(Drop)]
-pub struct LogEntry {
-    pub asked: Request,
-    pub answer: Answer,
-    pub stamp: u64,
-}
 
 // What a task asked for, and what it was told.
 #[derive(Drop)]
@@ -38,42 +31,81 @@ impl Exchange {
 
 /// An entry of a log as it is kept, seen by contracts as the entry: of a step it takes no more than the stamp.
 #[derive(Drop)]
-pub struct Logged {
+pub struct KeptEntry {
     stamp: u64,
     // none where the task asked for a step and went on
     exchange: Option<Box<Exchange>>,
 }
 
-impl Model for Logged {
-    ghost use Rattle.fst_safety.specs.declared.tasks.LogEntry.{LogEntry};
-    ghost use Rattle.fst_safety.specs.Logged.{entry_of};
+impl Model for KeptEntry {
+    ghost use Rattle.fst_runs.specs.declared.log.LogEntry.{LogEntry};
+    ghost use Rattle.fst_safety.specs.KeptEntries.{entry_of};
 
     ghost Value = { LogEntry };
 
     ghost view = { λ e. entry_of e.stamp e.exchange };
 }
 
-impl Logged {
+impl KeptEntry {
     /// The entry, in memory that was taken before, of which a step needs none.
     pub(crate) fn of(
         room: Option<Box<Exchange>>,
         asked: Request,
         answer: Answer,
         stamp: u64,
-    ) -> Logged
+    ) -> KeptEntry
         requires { room ≡ None → (asked ≡ Request.Step) × (answer ≡ Answer.Go) }
         ensures { result ≡ record { asked = asked; answer = answer; stamp = stamp } }
     {
         match room {
-            None => Logged {
+            None => KeptEntry {
                 stamp,
                 exchange: None,
             },
             Some(mut room) => {
                 *room = Exchange { asked, answer };
-                Logged {
+                KeptEntry {
                     stamp,
                     exchange: Some(room),
+                }
+            }
+        }
+    }
+
+    /// The entry, in memory of its own.
+    pub fn new(
+        alloc: Global,
+        asked: Request,
+        answer: Answer,
+        stamp: u64,
+    ) -> Result<KeptEntry, AllocError>
+        ensures { IfOk result (λ e. e ≡ record { asked = asked; answer = answer; stamp = stamp }) }
+    {
+        let exchange = Box::new(alloc, Exchange { asked, answer })?;
+        Ok(KeptEntry {
+            stamp,
+            exchange: Some(exchange),
+        })
+    }
+
+    /// The entry itself.
+    pub fn entry(self) -> LogEntry
+        ensures { result ≡ self }
+    {
+        let KeptEntry { stamp, exchange } = self;
+        match exchange {
+            None => LogEntry {
+                asked: Request::Step,
+                answer: Answer::Go,
+                stamp,
+            },
+            Some(exchange) => {
+                let both = Box::into_inner(exchange);
+                let Exchange { asked, answer } = both;
+                LogEntry {
+                    asked,
+                    answer,
+                    stamp,
                 }
             }
         }
@@ -99,7 +131,7 @@ pub struct TypedTask {
     pub bag: Vec<End>,
     pub retired: Vec<End>,
     pub clock: u64,
-    pub log: Vec<Logged>,
+    pub log: Vec<KeptEntry>,
     // how many channels it has made
     pub(crate) made: u32,
 }

@@ -6,12 +6,12 @@ ghost use Rattle.fst_machine.specs.declared.request.Request.TheVariants.{Step, N
 ghost use Rattle.fst_machine.specs.declared.request.Answer.TheVariants.{Go};
 ghost use Rattle.fst_vm.specs.Tasks.{Takes, is_exchange};
 ghost use Rattle.fst_cell.specs.End.{EndView, residual_of};
-ghost use Rattle.fst_cell.specs.Residuals.{receives};
+ghost use Rattle.fst_lts.specs.Residuals.{receives};
 ghost use Rattle.fst_safety.specs.Bags.{IsPlaced};
 ghost use Rattle.fst_safety.specs.Tasks.{AreNew, AsksNow, CanTurn, HasGoneOn, HasRoom, HasSameEnds, IsDeclarable, IsSame, TakesTurn};
 
 use crate::bags::{notice_at, offer_at, part, place, put_back, take_at};
-use crate::tasks::{Exchange, Logged, Turned, TypedTask};
+use crate::tasks::{Exchange, KeptEntry, Turned, TypedTask};
 use fst_cell::{End, new_cell};
 use fst_machine::{Answer, Code, Request};
 use fst_types::{ChannelName, EndName, Event, copy};
@@ -103,7 +103,7 @@ impl TypedTask {
             return Err(AllocError);
         };
         self.log
-            .push_reserved(Logged::of(entry, asked, logged, stamp));
+            .push_reserved(KeptEntry::of(entry, asked, logged, stamp));
         self.clock = stamp;
         Ok(())
     }

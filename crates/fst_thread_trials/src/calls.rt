@@ -3,7 +3,7 @@
 ghost use Rattle.std.specs.Prelude.{◌≡◌, ◌+◌, ◌^◌, ◌<◌, [], IfOk, IfSome, IsTrue, Some, true, length};
 ghost use Rattle.fst_types.specs.declared.event.Event.TheVariants.{Int};
 ghost use Rattle.fst_kinds.specs.WellFormed.{IsSession};
-ghost use Rattle.fst_cell.specs.Residuals.{sends, asks};
+ghost use Rattle.fst_lts.specs.Residuals.{sends, asks};
 ghost use Rattle.fst_thread_trials.specs.Relay.{Stays};
 
 use fst_cell::{End, Noticed, Offered, TakenEvent, close, new_cell};
@@ -13,7 +13,7 @@ use std::alloc::{AllocError, Global};
 use std::test::Fail;
 
 /// Whether a number may be sent next.
-#[tactic(auto, unfolding(fst_cell::specs::Residuals::sends))]
+#[tactic(auto, unfolding(fst_lts::specs::Residuals::sends))]
 pub(crate) fn sends_number(alloc: Global, t: &Ty) -> bool
     ensures { (n : _) → IsTrue result → sends (Some t.now) (Int n) ≡ true }
 {
@@ -24,7 +24,7 @@ pub(crate) fn sends_number(alloc: Global, t: &Ty) -> bool
 }
 
 /// Whether a number may come next.
-#[tactic(auto, unfolding(fst_cell::specs::Residuals::asks))]
+#[tactic(auto, unfolding(fst_lts::specs::Residuals::asks))]
 pub(crate) fn asks_number(alloc: Global, t: &Ty) -> bool
     ensures { IsTrue result → asks (Some t.now) }
 {

@@ -4,7 +4,7 @@ ghost use Rattle.std.specs.Prelude.{◌≡◌, ◌+◌, ◌^◌, ◌<◌, [], If
 ghost use Rattle.fst_types.specs.declared.event.Event.TheVariants.{Int};
 ghost use Rattle.fst_kinds.specs.WellFormed.{IsSession};
 ghost use Rattle.fst_cell.specs.End.{residual_of};
-ghost use Rattle.fst_cell.specs.Residuals.{sends, asks};
+ghost use Rattle.fst_lts.specs.Residuals.{sends, asks};
 
 use crate::calls::{asks_number, first_channel, sends_number};
 use fst_cell::{Closed, End, Noticed, Offered, TakenEvent, close, new_cell};

@@ -1,3 +1,4 @@
 pub mod Texts
 pub mod WrittenTexts
 pub mod MoveTexts
+pub mod NameTexts

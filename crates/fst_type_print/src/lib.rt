@@ -1,7 +1,8 @@
-//! The texts of types, of words, of moves and of refusals, as a user reads them.
+//! The texts of types, of words, of moves, of names and of refusals, as a user reads them.
 #![tactic(auto)]
 
 mod moves;
+mod names;
 mod pieces;
 mod refusals;
 mod types;
@@ -9,6 +10,7 @@ mod words;
 mod written;
 
 pub use moves::move_text;
+pub use names::{push_channel, push_path};
 pub use refusals::{Phrase, Refusal, push_kind, refusal_text};
 pub use types::{arrow_text, type_text};
 pub use words::{side_text, word_text};

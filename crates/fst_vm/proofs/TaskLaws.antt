@@ -13,15 +13,14 @@ use Rattle.fst_value.specs.ValueTree.{ValueTree}
 use Rattle.fst_value.specs.Stacks.{Makes}
 use Rattle.fst_machine.specs.declared.code.Code.{Code}
 use Rattle.fst_machine.specs.declared.request.Request.{Request}
-use Rattle.fst_machine.specs.declared.request.Request.TheVariants as request
 use Rattle.fst_machine.specs.declared.request.Answer.{Answer}
 use Rattle.fst_machine.specs.declared.request.Answer.TheVariants.{Forked}
-use Rattle.fst_machine.specs.Machine.{State, Pause, begins, pause, stuck, calls, uses, makes, forks, puts, gets, closes, waits, matches, ended, asked, request, child}
+use Rattle.fst_machine.specs.Machine.{State, Pause, begins, pause, stuck, asked, request, child}
 use Rattle.fst_machine.specs.Code.{Compiled}
 use Rattle.fst_machine.specs.Programs.{bodies}
 use Rattle.fst_machine.specs.Spots.{Spot, begins_at, inner, asked_at, told_at, child_at}
 use Rattle.fst_machine.specs.Standing.{AreAlike, Means, Stands, GoesDown}
-use Rattle.fst_machine.proofs.Laws.{inner_stands, asks_alike, child_stands, ended_means, main_stands, makers_apart, told_on}
+use Rattle.fst_machine.proofs.Laws.{inner_stands, asks_alike, child_stands, ended_means, main_stands, makers_apart, told_on, forks_child}
 use Rattle.fst_vm.specs.TaskView.{TaskView}
 use Rattle.fst_vm.specs.Running.{ComesTo, code_of}
 use Rattle.fst_vm.specs.Running as running
@@ -128,20 +127,6 @@ goes_on k path forked after s r ready t a done v f rest w =
           subst (λ z. Stands c z (pause m.families.items next))
           (made_on (λ z. told_at c z a) s r on.0 done (w m.families.items) (ap (λ z. told_at c z.spot a) v ∙ on.1)) on.2;
     }
-
--- what asks for a fork has a state for the other task
-forks_child : (q : Pause) → asked q ≡ Some request.Fork → (b : State) × (child q ≡ Some b)
-forks_child stuck h = absurd (none-some request.Fork h)
-forks_child (calls e env v fs) h = absurd (cc h)
-forks_child (uses g fs) h = absurd (cc h)
-forks_child (makes t fs) h = absurd (cc h)
-forks_child (forks e env fs) h = (record { term = e; environment = env; frames = [] }, refl)
-forks_child (puts x ev fs) h = absurd (cc h)
-forks_child (gets x fs) h = absurd (cc h)
-forks_child (closes x fs) h = absurd (cc h)
-forks_child (waits x fs) h = absurd (cc h)
-forks_child (matches x bs env fs) h = absurd (cc h)
-forks_child (ended v) h = absurd (cc h)
 
 -- the code of the task that a fork makes
 child_for : (k : Code) (t : TaskView) (m : Module) (s b : State) → IsFrom m k → IsIn m k t s → IsAtRest k t →

@@ -10,19 +10,18 @@ use Rattle.fst_derivations.specs.Modules.{HasDerivations, surroundings}
 use Rattle.fst_derivations.specs.Rules.{Surroundings}
 use Rattle.fst_types.specs.declared.event.ChannelHistory.{ChannelHistory}
 use Rattle.fst_types.specs.declared.event.Entry.{Entry}
-use Rattle.fst_machine.specs.declared.request.Request.TheVariants.{Put}
 use Rattle.fst_machine.specs.declared.request.Answer.TheVariants.{Sent}
 use Rattle.fst_machine.specs.Machine.{State, stuck, pause, after, answered, or_lost}
 use Rattle.fst_vm.specs.Tasks.{IsIn}
 use Rattle.fst_runs.specs.Configs.{Task}
 use Rattle.fst_runs.proofs.Laws.{put_pause}
 use Rattle.fst_cell.specs.End.{EndView, end_name}
-use Rattle.fst_safety.specs.Logs.{Birth}
+use Rattle.fst_runs.specs.Logs.{Birth}
 use Rattle.fst_safety.specs.Threads.{Thread, FitsIn}
-use Rattle.fst_safety.specs.Going.{with_entry}
 use Rattle.fst_safety.specs.WellTyped.{IsWellTyped, program_in}
 use Rattle.fst_safety.proofs.Laws.{checked, stay_typed, not_stuck}
-use Rattle.fst_worker.specs.Records.{Pair, IsOver, histories_of, missing}
+use Rattle.fst_records.specs.Records.{Course}
+use Rattle.fst_worker.specs.Records.{Pair, IsOver, histories_of, missing, told_course}
 use Rattle.fst_worker.specs.Resumes.{Tells, TellLaw}
 use Rattle.fst_worker.proofs.Catching.{asks_it}
 use Rattle.fst_worker.proofs.Telling.{SendsOn, Knows, Becomes, all_knowing, told}
@@ -45,9 +44,9 @@ module _ (m : Surroundings) (well : IsWellTyped m) (a : Tree) (main : Birth) (xs
         put_pause (λ q. (s : State) × (after (program_in m) q Sent ≡ Some s)) (pause m.families x.now.state) (end_name e) d.event
         (asks_it m a main xs ps over x h.here e d there lacks) (λ fs. (_, refl)) (λ fs c. (_, refl))
 
-    -- the thread that was told, with no ends
-    abbrev y : Thread
-    y = with_entry m x (Put (end_name e) d.event) Sent d.stamp [] []
+    -- its course after it was told
+    abbrev y : Course
+    y = told_course m x e d
 
     becomes : Becomes m a main xs ps over ks (IsPermutation-refl ks) x y
     becomes = told m a main xs ps over ks (IsPermutation-refl ks) sends x y h
@@ -60,7 +59,7 @@ module _ (m : Surroundings) (well : IsWellTyped m) (a : Tree) (main : Birth) (xs
     -- this has a next request
     next_there : pause m.families leads_to.0 ≡ stuck → ⊥
     next_there q =
-        let now : becomes.thread.now.state ≡ leads_to.0 = ap (λ (t : Thread). t.now.state) becomes.same ∙ ap or_lost leads_to.1 in
+        let now : becomes.thread.now.state ≡ leads_to.0 = ap (λ (y : Course). y.now.state) becomes.same ∙ ap or_lost leads_to.1 in
         not_stuck m well fits.typed.residuals becomes.thread.now.state fits.typed.type fits.typed.typed
         (ap (pause m.families) now ∙ q)
 
@@ -81,10 +80,10 @@ module _ (n : Module) (ds : List Deriv) (q : HasDerivations n ds) (a : Tree) (ma
         leads = g.1;
         alive = alive;
         goes_on = λ k t u clock from is on y told. record {
-          path = on.path ∙ is.path ∙ sym (ap (λ (t : Thread). t.path) told.is);
-          is_in = subst (IsIn n k u) (sym (ap (λ (t : Thread). t.now.state) told.is ∙ ap or_lost g.1))
+          path = on.path ∙ is.path ∙ sym (ap (λ (y : Course). y.path) told.is);
+          is_in = subst (IsIn n k u) (sym (ap (λ (y : Course). y.now.state) told.is ∙ ap or_lost g.1))
               (on.states n x.now.state g.0 from is.is_in g.1 alive);
-          forked = on.forked ∙ is.forked ∙ sym (ap (λ (t : Thread). t.now.forked) told.is);
+          forked = on.forked ∙ is.forked ∙ sym (ap (λ (y : Course). y.now.forked) told.is);
           time = refl;
         };
       }
@@ -95,9 +94,9 @@ tells n ds q a main xs ps over = record {
   told = λ i d l. can_tell n ds q a main xs ps over _
       (all_knowing (surroundings n []) a main xs ps over (histories_of ps) (IsPermutation-refl (histories_of ps)) i d l);
   stays = λ k t clock x y is s. record {
-    path = is.path ∙ sym (ap (λ (t : Thread). t.path) s.is);
-    is_in = subst (λ (u : Task). IsIn n k t u.state) (sym (ap (λ (t : Thread). t.now) s.is)) is.is_in;
-    forked = is.forked ∙ sym (ap (λ (t : Thread). t.now.forked) s.is);
-    time = is.time ∙ sym (ap (λ (t : Thread). t.now.clock) s.is);
+    path = is.path ∙ sym (ap (λ (y : Course). y.path) s.is);
+    is_in = subst (λ (u : Task). IsIn n k t u.state) (sym (ap (λ (y : Course). y.now) s.is)) is.is_in;
+    forked = is.forked ∙ sym (ap (λ (y : Course). y.now.forked) s.is);
+    time = is.time ∙ sym (ap (λ (y : Course). y.now.clock) s.is);
   };
 }

@@ -21,22 +21,22 @@ use Rattle.fst_runs.specs.Configs.{Path, Task, same_end}
 use Rattle.fst_runs.specs.Wrong.{once}
 use Rattle.fst_cell.specs.declared.content.Offer.{Offer}
 use Rattle.fst_cell.specs.End.{EndView, end_name}
-use Rattle.fst_safety.specs.declared.tasks.LogEntry.{LogEntry}
+use Rattle.fst_runs.specs.declared.log.LogEntry.{LogEntry}
 use Rattle.fst_safety.specs.WellTyped.{program_in}
-use Rattle.fst_safety.specs.Logs.{Birth, Exchange, Opening, births, exchanges, openings}
+use Rattle.fst_runs.specs.Logs.{Birth, Exchange, Opening, births, exchanges, openings}
 use Rattle.fst_safety.specs.Threads.{Thread, FitsIn, FitsEnd, count_of}
 use Rattle.fst_safety.specs.Turns.{of_ends, by_exchanges, birth}
-use Rattle.fst_safety.specs.Going.{with_entry}
-use Rattle.fst_safety.proofs.Laws.{follows_more}
-use Rattle.fst_worker.specs.Works.{bears, opens, trades}
-use Rattle.fst_worker.specs.Records.{FitsRecord, IsLogged, IsRecorded, Pair, IsShut, IsOver, histories_of, missing, lag_by, lag, shown_of, shows, IsTrailing, Caught, AllCaught}
+use Rattle.fst_runs.proofs.Laws.{follows_more, opened_more}
+use Rattle.fst_records.specs.Records.{Course, FitsRecord, IsLogged, IsRecorded, began, shown_of, shows, bears as course_bears, opens as course_opens, trades as course_trades}
+use Rattle.fst_worker.specs.Works.{course_of, bears, opens, trades}
+use Rattle.fst_worker.specs.Records.{Pair, IsShut, IsOver, histories_of, missing, lag_by, lag, told_course, IsTrailing, Caught, AllCaught}
 use Rattle.fst_worker.specs.Laws.{Finishes, RecordLaw}
 use Rattle.fst_worker.proofs.Partners.{counted, in_bag}
 use Rattle.fst_worker.proofs.Shown.{shown_more}
 use Rattle.fst_worker.proofs.Shutting.{IsBehind, EndsPass, settled, by_histories, are_opened, all_histories, all_settled, all_behind, idle_level, lacking_waits}
 use Rattle.fst_worker.proofs.Standing.{as_closed, all_as_closed, waits_so}
-use Rattle.fst_worker.proofs.Sums.{exchanges_more, births_more, openings_more, some_in, sum_none, sum_both}
-use Rattle.fst_worker.proofs.Tests.{end_or, end_counts, there_sums}
+use Rattle.fst_records.proofs.Sums.{exchanges_more, births_more, openings_more, some_in, sum_none, sum_both}
+use Rattle.fst_records.proofs.Tests.{end_or, end_counts, there_sums}
 
 -- ---- what is told
 
@@ -44,13 +44,14 @@ use Rattle.fst_worker.proofs.Tests.{end_or, end_counts, there_sums}
 stays : (m : Surroundings) (a : Tree) (ks : List ChannelHistory) (x : Thread) → FitsIn m a x → All
     (λ (e : EndView). missing ks e ≡ None) x.bag →
     All (λ (e : EndView). missing ks e ≡ None) x.retired →
-    (bag retired : List EndView) → Caught m ks x (record x { bag = bag; retired = retired })
-stays m a ks x fits level spent bag retired = record {
+    Caught m ks x (course_of x)
+stays m a ks x fits level spent = record {
   path = refl;
   first = refl;
   gained = [];
   log = sym (append-nil x.log);
   follows = fits.follows;
+  opened = fits.opened;
   none_born = refl;
   none_opened = refl;
   exchanged = λ w.
@@ -188,9 +189,8 @@ module _ (m : Surroundings) (a : Tree) (main : Birth) (xs : List Thread) (ps : L
         by (suc n) q = let o = (h.0.once (end_name e) (omega (arith, q))).0 in omega (arith, o, q)
 
     -- and is told that it was sent
-    pub told : (s : State) → answered (program_in m) x.now.state Sent ≡ Some s → (bag retired : List EndView) →
-        Caught m ks x (with_entry m x (Put (end_name e) d.event) Sent d.stamp bag retired)
-    told s leads bag retired =
+    pub told : (s : State) → answered (program_in m) x.now.state Sent ≡ Some s → Caught m ks x (told_course m x e d)
+    told s leads =
         let g : LogEntry = record { asked = Put (end_name e) d.event; answer = Sent; stamp = d.stamp } in
         record {
           path = refl;
@@ -199,6 +199,7 @@ module _ (m : Surroundings) (a : Tree) (main : Birth) (xs : List Thread) (ps : L
           log = refl;
           follows = follows_more (program_in m) x.path x.first x.log x.now g h.0.follows
               (record { asked = asks_it; is_answered = late; state = s; leads = leads });
+          opened = opened_more m.types x.log g x.now.made x.now.made h.0.opened (omega arith);
           none_born = refl;
           none_opened = refl;
           exchanged = λ w.
@@ -217,14 +218,16 @@ module _ (m : Surroundings) (a : Tree) (main : Birth) (xs : List Thread) (ps : L
   abbrev lags : (Exchange → ℕ) → Thread → ℕ
   lags w x = of_ends (lag w ks) x
 
-  trades_caught : (w : Exchange → ℕ) (x y : Thread) → FitsIn m a x → Caught m ks x y → trades w y ≡ trades w x + lags w x
+  trades_caught : (w : Exchange → ℕ) (x : Thread) (y : Course) → FitsIn m a x → Caught m ks x y →
+      course_trades w y ≡ trades w x + lags w x
   trades_caught w x y f c =
       ap (λ (t : Task). sum_by w (exchanges t.clock y.log)) c.first ∙ ap
       (λ (l : List LogEntry). sum_by w (exchanges x.first.clock l)) c.log
       ∙ exchanges_more w (program_in m) x.path x.first x.log c.gained x.now f.follows ∙ ap
       (λ (n : ℕ). trades w x + n) (c.exchanged w)
 
-  bears_caught : (w : Birth → ℕ) (x y : Thread) → FitsIn m a x → Caught m ks x y → bears m w y ≡ bears m w x
+  bears_caught : (w : Birth → ℕ) (x : Thread) (y : Course) → FitsIn m a x → Caught m ks x y →
+      course_bears (program_in m) w y ≡ bears m w x
   bears_caught w x y f c =
       let b = births_more w (program_in m) x.path x.first x.log c.gained x.now f.follows in
       let z = ap (sum_by w) c.none_born in
@@ -232,18 +235,19 @@ module _ (m : Surroundings) (a : Tree) (main : Birth) (xs : List Thread) (ps : L
       (λ (t : Task). sum_by w (births (program_in m) x.path t y.log)) c.first
       ∙ ap (λ (l : List LogEntry). sum_by w (births (program_in m) x.path x.first l)) c.log ∙ omega (arith, b, z)
 
-  opens_caught : (w : ChannelName → Tree → ℕ) (x y : Thread) → Caught m ks x y → opens m w y ≡ opens m w x
+  opens_caught : (w : ChannelName → Tree → ℕ) (x : Thread) (y : Course) → Caught m ks x y →
+      course_opens m.types w y ≡ opens m w x
   opens_caught w x y c =
       let v = λ (o : Opening). w o.name o.declared in
       let b = openings_more v m.types x.log c.gained in
       let z = ap (sum_by v) c.none_opened in
       ap (λ (l : List LogEntry). sum_by v (openings m.types l)) c.log ∙ omega (arith, b, z)
 
-  same_birth : (w : Birth → ℕ) (x y : Thread) → Caught m ks x y → w (birth y) ≡ w (birth x)
+  same_birth : (w : Birth → ℕ) (x : Thread) (y : Course) → Caught m ks x y → w (began y) ≡ w (birth x)
   same_birth w x y c = λ i. w (record { path = c.path i; first = c.first i })
 
-  sums : (f g h : Thread → ℕ) → ((x y : Thread) → FitsIn m a x → Caught m ks x y → f y ≡ g x + h x) →
-      (xs ys : List Thread) → All (FitsIn m a) xs →
+  sums : (f : Course → ℕ) (g h : Thread → ℕ) → ((x : Thread) (y : Course) → FitsIn m a x → Caught m ks x y → f y ≡ g x + h x) →
+      (xs : List Thread) (ys : List Course) → All (FitsIn m a) xs →
       AllCaught m ks xs ys →
       sum_by f ys ≡ sum_by g xs + sum_by h xs
   sums f g h e [] [] all k = refl
@@ -257,8 +261,8 @@ module _ (m : Surroundings) (a : Tree) (main : Birth) (xs : List Thread) (ps : L
       let ih = sums f g h e xs ys (All-tail (FitsIn m a) x xs all) k.1 in
       omega (arith, p, q, r, one, ih)
 
-  same_sums : (f g : Thread → ℕ) → ((x y : Thread) → FitsIn m a x → Caught m ks x y → f y ≡ g x) →
-      (xs ys : List Thread) → All (FitsIn m a) xs →
+  same_sums : (f : Course → ℕ) (g : Thread → ℕ) → ((x : Thread) (y : Course) → FitsIn m a x → Caught m ks x y → f y ≡ g x) →
+      (xs : List Thread) (ys : List Course) → All (FitsIn m a) xs →
       AllCaught m ks xs ys → sum_by f ys ≡ sum_by g xs
   same_sums f g e [] [] all k = refl
   same_sums f g e [] (y ∷ ys) all k = absurd k
@@ -270,17 +274,19 @@ module _ (m : Surroundings) (a : Tree) (main : Birth) (xs : List Thread) (ps : L
       let ih = same_sums f g e xs ys (All-tail (FitsIn m a) x xs all) k.1 in
       omega (arith, p, q, one, ih)
 
-  logged : (xs ys : List Thread) → All (FitsIn m a) xs → AllCaught m ks xs ys → All (IsLogged m) ys
-  logged [] [] all k = All-nil (IsLogged m)
+  logged : (xs : List Thread) (ys : List Course) → All (FitsIn m a) xs → AllCaught m ks xs ys →
+      All (IsLogged (program_in m) m.types) ys
+  logged [] [] all k = All-nil (IsLogged (program_in m) m.types)
   logged [] (y ∷ ys) all k = absurd k
   logged (x ∷ xs) [] all k = absurd k
   logged (x ∷ xs) (y ∷ ys) all k =
       let f = All-head (FitsIn m a) x xs all in
-      All-cons (IsLogged m) y ys
+      All-cons (IsLogged (program_in m) m.types) y ys
       (record {
         none_made = ap (λ (t : Task). t.made) k.0.first ∙ f.none_made;
         none_forked = ap (λ (t : Task). t.forked) k.0.first ∙ f.none_forked;
         follows = k.0.follows;
+        opened = k.0.opened;
       })
       (logged xs ys (All-tail (FitsIn m a) x xs all) k.1)
 
@@ -336,23 +342,23 @@ module _ (m : Surroundings) (a : Tree) (main : Birth) (xs : List Thread) (ps : L
       omega (arith, p, q)) xs
 
   -- logs and histories are a record
-  pub caught_record : (ys : List Thread) → AllCaught m ks xs ys → FitsRecord m main ys ks
+  pub caught_record : (ys : List Course) → AllCaught m ks xs ys → FitsRecord (program_in m) m.types main ys ks
   caught_record ys caught = record {
     root = over.run.root;
     births = λ w.
-        let p = same_sums (λ (x : Thread). w (birth x)) (λ (x : Thread). w (birth x))
+        let p = same_sums (λ (y : Course). w (began y)) (λ (x : Thread). w (birth x))
         (λ x y f c. same_birth w x y c) xs ys over.run.fit caught in
-        let q = same_sums (bears m w) (bears m w) (bears_caught w) xs ys over.run.fit caught in
+        let q = same_sums (course_bears (program_in m) w) (bears m w) (bears_caught w) xs ys over.run.fit caught in
         omega (arith, p, q, over.run.whole.births w);
     logs = logged xs ys over.run.fit caught;
     channels = λ w.
         let q = are_opened m a main xs ps over w in
-        let r = same_sums (opens m w) (opens m w) (λ x y f c. opens_caught w x y c) xs ys over.run.fit caught in
+        let r = same_sums (course_opens m.types w) (opens m w) (λ x y f c. opens_caught w x y c) xs ys over.run.fit caught in
         omega (arith, q, r);
     exchanged = λ w.
         let p = over.paired (weighed w) in
         let q = by_histories (λ (p : Pair). weighed w p.left + weighed w p.right) (shows w) Both (pair_shows w) ps all_both in
-        let r = sums (trades w) (trades w) (lags w) (trades_caught w) xs ys over.run.fit caught in
+        let r = sums (course_trades w) (trades w) (lags w) (trades_caught w) xs ys over.run.fit caught in
         let s = ends_weigh w xs in
         omega (arith, p, q, r, s, over.run.whole.exchanged w);
     histories = all_histories IsShut IsRecorded (λ p s.
@@ -396,7 +402,7 @@ module _ (m : Surroundings) (a : Tree) (main : Birth) (xs : List Thread) (ps : L
         (All-contains (λ (e : EndView). as_closed m a main xs ps over e ≡ true) _ e t.0 in_bag) o p q there is;
     level = All-weaker IsHere (λ (x : Thread). All (λ (e : EndView). e.knows.offer ≡ None → missing ks e ≡ None) x.bag)
         (λ x h k c l. level_of _ (h.1.0 k c l)) xs all_here;
-    stays = λ k c l level bag retired. let h = all_here k c l in stays m a ks _ h.0 level (spent_level _ h) bag retired;
+    stays = λ k c l level. let h = all_here k c l in stays m a ks _ h.0 level (spent_level _ h);
     told = λ k c l e d in_bag lacks. let h = all_here k c l in (asks_it _ h e d in_bag lacks, told _ h e d in_bag lacks);
     record_fits = caught_record;
   }

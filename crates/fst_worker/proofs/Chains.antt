@@ -8,7 +8,7 @@ use Rattle.fst_types.specs.Tree.{Tree}
 use Rattle.fst_base.proofs.Lists.{contains_head, contains_tail}
 use Rattle.fst_derivations.specs.Rules.{Surroundings}
 use Rattle.fst_cell.specs.End.{EndView}
-use Rattle.fst_safety.specs.declared.tasks.LogEntry.{LogEntry}
+use Rattle.fst_runs.specs.declared.log.LogEntry.{LogEntry}
 use Rattle.fst_safety.specs.Threads.{Thread}
 use Rattle.fst_safety.specs.Turns.{Turn}
 use Rattle.fst_worker.specs.Works.{Step, Turns, Went, IsLonger, GoesOnIn}

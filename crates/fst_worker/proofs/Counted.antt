@@ -2,7 +2,7 @@
 use Rattle.std.proofs.Common.{◌≡◌, ◌<◌, ◌≤◌, ◌+◌, ℕ, arith}
 use Rattle.fst_machine.specs.declared.request.Answer.{Answer}
 use Rattle.fst_machine.specs.declared.request.Answer.TheVariants.{Go, Made, Forked, Sent, Got}
-use Rattle.fst_worker.specs.Events.{alone}
+use Rattle.fst_records.specs.Growing.{alone}
 use Rattle.fst_worker.specs.Finishing.{IsUpTo}
 
 -- an answer is at most one event

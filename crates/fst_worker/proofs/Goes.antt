@@ -12,15 +12,15 @@ use Rattle.fst_machine.specs.declared.code.Code.{Code}
 use Rattle.fst_machine.specs.Machine.{Program}
 use Rattle.fst_runs.specs.Configs.{Path, Task}
 use Rattle.fst_runs.specs.Wrong.{once}
-use Rattle.fst_safety.specs.declared.tasks.LogEntry.{LogEntry}
+use Rattle.fst_runs.specs.declared.log.LogEntry.{LogEntry}
 use Rattle.fst_safety.specs.declared.tasks.TypedTask.{TypedTask}
 use Rattle.fst_safety.specs.WellTyped.{program_in}
-use Rattle.fst_safety.specs.Logs.{Enters, Follows, after_entry}
+use Rattle.fst_runs.specs.Logs.{Enters, Follows, after_entry}
 use Rattle.fst_safety.specs.Going.{GoesOnTo}
 use Rattle.fst_safety.specs.Tasks.{Grows, HasGained, module_of, tries_at, work}
 use Rattle.fst_safety.specs.Threads.{Thread, FitsIn}
 use Rattle.fst_safety.specs.Turns.{of_ends}
-use Rattle.fst_safety.proofs.Laws.{later}
+use Rattle.fst_runs.proofs.Laws.{later}
 use Rattle.fst_worker.specs.declared.shares.Move.{Move}
 use Rattle.fst_worker.specs.declared.shares.Move.TheVariants as move
 use Rattle.fst_worker.specs.declared.shares.Share.{Share}
@@ -29,7 +29,7 @@ use Rattle.fst_worker.specs.Shares.{AreKept, Crew, HasAsked, IsCrew, IsIdle, IsO
 use Rattle.fst_worker.specs.Passes.{AsksMore, CanRun, IsAt, Ran, Runs, StepsAt, TurnedAt, TurnsAt, clock_at, is_move, noted}
 use Rattle.fst_worker.proofs.Chains.{went_none, went_then, went_step}
 use Rattle.fst_worker.proofs.Crews.{All-first, kept_length}
-use Rattle.fst_worker.proofs.Sums.{sum_none}
+use Rattle.fst_records.proofs.Sums.{sum_none}
 use Rattle.fst_worker.proofs.Wholes.{went_fits}
 
 -- ---- clocks

@@ -2,9 +2,9 @@
 use Rattle.std.proofs.Common.{◌≡◌, ◌∙◌, ◌<◌, ◌≤◌, ℕ, zero, suc, ◌+◌, Bool, true, false, List, [], ◌∷◌, get_or, map, refl, sym, ap, subst, arith}
 use Rattle.std.specs.List.{AllByRecursion}
 use Rattle.std.specs.List.Sorted.{IsStrictlySortedBy}
-use Rattle.std.specs.Prelude.{All, Contains, if◌then◌else◌, ⊤}
+use Rattle.std.specs.Prelude.{sum_by, All, Contains, if◌then◌else◌, ⊤}
 use Rattle.std.specs.declared.cmp.Ordering.TheVariants.{Less}
-use Rattle.std.proofs.lemmas.List.Elements.{All-nil, All-cons, All-head, All-tail, All-weaker, All-contains, All-contains_itself}
+use Rattle.std.proofs.lemmas.List.Elements.{All-nil, All-cons, All-head, All-tail, All-map, All-weaker, All-contains, All-contains_itself}
 use Rattle.fst_types.specs.Tree.{Tree}
 use Rattle.fst_derivations.specs.Rules.{Surroundings}
 use Rattle.fst_types.specs.declared.event.ChannelHistory.{ChannelHistory}
@@ -15,22 +15,24 @@ use Rattle.fst_process.specs.Kept.{put_at}
 use Rattle.fst_process.specs.Resuming.{made_by, AreNumbered}
 use Rattle.fst_process.proofs.Laws.{put_cases}
 use Rattle.fst_cell.specs.declared.answers.Closed.{Closed}
-use Rattle.fst_safety.specs.Logs.{Birth}
+use Rattle.fst_runs.specs.Logs.{Birth}
 use Rattle.fst_safety.specs.Threads.{Thread, FitsIn}
 use Rattle.fst_safety.specs.WellTyped.{program_in}
-use Rattle.fst_worker.specs.Works.{opens}
+use Rattle.fst_records.specs.Records.{Course, IsLogged, opens as course_opens}
+use Rattle.fst_worker.specs.Works.{course_of, opens}
 use Rattle.fst_worker.specs.Records.{Pair, IsOver, histories_of}
 use Rattle.fst_worker.specs.Closing.{name_cmp, names_of}
 use Rattle.fst_worker.specs.Resumes.{OrderLaw}
-use Rattle.fst_worker.proofs.Counting.{opened_in}
+use Rattle.fst_records.proofs.Counting.{opened_in}
 use Rattle.fst_worker.proofs.Ended.{histories_same}
-use Rattle.fst_worker.proofs.Found.{on_name}
-use Rattle.fst_worker.proofs.NameOrder.{counts_rise}
-use Rattle.fst_worker.proofs.Paths.{IsLed, paths_once}
-use Rattle.fst_worker.proofs.Resuming.{HasOpened, made_is}
+use Rattle.fst_records.proofs.Found.{on_path, on_name}
+use Rattle.fst_records.proofs.NameOrder.{counts_rise}
+use Rattle.fst_records.proofs.Paths.{paths_once}
+use Rattle.fst_worker.proofs.Mapped.{sum_mapped, mapped_in}
+use Rattle.fst_worker.proofs.Resuming.{made_is}
 use Rattle.fst_worker.proofs.Shutting.{are_opened}
-use Rattle.fst_worker.proofs.Sums.{some_in}
-use Rattle.fst_worker.proofs.Tests.{channel_counts, there_sums}
+use Rattle.fst_records.proofs.Sums.{some_in}
+use Rattle.fst_records.proofs.Tests.{channel_counts, there_sums}
 
 -- the number of a channel
 abbrev number : ChannelHistory → ℕ
@@ -139,13 +141,29 @@ module _ (m : Surroundings) (a : Tree) (main : Birth) (xs : List Thread) (ps : L
   abbrev ks : List ChannelHistory
   ks = histories_of ps
 
-  led : All (IsLed m) xs
-  led = All-weaker (FitsIn m a) (IsLed m) (λ y f. f.follows) xs over.run.fit
+  -- the courses of the threads
+  abbrev ys : List Course
+  ys = map course_of xs
+
+  -- their logs are those of tasks that have come along by them
+  logged : All (IsLogged (program_in m) m.types) ys
+  logged = All-map (IsLogged (program_in m) m.types) course_of xs
+      (All-weaker (FitsIn m a) (λ (x : Thread). IsLogged (program_in m) m.types (course_of x))
+      (λ x f. record { none_made = f.none_made; none_forked = f.none_forked; follows = f.follows; opened = f.opened }) xs
+      over.run.fit)
+
+  once_path : (p : Path) → sum_by (on_path p) ys ≤ 1
+  once_path p =
+      let e = sum_mapped course_of (on_path p) xs in
+      let b = paths_once course_of (program_in m) main xs over.run.root over.run.whole.births p in
+      omega (arith, e, b)
 
   -- those of a task are as many as it has made
   made : (y : Thread) → Contains xs y → made_by y.path ks ≡ y.now.made
-  made = made_is m xs ks (paths_once m main xs over.run.root over.run.whole.births) (are_opened m a main xs ps over) led
-      (All-weaker (FitsIn m a) (HasOpened m) (λ y f. f.opened) xs over.run.fit)
+  made y c =
+      made_is (program_in m) m.types ys ks once_path
+      (λ w. are_opened m a main xs ps over w ∙ sym (sum_mapped course_of (course_opens m.types w) xs)) logged (course_of y)
+      (mapped_in course_of xs y c)
 
   -- a closed channel has one of the numbers that its maker has given
   within : (k : ChannelHistory) → Contains ks k → (0 < number k) × (number k ≤ made_by k.name.maker ks)
@@ -155,7 +173,7 @@ module _ (m : Surroundings) (a : Tree) (main : Birth) (xs : List Thread) (ps : L
       let q = are_opened m a main xs ps over (λ h t. once (same_channel k.name h)) in
       let y = some_in (opens m (λ h t. once (same_channel k.name h))) xs (omega (arith, b, d, q)) in
       let o = opened_in (program_in m) m.types k.name y.0.path y.0.first y.0.log y.0.now
-      (All-contains (IsLed m) xs y.0 led y.1) y.2 in
+      (All-contains (FitsIn m a) xs y.0 over.run.fit y.1).follows y.2 in
       let e = made y.0 y.1 in
       let g = ap (λ p. made_by p ks) o.maker in
       let l = o.last in

@@ -16,14 +16,15 @@ use Rattle.fst_types.specs.declared.ends.EndName.{EndName}
 use Rattle.fst_runs.specs.Configs.{same_channel, same_end, other}
 use Rattle.fst_runs.specs.Wrong.{once}
 use Rattle.fst_cell.specs.End.{EndView, end_name}
-use Rattle.fst_safety.specs.Logs.{Birth}
+use Rattle.fst_runs.specs.Logs.{Birth}
 use Rattle.fst_safety.specs.Threads.{Thread}
 use Rattle.fst_safety.specs.Turns.{of_ends, by_type, by_cell}
 use Rattle.fst_worker.specs.Works.{IsRun}
 use Rattle.fst_worker.specs.Pairs.{HasEnd, IsOnePair, ArePaired}
-use Rattle.fst_worker.proofs.Paths.{ends_once}
-use Rattle.fst_worker.proofs.Sums.{sum_same}
-use Rattle.fst_worker.proofs.Tests.{end_or, end_counts, by_side, by_sides, one_by}
+use Rattle.fst_worker.proofs.Apart.{ends_once}
+use Rattle.fst_records.proofs.Sums.{sum_same}
+use Rattle.fst_records.proofs.Tests.{end_or, end_counts, one_by}
+use Rattle.fst_worker.proofs.Sides.{by_side, by_sides}
 
 -- an end, by its name
 abbrev pub counted : EndName → EndView → ℕ

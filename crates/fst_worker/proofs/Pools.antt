@@ -13,15 +13,15 @@ use Rattle.fst_types.specs.declared.ends.EndName.{EndName}
 use Rattle.fst_runs.specs.Configs.{same_channel, same_side, same_end, other}
 use Rattle.fst_runs.specs.Wrong.{once}
 use Rattle.fst_cell.specs.End.{EndView, end_name}
-use Rattle.fst_safety.specs.Logs.{Birth}
+use Rattle.fst_runs.specs.Logs.{Birth}
 use Rattle.fst_safety.specs.Threads.{Thread, count_of}
 use Rattle.fst_worker.specs.Works.{IsRun}
 use Rattle.fst_worker.specs.Pairs.{HasEnd}
 use Rattle.fst_worker.specs.Records.{Pair, IsShut, Pooled, Closable}
 use Rattle.fst_worker.specs.Laws.{PoolLaw}
 use Rattle.fst_worker.proofs.Partners.{counted, others_count, pair_of, split_of}
-use Rattle.fst_worker.proofs.Paths.{ends_once}
-use Rattle.fst_worker.proofs.Tests.{end_counts}
+use Rattle.fst_worker.proofs.Apart.{ends_once}
+use Rattle.fst_records.proofs.Tests.{end_counts}
 
 -- an end isn't the other end of its channel
 not_other : (b : Bool) (s : Side) → once (b && same_side (opposite s) s) ≡ 0

@@ -6,7 +6,7 @@ use Rattle.std.proofs.lemmas.Bool.Decides.{nat_tests}
 use Rattle.std.proofs.lemmas.List.{append-nil}
 use Rattle.std.proofs.lemmas.List.Elements.{All-nil, All-cons, All-head, All-tail, All-weaker, All-contains_itself}
 use Rattle.std.proofs.lemmas.List.Sums.{sum_by-cons}
-use Rattle.fst_base.proofs.Bools.{and_parts, is_less}
+use Rattle.fst_base.proofs.Bools.{and_parts, is_less, same_nat}
 use Rattle.fst_base.proofs.Lists.{get-last, from_contains, contains_none}
 use Rattle.fst_types.specs.Tree.{Tree}
 use Rattle.fst_types.specs.declared.side.Side.TheVariants.{Left}
@@ -21,17 +21,17 @@ use Rattle.fst_cell.specs.declared.content.Half.{Half}
 use Rattle.fst_cell.specs.declared.content.Offer.{Offer}
 use Rattle.fst_cell.specs.Close.{Trails}
 use Rattle.fst_cell.specs.End.{EndView, residual_of}
-use Rattle.fst_cell.specs.Residuals.{sends}
-use Rattle.fst_cell.specs.Stamps.{AreStamped}
-use Rattle.fst_safety.specs.Logs.{Birth}
+use Rattle.fst_lts.specs.Residuals.{sends}
+use Rattle.fst_lts.specs.Stamps.{AreStamped}
+use Rattle.fst_runs.specs.Logs.{Birth}
 use Rattle.fst_safety.specs.Threads.{Thread, FitsIn, FitsEnd, IsSpent}
 use Rattle.fst_safety.specs.Turns.{of_ends, on_side, by_type}
 use Rattle.fst_worker.specs.Works.{opens}
 use Rattle.fst_worker.specs.Records.{Pair, IsShut, IsOver, Paired, histories_of, missing, IsTrailing}
-use Rattle.fst_worker.proofs.Events.{event_code}
-use Rattle.fst_worker.proofs.Paths.{channels_once}
-use Rattle.fst_worker.proofs.Sums.{sum_none, none_in_sum}
-use Rattle.fst_worker.proofs.Tests.{channel_counts, there_sums, same_by, same_by-itself, same_by-same}
+use Rattle.fst_records.proofs.EventCode.{event_code}
+use Rattle.fst_worker.proofs.Apart.{channels_once}
+use Rattle.fst_records.proofs.Sums.{sum_none, none_in_sum}
+use Rattle.fst_records.proofs.Tests.{channel_counts, there_sums, same_by, same_by-itself, same_by-same}
 
 -- ---- one end
 
@@ -52,9 +52,6 @@ record Lacks (d : Entry) (o : Offer) : Type 0 where
   sent : d.sent ≡ o.clock
   later : o.clock < d.stamp
 
-same_number : (m n : ℕ) → nat_eq m n ≡ true → m ≡ n
-same_number m n h = grind (arith, nat_tests)
-
 equal_number : (m n : ℕ) → m ≡ n → nat_eq m n ≡ true
 equal_number m n h = grind (arith, nat_tests)
 
@@ -74,7 +71,7 @@ from_settled d o h =
     let q = and_parts (nat_eq d.sent o.clock) (nat_lt o.clock d.stamp) p.1 in
     record {
       event = same_by-same event_code d.event o.event p.0;
-      sent = same_number d.sent o.clock q.0;
+      sent = same_nat d.sent o.clock q.0;
       later =
           is_less o.clock d.stamp q.1;
     }

@@ -1,5 +1,5 @@
 -- Threads all of whose ends know all of their channels make a sound configuration.
-use Rattle.std.proofs.Common.{◌≡◌, ◌∙◌, ◌⊎◌, inl, inr, ◌<◌, ◌≤◌, ℕ, zero, suc, ◌+◌, true, false, Option, Some, None, IsSome, List, [], ◌∷◌, refl, sym, ap, subst, arith}
+use Rattle.std.proofs.Common.{◌≡◌, ◌∙◌, ◌⊎◌, inl, inr, ◌<◌, ◌≤◌, ℕ, zero, suc, ◌+◌, true, false, Option, Some, None, IsSome, List, [], ◌∷◌, map, refl, sym, ap, subst, arith}
 use Rattle.std.specs.Prelude.{sum_by, All, Contains, option_and_then}
 use Rattle.std.proofs.lemmas.List.Elements.{All-contains}
 use Rattle.std.proofs.lemmas.List.Sums.{sum_by-cons}
@@ -17,29 +17,30 @@ use Rattle.fst_types.specs.declared.ends.EndName.{EndName}
 use Rattle.fst_types.specs.declared.event.ChannelHistory.{ChannelHistory}
 use Rattle.fst_types.specs.declared.event.Entry.{Entry}
 use Rattle.fst_types.specs.declared.event.Event.{Event}
-use Rattle.fst_runs.specs.Configs.{Path, Task, Channel, Config, same_path, same_channel, same_end, channel_residual, residual_in, child_path, main_path}
+use Rattle.fst_runs.specs.Configs.{Path, Task, Channel, Config, same_path, same_channel, same_end, channel_residual, residual_in, child_path, main_path, channel_in}
 use Rattle.fst_runs.specs.Names.{HasMakers, HasParents}
 use Rattle.fst_runs.specs.Wrong.{once, held_state, amount, IsUnspent, IsOwned}
 use Rattle.fst_runs.proofs.Laws.{same_path-itself}
-use Rattle.fst_process.specs.Resuming.{channel_in}
 use Rattle.fst_cell.specs.End.{EndView, end_name, residual_of}
 use Rattle.fst_safety.specs.Running.{Equals}
 use Rattle.fst_safety.specs.Fitting.{Residuals, IsTyped}
 use Rattle.fst_safety.specs.WellTyped.{program_in}
-use Rattle.fst_safety.specs.Logs.{Birth}
+use Rattle.fst_runs.specs.Logs.{Birth}
 use Rattle.fst_safety.specs.Sound.{IsSound, IsTrace}
 use Rattle.fst_safety.specs.Threads.{Thread, FitsIn, IsSpent, count_of}
 use Rattle.fst_safety.specs.Turns.{of_ends, by_type}
 use Rattle.fst_lts.proofs.Laws.{dual_session}
 use Rattle.fst_safety.proofs.Laws.{there, equals_back, equals_itself, session_formed, session_step, Still, typed_still, ended_equal, sides_from, trace_from}
-use Rattle.fst_worker.specs.Works.{IsRun, IsKnownIn, bears, opens}
-use Rattle.fst_worker.specs.Records.{FitsRecord, IsRecorded}
-use Rattle.fst_worker.specs.Configs.{config_of}
-use Rattle.fst_worker.proofs.Counting.{IsMadeBy, forked_by, opened_in}
-use Rattle.fst_worker.proofs.Found.{on_path, has_task, task_there, on_name, channel_of, has_channel}
-use Rattle.fst_worker.proofs.Paths.{at_path, main_not, paths_once, ends_once}
-use Rattle.fst_worker.proofs.Sums.{some_in, sum_same}
-use Rattle.fst_worker.proofs.Tests.{path_counts, channel_counts, there_sums, by_side}
+use Rattle.fst_worker.specs.Works.{IsRun, IsKnownIn, course_of, bears, opens}
+use Rattle.fst_records.specs.Records.{Course, FitsRecord, IsRecorded, config_of, opens as course_opens}
+use Rattle.fst_records.proofs.Counting.{IsMadeBy, forked_by, opened_in}
+use Rattle.fst_records.proofs.Found.{on_path, has_task, task_there, on_name, channel_of, has_channel}
+use Rattle.fst_records.proofs.Paths.{at_path, main_not, paths_once}
+use Rattle.fst_worker.proofs.Apart.{ends_once}
+use Rattle.fst_worker.proofs.Mapped.{sum_mapped, mapped_in, mapped_from}
+use Rattle.fst_records.proofs.Sums.{some_in, sum_same}
+use Rattle.fst_records.proofs.Tests.{path_counts, channel_counts, there_sums}
+use Rattle.fst_worker.proofs.Sides.{by_side}
 
 -- ---- session types
 
@@ -114,10 +115,10 @@ both_sum f (t ∷ xs) x y c d n = by (λ c d. both_sum f xs x y c d n) (from_con
         omega (arith, a, b)
 
 module _ (m : Surroundings) (a : Tree) (main : Birth) (ys : List Thread) (ks : List ChannelHistory) (run : IsRun m a main ys)
-    (fits : FitsRecord m main ys ks) (levels : All (AreLevel ks) ys) where
+    (fits : FitsRecord (program_in m) m.types main (map course_of ys) ks) (levels : All (AreLevel ks) ys) where
   -- the configuration
   abbrev c : Config
-  c = config_of ys ks
+  c = config_of (map course_of ys) ks
 
   -- its residuals
   abbrev r : Residuals
@@ -130,12 +131,38 @@ module _ (m : Surroundings) (a : Tree) (main : Birth) (ys : List Thread) (ks : L
   level_of y i = All-contains (AreLevel ks) ys y levels i
 
   -- no two threads have one path
-  once_path : (p : Path) → sum_by (on_path p) ys ≤ 1
-  once_path = paths_once m main ys run.root run.whole.births
+  once_path : (p : Path) → sum_by (on_path p) (map course_of ys) ≤ 1
+  once_path p =
+      let a = sum_mapped course_of (on_path p) ys in
+      let b = paths_once course_of (program_in m) main ys run.root run.whole.births p in
+      omega (arith, a, b)
 
   -- the task of a thread is there
   pub task_is : (y : Thread) → Contains ys y → c.tasks y.path ≡ Some y.now
-  task_is y i = task_there ys y i (once_path y.path)
+  task_is y i = task_there (map course_of ys) (course_of y) (mapped_in course_of ys y i) (once_path y.path)
+
+  -- the thread whose task this is
+  record HasThread (p : Path) (t : Task) : Type 0 where
+    thread : Thread
+    there : Contains ys thread
+    path : thread.path ≡ p
+    now : thread.now ≡ t
+
+  -- a task that is there is that of a thread
+  has_thread : (p : Path) (t : Task) → c.tasks p ≡ Some t → HasThread p t
+  has_thread p t e =
+      let g = has_task (map course_of ys) p t e in
+      let x = mapped_from course_of ys g.course g.there in
+      record {
+        thread = x.0;
+        there = x.1;
+        path = ap (λ (y : Course). y.path) x.2 ∙ g.path;
+        now = ap (λ (y : Course). y.now) x.2 ∙ g.now;
+      }
+
+  -- the channels are those that the logs of the threads open
+  are_opened : (w : ChannelName → Tree → ℕ) → sum_by (λ (k : ChannelHistory). w k.name k.declared) ks ≡ sum_by (opens m w) ys
+  are_opened w = fits.channels w ∙ sum_mapped course_of (course_opens m.types w) ys
 
   -- ---- both sides of each channel
 
@@ -229,7 +256,7 @@ module _ (m : Surroundings) (a : Tree) (main : Birth) (ys : List Thread) (ks : L
   -- each task has a type, main's has this one
   pub tasks : (p : Path) (t : Task) → c.tasks p ≡ Some t → (b : Tree) × IsTyped m r t.state b × (p ≡ main_path → b ≡ a)
   tasks p t e =
-      let g = has_task ys p t e in
+      let g = has_thread p t e in
       let f = fits_of g.thread g.there in (
         f.typed.type,
         subst (λ (t : Task). IsTyped m r t.state f.typed.type) g.now (typed g.thread g.there),
@@ -249,7 +276,7 @@ module _ (m : Surroundings) (a : Tree) (main : Birth) (ys : List Thread) (ks : L
       let w = λ (n : ChannelName) (t : Tree). once (same_channel z.channel n) in
       let n = there_sums (on_name z.channel) ks g.history g.there in
       let o = channel_counts z.channel g.history.name (sym g.name) in
-      let q = fits.channels w in
+      let q = are_opened w in
       let t = run.whole.typed z.side w in
       let same = λ (e : EndView). by_side (same_channel z.channel e.channel) z.side e.knows.side in
       let s = sum_same (of_ends (by_type z.side w)) (of_ends (named_so z))
@@ -289,7 +316,7 @@ module _ (m : Surroundings) (a : Tree) (main : Birth) (ys : List Thread) (ks : L
         (o : Option Task) → c.tasks q ≡ o → amount z o ≡ 0
     held_else y i n q s None e = refl
     held_else y i n q s (Some t) e =
-        let g = has_task ys q t e in
+        let g = has_thread q t e in
         sym (ap (λ (t : Task). held_state z t.state) g.now) ∙ none_else y g.thread i n g.there (λ k. differ (k ∙ g.path))
       where
         differ : y.path ≡ q → ⊥
@@ -320,7 +347,7 @@ module _ (m : Surroundings) (a : Tree) (main : Birth) (ys : List Thread) (ks : L
       let w = λ (n : ChannelName) (t : Tree). once (same_channel h n) in
       let n = there_sums (on_name h) ks g.history g.there in
       let o = channel_counts h g.history.name (sym g.name) in
-      let q = fits.channels w in
+      let q = are_opened w in
       let s = some_in (opens m w) ys (omega (arith, n, o, q)) in
       let f = fits_of s.0 s.1 in
       record {
@@ -339,12 +366,12 @@ module _ (m : Surroundings) (a : Tree) (main : Birth) (ys : List Thread) (ks : L
   -- the task that forked a task is there, and has forked more than those before it
   pub parents : HasParents c
   parents p k t e =
-      let g = has_task ys (child_path p k) t e in
+      let g = has_thread (child_path p k) t e in
       let x = child_path p k in
-      let n = there_sums (on_path x) ys g.thread g.there in
+      let n = there_sums (λ (y : Thread). on_path x (course_of y)) ys g.thread g.there in
       let o = path_counts x g.thread.path (sym g.path) in
       let b = run.whole.births (at_path x) in
-      let z = main_not m main ys run.root run.whole.births p k in
+      let z = main_not course_of (program_in m) main ys run.root run.whole.births p k in
       let s = some_in (bears m (at_path x)) ys (omega (arith, n, o, b, z)) in
       let f = fits_of s.0 s.1 in
       let q = forked_by (program_in m) p k s.0.path s.0.first s.0.log s.0.now f.follows s.2 in

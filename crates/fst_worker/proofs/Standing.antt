@@ -4,6 +4,7 @@ use Rattle.std.specs.Prelude.{All, Contains, option_to_list, nat_eq}
 use Rattle.std.proofs.lemmas.Bool.Decides.{nat_tests}
 use Rattle.std.proofs.lemmas.List.{append-nil}
 use Rattle.std.proofs.lemmas.Option.{same_Some}
+use Rattle.fst_base.proofs.Bools.{same_nat}
 use Rattle.fst_types.specs.Tree.{Tree}
 use Rattle.fst_types.specs.declared.side.Side.{Side}
 use Rattle.fst_types.specs.declared.side.Side.TheVariants.{Left, Right}
@@ -16,9 +17,10 @@ use Rattle.fst_cell.specs.declared.content.Half.{Half}
 use Rattle.fst_cell.specs.declared.content.Offer.{Offer}
 use Rattle.fst_cell.specs.Close.{stand_if, stands_at, either_of}
 use Rattle.fst_cell.specs.End.{EndView, residual_of}
-use Rattle.fst_cell.specs.Residuals.{residual, sends}
-use Rattle.fst_cell.proofs.Laws.{exclusive, last_stamp_push}
-use Rattle.fst_safety.specs.Logs.{Birth}
+use Rattle.fst_lts.specs.Residuals.{residual, sends}
+use Rattle.fst_cell.proofs.Laws.{exclusive}
+use Rattle.fst_lts.proofs.Laws.{last_stamp_push}
+use Rattle.fst_runs.specs.Logs.{Birth}
 use Rattle.fst_safety.specs.Threads.{Thread}
 use Rattle.fst_worker.specs.Records.{Pair, IsShut, IsOver, histories_of, missing, stands_on, IsTrailing, IsAsClosed}
 use Rattle.fst_worker.proofs.Shutting.{EndsPass, BothPass, Passes, settled, sends_by, look, look_of, ends_pass, all_send, here, left_reaches, right_reaches, left_missing, right_missing, lacking_waits, names_once}
@@ -42,9 +44,6 @@ is_length a b e = grind (arith, nat_tests)
 
 equal_stamp : (a b : ℕ) → a ≡ b → nat_eq a b ≡ true
 equal_stamp a b e = grind (arith, nat_tests)
-
-is_stamp : (a b : ℕ) → nat_eq a b ≡ true → a ≡ b
-is_stamp a b e = grind (arith, nat_tests)
 
 -- what stands for a side isn't the other side's
 not_left : (b : Bool) (o : Option Offer) → stands_on Left (stand_if b Right o) ≡ false
@@ -215,7 +214,7 @@ module _ (m : Surroundings) (a : Tree) (main : Birth) (xs : List Thread) (ps : L
     where
       at_false : (b : Bool) (n d : ℕ) → (not b && nat_eq n d) ≡ true → (b ≡ false) × (n ≡ d)
       at_false true n d h = absurd (cc h)
-      at_false false n d h = (refl, is_stamp n d h)
+      at_false false n d h = (refl, same_nat n d h)
 
       by : (r : Option Entry) → missing (histories_of ps) e ≡ r → (b : Bool) →
           agrees (missing (histories_of ps) e) (Some o) b (last_stamp p.closed.history.entries.items) ≡ true →

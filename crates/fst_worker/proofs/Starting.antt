@@ -14,8 +14,8 @@ use Rattle.fst_types.specs.declared.ends.EndName.{EndName}
 use Rattle.fst_runs.specs.Configs.{main_body}
 use Rattle.fst_runs.specs.Wrong.{held_state}
 use Rattle.fst_cell.specs.End.{EndView}
-use Rattle.fst_safety.specs.declared.tasks.LogEntry.{LogEntry}
-use Rattle.fst_safety.specs.Logs.{Opening, births, exchanges, openings}
+use Rattle.fst_runs.specs.declared.log.LogEntry.{LogEntry}
+use Rattle.fst_runs.specs.Logs.{Opening, births, exchanges, openings}
 use Rattle.fst_safety.specs.Safety.{main_type}
 use Rattle.fst_safety.specs.Threads.{Thread, FitsIn}
 use Rattle.fst_safety.specs.Tasks.{main_thread}

@@ -15,7 +15,7 @@ use Rattle.fst_runs.specs.Configs.{same_end}
 use Rattle.fst_runs.specs.Wrong.{once}
 use Rattle.fst_runs.proofs.Laws.{same_end-itself}
 use Rattle.fst_cell.specs.End.{EndView, end_name}
-use Rattle.fst_safety.specs.declared.tasks.LogEntry.{LogEntry}
+use Rattle.fst_runs.specs.declared.log.LogEntry.{LogEntry}
 use Rattle.fst_safety.specs.declared.tasks.TypedTask.{TypedTask}
 use Rattle.fst_safety.specs.declared.tasks.Turned.{Turned}
 use Rattle.fst_safety.specs.declared.tasks.Turned.TheVariants as turned

@@ -1,31 +1,38 @@
 -- Tasks without their ends, and what they are told of their offers.
-use Rattle.std.proofs.Common.{◌≡◌, ◌∙◌, inl, inr, ◌<◌, ◌≤◌, ℕ, zero, suc, true, false, Option, Some, None, List, [], ◌∷◌, length, refl, sym, ap, subst, arith}
+use Rattle.std.proofs.Common.{◌≡◌, ◌∙◌, inl, inr, ◌<◌, ◌≤◌, ℕ, zero, suc, true, false, Option, Some, None, List, [], ◌∷◌, ◌++◌, length, refl, sym, ap, subst, arith}
 use Rattle.std.specs.Prelude.{All, Contains, IsSome, is_some, slice_index_or}
 use Rattle.std.proofs.lemmas.List.Elements.{All-contains, Contains-get_or}
+use Rattle.std.proofs.lemmas.Option.{none-some, same_Some}
 use Rattle.fst_lts.specs.Histories.{last_stamp}
 use Rattle.fst_types.specs.declared.ends.EndName.{EndName}
 use Rattle.fst_types.specs.declared.event.ChannelHistory.{ChannelHistory}
 use Rattle.fst_types.specs.declared.event.Entry.{Entry}
 use Rattle.fst_machine.specs.declared.code.Code.{Code}
+use Rattle.fst_machine.specs.declared.request.Request.{Request}
 use Rattle.fst_machine.specs.declared.request.Request.TheVariants.{Put}
 use Rattle.fst_machine.specs.declared.request.Answer.TheVariants.{Sent}
+use Rattle.fst_machine.specs.Machine.{asked}
 use Rattle.fst_vm.specs.TaskView.{TaskView}
-use Rattle.fst_vm.specs.Tasks.{IsAtRest, HasNext, Takes, GoesOn, Stays}
+use Rattle.fst_vm.specs.Tasks.{AsksFor, IsAtRest, HasNext, Takes, GoesOn, Stays}
+use Rattle.fst_runs.specs.declared.log.LogEntry.{LogEntry}
 use Rattle.fst_cell.specs.declared.answers.Closed.{Closed}
 use Rattle.fst_cell.specs.declared.content.Offer.{Offer}
 use Rattle.fst_cell.specs.End.{EndView, end_name}
-use Rattle.fst_safety.specs.Going.{with_entry}
 use Rattle.fst_safety.specs.Tasks.{module_of}
 use Rattle.fst_safety.specs.Threads.{Thread, FitsIn, FitsEnd, count_of}
 use Rattle.fst_safety.proofs.Laws.{count_first, counted_so, asks_for}
-use Rattle.fst_worker.specs.Records.{Pair, histories_of, missing, stands_on, IsAsClosed}
+use Rattle.fst_records.specs.Records.{Course}
+use Rattle.fst_worker.specs.Works.{course_of}
+use Rattle.fst_worker.specs.Records.{Pair, histories_of, missing, stands_on, told_course, IsAsClosed}
 use Rattle.fst_worker.specs.Configs.{Told}
 use Rattle.fst_worker.specs.Laws.{Finishes}
 use Rattle.fst_worker.specs.Resumes.{IsTaskOf, Tells, CanTell}
+use Rattle.fst_worker.specs.declared.ending.TaskLog.{TaskLog}
 use Rattle.fst_worker.specs.Ending.{TellsWaiting, HasEnded, IsToldTo}
 use Rattle.fst_worker.proofs.Answering.{tells}
-use Rattle.fst_worker.proofs.Catching.{finishes}
-use Rattle.fst_worker.proofs.Ended.{pair_in, closed_in}
+use Rattle.fst_worker.proofs.Catching.{IsHere, all_here, asks_it, finishes}
+use Rattle.fst_worker.proofs.Ended.{closed_of}
+use Rattle.fst_worker.proofs.Mapped.{mapped_in, mapped_from}
 
 -- ---- ends of one name
 
@@ -79,7 +86,7 @@ module _ (k : Code) (cs : List Closed) (run : HasEnded k cs) where
     fits = All-contains (FitsIn (module_of k) run.type) run.threads x run.over.run.fit there
 
     -- a task of the thread has a next request
-    pub has_next : (t : TaskView) (clock : ℕ) → IsTaskOf k.module.value k t clock x → HasNext k t
+    pub has_next : (t : TaskView) (clock : ℕ) → IsTaskOf k.module.value k t clock (course_of x) → HasNext k t
     has_next t clock h =
         let q = asks_for k.module.value run.code.derivations run.code.derived run.type x fits in
         record { source = k.module.value; from = run.code.from; state = x.now.state; is_in = h.is_in; next = (q.0, q.1) }
@@ -126,14 +133,14 @@ module _ (k : Code) (cs : List Closed) (run : HasEnded k cs) where
         let IsThere = λ (e : EndView). (p : Pair) × Contains run.pairs p × (p.closed.history.name ≡ e.channel) in
         let p = All-contains IsThere x.bag e (All-contains (λ (x : Thread). All IsThere x.bag) run.threads x finish.there there)
         c in
-        (p.0.closed, subst (λ l. Contains l p.0.closed) run.closed (closed_in run.pairs p.0 p.1), p.2)
+        (p.0.closed, subst (λ l. Contains l p.0.closed) run.closed (mapped_in closed_of run.pairs p.0 p.1), p.2)
 
     -- closing tells what became of the offer
     as_closed : (e : EndView) (o : Offer) → Contains x.bag e → e.knows.offer ≡ Some o →
         (c : Closed) → Contains cs c → c.history.name ≡ e.channel →
         IsAsClosed ks e o c (stands_on e.knows.side c.offered)
     as_closed e o ec eo c i named =
-        let p = pair_in c run.pairs (subst (λ l. Contains l c) (sym run.closed) i) in
+        let p = mapped_from closed_of run.pairs c (subst (λ l. Contains l c) (sym run.closed) i) in
         let IsSo = λ (x : Thread). (e : EndView) (o : Offer) (p : Pair) → Contains x.bag e → e.knows.offer ≡ Some o →
         Contains run.pairs p → p.closed.history.name ≡ e.channel →
         IsAsClosed ks e o p.closed (stands_on e.knows.side p.closed.offered) in
@@ -142,26 +149,33 @@ module _ (k : Code) (cs : List Closed) (run : HasEnded k cs) where
 
     -- ---- what the thread is told
 
-    -- it stays as it is where nothing lacks
-    abbrev pub IsItsTask : TaskView → ℕ → Type 0
-    IsItsTask t clock = IsToldTo k ks x t clock
+    -- this is its task with its clock, and its log
+    abbrev pub IsItsTask : TaskView → ℕ → TaskLog → Type 0
+    IsItsTask t clock l = IsToldTo k ks x t clock l
 
-    pub stays_so : (t : TaskView) (clock : ℕ) → IsTaskOf k.module.value k t clock x → All
-        (λ (e : EndView). missing ks e ≡ None) x.bag → IsItsTask t clock
-    stays_so t clock task nothing = record { after = x; told = inl (record { level = nothing; is = refl }); task = task }
+    -- it stays as it is where nothing lacks
+    pub stays_so : (t : TaskView) (clock : ℕ) (l : TaskLog) → IsTaskOf k.module.value k t clock (course_of x) →
+        l.path ≡ t.path → l.entries.items ≡ x.log → All (λ (e : EndView). missing ks e ≡ None) x.bag → IsItsTask t clock l
+    stays_so t clock l task path entries nothing = record {
+      after = course_of x;
+      told = inl (record { level = nothing; is = refl });
+      task = task;
+      log = record { path = path ∙ task.path; entries = entries };
+    }
 
     -- so where its offer stands
-    pub stands_so : (t : TaskView) (clock : ℕ) → IsTaskOf k.module.value k t clock x →
+    pub stands_so : (t : TaskView) (clock : ℕ) (l : TaskLog) → IsTaskOf k.module.value k t clock (course_of x) →
+        l.path ≡ t.path → l.entries.items ≡ x.log →
         (n : EndName) → TellsWaiting x.bag (Some n) → (c : Closed) → Contains cs c → c.history.name ≡ n.channel →
-        stands_on n.side c.offered ≡ true → IsItsTask t clock
-    stands_so t clock task n w c i named stands = by w.0.knows.offer refl w.3
+        stands_on n.side c.offered ≡ true → IsItsTask t clock l
+    stands_so t clock l task path entries n w c i named stands = by w.0.knows.offer refl w.3
       where
-        by : (o : Option Offer) → w.0.knows.offer ≡ o → IsSome w.0.knows.offer → IsItsTask t clock
+        by : (o : Option Offer) → w.0.knows.offer ≡ o → IsSome w.0.knows.offer → IsItsTask t clock l
         by None q some = let none : false ≡ true = sym (ap is_some q) ∙ some in absurd (cc none)
         by (Some o) q some =
             let a = as_closed w.0 o w.1 q c i (named ∙ ap (λ (z : EndName). z.channel) (sym w.2)) in
             let b : stands_on w.0.knows.side c.offered ≡ true = ap (λ (z : EndName). stands_on z.side c.offered) w.2 ∙ stands in
-            stays_so t clock task (all_level w.0 o w.1 q (subst (IsAsClosed ks w.0 o c) b a))
+            stays_so t clock l task path entries (all_level w.0 o w.1 q (subst (IsAsClosed ks w.0 o c) b a))
 
     -- and where it was taken the thread lacks the last entry
     pub record Lacks (n : EndName) (c : Closed) : Type 0 where
@@ -191,7 +205,8 @@ module _ (k : Code) (cs : List Closed) (run : HasEnded k cs) where
           All-contains IsSo run.threads x can.told there l.end l.entry l.in_bag l.lacks
 
       -- it takes that answer where it has run on
-      pub takes_sent : (t v : TaskView) (clock : ℕ) → IsTaskOf k.module.value k t clock x → Stays k t v → IsAtRest k v →
+      pub takes_sent : (t v : TaskView) (clock : ℕ) → IsTaskOf k.module.value k t clock (course_of x) → Stays k t v →
+          IsAtRest k v →
           Takes k v Sent
       takes_sent t v clock task stay rests = record {
         rests = rests;
@@ -205,8 +220,8 @@ module _ (k : Code) (cs : List Closed) (run : HasEnded k cs) where
         few = λ e. absurd (cc e);
       }
 
-      abbrev y : Thread
-      y = with_entry (module_of k) x (Put (end_name l.end) l.entry.event) Sent l.entry.stamp x.bag x.retired
+      abbrev y : Course
+      y = told_course (module_of k) x l.end l.entry
 
       is_told : Told (module_of k) ks x y
       is_told = record {
@@ -219,19 +234,39 @@ module _ (k : Code) (cs : List Closed) (run : HasEnded k cs) where
         is = refl;
       }
 
+      -- what it asks for is to send what it lacks
+      asks_so : (t : TaskView) (clock : ℕ) (r : Request) → IsTaskOf k.module.value k t clock (course_of x) → AsksFor k t r →
+          r ≡ Put (end_name l.end) l.entry.event
+      asks_so t clock r task asks =
+          let IsThere = IsHere (module_of k) run.type run.main run.threads run.pairs run.over in
+          let here = All-contains IsThere run.threads x
+          (all_here (module_of k) run.type run.main run.threads run.pairs run.over) there in
+          let is = asks_it (module_of k) run.type run.main run.threads run.pairs run.over x here l.end l.entry l.in_bag l.lacks in
+          same_Some r (Put (end_name l.end) l.entry.event)
+          (sym (asks k.module.value x.now.state task.is_in (λ e. none-some _ (sym (ap asked e) ∙ is))) ∙ is)
+
       -- and then it is told
-      pub told_so : (t v u : TaskView) (clock : ℕ) → IsTaskOf k.module.value k t clock x → Stays k t v → GoesOn k v Sent u →
-          (now : ℕ) → now ≡ last_stamp c.history.entries.items → IsItsTask u now
-      told_so t v u clock task stay goes now is =
-          let on : IsTaskOf k.module.value k v clock x = record {
+      pub told_so : (t v u : TaskView) (clock : ℕ) → IsTaskOf k.module.value k t clock (course_of x) → Stays k t v →
+          GoesOn k v Sent u → (now : ℕ) → now ≡ last_stamp c.history.entries.items →
+          (r : Request) → AsksFor k t r → (g : LogEntry) → g ≡ record { asked = r; answer = Sent; stamp = now } →
+          (log : TaskLog) → log.path ≡ t.path → log.entries.items ≡ x.log ++ g ∷ [] → IsItsTask u now log
+      told_so t v u clock task stay goes now is r asks g gained log path entries =
+          let on : IsTaskOf k.module.value k v clock (course_of x) = record {
             path = stay.path ∙ task.path;
             is_in = stay.states k.module.value x.now.state task.is_in;
             forked = stay.forked ∙ task.forked;
             time = task.time;
           } in
           let after = says.goes_on k v u clock run.code.from on goes y is_told in
+          let same = asks_so t clock r task asks in
           record {
             after = y;
             told = inr is_told;
             task = record { path = after.path; is_in = after.is_in; forked = after.forked; time = is ∙ l.stamp };
+            log = record {
+              path = path ∙ task.path;
+              entries = entries
+                  ∙ ap (λ (g : LogEntry). x.log ++ g ∷ [])
+                  (gained ∙ (λ i. record { asked = same i; answer = Sent; stamp = (is ∙ l.stamp) i }));
+            };
           }

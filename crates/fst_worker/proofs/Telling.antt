@@ -1,7 +1,7 @@
 -- Threads that were told what their ends lack are those of a run whose ends know all of their channels.
 use Rattle.std.proofs.Common.{◌≡◌, ◌∙◌, ◌⊎◌, inl, inr, ◌<◌, ◌≤◌, ℕ, Bool, true, false, Option, Some, None, List, [], ◌∷◌, ◌++◌, refl, sym, ap, subst, arith}
 use Rattle.std.specs.Coded.{coded_option}
-use Rattle.std.specs.Prelude.{sum_by, All, Contains, IsPermutation, option_and_then, option_to_list, if◌then◌else◌}
+use Rattle.std.specs.Prelude.{sum_by, All, Contains, IsPermutation, option_and_then, option_to_list}
 use Rattle.std.proofs.lemmas.List.{append-nil}
 use Rattle.std.proofs.lemmas.List.Elements.{All-nil, All-cons, All-head, All-tail, All-append, All-contains, All-contains_itself}
 use Rattle.std.proofs.lemmas.List.Sorted.{All-permutation, Contains-permutation, IsPermutation-refl, IsPermutation-remove, sum_by-IsPermutation}
@@ -21,28 +21,28 @@ use Rattle.fst_machine.specs.declared.request.Request.TheVariants.{Put}
 use Rattle.fst_machine.specs.declared.request.Answer.TheVariants.{Sent}
 use Rattle.fst_machine.specs.Machine.{State, answered}
 use Rattle.fst_machine.specs.Machine as machine
-use Rattle.fst_runs.specs.Configs.{Path, same_path, channel_residual}
-use Rattle.fst_process.specs.Resuming.{channel_in}
+use Rattle.fst_runs.specs.Configs.{channel_residual, channel_in}
 use Rattle.fst_cell.specs.Answers.{end_with, longer}
 use Rattle.fst_cell.specs.End.{EndView, end_name}
-use Rattle.fst_cell.specs.Residuals.{residual}
+use Rattle.fst_lts.specs.Residuals.{residual}
 use Rattle.fst_safety.specs.WellTyped.{program_in}
-use Rattle.fst_safety.specs.Logs.{Birth}
+use Rattle.fst_runs.specs.Logs.{Birth}
 use Rattle.fst_safety.specs.Sound.{IsSound, IsTrace}
 use Rattle.fst_safety.specs.Threads.{Thread, FitsIn, count_of}
 use Rattle.fst_safety.specs.Bags.{put_by}
 use Rattle.fst_safety.specs.Going.{GoesOnTo, IsMoved, with_entry}
 use Rattle.fst_safety.proofs.Laws.{counted, count_first, counts_itself, counted_so, others_of, stay_typed}
-use Rattle.fst_worker.specs.Works.{Went, IsRun}
-use Rattle.fst_worker.specs.Records.{Pair, IsShut, IsOver, FitsRecord, IsRecorded, Caught, AllCaught, histories_of, missing, shows}
+use Rattle.fst_worker.specs.Works.{Went, IsRun, course_of}
+use Rattle.fst_worker.specs.Records.{Pair, IsShut, IsOver, Caught, AllCaught, histories_of, missing, told_course}
+use Rattle.fst_records.specs.Records.{Course, FitsRecord, IsRecorded, shows, config_of}
 use Rattle.fst_worker.specs.Laws.{Finishes}
-use Rattle.fst_worker.specs.Configs.{task_of, config_of, Stayed, Told, AreTold, AreSame, SoundLaw}
+use Rattle.fst_worker.specs.Configs.{Stayed, Told, AreTold, AreSame, SoundLaw}
 use Rattle.fst_worker.proofs.Catching.{IsHere, all_here, spent_level, sent_at, late, others, finishes}
 use Rattle.fst_worker.proofs.Chains.{went_none, went_step, went_both}
-use Rattle.fst_worker.proofs.Found.{on_name, channel_of, channel_there}
+use Rattle.fst_records.proofs.Found.{on_name, channel_of, channel_there}
 use Rattle.fst_worker.proofs.Shutting.{EndsPass, IsBehind, ends_pass, of_channel, by_histories, here, names_once, all_behind}
 use Rattle.fst_worker.proofs.Soundness.{residual_at, IsLevel, AreLevel, trace_of, is_sound}
-use Rattle.fst_worker.proofs.Tests.{same_by, same_by-itself, same_by-same}
+use Rattle.fst_records.proofs.Tests.{same_by, same_by-itself, same_by-same}
 use Rattle.fst_worker.proofs.Wholes.{went_fits, went_whole}
 
 -- ---- lists
@@ -92,15 +92,6 @@ SendsOn m a = (x : Thread) → FitsIn m a x → (e : EndView) (n : ℕ) (taken :
     answered (program_in m) x.now.state Sent ≡ Some s →
     taken.sent ≡ x.now.clock → x.now.clock < taken.stamp → IsMoved x e (end_with e (longer e.knows n taken)) bag retired →
     GoesOnTo m a x (with_entry m x (Put (end_name e) taken.event) Sent taken.stamp bag retired) []
-
--- threads that differ by their ends alone have the same tasks
-same_tasks : (ys zs : List Thread) → AreSame ys zs → (p : Path) → task_of zs p ≡ task_of ys p
-same_tasks [] [] s p = refl
-same_tasks [] (z ∷ zs) s p = absurd s
-same_tasks (y ∷ ys) [] s p = absurd s
-same_tasks (y ∷ ys) (z ∷ zs) s p =
-    let more = same_tasks ys zs s.1 p in
-    λ i. if same_path (s.0 i).path p then Some (s.0 i).now else more i
 
 -- the residual that an end has after what it lacks
 abbrev residual_then : EndView → Option Entry → Option Tree
@@ -176,13 +167,12 @@ module _ (m : Surroundings) (a : Tree) (main : Birth) (xs : List Thread) (ps : L
     there = All-contains_itself xs k d l;
   }
 
-  -- the thread z is the thread y with ends that know all of their channels, and x has come to it
-  pub record Becomes (x y : Thread) : Type 0 where
+  -- x has come to a thread whose course is y, and whose ends know all of their channels
+  pub record Becomes (x : Thread) (y : Course) : Type 0 where
     pub thread : Thread
-    pub same : thread ≡ record y { bag = thread.bag; retired = thread.retired }
+    pub same : course_of thread ≡ y
     pub went : Went m a (x ∷ []) (thread ∷ [])
-    pub caught : Caught m (histories_of ps) x thread
-    pub itself : Caught m (histories_of ps) x y
+    pub caught : Caught m (histories_of ps) x y
     pub level : AreLevel ks thread
 
   spent_so : (x : Thread) → Knows x → All (IsLevel ks) x.retired
@@ -192,20 +182,17 @@ module _ (m : Surroundings) (a : Tree) (main : Birth) (xs : List Thread) (ps : L
 
   -- what the law of the end says of it
   abbrev MayStay : Thread → Type 0
-  MayStay x = All (λ (e : EndView). missing (histories_of ps) e ≡ None) x.bag → (bag retired : List EndView) →
-      Caught m (histories_of ps) x (record x { bag = bag; retired = retired })
+  MayStay x = All (λ (e : EndView). missing (histories_of ps) e ≡ None) x.bag → Caught m (histories_of ps) x (course_of x)
 
-  stayed : (x y : Thread) → Knows x → Stayed (histories_of ps) x y → Becomes x y
-  stayed x y h s =
-      let c = All-contains MayStay xs x h.finish.stays h.there s.level in
-      record {
-        thread = x;
-        same = sym (ap (λ (y : Thread). record y { bag = x.bag; retired = x.retired }) s.is);
-        went = went_none m a (x ∷ []);
-        caught = c x.bag x.retired;
-        itself = subst (Caught m (histories_of ps) x) (sym s.is) (c y.bag y.retired);
-        level = ((λ k d l. level_so _ (h.know.0 k d l) (s.level k d l)), spent_so x h);
-      }
+  stayed : (x : Thread) (y : Course) → Knows x → Stayed (histories_of ps) x y → Becomes x y
+  stayed x y h s = record {
+    thread = x;
+    same = sym s.is;
+    went = went_none m a (x ∷ []);
+    caught = subst (Caught m (histories_of ps) x) (sym s.is)
+        (All-contains MayStay xs x h.finish.stays h.there s.level);
+    level = ((λ k d l. level_so _ (h.know.0 k d l) (s.level k d l)), spent_so x h);
+  }
 
   -- ---- a thread that was told
 
@@ -223,7 +210,7 @@ module _ (m : Surroundings) (a : Tree) (main : Birth) (xs : List Thread) (ps : L
       let t = side_is e.knows.side k (trace_of k r) in
       (t.0, ap (option_and_then (channel_residual e.knows.side)) (channel_is p.0 p.1 e.channel p.2) ∙ t.1)
 
-  module _ (sends : SendsOn m a) (x y : Thread) (h : Knows x) (t : Told m (histories_of ps) x y) where
+  module _ (sends : SendsOn m a) (x : Thread) (y : Course) (h : Knows x) (t : Told m (histories_of ps) x y) where
     abbrev e : EndView
     e = t.end
 
@@ -286,12 +273,10 @@ module _ (m : Surroundings) (a : Tree) (main : Birth) (xs : List Thread) (ps : L
     abbrev IsTold : Thread → Type 0
     IsTold x = (e : EndView) (d : Entry) → Contains x.bag e → missing (histories_of ps) e ≡ Some d →
         (machine.request m.families x.now.state ≡ Some (Put (end_name e) d.event)) ×
-        ((s : State) → answered (program_in m) x.now.state Sent ≡ Some s → (bag retired : List EndView) →
-        Caught m (histories_of ps) x (with_entry m x (Put (end_name e) d.event) Sent d.stamp bag retired))
+        ((s : State) → answered (program_in m) x.now.state Sent ≡ Some s → Caught m (histories_of ps) x (told_course m x e d))
 
     said : (machine.request m.families x.now.state ≡ Some (Put (end_name e) d.event)) ×
-        ((s : State) → answered (program_in m) x.now.state Sent ≡ Some s → (bag retired : List EndView) →
-        Caught m (histories_of ps) x (with_entry m x (Put (end_name e) d.event) Sent d.stamp bag retired))
+        ((s : State) → answered (program_in m) x.now.state Sent ≡ Some s → Caught m (histories_of ps) x (told_course m x e d))
     said = All-contains IsTold xs x h.finish.told h.there e d t.there t.lacks
 
     goes : GoesOnTo m a x z []
@@ -302,7 +287,7 @@ module _ (m : Surroundings) (a : Tree) (main : Birth) (xs : List Thread) (ps : L
     pub told : Becomes x y
     told = record {
       thread = z;
-      same = sym (ap (λ (y : Thread). record y { bag = put.bag; retired = put.retired }) t.is);
+      same = sym t.is;
       went = went_step m a (x ∷ []) (z ∷ []) (record {
         task = x;
         after = z;
@@ -312,31 +297,28 @@ module _ (m : Surroundings) (a : Tree) (main : Birth) (xs : List Thread) (ps : L
         before_is = IsPermutation-refl (x ∷ []);
         after_is = IsPermutation-refl (z ∷ []);
       });
-      caught = said.1 t.state t.leads put.bag put.retired;
-      itself = subst (Caught m (histories_of ps) x) (sym t.is) (said.1 t.state t.leads y.bag y.retired);
+      caught = subst (Caught m (histories_of ps) x) (sym t.is) (said.1 t.state t.leads);
       level = (put.open_ends, put.spent_ends);
     }
 
   -- ---- all threads
 
   -- so it is with all of them
-  pub record BecomeAll (us vs : List Thread) : Type 0 where
+  pub record BecomeAll (us : List Thread) (vs : List Course) : Type 0 where
     pub threads : List Thread
     pub same : AreSame vs threads
     pub went : Went m a us threads
-    pub caught : AllCaught m (histories_of ps) us threads
-    pub itself : AllCaught m (histories_of ps) us vs
+    pub caught : AllCaught m (histories_of ps) us vs
     pub level : All (AreLevel ks) threads
 
-  become_all : SendsOn m a → (us vs : List Thread) → All Knows us → AreTold m (histories_of ps) us vs → BecomeAll us vs
+  become_all : SendsOn m a → (us : List Thread) (vs : List Course) → All Knows us → AreTold m (histories_of ps) us vs →
+      BecomeAll us vs
   become_all sends [] [] all k = record {
     threads = [];
-    same = tt;
+    same = refl;
     went = went_none m a [];
     caught = tt;
-    itself = tt;
-    level =
-        All-nil (AreLevel ks);
+    level = All-nil (AreLevel ks);
   }
   become_all sends [] (y ∷ ys) all k = absurd k
   become_all sends (x ∷ us) [] all k = absurd k
@@ -345,10 +327,9 @@ module _ (m : Surroundings) (a : Tree) (main : Birth) (xs : List Thread) (ps : L
       let more = become_all sends us vs (All-tail Knows x us all) k.1 in
       record {
         threads = one.thread ∷ more.threads;
-        same = (one.same, more.same);
+        same = λ i. one.same i ∷ more.same i;
         went = went_both m a (x ∷ []) (one.thread ∷ []) us more.threads one.went more.went;
         caught = (one.caught, more.caught);
-        itself = (one.itself, more.itself);
         level = All-cons (AreLevel ks) one.thread more.threads one.level more.level;
       }
     where
@@ -357,7 +338,8 @@ module _ (m : Surroundings) (a : Tree) (main : Birth) (xs : List Thread) (ps : L
       by (inr t) = told sends x y (All-head Knows x us all) t
 
   -- a record fits in whichever order its channels are
-  pub record_moved : (zs : List Thread) → FitsRecord m main zs (histories_of ps) → FitsRecord m main zs ks
+  pub record_moved : (zs : List Course) → FitsRecord (program_in m) m.types main zs (histories_of ps) →
+      FitsRecord (program_in m) m.types main zs ks
   record_moved zs f = record {
     root = f.root;
     births = f.births;
@@ -367,7 +349,7 @@ module _ (m : Surroundings) (a : Tree) (main : Birth) (xs : List Thread) (ps : L
     histories = All-permutation IsRecorded (histories_of ps) ks moved f.histories;
   }
 
-  module _ (sends : SendsOn m a) (ys : List Thread) (are : AreTold m (histories_of ps) xs ys) where
+  module _ (sends : SendsOn m a) (ys : List Course) (are : AreTold m (histories_of ps) xs ys) where
     -- the threads with ends
     pub all : BecomeAll xs ys
     all = become_all sends xs ys all_knowing are
@@ -380,17 +362,15 @@ module _ (m : Surroundings) (a : Tree) (main : Birth) (xs : List Thread) (ps : L
       whole = went_whole m a main xs all.threads all.went over.run.fit over.run.whole;
     }
 
-    -- with the closed channels they are a record that fits
-    pub fits_record : FitsRecord m main all.threads ks
-    fits_record = record_moved all.threads ((finishes m a main xs ps over).record_fits all.threads all.caught)
+    -- with the closed channels their courses are a record that fits
+    pub fits_record : FitsRecord (program_in m) m.types main ys ks
+    fits_record = record_moved ys ((finishes m a main xs ps over).record_fits ys all.caught)
 
-    -- their configuration
-    pub same_config : config_of all.threads ks ≡ config_of ys ks
-    same_config = λ i. record { tasks = λ p. same_tasks ys all.threads all.same p i; channels = channel_in ks }
-
-    -- it is sound
+    -- its configuration is sound
     pub config_sound : IsSound m a (config_of ys ks)
-    config_sound = subst (IsSound m a) same_config (is_sound m a main all.threads ks is_run fits_record all.level)
+    config_sound = subst (λ (cs : List Course). IsSound m a (config_of cs ks)) all.same
+        (is_sound m a main all.threads ks is_run
+        (subst (λ (cs : List Course). FitsRecord (program_in m) m.types main cs ks) (sym all.same) fits_record) all.level)
 
 -- so it is at the end of each run
 pub joins : SoundLaw
@@ -400,8 +380,8 @@ joins n ds h a main xs ps over ys are =
     let r = IsPermutation-refl (histories_of ps) in
     let b = all m a main xs ps over (histories_of ps) r s ys are in
     record {
-      caught = b.itself;
-      record_fits = (finishes m a main xs ps over).record_fits ys b.itself;
+      caught = b.caught;
+      record_fits = (finishes m a main xs ps over).record_fits ys b.caught;
       fit = (b.threads, b.same, is_run m a main xs ps over (histories_of ps) r s ys are);
       sound = λ ks moved. config_sound m a main xs ps over ks moved s ys are;
     }

@@ -6,7 +6,7 @@ use Rattle.std.proofs.lemmas.List.Elements.{All-nil, All-cons}
 use Rattle.fst_types.specs.Tree.{Tree}
 use Rattle.fst_machine.specs.declared.code.Code.{Code}
 use Rattle.fst_runs.specs.Configs.{Path}
-use Rattle.fst_safety.specs.declared.tasks.LogEntry.{LogEntry}
+use Rattle.fst_runs.specs.declared.log.LogEntry.{LogEntry}
 use Rattle.fst_safety.specs.declared.tasks.TypedTask.{TypedTask}
 use Rattle.fst_safety.specs.Tasks.{Grows, IsTypedCode, Keeps, module_of, offers, work}
 use Rattle.fst_safety.specs.Threads.{Thread, FitsIn}
@@ -19,7 +19,7 @@ use Rattle.fst_worker.proofs.Chains.{went_none, went_both}
 use Rattle.fst_worker.proofs.Crews.{All-first, All-behind, AreManned, crew_kept, crews_kept, crews_of, kept_all, kept_length, kept_sum}
 use Rattle.fst_worker.proofs.Goes.{clock_there, kept_clock}
 use Rattle.fst_worker.proofs.Passing.{crew_same}
-use Rattle.fst_worker.proofs.Sums.{sum_both}
+use Rattle.fst_records.proofs.Sums.{sum_both}
 
 -- ---- one share
 

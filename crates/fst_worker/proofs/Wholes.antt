@@ -12,13 +12,13 @@ use Rattle.fst_types.specs.declared.ends.EndName.{EndName}
 use Rattle.fst_runs.specs.Configs.{Path, Task, same_end}
 use Rattle.fst_runs.specs.Wrong.{once, held_state}
 use Rattle.fst_cell.specs.End.{EndView, end_name}
-use Rattle.fst_safety.specs.declared.tasks.LogEntry.{LogEntry}
+use Rattle.fst_runs.specs.declared.log.LogEntry.{LogEntry}
 use Rattle.fst_safety.specs.WellTyped.{program_in}
-use Rattle.fst_safety.specs.Logs.{Birth, Exchange, Opening, births, exchanges, openings}
+use Rattle.fst_runs.specs.Logs.{Birth, Exchange, Opening, births, exchanges, openings}
 use Rattle.fst_safety.specs.Threads.{Thread, FitsIn, count_of}
 use Rattle.fst_safety.specs.Turns.{Turn, AreKnownSpent, of_ends, by_type, by_cell, by_exchanges, birth}
 use Rattle.fst_worker.specs.Works.{Step, Turns, Went, Whole, IsKnownIn, bears, opens, trades}
-use Rattle.fst_worker.proofs.Sums.{exchanges_more, births_more, openings_more, sum_none}
+use Rattle.fst_records.proofs.Sums.{exchanges_more, births_more, openings_more, sum_none}
 
 -- how often an end is among the spent ones of a thread
 abbrev spent_in : EndName → Thread → ℕ

@@ -1,24 +1,19 @@
 -- Channels that are closed at the end of a run, and the order of their names.
 use Rattle.std.specs.Prelude.{◌≡◌, ℕ, ◌+◌, List, map, sum_by, All}
-use Rattle.std.specs.Cmp.Lexicographic.{slice_cmp}
-use Rattle.std.specs.Ordering.{nat_cmp, ordering_then}
 use Rattle.std.specs.declared.cmp.Ordering.{Ordering}
 use Rattle.fst_types.specs.Tree.{Tree}
 use Rattle.fst_derivations.specs.Rules.{Surroundings}
 use Rattle.fst_types.specs.declared.ends.ChannelName.{ChannelName}
 use Rattle.fst_cell.specs.declared.answers.Closed.{Closed}
 use Rattle.fst_cell.specs.End.{EndView}
-use Rattle.fst_safety.specs.Logs.{Birth}
+use Rattle.fst_runs.specs.Logs.{Birth}
+pub use Rattle.fst_records.specs.NameOrder.{name_cmp}
 use Rattle.fst_safety.specs.Threads.{Thread}
 use Rattle.fst_safety.specs.Turns.{of_ends}
 use Rattle.fst_worker.specs.Works.{IsRun}
 use Rattle.fst_worker.specs.Records.{Pair, IsShut}
 
 -- ---- names in order
-
--- names compare by the paths of their makers, and then by their counts
-abbrev pub name_cmp : ChannelName → ChannelName → Ordering
-name_cmp g h = ordering_then (slice_cmp nat_cmp g.maker h.maker) (nat_cmp g.count h.count)
 
 -- ends compare by the names of their channels
 abbrev pub channel_cmp : EndView → EndView → Ordering

@@ -8,10 +8,13 @@ use Rattle.fst_vm.specs.TaskView.{TaskView}
 use Rattle.fst_cell.specs.declared.answers.Closed.{Closed}
 use Rattle.fst_cell.specs.End.{EndView, end_name}
 use Rattle.fst_safety.specs.declared.tasks.TypedTask.{TypedTask}
-use Rattle.fst_safety.specs.Logs.{Birth}
+use Rattle.fst_runs.specs.Logs.{Birth}
 use Rattle.fst_safety.specs.Tasks.{IsTypedCode, module_of}
 use Rattle.fst_safety.specs.Threads.{Thread}
 use Rattle.fst_worker.specs.declared.ending.Bare.{Bare}
+use Rattle.fst_worker.specs.declared.ending.TaskLog.{TaskLog}
+use Rattle.fst_records.specs.Records.{Course}
+use Rattle.fst_worker.specs.Works.{course_of}
 use Rattle.fst_worker.specs.Records.{Pair, IsOver}
 use Rattle.fst_worker.specs.Configs.{Stayed, Told, AreTold}
 use Rattle.fst_worker.specs.Resumes.{IsTaskOf, AreTasksOf}
@@ -27,6 +30,7 @@ TellsWaiting es (Some n) = (e : EndView) × Contains es e × (end_name e ≡ n) 
 pub record IsBare (t : TypedTask) (b : Bare) : Type 0 where
   pub task : b.task ≡ t.task
   pub clock : b.clock ≡ t.clock
+  pub log : b.log.items ≡ t.log.items
   pub waits : TellsWaiting t.bag.items b.waits
 
 -- so is each of these
@@ -45,7 +49,8 @@ ends_of (t ∷ ts) = (t.bag.items ++ t.retired.items) ++ ends_of ts
 
 -- the task without its ends is that of the thread
 pub record IsBareOf (k : Code) (b : Bare) (x : Thread) : Type 0 where
-  pub task : IsTaskOf k.module.value k b.task b.clock x
+  pub task : IsTaskOf k.module.value k b.task b.clock (course_of x)
+  pub log : b.log.items ≡ x.log
   pub waits : TellsWaiting x.bag b.waits
 
 -- so is each of these
@@ -72,21 +77,35 @@ pub record IsTellable (k : Code) (b : Bare) (cs : List Closed) : Type 0 where
   pub there : Contains run.threads thread
   pub bare : IsBareOf k b thread
 
--- the thread has stayed as it was, or was told that its offer was taken, and this is its task
-pub record IsToldTo (k : Code) (ks : List ChannelHistory) (x : Thread) (t : TaskView)
-    (clock : ℕ) : Type 0 where
-  pub after : Thread
+-- this is the log of the course
+pub record IsLogOf (l : TaskLog) (y : Course) : Type 0 where
+  pub path : l.path ≡ y.path
+  pub entries : l.entries.items ≡ y.log
+
+-- these are the logs of these courses, one each, in order
+abbrev pub AreLogsOf : List TaskLog → List Course → Type 0
+AreLogsOf [] [] = ⊤
+AreLogsOf [] (y ∷ ys) = ⊥
+AreLogsOf (l ∷ ls) [] = ⊥
+AreLogsOf (l ∷ ls) (y ∷ ys) = IsLogOf l y × AreLogsOf ls ys
+
+-- the thread has stayed as it was, or was told that its offer was taken, and these are the task and the log of its course
+pub record IsToldTo (k : Code) (ks : List ChannelHistory) (x : Thread) (t : TaskView) (clock : ℕ)
+    (l : TaskLog) : Type 0 where
+  pub after : Course
   pub told : Stayed ks x after ⊎ Told (module_of k) ks x after
   pub task : IsTaskOf k.module.value k t clock after
+  pub log : IsLogOf l after
 
 -- the tasks are those of all threads of such a run
 pub record AreTellable (k : Code) (bs : List Bare) (cs : List Closed) : Type 0 where
   pub run : HasEnded k cs
   pub bare : AreBareOf k bs run.threads
 
--- all threads were told, and these are their tasks
+-- all threads were told, and these are the tasks and the logs of their courses
 pub record AreToldTo (k : Code) (ks : List ChannelHistory) (xs : List Thread)
-    (ts : List (TaskView × ℕ)) : Type 0 where
-  pub after : List Thread
+    (ts : List (TaskView × ℕ)) (ls : List TaskLog) : Type 0 where
+  pub after : List Course
   pub told : AreTold (module_of k) ks xs after
   pub tasks : AreTasksOf k.module.value k ts after
+  pub logs : AreLogsOf ls after

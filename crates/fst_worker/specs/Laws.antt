@@ -6,7 +6,6 @@ use Rattle.fst_terms.specs.declared.core_module.Module.{Module}
 use Rattle.fst_derivations.specs.Deriv.{Deriv}
 use Rattle.fst_derivations.specs.Modules.{HasDerivations, surroundings}
 use Rattle.fst_derivations.specs.Rules.{Surroundings}
-use Rattle.fst_types.specs.declared.event.ChannelHistory.{ChannelHistory}
 use Rattle.fst_types.specs.declared.event.Entry.{Entry}
 use Rattle.fst_machine.specs.declared.request.Request.TheVariants.{Put}
 use Rattle.fst_machine.specs.declared.request.Answer.TheVariants.{Sent}
@@ -14,17 +13,16 @@ use Rattle.fst_machine.specs.Machine.{State, request, answered}
 use Rattle.fst_runs.specs.Configs.{main_body}
 use Rattle.fst_cell.specs.declared.content.Offer.{Offer}
 use Rattle.fst_cell.specs.End.{EndView, end_name}
-use Rattle.fst_safety.specs.Going.{with_entry}
-use Rattle.fst_safety.specs.Logs.{Birth}
+use Rattle.fst_runs.specs.Logs.{Birth}
+use Rattle.fst_records.specs.Records.{Course, FitsRecord}
 use Rattle.fst_safety.specs.Safety.{main_type}
 use Rattle.fst_safety.specs.Threads.{Thread, FitsIn}
 use Rattle.fst_safety.specs.Tasks.{main_thread}
 use Rattle.fst_safety.specs.Turns.{birth}
 use Rattle.fst_safety.specs.WellTyped.{program_in}
-use Rattle.fst_worker.specs.Works.{Went, GoesOnIn, Whole, IsRun}
+use Rattle.fst_worker.specs.Works.{Went, GoesOnIn, Whole, IsRun, course_of}
 use Rattle.fst_worker.specs.Pairs.{AreApart, ArePaired}
-use Rattle.fst_worker.specs.Entries.{Correspond}
-use Rattle.fst_worker.specs.Records.{Pair, IsShut, Pooled, IsOver, Closable, histories_of, missing, stands_on, IsAsClosed, Caught, AllCaught, FitsRecord}
+use Rattle.fst_worker.specs.Records.{Pair, IsShut, Pooled, IsOver, Closable, histories_of, missing, stands_on, told_course, IsAsClosed, Caught, AllCaught}
 
 -- ---- the beginning
 
@@ -86,26 +84,18 @@ pub record Finishes (m : Surroundings) (main : Birth) (xs : List Thread)
       (λ (e : EndView). e.knows.offer ≡ None → missing (histories_of ps) e ≡ None) x.bag) xs
   -- a task whose ends lack nothing stays as it is
   pub stays : All (λ (x : Thread). All (λ (e : EndView). missing (histories_of ps) e ≡ None) x.bag →
-      (bag retired : List EndView) →
-      Caught m (histories_of ps) x (record x { bag = bag; retired = retired })) xs
+      Caught m (histories_of ps) x (course_of x)) xs
   -- a task one of whose ends lacks an entry asks to send its event there, and is told that it was sent
   pub told : All (λ (x : Thread). (e : EndView) (d : Entry) → Contains x.bag e →
       missing (histories_of ps) e ≡ Some d →
       (request m.families x.now.state ≡ Some (Put (end_name e) d.event)) ×
       ((s : State) → answered (program_in m) x.now.state Sent ≡ Some s →
-      (bag retired : List EndView) →
-      Caught m (histories_of ps) x (with_entry m x
-      (Put (end_name e) d.event) Sent d.stamp bag retired))) xs
+      Caught m (histories_of ps) x (told_course m x e d))) xs
   -- then the logs and the histories are a record that fits
-  pub record_fits : (ys : List Thread) → AllCaught m (histories_of ps) xs ys →
-      FitsRecord m main ys (histories_of ps)
+  pub record_fits : (ys : List Course) → AllCaught m (histories_of ps) xs ys →
+      FitsRecord (program_in m) m.types main ys (histories_of ps)
 
 -- where all channels were closed, and each task is told that what its end lacks was sent, logs and histories are a record that fits
 abbrev pub RecordLaw : Type 0
 RecordLaw = (m : Surroundings) (a : Tree) (main : Birth) (xs : List Thread) (ps : List Pair) →
     IsOver m a main xs ps → Finishes m main xs ps
-
--- in a record that fits, tasks and channels differ by their paths and names, and logs and histories say the same of what passed over each channel
-abbrev pub EntryLaw : Type 0
-EntryLaw = (m : Surroundings) (main : Birth) (xs : List Thread) (ks : List ChannelHistory) →
-    FitsRecord m main xs ks → Correspond xs ks

@@ -1,7 +1,6 @@
 pub mod Works
 pub mod Pairs
 pub mod Records
-pub mod Entries
 pub mod Shares
 pub mod Dealing
 pub mod Configs
@@ -9,6 +8,7 @@ pub mod Resumes
 pub mod Laws
 pub mod Closing
 pub mod Ending
+pub mod Marking
 pub mod Events
 pub mod Finishing
 pub mod Working

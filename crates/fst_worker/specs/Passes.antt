@@ -8,7 +8,7 @@ use Rattle.fst_machine.specs.declared.request.Request.{Request}
 use Rattle.fst_machine.specs.Machine.{request}
 use Rattle.fst_runs.specs.Configs.{Path}
 use Rattle.fst_runs.specs.Wrong.{end_of, once}
-use Rattle.fst_safety.specs.declared.tasks.LogEntry.{LogEntry}
+use Rattle.fst_runs.specs.declared.log.LogEntry.{LogEntry}
 use Rattle.fst_safety.specs.declared.tasks.TypedTask.{TypedTask}
 use Rattle.fst_safety.specs.Going.{GoesOnTo}
 use Rattle.fst_safety.specs.Tasks.{Grows, HasGained, IsTypedCode, module_of, tries_at, work}

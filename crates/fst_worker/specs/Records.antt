@@ -1,66 +1,29 @@
--- A record of a run: the logs of all its tasks and the histories of all its channels, and when they fit.
-use Rattle.std.specs.Prelude.{◌≡◌, ℕ, ◌+◌, ◌<◌, Option, Some, None, IsSome, Bool, true, false, Contains, IsPermutation, List, [], ◌∷◌, ◌++◌, length, sum_by, All, slice_get, if◌then◌else◌, ⊤}
+-- The channels of a run that are closed at its end, and what its tasks lack then.
+use Rattle.std.specs.Prelude.{◌≡◌, ℕ, ◌+◌, ◌<◌, Option, Some, None, Bool, true, false, Contains, IsPermutation, List, [], ◌∷◌, ◌++◌, length, sum_by, All, slice_get, if◌then◌else◌, ⊤}
 use Rattle.fst_types.specs.Tree.{Tree}
 use Rattle.fst_types.specs.declared.side.Side.{Side}
 use Rattle.fst_types.specs.declared.side.Side.TheVariants.{Left, Right}
-use Rattle.fst_kinds.specs.WellFormed.{IsSession}
-use Rattle.fst_lts.specs.Histories.{after_history, last_stamp, side_type}
+use Rattle.fst_lts.specs.Histories.{last_stamp}
 use Rattle.fst_derivations.specs.Rules.{Surroundings}
-use Rattle.fst_types.specs.declared.ends.ChannelName.{ChannelName}
 use Rattle.fst_types.specs.declared.event.ChannelHistory.{ChannelHistory}
 use Rattle.fst_types.specs.declared.event.Entry.{Entry}
 use Rattle.fst_types.specs.declared.event.Event.{Event}
-use Rattle.fst_runs.specs.Configs.{same_channel, same_side, main_path, other}
+use Rattle.fst_machine.specs.declared.request.Request.TheVariants.{Put}
+use Rattle.fst_machine.specs.declared.request.Answer.TheVariants.{Sent}
+use Rattle.fst_runs.specs.Configs.{same_channel, same_side, other}
 use Rattle.fst_cell.specs.declared.answers.Closed.{Closed}
 use Rattle.fst_cell.specs.declared.content.Offer.{Offer}
 use Rattle.fst_cell.specs.Close.{ClosedAs}
 use Rattle.fst_cell.specs.End.{EndView, end_name}
-use Rattle.fst_cell.specs.Stamps.{AreStamped}
-use Rattle.fst_safety.specs.declared.tasks.LogEntry.{LogEntry}
+use Rattle.fst_runs.specs.declared.log.LogEntry.{LogEntry}
 use Rattle.fst_safety.specs.WellTyped.{program_in}
-use Rattle.fst_safety.specs.Logs.{Birth, Exchange, Follows, births, exchanges, openings, parts_in}
+use Rattle.fst_runs.specs.Logs.{Birth, Exchange, Follows, births, exchanges, openings}
+use Rattle.fst_records.specs.Records.{Course}
+use Rattle.fst_safety.specs.Going.{with_entry}
 use Rattle.fst_safety.specs.Threads.{Thread, count_of}
-use Rattle.fst_safety.specs.Turns.{of_ends, birth}
+use Rattle.fst_safety.specs.Turns.{of_ends}
 use Rattle.fst_worker.specs.Pairs.{IsOnePair}
-use Rattle.fst_worker.specs.Works.{IsRun, bears, opens, trades}
-
--- ---- records
-
--- one side's part in a history
-abbrev pub shown_of : ChannelName → Side → Tree → List Entry → List Exchange
-shown_of h s t es = parts_in (record { channel = h; side = s }) (Some (side_type s t)) es
-
--- what passed over a channel, as the parts of both sides
-abbrev pub shows : (Exchange → ℕ) → ChannelHistory → ℕ
-shows w k = sum_by w (shown_of k.name Left k.declared k.entries.items) + sum_by w
-    (shown_of k.name Right k.declared k.entries.items)
-
--- the log leads from a task that has made and forked nothing yet to the one that is there now
-pub record IsLogged (m : Surroundings) (x : Thread) : Type 0 where
-  pub none_made : x.first.made ≡ 0
-  pub none_forked : x.first.forked ≡ 0
-  pub follows : Follows (program_in m) x.path x.first x.log x.now
-
--- the history is a trace of its channel's type, with its stamps
-pub record IsRecorded (k : ChannelHistory) : Type 0 where
-  pub formed : IsSession [] k.declared
-  pub trace : IsSome (after_history k.declared k.entries.items)
-  pub stamped : AreStamped 0 k.entries.items
-
--- the logs of these threads and these histories are a record that fits the module
-pub record FitsRecord (m : Surroundings) (main : Birth) (xs : List Thread)
-    (ks : List ChannelHistory) : Type 0 where
-  -- the tasks are main's, whose path is 0, and those that the logs fork, each as its fork gives it
-  pub root : main.path ≡ main_path
-  pub births : (w : Birth → ℕ) → sum_by
-      (λ (x : Thread). w (birth x)) xs ≡ w main + sum_by (bears m w) xs
-  pub logs : All (IsLogged m) xs
-  -- the channels are those that the logs make, each with its declared type
-  pub channels : (w : ChannelName → Tree → ℕ) → sum_by
-      (λ (k : ChannelHistory). w k.name k.declared) ks ≡ sum_by (opens m w) xs
-  -- what passed over them is what the logs exchange, with events, stamps, sides and clocks
-  pub exchanged : (w : Exchange → ℕ) → sum_by (shows w) ks ≡ sum_by (trades w) xs
-  pub histories : All IsRecorded ks
+use Rattle.fst_worker.specs.Works.{IsRun, course_of}
 
 -- ---- channels that are closed
 
@@ -148,20 +111,26 @@ IsAsClosed ks e o c false = (d : Entry) × IsTrailing ks e o d ×
 
 -- ---- tasks that are told
 
--- the thread y is x, or x after it was told that what its end lacks was sent
-pub record Caught (m : Surroundings) (ks : List ChannelHistory) (x y : Thread) : Type 0 where
+-- the course of a thread after it was told that what an end of it lacks was sent
+abbrev pub told_course : Surroundings → Thread → EndView → Entry → Course
+told_course m x e d = course_of (with_entry m x (Put (end_name e) d.event) Sent d.stamp [] [])
+
+-- y is the course of the thread x, or its course after it was told that what its end lacks was sent
+pub record Caught (m : Surroundings) (ks : List ChannelHistory) (x : Thread)
+    (y : Course) : Type 0 where
   pub path : y.path ≡ x.path
   pub first : y.first ≡ x.first
   pub gained : List LogEntry
   pub log : y.log ≡ x.log ++ gained
   pub follows : Follows (program_in m) y.path y.first y.log y.now
+  pub opened : length (openings m.types y.log) ≡ y.now.made
   pub none_born : births (program_in m) x.path x.now gained ≡ []
   pub none_opened : openings m.types gained ≡ []
   pub exchanged : (w : Exchange → ℕ) →
       sum_by w (exchanges x.now.clock gained) ≡ of_ends (lag w ks) x
 
 -- so it is with each of these threads
-abbrev pub AllCaught : Surroundings → List ChannelHistory → List Thread → List Thread → Type 0
+abbrev pub AllCaught : Surroundings → List ChannelHistory → List Thread → List Course → Type 0
 AllCaught m ks [] [] = ⊤
 AllCaught m ks [] (y ∷ ys) = ⊥
 AllCaught m ks (x ∷ xs) [] = ⊥

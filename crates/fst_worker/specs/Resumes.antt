@@ -12,19 +12,21 @@ use Rattle.fst_machine.specs.declared.request.Answer.TheVariants.{Sent}
 use Rattle.fst_machine.specs.Machine.{State, stuck, pause, answered}
 use Rattle.fst_vm.specs.TaskView.{TaskView}
 use Rattle.fst_vm.specs.Tasks.{IsFrom, IsIn, GoesOn}
-use Rattle.fst_runs.specs.Configs.{Config, program}
+use Rattle.fst_runs.specs.Configs.{Config, program, Histories, ChannelsWithin}
 use Rattle.fst_runs.specs.Names.{HasMakers, HasParents}
 use Rattle.fst_process.specs.Kept.{Kept}
-use Rattle.fst_process.specs.Resuming.{Tasks, Histories, AreAll, AreNumbered, TasksWithin, ChannelsWithin, CanResume, IsResumed}
+use Rattle.fst_process.specs.Resuming.{Tasks, AreAll, AreNumbered, TasksWithin, CanResume, IsResumed}
 use Rattle.fst_process.specs.Runs.{RunsRightFrom, CanRunFrom}
 use Rattle.fst_cell.specs.declared.answers.Closed.{Closed}
 use Rattle.fst_cell.specs.End.{EndView}
-use Rattle.fst_safety.specs.Logs.{Birth}
+use Rattle.fst_runs.specs.Logs.{Birth}
 use Rattle.fst_safety.specs.Sound.{IsSound}
 use Rattle.fst_safety.specs.Threads.{Thread}
+use Rattle.fst_records.specs.Records.{Course, config_of}
+use Rattle.fst_worker.specs.Works.{course_of}
 use Rattle.fst_worker.specs.Records.{Pair, IsOver, histories_of, missing}
 use Rattle.fst_worker.specs.Closing.{name_cmp, names_of}
-use Rattle.fst_worker.specs.Configs.{config_of, Stayed, Told, AreTold}
+use Rattle.fst_worker.specs.Configs.{Stayed, Told, AreTold}
 
 -- no run from the configuration goes wrong, and its names are those that counts have given
 pub record GoesRight (m : Module) (c : Config) : Type 0 where
@@ -39,15 +41,15 @@ RightLaw = (m : Module) (ds : List Deriv) → HasDerivations m ds →
 
 -- ---- tasks as the machine keeps them
 
--- the task with this clock is that of the thread
-pub record IsTaskOf (m : Module) (k : Code) (t : TaskView) (clock : ℕ) (y : Thread) : Type 0 where
+-- the task with this clock is that of the course
+pub record IsTaskOf (m : Module) (k : Code) (t : TaskView) (clock : ℕ) (y : Course) : Type 0 where
   pub path : t.path ≡ y.path
   pub is_in : IsIn m k t y.now.state
   pub forked : t.forked ≡ y.now.forked
   pub time : clock ≡ y.now.clock
 
--- these are the tasks of these threads, in order
-abbrev pub AreTasksOf : Module → Code → Tasks → List Thread → Type 0
+-- these are the tasks of these courses, in order
+abbrev pub AreTasksOf : Module → Code → Tasks → List Course → Type 0
 AreTasksOf m k [] [] = ⊤
 AreTasksOf m k [] (y ∷ ys) = ⊥
 AreTasksOf m k (t ∷ ts) [] = ⊥
@@ -60,8 +62,8 @@ pub record Tells (m : Module) (ks : Histories) (x : Thread) : Type 0 where
   pub leads : answered (program m) x.now.state Sent ≡ Some state
   pub alive : pause m.families.items state ≡ stuck → ⊥
   -- the task that has gone on after the answer is that of the thread that was told
-  pub goes_on : (k : Code) (t u : TaskView) (clock : ℕ) → IsFrom m k → IsTaskOf m k t clock x →
-      GoesOn k t Sent u → (y : Thread) →
+  pub goes_on : (k : Code) (t u : TaskView) (clock : ℕ) → IsFrom m k →
+      IsTaskOf m k t clock (course_of x) → GoesOn k t Sent u → (y : Course) →
       Told (surroundings m []) ks x y → IsTaskOf m k u y.now.clock y
 
 -- no clock of these tasks is over n
@@ -75,8 +77,8 @@ ClocksWithin n (t ∷ ts) = (t.1 ≤ n) × ClocksWithin n ts
 pub record CanTell (m : Module) (ks : Histories) (xs : List Thread) : Type 0 where
   pub told : All (λ (x : Thread). (e : EndView) (d : Entry) → Contains x.bag e →
       missing ks e ≡ Some d → Tells m ks x) xs
-  pub stays : (k : Code) (t : TaskView) (clock : ℕ) (x y : Thread) → IsTaskOf m k t clock x →
-      Stayed ks x y → IsTaskOf m k t clock y
+  pub stays : (k : Code) (t : TaskView) (clock : ℕ) (x : Thread) (y : Course) →
+      IsTaskOf m k t clock (course_of x) → Stayed ks x y → IsTaskOf m k t clock y
 
 -- so it is where all channels of a run were closed
 abbrev pub TellLaw : Type 0
@@ -101,7 +103,7 @@ abbrev pub ResumeLaw : Type 0
 ResumeLaw = (m : Module) (ds : List Deriv) → HasDerivations m ds →
     (a : Tree) (main : Birth) (xs : List Thread) (ps : List Pair) →
     IsOver (surroundings m []) a main xs ps →
-    (ys : List Thread) → AreTold (surroundings m []) (histories_of ps) xs ys →
+    (ys : List Course) → AreTold (surroundings m []) (histories_of ps) xs ys →
     (k : Code) (ts : Tasks) (hs : Histories) → IsFrom m k → AreTasksOf m k ts ys →
     IsPermutation (histories_of ps) hs → AreNumbered (λ p. zero) hs →
     Resumes m k ts hs (config_of ys hs)

@@ -12,7 +12,7 @@ use Rattle.fst_machine.specs.declared.request.Answer.TheVariants.{Go, Made, Fork
 use Rattle.fst_machine.specs.Machine.{request}
 use Rattle.fst_runs.specs.Configs.{Path}
 use Rattle.fst_runs.specs.Wrong.{end_of}
-use Rattle.fst_safety.specs.declared.tasks.LogEntry.{LogEntry}
+use Rattle.fst_runs.specs.declared.log.LogEntry.{LogEntry}
 use Rattle.fst_safety.specs.declared.tasks.TypedTask.{TypedTask}
 use Rattle.fst_safety.specs.Tasks.{Grows, Keeps, IsTypedCode, module_of, offers, tries_at, work}
 use Rattle.fst_safety.specs.Threads.{Thread, FitsIn}

@@ -10,9 +10,10 @@ use Rattle.fst_types.specs.declared.ends.EndName.{EndName}
 use Rattle.fst_runs.specs.Configs.{main_path}
 use Rattle.fst_runs.specs.Wrong.{held_state}
 use Rattle.fst_cell.specs.End.{EndView}
-use Rattle.fst_safety.specs.declared.tasks.LogEntry.{LogEntry}
+use Rattle.fst_runs.specs.declared.log.LogEntry.{LogEntry}
 use Rattle.fst_safety.specs.WellTyped.{program_in}
-use Rattle.fst_safety.specs.Logs.{Birth, Exchange, Opening, births, exchanges, openings}
+use Rattle.fst_runs.specs.Logs.{Birth, Exchange}
+use Rattle.fst_records.specs.Records.{Course, bears as course_bears, opens as course_opens, trades as course_trades}
 use Rattle.fst_safety.specs.Threads.{Thread, FitsIn, count_of}
 use Rattle.fst_safety.specs.Turns.{of_ends, by_type, by_cell, by_exchanges, birth}
 use Rattle.fst_safety.specs.Going.{GoesOnTo}
@@ -54,17 +55,21 @@ GoesOnIn ys x = (y : Thread) × Contains ys y × IsLonger x y
 
 -- ---- all threads together
 
+-- the course of a thread: the thread without its ends
+abbrev pub course_of : Thread → Course
+course_of x = record { path = x.path; first = x.first; log = x.log; now = x.now }
+
 -- the births that the log of a thread makes, the channels that it opens, and what it exchanges, however these are weighed
 abbrev pub bears : Surroundings → (Birth → ℕ) → Thread → ℕ
-bears m w x = sum_by w (births (program_in m) x.path x.first x.log)
+bears m w x = course_bears (program_in m) w (course_of x)
 
 -- the channels
 abbrev pub opens : Surroundings → (ChannelName → Tree → ℕ) → Thread → ℕ
-opens m w x = sum_by (λ (o : Opening). w o.name o.declared) (openings m.types x.log)
+opens m w x = course_opens m.types w (course_of x)
 
 -- the exchanges
 abbrev pub trades : (Exchange → ℕ) → Thread → ℕ
-trades w x = sum_by w (exchanges x.first.clock x.log)
+trades w x = course_trades w (course_of x)
 
 -- an end that stands in the thread's state and isn't open is among the spent ends of one of the threads
 abbrev pub IsKnownIn : List Thread → Thread → Type 0

@@ -11,17 +11,25 @@ ghost use Rattle.fst_worker.specs.Ending.{AreBare, AreTellable, AreToldTo, IsBar
 use crate::closing::closed_at;
 use fst_cell::{Closed, End};
 use fst_machine::{Answer, Code};
-use fst_safety::TypedTask;
-use fst_types::{EndName, Entry, Event, Side};
+use fst_safety::{KeptEntry, TypedTask};
+use fst_types::{EndName, Entry, Event, Path, Side};
 use fst_vm::Task;
 use std::alloc::{AllocError, Global};
 
-// A task whose ends were taken from it: its machine, its clock, and the name of its end that waits, if one does.
+// A task whose ends were taken from it: its machine, its clock, its log, and the name of its end that waits, if one does.
 #[derive(Drop)]
 pub(crate) struct Bare {
     task: Task,
     clock: u64,
+    log: Vec<KeptEntry>,
     waits: Option<EndName>,
+}
+
+/// The log of the task with a path.
+#[derive(Drop)]
+pub(crate) struct TaskLog {
+    pub(crate) path: Path,
+    pub(crate) entries: Vec<KeptEntry>,
 }
 
 // The name of the end that waits.
@@ -48,12 +56,18 @@ fn strip(alloc: Global, task: TypedTask, ends: &mut Vec<End>) -> Result<Bare, Al
         mut bag,
         mut retired,
         clock,
+        log,
         ..
     } = task;
     let waits = waiting(alloc, bag.as_slice())?;
     ends.append(&mut bag)?;
     ends.append(&mut retired)?;
-    Ok(Bare { task, clock, waits })
+    Ok(Bare {
+        task,
+        clock,
+        log,
+        waits,
+    })
 }
 
 /// Takes the ends of tasks and puts them behind others.
@@ -103,51 +117,64 @@ fn latest(entries: &[Entry]) -> u64
     }
 }
 
-// Tells a task whose offer was taken that it was, with the stamp of the last entry of its channel. The task and its clock.
-fn tell(code: &Code, bare: Bare, closed: &[Closed]) -> Result<(Task, u64), AllocError>
+// Tells a task whose offer was taken that it was, with the stamp of the last entry of its channel. The task with its clock, and
+// its log.
+fn tell(
+    alloc: Global,
+    code: &Code,
+    bare: Bare,
+    closed: &[Closed],
+) -> Result<((Task, u64), TaskLog), AllocError>
     requires order { IsStrictlySortedBy name_cmp (names_of closed.now) }
     requires can { IsTellable code.now bare closed.now }
     ensures { IfOk result (λ p. (d : IsTellable code.now bare closed.now) →
-        IsToldTo code.now (histories_of d.run.pairs) d.thread p.0 p.1) }
+        IsToldTo code.now (histories_of d.run.pairs) d.thread p.0.0 p.0.1 p.1) }
 {
     let Bare {
         mut task,
         clock,
+        log: mut entries,
         waits,
     } = bare;
+    let path = task.path().copy(alloc)?;
     let Some(name) = waits else {
-        return Ok((task, clock));
+        return Ok(((task, clock), TaskLog { path, entries }));
     };
     let Some(channel) = closed_at(closed, &name.channel) else {
         unreachable!()
     };
     if stands(name.side, &channel.offered) {
-        return Ok((task, clock));
+        return Ok(((task, clock), TaskLog { path, entries }));
     }
-    let Ok(_) = task.advance(code) else {
+    let Ok(asked) = task.advance(code) else {
         return Err(AllocError);
     };
     let Ok(()) = task.resume(code, Answer::Sent) else {
         return Err(AllocError);
     };
-    Ok((task, latest(channel.history.entries.as_slice())))
+    let stamp = latest(channel.history.entries.as_slice());
+    entries.push(KeptEntry::new(alloc, asked, Answer::Sent, stamp)?)?;
+    Ok(((task, stamp), TaskLog { path, entries }))
 }
 
-/// Tells all tasks whose offers were taken.
+/// Tells all tasks whose offers were taken. The tasks with their clocks, and their logs, in the same order.
 pub(crate) fn tell_all(
     alloc: Global,
     code: &Code,
     bare: Vec<Bare>,
     closed: &[Closed],
-) -> Result<Vec<(Task, u64)>, AllocError>
+) -> Result<(Vec<(Task, u64)>, Vec<TaskLog>), AllocError>
     requires order { IsStrictlySortedBy name_cmp (names_of closed.now) }
     requires can { AreTellable code.now bare.items closed.now }
-    ensures { IfOk result (λ ts. (d : AreTellable code.now bare.items closed.now) →
-        AreToldTo code.now (histories_of d.run.pairs) d.run.threads ts.items) }
+    ensures { IfOk result (λ p. (d : AreTellable code.now bare.items closed.now) →
+        AreToldTo code.now (histories_of d.run.pairs) d.run.threads p.0.items p.1.items) }
 {
     let mut tasks = Vec::new(alloc);
+    let mut logs = Vec::new(alloc);
     for one in bare {
-        tasks.push(tell(code, one, closed)?)?;
+        let (task, log) = tell(alloc, code, one, closed)?;
+        tasks.push(task)?;
+        logs.push(log)?;
     }
-    Ok(tasks)
+    Ok((tasks, logs))
 }

@@ -1,5 +1,5 @@
-ghost use Rattle.fst_worker.specs.Events.{AnswerLaw, ExtendsLaw, RunsLaw, StampLaw};
-ghost use Rattle.fst_worker.specs.Laws.{ApartLaw, BeginLaw, EntryLaw, PairLaw, PoolLaw, RecordLaw, WentLaw};
+ghost use Rattle.fst_worker.specs.Events.{AnswerLaw, LeastLaw};
+ghost use Rattle.fst_worker.specs.Laws.{ApartLaw, BeginLaw, PairLaw, PoolLaw, RecordLaw, WentLaw};
 ghost use Rattle.fst_worker.specs.Configs.{SoundLaw};
 ghost use Rattle.fst_worker.specs.Resumes.{OrderLaw, ResumeLaw, RightLaw, TellLaw};
 
@@ -38,12 +38,6 @@ pub fn record_law()
     ensures { RecordLaw }
 {}
 
-/// In a record that fits, whatever a task sent or received at an end is an entry of that channel's history, with its stamp and the
-/// task's clock; and each entry was sent by a task at the one end and received by a task at the other.
-pub fn entry_law()
-    ensures { EntryLaw }
-{}
-
 /// Where the two ends of each channel were closed and each task whose offer was taken is told so, the tasks and the closed channels
 /// are a sound configuration of the module.
 pub fn sound_law()
@@ -72,29 +66,17 @@ pub fn tell_law()
     ensures { TellLaw }
 {}
 
-/// In a record that fits no clock of a task, no count of the tasks and channels that a task has made, no number of a channel and
-/// no stamp of an entry is over the number of the record's events: the entries for what a task does alone, and the entries of
-/// the histories.
-pub fn stamp_law()
-    ensures { StampLaw }
-{}
-
-/// Where an event is possible in the configuration of a record that fits, and nothing is wrong before and after it, there is a
-/// record that fits with one event more, whose configuration is the one after the event.
-pub fn extends_law()
-    ensures { ExtendsLaw }
-{}
-
-/// So what a run leads to from the configuration of a record that fits is the configuration of one with as many more events.
-pub fn runs_law()
-    ensures { RunsLaw }
-{}
-
 /// What the least run comes to from the configuration of a record that fits, where the record's events count among the steps,
 /// is the report of a record that fits in whose configuration no event is possible, or that a record that fits has more events
 /// than steps.
 pub fn answer_law()
     ensures { AnswerLaw }
+{}
+
+/// Where the module has derivations, that is what its least run comes to from the beginning of `main`: since all runs that come to
+/// an end lead to one configuration, it makes no difference how the events of the record stood to one another.
+pub fn least_law()
+    ensures { LeastLaw }
 {}
 
 /// A share may go from one thread to another.

@@ -7,6 +7,7 @@ mod dealing;
 mod ending;
 mod finishing;
 mod law;
+mod marking;
 mod passes;
 mod rounds;
 mod shares;
@@ -14,10 +15,9 @@ mod tries;
 mod workers;
 
 pub use law::{
-    answer_law, apart_law, begin_law, entry_law, extends_law, order_law, pair_law, pool_law,
-    record_law, resume_law, right_law, runs_law, send_law, sound_law, stamp_law, tell_law,
-    went_law,
+    answer_law, apart_law, begin_law, least_law, order_law, pair_law, pool_law, record_law,
+    resume_law, right_law, send_law, sound_law, tell_law, went_law,
 };
 pub use rounds::round;
 pub use shares::Share;
-pub use workers::run_workers;
+pub use workers::{Logged, run_logged, run_workers};

@@ -2,7 +2,7 @@
 
 ghost use Rattle.std.specs.Prelude.{◌≡◌, ◌+◌, ◌-◌, ◌≤◌, ◌<◌, List, [], ◌∷◌, ◌++◌, Bool, Ok, OnOk, slice_index_or, vec_len, vec_capacity};
 ghost use Rattle.fst_runs.specs.Wrong.{once};
-ghost use Rattle.fst_safety.specs.declared.tasks.LogEntry.{LogEntry};
+ghost use Rattle.fst_runs.specs.declared.log.LogEntry.{LogEntry};
 ghost use Rattle.fst_safety.specs.declared.tasks.TypedTask.{TypedTask as Tasked};
 ghost use Rattle.fst_worker.specs.declared.shares.Move.TheVariants.{Gained as Has_gained};
 ghost use Rattle.fst_worker.specs.declared.shares.Stop.TheVariants.{Ends as Has_ended};
@@ -11,7 +11,7 @@ ghost use Rattle.fst_worker.specs.Shares.{counts_one};
 
 use fst_io::Gate;
 use fst_machine::{Answer, Code};
-use fst_safety::{Logged, Turned, TypedTask};
+use fst_safety::{KeptEntry, Turned, TypedTask};
 use std::alloc::AllocError;
 
 /// The tasks that one worker moves.
@@ -51,7 +51,7 @@ pub(crate) enum Stop {
 }
 
 // Whether the last event of a log counts here: what was received is counted with the one that received it.
-fn is_counted(log: &[Logged]) -> bool
+fn is_counted(log: &[KeptEntry]) -> bool
     ensures { (es : List LogEntry) (e : LogEntry) → log.now ≡ es ++ e ∷ [] →
         once result ≡ counts_one e.answer }
 {

@@ -2,15 +2,15 @@
 
 ghost use Rattle.std.specs.Prelude.{◌<◌, ◌≤◌, ◌++◌, IfOk};
 ghost use Rattle.fst_safety.specs.Tasks.{CanBegin};
-ghost use Rattle.fst_worker.specs.Working.{IsWholeRun, IsWorkedOut};
+ghost use Rattle.fst_worker.specs.Working.{IsLoggedOut, IsRecorded, IsWholeRun, IsWorkedOut};
 
 use crate::dealing::{deal, gather};
-use crate::finishing::finish;
+use crate::finishing::{finish, finish_logged};
 use crate::rounds::{round_after, tries_of};
 use crate::tries::Progress;
 use fst_io::Gate;
 use fst_machine::Code;
-use fst_process::Outcome;
+use fst_process::{Outcome, Report, TaskMarks};
 use fst_safety::TypedTask;
 use std::alloc::{AllocError, Global};
 use std::thread::Threads;
@@ -24,14 +24,24 @@ const SLICE: u64 = 4096;
 // In the course of the run a slice grows by one for so many events, since each round starts threads.
 const GROWTH: u64 = 4;
 
+/// What a run on several workers comes to, with the marks of what its tasks have done.
+#[derive(Drop)]
+pub enum Logged {
+    /// Its report, and what each task has done.
+    Done(Report, Vec<TaskMarks>),
+    /// It has more events than steps.
+    OutOfSteps,
+}
+
 /// What becomes of the run of a module that has derivations, on so many workers. Before each round the tasks left are dealt out:
 /// the k-th in the order of their paths, counted from 0, goes to the share k modulo the number of shares, of which there are as
 /// many as workers, but none that would be empty, unless it is the second of the first round. In a round the clocks grow by a
 /// slice. The rounds end where the events or the clock of a task exceed the steps, where too much was tried in vain, and where a
 /// round moves no task and one with a single share moves none either. The run is then finished on the machine.
 ///
-/// The answer is the report of a record that fits the module, has at most so many events and allows no other, or that a record
-/// that fits has more events. Where memory is wanting, the tasks are dropped.
+/// The answer is that of the module's least run, whatever the number of workers and in whichever order they move: its report, or
+/// that it has more events than the steps. And it is the report of a record that fits the module, has at most so many events and
+/// allows no other, or that a record that fits has more events. Where memory is wanting, the tasks are dropped.
 pub fn run_workers<R: Threads + Sync, G: Gate + Sync>(
     rt: &R,
     alloc: Global,
@@ -43,10 +53,29 @@ pub fn run_workers<R: Threads + Sync, G: Gate + Sync>(
     requires few { steps < 4294967295 }
     requires workers { 0 < workers }
     requires right { CanBegin code.now }
-    ensures { IfOk result (IsWorkedOut code.now steps) }
+    ensures answer { IfOk result (IsWorkedOut code.now steps) }
+    ensures recorded { IfOk result (IsRecorded code.now steps) }
 {
     let tasks = all_rounds(rt, alloc, code, steps, workers as usize, gate)?;
     finish(alloc, code, tasks, steps)
+}
+
+/// The same, with the marks of what the tasks have done: those of the logs of the record whose report it is.
+pub fn run_logged<R: Threads + Sync, G: Gate + Sync>(
+    rt: &R,
+    alloc: Global,
+    code: &Code,
+    steps: u64,
+    workers: u32,
+    gate: &G,
+) -> Result<Logged, AllocError>
+    requires few { steps < 4294967295 }
+    requires workers { 0 < workers }
+    requires right { CanBegin code.now }
+    ensures { IfOk result (IsLoggedOut code.now steps) }
+{
+    let tasks = all_rounds(rt, alloc, code, steps, workers as usize, gate)?;
+    finish_logged(alloc, code, tasks, steps)
 }
 
 // The tasks after the last round.

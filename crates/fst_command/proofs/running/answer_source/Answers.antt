@@ -7,11 +7,11 @@ use Rattle.fst_command.proofs.running.answer_source.Goals as goal
 
 pub returns-in-Ok-clause-text : goal.returns-in-Ok-clause-text
 returns-in-Ok-clause-text g c =
-    found_output (SaysOutcome (shown_as c.args.form) c.args.options.workers c.args.options.steps) c.args.bytes.now
+    found_output (SaysOutcome (shown_as c.args.form) c.args.options.events c.args.options.steps) c.args.bytes.now
     c.args.options.budget c.in-Ok.m c.answer_steps.result c.requires.short c.in-Ok.ensures.module c.answer_steps.ensures.found
 
 pub returns-in-Err-clause-text : goal.returns-in-Err-clause-text
 returns-in-Err-clause-text g c =
-    fault_output AreUnresolved (FindsModule (SaysOutcome (shown_as c.args.form) c.args.options.workers c.args.options.steps)
+    fault_output AreUnresolved (FindsModule (SaysOutcome (shown_as c.args.form) c.args.options.events c.args.options.steps)
     c.args.options.budget) c.args.bytes.now c.in-Err.fault c.answer_fault.result c.requires.short
     c.in-Err.ensures.fault c.answer_fault.ensures.says

@@ -1,4 +1,5 @@
 use Rattle.std.proofs.lemmas.Result.{IfOk-weaker}
+use Rattle.std.proofs.Common.{[], false}
 use Rattle.fst_execution.specs.Execution.{IsExecuted}
 use Rattle.fst_command.specs.Output.{IsOutcomeOf}
 use Rattle.fst_command.proofs.OutcomeLaws.{least_outcome}
@@ -8,5 +9,5 @@ pub returns-then-options-eq1 : goal.returns-then-options-eq1
 returns-then-options-eq1 g c =
     let m = c.args.m.now in
     let o = c.args.options in
-    IfOk-weaker c.execute.result (IsExecuted m o.steps) (IsOutcomeOf o.workers o.steps m)
-    (λ x h. least_outcome o.workers o.steps m x c.if-options-eq1.true h) c.execute.ensures
+    IfOk-weaker c.execute.result (IsExecuted m o.steps) (λ x. IsOutcomeOf false o.steps m x [])
+    (λ x h. least_outcome o.steps m x h) c.execute.ensures

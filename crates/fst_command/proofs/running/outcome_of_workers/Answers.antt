@@ -1,4 +1,4 @@
-use Rattle.fst_command.proofs.OutcomeLaws.{record_outcome}
+use Rattle.fst_command.proofs.OutcomeLaws.{worked_outcome}
 use Rattle.fst_command.proofs.running.outcome_of_workers.Goals as goal
 
 pub run_workers-requires-clause-right : goal.run_workers-requires-clause-right
@@ -6,5 +6,5 @@ run_workers-requires-clause-right g c κs within = c.in_ok-code.ensures.begins
 
 pub returns : goal.returns
 returns g c =
-    record_outcome c.args.options.workers c.args.options.steps c.args.m.now c.in_ok-code.code c.in_ok-code.ensures
-    c.requires.several c.run_workers.result c.run_workers.ensures
+    worked_outcome c.args.options.steps c.args.m.now c.in_ok-code.code c.in_ok-code.ensures
+    c.run_workers.result c.run_workers.ensures.answer

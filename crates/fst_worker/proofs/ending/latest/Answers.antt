@@ -1,4 +1,4 @@
-use Rattle.fst_cell.proofs.Laws.{last_at}
+use Rattle.fst_lts.proofs.Laws.{last_at}
 use Rattle.fst_worker.proofs.ending.latest.Goals as goal
 
 pub returns-in-Some : goal.returns-in-Some

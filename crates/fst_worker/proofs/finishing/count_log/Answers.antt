@@ -1,8 +1,8 @@
 use Rattle.std.proofs.Common.{ap, arith}
 use Rattle.std.proofs.lemmas.List.{at_drop_all}
 use Rattle.std.proofs.lemmas.List.Sums.{sum_by-drop_more}
-use Rattle.fst_safety.specs.declared.tasks.LogEntry.{LogEntry}
-use Rattle.fst_worker.specs.Events.{alone}
+use Rattle.fst_runs.specs.declared.log.LogEntry.{LogEntry}
+use Rattle.fst_records.specs.Growing.{alone}
 use Rattle.fst_worker.specs.Finishing.{alone_in}
 use Rattle.fst_worker.proofs.Counted.{alone_few}
 use Rattle.fst_worker.proofs.finishing.count_log.Goals as goal

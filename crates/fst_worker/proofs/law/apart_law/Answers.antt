@@ -1,4 +1,4 @@
-use Rattle.fst_worker.proofs.Paths.{apart}
+use Rattle.fst_worker.proofs.Apart.{apart}
 use Rattle.fst_worker.proofs.law.apart_law.Goals as goal
 
 pub returns : goal.returns

@@ -5,7 +5,7 @@ use Rattle.fst_types.specs.declared.event.Event.TheVariants.{Label}
 use Rattle.fst_cell.specs.declared.content.Half.{Half}
 use Rattle.fst_cell.specs.End.{EndView, half_of, residual_of}
 use Rattle.fst_cell.specs.Heads.{head}
-use Rattle.fst_cell.specs.Residuals.{residual, receives}
+use Rattle.fst_lts.specs.Residuals.{residual, receives}
 use Rattle.fst_cell.proofs.LabelLaws.{within_or, received_within, none_received}
 use Rattle.fst_cell.proofs.end.End.longest_label.Goals as goal
 

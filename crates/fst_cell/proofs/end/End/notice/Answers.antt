@@ -5,7 +5,7 @@ use Rattle.fst_types.specs.declared.event.Event.{Event}
 use Rattle.fst_cell.specs.declared.content.Offer.{Offer}
 use Rattle.fst_cell.specs.declared.content.Half.{Half}
 use Rattle.fst_cell.specs.declared.heads.Next.{Next}
-use Rattle.fst_cell.specs.Residuals.{residual}
+use Rattle.fst_lts.specs.Residuals.{residual}
 use Rattle.fst_cell.specs.Rule.{stands_for}
 use Rattle.fst_cell.specs.Heads.{GoesOn}
 use Rattle.fst_cell.specs.End.{EndView, half_of, Seized, IsEnd, Goes}

@@ -7,8 +7,8 @@ use Rattle.fst_cell.specs.declared.content.Offer.{Offer}
 use Rattle.fst_cell.specs.declared.content.Half.{Half}
 use Rattle.fst_cell.specs.declared.content.View.TheVariants.{Only}
 use Rattle.fst_cell.specs.Rule.{synced}
-use Rattle.fst_cell.specs.Residuals.{residual, receives}
-use Rattle.fst_cell.specs.Stamps.{next_stamp}
+use Rattle.fst_lts.specs.Residuals.{residual, receives}
+use Rattle.fst_lts.specs.Stamps.{next_stamp}
 use Rattle.fst_cell.specs.Answers.{longer, entry}
 use Rattle.fst_cell.specs.Heads.{GoesOn}
 use Rattle.fst_cell.specs.End.{EndView, half_of, residual_of, Seized, Stays, Goes}

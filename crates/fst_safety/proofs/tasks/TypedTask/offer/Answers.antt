@@ -2,7 +2,7 @@ use Rattle.std.proofs.Common.{◌≡◌, Ok, ap, sym, ◌∙◌, subst, inl, ref
 use Rattle.fst_machine.specs.declared.request.Request.TheVariants.{Put}
 use Rattle.fst_cell.specs.Answers.{FoundHeld, IsOffered}
 use Rattle.fst_cell.specs.End.{EndView, residual_of}
-use Rattle.fst_cell.specs.Residuals.{sends}
+use Rattle.fst_lts.specs.Residuals.{sends}
 use Rattle.fst_safety.specs.Bags.{OffersAt}
 use Rattle.fst_safety.proofs.Keeping.{asks_it}
 use Rattle.fst_safety.proofs.TaskTurns.{may_offer, left_turned, offered_turned, same_turned}

@@ -3,7 +3,7 @@ use Rattle.fst_machine.specs.declared.request.Request.TheVariants.{Get}
 use Rattle.fst_types.specs.declared.event.Event.TheVariants.{Label}
 use Rattle.fst_cell.specs.Answers.{FoundHeld, FoundNothing, IsTaken, end_with}
 use Rattle.fst_cell.specs.End.{EndView, residual_of}
-use Rattle.fst_cell.specs.Residuals.{receives}
+use Rattle.fst_lts.specs.Residuals.{receives}
 use Rattle.fst_cell.specs.Rule.{tried}
 use Rattle.fst_safety.specs.Bags.{TakesAt}
 use Rattle.fst_safety.proofs.Keeping.{asks_it}

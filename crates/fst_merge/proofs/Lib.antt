@@ -1,0 +1,11 @@
+pub mod Counting
+pub mod Lines
+pub mod RunCounts
+pub mod OneList
+pub mod Orders
+pub mod PathSums
+pub mod MarkSums
+pub mod Gathered
+pub mod FoundReceipts
+pub mod SortedEvents
+pub mod Merged

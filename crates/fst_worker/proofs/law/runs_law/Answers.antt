@@ -1,5 +1,0 @@
-use Rattle.fst_worker.proofs.AlongRuns.{runs}
-use Rattle.fst_worker.proofs.law.runs_law.Goals as goal
-
-pub returns : goal.returns
-returns c = runs
