@@ -6,12 +6,13 @@ _freest() {
     *[\<\>]*)
         compopt -o default
         return ;;
+    --events) ;;
     --* | =) return ;;
     esac
     case $COMP_CWORD-${COMP_WORDS[1]} in
     1-*) words='equiv show check run make' ;;
     *-equiv | *-check) words='--budget' ;;
-    *-run) words='--steps --workers --budget' ;;
+    *-run) words='--steps --workers --budget --events' ;;
     esac
     # (each option at most once)
     for word in $words; do

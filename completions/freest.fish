@@ -8,3 +8,4 @@ complete -c freest -n __fish_use_subcommand -a make -d 'make, check and run a mo
 complete -c freest -n '__fish_seen_subcommand_from equiv check run' -l budget -x -d 'how far one question is looked into, 1 to 10,000'
 complete -c freest -n '__fish_seen_subcommand_from run' -l steps -x -d 'how many events the run may have, 0 to 2,000,000'
 complete -c freest -n '__fish_seen_subcommand_from run' -l workers -x -d 'on how many threads at most its tasks are moved, 1 to 8'
+complete -c freest -n '__fish_seen_subcommand_from run' -l events -d 'write the events of the run behind its report'
