@@ -87,10 +87,6 @@ offer_told v c n o g = λ i. record {
   held = None;
 }
 
--- the same, of the seats
-pub passes_of : (v w : Half) (c d : Content) (n : ℕ) → w ≡ took v n c → Passes (took v n c) d → Passes w d
-passes_of v w c d n is p = subst (λ (x : Half). Passes x d) (sym is) p
-
 pub seat_of : (m : Me (Option Content) View) (v : Half) (xs : List (ℕ × Option Content)) → m ≡ (Only v, xs) → half_of m.0 ≡ v
 seat_of m v xs e = ap (λ (x : Me (Option Content) View). half_of x.0) e
 

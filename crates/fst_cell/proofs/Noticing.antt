@@ -14,7 +14,7 @@ use Rattle.fst_lts.specs.Stamps.{AreStamped, next_stamp}
 use Rattle.fst_cell.specs.Rule.{turn_word, offers, stands_for, Sound, Lags, Place, Fits, tried, took, synced}
 use Rattle.fst_cell.specs.End.{half_of, Seized}
 use Rattle.fst_cell.specs.Answers.{longer}
-use Rattle.fst_lts.proofs.StampLaws.{stamped_last, last_stamp_push}
+use Rattle.fst_lts.proofs.Laws.{stamped_last, last_stamp_push}
 use Rattle.fst_cell.proofs.Taking.{longer_now}
 use Rattle.fst_cell.proofs.Calling.{seat_of}
 

@@ -19,7 +19,7 @@ use Rattle.fst_cell.specs.Rule.{turn_word, offers, stands_for, Sound, Place, Fit
 use Rattle.fst_cell.specs.End.{half_of, Seized, IsEnd, Goes, Passes, Stays, residual_of}
 use Rattle.fst_cell.specs.Answers.{longer}
 use Rattle.fst_cell.proofs.ResidualLaws.{asks_only, meets, residual_push, trace_push}
-use Rattle.fst_lts.proofs.StampLaws.{stamped_push, stamps_below}
+use Rattle.fst_lts.proofs.Laws.{stamped_push, stamps_below}
 use Rattle.fst_cell.proofs.Places.{own_offer, taken, idle_place}
 use Rattle.fst_cell.proofs.Calling.{seat_of}
 

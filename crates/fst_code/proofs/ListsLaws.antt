@@ -36,9 +36,6 @@ pub record SoFar (ns : List ℕ) (p : ℕ → Bool) (i : ℕ) : Type 0 where
   pub apart : AreApart ns
   pub few : length ns ≤ i
 
-pub so_far_none : (p : ℕ → Bool) → SoFar [] p 0
-so_far_none p = record { members = λ k h. absurd (omega arith); others = λ k h. refl; apart = tt; few = omega arith }
-
 pub so_far_push : (ns : List ℕ) (p : ℕ → Bool) (i : ℕ) → p i ≡ true → SoFar ns p i → SoFar (ns ++ i ∷ []) p (i + 1)
 so_far_push ns p i t s = record {
   members = λ k h. elim (cases_eq i k) [

@@ -56,16 +56,6 @@ get_set_other (x ∷ xs) zero (suc j) v h = refl
 get_set_other (x ∷ xs) (suc k) zero v h = refl
 get_set_other (x ∷ xs) (suc k) (suc j) v h = get_set_other xs k j v (λ e. h (ap suc e))
 
-set_beyond : (xs : List ℕ) (k v : ℕ) → length xs ≤ k → set xs k v ≡ xs
-set_beyond [] k v h = refl
-set_beyond (x ∷ xs) zero v h = absurd (omega (arith, h))
-set_beyond (x ∷ xs) (suc k) v h = ap (λ z. x ∷ z) (set_beyond xs k v (omega (arith, h)))
-
--- a place of no constructor of the table isn't put
-pub put_beyond : (o : Option MakerPlace) (p : MakerPlace) (i : ℕ) (ps : List ℕ) → o ≡ Some p → length ps ≤ p.maker →
-    ps ≡ put_at o i ps
-put_beyond o p i ps e h = sym (ap (λ z. put_at z i ps) e ∙ set_beyond ps p.maker i h)
-
 pub put_at_most : (o : Option MakerPlace) (n i : ℕ) (ps : List ℕ) → AreAtMost n ps → i ≤ n → AreAtMost n (put_at o i ps)
 put_at_most None n i ps h low k j at = h k j at
 put_at_most (Some p) n i ps h low k j at = elim (cases_eq p.maker k) [

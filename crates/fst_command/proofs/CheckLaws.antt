@@ -1,5 +1,5 @@
 -- What `check` writes of a module, and what each command's text means.
-use Rattle.std.proofs.Common.{◌≡◌, ◌∙◌, ◌⊎◌, inl, inr, ℕ, ◌≤◌, Bool, false, List, [], ◌∷◌, ◌++◌, length, Result, Ok, Err, refl, sym, ap, subst, append_assoc}
+use Rattle.std.proofs.Common.{◌≡◌, ◌∙◌, ◌⊎◌, inl, inr, ℕ, ◌≤◌, Bool, false, List, [], ◌∷◌, ◌++◌, length, Result, Ok, Err, refl, sym, ap, subst}
 use Rattle.std.specs.Prelude.{◌≢◌, IfOk}
 use Rattle.std.specs.declared.alloc.AllocError.{AllocError}
 use Rattle.fst_base.specs.Limits.{most_bytes}
@@ -11,8 +11,7 @@ use Rattle.fst_lexer.specs.Lexes.{OneLexing}
 use Rattle.fst_module_grammar.specs.Derives.{AnswersModule, OneModule}
 use Rattle.fst_names.specs.ResolvedModule.{IsFirstFault, IsResolvedModule, OneModuleLaw}
 use Rattle.fst_derivations.specs.Deriv.{Deriv}
-use Rattle.fst_type_print.specs.declared.refusals.Phrase.{Phrase}
-use Rattle.fst_type_print.specs.Texts.{family_names, phrase_text}
+use Rattle.fst_type_print.specs.Texts.{family_names}
 use Rattle.fst_derivations.specs.Modules.{HasDerivations}
 use Rattle.fst_typing.specs.Checked.{IsAccepted, IsRefusal}
 use Rattle.fst_premises.specs.Shown.{IsShown}
@@ -23,7 +22,6 @@ use Rattle.fst_command.specs.declared.finding.Fault.{Fault}
 use Rattle.fst_command.specs.declared.refusals.Cause.{Cause as Given}
 use Rattle.fst_command.specs.declared.refusals.Cause.TheVariants as given
 use Rattle.fst_command.specs.declared.status.Status.TheVariants as status
-use Rattle.fst_command.specs.Texts.{refused_text}
 use Rattle.fst_command.specs.CheckTexts.{Cause, nothing, refused, undecided, too_large, accepted_text, cause, cause_text, cause_status}
 use Rattle.fst_types.specs.declared.family.Family.{Family}
 use Rattle.fst_options.specs.Words as setting
@@ -85,11 +83,6 @@ pub some_answer : (c : Given) (names : List (List ℕ)) (f : CheckFault) (r : Re
     cause_of c ≡ cause names f → IfOk r (λ a. f ≢ checking.Memory)
 some_answer c names f (Ok a) is = some_fault c names f is
 some_answer c names f (Err e) is = tt
-
--- a refusal is written as its cause
-pub refused_line : (bytes : List ℕ) (budget at : ℕ) (p : Phrase) →
-    refused_text bytes at p ≡ cause_text bytes budget (refused at (phrase_text p))
-refused_line bytes budget at p = simp append_assoc
 
 -- a module that is accepted
 pub accepted_found : (IsMade : List ℕ → Status → Type 0) (bytes : List ℕ) (m : Module) (budget : ℕ) (ds : List Deriv)

@@ -35,11 +35,6 @@ pub none_waits : (ws : List Waiting) (b : Bool) → b ≡ (length ws == 0) → b
 none_waits [] b test is = refl
 none_waits (w ∷ ws) b test is = absurd (grind (arith, nat_tests))
 
--- some task waits
-pub some_wait : (ws : List Waiting) (b : Bool) → b ≡ (length ws == 0) → b ≡ false → status.Waiting ≡ waiting_status ws
-some_wait [] b test is = absurd (grind (arith, nat_tests))
-some_wait (w ∷ ws) b test is = refl
-
 -- the channels of a sound report can be written
 pub can_be_written : (m : Module) (n : ℕ) (r : Report) → IsSound m r → AreScoped r.channels.items ×
     AreNamedWithin n r.channels.items

@@ -33,7 +33,7 @@ use Rattle.fst_report.specs.ReportTexts.{report_text}
 use Rattle.fst_command.specs.declared.status.Status.{Status}
 use Rattle.fst_command.specs.declared.status.Status.TheVariants as status
 use Rattle.fst_options.specs.Words as setting
-use Rattle.fst_options.specs.Words.{Command, equiv, show, check, run, make, IsCommand}
+use Rattle.fst_options.specs.Words.{Command, equiv, show, check, run, make}
 use Rattle.fst_options.proofs.Laws.{one_command}
 use Rattle.fst_typing.specs.Laws.{AcceptedIsNotRefused, OneRefusal}
 use Rattle.fst_command.specs.CheckTexts.{cause, cause_text, cause_status}
@@ -74,11 +74,6 @@ pub asked_output : (bytes : List ℕ) (budget : ℕ) (q : Question) (r : Result 
     (λ a. Writes (equiv budget) bytes a.text.items a.status)
 asked_output bytes budget q (Ok a) short is answer = makes short (record { asked = q; is_asked = is; answer = answer })
 asked_output bytes budget q (Err e) short is answer = tt
-
--- a module
-pub shown_output : (bytes text : List ℕ) (ds : List Declared) → length bytes ≤ most_bytes → IsRead ReadsModule bytes ds →
-    text ≡ module_text ds → Writes show bytes text status.Done
-shown_output bytes text ds short is written = makes short (record { declared = ds; read = is; written = written; ended = refl })
 
 -- ---- one output
 

@@ -1,11 +1,11 @@
 -- A vector's items, the last first.
-use Rattle.std.proofs.Common.{◌≡◌, ◌∙◌, ℕ, zero, suc, ◌+◌, ◌-◌, ◌<◌, ◌≤◌, Bool, true, false, ◌&&◌, not, List, [], ◌∷◌, ◌++◌, length, map, take, drop, get_or, set, refl, sym, ap, append_assoc, arith, length-append, length-drop, nat_lt, subst}
+use Rattle.std.proofs.Common.{◌≡◌, ◌∙◌, ℕ, zero, suc, ◌+◌, ◌-◌, ◌<◌, Bool, true, false, ◌&&◌, List, [], ◌∷◌, ◌++◌, length, map, take, drop, get_or, set, refl, sym, ap, append_assoc, arith, length-drop, subst}
 use Rattle.std.specs.Prelude.{⊤, sum}
 use Rattle.std.proofs.lemmas.List.{reverse-append, length-reverse, length-map, set_split, map-append, drop_more, take-append-drop, map-id, drop_all, length-take}
 use Rattle.std.proofs.lemmas.List.Sums.{sum_by-cons, sum_by-set}
 use mathlib.Core.List.{reverse}
-use Rattle.fst_context.specs.Vars.{Vars, no_vars, under, outside, single}
-use Rattle.fst_context.specs.Scope.{Variable, is_once, at_or_not, linear_at, is_inside, mark, more, fewer, joined}
+use Rattle.fst_context.specs.Vars.{Vars, no_vars, under, single}
+use Rattle.fst_context.specs.Scope.{Variable, is_once, at_or_not, linear_at, mark, fewer, joined}
 
 -- a list around one place
 pub around : {X : Type 0} (xs : List X) (i : ℕ) (d : X) → i < length xs → xs ≡ take i xs ++ get_or xs i d ∷ drop (suc i) xs
@@ -88,9 +88,6 @@ mark-append [] q b (suc k) h = absurd (omega arith)
 mark-append (x ∷ p) q b zero h = absurd (omega arith)
 mark-append (x ∷ p) q b (suc k) h = λ i. and_true x i ∷ mark-append p q b k (omega arith) i
 
-plain_map : {X : Type 0} (xs : List X) → map (λ (x : X). x) xs ≡ xs
-plain_map xs = map-id xs
-
 -- the last item is the first backward
 pub last_first : {X : Type 0} (xs : List X) (n : ℕ) (d : X) → n + 1 ≡ length xs → reverse xs ≡ get_or xs n d ∷ reverse (take n xs)
 last_first {X} xs n d h =
@@ -107,11 +104,6 @@ set_last_first {X} xs n x h =
     sym (ap reverse (map-id (set xs n x))) ∙ turned_set (λ (x : X). x) xs n x lt
     ∙ (λ i. reverse (map-id (rest i) i) ++ x ∷ reverse (map-id (take n xs) i))
 
-pub more_last : (ns : List ℕ) (n d : ℕ) → n + 1 ≡ length ns → reverse (set ns n (get_or ns n d + 1)) ≡ more (reverse ns)
-more_last ns n d h =
-    let e : get_or ns n d + 1 ≡ suc (get_or ns n d) = omega arith in
-    set_last_first ns n (get_or ns n d + 1) h ∙ ap (λ m. m ∷ reverse (take n ns)) e ∙ sym (ap more (last_first ns n d h))
-
 pub joined_last : (ns ms : List ℕ) (n d e : ℕ) → n + 2 ≡ length ns → ms ≡ take (n + 1) ns →
     reverse (set ms n (get_or ms n d + get_or ns (n + 1) e)) ≡ joined (reverse ns)
 joined_last ns ms n d e h p =
@@ -119,11 +111,6 @@ joined_last ns ms n d e h p =
     set_last_first ms n (get_or ms n d + get_or ns (n + 1) e) long
     ∙ sym (ap joined (last_first ns (n + 1) e (omega arith) ∙ ap (λ r. get_or ns (n + 1) e ∷ reverse r) (sym p) ∙ ap
     (λ r. get_or ns (n + 1) e ∷ r) (last_first ms n d long)))
-
-pub joined_only : (ns : List ℕ) → length ns ≡ 1 → joined (reverse ns) ≡ []
-joined_only [] h = refl
-joined_only (n ∷ []) h = refl
-joined_only (n ∷ m ∷ ns) h = absurd (omega arith)
 
 -- counts that are all zero
 abbrev pub Zeros : List ℕ → Type 0
@@ -163,17 +150,6 @@ fewer_at ns i d h z lt =
 -- and where all are zero, none is
 pub fewer_none : (ns : List ℕ) → Zeros ns → reverse ns ≡ fewer (reverse ns)
 fewer_none ns z = sym (fewer_zeros (reverse ns) (zeros_reverse ns z))
-
--- one more place with a zero
-pub zeros_from : (ns : List ℕ) (i d : ℕ) → i < length ns → Zeros (drop (suc i) ns) → (0 < get_or ns i d → ⊥) → Zeros (drop i ns)
-zeros_from ns i d h z n =
-    let m : i + 1 ≡ suc i = omega arith in
-    let e : drop i ns ≡ get_or ns i d ∷ drop (suc i) ns = drop_more ns i d h ∙ ap (λ k. get_or ns i d ∷ drop k ns) m in
-    subst Zeros (sym e) (omega (arith, n), z)
-
--- nothing stands behind the end
-pub zeros_end : (ns : List ℕ) (i : ℕ) → i ≡ length ns → Zeros (drop i ns)
-zeros_end ns i h = subst Zeros (sym (drop_all i ns (omega (arith, h)))) tt
 
 zeros_sum : (ns : List ℕ) → Zeros ns → sum ns ≡ 0
 zeros_sum [] p = refl

@@ -1,13 +1,11 @@
 -- What stands at the place of the k-th variable.
-use Rattle.std.proofs.Common.{◌≡◌, ◌∙◌, ℕ, zero, suc, ◌+◌, ◌-◌, ◌<◌, ◌≤◌, Bool, true, false, ◌&&◌, not, List, [], ◌∷◌, ◌++◌, length, map, take, drop, get_or, set, refl, sym, ap, arith, cond}
+use Rattle.std.proofs.Common.{◌≡◌, ◌∙◌, ℕ, suc, ◌+◌, ◌-◌, ◌<◌, Bool, true, false, List, [], ◌∷◌, ◌++◌, length, map, take, drop, get_or, set, sym, ap, arith, cond}
 use Rattle.std.proofs.lemmas.List.{length-reverse, length-map, drop_all}
 use mathlib.Core.List.{reverse}
-use Rattle.fst_types.specs.declared.kind.Use.{Use}
 use Rattle.fst_context.specs.Vars.{single}
 use Rattle.fst_context.specs.declared.context.Entry.{Entry}
-use Rattle.fst_context.specs.declared.context.Taken.{Taken}
 use Rattle.fst_context.specs.declared.context.Taken.TheVariants.{Here, Gone, Outside}
-use Rattle.fst_context.specs.Scope.{Scope, Variable, is_once, at_or_not, linear_at, is_inside, mark, without, fewer, tail, left}
+use Rattle.fst_context.specs.Scope.{Scope, is_once, at_or_not, linear_at, is_inside, mark, without, fewer, tail, left}
 use Rattle.fst_context.specs.View.{scope_of, variable_of, taken_at}
 use Rattle.fst_context.proofs.Backward.{turned, backward, backward_set, front_length, behind_length, linear_at-append, at_or_not-append, mark_none, single_none, mark-append}
 
@@ -105,7 +103,3 @@ one_left (e ∷ es) bs ns ms s n v h m q =
     let variables = sym (last_of variable_of (e ∷ es) n e h) in
     let there = sym (last_mark bs n false (h ∙ sym m)) in
     (λ i. record { names = tail (names i); variables = tail (variables i); there = tail (there i); bodies = q i }) ∙ ap left v
-
-pub left_found : (es : List Entry) (bs : List Bool) (ns : List ℕ) (s : Scope) (n : ℕ) (b : Bool) → scope_of es bs ns ≡ s →
-    n + 1 ≡ length bs → b ≡ get_or bs n b → at_or_not s.there 0 ≡ b
-left_found es bs ns s n b v h q = ap (λ z. at_or_not z.there 0) (sym v) ∙ ap (λ z. at_or_not z 0) (last_mark bs n b h) ∙ sym q

@@ -1,7 +1,6 @@
 -- What is kept of a module's declarations, and their faults.
-use Rattle.std.proofs.Common.{◌≡◌, ◌∙◌, ℕ, zero, suc, ◌<◌, ◌≤◌, Bool, true, false, List, [], ◌∷◌, ◌++◌, length, get_or, Option, Some, None, Bor, refl, sym, ap, subst, arith}
-use Rattle.std.specs.Prelude.{nat_lt, min, option_map, option_and_then, slice_get, unwrap_or, if◌then◌else◌}
-use Rattle.std.proofs.lemmas.Bool.{ltb-true, lt-ltb}
+use Rattle.std.proofs.Common.{◌≡◌, ◌∙◌, ℕ, zero, suc, ◌<◌, Bool, true, false, List, [], ◌∷◌, ◌++◌, length, get_or, Option, Some, None, Bor, refl, sym, ap, subst, arith}
+use Rattle.std.specs.Prelude.{min, option_map, option_and_then, slice_get, unwrap_or, if◌then◌else◌}
 use Rattle.std.proofs.lemmas.List.{length-map}
 use Rattle.std.proofs.lemmas.Option.{get_or_from_slice_get, slice_get-get_or}
 use Rattle.fst_base.proofs.Lists.{get_there}
@@ -14,7 +13,7 @@ use Rattle.fst_terms.specs.Naming.{place_of, type_of}
 use Rattle.fst_terms.specs.TermTree.{TermTree}
 use Rattle.fst_terms.specs.declared.binder.Binder.{Binder}
 use Rattle.fst_scopes.specs.declared.fault.NameFault.{NameFault}
-use Rattle.fst_scopes.specs.declared.fault.NameFault.TheVariants.{Arity, AliasLoop}
+use Rattle.fst_scopes.specs.declared.fault.NameFault.TheVariants.{AliasLoop}
 use Rattle.fst_scopes.specs.declared.measure.Measure.{Measure}
 use Rattle.fst_scopes.specs.declared.names.Names as scope
 use Rattle.fst_scopes.specs.declared.types.TypeNames.{TypeNames}
@@ -42,37 +41,6 @@ use Rattle.fst_declarations.specs.declared.scopes.SignatureScope.{SignatureScope
 use Rattle.fst_declarations.specs.declared.entries.SignatureEntry.{SignatureEntry}
 
 -- ---- equations with more parameters than arrows
-
--- what is kept of an equation with this many parameters, where so many arrows are counted
-abbrev pub kept_parameters : Option NameFault → ℕ → ℕ → Option ℕ → Option NameFault
-kept_parameters old at got None = old
-kept_parameters old at got (Some wanted) = if nat_lt wanted got then earlier old (Arity at got wanted) else old
-
-counted_less : (n got : ℕ) → got ≤ ceiling → (nat_lt n got ≡ nat_lt (min n ceiling) got)
-counted_less n got small = pick (nat_lt n got) refl (nat_lt (min n ceiling) got) refl
-  where
-    pick : (b : Bool) → nat_lt n got ≡ b → (c : Bool) → nat_lt (min n ceiling) got ≡ c → b ≡ c
-    pick true e true f = refl
-    pick false e false f = refl
-    pick true e false f = let lt = ltb-true n got e in sym (lt-ltb (min n ceiling) got (omega (arith, lt))) ∙ f
-    pick false e true f = let lt = ltb-true (min n ceiling) got f in sym e ∙ lt-ltb n got (omega (arith, lt, small))
-
--- the fault is that of more parameters
-pub parameters_noted : (old : Option NameFault) (at got : ℕ) (t : Option Tree) → got ≤ ceiling →
-    kept_parameters old at got (option_map (λ t. min (arrows t) ceiling) t) ≡ first_from old (more_parameters at got t)
-parameters_noted old at got None small = refl
-parameters_noted old at got (Some t) small = pick (nat_lt (arrows t) got) refl
-  where
-    pick : (b : Bool) → nat_lt (arrows t) got ≡ b →
-        (if nat_lt (min (arrows t) ceiling) got then earlier old (Arity at got (min (arrows t) ceiling)) else old) ≡ first_from
-        old (if b then Arity at got (arrows t) ∷ [] else [])
-    pick true is =
-        let lt = ltb-true (arrows t) got is in
-        let same : min (arrows t) ceiling ≡ arrows t = omega (arith, lt, small) in
-        ap (λ c. if c then earlier old (Arity at got (min (arrows t) ceiling)) else old)
-        (sym (counted_less (arrows t) got small) ∙ is) ∙ ap (λ n. earlier old (Arity at got n)) same
-    pick false is = ap (λ c. if c then earlier old (Arity at got (min (arrows t) ceiling)) else old)
-        (sym (counted_less (arrows t) got small) ∙ is)
 
 -- ---- what is kept of signatures
 

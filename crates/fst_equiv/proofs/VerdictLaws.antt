@@ -1,5 +1,5 @@
 -- What the search says of the words of two types holds of the types.
-use Rattle.std.proofs.Common.{◌≡◌, ◌↔◌, inl, inr, ℕ, List, length, Bool, refl, sym, subst}
+use Rattle.std.proofs.Common.{◌≡◌, ◌↔◌, inl, inr, ℕ, List, length, Bool, sym, subst}
 use Rattle.fst_types.specs.Tree.{Tree}
 use Rattle.fst_types.specs.Order.{label_cmp}
 use Rattle.fst_types.specs.declared.label.Label.{Label}
@@ -14,7 +14,6 @@ use Rattle.fst_words.specs.Words.{step as step_of}
 use Rattle.fst_words.proofs.Laws.{same_by_labels}
 use Rattle.fst_norms.specs.Pruned.{pruned_word}
 use Rattle.fst_words.specs.declared.grammar.Grammar.{Grammar}
-use Rattle.fst_grammar.specs.declared.fault.TranslateFault.{TranslateFault}
 use Rattle.fst_grammar.specs.declared.fault.TranslateFault.TheVariants as translate
 use Rattle.fst_basis.specs.declared.proof.Proof.{Proof}
 use Rattle.fst_basis.specs.Basis.{IsProof}
@@ -22,12 +21,10 @@ use Rattle.fst_expand.specs.Good.{AreGoodCuts, IsGood}
 use Rattle.fst_breadth.specs.Answer.{IsAnswer, IsDifferent, IsBudgetSpent, IfEqual, IfDiffer}
 use Rattle.fst_breadth.specs.declared.answers.Found.{Found}
 use Rattle.fst_breadth.specs.declared.answers.Found.TheVariants.{Equal, Differ, Spent}
-use Rattle.fst_equiv.specs.declared.fault.EquivFault.TheVariants.{TooLarge}
 use Rattle.fst_equiv.specs.declared.verdict.Certificate.TheVariants.{Visited, Basis}
 use Rattle.fst_equiv.specs.declared.verdict.Verdict.{Verdict}
 use Rattle.fst_equiv.specs.declared.verdict.Verdict.TheVariants.{Yes, No, Undecided}
 use Rattle.fst_equiv.specs.Answers.{Answers}
-use Rattle.fst_equiv.specs.Faults.{fault_of}
 use Rattle.fst_equiv.specs.Problem.{IsProblem}
 use Rattle.fst_equiv.specs.Verdicts.{Certifies, IsVerdict, answer_of, verdict_of}
 use Rattle.fst_grammar.specs.Standing.{StandsFor}
@@ -160,8 +157,3 @@ verdict_answers s r budget (Yes (Basis g x y proof)) h =
 verdict_answers s r budget (No trace side) h = h
 verdict_answers s r budget (Undecided g pairs) h =
     record { letters = g.letters.items; rows = g.rules.items; pairs = pairs.items; shown = h }
-
--- only types too large for the translation are too large for the question
-pub too_large_alone : (f : TranslateFault) → fault_of f ≡ TooLarge → f ≡ translate.TooLarge
-too_large_alone translate.TooLarge e = refl
-too_large_alone translate.Memory e = absurd (cc e)

@@ -1,5 +1,5 @@
 -- Following a pair by its letters.
-use Rattle.std.proofs.Common.{◌≡◌, ◌≢◌, ◌↔◌, ℕ, zero, suc, ◌+◌, ◌<◌, ◌≤◌, List, [], ◌∷◌, ◌++◌, length, take, drop, refl, sym, ◌∙◌, ap, subst, arith, inl, inr, ◌⊎◌, Some, None, Option, Bool, true, false, ◌==◌, get_or, cond}
+use Rattle.std.proofs.Common.{◌≡◌, ◌≢◌, ◌↔◌, ℕ, zero, suc, ◌+◌, ◌<◌, ◌≤◌, List, [], ◌∷◌, ◌++◌, length, take, drop, refl, sym, ◌∙◌, ap, subst, arith, inl, inr, Some, None, Option, Bool, true, false, ◌==◌, get_or, cond}
 use Rattle.std.specs.Prelude.{option_map, slice_get}
 use Rattle.std.proofs.lemmas.List.{take_all}
 use Rattle.std.proofs.lemmas.Option.{get_or_from_slice_get, slice_get_within}
@@ -78,11 +78,6 @@ pair_moves rows b n m t s left right on om =
     let some_left : b.left ≢ [] = λ e. absurd (let f : n ∷ t ≡ [] = sym left ∙ e in cc) in
     let some_right : b.right ≢ [] = λ e. absurd (let f : m ∷ s ≡ [] = sym right ∙ e in cc) in
     rw (l, r) at (pair_told rows b some_left some_right (rw l on) (rw r om))
-
--- a pair of which one word is empty is none
-pub not_pair : (rows : Productions) (b : Pair) → (b.left ≡ []) ⊎ (b.right ≡ []) → IsPair rows b → ⊥
-not_pair rows b (inl e) p = absurd (p.left e)
-not_pair rows b (inr e) p = absurd (p.right e)
 
 pub letter_there : (rows : Productions) (w : List ℕ) (a : ℕ) (x : List ℕ) → step rows w a ≡ Some x → (j : ℕ) × (r : Rule) ×
     (slice_get (first_row rows w) j ≡ Some r) × (r.letter ≡ a)
@@ -173,15 +168,6 @@ module _ (rows : Productions) (marks : List Bool) (norms : List (Option ℕ)) (w
       (q.0, q.1, q.3, omega arith)
 
   module _ (old : List Pair) (rules others : List Rule) (t s : List ℕ) where
-    pub followed_first : AreFit marks (length words) old → AreFollowed rows marks norms words b old old rules others t s [] 0
-    followed_first fit = record {
-      grows = grows_none old;
-      each = λ j h r q e f g. absurd (cc e);
-      drop = refl;
-      adds = λ at c e. inl (at, e);
-      fit = fit;
-    }
-
     module _ (P Q : List Pair) (counts : List ℕ) (heads : ℕ) (r q : Rule) (ri : slice_get rules (length counts) ≡ Some r)
         (qi : slice_get others (length counts) ≡ Some q)
         (after : AreAfter rows b r.letter (r.word ++ t) (q.word ++ s))

@@ -37,10 +37,6 @@ pair_at W [] at k e = absurd (cc e)
 pair_at W (j ∷ keys) zero k e = ap (λ (z : ℕ × ℕ). Some (key_pair W z)) (let f : j ≡ k = cc in f)
 pair_at W (j ∷ keys) (suc at) k e = pair_at W keys at k e
 
-map_length : (W : List (List ℕ)) (keys : List (ℕ × ℕ)) → length (map (key_pair W) keys) ≡ length keys
-map_length W [] = refl
-map_length W (k ∷ keys) = ap suc (map_length W keys)
-
 -- each pair is that of a key
 from_key : (W : List (List ℕ)) (keys : List (ℕ × ℕ)) (at : ℕ) (b : Pair) → slice_get (map (key_pair W) keys) at ≡ Some b →
     (k : ℕ × ℕ) × (slice_get keys at ≡ Some k) × (key_pair W k ≡ b)

@@ -308,8 +308,3 @@ one_more : (xs : List Tree) (t : Tree) (o : Option (List Tree)) →
     found_before xs (with_first (Some t) o) ≡ found_before (xs ++ t ∷ []) o
 one_more xs t None = refl
 one_more xs t (Some ys) = ap Some (sym (append_assoc xs (t ∷ []) ys))
-
-pub found_more : (types xs : List Tree) (k : ℕ) (ks : List ℕ) (t : Tree) → slice_get types k ≡ Some t →
-    found_before xs (types_at types (k ∷ ks)) ≡ found_before (xs ++ t ∷ []) (types_at types ks)
-found_more types xs k ks t is = ap (λ o. found_before xs (with_first o (types_at types ks))) is
-    ∙ one_more xs t (types_at types ks)

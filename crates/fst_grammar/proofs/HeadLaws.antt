@@ -1,17 +1,16 @@
 -- From equation to equation.
-use Rattle.std.proofs.Common.{◌≡◌, ◌∙◌, ◌+◌, ◌-◌, ◌<◌, ◌≤◌, refl, sym, ap, subst, arith, ℕ, zero, suc, List, [], ◌∷◌, ◌++◌, length, map, get_or, take, drop, Some}
+use Rattle.std.proofs.Common.{◌≡◌, ◌∙◌, ◌+◌, ◌-◌, ◌<◌, ◌≤◌, refl, sym, ap, arith, ℕ, zero, suc, List, [], ◌∷◌, ◌++◌, length, map, get_or, take, drop, Some}
 use Rattle.std.specs.Prelude.{slice_get, reverse, option_map}
 use Rattle.std.proofs.Math.Seq.{take-length}
 use Rattle.std.proofs.lemmas.Option.{slice_get-get_or, slice_get-map}
 use Rattle.fst_words.specs.declared.rules.Rule.{Rule}
-use Rattle.fst_words.specs.Ordered.{AreOrdered}
 use Rattle.fst_words.specs.Words.{Productions, row_of}
 use Rattle.fst_grammar.specs.Rules.{rules_before, word_rules}
-use Rattle.fst_grammar.specs.Equations.{Equation, own, like, Solves, HasRanks, HasOrderedRows, AreLast, Leads, most_rank}
+use Rattle.fst_grammar.specs.Equations.{Equation, own, like, Solves, HasRanks, AreLast, Leads, most_rank}
 use Rattle.fst_grammar.specs.Views.{equation_of}
 use Rattle.fst_grammar.specs.declared.equations.Equation.{Equation as Kept}
 use Rattle.fst_grammar.proofs.RowLaws.{carried_nothing, carried_twice}
-use Rattle.std.proofs.lemmas.List.{length-map, length-append, length-reverse, get_or-reverse, get_or-take, get_or_default, reverse-reverse}
+use Rattle.std.proofs.lemmas.List.{length-map, length-append, length-reverse, get_or-reverse, get_or-take, get_or_default}
 use Rattle.std.proofs.lemmas.List.Sorted.{IsPermutation-reverse, sum_by-IsPermutation}
 use Rattle.std.proofs.lemmas.List.Sums.{sum_by_push, sum_by-take-le}
 use Rattle.fst_grammar.specs.Translation.{right_side, right_sides}
@@ -68,13 +67,6 @@ like_row es z e w rest rules rows s lt is same long next =
 pub leads_all : (equations : List Equation) (z : ℕ) → HasRanks equations → Leads equations z most_rank
 leads_all equations z h = record { rank = h.rank; grounded = h.grounded; near = h.grounded.most z }
 
--- the rules of a non-terminal are in order where those of a solution are
-pub row_ordered : (equations : List Equation) (z : ℕ) (rules : List Rule) → z < length equations → HasOrderedRows equations →
-    ((rows : Productions) → Solves rows equations → row_of rows z ≡ rules) → AreOrdered rules
-row_ordered equations z rules lt h is =
-    let e = h.solves.count in
-    subst AreOrdered (is h.rows h.solves) (h.ordered z [] (omega arith))
-
 take_next : (rows : Productions) (z : ℕ) → z < length rows → take z rows ++ row_of rows z ∷ [] ≡ take (suc z) rows
 take_next [] z lt = absurd (omega arith)
 take_next (r ∷ rows) zero lt = refl
@@ -106,14 +98,6 @@ one_row_more rows es i items rules s lt count front last =
     let more : length (items ++ rules ∷ []) ≡ suc i = length-append items (rules ∷ []) ∙ omega (arith, count) in
     (λ j. (front ∙ ap (λ k. take k (reverse rows)) count) j ++ here j ∷ []) ∙ take_next (reverse rows) i (omega arith) ∙ ap
     (λ k. take k (reverse rows)) (sym more)
-
--- the rows of all, the last one's first
-pub all_last : (rows : Productions) (es : List Kept) (items : Productions) → Solves rows (map equation_of es) →
-    length items ≡ length es → AreLast rows items → reverse items ≡ rows
-all_last rows es items s count last =
-    let long : length items ≡ length (reverse rows) = count ∙ sym (s.count ∙ length-map es equation_of)
-    ∙ sym (length-reverse rows) in
-    ap reverse (last ∙ ap (λ k. take k (reverse rows)) long ∙ take-length (reverse rows)) ∙ reverse-reverse rows
 
 -- the rows that are known and one more have no more letters than all
 pub last_small : (rows : Productions) (es : List Kept) (i : ℕ) (items : Productions) → Solves rows (map equation_of es) →

@@ -37,10 +37,6 @@ use Rattle.fst_grammar.proofs.SoundLaws.{name_word_below, rules_rise, rules_belo
 use Rattle.fst_grammar.specs.Standing.{StandsFor}
 use Rattle.fst_base.specs.Limits.{most_nodes}
 
-every_map : (P Q : Part → Type 0) → ((e : Part) → P e → Q e) → (es : List Part) → Every P es → Every Q es
-every_map P Q f [] h = tt
-every_map P Q f (e ∷ es) h = (f e h.0, every_map P Q f es h.1)
-
 every_all : (P : Equation → Type 0) (f : Part → Equation) (es : List Part) → Every (λ e. P (f e)) es → All P (map f es)
 every_all P f [] h = λ i e lt. absurd (omega arith)
 every_all P f (e ∷ es) h = All-cons P (f e) (map f es) h.0 (every_all P f es h.1)

@@ -1,5 +1,5 @@
 -- Where each variable of a type is one of the signature's, none is found that isn't.
-use Rattle.std.proofs.Common.{◌≡◌, ◌∙◌, inl, inr, sym, refl, ℕ, List, [], ◌∷◌, ◌++◌, length, Err}
+use Rattle.std.proofs.Common.{◌≡◌, ◌∙◌, inl, inr, sym, ℕ, List, [], ◌∷◌, ◌++◌, length}
 use Rattle.std.specs.Prelude.{◌≢◌, ⊤}
 use Rattle.std.proofs.lemmas.Option.{slice_get-get_or}
 use Rattle.fst_types.specs.Tree.{Tree, skip, send, receive, close, wait, select, offer, seq, rec, back, var, plain, arrow, pair, named, Branches, none, branch}
@@ -9,9 +9,7 @@ use Rattle.fst_types.specs.declared.kind.Use.TheVariants.{Once}
 use Rattle.fst_kinds.specs.declared.fault.KindFault.{KindFault}
 use Rattle.fst_kinds.specs.declared.fault.KindFault.TheVariants.{UnboundType}
 use Rattle.fst_kinds.specs.Kinds.{session}
-use Rattle.fst_kinds.specs.Walk.{walk}
 use Rattle.fst_kinds.specs.Faults.{Need, single, node, needs, needs_all, Fails, double, wrong, unguarded, unbound, IsFirstFailure, IsFirstFault}
-use Rattle.fst_kinds.proofs.FaultLaws.{walk_fault}
 
 -- what is asked of a node doesn't fail by a variable that is there
 node_bound : {vars : List Kind} {t : Tree} {f : KindFault} → Fails vars (node t) f →
@@ -80,7 +78,3 @@ module _ (vars : List Kind) (k : ℕ) where
 pub never_unbound : (vars : List Kind) (t : Tree) (f : KindFault) (k : ℕ) → HasVariablesBelow (length vars) t →
     IsFirstFault vars t f → f ≢ UnboundType k
 never_unbound vars t f k h first = first_bound vars k (needs t) f (type_bound vars k t h) first
-
--- nor does the walk find one
-pub walk_bound : (vars : List Kind) (t : Tree) (k : ℕ) → HasVariablesBelow (length vars) t → walk vars t ≡ Err (UnboundType k) → ⊥
-walk_bound vars t k h e = never_unbound vars t (UnboundType k) k h (walk_fault vars t (UnboundType k) e) refl

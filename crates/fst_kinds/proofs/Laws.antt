@@ -1,5 +1,5 @@
 -- What other crates cite of kinds and of session types with free recursion variables.
-use Rattle.std.proofs.Common.{◌≡◌, ◌≤◌, ℕ, suc, List, length, true, false, Option, Err}
+use Rattle.std.proofs.Common.{◌≡◌, ◌≤◌, ℕ, suc, List, length, true, false, Option}
 use Rattle.std.specs.Prelude.{◌≢◌}
 use Rattle.fst_types.specs.Tree.{Tree, seq, rec, var}
 use Rattle.fst_types.specs.declared.kind.Kind.{Kind}
@@ -12,7 +12,6 @@ use Rattle.fst_types.specs.Variables.{HasVariablesBelow}
 use Rattle.fst_kinds.specs.declared.fault.KindFault.{KindFault}
 use Rattle.fst_kinds.specs.declared.fault.KindFault.TheVariants.{UnboundType}
 use Rattle.fst_kinds.specs.Faults.{IsFirstFault}
-use Rattle.fst_kinds.specs.Walk.{walk}
 use Rattle.fst_kinds.specs.Kinds.{session, top, HasKind}
 use Rattle.fst_kinds.specs.Contractive.{guards, reaches, IsContractive}
 use Rattle.fst_kinds.specs.WellFormed.{IsWellFormed, IsSession, IsInstantiation}
@@ -111,7 +110,3 @@ instantiated_session = instance_part.instantiated_session
 pub never_unbound : (vars : List Kind) (t : Tree) (f : KindFault) (k : ℕ) → HasVariablesBelow (length vars) t →
     IsFirstFault vars t f → f ≢ UnboundType k
 never_unbound = bound.never_unbound
-
--- nor does the walk find one
-pub walk_bound : (vars : List Kind) (t : Tree) (k : ℕ) → HasVariablesBelow (length vars) t → walk vars t ≡ Err (UnboundType k) → ⊥
-walk_bound = bound.walk_bound

@@ -143,13 +143,3 @@ env_has P Q f (Some t ∷ env) e = (f t e.0, env_has P Q f env e.1)
 pub below_once : (u : Use) → use_below u Once ≡ true
 below_once Many = refl
 below_once Once = refl
-
--- a type in which session types are put for recursion variables has a kind, with the same prekind
-pub substitute_prekind : (vars : List Kind) (env : List (Option Tree)) (s : Tree) (k : Kind) →
-    EnvHas (λ t. (u : Use) × HasKind vars t (session u)) env → HasKind vars s k → (j : Kind) × HasKind vars (substitute env s) j ×
-    (j.prekind ≡ k.prekind)
-substitute_prekind vars env s k e h =
-    let found = substitute_kind vars Once env s k
-    (env_has (λ t. (u : Use) × HasKind vars t (session u)) (SessionUpTo vars Once) (λ t i. (i.0, i.1, below_once i.0)) env e)
-    h in
-    (used k found.0, found.1, refl)

@@ -1,5 +1,5 @@
 -- Characters with their places, and the characters alone.
-use Rattle.std.proofs.Common.{◌≡◌, ℕ, ◌+◌, ◌-◌, ◌*◌, ◌≤◌, ◌⊎◌, inl, inr, Bool, true, not, ◌&&◌, List, [], ◌∷◌, ◌++◌, length, refl, sym, ap, ◌∙◌, length-append, arith}
+use Rattle.std.proofs.Common.{◌≡◌, ℕ, ◌+◌, ◌-◌, ◌*◌, ◌≤◌, ◌⊎◌, inl, inr, Bool, true, not, List, [], ◌∷◌, ◌++◌, length, refl, sym, ap, ◌∙◌, length-append, arith}
 use Rattle.std.proofs.lemmas.Bool.{cases_lt, not-true, and_parts}
 use Rattle.std.proofs.lemmas.List.Sums.{sum_by-cons}
 use Rattle.std.proofs.lemmas.Str.{encodes-chars, byte_from_char, char_from_byte, length-encode}
@@ -35,11 +35,6 @@ byte_count-place_all at (c ∷ cs) =
       length-encode c,
       length-append (encode c) (encodes cs),
     )
-
-pub list_all-place_all : (test : ℕ → Bool) (at : ℕ) (cs : List ℕ) → list_all
-    (λ (p : Placed). test p.ch) (place_all at cs) ≡ list_all test cs
-list_all-place_all test at [] = refl
-list_all-place_all test at (c ∷ cs) = ap (λ b. test c && b) (list_all-place_all test (at + len_utf8 c) cs)
 
 -- the number that digits spell behind one
 abbrev pub number_from : ℕ → List ℕ → ℕ

@@ -315,9 +315,6 @@ module _ (g : List (List ℕ)) (marks : List Mark) (path : List ℕ) (parts : Li
     | inr ne ↦ sym (other x ne) ∙ e
   ]
 
-  pub opened_begun : mark_at (set marks y (Open (length path))) y ≡ Unseen → ⊥
-  opened_begun e = let at = here in cc
-
 -- before a search nothing is met
 pub begun : (g : List (List ℕ)) (looped : List Bool) → AreOwnLoops g looped →
     Holds g (replicate (length g) Unseen) [] [] [] [] looped

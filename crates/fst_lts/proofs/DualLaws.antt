@@ -139,7 +139,7 @@ substitute_branch_dual env None = refl
 substitute_branch_dual env (Some s) = ap Some (substitute-dual env s)
 
 -- a label ends a type where its dual ends the other side
-pub is_end-dual_label : (a : Label) → is_end (dual_label a) ≡ is_end a
+is_end-dual_label : (a : Label) → is_end (dual_label a) ≡ is_end a
 is_end-dual_label (Send b) = refl
 is_end-dual_label (Receive b) = refl
 is_end-dual_label (Select l) = refl

@@ -18,12 +18,8 @@ use Rattle.fst_lts.proofs.ResidualLaws as left
 use Rattle.fst_lts.proofs.AgreementLaws as agreement
 -- the dual of the dual is the type itself, and so it is for labels
 pub use Rattle.fst_lts.proofs.DualLaws.{dual-dual, dual-dual_option, dual_label-dual_label}
--- by the dual of a label the other side ends where a type ends by the label
-pub use Rattle.fst_lts.proofs.DualLaws.{is_end-dual_label}
 -- behind a label by which no protocol ends the second part of a sequence is left, and behind an end nothing is
 pub use Rattle.fst_lts.proofs.MoveLaws.{followed_on, followed_ended}
--- what the dual leaves after the dual trace is the dual of what the type leaves after the trace
-pub use Rattle.fst_lts.proofs.DualLaws.{residual-dual}
 -- outputs, and that a type moves by outputs alone or by none; what is sent is an output, what is received is none
 pub use Rattle.fst_lts.proofs.EventLaws.{is_output, one_direction, sending_output, receiving_output}
 -- a type that receives an event doesn't send it; one that receives a value or waits for the end moves by no other label, and one
@@ -33,10 +29,11 @@ pub use Rattle.fst_lts.proofs.EventLaws.{not_both, one_message, one_wait, one_of
 pub use Rattle.fst_lts.proofs.EventLaws.{moving, after_sent, after_received}
 -- the dual moves by the dual label, receives what the type sends and sends what it receives
 pub use Rattle.fst_lts.proofs.EventLaws.{dual_step, dual_receives, dual_sends}
--- after an event, and after a history, the dual is the dual of the type
-pub use Rattle.fst_lts.proofs.EventLaws.{after_event-dual, after_history-dual}
--- a stamped history stays one with an entry more that has the next stamp and clocks below 2^63, and this entry has that stamp
-pub use Rattle.fst_lts.proofs.StampLaws.{stamped_push, stamped_last}
+-- after a history the dual is the dual of the type
+pub use Rattle.fst_lts.proofs.EventLaws.{after_history-dual}
+-- a stamped history stays one with an entry more that has the next stamp and clocks below 2^63, and this entry has that stamp; no stamp
+-- of such a history is over 2^63 and its length
+pub use Rattle.fst_lts.proofs.StampLaws.{stamped_push, stamped_last, stamps_below}
 -- the last stamp of a history with an entry more is that of the entry, and that of a history is the stamp of the entry at its last place
 pub use Rattle.fst_lts.proofs.StampLaws.{last_stamp_push, last_at}
 -- the dual has the kind of the type, and no free recursion variable where the type has none

@@ -1,12 +1,8 @@
 -- What other crates cite of the code of a program.
--- The code of a global stands for its body.
-pub use Rattle.fst_machine.proofs.CodeLaws.{start_stands}
 -- A step keeps what the code stands for.
 pub use Rattle.fst_machine.proofs.CodeLaws.{inner_stands}
 -- Where no step is left, the code asks for what the terms ask for.
 pub use Rattle.fst_machine.proofs.CodeLaws.{asks_alike}
--- After an answer the code stands for what the terms go on with.
-pub use Rattle.fst_machine.proofs.CodeLaws.{told_stands}
 -- The code that a fork starts stands for the task that it makes, and its variables have the same values.
 pub use Rattle.fst_machine.proofs.CodeLaws.{child_stands}
 -- Where the task has ended, the only value on the stack means the task's value.

@@ -59,9 +59,6 @@ AtomP d ts t ns = (s : IsAtom ts t) × (atom_nests d s ≡ ns)
 abbrev pub PlainP : ℕ → Phrase TermTree
 PlainP d ts t ns = (s : IsPlain ts t) × (plain_nests d s ≡ ns)
 
-abbrev pub HeadP : ℕ → Phrase TermTree
-HeadP d ts t ns = (s : IsHead ts t) × (head_nests d s ≡ ns)
-
 -- the chain of `*`
 abbrev pub ProdLeft : ℕ → ℕ → Phrase TermTree
 ProdLeft d = Left (UnaryP d) (Step (operator (codes "*") op.Multiply) UnaryP) d

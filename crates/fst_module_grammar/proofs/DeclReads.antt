@@ -80,9 +80,6 @@ module _ (limit : ℕ) where
       (λ us x ns p. let b = type_atom_begins 0 us x ns p in (b.0, b.1, b.3, b.5)) (λ k ts is. refl) (λ rest st. (refl, st)))
       fields_to fields_from
 
-  sample_fields : SomePhrase FieldsP
-  sample_fields = record { tokens = []; value = []; nests = []; phrase = (none, refl) }
-
   reads_maker : Reads limit (maker_at limit) MakerR field_next
   unfolding maker_at
   reads_maker =

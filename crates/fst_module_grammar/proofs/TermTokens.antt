@@ -1,5 +1,5 @@
 -- What a term begins with, by its first token.
-use Rattle.std.proofs.Common.{◌≡◌, ℕ, ◌⊎◌, inl, inr, true, false, List, Option, Some, None, refl, ap, subst, ◌∙◌}
+use Rattle.std.proofs.Common.{◌≡◌, ℕ, ◌⊎◌, inl, inr, true, false, List, Option, Some, None, refl, ap, subst}
 use Rattle.std.specs.Prelude.{codes}
 use Rattle.fst_lexer.specs.declared.token.TokenKind.{TokenKind}
 use Rattle.fst_lexer.specs.declared.token.TokenKind.TheVariants as kind
@@ -11,7 +11,7 @@ use Rattle.fst_module_grammar.specs.declared.starts.AtomStart.{AtomStart}
 use Rattle.fst_module_grammar.specs.declared.starts.AtomStart.TheVariants.{Name, Constructor, Number, Character, Truth, Paren}
 use Rattle.fst_module_grammar.specs.declared.starts.AppStart.{AppStart}
 use Rattle.fst_module_grammar.specs.declared.starts.AppStart.TheVariants.{Send, Receive, Close, Wait, Select, New, Fork, Make}
-use Rattle.fst_module_grammar.specs.TermReading.{atom_named, atom_by, atom_start, is_start, starts_atom, no_constructor, plain_start, app_named, app_by, app_start, is_app}
+use Rattle.fst_module_grammar.specs.TermReading.{atom_named, atom_by, atom_start, no_constructor, plain_start, app_named, app_by, app_start, is_app}
 use Rattle.fst_base.proofs.Bools.{same_text}
 
 -- a reserved word or a sign
@@ -71,10 +71,6 @@ means_atom (Character c) k e = rw e refl
 means_atom (Truth true) k e = atom_spelled (codes "True") k e
 means_atom (Truth false) k e = atom_spelled (codes "False") k e
 means_atom Paren k e = atom_spelled (codes "(") k e
-
--- a word with which no atom begins
-pub no_atom : (w : List ℕ) (k : Lexeme) → atom_named w ≡ None → Is w k → starts_atom k ≡ false
-no_atom w k n is = ap is_start (atom_spelled w k is ∙ n)
 
 -- what a token that begins an application by itself is
 abbrev pub MeansApp : AppStart → Lexeme → Type 0

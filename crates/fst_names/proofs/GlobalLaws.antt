@@ -30,7 +30,7 @@ use Rattle.fst_names.specs.Resolved.{kinds}
 use Rattle.fst_names.specs.declared.parts.EquationPart.{EquationPart}
 use Rattle.fst_names.proofs.CountLaws.{parameters_long}
 use Rattle.fst_names.proofs.FamilyLaws.{heads, tails}
-use Rattle.fst_names.proofs.PartLaws.{longer_length, longer_twice, no_longer}
+use Rattle.fst_names.proofs.PartLaws.{longer_length, longer_twice}
 use Rattle.fst_names.proofs.FaultlessLaws.{AreSound, are_sound, equation_sound, first_sound, others_sound}
 
 -- what the types of some declarations stand for
@@ -266,10 +266,6 @@ module _ (ds : List Declared) (known : Known) where
   pub record AreAdded (es : List Equation) (start : TypeList) (globals : List GlobalEntry) (list : TypeList) : Type 0 where
     pub made : map global_parts globals ≡ globals_from ds known (length start.types.items) es
     pub longer : IsLonger start (parameters_types ds known es) list
-
-  -- none
-  pub none_added : (start : TypeList) → AreAdded [] start [] start
-  none_added start = record { made = refl; longer = no_longer start }
 
   -- one more
   pub one_added : (es : List Equation) (e : Equation) (start list next : TypeList) (globals after : List GlobalEntry)

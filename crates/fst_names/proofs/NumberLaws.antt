@@ -56,16 +56,6 @@ along_append n [] ys = ap (λ m. along m ys) (omega arith)
 along_append n (x ∷ xs) ys = ap (λ ks. n ∷ ks)
     (along_append (suc n) xs ys ∙ ap (λ m. along (suc n) xs ++ along m ys) (omega arith))
 
--- each item has its number
-along_each : {A : Type 0} (P : ℕ → A → Type 0) (n : ℕ) (xs : List A) →
-    ((k : ℕ) (x : A) → Contains (along n xs) k → P k x) → EachAt P n xs
-along_each P n [] h = tt
-along_each P n (x ∷ xs) h = (
-  h n x (here n (along (suc n) xs)),
-  along_each P (suc n) xs
-      (λ k y c. h k y (later n (along (suc n) xs) k c)),
-)
-
 -- ---- the numbers of the types in a term
 
 module _ (ns : Numbers) where

@@ -71,12 +71,6 @@ pub lesser-none : (b : Option ℕ) → lesser None b ≡ b
 lesser-none None = refl
 lesser-none (Some b) = refl
 
-pub lesser_assoc : (a b c : Option ℕ) → lesser (lesser a b) c ≡ lesser a (lesser b c)
-lesser_assoc a b None = refl
-lesser_assoc a None (Some c) = refl
-lesser_assoc None (Some b) (Some c) = refl
-lesser_assoc (Some x) (Some y) (Some z) = ap Some (omega arith)
-
 lesser_split : (x y : Option ℕ) (k : ℕ) → lesser x y ≡ Some k → (x ≡ Some k) ⊎ (y ≡ Some k)
 lesser_split x None k e = inl e
 lesser_split None (Some b) k e = inr e

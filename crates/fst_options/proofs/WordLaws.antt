@@ -1,11 +1,10 @@
 -- The words of the command line.
-use Rattle.std.proofs.Common.{◌≡◌, ◌∙◌, ◌⊎◌, inl, inr, ℕ, zero, suc, ◌≤◌, ◌<◌, List, [], ◌∷◌, ◌++◌, length, map, Bool, true, false, true≢false, Option, Some, None, Result, Ok, refl, sym, ap, subst, append_assoc, arith, rules}
+use Rattle.std.proofs.Common.{◌≡◌, ◌∙◌, ◌⊎◌, inl, inr, ℕ, zero, suc, ◌≤◌, List, [], ◌∷◌, ◌++◌, length, map, Bool, true, false, Option, Some, None, Result, Ok, refl, sym, ap, subst, append_assoc, arith, rules}
 use Rattle.std.specs.Prelude.{◌==◌, MatchOption, codes}
 use Rattle.std.proofs.lemmas.Bool.Decides.{nat_tests}
 use Rattle.std.specs.List.{list_all}
 use Rattle.std.specs.Char.{is_ascii_digit}
 use Rattle.std.specs.Str.Parse.{ParsesUnsigned, digits_value}
-use Rattle.std.proofs.lemmas.Option.{none-some}
 use Rattle.std.proofs.lemmas.List.{append-nil, append_cancel_left}
 use Rattle.std.proofs.lemmas.Str.Parse.{IsNumeralModel, numerals_by_value, parse_gives, digits_value_short}
 use Rattle.fst_base.specs.Limits.{most_made}
@@ -267,12 +266,6 @@ pub no_option : (o : Setting) (ws : List (List ℕ)) → (ws ≡ [] → ⊥) →
 no_option o ws some none n (inl p) = some p.0
 no_option o ws some none n (inr p) = none n [] p
 
--- nor are words that have more behind the value that they set
-pub more_option : (o : Setting) (ws : List (List ℕ)) (m : ℕ) (behind : List (List ℕ)) → Sets o ws m behind → (behind ≡ [] → ⊥) →
-    (n : ℕ) → IsOption o ws n → ⊥
-more_option o ws m behind s more n (inl p) = none_set o ws m behind p.0 s
-more_option o ws m behind s more n (inr p) = more (one_setting o ws m n behind [] s p).1
-
 -- words that set no budget, no steps and no workers set nothing
 pub sets_none : (ws : List (List ℕ)) → ((n : ℕ) (rest : List (List ℕ)) → Sets budget ws n rest → ⊥) →
     ((n : ℕ) (rest : List (List ℕ)) → Sets steps ws n rest → ⊥) →
@@ -288,21 +281,6 @@ pub none_to_give : (ws : List (List ℕ)) (before : Given) → ((rest : List (Li
     (after : Given) (rest : List (List ℕ)) → GivesOne before ws after rest → ⊥
 none_to_give ws before no_events none after rest (value o n p first g) = none o n rest p
 none_to_give ws before no_events none after rest (events e first g) = no_events rest e
-
--- nor by those that ask for events again
-pub events_again : (ws : List (List ℕ)) (before : Given) (rest : List (List ℕ)) → ws ≡ codes "--events" ∷ rest →
-    before.events ≡ true → (after : Given) (others : List (List ℕ)) → GivesOne before ws after others → ⊥
-events_again ws before rest is twice after others (value o n p first g) = no_value_set ws rest is o n others p
-events_again ws before rest is twice after others (events e first g) = absurd (true≢false (sym twice ∙ first))
-
--- nor by those that set an option again
-pub value_again : (ws : List (List ℕ)) (before : Given) (o : Set) (n m : ℕ) (rest : List (List ℕ)) →
-    Sets (setting_of o) ws n rest → value_in before o ≡ Some m →
-    (after : Given) (others : List (List ℕ)) → GivesOne before ws after others → ⊥
-value_again ws before o n m rest p twice after others (value q k r first g) =
-    let same = one_set ws q o k n others rest r p in
-    none-some m (sym (subst (λ q. value_in before q ≡ None) same first) ∙ twice)
-value_again ws before o n m rest p twice after others (events e first g) = no_value_set ws others e o n rest p
 
 -- nothing is given by words that are there and give nothing at first
 pub gives_none : (ws : List (List ℕ)) (before : Given) → (ws ≡ [] → ⊥) →
@@ -327,22 +305,6 @@ pub gives_so : (ws : List (List ℕ)) (before after : Given) (rest : List (List 
     MatchOption r ((k : ℕ) (all : Given) → Give k before ws all → ⊥) (λ all. (k : ℕ) × Give k before ws all)
 gives_so ws before after rest None p h = gives_no_more ws before after rest p h
 gives_so ws before after rest (Some all) p (k, g) = (suc k, (after, rest, p, g))
-
--- the words behind are fewer
-pub fewer_words : (ws : List (List ℕ)) (before after : Given) (rest : List (List ℕ)) → GivesOne before ws after rest →
-    length rest < length ws
-fewer_words ws before after rest (events e first g) = let n = ap length e in omega (arith, n)
-fewer_words ws before after rest (value o n p first g) = by ws p.begins
-  where
-    by : (ws : List (List ℕ)) → Begins (setting_of o).name ws p.digits rest → length rest < length ws
-    by [] b = absurd b
-    by (w ∷ ws) (inl b) = let n = ap length b.1 in omega (arith, n)
-    by (w ∷ ws) (inr b) = let n = ap length b.1 in omega (arith, n)
-
--- words are those that a test of their number says
-pub no_words_left : {A : Type 0} (f : A → List ℕ) (ws : List A) (b : Bool) → b ≡ (length ws == 0) → b ≡ true → map f ws ≡ []
-no_words_left f [] b test is = refl
-no_words_left f (w ∷ ws) b test is = absurd (grind (arith, nat_tests))
 
 pub some_words_left : {A : Type 0} (f : A → List ℕ) (ws : List A) (b : Bool) → b ≡ (length ws == 0) → b ≡ false → map f ws ≡ [] →
     ⊥

@@ -106,10 +106,6 @@ module _ (k : Code) (d : Kept) (p q : Path) (h : ChannelName) where
         (f : Does (program m) m.types.items c (Meet p q h) w) → s.request ≡ request.Put f.end f.event
     asks_put m n c w r f = some_same (sym (sender_is m n c w r f).asks ∙ f.puts.1)
 
-    -- where the first asks for something else, they don't meet
-    pub meet_never : (e : Kept) → ((x : EndName) (ev : Event) → s.request ≡ request.Put x ev → ⊥) → Happens k d (Meet p q h) e
-    meet_never e g = λ m n c w r f right makers parents. absurd (g f.end f.event (asks_put m n c w r f))
-
     -- the task that sends can go on, once it is kept what passes
     pub put_can : (b : Kept) (en : Entry) → b ≡ changed h (passed en) d → IsPossible k d (Meet p q h) → CanGoOn k b p Sent
     put_can b en after x =

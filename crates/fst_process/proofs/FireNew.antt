@@ -1,5 +1,5 @@
 -- A task makes a channel.
-use Rattle.std.proofs.Common.{◌≡◌, ◌∙◌, ◌<◌, ℕ, zero, suc, max, true, [], List, Some, refl, sym, ap, subst, arith}
+use Rattle.std.proofs.Common.{◌≡◌, ◌∙◌, ◌<◌, ℕ, zero, suc, max, [], List, Some, refl, sym, ap, subst, arith}
 use Rattle.std.specs.Prelude.{length, slice_get}
 use Rattle.std.proofs.lemmas.Option.{slice_get_within}
 use Rattle.fst_base.proofs.Options.{some_same}
@@ -15,13 +15,13 @@ use Rattle.fst_runs.specs.Configs.{Path, Config, channel_name, program}
 use Rattle.fst_runs.specs.Events.{Write, Does, written, has_made}
 use Rattle.fst_runs.specs.Wrong.{IsRight}
 use Rattle.fst_runs.proofs.Laws.{new_free, with_channel, new_puts, put_there}
-use Rattle.fst_process.specs.Kept.{Slot, Kept, is_live, without, opened, settled}
+use Rattle.fst_process.specs.Kept.{Slot, Kept, without, opened, settled}
 use Rattle.fst_process.specs.Reflects.{IsTask, Reflects}
 use Rattle.fst_process.specs.Firing.{IsPossible, Happens, CanGoOn, HasGoneOn}
 use Rattle.fst_process.proofs.Moving.{moves_ready}
 use Rattle.fst_process.proofs.GoingNew.{new_goes}
 use Rattle.fst_process.proofs.Rights.{right_fine, right_alive}
-use Rattle.fst_process.proofs.Stepping.{there_live, its_task, can_go_on, is_of, settles_gone, settled_types, next_clock, clock_few}
+use Rattle.fst_process.proofs.Stepping.{its_task, can_go_on, is_of, settles_gone, settled_types, next_clock, clock_few}
 
 new_number : (i j : ℕ) → request.New i ≡ request.New j → i ≡ j
 new_number i j e = cc e
@@ -41,14 +41,6 @@ maker_alive m c p w right f = right_alive m (written c w) p (has_made f.task f.s
     (maker_there m c p w f)
 
 module _ (k : Code) (d : Kept) (p : Path) where
-  -- the task is kept as one that has not ended
-  pub new_there : IsPossible k d (New p) → is_live (d.tasks p) ≡ true
-  new_there x = there_live x.source k x.events d x.before p x.does.task (request.New x.does.number) x.reflects x.does.asks refl
-
-  -- it has not made too many channels
-  pub made_few : IsPossible k d (New p) → d.made p < 4294967295
-  made_few x = let a = x.reflects.makes p in let f = x.few in omega (arith, a, f)
-
   module _ (s : Slot) (there : d.tasks p ≡ Some s) where
     its_maker : (m : Module) (n : ℕ) (c : Config) (w : Write) → Reflects m k n d c →
         (f : Does (program m) m.types.items c (New p) w) → IsTask m k d p s f.task
@@ -65,10 +57,6 @@ module _ (k : Code) (d : Kept) (p : Path) where
         let within = slice_get_within x.source.types.items x.does.number x.does.declared x.does.typed in
         let types = ap (λ (ts : List Tree). length ts) x.reflects.from.same_types in
         omega (arith, same, within, types)
-
-    -- where it asks for something else, it makes none
-    pub new_never : (e : Kept) → ((number : ℕ) → s.request ≡ request.New number → ⊥) → Happens k d (New p) e
-    new_never e h = λ m n c w r f right makers parents. absurd (h f.number (asks_new m n c w r f))
 
     module _ (h : ChannelName) (its : h ≡ channel_name p (d.made p)) where
       name_is : (m : Module) (n : ℕ) (c : Config) (w : Write) → Reflects m k n d c →

@@ -9,7 +9,7 @@ use Rattle.fst_types.specs.declared.event.Entry.{Entry}
 use Rattle.fst_types.specs.declared.event.Event.{Event}
 use Rattle.fst_lts.specs.Histories.{over}
 use Rattle.fst_lts.specs.Stamps.{AreStamped}
-use Rattle.fst_lts.proofs.StampLaws.{stamped_last}
+use Rattle.fst_lts.proofs.Laws.{stamped_last}
 use Rattle.fst_machine.specs.declared.request.Request.TheVariants.{Get}
 use Rattle.fst_machine.specs.declared.request.Answer.TheVariants.{Sent, Got}
 use Rattle.fst_machine.specs.Machine.{Program, State, answered}

@@ -319,17 +319,9 @@ module_shown all _ (terms.decl k ts us _ d ds begins inside e others is) m =
     let g = parted (lexemes_of ts) (lexemes_of us) (subst AreMade (map-append (λ (x : Lined). x.lexeme) ts us) h.1) in
     All-cons IsShowableDecl d ds (decl_shown (k.lexeme ∷ lexemes_of ts) d e (h.0, g.0)) (module_shown us ds others g.1)
 
--- a type that tokens are
-pub showable_type : (ts : List Lexeme) (t : WrittenTree) → All IsMade ts → IsType ts t → IsShowableType t
-showable_type ts t all d = type_shown ts t d (recursion_from_All IsMade ts all)
-
 -- a term
 pub showable : (ts : List Lexeme) (t : TermTree) → All IsMade ts → IsExpr ts t → IsShowable t
 showable ts t all d = expr_shown ts t d (recursion_from_All IsMade ts all)
-
--- a declaration
-pub showable_decl : (ts : List Lexeme) (d : Declared) → All IsMade ts → IsDecl ts d → IsShowableDecl d
-showable_decl ts d all e = decl_shown ts d e (recursion_from_All IsMade ts all)
 
 -- a module
 pub showable_module : (ts : List Lined) (ds : List Declared) → All (λ k. IsMade k.lexeme) ts → IsModule ts ds →

@@ -9,7 +9,7 @@ use Rattle.fst_terms.specs.CoreTree.{CoreTree}
 use Rattle.fst_terms.specs.ModelCoreView.{core_arms_of, cores_of}
 use Rattle.fst_terms.specs.declared.binder.Binder.{Binder}
 use Rattle.fst_terms.specs.declared.core_term.Arm.{Arm}
-use Rattle.fst_context.specs.Scope.{Scope, Variable, at_or_not, entered, left, tail}
+use Rattle.fst_context.specs.Scope.{Scope, Variable, entered, tail}
 use Rattle.fst_derivations.specs.Deriv.{deriv_of, parts_of, type_of}
 use Rattle.fst_derivations.specs.declared.derivation.Derivation.{Derivation}
 use Rattle.fst_derivations.specs.Rules.{Surroundings, Binding}
@@ -47,9 +47,6 @@ entered_long vars (x ∷ xs) (t ∷ ts) s r h =
 
 -- ---- leaving
 
-pub closed_next : (i : ℕ) (s r q : Scope) → closed_all i s ≡ Some r → closed r ≡ Some q → closed_all (i + 1) s ≡ Some q
-closed_next i s r q h e = rw add-one (ap (λ o. next o closed) h ∙ e)
-
 number_less : (m n : ℕ) → nat_eq m (suc n) ≡ false → m ≤ suc n → m ≤ n
 number_less m n h e = grind arith
 
@@ -72,10 +69,6 @@ left_some false s r h = same_Some s r h
 one_less : (vs : List Variable) → 0 < length vs → length vs ≡ suc (length (tail vs))
 one_less [] h = absurd (omega arith)
 one_less (v ∷ vs) h = refl
-
-pub closed_length : (r q : Scope) → 0 < length r.variables → closed r ≡ Some q → length r.variables ≡ suc (length q.variables)
-closed_length r q h e =
-    one_less r.variables h ∙ ap (λ z. suc (length z.variables)) (left_some (at_or_not r.there 0) (left r) q e)
 
 -- ---- as many derivations as arms and terms
 

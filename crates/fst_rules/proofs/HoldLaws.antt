@@ -1,5 +1,5 @@
 -- The derivations of a module's globals.
-use Rattle.std.proofs.Common.{◌≡◌, ◌∙◌, ◌↔◌, suc, Bool, true, false, List, [], ◌∷◌, length, map, Some, None, slice_get, refl, sym, ap, subst}
+use Rattle.std.proofs.Common.{◌≡◌, ◌∙◌, ◌↔◌, suc, Bool, true, false, List, [], ◌∷◌, length, map, Some, slice_get, refl, sym, ap, subst}
 use Rattle.std.proofs.lemmas.Option.{same_Some}
 use Rattle.fst_types.specs.Tree.{Tree}
 use Rattle.fst_types.specs.declared.kind.Kind.{Kind}
@@ -53,10 +53,6 @@ global_derived m g d t b c s r there fits on is h =
       )),
       (λ (t', p, x). w.1 (at_over g.kinds.items t' (Conversions n) (Rule n g.body []) no_vars d x)),
     )
-
-pub none_derived : (m : Module) (g : GlobalEntry) (d : Deriv) → None ≡ slice_get m.types.items g.signature →
-    (false ≡ true) ↔ IsDerived m g d
-none_derived m g d e = ((λ f. absurd (cc f)), (λ (t, p, x). let z = e ∙ p in absurd (cc z)))
 
 pub wrong_type : (m : Module) (g : GlobalEntry) (d : Deriv) (t : Tree) (c : Bool) → Some t ≡ slice_get m.types.items g.signature →
     c ≡ same_tree (type_of d) t → c ≡ false → (false ≡ true) ↔ IsDerived m g d

@@ -1,5 +1,5 @@
 -- Levels around a term and its derivation.
-use Rattle.std.proofs.Common.{◌≡◌, ◌∙◌, ◌<◌, ◌+◌, refl, sym, ap, subst, arith, ℕ, Bool, true, false, List, [], ◌∷◌, ◌++◌, length}
+use Rattle.std.proofs.Common.{◌≡◌, ◌∙◌, ◌<◌, ◌+◌, refl, sym, ap, subst, arith, ℕ, Bool, true, List, [], ◌∷◌, ◌++◌, length}
 use Rattle.std.specs.Prelude.{Option, None, Some, MatchOption, IfSome, option_to_list}
 use Rattle.fst_types.specs.Tree.{Tree}
 use Rattle.fst_terms.specs.CoreTree.{CoreTree, core_height}
@@ -59,20 +59,10 @@ rest_popped old new n k (Some l) long is cases m = ap (rest_walk m) is ∙ rest_
 
 -- ---- rows with two parts
 
-pub row_2_none : (fits : Tree → Tree → Bool) (ds : Derivs) (A B : Deriv → Walk) → None ≡ parts_2 ds → row_2 fits ds A B ≡ nowhere
-row_2_none fits ds A B e = ap (λ o. given o (λ p. only (fits (type_of p.0) (type_of p.1)) (after (A p.0) (B p.1)))) (sym e)
-
 pub row_2_some : (fits : Tree → Tree → Bool) (ds : Derivs) (A B : Deriv → Walk) (d h : Deriv) (b : Bool) →
     Some (d, h) ≡ parts_2 ds → b ≡ fits (type_of d) (type_of h) → b ≡ true →
     row_2 fits ds A B ≡ after (A d) (B h)
 row_2_some fits ds A B d h b e f g =
-    ap (λ o. given o (λ p. only (fits (type_of p.0) (type_of p.1)) (after (A p.0) (B p.1)))) (sym e)
-    ∙ ap (λ c. only c (after (A d) (B h))) (sym f ∙ g)
-
-pub row_2_wrong : (fits : Tree → Tree → Bool) (ds : Derivs) (A B : Deriv → Walk) (d h : Deriv) (b : Bool) →
-    Some (d, h) ≡ parts_2 ds → b ≡ fits (type_of d) (type_of h) → b ≡ false →
-    row_2 fits ds A B ≡ nowhere
-row_2_wrong fits ds A B d h b e f g =
     ap (λ o. given o (λ p. only (fits (type_of p.0) (type_of p.1)) (after (A p.0) (B p.1)))) (sym e)
     ∙ ap (λ c. only c (after (A d) (B h))) (sym f ∙ g)
 

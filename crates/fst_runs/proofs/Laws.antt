@@ -12,7 +12,7 @@ pub use Rattle.fst_runs.proofs.Naming.{Grows, makers_with, parents_with, new_fre
 -- A task that sends isn't one that receives.
 pub use Rattle.fst_runs.proofs.Naming.{asks_apart}
 -- An end that isn't spent has one task, which is the one that asks at it.
-pub use Rattle.fst_runs.proofs.Owners.{own_once, owner, allowed_unspent, asks_held}
+pub use Rattle.fst_runs.proofs.Owners.{own_once, owner, asks_held}
 -- Where each request stands still.
 pub use Rattle.fst_runs.proofs.Asked.{put_pause, get_pause, new_pause, fork_pause}
 -- How often values hold an end.
@@ -20,7 +20,7 @@ pub use Rattle.fst_runs.proofs.HeldEnds.{pause_none, held_turned}
 -- After an answer a state holds no end that its pause doesn't, but those of a new channel; nor does a task that is forked.
 pub use Rattle.fst_runs.proofs.HeldAfter.{after_none, child_none}
 -- What is left at one side is the dual of what is left at the other.
-pub use Rattle.fst_runs.proofs.HistoryLaws.{residual-opposite, residual-other}
+pub use Rattle.fst_runs.proofs.HistoryLaws.{residual-opposite}
 -- Where nothing has gone wrong, two tasks don't ask at one end nor send or receive at both, and one that sends meets one that receives.
 pub use Rattle.fst_runs.proofs.RightLaws.{right_one, right_there, right_opposed, right_received, right_meets}
 -- The least run is a run.

@@ -13,7 +13,7 @@ use Rattle.fst_machine.specs.Machine.{Program, State, begins}
 use Rattle.fst_runs.specs.declared.event.CoreEvent.{CoreEvent}
 use Rattle.fst_runs.specs.declared.event.CoreEvent.TheVariants.{Local, New, Fork, Meet}
 use Rattle.fst_runs.specs.Configs.{Path, Task, Channel, Config, same_path, same_channel, other, child_path, channel_name, new_task, main_path, started}
-use Rattle.fst_runs.specs.Events.{Write, written, moved, meeting_stamp, extended, Asks, Does, Runs, has_made, has_forked, has_met, passed}
+use Rattle.fst_runs.specs.Events.{Write, written, moved, meeting_stamp, extended, Asks, Does, has_made, has_forked, has_met, passed}
 use Rattle.fst_runs.specs.Names.{HasMakers, HasParents}
 use Rattle.fst_runs.proofs.NameLaws.{same_path-same, same_channel-same}
 use Rattle.fst_runs.proofs.Updates.{put, with_task, with_channel, in_test, in_put}
@@ -245,18 +245,3 @@ named_after m types c (Meet p q h) w d hm hp =
     (named_meet c p q d.sender d.receiver d.sent d.got (meeting_stamp d.sender d.receiver d.channel) h d.channel
     (extended d.channel (passed d.event d.sender d.receiver d.channel)) hm hp d.puts.0 d.gets.0
     (asks_apart m c p q d.sender d.receiver d.end (other d.end) d.event d.puts d.gets) d.there)
-
--- and along a run
-pub named_on : (m : Program) (types : List Tree) (es : List CoreEvent) (c d : Config) → HasMakers c → HasParents c →
-    Runs m types c es d → HasMakers d × HasParents d
-named_on m types [] c d hm hp r = subst (λ z. HasMakers z × HasParents z) (sym r) (hm, hp)
-named_on m types (e ∷ es) c d hm hp r =
-    let f = named_after m types c e r.0 r.1 hm hp in
-    named_on m types es (written c r.0) d f.0 f.1 r.2
-
--- wherever a run leads, names are fresh
-pub named_runs : (m : Program) (types : List Tree) (e : CoreTree) (es : List CoreEvent) (c : Config) →
-    Runs m types (started e) es c → HasMakers c × HasParents c
-named_runs m types e es c r =
-    let f = named_start e in
-    named_on m types es (started e) c f.0 f.1 r

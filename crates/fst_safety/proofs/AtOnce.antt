@@ -380,12 +380,6 @@ module _ (m : Surroundings) (F : HasFormedParts m) (args : List Tree) (i : IsIns
           typed_further B D b bs g h q u t more y,
         )
 
-  -- a derivation gives its term the instance of its type
-  pub derived_typed : (e : CoreTree) (g h : List Variable) → IsInstanceOf args g h →
-      (u : Vars) (d : Deriv) → Over m.vars (Converted (IsConversion m.vars)) (Row m (converting (IsConversion m.vars)) e g) u d →
-      HasType (closed m) h e (instantiated args (type_of d))
-  derived_typed e g h q u d x = part_of e g h u d (typed e g h q) x
-
   -- and so does one at the type that is wanted
   pub wanted_typed : (t : Tree) (e : CoreTree) (g h : List Variable) → IsInstanceOf args g h →
       (u : Vars) (d : Deriv) → At m.vars t (Converted (IsConversion m.vars)) (Row m (converting (IsConversion m.vars)) e g) u d →

@@ -27,13 +27,6 @@ counts_itself e = ap once (same_end-itself (end_name e))
 pub counted_so : (x : EndName) (e : EndView) → end_name e ≡ x → counted x e ≡ 1
 counted_so x e i = ap (λ y. once (same_end x y)) i ∙ ap once (same_end-itself x)
 
-pub counts_same : (x : EndName) (e : EndView) → (counted x e ≡ 0 → ⊥) → end_name e ≡ x
-counts_same x e n = go (same_end x (end_name e)) refl
-  where
-    go : (b : Bool) → same_end x (end_name e) ≡ b → end_name e ≡ x
-    go true q = sym (same_end-same x (end_name e) q)
-    go false q = absurd (n (ap once q))
-
 -- either the end is this one, or it isn't counted
 pub or_not : (x : EndName) (e : EndView) → (end_name e ≡ x) ⊎ (counted x e ≡ 0)
 or_not x e = go (same_end x (end_name e)) refl

@@ -1,5 +1,5 @@
 -- What a channel and a fork come to, for each thread that the task was.
-use Rattle.std.proofs.Common.{◌≡◌, ◌∙◌, ◌<◌, ◌≤◌, ℕ, zero, suc, ◌+◌, List, [], ◌∷◌, ◌++◌, Bool, true, false, Some, Ok, Contains, refl, sym, ap, subst, arith}
+use Rattle.std.proofs.Common.{◌≡◌, ◌∙◌, ◌<◌, ℕ, suc, ◌+◌, List, [], ◌∷◌, ◌++◌, Bool, true, false, Some, Ok, Contains, refl, sym, ap, subst, arith}
 use Rattle.std.specs.Prelude.{IsPermutation, slice_get}
 use Rattle.std.proofs.lemmas.List.{length_push}
 use Rattle.fst_types.specs.Tree.{Tree}
@@ -27,7 +27,7 @@ use Rattle.fst_safety.specs.declared.tasks.TypedTask.{TypedTask}
 use Rattle.fst_safety.specs.declared.tasks.Turned.TheVariants.{Moved, Forked}
 use Rattle.fst_safety.specs.Fitting.{Residuals}
 use Rattle.fst_safety.specs.Pauses.{Allowed}
-use Rattle.fst_safety.specs.Threads.{Thread, count_of}
+use Rattle.fst_safety.specs.Threads.{Thread}
 use Rattle.fst_safety.specs.Going.{GoesOnTo, with_entry}
 use Rattle.fst_safety.specs.Bags.{IsPutBack, put_by, AreParted}
 use Rattle.fst_safety.specs.Tasks.{Fits, AsksNow, AreNew, IsDeclarable, HasGoneOn, HasTurned, module_of, offers, tries_at}
@@ -171,17 +171,6 @@ no_frames (closes x fs) b e = absurd (cc e)
 no_frames (waits x fs) b e = absurd (cc e)
 no_frames (matches x bs env fs) b e = absurd (cc e)
 no_frames (ended v) b e = absurd (cc e)
-
--- no end of a bag stands there twice
-pub once_in : (k : Code) (a : Tree) (t : TypedTask) (x : Thread) → Fits k a t x → (z : EndName) → count_of z t.bag.items ≤ 1
-once_in k a t x f z = go (count_of z t.bag.items) refl
-  where
-    go : (n : ℕ) → count_of z t.bag.items ≡ n → n ≤ 1
-    go zero q = omega arith
-    go (suc n) q =
-        let same : count_of z x.bag ≡ suc n = ap (count_of z) (sym f.keeps.bag) ∙ q in
-        let o = (f.fits.once z (omega (arith, same))).0 in
-        omega (arith, o, same)
 
 module _ (k : Code) (t : TypedTask) (now : AsksNow k t request.Fork) (few : t.clock < 4294967295) (a : Tree) (x : Thread)
     (f : Fits k a t x) where

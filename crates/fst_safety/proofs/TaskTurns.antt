@@ -36,7 +36,7 @@ use Rattle.fst_safety.specs.Going.{GoesOnTo, IsMoved, with_entry}
 use Rattle.fst_safety.specs.Bags.{IsPlaced, IsPutBack, IsChanged, IsPassed, MayOffer, MayTake}
 use Rattle.fst_safety.specs.Tasks.{Keeps, Fits, CanTurn, AsksNow, IsSame, HasGoneOn, HasTurned, TakesTurn, FoundNoWay, HasTried, offers, tries_at, work, module_of}
 use Rattle.fst_safety.proofs.Going.{stay_typed}
-use Rattle.fst_safety.proofs.Keeping.{stays, stands_in, not_stuck, same_keeps, same_fits, asks_alike, asks_it, allowed, fits_there, known_there, alive_in, takes_it, keeps_it, advanced_fits}
+use Rattle.fst_safety.proofs.Keeping.{stays, stands_in, not_stuck, same_keeps, asks_alike, asks_it, allowed, fits_there, known_there, alive_in, takes_it, keeps_it, advanced_fits}
 use Rattle.fst_safety.proofs.Pasts.{rise_short}
 use Rattle.fst_safety.proofs.Told.{told_go, told_sent, told_got}
 use Rattle.fst_safety.proofs.Tries.{tried_more, changed_sum, passed_sum, one_offer}
@@ -55,10 +55,6 @@ refused k t u e s a x f = record {
   tries = λ z. omega arith;
   answers = (refl, refl, refl);
 }
-
--- a turn from a task that is the same but for room
-pub roomed : (k : Code) (t u v : TypedTask) (r : _) → IsSame t u → TakesTurn k u r v → TakesTurn k t r v
-roomed k t u v r s h a x f = h a x (same_fits k a t u x s f)
 
 -- ---- a step
 
@@ -446,10 +442,6 @@ receiver_stands k a t x f n now none =
     (asks_it k a t x f (request.Get n) now) in
     stands_in k a t x f n ok.0 ok.2 ok.1 ok.3 ok.5 none
 
--- a task that is the same but for room fits, and asks for the same
-pub same_turns : (k : Code) (t u : TypedTask) → IsSame t u → CanTurn k t → CanTurn k u
-same_turns k t u s f = (f.0, f.1, same_fits k f.0 t u f.1 s f.2)
-
 pub same_asks : (k : Code) (t u : TypedTask) (q : Request) → IsSame t u → AsksNow k t q → AsksNow k u q
 same_asks k t u q s now = (
   λ fs. ap (inner (code_of fs k)) s.task.2 ∙ now.0 fs,
@@ -457,12 +449,6 @@ same_asks k t u q s now = (
 )
 
 -- ---- what it asks for
-
--- where a task has run on it fits as before
-pub advanced_turns : (k : Code) (t u : TypedTask) (v : TaskView) → Stays k t.task v → u ≡ record t { task = v } → CanTurn k t →
-    CanTurn k u
-advanced_turns k t u v s is f = subst (CanTurn k) (sym is)
-    (f.0, f.1, advanced_fits k f.0 t (record t { task = v }) f.1 s refl refl refl refl refl f.2)
 
 -- and a turn from there is one of it
 pub advanced : (k : Code) (t : TypedTask) (v : TaskView) (r : _) (u : TypedTask) → Stays k t.task v →

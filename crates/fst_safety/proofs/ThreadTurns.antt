@@ -37,23 +37,6 @@ use Rattle.fst_safety.proofs.ThreadTyping.{stepped, step_holds}
 
 -- ---- nothing happens
 
-pub still_turn : (m : Surroundings) (x : Thread) → Turn m x x []
-still_turn m x = record {
-  gained = [];
-  log = sym (append-nil x.log);
-  path = refl;
-  first = refl;
-  idle = All-nil (λ (k : Thread). k.log ≡ []);
-  born = λ w. refl;
-  typed = λ s w. omega arith;
-  cells = λ w. omega arith;
-  exchanged = λ w. omega arith;
-  spent = [];
-  kept = sym (append-nil x.retired);
-  known = λ z h c. inr (h, c);
-  known_new = All-nil (AreKnownSpent x x);
-}
-
 -- ---- an end is tried
 
 -- the end e is f now, which has exchanged no more

@@ -73,17 +73,6 @@ count_is [] (l ∷ ls) le = absurd (omega (arith, le))
 count_is (t ∷ ts) (l ∷ ls) le = count_first t.first_column (record { first = t.first_column; lexeme = l })
     (in_line (lines_of ts ls)) (line_length (take (length ls) ts)) (count_is ts ls (omega (arith, le)))
 
--- a line is no longer than the tokens
-short_by : (b : Bool) (n m : ℕ) → n ≤ m → choose b 0 (suc n) ≤ suc m
-unfolding choose
-short_by true n m le = omega arith
-short_by false n m le = omega (arith, le)
-
-pub short_line : (ts : List Token) → line_length ts ≤ length ts
-unfolding line_length
-short_line [] = omega arith
-short_line (t ∷ ts) = short_by t.first_column (line_length ts) (length ts) (short_line ts)
-
 -- whether the first token begins a line
 abbrev pub FirstOf : List Token → Bool → Type 0
 FirstOf [] b = ⊤

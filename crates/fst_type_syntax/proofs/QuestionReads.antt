@@ -263,10 +263,6 @@ of_question _ _ (over f d k vs ts us all bs t u is b dot s tilde r parts) =
 question_from : (ts : List Lexeme) (q : Asked) (ns : List ℕ) → QuestionPhrase ts q ns → QuestionR ts q ns
 question_from ts q ns p = subst (QuestionR ts q) p.1 (of_question ts q p.0)
 
-types_filled : (bs : List (Binder × Kind)) (us : List Lexeme) (q : Asked) (ns : List ℕ) → TypesR bs us q ns → 0 < length us
-types_filled bs us q ns p = let a = types_to bs us q ns p in
-    omega (arith, ap length a.parts, length-append a.first_ (a.tilde ∷ a.second))
-
 sample_types : (bs : List (Binder × Kind)) → SomePhrase (TypesR bs)
 sample_types bs =
     sample_then (SeqPhrase 1) _ (sample_seq 1 0) (λ t. sample_then (Word 0 (codes "~")) _ (sample_word 0 (codes "~"))

@@ -19,9 +19,6 @@ use Rattle.fst_types.proofs.Labels as labels
 use Rattle.fst_types.specs.Variables.{HasVariablesBelow}
 use Rattle.fst_types.proofs.SubstitutionLaws as substitution
 use Rattle.fst_types.proofs.VariableLaws as variables
--- a type may cross threads, and so may a path
-pub use Rattle.fst_types.proofs.ty.Ty.TheLaws.TheKnot.{crosses}
-pub use Rattle.fst_types.proofs.path.Path.TheSendSync.{the_send}
 
 -- a branch is no higher than the highest branch of its choice
 pub height_at : (bs : List Branch) (i : ℕ) (d : Branch) → i < length bs →

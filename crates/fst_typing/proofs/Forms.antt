@@ -1,7 +1,7 @@
 -- How the derivations of parts make the derivation of a term: one taking after another is a split.
 use Rattle.std.proofs.Common.{◌≡◌, ◌∙◌, ℕ, List, Some, refl, sym, ap, subst}
 use Rattle.fst_types.specs.Tree as type
-use Rattle.fst_types.specs.Tree.{Tree, plain, arrow, named}
+use Rattle.fst_types.specs.Tree.{Tree, plain, arrow}
 use Rattle.fst_types.specs.declared.base.Base.{Base}
 use Rattle.fst_types.specs.declared.base.Base.TheVariants.{Int, Bool as Truth, Unit as Nothing}
 use Rattle.fst_types.specs.declared.kind.Kind.{Kind}
@@ -84,10 +84,6 @@ module _ (c : Check) where
     second =
         over b g h z.right z.second;
   }
-
-  -- the type found of a part is well formed
-  pub formed_of : (e : CoreTree) (d : Deriv) (r s : Scope) → IsTyped c r s e d → IsFormed V (type_of d)
-  formed_of e d r s x = x.fact.formed
 
   -- what is left of a type after a move is well formed
   pub next_formed : (t next : Tree) (l : Label) →

@@ -5,4 +5,3 @@ mod StepLaws
 mod RunLaws
 mod TellLaws
 mod TaskLaws
-pub mod Laws

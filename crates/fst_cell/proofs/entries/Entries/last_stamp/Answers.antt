@@ -1,7 +1,7 @@
 use Rattle.std.proofs.Common.{◌∙◌, ap, List, ◌-◌, length}
 use Rattle.std.specs.Prelude.{slice_get}
 use Rattle.fst_types.specs.declared.event.Entry.{Entry}
-use Rattle.fst_lts.proofs.StampLaws.{last_at}
+use Rattle.fst_lts.proofs.Laws.{last_at}
 use Rattle.fst_cell.proofs.entries.Entries.last_stamp.Goals as goal
 
 pub returns-in-Some : goal.returns-in-Some
