@@ -7,7 +7,7 @@ use Rattle.fst_runs.specs.Configs.{Path, same_path}
 use Rattle.fst_runs.specs.Wrong.{once}
 use Rattle.fst_runs.proofs.Laws.{same_path-same}
 use Rattle.fst_process.specs.KeptOf.{at_path}
-use Rattle.fst_process.proofs.Tables.{found_after, same_key}
+use Rattle.fst_process.proofs.Laws.{found_after, same_key}
 use Rattle.fst_merge.specs.Counts.{Counts, counted, IsCounted}
 
 -- where a map has one more at a path, and the same at all others, one more is counted there

@@ -10,9 +10,7 @@ use Rattle.fst_runs.specs.Wrong.{once}
 use Rattle.fst_runs.proofs.Laws.{same_path-itself, same_path-same, same_channel-itself, same_channel-same}
 use Rattle.fst_records.specs.Gathering.{getter, gets, got_over}
 use Rattle.fst_records.specs.Parts.{Deed, stepped, made, forked, sent, got, Part}
-use Rattle.fst_records.proofs.Gathering.{count, getter_is}
-use Rattle.fst_records.proofs.Sums.{some_in, sum_none, sum_same}
-use Rattle.fst_records.proofs.Tests.{there_sums}
+use Rattle.fst_records.proofs.Laws.{count, getter_is, some_in, sum_none, sum_same, there_sums}
 use Rattle.fst_merge.specs.declared.receipts.Receipt.{Receipt}
 use Rattle.fst_merge.specs.Getters.{AreFound, AreReceipts, IsGetter, got_by, is_got, part_in, spot_of}
 

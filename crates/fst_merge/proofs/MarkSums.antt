@@ -14,8 +14,7 @@ use Rattle.fst_runs.specs.Logs.{Follows, IsAnswered, after_entry, forks_after}
 use Rattle.fst_runs.specs.Wrong.{once}
 use Rattle.fst_records.specs.Records.{Course, log_of}
 use Rattle.fst_records.specs.Parts.{Part, part_by, parts_by}
-use Rattle.fst_records.proofs.Entries.{entries}
-use Rattle.fst_records.proofs.Sums.{sum_none}
+use Rattle.fst_records.proofs.Laws.{entries, sum_none}
 use Rattle.fst_runs.proofs.Laws.{same_path-same}
 use Rattle.fst_process.specs.declared.marks.Mark.{Mark}
 use Rattle.fst_process.specs.declared.marks.TaskMarks.{TaskMarks}

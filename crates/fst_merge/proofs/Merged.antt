@@ -10,9 +10,7 @@ use Rattle.fst_runs.proofs.Laws.{sorted_timed}
 use Rattle.fst_records.specs.Gathering.{gathered}
 use Rattle.fst_records.specs.Parts.{AreEvents, parts_of}
 use Rattle.fst_records.specs.Records.{main_birth}
-use Rattle.fst_records.proofs.Apart.{events_apart}
-use Rattle.fst_records.proofs.Gathering.{count, gathers, got_once}
-use Rattle.fst_records.proofs.Sorting.{sorted_run}
+use Rattle.fst_records.proofs.Laws.{events_apart, count, gathers, got_once, sorted_run}
 use Rattle.fst_process.specs.declared.marks.TaskMarks.{TaskMarks}
 use Rattle.fst_merge.specs.declared.receipts.Receipt.{Receipt}
 use Rattle.fst_merge.specs.Getters.{AreReceipts, ForParts}

@@ -10,7 +10,7 @@ use Rattle.fst_runs.specs.declared.event.Stamped.{Stamped}
 use Rattle.fst_runs.specs.Configs.{Path}
 use Rattle.fst_runs.specs.Order.{path_of}
 use Rattle.fst_records.specs.NameOrder.{name_cmp}
-use Rattle.fst_records.proofs.NameOrder.{both_equal, name_same, name_total}
+use Rattle.fst_records.proofs.Laws.{both_equal, name_same, name_total}
 use Rattle.fst_merge.specs.Getters.{Spot, spot_cmp}
 
 -- stamps with channels are in a total order

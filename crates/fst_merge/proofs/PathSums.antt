@@ -7,7 +7,7 @@ use Rattle.std.proofs.lemmas.List.Sums.{sum_by-cons}
 use Rattle.fst_runs.specs.Configs.{Path, same_path}
 use Rattle.fst_runs.specs.Wrong.{once}
 use Rattle.fst_runs.proofs.Laws.{same_path-itself, same_path-same}
-use Rattle.fst_records.proofs.Sums.{none_sum, sum_both, sum_same}
+use Rattle.fst_records.proofs.Laws.{none_sum, sum_both, sum_same}
 
 module _ {X : Type 0} (path : X → Path) where
   -- 1 for a thing with this path

@@ -12,7 +12,7 @@ use Rattle.std.proofs.lemmas.Map.Text.{is_eq-slice_cmp}
 use Rattle.fst_runs.specs.declared.event.Stamped.{Stamped}
 use Rattle.fst_runs.specs.Order.{AreRising, AreSorted, Precedes, path_of}
 use Rattle.fst_runs.proofs.Laws.{same_path-same}
-use Rattle.fst_records.proofs.Lists.{among}
+use Rattle.fst_records.proofs.Laws.{among}
 use Rattle.fst_merge.specs.Merging.{event_cmp}
 use Rattle.fst_merge.proofs.Orders.{place_of, place_total}
 

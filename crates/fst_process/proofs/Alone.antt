@@ -13,7 +13,7 @@ use Rattle.fst_runs.specs.declared.event.CoreEvent.{CoreEvent}
 use Rattle.fst_runs.specs.declared.event.CoreEvent.TheVariants.{Local, New, Fork, Meet}
 use Rattle.fst_runs.specs.Configs.{Path}
 use Rattle.fst_process.specs.Kept.{Slot, Kept, is_step, partner, put_at, without, noted, settled_at}
-use Rattle.fst_process.specs.Firing.{CanStep, CanStepOn, StepsOn}
+use Rattle.fst_process.specs.Firing.{CanStep, CanStepOn, Happens, HasStepped, MovesOn, StepsOn}
 use Rattle.fst_process.specs.Nexts.{IsFirst, IsNext, event_with}
 use Rattle.fst_process.specs.Runs.{CanRunFrom, RunsTo}
 use Rattle.fst_process.proofs.Places.{put_here, put_cases}
@@ -95,7 +95,7 @@ module _ (k : Code) (d : Kept) (p : Path) where
       { tasks = put_at p (Some t) (put_at p None d.tasks) })) asked
 
   -- at first it stands there
-  stands_first : (x : StepsFirst d p) → d ≡ at_slot x.slot
+  pub stands_first : (x : StepsFirst d p) → d ≡ at_slot x.slot
   stands_first x = (λ i. record {
     tasks = put_back p (Some x.slot) None d.tasks x.there i;
     channels = d.channels;
@@ -104,11 +104,12 @@ module _ (k : Code) (d : Kept) (p : Path) where
         put_back p true false d.ready x.first.moves i;
   }) ∙ sym (it_stands x.slot x.asked)
 
-  there_again : (t : Slot) → t.request ≡ request.Step → (at_slot t).tasks p ≡ Some t
+  -- and is there
+  pub there_again : (t : Slot) → t.request ≡ request.Step → (at_slot t).tasks p ≡ Some t
   there_again t asked = ap (λ z. z.tasks p) (it_stands t asked) ∙ put_here p (Some t) (put_at p None d.tasks)
 
   -- its event is the next one again
-  next_again : IsFirst d p → (t : Slot) → t.request ≡ request.Step → IsNext (at_slot t) (Some (Local p))
+  pub next_again : IsFirst d p → (t : Slot) → t.request ≡ request.Step → IsNext (at_slot t) (Some (Local p))
   next_again first t asked =
       subst (λ z. IsNext z (Some (Local p))) (sym (it_stands t asked)) (inr (
         p,
@@ -134,9 +135,20 @@ module _ (k : Code) (d : Kept) (p : Path) where
             (sym (put_twice p false true (put_at p false d.ready)) ∙ sym (put_twice p false false d.ready)) i;
       })
 
+  -- its next step happens
+  pub step_happens : (r t : Slot) → r.request ≡ request.Step → MovesOn k Go zero r t →
+      Happens k (at_slot r) (Local p) (at_slot t)
+  step_happens r t asked moves = local_happens k (at_slot r) p (at_slot t) (record {
+    slot = r;
+    there = there_again r asked;
+    now = t;
+    moves_on = moves;
+    after = ap (settled_at (length k.types.items) p t) (sym (without_again r asked));
+  })
+
   module _ (n : ℕ) (x : StepsFirst d p) where
     -- the run has come to where the task stands after so many steps
-    pub steps_to : (i : ℕ) (t : Slot) → StepsOn k i x.slot t → RunsTo k n d (n + i) (at_slot t)
+    steps_to : (i : ℕ) (t : Slot) → StepsOn k i x.slot t → RunsTo k n d (n + i) (at_slot t)
     steps_to zero t same =
         let none : n ≡ n + zero = omega arith in
         subst (λ l. RunsTo k n d l (at_slot t)) none
@@ -144,14 +156,7 @@ module _ (k : Code) (d : Kept) (p : Path) where
     steps_to (suc i) t (r, steps, asked, moves) =
         let more : suc (n + i) ≡ n + suc i = omega arith in
         kept_next k n d (n + i) (n + suc i) (at_slot r) (at_slot t) (Local p) (steps_to i r steps)
-        (next_again x.first r asked) (local_happens k (at_slot r) p (at_slot t)
-        (record {
-          slot = r;
-          there = there_again r asked;
-          now = t;
-          moves_on = moves;
-          after = ap (settled_at (length k.types.items) p t) (sym (without_again r asked));
-        })) more
+        (next_again x.first r asked) (step_happens r t asked moves) more
 
     -- and it can step from there
     can_step : (i : ℕ) (t : Slot) → n + i < 4294967295 → StepsOn k i x.slot t → t.request ≡ request.Step → CanRunFrom k n d →
@@ -176,3 +181,17 @@ module _ (k : Code) (d : Kept) (p : Path) where
         let next = subst (λ z. IsNext z (Some (Local p))) (sym (stands_first x)) (next_again x.first x.slot x.asked) in
         let c = local_can k d p (possible_next k n d n d (Local p) (kept_first k n d) next few right) in
         subst (λ (s : Slot). s.task.path ≡ p) (some_same (sym c.there ∙ x.there)) c.path
+
+    -- what is kept after it has stepped so many times is what the run has come to
+    pub stepped_to : (i : ℕ) (e : Kept) → HasStepped k p i d e → RunsTo k n d (n + i) e
+    stepped_to i e s =
+        subst (RunsTo k n d (n + i)) (sym s.after) (steps_to i s.now
+        (subst (λ z. StepsOn k i z s.now) (some_same (sym s.there ∙ x.there)) s.steps))
+
+-- each step counts one more on the clock
+pub steps_clock : (k : Code) (i : ℕ) (s t : Slot) → StepsOn k i s t → t.clock ≡ s.clock + i
+steps_clock k zero s t same = let e = ap (λ (z : Slot). z.clock) same in omega (arith, e)
+steps_clock k (suc i) s t (r, steps, asked, moves) =
+    let e = steps_clock k i s r steps in
+    let f = moves.clock in
+    omega (arith, e, f)

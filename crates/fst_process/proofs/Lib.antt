@@ -39,3 +39,4 @@ pub mod NoteLaws
 pub mod MarkLaws
 pub mod MarkLists
 pub mod MarkedRuns
+pub mod MarkedSteps

@@ -14,7 +14,7 @@ use Rattle.fst_process.specs.Kept.{put_at}
 use Rattle.fst_process.specs.KeptOf.{at_path, listed}
 use Rattle.fst_process.specs.Listed.{AreInOrder}
 use Rattle.fst_process.specs.Marks.{marks_at, AreOnce, AreMarks}
-use Rattle.fst_process.specs.Marking.{MarkLists, marks_in, tasks_of, with_mark}
+use Rattle.fst_process.specs.Marking.{MarkLists, marks_in, tasks_of, with_marks}
 use Rattle.fst_process.proofs.Tables.{at_same, same_key, found_after, put_mapped}
 use Rattle.fst_process.proofs.ReportLists.{AreBehind, in_order}
 use Rattle.fst_process.proofs.NoteLaws.{same_path-swapped}
@@ -52,11 +52,11 @@ pub are_marks : (es : MarkLists) (ts : List TaskMarks) (f : Path → List Mark) 
 are_marks es ts f o is e =
     subst (λ us. AreMarks us f) (sym is) (record { once = once es o; are = λ p. found es p ∙ e p })
 
--- a map in which a path has one mark more
-pub mark_after : (p q : Path) (x : Mark) (old new : MarkLists) (w : Vec Mark Global) → q ≡ p →
-    w.items ≡ marks_in old p ++ x ∷ [] → lookup (at_path q) new ≡ Some w → KeepsOthers same_key (at_path q) old new →
-    marks_in new ≡ with_mark p x (marks_in old)
-mark_after p q x old new w is more here others = λ i o.
+-- a map in which a path has more marks
+pub marks_after : (p q : Path) (xs : List Mark) (old new : MarkLists) (w : Vec Mark Global) → q ≡ p →
+    w.items ≡ marks_in old p ++ xs → lookup (at_path q) new ≡ Some w → KeepsOthers same_key (at_path q) old new →
+    marks_in new ≡ with_marks p xs (marks_in old)
+marks_after p q xs old new w is more here others = λ i o.
     (ap listed (found_after q old new (Some w) here others o)
     ∙ put_mapped listed q (Some w) (λ r. lookup (at_path r) old) o
     ∙ (λ j. put_at (is j) (more j) (marks_in old) o)) i

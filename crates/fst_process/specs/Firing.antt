@@ -89,6 +89,14 @@ pub record HasGoneOn (k : Code) (p : Path) (a : Answer) (n : ℕ) (d e : Kept) :
   pub moves_on : MovesOn k a n slot now
   pub after : e ≡ settled_at (length k.types.items) p now (without p d)
 
+-- the task with this path has stepped so many times, as it asked to, and what it asks for then is noted
+pub record HasStepped (k : Code) (p : Path) (i : ℕ) (d e : Kept) : Type 0 where
+  pub slot : Slot
+  pub there : d.tasks p ≡ Some slot
+  pub now : Slot
+  pub steps : StepsOn k i slot now
+  pub after : e ≡ settled_at (length k.types.items) p now (without p d)
+
 -- the code is that of a module whose first configuration is right
 pub record CanStart (k : Code) : Type 0 where
   pub source : Module

@@ -1,5 +1,5 @@
 -- How marks are kept, and what an event adds to them.
-use Rattle.std.specs.Prelude.{◌≡◌, ◌++◌, ℕ, List, [], ◌∷◌}
+use Rattle.std.specs.Prelude.{◌≡◌, ◌+◌, ◌++◌, ℕ, zero, suc, List, [], ◌∷◌}
 use Rattle.std.specs.Map.{lookup}
 use Rattle.std.specs.declared.alloc.Global.{Global}
 use Rattle.std.specs.declared.vec.Vec.{Vec}
@@ -9,6 +9,7 @@ use Rattle.fst_runs.specs.declared.event.CoreEvent.{CoreEvent}
 use Rattle.fst_runs.specs.Configs.{Path, Config, program}
 use Rattle.fst_runs.specs.Events.{Write, Does}
 use Rattle.fst_runs.specs.Notes.{notes, entries_at}
+use Rattle.fst_process.specs.declared.marks.Done.TheVariants.{Local}
 use Rattle.fst_process.specs.declared.marks.Mark.{Mark}
 use Rattle.fst_process.specs.declared.marks.TaskMarks.{TaskMarks}
 use Rattle.fst_process.specs.Kept.{Kept, put_at}
@@ -30,9 +31,18 @@ abbrev pub tasks_of : MarkLists → List TaskMarks
 tasks_of [] = []
 tasks_of (e ∷ es) = record { path = e.0.items; marks = e.1 } ∷ tasks_of es
 
+-- a task has these marks more
+abbrev pub with_marks : Path → List Mark → (Path → List Mark) → Path → List Mark
+with_marks p xs f = put_at p (f p ++ xs) f
+
 -- a task has one mark more
 abbrev pub with_mark : Path → Mark → (Path → List Mark) → Path → List Mark
-with_mark p x f = put_at p (f p ++ x ∷ []) f
+with_mark p x f = with_marks p (x ∷ []) f
+
+-- the marks of so many steps, one after the other, of a task with this clock
+abbrev pub step_marks : ℕ → ℕ → List Mark
+step_marks clock zero = []
+step_marks clock (suc i) = step_marks clock i ++ record { done = Local; stamp = suc (clock + i) } ∷ []
 
 -- the event is possible in what is kept, with some code
 abbrev pub CanHappen : Kept → CoreEvent → Type 0

@@ -1,14 +1,14 @@
-ghost use Rattle.std.specs.Prelude.{◌≡◌, ◌<◌, ◌≤◌, true, Some, IfOk, OnOk, suc, max};
+ghost use Rattle.std.specs.Prelude.{◌≡◌, ◌+◌, ◌<◌, ◌≤◌, true, Some, IfOk, OnOk, suc, max};
 ghost use Rattle.std.specs.Option.{option_copied};
 ghost use Rattle.fst_lts.specs.Histories.{last_stamp};
 ghost use Rattle.fst_vm.specs.Tasks.{HasNext};
 ghost use Rattle.fst_runs.specs.Configs.{channel_name};
 ghost use Rattle.fst_process.specs.Kept.{nothing, is_live, partner, changed, added, opened, passed};
 ghost use Rattle.fst_process.specs.KeptOf.{kept_of, slot_of, slot_in, channel_of};
-ghost use Rattle.fst_process.specs.Firing.{Settles, CanGoOn, HasGoneOn, CanStart, IsBegun};
+ghost use Rattle.fst_process.specs.Firing.{Settles, CanGoOn, HasGoneOn, HasStepped, CanStart, IsBegun};
 ghost use Rattle.fst_process.specs.Nexts.{event_with, event_of, IsNext, TellsMoving};
 ghost use Rattle.fst_process.specs.Reports.{IsConfig, IsReported};
-ghost use Rattle.fst_process.specs.Runs.{CanRunFrom, RunsTo};
+ghost use Rattle.fst_process.specs.Runs.{CanRunFrom};
 
 use crate::kept::{
     Channel, EndedTask, Slot, has_ended, last_among, move_on, partner_among, record_among, step_on,
@@ -275,15 +275,23 @@ impl Config {
         }
     }
 
-    /// Has the first task that can move step as often as it asks to, until there are more events than these. Each step is counted.
-    pub(crate) fn step_on(&mut self, code: &Code, path: &Path, steps: u64) -> Result<(), AllocError>
+    /// Has the first task that can move step as often as it asks to, until there are more events than these, and answers how often
+    /// that was. Each step is counted.
+    pub(crate) fn step_on(
+        &mut self,
+        code: &Code,
+        path: &Path,
+        steps: u64,
+    ) -> Result<u64, AllocError>
         requires first { IsNext (kept_of self.old) (Some (CoreEvent.Local path.now)) }
         requires right { ∥ CanRunFrom code.now self.old.events (kept_of self.old) ∥₁ }
         requires few { steps < 4294967295 }
         requires more { self.old.events ≤ steps }
-        ensures runs { OnOk result (RunsTo code.now self.old.events (kept_of self.old)
-            self.new.events (kept_of self.new)) }
-        ensures some { OnOk result (self.old.events < self.new.events) }
+        ensures steps { IfOk result (λ i. HasStepped code.now path.now i (kept_of self.old)
+            (kept_of self.new)) }
+        ensures counted { IfOk result (λ i. self.new.events ≡ self.old.events + i) }
+        ensures some { IfOk result (λ i. 0 < i) }
+        ensures most { IfOk result (λ i. i ≤ steps + 1) }
     {
         match self.tasks.get_mut(path.as_slice()) {
             Some(slot) => {
@@ -298,9 +306,10 @@ impl Config {
                 )?;
                 self.events += count;
                 if has_ended(&slot.request) {
-                    return self.set_aside(path);
+                    self.set_aside(path)?;
+                    return Ok(count);
                 }
-                Ok(())
+                Ok(count)
             }
             None => unreachable!(),
         }

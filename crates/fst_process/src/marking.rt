@@ -1,11 +1,11 @@
-ghost use Rattle.std.specs.Prelude.{◌≡◌, ◌<◌, true, Some, suc, IfOk, OnOk};
+ghost use Rattle.std.specs.Prelude.{◌≡◌, ◌+◌, ◌++◌, ◌^◌, ◌<◌, true, Some, suc, IfOk, OnOk};
 ghost use Rattle.fst_process.specs.Kept.{is_live};
 ghost use Rattle.fst_process.specs.KeptOf.{kept_of};
 ghost use Rattle.fst_process.specs.Listed.{AreInOrder};
 ghost use Rattle.fst_process.specs.Firing.{IsPossible};
 ghost use Rattle.fst_process.specs.Runs.{CanRunFrom};
 ghost use Rattle.fst_process.specs.Marks.{IsMarkedOutcomeFrom};
-ghost use Rattle.fst_process.specs.Marking.{marks_in, tasks_of, with_mark, CanHappen, AddsMarks};
+ghost use Rattle.fst_process.specs.Marking.{marks_in, step_marks, tasks_of, with_mark, with_marks, CanHappen, AddsMarks};
 
 use crate::config::Config;
 use crate::kept::opposite;
@@ -36,6 +36,44 @@ fn add_mark(
             let key = Vec::from_slice(alloc, path.as_slice())?;
             let mut marks = Vec::new(alloc);
             marks.push(mark)?;
+            all.insert(key, marks)?;
+            Ok(())
+        }
+    }
+}
+
+// Adds the marks of so many steps of a task with this clock.
+fn push_steps(marks: &mut Vec<Mark>, clock: u64, count: u64) -> Result<(), AllocError>
+    requires { clock + count < 2 ^ 64 }
+    ensures { OnOk result (marks.new.items ≡ marks.old.items ++ step_marks clock count) }
+{
+    for i in 0..count {
+        marks.push(Mark {
+            done: Done::Local,
+            stamp: clock + i + 1,
+        })?;
+    }
+    Ok(())
+}
+
+// Adds them to those of the task with this path.
+fn add_steps(
+    alloc: Global,
+    all: &mut BTreeMap<Vec<u32>, Vec<Mark>>,
+    path: &Path,
+    clock: u64,
+    count: u64,
+) -> Result<(), AllocError>
+    requires { clock + count < 2 ^ 64 }
+    ensures { OnOk result (marks_in all.new.entries ≡
+        with_marks path.now (step_marks clock count) (marks_in all.old.entries)) }
+{
+    match all.get_mut(path.as_slice()) {
+        Some(marks) => push_steps(marks, clock, count),
+        None => {
+            let key = Vec::from_slice(alloc, path.as_slice())?;
+            let mut marks = Vec::new(alloc);
+            push_steps(&mut marks, clock, count)?;
             all.insert(key, marks)?;
             Ok(())
         }
@@ -156,8 +194,7 @@ impl Config {
 }
 
 /// What the least run from a configuration comes to, as `run_from` says, and what tasks do in it: each task that does something,
-/// in the order of their paths. Each event is fired by itself, so that many steps take longer than by `run_from`. Where memory is
-/// wanting, the configuration is dropped.
+/// in the order of their paths. Where memory is wanting, the configuration is dropped.
 pub fn run_marked(
     alloc: Global,
     mut config: Config,
@@ -172,6 +209,11 @@ pub fn run_marked(
     let mut marks = BTreeMap::new(alloc);
     while config.events <= steps {
         match config.next()? {
+            Some(CoreEvent::Local(path)) => {
+                let clock = config.slot(&path).clock;
+                let count = config.step_on(code, &path, steps)?;
+                add_steps(alloc, &mut marks, &path, clock, count)?;
+            }
             Some(event) => {
                 config.mark(code, &mut marks, &event)?;
                 config.fire(code, &event)?;

@@ -29,7 +29,9 @@ pub fn run_from(mut config: Config, code: &Code, steps: u64) -> Result<Outcome, 
 {
     while config.events <= steps {
         match config.next()? {
-            Some(CoreEvent::Local(path)) => config.step_on(code, &path, steps)?,
+            Some(CoreEvent::Local(path)) => {
+                config.step_on(code, &path, steps)?;
+            }
             Some(event) => config.fire(code, &event)?,
             None => {
                 let report = config.report()?;

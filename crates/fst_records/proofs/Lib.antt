@@ -41,3 +41,4 @@ pub mod Latest
 pub mod Collecting
 pub mod Gathering
 pub mod NameOrder
+pub mod Laws

@@ -17,7 +17,7 @@ use Rattle.fst_safety.specs.Safety.{IsSafeAt, StaysSafe}
 use Rattle.fst_runs.specs.Logs.{Birth}
 use Rattle.fst_records.specs.Records.{Course, config_of, FitsRecord}
 use Rattle.fst_records.specs.Growing.{events_of, StaysFine, IsRecordOf}
-use Rattle.fst_records.proofs.AlongRuns.{runs}
+use Rattle.fst_records.proofs.Laws.{runs}
 use Rattle.fst_worker.specs.Events.{IsRecordAnswer, AnswerLaw}
 
 -- ---- answers

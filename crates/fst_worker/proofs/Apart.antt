@@ -15,8 +15,7 @@ use Rattle.fst_safety.specs.Threads.{Thread, FitsIn}
 use Rattle.fst_safety.specs.Turns.{of_ends, by_type}
 use Rattle.fst_worker.specs.Works.{IsRun, course_of, opens}
 use Rattle.fst_worker.specs.Pairs.{AreApart}
-use Rattle.fst_records.proofs.Paths.{IsLed, paths_once, names_once}
-use Rattle.fst_records.proofs.Sums.{sum_same}
+use Rattle.fst_records.proofs.Laws.{IsLed, paths_once, names_once, sum_same}
 use Rattle.fst_worker.proofs.Sides.{by_side}
 
 module _ (m : Surroundings) (a : Tree) (main : Birth) (xs : List Thread) (run : IsRun m a main xs) where

@@ -35,8 +35,7 @@ use Rattle.fst_worker.proofs.Partners.{counted, in_bag}
 use Rattle.fst_worker.proofs.Shown.{shown_more}
 use Rattle.fst_worker.proofs.Shutting.{IsBehind, EndsPass, settled, by_histories, are_opened, all_histories, all_settled, all_behind, idle_level, lacking_waits}
 use Rattle.fst_worker.proofs.Standing.{as_closed, all_as_closed, waits_so}
-use Rattle.fst_records.proofs.Sums.{exchanges_more, births_more, openings_more, some_in, sum_none, sum_both}
-use Rattle.fst_records.proofs.Tests.{end_or, end_counts, there_sums}
+use Rattle.fst_records.proofs.Laws.{exchanges_more, births_more, openings_more, some_in, sum_none, sum_both, end_or, end_counts, there_sums}
 
 -- ---- what is told
 

@@ -23,11 +23,9 @@ use Rattle.fst_runs.specs.Least.{IsBefore, TakesPart, CanMove, IsLeast}
 use Rattle.fst_runs.specs.Logs.{Birth}
 use Rattle.fst_runs.specs.Wrong.{IsRight}
 use Rattle.fst_runs.proofs.Laws.{same_end-same, same_end-itself, right_there, right_meets, not_both}
-use Rattle.fst_process.proofs.Nexts.{step_next, new_next, fork_next}
-use Rattle.fst_process.proofs.PathLaws.{other-twice}
+use Rattle.fst_process.proofs.Laws.{other-twice, step_next, new_next, fork_next}
 use Rattle.fst_records.specs.Records.{Course, FitsRecord, config_of}
-use Rattle.fst_records.proofs.Entries.{corresponds}
-use Rattle.fst_records.proofs.Found.{has_task, task_there}
+use Rattle.fst_records.proofs.Laws.{corresponds, has_task, task_there}
 use Rattle.fst_safety.specs.Sound.{IsSound}
 use Rattle.fst_safety.specs.WellTyped.{IsWellTyped, program_in}
 use Rattle.fst_safety.proofs.Laws.{is_declared, pause_goes, same_asks, sound_right}

@@ -48,7 +48,7 @@ use Rattle.fst_worker.proofs.AlongRuns.{record_answers}
 use Rattle.fst_worker.proofs.Ended as ended
 use Rattle.fst_worker.proofs.Ordering.{in_order}
 use Rattle.fst_worker.proofs.Resuming.{resumes}
-use Rattle.fst_records.proofs.Stamping.{stamps}
+use Rattle.fst_records.proofs.Laws.{stamps}
 use Rattle.fst_worker.proofs.Telling.{joins}
 
 -- ---- tasks and their threads

@@ -29,7 +29,7 @@ use Rattle.fst_worker.specs.Shares.{AreKept, Crew, HasAsked, IsCrew, IsIdle, IsO
 use Rattle.fst_worker.specs.Passes.{AsksMore, CanRun, IsAt, Ran, Runs, StepsAt, TurnedAt, TurnsAt, clock_at, is_move, noted}
 use Rattle.fst_worker.proofs.Chains.{went_none, went_then, went_step}
 use Rattle.fst_worker.proofs.Crews.{All-first, kept_length}
-use Rattle.fst_records.proofs.Sums.{sum_none}
+use Rattle.fst_records.proofs.Laws.{sum_none}
 use Rattle.fst_worker.proofs.Wholes.{went_fits}
 
 -- ---- clocks

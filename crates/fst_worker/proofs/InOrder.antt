@@ -22,11 +22,10 @@ use Rattle.fst_safety.specs.Threads.{count_of}
 use Rattle.fst_worker.specs.Pairs.{IsOnePair}
 use Rattle.fst_worker.specs.Records.{Pair, IsShut, Pooled, Closable}
 use Rattle.fst_worker.specs.Closing.{name_cmp, channel_cmp, names_of, AreOfRun, IsClosedTo}
-use Rattle.fst_records.proofs.NameOrder.{IsUpTo, apart_less, name_total, rising_more, up_to}
+use Rattle.fst_records.proofs.Laws.{IsUpTo, apart_less, name_total, rising_more, up_to, end_or, end_counts, there_sums}
 use Rattle.fst_worker.proofs.Partners.{counted}
 use Rattle.fst_worker.proofs.Apart.{ends_once}
 use Rattle.fst_worker.proofs.Pools.{pools}
-use Rattle.fst_records.proofs.Tests.{end_or, end_counts, there_sums}
 
 -- ---- ends in order
 

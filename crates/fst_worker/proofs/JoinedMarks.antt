@@ -16,9 +16,7 @@ use Rattle.fst_process.specs.KeptOf.{at_path, listed}
 use Rattle.fst_process.specs.Listed.{AreInOrder}
 use Rattle.fst_process.specs.Marks.{marks_at, AreOnce, AreMarks}
 use Rattle.fst_process.specs.Marking.{MarkLists, marks_in, tasks_of}
-use Rattle.fst_process.proofs.MarkLists.{are_marks}
-use Rattle.fst_process.proofs.NoteLaws.{same_path-swapped}
-use Rattle.fst_process.proofs.Tables.{Key, found_after, put_mapped}
+use Rattle.fst_process.proofs.Laws.{Key, are_marks, found_after, put_mapped, same_path-swapped}
 use Rattle.fst_worker.specs.Marking.{one_at, all_at}
 
 -- a map that has these marks behind its own at the path of a task

@@ -24,10 +24,7 @@ use Rattle.fst_process.specs.declared.report.Report.{Report}
 use Rattle.fst_process.specs.Reports.{IsReport, IsAnswer}
 use Rattle.fst_records.specs.Records.{Course, FitsRecord, IsLogged, IsRecorded, config_of, main_birth}
 use Rattle.fst_records.specs.Growing.{IsFine, IsRecordOf, events_of}
-use Rattle.fst_records.proofs.AlongRuns.{extends}
-use Rattle.fst_records.proofs.Collecting.{has_events}
-use Rattle.fst_records.proofs.Counts.{as_many}
-use Rattle.fst_records.proofs.Sorting.{sorted_run}
+use Rattle.fst_records.proofs.Laws.{extends, has_events, as_many, sorted_run}
 use Rattle.fst_safety.specs.Sound.{IsSound}
 use Rattle.fst_safety.specs.WellTyped.{IsWellTyped, program_in}
 use Rattle.fst_safety.proofs.Laws.{checked, does_sound, one_end, sound_right, start_sound}

@@ -24,14 +24,10 @@ use Rattle.fst_process.specs.declared.report.Report.{Report}
 use Rattle.fst_process.specs.KeptOf.{kept_of}
 use Rattle.fst_process.specs.Marks.{AreMarks, AreOnce, IsMarkedFrom, IsMarkedOutcomeFrom, forked_by, forks_behind, marks_at, marks_from}
 use Rattle.fst_process.specs.Reports.{IsReport}
-use Rattle.fst_process.proofs.MarkLaws.{marks_from-append}
+use Rattle.fst_process.proofs.Laws.{marks_from-append}
 use Rattle.fst_records.specs.Growing.{IsRecordOf, IsWithin, events_of}
 use Rattle.fst_records.specs.Records.{Course, IsLogged, config_of, log_of, main_birth, task_of}
-use Rattle.fst_records.proofs.AlongRuns.{runs}
-use Rattle.fst_records.proofs.Found.{on_path}
-use Rattle.fst_records.proofs.Paths.{paths_once}
-use Rattle.fst_records.proofs.Stamping.{stamps}
-use Rattle.fst_records.proofs.Tests.{path_counts}
+use Rattle.fst_records.proofs.Laws.{runs, on_path, paths_once, stamps, path_counts}
 use Rattle.fst_safety.specs.Safety.{IsSafeAt}
 use Rattle.fst_worker.specs.declared.ending.TaskLog.{TaskLog}
 use Rattle.fst_worker.specs.declared.finishing.Settled.{Settled}

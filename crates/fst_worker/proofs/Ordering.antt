@@ -23,16 +23,11 @@ use Rattle.fst_worker.specs.Works.{course_of, opens}
 use Rattle.fst_worker.specs.Records.{Pair, IsOver, histories_of}
 use Rattle.fst_worker.specs.Closing.{name_cmp, names_of}
 use Rattle.fst_worker.specs.Resumes.{OrderLaw}
-use Rattle.fst_records.proofs.Counting.{opened_in}
+use Rattle.fst_records.proofs.Laws.{opened_in, on_path, on_name, counts_rise, paths_once, some_in, channel_counts, there_sums}
 use Rattle.fst_worker.proofs.Ended.{histories_same}
-use Rattle.fst_records.proofs.Found.{on_path, on_name}
-use Rattle.fst_records.proofs.NameOrder.{counts_rise}
-use Rattle.fst_records.proofs.Paths.{paths_once}
 use Rattle.fst_worker.proofs.Mapped.{sum_mapped, mapped_in}
 use Rattle.fst_worker.proofs.Resuming.{made_is}
 use Rattle.fst_worker.proofs.Shutting.{are_opened}
-use Rattle.fst_records.proofs.Sums.{some_in}
-use Rattle.fst_records.proofs.Tests.{channel_counts, there_sums}
 
 -- the number of a channel
 abbrev number : ChannelHistory → ℕ

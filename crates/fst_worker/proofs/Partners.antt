@@ -22,8 +22,7 @@ use Rattle.fst_safety.specs.Turns.{of_ends, by_type, by_cell}
 use Rattle.fst_worker.specs.Works.{IsRun}
 use Rattle.fst_worker.specs.Pairs.{HasEnd, IsOnePair, ArePaired}
 use Rattle.fst_worker.proofs.Apart.{ends_once}
-use Rattle.fst_records.proofs.Sums.{sum_same}
-use Rattle.fst_records.proofs.Tests.{end_or, end_counts, one_by}
+use Rattle.fst_records.proofs.Laws.{sum_same, end_or, end_counts, one_by}
 use Rattle.fst_worker.proofs.Sides.{by_side, by_sides}
 
 -- an end, by its name

@@ -21,7 +21,7 @@ use Rattle.fst_worker.specs.Records.{Pair, IsShut, Pooled, Closable}
 use Rattle.fst_worker.specs.Laws.{PoolLaw}
 use Rattle.fst_worker.proofs.Partners.{counted, others_count, pair_of, split_of}
 use Rattle.fst_worker.proofs.Apart.{ends_once}
-use Rattle.fst_records.proofs.Tests.{end_counts}
+use Rattle.fst_records.proofs.Laws.{end_counts}
 
 -- an end isn't the other end of its channel
 not_other : (b : Bool) (s : Side) → once (b && same_side (opposite s) s) ≡ 0

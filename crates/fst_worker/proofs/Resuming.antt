@@ -28,13 +28,9 @@ use Rattle.fst_records.specs.Entries.{part_at}
 use Rattle.fst_records.specs.Records.{Course, FitsRecord, IsLogged, opens, task_of, config_of}
 use Rattle.fst_worker.specs.Works.{course_of}
 use Rattle.fst_worker.specs.Resumes.{GoesRight, AreTasksOf, ClocksWithin, ResumeLaw}
-use Rattle.fst_records.proofs.Dated.{StampedBy, stamped_by, of_maker, others_made, own_made}
-use Rattle.fst_records.proofs.Entries.{corresponds}
-use Rattle.fst_records.proofs.Found.{on_path, has_task, task_there, on_name, channel_of, channel_there}
+use Rattle.fst_records.proofs.Laws.{StampedBy, stamped_by, of_maker, others_made, own_made, corresponds, on_path, has_task, task_there, on_name, channel_of, channel_there, none_sum, path_or, path_counts, there_sums}
 use Rattle.fst_worker.proofs.Rights.{goes_right}
-use Rattle.fst_records.proofs.Sums.{none_sum}
 use Rattle.fst_worker.proofs.Telling.{record_moved, joins}
-use Rattle.fst_records.proofs.Tests.{path_or, path_counts, there_sums}
 
 -- ---- counts
 

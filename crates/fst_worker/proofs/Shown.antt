@@ -8,7 +8,7 @@ use Rattle.fst_cell.specs.End.{EndView, end_name, residual_of}
 use Rattle.fst_runs.specs.Logs.{Exchange, part_in}
 use Rattle.fst_safety.specs.Threads.{shown}
 use Rattle.fst_records.specs.Records.{shown_of}
-use Rattle.fst_records.proofs.Shown.{parts_push}
+use Rattle.fst_records.proofs.Laws.{parts_push}
 use Rattle.fst_worker.specs.Records.{lag_by}
 
 -- where the entry is one that the end sends, it is its part

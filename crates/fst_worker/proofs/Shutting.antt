@@ -28,10 +28,8 @@ use Rattle.fst_safety.specs.Threads.{Thread, FitsIn, FitsEnd, IsSpent}
 use Rattle.fst_safety.specs.Turns.{of_ends, on_side, by_type}
 use Rattle.fst_worker.specs.Works.{opens}
 use Rattle.fst_worker.specs.Records.{Pair, IsShut, IsOver, Paired, histories_of, missing, IsTrailing}
-use Rattle.fst_records.proofs.EventCode.{event_code}
+use Rattle.fst_records.proofs.Laws.{event_code, sum_none, none_in_sum, channel_counts, there_sums, same_by, same_by-itself, same_by-same}
 use Rattle.fst_worker.proofs.Apart.{channels_once}
-use Rattle.fst_records.proofs.Sums.{sum_none, none_in_sum}
-use Rattle.fst_records.proofs.Tests.{channel_counts, there_sums, same_by, same_by-itself, same_by-same}
 
 -- ---- one end
 

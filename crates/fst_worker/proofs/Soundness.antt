@@ -33,13 +33,9 @@ use Rattle.fst_lts.proofs.Laws.{dual_session}
 use Rattle.fst_safety.proofs.Laws.{there, equals_back, equals_itself, session_formed, session_step, Still, typed_still, ended_equal, sides_from, trace_from}
 use Rattle.fst_worker.specs.Works.{IsRun, IsKnownIn, course_of, bears, opens}
 use Rattle.fst_records.specs.Records.{Course, FitsRecord, IsRecorded, config_of, opens as course_opens}
-use Rattle.fst_records.proofs.Counting.{IsMadeBy, forked_by, opened_in}
-use Rattle.fst_records.proofs.Found.{on_path, has_task, task_there, on_name, channel_of, has_channel}
-use Rattle.fst_records.proofs.Paths.{at_path, main_not, paths_once}
+use Rattle.fst_records.proofs.Laws.{IsMadeBy, forked_by, opened_in, on_path, has_task, task_there, on_name, channel_of, has_channel, at_path, main_not, paths_once, some_in, sum_same, path_counts, channel_counts, there_sums}
 use Rattle.fst_worker.proofs.Apart.{ends_once}
 use Rattle.fst_worker.proofs.Mapped.{sum_mapped, mapped_in, mapped_from}
-use Rattle.fst_records.proofs.Sums.{some_in, sum_same}
-use Rattle.fst_records.proofs.Tests.{path_counts, channel_counts, there_sums}
 use Rattle.fst_worker.proofs.Sides.{by_side}
 
 -- ---- session types

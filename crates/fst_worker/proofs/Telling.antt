@@ -39,10 +39,9 @@ use Rattle.fst_worker.specs.Laws.{Finishes}
 use Rattle.fst_worker.specs.Configs.{Stayed, Told, AreTold, AreSame, SoundLaw}
 use Rattle.fst_worker.proofs.Catching.{IsHere, all_here, spent_level, sent_at, late, others, finishes}
 use Rattle.fst_worker.proofs.Chains.{went_none, went_step, went_both}
-use Rattle.fst_records.proofs.Found.{on_name, channel_of, channel_there}
+use Rattle.fst_records.proofs.Laws.{on_name, channel_of, channel_there, same_by, same_by-itself, same_by-same}
 use Rattle.fst_worker.proofs.Shutting.{EndsPass, IsBehind, ends_pass, of_channel, by_histories, here, names_once, all_behind}
 use Rattle.fst_worker.proofs.Soundness.{residual_at, IsLevel, AreLevel, trace_of, is_sound}
-use Rattle.fst_records.proofs.Tests.{same_by, same_by-itself, same_by-same}
 use Rattle.fst_worker.proofs.Wholes.{went_fits, went_whole}
 
 -- ---- lists

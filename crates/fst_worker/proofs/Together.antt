@@ -19,7 +19,7 @@ use Rattle.fst_worker.proofs.Chains.{went_none, went_both}
 use Rattle.fst_worker.proofs.Crews.{All-first, All-behind, AreManned, crew_kept, crews_kept, crews_of, kept_all, kept_length, kept_sum}
 use Rattle.fst_worker.proofs.Goes.{clock_there, kept_clock}
 use Rattle.fst_worker.proofs.Passing.{crew_same}
-use Rattle.fst_records.proofs.Sums.{sum_both}
+use Rattle.fst_records.proofs.Laws.{sum_both}
 
 -- ---- one share
 

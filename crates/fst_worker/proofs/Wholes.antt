@@ -18,7 +18,7 @@ use Rattle.fst_runs.specs.Logs.{Birth, Exchange, Opening, births, exchanges, ope
 use Rattle.fst_safety.specs.Threads.{Thread, FitsIn, count_of}
 use Rattle.fst_safety.specs.Turns.{Turn, AreKnownSpent, of_ends, by_type, by_cell, by_exchanges, birth}
 use Rattle.fst_worker.specs.Works.{Step, Turns, Went, Whole, IsKnownIn, bears, opens, trades}
-use Rattle.fst_records.proofs.Sums.{exchanges_more, births_more, openings_more, sum_none}
+use Rattle.fst_records.proofs.Laws.{exchanges_more, births_more, openings_more, sum_none}
 
 -- how often an end is among the spent ones of a thread
 abbrev spent_in : EndName → Thread → ℕ

@@ -40,8 +40,8 @@ abbrev pub IsWorkedOut : Code → ℕ → Outcome → Type 0
 IsWorkedOut k steps o = (d : CanBegin k) → IsAnswer k.module.value d.main steps o
 
 -- the report of a record that fits the module, has at most so many events and allows no other, or that one that fits has more
-abbrev pub IsRecorded : Code → ℕ → Outcome → Type 0
-IsRecorded k steps o = (d : CanBegin k) →
+abbrev pub IsOnRecord : Code → ℕ → Outcome → Type 0
+IsOnRecord k steps o = (d : CanBegin k) →
     IsRecordAnswer k.module.value (main_birth d.main) steps o
 
 -- a record that fits the module, is safe, allows no other event and has at most so many, with this report and these marks

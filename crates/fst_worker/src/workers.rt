@@ -2,7 +2,7 @@
 
 ghost use Rattle.std.specs.Prelude.{◌<◌, ◌≤◌, ◌++◌, IfOk};
 ghost use Rattle.fst_safety.specs.Tasks.{CanBegin};
-ghost use Rattle.fst_worker.specs.Working.{IsLoggedOut, IsRecorded, IsWholeRun, IsWorkedOut};
+ghost use Rattle.fst_worker.specs.Working.{IsLoggedOut, IsOnRecord, IsWholeRun, IsWorkedOut};
 
 use crate::dealing::{deal, gather};
 use crate::finishing::{finish, finish_logged};
@@ -54,13 +54,14 @@ pub fn run_workers<R: Threads + Sync, G: Gate + Sync>(
     requires workers { 0 < workers }
     requires right { CanBegin code.now }
     ensures answer { IfOk result (IsWorkedOut code.now steps) }
-    ensures recorded { IfOk result (IsRecorded code.now steps) }
+    ensures recorded { IfOk result (IsOnRecord code.now steps) }
 {
     let tasks = all_rounds(rt, alloc, code, steps, workers as usize, gate)?;
     finish(alloc, code, tasks, steps)
 }
 
-/// The same, with the marks of what the tasks have done: those of the logs of the record whose report it is.
+/// The same, with the marks of what the tasks have done: those of the logs of the record whose report it is. With one worker there
+/// are no rounds.
 pub fn run_logged<R: Threads + Sync, G: Gate + Sync>(
     rt: &R,
     alloc: Global,
@@ -74,8 +75,38 @@ pub fn run_logged<R: Threads + Sync, G: Gate + Sync>(
     requires right { CanBegin code.now }
     ensures { IfOk result (IsLoggedOut code.now steps) }
 {
-    let tasks = all_rounds(rt, alloc, code, steps, workers as usize, gate)?;
+    let tasks = logged_rounds(rt, alloc, code, steps, workers as usize, gate)?;
     finish_logged(alloc, code, tasks, steps)
+}
+
+// The task of `main` alone.
+fn first_task(alloc: Global, code: &Code) -> Result<Vec<TypedTask>, AllocError>
+    requires { CanBegin code.now }
+    ensures { IfOk result (λ ts. IsWholeRun code.now ts.items) }
+{
+    let mut tasks = Vec::new(alloc);
+    tasks.push(TypedTask::start(alloc, code)?)?;
+    Ok(tasks)
+}
+
+// The tasks after the last round. For one worker there is none: the machine marks what happens without a log.
+fn logged_rounds<R: Threads + Sync, G: Gate + Sync>(
+    rt: &R,
+    alloc: Global,
+    code: &Code,
+    steps: u64,
+    workers: usize,
+    gate: &G,
+) -> Result<Vec<TypedTask>, AllocError>
+    requires few { steps < 4294967295 }
+    requires workers { 0 < workers }
+    requires right { CanBegin code.now }
+    ensures { IfOk result (λ ts. IsWholeRun code.now ts.items) }
+{
+    if workers == 1 {
+        return first_task(alloc, code);
+    }
+    all_rounds(rt, alloc, code, steps, workers, gate)
 }
 
 // The tasks after the last round.
@@ -92,8 +123,7 @@ fn all_rounds<R: Threads + Sync, G: Gate + Sync>(
     requires right { CanBegin code.now }
     ensures { IfOk result (λ ts. IsWholeRun code.now ts.items) }
 {
-    let mut tasks = Vec::new(alloc);
-    tasks.push(TypedTask::start(alloc, code)?)?;
+    let mut tasks = first_task(alloc, code)?;
     let mut ended = Vec::new(alloc);
     let mut so_far = Progress::start();
     let mut is_first = true;

@@ -1,7 +1,9 @@
-use Rattle.std.proofs.Common.{◌<◌, subst, sym, arith}
+use Rattle.std.proofs.Common.{◌<◌, Some, subst, sym, arith}
 use Rattle.std.proofs.Math.Logic.{∥∥₁_map}
 use Rattle.fst_process.specs.KeptOf.{kept_of}
 use Rattle.fst_process.specs.Nexts.{IsNext}
+use Rattle.fst_process.specs.Runs.{RunsTo}
+use Rattle.fst_process.proofs.Alone.{steps_first, stepped_to}
 use Rattle.fst_process.proofs.Running.{kept_first, possible_next, kept_next, kept_then, can_run_on, answers_done, answers_out, some_config}
 use Rattle.fst_process.proofs.run.run_from.Goals as goal
 
@@ -15,9 +17,15 @@ step_on-requires-clause-right c =
 
 pub loop-config-preserved-in-Some-Local : goal.loop-config-preserved-in-Some-Local
 loop-config-preserved-in-Some-Local c =
-    kept_then c.args.code.now c.args.config.events (kept_of c.args.config) c.loop-config.config.events
-    c.step_on.new.self.events (kept_of c.loop-config.config) (kept_of c.step_on.new.self) c.loop-config.invariant
-    c.in_ok-step_on-in-Some-Local.ensures.runs
+    let now = kept_of c.loop-config.config in
+    let n = c.loop-config.config.events in
+    let said = c.in_ok-step_on-in-Some-Local.ensures in
+    let x = steps_first now c.in-Some-Local.path (subst (λ e. IsNext now (Some e)) c.in-Some-Local.field-0-is
+    (subst (IsNext now) c.in-Some-Local.is c.in_ok-path.ensures)) in
+    let steps = stepped_to c.args.code.now now c.in-Some-Local.path n x _ (kept_of c.step_on.new.self) said.steps in
+    kept_then c.args.code.now c.args.config.events (kept_of c.args.config) n c.step_on.new.self.events now
+    (kept_of c.step_on.new.self) c.loop-config.invariant
+    (subst (λ l. RunsTo c.args.code.now n now l (kept_of c.step_on.new.self)) (sym said.counted) steps)
 
 pub fire-requires-clause-possible : goal.fire-requires-clause-possible
 fire-requires-clause-possible c =

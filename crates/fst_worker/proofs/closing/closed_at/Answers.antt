@@ -4,7 +4,7 @@ use Rattle.std.proofs.lemmas.Fn.{always_returns_same}
 use Rattle.std.proofs.lemmas.List.Sorted.{searchable_from_sorted}
 use Rattle.fst_cell.specs.declared.answers.Closed.{Closed}
 use Rattle.fst_worker.specs.Closing.{name_cmp}
-use Rattle.fst_records.proofs.NameOrder.{apart_less, apart_greater, name_same, name_total, sorted_by_name}
+use Rattle.fst_records.proofs.Laws.{apart_less, apart_greater, name_same, name_total, sorted_by_name}
 use Rattle.fst_worker.proofs.closing.closed_at.Goals as goal
 
 pub returns-in-Ok : goal.returns-in-Ok

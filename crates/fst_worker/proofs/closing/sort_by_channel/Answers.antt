@@ -5,7 +5,7 @@ use Rattle.std.proofs.lemmas.List.Sorted.{answers_always}
 use Rattle.std.proofs.lemmas.Result.{on_ok_weaker}
 use Rattle.fst_cell.specs.End.{EndView}
 use Rattle.fst_worker.specs.Closing.{channel_cmp}
-use Rattle.fst_records.proofs.NameOrder.{name_total}
+use Rattle.fst_records.proofs.Laws.{name_total}
 use Rattle.fst_worker.proofs.closing.sort_by_channel.Goals as goal
 
 pub returns-clause-sorted : goal.returns-clause-sorted

@@ -1,17 +1,15 @@
-use Rattle.std.proofs.Common.{◌∙◌, ◌++◌, [], ◌∷◌, Vec, Global, sym, ap, subst}
+use Rattle.std.proofs.Common.{◌++◌, Vec, Global, append-nil, sym, subst}
 use Rattle.fst_safety.specs.declared.tasks.TypedTask.{TypedTask}
 use Rattle.fst_worker.specs.Working.{AreAtWork}
-use Rattle.fst_worker.proofs.Working.{begins}
 use Rattle.fst_worker.proofs.workers.all_rounds.Goals as goal
 use Rattle.fst_worker.proofs.workers.all_rounds.Goals.{else-loop-test, then-loop-test+in_ok-made+then-ends}
 
 pub loop-init : goal.loop-init
 loop-init g c = λ d.
     let k = c.args.code.now in
-    let t = c.in_ok-start.field-0 in
-    let pushed = c.in_ok-push.ensures.items ∙ ap (λ ts. ts ++ t ∷ []) c.new-tasks.ensures.items in
-    subst (λ es. AreAtWork k d (c.push.new.self.items ++ es)) (sym c.new-ended.ensures.items)
-    (subst (λ ts. AreAtWork k d (ts ++ [])) (sym pushed) (begins k d t c.in_ok-start.ensures))
+    let ts = c.in_ok-tasks.tasks.items in
+    subst (λ es. AreAtWork k d (ts ++ es)) (sym c.new-ended.ensures.items)
+    (subst (AreAtWork k d) (sym (append-nil ts)) (c.in_ok-tasks.ensures d))
 
 pub one_round-requires-clause-run : goal.one_round-requires-clause-run
 one_round-requires-clause-run g c κs within = c.loop.invariant

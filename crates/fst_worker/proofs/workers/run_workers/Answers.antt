@@ -1,7 +1,7 @@
 use Rattle.std.proofs.Common.{arith}
 use Rattle.std.proofs.lemmas.Result.{IfOk-weaker}
 use Rattle.fst_worker.specs.Finishing.{IsFinished}
-use Rattle.fst_worker.specs.Working.{IsRecorded, IsWorkedOut}
+use Rattle.fst_worker.specs.Working.{IsOnRecord, IsWorkedOut}
 use Rattle.fst_worker.proofs.Leasts.{least_answers}
 use Rattle.fst_worker.proofs.Working.{runs}
 use Rattle.fst_worker.proofs.workers.run_workers.Goals as goal
@@ -15,7 +15,7 @@ pub returns-clause-recorded : goal.returns-clause-recorded
 returns-clause-recorded g c =
     let k = c.args.code.now in
     let ts = c.in_ok-tasks.tasks.items in
-    IfOk-weaker c.finish.result (IsFinished k ts c.args.steps) (IsRecorded k c.args.steps)
+    IfOk-weaker c.finish.result (IsFinished k ts c.args.steps) (IsOnRecord k c.args.steps)
     (λ o out d. out (runs k d ts (c.in_ok-tasks.ensures d))) c.finish.ensures
 
 pub returns-clause-answer : goal.returns-clause-answer

@@ -2,13 +2,11 @@ use Rattle.std.proofs.Common.{◌≡◌, ◌∙◌, ◌+◌, ◌-◌, Some, None
 use Rattle.std.specs.Prelude.{option_map, not}
 use Rattle.std.specs.Coded.{Coded-set, coded_list, coded_ℕ}
 use Rattle.std.proofs.Math.Logic.{∥∥₁_elim}
-use Rattle.std.proofs.lemmas.Result.{on_ok_weaker}
 use Rattle.fst_base.proofs.Options.{some_same, none_some}
 use Rattle.fst_process.specs.Kept.{Slot, has_ended, is_live, put_at}
-use Rattle.fst_process.specs.Firing.{CanStepOn, StepsOn}
+use Rattle.fst_process.specs.Firing.{CanStepOn}
 use Rattle.fst_process.specs.KeptOf.{slot_of, slot_in, kept_of}
-use Rattle.fst_process.specs.Runs.{RunsTo}
-use Rattle.fst_process.proofs.Alone.{steps_first, steps_path, steps_to, can_step_on, its_path}
+use Rattle.fst_process.proofs.Alone.{steps_first, steps_path, can_step_on, its_path}
 use Rattle.fst_process.proofs.KeptLaws.{slots_after}
 use Rattle.fst_process.proofs.EndedLaws.{asks_nothing, its_slot, live_there, noted_on}
 use Rattle.fst_process.proofs.config.Config.step_on.Goals as goal
@@ -49,18 +47,15 @@ set_aside-requires c = λ s at.
       ap (λ (z : Slot). z.request) same ∙ asks_nothing slot.request (sym c.has_ended.ensures ∙ c.if-has_ended.true),
     )
 
-pub returns-then-has_ended-clause-runs : goal.returns-then-has_ended-clause-runs
-returns-then-has_ended-clause-runs c =
+pub returns-then-has_ended-clause-steps : goal.returns-then-has_ended-clause-steps
+returns-then-has_ended-clause-steps c =
     let k = c.args.self.now in
     let p = c.args.path.now in
     let code = c.args.code.now in
-    let d = kept_of k in
     let it = c.in-Some.slot.now in
     let slot = c.step_on.new.slot in
-    let count = c.in_ok-count-in-Some.count in
     let map = c.get_mut.follows.lender slot in
     let updates = (c.get_mut.follows.holds slot).3 (ap is_some (sym c.in-Some.ensures.value)) in
-    let x = steps_first d p c.requires.first in
     let there = its_slot k p c.as_slice.result.now it c.as_slice.ensures c.in-Some.ensures.value in
     let now =
     noted_on code p c.len.result k
@@ -69,18 +64,19 @@ returns-then-has_ended-clause-runs c =
       channels = c.note_again.new.channels;
       ready = c.note_again.new.ready;
       events =
-          k.events + count;
+          k.events + c.in_ok-count-in-Some.count;
     }) slot
     (c.len.ensures ∙ code.types.ok.0) refl
     (slots_after c.as_slice.result.now k.tasks.entries map.entries (Some slot) updates.1 updates.3 ∙ ap
     (λ q. put_at q (Some (slot_of slot)) (slot_in k.tasks.entries)) c.as_slice.ensures)
     c.in_ok-note_again-in-Some.ensures in
-    let steps =
-    steps_to code d p k.events x count (slot_of slot) (subst (λ s. StepsOn code count s (slot_of slot))
-    (some_same (sym there ∙ x.there)) c.in_ok-count-in-Some.ensures.steps) in
-    on_ok_weaker c.set_aside.result
-    (λ e. subst (λ l. RunsTo code k.events d l (kept_of c.set_aside.new.self)) (sym c.set_aside.ensures.events)
-    (subst (RunsTo code k.events d (k.events + count)) (sym (e ∙ now)) steps)) c.set_aside.ensures.kept
+    record {
+      slot = slot_of it;
+      there = there;
+      now = slot_of slot;
+      steps = c.in_ok-count-in-Some.ensures.steps;
+      after = c.in_ok-set_aside-in-Some.ensures.kept ∙ now;
+    }
 
 pub returns-then-has_ended-clause-some : goal.returns-then-has_ended-clause-some
 returns-then-has_ended-clause-some c =
@@ -88,10 +84,8 @@ returns-then-has_ended-clause-some c =
     let p = c.args.path.now in
     let x = steps_first (kept_of k) p c.requires.first in
     let there = its_slot k p c.as_slice.result.now c.in-Some.slot.now c.as_slice.ensures c.in-Some.ensures.value in
-    let some = c.in_ok-count-in-Some.ensures.some (omega (arith, c.requires.more))
-    (ap (λ (s : Slot). s.request) (some_same (sym there ∙ x.there)) ∙ x.asked) in
-    let same = c.set_aside.ensures.events in
-    on_ok_weaker c.set_aside.result (λ e. omega (arith, some, same)) c.set_aside.ensures.kept
+    c.in_ok-count-in-Some.ensures.some (omega (arith, c.requires.more))
+    (ap (λ (s : Slot). s.request) (some_same (sym there ∙ x.there)) ∙ x.asked)
 
 pub unreachable-requires : goal.unreachable-requires
 unreachable-requires c =
@@ -103,18 +97,15 @@ unreachable-requires c =
     let live = ap (λ o. is_live o) x.there ∙ ap (λ r. not (has_ended r)) x.asked in
     none_some (sym none ∙ sym (live_there k.tasks.entries k.ended.items p live) ∙ x.there)
 
-pub returns-clause-runs : goal.returns-clause-runs
-returns-clause-runs c =
+pub returns-clause-steps : goal.returns-clause-steps
+returns-clause-steps c =
     let k = c.args.self.now in
     let p = c.args.path.now in
     let code = c.args.code.now in
-    let d = kept_of k in
     let it = c.in-Some.slot.now in
     let slot = c.step_on.new.slot in
-    let count = c.in_ok-count-in-Some.count in
     let map = c.get_mut.follows.lender slot in
     let updates = (c.get_mut.follows.holds slot).3 (ap is_some (sym c.in-Some.ensures.value)) in
-    let x = steps_first d p c.requires.first in
     let there = its_slot k p c.as_slice.result.now it c.as_slice.ensures c.in-Some.ensures.value in
     let now =
     noted_on code p c.len.result k
@@ -123,15 +114,19 @@ returns-clause-runs c =
       channels = c.note_again.new.channels;
       ready = c.note_again.new.ready;
       events =
-          k.events + count;
+          k.events + c.in_ok-count-in-Some.count;
     }) slot
     (c.len.ensures ∙ code.types.ok.0) refl
     (slots_after c.as_slice.result.now k.tasks.entries map.entries (Some slot) updates.1 updates.3 ∙ ap
     (λ q. put_at q (Some (slot_of slot)) (slot_in k.tasks.entries)) c.as_slice.ensures)
     c.in_ok-note_again-in-Some.ensures in
-    subst (RunsTo code k.events d (k.events + count)) (sym now)
-    (steps_to code d p k.events x count (slot_of slot) (subst (λ s. StepsOn code count s (slot_of slot))
-    (some_same (sym there ∙ x.there)) c.in_ok-count-in-Some.ensures.steps))
+    record {
+      slot = slot_of it;
+      there = there;
+      now = slot_of slot;
+      steps = c.in_ok-count-in-Some.ensures.steps;
+      after = now;
+    }
 
 pub returns-clause-some : goal.returns-clause-some
 returns-clause-some c =
@@ -139,6 +134,5 @@ returns-clause-some c =
     let p = c.args.path.now in
     let x = steps_first (kept_of k) p c.requires.first in
     let there = its_slot k p c.as_slice.result.now c.in-Some.slot.now c.as_slice.ensures c.in-Some.ensures.value in
-    let some = c.in_ok-count-in-Some.ensures.some (omega (arith, c.requires.more))
-    (ap (λ (s : Slot). s.request) (some_same (sym there ∙ x.there)) ∙ x.asked) in
-    omega (arith, some)
+    c.in_ok-count-in-Some.ensures.some (omega (arith, c.requires.more))
+    (ap (λ (s : Slot). s.request) (some_same (sym there ∙ x.there)) ∙ x.asked)
