@@ -1,0 +1,9 @@
+pub mod Limits
+pub mod Normed
+pub mod Lowering
+pub mod Differences
+pub mod Candidates
+pub mod Joining
+pub mod Laws
+pub mod Walks
+pub mod Rounds
