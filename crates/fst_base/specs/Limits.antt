@@ -32,3 +32,11 @@ greatest_norm = 2 ^ 63
 -- how many channels a made module may have
 abbrev pub most_made : ℕ
 most_made = 5000
+
+-- how many rewrites the decision of two normed words may make
+abbrev pub most_rewrites : ℕ
+most_rewrites = 1000000
+
+-- how many pairs of words the search for the least difference of two normed words may list
+abbrev pub most_listed : ℕ
+most_listed = 1000000

@@ -21,3 +21,9 @@ pub const GREATEST_NORM: u64 = 1 << 63;
 
 /// How many channels a made module may have.
 pub const MOST_MADE: u32 = 5000;
+
+/// How many rewrites the decision of two normed words may make.
+pub const MOST_REWRITES: u64 = 1_000_000;
+
+/// How many pairs of words the search for the least difference of two normed words may list.
+pub const MOST_LISTED: u32 = 1_000_000;

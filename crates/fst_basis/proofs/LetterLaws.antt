@@ -1,12 +1,14 @@
 -- Rules in order have the same letters, one after the other, exactly where the same letters have a rule.
-use Rattle.std.proofs.Common.{◌≡◌, ◌≢◌, ◌↔◌, ℕ, zero, suc, ◌<◌, ◌≤◌, drop, length, List, [], ◌∷◌, ◌++◌, refl, sym, ◌∙◌, arith, Some, true, false, ◌==◌, cond}
-use Rattle.std.specs.Prelude.{IsSome}
+use Rattle.std.proofs.Common.{◌≡◌, ◌≢◌, ◌↔◌, ℕ, zero, suc, ◌<◌, ◌≤◌, drop, length, List, [], ◌∷◌, ◌++◌, refl, sym, ◌∙◌, ap, arith, get_or, Some, true, false, ◌==◌, cond}
+use Rattle.std.specs.Prelude.{IsSome, slice_get}
 use Rattle.fst_base.proofs.Options.{mapped_there, unmapped_there}
 use Rattle.std.proofs.lemmas.Bool.{eq-eqb}
+use Rattle.std.proofs.lemmas.Option.{get_or_from_slice_get, slice_get_within}
 use Rattle.fst_base.proofs.Bools.{and_parts, same_number}
 use Rattle.fst_words.specs.declared.rules.Rule.{Rule}
 use Rattle.fst_words.specs.Ordered.{AreOrdered, IsAbove}
 use Rattle.fst_words.specs.Words.{Productions, row_of, rule_of, step, first_row}
+use Rattle.fst_words.proofs.Laws.{present}
 use Rattle.fst_basis.specs.Basis.{IsPair, same_letters}
 use Rattle.fst_basis.specs.declared.proof.Pair.{Pair}
 
@@ -117,3 +119,30 @@ pair_told rows b left right o q = (
     (λ x. (moves rows b.left a).0 ((p.letters a).1 ((moves rows b.right a).1 x))),
   ))),
 )
+
+-- the rule at a place is the one that its letter finds
+pub rule_there : (rules : List Rule) (i : ℕ) (r : Rule) → AreOrdered rules → slice_get rules i ≡ Some r →
+    rule_of rules r.letter ≡ Some r.word
+rule_there rules i r o e =
+    let is : get_or rules i r ≡ r = get_or_from_slice_get rules i r r e in
+    present rules r.letter i r o (slice_get_within rules i r e) (ap (λ (z : Rule). z.letter) is) ∙ ap
+    (λ (z : Rule). Some z.word) is
+
+-- rules with the same letters have them at the same places
+pub letters_at : (rs qs : List Rule) (i : ℕ) (r q : Rule) → same_letters rs qs ≡ true → slice_get rs i ≡ Some r →
+    slice_get qs i ≡ Some q → r.letter ≡ q.letter
+letters_at [] qs i r q e ri qi = absurd (cc ri)
+letters_at (x ∷ rs) [] i r q e ri qi = absurd (cc e)
+letters_at (x ∷ rs) (y ∷ qs) zero r q e ri qi =
+    let p = and_parts (x.letter == y.letter) (same_letters rs qs) e in
+    ap (λ (z : Rule). z.letter) (let f : r ≡ x = cc in f) ∙ same_number x.letter y.letter p.0 ∙ ap
+    (λ (z : Rule). z.letter) (let f : y ≡ q = cc in f)
+letters_at (x ∷ rs) (y ∷ qs) (suc i) r q e ri qi =
+    letters_at rs qs i r q (and_parts (x.letter == y.letter) (same_letters rs qs) e).1 ri qi
+
+-- and are as many
+pub as_long : (rs qs : List Rule) → same_letters rs qs ≡ true → length rs ≡ length qs
+as_long [] [] e = refl
+as_long [] (q ∷ qs) e = absurd (cc e)
+as_long (r ∷ rs) [] e = absurd (cc e)
+as_long (r ∷ rs) (q ∷ qs) e = ap suc (as_long rs qs (and_parts (r.letter == q.letter) (same_letters rs qs) e).1)

@@ -3,4 +3,5 @@ pub mod Joining
 pub mod LetterLaws
 pub mod MarkLaws
 pub mod ChainLaws
+pub mod WayLaws
 pub mod Laws

@@ -69,6 +69,10 @@ IsRewriteBelow n (Grow at tail) = WordBelow n tail
 abbrev pub IsChainBelow : ℕ → Chain → Type 0
 IsChainBelow n c = All (IsRewriteBelow n) c.steps.items
 
+-- the rewrites exchange words of pairs alone: they neither cut anything off nor put anything behind a word
+abbrev pub AreExchanges : List Rewrite → Type 0
+AreExchanges steps = (n : ℕ) → All (IsRewriteBelow n) steps
+
 -- the rules have the grammar's letters alone, of which there are n, there is a mark for each non-terminal, and all words, those of
 -- the rewrites too, have the grammar's non-terminals alone
 pub record IsWithin (n : ℕ) (rows : Productions) (marks : List Bool) (u v : List ℕ)

@@ -3,6 +3,7 @@
 
 mod answers;
 mod breadth;
+mod difference;
 mod following;
 mod law;
 mod noted;
@@ -13,4 +14,5 @@ mod table;
 
 pub use answers::Found;
 pub use breadth::search;
+pub use difference::least;
 pub use law::{first_pairs_are_determined, search_is_determined};

@@ -91,6 +91,7 @@ says_undecided budget bytes rest s w = by m.answer.answer m.answer.answers m.ans
       alike = h.shown.first.alike;
       further = h.shown.first.more;
       no_basis = h.shown.no_basis;
+      not_normed = h.shown.not_normed;
     }
     by too_large h is = absurd (omega (arith, ap initial is))
 

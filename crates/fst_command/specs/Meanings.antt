@@ -13,7 +13,7 @@ use Rattle.fst_words.specs.Words.{Productions}
 use Rattle.fst_norms.specs.Pruned.{pruned_word}
 use Rattle.fst_expand.specs.Good.{IsGood}
 use Rattle.fst_breadth.specs.Reached.{AreFirst, IsBeyond, AreAlike, ReachedPair}
-use Rattle.fst_equiv.specs.Problem.{IsProblem}
+use Rattle.fst_equiv.specs.Problem.{IsNormedWithin, IsProblem}
 use Rattle.fst_terms.specs.CoreTree.{CoreTree}
 use Rattle.fst_terms.specs.ModuleTree.{Declared}
 use Rattle.fst_terms.specs.declared.core_module.Module.{Module}
@@ -55,7 +55,8 @@ pub record MeansNo (bytes text : List ℕ) : Type 0 where
       (Performs step asked.left v ↔ Performs step asked.right v)
 
 -- the text has the budget: the pruned words of the two types reach more different pairs than that, and of the first pairs, as
--- many as the budget, none performs different letters on its two sides; and the cuts that the words lead to aren't good at the budget
+-- many as the budget, none performs different letters on its two sides; the cuts that the words lead to aren't good at the budget; and
+-- some non-terminal has no norm below 2^63, or the budget is less than the square of their number
 pub record MeansUndecided (budget : ℕ) (bytes text : List ℕ) : Type 0 where
   pub asked : Question
   pub is_asked : AreAsked bytes asked
@@ -72,6 +73,7 @@ pub record MeansUndecided (budget : ℕ) (bytes text : List ℕ) : Type 0 where
   pub alike : AreAlike rows pairs
   pub further : IsBeyond rows marks (pruned_word marks u) (pruned_word marks v) pairs
   pub no_basis : IsGood rows marks (pruned_word marks u) (pruned_word marks v) budget → ⊥
+  pub not_normed : IsNormedWithin rows budget → ⊥
 
 -- what it means that `equiv` wrote the text, by how this begins
 pub record MeansAnswer (budget : ℕ) (bytes text : List ℕ) : Type 0 where

@@ -321,7 +321,8 @@ pub(crate) fn answer_run<R: Threads + Sync, G: Gate + Sync>(
     requires budget { 1 ≤ options.budget }
     requires short { length bytes.now ≤ most_bytes }
     ensures text { IfOk result (λ a. Writes
-        (run options.steps options.workers options.budget options.events) bytes.now a.text.items a.status) }
+        (run options.steps options.workers options.budget options.events) bytes.now a.text.items
+        a.status) }
     ensures whole { IfOk result (λ a. IsAnswer a.status) }
 {
     answer_source(rt, alloc, Form::Report, bytes, options, gate)

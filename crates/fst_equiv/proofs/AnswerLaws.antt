@@ -1,5 +1,5 @@
 -- A question of two types has at most one answer.
-use Rattle.std.proofs.Common.{◌≡◌, inl, inr, ℕ, List, Bool, refl, subst}
+use Rattle.std.proofs.Common.{◌≡◌, ◌⊎◌, inl, inr, ℕ, List, Bool, refl, subst, sym}
 use Rattle.fst_types.specs.Tree.{Tree}
 use Rattle.fst_types.specs.declared.kind.Kind.{Kind}
 use Rattle.fst_types.specs.declared.label.Label.{Label}
@@ -12,11 +12,11 @@ use Rattle.fst_shared.specs.declared.handle.SharedPair.{SharedPair}
 use Rattle.fst_norms.specs.Pruned.{pruned_word}
 use Rattle.fst_basis.specs.declared.proof.Pair.{Pair}
 use Rattle.fst_basis.specs.declared.proof.Chain.{Chain}
-use Rattle.fst_expand.specs.Good.{IsGood}
+use Rattle.fst_expand.specs.Good.{AreGoodCuts, IsGood}
 use Rattle.fst_breadth.specs.Answer.{IsEqual, IsBudgetSpent, equal, differ, spent}
 use Rattle.fst_breadth.specs.Answer as breadth
 use Rattle.fst_grammar.specs.Translation.{OneGrammar, IsTooLarge}
-use Rattle.fst_equiv.specs.Problem.{IsShownEqual, IsProvedEqual, IsShownDifferent, IsShownSpent}
+use Rattle.fst_equiv.specs.Problem.{IsNormedWithin, IsShownEqual, IsProvedEqual, IsShownDifferent, IsShownSpent}
 use Rattle.fst_equiv.specs.Answers.{Answer, Answers, OneAnswer, yes, no, undecided, too_large}
 use Rattle.fst_equiv.proofs.LeastLaws.{one_no, not_yes_and_no}
 use Rattle.fst_equiv.proofs.ProblemLaws.{AreSame, one_problem, problem_small}
@@ -48,17 +48,23 @@ module _ (one : OneGrammar) (by_search : breadth.OneAnswer) (vars others : List 
       cc (by_search rows e.marks more (pruned_word e.marks e.u) (pruned_word e.marks e.v) budget (equal pairs)
       (spent visited) all more_pairs)
 
-  -- the cuts that two types' words lead to are good at the budget, or they aren't
+  -- the cuts that two types' words lead to are good at the budget, or the grammar is normed within it, or neither is so
   not_proved_and_undecided : (letters more : List Label) (rows rules : Productions) (x y : List ℕ) (basis : List Pair)
       (chains : List Chain) (visited : List SharedPair) →
       IsProvedEqual s r budget letters rows x y basis chains → IsShownSpent s r budget more rules visited → ⊥
   not_proved_and_undecided letters more rows rules x y basis chains visited e p =
       let same = one_problem one vars others s r left right letters more rows rules e.u e.v p.u p.v e.marks p.marks e.problem
       p.problem in
-      let good = subst (λ z. IsGood rows e.marks z (pruned_word e.marks e.v) budget) e.left
-      (subst (λ z. IsGood rows e.marks x z budget) e.right e.good.0) in
-      p.no_basis (moved (λ rows marks x y. IsGood rows marks x y budget) letters more rows rules e.u e.v p.u p.v e.marks p.marks
-      same good)
+      by same e.good
+    where
+      by : AreSame letters more rows rules e.u e.v p.u p.v e.marks p.marks → AreGoodCuts rows e.marks x y budget basis ⊎
+          IsNormedWithin rows budget → ⊥
+      by same (inl cuts) =
+          let good = subst (λ z. IsGood rows e.marks z (pruned_word e.marks e.v) budget) e.left
+          (subst (λ z. IsGood rows e.marks x z budget) e.right cuts.0) in
+          p.no_basis (moved (λ rows marks x y. IsGood rows marks x y budget) letters more rows rules e.u e.v p.u p.v e.marks
+          p.marks same good)
+      by same (inr normed) = p.not_normed (subst (λ z. IsNormedWithin z budget) same.grammar normed)
 
   -- one of the first pairs of two types shows a difference, or none does
   not_no_and_undecided : (trace : List Label) (side : Side) (more : List Label) (rules : Productions)
@@ -69,8 +75,11 @@ module _ (one : OneGrammar) (by_search : breadth.OneAnswer) (vars others : List 
       d.problem in
       let more_pairs = moved (λ rows marks x y. IsBudgetSpent rows marks x y budget visited) more d.letters rules d.rows p.u p.v
       d.u d.v p.marks d.marks same p.first in
-      cc (by_search d.rows d.marks d.letters (pruned_word d.marks d.u) (pruned_word d.marks d.v) budget (differ trace side)
-      (spent visited) d.first more_pairs)
+      elim d.found [
+        | inl first ↦ cc (by_search d.rows d.marks d.letters (pruned_word d.marks d.u) (pruned_word d.marks d.v) budget
+            (differ trace side) (spent visited) first more_pairs)
+        | inr normed ↦ p.not_normed (subst (λ z. IsNormedWithin z budget) (sym same.grammar) normed)
+      ]
 
   -- types with an answer that rests on a grammar aren't too large
   yes_small : (p : Answers s r budget yes) → IsTooLarge s r → ⊥

@@ -75,7 +75,8 @@ module _ (vars : List Kind) (budget : ℕ) where
   types_equal (back n) u j k wt wu h = part_equal (back n) u j k refl wt wu h
   types_equal (var n) u j k wt wu h = part_equal (var n) u j k refl wt wu h
   types_equal (plain b) (plain c) j k wt wu h =
-      by_test (same_base b c) (λ e. subst (λ t. IsEqual vars (plain b) t) ((same_tree_is (plain b) (plain c)).0 e) equal.base_types)
+      by_test (same_base b c) (λ e. subst (λ t. IsEqual vars (plain b) t)
+      ((same_tree_is (plain b) (plain c)).0 e) equal.base_types)
       h
   types_equal (plain b) u j k wt wu h = absurd h.0
   types_equal (arrow a s r) (arrow b x y) j k wt wu h =
@@ -90,7 +91,8 @@ module _ (vars : List Kind) (budget : ℕ) where
       equal.pairs (types_equal s x p.0.0 q.0.0 p.0.1 q.0.1 both.0) (types_equal r y p.1.0 q.1.0 p.1.1 q.1.1 both.1)
   types_equal (pair s r) u j k wt wu h = absurd h.0
   types_equal (named n) (named m) j k wt wu h =
-      by_test (nat_eq n m) (λ e. subst (λ t. IsEqual vars (named n) t) ((same_tree_is (named n) (named m)).0 e) equal.data_types) h
+      by_test (nat_eq n m) (λ e. subst (λ t. IsEqual vars (named n) t) ((same_tree_is (named n) (named m)).0 e) equal.data_types)
+      h
   types_equal (named n) u j k wt wu h = absurd h.0
 
 -- types of which all comparisons are Yes are equal
@@ -146,8 +148,10 @@ equal_agree : (vars : List Kind) {t u : Tree} → IsEqual vars t u → AllAgree 
 equal_agree vars (equal.sessions {s} {r} ws wr h) =
     subst AllAgree (sym (two_parts s r (session_part vars s ws) (session_part vars r wr))) (h, tt)
 equal_agree vars (equal.variables {k}) = (λ n. agrees_itself step n (var k), tt)
-equal_agree vars (equal.base_types {b}) = subst (λ c. AllAgree (unless_same c)) (sym ((same_tree_is (plain b) (plain b)).1 refl)) tt
-equal_agree vars (equal.data_types {k}) = subst (λ c. AllAgree (unless_same c)) (sym ((same_tree_is (named k) (named k)).1 refl)) tt
+equal_agree vars (equal.base_types {b}) = subst
+    (λ c. AllAgree (unless_same c)) (sym ((same_tree_is (plain b) (plain b)).1 refl)) tt
+equal_agree vars (equal.data_types {k}) = subst
+    (λ c. AllAgree (unless_same c)) (sym ((same_tree_is (named k) (named k)).1 refl)) tt
 equal_agree vars (equal.functions {u} {s} {r} {t} {v} a b) =
     subst (λ c. AllAgree (if c then comparisons s t ++ comparisons r v else differing ∷ [])) (sym (use_itself u))
     (agree_all (comparisons s t) (comparisons r v) (equal_agree vars a) (equal_agree vars b))

@@ -1,5 +1,5 @@
--- What the search says of the words of two types holds of the types.
-use Rattle.std.proofs.Common.{◌≡◌, ◌↔◌, inl, inr, ℕ, List, length, Bool, sym, subst}
+-- What is found of the words of two types holds of the types.
+use Rattle.std.proofs.Common.{◌≡◌, ◌↔◌, inl, inr, ℕ, List, Bool, sym, subst}
 use Rattle.fst_types.specs.Tree.{Tree}
 use Rattle.fst_types.specs.Order.{label_cmp}
 use Rattle.fst_types.specs.declared.label.Label.{Label}
@@ -14,19 +14,21 @@ use Rattle.fst_words.specs.Words.{step as step_of}
 use Rattle.fst_words.proofs.Laws.{same_by_labels}
 use Rattle.fst_norms.specs.Pruned.{pruned_word}
 use Rattle.fst_words.specs.declared.grammar.Grammar.{Grammar}
-use Rattle.fst_grammar.specs.declared.fault.TranslateFault.TheVariants as translate
-use Rattle.fst_basis.specs.declared.proof.Proof.{Proof}
-use Rattle.fst_basis.specs.Basis.{IsProof}
-use Rattle.fst_expand.specs.Good.{AreGoodCuts, IsGood}
-use Rattle.fst_breadth.specs.Answer.{IsAnswer, IsDifferent, IsBudgetSpent, IfEqual, IfDiffer}
-use Rattle.fst_breadth.specs.declared.answers.Found.{Found}
+use Rattle.fst_expand.specs.Good.{IsGood}
+use Rattle.fst_breadth.specs.Answer.{IsDifferent, IsBudgetSpent}
 use Rattle.fst_breadth.specs.declared.answers.Found.TheVariants.{Equal, Differ, Spent}
 use Rattle.fst_equiv.specs.declared.verdict.Certificate.TheVariants.{Visited, Basis}
 use Rattle.fst_equiv.specs.declared.verdict.Verdict.{Verdict}
 use Rattle.fst_equiv.specs.declared.verdict.Verdict.TheVariants.{Yes, No, Undecided}
 use Rattle.fst_equiv.specs.Answers.{Answers}
-use Rattle.fst_equiv.specs.Problem.{IsProblem}
-use Rattle.fst_equiv.specs.Verdicts.{Certifies, IsVerdict, answer_of, verdict_of}
+use Rattle.fst_equiv.specs.declared.finding.Finding.{Finding}
+use Rattle.fst_equiv.specs.declared.finding.Finding.TheVariants.{Proved, Least, Searched}
+use Rattle.fst_equiv.specs.Findings.{IsFinding}
+use Rattle.fst_equiv.specs.Problem.{AreNormedWithin, IsNormedWithin, IsProblem}
+use Rattle.fst_equiv.specs.Verdicts.{IsDecided, IsVerdict, answer_of, verdict_of}
+use Rattle.fst_grammar.specs.Translation.{OneGrammar}
+use Rattle.fst_kinds.specs.WellFormed.{IsSession}
+use Rattle.fst_types.specs.declared.kind.Kind.{Kind}
 use Rattle.fst_grammar.specs.Standing.{StandsFor}
 
 -- two words that stand for two types
@@ -62,66 +64,65 @@ module _ (letters : List Label) (rows : Productions) (u v : List ℕ) (s r : Tre
     least = λ x before. same_of_types x (d.least x before);
   }
 
--- the verdict that an answer of the search on the pruned words gives is right
-pub verdict_right : (s r : Tree) (budget : ℕ) (g : Grammar) (u v x y : List ℕ) (marks : List Bool) (found : Found) →
+-- the verdict that what is found of the pruned words gives is right
+pub verdict_right : (s r : Tree) (budget : ℕ) (g : Grammar) (u v x y : List ℕ) (marks : List Bool) (finding : Finding) →
     IsProblem s r g.letters.items g.rules.items u v marks → x ≡ pruned_word marks u → y ≡ pruned_word marks v →
     Stand g.letters.items g.rules.items x y s r →
-    IsAnswer g.rules.items marks g.letters.items x y budget found →
-    IfEqual found (HaveSameTraces (label_step g.letters.items g.rules.items) (label_step g.letters.items g.rules.items) x y) →
-    IfDiffer found (IsLeastDistinguishingTrace (label_step g.letters.items g.rules.items)
-    (label_step g.letters.items g.rules.items) label_cmp x y) →
-    (IsGood g.rules.items marks x y budget → ⊥) → IsVerdict s r budget (verdict_of g x y found)
-verdict_right s r budget g u v x y marks (Equal pairs) problem left right stand exact same differ none = record {
-  agree = types_agree g.letters.items g.rules.items x y s r stand same;
+    IsFinding g.rules.items marks g.letters.items x y budget finding → IsVerdict s r budget (verdict_of g x y finding)
+verdict_right s r budget g u v x y marks (Proved proof) problem left right stand h = record {
+  agree = types_agree g.letters.items g.rules.items x y s r stand (same_by_labels g.letters.items g.rules.items x y h.same);
   u = u;
   v = v;
   marks = marks;
   problem = problem;
   left = left;
   right = right;
-  all = exact;
+  proof = h.proof;
+  good = h.good;
 }
-verdict_right s r budget g u v x y marks (Differ trace side) problem left right stand exact same differ none = record {
-  least = types_differ g.letters.items g.rules.items x y s r stand trace.items side differ;
+verdict_right s r budget g u v x y marks (Least trace side) problem left right stand h = record {
+  least = types_differ g.letters.items g.rules.items x y s r stand trace.items side h.least;
   letters = g.letters.items;
   rows = g.rules.items;
   u = u;
   v = v;
   marks = marks;
   problem = problem;
-  first =
-      subst (λ z. IsDifferent g.rules.items marks g.letters.items z (pruned_word marks v) budget trace.items side) left
-      (subst (λ z. IsDifferent g.rules.items marks g.letters.items x z budget trace.items side) right exact);
+  found = inr h.normed;
 }
-verdict_right s r budget g u v x y marks (Spent pairs) problem left right stand exact same differ none = record {
-  u = u;
-  v = v;
-  marks = marks;
-  problem = problem;
-  first =
-      subst (λ z. IsBudgetSpent g.rules.items marks z (pruned_word marks v) budget pairs.items) left
-      (subst (λ z. IsBudgetSpent g.rules.items marks x z budget pairs.items) right exact);
-  no_basis = λ good. none (subst (λ z. IsGood g.rules.items marks z y budget) (sym left)
-      (subst (λ z. IsGood g.rules.items marks (pruned_word marks u) z budget) (sym right) good));
-}
-
--- and so is the verdict that a basis for them gives
-pub basis_right : (s r : Tree) (budget : ℕ) (g : Grammar) (u v x y : List ℕ) (marks : List Bool) (proof : Proof) →
-    IsProblem s r g.letters.items g.rules.items u v marks → x ≡ pruned_word marks u → y ≡ pruned_word marks v →
-    Stand g.letters.items g.rules.items x y s r →
-    IsProof (length g.letters.items) g.rules.items marks x y proof.basis.items proof.chains.items →
-    HaveSameTraces (step_of g.rules.items) (step_of g.rules.items) x y →
-    AreGoodCuts g.rules.items marks x y budget proof.basis.items → Certifies s r budget (Basis g x y proof)
-basis_right s r budget g u v x y marks proof problem left right stand is same good = record {
-  agree = types_agree g.letters.items g.rules.items x y s r stand (same_by_labels g.letters.items g.rules.items x y same);
+verdict_right s r budget g u v x y marks (Searched (Equal pairs)) problem left right stand h = record {
+  agree = types_agree g.letters.items g.rules.items x y s r stand h.same;
   u = u;
   v = v;
   marks = marks;
   problem = problem;
   left = left;
   right = right;
-  proof = is;
-  good = good;
+  all = h.exact;
+}
+verdict_right s r budget g u v x y marks (Searched (Differ trace side)) problem left right stand h = record {
+  least = types_differ g.letters.items g.rules.items x y s r stand trace.items side h.differ;
+  letters = g.letters.items;
+  rows = g.rules.items;
+  u = u;
+  v = v;
+  marks = marks;
+  problem = problem;
+  found = inl
+      (subst (λ z. IsDifferent g.rules.items marks g.letters.items z (pruned_word marks v) budget trace.items side) left
+      (subst (λ z. IsDifferent g.rules.items marks g.letters.items x z budget trace.items side) right h.exact));
+}
+verdict_right s r budget g u v x y marks (Searched (Spent pairs)) problem left right stand h = record {
+  u = u;
+  v = v;
+  marks = marks;
+  problem = problem;
+  first =
+      subst (λ z. IsBudgetSpent g.rules.items marks z (pruned_word marks v) budget pairs.items) left
+      (subst (λ z. IsBudgetSpent g.rules.items marks x z budget pairs.items) right h.exact);
+  no_basis = λ good. h.no_basis (subst (λ z. IsGood g.rules.items marks z y budget) (sym left)
+      (subst (λ z. IsGood g.rules.items marks (pruned_word marks u) z budget) (sym right) good));
+  not_normed = h.not_normed;
 }
 
 -- a word that performs the traces of one that stands for a type stands for it too
@@ -157,3 +158,14 @@ verdict_answers s r budget (Yes (Basis g x y proof)) h =
 verdict_answers s r budget (No trace side) h = h
 verdict_answers s r budget (Undecided g pairs) h =
     record { letters = g.letters.items; rows = g.rules.items; pairs = pairs.items; shown = h }
+
+-- where the grammar of two types is normed within the budget, a right verdict is Yes or No
+pub normed_decided : OneGrammar → (vars others : List Kind) (s r : Tree) (budget : ℕ) → IsSession vars s → IsSession others r →
+    (v : Verdict) → IsVerdict s r budget v → AreNormedWithin s r budget → IsDecided v
+normed_decided one vars others s r budget left right (Yes c) h n = tt
+normed_decided one vars others s r budget left right (No trace side) h n = tt
+normed_decided one vars others s r budget left right (Undecided g pairs) h n =
+    let p = h.problem in
+    let same = one vars others s r left right p.small.left p.small.right g.letters.items n.letters g.rules.items n.rows
+    p.translation.grammar n.translation.grammar in
+    h.not_normed (subst (λ z. IsNormedWithin z budget) (sym same.1) n.within)

@@ -1,5 +1,5 @@
 -- The words of two types, and what the pairs that these words reach, and their cuts, show within a budget.
-use Rattle.std.specs.Prelude.{◌≡◌, ℕ, ◌+◌, List, Bool, length}
+use Rattle.std.specs.Prelude.{◌≡◌, ◌⊎◌, ℕ, ◌+◌, ◌*◌, ◌≤◌, List, Bool, length}
 use Rattle.fst_types.specs.Tree.{Tree}
 use Rattle.fst_types.specs.Order.{label_cmp}
 use Rattle.fst_types.specs.declared.label.Label.{Label}
@@ -13,6 +13,7 @@ use Rattle.fst_basis.specs.declared.proof.Chain.{Chain}
 use Rattle.fst_basis.specs.Basis.{IsProof}
 use Rattle.fst_expand.specs.Good.{AreGoodCuts, IsGood}
 use Rattle.fst_shared.specs.declared.handle.SharedPair.{SharedPair}
+use Rattle.fst_norms.specs.Norms.{IsNormed}
 use Rattle.fst_norms.specs.Pruned.{AreUnnormed, pruned_word}
 use Rattle.fst_parts.specs.Labels.{names}
 use Rattle.fst_grammar.specs.Parts.{parts_of}
@@ -29,6 +30,20 @@ pub record IsProblem (s r : Tree) (letters : List Label) (rows : Productions) (u
   pub ruled : EachHasRule (length (names letters) + length (parts_of s r)) rows
   pub unnormed : AreUnnormed rows marks
 
+-- all non-terminals have norms below 2^63, and the budget is at least the square of their number
+pub record IsNormedWithin (rows : Productions) (budget : ℕ) : Type 0 where
+  pub normed : IsNormed rows
+  pub square : length rows * length rows ≤ budget
+
+-- so it is of the grammar of two types
+pub record AreNormedWithin (s r : Tree) (budget : ℕ) : Type 0 where
+  pub letters : List Label
+  pub rows : Productions
+  pub u : List ℕ
+  pub v : List ℕ
+  pub translation : IsTranslation s r letters rows u v
+  pub within : IsNormedWithin rows budget
+
 -- x and y are the pruned words of two types, and these are all the pairs that they reach: at most budget many, of
 -- which none shows a difference. The types agree at every depth.
 pub record IsShownEqual (s r : Tree) (budget : ℕ) (letters : List Label) (rows : Productions)
@@ -42,8 +57,9 @@ pub record IsShownEqual (s r : Tree) (budget : ℕ) (letters : List Label) (rows
   pub right : y ≡ pruned_word marks v
   pub all : IsEqual rows marks x y budget pairs
 
--- x and y are the pruned words of two types, these pairs are the cuts that they lead to, which are good at the budget, and with these
--- chains they show that the words perform the same traces. The types agree at every depth.
+-- x and y are the pruned words of two types, and these pairs are a basis, which with these chains shows that the words perform the
+-- same traces: they are the cuts that the words lead to, which are good at the budget, or the grammar is normed within the budget. The
+-- types agree at every depth.
 pub record IsProvedEqual (s r : Tree) (budget : ℕ) (letters : List Label) (rows : Productions)
     (x y : List ℕ) (basis : List Pair) (chains : List Chain) : Type 0 where
   pub agree : Agree step step s r
@@ -54,9 +70,10 @@ pub record IsProvedEqual (s r : Tree) (budget : ℕ) (letters : List Label) (row
   pub left : x ≡ pruned_word marks u
   pub right : y ≡ pruned_word marks v
   pub proof : IsProof (length letters) rows marks x y basis chains
-  pub good : AreGoodCuts rows marks x y budget basis
+  pub good : AreGoodCuts rows marks x y budget basis ⊎ IsNormedWithin rows budget
 
--- one of the first budget pairs that two types reach shows a difference: the least trace that one side alone performs
+-- the least trace that one side alone performs: one of the first budget pairs that two types reach shows it, or the grammar is normed
+-- within the budget
 pub record IsShownDifferent (s r : Tree) (budget : ℕ) (trace : List Label)
     (side : Side) : Type 0 where
   pub least : IsLeastDistinguishingTrace step step label_cmp s r trace side
@@ -66,11 +83,11 @@ pub record IsShownDifferent (s r : Tree) (budget : ℕ) (trace : List Label)
   pub v : List ℕ
   pub marks : List Bool
   pub problem : IsProblem s r letters rows u v marks
-  pub first : IsDifferent rows marks letters (pruned_word marks u)
-      (pruned_word marks v) budget trace side
+  pub found : IsDifferent rows marks letters (pruned_word marks u)
+      (pruned_word marks v) budget trace side ⊎ IsNormedWithin rows budget
 
--- these are the first budget pairs that two types reach: there are more, these show no difference, and the cuts that the types'
--- words lead to aren't good at the budget
+-- these are the first budget pairs that two types reach: there are more, these show no difference, the cuts that the types' words lead
+-- to aren't good at the budget, and the grammar isn't normed within it
 pub record IsShownSpent (s r : Tree) (budget : ℕ) (letters : List Label) (rows : Productions)
     (pairs : List SharedPair) : Type 0 where
   pub u : List ℕ
@@ -79,3 +96,4 @@ pub record IsShownSpent (s r : Tree) (budget : ℕ) (letters : List Label) (rows
   pub problem : IsProblem s r letters rows u v marks
   pub first : IsBudgetSpent rows marks (pruned_word marks u) (pruned_word marks v) budget pairs
   pub no_basis : IsGood rows marks (pruned_word marks u) (pruned_word marks v) budget → ⊥
+  pub not_normed : IsNormedWithin rows budget → ⊥

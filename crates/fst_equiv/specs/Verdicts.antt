@@ -1,9 +1,10 @@
 -- What a verdict says of two types.
-use Rattle.std.specs.Prelude.{ℕ, List}
+use Rattle.std.specs.Prelude.{ℕ, List, ⊤}
 use Rattle.fst_types.specs.Tree.{Tree}
 use Rattle.fst_words.specs.declared.grammar.Grammar.{Grammar}
-use Rattle.fst_breadth.specs.declared.answers.Found.{Found}
 use Rattle.fst_breadth.specs.declared.answers.Found.TheVariants.{Equal, Differ, Spent}
+use Rattle.fst_equiv.specs.declared.finding.Finding.{Finding}
+use Rattle.fst_equiv.specs.declared.finding.Finding.TheVariants.{Proved, Least, Searched}
 use Rattle.fst_equiv.specs.declared.verdict.Certificate.{Certificate}
 use Rattle.fst_equiv.specs.declared.verdict.Certificate.TheVariants.{Visited, Basis}
 use Rattle.fst_equiv.specs.declared.verdict.Verdict.{Verdict}
@@ -31,8 +32,16 @@ answer_of (Yes c) = yes
 answer_of (No trace side) = no trace.items side
 answer_of (Undecided g pairs) = undecided
 
--- the verdict that the search's answer on two pruned words gives
-abbrev pub verdict_of : Grammar → List ℕ → List ℕ → Found → Verdict
-verdict_of g x y (Equal pairs) = Yes (Visited g x y pairs)
-verdict_of g x y (Differ trace side) = No trace side
-verdict_of g x y (Spent pairs) = Undecided g pairs
+-- the verdict that what is found of two pruned words gives
+abbrev pub verdict_of : Grammar → List ℕ → List ℕ → Finding → Verdict
+verdict_of g x y (Proved proof) = Yes (Basis g x y proof)
+verdict_of g x y (Least trace side) = No trace side
+verdict_of g x y (Searched (Equal pairs)) = Yes (Visited g x y pairs)
+verdict_of g x y (Searched (Differ trace side)) = No trace side
+verdict_of g x y (Searched (Spent pairs)) = Undecided g pairs
+
+-- the verdict is Yes or No
+abbrev pub IsDecided : Verdict → Type 0
+IsDecided (Yes c) = ⊤
+IsDecided (No trace side) = ⊤
+IsDecided (Undecided g pairs) = ⊥

@@ -1,6 +1,7 @@
 ghost use Rattle.std.specs.Prelude.{◌≡◌, ◌≤◌, ◌++◌, ◌∷◌, [], ℕ, IfOk, IfErr, List};
 ghost use Rattle.fst_types.specs.declared.kind.Kind.{Kind};
 ghost use Rattle.fst_kinds.specs.WellFormed.{IsSession};
+ghost use Rattle.fst_parts.specs.Same.{same_base, same_use};
 ghost use Rattle.fst_equiv.specs.Comparison.{asked, is_part, unless_same, comparisons, ComesTo, ComesToTooLarge, IsComparison, IsTooLargeComparison, AreFormed, AreEqual};
 ghost use Rattle.fst_equiv.specs.declared.fault.EquivFault.TheVariants.{TooLarge};
 ghost use Rattle.fst_equiv.specs.declared.comparing.Same.TheVariants.{Yes};
@@ -9,7 +10,7 @@ use crate::asking::ask;
 use crate::fault::EquivFault;
 use crate::verdict::Verdict;
 use fst_shared::SharedPair;
-use fst_types::{Label, Side, Ty, TyForm, same};
+use fst_types::{Base, Label, Side, Ty, TyForm, Use, same};
 use fst_words::Grammar;
 use std::alloc::Global;
 
@@ -42,9 +43,9 @@ pub fn same_type(alloc: Global, t: &Ty, u: &Ty, budget: u32) -> Result<Same, Equ
         return same_part(alloc, t, u, budget);
     }
     match (&t.form, &u.form) {
-        (TyForm::Plain(b), TyForm::Plain(c)) => Ok(unless_same(*b == *c)),
+        (TyForm::Plain(b), TyForm::Plain(c)) => Ok(unless_same(same_base(*b, *c))),
         (TyForm::Arrow(uses, from, to), TyForm::Arrow(others, domain, codomain)) => {
-            if *uses == *others {
+            if same_use(*uses, *others) {
                 same_parts(alloc, from, domain, to, codomain, budget)
             } else {
                 Ok(Same::Shape)
@@ -108,6 +109,20 @@ fn unless_same(is_same: bool) -> Same
     ensures { (budget : ℕ) → ComesTo (unless_same is_same) budget result }
 {
     if is_same { Same::Yes } else { Same::Shape }
+}
+
+/// Whether two base types are the same.
+fn same_base(b: Base, c: Base) -> bool
+    ensures { result ≡ same_base b c }
+{
+    b == c
+}
+
+/// Whether two uses are the same.
+fn same_use(u: Use, v: Use) -> bool
+    ensures { result ≡ same_use u v }
+{
+    u == v
 }
 
 /// Whether a type is a session type or a variable, told by its form.

@@ -4,6 +4,7 @@
 mod asking;
 mod comparing;
 mod fault;
+mod finding;
 mod law;
 mod verdict;
 

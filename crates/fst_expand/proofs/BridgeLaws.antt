@@ -15,14 +15,14 @@ use Rattle.fst_basis.specs.declared.proof.Pair.{Pair}
 use Rattle.fst_basis.specs.declared.proof.Chain.{Chain}
 use Rattle.fst_basis.specs.declared.proof.Rewrite.{Rewrite}
 use Rattle.fst_basis.specs.declared.proof.Rewrite.TheVariants.{Cut, Grow}
-use Rattle.fst_basis.specs.Basis.{IsRewriteBelow}
+use Rattle.fst_basis.specs.Basis.{AreExchanges, IsRewriteBelow}
 use Rattle.fst_basis.specs.Rewrites.{chained, is_marked_at}
 use Rattle.fst_expand.specs.Bridge.{AreCutOff, HaveMet, HaveNoRoom, HaveRoom, IsCutOff, IsWay, Meet, cutting, growing}
 use Rattle.fst_expand.specs.Good.{AreDistinct, Each}
-use Rattle.fst_expand.specs.Trail.{AreExchanges, AreUnmarked, IsCrowded, IsJoining, IsPrunedPair}
+use Rattle.fst_expand.specs.Trail.{AreUnmarked, IsCrowded, IsJoining, IsPrunedPair}
 use Rattle.fst_expand.proofs.CollectLaws.{same_pairs}
 use Rattle.fst_expand.proofs.CutLaws.{same_cuts, unmarked_parts}
-use Rattle.fst_expand.proofs.WayLaws.{chained-append, chained_first}
+use Rattle.fst_basis.proofs.Laws.{chained-append, chained_first}
 
 -- pruning a word in front of a pruned one is cutting it there
 pub pruned_in_front : (marks : List Bool) (v w : List ℕ) → IsPruned marks w → pruned_word marks (v ++ w) ≡ cut marks v w

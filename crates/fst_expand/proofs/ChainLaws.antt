@@ -1,19 +1,17 @@
 -- Chains, pair by pair and letter by letter, as those of a basis.
-use Rattle.std.proofs.Common.{◌≡◌, ◌≤◌, ℕ, suc, List, [], ◌∷◌, ◌++◌, length, take, drop, refl, sym, ◌∙◌, ap, subst, arith, inl, inr, Some, Bool, All}
+use Rattle.std.proofs.Common.{◌≡◌, ℕ, suc, List, [], ◌∷◌, ◌++◌, length, refl, sym, ◌∙◌, ap, subst, arith, inl, inr, Some, Bool, All}
 use Rattle.std.specs.Prelude.{slice_get}
-use Rattle.std.proofs.lemmas.List.{take_all, drop_all, take-append-le, drop-append-le, length-take}
 use Rattle.std.proofs.lemmas.List.Elements.{All-cons, All-nil}
 use Rattle.std.proofs.lemmas.Option.{get_or_from_slice_get}
 use Rattle.fst_base.proofs.Lists.{get-push, get_there}
 use Rattle.fst_words.specs.declared.rules.Rule.{Rule}
-use Rattle.fst_words.specs.Words.{InRange, LettersBelow, Productions, WordBelow, first_row, step}
+use Rattle.fst_words.specs.Words.{InRange, LettersBelow, Productions, WordBelow, step}
 use Rattle.fst_norms.specs.Pruned.{AreUnnormed}
 use Rattle.fst_basis.specs.declared.proof.Pair.{Pair}
 use Rattle.fst_basis.specs.declared.proof.Chain.{Chain}
 use Rattle.fst_basis.specs.declared.proof.Rewrite.{Rewrite}
 use Rattle.fst_basis.specs.Basis.{AreJoined, AreJoinedByRules, IsChainBelow, IsPair, IsPairBelow, IsProof, IsRewriteBelow}
 use Rattle.fst_basis.specs.Rewrites.{chained}
-use Rattle.fst_basis.proofs.Laws.{as_many}
 use Rattle.fst_expand.specs.Bridge.{AreFit, IsWay}
 use Rattle.fst_expand.specs.Expansion.{AreWays}
 use Rattle.fst_expand.specs.Good.{Each}
@@ -69,24 +67,6 @@ below_by_ways n marks P t s (r ∷ rules) (q ∷ others) (d ∷ cs) c o ways =
     All-cons (IsChainBelow n) d cs (ways 0 d r q refl refl refl).below
     (below_by_ways n marks P t s rules others cs (let e : length cs ≡ length rules = omega (arith, c) in e)
     (let e : length others ≡ length rules = omega (arith, o) in e) (λ j z x y. ways (suc j) z x y))
-
--- one pair more, with its chains
-pub all_joined_push : (rows : Productions) (marks : List Bool) (P : List Pair) (b : Pair) (ds : List Chain) →
-    AreJoinedByRules rows marks P (drop 1 b.left) b.right (first_row rows b.left) ds →
-    (bs : List Pair) (cs : List Chain) → AreJoined rows marks P bs cs → AreJoined rows marks P (bs ++ b ∷ []) (cs ++ ds)
-all_joined_push rows marks P b ds j [] cs h =
-    let many = as_many rows marks P (drop 1 b.left) b.right (first_row rows b.left) ds j in
-    let all : take (length (first_row rows b.left)) ds ≡ ds = take_all (length (first_row rows b.left)) ds (omega arith) in
-    let none : drop (length (first_row rows b.left)) ds ≡ [] = drop_all (length (first_row rows b.left)) ds (omega arith) in
-    rw h (rw (all, none) (j, refl))
-all_joined_push rows marks P b ds j (c ∷ bs) cs h =
-    let n = length (first_row rows c.left) in
-    let many = as_many rows marks P (drop 1 c.left) c.right (first_row rows c.left) (take n cs) h.0 in
-    let short = length-take n cs in
-    let within : n ≤ length cs = omega arith in
-    let front : take n (cs ++ ds) ≡ take n cs = take-append-le n cs ds within in
-    let rest : drop n (cs ++ ds) ≡ drop n cs ++ ds = drop-append-le n cs ds within in
-    rw (front, rest) (h.0, all_joined_push rows marks P b ds j bs (drop n cs) h.1)
 
 pub each_all : (R : Pair → Type 0) (bs : List Pair) → Each R bs → All R bs
 each_all R bs h k d lt = let t = get_there bs k lt in subst R (sym (get_or_from_slice_get bs k t.0 d t.1)) (h k t.0 t.1)

@@ -5,7 +5,7 @@ use Rattle.std.proofs.lemmas.Option.{slice_get_within}
 use Rattle.fst_basis.specs.declared.proof.Pair.{Pair}
 use Rattle.fst_expand.specs.Good.{AreDistinct, Each, IsIn}
 use Rattle.fst_expand.specs.Table.{Adds, AreNumbered, Collects, Grows}
-use Rattle.fst_expand.proofs.WayLaws.{get_more}
+use Rattle.fst_basis.proofs.Laws.{get_more}
 
 get_behind : (front rest : List Pair) (at : ℕ) (b : Pair) → slice_get rest at ≡ Some b →
     slice_get (front ++ rest) (length front + at) ≡ Some b

@@ -9,7 +9,7 @@ use Rattle.fst_words.specs.Words.{WordBelow}
 use Rattle.fst_norms.specs.Bounds.{bound_at}
 use Rattle.fst_norms.specs.Pruned.{IsPruned, pruned_word}
 use Rattle.fst_basis.specs.declared.proof.Pair.{Pair}
-use Rattle.fst_expand.specs.Lowering.{lower, lowered, lowered_to}
+use Rattle.fst_norms.specs.Lowering.{lower, lowered, lowered_to}
 use Rattle.fst_expand.specs.Cuts.{HasCuts, dropped, exact, head_cut, head_norm, left_rest, right_rest}
 use Rattle.fst_expand.specs.Trail.{AreUnmarked}
 

@@ -20,7 +20,8 @@ use Rattle.fst_expand.proofs.CollectLaws.{collects_nothing, collects_on, each_ad
 use Rattle.fst_expand.proofs.CutLaws.{same_cuts}
 use Rattle.fst_expand.proofs.StepLaws.{unless_each}
 use Rattle.fst_expand.proofs.WalkLaws.{one_pair, same_words}
-use Rattle.fst_expand.proofs.WayLaws.{chained-append, chained_last, chained_more, exchanges_on, forth, noted_exchanges, reversed_exchanges}
+use Rattle.fst_basis.proofs.Laws.{chained-append, chained_last, chained_more, exchanges_on, forth, reversed_exchanges}
+use Rattle.fst_expand.proofs.WayLaws.{noted_exchanges}
 
 -- the pair of the two words that are left leads from one to the other
 leads_last : (P Q : List Pair) (before after : List Rewrite) (heads : ℕ) (x y l r : List ℕ) (cut : Option ℕ) →

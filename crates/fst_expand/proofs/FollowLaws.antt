@@ -1,18 +1,17 @@
 -- Following a pair by its letters.
-use Rattle.std.proofs.Common.{◌≡◌, ◌≢◌, ◌↔◌, ℕ, zero, suc, ◌+◌, ◌<◌, ◌≤◌, List, [], ◌∷◌, ◌++◌, length, take, drop, refl, sym, ◌∙◌, ap, subst, arith, inl, inr, Some, None, Option, Bool, true, false, ◌==◌, get_or, cond}
+use Rattle.std.proofs.Common.{◌≡◌, ◌≢◌, ◌↔◌, ℕ, suc, ◌+◌, ◌<◌, ◌≤◌, List, [], ◌∷◌, ◌++◌, length, take, drop, refl, sym, ◌∙◌, ap, subst, arith, inl, inr, Some, None, Option, Bool, true, false, ◌==◌, cond}
 use Rattle.std.specs.Prelude.{option_map, slice_get}
 use Rattle.std.proofs.lemmas.List.{take_all}
-use Rattle.std.proofs.lemmas.Option.{get_or_from_slice_get, slice_get_within}
-use Rattle.fst_base.proofs.Bools.{and_parts, same_number}
+use Rattle.std.proofs.lemmas.Option.{slice_get_within}
+use Rattle.fst_base.proofs.Bools.{same_number}
 use Rattle.fst_base.proofs.Lists.{get-push, get_there, length-push}
 use Rattle.fst_words.specs.declared.rules.Rule.{Rule}
 use Rattle.fst_words.specs.Ordered.{AreOrdered}
 use Rattle.fst_words.specs.Words.{Productions, first_row, row_of, rule_of, step}
-use Rattle.fst_words.proofs.Laws.{present}
 use Rattle.fst_norms.specs.Pruned.{pruned_word}
 use Rattle.fst_basis.specs.declared.proof.Pair.{Pair}
 use Rattle.fst_basis.specs.Basis.{IsPair, same_letters}
-use Rattle.fst_basis.proofs.Laws.{pair_told}
+use Rattle.fst_basis.proofs.Laws.{as_long, letters_at, pair_told, rule_there}
 use Rattle.fst_expand.specs.Bridge.{AreFit, HaveMet, HaveNoRoom, Meet}
 use Rattle.fst_expand.specs.Expansion.{AddsNext, AreAfter, AreFollowed, IsFollowed, LackRoom}
 use Rattle.fst_expand.specs.Good.{DropHeads, Each, HaveCutsAfter, HavePrunedCuts, IsIn}
@@ -20,32 +19,6 @@ use Rattle.fst_expand.specs.Table.{Adds, Grows}
 use Rattle.fst_expand.proofs.CollectLaws.{each_more, grows_none, grows_on}
 use Rattle.fst_expand.proofs.CutLaws.{same_cuts}
 use Rattle.fst_expand.proofs.PlaceLaws.{one_item, parted, taken}
-
--- the rule at a place is the one that its letter finds
-rule_there : (rules : List Rule) (i : ℕ) (r : Rule) → AreOrdered rules → slice_get rules i ≡ Some r →
-    rule_of rules r.letter ≡ Some r.word
-rule_there rules i r o e =
-    let is : get_or rules i r ≡ r = get_or_from_slice_get rules i r r e in
-    present rules r.letter i r o (slice_get_within rules i r e) (ap (λ (z : Rule). z.letter) is) ∙ ap
-    (λ (z : Rule). Some z.word) is
-
--- rules with the same letters have them at the same places
-letters_at : (rs qs : List Rule) (i : ℕ) (r q : Rule) → same_letters rs qs ≡ true → slice_get rs i ≡ Some r →
-    slice_get qs i ≡ Some q → r.letter ≡ q.letter
-letters_at [] qs i r q e ri qi = absurd (cc ri)
-letters_at (x ∷ rs) [] i r q e ri qi = absurd (cc e)
-letters_at (x ∷ rs) (y ∷ qs) zero r q e ri qi =
-    let p = and_parts (x.letter == y.letter) (same_letters rs qs) e in
-    ap (λ (z : Rule). z.letter) (let f : r ≡ x = cc in f) ∙ same_number x.letter y.letter p.0 ∙ ap
-    (λ (z : Rule). z.letter) (let f : y ≡ q = cc in f)
-letters_at (x ∷ rs) (y ∷ qs) (suc i) r q e ri qi =
-    letters_at rs qs i r q (and_parts (x.letter == y.letter) (same_letters rs qs) e).1 ri qi
-
-pub as_long : (rs qs : List Rule) → same_letters rs qs ≡ true → length rs ≡ length qs
-as_long [] [] e = refl
-as_long [] (q ∷ qs) e = absurd (cc e)
-as_long (r ∷ rs) [] e = absurd (cc e)
-as_long (r ∷ rs) (q ∷ qs) e = ap suc (as_long rs qs (and_parts (r.letter == q.letter) (same_letters rs qs) e).1)
 
 -- a letter that a row has stands at some place
 pub rule_at : (rules : List Rule) (a : ℕ) (w : List ℕ) → rule_of rules a ≡ Some w → (j : ℕ) × (r : Rule) ×

@@ -6,7 +6,6 @@ mod FinishLaws
 mod FollowLaws
 mod FrontLaws
 mod KeyLaws
-mod LoweringLaws
 mod MeasureLaws
 mod NormLaws
 mod OptionLaws

@@ -1,8 +1,7 @@
 -- Norms, the words that lower them, and what isn't marked.
-use Rattle.std.proofs.Common.{◌≡◌, ℕ, ◌-◌, ◌≤◌, List, [], ◌∷◌, refl, sym, ◌∙◌, ap, subst, arith, Some, None, Option, Bool, true, false, ◌&&◌, ◌||◌, ◌==◌, cond}
+use Rattle.std.proofs.Common.{◌≡◌, ℕ, ◌-◌, List, [], ◌∷◌, refl, sym, ◌∙◌, ap, subst, arith, Some, None, Option, Bool, true, false, ◌&&◌, ◌||◌, ◌==◌, cond}
 use Rattle.std.specs.Prelude.{is_some}
 use Rattle.std.proofs.lemmas.Option.{get_or_from_slice_get}
-use Rattle.fst_base.specs.Limits.{greatest_norm}
 use Rattle.fst_base.proofs.Bools.{and_parts}
 use Rattle.fst_base.proofs.Lists.{same_items}
 use Rattle.fst_words.specs.declared.rules.Rule.{Rule}
@@ -11,20 +10,11 @@ use Rattle.fst_words.specs.Words.{Productions, row_of}
 use Rattle.fst_norms.specs.Norms.{IsNorm, IsNormOrNone}
 use Rattle.fst_norms.specs.Bounds.{all_bounded, bound_at, total}
 use Rattle.fst_norms.specs.Pruned.{AreUnnormed}
-use Rattle.fst_norms.proofs.Laws.{never_empties}
-use Rattle.fst_expand.specs.Lowering.{AreLowering, AreNorms, has_norm, lowering, word_of_norm}
+use Rattle.fst_norms.proofs.Laws.{least_of, never_empties}
+use Rattle.fst_norms.specs.Lowering.{AreLowering, AreNorms, has_norm, lowering, word_of_norm}
 use Rattle.fst_expand.specs.Trail.{AreUnmarked}
 
 -- a non-terminal has one norm
-least_of : (rows : Productions) (n j k : ℕ) → IsNorm rows n j → IsNorm rows n k → j ≤ k
-least_of rows n j k p q =
-    let r = p.reached in
-    let s = q.reached in
-    let a = p.least s.0 in
-    let top : j ≤ greatest_norm = (let e = r.2 in omega arith) in
-    let e = s.2 in
-    omega arith
-
 one_norm : (rows : Productions) (n : ℕ) (a b : Option ℕ) → IsNormOrNone rows n a → IsNormOrNone rows n b → a ≡ b
 one_norm rows n None None p q = refl
 one_norm rows n None (Some k) p q = absurd (p q.reached.0 q.reached.1)

@@ -14,7 +14,7 @@ use Rattle.fst_basis.specs.Basis.{IsPair}
 use Rattle.fst_expand.specs.Bridge.{AreFit, HaveNoRoom, HaveRoom, Meet}
 use Rattle.fst_expand.specs.Expansion.{AddsNext, AreSettled, IsClosed, IsExpanded, IsFollowed, IsStuck}
 use Rattle.fst_expand.specs.Good.{AreDistinct, AreGoodCuts, DropHeads, Each, HaveCutsAfter, HavePrunedCuts, IsGood, IsIn, IsReachedCut}
-use Rattle.fst_expand.specs.Lowering.{AreLowering, AreNorms}
+use Rattle.fst_norms.specs.Lowering.{AreLowering, AreNorms}
 use Rattle.fst_expand.specs.Table.{Adds, Grows}
 use Rattle.fst_expand.proofs.CollectLaws.{each_more}
 use Rattle.fst_expand.proofs.CutLaws.{same_cuts}
@@ -22,7 +22,7 @@ use Rattle.fst_expand.proofs.FollowLaws.{cuts_after, drops_at, letter_there, sam
 use Rattle.fst_expand.proofs.NormLaws.{same_lowering, same_norms}
 use Rattle.fst_expand.proofs.PlaceLaws.{get_taken, taken}
 use Rattle.fst_expand.proofs.SumLaws.{size_within, sum_at}
-use Rattle.fst_expand.proofs.WayLaws.{get_more}
+use Rattle.fst_basis.proofs.Laws.{get_more}
 
 -- the first pairs of a list that grew, with one more
 take_grown : (P Q : List Pair) (at : ℕ) (b : Pair) → Grows P Q → slice_get P at ≡ Some b → take (at + 1) Q ≡ take at P ++ b ∷ []

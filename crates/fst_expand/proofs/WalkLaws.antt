@@ -10,12 +10,12 @@ use Rattle.fst_basis.specs.declared.proof.Pair.{Pair}
 use Rattle.fst_basis.specs.declared.proof.Rewrite.{Rewrite}
 use Rattle.fst_basis.specs.declared.proof.Rewrite.TheVariants.{Forth}
 use Rattle.fst_basis.specs.Rewrites.{chained}
-use Rattle.fst_expand.specs.Lowering.{lowered}
+use Rattle.fst_norms.specs.Lowering.{lowered}
 use Rattle.fst_expand.specs.Cuts.{head_cut, left_rest, right_rest, unless_same}
 use Rattle.fst_expand.specs.Table.{AreNumbered}
 use Rattle.fst_expand.specs.Trail.{AreNoted, Leads}
 use Rattle.fst_expand.proofs.CutLaws.{HasHead}
-use Rattle.fst_expand.proofs.WayLaws.{chained_first, chained_last, chained_more, forth, reverse-push}
+use Rattle.fst_basis.proofs.Laws.{chained_first, chained_last, chained_more, forth, reverse-push}
 
 -- where there is no pair of two words they are the same
 pub same_words : (x y : List ℕ) → unless_same x y ≡ [] → x ≡ y

@@ -7,7 +7,7 @@ use Rattle.fst_types.specs.declared.side.Side.TheVariants.{Left, Right}
 use Rattle.fst_base.specs.Limits.{greatest_norm}
 use Rattle.fst_norms.specs.Bounds.{bound_at}
 use Rattle.fst_basis.specs.declared.proof.Pair.{Pair}
-use Rattle.fst_expand.specs.Lowering.{lowered}
+use Rattle.fst_norms.specs.Lowering.{lowered}
 
 -- the most steps by which the other head is lowered
 abbrev pub most_steps : ℕ

@@ -5,7 +5,7 @@ use Rattle.fst_words.specs.Words.{Productions, step, first_row}
 use Rattle.fst_norms.specs.Pruned.{pruned_word}
 use Rattle.fst_basis.specs.declared.proof.Pair.{Pair}
 use Rattle.fst_basis.specs.Basis.{IsPair}
-use Rattle.fst_expand.specs.Lowering.{AreLowering, AreNorms}
+use Rattle.fst_norms.specs.Lowering.{AreLowering, AreNorms}
 use Rattle.fst_expand.specs.Cuts.{HasCuts}
 
 -- the pair is in the list

@@ -1,4 +1,3 @@
-pub mod Lowering
 pub mod Bridge
 pub mod Cuts
 pub mod Expansion

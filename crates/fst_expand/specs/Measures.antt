@@ -2,7 +2,7 @@
 use Rattle.std.specs.Prelude.{ℕ, List, length, Option, Bool, All}
 use Rattle.fst_words.specs.Words.{InRange, Productions, WordBelow}
 use Rattle.fst_norms.specs.Pruned.{AreUnnormed}
-use Rattle.fst_expand.specs.Lowering.{AreLowering, AreNorms}
+use Rattle.fst_norms.specs.Lowering.{AreLowering, AreNorms}
 
 -- the marks are those of the unnormed non-terminals, these are the norms of all, and the words are what they become by the least letter
 -- that lowers their norms

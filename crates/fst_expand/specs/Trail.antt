@@ -1,5 +1,5 @@
 -- The way from one word to another, found from both ends.
-use Rattle.std.specs.Prelude.{◌≡◌, ℕ, ◌+◌, ◌<◌, List, [], ◌∷◌, ◌++◌, length, reverse, Option, Some, None, Bool, false, ◌⊎◌, All}
+use Rattle.std.specs.Prelude.{◌≡◌, ℕ, ◌+◌, ◌<◌, List, [], ◌∷◌, ◌++◌, length, reverse, Option, Some, None, Bool, false, ◌⊎◌}
 use Rattle.fst_types.specs.declared.side.Side.{Side}
 use Rattle.fst_types.specs.declared.side.Side.TheVariants.{Left, Right}
 use Rattle.fst_words.specs.Marks.{has_marked, is_marked}
@@ -11,9 +11,9 @@ use Rattle.fst_basis.specs.declared.proof.Pair.{Pair}
 use Rattle.fst_basis.specs.declared.proof.Rewrite.{Rewrite}
 use Rattle.fst_basis.specs.declared.proof.Rewrite.TheVariants.{Forth}
 use Rattle.fst_basis.specs.Rewrites.{chained}
-use Rattle.fst_basis.specs.Basis.{IsPairBelow, IsRewriteBelow}
+use Rattle.fst_basis.specs.Basis.{AreExchanges, IsPairBelow}
 use Rattle.fst_expand.specs.declared.joining.Walk.{Walk}
-use Rattle.fst_expand.specs.Lowering.{lowered_to}
+use Rattle.fst_norms.specs.Lowering.{lowered_to}
 use Rattle.fst_expand.specs.Cuts.{HasCuts, dropped, head_norm}
 use Rattle.fst_expand.specs.Good.{Each}
 use Rattle.fst_expand.specs.Table.{Store, Adds, Collects, Grows}
@@ -50,10 +50,6 @@ pub record Leads (basis : List Pair) (before after : List Rewrite) (heads : ℕ)
   pub count : length front ≡ heads
   pub from : (marks : List Bool) → chained marks basis before x ≡ Some (front ++ left)
   pub to : (marks : List Bool) → chained marks basis (reverse after) (front ++ right) ≡ Some y
-
--- the rewrites are exchanges alone, which neither cut anything off nor put anything behind a word
-abbrev pub AreExchanges : List Rewrite → Type 0
-AreExchanges steps = (n : ℕ) → All (IsRewriteBelow n) steps
 
 -- of the cuts of x and y these come first, with so many heads that are dropped, and then those of the two words that are left
 pub record ComeFirst (norms : List (Option ℕ)) (words : List (List ℕ)) (x y left right : List ℕ)

@@ -8,7 +8,7 @@ ghost use Rattle.fst_shared.specs.Shared.{Keeps, word_of};
 ghost use Rattle.fst_basis.specs.Rewrites.{chained};
 ghost use Rattle.fst_expand.specs.Bridge.{AreCutOff, AreFit, HaveNoRoom, HaveRoom, IsFront, IsWay, Meet, cutting, growing};
 ghost use Rattle.fst_expand.specs.Measures.{AreMeasures};
-ghost use Rattle.fst_expand.specs.Trail.{AreExchanges};
+ghost use Rattle.fst_basis.specs.Basis.{AreExchanges};
 
 use crate::joining::{Joined, join};
 use crate::measures::Measures;

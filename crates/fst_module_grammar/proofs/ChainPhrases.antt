@@ -69,7 +69,8 @@ prod_to d _ _ _ _ (head ts t ns p) = (one_unary ts t p.0, p.1, refl)
 prod_to d _ _ _ _ (more c ts us all t y ns ms all_nests l (first k o vs _ ks e (made _ u _ q)) parts nests) =
     let s = prod_to d c ts t ns l in
     let is = operator_is (codes "*") op.Multiply k o e in
-    subst (λ z. (s : IsProd all (term.operate (start ts) z t u)) × (prod_nests d s ≡ all_nests) × (prod_operands s ≡ suc c)) is.1 (
+    subst (λ z. (s : IsProd all (term.operate (start ts) z t u)) × (prod_nests d s ≡ all_nests) ×
+    (prod_operands s ≡ suc c)) is.1 (
       more_prod ts vs all k t u s.0 is.0 q.0 parts,
       (let e2 : prod_nests d s.0 ++ (d + prod_operands s.0) ∷ unary_nests (d + prod_operands s.0) q.0 ≡ all_nests =
           rw (s.2, s.1, q.1) (sym nests) in e2),

@@ -15,11 +15,11 @@ use Rattle.fst_basis.specs.declared.proof.Chain.{Chain}
 use Rattle.fst_basis.specs.declared.proof.Proof.{Proof}
 use Rattle.fst_basis.specs.Basis.{AreJoined, IsChainBelow, IsPair, IsPairBelow, IsProof}
 use Rattle.fst_normed.specs.Candidates.{candidate, residual}
-use Rattle.fst_normed.specs.Differences.{Differ}
+use Rattle.fst_words.specs.Differences.{Differ}
 use Rattle.fst_normed.specs.Joining.{AreJoinedByHeads}
 use Rattle.fst_normed.specs.Laws.{IsNormedGrammar}
-use Rattle.fst_normed.specs.Lowering.{AreLowering, LowerByOne}
-use Rattle.fst_normed.specs.Normed.{IsNormed}
+use Rattle.fst_norms.specs.Lowering.{AreLowering, LowerByOne}
+use Rattle.fst_norms.specs.Norms.{IsNormed}
 use Rattle.fst_normed.specs.Rounds.{AreCandidates, IsSettled}
 use Rattle.fst_normed.specs.Walks.{Leads, pairs_of}
 use Rattle.fst_normed.proofs.LowerLaws.{residual_below}

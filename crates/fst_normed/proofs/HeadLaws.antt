@@ -6,12 +6,11 @@ use Rattle.std.proofs.lemmas.List.Elements.{All-append, All-cons, All-head, All-
 use Rattle.fst_words.specs.Words.{InRange, Productions, WordBelow, after, row_of, rule_of}
 use Rattle.fst_words.proofs.Laws.{row_in_range}
 use Rattle.fst_norms.specs.Bounds.{total}
-use Rattle.fst_norms.proofs.NormLaws.{after-append, after_rule}
-use Rattle.fst_normed.specs.Normed.{norm_of}
-use Rattle.fst_normed.specs.Differences.{Differ}
+use Rattle.fst_norms.proofs.Laws.{after-append, after_rule, after_trace, differ_back, one_alone, third, total-append}
+use Rattle.fst_norms.specs.Bounds.{norm_of}
+use Rattle.fst_words.specs.Differences.{Differ}
 use Rattle.fst_normed.specs.Candidates.{residual}
-use Rattle.fst_normed.proofs.DifferenceLaws.{after_trace, differ_back, one_alone, third}
-use Rattle.fst_normed.proofs.WeightLaws.{AreWeights, IsLoweredBy, emptied, front_lowered, lowers_by, nothing_left, other_norm, some_norm, total-append, trace_in_range}
+use Rattle.fst_normed.proofs.WeightLaws.{AreWeights, IsLoweredBy, emptied, front_lowered, lowers_by, nothing_left, other_norm, some_norm, trace_in_range}
 
 -- where words with the same front differ, so does what stands behind it
 pub same_front : (rows : Productions) (s w u v : List ℕ) → is_some (after rows (w ++ u) s) ≢ is_some (after rows (w ++ v) s) →

@@ -6,12 +6,12 @@ use Rattle.std.proofs.lemmas.List.Elements.{All-append, All-head, All-tail}
 use Rattle.fst_base.proofs.Bools.{pair_itself}
 use Rattle.fst_words.specs.Words.{InRange, Productions, WordBelow}
 use Rattle.fst_norms.specs.Bounds.{total}
-use Rattle.fst_normed.specs.Normed.{norm_of}
-use Rattle.fst_normed.specs.Differences.{Differ}
+use Rattle.fst_norms.specs.Bounds.{norm_of}
+use Rattle.fst_norms.proofs.Laws.{differ_back, total-append}
+use Rattle.fst_words.specs.Differences.{Differ}
 use Rattle.fst_normed.specs.Candidates.{AreSound, IsThere, residual}
 use Rattle.fst_normed.specs.Joining.{AreJoinedByHeads, dropped, is_there}
-use Rattle.fst_normed.proofs.DifferenceLaws.{differ_back}
-use Rattle.fst_normed.proofs.WeightLaws.{AreWeights, other_norm, some_norm, total-append}
+use Rattle.fst_normed.proofs.WeightLaws.{AreWeights, other_norm, some_norm}
 use Rattle.fst_normed.proofs.HeadLaws.{candidate_differs, residual_lowered, rest_differs, same_head}
 
 -- a candidate that is there is found

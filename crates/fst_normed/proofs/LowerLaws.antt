@@ -3,10 +3,10 @@ use Rattle.std.proofs.Common.{◌≡◌, ◌+◌, ◌-◌, ◌<◌, ◌≤◌, �
 use Rattle.std.proofs.lemmas.List.Elements.{All-append, All-cons, All-head, All-nil, All-tail}
 use Rattle.fst_words.specs.Words.{WordBelow}
 use Rattle.fst_norms.specs.Bounds.{total}
+use Rattle.fst_norms.proofs.Laws.{total-append}
 use Rattle.fst_normed.specs.Candidates.{residual}
-use Rattle.fst_normed.specs.Lowering.{LowerByOne, lowered, lowered_to}
-use Rattle.fst_normed.specs.Normed.{norm_of}
-use Rattle.fst_normed.proofs.WeightLaws.{total-append}
+use Rattle.fst_norms.specs.Lowering.{LowerByOne, lowered, lowered_to}
+use Rattle.fst_norms.specs.Bounds.{norm_of}
 
 -- nothing is left of nothing
 pub lowered_nothing : (words : List (List ℕ)) (k : ℕ) → lowered words k [] ≡ []

@@ -13,36 +13,11 @@ use Rattle.fst_words.specs.Words.{Productions, WordBelow, after, row_of, rule_of
 use Rattle.fst_words.proofs.Laws.{row_in_range, rule_within}
 use Rattle.fst_norms.specs.Norms.{Empties, IsNorm, IsNormOrNone}
 use Rattle.fst_norms.specs.Bounds.{IsSound, all_bounded, bound_at, total}
-use Rattle.fst_norms.proofs.NormLaws.{after_rule, rule_of-above, sound_word}
-use Rattle.fst_normed.specs.Lowering.{AreNorms, has_norm, lowered_to, lowering, word_of_norm}
-use Rattle.fst_normed.specs.Normed.{IsNormed, norm_of}
+use Rattle.fst_norms.proofs.Laws.{after_rule, norm_there, rule_of-above, sound_word, total-append}
+use Rattle.fst_norms.specs.Lowering.{has_norm, lowered_to, lowering, word_of_norm}
+use Rattle.fst_norms.specs.Bounds.{norm_of}
 use Rattle.fst_normed.specs.Laws.{IsNormedGrammar}
-use Rattle.fst_normed.proofs.WeightLaws.{AreWeights, few_by_trace, total-append}
-
--- a non-terminal's norm is at most each other norm of it
-least_of : (rows : Productions) (n j k : ℕ) → IsNorm rows n j → IsNorm rows n k → j ≤ k
-least_of rows n j k p q =
-    let r = p.reached in
-    let s = q.reached in
-    let a = p.least s.0 s.1 in
-    let top : j ≤ greatest_norm = (let e = r.2 in omega arith) in
-    let e = s.2 in
-    omega arith
-
--- the norm of a non-terminal is there, and below 2^63
-pub norm_there : (rows : Productions) (norms : List (Option ℕ)) → IsNormed rows → AreNorms rows norms →
-    (n : ℕ) → n < length rows →
-    (k : ℕ) × (bound_at norms n ≡ Some k) × (k < greatest_norm) × IsNorm rows n k
-norm_there rows norms normed are n lt = go (bound_at norms n) refl (are.each n)
-  where
-    go : (o : Option ℕ) → bound_at norms n ≡ o → IsNormOrNone rows n o → (k : ℕ) × (bound_at norms n ≡ Some k) ×
-        (k < greatest_norm) × IsNorm rows n k
-    go None e h = let p = (normed n lt).1.reached in absurd (h p.0 p.1)
-    go (Some k) e h =
-        let p = normed n lt in
-        let le = least_of rows n k p.0 h p.1 in
-        let top = p.2 in
-        (k, e, (let l : k < greatest_norm = omega arith in l), h)
+use Rattle.fst_normed.proofs.WeightLaws.{AreWeights, few_by_trace}
 
 -- the word of the first rule whose word has a norm, where there is such a rule
 pub word_found : (norms : List (Option ℕ)) (k : ℕ) (rules : List Rule) (a : ℕ) (v : List ℕ) → AreOrdered rules →

@@ -1,58 +1,27 @@
 -- When a candidate holds, and when its words differ.
-use Rattle.std.proofs.Common.{◌≡◌, ◌≢◌, ◌+◌, ◌<◌, ◌≤◌, ℕ, zero, suc, List, [], ◌∷◌, ◌++◌, length, take, drop, append-nil, refl, sym, ◌∙◌, ap, subst, arith, ◌⊎◌, inl, inr, Option, Some, None, Bool, true, false, ◌==◌, get_or, All}
+use Rattle.std.proofs.Common.{◌≡◌, ◌≢◌, ◌+◌, ◌<◌, ℕ, suc, List, [], ◌∷◌, ◌++◌, length, take, append-nil, refl, sym, ◌∙◌, ap, subst, arith, ◌⊎◌, inl, inr, Option, Some, None, Bool, true, false, ◌==◌, All}
 use Rattle.std.specs.Prelude.{is_some, option_and_then, option_map, slice_get}
 use Rattle.std.proofs.lemmas.Bool.{cases_lt, eq-eqb}
 use Rattle.std.proofs.lemmas.Bool.Decides.{eqb_tells}
 use Rattle.std.proofs.lemmas.List.Elements.{All-append, All-cons, All-nil}
-use Rattle.std.proofs.lemmas.List.{drop-append-le, drop_all, length-take, map-append, take-append-le, take_all, take_more}
+use Rattle.std.proofs.lemmas.List.{map-append, take_more}
 use Rattle.std.proofs.lemmas.Option.{get_or_from_slice_get, slice_get_within}
-use Rattle.fst_base.proofs.Bools.{and_parts, same_number}
 use Rattle.fst_words.specs.declared.rules.Rule.{Rule}
 use Rattle.fst_words.specs.Ordered.{AreOrdered}
-use Rattle.fst_words.specs.Words.{Productions, WordBelow, after, first_row, row_of, rule_of, step}
-use Rattle.fst_words.proofs.Laws.{present}
-use Rattle.fst_norms.proofs.NormLaws.{after_rule, rule_of-above}
+use Rattle.fst_words.specs.Words.{Productions, WordBelow, after, row_of, rule_of, step}
+use Rattle.fst_norms.proofs.Laws.{after_rule, after_trace, rule_of-above}
 use Rattle.fst_basis.specs.declared.proof.Pair.{Pair}
 use Rattle.fst_basis.specs.declared.proof.Chain.{Chain}
 use Rattle.fst_basis.specs.Basis.{AreJoined, AreJoinedByRules, IsChainBelow, IsPair, same_letters}
 use Rattle.fst_basis.specs.Rewrites.{chained}
-use Rattle.fst_basis.proofs.ChainLaws.{as_many}
-use Rattle.fst_basis.proofs.LetterLaws.{pair_told}
+use Rattle.fst_basis.proofs.Laws.{all_joined_push, letters_at, pair_told, rule_there}
 use Rattle.fst_normed.specs.Candidates.{AreSound, candidate, residual}
-use Rattle.fst_normed.specs.Differences.{Differ}
+use Rattle.fst_words.specs.Differences.{Differ}
 use Rattle.fst_normed.specs.Joining.{AreJoinedByHeads}
 use Rattle.fst_normed.specs.Laws.{IsNormedGrammar}
 use Rattle.fst_normed.specs.Rounds.{AllHold, AreJoinedInTurn, AreToldApart, Holds}
 use Rattle.fst_normed.specs.Walks.{Leads, pairs_of}
-use Rattle.fst_normed.proofs.DifferenceLaws.{after_trace}
 use Rattle.fst_normed.proofs.ThreeFacts.{joining_law}
-
--- the rule at a place is the one that its letter finds
-rule_there : (rules : List Rule) (i : ℕ) (r : Rule) → AreOrdered rules → slice_get rules i ≡ Some r →
-    rule_of rules r.letter ≡ Some r.word
-rule_there rules i r o e =
-    let is : get_or rules i r ≡ r = get_or_from_slice_get rules i r r e in
-    present rules r.letter i r o (slice_get_within rules i r e) (ap (λ (z : Rule). z.letter) is) ∙ ap
-    (λ (z : Rule). Some z.word) is
-
--- rules with the same letters have them at the same places
-letters_at : (rs qs : List Rule) (i : ℕ) (r q : Rule) → same_letters rs qs ≡ true → slice_get rs i ≡ Some r →
-    slice_get qs i ≡ Some q → r.letter ≡ q.letter
-letters_at [] qs i r q e ri qi = absurd (cc ri)
-letters_at (x ∷ rs) [] i r q e ri qi = absurd (cc e)
-letters_at (x ∷ rs) (y ∷ qs) zero r q e ri qi =
-    let p = and_parts (x.letter == y.letter) (same_letters rs qs) e in
-    ap (λ (z : Rule). z.letter) (let f : r ≡ x = cc in f) ∙ same_number x.letter y.letter p.0 ∙ ap
-    (λ (z : Rule). z.letter) (let f : y ≡ q = cc in f)
-letters_at (x ∷ rs) (y ∷ qs) (suc i) r q e ri qi =
-    letters_at rs qs i r q (and_parts (x.letter == y.letter) (same_letters rs qs) e).1 ri qi
-
--- and are as many
-pub as_long : (rs qs : List Rule) → same_letters rs qs ≡ true → length rs ≡ length qs
-as_long [] [] e = refl
-as_long [] (q ∷ qs) e = absurd (cc e)
-as_long (r ∷ rs) [] e = absurd (cc e)
-as_long (r ∷ rs) (q ∷ qs) e = ap suc (as_long rs qs (and_parts (r.letter == q.letter) (same_letters rs qs) e).1)
 
 -- a letter of the first rule has none further on
 none_later : (r : Rule) (rs : List Rule) → AreOrdered (r ∷ rs) → is_some (rule_of rs r.letter) ≡ false
@@ -210,24 +179,6 @@ module _ (rows : Productions) (norms : List (Option ℕ)) (words : List (List �
       differ_of (inl j) = absurd (t.apart j)
       differ_of (inr d) = d
 
--- one pair more, with its chains
-joined_push : (rows : Productions) (marks : List Bool) (P : List Pair) (b : Pair) (ds : List Chain) →
-    AreJoinedByRules rows marks P (drop 1 b.left) b.right (first_row rows b.left) ds →
-    (bs : List Pair) (cs : List Chain) → AreJoined rows marks P bs cs → AreJoined rows marks P (bs ++ b ∷ []) (cs ++ ds)
-joined_push rows marks P b ds j [] cs h =
-    let many = as_many rows marks P (drop 1 b.left) b.right (first_row rows b.left) ds j in
-    let all : take (length (first_row rows b.left)) ds ≡ ds = take_all (length (first_row rows b.left)) ds (omega arith) in
-    let none : drop (length (first_row rows b.left)) ds ≡ [] = drop_all (length (first_row rows b.left)) ds (omega arith) in
-    rw h (rw (all, none) (j, refl))
-joined_push rows marks P b ds j (c ∷ bs) cs h =
-    let n = length (first_row rows c.left) in
-    let many = as_many rows marks P (drop 1 c.left) c.right (first_row rows c.left) (take n cs) h.0 in
-    let short = length-take n cs in
-    let within : n ≤ length cs = omega arith in
-    let front : take n (cs ++ ds) ≡ take n cs = take-append-le n cs ds within in
-    let rest : drop n (cs ++ ds) ≡ drop n cs ++ ds = drop-append-le n cs ds within in
-    rw (front, rest) (h.0, joined_push rows marks P b ds j bs (drop n cs) h.1)
-
 -- there is one candidate at a place
 pub same_at : (candidates : List (ℕ × ℕ)) (at k : ℕ) (c d : ℕ × ℕ) → k ≡ at → slice_get candidates at ≡ Some c →
     slice_get candidates k ≡ Some d → c ≡ d
@@ -281,6 +232,6 @@ module _ (rows : Productions) (norms : List (Option ℕ)) (words : List (List �
             (All-append (IsPair rows) (pairs_of norms words (take at candidates)) (candidate norms words c ∷ []) h.pairs
             (All-cons (IsPair rows) (candidate norms words c) [] one.pair (All-nil (IsPair rows))));
         joined = λ marks. subst (λ (z : List Pair). AreJoined rows marks P z (cs ++ ds)) (sym more)
-            (joined_push rows marks P (candidate norms words c) ds (one.joined marks)
+            (all_joined_push rows marks P (candidate norms words c) ds (one.joined marks)
             (pairs_of norms words (take at candidates)) cs (h.joined marks));
       }

@@ -3,7 +3,7 @@ use Rattle.std.proofs.Common.{[], ◌∷◌, ◌++◌, arith}
 use Rattle.fst_norms.specs.Bounds.{total}
 use Rattle.fst_normed.specs.Candidates.{residual}
 use Rattle.fst_normed.specs.Laws.{CutLaw, HeadLaw, JoiningLaw}
-use Rattle.fst_normed.proofs.DifferenceLaws.{same_from}
+use Rattle.fst_norms.proofs.Laws.{same_from}
 use Rattle.fst_normed.proofs.HeadLaws.{candidate_differs, front_differs, rest_differs}
 use Rattle.fst_normed.proofs.JoinLaws as joins
 use Rattle.fst_normed.proofs.NormedLaws.{weights}

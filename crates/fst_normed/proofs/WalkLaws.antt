@@ -12,9 +12,9 @@ use Rattle.fst_basis.specs.Rewrites.{chained}
 use Rattle.fst_normed.specs.Candidates.{candidate, residual}
 use Rattle.fst_normed.specs.Joining.{AreJoinedByHeads, dropped}
 use Rattle.fst_normed.specs.Walks.{IsUnderway, Leads, pairs_of}
-use Rattle.fst_normed.specs.Normed.{norm_of}
+use Rattle.fst_norms.specs.Bounds.{norm_of}
 use Rattle.fst_normed.proofs.JoinLaws.{equal_dropped, found, left_dropped, right_dropped}
-use Rattle.fst_normed.proofs.ChainLaws.{back, exchanges_on, exchanges_push, reversed_exchanges, chained-append, chained_first, chained_last, forth, reverse-push}
+use Rattle.fst_basis.proofs.Laws.{back, exchanges_on, exchanges_push, reversed_exchanges, chained-append, chained_first, chained_last, forth, reverse-push}
 
 module _ (norms : List (Option ℕ)) (words : List (List ℕ)) (candidates : List (ℕ × ℕ)) where
   -- words that are joined are so once their heads are dropped

@@ -7,15 +7,10 @@ use Rattle.fst_words.specs.Words.{InRange, Productions, WordBelow, after, row_of
 use Rattle.fst_words.proofs.Laws.{row_in_range}
 use Rattle.fst_norms.specs.Norms.{Empties}
 use Rattle.fst_norms.specs.Bounds.{total}
-use Rattle.fst_norms.proofs.NormLaws.{after_rule}
-use Rattle.fst_normed.specs.Lowering.{lowered, lowered_to}
-use Rattle.fst_normed.specs.Normed.{norm_of}
-use Rattle.fst_normed.specs.Differences.{Differ}
-use Rattle.fst_normed.proofs.DifferenceLaws.{after_trace, differ_back, one_alone}
-
-pub total-append : (norms : List (Option ℕ)) (v w : List ℕ) → total norms (v ++ w) ≡ total norms v + total norms w
-total-append norms [] w = omega arith
-total-append norms (n ∷ v) w = let h = total-append norms v w in omega arith
+use Rattle.fst_norms.proofs.Laws.{after_rule, after_trace, differ_back, one_alone, total-append}
+use Rattle.fst_norms.specs.Lowering.{lowered, lowered_to}
+use Rattle.fst_norms.specs.Bounds.{norm_of}
+use Rattle.fst_words.specs.Differences.{Differ}
 
 -- no rule lowers a norm by more than one, and the one that gives the lowering word lowers it by one
 pub record AreWeights (rows : Productions) (norms : List (Option ℕ)) (words : List (List ℕ)) : Type 0 where

@@ -2,9 +2,9 @@
 use Rattle.std.specs.Prelude.{◌≡◌, ◌≢◌, ℕ, ◌<◌, ◌≤◌, List, [], ◌∷◌, Option, Some, slice_get, ◌⊎◌}
 use Rattle.fst_words.specs.Words.{Productions}
 use Rattle.fst_basis.specs.declared.proof.Pair.{Pair}
-use Rattle.fst_normed.specs.Normed.{norm_of}
-use Rattle.fst_normed.specs.Lowering.{lowered}
-use Rattle.fst_normed.specs.Differences.{Differ}
+use Rattle.fst_norms.specs.Bounds.{norm_of}
+use Rattle.fst_norms.specs.Lowering.{lowered}
+use Rattle.fst_words.specs.Differences.{Differ}
 
 -- what Y becomes by as many steps that lower its norm as the norm of X is
 abbrev pub residual : List (Option ℕ) → List (List ℕ) → ℕ → ℕ → List ℕ

@@ -1,7 +1,7 @@
 -- Joining two words by their heads.
 use Rattle.std.specs.Prelude.{◌≡◌, ℕ, ◌&&◌, ◌==◌, List, [], ◌∷◌, ◌++◌, Option, Some, None, Bool, nat_eq, nat_le, if◌then◌else◌}
 use Rattle.std.specs.List.{list_any}
-use Rattle.fst_normed.specs.Normed.{norm_of}
+use Rattle.fst_norms.specs.Bounds.{norm_of}
 use Rattle.fst_normed.specs.Candidates.{residual}
 
 -- the candidate of these non-terminals is one of them

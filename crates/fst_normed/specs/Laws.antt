@@ -3,11 +3,12 @@ use Rattle.std.specs.Prelude.{ℕ, ◌≤◌, ◌⊎◌, List, [], ◌∷◌, �
 use Rattle.fst_base.specs.Agreement.{HaveSameTraces}
 use Rattle.fst_words.specs.Ordered.{AreOrdered}
 use Rattle.fst_words.specs.Words.{Productions, InRange, WordBelow, row_of, step}
-use Rattle.fst_normed.specs.Normed.{IsNormed, norm_of}
-use Rattle.fst_normed.specs.Lowering.{AreLowering, AreNorms}
+use Rattle.fst_norms.specs.Norms.{IsNormed}
+use Rattle.fst_norms.specs.Bounds.{norm_of}
+use Rattle.fst_norms.specs.Lowering.{AreLowering, AreNorms}
 use Rattle.fst_normed.specs.Candidates.{AreSound, residual}
 use Rattle.fst_normed.specs.Joining.{AreJoinedByHeads}
-use Rattle.fst_normed.specs.Differences.{Differ}
+use Rattle.fst_words.specs.Differences.{Differ}
 
 -- a grammar whose non-terminals all have norms, with these and with the words that lower them
 pub record IsNormedGrammar (rows : Productions) (norms : List (Option ℕ))

@@ -1,7 +1,3 @@
-pub mod Limits
-pub mod Normed
-pub mod Lowering
-pub mod Differences
 pub mod Candidates
 pub mod Joining
 pub mod Laws

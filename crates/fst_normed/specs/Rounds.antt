@@ -1,5 +1,5 @@
 -- What taking candidates away leaves.
-use Rattle.std.specs.Prelude.{◌≡◌, ℕ, ◌+◌, ◌≤◌, List, [], ◌∷◌, ◌++◌, length, take, Option, Some, Bool, All, ◌⊎◌, slice_get, sum_by}
+use Rattle.std.specs.Prelude.{◌≡◌, ℕ, ◌+◌, ◌<◌, ◌≤◌, List, [], ◌∷◌, ◌++◌, length, take, Option, Some, Bool, All, ◌⊎◌, slice_get, sum_by}
 use Rattle.fst_words.specs.declared.rules.Rule.{Rule}
 use Rattle.fst_words.specs.Words.{Productions, row_of}
 use Rattle.fst_basis.specs.declared.proof.Chain.{Chain}
@@ -18,6 +18,12 @@ pub record IsAdded (old new : List (ℕ × ℕ)) (c : ℕ × ℕ) : Type 0 where
   pub kept : (d : ℕ × ℕ) → IsThere old d → IsThere new d
   pub only : (d : ℕ × ℕ) → IsThere new d → IsThere old d ⊎ (c ≡ d)
   pub count : length new ≤ length old + 1
+
+-- the candidate is taken away, and no other one
+pub record IsTaken (old new : List (ℕ × ℕ)) (c : ℕ × ℕ) : Type 0 where
+  pub kept : (d : ℕ × ℕ) → IsThere old d → IsThere new d ⊎ (d ≡ c)
+  pub only : (d : ℕ × ℕ) → IsThere new d → IsThere old d
+  pub less : length new < length old
 
 -- these are candidates of a grammar with n non-terminals
 abbrev pub AreCandidates : ℕ → List (Option ℕ) → List (ℕ × ℕ) → Type 0

@@ -1,9 +1,9 @@
 -- The way from one word to another, found from both ends.
-use Rattle.std.specs.Prelude.{◌≡◌, ℕ, List, ◌∷◌, ◌++◌, ◌+◌, reverse, map, length, Option, Some, Bool, All}
+use Rattle.std.specs.Prelude.{◌≡◌, ℕ, List, ◌∷◌, ◌++◌, ◌+◌, reverse, map, length, Option, Some, Bool}
 use Rattle.fst_words.specs.Words.{WordBelow}
 use Rattle.fst_basis.specs.declared.proof.Pair.{Pair}
 use Rattle.fst_basis.specs.declared.proof.Rewrite.{Rewrite}
-use Rattle.fst_basis.specs.Basis.{IsRewriteBelow}
+use Rattle.fst_basis.specs.Basis.{AreExchanges}
 use Rattle.fst_basis.specs.Rewrites.{chained}
 use Rattle.fst_normed.specs.declared.joining.Walk.{Walk}
 use Rattle.fst_normed.specs.Candidates.{candidate}
@@ -12,10 +12,6 @@ use Rattle.fst_normed.specs.Joining.{AreJoinedByHeads}
 -- the pairs of these candidates
 abbrev pub pairs_of : List (Option ℕ) → List (List ℕ) → List (ℕ × ℕ) → List Pair
 pairs_of norms words candidates = map (candidate norms words) candidates
-
--- the rewrites exchange words of pairs: they cut off nothing and put nothing there
-abbrev pub AreExchanges : List Rewrite → Type 0
-AreExchanges steps = (n : ℕ) → All (IsRewriteBelow n) steps
 
 -- The rewrites lead from x to the left word, and from the right word to y, with the same heads in front. Those that lead to y come last
 -- one first. If x and y are joined by their heads, so are these two words.

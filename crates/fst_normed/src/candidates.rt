@@ -3,9 +3,9 @@
 ghost use Rattle.std.specs.Prelude.{◌≡◌, ◌<◌, ◌≤◌, ◌+◌, ◌*◌, ◌^◌, [], ℕ, IfNone, IfOk, IfSome, OnOk, Some, false, length, slice_get};
 ghost use Rattle.fst_normed.specs.Candidates.{IsCandidate, IsThere};
 ghost use Rattle.fst_normed.specs.Joining.{is_there};
-ghost use Rattle.fst_normed.specs.Rounds.{AreCandidates, IsAdded};
+ghost use Rattle.fst_normed.specs.Rounds.{AreCandidates, IsAdded, IsTaken};
 
-use crate::lowering::norm_of;
+use fst_norms::norm_of;
 use indexmap::IndexSet;
 use std::alloc::{AllocError, Global};
 use std::marker::Model;
@@ -55,6 +55,21 @@ impl Candidates {
         ensures some { IfSome result (λ at. slice_get self.now at ≡ Some (x, y)) }
     {
         self.pairs.get_index_of(&(x, y))
+    }
+
+    /// Takes the candidate at a place away. The last one comes to its place.
+    pub(crate) fn remove(&mut self, at: usize)
+        requires { at < length self.old }
+        ensures { (c : ℕ × ℕ) → slice_get self.old at ≡ Some c → IsTaken self.old self.new c }
+    {
+        self.pairs.swap_remove_index(at);
+    }
+
+    /// Takes the last one off.
+    pub(crate) fn pop(&mut self) -> Option<(u32, u32)>
+        ensures { IfSome result (λ c. length self.new < length self.old) }
+    {
+        self.pairs.pop()
     }
 
     /// Adds the candidate of two non-terminals, unless it is there.

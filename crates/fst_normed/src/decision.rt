@@ -4,24 +4,24 @@ ghost use Rattle.std.specs.Prelude.{◌≡◌, ◌<◌, ◌≤◌, ◌+◌, ◌*
 ghost use Rattle.fst_words.specs.Ordered.{AreOrdered};
 ghost use Rattle.fst_words.specs.Words.{InRange, LettersBelow, WordBelow, row_of};
 ghost use Rattle.fst_words.specs.Marks.{IsUnnormedSet};
+ghost use Rattle.fst_base.specs.Limits.{most_rewrites};
 ghost use Rattle.fst_basis.specs.declared.proof.Chain.{Chain};
 ghost use Rattle.fst_basis.specs.Basis.{IsProof};
 ghost use Rattle.fst_normed.specs.Candidates.{candidate};
-ghost use Rattle.fst_normed.specs.Differences.{Differ};
+ghost use Rattle.fst_words.specs.Differences.{Differ};
 ghost use Rattle.fst_normed.specs.Joining.{AreJoinedByHeads};
-ghost use Rattle.fst_normed.specs.Limits.{most_rewrites};
-ghost use Rattle.fst_normed.specs.Lowering.{LowerByOne};
-ghost use Rattle.fst_normed.specs.Normed.{IsNormed};
+ghost use Rattle.fst_norms.specs.Lowering.{LowerByOne};
+ghost use Rattle.fst_norms.specs.Norms.{IsNormed};
 ghost use Rattle.fst_normed.specs.Rounds.{AreCandidates, rewrites_of};
 ghost use Rattle.fst_normed.specs.Walks.{Leads, pairs_of};
 
 use crate::candidates::{Candidates, all_candidates};
 use crate::joining::join;
-use crate::limits::MOST_REWRITES;
-use crate::lowering::{lowering_words, residual};
+use crate::lowering::residual;
 use crate::rounds::{Settled, settle};
+use fst_base::MOST_REWRITES;
 use fst_basis::{Chain, Pair, Proof};
-use fst_norms::norms;
+use fst_norms::{lowering_words, norms};
 use fst_words::{Grammar, Word};
 use std::alloc::{AllocError, Global};
 

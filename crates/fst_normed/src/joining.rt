@@ -5,12 +5,13 @@ ghost use Rattle.fst_words.specs.Words.{WordBelow};
 ghost use Rattle.fst_norms.specs.Bounds.{total};
 ghost use Rattle.fst_normed.specs.Candidates.{residual};
 ghost use Rattle.fst_normed.specs.Joining.{AreJoinedByHeads, dropped, is_there};
-ghost use Rattle.fst_normed.specs.Lowering.{LowerByOne};
+ghost use Rattle.fst_norms.specs.Lowering.{LowerByOne};
 ghost use Rattle.fst_normed.specs.Walks.{IsPopped, IsUnderwayIn, IsUnderwayWith, Leads, rewrites_in};
 
 use crate::candidates::Candidates;
-use crate::lowering::{norm_of, push_word, residual};
+use crate::lowering::residual;
 use fst_basis::Rewrite;
+use fst_norms::{norm_of, push_word};
 use fst_words::Word;
 use std::alloc::{AllocError, Global};
 

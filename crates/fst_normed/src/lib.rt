@@ -4,14 +4,11 @@
 
 mod candidates;
 mod decision;
-mod difference;
 mod joining;
 mod law;
-mod limits;
 mod lowering;
 mod rounds;
+mod sifting;
 
 pub use decision::decide;
-pub use difference::least;
 pub use law::{cut_law, head_law, joining_law};
-pub use limits::{MOST_LISTED, MOST_REWRITES};

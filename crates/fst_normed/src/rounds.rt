@@ -5,14 +5,15 @@ ghost use Rattle.fst_words.specs.Ordered.{AreOrdered};
 ghost use Rattle.fst_words.specs.Words.{InRange, Productions, WordBelow, row_of};
 ghost use Rattle.fst_basis.specs.declared.proof.Chain.{Chain};
 ghost use Rattle.fst_normed.specs.Candidates.{AreSound, residual};
-ghost use Rattle.fst_normed.specs.Differences.{Differ};
+ghost use Rattle.fst_words.specs.Differences.{Differ};
 ghost use Rattle.fst_normed.specs.Laws.{IsNormedGrammar};
-ghost use Rattle.fst_normed.specs.Lowering.{LowerByOne};
+ghost use Rattle.fst_norms.specs.Lowering.{LowerByOne};
 ghost use Rattle.fst_normed.specs.Rounds.{AllHold, AreCandidates, AreJoinedInTurn, AreToldApart, Holds, IsSettled, rewrites_of};
 
 use crate::candidates::Candidates;
 use crate::joining::join;
 use crate::lowering::residual;
+use crate::sifting::sift;
 use fst_basis::{Chain, same_letters};
 use fst_words::{Grammar, Rule, Word};
 use std::alloc::{AllocError, Global};
@@ -76,8 +77,8 @@ fn join_rules(
     Ok(true)
 }
 
-// Whether the candidate of two non-terminals holds, by chains that are added, or its words differ.
-fn follow(
+/// Whether the candidate of two non-terminals holds, by chains that are added, or its words differ.
+pub(crate) fn follow(
     alloc: Global,
     g: &Grammar,
     norms: &[Option<u64>],
@@ -188,7 +189,7 @@ pub(crate) struct Settled {
     pub(crate) chains: Vec<Chain>,
 }
 
-/// Takes candidates away until all that are left hold.
+/// Takes candidates away until all that are left hold, which one round more then shows with its chains.
 pub(crate) fn settle(
     alloc: Global,
     g: &Grammar,
@@ -208,7 +209,7 @@ pub(crate) fn settle(
     ensures spent { IfOk result (λ s. rewrites_of s.chains.items + rewrites.new ≤ rewrites.old) }
     ensures count { IfOk result (λ s. length s.candidates ≤ length all) }
 {
-    let mut candidates = all;
+    let mut candidates = sift(alloc, g, norms, words, all, rewrites)?;
     loop {
         let round = take_away(alloc, g, norms, words, &candidates, rewrites)?;
         if !round.taken {

@@ -151,7 +151,7 @@ all_bounded-append d (n ∷ v) w e =
       | false ↦ λ e. cc
     ]) e
 
-total-append : (d : List (Option ℕ)) (v w : List ℕ) → total d (v ++ w) ≡ total d v + total d w
+pub total-append : (d : List (Option ℕ)) (v w : List ℕ) → total d (v ++ w) ≡ total d v + total d w
 total-append d [] w = omega arith
 total-append d (n ∷ v) w = let h = total-append d v w in omega arith
 

@@ -1,5 +1,5 @@
 -- Upper bounds of norms, which the rules lower until they are the norms.
-use Rattle.std.specs.Prelude.{◌≡◌, ℕ, ◌+◌, ◌≤◌, ◌&&◌, List, [], ◌∷◌, length, Option, Some, None, slice_index_or, Bool, true, is_some, min, unwrap_or, if◌then◌else◌}
+use Rattle.std.specs.Prelude.{◌≡◌, ℕ, ◌+◌, ◌<◌, ◌≤◌, ◌&&◌, List, [], ◌∷◌, length, Option, Some, None, slice_index_or, Bool, true, is_some, min, unwrap_or, if◌then◌else◌}
 use Rattle.fst_base.specs.Limits.{greatest_norm}
 use Rattle.fst_words.specs.declared.rules.Rule.{Rule}
 use Rattle.fst_words.specs.Words.{Productions, row_of}
@@ -8,6 +8,10 @@ use Rattle.fst_norms.specs.Norms.{Empties}
 -- the bound of a non-terminal
 abbrev pub bound_at : List (Option ℕ) → ℕ → Option ℕ
 bound_at bounds n = slice_index_or bounds n None
+
+-- the norm of a non-terminal, of norms by number; 0 where it has none
+abbrev pub norm_of : List (Option ℕ) → ℕ → ℕ
+norm_of norms n = unwrap_or (bound_at norms n) 0
 
 -- each non-terminal of the word has a bound
 abbrev pub all_bounded : List (Option ℕ) → List ℕ → Bool
@@ -37,6 +41,10 @@ rule_bound bounds r = one_more (word_bound bounds r.word)
 abbrev pub weight : Option ℕ → ℕ
 weight None = greatest_norm + 1
 weight (Some k) = min k greatest_norm
+
+-- all bounds are there, and below 2^63
+abbrev pub AreAllBelow : List (Option ℕ) → Type 0
+AreAllBelow bounds = (n : ℕ) → n < length bounds → weight (bound_at bounds n) < greatest_norm
 
 -- the lesser of two bounds
 abbrev pub lesser : Option ℕ → Option ℕ → Option ℕ

@@ -1,4 +1,5 @@
 pub mod Norms
 pub mod Bounds
+pub mod Lowering
 pub mod Pruned
 pub mod Pending

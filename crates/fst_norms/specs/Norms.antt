@@ -1,5 +1,5 @@
 -- Norms: the shortest ways from a non-terminal to the empty word (Hirshfeld, Jerrum, Moller, 1996).
-use Rattle.std.specs.Prelude.{◌≡◌, ℕ, ◌≤◌, List, [], ◌∷◌, length, Option, Some, None, min}
+use Rattle.std.specs.Prelude.{◌≡◌, ℕ, ◌<◌, ◌≤◌, List, [], ◌∷◌, length, Option, Some, None, min}
 use Rattle.fst_base.specs.Limits.{greatest_norm}
 use Rattle.fst_words.specs.Words.{Productions, after}
 
@@ -24,3 +24,7 @@ HasNoNorm rows n = (s : List ℕ) → Empties rows (n ∷ []) s → ⊥
 abbrev pub IsNormOrNone : Productions → ℕ → Option ℕ → Type 0
 IsNormOrNone rows n None = HasNoNorm rows n
 IsNormOrNone rows n (Some k) = IsNorm rows n k
+
+-- each non-terminal has a norm below 2^63
+abbrev pub IsNormed : Productions → Type 0
+IsNormed rows = (n : ℕ) → n < length rows → (k : ℕ) × IsNorm rows n k × (k < greatest_norm)

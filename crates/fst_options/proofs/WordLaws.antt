@@ -394,7 +394,8 @@ value_given g Workers Steps n m e = inr e
 
 one_within : (before : Given) (ws : List (List ℕ)) (next : Given) (rest : List (List ℕ)) → AreWithin before →
     GivesOne before ws next rest → AreWithin next
-one_within before ws next rest all (value q n p first g) o m e = by (value_given before q o n m (sym (ap (λ v. value_in v o) g) ∙ e))
+one_within before ws next rest all (value q n p first g) o m e =
+    by (value_given before q o n m (sym (ap (λ v. value_in v o) g) ∙ e))
   where
     by : ((o ≡ q) × (n ≡ m)) ⊎ (value_in before o ≡ Some m) → ((setting_of o).least ≤ m) × (m ≤ (setting_of o).most)
     by (inl r) = subst (λ q. ((setting_of q).least ≤ m) × (m ≤ (setting_of q).most)) (sym r.0)

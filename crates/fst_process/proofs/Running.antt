@@ -151,7 +151,8 @@ module _ (m : Module) (k : Code) (b : Config) (before n : ℕ) (d : Kept) (x : I
         events = x.events ++ ev ∷ [];
         config = written x.config g.3;
         runs =
-            least_then (program m) m.types.items b x.events (ev ∷ []) x.config (written x.config g.3) x.runs (g.3, g.4, g.2, refl);
+            least_then (program m) m.types.items b x.events (ev ∷ []) x.config (written x.config g.3) x.runs
+            (g.3, g.4, g.2, refl);
         many = let more = length-append x.events (ev ∷ []) in let many = x.many in omega (arith, more, many);
         reflects = happens m n x.config g.3 x.reflects g.4 (right_after ev g.3 g.4) x.fresh.0 x.fresh.1;
         fresh = named_after (program m) m.types.items x.config ev g.3 g.4 x.fresh.0 x.fresh.1;

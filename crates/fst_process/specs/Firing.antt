@@ -79,7 +79,8 @@ StepsOn k (suc i) s t = (r : Slot) × StepsOn k i s r × (r.request ≡ Step) ×
 
 -- it can do so as often as it asks to, up to so many times
 abbrev pub CanStepOn : Code → ℕ → Slot → Type 0
-CanStepOn k most s = (i : ℕ) (t : Slot) → i < most → StepsOn k i s t → t.request ≡ Step → ∥ CanStep k t ∥₁
+CanStepOn k most s = (i : ℕ) (t : Slot) → i < most → StepsOn k i s t → t.request ≡ Step →
+    ∥ CanStep k t ∥₁
 
 -- the task with this path has gone on so, and what it asks for then is noted
 pub record HasGoneOn (k : Code) (p : Path) (a : Answer) (n : ℕ) (d e : Kept) : Type 0 where

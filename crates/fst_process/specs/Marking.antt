@@ -42,7 +42,8 @@ with_mark p x f = with_marks p (x ∷ []) f
 -- the marks of so many steps, one after the other, of a task with this clock
 abbrev pub step_marks : ℕ → ℕ → List Mark
 step_marks clock zero = []
-step_marks clock (suc i) = step_marks clock i ++ record { done = Local; stamp = suc (clock + i) } ∷ []
+step_marks clock (suc i) = step_marks clock i ++ record { done = Local; stamp = suc (clock + i) }
+    ∷ []
 
 -- the event is possible in what is kept, with some code
 abbrev pub CanHappen : Kept → CoreEvent → Type 0

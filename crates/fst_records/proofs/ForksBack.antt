@@ -33,7 +33,8 @@ child_apart p k e =
     omega (arith, a, b)
 
 module _ (m : Program) (types : List Tree) (main : Birth) (ys : List Course) (ks : List ChannelHistory)
-    (fits : FitsRecord m types main ys ks) (p : Path) (n : ℕ) (has : HasPart ys (record { path = p; deed = forked; stamp = n })) (by : AreBy n ys) where
+    (fits : FitsRecord m types main ys ks) (p : Path) (n : ℕ) (has : HasPart ys (record { path = p; deed = forked; stamp = n }))
+    (by : AreBy n ys) where
   -- the part, and the course whose last entry it is, with the entry and the task before it
   abbrev part : Part
   part = record { path = p; deed = forked; stamp = n }

@@ -96,7 +96,8 @@ module _ (h : ChannelName) (n : ℕ) where
       omega (arith, a, b, c, d, e)
 
   -- the one that did is the one that is found
-  pub getter_is : (all : List Part) → sum_by count all ≤ 1 → (r : Part) → Contains all r → gets h n r ≡ true → getter all h n ≡ r.path
+  pub getter_is : (all : List Part) → sum_by count all ≤ 1 →
+      (r : Part) → Contains all r → gets h n r ≡ true → getter all h n ≡ r.path
   getter_is [] one r c g = absurd (contains_none r c)
   getter_is (x ∷ xs) one r c g = by (gets h n x) refl (from_contains xs r x c) (getter_is xs)
     where

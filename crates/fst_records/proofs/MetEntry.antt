@@ -46,7 +46,8 @@ pub record MetEntry (m : Program) (types : List Tree) (ys : List Course) (ks : L
       sum_by (trades w) t.rest.courses + (w (part_at channel Left before entry) + w (part_at channel Right before entry))
 
 module _ (m : Program) (types : List Tree) (main : Birth) (ys : List Course) (ks : List ChannelHistory)
-    (fits : FitsRecord m types main ys ks) (p q : Path) (h : ChannelName) (n : ℕ) (by : AreBy n ys) (t : MetTasks m types ys p q h n) where
+    (fits : FitsRecord m types main ys ks) (p q : Path) (h : ChannelName) (n : ℕ) (by : AreBy n ys)
+    (t : MetTasks m types ys p q h n) where
   -- what the one sent, and the other got
   abbrev sent_it : Exchange
   sent_it = record {

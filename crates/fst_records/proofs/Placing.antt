@@ -41,7 +41,8 @@ module _ {X : Type 0} where
   le_swapped f xs ys x y s = let a = ap (sum_by f) s.was in let b = sum_at f s.before x s.behind in omega (arith, a, b)
 
   -- what holds of all holds of those before one, of the one, and of those behind it
-  pub all_split : (P : X → Type 0) (before : List X) (x : X) (behind : List X) → All P (before ++ x ∷ behind) → All P before × P x ×
+  pub all_split : (P : X → Type 0) (before : List X) (x : X) (behind : List X) → All P (before ++ x ∷ behind) → All P before ×
+      P x ×
       All P behind
   all_split P [] x behind all = ((λ k d l. absurd (omega (arith, l))), All-head P x behind all, All-tail P x behind all)
   all_split P (b ∷ before) x behind all =

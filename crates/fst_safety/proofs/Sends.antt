@@ -49,25 +49,26 @@ end_send = view_send _ _ _ _ _ inside_send
 
 -- a task
 pub typed_task_send : IsSend typed_task.the_row
-typed_task_send = recorded_send _ _ (typed_task.the_type).to (typed_task.the_type).to_one (struct_send (shape typed_task.the_type) (
-  search known depth 30,
-  (
-    search (known, task.the_send) depth 30,
-    (
-      search (known, end_send) depth 30,
+typed_task_send = recorded_send _ _ (typed_task.the_type).to (typed_task.the_type).to_one
+    (struct_send (shape typed_task.the_type) (
+      search known depth 30,
       (
-        search (known, end_send) depth 30,
+        search (known, task.the_send) depth 30,
         (
-          search known depth 30,
+          search (known, end_send) depth 30,
           (
-            search (known, entry.the_send) depth 30,
+            search (known, end_send) depth 30,
             (
               search known depth 30,
-              tt,
+              (
+                search (known, entry.the_send) depth 30,
+                (
+                  search known depth 30,
+                  tt,
+                ),
+              ),
             ),
           ),
         ),
       ),
-    ),
-  ),
-))
+    ))

@@ -1,3 +1,4 @@
 pub mod Marks
 pub mod Ordered
 pub mod Words
+pub mod Differences

@@ -179,7 +179,8 @@ module _ (k : Code) (main : Birth) (steps : ℕ) (s : Settled) (h : IsRecordKept
       let z : IsRecordOf (program m) m.types.items (main_birth e) f.config n gained =
       subst (λ main. IsRecordOf (program m) m.types.items main f.config n gained) begins d in
       let marks : AreMarks first (λ (p : Path). marks_from p zero (log_of ys p)) = record {
-        once = marks_once s.logs.items ys first h.logs own (paths_once (λ (y : Course). y) (program m) main ys h.fits.root h.fits.births);
+        once = marks_once s.logs.items ys first h.logs own
+            (paths_once (λ (y : Course). y) (program m) main ys h.fits.root h.fits.births);
         are = marks_found s.logs.items ys first h.logs own;
       } in
       let both = joins (λ (p : Path). marks_from p zero (log_of ys p))

@@ -547,7 +547,8 @@ infer::infer_head-returns-in-Split-clause-refused t c =
 
 pub infer::infer_head-infer_not-requires : goal.infer::infer_head-infer_not-requires
 infer::infer_head-infer_not-requires t c =
-    let whole = whole_one negate (λ n x. refl) (rw c.in-Not.is at c.head.view_is) c.place_of-at.ensures c.deref-in-Not.ensures in (
+    let whole = whole_one negate (λ n x. refl) (rw c.in-Not.is at c.head.view_is) c.place_of-at.ensures
+    c.deref-in-Not.ensures in (
       omega (arith, ap core_height whole, c.decreases),
       (c.requires.set_up, subst (λ e. IsReady (check_in c.args.scene) e c.args.context.now.variables) whole c.requires.ready),
     )
@@ -649,7 +650,8 @@ infer::infer_head-returns-in-Select-clause-refused t c =
 
 pub infer::infer_head-infer_fork-requires : goal.infer::infer_head-infer_fork-requires
 infer::infer_head-infer_fork-requires t c =
-    let whole = whole_one fork (λ n x. refl) (rw c.in-Fork.is at c.head.view_is) c.place_of-at.ensures c.deref-in-Fork.ensures in (
+    let whole = whole_one fork (λ n x. refl) (rw c.in-Fork.is at c.head.view_is) c.place_of-at.ensures
+    c.deref-in-Fork.ensures in (
       omega (arith, ap core_height whole, c.decreases),
       (c.requires.set_up, subst (λ e. IsReady (check_in c.args.scene) e c.args.context.now.variables) whole c.requires.ready),
     )

@@ -13,5 +13,6 @@ returns-clause-sound g c =
     let d = c.requires.derived in
     IfOk-weaker c.run_module.result (λ (r : Ran). IsOutcomeOf o.events o.steps m r.outcome (string_bytes r.lines))
     (λ (r : Ran). IsSoundOutcome m r.outcome)
-    (λ (r : Ran) h. outcome_sound c.sound_law.ensures m (c.safety_law.ensures m d.derivations d.derived) o.events o.steps r.outcome
+    (λ (r : Ran) h. outcome_sound c.sound_law.ensures m
+    (c.safety_law.ensures m d.derivations d.derived) o.events o.steps r.outcome
     (string_bytes r.lines) h) c.run_module.ensures

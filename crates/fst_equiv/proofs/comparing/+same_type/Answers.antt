@@ -46,33 +46,49 @@ same_type-returns-then-is_part-2-clause-equal t c =
 
 pub same_type-returns-in-Plain-Plain-clause-answer : goal.same_type-returns-in-Plain-Plain-clause-answer
 same_type-returns-in-Plain-Plain-clause-answer t c =
-    let h = c.unless_same.ensures c.args.budget in
-    search (rules, h)
+    let left = rw c.in-Plain-Plain.is-0 at c.t.view_is in
+    let right = rw c.in-Plain-Plain.is-1 at c.u.view_is in
+    rw (← left, ← right) (rw c.same_base.ensures at c.unless_same.ensures c.args.budget)
 
 pub same_type-returns-in-Plain-Plain-clause-equal : goal.same_type-returns-in-Plain-Plain-clause-equal
 same_type-returns-in-Plain-Plain-clause-equal t c =
     found_equal c.args.t.now c.args.u.now c.args.budget (Ok c.unless_same.result)
     (same_type-returns-in-Plain-Plain-clause-answer t c)
 
-pub same_type-returns-then-eq-clause-equal : goal.same_type-returns-then-eq-clause-equal
-same_type-returns-then-eq-clause-equal t c =
-    let h : IfOk c.same_parts.result (λ (a : Same). IsComparison c.args.t.now c.args.u.now c.args.budget a) = search rules in
-    found_equal c.args.t.now c.args.u.now c.args.budget c.same_parts.result h
+pub same_type-returns-then-same_use-clause-answer : goal.same_type-returns-then-same_use-clause-answer
+same_type-returns-then-same_use-clause-answer t c =
+    let left = rw c.in-Arrow-Arrow.is-0 at c.t.view_is in
+    let right = rw c.in-Arrow-Arrow.is-1 at c.u.view_is in
+    rw (← left, ← right, sym c.same_use.ensures ∙ c.if-same_use.true) (rw
+    (c.deref.ensures, c.deref-then-same_use.ensures, c.deref-then-same_use-2.ensures, c.deref-then-same_use-3.ensures) at
+    c.same_parts.ensures.answer)
 
-pub same_type-returns-else-eq-clause-answer : goal.same_type-returns-else-eq-clause-answer
-same_type-returns-else-eq-clause-answer t c =
+pub same_type-returns-then-same_use-clause-equal : goal.same_type-returns-then-same_use-clause-equal
+same_type-returns-then-same_use-clause-equal t c =
+    found_equal c.args.t.now c.args.u.now c.args.budget c.same_parts.result (same_type-returns-then-same_use-clause-answer t c)
+
+pub same_type-returns-else-same_use-clause-answer : goal.same_type-returns-else-same_use-clause-answer
+same_type-returns-else-same_use-clause-answer t c =
     differing_alone c.args.budget c.args.t.now c.args.u.now (search rules)
+
+pub same_type-returns-in-Pair-Pair-clause-answer : goal.same_type-returns-in-Pair-Pair-clause-answer
+same_type-returns-in-Pair-Pair-clause-answer t c =
+    let left = rw c.in-Pair-Pair.is-0 at c.t.view_is in
+    let right = rw c.in-Pair-Pair.is-1 at c.u.view_is in
+    rw (← left, ← right) (rw
+    (c.deref-in-Pair-Pair.ensures, c.deref-in-Pair-Pair-2.ensures, c.deref-in-Pair-Pair-3.ensures, c.deref-in-Pair-Pair-4.ensures)
+    at c.same_parts-in-Pair-Pair.ensures.answer)
 
 pub same_type-returns-in-Pair-Pair-clause-equal : goal.same_type-returns-in-Pair-Pair-clause-equal
 same_type-returns-in-Pair-Pair-clause-equal t c =
-    let h : IfOk c.same_parts-in-Pair-Pair.result (λ (a : Same). IsComparison c.args.t.now c.args.u.now c.args.budget a) =
-    search rules in
-    found_equal c.args.t.now c.args.u.now c.args.budget c.same_parts-in-Pair-Pair.result h
+    found_equal c.args.t.now c.args.u.now c.args.budget c.same_parts-in-Pair-Pair.result
+    (same_type-returns-in-Pair-Pair-clause-answer t c)
 
 pub same_type-returns-in-Named-Named-clause-answer : goal.same_type-returns-in-Named-Named-clause-answer
 same_type-returns-in-Named-Named-clause-answer t c =
-    let h = c.unless_same-in-Named-Named.ensures c.args.budget in
-    search (rules, h)
+    let left = rw c.in-Named-Named.is-0 at c.t.view_is in
+    let right = rw c.in-Named-Named.is-1 at c.u.view_is in
+    rw (← left, ← right) (c.unless_same-in-Named-Named.ensures c.args.budget)
 
 pub same_type-returns-in-Named-Named-clause-equal : goal.same_type-returns-in-Named-Named-clause-equal
 same_type-returns-in-Named-Named-clause-equal t c =

@@ -8,7 +8,8 @@ use Rattle.fst_shared.proofs.Laws.{keeps_on}
 use Rattle.fst_expand.specs.Bridge.{IsWay}
 use Rattle.fst_expand.specs.Expansion.{parts_pair}
 use Rattle.fst_expand.proofs.ChainLaws.{below_by_ways, joined_by_ways, ways_push}
-use Rattle.fst_expand.proofs.FollowLaws.{after_at, as_long}
+use Rattle.fst_basis.proofs.Laws.{as_long}
+use Rattle.fst_expand.proofs.FollowLaws.{after_at}
 use Rattle.fst_expand.proofs.FrontLaws.{front_of, pair_letters, way_before}
 use Rattle.fst_expand.proofs.PlaceLaws.{got}
 use Rattle.fst_expand.proofs.chaining.chain_rules.Goals as goal

@@ -8,7 +8,8 @@ use Rattle.fst_basis.specs.declared.proof.Pair.{Pair}
 use Rattle.fst_basis.specs.Basis.{AreJoined, IsChainBelow}
 use Rattle.fst_expand.specs.Bridge.{AreFit, IsWay}
 use Rattle.fst_expand.specs.Expansion.{AreFollowedBy, AreSettled}
-use Rattle.fst_expand.proofs.ChainLaws.{all_joined_push, chained_proof}
+use Rattle.fst_basis.proofs.Laws.{all_joined_push}
+use Rattle.fst_expand.proofs.ChainLaws.{chained_proof}
 use Rattle.fst_expand.proofs.FrontLaws.{front_alone}
 use Rattle.fst_expand.proofs.PlaceLaws.{taken}
 use Rattle.fst_expand.proofs.chaining.chains_of.Goals as goal

@@ -4,7 +4,8 @@ use Rattle.fst_shared.specs.Shared.{word_of}
 use Rattle.fst_basis.specs.declared.proof.Pair.{Pair}
 use Rattle.fst_basis.specs.Basis.{same_letters}
 use Rattle.fst_expand.specs.Table.{key_pair}
-use Rattle.fst_expand.proofs.FollowLaws.{as_long, pair_moves}
+use Rattle.fst_expand.proofs.FollowLaws.{pair_moves}
+use Rattle.fst_basis.proofs.Laws.{as_long}
 use Rattle.fst_expand.proofs.FrontLaws.{parts_left, parts_right}
 use Rattle.fst_expand.proofs.PlaceLaws.{one_item}
 use Rattle.fst_expand.proofs.following.follow.Goals as goal

@@ -7,7 +7,8 @@ use Rattle.fst_shared.specs.Shared.{word_of}
 use Rattle.fst_shared.proofs.Laws.{keeps_on}
 use Rattle.fst_expand.specs.Bridge.{HaveNoRoom, Meet}
 use Rattle.fst_expand.specs.Expansion.{parts_pair}
-use Rattle.fst_expand.proofs.FollowLaws.{after_at, as_long, followed_last, followed_next, lack_next}
+use Rattle.fst_basis.proofs.Laws.{as_long}
+use Rattle.fst_expand.proofs.FollowLaws.{after_at, followed_last, followed_next, lack_next}
 use Rattle.fst_expand.proofs.FrontLaws.{front_of, met_before}
 use Rattle.fst_expand.proofs.PlaceLaws.{got, read_at}
 use Rattle.fst_expand.proofs.following.follow_rules.Goals as goal

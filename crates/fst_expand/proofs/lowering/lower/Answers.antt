@@ -1,9 +1,9 @@
 use Rattle.std.proofs.Common.{◌≡◌, ◌<◌, ◌∙◌, ◌++◌, ◌∷◌, [], ap, length, List, ℕ, reverse, sym, subst}
 use Rattle.std.proofs.lemmas.List.Elements.{All-head}
 use Rattle.fst_words.specs.Words.{WordBelow}
-use Rattle.fst_expand.specs.Lowering.{lower}
+use Rattle.fst_norms.specs.Lowering.{lower}
 use Rattle.fst_expand.proofs.CutLaws.{lower_below}
-use Rattle.fst_expand.proofs.LoweringLaws.{popped}
+use Rattle.fst_norms.proofs.Laws.{popped}
 use Rattle.fst_expand.proofs.lowering.lower.Goals as goal
 
 done : (c : goal.In_ok-push_word) → reverse c.push_word.new.stack.items ≡ lower c.args.words.now (reverse c.args.stack.now.items)

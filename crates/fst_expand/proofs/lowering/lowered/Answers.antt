@@ -1,6 +1,6 @@
 use Rattle.std.proofs.Common.{◌≡◌, ◌∙◌, ◌-◌, ap, arith, length, List, ℕ, reverse, sym, subst, suc, zero, ◌+◌}
 use Rattle.fst_words.specs.Words.{WordBelow}
-use Rattle.fst_expand.specs.Lowering.{lowered}
+use Rattle.fst_norms.specs.Lowering.{lowered}
 use Rattle.fst_expand.proofs.lowering.lowered.Goals as goal
 
 pub lower-requires-clause-range : goal.lower-requires-clause-range

@@ -1,6 +1,6 @@
 use Rattle.std.proofs.Common.{◌≡◌, ◌-◌, ◌∷◌, [], length, reverse}
 use Rattle.fst_words.specs.Words.{WordBelow}
-use Rattle.fst_expand.specs.Lowering.{lowered}
+use Rattle.fst_norms.specs.Lowering.{lowered}
 use Rattle.fst_expand.proofs.lowering.lowered.Given as goal
 
 abbrev pub invariant-loop-step : goal.invariant-loop-step

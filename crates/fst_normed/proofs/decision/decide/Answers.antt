@@ -1,6 +1,6 @@
 use Rattle.std.proofs.Common.{◌*◌, ℕ, All, arith, length, subst, sym}
 use Rattle.fst_words.specs.Words.{WordBelow}
-use Rattle.fst_normed.specs.Differences.{Differ}
+use Rattle.fst_words.specs.Differences.{Differ}
 use Rattle.fst_normed.specs.Joining.{AreJoinedByHeads}
 use Rattle.fst_normed.proofs.DecisionLaws.{count_told, grammar_of, lower_by_one, none_told, not_joined, proof_told}
 use Rattle.fst_normed.proofs.decision.decide.Goals as goal

@@ -1,8 +1,8 @@
 use Rattle.std.proofs.Common.{◌≡◌, ◌<◌, ◌∷◌, ap, arith, length, reverse}
 use Rattle.fst_norms.specs.Bounds.{total}
+use Rattle.fst_norms.proofs.Laws.{total-append}
 use Rattle.fst_normed.specs.Candidates.{residual}
 use Rattle.fst_normed.proofs.LowerLaws.{residual_total}
-use Rattle.fst_normed.proofs.WeightLaws.{total-append}
 use Rattle.fst_normed.proofs.WalkLaws.{equal_step, left_step, right_step}
 use Rattle.fst_normed.proofs.joining.drop_heads.Goals as goal
 

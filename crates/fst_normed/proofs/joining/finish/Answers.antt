@@ -2,8 +2,9 @@ use Rattle.std.proofs.Common.{◌≡◌, ◌∙◌, ◌++◌, ◌∷◌, [], ap,
 use Rattle.std.specs.Vec.{vec_len}
 use Rattle.fst_base.proofs.Bools.{same_number}
 use Rattle.fst_basis.specs.declared.proof.Rewrite.{Rewrite}
+use Rattle.fst_basis.specs.Basis.{AreExchanges}
 use Rattle.fst_basis.specs.Rewrites.{chained}
-use Rattle.fst_normed.specs.Walks.{AreExchanges, pairs_of}
+use Rattle.fst_normed.specs.Walks.{pairs_of}
 use Rattle.fst_normed.proofs.WalkLaws.{leads_through}
 use Rattle.fst_normed.proofs.joining.finish.Goals as goal
 

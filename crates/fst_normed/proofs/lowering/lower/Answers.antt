@@ -1,8 +1,8 @@
 use Rattle.std.proofs.Common.{◌<◌, ◌∙◌, ap, length, reverse, sym, subst}
 use Rattle.std.proofs.lemmas.List.Elements.{All-head, All-tail}
 use Rattle.fst_words.specs.Words.{WordBelow}
-use Rattle.fst_normed.specs.Lowering.{lowered}
-use Rattle.fst_normed.proofs.LoweringLaws.{popped}
+use Rattle.fst_norms.specs.Lowering.{lowered}
+use Rattle.fst_norms.proofs.Laws.{popped}
 use Rattle.fst_normed.proofs.lowering.lower.Goals as goal
 
 pub lower_head-requires-clause-head : goal.lower_head-requires-clause-head

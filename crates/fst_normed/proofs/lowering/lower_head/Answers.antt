@@ -1,5 +1,5 @@
 use Rattle.std.proofs.Common.{◌-◌, ℕ, ap, reverse, ◌∙◌}
-use Rattle.fst_normed.specs.Lowering.{lowered}
+use Rattle.fst_norms.specs.Lowering.{lowered}
 use Rattle.fst_normed.proofs.LowerLaws.{head_skipped}
 use Rattle.fst_normed.proofs.lowering.lower_head.Goals as goal
 

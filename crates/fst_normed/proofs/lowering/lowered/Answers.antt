@@ -1,6 +1,6 @@
 use Rattle.std.proofs.Common.{◌≡◌, ◌∙◌, ap, arith, length, ℕ, reverse, sym, subst, zero}
 use Rattle.fst_words.specs.Words.{WordBelow}
-use Rattle.fst_normed.specs.Lowering.{lowered}
+use Rattle.fst_norms.specs.Lowering.{lowered}
 use Rattle.fst_normed.proofs.lowering.lowered.Goals as goal
 
 pub returns-clause-lowered : goal.returns-clause-lowered

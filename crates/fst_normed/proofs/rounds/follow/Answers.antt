@@ -1,7 +1,8 @@
 use Rattle.std.proofs.Common.{◌≡◌, ◌∙◌, [], sym, true, false}
 use Rattle.fst_basis.specs.Basis.{same_letters}
+use Rattle.fst_basis.proofs.Laws.{as_long}
 use Rattle.fst_normed.specs.Candidates.{residual}
-use Rattle.fst_normed.proofs.RoundLaws.{apart_differ, as_long, holds, letters_differ}
+use Rattle.fst_normed.proofs.RoundLaws.{apart_differ, holds, letters_differ}
 use Rattle.fst_normed.proofs.rounds.follow.Goals as goal
 
 pub returns-then-not-same_letters-clause-fails : goal.returns-then-not-same_letters-clause-fails

@@ -2,7 +2,7 @@ use Rattle.std.proofs.Common.{◌≡◌, ◌+◌, ◌∙◌, ◌∷◌, [], ap, 
 use Rattle.std.proofs.lemmas.Bool.{cases_lt}
 use Rattle.std.proofs.lemmas.Option.{slice_get_within}
 use Rattle.fst_normed.specs.Candidates.{IsThere, residual}
-use Rattle.fst_normed.specs.Differences.{Differ}
+use Rattle.fst_words.specs.Differences.{Differ}
 use Rattle.fst_normed.specs.Rounds.{AllHold}
 use Rattle.fst_normed.proofs.RoundLaws.{hold_next, same_at}
 use Rattle.fst_normed.proofs.rounds.take_away.Goals.{then-branch+in_ok-add, else-branch}

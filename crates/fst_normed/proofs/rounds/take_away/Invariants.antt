@@ -1,7 +1,7 @@
 use Rattle.std.proofs.Common.{◌≡◌, ◌<◌, ◌≤◌, ◌+◌, ◌⊎◌, ◌∷◌, [], ℕ, length, cond, false, Some}
 use Rattle.std.specs.Prelude.{slice_get}
 use Rattle.fst_normed.specs.Candidates.{IsThere, residual}
-use Rattle.fst_normed.specs.Differences.{Differ}
+use Rattle.fst_words.specs.Differences.{Differ}
 use Rattle.fst_normed.specs.Rounds.{AllHold, rewrites_of}
 use Rattle.fst_normed.proofs.rounds.take_away.Given as goal
 

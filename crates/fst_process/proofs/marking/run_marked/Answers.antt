@@ -98,7 +98,8 @@ pub loop-config-preserved-in_ok-fire-in-Some : goal.loop-config-preserved-in_ok-
 loop-config-preserved-in_ok-fire-in-Some c =
     let now = kept_of c.loop-config.config in
     marked_next c.args.code.now c.args.config.events (kept_of c.args.config) c.loop-config.config.events
-    c.fire.new.self.events now (kept_of c.fire.new.self) (marks_in c.loop-config.marks.entries) (marks_in c.mark.new.all.entries) c.in-Some.event
+    c.fire.new.self.events now (kept_of c.fire.new.self) (marks_in c.loop-config.marks.entries)
+    (marks_in c.mark.new.all.entries) c.in-Some.event
     c.loop-config.invariant (subst (IsNext now) c.in-Some.is c.in_ok-path.ensures) c.in_ok-mark-in-Some.ensures
     c.in_ok-fire-in-Some.ensures.happens (sym c.in_ok-fire-in-Some.ensures.counted)
 
@@ -106,7 +107,8 @@ pub loop-config-preserved-in_ok-fire-in-Some-2 : goal.loop-config-preserved-in_o
 loop-config-preserved-in_ok-fire-in-Some-2 c =
     let now = kept_of c.loop-config.config in
     marked_next c.args.code.now c.args.config.events (kept_of c.args.config) c.loop-config.config.events
-    c.fire.new.self.events now (kept_of c.fire.new.self) (marks_in c.loop-config.marks.entries) (marks_in c.mark.new.all.entries) c.in-Some.event
+    c.fire.new.self.events now (kept_of c.fire.new.self) (marks_in c.loop-config.marks.entries)
+    (marks_in c.mark.new.all.entries) c.in-Some.event
     c.loop-config.invariant (subst (IsNext now) c.in-Some.is c.in_ok-path.ensures) c.in_ok-mark-in-Some.ensures
     c.in_ok-fire-in-Some.ensures.happens (sym c.in_ok-fire-in-Some.ensures.counted)
 
@@ -114,7 +116,8 @@ pub loop-config-preserved-in_ok-fire-in-Some-3 : goal.loop-config-preserved-in_o
 loop-config-preserved-in_ok-fire-in-Some-3 c =
     let now = kept_of c.loop-config.config in
     marked_next c.args.code.now c.args.config.events (kept_of c.args.config) c.loop-config.config.events
-    c.fire.new.self.events now (kept_of c.fire.new.self) (marks_in c.loop-config.marks.entries) (marks_in c.mark.new.all.entries) c.in-Some.event
+    c.fire.new.self.events now (kept_of c.fire.new.self) (marks_in c.loop-config.marks.entries)
+    (marks_in c.mark.new.all.entries) c.in-Some.event
     c.loop-config.invariant (subst (IsNext now) c.in-Some.is c.in_ok-path.ensures) c.in_ok-mark-in-Some.ensures
     c.in_ok-fire-in-Some.ensures.happens (sym c.in_ok-fire-in-Some.ensures.counted)
 
@@ -122,7 +125,8 @@ pub loop-config-preserved : goal.loop-config-preserved
 loop-config-preserved c =
     let now = kept_of c.loop-config.config in
     marked_next c.args.code.now c.args.config.events (kept_of c.args.config) c.loop-config.config.events
-    c.fire.new.self.events now (kept_of c.fire.new.self) (marks_in c.loop-config.marks.entries) (marks_in c.mark.new.all.entries) c.in-Some.event
+    c.fire.new.self.events now (kept_of c.fire.new.self) (marks_in c.loop-config.marks.entries)
+    (marks_in c.mark.new.all.entries) c.in-Some.event
     c.loop-config.invariant (subst (IsNext now) c.in-Some.is c.in_ok-path.ensures) c.in_ok-mark-in-Some.ensures
     c.in_ok-fire-in-Some.ensures.happens (sym c.in_ok-fire-in-Some.ensures.counted)
 

@@ -11,4 +11,5 @@ pub returns : goal.returns
 returns g c = λ d.
     moves c.args.code.now d c.args.tasks.items c.args.ended.now.items
     (c.requires.run d) c.in_ok-shares.shares.items c.in_ok-shares.ensures
-    c.round_after.new.shares.items c.in_ok-moved.ensures.went c.in_ok-tasks.tasks.items c.gather.new.ended.items c.in_ok-tasks.ensures
+    c.round_after.new.shares.items c.in_ok-moved.ensures.went c.in_ok-tasks.tasks.items c.gather.new.ended.items
+    c.in_ok-tasks.ensures
