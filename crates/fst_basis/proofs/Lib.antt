@@ -1,4 +1,5 @@
 pub mod RewriteParts
+pub mod PartedLaws
 pub mod Joining
 pub mod LetterLaws
 pub mod MarkLaws

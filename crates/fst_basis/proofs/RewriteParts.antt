@@ -55,7 +55,7 @@ exchanged at x y u v h =
     }
 
 -- a list at a place with an element
-parted_at : (u : List ℕ) (at : ℕ) → at < length u →
+pub parted_at : (u : List ℕ) (at : ℕ) → at < length u →
     (u ≡ take at u ++ (slice_index_or u at 0 ∷ drop (suc at) u)) × (take (suc at) u ≡ take at u ++ (slice_index_or u at 0 ∷ []))
 parted_at [] at l = absurd (omega arith)
 parted_at (x ∷ u) zero l = (refl, refl)

@@ -1,5 +1,5 @@
 -- Chains that lead from word to word, also by bases that grow.
-use Rattle.std.proofs.Common.{◌≡◌, ℕ, List, [], ◌∷◌, ◌++◌, length, reverse, refl, sym, ◌∙◌, ap, subst, arith, Some, None, Option, Bool, true, nat_eq, zero, suc, All}
+use Rattle.std.proofs.Common.{◌≡◌, ℕ, List, [], ◌∷◌, ◌++◌, length, reverse, refl, sym, ◌∙◌, ap, subst, arith, Some, None, Bool, true, nat_eq, zero, suc, All}
 use Rattle.std.specs.Prelude.{option_and_then, slice_get, nat_le}
 use Rattle.std.specs.List.{starts_with}
 use Rattle.std.proofs.lemmas.List.{length-append, reverse-append}
@@ -64,7 +64,7 @@ chained_more marks basis more (r ∷ steps) w x e =
 within : (front w : List ℕ) → nat_le (length front) (length (front ++ w)) ≡ true
 within front w = le-leb (length front) (length (front ++ w)) (let l = length-append front w in omega arith)
 
-replaced_here : (front x y tail : List ℕ) → replaced (length front) x y (front ++ (x ++ tail)) ≡ Some (front ++ (y ++ tail))
+pub replaced_here : (front x y tail : List ℕ) → replaced (length front) x y (front ++ (x ++ tail)) ≡ Some (front ++ (y ++ tail))
 replaced_here front x y tail =
     let le = within front (x ++ tail) in
     let d = drop-append_seam front (x ++ tail) in

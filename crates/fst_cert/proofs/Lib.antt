@@ -5,3 +5,9 @@ pub mod TextLaws
 pub mod FitLaws
 pub mod LineLaws
 pub mod CertLaws
+pub mod PlaceLaws
+pub mod WayLaws
+pub mod VisitedLaws
+pub mod AuditLaws
+pub mod EmptyLaws
+pub mod ProofLaws

@@ -6,3 +6,4 @@ pub mod ComparisonLaws
 pub mod EqualParts
 pub mod EqualTypes
 pub mod OutcomeLaws
+pub mod Laws

@@ -21,7 +21,8 @@ same_members a b len h = same_items a b len (λ n x y at_a at_b.
     sym (get_or_from_slice_get a n x false at_a) ∙ h n (slice_get_within a n x at_a) ∙ get_or_from_slice_get b n y false at_b)
 
 -- two largest unnormed sets of one grammar are one
-same_marks : (rows : Productions) (marks others : List Bool) → AreUnnormed rows marks → AreUnnormed rows others → marks ≡ others
+pub same_marks : (rows : Productions) (marks others : List Bool) → AreUnnormed rows marks → AreUnnormed rows others →
+    marks ≡ others
 same_marks rows marks others a b =
     let p = a.count in
     let q = b.count in

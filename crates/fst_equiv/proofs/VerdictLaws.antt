@@ -46,7 +46,7 @@ module _ (letters : List Label) (rows : Productions) (u v : List ℕ) (s r : Tre
       (λ h. right.0 (same.0 (left.1 h)), λ h. left.0 (same.1 (right.1 h)))
 
   -- types whose words perform the same traces agree at every depth
-  types_agree : HaveSameTraces (label_step letters rows) (label_step letters rows) u v → Agree step step s r
+  pub types_agree : HaveSameTraces (label_step letters rows) (label_step letters rows) u v → Agree step step s r
   types_agree same = λ n. (agree_is_traces step step n s r).1 (λ w le. same_of_types w (same w))
 
   -- what one word alone performs, its type alone performs

@@ -4,8 +4,8 @@ ghost use Rattle.std.specs.Prelude.{◌≡◌, ◌<◌, [], ◌∷◌, All, IfOk
 ghost use Rattle.fst_words.specs.Words.{WordBelow};
 ghost use Rattle.fst_norms.specs.Lowering.{lower, lowered};
 
-use fst_norms::{lowered_to, push_word};
-use fst_words::Word;
+use fst_norms::lowered_to;
+use fst_words::{Word, push_word};
 use std::alloc::{AllocError, Global};
 
 // Lowers the head of the word on a stack.

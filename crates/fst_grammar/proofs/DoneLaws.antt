@@ -15,18 +15,17 @@ use Rattle.fst_parts.specs.Labels.{labels_in, names}
 use Rattle.fst_parts.specs.Letters.{with_labels}
 use Rattle.fst_parts.specs.Once.{Part}
 use Rattle.fst_grammar.specs.Parts.{parts_of, numbers_by, dead_count}
-use Rattle.fst_grammar.specs.Equations.{Equation, Solves, live_equations, dead_equations, equations_by, IsGrounded, HasRanks, HasOrderedRows, AreFine, most_rank}
+use Rattle.fst_grammar.specs.Equations.{Equation, Solves, equations_by, IsGrounded, HasRanks, HasOrderedRows, AreFine, most_rank}
 use Rattle.fst_grammar.specs.Translation.{IsGrammar, IsTooLarge, right_sides}
 use Rattle.fst_grammar.specs.Done.{IsDone}
 use Rattle.fst_grammar.specs.declared.fault.TranslateFault.{TranslateFault}
 use Rattle.fst_grammar.specs.declared.fault.TranslateFault.TheVariants.{TooLarge}
 use Rattle.fst_parts.proofs.Laws.{letters_are}
 use Rattle.fst_grammar.proofs.SolveLaws.{solution, solves, solution_fine}
-use Rattle.fst_grammar.proofs.RuledLaws.{HasRule, each_ruled}
-use Rattle.fst_grammar.proofs.SizeLaws.{live_length, equations_length}
+use Rattle.fst_grammar.proofs.SizeLaws.{equations_length}
 use Rattle.fst_grammar.proofs.RankLaws.{rank}
 use Rattle.fst_grammar.proofs.SoundLaws.{word_below}
-use Rattle.fst_grammar.proofs.TranslationLaws.{seated, known_left, known_right, fit_left, fit_right, equations_fine, equations_ruled, equations_grounded, grammar_is, stands}
+use Rattle.fst_grammar.proofs.TranslationLaws.{seated, known_left, known_right, fit_left, fit_right, equations_fine, equations_grounded, solved_ruled, grammar_is, stands}
 use Rattle.fst_base.specs.Limits.{most_nodes, most_letters}
 
 -- a fault that is passed on is still the same
@@ -68,14 +67,7 @@ module _ (s r : Tree) (ws : (vars : List Kind) × IsSession vars s) (wr : (vars 
   rows_length = rows_solve.count ∙ equations_length all_letters (parts_of s r)
 
   rows_ruled : EachHasRule live rows
-  rows_ruled =
-      let long : length (live_equations all_letters (parts_of s r)) ≡ live = live_length all_letters (parts_of s r) in
-      subst (λ n. EachHasRule n rows) long
-      (each_ruled (live_equations all_letters (parts_of s r)) (dead_equations all_letters) (rank all_letters (parts_of s r)
-      (seated ws.0 s r ws.1 wr few_s few_r all_letters (letters_are s r))) most_rank
-      (equations_grounded ws.0 s r ws.1 wr few_s few_r all_letters (letters_are s r))
-      (subst (λ n. All (HasRule n) (live_equations all_letters (parts_of s r))) (sym long)
-      (equations_ruled ws.0 s r ws.1 wr few_s few_r all_letters (letters_are s r))) rows rows_solve)
+  rows_ruled = solved_ruled ws.0 s r ws.1 wr few_s few_r all_letters (letters_are s r) rows rows_solve
 
   -- the words and rules of this grammar
   rows_done : IsDone s r all_letters rows (word (numbers_by all_letters (parts_of s r)) (top_of s) s)

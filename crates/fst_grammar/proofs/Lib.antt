@@ -16,6 +16,7 @@ pub mod RuledLaws
 pub mod KnownLaws
 pub mod TranslationLaws
 pub mod UniqueLaws
+pub mod EndLaws
 pub mod BinderLaws
 pub mod HeadLaws
 pub mod SizeLaws

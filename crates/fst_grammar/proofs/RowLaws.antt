@@ -98,7 +98,8 @@ pub carried_twice : (d e : List ℕ) (rules : List Rule) → rules_before e (rul
 carried_twice d e [] = refl
 carried_twice d e (r ∷ rules) = λ i. record { letter = r.letter; word = append_assoc r.word d e i } ∷ carried_twice d e rules i
 
-rule_carried : (d : List ℕ) (rules : List Rule) (x : ℕ) → rule_of (rules_before d rules) x ≡ option_map
+-- with more behind each word a letter has the same rule, with more behind its word
+pub rule_carried : (d : List ℕ) (rules : List Rule) (x : ℕ) → rule_of (rules_before d rules) x ≡ option_map
     (λ w. w ++ d) (rule_of rules x)
 rule_carried d [] x = refl
 rule_carried d (r ∷ rules) x = pick (rule_carried d rules x) (r.letter == x)

@@ -93,7 +93,8 @@ rules_below n letters make p (branch l s cs) k =
     All-cons (λ (r : Rule). r.letter < length letters) _ (branch_rules n letters make (place_past p (1 + nodes s)) cs) k.0
     (rules_below n letters make (place_past p (1 + nodes s)) cs k.2)
 
-none_below : (total : ℕ) → WordBelow total []
+-- the empty word has no number
+pub none_below : (total : ℕ) → WordBelow total []
 none_below total i d lt = absurd (omega arith)
 
 one_below : (total z : ℕ) → z < total → WordBelow total (z ∷ [])

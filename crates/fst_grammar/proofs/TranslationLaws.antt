@@ -11,7 +11,7 @@ use Rattle.fst_kinds.specs.WellFormed.{IsSession}
 use Rattle.fst_lts.specs.Step.{terminated}
 use Rattle.fst_base.specs.Agreement.{Performs}
 use Rattle.fst_words.specs.declared.rules.Rule.{Rule}
-use Rattle.fst_words.specs.Words.{Productions, row_of, WordBelow, label_step}
+use Rattle.fst_words.specs.Words.{Productions, row_of, WordBelow, EachHasRule, label_step}
 use Rattle.fst_parts.specs.Place.{Place, top_of, place_past, own_place, body_place}
 use Rattle.fst_grammar.specs.Word.{Numbers, word}
 use Rattle.fst_parts.specs.Labels.{is_name, names, labels_in, AreLetters}
@@ -27,12 +27,12 @@ use Rattle.fst_grammar.proofs.KnownLaws.{contains_known, session_known}
 use Rattle.fst_grammar.proofs.SeekLaws.{Every, every_front, every_behind, every_both, IsSeated, all_seated}
 use Rattle.fst_grammar.proofs.TableLaws.{Holds, all_held, every_with, every_get}
 use Rattle.fst_grammar.proofs.FitLaws.{AreKnown, IsFit, fit_select, fit_offer, fit_body}
-use Rattle.fst_grammar.proofs.SizeLaws.{equations_length}
+use Rattle.fst_grammar.proofs.SizeLaws.{live_length, equations_length}
 use Rattle.fst_grammar.proofs.EquationLaws.{equation_cases}
 use Rattle.fst_grammar.proofs.RowLaws.{dead_row, has_rows, rule_in, no_rule_in, has_rules, moves_by_label}
 use Rattle.fst_grammar.proofs.SolveLaws.{none_fine}
 use Rattle.fst_grammar.proofs.RankLaws.{rank, part_rank, entry_rank, rank_entry, body_falls, part_most, number_most}
-use Rattle.fst_grammar.proofs.RuledLaws.{HasRule, names_ruled, branches_ruled}
+use Rattle.fst_grammar.proofs.RuledLaws.{HasRule, names_ruled, branches_ruled, each_ruled}
 use Rattle.fst_grammar.proofs.SoundLaws.{name_word_below, rules_rise, rules_below, selects_rise, offers_rise, word_below, branches_below, every_part}
 use Rattle.fst_grammar.specs.Standing.{StandsFor}
 use Rattle.fst_base.specs.Limits.{most_nodes}
@@ -122,7 +122,7 @@ module _ (vars : List Kind) (s r : Tree) (ws : IsSession vars s) (wr : (other : 
   }
 
   -- what holds of each choice and `rec` of both types holds of each in the list
-  every_found : (P : Place → Tree → Type 0) →
+  pub every_found : (P : Place → Tree → Type 0) →
       ((p : Place) (cs : Branches) → IsFit letters found p (select cs) → P (own_place p (select cs)) (select cs)) →
       ((p : Place) (cs : Branches) → IsFit letters found p (offer cs) → P (own_place p (offer cs)) (offer cs)) →
       ((p : Place) (b : Tree) → terminated b ≡ false → IsFit letters found p (rec b) → P (own_place p (rec b)) (rec b)) →
@@ -184,7 +184,7 @@ module _ (vars : List Kind) (s r : Tree) (ws : IsSession vars s) (wr : (other : 
       (λ p b e h. word_below letters found live (omega arith) (body_place (own_place p (rec b))) b
       (fit_body letters found p b e h)))
 
-  pub equations_ruled : All (HasRule live) (live_equations letters found)
+  equations_ruled : All (HasRule live) (live_equations letters found)
   equations_ruled =
       All-append (HasRule live) (map (λ a. own (name_rules n letters a)) (names letters)) (map (part_equation n letters) found)
       (names_ruled live n letters (names letters)) parts_ruled
@@ -259,6 +259,14 @@ module _ (vars : List Kind) (s r : Tree) (ws : IsSession vars s) (wr : (other : 
             lower =
                 omega (arith, sinks.4);
           }
+
+  -- rows that solve the equations have a rule for each non-terminal but the dead one
+  pub solved_ruled : (rows : Productions) → Solves rows (equations_by letters found) → EachHasRule live rows
+  solved_ruled rows h =
+      let long : length (live_equations letters found) ≡ live = live_length letters found in
+      subst (λ k. EachHasRule k rows) long
+      (each_ruled (live_equations letters found) (dead_equations letters) (rank letters found seated) most_rank equations_grounded
+      (subst (λ k. All (HasRule k) (live_equations letters found)) (sym long) equations_ruled) rows h)
 
   -- rows that solve the equations are the grammar
   pub grammar_is : (rows : Productions) → Solves rows (equations_by letters found) → IsGrammar s r letters rows

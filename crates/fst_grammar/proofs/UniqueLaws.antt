@@ -75,7 +75,7 @@ same_letters (x ∷ xs) (y ∷ ys) h k f g =
 -- the place of each name
 
 -- a name among letters is one of them
-name_in : (letters : List Label) (m : ℕ) (a : Label) → slice_get (names letters) m ≡ Some a →
+pub name_in : (letters : List Label) (m : ℕ) (a : Label) → slice_get (names letters) m ≡ Some a →
     (is_name a ≡ true) × Contains letters a
 name_in [] m a g = absurd (cc g)
 name_in (l ∷ letters) m a g = pick (λ k. name_in letters k a) (is_name l) refl m g
@@ -344,7 +344,7 @@ module _ (equations : List Equation) (rank : ℕ → ℕ) (bound : ℕ) (grounde
 module _ (vars others : List Kind) (s r : Tree) (ws : IsSession vars s) (wr : IsSession others r) (few_s : nodes s ≤ most_nodes)
     (few_r : nodes r ≤ most_nodes) where
   -- a grammar solves the equations of the two types
-  grammar_solves : (letters : List Label) (rows : Productions) → IsGrammar s r letters rows →
+  pub grammar_solves : (letters : List Label) (rows : Productions) → IsGrammar s r letters rows →
       Solves rows (equations_by letters (parts_of s r))
   grammar_solves letters rows h = record {
     count = h.count

@@ -8,3 +8,4 @@ pub mod Equations
 pub mod Views
 pub mod PartsAt
 pub mod Done
+pub mod Ends

@@ -12,5 +12,5 @@ mod translation;
 mod words;
 
 pub use fault::TranslateFault;
-pub use law::{one_grammar, standing_law};
+pub use law::{ends_law, one_grammar, standing_law, stops_law};
 pub use translation::translate;

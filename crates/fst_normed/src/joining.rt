@@ -11,8 +11,8 @@ ghost use Rattle.fst_normed.specs.Walks.{IsPopped, IsUnderwayIn, IsUnderwayWith,
 use crate::candidates::Candidates;
 use crate::lowering::residual;
 use fst_basis::Rewrite;
-use fst_norms::{norm_of, push_word};
-use fst_words::Word;
+use fst_norms::norm_of;
+use fst_words::{Word, push_word};
 use std::alloc::{AllocError, Global};
 
 /// How far two words are joined: what is left of each, the first non-terminal last; the heads that both have in front of that; the rewrites

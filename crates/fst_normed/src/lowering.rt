@@ -5,8 +5,8 @@ ghost use Rattle.fst_words.specs.Words.{WordBelow};
 ghost use Rattle.fst_norms.specs.Lowering.{LowerByOne, lowered};
 ghost use Rattle.fst_normed.specs.Candidates.{residual};
 
-use fst_norms::{lowered_to, norm_of, push_word};
-use fst_words::Word;
+use fst_norms::{lowered_to, norm_of};
+use fst_words::{Word, push_word};
 use std::alloc::{AllocError, Global};
 
 // Drops the head of the word on a stack where its norm is at most the steps that are left, and lowers it by a step otherwise; gives how

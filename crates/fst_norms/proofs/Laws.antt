@@ -5,6 +5,8 @@ use Rattle.fst_words.specs.Words.{Productions, after}
 use Rattle.fst_words.specs.Marks.{IsUnnormedSet}
 use Rattle.fst_norms.specs.Pruned.{pruned_word}
 use Rattle.fst_norms.proofs.PruneLaws as prune_laws
+-- the numbers of a pruned word are among those of the word
+pub use Rattle.fst_norms.proofs.PruneLaws.{pruned_in_range}
 -- no trace empties a word with a member of an unnormed set
 pub use Rattle.fst_norms.proofs.PruneLaws.{never_empties}
 -- one trace after another

@@ -7,6 +7,6 @@ mod lowering;
 mod pruning;
 mod rounds;
 
-pub use lowering::{is_normed, lowered_to, lowering_words, norm_of, push_word};
+pub use lowering::{is_normed, lowered_to, lowering_words, norm_of};
 pub use pruning::{prune, unnormed};
 pub use rounds::norms;

@@ -1,6 +1,6 @@
 //! Steps that lower norms, and grammars whose non-terminals all have norms.
 
-ghost use Rattle.std.specs.Prelude.{◌≡◌, ◌<◌, ◌↔◌, ◌++◌, [], All, IfOk, IsTrue, OnOk, drop, length, reverse};
+ghost use Rattle.std.specs.Prelude.{◌≡◌, ◌<◌, ◌↔◌, [], All, IfOk, IsTrue, length};
 ghost use Rattle.fst_words.specs.Words.{InRange, WordBelow, row_of};
 ghost use Rattle.fst_norms.specs.Bounds.{AreAllBelow, bound_at, norm_of};
 ghost use Rattle.fst_norms.specs.Norms.{IsNormed};
@@ -87,18 +87,6 @@ pub fn lowering_words(
         words.push(lowering_word(alloc, g, norms, n)?)?;
     }
     Ok(words)
-}
-
-/// Puts a word on a stack, whose last item is the first of a word.
-pub fn push_word(stack: &mut Vec<u32>, word: &[u32]) -> Result<(), AllocError>
-    ensures { OnOk result (reverse stack.new.items ≡ word.now ++ reverse stack.old.items) }
-{
-    let mut rest = word.len();
-    while rest > 0 {
-        rest -= 1;
-        stack.push(word[rest])?;
-    }
-    Ok(())
 }
 
 /// What a non-terminal becomes, of these words by number.

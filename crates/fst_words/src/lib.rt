@@ -9,4 +9,4 @@ mod word;
 pub use grammar::{Grammar, is_below, is_in_range, step};
 pub use marks::first_marked;
 pub use rules::{Rule, Rules};
-pub use word::Word;
+pub use word::{Word, push_word};

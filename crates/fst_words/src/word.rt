@@ -1,4 +1,4 @@
-ghost use Rattle.std.specs.Prelude.{◌≡◌, ◌++◌, ◌↔◌, IfOk, IsTrue, take};
+ghost use Rattle.std.specs.Prelude.{◌≡◌, ◌++◌, ◌↔◌, IfOk, IsTrue, OnOk, reverse, take};
 
 use std::alloc::{AllocError, Global};
 use std::marker::Model;
@@ -70,4 +70,16 @@ impl Word {
     {
         self.numbers.truncate(len);
     }
+}
+
+/// Puts a word on a stack, whose last item is the first of a word.
+pub fn push_word(stack: &mut Vec<u32>, word: &[u32]) -> Result<(), AllocError>
+    ensures { OnOk result (reverse stack.new.items ≡ word.now ++ reverse stack.old.items) }
+{
+    let mut rest = word.len();
+    while rest > 0 {
+        rest -= 1;
+        stack.push(word[rest])?;
+    }
+    Ok(())
 }
