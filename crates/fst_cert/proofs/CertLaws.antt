@@ -52,7 +52,7 @@ chains_line_free : (n : ℕ) → n < 2 ^ 64 → IsFree line_feed (chains_line n)
 chains_line_free n small = free_append line_feed (codes "chains ") (decimal n) (plain (codes "chains ") refl)
     (decimal_free line_feed n (λ d h e. omega arith) small)
 
-lines_free : (basis : List Pair) (chains : List (List Rewrite)) → IsCert basis chains →
+pub lines_free : (basis : List Pair) (chains : List (List Rewrite)) → IsCert basis chains →
     All (IsFree line_feed) (cert_lines basis chains)
 lines_free basis chains cert =
     let few = cert.few in

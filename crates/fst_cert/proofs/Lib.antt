@@ -11,3 +11,8 @@ pub mod VisitedLaws
 pub mod AuditLaws
 pub mod EmptyLaws
 pub mod ProofLaws
+pub mod BadLineLaws
+pub mod ValidLaws
+pub mod UniqueLaws
+pub mod AsciiLaws
+pub mod Laws

@@ -12,7 +12,7 @@ abbrev pub pieces : {X : Type 0} → ℕ → (X → List ℕ) → List X → Lis
 pieces mark of [] = []
 pieces mark of (x ∷ xs) = mark ∷ (of x ++ pieces mark of xs)
 
-pieces_end : {X : Type 0} (mark : ℕ) (of : X → List ℕ) (xs : List X) → IsEnd mark (pieces mark of xs)
+pub pieces_end : {X : Type 0} (mark : ℕ) (of : X → List ℕ) (xs : List X) → IsEnd mark (pieces mark of xs)
 pieces_end mark of [] = tt
 pieces_end mark of (x ∷ xs) = refl
 

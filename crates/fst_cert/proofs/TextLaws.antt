@@ -1,5 +1,6 @@
--- Neither a space nor a line feed stands in a rewrite's text, and no line feed in the line of a pair or of a chain.
-use Rattle.std.proofs.Common.{true, ◌≡◌, ◌≢◌, ◌<◌, ◌^◌, ℕ, List, [], ◌∷◌, ◌++◌, refl, arith}
+-- Neither a space nor a line feed stands in a rewrite's text, and no line feed in the line of a pair or of a chain; the line of a
+-- pair is cut at its sign.
+use Rattle.std.proofs.Common.{true, ◌≡◌, ◌≢◌, ◌<◌, ◌^◌, ℕ, List, [], ◌∷◌, ◌++◌, append_assoc, refl, arith}
 use Rattle.std.specs.Prelude.{All, codes, decimal, nat_lt}
 use Rattle.std.specs.List.{list_all}
 use Rattle.std.specs.Str.{byte}
@@ -70,3 +71,17 @@ pair_free b fit =
   where
     spaced : (ks : List ℕ) → IsWord ks → IsFree line_feed (listed space ks)
     spaced = listed_free line_feed space (λ d h e. omega arith) (λ e. omega arith)
+
+-- the sign between the words of a pair
+abbrev pub tilde : ℕ
+tilde = byte "~"
+
+-- the line of a pair, cut at this sign
+pub joined : (x y : List ℕ) → (x ++ codes " ~") ++ y ≡ (x ++ space ∷ []) ++ tilde ∷ y
+joined x y = simp append_assoc
+
+-- the sign stands nowhere in front
+pub left_free : (ks : List ℕ) → IsWord ks → IsFree tilde (listed space ks ++ space ∷ [])
+left_free ks fit =
+    free_append tilde (listed space ks) (space ∷ []) (listed_free tilde space (λ d h e. omega arith) (λ e. omega arith) ks fit)
+    (free_cons tilde space [] (λ e. omega arith) (free_nil tilde))

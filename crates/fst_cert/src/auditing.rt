@@ -23,6 +23,7 @@ pub fn audit(alloc: Global, t: &Ty, u: &Ty, p: &Proof) -> Result<bool, AuditFaul
     ensures valid { IfOk result (λ b. IsTrue b ↔ IsValid t.now u.now p.now.basis.items
         p.now.chains.items) }
     ensures agree { IfOk result (λ b. IsTrue b → Agree step step t.now u.now) }
+    ensures small { IfOk result (λ b. ¬ (IsTooLarge t.now u.now)) }
     ensures too_large { IfErr result (λ f. f ≡ TooLarge → IsTooLarge t.now u.now) }
 {
     one_grammar();

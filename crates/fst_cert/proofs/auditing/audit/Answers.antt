@@ -3,7 +3,7 @@ use Rattle.fst_norms.specs.Pruned.{AreUnnormed}
 use Rattle.fst_equiv.specs.Problem.{IsProblem}
 use Rattle.fst_equiv.proofs.Laws.{stand_pruned, types_agree}
 use Rattle.fst_words.proofs.Laws.{same_by_labels}
-use Rattle.fst_cert.proofs.AuditLaws.{proof_valid}
+use Rattle.fst_cert.proofs.AuditLaws.{grammar_small, proof_valid}
 use Rattle.fst_cert.proofs.auditing.audit.Goals as goal
 
 pub returns-clause-valid : goal.returns-clause-valid
@@ -48,3 +48,10 @@ returns-clause-agree c valid =
     (stand_pruned g.letters.items g.rules.items c.in_ok-g.left c.in_ok-g.right x y s r t.left t.right
     (c.prune.ensures.same g.rules.items unnormed.set) (c.prune-2.ensures.same g.rules.items unnormed.set))
     (same_by_labels g.letters.items g.rules.items x y (c.in_ok-valid.ensures.same valid))
+
+pub returns-clause-small : goal.returns-clause-small
+returns-clause-small c =
+    let g = c.in_ok-g.g in
+    let t = c.in_ok-g.ensures in
+    grammar_small c.one_grammar.ensures c.requires.session_left.0 c.requires.session_right.0 c.args.t.now c.args.u.now
+    c.requires.session_left.1 c.requires.session_right.1 g.letters.items g.rules.items t.translation.grammar t.small

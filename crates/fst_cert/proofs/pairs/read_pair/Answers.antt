@@ -1,37 +1,23 @@
 -- The sign stands once in the line of a pair, between its words: so these are what was cut off there.
-use Rattle.std.proofs.Common.{inl, inr, Vec, Global, Some, None, vec_len, ◌≡◌, ◌≢◌, ◌++◌, ◌∷◌, [], ◌==◌, ℕ, List, true, false, length, drop, refl, sym, ap, ◌∙◌, append_assoc, arith}
+use Rattle.std.proofs.Common.{inl, inr, Vec, Global, Some, None, vec_len, ◌≡◌, ◌≢◌, ◌++◌, ◌∷◌, [], ◌==◌, ℕ, List, true, false, length, drop, refl, sym, ap, ◌∙◌}
 use Rattle.std.specs.Prelude.{codes}
-use Rattle.std.specs.Str.{byte}
 use Rattle.std.proofs.lemmas.List.{append_cancel_right, nil_from_length}
 use Rattle.std.proofs.lemmas.Slice.Eq.{strip_prefix_is, strip_suffix_is}
 use Rattle.std.proofs.lemmas.Bool.Decides.{Decides-eqb, eqb_tells}
 use Rattle.std.proofs.lemmas.Bool.{eq-eqb}
 use Rattle.fst_basis.specs.declared.proof.Pair.{Pair}
-use Rattle.fst_cert.specs.Certificates.{IsPairFit, IsWord}
+use Rattle.fst_cert.specs.Certificates.{IsPairFit}
 use Rattle.fst_cert.specs.Texts.{listed, pair_line, space}
-use Rattle.fst_cert.proofs.CutLaws.{IsFree, cut_around, free_append, free_cons, free_nil, no_cut}
-use Rattle.fst_cert.proofs.NumberLaws.{listed_free}
+use Rattle.fst_cert.proofs.CutLaws.{cut_around, no_cut}
+use Rattle.fst_cert.proofs.TextLaws.{joined, left_free, tilde}
 use Rattle.fst_cert.proofs.pairs.read_pair.Goals as goal
 use Rattle.fst_cert.proofs.pairs.read_pair.Goals.{In-Some, In-Some-cut_at, In-Some-strip_suffix, then-is_empty-via-then-is_empty, then-is_empty-via-else-is_empty+then-is_empty-2}
-
--- the sign between the words of a pair
-abbrev tilde : ℕ
-tilde = byte "~"
-
--- the line of a pair, cut at this sign
-joined : (x y : List ℕ) → (x ++ codes " ~") ++ y ≡ (x ++ space ∷ []) ++ tilde ∷ y
-joined x y = simp append_assoc
 
 -- the line is the pair's, by what its parts are
 whole : (line words before left right : List ℕ) (b : Pair) → line ≡ codes "pair" ++ words → words ≡ before ++ tilde ∷ right →
     before ≡ left ++ space ∷ [] → left ≡ listed space b.left → right ≡ listed space b.right → line ≡ pair_line b
 whole line words before left right b is cut front one other =
     is ∙ ap (λ t. codes "pair" ++ t) (cut ∙ (rw (front, one, other) (sym (joined (listed space b.left) (listed space b.right)))))
-
-left_free : (ks : List ℕ) → IsWord ks → IsFree tilde (listed space ks ++ space ∷ [])
-left_free ks fit =
-    free_append tilde (listed space ks) (space ∷ []) (listed_free tilde space (λ d h e. omega arith) (λ e. omega arith) ks fit)
-    (free_cons tilde space [] (λ e. omega arith) (free_nil tilde))
 
 no_numbers : (ks : List ℕ) → listed space ks ≡ [] → ks ≡ []
 no_numbers [] e = refl
