@@ -10,6 +10,6 @@ mod stack;
 mod terms;
 
 pub use fst_type_print::{
-    Phrase, Refusal, move_text, refusal_text, side_text, type_text, word_text,
+    Phrase, Refusal, move_text, question_text, refusal_text, side_text, type_text, word_text,
 };
 pub use modules::module_text;

@@ -17,7 +17,7 @@ use Rattle.fst_types.specs.declared.label.Label.TheVariants.{Send, Receive, Sele
 use Rattle.fst_types.specs.declared.side.Side.{Side}
 use Rattle.fst_types.specs.declared.side.Side.TheVariants.{Left, Right}
 use Rattle.fst_type_print.specs.declared.refusals.Phrase.{Phrase}
-use Rattle.fst_type_print.specs.declared.refusals.Phrase.TheVariants.{NotUtf8, BadChar, WideNumber, LongName, Syntax, Unbound, Twice, AliasLoop, Arity, NoMain, NotContractive, WrongKind, UnboundType, DoubleLabel, Mismatch, Unused, UsedTwice, CapturedLinear, Branches as Unequal, NotFunction, NotPair, NotPrintable, TypeArguments, KindOfArgument, NoSuchMove, Arms, Dropped}
+use Rattle.fst_type_print.specs.declared.refusals.Phrase.TheVariants.{NotUtf8, BadChar, WideNumber, LongName, Syntax, Unbound, Twice, AliasLoop, Arity, NoMain, NotContractive, WrongKind, UnboundType, DoubleLabel, Mismatch, Unused, UsedTwice, CapturedLinear, Branches as Unequal, NotFunction, NotPair, NotPrintable, TypeArguments, KindOfArgument, NoSuchMove, Arms, Dropped, Certificate, NoBasis}
 use Rattle.fst_type_print.specs.declared.refusals.Refusal.{Refusal}
 
 -- a type of plain values
@@ -182,6 +182,25 @@ prekind_text Top = codes "T"
 abbrev pub kind_text : Kind → List ℕ
 kind_text k = use_text k.uses ++ prekind_text k.prekind
 
+-- the k-th type variable with its kind
+abbrev pub kinded_text : ℕ → Kind → List ℕ
+kinded_text k kind = variable_text k ++ codes ":" ++ kind_text kind
+
+-- type variables with their kinds, from the k-th on
+abbrev pub variables_text : ℕ → List Kind → List (List ℕ)
+variables_text k [] = []
+variables_text k (kind ∷ kinds) = kinded_text k kind ∷ variables_text (suc k) kinds
+
+-- the type variables of a question, where it has any
+abbrev pub forall_text : List Kind → List ℕ
+forall_text [] = []
+forall_text (kind ∷ kinds) = codes "forall " ++ joined_text (codes ", ")
+    (variables_text 0 (kind ∷ kinds)) ++ codes ". "
+
+-- a question: two types over variables of these kinds
+abbrev pub question_text : List Kind → Tree → Tree → List ℕ
+question_text kinds s r = forall_text kinds ++ type_text [] s ++ codes " ~ " ++ type_text [] r
+
 -- a cause, and two numbers of parts: that which is there, and that which is wanted
 abbrev pub counts_text : List ℕ → ℕ → ℕ → List ℕ
 counts_text cause got wanted = cause ++ decimal got ++ codes " wanted " ++ decimal wanted
@@ -232,6 +251,8 @@ phrase_text (NoSuchMove asked t) = codes "no move " ++ string_bytes asked ++ cod
     ++ string_bytes t
 phrase_text (Arms t) = codes "arms " ++ string_bytes t
 phrase_text (Dropped t) = codes "dropped " ++ string_bytes t
+phrase_text Certificate = codes "certificate"
+phrase_text NoBasis = codes "no basis"
 
 -- a refusal: where, by line and column, and why
 abbrev pub refusal_text : Refusal → List ℕ

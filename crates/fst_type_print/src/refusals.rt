@@ -67,6 +67,10 @@ pub enum Phrase {
     Arms(String),
     /// A value of this type that is dropped, and has to be used.
     Dropped(String),
+    /// A line that no certificate has there.
+    Certificate,
+    /// A certificate that doesn't show that its two types are equivalent.
+    NoBasis,
 }
 
 /// A refusal of a text: the line and the column of its cause, both counted from 1, and the cause.
@@ -204,6 +208,8 @@ fn push_phrase(text: &mut String, phrase: &Phrase) -> Result<(), AllocError>
         Phrase::NoSuchMove(asked, t) => push_no_move(text, asked.as_str(), t.as_str()),
         Phrase::Arms(t) => push_cause(text, "arms ", t.as_str()),
         Phrase::Dropped(t) => push_cause(text, "dropped ", t.as_str()),
+        Phrase::Certificate => text.push_str("certificate"),
+        Phrase::NoBasis => text.push_str("no basis"),
     }
 }
 
