@@ -1,5 +1,5 @@
 -- What `check` writes of a module, and what each command's text means.
-use Rattle.std.proofs.Common.{◌≡◌, ◌∙◌, ◌⊎◌, inl, inr, ℕ, ◌≤◌, Bool, false, List, [], ◌∷◌, ◌++◌, length, Result, Ok, Err, refl, sym, ap, subst}
+use Rattle.std.proofs.Common.{◌≡◌, ◌∙◌, ◌⊎◌, inl, inr, ℕ, ◌≤◌, Bool, true, false, List, [], ◌∷◌, ◌++◌, length, Result, Ok, Err, refl, sym, ap, subst}
 use Rattle.std.specs.Prelude.{◌≢◌, IfOk}
 use Rattle.std.specs.declared.alloc.AllocError.{AllocError}
 use Rattle.fst_base.specs.Limits.{most_bytes}
@@ -25,7 +25,7 @@ use Rattle.fst_command.specs.declared.status.Status.TheVariants as status
 use Rattle.fst_command.specs.CheckTexts.{Cause, nothing, refused, undecided, too_large, accepted_text, cause, cause_text, cause_status}
 use Rattle.fst_types.specs.declared.family.Family.{Family}
 use Rattle.fst_options.specs.Words as setting
-use Rattle.fst_options.specs.Words.{equiv, show, check, run, make}
+use Rattle.fst_options.specs.Words.{equiv, show, check, run, make, audit}
 use Rattle.fst_command.specs.Finding as finding
 use Rattle.fst_command.specs.Finding.{Finding, IsRead, IsUnread, AreResolved, AreUnresolved, name_finding}
 use Rattle.fst_command.specs.Output.{AreLines, IsFoundOf, accepted, unaccepted, FindsModule, SaysAccepted, SaysOutcome, made_summary, waiting_status, outcome_text, outcome_status, WritesOf, too_long, is_none, makes, finding_status, Writes}
@@ -43,7 +43,7 @@ use Rattle.fst_command.specs.Meanings.{MeansAccepted, MeansRefused, MeansCheck, 
 use Rattle.fst_command.specs.Views.{IfFound, cause_of, name_fault}
 use Rattle.fst_command.proofs.FindingLaws.{if_found, said_found}
 use Rattle.fst_command.proofs.Causes.{refused_cause}
-use Rattle.fst_command.proofs.MeaningLaws.{equiv_means}
+use Rattle.fst_command.proofs.MeaningLaws.{audit_means, equiv_means, proved_means}
 use Rattle.fst_command.proofs.OneResolved.{resolved_or_not, same_resolved}
 use Rattle.fst_command.proofs.OutcomeLaws.{outcome_sound}
 use Rattle.fst_command.proofs.SameDerivations.{derivations_same}
@@ -269,9 +269,11 @@ module _ (law : (m : Module) (budget : ℕ) (ds : List Deriv) → IsAccepted m b
           ]
 
     pub meanings : Meanings
-    meanings (equiv budget) bytes text s w = equiv_means budget bytes text s w
+    meanings (equiv budget false) bytes text s w = equiv_means budget bytes text s w
+    meanings (equiv budget true) bytes text s w = proved_means budget bytes text s w
     meanings show bytes text s w = tt
     meanings (check budget) bytes text s w = check_means budget bytes text s w
     meanings (run steps workers budget events) bytes text s w = source_means report_text events steps budget bytes text s w
     meanings (make n) bytes text s w = source_means
         (made_summary n) false setting.steps.default setting.budget.default (made_text n) text s w
+    meanings audit bytes text s w = audit_means bytes text s w

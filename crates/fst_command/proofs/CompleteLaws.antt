@@ -1,5 +1,5 @@
 -- What is written of a module that is within the limits.
-use Rattle.std.proofs.Common.{◌≡◌, ◌∙◌, ℕ, ◌+◌, ◌≤◌, List, [], ◌∷◌, ◌++◌, length, Option, Some, None, refl, sym, ap, subst, arith, append-nil, length-append}
+use Rattle.std.proofs.Common.{◌≡◌, ◌∙◌, ℕ, ◌≤◌, List, [], ◌∷◌, ◌++◌, length, Option, Some, None, refl, sym, ap, subst, arith, append-nil, length-append}
 use Rattle.fst_base.specs.Limits.{most_bytes}
 use Rattle.fst_lexer.specs.Lexes.{OneLexing}
 use Rattle.fst_terms.specs.declared.core_module.Module.{Module}

@@ -9,6 +9,10 @@ pub mod SameReports
 pub mod SameDerivations
 pub mod SameRefusals
 pub mod OneOutcome
+pub mod FirstLines
+pub mod AuditLaws
+pub mod AuditedLaws
+pub mod QuestionTexts
 pub mod OutputLaws
 pub mod CheckLaws
 pub mod Runs

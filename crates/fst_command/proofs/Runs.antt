@@ -6,7 +6,7 @@ use Rattle.fst_io.specs.GivingUp.{Loses}
 use Rattle.fst_base.specs.Limits.{most_bytes}
 use Rattle.fst_command.specs.declared.status.Status.{Status}
 use Rattle.fst_command.specs.declared.status.Status.TheVariants as status
-use Rattle.fst_options.specs.Words.{Command, equiv, show, check, run, make, IsCommand}
+use Rattle.fst_options.specs.Words.{Command, equiv, show, check, run, make, audit, IsCommand}
 use Rattle.fst_options.proofs.Laws.{one_command}
 use Rattle.fst_command.specs.Output.{Writes, too_long, usage, command, IsOutput}
 use Rattle.fst_command.specs.Texts.{too_long_text}
@@ -16,11 +16,12 @@ use Rattle.fst_command.specs.Meanings.{Means, Meanings}
 -- what is read for a command that reads an input
 pub reads_for : (c : Command) (old new : Option (List ℕ)) (bytes : List ℕ) → IsTrue (reads_input c) → ReadsInput old new bytes →
     ReadsFor c old new bytes
-reads_for (equiv budget) old new bytes is r = r
+reads_for (equiv budget proof) old new bytes is r = r
 reads_for show old new bytes is r = r
 reads_for (check budget) old new bytes is r = r
 reads_for (run steps workers budget events) old new bytes is r = r
 reads_for (make n) old new bytes is r = absurd (cc is)
+reads_for audit old new bytes is r = r
 
 -- and so where it was read
 pub read_ok : {V E : Type 0} (c : Command) (old new : Option (List ℕ)) (items : V → List ℕ) (r : Result V E) →
@@ -32,11 +33,12 @@ read_ok c old new items (Err e) reads all end = tt
 -- for another nothing is read
 pub reads_none : (c : Command) (old : Option (List ℕ)) (bytes : List ℕ) → reads_input c ≡ false → bytes ≡ [] →
     ReadsFor c old old bytes
-reads_none (equiv budget) old bytes not is = absurd (cc not)
+reads_none (equiv budget proof) old bytes not is = absurd (cc not)
 reads_none show old bytes not is = absurd (cc not)
 reads_none (check budget) old bytes not is = absurd (cc not)
 reads_none (run steps workers budget events) old bytes not is = absurd (cc not)
 reads_none (make n) old bytes not is = record { none = is; same = refl }
+reads_none audit old bytes not is = absurd (cc not)
 
 -- what was read for a command has its output, which means what it says
 pub read_whole : Meanings → (s : Status) (words : List (List ℕ)) (c : Command) (old new : Option (List ℕ)) (bytes text : List ℕ) →
@@ -51,11 +53,12 @@ read_whole meanings s words c old new bytes text is read w = record {
 -- an input that was read up to one byte over the limit is too long
 too_long_written : (c : Command) (bytes text : List ℕ) (s : Status) → IsTrue (reads_input c) → length bytes ≡ most_bytes + 1 →
     text ≡ too_long_text → s ≡ status.Limit → Writes c bytes text s
-too_long_written (equiv budget) bytes text s is long w e = too_long long w e
+too_long_written (equiv budget proof) bytes text s is long w e = too_long long w e
 too_long_written show bytes text s is long w e = too_long long w e
 too_long_written (check budget) bytes text s is long w e = too_long long w e
 too_long_written (run steps workers budget events) bytes text s is long w e = too_long long w e
 too_long_written (make n) bytes text s is long w e = absurd (cc is)
+too_long_written audit bytes text s is long w e = too_long long w e
 
 pub read_over : Meanings → (s : Status) (words : List (List ℕ)) (c : Command) (old new : Option (List ℕ)) (text : List ℕ) →
     IsCommand words c → IsTrue (reads_input c) → Loses (most_bytes + 1) old new → text ≡ too_long_text →

@@ -2,6 +2,7 @@ pub mod Status
 pub mod Texts
 pub mod CheckTexts
 pub mod Finding
+pub mod Audited
 pub mod Output
 pub mod Top
 pub mod Views

@@ -1,6 +1,6 @@
--- What the texts of `equiv` say of the two types that an input asks about, over the variables of the question, and what those
--- of `check`, `run` and `make` say of a module.
-use Rattle.std.specs.Prelude.{◌≡◌, ◌↔◌, ℕ, List, ◌++◌, length, codes, Bool, false, Some, ⊤}
+-- What the texts of `equiv` and `audit` say of the two types that an input asks about, over the variables of the question, and what
+-- those of `check`, `run` and `make` say of a module.
+use Rattle.std.specs.Prelude.{◌≡◌, ◌↔◌, ℕ, List, ◌++◌, length, codes, Bool, true, false, Some, ⊤}
 use Rattle.fst_base.specs.Agreement.{Performs, Agree}
 use Rattle.fst_base.specs.Order.{IsBefore}
 use Rattle.fst_types.specs.Order.{label_cmp}
@@ -32,10 +32,11 @@ use Rattle.fst_report.specs.ReportTexts.{report_text}
 use Rattle.fst_command.specs.declared.status.Status.{Status}
 use Rattle.fst_command.specs.declared.status.Status.TheVariants as status
 use Rattle.fst_make.specs.Made.{made_text}
-use Rattle.fst_options.specs.Words.{Command, equiv, show, check, run, make}
+use Rattle.fst_options.specs.Words.{Command, equiv, show, check, run, make, audit}
 use Rattle.fst_command.specs.Finding.{IsRead, AreAsked, AreResolved}
-use Rattle.fst_command.specs.Output.{AreLines, Writes, made_summary}
-use Rattle.fst_command.specs.Texts.{yes_text, no_text, undecided_text}
+use Rattle.fst_command.specs.Audited.{first_line}
+use Rattle.fst_command.specs.Output.{AreLines, IsCertified, Writes, made_summary}
+use Rattle.fst_command.specs.Texts.{yes_text, no_text, undecided_text, valid_text}
 
 -- the two types agree at every depth
 pub record MeansYes (bytes : List ℕ) : Type 0 where
@@ -81,6 +82,27 @@ pub record MeansAnswer (budget : ℕ) (bytes text : List ℕ) : Type 0 where
   pub no : (rest : List ℕ) → text ≡ codes "no " ++ rest → MeansNo bytes text
   pub undecided : (rest : List ℕ) → text ≡ codes "undecided " ++ rest →
       MeansUndecided budget bytes text
+
+-- the text is a question with a certificate that is valid of its two types, and these agree at every depth
+pub record MeansCertified (bytes text : List ℕ) : Type 0 where
+  pub asked : Question
+  pub is_asked : AreAsked bytes asked
+  pub certified : IsCertified asked text
+  pub agree : Agree step step asked.left asked.right
+
+-- what it means that `equiv` wrote the text with this status where a proof was asked for, by how the text begins
+pub record MeansProved (budget : ℕ) (bytes text : List ℕ) (s : Status) : Type 0 where
+  pub proved : s ≡ status.Done → ((rest : List ℕ) → text ≡ codes "no " ++ rest → ⊥) →
+      MeansCertified bytes text
+  pub no : (rest : List ℕ) → text ≡ codes "no " ++ rest → MeansNo bytes text
+  pub undecided : (rest : List ℕ) → text ≡ codes "undecided " ++ rest →
+      MeansUndecided budget bytes text
+
+-- what it means that `audit` ended with this status: where it is done, it wrote that the certificate is valid, and the two types of the
+-- first line agree at every depth
+pub record MeansAudit (bytes text : List ℕ) (s : Status) : Type 0 where
+  pub written : s ≡ status.Done → text ≡ valid_text
+  pub done : s ≡ status.Done → MeansYes (first_line bytes)
 
 -- the bytes are a source that stands for a module, which has derivations; and whatever happens in a run of it, nothing goes
 -- wrong
@@ -136,11 +158,13 @@ MeansRun shown events status.Memory bytes text = ⊤
 -- what it means that this text was written for a command, with this status, where these bytes were read: `make` reads none, and what
 -- it writes is about the module that it makes
 abbrev pub Means : Command → List ℕ → List ℕ → Status → Type 0
-Means (equiv budget) bytes text s = MeansAnswer budget bytes text
+Means (equiv budget false) bytes text s = MeansAnswer budget bytes text
+Means (equiv budget true) bytes text s = MeansProved budget bytes text s
 Means show bytes text s = ⊤
 Means (check budget) bytes text s = MeansCheck bytes s
 Means (run steps workers budget events) bytes text s = MeansRun report_text events s bytes text
 Means (make n) bytes text s = MeansRun (made_summary n) false s (made_text n) text
+Means audit bytes text s = MeansAudit bytes text s
 
 -- whatever a command writes means that
 abbrev pub Meanings : Type 0

@@ -1,6 +1,11 @@
 -- Which text and which status belong to which words and which bytes: a command has its own case in `Writes`.
-use Rattle.std.specs.Prelude.{◌≡◌, ℕ, ◌+◌, ◌≤◌, ◌<◌, ◌⊎◌, List, [], ◌∷◌, ◌++◌, Bool, true, false, length, Some}
+use Rattle.std.specs.Prelude.{◌≡◌, ℕ, ◌+◌, ◌≤◌, ◌<◌, ◌⊎◌, List, [], ◌∷◌, ◌++◌, Bool, true, false, length, take, codes, Some}
 use Rattle.fst_base.specs.Limits.{most_bytes}
+use Rattle.fst_basis.specs.declared.proof.Chain.{Chain}
+use Rattle.fst_basis.specs.declared.proof.Pair.{Pair}
+use Rattle.fst_cert.specs.Audits.{IsValid}
+use Rattle.fst_cert.specs.Certificates.{IsCertOf}
+use Rattle.fst_cert.specs.Texts.{steps_of}
 use Rattle.fst_equiv.specs.Answers.{Answer, yes, no, undecided, too_large, Answers}
 use Rattle.fst_types.specs.declared.family.Family.{Family}
 use Rattle.fst_terms.specs.CoreTree.{CoreTree}
@@ -8,7 +13,7 @@ use Rattle.fst_terms.specs.ModuleTree.{Declared}
 use Rattle.fst_terms.specs.declared.core_module.Module.{Module}
 use Rattle.fst_module_grammar.specs.Derives.{AnswersModule as ReadsModule}
 use Rattle.fst_names.specs.declared.question.Question.{Question}
-use Rattle.fst_type_print.specs.Texts.{family_names}
+use Rattle.fst_type_print.specs.Texts.{family_names, question_text}
 use Rattle.fst_print.specs.ModuleTexts.{module_text}
 use Rattle.fst_derivations.specs.Deriv.{Deriv}
 use Rattle.fst_typing.specs.Checked.{IsAccepted, IsRefusal}
@@ -28,10 +33,11 @@ use Rattle.fst_command.specs.declared.status.Status.{Status}
 use Rattle.fst_command.specs.declared.status.Status.TheVariants as status
 use Rattle.fst_make.specs.Made.{made_text}
 use Rattle.fst_options.specs.Words as setting
-use Rattle.fst_options.specs.Words.{Command, equiv, show, check, run, make, IsCommand, NoCommand}
+use Rattle.fst_options.specs.Words.{Command, equiv, show, check, run, make, audit, IsCommand, NoCommand}
 use Rattle.fst_command.specs.Finding.{Finding, refused, too_deep, IsRead, AreAsked, IsNoQuestion, IsNoModule, AreResolved, AreUnresolved}
 use Rattle.fst_command.specs.Finding as finding
-use Rattle.fst_command.specs.Texts.{yes_text, no_text, undecided_text, refused_text, too_deep_text, too_large_text, too_long_text, usage_text, out_of_steps_text}
+use Rattle.fst_command.specs.Texts.{yes_text, no_text, undecided_text, refused_text, too_deep_text, too_large_text, too_long_text, usage_text, out_of_steps_text, valid_text}
+use Rattle.fst_command.specs.Audited.{IsNoAudit, AuditsCertificate}
 use Rattle.fst_command.specs.CheckTexts.{accepted_text, cause, cause_text, cause_status}
 
 -- ---- an input that isn't what its command is for
@@ -64,19 +70,39 @@ answer_status (no word side) = status.Done
 answer_status undecided = status.Undecided
 answer_status too_large = status.Limit
 
+-- the text is a question on one line, and a certificate that is valid of its two types
+pub record IsCertified (asked : Question) (text : List ℕ) : Type 0 where
+  pub basis : List Pair
+  pub chains : List Chain
+  pub certificate : List ℕ
+  pub is_cert : IsCertOf certificate basis (steps_of chains)
+  pub valid : IsValid asked.left asked.right basis chains
+  pub written : text ≡ question_text asked.kinds.items asked.left asked.right
+      ++ (codes "\n" ++ certificate)
+
+-- this is the text of an answer; where a proof is asked for, that of yes is the question with a certificate
+abbrev pub IsAnswerText : Bool → List ℕ → Question → ℕ → Answer → List ℕ → Type 0
+IsAnswerText false bytes asked budget answer text =
+    text ≡ answer_text bytes asked.left_at budget answer
+IsAnswerText true bytes asked budget yes text = IsCertified asked text
+IsAnswerText true bytes asked budget (no word side) text = text ≡ no_text word side
+IsAnswerText true bytes asked budget undecided text = text ≡ undecided_text budget
+IsAnswerText true bytes asked budget too_large text = text ≡ too_large_text bytes asked.left_at
+
 -- this text and status are the answer to a question of two types
-pub record IsAnswerTo (bytes : List ℕ) (asked : Question) (budget : ℕ) (text : List ℕ)
-    (s : Status) : Type 0 where
+pub record IsAnswerTo (proof : Bool) (bytes : List ℕ) (asked : Question) (budget : ℕ)
+    (text : List ℕ) (s : Status) : Type 0 where
   pub answer : Answer
   pub answers : Answers asked.left asked.right budget answer
-  pub written : text ≡ answer_text bytes asked.left_at budget answer
+  pub written : IsAnswerText proof bytes asked budget answer text
   pub ended : s ≡ answer_status answer
 
 -- the bytes are a question of two session types, and this text and status are its answer within a budget
-pub record AnswersQuestion (budget : ℕ) (bytes text : List ℕ) (s : Status) : Type 0 where
+pub record AnswersQuestion (budget : ℕ) (proof : Bool) (bytes text : List ℕ)
+    (s : Status) : Type 0 where
   pub asked : Question
   pub is_asked : AreAsked bytes asked
-  pub answer : IsAnswerTo bytes asked budget text s
+  pub answer : IsAnswerTo proof bytes asked budget text s
 
 -- ---- `show`
 
@@ -177,12 +203,13 @@ WritesMade n bytes text s =
 
 -- what a command writes of an input
 abbrev pub Writes : Command → List ℕ → List ℕ → Status → Type 0
-Writes (equiv budget) = WritesOf IsNoQuestion (AnswersQuestion budget)
+Writes (equiv budget proof) = WritesOf IsNoQuestion (AnswersQuestion budget proof)
 Writes show = WritesOf IsNoModule ShowsModule
 Writes (check budget) = WritesOf AreUnresolved (FindsModule SaysAccepted budget)
 Writes (run steps workers budget events) =
     WritesOf AreUnresolved (FindsModule (SaysOutcome report_text events steps) budget)
 Writes (make n) = WritesMade n
+Writes audit = WritesOf IsNoAudit AuditsCertificate
 
 -- what is written of words and bytes: the usage line where the words are no command's, with nothing read, and else what
 -- the command writes
@@ -193,13 +220,30 @@ pub data IsOutput (words : List (List ℕ)) (bytes text : List ℕ) (s : Status)
 
 -- ---- laws
 
--- words and bytes have at most one output
+-- two texts are one; or the words ask for a proof, and both texts are the question of the bytes, each with a certificate that is valid
+pub data AreAlike (words : List (List ℕ)) (bytes text other : List ℕ) : Type 0 where
+  same : text ≡ other → AreAlike words bytes text other
+  certified : (budget : ℕ) → IsCommand words (equiv budget true) → (asked : Question) →
+      AreAsked bytes asked → IsCertified asked text → IsCertified asked other →
+      AreAlike words bytes text other
+
+-- words and bytes have at most one output, but for the certificate that `equiv` writes
 abbrev pub OneOutput : Type 0
 OneOutput =
     (words : List (List ℕ)) (bytes text other : List ℕ) (s t : Status) →
-    IsOutput words bytes text s → IsOutput words bytes other t → (text ≡ other) × (s ≡ t)
+    IsOutput words bytes text s → IsOutput words bytes other t →
+    AreAlike words bytes text other × (s ≡ t)
 
 -- the text of a module that is shown is a module that is shown by the same text, or a token of it is nested too deep
 abbrev pub ShownAgain : Type 0
 ShownAgain = (bytes text : List ℕ) → ShowsModule bytes text status.Done →
     ShowsModule text text status.Done ⊎ ((at : ℕ) × IsNoModule text (too_deep at))
+
+-- what `equiv` writes of a yes with a proof is valid to `audit`, or too long for it
+abbrev pub AuditedAgain : Type 0
+AuditedAgain = (budget : ℕ) (bytes text : List ℕ)
+    (m : AnswersQuestion budget true bytes text status.Done) → length bytes ≤ most_bytes →
+    m.answer.answer ≡ yes →
+    (length text ≤ most_bytes → Writes audit text valid_text status.Done) ×
+    (most_bytes < length text →
+    Writes audit (take (most_bytes + 1) text) too_long_text status.Limit)

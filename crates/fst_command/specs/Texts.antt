@@ -4,6 +4,7 @@ use Rattle.std.specs.List.{list_any, suffix_len}
 use Rattle.fst_types.specs.declared.label.Label.{Label}
 use Rattle.fst_types.specs.declared.side.Side.{Side}
 use Rattle.fst_type_print.specs.declared.refusals.Phrase.{Phrase}
+use Rattle.fst_type_print.specs.declared.refusals.Phrase.TheVariants.{Certificate, NoBasis}
 use Rattle.fst_type_print.specs.Texts.{word_text, side_text, refusal_text}
 
 -- the two types agree
@@ -51,10 +52,23 @@ too_large_text text at = codes "limit " ++ place_text text at ++ codes " type si
 abbrev pub too_long_text : List ℕ
 too_long_text = codes "limit length\n"
 
+-- the certificate shows that its two types are equivalent
+abbrev pub valid_text : List ℕ
+valid_text = codes "valid\n"
+
+-- line k of the certificate, which stands behind the line of its question, is no certificate's
+abbrev pub bad_line_text : ℕ → List ℕ
+bad_line_text k = refusal_text (record { line = k + 1; column = 1; phrase = Certificate })
+    ++ codes "\n"
+
+-- the certificate doesn't show that its two types are equivalent
+abbrev pub no_basis_text : List ℕ
+no_basis_text = refusal_text (record { line = 1; column = 1; phrase = NoBasis }) ++ codes "\n"
+
 -- the run has more events than its steps
 abbrev pub out_of_steps_text : List ℕ
 out_of_steps_text = codes "out of steps\n"
 
 -- the words aren't those of a command
 abbrev pub usage_text : List ℕ
-usage_text = codes "usage: freest equiv|show|check|run|make\n"
+usage_text = codes "usage: freest equiv|show|check|run|make|audit\n"

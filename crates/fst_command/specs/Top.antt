@@ -4,17 +4,18 @@ use Rattle.std.specs.Io.KnownBytes.{Consumes, IsAtEnd, Appends}
 use Rattle.fst_base.specs.Limits.{most_bytes}
 use Rattle.fst_command.specs.declared.status.Status.{Status}
 use Rattle.fst_command.specs.declared.status.Status.TheVariants as status
-use Rattle.fst_options.specs.Words.{Command, equiv, show, check, run, make, IsCommand}
+use Rattle.fst_options.specs.Words.{Command, equiv, show, check, run, make, audit, IsCommand}
 use Rattle.fst_command.specs.Meanings.{Means}
 use Rattle.fst_command.specs.Output.{IsOutput}
 
 -- whether the command reads an input
 abbrev pub reads_input : Command → Bool
-reads_input (equiv budget) = true
+reads_input (equiv budget proof) = true
 reads_input show = true
 reads_input (check budget) = true
 reads_input (run steps workers budget events) = true
 reads_input (make n) = false
+reads_input audit = true
 
 -- the words are those of a command that reads an input
 abbrev pub WantInput : List (List ℕ) → Type 0
@@ -32,11 +33,12 @@ pub record ReadsNothing (old new : Option (List ℕ)) (bytes : List ℕ) : Type 
 
 -- what is read for a command
 abbrev pub ReadsFor : Command → Option (List ℕ) → Option (List ℕ) → List ℕ → Type 0
-ReadsFor (equiv budget) = ReadsInput
+ReadsFor (equiv budget proof) = ReadsInput
 ReadsFor show = ReadsInput
 ReadsFor (check budget) = ReadsInput
 ReadsFor (run steps workers budget events) = ReadsInput
 ReadsFor (make n) = ReadsNothing
+ReadsFor audit = ReadsInput
 
 -- a text that with this status is an output of the words and of what was read, and means what it says
 pub record IsAnswered (words : List (List ℕ)) (old new : Option (List ℕ)) (text : List ℕ)

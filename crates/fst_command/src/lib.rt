@@ -2,6 +2,7 @@
 #![tactic(auto)]
 
 mod answer;
+mod auditing;
 mod checks;
 mod finding;
 mod refusals;
@@ -10,5 +11,5 @@ mod running;
 mod status;
 mod texts;
 
-pub use run::{completeness, meanings, one_output, shown_again, top};
+pub use run::{audited_again, completeness, meanings, one_output, shown_again, top};
 pub use status::Status;

@@ -7,10 +7,11 @@ ghost use Rattle.fst_options.specs.Views.{command_of};
 ghost use Rattle.fst_options.specs.Words.{IsWithin};
 ghost use Rattle.fst_command.specs.Complete.{AreComplete, IsComplete};
 ghost use Rattle.fst_command.specs.Meanings.{Meanings};
-ghost use Rattle.fst_command.specs.Output.{OneOutput, ShownAgain, Writes};
+ghost use Rattle.fst_command.specs.Output.{AuditedAgain, OneOutput, ShownAgain, Writes};
 ghost use Rattle.fst_command.specs.Top.{IsAnswer, IsAnswered, ReadsFor, WantInput, WasCut, WasWritten, reads_input};
 
 use crate::answer::{Answer, answer_equiv, answer_show, fixed};
+use crate::auditing::answer_audit;
 use crate::checks::answer_check;
 use crate::running::{answer_make, answer_run};
 use crate::status::Status;
@@ -23,14 +24,14 @@ use fst_merge::one_list_law;
 use fst_module_grammar::one_module;
 use fst_names::one_module_law;
 use fst_options::{Command, parse};
-use fst_roundtrip::read_again;
+use fst_roundtrip::{asked_again, read_again};
 use fst_safety::{one_end_law, safety_law};
 use fst_type_syntax::one_reading;
 use fst_typing::{accepted_law, complete_law, one_refusal_law, refusal_law};
 use std::alloc::{AllocError, Global};
 use std::thread::Threads;
 
-const USAGE: &[u8] = b"usage: freest equiv|show|check|run|make\n";
+const USAGE: &[u8] = b"usage: freest equiv|show|check|run|make|audit\n";
 
 // Whether the command reads an input.
 fn reads_input(command: Command) -> bool
@@ -42,6 +43,7 @@ fn reads_input(command: Command) -> bool
         Command::Check(_) => true,
         Command::Run(_) => true,
         Command::Make(_) => false,
+        Command::Audit => true,
     }
 }
 
@@ -80,11 +82,12 @@ fn answer_command<R: Threads + Sync, G: Gate + Sync>(
     ensures whole { IfOk result (λ a. IsAnswer a.status) }
 {
     match command {
-        Command::Equiv(budget) => answer_equiv(alloc, bytes, budget),
+        Command::Equiv(options) => answer_equiv(alloc, bytes, options),
         Command::Show => answer_show(alloc, bytes),
         Command::Check(budget) => answer_check(alloc, bytes, budget),
         Command::Run(options) => answer_run(rt, alloc, bytes, options, gate),
         Command::Make(n) => answer_make(rt, alloc, n, gate),
+        Command::Audit => answer_audit(alloc, bytes),
     }
 }
 
@@ -127,7 +130,8 @@ pub fn top<R: Threads + Sync, S: Source, K: Sink, G: Gate + Sync>(
     gate: &G,
 ) -> Status
     // With the status of an answer, an output of the words and of what was read is written whole, and means what it says. A yes of
-    // `equiv` is agreement at every depth, and a no the least trace that just one side performs. Where `check` accepts, what was
+    // `equiv`, a question with a certificate, and what `audit` calls valid are agreement at every depth, and a no is the least trace that
+    // just one side performs. Where `check` accepts, what was
     // read is a module that has derivations; and whatever happens in a run of it, in any order, no task meets a wrong message, a
     // wrong label or a spent end. So it is where `run` or `make` wrote a report or ran out of steps; and in a report each history
     // is a trace of its channel's declared type, and the value of `main` is one of its type. Where one of these refuses its input,
@@ -159,7 +163,7 @@ pub fn top<R: Threads + Sync, S: Source, K: Sink, G: Gate + Sync>(
         ⊎ WasCut (map string_bytes words.now)
         (S.left source.old) (S.left source.new) (K.taken sink.old) (K.taken sink.new) }
 
-    // Words that aren't those of `equiv`, `show`, `check` or `run` leave the source as it is.
+    // Words that aren't those of `equiv`, `show`, `check`, `run` or `audit` leave the source as it is.
     ensures unread { ¬ WantInput (map string_bytes words.now) → source.new ≡ source.old }
 {
     completeness();
@@ -173,7 +177,8 @@ pub fn top<R: Threads + Sync, S: Source, K: Sink, G: Gate + Sync>(
     }
 }
 
-/// Words and bytes have at most one output: what is written is a function of what was read, whatever the number of workers.
+/// Words and bytes have at most one output, whatever the number of workers: what is written is a function of what was read. The one choice
+/// that the definitions leave is which certificate `equiv` writes; this program's comes of the words and the bytes alone, too.
 pub fn one_output()
     ensures { OneOutput }
 {
@@ -194,6 +199,14 @@ pub fn shown_again()
 {
     read_again();
     one_module();
+}
+
+/// What `equiv` writes of a yes with a proof `audit` finds valid, as far as its limit on length goes.
+pub fn audited_again()
+    ensures { AuditedAgain }
+{
+    asked_again();
+    one_answer();
 }
 
 /// Whatever a command writes means what it says (`Means`).

@@ -1,2 +1,4 @@
+mod SettingLaws
+mod GivenLaws
 mod WordLaws
 pub mod Laws

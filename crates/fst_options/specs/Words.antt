@@ -4,9 +4,11 @@ use Rattle.std.specs.List.{list_all}
 use Rattle.std.specs.Char.{is_ascii_digit}
 use Rattle.std.specs.Str.Parse.{digits_value}
 use Rattle.fst_base.specs.Limits.{most_made}
-use Rattle.fst_options.specs.declared.words.Setting.{Setting as Set}
-use Rattle.fst_options.specs.declared.words.Setting.TheVariants.{Budget, Steps, Workers}
-use Rattle.fst_options.specs.declared.words.Given.{Given}
+use Rattle.fst_options.specs.declared.settings.Setting.{Setting as Set}
+use Rattle.fst_options.specs.declared.settings.Setting.TheVariants.{Budget, Steps, Workers}
+use Rattle.fst_options.specs.declared.settings.Flag.{Flag}
+use Rattle.fst_options.specs.declared.settings.Flag.TheVariants.{Events, Proof}
+use Rattle.fst_options.specs.declared.given.Given.{Given}
 
 -- a number that words may set: the name of its option, the least and the greatest, and what it is where no word sets it
 pub record Setting : Type 0 where
@@ -32,6 +34,11 @@ abbrev pub setting_of : Set → Setting
 setting_of Budget = budget
 setting_of Steps = steps
 setting_of Workers = workers
+
+-- the word that asks for a flag of the code
+abbrev pub name_of : Flag → List ℕ
+name_of Events = codes "--events"
+name_of Proof = codes "--proof"
 
 -- how many digits a number may have, leading zeros included
 abbrev pub most_digits : ℕ
@@ -62,10 +69,6 @@ pub record Sets (o : Setting) (words : List (List ℕ)) (n : ℕ) (rest : List (
   pub begins : Begins o.name words digits rest
   pub value : IsValue o digits n
 
--- the words set just this value, or there are none
-abbrev pub IsOption : Setting → List (List ℕ) → ℕ → Type 0
-IsOption o words n = ((words ≡ []) × (n ≡ o.default)) ⊎ Sets o words n []
-
 -- the value that is given for an option, if there is one
 abbrev pub value_in : Given → Set → Option ℕ
 value_in g Budget = g.budget
@@ -78,18 +81,29 @@ give g Budget n = record g { budget = Some n }
 give g Steps n = record g { steps = Some n }
 give g Workers n = record g { workers = Some n }
 
+-- whether a flag is given
+abbrev pub has_flag : Given → Flag → Bool
+has_flag g Events = g.events
+has_flag g Proof = g.proof
+
+-- with one flag more
+abbrev pub give_flag : Given → Flag → Given
+give_flag g Events = record g { events = true }
+give_flag g Proof = record g { proof = true }
+
 -- none is given
 abbrev pub none_given : Given
-none_given = record { steps = None; workers = None; budget = None; events = false }
+none_given = record
+    { steps = None; workers = None; budget = None; events = false; proof = false }
 
--- the words begin by giving a value for an option that has none, or by asking for events, which weren't asked for; others are behind it
+-- the words begin by giving a value for an option that has none, or a flag that wasn't given; others are behind it
 pub data GivesOne (before : Given) (words : List (List ℕ)) (after : Given)
     (rest : List (List ℕ)) : Type 0 where
   value : (option : Set) (number : ℕ) → Sets (setting_of option) words number rest →
       value_in before option ≡ None → after ≡ give before option number →
       GivesOne before words after rest
-  events : words ≡ codes "--events" ∷ rest → before.events ≡ false →
-      after ≡ record before { events = true } → GivesOne before words after rest
+  flag : (option : Flag) → words ≡ name_of option ∷ rest → has_flag before option ≡ false →
+      after ≡ give_flag before option → GivesOne before words after rest
 
 -- the words give so much, one thing after the other, and nothing else
 abbrev pub Give : ℕ → Given → List (List ℕ) → Given → Type 0
@@ -102,11 +116,35 @@ abbrev pub value_or : Setting → Option ℕ → ℕ
 value_or o None = o.default
 value_or o (Some n) = n
 
--- the words set the steps, the workers and the budget, and ask for events or don't, each at most once, in any order
-pub record AreOptions (words : List (List ℕ)) (s w b : ℕ) (e : Bool) : Type 0 where
+-- the words set the budget, and ask for a proof or don't, each at most once, in any order, and give nothing else
+pub record AreEquivOptions (words : List (List ℕ)) (b : ℕ) (p : Bool) : Type 0 where
   pub count : ℕ
   pub values : Given
   pub give : Give count none_given words values
+  pub no_steps : values.steps ≡ None
+  pub no_workers : values.workers ≡ None
+  pub no_events : values.events ≡ false
+  pub budget : b ≡ value_or budget values.budget
+  pub proof : p ≡ values.proof
+
+-- the words set the budget, at most once, and give nothing else
+pub record AreCheckOptions (words : List (List ℕ)) (b : ℕ) : Type 0 where
+  pub count : ℕ
+  pub values : Given
+  pub give : Give count none_given words values
+  pub no_steps : values.steps ≡ None
+  pub no_workers : values.workers ≡ None
+  pub no_events : values.events ≡ false
+  pub no_proof : values.proof ≡ false
+  pub budget : b ≡ value_or budget values.budget
+
+-- the words set the steps, the workers and the budget, and ask for events or don't, each at most once, in any order, and
+-- give nothing else
+pub record AreRunOptions (words : List (List ℕ)) (s w b : ℕ) (e : Bool) : Type 0 where
+  pub count : ℕ
+  pub values : Given
+  pub give : Give count none_given words values
+  pub no_proof : values.proof ≡ false
   pub steps : s ≡ value_or steps values.steps
   pub workers : w ≡ value_or workers values.workers
   pub budget : b ≡ value_or budget values.budget
@@ -123,23 +161,26 @@ abbrev pub IsNamed : List ℕ → (List (List ℕ) → Type 0) → List (List �
 IsNamed name P [] = ⊥
 IsNamed name P (w ∷ ws) = (w ≡ name) × P ws
 
--- a command: whether two types are equivalent, within a budget, or the canonical text of a module, or whether a module is
--- well typed, within a budget, or what so many steps of a module that is well typed come to on so many workers, within a budget, and
--- whether its events are asked for, or in brief what the made module of so many channels comes to
+-- a command: whether two types are equivalent, within a budget, and whether a proof is asked for, or the canonical text of a
+-- module, or whether a module is well typed, within a budget, or what so many steps of a module that is well typed come to on so
+-- many workers, within a budget, and whether its events are asked for, or in brief what the made module of so many channels comes
+-- to, or whether a certificate shows that its two types are equivalent
 pub data Command : Type 0 where
-  equiv : ℕ → Command
+  equiv : ℕ → Bool → Command
   show : Command
   check : ℕ → Command
   run : ℕ → ℕ → ℕ → Bool → Command
   make : ℕ → Command
+  audit : Command
 
 -- the words of a command
 abbrev pub IsCommand : List (List ℕ) → Command → Type 0
-IsCommand words (equiv n) = IsNamed (codes "equiv") (λ ws. IsOption budget ws n) words
+IsCommand words (equiv b p) = IsNamed (codes "equiv") (λ ws. AreEquivOptions ws b p) words
 IsCommand words show = IsNamed (codes "show") (λ ws. ws ≡ []) words
-IsCommand words (check n) = IsNamed (codes "check") (λ ws. IsOption budget ws n) words
-IsCommand words (run s w b e) = IsNamed (codes "run") (λ ws. AreOptions ws s w b e) words
+IsCommand words (check b) = IsNamed (codes "check") (λ ws. AreCheckOptions ws b) words
+IsCommand words (run s w b e) = IsNamed (codes "run") (λ ws. AreRunOptions ws s w b e) words
 IsCommand words (make n) = IsNamed (codes "make") (λ ws. IsOneNumber 0 most_made ws n) words
+IsCommand words audit = IsNamed (codes "audit") (λ ws. ws ≡ []) words
 
 -- the words aren't those of a command
 abbrev pub NoCommand : List (List ℕ) → Type 0
@@ -147,8 +188,9 @@ NoCommand words = (c : Command) → IsCommand words c → ⊥
 
 -- the values of a command are in their ranges
 abbrev pub IsWithin : Command → Type 0
-IsWithin (equiv b) = 1 ≤ b
+IsWithin (equiv b p) = 1 ≤ b
 IsWithin show = ⊤
 IsWithin (check b) = 1 ≤ b
 IsWithin (run s w b e) = (s ≤ steps.most) × (1 ≤ w) × (w ≤ workers.most) × (1 ≤ b)
 IsWithin (make n) = n ≤ most_made
+IsWithin audit = ⊤

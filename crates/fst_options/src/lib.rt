@@ -1,6 +1,9 @@
 //! The words of the command line.
 #![tactic(auto)]
 
+mod given;
+mod settings;
 mod words;
 
-pub use words::{Command, DEFAULT_BUDGET, DEFAULT_STEPS, DEFAULT_WORKERS, RunOptions, parse};
+pub use settings::{DEFAULT_BUDGET, DEFAULT_STEPS, DEFAULT_WORKERS};
+pub use words::{Command, EquivOptions, RunOptions, parse};

@@ -190,44 +190,56 @@ fn a_made_module_is_its_text(rt: HostRuntime) -> Result<(), Fail> {
 
 // Words of no command; the usage is written.
 const OTHER_WORDS: &str = "\
-help = usage: freest equiv|show|check|run|make
- = usage: freest equiv|show|check|run|make
---version = usage: freest equiv|show|check|run|make
-make = usage: freest equiv|show|check|run|make
-make 5001 = usage: freest equiv|show|check|run|make
-make 0000000002 = usage: freest equiv|show|check|run|make
-make +2 = usage: freest equiv|show|check|run|make
-make 2 2 = usage: freest equiv|show|check|run|make
-make 2 --steps 5 = usage: freest equiv|show|check|run|make
-make --budget=2 2 = usage: freest equiv|show|check|run|make
-make --steps 2 = usage: freest equiv|show|check|run|make
-make=2 = usage: freest equiv|show|check|run|make
-2 make = usage: freest equiv|show|check|run|make
-run 5 = usage: freest equiv|show|check|run|make
-run --workers 9 = usage: freest equiv|show|check|run|make
-run --steps 5 --steps 5 = usage: freest equiv|show|check|run|make
-run --steps=2000001 = usage: freest equiv|show|check|run|make
-Equiv = usage: freest equiv|show|check|run|make
-equiv equiv = usage: freest equiv|show|check|run|make
-equiv 5 = usage: freest equiv|show|check|run|make
-equiv --budget = usage: freest equiv|show|check|run|make
-equiv --budget= = usage: freest equiv|show|check|run|make
-equiv --budget 0 = usage: freest equiv|show|check|run|make
-equiv --budget=000000000 = usage: freest equiv|show|check|run|make
-equiv --budget=10001 = usage: freest equiv|show|check|run|make
-equiv --budget 0000010000 = usage: freest equiv|show|check|run|make
-equiv --budget +5 = usage: freest equiv|show|check|run|make
-equiv --budget -5 = usage: freest equiv|show|check|run|make
-equiv --budget=5x = usage: freest equiv|show|check|run|make
-equiv --budget=5 --budget=5 = usage: freest equiv|show|check|run|make
-equiv --budget 5 5 = usage: freest equiv|show|check|run|make
---budget=5 equiv = usage: freest equiv|show|check|run|make
-equiv --steps=5 = usage: freest equiv|show|check|run|make
-equiv --Budget=5 = usage: freest equiv|show|check|run|make
-Show = usage: freest equiv|show|check|run|make
-show show = usage: freest equiv|show|check|run|make
-show --budget=5 = usage: freest equiv|show|check|run|make
-equiv show = usage: freest equiv|show|check|run|make";
+help = usage: freest equiv|show|check|run|make|audit
+ = usage: freest equiv|show|check|run|make|audit
+--version = usage: freest equiv|show|check|run|make|audit
+make = usage: freest equiv|show|check|run|make|audit
+make 5001 = usage: freest equiv|show|check|run|make|audit
+make 0000000002 = usage: freest equiv|show|check|run|make|audit
+make +2 = usage: freest equiv|show|check|run|make|audit
+make 2 2 = usage: freest equiv|show|check|run|make|audit
+make 2 --steps 5 = usage: freest equiv|show|check|run|make|audit
+make --budget=2 2 = usage: freest equiv|show|check|run|make|audit
+make --steps 2 = usage: freest equiv|show|check|run|make|audit
+make=2 = usage: freest equiv|show|check|run|make|audit
+2 make = usage: freest equiv|show|check|run|make|audit
+run 5 = usage: freest equiv|show|check|run|make|audit
+run --workers 9 = usage: freest equiv|show|check|run|make|audit
+run --steps 5 --steps 5 = usage: freest equiv|show|check|run|make|audit
+run --steps=2000001 = usage: freest equiv|show|check|run|make|audit
+Equiv = usage: freest equiv|show|check|run|make|audit
+equiv equiv = usage: freest equiv|show|check|run|make|audit
+equiv 5 = usage: freest equiv|show|check|run|make|audit
+equiv --budget = usage: freest equiv|show|check|run|make|audit
+equiv --budget= = usage: freest equiv|show|check|run|make|audit
+equiv --budget 0 = usage: freest equiv|show|check|run|make|audit
+equiv --budget=000000000 = usage: freest equiv|show|check|run|make|audit
+equiv --budget=10001 = usage: freest equiv|show|check|run|make|audit
+equiv --budget 0000010000 = usage: freest equiv|show|check|run|make|audit
+equiv --budget +5 = usage: freest equiv|show|check|run|make|audit
+equiv --budget -5 = usage: freest equiv|show|check|run|make|audit
+equiv --budget=5x = usage: freest equiv|show|check|run|make|audit
+equiv --budget=5 --budget=5 = usage: freest equiv|show|check|run|make|audit
+equiv --budget 5 5 = usage: freest equiv|show|check|run|make|audit
+--budget=5 equiv = usage: freest equiv|show|check|run|make|audit
+equiv --steps=5 = usage: freest equiv|show|check|run|make|audit
+equiv --Budget=5 = usage: freest equiv|show|check|run|make|audit
+Show = usage: freest equiv|show|check|run|make|audit
+show show = usage: freest equiv|show|check|run|make|audit
+show --budget=5 = usage: freest equiv|show|check|run|make|audit
+equiv show = usage: freest equiv|show|check|run|make|audit
+equiv --proof --proof = usage: freest equiv|show|check|run|make|audit
+equiv --proof=1 = usage: freest equiv|show|check|run|make|audit
+equiv --proof 5 = usage: freest equiv|show|check|run|make|audit
+equiv --Proof = usage: freest equiv|show|check|run|make|audit
+check --proof = usage: freest equiv|show|check|run|make|audit
+run --proof = usage: freest equiv|show|check|run|make|audit
+show --proof = usage: freest equiv|show|check|run|make|audit
+audit 5 = usage: freest equiv|show|check|run|make|audit
+audit --budget 5 = usage: freest equiv|show|check|run|make|audit
+audit --proof = usage: freest equiv|show|check|run|make|audit
+audit audit = usage: freest equiv|show|check|run|make|audit
+Audit = usage: freest equiv|show|check|run|make|audit";
 
 fn words_row<R: Threads + Sync>(rt: &R, alloc: Global, given: &str) -> Result<String, Fail> {
     answer(rt, alloc, given, b"Skip ~ Skip")

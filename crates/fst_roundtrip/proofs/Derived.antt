@@ -15,7 +15,7 @@ use Rattle.fst_terms.specs.TermTree.{TermTree, TermList, TermArms, no_arms, arm}
 use Rattle.fst_terms.specs.ModuleTree.{Maker, Declared}
 use Rattle.fst_reading.specs.Lexeme.{Lexeme, IsLower, IsUpper}
 use Rattle.fst_type_syntax.specs.Grammar as types
-use Rattle.fst_type_syntax.specs.Grammar.{IsType, IsSeq, IsAlts, IsAlt, IsBinder, IsBinders}
+use Rattle.fst_type_syntax.specs.Grammar.{IsType, IsSeq, IsAlts, IsAlt, IsBinder, IsBinders, Asked, IsQuestion}
 use Rattle.fst_module_grammar.specs.Grammar as terms
 use Rattle.fst_module_grammar.specs.Grammar.{AreNames, AreApplied, IsExpr, AreCases, AreMatches, IsOr, IsAnd, IsCmp, IsSum, IsProd, IsUnary, IsApp, IsHead, AreAtoms, IsAtom, IsPlain, AreTypes, AreMakers, IsDecl, Lined, lexemes_of, IsModule}
 use Rattle.fst_roundtrip.proofs.Showable.{IsLowerName, IsUpperName, IsShowableType, AreShowableBranches, AreLowerNames, IsShowable, AreShowable, AreShowableCases, AreShowableMatches, IsShowableMaker, AreShowableMakers, IsShowableDecl}
@@ -41,7 +41,7 @@ around ts us k m =
     let h = parted ts (k ∷ us) m in
     (h.0, h.1.1)
 
-lower_name : (k : Lexeme) → IsMade k → IsLower k → IsLowerName k.text
+pub lower_name : (k : Lexeme) → IsMade k → IsLower k → IsLowerName k.text
 lower_name k m is = subst (λ x. IsTokenOf x k.text) is m
 
 upper_name : (k : Lexeme) → IsMade k → IsUpper k → IsUpperName k.text
@@ -117,6 +117,17 @@ mutual
 
   alt_shown : (ts : List Lexeme) (l : List ℕ) (t : WrittenTree) → IsAlt ts l t → AreMade ts → IsUpperName l × IsShowableType t
   alt_shown _ _ _ (types.alt l c ts t is colon d) m = (upper_name l m.0 is, seq_shown ts t d m.1.1)
+
+-- the types of a question
+pub question_shown : (ts rest : List Lexeme) (q : Asked) → IsQuestion ts q → AreMade (ts ++ rest) → IsShowableType q.left ×
+    IsShowableType q.right
+question_shown all rest _ (types.closed ts us _ k t u d sign e is) m =
+    let h = around ts us k (subst AreMade is (parted all rest m).0) in
+    (seq_shown ts t d h.0, seq_shown us u e h.1)
+question_shown all rest _ (types.over f p k vs ts us _ bs t u word b dot d sign e is) m =
+    let g = around vs (ts ++ k ∷ us) p (subst AreMade is (parted all rest m).0).1 in
+    let h = around ts us k g.1 in
+    (seq_shown ts t d h.0, seq_shown us u e h.1)
 
 names_shown : (ts : List Lexeme) (xs : List Binder) → AreNames ts xs → AreMade ts → AreLowerNames xs
 names_shown _ _ terms.none m = All-nil _

@@ -4,6 +4,7 @@ pub mod Spelled
 pub mod WrittenForms
 pub mod ReadingLaws
 pub mod ShownWords
+pub mod Depths
 pub mod ShownTypes
 pub mod ShownCharacters
 pub mod ShownRows
@@ -19,3 +20,9 @@ pub mod ShownDecls
 pub mod Derived
 pub mod Unplaced
 pub mod ShownModules
+pub mod UpperLabels
+pub mod OneLine
+pub mod FewVariables
+pub mod QuestionNames
+pub mod ShownQuestions
+pub mod QuestionLaws

@@ -71,7 +71,7 @@ pub variable_lower : (k : ℕ) → k + 1 < 2 ^ 64 → IsWordOf kind.Lower (varia
 variable_lower k fits = numbered (byte "a") (k + 1) (omega arith) (is_xid_start-ascii (byte "a") (omega arith)) refl refl fits
 
 -- texts that differ
-differ : (x y : List ℕ) → x ≢ y → bytes_eq x y ≡ false
+pub differ : (x y : List ℕ) → x ≢ y → bytes_eq x y ≡ false
 differ x y distinct = by_test (bytes_eq x y) refl
   where
     by_test : (b : Bool) → bytes_eq x y ≡ b → bytes_eq x y ≡ false
@@ -82,7 +82,7 @@ same : (x : List ℕ) → bytes_eq x x ≡ true
 same x = (bytes_eq-Decides x x).1 refl
 
 -- a name of one number is no name of another
-apart : (c j k : ℕ) → j + 1 < 2 ^ 64 → k + 1 < 2 ^ 64 → j ≢ k → c ∷ decimal (j + 1) ≢ c ∷ decimal (k + 1)
+pub apart : (c j k : ℕ) → j + 1 < 2 ^ 64 → k + 1 < 2 ^ 64 → j ≢ k → c ∷ decimal (j + 1) ≢ c ∷ decimal (k + 1)
 apart c j k small fits distinct e =
     let tails : decimal (j + 1) ≡ decimal (k + 1) = cc in
     distinct (let numbers = decimal_injective (j + 1) (k + 1) small fits tails in omega arith)

@@ -2,8 +2,9 @@
 use Rattle.std.proofs.Common.{◌≡◌, true, false, ℕ, zero, suc, ◌-◌, List, [], ◌∷◌, ◌++◌, length, map, take, refl, sym, ap, subst, ◌∙◌, arith, length-append}
 use Rattle.std.proofs.lemmas.List.{append-nil, map-append, length-map}
 use Rattle.fst_lexer.specs.declared.token.Token.{Token}
+use Rattle.fst_lexer.specs.Lexes.{Lexes}
 use Rattle.fst_lexer.specs.Spelling.{Word, LinedWord, IsSpelled, nothing, blank, word, word_at, lined_word_at, end_word, HasWords, SpellingLaw}
-use Rattle.fst_reading.specs.Lexeme.{lexeme, lexemes}
+use Rattle.fst_reading.specs.Lexeme.{Lexeme, lexeme, lexemes}
 use Rattle.fst_type_syntax.specs.Grammar.{IsType}
 use Rattle.fst_type_print.specs.Texts.{type_text}
 use Rattle.fst_roundtrip.specs.ReadBack.{ReadBack}
@@ -65,6 +66,27 @@ counted text tokens ws e =
     let size : length (map (word_at text) tokens) ≡ length tokens = length-map tokens (word_at text) in
     omega (arith, ap length e, size, length-append ws (end_word ∷ []))
 
+-- the tokens of a text, and what they are
+pub record IsRead (text : List ℕ) (P : List Lexeme → Type 0) : Type 0 where
+  pub tokens : List Token
+  pub lexes : Lexes text tokens
+  pub read : P (lexemes text tokens)
+
+-- a text of words has tokens
+pub text_read : {P : List Lexeme → Type 0} → SpellingLaw → (text : List ℕ) → Reads EndsName text P → IsRead text P
+text_read spelling text r =
+    let inner : IsSpelled false text (map inside r.words) =
+    rw (append-nil text, append-nil (map inside r.words)) at (r.spelled [] [] refl (nothing false)) in
+    let whole = begun text (map inside r.words) inner in
+    let found = spelling text whole.words whole.spelled in
+    let words = tokens_are text found.tokens r.words whole found.has in
+    record {
+      tokens = found.tokens;
+      lexes = found.lexes;
+      read = r.read (lexemes text found.tokens) (front_words text found.tokens r.words (length found.tokens - 1) words
+          (counted text found.tokens r.words words));
+    }
+
 pub read_back_law : SpellingLaw → ReadBack
 read_back_law spelling names m t h =
     let text = type_text names t in
@@ -75,12 +97,7 @@ read_back_law spelling names m t h =
     let r : Reads EndsName text (ShownType IsType w) = subst
     (λ (x : List ℕ). Reads EndsName x (ShownType IsType w)) (text_same names m 0 t h.writable)
     (type_shown w known.showable) in
-    let inner : IsSpelled false text (map inside r.words) =
-    rw (append-nil text, append-nil (map inside r.words)) at (r.spelled [] [] refl (nothing false)) in
-    let whole = begun text (map inside r.words) inner in
-    let found = spelling text whole.words whole.spelled in
-    let words = tokens_are text found.tokens r.words whole found.has in
-    let x = r.read (lexemes text found.tokens) (front_words text found.tokens r.words (length found.tokens - 1) words
-    (counted text found.tokens r.words words)) in
+    let found = text_read spelling text r in
+    let x = found.read in
     let means = means_same (scope_under names m 0) x.wrote w t x.same known.means in
     record { tokens = found.tokens; read = x.wrote; lexes = found.lexes; derives = x.form; means = means }

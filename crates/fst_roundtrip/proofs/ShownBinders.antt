@@ -97,7 +97,7 @@ binder_shown b lower =
     }
 
 -- a variable without its place
-abbrev unplaced_variable : Binder × Kind → Binder × Kind
+abbrev pub unplaced_variable : Binder × Kind → Binder × Kind
 unplaced_variable b = (unplaced_binder b.0, b.1)
 
 -- lexemes that are these variables

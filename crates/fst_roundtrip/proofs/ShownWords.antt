@@ -13,11 +13,17 @@ pub record Shown {A B : Type 0} (Form : List Lexeme → A → Type 0) (bare : A 
   pub form : Form ts wrote
   pub same : bare wrote ≡ bare x
 
+-- the same as a phrase of another form, which it has since it is the same
+pub reshown_same : {A B : Type 0} {Q : List ℕ → Type 0} {F G : List Lexeme → A → Type 0} {bare : A → B} (text : List ℕ) (x : A) →
+    ((ts : List Lexeme) (w : A) → bare w ≡ bare x → F ts w → G ts w) →
+    Reads Q text (Shown F bare x) → Reads Q text (Shown G bare x)
+reshown_same text x f r = so text (λ ts s. record { wrote = s.wrote; form = f ts s.wrote s.same s.form; same = s.same }) r
+
 -- the same as a phrase of another form
 pub reshown : {A B : Type 0} {Q : List ℕ → Type 0} {F G : List Lexeme → A → Type 0} {bare : A → B} (text : List ℕ) (x : A) →
     ((ts : List Lexeme) (w : A) → F ts w → G ts w) →
     Reads Q text (Shown F bare x) → Reads Q text (Shown G bare x)
-reshown text x f r = so text (λ ts s. record { wrote = s.wrote; form = f ts s.wrote s.form; same = s.same }) r
+reshown text x f r = reshown_same text x (λ ts w same. f ts w) r
 
 -- with a blank behind it
 pub blank_behind : {Q R : List ℕ → Type 0} {P : List Lexeme → Type 0} (text : List ℕ) →

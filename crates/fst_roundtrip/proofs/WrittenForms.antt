@@ -91,7 +91,7 @@ bare true text same e h = absurd (cc e)
 bare false text same e h = h
 
 -- a type that is no function stands in no parentheses where a function does
-bare_same : (names : List (List ℕ)) (n : ℕ) (t : Tree) → IsNoArrow t →
+pub bare_same : (names : List (List ℕ)) (n : ℕ) (t : Tree) → IsNoArrow t →
     written_text (as_written names n t) ≡ text_under names n t →
     in_parens_if (is_arrow (as_written names n t)) (written_text (as_written names n t)) ≡ text_under names n t
 bare_same names n t e h = bare (is_arrow (as_written names n t)) (written_text (as_written names n t)) (text_under names n t)

@@ -1,3 +1,4 @@
 pub mod ReadBack
 pub mod Unplaced
 pub mod ReadAgain
+pub mod ReadQuestion

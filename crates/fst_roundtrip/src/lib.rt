@@ -3,4 +3,4 @@
 
 mod laws;
 
-pub use laws::{read_again, read_back};
+pub use laws::{asked_again, read_again, read_back};

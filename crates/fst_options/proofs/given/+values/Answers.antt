@@ -1,7 +1,7 @@
 use Rattle.std.proofs.Common.{map}
 use Rattle.std.specs.Prelude.{string_bytes}
-use Rattle.fst_options.proofs.WordLaws.{gives_none, gives_so, some_words_left}
-use Rattle.fst_options.proofs.words.+values.Goals as goal
+use Rattle.fst_options.proofs.GivenLaws.{gives_none, gives_so, some_words_left}
+use Rattle.fst_options.proofs.given.+values.Goals as goal
 
 pub returns-in-Some : goal.returns-in-Some
 returns-in-Some t c =

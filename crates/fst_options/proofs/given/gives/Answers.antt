@@ -1,8 +1,12 @@
 use Rattle.std.proofs.Common.{map, sym, ◌∙◌}
 use Rattle.std.specs.Prelude.{string_bytes}
-use Rattle.fst_options.specs.Words.{value}
-use Rattle.fst_options.proofs.WordLaws.{none_to_give}
-use Rattle.fst_options.proofs.words.gives.Goals as goal
+use Rattle.fst_options.specs.Words.{flag, value}
+use Rattle.fst_options.proofs.GivenLaws.{none_to_give}
+use Rattle.fst_options.proofs.given.gives.Goals as goal
+
+pub returns-in-Some : goal.returns-in-Some
+returns-in-Some c =
+    flag c.in-Some.flag c.in-Some.ensures (sym c.has_flag.ensures ∙ c.if-has_flag.false) c.give_flag.ensures
 
 pub returns-in_default-next : goal.returns-in_default-next
 returns-in_default-next c =

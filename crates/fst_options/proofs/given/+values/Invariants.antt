@@ -1,5 +1,5 @@
 use Rattle.std.proofs.Common.{length}
-use Rattle.fst_options.proofs.words.+values.Given as goal
+use Rattle.fst_options.proofs.given.+values.Given as goal
 
 abbrev pub decreases-values : goal.decreases-values
 decreases-values l = length l.words.now

@@ -1,6 +1,6 @@
 use Rattle.std.proofs.Common.{◌∙◌, length, sym, arith}
-use Rattle.fst_options.proofs.WordLaws.{not_empty, parsed}
-use Rattle.fst_options.proofs.words.number_of.Goals as goal
+use Rattle.fst_options.proofs.SettingLaws.{not_empty, parsed}
+use Rattle.fst_options.proofs.settings.number_of.Goals as goal
 
 pub returns-in-Err : goal.returns-in-Err
 returns-in-Err c =
