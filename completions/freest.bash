@@ -6,12 +6,13 @@ _freest() {
     *[\<\>]*)
         compopt -o default
         return ;;
-    --events) ;;
+    --events | --proof) ;;
     --* | =) return ;;
     esac
     case $COMP_CWORD-${COMP_WORDS[1]} in
-    1-*) words='equiv show check run make' ;;
-    *-equiv | *-check) words='--budget' ;;
+    1-*) words='equiv show check run make audit' ;;
+    *-equiv) words='--budget --proof' ;;
+    *-check) words='--budget' ;;
     *-run) words='--steps --workers --budget --events' ;;
     esac
     # (each option at most once)

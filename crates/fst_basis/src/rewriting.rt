@@ -19,6 +19,22 @@ pub(crate) struct Parted {
     pub(crate) back: Vec<u32>,
 }
 
+/// How many non-terminals a word may have between two rewrites. A chain of a few bytes a rewrite can let a word grow without end.
+const MOST_LETTERS: usize = 1 << 24;
+
+// Puts a word behind the place, in front of what stands there. A word over the limit wants memory.
+fn put(word: &mut Parted, y: &[u32]) -> Result<(), AllocError>
+    ensures front { OnOk result (word.new.front ≡ word.old.front) }
+    ensures back { OnOk result (reverse word.new.back.items ≡
+        y.now ++ reverse word.old.back.items) }
+{
+    let letters = word.front.len().saturating_add(word.back.len());
+    if letters.saturating_add(y.len()) > MOST_LETTERS {
+        return Err(AllocError);
+    }
+    push_word(&mut word.back, y)
+}
+
 // Takes a word off the front of what stands behind the place, if it stands there.
 fn take(back: &mut Vec<u32>, word: &[u32]) -> bool
     ensures taken { result ≡ true → reverse back.old.items ≡ word.now ++ reverse back.new.items }
@@ -64,7 +80,7 @@ fn replace(word: &mut Parted, at: u64, x: &[u32], y: &[u32]) -> Result<bool, All
     if word.front.len() < at || !take(&mut word.back, x) {
         return Ok(false);
     }
-    push_word(&mut word.back, y)?;
+    put(word, y)?;
     Ok(true)
 }
 
@@ -153,7 +169,7 @@ fn grow(word: &mut Parted, marks: &[bool], at: u64, tail: &[u32]) -> Result<bool
     if !word.back.is_empty() {
         return Ok(false);
     }
-    push_word(&mut word.back, tail)?;
+    put(word, tail)?;
     word.back.push(n)?;
     Ok(true)
 }

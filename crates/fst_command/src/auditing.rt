@@ -154,7 +154,7 @@ fn answer_bad_line(
             status: Status::Refused,
             text: bad_line_text(alloc, k)?.into_bytes(),
         }),
-        Err(fault) => answer_untried(alloc, bytes, question, fault),
+        Err(untried) => answer_untried(alloc, bytes, question, untried),
     }
 }
 

@@ -77,7 +77,7 @@ fn writes_row<R: Threads + Sync>(rt: &R, alloc: Global, given: &str) -> Result<S
 }
 
 // How many bytes a call gives, the command and its input; the status, and how many calls read the input and its end.
-const READS: [(&str, &str); 7] = [
+const READS: [(&str, &str); 8] = [
     // source-fails
     (
         "1 ¦ run ¦ main : Int\nmain = let (a, b) = new !Int in fork (send 5 a); let (x, d) = receive b in x\n",
@@ -91,6 +91,7 @@ const READS: [(&str, &str); 7] = [
     ("2 ¦ show ¦ f = (x)\n", "0 5"),
     ("3 ¦ check ¦ main : Int\nmain = x\n", "1 8"),
     ("99 ¦ check ¦ ", "1 1"),
+    ("6 ¦ audit ¦ Skip;!Int ~ !Int;Skip\npairs 0\nchains 1\nchain\n", "0 9"),
     ("1 ¦ make 2 ¦ main", "0 0"),
 ];
 
@@ -104,7 +105,7 @@ fn failing_reads_write_nothing(rt: HostRuntime) -> Result<(), Fail> {
 }
 
 // How many bytes a call takes, the command and its input; the status, and how many calls write the text.
-const WRITES: [(&str, &str); 12] = [
+const WRITES: [(&str, &str); 14] = [
     // sink-fails
     (
         "7 ¦ run ¦ main : Int\nmain = let (a, b) = new !Int in fork (send 5 a); let (x, d) = receive b in x\n",
@@ -129,7 +130,9 @@ const WRITES: [(&str, &str); 12] = [
         "3 14",
     ),
     ("16 ¦ make 2 ¦ ", "0 3"),
-    ("10 ¦ help ¦ ", "2 4"),
+    ("10 ¦ help ¦ ", "2 5"),
+    ("8 ¦ equiv --proof ¦ Skip;!Int ~ !Int;Skip", "0 6"),
+    ("5 ¦ audit ¦ Skip;!Int ~ !Int;Skip\npairs 0\nchains 1\nchain\n", "0 2"),
 ];
 
 #[test]

@@ -11,4 +11,4 @@ returns-clause-made c t =
     sym c.in_ok-seek.ensures.same ∙ ap (λ z. front ++ z) (c.if-not-take.ensures.taken refl) in
     let place = c.in_ok-seek.ensures.place in
     let at : length front ≡ c.args.at = omega (arith, c.if-len-at.false, c.len.ensures, c.seek.new.word.front.ok.0) in
-    rw (whole, sym at, c.in_ok-push_word.ensures) (replaced_here front c.args.x.now c.args.y.now rest)
+    rw (whole, sym at, c.in_ok-put.ensures.front, c.in_ok-put.ensures.back) (replaced_here front c.args.x.now c.args.y.now rest)
