@@ -2,9 +2,12 @@ pub mod Showable
 pub mod Numbered
 pub mod Spelled
 pub mod WrittenForms
+pub mod Unplaced
+pub mod Nestings
+pub mod Depths
+pub mod Shallow
 pub mod ReadingLaws
 pub mod ShownWords
-pub mod Depths
 pub mod ShownTypes
 pub mod ShownCharacters
 pub mod ShownRows
@@ -18,7 +21,6 @@ pub mod ShownBinders
 pub mod ShownMakers
 pub mod ShownDecls
 pub mod Derived
-pub mod Unplaced
 pub mod ShownModules
 pub mod UpperLabels
 pub mod OneLine

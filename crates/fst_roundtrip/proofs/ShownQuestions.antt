@@ -17,27 +17,13 @@ use Rattle.fst_type_print.specs.WrittenTexts.{seq_text}
 use Rattle.fst_roundtrip.specs.ReadBack.{variable_names}
 use Rattle.fst_roundtrip.specs.Unplaced.{unplaced_type}
 use Rattle.fst_roundtrip.proofs.Spelled.{Reads, Any, EndsName, One, one, Two, two, so, both, spaced}
-use Rattle.fst_roundtrip.proofs.Depths.{seq_depth, same_depth, no_deeper, ShallowSeq}
+use Rattle.fst_roundtrip.proofs.Depths.{seq_depth, same_depth, no_deeper}
+use Rattle.fst_roundtrip.proofs.Nestings.{raised, level_within, front, behind}
+use Rattle.fst_roundtrip.proofs.Shallow.{ShallowSeq}
 use Rattle.fst_roundtrip.proofs.ShownWords.{blank_before, word_blank}
 use Rattle.fst_roundtrip.proofs.ShownTypes.{ShownType}
 use Rattle.fst_roundtrip.proofs.ShownBinders.{ShownBinders, binders_shown}
 use Rattle.fst_roundtrip.proofs.QuestionNames.{numbered_variables, numbered_texts, numbered_lower, same_names, same_kinds}
-
--- within a limit are both of two lists, all numbers within a lesser limit, and the nesting of tokens that nothing encloses
-
-parts_within : (limit : ℕ) (ns ms : List ℕ) → IsWithinLimit limit (ns ++ ms) → IsWithinLimit limit ns × IsWithinLimit limit ms
-parts_within limit [] ms p = (tt, p)
-parts_within limit (n ∷ ns) ms p =
-    let h = parts_within limit ns ms p.1 in
-    ((p.0, h.0), h.1)
-
-wider_within : (less limit : ℕ) (ns : List ℕ) → less ≤ limit → IsWithinLimit less ns → IsWithinLimit limit ns
-wider_within less limit [] at p = tt
-wider_within less limit (n ∷ ns) at p = (omega (arith, at, p.0), wider_within less limit ns at p.1)
-
-level_within : (limit : ℕ) (ts : List Lexeme) → IsWithinLimit limit (level 0 ts)
-level_within limit [] = tt
-level_within limit (t ∷ ts) = (omega arith, level_within limit ts)
 
 -- ` ~ `
 tilde : {Q : List ℕ → Type 0} → Reads Q (codes " ~ ") (One (Is (codes "~")))
@@ -55,7 +41,7 @@ pub record ShownQuestion (kinds : List Kind) (v w : WrittenTree) (ts : List Lexe
 
 side_within : (ts : List Lexeme) (v : WrittenTree) (x : ShownType ShallowSeq v ts) (limit : ℕ) → 1 + seq_depth v ≤ limit →
     IsWithinLimit limit (seq_nests 1 (x.form.0))
-side_within ts v x limit at = wider_within (1 + seq_depth x.wrote) limit (seq_nests 1 (x.form.0))
+side_within ts v x limit at = raised (1 + seq_depth x.wrote) limit (seq_nests 1 (x.form.0))
     (omega (arith, at, same_depth x.wrote v x.same)) (x.form.1 1)
 
 closed_shown : (v w : WrittenTree) → Reads EndsName (seq_text v) (ShownType ShallowSeq v) →
@@ -117,7 +103,7 @@ over_shown kind kinds v w few left right =
       within = λ limit m n. (
         omega arith,
         IsWithinLimit-append limit (level 0 vs) (0 ∷ (seq_nests 1 x.form.0 ++ 0 ∷ seq_nests 1 y.form.0))
-            (level_within limit vs) (
+            (level_within limit 0 vs (omega arith)) (
               omega arith,
               IsWithinLimit-append limit (seq_nests 1 x.form.0) (0 ∷ seq_nests 1 y.form.0)
                   (side_within ts v x limit m) (omega arith, side_within us w y limit n),
@@ -139,10 +125,12 @@ asked_shown (kind ∷ kinds) v w few left right = over_shown kind kinds v w few 
 -- a question that was read within a limit is no deeper
 pub sides_within : (ts : List Lexeme) (q : Asked) (d : IsQuestion ts q) (limit : ℕ) → IsWithinLimit limit (question_nests d) →
     (1 + seq_depth q.left ≤ limit) × (1 + seq_depth q.right ≤ limit)
-sides_within all _ (grammar.closed ts us _ k t u s is r parts) limit h =
-    let b = parts_within limit (seq_nests 1 s) (0 ∷ seq_nests 1 r) h in
-    (no_deeper ts t s 1 limit b.0, no_deeper us u r 1 limit b.1.1)
+sides_within all _ (grammar.closed ts us _ k t u s is r parts) limit h = (
+  no_deeper ts t s 1 limit (front limit (seq_nests 1 s) (0 ∷ seq_nests 1 r) h),
+  no_deeper us u r 1 limit (behind limit (seq_nests 1 s) (0 ∷ seq_nests 1 r) h).1,
+)
 sides_within all _ (grammar.over f d k vs ts us _ bs t u word b dot s is r parts) limit h =
-    let front = parts_within limit (level 0 vs) (0 ∷ (seq_nests 1 s ++ 0 ∷ seq_nests 1 r)) h.1 in
-    let b = parts_within limit (seq_nests 1 s) (0 ∷ seq_nests 1 r) front.1.1 in
-    (no_deeper ts t s 1 limit b.0, no_deeper us u r 1 limit b.1.1)
+    let types = (behind limit (level 0 vs) (0 ∷ (seq_nests 1 s ++ 0 ∷ seq_nests 1 r)) h.1).1 in (
+      no_deeper ts t s 1 limit (front limit (seq_nests 1 s) (0 ∷ seq_nests 1 r) types),
+      no_deeper us u r 1 limit (behind limit (seq_nests 1 s) (0 ∷ seq_nests 1 r) types).1,
+    )

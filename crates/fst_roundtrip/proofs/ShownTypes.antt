@@ -17,8 +17,9 @@ use Rattle.fst_type_print.specs.WrittenTexts.{is_compound, is_arrow, written_tex
 use Rattle.fst_roundtrip.proofs.Showable.{IsLowerName, IsUpperName, IsShowableType, AreShowableBranches}
 use Rattle.fst_roundtrip.proofs.Spelled.{Reads, Any, EndsName, One, one, Two, two, so, both, reserved, sign_before, sign, lower_name, upper_name, spaced, rec_word, arrow_reads, base_reads, parts_of_pair}
 use Rattle.fst_roundtrip.proofs.ShownWords.{Shown, reshown, reshown_same}
-use Rattle.fst_roundtrip.proofs.Depths as shallow
-use Rattle.fst_roundtrip.proofs.Depths.{seq_depth, atom_level, atom_depth, ShallowSeq, ShallowType, ShallowAtom, ShallowAlts, ShallowAlt, same_arrow, same_compound}
+use Rattle.fst_roundtrip.proofs.Depths.{seq_depth, atom_level, atom_depth, same_arrow, same_compound}
+use Rattle.fst_roundtrip.proofs.Shallow as shallow
+use Rattle.fst_roundtrip.proofs.Shallow.{ShallowSeq, ShallowType, ShallowAtom, ShallowAlts, ShallowAlt}
 use Rattle.fst_roundtrip.specs.Unplaced.{unplaced_type, unplaced_branches}
 
 -- lexemes that are this type in such a form

@@ -14,35 +14,13 @@ use Rattle.fst_print.specs.ModuleTexts.{op_text, names_text, applied_text, term_
 use Rattle.fst_roundtrip.specs.Unplaced.{unplaced_type, unplaced_branches, unplaced_binder, unplaced_term, unplaced_terms, unplaced_arms, unplaced_maker, unplaced_decl}
 use Rattle.fst_print.specs.Ranks.{or_rank, negation_rank, atom_rank, rank, make_rank, left_rank, right_rank, is_below, is_no_head}
 
-compound_same : (t : WrittenTree) → is_compound (unplaced_type t) ≡ is_compound t
+pub compound_same : (t : WrittenTree) → is_compound (unplaced_type t) ≡ is_compound t
 compound_same (written.skip at) = refl
-compound_same (written.send at b) = refl
-compound_same (written.receive at b) = refl
-compound_same (written.close at) = refl
-compound_same (written.wait at) = refl
-compound_same (written.select at bs) = refl
-compound_same (written.offer at bs) = refl
-compound_same (written.seq at s t) = refl
-compound_same (written.rec at x t) = refl
-compound_same (written.named at x) = refl
-compound_same (written.plain at b) = refl
-compound_same (written.arrow at u s t) = refl
-compound_same (written.pair at s t) = refl
+compound_same _ = refl
 
-arrow_same : (t : WrittenTree) → is_arrow (unplaced_type t) ≡ is_arrow t
+pub arrow_same : (t : WrittenTree) → is_arrow (unplaced_type t) ≡ is_arrow t
 arrow_same (written.skip at) = refl
-arrow_same (written.send at b) = refl
-arrow_same (written.receive at b) = refl
-arrow_same (written.close at) = refl
-arrow_same (written.wait at) = refl
-arrow_same (written.select at bs) = refl
-arrow_same (written.offer at bs) = refl
-arrow_same (written.seq at s t) = refl
-arrow_same (written.rec at x t) = refl
-arrow_same (written.named at x) = refl
-arrow_same (written.plain at b) = refl
-arrow_same (written.arrow at u s t) = refl
-arrow_same (written.pair at s t) = refl
+arrow_same _ = refl
 
 mutual
   type_same : (t : WrittenTree) → written_text (unplaced_type t) ≡ written_text t
