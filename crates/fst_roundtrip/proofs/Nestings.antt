@@ -15,7 +15,8 @@ level_within limit n [] le = tt
 level_within limit n (k ∷ ts) le = (le, level_within limit n ts le)
 
 -- two lists one behind the other, and taken apart
-pub joined : (m limit : ℕ) (ns ms : List ℕ) → m ≤ limit → IsWithinLimit m ns → IsWithinLimit limit ms → IsWithinLimit limit (ns ++ ms)
+pub joined : (m limit : ℕ) (ns ms : List ℕ) → m ≤ limit → IsWithinLimit m ns → IsWithinLimit limit ms →
+    IsWithinLimit limit (ns ++ ms)
 joined m limit ns ms le p q = IsWithinLimit-append limit ns ms (raised m limit ns le p) q
 
 pub front : (limit : ℕ) (ns ms : List ℕ) → IsWithinLimit limit (ns ++ ms) → IsWithinLimit limit ns
