@@ -91,7 +91,10 @@ const READS: [(&str, &str); 8] = [
     ("2 ¦ show ¦ f = (x)\n", "0 5"),
     ("3 ¦ check ¦ main : Int\nmain = x\n", "1 8"),
     ("99 ¦ check ¦ ", "1 1"),
-    ("6 ¦ audit ¦ Skip;!Int ~ !Int;Skip\npairs 0\nchains 1\nchain\n", "0 9"),
+    (
+        "6 ¦ audit ¦ Skip;!Int ~ !Int;Skip\npairs 0\nchains 1\nchain\n",
+        "0 9",
+    ),
     ("1 ¦ make 2 ¦ main", "0 0"),
 ];
 
@@ -132,7 +135,10 @@ const WRITES: [(&str, &str); 14] = [
     ("16 ¦ make 2 ¦ ", "0 3"),
     ("10 ¦ help ¦ ", "2 5"),
     ("8 ¦ equiv --proof ¦ Skip;!Int ~ !Int;Skip", "0 6"),
-    ("5 ¦ audit ¦ Skip;!Int ~ !Int;Skip\npairs 0\nchains 1\nchain\n", "0 2"),
+    (
+        "5 ¦ audit ¦ Skip;!Int ~ !Int;Skip\npairs 0\nchains 1\nchain\n",
+        "0 2",
+    ),
 ];
 
 #[test]
