@@ -50,6 +50,11 @@ entries_text t [] = []
 entries_text t (e ∷ es) = codes " " ++ event_text (sends t e.event) e.event ++ entries_text
     (behind_event t e.event) es
 
+-- the type behind these entries
+abbrev pub behind_all : Tree → List Entry → Tree
+behind_all t [] = t
+behind_all t (e ∷ es) = behind_all (behind_event t e.event) es
+
 -- the line of a task that waits
 abbrev pub waiting_text : Waiting → List ℕ
 waiting_text w = codes "waiting " ++ path_text w.task ++ codes " at " ++ channel_text w.end.channel

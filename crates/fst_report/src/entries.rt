@@ -2,7 +2,7 @@
 
 ghost use Rattle.std.specs.Prelude.{◌≡◌, ◌++◌, OnOk, codes};
 ghost use Rattle.fst_base.specs.Gains.{Gains};
-ghost use Rattle.fst_report.specs.ReportTexts.{behind_event, entries_text, event_text, label_sign, sends, value_sign};
+ghost use Rattle.fst_report.specs.ReportTexts.{behind_all, behind_event, entries_text, event_text, label_sign, sends, value_sign};
 
 use crate::residual::Residual;
 use fst_base::push_number;
@@ -66,6 +66,22 @@ fn push_entry(
     push_event(text, out, &entry.event)
 }
 
+/// Entries of a history, where this is left of the left end's type: a space and the entry each.
+pub fn push_part(
+    alloc: Global,
+    text: &mut String,
+    residual: &mut Residual,
+    entries: &[Entry],
+) -> Result<(), AllocError>
+    ensures text { Gains result text.old text.new (entries_text residual.old entries.now) }
+    ensures left { OnOk result (residual.new ≡ behind_all residual.old entries.now) }
+{
+    for entry in entries {
+        push_entry(alloc, text, residual, entry)?;
+    }
+    Ok(())
+}
+
 pub(crate) fn push_entries(
     alloc: Global,
     text: &mut String,
@@ -75,8 +91,5 @@ pub(crate) fn push_entries(
     ensures { Gains result text.old text.new (entries_text declared.now entries.now) }
 {
     let mut residual = Residual::of(alloc, declared)?;
-    for entry in entries {
-        push_entry(alloc, text, &mut residual, entry)?;
-    }
-    Ok(())
+    push_part(alloc, text, &mut residual, entries)
 }

@@ -6,5 +6,7 @@ mod report;
 mod residual;
 mod summary;
 
-pub use report::report_text;
+pub use entries::push_part;
+pub use report::{push_result, push_tasks, push_type_line, report_text};
+pub use residual::Residual;
 pub use summary::summary_text;

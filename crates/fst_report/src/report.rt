@@ -14,7 +14,8 @@ use fst_types::{ChannelHistory, Family};
 use fst_value::{Value, print};
 use std::alloc::{AllocError, Global};
 
-pub(crate) fn push_result(
+/// The line of main's value, or that it has none.
+pub fn push_result(
     alloc: Global,
     text: &mut String,
     value: &Option<Value>,
@@ -42,7 +43,8 @@ fn push_waiting(text: &mut String, waiting: &Waiting) -> Result<(), AllocError>
     text.push_str("\n")
 }
 
-fn push_tasks(text: &mut String, tasks: &[Waiting]) -> Result<(), AllocError>
+/// The lines of the tasks that wait.
+pub fn push_tasks(text: &mut String, tasks: &[Waiting]) -> Result<(), AllocError>
     ensures { Gains result text.old text.new (flat_map waiting_text tasks.now) }
 {
     for task in tasks {
@@ -51,7 +53,8 @@ fn push_tasks(text: &mut String, tasks: &[Waiting]) -> Result<(), AllocError>
     Ok(())
 }
 
-fn push_type_line(
+/// The line of a channel and its type.
+pub fn push_type_line(
     alloc: Global,
     text: &mut String,
     channel: &ChannelHistory,

@@ -53,3 +53,17 @@ pub use Rattle.fst_safety.proofs.Sends.{typed_task_send}
 pub use Rattle.fst_safety.proofs.Orders.{one_end}
 -- they have the same events, which sorted are one list
 pub use Rattle.fst_safety.proofs.Orders.{all_same, one_text}
+-- an end with a name; each end keeps its residual, but for one and for unspent ends that a state doesn't hold; a channel is opened, whose ends have residuals of a type and its dual
+pub use Rattle.fst_safety.proofs.Answered.{end_at, KeepsBut, Opens}
+-- where a channel is opened, or the residual of an end goes on that it doesn't hold, a typed state stays typed
+pub use Rattle.fst_safety.proofs.Answered.{opens_typed, kept_typed}
+-- a typed state asks for something that its residuals allow
+pub use Rattle.fst_safety.proofs.Answered.{typed_asks}
+-- after each answer it is typed over the residuals that have changed with that, and holds the same unspent ends: after a step, a channel, a fork, what it sent and what it got
+pub use Rattle.fst_safety.proofs.Answered.{go_typed, made_typed, forked_typed, sent_typed, got_typed}
+-- a body of main's type begins in a state of that type, and where a state of that type has ended, its value is one of main's declared type
+pub use Rattle.fst_safety.proofs.Answered.{main_begins, main_ends}
+-- an end that has no residual stands in no typed state
+pub use Rattle.fst_safety.proofs.Unknown.{unknown_state}
+-- an end of a channel is this one or the other one
+pub use Rattle.fst_safety.proofs.Owners.{or_other}

@@ -1,0 +1,14 @@
+pub mod Channels
+pub mod Events
+pub mod Wrong
+pub mod Order
+pub mod Use
+pub mod Sound
+pub mod Safety
+pub mod Meeting
+pub mod Answers
+pub mod Moving
+pub mod Kept
+pub mod Running
+pub mod KeptOf
+pub mod Texts
