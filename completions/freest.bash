@@ -13,7 +13,7 @@ _freest() {
     1-*) words='equiv show check run make audit' ;;
     *-equiv) words='--budget --proof' ;;
     *-check) words='--budget' ;;
-    *-run) words='--steps --workers --budget --events' ;;
+    *-run) words='--steps --workers --budget --buffer --events' ;;
     esac
     # (each option at most once)
     for word in $words; do

@@ -10,4 +10,5 @@ complete -c freest -n '__fish_seen_subcommand_from equiv check run' -l budget -x
 complete -c freest -n '__fish_seen_subcommand_from equiv' -l proof -d 'write a certificate in place of a yes'
 complete -c freest -n '__fish_seen_subcommand_from run' -l steps -x -d 'how many events the run may have, 0 to 2,000,000'
 complete -c freest -n '__fish_seen_subcommand_from run' -l workers -x -d 'on how many threads at most its tasks are moved, 1 to 8'
+complete -c freest -n '__fish_seen_subcommand_from run' -l buffer -x -d 'how many messages a channel holds, 1 to 64'
 complete -c freest -n '__fish_seen_subcommand_from run' -l events -d 'write the events of the run behind its report'

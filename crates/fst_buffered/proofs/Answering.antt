@@ -10,7 +10,7 @@ use Rattle.fst_types.specs.declared.event.ChannelHistory.{ChannelHistory}
 use Rattle.fst_machine.specs.Machine.{Program}
 use Rattle.fst_runs.specs.Configs as runs
 use Rattle.fst_runs.specs.Configs.{program}
-use Rattle.fst_process.specs.declared.report.Report.{Report}
+use Rattle.fst_vm.specs.declared.report.Report.{Report}
 use Rattle.fst_process.specs.Reports.{IsMainResult, IsReport}
 use Rattle.fst_buffered.specs.declared.outcome.BufferedOutcome.TheVariants.{Done, OutOfSteps}
 use Rattle.fst_buffered.specs.Channels.{Channel, Config, plain, core, started}

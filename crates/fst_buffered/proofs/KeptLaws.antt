@@ -1,252 +1,236 @@
 -- How what is kept changes with the maps that keep it.
-use Rattle.std.proofs.Common.{◌≡◌, ◌∙◌, ◌<◌, ℕ, zero, suc, Bool, true, false, Option, Some, None, List, [], ◌∷◌, ◌++◌, refl, sym, ap, get_or, arith}
-use Rattle.std.specs.Prelude.{option_map, slice_get, length, nat_eq, slice_set, ◌&&◌, if◌then◌else◌}
+use Rattle.std.proofs.Common.{◌≡◌, ◌∙◌, ℕ, zero, Bool, true, false, Option, Some, None, List, [], ◌∷◌, ◌++◌, refl, sym, ap}
+use Rattle.std.specs.Prelude.{option_map, option_and_then, length, ◌&&◌, if◌then◌else◌}
+use Rattle.std.specs.Option.{option_or}
 use Rattle.std.specs.Map.{lookup, KeepsOthers}
 use Rattle.std.specs.declared.alloc.Global.{Global}
 use Rattle.std.specs.declared.vec.Vec.{Vec}
-use Rattle.std.specs.BTreeMap.{BTreeMap}
-use Rattle.std.proofs.Math.ListN.{length-set}
-use Rattle.std.proofs.lemmas.Option.{slice_get-get_or}
-use Rattle.std.proofs.lemmas.Bool.Decides.{nat_tests}
+use Rattle.fst_types.specs.declared.side.Side.{Side}
+use Rattle.fst_types.specs.declared.side.Side.TheVariants.{Left, Right}
 use Rattle.fst_types.specs.declared.ends.ChannelName.{ChannelName}
-use Rattle.fst_runs.specs.Configs.{Path, same_path, same_channel, channel_name}
-use Rattle.fst_runs.proofs.Laws.{same_path-same}
-use Rattle.fst_buffered.specs.declared.kept.Slot as rust_slot
+use Rattle.fst_types.specs.declared.ends.EndName.{EndName}
+use Rattle.fst_machine.specs.declared.code.Code.{Code}
+use Rattle.fst_machine.specs.declared.request.Answer.{Answer}
+use Rattle.fst_machine.specs.declared.request.Request.TheVariants.{Ended}
+use Rattle.fst_paths.specs.Paths.{Keys, at_path, has_path, put_at, same_key}
+use Rattle.fst_paths.specs.ChannelLists.{IsChangedAt, change_channel, listed, made_in, many_in}
+use Rattle.fst_paths.proofs.Laws.{put_back, put_twice, changed_in, as_many, unchanged_none, added_in, one_more_in, none_numbered}
+use Rattle.fst_vm.specs.Slot.{Slot}
+use Rattle.fst_vm.specs.SlotOf.{ended_in, slot_of}
+use Rattle.fst_vm.specs.Going.{MovesOn}
+use Rattle.fst_vm.specs.declared.kept.EndedTask.{EndedTask}
+use Rattle.fst_vm.proofs.Laws.{ended_asks}
+use Rattle.fst_runs.specs.Configs.{Path, same_channel, same_side, channel_name}
+use Rattle.fst_runs.proofs.Laws.{same_channel-same}
 use Rattle.fst_buffered.specs.declared.kept.Channel as rust_channel
 use Rattle.fst_buffered.specs.declared.config.Config.{Config}
-use Rattle.fst_process.specs.Kept.{put_at}
-use Rattle.fst_process.specs.KeptOf.{at_path, listed}
 use Rattle.fst_buffered.specs.Channels.{Channel}
-use Rattle.fst_buffered.specs.Kept.{Slot, nothing, changed, added}
-use Rattle.fst_buffered.specs.KeptOf.{slot_of, channel_of, Slots, Channels, slot_in, made_in, numbered, kept_in, kept_of, IsChangedAt}
-use Rattle.fst_base.proofs.Options.{some_same, none_some}
-use Rattle.fst_process.proofs.Laws.{Key, same_key, found_after, put_mapped}
+use Rattle.fst_buffered.specs.Kept.{HasGoneOn, nothing, changed, added, asking, moves, moves_so, noted, settled}
+use Rattle.fst_buffered.specs.KeptOf.{Channels, Held, asker_at, asker_in, channel_in, channel_of, held_in, held_of, kept_besides, kept_in, kept_of, with_asker, with_changed}
 
--- a map of tasks in which a path has this task, or none
-pub slots_after : (p : Path) (old new : Slots) (w : Option rust_slot.Slot) → lookup (at_path p) new ≡ w →
-    KeepsOthers same_key (at_path p) old new →
-    slot_in new ≡ put_at p (option_map slot_of w) (slot_in old)
-slots_after p old new w here others = λ i q.
-    (ap (option_map slot_of) (found_after p old new w here others q) ∙ put_mapped (option_map slot_of) p w
-    (λ o. lookup (at_path o) old) q) i
+-- what is put at a path where it was
+pub put_same : {X : Type 0} (p : Path) (x : X) (f : Path → X) → f p ≡ x → f ≡ put_at p x f
+put_same p x f e = put_back p x x f e ∙ sym (put_twice p x x f)
 
-module _ (h : ChannelName) (f : Channel → Channel) (old new : Channels) where
-  -- the channel with this name is changed, where those of its maker are
-  pub changed_after : (v w : List rust_channel.Channel) → made_in old h.maker ≡ v →
-      ((q : Path) → made_in new q ≡ put_at h.maker w (made_in old) q) → IsChangedAt h.count f v w →
-      (g : ChannelName) → numbered (made_in new g.maker)
-      g.count ≡ (if same_channel h g then option_map f (numbered (made_in old g.maker) g.count) else numbered
-      (made_in old g.maker) g.count)
-  changed_after v w here is c g =
-      ap (λ z. numbered z g.count) (is g.maker) ∙ by (same_path h.maker g.maker) refl
-    where
-      by : (b : Bool) → same_path h.maker g.maker ≡ b →
-          numbered (if b then w else made_in old g.maker) g.count
-          ≡ (if b && nat_eq h.count g.count then option_map f (numbered (made_in old g.maker) g.count) else numbered
-          (made_in old g.maker) g.count)
-      by true e =
-          let there : v ≡ made_in old g.maker = sym here ∙ ap (made_in old) (same_path-same h.maker g.maker e) in
-          c.channels g.count ∙ ap (λ z. if nat_eq h.count g.count then option_map f (numbered z g.count) else numbered z g.count)
-          there
-      by false e = refl
+-- ---- channels
 
-  -- and its maker has as many
-  pub lengths_after : (v w : List rust_channel.Channel) → made_in old h.maker ≡ v →
-      ((q : Path) → made_in new q ≡ put_at h.maker w (made_in old) q) → length w ≡ length v →
-      (q : Path) → length (made_in new q) ≡ length (made_in old q)
-  lengths_after v w here is l q = ap (λ z. length z) (is q) ∙ by (same_path h.maker q) refl
-    where
-      by : (b : Bool) → same_path h.maker q ≡ b → length (if b then w else made_in old q) ≡ length (made_in old q)
-      by true e = l ∙ ap (λ z. length z) (sym here ∙ ap (made_in old) (same_path-same h.maker q e))
-      by false e = refl
+-- the channel alone, where it is changed
+channel_alone : (b : Bool) (f : Channel → Channel) (o : Option Held) →
+    option_map (λ (j : Held). j.channel) (if b then option_map (with_changed f) o else o)
+    ≡ (if b then option_map f (option_map (λ (j : Held). j.channel) o) else option_map (λ (j : Held). j.channel) o)
+channel_alone true f None = refl
+channel_alone true f (Some j) = refl
+channel_alone false f o = refl
 
-  -- a channel that isn't there isn't changed
-  pub unchanged_none : made_in old h.maker ≡ [] → (g : ChannelName) →
-      numbered (made_in old g.maker) g.count ≡ (if same_channel h g then option_map f
-      (numbered (made_in old g.maker) g.count) else numbered (made_in old g.maker) g.count)
-  unchanged_none none g = by (same_path h.maker g.maker) refl
-    where
-      none_at : (n : ℕ) → numbered [] n ≡ None
-      none_at zero = refl
-      none_at (suc n) = refl
+-- who asked last at its ends then
+asker_alone : (b : Bool) (f : Channel → Channel) (s : Side) (o : Option Held) →
+    option_and_then (asker_at s) (if b then option_map (with_changed f) o else o) ≡ option_and_then (asker_at s) o
+asker_alone true f s None = refl
+asker_alone true f Left (Some j) = refl
+asker_alone true f Right (Some j) = refl
+asker_alone false f s o = refl
 
-      same : (b : Bool) (o : Option Channel) → o ≡ None → o ≡ (if b then option_map f o else o)
-      same true o e = e ∙ ap (option_map f) (sym e)
-      same false o e = refl
+-- the channel alone, where somebody asks at an end of it
+channel_asked : (b : Bool) (s : Side) (p : Path) (o : Option Held) →
+    option_map (λ (j : Held). j.channel) (if b then option_map (with_asker s (Some p)) o else o)
+    ≡ option_map (λ (j : Held). j.channel) o
+channel_asked true s p None = refl
+channel_asked true Left p (Some j) = refl
+channel_asked true Right p (Some j) = refl
+channel_asked false s p o = refl
 
-      by : (b : Bool) → same_path h.maker g.maker ≡ b →
-          numbered (made_in old g.maker) g.count
-          ≡ (if b && nat_eq h.count g.count then option_map f (numbered (made_in old g.maker) g.count) else numbered
-          (made_in old g.maker) g.count)
-      by true e =
-          same (nat_eq h.count g.count) (numbered (made_in old g.maker) g.count)
-          (ap (λ z. numbered z g.count) (ap (made_in old) (sym (same_path-same h.maker g.maker e)) ∙ none) ∙ none_at g.count)
-      by false e = refl
+-- who asked last at its ends then
+asker_asked : (s t : Side) (p : Path) (o : Option Held) →
+    option_and_then (asker_at t) (option_map (with_asker s (Some p)) o)
+    ≡ (if same_side s t then option_map (λ k. p) (option_map (λ (j : Held). j.channel) o) else option_and_then (asker_at t) o)
+asker_asked Left Left p None = refl
+asker_asked Left Left p (Some j) = refl
+asker_asked Left Right p None = refl
+asker_asked Left Right p (Some j) = refl
+asker_asked Right Left p None = refl
+asker_asked Right Left p (Some j) = refl
+asker_asked Right Right p None = refl
+asker_asked Right Right p (Some j) = refl
 
--- in a map of channels those of one maker are these
-pub made_after : (p : Path) (old new : Channels) (w : Option (Vec rust_channel.Channel Global)) → lookup (at_path p) new ≡ w →
-    KeepsOthers same_key (at_path p) old new →
-    (q : Path) → made_in new q ≡ put_at p (listed w) (made_in old) q
-made_after p old new w here others q =
-    ap listed (found_after p old new w here others q) ∙ put_mapped listed p w (λ o. lookup (at_path o) old) q
-
-module _ (tasks : Path → Option Slot) (old new : Channels) (h : ChannelName) (f : Channel → Channel) (p : Path) where
-  -- a channel is changed where it is in the list of its maker
-  pub channel_changed : (v w : Vec rust_channel.Channel Global) → p ≡ h.maker → lookup (at_path p) old ≡ Some v →
-      lookup (at_path p) new ≡ Some w →
-      KeepsOthers same_key (at_path p) old new → IsChangedAt h.count f v.items w.items →
-      kept_in tasks new ≡ changed h f (kept_in tasks old)
-  channel_changed v w is there here others c = λ i. record {
+module _ (tasks : Path → Option Slot) (ks : Keys) (old new : Channels) where
+  -- a channel is changed where what is held of it is
+  kept_changed : (h : ChannelName) (f : Channel → Channel) → held_in new ≡ change_channel h (with_changed f) (held_in old) →
+      many_in new ≡ many_in old → kept_in tasks new ks ≡ changed h f (kept_in tasks old ks)
+  kept_changed h f held made = λ i. record {
     tasks = tasks;
-    channels = λ g. changed_after h f old new v.items w.items was now c g i;
-    made = λ q. lengths_after h f old new v.items w.items was now c.same_length q i;
+    channels = λ g. (ap (λ (z : ChannelName → Option Held). option_map (λ (j : Held). j.channel) (z g)) held
+        ∙ channel_alone (same_channel h g) f (held_in old g)) i;
+    made = made i;
+    ready = has_path ks;
+    asker = λ x. (ap (λ (z : ChannelName → Option Held). option_and_then (asker_at x.side) (z x.channel)) held
+        ∙ asker_alone (same_channel h x.channel) f x.side (held_in old x.channel)) i;
+  }
+
+  -- somebody asks at an end where that is noted at the channel
+  kept_asked : (x : EndName) (p : Path) → held_in new ≡ change_channel x.channel (with_asker x.side (Some p)) (held_in old) →
+      many_in new ≡ many_in old → kept_in tasks new ks ≡ asking p x (kept_in tasks old ks)
+  kept_asked x p held made = λ i. record {
+    tasks = tasks;
+    channels = λ g. (ap (λ (z : ChannelName → Option Held). option_map (λ (j : Held). j.channel) (z g)) held
+        ∙ channel_asked (same_channel x.channel g) x.side p (held_in old g)) i;
+    made = made i;
+    ready = has_path ks;
+    asker = λ y. (ap (λ (z : ChannelName → Option Held). option_and_then (asker_at y.side) (z y.channel)) held
+        ∙ at y (same_channel x.channel y.channel) refl) i;
   }
     where
-      was : made_in old h.maker ≡ v.items
-      was = ap (made_in old) (sym is) ∙ ap listed there
+      at : (y : EndName) (b : Bool) → same_channel x.channel y.channel ≡ b →
+          option_and_then (asker_at y.side) (if b then option_map (with_asker x.side (Some p)) (held_in old y.channel) else held_in
+          old y.channel)
+          ≡ (if b && same_side x.side y.side then option_map (λ k. p) (channel_in old x.channel) else asker_in old y)
+      at y true e =
+          asker_asked x.side y.side p (held_in old y.channel)
+          ∙ ap (λ z. if same_side x.side y.side then option_map (λ k. p) (channel_in old z) else asker_in old y)
+          (sym (same_channel-same x.channel y.channel e))
+      at y false e = refl
 
-      now : (q : Path) → made_in new q ≡ put_at h.maker w.items (made_in old) q
-      now q = made_after p old new (Some w) here others q ∙ ap (λ o. put_at o w.items (made_in old) q) is
+  module _ (p : Path) (v w : Vec rust_channel.Channel Global) (there : lookup (at_path p) old ≡ Some v)
+      (here : lookup (at_path p) new ≡ Some w) (others : KeepsOthers same_key (at_path p) old new) where
+    -- a channel is changed where it is in the list of its maker
+    pub channel_changed : (h : ChannelName) (f : Channel → Channel) → p ≡ h.maker →
+        IsChangedAt held_of h.count (with_changed f) v.items w.items →
+        kept_in tasks new ks ≡ changed h f (kept_in tasks old ks)
+    channel_changed h f is c =
+        kept_changed h f (changed_in held_of h (with_changed f) old new p v w is there here others c)
+        (as_many held_of h (with_changed f) old new p v w is there here others c)
 
-  -- and nothing is where its maker has no list
-  pub channel_unchanged : p ≡ h.maker → lookup (at_path p) old ≡ None → new ≡ old →
-      kept_in tasks new ≡ changed h f (kept_in tasks old)
-  channel_unchanged is none same = ap (λ z. kept_in tasks z) same ∙ (λ i. record {
-    tasks = tasks;
-    channels = λ g. unchanged_none h f old old (ap (made_in old) (sym is) ∙ ap listed none) g i;
-    made = λ q. length (made_in old q);
-  })
+    -- and somebody asks at an end of it
+    pub end_asked : (x : EndName) (q : Path) → p ≡ x.channel.maker →
+        IsChangedAt held_of x.channel.count (with_asker x.side (Some q)) v.items w.items →
+        kept_in tasks new ks ≡ asking q x (kept_in tasks old ks)
+    end_asked x q is c =
+        let f = with_asker x.side (Some q) in
+        kept_asked x q (changed_in held_of x.channel f old new p v w is there here others c)
+        (as_many held_of x.channel f old new p v w is there here others c)
 
-eq_next : (m n : ℕ) → nat_eq (suc m) (suc n) ≡ nat_eq m n
-eq_next m n = grind (arith, nat_tests)
+  module _ (p : Path) (none : lookup (at_path p) old ≡ None) (same : new ≡ old) where
+    no_list : (h : ChannelName) → p ≡ h.maker → made_in old h.maker ≡ []
+    no_list h is = ap (made_in old) (sym is) ∙ ap listed none
 
-eq_zero : (n : ℕ) → nat_eq zero (suc n) ≡ false
-eq_zero n = grind (arith, nat_tests)
+    -- nothing is changed where its maker has no list
+    pub channel_unchanged : (h : ChannelName) (f : Channel → Channel) → p ≡ h.maker →
+        kept_in tasks new ks ≡ changed h f (kept_in tasks old ks)
+    channel_unchanged h f is =
+        kept_changed h f (unchanged_none held_of h (with_changed f) old new (no_list h is) same)
+        (ap (λ (js : Channels). many_in js) same)
 
-eq_suc : (n : ℕ) → nat_eq (suc n) zero ≡ false
-eq_suc n = grind (arith, nat_tests)
+    -- and nobody asks at an end of it
+    pub end_unasked : (x : EndName) (q : Path) → p ≡ x.channel.maker → kept_in tasks new ks ≡ asking q x (kept_in tasks old ks)
+    end_unasked x q is =
+        kept_asked x q (unchanged_none held_of x.channel (with_asker x.side (Some q)) old new (no_list x.channel is) same)
+        (ap (λ (js : Channels). many_in js) same)
 
-pick : (b c : Bool) (x y : Option Channel) → b ≡ c → (if c then x else y) ≡ (if b then x else y)
-pick b c x y e = ap (λ z. if z then x else y) (sym e)
+-- who asked last at an end of a channel that is put in, at which nobody asked
+none_asked : (b : Bool) (x : rust_channel.Channel) (s : Side) (o : Option Held) → x.left_asker ≡ None → x.right_asker ≡ None →
+    option_and_then (asker_at s) (if b then Some (held_of x) else o) ≡ (if b then None else option_and_then (asker_at s) o)
+none_asked true x Left o l r = l
+none_asked true x Right o l r = r
+none_asked false x s o l r = refl
 
-set_at : (f : Channel → Channel) (x y : rust_channel.Channel) → channel_of y ≡ f (channel_of x) →
-    (js : List rust_channel.Channel) (k : ℕ) → slice_get js k ≡ Some x → (i : ℕ) →
-    option_map channel_of (slice_get (slice_set js k y) i)
-    ≡ (if nat_eq k i then option_map f (option_map channel_of (slice_get js i)) else option_map channel_of (slice_get js i))
-set_at f x y e [] k at i = absurd (none_some at)
-set_at f x y e (j ∷ js) zero at zero = ap Some (e ∙ ap (λ z. f (channel_of z)) (sym (some_same at)))
-set_at f x y e (j ∷ js) zero at (suc i) = pick (nat_eq zero (suc i)) false _ _ (eq_zero i)
-set_at f x y e (j ∷ js) (suc k) at zero = pick (nat_eq (suc k) zero) false _ _ (eq_suc k)
-set_at f x y e (j ∷ js) (suc k) at (suc i) = set_at f x y e js k at i
-    ∙ pick (nat_eq (suc k) (suc i)) (nat_eq k i) _ _ (eq_next k i)
-
--- a list of channels in which one is set is changed there
-pub set_changed : (js : List rust_channel.Channel) (k : ℕ) (f : Channel → Channel) (x y : rust_channel.Channel) → k < length js →
-    x ≡ get_or js k x →
-    channel_of y ≡ f (channel_of x) → IsChangedAt (suc k) f js (slice_set js k y)
-set_changed js k f x y within at e = record {
-  channels = by;
-  same_length = length-set js k y;
-}
-  where
-    there : slice_get js k ≡ Some x
-    there = slice_get-get_or js k x within ∙ ap Some (sym at)
-
-    by : (i : ℕ) → numbered (slice_set js k y) i ≡ (if nat_eq (suc k) i then option_map f (numbered js i) else numbered js i)
-    by zero = pick (nat_eq (suc k) zero) false None None (eq_suc k)
-    by (suc i) = set_at f x y e js k there i ∙ pick (nat_eq (suc k) (suc i)) (nat_eq k i) _ _ (eq_next k i)
-
--- no channel is in an empty list
-pub none_numbered : (n : ℕ) → numbered [] n ≡ None
-none_numbered zero = refl
-none_numbered (suc n) = refl
-
--- a channel in a list by its number
-pub numbered_there : (js : List rust_channel.Channel) (k : ℕ) (x : rust_channel.Channel) → k < length js → x ≡ get_or js k x →
-    numbered js (suc k) ≡ Some (channel_of x)
-numbered_there js k x within at = ap (option_map channel_of) (slice_get-get_or js k x within ∙ ap Some (sym at))
-
-snoc_at : (v : List rust_channel.Channel) (x : rust_channel.Channel) (i : ℕ) →
-    option_map channel_of (slice_get (v ++ x ∷ []) i)
-    ≡ (if nat_eq (length v) i then Some (channel_of x) else option_map channel_of (slice_get v i))
-snoc_at [] x zero = refl
-snoc_at [] x (suc i) = pick (nat_eq zero (suc i)) false _ _ (eq_zero i)
-snoc_at (y ∷ v) x zero = pick (nat_eq (suc (length v)) zero) false _ _ (eq_suc (length v))
-snoc_at (y ∷ v) x (suc i) = snoc_at v x i ∙ pick (nat_eq (suc (length v)) (suc i)) (nat_eq (length v) i) _ _
-    (eq_next (length v) i)
-
--- a list of channels with one more
-snoc_numbered : (v : List rust_channel.Channel) (x : rust_channel.Channel) (n : ℕ) →
-    numbered (v ++ x ∷ []) n ≡ (if nat_eq (suc (length v)) n then Some (channel_of x) else numbered v n)
-snoc_numbered v x zero = pick (nat_eq (suc (length v)) zero) false (Some (channel_of x)) None (eq_suc (length v))
-snoc_numbered v x (suc i) = snoc_at v x i ∙ pick (nat_eq (suc (length v)) (suc i)) (nat_eq (length v) i) _ _
-    (eq_next (length v) i)
-
-pub snoc_length : (v : List rust_channel.Channel) (x : rust_channel.Channel) → length (v ++ x ∷ []) ≡ suc (length v)
-snoc_length [] x = refl
-snoc_length (y ∷ v) x = ap suc (snoc_length v x)
+channel_put : (b : Bool) (x : rust_channel.Channel) (o : Option Held) →
+    option_map (λ (j : Held). j.channel) (if b then Some (held_of x) else o)
+    ≡ (if b then Some (channel_of x) else option_map (λ (j : Held). j.channel) o)
+channel_put true x o = refl
+channel_put false x o = refl
 
 -- a channel is there besides the others where it is put behind those of its maker
-module _ (k : Config) (mid new : BTreeMap Key (Vec rust_channel.Channel Global)) (p a b : Path) (x : rust_channel.Channel)
-    (v : List rust_channel.Channel)
-    (w : Vec rust_channel.Channel Global) (at_a : a ≡ p) (at_b : b ≡ p) (was : made_in k.channels.entries p ≡ v)
-    (more : w.items ≡ v ++ x ∷ [])
-    (gone : lookup (at_path a) mid.entries ≡ None) (gone_else : KeepsOthers same_key (at_path a) k.channels.entries mid.entries)
-    (here : lookup (at_path b) new.entries ≡ Some w) (here_else : KeepsOthers same_key (at_path b) mid.entries new.entries) where
-  now : (q : Path) → made_in new.entries q ≡ put_at p (v ++ x ∷ []) (made_in k.channels.entries) q
-  now q =
-      made_after b mid.entries new.entries (Some w) here here_else q
-      ∙ (λ i. put_at (at_b i) (more i) (made_in mid.entries) q)
-      ∙ by (same_path p q) refl
-    where
-      between : made_in mid.entries q ≡ put_at p [] (made_in k.channels.entries) q
-      between = made_after a k.channels.entries mid.entries None gone gone_else q ∙ ap
-          (λ o. put_at o [] (made_in k.channels.entries) q) at_a
+pub channel_added : (tasks : Path → Option Slot) (ks : Keys) (old new : Channels) (p : Path) (x : rust_channel.Channel) →
+    x.left_asker ≡ None → x.right_asker ≡ None → made_in new ≡ put_at p (made_in old p ++ x ∷ []) (made_in old) →
+    kept_in tasks new ks ≡ added (channel_name p (many_in old p)) (channel_of x) (kept_in tasks old ks)
+channel_added tasks ks old new p x left right pushed =
+    let h = channel_name p (many_in old p) in
+    let held = added_in held_of p x old new pushed in
+    λ i. record {
+      tasks = tasks;
+      channels = λ g. (ap (λ (z : ChannelName → Option Held). option_map (λ (j : Held). j.channel) (z g)) held
+          ∙ channel_put (same_channel h g) x (held_in old g)) i;
+      made = one_more_in held_of p x old new pushed i;
+      ready = has_path ks;
+      asker = λ y. (ap (λ (z : ChannelName → Option Held). option_and_then (asker_at y.side) (z y.channel)) held
+          ∙ none_asked (same_channel h y.channel) x y.side (held_in old y.channel) left right) i;
+    }
 
-      by : (c : Bool) → same_path p q ≡ c → (if c then v ++ x ∷ [] else made_in mid.entries q)
-          ≡ (if c then v ++ x ∷ [] else made_in k.channels.entries q)
-      by true e = refl
-      by false e = between ∙ ap (λ c. if c then [] else made_in k.channels.entries q) e
+-- nothing is kept where there is no task, no channel and no path
+pub kept_nothing : kept_in (λ p. None) [] [] ≡ nothing
+kept_nothing = λ i. record {
+  tasks = λ p. None;
+  channels = λ h. ap (λ o. option_map (λ (j : Held). j.channel) (option_map held_of o)) (none_numbered h.count) i;
+  made = λ p. zero;
+  ready = λ p. false;
+  asker = λ x. ap (λ o. option_and_then (asker_at x.side) (option_map held_of o)) (none_numbered x.channel.count) i;
+}
 
-  abbrev h : ChannelName
-  h = channel_name p (length (made_in k.channels.entries p))
+-- ---- tasks
 
-  new_channels : (g : ChannelName) →
-      numbered (made_in new.entries g.maker) g.count
-      ≡ (if same_channel h g then Some (channel_of x) else numbered (made_in k.channels.entries g.maker) g.count)
-  new_channels g = ap (λ z. numbered z g.count) (now g.maker) ∙ by (same_path p g.maker) refl
-    where
-      by : (c : Bool) → same_path p g.maker ≡ c →
-          numbered (if c then v ++ x ∷ [] else made_in k.channels.entries g.maker) g.count
-          ≡ (if c && nat_eq h.count g.count then Some (channel_of x) else numbered (made_in k.channels.entries g.maker) g.count)
-      by false e = refl
-      by true e =
-          let there : v ≡ made_in k.channels.entries g.maker = sym was
-          ∙ ap (made_in k.channels.entries) (same_path-same p g.maker e) in
-          snoc_numbered v x g.count
-          ∙ (λ i. if nat_eq (suc (length (sym was i))) g.count then Some (channel_of x) else numbered (there i) g.count)
+-- no task that has ended can move
+no_move : (types capacity : ℕ) (channels : ChannelName → Option Channel) (ts : List EndedTask) (p : Path) →
+    moves_so types capacity channels (ended_in ts p) ≡ false
+no_move types capacity channels ts p = by (ended_in ts p) (ended_asks ts p)
+  where
+    by : (o : Option Slot) → ((s : Slot) → o ≡ Some s → s.request ≡ Ended) → moves_so types capacity channels o ≡ false
+    by None f = refl
+    by (Some s) f = ap (λ r. moves_so types capacity channels (Some (record s { request = r }))) (f s refl)
 
-  new_lengths : (q : Path) → length (made_in new.entries q) ≡ put_at p (suc (length (made_in k.channels.entries p)))
-      (λ o. length (made_in k.channels.entries o)) q
-  new_lengths q = ap (λ z. length z) (now q) ∙ by (same_path p q)
-    where
-      by : (c : Bool) → length (if c then v ++ x ∷ [] else made_in k.channels.entries q)
-          ≡ (if c then suc (length (made_in k.channels.entries p)) else length (made_in k.channels.entries q))
-      by false = refl
-      by true = snoc_length v x ∙ ap (λ z. suc (length z)) (sym was)
+-- nor one that isn't found among the others
+pub none_moves : (types capacity : ℕ) (k : Config) (p : Path) → None ≡ lookup (at_path p) k.tasks.live.entries →
+    false ≡ moves types capacity (kept_of k) p
+none_moves types capacity k p none =
+    let able : Option Slot → Bool = moves_so types capacity (kept_of k).channels in
+    sym (no_move types capacity (kept_of k).channels k.tasks.ended.items p)
+    ∙ ap (λ o. able (option_or (option_map slot_of o) (ended_in k.tasks.ended.items p))) none
 
-  pub channel_added : kept_of (record k { channels = new }) ≡ added h (channel_of x) (kept_of k)
-  channel_added = λ i. record {
-    tasks = (kept_of k).tasks;
-    channels = λ g. new_channels g i;
-    made = λ q. new_lengths q i;
-  }
+-- what is kept once what the task with this path asks for is noted, and it is put in
+pub settled_now : (code : Code) (capacity types : ℕ) (p q : Path) (s : Slot) (k new : Config) → types ≡ length code.types.items →
+    q ≡ p → (kept_of new).tasks ≡ put_at p (Some s) (kept_of k).tasks →
+    kept_besides new.channels.by_maker.entries new.ready.keys
+    ≡ noted types capacity q s.request (kept_besides k.channels.by_maker.entries k.ready.keys) →
+    kept_of new ≡ settled (length code.types.items) capacity p s (kept_of k)
+settled_now code capacity types p q s k new len is putting noting =
+    let all = noting ∙ (λ i. noted (len i) capacity (is i) s.request (kept_besides k.channels.by_maker.entries k.ready.keys)) in
+    λ i. record {
+      tasks = putting i;
+      channels = (all i).channels;
+      made = (all i).made;
+      ready = (all i).ready;
+      asker = (all i).asker;
+    }
 
--- empty maps keep nothing
-pub kept_empty : kept_in (slot_in []) [] ≡ nothing
-kept_empty = λ i. record { tasks = λ p. None; channels = λ h. none_numbered h.count i; made = λ p. zero }
-
--- a task that is found is kept
-pub its_slot : (k : Config) (p q : Path) (s : rust_slot.Slot) → q ≡ p → Some s ≡ lookup (at_path q) k.tasks.entries →
-    (kept_of k).tasks p ≡ Some (slot_of s)
-its_slot k p q s is found = ap (kept_of k).tasks (sym is) ∙ ap (option_map slot_of) (sym found)
+-- so it is where it has gone on after an answer
+pub gone_on : (code : Code) (capacity : ℕ) (p : Path) (a : Answer) (types : ℕ) (k new : Config) (s t : Slot) →
+    (kept_of k).tasks p ≡ Some s → MovesOn code a zero s t → types ≡ length code.types.items →
+    (kept_of new).tasks ≡ put_at p (Some t) (kept_of k).tasks →
+    kept_besides new.channels.by_maker.entries new.ready.keys
+    ≡ noted types capacity p t.request (kept_besides k.channels.by_maker.entries k.ready.keys) →
+    HasGoneOn code capacity p a (kept_of k) (kept_of new)
+gone_on code capacity p a types k new s t there moves len putting noting = record {
+  slot = s;
+  there = there;
+  now = t;
+  moves_on = moves;
+  after = settled_now code capacity types p p t k new len refl putting noting;
+}

@@ -16,7 +16,7 @@ use Rattle.fst_machine.specs.Machine.{Program, State, pause, answered, child}
 use Rattle.fst_runs.specs.Configs.{Path, Task, child_path, channel_name, new_task}
 use Rattle.fst_runs.specs.Least.{IsBefore}
 use Rattle.fst_runs.proofs.Laws.{same_path-same}
-use Rattle.fst_process.proofs.Tables.{at_same}
+use Rattle.fst_paths.proofs.Laws.{at_same}
 use Rattle.fst_buffered.specs.Channels.{Message, Channel, Config, seen, further, after_put, with_task, with_channel, opened}
 use Rattle.fst_buffered.specs.Events.{Occurrence, local, new, fork, put, takes, in_state, Does, path_of, IsLeast, RunsLeast, IsLast, LeastIsOne}
 

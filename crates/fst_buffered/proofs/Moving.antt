@@ -15,10 +15,9 @@ use Rattle.fst_machine.specs.declared.request.Answer.TheVariants.{Go, Made, Fork
 use Rattle.fst_machine.specs.Machine as machine
 use Rattle.fst_machine.specs.Machine.{Program, State, Pause, stuck, calls, uses, makes, forks, puts, gets, closes, waits, matches, ended, pause, asked, after, child}
 use Rattle.fst_runs.specs.Configs.{Path, Task, channel_name}
-use Rattle.fst_runs.proofs.Laws.{new_pause}
-use Rattle.fst_runs.proofs.RightLaws.{put_answered, get_answered}
+use Rattle.fst_runs.proofs.Laws.{new_pause, put_answered, get_answered}
 use Rattle.fst_buffered.specs.Channels.{Message, Channel, Config, seen, IsWhole, HasRoom, IsNext}
-use Rattle.fst_buffered.specs.Events.{local, new, fork, put, takes, Asks, CanMove}
+use Rattle.fst_buffered.specs.Events.{Occurrence, local, new, fork, put, takes, path_of, Asks, Does, CanMove}
 use Rattle.fst_buffered.specs.Moving.{can_put, can_take, can, MovesExactly}
 
 same_number : (m n : ℕ) → nat_eq m n ≡ true → m ≡ n
@@ -27,7 +26,7 @@ same_number m n e = grind (arith, nat_tests)
 number_same : (m n : ℕ) → m ≡ n → nat_eq m n ≡ true
 number_same m n e = grind (arith, nat_tests)
 
-less_number : (m n : ℕ) → nat_lt m n ≡ true → m < n
+pub less_number : (m n : ℕ) → nat_lt m n ≡ true → m < n
 less_number m n e = grind (arith, nat_tests)
 
 number_less : (m n : ℕ) → m < n → nat_lt m n ≡ true
@@ -74,7 +73,7 @@ fork_answered m (matches x bs env fs) e = absurd (cc e)
 fork_answered m (ended v) e = absurd (cc e)
 
 -- a side that can put something in
-put_room : (s : Side) (capacity : ℕ) (o : Option Channel) → can_put s capacity o ≡ true → (k : Channel) ×
+pub put_room : (s : Side) (capacity : ℕ) (o : Option Channel) → can_put s capacity o ≡ true → (k : Channel) ×
     (o ≡ Some k) × IsWhole s k × HasRoom capacity s k
 put_room s capacity None e = absurd (false≢true e)
 put_room s capacity (Some k) e =
@@ -119,7 +118,7 @@ module _ (m : Program) (types : List Tree) (capacity : ℕ) (c : Config) (p : Pa
   can_move request.Ended a e = absurd (false≢true e)
 
   -- a task asks for one thing
-  one_request : (q r : Request) (o : Path) (u : Task) → Asks m c p t q → o ≡ p → Asks m c o u r → r ≡ q
+  pub one_request : (q r : Request) (o : Path) (u : Task) → Asks m c p t q → o ≡ p → Asks m c o u r → r ≡ q
   one_request q r o u a e b =
       let same : u ≡ t = same_Some u t (sym b.0 ∙ ap c.tasks e ∙ a.0) in
       same_Some r q (sym b.1 ∙ ap (λ (z : Task). machine.request m.families z.state) same ∙ a.1)
@@ -139,6 +138,15 @@ module _ (m : Program) (types : List Tree) (capacity : ℕ) (c : Config) (p : Pa
   move_can q a (takes o x ev, d, e, g) =
       subst (λ r. can (length types) capacity c.channels r ≡ true) (one_request q (request.Get x) o g.0 a e g.4)
       (ap (can_take x.side) g.5 ∙ next_take x.side g.2 g.3 g.6)
+
+-- the task that does something is there
+pub who_does : (m : Program) (types : List Tree) (capacity : ℕ) (c : Config) (o : Occurrence) (d : Config) (p : Path) →
+    Does m types capacity c o d → path_of o ≡ p → (t : Task) × (c.tasks p ≡ Some t)
+who_does m types capacity c (local q) d p f at = (f.0, ap c.tasks (sym at) ∙ f.2.0)
+who_does m types capacity c (new q) d p f at = (f.0, ap c.tasks (sym at) ∙ f.4.0)
+who_does m types capacity c (fork q) d p f at = (f.0, ap c.tasks (sym at) ∙ f.3.0)
+who_does m types capacity c (put q x ev) d p f at = (f.0, ap c.tasks (sym at) ∙ f.3.0)
+who_does m types capacity c (takes q x ev) d p f at = (f.0, ap c.tasks (sym at) ∙ f.4.0)
 
 -- the test tells exactly which tasks can move
 pub moves_exactly : MovesExactly

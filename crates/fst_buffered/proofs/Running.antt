@@ -1,38 +1,39 @@
 -- What is kept along the least buffered run is what the run comes to.
-use Rattle.std.proofs.Common.{◌≡◌, ◌∙◌, ◌≤◌, ◌<◌, ℕ, zero, suc, List, [], ◌∷◌, ◌++◌, length, true, false, Option, Some, None, refl, sym, ap, subst, arith}
+use Rattle.std.proofs.Common.{◌≡◌, ◌∙◌, ◌≤◌, ◌<◌, ℕ, zero, suc, List, [], ◌∷◌, ◌++◌, length, true, Option, Some, None, refl, sym, ap, subst, arith}
 use Rattle.std.specs.declared.alloc.Global.{Global}
 use Rattle.std.specs.declared.vec.Vec.{Vec}
 use Rattle.std.proofs.lemmas.Bool.{false≢true}
-use Rattle.std.proofs.lemmas.Option.{none-some, same_Some}
 use Rattle.fst_types.specs.Tree.{Tree}
 use Rattle.fst_terms.specs.CoreTree.{CoreTree}
 use Rattle.fst_terms.specs.declared.core_module.Module.{Module}
-use Rattle.fst_types.specs.declared.ends.ChannelName.{ChannelName}
 use Rattle.fst_machine.specs.declared.code.Code.{Code}
 use Rattle.fst_machine.specs.declared.request.Request.{Request}
 use Rattle.fst_machine.specs.Machine.{Program}
-use Rattle.fst_runs.specs.Configs.{Path, Task, channel_name, new_task, program}
+use Rattle.fst_runs.specs.Configs.{Path, channel_name, new_task, program}
 use Rattle.fst_runs.specs.Events as meeting
 use Rattle.fst_runs.specs.Names.{HasMakers, HasParents}
 use Rattle.fst_runs.proofs.Laws.{makers_with, parents_with, named_new, named_fork, named_start}
 use Rattle.fst_runs.proofs.Laws as update
-use Rattle.fst_process.specs.declared.report.Report.{Report}
+use Rattle.fst_vm.specs.Slot.{Slot}
+use Rattle.fst_vm.specs.declared.report.Report.{Report}
 use Rattle.fst_process.specs.Reports.{IsReport}
 use Rattle.fst_buffered.specs.declared.outcome.BufferedOutcome.TheVariants.{Done, OutOfSteps}
-use Rattle.fst_buffered.specs.Answers.{RunsRight, CanRun, AreUnread, IsOutcome}
-use Rattle.fst_buffered.specs.Channels.{Channel, Config, opened, plain, core, started}
-use Rattle.fst_buffered.specs.Events.{Occurrence, local, new, fork, put, takes, in_state, Asks, Does, Runs, RunsLeast, IsLeast, IsLast, CanMove, path_of}
+use Rattle.fst_buffered.specs.Answers.{RunsRight, CanRun, IsOutcome}
+use Rattle.fst_buffered.specs.Channels.{Config, opened, plain, core, started}
+use Rattle.fst_buffered.specs.Events.{Occurrence, local, new, fork, put, takes, in_state, Does, Runs, RunsLeast, IsLeast, IsLast, CanMove, path_of}
 use Rattle.fst_buffered.specs.Wrong.{IsRight}
-use Rattle.fst_buffered.specs.Kept.{Slot, Kept, AreTask, Reflects, IsPossible, IsBegun, CanStart}
+use Rattle.fst_buffered.specs.Kept.{Kept, moves_so, IsBegun, CanStart}
 use Rattle.fst_buffered.specs.Moving.{can}
-use Rattle.fst_buffered.specs.Running.{IsNextTask, Steps, IsReached, IsKept}
+use Rattle.fst_buffered.specs.Running.{IsNextTask, CanDo, Steps, IsReached, IsKept, IsConfig, IsReported}
 use Rattle.fst_buffered.proofs.Answering.{least_runs}
 use Rattle.fst_buffered.proofs.Keeping.{is_kept}
-use Rattle.fst_buffered.proofs.Moving.{moves_exactly}
+use Rattle.fst_buffered.proofs.Moving.{moves_exactly, who_does}
+use Rattle.fst_buffered.proofs.Rights.{is_there}
 use Rattle.fst_buffered.proofs.Updates.{core_with_channel, names_grow}
+use Rattle.fst_buffered.proofs.Within.{seen_within}
 
 -- names stay fresh whatever happens
-pub named_after : (m : Program) (types : List Tree) (capacity : ℕ) (c : Config) (e : Occurrence) (d : Config) →
+named_after : (m : Program) (types : List Tree) (capacity : ℕ) (c : Config) (e : Occurrence) (d : Config) →
     Does m types capacity c e d → HasMakers (core c) → HasParents (core c) →
     HasMakers (core d) × HasParents (core d)
 named_after m types capacity c (local p) d f hm hp =
@@ -76,7 +77,7 @@ one_longer [] e = refl
 one_longer (g ∷ es) e = ap suc (one_longer es e)
 
 -- at first
-pub kept_first : (k : Code) (capacity : ℕ) (d : Kept) → IsBegun k d → IsKept k capacity zero d
+pub kept_first : (k : Code) (capacity : ℕ) (d : Kept) → IsBegun k capacity d → IsKept k capacity zero d
 kept_first k capacity d begun = λ m e from body right.
     record {
       events = [];
@@ -88,11 +89,6 @@ kept_first k capacity d begun = λ m e from body right.
       parents = (named_start e).1;
     }
 
--- the test is the same of what is kept and of the configuration
-can_same : (types capacity : ℕ) (f g : ChannelName → Option Channel) → ((h : ChannelName) → f h ≡ g h) →
-    (q : Request) → can types capacity f q ≡ can types capacity g q
-can_same types capacity f g same q = ap (λ z. can types capacity z q) (λ i h. same h i)
-
 module _ (m : Module) (k : Code) (main : CoreTree) (capacity n : ℕ) (d : Kept) (x : IsReached m k main capacity n d)
     (right : RunsRight m main capacity) where
   abbrev c : Config
@@ -101,53 +97,37 @@ module _ (m : Module) (k : Code) (main : CoreTree) (capacity n : ℕ) (d : Kept)
   right_here : IsRight (program m) c
   right_here = right x.events c (least_runs (program m) m.types.items capacity x.events (started main) c x.runs)
 
-  -- a task that is kept is there, and asks for what is kept
-  its : (p : Path) (s : Slot) → d.tasks p ≡ Some s → (t : Task) × Asks (program m) c p t s.request
-  its p s there = go (d.tasks p) (c.tasks p) there refl (x.reflects.tasks p)
+  -- the test is the same of what is kept and of the configuration
+  same_test : (q : Request) → can (length k.types.items) capacity d.channels q ≡ can (length m.types.items) capacity c.channels q
+  same_test q = λ i. can (length (x.reflects.from.same_types i)) capacity (λ h. x.reflects.channels h i) q
+
+  -- a task that is ready is there and can move
+  ready_moves : (p : Path) → d.ready p ≡ true → CanMove (program m) m.types.items capacity c p
+  ready_moves p e = go (d.tasks p) refl (sym (x.reflects.ready p) ∙ e)
     where
-      go : (o : Option Slot) (q : Option Task) → o ≡ Some s → c.tasks p ≡ q → AreTask m k p o q →
-          (t : Task) × Asks (program m) c p t s.request
-      go None q e f h = absurd (none-some s e)
-      go (Some u) None e f h = absurd h
-      go (Some u) (Some t) e f h = (t, (f, h.asks ∙ ap (λ (z : Slot). Some z.request) (same_Some u s e)))
+      go : (o : Option Slot) → d.tasks p ≡ o → moves_so (length k.types.items) capacity d.channels o ≡ true →
+          CanMove (program m) m.types.items capacity c p
+      go None there can = absurd (false≢true can)
+      go (Some s) there can =
+          let (t, f, is) = is_there m k p (d.tasks p) (c.tasks p) s (x.reflects.tasks p) there in
+          (moves_exactly (program m) m.types.items capacity c p t s.request (f, is.asks)).0 (sym (same_test s.request) ∙ can)
 
-  -- the test tells of what is kept which task can move
-  can_here : (p : Path) (s : Slot) → d.tasks p ≡ Some s → can (length k.types.items) capacity d.channels s.request ≡ true →
-      CanMove (program m) m.types.items capacity c p
-  can_here p s there e =
-      let t = its p s there in
-      (moves_exactly (program m) m.types.items capacity c p t.0 s.request t.1).0
-      (ap (λ ts. can (length ts) capacity c.channels s.request) (sym x.reflects.from.same_types)
-      ∙ sym (can_same (length k.types.items) capacity d.channels c.channels x.reflects.channels s.request) ∙ e)
-
-  cannot_here : (p : Path) (s : Slot) → d.tasks p ≡ Some s → can (length k.types.items) capacity d.channels s.request ≡ false →
-      CanMove (program m) m.types.items capacity c p → ⊥
-  cannot_here p s there e moves =
-      let t = its p s there in
-      false≢true (sym e ∙ can_same (length k.types.items) capacity d.channels c.channels x.reflects.channels s.request ∙ ap
-      (λ ts. can (length ts) capacity c.channels s.request) x.reflects.from.same_types
-      ∙ (moves_exactly (program m) m.types.items capacity c p t.0 s.request t.1).1 moves)
-
-  -- a task that can move is kept
-  kept_there : (p : Path) → CanMove (program m) m.types.items capacity c p → (s : Slot) × (d.tasks p ≡ Some s)
-  kept_there p (e, b, at, f) = subst (λ q. (s : Slot) × (d.tasks q ≡ Some s)) at (go e f)
-    where
-      found : (q : Path) (t : Task) → c.tasks q ≡ Some t → (s : Slot) × (d.tasks q ≡ Some s)
-      found q t e = let f = is_kept m k q (d.tasks q) (c.tasks q) t (x.reflects.tasks q) e in (f.0, f.1)
-
-      go : (e : Occurrence) → Does (program m) m.types.items capacity c e b → (s : Slot) × (d.tasks (path_of e) ≡ Some s)
-      go (local q) f = found q f.0 f.2.0
-      go (new q) f = found q f.0 f.4.0
-      go (fork q) f = found q f.0 f.3.0
-      go (put q y ev) f = found q f.0 f.3.0
-      go (takes q y ev) f = found q f.0 f.4.0
+  -- a task that can move is ready
+  moves_ready : (p : Path) → CanMove (program m) m.types.items capacity c p → d.ready p ≡ true
+  moves_ready p moves =
+      let (t, e) = who_does (program m) m.types.items capacity c moves.0 moves.1 p moves.3 moves.2 in
+      let (s, f, is) = is_kept m k p (d.tasks p) (c.tasks p) t (x.reflects.tasks p) e in
+      x.reflects.ready p
+      ∙ ap (moves_so (length k.types.items) capacity d.channels) f
+      ∙ same_test s.request
+      ∙ (moves_exactly (program m) m.types.items capacity c p t s.request (e, is.asks)).1 moves
 
   -- the least task that can move does the least thing that is possible
-  goes : (p : Path) → IsNextTask (length k.types.items) capacity d (Some p) → (e : Occurrence) × (b : Config) ×
+  goes : (p : Path) → IsNextTask d (Some p) → (e : Occurrence) × (b : Config) ×
       (path_of e ≡ p) × Does (program m) m.types.items capacity c e b × IsLeast (program m) m.types.items capacity c p
   goes p next =
-      let f = can_here p next.0 next.1 next.2 in
-      (f.0, f.1, f.2, f.3, λ q before moves. let t = kept_there q moves in cannot_here q t.0 t.1 (next.3 q t.0 before t.1) moves)
+      let f = ready_moves p next.0 in
+      (f.0, f.1, f.2, f.3, λ q before moves. false≢true (sym (next.1 q before) ∙ moves_ready q moves))
 
   right_after : (e : Occurrence) (b : Config) → Does (program m) m.types.items capacity c e b → IsRight (program m) b
   right_after e b f =
@@ -156,8 +136,7 @@ module _ (m : Module) (k : Code) (main : CoreTree) (capacity n : ℕ) (d : Kept)
       (least_runs (program m) m.types.items capacity x.events (started main) c x.runs) f)
 
   -- which is possible
-  pub next_possible : (p : Path) → IsNextTask (length k.types.items) capacity d (Some p) → n < 4294967295 → (e : Occurrence) ×
-      (path_of e ≡ p) × IsPossible k capacity d e
+  next_possible : (p : Path) → IsNextTask d (Some p) → n < 4294967295 → CanDo k capacity d p
   next_possible p next few =
       let g = goes p next in (
         g.0,
@@ -178,7 +157,7 @@ module _ (m : Module) (k : Code) (main : CoreTree) (capacity n : ℕ) (d : Kept)
       )
 
   -- what is kept after it
-  pub reached_next : (p : Path) (f : Kept) → IsNextTask (length k.types.items) capacity d (Some p) → Steps k capacity d p f →
+  reached_next : (p : Path) (f : Kept) → IsNextTask d (Some p) → Steps k capacity d p f →
       IsReached m k main capacity (suc n) f
   reached_next p f next steps =
       let g = goes p next in
@@ -189,28 +168,24 @@ module _ (m : Module) (k : Code) (main : CoreTree) (capacity n : ℕ) (d : Kept)
         runs = least_more (program m) m.types.items capacity (started main) x.events c g.0 g.1 x.runs g.3
             (subst (IsLeast (program m) m.types.items capacity c) (sym g.2) g.4);
         many = one_longer x.events g.0 ∙ ap suc x.many;
-        reflects = steps g.0 g.2 m n c g.1 x.reflects g.3 (right_after g.0 g.1 g.3) x.makers x.parents;
+        reflects = steps g.0 g.2 m n c g.1 x.reflects g.3 right_here (right_after g.0 g.1 g.3) x.makers x.parents;
         makers = named.0;
         parents = named.1;
       }
 
   -- where no task can move, nothing is possible
-  pub reached_last : IsNextTask (length k.types.items) capacity d None → IsLast (program m) m.types.items capacity c
-  reached_last next e b f =
-      let moves : CanMove (program m) m.types.items capacity c (path_of e) = (e, b, refl, f) in
-      let t = kept_there (path_of e) moves in
-      cannot_here (path_of e) t.0 t.1 (next (path_of e) t.0 t.1) moves
+  reached_last : IsNextTask d None → IsLast (program m) m.types.items capacity c
+  reached_last next e b f = false≢true (sym (next (path_of e)) ∙ moves_ready (path_of e) (e, b, refl, f))
 
 -- what the least task does is possible, where no run is known to go wrong
 pub possible_next : (k : Code) (capacity n : ℕ) (d : Kept) (p : Path) → IsKept k capacity n d →
-    IsNextTask (length k.types.items) capacity d (Some p) → n < 4294967295 → CanRun k capacity →
-    (e : Occurrence) × (path_of e ≡ p) × IsPossible k capacity d e
+    IsNextTask d (Some p) → n < 4294967295 → CanRun k capacity → CanDo k capacity d p
 possible_next k capacity n d p kept next few x =
     next_possible x.source k x.main capacity n d (kept x.source x.main x.from x.body x.right) x.right p next few
 
 -- and what is kept after it is what the run has come to
 pub kept_next : (k : Code) (capacity n : ℕ) (d f : Kept) (p : Path) → IsKept k capacity n d →
-    IsNextTask (length k.types.items) capacity d (Some p) → Steps k capacity d p f → IsKept k capacity (suc n) f
+    IsNextTask d (Some p) → Steps k capacity d p f → IsKept k capacity (suc n) f
 kept_next k capacity n d f p kept next steps = λ m e from body right.
     reached_next m k e capacity n d (kept m e from body right) right p f next steps
 
@@ -225,14 +200,37 @@ can_start k capacity x = record {
       x.right [] (started x.main) refl;
 }
 
+-- a task that is kept stands at its own path
+pub its_path : (k : Code) (capacity n : ℕ) (d : Kept) (p : Path) (s : Slot) → IsKept k capacity n d → d.tasks p ≡ Some s →
+    CanRun k capacity → s.task.path ≡ p
+its_path k capacity n d p s kept there x =
+    let y = kept x.source x.main x.from x.body x.right in
+    let (t, e, is) = is_there x.source k p (d.tasks p) (y.config.tasks p) s (y.reflects.tasks p) there in
+    is.path
+
+-- what is kept is some configuration
+pub some_config : (k : Code) (capacity n : ℕ) (d : Kept) → IsKept k capacity n d → n < 4294967295 → CanRun k capacity → IsConfig d
+some_config k capacity n d kept few x =
+    let y = kept x.source x.main x.from x.body x.right in
+    record {
+      source = x.source;
+      code = k;
+      capacity = capacity;
+      events = n;
+      config = y.config;
+      reflects = y.reflects;
+      few =
+          few;
+    }
+
 -- the report of what is kept, with what is unread, is the answer where no task can move
 pub answers_done : (k : Code) (capacity steps n : ℕ) (d : Kept) (r : Report) (unread : Vec ℕ Global) → IsKept k capacity n d →
-    IsNextTask (length k.types.items) capacity d None → n ≤ steps →
-    ((m : Module) (c : Config) → Reflects m k n d c → IsReport (program m) (core c) n r ×
-    AreUnread c r.channels.items unread.items) → IsOutcome k capacity steps (Done r unread)
+    IsNextTask d None → n ≤ steps → IsReported d n r unread.items → IsOutcome k capacity steps (Done r unread)
 answers_done k capacity steps n d r unread kept next few reported = λ m e from body right.
     let x = kept m e from body right in
-    let y = reported m x.config x.reflects in (
+    let run = least_runs (program m) m.types.items capacity x.events (started e) x.config x.runs in
+    let within = seen_within (program m) m.types.items capacity e x.events x.config run in
+    let y = reported m k capacity n x.config x.reflects within in (
       x.events,
       x.config,
       x.runs,

@@ -13,7 +13,7 @@ use Rattle.fst_machine.specs.Values.{Value}
 use Rattle.fst_machine.specs.declared.code.Code.{Code}
 use Rattle.fst_vm.specs.Tasks.{IsFrom}
 use Rattle.fst_runs.specs.Configs.{program, main_body}
-use Rattle.fst_process.specs.declared.report.Report.{Report}
+use Rattle.fst_vm.specs.declared.report.Report.{Report}
 use Rattle.fst_process.specs.Reports.{IsAlike, IsReport}
 use Rattle.fst_safety.specs.Safety.{HasMainType}
 use Rattle.fst_buffered.specs.declared.outcome.BufferedOutcome.{BufferedOutcome}

@@ -1,5 +1,5 @@
 -- Channels that hold what one side has put in until the other side takes it, and configurations with them.
-use Rattle.std.specs.Prelude.{◌≡◌, ◌<◌, ℕ, zero, suc, ◌+◌, Bool, true, false, Option, Some, None, option_map, option_and_then, List, [], ◌∷◌, ◌++◌, length, take, slice_get}
+use Rattle.std.specs.Prelude.{◌≡◌, ◌<◌, ◌≤◌, ℕ, zero, suc, ◌+◌, ◌-◌, min, Bool, true, false, Option, Some, None, option_map, option_and_then, List, [], ◌∷◌, ◌++◌, length, take, slice_get}
 use Rattle.fst_types.specs.Tree.{Tree}
 use Rattle.fst_types.specs.declared.side.Side.{Side}
 use Rattle.fst_types.specs.declared.side.Side.TheVariants.{Left, Right}
@@ -37,6 +37,22 @@ seen Right k = k.right
 -- the side's view: what it has put in or taken, which is the beginning of the history
 abbrev pub view : Side → Channel → List Message
 view s k = take (seen s k) k.history
+
+-- how many entries one side has not taken
+abbrev pub unread : Channel → ℕ
+unread k = length k.history - min k.left k.right
+
+-- so it is for a channel with its name
+abbrev pub unread_of : ChannelName × Channel → ℕ
+unread_of x = unread x.1
+
+-- no side's view is longer than the history
+abbrev pub IsWithin : Channel → Type 0
+IsWithin k = (s : Side) → seen s k ≤ length k.history
+
+-- so it is with each channel
+abbrev pub AreWithin : Config → Type 0
+AreWithin c = (h : ChannelName) (k : Channel) → c.channels h ≡ Some k → IsWithin k
 
 -- what was put in, as the entry of a report: without stamps
 abbrev pub entry : Message → Entry

@@ -1,19 +1,19 @@
 -- What is kept, as the maps of the program keep it.
-use Rattle.std.specs.Prelude.{◌≡◌, ℕ, zero, suc, Option, None, option_map, List, length, slice_get, nat_eq, if◌then◌else◌}
-use Rattle.std.specs.Map.{lookup}
-use Rattle.std.specs.declared.alloc.Global.{Global}
-use Rattle.std.specs.declared.vec.Vec.{Vec}
+use Rattle.std.specs.Prelude.{ℕ, Option, None, option_map, option_and_then, List}
+use Rattle.fst_types.specs.declared.side.Side.{Side}
+use Rattle.fst_types.specs.declared.side.Side.TheVariants.{Left, Right}
+use Rattle.fst_types.specs.declared.ends.ChannelName.{ChannelName}
+use Rattle.fst_types.specs.declared.ends.EndName.{EndName}
+use Rattle.fst_paths.specs.Paths.{Keys, has_path}
+use Rattle.fst_paths.specs.ChannelLists.{ChannelLists, many_in, named_in, numbered}
+use Rattle.fst_vm.specs.Slot.{Slot}
+use Rattle.fst_vm.specs.SlotOf.{tasks_by_path}
+use Rattle.fst_runs.specs.Configs as runs
 use Rattle.fst_runs.specs.Configs.{Path}
-use Rattle.fst_process.specs.KeptOf.{at_path, listed}
-use Rattle.fst_buffered.specs.declared.kept.Slot as rust_slot
 use Rattle.fst_buffered.specs.declared.kept.Channel as rust_channel
 use Rattle.fst_buffered.specs.declared.config.Config.{Config}
-use Rattle.fst_buffered.specs.Channels.{Channel}
-use Rattle.fst_buffered.specs.Kept.{Slot, Kept}
-
--- what a slot keeps
-abbrev pub slot_of : rust_slot.Slot → Slot
-slot_of s = record { task = s.task; request = s.request }
+use Rattle.fst_buffered.specs.Channels.{Channel, plain}
+use Rattle.fst_buffered.specs.Kept.{Kept}
 
 -- what a channel keeps
 abbrev pub channel_of : rust_channel.Channel → Channel
@@ -25,43 +25,68 @@ channel_of j = record {
       j.right;
 }
 
--- tasks by their paths
-abbrev pub Slots : Type 0
-Slots = List (Vec ℕ Global × rust_slot.Slot)
+-- so with all that was put in, as one at which tasks meet
+abbrev pub plain_of : rust_channel.Channel → runs.Channel
+plain_of j = plain (channel_of j)
+
+-- a channel, and which tasks asked last at its ends
+pub record Held : Type 0 where
+  pub channel : Channel
+  pub left : Option Path
+  pub right : Option Path
+
+-- so a channel keeps it
+abbrev pub held_of : rust_channel.Channel → Held
+held_of j = record { channel = channel_of j; left = j.left_asker; right = j.right_asker }
+
+-- the task that asked last at an end
+abbrev pub asker_at : Side → Held → Option Path
+asker_at Left k = k.left
+asker_at Right k = k.right
+
+-- with this task, or none, that asked last at an end
+abbrev pub with_asker : Side → Option Path → Held → Held
+with_asker Left o k = record { channel = k.channel; left = o; right = k.right }
+with_asker Right o k = record { channel = k.channel; left = k.left; right = o }
+
+-- with a channel that is changed
+abbrev pub with_changed : (Channel → Channel) → Held → Held
+with_changed f k = record { channel = f k.channel; left = k.left; right = k.right }
 
 -- channels by the paths of their makers, and then in the order in which they were made
 abbrev pub Channels : Type 0
-Channels = List (Vec ℕ Global × Vec rust_channel.Channel Global)
+Channels = ChannelLists rust_channel.Channel
 
--- the task with this path
-abbrev pub slot_in : Slots → Path → Option Slot
-slot_in ss p = option_map slot_of (lookup (at_path p) ss)
+-- the channel with this number, counted from 1, and who asked last at its ends
+abbrev pub held_at : List rust_channel.Channel → ℕ → Option Held
+held_at js n = option_map held_of (numbered js n)
 
--- the channels that the task with this path has made
-abbrev pub made_in : Channels → Path → List rust_channel.Channel
-made_in js p = listed (lookup (at_path p) js)
+-- the channel with this name, and who asked last at its ends
+abbrev pub held_in : Channels → ChannelName → Option Held
+held_in js h = named_in held_of js h
 
--- the channel with this number, counted from 1
-abbrev pub numbered : List rust_channel.Channel → ℕ → Option Channel
-numbered js zero = None
-numbered js (suc n) = option_map channel_of (slice_get js n)
+-- the channel alone
+abbrev pub channel_in : Channels → ChannelName → Option Channel
+channel_in js h = option_map (λ (j : Held). j.channel) (held_in js h)
 
--- what these tasks and channels keep
-abbrev pub kept_in : (Path → Option Slot) → Channels → Kept
-kept_in tasks js = record {
+-- the task that asked last at this end
+abbrev pub asker_in : Channels → EndName → Option Path
+asker_in js x = option_and_then (asker_at x.side) (held_in js x.channel)
+
+-- what these tasks, channels and paths of tasks that can move keep
+abbrev pub kept_in : (Path → Option Slot) → Channels → Keys → Kept
+kept_in tasks js ks = record {
   tasks = tasks;
-  channels =
-      λ h. numbered (made_in js h.maker) h.count;
-  made = λ p. length (made_in js p);
+  channels = channel_in js;
+  made = many_in js;
+  ready = has_path ks;
+  asker = asker_in js;
 }
+
+-- what is kept besides tasks
+abbrev pub kept_besides : Channels → Keys → Kept
+kept_besides js ks = kept_in (λ p. None) js ks
 
 -- all that is kept
 abbrev pub kept_of : Config → Kept
-kept_of k = kept_in (slot_in k.tasks.entries) k.channels.entries
-
--- in a list of channels the one with this number is changed, if it is there
-pub record IsChangedAt (n : ℕ) (f : Channel → Channel)
-    (old new : List rust_channel.Channel) : Type 0 where
-  pub channels : (i : ℕ) → numbered new
-      i ≡ (if nat_eq n i then option_map f (numbered old i) else numbered old i)
-  pub same_length : length new ≡ length old
+kept_of k = kept_in (tasks_by_path k.tasks) k.channels.by_maker.entries k.ready.keys

@@ -11,4 +11,3 @@ pub mod Moving
 pub mod Kept
 pub mod Running
 pub mod KeptOf
-pub mod Texts

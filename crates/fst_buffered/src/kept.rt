@@ -1,60 +1,29 @@
-ghost use Rattle.std.specs.Prelude.{◌≡◌, ◌≤◌, ◌<◌, IfOk, OnOk, Some, length};
+ghost use Rattle.std.specs.Prelude.{◌≡◌, ◌≤◌, ◌<◌, OnOk, Some, length};
+ghost use Rattle.std.specs.Option.{option_copied};
 ghost use Rattle.fst_lts.specs.Histories.{opposite};
-ghost use Rattle.fst_vm.specs.TaskView.{TaskView};
-ghost use Rattle.fst_vm.specs.Tasks.{HasNext, Takes, GoesOn};
+ghost use Rattle.fst_paths.specs.ChannelLists.{IsChangedAt};
 ghost use Rattle.fst_buffered.specs.Channels.{IsWhole, after_put, further, seen};
-ghost use Rattle.fst_buffered.specs.Kept.{MovesOn};
-ghost use Rattle.fst_buffered.specs.KeptOf.{channel_of, slot_of};
+ghost use Rattle.fst_buffered.specs.KeptOf.{asker_at, channel_of, held_at, held_of, with_asker, with_changed};
 ghost use Rattle.fst_buffered.specs.Moving.{can_put, can_take};
 
 use crate::message::Message;
-use fst_machine::{Answer, Code, Request};
-use fst_types::{Event, Side, Ty};
-use fst_vm::Task;
-use std::alloc::AllocError;
+use fst_types::{EndName, Event, Path, Side, Ty};
+use std::alloc::{AllocError, Global};
 
-/// What is kept of a task: where its code runs, and what it asks for.
-#[derive(Drop)]
-pub(crate) struct Slot {
-    pub(crate) task: Task,
-    pub(crate) request: Request,
-}
-
-/// What is kept of a channel: the type of its left end when it was made, all that was put in, and how much of that each side has
-/// put in or taken.
+/// What is kept of a channel: the type of its left end when it was made, all that was put in, how much of that each side has put in
+/// or taken, and which tasks asked last at its ends.
 #[derive(Drop)]
 pub(crate) struct Channel {
     pub(crate) declared: Ty,
     pub(crate) entries: Vec<Message>,
     pub(crate) left: usize,
     pub(crate) right: usize,
+    pub(crate) left_asker: Option<Path>,
+    pub(crate) right_asker: Option<Path>,
 }
 
-// Gives a task an answer.
-fn resume(task: &mut Task, code: &Code, answer: Answer) -> Result<(), AllocError>
-    requires { ∥ Takes code.now task.old answer ∥₁ }
-    ensures { OnOk result (GoesOn code.now task.old answer task.new) }
-{
-    match task.resume(code, answer) {
-        Ok(()) => Ok(()),
-        Err((_, e)) => Err(e),
-    }
-}
-
-/// Gives the task of a slot an answer, after which it goes on to what it asks for then.
-pub(crate) fn move_on(slot: &mut Slot, code: &Code, answer: Answer) -> Result<(), AllocError>
-    requires takes { ∥ Takes code.now slot.old.task answer ∥₁ }
-    requires next { (u : TaskView) → GoesOn code.now slot.old.task answer u →
-        ∥ HasNext code.now u ∥₁ }
-    ensures { OnOk result (MovesOn code.now answer (slot_of slot.old) (slot_of slot.new)) }
-{
-    resume(&mut slot.task, code, answer)?;
-    slot.request = slot.task.advance(code)?;
-    Ok(())
-}
-
-// The other side.
-fn opposite(side: Side) -> Side
+/// The other side.
+pub(crate) fn opposite(side: Side) -> Side
     ensures { result ≡ opposite side }
 {
     match side {
@@ -63,8 +32,8 @@ fn opposite(side: Side) -> Side
     }
 }
 
-// How much of the history a side has put in or taken.
-fn seen(channel: &Channel, side: Side) -> usize
+/// How much of the history a side has put in or taken.
+pub(crate) fn seen(channel: &Channel, side: Side) -> usize
     ensures { result ≡ seen side (channel_of channel.now) }
 {
     match side {
@@ -90,10 +59,10 @@ pub(crate) fn can_take(channel: &Channel, side: Side) -> bool
     seen(channel, side) < channel.entries.len()
 }
 
-/// A side has one more entry in view.
-pub(crate) fn advance(channel: &mut Channel, side: Side)
+// A side has one more entry in view.
+fn advance(channel: &mut Channel, side: Side)
     requires { seen side (channel_of channel.old) ≤ length channel.old.entries.items }
-    ensures { channel_of channel.new ≡ further side (channel_of channel.old) }
+    ensures { held_of channel.new ≡ with_changed (further side) (held_of channel.old) }
 {
     match side {
         Side::Left => channel.left += 1,
@@ -101,12 +70,85 @@ pub(crate) fn advance(channel: &mut Channel, side: Side)
     }
 }
 
-/// A side whose view is whole puts something in.
-pub(crate) fn put_in(channel: &mut Channel, side: Side, event: Event) -> Result<(), AllocError>
+// A side whose view is whole puts something in.
+fn put_in(channel: &mut Channel, side: Side, event: Event) -> Result<(), AllocError>
     requires { IsWhole side (channel_of channel.old) }
-    ensures { OnOk result (channel_of channel.new ≡ after_put side event (channel_of channel.old)) }
+    ensures { OnOk result (held_of channel.new ≡
+        with_changed (after_put side event) (held_of channel.old)) }
 {
     channel.entries.push(Message { side, event })?;
     advance(channel, side);
+    Ok(())
+}
+
+/// The task that asked last at an end of a channel.
+pub(crate) fn asker(channel: &Channel, side: Side) -> Option<&Path>
+    ensures { option_copied result ≡ asker_at side (held_of channel.now) }
+{
+    match side {
+        Side::Left => channel.left_asker.as_ref(),
+        Side::Right => channel.right_asker.as_ref(),
+    }
+}
+
+// Makes this task the one that asked last at an end of a channel.
+fn set_asker(channel: &mut Channel, side: Side, asker: Path)
+    ensures { held_of channel.new ≡ with_asker side (Some asker) (held_of channel.old) }
+{
+    match side {
+        Side::Left => channel.left_asker = Some(asker),
+        Side::Right => channel.right_asker = Some(asker),
+    }
+}
+
+/// A side puts something into the channel with this number.
+pub(crate) fn put_among(
+    channels: &mut Vec<Channel>,
+    number: u32,
+    side: Side,
+    event: Event,
+) -> Result<(), AllocError>
+    requires { (j : _) → held_at channels.old.items number ≡ Some j → IsWhole side j.channel }
+    ensures { OnOk result (IsChangedAt held_of number
+        (with_changed (after_put side event)) channels.old.items channels.new.items) }
+{
+    let count = number as usize;
+    if count == 0 || channels.len() < count {
+        return Ok(());
+    }
+    put_in(&mut channels[count - 1], side, event)
+}
+
+/// A side has one more entry of the channel with this number in view.
+pub(crate) fn advance_among(channels: &mut Vec<Channel>, number: u32, side: Side)
+    requires { (j : _) → held_at channels.old.items number ≡ Some j →
+        seen side j.channel ≤ length j.channel.history }
+    ensures { IsChangedAt held_of number (with_changed (further side))
+        channels.old.items channels.new.items }
+{
+    let count = number as usize;
+    if count == 0 || channels.len() < count {
+        return;
+    }
+    advance(&mut channels[count - 1], side);
+}
+
+/// Notes among the channels of one maker that a task asks at an end.
+pub(crate) fn ask_among(
+    alloc: Global,
+    channels: &mut Vec<Channel>,
+    end: &EndName,
+    path: &Path,
+) -> Result<(), AllocError>
+    ensures { OnOk result (IsChangedAt held_of end.now.channel.count
+        (with_asker end.now.side (Some path.now))
+        channels.old.items channels.new.items) }
+{
+    let count = end.channel.count as usize;
+    if count == 0 || channels.len() < count {
+        return Ok(());
+    }
+    let own = path.copy(alloc)?;
+    set_asker(&mut channels[count - 1], end.side, own);
     Ok(())
 }

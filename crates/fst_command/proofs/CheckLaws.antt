@@ -24,23 +24,25 @@ use Rattle.fst_command.specs.declared.refusals.Cause.TheVariants as given
 use Rattle.fst_command.specs.declared.status.Status.TheVariants as status
 use Rattle.fst_command.specs.CheckTexts.{Cause, nothing, refused, undecided, too_large, accepted_text, cause, cause_text, cause_status}
 use Rattle.fst_types.specs.declared.family.Family.{Family}
-use Rattle.fst_options.specs.Words as setting
-use Rattle.fst_options.specs.Words.{equiv, show, check, run, make, audit}
+use Rattle.fst_options.specs.Words.{equiv, show, check, run, buffered, make, audit, default_budget, default_steps}
 use Rattle.fst_command.specs.Finding as finding
 use Rattle.fst_command.specs.Finding.{Finding, IsRead, IsUnread, AreResolved, AreUnresolved, name_finding}
-use Rattle.fst_command.specs.Output.{AreLines, IsFoundOf, accepted, unaccepted, FindsModule, SaysAccepted, SaysOutcome, made_summary, waiting_status, outcome_text, outcome_status, WritesOf, too_long, is_none, makes, finding_status, Writes}
+use Rattle.fst_command.specs.Output.{AreLines, IsFoundOf, accepted, unaccepted, FindsModule, SaysAccepted, SaysBuffered, SaysOutcome, made_summary, waiting_status, outcome_text, outcome_status, WritesOf, too_long, is_none, makes, finding_status, Writes}
 use Rattle.fst_safety.specs.Safety.{DerivedIsSafe}
-use Rattle.fst_process.specs.declared.report.Outcome.{Outcome}
-use Rattle.fst_process.specs.declared.report.Outcome.TheVariants.{Done, OutOfSteps}
-use Rattle.fst_process.specs.declared.report.Report.{Report}
-use Rattle.fst_process.specs.declared.report.Waiting.{Waiting}
+use Rattle.fst_vm.specs.declared.report.Outcome.{Outcome}
+use Rattle.fst_vm.specs.declared.report.Outcome.TheVariants.{Done, OutOfSteps}
+use Rattle.fst_vm.specs.declared.report.Report.{Report}
+use Rattle.fst_vm.specs.declared.report.Waiting.{Waiting}
 use Rattle.fst_execution.specs.Execution.{IsSound, AnswersAreSound}
+use Rattle.fst_buffered.specs.Answers as buffered_run
+use Rattle.fst_buffered.specs.Safety.{BufferedIsSafe}
 use Rattle.fst_make.specs.Made.{made_text}
 use Rattle.fst_report.specs.ReportTexts.{report_text}
 use Rattle.fst_command.specs.declared.status.Status.{Status}
 use Rattle.fst_typing.specs.Laws.{IsCause, RefusedHasNone}
-use Rattle.fst_command.specs.Meanings.{MeansAccepted, MeansRefused, MeansCheck, MeansReport, IsSoundOutcome, MeansRun, Meanings}
+use Rattle.fst_command.specs.Meanings.{MeansAccepted, MeansRefused, MeansCheck, MeansReport, IsSoundOutcome, MeansRun, MeansBuffered, Meanings}
 use Rattle.fst_command.specs.Views.{IfFound, cause_of, name_fault}
+use Rattle.fst_command.proofs.BufferedLaws.{says_buffered}
 use Rattle.fst_command.proofs.FindingLaws.{if_found, said_found}
 use Rattle.fst_command.proofs.Causes.{refused_cause}
 use Rattle.fst_command.proofs.MeaningLaws.{audit_means, equiv_means, proved_means}
@@ -159,13 +161,13 @@ means_refused bytes (undecided_so e) = absurd (cc e)
 means_refused bytes (limited_so e) = absurd (cc e)
 means_refused bytes (memory_so e) = absurd (cc e)
 
--- and of a run the others mean nothing
-no_run : (shown : List Family → Report → List ℕ) (events : Bool) (s : Status) (bytes text : List ℕ) → IsRefused bytes s →
-    MeansRun shown events s bytes text
-no_run shown events s bytes text (refused_so e none) = subst (λ r. MeansRun shown events r bytes text) (sym e) none
-no_run shown events s bytes text (undecided_so e) = subst (λ r. MeansRun shown events r bytes text) (sym e) tt
-no_run shown events s bytes text (limited_so e) = subst (λ r. MeansRun shown events r bytes text) (sym e) tt
-no_run shown events s bytes text (memory_so e) = subst (λ r. MeansRun shown events r bytes text) (sym e) tt
+-- what that status means follows from what these four do
+no_run : (Means : Status → Type 0) (bytes : List ℕ) → (MeansRefused bytes → Means status.Refused) → Means status.Undecided →
+    Means status.Limit → Means status.Memory → (s : Status) → IsRefused bytes s → Means s
+no_run Means bytes f u l n s (refused_so e h) = subst Means (sym e) (f h)
+no_run Means bytes f u l n s (undecided_so e) = subst Means (sym e) u
+no_run Means bytes f u l n s (limited_so e) = subst Means (sym e) l
+no_run Means bytes f u l n s (memory_so e) = subst Means (sym e) n
 
 module _ (law : (m : Module) (budget : ℕ) (ds : List Deriv) → IsAccepted m budget ds → HasDerivations m ds)
     (refusal : RefusedHasNone) (resolving : OneModuleLaw) (lexing : OneLexing) (modules : OneModule)
@@ -265,15 +267,29 @@ module _ (law : (m : Module) (budget : ℕ) (ds : List Deriv) → IsAccepted m b
       source_means events steps budget bytes text s w =
           elim (made_or_refused (SaysOutcome shown events steps) budget bytes text s w) [
             | inl m ↦ outcome_means events steps budget bytes text s m.resolved m.derivations m.is_resolved m.is_accepted m.made
-            | inr r ↦ no_run shown events s bytes text r
+            | inr r ↦ no_run (λ z. MeansRun shown events z bytes text) bytes (λ none. none) tt tt tt s r
           ]
 
-    pub meanings : Meanings
-    meanings (equiv budget false) bytes text s w = equiv_means budget bytes text s w
-    meanings (equiv budget true) bytes text s w = proved_means budget bytes text s w
-    meanings show bytes text s w = tt
-    meanings (check budget) bytes text s w = check_means budget bytes text s w
-    meanings (run steps workers budget events) bytes text s w = source_means report_text events steps budget bytes text s w
-    meanings (make n) bytes text s w = source_means
-        (made_summary n) false setting.steps.default setting.budget.default (made_text n) text s w
-    meanings audit bytes text s w = audit_means bytes text s w
+    -- what is written of the run of a module with channels that hold events
+    buffered_means : BufferedIsSafe → buffered_run.AnswersAreSound →
+        (steps capacity budget : ℕ) (bytes text : List ℕ) (s : Status) →
+        Writes (buffered steps capacity budget) bytes text s → MeansBuffered capacity s bytes text
+    buffered_means safe law steps capacity budget bytes text s w =
+        elim (made_or_refused (SaysBuffered capacity steps) budget bytes text s w) [
+          | inl m ↦ says_buffered safe law capacity steps bytes text s
+              (means_accepted budget bytes m.resolved m.derivations m.is_resolved m.is_accepted) m.made
+          | inr r ↦ no_run (λ z. MeansBuffered capacity z bytes text) bytes (λ none. none) tt tt tt s r
+        ]
+
+    pub meanings : BufferedIsSafe → buffered_run.AnswersAreSound → Meanings
+    meanings safe law (equiv budget false) bytes text s w = equiv_means budget bytes text s w
+    meanings safe law (equiv budget true) bytes text s w = proved_means budget bytes text s w
+    meanings safe law show bytes text s w = tt
+    meanings safe law (check budget) bytes text s w = check_means budget bytes text s w
+    meanings safe law (run steps workers budget events) bytes text s w =
+        source_means report_text events steps budget bytes text s w
+    meanings safe law (buffered steps capacity budget) bytes text s w =
+        buffered_means safe law steps capacity budget bytes text s w
+    meanings safe law (make n) bytes text s w = source_means
+        (made_summary n) false default_steps default_budget (made_text n) text s w
+    meanings safe law audit bytes text s w = audit_means bytes text s w

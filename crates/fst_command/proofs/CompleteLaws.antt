@@ -5,16 +5,18 @@ use Rattle.fst_lexer.specs.Lexes.{OneLexing}
 use Rattle.fst_terms.specs.declared.core_module.Module.{Module}
 use Rattle.fst_module_grammar.specs.Derives.{OneModule}
 use Rattle.fst_names.specs.ResolvedModule.{OneModuleLaw}
-use Rattle.fst_process.specs.declared.report.Outcome.{Outcome}
-use Rattle.fst_process.specs.declared.report.Outcome.TheVariants.{Done, OutOfSteps}
-use Rattle.fst_process.specs.declared.report.Waiting.{Waiting}
+use Rattle.fst_vm.specs.declared.report.Outcome.{Outcome}
+use Rattle.fst_vm.specs.declared.report.Outcome.TheVariants.{Done, OutOfSteps}
+use Rattle.fst_vm.specs.declared.report.Waiting.{Waiting}
+use Rattle.fst_buffered.specs.declared.outcome.BufferedOutcome.{BufferedOutcome}
+use Rattle.fst_buffered.specs.declared.outcome.BufferedOutcome.TheVariants as buffered_run
 use Rattle.fst_report.specs.ReportTexts.{report_text}
-use Rattle.fst_options.specs.Words.{check, run}
+use Rattle.fst_options.specs.Words.{check, run, buffered}
 use Rattle.fst_command.specs.declared.status.Status.{Status}
 use Rattle.fst_typing.specs.Laws.{WithinIsNotRefused}
 use Rattle.fst_command.specs.Complete.{AreComplete, HasBegun, IsComplete, IsInputWithin, IsWithinLimits}
 use Rattle.fst_command.specs.Finding.{AreUnresolved}
-use Rattle.fst_command.specs.Output.{FindsModule, IsFoundOf, accepted, unaccepted, SaysAccepted, SaysOutcome, WritesOf, too_long, is_none, makes, outcome_status, waiting_status}
+use Rattle.fst_command.specs.Output.{FindsModule, IsFoundOf, accepted, unaccepted, SaysAccepted, SaysBuffered, SaysOutcome, WritesOf, too_long, is_none, makes, buffered_outcome_status, outcome_status, waiting_status}
 use Rattle.fst_command.specs.Top.{IsAnswered, ReadsInput}
 use Rattle.fst_command.proofs.OneResolved.{resolved_or_not, same_resolved}
 use Rattle.fst_command.proofs.Runs.{written_for}
@@ -52,6 +54,10 @@ outcome_begun : (o : Outcome) → HasBegun (outcome_status o)
 outcome_begun (Done r) = tasks_begun r.waiting.items
 outcome_begun OutOfSteps = tt
 
+buffered_begun : (o : BufferedOutcome) → HasBegun (buffered_outcome_status o)
+buffered_begun (buffered_run.Done r unread) = tasks_begun r.waiting.items
+buffered_begun buffered_run.OutOfSteps = tt
+
 module _ (lexing : OneLexing) (modules : OneModule) (one : OneModuleLaw) (complete : WithinIsNotRefused) where
   -- what is made of the module
   makes_within : (IsMade : Module → List ℕ → Status → Type 0) (budget : ℕ) (bytes text : List ℕ) (s : Status) →
@@ -81,6 +87,15 @@ module _ (lexing : OneLexing) (modules : OneModule) (one : OneModuleLaw) (comple
           begun =
               subst HasBegun (sym m.1.ended) (outcome_begun m.1.outcome);
         };
+    buffered = λ steps capacity budget bytes text s w l.
+        let m = makes_within (SaysBuffered capacity steps) budget bytes text s w l in
+        record {
+          resolved = m.0.resolved;
+          is_resolved = m.0.is_resolved;
+          says = m.1;
+          begun =
+              subst HasBegun (sym m.1.ended) (buffered_begun m.1.outcome);
+        };
   }
 
 -- ---- how a run of the program ends
@@ -94,4 +109,8 @@ is_complete law words old new text s a = record {
       (law.run steps workers budget events a.bytes text s
       (written_for words a.bytes text s (run steps workers budget events) it a.output)
       (read_within budget old new a.bytes w (a.read (run steps workers budget events) it))).begun;
+  buffered = λ steps capacity budget it w.
+      (law.buffered steps capacity budget a.bytes text s
+      (written_for words a.bytes text s (buffered steps capacity budget) it a.output)
+      (read_within budget old new a.bytes w (a.read (buffered steps capacity budget) it))).begun;
 }

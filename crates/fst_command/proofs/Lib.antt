@@ -6,6 +6,8 @@ pub mod SameParts
 pub mod SameMachines
 pub mod SameRuns
 pub mod SameReports
+pub mod SameBuffered
+pub mod OneBuffered
 pub mod SameDerivations
 pub mod SameRefusals
 pub mod OneOutcome
@@ -20,3 +22,4 @@ pub mod CompleteLaws
 pub mod MeaningLaws
 pub mod OutcomeLaws
 pub mod MakeLaws
+pub mod BufferedLaws

@@ -5,7 +5,7 @@ use Rattle.std.specs.declared.alloc.AllocError.{AllocError}
 use Rattle.fst_base.specs.Limits.{most_bytes, most_made}
 use Rattle.fst_make.specs.Made.{made_text}
 use Rattle.fst_make.proofs.Laws.{made_short}
-use Rattle.fst_options.specs.Words as setting
+use Rattle.fst_options.specs.Words.{default_budget, default_steps}
 use Rattle.fst_command.specs.declared.answer.Answer.{Answer as Written}
 use Rattle.fst_command.specs.declared.running.Form.TheVariants as form
 use Rattle.fst_command.specs.declared.status.Status.{Status}
@@ -20,8 +20,7 @@ bytes_short n bytes few is = omega (arith, ap length is, made_short n few)
 -- what is written of these bytes, with a summary that has their number
 abbrev WritesSummary : List ℕ → List ℕ → Status → Type 0
 WritesSummary bytes text s = WritesOf AreUnresolved
-    (FindsModule (SaysOutcome (shown_as (form.Summary (length bytes))) false setting.steps.default)
-    setting.budget.default) bytes text s
+    (FindsModule (SaysOutcome (shown_as (form.Summary (length bytes))) false default_steps) default_budget) bytes text s
 
 -- what is written of a made module
 pub made_output : (n : ℕ) (bytes : List ℕ) (r : Result Written AllocError) → bytes ≡ made_text n → IfOk r

@@ -1,19 +1,21 @@
 -- What `run` and `make` write of a module that is accepted.
 use Rattle.std.proofs.Common.{◌≡◌, ℕ, List, [], ◌∷◌, Some, Result, length, get_or, Bool, true, false, refl, sym, subst, arith}
-use Rattle.std.specs.Prelude.{◌==◌, IfOk}
+use Rattle.std.specs.Prelude.{◌==◌, Contains, IfOk}
 use Rattle.std.specs.declared.alloc.AllocError.{AllocError}
 use Rattle.std.proofs.lemmas.Result.{IfOk-weaker}
 use Rattle.std.proofs.lemmas.Bool.Decides.{nat_tests}
 use Rattle.std.proofs.lemmas.List.Elements.{All-contains_itself}
+use Rattle.fst_types.specs.declared.event.ChannelHistory.{ChannelHistory}
+use Rattle.fst_kinds.specs.WellFormed.{IsSession}
 use Rattle.fst_terms.specs.declared.core_module.Module.{Module}
 use Rattle.fst_machine.specs.declared.code.Code.{Code}
 use Rattle.fst_runs.specs.declared.event.Stamped.{Stamped}
 use Rattle.fst_runs.specs.Configs.{main_body, program}
-use Rattle.fst_process.specs.declared.report.Outcome.{Outcome}
+use Rattle.fst_vm.specs.declared.report.Outcome.{Outcome}
 use Rattle.fst_process.specs.declared.marks.TaskMarks.{TaskMarks}
-use Rattle.fst_process.specs.declared.report.Outcome.TheVariants.{Done, OutOfSteps}
-use Rattle.fst_process.specs.declared.report.Report.{Report}
-use Rattle.fst_process.specs.declared.report.Waiting.{Waiting}
+use Rattle.fst_vm.specs.declared.report.Outcome.TheVariants.{Done, OutOfSteps}
+use Rattle.fst_vm.specs.declared.report.Report.{Report}
+use Rattle.fst_vm.specs.declared.report.Waiting.{Waiting}
 use Rattle.fst_process.specs.Reports.{IsAnswer}
 use Rattle.fst_safety.specs.Safety.{IsSafe}
 use Rattle.fst_records.specs.Records.{config_of}
@@ -22,7 +24,7 @@ use Rattle.fst_worker.specs.declared.workers.Logged.TheVariants as logged
 use Rattle.fst_worker.specs.Working.{IsLoggedOut, IsMarkedRecord, IsWorkedOut}
 use Rattle.fst_merge.specs.LeastEvents.{AreEventsOf, SortedLaw}
 use Rattle.fst_merge.specs.Merging.{AreOfRecord, AreMerged}
-use Rattle.fst_execution.specs.Execution.{IsDerived, IsExecuted, IsPrepared, IsSound, AnswersAreSound}
+use Rattle.fst_execution.specs.Execution.{IsDerived, IsExecuted, IsPrepared, AnswersAreSound}
 use Rattle.fst_report.specs.DeclaredTypes.{AreScoped, AreNamedWithin}
 use Rattle.fst_report.proofs.Laws.{of_sessions}
 use Rattle.fst_command.specs.declared.status.Status.TheVariants as status
@@ -35,12 +37,10 @@ pub none_waits : (ws : List Waiting) (b : Bool) → b ≡ (length ws == 0) → b
 none_waits [] b test is = refl
 none_waits (w ∷ ws) b test is = absurd (grind (arith, nat_tests))
 
--- the channels of a sound report can be written
-pub can_be_written : (m : Module) (n : ℕ) (r : Report) → IsSound m r → AreScoped r.channels.items ×
-    AreNamedWithin n r.channels.items
-can_be_written m n r sound =
-    let hs = r.channels.items in
-    of_sessions n hs (λ k d i. sound.sessions (get_or hs k d) (All-contains_itself hs k d i))
+-- channels that have session types can be written
+pub can_be_written : (n : ℕ) (hs : List ChannelHistory) → ((j : ChannelHistory) → Contains hs j → IsSession [] j.declared) →
+    AreScoped hs × AreNamedWithin n hs
+can_be_written n hs sessions = of_sessions n hs (λ k d i. sessions (get_or hs k d) (All-contains_itself hs k d i))
 
 -- ---- what a run comes to
 
@@ -48,16 +48,17 @@ can_be_written m n r sound =
 pub least_outcome : (steps : ℕ) (m : Module) (o : Outcome) → IsExecuted m steps o → IsOutcomeOf false steps m o []
 least_outcome steps m o x = record { main = x.main; body = x.body; answer = x.answer; behind = refl }
 
-module _ (steps : ℕ) (m : Module) (k : Code) (ready : IsPrepared m k) where
-  -- main's body
-  body : main_body m.globals.items ≡ Some ready.begins.main
-  body = subst (λ (n : Module). main_body n.globals.items ≡ Some ready.begins.main) ready.is_of ready.begins.body
+-- main's body
+pub prepared_main : (m : Module) (k : Code) (ready : IsPrepared m k) → main_body m.globals.items ≡ Some ready.begins.main
+prepared_main m k ready =
+    subst (λ (n : Module). main_body n.globals.items ≡ Some ready.begins.main) ready.is_of ready.begins.body
 
+module _ (steps : ℕ) (m : Module) (k : Code) (ready : IsPrepared m k) where
   -- on several
   worked : (o : Outcome) → IsWorkedOut k steps o → IsOutcomeOf false steps m o []
   worked o w = record {
     main = ready.begins.main;
-    body = body;
+    body = prepared_main m k ready;
     answer = subst (λ n. IsAnswer n ready.begins.main steps o) ready.is_of (w ready.begins);
     behind = refl;
   }
@@ -82,8 +83,8 @@ module _ (steps : ℕ) (m : Module) (k : Code) (ready : IsPrepared m k) where
           marks = b.marks;
         } in
         let g = merged a in
-        sorted m d.derivations d.derived ready.begins.main body es (config_of b.tasks b.channels) g.run b.last g.sorted fs c
-        least last
+        sorted m d.derivations d.derived ready.begins.main (prepared_main m k ready) es (config_of b.tasks b.channels) g.run b.last
+        g.sorted fs c least last
 
     -- with its events
     pub logged_outcome : (l : Logged) (o : Outcome) (lines : List ℕ) → IsLoggedOut k steps l → HasLines l o lines →
@@ -94,14 +95,14 @@ module _ (steps : ℕ) (m : Module) (k : Code) (ready : IsPrepared m k) where
         let marked = subst (λ n. IsMarkedRecord n ready.begins.main steps r ts.items) ready.is_of b.1 in
         subst (λ q. IsOutcomeOf true steps m q lines) (sym is) (record {
           main = ready.begins.main;
-          body = body;
+          body = prepared_main m k ready;
           answer = answer;
           behind = (es, record_events r ts.items es answer marked merged, written);
         })
     logged_outcome logged.OutOfSteps o lines h (is, written) =
         subst (λ q. IsOutcomeOf true steps m q lines) (sym is) (record {
           main = ready.begins.main;
-          body = body;
+          body = prepared_main m k ready;
           answer = subst (λ n. IsAnswer n ready.begins.main steps OutOfSteps) ready.is_of (h ready.begins).0;
           behind = written;
         })

@@ -27,25 +27,26 @@ use Rattle.fst_derivations.specs.Modules.{HasDerivations}
 use Rattle.fst_typing.specs.Checked.{IsAccepted}
 use Rattle.fst_safety.specs.Diamond.{OneEnd}
 use Rattle.fst_merge.specs.LeastEvents.{OneListLaw}
-use Rattle.fst_process.specs.declared.report.Report.{Report}
+use Rattle.fst_buffered.specs.Events.{LeastIsOne}
+use Rattle.fst_vm.specs.declared.report.Report.{Report}
 use Rattle.fst_make.specs.Made.{made_text}
 use Rattle.fst_type_print.specs.Texts.{family_names, question_text}
 use Rattle.fst_report.specs.ReportTexts.{report_text}
 use Rattle.fst_command.specs.declared.status.Status.{Status}
 use Rattle.fst_command.specs.declared.status.Status.TheVariants as status
-use Rattle.fst_options.specs.Words as setting
-use Rattle.fst_options.specs.Words.{Command, equiv, show, check, run, make, audit, IsCommand}
+use Rattle.fst_options.specs.Words.{Command, equiv, show, check, run, buffered, make, audit, IsCommand, default_budget, default_steps}
 use Rattle.fst_options.proofs.Laws.{one_command}
 use Rattle.fst_typing.specs.Laws.{AcceptedIsNotRefused, OneRefusal}
 use Rattle.fst_command.specs.CheckTexts.{cause, cause_text, cause_status}
 use Rattle.fst_command.specs.Finding.{Finding, refused, too_deep, IsRead, AreAsked, IsNoQuestion, IsNoModule, AreUnresolved, no_reading}
 use Rattle.fst_command.specs.Finding as finding
-use Rattle.fst_command.specs.Output.{finding_text, finding_status, answer_text, answer_status, IsCertified, IsAnswerText, IsAnswerTo, AnswersQuestion, ShowsModule, IsFoundOf, accepted, unaccepted, FindsModule, SaysAccepted, SaysOutcome, made_summary, WritesOf, too_long, is_none, makes, Writes, usage, command, AreAlike, same, certified, OneOutput, ShownAgain}
+use Rattle.fst_command.specs.Output.{finding_text, finding_status, answer_text, answer_status, IsCertified, IsAnswerText, IsAnswerTo, AnswersQuestion, ShowsModule, IsFoundOf, accepted, unaccepted, FindsModule, SaysAccepted, SaysBuffered, SaysOutcome, made_summary, WritesOf, too_long, is_none, makes, Writes, usage, command, AreAlike, same, certified, OneOutput, ShownAgain}
 use Rattle.fst_command.specs.Audited.{IsNoAudit, AuditsCertificate}
 use Rattle.fst_command.specs.Texts.{too_large_text}
 use Rattle.fst_command.specs.Views.{IfFound, Found}
 use Rattle.fst_command.proofs.OneFinding.{IsSameAsked, one_read, read_once, one_unread, one_no_question, question_or_not, asked_once}
 use Rattle.fst_command.proofs.AuditLaws.{one_no_audit, audit_or_not, one_audit}
+use Rattle.fst_command.proofs.OneBuffered.{one_buffered}
 use Rattle.fst_command.proofs.OneOutcome.{one_outcome}
 use Rattle.fst_command.proofs.OneResolved.{one_unresolved, resolved_or_not, same_resolved}
 use Rattle.fst_command.proofs.Causes.{same_cause}
@@ -219,7 +220,7 @@ module _ (answers : OneAnswer) (lexing : OneLexing) (readings : OneReading) (mod
         (one_found IsMade budget bytes made)
 
     module _ (law : (m : Module) (budget : ℕ) (ds : List Deriv) → IsAccepted m budget ds → HasDerivations m ds)
-        (ends : OneEnd) (lists : OneListLaw) where
+        (ends : OneEnd) (lists : OneListLaw) (least : LeastIsOne) where
       one_run : (shown : List Family → Report → List ℕ) → IsWritten shown → (events : Bool) (steps budget : ℕ) (bytes : List ℕ) →
           IsOne (WritesOf AreUnresolved (FindsModule (SaysOutcome shown events steps) budget) bytes)
       one_run shown written events steps budget bytes =
@@ -251,9 +252,13 @@ module _ (answers : OneAnswer) (lexing : OneLexing) (readings : OneReading) (mod
       one_text words (run steps workers budget events) is bytes =
           all_alike words bytes (Writes (run steps workers budget events) bytes)
           (one_run report_text report_written events steps budget bytes)
+      one_text words (buffered steps capacity budget) is bytes =
+          all_alike words bytes (Writes (buffered steps capacity budget) bytes)
+          (one_source (SaysBuffered capacity steps) budget bytes
+          (λ m n ds parts a. one_buffered least capacity steps m n parts))
       one_text words (make n) is bytes = all_alike words bytes (Writes (make n) bytes)
-          (one_run (made_summary n) (summary_written (length (made_text n))) false setting.steps.default
-          setting.budget.default (made_text n))
+          (one_run (made_summary n) (summary_written (length (made_text n))) false default_steps default_budget
+          (made_text n))
       one_text words audit is bytes = all_alike words bytes (Writes audit bytes)
           (only_written IsNoAudit AuditsCertificate bytes (one_no_audit lexing readings bytes)
           (λ f t s none m. audit_or_not lexing readings bytes f t s m none) (one_audit lexing readings bytes))

@@ -6,7 +6,7 @@ use Rattle.fst_io.specs.GivingUp.{Loses}
 use Rattle.fst_base.specs.Limits.{most_bytes}
 use Rattle.fst_command.specs.declared.status.Status.{Status}
 use Rattle.fst_command.specs.declared.status.Status.TheVariants as status
-use Rattle.fst_options.specs.Words.{Command, equiv, show, check, run, make, audit, IsCommand}
+use Rattle.fst_options.specs.Words.{Command, equiv, show, check, run, buffered, make, audit, IsCommand}
 use Rattle.fst_options.proofs.Laws.{one_command}
 use Rattle.fst_command.specs.Output.{Writes, too_long, usage, command, IsOutput}
 use Rattle.fst_command.specs.Texts.{too_long_text}
@@ -20,6 +20,7 @@ reads_for (equiv budget proof) old new bytes is r = r
 reads_for show old new bytes is r = r
 reads_for (check budget) old new bytes is r = r
 reads_for (run steps workers budget events) old new bytes is r = r
+reads_for (buffered steps capacity budget) old new bytes is r = r
 reads_for (make n) old new bytes is r = absurd (cc is)
 reads_for audit old new bytes is r = r
 
@@ -37,6 +38,7 @@ reads_none (equiv budget proof) old bytes not is = absurd (cc not)
 reads_none show old bytes not is = absurd (cc not)
 reads_none (check budget) old bytes not is = absurd (cc not)
 reads_none (run steps workers budget events) old bytes not is = absurd (cc not)
+reads_none (buffered steps capacity budget) old bytes not is = absurd (cc not)
 reads_none (make n) old bytes not is = record { none = is; same = refl }
 reads_none audit old bytes not is = absurd (cc not)
 
@@ -57,6 +59,7 @@ too_long_written (equiv budget proof) bytes text s is long w e = too_long long w
 too_long_written show bytes text s is long w e = too_long long w e
 too_long_written (check budget) bytes text s is long w e = too_long long w e
 too_long_written (run steps workers budget events) bytes text s is long w e = too_long long w e
+too_long_written (buffered steps capacity budget) bytes text s is long w e = too_long long w e
 too_long_written (make n) bytes text s is long w e = absurd (cc is)
 too_long_written audit bytes text s is long w e = too_long long w e
 

@@ -22,8 +22,8 @@ use Rattle.fst_machine.specs.Values.{Value, Values}
 use Rattle.fst_machine.specs.Machine.{Program, name_of, pause, ended}
 use Rattle.fst_runs.specs.Configs.{Path, Config, Task, Channel}
 use Rattle.fst_runs.specs.Least.{IsBefore}
-use Rattle.fst_process.specs.declared.report.Report.{Report}
-use Rattle.fst_process.specs.declared.report.Waiting.{Waiting}
+use Rattle.fst_vm.specs.declared.report.Report.{Report}
+use Rattle.fst_vm.specs.declared.report.Waiting.{Waiting}
 use Rattle.fst_process.specs.Reports.{IsAlike, AreAlike, IsMainResult, ComesBefore, IsReport}
 use Rattle.fst_runs.specs.Order.{AreRising}
 use Rattle.fst_type_print.specs.Texts.{type_text, family_names}
@@ -236,12 +236,13 @@ module _ (fs gs : List Family) (alike : map family_parts fs ≡ map family_parts
 -- ---- reports
 
 -- a channel by its parts
-record History : Type 0 where
-  name : ChannelName
-  declared : Tree
-  entries : List Entry
+pub record History : Type 0 where
+  pub name : ChannelName
+  pub declared : Tree
+  pub entries : List Entry
 
-abbrev history_parts : ChannelHistory → History
+-- those of a channel of a report
+abbrev pub history_parts : ChannelHistory → History
 history_parts j = record { name = j.name; declared = j.declared; entries = j.entries.items }
 
 -- both lines of a channel
@@ -307,7 +308,8 @@ abbrev pub IsWritten : (List Family → Report → List ℕ) → Type 0
 IsWritten text = (fs gs : List Family) → map family_parts fs ≡ map family_parts gs →
     (r q : Report) → AreOneReport r q → text fs r ≡ text gs q
 
-result_in : (fs gs : List Family) → map family_parts fs ≡ map family_parts gs →
+-- the value of main is written in one way, by the parts of data types
+pub result_in : (fs gs : List Family) → map family_parts fs ≡ map family_parts gs →
     (o : Option ValueTree) → result_text fs o ≡ result_text gs o
 result_in fs gs alike None = refl
 result_in fs gs alike (Some x) = value_in fs gs alike x

@@ -13,9 +13,9 @@ use Rattle.fst_runs.specs.Events.{Write, Does, IsLast, written}
 use Rattle.fst_runs.specs.Least.{IsLeast, RunsLeast, WaitsAt}
 use Rattle.fst_runs.specs.declared.event.Stamped.{Stamped}
 use Rattle.fst_runs.specs.StampedRuns.{RunsAt, events_in}
-use Rattle.fst_process.specs.declared.report.Outcome.{Outcome}
-use Rattle.fst_process.specs.declared.report.Outcome.TheVariants.{Done, OutOfSteps}
-use Rattle.fst_process.specs.declared.report.Report.{Report}
+use Rattle.fst_vm.specs.declared.report.Outcome.{Outcome}
+use Rattle.fst_vm.specs.declared.report.Outcome.TheVariants.{Done, OutOfSteps}
+use Rattle.fst_vm.specs.declared.report.Report.{Report}
 use Rattle.fst_process.specs.Reports.{IsMainResult, IsReport, IsAnswer}
 use Rattle.fst_names.specs.ResolvedModule.{AreSame}
 use Rattle.fst_merge.specs.LeastEvents.{AreEventsOf}
@@ -40,7 +40,8 @@ run_alike m n s = record {
     stops : (t : State) → pause m.families.items t ≡ pause n.families.items t
     stops = pause_same m.families.items n.families.items (same_names m.families.items n.families.items s.families)
 
-alike_back : (m n : Program) → RunAlike m n → RunAlike n m
+-- so it is the other way round
+pub alike_back : (m n : Program) → RunAlike m n → RunAlike n m
 alike_back m n x = record { pauses = λ s. sym (x.pauses s); answers = λ s a. sym (x.answers s a) }
 
 -- the same events are possible, and write the same
@@ -117,7 +118,7 @@ waits_same m n x c p y (t, i, inl h) = (t, i, inl (h.0, ap asked (sym (x.pauses 
 waits_same m n x c p y (t, i, inr h) = (t, i, inr (ap asked (sym (x.pauses t.state)) ∙ h))
 
 -- and the report is the same
-report_same : (m n : Program) → RunAlike m n → (c : Config) (k : ℕ) (r : Report) → IsReport m c k r → IsReport n c k r
+pub report_same : (m n : Program) → RunAlike m n → (c : Config) (k : ℕ) (r : Report) → IsReport m c k r → IsReport n c k r
 report_same m n x c k r h = record {
   result = result_same m n x c r h.result;
   waiting = λ p y. (

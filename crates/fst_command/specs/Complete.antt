@@ -4,13 +4,13 @@ use Rattle.fst_base.specs.Limits.{most_bytes}
 use Rattle.fst_terms.specs.declared.core_module.Module.{Module}
 use Rattle.fst_derivations.specs.Deriv.{Deriv}
 use Rattle.fst_report.specs.ReportTexts.{report_text}
-use Rattle.fst_options.specs.Words.{check, run, IsCommand}
+use Rattle.fst_options.specs.Words.{check, run, buffered, IsCommand}
 use Rattle.fst_command.specs.declared.status.Status.{Status}
 use Rattle.fst_command.specs.declared.status.Status.TheVariants as status
 use Rattle.fst_typing.specs.Checked.{HasDerivationsWithin}
 use Rattle.fst_command.specs.CheckTexts.{accepted_text}
 use Rattle.fst_command.specs.Finding.{AreResolved}
-use Rattle.fst_command.specs.Output.{SaysOutcome, Writes}
+use Rattle.fst_command.specs.Output.{SaysBuffered, SaysOutcome, Writes}
 
 -- the bytes aren't too many, and stand for a module that has plain derivations within the limits, at this budget
 pub record IsWithinLimits (budget : ℕ) (bytes : List ℕ) : Type 0 where
@@ -38,26 +38,33 @@ HasBegun status.WriteFault = ⊥
 HasBegun status.Limit = ⊥
 HasBegun status.Memory = ⊥
 
--- of an input that is known and within the limits `check` ends as where a module is accepted, and `run` as a run that was begun
+-- of an input that is known and within the limits `check` ends as where a module is accepted, and `run`, with channels that hold
+-- events too, as a run that was begun
 pub record IsComplete (words : List (List ℕ)) (old : Option (List ℕ)) (s : Status) : Type 0 where
   pub check : (budget : ℕ) → IsCommand words (check budget) → IsInputWithin budget old →
       s ≡ status.Done
   pub run : (steps workers budget : ℕ) (events : Bool) →
       IsCommand words (run steps workers budget events) →
       IsInputWithin budget old → HasBegun s
+  pub buffered : (steps capacity budget : ℕ) → IsCommand words (buffered steps capacity budget) →
+      IsInputWithin budget old → HasBegun s
 
--- the text and the status are what so many steps of the module come to, and say that they were begun
-pub record HasRunModule (events : Bool) (steps : ℕ) (bytes text : List ℕ)
+-- the text and the status are what a run of the module comes to, as this says, and say that it was begun
+pub record HasRunModule (Says : Module → List ℕ → Status → Type 0) (bytes text : List ℕ)
     (s : Status) : Type 0 where
   pub resolved : Module
   pub is_resolved : AreResolved bytes resolved
-  pub says : SaysOutcome report_text events steps resolved text s
+  pub says : Says resolved text s
   pub begun : HasBegun s
 
--- of bytes that are within the limits `check` says that the module is accepted, and `run` what its steps come to
+-- of bytes that are within the limits `check` says that the module is accepted, and `run` what its steps come to, with channels
+-- that hold events too
 pub record AreComplete : Type 0 where
   pub check : (budget : ℕ) (bytes text : List ℕ) (s : Status) → Writes (check budget) bytes text s →
       IsWithinLimits budget bytes → (text ≡ accepted_text) × (s ≡ status.Done)
   pub run : (steps workers budget : ℕ) (events : Bool) (bytes text : List ℕ) (s : Status) →
       Writes (run steps workers budget events) bytes text s → IsWithinLimits budget bytes →
-      HasRunModule events steps bytes text s
+      HasRunModule (SaysOutcome report_text events steps) bytes text s
+  pub buffered : (steps capacity budget : ℕ) (bytes text : List ℕ) (s : Status) →
+      Writes (buffered steps capacity budget) bytes text s → IsWithinLimits budget bytes →
+      HasRunModule (SaysBuffered capacity steps) bytes text s

@@ -22,17 +22,23 @@ use Rattle.fst_names.specs.declared.question.Question.{Question}
 use Rattle.fst_names.specs.ResolvedModule.{IsResolvedModule}
 use Rattle.fst_derivations.specs.Deriv.{Deriv}
 use Rattle.fst_derivations.specs.Modules.{HasDerivations}
-use Rattle.fst_runs.specs.Configs.{main_body}
+use Rattle.fst_runs.specs.Configs.{main_body, program}
 use Rattle.fst_safety.specs.Safety.{IsSafe}
-use Rattle.fst_process.specs.declared.report.Outcome.{Outcome}
-use Rattle.fst_process.specs.declared.report.Outcome.TheVariants.{Done}
-use Rattle.fst_process.specs.declared.report.Report.{Report}
+use Rattle.fst_vm.specs.declared.report.Outcome.{Outcome}
+use Rattle.fst_vm.specs.declared.report.Outcome.TheVariants.{Done}
+use Rattle.fst_vm.specs.declared.report.Report.{Report}
 use Rattle.fst_execution.specs.Execution.{IsSound}
+use Rattle.fst_buffered.specs.Answers.{IsSoundReport}
+use Rattle.fst_buffered.specs.Channels as channels
+use Rattle.fst_buffered.specs.Events.{Occurrence, Runs}
+use Rattle.fst_buffered.specs.Order.{IsInOrder}
+use Rattle.fst_buffered.specs.Safety.{IsSafeAt}
+use Rattle.fst_report.specs.BufferedTexts.{buffered_text}
 use Rattle.fst_report.specs.ReportTexts.{report_text}
 use Rattle.fst_command.specs.declared.status.Status.{Status}
 use Rattle.fst_command.specs.declared.status.Status.TheVariants as status
 use Rattle.fst_make.specs.Made.{made_text}
-use Rattle.fst_options.specs.Words.{Command, equiv, show, check, run, make, audit}
+use Rattle.fst_options.specs.Words.{Command, equiv, show, check, run, buffered, make, audit}
 use Rattle.fst_command.specs.Finding.{IsRead, AreAsked, AreResolved}
 use Rattle.fst_command.specs.Audited.{first_line}
 use Rattle.fst_command.specs.Output.{AreLines, IsCertified, Writes, made_summary}
@@ -155,6 +161,43 @@ MeansRun shown events status.WriteFault bytes text = ⊤
 MeansRun shown events status.Limit bytes text = ⊤
 MeansRun shown events status.Memory bytes text = ⊤
 
+-- whatever happens in a run of the module whose channels hold up to so many events, nothing goes wrong, and what is taken at an end
+-- is what was put in at the other one, in its order and each once
+abbrev pub IsBufferedSafe : ℕ → Module → Type 0
+IsBufferedSafe capacity m =
+    (main : CoreTree) → main_body m.globals.items ≡ Some main →
+    (es : List Occurrence) (c : channels.Config) →
+    Runs (program m) m.types.items capacity (channels.started main) es c →
+    IsSafeAt m c × IsInOrder es
+
+-- the bytes stand for a module that is accepted, of which no buffered run goes wrong
+pub record MeansBufferedSafe (capacity : ℕ) (bytes : List ℕ) : Type 0 where
+  pub accepted : MeansAccepted bytes
+  pub safe : IsBufferedSafe capacity accepted.resolved
+
+-- so they do, and the text is that of a buffered report in which each history is a trace of its channel's declared type, and the value
+-- of main is one of main's type
+pub record MeansBufferedReport (capacity : ℕ) (bytes text : List ℕ) : Type 0 where
+  pub accepted : MeansAccepted bytes
+  pub safe : IsBufferedSafe capacity accepted.resolved
+  pub report : Report
+  pub unread : List ℕ
+  pub written : text ≡ buffered_text accepted.resolved.families.items report unread
+  pub sound : IsSoundReport accepted.resolved report
+
+-- what it means that a text was written with this status of the buffered run of a module
+abbrev pub MeansBuffered : ℕ → Status → List ℕ → List ℕ → Type 0
+MeansBuffered capacity status.Done bytes text = MeansBufferedReport capacity bytes text
+MeansBuffered capacity status.Refused bytes text = MeansRefused bytes
+MeansBuffered capacity status.Words bytes text = ⊤
+MeansBuffered capacity status.Waiting bytes text = MeansBufferedReport capacity bytes text
+MeansBuffered capacity status.OutOfSteps bytes text = MeansBufferedSafe capacity bytes
+MeansBuffered capacity status.Undecided bytes text = ⊤
+MeansBuffered capacity status.ReadFault bytes text = ⊤
+MeansBuffered capacity status.WriteFault bytes text = ⊤
+MeansBuffered capacity status.Limit bytes text = ⊤
+MeansBuffered capacity status.Memory bytes text = ⊤
+
 -- what it means that this text was written for a command, with this status, where these bytes were read: `make` reads none, and what
 -- it writes is about the module that it makes
 abbrev pub Means : Command → List ℕ → List ℕ → Status → Type 0
@@ -163,6 +206,7 @@ Means (equiv budget true) bytes text s = MeansProved budget bytes text s
 Means show bytes text s = ⊤
 Means (check budget) bytes text s = MeansCheck bytes s
 Means (run steps workers budget events) bytes text s = MeansRun report_text events s bytes text
+Means (buffered steps capacity budget) bytes text s = MeansBuffered capacity s bytes text
 Means (make n) bytes text s = MeansRun (made_summary n) false s (made_text n) text
 Means audit bytes text s = MeansAudit bytes text s
 

@@ -20,11 +20,15 @@ use Rattle.fst_typing.specs.Checked.{IsAccepted, IsRefusal}
 use Rattle.fst_premises.specs.declared.fault.CheckFault.{CheckFault}
 use Rattle.fst_runs.specs.declared.event.Stamped.{Stamped}
 use Rattle.fst_runs.specs.Configs.{main_body}
-use Rattle.fst_process.specs.declared.report.Outcome.{Outcome}
-use Rattle.fst_process.specs.declared.report.Outcome.TheVariants.{Done, OutOfSteps}
-use Rattle.fst_process.specs.declared.report.Report.{Report}
-use Rattle.fst_process.specs.declared.report.Waiting.{Waiting}
+use Rattle.fst_vm.specs.declared.report.Outcome.{Outcome}
+use Rattle.fst_vm.specs.declared.report.Outcome.TheVariants.{Done, OutOfSteps}
+use Rattle.fst_vm.specs.declared.report.Report.{Report}
+use Rattle.fst_vm.specs.declared.report.Waiting.{Waiting}
 use Rattle.fst_process.specs.Reports.{IsAnswer}
+use Rattle.fst_buffered.specs.declared.outcome.BufferedOutcome.{BufferedOutcome}
+use Rattle.fst_buffered.specs.declared.outcome.BufferedOutcome.TheVariants as buffered_run
+use Rattle.fst_buffered.specs.Answers.{IsAnswer as IsBufferedAnswer}
+use Rattle.fst_report.specs.BufferedTexts.{buffered_text}
 use Rattle.fst_merge.specs.EventTexts.{events_text}
 use Rattle.fst_merge.specs.LeastEvents.{AreEventsOf}
 use Rattle.fst_report.specs.ReportTexts.{report_text}
@@ -32,8 +36,7 @@ use Rattle.fst_report.specs.SummaryTexts.{summary_text}
 use Rattle.fst_command.specs.declared.status.Status.{Status}
 use Rattle.fst_command.specs.declared.status.Status.TheVariants as status
 use Rattle.fst_make.specs.Made.{made_text}
-use Rattle.fst_options.specs.Words as setting
-use Rattle.fst_options.specs.Words.{Command, equiv, show, check, run, make, audit, IsCommand, NoCommand}
+use Rattle.fst_options.specs.Words.{Command, equiv, show, check, run, buffered, make, audit, IsCommand, NoCommand, default_budget, default_steps}
 use Rattle.fst_command.specs.Finding.{Finding, refused, too_deep, IsRead, AreAsked, IsNoQuestion, IsNoModule, AreResolved, AreUnresolved}
 use Rattle.fst_command.specs.Finding as finding
 use Rattle.fst_command.specs.Texts.{yes_text, no_text, undecided_text, refused_text, too_deep_text, too_large_text, too_long_text, usage_text, out_of_steps_text, valid_text}
@@ -177,6 +180,33 @@ pub record SaysOutcome (shown : List Family → Report → List ℕ) (events : B
   pub written : text ≡ outcome_text shown m.families.items outcome ++ lines
   pub ended : s ≡ outcome_status outcome
 
+-- ---- `run` with channels that hold events
+
+-- the text of what a buffered run comes to, for the module's data types
+abbrev pub buffered_outcome_text : List Family → BufferedOutcome → List ℕ
+buffered_outcome_text families (buffered_run.Done r unread) =
+    buffered_text families r unread.items
+buffered_outcome_text families buffered_run.OutOfSteps = out_of_steps_text
+
+-- its status
+abbrev pub buffered_outcome_status : BufferedOutcome → Status
+buffered_outcome_status (buffered_run.Done r unread) = waiting_status r.waiting.items
+buffered_outcome_status buffered_run.OutOfSteps = status.OutOfSteps
+
+-- this is what so many steps of the module's least buffered run come to, where channels hold up to so many events
+pub record IsBufferedOf (capacity steps : ℕ) (m : Module) (o : BufferedOutcome) : Type 0 where
+  pub main : CoreTree
+  pub body : main_body m.globals.items ≡ Some main
+  pub answer : IsBufferedAnswer m main capacity steps o
+
+-- this text and status are what they come to
+pub record SaysBuffered (capacity steps : ℕ) (m : Module) (text : List ℕ)
+    (s : Status) : Type 0 where
+  pub outcome : BufferedOutcome
+  pub is : IsBufferedOf capacity steps m outcome
+  pub written : text ≡ buffered_outcome_text m.families.items outcome
+  pub ended : s ≡ buffered_outcome_status outcome
+
 -- ---- all commands
 
 -- what is written of an input: that it is too long, or why it isn't what the command is for, or what the command makes of it
@@ -197,9 +227,8 @@ made_summary n families r = summary_text (length (made_text n)) r
 -- sets them, but for the report
 abbrev pub WritesMade : ℕ → List ℕ → List ℕ → Status → Type 0
 WritesMade n bytes text s =
-    WritesOf AreUnresolved (FindsModule
-    (SaysOutcome (made_summary n) false setting.steps.default)
-    setting.budget.default) (made_text n) text s
+    WritesOf AreUnresolved (FindsModule (SaysOutcome (made_summary n) false default_steps)
+    default_budget) (made_text n) text s
 
 -- what a command writes of an input
 abbrev pub Writes : Command → List ℕ → List ℕ → Status → Type 0
@@ -208,6 +237,8 @@ Writes show = WritesOf IsNoModule ShowsModule
 Writes (check budget) = WritesOf AreUnresolved (FindsModule SaysAccepted budget)
 Writes (run steps workers budget events) =
     WritesOf AreUnresolved (FindsModule (SaysOutcome report_text events steps) budget)
+Writes (buffered steps capacity budget) =
+    WritesOf AreUnresolved (FindsModule (SaysBuffered capacity steps) budget)
 Writes (make n) = WritesMade n
 Writes audit = WritesOf IsNoAudit AuditsCertificate
 

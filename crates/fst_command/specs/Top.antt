@@ -4,7 +4,7 @@ use Rattle.std.specs.Io.KnownBytes.{Consumes, IsAtEnd, Appends}
 use Rattle.fst_base.specs.Limits.{most_bytes}
 use Rattle.fst_command.specs.declared.status.Status.{Status}
 use Rattle.fst_command.specs.declared.status.Status.TheVariants as status
-use Rattle.fst_options.specs.Words.{Command, equiv, show, check, run, make, audit, IsCommand}
+use Rattle.fst_options.specs.Words.{Command, equiv, show, check, run, buffered, make, audit, IsCommand}
 use Rattle.fst_command.specs.Meanings.{Means}
 use Rattle.fst_command.specs.Output.{IsOutput}
 
@@ -14,6 +14,7 @@ reads_input (equiv budget proof) = true
 reads_input show = true
 reads_input (check budget) = true
 reads_input (run steps workers budget events) = true
+reads_input (buffered steps capacity budget) = true
 reads_input (make n) = false
 reads_input audit = true
 
@@ -37,6 +38,7 @@ ReadsFor (equiv budget proof) = ReadsInput
 ReadsFor show = ReadsInput
 ReadsFor (check budget) = ReadsInput
 ReadsFor (run steps workers budget events) = ReadsInput
+ReadsFor (buffered steps capacity budget) = ReadsInput
 ReadsFor (make n) = ReadsNothing
 ReadsFor audit = ReadsInput
 

@@ -13,9 +13,9 @@ use Rattle.fst_type_print.specs.Texts.{phrase_text}
 use Rattle.fst_scopes.specs.declared.fault.NameFault.{NameFault}
 use Rattle.fst_scopes.specs.declared.fault.NameFault.TheVariants as naming
 use Rattle.fst_runs.specs.declared.event.Stamped.{Stamped}
-use Rattle.fst_process.specs.declared.report.Outcome.{Outcome}
-use Rattle.fst_process.specs.declared.report.Outcome.TheVariants as outcome
-use Rattle.fst_process.specs.declared.report.Report.{Report}
+use Rattle.fst_vm.specs.declared.report.Outcome.{Outcome}
+use Rattle.fst_vm.specs.declared.report.Outcome.TheVariants as outcome
+use Rattle.fst_vm.specs.declared.report.Report.{Report}
 use Rattle.fst_worker.specs.declared.workers.Logged.{Logged}
 use Rattle.fst_worker.specs.declared.workers.Logged.TheVariants as logged
 use Rattle.fst_merge.specs.EventTexts.{events_text}

@@ -3,6 +3,7 @@
 
 mod answer;
 mod auditing;
+mod buffering;
 mod checks;
 mod finding;
 mod refusals;

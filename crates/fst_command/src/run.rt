@@ -12,10 +12,12 @@ ghost use Rattle.fst_command.specs.Top.{IsAnswer, IsAnswered, ReadsFor, WantInpu
 
 use crate::answer::{Answer, answer_equiv, answer_show, fixed};
 use crate::auditing::answer_audit;
+use crate::buffering::answer_buffered;
 use crate::checks::answer_check;
 use crate::running::{answer_make, answer_run};
 use crate::status::Status;
 use fst_base::MOST_BYTES;
+use fst_buffered::{least_law, safety_law as buffered_safety_law, sound_law as buffered_sound_law};
 use fst_equiv::one_answer;
 use fst_execution::sound_law;
 use fst_io::{Gate, ReadFault, Sink, Source, WriteFault, read_all, write_all};
@@ -42,6 +44,7 @@ fn reads_input(command: Command) -> bool
         Command::Show => true,
         Command::Check(_) => true,
         Command::Run(_) => true,
+        Command::Buffered(_) => true,
         Command::Make(_) => false,
         Command::Audit => true,
     }
@@ -86,6 +89,7 @@ fn answer_command<R: Threads + Sync, G: Gate + Sync>(
         Command::Show => answer_show(alloc, bytes),
         Command::Check(budget) => answer_check(alloc, bytes, budget),
         Command::Run(options) => answer_run(rt, alloc, bytes, options, gate),
+        Command::Buffered(options) => answer_buffered(alloc, bytes, options),
         Command::Make(n) => answer_make(rt, alloc, n, gate),
         Command::Audit => answer_audit(alloc, bytes),
     }
@@ -134,13 +138,14 @@ pub fn top<R: Threads + Sync, S: Source, K: Sink, G: Gate + Sync>(
     // just one side performs. Where `check` accepts, what was
     // read is a module that has derivations; and whatever happens in a run of it, in any order, no task meets a wrong message, a
     // wrong label or a spent end. So it is where `run` or `make` wrote a report or ran out of steps; and in a report each history
-    // is a trace of its channel's declared type, and the value of `main` is one of its type. Where one of these refuses its input,
-    // this stands for no module that has derivations.
+    // is a trace of its channel's declared type, and the value of `main` is one of its type. So it is too where channels hold events,
+    // and then what is taken at an end is what was put in at the other one, in its order and each once. Where one of these refuses
+    // its input, this stands for no module that has derivations.
     ensures answered { IsAnswer result → WasWritten (map string_bytes words.now)
         (S.left source.old) (S.left source.new) (K.taken sink.old) (K.taken sink.new) result }
 
     // Where what is left of the source is known, and stands for a module that has plain derivations within the limits, an answer of
-    // `check` is that the module is accepted, and one of `run` is what its steps come to.
+    // `check` is that the module is accepted, and one of `run` is what its steps come to, where channels hold events too.
     ensures complete { IsAnswer result →
         IsComplete (map string_bytes words.now) (S.left source.old) result }
 
@@ -177,8 +182,9 @@ pub fn top<R: Threads + Sync, S: Source, K: Sink, G: Gate + Sync>(
     }
 }
 
-/// Words and bytes have at most one output, whatever the number of workers: what is written is a function of what was read. The one choice
-/// that the definitions leave is which certificate `equiv` writes; this program's comes of the words and the bytes alone, too.
+/// Words and bytes have at most one output, whatever the number of workers and how much channels hold: what is written is a function
+/// of what was read. The one choice that the definitions leave is which certificate `equiv` writes; this program's comes of the words
+/// and the bytes alone, too.
 pub fn one_output()
     ensures { OneOutput }
 {
@@ -191,6 +197,7 @@ pub fn one_output()
     accepted_law();
     one_end_law();
     one_list_law();
+    least_law();
 }
 
 /// What `show` writes of a module it writes again, as far as its limits go.
@@ -220,10 +227,12 @@ pub fn meanings()
     one_module();
     safety_law();
     sound_law();
+    buffered_safety_law();
+    buffered_sound_law();
 }
 
 /// Of bytes that stand for a module which has plain derivations within the limits `check` says that the module is accepted, and
-/// `run` what its steps come to.
+/// `run` what its steps come to, where channels hold events too.
 pub fn completeness()
     ensures { AreComplete }
 {

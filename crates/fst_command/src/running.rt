@@ -190,8 +190,8 @@ fn run_soundly<R: Threads + Sync, G: Gate + Sync>(
     run_module(rt, alloc, m, options, gate)
 }
 
-// The status of a report in which these tasks wait.
-fn waiting_status(tasks: &[Waiting]) -> Status
+/// The status of a report in which these tasks wait.
+pub(crate) fn waiting_status(tasks: &[Waiting]) -> Status
     ensures status { result ≡ waiting_status tasks.now }
     ensures whole { IsAnswer result }
 {

@@ -12,10 +12,10 @@ use Rattle.fst_types.specs.declared.event.ChannelHistory.{ChannelHistory}
 use Rattle.fst_machine.specs.declared.code.Code.{Code}
 use Rattle.fst_machine.specs.Programs.{main_place}
 use Rattle.fst_vm.specs.Tasks.{IsFrom}
+use Rattle.fst_vm.specs.declared.report.Outcome.{Outcome}
+use Rattle.fst_vm.specs.declared.report.Report.{Report}
 use Rattle.fst_runs.specs.Configs.{Channel, Config, program, main_body, started}
 use Rattle.fst_runs.proofs.Laws.{least_runs}
-use Rattle.fst_process.specs.declared.report.Outcome.{Outcome}
-use Rattle.fst_process.specs.declared.report.Report.{Report}
 use Rattle.fst_process.specs.Reports.{IsAnswer, IsMainResult, IsReport}
 use Rattle.fst_process.specs.Runs.{CanRun, IsOutcome}
 use Rattle.fst_safety.specs.Safety.{IsSafe, IsSafeAt, main_type}

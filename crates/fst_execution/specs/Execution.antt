@@ -12,10 +12,10 @@ use Rattle.fst_types.specs.declared.event.ChannelHistory.{ChannelHistory}
 use Rattle.fst_machine.specs.Values.{Value}
 use Rattle.fst_machine.specs.declared.code.Code.{Code}
 use Rattle.fst_vm.specs.Tasks.{IsFrom}
+use Rattle.fst_vm.specs.declared.report.Outcome.{Outcome}
+use Rattle.fst_vm.specs.declared.report.Outcome.TheVariants.{Done}
+use Rattle.fst_vm.specs.declared.report.Report.{Report}
 use Rattle.fst_runs.specs.Configs.{main_body}
-use Rattle.fst_process.specs.declared.report.Outcome.{Outcome}
-use Rattle.fst_process.specs.declared.report.Outcome.TheVariants.{Done}
-use Rattle.fst_process.specs.declared.report.Report.{Report}
 use Rattle.fst_process.specs.Reports.{IsAlike, IsAnswer}
 use Rattle.fst_safety.specs.Safety.{HasMainType, IsSafe}
 use Rattle.fst_safety.specs.Tasks.{CanBegin}

@@ -3,11 +3,11 @@ use Rattle.std.proofs.Common.{◌≡◌, ℕ, suc, ◌+◌, ◌≤◌, Bool, tru
 use Rattle.std.proofs.lemmas.List.Sums.{sum_by-cons}
 use Rattle.std.specs.Prelude.{unwrap_or, sum_by, if◌then◌else◌}
 use Rattle.std.specs.Map.{lookup, KeepsOthers}
+use Rattle.fst_paths.specs.Paths.{at_path, same_key}
+use Rattle.fst_paths.proofs.Laws.{found_after}
 use Rattle.fst_runs.specs.Configs.{Path, same_path}
 use Rattle.fst_runs.specs.Wrong.{once}
 use Rattle.fst_runs.proofs.Laws.{same_path-same}
-use Rattle.fst_process.specs.KeptOf.{at_path}
-use Rattle.fst_process.proofs.Laws.{found_after, same_key}
 use Rattle.fst_merge.specs.Counts.{Counts, counted, IsCounted}
 
 -- where a map has one more at a path, and the same at all others, one more is counted there

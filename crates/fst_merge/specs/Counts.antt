@@ -3,11 +3,11 @@ use Rattle.std.specs.Prelude.{◌≡◌, ℕ, ◌+◌, ◌<◌, List, ◌∷◌,
 use Rattle.std.specs.Map.{lookup}
 use Rattle.std.specs.declared.alloc.Global.{Global}
 use Rattle.std.specs.declared.vec.Vec.{Vec}
+use Rattle.fst_paths.specs.Paths.{at_path}
 use Rattle.fst_runs.specs.declared.event.CoreEvent.{CoreEvent}
 use Rattle.fst_runs.specs.declared.event.Stamped.{Stamped}
 use Rattle.fst_runs.specs.Configs.{Path, same_path}
 use Rattle.fst_runs.specs.Wrong.{once}
-use Rattle.fst_process.specs.KeptOf.{at_path}
 use Rattle.fst_merge.specs.EventTexts.{made_in, forked_in, event_text, event_line}
 use Rattle.fst_merge.specs.declared.texts.Made.{Made}
 

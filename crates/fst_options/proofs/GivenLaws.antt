@@ -1,13 +1,14 @@
 -- What words give.
 use Rattle.std.proofs.Common.{◌≡◌, ◌∙◌, ◌⊎◌, inl, inr, ℕ, zero, suc, ◌≤◌, List, [], ◌∷◌, length, map, Bool, false, Option, Some, None, refl, sym, ap, subst, arith}
 use Rattle.std.specs.Prelude.{◌==◌, MatchOption}
+use Rattle.std.specs.Option.{unwrap_or}
 use Rattle.std.proofs.lemmas.Bool.Decides.{nat_tests}
 use Rattle.fst_options.specs.declared.given.Given.{Given}
 use Rattle.fst_options.specs.declared.settings.Setting.{Setting as Set}
-use Rattle.fst_options.specs.declared.settings.Setting.TheVariants.{Budget, Steps, Workers}
+use Rattle.fst_options.specs.declared.settings.Setting.TheVariants.{Budget, Buffer, Steps, Workers}
 use Rattle.fst_options.specs.declared.settings.Flag.{Flag}
 use Rattle.fst_options.specs.declared.settings.Flag.TheVariants.{Events, Proof}
-use Rattle.fst_options.specs.Words.{Setting, budget, steps, workers, setting_of, name_of, Sets, value_in, give, give_flag, none_given, GivesOne, value, flag, Give, value_or}
+use Rattle.fst_options.specs.Words.{setting_of, name_of, Sets, value_in, give, give_flag, none_given, GivesOne, value, flag, Give}
 use Rattle.fst_options.proofs.SettingLaws.{one_flag, one_set, one_setting, no_value_set, none_set}
 
 -- ---- one giving
@@ -86,13 +87,20 @@ AreWithin g = (o : Set) (n : ℕ) → value_in g o ≡ Some n → ((setting_of o
 -- a value is the one given last, or it was there
 value_given : (g : Given) (o q : Set) (n m : ℕ) → value_in (give g o n) q ≡ Some m → ((q ≡ o) × (n ≡ m)) ⊎ (value_in g q ≡ Some m)
 value_given g Budget Budget n m e = inl (refl, cc e)
+value_given g Buffer Buffer n m e = inl (refl, cc e)
 value_given g Steps Steps n m e = inl (refl, cc e)
 value_given g Workers Workers n m e = inl (refl, cc e)
+value_given g Budget Buffer n m e = inr e
 value_given g Budget Steps n m e = inr e
 value_given g Budget Workers n m e = inr e
+value_given g Buffer Budget n m e = inr e
+value_given g Buffer Steps n m e = inr e
+value_given g Buffer Workers n m e = inr e
 value_given g Steps Budget n m e = inr e
+value_given g Steps Buffer n m e = inr e
 value_given g Steps Workers n m e = inr e
 value_given g Workers Budget n m e = inr e
+value_given g Workers Buffer n m e = inr e
 value_given g Workers Steps n m e = inr e
 
 one_within : (before : Given) (ws : List (List ℕ)) (next : Given) (rest : List (List ℕ)) → AreWithin before →
@@ -109,9 +117,11 @@ one_within before ws next rest all (flag f i first g) o m e =
   where
     same : (f : Flag) (o : Set) → value_in (give_flag before f) o ≡ value_in before o
     same Events Budget = refl
+    same Events Buffer = refl
     same Events Steps = refl
     same Events Workers = refl
     same Proof Budget = refl
+    same Proof Buffer = refl
     same Proof Steps = refl
     same Proof Workers = refl
 
@@ -123,24 +133,21 @@ all_within (suc k) before ws after all (next, rest, g, more) =
 
 none_within : AreWithin none_given
 none_within Budget n e = absurd (cc e)
+none_within Buffer n e = absurd (cc e)
 none_within Steps n e = absurd (cc e)
 none_within Workers n e = absurd (cc e)
 
--- and so is what an option is
-or_within : (o : Setting) (v : Option ℕ) (n : ℕ) → n ≡ value_or o v →
-    ((m : ℕ) → v ≡ Some m → (o.least ≤ m) × (m ≤ o.most)) → o.least ≤ o.default → o.default ≤ o.most → (o.least ≤ n) ×
-    (n ≤ o.most)
-or_within o None n is all low high = (subst (λ k. o.least ≤ k) (sym is) low, subst (λ k. k ≤ o.most) (sym is) high)
-or_within o (Some m) n is all low high =
-    let in_range = all m refl in
-    (subst (λ k. o.least ≤ k) (sym is) in_range.0, subst (λ k. k ≤ o.most) (sym is) in_range.1)
-
 -- so what words give is in its range
 pub given_within : (o : Set) (k : ℕ) (ws : List (List ℕ)) (g : Given) (n : ℕ) → Give k none_given ws g →
-    n ≡ value_or (setting_of o) (value_in g o) → ((setting_of o).least ≤ n) × (n ≤ (setting_of o).most)
-given_within Budget k ws g n p is =
-    or_within budget g.budget n is (all_within k none_given ws g none_within p Budget) (omega arith) (omega arith)
-given_within Steps k ws g n p is =
-    or_within steps g.steps n is (all_within k none_given ws g none_within p Steps) (omega arith) (omega arith)
-given_within Workers k ws g n p is =
-    or_within workers g.workers n is (all_within k none_given ws g none_within p Workers) (omega arith) (omega arith)
+    value_in g o ≡ Some n → ((setting_of o).least ≤ n) × (n ≤ (setting_of o).most)
+given_within o k ws g n p is = all_within k none_given ws g none_within p o n is
+
+-- and with a default that is, so is what they come to
+pub or_within : (o : Set) (k : ℕ) (ws : List (List ℕ)) (g : Given) (n default : ℕ) → Give k none_given ws g →
+    n ≡ unwrap_or (value_in g o) default → (setting_of o).least ≤ default → default ≤ (setting_of o).most →
+    ((setting_of o).least ≤ n) × (n ≤ (setting_of o).most)
+or_within o k ws g n default p is low high = by (value_in g o) refl is
+  where
+    by : (v : Option ℕ) → value_in g o ≡ v → n ≡ unwrap_or v default → ((setting_of o).least ≤ n) × (n ≤ (setting_of o).most)
+    by None none e = (subst (λ k. (setting_of o).least ≤ k) (sym e) low, subst (λ k. k ≤ (setting_of o).most) (sym e) high)
+    by (Some m) some e = given_within o k ws g n p (some ∙ ap Some (sym e))

@@ -8,10 +8,10 @@ use Rattle.std.specs.Str.Parse.{ParsesUnsigned, digits_value}
 use Rattle.std.proofs.lemmas.List.{append-nil, append_cancel_left}
 use Rattle.std.proofs.lemmas.Str.Parse.{IsNumeralModel, numerals_by_value, parse_gives, digits_value_short}
 use Rattle.fst_options.specs.declared.settings.Setting.{Setting as Set}
-use Rattle.fst_options.specs.declared.settings.Setting.TheVariants.{Budget, Steps, Workers}
+use Rattle.fst_options.specs.declared.settings.Setting.TheVariants.{Budget, Buffer, Steps, Workers}
 use Rattle.fst_options.specs.declared.settings.Flag.{Flag}
 use Rattle.fst_options.specs.declared.settings.Flag.TheVariants.{Events, Proof}
-use Rattle.fst_options.specs.Words.{Setting, budget, steps, workers, setting_of, name_of, Begins, Sets, IsOneNumber}
+use Rattle.fst_options.specs.Words.{Setting, budget, buffer, steps, workers, setting_of, name_of, Begins, Sets, IsOneNumber}
 
 own : IsNumeralModel (λ ds. list_all is_ascii_digit ds ≡ true) (digits_value 10)
 own = numerals_by_value _ (search rules)
@@ -75,31 +75,39 @@ begin_name : (name : List ℕ) (w : List ℕ) (ws : List (List ℕ)) (digits : L
 begin_name name w ws digits rest (inl p) = (codes "=" ++ digits, p.0 ∙ append_assoc name (codes "=") digits)
 begin_name name w ws digits rest (inr p) = ([], p.0 ∙ sym (append-nil name))
 
--- the third byte of a text
-abbrev third : List ℕ → ℕ
-third (a ∷ b ∷ c ∷ cs) = c
-third cs = 0
+-- the sixth byte of a text
+abbrev sixth : List ℕ → ℕ
+sixth (a ∷ b ∷ c ∷ d ∷ e ∷ f ∷ cs) = f
+sixth cs = 0
 
 -- that of an option's name
 abbrev mark_of : Set → ℕ
-mark_of o = third (setting_of o).name
+mark_of o = sixth (setting_of o).name
 
 -- the text in front of words that begin with an option has its mark
 begin_mark : (o : Set) (w : List ℕ) (ws : List (List ℕ)) (n : ℕ) (rest : List (List ℕ)) → Sets (setting_of o) (w ∷ ws) n rest →
-    third w ≡ mark_of o
-begin_mark Budget w ws n rest p = ap third (begin_name budget.name w ws p.digits rest p.begins).1
-begin_mark Steps w ws n rest p = ap third (begin_name steps.name w ws p.digits rest p.begins).1
-begin_mark Workers w ws n rest p = ap third (begin_name workers.name w ws p.digits rest p.begins).1
+    sixth w ≡ mark_of o
+begin_mark Budget w ws n rest p = ap sixth (begin_name budget.name w ws p.digits rest p.begins).1
+begin_mark Buffer w ws n rest p = ap sixth (begin_name buffer.name w ws p.digits rest p.begins).1
+begin_mark Steps w ws n rest p = ap sixth (begin_name steps.name w ws p.digits rest p.begins).1
+begin_mark Workers w ws n rest p = ap sixth (begin_name workers.name w ws p.digits rest p.begins).1
 
 same_mark_of : (o q : Set) → mark_of o ≡ mark_of q → o ≡ q
 same_mark_of Budget Budget e = refl
+same_mark_of Buffer Buffer e = refl
 same_mark_of Steps Steps e = refl
 same_mark_of Workers Workers e = refl
+same_mark_of Budget Buffer e = absurd (omega (arith, e))
 same_mark_of Budget Steps e = absurd (omega (arith, e))
 same_mark_of Budget Workers e = absurd (omega (arith, e))
+same_mark_of Buffer Budget e = absurd (omega (arith, e))
+same_mark_of Buffer Steps e = absurd (omega (arith, e))
+same_mark_of Buffer Workers e = absurd (omega (arith, e))
 same_mark_of Steps Budget e = absurd (omega (arith, e))
+same_mark_of Steps Buffer e = absurd (omega (arith, e))
 same_mark_of Steps Workers e = absurd (omega (arith, e))
 same_mark_of Workers Budget e = absurd (omega (arith, e))
+same_mark_of Workers Buffer e = absurd (omega (arith, e))
 same_mark_of Workers Steps e = absurd (omega (arith, e))
 
 -- words begin by setting one option
@@ -110,7 +118,7 @@ one_set (w ∷ ws) o q m n rest others p r = same_mark_of o q (sym (begin_mark o
 
 -- the mark of a flag
 abbrev flag_mark : Flag → ℕ
-flag_mark f = third (name_of f)
+flag_mark f = sixth (name_of f)
 
 same_flag_mark : (f g : Flag) → flag_mark f ≡ flag_mark g → f ≡ g
 same_flag_mark Events Events e = refl
@@ -123,7 +131,7 @@ pub one_flag : (ws : List (List ℕ)) (f g : Flag) (rest others : List (List ℕ
     (f ≡ g) × (rest ≡ others)
 one_flag ws f g rest others p q =
     let same : name_of f ∷ rest ≡ name_of g ∷ others = sym p ∙ q in
-    (same_flag_mark f g (ap (λ us. third (front us)) same), cc)
+    (same_flag_mark f g (ap (λ us. sixth (front us)) same), cc)
 
 -- and no value is set by them
 pub no_value_set : (ws : List (List ℕ)) (f : Flag) (rest : List (List ℕ)) → ws ≡ name_of f ∷ rest → (o : Set) (n : ℕ)
@@ -133,20 +141,24 @@ no_value_set ws f rest e o n others p =
   where
     by : (f : Flag) (o : Set) → flag_mark f ≡ mark_of o → ⊥
     by Events Budget q = absurd (omega (arith, q))
+    by Events Buffer q = absurd (omega (arith, q))
     by Events Steps q = absurd (omega (arith, q))
     by Events Workers q = absurd (omega (arith, q))
     by Proof Budget q = absurd (omega (arith, q))
+    by Proof Buffer q = absurd (omega (arith, q))
     by Proof Steps q = absurd (omega (arith, q))
     by Proof Workers q = absurd (omega (arith, q))
 
--- words that set no budget, no steps and no workers set nothing
+-- words that set no budget, no steps, no workers and no buffer set nothing
 pub sets_none : (ws : List (List ℕ)) → ((n : ℕ) (rest : List (List ℕ)) → Sets budget ws n rest → ⊥) →
     ((n : ℕ) (rest : List (List ℕ)) → Sets steps ws n rest → ⊥) →
     ((n : ℕ) (rest : List (List ℕ)) → Sets workers ws n rest → ⊥) →
+    ((n : ℕ) (rest : List (List ℕ)) → Sets buffer ws n rest → ⊥) →
     (o : Set) (n : ℕ) (rest : List (List ℕ)) → Sets (setting_of o) ws n rest → ⊥
-sets_none ws no_budget no_steps no_workers Budget n rest p = no_budget n rest p
-sets_none ws no_budget no_steps no_workers Steps n rest p = no_steps n rest p
-sets_none ws no_budget no_steps no_workers Workers n rest p = no_workers n rest p
+sets_none ws no_budget no_steps no_workers no_buffer Budget n rest p = no_budget n rest p
+sets_none ws no_budget no_steps no_workers no_buffer Buffer n rest p = no_buffer n rest p
+sets_none ws no_budget no_steps no_workers no_buffer Steps n rest p = no_steps n rest p
+sets_none ws no_budget no_steps no_workers no_buffer Workers n rest p = no_workers n rest p
 
 -- ---- one number
 

@@ -1,8 +1,8 @@
-ghost use Rattle.std.specs.Prelude.{◌≡◌, ◌∷◌, ℕ, List, MatchOption, map, string_bytes};
+ghost use Rattle.std.specs.Prelude.{◌≡◌, ◌∷◌, ℕ, List, MatchOption, false, map, string_bytes, true};
 ghost use Rattle.fst_options.specs.declared.given.Given.{Given as Gives};
 ghost use Rattle.fst_options.specs.declared.settings.Flag.{Flag as Asked};
 ghost use Rattle.fst_options.specs.declared.settings.Setting.{Setting as Set};
-ghost use Rattle.fst_options.specs.Words.{Give, GivesOne, Sets, give, give_flag, has_flag, name_of, none_given, setting_of, value_in, value_or};
+ghost use Rattle.fst_options.specs.Words.{Give, GivesOne, Sets, give, give_flag, has_flag, name_of, none_given, setting_of, value_in};
 
 use crate::settings::{Flag, Setting, sets};
 
@@ -12,6 +12,7 @@ pub(crate) struct Given {
     pub(crate) steps: Option<u32>,
     pub(crate) workers: Option<u32>,
     pub(crate) budget: Option<u32>,
+    pub(crate) buffer: Option<u32>,
     pub(crate) events: bool,
     pub(crate) proof: bool,
 }
@@ -24,6 +25,7 @@ impl Given {
             steps: None,
             workers: None,
             budget: None,
+            buffer: None,
             events: false,
             proof: false,
         }
@@ -35,6 +37,7 @@ impl Given {
     {
         match setting {
             Setting::Budget => self.budget,
+            Setting::Buffer => self.buffer,
             Setting::Steps => self.steps,
             Setting::Workers => self.workers,
         }
@@ -49,6 +52,10 @@ impl Given {
                 budget: Some(n),
                 ..self
             },
+            Setting::Buffer => Given {
+                buffer: Some(n),
+                ..self
+            },
             Setting::Steps => Given {
                 steps: Some(n),
                 ..self
@@ -60,14 +67,14 @@ impl Given {
         }
     }
 
-    // The value of an option, or its default where none is given.
-    pub(crate) fn number(self, setting: Setting) -> u32
-        ensures { result ≡ value_or (setting_of setting) (value_in self setting) }
+    // Whether a value is given that only runs have.
+    pub(crate) fn sets_run(self) -> bool
+        ensures unset { result ≡ false →
+            (self.steps ≡ None) × (self.workers ≡ None) × (self.buffer ≡ None) }
+        ensures set { result ≡ true →
+            self.steps ≡ None → self.workers ≡ None → self.buffer ≡ None → ⊥ }
     {
-        match self.value(setting) {
-            Some(n) => n,
-            None => setting.default(),
-        }
+        self.steps.is_some() || self.workers.is_some() || self.buffer.is_some()
     }
 
     // Whether a flag is given.
@@ -122,6 +129,9 @@ fn next<'a>(words: &'a [String]) -> Option<(Setting, u32, &'a [String])>
     }
     if let Some((n, rest)) = sets(Setting::Workers, words) {
         return Some((Setting::Workers, n, rest));
+    }
+    if let Some((n, rest)) = sets(Setting::Buffer, words) {
+        return Some((Setting::Buffer, n, rest));
     }
     match sets(Setting::Budget, words) {
         Some((n, rest)) => Some((Setting::Budget, n, rest)),

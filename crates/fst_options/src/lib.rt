@@ -6,4 +6,4 @@ mod settings;
 mod words;
 
 pub use settings::{DEFAULT_BUDGET, DEFAULT_STEPS, DEFAULT_WORKERS};
-pub use words::{Command, EquivOptions, RunOptions, parse};
+pub use words::{BufferOptions, Command, EquivOptions, RunOptions, parse};

@@ -20,6 +20,8 @@ const MAX_DIGITS: usize = 9;
 pub(crate) enum Setting {
     /// How many pairs a question may have.
     Budget,
+    /// How many events a channel holds at most.
+    Buffer,
     /// How many events a run may have.
     Steps,
     /// How many workers move the tasks of a run.
@@ -32,6 +34,7 @@ impl Setting {
     {
         match self {
             Setting::Budget => "--budget",
+            Setting::Buffer => "--buffer",
             Setting::Steps => "--steps",
             Setting::Workers => "--workers",
         }
@@ -43,19 +46,9 @@ impl Setting {
     {
         match self {
             Setting::Budget => (1, 10_000),
+            Setting::Buffer => (1, 64),
             Setting::Steps => (0, 2_000_000),
             Setting::Workers => (1, 8),
-        }
-    }
-
-    // The value where no word sets it.
-    pub(crate) fn default(self) -> u32
-        ensures { result ≡ (setting_of self).default }
-    {
-        match self {
-            Setting::Budget => DEFAULT_BUDGET,
-            Setting::Steps => DEFAULT_STEPS,
-            Setting::Workers => DEFAULT_WORKERS,
         }
     }
 }

@@ -1,9 +1,9 @@
-ghost use Rattle.std.specs.Prelude.{◌≡◌, [], ℕ, Bool, MatchOption, map, string_bytes};
-ghost use Rattle.fst_options.specs.Words.{AreCheckOptions, AreEquivOptions, AreRunOptions, IsCommand, NoCommand};
+ghost use Rattle.std.specs.Prelude.{◌≡◌, ◌∷◌, [], ℕ, Bool, MatchOption, codes, map, string_bytes};
+ghost use Rattle.fst_options.specs.Words.{AreCheckOptions, AreEquivOptions, IsCommand, NoCommand};
 ghost use Rattle.fst_options.specs.Views.{command_of};
 
 use crate::given::{behind, given_by};
-use crate::settings::{Setting, one_number};
+use crate::settings::{DEFAULT_BUDGET, DEFAULT_STEPS, DEFAULT_WORKERS, one_number};
 use fst_base::MOST_MADE;
 
 /// What a question is asked for.
@@ -28,6 +28,17 @@ pub struct RunOptions {
     pub events: bool,
 }
 
+/// What a run with channels that hold events is asked for.
+#[derive(Clone, Copy, Debug)]
+pub struct BufferOptions {
+    /// How many events it may have.
+    pub steps: u32,
+    /// How many events a channel holds at most, from 1 to 64.
+    pub capacity: u32,
+    /// How many pairs a question may have.
+    pub budget: u32,
+}
+
 /// A command with its options.
 #[derive(Clone, Copy, Debug)]
 pub enum Command {
@@ -39,6 +50,8 @@ pub enum Command {
     Check(u32),
     /// What so many steps of a module that is well typed come to on so many workers, within a budget of pairs.
     Run(RunOptions),
+    /// What so many steps of it come to with channels that hold up to so many events, within a budget of pairs.
+    Buffered(BufferOptions),
     /// In brief, what the made module of so many channels comes to.
     Make(u32),
     /// Whether a certificate shows that its two types are equivalent.
@@ -54,12 +67,11 @@ fn equiv_options(words: &[String]) -> Option<EquivOptions>
     let Some(given) = given_by(words) else {
         return None;
     };
-    if given.steps.is_some() || given.workers.is_some() || given.events {
+    if given.sets_run() || given.events {
         return None;
     }
-    let budget = given.number(Setting::Budget);
     Some(EquivOptions {
-        budget,
+        budget: given.budget.unwrap_or(DEFAULT_BUDGET),
         proof: given.proof,
     })
 }
@@ -73,17 +85,17 @@ fn check_options(words: &[String]) -> Option<u32>
     let Some(given) = given_by(words) else {
         return None;
     };
-    if given.steps.is_some() || given.workers.is_some() || given.events || given.proof {
+    if given.sets_run() || given.events || given.proof {
         return None;
     }
-    Some(given.number(Setting::Budget))
+    Some(given.budget.unwrap_or(DEFAULT_BUDGET))
 }
 
-// The steps, the workers and the budget that the words set, and whether they ask for events.
-fn run_options(words: &[String]) -> Option<RunOptions>
+// The run that the words ask for: with channels that hold events, where they set how many.
+fn run_command(words: &[String]) -> Option<Command>
     ensures { MatchOption result
-        ((s w b : ℕ) (e : Bool) → AreRunOptions (map string_bytes words.now) s w b e → ⊥)
-        (λ o. AreRunOptions (map string_bytes words.now) o.steps o.workers o.budget o.events) }
+        (NoCommand (codes "run" ∷ map string_bytes words.now))
+        (λ c. IsCommand (codes "run" ∷ map string_bytes words.now) (command_of c)) }
 {
     let Some(given) = given_by(words) else {
         return None;
@@ -91,12 +103,24 @@ fn run_options(words: &[String]) -> Option<RunOptions>
     if given.proof {
         return None;
     }
-    Some(RunOptions {
-        steps: given.number(Setting::Steps),
-        workers: given.number(Setting::Workers),
-        budget: given.number(Setting::Budget),
-        events: given.events,
-    })
+    let steps = given.steps.unwrap_or(DEFAULT_STEPS);
+    let budget = given.budget.unwrap_or(DEFAULT_BUDGET);
+    let Some(capacity) = given.buffer else {
+        return Some(Command::Run(RunOptions {
+            steps,
+            workers: given.workers.unwrap_or(DEFAULT_WORKERS),
+            budget,
+            events: given.events,
+        }));
+    };
+    if given.workers.is_some() || given.events {
+        return None;
+    }
+    Some(Command::Buffered(BufferOptions {
+        steps,
+        capacity,
+        budget,
+    }))
 }
 
 // The command, where no words are behind it.
@@ -137,10 +161,7 @@ pub fn parse(words: &[String]) -> Option<Command>
         };
     }
     if let Some(rest) = behind("run", words) {
-        return match run_options(rest) {
-            Some(options) => Some(Command::Run(options)),
-            None => None,
-        };
+        return run_command(rest);
     }
     let Some(rest) = behind("make", words) else {
         return None;

@@ -2,7 +2,7 @@
 use Rattle.std.proofs.Common.{◌≡◌, ◌∙◌, inl, inr, ◌<◌, ◌≤◌, ◌+◌, ℕ, zero, suc, true, false, Option, Some, None, length, refl, sym, ap, subst, arith}
 use Rattle.std.specs.Prelude.{option_map, option_and_then}
 use Rattle.std.proofs.Math.Logic.{∥∥₁_map}
-use Rattle.std.proofs.lemmas.Bool.{true≢false, false≢true}
+use Rattle.std.proofs.lemmas.Bool.{true≢false}
 use Rattle.fst_base.proofs.Options.{some_same, none_some}
 use Rattle.fst_machine.specs.declared.code.Code.{Code}
 use Rattle.fst_machine.specs.declared.request.Request.{Request}
@@ -12,23 +12,16 @@ use Rattle.fst_vm.specs.Tasks.{Takes, GoesOn}
 use Rattle.fst_runs.specs.declared.event.CoreEvent.{CoreEvent}
 use Rattle.fst_runs.specs.declared.event.CoreEvent.TheVariants.{Local, New, Fork, Meet}
 use Rattle.fst_runs.specs.Configs.{Path}
-use Rattle.fst_process.specs.Kept.{Slot, Kept, is_step, partner, put_at, without, noted, settled_at}
-use Rattle.fst_process.specs.Firing.{CanStep, CanStepOn, Happens, HasStepped, MovesOn, StepsOn}
+use Rattle.fst_vm.specs.Slot.{Slot}
+use Rattle.fst_paths.specs.Paths.{put_at}
+use Rattle.fst_process.specs.Kept.{Kept, partner, without, noted, settled_at}
+use Rattle.fst_vm.specs.Going.{CanStep, CanStepOn, MovesOn, StepsOn}
+use Rattle.fst_process.specs.Firing.{Happens, HasStepped}
 use Rattle.fst_process.specs.Nexts.{IsFirst, IsNext, event_with}
 use Rattle.fst_process.specs.Runs.{CanRunFrom, RunsTo}
-use Rattle.fst_process.proofs.Places.{put_here, put_cases}
-use Rattle.fst_process.proofs.Noting.{put_twice, put_back}
+use Rattle.fst_paths.proofs.Laws.{put_here, put_cases, put_twice, put_back}
 use Rattle.fst_process.proofs.FireLocal.{local_can, local_happens}
 use Rattle.fst_process.proofs.Running.{kept_first, possible_next, kept_next}
-
--- what is a step is asked for so
-pub asks_step : (r : Request) → is_step r ≡ true → r ≡ request.Step
-asks_step request.Step e = refl
-asks_step (request.New n) e = absurd (false≢true e)
-asks_step request.Fork e = absurd (false≢true e)
-asks_step (request.Put x ev) e = absurd (false≢true e)
-asks_step (request.Get x) e = absurd (false≢true e)
-asks_step request.Ended e = absurd (false≢true e)
 
 -- the first task that can move asks to step
 pub record StepsFirst (d : Kept) (p : Path) : Type 0 where

@@ -11,9 +11,12 @@ use Rattle.fst_machine.specs.declared.request.Request.{Request}
 use Rattle.fst_machine.specs.declared.request.Request.TheVariants.{Step, New, Fork, Put, Get, Ended}
 use Rattle.fst_runs.specs.Configs.{Path, same_path}
 use Rattle.fst_runs.proofs.Laws.{same_path-same}
-use Rattle.fst_process.specs.Kept.{Slot, Channel, Kept, asker_at, asker, partner, end_of, put_at, without, changed, marked, marked_both, able, asking, noted, settled_at, passed}
+use Rattle.fst_vm.specs.Slot.{Slot}
+use Rattle.fst_paths.specs.Paths.{put_at}
+use Rattle.fst_process.specs.Kept.{Channel, Kept, asker_at, asker, partner, end_of, without, changed, marked, marked_both, able, asking, noted, settled_at, passed}
 use Rattle.fst_process.proofs.PathLaws.{apart_channels}
-use Rattle.fst_process.proofs.Places.{put_cases, channel_cases}
+use Rattle.fst_paths.proofs.Laws.{put_cases}
+use Rattle.fst_process.proofs.Places.{channel_cases}
 use Rattle.fst_process.proofs.KeptLaws.{noted_tasks}
 
 -- what is put at two paths is put in either order

@@ -10,7 +10,8 @@ use Rattle.fst_machine.specs.Machine.{begins}
 use Rattle.fst_vm.specs.Tasks.{IsFrom}
 use Rattle.fst_runs.specs.Configs as runs
 use Rattle.fst_runs.specs.Configs.{Path, Config, Task, main_path, new_task, started, channel_name}
-use Rattle.fst_process.specs.Kept.{Slot, Kept, nothing, settled}
+use Rattle.fst_vm.specs.Slot.{Slot}
+use Rattle.fst_process.specs.Kept.{Kept, nothing, settled}
 use Rattle.fst_process.specs.Reflects.{Reflects, bare}
 use Rattle.fst_process.proofs.Fewer.{Fine}
 use Rattle.fst_process.proofs.Going.{IsOf, comes_in}

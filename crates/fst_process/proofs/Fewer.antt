@@ -12,7 +12,7 @@ use Rattle.fst_machine.specs.Machine.{State, answered}
 use Rattle.fst_runs.specs.Configs.{Path, Config, Task, Channel, other, program}
 use Rattle.fst_runs.specs.Events.{Asks}
 use Rattle.fst_runs.specs.Wrong.{end_of}
-use Rattle.fst_process.proofs.Places.{put_cases}
+use Rattle.fst_paths.proofs.Laws.{put_cases}
 use Rattle.fst_process.proofs.Taking.{show}
 
 -- tasks that ask at ends fit: one asks at an end, of a channel that is there, and two at both ends of a channel can meet

@@ -14,7 +14,8 @@ use Rattle.fst_runs.specs.Events.{Write, Does, written, has_forked}
 use Rattle.fst_runs.specs.Names.{HasParents}
 use Rattle.fst_runs.specs.Wrong.{IsRight}
 use Rattle.fst_runs.proofs.Laws.{fork_free, with_task, fork_puts, put_there, stays_there, stays_free}
-use Rattle.fst_process.specs.Kept.{Slot, Kept, is_live, without, settled}
+use Rattle.fst_vm.specs.Slot.{Slot, is_live}
+use Rattle.fst_process.specs.Kept.{Kept, without, settled}
 use Rattle.fst_process.specs.Reflects.{IsTask, Reflects}
 use Rattle.fst_process.specs.Firing.{IsPossible, Happens, Settles, CanGoOn, HasGoneOn}
 use Rattle.fst_process.proofs.Moving.{moves_ready}

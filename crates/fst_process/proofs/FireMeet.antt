@@ -17,7 +17,8 @@ use Rattle.fst_runs.specs.Configs.{Path, Config, Task, other, program}
 use Rattle.fst_runs.specs.Events.{Write, Does, written, meeting_stamp, extended, has_met, passed as passed_entry}
 use Rattle.fst_runs.specs.Wrong.{IsRight}
 use Rattle.fst_runs.proofs.Laws.{asks_apart, with_task, with_channel, meet_puts, put_there, stays_apart}
-use Rattle.fst_process.specs.Kept.{Slot, Channel, Kept, is_live, end_of, partner, without, changed, passed, settled_at, settled}
+use Rattle.fst_vm.specs.Slot.{Slot, is_live}
+use Rattle.fst_process.specs.Kept.{Channel, Kept, end_of, partner, without, changed, passed, settled_at, settled}
 use Rattle.fst_process.specs.Reflects.{IsTask, Reflects}
 use Rattle.fst_process.specs.Firing.{IsPossible, Happens, CanGoOn, HasGoneOn}
 use Rattle.fst_process.proofs.Apart.{settled_apart, asks_elsewhere, rest_there, rest_ready}

@@ -15,7 +15,8 @@ use Rattle.fst_runs.specs.Configs.{Path, Config, channel_name, program}
 use Rattle.fst_runs.specs.Events.{Write, Does, written, has_made}
 use Rattle.fst_runs.specs.Wrong.{IsRight}
 use Rattle.fst_runs.proofs.Laws.{new_free, with_channel, new_puts, put_there}
-use Rattle.fst_process.specs.Kept.{Slot, Kept, without, opened, settled}
+use Rattle.fst_vm.specs.Slot.{Slot}
+use Rattle.fst_process.specs.Kept.{Kept, without, opened, settled}
 use Rattle.fst_process.specs.Reflects.{IsTask, Reflects}
 use Rattle.fst_process.specs.Firing.{IsPossible, Happens, CanGoOn, HasGoneOn}
 use Rattle.fst_process.proofs.Moving.{moves_ready}

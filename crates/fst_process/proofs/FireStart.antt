@@ -1,7 +1,6 @@
 -- A run begins.
 use Rattle.std.proofs.Common.{◌≡◌, ◌∙◌, zero, [], Some, None, sym, ap, subst}
-use Rattle.std.specs.Prelude.{length, if◌then◌else◌}
-use Rattle.std.specs.List.{list_any}
+use Rattle.std.specs.Prelude.{length, option_map, if◌then◌else◌}
 use Rattle.fst_terms.specs.CoreTree.{CoreTree}
 use Rattle.fst_terms.specs.declared.core_module.Module.{Module}
 use Rattle.fst_machine.specs.declared.code.Code.{Code}
@@ -13,23 +12,26 @@ use Rattle.fst_runs.specs.Wrong.{IsRight}
 use Rattle.fst_runs.proofs.Laws.{same_path-itself}
 use Rattle.fst_process.specs.declared.config.Config.{Config}
 use Rattle.fst_process.specs.Kept.{Kept, nothing, settled}
-use Rattle.fst_process.specs.KeptOf.{at_path, tasks_in, made_in, numbered, kept_of}
+use Rattle.fst_paths.specs.Paths.{has_path}
+use Rattle.fst_paths.specs.ChannelLists.{many_in, named_in}
+use Rattle.fst_vm.specs.SlotOf.{tasks_by_path}
+use Rattle.fst_process.specs.KeptOf.{channel_of, kept_of}
 use Rattle.fst_process.specs.Reflects.{Reflects}
 use Rattle.fst_process.specs.Firing.{Settles, CanStart, IsBegun}
-use Rattle.fst_process.proofs.KeptLaws.{none_numbered}
+use Rattle.fst_paths.proofs.Laws.{none_numbered}
 use Rattle.fst_process.proofs.Going.{IsOf}
 use Rattle.fst_process.proofs.Begun.{begun}
 use Rattle.fst_process.proofs.Rights.{right_fine, right_alive}
 use Rattle.fst_process.proofs.Stepping.{settled_types}
 
 -- nothing is kept in empty maps
-pub kept_nothing : (k : Config) → k.tasks.entries ≡ [] → k.ended.items ≡ [] → k.channels.entries ≡ [] → k.ready.keys ≡ [] →
+pub kept_nothing : (k : Config) → tasks_by_path k.tasks ≡ (λ p. None) → k.channels.by_maker.entries ≡ [] → k.ready.keys ≡ [] →
     kept_of k ≡ nothing
-kept_nothing k ts es js rs = λ i. record {
-  tasks = tasks_in (ts i) (es i);
-  channels = λ h. (ap (λ es. numbered (made_in es h.maker) h.count) js ∙ none_numbered h.count) i;
-  made = λ p. length (made_in (js i) p);
-  ready = λ p. list_any (at_path p) (rs i);
+kept_nothing k ts js rs = λ i. record {
+  tasks = ts i;
+  channels = λ h. (ap (λ es. named_in channel_of es h) js ∙ ap (option_map channel_of) (none_numbered h.count)) i;
+  made = many_in (js i);
+  ready = has_path (rs i);
 }
 
 main_alive : (m : Module) (e : CoreTree) → IsRight (program m) (started e) → pause m.families.items (begins e []) ≡ stuck → ⊥

@@ -9,11 +9,11 @@ use Rattle.std.proofs.lemmas.List.Elements.{All-head, All-tail}
 use Rattle.fst_runs.specs.Configs.{Path}
 use Rattle.fst_runs.specs.Least.{IsBefore}
 use Rattle.fst_runs.proofs.Laws.{same_path-same}
-use Rattle.fst_process.specs.KeptOf.{at_path}
-use Rattle.fst_process.proofs.Tables.{Key, at_same}
+use Rattle.fst_paths.specs.Paths.{at_path, Key}
+use Rattle.fst_paths.proofs.Laws.{at_same}
 
 -- the path of a key isn't before it
-abbrev StandsFrom : Path → Key → Type 0
+abbrev pub StandsFrom : Path → Key → Type 0
 StandsFrom p k = is_gt (slice_cmp nat_cmp p k.items) ≡ false
 
 not_before : (p q : Path) (k : Key) → StandsFrom p k → IsBefore q p → at_path q k ≡ false

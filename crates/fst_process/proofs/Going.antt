@@ -11,9 +11,11 @@ use Rattle.fst_vm.specs.Tasks.{IsIn, IsAtRest}
 use Rattle.fst_runs.specs.declared.event.CoreEvent.TheVariants.{Local}
 use Rattle.fst_runs.specs.Configs.{Path, Config, Task, same_path, program}
 use Rattle.fst_runs.specs.Events.{Write, written, moved, Asks, Does}
-use Rattle.fst_process.specs.Kept.{Slot, Kept, end_of, noted, put_at, without, settled}
+use Rattle.fst_vm.specs.Slot.{Slot}
+use Rattle.fst_paths.specs.Paths.{put_at}
+use Rattle.fst_process.specs.Kept.{Kept, end_of, noted, without, settled}
 use Rattle.fst_process.specs.Reflects.{Reflects}
-use Rattle.fst_process.proofs.Places.{put_here}
+use Rattle.fst_paths.proofs.Laws.{put_here}
 use Rattle.fst_process.proofs.Taking.{hide, show, is_kept, taken_out, later}
 use Rattle.fst_process.proofs.Fewer.{Fine}
 use Rattle.fst_process.proofs.Putting.{put_in}

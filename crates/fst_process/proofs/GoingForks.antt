@@ -9,9 +9,11 @@ use Rattle.fst_machine.specs.declared.request.Request.TheVariants as request
 use Rattle.fst_runs.specs.declared.event.CoreEvent.TheVariants.{Fork}
 use Rattle.fst_runs.specs.Configs.{Path, Config, Task, same_path, child_path, new_task, program}
 use Rattle.fst_runs.specs.Events.{Write, written, Does, has_forked}
-use Rattle.fst_process.specs.Kept.{Slot, Kept, put_at, without, settled}
+use Rattle.fst_vm.specs.Slot.{Slot}
+use Rattle.fst_paths.specs.Paths.{put_at}
+use Rattle.fst_process.specs.Kept.{Kept, without, settled}
 use Rattle.fst_process.specs.Reflects.{Reflects}
-use Rattle.fst_process.proofs.Places.{put_here, put_cases}
+use Rattle.fst_paths.proofs.Laws.{put_here, put_cases}
 use Rattle.fst_process.proofs.Taking.{hide, show}
 use Rattle.fst_process.proofs.Fewer.{Fine, fine_before}
 use Rattle.fst_process.proofs.Going.{IsOf, bound, settled_made, taken, comes_in}

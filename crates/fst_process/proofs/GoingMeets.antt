@@ -13,9 +13,11 @@ use Rattle.fst_runs.specs.Configs as runs
 use Rattle.fst_runs.specs.Configs.{Path, Config, Task, same_path, same_channel, other, program}
 use Rattle.fst_runs.specs.Events.{Write, written, meeting_stamp, extended, Does, has_met, passed as passed_entry}
 use Rattle.fst_runs.proofs.Laws.{asks_apart}
-use Rattle.fst_process.specs.Kept.{Slot, Kept, end_of, put_at, without, changed, passed, settled}
+use Rattle.fst_vm.specs.Slot.{Slot}
+use Rattle.fst_paths.specs.Paths.{put_at}
+use Rattle.fst_process.specs.Kept.{Kept, end_of, without, changed, passed, settled}
 use Rattle.fst_process.specs.Reflects.{Reflects}
-use Rattle.fst_process.proofs.Places.{put_here, put_cases}
+use Rattle.fst_paths.proofs.Laws.{put_here, put_cases}
 use Rattle.fst_process.proofs.Taking.{hide, show}
 use Rattle.fst_process.proofs.Fewer.{Fine, fine_before}
 use Rattle.fst_process.proofs.Ends.{there_bare}

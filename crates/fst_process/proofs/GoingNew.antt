@@ -9,9 +9,10 @@ use Rattle.fst_machine.specs.declared.request.Request.TheVariants as request
 use Rattle.fst_runs.specs.declared.event.CoreEvent.TheVariants.{New}
 use Rattle.fst_runs.specs.Configs.{Path, Config, Task, Channel, same_path, same_channel, channel_name, program}
 use Rattle.fst_runs.specs.Events.{Write, written, Does, has_made}
-use Rattle.fst_process.specs.Kept.{Slot, Kept, without, opened, settled}
+use Rattle.fst_vm.specs.Slot.{Slot}
+use Rattle.fst_process.specs.Kept.{Kept, without, opened, settled}
 use Rattle.fst_process.specs.Reflects.{Reflects}
-use Rattle.fst_process.proofs.Places.{put_here}
+use Rattle.fst_paths.proofs.Laws.{put_here}
 use Rattle.fst_process.proofs.Taking.{hide, show}
 use Rattle.fst_process.proofs.Fewer.{Fine}
 use Rattle.fst_process.proofs.Opening.{with_channel, opening}

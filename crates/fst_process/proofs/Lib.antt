@@ -15,10 +15,9 @@ pub mod GoingForks
 pub mod GoingMeets
 pub mod Least
 pub mod Begun
-pub mod Tables
 pub mod KeptLaws
 pub mod Noting
-pub mod EndedLaws
+pub mod TaskLaws
 pub mod Apart
 pub mod Rights
 pub mod Stepping

@@ -18,7 +18,8 @@ use Rattle.fst_runs.specs.Notes.{Note, entries_at}
 use Rattle.fst_runs.proofs.Laws.{same_path-same, entries_at-append}
 use Rattle.fst_process.specs.declared.marks.Done.TheVariants as done
 use Rattle.fst_process.specs.declared.marks.Mark.{Mark}
-use Rattle.fst_process.specs.Kept.{Slot, Channel, Kept}
+use Rattle.fst_vm.specs.Slot.{Slot}
+use Rattle.fst_process.specs.Kept.{Channel, Kept}
 use Rattle.fst_process.specs.Marks.{mark_of, marks_from, forks_behind, forked_by}
 use Rattle.fst_process.specs.Marking.{with_mark, CanHappen, AddsMarks}
 use Rattle.fst_process.proofs.Ends.{there_bare}

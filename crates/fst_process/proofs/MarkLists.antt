@@ -10,13 +10,11 @@ use Rattle.std.proofs.lemmas.List.Elements.{All-from_recursion}
 use Rattle.fst_runs.specs.Configs.{Path, same_path}
 use Rattle.fst_process.specs.declared.marks.Mark.{Mark}
 use Rattle.fst_process.specs.declared.marks.TaskMarks.{TaskMarks}
-use Rattle.fst_process.specs.Kept.{put_at}
-use Rattle.fst_process.specs.KeptOf.{at_path, listed}
-use Rattle.fst_process.specs.Listed.{AreInOrder}
+use Rattle.fst_paths.specs.Paths.{put_at, at_path, AreInOrder, same_key}
+use Rattle.fst_paths.specs.ChannelLists.{listed}
 use Rattle.fst_process.specs.Marks.{marks_at, AreOnce, AreMarks}
 use Rattle.fst_process.specs.Marking.{MarkLists, marks_in, tasks_of, with_marks}
-use Rattle.fst_process.proofs.Tables.{at_same, same_key, found_after, put_mapped}
-use Rattle.fst_process.proofs.ReportLists.{AreBehind, in_order}
+use Rattle.fst_paths.proofs.Laws.{at_same, found_after, put_mapped, AreBehind, in_order}
 use Rattle.fst_process.proofs.NoteLaws.{same_path-swapped}
 
 -- no task has the path of one before it

@@ -11,13 +11,13 @@ use Rattle.fst_runs.specs.Notes.{Note, RunsNoting, entries_at, notes}
 use Rattle.fst_runs.proofs.Laws.{entries_at-append}
 use Rattle.fst_process.specs.declared.marks.Mark.{Mark}
 use Rattle.fst_process.specs.declared.marks.TaskMarks.{TaskMarks}
-use Rattle.fst_process.specs.declared.report.Report.{Report}
-use Rattle.fst_process.specs.declared.report.Outcome.{Outcome}
-use Rattle.fst_process.specs.declared.report.Outcome.TheVariants.{Done, OutOfSteps}
+use Rattle.fst_vm.specs.declared.report.Report.{Report}
+use Rattle.fst_vm.specs.declared.report.Outcome.{Outcome}
+use Rattle.fst_vm.specs.declared.report.Outcome.TheVariants.{Done, OutOfSteps}
 use Rattle.fst_process.specs.Kept.{Kept}
 use Rattle.fst_process.specs.Reflects.{Reflects}
 use Rattle.fst_process.specs.Firing.{Happens}
-use Rattle.fst_process.specs.Listed.{AreInOrder}
+use Rattle.fst_paths.specs.Paths.{AreInOrder}
 use Rattle.fst_process.specs.Nexts.{IsNext}
 use Rattle.fst_process.specs.Reports.{IsReported}
 use Rattle.fst_process.specs.Runs.{RunsRightFrom, IsReached, RunsTo}

@@ -9,11 +9,13 @@ use Rattle.fst_runs.specs.Configs.{Path, same_path}
 use Rattle.fst_runs.proofs.Laws.{same_path-same}
 use Rattle.fst_process.specs.declared.marks.Done.TheVariants as done
 use Rattle.fst_process.specs.declared.marks.Mark.{Mark}
-use Rattle.fst_process.specs.Kept.{Slot, Kept, put_at}
-use Rattle.fst_process.specs.Firing.{HasStepped, StepsOn}
+use Rattle.fst_vm.specs.Slot.{Slot}
+use Rattle.fst_paths.specs.Paths.{put_at}
+use Rattle.fst_process.specs.Kept.{Kept}
+use Rattle.fst_vm.specs.Going.{StepsOn}
+use Rattle.fst_process.specs.Firing.{HasStepped}
 use Rattle.fst_process.specs.Marking.{step_marks, with_mark, with_marks}
-use Rattle.fst_process.proofs.Places.{put_here}
-use Rattle.fst_process.proofs.Noting.{put_twice}
+use Rattle.fst_paths.proofs.Laws.{put_here, put_twice}
 use Rattle.fst_process.proofs.Alone.{StepsFirst, at_slot, next_again, stands_first, step_happens, steps_clock, there_again}
 use Rattle.fst_process.proofs.MarkLaws.{local_marks}
 use Rattle.fst_process.proofs.MarkedRuns.{MarksTo, marked_next}

@@ -13,10 +13,13 @@ use Rattle.fst_runs.specs.Configs as runs
 use Rattle.fst_runs.specs.Configs.{Path, Config, same_channel, other, channel_name}
 use Rattle.fst_runs.specs.Events.{extended}
 use Rattle.fst_runs.proofs.Laws.{same_channel-same}
-use Rattle.fst_process.specs.Kept.{Slot, Channel, Kept, asker_at, asker, partner, end_of, moves_so, put_at, without, changed, passed}
+use Rattle.fst_vm.specs.Slot.{Slot}
+use Rattle.fst_paths.specs.Paths.{put_at}
+use Rattle.fst_process.specs.Kept.{Channel, Kept, asker_at, asker, partner, end_of, moves_so, without, changed, passed}
 use Rattle.fst_process.specs.Reflects.{AreTask, AsksAt, Reflects, bare}
 use Rattle.fst_process.proofs.PathLaws.{one_of_both, apart_paths, apart_channels}
-use Rattle.fst_process.proofs.Places.{put_cases, put_both, channel_cases, channel_both}
+use Rattle.fst_paths.proofs.Laws.{put_cases, put_both}
+use Rattle.fst_process.proofs.Places.{channel_cases, channel_both}
 use Rattle.fst_process.proofs.Taking.{hide, are_same, moves_same, later}
 use Rattle.fst_process.proofs.Ends.{there_bare}
 use Rattle.fst_process.proofs.Opening.{with_channel}

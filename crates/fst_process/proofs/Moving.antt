@@ -19,7 +19,8 @@ use Rattle.fst_runs.specs.declared.event.CoreEvent.TheVariants.{Local, New, Fork
 use Rattle.fst_runs.specs.Configs.{Path, Config, Task, other, channel_name, program}
 use Rattle.fst_runs.specs.Events.{Write, Asks, Does, IsLast}
 use Rattle.fst_runs.specs.Least.{TakesPart, CanMove}
-use Rattle.fst_process.specs.Kept.{Slot, Kept, asker, partner, end_of, moves_with, moves_so}
+use Rattle.fst_vm.specs.Slot.{Slot}
+use Rattle.fst_process.specs.Kept.{Kept, asker, partner, end_of, moves_with, moves_so}
 use Rattle.fst_process.specs.Reflects.{IsTask, Reflects}
 use Rattle.fst_process.specs.Nexts.{event_with, event_of}
 use Rattle.fst_process.proofs.PathLaws.{other-twice}

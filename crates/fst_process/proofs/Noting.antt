@@ -1,30 +1,15 @@
 -- What is kept once what a task asks for is noted anew.
-use Rattle.std.proofs.Common.{◌≡◌, ◌∙◌, ℕ, Bool, true, false, Option, Some, None, refl, sym, ap}
-use Rattle.std.specs.Prelude.{if◌then◌else◌}
+use Rattle.std.proofs.Common.{◌≡◌, ◌∙◌, ℕ, true, false, Option, Some, None, sym, ap}
 use Rattle.std.proofs.lemmas.Bool.{false≢true}
 use Rattle.fst_machine.specs.declared.request.Request.{Request}
 use Rattle.fst_machine.specs.declared.request.Request.TheVariants.{Step, New, Fork, Put, Get, Ended}
-use Rattle.fst_runs.specs.Configs.{Path, same_path}
-use Rattle.fst_runs.proofs.Laws.{same_path-same}
-use Rattle.fst_process.specs.Kept.{Slot, Kept, put_at, able, unable, without, moves_alone, noted, settled_at}
-use Rattle.fst_process.specs.KeptOf.{Keys, Channels, kept_in, kept_besides}
+use Rattle.fst_runs.specs.Configs.{Path}
+use Rattle.fst_vm.specs.Slot.{Slot, moves_alone}
+use Rattle.fst_paths.specs.Paths.{put_at, Keys}
+use Rattle.fst_paths.proofs.Laws.{put_back, put_twice}
+use Rattle.fst_process.specs.Kept.{Kept, able, unable, without, noted, settled_at}
+use Rattle.fst_process.specs.KeptOf.{Channels, kept_in, kept_besides}
 use Rattle.fst_process.proofs.KeptLaws.{noted_first}
-
--- what is put at a path in place of something else
-pub put_twice : {X : Type 0} (p : Path) (x y : X) (f : Path → X) → put_at p x f ≡ put_at p x (put_at p y f)
-put_twice {X} p x y f = λ i q. by (same_path p q) (f q) i
-  where
-    by : (b : Bool) (z : X) → (if b then x else z) ≡ (if b then x else if b then y else z)
-    by true z = refl
-    by false z = refl
-
--- and where that is what was there at first
-pub put_back : {X : Type 0} (p : Path) (x y : X) (f : Path → X) → f p ≡ x → f ≡ put_at p x (put_at p y f)
-put_back {X} p x y f e = λ i q. by q (same_path p q) refl i
-  where
-    by : (q : Path) (b : Bool) → same_path p q ≡ b → f q ≡ (if b then x else if b then y else f q)
-    by q true g = ap f (sym (same_path-same p q g)) ∙ e
-    by q false g = refl
 
 able_again : (p : Path) (d : Kept) → d.ready p ≡ true → d ≡ able true p (unable p d)
 able_again p d f = λ i. record {

@@ -14,9 +14,11 @@ use Rattle.fst_machine.specs.declared.code.Code.{Code}
 use Rattle.fst_runs.specs.Configs as runs
 use Rattle.fst_runs.specs.Configs.{Path, Config, Task, same_path, same_channel, other, channel_name}
 use Rattle.fst_runs.proofs.Laws.{same_path-same}
-use Rattle.fst_process.specs.Kept.{Slot, Channel, Kept, asker_at, asker, added, opened}
+use Rattle.fst_vm.specs.Slot.{Slot}
+use Rattle.fst_process.specs.Kept.{Channel, Kept, asker_at, asker, added, opened}
 use Rattle.fst_process.specs.Reflects.{AreTask, Reflects, bare}
-use Rattle.fst_process.proofs.Places.{put_cases, put_else, channel_cases, channel_both, channel_here}
+use Rattle.fst_paths.proofs.Laws.{put_cases, put_else}
+use Rattle.fst_process.proofs.Places.{channel_cases, channel_both, channel_here}
 use Rattle.fst_process.proofs.Taking.{are_same, none_kept, moves_same, later}
 
 -- the configuration with this channel at its name

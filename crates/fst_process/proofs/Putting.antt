@@ -12,10 +12,12 @@ use Rattle.fst_machine.specs.declared.request.Request.TheVariants.{Step, New, Fo
 use Rattle.fst_runs.specs.Configs as runs
 use Rattle.fst_runs.specs.Configs.{Path, Config, Task, same_path, other, channel_name, program}
 use Rattle.fst_runs.specs.Events.{Asks}
-use Rattle.fst_process.specs.Kept.{Slot, Channel, Kept, asker, partner, end_of, moves_with, moves_so, put_at, marked, marked_both, able, asking, noted, settled}
+use Rattle.fst_vm.specs.Slot.{Slot}
+use Rattle.fst_paths.specs.Paths.{put_at}
+use Rattle.fst_process.specs.Kept.{Channel, Kept, asker, partner, end_of, moves_with, moves_so, marked, marked_both, able, asking, noted, settled}
 use Rattle.fst_process.specs.Reflects.{IsTask, AreTask, AsksAt, Reflects, bare}
 use Rattle.fst_process.proofs.PathLaws.{other-twice, apart_paths}
-use Rattle.fst_process.proofs.Places.{put_here, put_else, put_cases, put_both}
+use Rattle.fst_paths.proofs.Laws.{put_here, put_else, put_cases, put_both}
 use Rattle.fst_process.proofs.Taking.{show, is_same, are_same, is_there, none_kept, moves_same}
 use Rattle.fst_process.proofs.Fewer.{Fine}
 use Rattle.fst_process.proofs.Ends.{moves_at, not_other, one_or_not, asker_own, asker_else, still_bare, bare_there, there_bare}

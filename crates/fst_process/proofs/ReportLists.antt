@@ -1,104 +1,95 @@
--- What a report lists is what is kept, in order.
-use Rattle.std.proofs.Common.{◌≡◌, ◌∙◌, inl, inr, ℕ, zero, suc, ◌+◌, ◌<◌, Bool, true, false, cond, List, [], ◌∷◌, ◌++◌, Option, Some, None, length, refl, sym, ap, subst, arith}
+-- What a report lists is what is there, in order.
+use Rattle.std.proofs.Common.{◌≡◌, ◌∙◌, inl, inr, ℕ, zero, suc, ◌+◌, Bool, true, false, List, [], ◌∷◌, ◌++◌, Option, Some, None, map, refl, sym, ap, subst, arith}
 use Rattle.std.specs.Prelude.{Contains, option_map, slice_get}
 use Rattle.std.specs.Cmp.Lexicographic.{slice_cmp}
 use Rattle.std.specs.List.{AllByRecursion}
-use Rattle.std.specs.List.Sorted.{IsStrictlySortedBy}
-use Rattle.std.specs.Map.{lookup, keys_of}
-use Rattle.std.specs.Ordering.{is_eq, nat_cmp}
+use Rattle.std.specs.Map.{keys_of, lookup}
+use Rattle.std.specs.Ordering.{nat_cmp}
 use Rattle.std.specs.declared.cmp.Ordering.TheVariants.{Less}
-use Rattle.std.specs.declared.alloc.Global.{Global}
-use Rattle.std.specs.declared.vec.Vec.{Vec}
-use Rattle.std.proofs.lemmas.Bool.{false≢true}
+use Rattle.std.proofs.Common.{cond}
+use Rattle.std.proofs.lemmas.List.{map-append}
 use Rattle.std.proofs.lemmas.List.Elements.{Contains-append_left, Contains-append_right, Contains-append_cases}
 use Rattle.fst_base.proofs.Options.{some_same, none_some}
 use Rattle.fst_types.specs.declared.ends.ChannelName.{ChannelName}
 use Rattle.fst_types.specs.declared.ends.EndName.{EndName}
 use Rattle.fst_types.specs.declared.event.ChannelHistory.{ChannelHistory}
-use Rattle.fst_runs.specs.Configs.{Path}
+use Rattle.fst_machine.specs.declared.request.Request.{Request}
+use Rattle.fst_machine.specs.declared.request.Request.TheVariants.{Step, New, Fork, Put, Get, Ended}
+use Rattle.fst_paths.specs.Paths.{AreInOrder, Key, at_path}
+use Rattle.fst_paths.specs.ChannelLists.{ChannelLists, named_in, numbered}
+use Rattle.fst_paths.proofs.Laws.{apart_behind, at_itself, at_key, in_order, made_else, made_here, none_numbered}
+use Rattle.fst_vm.specs.declared.kept.Slot as rust_slot
+use Rattle.fst_vm.specs.declared.report.Waiting.{Waiting}
+use Rattle.fst_vm.specs.Slot.{Slot}
+use Rattle.fst_vm.specs.SlotOf.{Slots, one_waiting, slot_in, slot_of, waiting_in}
+use Rattle.fst_runs.specs.Configs as runs
+use Rattle.fst_runs.specs.Configs.{Path, channel_name}
 use Rattle.fst_runs.specs.Least.{IsBefore}
 use Rattle.fst_runs.specs.Order.{AreRising}
-use Rattle.fst_runs.proofs.Laws.{same_path-same, same_path-itself}
 use Rattle.fst_process.specs.declared.kept.Channel as rust_channel
-use Rattle.fst_process.specs.declared.kept.Slot as rust_slot
-use Rattle.fst_process.specs.declared.report.Waiting.{Waiting}
-use Rattle.fst_process.specs.Kept.{Slot, Channel, end_of}
-use Rattle.fst_process.specs.KeptOf.{at_path, slot_of, channel_of, Slots, Channels, slot_in, listed, made_in, numbered}
+use Rattle.fst_process.specs.Kept.{end_of}
+use Rattle.fst_process.specs.KeptOf.{Channels, channel_of}
+use Rattle.fst_process.specs.Reflects.{bare}
 use Rattle.fst_process.specs.Reports.{ComesBefore}
-use Rattle.fst_process.specs.Listed.{AreInOrder, one_waiting, waiting_in, history_of, histories_of, histories_in}
-use Rattle.fst_process.proofs.Tables.{Key, at_same}
+use Rattle.fst_process.specs.Listed.{channels_in, channels_of, histories_in, histories_of, shown}
 use Rattle.fst_process.proofs.Rising.{first_or_rest, first_in, rest_in, none_in, rising_both}
 
--- all keys of a map come behind this path
-abbrev pub AreBehind : {X : Type 0} → Path → List (Key × X) → Type 0
-AreBehind p es = AllByRecursion (λ (k : Key). slice_cmp nat_cmp p k.items ≡ Less) (keys_of es)
-
--- the keys behind the first one come behind it, and are in order
-pub in_order : {X : Type 0} (e : Key × X) (es : List (Key × X)) → AreInOrder (e ∷ es) → AreBehind e.0.items es × AreInOrder es
-unfolding IsStrictlySortedBy
-in_order e es o = o
-
--- a path isn't behind itself
-not_behind_itself : (p : Path) → slice_cmp nat_cmp p p ≡ Less → ⊥
-not_behind_itself p e = false≢true (sym (ap is_eq e) ∙ at_same p p ∙ same_path-itself p)
-
--- a key that comes behind a path isn't at it
-apart_behind : (p q : Path) (k : Key) → k.items ≡ p → slice_cmp nat_cmp p q ≡ Less → at_path q k ≡ false
-apart_behind p q k e less = go (at_path q k) refl
-  where
-    go : (b : Bool) → at_path q k ≡ b → at_path q k ≡ false
-    go false f = f
-    go true f =
-        let same : q ≡ p = same_path-same q k.items (sym (at_same q k.items) ∙ f) ∙ e in
-        absurd (not_behind_itself p (ap (slice_cmp nat_cmp p) (sym same) ∙ less))
-
--- a key is at its own path
-at_itself : (k : Key) → at_path k.items k ≡ true
-at_itself k = at_same k.items k.items ∙ same_path-itself k.items
-
--- none of the keys behind a path is found there
-none_found : {X : Type 0} (p : Path) (es : List (Key × X)) → AreBehind p es → lookup (at_path p) es ≡ None
-none_found p [] a = refl
-none_found p (e ∷ es) a = ap (λ o. cond (is_eq o) (Some e.1) (lookup (at_path p) es)) a.0 ∙ none_found p es a.1
-
 -- ---- tasks that wait
+
+-- one that waits does so at the end that is asked for
+one_waits : (p : Path) (r : Request) (w : Waiting) → Contains (one_waiting p r) w → (p ≡ w.task) × (end_of r ≡ Some w.end)
+one_waits p Step w h = absurd (none_in w h)
+one_waits p (New n) w h = absurd (none_in w h)
+one_waits p Fork w h = absurd (none_in w h)
+one_waits p (Put x ev) w h = elim (first_or_rest (record { task = p; end = x }) [] w h) [
+  | inl f ↦ (ap (λ (z : Waiting). z.task) f, ap (λ (z : Waiting). Some z.end) f)
+  | inr f ↦ absurd (none_in w f)
+]
+one_waits p (Get x) w h = elim (first_or_rest (record { task = p; end = x }) [] w h) [
+  | inl f ↦ (ap (λ (z : Waiting). z.task) f, ap (λ (z : Waiting). Some z.end) f)
+  | inr f ↦ absurd (none_in w f)
+]
+one_waits p Ended w h = absurd (none_in w h)
+
+-- and what asks at an end waits
+waits_one : (p : Path) (r : Request) (x : EndName) → end_of r ≡ Some x → Contains (one_waiting p r) (record { task = p; end = x })
+waits_one p Step x e = absurd (none_some e)
+waits_one p (New n) x e = absurd (none_some e)
+waits_one p Fork x e = absurd (none_some e)
+waits_one p (Put y ev) x e =
+    subst (λ z. Contains {X = Waiting} (record { task = p; end = y } ∷ []) (record { task = p; end = z })) (some_same e)
+    (first_in (record { task = p; end = y }) [])
+waits_one p (Get y) x e =
+    subst (λ z. Contains {X = Waiting} (record { task = p; end = y } ∷ []) (record { task = p; end = z })) (some_same e)
+    (first_in (record { task = p; end = y }) [])
+waits_one p Ended x e = absurd (none_some e)
+
+one_rises : (p : Path) (r : Request) → AreRising (λ (v w : Waiting). IsBefore v.task w.task) (one_waiting p r)
+one_rises p Step = tt
+one_rises p (New n) = tt
+one_rises p Fork = tt
+one_rises p (Put x ev) = (λ y c. absurd (none_in y c), tt)
+one_rises p (Get x) = (λ y c. absurd (none_in y c), tt)
+one_rises p Ended = tt
 
 -- what holds of the paths of all keys holds of those of the tasks that wait
 waiting_keys : (P : Path → Type 0) (es : Slots) (w : Waiting) → AllByRecursion (λ (k : Key). P k.items) (keys_of es) →
     Contains (waiting_in es) w → P w.task
 waiting_keys P [] w a h = absurd (none_in w h)
-waiting_keys P (e ∷ es) w a h = elim (Contains-append_cases (one_waiting e.0.items (end_of e.1.request)) (waiting_in es) w h) [
-  | inl b ↦ one (end_of e.1.request) b
+waiting_keys P (e ∷ es) w a h = elim (Contains-append_cases (one_waiting e.0.items e.1.request) (waiting_in es) w h) [
+  | inl b ↦ subst P (one_waits e.0.items e.1.request w b).0 a.0
   | inr b ↦ waiting_keys P es w a.1 b
 ]
-  where
-    one : (o : Option EndName) → Contains (one_waiting e.0.items o) w → P w.task
-    one None b = absurd (none_in w b)
-    one (Some x) b = elim (first_or_rest (record { task = e.0.items; end = x }) [] w b) [
-      | inl f ↦ subst (λ (z : Waiting). P z.task) f a.0
-      | inr f ↦ absurd (none_in w f)
-    ]
 
 -- the tasks that wait are in the order of their paths
 pub waiting_rises : (es : Slots) → AreInOrder es → AreRising (λ (v w : Waiting). IsBefore v.task w.task) (waiting_in es)
 waiting_rises [] o = tt
 waiting_rises (e ∷ es) o =
     let both = in_order e es o in
-    rising_both (λ (v w : Waiting). IsBefore v.task w.task) (one_waiting e.0.items (end_of e.1.request)) (waiting_in es)
-    (one (end_of e.1.request)) (waiting_rises es both.1)
-    (λ v w a b. first (end_of e.1.request) v w both.0 a b)
-  where
-    one : (o : Option EndName) → AreRising (λ (v w : Waiting). IsBefore v.task w.task) (one_waiting e.0.items o)
-    one None = tt
-    one (Some x) = (λ y c. absurd (none_in y c), tt)
-
-    first : (o : Option EndName) (v w : Waiting) → AreBehind e.0.items es → Contains (one_waiting e.0.items o) v →
-        Contains (waiting_in es) w → IsBefore v.task w.task
-    first None v w behind a b = absurd (none_in v a)
-    first (Some x) v w behind a b = elim (first_or_rest (record { task = e.0.items; end = x }) [] v a) [
-      | inl f ↦ subst (λ (z : Waiting). IsBefore z.task w.task) f (waiting_keys (λ p. IsBefore e.0.items p) es w behind b)
-      | inr f ↦ absurd (none_in v f)
-    ]
+    rising_both (λ (v w : Waiting). IsBefore v.task w.task) (one_waiting e.0.items e.1.request) (waiting_in es)
+    (one_rises e.0.items e.1.request) (waiting_rises es both.1)
+    (λ v w a b. subst (λ q. IsBefore q w.task) (one_waits e.0.items e.1.request v a).0
+    (waiting_keys (λ q. IsBefore e.0.items q) es w both.0 b))
 
 -- a task of the first key is found by its path
 slot_here : (e : Key × rust_slot.Slot) (es : Slots) (p : Path) → at_path p e.0 ≡ true → slot_in (e ∷ es) p ≡ Some (slot_of e.1)
@@ -107,33 +98,24 @@ slot_here e es p f = ap (λ b. option_map slot_of (cond b (Some e.1) (lookup (at
 slot_else : (e : Key × rust_slot.Slot) (es : Slots) (p : Path) → at_path p e.0 ≡ false → slot_in (e ∷ es) p ≡ slot_in es p
 slot_else e es p f = ap (λ b. option_map slot_of (cond b (Some e.1) (lookup (at_path p) es))) f
 
--- a task that is listed is kept, and asks at the end
+-- a task that is listed is there, and asks at the end
 pub listed_waits : (es : Slots) (p : Path) (x : EndName) → AreInOrder es →
     Contains (waiting_in es) (record { task = p; end = x }) →
     (s : Slot) × (slot_in es p ≡ Some s) × (end_of s.request ≡ Some x)
 listed_waits [] p x o h = absurd (none_in (record { task = p; end = x }) h)
-listed_waits (e ∷ es) p x o h = elim (Contains-append_cases (one_waiting e.0.items (end_of e.1.request)) (waiting_in es)
+listed_waits (e ∷ es) p x o h = elim (Contains-append_cases (one_waiting e.0.items e.1.request) (waiting_in es)
     (record { task = p; end = x }) h) [
-      | inl b ↦ one (end_of e.1.request) refl b
+      | inl b ↦
+          let one = one_waits e.0.items e.1.request (record { task = p; end = x }) b in
+          (slot_of e.1, slot_here e es p (ap (λ q. at_path q e.0) (sym one.0) ∙ at_itself e.0), one.1)
       | inr b ↦
           let both = in_order e es o in
           let r = listed_waits es p x both.1 b in
           let less = waiting_keys (λ q. slice_cmp nat_cmp e.0.items q ≡ Less) es (record { task = p; end = x }) both.0 b in
           (r.0, slot_else e es p (apart_behind e.0.items p e.0 refl less) ∙ r.1, r.2)
     ]
-  where
-    one : (o : Option EndName) → end_of e.1.request ≡ o → Contains (one_waiting e.0.items o) (record { task = p; end = x }) →
-        (s : Slot) × (slot_in (e ∷ es) p ≡ Some s) × (end_of s.request ≡ Some x)
-    one None f b = absurd (none_in (record { task = p; end = x }) b)
-    one (Some y) f b = elim (first_or_rest (record { task = e.0.items; end = y }) [] (record { task = p; end = x }) b) [
-      | inl g ↦
-          let path : e.0.items ≡ p = ap (λ (z : Waiting). z.task) g in
-          let end : y ≡ x = ap (λ (z : Waiting). z.end) g in
-          (slot_of e.1, slot_here e es p (ap (λ q. at_path q e.0) (sym path) ∙ at_itself e.0), f ∙ ap Some end)
-      | inr g ↦ absurd (none_in (record { task = p; end = x }) g)
-    ]
 
--- a task that is kept and asks at an end is listed
+-- a task that is there and asks at an end is listed
 pub waits_listed : (es : Slots) (p : Path) (x : EndName) (s : Slot) → slot_in es p ≡ Some s → end_of s.request ≡ Some x →
     Contains (waiting_in es) (record { task = p; end = x })
 waits_listed [] p x s e f = absurd (none_some e)
@@ -142,171 +124,173 @@ waits_listed (e ∷ es) p x s at f = go (λ (a : slot_in es p ≡ Some s). waits
     go : (slot_in es p ≡ Some s → Contains (waiting_in es) (record { task = p; end = x })) → (b : Bool) → at_path p e.0 ≡ b →
         Contains (waiting_in (e ∷ es)) (record { task = p; end = x })
     go rest true g =
-        let path : p ≡ e.0.items = same_path-same p e.0.items (sym (at_same p e.0.items) ∙ g) in
         let slot : slot_of e.1 ≡ s = some_same (sym (slot_here e es p g) ∙ at) in
         let end : end_of e.1.request ≡ Some x = ap (λ (z : Slot). end_of z.request) slot ∙ f in
-        subst (λ o. Contains (one_waiting e.0.items o ++ waiting_in es) (record { task = p; end = x })) (sym end)
-        (subst (λ q. Contains (record { task = e.0.items; end = x } ∷ waiting_in es) (record { task = q; end = x })) (sym path)
-        (first_in (record { task = e.0.items; end = x }) (waiting_in es)))
+        Contains-append_left (one_waiting e.0.items e.1.request) (waiting_in es) (record { task = p; end = x })
+        (subst (λ q. Contains (one_waiting e.0.items e.1.request) (record { task = q; end = x })) (sym (at_key p e.0 g))
+        (waits_one e.0.items e.1.request x end))
     go rest false g =
-        Contains-append_right (one_waiting e.0.items (end_of e.1.request)) (waiting_in es) (record { task = p; end = x })
+        Contains-append_right (one_waiting e.0.items e.1.request) (waiting_in es) (record { task = p; end = x })
         (rest (sym (slot_else e es p g) ∙ at))
 
 -- ---- channels
 
--- the channel at a place in a list of one maker
-history_at : (p : Path) (n : ℕ) (js : List rust_channel.Channel) (h : ChannelHistory) → Contains (histories_of p n js) h →
-    (k : ℕ) × (i : rust_channel.Channel) × (slice_get js k ≡ Some i) × (h ≡ history_of p (suc (k + n)) i)
-history_at p n [] h c = absurd (none_in h c)
-history_at p n (j ∷ js) h c = elim (first_or_rest (history_of p (suc n) j) (histories_of p (suc n) js) h c) [
-  | inl f ↦ (0, j, refl, sym f ∙ ap (λ l. history_of p (suc l) j) (omega arith))
-  | inr f ↦
-      let r = history_at p (suc n) js h f in
-      (suc r.0, r.1, r.2, r.3 ∙ ap (λ l. history_of p (suc l) r.1) (omega arith))
-]
+module _ {X V : Type 0} (view : X → V) where
+  -- the channel at a place in a list of one maker
+  placed : (p : Path) (n : ℕ) (js : List X) (g : ChannelName × V) → Contains (channels_of view p n js) g →
+      (k : ℕ) × (j : X) × (slice_get js k ≡ Some j) × (g ≡ (channel_name p (k + n), view j))
+  placed p n [] g c = absurd (none_in g c)
+  placed p n (j ∷ js) g c = elim (first_or_rest (channel_name p n, view j) (channels_of view p (suc n) js) g c) [
+    | inl f ↦ (0, j, refl, sym f ∙ ap (λ l. (channel_name p l, view j)) (omega arith))
+    | inr f ↦
+        let r = placed p (suc n) js g f in
+        (suc r.0, r.1, r.2, r.3 ∙ ap (λ l. (channel_name p l, view r.1)) (omega arith))
+  ]
 
-at_history : (p : Path) (n : ℕ) (js : List rust_channel.Channel) (k : ℕ) (i : rust_channel.Channel) → slice_get js k ≡ Some i →
-    Contains (histories_of p n js) (history_of p (suc (k + n)) i)
-at_history p n [] k i e = absurd (none_some e)
-at_history p n (j ∷ js) zero i e =
-    let same : history_of p (suc n) j ≡ history_of p (suc (zero + n)) i = λ o. history_of p (suc (zeros o)) (some_same e o) in
-    subst (Contains (histories_of p n (j ∷ js))) same (first_in (history_of p (suc n) j) (histories_of p (suc n) js))
-  where
-    zeros : n ≡ zero + n
-    zeros = omega arith
-at_history p n (j ∷ js) (suc k) i e =
-    subst (λ l. Contains (histories_of p n (j ∷ js)) (history_of p (suc l) i)) more
-    (rest_in (history_of p (suc n) j) (histories_of p (suc n) js) (history_of p (suc (k + suc n)) i)
-    (at_history p (suc n) js k i e))
-  where
-    more : k + suc n ≡ suc k + n
-    more = omega arith
+  at_place : (p : Path) (n : ℕ) (js : List X) (k : ℕ) (j : X) → slice_get js k ≡ Some j →
+      Contains (channels_of view p n js) (channel_name p (k + n), view j)
+  at_place p n [] k j e = absurd (none_some e)
+  at_place p n (i ∷ js) zero j e =
+      let same : (channel_name p n, view i) ≡ (channel_name p (zero + n), view j) =
+      λ o. (channel_name p (zeros o), view (some_same e o)) in
+      subst (Contains (channels_of view p n (i ∷ js))) same (first_in (channel_name p n, view i) (channels_of view p (suc n) js))
+    where
+      zeros : n ≡ zero + n
+      zeros = omega arith
+  at_place p n (i ∷ js) (suc k) j e =
+      subst (λ l. Contains (channels_of view p n (i ∷ js)) (channel_name p l, view j)) more
+      (rest_in (channel_name p n, view i) (channels_of view p (suc n) js) (channel_name p (k + suc n), view j)
+      (at_place p (suc n) js k j e))
+    where
+      more : k + suc n ≡ suc k + n
+      more = omega arith
 
-history_keys : (P : Path → Type 0) (es : Channels) (h : ChannelHistory) → AllByRecursion (λ (k : Key). P k.items) (keys_of es) →
-    Contains (histories_in es) h → P h.name.maker
-history_keys P [] h a c = absurd (none_in h c)
-history_keys P (e ∷ es) h a c = elim (Contains-append_cases (histories_of e.0.items zero e.1.items) (histories_in es) h c) [
-  | inl b ↦ let r = history_at e.0.items zero e.1.items h b in subst (λ (z : ChannelHistory). P z.name.maker) (sym r.3) a.0
-  | inr b ↦ history_keys P es h a.1 b
-]
+  channel_keys : (P : Path → Type 0) (es : ChannelLists X) (g : ChannelName × V) →
+      AllByRecursion (λ (k : Key). P k.items) (keys_of es) → Contains (channels_in view es) g → P g.0.maker
+  channel_keys P [] g a c = absurd (none_in g c)
+  channel_keys P (e ∷ es) g a c = elim (Contains-append_cases (channels_of view e.0.items zero e.1.items) (channels_in view es) g
+      c) [
+        | inl b ↦
+            let r = placed e.0.items zero e.1.items g b in
+            subst (λ (z : ChannelName × V). P z.0.maker) (sym r.3) a.0
+        | inr b ↦ channel_keys P es g a.1 b
+      ]
 
-made_here : (e : Key × Vec rust_channel.Channel Global) (es : Channels) (p : Path) → at_path p e.0 ≡ true →
-    made_in (e ∷ es) p ≡ e.1.items
-made_here e es p f = ap (λ b. listed (cond b (Some e.1) (lookup (at_path p) es))) f
+  -- a channel that is listed is there
+  pub listed_there : (es : ChannelLists X) (g : ChannelName × V) → AreInOrder es → Contains (channels_in view es) g →
+      named_in view es g.0 ≡ Some g.1
+  listed_there [] g o c = absurd (none_in g c)
+  listed_there (e ∷ es) g o c = elim (Contains-append_cases (channels_of view e.0.items zero e.1.items) (channels_in view es) g
+      c) [
+        | inl b ↦
+            let r = placed e.0.items zero e.1.items g b in
+            let name : g.0 ≡ channel_name e.0.items r.0 = ap (λ (z : ChannelName × V). z.0) r.3
+            ∙ ap (channel_name e.0.items) (plain r.0) in
+            ap (named_in view (e ∷ es)) name
+            ∙ ap (λ v. option_map view (numbered v (suc r.0))) (made_here e es e.0.items (at_itself e.0))
+            ∙ ap (option_map view) r.2
+            ∙ ap (λ (z : ChannelName × V). Some z.1) (sym r.3)
+        | inr b ↦
+            let both = in_order e es o in
+            let less = channel_keys (λ q. slice_cmp nat_cmp e.0.items q ≡ Less) es g both.0 b in
+            ap (λ v. option_map view (numbered v g.0.count))
+            (made_else e es g.0.maker (apart_behind e.0.items g.0.maker e.0 refl less))
+            ∙ listed_there es g both.1 b
+      ]
+    where
+      plain : (k : ℕ) → k + zero ≡ k
+      plain k = omega arith
 
-made_else : (e : Key × Vec rust_channel.Channel Global) (es : Channels) (p : Path) → at_path p e.0 ≡ false →
-    made_in (e ∷ es) p ≡ made_in es p
-made_else e es p f = ap (λ b. listed (cond b (Some e.1) (lookup (at_path p) es))) f
+  numbered_some : (js : List X) (n : ℕ) (c : V) → option_map view (numbered js n) ≡ Some c →
+      (k : ℕ) × (j : X) × (n ≡ suc k) × (slice_get js k ≡ Some j) × (view j ≡ c)
+  numbered_some js zero c e = absurd (none_some e)
+  numbered_some js (suc k) c e = go (slice_get js k) refl e
+    where
+      go : (o : Option X) → slice_get js k ≡ o → option_map view o ≡ Some c →
+          (l : ℕ) × (j : X) × (suc k ≡ suc l) × (slice_get js l ≡ Some j) × (view j ≡ c)
+      go None f g = absurd (none_some g)
+      go (Some j) f g = (k, j, refl, f, some_same g)
 
--- a channel that is listed is kept
-pub listed_kept : (es : Channels) (h : ChannelHistory) → AreInOrder es → Contains (histories_in es) h →
-    (i : rust_channel.Channel) × (numbered (made_in es h.name.maker) h.name.count ≡ Some (channel_of i)) ×
-    (h.declared ≡ i.declared) × (h.entries ≡ i.entries)
-listed_kept [] h o c = absurd (none_in h c)
-listed_kept (e ∷ es) h o c = elim (Contains-append_cases (histories_of e.0.items zero e.1.items) (histories_in es) h c) [
-  | inl b ↦
-      let r = history_at e.0.items zero e.1.items h b in
-      let name : h.name ≡ record { maker = e.0.items; count = suc r.0 } = ap (λ (z : ChannelHistory). z.name) r.3
-      ∙ (λ a. record { maker = e.0.items; count = suc (plain r.0 a) }) in
-      let found = ap (λ (z : ChannelName). numbered (made_in (e ∷ es) z.maker) z.count) name
-      ∙ ap (λ v. numbered v (suc r.0)) (made_here e es e.0.items (at_itself e.0))
-      ∙ ap (option_map channel_of) r.2 in
-      (r.1, found, ap (λ (z : ChannelHistory). z.declared) r.3, ap (λ (z : ChannelHistory). z.entries) r.3)
-  | inr b ↦
+  -- a channel that is there is listed
+  pub there_listed : (es : ChannelLists X) (h : ChannelName) (c : V) → named_in view es h ≡ Some c →
+      Contains (channels_in view es) (h, c)
+  there_listed [] h c e = absurd (none_some (sym (ap (option_map view) (none_numbered h.count)) ∙ e))
+  there_listed (e ∷ es) h c at = go (λ (a : named_in view es h ≡ Some c). there_listed es h c a) (at_path h.maker e.0) refl
+    where
+      plain : (k : ℕ) → suc (k + zero) ≡ suc k
+      plain k = omega arith
+
+      go : (named_in view es h ≡ Some c → Contains (channels_in view es) (h, c)) →
+          (b : Bool) → at_path h.maker e.0 ≡ b → Contains (channels_in view (e ∷ es)) (h, c)
+      go rest true f =
+          let r = numbered_some e.1.items h.count c
+          (sym (ap (λ v. option_map view (numbered v h.count)) (made_here e es h.maker f)) ∙ at) in
+          let same : (channel_name e.0.items (r.0 + zero), view r.1) ≡ (h, c) =
+          λ i. (record { maker = sym (at_key h.maker e.0 f) i; count = (plain r.0 ∙ sym r.2) i }, r.4 i) in
+          Contains-append_left (channels_of view e.0.items zero e.1.items) (channels_in view es) (h, c)
+          (subst (Contains (channels_of view e.0.items zero e.1.items)) same (at_place e.0.items zero e.1.items r.0 r.1 r.3))
+      go rest false f =
+          Contains-append_right (channels_of view e.0.items zero e.1.items) (channels_in view es) (h, c)
+          (rest (sym (ap (λ v. option_map view (numbered v h.count)) (made_else e es h.maker f)) ∙ at))
+
+  -- the channels of one maker are in the order of their numbers
+  makers_rise : (p : Path) (n : ℕ) (js : List X) → AreRising
+      (λ (g h : ChannelName × V). ComesBefore g.0 h.0) (channels_of view p n js)
+  makers_rise p n [] = tt
+  makers_rise p n (j ∷ js) = (
+    λ g c.
+        let r = placed p (suc n) js g c in
+        subst (λ (z : ChannelName × V). ComesBefore (channel_name p n) z.0) (sym r.3) (inr (refl, omega arith)),
+    makers_rise p (suc n) js,
+  )
+
+  -- all channels are in order
+  pub channels_rise : (es : ChannelLists X) → AreInOrder es → AreRising
+      (λ (g h : ChannelName × V). ComesBefore g.0 h.0) (channels_in view es)
+  channels_rise [] o = tt
+  channels_rise (e ∷ es) o =
       let both = in_order e es o in
-      let r = listed_kept es h both.1 b in
-      let less = history_keys (λ q. slice_cmp nat_cmp e.0.items q ≡ Less) es h both.0 b in
-      let found = ap (λ v. numbered v h.name.count)
-      (made_else e es h.name.maker (apart_behind e.0.items h.name.maker e.0 refl less)) ∙ r.1 in
-      (r.0, found, r.2, r.3)
+      rising_both (λ (g h : ChannelName × V). ComesBefore g.0 h.0) (channels_of view e.0.items zero e.1.items)
+      (channels_in view es) (makers_rise e.0.items zero e.1.items) (channels_rise es both.1)
+      (λ g h a b.
+      let r = placed e.0.items zero e.1.items g a in
+      let less = channel_keys (λ q. IsBefore e.0.items q) es h both.0 b in
+      subst (λ (z : ChannelName × V). ComesBefore z.0 h.0) (sym r.3) (inl less))
+
+-- ---- what histories show
+
+-- a history shows its channel
+pub in_shown : (hs : List ChannelHistory) (h : ChannelHistory) → Contains hs h → Contains (map shown hs) (shown h)
+in_shown [] h c = absurd (none_in h c)
+in_shown (x ∷ hs) h c = elim (first_or_rest x hs h c) [
+  | inl f ↦ subst (λ z. Contains (map shown (x ∷ hs)) (shown z)) f (first_in (shown x) (map shown hs))
+  | inr f ↦ rest_in (shown x) (map shown hs) (shown h) (in_shown hs h f)
 ]
-  where
-    plain : (k : ℕ) → k + zero ≡ k
-    plain k = omega arith
 
-numbered_some : (js : List rust_channel.Channel) (n : ℕ) (j : Channel) → numbered js n ≡ Some j →
-    (k : ℕ) × (i : rust_channel.Channel) × (n ≡ suc k) × (slice_get js k ≡ Some i) × (channel_of i ≡ j)
-numbered_some js zero j e = absurd (none_some e)
-numbered_some js (suc k) j e = go (slice_get js k) refl e
-  where
-    go : (o : Option rust_channel.Channel) → slice_get js k ≡ o → option_map channel_of o ≡ Some j →
-        (l : ℕ) × (i : rust_channel.Channel) × (suc k ≡ suc l) × (slice_get js l ≡ Some i) × (channel_of i ≡ j)
-    go None f g = absurd (none_some g)
-    go (Some i) f g = (k, i, refl, f, some_same g)
+-- and each channel that is shown has a history
+pub shown_in : (hs : List ChannelHistory) (g : ChannelName × runs.Channel) → Contains (map shown hs) g → (h : ChannelHistory) ×
+    Contains hs h × (shown h ≡ g)
+shown_in [] g c = absurd (none_in g c)
+shown_in (x ∷ hs) g c = elim (first_or_rest (shown x) (map shown hs) g c) [
+  | inl f ↦ (x, first_in x hs, f)
+  | inr f ↦ let r = shown_in hs g f in (r.0, rest_in x hs r.0 r.1, r.2)
+]
 
--- a channel that is kept is listed
-pub kept_listed : (es : Channels) (g : ChannelName) (j : Channel) → numbered (made_in es g.maker) g.count ≡ Some j →
-    (h : ChannelHistory) × Contains (histories_in es) h × (h.name ≡ g) × (h.declared ≡ j.declared) × (h.entries.items ≡ j.history)
-kept_listed [] g j e = absurd (nothing g.count e)
-  where
-    nothing : (n : ℕ) → numbered [] n ≡ Some j → ⊥
-    nothing zero f = none_some f
-    nothing (suc n) f = none_some f
-kept_listed (e ∷ es) g j at = go (λ (a : numbered (made_in es g.maker) g.count ≡ Some j). kept_listed es g j a)
-    (at_path g.maker e.0) refl
-  where
-    plain : (k : ℕ) → suc (k + zero) ≡ suc k
-    plain k = omega arith
+-- histories are in order where the channels that they show are
+pub histories_rise : (hs : List ChannelHistory) → AreRising (λ (g h : ChannelName × runs.Channel). ComesBefore g.0 h.0)
+    (map shown hs) →
+    AreRising (λ (i j : ChannelHistory). ComesBefore i.name j.name) hs
+histories_rise [] r = tt
+histories_rise (x ∷ hs) r = (λ h c. r.0 (shown h) (in_shown hs h c), histories_rise hs r.1)
 
-    go : (numbered (made_in es g.maker) g.count ≡ Some j →
-        (h : ChannelHistory) × Contains (histories_in es) h × (h.name ≡ g) × (h.declared ≡ j.declared) ×
-        (h.entries.items ≡ j.history)) →
-        (b : Bool) → at_path g.maker e.0 ≡ b →
-        (h : ChannelHistory) × Contains (histories_in (e ∷ es)) h × (h.name ≡ g) × (h.declared ≡ j.declared) ×
-        (h.entries.items ≡ j.history)
-    go rest true f =
-        let path : g.maker ≡ e.0.items = same_path-same g.maker e.0.items (sym (at_same g.maker e.0.items) ∙ f) in
-        let r = numbered_some e.1.items g.count j (sym (ap (λ v. numbered v g.count) (made_here e es g.maker f)) ∙ at) in
-        let c = at_history e.0.items zero e.1.items r.0 r.1 r.3 in (
-          history_of e.0.items (suc (r.0 + zero)) r.1,
-          Contains-append_left (histories_of e.0.items zero e.1.items) (histories_in es)
-              (history_of e.0.items (suc (r.0 + zero)) r.1) c,
-          (λ i. record { maker = sym path i; count = (plain r.0 ∙ sym r.2) i }),
-          ap (λ (z : Channel). z.declared) r.4,
-          ap (λ (z : Channel). z.history) r.4,
-        )
-    go rest false f =
-        let r = rest (sym (ap (λ v. numbered v g.count) (made_else e es g.maker f)) ∙ at) in
-        (r.0, Contains-append_right (histories_of e.0.items zero e.1.items) (histories_in es) r.0 r.1, r.2, r.3, r.4)
+one_shown : (p : Path) (n : ℕ) (js : List rust_channel.Channel) → map shown (histories_of p n js)
+    ≡ channels_of (λ j. bare (channel_of j)) p n js
+one_shown p n [] = refl
+one_shown p n (j ∷ js) = ap (λ l. (channel_name p n, bare (channel_of j)) ∷ l) (one_shown p (suc n) js)
 
--- the channels of one maker are in the order of their numbers
-histories_rise : (p : Path) (n : ℕ) (js : List rust_channel.Channel) → AreRising
-    (λ (g h : ChannelHistory). ComesBefore g.name h.name) (histories_of p n js)
-histories_rise p n [] = tt
-histories_rise p n (j ∷ js) = (
-  λ h c.
-      let r = history_at p (suc n) js h c in
-      subst (λ (z : ChannelHistory). ComesBefore (record { maker = p; count = suc n }) z.name) (sym r.3)
-      (inr (refl, omega arith)),
-  histories_rise p (suc n) js,
-)
-
--- all channels are in order
-pub channels_rise : (es : Channels) → AreInOrder es → AreRising
-    (λ (g h : ChannelHistory). ComesBefore g.name h.name) (histories_in es)
-channels_rise [] o = tt
-channels_rise (e ∷ es) o =
-    let both = in_order e es o in
-    rising_both (λ (g h : ChannelHistory). ComesBefore g.name h.name) (histories_of e.0.items zero e.1.items) (histories_in es)
-    (histories_rise e.0.items zero e.1.items) (channels_rise es both.1)
-    (λ g h a b.
-    let r = history_at e.0.items zero e.1.items g a in
-    let less = history_keys (λ q. IsBefore e.0.items q) es h both.0 b in
-    subst (λ (z : ChannelHistory). ComesBefore z.name h.name) (sym r.3) (inl less))
-
--- no list of channels is longer than is said of each maker's
-pub few_each : (n : ℕ) (es : Channels) → 0 < n → AreInOrder es → ((p : Path) → length (made_in es p) < n) →
-    AllByRecursion (λ (e : Key × Vec rust_channel.Channel Global). length e.1.items < n) es
-few_each n [] pos o h = tt
-few_each n (e ∷ es) pos o h =
-    let both = in_order e es o in (
-      subst (λ (v : List rust_channel.Channel). length v < n) (made_here e es e.0.items (at_itself e.0)) (h e.0.items),
-      few_each n es pos both.1 (λ p. rest both.0 p (at_path p e.0) refl),
-    )
-  where
-    rest : AreBehind e.0.items es → (p : Path) (b : Bool) → at_path p e.0 ≡ b → length (made_in es p) < n
-    rest behind p false f = subst (λ (v : List rust_channel.Channel). length v < n) (made_else e es p f) (h p)
-    rest behind p true f =
-        let path : p ≡ e.0.items = same_path-same p e.0.items (sym (at_same p e.0.items) ∙ f) in
-        let none : made_in es p ≡ [] = ap (made_in es) path ∙ ap listed (none_found e.0.items es behind) in
-        subst (λ (v : List rust_channel.Channel). length v < n) (sym none) pos
+-- the histories of all channels show them without who asks at them
+pub all_shown : (es : Channels) → map shown (histories_in es) ≡ channels_in (λ j. bare (channel_of j)) es
+all_shown [] = refl
+all_shown (e ∷ es) =
+    map-append shown (histories_of e.0.items zero e.1.items) (histories_in es)
+    ∙ (λ i. one_shown e.0.items zero e.1.items i ++ all_shown es i)

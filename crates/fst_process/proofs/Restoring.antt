@@ -11,16 +11,17 @@ use Rattle.fst_runs.specs.Configs as runs
 use Rattle.fst_runs.specs.Configs.{Path, Config, Task, same_path, same_channel, channel_name, program, Histories, channel_in, ChannelsWithin}
 use Rattle.fst_runs.specs.Wrong.{IsRight}
 use Rattle.fst_runs.proofs.Laws.{same_path-same}
-use Rattle.fst_process.specs.Kept.{Kept, nothing, added, put_at, settled}
+use Rattle.fst_paths.specs.Paths.{put_at}
+use Rattle.fst_process.specs.Kept.{Kept, nothing, added, settled}
 use Rattle.fst_process.specs.Reflects.{Reflects}
 use Rattle.fst_process.specs.Resuming.{Tasks, task_in, AreApart, made_by, AreNumbered, AreThere, TasksWithin, CanResume, IsResumed, unasked, restored, HaveNext, AreSettled}
-use Rattle.fst_process.proofs.Places.{put_here, put_cases, channel_cases}
+use Rattle.fst_paths.proofs.Laws.{put_here, put_cases, put_back}
+use Rattle.fst_process.proofs.Places.{channel_cases}
 use Rattle.fst_process.proofs.Taking.{hide, show, later}
 use Rattle.fst_process.proofs.Fewer.{Fine, fewer}
 use Rattle.fst_process.proofs.Opening.{with_channel, adding}
 use Rattle.fst_process.proofs.Going.{IsOf, settled_made, comes_in}
 use Rattle.fst_process.proofs.Begun.{nobody, nothing_yet}
-use Rattle.fst_process.proofs.Noting.{put_back}
 use Rattle.fst_process.proofs.Rights.{right_fine, right_alive}
 use Rattle.fst_process.proofs.Stepping.{settled_types}
 

@@ -12,9 +12,9 @@ use Rattle.fst_runs.specs.Events.{Write, Does, Runs, IsLast, written}
 use Rattle.fst_runs.specs.Least.{TakesPart, IsLeast, RunsLeast}
 use Rattle.fst_runs.specs.Wrong.{IsRight}
 use Rattle.fst_runs.proofs.Laws.{named_start, named_after, least_runs}
-use Rattle.fst_process.specs.declared.report.Report.{Report}
-use Rattle.fst_process.specs.declared.report.Outcome.{Outcome}
-use Rattle.fst_process.specs.declared.report.Outcome.TheVariants.{Done, OutOfSteps}
+use Rattle.fst_vm.specs.declared.report.Report.{Report}
+use Rattle.fst_vm.specs.declared.report.Outcome.{Outcome}
+use Rattle.fst_vm.specs.declared.report.Outcome.TheVariants.{Done, OutOfSteps}
 use Rattle.fst_process.specs.Kept.{Kept}
 use Rattle.fst_process.specs.Firing.{IsPossible, Happens, CanStart, IsBegun}
 use Rattle.fst_process.specs.Nexts.{IsNext}

@@ -15,7 +15,8 @@ use Rattle.fst_vm.specs.Tasks.{IsIn, IsFrom, HasNext, Takes, GoesOn, forked_afte
 use Rattle.fst_runs.specs.declared.event.CoreEvent.{CoreEvent}
 use Rattle.fst_runs.specs.Configs.{Path, Config, Task, program}
 use Rattle.fst_runs.specs.Events.{Asks}
-use Rattle.fst_process.specs.Kept.{Slot, Kept, has_ended, is_live, without, settled_at, settled}
+use Rattle.fst_vm.specs.Slot.{Slot, has_ended, is_live}
+use Rattle.fst_process.specs.Kept.{Kept, without, settled_at, settled}
 use Rattle.fst_process.specs.Reflects.{IsTask, Reflects}
 use Rattle.fst_process.specs.Firing.{IsPossible, Settles, CanGoOn, HasGoneOn}
 use Rattle.fst_process.proofs.Taking.{is_kept}

@@ -10,9 +10,11 @@ use Rattle.fst_machine.specs.declared.code.Code.{Code}
 use Rattle.fst_machine.specs.declared.request.Request.{Request}
 use Rattle.fst_machine.specs.declared.request.Request.TheVariants.{Step, New, Fork, Put, Get, Ended}
 use Rattle.fst_runs.specs.Configs.{Path, Config, Task}
-use Rattle.fst_process.specs.Kept.{Slot, Kept, asker, partner, end_of, moves_with, moves_so, put_at, without}
+use Rattle.fst_vm.specs.Slot.{Slot}
+use Rattle.fst_paths.specs.Paths.{put_at}
+use Rattle.fst_process.specs.Kept.{Kept, asker, partner, end_of, moves_with, moves_so, without}
 use Rattle.fst_process.specs.Reflects.{IsTask, AreTask, AsksAt, Reflects}
-use Rattle.fst_process.proofs.Places.{put_cases, put_both}
+use Rattle.fst_paths.proofs.Laws.{put_cases, put_both}
 
 -- the configuration without the task at a path
 abbrev pub hide : Path → Config → Config

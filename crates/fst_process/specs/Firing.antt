@@ -1,11 +1,9 @@
 -- What it takes for an event to happen, and what is kept then.
-use Rattle.std.specs.Prelude.{◌≡◌, ℕ, ◌<◌, true, false, suc, zero, max, length, Some}
+use Rattle.std.specs.Prelude.{◌≡◌, ℕ, ◌<◌, true, false, suc, zero, length, Some}
 use Rattle.fst_terms.specs.CoreTree.{CoreTree}
 use Rattle.fst_terms.specs.declared.core_module.Module.{Module}
 use Rattle.fst_machine.specs.declared.code.Code.{Code}
-use Rattle.fst_machine.specs.declared.request.Request.TheVariants.{Step}
 use Rattle.fst_machine.specs.declared.request.Answer.{Answer}
-use Rattle.fst_machine.specs.declared.request.Answer.TheVariants.{Go}
 use Rattle.fst_vm.specs.TaskView.{TaskView}
 use Rattle.fst_vm.specs.Tasks.{IsFrom, HasNext, Takes, GoesOn, Stays, AsksFor, IsAtRest}
 use Rattle.fst_runs.specs.declared.event.CoreEvent.{CoreEvent}
@@ -13,7 +11,9 @@ use Rattle.fst_runs.specs.Configs.{Path, Config, program, main_body, started}
 use Rattle.fst_runs.specs.Events.{Write, Does, written}
 use Rattle.fst_runs.specs.Names.{HasMakers, HasParents}
 use Rattle.fst_runs.specs.Wrong.{IsRight}
-use Rattle.fst_process.specs.Kept.{Slot, Kept, has_ended, without, settled_at, settled}
+use Rattle.fst_vm.specs.Slot.{Slot, has_ended}
+use Rattle.fst_vm.specs.Going.{MovesOn, StepsOn}
+use Rattle.fst_process.specs.Kept.{Kept, without, settled_at, settled}
 use Rattle.fst_process.specs.Reflects.{Reflects}
 
 -- what is kept is a configuration in which the event is possible, and nothing has gone wrong before it or after it
@@ -56,31 +56,6 @@ pub record CanGoOn (k : Code) (d : Kept) (p : Path) (a : Answer) : Type 0 where
   pub takes : Takes k slot.task a
   pub next : (u : TaskView) → GoesOn k slot.task a u → HasNext k u
   pub few : slot.clock < 4294967295
-
--- the task of a slot has gone on after the answer to what it asks for then; its clock counts one more, and is at least n
-pub record MovesOn (k : Code) (a : Answer) (n : ℕ) (s t : Slot) : Type 0 where
-  pub task : TaskView
-  pub goes_on : GoesOn k s.task a task
-  pub stays : Stays k task t.task
-  pub asked : AsksFor k task t.request
-  pub rests : IsAtRest k t.task
-  pub clock : t.clock ≡ max (suc s.clock) n
-
--- the task of a slot can step alone
-pub record CanStep (k : Code) (s : Slot) : Type 0 where
-  pub takes : Takes k s.task Go
-  pub next : (u : TaskView) → GoesOn k s.task Go u → HasNext k u
-  pub few : s.clock < 4294967295
-
--- it has done so so many times, as it asked to
-abbrev pub StepsOn : Code → ℕ → Slot → Slot → Type 0
-StepsOn k zero s t = t ≡ s
-StepsOn k (suc i) s t = (r : Slot) × StepsOn k i s r × (r.request ≡ Step) × MovesOn k Go zero r t
-
--- it can do so as often as it asks to, up to so many times
-abbrev pub CanStepOn : Code → ℕ → Slot → Type 0
-CanStepOn k most s = (i : ℕ) (t : Slot) → i < most → StepsOn k i s t → t.request ≡ Step →
-    ∥ CanStep k t ∥₁
 
 -- the task with this path has gone on so, and what it asks for then is noted
 pub record HasGoneOn (k : Code) (p : Path) (a : Answer) (n : ℕ) (d e : Kept) : Type 0 where

@@ -1,5 +1,5 @@
 -- What is kept of a configuration, and how single steps change it.
-use Rattle.std.specs.Prelude.{ℕ, zero, suc, Bool, true, false, Option, Some, None, option_map, option_and_then, is_some, List, [], ◌∷◌, ◌++◌, not, nat_lt, if◌then◌else◌}
+use Rattle.std.specs.Prelude.{ℕ, zero, suc, Bool, true, false, Option, Some, None, option_and_then, is_some, List, [], ◌∷◌, ◌++◌, nat_lt}
 use Rattle.fst_types.specs.Tree.{Tree}
 use Rattle.fst_types.specs.declared.side.Side.{Side}
 use Rattle.fst_types.specs.declared.side.Side.TheVariants.{Left, Right}
@@ -9,15 +9,11 @@ use Rattle.fst_types.specs.declared.ends.EndName.{EndName}
 use Rattle.fst_types.specs.declared.event.Entry.{Entry}
 use Rattle.fst_machine.specs.declared.request.Request.{Request}
 use Rattle.fst_machine.specs.declared.request.Request.TheVariants.{Step, New, Fork, Put, Get, Ended}
-use Rattle.fst_vm.specs.TaskView.{TaskView}
-use Rattle.fst_runs.specs.Configs.{Path, same_path, same_channel}
+use Rattle.fst_paths.specs.Paths.{put_at}
+use Rattle.fst_paths.specs.ChannelLists.{change_channel, put_channel}
+use Rattle.fst_vm.specs.Slot.{Slot}
+use Rattle.fst_runs.specs.Configs.{Path}
 pub use Rattle.fst_runs.specs.Wrong.{end_of}
-
--- what is kept of a task: where its code runs, what it asks for, and its clock
-pub record Slot : Type 0 where
-  pub task : TaskView
-  pub request : Request
-  pub clock : ℕ
 
 -- what is kept of a channel: the type of its left end, what passed over it, and which tasks ask at its ends
 pub record Channel : Type 0 where
@@ -32,29 +28,6 @@ pub record Kept : Type 0 where
   pub channels : ChannelName → Option Channel
   pub made : Path → ℕ
   pub ready : Path → Bool
-
--- a task that asks for this has ended
-abbrev pub has_ended : Request → Bool
-has_ended Step = false
-has_ended (New n) = false
-has_ended Fork = false
-has_ended (Put x ev) = false
-has_ended (Get x) = false
-has_ended Ended = true
-
--- a task that asks for this is to step
-abbrev pub is_step : Request → Bool
-is_step Step = true
-is_step (New n) = false
-is_step Fork = false
-is_step (Put x ev) = false
-is_step (Get x) = false
-is_step Ended = false
-
--- there is a task, and it has not ended
-abbrev pub is_live : Option Slot → Bool
-is_live None = false
-is_live (Some s) = not (has_ended s.request)
 
 -- the task that asks at an end
 abbrev pub asker_at : Side → Channel → Option Path
@@ -83,15 +56,6 @@ moves_with types d (Put x ev) = is_some (partner d x)
 moves_with types d (Get x) = is_some (partner d x)
 moves_with types d Ended = false
 
--- a task that asks for this can move alone
-abbrev pub moves_alone : ℕ → Request → Bool
-moves_alone types Step = true
-moves_alone types (New n) = nat_lt n types
-moves_alone types Fork = true
-moves_alone types (Put x ev) = false
-moves_alone types (Get x) = false
-moves_alone types Ended = false
-
 -- so can the task, if there is one
 abbrev pub moves_so : ℕ → Kept → Option Slot → Bool
 moves_so types d None = false
@@ -100,15 +64,6 @@ moves_so types d (Some s) = moves_with types d s.request
 -- the task with this path can move
 abbrev pub moves : ℕ → Kept → Path → Bool
 moves types d p = moves_so types d (d.tasks p)
-
--- a value at one path
-abbrev pub put_at : {X : Type 0} → Path → X → (Path → X) → Path → X
-put_at p x f q = if same_path p q then x else f q
-
--- a value at one channel
-abbrev pub put_channel : ChannelName → Channel →
-    (ChannelName → Option Channel) → ChannelName → Option Channel
-put_channel h k f g = if same_channel h g then Some k else f g
 
 -- a task that can't move
 abbrev pub unable : Path → Kept → Kept
@@ -120,10 +75,7 @@ without p d = record d { tasks = put_at p None d.tasks; ready = put_at p false d
 
 -- a channel is changed, if it is there
 abbrev pub changed : ChannelName → (Channel → Channel) → Kept → Kept
-changed h f d = record d {
-  channels =
-      λ g. if same_channel h g then option_map f (d.channels g) else d.channels g;
-}
+changed h f d = record d { channels = change_channel h f d.channels }
 
 -- a task is marked, if this holds
 abbrev pub marked : Bool → Path → (Path → Bool) → Path → Bool

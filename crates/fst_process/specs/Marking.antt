@@ -12,8 +12,9 @@ use Rattle.fst_runs.specs.Notes.{notes, entries_at}
 use Rattle.fst_process.specs.declared.marks.Done.TheVariants.{Local}
 use Rattle.fst_process.specs.declared.marks.Mark.{Mark}
 use Rattle.fst_process.specs.declared.marks.TaskMarks.{TaskMarks}
-use Rattle.fst_process.specs.Kept.{Kept, put_at}
-use Rattle.fst_process.specs.KeptOf.{at_path, listed}
+use Rattle.fst_paths.specs.Paths.{put_at, at_path}
+use Rattle.fst_process.specs.Kept.{Kept}
+use Rattle.fst_paths.specs.ChannelLists.{listed}
 use Rattle.fst_process.specs.Reflects.{Reflects}
 use Rattle.fst_process.specs.Firing.{IsPossible}
 use Rattle.fst_process.specs.Marks.{marks_from, forked_by}

@@ -18,8 +18,8 @@ use Rattle.fst_process.specs.declared.marks.Done.{Done}
 use Rattle.fst_process.specs.declared.marks.Done.TheVariants.{Local, Made, Forked, Put, Got}
 use Rattle.fst_process.specs.declared.marks.Mark.{Mark}
 use Rattle.fst_process.specs.declared.marks.TaskMarks.{TaskMarks}
-use Rattle.fst_process.specs.declared.report.Outcome.{Outcome}
-use Rattle.fst_process.specs.declared.report.Outcome.TheVariants as outcome
+use Rattle.fst_vm.specs.declared.report.Outcome.{Outcome}
+use Rattle.fst_vm.specs.declared.report.Outcome.TheVariants as outcome
 use Rattle.fst_process.specs.Kept.{Kept}
 use Rattle.fst_process.specs.Reflects.{Reflects}
 use Rattle.fst_process.specs.Reports.{IsReport}

@@ -9,7 +9,8 @@ use Rattle.fst_runs.specs.declared.event.CoreEvent.TheVariants.{Local, New, Fork
 use Rattle.fst_runs.specs.Configs.{Path, Config, program}
 use Rattle.fst_runs.specs.Least.{IsBefore, CanMove}
 use Rattle.fst_runs.specs.Wrong.{IsRight}
-use Rattle.fst_process.specs.Kept.{Slot, Kept, partner}
+use Rattle.fst_vm.specs.Slot.{Slot}
+use Rattle.fst_process.specs.Kept.{Kept, partner}
 use Rattle.fst_process.specs.Reflects.{Reflects}
 
 -- the event of a task that asks for this, if it can move

@@ -9,7 +9,8 @@ use Rattle.fst_machine.specs.Machine.{request}
 use Rattle.fst_vm.specs.Tasks.{IsFrom, IsIn, IsAtRest}
 use Rattle.fst_runs.specs.Configs as runs
 use Rattle.fst_runs.specs.Configs.{Path, Config, Task, channel_name}
-use Rattle.fst_process.specs.Kept.{Slot, Channel, Kept, asker, end_of, moves}
+use Rattle.fst_vm.specs.Slot.{Slot}
+use Rattle.fst_process.specs.Kept.{Channel, Kept, asker, end_of, moves}
 
 -- what is kept of the task with this path is the task
 pub record IsTask (m : Module) (k : Code) (d : Kept) (p : Path) (s : Slot) (t : Task) : Type 0 where

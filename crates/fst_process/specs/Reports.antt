@@ -18,9 +18,9 @@ use Rattle.fst_runs.specs.Order.{AreRising}
 use Rattle.fst_machine.specs.declared.code.Code.{Code}
 use Rattle.fst_process.specs.Kept.{Kept}
 use Rattle.fst_process.specs.Reflects.{Reflects}
-use Rattle.fst_process.specs.declared.report.Report.{Report}
-use Rattle.fst_process.specs.declared.report.Outcome.{Outcome}
-use Rattle.fst_process.specs.declared.report.Outcome.TheVariants.{Done, OutOfSteps}
+use Rattle.fst_vm.specs.declared.report.Report.{Report}
+use Rattle.fst_vm.specs.declared.report.Outcome.{Outcome}
+use Rattle.fst_vm.specs.declared.report.Outcome.TheVariants.{Done, OutOfSteps}
 
 abbrev mutual
   -- a value as it is kept is one of terms, but for what functions hold

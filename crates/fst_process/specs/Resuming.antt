@@ -8,7 +8,8 @@ use Rattle.fst_vm.specs.TaskView.{TaskView}
 use Rattle.fst_vm.specs.Tasks.{IsFrom, IsIn, HasNext}
 use Rattle.fst_runs.specs.Configs.{Path, Config, Task, Histories, same_path, channel_in, channel_name, ChannelsWithin, program}
 use Rattle.fst_runs.specs.Wrong.{IsRight}
-use Rattle.fst_process.specs.Kept.{Channel, Kept, put_at, added}
+use Rattle.fst_paths.specs.Paths.{put_at}
+use Rattle.fst_process.specs.Kept.{Channel, Kept, added}
 use Rattle.fst_process.specs.Reflects.{Reflects}
 use Rattle.fst_process.specs.Firing.{Settles}
 

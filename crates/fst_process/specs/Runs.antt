@@ -12,7 +12,7 @@ use Rattle.fst_runs.specs.Names.{HasMakers, HasParents}
 use Rattle.fst_runs.specs.Wrong.{IsRight}
 use Rattle.fst_process.specs.Kept.{Kept}
 use Rattle.fst_process.specs.Reflects.{Reflects}
-use Rattle.fst_process.specs.declared.report.Outcome.{Outcome}
+use Rattle.fst_vm.specs.declared.report.Outcome.{Outcome}
 use Rattle.fst_process.specs.Reports.{IsAnswer, IsAnswerFrom}
 
 -- no run of the module from this configuration goes wrong

@@ -3,33 +3,30 @@ ghost use Rattle.std.specs.Option.{option_copied};
 ghost use Rattle.fst_lts.specs.Histories.{last_stamp};
 ghost use Rattle.fst_vm.specs.Tasks.{HasNext};
 ghost use Rattle.fst_runs.specs.Configs.{channel_name};
-ghost use Rattle.fst_process.specs.Kept.{nothing, is_live, partner, changed, added, opened, passed};
-ghost use Rattle.fst_process.specs.KeptOf.{kept_of, slot_of, slot_in, channel_of};
+ghost use Rattle.fst_process.specs.Kept.{nothing, partner, changed, added, opened, passed};
+ghost use Rattle.fst_process.specs.KeptOf.{kept_of, channel_of};
 ghost use Rattle.fst_process.specs.Firing.{Settles, CanGoOn, HasGoneOn, HasStepped, CanStart, IsBegun};
 ghost use Rattle.fst_process.specs.Nexts.{event_with, event_of, IsNext, TellsMoving};
 ghost use Rattle.fst_process.specs.Reports.{IsConfig, IsReported};
 ghost use Rattle.fst_process.specs.Runs.{CanRunFrom};
 
-use crate::kept::{
-    Channel, EndedTask, Slot, has_ended, last_among, move_on, partner_among, record_among, step_on,
-};
+use crate::kept::{Channel, asker, last_stamp, opposite, record_among};
 use crate::notes::{note, note_again};
-use crate::report::{Report, histories, main_result, waiting_tasks};
+use crate::report::histories;
 use fst_machine::{Answer, Code, Request};
+use fst_paths::Channels;
 use fst_runs::CoreEvent;
 use fst_types::{ChannelName, EndName, Event, Path, Ty};
-use fst_vm::Task;
+use fst_vm::{Report, Slot, Task, Tasks, has_ended, move_on, step_on};
 use std::alloc::{AllocError, Global};
-use std::collections::{BTreeMap, BTreeSet};
+use std::collections::BTreeSet;
 
-/// All tasks and all channels of a run: tasks by their paths, those that have ended apart from them, in the order in which they
-/// did, so that no path is looked up among theirs; channels by their makers in order; and the paths of the tasks that can move.
+/// All tasks and all channels of a run, and the paths of the tasks that can move.
 #[derive(Drop)]
 pub struct Config {
     pub(crate) alloc: Global,
-    tasks: BTreeMap<Vec<u32>, Slot>,
-    ended: Vec<EndedTask>,
-    channels: BTreeMap<Vec<u32>, Vec<Channel>>,
+    pub(crate) tasks: Tasks,
+    pub(crate) channels: Channels<Channel>,
     ready: BTreeSet<Vec<u32>>,
     // how many events have happened
     pub(crate) events: u64,
@@ -43,9 +40,8 @@ impl Config {
     {
         Config {
             alloc,
-            tasks: BTreeMap::new(alloc),
-            ended: Vec::new(alloc),
-            channels: BTreeMap::new(alloc),
+            tasks: Tasks::new(alloc),
+            channels: Channels::new(alloc),
             ready: BTreeSet::new(alloc),
             events,
         }
@@ -91,15 +87,14 @@ impl Config {
     {
         let Config {
             alloc,
-            mut tasks,
-            ended,
+            tasks,
             channels,
             events,
             ..
         } = self;
-        let waiting = waiting_tasks(alloc, &tasks)?;
-        let result = main_result(&mut tasks, ended);
-        let channels = histories(alloc, channels)?;
+        let waiting = tasks.waiting(alloc)?;
+        let result = tasks.result();
+        let channels = histories(alloc, channels.by_maker)?;
         Ok(Report {
             result,
             waiting,
@@ -112,7 +107,7 @@ impl Config {
     fn event_of(&self, path: &[u32]) -> Result<Option<CoreEvent>, AllocError>
         ensures { IfOk result (λ o. o ≡ event_of (kept_of self.now) path.now) }
     {
-        match self.tasks.get(path) {
+        match self.tasks.live.get(path) {
             Some(slot) => {
                 let event = self.event_with(path, &slot.request)?;
                 Ok(event)
@@ -154,19 +149,9 @@ impl Config {
     fn partner<'a>(&'a self, end: &EndName) -> Option<&'a Path>
         ensures { option_copied result ≡ partner (kept_of self.now) end.now }
     {
-        match self.channels.get(end.channel.maker.as_slice()) {
-            Some(channels) => partner_among(channels, end),
+        match self.channels.get(&end.channel) {
+            Some(channel) => asker(channel, opposite(end.side)),
             None => None,
-        }
-    }
-
-    /// How many channels a task has made.
-    pub(crate) fn made(&self, maker: &Path) -> usize
-        ensures { result ≡ (kept_of self.now).made maker.now }
-    {
-        match self.channels.get(maker.as_slice()) {
-            Some(channels) => channels.len(),
-            None => 0,
         }
     }
 
@@ -175,18 +160,10 @@ impl Config {
         ensures { (j : _) → (kept_of self.now).channels channel.now ≡ Some j →
             result ≡ last_stamp j.history }
     {
-        match self.channels.get(channel.maker.as_slice()) {
-            Some(channels) => last_among(channels, channel.count),
+        match self.channels.get(channel) {
+            Some(channel) => last_stamp(&channel.entries),
             None => 0,
         }
-    }
-
-    /// What is kept of a task that has not ended.
-    pub(crate) fn slot(&self, path: &Path) -> &Slot
-        requires { is_live ((kept_of self.now).tasks path.now) ≡ true }
-        ensures { (kept_of self.now).tasks path.now ≡ Some (slot_of result.now) }
-    {
-        self.tasks.get(path.as_slice()).unwrap()
     }
 
     /// Puts a task in with what it asks for.
@@ -210,36 +187,14 @@ impl Config {
             task.path(),
             &request,
         )?;
-        if has_ended(&request) {
-            self.tasks.remove(task.path().as_slice());
-            self.ended.push(EndedTask { task, clock })?;
-            return Ok(());
-        }
-        let key = Vec::from_slice(self.alloc, task.path().as_slice())?;
-        let slot = Slot {
-            task,
-            request,
-            clock,
-        };
-        self.tasks.insert(key, slot)?;
-        Ok(())
-    }
-
-    // Moves a task that has ended to those that have.
-    fn set_aside(&mut self, path: &Path) -> Result<(), AllocError>
-        requires { (s : _) → slot_in self.old.tasks.entries path.now ≡ Some s →
-            (s.task.path ≡ path.now) × (s.request ≡ Request.Ended) }
-        ensures kept { OnOk result (kept_of self.new ≡ kept_of self.old) }
-        ensures events { self.new.events ≡ self.old.events }
-    {
-        match self.tasks.remove(path.as_slice()) {
-            Some(slot) => {
-                let Slot { task, clock, .. } = slot;
-                self.ended.push(EndedTask { task, clock })?;
-                Ok(())
-            }
-            None => Ok(()),
-        }
+        self.tasks.put_in(
+            self.alloc,
+            Slot {
+                task,
+                request,
+                clock,
+            },
+        )
     }
 
     /// Gives a task that can move an answer, after which it goes on to what it asks for then. Its clock counts one more,
@@ -255,7 +210,7 @@ impl Config {
         ensures { OnOk result (HasGoneOn code.now path.now answer least (kept_of self.old)
             (kept_of self.new)) }
     {
-        match self.tasks.get_mut(path.as_slice()) {
+        match self.tasks.live.get_mut(path.as_slice()) {
             Some(slot) => {
                 move_on(slot, code, answer, least)?;
                 note_again(
@@ -267,7 +222,7 @@ impl Config {
                     &slot.request,
                 )?;
                 if has_ended(&slot.request) {
-                    return self.set_aside(path);
+                    return self.tasks.set_aside(path);
                 }
                 Ok(())
             }
@@ -293,7 +248,7 @@ impl Config {
         ensures some { IfOk result (λ i. 0 < i) }
         ensures most { IfOk result (λ i. i ≤ steps + 1) }
     {
-        match self.tasks.get_mut(path.as_slice()) {
+        match self.tasks.live.get_mut(path.as_slice()) {
             Some(slot) => {
                 let count = step_on(slot, code, steps + 1 - self.events)?;
                 note_again(
@@ -306,7 +261,7 @@ impl Config {
                 )?;
                 self.events += count;
                 if has_ended(&slot.request) {
-                    self.set_aside(path)?;
+                    self.tasks.set_aside(path)?;
                     return Ok(count);
                 }
                 Ok(count)
@@ -327,15 +282,7 @@ impl Config {
             (kept_of self.old)) }
         ensures events { self.new.events ≡ self.old.events }
     {
-        let mut channels = match self.channels.remove(maker.as_slice()) {
-            Some(channels) => channels,
-            None => Vec::new(self.alloc),
-        };
-        channels.push(channel)?;
-        let count = channels.len();
-        let key = Vec::from_slice(self.alloc, maker.as_slice())?;
-        self.channels.insert(key, channels)?;
-        Ok(count)
+        self.channels.push(maker, channel)
     }
 
     /// Adds a channel of a task.
@@ -383,7 +330,7 @@ impl Config {
             (passed (record { event = event; stamp = stamp; sent = sent; got = got }))
             (kept_of self.old)) }
     {
-        match self.channels.get_mut(channel.maker.as_slice()) {
+        match self.channels.by_maker.get_mut(channel.maker.as_slice()) {
             Some(channels) => {
                 let stamp = record_among(channels, channel.count, event, sent, got)?;
                 Ok(stamp)

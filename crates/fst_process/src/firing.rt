@@ -53,7 +53,7 @@ impl Config {
         ensures { OnOk result (Happens code.now (kept_of self.old) (CoreEvent.New path.now)
             (kept_of self.new)) }
     {
-        match &self.slot(path).request {
+        match &self.tasks.slot(path).request {
             Request::New(number) => {
                 let declared = copy_type(self.alloc, &code.types[*number as usize])?;
                 let name = self.add_channel(path, declared)?;
@@ -69,7 +69,7 @@ impl Config {
         ensures { OnOk result (Happens code.now (kept_of self.old) (CoreEvent.Fork path.now)
             (kept_of self.new)) }
     {
-        let parent = self.slot(path);
+        let parent = self.tasks.slot(path);
         let clock = parent.clock;
         let (child, _) = parent.task.child(code)?;
         self.go_on(code, path, Answer::Forked, 0)?;
@@ -89,8 +89,8 @@ impl Config {
         ensures { OnOk result (Happens code.now (kept_of self.old)
             (CoreEvent.Meet sender.now receiver.now channel.now) (kept_of self.new)) }
     {
-        let first = self.slot(sender);
-        let second = self.slot(receiver);
+        let first = self.tasks.slot(sender);
+        let second = self.tasks.slot(receiver);
         match &first.request {
             Request::Put(_, event) => {
                 let sent = first.clock;

@@ -1,31 +1,12 @@
-ghost use Rattle.std.specs.Prelude.{◌≡◌, ◌<◌, ◌≤◌, Some, IfOk, OnOk, suc, max, option_and_then};
+ghost use Rattle.std.specs.Prelude.{◌≡◌, ◌<◌, Some, IfOk, OnOk, suc, max, option_and_then};
 ghost use Rattle.std.specs.Option.{option_copied};
+ghost use Rattle.fst_paths.specs.ChannelLists.{IsChangedAt};
 ghost use Rattle.fst_lts.specs.Histories.{opposite, last_stamp};
-ghost use Rattle.fst_vm.specs.TaskView.{TaskView};
-ghost use Rattle.fst_vm.specs.Tasks.{HasNext, Takes, GoesOn};
-ghost use Rattle.fst_process.specs.Kept.{has_ended, is_step, asker_at, with_asker, passed};
-ghost use Rattle.fst_process.specs.Firing.{MovesOn, StepsOn, CanStepOn};
-ghost use Rattle.fst_process.specs.KeptOf.{slot_of, channel_of, numbered, IsChangedAt};
+ghost use Rattle.fst_process.specs.Kept.{asker_at, with_asker, passed};
+ghost use Rattle.fst_process.specs.KeptOf.{channel_of, channel_at};
 
-use fst_machine::{Answer, Code, Request};
 use fst_types::{EndName, Entry, Event, Path, Side, Ty};
-use fst_vm::Task;
 use std::alloc::{AllocError, Global};
-
-/// What is kept of a task: what it asks for, and its clock.
-#[derive(Drop)]
-pub(crate) struct Slot {
-    pub(crate) task: Task,
-    pub(crate) request: Request,
-    pub(crate) clock: u64,
-}
-
-/// What is kept of a task that has ended.
-#[derive(Drop)]
-pub(crate) struct EndedTask {
-    pub(crate) task: Task,
-    pub(crate) clock: u64,
-}
 
 /// What is kept of a channel: the type of its left end when it was made, what passed over it, and which tasks ask at
 /// its ends.
@@ -35,80 +16,6 @@ pub(crate) struct Channel {
     pub(crate) entries: Vec<Entry>,
     pub(crate) left: Option<Path>,
     pub(crate) right: Option<Path>,
-}
-
-/// Whether a task that asks for this has ended.
-pub(crate) fn has_ended(request: &Request) -> bool
-    ensures { result ≡ has_ended request.now }
-{
-    match request {
-        Request::Step => false,
-        Request::New(_) => false,
-        Request::Fork => false,
-        Request::Put(_, _) => false,
-        Request::Get(_) => false,
-        Request::Ended => true,
-    }
-}
-
-// Gives a task an answer.
-fn resume(task: &mut Task, code: &Code, answer: Answer) -> Result<(), AllocError>
-    requires { ∥ Takes code.now task.old answer ∥₁ }
-    ensures { OnOk result (GoesOn code.now task.old answer task.new) }
-{
-    match task.resume(code, answer) {
-        Ok(()) => Ok(()),
-        Err((_, e)) => Err(e),
-    }
-}
-
-/// Gives the task of a slot an answer, after which it goes on to what it asks for then. Its clock counts one more, and is
-/// at least this.
-pub(crate) fn move_on(
-    slot: &mut Slot,
-    code: &Code,
-    answer: Answer,
-    least: u64,
-) -> Result<(), AllocError>
-    requires takes { ∥ Takes code.now slot.old.task answer ∥₁ }
-    requires next { (u : TaskView) → GoesOn code.now slot.old.task answer u →
-        ∥ HasNext code.now u ∥₁ }
-    requires few { slot.old.clock < 4294967295 }
-    ensures { OnOk result (MovesOn code.now answer least (slot_of slot.old) (slot_of slot.new)) }
-{
-    resume(&mut slot.task, code, answer)?;
-    slot.request = slot.task.advance(code)?;
-    slot.clock = (slot.clock + 1).max(least);
-    Ok(())
-}
-
-// Whether a task that asks for this is to step.
-fn is_step(request: &Request) -> bool
-    ensures { result ≡ is_step request.now }
-{
-    match request {
-        Request::Step => true,
-        Request::New(_) => false,
-        Request::Fork => false,
-        Request::Put(_, _) => false,
-        Request::Get(_) => false,
-        Request::Ended => false,
-    }
-}
-
-/// Has the task of a slot step as often as it asks to, up to so many times, and answers how often that was.
-pub(crate) fn step_on(slot: &mut Slot, code: &Code, most: u64) -> Result<u64, AllocError>
-    requires { CanStepOn code.now most (slot_of slot.old) }
-    ensures steps { IfOk result (λ n. StepsOn code.now n (slot_of slot.old) (slot_of slot.new)) }
-    ensures most { IfOk result (λ n. n ≤ most) }
-    ensures some { IfOk result (λ n. 0 < most → slot.old.request ≡ Request.Step → 0 < n) }
-{
-    let mut count = 0;
-    while count < most && is_step(&slot.request) {
-        move_on(slot, code, Answer::Go, 0)?;
-        count += 1;
-    }
-    Ok(count)
 }
 
 /// The other side.
@@ -121,8 +28,8 @@ pub(crate) fn opposite(side: Side) -> Side
     }
 }
 
-// The stamp of the last entry, or 0.
-fn last_stamp(entries: &[Entry]) -> u64
+/// The stamp of the last entry, or 0.
+pub(crate) fn last_stamp(entries: &[Entry]) -> u64
     ensures { result ≡ last_stamp entries.now }
 {
     match entries.last() {
@@ -131,8 +38,8 @@ fn last_stamp(entries: &[Entry]) -> u64
     }
 }
 
-// The task that asks at an end of a channel.
-fn asker(channel: &Channel, side: Side) -> Option<&Path>
+/// The task that asks at an end of a channel.
+pub(crate) fn asker(channel: &Channel, side: Side) -> Option<&Path>
     ensures { option_copied result ≡ asker_at side (channel_of channel.now) }
 {
     match side {
@@ -161,30 +68,6 @@ fn pass(channel: &mut Channel, entry: Entry) -> Result<(), AllocError>
     Ok(())
 }
 
-/// The task that asks at the other end, where these are the channels of its maker.
-pub(crate) fn partner_among<'a>(channels: &'a [Channel], end: &EndName) -> Option<&'a Path>
-    ensures { option_copied result ≡
-        option_and_then (asker_at (opposite end.now.side))
-        (numbered channels.now end.now.channel.count) }
-{
-    let count = end.channel.count as usize;
-    if count == 0 || channels.len() < count {
-        return None;
-    }
-    asker(&channels[count - 1], opposite(end.side))
-}
-
-/// The stamp of the last entry of one of the channels of a maker.
-pub(crate) fn last_among(channels: &[Channel], number: u32) -> u64
-    ensures { (j : _) → numbered channels.now number ≡ Some j → result ≡ last_stamp j.history }
-{
-    let count = number as usize;
-    if count == 0 || channels.len() < count {
-        return 0;
-    }
-    last_stamp(&channels[count - 1].entries)
-}
-
 /// Notes among the channels of one maker that a task asks at an end, and answers the one that asks at the other.
 pub(crate) fn ask_among(
     alloc: Global,
@@ -194,8 +77,8 @@ pub(crate) fn ask_among(
 ) -> Result<Option<Path>, AllocError>
     ensures partner { IfOk result (λ o.
         o ≡ option_and_then (asker_at (opposite end.now.side))
-        (numbered channels.old.items end.now.channel.count)) }
-    ensures asked { OnOk result (IsChangedAt end.now.channel.count
+        (channel_at channels.old.items end.now.channel.count)) }
+    ensures asked { OnOk result (IsChangedAt channel_of end.now.channel.count
         (with_asker end.now.side (Some path.now))
         channels.old.items channels.new.items) }
 {
@@ -223,11 +106,11 @@ pub(crate) fn record_among(
 ) -> Result<u64, AllocError>
     requires sent { sent < 4294967295 }
     requires got { got < 4294967295 }
-    requires stamps { (j : _) → numbered channels.old.items number ≡ Some j →
+    requires stamps { (j : _) → channel_at channels.old.items number ≡ Some j →
         last_stamp j.history < 4294967296 }
-    ensures stamp { IfOk result (λ stamp. (j : _) → numbered channels.old.items number ≡ Some j →
+    ensures stamp { IfOk result (λ stamp. (j : _) → channel_at channels.old.items number ≡ Some j →
         stamp ≡ suc (max (max sent got) (last_stamp j.history))) }
-    ensures passed { IfOk result (λ stamp. IsChangedAt number
+    ensures passed { IfOk result (λ stamp. IsChangedAt channel_of number
         (passed (record { event = event; stamp = stamp; sent = sent; got = got }))
         channels.old.items channels.new.items) }
 {

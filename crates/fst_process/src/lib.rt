@@ -12,7 +12,7 @@ mod resuming;
 mod run;
 
 pub use config::Config;
+pub use fst_vm::{Outcome, Report, Waiting};
 pub use marking::{in_path_order, run_marked};
 pub use marks::{Done, Mark, TaskMarks};
-pub use report::{Outcome, Report, Waiting};
 pub use run::{run_from, run_one};

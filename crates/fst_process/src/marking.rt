@@ -1,7 +1,7 @@
 ghost use Rattle.std.specs.Prelude.{◌≡◌, ◌+◌, ◌++◌, ◌^◌, ◌<◌, true, Some, suc, IfOk, OnOk};
-ghost use Rattle.fst_process.specs.Kept.{is_live};
+ghost use Rattle.fst_vm.specs.Slot.{is_live};
 ghost use Rattle.fst_process.specs.KeptOf.{kept_of};
-ghost use Rattle.fst_process.specs.Listed.{AreInOrder};
+ghost use Rattle.fst_paths.specs.Paths.{AreInOrder};
 ghost use Rattle.fst_process.specs.Firing.{IsPossible};
 ghost use Rattle.fst_process.specs.Runs.{CanRunFrom};
 ghost use Rattle.fst_process.specs.Marks.{IsMarkedOutcomeFrom};
@@ -10,10 +10,10 @@ ghost use Rattle.fst_process.specs.Marking.{marks_in, step_marks, tasks_of, with
 use crate::config::Config;
 use crate::kept::opposite;
 use crate::marks::{Done, Mark, TaskMarks};
-use crate::report::Outcome;
 use fst_machine::{Code, Request};
 use fst_runs::CoreEvent;
 use fst_types::{ChannelName, EndName, Path};
+use fst_vm::Outcome;
 use std::alloc::{AllocError, Global};
 use std::collections::BTreeMap;
 
@@ -112,7 +112,7 @@ impl Config {
             CoreEvent::Local(path) => self.mark_alone(all, path, Done::Local),
             CoreEvent::New(path) => {
                 let maker = path.copy(self.alloc)?;
-                let count = self.made(path) + 1;
+                let count = self.channels.made(path.as_slice()) + 1;
                 let name = ChannelName {
                     maker,
                     count: count as u32,
@@ -120,7 +120,7 @@ impl Config {
                 self.mark_alone(all, path, Done::Made(name))
             }
             CoreEvent::Fork(path) => {
-                let (child, _) = self.slot(path).task.child(code)?;
+                let (child, _) = self.tasks.slot(path).task.child(code)?;
                 let forked = child.path().copy(self.alloc)?;
                 self.mark_alone(all, path, Done::Forked(forked))
             }
@@ -145,7 +145,7 @@ impl Config {
             with_mark path.now (record { done = done; stamp = suc s.clock })
             (marks_in all.old.entries)) }
     {
-        let stamp = self.slot(path).clock + 1;
+        let stamp = self.tasks.slot(path).clock + 1;
         add_mark(self.alloc, all, path, Mark { done, stamp })
     }
 
@@ -163,8 +163,8 @@ impl Config {
             (CoreEvent.Meet sender.now receiver.now channel.now) (marks_in all.old.entries)
             (marks_in all.new.entries)) }
     {
-        let first = self.slot(sender);
-        let second = self.slot(receiver);
+        let first = self.tasks.slot(sender);
+        let second = self.tasks.slot(receiver);
         match &first.request {
             Request::Put(end, event) => {
                 let last = self.last_stamp(channel);
@@ -210,7 +210,7 @@ pub fn run_marked(
     while config.events <= steps {
         match config.next()? {
             Some(CoreEvent::Local(path)) => {
-                let clock = config.slot(&path).clock;
+                let clock = config.tasks.slot(&path).clock;
                 let count = config.step_on(code, &path, steps)?;
                 add_steps(alloc, &mut marks, &path, clock, count)?;
             }

@@ -3,9 +3,9 @@ ghost use Rattle.fst_process.specs.KeptOf.{kept_of};
 ghost use Rattle.fst_process.specs.Runs.{CanRun, IsOutcome, CanRunFrom, IsOutcomeFrom};
 
 use crate::config::Config;
-use crate::report::Outcome;
 use fst_machine::Code;
 use fst_runs::CoreEvent;
+use fst_vm::Outcome;
 use std::alloc::{AllocError, Global};
 
 /// What the least run of the code comes to in so many steps: always the event of the first task that can move happens.

@@ -1,3 +1,4 @@
+pub mod BufferedTexts
 pub mod DeclaredTypes
 pub mod Parts
 pub mod ReportTexts

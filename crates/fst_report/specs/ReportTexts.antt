@@ -13,8 +13,8 @@ use Rattle.fst_types.specs.declared.event.Entry.{Entry}
 use Rattle.fst_types.specs.declared.event.ChannelHistory.{ChannelHistory}
 use Rattle.fst_type_print.specs.NameTexts.{path_text, channel_text}
 use Rattle.fst_type_print.specs.Texts.{type_text, family_names, side_text}
-use Rattle.fst_process.specs.declared.report.Report.{Report}
-use Rattle.fst_process.specs.declared.report.Waiting.{Waiting}
+use Rattle.fst_vm.specs.declared.report.Report.{Report}
+use Rattle.fst_vm.specs.declared.report.Waiting.{Waiting}
 
 -- an end of this type sends the event, or selects the label
 abbrev pub sends : Tree → Event → Bool

@@ -1,6 +1,6 @@
 -- The summary of a run as text.
 use Rattle.std.specs.Prelude.{ℕ, List, [], ◌++◌, codes, decimal, length}
-use Rattle.fst_process.specs.declared.report.Report.{Report}
+use Rattle.fst_vm.specs.declared.report.Report.{Report}
 use Rattle.fst_report.specs.ReportTexts.{result_line}
 
 -- a line that says how many there are of something

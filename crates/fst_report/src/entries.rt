@@ -67,7 +67,7 @@ fn push_entry(
 }
 
 /// Entries of a history, where this is left of the left end's type: a space and the entry each.
-pub fn push_part(
+pub(crate) fn push_part(
     alloc: Global,
     text: &mut String,
     residual: &mut Residual,

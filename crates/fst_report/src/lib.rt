@@ -1,12 +1,12 @@
-//! The report of a run as text, and its summary.
+//! The report of a run as text, also with what was put into channels and not taken, and its summary.
 #![tactic(auto)]
 
+mod buffered;
 mod entries;
 mod report;
 mod residual;
 mod summary;
 
-pub use entries::push_part;
-pub use report::{push_result, push_tasks, push_type_line, report_text};
-pub use residual::Residual;
+pub use buffered::buffered_text;
+pub use report::report_text;
 pub use summary::summary_text;

@@ -8,14 +8,14 @@ ghost use Rattle.fst_report.specs.DeclaredTypes.{AreNamedWithin, AreScoped};
 ghost use Rattle.fst_report.specs.ReportTexts.{history_line, history_text, report_text, result_line, type_line, waiting_text};
 
 use crate::entries::push_entries;
-use fst_process::{Report, Waiting};
 use fst_type_print::{push_channel, push_path, side_text, type_text};
 use fst_types::{ChannelHistory, Family};
 use fst_value::{Value, print};
+use fst_vm::{Report, Waiting};
 use std::alloc::{AllocError, Global};
 
 /// The line of main's value, or that it has none.
-pub fn push_result(
+pub(crate) fn push_result(
     alloc: Global,
     text: &mut String,
     value: &Option<Value>,
@@ -44,7 +44,7 @@ fn push_waiting(text: &mut String, waiting: &Waiting) -> Result<(), AllocError>
 }
 
 /// The lines of the tasks that wait.
-pub fn push_tasks(text: &mut String, tasks: &[Waiting]) -> Result<(), AllocError>
+pub(crate) fn push_tasks(text: &mut String, tasks: &[Waiting]) -> Result<(), AllocError>
     ensures { Gains result text.old text.new (flat_map waiting_text tasks.now) }
 {
     for task in tasks {
@@ -54,7 +54,7 @@ pub fn push_tasks(text: &mut String, tasks: &[Waiting]) -> Result<(), AllocError
 }
 
 /// The line of a channel and its type.
-pub fn push_type_line(
+pub(crate) fn push_type_line(
     alloc: Global,
     text: &mut String,
     channel: &ChannelHistory,

@@ -13,7 +13,7 @@ use std::marker::Model;
 /// What is left of a type, which contracts see as a type. Its parts are kept one after another, the first of them last in the
 /// list, so that an event costs no more than the part that moves by it, however much stands behind that part.
 #[derive(Drop)]
-pub struct Residual {
+pub(crate) struct Residual {
     parts: Vec<Ty>,
 }
 
@@ -31,7 +31,7 @@ impl Model for Residual {
 
 impl Residual {
     /// The whole type.
-    pub fn of(alloc: Global, ty: &Ty) -> Result<Residual, AllocError>
+    pub(crate) fn of(alloc: Global, ty: &Ty) -> Result<Residual, AllocError>
         ensures { IfOk result (λ r. r ≡ ty.now) }
     {
         let mut parts = Vec::new(alloc);

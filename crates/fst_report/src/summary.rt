@@ -7,7 +7,7 @@ ghost use Rattle.fst_report.specs.SummaryTexts.{count_line, summary_text};
 
 use crate::report::push_result;
 use fst_base::push_number;
-use fst_process::Report;
+use fst_vm::Report;
 use std::alloc::{AllocError, Global};
 
 fn push_count(text: &mut String, name: &str, count: u64) -> Result<(), AllocError>

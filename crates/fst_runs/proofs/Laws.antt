@@ -35,3 +35,5 @@ pub use Rattle.fst_runs.proofs.StampedLaws.{HasStamps, run_stamps, stamped_runs,
 pub use Rattle.fst_runs.proofs.OrderLaws.{not_both, precede_apart, sorted_timed}
 -- What a task's log gains in more events is what it gains in the first of them and what it gains in the others; in each run logs gain something.
 pub use Rattle.fst_runs.proofs.LogLaws.{entries_at-append, run_notes}
+-- a task that asks to put something in at an end, or to get something there, goes on after that
+pub use Rattle.fst_runs.proofs.RightLaws.{put_answered, get_answered}

@@ -1,6 +1,5 @@
 -- A configuration: all tasks by their paths, and all channels by their names.
-use Rattle.std.specs.Prelude.{◌≤◌, ℕ, zero, suc, Bool, true, false, ◌&&◌, Option, Some, None, option_and_then, List, [], ◌∷◌, ◌++◌, nat_eq, if◌then◌else◌, ⊤}
-use Rattle.std.specs.Str.{bytes_eq}
+use Rattle.std.specs.Prelude.{◌≤◌, ℕ, zero, suc, Bool, true, false, ◌&&◌, Option, Some, None, option_and_then, List, [], ◌∷◌, ◌++◌, if◌then◌else◌, ⊤}
 use Rattle.fst_types.specs.Tree.{Tree}
 use Rattle.fst_types.specs.declared.side.Side.{Side}
 use Rattle.fst_types.specs.declared.side.Side.TheVariants.{Left, Right}
@@ -13,10 +12,8 @@ use Rattle.fst_types.specs.declared.event.ChannelHistory.{ChannelHistory}
 use Rattle.fst_types.specs.declared.event.Entry.{Entry}
 use Rattle.fst_machine.specs.Machine.{State, begins}
 pub use Rattle.fst_machine.specs.Programs.{bodies, program, main_body}
-
--- the path of a task: main's is 0, and the k-th task that a task forks has its path with k behind it
-abbrev pub Path : Type 0
-Path = List ℕ
+pub use Rattle.fst_paths.specs.Paths.{Path, main_path, same_path}
+pub use Rattle.fst_paths.specs.ChannelLists.{same_channel}
 
 -- a task: its state, how many channels it has made, how many tasks it has forked, and its clock
 pub record Task : Type 0 where
@@ -34,14 +31,6 @@ pub record Channel : Type 0 where
 pub record Config : Type 0 where
   pub tasks : Path → Option Task
   pub channels : ChannelName → Option Channel
-
--- the paths are the same
-abbrev pub same_path : Path → Path → Bool
-same_path p q = bytes_eq p q
-
--- the names are the same
-abbrev pub same_channel : ChannelName → ChannelName → Bool
-same_channel g h = bytes_eq g.maker h.maker && nat_eq g.count h.count
 
 -- the sides are the same
 abbrev pub same_side : Side → Side → Bool
@@ -77,10 +66,6 @@ channel_name p made = record { maker = p; count = suc made }
 -- a task that begins at this clock
 abbrev pub new_task : State → ℕ → Task
 new_task s clock = record { state = s; made = zero; forked = zero; clock = clock }
-
--- the path of main's task
-abbrev pub main_path : Path
-main_path = zero ∷ []
 
 -- the one task main at this term, and no channel
 abbrev pub started : CoreTree → Config

@@ -1,3 +1,4 @@
+pub mod Laws
 mod BackLaws
 mod SlotLaws
 mod PlaceLaws
@@ -5,3 +6,4 @@ mod StepLaws
 mod RunLaws
 mod TellLaws
 mod TaskLaws
+mod KeptLaws

@@ -6,3 +6,6 @@ pub mod Acts
 pub mod Running
 pub mod Tasks
 pub mod Ways
+pub mod Slot
+pub mod Going
+pub mod SlotOf

@@ -4,14 +4,14 @@ use Rattle.fst_types.specs.Tree.{Tree}
 use Rattle.fst_terms.specs.declared.core_module.Module.{Module}
 use Rattle.fst_types.specs.declared.event.ChannelHistory.{ChannelHistory}
 use Rattle.fst_machine.specs.Machine.{Program}
+use Rattle.fst_vm.specs.declared.report.Outcome.{Outcome}
+use Rattle.fst_vm.specs.declared.report.Outcome.TheVariants.{Done, OutOfSteps}
+use Rattle.fst_vm.specs.declared.report.Report.{Report}
 use Rattle.fst_runs.specs.declared.event.CoreEvent.{CoreEvent}
 use Rattle.fst_runs.specs.declared.log.LogEntry.{LogEntry}
 use Rattle.fst_runs.specs.Configs.{Path, Config, program}
 use Rattle.fst_runs.specs.Events.{written, Runs, IsLast}
 use Rattle.fst_runs.proofs.Laws.{least_runs, run_notes}
-use Rattle.fst_process.specs.declared.report.Outcome.{Outcome}
-use Rattle.fst_process.specs.declared.report.Outcome.TheVariants.{Done, OutOfSteps}
-use Rattle.fst_process.specs.declared.report.Report.{Report}
 use Rattle.fst_process.specs.Reports.{IsReport, IsAnswerFrom}
 use Rattle.fst_safety.specs.Safety.{IsSafeAt, StaysSafe}
 use Rattle.fst_runs.specs.Logs.{Birth}

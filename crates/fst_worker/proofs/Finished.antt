@@ -13,10 +13,10 @@ use Rattle.fst_machine.specs.declared.request.Request.TheVariants.{Put}
 use Rattle.fst_machine.specs.declared.request.Answer.TheVariants.{Sent}
 use Rattle.fst_vm.specs.TaskView.{TaskView}
 use Rattle.fst_vm.specs.Tasks.{IsIn}
+use Rattle.fst_vm.specs.declared.report.Outcome.{Outcome}
+use Rattle.fst_vm.specs.declared.report.Outcome.TheVariants.{OutOfSteps}
 use Rattle.fst_runs.specs.Configs.{Config, program}
 use Rattle.fst_runs.specs.Logs.{Birth}
-use Rattle.fst_process.specs.declared.report.Outcome.{Outcome}
-use Rattle.fst_process.specs.declared.report.Outcome.TheVariants.{OutOfSteps}
 use Rattle.fst_process.specs.Kept.{Kept}
 use Rattle.fst_process.specs.KeptOf.{kept_of}
 use Rattle.fst_process.specs.Reflects.{Reflects}

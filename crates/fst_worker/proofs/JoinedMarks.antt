@@ -8,15 +8,16 @@ use Rattle.std.specs.Ordering.{nat_cmp}
 use Rattle.std.specs.declared.alloc.Global.{Global}
 use Rattle.std.specs.declared.vec.Vec.{Vec}
 use Rattle.std.proofs.lemmas.List.Elements.{All-head, All-tail}
+use Rattle.fst_paths.specs.Paths.{at_path, AreInOrder, Key}
+use Rattle.fst_paths.specs.ChannelLists.{listed}
+use Rattle.fst_paths.proofs.Laws.{found_after, put_mapped}
 use Rattle.fst_runs.specs.Configs.{Path, same_path}
 use Rattle.fst_runs.proofs.Laws.{same_path-same}
 use Rattle.fst_process.specs.declared.marks.Mark.{Mark}
 use Rattle.fst_process.specs.declared.marks.TaskMarks.{TaskMarks}
-use Rattle.fst_process.specs.KeptOf.{at_path, listed}
-use Rattle.fst_process.specs.Listed.{AreInOrder}
 use Rattle.fst_process.specs.Marks.{marks_at, AreOnce, AreMarks}
 use Rattle.fst_process.specs.Marking.{MarkLists, marks_in, tasks_of}
-use Rattle.fst_process.proofs.Laws.{Key, are_marks, found_after, put_mapped, same_path-swapped}
+use Rattle.fst_process.proofs.Laws.{are_marks, same_path-swapped}
 use Rattle.fst_worker.specs.Marking.{one_at, all_at}
 
 -- a map that has these marks behind its own at the path of a task

@@ -11,6 +11,8 @@ use Rattle.fst_derivations.specs.Deriv.{Deriv}
 use Rattle.fst_derivations.specs.Modules.{HasDerivations, surroundings}
 use Rattle.fst_derivations.specs.Rules.{Surroundings}
 use Rattle.fst_machine.specs.Machine.{Program}
+use Rattle.fst_vm.specs.declared.report.Outcome.TheVariants.{Done, OutOfSteps}
+use Rattle.fst_vm.specs.declared.report.Report.{Report}
 use Rattle.fst_runs.specs.declared.event.CoreEvent.{CoreEvent}
 use Rattle.fst_runs.specs.declared.event.Stamped.{Stamped}
 use Rattle.fst_runs.specs.declared.log.LogEntry.{LogEntry}
@@ -19,8 +21,6 @@ use Rattle.fst_runs.specs.Events.{Write, Does, Runs, IsLast, written}
 use Rattle.fst_runs.specs.Least.{RunsLeast}
 use Rattle.fst_runs.specs.StampedRuns.{events_in}
 use Rattle.fst_runs.proofs.Laws.{least_runs, stamped_runs}
-use Rattle.fst_process.specs.declared.report.Outcome.TheVariants.{Done, OutOfSteps}
-use Rattle.fst_process.specs.declared.report.Report.{Report}
 use Rattle.fst_process.specs.Reports.{IsReport, IsAnswer}
 use Rattle.fst_records.specs.Records.{Course, FitsRecord, IsLogged, IsRecorded, config_of, main_birth}
 use Rattle.fst_records.specs.Growing.{IsFine, IsRecordOf, events_of}

@@ -1,7 +1,7 @@
 -- What a run on several workers answers, with the marks of its tasks.
 use Rattle.std.proofs.Common.{◌<◌, ◌^◌, ℕ, suc, List, refl}
 use Rattle.fst_machine.specs.declared.code.Code.{Code}
-use Rattle.fst_process.specs.declared.report.Outcome.TheVariants as outcome
+use Rattle.fst_vm.specs.declared.report.Outcome.TheVariants as outcome
 use Rattle.fst_safety.specs.declared.tasks.TypedTask.{TypedTask}
 use Rattle.fst_worker.specs.declared.workers.Logged.{Logged}
 use Rattle.fst_worker.specs.declared.workers.Logged.TheVariants.{Done, OutOfSteps}

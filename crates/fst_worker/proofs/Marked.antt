@@ -9,6 +9,9 @@ use Rattle.fst_terms.specs.CoreTree.{CoreTree}
 use Rattle.fst_terms.specs.declared.core_module.Module.{Module}
 use Rattle.fst_machine.specs.Machine.{Program}
 use Rattle.fst_machine.specs.declared.code.Code.{Code}
+use Rattle.fst_vm.specs.declared.report.Outcome.{Outcome}
+use Rattle.fst_vm.specs.declared.report.Outcome.TheVariants.{Done, OutOfSteps}
+use Rattle.fst_vm.specs.declared.report.Report.{Report}
 use Rattle.fst_runs.specs.declared.log.LogEntry.{LogEntry}
 use Rattle.fst_runs.specs.Configs.{Path, Task, same_path, program}
 use Rattle.fst_runs.specs.Events.{IsLast}
@@ -18,9 +21,6 @@ use Rattle.fst_runs.specs.Wrong.{once}
 use Rattle.fst_runs.proofs.Laws.{least_runs, same_path-same}
 use Rattle.fst_process.specs.declared.marks.Mark.{Mark}
 use Rattle.fst_process.specs.declared.marks.TaskMarks.{TaskMarks}
-use Rattle.fst_process.specs.declared.report.Outcome.{Outcome}
-use Rattle.fst_process.specs.declared.report.Outcome.TheVariants.{Done, OutOfSteps}
-use Rattle.fst_process.specs.declared.report.Report.{Report}
 use Rattle.fst_process.specs.KeptOf.{kept_of}
 use Rattle.fst_process.specs.Marks.{AreMarks, AreOnce, IsMarkedFrom, IsMarkedOutcomeFrom, forked_by, forks_behind, marks_at, marks_from}
 use Rattle.fst_process.specs.Reports.{IsReport}

@@ -8,12 +8,12 @@ use Rattle.std.proofs.lemmas.List.Elements.{All-nil, All-cons, All-head, All-tai
 use Rattle.fst_types.specs.Tree.{Tree}
 use Rattle.fst_derivations.specs.Rules.{Surroundings}
 use Rattle.fst_types.specs.declared.event.ChannelHistory.{ChannelHistory}
+use Rattle.fst_paths.specs.Paths.{put_at}
+use Rattle.fst_paths.proofs.Laws.{put_cases}
 use Rattle.fst_runs.specs.Configs.{Path, same_path, same_channel}
 use Rattle.fst_runs.specs.Wrong.{once}
 use Rattle.fst_runs.proofs.Laws.{same_path-itself, same_path-same}
-use Rattle.fst_process.specs.Kept.{put_at}
 use Rattle.fst_process.specs.Resuming.{made_by, AreNumbered}
-use Rattle.fst_process.proofs.Laws.{put_cases}
 use Rattle.fst_cell.specs.declared.answers.Closed.{Closed}
 use Rattle.fst_runs.specs.Logs.{Birth}
 use Rattle.fst_safety.specs.Threads.{Thread, FitsIn}

@@ -5,11 +5,11 @@ use Rattle.fst_terms.specs.declared.core_module.Module.{Module}
 use Rattle.fst_derivations.specs.Deriv.{Deriv}
 use Rattle.fst_derivations.specs.Modules.{HasDerivations}
 use Rattle.fst_types.specs.declared.event.ChannelHistory.{ChannelHistory}
+use Rattle.fst_vm.specs.declared.report.Outcome.{Outcome}
+use Rattle.fst_vm.specs.declared.report.Outcome.TheVariants.{Done, OutOfSteps}
 use Rattle.fst_runs.specs.Configs.{program, main_body}
 use Rattle.fst_runs.specs.Events.{IsLast}
 use Rattle.fst_runs.specs.Logs.{Birth}
-use Rattle.fst_process.specs.declared.report.Outcome.{Outcome}
-use Rattle.fst_process.specs.declared.report.Outcome.TheVariants.{Done, OutOfSteps}
 use Rattle.fst_process.specs.Reports.{IsReport, IsAnswer, IsAnswerFrom}
 use Rattle.fst_records.specs.Records.{Course, FitsRecord, config_of, main_birth}
 use Rattle.fst_records.specs.Growing.{events_of}

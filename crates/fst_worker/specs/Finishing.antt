@@ -4,9 +4,9 @@ use Rattle.fst_types.specs.Tree.{Tree}
 use Rattle.fst_types.specs.declared.event.ChannelHistory.{ChannelHistory}
 use Rattle.fst_terms.specs.CoreTree.{CoreTree}
 use Rattle.fst_machine.specs.declared.code.Code.{Code}
+use Rattle.fst_vm.specs.declared.report.Outcome.{Outcome}
+use Rattle.fst_vm.specs.declared.report.Outcome.TheVariants as outcome
 use Rattle.fst_process.specs.declared.marks.TaskMarks.{TaskMarks}
-use Rattle.fst_process.specs.declared.report.Outcome.{Outcome}
-use Rattle.fst_process.specs.declared.report.Outcome.TheVariants as outcome
 use Rattle.fst_process.specs.KeptOf.{kept_of}
 use Rattle.fst_process.specs.Marks.{marks_from}
 use Rattle.fst_process.specs.Reflects.{Reflects}

@@ -4,12 +4,12 @@ use Rattle.fst_types.specs.declared.event.ChannelHistory.{ChannelHistory}
 use Rattle.fst_terms.specs.CoreTree.{CoreTree}
 use Rattle.fst_terms.specs.declared.core_module.Module.{Module}
 use Rattle.fst_machine.specs.declared.code.Code.{Code}
+use Rattle.fst_vm.specs.declared.report.Outcome.{Outcome}
+use Rattle.fst_vm.specs.declared.report.Outcome.TheVariants as outcome
+use Rattle.fst_vm.specs.declared.report.Report.{Report}
 use Rattle.fst_runs.specs.Configs.{program}
 use Rattle.fst_runs.specs.Events.{IsLast}
 use Rattle.fst_process.specs.declared.marks.TaskMarks.{TaskMarks}
-use Rattle.fst_process.specs.declared.report.Outcome.{Outcome}
-use Rattle.fst_process.specs.declared.report.Outcome.TheVariants as outcome
-use Rattle.fst_process.specs.declared.report.Report.{Report}
 use Rattle.fst_process.specs.Marks.{AreMarks, marks_from}
 use Rattle.fst_process.specs.Reports.{IsAnswer, IsReport}
 use Rattle.fst_records.specs.Growing.{events_of}

@@ -12,5 +12,8 @@ returns-in-Check-clause-text g c = rw c.in-Check.is c.answer_check.ensures.text
 pub returns-in-Run-clause-text : goal.returns-in-Run-clause-text
 returns-in-Run-clause-text g c = rw c.in-Run.is c.answer_run.ensures.text
 
+pub returns-in-Buffered-clause-text : goal.returns-in-Buffered-clause-text
+returns-in-Buffered-clause-text g c = rw c.in-Buffered.is c.answer_buffered.ensures.text
+
 pub returns-in-Audit-clause-text : goal.returns-in-Audit-clause-text
 returns-in-Audit-clause-text g c = rw c.in-Audit.is c.answer_audit.ensures.text

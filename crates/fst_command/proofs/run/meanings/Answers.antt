@@ -5,4 +5,4 @@ pub returns : goal.returns
 returns c =
     meanings c.accepted_law.ensures c.refusal_law.ensures.refused c.one_module_law.ensures c.one_lexing.ensures
     c.one_module.ensures
-    c.safety_law.ensures c.sound_law.ensures
+    c.safety_law.ensures c.sound_law.ensures c.safety_law-2.ensures c.sound_law-2.ensures

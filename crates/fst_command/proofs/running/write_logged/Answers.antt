@@ -1,6 +1,6 @@
 use Rattle.std.proofs.Common.{refl, sym, subst}
 use Rattle.std.specs.String.{string_bytes}
-use Rattle.fst_process.specs.declared.report.Outcome.TheVariants.{Done}
+use Rattle.fst_vm.specs.declared.report.Outcome.TheVariants.{Done}
 use Rattle.fst_command.specs.Views.{HasLines}
 use Rattle.fst_command.proofs.running.write_logged.Goals as goal
 

@@ -1,8 +1,7 @@
 use Rattle.std.proofs.Common.{◌≡◌, ◌∙◌, ◌+◌, subst, sym, ap, arith, rules}
 use Rattle.std.specs.Prelude.{unwrap_or}
 use Rattle.std.specs.Map.{KeepsOthers}
-use Rattle.fst_process.specs.KeptOf.{at_path}
-use Rattle.fst_process.proofs.Laws.{same_key}
+use Rattle.fst_paths.specs.Paths.{at_path, same_key}
 use Rattle.fst_merge.specs.Counts.{Counts, IsCounted, counted}
 use Rattle.fst_merge.proofs.Counting.{counted_after}
 use Rattle.fst_merge.proofs.texts.count.Goals as goal

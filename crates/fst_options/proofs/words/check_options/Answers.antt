@@ -1,20 +1,14 @@
-use Rattle.std.proofs.Common.{◌∙◌, ap, map, sym}
+use Rattle.std.proofs.Common.{◌∙◌, map, sym}
 use Rattle.std.specs.Prelude.{string_bytes}
-use Rattle.std.specs.Option.{is_some}
 use Rattle.fst_options.proofs.WordLaws.{no_check_options}
 use Rattle.fst_options.proofs.words.check_options.Goals as goal
-use Rattle.fst_options.proofs.words.check_options.Goals.{then-is_some-via-then-is_some, then-is_some-via-else-is_some+then-is_some-2, then-is_some-via-else-is_some+else-is_some-2+then-given, then-is_some-via-else-is_some+else-is_some-2+else-given+then-given-2}
+use Rattle.fst_options.proofs.words.check_options.Goals.{then-sets_run-via-then-sets_run, then-sets_run-via-else-sets_run+then-given, then-sets_run-via-else-sets_run+else-given+then-given-2}
 
-pub returns-then-is_some : goal.returns-then-is_some
-returns-then-is_some c =
+pub returns-then-sets_run : goal.returns-then-sets_run
+returns-then-sets_run c =
     no_check_options c.in-Some.ensures.0 (map string_bytes c.args.words.now) c.in-Some.given c.in-Some.ensures.1
-    (λ s w e p. elim c.then-is_some.branch [
-      | then-is_some-via-then-is_some v ↦
-          absurd (cc (sym v.if-is_some.true ∙ c.is_some.ensures ∙ ap is_some s))
-      | then-is_some-via-else-is_some+then-is_some-2 v ↦
-          absurd (cc (sym v.if-is_some-2.true ∙ v.is_some-else-is_some.ensures ∙ ap is_some w))
-      | then-is_some-via-else-is_some+else-is_some-2+then-given v ↦
-          absurd (cc (sym v.if-given.true ∙ e))
-      | then-is_some-via-else-is_some+else-is_some-2+else-given+then-given-2 v ↦
-          absurd (cc (sym v.if-given-2.true ∙ p))
+    (λ s w b e p. elim c.then-sets_run.branch [
+      | then-sets_run-via-then-sets_run v ↦ c.sets_run.ensures.set v.if-sets_run.true s w b
+      | then-sets_run-via-else-sets_run+then-given v ↦ absurd (cc (sym v.if-given.true ∙ e))
+      | then-sets_run-via-else-sets_run+else-given+then-given-2 v ↦ absurd (cc (sym v.if-given-2.true ∙ p))
     ])

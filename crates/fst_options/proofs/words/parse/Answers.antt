@@ -1,6 +1,6 @@
 use Rattle.std.proofs.Common.{map}
 use Rattle.std.specs.Prelude.{string_bytes}
-use Rattle.fst_options.proofs.WordLaws.{no_check, no_equiv, no_make, no_name, no_run}
+use Rattle.fst_options.proofs.WordLaws.{no_check, no_equiv, no_make, no_name}
 use Rattle.fst_options.proofs.words.parse.Goals as goal
 
 pub returns-in-None : goal.returns-in-None
@@ -12,11 +12,6 @@ pub returns-in-None-check_options : goal.returns-in-None-check_options
 returns-in-None-check_options c =
     no_check (map string_bytes c.args.words.now) (map string_bytes c.in-Some-behind-3.rest.now) c.in-Some-behind-3.ensures
     c.in-None-check_options.ensures
-
-pub returns-in-None-run_options : goal.returns-in-None-run_options
-returns-in-None-run_options c =
-    no_run (map string_bytes c.args.words.now) (map string_bytes c.in-Some-behind-4.rest.now) c.in-Some-behind-4.ensures
-    c.in-None-run_options.ensures
 
 pub returns-in-None-one_number : goal.returns-in-None-one_number
 returns-in-None-one_number c =

@@ -1,5 +1,5 @@
 use Rattle.std.proofs.Common.{◌≡◌, ◌∙◌, ◌++◌, ◌∷◌, [], is_some, sym, ap}
-use Rattle.fst_process.specs.KeptOf.{listed}
+use Rattle.fst_paths.specs.ChannelLists.{listed}
 use Rattle.fst_process.specs.Marking.{MarkLists, marks_in, with_mark}
 use Rattle.fst_process.proofs.MarkLists.{marks_after}
 use Rattle.fst_process.proofs.marking.add_mark.Goals as goal

@@ -1,6 +1,6 @@
 use Rattle.std.proofs.Common.{◌≡◌, ◌∙◌, ◌++◌, is_some, sym, ap}
 use Rattle.std.proofs.lemmas.Result.{on_ok_weaker}
-use Rattle.fst_process.specs.KeptOf.{listed}
+use Rattle.fst_paths.specs.ChannelLists.{listed}
 use Rattle.fst_process.specs.Marking.{MarkLists, marks_in, step_marks, with_marks}
 use Rattle.fst_process.proofs.MarkLists.{marks_after}
 use Rattle.fst_process.proofs.marking.add_steps.Goals as goal

@@ -3,8 +3,9 @@ use Rattle.std.proofs.Math.Logic.{∥∥₁_map}
 use Rattle.std.specs.Prelude.{not}
 use Rattle.fst_base.proofs.Options.{some_same}
 use Rattle.fst_runs.specs.declared.event.CoreEvent.TheVariants.{Local}
-use Rattle.fst_process.specs.Kept.{Slot, has_ended, is_live}
-use Rattle.fst_process.specs.KeptOf.{kept_of, slot_of}
+use Rattle.fst_vm.specs.Slot.{Slot, has_ended, is_live}
+use Rattle.fst_vm.specs.SlotOf.{slot_of}
+use Rattle.fst_process.specs.KeptOf.{kept_of}
 use Rattle.fst_process.specs.Nexts.{IsNext}
 use Rattle.fst_process.specs.Marking.{marks_in, step_marks, with_marks}
 use Rattle.fst_process.proofs.Running.{can_run_on, possible_next, some_config}

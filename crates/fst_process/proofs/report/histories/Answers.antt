@@ -1,7 +1,7 @@
 use Rattle.std.proofs.Common.{◌<◌, ◌++◌, length, sym, subst, arith}
 use Rattle.std.specs.List.{AllByRecursion}
 use Rattle.fst_process.specs.Listed.{histories_in}
-use Rattle.fst_process.proofs.ReportLists.{few_each}
+use Rattle.fst_paths.proofs.Laws.{few_each}
 use Rattle.fst_process.proofs.report.histories.Goals as goal
 
 pub loop-maker-init : goal.loop-maker-init

@@ -2,7 +2,8 @@ use Rattle.std.proofs.Common.{◌≡◌, ◌∙◌, ◌++◌, None, sym, ap, rul
 use Rattle.std.specs.Map.{lookup}
 use Rattle.std.specs.BTreeMap.Entry.{map_with_value, entry_value}
 use Rattle.std.specs.declared.collections.btree_map.Entry.TheVariants.{Occupied, Vacant}
-use Rattle.fst_process.specs.KeptOf.{at_path, listed}
+use Rattle.fst_paths.specs.Paths.{at_path}
+use Rattle.fst_paths.specs.ChannelLists.{listed}
 use Rattle.fst_process.specs.Marking.{marks_in}
 use Rattle.fst_worker.proofs.JoinedMarks.{added}
 use Rattle.fst_worker.proofs.marking.add.Goals as goal

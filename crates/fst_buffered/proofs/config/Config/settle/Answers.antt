@@ -1,28 +1,25 @@
-use Rattle.std.proofs.Common.{◌≡◌, ◌∙◌, Some, ap}
-use Rattle.fst_process.specs.Kept.{put_at}
-use Rattle.fst_buffered.specs.Kept.{Slot}
-use Rattle.fst_buffered.specs.KeptOf.{kept_of, slot_in}
-use Rattle.fst_buffered.proofs.KeptLaws.{slots_after}
+use Rattle.std.proofs.Common.{◌∙◌, refl}
+use Rattle.std.proofs.lemmas.Result.{on_ok_weaker}
+use Rattle.fst_vm.specs.Slot.{Slot}
+use Rattle.fst_buffered.proofs.KeptLaws.{settled_now}
 use Rattle.fst_buffered.proofs.config.Config.settle.Goals as goal
 
 pub returns-clause-settles : goal.returns-clause-settles
 returns-clause-settles c =
     let k = c.args.self.now in
-    let old = k.tasks.entries in
-    let new = c.insert.new.self.entries in
-    let slot : Slot = record { task = c.advance.new.self; request = c.in_ok-request.request } in
-    let on = c.in_ok-insert.ensures.updates in
-    let key : c.in_ok-key.key.items ≡ slot.task.path = c.in_ok-key.ensures.items ∙ c.as_slice.ensures ∙ c.path.ensures in
-    let slots : slot_in new ≡ put_at slot.task.path (Some slot) (slot_in old) =
-    slots_after c.in_ok-key.key.items old new (Some (record { task = slot.task; request = slot.request })) on.1 on.3
-    ∙ ap (λ q. put_at q (Some slot) (slot_in old)) key in
-    record {
+    let code = c.args.code.now in
+    let slot : Slot = record { task = c.advance.new.self; request = c.in_ok-request.request; clock = 0 } in
+    on_ok_weaker c.put_in.result
+    (λ tasks. record {
       slot = slot;
       settles = record {
         stays = c.advance.ensures.stays;
         asked = c.in_ok-request.ensures.asked;
-        rests =
-            c.in_ok-request.ensures.rests;
+        rests = c.in_ok-request.ensures.rests;
       };
-      after = λ i. record { tasks = slots i; channels = (kept_of k).channels; made = (kept_of k).made };
-    }
+      clock = refl;
+      after =
+          settled_now code c.args.capacity c.len.result slot.task.path c.path.result.now slot k
+          (record k { tasks = c.put_in.new.self; channels = c.note.new.channels; ready = c.note.new.ready })
+          (c.len.ensures ∙ code.types.ok.0) c.path.ensures tasks c.in_ok-note.ensures;
+    }) c.put_in.ensures

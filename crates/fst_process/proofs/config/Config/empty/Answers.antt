@@ -7,9 +7,8 @@ returns-clause-nothing c =
     let made : Config = record {
       alloc = c.args.alloc;
       tasks = c.new.result;
-      ended = c.new-2.result;
-      channels = c.new-3.result;
-      ready = c.new-4.result;
+      channels = c.new-2.result;
+      ready = c.new-3.result;
       events = c.args.events;
     } in
-    kept_nothing made c.new.ensures.empty c.new-2.ensures.items c.new-3.ensures.empty c.new-4.ensures.empty
+    kept_nothing made c.new.ensures c.new-2.ensures c.new-3.ensures.empty

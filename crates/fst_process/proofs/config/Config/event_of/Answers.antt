@@ -1,4 +1,4 @@
-use Rattle.fst_process.proofs.EndedLaws.{none_event}
+use Rattle.fst_process.proofs.TaskLaws.{none_event}
 use Rattle.fst_process.proofs.config.Config.event_of.Goals as goal
 
 pub returns-in-None : goal.returns-in-None

@@ -2,7 +2,8 @@ use Rattle.std.proofs.Common.{arith}
 use Rattle.std.proofs.Math.Logic.{∥∥₁_map}
 use Rattle.std.proofs.lemmas.Result.{on_ok_weaker}
 use Rattle.fst_runs.specs.declared.event.CoreEvent.TheVariants.{Fork}
-use Rattle.fst_process.specs.KeptOf.{kept_of, slot_of}
+use Rattle.fst_vm.specs.SlotOf.{slot_of}
+use Rattle.fst_process.specs.KeptOf.{kept_of}
 use Rattle.fst_process.proofs.Stepping.{clock_within}
 use Rattle.fst_process.proofs.FireFork.{forks_now, fork_can, child_next, fork_happens}
 use Rattle.fst_process.proofs.config.Config.fork.Goals as goal

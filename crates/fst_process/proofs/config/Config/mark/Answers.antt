@@ -1,8 +1,9 @@
-use Rattle.std.proofs.Common.{◌∙◌, ◌+◌, OnOk, sym, subst}
+use Rattle.std.proofs.Common.{◌∙◌, ◌+◌, OnOk, sym, ap, subst}
 use mathlib.Core.Bool.{Bool-set}
 use Rattle.std.proofs.Math.Logic.{∥∥₁_map, ∥∥₁_elim}
 use Rattle.std.proofs.lemmas.Result.{on_ok_weaker}
-use Rattle.fst_process.specs.KeptOf.{kept_of, slot_of}
+use Rattle.fst_vm.specs.SlotOf.{slot_of}
+use Rattle.fst_process.specs.KeptOf.{kept_of}
 use Rattle.fst_process.specs.Firing.{IsPossible}
 use Rattle.fst_process.specs.Marking.{marks_in, AddsMarks}
 use Rattle.fst_process.proofs.FireFork.{fork_there, forks_now}
@@ -52,7 +53,7 @@ returns-in_ok-maker-in-New c =
     (new_marks d p f g (record { maker = c.in_ok-maker-in-New.maker; count = c.made-count.result + 1 })
     (λ i. record {
       maker = c.in_ok-maker-in-New.ensures i;
-      count = one_more c.made-count.result (d.made p) c.made-count.ensures i;
+      count = one_more c.made-count.result (d.made p) (c.made-count.ensures ∙ ap d.made c.as_slice.ensures) i;
     }))
     c.mark_alone-in-New.ensures)
 

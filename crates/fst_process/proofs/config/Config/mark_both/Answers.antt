@@ -4,7 +4,8 @@ use mathlib.Core.Bool.{Bool-set}
 use Rattle.std.proofs.Math.Logic.{∥∥₁_elim}
 use Rattle.std.proofs.lemmas.Result.{on_ok_weaker}
 use Rattle.fst_process.specs.declared.marks.Done.TheVariants.{Put, Got}
-use Rattle.fst_process.specs.KeptOf.{kept_of, slot_of}
+use Rattle.fst_vm.specs.SlotOf.{slot_of}
+use Rattle.fst_process.specs.KeptOf.{kept_of}
 use Rattle.fst_process.specs.Marking.{marks_in, with_mark}
 use Rattle.fst_process.proofs.FireMeet.{sender_kept, receiver_kept}
 use Rattle.fst_process.proofs.Stepping.{one_more}

@@ -8,7 +8,8 @@ use Rattle.fst_types.specs.declared.event.Entry.{Entry}
 use Rattle.fst_machine.specs.declared.request.Request.TheVariants.{Put}
 use Rattle.fst_runs.specs.declared.event.CoreEvent.TheVariants.{Meet}
 use Rattle.fst_process.specs.Kept.{changed, passed}
-use Rattle.fst_process.specs.KeptOf.{kept_of, slot_of}
+use Rattle.fst_vm.specs.SlotOf.{slot_of}
+use Rattle.fst_process.specs.KeptOf.{kept_of}
 use Rattle.fst_process.proofs.Stepping.{clock_within}
 use Rattle.fst_process.proofs.FireMeet.{sender_kept, receiver_kept, stamps_few, put_can, get_can, meet_happens}
 use Rattle.fst_process.proofs.config.Config.meet.Goals as goal

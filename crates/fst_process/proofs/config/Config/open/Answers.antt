@@ -4,7 +4,8 @@ use Rattle.std.specs.Coded.{le_prop}
 use Rattle.std.proofs.Math.Logic.{∥∥₁_map, ∥∥₁_elim}
 use Rattle.std.proofs.lemmas.Result.{on_ok_weaker}
 use Rattle.std.proofs.lemmas.Option.{slice_get-get_or}
-use Rattle.fst_process.specs.KeptOf.{kept_of, slot_of}
+use Rattle.fst_vm.specs.SlotOf.{slot_of}
+use Rattle.fst_process.specs.KeptOf.{kept_of}
 use Rattle.fst_process.proofs.FireNew.{type_there, new_can, new_happens}
 use Rattle.fst_process.proofs.config.Config.open.Goals as goal
 

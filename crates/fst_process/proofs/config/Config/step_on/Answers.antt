@@ -1,14 +1,15 @@
-use Rattle.std.proofs.Common.{◌≡◌, ◌∙◌, ◌+◌, ◌-◌, Some, None, is_some, refl, sym, ap, subst, arith}
+use Rattle.std.proofs.Common.{◌≡◌, ◌∙◌, ◌+◌, ◌-◌, Some, None, is_some, sym, ap, subst, arith}
 use Rattle.std.specs.Prelude.{option_map, not}
 use Rattle.std.specs.Coded.{Coded-set, coded_list, coded_ℕ}
 use Rattle.std.proofs.Math.Logic.{∥∥₁_elim}
 use Rattle.fst_base.proofs.Options.{some_same, none_some}
-use Rattle.fst_process.specs.Kept.{Slot, has_ended, is_live, put_at}
-use Rattle.fst_process.specs.Firing.{CanStepOn}
-use Rattle.fst_process.specs.KeptOf.{slot_of, slot_in, kept_of}
+use Rattle.fst_vm.specs.Slot.{Slot, has_ended, is_live}
+use Rattle.fst_vm.specs.Going.{CanStepOn}
+use Rattle.fst_vm.specs.SlotOf.{slot_of, slot_in}
+use Rattle.fst_process.specs.KeptOf.{kept_of}
 use Rattle.fst_process.proofs.Alone.{steps_first, steps_path, can_step_on, its_path}
-use Rattle.fst_process.proofs.KeptLaws.{slots_after}
-use Rattle.fst_process.proofs.EndedLaws.{asks_nothing, its_slot, live_there, noted_on}
+use Rattle.fst_vm.proofs.Laws.{asks_nothing, its_slot, live_there, put_after}
+use Rattle.fst_process.proofs.TaskLaws.{noted_on}
 use Rattle.fst_process.proofs.config.Config.step_on.Goals as goal
 
 pub step_on-requires : goal.step_on-requires
@@ -17,7 +18,7 @@ step_on-requires c =
     let p = c.args.path.now in
     let d = kept_of k in
     let x = steps_first d p c.requires.first in
-    let there = its_slot k p c.as_slice.result.now c.in-Some.slot.now c.as_slice.ensures c.in-Some.ensures.value in
+    let there = its_slot k.tasks p c.as_slice.result.now c.in-Some.slot.now c.as_slice.ensures c.in-Some.ensures.value in
     let most = c.args.steps + 1 - k.events in
     subst (CanStepOn c.args.code.now most) (some_same (sym x.there ∙ there))
     (can_step_on c.args.code.now d p k.events x most (omega (arith, c.requires.few, c.requires.more)) c.requires.right)
@@ -36,7 +37,7 @@ set_aside-requires c = λ s at.
     ∙ ap (option_map slot_of) updates.1 in
     let same : s ≡ slot_of slot = some_same (sym at ∙ here) in
     let x = steps_first d p c.requires.first in
-    let there = its_slot k p c.as_slice.result.now it c.as_slice.ensures c.in-Some.ensures.value in
+    let there = its_slot k.tasks p c.as_slice.result.now it c.as_slice.ensures c.in-Some.ensures.value in
     let first : slot_of it ≡ x.slot = some_same (sym there ∙ x.there) in
     let path : it.task.path ≡ p =
     ∥∥₁_elim c.requires.right (Coded-set (coded_list coded_ℕ) _ _)
@@ -54,28 +55,24 @@ returns-then-has_ended-clause-steps c =
     let code = c.args.code.now in
     let it = c.in-Some.slot.now in
     let slot = c.step_on.new.slot in
-    let map = c.get_mut.follows.lender slot in
+    let live = c.get_mut.follows.lender slot in
     let updates = (c.get_mut.follows.holds slot).3 (ap is_some (sym c.in-Some.ensures.value)) in
-    let there = its_slot k p c.as_slice.result.now it c.as_slice.ensures c.in-Some.ensures.value in
-    let now =
-    noted_on code p c.len.result k
-    (record k {
-      tasks = map;
-      channels = c.note_again.new.channels;
-      ready = c.note_again.new.ready;
-      events =
-          k.events + c.in_ok-count-in-Some.count;
-    }) slot
-    (c.len.ensures ∙ code.types.ok.0) refl
-    (slots_after c.as_slice.result.now k.tasks.entries map.entries (Some slot) updates.1 updates.3 ∙ ap
-    (λ q. put_at q (Some (slot_of slot)) (slot_in k.tasks.entries)) c.as_slice.ensures)
-    c.in_ok-note_again-in-Some.ensures in
+    let after = put_after p c.as_slice.result.now slot k.tasks live c.as_slice.ensures updates.1 updates.3 in
     record {
       slot = slot_of it;
-      there = there;
+      there = its_slot k.tasks p c.as_slice.result.now it c.as_slice.ensures c.in-Some.ensures.value;
       now = slot_of slot;
       steps = c.in_ok-count-in-Some.ensures.steps;
-      after = c.in_ok-set_aside-in-Some.ensures.kept ∙ now;
+      after =
+          noted_on code p c.len.result k
+          (record k {
+            tasks = c.set_aside.new.self;
+            channels = c.note_again.new.channels;
+            ready = c.note_again.new.ready;
+            events =
+                k.events + c.in_ok-count-in-Some.count;
+          })
+          (slot_of slot) (c.len.ensures ∙ code.types.ok.0) (c.in_ok-set_aside-in-Some.ensures ∙ after) c.in_ok-note_again-in-Some.ensures;
     }
 
 pub returns-then-has_ended-clause-some : goal.returns-then-has_ended-clause-some
@@ -83,7 +80,7 @@ returns-then-has_ended-clause-some c =
     let k = c.args.self.now in
     let p = c.args.path.now in
     let x = steps_first (kept_of k) p c.requires.first in
-    let there = its_slot k p c.as_slice.result.now c.in-Some.slot.now c.as_slice.ensures c.in-Some.ensures.value in
+    let there = its_slot k.tasks p c.as_slice.result.now c.in-Some.slot.now c.as_slice.ensures c.in-Some.ensures.value in
     c.in_ok-count-in-Some.ensures.some (omega (arith, c.requires.more))
     (ap (λ (s : Slot). s.request) (some_same (sym there ∙ x.there)) ∙ x.asked)
 
@@ -92,10 +89,10 @@ unreachable-requires c =
     let k = c.args.self.now in
     let p = c.args.path.now in
     let x = steps_first (kept_of k) p c.requires.first in
-    let none : slot_in k.tasks.entries p ≡ None = ap (slot_in k.tasks.entries) (sym c.as_slice.ensures)
+    let none : slot_in k.tasks.live.entries p ≡ None = ap (slot_in k.tasks.live.entries) (sym c.as_slice.ensures)
     ∙ ap (option_map slot_of) (sym c.in-None.ensures.value) in
     let live = ap (λ o. is_live o) x.there ∙ ap (λ r. not (has_ended r)) x.asked in
-    none_some (sym none ∙ sym (live_there k.tasks.entries k.ended.items p live) ∙ x.there)
+    none_some (sym none ∙ sym (live_there k.tasks p live) ∙ x.there)
 
 pub returns-clause-steps : goal.returns-clause-steps
 returns-clause-steps c =
@@ -104,28 +101,24 @@ returns-clause-steps c =
     let code = c.args.code.now in
     let it = c.in-Some.slot.now in
     let slot = c.step_on.new.slot in
-    let map = c.get_mut.follows.lender slot in
+    let live = c.get_mut.follows.lender slot in
     let updates = (c.get_mut.follows.holds slot).3 (ap is_some (sym c.in-Some.ensures.value)) in
-    let there = its_slot k p c.as_slice.result.now it c.as_slice.ensures c.in-Some.ensures.value in
-    let now =
-    noted_on code p c.len.result k
-    (record k {
-      tasks = map;
-      channels = c.note_again.new.channels;
-      ready = c.note_again.new.ready;
-      events =
-          k.events + c.in_ok-count-in-Some.count;
-    }) slot
-    (c.len.ensures ∙ code.types.ok.0) refl
-    (slots_after c.as_slice.result.now k.tasks.entries map.entries (Some slot) updates.1 updates.3 ∙ ap
-    (λ q. put_at q (Some (slot_of slot)) (slot_in k.tasks.entries)) c.as_slice.ensures)
-    c.in_ok-note_again-in-Some.ensures in
+    let after = put_after p c.as_slice.result.now slot k.tasks live c.as_slice.ensures updates.1 updates.3 in
     record {
       slot = slot_of it;
-      there = there;
+      there = its_slot k.tasks p c.as_slice.result.now it c.as_slice.ensures c.in-Some.ensures.value;
       now = slot_of slot;
       steps = c.in_ok-count-in-Some.ensures.steps;
-      after = now;
+      after =
+          noted_on code p c.len.result k
+          (record k {
+            tasks = record k.tasks { live = live };
+            channels = c.note_again.new.channels;
+            ready = c.note_again.new.ready;
+            events =
+                k.events + c.in_ok-count-in-Some.count;
+          })
+          (slot_of slot) (c.len.ensures ∙ code.types.ok.0) (after) c.in_ok-note_again-in-Some.ensures;
     }
 
 pub returns-clause-some : goal.returns-clause-some
@@ -133,6 +126,6 @@ returns-clause-some c =
     let k = c.args.self.now in
     let p = c.args.path.now in
     let x = steps_first (kept_of k) p c.requires.first in
-    let there = its_slot k p c.as_slice.result.now c.in-Some.slot.now c.as_slice.ensures c.in-Some.ensures.value in
+    let there = its_slot k.tasks p c.as_slice.result.now c.in-Some.slot.now c.as_slice.ensures c.in-Some.ensures.value in
     c.in_ok-count-in-Some.ensures.some (omega (arith, c.requires.more))
     (ap (λ (s : Slot). s.request) (some_same (sym there ∙ x.there)) ∙ x.asked)

@@ -1,0 +1,4 @@
+pub mod Laws
+pub mod PathLaws
+pub mod PutLaws
+pub mod ChannelLaws
