@@ -12,16 +12,16 @@ use Rattle.fst_types.specs.declared.ends.EndName.{EndName}
 use Rattle.fst_machine.specs.declared.request.Request.TheVariants as request
 use Rattle.fst_machine.specs.declared.request.Answer.TheVariants.{Made, Forked}
 use Rattle.fst_machine.specs.Machine as machine
-use Rattle.fst_machine.specs.Machine.{State, Frame, makes, giving, ends, pause, after, answered, child}
+use Rattle.fst_machine.specs.Machine.{State, ends, pause, answered, child}
 use Rattle.fst_runs.specs.Configs.{Path, Task, same_path, same_channel, channel_name, child_path, new_task, main_path}
 use Rattle.fst_runs.specs.Names.{HasMakers, HasParents}
 use Rattle.fst_runs.specs.Wrong.{once, held_state, amount, IsUnspent, IsOwned}
-use Rattle.fst_runs.proofs.Laws.{same_path-itself, same_path-same, same_channel-itself, same_channel-same, Grows, makers_with, parents_with, new_free, named_new, fork_free, named_fork, no_parent, in_put, same_amount, put_there, stays_there, stays_free}
+use Rattle.fst_runs.proofs.Laws.{same_path-itself, same_path-same, same_channel-itself, Grows, makers_with, parents_with, new_free, named_new, fork_free, named_fork, no_parent, in_put, same_amount, put_there, stays_there, stays_free}
 use Rattle.fst_runs.proofs.Laws as update
 use Rattle.fst_safety.specs.Fitting.{Residuals, IsTyped}
 use Rattle.fst_safety.specs.WellTyped.{IsWellTyped, program_in}
 use Rattle.fst_safety.specs.Pauses.{Goes}
-use Rattle.fst_safety.proofs.Laws.{end_at, Opens, opens_typed, go_typed, made_typed, forked_typed, unknown_state}
+use Rattle.fst_safety.proofs.Laws.{end_at, Opens, which_end, opens_typed, go_typed, made_typed, Parts, forked_typed, unknown_state}
 use Rattle.fst_buffered.specs.Channels.{Config, side_residual, residual_in, placed, with_task, with_channel, opened, plain, core}
 use Rattle.fst_buffered.specs.Events.{in_state, Does, local, new, fork}
 use Rattle.fst_buffered.specs.Use.{IsUsed}
@@ -88,50 +88,47 @@ module _ (m : Surroundings) (well : IsWellTyped m) (a : Tree) (c : Config) (p : 
   opened_residual Left = refl
   opened_residual Right = refl
 
-  its_residual : (b : Side) → r' (end_at h b) ≡ Some (side_type b k)
-  its_residual b = ap (λ o. option_and_then (side_residual b) (placed o (opened k) (c.channels h))) (same_channel-itself h)
-      ∙ opened_residual b
-
-  opens : Opens r r' h k
-  opens = record {
-    free = no_residual;
-    opened = its_residual;
+  -- no task holds its ends, so that none of the others changes by it
+  opens : (w : State) (u : Tree) → IsTyped m r w u → Opens r r' h k w
+  opens w u typed = record {
+    none = λ b. unknown_state m r (end_at h b) (no_residual b) w u typed;
+    opened = λ b.
+        ap (λ o. option_and_then (side_residual b) (placed o (opened k) (c.channels h))) (same_channel-itself h)
+        ∙ opened_residual b;
     others = λ z e. ap (λ o. option_and_then (side_residual z.side) (placed o (opened k) (c.channels z.channel))) e;
   }
 
   abbrev A : Tree
   A = (hs.tasks p t ep).0
 
+  its : Opens r r' h k t.state
+  its = opens t.state A (hs.tasks p t ep).1
+
   made : IsSession [] k × Goes m r' s A (λ z. held_state z t.state + once (same_channel h z.channel))
-  made = made_typed m well t.state A s r r' i k h (hs.tasks p t ep).1 rp ek opens an
+  made = made_typed m well t.state A s r r' i k h (hs.tasks p t ep).1 rp ek its an
 
-  is_side : (z : EndName) → same_channel h z.channel ≡ true → z ≡ end_at h z.side
-  is_side z e = λ i. record { channel = sym (same_channel-same h z.channel e) i; side = z.side }
-
-  none_held : (z : EndName) (o : Path) (w : Option Task) → r z ≡ None → c.tasks o ≡ w → amount z w ≡ 0
-  none_held z o None n e = refl
-  none_held z o (Some w) n e = unknown_state m r z n w.state (hs.tasks o w e).0 (hs.tasks o w e).1
+  none_held : (b : Side) (o : Path) (w : Option Task) → c.tasks o ≡ w → amount (end_at h b) w ≡ 0
+  none_held b o None e = refl
+  none_held b o (Some w) e = (opens w.state (hs.tasks o w e).0 (hs.tasks o w e).1).none b
 
   owned : (z : EndName) → IsUnspent r' z → IsOwned (core d) z
-  owned z u = go (same_channel h z.channel) refl
+  owned z u = go (which_end h z)
     where
-      go : (b : Bool) → same_channel h z.channel ≡ b → IsOwned (core d) z
-      go true e =
-          let none : r z ≡ None = ap r (is_side z e) ∙ no_residual z.side in
-          let g = made.1.1 z u in
-          let f = none_held z p (c.tasks p) none refl in
-          let q = ap (λ o. amount z o) ep in
-          let b = ap once e in (
+      go : ((b : Side) × (z ≡ end_at h b)) ⊎ (same_channel h z.channel ≡ false) → IsOwned (core d) z
+      go (inl e) =
+          let n = made.1.1 z u in
+          let f = ap (λ x. held_state x t.state) e.1 ∙ its.none e.0 in
+          let q = ap (λ (x : EndName). once (same_channel h x.channel)) e.1 ∙ ap once (same_channel-itself h) in (
             p,
-            ap (λ b. amount z (update.put b t' (c.tasks p))) (same_path-itself p) ∙ omega (arith, g, f, q, b),
-            λ q f. ap (λ b. amount z (update.put b t' (c.tasks q))) f ∙ none_held z q (c.tasks q) none refl,
+            ap (λ b. amount z (update.put b t' (c.tasks p))) (same_path-itself p) ∙ omega (arith, n, f, q),
+            λ o f. ap (λ b. amount z (update.put b t' (c.tasks o))) f ∙ ap (λ x. amount x (c.tasks o)) e.1
+                ∙ none_held e.0 o (c.tasks o) refl,
           )
-      go false e =
-          let u0 : IsUnspent r z = (u.0, sym (opens.others z e) ∙ u.1, u.2) in
-          let o = hs.owned z u0 in
-          let g = made.1.1 z u in
-          let b = ap once e in
-          let same : held_state z s ≡ held_state z t.state = omega (arith, g, b) in (
+      go (inr e) =
+          let o = hs.owned z (u.0, sym (its.others z e) ∙ u.1, u.2) in
+          let n = made.1.1 z u in
+          let q = ap once e in
+          let same : held_state z s ≡ held_state z t.state = omega (arith, n, q) in (
             o.0,
             same_amount z (core c) p o.0 t t' ep same ∙ o.1,
             λ q f. same_amount z (core c) p q t t' ep same ∙ o.2 q f,
@@ -166,7 +163,8 @@ module _ (m : Surroundings) (well : IsWellTyped m) (a : Tree) (c : Config) (p : 
         (λ f g. (A, subst (λ z. IsTyped m r' z.state A) g made.1.0, λ j. (hs.tasks p t ep).2 (same_path-same p o f ∙ j)))
         (λ f g. (
           (hs.tasks o w g).0,
-          opens_typed m r r' h k w.state (hs.tasks o w g).0 opens (hs.tasks o w g).1,
+          opens_typed m r r' h k w.state (hs.tasks o w g).0 (opens w.state (hs.tasks o w g).0 (hs.tasks o w g).1)
+              (hs.tasks o w g).1,
           (hs.tasks o w g).2,
         )) e;
     owned = owned;
@@ -207,8 +205,7 @@ module _ (m : Surroundings) (well : IsWellTyped m) (a : Tree) (c : Config) (p : 
   abbrev B : Tree
   B = (hs.tasks p t ep).0
 
-  parts : IsTyped m r0 s B × ((b : Tree) × IsTyped m r0 k b) ×
-      ((z : EndName) → IsUnspent r0 z → held_state z s + held_state z k ≡ held_state z t.state)
+  parts : Parts m well t.state B s r0 k
   parts = forked_typed m well t.state B s r0 k (hs.tasks p t ep).1 ch an
 
   no_task : c.tasks q ≡ None

@@ -11,8 +11,7 @@ use Rattle.fst_machine.specs.Machine.{Program, pause}
 use Rattle.fst_vm.specs.Slot.{Slot}
 use Rattle.fst_runs.specs.Configs.{Path, Task, same_path, program}
 use Rattle.fst_runs.specs.Wrong.{held_state, amount, IsUnspent, IsAllowed, end_of}
-use Rattle.fst_runs.proofs.Laws.{same_path-same, owner, asks_held, pause_none}
-use Rattle.fst_runs.proofs.Owners.{allowed_unspent}
+use Rattle.fst_runs.proofs.Laws.{same_path-same, owner, asks_held, allowed_unspent, pause_none}
 use Rattle.fst_buffered.specs.Channels.{Channel, Config, side_residual, residual_in, core}
 use Rattle.fst_buffered.specs.Events.{Asks}
 use Rattle.fst_buffered.specs.Wrong.{IsRight}

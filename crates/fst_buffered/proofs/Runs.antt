@@ -169,7 +169,7 @@ buffered_safe m ds h e q capacity es c r =
     let n = surroundings m [] in
     let w = checked m ds h in
     let k = main_typed m ds h e q in
-    let first = started_sound n w k.type capacity e (main_begins m e k (residual_in (started e))) in (
+    let first = started_sound n w k.type capacity e (main_begins n (residual_in (started e)) k.type e k.printable k.typed) in (
       sound_safe m w e k capacity c (runs_sound n w k.type capacity es (started e) c first r),
       runs_in_order n w k.type capacity e es c first r,
     )

@@ -11,8 +11,8 @@ pub use Rattle.fst_runs.proofs.Naming.{one_parent, no_parent}
 pub use Rattle.fst_runs.proofs.Naming.{Grows, makers_with, parents_with, new_free, fork_free, named_start, named_new, named_fork, named_meet, named_after}
 -- A task that sends isn't one that receives.
 pub use Rattle.fst_runs.proofs.Naming.{asks_apart}
--- An end that isn't spent has one task, which is the one that asks at it.
-pub use Rattle.fst_runs.proofs.Owners.{own_once, owner, asks_held}
+-- An end that isn't spent has one task, which is the one that asks at it; an end at which a request is allowed isn't spent.
+pub use Rattle.fst_runs.proofs.Owners.{own_once, owner, asks_held, allowed_unspent}
 -- Where each request stands still.
 pub use Rattle.fst_runs.proofs.Asked.{put_pause, get_pause, new_pause, fork_pause}
 -- How often values hold an end.

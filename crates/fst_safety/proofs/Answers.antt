@@ -1,8 +1,8 @@
 -- The state after an answer is typed, and holds the same unspent ends.
 use Rattle.std.proofs.Common.{◌≡◌, ◌<◌, ℕ, zero, suc, ◌+◌, List, [], ◌∷◌, length, map, Bool, true, false, if◌then◌else◌, Some, Contains, slice_index_or, IsSome, le_of_suc-le-suc, refl, sym, ap, ◌∙◌, subst, arith}
-use Rattle.std.specs.Prelude.{slice_get, bytes_eq}
+use Rattle.std.specs.Prelude.{option_map, slice_get, bytes_eq}
 use Rattle.std.proofs.lemmas.Bool.{or_left, or_right}
-use Rattle.fst_base.proofs.Options.{some_same}
+use Rattle.fst_base.proofs.Options.{some_same, none_some}
 use Rattle.fst_types.specs.Tree.{Tree, arrow}
 use Rattle.fst_types.specs.declared.label.Label.TheVariants.{Offer}
 use Rattle.fst_base.proofs.Bools.{same_text}
@@ -20,12 +20,13 @@ use Rattle.fst_types.specs.declared.ends.EndName.{EndName}
 use Rattle.fst_machine.specs.Free.{is, free, free_below, outside, outside_all}
 use Rattle.fst_machine.specs.Values as value
 use Rattle.fst_machine.specs.Values.{Value, Environment, none, slot, enter, keep}
-use Rattle.fst_machine.specs.Machine.{Frame, calls, uses, forks, giving, begins, arm_state}
+use Rattle.fst_machine.specs.declared.request.Answer.TheVariants.{Go}
+use Rattle.fst_machine.specs.Machine.{State, Frame, Pause, stuck, calls, uses, makes, forks, puts, gets, closes, waits, matches, ended, giving, begins, arm_state, after, or_lost}
 use Rattle.fst_runs.specs.Configs.{bodies}
 use Rattle.fst_runs.specs.Wrong.{held, held_env, held_frames, held_pause}
 use Rattle.fst_safety.specs.Running.{Alike, SpendAll, AreAlike, HasType, ArmsHaveType}
 use Rattle.fst_safety.specs.Fitting.{Residuals, Exactly, Fits, IsEnv, Takes}
-use Rattle.fst_safety.specs.WellTyped.{IsWellTyped}
+use Rattle.fst_safety.specs.WellTyped.{IsWellTyped, program_in}
 use Rattle.fst_safety.specs.Pauses.{Allowed, Goes}
 use Rattle.fst_safety.proofs.Equals.{equals_itself, equals_back, equals_through, use_formed, formed_use, arrows_equal}
 use Rattle.fst_safety.proofs.Exact.{exactly_enter, exactly_keep}
@@ -215,3 +216,23 @@ module _ (m : Surroundings) (w : IsWellTyped m) (r : Residuals) where
       Goes m r (arm_state bs l y env fs) t (λ x. (held x (value.end y) + held_env x env) + held_frames x fs)
   match_goes y bs l names env fs s q b t g f o a e i d al k =
       arms_match bs l y env fs s q b t g (free_below bs) ((a.same l).0 (offered_name s names l q o e)) f e i (λ n u. u) d al k
+
+-- what a task becomes that applies a function or uses a global
+pub steps_on : (m : Surroundings) (well : IsWellTyped m) (r : Residuals) (p : Pause) (s : State) (t : Tree) → Allowed m r p t →
+    after (program_in m) p Go ≡ Some s →
+    Goes m r s t (λ x. held_pause x p)
+steps_on m well r stuck s t a e = absurd a
+steps_on m well r (calls f env v fs) s t a e =
+    subst (λ z. Goes m r z t (λ x. held_pause x (calls f env v fs))) (some_same e) (call_goes m well r f env v fs t a)
+steps_on m well r (uses g fs) s t a e =
+    let k = use_there m well r g fs t a in
+    let f : Some (begins k.0 fs) ≡ Some s = ap (λ o. Some (or_lost (option_map (λ e. begins e fs) o))) (sym k.1) ∙ e in
+    subst (λ z. Goes m r z t (λ x. held_pause x (uses g fs))) (some_same f) (use_goes m well r g k.0 fs t k.1 a)
+steps_on m well r (makes k fs) s t a e = absurd (none_some e)
+steps_on m well r (forks f env fs) s t a e = absurd (none_some e)
+steps_on m well r (puts x ev fs) s t a e = absurd (none_some e)
+steps_on m well r (gets x fs) s t a e = absurd (none_some e)
+steps_on m well r (closes x fs) s t a e = absurd (none_some e)
+steps_on m well r (waits x fs) s t a e = absurd (none_some e)
+steps_on m well r (matches x bs env fs) s t a e = absurd (none_some e)
+steps_on m well r (ended v) s t a e = absurd (none_some e)

@@ -31,7 +31,7 @@ use Rattle.fst_safety.proofs.Equals.{equals_itself, equals_back, equals_through,
 use Rattle.fst_safety.proofs.Answers.{giving_goes, match_goes}
 use Rattle.fst_safety.proofs.Idle.{spent_elsewhere}
 use Rattle.fst_safety.proofs.Shapes.{plain_formed}
-use Rattle.fst_safety.proofs.SoundLaws.{end_moves}
+use Rattle.fst_safety.proofs.Asking.{end_moves}
 use Rattle.fst_safety.proofs.StillLaws.{Still, less, takes_still, env_still}
 use Rattle.fst_safety.proofs.Offers.{offering_moves}
 

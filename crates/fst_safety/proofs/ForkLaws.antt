@@ -1,46 +1,19 @@
 -- A configuration stays sound where a task makes a task.
-use Rattle.std.proofs.Common.{◌≡◌, ◌∙◌, ◌⊎◌, inl, inr, ℕ, zero, suc, ◌+◌, List, [], Bool, true, false, Some, None, refl, sym, ap, subst, arith}
-use Rattle.fst_base.proofs.Options.{some_same}
+use Rattle.std.proofs.Common.{◌≡◌, ◌∙◌, ◌⊎◌, inl, inr, ℕ, zero, suc, ◌+◌, Bool, true, false, Some, None, refl, sym, ap, subst, arith}
 use Rattle.fst_types.specs.Tree.{Tree}
-use Rattle.fst_terms.specs.CoreTree.{CoreTree}
 use Rattle.fst_derivations.specs.Rules.{Surroundings}
 use Rattle.fst_types.specs.declared.ends.EndName.{EndName}
 use Rattle.fst_machine.specs.declared.request.Answer.TheVariants.{Forked}
-use Rattle.fst_machine.specs.Values.{Environment}
-use Rattle.fst_machine.specs.Machine.{Program, State, Frame, Pause, forks, pause, after, answered, child}
+use Rattle.fst_machine.specs.Machine.{State, pause, answered, child}
 use Rattle.fst_runs.specs.declared.event.CoreEvent.TheVariants.{Fork}
 use Rattle.fst_runs.specs.Configs.{Path, Task, Config, same_path, residual_in, child_path, new_task}
 use Rattle.fst_runs.specs.Events.{Write, written, Does, has_forked}
 use Rattle.fst_runs.specs.Wrong.{held_state, amount, IsUnspent, IsOwned}
-use Rattle.fst_runs.proofs.Laws.{fork_pause, same_path-itself, same_path-same, no_parent, fork_free, named_fork, put, with_task, in_put, put_there, stays_there, stays_free, fork_puts}
+use Rattle.fst_runs.proofs.Laws.{same_path-itself, same_path-same, no_parent, fork_free, named_fork, put, with_task, in_put, put_there, stays_there, stays_free, fork_puts}
 use Rattle.fst_safety.specs.Fitting.{Residuals, IsTyped}
 use Rattle.fst_safety.specs.WellTyped.{IsWellTyped, program_in}
-use Rattle.fst_safety.specs.Pauses.{Reached}
 use Rattle.fst_safety.specs.Sound.{IsSound}
-use Rattle.fst_safety.proofs.Answers.{child_goes, parent_goes}
-use Rattle.fst_safety.proofs.Settles.{pause_goes}
-
--- what a fork makes of a state: two typed ones that share its unspent ends
-abbrev pub Parts : Surroundings → Residuals → Tree → (EndName → ℕ) → State → State → Type 0
-Parts m r a n s k = IsTyped m r s a × ((b : Tree) × IsTyped m r k b) ×
-    ((z : EndName) → IsUnspent r z → held_state z s + held_state z k ≡ n z)
-
--- a fork makes two such states
-pub fork_parts : (m : Surroundings) (well : IsWellTyped m) (r : Residuals) (w : Program) (p : Pause) (a : Tree) (n : EndName → ℕ)
-    (s k : State) →
-    Reached m r p a n → child p ≡ Some k → after w p Forked ≡ Some s → Parts m r a n s k
-fork_parts m well r w p a n s k h e f = (fork_pause
-    (λ p. Reached m r p a n → after w p Forked ≡ Some s → Parts m r a n s k) p k e go) h f
-  where
-    go : (b : CoreTree) (env : Environment) (fs : List Frame) → record { term = b; environment = env; frames = [] } ≡ k →
-        Reached m r (forks b env fs) a n →
-        after w (forks b env fs) Forked ≡ Some s → Parts m r a n s k
-    go b env fs q h f =
-        let c = child_goes m well r b env fs a h.0 in
-        let o = parent_goes m well r b env fs a h.0 in
-        subst (λ k. Parts m r a n s k) q (subst (λ s. Parts m r a n s (record { term = b; environment = env; frames = [] }))
-        (some_same f)
-        (o.0, (c.0, c.1.0), λ z u. let x = o.1 z u in let y = c.1.1 z u in let w = h.1 z u in omega (arith, x, y, w)))
+use Rattle.fst_safety.proofs.Answered.{Parts, forked_typed}
 
 -- all that is about a fork; i and j are the clocks of both tasks after it
 module _ (m : Surroundings) (well : IsWellTyped m) (a : Tree) (c : Config) (p : Path) (t : Task) (s k : State) (i j : ℕ)
@@ -65,9 +38,8 @@ module _ (m : Surroundings) (well : IsWellTyped m) (a : Tree) (c : Config) (p : 
   abbrev A : Tree
   A = (hs.tasks p t ep).0
 
-  parts : Parts m r A (λ z. held_state z t.state) s k
-  parts = fork_parts m well r (program_in m) (pause m.families t.state) A
-      (λ z. held_state z t.state) s k (pause_goes m well r t.state A (hs.tasks p t ep).1) ch an
+  parts : Parts m well t.state A s r k
+  parts = forked_typed m well t.state A s r k (hs.tasks p t ep).1 ch an
 
   no_task : c.tasks q ≡ None
   no_task = fork_free c p t hs.parents ep

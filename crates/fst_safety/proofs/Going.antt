@@ -16,14 +16,13 @@ use Rattle.fst_types.specs.declared.event.Event.{Event}
 use Rattle.fst_types.specs.declared.event.Entry.{Entry}
 use Rattle.fst_machine.specs.declared.request.Request.TheVariants as request
 use Rattle.fst_machine.specs.declared.request.Answer.TheVariants.{Sent, Got}
-use Rattle.fst_machine.specs.Machine.{State, pause, answered, or_lost}
+use Rattle.fst_machine.specs.Machine.{State, answered, or_lost}
 use Rattle.fst_machine.specs.Machine as machine
-use Rattle.fst_runs.specs.Wrong.{held_state, IsAllowed}
+use Rattle.fst_runs.specs.Wrong.{IsAllowed}
 use Rattle.fst_cell.specs.Answers.{end_with, longer}
 use Rattle.fst_cell.specs.End.{EndView, end_name, residual_of}
 use Rattle.fst_lts.specs.Residuals.{residual, sends, receives}
 use Rattle.fst_runs.specs.declared.log.LogEntry.{LogEntry}
-use Rattle.fst_safety.specs.Fitting.{Residuals, IsTyped}
 use Rattle.fst_safety.specs.WellTyped.{IsWellTyped, program_in}
 use Rattle.fst_runs.specs.Logs.{Exchange, Enters, after_entry, part_in, parts_in, then_after}
 use Rattle.fst_safety.specs.Threads.{shown}
@@ -31,14 +30,12 @@ use Rattle.fst_safety.specs.Threads.{Thread, FitsIn, FitsEnd, IsPast}
 use Rattle.fst_safety.specs.Turns.{by_exchanges}
 use Rattle.fst_safety.specs.Going.{GoesOnTo, IsMoved, with_entry, StayTyped, StepsOn, Opens, ForksOn, Tries, Sends, Receives}
 use Rattle.fst_safety.proofs.Pasts.{rise_more}
+use Rattle.fst_safety.proofs.Answered.{typed_asks, sent_typed, got_typed}
 use Rattle.fst_safety.proofs.Checked.{checked}
-use Rattle.fst_safety.proofs.Settles.{pause_goes}
-use Rattle.fst_safety.proofs.SoundLaws.{allowed_right}
-use Rattle.fst_safety.proofs.ThreadExchanges.{Exchanges, held_once, exchanged_residuals, exchanged_fits, exchanged_turn}
+use Rattle.fst_safety.proofs.ThreadExchanges.{held_once, exchange, exchanged_fits, exchanged_turn}
 use Rattle.fst_safety.proofs.ThreadForks.{forked_fits, begun_fits, forked_turn}
 use Rattle.fst_safety.proofs.ThreadOpenings.{made_fits, made_turn}
 use Rattle.fst_safety.proofs.ThreadTurns.{tried_fits, tried_turn, stepped_fits, stepped_turn}
-use Rattle.fst_safety.proofs.ThreadTyping.{sent_typed, sent_holds, got_typed, got_holds}
 
 -- ---- one entry more
 
@@ -142,8 +139,7 @@ module _ (m : Surroundings) (well : IsWellTyped m) (a : Tree) (x : Thread) (fits
 
     allowed : IsAllowed fits.typed.residuals (request.Put n taken.event)
     allowed =
-        let p = allowed_right m fits.typed.residuals (pause m.families x.now.state) fits.typed.type
-        (pause_goes m well fits.typed.residuals x.now.state fits.typed.type fits.typed.typed).0 in
+        let p = typed_asks m well x.now.state fits.typed.type fits.typed.residuals fits.typed.typed in
         subst (IsAllowed fits.typed.residuals) (some_same (sym p.1 ∙ asks)) p.2
 
     was : residual_of e.knows ≡ Some allowed.0
@@ -154,25 +150,17 @@ module _ (m : Surroundings) (well : IsWellTyped m) (a : Tree) (x : Thread) (fits
 
     pub sent_on : GoesOnTo m a x (with_entry m x (request.Put n taken.event) Sent taken.stamp bag retired) []
     sent_on =
-        let once = held_once m a x fits g enters n e f bag retired moved refl refl allowed.0 allowed.1 was is refl past refl
+        let one = held_once m a x fits g enters n e f bag retired moved refl refl allowed.0 allowed.1 was is refl past refl
         refl in
-        let goes = λ (t : Tree) (q q' : Residuals) (h : Exchanges m a x fits g enters n e f bag retired moved refl refl allowed.0
-        allowed.1 was is refl past refl refl q q') (ty : IsTyped m q x.now.state t).
-        sent_typed m well n taken.event allowed.0 allowed.1 x.now.state (after_entry (program_in m) x.now g).state t once q q'
-        (record { before = h.before; later = h.later; others = h.others }) allowed.3 ty asks there in
-        let first = exchanged_residuals m a x fits g enters n e f bag retired moved refl refl allowed.0 allowed.1 was is refl past
-        refl refl in
-        let holds = λ (z : EndName) (c : held_state z x.now.state ≡ 0).
-        sent_holds m well n taken.event allowed.0 allowed.1 x.now.state
-        (after_entry (program_in m) x.now g).state fits.typed.type once fits.typed.residuals _
-        (record { before = first.before; later = first.later; others = first.others }) allowed.3 fits.typed.typed asks there z
-        c in
+        let h = exchange m a x fits g enters n e f bag retired moved refl refl allowed.0 allowed.1 was is refl past refl refl in
+        let goes = sent_typed m well x.now.state fits.typed.type (after_entry (program_in m) x.now g).state fits.typed.residuals _ n
+        taken.event allowed.0 allowed.1 fits.typed.typed asks one h.0 allowed.3 h.1 h.2 there in
         record {
           fits = exchanged_fits m a x fits g enters n e f bag retired moved refl refl allowed.0 allowed.1 was is refl past refl
-              refl goes holds;
+              refl goes;
           new_fit = All-nil (FitsIn m a);
           turn = exchanged_turn m a x fits g enters n e f bag retired moved refl refl allowed.0 allowed.1 was is refl past refl
-              refl goes holds refl refl refl refl refl refl
+              refl goes refl refl refl refl refl refl
               (λ w.
               let p = longer_shown w e k taken true (ap (λ o. sends o taken.event) was
               ∙ sends_it allowed.0 allowed.1 taken.event allowed.3) in
@@ -202,25 +190,18 @@ module _ (m : Surroundings) (well : IsWellTyped m) (a : Tree) (x : Thread) (fits
 
     pub got_on : GoesOnTo m a x (with_entry m x (request.Get n) (Got taken.event) taken.stamp bag retired) []
     got_on =
-        let once = held_once m a x fits taking enters_taking n e f bag retired moved refl refl by.0 by.1 by.2 is_then refl past
+        let one = held_once m a x fits taking enters_taking n e f bag retired moved refl refl by.0 by.1 by.2 is_then refl past
         refl refl in
-        let goes = λ (t : Tree) (q q' : Residuals) (h : Exchanges m a x fits taking enters_taking n e f bag retired moved refl
-        refl by.0 by.1 by.2 is_then refl past refl refl q q') (ty : IsTyped m q x.now.state t).
-        got_typed m well n taken.event by.0 by.1 x.now.state (after_entry (program_in m) x.now taking).state t once q q'
-        (record { before = h.before; later = h.later; others = h.others }) by.3 ty asks there_taking in
-        let first = exchanged_residuals m a x fits taking enters_taking n e f bag retired moved refl refl by.0 by.1 by.2 is_then
-        refl past refl refl in
-        let holds = λ (z : EndName) (c : held_state z x.now.state ≡ 0).
-        got_holds m well n taken.event by.0 by.1 x.now.state
-        (after_entry (program_in m) x.now taking).state fits.typed.type once fits.typed.residuals _
-        (record { before = first.before; later = first.later; others = first.others }) by.3 fits.typed.typed asks there_taking z
-        c in
+        let h = exchange m a x fits taking enters_taking n e f bag retired moved refl refl by.0 by.1 by.2 is_then refl past refl
+        refl in
+        let goes = got_typed m well x.now.state fits.typed.type (after_entry (program_in m) x.now taking).state fits.typed.residuals
+        _ n taken.event by.0 by.1 fits.typed.typed asks one h.0 by.3 h.1 h.2 there_taking in
         record {
           fits = exchanged_fits m a x fits taking enters_taking n e f bag retired moved refl refl by.0 by.1 by.2 is_then refl past
-              refl refl goes holds;
+              refl refl goes;
           new_fit = All-nil (FitsIn m a);
           turn = exchanged_turn m a x fits taking enters_taking n e f bag retired moved refl refl by.0 by.1 by.2 is_then refl past
-              refl refl goes holds refl refl refl refl refl refl
+              refl refl goes refl refl refl refl refl refl
               (λ w.
               let p = longer_shown w e k taken false (ap (λ o. sends o taken.event) by.2
               ∙ sends_not by.0 by.1 taken.event by.3) in

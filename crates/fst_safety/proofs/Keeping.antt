@@ -28,7 +28,6 @@ use Rattle.fst_runs.specs.Wrong.{IsAllowed}
 use Rattle.fst_cell.specs.End.{EndView, residual_of}
 use Rattle.fst_runs.specs.declared.log.LogEntry.{LogEntry}
 use Rattle.fst_safety.specs.declared.tasks.TypedTask.{TypedTask}
-use Rattle.fst_safety.specs.Pauses.{Allowed}
 use Rattle.fst_runs.specs.Logs.{made_after, forks_after}
 use Rattle.fst_safety.specs.Threads.{Thread, FitsIn, FitsEnd, count_of}
 use Rattle.fst_safety.specs.Turns.{AreKnownSpent}
@@ -36,8 +35,7 @@ use Rattle.fst_safety.specs.Going.{GoesOnTo, with_entry}
 use Rattle.fst_safety.specs.Bags.{IsPlaced}
 use Rattle.fst_safety.specs.Tasks.{Keeps, Fits, AsksNow, IsSame, HasGoneOn, module_of}
 use Rattle.fst_safety.proofs.Checked.{checked}
-use Rattle.fst_safety.proofs.Settles.{pause_goes}
-use Rattle.fst_safety.proofs.SoundLaws.{allowed_right}
+use Rattle.fst_safety.proofs.Answered.{not_stuck, typed_asks}
 
 -- ---- threads
 
@@ -66,14 +64,11 @@ stays m a x f = record {
 -- a thread that fits its module asks for something that its ends allow
 module _ (m : Module) (ds : List Deriv) (h : HasDerivations m ds) (a : Tree) (x : Thread)
     (f : FitsIn (surroundings m []) a x) where
-  pub its_pause : Allowed (surroundings m []) f.typed.residuals (pause m.families.items x.now.state) f.typed.type
-  its_pause = (pause_goes (surroundings m []) (checked m ds h) f.typed.residuals x.now.state f.typed.type f.typed.typed).0
-
-  pub not_stuck : pause m.families.items x.now.state ≡ stuck → ⊥
-  not_stuck q = subst (λ p. Allowed (surroundings m []) f.typed.residuals p f.typed.type) q its_pause
+  pub stands_open : pause m.families.items x.now.state ≡ stuck → ⊥
+  stands_open = not_stuck (surroundings m []) (checked m ds h) x.now.state f.typed.type f.typed.residuals f.typed.typed
 
   pub asks_for : (q : Request) × (machine.request m.families.items x.now.state ≡ Some q) × IsAllowed f.typed.residuals q
-  asks_for = allowed_right (surroundings m []) f.typed.residuals (pause m.families.items x.now.state) f.typed.type its_pause
+  asks_for = typed_asks (surroundings m []) (checked m ds h) x.now.state f.typed.type f.typed.residuals f.typed.typed
 
   pub allowed : (q : Request) → machine.request m.families.items x.now.state ≡ Some q → IsAllowed f.typed.residuals q
   allowed q e = subst (IsAllowed f.typed.residuals) (some_same (sym asks_for.1 ∙ e)) asks_for.2
@@ -122,7 +117,7 @@ module _ (k : Code) (a : Tree) (t : TypedTask) (x : Thread) (f : Fits k a t x) w
   asks_alike rests =
       asked_there (code_of k.module.value.families.items k) t.task.spot (pause k.module.value.families.items x.now.state)
       (rests k.module.value.families.items) f.keeps.is_in
-      (not_stuck k.module.value f.code.derivations f.code.derived a x f.fits)
+      (stands_open k.module.value f.code.derivations f.code.derived a x f.fits)
 
   pub asks_it : (q : Request) → AsksNow k t q → machine.request (module_of k).families x.now.state ≡ Some q
   asks_it q now = sym (asks_alike now.0) ∙ now.1
@@ -163,7 +158,7 @@ module _ (k : Code) (a : Tree) (t : TypedTask) (x : Thread) (f : Fits k a t x) w
       GoesOnTo (module_of k) a x (with_entry (module_of k) x q r stamp bag retired) new →
       pause k.module.value.families.items s ≡ stuck → ⊥
   alive_in q r stamp bag retired new s told goes stop =
-      not_stuck k.module.value f.code.derivations f.code.derived a (with_entry (module_of k) x q r stamp bag retired) goes.fits
+      stands_open k.module.value f.code.derivations f.code.derived a (with_entry (module_of k) x q r stamp bag retired) goes.fits
       (ap (λ o. pause k.module.value.families.items (or_lost o)) told ∙ stop)
 
   -- a task that has gone on with an entry is that thread, with the ends that it has then
@@ -180,7 +175,7 @@ module _ (k : Code) (a : Tree) (t : TypedTask) (x : Thread) (f : Fits k a t x) w
         (on.task.states k.module.value x.now.state (or_lost (answered (program k.module.value) x.now.state r)) f.code.from
         f.keeps.is_in
         (told ∙ ap (λ o. Some (or_lost o)) (sym told))
-        (not_stuck k.module.value f.code.derivations f.code.derived a
+        (stands_open k.module.value f.code.derivations f.code.derived a
         (with_entry (module_of k) x q r stamp bag retired) goes.fits));
     forked = ap (λ w. w.forked) task ∙ on.task.forked ∙ forked_same r ∙ ap (forks_after r) f.keeps.forked;
     made = made ∙ ap (made_after r) f.keeps.made;

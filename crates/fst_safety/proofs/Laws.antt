@@ -20,7 +20,7 @@ pub use Rattle.fst_safety.proofs.Equals.{equals_itself, equals_back}
 -- a closed session type is well formed, and what a step leaves of it is a closed session type
 pub use Rattle.fst_safety.proofs.Equals.{session_formed, session_step}
 -- a closed session type that is terminated equals Skip
-pub use Rattle.fst_safety.proofs.ThreadTyping.{ended_equal}
+pub use Rattle.fst_safety.proofs.SpentEnds.{ended_equal}
 -- the residual of a channel's side is this type, and that of the other side its dual; the second follows from the first
 pub use Rattle.fst_safety.proofs.TraceLaws.{Sides, sides_from}
 -- where that is so, and the channel's declared type and this one are closed session types, each side has gone on as the dual of the other
@@ -29,8 +29,6 @@ pub use Rattle.fst_safety.proofs.TraceLaws.{trace_from}
 pub use Rattle.fst_safety.proofs.StillLaws.{Still}
 -- a typed state is typed with other residuals too, where that holds of the ends in it
 pub use Rattle.fst_safety.proofs.StillLaws.{typed_still}
--- a typed state of a well-typed module isn't stuck
-pub use Rattle.fst_safety.proofs.ThreadTyping.{not_stuck}
 -- 1 where an end has this name, and 0 where it has another
 pub use Rattle.fst_safety.proofs.BagLaws.{counted}
 -- how often a name stands among ends is what the first of them counts plus how often it stands among the others; an end counts 1 of its own name
@@ -53,16 +51,19 @@ pub use Rattle.fst_safety.proofs.Sends.{typed_task_send}
 pub use Rattle.fst_safety.proofs.Orders.{one_end}
 -- they have the same events, which sorted are one list
 pub use Rattle.fst_safety.proofs.Orders.{all_same, one_text}
--- an end with a name; each end keeps its residual, but for one and for unspent ends that a state doesn't hold; a channel is opened, whose ends have residuals of a type and its dual
+-- an end with a name; each end keeps its residual, but for one and for unspent ends that a state doesn't hold; a channel is opened, whose ends have residuals of a type and its dual, and which a state doesn't hold
 pub use Rattle.fst_safety.proofs.Answered.{end_at, KeepsBut, Opens}
+-- an end is one of a channel's two, or one of another channel
+pub use Rattle.fst_safety.proofs.Answered.{which_end}
 -- where a channel is opened, or the residual of an end goes on that it doesn't hold, a typed state stays typed
 pub use Rattle.fst_safety.proofs.Answered.{opens_typed, kept_typed}
--- a typed state asks for something that its residuals allow
-pub use Rattle.fst_safety.proofs.Answered.{typed_asks}
+-- a typed state of a well-typed module isn't stuck, and asks for something that its residuals allow
+pub use Rattle.fst_safety.proofs.Answered.{not_stuck, typed_asks}
 -- after each answer it is typed over the residuals that have changed with that, and holds the same unspent ends: after a step, a channel, a fork, what it sent and what it got
-pub use Rattle.fst_safety.proofs.Answered.{go_typed, made_typed, forked_typed, sent_typed, got_typed}
+pub use Rattle.fst_safety.proofs.Answered.{go_typed, made_typed, Parts, forked_typed, sent_typed, got_typed}
 -- a body of main's type begins in a state of that type, and where a state of that type has ended, its value is one of main's declared type
-pub use Rattle.fst_safety.proofs.Answered.{main_begins, main_ends}
+pub use Rattle.fst_safety.proofs.Runs.{main_begins}
+pub use Rattle.fst_safety.proofs.Modules.{main_ends}
 -- an end that has no residual stands in no typed state
 pub use Rattle.fst_safety.proofs.Unknown.{unknown_state}
 -- an end of a channel is this one or the other one

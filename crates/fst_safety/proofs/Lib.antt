@@ -1,6 +1,7 @@
 pub mod Answered
 pub mod Answers
 pub mod Askers
+pub mod Asking
 pub mod AtOnce
 pub mod BagCalls
 pub mod BagLaws
@@ -24,7 +25,6 @@ pub mod Lists
 pub mod MakerNames
 pub mod Makers
 pub mod MeetLaws
-pub mod Meets
 pub mod Modules
 pub mod NewLaws
 pub mod Next
@@ -47,14 +47,13 @@ pub mod Shapes
 pub mod Shown
 pub mod SlotEnds
 pub mod SoundLaws
+pub mod SpentEnds
 pub mod StillLaws
 pub mod ThreadExchanges
 pub mod ThreadForks
 pub mod ThreadLaws
-pub mod ThreadMaking
 pub mod ThreadOpenings
 pub mod ThreadTurns
-pub mod ThreadTyping
 pub mod TaskNews
 pub mod TaskStarts
 pub mod TaskTurns

@@ -1,5 +1,5 @@
 -- A configuration stays sound where two tasks meet.
-use Rattle.std.proofs.Common.{◌≡◌, ◌∙◌, ◌⊎◌, inl, inr, ℕ, [], Bool, true, false, Some, refl, sym, ap, subst, arith}
+use Rattle.std.proofs.Common.{◌≡◌, ◌∙◌, ◌⊎◌, inl, inr, ℕ, [], Bool, true, false, Some, refl, sym, ap, subst}
 use Rattle.std.specs.Prelude.{option_map, option_and_then}
 use Rattle.fst_types.specs.Tree.{Tree}
 use Rattle.fst_types.specs.declared.label.Label.TheVariants.{Close}
@@ -15,25 +15,24 @@ use Rattle.fst_types.specs.declared.event.Entry.{Entry}
 use Rattle.fst_types.specs.declared.event.Event.{Event}
 use Rattle.fst_machine.specs.declared.request.Request.TheVariants as request
 use Rattle.fst_machine.specs.declared.request.Answer.TheVariants.{Sent, Got}
-use Rattle.fst_machine.specs.Machine.{State, Pause, pause, asked, after, answered}
+use Rattle.fst_machine.specs.Machine.{State, Pause, pause, asked, answered}
 use Rattle.fst_machine.specs.Machine as machine
 use Rattle.fst_lts.proofs.Laws.{moving, dual_receives}
 use Rattle.fst_runs.specs.Configs.{Path, Task, Channel, Config, same_path, same_channel, other, residual_in, channel_residual, main_path}
 use Rattle.fst_runs.specs.declared.event.CoreEvent.TheVariants.{Meet}
 use Rattle.fst_runs.specs.Events.{Write, written, extended, meeting_stamp, Does, has_met, passed}
 use Rattle.fst_runs.specs.Names.{HasMakers, HasParents}
-use Rattle.fst_runs.specs.Wrong.{held_state, held_pause, amount, IsUnspent}
-use Rattle.fst_runs.proofs.Laws.{put_pause, get_pause, same_path-same, same_path-apart, same_channel-itself, same_channel-same, asks_apart, named_meet, owner, own_once, asks_held, put, with_task, with_channel, in_put, stays_apart, same_amount, meet_puts}
+use Rattle.fst_runs.specs.Wrong.{held_state, amount, IsUnspent}
+use Rattle.fst_runs.proofs.Laws.{put_pause, pause_none, same_path-same, same_path-apart, same_channel-itself, same_channel-same, asks_apart, named_meet, owner, asks_held, put, with_task, with_channel, in_put, stays_apart, same_amount, meet_puts}
 use Rattle.fst_safety.specs.Fitting.{Residuals, IsTyped}
 use Rattle.fst_safety.specs.WellTyped.{IsWellTyped, program_in}
-use Rattle.fst_safety.specs.Pauses.{Allowed, Reached, Goes}
+use Rattle.fst_safety.specs.Pauses.{Allowed, Goes}
 use Rattle.fst_safety.specs.Sound.{IsSound, IsTrace}
+use Rattle.fst_safety.proofs.Answered.{kept_typed, sent_typed, got_typed}
+use Rattle.fst_safety.proofs.Asking.{end_moves}
 use Rattle.fst_safety.proofs.Equals.{session_step}
-use Rattle.fst_safety.proofs.Meets.{Meeting, still_but, put_goes, close_goes, get_goes, wait_goes, choose_goes}
 use Rattle.fst_safety.proofs.Owners.{or_other}
 use Rattle.fst_safety.proofs.Settles.{pause_goes}
-use Rattle.fst_safety.proofs.SoundLaws.{end_moves}
-use Rattle.fst_safety.proofs.StillLaws.{typed_still}
 use Rattle.fst_safety.proofs.TraceLaws.{Sides, sides_from, trace_from, sides_grow}
 
 -- where a typed task asks to send, the residual of the end moves so
@@ -83,14 +82,8 @@ module _ (m : Surroundings) (well : IsWellTyped m) (a : Tree) (c : Config) (p q 
   abbrev B : Tree
   B = (hs.tasks q u eq).0
 
-  put_reached : Reached m r (pause m.families t.state) A (λ z. held_state z t.state)
-  put_reached = pause_goes m well r t.state A (hs.tasks p t ep).1
-
-  get_reached : Reached m r (pause m.families u.state) B (λ z. held_state z u.state)
-  get_reached = pause_goes m well r u.state B (hs.tasks q u eq).1
-
   mv : (now : Tree) × (next : Tree) × (r x ≡ Some now) × (step now (sending e.event) ≡ Some next) × IsSession [] now
-  mv = put_moves m r (pause m.families t.state) A x e.event rp put_reached.0
+  mv = put_moves m r (pause m.families t.state) A x e.event rp (pause_goes m well r t.state A (hs.tasks p t ep).1).0
 
   its_trace : IsTrace k
   its_trace = hs.traces x.channel k ek
@@ -122,39 +115,25 @@ module _ (m : Surroundings) (well : IsWellTyped m) (a : Tree) (c : Config) (p q 
   before_other : r y ≡ Some (dual mv.0)
   before_other = ap (option_and_then (channel_residual (opposite x.side))) ek ∙ sides.1
 
-  meeting : Meeting r r' x e.event
-  meeting = record {
-    now = mv.0;
-    next = mv.1;
-    moves = mv.3;
-    before = mv.2;
-    before_other = before_other;
-    later = at_own x.side ∙ new_sides.0;
-    later_other = at_own (opposite x.side) ∙ new_sides.1;
-    others = others;
-  }
+  moves_other : step (dual mv.0) (receiving e.event) ≡ Some (dual mv.1)
+  moves_other = dual_receives mv.0 e.event ∙ ap (option_map dual) mv.3
 
   x_unspent : IsUnspent r x
   x_unspent = (mv.0, mv.2, moving mv.0 mv.1 (sending e.event) mv.3)
 
   y_unspent : IsUnspent r y
-  y_unspent = (
-    dual mv.0,
-    before_other,
-    moving (dual mv.0) (dual mv.1) (receiving e.event)
-        (dual_receives mv.0 e.event ∙ ap (option_map dual) mv.3),
-  )
+  y_unspent = (dual mv.0, before_other, moving (dual mv.0) (dual mv.1) (receiving e.event) moves_other)
 
   apart : p ≡ q → ⊥
   apart = asks_apart (program_in m) c p q t u x y e.event (ep, rp) (eq, rq)
 
   x_owned : (held_state x t.state ≡ 1) × ((o : Path) → same_path p o ≡ false → amount x (c.tasks o) ≡ 0)
   x_owned = owner c x p t (hs.owned x x_unspent) ep
-      (λ z. asks_held (pause m.families t.state) (request.Put x e.event) x refl rp (put_reached.1 x x_unspent ∙ z))
+      (λ z. asks_held (pause m.families t.state) (request.Put x e.event) x refl rp (pause_none m.families x t.state z))
 
   y_owned : (held_state y u.state ≡ 1) × ((o : Path) → same_path q o ≡ false → amount y (c.tasks o) ≡ 0)
   y_owned = owner c y q u (hs.owned y y_unspent) eq
-      (λ z. asks_held (pause m.families u.state) (request.Get y) y refl rq (get_reached.1 y y_unspent ∙ z))
+      (λ z. asks_held (pause m.families u.state) (request.Get y) y refl rq (pause_none m.families y u.state z))
 
   x_at_q : held_state x u.state ≡ 0
   x_at_q = sym (ap (λ o. amount x o) eq) ∙ x_owned.1 q (same_path-apart p q apart)
@@ -162,34 +141,25 @@ module _ (m : Surroundings) (well : IsWellTyped m) (a : Tree) (c : Config) (p q 
   y_at_p : held_state y t.state ≡ 0
   y_at_p = sym (ap (λ o. amount y o) ep) ∙ y_owned.1 p (same_path-apart q p (λ f. apart (sym f)))
 
-  sent : Goes m r' s A (λ z. held_pause z (pause m.families t.state))
-  sent = put_pause
-      (λ w. Allowed m r w A → ((z : EndName) → IsUnspent r z → held_pause z w ≡ held_state z t.state) →
-      after (program_in m) w Sent ≡ Some s → Goes m r' s A (λ z. held_pause z w))
-      (pause m.families t.state) x e.event rp
-      (λ fs k h f. put_goes m well r r' x e.event meeting (program_in m) fs A s k
-      (let g = h x x_unspent in let w = x_owned.0 in let o = own_once x in omega (arith, g, w, o))
-      (let g = h y y_unspent in let w = y_at_p in omega (arith, g, w)) f)
-      (λ fs c k h f. close_goes m well r r' x e.event meeting c (program_in m) fs A s k
-      (let g = h x x_unspent in let w = x_owned.0 in let o = own_once x in omega (arith, g, w, o))
-      (let g = h y y_unspent in let w = y_at_p in omega (arith, g, w)) f)
-      put_reached.0 put_reached.1 ap'
+  sent : Goes m r' s A (λ z. held_state z t.state)
+  sent = sent_typed m well t.state A s r r' x e.event mv.0 mv.1 (hs.tasks p t ep).1 rp x_owned.0 mv.2 mv.3
+      (at_own x.side ∙ new_sides.0) (λ z. by z (others z)) ap'
+    where
+      by : (z : EndName) → (z ≡ x) ⊎ ((z ≡ y) ⊎ (r' z ≡ r z)) →
+          (z ≡ x) ⊎ ((IsUnspent r z × (held_state z t.state ≡ 0)) ⊎ (r' z ≡ r z))
+      by z (inl f) = inl f
+      by z (inr (inl f)) = inr (inl (subst (IsUnspent r) (sym f) y_unspent, ap (λ w. held_state w t.state) f ∙ y_at_p))
+      by z (inr (inr f)) = inr (inr f)
 
-  got : Goes m r' v B (λ z. held_pause z (pause m.families u.state))
-  got = get_pause
-      (λ w. Allowed m r w B → ((z : EndName) → IsUnspent r z → held_pause z w ≡ held_state z u.state) →
-      after (program_in m) w (Got e.event) ≡ Some v → Goes m r' v B (λ z. held_pause z w))
-      (pause m.families u.state) y rq
-      (λ fs k h f. get_goes m well r r' x e.event meeting (program_in m) fs B v k
-      (let g = h x x_unspent in let w = x_at_q in omega (arith, g, w))
-      (let g = h y y_unspent in let w = y_owned.0 in let o = own_once y in omega (arith, g, w, o)) f)
-      (λ fs k h f. wait_goes m well r r' x e.event meeting (program_in m) fs B v k
-      (let g = h x x_unspent in let w = x_at_q in omega (arith, g, w))
-      (let g = h y y_unspent in let w = y_owned.0 in let o = own_once y in omega (arith, g, w, o)) f)
-      (λ bs env fs k h f. choose_goes m well r r' x e.event meeting (program_in m) bs env fs B v k
-      (let g = h x x_unspent in let w = x_at_q in omega (arith, g, w))
-      (let g = h y y_unspent in let w = y_owned.0 in let o = own_once y in omega (arith, g, w, o)) f)
-      get_reached.0 get_reached.1 aq
+  got : Goes m r' v B (λ z. held_state z u.state)
+  got = got_typed m well u.state B v r r' y e.event (dual mv.0) (dual mv.1) (hs.tasks q u eq).1 rq y_owned.0 before_other
+      moves_other (at_own (opposite x.side) ∙ new_sides.1) (λ z. by z (others z)) aq
+    where
+      by : (z : EndName) → (z ≡ x) ⊎ ((z ≡ y) ⊎ (r' z ≡ r z)) →
+          (z ≡ y) ⊎ ((IsUnspent r z × (held_state z u.state ≡ 0)) ⊎ (r' z ≡ r z))
+      by z (inl f) = inr (inl (subst (IsUnspent r) (sym f) x_unspent, ap (λ w. held_state w u.state) f ∙ x_at_q))
+      by z (inr (inl f)) = inl f
+      by z (inr (inr f)) = inr (inr f)
 
   was_unspent : (z : EndName) → IsUnspent r' z → IsUnspent r z
   was_unspent z h = go (others z)
@@ -204,19 +174,23 @@ module _ (m : Surroundings) (well : IsWellTyped m) (a : Tree) (c : Config) (p q 
 
   same_amounts : (z : EndName) (o : Path) → IsUnspent r' z → amount z (d.tasks o) ≡ amount z (c.tasks o)
   same_amounts z o h =
-      same_amount z (with_task c p t') q o u u' at_q (got.1 z h ∙ get_reached.1 z (was_unspent z h))
-      ∙ same_amount z c p o t t' ep (sent.1 z h ∙ put_reached.1 z (was_unspent z h))
+      same_amount z (with_task c p t') q o u u' at_q (got.1 z h) ∙ same_amount z c p o t t' ep (sent.1 z h)
 
   third : (o : Path) (w : Task) → same_path p o ≡ false → same_path q o ≡ false → c.tasks o ≡ Some w →
       (b : Tree) × IsTyped m r' w.state b × (o ≡ main_path → b ≡ a)
   third o w f g i =
       let h = hs.tasks o w i in (
         h.0,
-        typed_still m r r' w.state h.0 h.1
-            (still_but m well r r' x e.event meeting (λ z. held_state z w.state) (sym (ap (λ z. amount x z) i) ∙ x_owned.1 o f)
-            (sym (ap (λ z. amount y z) i) ∙ y_owned.1 o g)),
+        kept_typed m r r' x w.state h.0 (λ z. by z (others z)) (sym (ap (λ z. amount x z) i) ∙ x_owned.1 o f) h.1,
         h.2,
       )
+    where
+      by : (z : EndName) → (z ≡ x) ⊎ ((z ≡ y) ⊎ (r' z ≡ r z)) →
+          (z ≡ x) ⊎ ((IsUnspent r z × (held_state z w.state ≡ 0)) ⊎ (r' z ≡ r z))
+      by z (inl f) = inl f
+      by z (inr (inl f)) = inr (inl
+          (subst (IsUnspent r) (sym f) y_unspent, ap (λ v. held_state v w.state) f ∙ sym (ap (λ z. amount y z) i) ∙ y_owned.1 o g))
+      by z (inr (inr f)) = inr (inr f)
 
   names : HasMakers d × HasParents d
   names = named_meet c p q t u s v n x.channel k (extended k e) hs.makers hs.parents ep eq apart ek

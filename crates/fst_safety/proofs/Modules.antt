@@ -12,13 +12,18 @@ use Rattle.fst_terms.specs.declared.core_module.Module.{Module}
 use Rattle.fst_terms.specs.declared.global.GlobalEntry.{GlobalEntry}
 use Rattle.fst_derivations.specs.Deriv.{Deriv}
 use Rattle.fst_derivations.specs.Modules.{HasDerivations, HasMain, IsMain, IsPrintable, base_types, data_types, pairs, surroundings}
-use Rattle.fst_runs.specs.Configs.{Config, main_body, residual_in, started}
+use Rattle.fst_machine.specs.Values.{Value}
+use Rattle.fst_machine.specs.Machine.{State, ended, pause}
+use Rattle.fst_runs.specs.Configs.{Config, main_path, main_body, residual_in, started}
 use Rattle.fst_safety.specs.Running.{HasType}
+use Rattle.fst_safety.specs.Fitting.{Residuals, Fits, IsTyped}
+use Rattle.fst_safety.specs.Pauses.{Allowed}
 use Rattle.fst_safety.specs.WellTyped.{IsWellTyped}
-use Rattle.fst_safety.specs.Safety.{main_type, IsSafeAt, DerivedIsSafe}
+use Rattle.fst_safety.specs.Safety.{main_type, HasMainType, IsSafeAt, DerivedIsSafe}
 use Rattle.fst_safety.specs.Sound.{IsSound, SoundStaysSafe}
 use Rattle.fst_safety.proofs.Checked.{checked}
-use Rattle.fst_safety.proofs.Runs.{ended_fits, printable_formed, runs_sound, started_sound}
+use Rattle.fst_safety.proofs.Runs.{runs_sound, started_sound}
+use Rattle.fst_safety.proofs.Settles.{pause_goes}
 use Rattle.fst_safety.proofs.Shown.{result_of, of_shown}
 use Rattle.fst_safety.proofs.SoundLaws.{sound_right}
 
@@ -86,6 +91,15 @@ main_typed m ds h e q =
       printable = k.main.1.2;
     }
 
+-- where a state of main's type has ended, its value is one of main's declared type
+pub main_ends : (m : Module) → IsWellTyped (surroundings m []) → (e : CoreTree) (k : IsMainTyped m e) (r : Residuals) (s : State)
+    (v : Value) → IsTyped (surroundings m []) r s k.type → pause m.families.items s ≡ ended v → HasMainType m v
+main_ends m well e k r s v h q =
+    let n = surroundings m [] in
+    let f : Fits n r v k.type = subst (λ z. Allowed n r z k.type) q (pause_goes n well r s k.type h).0 in
+    let o = result_of m well r v k.type k.printable f in
+    record { type = k.type; declared = k.declared; typed = o; shown = of_shown m v k.type o }
+
 -- where main has a type it has a body
 has_body : (types : List Tree) (gs : List GlobalEntry) (a : Tree) → main_type types gs ≡ Some a → (e : CoreTree) ×
     (main_body gs ≡ Some e)
@@ -107,8 +121,8 @@ sound_safe m w e k c s = record {
   right = sound_right (surroundings m []) w k.type c s;
   sessions = λ h j i. (s.traces h j i).1;
   result = λ t v i p.
-      let o = result_of m w (residual_in c) v k.type k.printable (ended_fits (surroundings m []) w k.type c s t v i p) in
-      record { type = k.type; declared = k.declared; typed = o; shown = of_shown m v k.type o };
+      let g = s.tasks main_path t i in
+      main_ends m w e k (residual_in c) t.state v (subst (IsTyped (surroundings m []) (residual_in c) t.state) (g.2 refl) g.1) p;
 }
 
 -- so it stays
@@ -126,4 +140,4 @@ pub modules_safe : DerivedIsSafe
 modules_safe m ds h e q =
     let k = main_typed m ds h e q in
     stays_safe m ds h k.type k.declared (started e)
-    (started_sound (surroundings m []) (checked m ds h) k.type e (printable_formed k.type k.printable) k.typed)
+    (started_sound (surroundings m []) (checked m ds h) k.type e k.printable k.typed)

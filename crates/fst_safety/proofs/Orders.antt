@@ -13,7 +13,7 @@ use Rattle.fst_safety.proofs.Commuting.{commute}
 use Rattle.fst_safety.proofs.Modules.{main_typed}
 use Rattle.fst_safety.proofs.OneEnd.{sound_regular, ends_alike}
 use Rattle.fst_safety.proofs.OneOrder.{one_order}
-use Rattle.fst_safety.proofs.Runs.{printable_formed, runs_sound, started_sound}
+use Rattle.fst_safety.proofs.Runs.{runs_sound, started_sound}
 use Rattle.fst_safety.proofs.SameEvents.{same_events}
 
 -- the start is sound
@@ -21,7 +21,7 @@ pub start_sound : (m : Module) (ds : List Deriv) → HasDerivations m ds → (e 
     (a : Tree) × IsSound (surroundings m []) a (started e)
 start_sound m ds h e q =
     let k = main_typed m ds h e q in
-    (k.type, started_sound (surroundings m []) (checked m ds h) k.type e (printable_formed k.type k.printable) k.typed)
+    (k.type, started_sound (surroundings m []) (checked m ds h) k.type e k.printable k.typed)
 
 -- two different events that are possible after a run commute
 pub events_commute : DiamondLaw

@@ -19,7 +19,7 @@ use Rattle.fst_safety.specs.Threads.{count_of, FitsEnd, IsOpen, IsPast, IsSpent,
 use Rattle.fst_safety.specs.Bags.{IsPutBack, put_by}
 use Rattle.fst_safety.proofs.BagLaws.{counted, with_at, at_itself, at_other, are_more}
 use Rattle.fst_safety.proofs.StillLaws.{unchanged, typed_still}
-use Rattle.fst_safety.proofs.ThreadTyping.{spent_typed}
+use Rattle.fst_safety.proofs.SpentEnds.{spent_typed}
 
 -- what is left of a type, or nothing where nothing is left to do
 abbrev pub rested_by : Bool → Tree → Tree

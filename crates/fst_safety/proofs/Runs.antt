@@ -1,5 +1,5 @@
 -- All that a run leads to is sound.
-use Rattle.std.proofs.Common.{◌≡◌, zero, List, [], ◌∷◌, Some, refl, sym, subst}
+use Rattle.std.proofs.Common.{zero, List, [], ◌∷◌, refl, sym, subst}
 use Rattle.fst_base.proofs.Options.{none_some}
 use Rattle.fst_types.specs.Tree.{Tree}
 use Rattle.fst_types.specs.declared.kind.Use.TheVariants.{Many}
@@ -8,20 +8,17 @@ use Rattle.fst_terms.specs.CoreTree.{CoreTree}
 use Rattle.fst_derivations.specs.Modules.{IsPrintable, base_types, data_types, pairs}
 use Rattle.fst_derivations.specs.Parts.{IsFormed}
 use Rattle.fst_derivations.specs.Rules.{Surroundings}
-use Rattle.fst_machine.specs.Values.{Value}
-use Rattle.fst_machine.specs.Machine.{pause, ended, begins}
+use Rattle.fst_machine.specs.Machine.{begins}
 use Rattle.fst_runs.specs.declared.event.CoreEvent.{CoreEvent}
 use Rattle.fst_runs.specs.declared.event.CoreEvent.TheVariants.{Local, New, Fork, Meet}
-use Rattle.fst_runs.specs.Configs.{Task, Config, same_path, residual_in, main_path, new_task, started}
+use Rattle.fst_runs.specs.Configs.{Config, same_path, residual_in, main_path, new_task, started}
 use Rattle.fst_runs.specs.Events.{Write, written, Does, Runs}
 use Rattle.fst_runs.proofs.Laws.{named_start, in_test}
 use Rattle.fst_safety.specs.Running.{HasType}
-use Rattle.fst_safety.specs.Fitting.{Fits, IsTyped}
+use Rattle.fst_safety.specs.Fitting.{Residuals, IsTyped}
 use Rattle.fst_safety.specs.WellTyped.{IsWellTyped, program_in}
-use Rattle.fst_safety.specs.Pauses.{Allowed}
 use Rattle.fst_safety.specs.Sound.{IsSound}
 use Rattle.fst_safety.proofs.Closed.{closed_by}
-use Rattle.fst_safety.proofs.Settles.{pause_goes}
 use Rattle.fst_safety.proofs.Equals.{equals_itself}
 use Rattle.fst_safety.proofs.Shapes.{plain_formed}
 use Rattle.fst_safety.proofs.ForkLaws.{fork_sound}
@@ -45,6 +42,17 @@ printable_formed t (pairs {s} {t = r} p q) =
       },
     )
 
+-- a body of main's type begins in a state of that type, whatever the residuals
+pub main_begins : (m : Surroundings) (r : Residuals) (a : Tree) (e : CoreTree) → IsPrintable a → HasType m [] e a →
+    IsTyped m r (begins e []) a
+main_begins m r a e p h = record {
+  variables = [];
+  type = a;
+  environment = (tt, λ k. sym (closed_by m [] e a k h refl));
+  term = h;
+  frames = equals_itself a (printable_formed a p);
+}
+
 module _ (m : Surroundings) (well : IsWellTyped m) (a : Tree) where
   -- a configuration stays sound whatever happens
   pub does_sound : (c : Config) (e : CoreEvent) (w : Write) → IsSound m a c → Does (program_in m) m.types c e w →
@@ -59,31 +67,17 @@ module _ (m : Surroundings) (well : IsWellTyped m) (a : Tree) where
   runs_sound [] c d h r = subst (IsSound m a) (sym r) h
   runs_sound (e ∷ es) c d h r = runs_sound es (written c r.0) d (does_sound c e r.0 h r.1) r.2
 
-  -- the start of a typed term is sound
-  pub started_sound : (e : CoreTree) → IsFormed [] a → HasType m [] e a → IsSound m a (started e)
-  started_sound e f h = record {
-    tasks = λ p t i. in_test (same_path main_path p) (new_task (begins e []) zero) t
-        (λ g q. (a, subst (λ z. IsTyped m (residual_in (started e)) z.state a) q first_typed, λ z. refl)) i;
+  -- the start of a typed term whose values can be printed is sound
+  pub started_sound : (e : CoreTree) → IsPrintable a → HasType m [] e a → IsSound m a (started e)
+  started_sound e p h = record {
+    tasks = λ q t i. in_test (same_path main_path q) (new_task (begins e []) zero) t
+        (λ g z. (
+          a,
+          subst (λ z. IsTyped m (residual_in (started e)) z.state a) z (main_begins m (residual_in (started e)) a e p h),
+          λ z. refl,
+        )) i;
     owned = λ x u. absurd (none_some u.1);
     traces = λ k t i. absurd (none_some i);
     makers = (named_start e).0;
     parents = (named_start e).1;
   }
-    where
-      first_typed : IsTyped m (residual_in (started e)) (begins e []) a
-      first_typed = record {
-        variables = [];
-        type = a;
-        environment = (tt, λ k. sym (closed_by m [] e a k h refl));
-        term = h;
-        frames = equals_itself a f;
-      }
-
-  -- where main has ended, its value fits its type
-  pub ended_fits : (c : Config) → IsSound m a c →
-      (t : Task) (v : Value) → c.tasks main_path ≡ Some t → pause m.families t.state ≡ ended v → Fits m (residual_in c) v a
-  ended_fits c h t v f g =
-      let s = h.tasks main_path t f in
-      let k : Allowed m (residual_in c) (ended v) s.0 = subst
-      (λ z. Allowed m (residual_in c) z s.0) g (pause_goes m well (residual_in c) t.state s.0 s.1).0 in
-      subst (Fits m (residual_in c) v) (s.2 refl) k

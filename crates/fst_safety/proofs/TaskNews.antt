@@ -32,10 +32,10 @@ use Rattle.fst_safety.specs.Going.{GoesOnTo, with_entry}
 use Rattle.fst_safety.specs.Bags.{IsPutBack, put_by, AreParted}
 use Rattle.fst_safety.specs.Tasks.{Fits, AsksNow, AreNew, IsDeclarable, HasGoneOn, HasTurned, module_of, offers, tries_at}
 use Rattle.fst_safety.proofs.Checked.{checked}
-use Rattle.fst_safety.proofs.ForkLaws.{fork_parts}
-use Rattle.fst_safety.proofs.Going.{stay_typed}
-use Rattle.fst_safety.proofs.Keeping.{its_pause, asks_it, alive_in, takes_it, keeps_it}
+use Rattle.fst_safety.proofs.Answered.{not_stuck, forked_typed}
 use Rattle.fst_safety.proofs.Settles.{pause_goes}
+use Rattle.fst_safety.proofs.Going.{stay_typed}
+use Rattle.fst_safety.proofs.Keeping.{asks_it, alive_in, takes_it, keeps_it}
 use Rattle.fst_safety.proofs.SlotEnds.{slots_ends}
 use Rattle.fst_safety.proofs.ThreadOpenings.{left_residual, right_residual}
 use Rattle.fst_safety.proofs.Tries.{made_sum, parted_sum}
@@ -63,7 +63,8 @@ is_declared m r (ended v) t j h e = absurd (cc e)
 pub declarable : (k : Code) (a : Tree) (t : TypedTask) (x : Thread) → Fits k a t x →
     (j : ℕ) → AsksNow k t (request.New j) → IsDeclarable k j
 declarable k a t x f j now =
-    let p = its_pause k.module.value f.code.derivations f.code.derived a x f.fits in
+    let p = (pause_goes (module_of k) (checked k.module.value f.code.derivations f.code.derived) f.fits.typed.residuals x.now.state
+    f.fits.typed.type f.fits.typed.typed).0 in
     let d = is_declared (module_of k) f.fits.typed.residuals
     (pause k.module.value.families.items x.now.state) f.fits.typed.type j p (asks_it k a t x f (request.New j) now) in
     (d.0, ap (λ ts. slice_get ts j) f.code.from.same_types ∙ d.1, d.2)
@@ -197,15 +198,13 @@ module _ (k : Code) (t : TypedTask) (now : AsksNow k t request.Fork) (few : t.cl
 
   -- the state after the fork is typed
   alive : pause k.module.value.families.items told_fork.1 ≡ stuck → ⊥
-  alive stop =
+  alive =
       let m = module_of k in
       let well = checked k.module.value f.code.derivations f.code.derived in
       let r = f.fits.typed.residuals in
       let ty = f.fits.typed.type in
-      let parts = fork_parts m well r (program k.module.value) (pause k.module.value.families.items x.now.state) ty
-      (λ z. held_state z x.now.state) told_fork.1 told_fork.0
-      (pause_goes m well r x.now.state ty f.fits.typed.typed) told_fork.2 told_fork.3 in
-      subst (λ p. Allowed m r p ty) stop (pause_goes m well r told_fork.1 ty parts.0).0
+      let parts = forked_typed m well x.now.state ty told_fork.1 r told_fork.0 f.fits.typed.typed told_fork.2 told_fork.3 in
+      not_stuck m well told_fork.1 ty r parts.0
 
   pub fork_takes : Takes k t.task Told
   fork_takes = takes_it k a t x f Told told_fork.1 now.0 told_fork.3 alive (λ e. few_forked)

@@ -7,35 +7,21 @@ use Rattle.fst_terms.specs.CoreTree.{CoreTree}
 use Rattle.fst_derivations.specs.Modules.{IsPrintable}
 use Rattle.fst_derivations.specs.Rules.{Surroundings}
 use Rattle.fst_machine.specs.declared.code.Code.{Code}
-use Rattle.fst_machine.specs.Machine.{begins}
 use Rattle.fst_vm.specs.Tasks.{IsStart}
 use Rattle.fst_cell.specs.End.{EndView, end_name, residual_of}
 use Rattle.fst_safety.specs.declared.tasks.TypedTask.{TypedTask}
 use Rattle.fst_safety.specs.Running.{HasType}
-use Rattle.fst_safety.specs.Fitting.{Residuals, IsTyped}
+use Rattle.fst_safety.specs.Fitting.{Residuals}
 use Rattle.fst_safety.specs.Threads.{FitsIn, FitsEnd, IsOpen, IsSpent, IsPast}
 use Rattle.fst_safety.specs.Tasks.{IsBegun, main_thread, module_of}
-use Rattle.fst_safety.proofs.Closed.{closed_by}
-use Rattle.fst_safety.proofs.Equals.{equals_itself}
 use Rattle.fst_safety.proofs.Modules.{main_typed}
-use Rattle.fst_safety.proofs.Runs.{printable_formed}
+use Rattle.fst_safety.proofs.Runs.{main_begins}
 
 -- where no end is known
 abbrev none_known : Residuals
 none_known x = Some skip
 
--- the beginning of a typed term whose values can be printed is typed
-begun_typed : (m : Surroundings) (a : Tree) (e : CoreTree) → IsPrintable a → HasType m [] e a →
-    IsTyped m none_known (begins e []) a
-begun_typed m a e p h = record {
-  variables = [];
-  type = a;
-  environment = (tt, λ k. sym (closed_by m [] e a k h refl));
-  term = h;
-  frames = equals_itself a (printable_formed a p);
-}
-
--- so its thread fits
+-- the thread of a typed term whose values can be printed fits at the beginning
 pub begun_fits : (m : Surroundings) (a : Tree) (e : CoreTree) → IsPrintable a → HasType m [] e a → FitsIn m a (main_thread e)
 begun_fits m a e p h = record {
   none_made = refl;
@@ -45,7 +31,7 @@ begun_fits m a e p h = record {
     residuals = none_known;
     are = record { known = All-nil (λ (e : EndView). none_known (end_name e) ≡ residual_of e.knows); others = λ x n. refl };
     type = a;
-    typed = begun_typed m a e p h;
+    typed = main_begins m none_known a e p h;
     main = λ q. refl;
   };
   unspent = All-nil IsOpen;

@@ -36,7 +36,7 @@ use Rattle.fst_safety.specs.Going.{GoesOnTo, IsMoved, with_entry}
 use Rattle.fst_safety.specs.Bags.{IsPlaced, IsPutBack, IsChanged, IsPassed, MayOffer, MayTake}
 use Rattle.fst_safety.specs.Tasks.{Keeps, Fits, CanTurn, AsksNow, IsSame, HasGoneOn, HasTurned, TakesTurn, FoundNoWay, HasTried, offers, tries_at, work, module_of}
 use Rattle.fst_safety.proofs.Going.{stay_typed}
-use Rattle.fst_safety.proofs.Keeping.{stays, stands_in, not_stuck, same_keeps, asks_alike, asks_it, allowed, fits_there, known_there, alive_in, takes_it, keeps_it, advanced_fits}
+use Rattle.fst_safety.proofs.Keeping.{stays, stands_in, stands_open, same_keeps, asks_alike, asks_it, allowed, fits_there, known_there, alive_in, takes_it, keeps_it, advanced_fits}
 use Rattle.fst_safety.proofs.Pasts.{rise_short}
 use Rattle.fst_safety.proofs.Told.{told_go, told_sent, told_got}
 use Rattle.fst_safety.proofs.Tries.{tried_more, changed_sum, passed_sum, one_offer}
@@ -477,7 +477,7 @@ asks_still k t v q c s asks rests =
       rests,
       asks_alike k c.0 (record t { task = v }) c.1 g rests
           ∙ asks k.module.value c.1.now.state f.keeps.is_in
-          (not_stuck k.module.value f.code.derivations f.code.derived c.0 c.1 f.fits),
+          (stands_open k.module.value f.code.derivations f.code.derived c.0 c.1 f.fits),
     )
 
 -- and where that is nothing its value is there

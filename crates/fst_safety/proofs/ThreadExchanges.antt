@@ -1,5 +1,5 @@
 -- A thread that exchanges an event on one of its ends.
-use Rattle.std.proofs.Common.{◌≡◌, ◌∙◌, ◌⊎◌, inl, inr, ◌<◌, ℕ, zero, suc, ◌+◌, List, [], ◌∷◌, ◌++◌, Some, None, refl, sym, ap, arith}
+use Rattle.std.proofs.Common.{◌≡◌, ◌∙◌, ◌⊎◌, inl, inr, ◌<◌, ℕ, ◌+◌, List, [], ◌∷◌, ◌++◌, Some, None, refl, sym, ap, arith}
 use Rattle.std.specs.Prelude.{sum_by, All}
 use Rattle.std.proofs.lemmas.List.Elements.{All-nil, All-head, All-tail}
 use Rattle.std.proofs.lemmas.List.Sorted.{All-permutation, sum_by-IsPermutation}
@@ -9,12 +9,13 @@ use Rattle.fst_types.specs.Tree.{Tree, skip}
 use Rattle.fst_types.specs.declared.side.Side.TheVariants.{Left, Right}
 use Rattle.fst_derivations.specs.Rules.{Surroundings}
 use Rattle.fst_types.specs.declared.ends.EndName.{EndName}
+use Rattle.fst_machine.specs.Machine.{answered, or_lost}
 use Rattle.fst_runs.specs.Configs.{Task, same_end}
 use Rattle.fst_runs.specs.Wrong.{once, held_state, end_of}
 use Rattle.fst_cell.specs.declared.content.Offer.{Offer}
 use Rattle.fst_cell.specs.End.{EndView, end_name, residual_of}
 use Rattle.fst_runs.specs.declared.log.LogEntry.{LogEntry}
-use Rattle.fst_safety.specs.Fitting.{Residuals, IsTyped}
+use Rattle.fst_safety.specs.Fitting.{Residuals}
 use Rattle.fst_safety.specs.Pauses.{Goes}
 use Rattle.fst_safety.specs.WellTyped.{program_in}
 use Rattle.fst_runs.specs.Logs.{Exchange, Opening, Enters, after_entry, made_after, births, exchanges, openings}
@@ -22,6 +23,7 @@ use Rattle.fst_runs.proofs.Laws.{follows_more, later, few_made, few_forks, opene
 use Rattle.fst_safety.specs.Threads.{Thread, FitsIn, FitsEnd, IsOpen, IsPast, AreResiduals, count_of}
 use Rattle.fst_safety.specs.Turns.{Turn, AreKnownSpent, of_ends, on_side, by_type, by_cell, by_exchanges}
 use Rattle.fst_safety.specs.Going.{IsMoved}
+use Rattle.fst_safety.proofs.Answered.{KeepsBut, held_before}
 use Rattle.fst_safety.proofs.BagLaws.{counted, count_first, counted_so, or_not, with_at, at_itself, at_other, are_permuted, are_less, unspent_in}
 use Rattle.fst_safety.proofs.Pasts.{later_past}
 use Rattle.fst_safety.proofs.PutLaws.{HasPut, WentTo, has_put, rested, rested_typed, rested_unspent}
@@ -42,12 +44,6 @@ module _ (m : Surroundings) (a : Tree) (x : Thread) (fits : FitsIn m a x) (g : L
 
   abbrev rest : List EndView
   rest = moved.rest
-
-  -- the exchange's residuals: those of n are nw and then nx
-  pub record Exchanges (r r' : Residuals) : Type 0 where
-    pub before : r n ≡ Some nw
-    pub later : r' n ≡ Some nx
-    pub others : (z : EndName) → (z ≡ n) ⊎ (r' z ≡ r z)
 
   there_is : count_of n x.bag ≡ count_of n (e ∷ rest)
   there_is = sym (sum_by-IsPermutation (counted n) x.bag (e ∷ rest) moved.before)
@@ -77,6 +73,7 @@ module _ (m : Surroundings) (a : Tree) (x : Thread) (fits : FitsIn m a x) (g : L
   before_n : r n ≡ Some nw
   before_n = ap r (sym ne) ∙ All-head (λ (e : EndView). r (end_name e) ≡ residual_of e.knows) e rest are_rest.known ∙ was
 
+  -- its residual has gone on, and all others are as they were
   abbrev r1 : Residuals
   r1 = with_at (end_name e) (residual_of f.knows) r
 
@@ -90,8 +87,12 @@ module _ (m : Surroundings) (a : Tree) (x : Thread) (fits : FitsIn m a x) (g : L
   later_n : r1 n ≡ Some nx
   later_n = ap r1 (sym ne) ∙ at_itself (end_name e) (residual_of f.knows) r ∙ is
 
-  pub exchanged_residuals : Exchanges r r1
-  exchanged_residuals = record { before = before_n; later = later_n; others = others_1 }
+  pub exchange : (r n ≡ Some nw) × (r1 n ≡ Some nx) × KeepsBut r r1 n x.now.state
+  exchange = (before_n, later_n, λ z. but_one (others_1 z))
+    where
+      but_one : {A B C : Type 0} → A ⊎ C → A ⊎ (B ⊎ C)
+      but_one (inl i) = inl i
+      but_one (inr i) = inr (inr i)
 
   abbrev open_before : All IsOpen (e ∷ rest)
   open_before = All-permutation IsOpen x.bag (e ∷ rest) moved.before fits.unspent
@@ -116,20 +117,15 @@ module _ (m : Surroundings) (a : Tree) (x : Thread) (fits : FitsIn m a x) (g : L
       none_offer : {o : Offer} → None ≡ Some o → ⊥
       none_offer q = absurd (cc q)
 
-  -- what typing says of the state after it, and that no end is held that wasn't
-  module _ (s_after : (t : Tree) (q q' : Residuals) → Exchanges q q' → IsTyped m q x.now.state t → Goes m q' now'.state t
-      (λ z. held_state z x.now.state))
-      (holds : (z : EndName) → held_state z x.now.state ≡ 0 → held_state z now'.state ≡ 0) where
-    goes : Goes m r1 now'.state fits.typed.type (λ z. held_state z x.now.state)
-    goes = s_after fits.typed.type r r1 exchanged_residuals fits.typed.typed
+  there : answered (program_in m) x.now.state g.answer ≡ Some now'.state
+  there = enters.leads ∙ ap (λ o. Some (or_lost o)) (sym enters.leads)
 
-    held_before : (z : EndName) → 0 < held_state z now'.state → 0 < held_state z x.now.state
-    held_before z k = go (held_state z x.now.state) refl
-      where
-        go : (j : ℕ) → held_state z x.now.state ≡ j → 0 < j
-        go zero q = let h = holds z q in omega (arith, k, h)
-        go (suc j) q = omega arith
+  before : (z : EndName) → 0 < held_state z now'.state → 0 < held_state z x.now.state
+  before z = held_before (program_in m) x.now.state now'.state g.answer z there
+      (λ i. let c = ap (λ w. made_after w x.now.made) (sym i) ∙ same_made in absurd (omega (arith, c)))
 
+  -- the state after it is typed
+  module _ (goes : Goes m r1 now'.state fits.typed.type (λ z. held_state z x.now.state)) where
     count_split : (z : EndName) → count_of z x.bag ≡ counted z e + count_of z rest
     count_split z = sym (sum_by-IsPermutation (counted z) x.bag (e ∷ rest) moved.before) ∙ count_first z e rest
 
@@ -193,7 +189,7 @@ module _ (m : Surroundings) (a : Tree) (x : Thread) (fits : FitsIn m a x) (g : L
             let i = (w z).0 in
             let d = count_split z in
             let q = same_counted z in
-            inr (held_before z k, omega (arith, c, i, d, q))
+            inr (before z k, omega (arith, c, i, d, q))
         by (inr w) (inl j) =
             let i = (w z).1 in
             let q = counted_so z f (nf ∙ sym ne ∙ j) in
@@ -201,7 +197,7 @@ module _ (m : Surroundings) (a : Tree) (x : Thread) (fits : FitsIn m a x) (g : L
         by (inr w) (inr j) =
             let i = (w z).0 in
             let d = count_split z in
-            inr (held_before z k, omega (arith, c, i, d, j))
+            inr (before z k, omega (arith, c, i, d, j))
 
     pub exchanged_fits : FitsIn m a y
     exchanged_fits = record {
@@ -217,7 +213,7 @@ module _ (m : Surroundings) (a : Tree) (x : Thread) (fits : FitsIn m a x) (g : L
       };
       unspent = put.unspent (All-tail IsOpen e rest open_before);
       once = once_after;
-      named = λ z k. let h = fits.named z (held_before z k) in
+      named = λ z k. let h = fits.named z (before z k) in
           record { behind = h.behind; leads = h.leads; own = λ q. let c = h.own q in omega (arith, c, same_made) };
       ends = put.ends m now' f_later rest_later;
       spent = put.spent idle fits.spent;

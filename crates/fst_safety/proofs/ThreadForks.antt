@@ -27,13 +27,11 @@ use Rattle.fst_runs.specs.Logs.{Birth, Enters, after_entry, birth_of}
 use Rattle.fst_safety.specs.Threads.{Thread, FitsIn, FitsEnd, IsOpen, IsSpent, AreResiduals, IsNamedBelow, count_of, IsPast}
 use Rattle.fst_safety.specs.Turns.{Turn, AreKnownSpent, of_ends, birth, by_type, by_cell, by_exchanges}
 use Rattle.fst_safety.proofs.BagLaws.{counted, count_first, counts_itself, stands_there, there, unspent_in}
-use Rattle.fst_safety.proofs.ForkLaws.{Parts, fork_parts}
-use Rattle.fst_safety.proofs.Settles.{pause_goes}
+use Rattle.fst_safety.proofs.Answered.{Parts, held_before, child_before, forked_typed}
 use Rattle.fst_safety.proofs.StillLaws.{Still, typed_still}
 use Rattle.fst_safety.proofs.Pasts.{later_past}
-use Rattle.fst_safety.proofs.ThreadMaking.{fork_holds}
 use Rattle.fst_safety.proofs.ThreadTurns.{later_all}
-use Rattle.fst_safety.proofs.ThreadTyping.{skip_session, ended_equal}
+use Rattle.fst_safety.proofs.SpentEnds.{skip_session, ended_equal}
 use Rattle.fst_safety.proofs.Equals.{equals_itself, session_formed}
 
 -- a residual where an end stands, and that of a spent one elsewhere
@@ -105,9 +103,8 @@ module _ (m : Surroundings) (well : IsWellTyped m) (a : Tree) (x : Thread) (fits
   abbrev r : Residuals
   r = fits.typed.residuals
 
-  parts : Parts m r fits.typed.type (λ z. held_state z x.now.state) s' b
-  parts = fork_parts m well r (program_in m) (pause m.families x.now.state) fits.typed.type (λ z. held_state z x.now.state) s' b
-      (pause_goes m well r x.now.state fits.typed.type fits.typed.typed) ch there_is
+  parts : Parts m well x.now.state fits.typed.type s' r b
+  parts = forked_typed m well x.now.state fits.typed.type s' r b fits.typed.typed ch there_is
 
   split : (w : EndView → ℕ) → sum_by w x.bag ≡ sum_by w mine + sum_by w theirs
   split w = sym (sum_by-IsPermutation w x.bag (mine ++ theirs) all) ∙ sum_by-append w mine theirs
@@ -214,21 +211,11 @@ module _ (m : Surroundings) (well : IsWellTyped m) (a : Tree) (x : Thread) (fits
   are_of : (es : List EndView) → All (λ (e : EndView). r (end_name e) ≡ residual_of e.knows) es → AreResiduals es (among es r)
   are_of es h = are_among es r (λ k d l. (h k d l, stand es k d l))
 
-  named_before : (z : EndName) (t : State) → ((z : EndName) → held_state z x.now.state ≡ 0 → held_state z t ≡ 0) →
-      0 < held_state z t → 0 < held_state z x.now.state
-  named_before z t h k = go (held_state z x.now.state) refl
-    where
-      go : (j : ℕ) → held_state z x.now.state ≡ j → 0 < j
-      go zero q = let n = h z q in omega (arith, k, n)
-      go (suc j) q = omega arith
-
   mine_before : (z : EndName) → 0 < held_state z s' → 0 < held_state z x.now.state
-  mine_before z = named_before z s' (λ z n. (fork_holds m well r x.now.state s' b fits.typed.type fits.typed.typed ch there_is z
-      n).0)
+  mine_before z = held_before (program_in m) x.now.state s' Forked z there_is (λ i. cc i)
 
   theirs_before : (z : EndName) → 0 < held_state z b → 0 < held_state z x.now.state
-  theirs_before z = named_before z b (λ z n. (fork_holds m well r x.now.state s' b fits.typed.type fits.typed.typed ch there_is z
-      n).1)
+  theirs_before z = child_before m.families x.now.state b z ch
 
   ends_later : (u : Task) → x.now.clock ≤ u.clock → All (FitsEnd m u) x.bag
   ends_later u le = later_all m a x fits u le request.Fork asks (λ z ev q. absurd (cc q))

@@ -8,30 +8,32 @@ use Rattle.fst_types.specs.Tree.{Tree}
 use Rattle.fst_types.specs.declared.side.Side.{Side}
 use Rattle.fst_types.specs.declared.side.Side.TheVariants.{Left, Right}
 use Rattle.fst_lts.specs.Dual.{dual}
+use Rattle.fst_lts.specs.Histories.{side_type}
 use Rattle.fst_derivations.specs.Rules.{Surroundings}
 use Rattle.fst_types.specs.declared.ends.ChannelName.{ChannelName}
 use Rattle.fst_types.specs.declared.ends.EndName.{EndName}
 use Rattle.fst_machine.specs.declared.request.Request.TheVariants as request
 use Rattle.fst_machine.specs.declared.request.Answer.TheVariants.{Made}
-use Rattle.fst_machine.specs.Machine.{State, ends, or_lost, answered}
+use Rattle.fst_machine.specs.Machine.{State, or_lost, answered}
 use Rattle.fst_machine.specs.Machine as machine
-use Rattle.fst_runs.specs.Configs.{same_end, channel_name}
-use Rattle.fst_runs.specs.Wrong.{held, held_state, IsUnspent}
-use Rattle.fst_runs.proofs.Laws.{same_end-itself, same_end-same, follows_more, opened_more}
+use Rattle.fst_runs.specs.Configs.{same_end, same_channel, channel_name}
+use Rattle.fst_runs.specs.Wrong.{once, held_state, IsUnspent}
+use Rattle.fst_runs.proofs.Laws.{same_channel-itself, follows_more, opened_more}
 use Rattle.fst_cell.specs.End.{EndView, end_name, residual_of}
 use Rattle.fst_lts.specs.Residuals.{residual}
 use Rattle.fst_cell.specs.Rule.{fresh}
 use Rattle.fst_runs.specs.declared.log.LogEntry.{LogEntry}
 use Rattle.fst_safety.specs.Fitting.{Residuals, IsTyped}
+use Rattle.fst_safety.specs.Pauses.{Goes}
 use Rattle.fst_safety.specs.WellTyped.{IsWellTyped, program_in}
 use Rattle.fst_runs.specs.Logs.{Opening, Enters, after_entry, opening_of}
 use Rattle.fst_safety.specs.Threads.{Thread, FitsIn, FitsEnd, AreResiduals, IsNamedBelow, count_of}
 use Rattle.fst_safety.specs.Turns.{Turn, AreKnownSpent, on_side, by_type, by_cell, by_exchanges}
 use Rattle.fst_safety.specs.Bags.{IsPutBack}
+use Rattle.fst_safety.proofs.Answered.{end_at, Opens, which_end, not_end, held_before, made_typed}
 use Rattle.fst_safety.proofs.BagLaws.{counted, counted_so, or_not, with_at, at_itself, at_other, unspent_in}
 use Rattle.fst_safety.proofs.Pasts.{later_past}
 use Rattle.fst_safety.proofs.PutLaws.{HasPut, WentTo, has_put, rested, rested_typed, rested_unspent}
-use Rattle.fst_safety.proofs.ThreadMaking.{HasOpened, end_at, sides_differ, own_ends, other_ends, made_typed, made_holds}
 use Rattle.fst_safety.proofs.ThreadTurns.{later_all}
 
 -- nothing stands behind a list that it is itself with that behind it
@@ -47,6 +49,9 @@ went_counts f bag0 ret0 bag1 ret1 (inl w) z = let a = (w z).0 in let b = (w z).1
     (omega (arith, a, b), omega (arith, a), omega (arith, a))
 went_counts f bag0 ret0 bag1 ret1 (inr w) z = let a = (w z).0 in let b = (w z).1 in
     (omega (arith, a, b), omega (arith, a), omega (arith, a))
+
+sides_differ : (h : ChannelName) → end_at h Left ≡ end_at h Right → ⊥
+sides_differ h e = let g : Left ≡ Right = ap (λ (z : EndName). z.side) e in absurd (cc g)
 
 -- two residuals at one place
 only_at : (x : EndName) (o p : Option Tree) (q : Residuals) (z : EndName) → (z ≡ x) ⊎ (with_at x o q z ≡ with_at x p q z)
@@ -157,6 +162,17 @@ module _ (m : Surroundings) (well : IsWellTyped m) (a : Tree) (x : Thread) (fits
       go (inl j) = absurd (n (sym j ∙ i))
       go (inr j) = j
 
+  -- a new end is one of both
+  one_of : (b : Side) (z : EndName) → z ≡ end_at h b → counted z l + counted z r ≡ 1
+  one_of Left z i =
+      let a = counted_so z l (name_l ∙ sym i) in
+      let b = apart z r R name_r (λ e. sides_differ h (sym i ∙ e)) in
+      omega (arith, a, b)
+  one_of Right z i =
+      let a = apart z l L name_l (λ e. sides_differ h (sym (sym i ∙ e))) in
+      let b = counted_so z r (name_r ∙ sym i) in
+      omega (arith, a, b)
+
   R_not_in_1 : count_of R bag1 ≡ 0
   R_not_in_1 =
       let c = (counts_1 R).2 in
@@ -200,23 +216,25 @@ module _ (m : Surroundings) (well : IsWellTyped m) (a : Tree) (x : Thread) (fits
       go (inl i) = absurd (names_differ i)
       go (inr i) = i ∙ at_itself (end_name l) o q
 
-  opens : HasOpened m well h k d x.now.state s' fits.typed.type (not_held Left) (not_held Right) asks is there r0 q2
+  opens : Opens r0 q2 h d x.now.state
   opens = record {
-    left = ap q2 (sym name_l) ∙ beyond (Some d) (Some (dual d)) r0;
-    right = ap q2 (sym name_r) ∙ at_itself (end_name r) (Some (dual d)) q1;
-    others = λ z. go z (at_other (end_name r) (Some (dual d)) q1 z) (at_other (end_name l) (Some d) r0 z);
+    none = not_held;
+    opened = at_side;
+    others = λ z f. go z f (at_other (end_name r) (Some (dual d)) q1 z) (at_other (end_name l) (Some d) r0 z);
   }
     where
-      go : (z : EndName) → (z ≡ end_name r) ⊎ (q2 z ≡ q1 z) → (z ≡ end_name l) ⊎ (q1 z ≡ r0 z) → (z ≡ L) ⊎
-          ((z ≡ R) ⊎ (q2 z ≡ r0 z))
-      go z (inl i) o = inr (inl (i ∙ name_r))
-      go z (inr i) (inl j) = inl (j ∙ name_l)
-      go z (inr i) (inr j) = inr (inr (i ∙ j))
+      at_side : (b : Side) → q2 (end_at h b) ≡ Some (side_type b d)
+      at_side Left = ap q2 (sym name_l) ∙ beyond (Some d) (Some (dual d)) r0
+      at_side Right = ap q2 (sym name_r) ∙ at_itself (end_name r) (Some (dual d)) q1
 
-  made : IsTyped m q2 s' fits.typed.type × ((z : EndName) → IsUnspent q2 z →
-      held_state z s' ≡ held z (ends h) + held_state z x.now.state)
-  made = made_typed m well h k d x.now.state s' fits.typed.type (not_held Left)
-      (not_held Right) asks is there r0 q2 opens fits.typed.typed
+      go : (z : EndName) → same_channel h z.channel ≡ false → (z ≡ end_name r) ⊎ (q2 z ≡ q1 z) →
+          (z ≡ end_name l) ⊎ (q1 z ≡ r0 z) → q2 z ≡ r0 z
+      go z f (inl i) o = absurd (not_end h z f Right (i ∙ name_r))
+      go z f (inr i) (inl j) = absurd (not_end h z f Left (j ∙ name_l))
+      go z f (inr i) (inr j) = i ∙ j
+
+  made : Goes m q2 s' fits.typed.type (λ z. held_state z x.now.state + once (same_channel h z.channel))
+  made = (made_typed m well x.now.state fits.typed.type s' r0 q2 k d h fits.typed.typed asks is opens there).1
 
   left_others : (z : EndName) → (z ≡ end_name l) ⊎ (q3 z ≡ q2 z)
   left_others z = go (only_at (end_name l) (Some (rested d)) (Some d) r0 z)
@@ -247,27 +265,13 @@ module _ (m : Surroundings) (well : IsWellTyped m) (a : Tree) (x : Thread) (fits
       (beyond (Some (rested d)) (Some (dual d)) r0) left_others z
       (rested_unspent q3 r2 (end_name r) (dual d) right_before right_later right_others z u)
 
-  -- an end is the left new one, the right new one, or another
-  which : (z : EndName) → (z ≡ L) ⊎ ((z ≡ R) ⊎ ((z ≡ L → ⊥) × (z ≡ R → ⊥)))
-  which z = go (same_end L z) refl (same_end R z) refl
+  before : (z : EndName) → same_channel h z.channel ≡ false → 0 < held_state z s' → 0 < held_state z x.now.state
+  before z n = held_before (program_in m) x.now.state s' (Made h) z there (λ i. other_name cc)
     where
-      go : (b : Bool) → same_end L z ≡ b → (c : Bool) → same_end R z ≡ c → (z ≡ L) ⊎ ((z ≡ R) ⊎ ((z ≡ L → ⊥) × (z ≡ R → ⊥)))
-      go true e c f = inl (sym (same_end-same L z e))
-      go false e true f = inr (inl (sym (same_end-same R z f)))
-      go false e false f = inr (inr (λ i. differ L z e (sym i), λ i. differ R z f (sym i)))
-        where
-          differ : (y z : EndName) → same_end y z ≡ false → y ≡ z → ⊥
-          differ y z e i = let g : true ≡ false = sym (same_end-itself y) ∙ ap (same_end y) i ∙ e in absurd (cc g)
-
-  held_before : (z : EndName) → (z ≡ L → ⊥) → (z ≡ R → ⊥) → 0 < held_state z s' → 0 < held_state z x.now.state
-  held_before z nl nr g = go (held_state z x.now.state) refl
-    where
-      go : (j : ℕ) → held_state z x.now.state ≡ j → 0 < j
-      go zero q =
-          let n = made_holds m well h k d x.now.state s' fits.typed.type (not_held Left)
-          (not_held Right) asks is there z nl nr q r0 q2 opens fits.typed.typed in
-          omega (arith, g, n)
-      go (suc j) q = omega arith
+      other_name : h ≡ z.channel → ⊥
+      other_name i =
+          let g : false ≡ true = sym n ∙ ap (same_channel h) (sym i) ∙ same_channel-itself h in
+          absurd (cc g)
 
   once_new : (z : EndName) (b : Side) → z ≡ end_at h b → 0 < count_of z bag → counted z l + counted z r ≡ 1 →
       (count_of z bag ≡ 1) × (held_state z s' ≡ 1)
@@ -276,60 +280,47 @@ module _ (m : Surroundings) (well : IsWellTyped m) (a : Tree) (x : Thread) (fits
       let c2 = (counts_2 z).2 in
       let n = ap (λ w. count_of w x.bag) i ∙ not_there b in
       let e = made.1 z (unspent_before z (unspent_in r2 bag (p2.unspent (p1.unspent fits.unspent)) are z g)) in
-      let f = ap (λ w. held w (ends h)) i ∙ own_ends h b in
+      let f = ap (λ (w : EndName). once (same_channel h w.channel)) i ∙ ap once (same_channel-itself h) in
       let j = ap (λ w. held_state w x.now.state) i ∙ not_held b in
       (omega (arith, c, c2, n, g, one), omega (arith, e, f, j))
 
   once_after : (z : EndName) → 0 < count_of z bag → (count_of z bag ≡ 1) × (held_state z s' ≡ 1)
-  once_after z g = go (which z)
+  once_after z g = go (which_end h z)
     where
-      go : (z ≡ L) ⊎ ((z ≡ R) ⊎ ((z ≡ L → ⊥) × (z ≡ R → ⊥))) → (count_of z bag ≡ 1) × (held_state z s' ≡ 1)
-      go (inl i) =
-          let a = counted_so z l (name_l ∙ sym i) in
-          let b = apart z r R name_r (λ e. sides_differ h (sym i ∙ e)) in
-          once_new z Left i g (omega (arith, a, b))
-      go (inr (inl i)) =
-          let a = apart z l L name_l (λ e. sides_differ h (sym (sym i ∙ e))) in
-          let b = counted_so z r (name_r ∙ sym i) in
-          once_new z Right i g (omega (arith, a, b))
-      go (inr (inr n)) =
-          let a = apart z l L name_l n.0 in
-          let b = apart z r R name_r n.1 in
+      go : ((b : Side) × (z ≡ end_at h b)) ⊎ (same_channel h z.channel ≡ false) → (count_of z bag ≡ 1) × (held_state z s' ≡ 1)
+      go (inl i) = once_new z i.0 i.1 g (one_of i.0 z i.1)
+      go (inr n) =
+          let a = apart z l L name_l (not_end h z n Left) in
+          let b = apart z r R name_r (not_end h z n Right) in
           let c = (counts_1 z).2 in
           let c2 = (counts_2 z).2 in
           let o = fits.once z (omega (arith, a, b, c, c2, g)) in
           let e = made.1 z (unspent_before z (unspent_in r2 bag (p2.unspent (p1.unspent fits.unspent)) are z g)) in
-          let f = other_ends h z n.0 n.1 in
+          let f = ap once n in
           let o0 = o.0 in
           let o1 = o.1 in
           (omega (arith, a, b, c, c2, g, o0), omega (arith, e, f, o1))
 
   named_after : (z : EndName) → 0 < held_state z s' → IsNamedBelow x.path made_on.now.made z
-  named_after z g = go (which z)
+  named_after z g = go (which_end h z)
     where
-      new : (b : Side) → z ≡ end_at h b → IsNamedBelow x.path made_on.now.made z
-      new b i = subst (IsNamedBelow x.path made_on.now.made) (sym i)
+      go : ((b : Side) × (z ≡ end_at h b)) ⊎ (same_channel h z.channel ≡ false) → IsNamedBelow x.path made_on.now.made z
+      go (inl i) = subst (IsNamedBelow x.path made_on.now.made) (sym i.1)
           (record { behind = []; leads = sym (append-nil x.path); own = λ q. omega arith })
-
-      go : (z ≡ L) ⊎ ((z ≡ R) ⊎ ((z ≡ L → ⊥) × (z ≡ R → ⊥))) → IsNamedBelow x.path made_on.now.made z
-      go (inl i) = new Left i
-      go (inr (inl i)) = new Right i
-      go (inr (inr n)) = let o = fits.named z (held_before z n.0 n.1 g) in
+      go (inr n) = let o = fits.named z (before z n g) in
           record { behind = o.behind; leads = o.leads; own = λ q. let c = o.own q in omega (arith, c) }
 
   known_after : AreKnownSpent x made_on made_on
-  known_after z g c = go (which z)
+  known_after z g c = go (which_end h z)
     where
-      new : counted z l + counted z r ≡ 1 → (0 < count_of z ret) ⊎ ((0 < held_state z x.now.state) × (count_of z x.bag ≡ 0))
-      new one = let a = (counts_1 z).0 in let b = (counts_2 z).0 in inl (omega (arith, a, b, c, one))
-
-      go : (z ≡ L) ⊎ ((z ≡ R) ⊎ ((z ≡ L → ⊥) × (z ≡ R → ⊥))) → (0 < count_of z ret) ⊎
+      go : ((b : Side) × (z ≡ end_at h b)) ⊎ (same_channel h z.channel ≡ false) → (0 < count_of z ret) ⊎
           ((0 < held_state z x.now.state) × (count_of z x.bag ≡ 0))
-      go (inl i) = let a = counted_so z l (name_l ∙ sym i) in let b = apart z r R name_r (λ e. sides_differ h (sym i ∙ e)) in
-          new (omega (arith, a, b))
-      go (inr (inl i)) = let a = apart z l L name_l (λ e. sides_differ h (sym (sym i ∙ e))) in let b =
-          counted_so z r (name_r ∙ sym i) in new (omega (arith, a, b))
-      go (inr (inr n)) = let a = (counts_1 z).1 in let b = (counts_2 z).1 in inr (held_before z n.0 n.1 g, omega (arith, a, b, c))
+      go (inl i) =
+          let a = (counts_1 z).0 in
+          let b = (counts_2 z).0 in
+          let one = one_of i.0 z i.1 in
+          inl (omega (arith, a, b, c, one))
+      go (inr n) = let a = (counts_1 z).1 in let b = (counts_2 z).1 in inr (before z n g, omega (arith, a, b, c))
 
   fresh_end : (e : EndView) (b : Side) → e ≡ record { cell = cell; channel = h; knows = fresh b d } → FitsEnd m made_on.now e
   fresh_end e b i = subst (FitsEnd m made_on.now) (sym i) (record { past = omega arith; waits = λ o q. absurd (cc q) })

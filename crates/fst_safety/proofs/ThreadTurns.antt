@@ -1,5 +1,5 @@
 -- Threads that try an end, that go on by a step, that make a channel, and that fork.
-use Rattle.std.proofs.Common.{◌≡◌, ◌∙◌, inr, ◌<◌, ◌≤◌, ℕ, zero, suc, List, [], ◌∷◌, ◌++◌, Some, refl, sym, ap, subst, arith}
+use Rattle.std.proofs.Common.{◌≡◌, ◌∙◌, inr, ◌<◌, ◌≤◌, ℕ, suc, List, [], ◌∷◌, ◌++◌, Some, refl, sym, ap, subst, arith}
 use Rattle.std.specs.Prelude.{sum_by, All, IsPermutation}
 use Rattle.std.proofs.lemmas.List.{append-nil}
 use Rattle.std.proofs.lemmas.List.Elements.{All-nil, All-head, All-tail, All-push}
@@ -33,7 +33,7 @@ use Rattle.fst_safety.specs.Turns.{Turn, AreKnownSpent, on_side, by_type, by_cel
 use Rattle.fst_safety.proofs.BagLaws.{counted, unspent_in}
 use Rattle.fst_safety.proofs.Pasts.{later_past}
 use Rattle.fst_safety.proofs.ThreadLaws.{idle_end, later_ends}
-use Rattle.fst_safety.proofs.ThreadTyping.{stepped, step_holds}
+use Rattle.fst_safety.proofs.Answered.{held_before, go_typed}
 
 -- ---- nothing happens
 
@@ -152,15 +152,10 @@ module _ (m : Surroundings) (well : IsWellTyped m) (a : Tree) (x : Thread) (fits
   there = told ∙ ap (λ o. Some (or_lost o)) (sym told)
 
   goes : Goes m fits.typed.residuals stepped_on.now.state fits.typed.type (λ z. held_state z x.now.state)
-  goes = stepped m well fits.typed.residuals x.now.state stepped_on.now.state fits.typed.type fits.typed.typed there
+  goes = go_typed m well x.now.state fits.typed.type stepped_on.now.state fits.typed.residuals fits.typed.typed there
 
-  held_before : (z : EndName) → 0 < held_state z stepped_on.now.state → 0 < held_state z x.now.state
-  held_before z k = go (held_state z x.now.state) refl
-    where
-      go : (j : ℕ) → held_state z x.now.state ≡ j → 0 < j
-      go zero q = let h = step_holds m well fits.typed.residuals x.now.state stepped_on.now.state fits.typed.type fits.typed.typed
-          there z q in omega (arith, k, h)
-      go (suc j) q = omega arith
+  before : (z : EndName) → 0 < held_state z stepped_on.now.state → 0 < held_state z x.now.state
+  before z = held_before (program_in m) x.now.state stepped_on.now.state Go z there (λ i. cc i)
 
   pub stepped_fits : FitsIn m a stepped_on
   stepped_fits = record {
@@ -181,7 +176,7 @@ module _ (m : Surroundings) (well : IsWellTyped m) (a : Tree) (x : Thread) (fits
       goes.1 z (unspent_in fits.typed.residuals x.bag fits.unspent fits.typed.are z k)
           ∙ o.1,
     );
-    named = λ z k. fits.named z (held_before z k);
+    named = λ z k. fits.named z (before z k);
     ends = later_all m a x fits stepped_on.now (omega arith) request.Step asks (λ z ev q. absurd (cc q));
     spent = fits.spent;
     past = later_past x.now.clock stepped_on.now.clock (omega arith) x.retired fits.past;
@@ -203,6 +198,6 @@ module _ (m : Surroundings) (well : IsWellTyped m) (a : Tree) (x : Thread) (fits
     exchanged = λ w. omega arith;
     spent = [];
     kept = sym (append-nil x.retired);
-    known = λ z h c. inr (held_before z h, c);
+    known = λ z h c. inr (before z h, c);
     known_new = All-nil (AreKnownSpent x stepped_on);
   }

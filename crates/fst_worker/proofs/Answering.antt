@@ -60,7 +60,7 @@ module _ (m : Surroundings) (well : IsWellTyped m) (a : Tree) (main : Birth) (xs
     next_there : pause m.families leads_to.0 ≡ stuck → ⊥
     next_there q =
         let now : becomes.thread.now.state ≡ leads_to.0 = ap (λ (y : Course). y.now.state) becomes.same ∙ ap or_lost leads_to.1 in
-        not_stuck m well fits.typed.residuals becomes.thread.now.state fits.typed.type fits.typed.typed
+        not_stuck m well becomes.thread.now.state fits.typed.type fits.typed.residuals fits.typed.typed
         (ap (pause m.families) now ∙ q)
 
 module _ (n : Module) (ds : List Deriv) (q : HasDerivations n ds) (a : Tree) (main : Birth) (xs : List Thread) (ps : List Pair)

@@ -10,19 +10,25 @@ pub returns-in-Step : goal.returns-in-Step
 returns-in-Step c =
     let js = c.args.channels.now.by_maker.entries in
     let old = kept_besides js c.args.ready.now.keys in
-    on_ok_weaker c.insert_path.result (λ e. woken js c.args.ready.now.keys c.insert_path.new.paths.keys c.args.path.now e ∙ ap (λ r. noted c.args.types c.args.path.now r old) (sym c.in-Step.is)) c.insert_path.ensures
+    let p = c.args.path.now in
+    on_ok_weaker c.insert_path.result
+    (λ e. woken js c.args.ready.now.keys c.insert_path.new.paths.keys p e
+    ∙ ap (λ r. noted c.args.types p r old) (sym c.in-Step.is)) c.insert_path.ensures
 
 pub returns-in_ok-insert_path-in-New : goal.returns-in_ok-insert_path-in-New
 returns-in_ok-insert_path-in-New c =
     let js = c.args.channels.now.by_maker.entries in
     let p = c.args.path.now in
     let old = kept_besides js c.args.ready.now.keys in
-    woken js c.args.ready.now.keys c.insert_path-then-number-types.new.paths.keys p c.in_ok-insert_path-in-New.ensures ∙ ap (λ b. able b p old) (sym (below c.in-New.number c.args.types c.if-number-types.true)) ∙ ap
-    (λ r. noted c.args.types p r old) (sym c.in-New.is)
+    woken js c.args.ready.now.keys c.insert_path-then-number-types.new.paths.keys p c.in_ok-insert_path-in-New.ensures
+    ∙ ap (λ b. able b p old) (sym (below c.in-New.number c.args.types c.if-number-types.true))
+    ∙ ap (λ r. noted c.args.types p r old) (sym c.in-New.is)
 
 pub returns-in-Fork : goal.returns-in-Fork
 returns-in-Fork c =
     let js = c.args.channels.now.by_maker.entries in
     let old = kept_besides js c.args.ready.now.keys in
-    on_ok_weaker c.insert_path-in-Fork.result (λ e. woken js c.args.ready.now.keys c.insert_path-in-Fork.new.paths.keys c.args.path.now e ∙ ap (λ r. noted c.args.types c.args.path.now r old) (sym c.in-Fork.is))
-    c.insert_path-in-Fork.ensures
+    let p = c.args.path.now in
+    on_ok_weaker c.insert_path-in-Fork.result
+    (λ e. woken js c.args.ready.now.keys c.insert_path-in-Fork.new.paths.keys p e
+    ∙ ap (λ r. noted c.args.types p r old) (sym c.in-Fork.is)) c.insert_path-in-Fork.ensures
