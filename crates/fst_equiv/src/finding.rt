@@ -15,7 +15,7 @@ ghost use Rattle.fst_equiv.specs.Problem.{IsNormedWithin};
 use fst_basis::{Proof, check};
 use fst_breadth::{Found, least, search};
 use fst_expand::expand;
-use fst_normed::decide;
+use fst_normed::{Decision, decide};
 use fst_norms::is_normed;
 use fst_types::{Label, Side};
 use fst_words::{Grammar, Word};
@@ -76,7 +76,7 @@ fn is_normed_within(alloc: Global, g: &Grammar, budget: u32) -> Result<bool, All
     Ok(normed)
 }
 
-// What `decide` and `least` find, or none where they want memory, as they do past their limits.
+// What `decide` and `least` find, or none where the rewrites of `decide` are spent or they want memory, as `least` does past its limit.
 fn decided(
     alloc: Global,
     g: &Grammar,
@@ -96,11 +96,12 @@ fn decided(
         v.now budget) }
 {
     match decide(alloc, g, u, v) {
-        Ok(Some(proof)) => Some(Finding::Proved(proof)),
-        Ok(None) => match least(alloc, g, u, v) {
+        Ok(Decision::Alike(proof)) => Some(Finding::Proved(proof)),
+        Ok(Decision::Different) => match least(alloc, g, u, v) {
             Ok((trace, side)) => Some(Finding::Least(trace, side)),
             Err(AllocError) => None,
         },
+        Ok(Decision::Spent) => None,
         Err(AllocError) => None,
     }
 }

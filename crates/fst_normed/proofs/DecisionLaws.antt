@@ -1,6 +1,6 @@
--- What the candidates that are left prove.
-use Rattle.std.proofs.Common.{◌≡◌, ◌*◌, ◌<◌, ◌≤◌, ◌⊎◌, inl, inr, ℕ, zero, suc, List, [], ◌∷◌, length, take, sym, ◌∙◌, ap, subst, arith, Option, Some, None, Bool, get_or, All}
-use Rattle.std.specs.Prelude.{IfNone, IfSome, slice_get}
+-- What the candidates that two words need prove.
+use Rattle.std.proofs.Common.{◌≡◌, ◌*◌, ◌<◌, ◌≤◌, ℕ, List, [], length, take, sym, ◌∙◌, ap, subst, arith, Option, Some, Bool, get_or, All}
+use Rattle.std.specs.Prelude.{slice_get}
 use Rattle.std.proofs.lemmas.List.{length-map, take_all}
 use Rattle.std.proofs.lemmas.List.Elements.{All-cons, All-nil}
 use Rattle.std.proofs.lemmas.Option.{slice_get-get_or, slice_get-map}
@@ -12,19 +12,16 @@ use Rattle.fst_norms.specs.Bounds.{bound_at}
 use Rattle.fst_words.specs.Marks.{IsUnnormedSet}
 use Rattle.fst_basis.specs.declared.proof.Pair.{Pair}
 use Rattle.fst_basis.specs.declared.proof.Chain.{Chain}
-use Rattle.fst_basis.specs.declared.proof.Proof.{Proof}
 use Rattle.fst_basis.specs.Basis.{AreJoined, IsChainBelow, IsPair, IsPairBelow, IsProof}
-use Rattle.fst_normed.specs.Candidates.{candidate, residual}
-use Rattle.fst_words.specs.Differences.{Differ}
-use Rattle.fst_normed.specs.Joining.{AreJoinedByHeads}
-use Rattle.fst_normed.specs.Laws.{IsNormedGrammar}
+use Rattle.fst_normed.specs.Candidates.{AreCandidates, candidate, residual}
+use Rattle.fst_normed.specs.Closing.{IsClosed}
+use Rattle.fst_normed.specs.Normed.{IsNormedGrammar}
 use Rattle.fst_norms.specs.Lowering.{AreLowering, LowerByOne}
 use Rattle.fst_norms.specs.Norms.{IsNormed}
-use Rattle.fst_normed.specs.Rounds.{AreCandidates, IsSettled}
-use Rattle.fst_normed.specs.Walks.{Leads, pairs_of}
+use Rattle.fst_normed.specs.Walks.{pairs_of}
+use Rattle.fst_normed.proofs.CandidateLaws.{few_candidates}
 use Rattle.fst_normed.proofs.LowerLaws.{residual_below}
 use Rattle.fst_normed.proofs.NormedLaws.{weights}
-use Rattle.fst_normed.proofs.ThreeFacts.{joining_law}
 
 -- the words that lower norms lower them by one
 pub lower_by_one : (rows : Productions) (norms : List (Option ℕ)) (words : List (List ℕ)) → IsNormedGrammar rows norms words →
@@ -42,7 +39,7 @@ pairs_below : (norms : List (Option ℕ)) (words : List (List ℕ)) (candidates 
 pairs_below norms words candidates all are = all_each (IsPairBelow (length words)) (pairs_of norms words candidates) (λ at b e.
     let p = mapped_some (candidate norms words) (slice_get candidates at) b
     (sym (slice_get-map (candidate norms words) candidates at) ∙ e) in
-    let c = are p.0 (at, p.1) in
+    let c = are.each p.0 (at, p.1) in
     subst (IsPairBelow (length words)) p.2 (record {
       left = All-cons (λ k. k < length words) p.0.1 [] c.second (All-nil (λ k. k < length words));
       right = All-cons (λ k. k < length words) p.0.0 (residual norms words p.0.0 p.0.1) c.first
@@ -51,16 +48,16 @@ pairs_below norms words candidates all are = all_each (IsPairBelow (length words
 
 -- candidates that hold are a basis, whatever is marked
 pub is_proof : (n : ℕ) (rows : Productions) (norms : List (Option ℕ)) (words : List (List ℕ)) (candidates : List (ℕ × ℕ))
-    (u v : List ℕ) (first : Chain) (cs : List Chain) (marks : List Bool) →
+    (u v : List ℕ) (cs : List Chain) (marks : List Bool) →
     LettersBelow n rows → InRange rows → WordBelow (length rows) u → WordBelow (length rows) v → length words ≡ length rows →
     All (WordBelow (length words)) words →
-    length marks ≡ length rows → IsUnnormedSet rows marks → IsSettled rows norms words candidates cs →
-    Leads norms words candidates first.steps.items u v →
-    IsProof n rows marks u v (pairs_of norms words candidates) (first ∷ cs)
-is_proof n rows norms words candidates u v first cs marks letters range left right size all count set s leads =
+    length marks ≡ length rows → IsUnnormedSet rows marks → IsClosed rows norms words u v candidates cs →
+    IsProof n rows marks u v (pairs_of norms words candidates) cs
+is_proof n rows norms words candidates u v cs marks letters range left right size all count set s =
     let P = pairs_of norms words candidates in
     let whole : take (length candidates) candidates ≡ candidates = take_all (length candidates) candidates (omega arith) in
-    let below = pairs_below norms words candidates all (subst (λ (k : ℕ). AreCandidates k norms candidates) (sym size) s.are) in (
+    let below = pairs_below norms words candidates all (subst (λ (k : ℕ). AreCandidates k norms candidates) (sym size) s.are) in
+    subst (λ (z : List Chain). IsProof n rows marks u v P z) (sym s.chains) (
       record {
         letters = letters;
         rules = range;
@@ -68,34 +65,27 @@ is_proof n rows norms words candidates u v first cs marks letters range left rig
         left = left;
         right = right;
         pairs = subst (λ (k : ℕ). All (IsPairBelow k) P) size below;
-        chains = All-cons (IsChainBelow (length rows)) first cs (leads.0 (length rows)) (s.hold.below (length rows));
+        chains = All-cons (IsChainBelow (length rows)) s.first s.others (s.leads.0 (length rows)) (s.hold.below (length rows));
       },
       (
         record {
           set = set;
           pairs = subst (λ (z : List (ℕ × ℕ)). All (IsPair rows) (pairs_of norms words z)) whole s.hold.pairs;
-          joined = subst (λ (z : List (ℕ × ℕ)). AreJoined rows marks P (pairs_of norms words z) cs) whole (s.hold.joined marks);
+          joined = subst (λ (z : List (ℕ × ℕ)). AreJoined rows marks P (pairs_of norms words z) s.others) whole
+              (s.hold.joined marks);
         },
-        leads.1 marks,
+        s.leads.1 marks,
       ),
     )
 
--- where the words aren't joined by their heads, they differ
-pub not_joined : (rows : Productions) (norms : List (Option ℕ)) (words : List (List ℕ)) (candidates : List (ℕ × ℕ))
-    (cs : List Chain) (u v : List ℕ) → IsNormedGrammar rows norms words →
-    IsSettled rows norms words candidates cs → WordBelow (length rows) u → WordBelow (length rows) v →
-    (AreJoinedByHeads norms words candidates u v → ⊥) → Differ rows u v
-not_joined rows norms words candidates cs u v g s left right none =
-    of (joining_law rows norms words candidates g s.sound u v left right)
-  where
-    of : AreJoinedByHeads norms words candidates u v ⊎ Differ rows u v → Differ rows u v
-    of (inl j) = absurd (none j)
-    of (inr d) = d
-
--- a number is at most its square
-pub square_least : (n : ℕ) → n ≤ n * n
-square_least zero = omega arith
-square_least (suc n) = let h = square_least n in omega arith
+-- and at most as many as pairs of non-terminals
+pub count_told : (n : ℕ) (norms : List (Option ℕ)) (words : List (List ℕ)) (candidates : List (ℕ × ℕ)) (basis : List Pair) →
+    AreCandidates n norms candidates → basis ≡ pairs_of norms words candidates → length basis ≤ n * n
+count_told n norms words candidates basis are e =
+    let few = few_candidates n norms candidates are in
+    let is = ap length e in
+    let many = length-map candidates (candidate norms words) in
+    omega arith
 
 -- what a grammar is known to be once its norms and its lowering words are found
 pub grammar_of : (rows : Productions) (norms read : List (Option ℕ)) (words : List (List ℕ)) → InRange rows →
@@ -109,31 +99,3 @@ grammar_of rows norms read words range ordered normed count each same lowering =
   are_norms = record { count = count; each = each };
   lowering = subst (λ (z : List (Option ℕ)). AreLowering rows z words) same lowering;
 }
-
--- the pairs and chains, where there are some, are a proof
-pub proof_told : (n : ℕ) (rows : Productions) (norms : List (Option ℕ)) (words : List (List ℕ)) (candidates : List (ℕ × ℕ))
-    (u v : List ℕ) (cs : List Chain) (o : Option Proof) →
-    LettersBelow n rows → InRange rows → WordBelow (length rows) u → WordBelow (length rows) v → length words ≡ length rows →
-    All (WordBelow (length words)) words →
-    IsSettled rows norms words candidates cs → IfSome o (λ p. p.basis.items ≡ pairs_of norms words candidates) →
-    IfSome o (λ p. (c : Chain) × (p.chains.items ≡ c ∷ cs) × Leads norms words candidates c.steps.items u v) →
-    IfSome o (λ p. (marks : List Bool) → length marks ≡ length rows → IsUnnormedSet rows marks →
-    IsProof n rows marks u v p.basis.items p.chains.items)
-proof_told n rows norms words candidates u v cs None letters range left right size all s b ch = tt
-proof_told n rows norms words candidates u v cs (Some p) letters range left right size all s b ch = λ marks count set.
-    subst (λ (z : List Pair). IsProof n rows marks u v z p.chains.items) (sym b)
-    (subst (λ (z : List Chain). IsProof n rows marks u v (pairs_of norms words candidates) z) (sym ch.1)
-    (is_proof n rows norms words candidates u v ch.0 cs marks letters range left right size all count set s ch.2))
-
--- and at most so many
-pub count_told : (norms : List (Option ℕ)) (words : List (List ℕ)) (candidates : List (ℕ × ℕ)) (most : ℕ) (o : Option Proof) →
-    length candidates ≤ most →
-    IfSome o (λ p. p.basis.items ≡ pairs_of norms words candidates) → IfSome o (λ p. length p.basis.items ≤ most)
-count_told norms words candidates most None le b = tt
-count_told norms words candidates most (Some p) le b = let e = ap length b in let l =
-    length-map candidates (candidate norms words) in omega arith
-
--- where there are none, what follows from that holds
-pub none_told : (o : Option Proof) (P Q : Type 0) → IfNone o P → (P → Q) → IfNone o Q
-none_told None P Q h f = f h
-none_told (Some p) P Q h f = tt

@@ -1,100 +1,78 @@
--- Words are joined by their heads, or they differ.
-use Rattle.std.proofs.Common.{◌≡◌, ◌≢◌, ◌<◌, ◌≤◌, ◌⊎◌, inl, inr, ℕ, zero, suc, List, [], ◌∷◌, ◌++◌, length, refl, sym, ◌∙◌, ap, subst, arith, Option, Some, Bool, true, false, ◌&&◌, ◌||◌, ◌==◌, nat_eq}
-use Rattle.std.specs.Prelude.{nat_le}
-use Rattle.std.proofs.lemmas.Bool.Decides.{eqb_tells}
-use Rattle.std.proofs.lemmas.List.Elements.{All-append, All-head, All-tail}
-use Rattle.fst_base.proofs.Bools.{pair_itself}
-use Rattle.fst_words.specs.Words.{InRange, Productions, WordBelow}
-use Rattle.fst_norms.specs.Bounds.{total}
-use Rattle.fst_norms.specs.Bounds.{norm_of}
-use Rattle.fst_norms.proofs.Laws.{differ_back, total-append}
+-- Words are joined by their heads, or they differ; and they differ where those of a candidate do that they need.
+use Rattle.std.proofs.Common.{◌≡◌, ◌<◌, ◌≤◌, ◌⊎◌, inl, inr, ℕ, zero, suc, List, [], ◌∷◌, ◌++◌, length, refl, sym, ap, subst, arith, Option, Some}
+use Rattle.std.specs.Prelude.{option_and_then}
+use Rattle.std.proofs.lemmas.List.Elements.{All-cons, All-head, All-nil}
+use Rattle.fst_words.specs.Words.{InRange, Productions, WordBelow, after, step}
 use Rattle.fst_words.specs.Differences.{Differ}
-use Rattle.fst_normed.specs.Candidates.{AreSound, IsThere, residual}
-use Rattle.fst_normed.specs.Joining.{AreJoinedByHeads, dropped, is_there}
-use Rattle.fst_normed.proofs.WeightLaws.{AreWeights, other_norm, some_norm}
+use Rattle.fst_norms.specs.Bounds.{total}
+use Rattle.fst_norms.proofs.Laws.{after_trace, differ_back}
+use Rattle.fst_normed.specs.Candidates.{CandidateDiffers, IsCandidate, IsThere, residual}
+use Rattle.fst_normed.specs.Joining.{AreJoinedByHeads, dropped, exchanged, exchanged_within, exchanges}
+use Rattle.fst_normed.specs.Needs.{IsNeeded, Needs}
+use Rattle.fst_normed.proofs.WeightLaws.{AreWeights, other_norm, some_norm, trace_in_range}
 use Rattle.fst_normed.proofs.HeadLaws.{candidate_differs, residual_lowered, rest_differs, same_head}
+use Rattle.fst_normed.proofs.ExchangeLaws.{AreResiduals, Heads, dropped_less, heads, there_either}
 
--- a candidate that is there is found
-pub found : (candidates : List (ℕ × ℕ)) (x y : ℕ) → IsThere candidates (x, y) → is_there candidates x y ≡ true
-found [] x y (at, e) = absurd (cc e)
-found (c ∷ candidates) x y (zero, e) =
-    let same : c ≡ (x, y) = cc in
-    let test : nat_eq x c.0 && nat_eq y c.1 ≡ true = ap (λ (p : ℕ × ℕ). nat_eq x p.0 && nat_eq y p.1) same ∙ pair_itself (x, y) in
-    ap (λ b. b || is_there candidates x y) test
-found (c ∷ candidates) x y (suc at, e) =
-    let rest = found candidates x y (at, e) in
-    or_right (nat_eq x c.0 && nat_eq y c.1) (is_there candidates x y) rest
-  where
-    or_right : (a b : Bool) → b ≡ true → a || b ≡ true
-    or_right true b e = refl
-    or_right false b e = e
+nothing_there : (c : ℕ × ℕ) → IsThere [] c → ⊥
+nothing_there c t = (let e = t.1 in cc)
 
-module _ (norms : List (Option ℕ)) (words : List (List ℕ)) (candidates : List (ℕ × ℕ)) where
-  pub equal_dropped : (n m : ℕ) (x y : List ℕ) → n == m ≡ true → dropped norms words candidates (n ∷ x) (m ∷ y) ≡ Some (x, y)
-  equal_dropped n m x y e = rw e refl
-
-  pub right_dropped : (n m : ℕ) (x y : List ℕ) → n == m ≡ false → nat_le (norm_of norms n) (norm_of norms m) ≡ true →
-      is_there candidates n m ≡ true →
-      dropped norms words candidates (n ∷ x) (m ∷ y) ≡ Some (x, residual norms words n m ++ y)
-  right_dropped n m x y e le there = rw (e, le, there) refl
-
-  pub left_dropped : (n m : ℕ) (x y : List ℕ) → n == m ≡ false → nat_le (norm_of norms n) (norm_of norms m) ≡ false →
-      is_there candidates m n ≡ true →
-      dropped norms words candidates (n ∷ x) (m ∷ y) ≡ Some (residual norms words m n ++ x, y)
-  left_dropped n m x y e le there = rw (e, le, there) refl
+only_there : (d c : ℕ × ℕ) → IsThere (d ∷ []) c → c ≡ d
+only_there d c (zero, e) = cc
+only_there d c (suc at, e) = absurd (cc e)
 
 module _ (rows : Productions) (norms : List (Option ℕ)) (words : List (List ℕ)) (range : InRange rows)
-    (f : AreWeights rows norms words) (candidates : List (ℕ × ℕ))
-    (sound : AreSound rows norms words (length rows) candidates) where
-  -- words are joined, or they differ, where all words of lesser norm are or do
+    (f : AreWeights rows norms words) where
+  pub residuals : AreResiduals norms words (length rows)
+  residuals = record {
+    some = some_norm rows norms words range f;
+    below = λ x y lt le. (residual_lowered rows norms words range f x y lt le).below;
+    total = λ x y lt le. (let e = (residual_lowered rows norms words range f x y lt le).norm in omega arith);
+  }
+
+  module _ (n m : ℕ) (u v : List ℕ) (hu : WordBelow (length rows) (n ∷ u)) (hv : WordBelow (length rows) (m ∷ v)) where
+    -- where what is left of two words differs, so do the words
+    dropped_differs : Differ rows (dropped norms words n u m v).0 (dropped norms words n u m v).1 → Differ rows (n ∷ u) (m ∷ v)
+    dropped_differs d = elim (heads norms words n u m v) [
+      | Heads.same e x y ↦ subst (λ (z : ℕ). Differ rows (n ∷ u) (z ∷ v)) e
+          (same_head rows norms words range f n u v (All-head (λ k. k < length rows) n u hu)
+          (subst (λ (z : List ℕ × List ℕ). Differ rows z.0 z.1) x d))
+      | Heads.right ne le x y ↦ rest_differs rows norms words range f n m u v hu hv le
+          (subst (λ (z : List ℕ × List ℕ). Differ rows z.0 z.1) x d)
+      | Heads.left ne lt x y ↦ differ_back rows (m ∷ v) (n ∷ u) (rest_differs rows norms words range f m n v u hv hu (omega arith)
+          (differ_back rows (residual norms words m n ++ u) v (subst (λ (z : List ℕ × List ℕ). Differ rows z.0 z.1) x d)))
+    ]
+
+    -- and where the words of the candidate differ that their heads exchange
+    exchanged_differs : (c : ℕ × ℕ) → IsThere (exchanged norms n m) c → CandidateDiffers rows norms words c →
+        Differ rows (n ∷ u) (m ∷ v)
+    exchanged_differs c t d = elim (heads norms words n u m v) [
+      | Heads.same e x y ↦ absurd (nothing_there c (subst (λ (z : List (ℕ × ℕ)). IsThere z c) y t))
+      | Heads.right ne le x y ↦
+          let is = only_there (n, m) c (subst (λ (z : List (ℕ × ℕ)). IsThere z c) y t) in
+          candidate_differs rows norms words range f n m u v hu hv le (subst (CandidateDiffers rows norms words) is d)
+      | Heads.left ne lt x y ↦
+          let is = only_there (m, n) c (subst (λ (z : List (ℕ × ℕ)). IsThere z c) y t) in
+          differ_back rows (m ∷ v) (n ∷ u) (candidate_differs rows norms words range f m n v u hv hu (omega arith)
+          (subst (CandidateDiffers rows norms words) is d))
+    ]
+
+    exchanged_is : (c : ℕ × ℕ) → IsThere (exchanged norms n m) c → IsCandidate (length rows) norms c
+    exchanged_is c t =
+        let ln = All-head (λ k. k < length rows) n u hu in
+        let lm = All-head (λ k. k < length rows) m v hv in
+        elim (heads norms words n u m v) [
+          | Heads.same e x y ↦ absurd (nothing_there c (subst (λ (z : List (ℕ × ℕ)). IsThere z c) y t))
+          | Heads.right ne le x y ↦ subst (IsCandidate (length rows) norms)
+              (sym (only_there (n, m) c (subst (λ (z : List (ℕ × ℕ)). IsThere z c) y t)))
+              (record { first = ln; second = lm; other = ne; norm = le })
+          | Heads.left ne lt x y ↦ subst (IsCandidate (length rows) norms)
+              (sym (only_there (m, n) c (subst (λ (z : List (ℕ × ℕ)). IsThere z c) y t)))
+              (record { first = lm; second = ln; other = λ e. ne (sym e); norm = omega arith })
+        ]
+
+  -- words are joined, or they differ
   abbrev Tells : List ℕ → List ℕ → Type 0
-  Tells u v = AreJoinedByHeads norms words candidates u v ⊎ Differ rows u v
-
-  right_told : (n m : ℕ) (u v : List ℕ) → WordBelow (length rows) (n ∷ u) → WordBelow (length rows) (m ∷ v) → n == m ≡ false →
-      n ≢ m →
-      nat_le (norm_of norms n) (norm_of norms m) ≡ true → norm_of norms n ≤ norm_of norms m →
-      Tells u (residual norms words n m ++ v) → Tells (n ∷ u) (m ∷ v)
-  right_told n m u v hu hv test ne le small rest =
-      elim (sound n m (record {
-        first = All-head (λ k. k < length rows) n u hu;
-        second = All-head (λ k. k < length rows) m v hv;
-        other = ne;
-        norm = small;
-      })) [
-        | inl there ↦ elim rest [
-          | inl j ↦ inl (AreJoinedByHeads.drops (u, residual norms words n m ++ v)
-              (right_dropped norms words candidates n m u v test le (found candidates n m there)) j)
-          | inr d ↦ inr (rest_differs rows norms words range f n m u v hu hv small d)
-        ]
-        | inr d ↦ inr (candidate_differs rows norms words range f n m u v hu hv small d)
-      ]
-
-  left_told : (n m : ℕ) (u v : List ℕ) → WordBelow (length rows) (n ∷ u) → WordBelow (length rows) (m ∷ v) → n == m ≡ false →
-      n ≢ m →
-      nat_le (norm_of norms n) (norm_of norms m) ≡ false → norm_of norms m ≤ norm_of norms n →
-      Tells (residual norms words m n ++ u) v → Tells (n ∷ u) (m ∷ v)
-  left_told n m u v hu hv test ne le small rest =
-      elim (sound m n (record {
-        first = All-head (λ k. k < length rows) m v hv;
-        second = All-head (λ k. k < length rows) n u hu;
-        other = λ e. ne (sym e);
-        norm = small;
-      })) [
-        | inl there ↦ elim rest [
-          | inl j ↦ inl (AreJoinedByHeads.drops (residual norms words m n ++ u, v)
-              (left_dropped norms words candidates n m u v test le (found candidates m n there)) j)
-          | inr d ↦ inr (differ_back rows (m ∷ v) (n ∷ u)
-              (rest_differs rows norms words range f m n v u hv hu small (differ_back rows (residual norms words m n ++ u) v d)))
-        ]
-        | inr d ↦ inr (differ_back rows (m ∷ v) (n ∷ u) (candidate_differs rows norms words range f m n v u hv hu small d))
-      ]
-
-  le_told : (a b : ℕ) → ((nat_le a b ≡ true) × (a ≤ b)) ⊎ ((nat_le a b ≡ false) × (b < a))
-  le_told a b =
-      (elim (nat_le a b) as (λ t. nat_le a b ≡ t → ((t ≡ true) × (a ≤ b)) ⊎ ((t ≡ false) × (b < a))) [
-        | true ↦ λ e. inl (refl, grind arith)
-        | false ↦ λ e. inr (refl, grind arith)
-      ]) refl
+  Tells u v = AreJoinedByHeads norms words u v ⊎ Differ rows u v
 
   -- any two words are joined by their heads, or they differ
   pub joined_or_differ : (k : ℕ) (u v : List ℕ) → WordBelow (length rows) u → WordBelow (length rows) v → total norms u ≤ k →
@@ -110,30 +88,84 @@ module _ (rows : Productions) (norms : List (Option ℕ)) (words : List (List �
       let p = some_norm rows norms words range f n (All-head (λ k. k < length rows) n u hu) in
       absurd (omega arith)
   joined_or_differ (suc k) (n ∷ u) (m ∷ v) hu hv le =
-      let ln = All-head (λ k. k < length rows) n u hu in
-      let lm = All-head (λ k. k < length rows) m v hv in
-      let tn = All-tail (λ k. k < length rows) n u hu in
-      let tm = All-tail (λ k. k < length rows) m v hv in
-      let pn = some_norm rows norms words range f n ln in
-      let pm = some_norm rows norms words range f m lm in
-      elim (eqb_tells n m) [
-        | inl p ↦ elim (joined_or_differ k u v tn tm (omega arith)) [
-          | inl j ↦ inl (AreJoinedByHeads.drops (u, v) (equal_dropped norms words candidates n m u v p.0) j)
-          | inr d ↦ inr (subst (λ (z : ℕ). Differ rows (n ∷ u) (z ∷ v)) p.1 (same_head rows norms words range f n u v ln d))
-        ]
-        | inr p ↦ elim (le_told (norm_of norms n) (norm_of norms m)) [
-          | inl small ↦
-              let l = residual_lowered rows norms words range f n m lm small.1 in
-              right_told n m u v hu hv p.0 p.1 small.0 small.1
-              (joined_or_differ k u (residual norms words n m ++ v) tn
-              (All-append (λ k. k < length rows) (residual norms words n m) v l.below tm) (omega arith))
-          | inr great ↦
-              let less = great.1 in
-              let l = residual_lowered rows norms words range f m n ln (omega arith) in
-              let low = l.norm in
-              let sum = total-append norms (residual norms words m n) u in
-              left_told n m u v hu hv p.0 p.1 great.0 (omega arith)
-              (joined_or_differ k (residual norms words m n ++ u) v
-              (All-append (λ k. k < length rows) (residual norms words m n) u l.below tn) tm (omega arith))
-        ]
+      let l = dropped_less norms words (length rows) residuals n m u v hu hv in
+      let less = l.less in
+      let rest = dropped norms words n u m v in
+      elim (joined_or_differ k rest.0 rest.1 l.left l.right (omega arith)) [
+        | inl j ↦ inl (AreJoinedByHeads.drops n m u v refl refl j)
+        | inr d ↦ inr (dropped_differs n m u v hu hv d)
       ]
+
+  -- words differ where those of a candidate do that they exchange
+  exchanges_differ : (u v : List ℕ) → WordBelow (length rows) u → WordBelow (length rows) v → (c : ℕ × ℕ) →
+      IsThere (exchanges norms words u v) c → CandidateDiffers rows norms words c → Differ rows u v
+  unfolding exchanges
+  exchanges_differ u v hu hv c t d = within (total norms u) u v hu hv t
+    where
+      within : (k : ℕ) (u v : List ℕ) → WordBelow (length rows) u → WordBelow (length rows) v →
+          IsThere (exchanged_within norms words k u v) c → Differ rows u v
+      within zero u v hu hv t = absurd (nothing_there c t)
+      within (suc k) [] v hu hv t = absurd (nothing_there c t)
+      within (suc k) (n ∷ u) [] hu hv t = absurd (nothing_there c t)
+      within (suc k) (n ∷ u) (m ∷ v) hu hv t =
+          let l = dropped_less norms words (length rows) residuals n m u v hu hv in
+          let rest = dropped norms words n u m v in
+          elim (there_either (exchanged norms n m) (exchanged_within norms words k rest.0 rest.1) c t) [
+            | inl here ↦ exchanged_differs n m u v hu hv c here d
+            | inr later ↦ dropped_differs n m u v hu hv (within k rest.0 rest.1 l.left l.right later)
+          ]
+
+  -- what they exchange is a candidate
+  exchanges_are : (u v : List ℕ) → WordBelow (length rows) u → WordBelow (length rows) v → (c : ℕ × ℕ) →
+      IsThere (exchanges norms words u v) c → IsCandidate (length rows) norms c
+  unfolding exchanges
+  exchanges_are u v hu hv c t = within (total norms u) u v hu hv t
+    where
+      within : (k : ℕ) (u v : List ℕ) → WordBelow (length rows) u → WordBelow (length rows) v →
+          IsThere (exchanged_within norms words k u v) c → IsCandidate (length rows) norms c
+      within zero u v hu hv t = absurd (nothing_there c t)
+      within (suc k) [] v hu hv t = absurd (nothing_there c t)
+      within (suc k) (n ∷ u) [] hu hv t = absurd (nothing_there c t)
+      within (suc k) (n ∷ u) (m ∷ v) hu hv t =
+          let l = dropped_less norms words (length rows) residuals n m u v hu hv in
+          let rest = dropped norms words n u m v in
+          elim (there_either (exchanged norms n m) (exchanged_within norms words k rest.0 rest.1) c t) [
+            | inl here ↦ exchanged_is n m u v hu hv c here
+            | inr later ↦ within k rest.0 rest.1 l.left l.right later
+          ]
+
+  -- a letter is a trace
+  by_letter : (u x : List ℕ) (a : ℕ) → step rows u a ≡ Some x → after rows u (a ∷ []) ≡ Some x
+  by_letter u x a e = ap (option_and_then (λ y. after rows y [])) e
+
+  module _ (u v : List ℕ) (hu : WordBelow (length rows) u) (hv : WordBelow (length rows) v) where
+    -- what a candidate becomes by a letter stays in range
+    become_below : (c d : ℕ × ℕ) → IsCandidate (length rows) norms c → (n : Needs rows norms words c d) →
+        WordBelow (length rows) n.left × WordBelow (length rows) n.right
+    become_below c d is n =
+        let low = (residual_lowered rows norms words range f c.0 c.1 is.second is.norm).below in
+        let b = residual norms words c.0 c.1 in (
+          trace_in_range rows norms words range f (n.letter ∷ []) (c.1 ∷ []) n.left
+              (All-cons (λ k. k < length rows) c.1 [] is.second (All-nil (λ k. k < length rows)))
+              (by_letter (c.1 ∷ []) n.left n.letter n.first),
+          trace_in_range rows norms words range f (n.letter ∷ []) (c.0 ∷ b) n.right
+              (All-cons (λ k. k < length rows) c.0 b is.first low)
+              (by_letter (c.0 ∷ b) n.right n.letter n.second),
+        )
+
+    -- what is needed is a candidate
+    pub needed_is : (c : ℕ × ℕ) → IsNeeded rows norms words u v c → IsCandidate (length rows) norms c
+    needed_is c (IsNeeded.asked t) = exchanges_are u v hu hv c t
+    needed_is c (IsNeeded.after d h n) =
+        let b = become_below d c (needed_is d h) n in
+        exchanges_are n.left n.right b.0 b.1 c n.there
+
+    -- where its words differ, so do the two words
+    pub needed_differs : (c : ℕ × ℕ) → IsNeeded rows norms words u v c → CandidateDiffers rows norms words c → Differ rows u v
+    needed_differs c (IsNeeded.asked t) d = exchanges_differ u v hu hv c t d
+    needed_differs c (IsNeeded.after e h n) d =
+        let b = become_below e c (needed_is e h) n in
+        needed_differs e h (after_trace rows (e.1 ∷ []) (e.0 ∷ residual norms words e.0 e.1) (n.letter ∷ []) n.left n.right
+        (by_letter (e.1 ∷ []) n.left n.letter n.first)
+        (by_letter (e.0 ∷ residual norms words e.0 e.1) n.right n.letter n.second)
+        (exchanges_differ n.left n.right b.0 b.1 c n.there d))

@@ -16,7 +16,7 @@ use Rattle.fst_norms.specs.Bounds.{IsSound, all_bounded, bound_at, total}
 use Rattle.fst_norms.proofs.Laws.{after_rule, norm_there, rule_of-above, sound_word, total-append}
 use Rattle.fst_norms.specs.Lowering.{has_norm, lowered_to, lowering, word_of_norm}
 use Rattle.fst_norms.specs.Bounds.{norm_of}
-use Rattle.fst_normed.specs.Laws.{IsNormedGrammar}
+use Rattle.fst_normed.specs.Normed.{IsNormedGrammar}
 use Rattle.fst_normed.proofs.WeightLaws.{AreWeights, few_by_trace}
 
 -- the word of the first rule whose word has a norm, where there is such a rule

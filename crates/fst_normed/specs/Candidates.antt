@@ -1,5 +1,6 @@
 -- Candidates: the pairs that a basis of a normed grammar may have (Hirshfeld, Jerrum, Moller, 1996).
-use Rattle.std.specs.Prelude.{◌≡◌, ◌≢◌, ℕ, ◌<◌, ◌≤◌, List, [], ◌∷◌, Option, Some, slice_get, ◌⊎◌}
+use Rattle.std.specs.Prelude.{◌≡◌, ◌≢◌, ℕ, ◌<◌, ◌≤◌, List, [], ◌∷◌, Option, Some, slice_get}
+use Rattle.std.specs.List.{AllPairs}
 use Rattle.fst_words.specs.Words.{Productions}
 use Rattle.fst_basis.specs.declared.proof.Pair.{Pair}
 use Rattle.fst_norms.specs.Bounds.{norm_of}
@@ -21,12 +22,17 @@ pub record IsCandidate (n : ℕ) (norms : List (Option ℕ)) (c : ℕ × ℕ) : 
 abbrev pub candidate : List (Option ℕ) → List (List ℕ) → ℕ × ℕ → Pair
 candidate norms words c = record { left = c.1 ∷ []; right = c.0 ∷ residual norms words c.0 c.1 }
 
--- the candidate of these non-terminals is still there
+-- the candidate of these non-terminals is one of them
 abbrev pub IsThere : List (ℕ × ℕ) → ℕ × ℕ → Type 0
 IsThere candidates c = (at : ℕ) × (slice_get candidates at ≡ Some c)
 
--- each candidate is still there, or its words perform different traces
-abbrev pub AreSound : Productions → List (Option ℕ) → List (List ℕ) → ℕ → List (ℕ × ℕ) → Type 0
-AreSound rows norms words n candidates =
-    (x y : ℕ) → IsCandidate n norms (x, y) → IsThere candidates (x, y) ⊎
-    Differ rows (y ∷ []) (x ∷ residual norms words x y)
+-- these are candidates of a grammar with n non-terminals, each of them once
+pub record AreCandidates (n : ℕ) (norms : List (Option ℕ))
+    (candidates : List (ℕ × ℕ)) : Type 0 where
+  pub each : (c : ℕ × ℕ) → IsThere candidates c → IsCandidate n norms c
+  pub once : AllPairs (λ c d. c ≢ d) candidates
+
+-- the words of a candidate perform different traces
+abbrev pub CandidateDiffers : Productions → List (Option ℕ) → List (List ℕ) → ℕ × ℕ → Type 0
+CandidateDiffers rows norms words c =
+    Differ rows (c.1 ∷ []) (c.0 ∷ residual norms words c.0 c.1)

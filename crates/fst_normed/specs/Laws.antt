@@ -1,27 +1,12 @@
 -- What holds of the words of a normed grammar. In each law the norms and the words that lower them are those of the grammar.
 use Rattle.std.specs.Prelude.{ℕ, ◌≤◌, ◌⊎◌, List, [], ◌∷◌, ◌++◌, length, Option}
-use Rattle.fst_base.specs.Agreement.{HaveSameTraces}
-use Rattle.fst_words.specs.Ordered.{AreOrdered}
-use Rattle.fst_words.specs.Words.{Productions, InRange, WordBelow, row_of, step}
-use Rattle.fst_norms.specs.Norms.{IsNormed}
+use Rattle.fst_words.specs.Words.{Productions, WordBelow}
 use Rattle.fst_norms.specs.Bounds.{norm_of}
-use Rattle.fst_norms.specs.Lowering.{AreLowering, AreNorms}
-use Rattle.fst_normed.specs.Candidates.{AreSound, residual}
+use Rattle.fst_normed.specs.Candidates.{residual}
 use Rattle.fst_normed.specs.Joining.{AreJoinedByHeads}
+use Rattle.fst_normed.specs.Needs.{IsNeeded}
+use Rattle.fst_normed.specs.Normed.{Alike, IsNormedGrammar}
 use Rattle.fst_words.specs.Differences.{Differ}
-
--- a grammar whose non-terminals all have norms, with these and with the words that lower them
-pub record IsNormedGrammar (rows : Productions) (norms : List (Option ℕ))
-    (words : List (List ℕ)) : Type 0 where
-  pub range : InRange rows
-  pub ordered : (n : ℕ) → AreOrdered (row_of rows n)
-  pub normed : IsNormed rows
-  pub are_norms : AreNorms rows norms
-  pub lowering : AreLowering rows norms words
-
--- two words perform the same traces of letters
-abbrev pub Alike : Productions → List ℕ → List ℕ → Type 0
-Alike rows u v = HaveSameTraces (step rows) (step rows) u v
 
 -- what stands behind both words may be cut off: if W V and W' V are alike, so are W and W'
 abbrev pub CutLaw : Type 0
@@ -41,12 +26,19 @@ HeadLaw =
     Alike rows (y ∷ []) (x ∷ residual norms words x y) ×
     Alike rows u (residual norms words x y ++ v)
 
--- Where each candidate is still there or its words differ, any two words are joined by their heads, or they differ. So words that are
--- alike are joined.
+-- any two words are joined by their heads, or they differ
 abbrev pub JoiningLaw : Type 0
 JoiningLaw =
-    (rows : Productions) (norms : List (Option ℕ)) (words : List (List ℕ))
-    (candidates : List (ℕ × ℕ)) → IsNormedGrammar rows norms words →
-    AreSound rows norms words (length rows) candidates →
+    (rows : Productions) (norms : List (Option ℕ)) (words : List (List ℕ)) →
+    IsNormedGrammar rows norms words →
     (u v : List ℕ) → WordBelow (length rows) u → WordBelow (length rows) v →
-    AreJoinedByHeads norms words candidates u v ⊎ Differ rows u v
+    AreJoinedByHeads norms words u v ⊎ Differ rows u v
+
+-- the words of each candidate that the question of two alike words needs are alike
+abbrev pub NeedLaw : Type 0
+NeedLaw =
+    (rows : Productions) (norms : List (Option ℕ)) (words : List (List ℕ)) →
+    IsNormedGrammar rows norms words →
+    (u v : List ℕ) → WordBelow (length rows) u → WordBelow (length rows) v → Alike rows u v →
+    (c : ℕ × ℕ) → IsNeeded rows norms words u v c →
+    Alike rows (c.1 ∷ []) (c.0 ∷ residual norms words c.0 c.1)

@@ -1,5 +1,9 @@
 pub mod Candidates
 pub mod Joining
+pub mod Normed
+pub mod Needs
 pub mod Laws
 pub mod Walks
-pub mod Rounds
+pub mod Closing
+pub mod Decisions
+pub mod Stops

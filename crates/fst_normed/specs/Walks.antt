@@ -6,15 +6,15 @@ use Rattle.fst_basis.specs.declared.proof.Rewrite.{Rewrite}
 use Rattle.fst_basis.specs.Basis.{AreExchanges}
 use Rattle.fst_basis.specs.Rewrites.{chained}
 use Rattle.fst_normed.specs.declared.joining.Walk.{Walk}
-use Rattle.fst_normed.specs.Candidates.{candidate}
-use Rattle.fst_normed.specs.Joining.{AreJoinedByHeads}
+use Rattle.fst_normed.specs.Candidates.{IsThere, candidate}
+use Rattle.fst_normed.specs.Joining.{AreJoinedByHeads, exchanges}
 
 -- the pairs of these candidates
 abbrev pub pairs_of : List (Option ℕ) → List (List ℕ) → List (ℕ × ℕ) → List Pair
 pairs_of norms words candidates = map (candidate norms words) candidates
 
 -- The rewrites lead from x to the left word, and from the right word to y, with the same heads in front. Those that lead to y come last
--- one first. If x and y are joined by their heads, so are these two words.
+-- one first. If x and y are joined by their heads, so are these two words, which exchange what is left of what x and y exchange.
 pub record IsUnderway (norms : List (Option ℕ)) (words : List (List ℕ)) (candidates : List (ℕ × ℕ))
     (x y front left right : List ℕ) (before after : List Rewrite) : Type 0 where
   pub first : AreExchanges before
@@ -23,8 +23,11 @@ pub record IsUnderway (norms : List (Option ℕ)) (words : List (List ℕ)) (can
       (front ++ left)
   pub to : (marks : List Bool) → chained marks (pairs_of norms words candidates) (reverse after)
       (front ++ right) ≡ Some y
-  pub joined : AreJoinedByHeads norms words candidates x y →
-      AreJoinedByHeads norms words candidates left right
+  pub joined : AreJoinedByHeads norms words x y → AreJoinedByHeads norms words left right
+  pub rest : (c : ℕ × ℕ) → IsThere (exchanges norms words left right) c →
+      IsThere (exchanges norms words x y) c
+  pub count : (length before + length after) + length (exchanges norms words left right) ≡ length
+      (exchanges norms words x y)
   pub left_below : WordBelow (length words) left
   pub right_below : WordBelow (length words) right
 

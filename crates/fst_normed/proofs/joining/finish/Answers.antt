@@ -12,8 +12,8 @@ no_items : (xs : List ℕ) → length xs ≡ 0 → reverse xs ≡ []
 no_items [] e = refl
 no_items (x ∷ xs) e = absurd (omega arith)
 
-pub returns-clause-some : goal.returns-clause-some
-returns-clause-some c norms words candidates x y u =
+pub returns-clause-leads : goal.returns-clause-leads
+returns-clause-leads c norms words candidates x y u =
     let w = c.args.walk in
     let P = pairs_of norms words candidates in
     let left = same_number (vec_len w.left) 0 (sym c.is_empty.ensures ∙ c.if-not-is_empty.false) in
