@@ -1,7 +1,7 @@
 -- Agreement is an equivalence, and agreement to a depth is agreement to each depth before it.
 use Rattle.std.proofs.Common.{ℕ, zero, suc, Option, Some, None}
 use Rattle.std.specs.Prelude.{IfSome}
-use Rattle.fst_base.specs.Agreement.{AgreeTo, BothOrNeither}
+use Rattle.fst_base.specs.Agreement.{Agree, AgreeTo, BothOrNeither, IsBisimulation}
 
 -- what is related to itself where it is there
 pub same_related : {T : Type 0} (R : T → T → Type 0) → ((x : T) → R x x) → (o : Option T) → BothOrNeither R o o
@@ -67,3 +67,21 @@ related_some R S P Q h None None i j b = tt
 related_some R S P Q h None (Some y) i j b = absurd b
 related_some R S P Q h (Some x) None i j b = absurd b
 related_some R S P Q h (Some x) (Some y) i j b = h x y i j b
+
+-- what is related at every depth
+at_every_depth : {T U A : Type 0} (f : T → A → Option T) (g : U → A → Option U) (o : Option T) (p : Option U) →
+    ((n : ℕ) → BothOrNeither (AgreeTo f g n) o p) → BothOrNeither (Agree f g) o p
+at_every_depth f g None None h = tt
+at_every_depth f g None (Some y) h = absurd (h zero)
+at_every_depth f g (Some x) None h = absurd (h zero)
+at_every_depth f g (Some x) (Some y) h = h
+
+-- agreement is a bisimulation
+pub agree_is_one : {T U A : Type 0} (f : T → A → Option T) (g : U → A → Option U) → IsBisimulation f g (Agree f g)
+agree_is_one f g = λ x y h a. at_every_depth f g (f x a) (g y a) (λ n. h (suc n) a)
+
+-- and each bisimulation is within it
+pub bisimilar_agree : {T U A : Type 0} (f : T → A → Option T) (g : U → A → Option U) (R : T → U → Type 0) →
+    IsBisimulation f g R → (n : ℕ) (x : T) (y : U) → R x y → AgreeTo f g n x y
+bisimilar_agree f g R b zero x y r = tt
+bisimilar_agree f g R b (suc n) x y r = λ a. weaker R (AgreeTo f g n) (bisimilar_agree f g R b n) (f x a) (g y a) (b x y r a)

@@ -26,6 +26,13 @@ AgreeTo {A = A} f g (suc n) x y = (a : A) → BothOrNeither (AgreeTo f g n) (f x
 abbrev pub Agree : {T U A : Type 0} → (T → A → Option T) → (U → A → Option U) → T → U → Type 0
 Agree f g x y = (n : ℕ) → AgreeTo f g n x y
 
+-- related things move by the same labels, and to related things: a bisimulation (Park, 1981), for whatever moves in at most one
+-- way by each label
+abbrev pub IsBisimulation : {T U A : Type 0} → (T → A → Option T) → (U → A → Option U) →
+    (T → U → Type 0) → Type 0
+IsBisimulation {T = T} {U = U} {A = A} f g R =
+    (x : T) (y : U) → R x y → (a : A) → BothOrNeither R (f x a) (g y a)
+
 -- the two perform the same traces of at most n labels
 abbrev pub HaveSameTracesTo : {T U A : Type 0} → (T → A → Option T) →
     (U → A → Option U) → ℕ → T → U → Type 0

@@ -33,6 +33,10 @@ greatest_norm = 2 ^ 63
 abbrev pub most_made : ℕ
 most_made = 5000
 
+-- how many events a run may be asked to have at most
+abbrev pub most_steps : ℕ
+most_steps = 4294967295
+
 -- how many rewrites the decision of two normed words may make
 abbrev pub most_rewrites : ℕ
 most_rewrites = 1000000

@@ -115,7 +115,8 @@ first_is : (r : List Message) (e : Message) → slice_get r zero ≡ Some e → 
 first_is [] e q = absurd (none-some e q)
 first_is (x ∷ r) e q = (r, λ i. same_Some x e q i ∷ r)
 
-whole_view : (s : Side) (k : Channel) → IsWhole s k → view s k ≡ k.history
+-- a side's view that is the whole history
+pub whole_view : (s : Side) (k : Channel) → IsWhole s k → view s k ≡ k.history
 whole_view s k w = take_all (seen s k) k.history (least (length k.history) (seen s k) w)
   where
     least : (m n : ℕ) → n ≡ m → m ≤ n

@@ -311,7 +311,8 @@ pub asks_it : (d : Kept) (p : Path) (q : Request) (s : Slot) → IsAsking d p q 
 asks_it d p q s (t, there, is) e = ap (λ (z : Slot). z.request) (same_Some s t (sym e ∙ there)) ∙ is
 
 -- what passes the test has not ended
-moving_goes : (types capacity : ℕ) (channels : ChannelName → Option Channel) (q : Request) → can types capacity channels q ≡ true →
+moving_goes : (types capacity : ℕ) (channels : ChannelName → Option Channel) (q : Request) →
+    can types capacity channels q ≡ true →
     has_ended q ≡ false
 moving_goes types capacity channels request.Step e = refl
 moving_goes types capacity channels (request.New n) e = refl

@@ -100,8 +100,8 @@ module _ (tasks : Path → Option Slot) (ks : Keys) (old new : Channels) where
   }
     where
       at : (y : EndName) (b : Bool) → same_channel x.channel y.channel ≡ b →
-          option_and_then (asker_at y.side) (if b then option_map (with_asker x.side (Some p)) (held_in old y.channel) else held_in
-          old y.channel)
+          option_and_then (asker_at y.side)
+          (if b then option_map (with_asker x.side (Some p)) (held_in old y.channel) else held_in old y.channel)
           ≡ (if b && same_side x.side y.side then option_map (λ k. p) (channel_in old x.channel) else asker_in old y)
       at y true e =
           asker_asked x.side y.side p (held_in old y.channel)

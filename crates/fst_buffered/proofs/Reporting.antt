@@ -110,7 +110,8 @@ reported k n r ns result waiting order channels numbers channel_order events = �
     λ x d. sym (bare (numbered (made_in js x.0.maker) x.0.count) ∙ h.channels x.0)
     ∙ listed_there channel_of js x channel_order d in (
       is_report plain_of m code (core c) k.tasks js (kept_shows m code capacity l (kept_of k) c h)
-          (λ g. bare_plain (numbered (made_in js g.maker) g.count) ∙ ap (option_map plain) (h.channels g)) n r result waiting order
+          (λ g. bare_plain (numbered (made_in js g.maker) g.count) ∙ ap (option_map plain) (h.channels g)) n r result waiting
+          order
           channels channel_order events,
       subst (AreUnread c r.channels.items) (sym numbers)
           (are_unread c within xs r.channels.items (channels ∙ all_plain js) there),

@@ -18,19 +18,22 @@ use Rattle.fst_buffered.specs.Wrong.{IsRight}
 use Rattle.fst_buffered.specs.Kept.{IsTask, AreTask}
 
 module _ (m : Program) (c : Config) (h : IsRight m c) where
+  -- what a task asks is allowed
+  pub right_allowed : (p : Path) (t : Task) (q : Request) → Asks m c p t q → IsAllowed (residual_in c) q
+  right_allowed p t q a = let f = h.asks p t a.0 in
+      subst (IsAllowed (residual_in c)) (same_Some f.0 q (sym f.1 ∙ a.1)) f.2
+
   -- an end at which a task asks isn't spent
   right_unspent : (p : Path) (t : Task) (q : Request) (x : EndName) → Asks m c p t q → end_of q ≡ Some x →
       IsUnspent (residual_in c) x
-  right_unspent p t q x a n =
-      let f = h.asks p t a.0 in
-      allowed_unspent (residual_in c) q x n (subst (IsAllowed (residual_in c)) (same_Some f.0 q (sym f.1 ∙ a.1)) f.2)
+  right_unspent p t q x a n = allowed_unspent (residual_in c) q x n (right_allowed p t q a)
 
   -- and the task holds it
   holds : (p : Path) (t : Task) (q : Request) (x : EndName) → Asks m c p t q → end_of q ≡ Some x → held_state x t.state ≡ 0 → ⊥
   holds p t q x a n z = asks_held (pause m.families t.state) q x n a.1 (pause_none m.families x t.state z)
 
   -- two tasks that ask at one end are one
-  right_one : (p q : Path) (t u : Task) (a b : Request) (x : EndName) → Asks m c p t a → Asks m c q u b → end_of a ≡ Some x →
+  pub right_one : (p q : Path) (t u : Task) (a b : Request) (x : EndName) → Asks m c p t a → Asks m c q u b → end_of a ≡ Some x →
       end_of b ≡ Some x → p ≡ q
   right_one p q t u a b x f g n k = pick (same_path p q) refl
     where
@@ -58,7 +61,8 @@ pub record AreFair (tasks : Path → Option Slot) (channels : ChannelName → Op
       (channels x.channel ≡ Some k)
 
 -- a task that is kept is there
-pub is_there : (m : Module) (k : Code) (p : Path) (o : Option Slot) (u : Option Task) (s : Slot) → AreTask m k p o u → o ≡ Some s →
+pub is_there : (m : Module) (k : Code) (p : Path) (o : Option Slot) (u : Option Task) (s : Slot) → AreTask m k p o u →
+    o ≡ Some s →
     (t : Task) × (u ≡ Some t) × IsTask m k p s t
 is_there m k p None u s h e = absurd (none-some s e)
 is_there m k p (Some r) None s h e = absurd h

@@ -1,5 +1,6 @@
 -- What a buffered run answers.
-use Rattle.std.specs.Prelude.{◌≡◌, ◌≤◌, ◌+◌, ℕ, suc, min, Some, List, [], ◌∷◌, ⊤, length, Contains}
+use Rattle.std.specs.Prelude.{◌≡◌, ◌≤◌, ◌+◌, ℕ, suc, min, Some, List, [], ◌∷◌, ⊤, length, Contains, Vec}
+use Rattle.std.specs.Global.{Global}
 use Rattle.fst_types.specs.Tree.{Tree}
 use Rattle.fst_kinds.specs.WellFormed.{IsSession}
 use Rattle.fst_lts.specs.Histories.{after_history}
@@ -85,3 +86,19 @@ AnswersAreSound =
     (main : CoreTree) → main_body m.globals.items ≡ Some main →
     (capacity steps : ℕ) (o : BufferedOutcome) →
     IsAnswer m main capacity steps o → IsSoundOutcome m o
+
+-- each buffered run of the module from this body of main that comes to an end, with channels of this capacity, has this report, and as
+-- many entries of each channel that one side hasn't taken
+abbrev pub BufferedEndsAs : Module → CoreTree → ℕ → Report → List ℕ → Type 0
+BufferedEndsAs m main capacity r unread = (es : List Occurrence) (c : Config) →
+    Runs (program m) m.types.items capacity (started main) es c →
+    IsLast (program m) m.types.items capacity c →
+    IsReport (program m) (core c) (length es) r × AreUnread c r.channels.items unread
+
+-- so it is with the report that the least buffered run of a module with derivations answers
+abbrev pub AnswersAreEnds : Type 0
+AnswersAreEnds =
+    (m : Module) (ds : List Deriv) → HasDerivations m ds →
+    (main : CoreTree) → main_body m.globals.items ≡ Some main →
+    (capacity steps : ℕ) (r : Report) (unread : Vec ℕ Global) →
+    IsAnswer m main capacity steps (Done r unread) → BufferedEndsAs m main capacity r unread.items

@@ -5,6 +5,7 @@ pub mod Order
 pub mod Use
 pub mod Sound
 pub mod Safety
+pub mod Diamond
 pub mod Meeting
 pub mod Answers
 pub mod Moving

@@ -10,8 +10,8 @@ use Rattle.fst_types.specs.declared.side.Side.TheVariants.{Left, Right}
 use Rattle.fst_types.specs.Tree.{Tree}
 use Rattle.fst_lts.specs.Step.{step}
 use Rattle.fst_lts.specs.Dual.{dual}
-use Rattle.fst_lts.specs.Histories.{sending, receiving, IsInput, after_event, after_history, side_type, opposite}
-use Rattle.fst_lts.proofs.Laws.{is_output, one_direction, sending_output, receiving_output, after_sent, after_received, dual_sends, dual_receives, after_history-dual, dual-dual_option}
+use Rattle.fst_lts.specs.Histories.{is_output, sending, receiving, IsInput, after_event, after_history, side_type, opposite}
+use Rattle.fst_lts.proofs.Laws.{one_direction, sending_output, receiving_output, after_sent, after_received, dual_sends, dual_receives, after_history-dual, dual-dual_option}
 use Rattle.fst_types.specs.declared.event.Entry.{Entry}
 use Rattle.fst_types.specs.declared.event.Event.{Event}
 use Rattle.fst_lts.specs.Residuals.{residual, sends, receives, asks}

@@ -1,5 +1,5 @@
 -- What `run` with channels that hold events writes of a module that is accepted, and what it means.
-use Rattle.std.proofs.Common.{◌≡◌, ◌∙◌, ℕ, suc, ◌≤◌, List, [], ◌∷◌, length, Some, Result, refl, sym, ap, subst, arith}
+use Rattle.std.proofs.Common.{◌≡◌, ◌∙◌, ℕ, suc, List, [], ◌∷◌, length, Some, Result, refl, sym, ap, subst, arith}
 use Rattle.std.specs.Prelude.{Contains, IfOk, option_map}
 use Rattle.std.specs.declared.alloc.AllocError.{AllocError}
 use Rattle.std.proofs.lemmas.Result.{IfOk-weaker}
@@ -18,7 +18,7 @@ use Rattle.fst_process.specs.Reports.{IsReport}
 use Rattle.fst_execution.specs.Execution.{IsDerived, IsPrepared}
 use Rattle.fst_buffered.specs.declared.outcome.BufferedOutcome.{BufferedOutcome}
 use Rattle.fst_buffered.specs.declared.outcome.BufferedOutcome.TheVariants.{Done, OutOfSteps}
-use Rattle.fst_buffered.specs.Answers.{AnswersAreSound, AreUnread, CanRun, IsAnswer, IsOutcome, IsSoundOutcome, RunsRight}
+use Rattle.fst_buffered.specs.Answers.{AnswersAreSound, AnswersAreEnds, AreUnread, CanRun, IsAnswer, IsOutcome, IsSoundOutcome, RunsRight}
 use Rattle.fst_buffered.specs.Channels.{Channel, Config, core, entries, plain}
 use Rattle.fst_buffered.specs.Safety.{BufferedIsSafe}
 use Rattle.fst_report.specs.BufferedTexts.{AreWithin}
@@ -99,10 +99,11 @@ unread_within capacity steps m o r unread h is =
 -- ---- what it means
 
 -- what a buffered run of the accepted module that the bytes stand for comes to
-pub says_buffered : BufferedIsSafe → AnswersAreSound → (capacity steps : ℕ) (bytes text : List ℕ) (s : Status)
-    (a : MeansAccepted bytes) → SaysBuffered capacity steps a.resolved text s → MeansBuffered capacity s bytes text
-says_buffered safety law capacity steps bytes text s a o =
-    by o.outcome (buffered_sound law a.resolved d capacity steps o.outcome o.is) o.written o.ended
+pub says_buffered : BufferedIsSafe → AnswersAreSound → AnswersAreEnds →
+    (capacity steps budget : ℕ) (bytes text : List ℕ) (s : Status)
+    (a : MeansAccepted bytes) → SaysBuffered capacity steps a.resolved text s → MeansBuffered capacity budget s bytes text
+says_buffered safety law one capacity steps budget bytes text s a o =
+    by o.outcome o.is.answer (buffered_sound law a.resolved d capacity steps o.outcome o.is) o.written o.ended
   where
     d : IsDerived a.resolved
     d = record { derivations = a.derivations; derived = a.derived }
@@ -111,19 +112,24 @@ says_buffered safety law capacity steps bytes text s a o =
     safe main body es c r = safety a.resolved a.derivations a.derived main body capacity es c r
 
     by_tasks : (ws : List Waiting) → MeansBufferedReport capacity bytes text →
-        MeansBuffered capacity (waiting_status ws) bytes text
+        MeansBuffered capacity budget (waiting_status ws) bytes text
     by_tasks [] h = h
     by_tasks (w ∷ ws) h = h
 
-    by : (q : BufferedOutcome) → IsSoundOutcome a.resolved q → text ≡ buffered_outcome_text a.resolved.families.items q →
-        s ≡ buffered_outcome_status q → MeansBuffered capacity s bytes text
-    by (Done r unread) h w e = subst (λ z. MeansBuffered capacity z bytes text) (sym e) (by_tasks r.waiting.items (record {
-      accepted = a;
-      safe = safe;
-      report = r;
-      unread = unread.items;
-      written = w;
-      sound = h;
-    }))
-    by OutOfSteps h w e =
-        subst (λ z. MeansBuffered capacity z bytes text) (sym e) (record { accepted = a; safe = safe })
+    by : (q : BufferedOutcome) → IsAnswer a.resolved o.is.main capacity steps q → IsSoundOutcome a.resolved q →
+        text ≡ buffered_outcome_text a.resolved.families.items q →
+        s ≡ buffered_outcome_status q → MeansBuffered capacity budget s bytes text
+    by (Done r unread) x h w e = subst (λ z. MeansBuffered capacity budget z bytes text) (sym e)
+        (by_tasks r.waiting.items (record {
+          accepted = a;
+          safe = safe;
+          report = r;
+          unread = unread.items;
+          written = w;
+          sound = h;
+          main = o.is.main;
+          body = o.is.body;
+          ends = one a.resolved a.derivations a.derived o.is.main o.is.body capacity steps r unread x;
+        }))
+    by OutOfSteps x h w e =
+        subst (λ z. MeansBuffered capacity budget z bytes text) (sym e) (record { accepted = a; safe = safe })

@@ -29,6 +29,10 @@ use Rattle.fst_command.specs.Finding as finding
 use Rattle.fst_command.specs.Finding.{Finding, IsRead, IsUnread, AreResolved, AreUnresolved, name_finding}
 use Rattle.fst_command.specs.Output.{AreLines, IsFoundOf, accepted, unaccepted, FindsModule, SaysAccepted, SaysBuffered, SaysOutcome, made_summary, waiting_status, outcome_text, outcome_status, WritesOf, too_long, is_none, makes, finding_status, Writes}
 use Rattle.fst_safety.specs.Safety.{DerivedIsSafe}
+use Rattle.fst_safety.specs.Diamond.{OneEnd}
+use Rattle.fst_runs.specs.Configs.{program, started}
+use Rattle.fst_runs.proofs.Laws.{least_runs}
+use Rattle.fst_process.specs.Reports.{IsAnswer, IsReport}
 use Rattle.fst_vm.specs.declared.report.Outcome.{Outcome}
 use Rattle.fst_vm.specs.declared.report.Outcome.TheVariants.{Done, OutOfSteps}
 use Rattle.fst_vm.specs.declared.report.Report.{Report}
@@ -39,10 +43,12 @@ use Rattle.fst_buffered.specs.Safety.{BufferedIsSafe}
 use Rattle.fst_make.specs.Made.{made_text}
 use Rattle.fst_report.specs.ReportTexts.{report_text}
 use Rattle.fst_command.specs.declared.status.Status.{Status}
-use Rattle.fst_typing.specs.Laws.{IsCause, RefusedHasNone}
-use Rattle.fst_command.specs.Meanings.{MeansAccepted, MeansRefused, MeansCheck, MeansReport, IsSoundOutcome, MeansRun, MeansBuffered, Meanings}
+use Rattle.fst_typing.specs.Laws.{IsCause, RefusedHasNone, WithinIsNotRefused}
+use Rattle.fst_command.specs.Complete.{HasBegun}
+use Rattle.fst_command.specs.Meanings.{EndsAs, MeansAccepted, MeansBeyond, MeansRefused, MeansCheck, MeansReport, IsSoundOutcome, MeansRun, MeansBuffered, Meanings}
 use Rattle.fst_command.specs.Views.{IfFound, cause_of, name_fault}
 use Rattle.fst_command.proofs.BufferedLaws.{says_buffered}
+use Rattle.fst_command.proofs.CompleteLaws.{makes_within, unbegun_beyond, unbuffered_beyond}
 use Rattle.fst_command.proofs.FindingLaws.{if_found, said_found}
 use Rattle.fst_command.proofs.Causes.{refused_cause}
 use Rattle.fst_command.proofs.MeaningLaws.{audit_means, equiv_means, proved_means}
@@ -161,17 +167,18 @@ means_refused bytes (undecided_so e) = absurd (cc e)
 means_refused bytes (limited_so e) = absurd (cc e)
 means_refused bytes (memory_so e) = absurd (cc e)
 
--- what that status means follows from what these four do
-no_run : (Means : Status → Type 0) (bytes : List ℕ) → (MeansRefused bytes → Means status.Refused) → Means status.Undecided →
-    Means status.Limit → Means status.Memory → (s : Status) → IsRefused bytes s → Means s
-no_run Means bytes f u l n s (refused_so e h) = subst Means (sym e) (f h)
-no_run Means bytes f u l n s (undecided_so e) = subst Means (sym e) u
-no_run Means bytes f u l n s (limited_so e) = subst Means (sym e) l
-no_run Means bytes f u l n s (memory_so e) = subst Means (sym e) n
+-- what that status means follows from what these four do, each where it is that one
+no_run : (Means : Status → Type 0) (bytes : List ℕ) (s : Status) → (MeansRefused bytes → Means status.Refused) →
+    (s ≡ status.Undecided → Means status.Undecided) → (s ≡ status.Limit → Means status.Limit) → Means status.Memory →
+    IsRefused bytes s → Means s
+no_run Means bytes s f u l n (refused_so e h) = subst Means (sym e) (f h)
+no_run Means bytes s f u l n (undecided_so e) = subst Means (sym e) (u e)
+no_run Means bytes s f u l n (limited_so e) = subst Means (sym e) (l e)
+no_run Means bytes s f u l n (memory_so e) = subst Means (sym e) n
 
 module _ (law : (m : Module) (budget : ℕ) (ds : List Deriv) → IsAccepted m budget ds → HasDerivations m ds)
     (refusal : RefusedHasNone) (resolving : OneModuleLaw) (lexing : OneLexing) (modules : OneModule)
-    (safety : DerivedIsSafe) where
+    (safety : DerivedIsSafe) (complete : WithinIsNotRefused) where
   -- where the module that bytes stand for is refused, each of them is
   refused_means : (budget : ℕ) (bytes : List ℕ) (m : Module) (f : CheckFault) → AreResolved bytes m → IsRefusal m budget f →
       IsCause f → MeansRefused bytes
@@ -214,31 +221,50 @@ module _ (law : (m : Module) (budget : ℕ) (ds : List Deriv) → IsAccepted m b
     safe = safety m ds (law m budget ds a);
   }
 
-  check_means : (budget : ℕ) (bytes text : List ℕ) (s : Status) → Writes (check budget) bytes text s → MeansCheck bytes s
+  -- a module that `check` doesn't accept isn't within the limits
+  unaccepted_beyond : (budget : ℕ) (bytes text : List ℕ) (s : Status) → Writes (check budget) bytes text s →
+      (s ≡ status.Done → ⊥) → MeansBeyond budget bytes
+  unaccepted_beyond budget bytes text s w other l =
+      other (makes_within lexing modules resolving complete SaysAccepted budget bytes text s w l).1.1
+
+  check_means : (budget : ℕ) (bytes text : List ℕ) (s : Status) → Writes (check budget) bytes text s →
+      MeansCheck budget bytes s
   check_means budget bytes text s w = elim (made_or_refused SaysAccepted budget bytes text s w) [
     | inl m ↦ record {
       done = λ e. means_accepted budget bytes m.resolved m.derivations m.is_resolved m.is_accepted;
       refused = λ e. let done = m.made.1 in absurd (cc (done, e));
+      undecided = λ e. unaccepted_beyond budget bytes text s w (λ d. cc (d, e));
+      limit = λ e. unaccepted_beyond budget bytes text s w (λ d. cc (d, e));
     }
     | inr r ↦ record {
       done = λ e. absurd (not_done bytes (subst (IsRefused bytes) e r));
       refused = λ e. means_refused bytes (subst (IsRefused bytes) e r);
+      undecided = λ e. unaccepted_beyond budget bytes text s w (λ d. cc (d, e));
+      limit = λ e. unaccepted_beyond budget bytes text s w (λ d. cc (d, e));
     }
   ]
 
-  module _ (sound : AnswersAreSound) where
+  module _ (sound : AnswersAreSound) (ends : OneEnd) where
     module _ (shown : List Family → Report → List ℕ) where
       -- what the outcome of a run means, with reports written like this
       outcome_means : (events : Bool) (steps budget : ℕ) (bytes text : List ℕ) (s : Status) (m : Module) (ds : List Deriv) →
           AreResolved bytes m → IsAccepted m budget ds →
-          SaysOutcome shown events steps m text s → MeansRun shown events s bytes text
+          SaysOutcome shown events steps m text s → MeansRun shown events budget s bytes text
       outcome_means events steps budget bytes text s m ds is a o =
-          by o.outcome o.is.behind
+          by o.outcome o.is.answer o.is.behind
           (outcome_sound sound m (safety m ds (law m budget ds a)) events steps o.outcome o.lines o.is) o.written o.ended
         where
-          report_means : (r : Report) → IsSound m r → AreLines events m o.is.main (Done r) o.lines →
+          ends_as : (r : Report) → IsAnswer m o.is.main steps (Done r) → EndsAs m o.is.main r
+          ends_as r (fs, d, least, last, few, is_report) = λ es c run l.
+              let one = (ends m ds (law m budget ds a) o.is.main o.is.body fs d (least_runs (program m) m.types.items
+              (started o.is.main) fs d least) last es c run).1 l in
+              subst (λ z. IsReport (program m) z (length es) r) (sym one.1)
+              (subst (λ k. IsReport (program m) d k r) (sym one.0) is_report)
+
+          report_means : (r : Report) → IsAnswer m o.is.main steps (Done r) → IsSound m r →
+              AreLines events m o.is.main (Done r) o.lines →
               text ≡ shown m.families.items r ++ o.lines → MeansReport shown events bytes text
-          report_means r h l w = record {
+          report_means r x h l w = record {
             accepted = means_accepted budget bytes m ds is a;
             report = r;
             lines = o.lines;
@@ -247,49 +273,60 @@ module _ (law : (m : Module) (budget : ℕ) (ds : List Deriv) → IsAccepted m b
             main = o.is.main;
             body = o.is.body;
             behind = l;
+            ends = ends_as r x;
           }
 
           by_tasks : (ws : List Waiting) → MeansReport shown events bytes text →
-              MeansRun shown events (waiting_status ws) bytes text
+              MeansRun shown events budget (waiting_status ws) bytes text
           by_tasks [] h = h
           by_tasks (w ∷ ws) h = h
 
-          by : (c : Outcome) → AreLines events m o.is.main c o.lines → IsSoundOutcome m c →
-              text ≡ outcome_text shown m.families.items c ++ o.lines → s ≡ outcome_status c → MeansRun shown events s bytes text
-          by (Done r) l h w e = subst (λ z. MeansRun shown events z bytes text) (sym e)
-              (by_tasks r.waiting.items (report_means r (h r refl) l w))
-          by OutOfSteps l h w e = subst (λ z. MeansRun shown events z bytes text) (sym e) (means_accepted budget bytes m ds is a)
+          by : (c : Outcome) → IsAnswer m o.is.main steps c → AreLines events m o.is.main c o.lines → IsSoundOutcome m c →
+              text ≡ outcome_text shown m.families.items c ++ o.lines → s ≡ outcome_status c →
+              MeansRun shown events budget s bytes text
+          by (Done r) x l h w e = subst (λ z. MeansRun shown events budget z bytes text) (sym e)
+              (by_tasks r.waiting.items (report_means r x (h r refl) l w))
+          by OutOfSteps x l h w e =
+              subst (λ z. MeansRun shown events budget z bytes text) (sym e) (means_accepted budget bytes m ds is a)
 
       -- what is written of the run of a module
       source_means : (events : Bool) (steps budget : ℕ) (bytes text : List ℕ) (s : Status) →
           WritesOf AreUnresolved (FindsModule (SaysOutcome shown events steps) budget) bytes text s →
-          MeansRun shown events s bytes text
+          MeansRun shown events budget s bytes text
       source_means events steps budget bytes text s w =
           elim (made_or_refused (SaysOutcome shown events steps) budget bytes text s w) [
             | inl m ↦ outcome_means events steps budget bytes text s m.resolved m.derivations m.is_resolved m.is_accepted m.made
-            | inr r ↦ no_run (λ z. MeansRun shown events z bytes text) bytes (λ none. none) tt tt tt s r
+            | inr r ↦ no_run (λ z. MeansRun shown events budget z bytes text) bytes s (λ none. none)
+                (λ e. beyond (λ b. subst HasBegun e b)) (λ e. beyond (λ b. subst HasBegun e b)) tt r
           ]
+        where
+          beyond : (HasBegun s → ⊥) → MeansBeyond budget bytes
+          beyond = unbegun_beyond lexing modules resolving complete shown events steps budget bytes text s w
 
     -- what is written of the run of a module with channels that hold events
-    buffered_means : BufferedIsSafe → buffered_run.AnswersAreSound →
+    buffered_means : BufferedIsSafe → buffered_run.AnswersAreSound → buffered_run.AnswersAreEnds →
         (steps capacity budget : ℕ) (bytes text : List ℕ) (s : Status) →
-        Writes (buffered steps capacity budget) bytes text s → MeansBuffered capacity s bytes text
-    buffered_means safe law steps capacity budget bytes text s w =
+        Writes (buffered steps capacity budget) bytes text s → MeansBuffered capacity budget s bytes text
+    buffered_means safe law one steps capacity budget bytes text s w =
         elim (made_or_refused (SaysBuffered capacity steps) budget bytes text s w) [
-          | inl m ↦ says_buffered safe law capacity steps bytes text s
+          | inl m ↦ says_buffered safe law one capacity steps budget bytes text s
               (means_accepted budget bytes m.resolved m.derivations m.is_resolved m.is_accepted) m.made
-          | inr r ↦ no_run (λ z. MeansBuffered capacity z bytes text) bytes (λ none. none) tt tt tt s r
+          | inr r ↦ no_run (λ z. MeansBuffered capacity budget z bytes text) bytes s (λ none. none)
+              (λ e. beyond (λ b. subst HasBegun e b)) (λ e. beyond (λ b. subst HasBegun e b)) tt r
         ]
+      where
+        beyond : (HasBegun s → ⊥) → MeansBeyond budget bytes
+        beyond = unbuffered_beyond lexing modules resolving complete capacity steps budget bytes text s w
 
-    pub meanings : BufferedIsSafe → buffered_run.AnswersAreSound → Meanings
-    meanings safe law (equiv budget false) bytes text s w = equiv_means budget bytes text s w
-    meanings safe law (equiv budget true) bytes text s w = proved_means budget bytes text s w
-    meanings safe law show bytes text s w = tt
-    meanings safe law (check budget) bytes text s w = check_means budget bytes text s w
-    meanings safe law (run steps workers budget events) bytes text s w =
+    pub meanings : BufferedIsSafe → buffered_run.AnswersAreSound → buffered_run.AnswersAreEnds → Meanings
+    meanings safe law one (equiv budget false) bytes text s w = equiv_means budget bytes text s w
+    meanings safe law one (equiv budget true) bytes text s w = proved_means budget bytes text s w
+    meanings safe law one show bytes text s w = tt
+    meanings safe law one (check budget) bytes text s w = check_means budget bytes text s w
+    meanings safe law one (run steps workers budget events) bytes text s w =
         source_means report_text events steps budget bytes text s w
-    meanings safe law (buffered steps capacity budget) bytes text s w =
-        buffered_means safe law steps capacity budget bytes text s w
-    meanings safe law (make n) bytes text s w = source_means
+    meanings safe law one (buffered steps capacity budget) bytes text s w =
+        buffered_means safe law one steps capacity budget bytes text s w
+    meanings safe law one (make n) bytes text s w = source_means
         (made_summary n) false default_steps default_budget (made_text n) text s w
-    meanings safe law audit bytes text s w = audit_means bytes text s w
+    meanings safe law one audit bytes text s w = audit_means bytes text s w

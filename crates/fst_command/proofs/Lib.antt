@@ -18,6 +18,7 @@ pub mod QuestionTexts
 pub mod OutputLaws
 pub mod CheckLaws
 pub mod Runs
+pub mod AnyWorkers
 pub mod CompleteLaws
 pub mod MeaningLaws
 pub mod OutcomeLaws

@@ -83,7 +83,8 @@ module _ (steps : ℕ) (m : Module) (k : Code) (ready : IsPrepared m k) where
           marks = b.marks;
         } in
         let g = merged a in
-        sorted m d.derivations d.derived ready.begins.main (prepared_main m k ready) es (config_of b.tasks b.channels) g.run b.last
+        sorted m d.derivations d.derived ready.begins.main (prepared_main m k ready) es
+        (config_of b.tasks b.channels) g.run b.last
         g.sorted fs c least last
 
     -- with its events

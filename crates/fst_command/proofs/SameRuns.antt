@@ -171,6 +171,8 @@ events_same m n s e es a =
           (last_same (program m) (program n) x m.types.items a.config a.last);
       arranged = a.arranged;
       sorted = a.sorted;
+      in_order = subst (λ z. RunsAt (program n) z (started e) es a.config) s.types
+          (at_same (program m) (program n) x m.types.items (started e) es a.config a.in_order);
     }
 
 -- so the lines behind a report are those of both

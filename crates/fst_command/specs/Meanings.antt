@@ -22,13 +22,17 @@ use Rattle.fst_names.specs.declared.question.Question.{Question}
 use Rattle.fst_names.specs.ResolvedModule.{IsResolvedModule}
 use Rattle.fst_derivations.specs.Deriv.{Deriv}
 use Rattle.fst_derivations.specs.Modules.{HasDerivations}
+use Rattle.fst_runs.specs.declared.event.CoreEvent.{CoreEvent}
 use Rattle.fst_runs.specs.Configs.{main_body, program}
+use Rattle.fst_runs.specs.Configs as configs
+use Rattle.fst_runs.specs.Events as core
+use Rattle.fst_process.specs.Reports.{IsReport}
 use Rattle.fst_safety.specs.Safety.{IsSafe}
 use Rattle.fst_vm.specs.declared.report.Outcome.{Outcome}
 use Rattle.fst_vm.specs.declared.report.Outcome.TheVariants.{Done}
 use Rattle.fst_vm.specs.declared.report.Report.{Report}
 use Rattle.fst_execution.specs.Execution.{IsSound}
-use Rattle.fst_buffered.specs.Answers.{IsSoundReport}
+use Rattle.fst_buffered.specs.Answers.{BufferedEndsAs, IsSoundReport}
 use Rattle.fst_buffered.specs.Channels as channels
 use Rattle.fst_buffered.specs.Events.{Occurrence, Runs}
 use Rattle.fst_buffered.specs.Order.{IsInOrder}
@@ -38,9 +42,10 @@ use Rattle.fst_report.specs.ReportTexts.{report_text}
 use Rattle.fst_command.specs.declared.status.Status.{Status}
 use Rattle.fst_command.specs.declared.status.Status.TheVariants as status
 use Rattle.fst_make.specs.Made.{made_text}
-use Rattle.fst_options.specs.Words.{Command, equiv, show, check, run, buffered, make, audit}
+use Rattle.fst_options.specs.Words.{Command, equiv, show, check, run, buffered, make, audit, default_budget}
 use Rattle.fst_command.specs.Finding.{IsRead, AreAsked, AreResolved}
 use Rattle.fst_command.specs.Audited.{first_line}
+use Rattle.fst_command.specs.Complete.{IsWithinLimits}
 use Rattle.fst_command.specs.Output.{AreLines, IsCertified, Writes, made_summary}
 use Rattle.fst_command.specs.Texts.{yes_text, no_text, undecided_text, valid_text}
 
@@ -126,10 +131,23 @@ abbrev pub MeansRefused : List ℕ → Type 0
 MeansRefused bytes = (m : Module) → AreResolved bytes m →
     (ds : List Deriv) → HasDerivations m ds → ⊥
 
+-- the bytes aren't within the limits: they are too many, or each derivation of a module that they stand for has a question that isn't
+-- answered within the budget, or a type that is over its size
+abbrev pub MeansBeyond : ℕ → List ℕ → Type 0
+MeansBeyond budget bytes = IsWithinLimits budget bytes → ⊥
+
 -- what it means that `check` ended with this status
-pub record MeansCheck (bytes : List ℕ) (s : Status) : Type 0 where
+pub record MeansCheck (budget : ℕ) (bytes : List ℕ) (s : Status) : Type 0 where
   pub done : s ≡ status.Done → MeansAccepted bytes
   pub refused : s ≡ status.Refused → MeansRefused bytes
+  pub undecided : s ≡ status.Undecided → MeansBeyond budget bytes
+  pub limit : s ≡ status.Limit → MeansBeyond budget bytes
+
+-- each run of the module from this body of main that comes to an end has this report
+abbrev pub EndsAs : Module → CoreTree → Report → Type 0
+EndsAs m main r = (es : List CoreEvent) (c : configs.Config) →
+    core.Runs (program m) m.types.items (configs.started main) es c →
+    core.IsLast (program m) m.types.items c → IsReport (program m) c (length es) r
 
 -- so are the bytes, and the text is that of a report, written like this, in which each history is a trace of its channel's declared
 -- type, and the value of main is one of main's type; behind it stand the lines of the module's events, where they are asked for
@@ -143,23 +161,24 @@ pub record MeansReport (shown : List Family → Report → List ℕ) (events : B
   pub main : CoreTree
   pub body : main_body accepted.resolved.globals.items ≡ Some main
   pub behind : AreLines events accepted.resolved main (Done report) lines
+  pub ends : EndsAs accepted.resolved main report
 
 -- the report of an outcome is sound, if there is one
 abbrev pub IsSoundOutcome : Module → Outcome → Type 0
 IsSoundOutcome m o = (r : Report) → o ≡ Done r → IsSound m r
 
--- what it means that a text was written with this status of the run of a module, with reports written like this
-abbrev pub MeansRun : (List Family → Report → List ℕ) → Bool → Status → List ℕ → List ℕ → Type 0
-MeansRun shown events status.Done bytes text = MeansReport shown events bytes text
-MeansRun shown events status.Refused bytes text = MeansRefused bytes
-MeansRun shown events status.Words bytes text = ⊤
-MeansRun shown events status.Waiting bytes text = MeansReport shown events bytes text
-MeansRun shown events status.OutOfSteps bytes text = MeansAccepted bytes
-MeansRun shown events status.Undecided bytes text = ⊤
-MeansRun shown events status.ReadFault bytes text = ⊤
-MeansRun shown events status.WriteFault bytes text = ⊤
-MeansRun shown events status.Limit bytes text = ⊤
-MeansRun shown events status.Memory bytes text = ⊤
+-- what it means that a text was written with this status of the run of a module, with reports written like this, within a budget
+abbrev pub MeansRun : (List Family → Report → List ℕ) → Bool → ℕ → Status → List ℕ → List ℕ → Type 0
+MeansRun shown events budget status.Done bytes text = MeansReport shown events bytes text
+MeansRun shown events budget status.Refused bytes text = MeansRefused bytes
+MeansRun shown events budget status.Words bytes text = ⊤
+MeansRun shown events budget status.Waiting bytes text = MeansReport shown events bytes text
+MeansRun shown events budget status.OutOfSteps bytes text = MeansAccepted bytes
+MeansRun shown events budget status.Undecided bytes text = MeansBeyond budget bytes
+MeansRun shown events budget status.ReadFault bytes text = ⊤
+MeansRun shown events budget status.WriteFault bytes text = ⊤
+MeansRun shown events budget status.Limit bytes text = MeansBeyond budget bytes
+MeansRun shown events budget status.Memory bytes text = ⊤
 
 -- whatever happens in a run of the module whose channels hold up to so many events, nothing goes wrong, and what is taken at an end
 -- is what was put in at the other one, in its order and each once
@@ -176,7 +195,7 @@ pub record MeansBufferedSafe (capacity : ℕ) (bytes : List ℕ) : Type 0 where
   pub safe : IsBufferedSafe capacity accepted.resolved
 
 -- so they do, and the text is that of a buffered report in which each history is a trace of its channel's declared type, and the value
--- of main is one of main's type
+-- of main is one of main's type; and each such run that comes to an end has this report
 pub record MeansBufferedReport (capacity : ℕ) (bytes text : List ℕ) : Type 0 where
   pub accepted : MeansAccepted bytes
   pub safe : IsBufferedSafe capacity accepted.resolved
@@ -184,19 +203,22 @@ pub record MeansBufferedReport (capacity : ℕ) (bytes text : List ℕ) : Type 0
   pub unread : List ℕ
   pub written : text ≡ buffered_text accepted.resolved.families.items report unread
   pub sound : IsSoundReport accepted.resolved report
+  pub main : CoreTree
+  pub body : main_body accepted.resolved.globals.items ≡ Some main
+  pub ends : BufferedEndsAs accepted.resolved main capacity report unread
 
--- what it means that a text was written with this status of the buffered run of a module
-abbrev pub MeansBuffered : ℕ → Status → List ℕ → List ℕ → Type 0
-MeansBuffered capacity status.Done bytes text = MeansBufferedReport capacity bytes text
-MeansBuffered capacity status.Refused bytes text = MeansRefused bytes
-MeansBuffered capacity status.Words bytes text = ⊤
-MeansBuffered capacity status.Waiting bytes text = MeansBufferedReport capacity bytes text
-MeansBuffered capacity status.OutOfSteps bytes text = MeansBufferedSafe capacity bytes
-MeansBuffered capacity status.Undecided bytes text = ⊤
-MeansBuffered capacity status.ReadFault bytes text = ⊤
-MeansBuffered capacity status.WriteFault bytes text = ⊤
-MeansBuffered capacity status.Limit bytes text = ⊤
-MeansBuffered capacity status.Memory bytes text = ⊤
+-- what it means that a text was written with this status of the buffered run of a module, within a budget
+abbrev pub MeansBuffered : ℕ → ℕ → Status → List ℕ → List ℕ → Type 0
+MeansBuffered capacity budget status.Done bytes text = MeansBufferedReport capacity bytes text
+MeansBuffered capacity budget status.Refused bytes text = MeansRefused bytes
+MeansBuffered capacity budget status.Words bytes text = ⊤
+MeansBuffered capacity budget status.Waiting bytes text = MeansBufferedReport capacity bytes text
+MeansBuffered capacity budget status.OutOfSteps bytes text = MeansBufferedSafe capacity bytes
+MeansBuffered capacity budget status.Undecided bytes text = MeansBeyond budget bytes
+MeansBuffered capacity budget status.ReadFault bytes text = ⊤
+MeansBuffered capacity budget status.WriteFault bytes text = ⊤
+MeansBuffered capacity budget status.Limit bytes text = MeansBeyond budget bytes
+MeansBuffered capacity budget status.Memory bytes text = ⊤
 
 -- what it means that this text was written for a command, with this status, where these bytes were read: `make` reads none, and what
 -- it writes is about the module that it makes
@@ -204,10 +226,12 @@ abbrev pub Means : Command → List ℕ → List ℕ → Status → Type 0
 Means (equiv budget false) bytes text s = MeansAnswer budget bytes text
 Means (equiv budget true) bytes text s = MeansProved budget bytes text s
 Means show bytes text s = ⊤
-Means (check budget) bytes text s = MeansCheck bytes s
-Means (run steps workers budget events) bytes text s = MeansRun report_text events s bytes text
-Means (buffered steps capacity budget) bytes text s = MeansBuffered capacity s bytes text
-Means (make n) bytes text s = MeansRun (made_summary n) false s (made_text n) text
+Means (check budget) bytes text s = MeansCheck budget bytes s
+Means (run steps workers budget events) bytes text s =
+    MeansRun report_text events budget s bytes text
+Means (buffered steps capacity budget) bytes text s = MeansBuffered capacity budget s bytes text
+Means (make n) bytes text s =
+    MeansRun (made_summary n) false default_budget s (made_text n) text
 Means audit bytes text s = MeansAudit bytes text s
 
 -- whatever a command writes means that

@@ -265,6 +265,14 @@ OneOutput =
     IsOutput words bytes text s → IsOutput words bytes other t →
     AreAlike words bytes text other × (s ≡ t)
 
+-- what two lists of words write that ask for the same run on different numbers of workers is one text
+abbrev pub AnyWorkers : Type 0
+AnyWorkers =
+    (ws vs : List (List ℕ)) (steps w v budget : ℕ) (events : Bool) (bytes text other : List ℕ)
+    (s t : Status) →
+    IsCommand ws (run steps w budget events) → IsCommand vs (run steps v budget events) →
+    IsOutput ws bytes text s → IsOutput vs bytes other t → (text ≡ other) × (s ≡ t)
+
 -- the text of a module that is shown is a module that is shown by the same text, or a token of it is nested too deep
 abbrev pub ShownAgain : Type 0
 ShownAgain = (bytes text : List ℕ) → ShowsModule bytes text status.Done →

@@ -79,7 +79,10 @@ fn answer_steps(
 {
     accepted_law();
     match check(alloc, m, options.budget) {
-        Ok(_) => answer_outcome(alloc, m, options),
+        Ok(accepted) => {
+            drop(accepted);
+            answer_outcome(alloc, m, options)
+        }
         Err(fault) => answer_refusal(alloc, bytes, &m.families, options.budget, fault),
     }
 }

@@ -12,5 +12,5 @@ mod running;
 mod status;
 mod texts;
 
-pub use run::{audited_again, completeness, meanings, one_output, shown_again, top};
+pub use run::{any_workers, audited_again, completeness, meanings, one_output, shown_again, top};
 pub use status::Status;

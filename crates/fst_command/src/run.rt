@@ -7,7 +7,7 @@ ghost use Rattle.fst_options.specs.Views.{command_of};
 ghost use Rattle.fst_options.specs.Words.{IsWithin};
 ghost use Rattle.fst_command.specs.Complete.{AreComplete, IsComplete};
 ghost use Rattle.fst_command.specs.Meanings.{Meanings};
-ghost use Rattle.fst_command.specs.Output.{AuditedAgain, OneOutput, ShownAgain, Writes};
+ghost use Rattle.fst_command.specs.Output.{AnyWorkers, AuditedAgain, OneOutput, ShownAgain, Writes};
 ghost use Rattle.fst_command.specs.Top.{IsAnswer, IsAnswered, ReadsFor, WantInput, WasCut, WasWritten, reads_input};
 
 use crate::answer::{Answer, answer_equiv, answer_show, fixed};
@@ -17,7 +17,10 @@ use crate::checks::answer_check;
 use crate::running::{answer_make, answer_run};
 use crate::status::Status;
 use fst_base::MOST_BYTES;
-use fst_buffered::{least_law, safety_law as buffered_safety_law, sound_law as buffered_sound_law};
+use fst_buffered::{
+    least_law, one_end_law as buffered_one_end_law, safety_law as buffered_safety_law,
+    sound_law as buffered_sound_law,
+};
 use fst_equiv::one_answer;
 use fst_execution::sound_law;
 use fst_io::{Gate, ReadFault, Sink, Source, WriteFault, read_all, write_all};
@@ -144,8 +147,10 @@ pub fn top<R: Threads + Sync, S: Source, K: Sink, G: Gate + Sync>(
     ensures answered { IsAnswer result → WasWritten (map string_bytes words.now)
         (S.left source.old) (S.left source.new) (K.taken sink.old) (K.taken sink.new) result }
 
-    // Where what is left of the source is known, and stands for a module that has plain derivations within the limits, an answer of
-    // `check` is that the module is accepted, and one of `run` is what its steps come to, where channels hold events too.
+    // Where what is left of the source is known, and is a question of two session types within the limits that isn't spent, an answer of
+    // `equiv` is a yes or a no; where it is a module as the grammar has it, one of `show` is its text; and where it stands for a module
+    // that has plain derivations within the limits, one of `check` is that this is accepted, and one of `run` is what its steps come to,
+    // where channels hold events too.
     ensures complete { IsAnswer result →
         IsComplete (map string_bytes words.now) (S.left source.old) result }
 
@@ -183,8 +188,8 @@ pub fn top<R: Threads + Sync, S: Source, K: Sink, G: Gate + Sync>(
 }
 
 /// Words and bytes have at most one output, whatever the number of workers and how much channels hold: what is written is a function
-/// of what was read. The one choice that the definitions leave is which certificate `equiv` writes; this program's comes of the words
-/// and the bytes alone, too.
+/// of what was read. The one choice that the definitions leave is which certificate `equiv` writes; this program's may depend on the
+/// memory that there is.
 pub fn one_output()
     ensures { OneOutput }
 {
@@ -198,6 +203,13 @@ pub fn one_output()
     one_end_law();
     one_list_law();
     least_law();
+}
+
+/// Any number of workers writes the same.
+pub fn any_workers()
+    ensures { AnyWorkers }
+{
+    one_output();
 }
 
 /// What `show` writes of a module it writes again, as far as its limits go.
@@ -226,17 +238,21 @@ pub fn meanings()
     one_lexing();
     one_module();
     safety_law();
+    complete_law();
     sound_law();
+    one_end_law();
     buffered_safety_law();
     buffered_sound_law();
+    buffered_one_end_law();
 }
 
-/// Of bytes that stand for a module which has plain derivations within the limits `check` says that the module is accepted, and
-/// `run` what its steps come to, where channels hold events too.
+/// Of bytes within the limits `equiv` answers a question that isn't spent, `show` writes a module's text, `check` says that a module
+/// which has plain derivations is accepted, and `run` what its steps come to, where channels hold events too.
 pub fn completeness()
     ensures { AreComplete }
 {
     one_lexing();
+    one_reading();
     one_module();
     one_module_law();
     complete_law();

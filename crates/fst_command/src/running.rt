@@ -279,7 +279,10 @@ fn answer_steps<R: Threads + Sync, G: Gate + Sync>(
 {
     accepted_law();
     match check(alloc, m, options.budget) {
-        Ok(_) => answer_outcome(rt, alloc, form, m, options, gate),
+        Ok(accepted) => {
+            drop(accepted);
+            answer_outcome(rt, alloc, form, m, options, gate)
+        }
         Err(fault) => answer_refusal(alloc, bytes, &m.families, options.budget, fault),
     }
 }

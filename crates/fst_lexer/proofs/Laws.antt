@@ -5,6 +5,8 @@ use Rattle.std.specs.List.{list_all}
 use Rattle.fst_lexer.specs.Classes.{is_among, is_digit}
 use Rattle.fst_lexer.proofs.ByteLaws.{figures}
 use Rattle.fst_lexer.proofs.ClassLaws.{each}
+-- a text has at most one token more than bytes
+pub use Rattle.fst_lexer.proofs.FewLaws.{few_tokens}
 
 -- a number of 64 bits is written in digits
 pub digits_alone : (n : ℕ) → n < 2 ^ 64 → list_all is_digit (decimal n) ≡ true

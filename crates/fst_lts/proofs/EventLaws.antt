@@ -7,7 +7,7 @@ use Rattle.fst_types.specs.declared.label.Label.{Label}
 use Rattle.fst_types.specs.declared.label.Label.TheVariants.{Send, Receive, Select, Offer, Close, Wait, Var}
 use Rattle.fst_lts.specs.Step.{step, terminated, labels, choice_labels}
 use Rattle.fst_lts.specs.Dual.{dual, dual_label}
-use Rattle.fst_lts.specs.Histories.{sending, receiving, over, after_event, after_history}
+use Rattle.fst_lts.specs.Histories.{is_output, sending, receiving, over, after_event, after_history}
 use Rattle.fst_base.specs.Agreement.{residual}
 use Rattle.fst_lts.proofs.AgreementLaws.{no_step}
 use Rattle.fst_lts.proofs.DualLaws.{residual-dual}
@@ -70,16 +70,6 @@ in_front s a t e = subst (λ ls. Contains ls a) (front s).1 ((labels_are_moves s
     there : Option Tree → Bool
     there None = false
     there (Some x) = true
-
--- something is sent by the label, or the protocol closed
-abbrev pub is_output : Label → Bool
-is_output (Send b) = true
-is_output (Receive b) = false
-is_output (Select l) = true
-is_output (Offer l) = false
-is_output Close = true
-is_output Wait = false
-is_output (Var k) = false
 
 choice_label : (make : List ℕ → Label) (bs : Branches) (a : Label) → Contains (choice_labels make bs) a → (l : List ℕ) ×
     (make l ≡ a)

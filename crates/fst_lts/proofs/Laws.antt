@@ -20,8 +20,8 @@ use Rattle.fst_lts.proofs.AgreementLaws as agreement
 pub use Rattle.fst_lts.proofs.DualLaws.{dual-dual, dual-dual_option, dual_label-dual_label}
 -- behind a label by which no protocol ends the second part of a sequence is left, and behind an end nothing is
 pub use Rattle.fst_lts.proofs.MoveLaws.{followed_on, followed_ended}
--- outputs, and that a type moves by outputs alone or by none; what is sent is an output, what is received is none
-pub use Rattle.fst_lts.proofs.EventLaws.{is_output, one_direction, sending_output, receiving_output}
+-- a type moves by outputs alone or by none; what is sent is an output, what is received is none
+pub use Rattle.fst_lts.proofs.EventLaws.{one_direction, sending_output, receiving_output}
 -- a type that receives an event doesn't send it; one that receives a value or waits for the end moves by no other label, and one
 -- that offers a branch by branches alone
 pub use Rattle.fst_lts.proofs.EventLaws.{not_both, one_message, one_wait, one_offer}

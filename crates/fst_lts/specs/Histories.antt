@@ -1,5 +1,5 @@
 -- What passes over channels: the labels of events, residuals of ends, and traces.
-use Rattle.std.specs.Prelude.{ℕ, zero, Option, Some, None, List, [], ◌∷◌, ⊤}
+use Rattle.std.specs.Prelude.{ℕ, zero, Option, Some, None, List, [], ◌∷◌, ⊤, Bool as Truth, true, false}
 use Rattle.fst_types.specs.Tree.{Tree}
 use Rattle.fst_types.specs.declared.base.Base.TheVariants as base
 use Rattle.fst_types.specs.declared.label.Label.{Label}
@@ -30,6 +30,16 @@ receiving (Char c) = label.Receive base.Char
 receiving Unit = label.Receive base.Unit
 receiving (Branch l) = label.Offer l
 receiving Closed = label.Wait
+
+-- an output: something is sent by the label, or the protocol closed
+abbrev pub is_output : Label → Truth
+is_output (label.Send b) = true
+is_output (label.Receive b) = false
+is_output (label.Select l) = true
+is_output (label.Offer l) = false
+is_output label.Close = true
+is_output label.Wait = false
+is_output (label.Var k) = false
 
 -- an input: something is received by the label, or it waits for the end
 abbrev pub IsInput : Label → Type 0

@@ -8,22 +8,46 @@ ghost use Rattle.fst_types.specs.declared.label.Label.{Label};
 ghost use Rattle.fst_kinds.specs.Contractive.{IsContractive};
 ghost use Rattle.fst_kinds.specs.WellFormed.{IsSession};
 ghost use Rattle.fst_lts.specs.Step.{step, terminated};
-ghost use Rattle.fst_base.specs.Agreement.{residual, Agree, AgreeTo, HaveSameTracesTo};
+ghost use Rattle.fst_base.specs.Agreement.{residual, Agree, AgreeTo, HaveSameTracesTo, IsBisimulation};
 ghost use Rattle.fst_lts.specs.Dual.{dual, dual_label};
+ghost use Rattle.fst_lts.specs.Histories.{is_output, after_history};
 ghost use Rattle.fst_lts.specs.Moves.{Moves};
+ghost use Rattle.fst_types.specs.declared.event.Entry.{Entry};
+
+/// A relation between types, which is whatever a proof that calls `bisimulation_law` takes for it.
+pub trait Relation {
+    ghost related: { Tree → Tree → Type 0 };
+}
+
+/// Agreement at every depth is the greatest bisimulation (Park, 1981): it is one, and each one is within it.
+pub fn bisimulation_law<R: Relation>()
+    ensures agreement { IsBisimulation step step (Agree step step) }
+    ensures greatest { IsBisimulation step step R.related →
+        (s r : Tree) → R.related s r → Agree step step s r }
+{}
 
 /// Two types agree to a depth exactly where they perform the same traces of at most that many labels.
 pub fn depth_law()
     ensures { (n : ℕ) (s r : Tree) → AgreeTo step step n s r ↔ HaveSameTracesTo step step n s r }
 {}
 
-/// The dual of the dual is the type itself, and so it is for labels; and what the dual leaves after the dual trace is
-/// the dual of what the type leaves after the trace.
+/// The labels of a type are all outputs, or none is one: an end whose residual isn't terminated sends or receives,
+/// and never may do both.
+pub fn direction_law()
+    ensures { (s t u : Tree) (a b : Label) → step s a ≡ Some t → step s b ≡ Some u →
+        is_output a ≡ is_output b }
+{}
+
+/// The dual of the dual is the type itself, and so it is for labels; what the dual leaves after the dual trace is the
+/// dual of what the type leaves after the trace; and so what a history leaves of the right end is the dual of what it
+/// leaves of the left one.
 pub fn dual_law()
     ensures involution { (s : Tree) → dual (dual s) ≡ s }
     ensures labels { (a : Label) → dual_label (dual_label a) ≡ a }
     ensures residuals { (trace : List Label) (s : Tree) →
         residual step (dual s) (map dual_label trace) ≡ option_map dual (residual step s trace) }
+    ensures histories { (s : Tree) (history : List Entry) →
+        after_history (dual s) history ≡ option_map dual (after_history s history) }
 {}
 
 /// The steps of a contractive type without free recursion variables are its moves by the rules, where a recursive

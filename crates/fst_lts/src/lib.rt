@@ -13,6 +13,9 @@ pub use depth::agree_to;
 pub use duality::{dual, dual_label};
 pub use events::{receiving_label, sending_label};
 pub use fault::StepFault;
-pub use law::{agreement_law, depth_law, dual_law, moves_law, unfolding_law};
+pub use law::{
+    Relation, agreement_law, bisimulation_law, depth_law, direction_law, dual_law, moves_law,
+    unfolding_law,
+};
 pub use limited::step_within_limit;
 pub use moves::{is_end, labels, residual, step, terminated};

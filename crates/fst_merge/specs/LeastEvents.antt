@@ -22,6 +22,8 @@ pub record AreEventsOf (m : Module) (main : CoreTree) (es : List Stamped) : Type
   pub last : IsLast (program m) m.types.items config
   pub arranged : IsArranged run es
   pub sorted : AreSorted es
+  -- in this order they are a run, too
+  pub in_order : RunsAt (program m) m.types.items (started main) es config
 
 -- the sorted events of whichever run of a module with derivations that comes to an end are these
 abbrev pub SortedLaw : Type 0

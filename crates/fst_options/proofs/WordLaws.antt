@@ -230,8 +230,10 @@ no_options rest runs buffers (buffered s k b) q = buffers s k b q.1
 pub run_without_proof : (k : ℕ) (rest : List (List ℕ)) (g : Given) → Give k none_given rest g → (g.proof ≡ false → ⊥) →
     NoCommand (codes "run" ∷ rest)
 run_without_proof k rest g is none = no_options rest
-    (λ s w b e q. none (subst (λ (v : Given). v.proof ≡ false) (one_giving q.count k none_given rest q.values g q.give is) q.no_proof))
-    (λ s c b q. none (subst (λ (v : Given). v.proof ≡ false) (one_giving q.count k none_given rest q.values g q.give is) q.no_proof))
+    (λ s w b e q. none (subst (λ (v : Given). v.proof ≡ false)
+    (one_giving q.count k none_given rest q.values g q.give is) q.no_proof))
+    (λ s c b q. none (subst (λ (v : Given). v.proof ≡ false)
+    (one_giving q.count k none_given rest q.values g q.give is) q.no_proof))
 
 -- and those that set how many events a channel holds, and workers too, or ask for events
 pub buffered_alone : (k c : ℕ) (rest : List (List ℕ)) (g : Given) → Give k none_given rest g → g.buffer ≡ Some c →

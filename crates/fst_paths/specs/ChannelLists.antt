@@ -47,7 +47,9 @@ abbrev pub put_channel : {V : Type 0} → ChannelName → V →
 put_channel h j js g = if same_channel h g then Some j else js g
 
 -- in a list of channels what is seen of the one with this number is changed, if it is there
-pub record IsChangedAt {X V : Type 0} (view : X → V) (n : ℕ) (f : V → V) (old new : List X) : Type 0 where
+pub record IsChangedAt {X V : Type 0} (view : X → V) (n : ℕ) (f : V → V)
+    (old new : List X) : Type 0 where
   pub channels : (i : ℕ) → option_map view (numbered new i) ≡
-      (if nat_eq n i then option_map f (option_map view (numbered old i)) else option_map view (numbered old i))
+      (if nat_eq n i then option_map f (option_map view (numbered old i)) else option_map view
+      (numbered old i))
   pub same_length : length new ≡ length old

@@ -41,12 +41,14 @@ none_event k p none =
 
 -- what is kept once what a task asks for is noted, and it is put in
 pub settled_now : (n types : ℕ) (q : Path) (s : Slot) (k new : Config) → n ≡ types → q ≡ s.task.path →
-    kept_besides new.channels.by_maker.entries new.ready.keys ≡ noted n q s.request (kept_besides k.channels.by_maker.entries k.ready.keys) →
+    kept_besides new.channels.by_maker.entries new.ready.keys ≡ noted n q s.request
+    (kept_besides k.channels.by_maker.entries k.ready.keys) →
     (kept_of new).tasks ≡ put_at s.task.path (Some s) (kept_of k).tasks → kept_of new ≡ settled types s (kept_of k)
 settled_now n types q s k new len is noting putting =
     let mid = kept_in (kept_of k).tasks new.channels.by_maker.entries new.ready.keys in
     settled_after types s (kept_of k) mid (kept_of new)
-    (noted_in n q k.channels.by_maker.entries new.channels.by_maker.entries k.ready.keys new.ready.keys (kept_of k).tasks s.request noting
+    (noted_in n q k.channels.by_maker.entries new.channels.by_maker.entries k.ready.keys new.ready.keys
+    (kept_of k).tasks s.request noting
     ∙ (λ i. noted (len i) (is i) s.request (kept_of k)))
     (λ i. record { tasks = putting i; channels = mid.channels; made = mid.made; ready = mid.ready })
 

@@ -63,7 +63,8 @@ pub(crate) fn note(
     request: &Request,
 ) -> Result<(), AllocError>
     ensures { OnOk result (kept_besides channels.new.by_maker.entries ready.new.keys ≡
-        noted types path.now request.now (kept_besides channels.old.by_maker.entries ready.old.keys)) }
+        noted types path.now request.now (kept_besides channels.old.by_maker.entries
+        ready.old.keys)) }
 {
     match request {
         Request::Step => insert_path(alloc, ready, path),

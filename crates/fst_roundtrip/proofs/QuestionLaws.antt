@@ -14,6 +14,7 @@ use Rattle.fst_types.specs.WrittenTree.{WrittenTree}
 use Rattle.fst_types.specs.declared.kind.Kind.{Kind}
 use Rattle.fst_kinds.specs.WellFormed.{IsSession}
 use Rattle.fst_lexer.specs.declared.token.Token.{Token}
+use Rattle.fst_lexer.specs.Lexes.{Lexes}
 use Rattle.fst_lexer.specs.Spelling.{SpellingLaw, TokenWords}
 use Rattle.fst_terms.specs.declared.binder.Binder.{Binder}
 use Rattle.fst_terms.specs.Naming.{Scope, place, type_of}
@@ -177,9 +178,10 @@ record IsAskable (kinds : List Kind) (t u : Tree) : Type 0 where
   right_within : 1 + seq_depth (as_written [] 0 u) ≤ most_nested
 
 askable : (text : List ℕ) (tokens : List Token) (q : Asked) (kinds : List Kind) (t u : Tree) → length text ≤ most_bytes →
-    AreMade (lexemes text tokens) → AnswersQuestion text tokens (Ok q) → IsQuestionOf q kinds t u → IsSession kinds t →
+    Lexes text tokens → AreMade (lexemes text tokens) → AnswersQuestion text tokens (Ok q) → IsQuestionOf q kinds t u →
+    IsSession kinds t →
     IsSession kinds u → IsAskable kinds t u
-askable text tokens q kinds t u short made answers asks one other =
+askable text tokens q kinds t u short lexes made answers asks one other =
     let b = answers.1.0 in
     let d : IsQuestion b.tokens q = b.phrase.0 in
     let all : AreMade (b.tokens ++ answers.0) = subst AreMade b.parts made in
@@ -187,7 +189,7 @@ askable text tokens q kinds t u short made answers asks one other =
     let few : length kinds < 2 ^ 64 = omega (
       arith,
       short,
-      few_variables text (take (length tokens - 1) tokens) b.tokens answers.0 q b.parts all d asks.once,
+      few_variables text tokens b.tokens answers.0 q lexes b.parts d,
       ap length asks.kinds_are,
       length-map q.binders (λ (x : Binder × Kind). x.1),
     ) in
@@ -218,7 +220,7 @@ pub asked_again_law : SpellingLaw → TokenWords → AskedAgain
 asked_again_law spelling token_words text tokens q kinds t u short lexes answers asks one other =
     let made : AreMade (lexemes text tokens) = recursion_from_All IsMade (lexemes text tokens)
     (All-map IsMade (lexeme text) (take (length tokens - 1) tokens) (token_words text tokens lexes)) in
-    let h = askable text tokens q kinds t u short made answers asks one other in
+    let h = askable text tokens q kinds t u short lexes made answers asks one other in
     let found = text_read spelling (question_text kinds t u) (text_shown kinds t u h.few h.left h.right) in
     record {
       tokens = found.tokens;

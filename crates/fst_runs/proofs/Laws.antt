@@ -22,7 +22,7 @@ pub use Rattle.fst_runs.proofs.HeldAfter.{after_none, child_none}
 -- What is left at one side is the dual of what is left at the other.
 pub use Rattle.fst_runs.proofs.HistoryLaws.{residual-opposite}
 -- Where nothing has gone wrong, two tasks don't ask at one end nor send or receive at both, and one that sends meets one that receives.
-pub use Rattle.fst_runs.proofs.RightLaws.{right_one, right_there, right_opposed, right_received, right_meets}
+pub use Rattle.fst_runs.proofs.RightLaws.{no_two_sends, right_one, right_there, right_opposed, right_received, right_meets}
 -- The least run is a run.
 pub use Rattle.fst_runs.proofs.LeastRuns.{least_runs}
 -- A log that leads to a task leads with an entry of this task more to the task after the entry; each channel that is made has a type still where the next one has, and none is opened where none is made.

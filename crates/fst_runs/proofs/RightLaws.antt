@@ -8,7 +8,7 @@ use Rattle.fst_types.specs.declared.label.Label.{Label}
 use Rattle.fst_types.specs.declared.label.Label.TheVariants.{Send, Receive, Select, Offer, Close, Wait, Var}
 use Rattle.fst_lts.specs.Step.{step}
 use Rattle.fst_lts.specs.Dual.{dual, dual_label}
-use Rattle.fst_lts.specs.Histories.{sending, receiving, IsInput}
+use Rattle.fst_lts.specs.Histories.{is_output, sending, receiving, IsInput}
 use Rattle.fst_terms.specs.CoreTree.{CoreArms}
 use Rattle.fst_types.specs.declared.ends.EndName.{EndName}
 use Rattle.fst_types.specs.declared.event.Event.{Event}
@@ -18,7 +18,7 @@ use Rattle.fst_machine.specs.declared.request.Request.TheVariants.{Put, Get}
 use Rattle.fst_machine.specs.declared.request.Answer.TheVariants.{Sent, Got}
 use Rattle.fst_machine.specs.Values.{Environment}
 use Rattle.fst_machine.specs.Machine.{Program, State, Frame, Pause, matches, pause, asked, after, answered}
-use Rattle.fst_lts.proofs.Laws.{is_output, one_direction, sending_output, receiving_output, dual_step, dual_sends, dual_label-dual_label}
+use Rattle.fst_lts.proofs.Laws.{one_direction, sending_output, receiving_output, dual_step, dual_sends, dual_label-dual_label}
 use Rattle.fst_runs.specs.Configs.{Path, Task, Channel, Config, same_path, other, residual_in, channel_residual}
 use Rattle.fst_runs.specs.Events.{Asks}
 use Rattle.fst_runs.specs.Wrong.{held_state, amount, IsUnspent, IsAllowed, IsRight, end_of}
@@ -29,7 +29,7 @@ use Rattle.fst_runs.proofs.NameLaws.{same_path-same}
 use Rattle.fst_runs.proofs.Owners.{owner, allowed_unspent, asks_held}
 
 -- where a type sends, its dual doesn't
-no_two_sends : (s t u : Tree) (ev ew : Event) → step s (sending ev) ≡ Some t → step (dual s) (sending ew) ≡ Some u → ⊥
+pub no_two_sends : (s t u : Tree) (ev ew : Event) → step s (sending ev) ≡ Some t → step (dual s) (sending ew) ≡ Some u → ⊥
 no_two_sends s t u ev ew e f =
     let z = mapped_some dual (step s (receiving ew)) u (sym (dual_sends s ew) ∙ f) in
     let d = one_direction s t z.0 (sending ev) (receiving ew) e z.1 in

@@ -147,7 +147,8 @@ module _ (m : Surroundings) (well : IsWellTyped m) (s : State) (t : Tree) where
         (pause m.families s) b is go) (pause_goes m well r s t typed) e
       where
         go : (f : CoreTree) (env : Environment) (fs : List Frame) → record { term = f; environment = env; frames = [] } ≡ b →
-            Reached m r (forks f env fs) t (λ z. held_state z s) → after (program_in m) (forks f env fs) Forked ≡ Some s' → Parts r b
+            Reached m r (forks f env fs) t (λ z. held_state z s) → after (program_in m) (forks f env fs) Forked ≡ Some s' →
+            Parts r b
         go f env fs q h told =
             let c = child_goes m well r f env fs t h.0 in
             let o = subst (λ w. Goes m r w t (λ z. held_frames z fs)) (some_same told) (parent_goes m well r f env fs t h.0) in

@@ -153,7 +153,8 @@ module _ (m : Surroundings) (well : IsWellTyped m) (a : Tree) (x : Thread) (fits
         let one = held_once m a x fits g enters n e f bag retired moved refl refl allowed.0 allowed.1 was is refl past refl
         refl in
         let h = exchange m a x fits g enters n e f bag retired moved refl refl allowed.0 allowed.1 was is refl past refl refl in
-        let goes = sent_typed m well x.now.state fits.typed.type (after_entry (program_in m) x.now g).state fits.typed.residuals _ n
+        let goes = sent_typed m well x.now.state fits.typed.type
+        (after_entry (program_in m) x.now g).state fits.typed.residuals _ n
         taken.event allowed.0 allowed.1 fits.typed.typed asks one h.0 allowed.3 h.1 h.2 there in
         record {
           fits = exchanged_fits m a x fits g enters n e f bag retired moved refl refl allowed.0 allowed.1 was is refl past refl
@@ -194,7 +195,8 @@ module _ (m : Surroundings) (well : IsWellTyped m) (a : Tree) (x : Thread) (fits
         refl refl in
         let h = exchange m a x fits taking enters_taking n e f bag retired moved refl refl by.0 by.1 by.2 is_then refl past refl
         refl in
-        let goes = got_typed m well x.now.state fits.typed.type (after_entry (program_in m) x.now taking).state fits.typed.residuals
+        let goes = got_typed m well x.now.state fits.typed.type
+        (after_entry (program_in m) x.now taking).state fits.typed.residuals
         _ n taken.event by.0 by.1 fits.typed.typed asks one h.0 by.3 h.1 h.2 there_taking in
         record {
           fits = exchanged_fits m a x fits taking enters_taking n e f bag retired moved refl refl by.0 by.1 by.2 is_then refl past

@@ -188,8 +188,11 @@ module _ (m : Surroundings) (well : IsWellTyped m) (a : Tree) (c : Config) (p q 
       by : (z : EndName) → (z ≡ x) ⊎ ((z ≡ y) ⊎ (r' z ≡ r z)) →
           (z ≡ x) ⊎ ((IsUnspent r z × (held_state z w.state ≡ 0)) ⊎ (r' z ≡ r z))
       by z (inl f) = inl f
-      by z (inr (inl f)) = inr (inl
-          (subst (IsUnspent r) (sym f) y_unspent, ap (λ v. held_state v w.state) f ∙ sym (ap (λ z. amount y z) i) ∙ y_owned.1 o g))
+      by z (inr (inl f)) = inr (inl (
+        subst (IsUnspent r) (sym f) y_unspent,
+        ap (λ v. held_state v w.state) f ∙ sym (ap (λ z. amount y z) i)
+            ∙ y_owned.1 o g,
+      ))
       by z (inr (inr f)) = inr (inr f)
 
   names : HasMakers d × HasParents d

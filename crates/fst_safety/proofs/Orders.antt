@@ -25,10 +25,8 @@ start_sound m ds h e q =
 
 -- two different events that are possible after a run commute
 pub events_commute : DiamondLaw
-events_commute m ds h e q es c r a b v w da db n =
-    let s = start_sound m ds h e q in
-    let k = runs_sound (surroundings m []) (checked m ds h) s.0 es (started e) c s.1 r in
-    commute (program m) m.types.items c a b v w (sound_regular (surroundings m []) (checked m ds h) s.0 c k) da db n
+events_commute m types c right makers parents a b v w da db n =
+    commute m types c a b v w (record { fine = right; makers = makers; parents = parents }) da db n
 
 -- runs that come to an end have one length and one end, and no run is longer
 pub one_end : OneEnd

@@ -63,7 +63,8 @@ is_declared m r (ended v) t j h e = absurd (cc e)
 pub declarable : (k : Code) (a : Tree) (t : TypedTask) (x : Thread) → Fits k a t x →
     (j : ℕ) → AsksNow k t (request.New j) → IsDeclarable k j
 declarable k a t x f j now =
-    let p = (pause_goes (module_of k) (checked k.module.value f.code.derivations f.code.derived) f.fits.typed.residuals x.now.state
+    let p = (pause_goes (module_of k) (checked k.module.value f.code.derivations f.code.derived) f.fits.typed.residuals
+    x.now.state
     f.fits.typed.type f.fits.typed.typed).0 in
     let d = is_declared (module_of k) f.fits.typed.residuals
     (pause k.module.value.families.items x.now.state) f.fits.typed.type j p (asks_it k a t x f (request.New j) now) in

@@ -10,6 +10,8 @@ use Rattle.fst_runs.specs.declared.event.CoreEvent.{CoreEvent}
 use Rattle.fst_runs.specs.declared.event.Stamped.{Stamped}
 use Rattle.fst_runs.specs.Configs.{Config, program, main_body, started}
 use Rattle.fst_runs.specs.Events.{Write, written, Does, Runs, IsLast}
+use Rattle.fst_runs.specs.Names.{HasMakers, HasParents}
+use Rattle.fst_runs.specs.Wrong.{IsRight}
 use Rattle.fst_runs.specs.Order.{AreSorted}
 use Rattle.fst_runs.specs.StampedRuns.{RunsAt}
 
@@ -18,15 +20,12 @@ abbrev pub Commutes : Program → List Tree → Config → CoreEvent → Write �
 Commutes m types c a v b w = Does m types (written c v) b w × Does m types (written c w) a v ×
     (written (written c v) w ≡ written (written c w) v)
 
--- after any run of a module that has derivations, two different events that are possible commute
+-- two different events that are possible in a configuration that isn't wrong, whose names are those that counts have given, commute
 abbrev pub DiamondLaw : Type 0
-DiamondLaw =
-    (m : Module) (ds : List Deriv) → HasDerivations m ds →
-    (e : CoreTree) → main_body m.globals.items ≡ Some e →
-    (es : List CoreEvent) (c : Config) → Runs (program m) m.types.items (started e) es c →
-    (a b : CoreEvent) (v w : Write) → Does (program m) m.types.items c a v →
-    Does (program m) m.types.items c b w → (a ≡ b → ⊥) →
-    Commutes (program m) m.types.items c a v b w
+DiamondLaw = (m : Program) (types : List Tree) (c : Config) → IsRight m c → HasMakers c →
+    HasParents c →
+    (a b : CoreEvent) (v w : Write) → Does m types c a v → Does m types c b w → (a ≡ b → ⊥) →
+    Commutes m types c a v b w
 
 -- where a run of such a module comes to an end, none is longer, and each that does is as long and ends in the same configuration
 abbrev pub OneEnd : Type 0

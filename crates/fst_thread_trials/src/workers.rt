@@ -6,6 +6,7 @@ use std::alloc::{AllocError, Global};
 use std::sync::atomic::{AtomicU32, Ordering};
 use std::test::Fail;
 use std::thread;
+use std::thread::Threads;
 
 // How often a worker looks at most whether it may go on.
 const MOST_LOOKS: u32 = 100_000_000;
@@ -95,12 +96,19 @@ fn words(alloc: Global, list: &[&str]) -> Result<Vec<String>, AllocError> {
 const SOURCE: &[u8] =
     b"main : Int\nmain = let (a, b) = new !Int in fork (send 42 a); let (x, c) = receive b in x\n";
 
-// What a run writes of it.
+// What a run writes of it, and what stands behind that where its events are asked for.
 const REPORT: &[u8] = b"result 42\nchannel 0#1 : !Int\nhistory 0#1 : !42\n";
 
-#[test]
-fn workers_run_at_one_time(rt: HostRuntime) -> Result<(), Fail> {
-    let alloc = rt.alloc();
+const EVENTS: &[u8] = b"event 1 new 0 0#1\nevent 2 fork 0 0.1\nevent 3 meet 0#1 0.1 0\n";
+
+// Runs the source on two workers that a gate watches: what is written is the report with these lines behind it, no share has
+// waited in vain, and the forked task made its first turn on the second share.
+fn run_watched<R: Threads + Sync>(
+    rt: &R,
+    alloc: Global,
+    list: &[&str],
+    behind: &[u8],
+) -> Result<(), Fail> {
     let watch = Watch::new();
     let mut source = SteadySource {
         bytes: SOURCE.to_vec(alloc)?,
@@ -109,12 +117,25 @@ fn workers_run_at_one_time(rt: HostRuntime) -> Result<(), Fail> {
     let mut sink = SteadySink {
         bytes: Vec::new(alloc),
     };
-    let words = words(alloc, &["run", "--workers", "2"])?;
-    let status = top(&rt, alloc, &words, &mut source, &mut sink, &watch);
-    assert!(rt; status == Status::Done && sink.bytes.as_slice() == REPORT);
-    assert_eq!(rt; watch.failures.load(Ordering::SeqCst), 0);
-    assert_eq!(rt; watch.first.load(Ordering::SeqCst), 2);
-    assert_eq!(rt; watch.turns[0].load(Ordering::SeqCst), 3);
-    assert_eq!(rt; watch.turns[1].load(Ordering::SeqCst), 2);
+    let words = words(alloc, list)?;
+    let status = top(rt, alloc, &words, &mut source, &mut sink, &watch);
+    let mut wanted = REPORT.to_vec(alloc)?;
+    wanted.extend_from_slice(behind)?;
+    if status != Status::Done || sink.bytes.as_slice() != wanted.as_slice() {
+        return Err(Fail::new("something else is written"));
+    }
+    if watch.failures.load(Ordering::SeqCst) != 0 || watch.first.load(Ordering::SeqCst) != 2 {
+        return Err(Fail::new("the forked task wasn't moved by the second share"));
+    }
+    if watch.turns[0].load(Ordering::SeqCst) != 3 || watch.turns[1].load(Ordering::SeqCst) != 2 {
+        return Err(Fail::new("the gate was told of other turns"));
+    }
     Ok(())
+}
+
+#[test]
+fn workers_run_at_one_time(rt: HostRuntime) -> Result<(), Fail> {
+    let alloc = rt.alloc();
+    run_watched(&rt, alloc, &["run", "--workers", "2"], b"")?;
+    run_watched(&rt, alloc, &["run", "--workers", "2", "--events"], EVENTS)
 }

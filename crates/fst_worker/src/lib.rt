@@ -18,6 +18,5 @@ pub use law::{
     answer_law, apart_law, begin_law, least_law, order_law, pair_law, pool_law, record_law,
     resume_law, right_law, send_law, sound_law, tell_law, went_law,
 };
-pub use rounds::round;
 pub use shares::Share;
 pub use workers::{Logged, run_logged, run_workers};

@@ -97,40 +97,19 @@ fn answer(shares: &[Share]) -> Result<bool, AllocError>
     Ok(some_moved(shares))
 }
 
-/// Moves the tasks of each share in a worker of its own: a share passes over its tasks in their order and moves each as far as
-/// it can, until a pass moves none, or its events or the clock of one of its tasks exceed the steps, or too much was tried in
-/// vain. A task that is forked goes to `forked` and isn't moved, and one whose value is there goes to `ended`. No task is lost
-/// where memory is wanting, which a share tells by `refused`.
-///
-/// The answer is whether a share made an event, an offer or a notice.
-pub fn round<R: Threads + Sync, G: Gate + Sync>(
-    rt: &R,
-    code: &Code,
-    shares: &mut Vec<Share>,
-    steps: u64,
-    gate: &G,
-) -> Result<bool, AllocError>
-    requires steps { steps < 4294967295 }
-    requires fit { CanMove code.now shares.old.items }
-    requires none_forked { All (λ (s : Shared). s.forked.items ≡ []) shares.old.items }
-    ensures went { GoOn code.now shares.old.items shares.new.items }
-    ensures runs { RunsAll code.now steps shares.old.items shares.new.items }
-    ensures lent { AreLent shares.old.items shares.new.items }
-    ensures counted { AreCounted shares.old.items shares.new.items }
-    ensures told { AreTold shares.old.items shares.new.items }
-    ensures answer { IsAnswer result shares.new.items }
-{
-    let tries = tries_of(shares.as_slice(), Progress::start());
-    round_after(rt, code, shares, steps, &tries, gate)
-}
-
 /// What the shares of a round know of one another at its beginning, when the rounds of the run have come so far.
 pub(crate) fn tries_of(shares: &[Share], so_far: Progress) -> Tries {
     Tries::new(shares.len(), WORKERS, so_far)
 }
 
-/// The same, where the shares know this of one another and of the rounds before.
-pub(crate) fn round_after<R: Threads + Sync, G: Gate + Sync>(
+/// Moves the tasks of each share in a worker of its own: a share passes over its tasks in their order and moves each as far as
+/// it can, until a pass moves none, or its events or the clock of one of its tasks exceed the steps, or too much was tried in
+/// vain. A task that is forked goes to `forked` and isn't moved, and one whose value is there goes to `ended`. No task is lost
+/// where memory is wanting, which a share tells by `refused`.
+///
+/// The answer is whether a share made an event, an offer or a notice. `tries` is what the shares know of one another and of the
+/// rounds before.
+pub(crate) fn round<R: Threads + Sync, G: Gate + Sync>(
     rt: &R,
     code: &Code,
     shares: &mut Vec<Share>,

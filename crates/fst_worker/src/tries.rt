@@ -26,6 +26,8 @@ pub(crate) struct Progress {
     pub events: u64,
     /// The greatest clock that a task had after a round.
     pub clock: u64,
+    /// Whether a task was forked in the last round.
+    pub forked: bool,
     /// How many tries in vain there were.
     pub vain: u64,
 }
@@ -36,6 +38,7 @@ impl Progress {
         Progress {
             events: 0,
             clock: 0,
+            forked: true,
             vain: 0,
         }
     }
@@ -49,15 +52,18 @@ impl Progress {
     pub(crate) fn after(self, shares: &[Share], tries: &Tries) -> Progress {
         let mut events = self.events;
         let mut clock = self.clock;
+        let mut forked = false;
         for share in shares {
             events = events.saturating_add(share.events);
             clock = latest(share.tasks.as_slice(), clock);
             clock = latest(share.forked.as_slice(), clock);
             clock = latest(share.ended.as_slice(), clock);
+            forked = forked || share.forked.len() > 0;
         }
         Progress {
             events,
             clock,
+            forked,
             vain: tries.in_vain(),
         }
     }

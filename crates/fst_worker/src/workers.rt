@@ -6,7 +6,7 @@ ghost use Rattle.fst_worker.specs.Working.{IsLoggedOut, IsOnRecord, IsWholeRun, 
 
 use crate::dealing::{deal, gather};
 use crate::finishing::{finish, finish_logged};
-use crate::rounds::{round_after, tries_of};
+use crate::rounds::{round, tries_of};
 use crate::tries::Progress;
 use fst_io::Gate;
 use fst_machine::Code;
@@ -21,8 +21,8 @@ const ROUNDS: u64 = u64::MAX;
 // How much the clocks may grow in a round, but for one event: then the tasks that were forked in it move, too.
 const SLICE: u64 = 4096;
 
-// In the course of the run a slice grows by one for so many events, since each round starts threads.
-const GROWTH: u64 = 4;
+// Where nothing was forked in the last round they may grow by so many times what they are besides, since each round starts threads.
+const GROWTH: u64 = 3;
 
 /// What a run on several workers comes to, with the marks of what its tasks have done.
 #[derive(Drop)]
@@ -160,11 +160,16 @@ fn share_count(workers: usize, tasks: usize, is_first: bool) -> usize
     if count < workers { count } else { workers }
 }
 
-// The events and clocks that a round may come to where this is the greatest clock: a slice more, but no more than the steps.
-fn round_limit(steps: u64, clock: u64) -> u64
+// The events and clocks that a round may come to where the rounds have come so far: a slice more, but no more than the steps.
+fn round_limit(steps: u64, so_far: Progress) -> u64
     ensures { result ≤ steps }
 {
-    let limit = clock.saturating_add(SLICE).saturating_add(clock / GROWTH);
+    let growth = if so_far.forked {
+        0
+    } else {
+        so_far.clock.saturating_mul(GROWTH)
+    };
+    let limit = so_far.clock.saturating_add(SLICE).saturating_add(growth);
     if limit < steps { limit } else { steps }
 }
 
@@ -196,8 +201,8 @@ fn one_round<R: Threads + Sync, G: Gate + Sync>(
 {
     let mut shares = deal(alloc, tasks, count)?;
     let tries = tries_of(shares.as_slice(), so_far);
-    let limit = round_limit(steps, so_far.clock);
-    let moved = round_after(rt, code, &mut shares, limit, &tries, gate)?;
+    let limit = round_limit(steps, so_far);
+    let moved = round(rt, code, &mut shares, limit, &tries, gate)?;
     let so_far = so_far.after(shares.as_slice(), &tries);
     let tasks = gather(alloc, shares, ended)?;
     Ok(Round {

@@ -21,4 +21,5 @@ returns c =
     let f = with_changed (further c.args.side) in
     let one : suc (c.args.number - 1) ≡ c.args.number = omega arith in
     subst (λ n. IsChangedAt held_of n f js (slice_set js (c.args.number - 1) c.advance.new.channel)) one
-    (set_changed held_of js (c.args.number - 1) f x c.advance.new.channel (omega arith) c.index_mut.ensures.value c.advance.ensures)
+    (set_changed held_of js (c.args.number - 1) f x c.advance.new.channel
+    (omega arith) c.index_mut.ensures.value c.advance.ensures)

@@ -15,4 +15,5 @@ returns-clause-asked c =
     let one : suc (end.channel.count - 1) ≡ end.channel.count = omega arith in
     let same = c.set_asker.ensures ∙ ap (λ p. with_asker end.side (Some p) (channel_of x)) c.in_ok-own.ensures in
     subst (λ n. IsChangedAt channel_of n asked js (slice_set js (end.channel.count - 1) c.set_asker.new.channel)) one
-    (set_changed channel_of js (end.channel.count - 1) asked x c.set_asker.new.channel (omega arith) c.index_mut-channel.ensures.value same)
+    (set_changed channel_of js (end.channel.count - 1) asked x c.set_asker.new.channel
+    (omega arith) c.index_mut-channel.ensures.value same)

@@ -9,7 +9,8 @@ use Rattle.fst_process.proofs.notes.note_again.Goals as goal
 
 pub returns-then-moves_alone : goal.returns-then-moves_alone
 returns-then-moves_alone c =
-    still_noted c.args.types c.args.path.now c.args.request.now (kept_besides c.args.channels.now.by_maker.entries c.args.ready.now.keys)
+    still_noted c.args.types c.args.path.now c.args.request.now
+    (kept_besides c.args.channels.now.by_maker.entries c.args.ready.now.keys)
     (sym c.if-moves_alone.ensures) c.requires
 
 pub returns : goal.returns

@@ -72,7 +72,12 @@ returns-then-has_ended-clause-kept c =
     on_ok_weaker c.set_aside.result
     (λ e. subst (IsKept code capacity (k.events + count))
     (sym (settled_now code capacity c.len.result p p (slot_of slot) k
-    (record k { tasks = c.set_aside.new.self; channels = c.note.new.channels; ready = c.note.new.ready; events = k.events + count })
+    (record k {
+      tasks = c.set_aside.new.self;
+      channels = c.note.new.channels;
+      ready = c.note.new.ready;
+      events = k.events + count;
+    })
     (c.len.ensures ∙ code.types.ok.0) refl (e ∙ tasks) c.in_ok-note-in-Some.ensures))
     (steps_to code capacity d p k.events it there (asks_it d p request.Step it r.asks there) r.next r.kept count
     (slot_of slot) c.in_ok-count-in-Some.ensures.steps)) c.set_aside.ensures

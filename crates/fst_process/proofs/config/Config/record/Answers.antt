@@ -12,13 +12,15 @@ use Rattle.fst_process.proofs.config.Config.record.Goals as goal
 pub record_among-requires-clause-stamps : goal.record_among-requires-clause-stamps
 record_among-requires-clause-stamps c = λ j e.
     let channel = c.args.channel.now in
-    let was = ap (made_in c.args.self.now.channels.by_maker.entries) (sym c.as_slice.ensures) ∙ ap listed (sym c.in-Some.ensures.value) in
+    let was = ap (made_in c.args.self.now.channels.by_maker.entries) (sym c.as_slice.ensures)
+    ∙ ap listed (sym c.in-Some.ensures.value) in
     c.requires.stamps j (ap (λ v. channel_at v channel.count) was ∙ e)
 
 pub returns-in_ok-stamp-in-Some-clause-stamp : goal.returns-in_ok-stamp-in-Some-clause-stamp
 returns-in_ok-stamp-in-Some-clause-stamp c = λ j e.
     let channel = c.args.channel.now in
-    let was = ap (made_in c.args.self.now.channels.by_maker.entries) (sym c.as_slice.ensures) ∙ ap listed (sym c.in-Some.ensures.value) in
+    let was = ap (made_in c.args.self.now.channels.by_maker.entries) (sym c.as_slice.ensures)
+    ∙ ap listed (sym c.in-Some.ensures.value) in
     c.in_ok-stamp-in-Some.ensures.stamp j (sym (ap (λ v. channel_at v channel.count) was) ∙ e)
 
 pub returns-in_ok-stamp-in-Some-clause-passed : goal.returns-in_ok-stamp-in-Some-clause-passed
@@ -34,7 +36,8 @@ returns-in_ok-stamp-in-Some-clause-passed c =
     let there = sym c.in-Some.ensures.value in
     let updates = written.3 (ap is_some there) in
     let new = c.get_mut.follows.lender c.record_among.new.channels in
-    channel_changed (kept_of c.args.self.now).tasks c.args.self.now.ready.keys c.args.self.now.channels.by_maker.entries new.entries
+    channel_changed (kept_of c.args.self.now).tasks c.args.self.now.ready.keys c.args.self.now.channels.by_maker.entries
+    new.entries
     c.args.channel.now (passed entry) c.as_slice.result.now
     c.in-Some.channels.now c.record_among.new.channels c.as_slice.ensures there updates.1 updates.3
     c.in_ok-stamp-in-Some.ensures.passed
@@ -42,5 +45,7 @@ returns-in_ok-stamp-in-Some-clause-passed c =
 pub returns-in-None-clause-stamp : goal.returns-in-None-clause-stamp
 returns-in-None-clause-stamp c = λ j e.
     let channel = c.args.channel.now in
-    let was = ap (made_in c.args.self.now.channels.by_maker.entries) (sym c.as_slice.ensures) ∙ ap listed (sym c.in-None.ensures.value) in
-    absurd (none_some (sym (ap (option_map channel_of) (none_numbered channel.count)) ∙ sym (ap (λ v. channel_at v channel.count) was) ∙ e))
+    let was = ap (made_in c.args.self.now.channels.by_maker.entries) (sym c.as_slice.ensures)
+    ∙ ap listed (sym c.in-None.ensures.value) in
+    absurd (none_some (sym (ap (option_map channel_of) (none_numbered channel.count))
+    ∙ sym (ap (λ v. channel_at v channel.count) was) ∙ e))

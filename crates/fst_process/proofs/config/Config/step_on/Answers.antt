@@ -72,7 +72,8 @@ returns-then-has_ended-clause-steps c =
             events =
                 k.events + c.in_ok-count-in-Some.count;
           })
-          (slot_of slot) (c.len.ensures ∙ code.types.ok.0) (c.in_ok-set_aside-in-Some.ensures ∙ after) c.in_ok-note_again-in-Some.ensures;
+          (slot_of slot) (c.len.ensures ∙ code.types.ok.0)
+          (c.in_ok-set_aside-in-Some.ensures ∙ after) c.in_ok-note_again-in-Some.ensures;
     }
 
 pub returns-then-has_ended-clause-some : goal.returns-then-has_ended-clause-some

@@ -1,7 +1,7 @@
 use Rattle.std.proofs.Common.{sym, subst, arith}
 use Rattle.fst_worker.specs.Shares.{GoOn}
 use Rattle.fst_worker.proofs.Together.{written_back}
-use Rattle.fst_worker.proofs.rounds.round_after.Goals as goal
+use Rattle.fst_worker.proofs.rounds.round.Goals as goal
 
 pub returns-clause-went : goal.returns-clause-went
 returns-clause-went g c =
