@@ -1,4 +1,5 @@
--- times sends a number several times. It wants an end on which nothing follows, and here an answer follows.
+-- times sends a number several times. It wants an end on which nothing follows, and here an answer
+-- follows.
 type Sent = rec x. +{One: !Int;x, Done: Skip}
 type Received = rec x. &{One: ?Int;x, Done: Skip}
 

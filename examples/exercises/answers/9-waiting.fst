@@ -1,5 +1,5 @@
--- A sender waits until its message is received. main waited on the second channel for a message that the other task sends only once
--- its first one was received.
+-- A sender waits until its message is received. main waited on the second channel for a message
+-- that the other task sends only once its first one was received.
 main : Int
 main =
   let (a, b) = new !Int in

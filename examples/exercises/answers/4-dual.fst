@@ -1,5 +1,5 @@
--- A machine takes coins for a drink and gives change. Its type is the client's with ? for ! and & for +, and the other way round,
--- within a choice too.
+-- A machine takes coins for a drink and gives change. Its type is the client's with ? for ! and &
+-- for +, and the other way round, within a choice too.
 type Client = !Int;&{Drink: ?Int, Broke: +{Leave: Skip, Beg: !Char}}
 type Machine = ?Int;+{Drink: !Int, Broke: &{Leave: Skip, Beg: ?Char}}
 

@@ -1,5 +1,6 @@
--- A tree goes over a channel, and a truth value closes what Both opens. Each Both puts a tree and a truth value behind the tree that
--- comes first, without bound. In a regular type a variable stands at the end alone, so nothing could wait there.
+-- A tree goes over a channel, and a truth value closes what Both opens. Each Both puts a tree and a
+-- truth value behind the tree that comes first, without bound. In a regular type a variable stands
+-- at the end alone, so nothing could wait there.
 data Tree = Leaf Int | Both Tree Tree
 type Sent = rec x. +{Leaf: !Int, Both: x;x;!Bool}
 type Received = rec x. &{Leaf: ?Int, Both: x;x;?Bool}
