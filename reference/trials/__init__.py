@@ -1,0 +1,1 @@
+"""What reference/fuzz, reference/faults, reference/mutants and reference/check share."""
